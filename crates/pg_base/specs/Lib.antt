@@ -1,0 +1,4 @@
+pub mod Causes
+pub mod Memories
+pub mod Sets
+pub mod Writing

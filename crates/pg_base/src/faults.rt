@@ -1,0 +1,131 @@
+//! Why a statement is refused. The codes in brackets are SQLSTATE codes (PostgreSQL manual, appendix Error Codes).
+
+ghost use Rattle.std.specs.Prelude.{◌≡◌};
+
+use crate::numbers::TableNo;
+use std::alloc::{AllocError, AllocFailed};
+
+/// Want of memory: the one answer that any call which allocates may give.
+pub type Memory = AllocError;
+
+/// A limit of the program that a statement goes past (54000).
+#[derive(Clone, Copy, Debug, PartialEq, Eq)]
+pub enum Limit {
+    /// More than 64 tables.
+    Tables,
+    /// More than 16 columns of a table, or key and INCLUDE columns of an index.
+    Columns,
+    /// More than 100,000 rows of a table.
+    Rows,
+    /// A text of more than 8,192 bytes.
+    Text,
+    /// A name of more than 63 bytes.
+    Name,
+    /// More than 8 indexes of a table.
+    Indexes,
+    /// More than 8 relations of a query.
+    Relations,
+    /// More than 32 conjuncts of a query.
+    Conjuncts,
+    /// More than 256 atoms of a statement.
+    Atoms,
+    /// An expression nested more than 32 levels deep.
+    Depth,
+}
+
+/// The kind of a fault.
+#[derive(Clone, Copy, Debug, PartialEq, Eq)]
+pub enum Code {
+    /// Syntax error (42601).
+    S1,
+    /// No such table or alias (42P01).
+    S2,
+    /// No such column (42703).
+    S3,
+    /// A bare column name that two relations have (42702).
+    S4,
+    /// A name of a table or index that is taken (42P07).
+    S5,
+    /// A column named twice (42701).
+    S6,
+    /// An alias given twice (42712).
+    S7,
+    /// An unknown type, access method or operator class (42704).
+    S8,
+    /// No such operator for these types (42883).
+    S9,
+    /// A value or column of a wrong type (42804).
+    S10,
+    /// A number out of its type's range (22003).
+    S11,
+    /// A text that is no value of its type (22P02).
+    S12,
+    /// COPY data without an end, or a record with a wrong number of fields (22P04).
+    S13,
+    /// NULL in a NOT NULL column (23502).
+    S14,
+    /// A limit of the program (54000).
+    S15(Limit),
+    /// No plan costs below 10^18 (54001).
+    S16,
+    /// A parameter out of its range (22023).
+    S17,
+}
+
+/// The first fault of a statement.
+#[derive(Clone, Copy, Debug, PartialEq, Eq)]
+pub struct Fault {
+    /// Its kind.
+    pub code: Code,
+    /// Its place: a byte offset in the script.
+    pub at: u32,
+    /// Where the words at fault begin in the script.
+    pub from: u32,
+    /// Where they end: the offset past their last byte. With COPY data at fault both are `at`.
+    pub to: u32,
+    /// The number of the record at fault in COPY data, from 1; 0 where no record is at fault.
+    pub rec: u32,
+    /// The table whose COPY data are at fault, else 0.
+    pub table: TableNo,
+    /// The column of the field at fault in COPY data, else 0.
+    pub col: u8,
+}
+
+/// Why a reading ends without a value.
+#[derive(Clone, Copy, Debug, PartialEq, Eq)]
+pub enum Refusal {
+    /// The first fault of what was read.
+    Fault(Fault),
+    /// Want of memory.
+    Memory,
+}
+
+impl From<AllocError> for Refusal {
+    ghost use Rattle.pg_base.specs.declared.faults.Refusal.TheVariants.{Memory};
+
+    ghost from_gives = { λ _ refusal. refusal ≡ Memory };
+
+    fn from(_: AllocError) -> Refusal {
+        Refusal::Memory
+    }
+}
+
+impl<T: Drop> From<AllocFailed<T>> for Refusal {
+    ghost use Rattle.pg_base.specs.declared.faults.Refusal.TheVariants.{Memory};
+
+    ghost from_gives = { λ _ refusal. refusal ≡ Memory };
+
+    fn from(_: AllocFailed<T>) -> Refusal {
+        Refusal::Memory
+    }
+}
+
+impl From<Fault> for Refusal {
+    ghost use Rattle.pg_base.specs.declared.faults.Refusal.TheVariants.{Fault};
+
+    ghost from_gives = { λ fault refusal. refusal ≡ Fault fault };
+
+    fn from(fault: Fault) -> Refusal {
+        Refusal::Fault(fault)
+    }
+}

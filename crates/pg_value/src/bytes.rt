@@ -1,0 +1,45 @@
+//! A text as its bytes. No encoding is checked, and texts compare byte by byte, as under collation C.
+
+ghost use Rattle.std.specs.Prelude.{◌≡◌, IfOk};
+
+use std::alloc::{AllocError, Global};
+use std::marker::Model;
+
+/// A list of bytes. Contracts see the list.
+#[derive(Debug, Drop)]
+pub struct Bytes {
+    bytes: Vec<u8>,
+}
+
+impl Model for Bytes {
+    ghost use Rattle.std.specs.Prelude.{List, ℕ};
+
+    ghost Value = { List ℕ };
+
+    ghost view = { λ b. b.bytes.items };
+}
+
+impl Bytes {
+    /// The text of these bytes.
+    pub fn from_vec(v: Vec<u8>) -> Bytes
+        ensures { result ≡ v.items }
+    {
+        Bytes { bytes: v }
+    }
+
+    /// The bytes, lent.
+    pub fn items(&self) -> &[u8]
+        ensures { result.now ≡ self.now }
+    {
+        &self.bytes
+    }
+
+    /// An equal text.
+    pub fn copy(&self, alloc: Global) -> Result<Bytes, AllocError>
+        ensures { IfOk result (λ b. b ≡ self.now) }
+    {
+        Ok(Bytes {
+            bytes: Vec::from_slice(alloc, &self.bytes)?,
+        })
+    }
+}

@@ -1,0 +1,52 @@
+//! The columns of a table.
+
+ghost use Rattle.std.specs.Prelude.{◌≡◌, ◌≤◌, ◌<◌, length, slice_get, Some};
+
+use crate::value::SqlType;
+use std::marker::Model;
+
+/// A column's type, and whether it takes no NULL.
+#[derive(Clone, Copy, Debug, PartialEq, Eq)]
+pub struct Column {
+    /// The type of its values.
+    pub typed: SqlType,
+    /// Whether it is declared NOT NULL.
+    pub not_null: bool,
+}
+
+/// A list of 1 to 16 columns. Contracts see the list.
+#[derive(Debug, Drop)]
+pub struct Columns {
+    columns: Vec<Column>,
+}
+
+impl Model for Columns {
+    ghost use Rattle.std.specs.Prelude.{List, ◌<◌, ◌≤◌, vec_len};
+    ghost use Rattle.pg_value.specs.declared.columns.Column.{Column};
+
+    ghost Value = { List Column };
+
+    ghost view = { λ c. c.columns.items };
+
+    ghost invariant = { λ c. (0 < vec_len c.columns) × (vec_len c.columns ≤ 16) };
+}
+
+impl Columns {
+    /// The list of these columns.
+    pub fn from_vec(v: Vec<Column>) -> Columns
+        requires some { 0 < length v.items }
+        requires few { length v.items ≤ 16 }
+        ensures { result ≡ v.items }
+    {
+        Columns { columns: v }
+    }
+
+    /// The columns from the left, lent: 1 to 16 of them.
+    pub fn items(&self) -> &[Column]
+        ensures items { result.now ≡ self.now }
+        ensures some { 0 < length self.now }
+        ensures few { length self.now ≤ 16 }
+    {
+        &self.columns
+    }
+}

@@ -1,0 +1,52 @@
+//! Operators, their families, and three-valued truth (PostgreSQL manual, chapter Indexes, Operator Classes and Families).
+
+/// Three-valued truth, as of SQL conditions.
+#[derive(Clone, Copy, Debug, PartialEq, Eq)]
+pub enum Truth {
+    /// It holds.
+    True,
+    /// It does not hold.
+    False,
+    /// A NULL leaves it open.
+    Unknown,
+}
+
+/// A family of operators that share one order of values.
+#[derive(Clone, Copy, Debug, PartialEq, Eq)]
+pub enum Family {
+    /// `integer_ops`: whole numbers by value.
+    Integer,
+    /// `int_abs_ops` (own): whole numbers by absolute value, that of -2^63 being 2^63.
+    IntAbs,
+    /// `text_ops`: texts byte by byte.
+    Text,
+    /// `bool_ops`: false before true.
+    Bool,
+}
+
+/// A comparison operator.
+#[derive(Clone, Copy, Debug, PartialEq, Eq)]
+pub enum Op {
+    /// `<`
+    Lt,
+    /// `<=`
+    Le,
+    /// `=`
+    Eq,
+    /// `>=`
+    Ge,
+    /// `>`
+    Gt,
+    /// `<>`, also written `!=`
+    Ne,
+    /// `|<|`: below by absolute value.
+    AbsLt,
+    /// `|<=|`
+    AbsLe,
+    /// `|=|`
+    AbsEq,
+    /// `|>=|`
+    AbsGe,
+    /// `|>|`
+    AbsGt,
+}

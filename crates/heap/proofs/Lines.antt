@@ -1,10 +1,10 @@
 -- Where the data line at the front of a text ends, and what its digits write.
-use Rattle.std.proofs.Common.{◌≡◌, ◌⊎◌, ℕ, zero-add, suc-add, map, ◌+◌, ◌-◌, ◌*◌, ◌^◌, ◌<◌, ◌≤◌, List, [], ◌∷◌, ◌++◌, length, get_or, take, drop, refl, sym, ◌∙◌, ap, subst, arith, inl, inr, append_assoc, append-nil, add-one}
+use Rattle.std.proofs.Common.{◌≡◌, ℕ, zero-add, suc-add, map, ◌+◌, ◌-◌, ◌*◌, ◌^◌, ◌<◌, ◌≤◌, List, [], ◌∷◌, ◌++◌, length, get_or, take, drop, refl, sym, ◌∙◌, ap, subst, arith, inl, inr, append_assoc, append-nil, add-one, length-drop}
 use Prim.Native.Nat.{zero, suc}
 use Rattle.std.proofs.lemmas.Bool.{cases_lt}
-use Rattle.std.proofs.lemmas.List.{get_or_append_left, append_cancel_left}
+use Rattle.std.proofs.lemmas.List.{get_or_append_left, append_cancel_left, take_all}
 use Rattle.std.specs.List.{AllByRecursion}
-use Rattle.std.proofs.Math.Seq.{get_or-append_seam, take-append_seam, split_at}
+use Rattle.std.proofs.Math.Seq.{get_or-append_seam, take-append_seam, drop-append-add, split_at}
 use Rattle.std.proofs.Math.Nat.{pow-suc}
 use Rattle.heap.specs.DataLines.{IsDigit, IsDataLine, lines_text, row_of}
 use Rattle.heap.specs.Stored.{Values}
@@ -23,10 +23,31 @@ no_line text n digits other unended line after is e =
       ]
     ]
 
+-- a data line at the front ends at the line feed behind the first digits
+pub ends_there : (text : List ℕ) (n : ℕ) → ((k : ℕ) → k < n → IsDigit (get_or text k 0)) → get_or text n 0 ≡ 10 → (line after : List ℕ) → IsDataLine line → text ≡ line ++ 10 ∷ after → length line ≡ n
+ends_there text n digits feed line after is e =
+    let seam : get_or text (length line) 0 ≡ 10 = ap (λ (t : List ℕ). get_or t (length line) 0) e ∙ get_or-append_seam line 10 after 0 in
+    elim (cases_lt (length line) n) [
+      | inl early ↦ (let low : IsDigit (get_or text (length line) 0) = digits (length line) early in absurd (omega (arith, low.0)))
+      | inr late ↦ elim (cases_lt n (length line)) [
+        | inl inside ↦ (let digit : IsDigit (get_or line n 0) = is.digits n inside in
+            let same : get_or text n 0 ≡ get_or line n 0 = ap (λ (t : List ℕ). get_or t n 0) e ∙ get_or_append_left line (10 ∷ after) 0 n inside in
+            absurd (omega (arith, digit.0, same, feed)))
+        | inr past ↦ omega arith
+      ]
+    ]
+
+-- and so the line and what follows it are told by the text
+pub told : (text : List ℕ) (n : ℕ) (line after : List ℕ) → length line ≡ n → text ≡ line ++ 10 ∷ after → (line ≡ take n text) × (after ≡ take (length text - (n + 1)) (drop (n + 1) text))
+told text n line after same e = (
+  sym (take-append_seam line (10 ∷ after)) ∙ ap (λ (m : ℕ). take m (line ++ 10 ∷ after)) same ∙ ap (take n) (sym e),
+  sym (drop-append-add line (10 ∷ after) 1) ∙ ap (λ (m : ℕ). drop (m + 1) (line ++ 10 ∷ after)) same ∙ ap (drop (n + 1)) (sym e) ∙
+      sym (take_all (length text - (n + 1)) (drop (n + 1) text) (simp length-drop (omega arith))),
+)
+
 -- the line and what follows it, cut at its line feed
 pub cut_at_feed : (text : List ℕ) (n : ℕ) → n < length text → get_or text n 0 ≡ 10 → text ≡ take n text ++ 10 ∷ drop (suc n) text
 cut_at_feed text n within feed = split_at text n 0 within ∙ ap (λ (b : ℕ). take n text ++ b ∷ drop (suc n) text) feed
-
 
 -- two data lines at the front of one text are one line
 later : (x line a b : List ℕ) → IsDataLine line → x ++ 10 ∷ a ≡ line ++ 10 ∷ b → length x < length line → ⊥
@@ -51,7 +72,7 @@ same_rest x a b e = let cut : 10 ∷ a ≡ 10 ∷ b = append_cancel_left x (10 �
 pub same_line : (x line a b : List ℕ) → IsDataLine x → IsDataLine line → x ++ 10 ∷ a ≡ line ++ 10 ∷ b → (x ≡ line) × (a ≡ b)
 same_line x line a b is-x is-line e =
     let same : x ≡ line =
-        sym (take-append_seam x (10 ∷ a)) ∙ ap (take (length x)) e ∙ ap (λ (n : ℕ). take n (line ++ 10 ∷ b)) (same_length x line a b is-x is-line e) ∙ take-append_seam line (10 ∷ b) in
+    sym (take-append_seam x (10 ∷ a)) ∙ ap (take (length x)) e ∙ ap (λ (n : ℕ). take n (line ++ 10 ∷ b)) (same_length x line a b is-x is-line e) ∙ take-append_seam line (10 ∷ b) in
     (same, same_rest x a b (e ∙ ap (λ (l : List ℕ). l ++ 10 ∷ b) (sym same)))
 
 empty : (line after : List ℕ) → line ++ 10 ∷ after ≡ [] → ⊥

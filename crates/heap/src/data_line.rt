@@ -8,6 +8,7 @@ ghost use Rattle.heap.specs.DataLines.{IsDataLine, IsDigit, number_of};
 pub fn first_data_line(text: &[u8]) -> Option<(&[u8], &[u8])>
     ensures line { IfSome result (λ found. IsDataLine found.0.now) }
     ensures front { IfSome result (λ found. text.now ≡ found.0.now ++ 10 ∷ found.1.now) }
+    ensures only { IfSome result (λ found. (line after : List ℕ) → IsDataLine line → text.now ≡ line ++ 10 ∷ after → (line ≡ found.0.now) × (after ≡ found.1.now)) }
     ensures none { IfNone result ((line after : List ℕ) → IsDataLine line → text.now ≡ line ++ 10 ∷ after → ⊥) }
 {
     for (n, byte) in text.iter().enumerate() {

@@ -1,4 +1,4 @@
-ghost use Rattle.std.specs.Prelude.{◌≡◌, ◌<◌, ◌≤◌, ◌^◌, IfOk, OnOk, IfSome, IsErrOf, length, vec_len};
+ghost use Rattle.std.specs.Prelude.{◌≡◌, ◌<◌, ◌≤◌, ◌+◌, ◌^◌, ℕ, List, IfOk, OnOk, IsErrOf, length, vec_len};
 ghost use Rattle.std.specs.Io.KnownBytes.{Consumes, IsAtEnd};
 ghost use Rattle.pg_base.specs.Causes.{Rose};
 
@@ -33,7 +33,7 @@ pub fn read_all<S: Source>(
     ensures bytes { IfOk result (λ all. Consumes (S.left source.old) (S.left source.new) all.items) }
     ensures end { OnOk result (IsAtEnd (S.left source.new)) }
     ensures within { IfOk result (λ all. vec_len all ≤ limit) }
-    ensures too_long { IsErrOf result ReadFault.TooLong → IfSome (S.left source.old) (λ xs. limit < length xs) }
+    ensures too_long { IsErrOf result ReadFault.TooLong → (text : List ℕ) × Consumes (S.left source.old) (S.left source.new) text × (length text ≡ limit + 1) }
     ensures failed { IsErrOf result ReadFault.Failed → Rose (S.faults source.old) (S.faults source.new) }
     ensures no_fault { (IsErrOf result ReadFault.Failed → ⊥) → S.faults source.new ≡ S.faults source.old }
 {

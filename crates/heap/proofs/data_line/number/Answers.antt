@@ -1,4 +1,4 @@
-use Rattle.std.proofs.Common.{◌≡◌, ◌≤◌, ◌<◌, ◌+◌, ◌-◌, ◌*◌, ◌^◌, get_or, length, take, fold, arith, ap, ◌∙◌, pos, w64, ℕ, sym}
+use Rattle.std.proofs.Common.{◌≡◌, ◌+◌, ◌-◌, ◌*◌, arith, ap, ◌∙◌, pos, w64, ℕ, sym}
 use Rattle.std.proofs.lemmas.Int.{to_z_pos}
 use Rattle.std.proofs.lemmas.List.Sums.{fold_more}
 use Rattle.std.proofs.lemmas.List.{take_all}
@@ -29,5 +29,5 @@ overflow_cast-result c = omega (arith, ten_below c.loop-digit.digit-index (omega
 pub returns : goal.returns
 returns c =
     let all : c.loop-digit.value ≡ number_of c.args.digits.now =
-        c.loop-digit.invariant.so_far ∙ ap number_of (take_all c.loop-digit.digit-index c.args.digits.now c.loop-digit-test.false) in
+    c.loop-digit.invariant.so_far ∙ ap number_of (take_all c.loop-digit.digit-index c.args.digits.now c.loop-digit-test.false) in
     to_z_pos w64 c.loop-digit.value (omega (arith, ten_below c.loop-digit.digit-index (omega arith))) ∙ ap pos all

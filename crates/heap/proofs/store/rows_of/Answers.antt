@@ -1,7 +1,3 @@
-use Rattle.std.proofs.Common.{◌≡◌, ℕ, List, [], ◌∷◌, ◌++◌, map, ap, sym, ◌∙◌, append_assoc, refl}
-use Rattle.std.specs.List.{AllByRecursion}
-use Rattle.heap.specs.DataLines.{IsDataLine, lines_text, row_of}
-use Rattle.heap.specs.Stored.{Values}
 use Rattle.heap.proofs.Lines.{follows, none_follows, one_row_more, all_rows}
 use Rattle.heap.proofs.store.rows_of.Goals as goal
 

@@ -1,4 +1,4 @@
-use Rattle.std.proofs.Common.{◌≡◌, ℕ, List, ◌<◌, ◌≤◌, ◌∙◌, sym, ap, subst, length, map, get_or, arith}
+use Rattle.std.proofs.Common.{◌≡◌, ℕ, List, ◌<◌, ◌≤◌, ◌∙◌, ap, length, map, get_or}
 use Rattle.std.proofs.lemmas.List.{length-map}
 use Rattle.heap.specs.DataLines.{row_of}
 use Rattle.heap.specs.Stored.{Stored, Values}

@@ -1,0 +1,4 @@
+pub mod AnswerLaws
+pub mod Blocks
+pub mod PutLaws
+pub mod ScriptLaws

@@ -1,0 +1,9 @@
+pub mod Statements
+pub mod Worlds
+pub mod Plans
+pub mod Texts
+pub mod Replies
+pub mod Putting
+pub mod Statuses
+pub mod Runs
+pub mod Scripts

@@ -5,6 +5,8 @@ mod printing;
 mod reading;
 mod selecting;
 mod status;
+#[cfg(test)]
+mod tests;
 mod top;
 
 pub use top::pgplan;

@@ -9,6 +9,8 @@ mod reading;
 mod rel_set;
 mod std_edge;
 mod steps;
+#[cfg(test)]
+mod tests;
 mod writing;
 
 pub use faults::{Code, Fault, Limit, Memory, Refusal};

@@ -1,3 +1,5 @@
+//! A source read to its end.
+
 ghost use Rattle.std.specs.Prelude.{◌≡◌, ◌<◌, ◌≤◌, ◌+◌, ◌^◌, ℕ, List, IfOk, OnOk, IsErrOf, length, vec_len};
 ghost use Rattle.std.specs.Io.KnownBytes.{Consumes, IsAtEnd};
 ghost use Rattle.pg_base.specs.Causes.{Rose};
@@ -8,8 +10,11 @@ use std::alloc::{AllocError, Global};
 /// Why the whole source was not read.
 #[derive(Debug, PartialEq, Eq, Drop)]
 pub enum ReadFault {
+    /// Want of memory.
     Memory,
+    /// The source failed; its count of faults rose.
     Failed,
+    /// The source gave a byte more than the limit.
     TooLong,
 }
 
@@ -23,7 +28,7 @@ impl From<AllocError> for ReadFault {
     }
 }
 
-/// Reads to the end, and no further than one byte past the limit.
+/// All the bytes that are left, at most `limit`. Reading stops at the end, at a fault, or after one byte more than the limit.
 pub fn read_all<S: Source>(
     alloc: Global,
     source: &mut S,

@@ -1,0 +1,4 @@
+pub mod Fields
+pub mod Order
+pub mod Truths
+pub mod Types

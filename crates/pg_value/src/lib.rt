@@ -3,10 +3,14 @@
 
 mod bytes;
 mod columns;
+mod comparison;
+mod fields;
 mod operators;
 mod value;
 
 pub use bytes::Bytes;
 pub use columns::{Column, Columns};
+pub use comparison::{apply, commutator, compare, negator, order_is_total};
+pub use fields::{FieldFault, read_value, spellings_are_read};
 pub use operators::{Family, Op, Truth};
 pub use value::{SqlType, Value};

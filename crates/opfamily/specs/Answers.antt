@@ -1,0 +1,141 @@
+-- What the table answers: each is a look-up among its rows.
+use Rattle.std.specs.Prelude.{ℕ, Bool, true, false, ◌&&◌, List, find, nat_eq, bytes_eq, option_map, option_and_then, is_some, flat_map, Option, None}
+use Rattle.std.specs.List.{list_any}
+use Rattle.pg_value.specs.declared.operators.Family.{Family}
+use Rattle.pg_value.specs.declared.operators.Family.TheVariants as families
+use Rattle.pg_value.specs.declared.operators.Op.{Op}
+use Rattle.pg_value.specs.declared.operators.Op.TheVariants.{Lt, Le, Eq, Ge, Gt, Ne, AbsLt, AbsLe, AbsEq, AbsGe, AbsGt}
+use Rattle.pg_value.specs.declared.value.SqlType.{SqlType}
+use Rattle.pg_value.specs.declared.value.SqlType.TheVariants as types
+use Rattle.opfamily.specs.declared.classes.Method.{Method}
+use Rattle.opfamily.specs.declared.classes.Method.TheVariants.{Btree, Hash}
+use Rattle.opfamily.specs.declared.classes.OpClass.{OpClass}
+use Rattle.opfamily.specs.declared.classes.OpClass.TheVariants.{Int2Ops, Int4Ops, Int8Ops, TextOps, BoolOps, Int2AbsOps, Int4AbsOps, Int8AbsOps}
+use Rattle.opfamily.specs.Table.{Member, Class, Row, table}
+
+-- the names that are compared, each by its place in its own list
+abbrev pub family_place : Family → ℕ
+family_place families.Integer = 0
+family_place families.IntAbs = 1
+family_place families.Text = 2
+family_place families.Bool = 3
+
+abbrev pub op_place : Op → ℕ
+op_place Lt = 0
+op_place Le = 1
+op_place Eq = 2
+op_place Ge = 3
+op_place Gt = 4
+op_place Ne = 5
+op_place AbsLt = 6
+op_place AbsLe = 7
+op_place AbsEq = 8
+op_place AbsGe = 9
+op_place AbsGt = 10
+
+abbrev pub type_place : SqlType → ℕ
+type_place types.Int2 = 0
+type_place types.Int4 = 1
+type_place types.Int8 = 2
+type_place types.Text = 3
+type_place types.Bool = 4
+
+abbrev pub class_place : OpClass → ℕ
+class_place Int2Ops = 0
+class_place Int4Ops = 1
+class_place Int8Ops = 2
+class_place TextOps = 3
+class_place BoolOps = 4
+class_place Int2AbsOps = 5
+class_place Int4AbsOps = 6
+class_place Int8AbsOps = 7
+
+abbrev pub method_place : Method → ℕ
+method_place Btree = 0
+method_place Hash = 1
+
+abbrev pub is_type : SqlType → SqlType → Bool
+is_type t u = nat_eq (type_place t) (type_place u)
+
+-- the row of a family
+abbrev pub row_of : Family → Option Row
+row_of f = find (λ row. nat_eq (family_place row.family) (family_place f)) table
+
+-- the operators that a row has for a method
+abbrev pub members : Method → Row → List Member
+members Btree row = row.btree
+members Hash row = row.hash
+
+abbrev pub member_of : Op → List Member → Option Member
+member_of op listed = find (λ m. nat_eq (op_place m.op) (op_place op)) listed
+
+abbrev pub row_takes : Row → SqlType → Bool
+row_takes row t = list_any (is_type t) row.types
+
+-- the family's operators take values of the type
+abbrev pub takes : Family → SqlType → Bool
+takes f t = list_any (λ row. nat_eq (family_place row.family) (family_place f) && row_takes row t) table
+
+-- the strategy that the family's row has for the operator
+abbrev pub number_in : Family → Method → Op → Option ℕ
+number_in f m op = option_map (λ member. member.strategy) (option_and_then (λ row. member_of op (members m row)) (row_of f))
+
+abbrev pub when : Bool → Option ℕ → Option ℕ
+when true o = o
+when false o = None
+
+-- the strategy of an operator over two types in a family
+abbrev pub strategy_of : Family → Method → Op → SqlType → SqlType → Option ℕ
+strategy_of f m op l r = when (takes f l && takes f r) (number_in f m op)
+
+-- the family has the operator for the two types
+abbrev pub family_has : Family → Op → SqlType → SqlType → Bool
+family_has f op l r = takes f l && takes f r && is_some (number_in f Btree op)
+
+-- some family of the table has it
+abbrev pub some_family_has : Op → SqlType → SqlType → Bool
+some_family_has op l r = list_any (λ row. family_has row.family op l r) table
+
+-- `<>` exists wherever `=` does, and any other operator where some family has it for the two types
+abbrev pub does_exist : Op → SqlType → SqlType → Bool
+does_exist Ne l r = some_family_has Eq l r
+does_exist op l r = some_family_has op l r
+
+abbrev pub has_class : Row → OpClass → Bool
+has_class row c = list_any (λ listed. nat_eq (class_place listed.class) (class_place c)) row.classes
+
+-- all classes of the table
+abbrev pub classes : List Class
+classes = flat_map (λ row. row.classes) table
+
+-- the class of a name
+abbrev pub class_of_name : List ℕ → Option OpClass
+class_of_name name = option_map (λ listed. listed.class) (find (λ listed. bytes_eq listed.name name) classes)
+
+abbrev pub listed_class : OpClass → Option Class
+listed_class c = find (λ listed. nat_eq (class_place listed.class) (class_place c)) classes
+
+abbrev pub own_type_of : OpClass → Option SqlType
+own_type_of c = option_map (λ listed. listed.own_type) (listed_class c)
+
+-- the family whose row lists a class
+abbrev pub family_of : OpClass → Option Family
+family_of c = option_map (λ row. row.family) (find (λ row. has_class row c) table)
+
+-- the default family of a type
+abbrev pub default_family_of : SqlType → Option Family
+default_family_of t = option_map (λ row. row.family) (find (λ row. row.is_default && row_takes row t) table)
+
+abbrev pub has_method : Class → Method → Bool
+has_method listed m = list_any (λ n. nat_eq (method_place n) (method_place m)) listed.methods
+
+-- a class accepts its own type, for the methods that have it
+abbrev pub class_accepts : Class → Method → SqlType → Bool
+class_accepts listed m t = has_method listed m && is_type listed.own_type t
+
+abbrev pub accepted : OpClass → Method → SqlType → Bool
+accepted c m t = list_any (λ listed. nat_eq (class_place listed.class) (class_place c) && class_accepts listed m t) classes
+
+-- the class of the type's default family that accepts it for the method
+abbrev pub default_class_of : SqlType → Method → Option OpClass
+default_class_of t m = option_map (λ listed. listed.class) (option_and_then (λ row. find (λ listed. class_accepts listed m t) row.classes) (find (λ row. row.is_default && row_takes row t) table))

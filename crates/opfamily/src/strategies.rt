@@ -1,0 +1,125 @@
+//! Operators of a family by their strategies.
+
+ghost use Rattle.std.specs.Prelude.{◌≡◌};
+ghost use Rattle.opfamily.specs.Answers.{does_exist, family_has, number_in, some_family_has, strategy_of, takes};
+
+use crate::classes::Method;
+use pg_value::{Family, Op, SqlType};
+
+/// The strategy of an operator over these types in a family, for an access method: 1 to 5 for `<`, `<=`, `=`, `>=`,
+/// `>` of btree, and 1 for `=` of hash. None exactly where the operator is no member there.
+pub fn strategy(f: Family, m: Method, op: Op, l: SqlType, r: SqlType) -> Option<u8>
+    ensures { result ≡ strategy_of f m op l r }
+{
+    if !compares(f, l) || !compares(f, r) {
+        return None;
+    }
+    number(f, m, op)
+}
+
+/// Whether the operators of a family take values of this type.
+fn compares(f: Family, t: SqlType) -> bool
+    ensures { result ≡ takes f t }
+{
+    match f {
+        Family::Integer | Family::IntAbs => {
+            matches!(t, SqlType::Int2 | SqlType::Int4 | SqlType::Int8)
+        }
+        Family::Text => matches!(t, SqlType::Text),
+        Family::Bool => matches!(t, SqlType::Bool),
+    }
+}
+
+/// The strategy of an operator in a family.
+fn number(f: Family, m: Method, op: Op) -> Option<u8>
+    ensures { result ≡ number_in f m op }
+{
+    match (f, m, op) {
+        (Family::IntAbs, Method::Hash, _) => None,
+        (Family::IntAbs, Method::Btree, Op::AbsLt) => Some(1),
+        (Family::IntAbs, Method::Btree, Op::AbsLe) => Some(2),
+        (Family::IntAbs, Method::Btree, Op::AbsEq) => Some(3),
+        (Family::IntAbs, Method::Btree, Op::AbsGe) => Some(4),
+        (Family::IntAbs, Method::Btree, Op::AbsGt) => Some(5),
+        (Family::IntAbs, Method::Btree, _) => None,
+        (_, Method::Hash, Op::Eq) => Some(1),
+        (_, Method::Hash, _) => None,
+        (_, Method::Btree, Op::Lt) => Some(1),
+        (_, Method::Btree, Op::Le) => Some(2),
+        (_, Method::Btree, Op::Eq) => Some(3),
+        (_, Method::Btree, Op::Ge) => Some(4),
+        (_, Method::Btree, Op::Gt) => Some(5),
+        (_, Method::Btree, _) => None,
+    }
+}
+
+/// Whether there is an operator over these types. `<>` exists wherever `=` does.
+pub fn operator_exists(op: Op, l: SqlType, r: SqlType) -> bool
+    ensures { result ≡ does_exist op l r }
+{
+    match op {
+        Op::Ne => is_in_some_family(Op::Eq, l, r),
+        _ => is_in_some_family(op, l, r),
+    }
+}
+
+/// Whether some family has the operator for these types.
+fn is_in_some_family(op: Op, l: SqlType, r: SqlType) -> bool
+    ensures { result ≡ some_family_has op l r }
+{
+    has_operator(Family::Integer, op, l, r)
+        || has_operator(Family::Text, op, l, r)
+        || has_operator(Family::Bool, op, l, r)
+        || has_operator(Family::IntAbs, op, l, r)
+}
+
+/// Whether the family has the operator for these types.
+fn has_operator(f: Family, op: Op, l: SqlType, r: SqlType) -> bool
+    ensures { result ≡ family_has f op l r }
+{
+    compares(f, l) && compares(f, r) && number(f, Method::Btree, op).is_some()
+}
+
+#[cfg(test)]
+mod tests {
+    use super::*;
+    use crate::classes::{OpClass, accepts, class_named, default_class, default_family, family};
+
+    #[test]
+    fn answers_of_the_manual(rt: HostRuntime) {
+        assert_eq!(rt; class_named(b"int4_ops"), Some(OpClass::Int4Ops));
+        assert_eq!(rt; class_named(b"int2_abs_ops"), Some(OpClass::Int2AbsOps));
+        assert_eq!(rt; class_named(b"INT4_OPS"), None);
+        assert_eq!(rt; class_named(b"int4_op"), None);
+        assert_eq!(rt;
+            default_class(SqlType::Text, Method::Hash),
+            OpClass::TextOps
+        );
+        assert_eq!(rt; family(OpClass::Int8AbsOps), Family::IntAbs);
+        assert_eq!(rt; default_family(SqlType::Int2), Family::Integer);
+        assert!(rt; accepts(OpClass::BoolOps, Method::Hash, SqlType::Bool));
+        assert!(rt; !accepts(OpClass::Int4Ops, Method::Btree, SqlType::Int8));
+        assert!(rt; !accepts(OpClass::Int4AbsOps, Method::Hash, SqlType::Int4));
+        assert!(rt; operator_exists(Op::Ne, SqlType::Int2, SqlType::Int8));
+        assert!(rt; !operator_exists(Op::AbsLt, SqlType::Text, SqlType::Text));
+        assert!(rt; !operator_exists(Op::Eq, SqlType::Int4, SqlType::Bool));
+    }
+
+    #[test]
+    fn strategies_of_the_manual(rt: HostRuntime) {
+        let (small, big, text) = (SqlType::Int2, SqlType::Int8, SqlType::Text);
+        let cases = [
+            (Family::Integer, Method::Btree, Op::Lt, small, big, Some(1)),
+            (Family::Integer, Method::Btree, Op::Gt, big, small, Some(5)),
+            (Family::Integer, Method::Btree, Op::Ne, big, big, None),
+            (Family::Integer, Method::Hash, Op::Eq, small, big, Some(1)),
+            (Family::Text, Method::Hash, Op::Ge, text, text, None),
+            (Family::Text, Method::Btree, Op::Eq, text, small, None),
+            (Family::IntAbs, Method::Btree, Op::AbsGe, big, big, Some(4)),
+            (Family::IntAbs, Method::Hash, Op::AbsEq, big, big, None),
+        ];
+        for (f, m, op, l, r, want) in cases {
+            assert_eq!(rt; strategy(f, m, op, l, r), want);
+        }
+    }
+}

@@ -1,0 +1,145 @@
+//! The front of the items offered so far: none of them is at most another one (own; in the manner of
+//! PostgreSQL's `add_path`, which keeps the paths that no other path dominates).
+
+ghost use Rattle.std.specs.Prelude.{◌≡◌, ◌≤◌, ◌∷◌, ◌++◌, [], not, false, IsTrue, OnOk, IfErr, All, AllPairs, filter, vec_len, vec_capacity};
+ghost use Rattle.pareto.specs.Front.{IsCovered, AreKeptOr, Unrelated};
+
+use crate::ranked::Ranked;
+use std::alloc::Global;
+use std::marker::Model;
+
+/// A list of items none of which is at most another one. Contracts see the list.
+#[derive(Drop)]
+pub struct Front<T: Ranked> {
+    items: Vec<T>,
+}
+
+impl<T: Ranked> Model for Front<T> {
+    ghost use Rattle.std.specs.Prelude.{List, AllPairs};
+    ghost use Rattle.pareto.specs.Front.{Unrelated};
+
+    ghost Value = { List T };
+
+    ghost view = { λ f. f.items.items };
+
+    ghost invariant = { λ f. AllPairs (Unrelated T.is_at_most) f.items.items };
+}
+
+impl<T: Ranked + Drop> Front<T> {
+    /// The front without items. It takes no memory until an item is offered.
+    pub fn new(alloc: Global) -> Front<T>
+        ensures { result ≡ [] }
+    {
+        Front {
+            items: Vec::new(alloc),
+        }
+    }
+
+    /// The kept items, lent. None of them is at most another one.
+    pub fn items(&self) -> &[T]
+        ensures items { result.now ≡ self.now }
+        ensures undominated { AllPairs (Unrelated T.is_at_most) self.now }
+    {
+        &self.items
+    }
+
+    /// Keeps an item unless a kept one is at most it, and lets go of the kept ones that it is at most.
+    /// `Err` hands the item back for want of memory, and the front is as before.
+    pub fn offer(&mut self, t: T) -> Result<(), T>
+        ensures offered { OnOk result (IsCovered T.is_at_most self.new t) }
+        ensures covered { OnOk result (All (IsCovered T.is_at_most self.new) self.old) }
+        ensures kept { OnOk result (AreKeptOr self.old t self.new) }
+        ensures undominated { OnOk result (AllPairs (Unrelated T.is_at_most) self.new) }
+        ensures err { IfErr result (λ back. (back ≡ t) × (self.new ≡ self.old)) }
+    {
+        if is_covered(&self.items, &t) {
+            return Ok(());
+        }
+        replace_covered(&mut self.items, t)
+    }
+}
+
+/// Whether some item is at most this one.
+fn is_covered<T: Ranked>(items: &[T], t: &T) -> bool
+    ensures yes { IsTrue result → IsCovered T.is_at_most items.now t.now }
+    ensures no { result ≡ false → All (λ k. T.is_at_most k t.now ≡ false) items.now }
+{
+    for item in items {
+        if item.at_most(t) {
+            return true;
+        }
+    }
+    false
+}
+
+/// Lets go of the items that this one is at most.
+fn keep_uncovered<T: Ranked + Drop>(items: &mut Vec<T>, t: &T)
+    ensures kept { items.new.items ≡ filter (λ k. not (T.is_at_most t.now k)) items.old.items }
+    ensures length { vec_len items.new ≤ vec_len items.old }
+    ensures capacity { vec_capacity items.new ≡ vec_capacity items.old }
+{
+    items.retain(|item| !t.at_most(item));
+}
+
+/// Puts an item in the place of those that it is at most. `Err` hands it back, and changes nothing.
+fn replace_covered<T: Ranked + Drop>(items: &mut Vec<T>, t: T) -> Result<(), T>
+    ensures ok { OnOk result (items.new.items ≡ filter (λ k. not (T.is_at_most t k)) items.old.items ++ t ∷ []) }
+    ensures err { IfErr result (λ back. (back ≡ t) × (items.new.items ≡ items.old.items)) }
+{
+    if items.reserve(1).is_err() {
+        return Err(t);
+    }
+    keep_uncovered(items, &t);
+    match items.push(t) {
+        Ok(()) => Ok(()),
+        Err(failed) => Err(failed.value),
+    }
+}
+
+#[cfg(test)]
+mod tests {
+    use super::*;
+
+    /// A price and a waiting time: one offer is at most another where it is at most in both.
+    #[derive(Clone, Copy, Debug, PartialEq, Eq)]
+    struct Offer {
+        price: u32,
+        days: u32,
+    }
+
+    impl Ranked for Offer {
+        ghost use Rattle.pareto.specs.Offers.{is_offer_at_most, offers-reflexive, offers-transitive};
+
+        ghost is_at_most = { λ a b. is_offer_at_most a.price a.days b.price b.days };
+
+        fn at_most(&self, other: &Offer) -> bool {
+            self.price <= other.price && self.days <= other.days
+        }
+
+        ghost reflexive = { λ a. offers-reflexive a.price a.days };
+
+        ghost transitive = { λ a b c. offers-transitive a.price a.days b.price b.days c.price c.days };
+    }
+
+    #[test]
+    fn keeps_the_offers_that_no_other_covers(rt: HostRuntime) {
+        let mut front = Front::new(rt.alloc());
+        let rounds: [((u32, u32), &[(u32, u32)]); 6] = [
+            ((5, 5), &[(5, 5)]),
+            ((3, 9), &[(5, 5), (3, 9)]),
+            ((5, 6), &[(5, 5), (3, 9)]),
+            ((9, 1), &[(5, 5), (3, 9), (9, 1)]),
+            ((3, 4), &[(9, 1), (3, 4)]),
+            ((3, 4), &[(9, 1), (3, 4)]),
+        ];
+        for ((price, days), kept) in rounds {
+            let offered = front.offer(Offer { price, days });
+            assert!(rt; offered.is_ok(), "{price} {days} is answered");
+            let items = front.items();
+            assert_eq!(rt; items.len(), kept.len(), "at {price} {days}");
+            for (item, want) in items.iter().zip(kept) {
+                assert_eq!(rt; (item.price, item.days), *want, "at {price} {days}");
+            }
+        }
+    }
+}

@@ -1,0 +1,13 @@
+use Rattle.std.proofs.Common.{◌≡◌, [], ap, sym, ◌∙◌, arith}
+use Rattle.std.proofs.lemmas.List.{nil_from_length}
+use Rattle.pg_expr.specs.Cond.{joined}
+use Rattle.pg_expr.specs.Pushed.{pushed_parts}
+use Rattle.pg_expr.specs.View.{conds}
+use Rattle.pg_expr.proofs.CondLaws.{joined-nil}
+use Rattle.pg_expr.proofs.push.+push.Goals as goal
+
+-- nothing is left
+pub pushed_list-returns : goal.pushed_list-returns
+pushed_list-returns t c =
+    let none : c.loop-part.part-iterator.rest.items ≡ [] = nil_from_length c.loop-part.part-iterator.rest.items (omega (arith, c.in-None.ensures.steps)) in
+    sym (joined-nil _) ∙ ap (λ rest. joined (conds c.loop-part.all.items) (pushed_parts c.args.negated c.args.any (conds rest))) (sym none) ∙ c.loop-part.invariant

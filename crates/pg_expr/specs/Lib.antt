@@ -1,0 +1,8 @@
+pub mod AtomSets
+pub mod Columns
+pub mod Cond
+pub mod Conjuncts
+pub mod Pushed
+pub mod Truths
+pub mod Typed
+pub mod View

@@ -1,0 +1,4 @@
+pub mod Numerals
+pub mod OrderLaws
+pub mod Spelled
+pub mod Words

@@ -1,0 +1,18 @@
+use Rattle.std.specs.Prelude.{unsigned_abs}
+use Rattle.pg_value.proofs.OrderLaws.{value_total, same_numbers, same_naturals, same_texts, same_flags}
+use Rattle.pg_value.proofs.comparison.order_is_total.Goals as goal
+
+pub returns-clause-total : goal.returns-clause-total
+returns-clause-total c = value_total
+
+pub returns-clause-numbers : goal.returns-clause-numbers
+returns-clause-numbers c = same_numbers
+
+pub returns-clause-magnitudes : goal.returns-clause-magnitudes
+returns-clause-magnitudes c = λ m n h. same_naturals (unsigned_abs m) (unsigned_abs n) h
+
+pub returns-clause-texts : goal.returns-clause-texts
+returns-clause-texts c = same_texts
+
+pub returns-clause-flags : goal.returns-clause-flags
+returns-clause-flags c = same_flags

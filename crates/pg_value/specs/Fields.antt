@@ -1,0 +1,78 @@
+-- The value that the text of a field spells (PostgreSQL manual, COPY, Numeric Types and Boolean Type; decimal digits alone, own).
+use Rattle.std.specs.Prelude.{◌≡◌, ℕ, ◌-◌, Bool, true, false, cond, ◌&&◌, ◌||◌, List, ◌∷◌, ◌++◌, length, take, drop, map, codes, ℤ, pos, neg_ℤ, Option, None, Some, Ok, Err, nat_lt, nat_le}
+use Rattle.std.specs.declared.result.Result.{Result}
+use Rattle.std.specs.Char.{is_ascii_whitespace, is_ascii_digit, to_ascii_lowercase}
+use Rattle.std.specs.List.{prefix_len, suffix_len, list_all}
+use Rattle.std.specs.Str.{bytes_eq}
+use Rattle.std.specs.Str.Parse.{digits_value, signed_digits_value, without_leading_sign}
+use Rattle.pg_value.specs.declared.fields.FieldFault.{FieldFault}
+use Rattle.pg_value.specs.declared.fields.FieldFault.TheVariants.{Range, Invalid, Memory}
+use Rattle.pg_value.specs.declared.value.SqlType.{SqlType}
+use Rattle.pg_value.specs.declared.value.SqlType.TheVariants.{Text as TextType, Bool as BoolType}
+use Rattle.pg_value.specs.declared.value.Value.{Value}
+use Rattle.pg_value.specs.declared.value.Value.TheVariants.{Int, Bool as Flag, Text as String}
+use Rattle.pg_value.specs.Types.{in_range}
+
+-- a text is a word with white space (space, tab, LF, FF, CR) or nothing before and after it
+pub record IsAmidBlanks (text word : List ℕ) : Type 0 where
+  pub before : List ℕ
+  pub after : List ℕ
+  pub parts : text ≡ before ++ (word ++ after)
+  pub blank_before : list_all is_ascii_whitespace before ≡ true
+  pub blank_after : list_all is_ascii_whitespace after ≡ true
+
+-- the word of a text: what is left without the white space at its ends
+abbrev pub from_word : List ℕ → List ℕ
+from_word text = drop (prefix_len is_ascii_whitespace text) text
+
+unfoldable pub word_of : List ℕ → List ℕ
+word_of text = take (length (from_word text) - suffix_len is_ascii_whitespace (from_word text)) (from_word text)
+
+-- one decimal digit or more, and nothing else
+abbrev pub is_numeral : List ℕ → Bool
+is_numeral ds = nat_lt 0 (length ds) && list_all is_ascii_digit ds
+
+-- a word spells a whole number: decimal digits after a plus, a minus or no sign
+pub data SpellsNumber : List ℕ → ℤ → Type 0 where
+  plain : (ds : List ℕ) → is_numeral ds ≡ true → SpellsNumber ds (pos (digits_value 10 ds))
+  plus : (ds : List ℕ) → is_numeral ds ≡ true → SpellsNumber (43 ∷ ds) (pos (digits_value 10 ds))
+  minus : (ds : List ℕ) → is_numeral ds ≡ true → SpellsNumber (45 ∷ ds) (neg_ℤ (pos (digits_value 10 ds)))
+
+-- the whole number that a word spells, or none
+unfoldable pub number_of : List ℕ → Option ℤ
+number_of word = cond (is_numeral (without_leading_sign word)) (Some (signed_digits_value 10 word)) None
+
+-- a word is the beginning of another one, of so many letters at least
+unfoldable pub is_start : ℕ → List ℕ → List ℕ → Bool
+is_start least full word = nat_le least (length word) && bytes_eq (take (length word) full) word
+
+-- `1`, or a beginning of `true`, `yes` or `on` that is neither empty nor `o`; and the same of `0`, `false`, `no` and `off`
+unfoldable pub is_true_word : List ℕ → Bool
+is_true_word word = is_start 1 (codes "1") word || (is_start 1 (codes "true") word || (is_start 1 (codes "yes") word || is_start 2 (codes "on") word))
+
+unfoldable pub is_false_word : List ℕ → Bool
+is_false_word word = is_start 1 (codes "0") word || (is_start 1 (codes "false") word || (is_start 1 (codes "no") word || is_start 2 (codes "off") word))
+
+-- the truth value that a word spells in capital or small letters, or none
+unfoldable pub flag_of : List ℕ → Option Bool
+flag_of word = let small = map to_ascii_lowercase word in cond (is_true_word small) (Some true) (cond (is_false_word small) (Some false) None)
+
+-- a whole number as a value of an integer type: `Invalid` where there is none, `Range` where the type does not have it
+abbrev pub ranged : SqlType → Option ℤ → Result Value FieldFault
+ranged t None = Err Invalid
+ranged t (Some n) = cond (in_range t n) (Ok (Int n)) (Err Range)
+
+abbrev pub flagged : Option Bool → Result Value FieldFault
+flagged None = Err Invalid
+flagged (Some b) = Ok (Flag b)
+
+-- the value of a type that a text spells, or why it spells none: a text's bytes as they are, else what its word spells
+abbrev pub field_value : SqlType → List ℕ → Result Value FieldFault
+field_value TextType text = Ok (String text)
+field_value BoolType text = flagged (flag_of (word_of text))
+field_value t text = ranged t (number_of (word_of text))
+
+-- an answer is the one wanted, or want of memory
+abbrev pub IsUnlessMemory : Result Value FieldFault → Result Value FieldFault → Type 0
+IsUnlessMemory wanted (Err Memory) = Unit {0}
+IsUnlessMemory wanted answer = wanted ≡ answer

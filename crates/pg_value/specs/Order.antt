@@ -1,0 +1,48 @@
+-- The order of values in a family of operators, on whole numbers and byte lists.
+use Rattle.std.specs.Prelude.{ℕ, Bool, false, List, [], ℤ, pos, unsigned_abs, Option, None, Some}
+use Rattle.std.specs.Ordering.{on, nat_cmp, int_cmp, bool_cmp}
+use Rattle.std.specs.Cmp.Lexicographic.{slice_cmp}
+use Rattle.std.specs.declared.cmp.Ordering.{Ordering}
+use Rattle.pg_value.specs.declared.operators.Family.{Family}
+use Rattle.pg_value.specs.declared.operators.Family.TheVariants.{Integer, IntAbs, Text as TextOps, Bool as BoolOps}
+use Rattle.pg_value.specs.declared.value.Value.{Value}
+use Rattle.pg_value.specs.declared.value.Value.TheVariants.{Null, Int, Bool as Flag, Text as String}
+
+-- what a value holds, read as a whole number, a truth value or a byte list (own)
+abbrev pub number : Value → ℤ
+number (Int n) = n
+number _ = pos 0
+
+abbrev pub flag : Value → Bool
+flag (Flag b) = b
+flag _ = false
+
+abbrev pub bytes : Value → List ℕ
+bytes (String t) = t
+bytes _ = []
+
+-- the absolute value as a natural number, so that of -2^63 is 2^63 (own)
+abbrev pub magnitude : Value → ℕ
+magnitude v = unsigned_abs (number v)
+
+-- how a family orders two values that are not NULL: whole numbers by value or by absolute value, texts byte by byte, false before true (PostgreSQL manual, Operator Classes and Operator Families; int_abs_ops is own)
+abbrev pub value_order : Family → Value → Value → Ordering
+value_order Integer = on number int_cmp
+value_order IntAbs = on magnitude nat_cmp
+value_order TextOps = on bytes (slice_cmp nat_cmp)
+value_order BoolOps = on flag bool_cmp
+
+-- the same, and no order where a value is NULL
+abbrev pub compared : Family → Value → Value → Option Ordering
+compared f Null _ = None
+compared f _ Null = None
+compared f a b = Some (value_order f a b)
+
+-- a value is NULL or of the kind that a family orders
+abbrev pub IsOfFamily : Family → Value → Type 0
+IsOfFamily _ Null = Unit {0}
+IsOfFamily Integer (Int n) = Unit {0}
+IsOfFamily IntAbs (Int n) = Unit {0}
+IsOfFamily TextOps (String t) = Unit {0}
+IsOfFamily BoolOps (Flag b) = Unit {0}
+IsOfFamily _ _ = ⊥

@@ -1,0 +1,69 @@
+-- Words and symbols with one code are one.
+use Rattle.std.proofs.Common.{◌≡◌, ℕ, true, [], ◌∷◌, get_or, refl, sym, ap, ◌∙◌, nat_eq}
+use Rattle.std.proofs.lemmas.Bool.{eqb-true}
+use Rattle.sql_grammar.specs.declared.class.Free.{Free}
+use Rattle.sql_grammar.specs.declared.class.Free.TheVariants.{Copy, Csv, Format, Stdin}
+use Rattle.sql_grammar.specs.declared.class.Word.{Word}
+use Rattle.sql_grammar.specs.declared.class.Word.TheVariants.{And, As, Asc, Create, Cross, Desc, False, From, Group, Inner, Is, Join, Limit, Not, Null, Offset, On, Or, Order, Select, Table, True, Using, Where, With}
+use Rattle.sql_grammar.specs.declared.class.Symbol.{Symbol}
+use Rattle.sql_grammar.specs.declared.class.Symbol.TheVariants.{Open, Close, Comma, Dot, Minus, Star}
+use Rattle.sql_grammar.specs.Table.{word_code, sign_code, free_code}
+
+abbrev word_at : ℕ → Word
+word_at n = get_or (And ∷ As ∷ Asc ∷ Create ∷ Cross ∷ Desc ∷ False ∷ From ∷ Group ∷ Inner ∷ Is ∷ Join ∷ Limit ∷ Not ∷ Null ∷ Offset ∷ On ∷ Or ∷ Order ∷ Select ∷ Table ∷ True ∷ Using ∷ Where ∷ With ∷ []) n And
+
+word_back : (w : Word) → word_at (word_code w) ≡ w
+word_back And = refl
+word_back As = refl
+word_back Asc = refl
+word_back Create = refl
+word_back Cross = refl
+word_back Desc = refl
+word_back False = refl
+word_back From = refl
+word_back Group = refl
+word_back Inner = refl
+word_back Is = refl
+word_back Join = refl
+word_back Limit = refl
+word_back Not = refl
+word_back Null = refl
+word_back Offset = refl
+word_back On = refl
+word_back Or = refl
+word_back Order = refl
+word_back Select = refl
+word_back Table = refl
+word_back True = refl
+word_back Using = refl
+word_back Where = refl
+word_back With = refl
+
+pub same_word : (v w : Word) → nat_eq (word_code v) (word_code w) ≡ true → v ≡ w
+same_word v w e = sym (word_back v) ∙ (ap word_at (eqb-true (word_code v) (word_code w) e) ∙ word_back w)
+
+abbrev sign_at : ℕ → Symbol
+sign_at n = get_or (Open ∷ Close ∷ Comma ∷ Dot ∷ Minus ∷ Star ∷ []) n Open
+
+sign_back : (w : Symbol) → sign_at (sign_code w) ≡ w
+sign_back Open = refl
+sign_back Close = refl
+sign_back Comma = refl
+sign_back Dot = refl
+sign_back Minus = refl
+sign_back Star = refl
+
+pub same_sign : (v w : Symbol) → nat_eq (sign_code v) (sign_code w) ≡ true → v ≡ w
+same_sign v w e = sym (sign_back v) ∙ (ap sign_at (eqb-true (sign_code v) (sign_code w) e) ∙ sign_back w)
+
+abbrev free_at : ℕ → Free
+free_at n = get_or (Copy ∷ Csv ∷ Format ∷ Stdin ∷ []) n Copy
+
+free_back : (w : Free) → free_at (free_code w) ≡ w
+free_back Copy = refl
+free_back Csv = refl
+free_back Format = refl
+free_back Stdin = refl
+
+pub same_free : (v w : Free) → nat_eq (free_code v) (free_code w) ≡ true → v ≡ w
+same_free v w e = sym (free_back v) ∙ (ap free_at (eqb-true (free_code v) (free_code w) e) ∙ free_back w)

@@ -1,0 +1,12 @@
+pub mod Codes
+pub mod Forest
+pub mod Rules
+pub mod Sound
+pub mod Room
+pub mod Complete
+pub mod Reach
+pub mod Endings
+pub mod Walked
+pub mod Spellings
+pub mod LimitLaws
+pub mod StatementWords

@@ -1,0 +1,96 @@
+-- Which limits a terminal can be past by itself.
+use Rattle.std.proofs.Common.{◌≡◌, ℕ, Bool, true, false, List, [], ◌∷◌, length, Option, Some, None, refl, sym, ap, ◌∙◌, subst, cond, nat_eq, nat_le}
+use Rattle.std.specs.List.{find}
+use Rattle.std.specs.Str.{bytes_eq}
+use Rattle.std.proofs.lemmas.Slice.Eq.{bytes_eq-Decides}
+use Rattle.pg_base.specs.declared.faults.Limit.{Limit}
+use Rattle.pg_base.specs.declared.faults.Limit.TheVariants.{Text, Name, Depth}
+use Rattle.sql_grammar.specs.declared.table.Item.{Item}
+use Rattle.sql_grammar.specs.declared.class.Word.{Word}
+use Rattle.sql_grammar.specs.declared.class.Word.TheVariants.{And, As, Asc, Create, Cross, Desc, False, From, Group, Inner, Is, Join, Limit as LimitWord, Not, Null, Offset, On, Or, Order, Select, Table, True, Using, Where, With}
+use Rattle.sql_grammar.specs.declared.class.Free.{Free}
+use Rattle.sql_grammar.specs.Terminals.{Terminal, t_name, t_quoted, class_of}
+use Rattle.sql_grammar.specs.Reading.{spelling_of, free_spelling_of, reserved_words, free_words, reserved_of, free_of, ident_of, word_terminal, symbol_terminal}
+use Rattle.sql_grammar.specs.Machine.{step_of}
+use Rattle.sql_grammar.specs.Faults.{bytes_of, limit_of}
+use Rattle.sql_grammar.specs.Walk.{StopsBy}
+use Rattle.pg_base.specs.declared.faults.Code.TheVariants.{S15}
+
+never-by : (b : Bool) (l : Limit) → ¬ (Some l ≡ Some Depth) → cond b None (Some l) ≡ Some Depth → ⊥
+never-by true l other e = absurd (cc)
+never-by false l other e = other e
+
+never-depth : (t : Terminal) → limit_of t ≡ Some Depth → ⊥
+never-depth (t_name n) e = never-by (nat_le (length (bytes_of n)) 63) Name (λ f. absurd (cc)) e
+never-depth (t_quoted v) e = never-by (nat_le (length v) 8192) Text (λ f. absurd (cc)) e
+never-depth _ e = absurd (cc)
+
+-- a terminal that is awaited and past a limit stops the walk
+pub past-limit : (t : Terminal) (s n : List Item) (limit : Limit) → step_of 32 (class_of t) s ≡ Some n → limit_of t ≡ Some limit → StopsBy (S15 limit) t s
+past-limit t s n Depth step is = absurd (never-depth t is)
+past-limit t s n _ step is = ((n, step), is)
+
+-- what a search finds passes
+module _ (W : Type 0) (p : W → Bool) where
+  found-by : (b : Bool) (x y : W) (rest : Option W) → p y ≡ b → (rest ≡ Some x → p x ≡ true) → cond b (Some y) rest ≡ Some x → p x ≡ true
+  found-by true x y rest is more e = let same : y ≡ x = cc in subst (λ z. p z ≡ true) same is
+  found-by false x y rest is more e = more e
+
+  found : (ws : List W) (x : W) → find p ws ≡ Some x → p x ≡ true
+  found [] x e = absurd (cc)
+  found (y ∷ ws) x e = found-by (p y) x y (find p ws) refl (found ws x) e
+
+-- no reserved word is so long as a name may be
+short-word : (w : Word) → nat_le (length (spelling_of w)) 63 ≡ true
+short-word And = refl
+short-word As = refl
+short-word Asc = refl
+short-word Create = refl
+short-word Cross = refl
+short-word Desc = refl
+short-word False = refl
+short-word From = refl
+short-word Group = refl
+short-word Inner = refl
+short-word Is = refl
+short-word Join = refl
+short-word LimitWord = refl
+short-word Not = refl
+short-word Null = refl
+short-word Offset = refl
+short-word On = refl
+short-word Or = refl
+short-word Order = refl
+short-word Select = refl
+short-word Table = refl
+short-word True = refl
+short-word Using = refl
+short-word Where = refl
+short-word With = refl
+
+named-by : (o : Option Free) (small : List ℕ) → free_of small ≡ o → bytes_of (ident_of o small) ≡ small
+named-by (Some w) small is = sym ((bytes_eq-Decides small (free_spelling_of w)).0 (found Free (λ v. bytes_eq small (free_spelling_of v)) free_words w is))
+named-by None small is = refl
+
+word-by : (o : Option Word) (small : List ℕ) → reserved_of small ≡ o → limit_of (word_terminal o small) ≡ cond (nat_le (length small) 63) None (Some Name)
+word-by (Some w) small is =
+    let spelled = (bytes_eq-Decides small (spelling_of w)).0 (found Word (λ v. bytes_eq small (spelling_of v)) reserved_words w is) in
+    let short : nat_le (length small) 63 ≡ true = ap (λ bs. nat_le (length bs) 63) spelled ∙ short-word w in
+    rw short refl
+word-by None small is = ap (λ bs. cond (nat_le (length bs) 63) None (Some Name)) (named-by (free_of small) small refl)
+
+-- a word is past a limit where it is longer than a name may be
+pub word-limit : (small : List ℕ) → limit_of (word_terminal (reserved_of small) small) ≡ cond (nat_le (length small) 63) None (Some Name)
+word-limit small = word-by (reserved_of small) small refl
+
+either : (b : Bool) (x y : Terminal) → limit_of x ≡ None → limit_of y ≡ None → limit_of (cond b x y) ≡ None
+either true x y h k = h
+either false x y h k = k
+
+-- no symbol is past a limit
+pub symbol-limit : (bytes : List ℕ) → limit_of (symbol_terminal bytes) ≡ None
+symbol-limit [] = refl
+symbol-limit (b ∷ []) =
+    either (nat_eq b 40) _ _ refl (either (nat_eq b 41) _ _ refl (either (nat_eq b 44) _ _ refl (either (nat_eq b 46) _ _ refl
+    (either (nat_eq b 45) _ _ refl (either (nat_eq b 42) _ _ refl (either (nat_eq b 59) _ _ refl refl))))))
+symbol-limit (b ∷ c ∷ bs) = refl

@@ -1,0 +1,14 @@
+use Rattle.std.proofs.Common.{◌≡◌, ℕ, ◌≤◌, length}
+use Rattle.sql_grammar.specs.Machine.{depth_of, step_of, may_end, Fits}
+use Rattle.sql_grammar.proofs.stack.Stack.step.Given as goal
+
+abbrev pub invariant-loop-item : goal.invariant-loop-item
+invariant-loop-item l = record {
+  same : (limit : ℕ) → step_of limit l.class l.fn.self ≡ step_of limit l.class l.self;
+  ends : may_end l.fn.self ≡ may_end l.self;
+  fits : Fits 16 l.self;
+  shallow : depth_of l.self ≤ 32;
+}
+
+abbrev pub decreases-loop-item : goal.decreases-loop-item
+decreases-loop-item l = length l.self

@@ -1,0 +1,102 @@
+-- Which lists of terminals are statements, and where a list of tokens leaves the grammar: told of the lists that are
+-- statements alone (codes 42601 and 54000: PostgreSQL manual, appendix Error Codes; the numbers of the limits are own).
+use Rattle.std.specs.Prelude.{◌≡◌, ℕ, ◌+◌, ◌≤◌, List, [], ◌∷◌, ◌++◌, length, map, drop, All, Option, Some, None, Result, Ok, Err, cond, nat_le}
+use Rattle.pg_base.specs.declared.faults.Code.{Code}
+use Rattle.pg_base.specs.declared.faults.Code.TheVariants.{S1, S15}
+use Rattle.pg_base.specs.declared.faults.Limit.{Limit}
+use Rattle.pg_base.specs.declared.faults.Limit.TheVariants.{Text, Name, Depth}
+use Rattle.pg_base.specs.declared.faults.Fault.{Fault}
+use Rattle.sql_lex.specs.declared.tokens.Token.{Token}
+use Rattle.sql_grammar.specs.Terminals.{Ident, free, other, Terminal, t_name, t_quoted}
+use Rattle.sql_grammar.specs.Reading.{free_spelling_of, terminal_of}
+use Rattle.sql_grammar.specs.Syntax.{Statement, Select, Expr}
+use Rattle.sql_grammar.specs.Words.{words_of, words_of_select, words_of_expr, levels_of, levels_of_expr}
+
+-- lists of terminals, by the levels that their expressions may have
+abbrev pub Production : Type 1
+Production = ℕ → List Terminal → Type 0
+
+-- a statement with its end
+abbrev pub IsStatement : Production
+IsStatement limit ts = (x : Statement) × (levels_of x ≤ limit) × (words_of x ≡ ts)
+
+-- a SELECT
+abbrev pub IsSelect : Production
+IsSelect limit ts = (q : Select) × (words_of_select q ≡ ts)
+
+-- an expression
+abbrev pub IsExpr : Production
+IsExpr limit ts = (e : Expr) × (levels_of_expr e ≤ limit) × (words_of_expr e ≡ ts)
+
+-- some list of the production begins so
+abbrev pub IsPrefix : Production → Production
+IsPrefix Of limit ts = (rest : List Terminal) × Of limit (ts ++ rest)
+
+-- a name's bytes in small letters
+abbrev pub bytes_of : Ident → List ℕ
+bytes_of (free w) = free_spelling_of w
+bytes_of (other bytes) = bytes
+
+-- the limit that a terminal is past: 63 bytes of a name, 8,192 of a quoted text's value
+abbrev pub limit_of : Terminal → Option Limit
+limit_of (t_name n) = cond (nat_le (length (bytes_of n)) 63) None (Some Name)
+limit_of (t_quoted value) = cond (nat_le (length value) 8192) None (Some Text)
+limit_of _ = None
+
+-- none is past a limit
+abbrev pub AreWithinLimits : List Terminal → Type 0
+AreWithinLimits ts = All (λ t. limit_of t ≡ None) ts
+
+-- the terminals of tokens of this text
+abbrev pub terminals : List ℕ → List Token → List Terminal
+terminals text tokens = map (terminal_of text) tokens
+
+-- why a terminal is at fault after others with which the production begins:
+-- it never goes on so; it opens level 33; it is awaited, and past a limit
+abbrev pub IsAtFault : Production → List Terminal → Terminal → Code → Type 0
+IsAtFault Of before t S1 = (limit : ℕ) → ¬ IsPrefix Of limit (before ++ t ∷ [])
+IsAtFault Of before t (S15 Depth) = ¬ IsPrefix Of 32 (before ++ t ∷ []) × IsPrefix Of 33 (before ++ t ∷ [])
+IsAtFault Of before t (S15 limit) = IsPrefix Of 32 (before ++ t ∷ []) × (limit_of t ≡ Some limit)
+IsAtFault Of before t _ = ⊥
+
+-- where the words at fault end: a syntax fault names none
+abbrev pub fault_end : Code → Token → ℕ
+fault_end S1 token = token.start
+fault_end _ token = token.end
+
+-- the fault of this kind at this token
+abbrev pub fault_at : Code → Token → Fault
+fault_at code token = record { code = code; at = token.start; from = token.start; to = fault_end code token; rec = 0; table = record { 0 = 0 }; col = 0 }
+
+-- the first fault of tokens that are to begin with the production: the tokens before it begin one, within the limits
+pub record IsFirstFault (Of : Production) (text : List ℕ) (tokens : List Token) (fault : Fault) : Type 0 where
+  pub before : List Token
+  pub token : Token
+  pub after : List Token
+  pub split : tokens ≡ before ++ token ∷ after
+  pub begins : IsPrefix Of 32 (terminals text before)
+  pub within : AreWithinLimits (terminals text before)
+  pub cause : IsAtFault Of (terminals text before) (terminal_of text token) fault.code
+  pub unfinished : fault.code ≡ S1 → (limit : ℕ) → ¬ Of limit (terminals text before)
+  pub place : fault ≡ fault_at fault.code token
+
+-- the longest list of tokens from `first` on that begins the production is whole, within the limits, and ends before token `end`
+pub record EndsAt (Of : Production) (text : List ℕ) (tokens : List Token) (first end : ℕ) : Type 0 where
+  pub before : List Token
+  pub token : Token
+  pub after : List Token
+  pub split : drop first tokens ≡ before ++ token ∷ after
+  pub place : end ≡ first + length before
+  pub whole : Of 32 (terminals text before)
+  pub within : AreWithinLimits (terminals text before)
+  pub longest : (limit : ℕ) → ¬ IsPrefix Of limit (terminals text before ++ terminal_of text token ∷ [])
+
+-- the end of the part of the statement that begins at token `first`, or its first fault
+abbrev pub IsPartEnd : Production → List ℕ → List Token → ℕ → Result ℕ Fault → Type 0
+IsPartEnd Of text tokens first (Ok end) = EndsAt Of text tokens first end
+IsPartEnd Of text tokens first (Err fault) = IsFirstFault Of text (drop first tokens) fault
+
+-- tokens are a statement within the limits
+pub record IsWhole (text : List ℕ) (tokens : List Token) : Type 0 where
+  pub statement : IsStatement 32 (terminals text tokens)
+  pub within : AreWithinLimits (terminals text tokens)

@@ -1,0 +1,10 @@
+pub mod Terminals
+pub mod Syntax
+pub mod Words
+pub mod Table
+pub mod Machine
+pub mod Steps
+pub mod Reading
+pub mod Faults
+pub mod Walk
+pub mod CopyLine

@@ -1,0 +1,290 @@
+-- The table of the walk: the items that stand in an item's place after a token (own).
+use Rattle.std.specs.Prelude.{ℕ, Bool, true, false, List, [], ◌∷◌, Option, Some, None, cond, nat_eq}
+use Rattle.sql_grammar.specs.declared.class.Free.TheVariants.{Copy, Csv, Format, Stdin}
+use Rattle.sql_grammar.specs.declared.class.Free.{Free}
+use Rattle.sql_grammar.specs.declared.class.Word.{Word}
+use Rattle.sql_grammar.specs.declared.class.Word.TheVariants.{And, As, Asc, Create, Cross, Desc, False, From, Group, Inner, Is, Join, Limit, Not, Null, Offset, On, Or, Order, Select, Table, True, Using, Where, With}
+use Rattle.sql_grammar.specs.declared.class.Symbol.{Symbol}
+use Rattle.sql_grammar.specs.declared.class.Symbol.TheVariants.{Open, Close, Comma, Dot, Minus, Star}
+use Rattle.sql_grammar.specs.declared.class.Class.{Class}
+use Rattle.sql_grammar.specs.declared.class.Class.TheVariants.{Key, Mark, Name, Number, Quoted, Operator, Semicolon, End}
+use Rattle.sql_grammar.specs.declared.table.Item.{Item}
+use Rattle.sql_grammar.specs.declared.table.Item.TheVariants.{Keyword, Sign, FreeWord, Label, Digits, QuotedText, Whole, Ends, Stop, Query, Nullness, MoreColumns, Result, MoreResults, AfterResult, StarOrLabel, MaybeAlias, Negation, MoreAnds, MoreOrs, Closes, NotEnds, AfterName, AfterColumn, AfterIs, AfterLiteral, AfterTruth, Side, AfterQualifier}
+
+-- the items in an item's place; None where the token is not awaited
+abbrev pub Row : Type 0
+Row = Option (List Item)
+
+-- the number of a reserved word, by which two are compared
+abbrev pub word_code : Word → ℕ
+word_code And = 0
+word_code As = 1
+word_code Asc = 2
+word_code Create = 3
+word_code Cross = 4
+word_code Desc = 5
+word_code False = 6
+word_code From = 7
+word_code Group = 8
+word_code Inner = 9
+word_code Is = 10
+word_code Join = 11
+word_code Limit = 12
+word_code Not = 13
+word_code Null = 14
+word_code Offset = 15
+word_code On = 16
+word_code Or = 17
+word_code Order = 18
+word_code Select = 19
+word_code Table = 20
+word_code True = 21
+word_code Using = 22
+word_code Where = 23
+word_code With = 24
+
+-- the number of a symbol
+abbrev pub sign_code : Symbol → ℕ
+sign_code Open = 0
+sign_code Close = 1
+sign_code Comma = 2
+sign_code Dot = 3
+sign_code Minus = 4
+sign_code Star = 5
+
+-- the number of a word with a place of its own
+abbrev pub free_code : Free → ℕ
+free_code Copy = 0
+free_code Csv = 1
+free_code Format = 2
+free_code Stdin = 3
+
+-- a statement and its end: `CREATE TABLE`, `SELECT`, `COPY`, or nothing before the end
+abbrev pub statement_takes : Class → Row
+statement_takes (Key Create) = Some (Keyword Table ∷ Label ∷ Sign Open ∷ Label ∷ Label ∷ Nullness ∷ MoreColumns ∷ Ends ∷ [])
+statement_takes (Key Select) = Some (Result ∷ MoreResults ∷ Keyword From ∷ Label ∷ MaybeAlias ∷ Ends ∷ [])
+statement_takes (Name (Some Copy)) = Some (Label ∷ Keyword From ∷ FreeWord Stdin ∷ Keyword With ∷ Sign Open ∷ FreeWord Format ∷ FreeWord Csv ∷ Sign Comma ∷ Keyword Null ∷ QuotedText ∷ Sign Close ∷ Stop ∷ [])
+statement_takes Semicolon = Some []
+statement_takes End = Some []
+statement_takes _ = None
+
+-- a statement's end
+abbrev pub ends_takes : Class → Row
+ends_takes Semicolon = Some []
+ends_takes End = Some []
+ends_takes _ = None
+
+-- the `;` before data
+abbrev pub stop_takes : Class → Row
+stop_takes Semicolon = Some []
+stop_takes _ = None
+
+-- a SELECT
+abbrev pub query_takes : Class → Row
+query_takes (Key Select) = Some (Result ∷ MoreResults ∷ Keyword From ∷ Label ∷ MaybeAlias ∷ [])
+query_takes _ = None
+
+-- NULL or NOT NULL
+abbrev pub nullness_takes : Class → Row
+nullness_takes (Key Not) = Some (Keyword Null ∷ [])
+nullness_takes (Key Null) = Some []
+nullness_takes _ = None
+
+-- further columns, and the closing parenthesis
+abbrev pub columns_takes : Class → Row
+columns_takes (Mark Comma) = Some (Label ∷ Label ∷ Nullness ∷ MoreColumns ∷ [])
+columns_takes (Mark Close) = Some []
+columns_takes _ = None
+
+-- what SELECT asks for
+abbrev pub output_takes : Class → Row
+output_takes (Mark Star) = Some []
+output_takes (Name _) = Some (AfterResult ∷ [])
+output_takes _ = None
+
+-- further ones
+abbrev pub outputs_takes : Class → Row
+outputs_takes (Mark Comma) = Some (Result ∷ MoreResults ∷ [])
+outputs_takes _ = None
+
+-- what follows a name there
+abbrev pub after_output_takes : Class → Row
+after_output_takes (Mark Dot) = Some (StarOrLabel ∷ [])
+after_output_takes _ = None
+
+-- what follows a name and a dot there
+abbrev pub star_takes : Class → Row
+star_takes (Mark Star) = Some []
+star_takes (Name _) = Some []
+star_takes _ = None
+
+-- an alias
+abbrev pub alias_takes : Class → Row
+alias_takes (Key As) = Some (Label ∷ [])
+alias_takes (Name _) = Some []
+alias_takes _ = None
+
+-- a NOT or an atom
+abbrev pub negation_takes : Class → Row
+negation_takes (Key Not) = Some (Negation ∷ NotEnds ∷ [])
+negation_takes (Mark Open) = Some (Negation ∷ MoreAnds ∷ MoreOrs ∷ Closes ∷ [])
+negation_takes (Name _) = Some (AfterName ∷ [])
+negation_takes Number = Some (AfterLiteral ∷ [])
+negation_takes Quoted = Some (AfterLiteral ∷ [])
+negation_takes (Mark Minus) = Some (Digits ∷ AfterLiteral ∷ [])
+negation_takes (Key True) = Some (AfterTruth ∷ [])
+negation_takes (Key False) = Some (AfterTruth ∷ [])
+negation_takes (Key Null) = Some (AfterTruth ∷ [])
+negation_takes _ = None
+
+-- further parts of an AND
+abbrev pub ands_takes : Class → Row
+ands_takes (Key And) = Some (Negation ∷ MoreAnds ∷ [])
+ands_takes _ = None
+
+-- further parts of an OR
+abbrev pub ors_takes : Class → Row
+ors_takes (Key Or) = Some (Negation ∷ MoreAnds ∷ MoreOrs ∷ [])
+ors_takes _ = None
+
+-- what follows a literal
+abbrev pub literal_takes : Class → Row
+literal_takes Operator = Some (Side ∷ [])
+literal_takes _ = None
+
+-- what follows a column
+abbrev pub column_takes : Class → Row
+column_takes (Key Is) = Some (AfterIs ∷ [])
+column_takes Operator = Some (Side ∷ [])
+column_takes _ = None
+
+-- what follows a name that begins a column
+abbrev pub name_takes : Class → Row
+name_takes (Mark Dot) = Some (Label ∷ AfterColumn ∷ [])
+name_takes (Key Is) = Some (AfterIs ∷ [])
+name_takes Operator = Some (Side ∷ [])
+name_takes _ = None
+
+-- an operand
+abbrev pub side_takes : Class → Row
+side_takes (Name _) = Some (AfterQualifier ∷ [])
+side_takes (Mark Minus) = Some (Digits ∷ [])
+side_takes Number = Some []
+side_takes Quoted = Some []
+side_takes (Key True) = Some []
+side_takes (Key False) = Some []
+side_takes (Key Null) = Some []
+side_takes _ = None
+
+-- what follows a name in an operand
+abbrev pub qualifier_takes : Class → Row
+qualifier_takes (Mark Dot) = Some (Label ∷ [])
+qualifier_takes _ = None
+
+-- a name
+abbrev pub label_takes : Class → Row
+label_takes (Name _) = Some []
+label_takes _ = None
+
+-- a number
+abbrev pub digits_takes : Class → Row
+digits_takes Number = Some []
+digits_takes _ = None
+
+-- a quoted text
+abbrev pub quoted_takes : Class → Row
+quoted_takes Quoted = Some []
+quoted_takes _ = None
+
+-- this reserved word
+abbrev pub keyword_takes : Word → Class → Row
+keyword_takes w (Key v) = cond (nat_eq (word_code v) (word_code w)) (Some []) None
+keyword_takes w _ = None
+
+-- this symbol
+abbrev pub sign_takes : Symbol → Class → Row
+sign_takes w (Mark v) = cond (nat_eq (sign_code v) (sign_code w)) (Some []) None
+sign_takes w _ = None
+
+-- this word, which is not reserved
+abbrev pub free_takes : Free → Class → Row
+free_takes w (Name (Some v)) = cond (nat_eq (free_code v) (free_code w)) (Some []) None
+free_takes w _ = None
+
+-- the whole table
+abbrev pub takes_of : Item → Class → Row
+takes_of (Keyword w) t = keyword_takes w t
+takes_of (Sign s) t = sign_takes s t
+takes_of (FreeWord w) t = free_takes w t
+takes_of Label t = label_takes t
+takes_of Digits t = digits_takes t
+takes_of QuotedText t = quoted_takes t
+takes_of Whole t = statement_takes t
+takes_of Ends t = ends_takes t
+takes_of Stop t = stop_takes t
+takes_of Query t = query_takes t
+takes_of Nullness t = nullness_takes t
+takes_of MoreColumns t = columns_takes t
+takes_of Result t = output_takes t
+takes_of MoreResults t = outputs_takes t
+takes_of AfterResult t = after_output_takes t
+takes_of StarOrLabel t = star_takes t
+takes_of MaybeAlias t = alias_takes t
+takes_of Negation t = negation_takes t
+takes_of MoreAnds t = ands_takes t
+takes_of MoreOrs t = ors_takes t
+takes_of Closes t = sign_takes Close t
+takes_of NotEnds t = None
+takes_of AfterName t = name_takes t
+takes_of AfterColumn t = column_takes t
+takes_of AfterIs t = nullness_takes t
+takes_of AfterLiteral t = literal_takes t
+takes_of AfterTruth t = literal_takes t
+takes_of Side t = side_takes t
+takes_of AfterQualifier t = qualifier_takes t
+
+-- no token need come for it
+abbrev pub is_optional : Item → Bool
+is_optional Nullness = true
+is_optional MoreResults = true
+is_optional AfterResult = true
+is_optional MaybeAlias = true
+is_optional MoreAnds = true
+is_optional MoreOrs = true
+is_optional NotEnds = true
+is_optional AfterName = true
+is_optional AfterColumn = true
+is_optional AfterTruth = true
+is_optional AfterQualifier = true
+is_optional _ = false
+
+-- the levels of an expression that end with it
+abbrev pub level_of : Item → ℕ
+level_of Closes = 1
+level_of NotEnds = 1
+level_of _ = 0
+
+-- the most cells that it and what comes of it take within a level
+abbrev pub room_of : Item → ℕ
+room_of Whole = 12
+room_of Query = 5
+room_of MoreColumns = 4
+room_of MoreResults = 2
+room_of Negation = 2
+room_of MoreAnds = 3
+room_of MoreOrs = 4
+room_of AfterName = 2
+room_of _ = 1
+
+-- it takes the word that ends a statement
+abbrev pub is_last : Item → Bool
+is_last Whole = true
+is_last Ends = true
+is_last Stop = true
+is_last _ = false
+
+-- `;` or the text's end
+abbrev pub is_ending : Class → Bool
+is_ending Semicolon = true
+is_ending End = true
+is_ending _ = false

@@ -1,0 +1,22 @@
+//! The grammar of a statement: which lists of words are one, and where any other list leaves it.
+//!
+//! A statement is a concrete syntax tree (specs/Syntax.antt) and its words (specs/Words.antt). Every fault is told of the
+//! trees alone: the first word after which no statement goes on (42601), or that is past a limit (54000).
+#![tactic(auto)]
+
+mod class;
+mod classify;
+mod copy_line;
+mod limits;
+mod rows;
+mod stack;
+mod table;
+#[cfg(test)]
+mod tests;
+mod walk;
+
+pub use class::{Class, Free, Symbol, Word};
+pub use classify::class_of;
+pub use copy_line::data_start;
+pub use limits::limit_passed;
+pub use walk::{expr_end, select_end, statement_fault};

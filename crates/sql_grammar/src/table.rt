@@ -1,0 +1,138 @@
+//! What the grammar awaits, and what is awaited in its place after a token.
+//!
+//! Each entry takes a token: nothing is put in an item's place before one has come.
+
+ghost use Rattle.std.specs.Prelude.{◌≡◌, ◌≤◌, MatchOption};
+ghost use Rattle.sql_grammar.specs.Table.{takes_of, is_optional, level_of};
+
+use crate::class::{Class, Free, Symbol, Word};
+use crate::rows;
+
+/// What is awaited.
+#[derive(Clone, Copy)]
+pub enum Item {
+    /// This reserved word.
+    Keyword(Word),
+    /// This symbol.
+    Sign(Symbol),
+    /// This word, which is not reserved.
+    FreeWord(Free),
+    /// A name.
+    Label,
+    /// A number.
+    Digits,
+    /// A quoted text.
+    QuotedText,
+    /// A statement and its end.
+    Whole,
+    /// A statement's end: `;` or the text's end.
+    Ends,
+    /// The `;` that a statement with data needs.
+    Stop,
+    /// A SELECT.
+    Query,
+    /// NULL, NOT NULL or nothing.
+    Nullness,
+    /// Further columns of a table, and the closing parenthesis.
+    MoreColumns,
+    /// What SELECT asks for.
+    Result,
+    /// Further ones.
+    MoreResults,
+    /// What follows a name there.
+    AfterResult,
+    /// What follows a name and a dot there.
+    StarOrLabel,
+    /// An alias or nothing.
+    MaybeAlias,
+    /// An expression without AND and OR on its outside.
+    Negation,
+    /// Further parts of an AND.
+    MoreAnds,
+    /// Further parts of an OR.
+    MoreOrs,
+    /// The parenthesis that closes a level.
+    Closes,
+    /// The end of what a NOT governs, which closes its level.
+    NotEnds,
+    /// What follows a name at an atom's start.
+    AfterName,
+    /// What follows a column there.
+    AfterColumn,
+    /// What follows IS.
+    AfterIs,
+    /// What follows a number or a quoted text: it has to be compared.
+    AfterLiteral,
+    /// What follows TRUE, FALSE or NULL.
+    AfterTruth,
+    /// An operand.
+    Side,
+    /// What follows a name in an operand.
+    AfterQualifier,
+}
+
+/// The items that are awaited in this one's place after the token; None where the token is not awaited.
+pub fn takes(item: Item, class: Class) -> Option<&'static [Item]>
+    ensures { MatchOption result (takes_of item class ≡ None) (λ r. takes_of item class ≡ Some r.now) }
+{
+    match item {
+        Item::Keyword(word) => rows::keyword(word, class),
+        Item::Sign(symbol) => rows::sign(symbol, class),
+        Item::FreeWord(word) => rows::free_word(word, class),
+        Item::Label => rows::label(class),
+        Item::Digits => rows::digits(class),
+        Item::QuotedText => rows::quoted_text(class),
+        Item::Whole => rows::statement(class),
+        Item::Ends => rows::ends(class),
+        Item::Stop => rows::stop(class),
+        Item::Query => rows::query(class),
+        Item::Nullness | Item::AfterIs => rows::nullness(class),
+        Item::MoreColumns => rows::columns(class),
+        Item::Result => rows::output(class),
+        Item::MoreResults => rows::outputs(class),
+        Item::AfterResult => rows::after_output(class),
+        Item::StarOrLabel => rows::star_or_label(class),
+        Item::MaybeAlias => rows::alias(class),
+        Item::Negation => rows::negation(class),
+        Item::MoreAnds => rows::ands(class),
+        Item::MoreOrs => rows::ors(class),
+        Item::Closes => rows::sign(Symbol::Close, class),
+        Item::NotEnds => None,
+        Item::AfterName => rows::after_name(class),
+        Item::AfterColumn => rows::after_column(class),
+        Item::AfterLiteral | Item::AfterTruth => rows::after_literal(class),
+        Item::Side => rows::operand(class),
+        Item::AfterQualifier => rows::after_qualifier(class),
+    }
+}
+
+/// Whether no token need come for the item.
+pub fn may_be_empty(item: Item) -> bool
+    ensures { result ≡ is_optional item }
+{
+    matches!(
+        item,
+        Item::Nullness
+            | Item::MoreResults
+            | Item::AfterResult
+            | Item::MaybeAlias
+            | Item::MoreAnds
+            | Item::MoreOrs
+            | Item::NotEnds
+            | Item::AfterName
+            | Item::AfterColumn
+            | Item::AfterTruth
+            | Item::AfterQualifier
+    )
+}
+
+/// The levels of an expression that end with the item: 1 or 0.
+pub fn level(item: Item) -> usize
+    ensures is { result ≡ level_of item }
+    ensures one { result ≤ 1 }
+{
+    match item {
+        Item::Closes | Item::NotEnds => 1,
+        _ => 0,
+    }
+}

@@ -1,0 +1,10 @@
+pub mod RunLaws
+pub mod CommentLaws
+pub mod BlankLaws
+pub mod KindLaws
+pub mod QuoteLaws
+pub mod FormLaws
+pub mod SymbolLaws
+pub mod WordLaws
+pub mod UniqueLaws
+pub mod StopLaws

@@ -1,0 +1,6 @@
+pub mod Letters
+pub mod Blanks
+pub mod Forms
+pub mod Words
+pub mod Cuts
+pub mod Stops

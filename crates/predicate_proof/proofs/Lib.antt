@@ -1,0 +1,5 @@
+pub mod Inversion
+pub mod Lists
+pub mod Sound
+pub mod Table
+pub mod Weight

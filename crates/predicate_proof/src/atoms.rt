@@ -1,0 +1,187 @@
+//! Whether one atom implies another.
+
+ghost use Rattle.std.specs.Prelude.{◌≡◌, ◌↔◌, IsTrue, Some};
+ghost use Rattle.pg_value.specs.Truths.{is_absolute};
+ghost use Rattle.pg_expr.specs.Columns.{names_column};
+ghost use Rattle.pg_expr.specs.View.{cond};
+ghost use Rattle.predicate_proof.specs.Atoms.{CellHolds, ComparisonGives, IsValueOf, SameAtom, SameSide, TableGives, cell, is_column, operator_family, plain, typed_family};
+
+use opfamily::default_family;
+use pg_base::ColNo;
+use pg_expr::{Expr, Operand};
+use pg_value::{Column, Family, Op, SqlType, Value, compare};
+use std::cmp::Ordering;
+
+/// Whether two literals are equal by kind and value.
+fn is_same_literal(a: &Value, b: &Value) -> bool
+    ensures { IsTrue result ↔ (a.now ≡ b.now) }
+{
+    match (a, b) {
+        (Value::Null, Value::Null) => true,
+        (Value::Int(x), Value::Int(y)) => x == y,
+        (Value::Bool(x), Value::Bool(y)) => x == y,
+        (Value::Text(x), Value::Text(y)) => x.items() == y.items(),
+        _ => false,
+    }
+}
+
+/// Whether two sides of comparisons are one column, by its number, or one literal.
+fn is_same_side(a: &Operand, b: &Operand) -> bool
+    ensures { IsTrue result ↔ SameSide a.now b.now }
+{
+    match (a, b) {
+        (Operand::Col(c), Operand::Col(d)) => c.col == d.col,
+        (Operand::Lit(v), Operand::Lit(w)) => is_same_literal(v, w),
+        _ => false,
+    }
+}
+
+/// Whether two conditions are equal atoms, with columns by their numbers.
+pub fn same_atom(a: &Expr, b: &Expr) -> bool
+    ensures { IsTrue result ↔ SameAtom (cond a.now) (cond b.now) }
+{
+    match (a, b) {
+        (Expr::Compare(op, l, r), Expr::Compare(other, m, s)) => {
+            op == other && is_same_side(l, m) && is_same_side(r, s)
+        }
+        (Expr::IsNull(c), Expr::IsNull(d)) => c.col == d.col,
+        (Expr::IsNotNull(c), Expr::IsNotNull(d)) => c.col == d.col,
+        (Expr::BoolCol(c), Expr::BoolCol(d)) => c.col == d.col,
+        (Expr::Const(t), Expr::Const(u)) => t == u,
+        (Expr::Not(inner), Expr::Not(other)) => same_atom(inner, other),
+        _ => false,
+    }
+}
+
+/// The operator that stands in the table of implications for this one.
+fn plain(op: Op) -> Op
+    ensures { result ≡ plain op }
+{
+    match op {
+        Op::AbsLt => Op::Lt,
+        Op::AbsLe => Op::Le,
+        Op::AbsEq => Op::Eq,
+        Op::AbsGe => Op::Ge,
+        Op::AbsGt => Op::Gt,
+        op => op,
+    }
+}
+
+/// Whether a comparison with a literal implies another one, where the other's literal stands so to the first's.
+fn cell(op: Op, other: Op, order: Ordering) -> bool
+    ensures { result ≡ cell op other order }
+{
+    match (op, other) {
+        (Op::Lt, Op::Lt | Op::Le | Op::Ne) | (Op::Le | Op::Eq, Op::Le) => order.is_ge(),
+        (Op::Le | Op::Eq, Op::Lt) | (Op::Le, Op::Ne) => order.is_gt(),
+        (Op::Eq, Op::Eq) | (Op::Ne, Op::Ne) => order.is_eq(),
+        (Op::Eq, Op::Ne) => order.is_ne(),
+        (Op::Gt, Op::Gt | Op::Ge | Op::Ne) | (Op::Ge | Op::Eq, Op::Ge) => order.is_le(),
+        (Op::Ge | Op::Eq, Op::Gt) | (Op::Ge, Op::Ne) => order.is_lt(),
+        _ => false,
+    }
+}
+
+/// Whether a value is not NULL and of the kind that the family orders.
+fn is_value_of(f: Family, v: &Value) -> bool
+    ensures { IsTrue result ↔ IsValueOf f v.now }
+{
+    match (f, v) {
+        (Family::Integer | Family::IntAbs, Value::Int(_)) => true,
+        (Family::Text, Value::Text(_)) => true,
+        (Family::Bool, Value::Bool(_)) => true,
+        _ => false,
+    }
+}
+
+fn is_by_magnitude(op: Op) -> bool
+    ensures { result ≡ is_absolute op }
+{
+    matches!(
+        op,
+        Op::AbsLt | Op::AbsLe | Op::AbsEq | Op::AbsGe | Op::AbsGt
+    )
+}
+
+/// The family of an operator over a type.
+fn typed_family(t: SqlType, op: Op) -> Family
+    ensures { Some result ≡ typed_family t op }
+{
+    if is_by_magnitude(op) {
+        Family::IntAbs
+    } else {
+        default_family(t)
+    }
+}
+
+/// The family of an operator over a column. None where there is no such column.
+fn operator_family(columns: &[Column], c: ColNo, op: Op) -> Option<Family>
+    ensures { result ≡ operator_family columns.now c op }
+{
+    match columns.get(usize::from(c.0)) {
+        Some(column) => Some(typed_family(column.typed, op)),
+        None => None,
+    }
+}
+
+/// Whether both literals are values of the family, and its order meets the table for the two operators.
+fn cell_holds(f: Family, op: Op, v: &Value, other: Op, w: &Value) -> bool
+    ensures { IsTrue result ↔ CellHolds (Some f) op v.now other w.now }
+{
+    if !is_value_of(f, v) || !is_value_of(f, w) {
+        return false;
+    }
+    match compare(f, w, v) {
+        Some(order) => cell(plain(op), plain(other), order),
+        None => false,
+    }
+}
+
+/// Whether a comparison of a column with a literal implies another one by the table.
+fn table_gives(
+    columns: &[Column],
+    op: Op,
+    c: ColNo,
+    v: &Value,
+    other: Op,
+    d: ColNo,
+    w: &Value,
+) -> bool
+    ensures { IsTrue result ↔ TableGives columns.now op c v.now other d w.now }
+{
+    if c != d {
+        return false;
+    }
+    let family = operator_family(columns, c, op);
+    if family != operator_family(columns, d, other) {
+        return false;
+    }
+    match family {
+        Some(f) => cell_holds(f, op, v, other, w),
+        None => false,
+    }
+}
+
+/// Whether a side of a comparison is the column of this number.
+fn is_column(side: &Operand, d: ColNo) -> bool
+    ensures { result ≡ names_column (is_column d) side.now }
+{
+    match side {
+        Operand::Col(c) => c.col == d,
+        Operand::Lit(_) => false,
+    }
+}
+
+/// Whether the clause is a comparison, and implies another atom than its equals.
+pub fn comparison_gives(columns: &[Column], clause: &Expr, goal: &Expr) -> bool
+    ensures { IsTrue result ↔ ComparisonGives columns.now (cond clause.now) (cond goal.now) }
+{
+    match (clause, goal) {
+        (Expr::Compare(_, l, r), Expr::IsNotNull(d)) => is_column(l, d.col) || is_column(r, d.col),
+        (
+            Expr::Compare(op, Operand::Col(c), Operand::Lit(v)),
+            Expr::Compare(other, Operand::Col(d), Operand::Lit(w)),
+        ) => table_gives(columns, *op, c.col, v, *other, d.col, w),
+        _ => false,
+    }
+}

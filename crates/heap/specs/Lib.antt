@@ -1,2 +1,2 @@
-pub mod DataLines
+pub mod Loading
 pub mod Stored

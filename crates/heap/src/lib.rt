@@ -1,8 +1,11 @@
-//! Heaps: the rows of a table in order of loading, read one by one against a counter.
+//! Heaps: the rows of a table in order of loading, filled from COPY data and read one by one against a counter.
 #![tactic(auto)]
 
-mod data_line;
+mod fault;
+mod load;
 mod store;
+#[cfg(test)]
+mod tests;
 
-pub use data_line::first_data_line;
-pub use store::{CopyFault, Heap, Row};
+pub use fault::CopyFault;
+pub use store::{Heap, Row};

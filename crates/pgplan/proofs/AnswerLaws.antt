@@ -1,13 +1,12 @@
 -- What the sequential scan prints is an answer of the query, and a script's replies.
-use Rattle.std.proofs.Common.{◌≡◌, ◌⊎◌, ℕ, ◌+◌, ◌*◌, ◌/◌, ◌^◌, ◌<◌, ◌≤◌, max, List, [], ◌∷◌, ◌++◌, length, map, filter, refl, sym, ◌∙◌, ap, subst, arith, append-nil, length-append, codes, inl, inr, Option, Some, None, Result, Ok, Err, OnOk, OnErr, get_or, is_err, false}
+use Rattle.std.proofs.Common.{◌≡◌, ◌⊎◌, ℕ, ◌+◌, ◌*◌, ◌/◌, ◌^◌, ◌<◌, ◌≤◌, max, List, [], ◌∷◌, ◌++◌, length, map, filter, refl, sym, ◌∙◌, ap, subst, arith, append-nil, length-append, codes, inl, inr, Option, Some, None, Result, Ok, Err, OnOk, OnErr, IfOk, get_or, is_err, false}
 use Rattle.std.specs.List.{AllByRecursion}
 use Rattle.std.proofs.lemmas.List.Sorted.{IsPermutation-refl}
 use Rattle.std.proofs.lemmas.List.{length-map, take_all}
 use Rattle.std.specs.Io.KnownBytes.{Appends, Consumes}
 use Rattle.pg_base.specs.Writing.{AppendsPrefix}
-use Rattle.heap.specs.DataLines.{IsDataLine, AreDataLines, lines_text, row_of}
-use Rattle.pg_value.specs.declared.columns.Column.{Column}
-use Rattle.heap.specs.Stored.{Stored, Values, one_int8}
+use Rattle.pgplan.specs.DataLines.{IsDataLine, AreDataLines, lines_text, row_of}
+use Rattle.heap.specs.Stored.{Stored, Values}
 use Rattle.pgplan.specs.declared.status.Stop.{Stop}
 use Rattle.pgplan.specs.declared.status.Stop.TheVariants.{Write, Memory}
 use Rattle.pgplan.specs.Plans.{Query, Plan, seq, meets, run, shown_values, cost}
@@ -18,7 +17,7 @@ use Rattle.pgplan.specs.Statuses.{status_of, number_of}
 use Rattle.pgplan.specs.declared.status.Status.{Status}
 use Rattle.pgplan.specs.declared.status.Status.TheVariants as statuses
 use Rattle.pgplan.specs.Runs.{IsNoScript, IsTaken, ReadsNoScript, Works, most_bytes}
-use Rattle.pgplan.specs.Worlds.{table_t, nothing_stored}
+use Rattle.pgplan.specs.Worlds.{table_t, one_int8, nothing_stored}
 use Rattle.pgplan.proofs.ScriptLaws.{is_nothing, is_query, is_data, shape_of, create, copy, select}
 
 -- the table t with the rows of these lines
@@ -73,13 +72,6 @@ works_answer (Ok u) held held' text statements bytes script replies ok err = rec
 works_answer (Err Write) held held' text statements bytes script replies ok err = record { statements = statements; script = script; bytes = bytes; replies = replies; gained = err }
 works_answer (Err Memory) held held' text statements bytes script replies ok err = record { statements = statements; script = script; bytes = bytes; replies = replies; gained = err }
 
-abbrev stored : List Column → List Values → Stored
-stored columns rows = record { columns = columns; rows = rows }
-
--- a stored table by its two parts
-pub stored_is : (s : Stored) (lines : List (List ℕ)) → s.columns ≡ one_int8 → s.rows ≡ map row_of lines → s ≡ loaded lines
-stored_is s lines c r = ap (λ (columns : List Column). stored columns s.rows) c ∙ ap (λ (rows : List Values). stored one_int8 rows) r
-
 -- no script is longer than 2^24 bytes
 short_lines : (lines : List (List ℕ)) → AllByRecursion IsDataLine lines → length (lines_text lines) ≤ 19 * length lines
 short_lines [] are = omega arith
@@ -108,7 +100,7 @@ one_item f (y ∷ []) x some few e = ap (λ z. f z ∷ []) (sym e)
 one_item f (y ∷ z ∷ zs) x some few e = absurd (omega (arith, few))
 
 -- what holds on Ok, where a result is no error
-pub at_ok : {T E : Type 0} (r : Result T E) (P : Type 0) → is_err r ≡ false → OnOk r P → P
+pub at_ok : {T E : Type 0} (r : Result T E) (P : Type 0) → is_err r ≡ false → IfOk r (λ x. P) → P
 at_ok (Ok x) P e holds = holds
 at_ok (Err x) P e holds = cc
 

@@ -3,7 +3,7 @@ use Rattle.std.proofs.Common.{◌≡◌, ℕ, ◌+◌, ◌-◌, ◌≤◌, List,
 use Rattle.std.specs.List.{AllByRecursion}
 use Rattle.std.proofs.lemmas.List.Concat.{flat_map-append}
 use Rattle.std.proofs.Math.Seq.{take-append_seam}
-use Rattle.heap.specs.DataLines.{IsDataLine, IsDigit, AreDataLines, lines_text}
+use Rattle.pgplan.specs.DataLines.{IsDataLine, IsDigit, AreDataLines, lines_text}
 
 -- what follows the data lines of a script
 abbrev pub ending : List ℕ

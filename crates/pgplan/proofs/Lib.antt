@@ -1,4 +1,6 @@
 pub mod AnswerLaws
 pub mod Blocks
+pub mod Lines
+pub mod LoadLaws
 pub mod PutLaws
 pub mod ScriptLaws

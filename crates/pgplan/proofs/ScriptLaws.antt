@@ -3,7 +3,7 @@ use Rattle.std.proofs.Common.{◌≡◌, ℕ, List, [], ◌∷◌, ◌++◌, len
 use Rattle.std.specs.Cmp.Lexicographic.{pointwise}
 use Rattle.std.proofs.lemmas.List.{take-append-drop, append_cancel_left}
 use Rattle.std.proofs.lemmas.Slice.Eq.{bytes_eq-Decides}
-use Rattle.heap.specs.DataLines.{AreDataLines, lines_text}
+use Rattle.pgplan.specs.DataLines.{AreDataLines, lines_text}
 use Rattle.pgplan.specs.Statements.{Statement, create_table, copy_in, select_all, statement_text, IsScript}
 use Rattle.pgplan.proofs.Blocks.{ending}
 

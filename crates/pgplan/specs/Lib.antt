@@ -1,3 +1,4 @@
+pub mod DataLines
 pub mod Statements
 pub mod Worlds
 pub mod Plans

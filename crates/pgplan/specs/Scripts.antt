@@ -1,6 +1,6 @@
 -- What was read of a script. Own.
 use Rattle.std.specs.Prelude.{ℕ, ◌≡◌, List, [], ◌∷◌}
-use Rattle.heap.specs.DataLines.{AreDataLines, lines_text}
+use Rattle.pgplan.specs.DataLines.{AreDataLines, lines_text}
 use Rattle.pgplan.specs.declared.reading.Script.{Script}
 use Rattle.pgplan.specs.declared.reading.Script.TheVariants.{Empty, WithoutData, WithData}
 use Rattle.pgplan.specs.Statements.{create_table, copy_in, select_all, script_text}

@@ -1,7 +1,7 @@
 -- The statements that are read, and a script as the bytes of its statements. PostgreSQL manual, CREATE TABLE, COPY and SELECT; the one form of each is own.
 use Rattle.std.specs.Prelude.{ℕ, ◌≡◌, List, [], ◌∷◌, ◌++◌, codes}
 use Rattle.std.specs.List.{flat_map}
-use Rattle.heap.specs.DataLines.{AreDataLines, lines_text}
+use Rattle.pgplan.specs.DataLines.{AreDataLines, lines_text}
 
 pub data Statement : Type 0 where
   -- a table t with one column a of type int8

@@ -1,7 +1,9 @@
 -- What is stored: the tables in order of making. Own.
-use Rattle.std.specs.Prelude.{ℕ, List, [], ◌∷◌, ◌++◌, map, codes}
-use Rattle.heap.specs.Stored.{Stored, one_int8}
-use Rattle.heap.specs.DataLines.{row_of}
+use Rattle.std.specs.Prelude.{ℕ, List, [], ◌∷◌, ◌++◌, map, codes, false}
+use Rattle.heap.specs.Stored.{Stored}
+use Rattle.pg_value.specs.declared.columns.Column.{Column}
+use Rattle.pg_value.specs.declared.value.SqlType.TheVariants.{Int8}
+use Rattle.pgplan.specs.DataLines.{row_of}
 use Rattle.pgplan.specs.Statements.{Statement, create_table, copy_in, select_all}
 
 -- a table with its name, the names of its columns, and its columns and rows
@@ -16,6 +18,10 @@ World = List Table
 -- no table
 abbrev pub nothing_stored : World
 nothing_stored = []
+
+-- one int8 column that takes NULL
+abbrev pub one_int8 : List Column
+one_int8 = record { typed = Int8; not_null = false } ∷ []
 
 -- the table t with its one column a and these rows
 abbrev pub table_t : Stored → Table

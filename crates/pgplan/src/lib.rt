@@ -1,6 +1,7 @@
 //! pgplan: reads a script, plans and runs its queries, and prints plans and rows.
 #![tactic(auto)]
 
+mod data_line;
 mod printing;
 mod reading;
 mod selecting;

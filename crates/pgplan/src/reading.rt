@@ -1,11 +1,11 @@
 //! A script: nothing, or the table t, its data or none, and the query.
 
 ghost use Rattle.std.specs.Prelude.{◌≡◌, ◌++◌, ℕ, List, length, IfSome, IfNone, codes, ◌≤◌};
-ghost use Rattle.heap.specs.DataLines.{AreDataLines, lines_text};
+ghost use Rattle.pgplan.specs.DataLines.{AreDataLines, lines_text};
 ghost use Rattle.pgplan.specs.Scripts.{IsRead};
 ghost use Rattle.pgplan.specs.Statements.{Statement, IsScript};
 
-use heap::first_data_line;
+use crate::data_line::first_data_line;
 
 const CREATE: &[u8] = b"CREATE TABLE t (a int8);\n";
 

@@ -4,12 +4,11 @@ ghost use Rattle.std.specs.Prelude.{◌≡◌, ◌++◌, ◌+◌, ◌*◌, ◌^�
 ghost use Rattle.std.specs.String.{string_bytes};
 ghost use Rattle.std.specs.Io.KnownBytes.{Appends};
 ghost use Rattle.pg_base.specs.Writing.{AppendsPrefix};
-ghost use Rattle.heap.specs.Stored.{one_int8};
 ghost use Rattle.pgplan.specs.Plans.{seq};
 ghost use Rattle.pgplan.specs.Putting.{HasPut, Puts, HasWriteCause};
 ghost use Rattle.pgplan.specs.Replies.{answer_text, whole_table};
 ghost use Rattle.pgplan.specs.Texts.{count_text, plan_text, row_text, rows_text};
-ghost use Rattle.pgplan.specs.Worlds.{table_t};
+ghost use Rattle.pgplan.specs.Worlds.{one_int8, table_t};
 
 use crate::printing::{flush, put};
 use crate::status::Stop;

@@ -5,14 +5,14 @@ ghost use Rattle.std.specs.String.{string_bytes};
 ghost use Rattle.std.specs.Io.KnownBytes.{Appends};
 ghost use Rattle.pg_base.specs.Causes.{Rose};
 ghost use Rattle.pg_base.specs.Writing.{AppendsPrefix};
-ghost use Rattle.heap.specs.DataLines.{AreDataLines, IsBlock, lines_text, row_of};
-ghost use Rattle.heap.specs.Stored.{one_int8};
+ghost use Rattle.pgplan.specs.DataLines.{AreDataLines, lines_text, row_of};
 ghost use Rattle.pgplan.specs.Putting.{HasWriteCause};
 ghost use Rattle.pgplan.specs.Replies.{answer_text};
 ghost use Rattle.pgplan.specs.Runs.{AnswersAll, AnswersSome, IsRunCommand, ReadsNoScript, Works};
 ghost use Rattle.pgplan.specs.Statements.{IsScript};
 ghost use Rattle.pgplan.specs.Statements as statements;
 ghost use Rattle.pgplan.specs.Statuses.{line_of, number_of, status_of};
+ghost use Rattle.pgplan.specs.Worlds.{one_int8};
 
 use crate::reading::{Script, read_script};
 use crate::selecting::print_answer;
@@ -125,7 +125,6 @@ fn status_of(outcome: Result<(), Stop>) -> Status
 
 /// Loads the block into the table t and answers the query.
 fn answer<K: Sink>(alloc: Global, block: &[u8], out: &mut K) -> Result<(), Stop>
-    requires { IsBlock block.now }
     ensures ok { OnOk result ((lines : List (List ℕ)) → AreDataLines lines → block.now ≡ lines_text lines → Appends (K.held out.old) (K.held out.new) (answer_text (record { columns = one_int8; rows = map row_of lines }))) }
     ensures err { OnErr result ((lines : List (List ℕ)) → AreDataLines lines → block.now ≡ lines_text lines → AppendsPrefix (K.held out.old) (K.held out.new) (answer_text (record { columns = one_int8; rows = map row_of lines }))) }
     ensures cause { HasWriteCause (K.faults out.old) (K.faults out.new) result }
@@ -143,7 +142,6 @@ fn answer_counted<L: Ledger, K: Sink>(
     requires name { blank.name ≡ L.name }
     requires parts { blank.parts ≡ L.parts }
     requires some { 0 < blank.parts }
-    requires block { IsBlock block.now }
     ensures ok { OnOk result ((lines : List (List ℕ)) → AreDataLines lines → block.now ≡ lines_text lines → Appends (K.held out.old) (K.held out.new) (answer_text (record { columns = one_int8; rows = map row_of lines }))) }
     ensures err { OnErr result ((lines : List (List ℕ)) → AreDataLines lines → block.now ≡ lines_text lines → AppendsPrefix (K.held out.old) (K.held out.new) (answer_text (record { columns = one_int8; rows = map row_of lines }))) }
     ensures cause { HasWriteCause (K.faults out.old) (K.faults out.new) result }

@@ -1,5 +1,5 @@
 use Rattle.std.proofs.Common.{◌≡◌, ◌++◌, ℕ, List, length, ◌≤◌}
-use Rattle.heap.specs.DataLines.{AreDataLines, lines_text}
+use Rattle.pgplan.specs.DataLines.{AreDataLines, lines_text}
 use Rattle.pgplan.proofs.Blocks.{ending, Passed, Left}
 use Rattle.pgplan.proofs.reading.block_before_end.Given as goal
 

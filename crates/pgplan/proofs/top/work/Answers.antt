@@ -1,6 +1,6 @@
 use Rattle.std.proofs.Common.{[], ◌∷◌, refl, arith}
 use Rattle.std.proofs.lemmas.Result.{on_ok_weaker, on_err_weaker}
-use Rattle.heap.specs.DataLines.{AreDataLines}
+use Rattle.pgplan.specs.DataLines.{AreDataLines}
 use Rattle.pgplan.specs.Replies.{answer_text}
 use Rattle.pgplan.specs.Statements.{create_table, copy_in, select_all}
 use Rattle.pgplan.proofs.AnswerLaws.{works_answer, query_replies, data_replies, loaded}

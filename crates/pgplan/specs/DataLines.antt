@@ -1,5 +1,6 @@
 -- COPY data of one int8 column: lines of 1 to 18 decimal digits. PostgreSQL manual, COPY; the narrow form is own.
-use Rattle.std.specs.Prelude.{ℕ, ◌≡◌, ◌+◌, ◌*◌, ◌-◌, ◌≤◌, List, [], ◌∷◌, ◌++◌, length, fold, pos, EachIndex, slice_index}
+use Rattle.std.specs.Prelude.{ℕ, ◌≤◌, List, [], ◌∷◌, ◌++◌, length, pos, EachIndex, slice_index}
+use Rattle.std.specs.Str.Parse.{digits_value}
 use Rattle.std.specs.List.{flat_map, AllByRecursion}
 use Rattle.pg_value.specs.declared.value.Value.{Value}
 use Rattle.pg_value.specs.declared.value.Value.TheVariants.{Int}
@@ -23,14 +24,6 @@ pub record AreDataLines (lines : List (List ℕ)) : Type 0 where
 abbrev pub lines_text : List (List ℕ) → List ℕ
 lines_text lines = flat_map (λ line. line ++ 10 ∷ []) lines
 
--- some data lines make up the block
-abbrev pub IsBlock : List ℕ → Type 0
-IsBlock block = (lines : List (List ℕ)) × AreDataLines lines × (block ≡ lines_text lines)
-
--- the number that decimal digits write
-abbrev pub number_of : List ℕ → ℕ
-number_of digits = fold (λ n digit. n * 10 + (digit - 48)) 0 digits
-
 -- the row that a data line stands for
 abbrev pub row_of : List ℕ → List Value
-row_of line = Int (pos (number_of line)) ∷ []
+row_of line = Int (pos (digits_value 10 line)) ∷ []

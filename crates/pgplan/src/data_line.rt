@@ -1,11 +1,11 @@
 //! Data lines of one int8 column.
 
-ghost use Rattle.std.specs.Prelude.{◌≡◌, ◌≤◌, ◌↔◌, IsTrue, ℕ, List, ◌∷◌, ◌++◌, IfSome, IfNone, pos};
-ghost use Rattle.heap.specs.DataLines.{IsDataLine, IsDigit, number_of};
+ghost use Rattle.std.specs.Prelude.{◌≡◌, ◌≤◌, ◌↔◌, IsTrue, ℕ, List, ◌∷◌, ◌++◌, IfSome, IfNone};
+ghost use Rattle.pgplan.specs.DataLines.{IsDataLine, IsDigit};
 
 /// The data line at the front of a text, 1 to 18 ASCII digits up to a line feed, and what follows the line feed.
 /// None exactly where no data line is there.
-pub fn first_data_line(text: &[u8]) -> Option<(&[u8], &[u8])>
+pub(crate) fn first_data_line(text: &[u8]) -> Option<(&[u8], &[u8])>
     ensures line { IfSome result (λ found. IsDataLine found.0.now) }
     ensures front { IfSome result (λ found. text.now ≡ found.0.now ++ 10 ∷ found.1.now) }
     ensures only { IfSome result (λ found. (line after : List ℕ) → IsDataLine line → text.now ≡ line ++ 10 ∷ after → (line ≡ found.0.now) × (after ≡ found.1.now)) }
@@ -33,16 +33,4 @@ fn ends_line(byte: u8, digits: usize) -> bool
     ensures { IsTrue result ↔ (byte ≡ 10) × (1 ≤ digits) × (digits ≤ 18) }
 {
     byte == b'\n' && digits >= 1 && digits <= 18
-}
-
-/// The number that the digits of a data line write.
-pub(crate) fn number(digits: &[u8]) -> i64
-    requires { IsDataLine digits.now }
-    ensures { result ≡ pos (number_of digits.now) }
-{
-    let mut value: u64 = 0;
-    for digit in digits {
-        value = value * 10 + u64::from(*digit - b'0');
-    }
-    value as i64
 }

@@ -1,8 +1,8 @@
 use Rattle.std.proofs.Common.{◌≡◌, get_or, arith}
 use Rattle.std.proofs.lemmas.Bool.{iff_false}
 use Rattle.std.proofs.Math.ListN.{get_or-eq_default}
-use Rattle.heap.proofs.Lines.{no_line, ends_there, told}
-use Rattle.heap.proofs.data_line.first_data_line.Goals as goal
+use Rattle.pgplan.proofs.Lines.{no_line, ends_there, told}
+use Rattle.pgplan.proofs.data_line.first_data_line.Goals as goal
 
 pub returns-clause-none : goal.returns-clause-none
 returns-clause-none c =

@@ -1,0 +1,123 @@
+//! Rows read from COPY data.
+
+ghost use Rattle.std.specs.Prelude.{◌≡◌, ◌≢◌, ◌+◌, ◌<◌, ◌≤◌, length, slice_get, Some, Ok, Err, IfOk, IfErr, IfSome, IfNone};
+ghost use Rattle.std.specs.List.{All};
+ghost use Rattle.csv.specs.Records.{fields_of};
+ghost use Rattle.heap.specs.Loading.{records_of, field, row, rows_from, is_long};
+ghost use Rattle.heap.specs.Stored.{IsRowOf, IsValueOf};
+
+use crate::fault::CopyFault;
+use crate::store::Row;
+use csv::{ByteRecord, ReaderBuilder};
+use pg_base::ColNo;
+use pg_value::{Column, FieldFault, SqlType, Value, read_value};
+use std::alloc::Global;
+
+/// The most bytes of a stored text.
+const LONGEST: usize = 8192;
+
+/// A row for each record of a block, `room` of them at most, or the first fault.
+pub(crate) fn read_rows(
+    alloc: Global,
+    columns: &[Column],
+    room: usize,
+    block: &[u8],
+) -> Result<Vec<Row>, CopyFault>
+    requires room { room ≤ 100000 }
+    requires columns { length columns.now ≤ 16 }
+    ensures rows { IfOk result (λ rows. rows_from columns.now room 1 (records_of block.now) ≡ Ok rows.items) }
+    ensures few { IfOk result (λ rows. length rows.items ≤ room) }
+    ensures lawful { IfOk result (λ rows. All (IsRowOf columns.now) rows.items) }
+    ensures fault { IfErr result (λ e. e ≢ CopyFault.Memory → rows_from columns.now room 1 (records_of block.now) ≡ Err e) }
+{
+    let rdr = ReaderBuilder::new()
+        .has_headers(false)
+        .flexible(true)
+        .from_reader(alloc, block);
+    let mut rows = Vec::new(alloc);
+    for taken in rdr.into_byte_records() {
+        let fields = taken?;
+        let row = read_row(alloc, columns, room, rows.len(), &fields)?;
+        rows.push(row)?;
+    }
+    Ok(rows)
+}
+
+/// The row of the record that `before` others of its block stand before.
+fn read_row(
+    alloc: Global,
+    columns: &[Column],
+    room: usize,
+    before: usize,
+    fields: &ByteRecord,
+) -> Result<Row, CopyFault>
+    requires before { before ≤ room }
+    requires room { room ≤ 100000 }
+    requires columns { length columns.now ≤ 16 }
+    ensures row { IfOk result (λ r. row columns.now room (before + 1) (fields_of fields.now) ≡ Ok r) }
+    ensures few { IfOk result (λ r. before < room) }
+    ensures lawful { IfOk result (λ r. IsRowOf columns.now r) }
+    ensures fault { IfErr result (λ e. e ≢ CopyFault.Memory → row columns.now room (before + 1) (fields_of fields.now) ≡ Err e) }
+{
+    let rec = before as u32 + 1;
+    if before == room {
+        return Err(CopyFault::TooMany { rec });
+    }
+    if fields.len() != columns.len() {
+        return Err(CopyFault::Arity { rec });
+    }
+    let mut values = Vec::with_capacity(alloc, columns.len())?;
+    for col in 0..columns.len() {
+        let column = columns[col];
+        let text = text_at(fields, col);
+        let value = read_field(alloc, rec, ColNo(col as u8), column, text)?;
+        values.push(value)?;
+    }
+    Ok(Row::from_vec(values))
+}
+
+fn text_at(fields: &ByteRecord, col: usize) -> &[u8]
+    requires { col < length (fields_of fields.now) }
+    ensures { slice_get (fields_of fields.now) col ≡ Some result.now }
+{
+    let Some(text) = fields.get(col) else {
+        unreachable!();
+    };
+    text
+}
+
+/// The value of a column that a field's text stands for.
+fn read_field(
+    alloc: Global,
+    rec: u32,
+    col: ColNo,
+    column: Column,
+    text: &[u8],
+) -> Result<Value, CopyFault>
+    ensures value { IfOk result (λ v. field rec col column text.now ≡ Ok v) }
+    ensures lawful { IfOk result (λ v. IsValueOf column v) }
+    ensures fault { IfErr result (λ e. e ≢ CopyFault.Memory → field rec col column text.now ≡ Err e) }
+{
+    if text == b"\\N".as_slice() {
+        return if column.not_null {
+            Err(CopyFault::IsNull { rec, col })
+        } else {
+            Ok(Value::Null)
+        };
+    }
+    if is_too_long(column.typed, text) {
+        return Err(CopyFault::TooLong { rec, col });
+    }
+    match read_value(alloc, column.typed, text) {
+        Ok(value) => Ok(value),
+        Err(FieldFault::Range) => Err(CopyFault::Range { rec, col }),
+        Err(FieldFault::Invalid) => Err(CopyFault::Invalid { rec, col }),
+        Err(FieldFault::Memory) => Err(CopyFault::Memory),
+    }
+}
+
+fn is_too_long(t: SqlType, text: &[u8]) -> bool
+    ensures { result ≡ is_long t text.now }
+{
+    t == SqlType::Text && text.len() > LONGEST
+}

@@ -1,10 +1,10 @@
 //! Whether a list of clauses implies a predicate.
 
-ghost use Rattle.std.specs.Prelude.{◌≡◌, ◌<◌, ◌↔◌, IsTrue, length, slice_get, Some, List};
+ghost use Rattle.std.specs.Prelude.{◌≡◌, ◌<◌, ◌↔◌, IsTrue, length, slice_get, Some, List, []};
 ghost use Rattle.pg_expr.specs.Cond.{Cond, all_of, conds_of};
 ghost use Rattle.pg_expr.specs.View.{cond, conds};
 ghost use Rattle.pg_value.specs.declared.columns.Column.{Column};
-ghost use Rattle.predicate_proof.specs.Derivation.{Implies, ImpliesAll, ImpliesSome, IsImplied, SomeImplies};
+ghost use Rattle.predicate_proof.specs.Derivation.{Implies, ImpliesAll, ImpliesSome, IsFilled, IsImplied, SomeImplies};
 ghost use Rattle.predicate_proof.specs.Rows.{HoldsWherever};
 
 use crate::conditions::follows;
@@ -47,6 +47,11 @@ pub fn implied_conditions_hold()
 {
     order_is_total();
 }
+
+/// A law: no clauses imply no condition whose ANDs and ORs have parts, not even TRUE.
+pub fn no_clauses_imply_nothing()
+    ensures { (columns : List Column) (predicate : Cond) → IsFilled predicate → IsImplied columns [] predicate → ⊥ }
+{}
 
 /// Whether the clauses imply the goal.
 #[cycle(list)]

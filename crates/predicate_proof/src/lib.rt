@@ -7,7 +7,7 @@ mod conditions;
 mod implication;
 mod parts;
 
-pub use implication::{ClauseList, implied_conditions_hold, implies};
+pub use implication::{ClauseList, implied_conditions_hold, implies, no_clauses_imply_nothing};
 
 #[cfg(test)]
 mod tests;

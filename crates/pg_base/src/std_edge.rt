@@ -1,5 +1,8 @@
 //! Standard input and output as a source and sinks: the trusted edge. What the system does is std's word.
 
+ghost use Rattle.std.specs.Prelude.{◌≡◌};
+ghost use Rattle.pg_base.specs.StdEdge.{reader_of, read_faults, writer_of, write_faults};
+
 use crate::outside::{Failed, Sink, Source};
 use std::io::{Read, Write};
 
@@ -12,8 +15,14 @@ pub struct StdSource<R> {
 
 impl<R: Read> StdSource<R> {
     /// A source over this reader, without a fault so far.
-    pub fn new(inner: R) -> StdSource<R> {
-        StdSource { inner, faults: 0 }
+    pub fn new(r: R) -> StdSource<R>
+        ensures reader { reader_of result ≡ r }
+        ensures faults { read_faults result ≡ 0 }
+    {
+        StdSource {
+            inner: r,
+            faults: 0,
+        }
     }
 }
 
@@ -42,8 +51,14 @@ pub struct StdSink<W> {
 
 impl<W: Write> StdSink<W> {
     /// A sink over this writer, without a fault so far.
-    pub fn new(inner: W) -> StdSink<W> {
-        StdSink { inner, faults: 0 }
+    pub fn new(w: W) -> StdSink<W>
+        ensures writer { writer_of result ≡ w }
+        ensures faults { write_faults result ≡ 0 }
+    {
+        StdSink {
+            inner: w,
+            faults: 0,
+        }
     }
 }
 

@@ -1,0 +1,185 @@
+#!/usr/bin/env python3
+"""Compares the first fault of random statements with a reference parser's.
+
+usage: tools/grammar_oracle.py FOLDER [COUNT [SEED]]
+
+FOLDER holds the package `pgoracle` of the reference parser, written apart from
+this repository: `lexer.lex_statement(text, at)` gives the tokens of a statement
+and `grammar.Parser(tokens, 2).statement()` raises its first fault. The crates
+sql_grammar, sql_lex and pg_base are copied to a folder of their own, with tests
+made of the statements and the faults that the reference parser finds, and
+`rt try --test` runs them there. Nothing in the repository changes.
+"""
+
+import random
+import shutil
+import subprocess
+import sys
+import tempfile
+from pathlib import Path
+
+ROOT = Path(__file__).resolve().parent.parent
+CRATES = ("pg_base", "sql_lex", "sql_grammar")
+RESERVED = ("and as asc create cross desc false from group inner is join limit not null offset "
+            "on or order select table true using where with").split()
+NAMES = "a b t rows first copy csv format stdin index statistics last _x x1 nulls".split()
+SYMBOLS = "( ) , . * - ; < <= = <> |<|".split()
+CHUNK = 100
+
+
+def name(r):
+    """A name, now and then of 63 or 64 bytes."""
+    if r.random() < 0.03:
+        return r.choice("aZ_") * r.choice((63, 64))
+    return r.choice(NAMES)
+
+
+def text(r):
+    """A quoted text, seldom of 8,192 or 8,193 bytes."""
+    if r.random() < 0.04:
+        return "'" + r.choice(("x", "''")) * r.choice((8192, 8193)) + "'"
+    return r.choice(("'x'", "''", "'a''b'", "'\\N'"))
+
+
+def column(r):
+    return [name(r)] if r.random() < 0.7 else [name(r), ".", name(r)]
+
+
+def joined(r, one):
+    out = one(r)
+    while r.random() < 0.4:
+        out += [","] + one(r)
+    return out
+
+
+def definition(r):
+    nulls = r.choice(([], [], ["not", "null"], ["null"]))
+    return [name(r), name(r)] + nulls
+
+
+def output(r):
+    return r.choice((["*"], [name(r), ".", "*"], column(r), column(r)))
+
+
+def statement(r):
+    """The words of a statement, without its end."""
+    kind = r.randrange(7)
+    if kind == 0:
+        return []
+    if kind < 3:
+        return ["create", "table", name(r), "("] + joined(r, definition) + [")"]
+    if kind < 5:
+        alias = r.choice(([], [name(r)], ["as", name(r)]))
+        return ["select"] + joined(r, output) + ["from", name(r)] + alias
+    return ["copy", name(r)] + "from stdin with ( format csv , null".split() + [text(r), ")"]
+
+
+def word(r):
+    return r.choice((r.choice(RESERVED), name(r), r.choice(SYMBOLS), "7", text(r)))
+
+
+def changed(r, words):
+    """The words with one to three of them lost, added, replaced or turned round."""
+    words = list(words)
+    for _ in range(r.choice((1, 1, 2, 3))):
+        at = r.randrange(len(words) + 1)
+        way = r.randrange(5)
+        if way == 0:
+            words.insert(at, word(r))
+        elif way == 1:
+            words = words[:at]
+        elif at < len(words) and way == 2:
+            words[at] = word(r)
+        elif at < len(words) and way == 3:
+            del words[at]
+        elif at + 1 < len(words):
+            words[at], words[at + 1] = words[at + 1], words[at]
+    return words
+
+
+def cased(r, word):
+    return "".join(c.upper() if r.random() < 0.3 else c for c in word) if word[0] != "'" else word
+
+
+def sample(r):
+    words = statement(r)
+    if r.random() < 0.7:
+        words = changed(r, words)
+    out = " ".join(cased(r, w) for w in words)
+    return out + r.choice((";", " ;", ";", "", " "))
+
+
+def fault(parser, lexer, faults, line):
+    """The kind (0 none, 1 syntax, 2 name, 3 text) and the place of the first fault."""
+    tokens = lexer.lex_statement(line.encode(), 0)
+    if len(tokens) == 1:
+        return 0, 0
+    try:
+        parser.Parser(tokens, 2).statement()
+    except faults.Fault as f:
+        kind = 1 if f.args[0] == "S1" else {"name": 2, "text": 3}[f.args[2]]
+        return kind, f.args[1]
+    return 0, 0
+
+
+TEST = '''
+#[test]
+fn part_%d(rt: HostRuntime) {
+    let lines: &[(&[u8], u32, u32)] = &[
+%s    ];
+    for (line, kind, at) in lines {
+        let tokens = lex_statement(rt.alloc(), line, 0).expect(&rt, "tokens");
+        let found = match statement_fault(line, &tokens, 0) {
+            None => (0, 0),
+            Some(fault) => (kind_of(fault.code), fault.at),
+        };
+        assert_eq!(rt; found, (*kind, *at), "{line:?}");
+    }
+}
+'''
+
+HEAD = '''//! Random statements.
+use crate::statement_fault;
+use pg_base::{Code, Limit};
+use sql_lex::lex_statement;
+
+fn kind_of(code: Code) -> u32 {
+    match code {
+        Code::S1 => 1,
+        Code::S15(Limit::Name) => 2,
+        Code::S15(Limit::Text) => 3,
+        _ => 9,
+    }
+}
+'''
+
+
+def main():
+    sys.path.insert(0, sys.argv[1])
+    from pgoracle import faults, grammar, lexer
+    count = int(sys.argv[2]) if len(sys.argv) > 2 else 2000
+    r = random.Random(int(sys.argv[3]) if len(sys.argv) > 3 else 1)
+    tests, tally = HEAD, [0, 0, 0, 0]
+    for part in range(0, count, CHUNK):
+        rows = ""
+        for _ in range(min(CHUNK, count - part)):
+            line = sample(r)
+            kind, at = fault(grammar, lexer, faults, line)
+            tally[kind] += 1
+            literal = line.replace("\\", "\\\\")
+            rows += '        (b"%s", %d, %d),\n' % (literal, kind, at)
+        tests += TEST % (part // CHUNK, rows)
+    print("statements %d, syntax faults %d, names %d, texts %d" % tuple(tally))
+    with tempfile.TemporaryDirectory() as folder:
+        top = Path(folder)
+        for crate in CRATES:
+            shutil.copytree(ROOT / "crates" / crate, top / "crates" / crate, ignore=shutil.ignore_patterns("out"))
+        lines = (ROOT / "crates.txt").read_text().splitlines(True)
+        (top / "crates.txt").write_text("".join(l for l in lines if l.split(":")[0] in CRATES))
+        shutil.copy(ROOT / "HANDLES", top / "HANDLES")
+        (top / "crates/sql_grammar/src/tests.rt").write_text(tests)
+        return subprocess.run(["rt", "try", "--test"], cwd=top / "crates/sql_grammar").returncode
+
+
+if __name__ == "__main__":
+    sys.exit(main())

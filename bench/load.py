@@ -13,16 +13,7 @@ import subprocess
 import sys
 import tempfile
 
-
-def measure(command, text):
-    best, peak = None, 0
-    for _ in range(5):
-        ran = subprocess.run(["/usr/bin/time", "-f", "%e %M", *command], input=text, stdout=subprocess.DEVNULL,
-                             stderr=subprocess.PIPE, text=True, check=True)
-        seconds, kibibytes = ran.stderr.split()[-2:]
-        best = float(seconds) if best is None else min(best, float(seconds))
-        peak = max(peak, int(kibibytes))
-    return max(best, 0.01), peak
+from measuring import measure
 
 
 def field(rng, value):

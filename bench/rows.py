@@ -7,21 +7,10 @@ Prints each program's least wall time of five runs (to 10 ms) and its peak memor
 """
 import pathlib
 import random
-import subprocess
 import sys
 import tempfile
 
-
-def measure(command, stdin_path):
-    best, peak = None, 0
-    for _ in range(5):
-        with open(stdin_path, "rb") as source:
-            ran = subprocess.run(["/usr/bin/time", "-f", "%e %M", *command], stdin=source, stdout=subprocess.DEVNULL,
-                                 stderr=subprocess.PIPE, text=True, check=True)
-        seconds, kibibytes = ran.stderr.split()[-2:]
-        best = float(seconds) if best is None else min(best, float(seconds))
-        peak = max(peak, int(kibibytes))
-    return max(best, 0.01), peak
+from measuring import measure
 
 
 def main():
@@ -29,11 +18,11 @@ def main():
     rng = random.Random(1)
     data = "".join(f"{rng.randrange(10 ** 18)}\n" for _ in range(rows))
     with tempfile.TemporaryDirectory() as folder:
-        csv, script, other = (pathlib.Path(folder, name) for name in ("rows.csv", "script.sql", "sqlite.sql"))
+        csv = pathlib.Path(folder, "rows.csv")
         csv.write_text(data)
-        script.write_text(
+        script = (
             "CREATE TABLE t (a int8);\nCOPY t FROM STDIN WITH (FORMAT CSV, NULL '\\N');\n" + data + "\\.\nSELECT * FROM t;\n")
-        other.write_text(f"CREATE TABLE t (a INTEGER);\n.mode csv\n.import {csv} t\nSELECT * FROM t;\nSELECT count(*) FROM t;\n")
+        other = (f"CREATE TABLE t (a INTEGER);\n.mode csv\n.import {csv} t\nSELECT * FROM t;\nSELECT count(*) FROM t;\n")
         pgplan = measure([program, "run"], script)
         sqlite = measure(["sqlite3", ":memory:"], other)
     size = len(data)

@@ -1,0 +1,6 @@
+pub mod Names
+pub mod Keys
+pub mod Contents
+pub mod Entries
+pub mod Tables
+pub mod Range

@@ -1,0 +1,159 @@
+//! The words of a statement that are left.
+
+ghost use Rattle.std.specs.Prelude.{◌≡◌, ◌≢◌, ◌≤◌, ◌^◌, ℕ, List, [], ◌∷◌, length, drop, true, false, MatchOption, MatchResult};
+ghost use Rattle.sql_lex.specs.declared.tokens.Token.{Token};
+ghost use Rattle.sql_lex.specs.Words.{AreWords};
+ghost use Rattle.sql_grammar.specs.Terminals.{Terminal, Ident, free, t_key, t_mark, t_name, t_quoted, class_of as class_of_terminal};
+ghost use Rattle.sql_cursor.specs.Pieces.{Piece, piece, pieces};
+ghost use Rattle.sql_cursor.specs.Reading.{Begins, BeginsNot, BeginsName, BeginsQuoted};
+
+use crate::values::{small_letters, unquoted};
+use pg_value::Bytes;
+use sql_grammar::{Class, Free, Symbol, Word, class_of};
+use sql_lex::{Kind, Token, Tokens};
+use std::alloc::{AllocError, Global};
+use std::marker::Model;
+
+/// What a token says, and the token.
+#[derive(Debug, Drop)]
+pub struct Spelled {
+    /// A name in small letters, or the value of a quoted text.
+    pub bytes: Bytes,
+    /// Where it stands.
+    pub token: Token,
+}
+
+/// The words of a statement from some token on, read from the left. Contracts see the list of the words that are left, each
+/// with its token.
+#[derive(Debug, Drop)]
+pub struct Cursor<'a> {
+    text: &'a [u8],
+    tokens: &'a [Token],
+    at: usize,
+}
+
+impl<'a> Model for Cursor<'a> {
+    ghost use Rattle.std.specs.Prelude.{List, drop, ◌≤◌, length, All};
+    ghost use Rattle.sql_grammar.specs.Reading.{IsWithin};
+    ghost use Rattle.sql_cursor.specs.Pieces.{Piece, pieces};
+
+    ghost Value = { List Piece };
+
+    ghost view = { λ c. pieces c.text.now (drop c.at c.tokens.now) };
+
+    ghost invariant = { λ c. (c.at ≤ length c.tokens.now) × All (IsWithin c.text.now) c.tokens.now };
+}
+
+impl<'a> Cursor<'a> {
+    /// The words from token `first` on.
+    pub fn new(text: &'a [u8], tokens: &'a Tokens, first: u32) -> Cursor<'a>
+        requires short { length text.now ≤ 2 ^ 31 }
+        requires words { (from : ℕ) × AreWords text.now from tokens.now }
+        requires first { first ≤ length tokens.now }
+        ensures { result ≡ pieces text.now (drop first tokens.now) }
+    {
+        Cursor {
+            text,
+            tokens: tokens.items(),
+            at: first as usize,
+        }
+    }
+
+    /// The class of the next word, which stays; None where none is left.
+    pub fn peek(&self) -> Option<Class>
+        ensures { MatchOption result (self.now ≡ []) (λ c. (word : Terminal) × (token : Token) × (left : List Piece) × (class_of_terminal word ≡ c) × (self.now ≡ piece word token ∷ left)) }
+    {
+        if self.at < self.tokens.len() {
+            Some(class_of(self.text, self.tokens[self.at]))
+        } else {
+            None
+        }
+    }
+
+    /// Passes over the next words; over all that are left where there are not so many.
+    pub fn skip(&mut self, count: usize)
+        ensures { self.new ≡ drop count self.old }
+    {
+        if count < self.tokens.len() - self.at {
+            self.at += count;
+        } else {
+            self.at = self.tokens.len();
+        }
+    }
+
+    /// Takes the next word where it is this reserved word.
+    pub fn takes(&mut self, wanted: Word) -> bool
+        ensures took { result ≡ true → Begins (t_key wanted) self.old self.new }
+        ensures left { result ≡ false → self.new ≡ self.old }
+        ensures other { result ≡ false → BeginsNot (t_key wanted) self.old }
+    {
+        if self.peek() == Some(Class::Key(wanted)) {
+            self.skip(1);
+            true
+        } else {
+            false
+        }
+    }
+
+    /// Takes the next word where it is this symbol.
+    pub fn takes_mark(&mut self, wanted: Symbol) -> bool
+        ensures took { result ≡ true → Begins (t_mark wanted) self.old self.new }
+        ensures left { result ≡ false → self.new ≡ self.old }
+        ensures other { result ≡ false → BeginsNot (t_mark wanted) self.old }
+    {
+        if self.peek() == Some(Class::Mark(wanted)) {
+            self.skip(1);
+            true
+        } else {
+            false
+        }
+    }
+
+    /// Takes the next word where it is this word, which is not reserved.
+    pub fn takes_free(&mut self, wanted: Free) -> bool
+        ensures took { result ≡ true → Begins (t_name (free wanted)) self.old self.new }
+        ensures left { result ≡ false → self.new ≡ self.old }
+        ensures other { result ≡ false → BeginsNot (t_name (free wanted)) self.old }
+    {
+        if self.peek() == Some(Class::Name(Some(wanted))) {
+            self.skip(1);
+            true
+        } else {
+            false
+        }
+    }
+
+    /// Takes the next word where it is a name.
+    pub fn name(&mut self, alloc: Global) -> Result<Option<Spelled>, AllocError>
+        ensures { MatchResult result
+            (λ found. MatchOption found ((self.new ≡ self.old) × ((name : Ident) → BeginsNot (t_name name) self.old)) (λ s. BeginsName s.bytes s.token self.old self.new))
+            (λ _. self.new ≡ self.old) }
+    {
+        match self.peek() {
+            Some(Class::Name(_)) => {
+                let token = self.tokens[self.at];
+                let bytes = small_letters(alloc, self.text, token)?;
+                self.skip(1);
+                Ok(Some(Spelled { bytes, token }))
+            }
+            _ => Ok(None),
+        }
+    }
+
+    /// Takes the next word where it is a quoted text.
+    pub fn quoted(&mut self, alloc: Global) -> Result<Option<Spelled>, AllocError>
+        ensures { MatchResult result
+            (λ found. MatchOption found ((self.new ≡ self.old) × ((value : List ℕ) → BeginsNot (t_quoted value) self.old)) (λ s. BeginsQuoted s.bytes s.token self.old self.new))
+            (λ _. self.new ≡ self.old) }
+    {
+        match self.peek() {
+            Some(Class::Quoted) => {
+                let token = self.tokens[self.at];
+                let bytes = unquoted(alloc, self.text, token)?;
+                self.skip(1);
+                Ok(Some(Spelled { bytes, token }))
+            }
+            _ => Ok(None),
+        }
+    }
+}

@@ -1,0 +1,7 @@
+//! A cursor over the words of a statement: the words that are left, with their places, read from the left.
+#![tactic(auto)]
+
+mod cursor;
+mod values;
+
+pub use cursor::{Cursor, Spelled};

@@ -1,0 +1,11 @@
+//! What follows from a query's being well bound.
+
+ghost use Rattle.std.specs.Prelude.{All};
+ghost use Rattle.catalog.specs.Contents.{Contents};
+ghost use Rattle.sql_query.specs.WellBound.{IsColumnOf, IsWellBound};
+ghost use Rattle.sql_query.specs.declared.prepared.Prepared.{Prepared};
+
+/// Each column that a well bound query selects is one of its relations.
+pub fn selected_columns()
+    ensures { (c : Contents) (q : Prepared) → IsWellBound c q → All (IsColumnOf c q.range) q.select }
+{}

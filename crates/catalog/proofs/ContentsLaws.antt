@@ -1,5 +1,5 @@
 -- The tables of a map by name: look-ups, a new table, and another number of rows.
-use Rattle.std.proofs.Common.{◌≡◌, ◌≢◌, ◌<◌, ◌≤◌, ◌++◌, ◌∷◌, [], ◌∙◌, ℕ, Bool, true, false, cond, List, Vec, Global, Option, Some, None, MatchOption, is_some, length, map, zero, suc, get_or, position, slice_get, set, Contains, All, refl, sym, ap, subst, arith}
+use Rattle.std.proofs.Common.{◌≡◌, ◌≢◌, ◌<◌, ◌≤◌, ◌++◌, ◌∷◌, [], ◌∙◌, ℕ, Bool, true, false, cond, List, Vec, Global, Option, Some, None, MatchOption, is_some, length, map, zero, suc, get_or, position, slice_get, set, Contains, refl, sym, ap, subst, arith}
 use Rattle.std.specs.List.{position_or_len}
 use Rattle.std.specs.Map.{keys_of, values_of}
 use Rattle.std.specs.Str.{bytes_eq}

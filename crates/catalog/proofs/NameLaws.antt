@@ -1,5 +1,5 @@
 -- Lists of different names, and the keys of a map as names.
-use Rattle.std.proofs.Common.{◌≡◌, ◌≢◌, ◌↔◌, IsTrue, ◌<◌, ◌+◌, ◌++◌, ◌∷◌, [], ◌∙◌, ◌||◌, ℕ, Bool, true, false, not, cond, nat_lt, List, Vec, Global, Option, Some, None, length, map, take, get_or, position, Contains, refl, sym, ap, subst, arith}
+use Rattle.std.proofs.Common.{◌≡◌, ◌≢◌, ◌↔◌, IsTrue, ◌<◌, ◌+◌, ◌++◌, ◌∷◌, [], ◌∙◌, ◌||◌, ℕ, Bool, true, false, not, cond, nat_lt, List, Vec, Global, Some, None, length, take, get_or, position, Contains, refl, sym, ap, subst, arith}
 use Rattle.std.specs.List.{list_any, position_or_len}
 use Rattle.std.specs.Str.{bytes_eq}
 use Rattle.std.proofs.lemmas.List.{get_or-take, get_or_default, length-map, length-take, map-append, take_more}

@@ -1,5 +1,5 @@
 -- A query whose names are bound to a catalogue (PostgreSQL manual, chapter Queries; the list of used columns is own).
-use Rattle.std.specs.Prelude.{◌<◌, List, length, All, Contains}
+use Rattle.std.specs.Prelude.{◌<◌, length, All, Contains}
 use Rattle.pg_expr.specs.declared.operand.ColRef.{ColRef}
 use Rattle.catalog.specs.Contents.{Contents, IsColumn}
 use Rattle.catalog.specs.Range.{Range, relation_at, IsRange}

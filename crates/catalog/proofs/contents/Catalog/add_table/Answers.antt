@@ -1,4 +1,4 @@
-use Rattle.std.proofs.Common.{◌≡◌, ◌<◌, ◌∙◌, refl, sym, subst, ap, Contains, length}
+use Rattle.std.proofs.Common.{◌<◌, ◌∙◌, refl, sym, subst, ap, Contains, length}
 use Rattle.std.proofs.lemmas.Result.{err_from_is_err_and}
 use Rattle.catalog.specs.Contents.{Contents, IsLawful, IsLawfulTable, new_table, table_names, with_table}
 use Rattle.catalog.specs.Entries.{table_defs}

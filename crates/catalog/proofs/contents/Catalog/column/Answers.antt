@@ -1,4 +1,4 @@
-use Rattle.std.proofs.Common.{◌≡◌, ◌<◌, ◌∙◌, ap, length, position, sym, arith}
+use Rattle.std.proofs.Common.{◌∙◌, ap, position, sym, arith}
 use Rattle.std.specs.Str.{bytes_eq}
 use Rattle.catalog.specs.Contents.{TableDef, table_at}
 use Rattle.catalog.proofs.ContentsLaws.{found_at, not_found}

@@ -1,0 +1,8 @@
+//! The lines of a printed result: a row as comma-separated values, and the number of rows.
+#![tactic(auto)]
+
+mod line;
+#[cfg(test)]
+mod tests;
+
+pub use line::{count_line, row_line};

@@ -1,0 +1,55 @@
+//! Lines with ample memory, byte by byte.
+
+use crate::{count_line, row_line};
+use pg_value::{Bytes, Value};
+use std::alloc::{AllocError, Global};
+use std::test::Fail;
+
+fn text(alloc: Global, bytes: &[u8]) -> Result<Value, AllocError> {
+    Ok(Value::Text(Bytes::from_vec(Vec::from_slice(alloc, bytes)?)))
+}
+
+#[test]
+fn rows(rt: HostRuntime) -> Result<(), Fail> {
+    let alloc = rt.alloc();
+    let comma = text(alloc, b"a,b")?;
+    let quote = text(alloc, b"say \"x\"")?;
+    let lines = text(alloc, b"a\nb")?;
+    let plain = text(alloc, b" a b")?;
+    let empty = text(alloc, b"")?;
+    let least = Value::Int(-9_223_372_036_854_775_808);
+    let table = [
+        (
+            &[&Value::Int(7), &plain, &Value::Bool(true)] as &[&Value],
+            b"7, a b,t\n" as &[u8],
+        ),
+        (
+            &[&Value::Int(-12), &Value::Null, &Value::Bool(false)],
+            b"-12,\\N,f\n",
+        ),
+        (&[&comma, &quote], b"\"a,b\",\"say \"\"x\"\"\"\n"),
+        (&[&lines, &Value::Int(0)], b"\"a\nb\",0\n"),
+        (&[&empty], b"\"\"\n"),
+        (&[&empty, &empty], b",\n"),
+        (&[&Value::Null], b"\\N\n"),
+        (&[&least], b"-9223372036854775808\n"),
+    ];
+    for (values, line) in table {
+        assert!(rt; row_line(alloc, values)?.as_slice() == line);
+    }
+    Ok(())
+}
+
+#[test]
+fn counts(rt: HostRuntime) -> Result<(), Fail> {
+    let table = [
+        (0, b"(0 rows)\n" as &[u8]),
+        (1, b"(1 row)\n"),
+        (2, b"(2 rows)\n"),
+        (u64::MAX, b"(18446744073709551615 rows)\n"),
+    ];
+    for (n, line) in table {
+        assert!(rt; count_line(rt.alloc(), n)?.as_slice() == line);
+    }
+    Ok(())
+}

@@ -1,0 +1,9 @@
+pub mod Lines
+pub mod Parts
+pub mod Bindings
+pub mod Answered
+pub mod Made
+pub mod Opened
+pub mod CopyHead
+pub mod TokenLaws
+pub mod StatementLaws

@@ -1,0 +1,62 @@
+-- The columns of CREATE TABLE: as they are written, over their tokens, and bound from the left (PostgreSQL manual, CREATE
+-- TABLE; codes 42704 and 54000 of the appendix Error Codes; the limit of 16 columns is own).
+use Rattle.std.specs.Prelude.{ℕ, ◌+◌, Bool, true, false, List, [], ◌∷◌, length, drop, Option, Some, None, Result, Ok, Err}
+use Rattle.pg_base.specs.declared.faults.Code.TheVariants.{S8}
+use Rattle.pg_base.specs.declared.faults.Fault.{Fault}
+use Rattle.pg_value.specs.declared.value.SqlType.{SqlType}
+use Rattle.pg_value.specs.declared.columns.Column.{Column}
+use Rattle.sql_lex.specs.declared.tokens.Token.{Token}
+use Rattle.sql_grammar.specs.Syntax.{Nulls, unwritten, not_null, nullable, ColDef, coldef}
+use Rattle.sql_grammar.specs.Words.{words_of_coldef}
+use Rattle.sql_grammar.specs.Faults.{bytes_of}
+use Rattle.ddl_reader.specs.Places.{token_at, word_fault}
+use Rattle.ddl_reader.specs.Types.{type_named}
+
+-- a column as it is written: its name and its type's name, in small letters, each with its token, and whether NOT NULL stands
+pub record Written : Type 0 where
+  pub name : List ℕ
+  pub name_at : Token
+  pub kind : List ℕ
+  pub kind_at : Token
+  pub not_null : Bool
+
+-- a column with its type
+pub record Bound : Type 0 where
+  pub name : List ℕ
+  pub name_at : Token
+  pub column : Column
+
+-- NOT NULL is written
+abbrev pub refuses_null : Nulls → Bool
+refuses_null unwritten = false
+refuses_null not_null = true
+refuses_null nullable = false
+
+-- a column over the tokens that it begins
+abbrev pub written : ColDef → List Token → Written
+written (coldef name kind nulls) tokens = record { name = bytes_of name; name_at = token_at tokens 0; kind = bytes_of kind; kind_at = token_at tokens 1; not_null = refuses_null nulls }
+
+-- columns over the tokens that they begin: one token for each of their words, and one for the comma between two
+abbrev pub columns_over : List ColDef → List Token → List Written
+columns_over [] tokens = []
+columns_over (c ∷ cs) tokens = written c tokens ∷ columns_over cs (drop (length (words_of_coldef c) + 1) tokens)
+
+-- with its type, where there is one of the name; else the type's name is at fault
+abbrev pub bound_by : Option SqlType → Written → Result Bound Fault
+bound_by None w = Err (word_fault S8 w.kind_at)
+bound_by (Some t) w = Ok (record { name = w.name; name_at = w.name_at; column = record { typed = t; not_null = w.not_null } })
+
+-- a column bound
+abbrev pub bound : Written → Result Bound Fault
+bound w = bound_by (type_named w.kind) w
+
+-- one before others, or the first fault
+abbrev pub before_all : Result Bound Fault → Result (List Bound) Fault → Result (List Bound) Fault
+before_all (Err f) rest = Err f
+before_all (Ok b) (Err f) = Err f
+before_all (Ok b) (Ok bs) = Ok (b ∷ bs)
+
+-- columns bound from the left, or the first fault
+abbrev pub bound_all : List Written → Result (List Bound) Fault
+bound_all [] = Ok []
+bound_all (w ∷ ws) = before_all (bound w) (bound_all ws)

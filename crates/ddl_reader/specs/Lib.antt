@@ -1,0 +1,8 @@
+pub mod Block
+pub mod Types
+pub mod Places
+pub mod Columns
+pub mod Reads
+pub mod Tables
+pub mod Readings
+pub mod Statements

@@ -1,0 +1,56 @@
+-- What CREATE TABLE and COPY define (PostgreSQL manual, CREATE TABLE and COPY).
+use Rattle.std.specs.Prelude.{ℕ, List, [], ◌∷◌, drop, map, cond, Option, Some, None, Result, Ok, Err}
+use Rattle.std.specs.Str.{bytes_eq}
+use Rattle.pg_base.specs.declared.numbers.TableNo.{TableNo}
+use Rattle.pg_base.specs.declared.faults.Code.TheVariants.{S2, S15, S17}
+use Rattle.pg_base.specs.declared.faults.Limit.TheVariants.{Columns}
+use Rattle.pg_base.specs.declared.faults.Fault.{Fault}
+use Rattle.pg_value.specs.declared.columns.Column.{Column}
+use Rattle.sql_lex.specs.declared.tokens.Token.{Token}
+use Rattle.ddl_reader.specs.Places.{word_fault}
+use Rattle.ddl_reader.specs.Columns.{Bound}
+
+-- what is defined: a table by its name, its columns' names and its columns; or data for a table, from an offset on
+pub data Definition : Type 0 where
+  table : List ℕ → List (List ℕ) → List Column → Definition
+  data_for : TableNo → ℕ → Definition
+
+-- with the offsets of the words at which the catalogue's refusals stand
+pub record Reading : Type 0 where
+  pub definition : Definition
+  pub at : List ℕ
+  pub method : ℕ
+
+-- the table of this name, whose token is given, with these columns
+abbrev pub table_reading : List ℕ → Token → List Bound → Reading
+table_reading name token bs = record {
+  definition = table name (map (λ b. b.name) bs) (map (λ b. b.column) bs);
+  at = token.start ∷ map (λ b. b.name_at.start) bs;
+  method = 0;
+}
+
+-- at most 16 columns: the first name past them is at fault
+abbrev pub limited : Reading → List Bound → Result Reading Fault
+limited reading [] = Ok reading
+limited reading (b ∷ _) = Err (word_fault (S15 Columns) b.name_at)
+
+-- after all columns are bound comes their limit
+abbrev pub table_of : List ℕ → Token → Result (List Bound) Fault → Result Reading Fault
+table_of name token (Err f) = Err f
+table_of name token (Ok bs) = limited (table_reading name token bs) (drop 16 bs)
+
+-- the text that stands for NULL: `\N`
+abbrev pub null_text : List ℕ
+null_text = 92 ∷ 78 ∷ []
+
+-- data for a table: of this number where its name is known, from this offset on, with this text for NULL; each of the two
+-- words with its token
+abbrev pub data_of : Option TableNo → Token → List ℕ → Token → ℕ → Result Reading Fault
+data_of None name_at null null_at start = Err (word_fault S2 name_at)
+data_of (Some t) name_at null null_at start =
+    cond (bytes_eq null null_text) (Ok (record { definition = data_for t start; at = []; method = 0 })) (Err (word_fault S17 null_at))
+
+-- after the line on which the statement ends
+abbrev pub data_after : Option TableNo → Token → List ℕ → Token → Result ℕ Fault → Result Reading Fault
+data_after t name_at null null_at (Err f) = Err f
+data_after t name_at null null_at (Ok start) = data_of t name_at null null_at start

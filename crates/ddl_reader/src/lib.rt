@@ -1,0 +1,17 @@
+//! Reading the statements that define tables and load data.
+#![tactic(auto)]
+
+mod block;
+mod columns;
+mod copy;
+mod ddl;
+mod places;
+mod read;
+mod table;
+#[cfg(test)]
+mod tests;
+mod types;
+
+pub use block::block_end;
+pub use ddl::{Ddl, Read};
+pub use read::{is_ddl, read_ddl};

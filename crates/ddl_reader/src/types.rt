@@ -1,0 +1,28 @@
+//! The names of types.
+
+ghost use Rattle.std.specs.Prelude.{◌≡◌};
+ghost use Rattle.ddl_reader.specs.Types.{type_named as type_of_name};
+
+use pg_value::SqlType;
+
+/// The type of this name, which is in small letters (PostgreSQL manual, chapter Data Types). None where no type has it.
+pub fn type_named(name: &[u8]) -> Option<SqlType>
+    ensures { result ≡ type_of_name name.now }
+{
+    if name == b"int2".as_slice() || name == b"smallint".as_slice() {
+        return Some(SqlType::Int2);
+    }
+    if name == b"int4".as_slice() || name == b"int".as_slice() || name == b"integer".as_slice() {
+        return Some(SqlType::Int4);
+    }
+    if name == b"int8".as_slice() || name == b"bigint".as_slice() {
+        return Some(SqlType::Int8);
+    }
+    if name == b"text".as_slice() {
+        return Some(SqlType::Text);
+    }
+    if name == b"bool".as_slice() || name == b"boolean".as_slice() {
+        return Some(SqlType::Bool);
+    }
+    None
+}

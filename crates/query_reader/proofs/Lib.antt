@@ -1,0 +1,8 @@
+pub mod Parts
+pub mod ScopeLaws
+pub mod Placing
+pub mod Grammar
+pub mod Reading
+pub mod BindLaws
+pub mod Bound
+pub mod Named

@@ -1,0 +1,15 @@
+use Rattle.std.proofs.Common.{◌++◌, sym, ap, ◌∙◌, arith, append-nil}
+use Rattle.catalog.specs.Contents.{table_at}
+use Rattle.query_reader.specs.Scope.{columns_of}
+use Rattle.query_reader.proofs.BindLaws.{column-more, column-end, column-added, columns-done}
+use Rattle.query_reader.proofs.bind.every.Goals as goal
+
+pub loop-col-preserved : goal.loop-col-preserved
+loop-col-preserved c =
+    let (number, so) = c.loop-col.invariant in
+    (number, λ alias. column-added _ _ _ _ _ _ c.in_ok-push.ensures (column-more alias (table_at c.args.cat.now c.args.table).names c.loop-col.col (omega (arith, number))) (so alias))
+
+pub returns : goal.returns
+returns c = λ alias.
+    let (number, so) = c.loop-col.invariant in
+    columns-done _ _ _ (column-end alias (table_at c.args.cat.now c.args.table).names c.loop-col.col (omega (arith, number))) (so alias) ∙ ap (λ s. c.args.all.now.items ++ columns_of s) (sym (append-nil _))

@@ -1,0 +1,73 @@
+//! Reading a SELECT.
+
+ghost use Rattle.std.specs.Prelude.{◌≡◌, ℕ, ◌^◌, ◌<◌, ◌≤◌, length, drop, IfOk};
+ghost use Rattle.sql_lex.specs.Words.{AreWords};
+ghost use Rattle.sql_grammar.specs.Syntax.{Select, Ending};
+ghost use Rattle.sql_query.specs.WellBound.{IsWellBound};
+ghost use Rattle.query_reader.specs.Written.{written_of};
+ghost use Rattle.query_reader.specs.Binding.{bound};
+ghost use Rattle.query_reader.specs.Select.{AreWordsOf, IsGrammatical, Answers};
+ghost use Rattle.pg_base.specs.declared.faults.Code.TheVariants.{S1};
+ghost use Rattle.sql_grammar.specs.Faults.{fault_at};
+
+use crate::bind::bind;
+use crate::read::query;
+use catalog::Catalog;
+use pg_base::{Code, Fault, Refusal, TableNo};
+use sql_cursor::Cursor;
+use sql_grammar::{Word, statement_fault};
+use sql_lex::{Token, Tokens};
+use sql_query::Prepared;
+use std::alloc::Global;
+
+/// A syntax fault at a token. It names no words.
+fn syntax_fault(token: Token) -> Fault
+    ensures { result ≡ fault_at S1 token }
+{
+    Fault {
+        code: Code::S1,
+        at: token.start,
+        from: token.start,
+        to: token.start,
+        rec: 0,
+        table: TableNo(0),
+        col: 0,
+    }
+}
+
+/// The SELECT that begins at token `first` and that the statement's last token, `;` or the text's end, ends: the relations,
+/// the columns shown in order, of relation 0, and the columns named, which are those shown.
+///
+/// FROM is bound first, then the list from the left. A relation is seen under its alias alone, which is the table's name
+/// where none is given; `*` and `alias.*` are every column in order. Names compare in small letters.
+///
+/// The text has at most 2^31 bytes, the tokens are the words of a statement from some offset of it, and `first` is the number
+/// of one of them. The refusal is `Memory`, or the first fault: that of the grammar (42601; 54000 for a name over 63 bytes or a
+/// text over 8,192), else an unknown table or qualifier (42P01) or an unknown column (42703), with its word. With one relation
+/// no column is ambiguous, no alias stands twice and no relation is too many.
+pub fn read_select(
+    alloc: Global,
+    cat: &Catalog,
+    text: &[u8],
+    tokens: &Tokens,
+    first: u32,
+) -> Result<Prepared, Refusal>
+    requires short { length text.now ≤ 2 ^ 31 }
+    requires words { (from : ℕ) × AreWords text.now from tokens.now }
+    requires first { first < length tokens.now }
+    ensures grammar { IsGrammatical text.now (drop first tokens.now) result }
+    ensures binding { (q : Select) (end : Ending) → AreWordsOf q end text.now (drop first tokens.now) → Answers (bound cat.now (written_of q (drop first tokens.now))) result }
+    ensures well_bound { IfOk result (IsWellBound cat.now) }
+{
+    let mut from = Cursor::new(text, tokens, first);
+    if !from.takes(Word::Select) {
+        return Err(Refusal::Fault(syntax_fault(tokens.items()[first as usize])));
+    }
+    match statement_fault(text, tokens, first) {
+        Some(fault) => Err(Refusal::Fault(fault)),
+        None => match query(alloc, &mut from) {
+            Ok(query) => bind(alloc, cat, query),
+            Err(_) => Err(Refusal::Memory),
+        },
+    }
+}

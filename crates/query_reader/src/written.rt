@@ -1,0 +1,30 @@
+//! A SELECT as it is written: each name in small letters, with its token.
+
+use sql_cursor::Spelled;
+
+/// An item of the list that SELECT shows.
+#[derive(Debug, Drop)]
+pub enum Item {
+    /// `*`: every column.
+    Every,
+    /// `name.*`: every column of one relation.
+    EveryOf(Spelled),
+    /// A column by its name alone.
+    Bare(Spelled),
+    /// A column with its relation's alias.
+    Qualified(Spelled, Spelled),
+}
+
+/// What stands after FROM: a table, and its alias where one is given.
+#[derive(Debug, Drop)]
+pub struct Source {
+    pub table: Spelled,
+    pub alias: Option<Spelled>,
+}
+
+/// A SELECT as it is written.
+#[derive(Debug, Drop)]
+pub struct Query {
+    pub items: Vec<Item>,
+    pub source: Source,
+}

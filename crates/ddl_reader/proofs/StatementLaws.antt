@@ -22,7 +22,7 @@ use Rattle.ddl_reader.specs.Places.{token_at}
 use Rattle.ddl_reader.specs.Columns.{columns_over, bound_all}
 use Rattle.ddl_reader.specs.Reads.{Reads}
 use Rattle.ddl_reader.specs.Tables.{Reading, table_of, data_after}
-use Rattle.ddl_reader.specs.Statements.{opens_ddl, begins_ddl, IsMeaning, IsDdlRefusal}
+use Rattle.ddl_reader.specs.Statements.{opens_ddl, begins_ddl, IsMeaning, IsDdlFault, IsDdlRefusal}
 use Rattle.ddl_reader.specs.Readings.{reading, ReadsAs}
 use Rattle.ddl_reader.proofs.Parts.{head}
 use Rattle.ddl_reader.proofs.Bindings.{after-words}
@@ -95,10 +95,10 @@ module _ (cat : Contents) (text : List ℕ) where
   read-as tokens (Err e) whole means = tt
 
   pub refused-as : (tokens : List Token) (r : Result Read Refusal) → IsWhole text tokens → ((x : Statement) → words_of x ≡ terminals text tokens → ReadsAs cat text tokens x r) →
-      IfErr r (IsDdlRefusal cat text tokens)
-  refused-as tokens (Ok v) whole means = tt
-  refused-as tokens (Err (refusal.Fault f)) whole means = inr (record { whole = whole; means = means })
-  refused-as tokens (Err refusal.Memory) whole means = tt
+      begins_ddl (terminals text tokens) ≡ true → IfErr r (IsDdlRefusal cat text tokens)
+  refused-as tokens (Ok v) whole means ddl = tt
+  refused-as tokens (Err (refusal.Fault f)) whole means ddl = subst (IsDdlFault cat text tokens f) (sym ddl) (inr (record { whole = whole; means = means }))
+  refused-as tokens (Err refusal.Memory) whole means ddl = tt
 
 -- the class of the first word
 pub opens-by : (text : List ℕ) (tokens : List Token) (now left : List Piece) (word : Terminal) (token : Token) (c : Class) → now ≡ pieces text tokens → class_of word ≡ c → now ≡ piece word token ∷ left →

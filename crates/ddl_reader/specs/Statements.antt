@@ -11,7 +11,8 @@ use Rattle.sql_grammar.specs.declared.class.Class.TheVariants.{Key, Name}
 use Rattle.sql_grammar.specs.Terminals.{Terminal, class_of}
 use Rattle.sql_grammar.specs.Syntax.{Statement, empty, create_table, query, copy}
 use Rattle.sql_grammar.specs.Words.{words_of}
-use Rattle.sql_grammar.specs.Faults.{bytes_of, terminals, IsStatement, IsWhole, IsFirstFault}
+use Rattle.pg_base.specs.declared.faults.Code.TheVariants.{S1}
+use Rattle.sql_grammar.specs.Faults.{bytes_of, terminals, IsStatement, IsWhole, IsFirstFault, fault_at}
 use Rattle.sql_grammar.specs.CopyLine.{IsDataStart}
 use Rattle.catalog.specs.Contents.{Contents}
 use Rattle.catalog.specs.Tables.{table_named}
@@ -45,7 +46,12 @@ pub record IsMeaning (cat : Contents) (text : List ℕ) (tokens : List Token) (r
   pub whole : IsWhole text tokens
   pub means : (x : Statement) → words_of x ≡ terminals text tokens → Means cat text tokens x r
 
--- why such a statement is refused: want of memory, or its first fault, in its syntax or after it
+-- the first fault: where the first word is CREATE or COPY, of the syntax or after it; another first word is a fault of syntax
+abbrev pub IsDdlFault : Contents → List ℕ → List Token → Fault → Bool → Type 0
+IsDdlFault cat text tokens f true = IsFirstFault IsStatement text tokens f ⊎ IsMeaning cat text tokens (Err f)
+IsDdlFault cat text tokens f false = f ≡ fault_at S1 (token_at tokens 0)
+
+-- why a statement is refused: want of memory, or its first fault
 abbrev pub IsDdlRefusal : Contents → List ℕ → List Token → Refusal → Type 0
-IsDdlRefusal cat text tokens (refusal.Fault f) = IsFirstFault IsStatement text tokens f ⊎ IsMeaning cat text tokens (Err f)
+IsDdlRefusal cat text tokens (refusal.Fault f) = IsDdlFault cat text tokens f (begins_ddl (terminals text tokens))
 IsDdlRefusal cat text tokens refusal.Memory = Unit {0}

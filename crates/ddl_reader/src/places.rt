@@ -2,6 +2,8 @@
 
 ghost use Rattle.std.specs.Prelude.{◌≡◌};
 ghost use Rattle.pg_base.specs.declared.faults.Refusal.TheVariants as refusal;
+ghost use Rattle.pg_base.specs.declared.faults.Code.TheVariants.{S1};
+ghost use Rattle.sql_grammar.specs.Faults.{fault_at};
 ghost use Rattle.ddl_reader.specs.Places.{word_fault as fault_at_word};
 
 use pg_base::{Code, Fault, Refusal, TableNo};
@@ -16,6 +18,21 @@ pub fn word_fault(code: Code, token: Token) -> Refusal
         at: token.start,
         from: token.start,
         to: token.end,
+        rec: 0,
+        table: TableNo(0),
+        col: 0,
+    })
+}
+
+/// The fault of syntax at the token. It names no words.
+pub fn syntax_fault(token: Token) -> Refusal
+    ensures { result ≡ refusal.Fault (fault_at S1 token) }
+{
+    Refusal::Fault(Fault {
+        code: Code::S1,
+        at: token.start,
+        from: token.start,
+        to: token.start,
         rec: 0,
         table: TableNo(0),
         col: 0,

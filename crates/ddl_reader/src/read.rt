@@ -19,6 +19,7 @@ ghost use Rattle.ddl_reader.specs.Readings.{reading, ReadsAs};
 
 use crate::copy::copy;
 use crate::ddl::Read;
+use crate::places::syntax_fault;
 use crate::table::table;
 use catalog::Catalog;
 use pg_base::Refusal;
@@ -84,7 +85,7 @@ fn opens(class: Class) -> bool
     }
 }
 
-/// Whether the statement of these tokens begins with CREATE or COPY, as `read_ddl` asks.
+/// Whether the statement of these tokens begins with CREATE or COPY.
 pub fn is_ddl(text: &[u8], tokens: &Tokens) -> bool
     requires short { length text.now ≤ 2 ^ 31 }
     requires words { (from : ℕ) × AreWords text.now from tokens.now }
@@ -97,19 +98,21 @@ pub fn is_ddl(text: &[u8], tokens: &Tokens) -> bool
     }
 }
 
-/// Reads the statement of these tokens, which begins with CREATE or COPY: its value, bound to the catalogue, or its first
-/// fault. Faults of syntax come first (42601, 54000), for COPY those of the rest of its line included. Then names bind from
+/// Reads the statement of these tokens: its value, bound to the catalogue, or its first fault. Another first word than CREATE
+/// or COPY is a fault (42601). Faults of syntax come first (42601, 54000), for COPY those of the rest of its line included. Then names bind from
 /// the left: an unknown type (42704) and an unknown table (42P01) at the word, a text for NULL other than `\N` (22023) at that
 /// text. Then comes the limit of 16 columns (54000), at the first name too many. What the catalogue refuses is not asked here.
 /// The text has at most 2^31 bytes, and the tokens are the words of a statement from some offset of it.
 pub fn read_ddl(alloc: Global, cat: &Catalog, text: &[u8], tokens: &Tokens) -> Result<Read, Refusal>
     requires short { length text.now ≤ 2 ^ 31 }
     requires words { (from : ℕ) × AreWords text.now from tokens.now }
-    requires ddl { begins_ddl (terminals text.now tokens.now) ≡ true }
     ensures read { IfOk result (λ r. IsMeaning cat.now text.now tokens.now (Ok (reading r))) }
     ensures refused { IfErr result (IsDdlRefusal cat.now text.now tokens.now) }
 {
     let end = last_end(text, tokens);
+    if !is_ddl(text, tokens) {
+        return Err(syntax_fault(tokens.items()[0]));
+    }
     if let Some(fault) = statement_fault(text, tokens, 0) {
         return Err(Refusal::Fault(fault));
     }

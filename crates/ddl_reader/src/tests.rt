@@ -1,15 +1,16 @@
 //! Statements read and refused. Kinds and places were found by a reader written apart.
 
-ghost use Rattle.std.specs.Prelude.{◌≤◌, ◌^◌, length};
+ghost use Rattle.std.specs.Prelude.{◌≡◌, ◌≤◌, ◌^◌, ◌∷◌, [], length, IfOk};
 
-use crate::{Ddl, Read, block_end, is_ddl, read_ddl};
-use catalog::Catalog;
-use pg_base::{Code, Fault, Limit, Refusal, TableNo};
+use crate::{Ddl, Read, block_end, read_ddl};
+use catalog::{Catalog, CatalogFault};
+use pg_base::{Code, Fault, Limit, Memory, Refusal, TableNo};
+use pg_value::{Bytes, Column, Columns, SqlType};
 use sql_lex::lex_statement;
 use std::alloc::Global;
 
 /// Statements, and their first fault: its kind, its place and where its words end.
-const WRONG: [(&[u8], Code, u32, u32); 12] = [
+const WRONG: [(&[u8], Code, u32, u32); 32] = [
     (b"CREATE TABLE t (a foo, b bar);", Code::S8, 18, 21),
     (
         b"CREATE TABLE t (a int4, b Bar NOT NULL);",
@@ -52,6 +53,72 @@ const WRONG: [(&[u8], Code, u32, u32); 12] = [
         44,
     ),
     (b"COPY;", Code::S1, 4, 4),
+    (b"CREATE TABLE t (a);", Code::S1, 17, 17),
+    (b"CREATE TABLE (a int4);", Code::S1, 13, 13),
+    (b"CREATE TABLE t a int4);", Code::S1, 15, 15),
+    (b"CREATE TABLE t (a int4 NULL NULL);", Code::S1, 28, 28),
+    (b"CREATE TABLE t (a int4 NOT NULL", Code::S1, 31, 31),
+    (b"CREATE TABLE select (a int4);", Code::S1, 13, 13),
+    (b"CREATE TABLE t (a int4) x;", Code::S1, 24, 24),
+    (b"CREATE t (a int4);", Code::S1, 7, 7),
+    (
+        b"CREATE TABLE t (a Int4 NULL, b VARCHAR);",
+        Code::S8,
+        31,
+        38,
+    ),
+    (b"CREATE TABLE t (a int4, b);", Code::S1, 25, 25),
+    (b"CREATE TABLE t (a int4 b int4);", Code::S1, 23, 23),
+    (b"CREATE TABLE t ();", Code::S1, 16, 16),
+    (b"CREATE TABLE t (not int4);", Code::S1, 16, 16),
+    (
+        b"CREATE TABLE t (aaaaaaaaaaaaaaaaaaaaaaaaaaaaaaaaaaaaaaaaaaaaaaaaaaaaaaaaaaaaaaaa foo);",
+        Code::S15(Limit::Name),
+        16,
+        80,
+    ),
+    (b"COPY a FROM STDIN;", Code::S1, 17, 17),
+    (
+        b"COPY a FROM STDIN WITH (FORMAT CSV, NULL 'n');\n\\.\n",
+        Code::S17,
+        41,
+        44,
+    ),
+    (
+        b"COPY a FROM STDIN WITH (FORMAT CSV, NULL x);\n\\.\n",
+        Code::S1,
+        41,
+        41,
+    ),
+    (
+        b"COPY nope FROM STDIN WITH (FORMAT CSV, NULL 'n');\n\\.\n",
+        Code::S2,
+        5,
+        9,
+    ),
+    (
+        b"COPY a FROM STDIN WITH (FORMAT CSV, NULL '\\N') x;\n\\.\n",
+        Code::S1,
+        47,
+        47,
+    ),
+    (b"SELECT b FROM a;", Code::S1, 0, 0),
+];
+
+/// The columns of the table that is read.
+const COLUMNS: [Column; 3] = [
+    Column {
+        typed: SqlType::Int4,
+        not_null: false,
+    },
+    Column {
+        typed: SqlType::Bool,
+        not_null: true,
+    },
+    Column {
+        typed: SqlType::Int8,
+        not_null: false,
+    },
 ];
 
 /// Texts, and the end of the data at their beginning with the offset after it.
@@ -66,20 +133,40 @@ const BLOCKS: [(&[u8], Option<(u32, u32)>); 8] = [
     (b"", None),
 ];
 
-/// The statement at the text's beginning; `None` where it begins with another word.
-fn read(alloc: Global, cat: &Catalog, text: &[u8]) -> Result<Option<Read>, Refusal>
+fn name(alloc: Global, letter: u8) -> Result<Bytes, Memory>
+    ensures { IfOk result (λ b. b ≡ letter ∷ []) }
+{
+    let mut bytes = Vec::new(alloc);
+    bytes.push(letter)?;
+    Ok(Bytes::from_vec(bytes))
+}
+
+/// The table a, of b.
+fn one_table(alloc: Global) -> Result<Catalog, CatalogFault> {
+    let column = Column {
+        typed: SqlType::Int4,
+        not_null: false,
+    };
+    let mut names = Vec::new(alloc);
+    let mut columns = Vec::new(alloc);
+    names.push(name(alloc, b'b')?)?;
+    columns.push(column)?;
+    let mut catalog = Catalog::new(alloc);
+    catalog.add_table(name(alloc, b'a')?, names, Columns::from_vec(columns))?;
+    Ok(catalog)
+}
+
+/// The statement at the text's beginning.
+fn read(alloc: Global, cat: &Catalog, text: &[u8]) -> Result<Read, Refusal>
     requires { length text.now ≤ 2 ^ 31 }
 {
     let tokens = lex_statement(alloc, text, 0)?;
-    if !is_ddl(text, &tokens) {
-        return Ok(None);
-    }
-    Ok(Some(read_ddl(alloc, cat, text, &tokens)?))
+    read_ddl(alloc, cat, text, &tokens)
 }
 
 #[test]
 fn refuses_at_the_first_fault(rt: HostRuntime) {
-    let cat = Catalog::new(rt.alloc());
+    let cat = one_table(rt.alloc()).expect(&rt, "a table");
     for (text, code, at, to) in WRONG {
         assert!(rt; text.len() < 200);
         let fault = Fault {
@@ -104,23 +191,43 @@ fn reads_a_table(rt: HostRuntime) {
     let text = b"Create TABLE T (A int4, b_2 Boolean NOT NULL, c bigint NULL);";
     match read(rt.alloc(), &cat, text) {
         Ok(
-            Some(
-                Read {
-                    ddl: Ddl::Table {
-                        name,
-                        names,
-                        columns,
-                    },
-                    at,
-                    method,
+            Read {
+                ddl: Ddl::Table {
+                    name,
+                    names,
+                    columns,
                 },
-            ),
+                at,
+                method,
+            },
         ) => {
             assert_eq!(rt; name.items(), b"t".as_slice());
             assert_eq!(rt; names.len(), 3);
             assert_eq!(rt; at.as_slice(), [13, 16, 24, 46].as_slice());
             assert_eq!(rt; method, 0);
-            assert_eq!(rt; columns.items().len(), 3);
+            assert!(rt; names[1].items() == b"b_2".as_slice());
+            assert_eq!(rt; columns.items(), COLUMNS.as_slice());
+        }
+        _ => assert!(rt; false),
+    }
+}
+
+#[test]
+fn reads_the_head_of_data(rt: HostRuntime) {
+    let cat = one_table(rt.alloc()).expect(&rt, "a table");
+    let text = b"copy A from stdin with (format csv, null '\\N'); \t\n1\n\\.\n";
+    match read(rt.alloc(), &cat, text) {
+        Ok(
+            Read {
+                ddl: Ddl::Copy { table, start },
+                at,
+                method,
+            },
+        ) => {
+            assert_eq!(rt; table, TableNo(0));
+            assert_eq!(rt; start, 50);
+            assert_eq!(rt; at.len(), 0);
+            assert_eq!(rt; method, 0);
         }
         _ => assert!(rt; false),
     }

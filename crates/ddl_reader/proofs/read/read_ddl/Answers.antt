@@ -1,3 +1,4 @@
+use Rattle.std.proofs.Common.{sym}
 use Rattle.ddl_reader.proofs.Answered.{none-of}
 use Rattle.ddl_reader.proofs.StatementLaws.{read-as, refused-as, means-of}
 use Rattle.ddl_reader.proofs.read.read_ddl.Goals as goal
@@ -8,7 +9,7 @@ returns-clause-read c =
     let text = c.args.text.now in
     let tokens = c.args.tokens.now in
     read-as cat text tokens c.statement.result (none-of _ _ _ c.statement_fault.result c.in_default.not-Some c.statement_fault.ensures)
-    (means-of cat text tokens c.new-from.result c.last_end-end.result c.statement.result c.new-from.ensures c.requires.ddl c.last_end-end.ensures.last c.statement.ensures)
+    (means-of cat text tokens c.new-from.result c.last_end-end.result c.statement.result c.new-from.ensures (sym c.if-not-is_ddl.ensures) c.last_end-end.ensures.last c.statement.ensures)
 
 pub returns-clause-refused : goal.returns-clause-refused
 returns-clause-refused c =
@@ -16,4 +17,5 @@ returns-clause-refused c =
     let text = c.args.text.now in
     let tokens = c.args.tokens.now in
     refused-as cat text tokens c.statement.result (none-of _ _ _ c.statement_fault.result c.in_default.not-Some c.statement_fault.ensures)
-    (means-of cat text tokens c.new-from.result c.last_end-end.result c.statement.result c.new-from.ensures c.requires.ddl c.last_end-end.ensures.last c.statement.ensures)
+    (means-of cat text tokens c.new-from.result c.last_end-end.result c.statement.result c.new-from.ensures (sym c.if-not-is_ddl.ensures) c.last_end-end.ensures.last c.statement.ensures)
+    (sym c.if-not-is_ddl.ensures)

@@ -1,0 +1,52 @@
+//! What a fault's text names beside its kind.
+
+ghost use Rattle.std.specs.Prelude.{◌≡◌};
+ghost use Rattle.fault_line.specs.Tells.{naming_of, place_of};
+
+use pg_base::{Code, Limit};
+
+/// How a text names the word at fault.
+#[derive(Clone, Copy, Debug, PartialEq, Eq)]
+pub(crate) enum Naming {
+    /// Not at all.
+    Nothing,
+    /// In small letters.
+    Small,
+    /// As it is written in the script.
+    AsWritten,
+}
+
+/// What a text names of the COPY data at fault.
+#[derive(Clone, Copy, Debug, PartialEq, Eq)]
+pub(crate) enum Place {
+    /// Nothing.
+    Nowhere,
+    /// The record.
+    Record,
+    /// The record and the column.
+    Field,
+}
+
+/// How the text of a fault names the word at fault.
+pub(crate) fn how_named(code: Code) -> Naming
+    ensures { result ≡ naming_of code }
+{
+    match code {
+        Code::S2 | Code::S3 | Code::S4 | Code::S5 | Code::S6 | Code::S7 | Code::S8 => {
+            Naming::Small
+        }
+        Code::S9 => Naming::AsWritten,
+        _ => Naming::Nothing,
+    }
+}
+
+/// What the text of a fault names of COPY data.
+pub(crate) fn place_named(code: Code) -> Place
+    ensures { result ≡ place_of code }
+{
+    match code {
+        Code::S11 | Code::S12 | Code::S14 | Code::S15(Limit::Text) => Place::Field,
+        Code::S13 | Code::S15(Limit::Rows) => Place::Record,
+        _ => Place::Nowhere,
+    }
+}

@@ -189,26 +189,21 @@ fn refuses_at_the_first_fault(rt: HostRuntime) {
 fn reads_a_table(rt: HostRuntime) {
     let cat = Catalog::new(rt.alloc());
     let text = b"Create TABLE T (A int4, b_2 Boolean NOT NULL, c bigint NULL);";
-    match read(rt.alloc(), &cat, text) {
-        Ok(
-            Read {
-                ddl: Ddl::Table {
-                    name,
-                    names,
-                    columns,
-                },
-                at,
-                method,
-            },
-        ) => {
-            assert_eq!(rt; name.items(), b"t".as_slice());
+    let Read { ddl, at, method } = read(rt.alloc(), &cat, text).expect(&rt, "a table");
+    assert_eq!(rt; at.as_slice(), [13, 16, 24, 46].as_slice());
+    assert_eq!(rt; method, 0);
+    match ddl {
+        Ddl::Table {
+            name,
+            names,
+            columns,
+        } => {
+            assert!(rt; name.items() == b"t".as_slice());
             assert_eq!(rt; names.len(), 3);
-            assert_eq!(rt; at.as_slice(), [13, 16, 24, 46].as_slice());
-            assert_eq!(rt; method, 0);
             assert!(rt; names[1].items() == b"b_2".as_slice());
             assert_eq!(rt; columns.items(), COLUMNS.as_slice());
         }
-        _ => assert!(rt; false),
+        Ddl::Copy { .. } => assert!(rt; false),
     }
 }
 

@@ -7,3 +7,5 @@ pub mod Opened
 pub mod CopyHead
 pub mod TokenLaws
 pub mod StatementLaws
+pub mod Named
+pub mod SoundLaws

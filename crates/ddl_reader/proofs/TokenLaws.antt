@@ -2,18 +2,26 @@
 use Rattle.std.proofs.Common.{◌≡◌, ℕ, ◌<◌, ◌≤◌, Bool, true, false, List, [], ◌∷◌, length, All, subst, sym, refl, MatchBool, arith}
 use Rattle.std.proofs.lemmas.List.Elements.{All-cons, All-nil}
 use Rattle.sql_lex.specs.declared.tokens.Token.{Token}
-use Rattle.sql_lex.specs.Words.{AreWords, is_last}
+use Rattle.sql_lex.specs.Words.{AreWords, IsNext, is_last}
 use Rattle.sql_grammar.specs.Faults.{terminals}
 use Rattle.sql_cursor.specs.Pieces.{pieces, words, places}
 
-inside-by : (text : List ℕ) (t : Token) (ts : List Token) (b : Bool) → ((from : ℕ) → AreWords text from ts → All (λ u. u.end ≤ length text) ts) → MatchBool b (ts ≡ []) (AreWords text t.end ts) → All (λ u. u.end ≤ length text) ts
-inside-by text t ts true more w = subst (All (λ u. u.end ≤ length text)) (sym w) (All-nil (λ u. u.end ≤ length text))
-inside-by text t ts false more w = more t.end w
+module _ (text : List ℕ) (P : Token → Type 0) (one : (from : ℕ) (t : Token) → IsNext text from t → P t) where
+  each-by : (t : Token) (ts : List Token) (b : Bool) → ((from : ℕ) → AreWords text from ts → All P ts) → MatchBool b (ts ≡ []) (AreWords text t.end ts) → All P ts
+  each-by t ts true more w = subst (All P) (sym w) (All-nil P)
+  each-by t ts false more w = more t.end w
 
--- each ends within the text
+  -- what holds of each next token holds of all
+  each-word : (from : ℕ) (tokens : List Token) → AreWords text from tokens → All P tokens
+  each-word from [] w = absurd w
+  each-word from (t ∷ ts) w = All-cons P t ts (one from t w.0) (each-by t ts (is_last text t) (λ f. each-word f ts) w.1)
+
+-- each begins and ends within the text
+pub starts-within : (text : List ℕ) (from : ℕ) (tokens : List Token) → AreWords text from tokens → All (λ u. u.start ≤ length text) tokens
+starts-within text = each-word text (λ u. u.start ≤ length text) (λ from t n. n.gap.within)
+
 pub ends-within : (text : List ℕ) (from : ℕ) (tokens : List Token) → AreWords text from tokens → All (λ u. u.end ≤ length text) tokens
-ends-within text from [] w = absurd w
-ends-within text from (t ∷ ts) w = All-cons (λ u. u.end ≤ length text) t ts w.0.within (inside-by text t ts (is_last text t) (λ f. ends-within text f ts) w.1)
+ends-within text = each-word text (λ u. u.end ≤ length text) (λ from t n. n.within)
 
 -- there is one
 pub some-token : (text : List ℕ) (from : ℕ) (tokens : List Token) → AreWords text from tokens → 0 < length tokens

@@ -5,4 +5,5 @@ pub mod Columns
 pub mod Reads
 pub mod Tables
 pub mod Readings
+pub mod Soundness
 pub mod Statements

@@ -16,6 +16,7 @@ ghost use Rattle.ddl_reader.specs.Reads.{Reads};
 ghost use Rattle.ddl_reader.specs.Tables.{Reading, data_after};
 ghost use Rattle.ddl_reader.specs.Statements.{opens_ddl, begins_ddl, IsMeaning, IsDdlRefusal};
 ghost use Rattle.ddl_reader.specs.Readings.{reading, ReadsAs};
+ghost use Rattle.ddl_reader.specs.Soundness.{IsSound};
 
 use crate::copy::copy;
 use crate::ddl::Read;
@@ -101,12 +102,14 @@ pub fn is_ddl(text: &[u8], tokens: &Tokens) -> bool
 /// Reads the statement of these tokens: its value, bound to the catalogue, or its first fault. Another first word than CREATE
 /// or COPY is a fault (42601). Faults of syntax come first (42601, 54000), for COPY those of the rest of its line included. Then names bind from
 /// the left: an unknown type (42704) and an unknown table (42P01) at the word, a text for NULL other than `\N` (22023) at that
-/// text. Then comes the limit of 16 columns (54000), at the first name too many. What the catalogue refuses is not asked here.
+/// text. Then comes the limit of 16 columns (54000), at the first name too many. What the catalogue refuses is not asked here,
+/// but what is read may be handed to it: names are names, each of the 1 to 16 columns has one, and the table of COPY is there.
 /// The text has at most 2^31 bytes, and the tokens are the words of a statement from some offset of it.
 pub fn read_ddl(alloc: Global, cat: &Catalog, text: &[u8], tokens: &Tokens) -> Result<Read, Refusal>
     requires short { length text.now ≤ 2 ^ 31 }
     requires words { (from : ℕ) × AreWords text.now from tokens.now }
     ensures read { IfOk result (λ r. IsMeaning cat.now text.now tokens.now (Ok (reading r))) }
+    ensures sound { IfOk result (λ r. IsSound cat.now text.now (reading r)) }
     ensures refused { IfErr result (IsDdlRefusal cat.now text.now tokens.now) }
 {
     let end = last_end(text, tokens);

@@ -1,5 +1,5 @@
 -- The rows that COPY data stand for, or the first fault of the data (PostgreSQL manual, COPY; `\N` is NULL in quotes too, own).
-use Rattle.std.specs.Prelude.{ℕ, ◌+◌, ◌-◌, Bool, false, cond, List, [], ◌∷◌, ◌++◌, length, nat_lt, nat_eq, Ok, Err}
+use Rattle.std.specs.Prelude.{ℕ, ◌+◌, ◌-◌, ◌<◌, Bool, false, cond, List, [], ◌∷◌, ◌++◌, length, nat_lt, nat_eq, Ok, Err}
 use Rattle.std.specs.declared.result.Result.{Result}
 use Rattle.std.specs.Str.{bytes_eq}
 use Rattle.csv.specs.Reading.{default_config, records, strip_bom}
@@ -15,6 +15,14 @@ use Rattle.pg_value.specs.declared.value.Value.TheVariants.{Null}
 use Rattle.heap.specs.declared.fault.CopyFault.{CopyFault}
 use Rattle.heap.specs.declared.fault.CopyFault.TheVariants.{Arity, Range, Invalid, IsNull, TooLong, TooMany, Memory}
 use Rattle.heap.specs.Stored.{Stored, Values, null_text}
+
+-- where a fault names a column, it is one of these
+abbrev pub NamesColumnOf : List Column → CopyFault → Type 0
+NamesColumnOf columns (Range rec col) = col.0 < length columns
+NamesColumnOf columns (Invalid rec col) = col.0 < length columns
+NamesColumnOf columns (IsNull rec col) = col.0 < length columns
+NamesColumnOf columns (TooLong rec col) = col.0 < length columns
+NamesColumnOf columns _ = Unit {0}
 
 -- the records of a block, each a list of fields: those of CSV without a header row, after a byte order mark if there is one
 abbrev pub records_of : List ℕ → List (List (List ℕ))

@@ -1,9 +1,10 @@
 //! Rows read from COPY data.
 
-ghost use Rattle.std.specs.Prelude.{◌≡◌, ◌≢◌, ◌+◌, ◌<◌, ◌≤◌, length, slice_get, Some, Ok, Err, IfOk, IfErr, IfSome, IfNone};
+ghost use Rattle.std.specs.Prelude.{◌≡◌, ◌≢◌, ◌+◌, ◌<◌, ◌≤◌, List, length, slice_get, Some, Ok, Err, IfOk, IfErr, IfSome, IfNone};
 ghost use Rattle.std.specs.List.{All};
 ghost use Rattle.csv.specs.Records.{fields_of};
-ghost use Rattle.heap.specs.Loading.{records_of, field, row, rows_from, is_long};
+ghost use Rattle.pg_value.specs.declared.columns.Column.{Column};
+ghost use Rattle.heap.specs.Loading.{NamesColumnOf, records_of, field, row, rows_from, is_long};
 ghost use Rattle.heap.specs.Stored.{IsRowOf, IsValueOf};
 
 use crate::fault::CopyFault;
@@ -29,6 +30,7 @@ pub(crate) fn read_rows(
     ensures few { IfOk result (λ rows. length rows.items ≤ room) }
     ensures lawful { IfOk result (λ rows. All (IsRowOf columns.now) rows.items) }
     ensures fault { IfErr result (λ e. e ≢ CopyFault.Memory → rows_from columns.now room 1 (records_of block.now) ≡ Err e) }
+    ensures field { IfErr result (NamesColumnOf columns.now) }
 {
     let rdr = ReaderBuilder::new()
         .has_headers(false)
@@ -58,6 +60,7 @@ fn read_row(
     ensures few { IfOk result (λ r. before < room) }
     ensures lawful { IfOk result (λ r. IsRowOf columns.now r) }
     ensures fault { IfErr result (λ e. e ≢ CopyFault.Memory → row columns.now room (before + 1) (fields_of fields.now) ≡ Err e) }
+    ensures field { IfErr result (NamesColumnOf columns.now) }
 {
     let rec = before as u32 + 1;
     if before == room {
@@ -97,6 +100,7 @@ fn read_field(
     ensures value { IfOk result (λ v. field rec col column text.now ≡ Ok v) }
     ensures lawful { IfOk result (λ v. IsValueOf column v) }
     ensures fault { IfErr result (λ e. e ≢ CopyFault.Memory → field rec col column text.now ≡ Err e) }
+    ensures field { (columns : List Column) → col.0 < length columns → IfErr result (NamesColumnOf columns) }
 {
     if text == b"\\N".as_slice() {
         return if column.not_null {

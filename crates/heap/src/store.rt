@@ -1,7 +1,7 @@
 //! Rows in order of loading.
 
 ghost use Rattle.std.specs.Prelude.{◌≡◌, ◌≢◌, ◌+◌, ◌^◌, ◌<◌, ◌≤◌, List, [], length, slice_get, Some, Ok, Err, IfOk, IfErr, OnErr};
-ghost use Rattle.heap.specs.Loading.{records_of, loaded};
+ghost use Rattle.heap.specs.Loading.{NamesColumnOf, records_of, loaded};
 ghost use Rattle.heap.specs.Stored.{IsLawful, IsRowOf};
 
 use crate::fault::CopyFault;
@@ -92,12 +92,14 @@ impl<L: Ledger> Heap<L> {
     }
 
     /// Appends a row for each record of the block and says how many, or refuses with the first fault: that of the
-    /// first record at fault, by `TooMany`, `Arity`, then its fields from the left. Then the heap is as before.
+    /// first record at fault, by `TooMany`, `Arity`, then its fields from the left. Then the heap is as before. A
+    /// column that the fault names is one of the heap's.
     pub fn load(&mut self, block: &[u8]) -> Result<u32, CopyFault>
         ensures rows { IfOk result (λ n. loaded self.old (records_of block.now) ≡ Ok self.new) }
         ensures columns { self.new.columns ≡ self.old.columns }
         ensures count { IfOk result (λ n. length self.new.rows ≡ length self.old.rows + n) }
         ensures fault { IfErr result (λ e. e ≢ CopyFault.Memory → loaded self.old (records_of block.now) ≡ Err e) }
+        ensures field { IfErr result (NamesColumnOf self.old.columns) }
         ensures refused { OnErr result (self.new ≡ self.old) }
         ensures lawful { IsLawful self.new }
     {

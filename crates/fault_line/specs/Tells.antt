@@ -1,5 +1,5 @@
 -- What a fault's text names beside its kind. Own.
-use Rattle.std.specs.Prelude.{ℕ, ◌<◌, ◌≤◌, ◌≡◌, List, length}
+use Rattle.std.specs.Prelude.{◌<◌, ◌≡◌}
 use Rattle.pg_base.specs.declared.faults.Code.{Code}
 use Rattle.pg_base.specs.declared.faults.Code.TheVariants.{S2, S3, S4, S5, S6, S7, S8, S9, S11, S12, S13, S14, S15}
 use Rattle.pg_base.specs.declared.faults.Limit.TheVariants.{Rows, Text}
@@ -40,7 +40,3 @@ column_at_fault f = record { 0 = f.col }
 -- where a field of COPY data is at fault, the catalogue has its table and column
 abbrev pub IsFieldOf : Contents → Fault → Type 0
 IsFieldOf c f = place_of f.code ≡ Field → 0 < f.rec → IsTable c f.table × IsColumn c f.table (column_at_fault f)
-
--- the words at fault lie in the script
-abbrev pub LiesIn : List ℕ → Fault → Type 0
-LiesIn script f = (f.from ≤ f.to) × (f.to ≤ length script)

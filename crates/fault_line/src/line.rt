@@ -1,11 +1,11 @@
 //! The error line of a fault.
 
-ghost use Rattle.std.specs.Prelude.{◌≡◌, ◌++◌, OnOk, OnErr, codes};
+ghost use Rattle.std.specs.Prelude.{◌≡◌, ◌++◌, ◌-◌, OnOk, OnErr, codes, drop, take};
 ghost use Rattle.std.specs.Fmt.{decimal};
 ghost use Rattle.std.specs.Io.KnownBytes.{Appends};
 ghost use Rattle.pg_base.specs.Causes.{HasCause};
 ghost use Rattle.pg_base.specs.Writing.{AppendsPrefix};
-ghost use Rattle.fault_line.specs.Tells.{IsFieldOf, LiesIn, naming_of};
+ghost use Rattle.fault_line.specs.Tells.{IsFieldOf, naming_of};
 ghost use Rattle.fault_line.specs.Lines.{code_text, fault_line, naming_text, phrase, suffix, word_at};
 
 use crate::pieces::{write_pieces, write_small};
@@ -17,6 +17,7 @@ use pg_base::{ColNo, Failed, Fault, Sink, write_all};
 
 /// Writes the line of a fault of the script `text`: `ERROR`, the SQLSTATE code, the byte offset and the text, ended by LF.
 /// It takes no memory. At `Failed` the sink has a prefix of the line, and its count of faults rose.
+/// Of words that do not lie in the script the line has what the script has of them.
 /// Where a field of COPY data is at fault, the catalogue has its table and column.
 pub fn write_fault<E: Sink>(
     errors: &mut E,
@@ -24,7 +25,6 @@ pub fn write_fault<E: Sink>(
     text: &[u8],
     fault: &Fault,
 ) -> Result<(), Failed>
-    requires words { LiesIn text.now fault.now }
     requires field { IsFieldOf cat.now fault.now }
     ensures ok { OnOk result (Appends (E.held errors.old) (E.held errors.new) (fault_line cat.now text.now fault.now)) }
     ensures err { OnErr result (AppendsPrefix (E.held errors.old) (E.held errors.new) (fault_line cat.now text.now fault.now)) }
@@ -48,14 +48,22 @@ fn write_head<E: Sink>(errors: &mut E, fault: &Fault) -> Result<(), Failed>
     write_pieces(errors, &[b"ERROR ", code, b" at ", offset, b": ", words])
 }
 
+// The bytes from one offset up to another, as far as the text has them.
+fn word(text: &[u8], from: usize, to: usize) -> &[u8]
+    ensures { result.now ≡ take (to - from) (drop from text.now) }
+{
+    let from = from.min(text.len());
+    let to = to.clamp(from, text.len());
+    &text[from..to]
+}
+
 // The word at fault, where the text names it.
 fn write_word<E: Sink>(errors: &mut E, text: &[u8], fault: &Fault) -> Result<(), Failed>
-    requires words { LiesIn text.now fault.now }
     ensures ok { OnOk result (Appends (E.held errors.old) (E.held errors.new) (naming_text (naming_of fault.now.code) (word_at text.now fault.now))) }
     ensures err { OnErr result (AppendsPrefix (E.held errors.old) (E.held errors.new) (naming_text (naming_of fault.now.code) (word_at text.now fault.now))) }
     ensures cause { HasCause (E.faults errors.old) (E.faults errors.new) result }
 {
-    let word = &text[fault.from as usize..fault.to as usize];
+    let word = word(text, fault.from as usize, fault.to as usize);
     match how_named(fault.code) {
         Naming::Nothing => write_all(errors, b""),
         Naming::Small => write_small(errors, word),

@@ -1,7 +1,7 @@
 //! Lines over a sink in memory with ample room, as a reference implementation gives them.
 
 ghost use Rattle.std.specs.Prelude.{◌≡◌, ◌∷◌, [], length, IfOk};
-ghost use Rattle.fault_line.specs.Tells.{IsFieldOf, LiesIn};
+ghost use Rattle.fault_line.specs.Tells.{IsFieldOf};
 
 use crate::write_fault;
 use catalog::Catalog;
@@ -86,7 +86,6 @@ fn check<R: Abort + AllocGlobal>(
     fault: &Fault,
     line: &[u8],
 ) -> Result<(), Fail>
-    requires words { LiesIn script.now fault.now }
     requires field { IsFieldOf catalog.now fault.now }
 {
     let alloc = rt.alloc();

@@ -1,0 +1,4 @@
+mod Lists
+mod Picking
+mod Putting
+mod Scanning

@@ -1,0 +1,52 @@
+use Rattle.std.proofs.Common.{◌≡◌, ◌<◌, ℕ, true, List, [], ◌∷◌, ◌++◌, length, All, Contains, arith, sym, refl, ◌∙◌, subst}
+use Rattle.std.proofs.lemmas.List.Elements.{All-contains_itself, All-from_recursion}
+use Rattle.pg_expr.specs.declared.operand.ColRef.{ColRef}
+use Rattle.catalog.specs.Contents.{Contents, IsTable, table_at}
+use Rattle.catalog.specs.Names.{begins_name, IsName}
+use Rattle.catalog.specs.Range.{IsRange, Range}
+use Rattle.sql_query.specs.WellBound.{IsColumnOf, IsWellBound}
+use Rattle.sql_query.specs.declared.prepared.Prepared.{Prepared}
+use Rattle.answer.proofs.tests.query_of.Goals as goal
+
+-- the relation of the query, and a column of it
+abbrev relation : ℕ → Range
+relation alias = (record { 0 = 0 }, alias ∷ []) ∷ []
+
+abbrev column : ℕ → ColRef
+column n = record { rel = record { 0 = 0 }; col = record { 0 = n } }
+
+abbrev three : List ColRef
+three = column 2 ∷ column 0 ∷ column 1 ∷ []
+
+pushed : (old new : Range) (name : List ℕ) (alias : ℕ) → old ≡ [] → new ≡ old ++ (record { 0 = 0 }, name) ∷ [] → name ≡ alias ∷ [] → new ≡ relation alias
+pushed old new name alias none more named = more ∙ rw (none, named) refl
+
+module _ (c : Contents) (alias : ℕ) (one : length c.tables ≡ 1) (wide : length (table_at c (record { 0 = 0 })).columns ≡ 3) (begins : begins_name alias ≡ true) where
+  range : IsRange c (relation alias)
+  range = record {
+    some = omega arith;
+    few = omega arith;
+    tables = All-from_recursion (λ r. IsTable c r.0) (relation alias) (omega (arith, one), tt);
+    names = All-from_recursion (λ r. IsName r.1) (relation alias) ((begins, refl, omega arith), tt);
+    distinct = λ i j d before within. absurd (omega (arith, before, within));
+  }
+
+  of_table : (n : ℕ) → n < 3 → IsColumnOf c (relation alias) (column n)
+  of_table n few = record { relation = omega arith; column = omega (arith, wide, few) }
+
+  well_bound : (q : Prepared) → q.range ≡ relation alias → q.select ≡ three → q.used ≡ three → IsWellBound c q
+  well_bound q of select used = record {
+    range = (let P : Range → Type 0 = λ r. IsRange c r in subst P (sym of) range);
+    used = (
+        let P : Range → Type 0 = λ r. All (IsColumnOf c r) q.used in
+        let Q : List ColRef → Type 0 = λ l. All (IsColumnOf c (relation alias)) l in
+        subst P (sym of) (subst Q (sym used) (All-from_recursion (IsColumnOf c (relation alias)) three (of_table 2 (omega arith), (of_table 0 (omega arith), (of_table 1 (omega arith), tt)))))
+        );
+    select = (let P : List ColRef → Type 0 = λ l. All (Contains q.used) l in subst P (used ∙ sym select) (All-contains_itself q.used));
+  }
+
+pub returns-clause-bound : goal.returns-clause-bound
+returns-clause-bound c =
+    well_bound c.args.catalog.now c.args.alias c.requires.one c.requires.three c.requires.alias _
+    (c.from_vec.ensures ∙ pushed _ _ _ c.args.alias c.new-relations.ensures.items c.in_ok-push.ensures.items c.in_ok-name.ensures)
+    c.in_ok-select.ensures c.in_ok-used.ensures

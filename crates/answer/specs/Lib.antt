@@ -1,0 +1,6 @@
+pub mod Worlds
+pub mod Queries
+pub mod Plans
+pub mod Texts
+pub mod Answers
+pub mod Putting

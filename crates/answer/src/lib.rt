@@ -1,0 +1,13 @@
+//! The answer to a SELECT: the text of its plan, its rows and their number.
+#![tactic(auto)]
+
+mod plan_line;
+mod print;
+mod put;
+mod rows;
+mod stop;
+#[cfg(test)]
+mod tests;
+
+pub use print::print_answer;
+pub use stop::Stop;

@@ -1,10 +1,9 @@
-pub mod DataLines
-pub mod Statements
-pub mod Worlds
-pub mod Plans
-pub mod Texts
+pub mod Actions
+pub mod Reads
+pub mod Faults
+pub mod Ending
 pub mod Replies
-pub mod Putting
+pub mod Scripts
+pub mod Steps
 pub mod Statuses
 pub mod Runs
-pub mod Scripts

@@ -1,14 +1,20 @@
--- What a run of the program did to its source and to out. Own.
-use Rattle.std.specs.Prelude.{ℕ, ◌≡◌, ◌^◌, ◌+◌, ◌≤◌, List, [], ◌∷◌, length, codes}
+-- What a run of the program did to its source and to its sinks. Own.
+use Rattle.std.specs.Prelude.{ℕ, ◌≡◌, ◌⊎◌, ◌^◌, ◌+◌, ◌<◌, ◌≤◌, List, [], ◌∷◌, ◌++◌, length, take, codes}
 use Rattle.std.specs.declared.option.Option.{Option}
 use Rattle.std.specs.Io.KnownBytes.{Appends, Consumes, IsAtEnd}
-use Rattle.pg_base.specs.Writing.{AppendsPrefix}
-use Rattle.pgplan.specs.declared.status.Status.{Status}
-use Rattle.pgplan.specs.declared.status.Status.TheVariants.{Done, Usage, ReadFault, Statement, WriteFault, Memory}
-use Rattle.pgplan.specs.Statements.{IsScript}
-use Rattle.pgplan.specs.Statements as statements
-use Rattle.pgplan.specs.Worlds.{nothing_stored}
-use Rattle.pgplan.specs.Replies.{AreReplies}
+use Rattle.pg_base.specs.Causes.{Rose}
+use Rattle.pg_base.specs.declared.faults.Fault.{Fault}
+use Rattle.fault_line.specs.Lines.{fault_line}
+use Rattle.fault_line.specs.Tells.{IsFieldOf}
+use Rattle.answer.specs.Worlds.{World, empty_world}
+use Rattle.pgplan.specs.declared.end.End.{End}
+use Rattle.pgplan.specs.declared.end.End.TheVariants as ends
+use Rattle.pgplan.specs.Actions.{Action}
+use Rattle.pgplan.specs.Reads.{IsRead}
+use Rattle.pgplan.specs.Faults.{IsFault}
+use Rattle.pgplan.specs.Replies.{Reply, IsReply}
+use Rattle.pgplan.specs.Scripts.{Worked, AreFirst, AreAll, world_after, place_after, replies}
+use Rattle.pgplan.specs.Statuses.{IsTold, line_of}
 
 -- the one word `run`
 abbrev pub IsRunCommand : List (List ℕ) → Type 0
@@ -18,54 +24,93 @@ IsRunCommand words = words ≡ codes "run" ∷ []
 abbrev pub most_bytes : ℕ
 most_bytes = 2 ^ 24
 
--- these bytes were taken: all that the source had, or one more than a script has
-pub record IsTaken (old new : Option (List ℕ)) (text : List ℕ) : Type 0 where
-  pub taken : Consumes old new text
-  pub within : length text ≤ most_bytes + 1
-  pub ended : length text ≤ most_bytes → IsAtEnd new
-
--- the text is a script, and out gained its replies, each and no more
-pub record IsAnswered (old new : Option (List ℕ)) (text : List ℕ) : Type 0 where
-  pub statements : List statements.Statement
-  pub script : IsScript text statements
-  pub bytes : List ℕ
-  pub replies : AreReplies nothing_stored statements bytes
-  pub gained : Appends old new bytes
-
--- the text is a script, and out gained a prefix of its replies
-pub record IsBegun (old new : Option (List ℕ)) (text : List ℕ) : Type 0 where
-  pub statements : List statements.Statement
-  pub script : IsScript text statements
-  pub bytes : List ℕ
-  pub replies : AreReplies nothing_stored statements bytes
-  pub gained : AppendsPrefix old new bytes
-
-abbrev pub IsNoScript : List ℕ → Type 0
-IsNoScript text = (statements : List statements.Statement) → IsScript text statements → ⊥
-
 -- these bytes were taken, all that the source had
-pub record IsReadWhole (old new : Option (List ℕ)) (text : List ℕ) : Type 0 where
-  pub taken : Consumes old new text
+pub record IsReadWhole (left left' : Option (List ℕ)) (text : List ℕ) : Type 0 where
+  pub taken : Consumes left left' text
   pub within : length text ≤ most_bytes
-  pub ended : IsAtEnd new
+  pub ended : IsAtEnd left'
 
--- a text was read whole, and out gained its replies
+-- the source gave one byte more than a script has
+pub record IsTooLong (left left' : Option (List ℕ)) : Type 0 where
+  pub text : List ℕ
+  pub taken : Consumes left left' text
+  pub long : length text ≡ most_bytes + 1
+
+-- every statement was worked, and out gained their replies and no more
+pub record IsAnswered (text : List ℕ) (held held' : Option (List ℕ)) : Type 0 where
+  pub statements : List Worked
+  pub all : AreAll text statements
+  pub gained : Appends held held' (replies statements)
+
+-- the first statements were worked, out gained their replies and no more, and the one after them has this fault
+pub record EndsInFault (text : List ℕ) (held held' : Option (List ℕ)) (statements : List Worked) (f : Fault) : Type 0 where
+  pub first : AreFirst text statements
+  pub more : place_after 0 statements < length text
+  pub fault : IsFault (world_after empty_world statements) text (place_after 0 statements) f
+  pub gained : Appends held held' (replies statements)
+
+-- the first statements were worked, and out gained their replies and some first bytes of the next one's
+pub record IsCutOff (text : List ℕ) (held held' : Option (List ℕ)) : Type 0 where
+  pub statements : List Worked
+  pub first : AreFirst text statements
+  pub more : place_after 0 statements < length text
+  pub action : Action
+  pub next : ℕ
+  pub read : IsRead (world_after empty_world statements) text (place_after 0 statements) action next
+  pub reply : Reply
+  pub answers : IsReply (world_after empty_world statements) action reply
+  pub count : ℕ
+  pub within : count ≤ length reply.bytes
+  pub gained : Appends held held' (replies statements ++ take count reply.bytes)
+
+-- the first statements were worked, and out gained their replies and no more
+pub record IsPaused (text : List ℕ) (held held' : Option (List ℕ)) : Type 0 where
+  pub statements : List Worked
+  pub first : AreFirst text statements
+  pub gained : Appends held held' (replies statements)
+
+-- no statement of the text has a fault: whichever first ones are worked, the one after them has none
+abbrev pub HasNoFault : List ℕ → Type 0
+HasNoFault text =
+    (statements : List Worked) (fault : Fault) → AreFirst text statements → place_after 0 statements < length text →
+    IsFault (world_after empty_world statements) text (place_after 0 statements) fault → ⊥
+
+-- why the statements of a text were not all worked, and what is left: the world is that of the statements before a fault
+abbrev pub Ends : End → List ℕ → World → (held held' : Option (List ℕ)) → Type 0
+Ends (ends.Fault fault) text w held held' =
+    (statements : List Worked) × (w ≡ world_after empty_world statements) × IsFieldOf w.contents fault × EndsInFault text held held' statements fault
+Ends ends.Write text w held held' = IsCutOff text held held'
+Ends ends.Memory text w held held' = IsPaused text held held' ⊎ IsCutOff text held held'
+
+-- a text was read whole, and every statement answered
 abbrev pub AnswersAll : (left left' held held' : Option (List ℕ)) → Type 0
-AnswersAll left left' held held' = (text : List ℕ) × IsReadWhole left left' text × IsAnswered held held' text
+AnswersAll left left' held held' = (text : List ℕ) × IsReadWhole left left' text × IsAnswered text held held'
 
--- a text was read whole, and out gained a prefix of its replies
+-- a text was read whole, its first statements were answered, and the line of the next one's fault was told
+abbrev pub TellsFault : (left left' held held' errs errs' : Option (List ℕ)) → (before now : ℕ) → Type 0
+TellsFault left left' held held' errs errs' before now =
+    (text : List ℕ) × (statements : List Worked) × (fault : Fault) × IsReadWhole left left' text × EndsInFault text held held' statements fault
+    × IsTold errs errs' before now (fault_line (world_after empty_world statements).contents text fault)
+
+-- a text was read whole, and out gained the replies of the first statements and some first bytes of the next one's
+abbrev pub CutsOff : (left left' held held' : Option (List ℕ)) → Type 0
+CutsOff left left' held held' = (text : List ℕ) × IsReadWhole left left' text × IsCutOff text held held'
+
+-- a text was read whole, and out gained the replies of the first statements, and it may be some first bytes of the next one's
 abbrev pub AnswersSome : (left left' held held' : Option (List ℕ)) → Type 0
-AnswersSome left left' held held' = (text : List ℕ) × IsReadWhole left left' text × IsBegun held held' text
+AnswersSome left left' held held' = (text : List ℕ) × IsReadWhole left left' text × (IsPaused text held held' ⊎ IsCutOff text held held')
 
--- what was taken is no script, and too long to be the front of one where it does not end the source
-abbrev pub ReadsNoScript : (left left' : Option (List ℕ)) → Type 0
-ReadsNoScript left left' = (text : List ℕ) × IsTaken left left' text × IsNoScript text
+-- what a run over a text that was read did, by its status
+pub record Answers (status : ℕ) (text : List ℕ) (held held' errs errs' : Option (List ℕ)) (before now : ℕ) : Type 0 where
+  pub among : (status ≡ 0) ⊎ ((status ≡ 3) ⊎ ((status ≡ 4) ⊎ (status ≡ 5)))
+  pub done : status ≡ 0 → IsAnswered text held held'
+  pub refused : status ≡ 3 → (statements : List Worked) × (fault : Fault) × EndsInFault text held held' statements fault
+      × IsTold errs errs' before now (fault_line (world_after empty_world statements).contents text fault)
+  pub cut : status ≡ 4 → IsCutOff text held held'
+  pub paused : status ≡ 5 → IsPaused text held held' ⊎ IsCutOff text held held'
+  pub line : (status ≡ 3 → ⊥) → IsTold errs errs' before now (line_of status)
 
--- what working a text to this status did to out
-abbrev pub Works : Status → (held held' : Option (List ℕ)) → List ℕ → Type 0
-Works Done held held' text = IsAnswered held held' text
-Works Statement held held' text = IsNoScript text × (held' ≡ held)
-Works WriteFault held held' text = IsBegun held held' text
-Works Memory held held' text = IsBegun held held' text
-Works Usage held held' text = ⊥
-Works ReadFault held held' text = ⊥
+-- status 4 has its cause in out's faults, and nothing else raises them
+pub record HasStatusCause (status before now : ℕ) : Type 0 where
+  pub write : status ≡ 4 → Rose before now
+  pub quiet : (status ≡ 4 → ⊥) → now ≡ before

@@ -1,13 +1,20 @@
 //! pgplan: reads a script, plans and runs its queries, and prints plans and rows.
 #![tactic(auto)]
 
-mod data_line;
-mod printing;
-mod reading;
-mod selecting;
+mod define;
+mod end;
+mod faults;
+mod laws;
+mod machine;
+mod query;
 mod status;
+mod store;
 #[cfg(test)]
 mod tests;
 mod top;
+mod work;
 
+pub use end::End;
+pub use laws::{one_reading, statements_go_on};
+pub use machine::Machine;
 pub use top::pgplan;

@@ -18,6 +18,8 @@ pub(crate) enum Status {
     WriteFault,
     /// Want of memory.
     Memory,
+    /// The source gave more bytes than a script may have.
+    TooLong,
 }
 
 impl Status {
@@ -32,49 +34,21 @@ impl Status {
             Status::Statement => 3,
             Status::WriteFault => 4,
             Status::Memory => 5,
+            Status::TooLong => 6,
         }
     }
 
-    /// The line on the errors sink, none for `Done`.
+    /// The line on the errors sink: none for `Done`, nor for `Statement`, whose line is that of its fault.
     pub(crate) fn line(self) -> &'static [u8]
         ensures { result.now ≡ line_of (number_of self) }
     {
         match self {
-            Status::Done => b"",
+            Status::Done | Status::Statement => b"",
             Status::Usage => b"usage: pgplan run | pgplan sample N\n",
             Status::ReadFault => b"ERROR read failed\n",
-            Status::Statement => b"ERROR 42601 at 0: syntax error\n",
             Status::WriteFault => b"ERROR write failed\n",
             Status::Memory => b"ERROR 53200 out of memory\n",
+            Status::TooLong => b"ERROR 54000 script longer than 16777216 bytes\n",
         }
-    }
-}
-
-/// Why a reply is not written whole.
-#[derive(Clone, Copy, Debug, PartialEq, Eq)]
-pub(crate) enum Stop {
-    /// Out failed.
-    Write,
-    /// Want of memory.
-    Memory,
-}
-
-impl From<std::alloc::AllocError> for Stop {
-    ghost use Rattle.pgplan.specs.declared.status.Stop.TheVariants.{Memory};
-
-    ghost from_gives = { λ _ stop. stop ≡ Memory };
-
-    fn from(_: std::alloc::AllocError) -> Stop {
-        Stop::Memory
-    }
-}
-
-impl From<pg_base::Failed> for Stop {
-    ghost use Rattle.pgplan.specs.declared.status.Stop.TheVariants.{Write};
-
-    ghost from_gives = { λ _ stop. stop ≡ Write };
-
-    fn from(_: pg_base::Failed) -> Stop {
-        Stop::Write
     }
 }

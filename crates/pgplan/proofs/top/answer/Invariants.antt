@@ -1,4 +1,7 @@
 use Rattle.pgplan.proofs.top.answer.Given as goal
 
-abbrev pub ghosts-answer_counted : goal.ghosts-answer_counted
-ghosts-answer_counted g a = record { name = a.blank.name; parts = a.blank.parts }
+abbrev pub ghosts-counted-L-Ledger : goal.ghosts-counted-L-Ledger
+ghosts-counted-L-Ledger g a = record { name = a.fetching.name; parts = a.fetching.parts }
+
+abbrev pub ghosts-counted-M-Ledger : goal.ghosts-counted-M-Ledger
+ghosts-counted-M-Ledger g a = record { name = a.reading.name; parts = a.reading.parts }

@@ -1,18 +1,7 @@
-use Rattle.std.proofs.Common.{◌≡◌, ◌⊎◌, ℕ, List, subst, sym, ◌∙◌, ap}
-use Rattle.pg_base.specs.Writing.{AppendsPrefix}
-use Rattle.pgplan.specs.Statuses.{line_of}
-use Rattle.pgplan.proofs.AnswerLaws.{complete_from, line_prefix}
+use Rattle.pgplan.proofs.TopLaws.{complete_run}
 use Rattle.pgplan.proofs.top.pgplan.Goals as goal
 
-pub returns-clause-complete : goal.returns-clause-complete
-returns-clause-complete g c = λ text script command known is quiet_in quiet_out.
-    (let P : ℕ → Type 0 = λ n. (n ≡ 0) ⊎ (n ≡ 5) in
-    subst P (sym c.number.ensures)
-    (complete_from c.run-status.result _ _ _ (g.S.Source.left c.args.source.now) (g.S.Source.left c.run-status.new.source) text script known is command quiet_in quiet_out
-    c.run-status.ensures.usage.0 c.run-status.ensures.read_fault c.run-status.ensures.write_fault c.run-status.ensures.refused))
-
-pub returns-clause-line : goal.returns-clause-line
-returns-clause-line g c =
-    let P : List ℕ → Type 0 = λ l. AppendsPrefix (g.E.Sink.held c.args.errors.now) (g.E.Sink.held c.write_all.new.sink) l in
-    subst P (c.line.ensures ∙ ap line_of (sym c.number.ensures))
-    (line_prefix c.write_all.result _ _ _ c.write_all.ensures.ok c.write_all.ensures.err)
+pub returns-in-Ok-clause-complete : goal.returns-in-Ok-clause-complete
+returns-in-Ok-clause-complete g c = λ text command known short sound quiet_in quiet_out.
+    complete_run c.answer.result _ _ _ _ _ _ c.in-Ok.text.items text _ _ _ _ known sound c.in-Ok.ensures.bytes c.in-Ok.ensures.end
+    (rw c.deref.ensures.value at c.answer.ensures.answers) c.answer.ensures.cause quiet_out

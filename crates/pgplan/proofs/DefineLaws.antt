@@ -1,0 +1,192 @@
+-- A definition that is read: what it does, or why it is refused.
+use Rattle.std.proofs.Common.{◌≡◌, ◌≤◌, ◌^◌, ℕ, Bool, true, false, cond, List, [], ◌∷◌, Vec, Global, length, slice_range, drop, get_or, Option, Some, None, Result, Ok, Err, All, refl, arith, ap, subst, ◌∙◌, inl, inr}
+use Rattle.std.specs.Str.{bytes_eq}
+use Rattle.pg_base.specs.declared.numbers.TableNo.{TableNo}
+use Rattle.pg_base.specs.declared.faults.Fault.{Fault}
+use Rattle.pg_base.specs.declared.faults.Refusal.{Refusal}
+use Rattle.pg_base.specs.declared.faults.Refusal.TheVariants as refusal
+use Rattle.pg_value.specs.declared.columns.Column.{Column}
+use Rattle.pg_value.specs.declared.value.SqlType.{SqlType}
+use Rattle.sql_lex.specs.declared.tokens.Token.{Token}
+use Rattle.sql_grammar.specs.Syntax.{Statement, empty, create_table, query, copy}
+use Rattle.sql_grammar.specs.Faults.{terminals, bytes_of}
+use Rattle.sql_grammar.specs.CopyLine.{IsDataStart}
+use Rattle.catalog.specs.Contents.{Contents, IsTable}
+use Rattle.catalog.specs.Tables.{IsAcceptable, table_named}
+use Rattle.ddl_reader.specs.declared.ddl.Ddl.{Ddl}
+use Rattle.ddl_reader.specs.declared.ddl.Ddl.TheVariants.{Table, Copy}
+use Rattle.ddl_reader.specs.declared.ddl.Read.{Read}
+use Rattle.ddl_reader.specs.Readings.{definition, reading}
+use Rattle.ddl_reader.specs.Places.{token_at}
+use Rattle.ddl_reader.specs.Types.{type_named}
+use Rattle.ddl_reader.specs.Columns.{Written, Bound, bound, bound_by, before_all, bound_all, columns_over}
+use Rattle.ddl_reader.specs.Tables.{table, data_for, Reading, table_reading, limited, table_of, null_text, data_of, data_after}
+use Rattle.ddl_reader.specs.Soundness.{IsSound, IsSoundTable}
+use Rattle.ddl_reader.specs.Block.{IsBlockEnd}
+use Rattle.ddl_reader.specs.Statements.{begins_ddl, Means, IsMeaning, IsDdlFault, IsDdlRefusal}
+use Rattle.fault_line.specs.Tells.{IsFieldOf}
+use Rattle.heap.specs.Loading.{loaded, records_of}
+use Rattle.heap.specs.Stored.{Stored}
+use Rattle.answer.specs.Worlds.{World, stored_at}
+use Rattle.pgplan.specs.declared.end.End.{End}
+use Rattle.pgplan.specs.declared.end.End.TheVariants as ends
+use Rattle.pgplan.specs.Actions.{Action, after, make, fill}
+use Rattle.pgplan.specs.Ending.{end_of_refusal}
+use Rattle.pgplan.specs.Faults.{IsRefused, IsMeaningFault, IsFaultOver}
+use Rattle.pgplan.specs.Reads.{end_of, Carries, Does}
+use Rattle.pgplan.specs.Replies.{IsReply, no_reply}
+use Rattle.pgplan.specs.Steps.{IsDefined, Refuses, RefusesDefinition}
+
+-- faults of words, of syntax and of names are in no record of data
+no-field : (c : Contents) (f : Fault) → f.rec ≡ 0 → IsFieldOf c f
+no-field c f none = λ field some. absurd (omega (arith, none, some))
+
+abbrev rec-of : {A : Type 0} → Result A Fault → ℕ
+rec-of (Ok v) = 0
+rec-of (Err f) = f.rec
+
+bound-plain : (o : Option SqlType) (w : Written) → rec-of (bound_by o w) ≡ 0
+bound-plain None w = refl
+bound-plain (Some t) w = refl
+
+before-plain : (r : Result Bound Fault) (rs : Result (List Bound) Fault) → rec-of r ≡ 0 → rec-of rs ≡ 0 → rec-of (before_all r rs) ≡ 0
+before-plain (Err f) rs one more = one
+before-plain (Ok b) (Err f) one more = more
+before-plain (Ok b) (Ok bs) one more = refl
+
+columns-plain : (ws : List Written) → rec-of (bound_all ws) ≡ 0
+columns-plain [] = refl
+columns-plain (w ∷ ws) = before-plain (bound w) (bound_all ws) (bound-plain (type_named w.kind) w) (columns-plain ws)
+
+limited-plain : (m : Reading) (left : List Bound) → rec-of (limited m left) ≡ 0
+limited-plain m [] = refl
+limited-plain m (b ∷ left) = refl
+
+table-plain : (name : List ℕ) (token : Token) (m : Result (List Bound) Fault) → rec-of m ≡ 0 → rec-of (table_of name token m) ≡ 0
+table-plain name token (Err f) none = none
+table-plain name token (Ok bs) none = limited-plain (table_reading name token bs) (drop 16 bs)
+
+either-plain : (b : Bool) (m : Reading) (f : Fault) → f.rec ≡ 0 → rec-of (cond b (Ok m) (Err f)) ≡ 0
+either-plain true m f none = refl
+either-plain false m f none = none
+
+data-plain : (o : Option TableNo) (name_at null_at : Token) (null : List ℕ) (start : ℕ) → rec-of (data_of o name_at null null_at start) ≡ 0
+data-plain None name_at null_at null start = refl
+data-plain (Some t) name_at null_at null start = either-plain (bytes_eq null null_text) _ _ refl
+
+after-plain : (text : List ℕ) (end : ℕ) (o : Option TableNo) (name_at null_at : Token) (null : List ℕ) (start : Result ℕ Fault) → IsDataStart text end start → rec-of (data_after o name_at null null_at start) ≡ 0
+after-plain text end o name_at null_at null (Err f) begins = ap (λ (g : Fault). g.rec) begins.1
+after-plain text end o name_at null_at null (Ok start) begins = data-plain o name_at null_at null start
+
+means-plain : (cat : Contents) (text : List ℕ) (tokens : List Token) (x : Statement) (r : Result Reading Fault) → Means cat text tokens x r → rec-of r ≡ 0
+means-plain cat text tokens (empty e) r means = absurd means
+means-plain cat text tokens (query q e) r means = absurd means
+means-plain cat text tokens (create_table n c cs e) r means = ap rec-of means ∙ table-plain (bytes_of n) (token_at tokens 2) (bound_all (columns_over (c ∷ cs) (drop 4 tokens))) (columns-plain (columns_over (c ∷ cs) (drop 4 tokens)))
+means-plain cat text tokens (copy n null) r (start, begins, means) = ap rec-of means ∙ after-plain text _ (table_named cat (bytes_of n)) _ _ null start begins
+
+module _ (w : World) (text : List ℕ) (tokens : List Token) where
+  names-fault : (x : Statement) (f : Fault) → Means w.contents text tokens x (Err f) → IsMeaningFault w text tokens x f
+  names-fault (empty e) f means = absurd means
+  names-fault (query q e) f means = absurd means
+  names-fault (create_table n c cs e) f means = inl means
+  names-fault (copy n null) f means = inl means
+
+  carried-fault : (x : Statement) (r : Reading) (f : Fault) → Means w.contents text tokens x (Ok r) → IsRefused w text r.definition r.at f → IsMeaningFault w text tokens x f
+  carried-fault (empty e) r f means because = absurd means
+  carried-fault (query q e) r f means because = absurd means
+  carried-fault (create_table n c cs e) r f means because = inr (r, means, because)
+  carried-fault (copy n null) r f means because = inr (r, means, because)
+
+  does : (x : Statement) (r : Reading) (action : Action) (next : ℕ) → Means w.contents text tokens x (Ok r) → Carries w text tokens r.definition action next → Does w text tokens x action next
+  does (empty e) r action next means carries = absurd means
+  does (query q e) r action next means carries = absurd means
+  does (create_table n c cs e) r action next means carries = (r, means, carries)
+  does (copy n null) r action next means carries = (r, means, carries)
+
+  faulty : (r : Result Reading Fault) (f : Fault) (m : IsMeaning w.contents text tokens r) → IsMeaningFault w text tokens m.whole.statement.0 f → IsFaultOver w text tokens f
+  faulty r f m fault = inr (record { statement = m.whole.statement.0; spelled = m.whole.statement.2; within = m.whole.within; fault = fault })
+
+  means-of : (r : Result Reading Fault) (m : IsMeaning w.contents text tokens r) → Means w.contents text tokens m.whole.statement.0 r
+  means-of r m = m.means m.whole.statement.0 m.whole.statement.2
+
+  refused-by : (f : Fault) → IsDdlFault w.contents text tokens f true → IsFaultOver w text tokens f × IsFieldOf w.contents f
+  refused-by f (inl first) = (inl first, no-field w.contents f (ap (λ (g : Fault). g.rec) first.place))
+  refused-by f (inr m) =
+      let means = means-of (Err f) m in
+      (faulty (Err f) f m (names-fault m.whole.statement.0 f means), no-field w.contents f (means-plain w.contents text tokens m.whole.statement.0 (Err f) means))
+
+  -- what the reader refuses
+  pub read-refused : (r : Refusal) → begins_ddl (terminals text tokens) ≡ true → IsDdlRefusal w.contents text tokens r → Refuses (end_of_refusal r) w text tokens
+  read-refused (refusal.Fault f) opens h = refused-by f (subst (IsDdlFault w.contents text tokens f) opens h)
+  read-refused refusal.Memory opens h = tt
+
+  -- what is read and not carried out
+  pub definition-refused : (r : Reading) (e : End) → IsMeaning w.contents text tokens (Ok r) → RefusesDefinition e w text r.definition r.at → Refuses e w text tokens
+  definition-refused r (ends.Fault f) m h = (faulty (Ok r) f m (carried-fault m.whole.statement.0 r f (means-of (Ok r) m) h.0), h.1)
+  definition-refused r ends.Write m h = h
+  definition-refused r ends.Memory m h = tt
+
+  -- what is carried out
+  pub defined-as : (w' : World) (r : Reading) (action : Action) (next : ℕ) → IsMeaning w.contents text tokens (Ok r) → Carries w text tokens r.definition action next → IsReply w action no_reply → w' ≡ after w action →
+      IsDefined w w' text tokens next
+  defined-as w' r action next m carries reply is = (
+    action,
+    record { statement = m.whole.statement.0; spelled = m.whole.statement.2; within = m.whole.within; does = does m.whole.statement.0 r action next (means-of (Ok r) m) carries },
+    reply,
+    is,
+  )
+
+-- why a new table is refused is told without a text
+table-refused : (e : End) (w : World) (text name : List ℕ) (names : List (List ℕ)) (columns : List Column) (at : List ℕ) → RefusesDefinition e w [] (table name names columns) at → RefusesDefinition e w text (table name names columns) at
+table-refused (ends.Fault f) w text name names columns at h = h
+table-refused ends.Write w text name names columns at h = h
+table-refused ends.Memory w text name names columns at h = tt
+
+-- why data are refused is told without places
+data-refused : (e : End) (w : World) (text : List ℕ) (t : TableNo) (start : ℕ) (at : List ℕ) → RefusesDefinition e w text (data_for t start) [] → RefusesDefinition e w text (data_for t start) at
+data-refused (ends.Fault f) w text t start at h = h
+data-refused ends.Write w text t start at h = h
+data-refused ends.Memory w text t start at h = tt
+
+-- a reading by its definition
+seen : (v : Read) (d : Ddl) → v.ddl ≡ d → reading v ≡ record { definition = definition d; at = v.at.items; method = v.method }
+seen v d is = ap (λ (x : Ddl). record { definition = definition x; at = v.at.items; method = v.method }) is
+
+pub low-places : (text at places : List ℕ) → places ≡ at → length text ≤ 2 ^ 24 → All (λ a. a ≤ length text) at → All (λ a. a ≤ 2 ^ 31) places
+low-places text at places same short low k d lt =
+    let here = low k d (omega (arith, lt, ap length same)) in
+    let is = ap (λ (l : List ℕ). get_or l k d) same in
+    omega (arith, here, is, short)
+
+module _ (w : World) (text : List ℕ) (tokens : List Token) (v : Read) where
+  -- a new table that was read
+  module _ (name : List ℕ) (names : Vec (List ℕ) Global) (columns : List Column) (is : v.ddl ≡ Table name names columns) where
+    pub sound-table : IsSound w.contents text (reading v) → IsSoundTable text name names.items columns v.at.items
+    sound-table sound = subst (IsSound w.contents text) (seen v (Table name names columns) is) sound
+
+    module _ (m : IsMeaning w.contents text tokens (Ok (reading v))) where
+      table-means : IsMeaning w.contents text tokens (Ok (record { definition = table name names.items columns; at = v.at.items; method = v.method }))
+      table-means = subst (λ (r : Reading). IsMeaning w.contents text tokens (Ok r)) (seen v (Table name names columns) is) m
+
+      pub table-told : (at : List ℕ) → at ≡ v.at.items → (e : End) → RefusesDefinition e w [] (table name names.items columns) at → Refuses e w text tokens
+      table-told at same e h =
+          definition-refused w text tokens _ e table-means
+          (table-refused e w text name names.items columns v.at.items (subst (RefusesDefinition e w [] (table name names.items columns)) same h))
+
+      pub table-defined : (w' : World) (next : ℕ) → IsAcceptable w.contents name names.items → next ≡ end_of tokens → w' ≡ after w (make name names.items columns) → IsDefined w w' text tokens next
+      table-defined w' next accepted at made = defined-as w text tokens w' _ (make name names.items columns) next table-means (accepted, refl, at) refl made
+
+  -- data that were read
+  module _ (t : TableNo) (start : ℕ) (is : v.ddl ≡ Copy t start) where
+    pub sound-data : IsSound w.contents text (reading v) → IsTable w.contents t × (start ≤ length text)
+    sound-data sound = subst (IsSound w.contents text) (seen v (Copy t start) is) sound
+
+    module _ (m : IsMeaning w.contents text tokens (Ok (reading v))) where
+      data-means : IsMeaning w.contents text tokens (Ok (record { definition = data_for t start; at = v.at.items; method = v.method }))
+      data-means = subst (λ (r : Reading). IsMeaning w.contents text tokens (Ok r)) (seen v (Copy t start) is) m
+
+      pub data-told : (e : End) → RefusesDefinition e w text (data_for t start) [] → Refuses e w text tokens
+      data-told e h = definition-refused w text tokens _ e data-means (data-refused e w text t start v.at.items h)
+
+      pub data-defined : (w' : World) (next end : ℕ) (s : Stored) → IsBlockEnd text start end next → loaded (stored_at w t) (records_of (slice_range text start end)) ≡ Ok s → w' ≡ after w (fill t s) → IsDefined w w' text tokens next
+      data-defined w' next end s block ok filled = defined-as w text tokens w' _ (fill t s) next data-means (end, s, block, ok, refl) refl filled

@@ -1,0 +1,192 @@
+-- Where statements end.
+use Rattle.std.proofs.Common.{◌≡◌, ℕ, ◌+◌, ◌-◌, ◌<◌, ◌≤◌, inl, inr, Bool, true, false, List, [], ◌∷◌, ◌++◌, length, drop, map, suc, refl, sym, ap, ◌∙◌, arith, subst, cond, nat_eq, Contains, MatchBool, slice_range, Some, None, Option, Result, Ok, Err}
+use Rattle.std.specs.List.{list_all}
+use Rattle.std.specs.Str.{bytes_eq}
+use Rattle.std.proofs.lemmas.Bool.{cases_lt}
+use Rattle.std.proofs.lemmas.List.{length-map, length-drop, length-take, nil_from_length}
+use Rattle.std.proofs.lemmas.Option.{slice_get_within}
+use Rattle.std.proofs.lemmas.List.Elements.{All-contains}
+use Rattle.std.proofs.lemmas.List.Sums.{AllPass-from_list_all}
+use Rattle.pg_base.specs.declared.numbers.TableNo.{TableNo}
+use Rattle.pg_base.specs.declared.faults.Code.TheVariants.{S17}
+use Rattle.pg_base.specs.declared.faults.Fault.{Fault}
+use Rattle.pg_value.specs.declared.columns.Column.{Column}
+use Rattle.sql_lex.specs.declared.tokens.Kind.{Kind}
+use Rattle.sql_lex.specs.declared.tokens.Kind.TheVariants as kinds
+use Rattle.sql_lex.specs.declared.tokens.Token.{Token}
+use Rattle.sql_lex.specs.Forms.{IsToken, symbols}
+use Rattle.sql_lex.specs.Words.{AreWords, IsNext, is_last}
+use Rattle.sql_grammar.specs.Reading.{terminal_of}
+use Rattle.sql_grammar.specs.Terminals.{Ident}
+use Rattle.sql_grammar.specs.Syntax.{Statement, empty, create_table, query, copy}
+use Rattle.sql_grammar.specs.Words.{words_of}
+use Rattle.sql_grammar.specs.Faults.{bytes_of, terminals}
+use Rattle.sql_grammar.specs.CopyLine.{IsDataStart, after_blanks}
+use Rattle.ddl_reader.specs.Block.{lines_of, in_front, size_of, IsBlockEnd}
+use Rattle.catalog.specs.Tables.{table_named}
+use Rattle.ddl_reader.specs.Columns.{Bound, bound_all, columns_over}
+use Rattle.ddl_reader.specs.Places.{token_at, word_fault}
+use Rattle.ddl_reader.specs.Tables.{Definition, table, data_for, Reading, data_after, limited, null_text, table_of, table_reading}
+use Rattle.answer.specs.Worlds.{World}
+use Rattle.pgplan.specs.Actions.{Action}
+use Rattle.pgplan.specs.Reads.{end_of, Carries, Does, IsReadOver}
+
+-- some byte, tested by whether the list is empty
+abbrev some : List ℕ → Bool
+some [] = false
+some (b ∷ bs) = true
+
+symbols-some : list_all some symbols ≡ true
+symbols-some = refl
+
+no-symbol : Contains symbols [] → ⊥
+no-symbol one = let is : some [] ≡ true = All-contains (λ x. some x ≡ true) symbols [] (AllPass-from_list_all some symbols symbols-some) one in cc
+
+-- only the text's end is a token without a byte
+at-end : (kind : Kind) (bytes rest : List ℕ) → bytes ≡ [] → IsToken kind bytes rest → rest ≡ []
+at-end kinds.Word [] rest e h = absurd h.0
+at-end kinds.Number [] rest e h = absurd h.0
+at-end kinds.Quoted [] rest e h = absurd (let same = h.0.1 in cc)
+at-end kinds.Symbol [] rest e h = absurd (no-symbol h.0)
+at-end kinds.End [] rest e h = h.1
+at-end kind (b ∷ bytes) rest e h = absurd (let P : b ∷ bytes ≡ [] = e in cc)
+
+-- a token ends behind the place from which it is next
+ahead-token : (text : List ℕ) (from : ℕ) (t : Token) → IsNext text from t → from < length text → from < t.end
+ahead-token text from t is within = elim (cases_lt from t.end) [
+  | inl lt ↦ lt
+  | inr le ↦
+      let none : slice_range text t.start t.end ≡ [] = nil_from_length _ (length-take (t.end - t.start) (drop t.start text) ∙ omega (arith, le, is.order, is.gap.order)) in
+      let rest = at-end t.kind _ _ none is.form in
+      absurd (omega (arith, le, within, sym (length-drop t.end text) ∙ ap length rest))
+]
+
+-- the last token of some, behind another
+last-behind : (t u : Token) (ts : List Token) → end_of (t ∷ u ∷ ts) ≡ end_of (u ∷ ts)
+last-behind t u ts =
+    ap (λ (k : ℕ). (token_at (t ∷ u ∷ ts) k).end) (let e : length (t ∷ u ∷ ts) - 1 ≡ suc (length ts) = omega arith in e) ∙
+    sym (ap (λ (k : ℕ). (token_at (u ∷ ts) k).end) (let e : length (u ∷ ts) - 1 ≡ length ts = omega arith in e))
+
+-- the words of a statement end inside the text, behind the place at which they begin
+pub record EndsBehind (text : List ℕ) (from end : ℕ) : Type 0 where
+  pub behind : from ≤ end
+  pub ahead : from < length text → from < end
+  pub inside : end ≤ length text
+
+one-token : (text : List ℕ) (from : ℕ) (t : Token) → IsNext text from t → EndsBehind text from t.end
+one-token text from t is = record { behind = omega (arith, is.gap.order, is.order); ahead = ahead-token text from t is; inside = is.within }
+
+behind-more : (text : List ℕ) (from mid end : ℕ) → EndsBehind text from mid → EndsBehind text mid end → EndsBehind text from end
+behind-more text from mid end first second = record {
+  behind = omega (arith, first.behind, second.behind);
+  ahead = λ within. omega (arith, first.ahead within, second.behind);
+  inside = second.inside;
+}
+
+ends-behind-by : (text : List ℕ) (from : ℕ) (t : Token) (ts : List Token) (b : Bool) → ((from : ℕ) → AreWords text from ts → EndsBehind text from (end_of ts)) →
+    IsNext text from t → MatchBool b (ts ≡ []) (AreWords text t.end ts) → EndsBehind text from (end_of (t ∷ ts))
+ends-behind-by text from t [] true more is w = one-token text from t is
+ends-behind-by text from t [] false more is w = absurd w
+ends-behind-by text from t (u ∷ ts) true more is w = absurd (let P : u ∷ ts ≡ [] = w in cc)
+ends-behind-by text from t (u ∷ ts) false more is w =
+    let P : ℕ → Type 0 = λ n. EndsBehind text from n in
+    subst P (sym (last-behind t u ts)) (behind-more text from t.end (end_of (u ∷ ts)) (one-token text from t is) (more t.end w))
+
+pub ends-behind : (text : List ℕ) (from : ℕ) (tokens : List Token) → AreWords text from tokens → EndsBehind text from (end_of tokens)
+ends-behind text from [] w = absurd w
+ends-behind text from (t ∷ ts) w = ends-behind-by text from t ts (is_last text t) (λ f. ends-behind text f ts) w.0 w.1
+
+-- the lines of a text are as long as the text
+size-in-front : (b : ℕ) (lines : List (List ℕ)) → size_of (in_front b lines) ≡ size_of lines + 1
+size-in-front b [] = refl
+size-in-front b (line ∷ lines) = omega arith
+
+size-by : (b : ℕ) (e : Bool) (lines : List (List ℕ)) → size_of (cond e ((b ∷ []) ∷ lines) (in_front b lines)) ≡ size_of lines + 1
+size-by b true lines = omega arith
+size-by b false lines = size-in-front b lines
+
+size-lines : (text : List ℕ) → size_of (lines_of text) ≡ length text
+size-lines [] = refl
+size-lines (b ∷ bs) = size-by b (nat_eq b 10) (lines_of bs) ∙ omega (arith, size-lines bs)
+
+size-append : (xs ys : List (List ℕ)) → size_of (xs ++ ys) ≡ size_of xs + size_of ys
+size-append [] ys = omega arith
+size-append (x ∷ xs) ys = omega (arith, size-append xs ys)
+
+-- a block ends inside the text
+block-behind : (text : List ℕ) (start end next : ℕ) → start ≤ length text → IsBlockEnd text start end next → (start ≤ next) × (next ≤ length text)
+block-behind text start end next within is =
+    let sizes : length (drop start text) ≡ size_of is.before + (length is.mark + size_of is.after) =
+    sym (size-lines (drop start text)) ∙ ap size_of is.lines ∙ size-append is.before (is.mark ∷ is.after) in
+    (omega (arith, is.end_is, is.next_is), omega (arith, is.end_is, is.next_is, sizes, length-drop start text, within))
+
+-- data begin behind the statement, inside the text
+start-behind : (text : List ℕ) (from start : ℕ) → IsDataStart text from (Ok start) → (from < start) × (start ≤ length text)
+start-behind text from start is = (omega (arith, is.1), omega (arith, is.1, slice_get_within text (after_blanks text from) 10 is.0))
+
+carried-table : (w : World) (text : List ℕ) (tokens : List Token) (d : Definition) (action : Action) (next : ℕ) (name : List ℕ) (names : List (List ℕ)) (columns : List Column) →
+    d ≡ table name names columns → Carries w text tokens d action next → next ≡ end_of tokens
+carried-table w text tokens (table n ns cs) action next name names columns e c = c.2
+carried-table w text tokens (data_for t start) action next name names columns e c = cc
+
+carried-data : (w : World) (text : List ℕ) (tokens : List Token) (d : Definition) (action : Action) (next : ℕ) (t : TableNo) (start : ℕ) →
+    d ≡ data_for t start → start ≤ length text → Carries w text tokens d action next → (start ≤ next) × (next ≤ length text)
+carried-data w text tokens (table n ns cs) action next t start e within c = cc
+carried-data w text tokens (data_for u from) action next t start e within c =
+    let same : from ≡ start = cc in
+    let P : ℕ → Type 0 = λ s. (s ≤ next) × (next ≤ length text) in
+    subst P same (block-behind text from c.0 next (omega (arith, same, within)) c.2)
+
+is-table : (name : List ℕ) (token : Token) (bs : List Bound) (more : List Bound) (r : Reading) → Ok r ≡ limited (table_reading name token bs) more →
+    r.definition ≡ table name (map (λ b. b.name) bs) (map (λ b. b.column) bs)
+is-table name token bs [] r e = let same : r ≡ table_reading name token bs = cc in ap (λ (x : Reading). x.definition) same
+is-table name token bs (b ∷ more) r e = cc
+
+table-behind : (w : World) (text : List ℕ) (tokens : List Token) (action : Action) (next : ℕ) (name : List ℕ) (token : Token) (bound : Result (List Bound) Fault) (r : Reading) →
+    Ok r ≡ table_of name token bound → Carries w text tokens r.definition action next → next ≡ end_of tokens
+table-behind w text tokens action next name token (Err f) r e c = cc
+table-behind w text tokens action next name token (Ok bs) r e c =
+    carried-table w text tokens r.definition action next name _ _ (is-table name token bs (drop 16 bs) r e) c
+
+is-data : (t : Option TableNo) (name null_at : Token) (null : List ℕ) (same : Bool) (start : ℕ) (r : Reading) → (u : TableNo) →
+    Ok r ≡ cond same (Ok (record { definition = data_for u start; at = []; method = 0 })) (Err (word_fault S17 null_at)) → r.definition ≡ data_for u start
+is-data t name null_at null true start r u e = let is : r ≡ record { definition = data_for u start; at = []; method = 0 } = cc in ap (λ (x : Reading). x.definition) is
+is-data t name null_at null false start r u e = cc
+
+data-behind : (w : World) (text : List ℕ) (tokens : List Token) (action : Action) (next from : ℕ) (t : Option TableNo) (name null_at : Token) (null : List ℕ) (start : Result ℕ Fault) (r : Reading) →
+    IsDataStart text from start → Ok r ≡ data_after t name null null_at start → Carries w text tokens r.definition action next → (from < next) × (next ≤ length text)
+data-behind w text tokens action next from t name null_at null (Err f) r is e c = cc
+data-behind w text tokens action next from None name null_at null (Ok start) r is e c = cc
+data-behind w text tokens action next from (Some u) name null_at null (Ok start) r is e c =
+    let begins = start-behind text from start is in
+    let ends = carried-data w text tokens r.definition action next u start (is-data (Some u) name null_at null (bytes_eq null null_text) start r u e) begins.1 c in
+    (omega (arith, begins.0, ends.0), ends.1)
+
+copy-end : (text : List ℕ) (tokens : List Token) (n : Ident) (null : List ℕ) → words_of (copy n null) ≡ terminals text tokens → (token_at tokens 12).end ≡ end_of tokens
+copy-end text tokens n null e =
+    let long : length tokens ≡ 13 = sym (length-map tokens (terminal_of text)) ∙ sym (ap length e) in
+    ap (λ (k : ℕ). (token_at tokens k).end) (omega (arith, long))
+
+at-end-of : (text : List ℕ) (from next end : ℕ) → next ≡ end → EndsBehind text from end → EndsBehind text from next
+at-end-of text from next end e is = let P : ℕ → Type 0 = λ n. EndsBehind text from n in subst P (sym e) is
+
+behind-data : (text : List ℕ) (from mid end next : ℕ) → mid ≡ end → EndsBehind text from end → (mid < next) × (next ≤ length text) → EndsBehind text from next
+behind-data text from mid end next e is more = record {
+  behind = omega (arith, is.behind, e, more.0);
+  ahead = λ within. omega (arith, is.behind, e, more.0);
+  inside = more.1;
+}
+
+does-behind : (w : World) (text : List ℕ) (from : ℕ) (tokens : List Token) (x : Statement) (action : Action) (next : ℕ) →
+    AreWords text from tokens → words_of x ≡ terminals text tokens → Does w text tokens x action next → EndsBehind text from next
+does-behind w text from tokens (empty e) action next words spelled does = at-end-of text from next (end_of tokens) does.1 (ends-behind text from tokens words)
+does-behind w text from tokens (query q e) action next words spelled does = at-end-of text from next (end_of tokens) does.3 (ends-behind text from tokens words)
+does-behind w text from tokens (create_table n c cs e) action next words spelled does =
+    at-end-of text from next (end_of tokens) (table-behind w text tokens action next (bytes_of n) (token_at tokens 2) (bound_all (columns_over (c ∷ cs) (drop 4 tokens))) does.0 does.1 does.2) (ends-behind text from tokens words)
+does-behind w text from tokens (copy n null) action next words spelled does =
+    behind-data text from (token_at tokens 12).end (end_of tokens) next (copy-end text tokens n null spelled) (ends-behind text from tokens words)
+    (data-behind w text tokens action next (token_at tokens 12).end (table_named w.contents (bytes_of n)) (token_at tokens 1) (token_at tokens 10) null does.1.0 does.0 does.1.1 does.1.2 does.2)
+
+-- a statement ends behind the place at which it begins, inside the text
+pub read-behind : (w : World) (text : List ℕ) (from : ℕ) (tokens : List Token) (action : Action) (next : ℕ) → AreWords text from tokens → IsReadOver w text tokens action next → EndsBehind text from next
+read-behind w text from tokens action next words is = does-behind w text from tokens is.statement action next words is.spelled is.does

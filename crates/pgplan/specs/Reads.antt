@@ -1,0 +1,50 @@
+-- Which statement begins at a place of a script, what it does, and where the next one begins (PostgreSQL manual, chapter SQL
+-- Commands).
+use Rattle.std.specs.Prelude.{◌≡◌, ℕ, ◌-◌, List, length, slice_range, Ok}
+use Rattle.sql_lex.specs.declared.tokens.Token.{Token}
+use Rattle.sql_lex.specs.Words.{AreWords}
+use Rattle.sql_grammar.specs.Syntax.{Statement, empty, create_table, query, copy}
+use Rattle.sql_grammar.specs.Words.{words_of}
+use Rattle.sql_grammar.specs.Faults.{terminals, AreWithinLimits}
+use Rattle.catalog.specs.Tables.{IsAcceptable}
+use Rattle.ddl_reader.specs.Block.{IsBlockEnd}
+use Rattle.ddl_reader.specs.Places.{token_at}
+use Rattle.ddl_reader.specs.Statements.{Means}
+use Rattle.ddl_reader.specs.Tables.{Definition, table, data_for, Reading}
+use Rattle.heap.specs.Loading.{records_of, loaded}
+use Rattle.heap.specs.Stored.{Stored}
+use Rattle.query_reader.specs.Binding.{bound}
+use Rattle.query_reader.specs.Written.{written_of}
+use Rattle.sql_query.specs.declared.prepared.Prepared.{Prepared}
+use Rattle.answer.specs.Worlds.{World, stored_at}
+use Rattle.pgplan.specs.Actions.{Action, idle, make, fill, answer}
+
+-- where the last token ends
+abbrev pub end_of : List Token → ℕ
+end_of tokens = (token_at tokens (length tokens - 1)).end
+
+-- what a definition does, and the offset after it: a table is accepted by the catalogue; data go up to the line that ends them,
+-- and the table takes them
+abbrev pub Carries : World → List ℕ → List Token → Definition → Action → ℕ → Type 0
+Carries w text tokens (table name names columns) action next = IsAcceptable w.contents name names × (action ≡ make name names columns) × (next ≡ end_of tokens)
+Carries w text tokens (data_for t start) action next =
+    (end : ℕ) × (s : Stored) × IsBlockEnd text start end next × (loaded (stored_at w t) (records_of (slice_range text start end)) ≡ Ok s) × (action ≡ fill t s)
+
+-- what a statement over its tokens does, and the offset after it
+abbrev pub Does : World → List ℕ → List Token → Statement → Action → ℕ → Type 0
+Does w text tokens (empty e) action next = (action ≡ idle) × (next ≡ end_of tokens)
+Does w text tokens (query q e) action next = (p : Prepared) × (bound w.contents (written_of q tokens) ≡ Ok p) × (action ≡ answer p) × (next ≡ end_of tokens)
+Does w text tokens (create_table n c cs e) action next =
+    (r : Reading) × Means w.contents text tokens (create_table n c cs e) (Ok r) × Carries w text tokens r.definition action next
+Does w text tokens (copy n null) action next = (r : Reading) × Means w.contents text tokens (copy n null) (Ok r) × Carries w text tokens r.definition action next
+
+-- the tokens are a statement that does this
+pub record IsReadOver (w : World) (text : List ℕ) (tokens : List Token) (action : Action) (next : ℕ) : Type 0 where
+  pub statement : Statement
+  pub spelled : words_of statement ≡ terminals text tokens
+  pub within : AreWithinLimits (terminals text tokens)
+  pub does : Does w text tokens statement action next
+
+-- the statement that begins at this place does this, and the next one begins at `next`
+abbrev pub IsRead : World → List ℕ → ℕ → Action → ℕ → Type 0
+IsRead w text from action next = (tokens : List Token) × AreWords text from tokens × IsReadOver w text tokens action next

@@ -1,0 +1,125 @@
+//! CREATE TABLE and COPY, carried out.
+
+ghost use Rattle.std.specs.Prelude.{◌≡◌, ◌≤◌, ◌+◌, ◌^◌, ◌<◌, ℕ, All, IfErr, IfOk, Ok, OnErr, OnOk, length, slice_range, true, []};
+ghost use Rattle.sql_lex.specs.Words.{AreWords};
+ghost use Rattle.sql_grammar.specs.Faults.{terminals};
+ghost use Rattle.catalog.specs.Contents.{IsTable};
+ghost use Rattle.catalog.specs.Names.{IsName};
+ghost use Rattle.catalog.specs.Tables.{IsAcceptable};
+ghost use Rattle.ddl_reader.specs.Block.{IsBlockEnd};
+ghost use Rattle.ddl_reader.specs.Statements.{begins_ddl};
+ghost use Rattle.ddl_reader.specs.Tables.{data_for, table as table_of};
+ghost use Rattle.heap.specs.Loading.{loaded, records_of};
+ghost use Rattle.heap.specs.Stored.{Stored};
+ghost use Rattle.answer.specs.Worlds.{IsWorld, stored_at, world};
+ghost use Rattle.pgplan.specs.Actions as actions;
+ghost use Rattle.pgplan.specs.Reads.{end_of as end_of_tokens};
+ghost use Rattle.pgplan.specs.Steps.{IsDefined, Refuses, RefusesDefinition};
+
+use crate::end::End;
+use crate::faults::{catalogue_fault, data_fault, endless, word_ends};
+use crate::store::{fill, make};
+use catalog::Catalog;
+use ddl_reader::{Ddl, Read, block_end, read_ddl};
+use heap::Heap;
+use pg_base::TableNo;
+use pg_value::{Bytes, Columns};
+use sql_lex::Tokens;
+use std::alloc::Global;
+use std::sync::ledger::Ledger;
+
+/// Carries out the definition of these tokens and gives the offset after it. A refused one changes nothing.
+pub(crate) fn define<L: Ledger>(
+    alloc: Global,
+    text: &[u8],
+    tokens: &Tokens,
+    catalog: &mut Catalog,
+    heaps: &mut Vec<Heap<L>>,
+) -> Result<u32, End>
+    requires short { length text.now ≤ 2 ^ 24 }
+    requires words { (from : ℕ) × AreWords text.now from tokens.now }
+    requires opens { begins_ddl (terminals text.now tokens.now) ≡ true }
+    requires world { IsWorld (world catalog.old heaps.old.items) }
+    ensures defined { IfOk result (IsDefined (world catalog.old heaps.old.items) (world catalog.new heaps.new.items) text.now tokens.now) }
+    ensures refused { IfErr result (λ e. Refuses e (world catalog.old heaps.old.items) text.now tokens.now) }
+    ensures world { IsWorld (world catalog.new heaps.new.items) }
+    ensures unchanged { OnErr result ((catalog.new ≡ catalog.old) × (heaps.new.items ≡ heaps.old.items)) }
+{
+    let read = read_ddl(alloc, catalog, text, tokens)?;
+    let Read { ddl, at, .. } = read;
+    match ddl {
+        Ddl::Table {
+            name,
+            names,
+            columns,
+        } => {
+            table(alloc, catalog, heaps, &at, name, names, columns)?;
+            Ok(end_of(tokens))
+        }
+        Ddl::Copy { table, start } => data(catalog, heaps, text, table, start),
+    }
+}
+
+/// Makes the table whose name and columns' names stand at these offsets.
+fn table<L: Ledger>(
+    alloc: Global,
+    catalog: &mut Catalog,
+    heaps: &mut Vec<Heap<L>>,
+    at: &[u32],
+    name: Bytes,
+    names: Vec<Bytes>,
+    columns: Columns,
+) -> Result<(), End>
+    requires world { IsWorld (world catalog.old heaps.old.items) }
+    requires width { length names.items ≡ length columns }
+    requires name { IsName name }
+    requires names { All IsName names.items }
+    requires places { length at.now ≡ length names.items + 1 }
+    requires within { All (λ a. a ≤ 2 ^ 31) at.now }
+    ensures accepted { OnOk result (IsAcceptable catalog.old name names.items) }
+    ensures made { OnOk result (world catalog.new heaps.new.items ≡ actions.after (world catalog.old heaps.old.items) (actions.make name names.items columns)) }
+    ensures refused { IfErr result (λ e. RefusesDefinition e (world catalog.old heaps.old.items) [] (table_of name names.items columns) at.now) }
+    ensures world { IsWorld (world catalog.new heaps.new.items) }
+    ensures unchanged { OnErr result ((catalog.new ≡ catalog.old) × (heaps.new.items ≡ heaps.old.items)) }
+{
+    let ends = word_ends(alloc, at, &name, &names)?;
+    match make(alloc, catalog, heaps, name, names, columns) {
+        Ok(()) => Ok(()),
+        Err(refused) => Err(catalogue_fault(refused, at, &ends)),
+    }
+}
+
+/// Loads the COPY data that begin at an offset into a table, and gives the offset after the line that ends them.
+fn data<L: Ledger>(
+    catalog: &mut Catalog,
+    heaps: &mut Vec<Heap<L>>,
+    text: &[u8],
+    table: TableNo,
+    start: u32,
+) -> Result<u32, End>
+    requires short { length text.now ≤ 2 ^ 24 }
+    requires start { start ≤ length text.now }
+    requires world { IsWorld (world catalog.old heaps.old.items) }
+    requires table { IsTable catalog.old table }
+    ensures loaded { IfOk result (λ next. (end : ℕ) × (s : Stored) × IsBlockEnd text.now start end next × (loaded (stored_at (world catalog.old heaps.old.items) table) (records_of (slice_range text.now start end)) ≡ Ok s) × (world catalog.new heaps.new.items ≡ actions.after (world catalog.old heaps.old.items) (actions.fill table s))) }
+    ensures refused { IfErr result (λ e. RefusesDefinition e (world catalog.old heaps.old.items) text.now (data_for table start) []) }
+    ensures world { IsWorld (world catalog.new heaps.new.items) }
+    ensures unchanged { OnErr result ((catalog.new ≡ catalog.old) × (heaps.new.items ≡ heaps.old.items)) }
+{
+    let Some((end, next)) = block_end(text, start) else {
+        return Err(End::Fault(endless(start)));
+    };
+    match fill(catalog, heaps, table, &text[start as usize..end as usize]) {
+        Ok(()) => Ok(next),
+        Err(refused) => Err(data_fault(refused, table, start)),
+    }
+}
+
+/// Where the last token ends.
+pub(crate) fn end_of(tokens: &Tokens) -> u32
+    requires { 0 < length tokens.now }
+    ensures { result ≡ end_of_tokens tokens.now }
+{
+    let items = tokens.items();
+    items[items.len() - 1].end
+}

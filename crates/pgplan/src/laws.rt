@@ -1,0 +1,22 @@
+//! What follows from the definitions of statements.
+
+ghost use Rattle.std.specs.Prelude.{◌≡◌, ◌<◌, ◌≤◌, ℕ, List, length};
+ghost use Rattle.pg_base.specs.declared.faults.Fault.{Fault};
+ghost use Rattle.answer.specs.Worlds.{World};
+ghost use Rattle.pgplan.specs.Actions.{Action};
+ghost use Rattle.pgplan.specs.Reads.{IsRead};
+ghost use Rattle.pgplan.specs.Faults.{IsFault};
+
+/// A statement ends behind the place at which it begins, and inside the text.
+pub fn statements_go_on()
+    ensures ahead { (w : World) (text : List ℕ) (from next : ℕ) (action : Action) → from < length text → IsRead w text from action next → from < next }
+    ensures inside { (w : World) (text : List ℕ) (from next : ℕ) (action : Action) → from ≤ length text → IsRead w text from action next → next ≤ length text }
+{}
+
+/// A statement has one reading from each place on: one action and one end, or one first fault, and
+/// not both.
+pub fn one_reading()
+    ensures read { (w : World) (text : List ℕ) (from m n : ℕ) (a b : Action) → IsRead w text from a m → IsRead w text from b n → (a ≡ b) × (m ≡ n) }
+    ensures fault { (w : World) (text : List ℕ) (from : ℕ) (f g : Fault) → IsFault w text from f → IsFault w text from g → f ≡ g }
+    ensures apart { (w : World) (text : List ℕ) (from n : ℕ) (a : Action) (f : Fault) → IsRead w text from a n → IsFault w text from f → ⊥ }
+{}

@@ -1,73 +1,306 @@
 #!/usr/bin/env python3
-"""Runs pgplan on random scripts of the built form, right and wrong ones, and has each answer judged by a reference.
+"""Runs pgplan on random scripts, right and broken ones, and has each answer judged by a reference.
 
 usage: judge_scripts.py JUDGE PROGRAM [COUNT [SEED]]
 
-JUDGE is a program called as `JUDGE judge --stage 1 SCRIPT OUT ERRORS STATUS` that exits with 0 where the answer is allowed.
+COUNT right scripts and COUNT broken ones are made (500 each where it is not given). JUDGE is a program called as
+`JUDGE judge --stage 2 --allow '' SCRIPT OUT ERRORS STATUS` that exits with 0 where the answer is allowed. A right script has to
+end with status 0.
 """
+import collections
 import pathlib
 import random
 import subprocess
 import sys
 import tempfile
 
-CREATE = "CREATE TABLE t (a int8);\n"
-COPY = "COPY t FROM STDIN WITH (FORMAT CSV, NULL '\\N');\n"
-SELECT = "SELECT * FROM t;\n"
+TYPES = {
+    "int2": ("int2", "smallint"),
+    "int4": ("int4", "int", "integer"),
+    "int8": ("int8", "bigint"),
+    "text": ("text",),
+    "bool": ("bool", "boolean"),
+}
+LIMITS = {"int2": 2**15, "int4": 2**31, "int8": 2**63}
+NAMES = ["t", "u", "orders", "line_items", "x1", "a$b", "_k", "copy", "stdin", "format", "csv", "region", "qty", "statistics"]
+RESERVED = ["select", "table", "from", "null", "order", "where", "as"]
+TRUTHS = ["t", "true", "TRUE", "y", "yes", "on", "1", "f", "false", "no", "off", "0", "N", " t ", "tru"]
+NO_TRUTHS = ["", "o", "2", "truex", "nein", "tr ue"]
+NO_NUMBERS = ["", "x", "1.5", "--1", "0x10", "1_000", "1 2", "+", "1e3"]
 
 
-def data_line(rng):
-    return "".join(rng.choice("0123456789") for _ in range(rng.randint(1, 18)))
+class Table:
+    def __init__(self, name, columns):
+        self.name, self.columns = name, columns
+
+
+def in_any_case(rng, word):
+    kind = rng.randrange(4)
+    if kind == 0:
+        return word.upper()
+    if kind == 1:
+        return "".join(rng.choice((c.upper(), c)) for c in word)
+    return word
+
+
+def gap(rng):
+    return rng.choice([" ", " ", " ", "  ", "\n", "\t", " /* a /* nested */ one */ ", " -- to the end\n", "\r\n", "\f"])
+
+
+def spaced(rng, words):
+    """The words with white space and comments between them, and none where none is needed."""
+    text = words[0]
+    for before, word in zip(words, words[1:]):
+        needed = (before[-1].isalnum() or before[-1] in "_$") and (word[0].isalnum() or word[0] == "_")
+        text += (gap(rng) if needed or rng.random() < 0.3 else "") + word
+    return text
+
+
+def new_name(rng, taken):
+    while True:
+        name = rng.choice(NAMES) if rng.random() < 0.7 else rng.choice("abcdefgz_") + "".join(
+            rng.choice("abcxyz019_$") for _ in range(rng.choice([0, 1, 3, 8, 62])))
+        if name not in taken and name not in RESERVED and name not in (
+                "and", "asc", "create", "cross", "desc", "false", "group", "inner", "is", "join", "limit", "not", "offset", "on",
+                "or", "true", "using", "with"):
+            return name
+
+
+def create(rng, table):
+    words = [in_any_case(rng, "create"), in_any_case(rng, "table"), in_any_case(rng, table.name), "("]
+    for number, (name, kind, not_null) in enumerate(table.columns):
+        if number:
+            words.append(",")
+        words += [in_any_case(rng, name), in_any_case(rng, rng.choice(TYPES[kind]))]
+        if not_null:
+            words += [in_any_case(rng, "not"), in_any_case(rng, "null")]
+        elif rng.random() < 0.2:
+            words.append(in_any_case(rng, "null"))
+    return words + [")"]
+
+
+def number(rng, kind):
+    limit = LIMITS[kind]
+    value = rng.choice([0, 1, -1, 7, limit - 1, -limit, rng.randrange(-limit, limit), rng.randrange(100)])
+    text = str(value) if value < 0 or rng.random() < 0.8 else "+" + str(value)
+    if rng.random() < 0.1:
+        text = text.replace("-", "-00") if "-" in text else "00" + text.lstrip("+")
+    if rng.random() < 0.1:
+        text = rng.choice([" ", "\t", ""]) + text + rng.choice([" ", "\f", ""])
+    return text
+
+
+def text_value(rng):
+    return rng.choice(["", "x", "Ann", "a,b", 'say "no"', "two\nlines", "N", "\\", "\\n", " \\N", "naïve", "1", "\r", ";", "a" * rng.choice([1, 100, 8192])])
+
+
+def quoted(text):
+    return '"' + text.replace('"', '""') + '"'
+
+
+def field(rng, kind, not_null, alone):
+    if not not_null and rng.random() < 0.2:
+        return rng.choice(["\\N", "\\N", '"\\N"'])
+    if kind == "bool":
+        text = rng.choice(TRUTHS)
+    elif kind == "text":
+        text = text_value(rng)
+    else:
+        text = number(rng, kind)
+    if any(c in text for c in ',"\n\r') or (text == "" and alone) or text == "\\." or rng.random() < 0.1:
+        return quoted(text)
+    return text
+
+
+def record(rng, table):
+    alone = len(table.columns) == 1
+    return ",".join(field(rng, kind, not_null, alone) for _, kind, not_null in table.columns)
+
+
+def copy(rng, table, records, null="'\\N'"):
+    end = rng.choice(["\n", "\n", "\r\n"])
+    words = [in_any_case(rng, w) for w in ("copy", table.name, "from", "stdin", "with")]
+    words += ["(", in_any_case(rng, "format"), in_any_case(rng, "csv"), ",", in_any_case(rng, "null"), null, ")"]
+    text = spaced(rng, words) + rng.choice(["", " "]) + ";" + rng.choice(["", "", " ", "\t \r"]) + "\n"
+    if rng.random() < 0.1:
+        records = [*records[:1], "", *records[1:]]
+    return text + "".join(r + end for r in records) + "\\." + rng.choice(["\n", "\n", "\r\n"])
+
+
+def select(rng, table):
+    alias = rng.choice([None, None, "u", "t", "Alias", "copy", table.name])
+    shown = (alias or table.name)
+    names = [name for name, _, _ in table.columns]
+    words = [in_any_case(rng, "select")]
+    for number in range(rng.choice([1, 1, 1, 2, 3, 6])):
+        if number:
+            words.append(",")
+        kind = rng.randrange(4)
+        if kind == 0:
+            words.append("*")
+        elif kind == 1:
+            words += [in_any_case(rng, shown), ".", "*"]
+        elif kind == 2:
+            words.append(in_any_case(rng, rng.choice(names)))
+        else:
+            words += [in_any_case(rng, shown), ".", in_any_case(rng, rng.choice(names))]
+    words += [in_any_case(rng, "from"), in_any_case(rng, table.name)]
+    if alias is not None:
+        if rng.random() < 0.5:
+            words.append(in_any_case(rng, "as"))
+        words.append(in_any_case(rng, alias))
+    return words
+
+
+def new_table(rng, tables):
+    count = rng.choice([1, 1, 2, 3, 4, 16])
+    taken = []
+    for _ in range(count):
+        taken.append(new_name(rng, taken))
+    columns = [(name, rng.choice(list(TYPES)), rng.random() < 0.2) for name in taken]
+    return Table(new_name(rng, [t.name for t in tables]), columns)
+
+
+def statements(rng):
+    """The statements of a right script, each a text with its end."""
+    tables, parts = [], []
+    for _ in range(rng.choice([0, 1, 2, 3, 5, 8, 12])):
+        kind = rng.randrange(10)
+        if kind < 3 or not tables:
+            tables.append(new_table(rng, tables))
+            parts.append(spaced(rng, create(rng, tables[-1])) + ";")
+        elif kind < 6:
+            table = rng.choice(tables)
+            many = rng.choice([0, 1, 2, 3, 3, 10, 99, 100, 101, 250])
+            parts.append(copy(rng, table, [record(rng, table) for _ in range(many)]))
+        elif kind < 9:
+            parts.append(spaced(rng, select(rng, rng.choice(tables))) + ";")
+        else:
+            parts.append(rng.choice([";", " ;", "-- nothing\n;", "\n"]))
+    return tables, parts
 
 
 def right_script(rng):
-    if rng.random() < 0.05:
-        return ""
-    if rng.random() < 0.2:
-        return CREATE + SELECT
-    lines = [data_line(rng) for _ in range(rng.choice([0, 1, 2, 3, 10, 99, 100, 101, 250]))]
-    return CREATE + COPY + "".join(line + "\n" for line in lines) + "\\.\n" + SELECT
+    _, parts = statements(rng)
+    text = "".join(part + rng.choice(["", "\n", "\n", gap(rng)]) for part in parts)
+    if rng.random() < 0.2 and text.rstrip().endswith(";") and "COPY" not in text.upper():
+        text = text.rstrip()[:-1]
+    return text
 
 
-def wrong_script(rng):
-    text = right_script(rng) or CREATE
+def broken_data(rng, table):
+    """One record at fault among others."""
+    records = [record(rng, table) for _ in range(rng.randint(0, 4))]
+    number = rng.randrange(len(table.columns))
+    name, kind, not_null = table.columns[number]
+    fields = [field(rng, k, n, False) for _, k, n in table.columns]
+    choice = rng.randrange(5)
+    if choice == 0:
+        fields = fields[:-1] if len(fields) > 1 and rng.random() < 0.5 else [*fields, "1"]
+    elif choice == 1 and kind in LIMITS:
+        fields[number] = str(rng.choice([LIMITS[kind], -LIMITS[kind] - 1, 10**30]))
+    elif choice == 2 and kind != "text":
+        fields[number] = rng.choice(NO_TRUTHS if kind == "bool" else NO_NUMBERS) or '""'
+    elif choice == 3 and not_null:
+        fields[number] = "\\N"
+    elif kind == "text":
+        fields[number] = "a" * 8193
+    else:
+        fields.append("")
+    records.insert(rng.randint(0, len(records)), ",".join(fields))
+    return records
+
+
+def broken_statement(rng, tables):
+    table = rng.choice(tables)
+    names = [name for name, _, _ in table.columns]
+    kind = rng.randrange(16)
+    if kind == 0:
+        return spaced(rng, create(rng, table)) + ";"
+    if kind == 1:
+        columns = [*table.columns[:3], (names[0], "int4", False)]
+        return spaced(rng, create(rng, Table("fresh", columns))) + ";"
+    if kind == 2:
+        return "CREATE TABLE fresh (a int4, b %s, c money);" % rng.choice(["int9", "varchar", "float8"])
+    if kind == 3:
+        return "CREATE TABLE fresh (" + ", ".join(f"c{n} int4" for n in range(rng.choice([17, 20]))) + ");"
+    if kind == 4:
+        return "".join(f"CREATE TABLE many{n} (a int4);\n" for n in range(65))
+    if kind == 5:
+        return copy(rng, Table("missing", table.columns), [])
+    if kind == 6:
+        return copy(rng, table, [], rng.choice(["''", "'NULL'", "'\\n'", "'\\N '"]))
+    if kind == 7:
+        return copy(rng, table, broken_data(rng, table))
+    if kind == 8:
+        return copy(rng, table, [record(rng, table)])[:-3] + rng.choice(["", " \\.", "\\. \n"])
+    if kind == 9:
+        return f"SELECT * FROM {rng.choice(['missing', 'nowhere n'])};"
+    if kind == 10:
+        return f"SELECT {rng.choice(names)}, Missing FROM {table.name};"
+    if kind == 11:
+        return f"SELECT {table.name}.{names[0]} FROM {table.name} other;"
+    if kind == 12:
+        return f"SELECT other.{names[0]}, other.nothing FROM {table.name} AS other;"
+    if kind == 13:
+        return f"SELECT missing.* FROM {table.name};"
+    if kind == 14:
+        return "CREATE TABLE " + "n" * 64 + " (a int4);"
+    return rng.choice([
+        f"SELECT * FROM {table.name} x y;", f"SELECT FROM {table.name};", "EXPLAIN;", "CREATE INDEX;", "SELECT * FROM;", "foo;",
+        "CREATE TABLE (a int4);", "CREATE TABLE fresh ();", "CREATE TABLE fresh (a int4,);", "CREATE TABLE select (a int4);",
+        "'open", "/* open", "1a;", "#;", "COPY t;", f"SELECT *, FROM {table.name};", f"SELECT * FROM {table.name} WHERE true;",
+        f"SELECT a b FROM {table.name};", "CREATE TABLE fresh (a int4 NOT);", f"SELECT * FROM {table.name}, {table.name};"])
+
+
+def cut_up(rng, text):
     for _ in range(rng.randint(1, 3)):
         at = rng.randrange(len(text) + 1)
-        kind = rng.randrange(4)
+        kind = rng.randrange(3)
         if kind == 0:
-            text = text[:at] + rng.choice(" \n\r0a;\\.,-") + text[at:]
+            text = text[:at] + rng.choice(" \n\r0a;\\.,-'\"()*/$") + text[at:]
         elif kind == 1:
             text = text[:at] + text[at + 1:]
-        elif kind == 2:
+        elif rng.random() < 0.3:
             text = text[:at]
-        else:
-            lines = text.splitlines(keepends=True)
-            rng.shuffle(lines)
-            text = "".join(lines)
-        if not text:
-            break
     return text
+
+
+def broken_script(rng):
+    tables, parts = statements(rng)
+    if not tables:
+        tables = [new_table(rng, [])]
+        parts.append(spaced(rng, create(rng, tables[0])) + ";")
+    if rng.random() < 0.3:
+        return cut_up(rng, "\n".join(parts))
+    parts.append(broken_statement(rng, tables))
+    parts.append(spaced(rng, select(rng, tables[0])) + ";")
+    return "\n".join(parts)
 
 
 def main():
     judge, program = sys.argv[1], sys.argv[2]
-    count = int(sys.argv[3]) if len(sys.argv) > 3 else 300
+    count = int(sys.argv[3]) if len(sys.argv) > 3 else 500
     rng = random.Random(int(sys.argv[4]) if len(sys.argv) > 4 else 1)
-    failed = 0
+    failed, statuses = 0, collections.Counter()
     with tempfile.TemporaryDirectory() as folder:
         names = [pathlib.Path(folder, name) for name in ("script", "out", "errors")]
-        for number in range(count):
-            script = right_script(rng) if rng.random() < 0.5 else wrong_script(rng)
+        for number in range(2 * count):
+            right = number < count
+            script = right_script(rng) if right else broken_script(rng)
             ran = subprocess.run([program, "run"], input=script.encode(), capture_output=True)
             for path, data in zip(names, (script.encode(), ran.stdout, ran.stderr)):
                 path.write_bytes(data)
             verdict = subprocess.run(
-                [sys.executable, judge, "judge", "--stage", "1", "--allow", "", *map(str, names), str(ran.returncode)],
+                [sys.executable, judge, "judge", "--stage", "2", "--allow", "", *map(str, names), str(ran.returncode)],
                 capture_output=True, text=True)
-            if verdict.returncode != 0:
+            statuses["right" if right else "broken", ran.returncode, ran.stderr.decode()[:11]] += 1
+            if verdict.returncode != 0 or (right and ran.returncode != 0):
                 failed += 1
-                print(f"script {number}: {verdict.stdout.strip()}\n{script[:400]}")
-    print(f"{count - failed} passed, {failed} failed")
+                print(f"script {number}: status {ran.returncode} {ran.stderr!r} {verdict.stdout.strip()}\n{script[:400]}")
+    for (kind, status, line), times in sorted(statuses.items()):
+        print(f"{times:5} {kind:6} status {status} {line}")
+    print(f"{2 * count - failed} passed, {failed} failed")
     sys.exit(1 if failed else 0)
 
 

@@ -1,3 +1,5 @@
 pub mod Tokens
 pub mod Names
 pub mod Next
+pub mod Named
+pub mod Pieces

@@ -50,7 +50,7 @@ mark-no-quoted b =
     either-not (nat_eq b 40) _ _ _ (λ e. absurd (cc)) (either-not (nat_eq b 41) _ _ _ (λ e. absurd (cc)) (either-not (nat_eq b 44) _ _ _ (λ e. absurd (cc)) (either-not (nat_eq b 46) _ _ _ (λ e. absurd (cc))
     (either-not (nat_eq b 45) _ _ _ (λ e. absurd (cc)) (either-not (nat_eq b 42) _ _ _ (λ e. absurd (cc)) (either-not (nat_eq b 59) _ _ _ (λ e. absurd (cc)) (λ e. absurd (cc))))))))
 
-symbol-name : (bytes : List ℕ) (w : Option Free) → class_of (symbol_terminal bytes) ≡ Name w → ⊥
+pub symbol-name : (bytes : List ℕ) (w : Option Free) → class_of (symbol_terminal bytes) ≡ Name w → ⊥
 symbol-name [] w e = absurd (cc)
 symbol-name (b ∷ []) w e = mark-no-name b w e
 symbol-name (b ∷ c ∷ bs) w e = absurd (cc)

@@ -2,6 +2,8 @@
 #![tactic(auto)]
 
 mod cursor;
+mod laws;
 mod values;
 
 pub use cursor::{Cursor, Spelled};
+pub use laws::names_among_words;

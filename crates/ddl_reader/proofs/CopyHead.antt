@@ -11,12 +11,12 @@ use Rattle.sql_grammar.specs.declared.class.Symbol.TheVariants.{Open, Close, Com
 use Rattle.sql_grammar.specs.Terminals.{Terminal, Ident, free, t_key, t_mark, t_name, t_quoted, t_semicolon}
 use Rattle.sql_grammar.specs.Syntax.{copy}
 use Rattle.sql_grammar.specs.Words.{words_of}
-use Rattle.sql_grammar.specs.Faults.{bytes_of}
+use Rattle.sql_grammar.specs.Faults.{bytes_of, fault_at}
 use Rattle.sql_cursor.specs.Pieces.{Piece, piece, words, places, token_of}
 use Rattle.sql_cursor.specs.Reading.{BeginsName, BeginsNot, BeginsQuoted}
 use Rattle.catalog.specs.Contents.{Contents}
 use Rattle.catalog.specs.Tables.{table_named}
-use Rattle.ddl_reader.specs.Places.{token_at, word_fault, no_token}
+use Rattle.ddl_reader.specs.Places.{token_at, no_token}
 use Rattle.ddl_reader.specs.Tables.{data_for, data_of, null_text}
 use Rattle.ddl_reader.proofs.Parts.{head, named, some-name}
 use Rattle.ddl_reader.proofs.Bindings.{after-words}
@@ -60,7 +60,7 @@ module _ (n : Ident) (null : List ℕ) (old p1 : List Piece) (e : words old ≡ 
     name-place = at-drop old 1 ∙ (ap (λ l. token_at (places l) 0) (sym skipped) ∙ ap (λ l. token_at (places l) 0) name-pieces)
 
     pub unknown : (cat : Contents) (null_at : Token) (start : ℕ) → table_named cat bytes ≡ None →
-        data_of (table_named cat (bytes_of n)) (token_at (places old) 1) null null_at start ≡ Err (word_fault S2 token)
+        data_of (table_named cat (bytes_of n)) (token_at (places old) 1) null null_at start ≡ Err (fault_at S2 token)
     unknown cat null_at start none = rw (spelled, none, name-place) refl
 
     module _ (p3 : List Piece) (passed : p3 ≡ drop 8 p2) where
@@ -81,7 +81,7 @@ module _ (n : Ident) (null : List ℕ) (old p1 : List Piece) (e : words old ≡ 
         null-place = at-drop old 10 ∙ (ap (λ l. token_at (places l) 0) (sym tenth) ∙ ap (λ l. token_at (places l) 0) is)
 
         pub other-text : (cat : Contents) (t : TableNo) (start : ℕ) → table_named cat bytes ≡ Some t → bytes_eq value null_text ≡ false →
-            data_of (table_named cat (bytes_of n)) (token_at (places old) 1) null (token_at (places old) 10) start ≡ Err (word_fault S17 place)
+            data_of (table_named cat (bytes_of n)) (token_at (places old) 1) null (token_at (places old) 10) start ≡ Err (fault_at S17 place)
         other-text cat t start some differs = rw (spelled, some, ← value-is, differs, null-place) refl
 
         pub this-text : (cat : Contents) (t : TableNo) (start : ℕ) → table_named cat bytes ≡ Some t → bytes_eq value null_text ≡ true →

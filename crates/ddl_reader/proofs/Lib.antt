@@ -7,5 +7,4 @@ pub mod Opened
 pub mod CopyHead
 pub mod TokenLaws
 pub mod StatementLaws
-pub mod Named
 pub mod SoundLaws

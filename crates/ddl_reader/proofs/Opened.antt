@@ -10,12 +10,12 @@ use Rattle.sql_lex.specs.declared.tokens.Token.{Token}
 use Rattle.sql_grammar.specs.declared.class.Symbol.TheVariants.{Open}
 use Rattle.sql_grammar.specs.Terminals.{Terminal, Ident, t_mark, t_name}
 use Rattle.sql_grammar.specs.Syntax.{ColDef}
-use Rattle.sql_grammar.specs.Faults.{bytes_of}
+use Rattle.sql_grammar.specs.Faults.{bytes_of, fault_at}
 use Rattle.sql_cursor.specs.Pieces.{Piece, words, places, token_of}
 use Rattle.sql_cursor.specs.Reading.{BeginsName}
 use Rattle.ddl_reader.specs.declared.ddl.Read.{Read}
 use Rattle.ddl_reader.specs.declared.columns.ColumnDef.{ColumnDef}
-use Rattle.ddl_reader.specs.Places.{token_at, word_fault}
+use Rattle.ddl_reader.specs.Places.{token_at}
 use Rattle.ddl_reader.specs.Columns.{Bound, columns_over, bound_all}
 use Rattle.ddl_reader.specs.Reads.{Reads, seen}
 use Rattle.ddl_reader.specs.Tables.{Reading, table_reading, limited, table_of}
@@ -47,7 +47,7 @@ module _ (n : Ident) (body : List Terminal) (bytes : List ℕ) (token : Token) (
   means r is = rw (o.spelled, o.at, o.places, is) refl
 
 pub past : (bytes : List ℕ) (token : Token) (ds : List ColumnDef) (x : ColumnDef) → 16 < length ds → x ≡ get_or ds 16 x →
-    table_of bytes token (Ok (map seen ds)) ≡ Err (word_fault (S15 Columns) x.name.token)
+    table_of bytes token (Ok (map seen ds)) ≡ Err (fault_at (S15 Columns) x.name.token)
 past bytes token ds x lt is =
     let seventeenth = drop-map seen 16 ds ∙ (ap (map seen) (drop-cons ds 16 x lt) ∙ ap (λ y. seen y ∷ map seen (drop 17 ds)) (sym is)) in
     ap (limited (table_reading bytes token (map seen ds))) seventeenth

@@ -7,10 +7,9 @@ use Rattle.sql_grammar.specs.declared.class.Word.TheVariants.{Not, Null}
 use Rattle.sql_grammar.specs.Terminals.{Terminal, Ident, t_key, t_name}
 use Rattle.sql_grammar.specs.Syntax.{Nulls, unwritten, not_null, nullable, ColDef, coldef}
 use Rattle.sql_grammar.specs.Words.{words_of_nulls, words_of_coldef}
-use Rattle.sql_grammar.specs.Faults.{bytes_of}
+use Rattle.sql_grammar.specs.Faults.{bytes_of, fault_at}
 use Rattle.sql_cursor.specs.Pieces.{Piece, piece, words, places}
 use Rattle.sql_cursor.specs.Reading.{Begins, BeginsNot, BeginsName}
-use Rattle.ddl_reader.specs.Places.{word_fault}
 use Rattle.ddl_reader.specs.Types.{type_named}
 use Rattle.ddl_reader.specs.Columns.{refuses_null, written, bound}
 use Rattle.ddl_reader.specs.Reads.{ends_nulls}
@@ -71,7 +70,7 @@ module _ (n t : Ident) (nulls : Nulls) (ws : List Terminal) (old new1 new2 : Lis
   both : old ≡ piece (t_name n) k1 ∷ piece (t_name t) k2 ∷ new2
   both = one.pieces ∙ ap (λ l. piece (t_name n) k1 ∷ l) two.pieces
 
-  pub no-type : type_named b2 ≡ None → bound (written (coldef n t nulls) (places old)) ≡ Err (word_fault S8 k2)
+  pub no-type : type_named b2 ≡ None → bound (written (coldef n t nulls) (places old)) ≡ Err (fault_at S8 k2)
   no-type none = rw (both, two.spelled, none) refl
 
   pub with-type : (ty : SqlType) (b : Bool) → type_named b2 ≡ Some ty → b ≡ refuses_null nulls →

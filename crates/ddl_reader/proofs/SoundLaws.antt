@@ -29,7 +29,7 @@ use Rattle.ddl_reader.specs.Statements.{Means, IsMeaning}
 use Rattle.ddl_reader.specs.Readings.{reading}
 use Rattle.ddl_reader.specs.Soundness.{IsSound}
 use Rattle.ddl_reader.proofs.TokenLaws.{starts-within}
-use Rattle.ddl_reader.proofs.Named.{AreNamed, named-words}
+use Rattle.sql_cursor.proofs.Named.{AreNamed, named-from}
 
 -- what bound columns have of those that are written
 module _ {A : Type 0} (ours : Bound → A) (theirs : Written → A)
@@ -159,7 +159,7 @@ module _ (cat : Contents) (text : List ℕ) where
   meaning-sound : (tokens : List Token) (from : ℕ) (r : Reading) → AreWords text from tokens → IsMeaning cat text tokens (Ok r) → IsSound cat text r
   meaning-sound tokens from r w m =
       let x = m.whole.statement in
-      statement-sound tokens r x.0 (starts-within text from tokens w) (subst AreNamed (sym x.2) (named-words text from tokens w m.whole.within)) (m.means x.0 x.2)
+      statement-sound tokens r x.0 (starts-within text from tokens w) (subst AreNamed (sym x.2) (named-from text from tokens 0 w m.whole.within)) (m.means x.0 x.2)
 
   -- a statement that is read
   pub sound-as : (tokens : List Token) (from : ℕ) (r : Result Read Refusal) → AreWords text from tokens → IfOk r (λ v. IsMeaning cat text tokens (Ok (reading v))) → IfOk r (λ v. IsSound cat text (reading v))

@@ -27,7 +27,7 @@ use Rattle.ddl_reader.specs.Readings.{reading, ReadsAs}
 use Rattle.ddl_reader.proofs.Parts.{head}
 use Rattle.ddl_reader.proofs.Bindings.{after-words}
 use Rattle.ddl_reader.proofs.CopyHead.{at-drop}
-use Rattle.ddl_reader.proofs.TokenLaws.{words-of-pieces, places-of-pieces}
+use Rattle.sql_cursor.proofs.Pieces.{words-are, places-are}
 
 module _ (cat : Contents) (text : List ℕ) where
   -- a table that is read
@@ -84,8 +84,8 @@ module _ (cat : Contents) (text : List ℕ) where
       ((x : Statement) → words old ≡ words_of x → begins_ddl (words old) ≡ true → end ≡ (token_at (places old) (length (places old) - 1)).end → ReadsAs cat text (places old) x r) →
       (x : Statement) → words_of x ≡ terminals text tokens → ReadsAs cat text tokens x r
   means-of tokens old end r is ddl last reads x e =
-      let w : words old ≡ terminals text tokens = ap words is ∙ words-of-pieces text tokens in
-      let p : places old ≡ tokens = ap places is ∙ places-of-pieces text tokens in
+      let w : words old ≡ terminals text tokens = ap words is ∙ words-are text tokens in
+      let p : places old ≡ tokens = ap places is ∙ places-are text tokens in
       subst (λ l. ReadsAs cat text l x r) p (reads x (w ∙ sym e) (ap begins_ddl w ∙ ddl) (last ∙ ap (λ l. (token_at l (length l - 1)).end) (sym p)))
 
   -- a statement that is read
@@ -104,8 +104,8 @@ module _ (cat : Contents) (text : List ℕ) where
 pub opens-by : (text : List ℕ) (tokens : List Token) (now left : List Piece) (word : Terminal) (token : Token) (c : Class) → now ≡ pieces text tokens → class_of word ≡ c → now ≡ piece word token ∷ left →
     opens_ddl c ≡ begins_ddl (terminals text tokens)
 opens-by text tokens now left word token c is class first =
-    let all : word ∷ words left ≡ terminals text tokens = sym (ap words first) ∙ (ap words is ∙ words-of-pieces text tokens) in
+    let all : word ∷ words left ≡ terminals text tokens = sym (ap words first) ∙ (ap words is ∙ words-are text tokens) in
     ap opens_ddl (sym class) ∙ ap begins_ddl all
 
 pub opens-none : (text : List ℕ) (tokens : List Token) (now : List Piece) → now ≡ pieces text tokens → now ≡ [] → false ≡ begins_ddl (terminals text tokens)
-opens-none text tokens now is none = ap begins_ddl (sym (ap words none) ∙ (ap words is ∙ words-of-pieces text tokens))
+opens-none text tokens now is none = ap begins_ddl (sym (ap words none) ∙ (ap words is ∙ words-are text tokens))

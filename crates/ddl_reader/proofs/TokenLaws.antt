@@ -1,10 +1,8 @@
 -- The tokens of a statement.
-use Rattle.std.proofs.Common.{◌≡◌, ℕ, ◌<◌, ◌≤◌, Bool, true, false, List, [], ◌∷◌, length, All, subst, sym, refl, MatchBool, arith}
+use Rattle.std.proofs.Common.{◌≡◌, ℕ, ◌<◌, ◌≤◌, Bool, true, false, List, [], ◌∷◌, length, All, subst, sym, MatchBool, arith}
 use Rattle.std.proofs.lemmas.List.Elements.{All-cons, All-nil}
 use Rattle.sql_lex.specs.declared.tokens.Token.{Token}
 use Rattle.sql_lex.specs.Words.{AreWords, IsNext, is_last}
-use Rattle.sql_grammar.specs.Faults.{terminals}
-use Rattle.sql_cursor.specs.Pieces.{pieces, words, places}
 
 module _ (text : List ℕ) (P : Token → Type 0) (one : (from : ℕ) (t : Token) → IsNext text from t → P t) where
   each-by : (t : Token) (ts : List Token) (b : Bool) → ((from : ℕ) → AreWords text from ts → All P ts) → MatchBool b (ts ≡ []) (AreWords text t.end ts) → All P ts
@@ -27,11 +25,3 @@ ends-within text = each-word text (λ u. u.end ≤ length text) (λ from t n. n.
 pub some-token : (text : List ℕ) (from : ℕ) (tokens : List Token) → AreWords text from tokens → 0 < length tokens
 some-token text from [] w = absurd w
 some-token text from (t ∷ ts) w = omega arith
-
-pub words-of-pieces : (text : List ℕ) (tokens : List Token) → words (pieces text tokens) ≡ terminals text tokens
-words-of-pieces text [] = refl
-words-of-pieces text (t ∷ ts) = rw (words-of-pieces text ts) refl
-
-pub places-of-pieces : (text : List ℕ) (tokens : List Token) → places (pieces text tokens) ≡ tokens
-places-of-pieces text [] = refl
-places-of-pieces text (t ∷ ts) = rw (places-of-pieces text ts) refl

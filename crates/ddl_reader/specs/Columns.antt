@@ -8,8 +8,8 @@ use Rattle.pg_value.specs.declared.columns.Column.{Column}
 use Rattle.sql_lex.specs.declared.tokens.Token.{Token}
 use Rattle.sql_grammar.specs.Syntax.{Nulls, unwritten, not_null, nullable, ColDef, coldef}
 use Rattle.sql_grammar.specs.Words.{words_of_coldef}
-use Rattle.sql_grammar.specs.Faults.{bytes_of}
-use Rattle.ddl_reader.specs.Places.{token_at, word_fault}
+use Rattle.sql_grammar.specs.Faults.{bytes_of, fault_at}
+use Rattle.ddl_reader.specs.Places.{token_at}
 use Rattle.ddl_reader.specs.Types.{type_named}
 
 -- a column as it is written: its name and its type's name, in small letters, each with its token, and whether NOT NULL stands
@@ -43,7 +43,7 @@ columns_over (c ∷ cs) tokens = written c tokens ∷ columns_over cs (drop (len
 
 -- with its type, where there is one of the name; else the type's name is at fault
 abbrev pub bound_by : Option SqlType → Written → Result Bound Fault
-bound_by None w = Err (word_fault S8 w.kind_at)
+bound_by None w = Err (fault_at S8 w.kind_at)
 bound_by (Some t) w = Ok (record { name = w.name; name_at = w.name_at; column = record { typed = t; not_null = w.not_null } })
 
 -- a column bound

@@ -7,7 +7,7 @@ use Rattle.pg_base.specs.declared.faults.Limit.TheVariants.{Columns}
 use Rattle.pg_base.specs.declared.faults.Fault.{Fault}
 use Rattle.pg_value.specs.declared.columns.Column.{Column}
 use Rattle.sql_lex.specs.declared.tokens.Token.{Token}
-use Rattle.ddl_reader.specs.Places.{word_fault}
+use Rattle.sql_grammar.specs.Faults.{fault_at}
 use Rattle.ddl_reader.specs.Columns.{Bound}
 
 -- what is defined: a table by its name, its columns' names and its columns; or data for a table, from an offset on
@@ -32,7 +32,7 @@ table_reading name token bs = record {
 -- at most 16 columns: the first name past them is at fault
 abbrev pub limited : Reading → List Bound → Result Reading Fault
 limited reading [] = Ok reading
-limited reading (b ∷ _) = Err (word_fault (S15 Columns) b.name_at)
+limited reading (b ∷ _) = Err (fault_at (S15 Columns) b.name_at)
 
 -- after all columns are bound comes their limit
 abbrev pub table_of : List ℕ → Token → Result (List Bound) Fault → Result Reading Fault
@@ -46,9 +46,9 @@ null_text = 92 ∷ 78 ∷ []
 -- data for a table: of this number where its name is known, from this offset on, with this text for NULL; each of the two
 -- words with its token
 abbrev pub data_of : Option TableNo → Token → List ℕ → Token → ℕ → Result Reading Fault
-data_of None name_at null null_at start = Err (word_fault S2 name_at)
+data_of None name_at null null_at start = Err (fault_at S2 name_at)
 data_of (Some t) name_at null null_at start =
-    cond (bytes_eq null null_text) (Ok (record { definition = data_for t start; at = []; method = 0 })) (Err (word_fault S17 null_at))
+    cond (bytes_eq null null_text) (Ok (record { definition = data_for t start; at = []; method = 0 })) (Err (fault_at S17 null_at))
 
 -- after the line on which the statement ends
 abbrev pub data_after : Option TableNo → Token → List ℕ → Token → Result ℕ Fault → Result Reading Fault

@@ -20,10 +20,10 @@ ghost use Rattle.ddl_reader.specs.Soundness.{IsSound};
 
 use crate::copy::copy;
 use crate::ddl::Read;
-use crate::places::syntax_fault;
+use crate::places::word_fault;
 use crate::table::table;
 use catalog::Catalog;
-use pg_base::Refusal;
+use pg_base::{Code, Refusal};
 use sql_cursor::Cursor;
 use sql_grammar::{Class, Free, Word, data_start, statement_fault};
 use sql_lex::Tokens;
@@ -114,7 +114,7 @@ pub fn read_ddl(alloc: Global, cat: &Catalog, text: &[u8], tokens: &Tokens) -> R
 {
     let end = last_end(text, tokens);
     if !is_ddl(text, tokens) {
-        return Err(syntax_fault(tokens.items()[0]));
+        return Err(word_fault(Code::S1, tokens.items()[0]));
     }
     if let Some(fault) = statement_fault(text, tokens, 0) {
         return Err(Refusal::Fault(fault));

@@ -20,12 +20,12 @@ use Rattle.sql_grammar.specs.Reading.{terminal_of}
 use Rattle.sql_grammar.specs.Terminals.{Ident}
 use Rattle.sql_grammar.specs.Syntax.{Statement, empty, create_table, query, copy}
 use Rattle.sql_grammar.specs.Words.{words_of}
-use Rattle.sql_grammar.specs.Faults.{bytes_of, terminals}
+use Rattle.sql_grammar.specs.Faults.{bytes_of, fault_at, terminals}
 use Rattle.sql_grammar.specs.CopyLine.{IsDataStart, after_blanks}
 use Rattle.ddl_reader.specs.Block.{lines_of, in_front, size_of, IsBlockEnd}
 use Rattle.catalog.specs.Tables.{table_named}
 use Rattle.ddl_reader.specs.Columns.{Bound, bound_all, columns_over}
-use Rattle.ddl_reader.specs.Places.{token_at, word_fault}
+use Rattle.ddl_reader.specs.Places.{token_at}
 use Rattle.ddl_reader.specs.Tables.{Definition, table, data_for, Reading, data_after, limited, null_text, table_of, table_reading}
 use Rattle.answer.specs.Worlds.{World}
 use Rattle.pgplan.specs.Actions.{Action}
@@ -149,7 +149,7 @@ table-behind w text tokens action next name token (Ok bs) r e c =
     carried-table w text tokens r.definition action next name _ _ (is-table name token bs (drop 16 bs) r e) c
 
 is-data : (t : Option TableNo) (name null_at : Token) (null : List ℕ) (same : Bool) (start : ℕ) (r : Reading) → (u : TableNo) →
-    Ok r ≡ cond same (Ok (record { definition = data_for u start; at = []; method = 0 })) (Err (word_fault S17 null_at)) → r.definition ≡ data_for u start
+    Ok r ≡ cond same (Ok (record { definition = data_for u start; at = []; method = 0 })) (Err (fault_at S17 null_at)) → r.definition ≡ data_for u start
 is-data t name null_at null true start r u e = let is : r ≡ record { definition = data_for u start; at = []; method = 0 } = cc in ap (λ (x : Reading). x.definition) is
 is-data t name null_at null false start r u e = cc
 

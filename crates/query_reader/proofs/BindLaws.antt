@@ -18,7 +18,8 @@ use Rattle.catalog.specs.Tables.{column_named}
 use Rattle.sql_lex.specs.declared.tokens.Token.{Token}
 use Rattle.query_reader.specs.declared.written.Item.{Item}
 use Rattle.query_reader.specs.Scope.{Scope, Visible, columns_from, scope_of, columns_of, under, of_name, Found, one, no_table, no_column, the_one, among, look_up}
-use Rattle.query_reader.specs.Binding.{name_fault, found_relation, then_columns, item_columns, list_columns}
+use Rattle.sql_grammar.specs.Faults.{fault_at}
+use Rattle.query_reader.specs.Binding.{found_relation, then_columns, item_columns, list_columns}
 use Rattle.query_reader.specs.Adds.{Adds}
 use Rattle.query_reader.proofs.ScopeLaws.{found_at, found-from, under-same, under-other}
 
@@ -79,7 +80,7 @@ module _ (c : Contents) (t : TableNo) (alias : List ℕ) (lawful : IsLawfulTable
   pub every-under : (q : List ℕ) (token : Token) → bytes_eq q alias ≡ true → found_relation (under q scope) token ≡ Ok (columns_of scope)
   every-under q token is = ap (λ s. found_relation s token) (under-is q is) ∙ all-there scope token full
 
-  pub none-under : (q : List ℕ) (token : Token) → bytes_eq q alias ≡ false → found_relation (under q scope) token ≡ Err (name_fault S2 token)
+  pub none-under : (q : List ℕ) (token : Token) → bytes_eq q alias ≡ false → found_relation (under q scope) token ≡ Err (fault_at S2 token)
   none-under q token is = ap (λ s. found_relation s token) (under-none q is)
 
   pub one-under : (q name : List ℕ) → bytes_eq q alias ≡ true → look_up scope (Some q) name ≡ the_one (of_name name scope)

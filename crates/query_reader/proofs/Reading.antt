@@ -1,5 +1,5 @@
 -- From the words of a statement to the query that they say, and to the first fault.
-use Rattle.std.proofs.Common.{◌≡◌, inr, ℕ, List, [], ◌∷◌, Result, Ok, Err, refl, sym, ap, subst, ◌∙◌, ◌<◌, ◌+◌, length, drop, get_or}
+use Rattle.std.proofs.Common.{◌≡◌, inr, ℕ, List, ◌∷◌, Result, Ok, Err, sym, ap, subst, ◌∙◌, ◌<◌, ◌+◌, length, drop, get_or}
 use Rattle.std.proofs.lemmas.List.{drop_more}
 use Rattle.pg_base.specs.declared.faults.Code.TheVariants.{S1}
 use Rattle.pg_base.specs.declared.faults.Fault.{Fault}
@@ -11,6 +11,7 @@ use Rattle.sql_grammar.specs.declared.class.Word.TheVariants.{Select as SelectKe
 use Rattle.sql_grammar.specs.Syntax.{Select, Ending}
 use Rattle.sql_grammar.specs.Reading.{terminal_of}
 use Rattle.sql_grammar.specs.Faults.{terminals, IsFirstFault, fault_at}
+use Rattle.sql_cursor.proofs.Pieces.{words-are, places-are}
 use Rattle.sql_cursor.specs.Pieces.{Piece, piece, pieces, words, places}
 use Rattle.sql_cursor.specs.Reading.{BeginsNot}
 use Rattle.sql_query.specs.declared.prepared.Prepared.{Prepared}
@@ -19,14 +20,6 @@ use Rattle.query_reader.specs.declared.written.Source.{Source}
 use Rattle.query_reader.specs.Select.{IsQuery, AreWordsOf, AreSelect, IsGrammatical, Answers}
 use Rattle.query_reader.proofs.Placing.{PlacedQuery, place-query, written_by}
 use Rattle.query_reader.proofs.Grammar.{first-word}
-
-words-are : (text : List ℕ) (ts : List Token) → words (pieces text ts) ≡ terminals text ts
-words-are text [] = refl
-words-are text (t ∷ ts) = ap (λ l. terminal_of text t ∷ l) (words-are text ts)
-
-places-are : (text : List ℕ) (ts : List Token) → places (pieces text ts) ≡ ts
-places-are text [] = refl
-places-are text (t ∷ ts) = ap (λ l. t ∷ l) (places-are text ts)
 
 module _ (text : List ℕ) (tokens : List Token) (key : Token) (left : List Piece) (first : pieces text tokens ≡ piece (t_key SelectKey) key ∷ left) where
   pub starts : terminals text tokens ≡ t_key SelectKey ∷ words left

@@ -2,7 +2,6 @@
 -- chapter Queries; codes: appendix Error Codes).
 use Rattle.std.specs.Prelude.{ℕ, List, [], ◌∷◌, ◌++◌, Option, Some, None, Result, Ok, Err}
 use Rattle.pg_base.specs.declared.numbers.TableNo.{TableNo}
-use Rattle.pg_base.specs.declared.faults.Code.{Code}
 use Rattle.pg_base.specs.declared.faults.Code.TheVariants.{S2, S3, S4}
 use Rattle.pg_base.specs.declared.faults.Fault.{Fault}
 use Rattle.pg_expr.specs.declared.operand.ColRef.{ColRef}
@@ -10,6 +9,7 @@ use Rattle.catalog.specs.Contents.{Contents}
 use Rattle.catalog.specs.Range.{Range}
 use Rattle.catalog.specs.Tables.{table_named}
 use Rattle.sql_lex.specs.declared.tokens.Token.{Token}
+use Rattle.sql_grammar.specs.Faults.{fault_at}
 use Rattle.sql_cursor.specs.declared.cursor.Spelled.{Spelled}
 use Rattle.sql_query.specs.declared.prepared.Prepared.{Prepared}
 use Rattle.query_reader.specs.declared.written.Item.{Item}
@@ -18,20 +18,16 @@ use Rattle.query_reader.specs.declared.written.Source.{Source}
 use Rattle.query_reader.specs.Written.{Written}
 use Rattle.query_reader.specs.Scope.{Scope, scope_of, columns_of, under, Found, one, no_table, no_column, many, look_up}
 
--- the fault of this kind at a name
-abbrev pub name_fault : Code → Token → Fault
-name_fault code token = record { code = code; at = token.start; from = token.start; to = token.end; rec = 0; table = record { 0 = 0 }; col = 0 }
-
 -- the column that was found: an unknown qualifier is at fault itself, and else the name
 abbrev pub found_column : Found → Token → Token → Result (List ColRef) Fault
 found_column (one column) qualifier name = Ok (column ∷ [])
-found_column no_table qualifier name = Err (name_fault S2 qualifier)
-found_column no_column qualifier name = Err (name_fault S3 name)
-found_column many qualifier name = Err (name_fault S4 name)
+found_column no_table qualifier name = Err (fault_at S2 qualifier)
+found_column no_column qualifier name = Err (fault_at S3 name)
+found_column many qualifier name = Err (fault_at S4 name)
 
 -- the columns under an alias: there is one at least
 abbrev pub found_relation : Scope → Token → Result (List ColRef) Fault
-found_relation [] qualifier = Err (name_fault S2 qualifier)
+found_relation [] qualifier = Err (fault_at S2 qualifier)
 found_relation (v ∷ scope) qualifier = Ok (columns_of (v ∷ scope))
 
 -- the columns that an item shows
@@ -59,7 +55,7 @@ alias_or (Some alias) table = alias.bytes
 
 -- the relations after FROM
 abbrev pub source_range : Option TableNo → Source → Result Range Fault
-source_range None source = Err (name_fault S2 source.table.token)
+source_range None source = Err (fault_at S2 source.table.token)
 source_range (Some table) source = Ok ((table, alias_or source.alias source.table) ∷ [])
 
 -- the query over these relations: it names the columns that it shows, and no others

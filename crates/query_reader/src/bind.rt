@@ -3,38 +3,32 @@
 ghost use Rattle.std.specs.Prelude.{◌≡◌, ◌<◌, ℕ, List, [], ◌∷◌, ◌++◌, length, Ok, Err, IfOk, MatchOption};
 ghost use Rattle.std.specs.Str.{bytes_eq};
 ghost use Rattle.sql_lex.specs.declared.tokens.Token.{Token};
+ghost use Rattle.sql_grammar.specs.Faults.{fault_at as fault_at_token};
 ghost use Rattle.catalog.specs.Names.{IsName};
 ghost use Rattle.sql_query.specs.WellBound.{IsWellBound};
 ghost use Rattle.catalog.specs.Contents.{IsTable, IsLawfulTable, table_at};
 ghost use Rattle.query_reader.specs.Written.{Written};
 ghost use Rattle.query_reader.specs.Scope.{scope_of, columns_of, of_name, the_one};
-ghost use Rattle.query_reader.specs.Binding.{name_fault as fault_at_name, found_column, item_columns, list_columns, shows, alias_or, bound};
+ghost use Rattle.query_reader.specs.Binding.{found_column, item_columns, list_columns, shows, alias_or, bound};
 ghost use Rattle.query_reader.specs.Adds.{Adds};
 ghost use Rattle.query_reader.specs.Select.{Answers};
 
 use crate::written::{Item, Query, Source};
 use catalog::{Catalog, RangeTable};
-use pg_base::{Code, ColNo, Fault, Refusal, RelNo, TableNo};
+use pg_base::{Code, ColNo, Refusal, RelNo, TableNo};
 use pg_expr::ColRef;
 use pg_value::Bytes;
 use sql_cursor::Spelled;
+use sql_grammar::fault_at;
 use sql_lex::Token;
 use sql_query::{ColList, Prepared};
 use std::alloc::Global;
 
 /// The fault of this kind at a name.
 fn name_fault(code: Code, token: Token) -> Refusal
-    ensures { result ≡ Refusal.Fault (fault_at_name code token) }
+    ensures { result ≡ Refusal.Fault (fault_at_token code token) }
 {
-    Refusal::Fault(Fault {
-        code,
-        at: token.start,
-        from: token.start,
-        to: token.end,
-        rec: 0,
-        table: TableNo(0),
-        col: 0,
-    })
+    Refusal::Fault(fault_at(code, token))
 }
 
 fn push(all: &mut Vec<ColRef>, column: ColRef) -> Result<(), Refusal>

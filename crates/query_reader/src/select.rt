@@ -7,33 +7,16 @@ ghost use Rattle.sql_query.specs.WellBound.{IsWellBound};
 ghost use Rattle.query_reader.specs.Written.{written_of};
 ghost use Rattle.query_reader.specs.Binding.{bound};
 ghost use Rattle.query_reader.specs.Select.{AreWordsOf, IsGrammatical, Answers};
-ghost use Rattle.pg_base.specs.declared.faults.Code.TheVariants.{S1};
-ghost use Rattle.sql_grammar.specs.Faults.{fault_at};
 
 use crate::bind::bind;
 use crate::read::query;
 use catalog::Catalog;
-use pg_base::{Code, Fault, Refusal, TableNo};
+use pg_base::{Code, Refusal};
 use sql_cursor::Cursor;
-use sql_grammar::{Word, statement_fault};
-use sql_lex::{Token, Tokens};
+use sql_grammar::{Word, fault_at, statement_fault};
+use sql_lex::Tokens;
 use sql_query::Prepared;
 use std::alloc::Global;
-
-/// A syntax fault at a token. It names no words.
-fn syntax_fault(token: Token) -> Fault
-    ensures { result ≡ fault_at S1 token }
-{
-    Fault {
-        code: Code::S1,
-        at: token.start,
-        from: token.start,
-        to: token.start,
-        rec: 0,
-        table: TableNo(0),
-        col: 0,
-    }
-}
 
 /// The SELECT that begins at token `first` and that the statement's last token, `;` or the text's end, ends: the relations,
 /// the columns shown in order, of relation 0, and the columns named, which are those shown.
@@ -61,7 +44,7 @@ pub fn read_select(
 {
     let mut from = Cursor::new(text, tokens, first);
     if !from.takes(Word::Select) {
-        return Err(Refusal::Fault(syntax_fault(tokens.items()[first as usize])));
+        return Err(Refusal::Fault(fault_at(Code::S1, tokens.items()[first as usize])));
     }
     match statement_fault(text, tokens, first) {
         Some(fault) => Err(Refusal::Fault(fault)),

@@ -7,6 +7,7 @@
 mod class;
 mod classify;
 mod copy_line;
+mod fault;
 mod limits;
 mod rows;
 mod stack;
@@ -18,5 +19,6 @@ mod walk;
 pub use class::{Class, Free, Symbol, Word};
 pub use classify::class_of;
 pub use copy_line::data_start;
+pub use fault::fault_at;
 pub use limits::limit_passed;
 pub use walk::{expr_end, select_end, statement_fault};

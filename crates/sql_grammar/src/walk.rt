@@ -6,15 +6,16 @@
 ghost use Rattle.std.specs.Prelude.{◌≡◌, ℕ, ◌^◌, ◌<◌, ◌≤◌, length, drop, true, MatchOption};
 ghost use Rattle.sql_lex.specs.Words.{AreWords};
 ghost use Rattle.sql_grammar.specs.Reading.{terminal_of, IsWithin, AreTokens};
-ghost use Rattle.sql_grammar.specs.Faults.{IsWhole, IsStatement, IsSelect, IsExpr, IsFirstFault, IsPartEnd, fault_at as fault_at_token};
+ghost use Rattle.sql_grammar.specs.Faults.{IsWhole, IsStatement, IsSelect, IsExpr, IsFirstFault, IsPartEnd};
 ghost use Rattle.sql_grammar.specs.Machine.{depth_of, Fits, is_closed};
 ghost use Rattle.sql_grammar.specs.Walk.{IsTaken, IsWalk};
 
 use crate::classify::class_of;
+use crate::fault::fault_at;
 use crate::limits::limit_passed;
 use crate::stack::{Stack, Step};
 use crate::table::Item;
-use pg_base::{Code, Fault, Limit, TableNo};
+use pg_base::{Code, Fault, Limit};
 use sql_lex::{Token, Tokens};
 
 /// What became of a token.
@@ -25,25 +26,6 @@ enum Taken {
     Ended,
     /// It is at fault.
     Stops(Code),
-}
-
-/// The fault of this kind at the token. A syntax fault names no words.
-fn fault_at(code: Code, token: Token) -> Fault
-    ensures { result ≡ fault_at_token code token }
-{
-    let to = match code {
-        Code::S1 => token.start,
-        _ => token.end,
-    };
-    Fault {
-        code,
-        at: token.start,
-        from: token.start,
-        to,
-        rec: 0,
-        table: TableNo(0),
-        col: 0,
-    }
 }
 
 /// Takes the token, where it is awaited and within its limits.

@@ -12,11 +12,11 @@ use Rattle.query_reader.proofs.select.read_select.Goals as goal
 
 pub returns-then-not-takes-clause-grammar : goal.returns-then-not-takes-clause-grammar
 returns-then-not-takes-clause-grammar c =
-    inl (refused c.args.text.now c.args.tokens.now _ c.args.first _ _ _ c.requires.first c.items.ensures c.new-from.ensures (c.if-not-takes.ensures.other refl) c.syntax_fault.ensures)
+    inl (refused c.args.text.now c.args.tokens.now _ c.args.first _ _ _ c.requires.first c.items.ensures c.new-from.ensures (c.if-not-takes.ensures.other refl) c.fault_at.ensures)
 
 pub returns-then-not-takes-clause-binding : goal.returns-then-not-takes-clause-binding
 returns-then-not-takes-clause-binding c = λ q end w.
-    absurd (excluded _ _ _ q end (refused c.args.text.now c.args.tokens.now _ c.args.first _ _ _ c.requires.first c.items.ensures c.new-from.ensures (c.if-not-takes.ensures.other refl) c.syntax_fault.ensures) w)
+    absurd (excluded _ _ _ q end (refused c.args.text.now c.args.tokens.now _ c.args.first _ _ _ c.requires.first c.items.ensures c.new-from.ensures (c.if-not-takes.ensures.other refl) c.fault_at.ensures) w)
 
 pub returns-in-Some-clause-grammar : goal.returns-in-Some-clause-grammar
 returns-in-Some-clause-grammar c =

@@ -1,4 +1,4 @@
 mod Lists
 mod Picking
-mod Putting
+pub mod Putting
 mod Scanning

@@ -29,7 +29,7 @@ prefix-then a b c p q xs ys first (n, within, some) =
 pub prefix-longer : (a b : Option (List ℕ)) (xs ys : List ℕ) → AppendsPrefix a b xs → AppendsPrefix a b (xs ++ ys)
 prefix-longer a b xs ys (n, within, some) = (n, omega (arith, length-append xs ys), rw (take-append-le n xs ys within) some)
 
-appends-none : (a : Option (List ℕ)) → Appends a a []
+pub appends-none : (a : Option (List ℕ)) → Appends a a []
 appends-none None = tt
 appends-none (Some xs) = sym (append-nil xs)
 

@@ -2,7 +2,6 @@
 
 ghost use Rattle.std.specs.Prelude.{◌≡◌, ◌≤◌, ◌+◌, ◌*◌, ◌++◌, [], length, IfOk, OnOk};
 ghost use Rattle.std.specs.String.{string_bytes};
-ghost use Rattle.pg_base.specs.declared.numbers.RelNo.{RelNo};
 ghost use Rattle.catalog.specs.Contents.{IsTable};
 ghost use Rattle.catalog.specs.Range.{relation_at};
 ghost use Rattle.catalog.specs.Tables.{pages_of, rows_of};

@@ -2,14 +2,13 @@
 
 ghost use Rattle.std.specs.Prelude.{◌≡◌, ◌+◌, ◌<◌, ◌≤◌, ◌++◌, All, OnOk, OnErr, length};
 ghost use Rattle.std.specs.Io.KnownBytes.{Appends};
-ghost use Rattle.pg_base.specs.Causes.{Rose};
 ghost use Rattle.pg_base.specs.Writing.{AppendsPrefix};
 ghost use Rattle.row_text.specs.Texts.{count_line};
 ghost use Rattle.sql_query.specs.WellBound.{IsWellBound};
 ghost use Rattle.answer.specs.Worlds.{IsWorld, world};
 ghost use Rattle.answer.specs.Plans.{first_scan, fetches as fetches_of};
 ghost use Rattle.answer.specs.Answers.{IsAnswer, answer_text, picked_text};
-ghost use Rattle.answer.specs.Putting.{HasPut, HasWriteCause};
+ghost use Rattle.answer.specs.Putting.{HasWriteCause};
 
 use crate::plan_line::plan_line;
 use crate::put::{flush, put};

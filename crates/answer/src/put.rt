@@ -3,7 +3,7 @@
 ghost use Rattle.std.specs.Prelude.{◌≡◌, ◌++◌, OnOk, OnErr};
 ghost use Rattle.std.specs.Io.KnownBytes.{Appends};
 ghost use Rattle.pg_base.specs.Writing.{AppendsPrefix};
-ghost use Rattle.answer.specs.Putting.{HasPut, Puts, HasWriteCause};
+ghost use Rattle.answer.specs.Putting.{Puts, HasWriteCause};
 
 use crate::stop::Stop;
 use pg_base::{Sink, write_all};

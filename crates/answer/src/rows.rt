@@ -1,10 +1,9 @@
 //! The rows of an answer.
 
 ghost use Rattle.std.specs.Prelude.{◌≡◌, ◌+◌, ◌<◌, ◌≤◌, All, IfOk, OnOk, length};
-ghost use Rattle.pg_base.specs.Causes.{Rose};
 ghost use Rattle.row_text.specs.Texts.{row_line};
 ghost use Rattle.answer.specs.Answers.{picked, picked_text};
-ghost use Rattle.answer.specs.Putting.{HasPut, HasWriteCause, Puts};
+ghost use Rattle.answer.specs.Putting.{HasWriteCause, Puts};
 
 use crate::put::put;
 use crate::stop::Stop;

@@ -1,5 +1,5 @@
 -- Where statements end.
-use Rattle.std.proofs.Common.{◌≡◌, ℕ, ◌+◌, ◌-◌, ◌<◌, ◌≤◌, inl, inr, Bool, true, false, List, [], ◌∷◌, ◌++◌, length, drop, map, suc, refl, sym, ap, ◌∙◌, arith, subst, cond, nat_eq, Contains, MatchBool, slice_range, Some, None, Option, Result, Ok, Err}
+use Rattle.std.proofs.Common.{◌≡◌, ℕ, ◌-◌, ◌<◌, ◌≤◌, inl, inr, Bool, true, false, List, [], ◌∷◌, length, drop, map, suc, refl, sym, ap, ◌∙◌, arith, subst, cond, Contains, MatchBool, slice_range, Some, None, Option, Result, Ok, Err}
 use Rattle.std.specs.List.{list_all}
 use Rattle.std.specs.Str.{bytes_eq}
 use Rattle.std.proofs.lemmas.Bool.{cases_lt}
@@ -22,13 +22,13 @@ use Rattle.sql_grammar.specs.Syntax.{Statement, empty, create_table, query, copy
 use Rattle.sql_grammar.specs.Words.{words_of}
 use Rattle.sql_grammar.specs.Faults.{bytes_of, fault_at, terminals}
 use Rattle.sql_grammar.specs.CopyLine.{IsDataStart, after_blanks}
-use Rattle.ddl_reader.specs.Block.{lines_of, in_front, size_of, IsBlockEnd}
 use Rattle.catalog.specs.Tables.{table_named}
 use Rattle.ddl_reader.specs.Columns.{Bound, bound_all, columns_over}
 use Rattle.ddl_reader.specs.Places.{token_at}
 use Rattle.ddl_reader.specs.Tables.{Definition, table, data_for, Reading, data_after, limited, null_text, table_of, table_reading}
 use Rattle.answer.specs.Worlds.{World}
 use Rattle.pgplan.specs.Actions.{Action}
+use Rattle.pgplan.proofs.BlockLaws.{block-within}
 use Rattle.pgplan.specs.Reads.{end_of, Carries, Does, IsReadOver}
 
 -- some byte, tested by whether the list is empty
@@ -96,30 +96,6 @@ pub ends-behind : (text : List ℕ) (from : ℕ) (tokens : List Token) → AreWo
 ends-behind text from [] w = absurd w
 ends-behind text from (t ∷ ts) w = ends-behind-by text from t ts (is_last text t) (λ f. ends-behind text f ts) w.0 w.1
 
--- the lines of a text are as long as the text
-size-in-front : (b : ℕ) (lines : List (List ℕ)) → size_of (in_front b lines) ≡ size_of lines + 1
-size-in-front b [] = refl
-size-in-front b (line ∷ lines) = omega arith
-
-size-by : (b : ℕ) (e : Bool) (lines : List (List ℕ)) → size_of (cond e ((b ∷ []) ∷ lines) (in_front b lines)) ≡ size_of lines + 1
-size-by b true lines = omega arith
-size-by b false lines = size-in-front b lines
-
-size-lines : (text : List ℕ) → size_of (lines_of text) ≡ length text
-size-lines [] = refl
-size-lines (b ∷ bs) = size-by b (nat_eq b 10) (lines_of bs) ∙ omega (arith, size-lines bs)
-
-size-append : (xs ys : List (List ℕ)) → size_of (xs ++ ys) ≡ size_of xs + size_of ys
-size-append [] ys = omega arith
-size-append (x ∷ xs) ys = omega (arith, size-append xs ys)
-
--- a block ends inside the text
-block-behind : (text : List ℕ) (start end next : ℕ) → start ≤ length text → IsBlockEnd text start end next → (start ≤ next) × (next ≤ length text)
-block-behind text start end next within is =
-    let sizes : length (drop start text) ≡ size_of is.before + (length is.mark + size_of is.after) =
-    sym (size-lines (drop start text)) ∙ ap size_of is.lines ∙ size-append is.before (is.mark ∷ is.after) in
-    (omega (arith, is.end_is, is.next_is), omega (arith, is.end_is, is.next_is, sizes, length-drop start text, within))
-
 -- data begin behind the statement, inside the text
 start-behind : (text : List ℕ) (from start : ℕ) → IsDataStart text from (Ok start) → (from < start) × (start ≤ length text)
 start-behind text from start is = (omega (arith, is.1), omega (arith, is.1, slice_get_within text (after_blanks text from) 10 is.0))
@@ -135,7 +111,8 @@ carried-data w text tokens (table n ns cs) action next t start e within c = cc
 carried-data w text tokens (data_for u from) action next t start e within c =
     let same : from ≡ start = cc in
     let P : ℕ → Type 0 = λ s. (s ≤ next) × (next ≤ length text) in
-    subst P same (block-behind text from c.0 next (omega (arith, same, within)) c.2)
+    let lies = block-within text from c.0 next (omega (arith, same, within)) c.2 in
+    subst P same (omega (arith, lies.order, lies.end_order), lies.within)
 
 is-table : (name : List ℕ) (token : Token) (bs : List Bound) (more : List Bound) (r : Reading) → Ok r ≡ limited (table_reading name token bs) more →
     r.definition ≡ table name (map (λ b. b.name) bs) (map (λ b. b.column) bs)

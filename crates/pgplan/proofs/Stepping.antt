@@ -1,7 +1,6 @@
 -- A step of the machine, from what its parts did.
-use Rattle.std.proofs.Common.{◌≡◌, ℕ, ◌^◌, ◌<◌, ◌≤◌, inl, inr, Bool, true, false, List, [], ◌∷◌, length, refl, sym, ap, arith, append-nil, Option, Some, None, Result, Ok, Err, IfOk}
+use Rattle.std.proofs.Common.{◌≡◌, ℕ, ◌^◌, ◌<◌, ◌≤◌, inl, inr, Bool, true, false, List, [], ◌∷◌, length, refl, sym, ap, arith, Option, None, Result, Ok, Err, IfOk}
 use Rattle.std.proofs.lemmas.List.Elements.{All-cons, All-nil}
-use Rattle.std.specs.Io.KnownBytes.{Appends}
 use Rattle.sql_lex.specs.declared.tokens.Token.{Token}
 use Rattle.sql_lex.specs.Words.{AreWords}
 use Rattle.sql_grammar.specs.Terminals.{Terminal, t_key, t_mark, t_name, t_number, t_quoted, t_operator, t_semicolon, t_end, class_of}
@@ -10,6 +9,7 @@ use Rattle.sql_grammar.specs.Reading.{terminal_of, ends_once, is_end}
 use Rattle.sql_grammar.specs.Syntax.{empty, semicolon, text_end}
 use Rattle.sql_grammar.specs.Faults.{limit_of}
 use Rattle.sql_grammar.proofs.StatementWords.{words-are-tokens}
+use Rattle.answer.proofs.Putting.{appends-none}
 use Rattle.answer.specs.Worlds.{World}
 use Rattle.pgplan.specs.declared.end.End.{End}
 use Rattle.pgplan.specs.declared.end.End.TheVariants as ends
@@ -50,10 +50,6 @@ one-token-idle w text from [] short words one = absurd words
 one-token-idle w text from (t ∷ []) short words one =
     alone w text t (terminal_of text t) refl (ends-alone text t (is_end text t) refl (words-are-tokens text from (t ∷ []) words short).last)
 one-token-idle w text from (t ∷ u ∷ ts) short words one = absurd (omega (arith, one))
-
-appends-none : (a : Option (List ℕ)) → Appends a a []
-appends-none None = tt
-appends-none (Some xs) = sym (append-nil xs)
 
 -- a statement without a reply was carried out
 pub done-quietly : (w w' : World) (text : List ℕ) (at next : ℕ) (tokens : List Token) (traces : Traces) → AreWords text at tokens → IsDefined w w' text tokens next → IsStep w w' text at next traces traces

@@ -1,7 +1,6 @@
 //! The script machine: what is stored, and one statement after another worked on it.
 
-ghost use Rattle.std.specs.Prelude.{◌≡◌, ◌≤◌, ◌^◌, ◌<◌, ℕ, IfErr, IfOk, OnErr, length, IsTrue, ◌↔◌};
-ghost use Rattle.sql_lex.specs.Words.{AreWords};
+ghost use Rattle.std.specs.Prelude.{◌≡◌, ◌≤◌, ◌^◌, ◌<◌, IfErr, IfOk, OnErr, length};
 ghost use Rattle.answer.specs.Worlds.{empty_world};
 ghost use Rattle.pgplan.specs.Ending.{HasWriteCause};
 ghost use Rattle.pgplan.specs.Steps.{IsStep, Stops, traces};
@@ -57,7 +56,7 @@ impl<L: Ledger> Machine<L> {
 
     /// Works the statement that begins at the byte offset `at` and gives the offset after it. Its reply, if it has one, is
     /// written to `out` before that. `fetches` counts the rows that are fetched, and `reads` the entries and rows already
-    /// found that are looked at. The text has at most 2^24 bytes, and `at` is at most its length.
+    /// found that are looked at, of which a sequential scan has none. The text has at most 2^24 bytes, and `at` is at most its length.
     ///
     /// The refusal is the statement's first fault, of its words, its syntax, its names, its limits, its data, or of the
     /// catalogue; or a failed out, or want of memory. The machine is then as before, and with a fault nothing was written.

@@ -12,7 +12,7 @@ use Rattle.fault_line.specs.declared.tells.Place.{Place}
 use Rattle.fault_line.specs.declared.tells.Place.TheVariants.{Nowhere, Record, Field}
 use Rattle.fault_line.specs.declared.tells.Naming.{Naming}
 use Rattle.fault_line.specs.declared.tells.Naming.TheVariants.{Nothing, Small, AsWritten}
-use Rattle.fault_line.specs.Tells.{naming_of, place_of, column_at_fault}
+use Rattle.fault_line.specs.Tells.{naming_of, data_place_of, column_at_fault}
 
 -- the SQLSTATE code
 abbrev pub code_text : Code → List ℕ
@@ -85,7 +85,7 @@ place_text Field c f = codes ", record " ++ (decimal f.rec ++ (codes " column " 
 
 -- where the fault is: nothing is said where no record is at fault
 abbrev pub suffix : Contents → Fault → List ℕ
-suffix c f = if f.rec == 0 then [] else place_text (place_of f.code) c f
+suffix c f = if f.rec == 0 then [] else place_text (data_place_of f.code) c f
 
 -- the text of a fault
 abbrev pub fault_text : Contents → List ℕ → Fault → List ℕ

@@ -24,14 +24,14 @@ naming_of S9 = AsWritten
 naming_of _ = Nothing
 
 -- what of COPY data is named: a record, or a field of a record
-abbrev pub place_of : Code → Place
-place_of S11 = Field
-place_of S12 = Field
-place_of S13 = Record
-place_of S14 = Field
-place_of (S15 Rows) = Record
-place_of (S15 Text) = Field
-place_of _ = Nowhere
+abbrev pub data_place_of : Code → Place
+data_place_of S11 = Field
+data_place_of S12 = Field
+data_place_of S13 = Record
+data_place_of S14 = Field
+data_place_of (S15 Rows) = Record
+data_place_of (S15 Text) = Field
+data_place_of _ = Nowhere
 
 -- the column at fault
 abbrev pub column_at_fault : Fault → ColNo
@@ -39,4 +39,4 @@ column_at_fault f = record { 0 = f.col }
 
 -- where a field of COPY data is at fault, the catalogue has its table and column
 abbrev pub IsFieldOf : Contents → Fault → Type 0
-IsFieldOf c f = place_of f.code ≡ Field → 0 < f.rec → IsTable c f.table × IsColumn c f.table (column_at_fault f)
+IsFieldOf c f = data_place_of f.code ≡ Field → 0 < f.rec → IsTable c f.table × IsColumn c f.table (column_at_fault f)

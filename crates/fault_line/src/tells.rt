@@ -1,7 +1,7 @@
 //! What a fault's text names beside its kind.
 
 ghost use Rattle.std.specs.Prelude.{◌≡◌};
-ghost use Rattle.fault_line.specs.Tells.{naming_of, place_of};
+ghost use Rattle.fault_line.specs.Tells.{naming_of, data_place_of};
 
 use pg_base::{Code, Limit};
 
@@ -42,7 +42,7 @@ pub(crate) fn how_named(code: Code) -> Naming
 
 /// What the text of a fault names of COPY data.
 pub(crate) fn place_named(code: Code) -> Place
-    ensures { result ≡ place_of code }
+    ensures { result ≡ data_place_of code }
 {
     match code {
         Code::S11 | Code::S12 | Code::S14 | Code::S15(Limit::Text) => Place::Field,

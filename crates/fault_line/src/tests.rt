@@ -49,36 +49,7 @@ fn columns(alloc: Global) -> Result<Columns, Memory>
     Ok(Columns::from_vec(columns))
 }
 
-// A fault of the words from one offset up to another.
-fn of_words(code: Code, from: u32, to: u32) -> Fault
-    ensures { result ≡ record { code = code; at = from; from = from; to = to; rec = 0; table = record { 0 = 0 }; col = 0 } }
-{
-    Fault {
-        code,
-        at: from,
-        from,
-        to,
-        rec: 0,
-        table: TableNo(0),
-        col: 0,
-    }
-}
-
-// A fault of the data that begin at byte 81.
-fn of_data(code: Code, rec: u32, table: TableNo, column: ColNo) -> Fault
-    ensures { result ≡ record { code = code; at = 81; from = 81; to = 81; rec = rec; table = table; col = column.0 } }
-{
-    Fault {
-        code,
-        at: 81,
-        from: 81,
-        to: 81,
-        rec,
-        table,
-        col: column.0,
-    }
-}
-
+/// The line that a sink with ample room takes.
 fn check<R: Abort + AllocGlobal>(
     rt: &R,
     catalog: &Catalog,
@@ -96,60 +67,224 @@ fn check<R: Abort + AllocGlobal>(
 }
 
 #[test]
-fn lines(rt: HostRuntime) -> Result<(), Fail> {
+fn faults_of_words(rt: HostRuntime) -> Result<(), Fail> {
+    let catalog = Catalog::new(rt.alloc());
+    let table: [(&[u8], Code, u32, u32, &[u8]); 23] = [
+        (
+            QUERY,
+            Code::S1,
+            47,
+            47,
+            b"ERROR 42601 at 47: syntax error\n",
+        ),
+        (
+            QUERY,
+            Code::S2,
+            47,
+            51,
+            b"ERROR 42P01 at 47: no table nope\n",
+        ),
+        (
+            QUERY,
+            Code::S3,
+            47,
+            51,
+            b"ERROR 42703 at 47: no column nope\n",
+        ),
+        (
+            QUERY,
+            Code::S4,
+            47,
+            51,
+            b"ERROR 42702 at 47: ambiguous column nope\n",
+        ),
+        (
+            QUERY,
+            Code::S5,
+            47,
+            51,
+            b"ERROR 42P07 at 47: duplicate name nope\n",
+        ),
+        (
+            QUERY,
+            Code::S6,
+            47,
+            51,
+            b"ERROR 42701 at 47: duplicate column nope\n",
+        ),
+        (
+            QUERY,
+            Code::S7,
+            47,
+            51,
+            b"ERROR 42712 at 47: duplicate alias nope\n",
+        ),
+        (
+            QUERY,
+            Code::S8,
+            47,
+            51,
+            b"ERROR 42704 at 47: unknown nope\n",
+        ),
+        (
+            UNEQUAL,
+            Code::S9,
+            57,
+            59,
+            b"ERROR 42883 at 57: no operator !=\n",
+        ),
+        (
+            UNEQUAL,
+            Code::S10,
+            57,
+            59,
+            b"ERROR 42804 at 57: wrong type\n",
+        ),
+        (
+            UNEQUAL,
+            Code::S11,
+            60,
+            61,
+            b"ERROR 22003 at 60: out of range\n",
+        ),
+        (
+            UNEQUAL,
+            Code::S12,
+            60,
+            61,
+            b"ERROR 22P02 at 60: invalid input\n",
+        ),
+        (
+            QUERY,
+            Code::S15(Limit::Tables),
+            13,
+            14,
+            b"ERROR 54000 at 13: limit tables\n",
+        ),
+        (
+            QUERY,
+            Code::S15(Limit::Columns),
+            16,
+            17,
+            b"ERROR 54000 at 16: limit columns\n",
+        ),
+        (
+            QUERY,
+            Code::S15(Limit::Text),
+            16,
+            17,
+            b"ERROR 54000 at 16: limit text\n",
+        ),
+        (
+            QUERY,
+            Code::S15(Limit::Name),
+            47,
+            51,
+            b"ERROR 54000 at 47: limit name\n",
+        ),
+        (
+            QUERY,
+            Code::S15(Limit::Indexes),
+            47,
+            51,
+            b"ERROR 54000 at 47: limit indexes\n",
+        ),
+        (
+            QUERY,
+            Code::S15(Limit::Relations),
+            47,
+            51,
+            b"ERROR 54000 at 47: limit relations\n",
+        ),
+        (
+            QUERY,
+            Code::S15(Limit::Conjuncts),
+            33,
+            39,
+            b"ERROR 54000 at 33: limit conjuncts\n",
+        ),
+        (
+            QUERY,
+            Code::S15(Limit::Atoms),
+            33,
+            39,
+            b"ERROR 54000 at 33: limit atoms\n",
+        ),
+        (
+            QUERY,
+            Code::S15(Limit::Depth),
+            33,
+            39,
+            b"ERROR 54000 at 33: limit depth\n",
+        ),
+        (
+            QUERY,
+            Code::S16,
+            33,
+            39,
+            b"ERROR 54001 at 33: no admissible plan\n",
+        ),
+        (
+            QUERY,
+            Code::S17,
+            33,
+            39,
+            b"ERROR 22023 at 33: invalid parameter\n",
+        ),
+    ];
+    for (script, code, from, to, line) in table {
+        check(
+            &rt,
+            &catalog,
+            script,
+            &Fault::at_words(code, from, to),
+            line,
+        )?;
+    }
+    Ok(())
+}
+
+#[test]
+fn faults_of_data(rt: HostRuntime) -> Result<(), Fail> {
     let alloc = rt.alloc();
     let mut catalog = Catalog::new(alloc);
     let made = catalog.add_table(name(alloc, b't')?, names(alloc)?, columns(alloc)?);
     assert_eq!(rt; made, Ok(TableNo(0)));
-    check(
-        &rt,
-        &catalog,
-        QUERY,
-        &of_words(Code::S2, 47, 51),
-        b"ERROR 42P01 at 47: no table nope\n",
-    )?;
-    check(
-        &rt,
-        &catalog,
-        UNEQUAL,
-        &of_words(Code::S9, 57, 59),
-        b"ERROR 42883 at 57: no operator !=\n",
-    )?;
-    check(
-        &rt,
-        &catalog,
-        COPY,
-        &of_data(Code::S13, 0, TableNo(0), ColNo(0)),
-        b"ERROR 22P04 at 81: no end of copy data\n",
-    )?;
-    check(
-        &rt,
-        &catalog,
-        COPY,
-        &of_data(Code::S13, 2, TableNo(0), ColNo(0)),
-        b"ERROR 22P04 at 81: field count, record 2\n",
-    )?;
-    check(
-        &rt,
-        &catalog,
-        COPY,
-        &of_data(Code::S15(Limit::Rows), 100_001, TableNo(0), ColNo(0)),
-        b"ERROR 54000 at 81: limit rows, record 100001\n",
-    )?;
-    let table = catalog.table(b"t");
-    assert_eq!(rt; table, Some(TableNo(0)));
-    if let Some(t) = table {
-        let column = catalog.column(t, b"b");
-        assert_eq!(rt; column, Some(ColNo(1)));
-        if let Some(c) = column {
-            check(
-                &rt,
-                &catalog,
-                COPY,
-                &of_data(Code::S15(Limit::Text), 2, t, c),
-                b"ERROR 54000 at 81: limit text, record 2 column b\n",
-            )?;
-        }
+    let table = catalog.table(b"t").ok_or("no table")?;
+    let column = catalog.column(table, b"b").ok_or("no column")?;
+    assert_eq!(rt; (table, column), (TableNo(0), ColNo(1)));
+    let lines: [(Code, u32, &[u8]); 7] = [
+        (Code::S13, 0, b"ERROR 22P04 at 81: no end of copy data\n"),
+        (Code::S13, 2, b"ERROR 22P04 at 81: field count, record 2\n"),
+        (
+            Code::S11,
+            1,
+            b"ERROR 22003 at 81: out of range, record 1 column b\n",
+        ),
+        (
+            Code::S12,
+            12,
+            b"ERROR 22P02 at 81: invalid input, record 12 column b\n",
+        ),
+        (
+            Code::S14,
+            3,
+            b"ERROR 23502 at 81: null, record 3 column b\n",
+        ),
+        (
+            Code::S15(Limit::Text),
+            2,
+            b"ERROR 54000 at 81: limit text, record 2 column b\n",
+        ),
+        (
+            Code::S15(Limit::Rows),
+            100_001,
+            b"ERROR 54000 at 81: limit rows, record 100001\n",
+        ),
+    ];
+    for (code, rec, line) in lines {
+        let fault = Fault::in_data(code, 81, rec, table, column.0);
+        check(&rt, &catalog, COPY, &fault, line)?;
     }
     Ok(())
 }

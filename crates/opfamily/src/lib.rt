@@ -4,9 +4,13 @@
 #![tactic(auto)]
 
 mod classes;
+mod laws;
+mod ordering;
 mod strategies;
 
 pub use classes::{
     IndexKey, Method, OpClass, accepts, class_named, default_class, default_family, family,
 };
+pub use laws::key_order_is_total;
+pub use ordering::keys_order;
 pub use strategies::{operator_exists, strategy};

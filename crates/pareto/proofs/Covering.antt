@@ -55,6 +55,13 @@ module _ {T : Type 0} (is_at_most : T → T → Bool) where
       all_pairs_push (Unrelated is_at_most) _ t (AllPairs-filter (Unrelated is_at_most) _ xs pairs)
       (λ k d lt. (All-filter _ (λ x. is_at_most x t ≡ false) xs none k d lt, not-true _ (filter_passes (λ k. not (is_at_most t k)) xs k d lt)))
 
+-- an item that no kept one is at most is not covered
+pub not-covered : {T : Type 0} (is_at_most : T → T → Bool) (kept : List T) (t : T) → All (λ k. is_at_most k t ≡ false) kept → IsCovered is_at_most kept t → ⊥
+not-covered is_at_most kept t none covered =
+    let no = All-contains (λ k. is_at_most k t ≡ false) kept covered.by' none covered.is_kept in
+    let yes = covered.covers in
+    absurd cc
+
 pub kept-offered : {T : Type 0} (p : T → Bool) (xs : List T) (t : T) → AreKeptOr xs t (filter p xs ++ t ∷ [])
 kept-offered p xs t = All-weaker (Contains (filter p xs ++ t ∷ [])) (λ x. Contains xs x ⊎ (x ≡ t)) (λ x h. elim (Contains-push_cases _ t x h) [ inl old ↦ inl (Contains-from_filter p xs x old) | inr same ↦ inr (sym same) ]) _ (All-contains_itself _)
 

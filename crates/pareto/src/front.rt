@@ -1,7 +1,7 @@
 //! The front of the items offered so far: none of them is at most another one (own; in the manner of
 //! PostgreSQL's `add_path`, which keeps the paths that no other path dominates).
 
-ghost use Rattle.std.specs.Prelude.{◌≡◌, ◌≤◌, ◌∷◌, ◌++◌, [], not, false, IsTrue, OnOk, IfErr, All, AllPairs, filter, vec_len, vec_capacity};
+ghost use Rattle.std.specs.Prelude.{◌≡◌, ◌≤◌, ◌∷◌, ◌++◌, [], not, false, IsTrue, IsOk, OnOk, IfErr, All, AllPairs, filter, vec_len, vec_capacity};
 ghost use Rattle.pareto.specs.Front.{IsCovered, AreKeptOr, Unrelated};
 
 use crate::ranked::Ranked;
@@ -43,13 +43,15 @@ impl<T: Ranked + Drop> Front<T> {
         &self.items
     }
 
-    /// Keeps an item unless a kept one is at most it, and lets go of the kept ones that it is at most.
+    /// Keeps an item unless a kept one is at most it, and lets go of the kept ones that it is at most. Where a kept one is at
+    /// most it, an equal one too, it is let go of: the front is as before, and no memory is wanted.
     /// `Err` hands the item back for want of memory, and the front is as before.
     pub fn offer(&mut self, t: T) -> Result<(), T>
         ensures offered { OnOk result (IsCovered T.is_at_most self.new t) }
         ensures covered { OnOk result (All (IsCovered T.is_at_most self.new) self.old) }
         ensures kept { OnOk result (AreKeptOr self.old t self.new) }
         ensures undominated { OnOk result (AllPairs (Unrelated T.is_at_most) self.new) }
+        ensures unchanged { IsCovered T.is_at_most self.old t → IsOk result × (self.new ≡ self.old) }
         ensures err { IfErr result (λ back. (back ≡ t) × (self.new ≡ self.old)) }
     {
         if is_covered(&self.items, &t) {

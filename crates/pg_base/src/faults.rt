@@ -1,6 +1,7 @@
 //! Why a statement is refused. The codes in brackets are SQLSTATE codes (PostgreSQL manual, appendix Error Codes).
 
 ghost use Rattle.std.specs.Prelude.{◌≡◌};
+ghost use Rattle.pg_base.specs.Faults.{data_fault, syntax_fault, words_fault};
 
 use crate::numbers::TableNo;
 use std::alloc::{AllocError, AllocFailed};
@@ -89,6 +90,46 @@ pub struct Fault {
     pub table: TableNo,
     /// The column of the field at fault in COPY data, else 0.
     pub col: u8,
+}
+
+impl Fault {
+    /// The fault of this kind at words of the script, from one byte offset up to another.
+    pub fn at_words(code: Code, from: u32, to: u32) -> Fault
+        ensures { result ≡ words_fault code from to }
+    {
+        Fault {
+            code,
+            at: from,
+            from,
+            to,
+            rec: 0,
+            table: TableNo(0),
+            col: 0,
+        }
+    }
+
+    /// A syntax fault (42601) at a place; it names no words.
+    pub fn syntax(place: u32) -> Fault
+        ensures { result ≡ syntax_fault place }
+    {
+        Fault::at_words(Code::S1, place, place)
+    }
+
+    /// The fault of this kind of COPY data that begin at an offset, in a record, from 1, and a column of a table. A fault that
+    /// names no record has 0 there, and one that names no column 0.
+    pub fn in_data(code: Code, start: u32, rec: u32, table: TableNo, col: u8) -> Fault
+        ensures { result ≡ data_fault code start rec table col }
+    {
+        Fault {
+            code,
+            at: start,
+            from: start,
+            to: start,
+            rec,
+            table,
+            col,
+        }
+    }
 }
 
 /// Why a reading ends without a value.

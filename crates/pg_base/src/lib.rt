@@ -2,6 +2,7 @@
 #![tactic(auto)]
 
 mod faults;
+mod limits;
 mod mem;
 mod numbers;
 mod outside;
@@ -14,6 +15,10 @@ mod tests;
 mod writing;
 
 pub use faults::{Code, Fault, Limit, Memory, Refusal};
+pub use limits::{
+    MOST_ATOMS, MOST_COLUMNS, MOST_CONJUNCTS, MOST_INDEXES, MOST_LEVELS, MOST_NAME_BYTES,
+    MOST_RELATIONS, MOST_ROWS, MOST_SCRIPT_BYTES, MOST_TABLES, MOST_TEXT_BYTES,
+};
 pub use mem::{MemSink, MemSource};
 pub use numbers::{ColNo, IndexNo, RelNo, TableNo, Tid};
 pub use outside::{Failed, Sink, Source};

@@ -66,6 +66,7 @@ impl Source for MemSource {
         ensures fails { is_err result ≡ fails_next self.old.fails self.old.calls }
         ensures count { IfOk result (λ n. n ≡ min (min (length self.old.left) self.old.piece) (length buf.old)) }
         ensures calls { self.new.calls ≡ one_more self.old.calls }
+        ensures raised { OnErr result (self.new.faults ≡ one_more self.old.faults) }
         ensures fixed { (self.new.fails ≡ self.old.fails) × (self.new.piece ≡ self.old.piece) }
     {
         self.calls = self.calls.saturating_add(1);
@@ -142,6 +143,7 @@ impl Sink for MemSink {
         ensures fails { is_err result ≡ nat_le self.old.room (length self.old.held) || fails_next self.old.fails self.old.calls }
         ensures count { IfOk result (λ n. n ≡ min (self.old.room - length self.old.held) (length b.now)) }
         ensures calls { self.new.calls ≡ one_more self.old.calls }
+        ensures raised { OnErr result (self.new.faults ≡ one_more self.old.faults) }
         ensures fixed { (self.new.fails ≡ self.old.fails) × (self.new.room ≡ self.old.room) }
     {
         self.calls = self.calls.saturating_add(1);

@@ -3,6 +3,7 @@
 ghost use Rattle.std.specs.Prelude.{◌≡◌, ◌<◌, ◌≤◌, ◌+◌, ◌^◌, ℕ, List, IfOk, OnOk, IsErrOf, length, vec_len};
 ghost use Rattle.std.specs.Io.KnownBytes.{Consumes, IsAtEnd};
 ghost use Rattle.pg_base.specs.Causes.{Rose};
+ghost use Rattle.pg_base.specs.Reading.{ConsumesUpTo};
 
 use crate::outside::Source;
 use std::alloc::{AllocError, Global};
@@ -29,6 +30,8 @@ impl From<AllocError> for ReadFault {
 }
 
 /// All the bytes that are left, at most `limit`. Reading stops at the end, at a fault, or after one byte more than the limit.
+/// What was read before an error is let go of, and the source goes on behind it: at most `limit` bytes at `Failed`, one more
+/// at `TooLong`, and at most that at `Memory`.
 pub fn read_all<S: Source>(
     alloc: Global,
     source: &mut S,
@@ -40,6 +43,8 @@ pub fn read_all<S: Source>(
     ensures within { IfOk result (λ all. vec_len all ≤ limit) }
     ensures too_long { IsErrOf result ReadFault.TooLong → (text : List ℕ) × Consumes (S.left source.old) (S.left source.new) text × (length text ≡ limit + 1) }
     ensures failed { IsErrOf result ReadFault.Failed → Rose (S.faults source.old) (S.faults source.new) }
+    ensures left_failed { IsErrOf result ReadFault.Failed → ConsumesUpTo (S.left source.old) (S.left source.new) limit }
+    ensures left_memory { IsErrOf result ReadFault.Memory → ConsumesUpTo (S.left source.old) (S.left source.new) (limit + 1) }
     ensures no_fault { (IsErrOf result ReadFault.Failed → ⊥) → S.faults source.new ≡ S.faults source.old }
 {
     let mut all = Vec::new(alloc);

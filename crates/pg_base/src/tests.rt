@@ -1,6 +1,8 @@
 //! The adapters over std, and the calls that take memory.
 
-use crate::{Failed, MemSink, Sink, Source, StdSink, StdSource, read_all, write_all};
+use crate::{
+    Failed, MemSink, MemSource, ReadFault, Sink, Source, StdSink, StdSource, read_all, write_all,
+};
 use std::io::Write;
 use std::test::Fail;
 
@@ -51,5 +53,28 @@ fn a_memory_sink_fails_where_it_is_told_or_full(rt: HostRuntime) -> Result<(), F
     assert_eq!(rt; sink.write(b"rows"), Ok(2));
     assert_eq!(rt; sink.write(b"rows"), Err(Failed));
     assert_eq!(rt; sink.bytes(), b"rowsro".as_slice());
+    Ok(())
+}
+
+#[test]
+fn reading_stops_at_a_fault_or_past_the_limit(rt: HostRuntime) -> Result<(), Fail> {
+    // The limit, the call that fails, the answer, and how much is given by the next call.
+    let table = [
+        (7, 0, Ok(6), 0),
+        (6, 0, Ok(6), 0),
+        (5, 0, Err(ReadFault::TooLong), 0),
+        (3, 0, Err(ReadFault::TooLong), 2),
+        (6, 1, Err(ReadFault::Failed), 4),
+        (6, 2, Err(ReadFault::Failed), 2),
+        (6, 3, Err(ReadFault::Failed), 0),
+    ];
+    for (limit, failing, answer, next) in table {
+        let bytes = Vec::from_slice(rt.alloc(), b"sixsix")?;
+        let mut source = MemSource::new(bytes, 4, vec![in rt.alloc(); failing]?);
+        let taken = read_all(rt.alloc(), &mut source, limit).map(|all| all.len());
+        assert_eq!(rt; taken, answer, "{limit} {failing}");
+        let mut buf = [0u8; 8];
+        assert_eq!(rt; source.read(&mut buf), Ok(next), "{limit} {failing}");
+    }
     Ok(())
 }

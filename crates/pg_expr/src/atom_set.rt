@@ -1,14 +1,18 @@
-//! Sets of the atoms of a condition, numbered from 0 to 255. Contracts see their members.
+//! Sets of the atoms of a condition, numbered from 0 up to `MOST_ATOMS`. Contracts see their members.
 
 ghost use Rattle.std.specs.Prelude.{◌≡◌, ℕ, ◌<◌, ◌||◌, false, nat_eq};
 ghost use Rattle.pg_expr.specs.AtomSets.{contains};
 
+use pg_base::MOST_ATOMS;
 use std::marker::Model;
 
-/// A set of atoms: 256 bits, one for each number.
+/// So many words of 64 bits have a bit for each atom.
+const WORDS: usize = MOST_ATOMS / 64;
+
+/// A set of atoms: a bit for each number.
 #[derive(Debug, Drop)]
 pub struct AtomSet {
-    words: [u64; 4],
+    words: [u64; WORDS],
 }
 
 impl Model for AtomSet {
@@ -25,7 +29,7 @@ impl AtomSet {
     pub fn empty() -> AtomSet
         ensures { (k : ℕ) → contains result k ≡ false }
     {
-        AtomSet { words: [0; 4] }
+        AtomSet { words: [0; WORDS] }
     }
 
     /// Puts the atom in.

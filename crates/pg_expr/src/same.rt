@@ -5,26 +5,13 @@ ghost use Rattle.pg_expr.specs.View.{cond, conds};
 
 use crate::expr::{Expr, Exprs};
 use crate::operand::Operand;
-use pg_value::Value;
-
-fn is_same_value(a: &Value, b: &Value) -> bool
-    ensures { IsTrue result ↔ (a.now ≡ b.now) }
-{
-    match (a, b) {
-        (Value::Null, Value::Null) => true,
-        (Value::Int(x), Value::Int(y)) => x == y,
-        (Value::Bool(x), Value::Bool(y)) => x == y,
-        (Value::Text(x), Value::Text(y)) => x.items() == y.items(),
-        _ => false,
-    }
-}
 
 fn is_same_operand(a: &Operand, b: &Operand) -> bool
     ensures { IsTrue result ↔ (a.now ≡ b.now) }
 {
     match (a, b) {
         (Operand::Col(c), Operand::Col(d)) => c == d,
-        (Operand::Lit(v), Operand::Lit(w)) => is_same_value(v, w),
+        (Operand::Lit(v), Operand::Lit(w)) => v.is_same(w),
         _ => false,
     }
 }

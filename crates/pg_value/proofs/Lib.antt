@@ -2,3 +2,8 @@ pub mod Numerals
 pub mod OrderLaws
 pub mod Spelled
 pub mod Words
+pub mod ColumnOrderLemmas
+pub mod StableSortLemmas
+pub mod SortingLemmas
+pub mod SortByLemmas
+pub mod PartSearchLemmas

@@ -1,5 +1,5 @@
 -- The value that the text of a field spells (PostgreSQL manual, COPY, Numeric Types and Boolean Type; decimal digits alone, own).
-use Rattle.std.specs.Prelude.{◌≡◌, ℕ, ◌-◌, Bool, true, false, cond, ◌&&◌, ◌||◌, List, ◌∷◌, ◌++◌, length, take, drop, map, codes, ℤ, pos, neg_ℤ, Option, None, Some, Ok, Err, nat_lt, nat_le}
+use Rattle.std.specs.Prelude.{◌≡◌, ℕ, ◌-◌, Bool, true, false, cond, ◌&&◌, ◌||◌, List, [], ◌∷◌, ◌++◌, length, take, drop, map, codes, ℤ, pos, neg_ℤ, Option, None, Some, Ok, Err, nat_lt, nat_le}
 use Rattle.std.specs.declared.result.Result.{Result}
 use Rattle.std.specs.Char.{is_ascii_whitespace, is_ascii_digit, to_ascii_lowercase}
 use Rattle.std.specs.List.{prefix_len, suffix_len, list_all}
@@ -12,6 +12,10 @@ use Rattle.pg_value.specs.declared.value.SqlType.TheVariants.{Text as TextType, 
 use Rattle.pg_value.specs.declared.value.Value.{Value}
 use Rattle.pg_value.specs.declared.value.Value.TheVariants.{Int, Bool as Flag, Text as String}
 use Rattle.pg_value.specs.Types.{in_range}
+
+-- the text of NULL in COPY data, `\N`
+abbrev pub null_text : List ℕ
+null_text = 92 ∷ 78 ∷ []
 
 -- a text is a word with white space (space, tab, LF, FF, CR) or nothing before and after it
 pub record IsAmidBlanks (text word : List ℕ) : Type 0 where

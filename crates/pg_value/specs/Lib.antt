@@ -2,3 +2,5 @@ pub mod Fields
 pub mod Order
 pub mod Truths
 pub mod Types
+pub mod ColumnOrder
+pub mod Sorting

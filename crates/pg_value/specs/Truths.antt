@@ -63,21 +63,21 @@ accepts AbsGe = is_ge
 accepts AbsGt = is_gt
 
 -- the default family of a value's kind; for NULL, which has none, any
-abbrev pub default_family_of : Value → Family
-default_family_of Null = Integer
-default_family_of (Int n) = Integer
-default_family_of (Flag b) = BoolOps
-default_family_of (String t) = TextOps
+abbrev pub kind_family : Value → Family
+kind_family Null = Integer
+kind_family (Int n) = Integer
+kind_family (Flag b) = BoolOps
+kind_family (String t) = TextOps
 
 -- the family by whose order an operator compares
-abbrev pub family_of : Op → Value → Family
-family_of op v = cond (is_absolute op) IntAbs (default_family_of v)
+abbrev pub comparing_family : Op → Value → Family
+comparing_family op v = cond (is_absolute op) IntAbs (kind_family v)
 
 -- the truth of a comparison: Unknown where a side is NULL, else by the order of the operator's family (SQL)
 abbrev pub truth_of_op : Op → Value → Value → Truth
 truth_of_op op Null _ = Unknown
 truth_of_op op _ Null = Unknown
-truth_of_op op a b = truth_of (accepts op (value_order (family_of op a) a b))
+truth_of_op op a b = truth_of (accepts op (value_order (comparing_family op a) a b))
 
 -- an operator is defined on a value's kind: one by absolute value on whole numbers alone (own)
 abbrev pub HasOp : Op → Value → Type 0

@@ -1,11 +1,11 @@
 //! The order of values, and the truth of comparisons.
 
-ghost use Rattle.std.specs.Prelude.{◌≡◌, ℕ, ℤ, Bool, List, unsigned_abs, IfSome, IfOk};
+ghost use Rattle.std.specs.Prelude.{◌≡◌, ◌↔◌, ℕ, ℤ, Bool, List, unsigned_abs, IfSome, IfOk, IsTrue};
 ghost use Rattle.std.specs.Cmp.{IsTotalOrder};
 ghost use Rattle.pg_value.specs.declared.operators.Family.{Family};
 ghost use Rattle.pg_value.specs.declared.value.Value.{Value};
 ghost use Rattle.pg_value.specs.Order.{value_order, compared, IsOfFamily};
-ghost use Rattle.pg_value.specs.Truths.{both, either, opposite, truth_of, truth_of_op, accepts, is_absolute, AreComparable, negator_of, commutator_of};
+ghost use Rattle.pg_value.specs.Truths.{both, either, opposite, truth_of, truth_of_op, accepts, AreComparable, negator_of, commutator_of};
 
 use crate::operators::{Family, Op, Truth};
 use crate::value::Value;
@@ -57,22 +57,13 @@ pub fn apply(op: Op, a: &Value, b: &Value) -> Truth
         (Value::Null, _) | (_, Value::Null) => return Truth::Unknown,
         (Value::Text(_), _) => Family::Text,
         (Value::Bool(_), _) => Family::Bool,
-        _ if is_by_magnitude(op) => Family::IntAbs,
+        _ if op.is_by_magnitude() => Family::IntAbs,
         _ => Family::Integer,
     };
     match compare(family, a, b) {
         Some(order) => Truth::of(is_met(op, order)),
         None => Truth::Unknown,
     }
-}
-
-fn is_by_magnitude(op: Op) -> bool
-    ensures { result ≡ is_absolute op }
-{
-    matches!(
-        op,
-        Op::AbsLt | Op::AbsLe | Op::AbsEq | Op::AbsGe | Op::AbsGt
-    )
 }
 
 fn is_met(op: Op, order: Ordering) -> bool
@@ -175,6 +166,20 @@ impl Truth {
 }
 
 impl Value {
+    /// Whether two values are the same: of one kind, and equal there. NULL is the same as NULL alone, unlike in SQL, whose
+    /// `=` leaves it open.
+    pub fn is_same(&self, other: &Value) -> bool
+        ensures { IsTrue result ↔ (self.now ≡ other.now) }
+    {
+        match (self, other) {
+            (Value::Null, Value::Null) => true,
+            (Value::Int(m), Value::Int(n)) => m == n,
+            (Value::Bool(p), Value::Bool(q)) => p == q,
+            (Value::Text(s), Value::Text(t)) => s.items() == t.items(),
+            _ => false,
+        }
+    }
+
     /// An equal value.
     pub fn copy(&self, alloc: Global) -> Result<Value, AllocError>
         ensures { IfOk result (λ v. v ≡ self.now) }
@@ -224,6 +229,24 @@ mod tests {
         assert_eq!(rt; apply(Op::Eq, &short, &copied), Truth::True);
         assert_eq!(rt; apply(Op::Gt, &copied, &long), Truth::True);
         assert_eq!(rt; compare(Family::Text, &long, &Value::Null), None);
+        Ok(())
+    }
+
+    #[test]
+    fn sameness_is_of_kind_and_value(rt: HostRuntime) -> Result<(), Fail> {
+        let empty = Value::Text(Bytes::from_vec(Vec::new(rt.alloc())));
+        let all = [
+            Value::Null,
+            Value::Int(0),
+            Value::Int(-1),
+            Value::Bool(false),
+            empty,
+        ];
+        for (i, a) in all.iter().enumerate() {
+            for (j, b) in all.iter().enumerate() {
+                assert_eq!(rt; a.is_same(b), i == j, "{i} {j}");
+            }
+        }
         Ok(())
     }
 }

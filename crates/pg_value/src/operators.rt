@@ -1,5 +1,8 @@
 //! Operators, their families, and three-valued truth (PostgreSQL manual, chapter Indexes, Operator Classes and Families).
 
+ghost use Rattle.std.specs.Prelude.{◌≡◌};
+ghost use Rattle.pg_value.specs.Truths.{is_absolute};
+
 /// Three-valued truth, as of SQL conditions.
 #[derive(Clone, Copy, Debug, PartialEq, Eq)]
 pub enum Truth {
@@ -49,4 +52,16 @@ pub enum Op {
     AbsGe,
     /// `|>|`
     AbsGt,
+}
+
+impl Op {
+    /// Whether it compares whole numbers by absolute value.
+    pub fn is_by_magnitude(self) -> bool
+        ensures { result ≡ is_absolute self }
+    {
+        matches!(
+            self,
+            Op::AbsLt | Op::AbsLe | Op::AbsEq | Op::AbsGe | Op::AbsGt
+        )
+    }
 }

@@ -15,7 +15,7 @@ use Rattle.pg_value.specs.declared.value.SqlType.TheVariants.{Int2, Int4, Int8, 
 use Rattle.pg_value.specs.declared.value.Value.{Value}
 use Rattle.pg_value.specs.declared.value.Value.TheVariants.{Null, Int, Bool as Flag, Text as String}
 use Rattle.pg_value.specs.Order.{value_order}
-use Rattle.pg_value.specs.Truths.{both, either, opposite, truth_of, truth_of_op, accepts, is_absolute, family_of}
+use Rattle.pg_value.specs.Truths.{both, either, opposite, truth_of, truth_of_op, accepts, is_absolute, comparing_family}
 use Rattle.pg_expr.specs.declared.operand.ColRef.{ColRef}
 use Rattle.pg_expr.specs.declared.operand.Operand.{Operand}
 use Rattle.pg_expr.specs.declared.operand.Operand.TheVariants.{Col, Lit}
@@ -23,7 +23,7 @@ use Rattle.pg_expr.specs.Columns.{names_column}
 use Rattle.pg_expr.specs.Cond.{Cond, compare, is_null, is_not_null, bool_col, const, all_of, any_of, negation, Conds}
 use Rattle.pg_expr.specs.Truths.{value_of, truth_of_null, truth_of_flag, truth_at, truth_of_all, truth_of_any}
 use Rattle.pg_value.specs.Types.{IsOfType, in_range, limit}
-use Rattle.predicate_proof.specs.Atoms.{SameSide, SameAtom, is_column, typed_family, operator_family, IsValueOf, CellHolds, TableGives}
+use Rattle.predicate_proof.specs.Atoms.{SameSide, SameAtom, is_column, typed_family, operator_family, IsFamilyValue, CellHolds, TableGives}
 use Rattle.predicate_proof.specs.Derivation.{Implies, each_part, each_arm, arm_by_arm, atom_to_part, part_to_atom, all_to_part, part_to_any, same, not_null, by_table, ImpliesAll, no_part, part_and, ImpliesSome, this_part, later_part, AllImply, no_arm, arm_and, SomeImplies, this_clause, later_clause, EachImpliesSome, no_choice, choice_and}
 use Rattle.predicate_proof.specs.Rows.{at_row, FitsColumns}
 use Rattle.predicate_proof.proofs.Table.{cell-sound}
@@ -76,7 +76,7 @@ truth-true true h = refl
 truth-true false h = cc
 
 -- a comparison of values that are not NULL is by the order of the operator's family
-compared-given : (op : Op) (a b : Value) → opposite (truth_of_null a) ≡ True → opposite (truth_of_null b) ≡ True → truth_of_op op a b ≡ truth_of (accepts op (value_order (family_of op a) a b))
+compared-given : (op : Op) (a b : Value) → opposite (truth_of_null a) ≡ True → opposite (truth_of_null b) ≡ True → truth_of_op op a b ≡ truth_of (accepts op (value_order (comparing_family op a) a b))
 compared-given op Null b h k = cc
 compared-given op (Int n) Null h k = cc
 compared-given op (Int n) (Int m) h k = refl
@@ -91,7 +91,7 @@ compared-given op (String n) (Int m) h k = refl
 compared-given op (String n) (Flag m) h k = refl
 compared-given op (String n) (String m) h k = refl
 
-value-given : (f : Family) (v : Value) → IsValueOf f v → opposite (truth_of_null v) ≡ True
+value-given : (f : Family) (v : Value) → IsFamilyValue f v → opposite (truth_of_null v) ≡ True
 value-given f (Int n) h = refl
 value-given f (Flag b) h = refl
 value-given f (String t) h = refl
@@ -110,7 +110,7 @@ no_number t (pos m) none h = let below = ltb-true m (limit t) h in omega (arith,
 no_number t (negsuc m) none h = let below = ltb-true m (limit t) h in omega (arith, below, none)
 
 -- the family by which an operator compares a value of a type
-family-fits : (t : SqlType) (op : Op) (x : Value) (f : Family) → IsOfType t x → opposite (truth_of_null x) ≡ True → typed_family t op ≡ Some f → family_of op x ≡ f
+family-fits : (t : SqlType) (op : Op) (x : Value) (f : Family) → IsOfType t x → opposite (truth_of_null x) ≡ True → typed_family t op ≡ Some f → comparing_family op x ≡ f
 family-fits t op Null f fits given e = cc
 family-fits Int2 op (Int n) f fits given e = chosen (is_absolute op) Integer f e
 family-fits Int4 op (Int n) f fits given e = chosen (is_absolute op) Integer f e
@@ -130,7 +130,7 @@ family-fits BoolType op (String t) f fits given e = absurd fits
 
 -- the same at a column
 column-fits : (column : Option Column) (op : Op) (x : Value) (f : Family) → IfSome column (λ c. IsOfType c.typed x) → opposite (truth_of_null x) ≡ True →
-    option_and_then (λ c. typed_family c.typed op) column ≡ Some f → family_of op x ≡ f
+    option_and_then (λ c. typed_family c.typed op) column ≡ Some f → comparing_family op x ≡ f
 column-fits (Some column) op x f fits given e = family-fits column.typed op x f fits given e
 column-fits None op x f fits given e = cc
 
@@ -181,9 +181,9 @@ module _ (total : (f : Family) → IsTotalOrder (value_order f)) (columns : List
       let found = cell-family (operator_family columns c op) op v other w holds in
       let f = found.0 in
       let given = left-given op (row c) v h in
-      let of_clause : family_of op (row c) ≡ f = column-fits (slice_get columns c.0) op (row c) f (fits c) given found.1 in
+      let of_clause : comparing_family op (row c) ≡ f = column-fits (slice_get columns c.0) op (row c) f (fits c) given found.1 in
       let same_family : operator_family columns c other ≡ Some f = subst (λ (n : ColNo). operator_family columns n other ≡ Some f) (sym column) (sym families ∙ found.1) in
-      let of_goal : family_of other (row c) ≡ f = column-fits (slice_get columns c.0) other (row c) f (fits c) given same_family in
+      let of_goal : comparing_family other (row c) ≡ f = column-fits (slice_get columns c.0) other (row c) f (fits c) given same_family in
       let clause : accepts op (value_order f (row c) v) ≡ true =
       truth-true _ (ap (λ (g : Family). truth_of (accepts op (value_order g (row c) v))) (sym of_clause) ∙ sym (compared-given op (row c) v given (value-given f v found.2.0)) ∙ h) in
       let goal = cell-sound (value_order f) (total f) (row c) v w op other clause found.2.2 in

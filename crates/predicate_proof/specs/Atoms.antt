@@ -65,12 +65,12 @@ abbrev pub operator_family : List Column → ColNo → Op → Option Family
 operator_family columns c op = option_and_then (λ column. typed_family column.typed op) (slice_get columns c.0)
 
 -- a value, not NULL, of the kind that a family orders
-abbrev pub IsValueOf : Family → Value → Type 0
-IsValueOf Integer (Int n) = Unit {0}
-IsValueOf IntAbs (Int n) = Unit {0}
-IsValueOf TextOps (String t) = Unit {0}
-IsValueOf BoolOps (Flag b) = Unit {0}
-IsValueOf _ _ = ⊥
+abbrev pub IsFamilyValue : Family → Value → Type 0
+IsFamilyValue Integer (Int n) = Unit {0}
+IsFamilyValue IntAbs (Int n) = Unit {0}
+IsFamilyValue TextOps (String t) = Unit {0}
+IsFamilyValue BoolOps (Flag b) = Unit {0}
+IsFamilyValue _ _ = ⊥
 
 -- an operator by absolute value stands in the table as the one by value
 abbrev pub plain : Op → Op
@@ -107,7 +107,7 @@ cell _ _ = λ _. false
 -- both literals are values of the family, and its order meets the table's cell
 abbrev pub CellHolds : Option Family → Op → Value → Op → Value → Type 0
 CellHolds None op v other w = ⊥
-CellHolds (Some f) op v other w = IsValueOf f v × IsValueOf f w × IsTrue (cell (plain op) (plain other) (value_order f w v))
+CellHolds (Some f) op v other w = IsFamilyValue f v × IsFamilyValue f w × IsTrue (cell (plain op) (plain other) (value_order f w v))
 
 -- a comparison of a column with a literal implies another of the same column: both operators are of one family, and the table's cell holds
 abbrev pub TableGives : List Column → Op → ColNo → Value → Op → ColNo → Value → Type 0

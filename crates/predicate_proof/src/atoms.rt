@@ -1,10 +1,9 @@
 //! Whether one atom implies another.
 
 ghost use Rattle.std.specs.Prelude.{◌≡◌, ◌↔◌, IsTrue, Some};
-ghost use Rattle.pg_value.specs.Truths.{is_absolute};
 ghost use Rattle.pg_expr.specs.Columns.{names_column};
 ghost use Rattle.pg_expr.specs.View.{cond};
-ghost use Rattle.predicate_proof.specs.Atoms.{CellHolds, ComparisonGives, IsValueOf, SameAtom, SameSide, TableGives, cell, is_column, operator_family, plain, typed_family};
+ghost use Rattle.predicate_proof.specs.Atoms.{CellHolds, ComparisonGives, IsFamilyValue, SameAtom, SameSide, TableGives, cell, is_column, operator_family, plain, typed_family};
 
 use opfamily::default_family;
 use pg_base::ColNo;
@@ -12,26 +11,13 @@ use pg_expr::{Expr, Operand};
 use pg_value::{Column, Family, Op, SqlType, Value, compare};
 use std::cmp::Ordering;
 
-/// Whether two literals are equal by kind and value.
-fn is_same_literal(a: &Value, b: &Value) -> bool
-    ensures { IsTrue result ↔ (a.now ≡ b.now) }
-{
-    match (a, b) {
-        (Value::Null, Value::Null) => true,
-        (Value::Int(x), Value::Int(y)) => x == y,
-        (Value::Bool(x), Value::Bool(y)) => x == y,
-        (Value::Text(x), Value::Text(y)) => x.items() == y.items(),
-        _ => false,
-    }
-}
-
 /// Whether two sides of comparisons are one column, by its number, or one literal.
 fn is_same_side(a: &Operand, b: &Operand) -> bool
     ensures { IsTrue result ↔ SameSide a.now b.now }
 {
     match (a, b) {
         (Operand::Col(c), Operand::Col(d)) => c.col == d.col,
-        (Operand::Lit(v), Operand::Lit(w)) => is_same_literal(v, w),
+        (Operand::Lit(v), Operand::Lit(w)) => v.is_same(w),
         _ => false,
     }
 }
@@ -84,7 +70,7 @@ fn cell(op: Op, other: Op, order: Ordering) -> bool
 
 /// Whether a value is not NULL and of the kind that the family orders.
 fn is_value_of(f: Family, v: &Value) -> bool
-    ensures { IsTrue result ↔ IsValueOf f v.now }
+    ensures { IsTrue result ↔ IsFamilyValue f v.now }
 {
     match (f, v) {
         (Family::Integer | Family::IntAbs, Value::Int(_)) => true,
@@ -94,20 +80,11 @@ fn is_value_of(f: Family, v: &Value) -> bool
     }
 }
 
-fn is_by_magnitude(op: Op) -> bool
-    ensures { result ≡ is_absolute op }
-{
-    matches!(
-        op,
-        Op::AbsLt | Op::AbsLe | Op::AbsEq | Op::AbsGe | Op::AbsGt
-    )
-}
-
 /// The family of an operator over a type.
 fn typed_family(t: SqlType, op: Op) -> Family
     ensures { Some result ≡ typed_family t op }
 {
-    if is_by_magnitude(op) {
+    if op.is_by_magnitude() {
         Family::IntAbs
     } else {
         default_family(t)

@@ -2,12 +2,13 @@
 use Rattle.std.specs.Prelude.{ℕ, ◌==◌, List, ◌++◌, codes, map, if◌then◌else◌}
 use Rattle.std.specs.Fmt.{decimal, signed_decimal}
 use Rattle.csv.specs.Writing.{row_text, default_writer}
+use Rattle.pg_value.specs.Fields.{null_text}
 use Rattle.pg_value.specs.declared.value.Value.{Value}
 use Rattle.pg_value.specs.declared.value.Value.TheVariants.{Null, Int, Bool as Flag, Text as String}
 
--- a value as a field: `\N` for NULL, decimal digits after a minus or no sign, `t` or `f`, a text's bytes (PostgreSQL manual, COPY; own)
+-- a value as a field: NULL's own text, decimal digits after a minus or no sign, `t` or `f`, a text's bytes (PostgreSQL manual, COPY; own)
 abbrev pub field_text : Value → List ℕ
-field_text Null = codes "\\N"
+field_text Null = null_text
 field_text (Int n) = signed_decimal n
 field_text (Flag b) = if b then codes "t" else codes "f"
 field_text (String bytes) = bytes

@@ -45,7 +45,8 @@ fn push_value(alloc: Global, fields: &mut ByteRecord, value: &Value) -> Result<(
     }
 }
 
-/// The text of one record. Over a list of bytes the writer fails for want of memory alone.
+/// The text of one record. Over a list of bytes the writer fails for want of memory alone: a list takes every byte, and a
+/// first record cannot differ in length from one before it. That a new writer has written none is no clause of `csv`.
 fn written(alloc: Global, fields: &ByteRecord) -> Result<Vec<u8>, Memory>
     ensures { IfOk result (λ line. line.items ≡ row_text default_writer (fields_of fields.now)) }
 {

@@ -1,7 +1,6 @@
 -- The words of a statement and their first fault (PostgreSQL manual, chapter Lexical Structure).
 use Rattle.std.specs.Prelude.{◌≡◌, ◌≤◌, ℕ, Bool, true, false, ◌==◌, MatchBool, List, [], ◌∷◌, length, drop, slice_index, slice_range}
-use Rattle.pg_base.specs.declared.faults.Fault.{Fault}
-use Rattle.pg_base.specs.declared.faults.Code.TheVariants.{S1}
+use Rattle.pg_base.specs.Faults.{syntax_fault}
 use Rattle.pg_base.specs.declared.faults.Refusal.{Refusal}
 use Rattle.pg_base.specs.declared.faults.Refusal.TheVariants as refusal
 use Rattle.sql_lex.specs.declared.tokens.Kind.TheVariants.{Symbol, End}
@@ -53,11 +52,7 @@ StopsAt text from (t ∷ ts) at = IsNext text from t × (is_last text t ≡ fals
 abbrev pub IsWordFault : List ℕ → ℕ → ℕ → Type 0
 IsWordFault text from at = (before : List Token) × StopsAt text from before at
 
--- a syntax fault at a place; it names no words
-abbrev pub syntax_fault : ℕ → Fault
-syntax_fault place = record { code = S1; at = place; from = place; to = place; rec = 0; table = record { 0 = 0 }; col = 0 }
-
 -- why the words of a statement are refused: want of memory, or a syntax fault at their first fault
-abbrev pub IsRefusal : List ℕ → ℕ → Refusal → Type 0
-IsRefusal text from (refusal.Fault f) = (f ≡ syntax_fault f.at) × IsWordFault text from f.at
-IsRefusal text from refusal.Memory = Unit {0}
+abbrev pub IsWordRefusal : List ℕ → ℕ → Refusal → Type 0
+IsWordRefusal text from (refusal.Fault f) = (f ≡ syntax_fault f.at) × IsWordFault text from f.at
+IsWordRefusal text from refusal.Memory = Unit {0}

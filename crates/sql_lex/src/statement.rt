@@ -1,29 +1,15 @@
 //! The words of a statement, cut from its text.
 
 ghost use Rattle.std.specs.Prelude.{◌≡◌, ◌≤◌, ◌^◌, ◌==◌, length, slice_index, IfOk, IfErr, MatchResult};
-ghost use Rattle.sql_lex.specs.Words.{AreWords, EndsBlanks, IsNext, IsRefusal, IsStuck, is_last, syntax_fault};
+ghost use Rattle.sql_lex.specs.Words.{AreWords, EndsBlanks, IsNext, IsWordRefusal, IsStuck, is_last};
+ghost use Rattle.pg_base.specs.Faults.{syntax_fault};
 
 use crate::blanks::blank_len;
 use crate::forms::token_len;
 use crate::letters::rest;
 use crate::tokens::{Kind, Token, Tokens};
-use pg_base::{Code, Fault, Refusal, TableNo};
+use pg_base::{Fault, Refusal};
 use std::alloc::Global;
-
-/// A syntax fault at a place, which names no words.
-fn syntax_fault(at: u32) -> Fault
-    ensures { result ≡ syntax_fault at }
-{
-    Fault {
-        code: Code::S1,
-        at,
-        from: at,
-        to: at,
-        rec: 0,
-        table: TableNo(0),
-        col: 0,
-    }
-}
 
 /// Where the white space and the comments from a place on end.
 fn blanks_end(text: &[u8], from: usize) -> usize
@@ -52,7 +38,7 @@ fn next_token(text: &[u8], from: usize) -> Result<Token, Fault>
             start: start as u32,
             end: (start + len) as u32,
         }),
-        None => Err(syntax_fault(start as u32)),
+        None => Err(Fault::syntax(start as u32)),
     }
 }
 
@@ -84,7 +70,7 @@ pub fn lex_statement(alloc: Global, text: &[u8], from: u32) -> Result<Tokens, Re
     requires size { length text.now ≤ 2 ^ 31 }
     requires within { from ≤ length text.now }
     ensures words { IfOk result (AreWords text.now from) }
-    ensures refused { IfErr result (IsRefusal text.now from) }
+    ensures refused { IfErr result (IsWordRefusal text.now from) }
 {
     let mut tokens = Vec::new(alloc);
     let mut at = from as usize;

@@ -1,6 +1,6 @@
-use Rattle.std.proofs.Common.{◌≡◌, refl, subst, false, not}
+use Rattle.std.proofs.Common.{◌≡◌, ◌∙◌, refl, subst, false, not}
 use Rattle.std.specs.List.{All}
-use Rattle.pareto.proofs.Covering.{covered-kept, covered-on_ok, kept-on_ok, offered-on_ok, on_ok-of, unrelated-result}
+use Rattle.pareto.proofs.Covering.{covered-kept, covered-on_ok, kept-on_ok, not-covered, offered-on_ok, on_ok-of, unrelated-result}
 use Rattle.pareto.proofs.front.Front.offer.Goals as goal
 
 pub returns-clause-covered : goal.returns-clause-covered
@@ -27,3 +27,8 @@ invariant_of-self g c = unrelated g c
 
 pub returns-clause-undominated : goal.returns-clause-undominated
 returns-clause-undominated g c = on_ok-of c.replace_covered.result (unrelated g c)
+
+pub returns-clause-unchanged : goal.returns-clause-unchanged
+returns-clause-unchanged g c = λ covered. absurd (
+    not-covered g.T.Ranked.is_at_most c.args.self.now c.args.t
+    (subst (All (λ k. g.T.Ranked.is_at_most k c.args.t ≡ false)) (c.deref.ensures.value ∙ c.self.view_is) (c.if-is_covered.ensures.no refl)) covered)

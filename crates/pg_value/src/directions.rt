@@ -1,0 +1,140 @@
+//! The order of one column's values: a family's, with a direction and a place of NULL (PostgreSQL manual, chapter
+//! Queries, Sorting Rows).
+
+ghost use Rattle.std.specs.Prelude.{◌≡◌};
+ghost use Rattle.pg_value.specs.Order.{value_order, number, flag, bytes};
+ghost use Rattle.pg_value.specs.ColumnOrder.{column_order, place_of_null};
+
+use crate::operators::Family;
+use crate::value::Value;
+use std::cmp::Ordering;
+
+/// How two values of a column stand to one another: NULL before or after all others as `nulls_first` says, whatever
+/// the direction; other values by the family, turned round where descending. A value of a kind that the family does
+/// not order counts as 0, false or the empty text.
+pub fn column_order(
+    f: Family,
+    descending: bool,
+    nulls_first: bool,
+    a: &Value,
+    b: &Value,
+) -> Ordering
+    ensures { result ≡ column_order f descending nulls_first a.now b.now }
+{
+    match (a, b) {
+        (Value::Null, Value::Null) => Ordering::Equal,
+        (Value::Null, _) => null_place(nulls_first),
+        (_, Value::Null) => null_place(nulls_first).reverse(),
+        _ if descending => family_order(f, a, b).reverse(),
+        _ => family_order(f, a, b),
+    }
+}
+
+/// Where NULL stands to each other value.
+fn null_place(nulls_first: bool) -> Ordering
+    ensures { result ≡ place_of_null nulls_first }
+{
+    if nulls_first {
+        Ordering::Less
+    } else {
+        Ordering::Greater
+    }
+}
+
+/// Two values by a family.
+fn family_order(f: Family, a: &Value, b: &Value) -> Ordering
+    ensures { result ≡ value_order f a.now b.now }
+{
+    match f {
+        Family::Integer => number(a).cmp(&number(b)),
+        Family::IntAbs => number(a).unsigned_abs().cmp(&number(b).unsigned_abs()),
+        Family::Text => bytes(a).cmp(bytes(b)),
+        Family::Bool => flag(a).cmp(&flag(b)),
+    }
+}
+
+/// A whole number, or 0.
+fn number(v: &Value) -> i64
+    ensures { result ≡ number v.now }
+{
+    match v {
+        Value::Int(n) => *n,
+        _ => 0,
+    }
+}
+
+/// A truth value, or false.
+fn flag(v: &Value) -> bool
+    ensures { result ≡ flag v.now }
+{
+    match v {
+        Value::Bool(b) => *b,
+        _ => false,
+    }
+}
+
+/// The bytes of a text, or none.
+fn bytes(v: &Value) -> &[u8]
+    ensures { result.now ≡ bytes v.now }
+{
+    match v {
+        Value::Text(t) => t.items(),
+        _ => &[],
+    }
+}
+
+#[cfg(test)]
+mod tests {
+    use super::*;
+
+    #[test]
+    fn directions_and_nulls(rt: HostRuntime) {
+        let (one, two, null) = (Value::Int(1), Value::Int(-2), Value::Null);
+        let cases = [
+            (
+                Family::Integer,
+                false,
+                false,
+                Ordering::Greater,
+                Ordering::Less,
+            ),
+            (Family::Integer, true, false, Ordering::Less, Ordering::Less),
+            (
+                Family::Integer,
+                false,
+                true,
+                Ordering::Greater,
+                Ordering::Greater,
+            ),
+            (
+                Family::Integer,
+                true,
+                true,
+                Ordering::Less,
+                Ordering::Greater,
+            ),
+            (Family::IntAbs, false, false, Ordering::Less, Ordering::Less),
+            (
+                Family::IntAbs,
+                true,
+                true,
+                Ordering::Greater,
+                Ordering::Greater,
+            ),
+        ];
+        for (f, descending, nulls_first, numbers, number_null) in cases {
+            assert_eq!(rt;
+                column_order(f, descending, nulls_first, &one, &two),
+                numbers
+            );
+            assert_eq!(rt;
+                column_order(f, descending, nulls_first, &two, &null),
+                number_null
+            );
+            assert_eq!(rt;
+                column_order(f, descending, nulls_first, &null, &null),
+                Ordering::Equal
+            );
+        }
+    }
+}

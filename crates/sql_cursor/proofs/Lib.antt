@@ -2,4 +2,3 @@ pub mod Tokens
 pub mod Names
 pub mod Next
 pub mod Named
-pub mod Pieces

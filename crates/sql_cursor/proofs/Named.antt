@@ -14,7 +14,7 @@ use Rattle.sql_lex.specs.Words.{AreWords, is_last}
 use Rattle.sql_grammar.specs.Terminals.{Terminal, Ident, t_name, place_of, class_of}
 use Rattle.sql_grammar.specs.Reading.{terminal_by, terminal_of, bytes_of_token}
 use Rattle.sql_grammar.specs.Faults.{bytes_of, limit_of, terminals, AreWithinLimits}
-use Rattle.catalog.specs.Names.{IsName, begins_name, is_in_name}
+use Rattle.pg_base.specs.Names.{IsName, begins_name, is_in_name}
 use Rattle.sql_cursor.proofs.Names.{name-bytes, symbol-name}
 
 -- the letters of a word in small letters
@@ -46,15 +46,15 @@ spelled-name bytes n form spells within =
     let short = short-by (length (bytes_of n)) (nat_le (length (bytes_of n)) 63) refl within in
     subst IsName (sym spells) (word-name bytes form (subst (λ (b : List ℕ). length b ≤ 63) spells short))
 
-token-name : (kind : Kind) (bytes rest : List ℕ) (n : Ident) → IsToken kind bytes rest → terminal_by kind bytes ≡ t_name n → limit_of (t_name n) ≡ None → IsName (bytes_of n)
-token-name WordKind bytes rest n form is within =
-    let (name, spelled, named) = name-bytes WordKind bytes (place_of n) (ap class_of is) in
+token-name : (kind : Kind) (bytes rest : List ℕ) (t : Token) (n : Ident) → IsToken kind bytes rest → terminal_by kind bytes t ≡ t_name n → limit_of (t_name n) ≡ None → IsName (bytes_of n)
+token-name WordKind bytes rest t n form is within =
+    let (name, spelled, placed, named) = name-bytes WordKind bytes t (place_of n) (ap class_of is) in
     let same : name ≡ n = cc (named, is) in
     spelled-name bytes n form.0 (sym (ap bytes_of same) ∙ spelled) within
-token-name NumberKind bytes rest n form is within = absurd (cc (is))
-token-name QuotedKind bytes rest n form is within = absurd (cc (is))
-token-name SymbolKind bytes rest n form is within = absurd (symbol-name bytes (place_of n) (ap class_of is))
-token-name EndKind bytes rest n form is within = absurd (cc (is))
+token-name NumberKind bytes rest t n form is within = absurd (cc (is))
+token-name QuotedKind bytes rest t n form is within = absurd (cc (is))
+token-name SymbolKind bytes rest t n form is within = absurd (symbol-name bytes t (place_of n) (ap class_of is))
+token-name EndKind bytes rest t n form is within = absurd (cc (is))
 
 -- each token has a form
 abbrev Formed : List ℕ → Token → Type 0
@@ -76,7 +76,7 @@ AreNamed (w ∷ ws) = ((n : Ident) → w ≡ t_name n → IsName (bytes_of n)) �
 named : (text : List ℕ) (ts : List Token) → All (Formed text) ts → AreWithinLimits (terminals text ts) → AreNamed (terminals text ts)
 named text [] form within = tt
 named text (t ∷ ts) form within = (
-  λ n is. let f = form 0 t (omega arith) in token-name t.kind (bytes_of_token text t) f.0 n f.1 is (subst (λ w. limit_of w ≡ None) is (within 0 (terminal_of text t) (omega arith))),
+  λ n is. let f = form 0 t (omega arith) in token-name t.kind (bytes_of_token text t) f.0 t n f.1 is (subst (λ w. limit_of w ≡ None) is (within 0 (terminal_of text t) (omega arith))),
   named text ts (All-tail (Formed text) t ts form) (All-tail (λ w. limit_of w ≡ None) (terminal_of text t) (terminals text ts) within),
 )
 

@@ -1,11 +1,10 @@
 //! The words of a statement that are left.
 
 ghost use Rattle.std.specs.Prelude.{◌≡◌, ◌≢◌, ◌≤◌, ◌^◌, ℕ, List, [], ◌∷◌, length, drop, true, false, MatchOption, MatchResult};
-ghost use Rattle.sql_lex.specs.declared.tokens.Token.{Token};
 ghost use Rattle.sql_lex.specs.Words.{AreWords};
-ghost use Rattle.sql_grammar.specs.Terminals.{Terminal, Ident, free, t_key, t_mark, t_name, t_quoted, class_of as class_of_terminal};
-ghost use Rattle.sql_cursor.specs.Pieces.{Piece, piece, pieces};
-ghost use Rattle.sql_cursor.specs.Reading.{Begins, BeginsNot, BeginsName, BeginsQuoted};
+ghost use Rattle.sql_grammar.specs.Terminals.{Terminal, free, t_key, t_mark, t_name, class_of as class_of_terminal};
+ghost use Rattle.sql_grammar.specs.Faults.{terminals};
+ghost use Rattle.sql_cursor.specs.Reading.{Begins, BeginsNot, BeginsName, BeginsNoName, BeginsQuoted, BeginsNoQuoted};
 
 use crate::values::{small_letters, unquoted};
 use pg_value::Bytes;
@@ -35,11 +34,12 @@ pub struct Cursor<'a> {
 impl<'a> Model for Cursor<'a> {
     ghost use Rattle.std.specs.Prelude.{List, drop, ◌≤◌, length, All};
     ghost use Rattle.sql_grammar.specs.Reading.{IsWithin};
-    ghost use Rattle.sql_cursor.specs.Pieces.{Piece, pieces};
+    ghost use Rattle.sql_grammar.specs.Terminals.{Terminal};
+    ghost use Rattle.sql_grammar.specs.Faults.{terminals};
 
-    ghost Value = { List Piece };
+    ghost Value = { List Terminal };
 
-    ghost view = { λ c. pieces c.text.now (drop c.at c.tokens.now) };
+    ghost view = { λ c. terminals c.text.now (drop c.at c.tokens.now) };
 
     ghost invariant = { λ c. (c.at ≤ length c.tokens.now) × All (IsWithin c.text.now) c.tokens.now };
 }
@@ -50,7 +50,7 @@ impl<'a> Cursor<'a> {
         requires short { length text.now ≤ 2 ^ 31 }
         requires words { (from : ℕ) × AreWords text.now from tokens.now }
         requires first { first ≤ length tokens.now }
-        ensures { result ≡ pieces text.now (drop first tokens.now) }
+        ensures { result ≡ terminals text.now (drop first tokens.now) }
     {
         Cursor {
             text,
@@ -61,7 +61,7 @@ impl<'a> Cursor<'a> {
 
     /// The class of the next word, which stays; None where none is left.
     pub fn peek(&self) -> Option<Class>
-        ensures { MatchOption result (self.now ≡ []) (λ c. (word : Terminal) × (token : Token) × (left : List Piece) × (class_of_terminal word ≡ c) × (self.now ≡ piece word token ∷ left)) }
+        ensures { MatchOption result (self.now ≡ []) (λ c. (word : Terminal) × (left : List Terminal) × (class_of_terminal word ≡ c) × (self.now ≡ word ∷ left)) }
     {
         if self.at < self.tokens.len() {
             Some(class_of(self.text, self.tokens[self.at]))
@@ -111,9 +111,9 @@ impl<'a> Cursor<'a> {
 
     /// Takes the next word where it is this word, which is not reserved.
     pub fn takes_free(&mut self, wanted: Free) -> bool
-        ensures took { result ≡ true → Begins (t_name (free wanted)) self.old self.new }
+        ensures took { result ≡ true → Begins (λ token. t_name (free wanted token)) self.old self.new }
         ensures left { result ≡ false → self.new ≡ self.old }
-        ensures other { result ≡ false → BeginsNot (t_name (free wanted)) self.old }
+        ensures other { result ≡ false → BeginsNot (λ token. t_name (free wanted token)) self.old }
     {
         if self.peek() == Some(Class::Name(Some(wanted))) {
             self.skip(1);
@@ -126,7 +126,7 @@ impl<'a> Cursor<'a> {
     /// Takes the next word where it is a name.
     pub fn name(&mut self, alloc: Global) -> Result<Option<Spelled>, AllocError>
         ensures { MatchResult result
-            (λ found. MatchOption found ((self.new ≡ self.old) × ((name : Ident) → BeginsNot (t_name name) self.old)) (λ s. BeginsName s.bytes s.token self.old self.new))
+            (λ found. MatchOption found ((self.new ≡ self.old) × BeginsNoName self.old) (λ s. BeginsName s self.old self.new))
             (λ _. self.new ≡ self.old) }
     {
         match self.peek() {
@@ -143,7 +143,7 @@ impl<'a> Cursor<'a> {
     /// Takes the next word where it is a quoted text.
     pub fn quoted(&mut self, alloc: Global) -> Result<Option<Spelled>, AllocError>
         ensures { MatchResult result
-            (λ found. MatchOption found ((self.new ≡ self.old) × ((value : List ℕ) → BeginsNot (t_quoted value) self.old)) (λ s. BeginsQuoted s.bytes s.token self.old self.new))
+            (λ found. MatchOption found ((self.new ≡ self.old) × BeginsNoQuoted self.old) (λ s. BeginsQuoted s self.old self.new))
             (λ _. self.new ≡ self.old) }
     {
         match self.peek() {

@@ -5,7 +5,7 @@ ghost use Rattle.sql_lex.specs.declared.tokens.Token.{Token};
 ghost use Rattle.sql_lex.specs.Words.{AreWords};
 ghost use Rattle.sql_grammar.specs.Terminals.{Ident, t_name};
 ghost use Rattle.sql_grammar.specs.Faults.{bytes_of, terminals, AreWithinLimits};
-ghost use Rattle.catalog.specs.Names.{IsName};
+ghost use Rattle.pg_base.specs.Names.{IsName};
 
 /// A name among the words of a statement from token `first` on, which are within the limits, is a name of the catalogue.
 pub fn names_among_words()

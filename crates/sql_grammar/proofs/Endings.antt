@@ -4,11 +4,11 @@ use Rattle.std.proofs.lemmas.Bool.{and_parts}
 use Rattle.sql_grammar.specs.declared.class.Class.{Class}
 use Rattle.sql_grammar.specs.declared.table.Item.{Item}
 use Rattle.sql_grammar.specs.declared.table.Item.TheVariants.{Whole, Ends, Stop}
-use Rattle.sql_grammar.specs.Table.{Row, takes_of, is_optional, is_last, is_ending}
-use Rattle.sql_grammar.specs.Machine.{depth_of, opens, after, step_of, may_end, is_empty, is_closed}
+use Rattle.sql_grammar.specs.Table.{Expansion, takes_of, is_optional, takes_end, is_ending}
+use Rattle.sql_grammar.specs.Machine.{depth_of, opens, by_row, step_of, may_end, is_empty, is_closed}
 use Rattle.sql_grammar.proofs.Room.{row_test, row-room}
 
-optional-inner : (i : Item) → is_optional i ≡ true → is_last i ≡ false
+optional-inner : (i : Item) → is_optional i ≡ true → takes_end i ≡ false
 optional-inner Whole o = absurd (cc)
 optional-inner Ends o = absurd (cc)
 optional-inner Stop o = absurd (cc)
@@ -22,7 +22,7 @@ inner-parts false x e = (refl, e)
 closed-append : (none last : Bool) (is s : List Item) → is_closed true false is ≡ true → is_closed none last s ≡ true → is_closed none last (is ++ s) ≡ true
 closed-append none last [] s a b = b
 closed-append none last (i ∷ is) s a b =
-    let parts = inner-parts (is_last i) (is_closed true false is) a in
+    let parts = inner-parts (takes_end i) (is_closed true false is) a in
     rw (parts.0) (closed-append none last is s parts.1 b)
 
 closed-either : (none b : Bool) (x y z : Bool) → (y ≡ true → z ≡ true) → cond b x y ≡ true → cond b x z ≡ true
@@ -31,7 +31,7 @@ closed-either none false x y z h e = h e
 
 closed-more : (none : Bool) (s : List Item) → is_closed false true s ≡ true → is_closed none true s ≡ true
 closed-more none [] e = absurd (cc)
-closed-more none (i ∷ s) e = closed-either none (is_last i) (is_empty s) (is_closed false true s) (is_closed none true s) (closed-more none s) e
+closed-more none (i ∷ s) e = closed-either none (takes_end i) (is_empty s) (is_closed false true s) (is_closed none true s) (closed-more none s) e
 
 -- what a stack is after a terminal of the class
 pub record Closed (none last : Bool) (t : Class) (n : List Item) : Type 0 where
@@ -56,12 +56,12 @@ pushed-same x n false c e = cc
 pushed-same x n true true e = cc
 pushed-same x n true false e = absurd (cc)
 
-closed-steps : (limit : ℕ) (none last : Bool) (i : Item) (t : Class) (s n : List Item) (row : Row) (o : Bool) (below : Option (List Item)) →
-    row_test i t row ≡ true → (o ≡ true → is_last i ≡ false) → is_closed none last (i ∷ s) ≡ true →
-    (is_closed none last s ≡ true → below ≡ Some n → Closed none last t n) → after limit row o s below ≡ Some n → Closed none last t n
+closed-steps : (limit : ℕ) (none last : Bool) (i : Item) (t : Class) (s n : List Item) (row : Expansion) (o : Bool) (below : Option (List Item)) →
+    row_test i t row ≡ true → (o ≡ true → takes_end i ≡ false) → is_closed none last (i ∷ s) ≡ true →
+    (is_closed none last s ≡ true → below ≡ Some n → Closed none last t n) → by_row limit row o s below ≡ Some n → Closed none last t n
 closed-steps limit none last i t s n (Some is) o below test inner closed more e =
     let same = pushed-same (is ++ s) n (opens is) (nat_le (depth_of (is ++ s)) limit) e in
-    subst (Closed none last t) same (by-cases none last t is s (is_last i) (is_ending t) refl (and_parts _ _ test).1 closed)
+    subst (Closed none last t) same (by-cases none last t is s (takes_end i) (is_ending t) refl (and_parts _ _ test).1 closed)
 closed-steps limit none last i t s n None true below test inner closed more e =
     more (subst (λ b. cond b (last && is_empty s) (is_closed none last s) ≡ true) (inner refl) closed) e
 closed-steps limit none last i t s n None false below test inner closed more e = absurd (cc)
@@ -77,7 +77,7 @@ end-awaited true o m e c inner more closed = rw (inner refl) refl
 end-awaited false true m e c inner more closed = more closed
 end-awaited false false m e c inner more closed = refl
 
-last-needed : (i : Item) → is_last i ≡ true → is_optional i ≡ false
+last-needed : (i : Item) → takes_end i ≡ true → is_optional i ≡ false
 last-needed Whole l = refl
 last-needed Ends l = refl
 last-needed Stop l = refl
@@ -85,4 +85,4 @@ last-needed _ l = absurd (cc)
 
 pub still-open : (s : List Item) → is_closed false true s ≡ true → may_end s ≡ false
 still-open [] closed = absurd (cc)
-still-open (i ∷ s) closed = end-awaited (is_last i) (is_optional i) (may_end s) (is_empty s) (is_closed false true s) (last-needed i) (still-open s) closed
+still-open (i ∷ s) closed = end-awaited (takes_end i) (is_optional i) (may_end s) (is_empty s) (is_closed false true s) (last-needed i) (still-open s) closed

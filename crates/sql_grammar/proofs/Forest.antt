@@ -1,11 +1,12 @@
 -- What the items of a stack may stand for: a part of a statement each.
 use Rattle.std.proofs.Common.{◌≡◌, ℕ, ◌+◌, ◌≤◌, List, [], ◌∷◌, ◌++◌}
-use Rattle.sql_grammar.specs.Terminals.{Terminal, t_key, t_mark, t_name, t_number, t_quoted, t_semicolon, Ident, free}
+use Rattle.sql_lex.specs.declared.tokens.Token.{Token}
+use Rattle.sql_grammar.specs.Terminals.{Terminal, t_key, t_mark, t_name, t_number, t_quoted, t_semicolon, Ident, Said, free}
 use Rattle.sql_grammar.specs.declared.class.Word.TheVariants.{Is}
 use Rattle.sql_grammar.specs.declared.class.Symbol.TheVariants.{Close, Dot}
 use Rattle.sql_grammar.specs.declared.table.Item.{Item}
 use Rattle.sql_grammar.specs.declared.table.Item.TheVariants.{Keyword, Sign, FreeWord, Label, Digits, QuotedText, Whole, Ends, Stop, Query, Nullness, MoreColumns, Result, MoreResults, AfterResult, StarOrLabel, MaybeAlias, Negation, MoreAnds, MoreOrs, Closes, NotEnds, AfterName, AfterColumn, AfterIs, AfterLiteral, AfterTruth, Side, AfterQualifier}
-use Rattle.sql_grammar.specs.Syntax.{Col, Constant, Lit, constant, Operand, Ors, Ands, Neg, Atom, Nulls, ColDef, Output, Alias, Select, Ending, Statement}
+use Rattle.sql_grammar.specs.Syntax.{Key, Mark, Col, Constant, Lit, constant, Operand, Ors, Ands, Neg, Atom, Nulls, ColDef, Output, Alias, Select, Ending, Statement}
 use Rattle.sql_grammar.specs.Words.{words_of, words_of_col, words_of_lit, words_of_operand, words_of_ors, words_of_ands, words_of_neg, words_of_atom, words_of_nulls, words_of_columns, words_of_output, words_of_outputs, words_of_alias, words_of_select, words_of_ending, levels_of, levels_of_ors, levels_of_ands, levels_of_neg, levels_of_atom}
 use Rattle.sql_grammar.specs.Machine.{depth_of}
 
@@ -15,54 +16,54 @@ Atom_after front ts = (a : Atom) × (words_of_atom a ≡ front ++ ts) × (levels
 
 -- what an item below which `depth` levels are open stands for
 abbrev pub Part : ℕ → ℕ → Item → Type 0
-Part limit depth (Keyword w) = Unit {0}
-Part limit depth (Sign s) = Unit {0}
-Part limit depth (FreeWord w) = Unit {0}
+Part limit depth (Keyword w) = Key
+Part limit depth (Sign s) = Mark
+Part limit depth (FreeWord w) = Token
 Part limit depth Label = Ident
-Part limit depth Digits = List ℕ
-Part limit depth QuotedText = List ℕ
+Part limit depth Digits = Said
+Part limit depth QuotedText = Said
 Part limit depth Whole = (x : Statement) × (levels_of x + depth ≤ limit)
 Part limit depth Ends = Ending
-Part limit depth Stop = Unit {0}
+Part limit depth Stop = Token
 Part limit depth Query = Select
 Part limit depth Nullness = Nulls
-Part limit depth MoreColumns = List ColDef
+Part limit depth MoreColumns = List (Mark × ColDef) × Mark
 Part limit depth Negation = (x : Neg) × (levels_of_neg x + depth ≤ limit)
 Part limit depth MoreAnds = (x : Ands) × (levels_of_ands x + depth ≤ limit)
 Part limit depth MoreOrs = (x : Ors) × (levels_of_ors x + depth ≤ limit)
-Part limit depth Closes = Unit {0}
+Part limit depth Closes = Mark
 Part limit depth NotEnds = Unit {0}
 Part limit depth AfterName = (ts : List Terminal) × ((n : Ident) → Atom_after (t_name n ∷ []) ts)
 Part limit depth AfterColumn = (ts : List Terminal) × ((c : Col) → Atom_after (words_of_col c) ts)
-Part limit depth AfterIs = (ts : List Terminal) × ((c : Col) → Atom_after (words_of_col c) (t_key Is ∷ ts))
+Part limit depth AfterIs = (ts : List Terminal) × ((c : Col) (k : Key) → Atom_after (words_of_col c) (t_key Is k ∷ ts))
 Part limit depth AfterLiteral = (ts : List Terminal) × ((l : Lit) → Atom_after (words_of_lit l) ts)
-Part limit depth AfterTruth = (ts : List Terminal) × ((k : Constant) → Atom_after (words_of_lit (constant k)) ts)
+Part limit depth AfterTruth = (ts : List Terminal) × ((c : Constant) (k : Key) → Atom_after (words_of_lit (constant c k)) ts)
 Part limit depth Side = Operand
 Part limit depth AfterQualifier = (ts : List Terminal) × ((n : Ident) → (c : Col) × (words_of_col c ≡ t_name n ∷ ts))
 Part limit depth Result = Output
-Part limit depth MoreResults = List Output
+Part limit depth MoreResults = List (Mark × Output)
 Part limit depth AfterResult = (ts : List Terminal) × ((n : Ident) → (o : Output) × (words_of_output o ≡ t_name n ∷ ts))
-Part limit depth StarOrLabel = (ts : List Terminal) × ((n : Ident) → (o : Output) × (words_of_output o ≡ t_name n ∷ t_mark Dot ∷ ts))
+Part limit depth StarOrLabel = (ts : List Terminal) × ((n : Ident) (d : Mark) → (o : Output) × (words_of_output o ≡ t_name n ∷ t_mark Dot d ∷ ts))
 Part limit depth MaybeAlias = Alias
 
 -- its words
 abbrev pub words_of_part : (limit depth : ℕ) (i : Item) → Part limit depth i → List Terminal
-words_of_part limit depth (Keyword w) p = t_key w ∷ []
-words_of_part limit depth (Sign s) p = t_mark s ∷ []
-words_of_part limit depth (FreeWord w) p = t_name (free w) ∷ []
+words_of_part limit depth (Keyword w) k = t_key w k ∷ []
+words_of_part limit depth (Sign s) m = t_mark s m ∷ []
+words_of_part limit depth (FreeWord w) t = t_name (free w t) ∷ []
 words_of_part limit depth Label n = t_name n ∷ []
 words_of_part limit depth Digits n = t_number n ∷ []
 words_of_part limit depth QuotedText q = t_quoted q ∷ []
 words_of_part limit depth Whole p = words_of p.0
 words_of_part limit depth Ends p = words_of_ending p
-words_of_part limit depth Stop p = t_semicolon ∷ []
+words_of_part limit depth Stop t = t_semicolon t ∷ []
 words_of_part limit depth Query p = words_of_select p
 words_of_part limit depth Nullness p = words_of_nulls p
-words_of_part limit depth MoreColumns p = words_of_columns p ++ t_mark Close ∷ []
+words_of_part limit depth MoreColumns p = words_of_columns p.0 ++ t_mark Close p.1 ∷ []
 words_of_part limit depth Negation p = words_of_neg p.0
 words_of_part limit depth MoreAnds p = words_of_ands p.0
 words_of_part limit depth MoreOrs p = words_of_ors p.0
-words_of_part limit depth Closes p = t_mark Close ∷ []
+words_of_part limit depth Closes m = t_mark Close m ∷ []
 words_of_part limit depth NotEnds p = []
 words_of_part limit depth AfterName p = p.0
 words_of_part limit depth AfterColumn p = p.0

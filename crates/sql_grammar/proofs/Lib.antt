@@ -10,3 +10,5 @@ pub mod Walked
 pub mod Spellings
 pub mod LimitLaws
 pub mod StatementWords
+pub mod Trees
+pub mod ExprTrees

@@ -5,6 +5,8 @@ use Rattle.std.specs.Str.{bytes_eq}
 use Rattle.std.proofs.lemmas.Slice.Eq.{bytes_eq-Decides}
 use Rattle.pg_base.specs.declared.faults.Limit.{Limit}
 use Rattle.pg_base.specs.declared.faults.Limit.TheVariants.{Text, Name, Depth}
+use Rattle.pg_base.specs.declared.limits.TheConstants.{MOST_LEVELS, MOST_NAME_BYTES, MOST_TEXT_BYTES}
+use Rattle.sql_lex.specs.declared.tokens.Token.{Token}
 use Rattle.sql_grammar.specs.declared.table.Item.{Item}
 use Rattle.sql_grammar.specs.declared.class.Word.{Word}
 use Rattle.sql_grammar.specs.declared.class.Word.TheVariants.{And, As, Asc, Create, Cross, Desc, False, From, Group, Inner, Is, Join, Limit as LimitWord, Not, Null, Offset, On, Or, Order, Select, Table, True, Using, Where, With}
@@ -21,12 +23,12 @@ never-by true l other e = absurd (cc)
 never-by false l other e = other e
 
 never-depth : (t : Terminal) → limit_of t ≡ Some Depth → ⊥
-never-depth (t_name n) e = never-by (nat_le (length (bytes_of n)) 63) Name (λ f. absurd (cc)) e
-never-depth (t_quoted v) e = never-by (nat_le (length v) 8192) Text (λ f. absurd (cc)) e
+never-depth (t_name n) e = never-by (nat_le (length (bytes_of n)) MOST_NAME_BYTES) Name (λ f. absurd (cc)) e
+never-depth (t_quoted v) e = never-by (nat_le (length v.value) MOST_TEXT_BYTES) Text (λ f. absurd (cc)) e
 never-depth _ e = absurd (cc)
 
 -- a terminal that is awaited and past a limit stops the walk
-pub past-limit : (t : Terminal) (s n : List Item) (limit : Limit) → step_of 32 (class_of t) s ≡ Some n → limit_of t ≡ Some limit → StopsBy (S15 limit) t s
+pub past-limit : (t : Terminal) (s n : List Item) (limit : Limit) → step_of MOST_LEVELS (class_of t) s ≡ Some n → limit_of t ≡ Some limit → StopsBy (S15 limit) t s
 past-limit t s n Depth step is = absurd (never-depth t is)
 past-limit t s n _ step is = ((n, step), is)
 
@@ -41,7 +43,7 @@ module _ (W : Type 0) (p : W → Bool) where
   found (y ∷ ws) x e = found-by (p y) x y (find p ws) refl (found ws x) e
 
 -- no reserved word is so long as a name may be
-short-word : (w : Word) → nat_le (length (spelling_of w)) 63 ≡ true
+short-word : (w : Word) → nat_le (length (spelling_of w)) MOST_NAME_BYTES ≡ true
 short-word And = refl
 short-word As = refl
 short-word Asc = refl
@@ -68,29 +70,29 @@ short-word Using = refl
 short-word Where = refl
 short-word With = refl
 
-named-by : (o : Option Free) (small : List ℕ) → free_of small ≡ o → bytes_of (ident_of o small) ≡ small
-named-by (Some w) small is = sym ((bytes_eq-Decides small (free_spelling_of w)).0 (found Free (λ v. bytes_eq small (free_spelling_of v)) free_words w is))
-named-by None small is = refl
+named-by : (o : Option Free) (small : List ℕ) (t : Token) → free_of small ≡ o → bytes_of (ident_of o small t) ≡ small
+named-by (Some w) small t is = sym ((bytes_eq-Decides small (free_spelling_of w)).0 (found Free (λ v. bytes_eq small (free_spelling_of v)) free_words w is))
+named-by None small t is = refl
 
-word-by : (o : Option Word) (small : List ℕ) → reserved_of small ≡ o → limit_of (word_terminal o small) ≡ cond (nat_le (length small) 63) None (Some Name)
-word-by (Some w) small is =
+word-by : (o : Option Word) (small : List ℕ) (t : Token) → reserved_of small ≡ o → limit_of (word_terminal o small t) ≡ cond (nat_le (length small) MOST_NAME_BYTES) None (Some Name)
+word-by (Some w) small t is =
     let spelled = (bytes_eq-Decides small (spelling_of w)).0 (found Word (λ v. bytes_eq small (spelling_of v)) reserved_words w is) in
-    let short : nat_le (length small) 63 ≡ true = ap (λ bs. nat_le (length bs) 63) spelled ∙ short-word w in
+    let short : nat_le (length small) MOST_NAME_BYTES ≡ true = ap (λ bs. nat_le (length bs) MOST_NAME_BYTES) spelled ∙ short-word w in
     rw short refl
-word-by None small is = ap (λ bs. cond (nat_le (length bs) 63) None (Some Name)) (named-by (free_of small) small refl)
+word-by None small t is = ap (λ bs. cond (nat_le (length bs) MOST_NAME_BYTES) None (Some Name)) (named-by (free_of small) small t refl)
 
 -- a word is past a limit where it is longer than a name may be
-pub word-limit : (small : List ℕ) → limit_of (word_terminal (reserved_of small) small) ≡ cond (nat_le (length small) 63) None (Some Name)
-word-limit small = word-by (reserved_of small) small refl
+pub word-limit : (small : List ℕ) (t : Token) → limit_of (word_terminal (reserved_of small) small t) ≡ cond (nat_le (length small) MOST_NAME_BYTES) None (Some Name)
+word-limit small t = word-by (reserved_of small) small t refl
 
 either : (b : Bool) (x y : Terminal) → limit_of x ≡ None → limit_of y ≡ None → limit_of (cond b x y) ≡ None
 either true x y h k = h
 either false x y h k = k
 
 -- no symbol is past a limit
-pub symbol-limit : (bytes : List ℕ) → limit_of (symbol_terminal bytes) ≡ None
-symbol-limit [] = refl
-symbol-limit (b ∷ []) =
+pub symbol-limit : (bytes : List ℕ) (t : Token) → limit_of (symbol_terminal bytes t) ≡ None
+symbol-limit [] t = refl
+symbol-limit (b ∷ []) t =
     either (nat_eq b 40) _ _ refl (either (nat_eq b 41) _ _ refl (either (nat_eq b 44) _ _ refl (either (nat_eq b 46) _ _ refl
     (either (nat_eq b 45) _ _ refl (either (nat_eq b 42) _ _ refl (either (nat_eq b 59) _ _ refl refl))))))
-symbol-limit (b ∷ c ∷ bs) = refl
+symbol-limit (b ∷ c ∷ bs) t = refl

@@ -5,18 +5,19 @@ use Rattle.pg_base.specs.declared.faults.Code.{Code}
 use Rattle.pg_base.specs.declared.faults.Code.TheVariants.{S1, S15}
 use Rattle.pg_base.specs.declared.faults.Limit.TheVariants.{Depth}
 use Rattle.pg_base.specs.declared.faults.Fault.{Fault}
+use Rattle.pg_base.specs.declared.limits.TheConstants.{MOST_LEVELS}
 use Rattle.sql_lex.specs.declared.tokens.Token.{Token}
 use Rattle.sql_grammar.specs.Terminals.{Terminal, class_of}
 use Rattle.sql_grammar.specs.Reading.{terminal_of}
 use Rattle.sql_grammar.specs.declared.class.Class.{Class}
 use Rattle.sql_grammar.specs.declared.table.Item.{Item}
 use Rattle.sql_grammar.specs.declared.table.Item.TheVariants.{Whole, Query, Negation, MoreAnds, MoreOrs}
-use Rattle.sql_grammar.specs.Table.{Row, takes_of, is_optional}
-use Rattle.sql_grammar.specs.Machine.{depth_of, opens, after, step_of, and_then, run_of, may_end, accept_then, accepts, is_closed}
+use Rattle.sql_grammar.specs.Table.{Expansion, takes_of, is_optional}
+use Rattle.sql_grammar.specs.Machine.{depth_of, opens, by_row, step_of, and_then, run_of, may_end, takes_then, takes_all, is_closed}
 use Rattle.sql_grammar.specs.Syntax.{either_of, both_of}
 use Rattle.sql_grammar.specs.Words.{words_of, words_of_select, words_of_neg, words_of_ands, words_of_ors}
 use Rattle.sql_grammar.specs.Faults.{Production, IsStatement, IsSelect, IsExpr, IsPrefix, IsAtFault, IsFirstFault, EndsAt, IsPartEnd, IsWhole, terminals, AreWithinLimits}
-use Rattle.sql_grammar.specs.Walk.{StopsBy, IsStuckAt, WalkEnds, WalkStops, IsWalk}
+use Rattle.sql_grammar.specs.Walk.{StopsBy, IsUnawaitedAt, WalkEnds, WalkStops, IsWalk}
 use Rattle.sql_grammar.proofs.Forest.{Parts, words_of_parts}
 use Rattle.sql_grammar.proofs.Sound.{begun, ended}
 use Rattle.sql_grammar.proofs.Complete.{statement, selected_alone, alone}
@@ -32,7 +33,7 @@ pushed-more limit more is s m false le e = e
 pushed-more limit more is s m true le e =
     test-more (Some (is ++ s)) m (nat_le (depth_of (is ++ s)) limit) (nat_le (depth_of (is ++ s)) more) (λ h. let low = leb-true _ _ h in le-leb _ _ (omega (arith, low, le))) e
 
-after-more : (limit more : ℕ) (row : Row) (o : Bool) (s m : List Item) (x y : Option (List Item)) → limit ≤ more → (x ≡ Some m → y ≡ Some m) → after limit row o s x ≡ Some m → after more row o s y ≡ Some m
+after-more : (limit more : ℕ) (row : Expansion) (o : Bool) (s m : List Item) (x y : Option (List Item)) → limit ≤ more → (x ≡ Some m → y ≡ Some m) → by_row limit row o s x ≡ Some m → by_row more row o s y ≡ Some m
 after-more limit more (Some is) o s m x y le h e = pushed-more limit more is s m (opens is) le e
 after-more limit more None true s m x y le h e = h e
 after-more limit more None false s m x y le h e = absurd (cc)
@@ -65,20 +66,20 @@ module _ (limit : ℕ) where
   pub run-snoc : (ts : List Terminal) (t : Terminal) (s m n : List Item) → run_of limit ts s ≡ Some m → step_of limit (class_of t) m ≡ Some n → run_of limit (ts ++ t ∷ []) s ≡ Some n
   run-snoc ts t s m n e f = run-append ts (t ∷ []) s m e ∙ ap (λ x. and_then x (run_of limit [])) f
 
-  then-accepts : (ts us : List Terminal) (m : List Item) (x : Option (List Item)) → ((n : List Item) → run_of limit ts n ≡ Some m → accepts limit (ts ++ us) n ≡ accepts limit us m) →
-      and_then x (run_of limit ts) ≡ Some m → accept_then x (accepts limit (ts ++ us)) ≡ accepts limit us m
-  then-accepts ts us m None h e = absurd (cc)
-  then-accepts ts us m (Some n) h e = h n e
+  then-takes_all : (ts us : List Terminal) (m : List Item) (x : Option (List Item)) → ((n : List Item) → run_of limit ts n ≡ Some m → takes_all limit (ts ++ us) n ≡ takes_all limit us m) →
+      and_then x (run_of limit ts) ≡ Some m → takes_then x (takes_all limit (ts ++ us)) ≡ takes_all limit us m
+  then-takes_all ts us m None h e = absurd (cc)
+  then-takes_all ts us m (Some n) h e = h n e
 
-  accepts-append : (ts us : List Terminal) (s m : List Item) → run_of limit ts s ≡ Some m → accepts limit (ts ++ us) s ≡ accepts limit us m
-  accepts-append [] us s m e = let same : s ≡ m = cc in ap (accepts limit us) same
-  accepts-append (t ∷ ts) us s m e = then-accepts ts us m (step_of limit (class_of t) s) (λ n. accepts-append ts us n m) e
+  takes_all-append : (ts us : List Terminal) (s m : List Item) → run_of limit ts s ≡ Some m → takes_all limit (ts ++ us) s ≡ takes_all limit us m
+  takes_all-append [] us s m e = let same : s ≡ m = cc in ap (takes_all limit us) same
+  takes_all-append (t ∷ ts) us s m e = then-takes_all ts us m (step_of limit (class_of t) s) (λ n. takes_all-append ts us n m) e
 
 -- a production that the walk knows, by what is awaited at first
 pub record Begins (start : List Item) (Of : Production) : Type 0 where
   pub flat : depth_of start ≡ 0
   pub whole : (limit : ℕ) (ts : List Terminal) (g : Parts limit start) → words_of_parts limit start g ≡ ts → Of limit ts
-  pub taken : (limit : ℕ) (ts : List Terminal) → Of limit ts → accepts limit ts start ≡ true
+  pub taken : (limit : ℕ) (ts : List Terminal) → Of limit ts → takes_all limit ts start ≡ true
   pub more : (limit more : ℕ) (ts : List Terminal) → limit ≤ more → Of limit ts → Of more ts
 
 module _ (start : List Item) (Of : Production) (known : Begins start Of) where
@@ -90,34 +91,34 @@ module _ (start : List Item) (Of : Production) (known : Begins start Of) where
   excluded-at : (limit : ℕ) (ts : List Terminal) (t : Terminal) (m : List Item) → run_of limit ts start ≡ Some m → step_of limit (class_of t) m ≡ None → ¬ IsPrefix Of limit (ts ++ t ∷ [])
   excluded-at limit ts t m run stuck (rest, d) =
       let accepted = known.taken limit _ d in
-      let regroup = ap (λ l. accepts limit l start) (append_assoc ts (t ∷ []) rest) in
-      let stops : accepts limit (t ∷ rest) m ≡ false = ap (λ x. accept_then x (accepts limit rest)) stuck in
-      absurd (cc (accepted, regroup, accepts-append limit ts (t ∷ rest) start m run, stops))
+      let regroup = ap (λ l. takes_all limit l start) (append_assoc ts (t ∷ []) rest) in
+      let stops : takes_all limit (t ∷ rest) m ≡ false = ap (λ x. takes_then x (takes_all limit rest)) stuck in
+      absurd (cc (accepted, regroup, takes_all-append limit ts (t ∷ rest) start m run, stops))
 
   unfinished-at : (limit : ℕ) (ts : List Terminal) (m : List Item) → run_of limit ts start ≡ Some m → may_end m ≡ false → ¬ Of limit ts
   unfinished-at limit ts m run open' d =
       let accepted = known.taken limit ts d in
-      let all = ap (λ l. accepts limit l start) (append-nil ts) in
-      absurd (cc (accepted, all, accepts-append limit ts [] start m run, open'))
+      let all = ap (λ l. takes_all limit l start) (append-nil ts) in
+      absurd (cc (accepted, all, takes_all-append limit ts [] start m run, open'))
 
-  excluded : (ts : List Terminal) (t : Terminal) (m : List Item) → run_of 32 ts start ≡ Some m → ((l : ℕ) → step_of l (class_of t) m ≡ None) → (l : ℕ) → ¬ IsPrefix Of l (ts ++ t ∷ [])
+  excluded : (ts : List Terminal) (t : Terminal) (m : List Item) → run_of MOST_LEVELS ts start ≡ Some m → ((l : ℕ) → step_of l (class_of t) m ≡ None) → (l : ℕ) → ¬ IsPrefix Of l (ts ++ t ∷ [])
   excluded ts t m run stuck l (rest, d) =
-      excluded-at (max l 32) ts t m (run-more 32 (max l 32) ts start m (omega arith) run) (stuck (max l 32)) (rest, known.more l (max l 32) _ (omega arith) d)
+      excluded-at (max l MOST_LEVELS) ts t m (run-more MOST_LEVELS (max l MOST_LEVELS) ts start m (omega arith) run) (stuck (max l MOST_LEVELS)) (rest, known.more l (max l MOST_LEVELS) _ (omega arith) d)
 
-  pub unfinished : (ts : List Terminal) (m : List Item) → run_of 32 ts start ≡ Some m → may_end m ≡ false → (l : ℕ) → ¬ Of l ts
-  unfinished ts m run open' l d = unfinished-at (max l 32) ts m (run-more 32 (max l 32) ts start m (omega arith) run) open' (known.more l (max l 32) ts (omega arith) d)
+  pub unfinished : (ts : List Terminal) (m : List Item) → run_of MOST_LEVELS ts start ≡ Some m → may_end m ≡ false → (l : ℕ) → ¬ Of l ts
+  unfinished ts m run open' l d = unfinished-at (max l MOST_LEVELS) ts m (run-more MOST_LEVELS (max l MOST_LEVELS) ts start m (omega arith) run) open' (known.more l (max l MOST_LEVELS) ts (omega arith) d)
 
-  pub whole-at : (ts : List Terminal) (m : List Item) → run_of 32 ts start ≡ Some m → may_end m ≡ true → Of 32 ts
-  whole-at ts m run ends = let (g, is) = ended 32 start m ts (omega (arith, known.flat)) run ends in known.whole 32 ts g is
+  pub whole-at : (ts : List Terminal) (m : List Item) → run_of MOST_LEVELS ts start ≡ Some m → may_end m ≡ true → Of MOST_LEVELS ts
+  whole-at ts m run ends = let (g, is) = ended MOST_LEVELS start m ts (omega (arith, known.flat)) run ends in known.whole MOST_LEVELS ts g is
 
   -- why the walk stops is why the terminal is at fault
-  at-fault : (ts : List Terminal) (t : Terminal) (m : List Item) (code : Code) → run_of 32 ts start ≡ Some m → StopsBy code t m → IsAtFault Of ts t code
+  at-fault : (ts : List Terminal) (t : Terminal) (m : List Item) (code : Code) → run_of MOST_LEVELS ts start ≡ Some m → StopsBy code t m → IsAtFault Of ts t code
   at-fault ts t m S1 run (stuck, open') = excluded ts t m run stuck
   at-fault ts t m (S15 Depth) run (stuck, (n, deeper)) = (
-    excluded-at 32 ts t m run stuck,
-    prefix 33 (ts ++ t ∷ []) n (run-snoc 33 ts t start m n (run-more 32 33 ts start m (omega arith) run) deeper),
+    excluded-at MOST_LEVELS ts t m run stuck,
+    prefix (MOST_LEVELS + 1) (ts ++ t ∷ []) n (run-snoc (MOST_LEVELS + 1) ts t start m n (run-more MOST_LEVELS (MOST_LEVELS + 1) ts start m (omega arith) run) deeper),
   )
-  at-fault ts t m (S15 limit) run ((n, step), is) = (prefix 32 (ts ++ t ∷ []) n (run-snoc 32 ts t start m n run step), is)
+  at-fault ts t m (S15 limit) run ((n, step), is) = (prefix MOST_LEVELS (ts ++ t ∷ []) n (run-snoc MOST_LEVELS ts t start m n run step), is)
   at-fault ts t m _ run by = absurd by
 
   pub first-fault : (text : List ℕ) (tokens : List Token) (first : ℕ) (fault : Fault) → WalkStops text tokens first start fault → IsFirstFault Of text (drop first tokens) fault
@@ -126,7 +127,7 @@ module _ (start : List Item) (Of : Production) (known : Begins start Of) where
     token = w.token;
     after = w.after;
     split = w.split;
-    begins = prefix 32 (terminals text w.before) w.stack w.run;
+    begins = prefix MOST_LEVELS (terminals text w.before) w.stack w.run;
     within = w.within;
     cause = at-fault (terminals text w.before) (terminal_of text w.token) w.stack fault.code w.run w.stops;
     unfinished = λ is. unfinished (terminals text w.before) w.stack w.run (subst (λ c. StopsBy c (terminal_of text w.token) w.stack) is w.stops).1;
@@ -134,7 +135,7 @@ module _ (start : List Item) (Of : Production) (known : Begins start Of) where
   }
 
   part-by : (text : List ℕ) (tokens : List Token) (first end : ℕ) (before after' : List Token) (m : List Item) → drop first tokens ≡ before ++ after' → end ≡ first + length before →
-      run_of 32 (terminals text before) start ≡ Some m → may_end m ≡ true → AreWithinLimits (terminals text before) → IsStuckAt text m after' → 1 ≤ length after' → EndsAt Of text tokens first end
+      run_of MOST_LEVELS (terminals text before) start ≡ Some m → may_end m ≡ true → AreWithinLimits (terminals text before) → IsUnawaitedAt text m after' → 1 ≤ length after' → EndsAt Of text tokens first end
   part-by text tokens first end before [] m split place run ends within stuck some = absurd (omega (arith, some))
   part-by text tokens first end before (t ∷ rest) m split place run ends within stuck some = record {
     before = before;
@@ -158,7 +159,7 @@ pub statements : Begins (Whole ∷ []) IsStatement
 statements = record {
   flat = refl;
   whole = λ limit ts ((x, low), _) is. (x, omega (arith, low), sym (append-nil (words_of x)) ∙ is);
-  taken = λ limit ts (x, low, is). subst (λ l. accepts limit l (Whole ∷ []) ≡ true) is (statement limit x);
+  taken = λ limit ts (x, low, is). subst (λ l. takes_all limit l (Whole ∷ []) ≡ true) is (statement limit x);
   more = λ limit more ts le (x, low, is). (x, omega (arith, le, low), is);
 }
 
@@ -166,7 +167,7 @@ pub selects : Begins (Query ∷ []) IsSelect
 selects = record {
   flat = refl;
   whole = λ limit ts (q, _) is. (q, sym (append-nil (words_of_select q)) ∙ is);
-  taken = λ limit ts (q, is). subst (λ l. accepts limit l (Query ∷ []) ≡ true) is (selected_alone limit q);
+  taken = λ limit ts (q, is). subst (λ l. takes_all limit l (Query ∷ []) ≡ true) is (selected_alone limit q);
   more = λ limit more ts le d. d;
 }
 
@@ -179,7 +180,7 @@ exprs = record {
     append_assoc (words_of_neg n) (words_of_ands ns) (words_of_ors os) ∙
         (ap (λ l. words_of_neg n ++ (words_of_ands ns ++ l)) (sym (append-nil (words_of_ors os))) ∙ is),
   );
-  taken = λ limit ts (e, low, is). subst (λ l. accepts limit l (Negation ∷ MoreAnds ∷ MoreOrs ∷ []) ≡ true) is (alone limit e low);
+  taken = λ limit ts (e, low, is). subst (λ l. takes_all limit l (Negation ∷ MoreAnds ∷ MoreOrs ∷ []) ≡ true) is (alone limit e low);
   more = λ limit more ts le (x, low, is). (x, omega (arith, le, low), is);
 }
 

@@ -1,6 +1,7 @@
 -- The stack has room for what a step brings.
 use Rattle.std.proofs.Common.{◌≡◌, ℕ, ◌+◌, ◌*◌, ◌≤◌, ◌<◌, Bool, true, false, ◌&&◌, not, List, [], ◌∷◌, ◌++◌, length, Some, None, refl, sym, ap, ◌∙◌, subst, arith, length-append, cond, nat_le, nat_eq}
 use Rattle.std.proofs.lemmas.Bool.{leb-true, le-leb, lt-leb, and_parts}
+use Rattle.pg_base.specs.declared.limits.TheConstants.{MOST_LEVELS}
 use Rattle.sql_grammar.specs.declared.class.Free.TheVariants.{Copy}
 use Rattle.sql_grammar.specs.declared.class.Free.{Free}
 use Rattle.sql_grammar.specs.declared.class.Word.{Word}
@@ -11,8 +12,8 @@ use Rattle.sql_grammar.specs.declared.class.Class.{Class}
 use Rattle.sql_grammar.specs.declared.class.Class.TheVariants.{Key, Mark, Name, Number, Quoted, Operator, Semicolon, End}
 use Rattle.sql_grammar.specs.declared.table.Item.{Item}
 use Rattle.sql_grammar.specs.declared.table.Item.TheVariants.{Keyword, Sign, FreeWord, Label, Digits, QuotedText, Whole, Ends, Stop, Query, Nullness, MoreColumns, Result, MoreResults, AfterResult, StarOrLabel, MaybeAlias, Negation, MoreAnds, MoreOrs, Closes, NotEnds, AfterName, AfterColumn, AfterIs, AfterLiteral, AfterTruth, Side, AfterQualifier}
-use Rattle.sql_grammar.specs.Table.{word_code, sign_code, free_code, Row, takes_of, is_optional, is_last, is_ending, room_of, statement_takes, ends_takes, stop_takes, query_takes, nullness_takes, columns_takes, output_takes, outputs_takes, after_output_takes, star_takes, alias_takes, negation_takes, ands_takes, ors_takes, literal_takes, column_takes, name_takes, side_takes, qualifier_takes, keyword_takes, sign_takes, free_takes, label_takes, digits_takes, quoted_takes}
-use Rattle.sql_grammar.specs.Machine.{depth_of, opens, pushed, after, step_of, Fits, is_empty, is_closed}
+use Rattle.sql_grammar.specs.Table.{word_code, sign_code, free_code, Expansion, takes_of, is_optional, takes_end, is_ending, room_of, statement_takes, ends_takes, stop_takes, query_takes, nullness_takes, columns_takes, output_takes, outputs_takes, after_output_takes, star_takes, alias_takes, negation_takes, ands_takes, ors_takes, literal_takes, column_takes, name_takes, side_takes, qualifier_takes, keyword_takes, sign_takes, free_takes, label_takes, digits_takes, quoted_takes}
+use Rattle.sql_grammar.specs.Machine.{depth_of, opens, pushed, by_row, step_of, Fits, is_empty, is_closed}
 use Rattle.sql_grammar.specs.Steps.{Taken}
 use Rattle.sql_grammar.proofs.Sound.{flat-depth}
 
@@ -22,10 +23,10 @@ room_test room (i ∷ s) = nat_le (room_of i + length s) (room + 3 * depth_of s)
 
 -- only an item that takes a statement's end takes one, and then nothing is left; any other token leaves such an item last
 abbrev pub ending_test : Item → Class → List Item → Bool
-ending_test i t is = cond (is_last i) (cond (is_ending t) (is_empty is) (is_closed false true is)) (not (is_ending t) && is_closed true false is)
+ending_test i t is = cond (takes_end i) (cond (is_ending t) (is_empty is) (is_closed false true is)) (not (is_ending t) && is_closed true false is)
 
 -- a row keeps within the item's room, opens one level at most, and keeps the statement's end last
-abbrev pub row_test : Item → Class → Row → Bool
+abbrev pub row_test : Item → Class → Expansion → Bool
 row_test i t None = true
 row_test i t (Some is) = (nat_le (depth_of is) 1 && room_test (room_of i) is) && ending_test i t is
 
@@ -217,7 +218,7 @@ pub record Pushes (is s : List Item) : Type 0 where
   pub depth : depth_of (is ++ s) ≤ depth_of s + 1
   pub length : length (is ++ s) ≤ 120
 
-pub pushes : (i : Item) (t : Class) (is s : List Item) → takes_of i t ≡ Some is → Fits 16 (i ∷ s) → depth_of (i ∷ s) ≤ 32 → Pushes is s
+pub pushes : (i : Item) (t : Class) (is s : List Item) → takes_of i t ≡ Some is → Fits 16 (i ∷ s) → depth_of (i ∷ s) ≤ MOST_LEVELS → Pushes is s
 pushes i t is s row fits shallow =
     let test : row_test i t (Some is) ≡ true = ap (row_test i t) (sym row) ∙ row-room i t in
     let both = and_parts _ _ (and_parts _ _ test).0 in
@@ -243,18 +244,18 @@ pushed-no limit is s high low = rw (lt-leb _ _ high) (flat-no limit is s (opens 
 module _ (t : Class) (old mid : List Item) (i : Item) (s is new : List Item) (same : (limit : ℕ) → step_of limit t old ≡ step_of limit t mid)
     (top : mid ≡ i ∷ s) (row : takes_of i t ≡ Some is) (is_new : new ≡ is ++ s) where
   after-row : (limit : ℕ) → step_of limit t old ≡ pushed limit is s
-  after-row limit = same limit ∙ (ap (step_of limit t) top ∙ ap (λ r. after limit r (is_optional i) s (step_of limit t s)) row)
+  after-row limit = same limit ∙ (ap (step_of limit t) top ∙ ap (λ r. by_row limit r (is_optional i) s (step_of limit t s)) row)
 
-  pub took : Fits 16 mid → depth_of mid ≤ 32 → depth_of new ≤ 32 → Taken t old new
+  pub took : Fits 16 mid → depth_of mid ≤ MOST_LEVELS → depth_of new ≤ MOST_LEVELS → Taken t old new
   took fits shallow low =
-      let low' : depth_of (is ++ s) ≤ 32 = subst (λ m. depth_of m ≤ 32) is_new low in
-      let p = pushes i t is s row (subst (Fits 16) top fits) (subst (λ m. depth_of m ≤ 32) top shallow) in
-      record { step = after-row 32 ∙ (pushed-yes 32 is s low' ∙ ap Some (sym is_new)); fits = subst (Fits 16) (sym is_new) p.fits; shallow = low }
+      let low' : depth_of (is ++ s) ≤ MOST_LEVELS = subst (λ m. depth_of m ≤ MOST_LEVELS) is_new low in
+      let p = pushes i t is s row (subst (Fits 16) top fits) (subst (λ m. depth_of m ≤ MOST_LEVELS) top shallow) in
+      record { step = after-row MOST_LEVELS ∙ (pushed-yes MOST_LEVELS is s low' ∙ ap Some (sym is_new)); fits = subst (Fits 16) (sym is_new) p.fits; shallow = low }
 
-  pub too-deep : Fits 16 mid → depth_of mid ≤ 32 → 32 < depth_of new → (step_of 32 t old ≡ None) × (step_of 33 t old ≡ Some new)
+  pub too-deep : Fits 16 mid → depth_of mid ≤ MOST_LEVELS → MOST_LEVELS < depth_of new → (step_of MOST_LEVELS t old ≡ None) × (step_of (MOST_LEVELS + 1) t old ≡ Some new)
   too-deep fits shallow high =
-      let high' : 32 < depth_of (is ++ s) = subst (λ m. 32 < depth_of m) is_new high in
-      let shallow' : depth_of (i ∷ s) ≤ 32 = subst (λ m. depth_of m ≤ 32) top shallow in
+      let high' : MOST_LEVELS < depth_of (is ++ s) = subst (λ m. MOST_LEVELS < depth_of m) is_new high in
+      let shallow' : depth_of (i ∷ s) ≤ MOST_LEVELS = subst (λ m. depth_of m ≤ MOST_LEVELS) top shallow in
       let p = pushes i t is s row (subst (Fits 16) top fits) shallow' in
-      let low : depth_of (is ++ s) ≤ 33 = omega (arith, p.depth) in
-      (after-row 32 ∙ pushed-no 32 is s high' (omega arith), after-row 33 ∙ (pushed-yes 33 is s low ∙ ap Some (sym is_new)))
+      let low : depth_of (is ++ s) ≤ MOST_LEVELS + 1 = omega (arith, p.depth) in
+      (after-row MOST_LEVELS ∙ pushed-no MOST_LEVELS is s high' (omega arith), after-row (MOST_LEVELS + 1) ∙ (pushed-yes (MOST_LEVELS + 1) is s low ∙ ap Some (sym is_new)))

@@ -1,6 +1,8 @@
 -- Each row of the table is a rule of the grammar: from parts for what stands for an item after a token, a part for the item.
 use Rattle.std.proofs.Common.{◌≡◌, ℕ, ◌≤◌, Bool, true, false, List, [], ◌∷◌, ◌++◌, Some, None, refl, sym, ap, arith, append_assoc, append-nil, cond, nat_eq}
-use Rattle.sql_grammar.specs.Terminals.{Terminal, t_key, t_mark, t_name, t_number, t_quoted, t_operator, t_semicolon, t_end, free, other, class_of}
+use Rattle.sql_lex.specs.declared.tokens.Token.{Token}
+use Rattle.sql_lex.specs.declared.tokens.Kind.TheVariants.{End}
+use Rattle.sql_grammar.specs.Terminals.{Terminal, Said, t_key, t_mark, t_name, t_number, t_quoted, t_operator, t_semicolon, t_end, free, other, class_of}
 use Rattle.sql_grammar.specs.declared.class.Free.TheVariants.{Copy}
 use Rattle.sql_grammar.specs.declared.class.Free.{Free as FreeT}
 use Rattle.sql_grammar.specs.declared.class.Word.{Word}
@@ -12,68 +14,76 @@ use Rattle.sql_grammar.specs.declared.table.Item.TheVariants.{Keyword, Sign, Fre
 use Rattle.sql_grammar.specs.Syntax.{bare, qualified, yes, no, unknown, number, negative, quoted, constant, column, literal, either_of, no_or, or_conj, both_of, no_and, and_neg, negated, plain, parens, compare, is_null, is_not_null, column_alone, constant_alone, unwritten, not_null, nullable, coldef, every, every_of, one, no_alias, bare_alias, as_alias, select_from, semicolon, text_end, empty, create_table, query, copy}
 use Rattle.sql_grammar.specs.Words.{words_of_operand}
 use Rattle.sql_grammar.proofs.Codes.{same_word, same_sign, same_free}
-use Rattle.sql_grammar.specs.Table.{word_code, sign_code, free_code, Row, takes_of, is_optional, statement_takes, ends_takes, stop_takes, query_takes, nullness_takes, columns_takes, output_takes, outputs_takes, after_output_takes, star_takes, alias_takes, negation_takes, ands_takes, ors_takes, literal_takes, column_takes, name_takes, side_takes, qualifier_takes, keyword_takes, sign_takes, free_takes, label_takes, digits_takes, quoted_takes}
+use Rattle.sql_grammar.specs.Table.{word_code, sign_code, free_code, Expansion, takes_of, is_optional, statement_takes, ends_takes, stop_takes, query_takes, nullness_takes, columns_takes, output_takes, outputs_takes, after_output_takes, star_takes, alias_takes, negation_takes, ands_takes, ors_takes, literal_takes, column_takes, name_takes, side_takes, qualifier_takes, keyword_takes, sign_takes, free_takes, label_takes, digits_takes, quoted_takes}
 use Rattle.sql_grammar.specs.Machine.{depth_of}
 use Rattle.sql_grammar.proofs.Forest.{Atom_after, Part, Parts, words_of_parts}
 
+-- where a word stands that is not there
+abbrev no_place : Token
+no_place = record { kind = End; start = 0; end = 0 }
+
+abbrev saying : List ℕ → Said
+saying value = record { value = value; token = no_place }
+
 module _ (limit : ℕ) (s : List Item) (shallow : depth_of s ≤ limit) where
   -- parts for what stands for i after t give parts for i that begin with t
-  abbrev pub Rule : Item → Terminal → Row → Type 0
+  abbrev pub Rule : Item → Terminal → Expansion → Type 0
   Rule i t None = Unit {0}
   Rule i t (Some is) = (f : Parts limit (is ++ s)) → (g : Parts limit (i ∷ s)) × (words_of_parts limit (i ∷ s) g ≡ t ∷ words_of_parts limit (is ++ s) f)
 
   statement_rule : (t : Terminal) → Rule Whole t (statement_takes (class_of t))
-  statement_rule (t_key Create) = λ (_, (n, (_, (c, (y, (nulls, (cs, (e, f)))))))). (((create_table n (coldef c y nulls) cs e, omega arith), f), simp append_assoc)
-  statement_rule (t_key Select) = λ (o, (os, (_, (n, (a, (e, f)))))). (((query (select_from o os n a) e, omega arith), f), simp append_assoc)
-  statement_rule (t_name (free Copy)) = λ (n, (_, (_, (_, (_, (_, (_, (_, (_, (text, (_, (_, f)))))))))))). (((copy n text, omega arith), f), refl)
-  statement_rule t_semicolon = λ f. (((empty semicolon, omega arith), f), refl)
-  statement_rule t_end = λ f. (((empty text_end, omega arith), f), refl)
+  statement_rule (t_key Create k) = λ (t, (n, (o, (c, (y, (nulls, ((cs, m), (e, f)))))))). (((create_table k t n o (coldef c y nulls) cs m e, omega arith), f), simp append_assoc)
+  statement_rule (t_key Select k) = λ (o, (os, (from, (n, (a, (e, f)))))). (((query (select_from k o os from n a) e, omega arith), f), simp append_assoc)
+  statement_rule (t_name (free Copy k)) = λ (n, (from_at, (stdin, (with_at, (open_at, (format, (csv, (comma, (null, (text, (close_at, (stop, f)))))))))))).
+      (((copy (record { copy = k; from_at = from_at; stdin = stdin; with_at = with_at; open_at = open_at; format = format; csv = csv; comma = comma; null = null; close_at = close_at; stop = stop }) n text, omega arith), f), refl)
+  statement_rule (t_semicolon t) = λ f. (((empty (semicolon t), omega arith), f), refl)
+  statement_rule (t_end t) = λ f. (((empty (text_end t), omega arith), f), refl)
   statement_rule _ = tt
 
   ends_rule : (t : Terminal) → Rule Ends t (ends_takes (class_of t))
-  ends_rule t_semicolon = λ f. ((semicolon, f), refl)
-  ends_rule t_end = λ f. ((text_end, f), refl)
+  ends_rule (t_semicolon t) = λ f. ((semicolon t, f), refl)
+  ends_rule (t_end t) = λ f. ((text_end t, f), refl)
   ends_rule _ = tt
 
   stop_rule : (t : Terminal) → Rule Stop t (stop_takes (class_of t))
-  stop_rule t_semicolon = λ f. ((tt, f), refl)
+  stop_rule (t_semicolon t) = λ f. ((t, f), refl)
   stop_rule _ = tt
 
   query_rule : (t : Terminal) → Rule Query t (query_takes (class_of t))
-  query_rule (t_key Select) = λ (o, (os, (_, (n, (a, f))))). ((select_from o os n a, f), simp append_assoc)
+  query_rule (t_key Select k) = λ (o, (os, (from, (n, (a, f))))). ((select_from k o os from n a, f), simp append_assoc)
   query_rule _ = tt
 
   output_rule : (t : Terminal) → Rule Result t (output_takes (class_of t))
-  output_rule (t_mark Star) = λ f. ((every, f), refl)
+  output_rule (t_mark Star m) = λ f. ((every m, f), refl)
   output_rule (t_name n) = λ ((ws, after'), f). (((after' n).0, f), ap (λ l. l ++ words_of_parts limit s f) (after' n).1)
   output_rule _ = tt
 
   outputs_rule : (t : Terminal) → Rule MoreResults t (outputs_takes (class_of t))
-  outputs_rule (t_mark Comma) = λ (o, (os, f)). ((o ∷ os, f), simp append_assoc)
+  outputs_rule (t_mark Comma m) = λ (o, (os, f)). (((m, o) ∷ os, f), simp append_assoc)
   outputs_rule _ = tt
 
   after_output_rule : (t : Terminal) → Rule AfterResult t (after_output_takes (class_of t))
-  after_output_rule (t_mark Dot) = λ ((ws, after'), f). (((t_mark Dot ∷ ws, after'), f), refl)
+  after_output_rule (t_mark Dot m) = λ ((ws, after'), f). (((t_mark Dot m ∷ ws, λ n. after' n m), f), refl)
   after_output_rule _ = tt
 
   star_rule : (t : Terminal) → Rule StarOrLabel t (star_takes (class_of t))
-  star_rule (t_mark Star) = λ f. (((t_mark Star ∷ [], λ n. (every_of n, refl)), f), refl)
-  star_rule (t_name m) = λ f. (((t_name m ∷ [], λ n. (one (qualified n m), refl)), f), refl)
+  star_rule (t_mark Star m) = λ f. (((t_mark Star m ∷ [], λ n d. (every_of n d m, refl)), f), refl)
+  star_rule (t_name m) = λ f. (((t_name m ∷ [], λ n d. (one (qualified n d m), refl)), f), refl)
   star_rule _ = tt
 
   alias_rule : (t : Terminal) → Rule MaybeAlias t (alias_takes (class_of t))
-  alias_rule (t_key As) = λ (n, f). ((as_alias n, f), refl)
+  alias_rule (t_key As k) = λ (n, f). ((as_alias k n, f), refl)
   alias_rule (t_name n) = λ f. ((bare_alias n, f), refl)
   alias_rule _ = tt
 
   nullness_rule : (t : Terminal) → Rule Nullness t (nullness_takes (class_of t))
-  nullness_rule (t_key Not) = λ (_, f). ((not_null, f), refl)
-  nullness_rule (t_key Null) = λ f. ((nullable, f), refl)
+  nullness_rule (t_key Not n) = λ (k, f). ((not_null n k, f), refl)
+  nullness_rule (t_key Null k) = λ f. ((nullable k, f), refl)
   nullness_rule _ = tt
 
   columns_rule : (t : Terminal) → Rule MoreColumns t (columns_takes (class_of t))
-  columns_rule (t_mark Comma) = λ (c, (y, (nulls, (cs, f)))). ((coldef c y nulls ∷ cs, f), simp append_assoc)
-  columns_rule (t_mark Close) = λ f. (([], f), refl)
+  columns_rule (t_mark Comma m) = λ (c, (y, (nulls, ((cs, close), f)))). ((((m, coldef c y nulls) ∷ cs, close), f), simp append_assoc)
+  columns_rule (t_mark Close m) = λ f. ((([], m), f), refl)
   columns_rule _ = tt
 
   -- an atom that opens no level, after its first words
@@ -82,23 +92,23 @@ module _ (limit : ℕ) (s : List Item) (shallow : depth_of s ≤ limit) where
   atom_rule t ws f (a, is, flat) = (((plain a, omega arith), f), ap (λ l. l ++ words_of_parts limit s f) is)
 
   negation_rule : (t : Terminal) → Rule Negation t (negation_takes (class_of t))
-  negation_rule (t_key Not) = λ ((n, en), (_, f)). (((negated n, omega arith), f), refl)
-  negation_rule (t_mark Open) = λ ((n, en), ((ns, ens), ((os, eos), (_, f)))). (((plain (parens (either_of (both_of n ns) os)), omega arith), f), simp append_assoc)
+  negation_rule (t_key Not k) = λ ((n, en), (_, f)). (((negated k n, omega arith), f), refl)
+  negation_rule (t_mark Open m) = λ ((n, en), ((ns, ens), ((os, eos), (close, f)))). (((plain (parens m (either_of (both_of n ns) os) close), omega arith), f), simp append_assoc)
   negation_rule (t_name n) = λ ((ws, after'), f). atom_rule (t_name n) ws f (after' n)
   negation_rule (t_number n) = λ ((ws, after'), f). atom_rule (t_number n) ws f (after' (number n))
   negation_rule (t_quoted q) = λ ((ws, after'), f). atom_rule (t_quoted q) ws f (after' (quoted q))
-  negation_rule (t_mark Minus) = λ (n, ((ws, after'), f)). atom_rule (t_mark Minus) (t_number n ∷ ws) f (after' (negative n))
-  negation_rule (t_key True) = λ ((ws, after'), f). atom_rule (t_key True) ws f (after' yes)
-  negation_rule (t_key False) = λ ((ws, after'), f). atom_rule (t_key False) ws f (after' no)
-  negation_rule (t_key Null) = λ ((ws, after'), f). atom_rule (t_key Null) ws f (after' unknown)
+  negation_rule (t_mark Minus m) = λ (n, ((ws, after'), f)). atom_rule (t_mark Minus m) (t_number n ∷ ws) f (after' (negative m n))
+  negation_rule (t_key True k) = λ ((ws, after'), f). atom_rule (t_key True k) ws f (after' yes k)
+  negation_rule (t_key False k) = λ ((ws, after'), f). atom_rule (t_key False k) ws f (after' no k)
+  negation_rule (t_key Null k) = λ ((ws, after'), f). atom_rule (t_key Null k) ws f (after' unknown k)
   negation_rule _ = tt
 
   ands_rule : (t : Terminal) → Rule MoreAnds t (ands_takes (class_of t))
-  ands_rule (t_key And) = λ ((n, en), ((ns, ens), f)). (((and_neg n ns, omega arith), f), simp append_assoc)
+  ands_rule (t_key And k) = λ ((n, en), ((ns, ens), f)). (((and_neg k n ns, omega arith), f), simp append_assoc)
   ands_rule _ = tt
 
   ors_rule : (t : Terminal) → Rule MoreOrs t (ors_takes (class_of t))
-  ors_rule (t_key Or) = λ ((n, en), ((ns, ens), ((os, eos), f))). (((or_conj (both_of n ns) os, omega arith), f), simp append_assoc)
+  ors_rule (t_key Or k) = λ ((n, en), ((ns, ens), ((os, eos), f))). (((or_conj k (both_of n ns) os, omega arith), f), simp append_assoc)
   ors_rule _ = tt
 
   literal_rule : (t : Terminal) → Rule AfterLiteral t (literal_takes (class_of t))
@@ -106,37 +116,37 @@ module _ (limit : ℕ) (s : List Item) (shallow : depth_of s ≤ limit) where
   literal_rule _ = tt
 
   truth_rule : (t : Terminal) → Rule AfterTruth t (literal_takes (class_of t))
-  truth_rule (t_operator op) = λ (r, f). (((t_operator op ∷ words_of_operand r, λ k. (compare (literal (constant k)) op r, refl, refl)), f), refl)
+  truth_rule (t_operator op) = λ (r, f). (((t_operator op ∷ words_of_operand r, λ c k. (compare (literal (constant c k)) op r, refl, refl)), f), refl)
   truth_rule _ = tt
 
   column_rule : (t : Terminal) → Rule AfterColumn t (column_takes (class_of t))
-  column_rule (t_key Is) = λ ((ws, after'), f). (((t_key Is ∷ ws, after'), f), refl)
+  column_rule (t_key Is k) = λ ((ws, after'), f). (((t_key Is k ∷ ws, λ c. after' c k), f), refl)
   column_rule (t_operator op) = λ (r, f). (((t_operator op ∷ words_of_operand r, λ c. (compare (column c) op r, refl, refl)), f), refl)
   column_rule _ = tt
 
   name_rule : (t : Terminal) → Rule AfterName t (name_takes (class_of t))
-  name_rule (t_mark Dot) = λ (n, ((ws, after'), f)). (((t_mark Dot ∷ t_name n ∷ ws, λ q. after' (qualified q n)), f), refl)
-  name_rule (t_key Is) = λ ((ws, after'), f). (((t_key Is ∷ ws, λ n. after' (bare n)), f), refl)
+  name_rule (t_mark Dot m) = λ (n, ((ws, after'), f)). (((t_mark Dot m ∷ t_name n ∷ ws, λ q. after' (qualified q m n)), f), refl)
+  name_rule (t_key Is k) = λ ((ws, after'), f). (((t_key Is k ∷ ws, λ n. after' (bare n) k), f), refl)
   name_rule (t_operator op) = λ (r, f). (((t_operator op ∷ words_of_operand r, λ n. (compare (column (bare n)) op r, refl, refl)), f), refl)
   name_rule _ = tt
 
   is_rule : (t : Terminal) → Rule AfterIs t (nullness_takes (class_of t))
-  is_rule (t_key Not) = λ (_, f). (((t_key Not ∷ t_key Null ∷ [], λ c. (is_not_null c, refl, refl)), f), refl)
-  is_rule (t_key Null) = λ f. (((t_key Null ∷ [], λ c. (is_null c, refl, refl)), f), refl)
+  is_rule (t_key Not n) = λ (k, f). (((t_key Not n ∷ t_key Null k ∷ [], λ c i. (is_not_null c i n k, refl, refl)), f), refl)
+  is_rule (t_key Null k) = λ f. (((t_key Null k ∷ [], λ c i. (is_null c i k, refl, refl)), f), refl)
   is_rule _ = tt
 
   side_rule : (t : Terminal) → Rule Side t (side_takes (class_of t))
   side_rule (t_name n) = λ ((ws, after'), f). ((column (after' n).0, f), ap (λ l. l ++ words_of_parts limit s f) (after' n).1)
   side_rule (t_number n) = λ f. ((literal (number n), f), refl)
   side_rule (t_quoted q) = λ f. ((literal (quoted q), f), refl)
-  side_rule (t_mark Minus) = λ (n, f). ((literal (negative n), f), refl)
-  side_rule (t_key True) = λ f. ((literal (constant yes), f), refl)
-  side_rule (t_key False) = λ f. ((literal (constant no), f), refl)
-  side_rule (t_key Null) = λ f. ((literal (constant unknown), f), refl)
+  side_rule (t_mark Minus m) = λ (n, f). ((literal (negative m n), f), refl)
+  side_rule (t_key True k) = λ f. ((literal (constant yes k), f), refl)
+  side_rule (t_key False k) = λ f. ((literal (constant no k), f), refl)
+  side_rule (t_key Null k) = λ f. ((literal (constant unknown k), f), refl)
   side_rule _ = tt
 
   qualifier_rule : (t : Terminal) → Rule AfterQualifier t (qualifier_takes (class_of t))
-  qualifier_rule (t_mark Dot) = λ (n, f). (((t_mark Dot ∷ t_name n ∷ [], λ q. (qualified q n, refl)), f), refl)
+  qualifier_rule (t_mark Dot m) = λ (n, f). (((t_mark Dot m ∷ t_name n ∷ [], λ q. (qualified q m n, refl)), f), refl)
   qualifier_rule _ = tt
 
   label_rule : (t : Terminal) → Rule Label t (label_takes (class_of t))
@@ -151,32 +161,32 @@ module _ (limit : ℕ) (s : List Item) (shallow : depth_of s ≤ limit) where
   quoted_rule (t_quoted q) = λ f. ((q, f), refl)
   quoted_rule _ = tt
 
-  word_tested : (v w : Word) (b : Bool) → (b ≡ true → v ≡ w) → Rule (Keyword w) (t_key v) (cond b (Some []) None)
-  word_tested v w true is = λ f. ((tt, f), ap (λ x. t_key x ∷ words_of_parts limit s f) (sym (is refl)))
-  word_tested v w false is = tt
+  word_tested : (v w : Word) (k : Token) (b : Bool) → (b ≡ true → v ≡ w) → Rule (Keyword w) (t_key v k) (cond b (Some []) None)
+  word_tested v w k true is = λ f. ((k, f), ap (λ x. t_key x k ∷ words_of_parts limit s f) (sym (is refl)))
+  word_tested v w k false is = tt
 
   keyword_rule : (w : Word) (t : Terminal) → Rule (Keyword w) t (keyword_takes w (class_of t))
-  keyword_rule w (t_key v) = word_tested v w (nat_eq (word_code v) (word_code w)) (same_word v w)
+  keyword_rule w (t_key v k) = word_tested v w k (nat_eq (word_code v) (word_code w)) (same_word v w)
   keyword_rule w _ = tt
 
-  sign_tested : (v w : Symbol) (b : Bool) → (b ≡ true → v ≡ w) → Rule (Sign w) (t_mark v) (cond b (Some []) None)
-  sign_tested v w true is = λ f. ((tt, f), ap (λ x. t_mark x ∷ words_of_parts limit s f) (sym (is refl)))
-  sign_tested v w false is = tt
+  sign_tested : (v w : Symbol) (m : Token) (b : Bool) → (b ≡ true → v ≡ w) → Rule (Sign w) (t_mark v m) (cond b (Some []) None)
+  sign_tested v w m true is = λ f. ((m, f), ap (λ x. t_mark x m ∷ words_of_parts limit s f) (sym (is refl)))
+  sign_tested v w m false is = tt
 
   sign_rule : (w : Symbol) (t : Terminal) → Rule (Sign w) t (sign_takes w (class_of t))
-  sign_rule w (t_mark v) = sign_tested v w (nat_eq (sign_code v) (sign_code w)) (same_sign v w)
+  sign_rule w (t_mark v m) = sign_tested v w m (nat_eq (sign_code v) (sign_code w)) (same_sign v w)
   sign_rule w _ = tt
 
-  free_tested : (v w : FreeT) (b : Bool) → (b ≡ true → v ≡ w) → Rule (FreeWord w) (t_name (free v)) (cond b (Some []) None)
-  free_tested v w true is = λ f. ((tt, f), ap (λ x. t_name (free x) ∷ words_of_parts limit s f) (sym (is refl)))
-  free_tested v w false is = tt
+  free_tested : (v w : FreeT) (t : Token) (b : Bool) → (b ≡ true → v ≡ w) → Rule (FreeWord w) (t_name (free v t)) (cond b (Some []) None)
+  free_tested v w t true is = λ f. ((t, f), ap (λ x. t_name (free x t) ∷ words_of_parts limit s f) (sym (is refl)))
+  free_tested v w t false is = tt
 
   free_rule : (w : FreeT) (t : Terminal) → Rule (FreeWord w) t (free_takes w (class_of t))
-  free_rule w (t_name (free v)) = free_tested v w (nat_eq (free_code v) (free_code w)) (same_free v w)
+  free_rule w (t_name (free v t)) = free_tested v w t (nat_eq (free_code v) (free_code w)) (same_free v w)
   free_rule w _ = tt
 
   closes_rule : (t : Terminal) → Rule Closes t (sign_takes Close (class_of t))
-  closes_rule (t_mark Close) = λ f. ((tt, f), refl)
+  closes_rule (t_mark Close m) = λ f. ((m, f), refl)
   closes_rule _ = tt
 
   pub rule : (i : Item) (t : Terminal) → Rule i t (takes_of i (class_of t))
@@ -218,7 +228,7 @@ module _ (limit : ℕ) (s : List Item) (shallow : depth_of s ≤ limit) where
   nothing NotEnds o f = ((tt, f), refl)
   nothing AfterName o f = ((([], λ n. (column_alone (bare n), refl, refl)), f), refl)
   nothing AfterColumn o f = ((([], λ c. (column_alone c, sym (append-nil _), refl)), f), refl)
-  nothing AfterTruth o f = ((([], λ k. (constant_alone k, refl, refl)), f), refl)
+  nothing AfterTruth o f = ((([], λ c k. (constant_alone c k, refl, refl)), f), refl)
   nothing AfterQualifier o f = ((([], λ n. (bare n, refl)), f), refl)
   nothing MoreResults o f = (([], f), refl)
   nothing AfterResult o f = ((([], λ n. (one (bare n), refl)), f), refl)
@@ -227,32 +237,32 @@ module _ (limit : ℕ) (s : List Item) (shallow : depth_of s ≤ limit) where
 
   -- every item stands for something
   pub something : (i : Item) → Part limit (depth_of s) i
-  something (Keyword w) = tt
-  something (Sign w) = tt
-  something (FreeWord w) = tt
-  something Label = other (97 ∷ [])
-  something Digits = 48 ∷ []
-  something QuotedText = []
-  something Whole = (empty semicolon, omega arith)
-  something Ends = semicolon
-  something Stop = tt
-  something Query = select_from every [] (other (97 ∷ [])) no_alias
+  something (Keyword w) = no_place
+  something (Sign w) = no_place
+  something (FreeWord w) = no_place
+  something Label = other (97 ∷ []) no_place
+  something Digits = saying (48 ∷ [])
+  something QuotedText = saying []
+  something Whole = (empty (semicolon no_place), omega arith)
+  something Ends = semicolon no_place
+  something Stop = no_place
+  something Query = select_from no_place (every no_place) [] no_place (other (97 ∷ []) no_place) no_alias
   something Nullness = unwritten
-  something MoreColumns = []
-  something Negation = (plain (constant_alone yes), omega arith)
+  something MoreColumns = ([], no_place)
+  something Negation = (plain (constant_alone yes no_place), omega arith)
   something MoreAnds = (no_and, omega arith)
   something MoreOrs = (no_or, omega arith)
-  something Closes = tt
+  something Closes = no_place
   something NotEnds = tt
   something AfterName = ([], λ n. (column_alone (bare n), refl, refl))
   something AfterColumn = ([], λ c. (column_alone c, sym (append-nil _), refl))
-  something AfterIs = (t_key Null ∷ [], λ c. (is_null c, refl, refl))
-  something AfterLiteral = (t_operator (61 ∷ []) ∷ t_number (48 ∷ []) ∷ [], λ l. (compare (literal l) (61 ∷ []) (literal (number (48 ∷ []))), refl, refl))
-  something AfterTruth = ([], λ k. (constant_alone k, refl, refl))
-  something Side = literal (number (48 ∷ []))
+  something AfterIs = (t_key Null no_place ∷ [], λ c k. (is_null c k no_place, refl, refl))
+  something AfterLiteral = (t_operator (saying (61 ∷ [])) ∷ t_number (saying (48 ∷ [])) ∷ [], λ l. (compare (literal l) (saying (61 ∷ [])) (literal (number (saying (48 ∷ [])))), refl, refl))
+  something AfterTruth = ([], λ c k. (constant_alone c k, refl, refl))
+  something Side = literal (number (saying (48 ∷ [])))
   something AfterQualifier = ([], λ n. (bare n, refl))
-  something Result = every
+  something Result = every no_place
   something MoreResults = []
   something AfterResult = ([], λ n. (one (bare n), refl))
-  something StarOrLabel = (t_mark Star ∷ [], λ n. (every_of n, refl))
+  something StarOrLabel = (t_mark Star no_place ∷ [], λ n d. (every_of n d no_place, refl))
   something MaybeAlias = no_alias

@@ -4,8 +4,8 @@ use Rattle.std.proofs.lemmas.Bool.{leb-true, and_parts}
 use Rattle.sql_grammar.specs.Terminals.{Terminal, class_of}
 use Rattle.sql_grammar.specs.declared.table.Item.{Item}
 use Rattle.sql_grammar.specs.declared.table.Item.TheVariants.{Closes, NotEnds}
-use Rattle.sql_grammar.specs.Table.{Row, takes_of, is_optional}
-use Rattle.sql_grammar.specs.Machine.{depth_of, opens, pushed, after, step_of, and_then, run_of, may_end}
+use Rattle.sql_grammar.specs.Table.{Expansion, takes_of, is_optional}
+use Rattle.sql_grammar.specs.Machine.{depth_of, opens, pushed, by_row, step_of, and_then, run_of, may_end}
 use Rattle.sql_grammar.proofs.Forest.{Parts, words_of_parts}
 use Rattle.sql_grammar.proofs.Rules.{Rule, rule, nothing, something}
 
@@ -42,8 +42,8 @@ module _ (limit : ℕ) where
     back = λ f. let (g, is) = goes.back f in let (h, more) = nothing limit s shallow i o g in (h, more ∙ is);
   }
 
-  steps : (i : Item) (t : Terminal) (s s' : List Item) (shallow : depth_of s ≤ limit) (row : Row) (o : Bool) (below : Option (List Item)) → Rule limit s shallow i t row →
-      (o ≡ true → is_optional i ≡ true) → (below ≡ Some s' → Goes s (t ∷ []) s') → after limit row o s below ≡ Some s' → Goes (i ∷ s) (t ∷ []) s'
+  steps : (i : Item) (t : Terminal) (s s' : List Item) (shallow : depth_of s ≤ limit) (row : Expansion) (o : Bool) (below : Option (List Item)) → Rule limit s shallow i t row →
+      (o ≡ true → is_optional i ≡ true) → (below ≡ Some s' → Goes s (t ∷ []) s') → by_row limit row o s below ≡ Some s' → Goes (i ∷ s) (t ∷ []) s'
   steps i t s s' shallow (Some is) o below r opt ih e = pushes i t s is s' shallow r (pushed-is limit is s s' shallow e)
   steps i t s s' shallow None true below r opt ih e = passes i t s s' shallow (opt refl) (ih e)
   steps i t s s' shallow None false below r opt ih e = absurd (cc)

@@ -20,12 +20,12 @@ listed p (y ∷ ys) x zero all lt is = let here = (and_parts _ _ all).0 in subst
 listed p (y ∷ ys) x (suc k) all lt is = listed p ys x k (and_parts _ _ all).1 (omega (arith, lt)) is
 
 -- a symbol has bytes, and is an end exactly where the first is `;`
-abbrev symbol_test : List ℕ → Bool
-symbol_test bytes =
-    cond (nat_eq (slice_index bytes 0) 59) (is_ending (class_of (symbol_terminal bytes))) (not (is_ending (class_of (symbol_terminal bytes)))) && not (nat_eq (length bytes) 0)
+abbrev symbol_test : Token → List ℕ → Bool
+symbol_test t bytes =
+    cond (nat_eq (slice_index bytes 0) 59) (is_ending (class_of (symbol_terminal bytes t))) (not (is_ending (class_of (symbol_terminal bytes t)))) && not (nat_eq (length bytes) 0)
 
-symbols-tested : list_all symbol_test symbols ≡ true
-symbols-tested = refl
+symbols-tested : (t : Token) → list_all (symbol_test t) symbols ≡ true
+symbols-tested t = refl
 
 same-test : (a b : Bool) → cond a b (not b) ≡ true → a ≡ b
 same-test true true e = refl
@@ -37,32 +37,32 @@ some-test : (bytes : List ℕ) → not (nat_eq (length bytes) 0) ≡ true → 1 
 some-test [] e = absurd (cc)
 some-test (b ∷ bs) e = omega arith
 
-symbol-is : (bytes : List ℕ) → Contains symbols bytes → symbol_test bytes ≡ true
-symbol-is bytes one = listed symbol_test symbols bytes one.0 symbols-tested one.1 one.2
+symbol-is : (t : Token) (bytes : List ℕ) → Contains symbols bytes → symbol_test t bytes ≡ true
+symbol-is t bytes one = listed (symbol_test t) symbols bytes one.0 (symbols-tested t) one.1 one.2
 
 -- a token that does not end its statement has bytes
-some-bytes : (kind : Kind) (bytes rest : List ℕ) (first : Bool) → IsToken kind bytes rest → ends_with kind first ≡ false → 1 ≤ length bytes
-some-bytes WordKind [] rest first form e = absurd form.0
-some-bytes WordKind (b ∷ bs) rest first form e = omega arith
-some-bytes NumberKind [] rest first form e = absurd form.0
-some-bytes NumberKind (b ∷ bs) rest first form e = omega arith
-some-bytes QuotedKind bytes rest first ((value, is), next) e = let same = ap length is in omega (arith, same)
-some-bytes SymbolKind bytes rest first (one, longest) e = some-test bytes (and_parts _ _ (symbol-is bytes one)).1
-some-bytes EndKind bytes rest first form e = absurd (cc)
+some-bytes : (t : Token) (kind : Kind) (bytes rest : List ℕ) (first : Bool) → IsToken kind bytes rest → ends_with kind first ≡ false → 1 ≤ length bytes
+some-bytes t WordKind [] rest first form e = absurd form.0
+some-bytes t WordKind (b ∷ bs) rest first form e = omega arith
+some-bytes t NumberKind [] rest first form e = absurd form.0
+some-bytes t NumberKind (b ∷ bs) rest first form e = omega arith
+some-bytes t QuotedKind bytes rest first ((value, is), next) e = let same = ap length is in omega (arith, same)
+some-bytes t SymbolKind bytes rest first (one, longest) e = some-test bytes (and_parts _ _ (symbol-is t bytes one)).1
+some-bytes t EndKind bytes rest first form e = absurd (cc)
 
-word-goes-on : (o : Option Word) (small : List ℕ) → is_ending (class_of (word_terminal o small)) ≡ false
-word-goes-on (Some w) small = refl
-word-goes-on None small = refl
+word-goes-on : (o : Option Word) (small : List ℕ) (t : Token) → is_ending (class_of (word_terminal o small t)) ≡ false
+word-goes-on (Some w) small t = refl
+word-goes-on None small t = refl
 
-same-end : (kind : Kind) (bytes rest : List ℕ) (first : Bool) → IsToken kind bytes rest → (1 ≤ length bytes → first ≡ nat_eq (slice_index bytes 0) 59) →
-    ends_with kind first ≡ is_ending (class_of (terminal_by kind bytes))
-same-end WordKind bytes rest first form is = sym (word-goes-on _ _)
-same-end NumberKind bytes rest first form is = refl
-same-end QuotedKind bytes rest first form is = refl
-same-end SymbolKind bytes rest first (one, longest) is =
-    let parts = and_parts _ _ (symbol-is bytes one) in
+same-end : (t : Token) (kind : Kind) (bytes rest : List ℕ) (first : Bool) → IsToken kind bytes rest → (1 ≤ length bytes → first ≡ nat_eq (slice_index bytes 0) 59) →
+    ends_with kind first ≡ is_ending (class_of (terminal_by kind bytes t))
+same-end t WordKind bytes rest first form is = sym (word-goes-on _ _ _)
+same-end t NumberKind bytes rest first form is = refl
+same-end t QuotedKind bytes rest first form is = refl
+same-end t SymbolKind bytes rest first (one, longest) is =
+    let parts = and_parts _ _ (symbol-is t bytes one) in
     is (some-test bytes parts.1) ∙ same-test _ _ parts.0
-same-end EndKind bytes rest first form is = refl
+same-end t EndKind bytes rest first form is = refl
 
 length-bytes : (text : List ℕ) (t : Token) → t.end ≤ length text → length (bytes_of_token text t) ≡ t.end - t.start
 length-bytes text t le = length-take-le (t.end - t.start) (drop t.start text) (omega (arith, length-drop t.start text))
@@ -73,7 +73,7 @@ first-byte text t le some =
     ap (λ b. nat_eq b 59) (sym (get_or-take (t.end - t.start) (drop t.start text) 0 0 (omega (arith, n, some)) ∙ (get_or-drop t.start text 0 0 ∙ ap (λ k. get_or text k 0) (add-zero t.start))))
 
 ends-alike : (text : List ℕ) (from : ℕ) (t : Token) → IsNext text from t → is_last text t ≡ is_end text t
-ends-alike text from t next = same-end t.kind (bytes_of_token text t) (drop t.end text) (nat_eq (slice_index text t.start) 59) next.form (first-byte text t next.within)
+ends-alike text from t next = same-end t t.kind (bytes_of_token text t) (drop t.end text) (nat_eq (slice_index text t.start) 59) next.form (first-byte text t next.within)
 
 inside-by : (text : List ℕ) (t : Token) (ts : List Token) (b : Bool) → ((from : ℕ) → AreWords text from ts → All (IsWithin text) ts) → MatchBool b (ts ≡ []) (AreWords text t.end ts) → All (IsWithin text) ts
 inside-by text t ts true more w = subst (All (IsWithin text)) (sym w) (All-nil (IsWithin text))
@@ -90,7 +90,7 @@ few-by text from t ts true next is more w =
     let none = ap length w in omega (arith, none, next.gap.order, next.order, next.within)
 few-by text from t ts false next is more w =
     let rest = more w in
-    let some = some-bytes t.kind (bytes_of_token text t) (drop t.end text) _ next.form is in
+    let some = some-bytes t t.kind (bytes_of_token text t) (drop t.end text) _ next.form is in
     let n = length-bytes text t next.within in
     omega (arith, rest, some, n, next.gap.order, next.order, next.within)
 

@@ -6,13 +6,14 @@ use Rattle.std.proofs.lemmas.List.{get_or-drop, drop-drop, drop_more, take-appen
 use Rattle.std.proofs.lemmas.List.Elements.{All-append}
 use Rattle.pg_base.specs.declared.faults.Fault.{Fault}
 use Rattle.pg_base.specs.declared.faults.Code.{Code}
+use Rattle.pg_base.specs.declared.limits.TheConstants.{MOST_LEVELS}
 use Rattle.sql_lex.specs.declared.tokens.Token.{Token}
 use Rattle.sql_grammar.specs.declared.table.Item.{Item}
 use Rattle.sql_grammar.specs.Terminals.{Terminal, class_of}
 use Rattle.sql_grammar.specs.Reading.{terminal_of, is_end, ends_once, AreTokens}
 use Rattle.sql_grammar.specs.Machine.{depth_of, run_of, may_end, Fits, is_closed}
 use Rattle.sql_grammar.specs.Faults.{terminals, limit_of, AreWithinLimits, fault_at}
-use Rattle.sql_grammar.specs.Walk.{TakenOn, IsStuck, IsStuckAt, StopsBy, WalkEnds, WalkStops}
+use Rattle.sql_grammar.specs.Walk.{TakenOn, IsUnawaited, IsUnawaitedAt, StopsBy, WalkEnds, WalkStops}
 use Rattle.sql_grammar.proofs.Endings.{Closed, step-closed, still-open}
 use Rattle.sql_grammar.proofs.Reach.{run-snoc}
 
@@ -77,10 +78,10 @@ ends-at text (b ∷ before) t rest once = ends-at text before t rest (ends-cons 
 pub record Walking (text : List ℕ) (tokens : List Token) (first : ℕ) (start : List Item) (at : ℕ) (stack : List Item) : Type 0 where
   pub from : first ≤ at
   pub below : at < length tokens
-  pub run : run_of 32 (terminals text (seen tokens first at)) start ≡ Some stack
+  pub run : run_of MOST_LEVELS (terminals text (seen tokens first at)) start ≡ Some stack
   pub within : AreWithinLimits (terminals text (seen tokens first at))
   pub fits : Fits 16 stack
-  pub shallow : depth_of stack ≤ 32
+  pub shallow : depth_of stack ≤ MOST_LEVELS
   pub closed : (none last : Bool) → is_closed none last start ≡ true → is_closed none last stack ≡ true
 
 pub begins : (text : List ℕ) (tokens : List Token) (first : ℕ) (start : List Item) → first < length tokens → Fits 16 start → depth_of start ≡ 0 → Walking text tokens first start first start
@@ -89,7 +90,7 @@ begins text tokens first start lt fits flat =
     record {
       from = omega arith;
       below = lt;
-      run = ap (λ l. run_of 32 (terminals text l) start) none;
+      run = ap (λ l. run_of MOST_LEVELS (terminals text l) start) none;
       within = subst (λ l. AreWithinLimits (terminals text l)) (sym none) (λ k d lt. absurd (omega (arith, lt)));
       fits = fits;
       shallow = omega (arith, flat);
@@ -120,7 +121,7 @@ module _ (text : List ℕ) (tokens : List Token) (first : ℕ) (start : List Ite
     place = subst (λ f. f ≡ fault_at f.code now) (sym is) refl;
   }
 
-  pub ended : IsStuck stack (terminal_of text now) × (may_end stack ≡ true) → WalkEnds text tokens first start at
+  pub ended : IsUnawaited stack (terminal_of text now) × (may_end stack ≡ true) → WalkEnds text tokens first start at
   ended (stuck, ends) = record {
     before = seen tokens first at;
     after = now ∷ later;
@@ -137,19 +138,19 @@ module _ (text : List ℕ) (tokens : List Token) (first : ℕ) (start : List Ite
 
   module _ (new : List Item) (on : TakenOn (terminal_of text now) stack new) where
     closed-now : (none last : Bool) → is_closed none last start ≡ true → Closed none last (class_of (terminal_of text now)) new
-    closed-now none last c = step-closed 32 none last (class_of (terminal_of text now)) stack new (w.closed none last c) on.step
+    closed-now none last c = step-closed MOST_LEVELS none last (class_of (terminal_of text now)) stack new (w.closed none last c) on.step
 
-    run-on : run_of 32 (terminals text (seen tokens first (at + 1))) start ≡ Some new
+    run-on : run_of MOST_LEVELS (terminals text (seen tokens first (at + 1))) start ≡ Some new
     run-on =
-        ap (λ l. run_of 32 l start) (terminals-more text tokens first at d w.from w.below) ∙
-        run-snoc 32 (terminals text (seen tokens first at)) (terminal_of text now) start stack new w.run on.step
+        ap (λ l. run_of MOST_LEVELS l start) (terminals-more text tokens first at d w.from w.below) ∙
+        run-snoc MOST_LEVELS (terminals text (seen tokens first at)) (terminal_of text now) start stack new w.run on.step
 
     within-on : AreWithinLimits (terminals text (seen tokens first (at + 1)))
     within-on =
         subst AreWithinLimits (sym (terminals-more text tokens first at d w.from w.below))
         (All-append (λ t. limit_of t ≡ None) (terminals text (seen tokens first at)) (terminal_of text now ∷ []) w.within (within-one (terminal_of text now) on.within))
 
-    stuck-at : (rest : List Token) → IsStuckAt text [] rest
+    stuck-at : (rest : List Token) → IsUnawaitedAt text [] rest
     stuck-at [] = tt
     stuck-at (t ∷ rest) = λ limit. refl
 
@@ -174,7 +175,7 @@ module _ (text : List ℕ) (tokens : List Token) (first : ℕ) (start : List Ite
           run = run-on;
           ends = ap may_end none;
           within = within-on;
-          stuck = subst (λ s. IsStuckAt text s later) (sym none) (stuck-at later);
+          stuck = subst (λ s. IsUnawaitedAt text s later) (sym none) (stuck-at later);
           inner = λ c. inner-by (is_end text now) refl (closed-now true false c);
           outer = λ c. outer-by (is_end text now) refl none (closed-now false true c);
         }

@@ -6,6 +6,8 @@ use Rattle.pg_base.specs.declared.faults.Code.TheVariants.{S1, S15}
 use Rattle.pg_base.specs.declared.faults.Limit.{Limit}
 use Rattle.pg_base.specs.declared.faults.Limit.TheVariants.{Text, Name, Depth}
 use Rattle.pg_base.specs.declared.faults.Fault.{Fault}
+use Rattle.pg_base.specs.Faults.{words_fault}
+use Rattle.pg_base.specs.declared.limits.TheConstants.{MOST_LEVELS, MOST_NAME_BYTES, MOST_TEXT_BYTES}
 use Rattle.sql_lex.specs.declared.tokens.Token.{Token}
 use Rattle.sql_grammar.specs.Terminals.{Ident, free, other, Terminal, t_name, t_quoted}
 use Rattle.sql_grammar.specs.Reading.{free_spelling_of, terminal_of}
@@ -34,13 +36,13 @@ IsPrefix Of limit ts = (rest : List Terminal) × Of limit (ts ++ rest)
 
 -- a name's bytes in small letters
 abbrev pub bytes_of : Ident → List ℕ
-bytes_of (free w) = free_spelling_of w
-bytes_of (other bytes) = bytes
+bytes_of (free w _) = free_spelling_of w
+bytes_of (other bytes _) = bytes
 
--- the limit that a terminal is past: 63 bytes of a name, 8,192 of a quoted text's value
+-- the limit that a terminal is past: that of a name, or of a quoted text's value, in bytes
 abbrev pub limit_of : Terminal → Option Limit
-limit_of (t_name n) = cond (nat_le (length (bytes_of n)) 63) None (Some Name)
-limit_of (t_quoted value) = cond (nat_le (length value) 8192) None (Some Text)
+limit_of (t_name n) = cond (nat_le (length (bytes_of n)) MOST_NAME_BYTES) None (Some Name)
+limit_of (t_quoted q) = cond (nat_le (length q.value) MOST_TEXT_BYTES) None (Some Text)
 limit_of _ = None
 
 -- none is past a limit
@@ -52,11 +54,11 @@ abbrev pub terminals : List ℕ → List Token → List Terminal
 terminals text tokens = map (terminal_of text) tokens
 
 -- why a terminal is at fault after others with which the production begins:
--- it never goes on so; it opens level 33; it is awaited, and past a limit
+-- it never goes on so; it opens a level too many; it is awaited, and past a limit
 abbrev pub IsAtFault : Production → List Terminal → Terminal → Code → Type 0
 IsAtFault Of before t S1 = (limit : ℕ) → ¬ IsPrefix Of limit (before ++ t ∷ [])
-IsAtFault Of before t (S15 Depth) = ¬ IsPrefix Of 32 (before ++ t ∷ []) × IsPrefix Of 33 (before ++ t ∷ [])
-IsAtFault Of before t (S15 limit) = IsPrefix Of 32 (before ++ t ∷ []) × (limit_of t ≡ Some limit)
+IsAtFault Of before t (S15 Depth) = ¬ IsPrefix Of MOST_LEVELS (before ++ t ∷ []) × IsPrefix Of (MOST_LEVELS + 1) (before ++ t ∷ [])
+IsAtFault Of before t (S15 limit) = IsPrefix Of MOST_LEVELS (before ++ t ∷ []) × (limit_of t ≡ Some limit)
 IsAtFault Of before t _ = ⊥
 
 -- where the words at fault end: a syntax fault names none
@@ -66,7 +68,7 @@ fault_end _ token = token.end
 
 -- the fault of this kind at this token
 abbrev pub fault_at : Code → Token → Fault
-fault_at code token = record { code = code; at = token.start; from = token.start; to = fault_end code token; rec = 0; table = record { 0 = 0 }; col = 0 }
+fault_at code token = words_fault code token.start (fault_end code token)
 
 -- the first fault of tokens that are to begin with the production: the tokens before it begin one, within the limits
 pub record IsFirstFault (Of : Production) (text : List ℕ) (tokens : List Token) (fault : Fault) : Type 0 where
@@ -74,7 +76,7 @@ pub record IsFirstFault (Of : Production) (text : List ℕ) (tokens : List Token
   pub token : Token
   pub after : List Token
   pub split : tokens ≡ before ++ token ∷ after
-  pub begins : IsPrefix Of 32 (terminals text before)
+  pub begins : IsPrefix Of MOST_LEVELS (terminals text before)
   pub within : AreWithinLimits (terminals text before)
   pub cause : IsAtFault Of (terminals text before) (terminal_of text token) fault.code
   pub unfinished : fault.code ≡ S1 → (limit : ℕ) → ¬ Of limit (terminals text before)
@@ -87,7 +89,7 @@ pub record EndsAt (Of : Production) (text : List ℕ) (tokens : List Token) (fir
   pub after : List Token
   pub split : drop first tokens ≡ before ++ token ∷ after
   pub place : end ≡ first + length before
-  pub whole : Of 32 (terminals text before)
+  pub whole : Of MOST_LEVELS (terminals text before)
   pub within : AreWithinLimits (terminals text before)
   pub longest : (limit : ℕ) → ¬ IsPrefix Of limit (terminals text before ++ terminal_of text token ∷ [])
 
@@ -98,5 +100,5 @@ IsPartEnd Of text tokens first (Err fault) = IsFirstFault Of text (drop first to
 
 -- tokens are a statement within the limits
 pub record IsWhole (text : List ℕ) (tokens : List Token) : Type 0 where
-  pub statement : IsStatement 32 (terminals text tokens)
+  pub statement : IsStatement MOST_LEVELS (terminals text tokens)
   pub within : AreWithinLimits (terminals text tokens)

@@ -6,5 +6,7 @@ pub mod Machine
 pub mod Steps
 pub mod Reading
 pub mod Faults
+pub mod Spelled
 pub mod Walk
 pub mod CopyLine
+pub mod Unique

@@ -4,7 +4,7 @@ use Rattle.sql_grammar.specs.declared.class.Class.{Class}
 use Rattle.sql_grammar.specs.Terminals.{Terminal, class_of}
 use Rattle.sql_grammar.specs.declared.table.Item.{Item}
 use Rattle.sql_grammar.specs.declared.table.Item.TheVariants.{Closes, NotEnds}
-use Rattle.sql_grammar.specs.Table.{Row, takes_of, is_optional, is_last, level_of, room_of}
+use Rattle.sql_grammar.specs.Table.{Expansion, takes_of, is_optional, takes_end, level_of, room_of}
 
 -- the levels of an expression that are open
 abbrev pub depth_of : List Item → ℕ
@@ -23,15 +23,15 @@ abbrev pub pushed : ℕ → List Item → List Item → Option (List Item)
 pushed limit is s = cond (opens is) (cond (nat_le (depth_of (is ++ s)) limit) (Some (is ++ s)) None) (Some (is ++ s))
 
 -- after a row: its items, or what stands below where nothing need come
-abbrev pub after : ℕ → Row → Bool → List Item → Option (List Item) → Option (List Item)
-after limit (Some is) _ s below = pushed limit is s
-after limit None true s below = below
-after limit None false s below = None
+abbrev pub by_row : ℕ → Expansion → Bool → List Item → Option (List Item) → Option (List Item)
+by_row limit (Some is) _ s below = pushed limit is s
+by_row limit None true s below = below
+by_row limit None false s below = None
 
 -- the stack after a token
 abbrev pub step_of : ℕ → Class → List Item → Option (List Item)
 step_of limit t [] = None
-step_of limit t (i ∷ s) = after limit (takes_of i t) (is_optional i) s (step_of limit t s)
+step_of limit t (i ∷ s) = by_row limit (takes_of i t) (is_optional i) s (step_of limit t s)
 
 -- the next of two steps
 abbrev pub and_then : Option (List Item) → (List Item → Option (List Item)) → Option (List Item)
@@ -49,14 +49,14 @@ may_end [] = true
 may_end (i ∷ s) = is_optional i && may_end s
 
 -- a step and what follows
-abbrev pub accept_then : Option (List Item) → (List Item → Bool) → Bool
-accept_then None f = false
-accept_then (Some s) f = f s
+abbrev pub takes_then : Option (List Item) → (List Item → Bool) → Bool
+takes_then None f = false
+takes_then (Some s) f = f s
 
 -- these tokens are taken to an end
-abbrev pub accepts : ℕ → List Terminal → List Item → Bool
-accepts limit [] s = may_end s
-accepts limit (t ∷ ts) s = accept_then (step_of limit (class_of t) s) (accepts limit ts)
+abbrev pub takes_all : ℕ → List Terminal → List Item → Bool
+takes_all limit [] s = may_end s
+takes_all limit (t ∷ ts) s = takes_then (step_of limit (class_of t) s) (takes_all limit ts)
 
 -- there is room for the stack and what comes of it
 abbrev pub Fits : ℕ → List Item → Type 0
@@ -71,4 +71,4 @@ is_empty (_ ∷ _) = false
 -- an item that takes a statement's end is the last one; whether none may stand, and whether such a one may
 abbrev pub is_closed : Bool → Bool → List Item → Bool
 is_closed none last [] = none
-is_closed none last (i ∷ s) = cond (is_last i) (last && is_empty s) (is_closed none last s)
+is_closed none last (i ∷ s) = cond (takes_end i) (last && is_empty s) (is_closed none last s)

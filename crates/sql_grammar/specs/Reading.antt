@@ -66,25 +66,25 @@ abbrev pub free_of : List ℕ → Option Free
 free_of bytes = find (λ w. bytes_eq bytes (free_spelling_of w)) free_words
 
 -- the name of this spelling
-abbrev pub ident_of : Option Free → List ℕ → Ident
-ident_of (Some w) bytes = free w
-ident_of None bytes = other bytes
+abbrev pub ident_of : Option Free → List ℕ → Token → Ident
+ident_of (Some w) bytes token = free w token
+ident_of None bytes token = other bytes token
 
 -- a word is reserved or a name
-abbrev pub word_terminal : Option Word → List ℕ → Terminal
-word_terminal (Some w) bytes = t_key w
-word_terminal None bytes = t_name (ident_of (free_of bytes) bytes)
+abbrev pub word_terminal : Option Word → List ℕ → Token → Terminal
+word_terminal (Some w) bytes token = t_key w token
+word_terminal None bytes token = t_name (ident_of (free_of bytes) bytes token)
 
 -- a symbol of one byte
-abbrev pub mark_of : ℕ → Terminal
-mark_of b =
-    cond (nat_eq b 40) (t_mark Open) (cond (nat_eq b 41) (t_mark Close) (cond (nat_eq b 44) (t_mark Comma) (cond (nat_eq b 46) (t_mark Dot)
-    (cond (nat_eq b 45) (t_mark Minus) (cond (nat_eq b 42) (t_mark Star) (cond (nat_eq b 59) t_semicolon (t_operator (b ∷ []))))))))
+abbrev pub mark_of : ℕ → Token → Terminal
+mark_of b token =
+    cond (nat_eq b 40) (t_mark Open token) (cond (nat_eq b 41) (t_mark Close token) (cond (nat_eq b 44) (t_mark Comma token) (cond (nat_eq b 46) (t_mark Dot token)
+    (cond (nat_eq b 45) (t_mark Minus token) (cond (nat_eq b 42) (t_mark Star token) (cond (nat_eq b 59) (t_semicolon token) (t_operator (record { value = b ∷ []; token = token }))))))))
 
 -- a symbol: what is longer than a byte is an operator
-abbrev pub symbol_terminal : List ℕ → Terminal
-symbol_terminal (b ∷ []) = mark_of b
-symbol_terminal bytes = t_operator bytes
+abbrev pub symbol_terminal : List ℕ → Token → Terminal
+symbol_terminal (b ∷ []) token = mark_of b token
+symbol_terminal bytes token = t_operator (record { value = bytes; token = token })
 
 -- what quotes enclose, in which a quote stands twice for one; whether the byte before is the first of two
 abbrev pub unquoted : Bool → List ℕ → List ℕ
@@ -101,16 +101,16 @@ abbrev pub bytes_of_token : List ℕ → Token → List ℕ
 bytes_of_token text token = slice_range text token.start token.end
 
 -- the terminal of these bytes; letters count without regard to case
-abbrev pub terminal_by : Kind → List ℕ → Terminal
-terminal_by WordKind bytes = word_terminal (reserved_of (map to_ascii_lowercase bytes)) (map to_ascii_lowercase bytes)
-terminal_by NumberKind bytes = t_number bytes
-terminal_by QuotedKind bytes = t_quoted (value_of_quoted bytes)
-terminal_by SymbolKind bytes = symbol_terminal bytes
-terminal_by EndKind bytes = t_end
+abbrev pub terminal_by : Kind → List ℕ → Token → Terminal
+terminal_by WordKind bytes token = word_terminal (reserved_of (map to_ascii_lowercase bytes)) (map to_ascii_lowercase bytes) token
+terminal_by NumberKind bytes token = t_number (record { value = bytes; token = token })
+terminal_by QuotedKind bytes token = t_quoted (record { value = value_of_quoted bytes; token = token })
+terminal_by SymbolKind bytes token = symbol_terminal bytes token
+terminal_by EndKind bytes token = t_end token
 
 -- the terminal of a token of this text
 abbrev pub terminal_of : List ℕ → Token → Terminal
-terminal_of text token = terminal_by token.kind (bytes_of_token text token)
+terminal_of text token = terminal_by token.kind (bytes_of_token text token) token
 
 -- the token stands in the text
 pub record IsWithin (text : List ℕ) (token : Token) : Type 0 where

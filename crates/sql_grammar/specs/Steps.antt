@@ -1,5 +1,6 @@
 -- What a step of the walk tells (own).
-use Rattle.std.specs.Prelude.{◌≡◌, ℕ, true, false, ◌≤◌, List, Some, None}
+use Rattle.std.specs.Prelude.{◌≡◌, ℕ, ◌+◌, true, false, ◌≤◌, List, Some, None}
+use Rattle.pg_base.specs.declared.limits.TheConstants.{MOST_LEVELS}
 use Rattle.sql_grammar.specs.declared.class.Class.{Class}
 use Rattle.sql_grammar.specs.declared.table.Item.{Item}
 use Rattle.sql_grammar.specs.declared.stack.Step.{Step}
@@ -8,13 +9,13 @@ use Rattle.sql_grammar.specs.Machine.{depth_of, step_of, may_end, Fits}
 
 -- the token was awaited
 pub record Taken (t : Class) (old new : List Item) : Type 0 where
-  pub step : step_of 32 t old ≡ Some new
+  pub step : step_of MOST_LEVELS t old ≡ Some new
   pub fits : Fits 16 new
-  pub shallow : depth_of new ≤ 32
+  pub shallow : depth_of new ≤ MOST_LEVELS
 
--- what each answer says of the stack before and after; where a level too many opens, the stack is that of a limit of 33
-abbrev pub IsStep : Step → Class → List Item → List Item → Type 0
-IsStep Took t old new = Taken t old new
-IsStep Refused t old new = ((limit : ℕ) → step_of limit t old ≡ None) × (may_end old ≡ false)
-IsStep Ended t old new = ((limit : ℕ) → step_of limit t old ≡ None) × (may_end old ≡ true)
-IsStep TooDeep t old new = (step_of 32 t old ≡ None) × (step_of 33 t old ≡ Some new)
+-- what each answer says of the stack before and after; where a level too many opens, the stack is that of a limit of one level more
+abbrev pub IsStackStep : Step → Class → List Item → List Item → Type 0
+IsStackStep Took t old new = Taken t old new
+IsStackStep Refused t old new = ((limit : ℕ) → step_of limit t old ≡ None) × (may_end old ≡ false)
+IsStackStep Ended t old new = ((limit : ℕ) → step_of limit t old ≡ None) × (may_end old ≡ true)
+IsStackStep TooDeep t old new = (step_of MOST_LEVELS t old ≡ None) × (step_of (MOST_LEVELS + 1) t old ≡ Some new)

@@ -1,12 +1,21 @@
--- The statements, as they are written: a type for each production, a case for each spelling that it allows
+-- The statements, as they are written, each word with its token: a type for each production, a case for each spelling that
+-- it allows
 -- (PostgreSQL manual, chapters SQL Syntax and SQL Commands, cut down to this program's statements).
-use Rattle.sql_grammar.specs.Terminals.{Ident}
-use Rattle.std.specs.Prelude.{ℕ, List}
+use Rattle.std.specs.Prelude.{List}
+use Rattle.sql_lex.specs.declared.tokens.Token.{Token}
+use Rattle.sql_grammar.specs.Terminals.{Ident, Said}
+
+-- the token of a reserved word, and that of a symbol
+abbrev pub Key : Type 0
+Key = Token
+
+abbrev pub Mark : Type 0
+Mark = Token
 
 -- col = name ["." name]
 pub data Col : Type 0 where
   bare : Ident → Col
-  qualified : Ident → Ident → Col
+  qualified : Ident → Mark → Ident → Col
 
 -- TRUE, FALSE and NULL
 pub data Constant : Type 0 where
@@ -16,10 +25,10 @@ pub data Constant : Type 0 where
 
 -- lit = ["-"] number | quoted | TRUE | FALSE | NULL
 pub data Lit : Type 0 where
-  number : List ℕ → Lit
-  negative : List ℕ → Lit
-  quoted : List ℕ → Lit
-  constant : Constant → Lit
+  number : Said → Lit
+  negative : Mark → Said → Lit
+  quoted : Said → Lit
+  constant : Constant → Key → Lit
 
 -- operand = col | lit
 pub data Operand : Type 0 where
@@ -34,7 +43,7 @@ mutual
   -- { OR conj }
   pub data Ors : Type 0 where
     no_or : Ors
-    or_conj : Conj → Ors → Ors
+    or_conj : Key → Conj → Ors → Ors
 
   -- conj = neg { AND neg }
   pub data Conj : Type 0 where
@@ -43,27 +52,27 @@ mutual
   -- { AND neg }
   pub data Ands : Type 0 where
     no_and : Ands
-    and_neg : Neg → Ands → Ands
+    and_neg : Key → Neg → Ands → Ands
 
   -- neg = NOT neg | atom
   pub data Neg : Type 0 where
-    negated : Neg → Neg
+    negated : Key → Neg → Neg
     plain : Atom → Neg
 
   -- atom = "(" expr ")" | operand op operand | col IS [NOT] NULL | col | TRUE | FALSE | NULL
   pub data Atom : Type 0 where
-    parens : Expr → Atom
-    compare : Operand → List ℕ → Operand → Atom
-    is_null : Col → Atom
-    is_not_null : Col → Atom
+    parens : Mark → Expr → Mark → Atom
+    compare : Operand → Said → Operand → Atom
+    is_null : Col → Key → Key → Atom
+    is_not_null : Col → Key → Key → Key → Atom
     column_alone : Col → Atom
-    constant_alone : Constant → Atom
+    constant_alone : Constant → Key → Atom
 
 -- [NOT NULL | NULL]
 pub data Nulls : Type 0 where
   unwritten : Nulls
-  not_null : Nulls
-  nullable : Nulls
+  not_null : Key → Key → Nulls
+  nullable : Key → Nulls
 
 -- coldef = name name [NOT NULL | NULL]
 pub data ColDef : Type 0 where
@@ -71,29 +80,43 @@ pub data ColDef : Type 0 where
 
 -- item = "*" | name "." "*" | col
 pub data Output : Type 0 where
-  every : Output
-  every_of : Ident → Output
+  every : Mark → Output
+  every_of : Ident → Mark → Mark → Output
   one : Col → Output
 
 -- from = name [[AS] name]
 pub data Alias : Type 0 where
   no_alias : Alias
   bare_alias : Ident → Alias
-  as_alias : Ident → Alias
+  as_alias : Key → Ident → Alias
 
 -- select = SELECT item { "," item } FROM from
 pub data Select : Type 0 where
-  select_from : Output → List Output → Ident → Alias → Select
+  select_from : Key → Output → List (Mark × Output) → Key → Ident → Alias → Select
 
 -- a statement's end: ";" or the text's end
 pub data Ending : Type 0 where
-  semicolon : Ending
-  text_end : Ending
+  semicolon : Token → Ending
+  text_end : Token → Ending
+
+-- the words of COPY beside its table's name and its text for NULL
+pub record CopyWords : Type 0 where
+  pub copy : Token
+  pub from_at : Key
+  pub stdin : Token
+  pub with_at : Key
+  pub open_at : Mark
+  pub format : Token
+  pub csv : Token
+  pub comma : Mark
+  pub null : Key
+  pub close_at : Mark
+  pub stop : Token
 
 -- statement = [CREATE TABLE name "(" coldef { "," coldef } ")" | select] end
 --           | COPY name FROM STDIN WITH "(" FORMAT CSV "," NULL quoted ")" ";"
 pub data Statement : Type 0 where
   empty : Ending → Statement
-  create_table : Ident → ColDef → List ColDef → Ending → Statement
+  create_table : Key → Key → Ident → Mark → ColDef → List (Mark × ColDef) → Mark → Ending → Statement
   query : Select → Ending → Statement
-  copy : Ident → List ℕ → Statement
+  copy : CopyWords → Ident → Said → Statement

@@ -12,8 +12,8 @@ use Rattle.sql_grammar.specs.declared.table.Item.{Item}
 use Rattle.sql_grammar.specs.declared.table.Item.TheVariants.{Keyword, Sign, FreeWord, Label, Digits, QuotedText, Whole, Ends, Stop, Query, Nullness, MoreColumns, Result, MoreResults, AfterResult, StarOrLabel, MaybeAlias, Negation, MoreAnds, MoreOrs, Closes, NotEnds, AfterName, AfterColumn, AfterIs, AfterLiteral, AfterTruth, Side, AfterQualifier}
 
 -- the items in an item's place; None where the token is not awaited
-abbrev pub Row : Type 0
-Row = Option (List Item)
+abbrev pub Expansion : Type 0
+Expansion = Option (List Item)
 
 -- the number of a reserved word, by which two are compared
 abbrev pub word_code : Word → ℕ
@@ -60,7 +60,7 @@ free_code Format = 2
 free_code Stdin = 3
 
 -- a statement and its end: `CREATE TABLE`, `SELECT`, `COPY`, or nothing before the end
-abbrev pub statement_takes : Class → Row
+abbrev pub statement_takes : Class → Expansion
 statement_takes (Key Create) = Some (Keyword Table ∷ Label ∷ Sign Open ∷ Label ∷ Label ∷ Nullness ∷ MoreColumns ∷ Ends ∷ [])
 statement_takes (Key Select) = Some (Result ∷ MoreResults ∷ Keyword From ∷ Label ∷ MaybeAlias ∷ Ends ∷ [])
 statement_takes (Name (Some Copy)) = Some (Label ∷ Keyword From ∷ FreeWord Stdin ∷ Keyword With ∷ Sign Open ∷ FreeWord Format ∷ FreeWord Csv ∷ Sign Comma ∷ Keyword Null ∷ QuotedText ∷ Sign Close ∷ Stop ∷ [])
@@ -69,63 +69,63 @@ statement_takes End = Some []
 statement_takes _ = None
 
 -- a statement's end
-abbrev pub ends_takes : Class → Row
+abbrev pub ends_takes : Class → Expansion
 ends_takes Semicolon = Some []
 ends_takes End = Some []
 ends_takes _ = None
 
 -- the `;` before data
-abbrev pub stop_takes : Class → Row
+abbrev pub stop_takes : Class → Expansion
 stop_takes Semicolon = Some []
 stop_takes _ = None
 
 -- a SELECT
-abbrev pub query_takes : Class → Row
+abbrev pub query_takes : Class → Expansion
 query_takes (Key Select) = Some (Result ∷ MoreResults ∷ Keyword From ∷ Label ∷ MaybeAlias ∷ [])
 query_takes _ = None
 
 -- NULL or NOT NULL
-abbrev pub nullness_takes : Class → Row
+abbrev pub nullness_takes : Class → Expansion
 nullness_takes (Key Not) = Some (Keyword Null ∷ [])
 nullness_takes (Key Null) = Some []
 nullness_takes _ = None
 
 -- further columns, and the closing parenthesis
-abbrev pub columns_takes : Class → Row
+abbrev pub columns_takes : Class → Expansion
 columns_takes (Mark Comma) = Some (Label ∷ Label ∷ Nullness ∷ MoreColumns ∷ [])
 columns_takes (Mark Close) = Some []
 columns_takes _ = None
 
 -- what SELECT asks for
-abbrev pub output_takes : Class → Row
+abbrev pub output_takes : Class → Expansion
 output_takes (Mark Star) = Some []
 output_takes (Name _) = Some (AfterResult ∷ [])
 output_takes _ = None
 
 -- further ones
-abbrev pub outputs_takes : Class → Row
+abbrev pub outputs_takes : Class → Expansion
 outputs_takes (Mark Comma) = Some (Result ∷ MoreResults ∷ [])
 outputs_takes _ = None
 
 -- what follows a name there
-abbrev pub after_output_takes : Class → Row
+abbrev pub after_output_takes : Class → Expansion
 after_output_takes (Mark Dot) = Some (StarOrLabel ∷ [])
 after_output_takes _ = None
 
 -- what follows a name and a dot there
-abbrev pub star_takes : Class → Row
+abbrev pub star_takes : Class → Expansion
 star_takes (Mark Star) = Some []
 star_takes (Name _) = Some []
 star_takes _ = None
 
 -- an alias
-abbrev pub alias_takes : Class → Row
+abbrev pub alias_takes : Class → Expansion
 alias_takes (Key As) = Some (Label ∷ [])
 alias_takes (Name _) = Some []
 alias_takes _ = None
 
 -- a NOT or an atom
-abbrev pub negation_takes : Class → Row
+abbrev pub negation_takes : Class → Expansion
 negation_takes (Key Not) = Some (Negation ∷ NotEnds ∷ [])
 negation_takes (Mark Open) = Some (Negation ∷ MoreAnds ∷ MoreOrs ∷ Closes ∷ [])
 negation_takes (Name _) = Some (AfterName ∷ [])
@@ -138,35 +138,35 @@ negation_takes (Key Null) = Some (AfterTruth ∷ [])
 negation_takes _ = None
 
 -- further parts of an AND
-abbrev pub ands_takes : Class → Row
+abbrev pub ands_takes : Class → Expansion
 ands_takes (Key And) = Some (Negation ∷ MoreAnds ∷ [])
 ands_takes _ = None
 
 -- further parts of an OR
-abbrev pub ors_takes : Class → Row
+abbrev pub ors_takes : Class → Expansion
 ors_takes (Key Or) = Some (Negation ∷ MoreAnds ∷ MoreOrs ∷ [])
 ors_takes _ = None
 
 -- what follows a literal
-abbrev pub literal_takes : Class → Row
+abbrev pub literal_takes : Class → Expansion
 literal_takes Operator = Some (Side ∷ [])
 literal_takes _ = None
 
 -- what follows a column
-abbrev pub column_takes : Class → Row
+abbrev pub column_takes : Class → Expansion
 column_takes (Key Is) = Some (AfterIs ∷ [])
 column_takes Operator = Some (Side ∷ [])
 column_takes _ = None
 
 -- what follows a name that begins a column
-abbrev pub name_takes : Class → Row
+abbrev pub name_takes : Class → Expansion
 name_takes (Mark Dot) = Some (Label ∷ AfterColumn ∷ [])
 name_takes (Key Is) = Some (AfterIs ∷ [])
 name_takes Operator = Some (Side ∷ [])
 name_takes _ = None
 
 -- an operand
-abbrev pub side_takes : Class → Row
+abbrev pub side_takes : Class → Expansion
 side_takes (Name _) = Some (AfterQualifier ∷ [])
 side_takes (Mark Minus) = Some (Digits ∷ [])
 side_takes Number = Some []
@@ -177,42 +177,42 @@ side_takes (Key Null) = Some []
 side_takes _ = None
 
 -- what follows a name in an operand
-abbrev pub qualifier_takes : Class → Row
+abbrev pub qualifier_takes : Class → Expansion
 qualifier_takes (Mark Dot) = Some (Label ∷ [])
 qualifier_takes _ = None
 
 -- a name
-abbrev pub label_takes : Class → Row
+abbrev pub label_takes : Class → Expansion
 label_takes (Name _) = Some []
 label_takes _ = None
 
 -- a number
-abbrev pub digits_takes : Class → Row
+abbrev pub digits_takes : Class → Expansion
 digits_takes Number = Some []
 digits_takes _ = None
 
 -- a quoted text
-abbrev pub quoted_takes : Class → Row
+abbrev pub quoted_takes : Class → Expansion
 quoted_takes Quoted = Some []
 quoted_takes _ = None
 
 -- this reserved word
-abbrev pub keyword_takes : Word → Class → Row
+abbrev pub keyword_takes : Word → Class → Expansion
 keyword_takes w (Key v) = cond (nat_eq (word_code v) (word_code w)) (Some []) None
 keyword_takes w _ = None
 
 -- this symbol
-abbrev pub sign_takes : Symbol → Class → Row
+abbrev pub sign_takes : Symbol → Class → Expansion
 sign_takes w (Mark v) = cond (nat_eq (sign_code v) (sign_code w)) (Some []) None
 sign_takes w _ = None
 
 -- this word, which is not reserved
-abbrev pub free_takes : Free → Class → Row
+abbrev pub free_takes : Free → Class → Expansion
 free_takes w (Name (Some v)) = cond (nat_eq (free_code v) (free_code w)) (Some []) None
 free_takes w _ = None
 
 -- the whole table
-abbrev pub takes_of : Item → Class → Row
+abbrev pub takes_of : Item → Class → Expansion
 takes_of (Keyword w) t = keyword_takes w t
 takes_of (Sign s) t = sign_takes s t
 takes_of (FreeWord w) t = free_takes w t
@@ -277,11 +277,11 @@ room_of AfterName = 2
 room_of _ = 1
 
 -- it takes the word that ends a statement
-abbrev pub is_last : Item → Bool
-is_last Whole = true
-is_last Ends = true
-is_last Stop = true
-is_last _ = false
+abbrev pub takes_end : Item → Bool
+takes_end Whole = true
+takes_end Ends = true
+takes_end Stop = true
+takes_end _ = false
 
 -- `;` or the text's end
 abbrev pub is_ending : Class → Bool

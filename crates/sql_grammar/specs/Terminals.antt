@@ -1,39 +1,50 @@
--- The terminals of the grammar: words with what they say.
+-- The terminals of the grammar: words with what they say and where they stand.
 use Rattle.std.specs.Prelude.{ℕ, List, Option, Some, None}
+use Rattle.sql_lex.specs.declared.tokens.Token.{Token}
 use Rattle.sql_grammar.specs.declared.class.Word.{Word}
 use Rattle.sql_grammar.specs.declared.class.Symbol.{Symbol}
 use Rattle.sql_grammar.specs.declared.class.Free.{Free}
 use Rattle.sql_grammar.specs.declared.class.Class.{Class}
 use Rattle.sql_grammar.specs.declared.class.Class.TheVariants.{Key, Mark, Name, Number, Quoted, Operator, Semicolon, End}
 
--- a name: a word with a place of its own in the grammar, or another one by its bytes in small letters (own)
+-- a name with its token: a word with a place of its own in the grammar, or another one by its bytes in small letters (own)
 pub data Ident : Type 0 where
-  free : Free → Ident
-  other : List ℕ → Ident
+  free : Free → Token → Ident
+  other : List ℕ → Token → Ident
 
--- a terminal: numbers and operators by their bytes, quoted texts by their value (PostgreSQL manual, chapter SQL Syntax)
+-- what a word says, with its token
+pub record Said : Type 0 where
+  pub value : List ℕ
+  pub token : Token
+
+-- a terminal with its token: numbers and operators by their bytes, quoted texts by their value (PostgreSQL manual, chapter SQL Syntax)
 pub data Terminal : Type 0 where
-  t_key : Word → Terminal
-  t_mark : Symbol → Terminal
+  t_key : Word → Token → Terminal
+  t_mark : Symbol → Token → Terminal
   t_name : Ident → Terminal
-  t_number : List ℕ → Terminal
-  t_quoted : List ℕ → Terminal
-  t_operator : List ℕ → Terminal
-  t_semicolon : Terminal
-  t_end : Terminal
+  t_number : Said → Terminal
+  t_quoted : Said → Terminal
+  t_operator : Said → Terminal
+  t_semicolon : Token → Terminal
+  t_end : Token → Terminal
 
 -- a name's place in the grammar, where it has one
 abbrev pub place_of : Ident → Option Free
-place_of (free w) = Some w
-place_of (other _) = None
+place_of (free w _) = Some w
+place_of (other _ _) = None
+
+-- its token
+abbrev pub token_of : Ident → Token
+token_of (free _ t) = t
+token_of (other _ t) = t
 
 -- what the grammar sees of a terminal
 abbrev pub class_of : Terminal → Class
-class_of (t_key w) = Key w
-class_of (t_mark s) = Mark s
+class_of (t_key w _) = Key w
+class_of (t_mark s _) = Mark s
 class_of (t_name i) = Name (place_of i)
 class_of (t_number _) = Number
 class_of (t_quoted _) = Quoted
 class_of (t_operator _) = Operator
-class_of t_semicolon = Semicolon
-class_of t_end = End
+class_of (t_semicolon _) = Semicolon
+class_of (t_end _) = End

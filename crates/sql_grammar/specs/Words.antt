@@ -1,6 +1,7 @@
 -- The words of each syntax tree, in the order in which they are written (PostgreSQL manual, chapters SQL Syntax and SQL
 -- Commands), and how deep its expressions are nested (own).
 use Rattle.std.specs.Prelude.{ℕ, ◌+◌, max, List, [], ◌∷◌, ◌++◌}
+use Rattle.sql_lex.specs.declared.tokens.Token.{Token}
 use Rattle.sql_grammar.specs.Terminals.{Terminal, t_key, t_mark, t_name, t_number, t_quoted, t_operator, t_semicolon, t_end, free}
 use Rattle.sql_grammar.specs.declared.class.Free.TheVariants.{Copy, Csv, Format, Stdin}
 use Rattle.sql_grammar.specs.declared.class.Word.{Word}
@@ -11,20 +12,20 @@ use Rattle.sql_grammar.specs.Syntax.{Col, bare, qualified, Constant, yes, no, un
 -- a column, with its table's name and a dot before it where that is written
 abbrev pub words_of_col : Col → List Terminal
 words_of_col (bare n) = t_name n ∷ []
-words_of_col (qualified q n) = t_name q ∷ t_mark Dot ∷ t_name n ∷ []
+words_of_col (qualified q d n) = t_name q ∷ t_mark Dot d ∷ t_name n ∷ []
 
 -- TRUE, FALSE or NULL
-abbrev pub word_of : Constant → Word
-word_of yes = True
-word_of no = False
-word_of unknown = Null
+abbrev pub constant_word : Constant → Word
+constant_word yes = True
+constant_word no = False
+constant_word unknown = Null
 
 -- a literal: a number, one with a minus, a quoted text or a constant
 abbrev pub words_of_lit : Lit → List Terminal
 words_of_lit (number n) = t_number n ∷ []
-words_of_lit (negative n) = t_mark Minus ∷ t_number n ∷ []
+words_of_lit (negative m n) = t_mark Minus m ∷ t_number n ∷ []
 words_of_lit (quoted t) = t_quoted t ∷ []
-words_of_lit (constant k) = t_key (word_of k) ∷ []
+words_of_lit (constant c k) = t_key (constant_word c) k ∷ []
 
 -- a column or a literal
 abbrev pub words_of_operand : Operand → List Terminal
@@ -39,7 +40,7 @@ abbrev mutual
   -- further parts, each after OR
   pub words_of_ors : Ors → List Terminal
   words_of_ors no_or = []
-  words_of_ors (or_conj c cs) = t_key Or ∷ (words_of_conj c ++ words_of_ors cs)
+  words_of_ors (or_conj k c cs) = t_key Or k ∷ (words_of_conj c ++ words_of_ors cs)
 
   -- the parts of an AND
   pub words_of_conj : Conj → List Terminal
@@ -48,72 +49,72 @@ abbrev mutual
   -- further parts, each after AND
   pub words_of_ands : Ands → List Terminal
   words_of_ands no_and = []
-  words_of_ands (and_neg n ns) = t_key And ∷ (words_of_neg n ++ words_of_ands ns)
+  words_of_ands (and_neg k n ns) = t_key And k ∷ (words_of_neg n ++ words_of_ands ns)
 
   -- NOT before a part, or an atom
   pub words_of_neg : Neg → List Terminal
-  words_of_neg (negated n) = t_key Not ∷ words_of_neg n
+  words_of_neg (negated k n) = t_key Not k ∷ words_of_neg n
   words_of_neg (plain a) = words_of_atom a
 
   -- an expression in parentheses, a comparison, a null test, a column or a constant
   pub words_of_atom : Atom → List Terminal
-  words_of_atom (parens e) = t_mark Open ∷ (words_of_expr e ++ t_mark Close ∷ [])
+  words_of_atom (parens o e c) = t_mark Open o ∷ (words_of_expr e ++ t_mark Close c ∷ [])
   words_of_atom (compare l op r) = words_of_operand l ++ t_operator op ∷ words_of_operand r
-  words_of_atom (is_null c) = words_of_col c ++ t_key Is ∷ t_key Null ∷ []
-  words_of_atom (is_not_null c) = words_of_col c ++ t_key Is ∷ t_key Not ∷ t_key Null ∷ []
+  words_of_atom (is_null c i k) = words_of_col c ++ t_key Is i ∷ t_key Null k ∷ []
+  words_of_atom (is_not_null c i n k) = words_of_col c ++ t_key Is i ∷ t_key Not n ∷ t_key Null k ∷ []
   words_of_atom (column_alone c) = words_of_col c
-  words_of_atom (constant_alone k) = t_key (word_of k) ∷ []
+  words_of_atom (constant_alone c k) = t_key (constant_word c) k ∷ []
 
 -- NOT NULL, NULL or nothing
 abbrev pub words_of_nulls : Nulls → List Terminal
 words_of_nulls unwritten = []
-words_of_nulls not_null = t_key Not ∷ t_key Null ∷ []
-words_of_nulls nullable = t_key Null ∷ []
+words_of_nulls (not_null n k) = t_key Not n ∷ t_key Null k ∷ []
+words_of_nulls (nullable k) = t_key Null k ∷ []
 
 -- a column's name, its type and whether it may be NULL
 abbrev pub words_of_coldef : ColDef → List Terminal
 words_of_coldef (coldef n t nulls) = t_name n ∷ t_name t ∷ words_of_nulls nulls
 
 -- further columns, each after a comma
-abbrev pub words_of_columns : List ColDef → List Terminal
+abbrev pub words_of_columns : List (Token × ColDef) → List Terminal
 words_of_columns [] = []
-words_of_columns (c ∷ cs) = t_mark Comma ∷ (words_of_coldef c ++ words_of_columns cs)
+words_of_columns ((m, c) ∷ cs) = t_mark Comma m ∷ (words_of_coldef c ++ words_of_columns cs)
 
 -- what SELECT asks for: everything, everything of a table, or a column
 abbrev pub words_of_output : Output → List Terminal
-words_of_output every = t_mark Star ∷ []
-words_of_output (every_of n) = t_name n ∷ t_mark Dot ∷ t_mark Star ∷ []
+words_of_output (every s) = t_mark Star s ∷ []
+words_of_output (every_of n d s) = t_name n ∷ t_mark Dot d ∷ t_mark Star s ∷ []
 words_of_output (one c) = words_of_col c
 
 -- further ones, each after a comma
-abbrev pub words_of_outputs : List Output → List Terminal
+abbrev pub words_of_outputs : List (Token × Output) → List Terminal
 words_of_outputs [] = []
-words_of_outputs (o ∷ os) = t_mark Comma ∷ (words_of_output o ++ words_of_outputs os)
+words_of_outputs ((m, o) ∷ os) = t_mark Comma m ∷ (words_of_output o ++ words_of_outputs os)
 
 -- an alias, with or without AS, or nothing
 abbrev pub words_of_alias : Alias → List Terminal
 words_of_alias no_alias = []
 words_of_alias (bare_alias n) = t_name n ∷ []
-words_of_alias (as_alias n) = t_key As ∷ t_name n ∷ []
+words_of_alias (as_alias k n) = t_key As k ∷ t_name n ∷ []
 
 -- SELECT item { "," item } FROM name [[AS] name]
 abbrev pub words_of_select : SelectTree → List Terminal
-words_of_select (select_from o os n a) = t_key Select ∷ (words_of_output o ++ (words_of_outputs os ++ t_key From ∷ t_name n ∷ words_of_alias a))
+words_of_select (select_from k o os f n a) = t_key Select k ∷ (words_of_output o ++ (words_of_outputs os ++ t_key From f ∷ t_name n ∷ words_of_alias a))
 
 -- the word that ends a statement
 abbrev pub words_of_ending : Ending → List Terminal
-words_of_ending semicolon = t_semicolon ∷ []
-words_of_ending text_end = t_end ∷ []
+words_of_ending (semicolon t) = t_semicolon t ∷ []
+words_of_ending (text_end t) = t_end t ∷ []
 
 -- a statement with its end
 abbrev pub words_of : Statement → List Terminal
 words_of (empty e) = words_of_ending e
-words_of (create_table n c cs e) =
-    t_key Create ∷ t_key Table ∷ t_name n ∷ t_mark Open ∷ (words_of_coldef c ++ (words_of_columns cs ++ t_mark Close ∷ words_of_ending e))
+words_of (create_table k t n o c cs m e) =
+    t_key Create k ∷ t_key Table t ∷ t_name n ∷ t_mark Open o ∷ (words_of_coldef c ++ (words_of_columns cs ++ t_mark Close m ∷ words_of_ending e))
 words_of (query q e) = words_of_select q ++ words_of_ending e
-words_of (copy n text) =
-    t_name (free Copy) ∷ t_name n ∷ t_key From ∷ t_name (free Stdin) ∷ t_key With ∷ t_mark Open ∷ t_name (free Format) ∷ t_name (free Csv) ∷
-    t_mark Comma ∷ t_key Null ∷ t_quoted text ∷ t_mark Close ∷ t_semicolon ∷ []
+words_of (copy k n text) =
+    t_name (free Copy k.copy) ∷ t_name n ∷ t_key From k.from_at ∷ t_name (free Stdin k.stdin) ∷ t_key With k.with_at ∷ t_mark Open k.open_at ∷ t_name (free Format k.format) ∷ t_name (free Csv k.csv) ∷
+    t_mark Comma k.comma ∷ t_key Null k.null ∷ t_quoted text ∷ t_mark Close k.close_at ∷ t_semicolon k.stop ∷ []
 
 -- The levels of an expression: a `(` and a NOT open one each.
 
@@ -125,7 +126,7 @@ abbrev mutual
   -- the most of further parts
   pub levels_of_ors : Ors → ℕ
   levels_of_ors no_or = 0
-  levels_of_ors (or_conj c cs) = max (levels_of_conj c) (levels_of_ors cs)
+  levels_of_ors (or_conj _ c cs) = max (levels_of_conj c) (levels_of_ors cs)
 
   -- the most of its parts
   pub levels_of_conj : Conj → ℕ
@@ -134,25 +135,25 @@ abbrev mutual
   -- the most of further parts
   pub levels_of_ands : Ands → ℕ
   levels_of_ands no_and = 0
-  levels_of_ands (and_neg n ns) = max (levels_of_neg n) (levels_of_ands ns)
+  levels_of_ands (and_neg _ n ns) = max (levels_of_neg n) (levels_of_ands ns)
 
   -- a NOT opens one
   pub levels_of_neg : Neg → ℕ
-  levels_of_neg (negated n) = levels_of_neg n + 1
+  levels_of_neg (negated _ n) = levels_of_neg n + 1
   levels_of_neg (plain a) = levels_of_atom a
 
   -- a `(` opens one; the NOT of IS NOT NULL opens none
   pub levels_of_atom : Atom → ℕ
-  levels_of_atom (parens e) = levels_of_expr e + 1
+  levels_of_atom (parens _ e _) = levels_of_expr e + 1
   levels_of_atom (compare _ _ _) = 0
-  levels_of_atom (is_null _) = 0
-  levels_of_atom (is_not_null _) = 0
+  levels_of_atom (is_null _ _ _) = 0
+  levels_of_atom (is_not_null _ _ _ _) = 0
   levels_of_atom (column_alone _) = 0
-  levels_of_atom (constant_alone _) = 0
+  levels_of_atom (constant_alone _ _) = 0
 
 -- no statement has an expression yet
 abbrev pub levels_of : Statement → ℕ
 levels_of (empty _) = 0
-levels_of (create_table _ _ _ _) = 0
+levels_of (create_table _ _ _ _ _ _ _ _) = 0
 levels_of (query _ _) = 0
-levels_of (copy _ _) = 0
+levels_of (copy _ _ _) = 0

@@ -2,6 +2,7 @@
 
 ghost use Rattle.std.specs.Prelude.{◌≡◌, ◌≤◌, length, map, slice_range};
 ghost use Rattle.std.specs.Char.{to_ascii_lowercase};
+ghost use Rattle.sql_lex.specs.declared.tokens.Token.{Token};
 ghost use Rattle.sql_grammar.specs.Terminals.{class_of as class_of_terminal};
 ghost use Rattle.sql_grammar.specs.Reading.{spelling_of, free_spelling_of, reserved_of, free_of, terminal_of, word_terminal, symbol_terminal, IsWithin};
 
@@ -111,7 +112,7 @@ fn free(bytes: &[u8]) -> Option<Free>
 
 /// The class of a word.
 fn word(bytes: &[u8]) -> Class
-    ensures { let small = map to_ascii_lowercase bytes.now in result ≡ class_of_terminal (word_terminal (reserved_of small) small) }
+    ensures { (t : Token) → let small = map to_ascii_lowercase bytes.now in result ≡ class_of_terminal (word_terminal (reserved_of small) small t) }
 {
     match reserved(bytes) {
         Some(key) => Class::Key(key),
@@ -121,7 +122,7 @@ fn word(bytes: &[u8]) -> Class
 
 /// The class of a symbol: only operators have other bytes than these.
 fn symbol(bytes: &[u8]) -> Class
-    ensures { result ≡ class_of_terminal (symbol_terminal bytes.now) }
+    ensures { (t : Token) → result ≡ class_of_terminal (symbol_terminal bytes.now t) }
 {
     match bytes {
         [b'('] => Class::Mark(Symbol::Open),

@@ -1,30 +1,15 @@
 //! The rest of a line after the `;` of a statement with data.
 
 ghost use Rattle.std.specs.Prelude.{◌≡◌, ◌≤◌, ◌<◌, ◌^◌, length};
-ghost use Rattle.sql_grammar.specs.CopyLine.{IsDataStart, is_blank as is_blank_byte, syntax_fault_at};
+ghost use Rattle.sql_grammar.specs.CopyLine.{IsDataStart, is_blank as is_blank_byte};
 
-use pg_base::{Code, Fault, TableNo};
+use pg_base::Fault;
 
 /// Whether a byte is a space, a tab or CR.
 fn is_blank(byte: u8) -> bool
     ensures { result ≡ is_blank_byte byte }
 {
     matches!(byte, b' ' | b'\t' | b'\r')
-}
-
-/// A syntax fault at this offset.
-fn syntax_fault(at: u32) -> Fault
-    ensures { result ≡ syntax_fault_at at }
-{
-    Fault {
-        code: Code::S1,
-        at,
-        from: at,
-        to: at,
-        rec: 0,
-        table: TableNo(0),
-        col: 0,
-    }
 }
 
 /// The offset of the first byte of a statement's data, where `from` is the offset after the statement's `;`. Only spaces,
@@ -41,9 +26,9 @@ pub fn data_start(text: &[u8], from: u32) -> Result<u32, Fault>
             return Ok(at + 1);
         }
         if !is_blank(byte) {
-            return Err(syntax_fault(at));
+            return Err(Fault::syntax(at));
         }
         at += 1;
     }
-    Err(syntax_fault(at))
+    Err(Fault::syntax(at))
 }

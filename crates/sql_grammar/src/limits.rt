@@ -4,14 +4,8 @@ ghost use Rattle.std.specs.Prelude.{◌≡◌, length};
 ghost use Rattle.sql_grammar.specs.Reading.{value_of_quoted, terminal_of, IsWithin};
 ghost use Rattle.sql_grammar.specs.Faults.{limit_of};
 
-use pg_base::Limit;
+use pg_base::{Limit, MOST_NAME_BYTES, MOST_TEXT_BYTES};
 use sql_lex::{Kind, Token};
-
-/// The most bytes of a name.
-const NAME_BYTES: usize = 63;
-
-/// The most bytes of a quoted text's value.
-const TEXT_BYTES: usize = 8192;
 
 /// The length of a quoted text's value, in bytes: a quote that stands twice counts once.
 fn text_len(bytes: &[u8]) -> usize
@@ -34,15 +28,16 @@ fn text_len(bytes: &[u8]) -> usize
     len
 }
 
-/// The limit that a token of this text is past: 63 bytes of a name, 8,192 of a quoted text's value.
+/// The limit that a token of this text is past: more bytes of a name than `MOST_NAME_BYTES`, or of a quoted text's value than
+/// `MOST_TEXT_BYTES`.
 pub fn limit_passed(text: &[u8], token: Token) -> Option<Limit>
     requires { IsWithin text.now token }
     ensures { result ≡ limit_of (terminal_of text.now token) }
 {
     let bytes = &text[token.start as usize..token.end as usize];
     match token.kind {
-        Kind::Word if bytes.len() > NAME_BYTES => Some(Limit::Name),
-        Kind::Quoted if text_len(bytes) > TEXT_BYTES => Some(Limit::Text),
+        Kind::Word if bytes.len() > MOST_NAME_BYTES => Some(Limit::Name),
+        Kind::Quoted if text_len(bytes) > MOST_TEXT_BYTES => Some(Limit::Text),
         _ => None,
     }
 }

@@ -7,10 +7,10 @@ use crate::class::{Class, Free, Symbol, Word};
 use crate::table::Item;
 
 /// The items that stand in an item's place; None where the token is not awaited.
-type Row = Option<&'static [Item]>;
+type Expansion = Option<&'static [Item]>;
 
 /// A statement and its end: `CREATE TABLE`, `SELECT`, `COPY`, or nothing before the end.
-pub fn statement(class: Class) -> Row
+pub fn statement(class: Class) -> Expansion
     ensures { MatchOption result (statement_takes class ≡ None) (λ r. statement_takes class ≡ Some r.now) }
 {
     match class {
@@ -52,7 +52,7 @@ pub fn statement(class: Class) -> Row
 }
 
 /// A statement's end.
-pub fn ends(class: Class) -> Row
+pub fn ends(class: Class) -> Expansion
     ensures { MatchOption result (ends_takes class ≡ None) (λ r. ends_takes class ≡ Some r.now) }
 {
     match class {
@@ -62,7 +62,7 @@ pub fn ends(class: Class) -> Row
 }
 
 /// The `;` before data.
-pub fn stop(class: Class) -> Row
+pub fn stop(class: Class) -> Expansion
     ensures { MatchOption result (stop_takes class ≡ None) (λ r. stop_takes class ≡ Some r.now) }
 {
     match class {
@@ -72,7 +72,7 @@ pub fn stop(class: Class) -> Row
 }
 
 /// A SELECT.
-pub fn query(class: Class) -> Row
+pub fn query(class: Class) -> Expansion
     ensures { MatchOption result (query_takes class ≡ None) (λ r. query_takes class ≡ Some r.now) }
 {
     match class {
@@ -88,7 +88,7 @@ pub fn query(class: Class) -> Row
 }
 
 /// NULL or NOT NULL.
-pub fn nullness(class: Class) -> Row
+pub fn nullness(class: Class) -> Expansion
     ensures { MatchOption result (nullness_takes class ≡ None) (λ r. nullness_takes class ≡ Some r.now) }
 {
     match class {
@@ -99,7 +99,7 @@ pub fn nullness(class: Class) -> Row
 }
 
 /// Further columns, and the closing parenthesis.
-pub fn columns(class: Class) -> Row
+pub fn columns(class: Class) -> Expansion
     ensures { MatchOption result (columns_takes class ≡ None) (λ r. columns_takes class ≡ Some r.now) }
 {
     match class {
@@ -115,7 +115,7 @@ pub fn columns(class: Class) -> Row
 }
 
 /// What SELECT asks for.
-pub fn output(class: Class) -> Row
+pub fn output(class: Class) -> Expansion
     ensures { MatchOption result (output_takes class ≡ None) (λ r. output_takes class ≡ Some r.now) }
 {
     match class {
@@ -126,7 +126,7 @@ pub fn output(class: Class) -> Row
 }
 
 /// Further ones.
-pub fn outputs(class: Class) -> Row
+pub fn outputs(class: Class) -> Expansion
     ensures { MatchOption result (outputs_takes class ≡ None) (λ r. outputs_takes class ≡ Some r.now) }
 {
     match class {
@@ -136,7 +136,7 @@ pub fn outputs(class: Class) -> Row
 }
 
 /// What follows a name there.
-pub fn after_output(class: Class) -> Row
+pub fn after_output(class: Class) -> Expansion
     ensures { MatchOption result (after_output_takes class ≡ None) (λ r. after_output_takes class ≡ Some r.now) }
 {
     match class {
@@ -146,7 +146,7 @@ pub fn after_output(class: Class) -> Row
 }
 
 /// What follows a name and a dot there.
-pub fn star_or_label(class: Class) -> Row
+pub fn star_or_label(class: Class) -> Expansion
     ensures { MatchOption result (star_takes class ≡ None) (λ r. star_takes class ≡ Some r.now) }
 {
     match class {
@@ -156,7 +156,7 @@ pub fn star_or_label(class: Class) -> Row
 }
 
 /// An alias.
-pub fn alias(class: Class) -> Row
+pub fn alias(class: Class) -> Expansion
     ensures { MatchOption result (alias_takes class ≡ None) (λ r. alias_takes class ≡ Some r.now) }
 {
     match class {
@@ -167,7 +167,7 @@ pub fn alias(class: Class) -> Row
 }
 
 /// A NOT or an atom.
-pub fn negation(class: Class) -> Row
+pub fn negation(class: Class) -> Expansion
     ensures { MatchOption result (negation_takes class ≡ None) (λ r. negation_takes class ≡ Some r.now) }
 {
     match class {
@@ -187,7 +187,7 @@ pub fn negation(class: Class) -> Row
 }
 
 /// Further parts of an AND.
-pub fn ands(class: Class) -> Row
+pub fn ands(class: Class) -> Expansion
     ensures { MatchOption result (ands_takes class ≡ None) (λ r. ands_takes class ≡ Some r.now) }
 {
     match class {
@@ -197,7 +197,7 @@ pub fn ands(class: Class) -> Row
 }
 
 /// Further parts of an OR.
-pub fn ors(class: Class) -> Row
+pub fn ors(class: Class) -> Expansion
     ensures { MatchOption result (ors_takes class ≡ None) (λ r. ors_takes class ≡ Some r.now) }
 {
     match class {
@@ -207,7 +207,7 @@ pub fn ors(class: Class) -> Row
 }
 
 /// What follows a literal.
-pub fn after_literal(class: Class) -> Row
+pub fn after_literal(class: Class) -> Expansion
     ensures { MatchOption result (literal_takes class ≡ None) (λ r. literal_takes class ≡ Some r.now) }
 {
     match class {
@@ -217,7 +217,7 @@ pub fn after_literal(class: Class) -> Row
 }
 
 /// What follows a column.
-pub fn after_column(class: Class) -> Row
+pub fn after_column(class: Class) -> Expansion
     ensures { MatchOption result (column_takes class ≡ None) (λ r. column_takes class ≡ Some r.now) }
 {
     match class {
@@ -228,7 +228,7 @@ pub fn after_column(class: Class) -> Row
 }
 
 /// What follows a name that begins a column.
-pub fn after_name(class: Class) -> Row
+pub fn after_name(class: Class) -> Expansion
     ensures { MatchOption result (name_takes class ≡ None) (λ r. name_takes class ≡ Some r.now) }
 {
     match class {
@@ -240,7 +240,7 @@ pub fn after_name(class: Class) -> Row
 }
 
 /// An operand.
-pub fn operand(class: Class) -> Row
+pub fn operand(class: Class) -> Expansion
     ensures { MatchOption result (side_takes class ≡ None) (λ r. side_takes class ≡ Some r.now) }
 {
     match class {
@@ -253,7 +253,7 @@ pub fn operand(class: Class) -> Row
 }
 
 /// What follows a name in an operand.
-pub fn after_qualifier(class: Class) -> Row
+pub fn after_qualifier(class: Class) -> Expansion
     ensures { MatchOption result (qualifier_takes class ≡ None) (λ r. qualifier_takes class ≡ Some r.now) }
 {
     match class {
@@ -263,7 +263,7 @@ pub fn after_qualifier(class: Class) -> Row
 }
 
 /// A name.
-pub fn label(class: Class) -> Row
+pub fn label(class: Class) -> Expansion
     ensures { MatchOption result (label_takes class ≡ None) (λ r. label_takes class ≡ Some r.now) }
 {
     match class {
@@ -273,7 +273,7 @@ pub fn label(class: Class) -> Row
 }
 
 /// A number.
-pub fn digits(class: Class) -> Row
+pub fn digits(class: Class) -> Expansion
     ensures { MatchOption result (digits_takes class ≡ None) (λ r. digits_takes class ≡ Some r.now) }
 {
     match class {
@@ -283,7 +283,7 @@ pub fn digits(class: Class) -> Row
 }
 
 /// A quoted text.
-pub fn quoted_text(class: Class) -> Row
+pub fn quoted_text(class: Class) -> Expansion
     ensures { MatchOption result (quoted_takes class ≡ None) (λ r. quoted_takes class ≡ Some r.now) }
 {
     match class {
@@ -293,7 +293,7 @@ pub fn quoted_text(class: Class) -> Row
 }
 
 /// This reserved word.
-pub fn keyword(word: Word, class: Class) -> Row
+pub fn keyword(word: Word, class: Class) -> Expansion
     ensures { MatchOption result (keyword_takes word class ≡ None) (λ r. keyword_takes word class ≡ Some r.now) }
 {
     match class {
@@ -303,7 +303,7 @@ pub fn keyword(word: Word, class: Class) -> Row
 }
 
 /// This symbol.
-pub fn sign(symbol: Symbol, class: Class) -> Row
+pub fn sign(symbol: Symbol, class: Class) -> Expansion
     ensures { MatchOption result (sign_takes symbol class ≡ None) (λ r. sign_takes symbol class ≡ Some r.now) }
 {
     match class {
@@ -313,7 +313,7 @@ pub fn sign(symbol: Symbol, class: Class) -> Row
 }
 
 /// This word, which is not reserved.
-pub fn free_word(word: Free, class: Class) -> Row
+pub fn free_word(word: Free, class: Class) -> Expansion
     ensures { MatchOption result (free_takes word class ≡ None) (λ r. free_takes word class ≡ Some r.now) }
 {
     match class {

@@ -3,17 +3,15 @@
 ghost use Rattle.std.specs.Prelude.{◌≡◌, ◌≢◌, ℕ, ◌+◌, ◌*◌, ◌<◌, ◌≤◌, List, [], ◌∷◌, ◌++◌, length, Option, MatchOption, ◌==◌};
 ghost use Rattle.sql_grammar.specs.declared.table.Item.{Item};
 ghost use Rattle.sql_grammar.specs.Machine.{depth_of, Fits};
-ghost use Rattle.sql_grammar.specs.Steps.{IsStep};
+ghost use Rattle.sql_grammar.specs.Steps.{IsStackStep};
 
 use crate::class::Class;
 use crate::table::{self, Item};
+use pg_base::MOST_LEVELS;
 use std::marker::Model;
 
-/// Room for 16 items of a statement and 3 more for each of 33 levels.
+/// Room for 16 items of a statement and 3 more for each level, one past `MOST_LEVELS` among them.
 const CELLS: usize = 120;
-
-/// How many levels an expression may have.
-pub const LEVELS: usize = 32;
 
 /// A stack of items. Contracts see the list, the next item first.
 pub struct Stack {
@@ -119,14 +117,14 @@ impl Stack {
     /// Takes the token, where it is awaited: items for which nothing need come are passed over.
     pub fn step(&mut self, class: Class) -> Step
         requires fits { Fits 16 self.old }
-        requires shallow { depth_of self.old ≤ 32 }
-        ensures { IsStep result class self.old self.new }
+        requires shallow { depth_of self.old ≤ MOST_LEVELS }
+        ensures { IsStackStep result class self.old self.new }
     {
         while let Some(item) = self.pop() {
             match table::takes(item, class) {
                 Some(items) => {
                     self.push_all(items);
-                    return if self.levels() > LEVELS {
+                    return if self.levels() > MOST_LEVELS {
                         Step::TooDeep
                     } else {
                         Step::Took

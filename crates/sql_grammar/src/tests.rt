@@ -3,7 +3,7 @@
 ghost use Rattle.std.specs.Prelude.{◌≤◌, ◌^◌, length};
 
 use crate::{data_start, expr_end, select_end, statement_fault};
-use pg_base::{Code, Fault, Limit, Refusal, TableNo};
+use pg_base::{Code, Fault, Limit, Refusal};
 use sql_lex::lex_statement;
 use std::alloc::Global;
 
@@ -175,6 +175,15 @@ const EXPRESSIONS: [(&[u8], Result<u32, u32>); 8] = [
     (b"(a;", Err(2)),
 ];
 
+/// Expressions of repeated bytes and a back, and their end, or from where to where the word stands that opens a level too many.
+const DEEP: [(&[u8], usize, &[u8], Result<u32, (u32, u32)>); 5] = [
+    (b"NOT ", 32, b"a;", Ok(33)),
+    (b"NOT ", 33, b"a;", Err((128, 131))),
+    (b"((", 16, b"a))))))))))))))))))))))))))))))));", Ok(65)),
+    (b"(NOT ", 16, b"(a = 1) OR b;", Err((80, 81))),
+    (b"a IS NOT NULL AND ", 40, b"b;", Ok(201)),
+];
+
 /// Texts after a `;`, and the place of the data or of the syntax fault.
 const LINES: [(&[u8], Result<u32, u32>); 7] = [
     (b"\n", Ok(1)),
@@ -185,24 +194,6 @@ const LINES: [(&[u8], Result<u32, u32>); 7] = [
     (b"  x\n", Err(2)),
     (b"\x0c\n", Err(0)),
 ];
-
-/// A fault of this kind and place.
-fn fault(code: Code, from: u32, to: u32) -> Fault {
-    Fault {
-        code,
-        at: from,
-        from,
-        to,
-        rec: 0,
-        table: TableNo(0),
-        col: 0,
-    }
-}
-
-/// A syntax fault at this place.
-fn syntax(at: u32) -> Fault {
-    fault(Code::S1, at, at)
-}
 
 /// The first fault of the statement at the text's beginning.
 fn first_fault(alloc: Global, text: &[u8]) -> Result<Option<Fault>, Refusal>
@@ -234,7 +225,7 @@ fn finds_the_first_syntax_fault(rt: HostRuntime) {
         assert!(rt; text.len() < 100);
         let expected = match at {
             None => None,
-            Some(at) => Some(syntax(at)),
+            Some(at) => Some(Fault::syntax(at)),
         };
         assert_eq!(rt; first_fault(rt.alloc(), text), Ok(expected), "{text:?}");
     }
@@ -247,7 +238,7 @@ fn keeps_the_limits_of_names_and_texts(rt: HostRuntime) {
         assert!(rt; text.len() < 100_000);
         let expected = match passed {
             None => None,
-            Some((limit, from, to)) => Some(fault(Code::S15(limit), from, to)),
+            Some((limit, from, to)) => Some(Fault::at_words(Code::S15(limit), from, to)),
         };
         assert_eq!(rt; first_fault(rt.alloc(), &text), Ok(expected));
     }
@@ -260,14 +251,29 @@ fn finds_the_end_of_a_part(rt: HostRuntime) {
         let tokens = lex_statement(rt.alloc(), text, 0).expect(&rt, "tokens");
         assert_eq!(rt;
             select_end(text, &tokens, 0),
-            end.map_err(syntax),
+            end.map_err(Fault::syntax),
             "{text:?}"
         );
     }
     for (text, end) in EXPRESSIONS {
         assert!(rt; text.len() < 100);
         let tokens = lex_statement(rt.alloc(), text, 0).expect(&rt, "tokens");
-        assert_eq!(rt; expr_end(text, &tokens, 0), end.map_err(syntax), "{text:?}");
+        assert_eq!(rt;
+            expr_end(text, &tokens, 0),
+            end.map_err(Fault::syntax),
+            "{text:?}"
+        );
+    }
+}
+
+#[test]
+fn keeps_the_limit_of_levels(rt: HostRuntime) {
+    for (middle, count, back, end) in DEEP {
+        let text = repeated(rt.alloc(), b"", middle, count, back).expect(&rt, "text");
+        assert!(rt; text.len() < 1_000);
+        let tokens = lex_statement(rt.alloc(), &text, 0).expect(&rt, "tokens");
+        let expected = end.map_err(|(from, to)| Fault::at_words(Code::S15(Limit::Depth), from, to));
+        assert_eq!(rt; expr_end(&text, &tokens, 0), expected);
     }
 }
 
@@ -275,6 +281,10 @@ fn finds_the_end_of_a_part(rt: HostRuntime) {
 fn finds_the_data_after_a_line(rt: HostRuntime) {
     for (text, start) in LINES {
         assert!(rt; text.len() < 100);
-        assert_eq!(rt; data_start(text, 0), start.map_err(syntax), "{text:?}");
+        assert_eq!(rt;
+            data_start(text, 0),
+            start.map_err(Fault::syntax),
+            "{text:?}"
+        );
     }
 }

@@ -15,7 +15,7 @@ use crate::fault::fault_at;
 use crate::limits::limit_passed;
 use crate::stack::{Stack, Step};
 use crate::table::Item;
-use pg_base::{Code, Fault, Limit};
+use pg_base::{Code, Fault, Limit, MOST_LEVELS};
 use sql_lex::{Token, Tokens};
 
 /// What became of a token.
@@ -32,7 +32,7 @@ enum Taken {
 fn take(text: &[u8], token: Token, stack: &mut Stack) -> Taken
     requires inside { IsWithin text.now token }
     requires fits { Fits 16 stack.old }
-    requires shallow { depth_of stack.old ≤ 32 }
+    requires shallow { depth_of stack.old ≤ MOST_LEVELS }
     ensures { IsTaken result (terminal_of text.now token) stack.old stack.new }
 {
     match stack.step(class_of(text, token)) {
@@ -74,7 +74,7 @@ fn walk(text: &[u8], tokens: &[Token], first: u32, start: &[Item]) -> Result<u32
 
 /// The first fault of a statement, whose tokens are those from `first` to the last; None where they are a statement within
 /// the limits. A syntax fault (42601) stands at the first token after which no statement goes on so, `;` and the text's end
-/// included; a limit (54000) at a name over 63 bytes or a quoted text over 8,192 bytes that is awaited, with its words.
+/// included; a limit (54000) at a name or a quoted text that is awaited and too long, with its words.
 pub fn statement_fault(text: &[u8], tokens: &Tokens, first: u32) -> Option<Fault>
     requires short { length text.now ≤ 2 ^ 31 }
     requires words { (from : ℕ) × AreWords text.now from tokens.now }
@@ -98,7 +98,8 @@ pub fn select_end(text: &[u8], tokens: &Tokens, first: u32) -> Result<u32, Fault
     walk(text, tokens.items(), first, &[Item::Query])
 }
 
-/// The end of the expression that begins at token `first`, in the same way. The token that opens level 33 is past a limit.
+/// The end of the expression that begins at token `first`, in the same way. The token that opens a level past
+/// `MOST_LEVELS` is past a limit.
 pub fn expr_end(text: &[u8], tokens: &Tokens, first: u32) -> Result<u32, Fault>
     requires short { length text.now ≤ 2 ^ 31 }
     requires words { (from : ℕ) × AreWords text.now from tokens.now }

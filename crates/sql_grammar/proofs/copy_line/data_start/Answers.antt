@@ -2,7 +2,8 @@ use Rattle.std.proofs.Common.{◌≡◌, ◌≢◌, ℕ, ◌+◌, ◌<◌, ◌�
 use Rattle.std.specs.List.{slice_get}
 use Rattle.std.proofs.lemmas.List.Sums.{prefix_len-drop_no}
 use Rattle.std.proofs.lemmas.Option.{slice_get-get_or, slice_get_past}
-use Rattle.sql_grammar.specs.CopyLine.{is_blank, after_blanks, syntax_fault_at}
+use Rattle.pg_base.specs.Faults.{syntax_fault}
+use Rattle.sql_grammar.specs.CopyLine.{is_blank, after_blanks}
 use Rattle.sql_grammar.proofs.copy_line.data_start.Goals as goal
 
 some-same : (a b : ℕ) → Some a ≡ Some b → a ≡ b
@@ -29,12 +30,12 @@ returns-then-not-is_blank c =
     let here = sym (stays c.args.text.now c.loop-at.at c.loop-at-test.true solid) ∙ c.loop-at.invariant.same in
     let differs : get_or c.args.text.now c.loop-at.at 0 ≢ 10 = c.if-byte-eq10.false in (
       λ e. differs (some-same _ _ (sym (slice_get-get_or c.args.text.now c.loop-at.at 0 c.loop-at-test.true) ∙ (ap (slice_get c.args.text.now) here ∙ e))),
-      c.syntax_fault.ensures ∙ ap syntax_fault_at here,
+      c.syntax.ensures ∙ ap syntax_fault here,
     )
 
 pub returns : goal.returns
 returns c =
     let here = sym (at-end c.args.text.now c.loop-at.at c.loop-at-test.false) ∙ c.loop-at.invariant.same in (
       λ e. let past = slice_get_past c.args.text.now c.loop-at.at c.loop-at-test.false in absurd (cc (past, e, ap (slice_get c.args.text.now) here)),
-      c.syntax_fault-2.ensures ∙ ap syntax_fault_at here,
+      c.syntax-2.ensures ∙ ap syntax_fault here,
     )

@@ -2,12 +2,12 @@ use Rattle.std.proofs.Common.{arith}
 use Rattle.sql_grammar.proofs.Room.{took, too-deep}
 use Rattle.sql_grammar.proofs.stack.Stack.step.Goals as goal
 
-pub returns-then-levels-gt-LEVELS : goal.returns-then-levels-gt-LEVELS
-returns-then-levels-gt-LEVELS c =
+pub returns-then-levels-gt-MOST_LEVELS : goal.returns-then-levels-gt-MOST_LEVELS
+returns-then-levels-gt-MOST_LEVELS c =
     too-deep c.args.class c.args.self.now c.loop-item.self c.in-Some.item _ _ _ c.loop-item.invariant.same c.in-Some.ensures c.in-Some-takes.ensures c.push_all.ensures
     c.loop-item.invariant.fits c.loop-item.invariant.shallow (omega arith)
 
-pub returns-else-levels-gt-LEVELS : goal.returns-else-levels-gt-LEVELS
-returns-else-levels-gt-LEVELS c =
+pub returns-else-levels-gt-MOST_LEVELS : goal.returns-else-levels-gt-MOST_LEVELS
+returns-else-levels-gt-MOST_LEVELS c =
     took c.args.class c.args.self.now c.loop-item.self c.in-Some.item _ _ _ c.loop-item.invariant.same c.in-Some.ensures c.in-Some-takes.ensures c.push_all.ensures
     c.loop-item.invariant.fits c.loop-item.invariant.shallow (omega arith)

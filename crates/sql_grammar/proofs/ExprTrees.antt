@@ -1,0 +1,392 @@
+-- A list of words, each with its token, is spelled by one expression; and the words of a tree have their tokens.
+use Rattle.std.proofs.Common.{◌≡◌, ℕ, Bool, true, false, List, [], ◌∷◌, ◌++◌, drop, map, Option, Some, None, cond, nat_eq, refl, sym, ap, ◌∙◌, arith, append_assoc, append-nil}
+use Rattle.std.specs.Char.{to_ascii_lowercase}
+use Rattle.sql_lex.specs.declared.tokens.Token.{Token}
+use Rattle.sql_lex.specs.declared.tokens.Kind.{Kind}
+use Rattle.sql_lex.specs.declared.tokens.Kind.TheVariants.{Word as WordKind, Number as NumberKind, Quoted as QuotedKind, Symbol as SymbolKind, End as EndKind}
+use Rattle.sql_grammar.specs.declared.class.Free.{Free}
+use Rattle.sql_grammar.specs.declared.class.Word.{Word}
+use Rattle.sql_grammar.specs.declared.class.Word.TheVariants.{And, False, Is, Not, Null, True}
+use Rattle.sql_grammar.specs.declared.class.Symbol.TheVariants.{Open, Close, Dot, Minus}
+use Rattle.sql_grammar.specs.Terminals.{Terminal, Ident, token_of, t_key, t_mark, t_name, t_number, t_quoted, t_operator}
+use Rattle.sql_grammar.specs.Reading.{terminal_by, word_terminal, symbol_terminal, ident_of, free_of, reserved_of, bytes_of_token}
+use Rattle.sql_grammar.specs.Faults.{terminals}
+use Rattle.sql_grammar.specs.Syntax.{bare, qualified, yes, no, unknown, number, negative, quoted, constant, Operand, column, literal, Expr, either_of, Ors, no_or, or_conj, Conj, both_of, Ands, no_and, and_neg, Neg, negated, plain, Atom, parens, compare, is_null, is_not_null, column_alone, constant_alone}
+use Rattle.sql_grammar.specs.Unique.{token_in, ends_expr}
+use Rattle.sql_grammar.specs.Words.{words_of_col, words_of_operand, words_of_expr, words_of_ors, words_of_conj, words_of_ands, words_of_neg, words_of_atom}
+
+named-token : (o : Option Free) (small : List ℕ) (t : Token) → token_of (ident_of o small t) ≡ t
+named-token (Some w) small t = refl
+named-token None small t = refl
+
+word-token : (o : Option Word) (small : List ℕ) (t : Token) → token_in (word_terminal o small t) ≡ t
+word-token (Some w) small t = refl
+word-token None small t = named-token (free_of small) small t
+
+either : (b : Bool) (x y : Terminal) (t : Token) → token_in x ≡ t → token_in y ≡ t → token_in (cond b x y) ≡ t
+either true x y t h k = h
+either false x y t h k = k
+
+symbol-token : (bytes : List ℕ) (t : Token) → token_in (symbol_terminal bytes t) ≡ t
+symbol-token [] t = refl
+symbol-token (b ∷ []) t =
+    either (nat_eq b 40) _ _ t refl (either (nat_eq b 41) _ _ t refl (either (nat_eq b 44) _ _ t refl (either (nat_eq b 46) _ _ t refl
+    (either (nat_eq b 45) _ _ t refl (either (nat_eq b 42) _ _ t refl (either (nat_eq b 59) _ _ t refl refl))))))
+symbol-token (b ∷ c ∷ bs) t = refl
+
+by-token : (kind : Kind) (bytes : List ℕ) (t : Token) → token_in (terminal_by kind bytes t) ≡ t
+by-token WordKind bytes t = word-token (reserved_of (map to_ascii_lowercase bytes)) (map to_ascii_lowercase bytes) t
+by-token NumberKind bytes t = refl
+by-token QuotedKind bytes t = refl
+by-token SymbolKind bytes t = symbol-token bytes t
+by-token EndKind bytes t = refl
+
+pub tokens-of : (text : List ℕ) (ts : List Token) → map token_in (terminals text ts) ≡ ts
+tokens-of text [] = refl
+tokens-of text (t ∷ ts) = ap (λ u. u ∷ map token_in (terminals text ts)) (by-token t.kind (bytes_of_token text t) t) ∙ ap (λ l. t ∷ l) (tokens-of text ts)
+
+-- words that are those of some tokens have these
+pub tokens-are : (words : List Terminal) (text : List ℕ) (ts : List Token) → words ≡ terminals text ts → map token_in words ≡ ts
+tokens-are words text ts is = ap (map token_in) is ∙ tokens-of text ts
+
+-- what does not go on an operand, an atom and a conjunction
+abbrev pub dotless : List Terminal → Bool
+dotless (t_mark Dot _ ∷ _) = false
+dotless _ = true
+
+abbrev pub atom_ends : List Terminal → Bool
+atom_ends (t_mark Dot _ ∷ _) = false
+atom_ends (t_key Is _ ∷ _) = false
+atom_ends (t_operator _ ∷ _) = false
+atom_ends _ = true
+
+abbrev pub conj_ends : List Terminal → Bool
+conj_ends (t_mark Dot _ ∷ _) = false
+conj_ends (t_key Is _ ∷ _) = false
+conj_ends (t_operator _ ∷ _) = false
+conj_ends (t_key And _ ∷ _) = false
+conj_ends _ = true
+
+atom-dotless : (x : List Terminal) → atom_ends x ≡ true → dotless x ≡ true
+atom-dotless (t_mark Dot _ ∷ x) h = absurd (cc)
+atom-dotless _ h = refl
+
+conj-atom : (x : List Terminal) → conj_ends x ≡ true → atom_ends x ≡ true
+conj-atom (t_mark Dot _ ∷ x) h = absurd (cc)
+conj-atom (t_key Is _ ∷ x) h = absurd (cc)
+conj-atom (t_operator _ ∷ x) h = absurd (cc)
+conj-atom _ h = refl
+
+expr-conj : (x : List Terminal) → ends_expr x ≡ true → conj_ends x ≡ true
+expr-conj (t_mark Dot _ ∷ x) h = absurd (cc)
+expr-conj (t_key Is _ ∷ x) h = absurd (cc)
+expr-conj (t_operator _ ∷ x) h = absurd (cc)
+expr-conj (t_key And _ ∷ x) h = absurd (cc)
+expr-conj _ h = refl
+
+ands-end : (ns : Ands) (x : List Terminal) → conj_ends x ≡ true → atom_ends (words_of_ands ns ++ x) ≡ true
+ands-end no_and x h = conj-atom x h
+ands-end (and_neg k n ns) x h = refl
+
+ors-end : (os : Ors) (x : List Terminal) → ends_expr x ≡ true → conj_ends (words_of_ors os ++ x) ≡ true
+ors-end no_or x h = expr-conj x h
+ors-end (or_conj k c os) x h = refl
+
+-- two lists of which a test tells one from the other
+tested : (test : List Terminal → Bool) (x y : List Terminal) → test x ≡ true → test y ≡ false → x ≡ y → ⊥
+tested test x y h k e = let also : true ≡ false = sym h ∙ (ap test e ∙ k) in absurd (cc)
+
+-- the kind of an operand, by its first words
+abbrev operand_kind : Operand → ℕ
+operand_kind (column (bare n)) = 0
+operand_kind (column (qualified q d n)) = 1
+operand_kind (literal (number n)) = 2
+operand_kind (literal (negative m n)) = 3
+operand_kind (literal (quoted q)) = 4
+operand_kind (literal (constant yes k)) = 5
+operand_kind (literal (constant no k)) = 6
+operand_kind (literal (constant unknown k)) = 7
+
+abbrev kind_of : List Terminal → ℕ
+kind_of (t_name n ∷ t_mark Dot d ∷ x) = 1
+kind_of (t_name n ∷ x) = 0
+kind_of (t_number n ∷ x) = 2
+kind_of (t_mark Minus m ∷ x) = 3
+kind_of (t_quoted q ∷ x) = 4
+kind_of (t_key True k ∷ x) = 5
+kind_of (t_key False k ∷ x) = 6
+kind_of (t_key Null k ∷ x) = 7
+kind_of _ = 8
+
+bare-kind : (n : Ident) (x : List Terminal) → dotless x ≡ true → kind_of (t_name n ∷ x) ≡ 0
+bare-kind n [] h = refl
+bare-kind n (t_mark Dot d ∷ x) h = absurd (cc)
+bare-kind n (_ ∷ x) h = refl
+
+kind-is : (o : Operand) (x : List Terminal) → dotless x ≡ true → kind_of (words_of_operand o ++ x) ≡ operand_kind o
+kind-is (column (bare n)) x h = bare-kind n x h
+kind-is (column (qualified q d n)) x h = refl
+kind-is (literal (number n)) x h = refl
+kind-is (literal (negative m n)) x h = refl
+kind-is (literal (quoted q)) x h = refl
+kind-is (literal (constant yes k)) x h = refl
+kind-is (literal (constant no k)) x h = refl
+kind-is (literal (constant unknown k)) x h = refl
+
+operand-by : (a b : Operand) (x y : List Terminal) → operand_kind a ≡ operand_kind b → words_of_operand a ++ x ≡ words_of_operand b ++ y → (a ≡ b) × (x ≡ y)
+operand-by (column (bare n)) (column (bare m)) x y k e = let name : n ≡ m = cc in (cc (name), ap (drop 1) e)
+operand-by (column (qualified q d n)) (column (qualified r f m)) x y k e = let table : q ≡ r = cc in let dot : d ≡ f = cc in let name : n ≡ m = cc in (cc (table, dot, name), ap (drop 3) e)
+operand-by (literal (number n)) (literal (number m)) x y k e = let same : n ≡ m = cc in (cc (same), ap (drop 1) e)
+operand-by (literal (negative l n)) (literal (negative r m)) x y k e = let minus : l ≡ r = cc in let same : n ≡ m = cc in (cc (minus, same), ap (drop 2) e)
+operand-by (literal (quoted n)) (literal (quoted m)) x y k e = let same : n ≡ m = cc in (cc (same), ap (drop 1) e)
+operand-by (literal (constant yes i)) (literal (constant yes j)) x y k e = let same : i ≡ j = cc in (cc (same), ap (drop 1) e)
+operand-by (literal (constant no i)) (literal (constant no j)) x y k e = let same : i ≡ j = cc in (cc (same), ap (drop 1) e)
+operand-by (literal (constant unknown i)) (literal (constant unknown j)) x y k e = let same : i ≡ j = cc in (cc (same), ap (drop 1) e)
+operand-by (column (bare a1)) (column (qualified a2 b2 c2)) x y k e = absurd (omega (arith, k))
+operand-by (column (bare a1)) (literal (number a2)) x y k e = absurd (omega (arith, k))
+operand-by (column (bare a1)) (literal (negative a2 b2)) x y k e = absurd (omega (arith, k))
+operand-by (column (bare a1)) (literal (quoted a2)) x y k e = absurd (omega (arith, k))
+operand-by (column (bare a1)) (literal (constant yes a2)) x y k e = absurd (omega (arith, k))
+operand-by (column (bare a1)) (literal (constant no a2)) x y k e = absurd (omega (arith, k))
+operand-by (column (bare a1)) (literal (constant unknown a2)) x y k e = absurd (omega (arith, k))
+operand-by (column (qualified a1 b1 c1)) (column (bare a2)) x y k e = absurd (omega (arith, k))
+operand-by (column (qualified a1 b1 c1)) (literal (number a2)) x y k e = absurd (omega (arith, k))
+operand-by (column (qualified a1 b1 c1)) (literal (negative a2 b2)) x y k e = absurd (omega (arith, k))
+operand-by (column (qualified a1 b1 c1)) (literal (quoted a2)) x y k e = absurd (omega (arith, k))
+operand-by (column (qualified a1 b1 c1)) (literal (constant yes a2)) x y k e = absurd (omega (arith, k))
+operand-by (column (qualified a1 b1 c1)) (literal (constant no a2)) x y k e = absurd (omega (arith, k))
+operand-by (column (qualified a1 b1 c1)) (literal (constant unknown a2)) x y k e = absurd (omega (arith, k))
+operand-by (literal (number a1)) (column (bare a2)) x y k e = absurd (omega (arith, k))
+operand-by (literal (number a1)) (column (qualified a2 b2 c2)) x y k e = absurd (omega (arith, k))
+operand-by (literal (number a1)) (literal (negative a2 b2)) x y k e = absurd (omega (arith, k))
+operand-by (literal (number a1)) (literal (quoted a2)) x y k e = absurd (omega (arith, k))
+operand-by (literal (number a1)) (literal (constant yes a2)) x y k e = absurd (omega (arith, k))
+operand-by (literal (number a1)) (literal (constant no a2)) x y k e = absurd (omega (arith, k))
+operand-by (literal (number a1)) (literal (constant unknown a2)) x y k e = absurd (omega (arith, k))
+operand-by (literal (negative a1 b1)) (column (bare a2)) x y k e = absurd (omega (arith, k))
+operand-by (literal (negative a1 b1)) (column (qualified a2 b2 c2)) x y k e = absurd (omega (arith, k))
+operand-by (literal (negative a1 b1)) (literal (number a2)) x y k e = absurd (omega (arith, k))
+operand-by (literal (negative a1 b1)) (literal (quoted a2)) x y k e = absurd (omega (arith, k))
+operand-by (literal (negative a1 b1)) (literal (constant yes a2)) x y k e = absurd (omega (arith, k))
+operand-by (literal (negative a1 b1)) (literal (constant no a2)) x y k e = absurd (omega (arith, k))
+operand-by (literal (negative a1 b1)) (literal (constant unknown a2)) x y k e = absurd (omega (arith, k))
+operand-by (literal (quoted a1)) (column (bare a2)) x y k e = absurd (omega (arith, k))
+operand-by (literal (quoted a1)) (column (qualified a2 b2 c2)) x y k e = absurd (omega (arith, k))
+operand-by (literal (quoted a1)) (literal (number a2)) x y k e = absurd (omega (arith, k))
+operand-by (literal (quoted a1)) (literal (negative a2 b2)) x y k e = absurd (omega (arith, k))
+operand-by (literal (quoted a1)) (literal (constant yes a2)) x y k e = absurd (omega (arith, k))
+operand-by (literal (quoted a1)) (literal (constant no a2)) x y k e = absurd (omega (arith, k))
+operand-by (literal (quoted a1)) (literal (constant unknown a2)) x y k e = absurd (omega (arith, k))
+operand-by (literal (constant yes a1)) (column (bare a2)) x y k e = absurd (omega (arith, k))
+operand-by (literal (constant yes a1)) (column (qualified a2 b2 c2)) x y k e = absurd (omega (arith, k))
+operand-by (literal (constant yes a1)) (literal (number a2)) x y k e = absurd (omega (arith, k))
+operand-by (literal (constant yes a1)) (literal (negative a2 b2)) x y k e = absurd (omega (arith, k))
+operand-by (literal (constant yes a1)) (literal (quoted a2)) x y k e = absurd (omega (arith, k))
+operand-by (literal (constant yes a1)) (literal (constant no a2)) x y k e = absurd (omega (arith, k))
+operand-by (literal (constant yes a1)) (literal (constant unknown a2)) x y k e = absurd (omega (arith, k))
+operand-by (literal (constant no a1)) (column (bare a2)) x y k e = absurd (omega (arith, k))
+operand-by (literal (constant no a1)) (column (qualified a2 b2 c2)) x y k e = absurd (omega (arith, k))
+operand-by (literal (constant no a1)) (literal (number a2)) x y k e = absurd (omega (arith, k))
+operand-by (literal (constant no a1)) (literal (negative a2 b2)) x y k e = absurd (omega (arith, k))
+operand-by (literal (constant no a1)) (literal (quoted a2)) x y k e = absurd (omega (arith, k))
+operand-by (literal (constant no a1)) (literal (constant yes a2)) x y k e = absurd (omega (arith, k))
+operand-by (literal (constant no a1)) (literal (constant unknown a2)) x y k e = absurd (omega (arith, k))
+operand-by (literal (constant unknown a1)) (column (bare a2)) x y k e = absurd (omega (arith, k))
+operand-by (literal (constant unknown a1)) (column (qualified a2 b2 c2)) x y k e = absurd (omega (arith, k))
+operand-by (literal (constant unknown a1)) (literal (number a2)) x y k e = absurd (omega (arith, k))
+operand-by (literal (constant unknown a1)) (literal (negative a2 b2)) x y k e = absurd (omega (arith, k))
+operand-by (literal (constant unknown a1)) (literal (quoted a2)) x y k e = absurd (omega (arith, k))
+operand-by (literal (constant unknown a1)) (literal (constant yes a2)) x y k e = absurd (omega (arith, k))
+operand-by (literal (constant unknown a1)) (literal (constant no a2)) x y k e = absurd (omega (arith, k))
+
+one_operand : (a b : Operand) (x y : List Terminal) → dotless x ≡ true → dotless y ≡ true → words_of_operand a ++ x ≡ words_of_operand b ++ y → (a ≡ b) × (x ≡ y)
+one_operand a b x y h k e = operand-by a b x y (sym (kind-is a x h) ∙ (ap kind_of e ∙ kind-is b y k)) e
+
+-- an atom without parentheses: its first operand and what follows
+abbrev is_parens : Atom → Bool
+is_parens (parens o e c) = true
+is_parens _ = false
+
+abbrev front : Atom → Operand
+front (parens o e c) = literal (constant unknown o)
+front (compare l op r) = l
+front (is_null c i k) = column c
+front (is_not_null c i n k) = column c
+front (column_alone c) = column c
+front (constant_alone c k) = literal (constant c k)
+
+abbrev tail : Atom → List Terminal → List Terminal
+tail (parens o e c) x = x
+tail (compare l op r) x = t_operator op ∷ (words_of_operand r ++ x)
+tail (is_null c i k) x = t_key Is i ∷ t_key Null k ∷ x
+tail (is_not_null c i n k) x = t_key Is i ∷ t_key Not n ∷ t_key Null k ∷ x
+tail (column_alone c) x = x
+tail (constant_alone c k) x = x
+
+parted : (a : Atom) (x : List Terminal) → is_parens a ≡ false → words_of_atom a ++ x ≡ words_of_operand (front a) ++ tail a x
+parted (parens o e c) x h = absurd (cc)
+parted (compare l op r) x h = append_assoc (words_of_operand l) (t_operator op ∷ words_of_operand r) x
+parted (is_null c i k) x h = append_assoc (words_of_col c) (t_key Is i ∷ t_key Null k ∷ []) x
+parted (is_not_null c i n k) x h = append_assoc (words_of_col c) (t_key Is i ∷ t_key Not n ∷ t_key Null k ∷ []) x
+parted (column_alone c) x h = refl
+parted (constant_alone c k) x h = refl
+
+tail-dotless : (a : Atom) (x : List Terminal) → atom_ends x ≡ true → dotless (tail a x) ≡ true
+tail-dotless (parens o e c) x h = atom-dotless x h
+tail-dotless (compare l op r) x h = refl
+tail-dotless (is_null c i k) x h = refl
+tail-dotless (is_not_null c i n k) x h = refl
+tail-dotless (column_alone c) x h = atom-dotless x h
+tail-dotless (constant_alone c k) x h = atom-dotless x h
+
+abbrev tail_kind : List Terminal → ℕ
+tail_kind (t_operator op ∷ x) = 1
+tail_kind (t_key Is i ∷ t_key Not n ∷ x) = 3
+tail_kind (t_key Is i ∷ x) = 2
+tail_kind _ = 0
+
+abbrev atom_kind : Atom → ℕ
+atom_kind (compare l op r) = 1
+atom_kind (is_null c i k) = 2
+atom_kind (is_not_null c i n k) = 3
+atom_kind _ = 0
+
+alone-kind : (x : List Terminal) → atom_ends x ≡ true → tail_kind x ≡ 0
+alone-kind (t_operator op ∷ x) h = absurd (cc)
+alone-kind (t_key Is i ∷ x) h = absurd (cc)
+alone-kind _ h = refl
+
+tail-kind : (a : Atom) (x : List Terminal) → atom_ends x ≡ true → tail_kind (tail a x) ≡ atom_kind a
+tail-kind (parens o e c) x h = alone-kind x h
+tail-kind (compare l op r) x h = refl
+tail-kind (is_null c i k) x h = refl
+tail-kind (is_not_null c i n k) x h = refl
+tail-kind (column_alone c) x h = alone-kind x h
+tail-kind (constant_alone c k) x h = alone-kind x h
+
+flat-by : (a b : Atom) (x y : List Terminal) → is_parens a ≡ false → is_parens b ≡ false → atom_kind a ≡ atom_kind b → front a ≡ front b → dotless x ≡ true → dotless y ≡ true →
+    tail a x ≡ tail b y → (a ≡ b) × (x ≡ y)
+flat-by (parens o e c) b x y p q k f h i t = absurd (cc (p))
+flat-by (compare l op r) (compare m oq s) x y p q k f h i t =
+    let operator : op ≡ oq = cc (t) in
+    let (right, rest) = one_operand r s x y h i (ap (drop 1) t) in
+    (cc (f, operator, right), rest)
+flat-by (is_null c j n) (is_null d u m) x y p q k f h i t =
+    let col : c ≡ d = cc (f) in let key : j ≡ u = cc (t) in let null : n ≡ m = cc (t) in (cc (col, key, null), ap (drop 2) t)
+flat-by (is_not_null c j w n) (is_not_null d u v m) x y p q k f h i t =
+    let col : c ≡ d = cc (f) in let key : j ≡ u = cc (t) in let negates : w ≡ v = cc (t) in let null : n ≡ m = cc (t) in (cc (col, key, negates, null), ap (drop 3) t)
+flat-by (column_alone c) (column_alone d) x y p q k f h i t = let col : c ≡ d = cc (f) in (ap column_alone col, t)
+flat-by (constant_alone c n) (constant_alone d m) x y p q k f h i t = let const : c ≡ d = cc (f) in let key : n ≡ m = cc (f) in (cc (const, key), t)
+flat-by (column_alone c) (constant_alone d m) x y p q k f h i t = absurd (cc (f))
+flat-by (constant_alone c n) (column_alone d) x y p q k f h i t = absurd (cc (f))
+flat-by _ (parens o e c) x y p q k f h i t = absurd (cc (q))
+flat-by _ _ x y p q k f h i t = absurd (omega (arith, k))
+
+one_flat : (a b : Atom) (x y : List Terminal) → is_parens a ≡ false → is_parens b ≡ false → atom_ends x ≡ true → atom_ends y ≡ true →
+    words_of_atom a ++ x ≡ words_of_atom b ++ y → (a ≡ b) × (x ≡ y)
+one_flat a b x y p q h k e =
+    let (first, more) = one_operand (front a) (front b) (tail a x) (tail b y) (tail-dotless a x h) (tail-dotless b y k) (sym (parted a x p) ∙ (e ∙ parted b y q)) in
+    flat-by a b x y p q (sym (tail-kind a x h) ∙ (ap tail_kind more ∙ tail-kind b y k)) first (atom-dotless x h) (atom-dotless y k) more
+
+-- a parenthesis or NOT at the beginning
+abbrev opens : List Terminal → ℕ
+opens (t_mark Open _ ∷ _) = 1
+opens (t_key Not _ ∷ _) = 2
+opens _ = 0
+
+opens-operand : (o : Operand) (x : List Terminal) → opens (words_of_operand o ++ x) ≡ 0
+opens-operand (column (bare n)) x = refl
+opens-operand (column (qualified q d n)) x = refl
+opens-operand (literal (number n)) x = refl
+opens-operand (literal (negative m n)) x = refl
+opens-operand (literal (quoted q)) x = refl
+opens-operand (literal (constant yes k)) x = refl
+opens-operand (literal (constant no k)) x = refl
+opens-operand (literal (constant unknown k)) x = refl
+
+opens-flat : (a : Atom) (x : List Terminal) → is_parens a ≡ false → opens (words_of_atom a ++ x) ≡ 0
+opens-flat a x h = ap opens (parted a x h) ∙ opens-operand (front a) (tail a x)
+
+atom-by : (b : Bool) (a : Atom) (x : List Terminal) → is_parens a ≡ b → opens (words_of_atom a ++ x) ≡ cond b 1 0
+atom-by true (parens o e c) x h = refl
+atom-by true _ x h = absurd (cc (h))
+atom-by false a x h = opens-flat a x h
+
+no-not : (b : Bool) (a : Atom) (x y : List Terminal) → is_parens a ≡ b → opens y ≡ 2 → y ≡ words_of_atom a ++ x → ⊥
+no-not true a x y h k e = let both = sym k ∙ (ap opens e ∙ atom-by true a x h) in absurd (omega (arith, both))
+no-not false a x y h k e = let both = sym k ∙ (ap opens e ∙ atom-by false a x h) in absurd (omega (arith, both))
+
+no-parens : (a b : Atom) (x y : List Terminal) → is_parens a ≡ true → is_parens b ≡ false → words_of_atom a ++ x ≡ words_of_atom b ++ y → ⊥
+no-parens a b x y h k e = let both = sym (atom-by true a x h) ∙ (ap opens e ∙ atom-by false b y k) in absurd (omega (arith, both))
+
+flat-first : (b : Bool) (a d : Atom) (x y : List Terminal) → is_parens d ≡ b → is_parens a ≡ false → atom_ends x ≡ true → atom_ends y ≡ true → words_of_atom a ++ x ≡ words_of_atom d ++ y → (a ≡ d) × (x ≡ y)
+flat-first true a d x y q p h k e = absurd (no-parens d a y x q p (sym e))
+flat-first false a d x y q p h k e = one_flat a d x y p q h k e
+
+mutual
+  pub one_expr : (a b : Expr) (x y : List Terminal) → ends_expr x ≡ true → ends_expr y ≡ true → words_of_expr a ++ x ≡ words_of_expr b ++ y → (a ≡ b) × (x ≡ y)
+  one_expr (either_of c os) (either_of d us) x y h k e =
+      let (first, more) = one_conj c d (words_of_ors os ++ x) (words_of_ors us ++ y) (ors-end os x h) (ors-end us y k)
+      (sym (append_assoc (words_of_conj c) (words_of_ors os) x) ∙ (e ∙ append_assoc (words_of_conj d) (words_of_ors us) y)) in
+      let (others, rest) = one_ors os us x y h k more in
+      (cc (first, others), rest)
+
+  one_ors : (a b : Ors) (x y : List Terminal) → ends_expr x ≡ true → ends_expr y ≡ true → words_of_ors a ++ x ≡ words_of_ors b ++ y → (a ≡ b) × (x ≡ y)
+  one_ors no_or no_or x y h k e = (refl, e)
+  one_ors no_or (or_conj j d us) x y h k e = absurd (tested ends_expr x (words_of_ors (or_conj j d us) ++ y) h refl e)
+  one_ors (or_conj i c os) no_or x y h k e = absurd (tested ends_expr y (words_of_ors (or_conj i c os) ++ x) k refl (sym e))
+  one_ors (or_conj i c os) (or_conj j d us) x y h k e =
+      let key : i ≡ j = cc (e) in
+      let (first, more) = one_conj c d (words_of_ors os ++ x) (words_of_ors us ++ y) (ors-end os x h) (ors-end us y k)
+      (sym (append_assoc (words_of_conj c) (words_of_ors os) x) ∙ (ap (drop 1) e ∙ append_assoc (words_of_conj d) (words_of_ors us) y)) in
+      let (others, rest) = one_ors os us x y h k more in
+      (cc (key, first, others), rest)
+
+  one_conj : (a b : Conj) (x y : List Terminal) → conj_ends x ≡ true → conj_ends y ≡ true → words_of_conj a ++ x ≡ words_of_conj b ++ y → (a ≡ b) × (x ≡ y)
+  one_conj (both_of n ns) (both_of m ms) x y h k e =
+      let (first, more) = one_neg n m (words_of_ands ns ++ x) (words_of_ands ms ++ y) (ands-end ns x h) (ands-end ms y k)
+      (sym (append_assoc (words_of_neg n) (words_of_ands ns) x) ∙ (e ∙ append_assoc (words_of_neg m) (words_of_ands ms) y)) in
+      let (others, rest) = one_ands ns ms x y h k more in
+      (cc (first, others), rest)
+
+  one_ands : (a b : Ands) (x y : List Terminal) → conj_ends x ≡ true → conj_ends y ≡ true → words_of_ands a ++ x ≡ words_of_ands b ++ y → (a ≡ b) × (x ≡ y)
+  one_ands no_and no_and x y h k e = (refl, e)
+  one_ands no_and (and_neg j m ms) x y h k e = absurd (tested conj_ends x (words_of_ands (and_neg j m ms) ++ y) h refl e)
+  one_ands (and_neg i n ns) no_and x y h k e = absurd (tested conj_ends y (words_of_ands (and_neg i n ns) ++ x) k refl (sym e))
+  one_ands (and_neg i n ns) (and_neg j m ms) x y h k e =
+      let key : i ≡ j = cc (e) in
+      let (first, more) = one_neg n m (words_of_ands ns ++ x) (words_of_ands ms ++ y) (ands-end ns x h) (ands-end ms y k)
+      (sym (append_assoc (words_of_neg n) (words_of_ands ns) x) ∙ (ap (drop 1) e ∙ append_assoc (words_of_neg m) (words_of_ands ms) y)) in
+      let (others, rest) = one_ands ns ms x y h k more in
+      (cc (key, first, others), rest)
+
+  one_neg : (a b : Neg) (x y : List Terminal) → atom_ends x ≡ true → atom_ends y ≡ true → words_of_neg a ++ x ≡ words_of_neg b ++ y → (a ≡ b) × (x ≡ y)
+  one_neg (negated i n) (negated j m) x y h k e =
+      let key : i ≡ j = cc (e) in
+      let (inner, rest) = one_neg n m x y h k (ap (drop 1) e) in
+      (cc (key, inner), rest)
+  one_neg (negated i n) (plain b) x y h k e = absurd (no-not (is_parens b) b y (words_of_neg (negated i n) ++ x) refl refl e)
+  one_neg (plain a) (negated j m) x y h k e = absurd (no-not (is_parens a) a x (words_of_neg (negated j m) ++ y) refl refl (sym e))
+  one_neg (plain a) (plain b) x y h k e = let (inner, rest) = one_atom a b x y h k e in (ap plain inner, rest)
+
+  one_atom : (a b : Atom) (x y : List Terminal) → atom_ends x ≡ true → atom_ends y ≡ true → words_of_atom a ++ x ≡ words_of_atom b ++ y → (a ≡ b) × (x ≡ y)
+  one_atom (parens o c m) (parens p d n) x y h k e =
+      let first : o ≡ p = cc (e) in
+      let (inner, after) = one_expr c d (t_mark Close m ∷ x) (t_mark Close n ∷ y) refl refl
+      (sym (append_assoc (words_of_expr c) (t_mark Close m ∷ []) x) ∙ (ap (drop 1) e ∙ append_assoc (words_of_expr d) (t_mark Close n ∷ []) y)) in
+      let last : m ≡ n = cc (after) in
+      (cc (first, inner, last), ap (drop 1) after)
+  one_atom (parens o c m) (compare l op r) x y h k e = absurd (no-parens (parens o c m) (compare l op r) x y refl refl e)
+  one_atom (parens o c m) (is_null d i n) x y h k e = absurd (no-parens (parens o c m) (is_null d i n) x y refl refl e)
+  one_atom (parens o c m) (is_not_null d i w n) x y h k e = absurd (no-parens (parens o c m) (is_not_null d i w n) x y refl refl e)
+  one_atom (parens o c m) (column_alone d) x y h k e = absurd (no-parens (parens o c m) (column_alone d) x y refl refl e)
+  one_atom (parens o c m) (constant_alone d i) x y h k e = absurd (no-parens (parens o c m) (constant_alone d i) x y refl refl e)
+  one_atom (compare l op r) b x y h k e = flat-first (is_parens b) (compare l op r) b x y refl refl h k e
+  one_atom (is_null c i n) b x y h k e = flat-first (is_parens b) (is_null c i n) b x y refl refl h k e
+  one_atom (is_not_null c i w n) b x y h k e = flat-first (is_parens b) (is_not_null c i w n) b x y refl refl h k e
+  one_atom (column_alone c) b x y h k e = flat-first (is_parens b) (column_alone c) b x y refl refl h k e
+  one_atom (constant_alone c n) b x y h k e = flat-first (is_parens b) (constant_alone c n) b x y refl refl h k e
+
+-- two expressions of the same words, with nothing after them
+pub one_whole : (a b : Expr) → words_of_expr a ≡ words_of_expr b → a ≡ b
+one_whole a b e = (one_expr a b [] [] refl refl (append-nil (words_of_expr a) ∙ (e ∙ sym (append-nil (words_of_expr b))))).0

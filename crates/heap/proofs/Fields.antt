@@ -4,6 +4,7 @@ use Rattle.std.specs.Prelude.{ℤ}
 use Rattle.std.specs.Str.{bytes_eq}
 use Rattle.std.proofs.lemmas.Bool.Decides.{nat_tests}
 use Rattle.std.proofs.lemmas.Slice.Eq.{bytes_eq-Decides}
+use Rattle.pg_base.specs.declared.limits.TheConstants.{MOST_TEXT_BYTES}
 use Rattle.pg_base.specs.declared.numbers.ColNo.{ColNo}
 use Rattle.pg_value.specs.Fields.{field_value, flagged, ranged, flag_of, number_of, word_of}
 use Rattle.pg_value.specs.Types.{IsOfType, in_range}
@@ -16,7 +17,8 @@ use Rattle.pg_value.specs.declared.value.Value.{Value}
 use Rattle.pg_value.specs.declared.value.Value.TheVariants.{Null, Int, Bool as Flag, Text as String}
 use Rattle.heap.specs.declared.fault.CopyFault.TheVariants.{IsNull, TooLong}
 use Rattle.heap.specs.Loading.{field, is_long, placed}
-use Rattle.heap.specs.Stored.{null_text, IsValueOf}
+use Rattle.heap.specs.Stored.{IsValueOf}
+use Rattle.pg_value.specs.Fields.{null_text}
 
 module _ (rec : ℕ) (col : ColNo) (column : Column) (text : List ℕ) where
   pub field_null : bytes_eq text null_text ≡ true → field rec col column text ≡ cond column.not_null (Err (IsNull rec col)) (Ok Null)
@@ -77,7 +79,7 @@ text_type Int2 bs h = absurd h
 text_type Int4 bs h = absurd h
 text_type Int8 bs h = absurd h
 
-short_text : (text : List ℕ) → is_long TextType text ≡ false → length text ≤ 8192
+short_text : (text : List ℕ) → is_long TextType text ≡ false → length text ≤ MOST_TEXT_BYTES
 short_text text h = grind (arith, nat_tests)
 
 not_null_text : (text : List ℕ) → bytes_eq text null_text ≡ false → text ≢ null_text
@@ -90,5 +92,5 @@ read_lawful column text (Int n) plain short is typed = typed
 read_lawful column text (Flag b) plain short is typed = typed
 read_lawful column text (String bs) plain short is typed =
     let same : bs ≡ text = read_from column.typed text (String bs) is in
-    let brief : length text ≤ 8192 = short_text text (subst (λ (t : SqlType). is_long t text ≡ false) (text_type column.typed bs typed) short) in
-    (typed, subst (λ (x : List ℕ). length x ≤ 8192) (sym same) brief, subst (λ (x : List ℕ). x ≢ null_text) (sym same) (not_null_text text plain))
+    let brief : length text ≤ MOST_TEXT_BYTES = short_text text (subst (λ (t : SqlType). is_long t text ≡ false) (text_type column.typed bs typed) short) in
+    (typed, subst (λ (x : List ℕ). length x ≤ MOST_TEXT_BYTES) (sym same) brief, subst (λ (x : List ℕ). x ≢ null_text) (sym same) (not_null_text text plain))

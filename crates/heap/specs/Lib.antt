@@ -1,2 +1,5 @@
 pub mod Loading
 pub mod Stored
+pub mod Tuples
+pub mod Lending
+pub mod TidSets

@@ -3,6 +3,7 @@ use Rattle.std.specs.Prelude.{ℕ, ◌+◌, ◌-◌, ◌<◌, Bool, false, cond,
 use Rattle.std.specs.declared.result.Result.{Result}
 use Rattle.std.specs.Str.{bytes_eq}
 use Rattle.csv.specs.Reading.{default_config, records, strip_bom}
+use Rattle.pg_base.specs.declared.limits.TheConstants.{MOST_ROWS, MOST_TEXT_BYTES}
 use Rattle.pg_base.specs.declared.numbers.ColNo.{ColNo}
 use Rattle.pg_value.specs.Fields.{field_value}
 use Rattle.pg_value.specs.declared.columns.Column.{Column}
@@ -14,7 +15,8 @@ use Rattle.pg_value.specs.declared.value.Value.{Value}
 use Rattle.pg_value.specs.declared.value.Value.TheVariants.{Null}
 use Rattle.heap.specs.declared.fault.CopyFault.{CopyFault}
 use Rattle.heap.specs.declared.fault.CopyFault.TheVariants.{Arity, Range, Invalid, IsNull, TooLong, TooMany, Memory}
-use Rattle.heap.specs.Stored.{Stored, Values, null_text}
+use Rattle.heap.specs.Stored.{Stored, Values}
+use Rattle.pg_value.specs.Fields.{null_text}
 
 -- where a fault names a column, it is one of these
 abbrev pub NamesColumnOf : List Column → CopyFault → Type 0
@@ -34,9 +36,9 @@ joined (Err e) rest = Err e
 joined (Ok v) (Err e) = Err e
 joined (Ok v) (Ok vs) = Ok (v ∷ vs)
 
--- a text of more than 8,192 bytes
+-- a text that is longer than a text may be
 abbrev pub is_long : SqlType → List ℕ → Bool
-is_long TextType text = nat_lt 8192 (length text)
+is_long TextType text = nat_lt MOST_TEXT_BYTES (length text)
 is_long t text = false
 
 -- the fault of a field's text, at its place
@@ -72,6 +74,6 @@ abbrev pub with_rows : Stored → Result (List Values) CopyFault → Result Stor
 with_rows h (Ok rows) = Ok (record h { rows = h.rows ++ rows })
 with_rows h (Err e) = Err e
 
--- a heap after loading records, or the first fault; it has room for 100,000 rows
+-- a heap after loading records, or the first fault; it has room for as many rows as a table may have
 abbrev pub loaded : Stored → List (List (List ℕ)) → Result Stored CopyFault
-loaded h rs = with_rows h (rows_from h.columns (100000 - length h.rows) 1 rs)
+loaded h rs = with_rows h (rows_from h.columns (MOST_ROWS - length h.rows) 1 rs)

@@ -1,6 +1,8 @@
 -- What a heap stands for, and which data are lawful. Own.
-use Rattle.std.specs.Prelude.{◌≡◌, ◌≢◌, ℕ, ◌≤◌, List, [], ◌∷◌, false, length}
+use Rattle.std.specs.Prelude.{◌≡◌, ◌≢◌, ◌≤◌, List, false, length}
 use Rattle.std.specs.List.{All, AllZip}
+use Rattle.pg_base.specs.declared.limits.TheConstants.{MOST_ROWS, MOST_TEXT_BYTES}
+use Rattle.pg_value.specs.Fields.{null_text}
 use Rattle.pg_value.specs.Types.{IsOfType}
 use Rattle.pg_value.specs.declared.columns.Column.{Column}
 use Rattle.pg_value.specs.declared.value.Value.{Value}
@@ -15,21 +17,17 @@ pub record Stored : Type 0 where
   pub columns : List Column
   pub rows : List Values
 
--- the text of NULL in COPY data, `\N`
-abbrev pub null_text : List ℕ
-null_text = 92 ∷ 78 ∷ []
-
--- a value that a column may hold: NULL where it takes NULL, else one of its type; a text has at most 8,192 bytes and is not `\N`
+-- a value that a column may hold: NULL where it takes NULL, else one of its type; a text keeps its limit and is not `\N`
 abbrev pub IsValueOf : Column → Value → Type 0
 IsValueOf c Null = c.not_null ≡ false
-IsValueOf c (String bs) = IsOfType c.typed (String bs) × (length bs ≤ 8192) × (bs ≢ null_text)
+IsValueOf c (String bs) = IsOfType c.typed (String bs) × (length bs ≤ MOST_TEXT_BYTES) × (bs ≢ null_text)
 IsValueOf c v = IsOfType c.typed v
 
 -- one value for each column
 abbrev pub IsRowOf : List Column → Values → Type 0
 IsRowOf columns row = AllZip IsValueOf columns row
 
--- lawful data: at most 100,000 rows, each of values that the columns may hold
+-- lawful data: no more rows than a table may have, each of values that the columns may hold
 pub record IsLawful (h : Stored) : Type 0 where
-  pub few : length h.rows ≤ 100000
+  pub few : length h.rows ≤ MOST_ROWS
   pub each : All (IsRowOf h.columns) h.rows

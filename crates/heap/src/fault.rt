@@ -2,7 +2,6 @@
 
 ghost use Rattle.std.specs.Prelude.{◌≡◌};
 
-use csv::Error as CsvError;
 use pg_base::ColNo;
 use std::alloc::{AllocError, AllocFailed};
 use thiserror::Error;
@@ -40,7 +39,7 @@ pub enum CopyFault {
         /// The column at fault.
         col: ColNo,
     },
-    /// A text has more than 8,192 bytes.
+    /// A text has more than [`MOST_TEXT_BYTES`](pg_base::MOST_TEXT_BYTES) bytes.
     #[error("text too long, record {rec}")]
     TooLong {
         /// The record at fault.
@@ -48,7 +47,7 @@ pub enum CopyFault {
         /// The column at fault.
         col: ColNo,
     },
-    /// The record would be row 100,001 or a later one.
+    /// The record would be a row past the first [`MOST_ROWS`](pg_base::MOST_ROWS) of the table.
     #[error("too many rows, record {rec}")]
     TooMany {
         /// The record at fault.
@@ -75,17 +74,6 @@ impl<T: Drop> From<AllocFailed<T>> for CopyFault {
     ghost from_gives = { λ _ fault. fault ≡ Memory };
 
     fn from(_: AllocFailed<T>) -> CopyFault {
-        CopyFault::Memory
-    }
-}
-
-impl From<CsvError> for CopyFault {
-    ghost use Rattle.heap.specs.declared.fault.CopyFault.TheVariants.{Memory};
-
-    ghost from_gives = { λ _ fault. fault ≡ Memory };
-
-    /// Records of any length over a slice are read without a fault but want of memory.
-    fn from(_: CsvError) -> CopyFault {
         CopyFault::Memory
     }
 }

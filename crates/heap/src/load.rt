@@ -1,21 +1,20 @@
 //! Rows read from COPY data.
 
-ghost use Rattle.std.specs.Prelude.{◌≡◌, ◌≢◌, ◌+◌, ◌<◌, ◌≤◌, List, length, slice_get, Some, Ok, Err, IfOk, IfErr, IfSome, IfNone};
+ghost use Rattle.std.specs.Prelude.{◌≡◌, ◌≢◌, ◌+◌, ◌<◌, ◌≤◌, List, length, slice_get, true, Some, Ok, Err, IfOk, IfErr, IfSome, IfNone};
 ghost use Rattle.std.specs.List.{All};
+ghost use Rattle.csv.specs.Reading.{error_kind, stops_reader};
 ghost use Rattle.csv.specs.Records.{fields_of};
+ghost use Rattle.pg_base.specs.declared.limits.TheConstants.{MOST_COLUMNS, MOST_ROWS};
 ghost use Rattle.pg_value.specs.declared.columns.Column.{Column};
 ghost use Rattle.heap.specs.Loading.{NamesColumnOf, records_of, field, row, rows_from, is_long};
 ghost use Rattle.heap.specs.Stored.{IsRowOf, IsValueOf};
 
 use crate::fault::CopyFault;
 use crate::store::Row;
-use csv::{ByteRecord, ReaderBuilder};
-use pg_base::ColNo;
+use csv::{ByteRecord, Error as CsvError, ErrorKind, ReaderBuilder};
+use pg_base::{ColNo, MOST_TEXT_BYTES};
 use pg_value::{Column, FieldFault, SqlType, Value, read_value};
 use std::alloc::Global;
-
-/// The most bytes of a stored text.
-const LONGEST: usize = 8192;
 
 /// A row for each record of a block, `room` of them at most, or the first fault.
 pub(crate) fn read_rows(
@@ -24,8 +23,8 @@ pub(crate) fn read_rows(
     room: usize,
     block: &[u8],
 ) -> Result<Vec<Row>, CopyFault>
-    requires room { room ≤ 100000 }
-    requires columns { length columns.now ≤ 16 }
+    requires room { room ≤ MOST_ROWS }
+    requires columns { length columns.now ≤ MOST_COLUMNS }
     ensures rows { IfOk result (λ rows. rows_from columns.now room 1 (records_of block.now) ≡ Ok rows.items) }
     ensures few { IfOk result (λ rows. length rows.items ≤ room) }
     ensures lawful { IfOk result (λ rows. All (IsRowOf columns.now) rows.items) }
@@ -38,11 +37,25 @@ pub(crate) fn read_rows(
         .from_reader(alloc, block);
     let mut rows = Vec::new(alloc);
     for taken in rdr.into_byte_records() {
-        let fields = taken?;
+        let fields = match taken {
+            Ok(fields) => fields,
+            Err(error) => return Err(out_of_memory(&error)),
+        };
         let row = read_row(alloc, columns, room, rows.len(), &fields)?;
         rows.push(row)?;
     }
     Ok(rows)
+}
+
+/// What stopped a reader: a slice does not fail, so memory ran out.
+fn out_of_memory(error: &CsvError) -> CopyFault
+    requires { stops_reader (error_kind error.now) ≡ true }
+    ensures { result ≡ CopyFault.Memory }
+{
+    match error.kind() {
+        ErrorKind::Io(_) | ErrorKind::OutOfMemory => CopyFault::Memory,
+        _ => unreachable!(),
+    }
 }
 
 /// The row of the record that `before` others of its block stand before.
@@ -54,8 +67,8 @@ fn read_row(
     fields: &ByteRecord,
 ) -> Result<Row, CopyFault>
     requires before { before ≤ room }
-    requires room { room ≤ 100000 }
-    requires columns { length columns.now ≤ 16 }
+    requires room { room ≤ MOST_ROWS }
+    requires columns { length columns.now ≤ MOST_COLUMNS }
     ensures row { IfOk result (λ r. row columns.now room (before + 1) (fields_of fields.now) ≡ Ok r) }
     ensures few { IfOk result (λ r. before < room) }
     ensures lawful { IfOk result (λ r. IsRowOf columns.now r) }
@@ -123,5 +136,5 @@ fn read_field(
 fn is_too_long(t: SqlType, text: &[u8]) -> bool
     ensures { result ≡ is_long t text.now }
 {
-    t == SqlType::Text && text.len() > LONGEST
+    t == SqlType::Text && text.len() > MOST_TEXT_BYTES
 }

@@ -1,16 +1,17 @@
 //! Rows in order of loading.
 
-ghost use Rattle.std.specs.Prelude.{◌≡◌, ◌≢◌, ◌+◌, ◌^◌, ◌<◌, ◌≤◌, List, [], length, slice_get, Some, Ok, Err, IfOk, IfErr, OnErr};
+ghost use Rattle.std.specs.Prelude.{◌≡◌, ◌≢◌, ◌+◌, ◌^◌, ◌<◌, ◌≤◌, List, [], length, take, slice_get, Some, Ok, Err, IfOk, IfErr, OnErr};
+ghost use Rattle.pg_base.specs.declared.limits.TheConstants.{MOST_ROWS};
 ghost use Rattle.heap.specs.Loading.{NamesColumnOf, records_of, loaded};
 ghost use Rattle.heap.specs.Stored.{IsLawful, IsRowOf};
 
+use crate::counters::Counters;
 use crate::fault::CopyFault;
 use crate::load::read_rows;
-use pg_base::{ColNo, Steps, Tid};
+use pg_base::{ColNo, MOST_ROWS, Steps, Tid};
 use pg_value::{Columns, Value};
 use std::alloc::Global;
 use std::marker::{Model, PhantomData};
-use std::sync::ledger::Ledger;
 
 /// A row: a value for each column, from the left. Contracts see the list.
 #[derive(Debug, Drop)]
@@ -43,16 +44,16 @@ impl Row {
     }
 }
 
-/// The rows of a table, read by `fetch` alone, with a counter of the same ledger. Contracts see a `Stored`.
+/// The rows of a table, read by `fetch` and `look` alone, each with its counter. Contracts see a `Stored`.
 #[derive(Drop)]
-pub struct Heap<L: Ledger> {
+pub struct Heap<C: Counters> {
     alloc: Global,
     columns: Columns,
     rows: Vec<Row>,
-    ledger: PhantomData<L>,
+    counters: PhantomData<C>,
 }
 
-impl<L: Ledger> Model for Heap<L> {
+impl<C: Counters> Model for Heap<C> {
     ghost use Rattle.heap.specs.Stored.{Stored, IsLawful};
 
     ghost Value = { Stored };
@@ -62,23 +63,23 @@ impl<L: Ledger> Model for Heap<L> {
     ghost invariant = { λ h. IsLawful (record { columns = h.columns; rows = h.rows.items }) };
 }
 
-impl<L: Ledger> Heap<L> {
+impl<C: Counters> Heap<C> {
     /// A heap without rows.
-    pub fn new(alloc: Global, columns: Columns) -> Heap<L>
+    pub fn new(alloc: Global, columns: Columns) -> Heap<C>
         ensures { result ≡ record { columns = columns; rows = [] } }
     {
         Heap {
             alloc,
             columns,
             rows: Vec::new(alloc),
-            ledger: PhantomData,
+            counters: PhantomData,
         }
     }
 
-    /// The number of rows, at most 100,000.
+    /// The number of rows.
     pub fn len(&self) -> u32
         ensures len { result ≡ length self.now.rows }
-        ensures few { result ≤ 100000 }
+        ensures few { result ≤ MOST_ROWS }
     {
         self.rows.len() as u32
     }
@@ -103,22 +104,52 @@ impl<L: Ledger> Heap<L> {
         ensures refused { OnErr result (self.new ≡ self.old) }
         ensures lawful { IsLawful self.new }
     {
-        let room = 100_000 - self.rows.len();
+        let room = MOST_ROWS - self.rows.len();
         let mut rows = read_rows(self.alloc, self.columns.items(), room, block)?;
         let count = rows.len() as u32;
         self.rows.append(&mut rows)?;
         Ok(count)
     }
 
-    /// The row of this number. It costs one step.
-    pub fn fetch(&self, t: Tid, steps: &mut Steps<L>) -> &Row
+    /// Keeps the first `len` rows.
+    pub fn cut(&mut self, len: u32)
+        requires { len ≤ length self.old.rows }
+        ensures kept { self.new ≡ record { columns = self.old.columns; rows = take len self.old.rows } }
+        ensures lawful { IsLawful self.new }
+    {
+        self.rows.truncate(len as usize);
+    }
+
+    /// The row of this number, fetched. It counts one heap fetch.
+    pub fn fetch(&self, t: Tid, fetches: &mut Steps<C::Fetches>) -> &Row
         requires { t.0 < length self.now.rows }
         ensures row { slice_get self.now.rows t.0 ≡ Some result.now }
         ensures width { length result.now ≡ length self.now.columns }
         ensures lawful { IsRowOf self.now.columns result.now }
-        ensures cost { steps.new ≡ steps.old + 1 }
+        ensures cost { fetches.new ≡ fetches.old + 1 }
     {
-        steps.tick();
+        fetches.tick();
+        self.row(t)
+    }
+
+    /// The row of this number, which was found before. It counts one look.
+    pub fn look(&self, t: Tid, looks: &mut Steps<C::Looks>) -> &Row
+        requires { t.0 < length self.now.rows }
+        ensures row { slice_get self.now.rows t.0 ≡ Some result.now }
+        ensures width { length result.now ≡ length self.now.columns }
+        ensures lawful { IsRowOf self.now.columns result.now }
+        ensures cost { looks.new ≡ looks.old + 1 }
+    {
+        looks.tick();
+        self.row(t)
+    }
+
+    fn row(&self, t: Tid) -> &Row
+        requires { t.0 < length self.now.rows }
+        ensures row { slice_get self.now.rows t.0 ≡ Some result.now }
+        ensures width { length result.now ≡ length self.now.columns }
+        ensures lawful { IsRowOf self.now.columns result.now }
+    {
         &self.rows[t.0 as usize]
     }
 }

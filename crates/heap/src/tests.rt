@@ -1,9 +1,10 @@
 //! COPY data against the behaviour that CSV readers and PostgreSQL document.
 
-ghost use Rattle.std.specs.Prelude.{◌≡◌, ◌<◌};
+ghost use Rattle.std.specs.Prelude.{◌≡◌, ◌<◌, ◌+◌, IfOk, OnErr, OnOk, length};
+ghost use Rattle.heap.specs.Tuples.{relation_count};
 
-use crate::{CopyFault, Heap};
-use pg_base::{ColNo, Steps, Tid};
+use crate::{CopyFault, Counters, Counting, Heap, Heaps, Tids, Tuples};
+use pg_base::{ColNo, RelSet, Steps, TableNo, Tid};
 use pg_value::{Column, Columns, SqlType, Value};
 use std::alloc::{AllocError, Global};
 use std::marker::Brand;
@@ -12,26 +13,45 @@ use std::test::Fail;
 
 /// The rows of a heap of an int4 column that takes no NULL, a text and a bool column, filled by two blocks.
 fn read(alloc: Global, first: &[u8], second: &[u8]) -> Result<String, CopyFault> {
-    shown::<Brand>(alloc, Blank::new(1), first, second)
+    counted::<Brand, Brand>(alloc, Blank::new(1), Blank::new(1), first, second)
 }
 
-fn shown<L: Ledger>(
+fn counted<L: Ledger, M: Ledger>(
     alloc: Global,
-    blank: Blank,
+    fetching: Blank,
+    looking: Blank,
     first: &[u8],
     second: &[u8],
 ) -> Result<String, CopyFault>
-    requires name { blank.name ≡ L.name }
-    requires parts { blank.parts ≡ L.parts }
-    requires some { 0 < blank.parts }
+    requires name { fetching.name ≡ L.name }
+    requires parts { fetching.parts ≡ L.parts }
+    requires some { 0 < fetching.parts }
+    requires other_name { looking.name ≡ M.name }
+    requires other_parts { looking.parts ≡ M.parts }
+    requires some_too { 0 < looking.parts }
 {
-    let mut steps = Steps::<L>::new(blank);
-    let mut heap = Heap::<L>::new(alloc, three_columns(alloc)?);
+    let mut fetches = Steps::<L>::new(fetching);
+    let mut looks = Steps::<M>::new(looking);
+    let mut heap = Heap::<Counting<L, M>>::new(alloc, three_columns(alloc)?);
     heap.load(first)?;
     heap.load(second)?;
+    shown(alloc, &heap, &mut fetches, &mut looks)
+}
+
+/// The rows of a heap of three columns, each fetched and then looked at.
+fn shown<C: Counters>(
+    alloc: Global,
+    heap: &Heap<C>,
+    fetches: &mut Steps<C::Fetches>,
+    looks: &mut Steps<C::Looks>,
+) -> Result<String, CopyFault>
+    ensures fetches { OnOk result (fetches.new ≡ fetches.old + length heap.now.rows) }
+    ensures looks { OnOk result (looks.new ≡ looks.old + length heap.now.rows) }
+{
     let mut text = String::new(alloc);
     for t in 0..heap.len() {
-        let row = heap.fetch(Tid(t), &mut steps);
+        let _ = heap.fetch(Tid(t), fetches);
+        let row = heap.look(Tid(t), looks);
         for c in 0..heap.columns().items().len() {
             push_value(alloc, &mut text, row.value(ColNo(c as u8)))?;
         }
@@ -160,5 +180,103 @@ fn limits(rt: HostRuntime) -> Result<(), Fail> {
             col: ColNo(1)
         })
     );
+    Ok(())
+}
+
+/// Loads a block into the heap of a table.
+fn fill<C: Counters>(heaps: &mut Heaps<C>, table: TableNo, block: &[u8]) -> Result<u32, CopyFault>
+    requires { table.0 < length heaps.old }
+    ensures refused { OnErr result (heaps.new ≡ heaps.old) }
+    ensures tables { length heaps.new ≡ length heaps.old }
+{
+    heaps.get_mut(table).load(block)
+}
+
+#[test]
+fn heaps_of_two_tables(rt: HostRuntime) -> Result<(), Fail> {
+    let alloc = rt.alloc();
+    let mut heaps = Heaps::<Counting<Brand, Brand>>::new(alloc);
+    heaps.add(Heap::new(alloc, three_columns(alloc)?))?;
+    heaps.add(Heap::new(alloc, three_columns(alloc)?))?;
+    assert_eq!(rt; fill(&mut heaps, TableNo(1), b"1,a,t\n2,b,f\n3,c,f")?, 3);
+    assert!(rt; fill(&mut heaps, TableNo(1), b"4,d").is_err());
+    assert_eq!(rt; heaps.get(TableNo(0)).len(), 0);
+    assert_eq!(rt; heaps.get(TableNo(1)).len(), 3);
+    let heap = heaps.get_mut(TableNo(1));
+    if heap.len() == 3 {
+        heap.cut(1);
+    }
+    assert_eq!(rt; heaps.get(TableNo(1)).len(), 1);
+    Ok(())
+}
+
+/// Tuples of two relations with these row numbers.
+fn pairs(alloc: Global, set: RelSet, numbers: &[(u32, u32)]) -> Result<Tuples, AllocError>
+    requires { relation_count set ≡ 2 }
+{
+    let mut tuples = Tuples::new(alloc, set);
+    for (first, second) in numbers {
+        tuples.add(&[Tid(*first), Tid(*second)])?;
+    }
+    Ok(tuples)
+}
+
+#[test]
+fn tuples(rt: HostRuntime) -> Result<(), Fail> {
+    let none = Tuples::new(rt.alloc(), RelSet(5));
+    assert_eq!(rt; none.len(), 0);
+    let three = pairs(rt.alloc(), RelSet(5), &[(7, 1), (0, 2), (7, 1)])?;
+    assert_eq!(rt; three.set(), RelSet(5));
+    assert_eq!(rt; three.len(), 3);
+    for n in 0..three.len() {
+        let row = if n == 1 {
+            [Tid(0), Tid(2)]
+        } else {
+            [Tid(7), Tid(1)]
+        };
+        assert!(rt; three.get(n) == row.as_slice());
+    }
+    Ok(())
+}
+
+/// The set of these row numbers below 200.
+fn below_200(alloc: Global, members: &[u32]) -> Result<Tids, AllocError>
+    ensures { IfOk result (λ s. s.bound ≡ 200) }
+{
+    let mut tids = Tids::empty(alloc, 200)?;
+    for member in members {
+        if *member < 200 {
+            tids.add(Tid(*member));
+        }
+    }
+    Ok(tids)
+}
+
+/// Its members in order.
+fn members(alloc: Global, tids: &Tids) -> Result<Vec<u32>, AllocError> {
+    let mut members = Vec::new(alloc);
+    let mut at = 0;
+    for _ in 0..200 {
+        let Some(member) = tids.from(at) else {
+            break;
+        };
+        members.push(member.0)?;
+        at = member.0.saturating_add(1);
+    }
+    Ok(members)
+}
+
+#[test]
+fn bitmaps(rt: HostRuntime) -> Result<(), Fail> {
+    let alloc = rt.alloc();
+    let mut both = below_200(alloc, &[199, 64, 0, 63, 64])?;
+    let other = below_200(alloc, &[63, 65, 199])?;
+    let mut either = below_200(alloc, &[64, 0])?;
+    assert!(rt; members(alloc, &both)?.as_slice() == [0, 63, 64, 199].as_slice());
+    both.and(&other);
+    assert!(rt; members(alloc, &both)?.as_slice() == [63, 199].as_slice());
+    either.or(&other);
+    assert!(rt; members(alloc, &either)?.as_slice() == [0, 63, 64, 65, 199].as_slice());
+    assert!(rt; members(alloc, &below_200(alloc, &[])?)?.is_empty());
     Ok(())
 }

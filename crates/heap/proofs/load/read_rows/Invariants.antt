@@ -1,4 +1,4 @@
-use Rattle.std.proofs.Common.{◌≡◌, ◌<◌, ◌≤◌, ℕ, List, Some, Ok, length}
+use Rattle.std.proofs.Common.{◌≡◌, ◌<◌, ◌≤◌, ℕ, List, Some, Ok, true, length}
 use Rattle.std.specs.List.{All}
 use Rattle.csv.specs.Reading.{Reached, Ready, default_config, source_of, strip_bom}
 use Rattle.csv.specs.declared.parser.State.TheVariants as st
@@ -8,8 +8,18 @@ use Rattle.heap.specs.Stored.{IsRowOf}
 use Rattle.heap.proofs.load.read_rows.Given as goal
 
 abbrev pub invariant-loop-taken : goal.invariant-loop-taken
-invariant-loop-taken l = (l.taken-iterator.rdr.trim ≡ trim.None) × Ready l.taken-iterator.rdr × (0 < l.taken-iterator.left) × (l.taken-iterator.rdr.config ≡ default_config)
-    × (y : List ℕ) × (source_of (λ s. Some s.now) l.taken-iterator.rdr ≡ Some y)
-    × (read : List (List (List ℕ))) × Reached default_config st.StartRecord (strip_bom l.fn.block) read l.taken-iterator.rdr.state y
-    × (length read ≡ length l.rows.items) × (rows_from l.columns l.room 1 read ≡ Ok l.rows.items)
-    × (length l.rows.items ≤ l.room) × All (IsRowOf l.columns) l.rows.items
+invariant-loop-taken l = record {
+  trim : l.taken-iterator.rdr.trim ≡ trim.None;
+  ready : Ready l.taken-iterator.rdr;
+  turns : 0 < l.taken-iterator.left;
+  config : l.taken-iterator.rdr.config ≡ default_config;
+  flexible : l.taken-iterator.rdr.flexible ≡ true;
+  rest : List ℕ;
+  source : source_of (λ s. Some s.now) l.taken-iterator.rdr ≡ Some rest;
+  read : List (List (List ℕ));
+  reached : Reached default_config st.StartRecord (strip_bom l.fn.block) read l.taken-iterator.rdr.state rest;
+  count : length read ≡ length l.rows.items;
+  rows : rows_from l.columns l.room 1 read ≡ Ok l.rows.items;
+  few : length l.rows.items ≤ l.room;
+  lawful : All (IsRowOf l.columns) l.rows.items;
+}

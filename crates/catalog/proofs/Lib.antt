@@ -1,2 +1,10 @@
 pub mod NameLaws
-pub mod ContentsLaws
+pub mod NumberLemmas
+pub mod EntryLemmas
+pub mod LawfulLemmas
+pub mod WriteLemmas
+pub mod StatisticsLemmas
+pub mod ReplacementLemmas
+pub mod SizeLemmas
+pub mod IndexLemmas
+pub mod NamedLemmas

@@ -1,5 +1,5 @@
 -- Lists of different names, and the keys of a map as names.
-use Rattle.std.proofs.Common.{◌≡◌, ◌≢◌, ◌↔◌, IsTrue, ◌<◌, ◌+◌, ◌++◌, ◌∷◌, [], ◌∙◌, ◌||◌, ℕ, Bool, true, false, not, cond, nat_lt, List, Vec, Global, Some, None, length, take, get_or, position, Contains, refl, sym, ap, subst, arith}
+use Rattle.std.proofs.Common.{◌≡◌, ◌≢◌, ◌↔◌, IsTrue, ◌<◌, ◌+◌, ◌++◌, ◌∷◌, [], ◌∙◌, ◌||◌, ℕ, Bool, true, false, not, cond, nat_lt, List, Vec, Global, Some, None, length, take, get_or, position, AllPairs, Contains, refl, sym, ap, subst, arith}
 use Rattle.std.specs.List.{list_any, position_or_len}
 use Rattle.std.specs.Str.{bytes_eq}
 use Rattle.std.proofs.lemmas.List.{get_or-take, get_or_default, length-map, length-take, map-append, take_more}
@@ -7,16 +7,16 @@ use Rattle.std.proofs.lemmas.List.Quantifiers.{all_pairs_push}
 use Rattle.std.proofs.lemmas.Slice.Eq.{bytes_eq-Decides}
 use Rattle.indexmap.specs.IndexSet.{insert_key}
 use Rattle.indexmap.proofs.CallerLemmas.{Contains-list_any}
-use Rattle.catalog.specs.Names.{AreDistinct}
+use Rattle.pg_base.specs.Names.{AreDistinct}
 use Rattle.catalog.specs.Keys.{key_names}
 
 -- a name that is not among different ones goes last
-pub distinct-push : (xs : List (List ℕ)) (x : List ℕ) → AreDistinct xs → (Contains xs x → ⊥) → AreDistinct (xs ++ x ∷ [])
+pub distinct-push : {X : Type 0} (xs : List X) (x : X) → AllPairs (λ a b. a ≢ b) xs → (Contains xs x → ⊥) → AllPairs (λ a b. a ≢ b) (xs ++ x ∷ [])
 distinct-push xs x h new = all_pairs_push (λ a b. a ≢ b) xs x h (λ k d lt e. new (k, lt, get_or_default xs k x d lt ∙ e))
 
 -- one more of the names from the front
-pub distinct-more : (xs : List (List ℕ)) (n : ℕ) (x : List ℕ) → n < length xs → get_or xs n x ≡ x → AreDistinct (take n xs) → (Contains (take n xs) x → ⊥) → AreDistinct (take (n + 1) xs)
-distinct-more xs n x lt at h new = subst AreDistinct (sym (take_more xs n x lt ∙ ap (λ y. take n xs ++ y ∷ []) at)) (distinct-push (take n xs) x h new)
+pub distinct-more : {X : Type 0} (xs : List X) (n : ℕ) (x : X) → n < length xs → get_or xs n x ≡ x → AllPairs (λ a b. a ≢ b) (take n xs) → (Contains (take n xs) x → ⊥) → AllPairs (λ a b. a ≢ b) (take (n + 1) xs)
+distinct-more xs n x lt at h new = subst (AllPairs (λ a b. a ≢ b)) (sym (take_more xs n x lt ∙ ap (λ y. take n xs ++ y ∷ []) at)) (distinct-push (take n xs) x h new)
 
 -- none of different names is among those before it
 pub fresh : (xs : List (List ℕ)) (n : ℕ) (x : List ℕ) → n < length xs → get_or xs n x ≡ x → AreDistinct xs → Contains (take n xs) x → ⊥

@@ -1,8 +1,9 @@
 -- The relations of a query (PostgreSQL manual, chapter Table Expressions, The FROM Clause; the limit is own).
 use Rattle.std.specs.Prelude.{◌<◌, ◌≤◌, ℕ, List, [], length, map, All, slice_index_or}
+use Rattle.pg_base.specs.declared.limits.TheConstants.{MOST_RELATIONS}
 use Rattle.pg_base.specs.declared.numbers.RelNo.{RelNo}
 use Rattle.pg_base.specs.declared.numbers.TableNo.{TableNo}
-use Rattle.catalog.specs.Names.{IsName, AreDistinct}
+use Rattle.pg_base.specs.Names.{IsName, AreDistinct}
 use Rattle.catalog.specs.Contents.{Contents, IsTable}
 
 -- the relations in FROM order: the table and the alias of each
@@ -20,7 +21,7 @@ aliases range = map (λ r. r.1) range
 -- the relations of a query over a catalogue: 1 to 8, each of a table there, and no two under the same name
 pub record IsRange (c : Contents) (range : Range) : Type 0 where
   pub some : 0 < length range
-  pub few : length range ≤ 8
+  pub few : length range ≤ MOST_RELATIONS
   pub tables : All (λ r. IsTable c r.0) range
   pub names : All (λ r. IsName r.1) range
   pub distinct : AreDistinct (aliases range)

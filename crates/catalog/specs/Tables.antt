@@ -1,14 +1,20 @@
--- Look-ups by name, refusals of a new table, and the size of a table (PostgreSQL manual, CREATE TABLE; the limit of 64
--- tables and the sizes without statistics are own).
-use Rattle.std.specs.Prelude.{◌≡◌, ◌<◌, ◌+◌, ◌/◌, ℕ, List, length, max, position, Contains, Option}
+-- Look-ups by name, refusals of definitions and statistics, and the size of a table (PostgreSQL manual, CREATE TABLE and
+-- CREATE INDEX; statistics, limits and the sizes without statistics are own).
+use Rattle.std.specs.Prelude.{◌≡◌, ◌<◌, ◌+◌, ◌-◌, ◌/◌, ◌⊎◌, ℕ, List, true, false, length, max, position, Contains, Option, Some, None}
 use Rattle.std.specs.Option.{option_map}
 use Rattle.std.specs.Str.{bytes_eq}
+use Rattle.pg_base.specs.declared.limits.TheConstants.{MOST_INDEXES, MOST_TABLES}
 use Rattle.pg_base.specs.declared.numbers.TableNo.{TableNo}
 use Rattle.pg_base.specs.declared.numbers.ColNo.{ColNo}
+use Rattle.pg_base.specs.declared.numbers.IndexNo.{IndexNo}
 use Rattle.catalog.specs.declared.fault.CatalogFault.{CatalogFault}
 use Rattle.catalog.specs.declared.fault.CatalogFault.TheVariants.{NameTaken, ColumnTwice, TooMany, BadNumber, Memory}
-use Rattle.catalog.specs.Names.{AreDistinct, IsFirstRepeat}
-use Rattle.catalog.specs.Contents.{Contents, IsColumn, IsTable, name_at, table_at, table_names}
+use Rattle.catalog.specs.declared.limits.TheConstants.{ROWS_PER_PAGE}
+use Rattle.pg_base.specs.Names.{AreDistinct, IsFirstRepeat}
+use Rattle.catalog.specs.Contents.{Contents, IsColumn, IsIndex, IsTable, all_names, index_name_at, index_names, indexes_of, name_at, table_at, table_names}
+use Rattle.catalog.specs.Indexes.{Index, AreDifferent, FitsColumns, IsFirstTwice, columns_of, has_form}
+use Rattle.catalog.specs.declared.table.Sizes.{Sizes}
+use Rattle.catalog.specs.Statistics.{Statistics, IsFirstRefused, is_count}
 
 -- the table of a name
 abbrev pub table_named : Contents → List ℕ → Option TableNo
@@ -18,9 +24,21 @@ table_named c name = option_map (λ n. record { 0 = n }) (position (bytes_eq nam
 abbrev pub column_named : Contents → TableNo → List ℕ → Option ColNo
 column_named c t name = option_map (λ n. record { 0 = n }) (position (bytes_eq name) (table_at c t).names)
 
+-- the index of a name
+abbrev pub index_named : Contents → List ℕ → Option IndexNo
+index_named c name = option_map (λ n. record { 0 = n }) (position (bytes_eq name) (index_names c))
+
 -- the name is one of no table
 abbrev pub IsFree : Contents → List ℕ → Type 0
 IsFree c name = ¬ Contains (table_names c) name
+
+-- the name is one of no index
+abbrev pub IsFreeIndex : Contents → List ℕ → Type 0
+IsFreeIndex c name = ¬ Contains (index_names c) name
+
+-- the name is one of no table and of no index
+abbrev pub IsUnused : Contents → List ℕ → Type 0
+IsUnused c name = ¬ Contains (all_names c) name
 
 -- the name is one of no column of the table
 abbrev pub IsFreeColumn : Contents → TableNo → List ℕ → Type 0
@@ -30,29 +48,72 @@ IsFreeColumn c t name = ¬ Contains (table_at c t).names name
 abbrev pub HasTableName : Contents → List ℕ → TableNo → Type 0
 HasTableName c name t = IsTable c t × ((table_at c t).name ≡ name)
 
+-- an index has the name
+abbrev pub HasIndexName : Contents → List ℕ → IndexNo → Type 0
+HasIndexName c name i = IsIndex c i × (index_name_at c i ≡ name)
+
 -- a column of the table has the name
 abbrev pub HasColumnName : Contents → TableNo → List ℕ → ColNo → Type 0
 HasColumnName c t name column = IsColumn c t column × (name_at c t column ≡ name)
 
--- a new table may be made: its name is free, its columns' names differ, and fewer than 64 tables are there
+-- a new table may be made: its name is unused, its columns' names differ, and fewer than 64 tables are there
 pub record IsAcceptable (c : Contents) (name : List ℕ) (names : List (List ℕ)) : Type 0 where
-  pub free : IsFree c name
+  pub free : IsUnused c name
   pub distinct : AreDistinct names
-  pub room : length c.tables < 64
+  pub room : length c.tables < MOST_TABLES
 
--- why a new table is refused: its name is taken; else a column name stands twice, at the first such place; else 64 tables
--- are there; and where none of these holds, want of memory
+-- why a new table is refused: a table or an index has its name; else a column name stands twice, at the first such place;
+-- else 64 tables are there; and where none of these holds, want of memory
 abbrev pub IsRefusal : Contents → List ℕ → List (List ℕ) → CatalogFault → Type 0
-IsRefusal c name names NameTaken = Contains (table_names c) name
-IsRefusal c name names (ColumnTwice place) = IsFree c name × IsFirstRepeat names place
-IsRefusal c name names TooMany = IsFree c name × AreDistinct names × (length c.tables ≡ 64)
+IsRefusal c name names NameTaken = Contains (all_names c) name
+IsRefusal c name names (ColumnTwice place) = IsUnused c name × IsFirstRepeat names place
+IsRefusal c name names TooMany = IsUnused c name × AreDistinct names × (length c.tables ≡ MOST_TABLES)
 IsRefusal c name names (BadNumber place) = ⊥
 IsRefusal c name names Memory = IsAcceptable c name names
 
--- the number of rows of a table: the rows loaded, and at least 1
-abbrev pub rows_of : Contents → TableNo → ℕ
-rows_of c t = max 1 (table_at c t).loaded
+-- a definition fits the catalogue: it is one of a table there, and fits its columns
+pub record Fits (c : Contents) (x : Index) : Type 0 where
+  pub table : IsTable c x.table
+  pub columns : FitsColumns (table_at c x.table).columns x
 
--- the number of pages of a table: its rows by 100, rounded up
+-- a new index may be made: its name is unused, no column stands twice, its table has fewer than 8 indexes, and the method has its form
+pub record IsAcceptableIndex (c : Contents) (name : List ℕ) (x : Index) : Type 0 where
+  pub free : IsUnused c name
+  pub distinct : AreDifferent (columns_of x)
+  pub room : length (indexes_of c x.table) < MOST_INDEXES
+  pub form : has_form x ≡ true
+
+-- why a new index is refused: a table or an index has its name; else a column stands twice, at the first such place; else
+-- its table has 8 indexes; else the method has no index of its form; and where none of these holds, want of memory
+abbrev pub IsIndexRefusal : Contents → List ℕ → Index → CatalogFault → Type 0
+IsIndexRefusal c name x NameTaken = Contains (all_names c) name
+IsIndexRefusal c name x (ColumnTwice place) = IsUnused c name × IsFirstTwice (columns_of x) place
+IsIndexRefusal c name x TooMany = IsUnused c name × AreDifferent (columns_of x) × (length (indexes_of c x.table) ≡ MOST_INDEXES)
+IsIndexRefusal c name x (BadNumber place) = IsUnused c name × AreDifferent (columns_of x) × (length (indexes_of c x.table) < MOST_INDEXES) × (has_form x ≡ false) × (place ≡ 0)
+IsIndexRefusal c name x Memory = IsAcceptableIndex c name x
+
+-- why the size of a table is refused: the rows, at place 0, else the pages, at place 1, are no count
+abbrev pub IsSizeRefusal : ℕ → ℕ → CatalogFault → Type 0
+IsSizeRefusal rows pages (BadNumber place) = ((place ≡ 0) × (is_count rows ≡ false)) ⊎ ((place ≡ 1) × (is_count rows ≡ true) × (is_count pages ≡ false))
+IsSizeRefusal rows pages _ = ⊥
+
+-- why the statistics of a column are refused: the first place at which something is
+abbrev pub IsStatisticsRefusal : Statistics → CatalogFault → Type 0
+IsStatisticsRefusal s (BadNumber place) = IsFirstRefused s place
+IsStatisticsRefusal s _ = ⊥
+
+-- the rows of a table: those given, else those loaded, at least 1
+abbrev pub rows_by : ℕ → Option Sizes → ℕ
+rows_by loaded None = max 1 loaded
+rows_by loaded (Some s) = s.rows
+
+abbrev pub rows_of : Contents → TableNo → ℕ
+rows_of c t = rows_by (table_at c t).loaded (table_at c t).sizes
+
+-- the pages of a table: those given, else its rows by 100, rounded up
+abbrev pub pages_by : ℕ → Option Sizes → ℕ
+pages_by loaded None = (max 1 loaded + (ROWS_PER_PAGE - 1)) / ROWS_PER_PAGE
+pages_by loaded (Some s) = s.pages
+
 abbrev pub pages_of : Contents → TableNo → ℕ
-pages_of c t = (rows_of c t + 99) / 100
+pages_of c t = pages_by (table_at c t).loaded (table_at c t).sizes

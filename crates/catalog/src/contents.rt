@@ -1,44 +1,46 @@
-//! Tables in order of making, found by name and by number.
+//! Tables in order of making, found by name and by number. Indexes share their namespace.
 
-ghost use Rattle.std.specs.Prelude.{◌≡◌, ◌<◌, ℕ, List, length, position, All, IfErr, IfOk, OnErr, OnOk, MatchOption};
+ghost use Rattle.std.specs.Prelude.{◌≡◌, ◌<◌, ◌+◌, ◌↔◌, ℕ, List, [], length, position, All, Contains, IfErr, IfOk, IsErrOf, IsTrue, OnErr, OnOk, MatchOption};
 ghost use Rattle.std.specs.Str.{bytes_eq};
-ghost use Rattle.catalog.specs.Contents.{IsColumn, IsLawful, IsLawfulTable, IsTable, name_at, new_table, nothing, table_at, table_names, with_loaded, with_table};
+ghost use Rattle.catalog.specs.Contents.{IsColumn, IsLastTable, IsLawful, IsLawfulTable, IsTable, all_names, indexes_of, name_at, new_table, nothing, table_at, table_names, tables_before, with_table};
 ghost use Rattle.catalog.specs.Entries.{table_def};
-ghost use Rattle.catalog.specs.Names.{IsName};
-ghost use Rattle.catalog.specs.Tables.{HasColumnName, HasTableName, IsAcceptable, IsFree, IsFreeColumn, IsRefusal, column_named, pages_of, rows_of, table_named};
+ghost use Rattle.pg_base.specs.Names.{IsName};
+ghost use Rattle.catalog.specs.Tables.{HasColumnName, HasTableName, IsAcceptable, IsFree, IsFreeColumn, IsRefusal, column_named, table_named};
 
+use crate::entries::put;
 use crate::fault::CatalogFault;
-use crate::names::{Names, first_repeat};
+use crate::index_def::IndexDef;
+use crate::names::first_repeat;
+use crate::table::Table;
 use indexmap::IndexMap;
-use pg_base::{ColNo, TableNo};
+use pg_base::{ColNo, MOST_TABLES, TableNo};
 use pg_value::{Bytes, Columns};
 use std::alloc::Global;
 use std::marker::Model;
 
-/// What is kept of a table beside its name.
-#[derive(Drop)]
-pub struct Table {
-    names: Names,
-    columns: Columns,
-    loaded: u32,
-}
-
-/// The accepted definitions. Contracts see `Contents`: the tables in order of making.
+/// The accepted definitions, and the last accepted statistics. Contracts see `Contents`: tables and indexes, each in
+/// order of making. Contents are lawful.
 #[derive(Drop)]
 pub struct Catalog {
-    alloc: Global,
-    tables: IndexMap<Vec<u8>, Table>,
+    pub(crate) alloc: Global,
+    pub(crate) tables: IndexMap<Vec<u8>, Table>,
+    pub(crate) indexes: IndexMap<Vec<u8>, IndexDef>,
 }
 
 impl Model for Catalog {
+    ghost use Rattle.std.specs.Coded.{codes};
+    ghost use Rattle.std.specs.Prelude.{map};
+    ghost use Rattle.pg_expr.specs.CondCode.{cond_code};
     ghost use Rattle.catalog.specs.Contents.{Contents, IsLawful};
-    ghost use Rattle.catalog.specs.Entries.{table_defs};
+    ghost use Rattle.catalog.specs.Entries.{AreListed, contents_of, named_index};
 
     ghost Value = { Contents };
 
-    ghost view = { λ c. record { tables = table_defs c.tables.entries } };
+    ghost coded = { Prim.hlevel (codes, cond_code (Prim.hlevel codes)) };
 
-    ghost invariant = { λ c. IsLawful (record { tables = table_defs c.tables.entries }) };
+    ghost view = { λ c. contents_of c.tables.entries c.indexes.entries };
+
+    ghost invariant = { λ c. IsLawful (contents_of c.tables.entries c.indexes.entries) × AreListed (map named_index c.indexes.entries) 0 c.tables.entries };
 }
 
 impl Catalog {
@@ -49,12 +51,20 @@ impl Catalog {
         Catalog {
             alloc,
             tables: IndexMap::new(alloc),
+            indexes: IndexMap::new(alloc),
         }
     }
 
+    /// The contents of a catalogue are lawful.
+    pub fn lawful(&self)
+        ensures { IsLawful self.now }
+    {
+        let _ = &self.tables;
+    }
+
     /// Makes a table with these names for its columns, from the left, and no rows loaded, and gives its number, the next
-    /// one. It is refused where a table has its name, else where a column name repeats an earlier one, else where 64
-    /// tables are there. A refused table changes nothing.
+    /// one. It is refused where a table or an index has its name, else where a column name repeats an earlier one, else
+    /// where 64 tables are there. A refused table changes nothing.
     pub fn add_table(
         &mut self,
         name: Bytes,
@@ -70,32 +80,52 @@ impl Catalog {
         ensures cause { IfErr result (IsRefusal self.old name names.items) }
         ensures unchanged { OnErr result (self.new ≡ self.old) }
     {
-        if self.table(name.items()).is_some() {
-            return Err(CatalogFault::NameTaken);
-        }
-        if let Some(place) = first_repeat(&names, &columns) {
-            return Err(CatalogFault::ColumnTwice(place));
-        }
-        if self.tables.len() == 64 {
-            return Err(CatalogFault::TooMany);
-        }
+        self.judge_table(name.items(), &names, &columns)?;
         let number = TableNo(self.tables.len() as u8);
-        let table = Table {
-            names: Names::copy_of(self.alloc, &names)?,
-            columns,
-            loaded: 0,
-        };
-        self.tables
-            .insert(Vec::from_slice(self.alloc, name.items())?, table)?;
+        let key = Vec::from_slice(self.alloc, name.items())?;
+        let table = Table::new(self.alloc, &names, columns)?;
+        put(&mut self.tables, key, table)?;
         Ok(number)
     }
 
-    /// Keeps the number of rows loaded into a table, in place of the former.
-    pub fn set_loaded(&mut self, t: TableNo, rows: u32)
-        requires { IsTable self.old t }
-        ensures { self.new ≡ with_loaded self.old t rows }
+    // Why a table of this name, with these names for its columns, is refused.
+    fn judge_table(
+        &self,
+        name: &[u8],
+        names: &[Bytes],
+        columns: &Columns,
+    ) -> Result<(), CatalogFault>
+        requires { length names.now ≡ length columns.now }
+        ensures accepted { OnOk result (IsAcceptable self.now name.now names.now) }
+        ensures cause { IfErr result (IsRefusal self.now name.now names.now) }
+        ensures memory { IsErrOf result CatalogFault.Memory → ⊥ }
     {
-        self.tables[t.0 as usize].loaded = rows;
+        if self.is_taken(name) {
+            return Err(CatalogFault::NameTaken);
+        }
+        if let Some(place) = first_repeat(names, columns) {
+            return Err(CatalogFault::ColumnTwice(place));
+        }
+        if self.tables.len() == MOST_TABLES {
+            return Err(CatalogFault::TooMany);
+        }
+        Ok(())
+    }
+
+    // Whether a table or an index has this name.
+    pub(crate) fn is_taken(&self, name: &[u8]) -> bool
+        ensures { IsTrue result ↔ Contains (all_names self.now) name.now }
+    {
+        self.table(name).is_some() || self.index_named(name).is_some()
+    }
+
+    /// Takes out the last table, which has no index. All else stays.
+    pub fn take_back_table(&mut self, t: TableNo)
+        requires last { IsLastTable self.old t }
+        requires bare { indexes_of self.old t ≡ [] }
+        ensures { self.new ≡ tables_before self.old t }
+    {
+        let _ = self.tables.pop();
     }
 
     // The place of the table of a name.
@@ -107,9 +137,10 @@ impl Catalog {
     }
 
     // The name of a table, and what is kept beside it.
-    fn entry(&self, t: TableNo) -> (&Vec<u8>, &Table)
+    pub(crate) fn entry(&self, t: TableNo) -> (&Vec<u8>, &Table)
         requires { IsTable self.now t }
         ensures entry { table_def (result.0.now, result.1.now) ≡ table_at self.now t }
+        ensures listed { result.1.now.indexes.items ≡ indexes_of self.now t }
         ensures lawful { IsLawfulTable (table_at self.now t) }
     {
         self.tables.get_index(t.0 as usize).unwrap()
@@ -169,22 +200,5 @@ impl Catalog {
     {
         let (_, table) = self.entry(t);
         table.names.get(c.0 as usize)
-    }
-
-    /// The number of rows of a table for estimates: the rows loaded, at least 1.
-    pub fn rows(&self, t: TableNo) -> u64
-        requires { IsTable self.now t }
-        ensures { result ≡ rows_of self.now t }
-    {
-        let (_, table) = self.entry(t);
-        u64::from(table.loaded).max(1)
-    }
-
-    /// The number of pages of a table for estimates: one for each hundred rows, the last not always full.
-    pub fn pages(&self, t: TableNo) -> u64
-        requires { IsTable self.now t }
-        ensures { result ≡ pages_of self.now t }
-    {
-        self.rows(t).div_ceil(100)
     }
 }

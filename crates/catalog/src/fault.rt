@@ -8,16 +8,16 @@ use thiserror::Error;
 /// Why the catalogue refuses a definition. It is then as before.
 #[derive(Clone, Copy, Debug, PartialEq, Eq, Error)]
 pub enum CatalogFault {
-    /// The name is one of a table already (42P07).
+    /// The name is one of a table or an index already (42P07).
     #[error("duplicate name")]
     NameTaken,
-    /// The column at this place, from 0, has the name of an earlier one (42701).
+    /// The column at this place, from 0, is an earlier one, or has its name (42701).
     #[error("duplicate column")]
     ColumnTwice(u8),
-    /// The limit of tables is reached (54000).
-    #[error("too many tables")]
+    /// The limit of tables, or of the table's indexes, is reached (54000).
+    #[error("too many")]
     TooMany,
-    /// The number at this place, from 0, is not allowed (22023). No call for tables answers it.
+    /// The number, literal or form of index at this place, from 0, is not allowed (22023).
     #[error("invalid parameter")]
     BadNumber(u8),
     /// Want of memory (53200).

@@ -1,13 +1,25 @@
-//! The catalogue: tables and their columns by name and by number.
+//! The catalogue: tables and their columns, indexes and statistics, by name and by number.
 #![tactic(auto)]
 
 mod contents;
+mod entries;
 mod fault;
+mod index_def;
+mod indexes;
+mod laws;
+mod limits;
 mod names;
 mod range;
+mod sizes;
+mod statistics;
+mod table;
 #[cfg(test)]
 mod tests;
 
 pub use contents::Catalog;
 pub use fault::CatalogFault;
+pub use index_def::IndexDef;
+pub use laws::{index_laws, replacement_laws, size_laws, statistics_laws};
+pub use limits::{MOST_BOUNDS, MOST_COMMON, MOST_NUMBER, ROWS_PER_PAGE, WHOLE_SHARE};
 pub use range::RangeTable;
+pub use statistics::ColumnStats;

@@ -2,7 +2,8 @@
 
 ghost use Rattle.std.specs.Prelude.{◌≡◌, ◌<◌, ◌≤◌, ℕ, List, length, position, Contains, IfOk, IfSome, IsTrue, MatchOption, Some, slice_get, ◌↔◌};
 ghost use Rattle.std.specs.Str.{bytes_eq};
-ghost use Rattle.catalog.specs.Names.{AreDistinct, IsFirstRepeat};
+ghost use Rattle.pg_base.specs.declared.limits.TheConstants.{MOST_COLUMNS};
+ghost use Rattle.pg_base.specs.Names.{AreDistinct, IsFirstRepeat};
 
 use indexmap::IndexSet;
 use pg_base::Memory;
@@ -60,7 +61,7 @@ pub fn first_repeat(names: &[Bytes], columns: &Columns) -> Option<u8>
     requires { length names.now ≡ length columns.now }
     ensures repeat { MatchOption result (AreDistinct names.now) (λ n. IsFirstRepeat names.now n) }
     ensures some { 0 < length columns.now }
-    ensures few { length columns.now ≤ 16 }
+    ensures few { length columns.now ≤ MOST_COLUMNS }
 {
     for n in 0..columns.items().len() {
         if is_among(names[n].items(), &names[..n]) {

@@ -1,6 +1,6 @@
 use Rattle.std.proofs.Common.{◌<◌, ◌∙◌, sym, subst, ap, length, arith}
 use Rattle.std.proofs.lemmas.List.{get_or_default, take_all}
-use Rattle.catalog.specs.Names.{AreDistinct}
+use Rattle.pg_base.specs.Names.{AreDistinct}
 use Rattle.catalog.proofs.NameLaws.{distinct-more, not_among}
 use Rattle.catalog.proofs.names.first_repeat.Goals as goal
 

@@ -1,66 +1,37 @@
-use Rattle.std.proofs.Common.{◌<◌, ◌∙◌, refl, sym, subst, ap, Contains, length}
-use Rattle.std.proofs.lemmas.Result.{err_from_is_err_and}
-use Rattle.catalog.specs.Contents.{Contents, IsLawful, IsLawfulTable, new_table, table_names, with_table}
-use Rattle.catalog.specs.Entries.{table_defs}
-use Rattle.catalog.specs.Names.{AreDistinct}
-use Rattle.catalog.specs.Tables.{IsAcceptable, IsFree}
-use Rattle.catalog.proofs.ContentsLaws.{added, free, lawful-added, room, taken}
+use Rattle.std.proofs.Common.{◌<◌, ◌≤◌, ◌∙◌, ap, arith, length, subst, sym}
+use Rattle.pg_base.specs.declared.limits.TheConstants.{MOST_COLUMNS}
+use Rattle.catalog.specs.Contents.{Contents, IsLawfulTable, new_table, with_table}
+use Rattle.catalog.specs.Entries.{contents_of}
+use Rattle.catalog.specs.Tables.{IsAcceptable, IsUnused}
+use Rattle.catalog.proofs.NamedLemmas.{new-lawful}
+use Rattle.catalog.proofs.WriteLemmas.{table-added, table-kept}
 use Rattle.catalog.proofs.contents.Catalog.add_table.Goals as goal
-
-pub returns-then-is_some-clause-cause : goal.returns-then-is_some-clause-cause
-returns-then-is_some-clause-cause c =
-    subst (Contains (table_names c.args.self.now)) c.items.ensures
-    (taken c.args.self.now c.items.result.now c.table.result c.table.ensures.meaning (sym c.is_some.ensures ∙ c.if-is_some.true))
-
-pub returns-clause-accepted : goal.returns-clause-accepted
-returns-clause-accepted c = record {
-  free = subst (IsFree c.args.self.now) c.items.ensures (free c.args.self.now c.items.result.now c.table.result c.table.ensures.meaning (sym c.is_some.ensures ∙ c.if-is_some.false));
-  distinct = subst AreDistinct c.deref.ensures.value c.in_default.ensures.repeat;
-  room = room c.self.inside.tables.entries c.args.self.now c.len.result c.self.view_is c.len.ensures.len c.if-len-eq64.false c.table.ensures.lawful.few;
-}
-
-pub returns-in_err-from_slice-clause-cause : goal.returns-in_err-from_slice-clause-cause
-returns-in_err-from_slice-clause-cause c =
-    let cause : IsAcceptable c.args.self.now c.args.name c.args.names.items = record {
-      free = subst (IsFree c.args.self.now) c.items.ensures (free c.args.self.now c.items.result.now c.table.result c.table.ensures.meaning (sym c.is_some.ensures ∙ c.if-is_some.false));
-      distinct = subst AreDistinct c.deref.ensures.value c.in_default.ensures.repeat;
-      room = room c.self.inside.tables.entries c.args.self.now c.len.result c.self.view_is c.len.ensures.len c.if-len-eq64.false c.table.ensures.lawful.few;
-    } in
-    let p = err_from_is_err_and c.from_residual-in_err-from_slice.result c.from_residual-in_err-from_slice.ensures.1 in
-    rw (p.1, p.2) cause
-
-pub returns-in_err-insert-clause-cause : goal.returns-in_err-insert-clause-cause
-returns-in_err-insert-clause-cause c =
-    let cause : IsAcceptable c.args.self.now c.args.name c.args.names.items = record {
-      free = subst (IsFree c.args.self.now) c.items.ensures (free c.args.self.now c.items.result.now c.table.result c.table.ensures.meaning (sym c.is_some.ensures ∙ c.if-is_some.false));
-      distinct = subst AreDistinct c.deref.ensures.value c.in_default.ensures.repeat;
-      room = room c.self.inside.tables.entries c.args.self.now c.len.result c.self.view_is c.len.ensures.len c.if-len-eq64.false c.table.ensures.lawful.few;
-    } in
-    let p = err_from_is_err_and c.from_residual-in_err-insert.result c.from_residual-in_err-insert.ensures.1 in
-    rw (p.1, p.2) cause
 
 pub invariant_of-self-2 : goal.invariant_of-self-2
 invariant_of-self-2 c =
-    let es = table_defs c.self.inside.tables.entries in
-    let before : Contents = record { tables = es } in
-    let new : IsFree c.args.self.now c.args.name = subst (IsFree c.args.self.now) c.items.ensures (free c.args.self.now c.items.result.now c.table.result c.table.ensures.meaning (sym c.is_some.ensures ∙ c.if-is_some.false)) in
-    let new-before : IsFree before c.args.name = subst (λ (l : Contents). IsFree l c.args.name) (sym c.self.view_is) new in
-    let few = room c.self.inside.tables.entries c.args.self.now c.len.result c.self.view_is c.len.ensures.len c.if-len-eq64.false c.table.ensures.lawful.few in
-    let few-before = subst (λ (l : Contents). length l.tables < 64) (sym c.self.view_is) few in
-    let made : IsLawfulTable (new_table c.args.name c.args.names.items c.args.columns) = record {
-      name = c.requires.name;
-      names = c.requires.names;
-      distinct = subst AreDistinct c.deref.ensures.value c.in_default.ensures.repeat;
-      width = c.requires.width;
-      some = c.in_default.ensures.some;
-      few = c.in_default.ensures.few;
-    } in
-    subst IsLawful (sym (added c.self.inside.tables.entries c.insert.new.self.entries c.in_ok-from_slice.field-0 (record { names = c.in_ok-copy_of.field-0; columns = c.args.columns; loaded = 0 }) c.args.name c.args.names.items c.in_ok-insert.ensures.entries (c.in_ok-from_slice.ensures.items ∙ c.items-2.ensures) (c.in_ok-copy_of.ensures ∙ c.deref-2.ensures.value) refl new-before))
-    (lawful-added before (new_table c.args.name c.args.names.items c.args.columns) made new-before few-before c.self.invariant)
+    let es = c.self.inside.tables.entries in
+    let is = c.self.inside.indexes.entries in
+    let named = c.in_ok-key.ensures.items ∙ c.items-2.ensures in
+    let told = subst (λ n. IsAcceptable c.args.self.now n c.deref.result.now) c.items.ensures c.in_ok-judge_table.ensures.accepted in
+    let both = subst (IsAcceptable c.args.self.now c.args.name) c.deref.ensures.value told in
+    let a = subst (λ (l : Contents). IsAcceptable l c.args.name c.args.names.items) (sym c.self.view_is) both in
+    let free = subst (IsUnused (contents_of es is)) (sym named) a.free in
+    let def = c.in_ok-table.ensures.table c.in_ok-key.key ∙ ap (λ n. new_table n c.deref-2.result.now c.args.columns) named ∙ ap (λ l. new_table c.args.name l c.args.columns) c.deref-2.ensures.value in
+    let wide = ap length c.columns.view_is in
+    let some : 0 < length c.args.columns = omega (arith, wide, c.columns.invariant.0, c.columns.inside.columns.ok) in
+    let few : length c.args.columns ≤ MOST_COLUMNS = omega (arith, wide, c.columns.invariant.1, c.columns.inside.columns.ok) in
+    let lawful = new-lawful c.args.name c.args.names.items c.args.columns c.requires.name c.requires.names a.distinct c.requires.width some few in
+    table-kept es c.put.new.map.entries is c.in_ok-key.key c.in_ok-table.table c.in_ok-put.ensures.entries free (subst IsLawfulTable (sym def) lawful) a.room c.in_ok-table.ensures.listed c.self.invariant
 
 pub returns-clause-added : goal.returns-clause-added
 returns-clause-added c =
-    let new : IsFree c.args.self.now c.args.name = subst (IsFree c.args.self.now) c.items.ensures (free c.args.self.now c.items.result.now c.table.result c.table.ensures.meaning (sym c.is_some.ensures ∙ c.if-is_some.false)) in
-    let new-before = subst (λ (l : Contents). IsFree l c.args.name) (sym c.self.view_is) new in
-    added c.self.inside.tables.entries c.insert.new.self.entries c.in_ok-from_slice.field-0 (record { names = c.in_ok-copy_of.field-0; columns = c.args.columns; loaded = 0 }) c.args.name c.args.names.items c.in_ok-insert.ensures.entries (c.in_ok-from_slice.ensures.items ∙ c.items-2.ensures) (c.in_ok-copy_of.ensures ∙ c.deref-2.ensures.value) refl new-before
+    let es = c.self.inside.tables.entries in
+    let is = c.self.inside.indexes.entries in
+    let named = c.in_ok-key.ensures.items ∙ c.items-2.ensures in
+    let told = subst (λ n. IsAcceptable c.args.self.now n c.deref.result.now) c.items.ensures c.in_ok-judge_table.ensures.accepted in
+    let a = subst (λ (l : Contents). IsAcceptable l c.args.name c.deref.result.now) (sym c.self.view_is) told in
+    let free = subst (IsUnused (contents_of es is)) (sym named) a.free in
+    let def = c.in_ok-table.ensures.table c.in_ok-key.key ∙ ap (λ n. new_table n c.deref-2.result.now c.args.columns) named ∙ ap (λ l. new_table c.args.name l c.args.columns) c.deref-2.ensures.value in
+    table-added es c.put.new.map.entries is c.in_ok-key.key c.in_ok-table.table c.in_ok-put.ensures.entries free
+    ∙ ap (with_table (contents_of es is)) def
     ∙ ap (λ (l : Contents). with_table l (new_table c.args.name c.args.names.items c.args.columns)) c.self.view_is

@@ -1,7 +1,7 @@
 use Rattle.std.proofs.Common.{◌∙◌, ap, position, sym, arith}
 use Rattle.std.specs.Str.{bytes_eq}
 use Rattle.catalog.specs.Contents.{TableDef, table_at}
-use Rattle.catalog.proofs.ContentsLaws.{found_at, not_found}
+use Rattle.catalog.proofs.EntryLemmas.{found_at, not_found}
 use Rattle.catalog.proofs.contents.Catalog.column.Goals as goal
 
 pub returns-in-Some-clause-meaning : goal.returns-in-Some-clause-meaning

@@ -1,0 +1,10 @@
+use Rattle.std.proofs.Common.{◌≡◌, ℕ, ◌<◌, drop, slice_index_or}
+use Rattle.eq_classes.specs.declared.order.OrderItem.{OrderItem}
+use Rattle.eq_classes.specs.Building.{given, by_order}
+use Rattle.eq_classes.proofs.class.note_items.Given as goal
+
+abbrev pub invariant-loop-item : goal.invariant-loop-item
+invariant-loop-item g l =
+    let own = given (g.B.Binding.type_of l.typed) l.conjuncts l.order in
+    (by_order own l.groups (drop l.item-index l.order) l.classes.items ≡ by_order own l.groups l.order l.fn.classes.items)
+    × ((k : ℕ) (d : OrderItem) → k < l.item-index → (slice_index_or l.order k d).col.col.0 < 256)

@@ -1,0 +1,9 @@
+use Rattle.std.proofs.Common.{◌≡◌, ℕ, ◌&&◌, nat_lt}
+use Rattle.pg_base.specs.Sets.{has}
+use Rattle.pg_expr.specs.AtomSets.{contains}
+use Rattle.eq_classes.specs.Parts.{is_param}
+use Rattle.eq_classes.specs.Listing.{clause_at, clauses_of}
+use Rattle.eq_classes.proofs.classes.Classes.param_clauses.Given as goal
+
+abbrev pub invariant-loop-n : goal.invariant-loop-n
+invariant-loop-n l = (k : ℕ) → contains l.set k ≡ nat_lt k l.n && is_param l.r.0 (has l.p.0) (clause_at l.self.clauses k)

@@ -1,0 +1,7 @@
+use Rattle.std.proofs.Common.{List, ◌++◌, drop}
+use Rattle.pg_base.specs.declared.rel_set.RelSet.{RelSet}
+use Rattle.eq_classes.specs.Listing.{AreNamed}
+use Rattle.eq_classes.proofs.classes.relations.Given as goal
+
+abbrev pub invariant-loop-k : goal.invariant-loop-k
+invariant-loop-k l = (rest : List RelSet) → AreNamed rest (drop l.k-index l.clauses) → AreNamed (l.named.items ++ rest) l.clauses

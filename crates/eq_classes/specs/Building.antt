@@ -1,0 +1,92 @@
+-- How the classes are made of the groups, mention by mention. Own.
+use Rattle.std.specs.Prelude.{◌≡◌, ◌<◌, ℕ, nat_eq, Bool, false, cond, ◌&&◌, List, [], ◌∷◌, ◌++◌, map, find, insert, Option, Some, None}
+use Rattle.std.specs.List.{list_any, prefix_len}
+use Rattle.pg_base.specs.Sets.{has}
+use Rattle.pg_value.specs.declared.operators.Family.{Family}
+use Rattle.pg_value.specs.declared.value.SqlType.{SqlType}
+use Rattle.pg_value.specs.declared.value.Value.{Value}
+use Rattle.pg_expr.specs.declared.operand.ColRef.{ColRef}
+use Rattle.pg_expr.specs.declared.expr.Expr.{Expr}
+use Rattle.pg_expr.specs.Cond.{Cond}
+use Rattle.pg_expr.specs.Pushed.{is_lower}
+use Rattle.pg_expr.specs.View as view
+use Rattle.eq_classes.specs.declared.order.OrderItem.{OrderItem}
+use Rattle.eq_classes.specs.Equality.{Equality, equality_in, is_column, are_equal}
+use Rattle.eq_classes.specs.Classes.{Given, Class, is_family, Mention, is_in, left_of, ordered_by, literals, direction_of}
+use Rattle.eq_classes.specs.Grouping.{Part, grouped}
+
+-- what a call is handed
+abbrev pub given : (ColRef → SqlType) → List Expr → List OrderItem → Given
+given type_of es order = record { conjuncts = map view.cond es; order = order; type_of = type_of }
+
+-- a column put in its place among columns in order, once
+abbrev pub inserted : ColRef → List ColRef → List ColRef
+inserted c xs = cond (list_any (is_column c) xs) xs (insert xs (prefix_len (λ x. is_lower x c) xs) c)
+
+abbrev pub arranged : List ColRef → List ColRef → List ColRef
+arranged [] xs = xs
+arranged (c ∷ cs) xs = arranged cs (inserted c xs)
+
+-- a group of the family with the column
+abbrev pub is_group_of : Family → ColRef → Part → Bool
+is_group_of f x p = is_family f p.family && list_any (is_column x) p.columns
+
+abbrev pub columns_by : ColRef → Option Part → List ColRef
+columns_by x None = x ∷ []
+columns_by x (Some p) = arranged p.columns []
+
+-- the members of the class of a column
+abbrev pub members_of : List Part → Family → ColRef → List ColRef
+members_of ps f x = columns_by x (find (is_group_of f x) ps)
+
+-- a class with these members, as far as its literals and its direction go
+abbrev pub over : Family → List ColRef → Class
+over f members = record { family = f; members = members; constants = []; descending = false; nulls_first = false }
+
+-- values noted where none noted is equal
+abbrev pub noted : Family → List Value → List Value → List Value
+noted f [] known = known
+noted f (v ∷ vs) known = noted f vs (cond (list_any (are_equal f v) known) known (known ++ v ∷ []))
+
+abbrev pub noted_option : Family → Option Value → List Value → List Value
+noted_option f None known = known
+noted_option f (Some v) known = cond (list_any (are_equal f v) known) known (known ++ v ∷ [])
+
+abbrev pub class_with : Given → Family → List ColRef → Class
+class_with g f members = record {
+  family = f;
+  members = members;
+  constants = noted f (literals g (over f members)) [];
+  descending = (direction_of g (over f members)).0;
+  nulls_first = (direction_of g (over f members)).1;
+}
+
+-- the classes with that of a mention, where none is there yet
+abbrev pub with_mention : Given → List Part → Option Mention → List Class → List Class
+with_mention g ps None cs = cs
+with_mention g ps (Some m) cs = cond (list_any (λ c. is_in c m) cs) cs (cs ++ class_with g m.family (members_of ps m.family m.column) ∷ [])
+
+abbrev pub left_by : Option Equality → Option Mention
+left_by None = None
+left_by (Some e) = Some (left_of e)
+
+abbrev pub mention_in : (ColRef → SqlType) → Cond → Option Mention
+mention_in type_of k = left_by (equality_in type_of k)
+
+-- those of the conjuncts, then those of ORDER BY
+abbrev pub by_conjuncts : Given → List Part → List Cond → List Class → List Class
+by_conjuncts g ps [] cs = cs
+by_conjuncts g ps (k ∷ ks) cs = by_conjuncts g ps ks (with_mention g ps (mention_in g.type_of k) cs)
+
+abbrev pub by_order : Given → List Part → List OrderItem → List Class → List Class
+by_order g ps [] cs = cs
+by_order g ps (i ∷ is) cs = by_order g ps is (with_mention g ps (ordered_by g.type_of i) cs)
+
+abbrev pub all_classes : Given → List Class
+all_classes g =
+    let ps = grouped g.type_of g.conjuncts [] in
+    by_order g ps g.order (by_conjuncts g ps g.conjuncts [])
+
+-- a set holds the relations below 16 of the columns
+abbrev pub IsMasked : ℕ → List ColRef → Type 0
+IsMasked set columns = (k : ℕ) → k < 16 → has set k ≡ list_any (λ x. nat_eq x.rel.0 k) columns

@@ -1,0 +1,17 @@
+//! B-tree indexes: entries in the order of their keys, read by cursors from bounds on (PostgreSQL manual, chapter
+//! Indexes, Index Types, B-Tree). The entries stand in one sorted vector.
+#![tactic(auto)]
+
+mod bounds;
+mod cursors;
+mod entries;
+mod sides;
+mod sorted;
+#[cfg(test)]
+mod tests;
+mod tree;
+
+pub use bounds::{Bound, Probe};
+pub use cursors::{Cursor, EntryRef};
+pub use entries::Entry;
+pub use tree::BTree;

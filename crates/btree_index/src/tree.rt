@@ -1,0 +1,101 @@
+//! The index itself.
+
+ghost use Rattle.std.specs.Prelude.{◌≡◌, ◌∷◌, [], length, filter, All, IfOk, OnOk, OnErr};
+ghost use Rattle.opfamily.specs.KeyOrder.{AreKeyValues};
+ghost use Rattle.btree_index.specs.Bounds.{AreBounds, meets_all};
+ghost use Rattle.btree_index.specs.Tree.{IsEntryOf, IsLawful, with_entries, in_direction};
+
+use crate::bounds::Probe;
+use crate::cursors::Cursor;
+use crate::entries::Entry;
+use crate::sorted::{insert_sorted, merge_sorted, part_of};
+use opfamily::IndexKey;
+use pg_base::{ColNo, Tid};
+use pg_value::Value;
+use std::alloc::{AllocError, Global};
+use std::marker::{Model, PhantomData};
+use std::sync::ledger::Ledger;
+
+/// Entries in the order of their keys, equal ones in that of their rows, which cursors alone give, with a counter of
+/// the index's ledger. Contracts see a `Tree`.
+#[derive(Drop)]
+pub struct BTree<L: Ledger> {
+    keys: Vec<IndexKey>,
+    include: Vec<ColNo>,
+    entries: Vec<Entry>,
+    ledger: PhantomData<L>,
+}
+
+impl<L: Ledger> Model for BTree<L> {
+    ghost use Rattle.btree_index.specs.Tree.{Tree, IsLawful};
+
+    ghost Value = { Tree };
+
+    ghost view = { λ t. record { keys = t.keys.items; include = t.include.items; entries = t.entries.items } };
+
+    ghost invariant = { λ t. IsLawful (record { keys = t.keys.items; include = t.include.items; entries = t.entries.items }) };
+}
+
+impl<L: Ledger> BTree<L> {
+    /// An index without entries.
+    pub fn build(
+        alloc: Global,
+        keys: &[IndexKey],
+        include: &[ColNo],
+    ) -> Result<BTree<L>, AllocError>
+        ensures { IfOk result (λ t. t ≡ record { keys = keys.now; include = include.now; entries = [] }) }
+    {
+        Ok(BTree {
+            keys: Vec::from_slice(alloc, keys)?,
+            include: Vec::from_slice(alloc, include)?,
+            entries: Vec::new(alloc),
+            ledger: PhantomData,
+        })
+    }
+
+    /// The keys, from the left.
+    pub fn keys(&self) -> &[IndexKey]
+        ensures keys { result.now ≡ self.now.keys }
+        ensures lawful { IsLawful self.now }
+    {
+        &self.keys
+    }
+
+    /// The columns that are included, from the left.
+    pub fn include(&self) -> &[ColNo]
+        ensures { result.now ≡ self.now.include }
+    {
+        &self.include
+    }
+
+    /// Adds the entry of a row: a value for each key, NULL or of the kind that the key's class orders, and one for
+    /// each column included. For want of memory the index is as before.
+    pub fn insert(&mut self, key: Vec<Value>, include: Vec<Value>, t: Tid) -> Result<(), AllocError>
+        requires keys { AreKeyValues self.old.keys key.items }
+        requires include { length include.items ≡ length self.old.include }
+        ensures inserted { OnOk result (self.new ≡ with_entries self.old (record { row = t.0; keys = key.items; include = include.items } ∷ [])) }
+        ensures refused { OnErr result (self.new ≡ self.old) }
+    {
+        insert_sorted(&self.keys, &mut self.entries, Entry::new(key, include, t))
+    }
+
+    /// Adds many entries at once: they are sorted and merged with those that are there. For want of memory the index
+    /// is as before.
+    pub fn insert_all(&mut self, added: Vec<Entry>) -> Result<(), AllocError>
+        requires { All (IsEntryOf self.old.keys self.old.include) added.items }
+        ensures inserted { OnOk result (self.new ≡ with_entries self.old added.items) }
+        ensures refused { OnErr result (self.new ≡ self.old) }
+    {
+        merge_sorted(&self.keys, &mut self.entries, added)
+    }
+
+    /// A cursor before the first entry, in its direction, of the part that meets the bounds.
+    pub fn seek<'a>(&'a self, bounds: &[Probe], backward: bool) -> Cursor<'a, L>
+        requires { AreBounds 0 self.now.keys bounds.now }
+        ensures part { result ≡ in_direction backward (filter (λ e. meets_all bounds.now e.keys) self.now.entries) }
+        ensures each { All (IsEntryOf self.now.keys self.now.include) result }
+        ensures lawful { IsLawful self.now }
+    {
+        Cursor::over(part_of(&self.keys, &self.entries, bounds), backward)
+    }
+}

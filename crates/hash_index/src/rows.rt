@@ -1,0 +1,82 @@
+//! Rows with their values, in the order of the values.
+
+ghost use Rattle.std.specs.Prelude.{◌≡◌, ◌+◌, ◌≤◌, ◌∷◌, ◌++◌, [], length, take, drop, filter, true, false};
+ghost use Rattle.std.specs.Ordering.{is_eq};
+ghost use Rattle.pg_value.specs.declared.value.Value.TheVariants.{Null};
+ghost use Rattle.pg_value.specs.Sorting.{IsInOrder, in_order};
+ghost use Rattle.opfamily.specs.KeyOrder.{key_order};
+ghost use Rattle.hash_index.specs.Held.{held_order, IsKnown};
+
+use opfamily::IndexKey;
+use pg_base::Tid;
+use pg_value::Value;
+use std::cmp::Ordering;
+use std::marker::Model;
+
+/// A row with its value.
+#[derive(Debug, Drop)]
+pub(crate) struct Row {
+    value: Value,
+    tid: Tid,
+}
+
+impl Model for Row {
+    ghost use Rattle.hash_index.specs.Held.{Held};
+
+    ghost Value = { Held };
+
+    ghost view = { λ r. record { value = r.value; row = r.tid.0 } };
+}
+
+impl Row {
+    /// The row of this number, with this value.
+    pub(crate) fn new(value: Value, tid: Tid) -> Row
+        ensures { result ≡ record { value = value; row = tid.0 } }
+    {
+        Row { value, tid }
+    }
+
+    /// How it stands to another: by the values, then by the rows.
+    fn order(&self, key: IndexKey, other: &Row) -> Ordering
+        ensures { result ≡ held_order key self.now other.now }
+    {
+        key.compare(&self.value, &other.value)
+            .then(self.tid.cmp(&other.tid))
+    }
+
+    /// How its value stands to another.
+    fn order_to(&self, key: IndexKey, value: &Value) -> Ordering
+        ensures { result ≡ key_order key self.now.value value.now }
+    {
+        key.compare(&self.value, value)
+    }
+}
+
+/// The place behind the rows that do not stand after one.
+pub(crate) fn place_of(key: IndexKey, rows: &[Row], row: &Row) -> usize
+    requires { IsInOrder (held_order key) rows.now }
+    ensures within { result ≤ length rows.now }
+    ensures placed { take result rows.now ++ row.now ∷ drop result rows.now ≡ in_order (held_order key) (rows.now ++ row.now ∷ []) }
+{
+    rows.partition_point(|r| !r.order(key, row).is_gt())
+}
+
+/// Where the rows begin whose values tie with one, and how many there are.
+pub(crate) fn ties(key: IndexKey, rows: &[Row], value: &Value) -> (usize, usize)
+    requires { IsInOrder (held_order key) rows.now }
+    ensures within { result.0 + result.1 ≤ length rows.now }
+    ensures tied { take result.1 (drop result.0 rows.now) ≡ filter (λ r. is_eq (key_order key r.value value.now)) rows.now }
+{
+    let start = rows.partition_point(|r| r.order_to(key, value).is_lt());
+    let reached = &rows[start..];
+    let count = reached.partition_point(|r| r.order_to(key, value).is_le());
+    (start, count)
+}
+
+/// Whether a value is not NULL.
+pub(crate) fn is_known(value: &Value) -> bool
+    ensures known { result ≡ true → IsKnown value.now }
+    ensures null { result ≡ false → value.now ≡ Null }
+{
+    !matches!(value, Value::Null)
+}

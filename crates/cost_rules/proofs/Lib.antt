@@ -1,0 +1,3 @@
+pub mod PowerLemmas
+pub mod RisingLemmas
+pub mod CapLemmas

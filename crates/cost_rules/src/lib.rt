@@ -1,0 +1,24 @@
+//! The rules of costs as arithmetic on numbers: rows, pages, entries and operators go in, costs come out. A cost unit
+//! is 1/400 of a sequential page.
+#![tactic(auto)]
+
+mod joins;
+mod laws;
+mod pair;
+mod parameters;
+mod powers;
+mod scans;
+#[cfg(test)]
+mod tests;
+
+pub use joins::{merge, nest, price, sort};
+pub use laws::{capped_children, least_powers, rising_costs};
+pub use pair::Pair;
+pub use parameters::{
+    BITMAP_CHILD, ENTRIES_PER_PAGE, HASH_DESCENT, INDEX_TUPLE, LEVEL, MOST_COST, MOST_ESTIMATE,
+    OPERATOR, RANDOM_PAGE, SEQUENTIAL_PAGE, TUPLE,
+};
+pub use powers::log_up;
+pub use scans::{
+    bitmap_scan, btree_descent, heap_pages, index_entries, index_pages, index_scan, seq_scan,
+};

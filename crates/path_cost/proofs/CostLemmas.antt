@@ -1,0 +1,76 @@
+-- Operators past what a word holds make a cost that is cut.
+use Rattle.std.proofs.Common.{◌≡◌, ◌<◌, ◌≤◌, ℕ, suc, ◌+◌, ◌-◌, ◌*◌, ◌^◌, ◌&&◌, ◌||◌, min, nat_lt, Bool, true, false, List, [], ◌∷◌, zero, refl, sym, ap, subst, arith, length, drop, mul-le-mul_right, inl, inr}
+use Rattle.std.proofs.lemmas.Grind.{common_steps}
+use Rattle.std.proofs.lemmas.Bool.{cases_lt}
+use Rattle.pg_expr.specs.AtomSets.{contains}
+use Rattle.eq_classes.specs.Clauses.{Clause, Set}
+use Rattle.eq_classes.specs.Listing.{clause_at}
+use Rattle.eq_classes.specs.Parts.{is_base, is_param}
+use Rattle.pg_expr.specs.Columns.{atom_count}
+use Rattle.cost_rules.specs.Costs.{pair, capped, capped_pair, row_cost}
+use Rattle.cost_rules.specs.Scans.{bitmap_scan_cost, heap_pages_of, page_in_order, seq_scan_cost}
+use Rattle.cost_rules.specs.declared.parameters.TheConstants.{MOST_COST, SEQUENTIAL_PAGE}
+use Rattle.path_cost.specs.Costs.{operators}
+use Rattle.path_cost.specs.Estimates.{either, conditions_from, conditions_where}
+use Rattle.path_cost.proofs.KeptLemmas.{where_params, where-from, conditions-at}
+
+once : (r x : ℕ) → 1 ≤ r → x ≤ r * x
+once r x h = grind (arith, common_steps, mul-le-mul_right x h)
+
+-- rows with operators past what a word holds
+pub work-cut : (x r n : ℕ) → 1 ≤ r → capped (x + r * row_cost (min n (2 ^ 64 - 1))) ≡ capped (x + r * row_cost n)
+work-cut x r n some = elim (cases_lt n (2 ^ 64)) [
+  | inl less ↦ ap (λ m. capped (x + r * row_cost m)) (let same : min n (2 ^ 64 - 1) ≡ n = omega (arith, less) in same)
+  | inr more ↦ both (r * row_cost (min n (2 ^ 64 - 1))) (r * row_cost n) (dear (min n (2 ^ 64 - 1)) (omega (arith, more))) (dear n (omega (arith, more)))
+]
+  where
+    both : (a b : ℕ) → MOST_COST ≤ a → MOST_COST ≤ b → capped (x + a) ≡ capped (x + b)
+    both a b h k = omega (arith, h, k)
+
+    dear : (m : ℕ) → 2 ^ 64 - 1 ≤ m → MOST_COST ≤ r * row_cost m
+    dear m h = omega (arith, h, once r (row_cost m) some)
+
+pub seq_cut : (pages rows n : ℕ) → 1 ≤ rows → capped_pair (seq_scan_cost pages rows (min n (2 ^ 64 - 1))) ≡ capped_pair (seq_scan_cost pages rows n)
+seq_cut pages rows n some = ap (pair (capped 0)) (work-cut (pages * SEQUENTIAL_PAGE) rows n some)
+
+pub bitmap_cut : (parts rows pages n : ℕ) → 1 ≤ rows → capped_pair (bitmap_scan_cost parts rows pages (min n (2 ^ 64 - 1))) ≡ capped_pair (bitmap_scan_cost parts rows pages n)
+bitmap_cut parts rows pages n some = ap (pair (capped parts)) (work-cut (parts + heap_pages_of rows pages * page_in_order (heap_pages_of rows pages) pages) rows n some)
+
+-- the operators of the clauses over a relation, and of those of its parameterisation
+pub base_operators : (r : ℕ) (base none : List ℕ) (ks : List Clause) → ((k : ℕ) → contains base k ≡ nat_lt k (length ks) && is_base r (clause_at ks k)) → ((k : ℕ) → contains none k ≡ false) → operators (conditions_from 0 (either base none) ks) ≡ operators (conditions_where (is_base r) ks)
+base_operators r base none ks h g = ap operators (where-from (is_base r) (either base none) ks 0 at)
+  where
+    one : (n m : ℕ) (a x y : Bool) → n < m → x ≡ nat_lt n m && a → y ≡ false → x || y ≡ a
+    one n m a x y lt e f = grind (arith, common_steps, lt, e, f)
+
+    at : (k : ℕ) → k < length ks → either base none (0 + k) ≡ is_base r (clause_at ks k)
+    at k lt = subst (λ m. either base none m ≡ is_base r (clause_at ks k)) (let same : k ≡ 0 + k = omega arith in same) (one k (length ks) (is_base r (clause_at ks k)) (contains base k) (contains none k) lt (h k) (g k))
+
+pub local_operators_are : (r : ℕ) (p : Set) (base param : List ℕ) (ks : List Clause) → ((k : ℕ) → contains base k ≡ nat_lt k (length ks) && is_base r (clause_at ks k)) → ((k : ℕ) → contains param k ≡ nat_lt k (length ks) && is_param r p (clause_at ks k)) → operators (conditions_from 0 (either base param) ks) ≡ operators (conditions_where (λ k. is_base r k || is_param r p k) ks)
+local_operators_are r p base param ks h g = ap operators (where_params r p base param ks h g)
+
+-- operators summed clause by clause
+pub sum-yes : (ks : List Clause) (chosen : ℕ → Bool) (n sum ops next whole : ℕ) → n < length ks → chosen n ≡ true → ops ≡ min (atom_count (clause_at ks n).cond) (2 ^ 64 - 1) → next ≡ min (sum + ops) (2 ^ 64 - 1) → min (sum + operators (conditions_from n chosen (drop n ks))) (2 ^ 64 - 1) ≡ whole → min (next + operators (conditions_from (n + 1) chosen (drop (n + 1) ks))) (2 ^ 64 - 1) ≡ whole
+sum-yes ks chosen n sum ops next whole lt e f g h =
+    cut-sum sum ops next whole (operators (conditions_from n chosen (drop n ks))) (atom_count (clause_at ks n).cond) (operators (conditions_from (n + 1) chosen (drop (n + 1) ks))) (ap operators (conditions-at ks chosen n true lt e)) f g h
+  where
+    cut-sum : (sum ops next whole all a rest : ℕ) → all ≡ a + rest → ops ≡ min a (2 ^ 64 - 1) → next ≡ min (sum + ops) (2 ^ 64 - 1) → min (sum + all) (2 ^ 64 - 1) ≡ whole → min (next + rest) (2 ^ 64 - 1) ≡ whole
+    cut-sum sum ops next whole all a rest i f g h = omega (arith, i, f, g, h)
+
+pub sum-no : (ks : List Clause) (chosen : ℕ → Bool) (n sum next whole : ℕ) → n < length ks → chosen n ≡ false → next ≡ sum → min (sum + operators (conditions_from n chosen (drop n ks))) (2 ^ 64 - 1) ≡ whole → min (next + operators (conditions_from (n + 1) chosen (drop (n + 1) ks))) (2 ^ 64 - 1) ≡ whole
+sum-no ks chosen n sum next whole lt e g h =
+    subst (λ x. min (next + operators x) (2 ^ 64 - 1) ≡ whole) (conditions-at ks chosen n false lt e)
+    (subst (λ m. min (m + operators (conditions_from n chosen (drop n ks))) (2 ^ 64 - 1) ≡ whole) (sym g) h)
+
+none-left : (ks : List Clause) (n : ℕ) → length ks ≤ n → drop n ks ≡ []
+none-left [] zero h = refl
+none-left [] (suc n) h = refl
+none-left (k ∷ ks) zero h = absurd (omega (arith, h))
+none-left (k ∷ ks) (suc n) h = none-left ks n (omega (arith, h))
+
+pub sum-all : (ks : List Clause) (chosen : ℕ → Bool) (n sum whole : ℕ) → length ks ≤ n → sum ≤ 2 ^ 64 - 1 → min (sum + operators (conditions_from n chosen (drop n ks))) (2 ^ 64 - 1) ≡ whole → sum ≡ whole
+sum-all ks chosen n sum whole past fits h =
+    none (operators (conditions_from n chosen (drop n ks))) (ap (λ xs. operators (conditions_from n chosen xs)) (none-left ks n past)) h
+  where
+    none : (rest : ℕ) → rest ≡ 0 → min (sum + rest) (2 ^ 64 - 1) ≡ whole → sum ≡ whole
+    none rest e f = omega (arith, e, f, fits)

@@ -1,0 +1,50 @@
+-- What is known of the columns of a query. The values without statistics are own.
+use Rattle.std.specs.Prelude.{ℕ, ◌&&◌, Bool, false, [], length, min, nat_lt, slice_index_or, All, IsTrue, Option, Some, None}
+use Rattle.pg_base.specs.declared.numbers.TableNo.{TableNo}
+use Rattle.pg_value.specs.declared.columns.Column.{Column}
+use Rattle.pg_value.specs.declared.value.SqlType.{SqlType}
+use Rattle.pg_value.specs.declared.value.SqlType.TheVariants as types
+use Rattle.pg_expr.specs.declared.operand.ColRef.{ColRef}
+use Rattle.pg_expr.specs.Columns.{each_column}
+use Rattle.pg_expr.specs.Cond.{Cond}
+use Rattle.pg_expr.specs.Typed.{IsTyped}
+use Rattle.catalog.specs.Contents.{Contents, IsTable, stats_at, table_at}
+use Rattle.catalog.specs.Range.{Range, relation_at}
+use Rattle.catalog.specs.Statistics.{Statistics}
+use Rattle.catalog.specs.Tables.{rows_of}
+use Rattle.path_cost.specs.declared.shares.TheConstants.{UNKNOWN_DISTINCT}
+
+-- the table of a column's relation
+abbrev pub table_of : Range → ColRef → TableNo
+table_of range x = (relation_at range x.rel).0
+
+-- the column of a relation's table
+abbrev pub column_at : Contents → Range → ColRef → Column
+column_at c range x = slice_index_or (table_at c (table_of range x)).columns x.col.0 (record { typed = types.Bool; not_null = false })
+
+abbrev pub type_in : Contents → Range → ColRef → SqlType
+type_in c range x = (column_at c range x).typed
+
+-- a column is one of a relation's table
+abbrev pub is_column : Contents → Range → ColRef → Bool
+is_column c range x = nat_lt x.rel.0 (length range) && nat_lt x.col.0 (length (table_at c (table_of range x)).columns)
+
+-- each relation is a table of the catalogue
+abbrev pub AreTables : Contents → Range → Type 0
+AreTables c range = All (λ r. IsTable c r.0) range
+
+-- a condition is over the relations: its columns are theirs, and it is well typed
+pub record IsOver (c : Contents) (range : Range) (e : Cond) : Type 0 where
+  pub columns : IsTrue (each_column (is_column c range) e)
+  pub typed : IsTyped (type_in c range) e
+
+-- what is known of a column; without statistics it has at most 200 different values, and no NULLs
+abbrev pub known : Contents → Range → ColRef → Option Statistics
+known c range x = stats_at c (table_of range x) x.col
+
+abbrev pub stats_or : ℕ → Option Statistics → Statistics
+stats_or rows None = record { distinct = min UNKNOWN_DISTINCT rows; nulls = 0; common = []; histogram = [] }
+stats_or rows (Some s) = s
+
+abbrev pub stats_of : Contents → Range → ColRef → Statistics
+stats_of c range x = stats_or (rows_of c (table_of range x)) (known c range x)

@@ -1,0 +1,6 @@
+pub mod Columns
+pub mod Selectivity
+pub mod Known
+pub mod Relations
+pub mod Estimates
+pub mod Costs

@@ -1,0 +1,143 @@
+-- The share of rows at which a condition is taken to be True, in parts per 10^9. Own, in the manner of PostgreSQL's
+-- var_eq_const, scalarineqsel, eqjoinsel and clauselist_selectivity.
+use Rattle.std.specs.Prelude.{ℕ, ◌+◌, ◌-◌, ◌*◌, ◌/◌, max, Bool, cond, nat_eq, List, length, find, sum_by, count_by, Option, Some, None}
+use Rattle.std.specs.Option.{option_map}
+use Rattle.pg_value.specs.declared.columns.Column.{Column}
+use Rattle.pg_value.specs.declared.operators.Op.{Op}
+use Rattle.pg_value.specs.declared.operators.Op.TheVariants.{Lt, Le, Eq, Ge, Gt, Ne, AbsEq}
+use Rattle.pg_value.specs.declared.value.Value.{Value}
+use Rattle.pg_value.specs.declared.value.Value.TheVariants.{Null}
+use Rattle.pg_value.specs.Truths.{truth_of_op, commutator_of}
+use Rattle.pg_expr.specs.declared.operand.ColRef.{ColRef}
+use Rattle.pg_expr.specs.declared.operand.Operand.{Operand}
+use Rattle.pg_expr.specs.declared.operand.Operand.TheVariants.{Col, Lit}
+use Rattle.pg_expr.specs.Cond.{Cond, compare, is_null, is_not_null, bool_col, const, all_of, any_of, negation, Conds, no_conds, cond_and}
+use Rattle.catalog.specs.Contents.{Contents}
+use Rattle.catalog.specs.Range.{Range}
+use Rattle.catalog.specs.Statistics.{Common, Statistics, shares}
+use Rattle.catalog.specs.declared.limits.TheConstants.{WHOLE_SHARE}
+use Rattle.eq_classes.specs.Holding.{is_true}
+use Rattle.path_cost.specs.declared.shares.TheConstants.{ALL_ROWS, THIRD, HALF, UNKNOWN_NULLS, PER_SHARE}
+use Rattle.path_cost.specs.Columns.{column_at, known, stats_of}
+
+-- a comparison of two values is True
+abbrev pub holds : Op → Value → Value → Bool
+holds op a b = is_true (truth_of_op op a b)
+
+-- the share of rows without NULL, and that of neither NULL nor a common value, in parts per million
+abbrev pub valued : Statistics → ℕ
+valued s = WHOLE_SHARE - s.nulls
+
+abbrev pub uncommon : Statistics → ℕ
+uncommon s = WHOLE_SHARE - s.nulls - shares s.common
+
+-- column = literal: the share of the common value, else an even part of what is not common
+abbrev pub equal_by : Statistics → Option ℕ → ℕ
+equal_by s (Some share) = PER_SHARE * share
+equal_by s None = PER_SHARE * uncommon s / max 1 (s.distinct - length s.common)
+
+abbrev pub equal_to : Statistics → Value → ℕ
+equal_to s v = equal_by s (option_map (λ (p : Common). p.1) (find (λ (p : Common). holds Eq p.0 v) s.common))
+
+-- how many bounds a literal has below it, for < and >=, or not above it, for <= and >
+abbrev pub passing : Op → Op
+passing Lt = Lt
+passing Ge = Lt
+passing _ = Le
+
+abbrev pub count_holding : Op → List Value → Value → ℕ
+count_holding op histogram v = count_by (λ b. holds op b v) histogram
+
+abbrev pub bounds_passed : Op → List Value → Value → ℕ
+bounds_passed op histogram v = count_holding (passing op) histogram v
+
+-- half steps from the first bound, where j of k bounds are passed: none, all, or to the middle of a step
+abbrev pub half_steps : ℕ → ℕ → ℕ
+half_steps k j = cond (nat_eq j 0) 0 (cond (nat_eq j k) (2 * (k - 1)) (2 * j - 1))
+
+abbrev pub half_steps_met : Op → ℕ → ℕ → ℕ
+half_steps_met Lt k j = half_steps k j
+half_steps_met Le k j = half_steps k j
+half_steps_met _ k j = 2 * (k - 1) - half_steps k j
+
+-- the shares of the common values that meet a comparison
+abbrev pub shares_met : Op → List Common → Value → ℕ
+shares_met op common v = sum_by (λ (p : Common). cond (holds op p.0 v) p.1 0) common
+
+-- an inequality: by the histogram where there is one, else a third
+abbrev pub inequality : Op → Statistics → Value → ℕ
+inequality op s v =
+    let k = length s.histogram in
+    cond (nat_eq k 0) THIRD (PER_SHARE * shares_met op s.common v + PER_SHARE * uncommon s * half_steps_met op k (bounds_passed op s.histogram v) / (2 * (k - 1)))
+
+-- a column and a literal that is not NULL
+abbrev pub column_literal : Op → Statistics → Value → ℕ
+column_literal Eq s v = equal_to s v
+column_literal AbsEq s v = PER_SHARE * valued s / s.distinct
+column_literal Ne s v = PER_SHARE * valued s - equal_to s v
+column_literal Lt s v = inequality Lt s v
+column_literal Le s v = inequality Le s v
+column_literal Ge s v = inequality Ge s v
+column_literal Gt s v = inequality Gt s v
+column_literal op s v = THIRD
+
+-- two columns
+abbrev pub equal_columns : Statistics → Statistics → ℕ
+equal_columns s t = ALL_ROWS * valued s * valued t / (WHOLE_SHARE * WHOLE_SHARE * max s.distinct t.distinct)
+
+abbrev pub two_columns : Op → Statistics → Statistics → ℕ
+two_columns Eq s t = equal_columns s t
+two_columns AbsEq s t = equal_columns s t
+two_columns Ne s t = ALL_ROWS - equal_columns s t
+two_columns op s t = THIRD
+
+-- all rows or none
+abbrev pub all_or_none : Bool → ℕ
+all_or_none b = cond b ALL_ROWS 0
+
+-- IS NULL: none of a NOT NULL column; the share of NULLs where it is known; else one in 200
+abbrev pub null_by : Column → Option Statistics → ℕ
+null_by column (Some s) = cond column.not_null 0 (PER_SHARE * s.nulls)
+null_by column None = cond column.not_null 0 UNKNOWN_NULLS
+
+-- AND and OR of two shares
+abbrev pub and_share : ℕ → ℕ → ℕ
+and_share a b = a * b / ALL_ROWS
+
+abbrev pub or_share : ℕ → ℕ → ℕ
+or_share a b = a + b - a * b / ALL_ROWS
+
+module _ (c : Contents) (range : Range) where
+  abbrev pub of_column_and : Op → ColRef → Value → ℕ
+  of_column_and op x Null = 0
+  of_column_and op x v = column_literal op (stats_of c range x) v
+
+  abbrev pub of_comparison : Op → Operand → Operand → ℕ
+  of_comparison op (Col x) (Col y) = two_columns op (stats_of c range x) (stats_of c range y)
+  of_comparison op (Col x) (Lit v) = of_column_and op x v
+  of_comparison op (Lit v) (Col x) = of_column_and (commutator_of op) x v
+  of_comparison op (Lit v) (Lit w) = all_or_none (holds op v w)
+
+  abbrev pub of_null : ColRef → ℕ
+  of_null x = null_by (column_at c range x) (known c range x)
+
+  abbrev mutual
+    pub selectivity : Cond → ℕ
+    selectivity (compare op l r) = of_comparison op l r
+    selectivity (is_null x) = of_null x
+    selectivity (is_not_null x) = ALL_ROWS - of_null x
+    selectivity (bool_col x) = HALF
+    selectivity (const t) = all_or_none (is_true t)
+    selectivity (all_of es) = of_all ALL_ROWS es
+    selectivity (any_of es) = of_any 0 es
+    selectivity (negation e) = ALL_ROWS - selectivity e
+
+    -- AND, from the left, after a share
+    pub of_all : ℕ → Conds → ℕ
+    of_all a no_conds = a
+    of_all a (cond_and e es) = of_all (and_share a (selectivity e)) es
+
+    -- OR, from the left, after a share
+    pub of_any : ℕ → Conds → ℕ
+    of_any a no_conds = a
+    of_any a (cond_and e es) = of_any (or_share a (selectivity e)) es

@@ -1,0 +1,131 @@
+//! Estimated rows. Rows are from 1 to 10^12.
+
+ghost use Rattle.std.specs.Prelude.{◌≡◌, ◌≤◌, ◌<◌, ◌^◌, ◌*◌, All, length};
+ghost use Rattle.pg_base.specs.Sets.{has};
+ghost use Rattle.pg_expr.specs.AtomSets.{contains};
+ghost use Rattle.eq_classes.specs.Clauses.{Clause};
+ghost use Rattle.catalog.specs.Contents.{IsTable};
+ghost use Rattle.cost_rules.specs.Costs.{IsEstimate};
+ghost use Rattle.cost_rules.specs.Powers.{clamped};
+ghost use Rattle.path_cost.specs.Columns.{AreTables, IsOver};
+ghost use Rattle.path_cost.specs.Estimates.{either, conditions_from, kept, param_rows, product_rows, relations, set_rows, share_of_rows, table_rows};
+
+use crate::conditions::selectivity;
+use crate::shares::ALL_ROWS;
+use catalog::{Catalog, RangeTable};
+use cost_rules::MOST_ESTIMATE;
+use eq_classes::{Classes, ClauseSet};
+use pg_base::{RelNo, RelSet};
+
+/// A share of some rows, rounded up.
+fn keep(rows: u64, share: u32) -> u64
+    requires rows { rows ≤ 10 ^ 12 }
+    requires share { share ≤ 1_000_000_000 }
+    ensures value { result ≡ share_of_rows rows share }
+    ensures estimate { IsEstimate result }
+{
+    let part = (u128::from(rows) * u128::from(share)).div_ceil(u128::from(ALL_ROWS));
+    part.min(u128::from(MOST_ESTIMATE)).max(1) as u64
+}
+
+/// So many rows after the clauses of two sets, by their numbers.
+pub(crate) fn after(
+    cat: &Catalog,
+    range: &RangeTable,
+    classes: &Classes,
+    rows: u64,
+    one: &ClauseSet,
+    other: &ClauseSet,
+) -> u64
+    requires tables { AreTables cat.now range.now }
+    requires clauses { All (λ (k : Clause). IsOver cat.now range.now k.cond) classes.now.clauses }
+    requires rows { IsEstimate rows }
+    ensures value { result ≡ kept cat.now range.now rows (conditions_from 0 (either one.now other.now) classes.now.clauses) }
+    ensures estimate { IsEstimate result }
+{
+    let mut left = rows;
+    for n in 0..classes.count() {
+        if is_in_either(one, other, n as u16) {
+            left = keep(left, selectivity(cat, range, classes.clause(n as u16)));
+        }
+    }
+    left
+}
+
+/// Whether a clause is in one of two sets.
+pub(crate) fn is_in_either(one: &ClauseSet, other: &ClauseSet, n: u16) -> bool
+    requires { n < 512 }
+    ensures { result ≡ either one.now other.now n }
+{
+    one.has(n) || other.has(n)
+}
+
+/// The rows of a relation with the relations of a parameterisation, after the clauses that it tests then.
+#[tactic(auto, using(crate::proofs::KeptLemmas::where_params))]
+pub fn rows_param(cat: &Catalog, range: &RangeTable, classes: &Classes, r: RelNo, p: RelSet) -> u64
+    requires tables { AreTables cat.now range.now }
+    requires clauses { All (λ (k : Clause). IsOver cat.now range.now k.cond) classes.now.clauses }
+    requires few { length range.now ≤ 16 }
+    requires relation { r.0 < length range.now }
+    ensures rows { result ≡ param_rows cat.now range.now classes.now r.0 (has p.0) }
+    ensures estimate { IsEstimate result }
+{
+    let rows = relation_rows(cat, range, r);
+    let base = classes.base_clauses(r);
+    let param = classes.param_clauses(r, p);
+    after(cat, range, classes, rows, &base, &param)
+}
+
+/// The rows of a relation's table.
+pub(crate) fn relation_rows(cat: &Catalog, range: &RangeTable, r: RelNo) -> u64
+    requires tables { AreTables cat.now range.now }
+    requires relation { r.0 < length range.now }
+    ensures rows { result ≡ table_rows cat.now range.now r.0 }
+    ensures estimate { IsEstimate result }
+{
+    cat.rows(range.items()[r.0 as usize].0)
+}
+
+/// The estimated rows of a set of relations, however they are joined: the product of its relations' rows, then its
+/// clauses by number.
+#[tactic(auto, using(crate::proofs::KeptLemmas::where_all))]
+pub fn rows(cat: &Catalog, range: &RangeTable, classes: &Classes, s: RelSet) -> u64
+    requires tables { AreTables cat.now range.now }
+    requires clauses { All (λ (k : Clause). IsOver cat.now range.now k.cond) classes.now.clauses }
+    requires few { length range.now ≤ 16 }
+    ensures rows { result ≡ set_rows cat.now range.now classes.now (has s.0) }
+    ensures estimate { IsEstimate result }
+{
+    let product = product(cat, range, s);
+    let all = classes.all_clauses(s);
+    after(cat, range, classes, product, &all, &ClauseSet::empty())
+}
+
+/// The rows of the product of a set's relations.
+fn product(cat: &Catalog, range: &RangeTable, s: RelSet) -> u64
+    requires tables { AreTables cat.now range.now }
+    requires few { length range.now ≤ 16 }
+    ensures rows { result ≡ product_rows cat.now range.now (relations range.now (has s.0)) }
+    ensures estimate { IsEstimate result }
+{
+    let mut rows = 1;
+    for n in 0..range.items().len() {
+        let r = RelNo(n as u8);
+        if s.has(r) {
+            rows = times(rows, relation_rows(cat, range, r));
+        }
+    }
+    rows
+}
+
+/// A product of rows.
+fn times(a: u64, b: u64) -> u64
+    requires left { IsEstimate a }
+    requires right { IsEstimate b }
+    ensures value { result ≡ clamped (a * b) }
+    ensures estimate { IsEstimate result }
+{
+    (u128::from(a) * u128::from(b))
+        .min(u128::from(MOST_ESTIMATE))
+        .max(1) as u64
+}

@@ -1,0 +1,95 @@
+//! Costs of scans over a catalogue, a query's relations and its clauses. Each cost is cut to at most 10^18.
+
+ghost use Rattle.std.specs.Prelude.{◌≡◌, ◌≤◌, ◌<◌, ◌^◌, ◌-◌, All, length, min};
+ghost use Rattle.pg_base.specs.Sets.{has};
+ghost use Rattle.pg_expr.specs.AtomSets.{contains};
+ghost use Rattle.eq_classes.specs.Clauses.{Clause};
+ghost use Rattle.cost_rules.specs.declared.parameters.TheConstants.{MOST_COST};
+ghost use Rattle.cost_rules.specs.Costs.{IsCost, IsEstimate, capped_pair};
+ghost use Rattle.path_cost.specs.Columns.{AreTables, IsOver};
+ghost use Rattle.path_cost.specs.Costs.{bitmap_cost, operators, seq_cost};
+ghost use Rattle.path_cost.specs.Estimates.{either, conditions_from, table_pages};
+
+use crate::estimates::{after, is_in_either, relation_rows};
+use catalog::{Catalog, RangeTable};
+use cost_rules::{Pair, bitmap_scan, seq_scan};
+use eq_classes::{Classes, ClauseSet};
+use pg_base::{RelNo, RelSet};
+use pg_expr::ops;
+
+/// The operators of the clauses of two sets. A number past 2^64 - 1 is answered as 2^64 - 1.
+fn operators_of(classes: &Classes, one: &ClauseSet, other: &ClauseSet) -> u64
+    ensures { result ≡ min (operators (conditions_from 0 (either one.now other.now) classes.now.clauses)) (2 ^ 64 - 1) }
+{
+    let mut sum: u64 = 0;
+    for n in 0..classes.count() {
+        if is_in_either(one, other, n as u16) {
+            sum = sum.saturating_add(ops(classes.clause(n as u16)));
+        }
+    }
+    sum
+}
+
+/// The pages of a relation's table.
+fn relation_pages(cat: &Catalog, range: &RangeTable, r: RelNo) -> u64
+    requires tables { AreTables cat.now range.now }
+    requires relation { r.0 < length range.now }
+    ensures pages { result ≡ table_pages cat.now range.now r.0 }
+    ensures estimate { IsEstimate result }
+{
+    cat.pages(range.items()[r.0 as usize].0)
+}
+
+/// A sequential scan: every page, and each row with the clauses over the relation alone.
+#[tactic(auto, using(crate::proofs::CostLemmas::seq_cut, crate::proofs::CostLemmas::base_operators))]
+pub fn seq(cat: &Catalog, range: &RangeTable, classes: &Classes, r: RelNo) -> Pair
+    requires tables { AreTables cat.now range.now }
+    requires few { length range.now ≤ 16 }
+    requires relation { r.0 < length range.now }
+    ensures rule { result ≡ capped_pair (seq_cost cat.now range.now classes.now r.0) }
+    ensures cost { IsCost result }
+{
+    let base = classes.base_clauses(r);
+    let ops = operators_of(classes, &base, &ClauseSet::empty());
+    seq_scan(
+        relation_pages(cat, range, r),
+        relation_rows(cat, range, r),
+        ops,
+    )
+}
+
+/// A bitmap scan over the parts of its indexes, together at most 10^18: the rows are those after the clauses that it
+/// uses, the heap pages come in order, and each row is tested by all clauses of the relation and of the
+/// parameterisation.
+#[tactic(auto, using(crate::proofs::CostLemmas::bitmap_cut, crate::proofs::CostLemmas::local_operators_are, crate::proofs::KeptLemmas::used_alone))]
+pub fn bitmap(
+    cat: &Catalog,
+    range: &RangeTable,
+    classes: &Classes,
+    r: RelNo,
+    p: RelSet,
+    used: &ClauseSet,
+    parts: u64,
+) -> Pair
+    requires tables { AreTables cat.now range.now }
+    requires clauses { All (λ (k : Clause). IsOver cat.now range.now k.cond) classes.now.clauses }
+    requires few { length range.now ≤ 16 }
+    requires relation { r.0 < length range.now }
+    requires parts { parts ≤ MOST_COST }
+    ensures rule { result ≡ capped_pair (bitmap_cost cat.now range.now classes.now r.0 (has p.0) (contains used.now) parts) }
+    ensures cost { IsCost result }
+    ensures part_of { parts ≤ result.total }
+{
+    let rows = after(
+        cat,
+        range,
+        classes,
+        relation_rows(cat, range, r),
+        used,
+        &ClauseSet::empty(),
+    );
+    let base = classes.base_clauses(r);
+    let param = classes.param_clauses(r, p);
+    let ops = operators_of(classes, &base, &param);
+    bitmap_scan(parts, rows, relation_pages(cat, range, r), ops)
+}

@@ -5,22 +5,27 @@ use Rattle.pg_value.specs.declared.value.Value.TheVariants.{Null}
 use Rattle.pg_expr.specs.declared.operand.ColRef.{ColRef}
 use Rattle.heap.specs.Stored.{Values}
 use Rattle.row_text.specs.Texts.{row_line, count_line}
-use Rattle.sql_query.specs.declared.prepared.Prepared.{Prepared}
-use Rattle.answer.specs.Worlds.{World}
-use Rattle.answer.specs.Queries.{meaning}
+use Rattle.sql_query.specs.Queries.{Query}
+use Rattle.sql_query.specs.Worlds.{World}
+use Rattle.sql_query.specs.Tuples.{Tuple, no_rows}
+use Rattle.sql_query.specs.Meaning.{meaning}
 use Rattle.answer.specs.Plans.{Plan, IsFinished, IsAdmissible, IsLeast, run}
 use Rattle.answer.specs.Texts.{plan_text, tuples_text}
 
+-- all tuples of a plan
+abbrev pub tuples_of : World → Query → Plan → List Tuple
+tuples_of w q p = run w q p (no_rows q)
+
 -- the plan's text, the rows that it gives in their order, and their number
-abbrev pub answer_text : World → Prepared → Plan → List ℕ
-answer_text w q p = plan_text w q p ++ (tuples_text w q (run w q p) ++ count_line (length (run w q p)))
+abbrev pub answer_text : World → Query → Plan → List ℕ
+answer_text w q p = plan_text w.contents q p ++ (tuples_text w q (tuples_of w q p) ++ count_line (length (tuples_of w q p)))
 
 -- by a plan of all relations that no admissible one undercuts, and whose tuples as a bag are the query's meaning, the answer
-pub record IsAnswer (w : World) (q : Prepared) (p : Plan) (bytes : List ℕ) : Type 0 where
+pub record IsAnswer (w : World) (q : Query) (p : Plan) (bytes : List ℕ) : Type 0 where
   pub finished : IsFinished q p
-  pub admissible : IsAdmissible w q p
-  pub least : IsLeast w q p
-  pub meant : IsPermutation (run w q p) (meaning w q)
+  pub admissible : IsAdmissible w.contents q p
+  pub least : IsLeast w.contents q p
+  pub meant : IsPermutation (tuples_of w q p) (meaning w q)
   pub printed : bytes ≡ answer_text w q p
 
 -- the values of these columns of a row

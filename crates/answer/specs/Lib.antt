@@ -1,5 +1,3 @@
-pub mod Worlds
-pub mod Queries
 pub mod Plans
 pub mod Texts
 pub mod Answers

@@ -4,8 +4,6 @@ use Rattle.std.specs.declared.option.Option.{Option}
 use Rattle.std.specs.Io.KnownBytes.{Appends}
 use Rattle.pg_base.specs.Causes.{Rose}
 use Rattle.pg_base.specs.Writing.{AppendsPrefix}
-use Rattle.answer.specs.declared.stop.Stop.{Stop}
-use Rattle.answer.specs.declared.stop.Stop.TheVariants.{Write}
 
 -- from one state of a sink and its pending bytes to a later one, these bytes were put behind them
 pub record HasPut (old new : Option (List ℕ)) (pending later bytes : List ℕ) : Type 0 where
@@ -17,7 +15,7 @@ pub record HasPut (old new : Option (List ℕ)) (pending later bytes : List ℕ)
 abbrev pub Puts : {E : Type 0} → Option (List ℕ) → Option (List ℕ) → List ℕ → List ℕ → Result (Unit {0}) E → List ℕ → Type 0
 Puts old new pending later result bytes = MatchResult result (λ _. HasPut old new pending later bytes) (λ _. AppendsPrefix old new (pending ++ bytes))
 
--- a stop for writing has its cause in the sink's faults, and nothing else raises them
-pub record HasWriteCause (before now : ℕ) (result : Result (Unit {0}) Stop) : Type 0 where
-  pub write : IsErrOf result Write → Rose before now
-  pub quiet : (IsErrOf result Write → ⊥) → now ≡ before
+-- the stop for writing has its cause in the sink's faults, and nothing else raises them
+pub record HasWriteCause {T E : Type 0} (stop : E) (before now : ℕ) (result : Result T E) : Type 0 where
+  pub write : IsErrOf result stop → Rose before now
+  pub quiet : (IsErrOf result stop → ⊥) → now ≡ before

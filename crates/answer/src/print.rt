@@ -1,49 +1,52 @@
 //! The answer to a SELECT, written to out.
 
-ghost use Rattle.std.specs.Prelude.{◌≡◌, ◌+◌, ◌<◌, ◌≤◌, ◌++◌, All, OnOk, OnErr, length};
+ghost use Rattle.std.specs.Prelude.{◌≡◌, ◌+◌, ◌<◌, ◌≤◌, ◌++◌, [], All, OnOk, OnErr, length};
 ghost use Rattle.std.specs.Io.KnownBytes.{Appends};
 ghost use Rattle.pg_base.specs.Writing.{AppendsPrefix};
 ghost use Rattle.row_text.specs.Texts.{count_line};
 ghost use Rattle.sql_query.specs.WellBound.{IsWellBound};
-ghost use Rattle.answer.specs.Worlds.{IsWorld, world};
+ghost use Rattle.sql_query.specs.Worlds.{IsWorld, world};
+ghost use Rattle.sql_query.specs.Tuples.{no_rows};
 ghost use Rattle.answer.specs.Plans.{first_scan, fetches as fetches_of};
 ghost use Rattle.answer.specs.Answers.{IsAnswer, answer_text, picked_text};
 ghost use Rattle.answer.specs.Putting.{HasWriteCause};
+ghost use Rattle.answer.specs.declared.stop.Stop.TheVariants.{Write};
 
 use crate::plan_line::plan_line;
 use crate::put::{flush, put};
 use crate::rows::put_rows;
 use crate::stop::Stop;
 use catalog::Catalog;
-use heap::Heap;
+use heap::{Counters, Heap};
 use pg_base::{Sink, Steps};
 use pg_expr::ColRef;
 use row_text::count_line;
 use sql_query::Prepared;
 use std::alloc::Global;
-use std::sync::ledger::Ledger;
 
-/// Prints the answer to a query of one relation, over the heaps of the catalogue's tables in order of making: the text of
-/// its sequential scan, which no admissible plan undercuts, a line for each row in order of loading, and the number of rows.
-/// At an error out has a prefix of that; at `Write` its count of faults rose.
-pub fn print_answer<L: Ledger, K: Sink>(
+/// Prints the answer to a query of one relation without conditions, over the heaps of the catalogue's tables in order of
+/// making: the text of its sequential scan, which no admissible plan undercuts, a line for each row in order of loading, and
+/// the number of rows. At an error out has a prefix of that; at `Write` its count of faults rose.
+pub fn print_answer<C: Counters, K: Sink>(
     alloc: Global,
     cat: &Catalog,
-    heaps: &[Heap<L>],
+    heaps: &[Heap<C>],
     q: &Prepared,
     out: &mut K,
-    fetches: &mut Steps<L>,
+    fetches: &mut Steps<C::Fetches>,
 ) -> Result<(), Stop>
     requires world { IsWorld (world cat.now heaps.now) }
     requires bound { IsWellBound cat.now q.now }
     requires one { length q.now.range ≡ 1 }
+    requires unconditional { q.now.where_all ≡ [] }
     ensures answer { IsAnswer (world cat.now heaps.now) q.now first_scan (answer_text (world cat.now heaps.now) q.now first_scan) }
     ensures ok { OnOk result (Appends (K.held out.old) (K.held out.new) (answer_text (world cat.now heaps.now) q.now first_scan)) }
     ensures err { OnErr result (AppendsPrefix (K.held out.old) (K.held out.new) (answer_text (world cat.now heaps.now) q.now first_scan)) }
-    ensures cause { HasWriteCause (K.faults out.old) (K.faults out.new) result }
-    ensures fetches { OnOk result (fetches.new ≡ fetches.old + fetches_of (world cat.now heaps.now) q.now first_scan) }
-    ensures fewer { fetches.new ≤ fetches.old + fetches_of (world cat.now heaps.now) q.now first_scan }
+    ensures cause { HasWriteCause Write (K.faults out.old) (K.faults out.new) result }
+    ensures fetches { OnOk result (fetches.new ≡ fetches.old + fetches_of (world cat.now heaps.now) q.now first_scan (no_rows q.now)) }
+    ensures fewer { fetches.new ≤ fetches.old + fetches_of (world cat.now heaps.now) q.now first_scan (no_rows q.now) }
 {
+    cat.lawful();
     let table = q.range.items()[0].0;
     let heap = &heaps[table.0 as usize];
     let plan = plan_line(alloc, cat, q)?;
@@ -51,18 +54,18 @@ pub fn print_answer<L: Ledger, K: Sink>(
 }
 
 /// Prints a plan's text, a line for each row of the heap with the values of these columns, and the number of rows.
-fn print_parts<L: Ledger, K: Sink>(
+fn print_parts<C: Counters, K: Sink>(
     alloc: Global,
     plan: Vec<u8>,
-    heap: &Heap<L>,
+    heap: &Heap<C>,
     columns: &[ColRef],
     out: &mut K,
-    fetches: &mut Steps<L>,
+    fetches: &mut Steps<C::Fetches>,
 ) -> Result<(), Stop>
     requires { All (λ c. c.col.0 < length heap.now.columns) columns.now }
     ensures ok { OnOk result (Appends (K.held out.old) (K.held out.new) (plan.items ++ (picked_text columns.now heap.now.rows ++ count_line (length heap.now.rows)))) }
     ensures err { OnErr result (AppendsPrefix (K.held out.old) (K.held out.new) (plan.items ++ (picked_text columns.now heap.now.rows ++ count_line (length heap.now.rows)))) }
-    ensures cause { HasWriteCause (K.faults out.old) (K.faults out.new) result }
+    ensures cause { HasWriteCause Write (K.faults out.old) (K.faults out.new) result }
     ensures fetches { OnOk result (fetches.new ≡ fetches.old + length heap.now.rows) }
     ensures fewer { fetches.new ≤ fetches.old + length heap.now.rows }
 {

@@ -4,6 +4,7 @@ ghost use Rattle.std.specs.Prelude.{◌≡◌, ◌++◌, OnOk, OnErr};
 ghost use Rattle.std.specs.Io.KnownBytes.{Appends};
 ghost use Rattle.pg_base.specs.Writing.{AppendsPrefix};
 ghost use Rattle.answer.specs.Putting.{Puts, HasWriteCause};
+ghost use Rattle.answer.specs.declared.stop.Stop.TheVariants.{Write};
 
 use crate::stop::Stop;
 use pg_base::{Sink, write_all};
@@ -14,7 +15,7 @@ const ENOUGH: usize = 8192;
 /// Puts these bytes behind the pending ones, and writes all that is pending once it is enough.
 pub(crate) fn put<K: Sink>(out: &mut K, pending: &mut Vec<u8>, bytes: &[u8]) -> Result<(), Stop>
     ensures puts { Puts (K.held out.old) (K.held out.new) pending.old.items pending.new.items result bytes.now }
-    ensures cause { HasWriteCause (K.faults out.old) (K.faults out.new) result }
+    ensures cause { HasWriteCause Write (K.faults out.old) (K.faults out.new) result }
 {
     pending.extend_from_slice(bytes)?;
     if pending.len() >= ENOUGH {
@@ -28,7 +29,7 @@ pub(crate) fn put<K: Sink>(out: &mut K, pending: &mut Vec<u8>, bytes: &[u8]) -> 
 pub(crate) fn flush<K: Sink>(out: &mut K, pending: &[u8]) -> Result<(), Stop>
     ensures ok { OnOk result (Appends (K.held out.old) (K.held out.new) pending.now) }
     ensures err { OnErr result (AppendsPrefix (K.held out.old) (K.held out.new) pending.now) }
-    ensures cause { HasWriteCause (K.faults out.old) (K.faults out.new) result }
+    ensures cause { HasWriteCause Write (K.faults out.old) (K.faults out.new) result }
 {
     write_all(out, pending)?;
     Ok(())

@@ -2,15 +2,15 @@
 
 ghost use Rattle.std.specs.Prelude.{◌≡◌, ◌∷◌, ◌<◌, [], length, true, IfOk};
 ghost use Rattle.catalog.specs.Contents.{table_at};
-ghost use Rattle.catalog.specs.Names.{begins_name};
+ghost use Rattle.pg_base.specs.Names.{begins_name};
 ghost use Rattle.sql_query.specs.WellBound.{IsWellBound};
-ghost use Rattle.answer.specs.Worlds.{Holds};
+ghost use Rattle.sql_query.specs.Worlds.{Holds};
 
 use crate::{Stop, print_answer};
 use catalog::{Catalog, RangeTable};
-use heap::Heap;
+use heap::{Counters, Counting, Heap};
 use pg_base::{ColNo, MemSink, RelNo, Steps, TableNo};
-use pg_expr::ColRef;
+use pg_expr::{ColRef, Exprs};
 use pg_value::{Bytes, Column, Columns, SqlType};
 use sql_query::{ColList, Prepared};
 use std::alloc::{AllocError, Global};
@@ -31,10 +31,10 @@ struct Printed {
 fn answer(alloc: Global, block: &[u8], alias: u8, fails: &[u64]) -> Result<Printed, AllocError>
     requires { begins_name alias ≡ true }
 {
-    answer_over::<Brand>(alloc, Blank::new(1), block, alias, fails)
+    answer_over::<Brand, Brand>(alloc, Blank::new(1), block, alias, fails)
 }
 
-fn answer_over<L: Ledger>(
+fn answer_over<L: Ledger, M: Ledger>(
     alloc: Global,
     blank: Blank,
     block: &[u8],
@@ -47,7 +47,7 @@ fn answer_over<L: Ledger>(
     requires alias { begins_name alias ≡ true }
 {
     let mut steps = Steps::<L>::new(blank);
-    let heap = heap_of::<L>(alloc, block)?;
+    let heap = heap_of::<Counting<L, M>>(alloc, block)?;
     let catalog = catalog_of(alloc, &heap)?;
     let query = query_of(alloc, &catalog, alias)?;
     let mut heaps = Vec::new(alloc);
@@ -61,7 +61,7 @@ fn answer_over<L: Ledger>(
     })
 }
 
-fn heap_of<L: Ledger>(alloc: Global, block: &[u8]) -> Result<Heap<L>, AllocError>
+fn heap_of<C: Counters>(alloc: Global, block: &[u8]) -> Result<Heap<C>, AllocError>
     ensures { IfOk result (λ h. length h.columns ≡ 3) }
 {
     let columns = vec![in alloc;
@@ -69,7 +69,7 @@ fn heap_of<L: Ledger>(alloc: Global, block: &[u8]) -> Result<Heap<L>, AllocError
         optional(SqlType::Text),
         optional(SqlType::Bool),
     ]?;
-    let mut heap = Heap::<L>::new(alloc, Columns::from_vec(columns));
+    let mut heap = Heap::<C>::new(alloc, Columns::from_vec(columns));
     match heap.load(block) {
         Ok(_) => Ok(heap),
         Err(_) => Err(AllocError),
@@ -101,7 +101,7 @@ fn three_names(alloc: Global) -> Result<Vec<Bytes>, AllocError>
     Ok(names)
 }
 
-fn catalog_of<L: Ledger>(alloc: Global, heap: &Heap<L>) -> Result<Catalog, AllocError>
+fn catalog_of<C: Counters>(alloc: Global, heap: &Heap<C>) -> Result<Catalog, AllocError>
     requires { length heap.now.columns ≡ 3 }
     ensures one { IfOk result (λ c. length c.tables ≡ 1) }
     ensures holds { IfOk result (λ c. Holds (table_at c (record { 0 = 0 })) heap.now) }
@@ -143,6 +143,7 @@ fn query_of(alloc: Global, catalog: &Catalog, alias: u8) -> Result<Prepared, All
     requires alias { begins_name alias ≡ true }
     ensures bound { IfOk result (λ q. IsWellBound catalog.now q) }
     ensures one { IfOk result (λ q. length q.range ≡ 1) }
+    ensures unconditional { IfOk result (λ q. q.where_all ≡ []) }
 {
     let mut relations = Vec::new(alloc);
     relations.push((TableNo(0), name(alloc, alias)?))?;
@@ -152,6 +153,7 @@ fn query_of(alloc: Global, catalog: &Catalog, alias: u8) -> Result<Prepared, All
         range: RangeTable::from_vec(relations),
         select,
         used,
+        where_all: Exprs::from_vec(Vec::new(alloc)),
     })
 }
 

@@ -4,7 +4,6 @@ pub mod Bindings
 pub mod Answered
 pub mod Made
 pub mod Opened
-pub mod CopyHead
 pub mod TokenLaws
 pub mod StatementLaws
 pub mod SoundLaws

@@ -1,30 +1,33 @@
 -- What a statement means is sound.
-use Rattle.std.proofs.Common.{◌≡◌, ℕ, ◌+◌, ◌<◌, ◌≤◌, Bool, true, false, cond, List, [], ◌∷◌, ◌++◌, length, drop, map, refl, zero, suc, sym, ap, ◌∙◌, subst, arith, Option, Some, None, Result, Ok, Err, IfOk, All, append_assoc, position}
+use Rattle.std.proofs.Common.{◌≡◌, ℕ, ◌<◌, ◌≤◌, Bool, true, false, cond, List, [], ◌∷◌, ◌++◌, length, drop, map, refl, sym, ap, ◌∙◌, subst, arith, Option, Some, None, Result, Ok, Err, IfOk, All, append_assoc, position}
 use Rattle.std.specs.Option.{option_map}
 use Rattle.std.specs.Str.{bytes_eq}
 use Rattle.std.proofs.lemmas.List.{length-map, length-drop}
-use Rattle.std.proofs.lemmas.List.Elements.{All-nil, All-cons, All-tail, All-drop}
+use Rattle.std.proofs.lemmas.List.Elements.{All-nil, All-cons, All-tail}
 use Rattle.std.proofs.lemmas.List.Quantifiers.{position-Some}
 use Rattle.std.proofs.lemmas.Option.{slice_get_within}
+use Rattle.pg_base.specs.declared.limits.TheConstants.{MOST_COLUMNS}
 use Rattle.pg_base.specs.declared.faults.Fault.{Fault}
 use Rattle.pg_base.specs.declared.faults.Refusal.{Refusal}
 use Rattle.pg_base.specs.declared.numbers.TableNo.{TableNo}
 use Rattle.pg_value.specs.declared.value.SqlType.{SqlType}
 use Rattle.sql_lex.specs.declared.tokens.Token.{Token}
 use Rattle.sql_lex.specs.Words.{AreWords}
-use Rattle.sql_grammar.specs.Terminals.{Terminal}
-use Rattle.sql_grammar.specs.Syntax.{Nulls, unwritten, not_null, nullable, ColDef, coldef, Statement, empty, create_table, query, copy}
+use Rattle.sql_grammar.specs.Terminals.{Terminal, Ident, token_of, t_name}
+use Rattle.sql_grammar.specs.Syntax.{Mark, Nulls, unwritten, not_null, nullable, ColDef, coldef, Statement, empty, create_table, query, copy}
 use Rattle.sql_grammar.specs.Words.{words_of, words_of_nulls, words_of_coldef, words_of_columns}
 use Rattle.sql_grammar.specs.Faults.{bytes_of}
+use Rattle.sql_grammar.specs.Unique.{token_in}
+use Rattle.sql_grammar.proofs.ExprTrees.{tokens-are}
 use Rattle.sql_grammar.specs.CopyLine.{IsDataStart, after_blanks}
-use Rattle.catalog.specs.Names.{IsName}
+use Rattle.pg_base.specs.Names.{IsName}
 use Rattle.catalog.specs.Contents.{Contents, IsTable, table_names}
 use Rattle.catalog.specs.Tables.{table_named}
 use Rattle.ddl_reader.specs.declared.ddl.Read.{Read}
-use Rattle.ddl_reader.specs.Places.{token_at}
 use Rattle.ddl_reader.specs.Types.{type_named}
-use Rattle.ddl_reader.specs.Columns.{Written, Bound, written, columns_over, bound, bound_by, before_all, bound_all}
-use Rattle.ddl_reader.specs.Tables.{Reading, data_for, table_reading, limited, table_of, null_text, data_of, data_after}
+use Rattle.ddl_reader.specs.Columns.{Written, Bound, written, further, bound, bound_by, before_all, bound_all}
+use Rattle.ddl_reader.specs.Tables.{Reading, data_for, table_reading, limited, table_of, data_of, data_after}
+use Rattle.pg_value.specs.Fields.{null_text}
 use Rattle.ddl_reader.specs.Statements.{Means, IsMeaning}
 use Rattle.ddl_reader.specs.Readings.{reading}
 use Rattle.ddl_reader.specs.Soundness.{IsSound}
@@ -63,40 +66,44 @@ called = all-alike (λ b. b.name) (λ w. w.name) (λ w t. refl)
 put : (ws : List Written) (bs : List Bound) → bound_all ws ≡ Ok bs → ArePlaced ws bs
 put = all-alike (λ b. b.name_at.start) (λ w. w.name_at.start) (λ w t. refl)
 
--- the columns' names begin in the text
-token-within : (most : ℕ) (tokens : List Token) (k : ℕ) → All (λ u. u.start ≤ most) tokens → (token_at tokens k).start ≤ most
-token-within most [] k h = omega arith
-token-within most (t ∷ ts) zero h = h 0 t (omega arith)
-token-within most (t ∷ ts) (suc k) h = token-within most ts k (All-tail (λ u. u.start ≤ most) t ts h)
+-- what holds of each name among some words
+abbrev Holds : (Ident → Type 0) → List Terminal → Type 0
+Holds Q [] = Unit {0}
+Holds Q (w ∷ ws) = ((n : Ident) → w ≡ t_name n → Q n) × Holds Q ws
 
-columns-within : (most : ℕ) (cs : List ColDef) (tokens : List Token) → All (λ u. u.start ≤ most) tokens → All (λ a. a ≤ most) (map (λ w. w.name_at.start) (columns_over cs tokens))
-columns-within most [] tokens h = All-nil (λ a. a ≤ most)
-columns-within most (coldef n t nulls ∷ cs) tokens h =
-    let count = length (words_of_coldef (coldef n t nulls)) + 1 in
-    let rest = columns-within most cs (drop count tokens) (All-drop (λ (u : Token). u.start ≤ most) count tokens h) in
-    All-cons (λ a. a ≤ most) (token_at tokens 0).start _ (token-within most tokens 0 h) rest
+holds-named : (ws : List Terminal) → AreNamed ws → Holds (λ n. IsName (bytes_of n)) ws
+holds-named [] h = tt
+holds-named (w ∷ ws) h = (h.0, holds-named ws h.1)
 
--- the columns' names are names in small letters
-after-nulls : (nulls : Nulls) (rest : List Terminal) → AreNamed (words_of_nulls nulls ++ rest) → AreNamed rest
-after-nulls unwritten rest h = h
-after-nulls not_null rest h = h.1.1
-after-nulls nullable rest h = h.1
+holds-placed : (most : ℕ) (ws : List Terminal) → All (λ u. u.start ≤ most) (map token_in ws) → Holds (λ n. (token_of n).start ≤ most) ws
+holds-placed most [] h = tt
+holds-placed most (w ∷ ws) h = (
+  λ n is. subst (λ (u : Token). u.start ≤ most) (ap token_in is) (h 0 (token_in w) (omega arith)),
+  holds-placed most ws (All-tail (λ u. u.start ≤ most) (token_in w) (map token_in ws) h),
+)
 
-columns-named : (c : ColDef) (cs : List ColDef) (rest : List Terminal) (tokens : List Token) → AreNamed (words_of_coldef c ++ (words_of_columns cs ++ rest)) → All IsName (map (λ w. w.name) (columns_over (c ∷ cs) tokens))
-columns-named (coldef n t nulls) [] rest tokens h = All-cons IsName (bytes_of n) [] (h.0 n refl) (All-nil IsName)
-columns-named (coldef n t nulls) (d ∷ ds) rest tokens h =
-    let later = after-nulls nulls _ h.1.1 in
-    let left = drop (length (words_of_coldef (coldef n t nulls)) + 1) tokens in
-    All-cons IsName (bytes_of n) (map (λ w. w.name) (columns_over (d ∷ ds) left)) (h.0 n refl)
-    (columns-named d ds rest left (subst AreNamed (append_assoc (words_of_coldef d) (words_of_columns ds) rest) later.1))
+-- holds of the columns that are written
+module _ (Q : Ident → Type 0) where
+  after-nulls : (nulls : Nulls) (rest : List Terminal) → Holds Q (words_of_nulls nulls ++ rest) → Holds Q rest
+  after-nulls unwritten rest h = h
+  after-nulls (not_null a b) rest h = h.1.1
+  after-nulls (nullable a) rest h = h.1
+
+  columns-hold : {A : Type 0} (P : A → Type 0) (f : Written → A) → ((n k : Ident) (nulls : Nulls) → Q n → P (f (written (coldef n k nulls)))) → (c : ColDef) (cs : List (Mark × ColDef)) (rest : List Terminal) →
+      Holds Q (words_of_coldef c ++ (words_of_columns cs ++ rest)) → All P (map f (written c ∷ further cs))
+  columns-hold P f is (coldef n k nulls) [] rest h = All-cons P (f (written (coldef n k nulls))) [] (is n k nulls (h.0 n refl)) (All-nil P)
+  columns-hold P f is (coldef n k nulls) ((m, d) ∷ ds) rest h =
+      let later = after-nulls nulls _ h.1.1 in
+      All-cons P (f (written (coldef n k nulls))) (map f (written d ∷ further ds)) (is n k nulls (h.0 n refl))
+      (columns-hold P f is d ds rest (subst (Holds Q) (append_assoc (words_of_coldef d) (words_of_columns ds) rest) later.1))
 
 -- a table that is meant
-few-by : (bs left : List Bound) → drop 16 bs ≡ left → left ≡ [] → length bs ≤ 16
-few-by bs left is none = let len = length-drop 16 bs in let zero-left = ap length (is ∙ none) in omega (arith, len, zero-left)
+few-by : (bs left : List Bound) → drop MOST_COLUMNS bs ≡ left → left ≡ [] → length bs ≤ MOST_COLUMNS
+few-by bs left is none = let len = length-drop MOST_COLUMNS bs in let zero-left = ap length (is ∙ none) in omega (arith, len, zero-left)
 
 module _ (cat : Contents) (text : List ℕ) where
   table-sound : (name : List ℕ) (token : Token) (w : Written) (ws : List Written) (bs : List Bound) → IsName name → All IsName (map (λ v. v.name) (w ∷ ws)) → AreCalled (w ∷ ws) bs →
-      token.start ≤ length text → All (λ a. a ≤ length text) (map (λ v. v.name_at.start) (w ∷ ws)) → ArePlaced (w ∷ ws) bs → length bs ≤ 16 → IsSound cat text (table_reading name token bs)
+      token.start ≤ length text → All (λ a. a ≤ length text) (map (λ v. v.name_at.start) (w ∷ ws)) → ArePlaced (w ∷ ws) bs → length bs ≤ MOST_COLUMNS → IsSound cat text (table_reading name token bs)
   table-sound name token w ws bs named all same here low placed few =
       let names = length-map bs (λ (b : Bound). b.name) in
       let columns = length-map bs (λ (b : Bound). b.column) in
@@ -113,7 +120,7 @@ module _ (cat : Contents) (text : List ℕ) where
         few = omega (arith, columns, few);
       }
 
-  limited-sound : (m r : Reading) (bs left : List Bound) → drop 16 bs ≡ left → (length bs ≤ 16 → IsSound cat text m) → Ok r ≡ limited m left → IsSound cat text r
+  limited-sound : (m r : Reading) (bs left : List Bound) → drop MOST_COLUMNS bs ≡ left → (length bs ≤ MOST_COLUMNS → IsSound cat text m) → Ok r ≡ limited m left → IsSound cat text r
   limited-sound m r bs [] few sound is = let same : m ≡ r = cc in subst (IsSound cat text) same (sound (few-by bs [] few refl))
   limited-sound m r bs (b ∷ left) few sound is = absurd (cc (is))
 
@@ -121,7 +128,7 @@ module _ (cat : Contents) (text : List ℕ) where
       All (λ a. a ≤ length text) (map (λ v. v.name_at.start) (w ∷ ws)) → bound_all (w ∷ ws) ≡ m → Ok r ≡ table_of name token m → IsSound cat text r
   bound-sound name token w ws r (Err f) named all here low is means = absurd (cc (means))
   bound-sound name token w ws r (Ok bs) named all here low is means =
-      limited-sound (table_reading name token bs) r bs (drop 16 bs) refl (λ few. table-sound name token w ws bs named all (called (w ∷ ws) bs is) here low (put (w ∷ ws) bs is) few) means
+      limited-sound (table_reading name token bs) r bs (drop MOST_COLUMNS bs) refl (λ few. table-sound name token w ws bs named all (called (w ∷ ws) bs is) here low (put (w ∷ ws) bs is) few) means
 
   -- data that are meant
   known : (name : List ℕ) (t : TableNo) (o : Option ℕ) → position (bytes_eq name) (table_names cat) ≡ o → option_map (λ n. record { 0 = n }) o ≡ Some t → IsTable cat t
@@ -148,18 +155,21 @@ module _ (cat : Contents) (text : List ℕ) where
       let lf = slice_get_within text (after_blanks text end) 10 begins.0 in
       of-sound name name_at null_at null start r (table_named cat name) refl (omega (arith, lf, begins.1)) means
 
-  statement-sound : (tokens : List Token) (r : Reading) (x : Statement) → All (λ u. u.start ≤ length text) tokens → AreNamed (words_of x) → Means cat text tokens x (Ok r) → IsSound cat text r
-  statement-sound tokens r (empty e) starts named means = absurd means
-  statement-sound tokens r (query q e) starts named means = absurd means
-  statement-sound tokens r (copy n null) starts named (start, begins, means) = data-sound (bytes_of n) _ _ null _ r start begins means
-  statement-sound tokens r (create_table n c cs e) starts named means =
-      bound-sound (bytes_of n) (token_at tokens 2) (written c (drop 4 tokens)) _ r _ (named.1.1.0 n refl) (columns-named c cs _ (drop 4 tokens) named.1.1.1.1)
-      (token-within (length text) tokens 2 starts) (columns-within (length text) (c ∷ cs) (drop 4 tokens) (All-drop (λ (u : Token). u.start ≤ length text) 4 tokens starts)) refl means
+  statement-sound : (r : Reading) (x : Statement) → Holds (λ n. IsName (bytes_of n)) (words_of x) → Holds (λ n. (token_of n).start ≤ length text) (words_of x) → Means cat text x (Ok r) → IsSound cat text r
+  statement-sound r (empty e) named placed means = absurd means
+  statement-sound r (query q e) named placed means = absurd means
+  statement-sound r (copy k n null) named placed (start, begins, means) = data-sound (bytes_of n) _ _ null.value _ r start begins means
+  statement-sound r (create_table k t n o c cs m e) named placed means =
+      bound-sound (bytes_of n) (token_of n) (written c) (further cs) r _ (named.1.1.0 n refl) (columns-hold _ IsName (λ w. w.name) (λ i j nulls h. h) c cs _ named.1.1.1.1)
+      (placed.1.1.0 n refl) (columns-hold _ (λ a. a ≤ length text) (λ w. w.name_at.start) (λ i j nulls h. h) c cs _ placed.1.1.1.1) refl means
 
   meaning-sound : (tokens : List Token) (from : ℕ) (r : Reading) → AreWords text from tokens → IsMeaning cat text tokens (Ok r) → IsSound cat text r
   meaning-sound tokens from r w m =
-      let x = m.whole.statement in
-      statement-sound tokens r x.0 (starts-within text from tokens w) (subst AreNamed (sym x.2) (named-from text from tokens 0 w m.whole.within)) (m.means x.0 x.2)
+      let x = m.statement in
+      let words = m.spelled.words in
+      let named = subst AreNamed (sym words) (named-from text from tokens 0 w m.spelled.limits) in
+      let placed = subst (All (λ u. u.start ≤ length text)) (sym (tokens-are (words_of x) text tokens words)) (starts-within text from tokens w) in
+      statement-sound r x (holds-named (words_of x) named) (holds-placed (length text) (words_of x) placed) m.means
 
   -- a statement that is read
   pub sound-as : (tokens : List Token) (from : ℕ) (r : Result Read Refusal) → AreWords text from tokens → IfOk r (λ v. IsMeaning cat text tokens (Ok (reading v))) → IfOk r (λ v. IsSound cat text (reading v))

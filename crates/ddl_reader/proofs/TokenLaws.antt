@@ -1,5 +1,5 @@
 -- The tokens of a statement.
-use Rattle.std.proofs.Common.{◌≡◌, ℕ, ◌<◌, ◌≤◌, Bool, true, false, List, [], ◌∷◌, length, All, subst, sym, MatchBool, arith}
+use Rattle.std.proofs.Common.{◌≡◌, ℕ, ◌-◌, ◌<◌, ◌≤◌, Bool, true, false, List, [], ◌∷◌, ◌++◌, length, slice_index_or, All, refl, ap, subst, sym, MatchBool, arith}
 use Rattle.std.proofs.lemmas.List.Elements.{All-cons, All-nil}
 use Rattle.sql_lex.specs.declared.tokens.Token.{Token}
 use Rattle.sql_lex.specs.Words.{AreWords, IsNext, is_last}
@@ -25,3 +25,12 @@ ends-within text = each-word text (λ u. u.end ≤ length text) (λ from t n. n.
 pub some-token : (text : List ℕ) (from : ℕ) (tokens : List Token) → AreWords text from tokens → 0 < length tokens
 some-token text from [] w = absurd w
 some-token text from (t ∷ ts) w = omega arith
+
+-- the last of some tokens
+last-by : (t d : Token) (ts : List Token) → (before : List Token) × (t ∷ ts ≡ before ++ slice_index_or (t ∷ ts) (length ts) d ∷ [])
+last-by t d [] = ([], refl)
+last-by t d (u ∷ ts) = let (before, is) = last-by u d ts in (t ∷ before, ap (λ l. t ∷ l) is)
+
+pub last-token : (text : List ℕ) (from : ℕ) (tokens : List Token) (d : Token) → AreWords text from tokens → (before : List Token) × (tokens ≡ before ++ slice_index_or tokens (length tokens - 1) d ∷ [])
+last-token text from [] d w = absurd w
+last-token text from (t ∷ ts) d w = let count : length (t ∷ ts) - 1 ≡ length ts = omega arith in rw count (last-by t d ts)

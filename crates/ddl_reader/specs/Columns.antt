@@ -1,15 +1,14 @@
--- The columns of CREATE TABLE: as they are written, over their tokens, and bound from the left (PostgreSQL manual, CREATE
--- TABLE; codes 42704 and 54000 of the appendix Error Codes; the limit of 16 columns is own).
-use Rattle.std.specs.Prelude.{ℕ, ◌+◌, Bool, true, false, List, [], ◌∷◌, length, drop, Option, Some, None, Result, Ok, Err}
+-- The columns of CREATE TABLE: as they are written, and bound from the left (PostgreSQL manual, CREATE
+-- TABLE; code 42704 of the appendix Error Codes).
+use Rattle.std.specs.Prelude.{ℕ, Bool, true, false, List, [], ◌∷◌, Option, Some, None, Result, Ok, Err}
 use Rattle.pg_base.specs.declared.faults.Code.TheVariants.{S8}
 use Rattle.pg_base.specs.declared.faults.Fault.{Fault}
 use Rattle.pg_value.specs.declared.value.SqlType.{SqlType}
 use Rattle.pg_value.specs.declared.columns.Column.{Column}
 use Rattle.sql_lex.specs.declared.tokens.Token.{Token}
-use Rattle.sql_grammar.specs.Syntax.{Nulls, unwritten, not_null, nullable, ColDef, coldef}
-use Rattle.sql_grammar.specs.Words.{words_of_coldef}
+use Rattle.sql_grammar.specs.Terminals.{token_of}
+use Rattle.sql_grammar.specs.Syntax.{Mark, Nulls, unwritten, not_null, nullable, ColDef, coldef}
 use Rattle.sql_grammar.specs.Faults.{bytes_of, fault_at}
-use Rattle.ddl_reader.specs.Places.{token_at}
 use Rattle.ddl_reader.specs.Types.{type_named}
 
 -- a column as it is written: its name and its type's name, in small letters, each with its token, and whether NOT NULL stands
@@ -29,17 +28,17 @@ pub record Bound : Type 0 where
 -- NOT NULL is written
 abbrev pub refuses_null : Nulls → Bool
 refuses_null unwritten = false
-refuses_null not_null = true
-refuses_null nullable = false
+refuses_null (not_null _ _) = true
+refuses_null (nullable _) = false
 
--- a column over the tokens that it begins
-abbrev pub written : ColDef → List Token → Written
-written (coldef name kind nulls) tokens = record { name = bytes_of name; name_at = token_at tokens 0; kind = bytes_of kind; kind_at = token_at tokens 1; not_null = refuses_null nulls }
+-- a column
+abbrev pub written : ColDef → Written
+written (coldef name kind nulls) = record { name = bytes_of name; name_at = token_of name; kind = bytes_of kind; kind_at = token_of kind; not_null = refuses_null nulls }
 
--- columns over the tokens that they begin: one token for each of their words, and one for the comma between two
-abbrev pub columns_over : List ColDef → List Token → List Written
-columns_over [] tokens = []
-columns_over (c ∷ cs) tokens = written c tokens ∷ columns_over cs (drop (length (words_of_coldef c) + 1) tokens)
+-- further columns
+abbrev pub further : List (Mark × ColDef) → List Written
+further [] = []
+further ((_, c) ∷ cs) = written c ∷ further cs
 
 -- with its type, where there is one of the name; else the type's name is at fault
 abbrev pub bound_by : Option SqlType → Written → Result Bound Fault

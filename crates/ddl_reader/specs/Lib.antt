@@ -1,6 +1,5 @@
 pub mod Block
 pub mod Types
-pub mod Places
 pub mod Columns
 pub mod Reads
 pub mod Tables

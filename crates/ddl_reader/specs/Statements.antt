@@ -1,5 +1,6 @@
 -- What a statement that defines a table or loads data means, and its first fault (PostgreSQL manual, CREATE TABLE and COPY).
-use Rattle.std.specs.Prelude.{◌≡◌, ◌⊎◌, ℕ, Bool, true, false, List, ◌∷◌, drop, Result, Err, Some, []}
+use Rattle.std.specs.Prelude.{◌≡◌, ◌⊎◌, ℕ, Bool, true, false, List, [], ◌∷◌, Result, Err, Some}
+use Rattle.pg_base.specs.declared.faults.Code.TheVariants.{S1}
 use Rattle.pg_base.specs.declared.faults.Fault.{Fault}
 use Rattle.pg_base.specs.declared.faults.Refusal.{Refusal}
 use Rattle.pg_base.specs.declared.faults.Refusal.TheVariants as refusal
@@ -8,16 +9,14 @@ use Rattle.sql_grammar.specs.declared.class.Word.TheVariants.{Create}
 use Rattle.sql_grammar.specs.declared.class.Free.TheVariants.{Copy}
 use Rattle.sql_grammar.specs.declared.class.Class.{Class}
 use Rattle.sql_grammar.specs.declared.class.Class.TheVariants.{Key, Name}
-use Rattle.sql_grammar.specs.Terminals.{Terminal, class_of}
+use Rattle.sql_grammar.specs.Terminals.{Terminal, token_of, class_of}
 use Rattle.sql_grammar.specs.Syntax.{Statement, empty, create_table, query, copy}
-use Rattle.sql_grammar.specs.Words.{words_of}
-use Rattle.pg_base.specs.declared.faults.Code.TheVariants.{S1}
-use Rattle.sql_grammar.specs.Faults.{bytes_of, terminals, IsStatement, IsWhole, IsFirstFault, fault_at}
+use Rattle.sql_grammar.specs.Faults.{bytes_of, terminals, IsStatement, IsFirstFault, fault_at}
+use Rattle.sql_grammar.specs.Spelled.{IsSpelled}
 use Rattle.sql_grammar.specs.CopyLine.{IsDataStart}
 use Rattle.catalog.specs.Contents.{Contents}
 use Rattle.catalog.specs.Tables.{table_named}
-use Rattle.ddl_reader.specs.Places.{token_at}
-use Rattle.ddl_reader.specs.Columns.{columns_over, bound_all}
+use Rattle.ddl_reader.specs.Columns.{written, further, bound_all}
 use Rattle.ddl_reader.specs.Tables.{Reading, table_of, data_after}
 
 -- CREATE or COPY
@@ -31,25 +30,28 @@ abbrev pub begins_ddl : List Terminal → Bool
 begins_ddl [] = false
 begins_ddl (word ∷ _) = opens_ddl (class_of word)
 
--- what a statement over its tokens means, or its first fault after its syntax. Token 2 is the name of a new table, and its
--- columns begin at token 4. Of COPY token 1 is the table's name, 10 the text for NULL, and 12 the `;`
-abbrev pub Means : Contents → List ℕ → List Token → Statement → Result Reading Fault → Type 0
-Means cat text tokens (create_table n c cs e) r = r ≡ table_of (bytes_of n) (token_at tokens 2) (bound_all (columns_over (c ∷ cs) (drop 4 tokens)))
-Means cat text tokens (copy n null) r =
-    (start : Result ℕ Fault) × IsDataStart text (token_at tokens 12).end start
-    × (r ≡ data_after (table_named cat (bytes_of n)) (token_at tokens 1) null (token_at tokens 10) start)
-Means cat text tokens (empty e) r = ⊥
-Means cat text tokens (query q e) r = ⊥
+-- what a statement means, or its first fault after its syntax: of COPY the rest of its line comes first, from the `;` on
+abbrev pub Means : Contents → List ℕ → Statement → Result Reading Fault → Type 0
+Means cat text (create_table _ _ n _ c cs _ _) r = r ≡ table_of (bytes_of n) (token_of n) (bound_all (written c ∷ further cs))
+Means cat text (copy k n null) r =
+    (start : Result ℕ Fault) × IsDataStart text k.stop.end start × (r ≡ data_after (table_named cat (bytes_of n)) (token_of n) null.value null.token start)
+Means cat text (empty e) r = ⊥
+Means cat text (query q e) r = ⊥
 
--- the tokens are a statement, and this is what it means
+-- the tokens spell a statement that means this
 pub record IsMeaning (cat : Contents) (text : List ℕ) (tokens : List Token) (r : Result Reading Fault) : Type 0 where
-  pub whole : IsWhole text tokens
-  pub means : (x : Statement) → words_of x ≡ terminals text tokens → Means cat text tokens x r
+  pub statement : Statement
+  pub spelled : IsSpelled statement text tokens
+  pub means : Means cat text statement r
 
--- the first fault: where the first word is CREATE or COPY, of the syntax or after it; another first word is a fault of syntax
+-- another first word than CREATE or COPY is a syntax fault at its token
+abbrev pub IsOtherWord : List Token → Fault → Type 0
+IsOtherWord tokens f = (token : Token) × (later : List Token) × (tokens ≡ token ∷ later) × (f ≡ fault_at S1 token)
+
+-- the first fault, by whether the first word is CREATE or COPY: of the statement's syntax or after it; or that word's
 abbrev pub IsDdlFault : Contents → List ℕ → List Token → Fault → Bool → Type 0
 IsDdlFault cat text tokens f true = IsFirstFault IsStatement text tokens f ⊎ IsMeaning cat text tokens (Err f)
-IsDdlFault cat text tokens f false = f ≡ fault_at S1 (token_at tokens 0)
+IsDdlFault cat text tokens f false = IsOtherWord tokens f
 
 -- why a statement is refused: want of memory, or its first fault
 abbrev pub IsDdlRefusal : Contents → List ℕ → List Token → Refusal → Type 0

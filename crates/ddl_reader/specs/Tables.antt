@@ -1,11 +1,13 @@
 -- What CREATE TABLE and COPY define (PostgreSQL manual, CREATE TABLE and COPY).
 use Rattle.std.specs.Prelude.{ℕ, List, [], ◌∷◌, drop, map, cond, Option, Some, None, Result, Ok, Err}
 use Rattle.std.specs.Str.{bytes_eq}
+use Rattle.pg_base.specs.declared.limits.TheConstants.{MOST_COLUMNS}
 use Rattle.pg_base.specs.declared.numbers.TableNo.{TableNo}
 use Rattle.pg_base.specs.declared.faults.Code.TheVariants.{S2, S15, S17}
 use Rattle.pg_base.specs.declared.faults.Limit.TheVariants.{Columns}
 use Rattle.pg_base.specs.declared.faults.Fault.{Fault}
 use Rattle.pg_value.specs.declared.columns.Column.{Column}
+use Rattle.pg_value.specs.Fields.{null_text}
 use Rattle.sql_lex.specs.declared.tokens.Token.{Token}
 use Rattle.sql_grammar.specs.Faults.{fault_at}
 use Rattle.ddl_reader.specs.Columns.{Bound}
@@ -29,7 +31,7 @@ table_reading name token bs = record {
   method = 0;
 }
 
--- at most 16 columns: the first name past them is at fault
+-- the first column past the limit is at fault, at its name
 abbrev pub limited : Reading → List Bound → Result Reading Fault
 limited reading [] = Ok reading
 limited reading (b ∷ _) = Err (fault_at (S15 Columns) b.name_at)
@@ -37,11 +39,7 @@ limited reading (b ∷ _) = Err (fault_at (S15 Columns) b.name_at)
 -- after all columns are bound comes their limit
 abbrev pub table_of : List ℕ → Token → Result (List Bound) Fault → Result Reading Fault
 table_of name token (Err f) = Err f
-table_of name token (Ok bs) = limited (table_reading name token bs) (drop 16 bs)
-
--- the text that stands for NULL: `\N`
-abbrev pub null_text : List ℕ
-null_text = 92 ∷ 78 ∷ []
+table_of name token (Ok bs) = limited (table_reading name token bs) (drop MOST_COLUMNS bs)
 
 -- data for a table: of this number where its name is known, from this offset on, with this text for NULL; each of the two
 -- words with its token

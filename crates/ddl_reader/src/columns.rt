@@ -1,18 +1,16 @@
 //! The columns of CREATE TABLE.
 
-ghost use Rattle.std.specs.Prelude.{◌≡◌, ◌≤◌, ◌<◌, List, ◌∷◌, ◌++◌, length, drop, map, true, IfOk, OnOk, Vec};
+ghost use Rattle.std.specs.Prelude.{◌≡◌, ◌≤◌, ◌<◌, List, ◌∷◌, ◌++◌, length, map, true, IfOk, OnOk, Vec};
 ghost use Rattle.std.specs.declared.alloc.Global.{Global};
-ghost use Rattle.sql_grammar.specs.Terminals.{Terminal, t_mark};
-ghost use Rattle.sql_grammar.specs.declared.class.Symbol.TheVariants.{Close};
-ghost use Rattle.sql_grammar.specs.Syntax.{Nulls, ColDef};
-ghost use Rattle.sql_grammar.specs.Words.{words_of_nulls, words_of_coldef, words_of_columns};
-ghost use Rattle.sql_cursor.specs.Pieces.{words, places};
+ghost use Rattle.sql_grammar.specs.Terminals.{Terminal};
+ghost use Rattle.sql_grammar.specs.Syntax.{Mark, Nulls, ColDef};
+ghost use Rattle.sql_grammar.specs.Words.{words_of_nulls, words_of_coldef};
 ghost use Rattle.ddl_reader.specs.declared.columns.ColumnDef.{ColumnDef};
-ghost use Rattle.ddl_reader.specs.Columns.{refuses_null, written, columns_over, Bound, bound, bound_all};
-ghost use Rattle.ddl_reader.specs.Reads.{ends_nulls, Reads, seen};
+ghost use Rattle.ddl_reader.specs.Columns.{refuses_null, written, further, Bound, bound, bound_all};
+ghost use Rattle.ddl_reader.specs.Reads.{ends_nulls, words_of_body, Reads, Tells, seen};
 
-use crate::places::{unexpected, word_fault};
 use crate::types::type_named;
+use crate::words::{name, word_fault};
 use pg_base::{Code, Refusal};
 use pg_value::Column;
 use sql_cursor::{Cursor, Spelled};
@@ -31,7 +29,7 @@ pub struct ColumnDef {
 /// Whether NOT NULL stands next. It is taken, and so is NULL.
 fn not_null(from: &mut Cursor) -> bool
     ensures ahead { length from.new ≤ length from.old }
-    ensures read { (x : Nulls) (rest : List Terminal) → ends_nulls rest ≡ true → words from.old ≡ words_of_nulls x ++ rest → (result ≡ refuses_null x) × (from.new ≡ drop (length (words_of_nulls x)) from.old) }
+    ensures read { (x : Nulls) (rest : List Terminal) → ends_nulls rest ≡ true → from.old ≡ words_of_nulls x ++ rest → (result ≡ refuses_null x) × (from.new ≡ rest) }
 {
     if from.takes(Word::Not) {
         from.skip(1);
@@ -43,32 +41,38 @@ fn not_null(from: &mut Cursor) -> bool
     false
 }
 
-/// The next column. An unknown type is refused (42704) at its name.
-fn one_column(alloc: Global, from: &mut Cursor) -> Result<ColumnDef, Refusal>
-    ensures read { (x : ColDef) (rest : List Terminal) → ends_nulls rest ≡ true → words from.old ≡ words_of_coldef x ++ rest → Reads ColumnDef Bound seen result (bound (written x (places from.old))) }
-    ensures left { OnOk result ((x : ColDef) (rest : List Terminal) → ends_nulls rest ≡ true → words from.old ≡ words_of_coldef x ++ rest → from.new ≡ drop (length (words_of_coldef x)) from.old) }
-    ensures ahead { OnOk result (length from.new ≤ length from.old) }
+/// The column of this name and of this type. An unknown type is refused (42704) at its name.
+fn bind(name: Spelled, kind: &Spelled, not_null: bool) -> Result<ColumnDef, Refusal>
+    ensures { Tells ColumnDef Bound seen result (bound (record { name = name.bytes; name_at = name.token; kind = kind.now.bytes; kind_at = kind.now.token; not_null = not_null })) }
 {
-    let Some(name) = from.name(alloc)? else {
-        return Err(unexpected());
-    };
-    let Some(kind) = from.name(alloc)? else {
-        return Err(unexpected());
-    };
     let Some(typed) = type_named(kind.bytes.items()) else {
         return Err(word_fault(Code::S8, kind.token));
     };
-    let not_null = not_null(from);
     Ok(ColumnDef {
         name,
         column: Column { typed, not_null },
     })
 }
 
+/// The next column.
+fn one_column(alloc: Global, from: &mut Cursor) -> Result<ColumnDef, Refusal>
+    requires { (x : ColDef) × (rest : List Terminal) × (from.old ≡ words_of_coldef x ++ rest) }
+    ensures read { (x : ColDef) (rest : List Terminal) → ends_nulls rest ≡ true → from.old ≡ words_of_coldef x ++ rest → Reads ColumnDef Bound seen result (bound (written x)) }
+    ensures left { OnOk result ((x : ColDef) (rest : List Terminal) → ends_nulls rest ≡ true → from.old ≡ words_of_coldef x ++ rest → from.new ≡ rest) }
+    ensures ahead { OnOk result (length from.new ≤ length from.old) }
+{
+    let title = name(alloc, from)?;
+    let kind = name(alloc, from)?;
+    let not_null = not_null(from);
+    bind(title, &kind, not_null)
+}
+
 /// The columns up to `)`, which is left.
 pub fn columns(alloc: Global, from: &mut Cursor) -> Result<Vec<ColumnDef>, Refusal>
+    requires { (x : ColDef) × (xs : List (Mark × ColDef)) × (m : Mark) × (rest : List Terminal) × (from.old ≡ words_of_body x xs m rest) }
     ensures some { IfOk result (λ v. 0 < length v.items) }
-    ensures read { (x : ColDef) (xs : List ColDef) (rest : List Terminal) → words from.old ≡ words_of_coldef x ++ (words_of_columns xs ++ t_mark Close ∷ rest) → Reads (Vec ColumnDef Global) (List Bound) (λ v. map seen v.items) result (bound_all (columns_over (x ∷ xs) (places from.old))) }
+    ensures read { (x : ColDef) (xs : List (Mark × ColDef)) (m : Mark) (rest : List Terminal) → from.old ≡ words_of_body x xs m rest →
+        Reads (Vec ColumnDef Global) (List Bound) (λ v. map seen v.items) result (bound_all (written x ∷ further xs)) }
 {
     let mut all = Vec::new(alloc);
     let first = one_column(alloc, from)?;

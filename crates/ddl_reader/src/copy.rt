@@ -1,40 +1,36 @@
-//! The head of COPY.
+//! The words of COPY.
 
-ghost use Rattle.std.specs.Prelude.{◌≡◌, ℕ, List};
-ghost use Rattle.sql_grammar.specs.Terminals.{Ident};
-ghost use Rattle.sql_grammar.specs.Syntax.{copy as copy_tree};
+ghost use Rattle.std.specs.Prelude.{◌≡◌};
+ghost use Rattle.sql_grammar.specs.Terminals.{Ident, Said, token_of};
+ghost use Rattle.sql_grammar.specs.Syntax.{CopyWords, copy as copy_tree};
 ghost use Rattle.sql_grammar.specs.Words.{words_of};
 ghost use Rattle.sql_grammar.specs.Faults.{bytes_of};
-ghost use Rattle.sql_cursor.specs.Pieces.{words, places};
 ghost use Rattle.catalog.specs.Tables.{table_named};
 ghost use Rattle.ddl_reader.specs.declared.ddl.Read.{Read};
-ghost use Rattle.ddl_reader.specs.Places.{token_at};
-ghost use Rattle.ddl_reader.specs.Reads.{Reads};
+ghost use Rattle.ddl_reader.specs.Reads.{Reads, Tells};
 ghost use Rattle.ddl_reader.specs.Tables.{Reading, data_of};
 ghost use Rattle.ddl_reader.specs.Readings.{reading};
 
 use crate::ddl::{Ddl, Read};
-use crate::places::{unexpected, word_fault};
+use crate::words::{name, quoted, word_fault};
 use catalog::Catalog;
 use pg_base::{Code, Refusal};
-use sql_cursor::Cursor;
+use sql_cursor::{Cursor, Spelled};
 use std::alloc::Global;
 
-/// COPY, whose data begin at the byte offset `start`. An unknown table is refused (42P01) at its name, and then a text for
-/// NULL other than `\N` (22023).
-pub fn copy(alloc: Global, cat: &Catalog, start: u32, from: &mut Cursor) -> Result<Read, Refusal>
-    ensures { (n : Ident) (null : List ℕ) → words from.old ≡ words_of (copy_tree n null) → Reads Read Reading reading result (data_of (table_named cat.now (bytes_of n)) (token_at (places from.old) 1) null (token_at (places from.old) 10) start) }
+/// Data for the table of this name, which begin at the byte offset `start`. An unknown table is refused (42P01) at its name, and
+/// then a text for NULL other than `\N` (22023).
+fn bind(
+    alloc: Global,
+    cat: &Catalog,
+    name: &Spelled,
+    null: &Spelled,
+    start: u32,
+) -> Result<Read, Refusal>
+    ensures { Tells Read Reading reading result (data_of (table_named cat.now name.now.bytes) name.now.token null.now.bytes null.now.token start) }
 {
-    from.skip(1);
-    let Some(name) = from.name(alloc)? else {
-        return Err(unexpected());
-    };
     let Some(table) = cat.table(name.bytes.items()) else {
         return Err(word_fault(Code::S2, name.token));
-    };
-    from.skip(8);
-    let Some(null) = from.quoted(alloc)? else {
-        return Err(unexpected());
     };
     if null.bytes.items() != b"\\N".as_slice() {
         return Err(word_fault(Code::S17, null.token));
@@ -44,4 +40,17 @@ pub fn copy(alloc: Global, cat: &Catalog, start: u32, from: &mut Cursor) -> Resu
         at: Vec::new(alloc),
         method: 0,
     })
+}
+
+/// COPY, whose data begin at the byte offset `start`.
+pub fn copy(alloc: Global, cat: &Catalog, start: u32, from: &mut Cursor) -> Result<Read, Refusal>
+    requires { (k : CopyWords) × (n : Ident) × (null : Said) × (from.old ≡ words_of (copy_tree k n null)) }
+    ensures { (k : CopyWords) (n : Ident) (null : Said) → from.old ≡ words_of (copy_tree k n null) →
+        Reads Read Reading reading result (data_of (table_named cat.now (bytes_of n)) (token_of n) null.value null.token start) }
+{
+    from.skip(1);
+    let title = name(alloc, from)?;
+    from.skip(8);
+    let null = quoted(alloc, from)?;
+    bind(alloc, cat, &title, &null, start)
 }

@@ -5,12 +5,12 @@ mod block;
 mod columns;
 mod copy;
 mod ddl;
-mod places;
 mod read;
 mod table;
 #[cfg(test)]
 mod tests;
 mod types;
+mod words;
 
 pub use block::block_end;
 pub use ddl::{Ddl, Read};

@@ -169,15 +169,7 @@ fn refuses_at_the_first_fault(rt: HostRuntime) {
     let cat = one_table(rt.alloc()).expect(&rt, "a table");
     for (text, code, at, to) in WRONG {
         assert!(rt; text.len() < 200);
-        let fault = Fault {
-            code,
-            at,
-            from: at,
-            to,
-            rec: 0,
-            table: TableNo(0),
-            col: 0,
-        };
+        let fault = Fault::at_words(code, at, to);
         match read(rt.alloc(), &cat, text) {
             Err(refusal) => assert_eq!(rt; refusal, Refusal::Fault(fault), "{text:?}"),
             Ok(_) => assert!(rt; false, "{text:?}"),

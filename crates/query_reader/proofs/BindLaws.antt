@@ -1,5 +1,5 @@
 -- Binding over one relation.
-use Rattle.std.proofs.Common.{◌≡◌, ℕ, ◌+◌, ◌<◌, ◌≤◌, true, false, List, [], ◌∷◌, ◌++◌, length, drop, get_or, Option, Some, None, Result, Ok, Err, refl, sym, ap, subst, ◌∙◌, arith, append-nil, append_assoc, length-drop}
+use Rattle.std.proofs.Common.{◌≡◌, ℕ, ◌+◌, ◌<◌, ◌≤◌, true, false, List, [], ◌∷◌, ◌++◌, length, drop, get_or, Option, Some, None, Result, Ok, Err, IsErrAnd, refl, sym, ap, subst, ◌∙◌, arith, append-nil, append_assoc, length-drop}
 use Rattle.std.specs.List.{position}
 use Rattle.std.specs.Option.{option_map}
 use Rattle.std.specs.Str.{bytes_eq}
@@ -20,7 +20,7 @@ use Rattle.query_reader.specs.declared.written.Item.{Item}
 use Rattle.query_reader.specs.Scope.{Scope, Visible, columns_from, scope_of, columns_of, under, of_name, Found, one, no_table, no_column, the_one, among, look_up}
 use Rattle.sql_grammar.specs.Faults.{fault_at}
 use Rattle.query_reader.specs.Binding.{found_relation, then_columns, item_columns, list_columns}
-use Rattle.query_reader.specs.Adds.{Adds}
+use Rattle.query_reader.specs.Adds.{Adds, AddsAll}
 use Rattle.query_reader.proofs.ScopeLaws.{found_at, found-from, under-same, under-other}
 
 -- the first relation
@@ -99,8 +99,34 @@ pub adds-ok : {T : Type 0} (x : Result (List ColRef) Fault) (old new : List ColR
 adds-ok (Ok columns) old new v a = record { columns = columns; is = refl; grown = a }
 adds-ok (Err f) old new v a = absurd a
 
-pub adds-told : (T : Type 0) (x : Result (List ColRef) Fault) (old new : List ColRef) (f : Fault) (r : Refusal) → x ≡ Err f → r ≡ refusal.Fault f → Adds {T = T} x old new (Err r)
-adds-told T x old new f r is told = rw (is, told) refl
+no-memory : (T : Type 0) (whole : Result (List ColRef) Fault) (old new : List ColRef) → AddsAll {T = T} whole old new (Err refusal.Memory)
+no-memory T (Ok columns) old new = tt
+no-memory T (Err f) old new = tt
+
+-- what is told after an item that stops the list
+pub list-stopped : (S T : Type 0) (whole x later : Result (List ColRef) Fault) (so old mid new : List ColRef) (e : Refusal) (r : Result T Refusal) → then_columns (Ok so) (then_columns x later) ≡ whole →
+    Adds {T = S} x mid new (Err e) → IsErrAnd r (λ told. told ≡ e) → AddsAll whole old new r
+list-stopped S T whole x later so old mid new e (Ok v) w a told = absurd told
+list-stopped S T whole (Ok columns) later so old mid new (refusal.Fault f) (Err g) w a told = absurd a
+list-stopped S T whole (Ok columns) later so old mid new refusal.Memory (Err g) w a told =
+    let P : Refusal → Type 0 = λ h. AddsAll {T = T} whole old new (Err h) in
+    subst P (sym told) (no-memory T whole old new)
+list-stopped S T whole (Err f) later so old mid new refusal.Memory (Err g) w a told = absurd a
+list-stopped S T whole (Err f) later so old mid new (refusal.Fault h) (Err g) w a told =
+    let P : Refusal → Type 0 = λ k. AddsAll {T = T} whole old new (Err k) in
+    let Q : Result (List ColRef) Fault → Type 0 = λ x. AddsAll {T = T} x old new (Err (refusal.Fault h)) in
+    subst P (sym told) (subst Q w a)
+
+pub adds-refused : (T : Type 0) (x : Result (List ColRef) Fault) (old new : List ColRef) (f g : Fault) (r : Result T Refusal) → x ≡ Err f → g ≡ f → IsErrAnd r (λ e. e ≡ refusal.Fault g) → Adds x old new r
+adds-refused T x old new f g (Ok v) is same told = absurd told
+adds-refused T x old new f g (Err e) is same told = rw (is, told) same
+
+pub adds-stopped : (T : Type 0) (x : Result (List ColRef) Fault) (old new columns : List ColRef) (r : Result T Refusal) → x ≡ Ok columns → IsErrAnd r (λ e. e ≡ refusal.Memory) → Adds x old new r
+adds-stopped T x old new columns (Ok v) is told = absurd told
+adds-stopped T x old new columns (Err e) is told = rw (is, told) tt
+
+pub adds-done : (T : Type 0) (x : Result (List ColRef) Fault) (old new columns : List ColRef) (v : T) → x ≡ Ok columns → new ≡ old ++ columns → Adds x old new (Ok v)
+adds-done T x old new columns v is grown = rw is grown
 
 pub adds-same : (T : Type 0) (x y : Result (List ColRef) Fault) (old new : List ColRef) (r : Result T Refusal) → x ≡ y → Adds y old new r → Adds x old new r
 adds-same T x y old new r is a = subst (λ z. Adds z old new r) (sym is) a

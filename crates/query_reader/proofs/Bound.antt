@@ -7,17 +7,18 @@ use Rattle.pg_base.specs.declared.numbers.TableNo.{TableNo}
 use Rattle.pg_base.specs.declared.faults.Fault.{Fault}
 use Rattle.pg_base.specs.declared.faults.Refusal.{Refusal}
 use Rattle.pg_expr.specs.declared.operand.ColRef.{ColRef}
-use Rattle.catalog.specs.Names.{IsName}
+use Rattle.pg_expr.specs.Typed.{IsTyped}
+use Rattle.pg_base.specs.Names.{IsName}
 use Rattle.catalog.specs.Contents.{Contents, table_at, IsTable, IsLawfulTable}
 use Rattle.catalog.specs.Range.{Range}
 use Rattle.sql_lex.specs.declared.tokens.Token.{Token}
-use Rattle.sql_query.specs.declared.prepared.Prepared.{Prepared}
-use Rattle.sql_query.specs.WellBound.{IsColumnOf, IsWellBound}
+use Rattle.sql_query.specs.Queries.{Query}
+use Rattle.sql_query.specs.WellBound.{IsColumnOf, IsWellBound, NamesOnly, column_at}
 use Rattle.query_reader.specs.declared.written.Item.{Item}
 use Rattle.query_reader.specs.declared.written.Item.TheVariants.{Every, EveryOf, Bare, Qualified}
 use Rattle.query_reader.specs.Scope.{Scope, Visible, columns_from, scope_of, columns_of, under, of_name, Found, one, no_table, no_column, many, the_one, among, look_up}
 use Rattle.query_reader.specs.Binding.{found_column, found_relation, then_columns, item_columns, list_columns, shows}
-use Rattle.query_reader.specs.Select.{Answers}
+use Rattle.query_reader.specs.Select.{IsReadAs}
 use Rattle.query_reader.proofs.BindLaws.{first_relation}
 
 module _ (P : ColRef → Type 0) where
@@ -102,7 +103,7 @@ module _ (c : Contents) (t : TableNo) (alias : List ℕ) where
   columns-in k [] fits = tt
   columns-in k (n ∷ names) fits = (record { relation = omega arith; column = omega (arith, fits) }, columns-in (k + 1) names (omega (arith, fits)))
 
-  well-bound-by : IsTable c t → IsName alias → (x : Result (List ColRef) Fault) → HoldsOk (IsColumnOf c only) x → (p : Prepared) → Answers (shows only x) (Ok p) → IsWellBound c p
+  well-bound-by : IsTable c t → IsName alias → (x : Result (List ColRef) Fault) → HoldsOk (IsColumnOf c only) x → (p : Query) → IsReadAs (shows only x) (Ok p) → IsWellBound c p
   well-bound-by table name (Ok cs) h p is = subst (IsWellBound c) (sym is) (record {
     range = record {
       some = omega arith;
@@ -113,16 +114,18 @@ module _ (c : Contents) (t : TableNo) (alias : List ℕ) where
     };
     used = holds-all (IsColumnOf c only) cs h;
     select = λ k d lt. (k, lt, get_or_default cs k _ d lt);
+    conditions = All-nil (NamesOnly cs);
+    typed = All-nil (IsTyped (λ x. (column_at c only x).typed));
   })
   well-bound-by table name (Err f) h p is = absurd is
 
-  well-bound : IsTable c t → IsLawfulTable (table_at c t) → IsName alias → (items : List Item) (p : Prepared) → Answers (shows only (list_columns (scope_of c only) items)) (Ok p) → IsWellBound c p
+  well-bound : IsTable c t → IsLawfulTable (table_at c t) → IsName alias → (items : List Item) (p : Query) → IsReadAs (shows only (list_columns (scope_of c only) items)) (Ok p) → IsWellBound c p
   well-bound table lawful name items p is =
       let there = subst (HoldsIn (IsColumnOf c only)) (sym (append-nil _)) (columns-in 0 (table_at c t).names (omega (arith, lawful.width))) in
       well-bound-by table name (list_columns (scope_of c only) items) (list-holds (IsColumnOf c only) (scope_of c only) items there) p is
 
   -- an answer that is a query is a well bound one
-  pub answer-bound : IsTable c t → IsLawfulTable (table_at c t) → IsName alias → (items : List Item) (r : Result Prepared Refusal) →
-      Answers (shows only (list_columns (scope_of c only) items)) r → IfOk r (IsWellBound c)
+  pub answer-bound : IsTable c t → IsLawfulTable (table_at c t) → IsName alias → (items : List Item) (r : Result Query Refusal) →
+      IsReadAs (shows only (list_columns (scope_of c only) items)) r → IfOk r (IsWellBound c)
   answer-bound table lawful name items (Ok p) is = well-bound table lawful name items p is
   answer-bound table lawful name items (Err f) is = tt

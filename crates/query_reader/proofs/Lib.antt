@@ -1,6 +1,5 @@
 pub mod Parts
 pub mod ScopeLaws
-pub mod Placing
 pub mod Grammar
 pub mod Reading
 pub mod BindLaws

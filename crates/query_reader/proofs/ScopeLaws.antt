@@ -5,7 +5,7 @@ use Rattle.std.specs.Str.{bytes_eq}
 use Rattle.std.proofs.lemmas.Slice.Eq.{bytes_eq-Decides}
 use Rattle.std.proofs.lemmas.List.Elements.{All-tail}
 use Rattle.pg_base.specs.declared.numbers.RelNo.{RelNo}
-use Rattle.catalog.specs.Names.{AreDistinct}
+use Rattle.pg_base.specs.Names.{AreDistinct}
 use Rattle.query_reader.specs.Scope.{columns_from, under, of_name, Found, one, no_column, the_one}
 
 differs-by : (b : Bool) (x y : List ℕ) → (b ≡ true → x ≡ y) → x ≢ y → b ≡ false

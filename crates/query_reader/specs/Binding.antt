@@ -10,12 +10,13 @@ use Rattle.catalog.specs.Range.{Range}
 use Rattle.catalog.specs.Tables.{table_named}
 use Rattle.sql_lex.specs.declared.tokens.Token.{Token}
 use Rattle.sql_grammar.specs.Faults.{fault_at}
+use Rattle.sql_grammar.specs.Syntax.{Select}
 use Rattle.sql_cursor.specs.declared.cursor.Spelled.{Spelled}
-use Rattle.sql_query.specs.declared.prepared.Prepared.{Prepared}
+use Rattle.sql_query.specs.Queries.{Query}
 use Rattle.query_reader.specs.declared.written.Item.{Item}
 use Rattle.query_reader.specs.declared.written.Item.TheVariants.{Every, EveryOf, Bare, Qualified}
 use Rattle.query_reader.specs.declared.written.Source.{Source}
-use Rattle.query_reader.specs.Written.{Written}
+use Rattle.query_reader.specs.Written.{Written, written_of}
 use Rattle.query_reader.specs.Scope.{Scope, scope_of, columns_of, under, Found, one, no_table, no_column, many, look_up}
 
 -- the column that was found: an unknown qualifier is at fault itself, and else the name
@@ -58,16 +59,20 @@ abbrev pub source_range : Option TableNo → Source → Result Range Fault
 source_range None source = Err (fault_at S2 source.table.token)
 source_range (Some table) source = Ok ((table, alias_or source.alias source.table) ∷ [])
 
--- the query over these relations: it names the columns that it shows, and no others
-abbrev pub shows : Range → Result (List ColRef) Fault → Result Prepared Fault
-shows range (Ok columns) = Ok (record { range = range; select = columns; used = columns })
+-- the query over these relations: it names the columns that it shows, and no others, and has no condition
+abbrev pub shows : Range → Result (List ColRef) Fault → Result Query Fault
+shows range (Ok columns) = Ok (record { range = range; select = columns; used = columns; where_all = [] })
 shows range (Err fault) = Err fault
 
 -- the list, over the relations after FROM
-abbrev pub bound_over : Contents → Result Range Fault → List Item → Result Prepared Fault
+abbrev pub bound_over : Contents → Result Range Fault → List Item → Result Query Fault
 bound_over c (Ok range) items = shows range (list_columns (scope_of c range) items)
 bound_over c (Err fault) items = Err fault
 
+-- what is written means
+abbrev pub bound_written : Contents → Written → Result Query Fault
+bound_written c w = bound_over c (source_range (table_named c w.source.table.bytes) w.source) w.items
+
 -- what a SELECT means
-abbrev pub bound : Contents → Written → Result Prepared Fault
-bound c w = bound_over c (source_range (table_named c w.source.table.bytes) w.source) w.items
+abbrev pub bound : Contents → Select → Result Query Fault
+bound c q = bound_written c (written_of q)

@@ -1,6 +1,5 @@
-pub mod Pieces
 pub mod Written
-pub mod Reads
+pub mod Ends
 pub mod Scope
 pub mod Binding
 pub mod Adds

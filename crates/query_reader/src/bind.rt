@@ -1,42 +1,61 @@
 //! Binding the names of a SELECT to a catalogue.
 
-ghost use Rattle.std.specs.Prelude.{◌≡◌, ◌<◌, ℕ, List, [], ◌∷◌, ◌++◌, length, Ok, Err, IfOk, MatchOption};
+ghost use Rattle.std.specs.Prelude.{◌≡◌, ◌<◌, ℕ, List, [], ◌∷◌, ◌++◌, length, Ok, Err, Some, None, true, false, IfOk, MatchOption, MatchResult};
 ghost use Rattle.std.specs.Str.{bytes_eq};
 ghost use Rattle.sql_lex.specs.declared.tokens.Token.{Token};
 ghost use Rattle.sql_grammar.specs.Faults.{fault_at as fault_at_token};
-ghost use Rattle.catalog.specs.Names.{IsName};
+ghost use Rattle.pg_base.specs.Names.{IsName};
+ghost use Rattle.pg_base.specs.declared.faults.Code.TheVariants.{S2, S3};
 ghost use Rattle.sql_query.specs.WellBound.{IsWellBound};
 ghost use Rattle.catalog.specs.Contents.{IsTable, IsLawfulTable, table_at};
-ghost use Rattle.query_reader.specs.Written.{Written};
+ghost use Rattle.catalog.specs.Tables.{column_named, table_named};
 ghost use Rattle.query_reader.specs.Scope.{scope_of, columns_of, of_name, the_one};
-ghost use Rattle.query_reader.specs.Binding.{found_column, item_columns, list_columns, shows, alias_or, bound};
-ghost use Rattle.query_reader.specs.Adds.{Adds};
-ghost use Rattle.query_reader.specs.Select.{Answers};
+ghost use Rattle.query_reader.specs.Binding.{found_column, item_columns, list_columns, shows, alias_or, bound_written};
+ghost use Rattle.query_reader.specs.Adds.{Adds, AddsAll};
+ghost use Rattle.query_reader.specs.Select.{IsReadAs};
 
 use crate::written::{Item, Query, Source};
 use catalog::{Catalog, RangeTable};
-use pg_base::{Code, ColNo, Refusal, RelNo, TableNo};
-use pg_expr::ColRef;
+use pg_base::{Code, ColNo, Fault, Refusal, RelNo, TableNo};
+use pg_expr::{ColRef, Exprs};
 use pg_value::Bytes;
 use sql_cursor::Spelled;
 use sql_grammar::fault_at;
-use sql_lex::Token;
 use sql_query::{ColList, Prepared};
 use std::alloc::Global;
 
-/// The fault of this kind at a name.
-fn name_fault(code: Code, token: Token) -> Refusal
-    ensures { result ≡ Refusal.Fault (fault_at_token code token) }
+/// The table of a name, or its fault.
+fn table_of(cat: &Catalog, name: &Spelled) -> Result<TableNo, Fault>
+    ensures named { MatchResult result (λ t. table_named cat.now name.now.bytes ≡ Some t) (λ f. (table_named cat.now name.now.bytes ≡ None) × (f ≡ fault_at_token S2 name.now.token)) }
+    ensures table { IfOk result (IsTable cat.now) }
+    ensures lawful { IfOk result (λ t. IsLawfulTable (table_at cat.now t)) }
+    ensures name { IfOk result (λ t. (table_at cat.now t).name ≡ name.now.bytes) }
 {
-    Refusal::Fault(fault_at(code, token))
+    match cat.table(name.bytes.items()) {
+        Some(number) => Ok(number),
+        None => Err(fault_at(Code::S2, name.token)),
+    }
 }
 
-fn push(all: &mut Vec<ColRef>, column: ColRef) -> Result<(), Refusal>
-    ensures { Adds (Ok (column ∷ [])) all.old.items all.new.items result }
+/// The column of a name of a table, or its fault.
+fn column_of(cat: &Catalog, table: TableNo, name: &Spelled) -> Result<ColNo, Fault>
+    requires { IsTable cat.now table }
+    ensures { MatchResult result (λ k. column_named cat.now table name.now.bytes ≡ Some k) (λ f. (column_named cat.now table name.now.bytes ≡ None) × (f ≡ fault_at_token S3 name.now.token)) }
 {
-    match all.push(column) {
-        Ok(()) => Ok(()),
-        Err(_) => Err(Refusal::Memory),
+    match cat.column(table, name.bytes.items()) {
+        Some(number) => Ok(number),
+        None => Err(fault_at(Code::S3, name.token)),
+    }
+}
+
+/// That a qualifier is the alias, or its fault.
+fn check_alias(qualifier: &Spelled, alias: &[u8]) -> Result<(), Fault>
+    ensures { MatchResult result (λ _. bytes_eq qualifier.now.bytes alias.now ≡ true) (λ f. (bytes_eq qualifier.now.bytes alias.now ≡ false) × (f ≡ fault_at_token S2 qualifier.now.token)) }
+{
+    if qualifier.bytes.items() == alias {
+        Ok(())
+    } else {
+        Err(fault_at(Code::S2, qualifier.token))
     }
 }
 
@@ -48,13 +67,10 @@ fn every(cat: &Catalog, table: TableNo, all: &mut Vec<ColRef>) -> Result<(), Ref
 {
     let count = cat.columns(table).items().len() as u8;
     for col in 0..count {
-        push(
-            all,
-            ColRef {
-                rel: RelNo(0),
-                col: ColNo(col),
-            },
-        )?;
+        all.push(ColRef {
+            rel: RelNo(0),
+            col: ColNo(col),
+        })?;
     }
     Ok(())
 }
@@ -62,19 +78,12 @@ fn every(cat: &Catalog, table: TableNo, all: &mut Vec<ColRef>) -> Result<(), Ref
 /// Adds the column of this name of the table, the only relation.
 fn one(cat: &Catalog, table: TableNo, name: &Spelled, all: &mut Vec<ColRef>) -> Result<(), Refusal>
     requires table { IsTable cat.now table }
+    requires lawful { IsLawfulTable (table_at cat.now table) }
     ensures { (alias : List ℕ) (qualifier : Token) → Adds (found_column (the_one (of_name name.now.bytes (scope_of cat.now ((table, alias) ∷ [])))) qualifier name.now.token) all.old.items all.new.items result }
 {
-    match cat.column(table, name.bytes.items()) {
-        Some(col) => push(all, ColRef { rel: RelNo(0), col }),
-        None => Err(name_fault(Code::S3, name.token)),
-    }
-}
-
-/// Whether a qualifier is the alias.
-fn is_alias(qualifier: &Spelled, alias: &[u8]) -> bool
-    ensures { result ≡ bytes_eq qualifier.now.bytes alias.now }
-{
-    qualifier.bytes.items() == alias
+    let col = column_of(cat, table, name)?;
+    all.push(ColRef { rel: RelNo(0), col })?;
+    Ok(())
 }
 
 /// Adds the columns of an item; the table under this alias is the only relation.
@@ -92,16 +101,12 @@ fn add_item(
     match item {
         Item::Every => every(cat, table, all),
         Item::EveryOf(qualifier) => {
-            if !is_alias(qualifier, alias) {
-                return Err(name_fault(Code::S2, qualifier.token));
-            }
+            check_alias(qualifier, alias)?;
             every(cat, table, all)
         }
         Item::Bare(name) => one(cat, table, name, all),
         Item::Qualified(qualifier, name) => {
-            if !is_alias(qualifier, alias) {
-                return Err(name_fault(Code::S2, qualifier.token));
-            }
+            check_alias(qualifier, alias)?;
             one(cat, table, name, all)
         }
     }
@@ -117,7 +122,7 @@ fn add_items(
 ) -> Result<(), Refusal>
     requires table { IsTable cat.now table }
     requires lawful { IsLawfulTable (table_at cat.now table) }
-    ensures { Adds (list_columns (scope_of cat.now ((table, alias.now) ∷ [])) items.now) all.old.items all.new.items result }
+    ensures { AddsAll (list_columns (scope_of cat.now ((table, alias.now) ∷ [])) items.now) all.old.items all.new.items result }
 {
     for item in items {
         add_item(cat, table, alias, item, all)?;
@@ -135,7 +140,7 @@ fn over(
 ) -> Result<Prepared, Refusal>
     requires table { IsTable cat.now table }
     requires lawful { IsLawfulTable (table_at cat.now table) }
-    ensures { let range = (table, alias) ∷ [] in Answers (shows range (list_columns (scope_of cat.now range) items.now)) result }
+    ensures { let range = (table, alias) ∷ [] in IsReadAs (shows range (list_columns (scope_of cat.now range) items.now)) result }
 {
     let mut select = Vec::new(alloc);
     add_items(cat, table, alias.items(), items, &mut select)?;
@@ -146,6 +151,7 @@ fn over(
         range: RangeTable::from_vec(relations),
         select: ColList::from_vec(select),
         used: ColList::from_vec(used),
+        where_all: Exprs::from_vec(Vec::new(alloc)),
     })
 }
 
@@ -168,13 +174,13 @@ fn alias_of(table: Spelled, alias: Option<Spelled>) -> Bytes
 /// The query that a SELECT means, or its first fault of binding.
 pub fn bind(alloc: Global, cat: &Catalog, query: Query) -> Result<Prepared, Refusal>
     requires { MatchOption query.source.alias (Unit {0}) (λ a. IsName a.bytes) }
-    ensures answers { Answers (bound cat.now (record { items = query.items.items; source = query.source })) result }
+    ensures meaning { IsReadAs (bound_written cat.now (record { items = query.items.items; source = query.source })) result }
     ensures well_bound { IfOk result (IsWellBound cat.now) }
+    ensures one { IfOk result (λ q. length q.range ≡ 1) }
+    ensures unconditional { IfOk result (λ q. q.where_all ≡ []) }
 {
     let Query { items, source } = query;
     let Source { table, alias } = source;
-    match cat.table(table.bytes.items()) {
-        Some(number) => over(alloc, cat, number, alias_of(table, alias), &items),
-        None => Err(name_fault(Code::S2, table.token)),
-    }
+    let number = table_of(cat, &table)?;
+    over(alloc, cat, number, alias_of(table, alias), &items)
 }

@@ -1,12 +1,11 @@
 //! Reading a SELECT.
 
-ghost use Rattle.std.specs.Prelude.{◌≡◌, ℕ, ◌^◌, ◌<◌, ◌≤◌, length, drop, IfOk};
+ghost use Rattle.std.specs.Prelude.{◌≡◌, ℕ, ◌^◌, ◌<◌, ◌≤◌, [], length, drop, IfOk};
 ghost use Rattle.sql_lex.specs.Words.{AreWords};
 ghost use Rattle.sql_grammar.specs.Syntax.{Select, Ending};
 ghost use Rattle.sql_query.specs.WellBound.{IsWellBound};
-ghost use Rattle.query_reader.specs.Written.{written_of};
 ghost use Rattle.query_reader.specs.Binding.{bound};
-ghost use Rattle.query_reader.specs.Select.{AreWordsOf, IsGrammatical, Answers};
+ghost use Rattle.query_reader.specs.Select.{AreWordsOf, IsGrammatical, IsReadAs};
 
 use crate::bind::bind;
 use crate::read::query;
@@ -25,9 +24,10 @@ use std::alloc::Global;
 /// where none is given; `*` and `alias.*` are every column in order. Names compare in small letters.
 ///
 /// The text has at most 2^31 bytes, the tokens are the words of a statement from some offset of it, and `first` is the number
-/// of one of them. The refusal is `Memory`, or the first fault: that of the grammar (42601; 54000 for a name over 63 bytes or a
-/// text over 8,192), else an unknown table or qualifier (42P01) or an unknown column (42703), with its word. With one relation
-/// no column is ambiguous, no alias stands twice and no relation is too many.
+/// of one of them. The refusal is the first fault: that of the grammar (42601; 54000 for a name over 63 bytes, a text over
+/// 8,192 or an expression over 32 levels deep), else an unknown table or qualifier (42P01) or an unknown column (42703), with
+/// its word. It is `Memory` only of a SELECT without a fault of the grammar. With one relation no column is ambiguous, no
+/// alias stands twice and no relation is too many.
 pub fn read_select(
     alloc: Global,
     cat: &Catalog,
@@ -39,18 +39,18 @@ pub fn read_select(
     requires words { (from : ℕ) × AreWords text.now from tokens.now }
     requires first { first < length tokens.now }
     ensures grammar { IsGrammatical text.now (drop first tokens.now) result }
-    ensures binding { (q : Select) (end : Ending) → AreWordsOf q end text.now (drop first tokens.now) → Answers (bound cat.now (written_of q (drop first tokens.now))) result }
+    ensures binding { (q : Select) (end : Ending) → AreWordsOf q end text.now (drop first tokens.now) → IsReadAs (bound cat.now q) result }
     ensures well_bound { IfOk result (IsWellBound cat.now) }
+    ensures one { IfOk result (λ q. length q.range ≡ 1) }
+    ensures unconditional { IfOk result (λ q. q.where_all ≡ []) }
 {
     let mut from = Cursor::new(text, tokens, first);
     if !from.takes(Word::Select) {
         return Err(Refusal::Fault(fault_at(Code::S1, tokens.items()[first as usize])));
     }
-    match statement_fault(text, tokens, first) {
-        Some(fault) => Err(Refusal::Fault(fault)),
-        None => match query(alloc, &mut from) {
-            Ok(query) => bind(alloc, cat, query),
-            Err(_) => Err(Refusal::Memory),
-        },
+    if let Some(fault) = statement_fault(text, tokens, first) {
+        return Err(Refusal::Fault(fault));
     }
+    let query = query(alloc, &mut from)?;
+    bind(alloc, cat, query)
 }

@@ -2,7 +2,7 @@
 //! apart from this one.
 
 ghost use Rattle.std.specs.Prelude.{◌≡◌, ◌≤◌, ◌^◌, ◌∷◌, [], length, true, IfOk};
-ghost use Rattle.catalog.specs.Names.{begins_name};
+ghost use Rattle.pg_base.specs.Names.{begins_name};
 
 use crate::read_select;
 use catalog::{Catalog, CatalogFault};

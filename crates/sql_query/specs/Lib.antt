@@ -1,1 +1,5 @@
+pub mod Queries
 pub mod WellBound
+pub mod Worlds
+pub mod Tuples
+pub mod Meaning

@@ -1,11 +1,13 @@
 use Rattle.std.proofs.Common.{◌≡◌, ◌<◌, ℕ, true, List, [], ◌∷◌, ◌++◌, length, All, Contains, arith, sym, refl, ◌∙◌, subst}
-use Rattle.std.proofs.lemmas.List.Elements.{All-contains_itself, All-from_recursion}
+use Rattle.std.proofs.lemmas.List.Elements.{All-contains_itself, All-from_recursion, All-nil}
 use Rattle.pg_expr.specs.declared.operand.ColRef.{ColRef}
 use Rattle.catalog.specs.Contents.{Contents, IsTable, table_at}
-use Rattle.catalog.specs.Names.{begins_name, IsName}
+use Rattle.pg_base.specs.Names.{begins_name, IsName}
 use Rattle.catalog.specs.Range.{IsRange, Range}
-use Rattle.sql_query.specs.WellBound.{IsColumnOf, IsWellBound}
-use Rattle.sql_query.specs.declared.prepared.Prepared.{Prepared}
+use Rattle.pg_expr.specs.Cond.{Cond}
+use Rattle.pg_expr.specs.Typed.{IsTyped}
+use Rattle.sql_query.specs.Queries.{Query}
+use Rattle.sql_query.specs.WellBound.{IsColumnOf, IsWellBound, NamesOnly, column_at}
 use Rattle.answer.proofs.tests.query_of.Goals as goal
 
 -- the relation of the query, and a column of it
@@ -34,8 +36,8 @@ module _ (c : Contents) (alias : ℕ) (one : length c.tables ≡ 1) (wide : leng
   of_table : (n : ℕ) → n < 3 → IsColumnOf c (relation alias) (column n)
   of_table n few = record { relation = omega arith; column = omega (arith, wide, few) }
 
-  well_bound : (q : Prepared) → q.range ≡ relation alias → q.select ≡ three → q.used ≡ three → IsWellBound c q
-  well_bound q of select used = record {
+  well_bound : (q : Query) → q.range ≡ relation alias → q.select ≡ three → q.used ≡ three → q.where_all ≡ [] → IsWellBound c q
+  well_bound q of select used none = record {
     range = (let P : Range → Type 0 = λ r. IsRange c r in subst P (sym of) range);
     used = (
         let P : Range → Type 0 = λ r. All (IsColumnOf c r) q.used in
@@ -43,10 +45,16 @@ module _ (c : Contents) (alias : ℕ) (one : length c.tables ≡ 1) (wide : leng
         subst P (sym of) (subst Q (sym used) (All-from_recursion (IsColumnOf c (relation alias)) three (of_table 2 (omega arith), (of_table 0 (omega arith), (of_table 1 (omega arith), tt)))))
         );
     select = (let P : List ColRef → Type 0 = λ l. All (Contains q.used) l in subst P (used ∙ sym select) (All-contains_itself q.used));
+    conditions = (let P : List Cond → Type 0 = λ es. All (NamesOnly q.used) es in subst P (sym none) (All-nil (NamesOnly q.used)));
+    typed = (
+        let typed : Cond → Type 0 = IsTyped (λ x. (column_at c q.range x).typed) in
+        let P : List Cond → Type 0 = λ es. All typed es in
+        subst P (sym none) (All-nil typed)
+        );
   }
 
 pub returns-clause-bound : goal.returns-clause-bound
 returns-clause-bound c =
     well_bound c.args.catalog.now c.args.alias c.requires.one c.requires.three c.requires.alias _
     (c.from_vec.ensures ∙ pushed _ _ _ c.args.alias c.new-relations.ensures.items c.in_ok-push.ensures.items c.in_ok-name.ensures)
-    c.in_ok-select.ensures c.in_ok-used.ensures
+    c.in_ok-select.ensures c.in_ok-used.ensures (rw (c.from_vec-2.ensures, c.new.ensures.items) refl)

@@ -1,21 +1,35 @@
-use Rattle.std.proofs.Common.{◌-◌, refl, sym, ap, ◌∙◌, subst, length}
+use Rattle.std.proofs.Common.{◌∙◌, refl, sym, ap, subst}
 use Rattle.sql_grammar.specs.declared.class.Word.TheVariants.{Create}
 use Rattle.sql_grammar.specs.Terminals.{t_key}
-use Rattle.sql_cursor.specs.Pieces.{words, places}
+use Rattle.sql_grammar.specs.Words.{words_of, words_of_ending}
+use Rattle.sql_grammar.specs.Faults.{terminals}
 use Rattle.sql_cursor.specs.Reading.{BeginsNot}
-use Rattle.ddl_reader.specs.Places.{token_at}
-use Rattle.ddl_reader.specs.Statements.{begins_ddl}
-use Rattle.ddl_reader.specs.Readings.{ReadsAs}
-use Rattle.ddl_reader.proofs.StatementLaws.{after-create, without-create}
+use Rattle.ddl_reader.proofs.StatementLaws.{creates, loads, table-as, data-as}
 use Rattle.ddl_reader.proofs.read.statement.Goals as goal
 
+pub table-requires : goal.table-requires
+table-requires c =
+    let (x, is) = c.requires.tree in
+    let (token, took) = c.if-takes.ensures.took refl in
+    let t = creates x token c.takes.new.self (is ∙ (sym c.new-from.ensures ∙ took)) in
+    (t.name, t.opening, t.column, t.columns, t.closing, words_of_ending t.ending, c.skip.ensures ∙ t.words)
+
 pub returns-then-takes : goal.returns-then-takes
-returns-then-takes c = λ x is ddl last.
-    after-create c.args.cat.now c.args.text.now c.args.from.now c.takes.new.self c.skip.new.self (c.if-takes.ensures.took refl) c.skip.ensures c.table.result c.table.ensures x is
+returns-then-takes c = λ x is.
+    let (token, took) = c.if-takes.ensures.took refl in
+    let t = creates x token c.takes.new.self (is ∙ (sym c.new-from.ensures ∙ took)) in
+    table-as c.args.cat.now c.args.text.now x c.takes.new.self c.table.result t
+    (c.table.ensures t.name t.opening t.column t.columns t.closing (words_of_ending t.ending) (c.skip.ensures ∙ t.words))
+
+pub data-requires-clause-copy : goal.data-requires-clause-copy
+data-requires-clause-copy c =
+    let (x, is) = c.requires.tree in
+    let left = c.if-takes.ensures.left refl ∙ c.new-from.ensures in
+    let (k, n, null, copy) = loads x (terminals c.args.text.now c.args.tokens.now) is c.requires.opens (subst (BeginsNot (t_key Create)) c.new-from.ensures (c.if-takes.ensures.other refl)) in
+    (k, n, null, left ∙ (sym is ∙ ap words_of copy))
 
 pub returns : goal.returns
-returns c = λ x is ddl last.
-    let left = c.if-takes.ensures.left refl in
-    subst (λ l. ReadsAs c.args.cat.now c.args.text.now (places l) x c.data.result) left
-    (without-create c.args.cat.now c.args.text.now c.takes.new.self (subst (BeginsNot (t_key Create)) (sym left) (c.if-takes.ensures.other refl)) c.args.end c.data.result c.data.ensures x
-    (ap words left ∙ is) (ap (λ l. begins_ddl (words l)) left ∙ ddl) (last ∙ ap (λ l. (token_at (places l) (length (places l) - 1)).end) (sym left)))
+returns c = λ x is.
+    let left = c.if-takes.ensures.left refl ∙ c.new-from.ensures in
+    let (k, n, null, copy) = loads x (terminals c.args.text.now c.args.tokens.now) is c.requires.opens (subst (BeginsNot (t_key Create)) c.new-from.ensures (c.if-takes.ensures.other refl)) in
+    data-as c.args.cat.now c.args.text.now x c.data.result k n null copy (c.data.ensures k n null (left ∙ (sym is ∙ ap words_of copy)))

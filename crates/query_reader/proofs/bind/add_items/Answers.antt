@@ -1,7 +1,7 @@
 use Rattle.std.proofs.Common.{[], ◌∷◌, ◌++◌, ◌+◌, Ok, drop, sym, ap, ◌∙◌, arith, append_assoc}
 use Rattle.query_reader.specs.Scope.{scope_of}
 use Rattle.query_reader.specs.Binding.{list_columns, then_columns}
-use Rattle.query_reader.proofs.BindLaws.{adds-ok, then-then, next-item-columns}
+use Rattle.query_reader.proofs.BindLaws.{adds-ok, list-stopped, then-then, next-item-columns}
 use Rattle.query_reader.proofs.bind.add_items.Goals as goal
 
 pub loop-item-preserved : goal.loop-item-preserved
@@ -15,3 +15,10 @@ loop-item-preserved c =
       a.grown ∙ (ap (λ l. l ++ a.columns) grown ∙ append_assoc c.args.all.now.items so a.columns),
       sym (then-then so a.columns later) ∙ (ap (then_columns (Ok so)) (ap (λ x. then_columns x later) (sym a.is) ∙ sym next) ∙ whole),
     )
+
+pub returns-in_err-add_item : goal.returns-in_err-add_item
+returns-in_err-add_item c =
+    let scope = scope_of c.args.cat.now ((c.args.table, c.args.alias.now) ∷ []) in
+    let (so, grown, whole) = c.loop-item.invariant in
+    let next = next-item-columns scope c.args.items.now c.loop-item.item-index c.item-item.result (omega arith) c.item-item.is in
+    list-stopped _ _ _ _ _ so _ _ _ _ _ (ap (then_columns (Ok so)) (sym next) ∙ whole) c.in_err-add_item.ensures c.from_residual.ensures.1

@@ -7,7 +7,7 @@ use Rattle.query_reader.proofs.bind.every.Goals as goal
 pub loop-col-preserved : goal.loop-col-preserved
 loop-col-preserved c =
     let (number, so) = c.loop-col.invariant in
-    (number, λ alias. column-added _ _ _ _ _ _ c.in_ok-push.ensures (column-more alias (table_at c.args.cat.now c.args.table).names c.loop-col.col (omega (arith, number))) (so alias))
+    (number, λ alias. column-added _ _ _ _ _ _ c.in_ok-push.ensures.items (column-more alias (table_at c.args.cat.now c.args.table).names c.loop-col.col (omega (arith, number))) (so alias))
 
 pub returns : goal.returns
 returns c = λ alias.

@@ -1,17 +1,28 @@
 use Rattle.std.proofs.Common.{◌∷◌, refl, sym, ap, ◌∙◌}
-use Rattle.query_reader.specs.Pieces.{piece_of_name}
+use Rattle.std.proofs.lemmas.Result.{IfOk-weaker}
+use Rattle.sql_grammar.specs.Terminals.{t_name}
 use Rattle.query_reader.proofs.Parts.{begins-so}
 use Rattle.query_reader.proofs.read.item.Goals as goal
 
-pub returns-in-Ok-clause-read : goal.returns-in-Ok-clause-read
-returns-in-Ok-clause-read c = λ s rest ends is.
-    let same = c.if-takes_mark.ensures.left refl in
+pub name-requires : goal.name-requires
+name-requires c =
+    let (s, rest, ends, is) = c.requires in
     let so = begins-so s rest _ (c.if-takes_mark.ensures.other refl) is in
-    let read = c.in-Ok.ensures.read so.name so.left (same ∙ so.words) in
-    c.after_name.ensures.read so.name s rest ends read.0 (ap (λ l. piece_of_name so.name ∷ l) read.1 ∙ (sym so.words ∙ is))
+    (so.name, so.left, c.if-takes_mark.ensures.left refl ∙ so.words)
 
-pub returns-in-Err-clause-read : goal.returns-in-Err-clause-read
-returns-in-Err-clause-read c = λ s rest ends is.
-    let same = c.if-takes_mark.ensures.left refl in
+pub after_name-requires : goal.after_name-requires
+after_name-requires c =
+    let (s, rest, ends, is) = c.requires in
     let so = begins-so s rest _ (c.if-takes_mark.ensures.other refl) is in
-    c.in-Err.ensures.read so.name so.left (same ∙ so.words)
+    let read = c.in_ok-first.ensures.read so.name so.left (c.if-takes_mark.ensures.left refl ∙ so.words) in
+    (so.name, s, rest, ends, ap (λ l. t_name so.name ∷ l) read.1 ∙ (sym so.words ∙ is))
+
+pub returns-clause-read : goal.returns-clause-read
+returns-clause-read c =
+    IfOk-weaker c.after_name.result _ _
+    (λ x read s rest ends is. (
+    let so = begins-so s rest _ (c.if-takes_mark.ensures.other refl) is in
+    let named = c.in_ok-first.ensures.read so.name so.left (c.if-takes_mark.ensures.left refl ∙ so.words) in
+    read so.name s rest ends named.0 (ap (λ l. t_name so.name ∷ l) named.1 ∙ (sym so.words ∙ is))
+    ))
+    c.after_name.ensures.read

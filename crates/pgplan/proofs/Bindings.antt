@@ -1,19 +1,20 @@
--- What a SELECT is bound to has one relation, and a fault of its names is in no record of data.
-use Rattle.std.proofs.Common.{◌≡◌, ℕ, List, [], ◌∷◌, length, Option, Some, None, Ok, Err, Result, refl, subst, ap}
+-- A fault of a SELECT is in no record of data.
+use Rattle.std.proofs.Common.{◌≡◌, ℕ, List, [], ◌∷◌, Option, Some, None, Ok, Err, Result, refl, subst, ap}
 use Rattle.pg_base.specs.declared.numbers.TableNo.{TableNo}
 use Rattle.pg_base.specs.declared.faults.Fault.{Fault}
 use Rattle.pg_expr.specs.declared.operand.ColRef.{ColRef}
 use Rattle.catalog.specs.Contents.{Contents}
+use Rattle.catalog.specs.Range.{Range}
 use Rattle.catalog.specs.Tables.{table_named}
 use Rattle.sql_lex.specs.declared.tokens.Token.{Token}
+use Rattle.sql_grammar.specs.Syntax.{Select}
 use Rattle.sql_grammar.specs.Faults.{Production, IsFirstFault}
-use Rattle.sql_query.specs.declared.prepared.Prepared.{Prepared}
 use Rattle.query_reader.specs.declared.written.Item.{Item}
 use Rattle.query_reader.specs.declared.written.Item.TheVariants.{Every, EveryOf, Bare, Qualified}
 use Rattle.query_reader.specs.declared.written.Source.{Source}
-use Rattle.query_reader.specs.Written.{Written}
+use Rattle.query_reader.specs.Written.{Written, written_of}
 use Rattle.query_reader.specs.Scope.{Scope, scope_of, under, Found, one, no_table, no_column, many, look_up}
-use Rattle.query_reader.specs.Binding.{found_column, found_relation, item_columns, then_columns, list_columns, alias_or, source_range, shows, bound_over, bound}
+use Rattle.query_reader.specs.Binding.{found_column, found_relation, item_columns, then_columns, list_columns, alias_or, source_range, shows, bound_over, bound_written, bound}
 
 -- a fault is in no record
 abbrev IsPlain : {A : Type 0} → Result A Fault → Type 0
@@ -45,29 +46,21 @@ list-plain : (scope : Scope) (items : List Item) → IsPlain (list_columns scope
 list-plain scope [] = tt
 list-plain scope (item ∷ items) = then-plain (item_columns scope item) (list_columns scope items) (item-plain scope item) (list-plain scope items)
 
--- so is the fault of a query, and a query has one relation
-abbrev HasOne : Result Prepared Fault → Type 0
-HasOne (Ok p) = length p.range ≡ 1
-HasOne (Err f) = f.rec ≡ 0
+shows-plain : (range : Range) (columns : Result (List ColRef) Fault) → IsPlain columns → IsPlain (shows range columns)
+shows-plain range (Ok columns) h = tt
+shows-plain range (Err f) h = h
 
-shows-one : (table : TableNo) (alias : List ℕ) (columns : Result (List ColRef) Fault) → IsPlain columns → HasOne (shows ((table, alias) ∷ []) columns)
-shows-one table alias (Ok columns) h = refl
-shows-one table alias (Err f) h = h
-
-over-one : (c : Contents) (table : Option TableNo) (source : Source) (items : List Item) → HasOne (bound_over c (source_range table source) items)
-over-one c None source items = refl
-over-one c (Some table) source items =
+over-plain : (c : Contents) (table : Option TableNo) (source : Source) (items : List Item) → IsPlain (bound_over c (source_range table source) items)
+over-plain c None source items = refl
+over-plain c (Some table) source items =
     let range = (table, alias_or source.alias source.table) ∷ [] in
-    shows-one table (alias_or source.alias source.table) (list_columns (scope_of c range) items) (list-plain (scope_of c range) items)
+    shows-plain range (list_columns (scope_of c range) items) (list-plain (scope_of c range) items)
 
-bound-one : (c : Contents) (w : Written) → HasOne (bound c w)
-bound-one c w = over-one c (table_named c w.source.table.bytes) w.source w.items
+written-plain : (c : Contents) (w : Written) → IsPlain (bound_written c w)
+written-plain c w = over-plain c (table_named c w.source.table.bytes) w.source w.items
 
-pub one-relation : (c : Contents) (w : Written) (p : Prepared) → bound c w ≡ Ok p → length p.range ≡ 1
-one-relation c w p is = subst HasOne is (bound-one c w)
-
-pub bound-plain : (c : Contents) (w : Written) (f : Fault) → bound c w ≡ Err f → f.rec ≡ 0
-bound-plain c w f is = subst HasOne is (bound-one c w)
+pub bound-plain : (c : Contents) (q : Select) (f : Fault) → bound c q ≡ Err f → f.rec ≡ 0
+bound-plain c q f is = subst IsPlain is (written-plain c (written_of q))
 
 pub first-plain : (Of : Production) (text : List ℕ) (tokens : List Token) (f : Fault) → IsFirstFault Of text tokens f → f.rec ≡ 0
 first-plain Of text tokens f first = ap (λ (x : Fault). x.rec) first.place

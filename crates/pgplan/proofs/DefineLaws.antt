@@ -3,11 +3,13 @@ use Rattle.std.proofs.Common.{◌≡◌, ◌≤◌, ◌^◌, ℕ, Bool, true, fa
 use Rattle.std.specs.Str.{bytes_eq}
 use Rattle.pg_base.specs.declared.numbers.TableNo.{TableNo}
 use Rattle.pg_base.specs.declared.faults.Fault.{Fault}
+use Rattle.pg_base.specs.declared.limits.TheConstants.{MOST_COLUMNS, MOST_SCRIPT_BYTES}
 use Rattle.pg_base.specs.declared.faults.Refusal.{Refusal}
 use Rattle.pg_base.specs.declared.faults.Refusal.TheVariants as refusal
 use Rattle.pg_value.specs.declared.columns.Column.{Column}
 use Rattle.pg_value.specs.declared.value.SqlType.{SqlType}
 use Rattle.sql_lex.specs.declared.tokens.Token.{Token}
+use Rattle.sql_grammar.specs.Terminals.{token_of}
 use Rattle.sql_grammar.specs.Syntax.{Statement, empty, create_table, query, copy}
 use Rattle.sql_grammar.specs.Faults.{terminals, bytes_of}
 use Rattle.sql_grammar.specs.CopyLine.{IsDataStart}
@@ -17,23 +19,23 @@ use Rattle.ddl_reader.specs.declared.ddl.Ddl.{Ddl}
 use Rattle.ddl_reader.specs.declared.ddl.Ddl.TheVariants.{Table, Copy}
 use Rattle.ddl_reader.specs.declared.ddl.Read.{Read}
 use Rattle.ddl_reader.specs.Readings.{definition, reading}
-use Rattle.ddl_reader.specs.Places.{token_at}
 use Rattle.ddl_reader.specs.Types.{type_named}
-use Rattle.ddl_reader.specs.Columns.{Written, Bound, bound, bound_by, before_all, bound_all, columns_over}
-use Rattle.ddl_reader.specs.Tables.{table, data_for, Reading, table_reading, limited, table_of, null_text, data_of, data_after}
+use Rattle.ddl_reader.specs.Columns.{Written, written, Bound, bound, bound_by, before_all, bound_all, further}
+use Rattle.ddl_reader.specs.Tables.{table, data_for, Reading, table_reading, limited, table_of, data_of, data_after}
+use Rattle.pg_value.specs.Fields.{null_text}
 use Rattle.ddl_reader.specs.Soundness.{IsSound, IsSoundTable}
 use Rattle.ddl_reader.specs.Block.{IsBlockEnd}
 use Rattle.ddl_reader.specs.Statements.{begins_ddl, Means, IsMeaning, IsDdlFault, IsDdlRefusal}
 use Rattle.fault_line.specs.Tells.{IsFieldOf}
 use Rattle.heap.specs.Loading.{loaded, records_of}
 use Rattle.heap.specs.Stored.{Stored}
-use Rattle.answer.specs.Worlds.{World, stored_at}
+use Rattle.sql_query.specs.Worlds.{World, stored_at}
 use Rattle.pgplan.specs.declared.end.End.{End}
 use Rattle.pgplan.specs.declared.end.End.TheVariants as ends
 use Rattle.pgplan.specs.Actions.{Action, after, make, fill}
 use Rattle.pgplan.specs.Ending.{end_of_refusal}
-use Rattle.pgplan.specs.Faults.{IsRefused, IsMeaningFault, IsFaultOver}
-use Rattle.pgplan.specs.Reads.{end_of, Carries, Does}
+use Rattle.pgplan.specs.Faults.{IsRefused, IsMeaningFault, IsFaultOver, in_syntax, in_meaning}
+use Rattle.pgplan.specs.Accepted.{end_of, Carries, Does}
 use Rattle.pgplan.specs.Replies.{IsReply, no_reply}
 use Rattle.pgplan.specs.Steps.{IsDefined, Refuses, RefusesDefinition}
 
@@ -64,7 +66,7 @@ limited-plain m (b ∷ left) = refl
 
 table-plain : (name : List ℕ) (token : Token) (m : Result (List Bound) Fault) → rec-of m ≡ 0 → rec-of (table_of name token m) ≡ 0
 table-plain name token (Err f) none = none
-table-plain name token (Ok bs) none = limited-plain (table_reading name token bs) (drop 16 bs)
+table-plain name token (Ok bs) none = limited-plain (table_reading name token bs) (drop MOST_COLUMNS bs)
 
 either-plain : (b : Bool) (m : Reading) (f : Fault) → f.rec ≡ 0 → rec-of (cond b (Ok m) (Err f)) ≡ 0
 either-plain true m f none = refl
@@ -78,42 +80,35 @@ after-plain : (text : List ℕ) (end : ℕ) (o : Option TableNo) (name_at null_a
 after-plain text end o name_at null_at null (Err f) begins = ap (λ (g : Fault). g.rec) begins.1
 after-plain text end o name_at null_at null (Ok start) begins = data-plain o name_at null_at null start
 
-means-plain : (cat : Contents) (text : List ℕ) (tokens : List Token) (x : Statement) (r : Result Reading Fault) → Means cat text tokens x r → rec-of r ≡ 0
-means-plain cat text tokens (empty e) r means = absurd means
-means-plain cat text tokens (query q e) r means = absurd means
-means-plain cat text tokens (create_table n c cs e) r means = ap rec-of means ∙ table-plain (bytes_of n) (token_at tokens 2) (bound_all (columns_over (c ∷ cs) (drop 4 tokens))) (columns-plain (columns_over (c ∷ cs) (drop 4 tokens)))
-means-plain cat text tokens (copy n null) r (start, begins, means) = ap rec-of means ∙ after-plain text _ (table_named cat (bytes_of n)) _ _ null start begins
+means-plain : (cat : Contents) (text : List ℕ) (x : Statement) (r : Result Reading Fault) → Means cat text x r → rec-of r ≡ 0
+means-plain cat text (empty e) r means = absurd means
+means-plain cat text (query q e) r means = absurd means
+means-plain cat text (create_table k t n o c cs m e) r means = ap rec-of means ∙ table-plain (bytes_of n) (token_of n) (bound_all (written c ∷ further cs)) (columns-plain (written c ∷ further cs))
+means-plain cat text (copy k n null) r (start, begins, means) = ap rec-of means ∙ after-plain text k.stop.end (table_named cat (bytes_of n)) (token_of n) null.token null.value start begins
 
 module _ (w : World) (text : List ℕ) (tokens : List Token) where
-  names-fault : (x : Statement) (f : Fault) → Means w.contents text tokens x (Err f) → IsMeaningFault w text tokens x f
+  names-fault : (x : Statement) (f : Fault) → Means w.contents text x (Err f) → IsMeaningFault w text x f
   names-fault (empty e) f means = absurd means
   names-fault (query q e) f means = absurd means
-  names-fault (create_table n c cs e) f means = inl means
-  names-fault (copy n null) f means = inl means
+  names-fault (create_table k t n o c cs m e) f means = inl means
+  names-fault (copy k n null) f means = inl means
 
-  carried-fault : (x : Statement) (r : Reading) (f : Fault) → Means w.contents text tokens x (Ok r) → IsRefused w text r.definition r.at f → IsMeaningFault w text tokens x f
+  carried-fault : (x : Statement) (r : Reading) (f : Fault) → Means w.contents text x (Ok r) → IsRefused w text r.definition r.at f → IsMeaningFault w text x f
   carried-fault (empty e) r f means because = absurd means
   carried-fault (query q e) r f means because = absurd means
-  carried-fault (create_table n c cs e) r f means because = inr (r, means, because)
-  carried-fault (copy n null) r f means because = inr (r, means, because)
+  carried-fault (create_table k t n o c cs m e) r f means because = inr (r, means, because)
+  carried-fault (copy k n null) r f means because = inr (r, means, because)
 
-  does : (x : Statement) (r : Reading) (action : Action) (next : ℕ) → Means w.contents text tokens x (Ok r) → Carries w text tokens r.definition action next → Does w text tokens x action next
+  does : (x : Statement) (r : Reading) (action : Action) (next : ℕ) → Means w.contents text x (Ok r) → Carries w text tokens r.definition action next → Does w text tokens x action next
   does (empty e) r action next means carries = absurd means
   does (query q e) r action next means carries = absurd means
-  does (create_table n c cs e) r action next means carries = (r, means, carries)
-  does (copy n null) r action next means carries = (r, means, carries)
-
-  faulty : (r : Result Reading Fault) (f : Fault) (m : IsMeaning w.contents text tokens r) → IsMeaningFault w text tokens m.whole.statement.0 f → IsFaultOver w text tokens f
-  faulty r f m fault = inr (record { statement = m.whole.statement.0; spelled = m.whole.statement.2; within = m.whole.within; fault = fault })
-
-  means-of : (r : Result Reading Fault) (m : IsMeaning w.contents text tokens r) → Means w.contents text tokens m.whole.statement.0 r
-  means-of r m = m.means m.whole.statement.0 m.whole.statement.2
+  does (create_table k t n o c cs m e) r action next means carries = (r, means, carries)
+  does (copy k n null) r action next means carries = (r, means, carries)
 
   refused-by : (f : Fault) → IsDdlFault w.contents text tokens f true → IsFaultOver w text tokens f × IsFieldOf w.contents f
-  refused-by f (inl first) = (inl first, no-field w.contents f (ap (λ (g : Fault). g.rec) first.place))
+  refused-by f (inl first) = (in_syntax first, no-field w.contents f (ap (λ (g : Fault). g.rec) first.place))
   refused-by f (inr m) =
-      let means = means-of (Err f) m in
-      (faulty (Err f) f m (names-fault m.whole.statement.0 f means), no-field w.contents f (means-plain w.contents text tokens m.whole.statement.0 (Err f) means))
+      (in_meaning m.statement m.spelled (names-fault m.statement f m.means), no-field w.contents f (means-plain w.contents text m.statement (Err f) m.means))
 
   -- what the reader refuses
   pub read-refused : (r : Refusal) → begins_ddl (terminals text tokens) ≡ true → IsDdlRefusal w.contents text tokens r → Refuses (end_of_refusal r) w text tokens
@@ -122,19 +117,15 @@ module _ (w : World) (text : List ℕ) (tokens : List Token) where
 
   -- what is read and not carried out
   pub definition-refused : (r : Reading) (e : End) → IsMeaning w.contents text tokens (Ok r) → RefusesDefinition e w text r.definition r.at → Refuses e w text tokens
-  definition-refused r (ends.Fault f) m h = (faulty (Ok r) f m (carried-fault m.whole.statement.0 r f (means-of (Ok r) m) h.0), h.1)
+  definition-refused r (ends.Fault f) m h = (in_meaning m.statement m.spelled (carried-fault m.statement r f m.means h.0), h.1)
   definition-refused r ends.Write m h = h
   definition-refused r ends.Memory m h = tt
 
   -- what is carried out
   pub defined-as : (w' : World) (r : Reading) (action : Action) (next : ℕ) → IsMeaning w.contents text tokens (Ok r) → Carries w text tokens r.definition action next → IsReply w action no_reply → w' ≡ after w action →
       IsDefined w w' text tokens next
-  defined-as w' r action next m carries reply is = (
-    action,
-    record { statement = m.whole.statement.0; spelled = m.whole.statement.2; within = m.whole.within; does = does m.whole.statement.0 r action next (means-of (Ok r) m) carries },
-    reply,
-    is,
-  )
+  defined-as w' r action next m carries reply is =
+      (action, record { statement = m.statement; spelled = m.spelled; does = does m.statement r action next m.means carries }, reply, is)
 
 -- why a new table is refused is told without a text
 table-refused : (e : End) (w : World) (text name : List ℕ) (names : List (List ℕ)) (columns : List Column) (at : List ℕ) → RefusesDefinition e w [] (table name names columns) at → RefusesDefinition e w text (table name names columns) at
@@ -152,7 +143,7 @@ data-refused ends.Memory w text t start at h = tt
 seen : (v : Read) (d : Ddl) → v.ddl ≡ d → reading v ≡ record { definition = definition d; at = v.at.items; method = v.method }
 seen v d is = ap (λ (x : Ddl). record { definition = definition x; at = v.at.items; method = v.method }) is
 
-pub low-places : (text at places : List ℕ) → places ≡ at → length text ≤ 2 ^ 24 → All (λ a. a ≤ length text) at → All (λ a. a ≤ 2 ^ 31) places
+pub low-places : (text at places : List ℕ) → places ≡ at → length text ≤ MOST_SCRIPT_BYTES → All (λ a. a ≤ length text) at → All (λ a. a ≤ 2 ^ 31) places
 low-places text at places same short low k d lt =
     let here = low k d (omega (arith, lt, ap length same)) in
     let is = ap (λ (l : List ℕ). get_or l k d) same in

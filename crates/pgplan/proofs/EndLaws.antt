@@ -1,6 +1,6 @@
 -- Where the words of a new table end.
 use Rattle.std.proofs.Common.{◌≡◌, ◌<◌, ◌+◌, ℕ, List, [], ◌∷◌, length, get_or, refl, zero, suc, arith, ap, sym, ◌∙◌}
-use Rattle.pgplan.specs.Ending.{word_ends}
+use Rattle.pgplan.specs.Faults.{word_ends}
 
 pub ends-length : (at : List ℕ) (words : List (List ℕ)) → length at ≡ length words → length (word_ends at words) ≡ length words
 ends-length [] words same = same

@@ -1,21 +1,18 @@
 -- Data end at one place, and a table is refused for one cause.
-use Rattle.std.proofs.Common.{◌≡◌, ℕ, ◌+◌, ◌<◌, inl, inr, List, [], ◌∷◌, ◌++◌, length, take, drop, get_or, true, false, refl, sym, ap, ◌∙◌, arith, subst, Contains, slice_index_or, Result, Ok, Err}
+use Rattle.std.proofs.Common.{◌≡◌, ℕ, ◌+◌, ◌<◌, inl, inr, List, [], ◌∷◌, ◌++◌, length, take, drop, get_or, true, false, refl, sym, ap, ◌∙◌, arith, subst, Contains, slice_index_or, Some, None, Result, Ok, Err}
 use Rattle.std.proofs.lemmas.Bool.{cases_lt}
 use Rattle.std.proofs.lemmas.List.{get_or-take, get_or_default, length-take, take-take}
 use Rattle.std.proofs.lemmas.List.Elements.{All-head, All-tail}
-use Rattle.pg_base.specs.declared.numbers.TableNo.{TableNo}
 use Rattle.pg_base.specs.declared.faults.Fault.{Fault}
 use Rattle.sql_grammar.specs.CopyLine.{IsDataStart}
 use Rattle.catalog.specs.Contents.{Contents}
-use Rattle.catalog.specs.Names.{AreDistinct, IsFirstRepeat}
+use Rattle.pg_base.specs.Names.{AreDistinct, IsFirstRepeat}
 use Rattle.catalog.specs.Tables.{IsAcceptable, IsRefusal}
 use Rattle.catalog.specs.declared.fault.CatalogFault.{CatalogFault}
 use Rattle.catalog.specs.declared.fault.CatalogFault.TheVariants.{NameTaken, ColumnTwice, TooMany, BadNumber, Memory}
 use Rattle.catalog.proofs.NameLaws.{fresh}
 use Rattle.ddl_reader.specs.Block.{HaveNoMark, is_mark, size_of, lines_of, IsBlockEnd}
-use Rattle.heap.specs.declared.fault.CopyFault.{CopyFault}
-use Rattle.heap.specs.declared.fault.CopyFault.TheVariants as copying
-use Rattle.pgplan.specs.Faults.{IsCatalogueFault, IsDataFault}
+use Rattle.pgplan.specs.Faults.{table_fault}
 
 -- a line is a mark or none
 marked : (a b : List ℕ) → is_mark a ≡ true → is_mark b ≡ false → a ≡ b → ⊥
@@ -53,15 +50,9 @@ one_start text from (Ok a) (Err g) h k = absurd (k.0 h.0)
 one_start text from (Err f) (Ok b) h k = absurd (h.0 k.0)
 one_start text from (Err f) (Err g) h k = ap Err (h.1 ∙ sym k.1)
 
--- what data are refused for is told in one way
-pub one_data : (e : CopyFault) (t : TableNo) (start : ℕ) (f g : Fault) → IsDataFault e t start f → IsDataFault e t start g → f ≡ g
-one_data (copying.Arity rec) t start f g h k = h ∙ sym k
-one_data (copying.Range rec col) t start f g h k = h ∙ sym k
-one_data (copying.Invalid rec col) t start f g h k = h ∙ sym k
-one_data (copying.IsNull rec col) t start f g h k = h ∙ sym k
-one_data (copying.TooLong rec col) t start f g h k = h ∙ sym k
-one_data (copying.TooMany rec) t start f g h k = h ∙ sym k
-one_data copying.Memory t start f g h k = absurd h
+-- a fault that is told twice
+pub some-one : (f g : Fault) → Some f ≡ Some g → f ≡ g
+some-one f g e = cc
 
 -- a repeat among some names
 repeats : (names : List (List ℕ)) (place : ℕ) → IsFirstRepeat names place → AreDistinct names → ⊥
@@ -83,30 +74,34 @@ one_repeat names p q h k = elim (cases_lt p q) [
   | inr le ↦ elim (cases_lt q p) [ inl lt ↦ absurd (later names q p k h lt) | inr ge ↦ omega (arith, le, ge) ]
 ]
 
+-- a fault that is none
+no-fault : (f : Fault) → None ≡ Some f → ⊥
+no-fault f e = cc
+
 -- a new table is refused in one way
-pub one_refusal : (c : Contents) (name : List ℕ) (names : List (List ℕ)) (at : List ℕ) (d e : CatalogFault) (f g : Fault) → IsRefusal c name names d → IsRefusal c name names e
-    → IsCatalogueFault d name names at f → IsCatalogueFault e name names at g → f ≡ g
-one_refusal c name names at NameTaken NameTaken f g h k i j = i ∙ sym j
-one_refusal c name names at NameTaken (ColumnTwice q) f g h k i j = absurd (k.0 h)
-one_refusal c name names at NameTaken TooMany f g h k i j = absurd (k.0 h)
-one_refusal c name names at (ColumnTwice p) NameTaken f g h k i j = absurd (h.0 k)
-one_refusal c name names at (ColumnTwice p) (ColumnTwice q) f g h k i j =
+pub one_refusal : (c : Contents) (name : List ℕ) (names : List (List ℕ)) (at ends : List ℕ) (d e : CatalogFault) (f g : Fault) → IsRefusal c name names d → IsRefusal c name names e
+    → table_fault d at ends ≡ Some f → table_fault e at ends ≡ Some g → f ≡ g
+one_refusal c name names at ends NameTaken NameTaken f g h k i j = some-one f g (sym i ∙ j)
+one_refusal c name names at ends NameTaken (ColumnTwice q) f g h k i j = absurd (k.0 h)
+one_refusal c name names at ends NameTaken TooMany f g h k i j = absurd (k.0 h)
+one_refusal c name names at ends (ColumnTwice p) NameTaken f g h k i j = absurd (h.0 k)
+one_refusal c name names at ends (ColumnTwice p) (ColumnTwice q) f g h k i j =
     let place = one_repeat names p q h.1 k.1 in
-    let same : IsCatalogueFault (ColumnTwice q) name names at f = subst (λ n. IsCatalogueFault (ColumnTwice n) name names at f) place i in
-    same ∙ sym j
-one_refusal c name names at (ColumnTwice p) TooMany f g h k i j = absurd (repeats names p h.1 k.1)
-one_refusal c name names at TooMany NameTaken f g h k i j = absurd (h.0 k)
-one_refusal c name names at TooMany (ColumnTwice q) f g h k i j = absurd (repeats names q k.1 h.1)
-one_refusal c name names at TooMany TooMany f g h k i j = i ∙ sym j
-one_refusal c name names at (BadNumber p) _ f g h k i j = absurd i
-one_refusal c name names at Memory _ f g h k i j = absurd i
-one_refusal c name names at _ (BadNumber q) f g h k i j = absurd j
-one_refusal c name names at _ Memory f g h k i j = absurd j
+    let same : table_fault (ColumnTwice q) at ends ≡ Some f = subst (λ n. table_fault (ColumnTwice n) at ends ≡ Some f) place i in
+    some-one f g (sym same ∙ j)
+one_refusal c name names at ends (ColumnTwice p) TooMany f g h k i j = absurd (repeats names p h.1 k.1)
+one_refusal c name names at ends TooMany NameTaken f g h k i j = absurd (h.0 k)
+one_refusal c name names at ends TooMany (ColumnTwice q) f g h k i j = absurd (repeats names q k.1 h.1)
+one_refusal c name names at ends TooMany TooMany f g h k i j = some-one f g (sym i ∙ j)
+one_refusal c name names at ends (BadNumber p) _ f g h k i j = absurd h
+one_refusal c name names at ends Memory _ f g h k i j = absurd (no-fault f i)
+one_refusal c name names at ends _ (BadNumber q) f g h k i j = absurd k
+one_refusal c name names at ends _ Memory f g h k i j = absurd (no-fault g j)
 
 -- a table that may be made is not refused
-pub no_refusal : (c : Contents) (name : List ℕ) (names : List (List ℕ)) (at : List ℕ) (e : CatalogFault) (f : Fault) → IsAcceptable c name names → IsRefusal c name names e → IsCatalogueFault e name names at f → ⊥
-no_refusal c name names at NameTaken f a h i = a.free h
-no_refusal c name names at (ColumnTwice p) f a h i = repeats names p h.1 a.distinct
-no_refusal c name names at TooMany f a h i = omega (arith, h.2, a.room)
-no_refusal c name names at (BadNumber p) f a h i = absurd i
-no_refusal c name names at Memory f a h i = absurd i
+pub no_refusal : (c : Contents) (name : List ℕ) (names : List (List ℕ)) (at ends : List ℕ) (e : CatalogFault) (f : Fault) → IsAcceptable c name names → IsRefusal c name names e → table_fault e at ends ≡ Some f → ⊥
+no_refusal c name names at ends NameTaken f a h i = a.free h
+no_refusal c name names at ends (ColumnTwice p) f a h i = repeats names p h.1 a.distinct
+no_refusal c name names at ends TooMany f a h i = omega (arith, h.2, a.room)
+no_refusal c name names at ends (BadNumber p) f a h i = absurd h
+no_refusal c name names at ends Memory f a h i = no-fault f i

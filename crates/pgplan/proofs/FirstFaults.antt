@@ -1,5 +1,5 @@
 -- Tokens have one first fault of syntax, and none where they are a statement within the limits.
-use Rattle.std.proofs.Common.{◌≡◌, ◌⊎◌, inl, inr, ℕ, ◌≤◌, List, [], ◌∷◌, ◌++◌, drop, refl, sym, ap, ◌∙◌, arith, subst, Some, None}
+use Rattle.std.proofs.Common.{◌≡◌, ◌+◌, ◌⊎◌, inl, inr, ℕ, List, [], ◌∷◌, ◌++◌, drop, refl, sym, ap, ◌∙◌, subst, Some, None}
 use Rattle.std.proofs.lemmas.List.{append_assoc, append-nil, map-append}
 use Rattle.std.proofs.lemmas.List.Elements.{All-head, All-tail}
 use Rattle.pg_base.specs.declared.faults.Code.{Code}
@@ -10,16 +10,17 @@ use Rattle.pg_base.specs.declared.faults.Fault.{Fault}
 use Rattle.sql_lex.specs.declared.tokens.Token.{Token}
 use Rattle.sql_grammar.specs.Terminals.{Terminal}
 use Rattle.sql_grammar.specs.Reading.{terminal_of}
-use Rattle.sql_grammar.specs.Syntax.{Statement, empty, create_table, query, copy}
-use Rattle.sql_grammar.specs.Words.{words_of, levels_of}
+use Rattle.sql_grammar.specs.Syntax.{Statement}
+use Rattle.sql_grammar.specs.Spelled.{IsSpelled}
+use Rattle.pg_base.specs.declared.limits.TheConstants.{MOST_LEVELS}
 use Rattle.sql_grammar.specs.Faults.{Production, IsStatement, IsPrefix, limit_of, AreWithinLimits, terminals, IsAtFault, fault_at, IsFirstFault}
 
 -- what a terminal at fault does, by its kind of fault
 abbrev Cause : Production → List Terminal → Terminal → Code → Type 0
 Cause Of before t code =
     ((code ≡ S1) × ((limit : ℕ) → IsPrefix Of limit (before ++ t ∷ []) → ⊥))
-    ⊎ (((code ≡ S15 Depth) × (IsPrefix Of 32 (before ++ t ∷ []) → ⊥) × IsPrefix Of 33 (before ++ t ∷ []))
-    ⊎ ((limit : Limit) × (code ≡ S15 limit) × IsPrefix Of 32 (before ++ t ∷ []) × (limit_of t ≡ Some limit)))
+    ⊎ (((code ≡ S15 Depth) × (IsPrefix Of MOST_LEVELS (before ++ t ∷ []) → ⊥) × IsPrefix Of (MOST_LEVELS + 1) (before ++ t ∷ []))
+    ⊎ ((limit : Limit) × (code ≡ S15 limit) × IsPrefix Of MOST_LEVELS (before ++ t ∷ []) × (limit_of t ≡ Some limit)))
 
 cause : (Of : Production) (before : List Terminal) (t : Terminal) (code : Code) → IsAtFault Of before t code → Cause Of before t code
 cause Of before t S1 h = inl (refl, h)
@@ -30,12 +31,12 @@ cause Of before t _ h = absurd h
 -- one terminal after others has one kind of fault
 one_code : (Of : Production) (before : List Terminal) (t : Terminal) (c d : Code) → Cause Of before t c → Cause Of before t d → c ≡ d
 one_code Of before t c d (inl (e, h)) (inl (f, k)) = e ∙ sym f
-one_code Of before t c d (inl (e, h)) (inr (inl (f, k, l))) = absurd (h 33 l)
-one_code Of before t c d (inl (e, h)) (inr (inr (limit, f, k, l))) = absurd (h 32 k)
-one_code Of before t c d (inr (inl (e, h, g))) (inl (f, k)) = absurd (k 33 g)
+one_code Of before t c d (inl (e, h)) (inr (inl (f, k, l))) = absurd (h (MOST_LEVELS + 1) l)
+one_code Of before t c d (inl (e, h)) (inr (inr (limit, f, k, l))) = absurd (h MOST_LEVELS k)
+one_code Of before t c d (inr (inl (e, h, g))) (inl (f, k)) = absurd (k (MOST_LEVELS + 1) g)
 one_code Of before t c d (inr (inl (e, h, g))) (inr (inl (f, k, l))) = e ∙ sym f
 one_code Of before t c d (inr (inl (e, h, g))) (inr (inr (limit, f, k, l))) = absurd (h k)
-one_code Of before t c d (inr (inr (one, e, h, g))) (inl (f, k)) = absurd (k 32 h)
+one_code Of before t c d (inr (inr (one, e, h, g))) (inl (f, k)) = absurd (k MOST_LEVELS h)
 one_code Of before t c d (inr (inr (one, e, h, g))) (inr (inl (f, k, l))) = absurd (k h)
 one_code Of before t c d (inr (inr (one, e, h, g))) (inr (inr (limit, f, k, l))) =
     let same : Some one ≡ Some limit = sym g ∙ l in
@@ -43,8 +44,8 @@ one_code Of before t c d (inr (inr (one, e, h, g))) (inr (inr (limit, f, k, l)))
     e ∙ (ap S15 limits ∙ sym f)
 
 -- where the production goes on with a terminal within its limits, the terminal is not at fault
-no_cause : (Of : Production) (before : List Terminal) (t : Terminal) (code : Code) → Cause Of before t code → IsPrefix Of 32 (before ++ t ∷ []) → limit_of t ≡ None → ⊥
-no_cause Of before t code (inl (e, h)) goes within = h 32 goes
+no_cause : (Of : Production) (before : List Terminal) (t : Terminal) (code : Code) → Cause Of before t code → IsPrefix Of MOST_LEVELS (before ++ t ∷ []) → limit_of t ≡ None → ⊥
+no_cause Of before t code (inl (e, h)) goes within = h MOST_LEVELS goes
 no_cause Of before t code (inr (inl (e, h, g))) goes within = h goes
 no_cause Of before t code (inr (inr (limit, e, h, g))) goes within = let same : Some limit ≡ None = sym g ∙ within in absurd (cc)
 
@@ -63,11 +64,11 @@ within-at (x ∷ a) t b h = within-at a t b (All-tail (λ i. limit_of i ≡ None
 
 -- no token of a list is at fault that begins the production within the limits
 no_fault_in : (Of : Production) (text : List ℕ) (tokens before : List Token) (token : Token) (after : List Token) (code : Code) → tokens ≡ before ++ token ∷ after
-    → IsPrefix Of 32 (terminals text tokens) → AreWithinLimits (terminals text tokens) → IsAtFault Of (terminals text before) (terminal_of text token) code → ⊥
+    → IsPrefix Of MOST_LEVELS (terminals text tokens) → AreWithinLimits (terminals text tokens) → IsAtFault Of (terminals text before) (terminal_of text token) code → ⊥
 no_fault_in Of text tokens before token after code e begins within at =
     let is = ap (terminals text) e ∙ split text before token after in
     no_cause Of (terminals text before) (terminal_of text token) code (cause Of (terminals text before) (terminal_of text token) code at)
-    (first_part Of 32 (terminals text before ++ terminal_of text token ∷ []) (terminals text after) (subst (λ l. IsPrefix Of 32 l) is begins))
+    (first_part Of MOST_LEVELS (terminals text before ++ terminal_of text token ∷ []) (terminals text after) (subst (λ l. IsPrefix Of MOST_LEVELS l) is begins))
     (within-at (terminals text before) (terminal_of text token) (terminals text after) (subst AreWithinLimits is within))
 
 -- two splits of a list: at one place, or one before the other
@@ -103,13 +104,7 @@ pub one_first : (Of : Production) (text : List ℕ) (tokens : List Token) (f g :
 one_first Of text tokens f g p q =
     by_places Of text tokens f g p q (places p.before q.before p.token q.token p.after q.after (sym p.split ∙ q.split))
 
-level-none : (x : Statement) → levels_of x ≤ 32
-level-none (empty e) = omega arith
-level-none (create_table n c cs e) = omega arith
-level-none (query q e) = omega arith
-level-none (copy n null) = omega arith
-
 -- a statement within the limits has no first fault
-pub no_first : (text : List ℕ) (tokens : List Token) (x : Statement) (f : Fault) → words_of x ≡ terminals text tokens → AreWithinLimits (terminals text tokens) → IsFirstFault IsStatement text tokens f → ⊥
-no_first text tokens x f e within p =
-    no_fault_in IsStatement text tokens p.before p.token p.after f.code p.split ([], (x, level-none x, e ∙ sym (append-nil (terminals text tokens)))) within p.cause
+pub no_first : (text : List ℕ) (tokens : List Token) (x : Statement) (f : Fault) → IsSpelled x text tokens → IsFirstFault IsStatement text tokens f → ⊥
+no_first text tokens x f is p =
+    no_fault_in IsStatement text tokens p.before p.token p.after f.code p.split ([], (x, is.levels, is.words ∙ sym (append-nil (terminals text tokens)))) is.limits p.cause

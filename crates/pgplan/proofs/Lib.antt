@@ -10,7 +10,6 @@ pub mod Answering
 pub mod BlockLaws
 pub mod RefusalLaws
 pub mod DefineLaws
-pub mod Trees
 pub mod FirstFaults
 pub mod Ends
 pub mod OneReading

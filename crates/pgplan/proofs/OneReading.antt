@@ -1,32 +1,33 @@
 -- A statement has one reading from each place on.
-use Rattle.std.proofs.Common.{◌≡◌, ℕ, inl, inr, List, sym, ap, ◌∙◌, subst, slice_range, Result, Ok, Err}
+use Rattle.std.proofs.Common.{◌≡◌, ℕ, inl, inr, List, ◌∷◌, sym, ap, ◌∙◌, subst, slice_range, Some, Result, Ok, Err}
 use Rattle.pg_base.specs.declared.faults.Fault.{Fault}
 use Rattle.sql_lex.specs.declared.tokens.Token.{Token}
-use Rattle.sql_lex.specs.Words.{syntax_fault}
+use Rattle.pg_base.specs.Faults.{syntax_fault}
 use Rattle.sql_lex.proofs.UniqueLaws.{one_list, one_fault, no_fault}
+use Rattle.sql_grammar.specs.Terminals.{token_of}
 use Rattle.sql_grammar.specs.Syntax.{Statement, empty, create_table, query, copy}
 use Rattle.sql_grammar.specs.Faults.{bytes_of, IsStatement}
 use Rattle.catalog.specs.Contents.{Contents}
 use Rattle.catalog.specs.Tables.{table_named}
-use Rattle.ddl_reader.specs.Places.{token_at}
 use Rattle.ddl_reader.specs.Statements.{Means}
 use Rattle.ddl_reader.specs.Tables.{Definition, table, data_for, Reading, data_after}
 use Rattle.heap.specs.Loading.{records_of, loaded}
-use Rattle.answer.specs.Worlds.{World, stored_at}
+use Rattle.sql_query.specs.Worlds.{World, stored_at}
 use Rattle.pgplan.specs.Actions.{Action, fill, answer}
-use Rattle.pgplan.specs.Reads.{Carries, Does, IsReadOver, IsRead}
-use Rattle.pgplan.specs.Faults.{IsRefused, IsDefinitionFault, IsMeaningFault, IsFaultOver, IsFault, IsDataFault}
-use Rattle.pgplan.proofs.Trees.{one_tree}
+use Rattle.pgplan.specs.Accepted.{Carries, Does, IsReadOver, IsRead}
+use Rattle.pgplan.specs.Faults.{word_ends, rows_fault, IsRefused, IsDefinitionFault, IsMeaningFault, IsFaultOver, in_syntax, in_meaning, IsFault, in_words, after_words}
+use Rattle.pgplan.specs.Replies.{Reply, IsReply}
+use Rattle.sql_grammar.proofs.Trees.{one_tree}
 use Rattle.pgplan.proofs.FirstFaults.{one_first, no_first}
-use Rattle.pgplan.proofs.Ends.{one_end, no_end, one_start, one_data, one_refusal, no_refusal}
+use Rattle.pgplan.proofs.Ends.{one_end, no_end, one_start, some-one, one_refusal, no_refusal}
 
 -- a definition means one thing
-one_meaning : (c : Contents) (text : List ℕ) (tokens : List Token) (x : Statement) (r s : Result Reading Fault) → Means c text tokens x r → Means c text tokens x s → r ≡ s
-one_meaning c text tokens (empty e) r s h k = absurd h
-one_meaning c text tokens (query q e) r s h k = absurd h
-one_meaning c text tokens (create_table n d ds e) r s h k = h ∙ sym k
-one_meaning c text tokens (copy n null) r s (a, p, h) (b, q, k) =
-    h ∙ (ap (λ i. data_after (table_named c (bytes_of n)) (token_at tokens 1) null (token_at tokens 10) i) (one_start text (token_at tokens 12).end a b p q) ∙ sym k)
+one_meaning : (c : Contents) (text : List ℕ) (x : Statement) (r s : Result Reading Fault) → Means c text x r → Means c text x s → r ≡ s
+one_meaning c text (empty e) r s h k = absurd h
+one_meaning c text (query q e) r s h k = absurd h
+one_meaning c text (create_table a t n o d ds m e) r s h k = h ∙ sym k
+one_meaning c text (copy words n null) r s (a, p, h) (b, q, k) =
+    h ∙ (ap (λ i. data_after (table_named c (bytes_of n)) (token_of n) null.value null.token i) (one_start text words.stop.end a b p q) ∙ sym k)
 
 module _ (w : World) (text : List ℕ) (tokens : List Token) where
   one_carried : (d : Definition) (a b : Action) (m n : ℕ) → Carries w text tokens d a m → Carries w text tokens d b n → (a ≡ b) × (m ≡ n)
@@ -37,10 +38,10 @@ module _ (w : World) (text : List ℕ) (tokens : List Token) where
       let same : s ≡ u = cc in
       (i ∙ (ap (λ e. fill t e) same ∙ sym j), next)
 
-  one_defined : (x : Statement) (a b : Action) (m n : ℕ) (r s : Reading) → Means w.contents text tokens x (Ok r) → Means w.contents text tokens x (Ok s)
+  one_defined : (x : Statement) (a b : Action) (m n : ℕ) (r s : Reading) → Means w.contents text x (Ok r) → Means w.contents text x (Ok s)
       → Carries w text tokens r.definition a m → Carries w text tokens s.definition b n → (a ≡ b) × (m ≡ n)
   one_defined x a b m n r s h k i j =
-      let both = one_meaning w.contents text tokens x (Ok r) (Ok s) h k in
+      let both = one_meaning w.contents text x (Ok r) (Ok s) h k in
       let same : s ≡ r = cc in
       one_carried r.definition a b m n i (subst (λ e. Carries w text tokens e.definition b n) same j)
 
@@ -50,16 +51,16 @@ module _ (w : World) (text : List ℕ) (tokens : List Token) where
       let both : Ok p ≡ Ok s = sym h ∙ k in
       let same : p ≡ s = cc in
       (i ∙ (ap answer same ∙ sym j), x ∙ sym y)
-  one_done (create_table i c cs e) a b m n (r, h, p) (s, k, q) = one_defined (create_table i c cs e) a b m n r s h k p q
-  one_done (copy i null) a b m n (r, h, p) (s, k, q) = one_defined (copy i null) a b m n r s h k p q
+  one_done (create_table c t i o d ds z e) a b m n (r, h, p) (s, k, q) = one_defined (create_table c t i o d ds z e) a b m n r s h k p q
+  one_done (copy c i null) a b m n (r, h, p) (s, k, q) = one_defined (copy c i null) a b m n r s h k p q
 
   one_over : (a b : Action) (m n : ℕ) → IsReadOver w text tokens a m → IsReadOver w text tokens b n → (a ≡ b) × (m ≡ n)
   one_over a b m n p q =
-      let same = one_tree q.statement p.statement (q.spelled ∙ sym p.spelled) in
+      let same = one_tree q.statement p.statement (q.spelled.words ∙ sym p.spelled.words) in
       one_done p.statement a b m n p.does (subst (λ x. Does w text tokens x b n) same q.does)
 
   one_refused : (d : Definition) (at : List ℕ) (f g : Fault) → IsRefused w text d at f → IsRefused w text d at g → f ≡ g
-  one_refused (table name names columns) at f g (d, h, i) (e, k, j) = one_refusal w.contents name names at d e f g h k i j
+  one_refused (table name names columns) at f g (d, h, i) (e, k, j) = one_refusal w.contents name names at (word_ends at (name ∷ names)) d e f g h k i j
   one_refused (data_for t start) at f g (inl (h, i)) (inl (k, j)) = i ∙ sym j
   one_refused (data_for t start) at f g (inl (h, i)) (inr (y, n, e, q, k, j)) = absurd (no_end text start y n q h)
   one_refused (data_for t start) at f g (inr (x, m, d, p, h, i)) (inl (k, j)) = absurd (no_end text start x m p k)
@@ -67,58 +68,58 @@ module _ (w : World) (text : List ℕ) (tokens : List Token) where
       let (end, next) = one_end text start x m y n p q in
       let both : Err d ≡ Err e = sym h ∙ (ap (λ l. loaded (stored_at w t) (records_of (slice_range text start l))) end ∙ k) in
       let same : d ≡ e = cc in
-      one_data e t start f g (subst (λ l. IsDataFault l t start f) same i) j
+      some-one f g (sym (subst (λ l. rows_fault l t start ≡ Some f) same i) ∙ j)
 
   -- a definition that is carried out is not refused
   not_refused : (d : Definition) (a : Action) (n : ℕ) (at : List ℕ) (f : Fault) → Carries w text tokens d a n → IsRefused w text d at f → ⊥
-  not_refused (table name names columns) a n at f h (e, k, j) = no_refusal w.contents name names at e f h.0 k j
+  not_refused (table name names columns) a n at f h (e, k, j) = no_refusal w.contents name names at (word_ends at (name ∷ names)) e f h.0 k j
   not_refused (data_for t start) a n at f (x, s, p, h, i) (inl (k, j)) = no_end text start x n p k
   not_refused (data_for t start) a n at f (x, s, p, h, i) (inr (y, m, e, q, k, j)) =
       let (end, next) = one_end text start x n y m p q in
       let both : Ok s ≡ Err e = sym h ∙ (ap (λ l. loaded (stored_at w t) (records_of (slice_range text start l))) end ∙ k) in
       absurd (cc)
 
-  one_definition : (x : Statement) (f g : Fault) → IsDefinitionFault w text tokens x f → IsDefinitionFault w text tokens x g → f ≡ g
-  one_definition x f g (inl h) (inl k) = let both = one_meaning w.contents text tokens x (Err f) (Err g) h k in cc
-  one_definition x f g (inl h) (inr (s, k, j)) = let both = one_meaning w.contents text tokens x (Err f) (Ok s) h k in absurd (cc)
-  one_definition x f g (inr (r, h, i)) (inl k) = let both = one_meaning w.contents text tokens x (Ok r) (Err g) h k in absurd (cc)
+  one_definition : (x : Statement) (f g : Fault) → IsDefinitionFault w text x f → IsDefinitionFault w text x g → f ≡ g
+  one_definition x f g (inl h) (inl k) = let both = one_meaning w.contents text x (Err f) (Err g) h k in cc
+  one_definition x f g (inl h) (inr (s, k, j)) = let both = one_meaning w.contents text x (Err f) (Ok s) h k in absurd (cc)
+  one_definition x f g (inr (r, h, i)) (inl k) = let both = one_meaning w.contents text x (Ok r) (Err g) h k in absurd (cc)
   one_definition x f g (inr (r, h, i)) (inr (s, k, j)) =
-      let both = one_meaning w.contents text tokens x (Ok r) (Ok s) h k in
+      let both = one_meaning w.contents text x (Ok r) (Ok s) h k in
       let same : s ≡ r = cc in
       one_refused r.definition r.at f g i (subst (λ e. IsRefused w text e.definition e.at g) same j)
 
-  no_definition : (x : Statement) (a : Action) (n : ℕ) (r : Reading) (f : Fault) → Means w.contents text tokens x (Ok r) → Carries w text tokens r.definition a n → IsDefinitionFault w text tokens x f → ⊥
-  no_definition x a n r f h i (inl k) = let both = one_meaning w.contents text tokens x (Ok r) (Err f) h k in absurd (cc)
+  no_definition : (x : Statement) (a : Action) (n : ℕ) (r : Reading) (f : Fault) → Means w.contents text x (Ok r) → Carries w text tokens r.definition a n → IsDefinitionFault w text x f → ⊥
+  no_definition x a n r f h i (inl k) = let both = one_meaning w.contents text x (Ok r) (Err f) h k in absurd (cc)
   no_definition x a n r f h i (inr (s, k, j)) =
-      let both = one_meaning w.contents text tokens x (Ok r) (Ok s) h k in
+      let both = one_meaning w.contents text x (Ok r) (Ok s) h k in
       let same : s ≡ r = cc in
       not_refused r.definition a n r.at f i (subst (λ e. IsRefused w text e.definition e.at f) same j)
 
-  one_meant : (x : Statement) (f g : Fault) → IsMeaningFault w text tokens x f → IsMeaningFault w text tokens x g → f ≡ g
+  one_meant : (x : Statement) (f g : Fault) → IsMeaningFault w text x f → IsMeaningFault w text x g → f ≡ g
   one_meant (empty e) f g h k = absurd h
   one_meant (query q e) f g h k = let both : Err f ≡ Err g = sym h ∙ k in cc
-  one_meant (create_table n c cs e) f g h k = one_definition (create_table n c cs e) f g h k
-  one_meant (copy n null) f g h k = one_definition (copy n null) f g h k
+  one_meant (create_table c t n o d ds m e) f g h k = one_definition (create_table c t n o d ds m e) f g h k
+  one_meant (copy c n null) f g h k = one_definition (copy c n null) f g h k
 
-  not_meant : (x : Statement) (a : Action) (n : ℕ) (f : Fault) → Does w text tokens x a n → IsMeaningFault w text tokens x f → ⊥
+  not_meant : (x : Statement) (a : Action) (n : ℕ) (f : Fault) → Does w text tokens x a n → IsMeaningFault w text x f → ⊥
   not_meant (empty e) a n f h k = absurd k
   not_meant (query q e) a n f (p, h, i, x) k = let both : Ok p ≡ Err f = sym h ∙ k in absurd (cc)
-  not_meant (create_table i c cs e) a n f (r, h, p) k = no_definition (create_table i c cs e) a n r f h p k
-  not_meant (copy i null) a n f (r, h, p) k = no_definition (copy i null) a n r f h p k
+  not_meant (create_table c t i o d ds m e) a n f (r, h, p) k = no_definition (create_table c t i o d ds m e) a n r f h p k
+  not_meant (copy c i null) a n f (r, h, p) k = no_definition (copy c i null) a n r f h p k
 
   one_fault_over : (f g : Fault) → IsFaultOver w text tokens f → IsFaultOver w text tokens g → f ≡ g
-  one_fault_over f g (inl p) (inl q) = one_first IsStatement text tokens f g p q
-  one_fault_over f g (inl p) (inr q) = absurd (no_first text tokens q.statement f q.spelled q.within p)
-  one_fault_over f g (inr p) (inl q) = absurd (no_first text tokens p.statement g p.spelled p.within q)
-  one_fault_over f g (inr p) (inr q) =
-      let same = one_tree q.statement p.statement (q.spelled ∙ sym p.spelled) in
-      one_meant p.statement f g p.fault (subst (λ x. IsMeaningFault w text tokens x g) same q.fault)
+  one_fault_over f g (in_syntax p) (in_syntax q) = one_first IsStatement text tokens f g p q
+  one_fault_over f g (in_syntax p) (in_meaning y is k) = absurd (no_first text tokens y f is p)
+  one_fault_over f g (in_meaning x is h) (in_syntax q) = absurd (no_first text tokens x g is q)
+  one_fault_over f g (in_meaning x is h) (in_meaning y so k) =
+      let same = one_tree y x (so.words ∙ sym is.words) in
+      one_meant x f g h (subst (λ z. IsMeaningFault w text z g) same k)
 
   no_fault_over : (a : Action) (n : ℕ) (f : Fault) → IsReadOver w text tokens a n → IsFaultOver w text tokens f → ⊥
-  no_fault_over a n f p (inl q) = no_first text tokens p.statement f p.spelled p.within q
-  no_fault_over a n f p (inr q) =
-      let same = one_tree q.statement p.statement (q.spelled ∙ sym p.spelled) in
-      not_meant p.statement a n f p.does (subst (λ x. IsMeaningFault w text tokens x f) same q.fault)
+  no_fault_over a n f p (in_syntax q) = no_first text tokens p.statement f p.spelled q
+  no_fault_over a n f p (in_meaning y so k) =
+      let same = one_tree y p.statement (so.words ∙ sym p.spelled.words) in
+      not_meant p.statement a n f p.does (subst (λ x. IsMeaningFault w text x f) same k)
 
 -- one action and one end
 pub one_read : (w : World) (text : List ℕ) (from m n : ℕ) (a b : Action) → IsRead w text from a m → IsRead w text from b n → (a ≡ b) × (m ≡ n)
@@ -126,12 +127,12 @@ one_read w text from m n a b (ts, h, p) (us, k, q) = one_over w text ts a b m n 
 
 -- one fault
 pub one_first_fault : (w : World) (text : List ℕ) (from : ℕ) (f g : Fault) → IsFault w text from f → IsFault w text from g → f ≡ g
-one_first_fault w text from f g (inl (h, (ts, p))) (inl (k, (us, q))) = h ∙ (ap syntax_fault (one_fault text from ts us f.at g.at p q) ∙ sym k)
-one_first_fault w text from f g (inl (h, (ts, p))) (inr (us, k, q)) = absurd (no_fault text from us ts f.at k p)
-one_first_fault w text from f g (inr (ts, h, p)) (inl (k, (us, q))) = absurd (no_fault text from ts us g.at h q)
-one_first_fault w text from f g (inr (ts, h, p)) (inr (us, k, q)) = one_fault_over w text ts f g p (subst (λ l. IsFaultOver w text l g) (one_list text from us ts k h) q)
+one_first_fault w text from f g (in_words h (ts, p)) (in_words k (us, q)) = h ∙ (ap syntax_fault (one_fault text from ts us f.at g.at p q) ∙ sym k)
+one_first_fault w text from f g (in_words h (ts, p)) (after_words us k q) = absurd (no_fault text from us ts f.at k p)
+one_first_fault w text from f g (after_words ts h p) (in_words k (us, q)) = absurd (no_fault text from ts us g.at h q)
+one_first_fault w text from f g (after_words ts h p) (after_words us k q) = one_fault_over w text ts f g p (subst (λ l. IsFaultOver w text l g) (one_list text from us ts k h) q)
 
--- not both
-pub read_apart : (w : World) (text : List ℕ) (from n : ℕ) (a : Action) (f : Fault) → IsRead w text from a n → IsFault w text from f → ⊥
-read_apart w text from n a f (ts, h, p) (inl (k, (us, q))) = no_fault text from ts us f.at h q
-read_apart w text from n a f (ts, h, p) (inr (us, k, q)) = no_fault_over w text ts a n f p (subst (λ l. IsFaultOver w text l f) (one_list text from us ts k h) q)
+-- not both, where there is a reply
+pub read_apart : (w : World) (text : List ℕ) (from n : ℕ) (a : Action) (r : Reply) (f : Fault) → IsRead w text from a n → IsReply w a r → IsFault w text from f → ⊥
+read_apart w text from n a r f (ts, h, p) reply (in_words k (us, q)) = no_fault text from ts us f.at h q
+read_apart w text from n a r f (ts, h, p) reply (after_words us k q) = no_fault_over w text ts a n f p (subst (λ l. IsFaultOver w text l f) (one_list text from us ts k h) q)

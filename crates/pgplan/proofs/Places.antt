@@ -3,33 +3,34 @@ use Rattle.std.proofs.Common.{◌≡◌, ℕ, ◌-◌, ◌<◌, ◌≤◌, inl, 
 use Rattle.std.specs.List.{list_all}
 use Rattle.std.specs.Str.{bytes_eq}
 use Rattle.std.proofs.lemmas.Bool.{cases_lt}
-use Rattle.std.proofs.lemmas.List.{length-map, length-drop, length-take, nil_from_length}
+use Rattle.std.proofs.lemmas.List.{length-drop, length-take, nil_from_length}
 use Rattle.std.proofs.lemmas.Option.{slice_get_within}
 use Rattle.std.proofs.lemmas.List.Elements.{All-contains}
 use Rattle.std.proofs.lemmas.List.Sums.{AllPass-from_list_all}
 use Rattle.pg_base.specs.declared.numbers.TableNo.{TableNo}
 use Rattle.pg_base.specs.declared.faults.Code.TheVariants.{S17}
 use Rattle.pg_base.specs.declared.faults.Fault.{Fault}
+use Rattle.pg_base.specs.declared.limits.TheConstants.{MOST_COLUMNS}
 use Rattle.pg_value.specs.declared.columns.Column.{Column}
 use Rattle.sql_lex.specs.declared.tokens.Kind.{Kind}
 use Rattle.sql_lex.specs.declared.tokens.Kind.TheVariants as kinds
 use Rattle.sql_lex.specs.declared.tokens.Token.{Token}
 use Rattle.sql_lex.specs.Forms.{IsToken, symbols}
 use Rattle.sql_lex.specs.Words.{AreWords, IsNext, is_last}
-use Rattle.sql_grammar.specs.Reading.{terminal_of}
-use Rattle.sql_grammar.specs.Terminals.{Ident}
-use Rattle.sql_grammar.specs.Syntax.{Statement, empty, create_table, query, copy}
+use Rattle.sql_grammar.specs.Terminals.{Ident, Said, token_of}
+use Rattle.sql_grammar.specs.Syntax.{CopyWords, Statement, empty, create_table, query, copy}
 use Rattle.sql_grammar.specs.Words.{words_of}
 use Rattle.sql_grammar.specs.Faults.{bytes_of, fault_at, terminals}
 use Rattle.sql_grammar.specs.CopyLine.{IsDataStart, after_blanks}
 use Rattle.catalog.specs.Tables.{table_named}
-use Rattle.ddl_reader.specs.Columns.{Bound, bound_all, columns_over}
-use Rattle.ddl_reader.specs.Places.{token_at}
-use Rattle.ddl_reader.specs.Tables.{Definition, table, data_for, Reading, data_after, limited, null_text, table_of, table_reading}
-use Rattle.answer.specs.Worlds.{World}
+use Rattle.sql_grammar.proofs.ExprTrees.{tokens-are}
+use Rattle.ddl_reader.specs.Columns.{Bound, bound_all, written, further}
+use Rattle.ddl_reader.specs.Tables.{Definition, table, data_for, Reading, data_after, limited, table_of, table_reading}
+use Rattle.pg_value.specs.Fields.{null_text}
+use Rattle.sql_query.specs.Worlds.{World}
 use Rattle.pgplan.specs.Actions.{Action}
 use Rattle.pgplan.proofs.BlockLaws.{block-within}
-use Rattle.pgplan.specs.Reads.{end_of, Carries, Does, IsReadOver}
+use Rattle.pgplan.specs.Accepted.{token_at, end_of, Carries, Does, IsReadOver}
 
 -- some byte, tested by whether the list is empty
 abbrev some : List ℕ → Bool
@@ -123,7 +124,7 @@ table-behind : (w : World) (text : List ℕ) (tokens : List Token) (action : Act
     Ok r ≡ table_of name token bound → Carries w text tokens r.definition action next → next ≡ end_of tokens
 table-behind w text tokens action next name token (Err f) r e c = cc
 table-behind w text tokens action next name token (Ok bs) r e c =
-    carried-table w text tokens r.definition action next name _ _ (is-table name token bs (drop 16 bs) r e) c
+    carried-table w text tokens r.definition action next name _ _ (is-table name token bs (drop MOST_COLUMNS bs) r e) c
 
 is-data : (t : Option TableNo) (name null_at : Token) (null : List ℕ) (same : Bool) (start : ℕ) (r : Reading) → (u : TableNo) →
     Ok r ≡ cond same (Ok (record { definition = data_for u start; at = []; method = 0 })) (Err (fault_at S17 null_at)) → r.definition ≡ data_for u start
@@ -139,10 +140,8 @@ data-behind w text tokens action next from (Some u) name null_at null (Ok start)
     let ends = carried-data w text tokens r.definition action next u start (is-data (Some u) name null_at null (bytes_eq null null_text) start r u e) begins.1 c in
     (omega (arith, begins.0, ends.0), ends.1)
 
-copy-end : (text : List ℕ) (tokens : List Token) (n : Ident) (null : List ℕ) → words_of (copy n null) ≡ terminals text tokens → (token_at tokens 12).end ≡ end_of tokens
-copy-end text tokens n null e =
-    let long : length tokens ≡ 13 = sym (length-map tokens (terminal_of text)) ∙ sym (ap length e) in
-    ap (λ (k : ℕ). (token_at tokens k).end) (omega (arith, long))
+copy-end : (text : List ℕ) (tokens : List Token) (k : CopyWords) (n : Ident) (null : Said) → words_of (copy k n null) ≡ terminals text tokens → k.stop.end ≡ end_of tokens
+copy-end text tokens k n null e = ap end_of (tokens-are (words_of (copy k n null)) text tokens e)
 
 at-end-of : (text : List ℕ) (from next end : ℕ) → next ≡ end → EndsBehind text from end → EndsBehind text from next
 at-end-of text from next end e is = let P : ℕ → Type 0 = λ n. EndsBehind text from n in subst P (sym e) is
@@ -158,12 +157,12 @@ does-behind : (w : World) (text : List ℕ) (from : ℕ) (tokens : List Token) (
     AreWords text from tokens → words_of x ≡ terminals text tokens → Does w text tokens x action next → EndsBehind text from next
 does-behind w text from tokens (empty e) action next words spelled does = at-end-of text from next (end_of tokens) does.1 (ends-behind text from tokens words)
 does-behind w text from tokens (query q e) action next words spelled does = at-end-of text from next (end_of tokens) does.3 (ends-behind text from tokens words)
-does-behind w text from tokens (create_table n c cs e) action next words spelled does =
-    at-end-of text from next (end_of tokens) (table-behind w text tokens action next (bytes_of n) (token_at tokens 2) (bound_all (columns_over (c ∷ cs) (drop 4 tokens))) does.0 does.1 does.2) (ends-behind text from tokens words)
-does-behind w text from tokens (copy n null) action next words spelled does =
-    behind-data text from (token_at tokens 12).end (end_of tokens) next (copy-end text tokens n null spelled) (ends-behind text from tokens words)
-    (data-behind w text tokens action next (token_at tokens 12).end (table_named w.contents (bytes_of n)) (token_at tokens 1) (token_at tokens 10) null does.1.0 does.0 does.1.1 does.1.2 does.2)
+does-behind w text from tokens (create_table k t n o c cs m e) action next words spelled does =
+    at-end-of text from next (end_of tokens) (table-behind w text tokens action next (bytes_of n) (token_of n) (bound_all (written c ∷ further cs)) does.0 does.1 does.2) (ends-behind text from tokens words)
+does-behind w text from tokens (copy k n null) action next words spelled does =
+    behind-data text from k.stop.end (end_of tokens) next (copy-end text tokens k n null spelled) (ends-behind text from tokens words)
+    (data-behind w text tokens action next k.stop.end (table_named w.contents (bytes_of n)) (token_of n) null.token null.value does.1.0 does.0 does.1.1 does.1.2 does.2)
 
 -- a statement ends behind the place at which it begins, inside the text
 pub read-behind : (w : World) (text : List ℕ) (from : ℕ) (tokens : List Token) (action : Action) (next : ℕ) → AreWords text from tokens → IsReadOver w text tokens action next → EndsBehind text from next
-read-behind w text from tokens action next words is = does-behind w text from tokens is.statement action next words is.spelled is.does
+read-behind w text from tokens action next words is = does-behind w text from tokens is.statement action next words is.spelled.words is.does

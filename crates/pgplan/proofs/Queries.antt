@@ -1,7 +1,8 @@
 -- What the reading of a SELECT says of a statement that is no definition and is not empty.
-use Rattle.std.proofs.Common.{◌≡◌, ℕ, ◌<◌, ◌≤◌, ◌^◌, Bool, true, false, cond, nat_eq, List, [], ◌∷◌, ◌++◌, length, inl, inr, Ok, Err, Result, refl, sym, ap, ◌∙◌, arith}
+use Rattle.std.proofs.Common.{◌≡◌, ℕ, ◌+◌, ◌<◌, ◌≤◌, Bool, true, false, cond, nat_eq, List, [], ◌∷◌, ◌++◌, length, inl, inr, Ok, Err, Result, refl, sym, ap, ◌∙◌, arith}
 use Rattle.std.proofs.lemmas.Bool.Decides.{nat_tests}
 use Rattle.std.proofs.lemmas.List.{map-append}
+use Rattle.pg_base.specs.declared.limits.TheConstants.{MOST_LEVELS, MOST_SCRIPT_BYTES}
 use Rattle.pg_base.specs.declared.faults.Code.{Code}
 use Rattle.pg_base.specs.declared.faults.Code.TheVariants.{S1, S15}
 use Rattle.pg_base.specs.declared.faults.Limit.TheVariants.{Depth}
@@ -14,19 +15,18 @@ use Rattle.sql_grammar.specs.Terminals.{Terminal, class_of}
 use Rattle.sql_grammar.specs.Table.{is_ending}
 use Rattle.sql_grammar.specs.Reading.{terminal_of, is_end, ends_once}
 use Rattle.sql_grammar.specs.Syntax.{Select, Ending, semicolon, text_end, Statement, empty, create_table, query, copy}
-use Rattle.sql_grammar.specs.Words.{words_of}
+use Rattle.sql_grammar.specs.Words.{words_of, levels_of}
 use Rattle.sql_grammar.specs.Faults.{IsStatement, IsPrefix, IsAtFault, IsFirstFault, terminals}
 use Rattle.sql_grammar.proofs.StatementWords.{words-are-tokens}
 use Rattle.ddl_reader.specs.Statements.{begins_ddl}
-use Rattle.query_reader.specs.Select.{IsQuery, AreWordsOf, AreSelect, IsGrammatical, Answers}
+use Rattle.query_reader.specs.Select.{IsQuery, AreWordsOf, AreSelect, IsGrammatical, IsReadAs}
 use Rattle.query_reader.specs.Binding.{bound}
-use Rattle.query_reader.specs.Written.{written_of}
-use Rattle.sql_query.specs.declared.prepared.Prepared.{Prepared}
-use Rattle.answer.specs.Worlds.{World}
+use Rattle.sql_query.specs.Queries.{Query}
+use Rattle.sql_query.specs.Worlds.{World}
 use Rattle.pgplan.specs.Actions.{answer}
-use Rattle.pgplan.specs.Reads.{IsReadOver, end_of}
-use Rattle.pgplan.specs.Faults.{IsFaultOver}
-use Rattle.pgplan.proofs.Bindings.{one-relation, bound-plain, first-plain}
+use Rattle.pgplan.specs.Accepted.{IsReadOver, end_of}
+use Rattle.pgplan.specs.Faults.{IsFaultOver, in_syntax, in_meaning}
+use Rattle.pgplan.proofs.Bindings.{bound-plain, first-plain}
 
 -- the first word is `;` or the text's end
 abbrev begins_end : List Terminal → Bool
@@ -34,15 +34,15 @@ begins_end [] = false
 begins_end (word ∷ _) = is_ending (class_of word)
 
 -- a statement that begins with neither and is no definition is a SELECT
-is-query : (x : Statement) (limit : ℕ) (ts : List Terminal) → begins_ddl ts ≡ false → begins_end ts ≡ false → words_of x ≡ ts → IsQuery limit ts
-is-query (empty semicolon) limit ts other goes is = let e = ap begins_end is ∙ goes in absurd (cc (e))
-is-query (empty text_end) limit ts other goes is = let e = ap begins_end is ∙ goes in absurd (cc (e))
-is-query (create_table n c cs end) limit ts other goes is = let e = ap begins_ddl is ∙ other in absurd (cc (e))
-is-query (query q end) limit ts other goes is = (q, end, is)
-is-query (copy n null) limit ts other goes is = let e = ap begins_ddl is ∙ other in absurd (cc (e))
+is-query : (x : Statement) (limit : ℕ) (ts : List Terminal) → begins_ddl ts ≡ false → begins_end ts ≡ false → levels_of x ≤ limit → words_of x ≡ ts → IsQuery limit ts
+is-query (empty (semicolon t)) limit ts other goes levels is = let e = ap begins_end is ∙ goes in absurd (cc (e))
+is-query (empty (text_end t)) limit ts other goes levels is = let e = ap begins_end is ∙ goes in absurd (cc (e))
+is-query (create_table k t n o c cs m end) limit ts other goes levels is = let e = ap begins_ddl is ∙ other in absurd (cc (e))
+is-query (query q end) limit ts other goes levels is = (q, end, levels, is)
+is-query (copy k n null) limit ts other goes levels is = let e = ap begins_ddl is ∙ other in absurd (cc (e))
 
 is-statement : (limit : ℕ) (ts : List Terminal) → IsQuery limit ts → IsStatement limit ts
-is-statement limit ts (q, end, is) = (query q end, omega arith, is)
+is-statement limit ts (q, end, levels, is) = (query q end, levels, is)
 
 prefix-statement : (limit : ℕ) (ts : List Terminal) → IsPrefix IsQuery limit ts → IsPrefix IsStatement limit ts
 prefix-statement limit ts (rest, q) = (rest, is-statement limit (ts ++ rest) q)
@@ -51,8 +51,8 @@ cause-of : (before : List Terminal) (t : Terminal) (code : Code) →
     ((limit : ℕ) → IsPrefix IsStatement limit (before ++ t ∷ []) → IsPrefix IsQuery limit (before ++ t ∷ [])) →
     IsAtFault IsQuery before t code → IsAtFault IsStatement before t code
 cause-of before t S1 down c = λ limit p. c limit (down limit p)
-cause-of before t (S15 Depth) down c = (λ p. c.0 (down 32 p), prefix-statement 33 (before ++ t ∷ []) c.1)
-cause-of before t (S15 _) down c = (prefix-statement 32 (before ++ t ∷ []) c.0, c.1)
+cause-of before t (S15 Depth) down c = (λ p. c.0 (down MOST_LEVELS p), prefix-statement (MOST_LEVELS + 1) (before ++ t ∷ []) c.1)
+cause-of before t (S15 _) down c = (prefix-statement MOST_LEVELS (before ++ t ∷ []) c.0, c.1)
 cause-of before t _ down c = absurd c
 
 -- whether a list begins so is seen of its first word
@@ -81,15 +81,15 @@ statement-fault text tokens fault other goes f =
       token = f.token;
       after = f.after;
       split = f.split;
-      begins = prefix-statement 32 before f.begins;
+      begins = prefix-statement MOST_LEVELS before f.begins;
       within = f.within;
       cause = cause-of before t fault.code
           (λ limit (rest, (x, levels, is)).
-          (rest, is-query x limit ((before ++ t ∷ []) ++ rest) (first-seen begins_ddl (λ t ts us. refl) before t after rest other') (first-seen begins_end (λ t ts us. refl) before t after rest goes') is))
+          (rest, is-query x limit ((before ++ t ∷ []) ++ rest) (first-seen begins_ddl (λ t ts us. refl) before t after rest other') (first-seen begins_end (λ t ts us. refl) before t after rest goes') levels is))
           f.cause;
       unfinished = λ code limit (x, levels, is).
           f.unfinished code limit
-          (is-query x limit before (part-seen begins_ddl refl (λ t ts us. refl) before (t ∷ after) other') (part-seen begins_end refl (λ t ts us. refl) before (t ∷ after) goes') is);
+          (is-query x limit before (part-seen begins_ddl refl (λ t ts us. refl) before (t ∷ after) other') (part-seen begins_end refl (λ t ts us. refl) before (t ∷ after) goes') levels is);
       place = f.place;
     }
 
@@ -98,46 +98,35 @@ goes-by : (b : Bool) (n : ℕ) (rest : Bool) → 0 < n → cond b (nat_eq n 0) r
 goes-by true n rest some once = grind (arith, nat_tests)
 goes-by false n rest some once = refl
 
-pub goes-on : (text : List ℕ) (from : ℕ) (tokens : List Token) → AreWords text from tokens → length text ≤ 2 ^ 24 → 1 < length tokens → begins_end (terminals text tokens) ≡ false
+pub goes-on : (text : List ℕ) (from : ℕ) (tokens : List Token) → AreWords text from tokens → length text ≤ MOST_SCRIPT_BYTES → 1 < length tokens → begins_end (terminals text tokens) ≡ false
 goes-on text from [] words short some = refl
 goes-on text from (t ∷ ts) words short some =
     goes-by (is_end text t) (length ts) (ends_once text ts) (omega (arith, some)) (words-are-tokens text from (t ∷ ts) words (omega (arith, short))).last
 
-answers-ok : (r : Result Prepared Fault) (read : Prepared) → Answers r (Ok read) → r ≡ Ok read
-answers-ok (Ok p) read is = ap Ok (sym is)
-answers-ok (Err f) read is = absurd is
+meant-ok : (r : Result Query Fault) (read : Query) → IsReadAs r (Ok read) → r ≡ Ok read
+meant-ok (Ok p) read is = ap Ok (sym is)
+meant-ok (Err f) read is = absurd is
 
-answers-fault : (r : Result Prepared Fault) (f : Fault) → Answers r (Err (refusal.Fault f)) → r ≡ Err f
-answers-fault (Ok p) f is = absurd is
-answers-fault (Err told) f is = ap Err (sym is)
+meant-fault : (r : Result Query Fault) (f : Fault) → IsReadAs r (Err (refusal.Fault f)) → r ≡ Err f
+meant-fault (Ok p) f is = absurd is
+meant-fault (Err told) f is = ap Err (sym is)
 
 -- what is read of a SELECT is what its statement means
-abbrev pub Binds : World → List ℕ → List Token → Result Prepared Refusal → Type 0
-Binds w text tokens r = (q : Select) (end : Ending) → AreWordsOf q end text tokens → Answers (bound w.contents (written_of q tokens)) r
+abbrev pub Binds : World → List ℕ → List Token → Result Query Refusal → Type 0
+Binds w text tokens r = (q : Select) (end : Ending) → AreWordsOf q end text tokens → IsReadAs (bound w.contents q) r
 
-pub read-query : (w : World) (text : List ℕ) (tokens : List Token) (p : Prepared) → AreSelect text tokens → Binds w text tokens (Ok p) → IsReadOver w text tokens (answer p) (end_of tokens)
+pub read-query : (w : World) (text : List ℕ) (tokens : List Token) (p : Query) → AreSelect text tokens → Binds w text tokens (Ok p) → IsReadOver w text tokens (answer p) (end_of tokens)
 read-query w text tokens p (q, end, spelled) binds = record {
   statement = query q end;
-  spelled = spelled.words;
-  within = spelled.within;
-  does = (p, answers-ok (bound w.contents (written_of q tokens)) p (binds q end spelled), refl, refl);
+  spelled = spelled;
+  does = (p, meant-ok (bound w.contents q) p (binds q end spelled), refl, refl);
 }
 
 pub query-fault : (w : World) (text : List ℕ) (tokens : List Token) (f : Fault) → begins_ddl (terminals text tokens) ≡ false → begins_end (terminals text tokens) ≡ false →
     IsGrammatical text tokens (Err (refusal.Fault f)) → Binds w text tokens (Err (refusal.Fault f)) → IsFaultOver w text tokens f
-query-fault w text tokens f other goes (inl g) binds = inl (statement-fault text tokens f other goes g)
-query-fault w text tokens f other goes (inr (q, end, spelled)) binds = inr (record {
-  statement = query q end;
-  spelled = spelled.words;
-  within = spelled.within;
-  fault = answers-fault (bound w.contents (written_of q tokens)) f (binds q end spelled);
-})
-
-pub query-one : (w : World) (text : List ℕ) (tokens : List Token) (p : Prepared) → AreSelect text tokens → Binds w text tokens (Ok p) → length p.range ≡ 1
-query-one w text tokens p (q, end, spelled) binds =
-    one-relation w.contents (written_of q tokens) p (answers-ok (bound w.contents (written_of q tokens)) p (binds q end spelled))
+query-fault w text tokens f other goes (inl g) binds = in_syntax (statement-fault text tokens f other goes g)
+query-fault w text tokens f other goes (inr (q, end, spelled)) binds = in_meaning (query q end) spelled (meant-fault (bound w.contents q) f (binds q end spelled))
 
 pub fault-plain : (w : World) (text : List ℕ) (tokens : List Token) (f : Fault) → IsGrammatical text tokens (Err (refusal.Fault f)) → Binds w text tokens (Err (refusal.Fault f)) → f.rec ≡ 0
 fault-plain w text tokens f (inl g) binds = first-plain IsQuery text tokens f g
-fault-plain w text tokens f (inr (q, end, spelled)) binds =
-    bound-plain w.contents (written_of q tokens) f (answers-fault (bound w.contents (written_of q tokens)) f (binds q end spelled))
+fault-plain w text tokens f (inr (q, end, spelled)) binds = bound-plain w.contents q f (meant-fault (bound w.contents q) f (binds q end spelled))

@@ -3,14 +3,14 @@ use Rattle.std.proofs.Common.{◌≡◌, ℕ, ◌<◌, List, [], ◌∷◌, ◌+
 use Rattle.std.proofs.lemmas.List.Concat.{flat_map-append}
 use Rattle.std.specs.Io.KnownBytes.{Appends}
 use Rattle.pg_base.proofs.Bytes.{Appends-more}
-use Rattle.answer.specs.Worlds.{World, empty_world}
+use Rattle.sql_query.specs.Worlds.{World, empty_world}
 use Rattle.pgplan.specs.declared.end.End.{End}
 use Rattle.pgplan.specs.declared.end.End.TheVariants as ends
 use Rattle.pgplan.specs.Actions.{after}
-use Rattle.pgplan.specs.Reads.{IsRead}
+use Rattle.pgplan.specs.Accepted.{IsRead}
 use Rattle.pgplan.specs.Replies.{IsReply}
 use Rattle.pgplan.specs.Scripts.{Worked, AreWorked, AreFirst, world_after, place_after, replies}
-use Rattle.pgplan.specs.Steps.{Traces, IsStep, IsBegun, Stops}
+use Rattle.pgplan.specs.Steps.{Traces, Advances, IsBegun, Stops}
 use Rattle.pgplan.specs.Runs.{IsAnswered, IsCutOff, Ends}
 
 -- one more statement
@@ -50,7 +50,7 @@ is_under_way text w held e = record { statements = []; first = tt; place = refl;
 
 -- a step further
 pub step_further : (text : List ℕ) (at next : ℕ) (w w' : World) (held : Option (List ℕ)) (old new : Traces) → IsUnderWay text at w held old.held → at < length text →
-    IsStep w w' text at next old new → IsUnderWay text next w' held new.held
+    Advances w w' text at next old new → IsUnderWay text next w' held new.held
 step_further text at next w w' held old new so more step =
     let s : Worked = record { action = step.action; next = next; reply = step.reply } in
     record {

@@ -10,31 +10,30 @@ use Rattle.sql_grammar.specs.Syntax.{empty, semicolon, text_end}
 use Rattle.sql_grammar.specs.Faults.{limit_of}
 use Rattle.sql_grammar.proofs.StatementWords.{words-are-tokens}
 use Rattle.answer.proofs.Putting.{appends-none}
-use Rattle.answer.specs.Worlds.{World}
+use Rattle.sql_query.specs.Worlds.{World}
 use Rattle.pgplan.specs.declared.end.End.{End}
 use Rattle.pgplan.specs.declared.end.End.TheVariants as ends
 use Rattle.pgplan.specs.Actions.{idle, answer}
-use Rattle.pgplan.specs.Reads.{end_of, IsReadOver}
+use Rattle.pgplan.specs.Accepted.{end_of, IsReadOver}
 use Rattle.pgplan.proofs.Places.{read-behind}
+use Rattle.pgplan.specs.Faults.{after_words}
 use Rattle.pgplan.specs.Replies.{no_reply}
-use Rattle.pgplan.specs.Steps.{Traces, traces as traces_of, IsStep, IsBegun, Stops, IsDefined, Refuses, IsAnsweredOver, IsBegunOver, StopsOver}
+use Rattle.pgplan.specs.Steps.{Traces, traces as traces_of, Advances, IsBegun, Stops, IsDefined, Refuses, IsAnsweredOver, IsBegunOver, StopsOver}
 
 -- an end alone is the empty statement
 alone : (w : World) (text : List ℕ) (t : Token) (terminal : Terminal) → terminal_of text t ≡ terminal → is_ending (class_of terminal) ≡ true → IsReadOver w text (t ∷ []) idle (end_of (t ∷ []))
-alone w text t t_semicolon e is = record {
-  statement = empty semicolon;
-  spelled = ap (λ (x : Terminal). x ∷ []) (sym e);
-  within = All-cons (λ x. limit_of x ≡ None) (terminal_of text t) [] (ap limit_of e) (All-nil (λ x. limit_of x ≡ None));
+alone w text t (t_semicolon u) e is = record {
+  statement = empty (semicolon u);
+  spelled = record { words = ap (λ (x : Terminal). x ∷ []) (sym e); limits = All-cons (λ x. limit_of x ≡ None) (terminal_of text t) [] (ap limit_of e) (All-nil (λ x. limit_of x ≡ None)); levels = omega arith };
   does = (refl, refl);
 }
-alone w text t t_end e is = record {
-  statement = empty text_end;
-  spelled = ap (λ (x : Terminal). x ∷ []) (sym e);
-  within = All-cons (λ x. limit_of x ≡ None) (terminal_of text t) [] (ap limit_of e) (All-nil (λ x. limit_of x ≡ None));
+alone w text t (t_end u) e is = record {
+  statement = empty (text_end u);
+  spelled = record { words = ap (λ (x : Terminal). x ∷ []) (sym e); limits = All-cons (λ x. limit_of x ≡ None) (terminal_of text t) [] (ap limit_of e) (All-nil (λ x. limit_of x ≡ None)); levels = omega arith };
   does = (refl, refl);
 }
-alone w text t (t_key k) e is = cc
-alone w text t (t_mark m) e is = cc
+alone w text t (t_key k u) e is = cc
+alone w text t (t_mark m u) e is = cc
 alone w text t (t_name n) e is = cc
 alone w text t (t_number n) e is = cc
 alone w text t (t_quoted q) e is = cc
@@ -52,7 +51,7 @@ one-token-idle w text from (t ∷ []) short words one =
 one-token-idle w text from (t ∷ u ∷ ts) short words one = absurd (omega (arith, one))
 
 -- a statement without a reply was carried out
-pub done-quietly : (w w' : World) (text : List ℕ) (at next : ℕ) (tokens : List Token) (traces : Traces) → AreWords text at tokens → IsDefined w w' text tokens next → IsStep w w' text at next traces traces
+pub done-quietly : (w w' : World) (text : List ℕ) (at next : ℕ) (tokens : List Token) (traces : Traces) → AreWords text at tokens → IsDefined w w' text tokens next → Advances w w' text at next traces traces
 done-quietly w w' text at next tokens traces words defined = record {
   action = defined.0;
   read = (tokens, words, defined.1);
@@ -64,12 +63,12 @@ done-quietly w w' text at next tokens traces words defined = record {
   looked = omega arith;
 }
 
-pub done-idle : (w : World) (text : List ℕ) (at : ℕ) (tokens : List Token) (traces : Traces) → length text ≤ 2 ^ 31 → AreWords text at tokens → length tokens ≡ 1 → IsStep w w text at (end_of tokens) traces traces
+pub done-idle : (w : World) (text : List ℕ) (at : ℕ) (tokens : List Token) (traces : Traces) → length text ≤ 2 ^ 31 → AreWords text at tokens → length tokens ≡ 1 → Advances w w text at (end_of tokens) traces traces
 done-idle w text at tokens traces short words one = done-quietly w w text at (end_of tokens) tokens traces words (idle, one-token-idle w text at tokens short words one, refl, refl)
 
 -- a query was answered
 pub done-query : (w : World) (text : List ℕ) (at next : ℕ) (tokens : List Token) (held held' : Option (List ℕ)) (f f' k : ℕ) → AreWords text at tokens → IsAnsweredOver w text tokens next held held' f f' →
-    IsStep w w text at next (traces_of held f k) (traces_of held' f' k)
+    Advances w w text at next (traces_of held f k) (traces_of held' f' k)
 done-query w text at next tokens held held' f f' k words is = record {
   action = answer is.query;
   read = (tokens, words, is.read);
@@ -100,14 +99,14 @@ same-traces held held' f f' k e g = rw (e, g) refl
 -- a query was not answered whole
 pub stopped-query : (e : End) (w : World) (text : List ℕ) (at : ℕ) (tokens : List Token) (held held' : Option (List ℕ)) (f f' k : ℕ) → AreWords text at tokens → StopsOver e w text tokens held held' f f' →
     Stops e w text at (traces_of held f k) (traces_of held' f' k)
-stopped-query (ends.Fault fault) w text at tokens held held' f f' k words (is, field, same, cost) = (inr (tokens, words, is), field, same-traces held held' f f' k same cost)
+stopped-query (ends.Fault fault) w text at tokens held held' f f' k words (is, field, same, cost) = (after_words tokens words is, field, same-traces held held' f f' k same cost)
 stopped-query ends.Write w text at tokens held held' f f' k words is = begun w text at tokens held held' f f' k words is
 stopped-query ends.Memory w text at tokens held held' f f' k words (inl (same, cost)) = inl (same-traces held held' f f' k same cost)
 stopped-query ends.Memory w text at tokens held held' f f' k words (inr is) = inr (begun w text at tokens held held' f f' k words is)
 
 -- a definition was refused
 pub stopped-definition : (e : End) (w : World) (text : List ℕ) (at : ℕ) (tokens : List Token) (traces : Traces) → AreWords text at tokens → Refuses e w text tokens → Stops e w text at traces traces
-stopped-definition (ends.Fault fault) w text at tokens traces words (is, field) = (inr (tokens, words, is), field, refl)
+stopped-definition (ends.Fault fault) w text at tokens traces words (is, field) = (after_words tokens words is, field, refl)
 stopped-definition ends.Write w text at tokens traces words is = absurd is
 stopped-definition ends.Memory w text at tokens traces words is = inl refl
 

@@ -7,7 +7,7 @@ use Rattle.pg_base.specs.declared.numbers.TableNo.{TableNo}
 use Rattle.pg_value.specs.declared.columns.Column.{Column}
 use Rattle.catalog.specs.Contents.{IsTable, no_table, table_at}
 use Rattle.heap.specs.Stored.{Stored, IsLawful, IsRowOf}
-use Rattle.answer.specs.Worlds.{World, Holds, IsWorld, nothing_stored, stored_at}
+use Rattle.sql_query.specs.Worlds.{World, Holds, IsWorld, nothing_stored, stored_at}
 use Rattle.pgplan.specs.Actions.{after, make, fill}
 
 module _ {A B : Type 0} (R : A → B → Type 0) where

@@ -1,16 +1,24 @@
 -- What the top call tells of a run.
-use Rattle.std.proofs.Common.{◌≡◌, ◌⊎◌, ℕ, ◌<◌, ◌≤◌, List, [], ◌∷◌, ◌++◌, length, map, get_or, refl, sym, ◌∙◌, ap, subst, arith, append-nil, inl, inr, Option, Some, None, Result, Ok, Err, OnOk, OnErr}
-use Rattle.std.proofs.lemmas.List.{take_all}
+use Rattle.std.proofs.Common.{◌≡◌, ◌⊎◌, ℕ, ◌+◌, ◌<◌, ◌≤◌, List, [], ◌∷◌, ◌++◌, length, map, get_or, refl, sym, ◌∙◌, ap, subst, arith, append-nil, inl, inr, Option, Some, None, Result, Ok, Err, OnOk, OnErr, IfErr}
+use Rattle.std.proofs.lemmas.List.{take_all, length-append}
 use Rattle.std.specs.Io.KnownBytes.{Appends, Consumes, IsAtEnd}
-use Rattle.pg_base.specs.Causes.{Rose, HasCause}
+use Rattle.pg_base.specs.Causes.{HasCause}
 use Rattle.pg_base.specs.Writing.{AppendsPrefix}
 use Rattle.pg_base.specs.declared.faults.Fault.{Fault}
 use Rattle.fault_line.specs.Lines.{fault_line}
 use Rattle.catalog.specs.Contents.{Contents}
-use Rattle.answer.specs.Worlds.{World}
+use Rattle.sql_query.specs.Worlds.{World, empty_world}
+use Rattle.pgplan.specs.declared.end.End.{End}
 use Rattle.pgplan.specs.declared.end.End.TheVariants as ends
-use Rattle.pgplan.specs.Statuses.{IsTold}
-use Rattle.pgplan.specs.Runs.{Ends, Answers, HasStatusCause, HasNoFault, EndsInFault}
+use Rattle.pgplan.specs.Actions.{Action, after}
+use Rattle.answer.specs.Putting.{HasWriteCause}
+use Rattle.pgplan.specs.Faults.{IsFault}
+use Rattle.fault_line.specs.Tells.{IsFieldOf}
+use Rattle.pgplan.specs.Steps.{HasField}
+use Rattle.pgplan.specs.Scripts.{Worked, AreWorked, world_after, place_after}
+use Rattle.pgplan.specs.Statuses.{IsTold, line_of_work, number_of, status_of_work}
+use Rattle.pgplan.specs.Runs.{Ends, IsAnswered, IsRunOver, HasStatusCause, HasNoFault, ReachesFault, IsCutShort}
+use Rattle.pgplan.proofs.OneReading.{one_read, read_apart}
 
 -- a list of one, mapped
 pub one_item : {A B : Type 0} (f : A → B) (xs : List A) (x : A) → 1 ≤ length xs → length xs < 2 → x ≡ get_or xs 0 x → map f xs ≡ f x ∷ []
@@ -24,20 +32,66 @@ told : {E : Type 0} (r : Result (Unit {0}) E) (old new : Option (List ℕ)) (bef
 told (Ok u) old new before now line ok err cause = record { some = (length line, omega arith, rw (take_all (length line) line (omega arith)) ok); whole = λ quiet. ok }
 told (Err e) old new before now line ok err cause = record { some = err; whole = λ quiet. absurd (quiet cause.failed) }
 
--- a run that ends at a statement's fault, whose line was told by what the catalogue then has
-pub told_fault : {E : Type 0} (r : Result (Unit {0}) E) (text : List ℕ) (f : Fault) (w : World) (contents : Contents) (held held' errs errs' : Option (List ℕ)) (before now : ℕ) →
-    Ends (ends.Fault f) text w held held' → contents ≡ w.contents → OnOk r (Appends errs errs' (fault_line contents text f)) →
-    OnErr r (AppendsPrefix errs errs' (fault_line contents text f)) → HasCause before now r → Answers 3 text held held' errs errs' before now
-told_fault r text f w contents held held' errs errs' before now ended same ok err cause =
-    let P : Contents → Type 0 = λ k. IsTold errs errs' before now (fault_line k text f) in
+-- a fault's line is that of the run that ends in it
+pub told_fault : {E : Type 0} (r : Result (Unit {0}) E) (ended : Result (Unit {0}) End) (c : Contents) (text : List ℕ) (f : Fault) (errs errs' : Option (List ℕ)) (before now : ℕ) → ended ≡ Err (ends.Fault f) →
+    OnOk r (Appends errs errs' (fault_line c text f)) → OnErr r (AppendsPrefix errs errs' (fault_line c text f)) → HasCause before now r → IsTold errs errs' before now (line_of_work c text ended)
+told_fault r ended c text f errs errs' before now is ok err cause = subst (λ e. IsTold errs errs' before now (line_of_work c text e)) (sym is) (told r errs errs' before now (fault_line c text f) ok err cause)
+
+-- how statements end, by the world that is left
+abbrev pub Ended : Result (Unit {0}) End → List ℕ → World → (held held' : Option (List ℕ)) → Type 0
+Ended ended text w held held' = OnOk ended (IsAnswered text held held') × IfErr ended (λ e. Ends e text w held held')
+
+-- a fault that ends them has its field
+pub has_field : (ended : Result (Unit {0}) End) (text : List ℕ) (w : World) (c : Contents) (held held' : Option (List ℕ)) → IfErr ended (λ e. Ends e text w held held') → c ≡ w.contents → IfErr ended (HasField c)
+has_field (Ok u) text w c held held' is same = tt
+has_field (Err (ends.Fault f)) text w c held held' is same = subst (λ (k : Contents). IsFieldOf k f) (sym same) is.2
+has_field (Err ends.Write) text w c held held' is same = tt
+has_field (Err ends.Memory) text w c held held' is same = tt
+
+-- what the status and the line tell of a run
+pub run_over : (ended : Result (Unit {0}) End) (status : ℕ) (text : List ℕ) (w : World) (c : Contents) (held held' errs errs' : Option (List ℕ)) (before now : ℕ) →
+    Ended ended text w held held' → c ≡ w.contents → status ≡ number_of (status_of_work ended) → IsTold errs errs' before now (line_of_work c text ended) → IsRunOver status text held held' errs errs' before now
+run_over (Ok u) status text w c held held' errs errs' before now is same number told = record {
+  among = inl number;
+  done = λ e. is.0;
+  refused = λ e. absurd (omega (arith, e, number));
+  cut = λ e. absurd (omega (arith, e, number));
+  paused = λ e. absurd (omega (arith, e, number));
+  line = λ other. rw number told;
+}
+run_over (Err (ends.Fault f)) status text w c held held' errs errs' before now (_, (statements, left, field, is)) same number told =
+    let contents : c ≡ (world_after empty_world statements).contents = same ∙ ap (λ (v : World). v.contents) left in
     record {
-      among = inr (inl refl);
-      done = λ e. absurd (omega (arith, e));
-      refused = λ e. (ended.0, f, ended.3, subst P (same ∙ ap (λ (v : World). v.contents) ended.1) (told r errs errs' before now _ ok err cause));
-      cut = λ e. absurd (omega (arith, e));
-      paused = λ e. absurd (omega (arith, e));
-      line = λ other. absurd (other refl);
+      among = inr (inl number);
+      done = λ e. absurd (omega (arith, e, number));
+      refused = λ e. (statements, f, is, subst (λ k. IsTold errs errs' before now (fault_line k text f)) contents told);
+      cut = λ e. absurd (omega (arith, e, number));
+      paused = λ e. absurd (omega (arith, e, number));
+      line = λ other. absurd (other number);
     }
+run_over (Err ends.Write) status text w c held held' errs errs' before now is same number told = record {
+  among = inr (inr (inl number));
+  done = λ e. absurd (omega (arith, e, number));
+  refused = λ e. absurd (omega (arith, e, number));
+  cut = λ e. is.1;
+  paused = λ e. absurd (omega (arith, e, number));
+  line = λ other. rw number told;
+}
+run_over (Err ends.Memory) status text w c held held' errs errs' before now is same number told = record {
+  among = inr (inr (inr number));
+  done = λ e. absurd (omega (arith, e, number));
+  refused = λ e. absurd (omega (arith, e, number));
+  cut = λ e. absurd (omega (arith, e, number));
+  paused = λ e. is.1;
+  line = λ other. rw number told;
+}
+
+-- a failed out is told, and nothing else is told as one
+pub cause_over : (ended : Result (Unit {0}) End) (status before now : ℕ) → status ≡ number_of (status_of_work ended) → HasWriteCause ends.Write before now ended → HasStatusCause status before now
+cause_over (Ok u) status before now number cause = record { write = λ e. absurd (omega (arith, e, number)); quiet = λ other. cause.quiet (λ wrong. cc) }
+cause_over (Err (ends.Fault f)) status before now number cause = record { write = λ e. absurd (omega (arith, e, number)); quiet = λ other. cause.quiet (λ wrong. cc) }
+cause_over (Err ends.Write) status before now number cause = record { write = λ e. cause.write refl; quiet = λ other. absurd (other number) }
+cause_over (Err ends.Memory) status before now number cause = record { write = λ e. absurd (omega (arith, e, number)); quiet = λ other. cause.quiet (λ wrong. cc) }
 
 -- what was taken of a source to its end is all that it had
 pub taken_is : (left left' : Option (List ℕ)) (taken text : List ℕ) → left ≡ Some text → Consumes left left' taken → IsAtEnd left' → taken ≡ text
@@ -48,18 +102,55 @@ taken_is left (Some rest) taken text e took ended =
     let none : rest ≡ [] = ended in
     sym (append-nil taken) ∙ ap (λ (r : List ℕ). taken ++ r) (sym none) ∙ sym whole
 
--- a run over a text without a fault, where out does not fail, answers all or runs out of memory
-pub complete_run : (status : ℕ) (left left' held held' errs errs' : Option (List ℕ)) (taken text : List ℕ) (before now before' now' : ℕ) → left ≡ Some text →
-    HasNoFault text → Consumes left left' taken → IsAtEnd left' → Answers status taken held held' errs errs' before now → HasStatusCause status before' now' →
-    (Rose before' now' → ⊥) → (status ≡ 0) ⊎ (status ≡ 5)
-complete_run status left left' held held' errs errs' taken text before now before' now' e sound took ended answers cause quiet =
-    elim answers.among [
-      | inl done ↦ inl done
-      | inr (inl refused) ↦
-          let (statements, fault, is, line) = answers.refused refused in
-          let P : List ℕ → Type 0 = λ t. EndsInFault t held held' statements fault in
-          let here = subst P (taken_is left left' taken text e took ended) is in
-          absurd (sound statements fault here.first here.more here.fault)
-      | inr (inr (inl cut)) ↦ absurd (quiet (cause.write cut))
-      | inr (inr (inr memory)) ↦ inr memory
-    ]
+-- what was taken of a source is no longer than what it had
+pub taken_short : (left left' : Option (List ℕ)) (taken text : List ℕ) → left ≡ Some text → Consumes left left' taken → length taken ≤ length text
+taken_short left None taken text e took = let P : Option (List ℕ) → Type 0 = λ l. Consumes l None taken in absurd (subst P e took)
+taken_short left (Some rest) taken text e took =
+    let P : Option (List ℕ) → Type 0 = λ l. Consumes l (Some rest) taken in
+    let whole : text ≡ taken ++ rest = subst P e took in
+    let long : length text ≡ length taken + length rest = ap length whole ∙ length-append taken rest in
+    omega (arith, long)
+
+-- where all statements can be worked, no fault is reached
+none_reached_from : (w : World) (text : List ℕ) (from : ℕ) (all first : List Worked) (f : Fault) → AreWorked w text from all → place_after from all ≡ length text → AreWorked w text from first →
+    place_after from first < length text → IsFault (world_after w first) text (place_after from first) f → ⊥
+none_reached_from w text from [] [] f h ended k more fault = omega (arith, ended, more)
+none_reached_from w text from [] (s ∷ ss) f h ended k more fault = let open_at = k.0 in omega (arith, ended, open_at)
+none_reached_from w text from (s ∷ ss) [] f h ended k more fault = read_apart w text from s.next s.action s.reply f h.1 h.2 fault
+none_reached_from w text from (s ∷ ss) (t ∷ ts) f h ended k more fault =
+    let (action, next) = one_read w text from s.next t.next s.action t.action h.1 k.1 in
+    let P : Action → ℕ → Type 0 = λ a n. AreWorked (after w a) text n ss × (place_after n ss ≡ length text) in
+    let rest : P t.action t.next = subst (λ a. P a t.next) action (subst (P s.action) next (h.3, ended)) in
+    none_reached_from (after w t.action) text t.next ss ts f rest.0 rest.1 k.3 more fault
+
+pub none_reached : (text : List ℕ) (held held' : Option (List ℕ)) → IsAnswered text held held' → ReachesFault text → ⊥
+none_reached text held held' is reached = none_reached_from empty_world text 0 is.statements reached.statements reached.fault is.all.first is.all.ended reached.first reached.more reached.is
+
+module _ (status : ℕ) (text : List ℕ) (held held' errs errs' : Option (List ℕ)) (before now : ℕ) (is : IsRunOver status text held held' errs errs' before now) where
+  -- a run over a text without a fault answers all, unless it is cut short
+  over_complete : HasNoFault text → (status ≡ 0) ⊎ IsCutShort status
+  over_complete sound = elim is.among [
+    | inl done ↦ inl done
+    | inr (inl refused) ↦
+        let (statements, fault, ended, line) = is.refused refused in
+        absurd (sound (record { statements = statements; first = ended.first; more = ended.more; fault = fault; is = ended.fault }))
+    | inr (inr (inl cut)) ↦ inr (inr (inl cut))
+    | inr (inr (inr memory)) ↦ inr (inr (inr memory))
+  ]
+
+  -- and one in which a fault is reached tells it
+  over_reached : ReachesFault text → (status ≡ 3) ⊎ IsCutShort status
+  over_reached reached = elim is.among [
+    | inl done ↦ absurd (none_reached text held held' (is.done done) reached)
+    | inr (inl refused) ↦ inl refused
+    | inr (inr (inl cut)) ↦ inr (inr (inl cut))
+    | inr (inr (inr memory)) ↦ inr (inr (inr memory))
+  ]
+
+module _ (status : ℕ) (left left' held held' errs errs' : Option (List ℕ)) (taken text : List ℕ) (before now : ℕ) (e : left ≡ Some text) (took : Consumes left left' taken) (ended : IsAtEnd left')
+    (is : IsRunOver status taken held held' errs errs' before now) where
+  pub complete_run : HasNoFault text → (status ≡ 0) ⊎ IsCutShort status
+  complete_run sound = over_complete status taken held held' errs errs' before now is (subst HasNoFault (sym (taken_is left left' taken text e took ended)) sound)
+
+  pub reached_run : ReachesFault text → (status ≡ 3) ⊎ IsCutShort status
+  reached_run reached = over_reached status taken held held' errs errs' before now is (subst ReachesFault (sym (taken_is left left' taken text e took ended)) reached)

@@ -4,8 +4,8 @@ use Rattle.pg_base.specs.declared.numbers.TableNo.{TableNo}
 use Rattle.pg_value.specs.declared.columns.Column.{Column}
 use Rattle.catalog.specs.Contents.{new_table, with_table, with_loaded}
 use Rattle.heap.specs.Stored.{Stored}
-use Rattle.sql_query.specs.declared.prepared.Prepared.{Prepared}
-use Rattle.answer.specs.Worlds.{World}
+use Rattle.sql_query.specs.Queries.{Query}
+use Rattle.sql_query.specs.Worlds.{World}
 
 pub data Action : Type 0 where
   -- an empty statement
@@ -15,7 +15,7 @@ pub data Action : Type 0 where
   -- COPY: this is stored of the table from then on
   fill : TableNo → Stored → Action
   -- SELECT
-  answer : Prepared → Action
+  answer : Query → Action
 
 -- the world after an accepted statement: one more table, other rows of a table, or the same
 abbrev pub after : World → Action → World

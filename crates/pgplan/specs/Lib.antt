@@ -1,5 +1,5 @@
 pub mod Actions
-pub mod Reads
+pub mod Accepted
 pub mod Faults
 pub mod Ending
 pub mod Replies

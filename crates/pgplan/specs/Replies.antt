@@ -1,8 +1,9 @@
 -- What an accepted statement prints, and how many rows that costs. Own.
 use Rattle.std.specs.Prelude.{ℕ, ◌≡◌, ◌+◌, ◌*◌, List, [], length}
-use Rattle.answer.specs.Worlds.{World}
-use Rattle.answer.specs.Plans.{Plan, run, fetches, looks}
-use Rattle.answer.specs.Answers.{IsAnswer}
+use Rattle.sql_query.specs.Worlds.{World}
+use Rattle.sql_query.specs.Tuples.{no_rows}
+use Rattle.answer.specs.Plans.{Plan, fetches, looks}
+use Rattle.answer.specs.Answers.{IsAnswer, tuples_of}
 use Rattle.pgplan.specs.Actions.{Action, idle, make, fill, answer}
 
 -- the bytes printed, the rows fetched, and the most looks at entries and at rows already found
@@ -22,4 +23,4 @@ IsReply w idle r = r ≡ no_reply
 IsReply w (make name names columns) r = r ≡ no_reply
 IsReply w (fill t s) r = r ≡ no_reply
 IsReply w (answer q) r =
-    (p : Plan) × IsAnswer w q p r.bytes × (r.fetched ≡ fetches w q p) × (r.looked ≡ looks w q p + 32 * length (run w q p))
+    (p : Plan) × IsAnswer w q p r.bytes × (r.fetched ≡ fetches w q p (no_rows q)) × (r.looked ≡ looks w q p (no_rows q) + 32 * length (tuples_of w q p))

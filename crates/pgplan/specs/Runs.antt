@@ -1,16 +1,18 @@
 -- What a run of the program did to its source and to its sinks. Own.
-use Rattle.std.specs.Prelude.{ℕ, ◌≡◌, ◌⊎◌, ◌^◌, ◌+◌, ◌<◌, ◌≤◌, List, [], ◌∷◌, ◌++◌, length, take, codes}
+use Rattle.std.specs.Prelude.{ℕ, ◌≡◌, ◌⊎◌, ◌+◌, ◌<◌, ◌≤◌, List, [], ◌∷◌, ◌++◌, length, take, codes}
 use Rattle.std.specs.declared.option.Option.{Option}
 use Rattle.std.specs.Io.KnownBytes.{Appends, Consumes, IsAtEnd}
 use Rattle.pg_base.specs.Causes.{Rose}
+use Rattle.pg_base.specs.Reading.{ConsumesUpTo}
 use Rattle.pg_base.specs.declared.faults.Fault.{Fault}
+use Rattle.pg_base.specs.declared.limits.TheConstants.{MOST_SCRIPT_BYTES}
 use Rattle.fault_line.specs.Lines.{fault_line}
 use Rattle.fault_line.specs.Tells.{IsFieldOf}
-use Rattle.answer.specs.Worlds.{World, empty_world}
+use Rattle.sql_query.specs.Worlds.{World, empty_world}
 use Rattle.pgplan.specs.declared.end.End.{End}
 use Rattle.pgplan.specs.declared.end.End.TheVariants as ends
 use Rattle.pgplan.specs.Actions.{Action}
-use Rattle.pgplan.specs.Reads.{IsRead}
+use Rattle.pgplan.specs.Accepted.{IsRead}
 use Rattle.pgplan.specs.Faults.{IsFault}
 use Rattle.pgplan.specs.Replies.{Reply, IsReply}
 use Rattle.pgplan.specs.Scripts.{Worked, AreFirst, AreAll, world_after, place_after, replies}
@@ -20,21 +22,17 @@ use Rattle.pgplan.specs.Statuses.{IsTold, line_of}
 abbrev pub IsRunCommand : List (List ℕ) → Type 0
 IsRunCommand words = words ≡ codes "run" ∷ []
 
--- the most bytes that a script has
-abbrev pub most_bytes : ℕ
-most_bytes = 2 ^ 24
-
 -- these bytes were taken, all that the source had
 pub record IsReadWhole (left left' : Option (List ℕ)) (text : List ℕ) : Type 0 where
   pub taken : Consumes left left' text
-  pub within : length text ≤ most_bytes
+  pub within : length text ≤ MOST_SCRIPT_BYTES
   pub ended : IsAtEnd left'
 
 -- the source gave one byte more than a script has
 pub record IsTooLong (left left' : Option (List ℕ)) : Type 0 where
   pub text : List ℕ
   pub taken : Consumes left left' text
-  pub long : length text ≡ most_bytes + 1
+  pub long : length text ≡ MOST_SCRIPT_BYTES + 1
 
 -- every statement was worked, and out gained their replies and no more
 pub record IsAnswered (text : List ℕ) (held held' : Option (List ℕ)) : Type 0 where
@@ -69,11 +67,17 @@ pub record IsPaused (text : List ℕ) (held held' : Option (List ℕ)) : Type 0 
   pub first : AreFirst text statements
   pub gained : Appends held held' (replies statements)
 
+-- the first statements may be worked, and the one after them has a fault
+pub record ReachesFault (text : List ℕ) : Type 0 where
+  pub statements : List Worked
+  pub first : AreFirst text statements
+  pub more : place_after 0 statements < length text
+  pub fault : Fault
+  pub is : IsFault (world_after empty_world statements) text (place_after 0 statements) fault
+
 -- no statement of the text has a fault: whichever first ones are worked, the one after them has none
 abbrev pub HasNoFault : List ℕ → Type 0
-HasNoFault text =
-    (statements : List Worked) (fault : Fault) → AreFirst text statements → place_after 0 statements < length text →
-    IsFault (world_after empty_world statements) text (place_after 0 statements) fault → ⊥
+HasNoFault text = ¬ ReachesFault text
 
 -- why the statements of a text were not all worked, and what is left: the world is that of the statements before a fault
 abbrev pub Ends : End → List ℕ → World → (held held' : Option (List ℕ)) → Type 0
@@ -96,12 +100,14 @@ TellsFault left left' held held' errs errs' before now =
 abbrev pub CutsOff : (left left' held held' : Option (List ℕ)) → Type 0
 CutsOff left left' held held' = (text : List ℕ) × IsReadWhole left left' text × IsCutOff text held held'
 
--- a text was read whole, and out gained the replies of the first statements, and it may be some first bytes of the next one's
-abbrev pub AnswersSome : (left left' held held' : Option (List ℕ)) → Type 0
-AnswersSome left left' held held' = (text : List ℕ) × IsReadWhole left left' text × (IsPaused text held held' ⊎ IsCutOff text held held')
+-- memory ran out: some first bytes were taken of the source and out is as before; or a text was read whole, and out gained
+-- the replies of the first statements, and it may be some first bytes of the next one's
+abbrev pub RunsOut : (left left' held held' : Option (List ℕ)) → Type 0
+RunsOut left left' held held' =
+    (ConsumesUpTo left left' (MOST_SCRIPT_BYTES + 1) × (held' ≡ held)) ⊎ ((text : List ℕ) × IsReadWhole left left' text × (IsPaused text held held' ⊎ IsCutOff text held held'))
 
 -- what a run over a text that was read did, by its status
-pub record Answers (status : ℕ) (text : List ℕ) (held held' errs errs' : Option (List ℕ)) (before now : ℕ) : Type 0 where
+pub record IsRunOver (status : ℕ) (text : List ℕ) (held held' errs errs' : Option (List ℕ)) (before now : ℕ) : Type 0 where
   pub among : (status ≡ 0) ⊎ ((status ≡ 3) ⊎ ((status ≡ 4) ⊎ (status ≡ 5)))
   pub done : status ≡ 0 → IsAnswered text held held'
   pub refused : status ≡ 3 → (statements : List Worked) × (fault : Fault) × EndsInFault text held held' statements fault
@@ -109,6 +115,10 @@ pub record Answers (status : ℕ) (text : List ℕ) (held held' errs errs' : Opt
   pub cut : status ≡ 4 → IsCutOff text held held'
   pub paused : status ≡ 5 → IsPaused text held held' ⊎ IsCutOff text held held'
   pub line : (status ≡ 3 → ⊥) → IsTold errs errs' before now (line_of status)
+
+-- the source failed, out failed, or memory ran out
+abbrev pub IsCutShort : ℕ → Type 0
+IsCutShort status = (status ≡ 2) ⊎ ((status ≡ 4) ⊎ (status ≡ 5))
 
 -- status 4 has its cause in out's faults, and nothing else raises them
 pub record HasStatusCause (status before now : ℕ) : Type 0 where

@@ -1,9 +1,9 @@
 -- The statements of a script, worked one after another from no table on. Own.
 use Rattle.std.specs.Prelude.{ℕ, ◌≡◌, ◌<◌, List, [], ◌∷◌, length}
 use Rattle.std.specs.List.{flat_map}
-use Rattle.answer.specs.Worlds.{World, empty_world}
+use Rattle.sql_query.specs.Worlds.{World, empty_world}
 use Rattle.pgplan.specs.Actions.{Action, after}
-use Rattle.pgplan.specs.Reads.{IsRead}
+use Rattle.pgplan.specs.Accepted.{IsRead}
 use Rattle.pgplan.specs.Replies.{Reply, IsReply}
 
 -- a statement that was worked: what it did, where the next one begins, and its reply

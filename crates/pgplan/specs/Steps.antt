@@ -4,14 +4,15 @@ use Rattle.std.specs.declared.option.Option.{Option}
 use Rattle.std.specs.Io.KnownBytes.{Appends}
 use Rattle.pg_base.specs.Writing.{AppendsPrefix}
 use Rattle.sql_lex.specs.declared.tokens.Token.{Token}
+use Rattle.catalog.specs.Contents.{Contents}
 use Rattle.ddl_reader.specs.Tables.{Definition}
 use Rattle.fault_line.specs.Tells.{IsFieldOf}
-use Rattle.sql_query.specs.declared.prepared.Prepared.{Prepared}
-use Rattle.answer.specs.Worlds.{World}
+use Rattle.sql_query.specs.Queries.{Query}
+use Rattle.sql_query.specs.Worlds.{World}
 use Rattle.pgplan.specs.declared.end.End.{End}
 use Rattle.pgplan.specs.declared.end.End.TheVariants as ends
 use Rattle.pgplan.specs.Actions.{Action, answer, after}
-use Rattle.pgplan.specs.Reads.{IsRead, IsReadOver}
+use Rattle.pgplan.specs.Accepted.{IsRead, IsReadOver}
 use Rattle.pgplan.specs.Faults.{IsFault, IsFaultOver, IsRefused}
 use Rattle.pgplan.specs.Replies.{Reply, IsReply, no_reply}
 
@@ -26,7 +27,7 @@ abbrev pub traces : Option (List ℕ) → ℕ → ℕ → Traces
 traces held fetched looked = record { held = held; fetched = fetched; looked = looked }
 
 -- the statement at this place was read and carried out, and out gained its reply
-pub record IsStep (w w' : World) (text : List ℕ) (at next : ℕ) (old new : Traces) : Type 0 where
+pub record Advances (w w' : World) (text : List ℕ) (at next : ℕ) (old new : Traces) : Type 0 where
   pub action : Action
   pub read : IsRead w text at action next
   pub world : w' ≡ after w action
@@ -46,6 +47,11 @@ pub record IsBegun (w : World) (text : List ℕ) (at : ℕ) (old new : Traces) :
   pub gained : AppendsPrefix old.held new.held reply.bytes
   pub fetched : new.fetched ≤ old.fetched + reply.fetched
   pub looked : new.looked ≤ old.looked + reply.looked
+
+-- where a field of COPY data is at fault, the catalogue has its table and column
+abbrev pub HasField : Contents → End → Type 0
+HasField c (ends.Fault f) = IsFieldOf c f
+HasField c _ = Unit {0}
 
 -- why a step gives no reply, and what it left: the statement's first fault; or, with a part of the reply written at most, a
 -- failed out or want of memory
@@ -72,7 +78,7 @@ RefusesDefinition ends.Memory w text definition at = Unit {0}
 
 -- the tokens are a query, whose answer out gained
 pub record IsAnsweredOver (w : World) (text : List ℕ) (tokens : List Token) (next : ℕ) (held held' : Option (List ℕ)) (fetched fetched' : ℕ) : Type 0 where
-  pub query : Prepared
+  pub query : Query
   pub read : IsReadOver w text tokens (answer query) next
   pub reply : Reply
   pub answers : IsReply w (answer query) reply
@@ -81,7 +87,7 @@ pub record IsAnsweredOver (w : World) (text : List ℕ) (tokens : List Token) (n
 
 -- the tokens are a query, and out gained some first bytes of its answer
 pub record IsBegunOver (w : World) (text : List ℕ) (tokens : List Token) (held held' : Option (List ℕ)) (fetched fetched' : ℕ) : Type 0 where
-  pub query : Prepared
+  pub query : Query
   pub next : ℕ
   pub read : IsReadOver w text tokens (answer query) next
   pub reply : Reply

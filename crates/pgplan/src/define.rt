@@ -1,42 +1,42 @@
 //! CREATE TABLE and COPY, carried out.
 
 ghost use Rattle.std.specs.Prelude.{◌≡◌, ◌≤◌, ◌+◌, ◌^◌, ◌<◌, ℕ, All, IfErr, IfOk, Ok, OnErr, OnOk, length, slice_range, true, []};
+ghost use Rattle.pg_base.specs.declared.limits.TheConstants.{MOST_SCRIPT_BYTES};
 ghost use Rattle.sql_lex.specs.Words.{AreWords};
 ghost use Rattle.sql_grammar.specs.Faults.{terminals};
 ghost use Rattle.catalog.specs.Contents.{IsTable};
-ghost use Rattle.catalog.specs.Names.{IsName};
+ghost use Rattle.pg_base.specs.Names.{IsName};
 ghost use Rattle.catalog.specs.Tables.{IsAcceptable};
 ghost use Rattle.ddl_reader.specs.Block.{IsBlockEnd};
 ghost use Rattle.ddl_reader.specs.Statements.{begins_ddl};
 ghost use Rattle.ddl_reader.specs.Tables.{data_for, table as table_of};
 ghost use Rattle.heap.specs.Loading.{loaded, records_of};
 ghost use Rattle.heap.specs.Stored.{Stored};
-ghost use Rattle.answer.specs.Worlds.{IsWorld, stored_at, world};
+ghost use Rattle.sql_query.specs.Worlds.{IsWorld, stored_at, world};
 ghost use Rattle.pgplan.specs.Actions as actions;
-ghost use Rattle.pgplan.specs.Reads.{end_of as end_of_tokens};
+ghost use Rattle.pgplan.specs.Accepted.{end_of as end_of_tokens};
 ghost use Rattle.pgplan.specs.Steps.{IsDefined, Refuses, RefusesDefinition};
 
 use crate::end::End;
-use crate::faults::{catalogue_fault, data_fault, endless, word_ends};
+use crate::faults::{endless, refused_data, refused_table, word_ends};
 use crate::store::{fill, make};
 use catalog::Catalog;
 use ddl_reader::{Ddl, Read, block_end, read_ddl};
-use heap::Heap;
+use heap::{Counters, Heap};
 use pg_base::TableNo;
 use pg_value::{Bytes, Columns};
 use sql_lex::Tokens;
 use std::alloc::Global;
-use std::sync::ledger::Ledger;
 
 /// Carries out the definition of these tokens and gives the offset after it. A refused one changes nothing.
-pub(crate) fn define<L: Ledger>(
+pub(crate) fn define<C: Counters>(
     alloc: Global,
     text: &[u8],
     tokens: &Tokens,
     catalog: &mut Catalog,
-    heaps: &mut Vec<Heap<L>>,
+    heaps: &mut Vec<Heap<C>>,
 ) -> Result<u32, End>
-    requires short { length text.now ≤ 2 ^ 24 }
+    requires short { length text.now ≤ MOST_SCRIPT_BYTES }
     requires words { (from : ℕ) × AreWords text.now from tokens.now }
     requires opens { begins_ddl (terminals text.now tokens.now) ≡ true }
     requires world { IsWorld (world catalog.old heaps.old.items) }
@@ -61,10 +61,10 @@ pub(crate) fn define<L: Ledger>(
 }
 
 /// Makes the table whose name and columns' names stand at these offsets.
-fn table<L: Ledger>(
+fn table<C: Counters>(
     alloc: Global,
     catalog: &mut Catalog,
-    heaps: &mut Vec<Heap<L>>,
+    heaps: &mut Vec<Heap<C>>,
     at: &[u32],
     name: Bytes,
     names: Vec<Bytes>,
@@ -85,19 +85,19 @@ fn table<L: Ledger>(
     let ends = word_ends(alloc, at, &name, &names)?;
     match make(alloc, catalog, heaps, name, names, columns) {
         Ok(()) => Ok(()),
-        Err(refused) => Err(catalogue_fault(refused, at, &ends)),
+        Err(refused) => Err(refused_table(refused, at, &ends)),
     }
 }
 
 /// Loads the COPY data that begin at an offset into a table, and gives the offset after the line that ends them.
-fn data<L: Ledger>(
+fn data<C: Counters>(
     catalog: &mut Catalog,
-    heaps: &mut Vec<Heap<L>>,
+    heaps: &mut Vec<Heap<C>>,
     text: &[u8],
     table: TableNo,
     start: u32,
 ) -> Result<u32, End>
-    requires short { length text.now ≤ 2 ^ 24 }
+    requires short { length text.now ≤ MOST_SCRIPT_BYTES }
     requires start { start ≤ length text.now }
     requires world { IsWorld (world catalog.old heaps.old.items) }
     requires table { IsTable catalog.old table }
@@ -111,7 +111,7 @@ fn data<L: Ledger>(
     };
     match fill(catalog, heaps, table, &text[start as usize..end as usize]) {
         Ok(()) => Ok(next),
-        Err(refused) => Err(data_fault(refused, table, start)),
+        Err(refused) => Err(refused_data(refused, table, start)),
     }
 }
 

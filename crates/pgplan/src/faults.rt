@@ -1,9 +1,9 @@
 //! The faults of definitions that are not carried out, with their places.
 
 ghost use Rattle.std.specs.Prelude.{◌≡◌, ◌≤◌, ◌+◌, ◌^◌, ◌<◌, ◌∷◌, All, IfOk, length};
-ghost use Rattle.catalog.specs.Names.{IsName};
-ghost use Rattle.pgplan.specs.Ending.{IsWordOf, end_of_data, end_of_refused, word_ends as ends_of_words};
-ghost use Rattle.pgplan.specs.Faults.{data_fault, endless_fault};
+ghost use Rattle.pg_base.specs.Names.{IsName};
+ghost use Rattle.pgplan.specs.Ending.{IsCauseFor, end_by};
+ghost use Rattle.pgplan.specs.Faults.{endless_fault, rows_fault, table_fault, word_ends as ends_of_words};
 
 use crate::end::End;
 use catalog::CatalogFault;
@@ -33,74 +33,49 @@ pub(crate) fn word_ends(
     Ok(ends)
 }
 
-/// The fault of this kind at a word.
-fn word_fault(code: Code, at: u32, to: u32) -> End
-    ensures { result ≡ End.Fault (record { code = code; at = at; from = at; to = to; rec = 0; table = record { 0 = 0 }; col = 0 }) }
-{
-    End::Fault(Fault {
-        code,
-        at,
-        from: at,
-        to,
-        rec: 0,
-        table: TableNo(0),
-        col: 0,
-    })
-}
-
-/// The fault of a table that the catalogue refuses: at its name, or at the repeated column's.
-pub(crate) fn catalogue_fault(refused: CatalogFault, at: &[u32], ends: &[u32]) -> End
+/// How the refusal of a table ends its step, whose words begin and end at these offsets: with its fault at the new name or at
+/// the repeated column's. It is one that the catalogue gives for a table of so many words.
+pub(crate) fn refused_table(refused: CatalogFault, at: &[u32], ends: &[u32]) -> End
     requires some { 0 < length at.now }
     requires ends { length ends.now ≡ length at.now }
-    requires place { IsWordOf refused (length at.now) }
-    ensures { result ≡ end_of_refused refused at.now ends.now }
+    requires cause { IsCauseFor refused (length at.now) }
+    ensures { result ≡ end_by (table_fault refused at.now ends.now) }
 {
-    match refused {
-        CatalogFault::NameTaken => word_fault(Code::S5, at[0], ends[0]),
+    let fault = match refused {
+        CatalogFault::NameTaken => Fault::at_words(Code::S5, at[0], ends[0]),
         CatalogFault::ColumnTwice(place) => {
             let word = place as usize + 1;
-            word_fault(Code::S6, at[word], ends[word])
+            Fault::at_words(Code::S6, at[word], ends[word])
         }
-        CatalogFault::TooMany => word_fault(Code::S15(Limit::Tables), at[0], ends[0]),
-        CatalogFault::BadNumber(_) | CatalogFault::Memory => End::Memory,
-    }
-}
-
-/// The fault of this kind in a record and a column of COPY data that begin at the byte offset `start`.
-fn in_data(code: Code, start: u32, rec: u32, table: TableNo, col: u8) -> Fault
-    ensures { result ≡ data_fault code start rec table col }
-{
-    Fault {
-        code,
-        at: start,
-        from: start,
-        to: start,
-        rec,
-        table,
-        col,
-    }
+        CatalogFault::TooMany => Fault::at_words(Code::S15(Limit::Tables), at[0], ends[0]),
+        CatalogFault::BadNumber(_) => unreachable!(),
+        CatalogFault::Memory => return End::Memory,
+    };
+    End::Fault(fault)
 }
 
 /// The fault of COPY data that no line ends.
 pub(crate) fn endless(start: u32) -> Fault
     ensures { result ≡ endless_fault start }
 {
-    in_data(Code::S13, start, 0, TableNo(0), 0)
+    Fault::in_data(Code::S13, start, 0, TableNo(0), 0)
 }
 
-/// The fault of COPY data for a table.
-pub(crate) fn data_fault(refused: CopyFault, table: TableNo, start: u32) -> End
-    ensures { result ≡ end_of_data refused table start }
+/// How the refusal of COPY data for a table, from the byte offset `start` on, ends its step.
+pub(crate) fn refused_data(refused: CopyFault, table: TableNo, start: u32) -> End
+    ensures { result ≡ end_by (rows_fault refused table start) }
 {
     let fault = match refused {
-        CopyFault::Arity { rec } => in_data(Code::S13, start, rec, table, 0),
-        CopyFault::Range { rec, col } => in_data(Code::S11, start, rec, table, col.0),
-        CopyFault::Invalid { rec, col } => in_data(Code::S12, start, rec, table, col.0),
-        CopyFault::IsNull { rec, col } => in_data(Code::S14, start, rec, table, col.0),
+        CopyFault::Arity { rec } => Fault::in_data(Code::S13, start, rec, table, 0),
+        CopyFault::Range { rec, col } => Fault::in_data(Code::S11, start, rec, table, col.0),
+        CopyFault::Invalid { rec, col } => Fault::in_data(Code::S12, start, rec, table, col.0),
+        CopyFault::IsNull { rec, col } => Fault::in_data(Code::S14, start, rec, table, col.0),
         CopyFault::TooLong { rec, col } => {
-            in_data(Code::S15(Limit::Text), start, rec, table, col.0)
+            Fault::in_data(Code::S15(Limit::Text), start, rec, table, col.0)
         }
-        CopyFault::TooMany { rec } => in_data(Code::S15(Limit::Rows), start, rec, table, 0),
+        CopyFault::TooMany { rec } => {
+            Fault::in_data(Code::S15(Limit::Rows), start, rec, table, 0)
+        }
         CopyFault::Memory => return End::Memory,
     };
     End::Fault(fault)

@@ -1,43 +1,47 @@
 //! The script machine: what is stored, and one statement after another worked on it.
 
 ghost use Rattle.std.specs.Prelude.{◌≡◌, ◌≤◌, ◌^◌, ◌<◌, IfErr, IfOk, OnErr, length};
-ghost use Rattle.answer.specs.Worlds.{empty_world};
-ghost use Rattle.pgplan.specs.Ending.{HasWriteCause};
-ghost use Rattle.pgplan.specs.Steps.{IsStep, Stops, traces};
+ghost use Rattle.pg_base.specs.declared.limits.TheConstants.{MOST_SCRIPT_BYTES};
+ghost use Rattle.sql_query.specs.Worlds.{empty_world};
+ghost use Rattle.answer.specs.Putting.{HasWriteCause};
+ghost use Rattle.pgplan.specs.Steps.{Advances, Stops, traces};
 
 use crate::define::{define, end_of};
 use crate::end::End;
 use crate::query::answer_query;
 use catalog::Catalog;
 use ddl_reader::is_ddl;
-use heap::Heap;
+use heap::{Counters, Heap};
 use pg_base::{Sink, Steps};
 use sql_lex::lex_statement;
 use std::alloc::Global;
 use std::marker::Model;
-use std::sync::ledger::Ledger;
 
 /// The tables that a script has made, with their rows. Contracts see a `World`.
 #[derive(Drop)]
-pub struct Machine<L: Ledger> {
+pub struct Machine<C: Counters> {
     alloc: Global,
     catalog: Catalog,
-    heaps: Vec<Heap<L>>,
+    heaps: Vec<Heap<C>>,
 }
 
-impl<L: Ledger> Model for Machine<L> {
-    ghost use Rattle.answer.specs.Worlds.{World, IsWorld, world};
+impl<C: Counters> Model for Machine<C> {
+    ghost use Rattle.std.specs.Coded.{codes};
+    ghost use Rattle.pg_expr.specs.CondCode.{cond_code};
+    ghost use Rattle.sql_query.specs.Worlds.{World, IsWorld, world};
 
     ghost Value = { World };
+
+    ghost coded = { Prim.hlevel (codes, cond_code (Prim.hlevel codes)) };
 
     ghost view = { λ m. world m.catalog m.heaps.items };
 
     ghost invariant = { λ m. IsWorld (world m.catalog m.heaps.items) };
 }
 
-impl<L: Ledger> Machine<L> {
+impl<C: Counters> Machine<C> {
     /// A machine without tables.
-    pub fn new(alloc: Global) -> Machine<L>
+    pub fn new(alloc: Global) -> Machine<C>
         ensures { result ≡ empty_world }
     {
         Machine {
@@ -56,24 +60,24 @@ impl<L: Ledger> Machine<L> {
 
     /// Works the statement that begins at the byte offset `at` and gives the offset after it. Its reply, if it has one, is
     /// written to `out` before that. `fetches` counts the rows that are fetched, and `reads` the entries and rows already
-    /// found that are looked at, of which a sequential scan has none. The text has at most 2^24 bytes, and `at` is at most its length.
+    /// found that are looked at, of which a sequential scan has none. The text has at most `MOST_SCRIPT_BYTES` bytes, and `at` is at most its length.
     ///
     /// The refusal is the statement's first fault, of its words, its syntax, its names, its limits, its data, or of the
     /// catalogue; or a failed out, or want of memory. The machine is then as before, and with a fault nothing was written.
-    pub fn step<M: Ledger, K: Sink>(
+    pub fn step<K: Sink>(
         &mut self,
         text: &[u8],
         at: u32,
         out: &mut K,
-        fetches: &mut Steps<L>,
-        reads: &mut Steps<M>,
+        fetches: &mut Steps<C::Fetches>,
+        reads: &mut Steps<C::Looks>,
     ) -> Result<u32, End>
-        requires short { length text.now ≤ 2 ^ 24 }
+        requires short { length text.now ≤ MOST_SCRIPT_BYTES }
         requires within { at ≤ length text.now }
-        ensures done { IfOk result (λ next. IsStep self.old self.new text.now at next (traces (K.held out.old) fetches.old reads.old) (traces (K.held out.new) fetches.new reads.new)) }
+        ensures done { IfOk result (λ next. Advances self.old self.new text.now at next (traces (K.held out.old) fetches.old reads.old) (traces (K.held out.new) fetches.new reads.new)) }
         ensures stopped { IfErr result (λ e. Stops e self.old text.now at (traces (K.held out.old) fetches.old reads.old) (traces (K.held out.new) fetches.new reads.new)) }
         ensures unchanged { OnErr result (self.new ≡ self.old) }
-        ensures cause { HasWriteCause (K.faults out.old) (K.faults out.new) result }
+        ensures cause { HasWriteCause End.Write (K.faults out.old) (K.faults out.new) result }
         ensures ahead { IfOk result (λ next. at < length text.now → at < next) }
         ensures inside { IfOk result (λ next. next ≤ length text.now) }
     {

@@ -1,7 +1,10 @@
 //! How a run ends.
 
 ghost use Rattle.std.specs.Prelude.{◌≡◌};
-ghost use Rattle.pgplan.specs.Statuses.{line_of, number_of};
+ghost use Rattle.pgplan.specs.Statuses.{line_of, number_of, status_of_reading, status_of_work};
+
+use crate::end::End;
+use pg_base::ReadFault;
 
 /// How a run ends. Its number is the program's exit status.
 #[derive(Clone, Copy, Debug, PartialEq, Eq)]
@@ -23,6 +26,29 @@ pub(crate) enum Status {
 }
 
 impl Status {
+    /// That of a run whose source is not read whole.
+    pub(crate) fn of_reading(fault: &ReadFault) -> Status
+        ensures { result ≡ status_of_reading fault.now }
+    {
+        match fault {
+            ReadFault::Memory => Status::Memory,
+            ReadFault::Failed => Status::ReadFault,
+            ReadFault::TooLong => Status::TooLong,
+        }
+    }
+
+    /// That of a run whose statements end so.
+    pub(crate) fn of_work(ended: &Result<(), End>) -> Status
+        ensures { result ≡ status_of_work ended.now }
+    {
+        match ended {
+            Ok(()) => Status::Done,
+            Err(End::Fault(_)) => Status::Statement,
+            Err(End::Write) => Status::WriteFault,
+            Err(End::Memory) => Status::Memory,
+        }
+    }
+
     /// The exit status.
     pub(crate) fn number(self) -> u8
         ensures { result ≡ number_of self }

@@ -2,25 +2,24 @@
 
 ghost use Rattle.std.specs.Prelude.{◌≡◌, ◌≢◌, All, IfErr, Ok, Err, OnErr, OnOk, length};
 ghost use Rattle.catalog.specs.Contents.{IsTable, table_at};
-ghost use Rattle.catalog.specs.Names.{IsName};
+ghost use Rattle.pg_base.specs.Names.{IsName};
 ghost use Rattle.catalog.specs.Tables.{IsAcceptable, IsRefusal};
 ghost use Rattle.heap.specs.Loading.{NamesColumnOf, loaded, records_of};
 ghost use Rattle.heap.specs.Stored.{Stored};
-ghost use Rattle.answer.specs.Worlds.{IsWorld, stored_at, world};
+ghost use Rattle.sql_query.specs.Worlds.{IsWorld, stored_at, world};
 ghost use Rattle.pgplan.specs.Actions as actions;
 
 use catalog::{Catalog, CatalogFault};
-use heap::{CopyFault, Heap};
+use heap::{CopyFault, Counters, Heap};
 use pg_base::TableNo;
 use pg_value::{Bytes, Columns};
 use std::alloc::Global;
-use std::sync::ledger::Ledger;
 
 /// Makes a table without rows. What the catalogue refuses changes nothing.
-pub(crate) fn make<L: Ledger>(
+pub(crate) fn make<C: Counters>(
     alloc: Global,
     catalog: &mut Catalog,
-    heaps: &mut Vec<Heap<L>>,
+    heaps: &mut Vec<Heap<C>>,
     name: Bytes,
     names: Vec<Bytes>,
     columns: Columns,
@@ -47,9 +46,9 @@ pub(crate) fn make<L: Ledger>(
 }
 
 /// Appends the rows of a block of COPY data to a table. Data at fault change nothing.
-pub(crate) fn fill<L: Ledger>(
+pub(crate) fn fill<C: Counters>(
     catalog: &mut Catalog,
-    heaps: &mut Vec<Heap<L>>,
+    heaps: &mut Vec<Heap<C>>,
     table: TableNo,
     block: &[u8],
 ) -> Result<(), CopyFault>

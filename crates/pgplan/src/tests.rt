@@ -12,38 +12,138 @@ const NO_DATA: &[u8] = b"CREATE TABLE t (a int8);\nSELECT * FROM t;\n";
 const THREE: &[u8] =
     b"CREATE TABLE t (a int8);\nCOPY t FROM STDIN WITH (FORMAT CSV, NULL '\\N');\n1\n2\n3\n\\.\nSELECT * FROM t;\n";
 
-const PAST_INT2: &[u8] =
-    b"CREATE TABLE t (a int2);\nCOPY t FROM STDIN WITH (FORMAT CSV, NULL '\\N');\n32768\n\\.\n";
-
-const NO_END: &[u8] =
-    b"CREATE TABLE t (a int2);\nCOPY t FROM STDIN WITH (FORMAT CSV, NULL '\\N');\n1\n";
-
-const NULL_REFUSED: &[u8] =
-    b"CREATE TABLE t (a int2 NOT NULL);\nCOPY t FROM STDIN WITH (FORMAT CSV, NULL '\\N');\n\\N\n\\.\n";
-
-const TWO_ALIASES: &[u8] = b"CREATE TABLE t (v int4);\nSELECT * FROM t x y;\n";
-
 const QUOTES: &[u8] =
     b"CREATE TABLE t (s text);\nCOPY t FROM STDIN WITH (FORMAT CSV, NULL '\\N');\n\"a,b\"\n\"\"\n\\N\n\\.\nSELECT * FROM t;\n";
 
 const ALIAS: &[u8] =
     b"CREATE TABLE t (a int4, b text);\nCOPY t FROM STDIN WITH (FORMAT CSV, NULL '\\N');\n1,x\n\\.\nSELECT b, a, u.b FROM t u;\n";
 
-const LETTER: &[u8] =
-    b"CREATE TABLE t (a int8);\nCOPY t FROM STDIN WITH (FORMAT CSV, NULL '\\N');\nx\n\\.\nSELECT * FROM t;\n";
-
 /// The fault stands in the third statement: the first two are answered, the last is not read.
 const THIRD: &[u8] =
     b"CREATE TABLE t (a int8); SELECT a FROM t; SELECT A, Zz FROM t; SELECT * FROM t;";
-
-/// A refused load leaves no row behind, and a table is not made twice.
-const TAKEN: &[u8] = b"CREATE TABLE t (a int8);\nCREATE TABLE u (b text, B int2);\n";
 
 const THREE_ROWS: &[u8] = b"Seq Scan on t  (cost=412 rows=3)\n1\n2\n3\n(3 rows)\n";
 
 const NO_ROWS: &[u8] = b"Seq Scan on t  (cost=404 rows=1)\n(0 rows)\n";
 
 const USAGE: &[u8] = b"usage: pgplan run | pgplan sample N\n";
+
+/// A script whose statement at fault prints nothing, and its line: the words and their syntax, names, data, and a parameter.
+const FAULTS: [(&[u8], &[u8]); 23] = [
+    (b"SELECT * FROM t 'x;", b"ERROR 42601 at 16: syntax error\n"),
+    (
+        b"/* /* */ SELECT * FROM t;",
+        b"ERROR 42601 at 0: syntax error\n",
+    ),
+    (b"SELECT 1x FROM t;", b"ERROR 42601 at 7: syntax error\n"),
+    (b"SELECT \"a\" FROM t;", b"ERROR 42601 at 7: syntax error\n"),
+    (b"DROP TABLE t;", b"ERROR 42601 at 0: syntax error\n"),
+    (b"SELECT * FROM", b"ERROR 42601 at 13: syntax error\n"),
+    (
+        b"CREATE TABLE t (v int4);\nSELECT * FROM t x y;\n",
+        b"ERROR 42601 at 43: syntax error\n",
+    ),
+    (
+        b"CREATE TABLE t (a int8);\nCOPY t FROM STDIN WITH (FORMAT CSV, NULL '\\N'); 1\n\\.\n",
+        b"ERROR 42601 at 73: syntax error\n",
+    ),
+    (b"SELECT * FROM t;", b"ERROR 42P01 at 14: no table t\n"),
+    (
+        b"COPY t FROM STDIN WITH (FORMAT CSV, NULL '\\N');\n1\n\\.\n",
+        b"ERROR 42P01 at 5: no table t\n",
+    ),
+    (
+        b"CREATE TABLE t (a int8);\nSELECT u.a FROM t;",
+        b"ERROR 42P01 at 32: no table u\n",
+    ),
+    (
+        b"CREATE TABLE t (a int8);\nSELECT t.* FROM t u;",
+        b"ERROR 42P01 at 32: no table t\n",
+    ),
+    (
+        b"CREATE TABLE t (a int8);\nSELECT b FROM t;",
+        b"ERROR 42703 at 32: no column b\n",
+    ),
+    (
+        b"CREATE TABLE t (a int8);\nCREATE TABLE T (b text);",
+        b"ERROR 42P07 at 38: duplicate name t\n",
+    ),
+    (
+        b"CREATE TABLE u (b text, c bool, B int2);",
+        b"ERROR 42701 at 32: duplicate column b\n",
+    ),
+    (
+        b"CREATE TABLE t (a int8, b numeric);",
+        b"ERROR 42704 at 26: unknown numeric\n",
+    ),
+    (
+        b"CREATE TABLE t (a int2);\nCOPY t FROM STDIN WITH (FORMAT CSV, NULL '\\N');\n32768\n\\.\n",
+        b"ERROR 22003 at 73: out of range, record 1 column a\n",
+    ),
+    (
+        b"CREATE TABLE t (a int8, b bool);\nCOPY t FROM STDIN WITH (FORMAT CSV, NULL '\\N');\n1,t\n2,maybe\n\\.\n",
+        b"ERROR 22P02 at 81: invalid input, record 2 column b\n",
+    ),
+    (
+        b"CREATE TABLE t (a int8);\nCOPY t FROM STDIN WITH (FORMAT CSV, NULL '\\N');\n1,2\n\\.\n",
+        b"ERROR 22P04 at 73: field count, record 1\n",
+    ),
+    (
+        b"CREATE TABLE t (a int8, b bool);\nCOPY t FROM STDIN WITH (FORMAT CSV, NULL '\\N');\n1,t\n2\n\\.\n",
+        b"ERROR 22P04 at 81: field count, record 2\n",
+    ),
+    (
+        b"CREATE TABLE t (a int8);\nCOPY t FROM STDIN WITH (FORMAT CSV, NULL '\\N');\n1\n",
+        b"ERROR 22P04 at 73: no end of copy data\n",
+    ),
+    (
+        b"CREATE TABLE t (a int2 NOT NULL);\nCOPY t FROM STDIN WITH (FORMAT CSV, NULL '\\N');\n\\N\n\\.\n",
+        b"ERROR 23502 at 82: null, record 1 column a\n",
+    ),
+    (
+        b"CREATE TABLE t (a int8);\nCOPY t FROM STDIN WITH (FORMAT CSV, NULL '');\n1\n\\.\n",
+        b"ERROR 22023 at 66: invalid parameter\n",
+    ),
+];
+
+/// A script past a limit: a head, a part so many times, and a tail; and its line.
+const LIMITS: [(&[u8], &[u8], usize, &[u8], &[u8]); 5] = [
+    (
+        b"CREATE TABLE t (a int2",
+        b", b int2",
+        16,
+        b");",
+        b"ERROR 54000 at 144: limit columns\n",
+    ),
+    (
+        b"CREATE TABLE ",
+        b"n",
+        64,
+        b" (a int2);",
+        b"ERROR 54000 at 13: limit name\n",
+    ),
+    (
+        b"CREATE TABLE t (a int8);\nCOPY t FROM STDIN WITH (FORMAT CSV, NULL '",
+        b"x",
+        8193,
+        b"');\n\\.\n",
+        b"ERROR 54000 at 66: limit text\n",
+    ),
+    (
+        b"CREATE TABLE t (a text);\nCOPY t FROM STDIN WITH (FORMAT CSV, NULL '\\N');\n",
+        b"x",
+        8193,
+        b"\n\\.\n",
+        b"ERROR 54000 at 73: limit text, record 1 column a\n",
+    ),
+    (
+        b"CREATE TABLE t (a int8);\nCOPY t FROM STDIN WITH (FORMAT CSV, NULL '\\N');\n",
+        b"1\n",
+        100_001,
+        b"\\.\n",
+        b"ERROR 54000 at 73: limit rows, record 100001\n",
+    ),
+];
 
 /// Thirty statements of all forms, and what they print.
 const THIRTY: &[u8] = br#"CREATE TABLE a (x int2, y int4 NOT NULL, z int8);
@@ -173,17 +273,17 @@ Seq Scan on a  (cost=412 rows=3)
 
 /// A run and what it must answer.
 #[derive(Drop)]
-struct Case {
-    word: &'static str,
-    script: &'static [u8],
+struct Case<'a> {
+    word: &'a str,
+    script: &'a [u8],
     status: u8,
-    out: &'static [u8],
-    errors: &'static [u8],
+    out: &'a [u8],
+    errors: &'a [u8],
 }
 
-impl Case {
+impl<'a> Case<'a> {
     /// A script whose statements are all answered.
-    fn answered(script: &'static [u8], out: &'static [u8]) -> Case {
+    fn answered(script: &'a [u8], out: &'a [u8]) -> Case<'a> {
         Case {
             word: "run",
             script,
@@ -194,7 +294,7 @@ impl Case {
     }
 
     /// A script with a fault.
-    fn refused(script: &'static [u8], out: &'static [u8], errors: &'static [u8]) -> Case {
+    fn refused(script: &'a [u8], out: &'a [u8], errors: &'a [u8]) -> Case<'a> {
         Case {
             word: "run",
             script,
@@ -250,31 +350,43 @@ fn answers_worked_scripts(rt: HostRuntime) -> Result<(), Fail> {
             b"Seq Scan on t u  (cost=404 rows=1)\nx,1,x\n(1 row)\n",
         ),
         Case::answered(THIRTY, THIRTY_REPLIES),
-        Case::refused(
-            PAST_INT2,
-            b"",
-            b"ERROR 22003 at 73: out of range, record 1 column a\n",
-        ),
-        Case::refused(NO_END, b"", b"ERROR 22P04 at 73: no end of copy data\n"),
-        Case::refused(
-            NULL_REFUSED,
-            b"",
-            b"ERROR 23502 at 82: null, record 1 column a\n",
-        ),
-        Case::refused(TWO_ALIASES, b"", b"ERROR 42601 at 43: syntax error\n"),
-        Case::refused(
-            LETTER,
-            b"",
-            b"ERROR 22P02 at 73: invalid input, record 1 column a\n",
-        ),
         Case::refused(THIRD, NO_ROWS, b"ERROR 42703 at 52: no column zz\n"),
-        Case::refused(TAKEN, b"", b"ERROR 42701 at 49: duplicate column b\n"),
     ];
     for case in &cases {
         check(&rt, case, CALM)?;
         check(&rt, case, Outside { piece: 1, ..CALM })?;
     }
     Ok(())
+}
+
+#[test]
+fn tells_each_fault(rt: HostRuntime) -> Result<(), Fail> {
+    for (script, line) in &FAULTS {
+        let case = Case::refused(script, b"", line);
+        check(&rt, &case, CALM)?;
+        check(&rt, &case, Outside { piece: 7, ..CALM })?;
+    }
+    Ok(())
+}
+
+#[test]
+fn tells_each_limit(rt: HostRuntime) -> Result<(), Fail> {
+    let alloc = rt.alloc();
+    for (head, part, count, tail, line) in &LIMITS {
+        let mut script = Vec::from_slice(alloc, head)?;
+        for _ in 0..*count {
+            script.extend_from_slice(part)?;
+        }
+        script.extend_from_slice(tail)?;
+        check(&rt, &Case::refused(&script, b"", line), CALM)?;
+    }
+    let mut script = Vec::new(alloc);
+    for n in 0..65 {
+        let table = format!(in alloc; "CREATE TABLE t{n} (a int2);\n")?;
+        script.extend_from_slice(table.as_bytes())?;
+    }
+    let line = b"ERROR 54000 at 1731: limit tables\n";
+    check(&rt, &Case::refused(&script, b"", line), CALM)
 }
 
 #[test]

@@ -1,23 +1,25 @@
 //! The top call: words, reading, the statements, and the line on errors.
 
-ghost use Rattle.std.specs.Prelude.{◌≡◌, ◌≢◌, ◌⊎◌, ◌↔◌, ◌^◌, ◌≤◌, ◌<◌, ℕ, List, IsTrue, map, length, Some};
+ghost use Rattle.std.specs.Prelude.{◌≡◌, ◌≢◌, ◌⊎◌, ◌↔◌, ◌≤◌, ◌<◌, ℕ, List, IfErr, IsTrue, map, length, Some};
 ghost use Rattle.std.specs.String.{string_bytes};
 ghost use Rattle.pg_base.specs.Causes.{Rose};
-ghost use Rattle.pgplan.specs.Runs.{Answers, AnswersAll, AnswersSome, CutsOff, HasNoFault, HasStatusCause, IsRunCommand, IsTooLong, TellsFault};
-ghost use Rattle.pgplan.specs.Statuses.{IsTold, line_of, number_of};
+ghost use Rattle.pg_base.specs.Reading.{ConsumesUpTo};
+ghost use Rattle.pg_base.specs.declared.limits.TheConstants.{MOST_SCRIPT_BYTES};
+ghost use Rattle.pgplan.specs.Runs.{AnswersAll, CutsOff, HasNoFault, HasStatusCause, IsCutShort, IsRunCommand, IsRunOver, IsTooLong, ReachesFault, RunsOut, TellsFault};
+ghost use Rattle.pgplan.specs.Statuses.{IsTold, line_of, line_of_work, number_of, status_of_work};
+ghost use Rattle.pgplan.specs.Steps.{HasField};
 
 use crate::end::End;
 use crate::machine::Machine;
 use crate::status::Status;
 use crate::work::work;
+use catalog::Catalog;
 use fault_line::write_fault;
-use pg_base::{ReadFault, Sink, Source, Steps, read_all, write_all};
+use heap::Counting;
+use pg_base::{MOST_SCRIPT_BYTES, Sink, Source, Steps, read_all, write_all};
 use std::alloc::Global;
 use std::marker::Brand;
 use std::sync::ledger::{Blank, Ledger};
-
-/// A script has at most so many bytes.
-const MOST_BYTES: usize = 16_777_216;
 
 /// Does all that the program does and answers the exit status: 0 where all was read, answered and written; 1 where the
 /// words are no command; 2 where the source failed; 3 where a statement has a fault; 4 where out failed; 5 for want of
@@ -35,7 +37,8 @@ pub fn pgplan<S: Source, K: Sink, E: Sink>(
     ensures answered { result ≡ 0 → AnswersAll (S.left source.old) (S.left source.new) (K.held out.old) (K.held out.new) }
     ensures refused { result ≡ 3 → TellsFault (S.left source.old) (S.left source.new) (K.held out.old) (K.held out.new) (E.held errors.old) (E.held errors.new) (E.faults errors.old) (E.faults errors.new) }
     ensures cut_off { result ≡ 4 → CutsOff (S.left source.old) (S.left source.new) (K.held out.old) (K.held out.new) }
-    ensures out_of_memory { result ≡ 5 → (K.held out.new ≡ K.held out.old) ⊎ AnswersSome (S.left source.old) (S.left source.new) (K.held out.old) (K.held out.new) }
+    ensures out_of_memory { result ≡ 5 → RunsOut (S.left source.old) (S.left source.new) (K.held out.old) (K.held out.new) }
+    ensures read_in_part { result ≡ 2 → ConsumesUpTo (S.left source.old) (S.left source.new) MOST_SCRIPT_BYTES }
     ensures too_long { result ≡ 6 → IsTooLong (S.left source.old) (S.left source.new) }
     ensures unread { result ≡ 1 → S.left source.new ≡ S.left source.old }
     ensures unwritten { (result ≡ 1) ⊎ ((result ≡ 2) ⊎ (result ≡ 6)) → K.held out.new ≡ K.held out.old }
@@ -47,9 +50,11 @@ pub fn pgplan<S: Source, K: Sink, E: Sink>(
     ensures quiet_source { (result ≡ 2 → ⊥) → S.faults source.new ≡ S.faults source.old }
     ensures quiet_out { (result ≡ 4 → ⊥) → K.faults out.new ≡ K.faults out.old }
 
-    // A script without a fault is answered, unless the outside fails or memory runs out; and a longer text is refused.
-    ensures complete { (text : List ℕ) → IsRunCommand (map string_bytes words.now) → S.left source.old ≡ Some text → length text ≤ 2 ^ 24 → HasNoFault text → (Rose (S.faults source.old) (S.faults source.new) → ⊥) → (Rose (K.faults out.old) (K.faults out.new) → ⊥) → (result ≡ 0) ⊎ (result ≡ 5) }
-    ensures longer { (text : List ℕ) → IsRunCommand (map string_bytes words.now) → S.left source.old ≡ Some text → 2 ^ 24 < length text → (Rose (S.faults source.old) (S.faults source.new) → ⊥) → (result ≡ 6) ⊎ (result ≡ 5) }
+    // Where the source tells a text that is no longer than a script may be, the text decides between 0 and 3, unless the
+    // outside fails or memory runs out; and a longer text is refused.
+    ensures complete { (text : List ℕ) → IsRunCommand (map string_bytes words.now) → S.left source.old ≡ Some text → length text ≤ MOST_SCRIPT_BYTES → HasNoFault text → (result ≡ 0) ⊎ IsCutShort result }
+    ensures reached { (text : List ℕ) → IsRunCommand (map string_bytes words.now) → S.left source.old ≡ Some text → length text ≤ MOST_SCRIPT_BYTES → ReachesFault text → (result ≡ 3) ⊎ IsCutShort result }
+    ensures longer { (text : List ℕ) → IsRunCommand (map string_bytes words.now) → S.left source.old ≡ Some text → MOST_SCRIPT_BYTES < length text → (result ≡ 6) ⊎ ((result ≡ 2) ⊎ (result ≡ 5)) }
 
     // The status's line on errors, where no statement has a fault: a prefix of it, and all of it where errors did not fail.
     ensures line { result ≢ 3 → IsTold (E.held errors.old) (E.held errors.new) (E.faults errors.old) (E.faults errors.new) (line_of result) }
@@ -57,11 +62,9 @@ pub fn pgplan<S: Source, K: Sink, E: Sink>(
     if !is_run(words) {
         return tell(errors, Status::Usage);
     }
-    match read_all(alloc, source, MOST_BYTES) {
+    match read_all(alloc, source, MOST_SCRIPT_BYTES) {
         Ok(text) => answer(alloc, &text, out, errors),
-        Err(ReadFault::Memory) => tell(errors, Status::Memory),
-        Err(ReadFault::Failed) => tell(errors, Status::ReadFault),
-        Err(ReadFault::TooLong) => tell(errors, Status::TooLong),
+        Err(fault) => tell(errors, Status::of_reading(&fault)),
     }
 }
 
@@ -85,8 +88,8 @@ fn tell<E: Sink>(errors: &mut E, status: Status) -> u8
 
 /// Answers the statements of the text, and answers the status.
 fn answer<K: Sink, E: Sink>(alloc: Global, text: &[u8], out: &mut K, errors: &mut E) -> u8
-    requires short { length text.now ≤ 2 ^ 24 }
-    ensures answers { Answers result text.now (K.held out.old) (K.held out.new) (E.held errors.old) (E.held errors.new) (E.faults errors.old) (E.faults errors.new) }
+    requires short { length text.now ≤ MOST_SCRIPT_BYTES }
+    ensures answers { IsRunOver result text.now (K.held out.old) (K.held out.new) (E.held errors.old) (E.held errors.new) (E.faults errors.old) (E.faults errors.new) }
     ensures cause { HasStatusCause result (K.faults out.old) (K.faults out.new) }
 {
     counted::<Brand, Brand, K, E>(alloc, Blank::new(1), Blank::new(1), text, out, errors)
@@ -107,20 +110,27 @@ fn counted<L: Ledger, M: Ledger, K: Sink, E: Sink>(
     requires other_name { reading.name ≡ M.name }
     requires other_parts { reading.parts ≡ M.parts }
     requires some_too { 0 < reading.parts }
-    requires short { length text.now ≤ 2 ^ 24 }
-    ensures answers { Answers result text.now (K.held out.old) (K.held out.new) (E.held errors.old) (E.held errors.new) (E.faults errors.old) (E.faults errors.new) }
+    requires short { length text.now ≤ MOST_SCRIPT_BYTES }
+    ensures answers { IsRunOver result text.now (K.held out.old) (K.held out.new) (E.held errors.old) (E.held errors.new) (E.faults errors.old) (E.faults errors.new) }
     ensures cause { HasStatusCause result (K.faults out.old) (K.faults out.new) }
 {
-    let mut machine = Machine::<L>::new(alloc);
+    let mut machine = Machine::<Counting<L, M>>::new(alloc);
     let mut fetches = Steps::<L>::new(fetching);
     let mut reads = Steps::<M>::new(reading);
-    match work(&mut machine, text, out, &mut fetches, &mut reads) {
-        Ok(()) => tell(errors, Status::Done),
-        Err(End::Fault(fault)) => {
-            let _ = write_fault(errors, machine.catalog(), text, &fault);
-            Status::Statement.number()
-        }
-        Err(End::Write) => tell(errors, Status::WriteFault),
-        Err(End::Memory) => tell(errors, Status::Memory),
+    let ended = work(&mut machine, text, out, &mut fetches, &mut reads);
+    close(machine.catalog(), text, &ended, errors)
+}
+
+/// Tells how the statements of the text ended, by the catalogue that is left, and answers the status.
+fn close<E: Sink>(catalog: &Catalog, text: &[u8], ended: &Result<(), End>, errors: &mut E) -> u8
+    requires field { IfErr ended.now (HasField catalog.now) }
+    ensures number { result ≡ number_of (status_of_work ended.now) }
+    ensures line { IsTold (E.held errors.old) (E.held errors.new) (E.faults errors.old) (E.faults errors.new) (line_of_work catalog.now text.now ended.now) }
+{
+    let status = Status::of_work(ended);
+    if let Err(End::Fault(fault)) = ended {
+        let _ = write_fault(errors, catalog, text, fault);
+        return status.number();
     }
+    tell(errors, status)
 }

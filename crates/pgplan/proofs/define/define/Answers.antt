@@ -1,6 +1,6 @@
 use Rattle.std.proofs.Common.{arith, ap, length}
 use Rattle.std.proofs.lemmas.Result.{err_from_is_err_and, IfErr-weaker, IfOk-weaker}
-use Rattle.answer.specs.Worlds.{world}
+use Rattle.sql_query.specs.Worlds.{world}
 use Rattle.pgplan.proofs.DefineLaws.{read-refused, sound-table, table-told, table-defined, sound-data, data-told, data-defined, low-places}
 use Rattle.pgplan.proofs.define.define.Goals as goal
 

@@ -1,5 +1,5 @@
 use Rattle.std.proofs.Common.{◌≡◌, ◌+◌, ◌∷◌, take}
-use Rattle.pgplan.specs.Ending.{word_ends as ends_of_words}
+use Rattle.pgplan.specs.Faults.{word_ends as ends_of_words}
 use Rattle.pgplan.proofs.faults.word_ends.Given as goal
 
 abbrev pub invariant-loop-n : goal.invariant-loop-n

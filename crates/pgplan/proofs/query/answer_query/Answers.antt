@@ -1,9 +1,9 @@
 use Rattle.std.proofs.Common.{subst, sym}
-use Rattle.answer.specs.Worlds.{world}
+use Rattle.sql_query.specs.Worlds.{world}
 use Rattle.pgplan.specs.Actions.{answer}
-use Rattle.pgplan.specs.Reads.{IsReadOver, end_of}
+use Rattle.pgplan.specs.Accepted.{IsReadOver, end_of}
 use Rattle.pgplan.specs.Ending.{end_of_refusal, end_of_stop}
-use Rattle.pgplan.proofs.Queries.{read-query, query-one}
+use Rattle.pgplan.proofs.Queries.{read-query}
 use Rattle.pgplan.proofs.Answering.{reading-stops, printing-stops, answered-over, stops-by}
 use Rattle.pgplan.proofs.query.answer_query.Goals as goal
 
@@ -18,10 +18,6 @@ returns-in_err-query-clause-stopped g c =
     stops-by c.from_residual.result (end_of_refusal refused) w text tokens held held fetched fetched
     (reading-stops w text tokens c.requires.words.0 held fetched refused c.requires.words.1 c.requires.short c.requires.some c.requires.other c.in_err-query.ensures.grammar c.in_err-query.ensures.binding)
     c.from_residual.ensures.1
-
-pub print_answer-requires-clause-one : goal.print_answer-requires-clause-one
-print_answer-requires-clause-one g c =
-    query-one (world c.args.catalog.now c.args.heaps.now) c.args.text.now c.args.tokens.now c.in_ok-query.query c.in_ok-query.ensures.grammar c.in_ok-query.ensures.binding
 
 pub returns-in_err-print_answer-clause-stopped : goal.returns-in_err-print_answer-clause-stopped
 returns-in_err-print_answer-clause-stopped g c =

@@ -1,7 +1,7 @@
 use Rattle.std.proofs.Common.{◌≡◌, ◌∙◌, arith, sym, ap, subst}
 use Rattle.std.proofs.lemmas.Result.{err_from_is_err_and}
 use Rattle.heap.specs.Loading.{NamesColumnOf, loaded, records_of}
-use Rattle.answer.specs.Worlds.{stored_at, world}
+use Rattle.sql_query.specs.Worlds.{stored_at, world}
 use Rattle.pgplan.specs.Actions as actions
 use Rattle.pgplan.proofs.StoreLaws.{after-fill, as-many, holds-at, stored-default}
 use Rattle.pgplan.proofs.store.fill.Goals as goal

@@ -1,5 +1,5 @@
 use Rattle.std.proofs.Common.{◌≡◌, sym, subst, rules}
-use Rattle.answer.specs.Worlds.{IsWorld, world}
+use Rattle.sql_query.specs.Worlds.{IsWorld, world}
 use Rattle.pgplan.specs.Actions as actions
 use Rattle.pgplan.proofs.StoreLaws.{after-make}
 use Rattle.pgplan.proofs.store.make.Goals as goal

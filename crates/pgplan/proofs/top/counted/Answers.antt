@@ -1,8 +1,13 @@
-use Rattle.pgplan.proofs.TopLaws.{told_fault}
+use Rattle.pgplan.proofs.TopLaws.{cause_over, has_field, run_over}
 use Rattle.pgplan.proofs.top.counted.Goals as goal
 
-pub returns-in-Err-Fault-clause-answers : goal.returns-in-Err-Fault-clause-answers
-returns-in-Err-Fault-clause-answers g c =
-    rw c.number.ensures
-    (told_fault c.write_fault.result c.args.text.now c.in-Err-Fault.fault c.work.new.machine c.catalog.result.now _ _ _ _ _ _
-    (rw c.in-Err-Fault.field-0-is at c.in-Err-Fault.ensures.ended) c.catalog.ensures c.write_fault.ensures.ok c.write_fault.ensures.err c.write_fault.ensures.cause)
+pub returns-clause-answers : goal.returns-clause-answers
+returns-clause-answers g c =
+    run_over c.work-ended.result c.close.result c.args.text.now c.work-ended.new.machine c.catalog.result.now _ _ _ _ _ _
+    (c.work-ended.ensures.done, c.work-ended.ensures.ended) c.catalog.ensures c.close.ensures.number c.close.ensures.line
+
+pub returns-clause-cause : goal.returns-clause-cause
+returns-clause-cause g c = cause_over c.work-ended.result c.close.result _ _ c.close.ensures.number c.work-ended.ensures.cause
+
+pub close-requires : goal.close-requires
+close-requires g c = record { field = has_field c.work-ended.result c.args.text.now c.work-ended.new.machine c.catalog.result.now _ _ c.work-ended.ensures.ended c.catalog.ensures }

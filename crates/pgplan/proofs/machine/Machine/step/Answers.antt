@@ -1,6 +1,9 @@
-use Rattle.std.proofs.Common.{◌≡◌, length, arith, sym, ap, ◌∙◌}
+use Rattle.std.proofs.Common.{◌≡◌, length, arith, sym, subst, ap, ◌∙◌}
+use Rattle.sql_query.specs.Worlds.{world}
+use Rattle.pgplan.specs.Steps.{Refuses, StopsOver}
 use Rattle.pgplan.proofs.Places.{ends-behind}
-use Rattle.pgplan.proofs.Stepping.{done-idle, defined-ahead, defined-inside, answered-ahead, answered-inside}
+use Rattle.std.proofs.lemmas.Result.{IfErr-weaker}
+use Rattle.pgplan.proofs.Stepping.{done-idle, defined-ahead, defined-inside, answered-ahead, answered-inside, stopped-definition, stopped-query}
 use Rattle.pgplan.proofs.machine.Machine.step.Goals as goal
 
 pub returns-then-items-eq1-clause-done : goal.returns-then-items-eq1-clause-done
@@ -22,3 +25,20 @@ returns-clause-ahead g c = answered-ahead _ c.args.text.now c.args.at c.in_ok-to
 
 pub returns-clause-inside : goal.returns-clause-inside
 returns-clause-inside g c = answered-inside _ c.args.text.now c.args.at c.in_ok-tokens.tokens _ _ _ _ c.answer_query.result c.in_ok-tokens.ensures.words c.answer_query.ensures.answered
+
+pub returns-then-is_ddl-clause-stopped : goal.returns-then-is_ddl-clause-stopped
+returns-then-is_ddl-clause-stopped g c =
+    IfErr-weaker c.define.result _ _
+    (λ e h. stopped-definition e c.args.self.now c.args.text.now c.args.at c.in_ok-tokens.tokens _ c.in_ok-tokens.ensures.words (subst (λ w. Refuses e w c.args.text.now c.in_ok-tokens.tokens) c.self.view_is h)) c.define.ensures.refused
+
+pub returns-clause-stopped : goal.returns-clause-stopped
+returns-clause-stopped g c =
+    let held = g.K.Sink.held c.args.out.now in
+    let held' = g.K.Sink.held c.answer_query.new.out in
+    let f = c.args.fetches.now in
+    let f' = c.answer_query.new.fetches in
+    let text = c.args.text.now in
+    let tokens = c.in_ok-tokens.tokens in
+    let here : world c.self.inside.catalog c.deref.result.now ≡ c.args.self.now = ap (world c.self.inside.catalog) c.deref.ensures.value ∙ c.self.view_is in
+    IfErr-weaker c.answer_query.result _ _
+    (λ e h. stopped-query e c.args.self.now text c.args.at tokens held held' f f' c.args.reads.now c.in_ok-tokens.ensures.words (subst (λ w. StopsOver e w text tokens held held' f f') here h)) c.answer_query.ensures.stopped

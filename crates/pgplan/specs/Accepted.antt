@@ -1,23 +1,25 @@
 -- Which statement begins at a place of a script, what it does, and where the next one begins (PostgreSQL manual, chapter SQL
 -- Commands).
-use Rattle.std.specs.Prelude.{◌≡◌, ℕ, ◌-◌, List, length, slice_range, Ok}
+use Rattle.std.specs.Prelude.{◌≡◌, ℕ, ◌-◌, List, length, slice_index_or, slice_range, Ok}
+use Rattle.sql_lex.specs.declared.tokens.Kind.TheVariants.{End}
 use Rattle.sql_lex.specs.declared.tokens.Token.{Token}
 use Rattle.sql_lex.specs.Words.{AreWords}
 use Rattle.sql_grammar.specs.Syntax.{Statement, empty, create_table, query, copy}
-use Rattle.sql_grammar.specs.Words.{words_of}
-use Rattle.sql_grammar.specs.Faults.{terminals, AreWithinLimits}
+use Rattle.sql_grammar.specs.Spelled.{IsSpelled}
 use Rattle.catalog.specs.Tables.{IsAcceptable}
 use Rattle.ddl_reader.specs.Block.{IsBlockEnd}
-use Rattle.ddl_reader.specs.Places.{token_at}
 use Rattle.ddl_reader.specs.Statements.{Means}
 use Rattle.ddl_reader.specs.Tables.{Definition, table, data_for, Reading}
 use Rattle.heap.specs.Loading.{records_of, loaded}
 use Rattle.heap.specs.Stored.{Stored}
 use Rattle.query_reader.specs.Binding.{bound}
-use Rattle.query_reader.specs.Written.{written_of}
-use Rattle.sql_query.specs.declared.prepared.Prepared.{Prepared}
-use Rattle.answer.specs.Worlds.{World, stored_at}
+use Rattle.sql_query.specs.Queries.{Query}
+use Rattle.sql_query.specs.Worlds.{World, stored_at}
 use Rattle.pgplan.specs.Actions.{Action, idle, make, fill, answer}
+
+-- the token of this number; past the last one, one without bytes at the text's begin
+abbrev pub token_at : List Token → ℕ → Token
+token_at tokens k = slice_index_or tokens k (record { kind = End; start = 0; end = 0 })
 
 -- where the last token ends
 abbrev pub end_of : List Token → ℕ
@@ -30,19 +32,21 @@ Carries w text tokens (table name names columns) action next = IsAcceptable w.co
 Carries w text tokens (data_for t start) action next =
     (end : ℕ) × (s : Stored) × IsBlockEnd text start end next × (loaded (stored_at w t) (records_of (slice_range text start end)) ≡ Ok s) × (action ≡ fill t s)
 
--- what a statement over its tokens does, and the offset after it
+-- what a definition that is read does, and the offset after it
+abbrev pub Defines : World → List ℕ → List Token → Statement → Action → ℕ → Type 0
+Defines w text tokens x action next = (r : Reading) × Means w.contents text x (Ok r) × Carries w text tokens r.definition action next
+
+-- what a statement of these tokens does, and the offset after it
 abbrev pub Does : World → List ℕ → List Token → Statement → Action → ℕ → Type 0
 Does w text tokens (empty e) action next = (action ≡ idle) × (next ≡ end_of tokens)
-Does w text tokens (query q e) action next = (p : Prepared) × (bound w.contents (written_of q tokens) ≡ Ok p) × (action ≡ answer p) × (next ≡ end_of tokens)
-Does w text tokens (create_table n c cs e) action next =
-    (r : Reading) × Means w.contents text tokens (create_table n c cs e) (Ok r) × Carries w text tokens r.definition action next
-Does w text tokens (copy n null) action next = (r : Reading) × Means w.contents text tokens (copy n null) (Ok r) × Carries w text tokens r.definition action next
+Does w text tokens (query q e) action next = (p : Query) × (bound w.contents q ≡ Ok p) × (action ≡ answer p) × (next ≡ end_of tokens)
+Does w text tokens (create_table k t n o c cs m e) action next = Defines w text tokens (create_table k t n o c cs m e) action next
+Does w text tokens (copy k n null) action next = Defines w text tokens (copy k n null) action next
 
 -- the tokens are a statement that does this
 pub record IsReadOver (w : World) (text : List ℕ) (tokens : List Token) (action : Action) (next : ℕ) : Type 0 where
   pub statement : Statement
-  pub spelled : words_of statement ≡ terminals text tokens
-  pub within : AreWithinLimits (terminals text tokens)
+  pub spelled : IsSpelled statement text tokens
   pub does : Does w text tokens statement action next
 
 -- the statement that begins at this place does this, and the next one begins at `next`

@@ -1,11 +1,12 @@
 #!/usr/bin/env python3
 """Compares the first fault of random statements with a reference parser's.
 
-usage: tools/grammar_oracle.py FOLDER [COUNT [SEED]]
+usage: tools/grammar_oracle.py FOLDER [COUNT [SEED [STAGE]]]
 
 FOLDER holds the package `pgoracle` of the reference parser, written apart from
 this repository: `lexer.lex_statement(text, at)` gives the tokens of a statement
-and `grammar.Parser(tokens, 2).statement()` raises its first fault. The crates
+and `grammar.Parser(tokens, STAGE).statement()` raises its first fault: stage 3,
+which is taken where none is given, has WHERE and STATISTICS. The crates
 sql_grammar, sql_lex and pg_base are copied to a folder of their own, with tests
 made of the statements and the faults that the reference parser finds, and
 `rt try --test` runs them there. Nothing in the repository changes.
@@ -22,8 +23,10 @@ ROOT = Path(__file__).resolve().parent.parent
 CRATES = ("pg_base", "sql_lex", "sql_grammar")
 RESERVED = ("and as asc create cross desc false from group inner is join limit not null offset "
             "on or order select table true using where with").split()
-NAMES = "a b t rows first copy csv format stdin index statistics last _x x1 nulls".split()
+NAMES = ("a b t rows first copy csv format stdin index statistics last _x x1 nulls pages distinct "
+         "common histogram").split()
 SYMBOLS = "( ) , . * - ; < <= = <> |<|".split()
+OPERATORS = "< <= = >= > <> != |<| |>=|".split()
 CHUNK = 100
 
 
@@ -52,6 +55,54 @@ def joined(r, one):
     return out
 
 
+def literal(r):
+    return r.choice((["7"], ["-", "7"], [text(r)], ["true"], ["false"], ["null"]))
+
+
+def share(r):
+    return literal(r) + ["7"]
+
+
+def operand(r):
+    return column(r) if r.random() < 0.6 else literal(r)
+
+
+def atom(r):
+    kind = r.randrange(5)
+    if kind < 2:
+        return operand(r) + [r.choice(OPERATORS)] + operand(r)
+    if kind == 2:
+        return column(r) + ["is"] + r.choice((["null"], ["not", "null"]))
+    return column(r) if kind == 3 else [r.choice(("true", "false", "null"))]
+
+
+def nested(r):
+    """An atom under NOT and in parentheses, now and then of about 32 levels."""
+    count = r.choice((31, 32, 33)) if r.random() < 0.05 else r.choice((0, 0, 0, 1, 2, 3))
+    out = atom(r)
+    for _ in range(count):
+        out = ["not"] + out if r.random() < 0.5 else ["("] + out + [")"]
+    return out
+
+
+def condition(r):
+    out = nested(r)
+    while r.random() < 0.4:
+        out += [r.choice(("and", "or"))] + nested(r)
+    return ["("] + out + [")"] if r.random() < 0.1 else out
+
+
+def statistics(r):
+    if r.random() < 0.4:
+        return ["statistics", name(r), "rows", "7", "pages", "7"]
+    out = ["statistics", name(r), ".", name(r), "distinct", "7", "nulls", "7"]
+    if r.random() < 0.6:
+        out += ["common", "("] + joined(r, share) + [")"]
+    if r.random() < 0.6:
+        out += ["histogram", "("] + joined(r, literal) + [")"]
+    return out
+
+
 def definition(r):
     nulls = r.choice(([], [], ["not", "null"], ["null"]))
     return [name(r), name(r)] + nulls
@@ -63,14 +114,17 @@ def output(r):
 
 def statement(r):
     """The words of a statement, without its end."""
-    kind = r.randrange(7)
+    kind = r.randrange(12)
     if kind == 0:
         return []
     if kind < 3:
         return ["create", "table", name(r), "("] + joined(r, definition) + [")"]
-    if kind < 5:
+    if kind < 8:
         alias = r.choice(([], [name(r)], ["as", name(r)]))
-        return ["select"] + joined(r, output) + ["from", name(r)] + alias
+        where = ["where"] + condition(r) if kind > 4 else []
+        return ["select"] + joined(r, output) + ["from", name(r)] + alias + where
+    if kind < 11:
+        return statistics(r)
     return ["copy", name(r)] + "from stdin with ( format csv , null".split() + [text(r), ")"]
 
 
@@ -109,15 +163,15 @@ def sample(r):
     return out + r.choice((";", " ;", ";", "", " "))
 
 
-def fault(parser, lexer, faults, line):
-    """The kind (0 none, 1 syntax, 2 name, 3 text) and the place of the first fault."""
+def fault(parser, lexer, faults, line, stage):
+    """The kind (0 none, 1 syntax, 2 name, 3 text, 4 depth) and the place of the first fault."""
     tokens = lexer.lex_statement(line.encode(), 0)
     if len(tokens) == 1:
         return 0, 0
     try:
-        parser.Parser(tokens, 2).statement()
+        parser.Parser(tokens, stage).statement()
     except faults.Fault as f:
-        kind = 1 if f.args[0] == "S1" else {"name": 2, "text": 3}[f.args[2]]
+        kind = 1 if f.args[0] == "S1" else {"name": 2, "text": 3, "depth": 4}[f.args[2]]
         return kind, f.args[1]
     return 0, 0
 
@@ -148,6 +202,7 @@ fn kind_of(code: Code) -> u32 {
         Code::S1 => 1,
         Code::S15(Limit::Name) => 2,
         Code::S15(Limit::Text) => 3,
+        Code::S15(Limit::Depth) => 4,
         _ => 9,
     }
 }
@@ -159,17 +214,18 @@ def main():
     from pgoracle import faults, grammar, lexer
     count = int(sys.argv[2]) if len(sys.argv) > 2 else 2000
     r = random.Random(int(sys.argv[3]) if len(sys.argv) > 3 else 1)
-    tests, tally = HEAD, [0, 0, 0, 0]
+    stage = int(sys.argv[4]) if len(sys.argv) > 4 else 3
+    tests, tally = HEAD, [0, 0, 0, 0, 0]
     for part in range(0, count, CHUNK):
         rows = ""
         for _ in range(min(CHUNK, count - part)):
             line = sample(r)
-            kind, at = fault(grammar, lexer, faults, line)
+            kind, at = fault(grammar, lexer, faults, line, stage)
             tally[kind] += 1
             literal = line.replace("\\", "\\\\")
             rows += '        (b"%s", %d, %d),\n' % (literal, kind, at)
         tests += TEST % (part // CHUNK, rows)
-    print("statements %d, syntax faults %d, names %d, texts %d" % tuple(tally))
+    print("statements %d, syntax faults %d, names %d, texts %d, depths %d" % tuple(tally))
     with tempfile.TemporaryDirectory() as folder:
         top = Path(folder)
         for crate in CRATES:

@@ -1,15 +1,17 @@
 -- The numbers that digits write.
-use Rattle.std.proofs.Common.{◌≡◌, ℕ, zero, suc, ◌<◌, ◌≤◌, ◌-◌, ◌+◌, ◌*◌, ◌^◌, Bool, true, false, cond, List, min, refl, arith, sym, ap, ◌∙◌, Some, None, Ok, Err}
+use Rattle.std.proofs.Common.{◌≡◌, ℕ, zero, suc, ◌<◌, ◌≤◌, ◌-◌, ◌+◌, ◌*◌, ◌^◌, Bool, true, false, cond, List, min, refl, arith, sym, ap, ◌∙◌, Some, None, Result, Ok, Err}
 use Rattle.std.specs.Prelude.{ℤ, pos, neg_ℤ}
 use Rattle.std.proofs.lemmas.Bool.Decides.{nat_tests}
 use Rattle.std.specs.Char.{is_ascii_digit, digit_value}
 use Rattle.std.specs.Str.Parse.{digits_value, starts_with_minus, without_leading_sign, signed_digits_value}
-use Rattle.pg_value.specs.declared.fields.FieldFault.TheVariants.{Range}
+use Rattle.pg_value.specs.declared.fields.FieldFault.{FieldFault}
+use Rattle.pg_value.specs.declared.fields.FieldFault.TheVariants.{Range, Invalid}
+use Rattle.pg_value.specs.declared.value.Value.{Value}
 use Rattle.pg_value.specs.declared.value.SqlType.{SqlType}
 use Rattle.pg_value.specs.declared.value.SqlType.TheVariants.{Int2, Int4, Int8, Text as TextType, Bool as BoolType}
 use Rattle.pg_value.specs.declared.value.Value.TheVariants.{Int}
 use Rattle.pg_value.specs.Types.{limit, in_range}
-use Rattle.pg_value.specs.Fields.{is_numeral, number_of, ranged}
+use Rattle.pg_value.specs.Fields.{is_numeral, number_of, ranged, signed}
 
 pub digit_is : (c : ℕ) → is_ascii_digit c ≡ true → digit_value c ≡ c - 48
 digit_is c h = grind (arith, nat_tests)
@@ -32,19 +34,57 @@ limit_fits Int8 = omega arith
 limit_fits TextType = omega arith
 limit_fits BoolType = omega arith
 
-number_is : (t : SqlType) (word : List ℕ) (z : ℤ) → is_numeral (without_leading_sign word) ≡ true → signed_digits_value 10 word ≡ z → in_range t z ≡ true → Ok (Int z) ≡ ranged t (number_of word)
-unfolding number_of
-number_is t word z numeral value fits = sym (ap (λ (b : Bool). ranged t (cond b (Some (signed_digits_value 10 word)) None)) numeral ∙ ap (λ (n : ℤ). ranged t (Some n)) value ∙ ap (λ (b : Bool). cond b (Ok (Int z)) (Err Range)) fits)
+kept : (t : SqlType) (z n : ℤ) → in_range t n ≡ true → z ≡ n → Ok (Int z) ≡ ranged t (Some n)
+kept t z n fits is = sym (ap (λ (b : Bool). cond b (Ok (Int n)) (Err Range)) fits ∙ ap (λ (m : ℤ). Ok (Int m)) (sym is))
 
-pub minus_is : (t : SqlType) (word : List ℕ) (m : ℕ) (z : ℤ) → 0 < limit t → starts_with_minus word ≡ true
-    → Some m ≡ cond (is_numeral (without_leading_sign word)) (Some (min (digits_value 10 (without_leading_sign word)) (2 ^ 64 - 1))) None
-    → m ≤ limit t → z ≡ neg_ℤ (pos m) → Ok (Int z) ≡ ranged t (number_of word)
-minus_is t word m z some minus was le is =
+left-out : (t : SqlType) (n : ℤ) → in_range t n ≡ false → Err Range ≡ ranged t (Some n)
+left-out t n over = sym (ap (λ (b : Bool). cond b (Ok (Int n)) (Err Range)) over)
+
+past-zero : (t : SqlType) (m : ℕ) → limit t < m → in_range t (neg_ℤ (pos m)) ≡ false
+past-zero t zero over = absurd (omega (arith, over))
+past-zero t (suc m) over = grind (arith, nat_tests)
+
+pub negative-kept : (t : SqlType) (negative : Bool) (n m : ℕ) (z : ℤ) → negative ≡ true → 0 < limit t → m ≡ min n (2 ^ 64 - 1) → m ≤ limit t → z ≡ neg_ℤ (pos m) → Ok (Int z) ≡ ranged t (Some (signed negative n))
+negative-kept t true n m z sign some is le value =
+    let same : n ≡ m = omega (arith, limit_fits t) in
+    kept t z (neg_ℤ (pos n)) (ap (λ (k : ℕ). in_range t (neg_ℤ (pos k))) same ∙ below_zero t m some le) (value ∙ ap (λ (k : ℕ). neg_ℤ (pos k)) (sym same))
+negative-kept t false n m z sign some is le value = absurd (cc (sign))
+
+pub positive-kept : (t : SqlType) (negative : Bool) (n m : ℕ) (z : ℤ) → negative ≡ false → m ≡ min n (2 ^ 64 - 1) → m < limit t → z ≡ pos m → Ok (Int z) ≡ ranged t (Some (signed negative n))
+positive-kept t true n m z sign is lt value = absurd (cc (sign))
+positive-kept t false n m z sign is lt value =
+    let same : n ≡ m = omega (arith, limit_fits t) in
+    let fits : in_range t (pos n) ≡ true = grind (arith, nat_tests) in
+    kept t z (pos n) fits (value ∙ ap (λ (k : ℕ). pos k) (sym same))
+
+pub negative-over : (t : SqlType) (negative : Bool) (n m : ℕ) → negative ≡ true → m ≡ min n (2 ^ 64 - 1) → limit t < m → Err Range ≡ ranged t (Some (signed negative n))
+negative-over t true n m sign is over = left-out t (neg_ℤ (pos n)) (past-zero t n (omega (arith, is, over)))
+negative-over t false n m sign is over = absurd (cc (sign))
+
+pub positive-over : (t : SqlType) (negative : Bool) (n m : ℕ) → negative ≡ false → m ≡ min n (2 ^ 64 - 1) → limit t ≤ m → Err Range ≡ ranged t (Some (signed negative n))
+positive-over t true n m sign is over = absurd (cc (sign))
+positive-over t false n m sign is over =
+    let most : limit t ≤ n = omega (arith, is, over) in
+    let past : in_range t (pos n) ≡ false = grind (arith, nat_tests) in
+    left-out t (pos n) past
+
+-- the number that a word with its sign spells
+pub numeral-value : (t : SqlType) (word : List ℕ) (negative : Bool) (m : ℕ) (r : Result Value FieldFault) → negative ≡ starts_with_minus word →
+    Some m ≡ cond (is_numeral (without_leading_sign word)) (Some (min (digits_value 10 (without_leading_sign word)) (2 ^ 64 - 1))) None →
+    ((n : ℕ) → m ≡ min n (2 ^ 64 - 1) → r ≡ ranged t (Some (signed negative n))) → r ≡ ranged t (number_of word)
+unfolding number_of
+numeral-value t word negative m r sign was so =
     let parts = numeral_from (is_numeral (without_leading_sign word)) m (min (digits_value 10 (without_leading_sign word)) (2 ^ 64 - 1)) was in
-    let number : digits_value 10 (without_leading_sign word) ≡ m = omega (arith, parts.1, limit_fits t) in
-    let value : signed_digits_value 10 word ≡ z =
-    ap (λ (b : Bool). cond b (neg_ℤ (pos (digits_value 10 (without_leading_sign word)))) (pos (digits_value 10 (without_leading_sign word)))) minus
-    ∙ ap (λ (n : ℕ). neg_ℤ (pos n)) number
-    ∙ sym is
-    in
-    number_is t word z parts.0 value (ap (in_range t) is ∙ below_zero t m some le)
+    so (digits_value 10 (without_leading_sign word)) parts.1
+    ∙ (ap (λ (b : Bool). ranged t (Some (signed b (digits_value 10 (without_leading_sign word))))) sign
+    ∙ sym (ap (λ (b : Bool). ranged t (cond b (Some (signed_digits_value 10 word)) None)) parts.0))
+
+numeral-none : (b : Bool) (m : ℕ) → None ≡ cond b (Some m) None → b ≡ false
+numeral-none true m is = absurd (cc (is))
+numeral-none false m is = refl
+
+pub no-numeral : (t : SqlType) (word : List ℕ) → None ≡ cond (is_numeral (without_leading_sign word)) (Some (min (digits_value 10 (without_leading_sign word)) (2 ^ 64 - 1))) None →
+    Err Invalid ≡ ranged t (number_of word)
+unfolding number_of
+no-numeral t word was =
+    sym (ap (λ (b : Bool). ranged t (cond b (Some (signed_digits_value 10 word)) None)) (numeral-none (is_numeral (without_leading_sign word)) _ was))

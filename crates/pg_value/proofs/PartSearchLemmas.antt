@@ -1,5 +1,5 @@
 -- Two searches find the elements that stand in a part, where along a list those before it, in it and after it follow one another.
-use Rattle.std.proofs.Common.{◌≡◌, ℕ, zero, suc, ◌+◌, ◌-◌, ◌<◌, ◌≤◌, min, Bool, true, false, cond, List, [], ◌∷◌, ◌++◌, take, drop, length, get_or, filter, refl, sym, ap, ap₂, ◌∙◌, subst, arith, length-drop, get_or-take, get_or-drop, append-nil, Ordering, Less, Equal, Greater}
+use Rattle.std.proofs.Common.{◌≡◌, ℕ, suc, ◌+◌, ◌-◌, ◌<◌, ◌≤◌, min, Bool, true, false, cond, List, [], ◌∷◌, ◌++◌, take, drop, length, get_or, filter, refl, sym, ap, ap₂, ◌∙◌, subst, arith, length-drop, get_or-take, get_or-drop, append-nil, Ordering, Less, Equal, Greater}
 use Rattle.std.specs.List.Sorted.{IsPartitionedBy, IsPartitionPoint, IsNonDecreasingBy}
 use Rattle.std.specs.Ordering.{is_lt, is_le, is_eq, ordering_index}
 use Rattle.std.proofs.lemmas.Bool.{true≢false, false≢true}

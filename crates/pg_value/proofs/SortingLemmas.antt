@@ -1,6 +1,6 @@
 -- Lists in an order, and the place where one more element goes.
-use Rattle.std.proofs.Common.{◌≡◌, ℕ, zero, suc, ◌+◌, ◌<◌, ◌≤◌, Bool, true, false, not, cond, List, [], ◌∷◌, ◌++◌, All, AllPairs, take, drop, length, get_or, refl, sym, ap, ap₂, ◌∙◌, arith, Ordering, Less, Equal, Greater}
-use Rattle.std.specs.Prelude.{IsFalse, filter, slice_index_or}
+use Rattle.std.proofs.Common.{◌≡◌, ℕ, zero, suc, ◌+◌, ◌<◌, ◌≤◌, Bool, true, false, not, cond, List, [], ◌∷◌, ◌++◌, All, take, drop, length, get_or, refl, sym, ap, ◌∙◌, arith, Ordering, Less, Equal, Greater}
+use Rattle.std.specs.Prelude.{filter}
 use Rattle.std.specs.Cmp.{IsTotalOrder, IsStrictWeakOrder}
 use Rattle.std.specs.List.{AllByRecursion}
 use Rattle.std.specs.List.Sorted.{ties, IsSortedBy, IsStableBy, IsPartitionedBy, IsPartitionPoint}
@@ -9,7 +9,7 @@ use Rattle.std.proofs.lemmas.Bool.{not-true, not-false}
 use Rattle.std.proofs.lemmas.List.Elements.{All-from_recursion, recursion_from_All, filter-append}
 use Rattle.std.proofs.lemmas.List.Sorted.{ranks_by, sorted_far}
 use Rattle.pg_value.specs.Sorting.{IsInOrder, put, in_order}
-use Rattle.pg_value.proofs.StableSortLemmas.{IsUp, in_order-up, in_order-alike, put-each, up-from, one-sorted, stable-only}
+use Rattle.pg_value.proofs.StableSortLemmas.{IsUp, in_order-up, in_order-alike, put-each, one-sorted, stable-only}
 
 greater_reversed : (o : Ordering) → is_gt o ≡ is_lt (ordering_reverse o)
 greater_reversed Less = refl

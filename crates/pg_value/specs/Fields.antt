@@ -61,6 +61,10 @@ is_false_word word = is_start 1 (codes "0") word || (is_start 1 (codes "false") 
 unfoldable pub flag_of : List ℕ → Option Bool
 flag_of word = let small = map to_ascii_lowercase word in cond (is_true_word small) (Some true) (cond (is_false_word small) (Some false) None)
 
+-- the whole number of this magnitude, with a minus or without
+abbrev pub signed : Bool → ℕ → ℤ
+signed negative n = cond negative (neg_ℤ (pos n)) (pos n)
+
 -- a whole number as a value of an integer type: `Invalid` where there is none, `Range` where the type does not have it
 abbrev pub ranged : SqlType → Option ℤ → Result Value FieldFault
 ranged t None = Err Invalid

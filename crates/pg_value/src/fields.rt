@@ -3,7 +3,7 @@
 ghost use Rattle.std.specs.Prelude.{◌≡◌, ◌↔◌, ◌≤◌, ◌<◌, ◌^◌, ◌-◌, ℕ, ℤ, Bool, true, List, min, map, pos, cond, MatchOption, IfErr, IfOk, IsTrue, Some, None};
 ghost use Rattle.std.specs.Char.{to_ascii_lowercase};
 ghost use Rattle.std.specs.Str.Parse.{digits_value, starts_with_minus, without_leading_sign};
-ghost use Rattle.pg_value.specs.Fields.{IsAmidBlanks, SpellsNumber, word_of, is_numeral, number_of, flag_of, is_start, is_true_word, is_false_word, ranged, flagged, field_value, IsUnlessMemory};
+ghost use Rattle.pg_value.specs.Fields.{IsAmidBlanks, SpellsNumber, word_of, is_numeral, number_of, flag_of, is_start, is_true_word, is_false_word, signed, ranged, flagged, field_value, IsUnlessMemory};
 ghost use Rattle.pg_value.specs.Types.{IsOfType, limit};
 
 use crate::bytes::Bytes;
@@ -57,16 +57,24 @@ fn word(text: &[u8]) -> &[u8]
     text.trim_ascii()
 }
 
-#[tactic(auto, unfolding(crate::specs::Fields::number_of))]
 fn read_number(t: SqlType, word: &[u8]) -> Result<Value, FieldFault>
     requires { 0 < limit t }
     ensures { result ≡ ranged t (number_of word.now) }
 {
-    let Some(magnitude) = read_digits(unsigned(word)) else {
-        return Err(FieldFault::Invalid);
-    };
+    match read_digits(unsigned(word)) {
+        Some(magnitude) => signed_value(t, is_negative(word), magnitude),
+        None => Err(FieldFault::Invalid),
+    }
+}
+
+/// The whole number of this magnitude, a negative one where `minus`, as a value of an integer type; 2^64 - 1 stands for
+/// that and every larger magnitude. The only error is `Range`: the type does not have it.
+pub fn signed_value(t: SqlType, minus: bool, magnitude: u64) -> Result<Value, FieldFault>
+    requires integer { 0 < limit t }
+    ensures { (n : ℕ) → magnitude ≡ min n (2 ^ 64 - 1) → result ≡ ranged t (Some (signed minus n)) }
+{
     let limit = limit_of(t);
-    if is_negative(word) {
+    if minus {
         if magnitude <= limit {
             return Ok(Value::Int((-i128::from(magnitude)) as i64));
         }
@@ -102,8 +110,9 @@ fn unsigned(word: &[u8]) -> &[u8]
     }
 }
 
-/// The number that digits write, or 2^64 - 1 where it is more; `None` where they are no numeral.
-fn read_digits(digits: &[u8]) -> Option<u64>
+/// The number that decimal digits write, or 2^64 - 1 where it is more. None exactly where the text is empty or has another
+/// byte than a digit.
+pub fn read_digits(digits: &[u8]) -> Option<u64>
     ensures { result ≡ cond (is_numeral digits.now) (Some (min (digits_value 10 digits.now) (2 ^ 64 - 1))) None }
 {
     let mut number: u64 = 0;

@@ -14,7 +14,7 @@ pub use bytes::Bytes;
 pub use columns::{Column, Columns};
 pub use comparison::{apply, commutator, compare, negator, order_is_total};
 pub use directions::column_order;
-pub use fields::{FieldFault, read_value, spellings_are_read};
+pub use fields::{FieldFault, read_digits, read_value, signed_value, spellings_are_read};
 pub use laws::column_order_is_total;
 pub use operators::{Family, Op, Truth};
 pub use value::{SqlType, Value};

@@ -1,4 +1,4 @@
-pub mod Tokens
 pub mod Names
 pub mod Next
 pub mod Named
+pub mod Tokens

@@ -57,14 +57,14 @@ token-name SymbolKind bytes rest t n form is within = absurd (symbol-name bytes 
 token-name EndKind bytes rest t n form is within = absurd (cc (is))
 
 -- each token has a form
-abbrev Formed : List ℕ → Token → Type 0
+abbrev pub Formed : List ℕ → Token → Type 0
 Formed text t = (rest : List ℕ) × IsToken t.kind (bytes_of_token text t) rest
 
 formed-by : (text : List ℕ) (t : Token) (ts : List Token) (b : Bool) → ((from : ℕ) → AreWords text from ts → All (Formed text) ts) → MatchBool b (ts ≡ []) (AreWords text t.end ts) → All (Formed text) ts
 formed-by text t ts true more w = subst (All (Formed text)) (sym w) (All-nil (Formed text))
 formed-by text t ts false more w = more t.end w
 
-formed : (text : List ℕ) (from : ℕ) (ts : List Token) → AreWords text from ts → All (Formed text) ts
+pub formed : (text : List ℕ) (from : ℕ) (ts : List Token) → AreWords text from ts → All (Formed text) ts
 formed text from [] w = absurd w
 formed text from (t ∷ ts) w = All-cons (Formed text) t ts (drop t.end text, w.0.form) (formed-by text t ts (is_last text t) (λ f. formed text f ts) w.1)
 

@@ -10,8 +10,8 @@ use Rattle.sql_lex.specs.declared.tokens.Kind.TheVariants.{Word as WordKind, Num
 use Rattle.sql_grammar.specs.declared.class.Word.{Word}
 use Rattle.sql_grammar.specs.declared.class.Free.{Free}
 use Rattle.sql_grammar.specs.declared.class.Class.{Class}
-use Rattle.sql_grammar.specs.declared.class.Class.TheVariants.{Name, Quoted}
-use Rattle.sql_grammar.specs.Terminals.{Terminal, Ident, token_of, t_name, t_quoted, class_of}
+use Rattle.sql_grammar.specs.declared.class.Class.TheVariants.{Name, Operator, Quoted}
+use Rattle.sql_grammar.specs.Terminals.{Terminal, Ident, token_of, t_name, t_operator, t_quoted, class_of}
 use Rattle.sql_grammar.specs.Reading.{free_spelling_of, free_words, reserved_of, free_of, ident_of, word_terminal, symbol_terminal, mark_of, terminal_by, value_of_quoted}
 use Rattle.sql_grammar.specs.Faults.{bytes_of}
 
@@ -84,3 +84,30 @@ quoted-value NumberKind bytes t is = absurd (cc)
 quoted-value QuotedKind bytes t is = refl
 quoted-value SymbolKind bytes t is = absurd (symbol-quoted bytes t is)
 quoted-value EndKind bytes t is = absurd (cc)
+
+word-operator : (o : Option Word) (small : List ℕ) (t : Token) → class_of (word_terminal o small t) ≡ Operator → ⊥
+word-operator (Some k) small t is = absurd (cc)
+word-operator None small t is = absurd (cc)
+
+-- a choice of which one side is no operator
+not-left : (b : Bool) (x y z : Terminal) → (class_of x ≡ Operator → ⊥) → (class_of y ≡ Operator → y ≡ z) → class_of (cond b x y) ≡ Operator → cond b x y ≡ z
+not-left true x y z h k is = absurd (h is)
+not-left false x y z h k is = k is
+
+mark-operator : (b : ℕ) (t : Token) → class_of (mark_of b t) ≡ Operator → mark_of b t ≡ t_operator (record { value = b ∷ []; token = t })
+mark-operator b t =
+    not-left (nat_eq b 40) _ _ _ (λ e. absurd (cc)) (not-left (nat_eq b 41) _ _ _ (λ e. absurd (cc)) (not-left (nat_eq b 44) _ _ _ (λ e. absurd (cc)) (not-left (nat_eq b 46) _ _ _ (λ e. absurd (cc))
+    (not-left (nat_eq b 45) _ _ _ (λ e. absurd (cc)) (not-left (nat_eq b 42) _ _ _ (λ e. absurd (cc)) (not-left (nat_eq b 59) _ _ _ (λ e. absurd (cc)) (λ e. refl)))))))
+
+symbol-operator : (bytes : List ℕ) (t : Token) → class_of (symbol_terminal bytes t) ≡ Operator → symbol_terminal bytes t ≡ t_operator (record { value = bytes; token = t })
+symbol-operator [] t is = refl
+symbol-operator (b ∷ []) t is = mark-operator b t is
+symbol-operator (b ∷ c ∷ bs) t is = refl
+
+-- a word of the class of operators is that of its bytes
+pub operator-bytes : (kind : Kind) (bytes : List ℕ) (t : Token) → class_of (terminal_by kind bytes t) ≡ Operator → terminal_by kind bytes t ≡ t_operator (record { value = bytes; token = t })
+operator-bytes WordKind bytes t is = absurd (word-operator (reserved_of (map to_ascii_lowercase bytes)) (map to_ascii_lowercase bytes) t is)
+operator-bytes NumberKind bytes t is = absurd (cc)
+operator-bytes QuotedKind bytes t is = absurd (cc)
+operator-bytes SymbolKind bytes t is = symbol-operator bytes t is
+operator-bytes EndKind bytes t is = absurd (cc)

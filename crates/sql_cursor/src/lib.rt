@@ -5,5 +5,5 @@ mod cursor;
 mod laws;
 mod values;
 
-pub use cursor::{Cursor, Spelled};
+pub use cursor::{Cursor, Number, Operator, Spelled};
 pub use laws::names_among_words;

@@ -2,7 +2,7 @@
 use Rattle.std.proofs.Common.{◌≡◌, ℕ, true, [], ◌∷◌, get_or, refl, sym, ap, ◌∙◌, nat_eq}
 use Rattle.std.proofs.lemmas.Bool.{eqb-true}
 use Rattle.sql_grammar.specs.declared.class.Free.{Free}
-use Rattle.sql_grammar.specs.declared.class.Free.TheVariants.{Copy, Csv, Format, Stdin}
+use Rattle.sql_grammar.specs.declared.class.Free.TheVariants.{Common, Copy, Csv, Distinct, Format, Histogram, Nulls, Pages, Rows, Statistics, Stdin}
 use Rattle.sql_grammar.specs.declared.class.Word.{Word}
 use Rattle.sql_grammar.specs.declared.class.Word.TheVariants.{And, As, Asc, Create, Cross, Desc, False, From, Group, Inner, Is, Join, Limit, Not, Null, Offset, On, Or, Order, Select, Table, True, Using, Where, With}
 use Rattle.sql_grammar.specs.declared.class.Symbol.{Symbol}
@@ -57,12 +57,19 @@ pub same_sign : (v w : Symbol) → nat_eq (sign_code v) (sign_code w) ≡ true �
 same_sign v w e = sym (sign_back v) ∙ (ap sign_at (eqb-true (sign_code v) (sign_code w) e) ∙ sign_back w)
 
 abbrev free_at : ℕ → Free
-free_at n = get_or (Copy ∷ Csv ∷ Format ∷ Stdin ∷ []) n Copy
+free_at n = get_or (Common ∷ Copy ∷ Csv ∷ Distinct ∷ Format ∷ Histogram ∷ Nulls ∷ Pages ∷ Rows ∷ Statistics ∷ Stdin ∷ []) n Common
 
 free_back : (w : Free) → free_at (free_code w) ≡ w
+free_back Common = refl
 free_back Copy = refl
 free_back Csv = refl
+free_back Distinct = refl
 free_back Format = refl
+free_back Histogram = refl
+free_back Nulls = refl
+free_back Pages = refl
+free_back Rows = refl
+free_back Statistics = refl
 free_back Stdin = refl
 
 pub same_free : (v w : Free) → nat_eq (free_code v) (free_code w) ≡ true → v ≡ w

@@ -1,13 +1,13 @@
 -- The walk takes every statement.
 use Rattle.std.proofs.Common.{◌≡◌, ℕ, ◌+◌, ◌≤◌, true, List, [], ◌∷◌, ◌++◌, None, refl, sym, ap, ◌∙◌, arith, append_assoc, append-nil, nat_le}
 use Rattle.std.proofs.lemmas.Bool.{le-leb}
-use Rattle.sql_grammar.specs.Terminals.{Terminal, Said, t_key, t_mark, t_name, class_of}
+use Rattle.sql_grammar.specs.Terminals.{Terminal, Said, t_key, t_mark, t_name, t_number, class_of}
 use Rattle.sql_grammar.specs.declared.class.Word.TheVariants.{From, Is}
 use Rattle.sql_grammar.specs.declared.class.Symbol.TheVariants.{Close, Dot}
 use Rattle.sql_grammar.specs.declared.table.Item.{Item}
-use Rattle.sql_grammar.specs.declared.table.Item.TheVariants.{Keyword, Label, Whole, Ends, Query, Nullness, MoreColumns, Negation, MoreAnds, MoreOrs, Closes, NotEnds, AfterName, AfterColumn, AfterTruth, Side, AfterQualifier, Result, MoreResults, AfterResult, MaybeAlias}
-use Rattle.sql_grammar.specs.Syntax.{Mark, bare, qualified, yes, no, unknown, number, negative, quoted, constant, Operand, column, literal, Expr, either_of, Ors, no_or, or_conj, Conj, both_of, Ands, no_and, and_neg, Neg, negated, plain, Atom, parens, compare, is_null, is_not_null, column_alone, constant_alone, Nulls, unwritten, not_null, nullable, ColDef, coldef, Output, every, every_of, one, Alias, no_alias, bare_alias, as_alias, Select, select_from, Ending, semicolon, text_end, Statement, empty, create_table, query, copy}
-use Rattle.sql_grammar.specs.Words.{words_of, words_of_operand, words_of_expr, words_of_ors, words_of_conj, words_of_ands, words_of_neg, words_of_atom, words_of_nulls, words_of_coldef, words_of_columns, words_of_output, words_of_outputs, words_of_alias, words_of_select, words_of_ending, levels_of_expr, levels_of_ors, levels_of_conj, levels_of_ands, levels_of_neg, levels_of_atom}
+use Rattle.sql_grammar.specs.declared.table.Item.TheVariants.{Keyword, Label, Whole, Ends, Query, Nullness, MoreColumns, Negation, MoreAnds, MoreOrs, Closes, NotEnds, AfterName, AfterColumn, AfterTruth, Side, AfterQualifier, Result, MoreResults, AfterResult, MaybeAlias, MaybeWhere, MaybeCommon, MoreShares, MaybeHistogram, MoreBounds, Literal, Digits}
+use Rattle.sql_grammar.specs.Syntax.{Mark, bare, qualified, yes, no, unknown, Lit, number, negative, quoted, constant, Operand, column, literal, Expr, either_of, Ors, no_or, or_conj, Conj, both_of, Ands, no_and, and_neg, Neg, negated, plain, Atom, parens, compare, is_null, is_not_null, column_alone, constant_alone, Nulls, unwritten, not_null, nullable, ColDef, coldef, Output, every, every_of, one, Alias, no_alias, bare_alias, as_alias, Where, no_where, where_expr, Select, select_from, Share, share, Common, no_common, common, Histogram, no_histogram, histogram, Ending, semicolon, text_end, Statement, empty, create_table, query, copy, sizes, column_statistics}
+use Rattle.sql_grammar.specs.Words.{words_of, words_of_lit, words_of_operand, words_of_expr, words_of_ors, words_of_conj, words_of_ands, words_of_neg, words_of_atom, words_of_nulls, words_of_coldef, words_of_columns, words_of_output, words_of_outputs, words_of_alias, words_of_where, words_of_select, words_of_share, words_of_shares, words_of_common, words_of_bounds, words_of_histogram, words_of_ending, levels_of, levels_of_select, levels_of_where, levels_of_expr, levels_of_ors, levels_of_conj, levels_of_ands, levels_of_neg, levels_of_atom}
 use Rattle.sql_grammar.specs.Table.{takes_of, is_optional}
 use Rattle.sql_grammar.specs.Machine.{depth_of, takes_all}
 
@@ -40,6 +40,16 @@ pub record EndsConj (ts : List Terminal) : Type 0 where
 pub record EndsExpr (ts : List Terminal) : Type 0 where
   pub conj : EndsConj ts
   pub ors : Passes MoreOrs ts
+
+-- what follows a SELECT
+pub record EndsSelect (ts : List Terminal) : Type 0 where
+  pub alias : Passes MaybeAlias ts
+  pub condition : Passes MaybeWhere ts
+  pub expr : EndsExpr ts
+
+after-alias : (w : Where) (ts : List Terminal) → Passes MaybeAlias ts → Passes MaybeAlias (words_of_where w ++ ts)
+after-alias no_where ts p = p
+after-alias (where_expr k e) ts p = refl
 
 after-ands : (ns : Ands) (ts : List Terminal) → Passes AfterName ts → Passes AfterName (words_of_ands ns ++ ts)
 after-ands no_and ts p = p
@@ -165,29 +175,84 @@ module _ (limit : ℕ) where
   alias (bare_alias n) s ts p = refl
   alias (as_alias k n) s ts p = refl
 
-  selected : (q : Select) (s : List Item) (ts : List Terminal) → Passes MaybeAlias ts → takes_all limit (words_of_select q ++ ts) (Query ∷ s) ≡ takes_all limit ts s
-  selected (select_from k o os f n a) s ts p =
-      apart (words_of_output o) (words_of_outputs os ++ t_key From f ∷ t_name n ∷ words_of_alias a) ts _ ∙
-      (ap (λ l. takes_all limit (words_of_output o ++ l) (Result ∷ MoreResults ∷ Keyword From ∷ Label ∷ MaybeAlias ∷ s)) (append_assoc (words_of_outputs os) (t_key From f ∷ t_name n ∷ words_of_alias a) ts) ∙
-      (outputs o os (Keyword From ∷ Label ∷ MaybeAlias ∷ s) _ refl refl ∙ alias a s ts p))
+  condition : (w : Where) (s : List Item) (ts : List Terminal) → levels_of_where w + depth_of s ≤ limit → EndsSelect ts → takes_all limit (words_of_where w ++ ts) (MaybeWhere ∷ s) ≡ takes_all limit ts s
+  condition no_where s ts low p = skip MaybeWhere s ts refl p.condition
+  condition (where_expr k e) s ts low p = expr e s ts low p.expr
 
-  pub selected_alone : (q : Select) → takes_all limit (words_of_select q) (Query ∷ []) ≡ true
-  selected_alone q = ap (λ l. takes_all limit l (Query ∷ [])) (sym (append-nil (words_of_select q))) ∙ selected q [] [] tt
+  selected : (q : Select) (s : List Item) (ts : List Terminal) → levels_of_select q + depth_of s ≤ limit → EndsSelect ts → takes_all limit (words_of_select q ++ ts) (Query ∷ s) ≡ takes_all limit ts s
+  selected (select_from k o os f n a w) s ts low p =
+      apart (words_of_output o) (words_of_outputs os ++ t_key From f ∷ t_name n ∷ (words_of_alias a ++ words_of_where w)) ts _ ∙
+      (ap (λ l. takes_all limit (words_of_output o ++ l) (Result ∷ MoreResults ∷ Keyword From ∷ Label ∷ MaybeAlias ∷ MaybeWhere ∷ s))
+      (append_assoc (words_of_outputs os) (t_key From f ∷ t_name n ∷ (words_of_alias a ++ words_of_where w)) ts) ∙
+      (outputs o os (Keyword From ∷ Label ∷ MaybeAlias ∷ MaybeWhere ∷ s) _ refl refl ∙
+      (apart (words_of_alias a) (words_of_where w) ts (MaybeAlias ∷ MaybeWhere ∷ s) ∙
+      (alias a (MaybeWhere ∷ s) (words_of_where w ++ ts) (after-alias w ts p.alias) ∙ condition w s ts low p))))
+
+  pub selected_alone : (q : Select) → levels_of_select q ≤ limit → takes_all limit (words_of_select q) (Query ∷ []) ≡ true
+  selected_alone q low = ap (λ l. takes_all limit l (Query ∷ [])) (sym (append-nil (words_of_select q))) ∙
+      selected q [] [] (omega arith) (record { alias = tt; condition = tt; expr = record { conj = record { atom = tt; ands = tt }; ors = tt } })
+
+  lit : (l : Lit) (s : List Item) (ts : List Terminal) → takes_all limit (words_of_lit l ++ ts) (Literal ∷ s) ≡ takes_all limit ts s
+  lit (number n) s ts = refl
+  lit (negative m n) s ts = refl
+  lit (quoted q) s ts = refl
+  lit (constant yes k) s ts = refl
+  lit (constant no k) s ts = refl
+  lit (constant unknown k) s ts = refl
+
+  shares : (x : Share) (xs : List (Mark × Share)) (m : Mark) (s : List Item) (ts : List Terminal) →
+      takes_all limit (words_of_share x ++ (words_of_shares xs ++ t_mark Close m ∷ ts)) (Literal ∷ Digits ∷ MoreShares ∷ s) ≡ takes_all limit ts s
+  shares (share l n) [] m s ts = apart (words_of_lit l) (t_number n ∷ []) (t_mark Close m ∷ ts) _ ∙ lit l (Digits ∷ MoreShares ∷ s) (t_number n ∷ t_mark Close m ∷ ts)
+  shares (share l n) ((c, x) ∷ xs) m s ts =
+      apart (words_of_lit l) (t_number n ∷ []) (words_of_shares ((c, x) ∷ xs) ++ t_mark Close m ∷ ts) _ ∙
+      (lit l (Digits ∷ MoreShares ∷ s) (t_number n ∷ (words_of_shares ((c, x) ∷ xs) ++ t_mark Close m ∷ ts)) ∙
+      (apart (words_of_share x) (words_of_shares xs) (t_mark Close m ∷ ts) _ ∙ shares x xs m s ts))
+
+  common-values : (v : Common) (s : List Item) (ts : List Terminal) → Passes MaybeCommon ts → takes_all limit (words_of_common v ++ ts) (MaybeCommon ∷ s) ≡ takes_all limit ts s
+  common-values no_common s ts p = skip MaybeCommon s ts refl p
+  common-values (common k o x xs m) s ts p =
+      apart (words_of_share x) (words_of_shares xs ++ t_mark Close m ∷ []) ts _ ∙
+      (ap (λ l. takes_all limit (words_of_share x ++ l) (Literal ∷ Digits ∷ MoreShares ∷ s)) (append_assoc (words_of_shares xs) (t_mark Close m ∷ []) ts) ∙ shares x xs m s ts)
+
+  bounds : (l : Lit) (ls : List (Mark × Lit)) (m : Mark) (s : List Item) (ts : List Terminal) →
+      takes_all limit (words_of_lit l ++ (words_of_bounds ls ++ t_mark Close m ∷ ts)) (Literal ∷ MoreBounds ∷ s) ≡ takes_all limit ts s
+  bounds l [] m s ts = lit l (MoreBounds ∷ s) (t_mark Close m ∷ ts)
+  bounds l ((c, k) ∷ ls) m s ts =
+      lit l (MoreBounds ∷ s) (words_of_bounds ((c, k) ∷ ls) ++ t_mark Close m ∷ ts) ∙ (apart (words_of_lit k) (words_of_bounds ls) (t_mark Close m ∷ ts) _ ∙ bounds k ls m s ts)
+
+  histograms : (h : Histogram) (s : List Item) (ts : List Terminal) → Passes MaybeHistogram ts → takes_all limit (words_of_histogram h ++ ts) (MaybeHistogram ∷ s) ≡ takes_all limit ts s
+  histograms no_histogram s ts p = skip MaybeHistogram s ts refl p
+  histograms (histogram k o l ls m) s ts p =
+      apart (words_of_lit l) (words_of_bounds ls ++ t_mark Close m ∷ []) ts _ ∙
+      (ap (λ x. takes_all limit (words_of_lit l ++ x) (Literal ∷ MoreBounds ∷ s)) (append_assoc (words_of_bounds ls) (t_mark Close m ∷ []) ts) ∙ bounds l ls m s ts)
 
   ending : (e : Ending) → takes_all limit (words_of_ending e) (Ends ∷ []) ≡ true
   ending (semicolon t) = refl
   ending (text_end t) = refl
 
-  after-query : (e : Ending) → Passes MaybeAlias (words_of_ending e)
-  after-query (semicolon t) = refl
-  after-query (text_end t) = refl
+  after-query : (e : Ending) → EndsSelect (words_of_ending e)
+  after-query (semicolon t) = record { alias = refl; condition = refl; expr = record { conj = record { atom = refl; ands = refl }; ors = refl } }
+  after-query (text_end t) = record { alias = refl; condition = refl; expr = record { conj = record { atom = refl; ands = refl }; ors = refl } }
+
+  after-histogram : (e : Ending) → Passes MaybeHistogram (words_of_ending e)
+  after-histogram (semicolon t) = refl
+  after-histogram (text_end t) = refl
+
+  after-common : (h : Histogram) (e : Ending) → Passes MaybeCommon (words_of_histogram h ++ words_of_ending e)
+  after-common no_histogram (semicolon t) = refl
+  after-common no_histogram (text_end t) = refl
+  after-common (histogram k o l ls m) e = refl
 
   opened : (q : Select) (ts : List Terminal) (s : List Item) → takes_all limit (words_of_select q ++ ts) (Whole ∷ []) ≡ takes_all limit (words_of_select q ++ ts) (Query ∷ Ends ∷ [])
-  opened (select_from k o os f n a) ts s = refl
+  opened (select_from k o os f n a w) ts s = refl
 
-  pub statement : (x : Statement) → takes_all limit (words_of x) (Whole ∷ []) ≡ true
-  statement (empty (semicolon t)) = refl
-  statement (empty (text_end t)) = refl
-  statement (create_table k t n o c cs m e) = columns c cs m (Ends ∷ []) (words_of_ending e) ∙ ending e
-  statement (query q e) = opened q (words_of_ending e) [] ∙ (selected q (Ends ∷ []) (words_of_ending e) (after-query e) ∙ ending e)
-  statement (copy k n text) = refl
+  pub statement : (x : Statement) → levels_of x ≤ limit → takes_all limit (words_of x) (Whole ∷ []) ≡ true
+  statement (empty (semicolon t)) low = refl
+  statement (empty (text_end t)) low = refl
+  statement (create_table k t n o c cs m e) low = columns c cs m (Ends ∷ []) (words_of_ending e) ∙ ending e
+  statement (query q e) low = opened q (words_of_ending e) [] ∙ (selected q (Ends ∷ []) (words_of_ending e) (omega (arith, low)) (after-query e) ∙ ending e)
+  statement (copy k n text) low = refl
+  statement (sizes k n r p e) low = ending e
+  statement (column_statistics k n c d z v h e) low =
+      common-values v (MaybeHistogram ∷ Ends ∷ []) (words_of_histogram h ++ words_of_ending e) (after-common h e) ∙
+      (histograms h (Ends ∷ []) (words_of_ending e) (after-histogram e) ∙ ending e)

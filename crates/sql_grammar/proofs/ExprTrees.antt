@@ -12,7 +12,7 @@ use Rattle.sql_grammar.specs.Terminals.{Terminal, Ident, token_of, t_key, t_mark
 use Rattle.sql_grammar.specs.Reading.{terminal_by, word_terminal, symbol_terminal, ident_of, free_of, reserved_of, bytes_of_token}
 use Rattle.sql_grammar.specs.Faults.{terminals}
 use Rattle.sql_grammar.specs.Syntax.{bare, qualified, yes, no, unknown, number, negative, quoted, constant, Operand, column, literal, Expr, either_of, Ors, no_or, or_conj, Conj, both_of, Ands, no_and, and_neg, Neg, negated, plain, Atom, parens, compare, is_null, is_not_null, column_alone, constant_alone}
-use Rattle.sql_grammar.specs.Unique.{token_in, ends_expr}
+use Rattle.sql_grammar.specs.Unique.{token_in, ends_operand, ends_atom, ends_conj, ends_expr, is_parens, front, tail}
 use Rattle.sql_grammar.specs.Words.{words_of_col, words_of_operand, words_of_expr, words_of_ors, words_of_conj, words_of_ands, words_of_neg, words_of_atom}
 
 named-token : (o : Option Free) (small : List ℕ) (t : Token) → token_of (ident_of o small t) ≡ t
@@ -34,7 +34,7 @@ symbol-token (b ∷ []) t =
     (either (nat_eq b 45) _ _ t refl (either (nat_eq b 42) _ _ t refl (either (nat_eq b 59) _ _ t refl refl))))))
 symbol-token (b ∷ c ∷ bs) t = refl
 
-by-token : (kind : Kind) (bytes : List ℕ) (t : Token) → token_in (terminal_by kind bytes t) ≡ t
+pub by-token : (kind : Kind) (bytes : List ℕ) (t : Token) → token_in (terminal_by kind bytes t) ≡ t
 by-token WordKind bytes t = word-token (reserved_of (map to_ascii_lowercase bytes)) (map to_ascii_lowercase bytes) t
 by-token NumberKind bytes t = refl
 by-token QuotedKind bytes t = refl
@@ -49,51 +49,33 @@ tokens-of text (t ∷ ts) = ap (λ u. u ∷ map token_in (terminals text ts)) (b
 pub tokens-are : (words : List Terminal) (text : List ℕ) (ts : List Token) → words ≡ terminals text ts → map token_in words ≡ ts
 tokens-are words text ts is = ap (map token_in) is ∙ tokens-of text ts
 
--- what does not go on an operand, an atom and a conjunction
-abbrev pub dotless : List Terminal → Bool
-dotless (t_mark Dot _ ∷ _) = false
-dotless _ = true
-
-abbrev pub atom_ends : List Terminal → Bool
-atom_ends (t_mark Dot _ ∷ _) = false
-atom_ends (t_key Is _ ∷ _) = false
-atom_ends (t_operator _ ∷ _) = false
-atom_ends _ = true
-
-abbrev pub conj_ends : List Terminal → Bool
-conj_ends (t_mark Dot _ ∷ _) = false
-conj_ends (t_key Is _ ∷ _) = false
-conj_ends (t_operator _ ∷ _) = false
-conj_ends (t_key And _ ∷ _) = false
-conj_ends _ = true
-
-atom-dotless : (x : List Terminal) → atom_ends x ≡ true → dotless x ≡ true
+pub atom-dotless : (x : List Terminal) → ends_atom x ≡ true → ends_operand x ≡ true
 atom-dotless (t_mark Dot _ ∷ x) h = absurd (cc)
 atom-dotless _ h = refl
 
-conj-atom : (x : List Terminal) → conj_ends x ≡ true → atom_ends x ≡ true
+pub conj-atom : (x : List Terminal) → ends_conj x ≡ true → ends_atom x ≡ true
 conj-atom (t_mark Dot _ ∷ x) h = absurd (cc)
 conj-atom (t_key Is _ ∷ x) h = absurd (cc)
 conj-atom (t_operator _ ∷ x) h = absurd (cc)
 conj-atom _ h = refl
 
-expr-conj : (x : List Terminal) → ends_expr x ≡ true → conj_ends x ≡ true
+pub expr-conj : (x : List Terminal) → ends_expr x ≡ true → ends_conj x ≡ true
 expr-conj (t_mark Dot _ ∷ x) h = absurd (cc)
 expr-conj (t_key Is _ ∷ x) h = absurd (cc)
 expr-conj (t_operator _ ∷ x) h = absurd (cc)
 expr-conj (t_key And _ ∷ x) h = absurd (cc)
 expr-conj _ h = refl
 
-ands-end : (ns : Ands) (x : List Terminal) → conj_ends x ≡ true → atom_ends (words_of_ands ns ++ x) ≡ true
+pub ands-end : (ns : Ands) (x : List Terminal) → ends_conj x ≡ true → ends_atom (words_of_ands ns ++ x) ≡ true
 ands-end no_and x h = conj-atom x h
 ands-end (and_neg k n ns) x h = refl
 
-ors-end : (os : Ors) (x : List Terminal) → ends_expr x ≡ true → conj_ends (words_of_ors os ++ x) ≡ true
+pub ors-end : (os : Ors) (x : List Terminal) → ends_expr x ≡ true → ends_conj (words_of_ors os ++ x) ≡ true
 ors-end no_or x h = expr-conj x h
 ors-end (or_conj k c os) x h = refl
 
 -- two lists of which a test tells one from the other
-tested : (test : List Terminal → Bool) (x y : List Terminal) → test x ≡ true → test y ≡ false → x ≡ y → ⊥
+pub tested : (test : List Terminal → Bool) (x y : List Terminal) → test x ≡ true → test y ≡ false → x ≡ y → ⊥
 tested test x y h k e = let also : true ≡ false = sym h ∙ (ap test e ∙ k) in absurd (cc)
 
 -- the kind of an operand, by its first words
@@ -118,12 +100,12 @@ kind_of (t_key False k ∷ x) = 6
 kind_of (t_key Null k ∷ x) = 7
 kind_of _ = 8
 
-bare-kind : (n : Ident) (x : List Terminal) → dotless x ≡ true → kind_of (t_name n ∷ x) ≡ 0
+bare-kind : (n : Ident) (x : List Terminal) → ends_operand x ≡ true → kind_of (t_name n ∷ x) ≡ 0
 bare-kind n [] h = refl
 bare-kind n (t_mark Dot d ∷ x) h = absurd (cc)
 bare-kind n (_ ∷ x) h = refl
 
-kind-is : (o : Operand) (x : List Terminal) → dotless x ≡ true → kind_of (words_of_operand o ++ x) ≡ operand_kind o
+kind-is : (o : Operand) (x : List Terminal) → ends_operand x ≡ true → kind_of (words_of_operand o ++ x) ≡ operand_kind o
 kind-is (column (bare n)) x h = bare-kind n x h
 kind-is (column (qualified q d n)) x h = refl
 kind-is (literal (number n)) x h = refl
@@ -199,31 +181,10 @@ operand-by (literal (constant unknown a1)) (literal (quoted a2)) x y k e = absur
 operand-by (literal (constant unknown a1)) (literal (constant yes a2)) x y k e = absurd (omega (arith, k))
 operand-by (literal (constant unknown a1)) (literal (constant no a2)) x y k e = absurd (omega (arith, k))
 
-one_operand : (a b : Operand) (x y : List Terminal) → dotless x ≡ true → dotless y ≡ true → words_of_operand a ++ x ≡ words_of_operand b ++ y → (a ≡ b) × (x ≡ y)
+pub one_operand : (a b : Operand) (x y : List Terminal) → ends_operand x ≡ true → ends_operand y ≡ true → words_of_operand a ++ x ≡ words_of_operand b ++ y → (a ≡ b) × (x ≡ y)
 one_operand a b x y h k e = operand-by a b x y (sym (kind-is a x h) ∙ (ap kind_of e ∙ kind-is b y k)) e
 
--- an atom without parentheses: its first operand and what follows
-abbrev is_parens : Atom → Bool
-is_parens (parens o e c) = true
-is_parens _ = false
-
-abbrev front : Atom → Operand
-front (parens o e c) = literal (constant unknown o)
-front (compare l op r) = l
-front (is_null c i k) = column c
-front (is_not_null c i n k) = column c
-front (column_alone c) = column c
-front (constant_alone c k) = literal (constant c k)
-
-abbrev tail : Atom → List Terminal → List Terminal
-tail (parens o e c) x = x
-tail (compare l op r) x = t_operator op ∷ (words_of_operand r ++ x)
-tail (is_null c i k) x = t_key Is i ∷ t_key Null k ∷ x
-tail (is_not_null c i n k) x = t_key Is i ∷ t_key Not n ∷ t_key Null k ∷ x
-tail (column_alone c) x = x
-tail (constant_alone c k) x = x
-
-parted : (a : Atom) (x : List Terminal) → is_parens a ≡ false → words_of_atom a ++ x ≡ words_of_operand (front a) ++ tail a x
+pub parted : (a : Atom) (x : List Terminal) → is_parens a ≡ false → words_of_atom a ++ x ≡ words_of_operand (front a) ++ tail a x
 parted (parens o e c) x h = absurd (cc)
 parted (compare l op r) x h = append_assoc (words_of_operand l) (t_operator op ∷ words_of_operand r) x
 parted (is_null c i k) x h = append_assoc (words_of_col c) (t_key Is i ∷ t_key Null k ∷ []) x
@@ -231,7 +192,7 @@ parted (is_not_null c i n k) x h = append_assoc (words_of_col c) (t_key Is i ∷
 parted (column_alone c) x h = refl
 parted (constant_alone c k) x h = refl
 
-tail-dotless : (a : Atom) (x : List Terminal) → atom_ends x ≡ true → dotless (tail a x) ≡ true
+pub tail-dotless : (a : Atom) (x : List Terminal) → ends_atom x ≡ true → ends_operand (tail a x) ≡ true
 tail-dotless (parens o e c) x h = atom-dotless x h
 tail-dotless (compare l op r) x h = refl
 tail-dotless (is_null c i k) x h = refl
@@ -251,12 +212,12 @@ atom_kind (is_null c i k) = 2
 atom_kind (is_not_null c i n k) = 3
 atom_kind _ = 0
 
-alone-kind : (x : List Terminal) → atom_ends x ≡ true → tail_kind x ≡ 0
+alone-kind : (x : List Terminal) → ends_atom x ≡ true → tail_kind x ≡ 0
 alone-kind (t_operator op ∷ x) h = absurd (cc)
 alone-kind (t_key Is i ∷ x) h = absurd (cc)
 alone-kind _ h = refl
 
-tail-kind : (a : Atom) (x : List Terminal) → atom_ends x ≡ true → tail_kind (tail a x) ≡ atom_kind a
+tail-kind : (a : Atom) (x : List Terminal) → ends_atom x ≡ true → tail_kind (tail a x) ≡ atom_kind a
 tail-kind (parens o e c) x h = alone-kind x h
 tail-kind (compare l op r) x h = refl
 tail-kind (is_null c i k) x h = refl
@@ -264,7 +225,7 @@ tail-kind (is_not_null c i n k) x h = refl
 tail-kind (column_alone c) x h = alone-kind x h
 tail-kind (constant_alone c k) x h = alone-kind x h
 
-flat-by : (a b : Atom) (x y : List Terminal) → is_parens a ≡ false → is_parens b ≡ false → atom_kind a ≡ atom_kind b → front a ≡ front b → dotless x ≡ true → dotless y ≡ true →
+flat-by : (a b : Atom) (x y : List Terminal) → is_parens a ≡ false → is_parens b ≡ false → atom_kind a ≡ atom_kind b → front a ≡ front b → ends_operand x ≡ true → ends_operand y ≡ true →
     tail a x ≡ tail b y → (a ≡ b) × (x ≡ y)
 flat-by (parens o e c) b x y p q k f h i t = absurd (cc (p))
 flat-by (compare l op r) (compare m oq s) x y p q k f h i t =
@@ -282,7 +243,7 @@ flat-by (constant_alone c n) (column_alone d) x y p q k f h i t = absurd (cc (f)
 flat-by _ (parens o e c) x y p q k f h i t = absurd (cc (q))
 flat-by _ _ x y p q k f h i t = absurd (omega (arith, k))
 
-one_flat : (a b : Atom) (x y : List Terminal) → is_parens a ≡ false → is_parens b ≡ false → atom_ends x ≡ true → atom_ends y ≡ true →
+one_flat : (a b : Atom) (x y : List Terminal) → is_parens a ≡ false → is_parens b ≡ false → ends_atom x ≡ true → ends_atom y ≡ true →
     words_of_atom a ++ x ≡ words_of_atom b ++ y → (a ≡ b) × (x ≡ y)
 one_flat a b x y p q h k e =
     let (first, more) = one_operand (front a) (front b) (tail a x) (tail b y) (tail-dotless a x h) (tail-dotless b y k) (sym (parted a x p) ∙ (e ∙ parted b y q)) in
@@ -319,7 +280,7 @@ no-not false a x y h k e = let both = sym k ∙ (ap opens e ∙ atom-by false a 
 no-parens : (a b : Atom) (x y : List Terminal) → is_parens a ≡ true → is_parens b ≡ false → words_of_atom a ++ x ≡ words_of_atom b ++ y → ⊥
 no-parens a b x y h k e = let both = sym (atom-by true a x h) ∙ (ap opens e ∙ atom-by false b y k) in absurd (omega (arith, both))
 
-flat-first : (b : Bool) (a d : Atom) (x y : List Terminal) → is_parens d ≡ b → is_parens a ≡ false → atom_ends x ≡ true → atom_ends y ≡ true → words_of_atom a ++ x ≡ words_of_atom d ++ y → (a ≡ d) × (x ≡ y)
+flat-first : (b : Bool) (a d : Atom) (x y : List Terminal) → is_parens d ≡ b → is_parens a ≡ false → ends_atom x ≡ true → ends_atom y ≡ true → words_of_atom a ++ x ≡ words_of_atom d ++ y → (a ≡ d) × (x ≡ y)
 flat-first true a d x y q p h k e = absurd (no-parens d a y x q p (sym e))
 flat-first false a d x y q p h k e = one_flat a d x y p q h k e
 
@@ -342,17 +303,17 @@ mutual
       let (others, rest) = one_ors os us x y h k more in
       (cc (key, first, others), rest)
 
-  one_conj : (a b : Conj) (x y : List Terminal) → conj_ends x ≡ true → conj_ends y ≡ true → words_of_conj a ++ x ≡ words_of_conj b ++ y → (a ≡ b) × (x ≡ y)
+  one_conj : (a b : Conj) (x y : List Terminal) → ends_conj x ≡ true → ends_conj y ≡ true → words_of_conj a ++ x ≡ words_of_conj b ++ y → (a ≡ b) × (x ≡ y)
   one_conj (both_of n ns) (both_of m ms) x y h k e =
       let (first, more) = one_neg n m (words_of_ands ns ++ x) (words_of_ands ms ++ y) (ands-end ns x h) (ands-end ms y k)
       (sym (append_assoc (words_of_neg n) (words_of_ands ns) x) ∙ (e ∙ append_assoc (words_of_neg m) (words_of_ands ms) y)) in
       let (others, rest) = one_ands ns ms x y h k more in
       (cc (first, others), rest)
 
-  one_ands : (a b : Ands) (x y : List Terminal) → conj_ends x ≡ true → conj_ends y ≡ true → words_of_ands a ++ x ≡ words_of_ands b ++ y → (a ≡ b) × (x ≡ y)
+  one_ands : (a b : Ands) (x y : List Terminal) → ends_conj x ≡ true → ends_conj y ≡ true → words_of_ands a ++ x ≡ words_of_ands b ++ y → (a ≡ b) × (x ≡ y)
   one_ands no_and no_and x y h k e = (refl, e)
-  one_ands no_and (and_neg j m ms) x y h k e = absurd (tested conj_ends x (words_of_ands (and_neg j m ms) ++ y) h refl e)
-  one_ands (and_neg i n ns) no_and x y h k e = absurd (tested conj_ends y (words_of_ands (and_neg i n ns) ++ x) k refl (sym e))
+  one_ands no_and (and_neg j m ms) x y h k e = absurd (tested ends_conj x (words_of_ands (and_neg j m ms) ++ y) h refl e)
+  one_ands (and_neg i n ns) no_and x y h k e = absurd (tested ends_conj y (words_of_ands (and_neg i n ns) ++ x) k refl (sym e))
   one_ands (and_neg i n ns) (and_neg j m ms) x y h k e =
       let key : i ≡ j = cc (e) in
       let (first, more) = one_neg n m (words_of_ands ns ++ x) (words_of_ands ms ++ y) (ands-end ns x h) (ands-end ms y k)
@@ -360,7 +321,7 @@ mutual
       let (others, rest) = one_ands ns ms x y h k more in
       (cc (key, first, others), rest)
 
-  one_neg : (a b : Neg) (x y : List Terminal) → atom_ends x ≡ true → atom_ends y ≡ true → words_of_neg a ++ x ≡ words_of_neg b ++ y → (a ≡ b) × (x ≡ y)
+  one_neg : (a b : Neg) (x y : List Terminal) → ends_atom x ≡ true → ends_atom y ≡ true → words_of_neg a ++ x ≡ words_of_neg b ++ y → (a ≡ b) × (x ≡ y)
   one_neg (negated i n) (negated j m) x y h k e =
       let key : i ≡ j = cc (e) in
       let (inner, rest) = one_neg n m x y h k (ap (drop 1) e) in
@@ -369,7 +330,7 @@ mutual
   one_neg (plain a) (negated j m) x y h k e = absurd (no-not (is_parens a) a x (words_of_neg (negated j m) ++ y) refl refl (sym e))
   one_neg (plain a) (plain b) x y h k e = let (inner, rest) = one_atom a b x y h k e in (ap plain inner, rest)
 
-  one_atom : (a b : Atom) (x y : List Terminal) → atom_ends x ≡ true → atom_ends y ≡ true → words_of_atom a ++ x ≡ words_of_atom b ++ y → (a ≡ b) × (x ≡ y)
+  one_atom : (a b : Atom) (x y : List Terminal) → ends_atom x ≡ true → ends_atom y ≡ true → words_of_atom a ++ x ≡ words_of_atom b ++ y → (a ≡ b) × (x ≡ y)
   one_atom (parens o c m) (parens p d n) x y h k e =
       let first : o ≡ p = cc (e) in
       let (inner, after) = one_expr c d (t_mark Close m ∷ x) (t_mark Close n ∷ y) refl refl

@@ -3,16 +3,21 @@ use Rattle.std.proofs.Common.{◌≡◌, ℕ, ◌+◌, ◌≤◌, List, [], ◌�
 use Rattle.sql_lex.specs.declared.tokens.Token.{Token}
 use Rattle.sql_grammar.specs.Terminals.{Terminal, t_key, t_mark, t_name, t_number, t_quoted, t_semicolon, Ident, Said, free}
 use Rattle.sql_grammar.specs.declared.class.Word.TheVariants.{Is}
+use Rattle.sql_grammar.specs.declared.class.Free.TheVariants.{Statistics}
 use Rattle.sql_grammar.specs.declared.class.Symbol.TheVariants.{Close, Dot}
 use Rattle.sql_grammar.specs.declared.table.Item.{Item}
-use Rattle.sql_grammar.specs.declared.table.Item.TheVariants.{Keyword, Sign, FreeWord, Label, Digits, QuotedText, Whole, Ends, Stop, Query, Nullness, MoreColumns, Result, MoreResults, AfterResult, StarOrLabel, MaybeAlias, Negation, MoreAnds, MoreOrs, Closes, NotEnds, AfterName, AfterColumn, AfterIs, AfterLiteral, AfterTruth, Side, AfterQualifier}
-use Rattle.sql_grammar.specs.Syntax.{Key, Mark, Col, Constant, Lit, constant, Operand, Ors, Ands, Neg, Atom, Nulls, ColDef, Output, Alias, Select, Ending, Statement}
-use Rattle.sql_grammar.specs.Words.{words_of, words_of_col, words_of_lit, words_of_operand, words_of_ors, words_of_ands, words_of_neg, words_of_atom, words_of_nulls, words_of_columns, words_of_output, words_of_outputs, words_of_alias, words_of_select, words_of_ending, levels_of, levels_of_ors, levels_of_ands, levels_of_neg, levels_of_atom}
+use Rattle.sql_grammar.specs.declared.table.Item.TheVariants.{Keyword, Sign, FreeWord, Label, Digits, QuotedText, Whole, Ends, Stop, Query, Nullness, MoreColumns, Result, MoreResults, AfterResult, StarOrLabel, MaybeAlias, MaybeWhere, Figures, MaybeCommon, MoreShares, MaybeHistogram, MoreBounds, Literal, Negation, MoreAnds, MoreOrs, Closes, NotEnds, AfterName, AfterColumn, AfterIs, AfterLiteral, AfterTruth, Side, AfterQualifier}
+use Rattle.sql_grammar.specs.Syntax.{Key, Mark, Col, Constant, Lit, constant, Operand, Ors, Ands, Neg, Atom, Nulls, ColDef, Output, Alias, Where, Select, Share, Common, Histogram, Ending, Statement}
+use Rattle.sql_grammar.specs.Words.{words_of, words_of_col, words_of_lit, words_of_operand, words_of_ors, words_of_ands, words_of_neg, words_of_atom, words_of_nulls, words_of_columns, words_of_output, words_of_outputs, words_of_alias, words_of_where, words_of_select, words_of_common, words_of_shares, words_of_histogram, words_of_bounds, words_of_ending, levels_of, levels_of_where, levels_of_select, levels_of_ors, levels_of_ands, levels_of_neg, levels_of_atom}
 use Rattle.sql_grammar.specs.Machine.{depth_of}
 
 -- an atom that begins with `front` and goes on so; it opens no level
 abbrev pub Atom_after : List Terminal → List Terminal → Type 0
 Atom_after front ts = (a : Atom) × (words_of_atom a ≡ front ++ ts) × (levels_of_atom a ≡ 0)
+
+-- a STATISTICS that begins so after its table's name; it has no expression
+abbrev pub Statement_after : List Terminal → Type 0
+Statement_after ts = (k : Token) (n : Ident) (e : Ending) → (x : Statement) × (words_of x ≡ t_name (free Statistics k) ∷ t_name n ∷ (ts ++ words_of_ending e)) × (levels_of x ≡ 0)
 
 -- what an item below which `depth` levels are open stands for
 abbrev pub Part : ℕ → ℕ → Item → Type 0
@@ -25,7 +30,7 @@ Part limit depth QuotedText = Said
 Part limit depth Whole = (x : Statement) × (levels_of x + depth ≤ limit)
 Part limit depth Ends = Ending
 Part limit depth Stop = Token
-Part limit depth Query = Select
+Part limit depth Query = (x : Select) × (levels_of_select x + depth ≤ limit)
 Part limit depth Nullness = Nulls
 Part limit depth MoreColumns = List (Mark × ColDef) × Mark
 Part limit depth Negation = (x : Neg) × (levels_of_neg x + depth ≤ limit)
@@ -45,6 +50,13 @@ Part limit depth MoreResults = List (Mark × Output)
 Part limit depth AfterResult = (ts : List Terminal) × ((n : Ident) → (o : Output) × (words_of_output o ≡ t_name n ∷ ts))
 Part limit depth StarOrLabel = (ts : List Terminal) × ((n : Ident) (d : Mark) → (o : Output) × (words_of_output o ≡ t_name n ∷ t_mark Dot d ∷ ts))
 Part limit depth MaybeAlias = Alias
+Part limit depth MaybeWhere = (x : Where) × (levels_of_where x + depth ≤ limit)
+Part limit depth Figures = (ts : List Terminal) × Statement_after ts
+Part limit depth MaybeCommon = Common
+Part limit depth MoreShares = List (Mark × Share) × Mark
+Part limit depth MaybeHistogram = Histogram
+Part limit depth MoreBounds = List (Mark × Lit) × Mark
+Part limit depth Literal = Lit
 
 -- its words
 abbrev pub words_of_part : (limit depth : ℕ) (i : Item) → Part limit depth i → List Terminal
@@ -57,7 +69,7 @@ words_of_part limit depth QuotedText q = t_quoted q ∷ []
 words_of_part limit depth Whole p = words_of p.0
 words_of_part limit depth Ends p = words_of_ending p
 words_of_part limit depth Stop t = t_semicolon t ∷ []
-words_of_part limit depth Query p = words_of_select p
+words_of_part limit depth Query p = words_of_select p.0
 words_of_part limit depth Nullness p = words_of_nulls p
 words_of_part limit depth MoreColumns p = words_of_columns p.0 ++ t_mark Close p.1 ∷ []
 words_of_part limit depth Negation p = words_of_neg p.0
@@ -77,6 +89,13 @@ words_of_part limit depth MoreResults p = words_of_outputs p
 words_of_part limit depth AfterResult p = p.0
 words_of_part limit depth StarOrLabel p = p.0
 words_of_part limit depth MaybeAlias p = words_of_alias p
+words_of_part limit depth MaybeWhere p = words_of_where p.0
+words_of_part limit depth Figures p = p.0
+words_of_part limit depth MaybeCommon p = words_of_common p
+words_of_part limit depth MoreShares p = words_of_shares p.0 ++ t_mark Close p.1 ∷ []
+words_of_part limit depth MaybeHistogram p = words_of_histogram p
+words_of_part limit depth MoreBounds p = words_of_bounds p.0 ++ t_mark Close p.1 ∷ []
+words_of_part limit depth Literal p = words_of_lit p
 
 -- what a stack stands for
 abbrev pub Parts : ℕ → List Item → Type 0

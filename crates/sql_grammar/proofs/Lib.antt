@@ -10,5 +10,7 @@ pub mod Walked
 pub mod Spellings
 pub mod LimitLaws
 pub mod StatementWords
+pub mod ListLemmas
+pub mod StatisticsLemmas
 pub mod Trees
 pub mod ExprTrees

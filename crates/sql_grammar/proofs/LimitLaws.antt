@@ -1,18 +1,23 @@
 -- Which limits a terminal can be past by itself.
-use Rattle.std.proofs.Common.{◌≡◌, ℕ, Bool, true, false, List, [], ◌∷◌, length, Option, Some, None, refl, sym, ap, ◌∙◌, subst, cond, nat_eq, nat_le}
+use Rattle.std.proofs.Common.{◌≡◌, ℕ, Bool, true, false, ◌<◌, List, [], ◌∷◌, length, map, Option, Some, None, refl, sym, ap, ◌∙◌, subst, cond, nat_eq, nat_le}
 use Rattle.std.specs.List.{find}
 use Rattle.std.specs.Str.{bytes_eq}
+use Rattle.std.specs.Char.{to_ascii_lowercase}
+use Rattle.std.proofs.lemmas.Bool.{lt-leb}
+use Rattle.std.proofs.lemmas.List.{length-map}
 use Rattle.std.proofs.lemmas.Slice.Eq.{bytes_eq-Decides}
 use Rattle.pg_base.specs.declared.faults.Limit.{Limit}
 use Rattle.pg_base.specs.declared.faults.Limit.TheVariants.{Text, Name, Depth}
 use Rattle.pg_base.specs.declared.limits.TheConstants.{MOST_LEVELS, MOST_NAME_BYTES, MOST_TEXT_BYTES}
 use Rattle.sql_lex.specs.declared.tokens.Token.{Token}
+use Rattle.sql_lex.specs.declared.tokens.Kind.{Kind}
+use Rattle.sql_lex.specs.declared.tokens.Kind.TheVariants.{Word as WordKind}
 use Rattle.sql_grammar.specs.declared.table.Item.{Item}
 use Rattle.sql_grammar.specs.declared.class.Word.{Word}
 use Rattle.sql_grammar.specs.declared.class.Word.TheVariants.{And, As, Asc, Create, Cross, Desc, False, From, Group, Inner, Is, Join, Limit as LimitWord, Not, Null, Offset, On, Or, Order, Select, Table, True, Using, Where, With}
 use Rattle.sql_grammar.specs.declared.class.Free.{Free}
 use Rattle.sql_grammar.specs.Terminals.{Terminal, t_name, t_quoted, class_of}
-use Rattle.sql_grammar.specs.Reading.{spelling_of, free_spelling_of, reserved_words, free_words, reserved_of, free_of, ident_of, word_terminal, symbol_terminal}
+use Rattle.sql_grammar.specs.Reading.{spelling_of, free_spelling_of, reserved_words, free_words, reserved_of, free_of, ident_of, terminal_by, word_terminal, symbol_terminal}
 use Rattle.sql_grammar.specs.Machine.{step_of}
 use Rattle.sql_grammar.specs.Faults.{bytes_of, limit_of}
 use Rattle.sql_grammar.specs.Walk.{StopsBy}
@@ -84,6 +89,12 @@ word-by None small t is = ap (λ bs. cond (nat_le (length bs) MOST_NAME_BYTES) N
 -- a word is past a limit where it is longer than a name may be
 pub word-limit : (small : List ℕ) (t : Token) → limit_of (word_terminal (reserved_of small) small t) ≡ cond (nat_le (length small) MOST_NAME_BYTES) None (Some Name)
 word-limit small t = word-by (reserved_of small) small t refl
+
+-- a word of more bytes than a name may have is past that limit
+pub long-word : (kind : Kind) (bytes : List ℕ) (t : Token) → kind ≡ WordKind → MOST_NAME_BYTES < length bytes → limit_of (terminal_by kind bytes t) ≡ Some Name
+long-word kind bytes t is long =
+    let over : nat_le (length (map to_ascii_lowercase bytes)) MOST_NAME_BYTES ≡ false = ap (λ n. nat_le n MOST_NAME_BYTES) (length-map bytes to_ascii_lowercase) ∙ lt-leb _ _ long in
+    ap (λ k. limit_of (terminal_by k bytes t)) is ∙ (word-limit (map to_ascii_lowercase bytes) t ∙ ap (λ b. cond b None (Some Name)) over)
 
 either : (b : Bool) (x y : Terminal) → limit_of x ≡ None → limit_of y ≡ None → limit_of (cond b x y) ≡ None
 either true x y h k = h

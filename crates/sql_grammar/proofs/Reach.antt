@@ -159,16 +159,16 @@ pub statements : Begins (Whole ∷ []) IsStatement
 statements = record {
   flat = refl;
   whole = λ limit ts ((x, low), _) is. (x, omega (arith, low), sym (append-nil (words_of x)) ∙ is);
-  taken = λ limit ts (x, low, is). subst (λ l. takes_all limit l (Whole ∷ []) ≡ true) is (statement limit x);
+  taken = λ limit ts (x, low, is). subst (λ l. takes_all limit l (Whole ∷ []) ≡ true) is (statement limit x low);
   more = λ limit more ts le (x, low, is). (x, omega (arith, le, low), is);
 }
 
 pub selects : Begins (Query ∷ []) IsSelect
 selects = record {
   flat = refl;
-  whole = λ limit ts (q, _) is. (q, sym (append-nil (words_of_select q)) ∙ is);
-  taken = λ limit ts (q, is). subst (λ l. takes_all limit l (Query ∷ []) ≡ true) is (selected_alone limit q);
-  more = λ limit more ts le d. d;
+  whole = λ limit ts ((q, low), _) is. (q, omega (arith, low), sym (append-nil (words_of_select q)) ∙ is);
+  taken = λ limit ts (q, low, is). subst (λ l. takes_all limit l (Query ∷ []) ≡ true) is (selected_alone limit q low);
+  more = λ limit more ts le (q, low, is). (q, omega (arith, le, low), is);
 }
 
 pub exprs : Begins (Negation ∷ MoreAnds ∷ MoreOrs ∷ []) IsExpr

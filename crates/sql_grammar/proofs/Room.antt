@@ -2,17 +2,17 @@
 use Rattle.std.proofs.Common.{◌≡◌, ℕ, ◌+◌, ◌*◌, ◌≤◌, ◌<◌, Bool, true, false, ◌&&◌, not, List, [], ◌∷◌, ◌++◌, length, Some, None, refl, sym, ap, ◌∙◌, subst, arith, length-append, cond, nat_le, nat_eq}
 use Rattle.std.proofs.lemmas.Bool.{leb-true, le-leb, lt-leb, and_parts}
 use Rattle.pg_base.specs.declared.limits.TheConstants.{MOST_LEVELS}
-use Rattle.sql_grammar.specs.declared.class.Free.TheVariants.{Copy}
+use Rattle.sql_grammar.specs.declared.class.Free.TheVariants.{Common, Copy, Histogram, Rows, Statistics}
 use Rattle.sql_grammar.specs.declared.class.Free.{Free}
 use Rattle.sql_grammar.specs.declared.class.Word.{Word}
-use Rattle.sql_grammar.specs.declared.class.Word.TheVariants.{And, As, Create, Is, Not, Or, Select}
+use Rattle.sql_grammar.specs.declared.class.Word.TheVariants.{And, As, Create, Is, Not, Or, Select, Where}
 use Rattle.sql_grammar.specs.declared.class.Symbol.{Symbol}
 use Rattle.sql_grammar.specs.declared.class.Symbol.TheVariants.{Open, Close, Comma, Dot, Minus, Star}
 use Rattle.sql_grammar.specs.declared.class.Class.{Class}
 use Rattle.sql_grammar.specs.declared.class.Class.TheVariants.{Key, Mark, Name, Number, Quoted, Operator, Semicolon, End}
 use Rattle.sql_grammar.specs.declared.table.Item.{Item}
-use Rattle.sql_grammar.specs.declared.table.Item.TheVariants.{Keyword, Sign, FreeWord, Label, Digits, QuotedText, Whole, Ends, Stop, Query, Nullness, MoreColumns, Result, MoreResults, AfterResult, StarOrLabel, MaybeAlias, Negation, MoreAnds, MoreOrs, Closes, NotEnds, AfterName, AfterColumn, AfterIs, AfterLiteral, AfterTruth, Side, AfterQualifier}
-use Rattle.sql_grammar.specs.Table.{word_code, sign_code, free_code, Expansion, takes_of, is_optional, takes_end, is_ending, room_of, statement_takes, ends_takes, stop_takes, query_takes, nullness_takes, columns_takes, output_takes, outputs_takes, after_output_takes, star_takes, alias_takes, negation_takes, ands_takes, ors_takes, literal_takes, column_takes, name_takes, side_takes, qualifier_takes, keyword_takes, sign_takes, free_takes, label_takes, digits_takes, quoted_takes}
+use Rattle.sql_grammar.specs.declared.table.Item.TheVariants.{Keyword, Sign, FreeWord, Label, Digits, QuotedText, Whole, Ends, Stop, Query, Nullness, MoreColumns, Result, MoreResults, AfterResult, StarOrLabel, MaybeAlias, MaybeWhere, Figures, MaybeCommon, MoreShares, MaybeHistogram, MoreBounds, Literal, Negation, MoreAnds, MoreOrs, Closes, NotEnds, AfterName, AfterColumn, AfterIs, AfterLiteral, AfterTruth, Side, AfterQualifier}
+use Rattle.sql_grammar.specs.Table.{word_code, sign_code, free_code, Expansion, takes_of, is_optional, takes_end, is_ending, room_of, statement_takes, ends_takes, stop_takes, query_takes, nullness_takes, columns_takes, output_takes, outputs_takes, after_output_takes, star_takes, alias_takes, where_takes, figures_takes, common_takes, shares_takes, histogram_takes, bounds_takes, lit_takes, negation_takes, ands_takes, ors_takes, literal_takes, column_takes, name_takes, side_takes, qualifier_takes, keyword_takes, sign_takes, free_takes, label_takes, digits_takes, quoted_takes}
 use Rattle.sql_grammar.specs.Machine.{depth_of, opens, pushed, by_row, step_of, Fits, is_empty, is_closed}
 use Rattle.sql_grammar.specs.Steps.{Taken}
 use Rattle.sql_grammar.proofs.Sound.{flat-depth}
@@ -50,6 +50,7 @@ statement-room : (t : Class) → row_test Whole t (statement_takes t) ≡ true
 statement-room (Key Create) = refl
 statement-room (Key Select) = refl
 statement-room (Name (Some Copy)) = refl
+statement-room (Name (Some Statistics)) = refl
 statement-room Semicolon = refl
 statement-room End = refl
 statement-room _ = refl
@@ -125,6 +126,36 @@ alias-room : (t : Class) → row_test MaybeAlias t (alias_takes t) ≡ true
 alias-room (Key As) = refl
 alias-room _ = refl
 
+where-room : (t : Class) → row_test MaybeWhere t (where_takes t) ≡ true
+where-room (Key Where) = refl
+where-room _ = refl
+
+figures-room : (t : Class) → row_test Figures t (figures_takes t) ≡ true
+figures-room (Name (Some Rows)) = refl
+figures-room (Mark Dot) = refl
+figures-room _ = refl
+
+common-room : (t : Class) → row_test MaybeCommon t (common_takes t) ≡ true
+common-room (Name (Some Common)) = refl
+common-room _ = refl
+
+shares-room : (t : Class) → row_test MoreShares t (shares_takes t) ≡ true
+shares-room (Mark Comma) = refl
+shares-room _ = refl
+
+histogram-room : (t : Class) → row_test MaybeHistogram t (histogram_takes t) ≡ true
+histogram-room (Name (Some Histogram)) = refl
+histogram-room _ = refl
+
+bounds-room : (t : Class) → row_test MoreBounds t (bounds_takes t) ≡ true
+bounds-room (Mark Comma) = refl
+bounds-room _ = refl
+
+lit-room : (t : Class) → row_test Literal t (lit_takes t) ≡ true
+lit-room (Mark Minus) = refl
+lit-room (Key Not) = refl
+lit-room _ = refl
+
 ends-room : (t : Class) → row_test Ends t (ends_takes t) ≡ true
 ends-room Semicolon = refl
 ends-room End = refl
@@ -180,6 +211,13 @@ row-room MoreResults t = outputs-room t
 row-room AfterResult t = after-output-room t
 row-room StarOrLabel t = star-room t
 row-room MaybeAlias t = alias-room t
+row-room MaybeWhere t = where-room t
+row-room Figures t = figures-room t
+row-room MaybeCommon t = common-room t
+row-room MoreShares t = shares-room t
+row-room MaybeHistogram t = histogram-room t
+row-room MoreBounds t = bounds-room t
+row-room Literal t = lit-room t
 
 room-some : (i : Item) → 1 ≤ room_of i
 room-some Whole = omega arith

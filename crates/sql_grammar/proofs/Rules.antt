@@ -1,20 +1,20 @@
 -- Each row of the table is a rule of the grammar: from parts for what stands for an item after a token, a part for the item.
-use Rattle.std.proofs.Common.{◌≡◌, ℕ, ◌≤◌, Bool, true, false, List, [], ◌∷◌, ◌++◌, Some, None, refl, sym, ap, arith, append_assoc, append-nil, cond, nat_eq}
+use Rattle.std.proofs.Common.{◌≡◌, ℕ, ◌≤◌, Bool, true, false, List, [], ◌∷◌, ◌++◌, Some, None, refl, sym, ap, ◌∙◌, arith, append_assoc, append-nil, cond, nat_eq}
 use Rattle.sql_lex.specs.declared.tokens.Token.{Token}
 use Rattle.sql_lex.specs.declared.tokens.Kind.TheVariants.{End}
 use Rattle.sql_grammar.specs.Terminals.{Terminal, Said, t_key, t_mark, t_name, t_number, t_quoted, t_operator, t_semicolon, t_end, free, other, class_of}
-use Rattle.sql_grammar.specs.declared.class.Free.TheVariants.{Copy}
+use Rattle.sql_grammar.specs.declared.class.Free.TheVariants.{Common, Copy, Distinct, Histogram, Nulls, Pages, Rows, Statistics}
 use Rattle.sql_grammar.specs.declared.class.Free.{Free as FreeT}
 use Rattle.sql_grammar.specs.declared.class.Word.{Word}
-use Rattle.sql_grammar.specs.declared.class.Word.TheVariants.{And, As, Create, False, Is, Not, Null, Or, Select, True}
+use Rattle.sql_grammar.specs.declared.class.Word.TheVariants.{And, As, Create, False, Is, Not, Null, Or, Select, True, Where}
 use Rattle.sql_grammar.specs.declared.class.Symbol.{Symbol}
 use Rattle.sql_grammar.specs.declared.class.Symbol.TheVariants.{Open, Close, Comma, Dot, Minus, Star}
 use Rattle.sql_grammar.specs.declared.table.Item.{Item}
-use Rattle.sql_grammar.specs.declared.table.Item.TheVariants.{Keyword, Sign, FreeWord, Label, Digits, QuotedText, Whole, Ends, Stop, Query, Nullness, MoreColumns, Result, MoreResults, AfterResult, StarOrLabel, MaybeAlias, Negation, MoreAnds, MoreOrs, Closes, NotEnds, AfterName, AfterColumn, AfterIs, AfterLiteral, AfterTruth, Side, AfterQualifier}
-use Rattle.sql_grammar.specs.Syntax.{bare, qualified, yes, no, unknown, number, negative, quoted, constant, column, literal, either_of, no_or, or_conj, both_of, no_and, and_neg, negated, plain, parens, compare, is_null, is_not_null, column_alone, constant_alone, unwritten, not_null, nullable, coldef, every, every_of, one, no_alias, bare_alias, as_alias, select_from, semicolon, text_end, empty, create_table, query, copy}
-use Rattle.sql_grammar.specs.Words.{words_of_operand}
+use Rattle.sql_grammar.specs.declared.table.Item.TheVariants.{Keyword, Sign, FreeWord, Label, Digits, QuotedText, Whole, Ends, Stop, Query, Nullness, MoreColumns, Result, MoreResults, AfterResult, StarOrLabel, MaybeAlias, MaybeWhere, Figures, MaybeCommon, MoreShares, MaybeHistogram, MoreBounds, Literal, Negation, MoreAnds, MoreOrs, Closes, NotEnds, AfterName, AfterColumn, AfterIs, AfterLiteral, AfterTruth, Side, AfterQualifier}
+use Rattle.sql_grammar.specs.Syntax.{bare, qualified, yes, no, unknown, number, negative, quoted, constant, column, literal, either_of, no_or, or_conj, both_of, no_and, and_neg, negated, plain, parens, compare, is_null, is_not_null, column_alone, constant_alone, unwritten, not_null, nullable, coldef, every, every_of, one, no_alias, bare_alias, as_alias, no_where, where_expr, select_from, share, no_common, common, no_histogram, histogram, semicolon, text_end, empty, create_table, query, copy, sizes, column_statistics}
+use Rattle.sql_grammar.specs.Words.{words_of_operand, words_of_ending, words_of_common, words_of_histogram}
 use Rattle.sql_grammar.proofs.Codes.{same_word, same_sign, same_free}
-use Rattle.sql_grammar.specs.Table.{word_code, sign_code, free_code, Expansion, takes_of, is_optional, statement_takes, ends_takes, stop_takes, query_takes, nullness_takes, columns_takes, output_takes, outputs_takes, after_output_takes, star_takes, alias_takes, negation_takes, ands_takes, ors_takes, literal_takes, column_takes, name_takes, side_takes, qualifier_takes, keyword_takes, sign_takes, free_takes, label_takes, digits_takes, quoted_takes}
+use Rattle.sql_grammar.specs.Table.{word_code, sign_code, free_code, Expansion, takes_of, is_optional, statement_takes, ends_takes, stop_takes, query_takes, nullness_takes, columns_takes, output_takes, outputs_takes, after_output_takes, star_takes, alias_takes, where_takes, figures_takes, common_takes, shares_takes, histogram_takes, bounds_takes, lit_takes, negation_takes, ands_takes, ors_takes, literal_takes, column_takes, name_takes, side_takes, qualifier_takes, keyword_takes, sign_takes, free_takes, label_takes, digits_takes, quoted_takes}
 use Rattle.sql_grammar.specs.Machine.{depth_of}
 use Rattle.sql_grammar.proofs.Forest.{Atom_after, Part, Parts, words_of_parts}
 
@@ -33,9 +33,12 @@ module _ (limit : ℕ) (s : List Item) (shallow : depth_of s ≤ limit) where
 
   statement_rule : (t : Terminal) → Rule Whole t (statement_takes (class_of t))
   statement_rule (t_key Create k) = λ (t, (n, (o, (c, (y, (nulls, ((cs, m), (e, f)))))))). (((create_table k t n o (coldef c y nulls) cs m e, omega arith), f), simp append_assoc)
-  statement_rule (t_key Select k) = λ (o, (os, (from, (n, (a, (e, f)))))). (((query (select_from k o os from n a) e, omega arith), f), simp append_assoc)
+  statement_rule (t_key Select k) = λ (o, (os, (from, (n, (a, ((w, low), (e, f))))))). (((query (select_from k o os from n a w) e, omega arith), f), simp append_assoc)
   statement_rule (t_name (free Copy k)) = λ (n, (from_at, (stdin, (with_at, (open_at, (format, (csv, (comma, (null, (text, (close_at, (stop, f)))))))))))).
       (((copy (record { copy = k; from_at = from_at; stdin = stdin; with_at = with_at; open_at = open_at; format = format; csv = csv; comma = comma; null = null; close_at = close_at; stop = stop }) n text, omega arith), f), refl)
+  statement_rule (t_name (free Statistics k)) = λ (n, ((ts, after'), (e, f))).
+      let (x, is, flat) = after' k n e in
+      (((x, omega (arith, flat)), f), ap (λ l. l ++ words_of_parts limit s f) is ∙ ap (λ l. t_name (free Statistics k) ∷ t_name n ∷ l) (append_assoc ts (words_of_ending e) (words_of_parts limit s f)))
   statement_rule (t_semicolon t) = λ f. (((empty (semicolon t), omega arith), f), refl)
   statement_rule (t_end t) = λ f. (((empty (text_end t), omega arith), f), refl)
   statement_rule _ = tt
@@ -50,7 +53,7 @@ module _ (limit : ℕ) (s : List Item) (shallow : depth_of s ≤ limit) where
   stop_rule _ = tt
 
   query_rule : (t : Terminal) → Rule Query t (query_takes (class_of t))
-  query_rule (t_key Select k) = λ (o, (os, (from, (n, (a, f))))). ((select_from k o os from n a, f), simp append_assoc)
+  query_rule (t_key Select k) = λ (o, (os, (from, (n, (a, ((w, low), f)))))). (((select_from k o os from n a w, low), f), simp append_assoc)
   query_rule _ = tt
 
   output_rule : (t : Terminal) → Rule Result t (output_takes (class_of t))
@@ -75,6 +78,60 @@ module _ (limit : ℕ) (s : List Item) (shallow : depth_of s ≤ limit) where
   alias_rule (t_key As k) = λ (n, f). ((as_alias k n, f), refl)
   alias_rule (t_name n) = λ f. ((bare_alias n, f), refl)
   alias_rule _ = tt
+
+  where_rule : (t : Terminal) → Rule MaybeWhere t (where_takes (class_of t))
+  where_rule (t_key Where k) = λ ((n, en), ((ns, ens), ((os, eos), f))). (((where_expr k (either_of (both_of n ns) os), omega arith), f), simp append_assoc)
+  where_rule _ = tt
+
+  figures_rule : (t : Terminal) → Rule Figures t (figures_takes (class_of t))
+  figures_rule (t_name (free Rows k)) = λ (r, (pages, (p, f))). (
+    (
+      (
+        t_name (free Rows k) ∷ t_number r ∷ t_name (free Pages pages) ∷ t_number p ∷ [],
+        λ i n e. (sizes (record { statistics = i; rows = k; pages = pages }) n r p e, refl, refl),
+      ),
+      f,
+    ),
+    refl,
+  )
+  figures_rule (t_mark Dot m) = λ (c, (distinct, (d, (nulls, (z, (v, (h, f))))))). (
+    (
+      (
+        t_mark Dot m ∷ t_name c ∷ t_name (free Distinct distinct) ∷ t_number d ∷ t_name (free Nulls nulls) ∷ t_number z ∷ (words_of_common v ++ words_of_histogram h),
+        λ i n e. (column_statistics (record { statistics = i; dot = m; distinct = distinct; nulls = nulls }) n c d z v h e, simp append_assoc, refl),
+      ),
+      f,
+    ),
+    simp append_assoc,
+  )
+  figures_rule _ = tt
+
+  common_rule : (t : Terminal) → Rule MaybeCommon t (common_takes (class_of t))
+  common_rule (t_name (free Common k)) = λ (o, (l, (n, ((ss, m), f)))). ((common k o (share l n) ss m, f), simp append_assoc)
+  common_rule _ = tt
+
+  shares_rule : (t : Terminal) → Rule MoreShares t (shares_takes (class_of t))
+  shares_rule (t_mark Comma m) = λ (l, (n, ((ss, close), f))). ((((m, share l n) ∷ ss, close), f), simp append_assoc)
+  shares_rule (t_mark Close m) = λ f. ((([], m), f), refl)
+  shares_rule _ = tt
+
+  histogram_rule : (t : Terminal) → Rule MaybeHistogram t (histogram_takes (class_of t))
+  histogram_rule (t_name (free Histogram k)) = λ (o, (l, ((ls, m), f))). ((histogram k o l ls m, f), simp append_assoc)
+  histogram_rule _ = tt
+
+  bounds_rule : (t : Terminal) → Rule MoreBounds t (bounds_takes (class_of t))
+  bounds_rule (t_mark Comma m) = λ (l, ((ls, close), f)). ((((m, l) ∷ ls, close), f), simp append_assoc)
+  bounds_rule (t_mark Close m) = λ f. ((([], m), f), refl)
+  bounds_rule _ = tt
+
+  lit_rule : (t : Terminal) → Rule Literal t (lit_takes (class_of t))
+  lit_rule (t_number n) = λ f. ((number n, f), refl)
+  lit_rule (t_quoted q) = λ f. ((quoted q, f), refl)
+  lit_rule (t_mark Minus m) = λ (n, f). ((negative m n, f), refl)
+  lit_rule (t_key True k) = λ f. ((constant yes k, f), refl)
+  lit_rule (t_key False k) = λ f. ((constant no k, f), refl)
+  lit_rule (t_key Null k) = λ f. ((constant unknown k, f), refl)
+  lit_rule _ = tt
 
   nullness_rule : (t : Terminal) → Rule Nullness t (nullness_takes (class_of t))
   nullness_rule (t_key Not n) = λ (k, f). ((not_null n k, f), refl)
@@ -219,6 +276,13 @@ module _ (limit : ℕ) (s : List Item) (shallow : depth_of s ≤ limit) where
   rule AfterResult t = after_output_rule t
   rule StarOrLabel t = star_rule t
   rule MaybeAlias t = alias_rule t
+  rule MaybeWhere t = where_rule t
+  rule Figures t = figures_rule t
+  rule MaybeCommon t = common_rule t
+  rule MoreShares t = shares_rule t
+  rule MaybeHistogram t = histogram_rule t
+  rule MoreBounds t = bounds_rule t
+  rule Literal t = lit_rule t
 
   -- an optional item stands for nothing
   pub nothing : (i : Item) → is_optional i ≡ true → (f : Parts limit s) → (g : Parts limit (i ∷ s)) × (words_of_parts limit (i ∷ s) g ≡ words_of_parts limit s f)
@@ -233,6 +297,9 @@ module _ (limit : ℕ) (s : List Item) (shallow : depth_of s ≤ limit) where
   nothing MoreResults o f = (([], f), refl)
   nothing AfterResult o f = ((([], λ n. (one (bare n), refl)), f), refl)
   nothing MaybeAlias o f = ((no_alias, f), refl)
+  nothing MaybeWhere o f = (((no_where, omega arith), f), refl)
+  nothing MaybeCommon o f = ((no_common, f), refl)
+  nothing MaybeHistogram o f = ((no_histogram, f), refl)
   nothing _ o f = absurd (cc)
 
   -- every item stands for something
@@ -246,7 +313,7 @@ module _ (limit : ℕ) (s : List Item) (shallow : depth_of s ≤ limit) where
   something Whole = (empty (semicolon no_place), omega arith)
   something Ends = semicolon no_place
   something Stop = no_place
-  something Query = select_from no_place (every no_place) [] no_place (other (97 ∷ []) no_place) no_alias
+  something Query = (select_from no_place (every no_place) [] no_place (other (97 ∷ []) no_place) no_alias no_where, omega arith)
   something Nullness = unwritten
   something MoreColumns = ([], no_place)
   something Negation = (plain (constant_alone yes no_place), omega arith)
@@ -266,3 +333,13 @@ module _ (limit : ℕ) (s : List Item) (shallow : depth_of s ≤ limit) where
   something AfterResult = ([], λ n. (one (bare n), refl))
   something StarOrLabel = (t_mark Star no_place ∷ [], λ n d. (every_of n d no_place, refl))
   something MaybeAlias = no_alias
+  something MaybeWhere = (no_where, omega arith)
+  something Figures = (
+    t_name (free Rows no_place) ∷ t_number (saying (48 ∷ [])) ∷ t_name (free Pages no_place) ∷ t_number (saying (48 ∷ [])) ∷ [],
+    λ i n e. (sizes (record { statistics = i; rows = no_place; pages = no_place }) n (saying (48 ∷ [])) (saying (48 ∷ [])) e, refl, refl),
+  )
+  something MaybeCommon = no_common
+  something MoreShares = ([], no_place)
+  something MaybeHistogram = no_histogram
+  something MoreBounds = ([], no_place)
+  something Literal = number (saying (48 ∷ []))

@@ -12,7 +12,7 @@ use Rattle.sql_lex.specs.declared.tokens.Token.{Token}
 use Rattle.sql_grammar.specs.Terminals.{Ident, free, other, Terminal, t_name, t_quoted}
 use Rattle.sql_grammar.specs.Reading.{free_spelling_of, terminal_of}
 use Rattle.sql_grammar.specs.Syntax.{Statement, Select, Expr}
-use Rattle.sql_grammar.specs.Words.{words_of, words_of_select, words_of_expr, levels_of, levels_of_expr}
+use Rattle.sql_grammar.specs.Words.{words_of, words_of_select, words_of_expr, levels_of, levels_of_select, levels_of_expr}
 
 -- lists of terminals, by the levels that their expressions may have
 abbrev pub Production : Type 1
@@ -24,7 +24,7 @@ IsStatement limit ts = (x : Statement) × (levels_of x ≤ limit) × (words_of x
 
 -- a SELECT
 abbrev pub IsSelect : Production
-IsSelect limit ts = (q : Select) × (words_of_select q ≡ ts)
+IsSelect limit ts = (q : Select) × (levels_of_select q ≤ limit) × (words_of_select q ≡ ts)
 
 -- an expression
 abbrev pub IsExpr : Production

@@ -90,9 +90,28 @@ pub data Alias : Type 0 where
   bare_alias : Ident → Alias
   as_alias : Key → Ident → Alias
 
--- select = SELECT item { "," item } FROM from
+-- [WHERE expr]
+pub data Where : Type 0 where
+  no_where : Where
+  where_expr : Key → Expr → Where
+
+-- select = SELECT item { "," item } FROM from [WHERE expr]
 pub data Select : Type 0 where
-  select_from : Key → Output → List (Mark × Output) → Key → Ident → Alias → Select
+  select_from : Key → Output → List (Mark × Output) → Key → Ident → Alias → Where → Select
+
+-- a common value and its share = lit number
+pub data Share : Type 0 where
+  share : Lit → Said → Share
+
+-- [COMMON "(" lit number { "," lit number } ")"]
+pub data Common : Type 0 where
+  no_common : Common
+  common : Token → Mark → Share → List (Mark × Share) → Mark → Common
+
+-- [HISTOGRAM "(" lit { "," lit } ")"]
+pub data Histogram : Type 0 where
+  no_histogram : Histogram
+  histogram : Token → Mark → Lit → List (Mark × Lit) → Mark → Histogram
 
 -- a statement's end: ";" or the text's end
 pub data Ending : Type 0 where
@@ -113,10 +132,28 @@ pub record CopyWords : Type 0 where
   pub close_at : Mark
   pub stop : Token
 
+-- the words of STATISTICS of a table's sizes, beside its name and the two numbers
+pub record SizesWords : Type 0 where
+  pub statistics : Token
+  pub rows : Token
+  pub pages : Token
+
+-- the words of STATISTICS of a column, beside the two names, the two numbers and the lists
+pub record ColumnWords : Type 0 where
+  pub statistics : Token
+  pub dot : Mark
+  pub distinct : Token
+  pub nulls : Token
+
 -- statement = [CREATE TABLE name "(" coldef { "," coldef } ")" | select] end
 --           | COPY name FROM STDIN WITH "(" FORMAT CSV "," NULL quoted ")" ";"
+--           | STATISTICS name ROWS number PAGES number end
+--           | STATISTICS name "." name DISTINCT number NULLS number [COMMON "(" lit number { "," lit number } ")"]
+--             [HISTOGRAM "(" lit { "," lit } ")"] end
 pub data Statement : Type 0 where
   empty : Ending → Statement
   create_table : Key → Key → Ident → Mark → ColDef → List (Mark × ColDef) → Mark → Ending → Statement
   query : Select → Ending → Statement
   copy : CopyWords → Ident → Said → Statement
+  sizes : SizesWords → Ident → Said → Said → Ending → Statement
+  column_statistics : ColumnWords → Ident → Ident → Said → Said → Common → Histogram → Ending → Statement

@@ -1,6 +1,6 @@
 -- The table of the walk: the items that stand in an item's place after a token (own).
 use Rattle.std.specs.Prelude.{ℕ, Bool, true, false, List, [], ◌∷◌, Option, Some, None, cond, nat_eq}
-use Rattle.sql_grammar.specs.declared.class.Free.TheVariants.{Copy, Csv, Format, Stdin}
+use Rattle.sql_grammar.specs.declared.class.Free.TheVariants.{Common, Copy, Csv, Distinct, Format, Histogram, Nulls, Pages, Rows, Statistics, Stdin}
 use Rattle.sql_grammar.specs.declared.class.Free.{Free}
 use Rattle.sql_grammar.specs.declared.class.Word.{Word}
 use Rattle.sql_grammar.specs.declared.class.Word.TheVariants.{And, As, Asc, Create, Cross, Desc, False, From, Group, Inner, Is, Join, Limit, Not, Null, Offset, On, Or, Order, Select, Table, True, Using, Where, With}
@@ -9,7 +9,7 @@ use Rattle.sql_grammar.specs.declared.class.Symbol.TheVariants.{Open, Close, Com
 use Rattle.sql_grammar.specs.declared.class.Class.{Class}
 use Rattle.sql_grammar.specs.declared.class.Class.TheVariants.{Key, Mark, Name, Number, Quoted, Operator, Semicolon, End}
 use Rattle.sql_grammar.specs.declared.table.Item.{Item}
-use Rattle.sql_grammar.specs.declared.table.Item.TheVariants.{Keyword, Sign, FreeWord, Label, Digits, QuotedText, Whole, Ends, Stop, Query, Nullness, MoreColumns, Result, MoreResults, AfterResult, StarOrLabel, MaybeAlias, Negation, MoreAnds, MoreOrs, Closes, NotEnds, AfterName, AfterColumn, AfterIs, AfterLiteral, AfterTruth, Side, AfterQualifier}
+use Rattle.sql_grammar.specs.declared.table.Item.TheVariants.{Keyword, Sign, FreeWord, Label, Digits, QuotedText, Whole, Ends, Stop, Query, Nullness, MoreColumns, Result, MoreResults, AfterResult, StarOrLabel, MaybeAlias, MaybeWhere, Figures, MaybeCommon, MoreShares, MaybeHistogram, MoreBounds, Literal, Negation, MoreAnds, MoreOrs, Closes, NotEnds, AfterName, AfterColumn, AfterIs, AfterLiteral, AfterTruth, Side, AfterQualifier}
 
 -- the items in an item's place; None where the token is not awaited
 abbrev pub Expansion : Type 0
@@ -54,16 +54,24 @@ sign_code Star = 5
 
 -- the number of a word with a place of its own
 abbrev pub free_code : Free → ℕ
-free_code Copy = 0
-free_code Csv = 1
-free_code Format = 2
-free_code Stdin = 3
+free_code Common = 0
+free_code Copy = 1
+free_code Csv = 2
+free_code Distinct = 3
+free_code Format = 4
+free_code Histogram = 5
+free_code Nulls = 6
+free_code Pages = 7
+free_code Rows = 8
+free_code Statistics = 9
+free_code Stdin = 10
 
--- a statement and its end: `CREATE TABLE`, `SELECT`, `COPY`, or nothing before the end
+-- a statement and its end: `CREATE TABLE`, `SELECT`, `COPY`, `STATISTICS`, or nothing before the end
 abbrev pub statement_takes : Class → Expansion
 statement_takes (Key Create) = Some (Keyword Table ∷ Label ∷ Sign Open ∷ Label ∷ Label ∷ Nullness ∷ MoreColumns ∷ Ends ∷ [])
-statement_takes (Key Select) = Some (Result ∷ MoreResults ∷ Keyword From ∷ Label ∷ MaybeAlias ∷ Ends ∷ [])
+statement_takes (Key Select) = Some (Result ∷ MoreResults ∷ Keyword From ∷ Label ∷ MaybeAlias ∷ MaybeWhere ∷ Ends ∷ [])
 statement_takes (Name (Some Copy)) = Some (Label ∷ Keyword From ∷ FreeWord Stdin ∷ Keyword With ∷ Sign Open ∷ FreeWord Format ∷ FreeWord Csv ∷ Sign Comma ∷ Keyword Null ∷ QuotedText ∷ Sign Close ∷ Stop ∷ [])
+statement_takes (Name (Some Statistics)) = Some (Label ∷ Figures ∷ Ends ∷ [])
 statement_takes Semicolon = Some []
 statement_takes End = Some []
 statement_takes _ = None
@@ -81,7 +89,7 @@ stop_takes _ = None
 
 -- a SELECT
 abbrev pub query_takes : Class → Expansion
-query_takes (Key Select) = Some (Result ∷ MoreResults ∷ Keyword From ∷ Label ∷ MaybeAlias ∷ [])
+query_takes (Key Select) = Some (Result ∷ MoreResults ∷ Keyword From ∷ Label ∷ MaybeAlias ∷ MaybeWhere ∷ [])
 query_takes _ = None
 
 -- NULL or NOT NULL
@@ -123,6 +131,49 @@ abbrev pub alias_takes : Class → Expansion
 alias_takes (Key As) = Some (Label ∷ [])
 alias_takes (Name _) = Some []
 alias_takes _ = None
+
+-- a condition
+abbrev pub where_takes : Class → Expansion
+where_takes (Key Where) = Some (Negation ∷ MoreAnds ∷ MoreOrs ∷ [])
+where_takes _ = None
+
+-- what STATISTICS gives, after a table's name
+abbrev pub figures_takes : Class → Expansion
+figures_takes (Name (Some Rows)) = Some (Digits ∷ FreeWord Pages ∷ Digits ∷ [])
+figures_takes (Mark Dot) = Some (Label ∷ FreeWord Distinct ∷ Digits ∷ FreeWord Nulls ∷ Digits ∷ MaybeCommon ∷ MaybeHistogram ∷ [])
+figures_takes _ = None
+
+-- common values with their shares
+abbrev pub common_takes : Class → Expansion
+common_takes (Name (Some Common)) = Some (Sign Open ∷ Literal ∷ Digits ∷ MoreShares ∷ [])
+common_takes _ = None
+
+-- further ones, and the closing parenthesis
+abbrev pub shares_takes : Class → Expansion
+shares_takes (Mark Comma) = Some (Literal ∷ Digits ∷ MoreShares ∷ [])
+shares_takes (Mark Close) = Some []
+shares_takes _ = None
+
+-- the bounds of a histogram
+abbrev pub histogram_takes : Class → Expansion
+histogram_takes (Name (Some Histogram)) = Some (Sign Open ∷ Literal ∷ MoreBounds ∷ [])
+histogram_takes _ = None
+
+-- further ones, and the closing parenthesis
+abbrev pub bounds_takes : Class → Expansion
+bounds_takes (Mark Comma) = Some (Literal ∷ MoreBounds ∷ [])
+bounds_takes (Mark Close) = Some []
+bounds_takes _ = None
+
+-- a literal
+abbrev pub lit_takes : Class → Expansion
+lit_takes (Mark Minus) = Some (Digits ∷ [])
+lit_takes Number = Some []
+lit_takes Quoted = Some []
+lit_takes (Key True) = Some []
+lit_takes (Key False) = Some []
+lit_takes (Key Null) = Some []
+lit_takes _ = None
 
 -- a NOT or an atom
 abbrev pub negation_takes : Class → Expansion
@@ -230,6 +281,13 @@ takes_of MoreResults t = outputs_takes t
 takes_of AfterResult t = after_output_takes t
 takes_of StarOrLabel t = star_takes t
 takes_of MaybeAlias t = alias_takes t
+takes_of MaybeWhere t = where_takes t
+takes_of Figures t = figures_takes t
+takes_of MaybeCommon t = common_takes t
+takes_of MoreShares t = shares_takes t
+takes_of MaybeHistogram t = histogram_takes t
+takes_of MoreBounds t = bounds_takes t
+takes_of Literal t = lit_takes t
 takes_of Negation t = negation_takes t
 takes_of MoreAnds t = ands_takes t
 takes_of MoreOrs t = ors_takes t
@@ -249,6 +307,9 @@ is_optional Nullness = true
 is_optional MoreResults = true
 is_optional AfterResult = true
 is_optional MaybeAlias = true
+is_optional MaybeWhere = true
+is_optional MaybeCommon = true
+is_optional MaybeHistogram = true
 is_optional MoreAnds = true
 is_optional MoreOrs = true
 is_optional NotEnds = true
@@ -267,9 +328,15 @@ level_of _ = 0
 -- the most cells that it and what comes of it take within a level
 abbrev pub room_of : Item → ℕ
 room_of Whole = 12
-room_of Query = 5
+room_of Query = 6
 room_of MoreColumns = 4
 room_of MoreResults = 2
+room_of MaybeWhere = 4
+room_of Figures = 7
+room_of MaybeCommon = 4
+room_of MoreShares = 3
+room_of MaybeHistogram = 3
+room_of MoreBounds = 2
 room_of Negation = 2
 room_of MoreAnds = 3
 room_of MoreOrs = 4

@@ -1,9 +1,11 @@
 -- What the words of a tree tell of it (own).
-use Rattle.std.specs.Prelude.{Bool, true, false, List, ◌∷◌}
+use Rattle.std.specs.Prelude.{Bool, true, false, List, ◌∷◌, ◌++◌}
 use Rattle.sql_lex.specs.declared.tokens.Token.{Token}
-use Rattle.sql_grammar.specs.declared.class.Word.TheVariants.{And, Is, Or}
+use Rattle.sql_grammar.specs.declared.class.Word.TheVariants.{And, Is, Not, Null, Or}
 use Rattle.sql_grammar.specs.declared.class.Symbol.TheVariants.{Dot}
 use Rattle.sql_grammar.specs.Terminals.{Terminal, token_of, t_key, t_mark, t_name, t_number, t_quoted, t_operator, t_semicolon, t_end}
+use Rattle.sql_grammar.specs.Syntax.{unknown, constant, Operand, column, literal, Atom, parens, compare, is_null, is_not_null, column_alone, constant_alone}
+use Rattle.sql_grammar.specs.Words.{words_of_operand}
 
 -- the token of a terminal
 abbrev pub token_in : Terminal → Token
@@ -16,6 +18,26 @@ token_in (t_operator o) = o.token
 token_in (t_semicolon t) = t
 token_in (t_end t) = t
 
+-- the next word, where there is one, goes on no operand before it: it is no dot
+abbrev pub ends_operand : List Terminal → Bool
+ends_operand (t_mark Dot _ ∷ _) = false
+ends_operand _ = true
+
+-- it goes on no atom: it is no dot, IS or operator
+abbrev pub ends_atom : List Terminal → Bool
+ends_atom (t_mark Dot _ ∷ _) = false
+ends_atom (t_key Is _ ∷ _) = false
+ends_atom (t_operator _ ∷ _) = false
+ends_atom _ = true
+
+-- it goes on no conjunction: it is no dot, IS, operator or AND
+abbrev pub ends_conj : List Terminal → Bool
+ends_conj (t_mark Dot _ ∷ _) = false
+ends_conj (t_key Is _ ∷ _) = false
+ends_conj (t_operator _ ∷ _) = false
+ends_conj (t_key And _ ∷ _) = false
+ends_conj _ = true
+
 -- the next word, where there is one, goes on no expression before it: it is no dot, operator, IS, AND or OR
 abbrev pub ends_expr : List Terminal → Bool
 ends_expr (t_mark Dot _ ∷ _) = false
@@ -24,3 +46,25 @@ ends_expr (t_key Is _ ∷ _) = false
 ends_expr (t_key And _ ∷ _) = false
 ends_expr (t_key Or _ ∷ _) = false
 ends_expr _ = true
+
+-- an atom is an expression in parentheses; any other one is an operand and what follows it
+abbrev pub is_parens : Atom → Bool
+is_parens (parens o e c) = true
+is_parens _ = false
+
+abbrev pub front : Atom → Operand
+front (parens o e c) = literal (constant unknown o)
+front (compare l op r) = l
+front (is_null c i k) = column c
+front (is_not_null c i n k) = column c
+front (column_alone c) = column c
+front (constant_alone c k) = literal (constant c k)
+
+-- the words after its operand, before others
+abbrev pub tail : Atom → List Terminal → List Terminal
+tail (parens o e c) x = x
+tail (compare l op r) x = t_operator op ∷ (words_of_operand r ++ x)
+tail (is_null c i k) x = t_key Is i ∷ t_key Null k ∷ x
+tail (is_not_null c i n k) x = t_key Is i ∷ t_key Not n ∷ t_key Null k ∷ x
+tail (column_alone c) x = x
+tail (constant_alone c k) x = x

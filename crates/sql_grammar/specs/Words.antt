@@ -3,11 +3,11 @@
 use Rattle.std.specs.Prelude.{ℕ, ◌+◌, max, List, [], ◌∷◌, ◌++◌}
 use Rattle.sql_lex.specs.declared.tokens.Token.{Token}
 use Rattle.sql_grammar.specs.Terminals.{Terminal, t_key, t_mark, t_name, t_number, t_quoted, t_operator, t_semicolon, t_end, free}
-use Rattle.sql_grammar.specs.declared.class.Free.TheVariants.{Copy, Csv, Format, Stdin}
+use Rattle.sql_grammar.specs.declared.class.Free.TheVariants.{Common as CommonWord, Copy, Csv, Distinct, Format, Histogram as HistogramWord, Nulls as NullsWord, Pages, Rows, Statistics, Stdin}
 use Rattle.sql_grammar.specs.declared.class.Word.{Word}
-use Rattle.sql_grammar.specs.declared.class.Word.TheVariants.{And, As, Create, False, From, Is, Not, Null, Or, Select, Table, True, With}
+use Rattle.sql_grammar.specs.declared.class.Word.TheVariants.{And, As, Create, False, From, Is, Not, Null, Or, Select, Table, True, Where as WhereKey, With}
 use Rattle.sql_grammar.specs.declared.class.Symbol.TheVariants.{Open, Close, Comma, Dot, Minus, Star}
-use Rattle.sql_grammar.specs.Syntax.{Col, bare, qualified, Constant, yes, no, unknown, Lit, number, negative, quoted, constant, Operand, column, literal, Expr, either_of, Ors, no_or, or_conj, Conj, both_of, Ands, no_and, and_neg, Neg, negated, plain, Atom, parens, compare, is_null, is_not_null, column_alone, constant_alone, Nulls, unwritten, not_null, nullable, ColDef, coldef, Output, every, every_of, one, Alias, no_alias, bare_alias, as_alias, Select as SelectTree, select_from, Ending, semicolon, text_end, Statement, empty, create_table, query, copy}
+use Rattle.sql_grammar.specs.Syntax.{Col, bare, qualified, Constant, yes, no, unknown, Lit, number, negative, quoted, constant, Operand, column, literal, Expr, either_of, Ors, no_or, or_conj, Conj, both_of, Ands, no_and, and_neg, Neg, negated, plain, Atom, parens, compare, is_null, is_not_null, column_alone, constant_alone, Nulls, unwritten, not_null, nullable, ColDef, coldef, Output, every, every_of, one, Alias, no_alias, bare_alias, as_alias, Select as SelectTree, select_from, Where, no_where, where_expr, Share, share, Common, no_common, common, Histogram, no_histogram, histogram, Ending, semicolon, text_end, Statement, empty, create_table, query, copy, sizes, column_statistics}
 
 -- a column, with its table's name and a dot before it where that is written
 abbrev pub words_of_col : Col → List Terminal
@@ -97,9 +97,38 @@ words_of_alias no_alias = []
 words_of_alias (bare_alias n) = t_name n ∷ []
 words_of_alias (as_alias k n) = t_key As k ∷ t_name n ∷ []
 
--- SELECT item { "," item } FROM name [[AS] name]
+-- WHERE before an expression, or nothing
+abbrev pub words_of_where : Where → List Terminal
+words_of_where no_where = []
+words_of_where (where_expr k e) = t_key WhereKey k ∷ words_of_expr e
+
+-- SELECT item { "," item } FROM name [[AS] name] [WHERE expr]
 abbrev pub words_of_select : SelectTree → List Terminal
-words_of_select (select_from k o os f n a) = t_key Select k ∷ (words_of_output o ++ (words_of_outputs os ++ t_key From f ∷ t_name n ∷ words_of_alias a))
+words_of_select (select_from k o os f n a w) = t_key Select k ∷ (words_of_output o ++ (words_of_outputs os ++ t_key From f ∷ t_name n ∷ (words_of_alias a ++ words_of_where w)))
+
+-- a common value and its share
+abbrev pub words_of_share : Share → List Terminal
+words_of_share (share l n) = words_of_lit l ++ t_number n ∷ []
+
+-- further ones, each after a comma
+abbrev pub words_of_shares : List (Token × Share) → List Terminal
+words_of_shares [] = []
+words_of_shares ((m, s) ∷ ss) = t_mark Comma m ∷ (words_of_share s ++ words_of_shares ss)
+
+-- the common values, or nothing
+abbrev pub words_of_common : Common → List Terminal
+words_of_common no_common = []
+words_of_common (common k o s ss m) = t_name (free CommonWord k) ∷ t_mark Open o ∷ (words_of_share s ++ (words_of_shares ss ++ t_mark Close m ∷ []))
+
+-- further bounds, each after a comma
+abbrev pub words_of_bounds : List (Token × Lit) → List Terminal
+words_of_bounds [] = []
+words_of_bounds ((m, l) ∷ ls) = t_mark Comma m ∷ (words_of_lit l ++ words_of_bounds ls)
+
+-- the bounds of a histogram, or nothing
+abbrev pub words_of_histogram : Histogram → List Terminal
+words_of_histogram no_histogram = []
+words_of_histogram (histogram k o l ls m) = t_name (free HistogramWord k) ∷ t_mark Open o ∷ (words_of_lit l ++ (words_of_bounds ls ++ t_mark Close m ∷ []))
 
 -- the word that ends a statement
 abbrev pub words_of_ending : Ending → List Terminal
@@ -115,6 +144,11 @@ words_of (query q e) = words_of_select q ++ words_of_ending e
 words_of (copy k n text) =
     t_name (free Copy k.copy) ∷ t_name n ∷ t_key From k.from_at ∷ t_name (free Stdin k.stdin) ∷ t_key With k.with_at ∷ t_mark Open k.open_at ∷ t_name (free Format k.format) ∷ t_name (free Csv k.csv) ∷
     t_mark Comma k.comma ∷ t_key Null k.null ∷ t_quoted text ∷ t_mark Close k.close_at ∷ t_semicolon k.stop ∷ []
+words_of (sizes k n r p e) =
+    t_name (free Statistics k.statistics) ∷ t_name n ∷ t_name (free Rows k.rows) ∷ t_number r ∷ t_name (free Pages k.pages) ∷ t_number p ∷ words_of_ending e
+words_of (column_statistics k n c d z m h e) =
+    t_name (free Statistics k.statistics) ∷ t_name n ∷ t_mark Dot k.dot ∷ t_name c ∷ t_name (free Distinct k.distinct) ∷ t_number d ∷ t_name (free NullsWord k.nulls) ∷ t_number z ∷
+    (words_of_common m ++ (words_of_histogram h ++ words_of_ending e))
 
 -- The levels of an expression: a `(` and a NOT open one each.
 
@@ -151,9 +185,20 @@ abbrev mutual
   levels_of_atom (column_alone _) = 0
   levels_of_atom (constant_alone _ _) = 0
 
--- no statement has an expression yet
+-- those of WHERE
+abbrev pub levels_of_where : Where → ℕ
+levels_of_where no_where = 0
+levels_of_where (where_expr _ e) = levels_of_expr e
+
+-- those of a SELECT
+abbrev pub levels_of_select : SelectTree → ℕ
+levels_of_select (select_from _ _ _ _ _ _ w) = levels_of_where w
+
+-- those of a statement
 abbrev pub levels_of : Statement → ℕ
 levels_of (empty _) = 0
 levels_of (create_table _ _ _ _ _ _ _ _) = 0
-levels_of (query _ _) = 0
+levels_of (query q _) = levels_of_select q
 levels_of (copy _ _ _) = 0
+levels_of (sizes _ _ _ _ _) = 0
+levels_of (column_statistics _ _ _ _ _ _ _ _) = 0

@@ -33,9 +33,16 @@ pub enum Word {
 /// A word that has a place in the grammar and may be a name elsewhere.
 #[derive(Clone, Copy, Debug, PartialEq, Eq)]
 pub enum Free {
+    Common,
     Copy,
     Csv,
+    Distinct,
     Format,
+    Histogram,
+    Nulls,
+    Pages,
+    Rows,
+    Statistics,
     Stdin,
 }
 

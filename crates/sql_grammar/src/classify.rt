@@ -39,7 +39,19 @@ const WORDS: [Word; 25] = [
 ];
 
 /// The words with a place of their own that may be names.
-const FREE_WORDS: [Free; 4] = [Free::Copy, Free::Csv, Free::Format, Free::Stdin];
+const FREE_WORDS: [Free; 11] = [
+    Free::Common,
+    Free::Copy,
+    Free::Csv,
+    Free::Distinct,
+    Free::Format,
+    Free::Histogram,
+    Free::Nulls,
+    Free::Pages,
+    Free::Rows,
+    Free::Statistics,
+    Free::Stdin,
+];
 
 /// A reserved word in small letters.
 fn spelling(word: Word) -> &'static [u8]
@@ -79,9 +91,16 @@ fn free_spelling(word: Free) -> &'static [u8]
     ensures { result.now ≡ free_spelling_of word }
 {
     match word {
+        Free::Common => b"common",
         Free::Copy => b"copy",
         Free::Csv => b"csv",
+        Free::Distinct => b"distinct",
         Free::Format => b"format",
+        Free::Histogram => b"histogram",
+        Free::Nulls => b"nulls",
+        Free::Pages => b"pages",
+        Free::Rows => b"rows",
+        Free::Statistics => b"statistics",
         Free::Stdin => b"stdin",
     }
 }

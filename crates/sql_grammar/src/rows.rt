@@ -1,7 +1,7 @@
 //! The rows of the table: for an item, the tokens that are awaited and the items that then stand in its place.
 
 ghost use Rattle.std.specs.Prelude.{◌≡◌, MatchOption};
-ghost use Rattle.sql_grammar.specs.Table.{statement_takes, ends_takes, stop_takes, query_takes, nullness_takes, columns_takes, output_takes, outputs_takes, after_output_takes, star_takes, alias_takes, negation_takes, ands_takes, ors_takes, literal_takes, column_takes, name_takes, side_takes, qualifier_takes, label_takes, digits_takes, quoted_takes, keyword_takes, sign_takes, free_takes};
+ghost use Rattle.sql_grammar.specs.Table.{statement_takes, ends_takes, stop_takes, query_takes, nullness_takes, columns_takes, output_takes, outputs_takes, after_output_takes, star_takes, alias_takes, where_takes, figures_takes, common_takes, shares_takes, histogram_takes, bounds_takes, lit_takes, negation_takes, ands_takes, ors_takes, literal_takes, column_takes, name_takes, side_takes, qualifier_takes, label_takes, digits_takes, quoted_takes, keyword_takes, sign_takes, free_takes};
 
 use crate::class::{Class, Free, Symbol, Word};
 use crate::table::Item;
@@ -9,7 +9,7 @@ use crate::table::Item;
 /// The items that stand in an item's place; None where the token is not awaited.
 type Expansion = Option<&'static [Item]>;
 
-/// A statement and its end: `CREATE TABLE`, `SELECT`, `COPY`, or nothing before the end.
+/// A statement and its end: `CREATE TABLE`, `SELECT`, `COPY`, `STATISTICS`, or nothing before the end.
 pub fn statement(class: Class) -> Expansion
     ensures { MatchOption result (statement_takes class ≡ None) (λ r. statement_takes class ≡ Some r.now) }
 {
@@ -30,6 +30,7 @@ pub fn statement(class: Class) -> Expansion
             Item::Keyword(Word::From),
             Item::Label,
             Item::MaybeAlias,
+            Item::MaybeWhere,
             Item::Ends,
         ]),
         Class::Name(Some(Free::Copy)) => Some(&[
@@ -46,6 +47,7 @@ pub fn statement(class: Class) -> Expansion
             Item::Sign(Symbol::Close),
             Item::Stop,
         ]),
+        Class::Name(Some(Free::Statistics)) => Some(&[Item::Label, Item::Figures, Item::Ends]),
         Class::Semicolon | Class::End => Some(&[]),
         _ => None,
     }
@@ -82,6 +84,7 @@ pub fn query(class: Class) -> Expansion
             Item::Keyword(Word::From),
             Item::Label,
             Item::MaybeAlias,
+            Item::MaybeWhere,
         ]),
         _ => None,
     }
@@ -162,6 +165,102 @@ pub fn alias(class: Class) -> Expansion
     match class {
         Class::Key(Word::As) => Some(&[Item::Label]),
         Class::Name(_) => Some(&[]),
+        _ => None,
+    }
+}
+
+/// A condition.
+pub fn condition(class: Class) -> Expansion
+    ensures { MatchOption result (where_takes class ≡ None) (λ r. where_takes class ≡ Some r.now) }
+{
+    match class {
+        Class::Key(Word::Where) => Some(&[Item::Negation, Item::MoreAnds, Item::MoreOrs]),
+        _ => None,
+    }
+}
+
+/// What STATISTICS gives, after a table's name.
+pub fn figures(class: Class) -> Expansion
+    ensures { MatchOption result (figures_takes class ≡ None) (λ r. figures_takes class ≡ Some r.now) }
+{
+    match class {
+        Class::Name(Some(Free::Rows)) => Some(&[
+            Item::Digits,
+            Item::FreeWord(Free::Pages),
+            Item::Digits,
+        ]),
+        Class::Mark(Symbol::Dot) => Some(&[
+            Item::Label,
+            Item::FreeWord(Free::Distinct),
+            Item::Digits,
+            Item::FreeWord(Free::Nulls),
+            Item::Digits,
+            Item::MaybeCommon,
+            Item::MaybeHistogram,
+        ]),
+        _ => None,
+    }
+}
+
+/// Common values with their shares.
+pub fn common(class: Class) -> Expansion
+    ensures { MatchOption result (common_takes class ≡ None) (λ r. common_takes class ≡ Some r.now) }
+{
+    match class {
+        Class::Name(Some(Free::Common)) => Some(&[
+            Item::Sign(Symbol::Open),
+            Item::Literal,
+            Item::Digits,
+            Item::MoreShares,
+        ]),
+        _ => None,
+    }
+}
+
+/// Further ones, and the closing parenthesis.
+pub fn shares(class: Class) -> Expansion
+    ensures { MatchOption result (shares_takes class ≡ None) (λ r. shares_takes class ≡ Some r.now) }
+{
+    match class {
+        Class::Mark(Symbol::Comma) => Some(&[Item::Literal, Item::Digits, Item::MoreShares]),
+        Class::Mark(Symbol::Close) => Some(&[]),
+        _ => None,
+    }
+}
+
+/// The bounds of a histogram.
+pub fn histogram(class: Class) -> Expansion
+    ensures { MatchOption result (histogram_takes class ≡ None) (λ r. histogram_takes class ≡ Some r.now) }
+{
+    match class {
+        Class::Name(Some(Free::Histogram)) => Some(&[
+            Item::Sign(Symbol::Open),
+            Item::Literal,
+            Item::MoreBounds,
+        ]),
+        _ => None,
+    }
+}
+
+/// Further ones, and the closing parenthesis.
+pub fn bounds(class: Class) -> Expansion
+    ensures { MatchOption result (bounds_takes class ≡ None) (λ r. bounds_takes class ≡ Some r.now) }
+{
+    match class {
+        Class::Mark(Symbol::Comma) => Some(&[Item::Literal, Item::MoreBounds]),
+        Class::Mark(Symbol::Close) => Some(&[]),
+        _ => None,
+    }
+}
+
+/// A literal.
+pub fn literal(class: Class) -> Expansion
+    ensures { MatchOption result (lit_takes class ≡ None) (λ r. lit_takes class ≡ Some r.now) }
+{
+    match class {
+        Class::Mark(Symbol::Minus) => Some(&[Item::Digits]),
+        Class::Number | Class::Quoted => Some(&[]),
+        Class::Key(Word::True | Word::False | Word::Null) => Some(&[]),
         _ => None,
     }
 }

@@ -45,6 +45,20 @@ pub enum Item {
     StarOrLabel,
     /// An alias or nothing.
     MaybeAlias,
+    /// WHERE and a condition, or nothing.
+    MaybeWhere,
+    /// What STATISTICS gives, after a table's name.
+    Figures,
+    /// Common values with their shares, or nothing.
+    MaybeCommon,
+    /// Further common values, and the closing parenthesis.
+    MoreShares,
+    /// The bounds of a histogram, or nothing.
+    MaybeHistogram,
+    /// Further bounds, and the closing parenthesis.
+    MoreBounds,
+    /// A literal.
+    Literal,
     /// An expression without AND and OR on its outside.
     Negation,
     /// Further parts of an AND.
@@ -93,6 +107,13 @@ pub fn takes(item: Item, class: Class) -> Option<&'static [Item]>
         Item::AfterResult => rows::after_output(class),
         Item::StarOrLabel => rows::star_or_label(class),
         Item::MaybeAlias => rows::alias(class),
+        Item::MaybeWhere => rows::condition(class),
+        Item::Figures => rows::figures(class),
+        Item::MaybeCommon => rows::common(class),
+        Item::MoreShares => rows::shares(class),
+        Item::MaybeHistogram => rows::histogram(class),
+        Item::MoreBounds => rows::bounds(class),
+        Item::Literal => rows::literal(class),
         Item::Negation => rows::negation(class),
         Item::MoreAnds => rows::ands(class),
         Item::MoreOrs => rows::ors(class),
@@ -116,6 +137,9 @@ pub fn may_be_empty(item: Item) -> bool
             | Item::MoreResults
             | Item::AfterResult
             | Item::MaybeAlias
+            | Item::MaybeWhere
+            | Item::MaybeCommon
+            | Item::MaybeHistogram
             | Item::MoreAnds
             | Item::MoreOrs
             | Item::NotEnds

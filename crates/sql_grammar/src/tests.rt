@@ -8,7 +8,7 @@ use sql_lex::lex_statement;
 use std::alloc::Global;
 
 /// Statements, and the place of their syntax fault.
-const STATEMENTS: [(&[u8], Option<u32>); 61] = [
+const STATEMENTS: [(&[u8], Option<u32>); 82] = [
     (b"", None),
     (b" /* a /* b */ c */ ;", None),
     (b"CREATE TABLE t (a int4);", None),
@@ -55,7 +55,7 @@ const STATEMENTS: [(&[u8], Option<u32>); 61] = [
     (b"SELECT *.a FROM t;", Some(8)),
     (b"SELECT a FROM;", Some(13)),
     (b"SELECT a FROM t, u;", Some(15)),
-    (b"SELECT a FROM t WHERE a = 1;", Some(16)),
+    (b"SELECT a FROM t WHERE a = 1;", None),
     (b"SELECT a FROM t ORDER BY a;", Some(16)),
     (b"SELECT a FROM t JOIN u ON a = b;", Some(16)),
     (b"SELECT 1 FROM t;", Some(7)),
@@ -79,13 +79,55 @@ const STATEMENTS: [(&[u8], Option<u32>); 61] = [
         b"COPY t FROM STDIN WITH (FORMAT CSV, NULL 'x') x;",
         Some(46),
     ),
-    (b"STATISTICS t ROWS 1 PAGES 1;", Some(0)),
+    (b"STATISTICS t ROWS 1 PAGES 1;", None),
+    (
+        b"SELECT a FROM t u WHERE a = 1 OR NOT (t.b IS NOT NULL AND -2 < b) AND c;",
+        None,
+    ),
+    (b"SELECT a FROM t WHERE;", Some(21)),
+    (b"SELECT a FROM t WHERE a = 1 b;", Some(28)),
+    (b"SELECT a FROM t WHERE a = 1 WHERE b;", Some(28)),
+    (b"SELECT a FROM t WHERE 1;", Some(23)),
+    (b"SELECT a FROM t WHERE (a = 1;", Some(28)),
+    (b"SELECT a FROM t AS WHERE a;", Some(19)),
+    (b"statistics statistics rows 0 pages 0", None),
+    (
+        b"STATISTICS rows.pages DISTINCT 2 NULLS 3 HISTOGRAM (false);",
+        None,
+    ),
+    (
+        b"STATISTICS t.a DISTINCT 0 NULLS 0 COMMON (-1 500, 2 300) HISTOGRAM (1, -2, 'x', NULL);",
+        None,
+    ),
+    (b"STATISTICS t;", Some(12)),
+    (b"STATISTICS t ROWS -1 PAGES 1;", Some(18)),
+    (b"STATISTICS t ROWS 1 PAGES 1 COMMON (1 1);", Some(28)),
+    (b"STATISTICS t.a ROWS 1 PAGES 1;", Some(15)),
+    (b"STATISTICS t.a DISTINCT 1 NULL 1;", Some(26)),
+    (b"STATISTICS t.a DISTINCT 1 NULLS 1 COMMON ();", Some(42)),
+    (
+        b"STATISTICS t.a DISTINCT 1 NULLS 1 COMMON (1, 2);",
+        Some(43),
+    ),
+    (
+        b"STATISTICS t.a DISTINCT 1 NULLS 1 COMMON (1 -1);",
+        Some(44),
+    ),
+    (b"STATISTICS t.a DISTINCT 1 NULLS 1 COMMON (a 1);", Some(42)),
+    (
+        b"STATISTICS t.a DISTINCT 1 NULLS 1 HISTOGRAM (1 1);",
+        Some(47),
+    ),
+    (
+        b"STATISTICS t.a DISTINCT 1 NULLS 1 HISTOGRAM (1) COMMON (1 1);",
+        Some(48),
+    ),
     (b"EXPLAIN SELECT a FROM t;", Some(0)),
     (b"t;", Some(0)),
 ];
 
 /// Statements of a front, repeated bytes and a back, and the limit that is passed from one place to another.
-const LONG: [(&[u8], &[u8], usize, &[u8], Option<(Limit, u32, u32)>); 11] = [
+const LONG: [(&[u8], &[u8], usize, &[u8], Option<(Limit, u32, u32)>); 13] = [
     (b"SELECT ", b"a", 63, b" FROM t;", None),
     (
         b"SELECT ",
@@ -151,11 +193,26 @@ const LONG: [(&[u8], &[u8], usize, &[u8], Option<(Limit, u32, u32)>); 11] = [
         b"');",
         Some((Limit::Text, 41, 16429)),
     ),
+    (
+        b"SELECT a FROM t WHERE b.",
+        b"c",
+        64,
+        b" = 1 c;",
+        Some((Limit::Name, 24, 88)),
+    ),
+    (
+        b"STATISTICS t.a DISTINCT 1 NULLS 1 COMMON ('",
+        b"x",
+        8193,
+        b"' a);",
+        Some((Limit::Text, 42, 8237)),
+    ),
 ];
 
 /// Texts, and the end of the SELECT at their beginning, or the place of its syntax fault.
-const SELECTS: [(&[u8], Result<u32, u32>); 6] = [
-    (b"SELECT a FROM t WHERE", Ok(4)),
+const SELECTS: [(&[u8], Result<u32, u32>); 7] = [
+    (b"SELECT a FROM t WHERE a = 1 b", Ok(8)),
+    (b"SELECT a FROM t WHERE", Err(21)),
     (b"SELECT *, b.c FROM t)", Ok(8)),
     (b"SELECT a FROM t AS u v", Ok(6)),
     (b"SELECT a FROM t u", Ok(5)),
@@ -183,6 +240,9 @@ const DEEP: [(&[u8], usize, &[u8], Result<u32, (u32, u32)>); 5] = [
     (b"(NOT ", 16, b"(a = 1) OR b;", Err((80, 81))),
     (b"a IS NOT NULL AND ", 40, b"b;", Ok(201)),
 ];
+
+/// What stands before such an expression in a statement: 22 bytes.
+const FRONT: &[u8] = b"SELECT a FROM t WHERE ";
 
 /// Texts after a `;`, and the place of the data or of the syntax fault.
 const LINES: [(&[u8], Result<u32, u32>); 7] = [
@@ -274,6 +334,13 @@ fn keeps_the_limit_of_levels(rt: HostRuntime) {
         let tokens = lex_statement(rt.alloc(), &text, 0).expect(&rt, "tokens");
         let expected = end.map_err(|(from, to)| Fault::at_words(Code::S15(Limit::Depth), from, to));
         assert_eq!(rt; expr_end(&text, &tokens, 0), expected);
+        let whole = repeated(rt.alloc(), FRONT, middle, count, back).expect(&rt, "statement");
+        assert!(rt; whole.len() < 1_000);
+        let moved = match end {
+            Ok(_) => None,
+            Err((from, to)) => Some(Fault::at_words(Code::S15(Limit::Depth), from + 22, to + 22)),
+        };
+        assert_eq!(rt; first_fault(rt.alloc(), &whole), Ok(moved));
     }
 }
 

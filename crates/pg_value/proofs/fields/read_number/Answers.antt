@@ -1,7 +1,9 @@
-use Rattle.std.proofs.Common.{sym, ◌∙◌, arith}
-use Rattle.std.proofs.lemmas.Int.{ints}
-use Rattle.pg_value.proofs.Numerals.{minus_is, limit_fits}
+use Rattle.pg_value.proofs.Numerals.{numeral-value, no-numeral}
 use Rattle.pg_value.proofs.fields.read_number.Goals as goal
 
-pub returns-then-magnitude-limit : goal.returns-then-magnitude-limit
-returns-then-magnitude-limit c = minus_is c.args.t c.args.word.now c.in-Some.magnitude _ c.requires (sym c.is_negative.ensures ∙ c.if-is_negative.true) (rw c.unsigned.ensures at c.in-Some.ensures) (omega (arith, c.limit_of-limit.ensures)) (omega (arith, ints, limit_fits c.args.t))
+pub returns-in-Some : goal.returns-in-Some
+returns-in-Some c =
+    numeral-value c.args.t c.args.word.now c.is_negative.result c.in-Some.magnitude c.signed_value.result c.is_negative.ensures (rw c.unsigned.ensures at c.in-Some.ensures) c.signed_value.ensures
+
+pub returns-in-None : goal.returns-in-None
+returns-in-None c = no-numeral c.args.t c.args.word.now (rw c.unsigned.ensures at c.in-None.ensures)

@@ -1,0 +1,73 @@
+-- What the next words tell of the operand whose words are left.
+use Rattle.std.proofs.Common.{◌≡◌, ℕ, List, ◌∷◌, ◌++◌, Result, Ok, Err, None, refl, sym, ap, ◌∙◌}
+use Rattle.pg_base.specs.declared.faults.Fault.{Fault}
+use Rattle.pg_value.specs.declared.value.SqlType.{SqlType}
+use Rattle.pg_expr.specs.declared.operand.ColRef.{ColRef}
+use Rattle.sql_lex.specs.declared.tokens.Token.{Token}
+use Rattle.sql_grammar.specs.declared.class.Symbol.TheVariants.{Dot}
+use Rattle.sql_grammar.specs.Faults.{bytes_of}
+use Rattle.sql_grammar.specs.Terminals.{Terminal, Ident, t_mark, t_name, token_of}
+use Rattle.sql_grammar.specs.Syntax.{Col, bare, qualified, Operand, column}
+use Rattle.sql_grammar.specs.Words.{words_of_col}
+use Rattle.sql_cursor.specs.declared.cursor.Spelled.{Spelled}
+use Rattle.sql_cursor.specs.Reading.{BeginsName, BeginsNot, spelled}
+use Rattle.expr_reader.specs.declared.found.Found.{Found}
+use Rattle.expr_reader.specs.declared.found.Found.TheVariants.{One, NoTable, NoColumn, Many}
+use Rattle.expr_reader.specs.declared.written.Side.{Side}
+use Rattle.expr_reader.specs.declared.written.Side.TheVariants.{Column}
+use Rattle.expr_reader.specs.Conditions.{next, Side as SideTree, of_column, side_of, the_column}
+use Rattle.expr_reader.specs.Scope.{Scope, look_up}
+use Rattle.expr_reader.specs.Written.{side_meant, side_read}
+
+-- a name, and no dot after it
+pub record BareCol (c : Col) (rest : List Terminal) (s : Spelled) (left : List Terminal) : Type 0 where
+  pub name : Ident
+  pub col : c ≡ bare name
+  pub says : s ≡ spelled name
+  pub words : left ≡ rest
+
+pub bare-col : (c : Col) (rest old left : List Terminal) (s : Spelled) → BeginsName s old left → BeginsNot (t_mark Dot) left → old ≡ words_of_col c ++ rest → BareCol c rest s left
+bare-col (bare n) rest old left s (m, says, first) absent is =
+    let same : t_name m ∷ left ≡ t_name n ∷ rest = sym first ∙ is in
+    let name : m ≡ n = cc (same) in
+    record { name = n; col = refl; says = says ∙ ap spelled name; words = cc (same) }
+bare-col (qualified q d n) rest old left s (m, says, first) absent is =
+    let same : t_name m ∷ left ≡ t_name q ∷ t_mark Dot d ∷ t_name n ∷ rest = sym first ∙ is in
+    absurd (absent (t_name n ∷ rest) (d, cc (same)))
+
+-- what a side means where its column is found so
+found-meant : (type_of : ColRef → SqlType) (f : Found) (first name : Token) →
+    next (the_column f first name) (λ c. Ok (Column c (type_of c) first)) ≡ next (next (the_column f first name) (λ r. Ok (of_column r (type_of r) first))) (λ s. Ok (side_read s))
+found-meant type_of (One c) first name = refl
+found-meant type_of NoTable first name = refl
+found-meant type_of NoColumn first name = refl
+found-meant type_of Many first name = refl
+
+pub bare-meant : (scope : Scope) (type_of : ColRef → SqlType) (c : Col) (n : Ident) (s : Spelled) (f : Found) (bytes : List ℕ) → c ≡ bare n → s ≡ spelled n → f ≡ look_up scope None bytes → bytes ≡ s.bytes →
+    next (the_column f s.token s.token) (λ r. Ok (Column r (type_of r) s.token)) ≡ side_meant scope type_of (column c)
+bare-meant scope type_of c n s f bytes is says found value =
+    let now : f ≡ look_up scope None (bytes_of n) = found ∙ ap (look_up scope None) (value ∙ ap (λ (x : Spelled). x.bytes) says) in
+    ap (λ (x : Spelled). next (the_column f x.token x.token) (λ r. Ok (Column r (type_of r) x.token))) says
+    ∙ (ap (λ (x : Found). next (the_column x (token_of n) (token_of n)) (λ r. Ok (Column r (type_of r) (token_of n)))) now
+    ∙ (found-meant type_of (look_up scope None (bytes_of n)) (token_of n) (token_of n) ∙ ap (λ (x : Col). side_meant scope type_of (column x)) (sym is)))
+
+fault-by : {A B : Type 0} (m : Result A Fault) (seen : A → B) (f : Fault) → next m (λ s. Ok (seen s)) ≡ Err f → m ≡ Err f
+fault-by (Ok s) seen f is = absurd (cc (is))
+fault-by (Err g) seen f is = cc (is)
+
+-- the fault of a side
+pub side-fault : (scope : Scope) (type_of : ColRef → SqlType) (o : Operand) (f : Fault) → side_meant scope type_of o ≡ Err f → side_of scope type_of o ≡ Err f
+side-fault scope type_of o f is = fault-by (side_of scope type_of o) side_read f is
+
+-- a side that is read
+pub record FoundSide (scope : Scope) (type_of : ColRef → SqlType) (o : Operand) (x : Side) : Type 0 where
+  pub side : SideTree
+  pub found : side_of scope type_of o ≡ Ok side
+  pub read : x ≡ side_read side
+
+side-by : (scope : Scope) (type_of : ColRef → SqlType) (o : Operand) (x : Side) (m : Result SideTree Fault) → side_of scope type_of o ≡ m → next m (λ s. Ok (side_read s)) ≡ Ok x → FoundSide scope type_of o x
+side-by scope type_of o x (Ok s) of is = record { side = s; found = of; read = cc (is) }
+side-by scope type_of o x (Err f) of is = absurd (cc (is))
+
+pub side-found : (scope : Scope) (type_of : ColRef → SqlType) (o : Operand) (x : Side) → side_meant scope type_of o ≡ Ok x → FoundSide scope type_of o x
+side-found scope type_of o x is = side-by scope type_of o x (side_of scope type_of o) refl is

@@ -1,0 +1,5 @@
+pub mod Scope
+pub mod Literals
+pub mod Conditions
+pub mod Reads
+pub mod Written

@@ -1,0 +1,40 @@
+-- A literal and a side of a comparison as the reader holds them: a number by its value, where it is below 2^64 - 1 (own).
+use Rattle.std.specs.Prelude.{◌≡◌, ◌⊎◌, Bool, true, false, List, ◌∷◌, Result, Ok}
+use Rattle.pg_base.specs.declared.faults.Fault.{Fault}
+use Rattle.pg_value.specs.declared.value.SqlType.{SqlType}
+use Rattle.pg_expr.specs.declared.operand.ColRef.{ColRef}
+use Rattle.sql_lex.specs.declared.tokens.Token.{Token}
+use Rattle.sql_grammar.specs.declared.class.Word.TheVariants.{Not, Null}
+use Rattle.sql_grammar.specs.Terminals.{Terminal, Said, t_key}
+use Rattle.sql_grammar.specs.Syntax.{Lit, number, negative, quoted, constant, Operand}
+use Rattle.sql_cursor.specs.Reading.{numbered}
+use Rattle.expr_reader.specs.declared.written.Literal.{Literal}
+use Rattle.expr_reader.specs.declared.written.Literal.TheVariants.{Whole, Quoted, Constant as ConstantOf}
+use Rattle.expr_reader.specs.declared.written.Side.{Side as SideRead}
+use Rattle.expr_reader.specs.declared.written.Side.TheVariants.{Column, Literal as LiteralSide}
+use Rattle.expr_reader.specs.Scope.{Scope}
+use Rattle.expr_reader.specs.Conditions.{next, Side, of_column, of_literal, side_of, truth_of_constant}
+
+-- a whole number with its sign and its first token
+abbrev pub whole : Bool → Token → Said → Literal
+whole minus token n = Whole minus (numbered n).value token
+
+-- a literal
+abbrev pub literal_of : Lit → Literal
+literal_of (number n) = whole false n.token n
+literal_of (negative minus n) = whole true minus n
+literal_of (quoted q) = Quoted (record { bytes = q.value; token = q.token })
+literal_of (constant c k) = ConstantOf (truth_of_constant c) k
+
+-- a side of a comparison whose column is found
+abbrev pub side_read : Side → SideRead
+side_read (of_column c t token) = Column c t token
+side_read (of_literal l) = LiteralSide (literal_of l)
+
+-- the side that an operand means, or the fault of its column
+abbrev pub side_meant : Scope → (ColRef → SqlType) → Operand → Result SideRead Fault
+side_meant scope type_of o = next (side_of scope type_of o) (λ s. Ok (side_read s))
+
+-- NULL or NOT NULL is next
+abbrev pub IsNullWords : List Terminal → Type 0
+IsNullWords ts = ((null : Token) × (rest : List Terminal) × (ts ≡ t_key Null null ∷ rest)) ⊎ ((not : Token) × (null : Token) × (rest : List Terminal) × (ts ≡ t_key Not not ∷ t_key Null null ∷ rest))

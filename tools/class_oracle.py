@@ -21,17 +21,7 @@ FAMILIES = ["integer", "abs", "text", "bool"]
 RELATIONS = 4
 CRATES = ["pg_base", "pg_value", "opfamily", "pg_expr", "eq_classes"]
 
-PROGRAM = r"""
-//! Reads conjuncts in postfix numbers and items of ORDER BY, a list of each a line, and prints what the calls answer.
-#![tactic(auto)]
-
-use eq_classes::{ClassNo, ClauseSet, Classes, OrderItem};
-use pg_base::{ColNo, RelNo, RelSet};
-use pg_expr::{Binding, ColRef, Expr, Exprs, Operand};
-use pg_value::{Bytes, Family, Op, SqlType, Truth, Value};
-use std::alloc::{AllocError, Global};
-use std::io;
-
+READER = r"""
 #[derive(Drop)]
 struct Types {
     value: Value,
@@ -128,7 +118,20 @@ fn read(alloc: Global, input: &mut Input) -> Result<Vec<Expr>, AllocError> {
         stack.push(e)?;
     }
 }
+"""
 
+PROGRAM = r"""
+//! Reads conjuncts in postfix numbers and items of ORDER BY, a list of each a line, and prints what the calls answer.
+#![tactic(auto)]
+
+use eq_classes::{ClassNo, ClauseSet, Classes, OrderItem};
+use pg_base::{ColNo, RelNo, RelSet};
+use pg_expr::{Binding, ColRef, Expr, Exprs, Operand};
+use pg_value::{Bytes, Family, Op, SqlType, Truth, Value};
+use std::alloc::{AllocError, Global};
+use std::io;
+
+""" + READER + r"""
 fn mixed(sum: i64, n: i64) -> i64 {
     (sum * 31 + n + 1) % 1_000_003
 }
@@ -393,17 +396,18 @@ def lists(rng, count):
         yield " ".join(map(str, numbers)), f"{len(t.clauses)} {clauses} {folded(0, shown_classes(t))} {folded(0, shown_parts(t))}"
 
 
-def answers(lines):
+def answers(lines, program, crates):
+    """The lines of numbers that a program over these crates prints, each for one of these lines."""
     root = pathlib.Path(__file__).resolve().parent.parent
     with tempfile.TemporaryDirectory() as folder:
         copy = pathlib.Path(folder)
-        for crate in CRATES:
+        for crate in crates:
             shutil.copytree(root / "crates" / crate, copy / "crates" / crate, ignore=shutil.ignore_patterns("out", "must-fail"))
         source = copy / "crates" / "judge_lists" / "src"
         source.mkdir(parents=True)
-        (source / "main.rt").write_text(PROGRAM)
-        wanted = [line for line in (root / "crates.txt").read_text().splitlines() if line.split(":")[0] in CRATES]
-        (copy / "crates.txt").write_text("\n".join([*wanted, "judge_lists: pg_base pg_value opfamily pg_expr eq_classes"]) + "\n")
+        (source / "main.rt").write_text(program)
+        wanted = [line for line in (root / "crates.txt").read_text().splitlines() if line.split(":")[0] in crates]
+        (copy / "crates.txt").write_text("\n".join([*wanted, "judge_lists: " + " ".join(crates)]) + "\n")
         ran = subprocess.run(["rt", "try", "--steps", "100000000000", "--seconds", "600"], cwd=source.parent, input="".join(line + "\n" for line in lines),
                              capture_output=True, text=True)
     found = [line for line in ran.stdout.splitlines() if line and all(word.isdigit() for word in line.split())]
@@ -412,19 +416,24 @@ def answers(lines):
     return found
 
 
+def report(lines, wanted, given):
+    """Tells how many answers are those wanted, and ends the run."""
+    if len(given) != len(lines):
+        sys.exit(f"{len(given)} answers to {len(lines)} lists")
+    failed = [(line, want, got) for line, want, got in zip(lines, wanted, given) if want != got]
+    for line, want, got in failed[:10]:
+        print(f"wanted {want}, got {got}: {line}")
+    print(f"{len(lines) - len(failed)} passed, {len(failed)} failed")
+    sys.exit(1 if failed else 0)
+
+
 def main():
     sys.path.insert(0, sys.argv[1])
     count = int(sys.argv[2]) if len(sys.argv) > 2 else 1000
     rng = random.Random(int(sys.argv[3]) if len(sys.argv) > 3 else 1)
     lines, wanted = zip(*lists(rng, count))
-    given = answers(lines)
-    if len(given) != count:
-        sys.exit(f"{len(given)} answers to {count} lists")
-    failed = [(line, want, got) for line, want, got in zip(lines, wanted, given) if want != got]
-    for line, want, got in failed[:10]:
-        print(f"wanted {want}, got {got}: {line}")
-    print(f"{count - len(failed)} passed, {len(failed)} failed")
-    sys.exit(1 if failed else 0)
+    report(lines, wanted, answers(lines, PROGRAM, CRATES))
 
 
-main()
+if __name__ == "__main__":
+    main()

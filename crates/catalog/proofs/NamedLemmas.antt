@@ -9,10 +9,9 @@ use Rattle.pg_base.specs.declared.numbers.ColNo.{ColNo}
 use Rattle.pg_base.specs.declared.numbers.IndexNo.{IndexNo}
 use Rattle.pg_base.specs.declared.numbers.TableNo.{TableNo}
 use Rattle.pg_value.specs.declared.columns.Column.{Column}
-use Rattle.pg_value.specs.declared.value.SqlType.TheVariants.{Bool as BoolType}
 use Rattle.catalog.specs.Contents.{Contents, TableDef, IsColumn, IsKnown, IsLawful, IsLawfulTable, IsTable, stats_at, table_at, index_names, new_table, no_index, no_table, table_names, unknown}
 use Rattle.catalog.specs.Entries.{statistics}
-use Rattle.catalog.specs.Indexes.{type_at}
+use Rattle.catalog.specs.Indexes.{no_column, type_at}
 use Rattle.catalog.specs.Statistics.{IsLawfulStatistics, Statistics}
 use Rattle.catalog.specs.Tables.{HasIndexName, HasTableName, IsFree, IsFreeIndex}
 use Rattle.catalog.specs.declared.statistics.ColumnStats.{ColumnStats}
@@ -51,10 +50,6 @@ stats-at d xs k o same lt at = ap (option_map statistics) at ∙ sym (get_or-map
 
 abbrev nothing_known : Column → Option Statistics
 nothing_known column = None
-
--- any column
-abbrev pub no_column : Column
-no_column = record { typed = BoolType; not_null = false }
 
 -- nothing is known of one more column
 pub unknown-more : (xs : List (Option ColumnStats)) (columns : List Column) (i : ℕ) (d : Column) → i < length columns → map (option_map statistics) xs ≡ unknown (take i columns) →

@@ -49,9 +49,12 @@ has_form x = form x.method
     form Btree = true
     form Hash = nat_eq (length x.keys) 1 && (nat_eq (length x.include) 0 && list_all is_plain x.keys)
 
--- the type of a column
+-- the type of a column; what stands where a number is none of a column
+abbrev pub no_column : Column
+no_column = record { typed = BoolType; not_null = false }
+
 abbrev pub type_at : List Column → ColNo → SqlType
-type_at columns c = (slice_index_or columns c.0 (record { typed = BoolType; not_null = false })).typed
+type_at columns c = (slice_index_or columns c.0 no_column).typed
 
 -- a key is a column of the table, and its class accepts the method and the column's type
 pub record IsKeyOf (columns : List Column) (m : Method) (k : IndexKey) : Type 0 where

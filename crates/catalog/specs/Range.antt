@@ -4,7 +4,11 @@ use Rattle.pg_base.specs.declared.limits.TheConstants.{MOST_RELATIONS}
 use Rattle.pg_base.specs.declared.numbers.RelNo.{RelNo}
 use Rattle.pg_base.specs.declared.numbers.TableNo.{TableNo}
 use Rattle.pg_base.specs.Names.{IsName, AreDistinct}
-use Rattle.catalog.specs.Contents.{Contents, IsTable}
+use Rattle.pg_value.specs.declared.columns.Column.{Column}
+use Rattle.pg_value.specs.declared.value.SqlType.{SqlType}
+use Rattle.pg_expr.specs.declared.operand.ColRef.{ColRef}
+use Rattle.catalog.specs.Indexes.{no_column}
+use Rattle.catalog.specs.Contents.{Contents, IsTable, table_at}
 
 -- the relations in FROM order: the table and the alias of each
 abbrev pub Range : Type 0
@@ -13,6 +17,16 @@ Range = List (TableNo × List ℕ)
 -- the relation of a number
 abbrev pub relation_at : Range → RelNo → TableNo × List ℕ
 relation_at range r = slice_index_or range r.0 (record { 0 = 0 }, [])
+
+-- the table of a column's relation, the column there, and its type
+abbrev pub table_of : Range → ColRef → TableNo
+table_of range x = (relation_at range x.rel).0
+
+abbrev pub column_at : Contents → Range → ColRef → Column
+column_at c range x = slice_index_or (table_at c (table_of range x)).columns x.col.0 no_column
+
+abbrev pub type_in : Contents → Range → ColRef → SqlType
+type_in c range x = (column_at c range x).typed
 
 -- the aliases in FROM order
 abbrev pub aliases : Range → List (List ℕ)

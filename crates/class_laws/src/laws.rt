@@ -1,15 +1,16 @@
 //! Laws of classes and of the clause list, for proofs that speak of them apart from any call.
 
-ghost use Rattle.std.specs.Prelude.{◌≡◌, ◌<◌, ◌⊎◌, length, ◌&&◌, ℕ, Bool, true, false, List, All, Some};
+ghost use Rattle.std.specs.Prelude.{◌≡◌, ◌<◌, ◌≤◌, ◌⊎◌, length, ◌&&◌, ℕ, Bool, true, false, List, All, Some};
+ghost use Rattle.pg_value.specs.declared.value.SqlType.{SqlType};
 ghost use Rattle.pg_value.specs.declared.value.Value.{Value};
 ghost use Rattle.pg_value.specs.Order.{compared};
 ghost use Rattle.pg_expr.specs.declared.operand.ColRef.{ColRef};
 ghost use Rattle.pg_expr.specs.Cond.{Cond, conds_of};
-ghost use Rattle.pg_expr.specs.Columns.{each_column};
+ghost use Rattle.pg_expr.specs.Columns.{atom_count, each_column};
 ghost use Rattle.pg_expr.specs.Truths.{truth_of_all};
 ghost use Rattle.pg_expr.specs.Typed.{IsTyped};
 ghost use Rattle.eq_classes.specs.Classes.{Given, Class, Mention, has_member, is_in, conjuncts_in};
-ghost use Rattle.eq_classes.specs.Clauses.{Set, one, first_in, has_constant, Table};
+ghost use Rattle.eq_classes.specs.Clauses.{Set, Clause, one, first_in, has_constant, Table};
 ghost use Rattle.eq_classes.specs.Equality.{are_equal};
 ghost use Rattle.eq_classes.specs.Listing.{class_at};
 ghost use Rattle.eq_classes.specs.Parts.{union, is_all, is_base, is_join, is_param, is_join_param};
@@ -84,6 +85,29 @@ pub fn members_tie()
         hold b (is_all set) t.clauses ≡ true → hold d (is_all set) t.clauses ≡ true → HasClass t c →
         has_constant c ≡ true → has_member c x ≡ true → set x.rel.0 ≡ true →
         are_equal c.family (b x) (d x) ≡ true }
+{}
+
+/// The conjuncts of conditions as written are well typed where these are, name columns that pass a test where theirs do, and
+/// none has more atoms than a condition may have.
+pub fn conjuncts_are_over()
+    ensures typed { (ws : List Cond) (type_of : ColRef → SqlType) → All (IsTyped type_of) ws →
+        All (IsTyped type_of) (conjuncts_in ws) }
+    ensures columns { (ws : List Cond) (test : ColRef → Bool) → All (λ w. each_column test w ≡ true) ws →
+        All (λ k. each_column test k ≡ true) (conjuncts_in ws) }
+    ensures atoms { (ws : List Cond) (most : ℕ) → All (λ w. atom_count w ≤ most) ws →
+        All (λ k. atom_count k ≤ most) (conjuncts_in ws) }
+{}
+
+/// Each clause is well typed where the conjuncts are, names columns that pass a test where those of the conjuncts and of ORDER BY
+/// do, and has no more atoms than a conjunct may have, which is one at least.
+pub fn clauses_are_over()
+    ensures typed { (g : Given) (t : Table) → IsTable g t → All (IsTyped g.type_of) g.conjuncts →
+        All (λ (k : Clause). IsTyped g.type_of k.cond) t.clauses }
+    ensures columns { (g : Given) (t : Table) (test : ColRef → Bool) → IsTable g t →
+        All (λ k. each_column test k ≡ true) g.conjuncts → All (λ i. test i.col ≡ true) g.order →
+        All (λ (k : Clause). each_column test k.cond ≡ true) t.clauses }
+    ensures atoms { (g : Given) (t : Table) (most : ℕ) → IsTable g t → 1 ≤ most →
+        All (λ k. atom_count k ≤ most) g.conjuncts → All (λ (k : Clause). atom_count k.cond ≤ most) t.clauses }
 {}
 
 /// A column is in one class of a family at most.

@@ -1,8 +1,7 @@
 //! Costs of sorts and joins, and the price of a plan's first rows. Each cost is cut to at most 10^18.
 
-ghost use Rattle.std.specs.Prelude.{◌≡◌, ◌≤◌};
-ghost use Rattle.pg_base.specs.declared.limits.TheConstants.{MOST_ATOMS};
-ghost use Rattle.cost_rules.specs.Costs.{IsCost, IsEstimate, capped_pair, sort_cost, nest_cost, merge_cost, price_of};
+ghost use Rattle.std.specs.Prelude.{◌≡◌, ◌≤◌, ◌+◌, ◌^◌};
+ghost use Rattle.cost_rules.specs.Costs.{IsCost, IsEstimate, capped_pair, row_cost, sort_cost, nest_cost, merge_cost, price_of};
 
 use crate::pair::{Pair, cut};
 use crate::parameters::{MOST_COST, OPERATOR, TUPLE};
@@ -24,32 +23,37 @@ pub fn sort(input: Pair, n: u64) -> Pair
     }
 }
 
+/// A row with so many operators.
+fn row(ops: u64) -> u128
+    ensures cost { result ≡ row_cost ops }
+    ensures most { result ≤ 2 ^ 64 + 3 }
+{
+    u128::from(TUPLE) + u128::from(ops) * u128::from(OPERATOR)
+}
+
 /// A nested loop: the inner side once for each outer row, and each pair of rows with `ops` operators. Rows are from 1 to
-/// 10^12, and `ops` is at most 256.
+/// 10^12.
 pub fn nest(outer: Pair, inner: Pair, outer_rows: u64, inner_rows: u64, ops: u64) -> Pair
     requires outer { IsCost outer }
     requires inner { IsCost inner }
     requires outer_rows { IsEstimate outer_rows }
     requires inner_rows { IsEstimate inner_rows }
-    requires ops { ops ≤ MOST_ATOMS }
     ensures rule { result ≡ capped_pair (nest_cost outer inner outer_rows inner_rows ops) }
     ensures cost { IsCost result }
     ensures outer_child { outer.total ≤ result.total }
     ensures inner_child { inner.total ≤ result.total }
 {
     let (ro, ri) = (u128::from(outer_rows), u128::from(inner_rows));
-    let total = u128::from(outer.total)
-        + ro * u128::from(inner.total)
-        + ro * ri * u128::from(TUPLE + ops * OPERATOR);
+    let sides = u128::from(outer.total) + ro * u128::from(inner.total);
+    let pairs = (ro * ri).saturating_mul(row(ops));
     Pair {
         startup: (outer.startup + inner.startup).min(MOST_COST),
-        total: cut(total),
+        total: cut(sides.saturating_add(pairs)),
     }
 }
 
 /// A merge by `keys` keys: both sides once, each outer row and twice each inner row with the keys, and each of `pairs`
-/// pairs of rows with equal keys with `ops` further operators. Rows and pairs are from 1 to 10^12, keys from 1 to 3,
-/// and `ops` is at most 256.
+/// pairs of rows with equal keys with `ops` further operators. Rows and pairs are from 1 to 10^12, and keys from 1 to 3.
 pub fn merge(
     outer: Pair,
     inner: Pair,
@@ -66,17 +70,16 @@ pub fn merge(
     requires some_keys { 1 ≤ keys }
     requires few_keys { keys ≤ 3 }
     requires pairs { IsEstimate pairs }
-    requires ops { ops ≤ MOST_ATOMS }
     ensures rule { result ≡ capped_pair (merge_cost outer inner outer_rows inner_rows keys pairs ops) }
     ensures cost { IsCost result }
     ensures outer_child { outer.total ≤ result.total }
     ensures inner_child { inner.total ≤ result.total }
 {
     let rows = (outer_rows + 2 * inner_rows) * (keys * OPERATOR);
-    let total = outer.total + inner.total + rows + pairs * (TUPLE + ops * OPERATOR);
+    let total = u128::from(outer.total + inner.total + rows) + u128::from(pairs) * row(ops);
     Pair {
         startup: (outer.startup + inner.startup).min(MOST_COST),
-        total: total.min(MOST_COST),
+        total: cut(total),
     }
 }
 

@@ -2,6 +2,7 @@ pub mod BuiltLemmas
 pub mod ChainLemmas
 pub mod ClassHoldLemmas
 pub mod ClassLemmas
+pub mod ColumnLemmas
 pub mod ClasswiseLemmas
 pub mod CountLemmas
 pub mod EqualLemmas
@@ -12,13 +13,13 @@ pub mod ListLemmas
 pub mod ListedLemmas
 pub mod MemberLemmas
 pub mod NamedLemmas
-pub mod NearLemmas
 pub mod PartitionLemmas
 pub mod SearchLemmas
 pub mod SideLemmas
 pub mod SoundLemmas
 pub mod SplitLemmas
 pub mod TableLemmas
+pub mod TypedLemmas
 pub mod UniqueLemmas
 pub mod WhereLemmas
 pub mod WideLemmas

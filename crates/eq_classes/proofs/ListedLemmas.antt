@@ -1,6 +1,6 @@
 -- The entries that are made of conjuncts and an ORDER BY are few, and name relations below 16.
 use Rattle.std.proofs.Common.{◌≡◌, ℕ, ◌<◌, ◌≤◌, ◌^◌, Bool, true, ◌&&◌, inl, inr, ⊎_elim, List, [], ◌∷◌, ◌++◌, length, map, All, nat_lt, refl, sym, ap, ◌∙◌, subst, arith}
-use Rattle.std.proofs.lemmas.Bool.{and_parts}
+use Rattle.std.proofs.lemmas.Bool.{and_parts, lt-ltb, ltb-true}
 use Rattle.pg_value.specs.declared.value.SqlType.{SqlType}
 use Rattle.pg_expr.specs.declared.operand.ColRef.{ColRef}
 use Rattle.pg_expr.specs.declared.expr.Expr.{Expr}
@@ -16,10 +16,14 @@ use Rattle.eq_classes.specs.Listing.{clause_of, clauses_of}
 use Rattle.eq_classes.proofs.ListLemmas.{IsIn, all_at, all_from}
 use Rattle.eq_classes.proofs.HoldLemmas.{map_in}
 use Rattle.eq_classes.proofs.SearchLemmas.{same_length}
-use Rattle.eq_classes.proofs.NearLemmas.{member_near, clause_near}
+use Rattle.eq_classes.proofs.ColumnLemmas.{member_passes, clause_passes}
 use Rattle.eq_classes.proofs.NamedLemmas.{clauses_length}
 use Rattle.eq_classes.proofs.FewLemmas.{few_clauses}
 use Rattle.eq_classes.proofs.WideLemmas.{classes_few}
+
+-- a column of a relation below 16
+abbrev is_near : ColRef → Bool
+is_near c = nat_lt c.rel.0 16
 
 each_near : (es : List Expr) → each_column_of (λ c. nat_lt c.rel.0 16) (view.conds es) ≡ true → (k : Cond) → IsIn k (map view.cond es) → rels_below 16 k ≡ true
 each_near [] h k i = absurd i
@@ -36,17 +40,17 @@ listed_is cs d d' start middle last own e e' none m l =
 
 module _ (type_of : ColRef → SqlType) (es : List Expr) (order : List OrderItem) (near : each_column_of (λ c. nat_lt c.rel.0 16) (view.conds es) ≡ true) (items : All (λ i. i.col.rel.0 < 16) order)
     (classes : List Class) (are : AreClasses (given type_of es order) classes) (listed : List Listed) (is : clauses_of classes listed ≡ clause_list type_of (map view.cond es) classes) where
-  item_near : (i : OrderItem) → IsIn i order → i.col.rel.0 < 16
-  item_near = all_at (λ (i : OrderItem). i.col.rel.0 < 16) order items
+  item_near : (i : OrderItem) → IsIn i order → is_near i.col ≡ true
+  item_near i h = lt-ltb i.col.rel.0 16 (all_at (λ (j : OrderItem). j.col.rel.0 < 16) order items i h)
 
   pub listed_near : All (λ k. rels_below 16 (view.cond k.expr) ≡ true) listed
   listed_near = all_from (λ k. rels_below 16 (view.cond k.expr) ≡ true) listed (λ k i.
-      clause_near (given type_of es order) (each_near es near) item_near classes are (clause_of classes k) (subst (λ (l : List Clause). IsIn (clause_of classes k) l) is (map_in (clause_of classes) listed k i)))
+      clause_passes is_near (given type_of es order) (each_near es near) item_near classes are (clause_of classes k) (subst (λ (l : List Clause). IsIn (clause_of classes k) l) is (map_in (clause_of classes) listed k i)))
 
   pub listed_few : length es ≤ 32 → length listed ≤ 512
   listed_few few =
       let n = same_length es in
-      let h = few_clauses (given type_of es order) classes are (member_near (given type_of es order) (each_near es near) item_near classes are) (omega (arith, few, n)) in
+      let h = few_clauses (given type_of es order) classes are (λ c i x ix. ltb-true x.rel.0 16 (member_passes is_near (given type_of es order) (each_near es near) item_near classes are c i x ix)) (omega (arith, few, n)) in
       let e : length (clauses_of classes listed) ≡ length (clause_list type_of (map view.cond es) classes) = ap length is in
       let m = clauses_length classes listed in
       omega (arith, h, e, m)

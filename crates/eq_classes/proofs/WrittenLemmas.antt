@@ -1,5 +1,5 @@
--- The conjuncts of conditions as written have their truth, types and columns.
-use Rattle.std.proofs.Common.{◌≡◌, Bool, true, false, ◌&&◌, inl, inr, ⊎_elim, List, [], ◌∷◌, All, refl, sym, ap, ◌∙◌, subst}
+-- The conjuncts of conditions as written have their truth, types, columns and atoms.
+use Rattle.std.proofs.Common.{◌≡◌, ◌≤◌, ℕ, Bool, true, false, ◌&&◌, inl, inr, ⊎_elim, List, [], ◌∷◌, All, refl, sym, ap, ◌∙◌, subst, arith}
 use Rattle.std.proofs.lemmas.Bool.{and_parts, and_from, or_right}
 use Rattle.pg_value.specs.declared.operators.Truth.{Truth}
 use Rattle.pg_value.specs.declared.operators.Truth.TheVariants.{True, False, Unknown}
@@ -10,13 +10,13 @@ use Rattle.pg_expr.specs.declared.operand.ColRef.{ColRef}
 use Rattle.pg_expr.specs.declared.operand.Operand.{Operand}
 use Rattle.pg_expr.specs.declared.operand.Operand.TheVariants.{Col, Lit}
 use Rattle.pg_expr.specs.Cond.{Cond, compare, is_null, is_not_null, bool_col, const, all_of, any_of, negation, Conds, no_conds, cond_and, conds_of}
-use Rattle.pg_expr.specs.Columns.{passes_column, each_column, each_column_of}
+use Rattle.pg_expr.specs.Columns.{atom_count, atom_count_of, passes_column, each_column, each_column_of}
 use Rattle.pg_expr.specs.Conjuncts.{conjuncts_of}
 use Rattle.pg_expr.specs.Pushed.{pushed}
 use Rattle.pg_expr.specs.Truths.{truth_at, truth_of_all}
 use Rattle.pg_expr.specs.Typed.{IsTyped, AreTyped}
 use Rattle.pg_expr.proofs.DefinedLaws.{pushed-same_truth}
-use Rattle.pg_expr.proofs.KeptLaws.{pushed-typed, pushed-each, conjuncts-typed, conjuncts-each, conjuncts-truth}
+use Rattle.pg_expr.proofs.KeptLaws.{pushed-atoms, pushed-typed, pushed-each, conjuncts-atoms, conjuncts-typed, conjuncts-each, conjuncts-truth}
 use Rattle.eq_classes.specs.Classes.{listed, conjuncts_in}
 use Rattle.eq_classes.specs.Clauses.{Set}
 use Rattle.eq_classes.specs.Parts.{has_column, is_inside}
@@ -63,6 +63,13 @@ listed_each test (cond_and z zs) h k i =
     let parts = and_parts (each_column test z) (each_column_of test zs) h in
     ⊎_elim (λ (e : k ≡ z). ap (each_column test) e ∙ parts.0) (λ (later : IsIn k (listed zs)). listed_each test zs parts.1 k later) i
 
+listed_atoms : (cs : Conds) → (k : Cond) → IsIn k (listed cs) → atom_count k ≤ atom_count_of cs
+listed_atoms no_conds k i = absurd i
+listed_atoms (cond_and z zs) k i = ⊎_elim
+    (λ (e : k ≡ z). let same = ap atom_count e in omega (arith, same))
+    (λ (later : IsIn k (listed zs)). let rest = listed_atoms zs k later in omega (arith, rest))
+    i
+
 any_side : (o : Operand) → passes_column (λ x. true) o ≡ true
 any_side (Col c) = refl
 any_side (Lit v) = refl
@@ -82,10 +89,26 @@ mutual
   any_columns no_conds = refl
   any_columns (cond_and c cs) = and_from _ _ (any_column c) (any_columns cs)
 
-module _ (t : ColRef → SqlType) (ws : List Cond) (typed : All (IsTyped t) ws) where
-  abbrev parts_of_one : Cond → List Cond
-  parts_of_one w = listed (conjuncts_of (pushed false w))
+-- the conjuncts of one condition
+abbrev parts_of_one : Cond → List Cond
+parts_of_one w = listed (conjuncts_of (pushed false w))
 
+-- the columns of the conjuncts pass a test where those of the conditions do
+pub in_columns : (ws : List Cond) (test : ColRef → Bool) → All (λ w. each_column test w ≡ true) ws → All (λ k. each_column test k ≡ true) (conjuncts_in ws)
+in_columns ws test each = all_from (λ k. each_column test k ≡ true) (conjuncts_in ws) (λ k i.
+    let w = in_flat_map parts_of_one ws k i in
+    listed_each test (conjuncts_of (pushed false w.0)) (conjuncts-each test (pushed false w.0) ∙ pushed-each test false w.0 ∙ all_at (λ v. each_column test v ≡ true) ws each w.0 w.1) k w.2)
+
+-- no conjunct has more atoms than a condition
+pub in_atoms : (ws : List Cond) (most : ℕ) → All (λ w. atom_count w ≤ most) ws → All (λ k. atom_count k ≤ most) (conjuncts_in ws)
+in_atoms ws most few = all_from (λ k. atom_count k ≤ most) (conjuncts_in ws) (λ k i.
+    let w = in_flat_map parts_of_one ws k i in
+    let same = conjuncts-atoms (pushed false w.0) ∙ pushed-atoms false w.0 in
+    let here = all_at (λ v. atom_count v ≤ most) ws few w.0 w.1 in
+    let part = listed_atoms (conjuncts_of (pushed false w.0)) k w.2 in
+    omega (arith, same, here, part))
+
+module _ (t : ColRef → SqlType) (ws : List Cond) (typed : All (IsTyped t) ws) where
   pub in_typed : All (IsTyped t) (conjuncts_in ws)
   in_typed = all_from (IsTyped t) (conjuncts_in ws) (λ k i.
       let w = in_flat_map parts_of_one ws k i in
@@ -93,10 +116,8 @@ module _ (t : ColRef → SqlType) (ws : List Cond) (typed : All (IsTyped t) ws) 
 
   pub in_inside : (set : Set) → set 0 ≡ true → All (λ w. each_column (λ x. set x.rel.0) w ≡ true) ws → (k : Cond) → IsIn k (conjuncts_in ws) → is_inside set k ≡ true
   in_inside set zero_in each k i =
-      let w = in_flat_map parts_of_one ws k i in
-      let test : ColRef → Bool = λ x. set x.rel.0 in
       and_from _ _
-      (listed_each test (conjuncts_of (pushed false w.0)) (conjuncts-each test (pushed false w.0) ∙ pushed-each test false w.0 ∙ all_at (λ v. each_column (λ x. set x.rel.0) v ≡ true) ws each w.0 w.1) k w.2)
+      (all_at (λ e. each_column (λ x. set x.rel.0) e ≡ true) (conjuncts_in ws) (in_columns ws (λ x. set x.rel.0) each) k i)
       (or_right (has_column k) (set 0) zero_in)
 
   module _ (b : ColRef → Value) (fits : Fits t b) where

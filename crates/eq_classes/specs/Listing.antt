@@ -51,6 +51,11 @@ abbrev pub conjunct_of : Source → Option ℕ
 conjunct_of (by_conjunct n) = Some n
 conjunct_of s = None
 
+-- the class of which a clause is a pair clause, or none
+abbrev pub pair_class_of : Source → Option ℕ
+pair_class_of (by_pair n c l h) = Some n
+pair_class_of s = None
+
 -- the table of these entries and classes
 abbrev pub table_of : List Class → List Listed → Table
 table_of cs ks = record { clauses = clauses_of cs ks; classes = cs }

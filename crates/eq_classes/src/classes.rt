@@ -55,7 +55,7 @@ impl Classes {
     ghost use Rattle.eq_classes.specs.Parts as parts;
     ghost use Rattle.eq_classes.specs.Parts.{is_lowest, are_lowest, is_all, is_base, is_join, is_param, is_param_from, is_left_out, is_join_param, is_joining, joining_from, first_four};
     ghost use Rattle.pg_expr.specs.AtomSets.{contains};
-    ghost use Rattle.eq_classes.specs.Listing.{class_at, clause_at, clause_of, conjunct_of};
+    ghost use Rattle.eq_classes.specs.Listing.{class_at, clause_at, clause_of, conjunct_of, pair_class_of};
     ghost use Rattle.pg_value.specs.declared.value.Value.{Value};
     ghost use Rattle.pg_expr.specs.declared.operand.ColRef.{ColRef};
     ghost use Rattle.pg_expr.specs.Cond.{Cond, conds_of};
@@ -153,6 +153,17 @@ impl Classes {
     {
         match self.listed(n).origin {
             Origin::Conjunct(k) => Some(k),
+            _ => None,
+        }
+    }
+
+    /// The class whose pair clause of two relations this is. None exactly where it is no pair clause.
+    pub fn pair_class(&self, n: u16) -> Option<ClassNo>
+        requires { n < length self.now.clauses }
+        ensures { option_map (λ c. c.0) result ≡ pair_class_of (clause_at self.now.clauses n).source }
+    {
+        match self.listed(n).origin {
+            Origin::Pair(c, _, _) => Some(ClassNo(c)),
             _ => None,
         }
     }

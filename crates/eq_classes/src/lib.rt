@@ -13,5 +13,5 @@ mod rel_sets;
 mod tests;
 
 pub use classes::{ClassNo, Classes};
-pub use clause_set::ClauseSet;
+pub use clause_set::{ClauseSet, note};
 pub use order::OrderItem;

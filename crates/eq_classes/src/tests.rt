@@ -1,12 +1,16 @@
 //! Small lists of conjuncts with their classes and clauses, and each call once with ample memory.
 
-ghost use Rattle.std.specs.Prelude.{◌≡◌, ◌≤◌, IfOk, length};
+ghost use Rattle.std.specs.Prelude.{◌≡◌, ◌≤◌, true, IfOk, IsTrue, length, nat_lt};
 ghost use Rattle.pg_base.specs.declared.limits.TheConstants.{MOST_CONJUNCTS};
 ghost use Rattle.pg_value.specs.declared.operators.Op.TheVariants.{Eq, AbsEq};
 ghost use Rattle.pg_expr.specs.declared.operand.Operand.TheVariants.{Col, Lit};
 ghost use Rattle.pg_value.specs.declared.value.Value.TheVariants.{Int};
 ghost use Rattle.pg_expr.specs.Cond.{compare, cond_and, no_conds};
+ghost use Rattle.pg_expr.specs.Columns.{each_column, each_column_of};
+ghost use Rattle.pg_expr.specs.Typed.{IsTyped, AreTyped};
 ghost use Rattle.pg_expr.specs.View.{cond, conds};
+ghost use Rattle.pg_value.specs.declared.value.SqlType.TheVariants.{Int8};
+ghost use Rattle.opfamily.specs.Answers.{does_exist};
 
 use crate::classes::{ClassNo, Classes};
 use crate::clause_set::ClauseSet;
@@ -199,6 +203,183 @@ fn constants(rt: HostRuntime) -> Result<(), Fail> {
     assert!(rt; found == Some(ClassNo(1)));
     if let Some(n) = found {
         assert!(rt; t.has_constant(n));
+    }
+    Ok(())
+}
+
+/// The sign of a comparison.
+#[derive(Clone, Copy)]
+enum Sign {
+    Equal,
+    AbsEqual,
+    Greater,
+}
+
+/// A conjunct or a clause of a case, over int8 columns: two columns, each by its relation and its place there, or a column
+/// and a number.
+#[derive(Clone, Copy)]
+enum Part {
+    Two(Sign, u8, u8, u8, u8),
+    One(Sign, u8, u8, i64),
+}
+
+fn op_of(sign: Sign) -> Op
+    ensures { does_exist result Int8 Int8 ≡ true }
+{
+    match sign {
+        Sign::Equal => Op::Eq,
+        Sign::AbsEqual => Op::AbsEq,
+        Sign::Greater => Op::Gt,
+    }
+}
+
+/// The expression of a part. Relations count below 16.
+fn expr_of(part: Part) -> Expr
+    ensures typed { IsTyped (λ c. Int8) (cond result) }
+    ensures rels { IsTrue (each_column (λ c. nat_lt c.rel.0 16) (cond result)) }
+    ensures bound { IsTrue (each_column (λ c. true) (cond result)) }
+{
+    match part {
+        Part::Two(sign, a, i, b, j) => Expr::Compare(
+            op_of(sign),
+            Operand::Col(column(a % 16, i)),
+            Operand::Col(column(b % 16, j)),
+        ),
+        Part::One(sign, a, i, n) => Expr::Compare(
+            op_of(sign),
+            Operand::Col(column(a % 16, i)),
+            Operand::Lit(Value::Int(n)),
+        ),
+    }
+}
+
+/// The expressions of some parts.
+fn exprs_of(alloc: Global, parts: &[Part]) -> Result<Vec<Expr>, Memory>
+    ensures typed { IfOk result (λ es. AreTyped (λ c. Int8) (conds es.items)) }
+    ensures rels { IfOk result (λ es. IsTrue (each_column_of (λ c. nat_lt c.rel.0 16) (conds es.items))) }
+    ensures bound { IfOk result (λ es. IsTrue (each_column_of (λ c. true) (conds es.items))) }
+    ensures many { IfOk result (λ es. length es.items ≡ length parts.now) }
+{
+    let Some((part, others)) = parts.split_first() else {
+        return Ok(Vec::new(alloc));
+    };
+    let mut exprs = exprs_of(alloc, others)?;
+    exprs.insert(0, expr_of(*part))?;
+    Ok(exprs)
+}
+
+#[test]
+fn clauses_of_small_lists(rt: HostRuntime) -> Result<(), Fail> {
+    let alloc = rt.alloc();
+    let table = [
+        // a column and a number
+        (
+            &[Part::One(Sign::Equal, 0, 0, 5)] as &[Part],
+            &[Part::One(Sign::Equal, 0, 0, 5)] as &[Part],
+            &[0u16] as &[u16],
+        ),
+        // two numbers for one column
+        (
+            &[
+                Part::One(Sign::Equal, 0, 0, 1),
+                Part::One(Sign::Equal, 0, 0, 2),
+            ],
+            &[
+                Part::One(Sign::Equal, 0, 0, 1),
+                Part::One(Sign::Equal, 0, 0, 2),
+            ],
+            &[0, 0],
+        ),
+        // one number twice
+        (
+            &[
+                Part::One(Sign::Equal, 0, 0, 1),
+                Part::One(Sign::Equal, 0, 0, 1),
+            ],
+            &[Part::One(Sign::Equal, 0, 0, 1)],
+            &[0],
+        ),
+        // one number joins two columns
+        (
+            &[
+                Part::One(Sign::Equal, 1, 0, 3),
+                Part::One(Sign::Equal, 0, 1, 3),
+            ],
+            &[
+                Part::One(Sign::Equal, 0, 1, 3),
+                Part::One(Sign::Equal, 1, 0, 3),
+            ],
+            &[0, 0],
+        ),
+        // what is no equality comes first, with its number
+        (
+            &[
+                Part::One(Sign::Equal, 0, 1, 7),
+                Part::One(Sign::Greater, 0, 0, 10),
+            ],
+            &[
+                Part::One(Sign::Greater, 0, 0, 10),
+                Part::One(Sign::Equal, 0, 1, 7),
+            ],
+            &[2, 0],
+        ),
+        // a chain over three relations
+        (
+            &[
+                Part::Two(Sign::Equal, 0, 0, 1, 0),
+                Part::Two(Sign::Equal, 1, 0, 2, 0),
+            ],
+            &[
+                Part::Two(Sign::Equal, 0, 0, 1, 0),
+                Part::Two(Sign::Equal, 0, 0, 2, 0),
+                Part::Two(Sign::Equal, 1, 0, 2, 0),
+            ],
+            &[0, 0, 0],
+        ),
+        // two members of one relation
+        (
+            &[
+                Part::Two(Sign::Equal, 0, 0, 0, 1),
+                Part::Two(Sign::Equal, 0, 1, 1, 0),
+            ],
+            &[
+                Part::Two(Sign::Equal, 0, 0, 0, 1),
+                Part::Two(Sign::Equal, 0, 0, 1, 0),
+            ],
+            &[0, 0],
+        ),
+        // two families are two classes
+        (
+            &[
+                Part::Two(Sign::AbsEqual, 0, 0, 1, 0),
+                Part::One(Sign::Equal, 0, 0, 3),
+            ],
+            &[
+                Part::Two(Sign::AbsEqual, 0, 0, 1, 0),
+                Part::One(Sign::Equal, 0, 0, 3),
+            ],
+            &[0, 0],
+        ),
+        // customers, orders and lines: the number reaches the orders
+        (
+            &[
+                Part::Two(Sign::Equal, 0, 0, 1, 1),
+                Part::Two(Sign::Equal, 1, 0, 2, 0),
+                Part::One(Sign::Equal, 0, 0, 7),
+            ],
+            &[
+                Part::One(Sign::Equal, 0, 0, 7),
+                Part::One(Sign::Equal, 1, 1, 7),
+                Part::Two(Sign::Equal, 1, 0, 2, 0),
+            ],
+            &[0, 0, 0],
+        ),
+    ];
+    for (conjuncts, clauses, numbers) in table {
+        assert!(rt; conjuncts.len() <= 32);
+        let given = Exprs::from_vec(exprs_of(alloc, conjuncts)?);
+        let t = Classes::build(alloc, given, &[], &Wide { value: Value::Null })?;
+        assert!(rt; lists(&t, &exprs_of(alloc, clauses)?, numbers));
     }
     Ok(())
 }

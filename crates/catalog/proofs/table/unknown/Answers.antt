@@ -1,7 +1,8 @@
 use Rattle.std.proofs.Common.{◌∙◌, ap, arith, length, map}
 use Rattle.std.specs.Option.{option_map}
 use Rattle.catalog.specs.Entries.{statistics}
-use Rattle.catalog.proofs.NamedLemmas.{no_column, unknown-more}
+use Rattle.catalog.specs.Indexes.{no_column}
+use Rattle.catalog.proofs.NamedLemmas.{unknown-more}
 use Rattle.catalog.proofs.table.unknown.Goals as goal
 
 pub loop-preserved : goal.loop-preserved

@@ -1,5 +1,5 @@
 -- Columns of relations are columns of tables, and what is known of them is lawful.
-use Rattle.std.proofs.Common.{◌≡◌, ◌<◌, ◌≤◌, ◌^◌, ◌&&◌, false, sym, subst, zero, suc, arith, length, nat_lt, [], ◌∷◌, ℕ, List, slice_index_or}
+use Rattle.std.proofs.Common.{◌≡◌, ◌<◌, ◌≤◌, ◌^◌, ◌&&◌, sym, subst, zero, suc, arith, length, nat_lt, [], ◌∷◌, ℕ, List, slice_index_or}
 use Rattle.std.specs.Prelude.{IsTrue, Option, Some, None}
 use Rattle.std.specs.List.{AllZip}
 use Rattle.std.proofs.lemmas.Grind.{common_steps}
@@ -7,12 +7,12 @@ use Rattle.pg_base.specs.declared.numbers.TableNo.{TableNo}
 use Rattle.pg_base.specs.declared.numbers.ColNo.{ColNo}
 use Rattle.pg_value.specs.declared.columns.Column.{Column}
 use Rattle.pg_value.specs.declared.value.SqlType.{SqlType}
-use Rattle.pg_value.specs.declared.value.SqlType.TheVariants as types
 use Rattle.pg_expr.specs.declared.operand.ColRef.{ColRef}
 use Rattle.catalog.specs.Contents.{Contents, IsColumn, IsKnown, IsLawful, IsTable, stats_at, table_at}
-use Rattle.catalog.specs.Range.{Range}
+use Rattle.catalog.specs.Indexes.{no_column}
+use Rattle.catalog.specs.Range.{Range, table_of, type_in}
 use Rattle.catalog.specs.Statistics.{Statistics, IsLawfulStatistics}
-use Rattle.path_cost.specs.Columns.{AreTables, is_column, stats_or, table_of, type_in}
+use Rattle.path_cost.specs.Columns.{AreTables, is_column, stats_or}
 use Rattle.path_cost.specs.Known.{IsLawfulKnown, statistics_of}
 use Rattle.path_cost.specs.declared.known.Known.{Known}
 
@@ -25,7 +25,7 @@ column_laws c range x tables h =
     (both.0, tables x.rel.0 _ both.0, both.1)
 
 -- what is known of a column in a list of what is known of each is lawful
-known-lawful : (columns : List Column) (stats : List (Option Statistics)) (n : ℕ) (s : Statistics) → AllZip IsKnown columns stats → slice_index_or stats n None ≡ Some s → IsLawfulStatistics (slice_index_or columns n (record { typed = types.Bool; not_null = false })).typed s
+known-lawful : (columns : List Column) (stats : List (Option Statistics)) (n : ℕ) (s : Statistics) → AllZip IsKnown columns stats → slice_index_or stats n None ≡ Some s → IsLawfulStatistics (slice_index_or columns n no_column).typed s
 known-lawful [] [] n s h e = absurd (no-some n s e)
   where
     no-some : (n : ℕ) (s : Statistics) → slice_index_or [] n None ≡ Some s → ⊥
@@ -36,7 +36,7 @@ known-lawful (x ∷ xs) [] n s h e = absurd h
 known-lawful (x ∷ xs) (o ∷ os) zero s h e = subst (IsKnown x) e h.0
 known-lawful (x ∷ xs) (o ∷ os) (suc n) s h e = known-lawful xs os n s h.1 e
 
-pub stats_lawful : (c : Contents) (t : TableNo) (x : ColNo) (s : Statistics) → IsLawful c → IsTable c t → stats_at c t x ≡ Some s → IsLawfulStatistics (slice_index_or (table_at c t).columns x.0 (record { typed = types.Bool; not_null = false })).typed s
+pub stats_lawful : (c : Contents) (t : TableNo) (x : ColNo) (s : Statistics) → IsLawful c → IsTable c t → stats_at c t x ≡ Some s → IsLawfulStatistics (slice_index_or (table_at c t).columns x.0 no_column).typed s
 stats_lawful c t x s h within e = known-lawful (table_at c t).columns (table_at c t).stats x.0 s (h.tables t.0 _ within).stats e
 
 pub nulls_most : (c : Contents) (t : TableNo) (x : ColNo) (s : Statistics) → IsLawful c → IsTable c t → stats_at c t x ≡ Some s → s.nulls ≤ 10 ^ 6

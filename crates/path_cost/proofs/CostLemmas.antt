@@ -1,5 +1,5 @@
 -- Operators past what a word holds make a cost that is cut.
-use Rattle.std.proofs.Common.{◌≡◌, ◌<◌, ◌≤◌, ℕ, suc, ◌+◌, ◌-◌, ◌*◌, ◌^◌, ◌&&◌, ◌||◌, min, nat_lt, Bool, true, false, List, [], ◌∷◌, zero, refl, sym, ap, subst, arith, length, drop, mul-le-mul_right, inl, inr}
+use Rattle.std.proofs.Common.{◌≡◌, ◌<◌, ◌≤◌, ◌∙◌, ℕ, suc, ◌+◌, ◌-◌, ◌*◌, ◌^◌, ◌&&◌, ◌||◌, min, nat_lt, not, Bool, true, false, List, [], ◌∷◌, zero, refl, sym, ap, subst, arith, length, drop, mul-le-mul_right, inl, inr}
 use Rattle.std.proofs.lemmas.Grind.{common_steps}
 use Rattle.std.proofs.lemmas.Bool.{cases_lt}
 use Rattle.pg_expr.specs.AtomSets.{contains}
@@ -8,11 +8,11 @@ use Rattle.eq_classes.specs.Listing.{clause_at}
 use Rattle.eq_classes.specs.Parts.{is_base, is_param}
 use Rattle.pg_expr.specs.Columns.{atom_count}
 use Rattle.cost_rules.specs.Costs.{pair, capped, capped_pair, row_cost}
-use Rattle.cost_rules.specs.Scans.{bitmap_scan_cost, heap_pages_of, page_in_order, seq_scan_cost}
+use Rattle.cost_rules.specs.Scans.{bitmap_scan_cost, fetch_cost, index_scan_cost, heap_pages_of, page_in_order, seq_scan_cost}
 use Rattle.cost_rules.specs.declared.parameters.TheConstants.{MOST_COST, SEQUENTIAL_PAGE}
 use Rattle.path_cost.specs.Costs.{operators}
-use Rattle.path_cost.specs.Estimates.{either, conditions_from, conditions_where}
-use Rattle.path_cost.proofs.KeptLemmas.{where_params, where-from, conditions-at}
+use Rattle.path_cost.specs.Estimates.{either, either_but, conditions_from, conditions_where, is_local}
+use Rattle.path_cost.proofs.KeptLemmas.{where_params, where-from, from-same, conditions-at}
 
 once : (r x : ℕ) → 1 ≤ r → x ≤ r * x
 once r x h = grind (arith, common_steps, mul-le-mul_right x h)
@@ -36,18 +36,49 @@ seq_cut pages rows n some = ap (pair (capped 0)) (work-cut (pages * SEQUENTIAL_P
 pub bitmap_cut : (parts rows pages n : ℕ) → 1 ≤ rows → capped_pair (bitmap_scan_cost parts rows pages (min n (2 ^ 64 - 1))) ≡ capped_pair (bitmap_scan_cost parts rows pages n)
 bitmap_cut parts rows pages n some = ap (pair (capped parts)) (work-cut (parts + heap_pages_of rows pages * page_in_order (heap_pages_of rows pages) pages) rows n some)
 
--- the operators of the clauses over a relation, and of those of its parameterisation
-pub base_operators : (r : ℕ) (base none : List ℕ) (ks : List Clause) → ((k : ℕ) → contains base k ≡ nat_lt k (length ks) && is_base r (clause_at ks k)) → ((k : ℕ) → contains none k ≡ false) → operators (conditions_from 0 (either base none) ks) ≡ operators (conditions_where (is_base r) ks)
-base_operators r base none ks h g = ap operators (where-from (is_base r) (either base none) ks 0 at)
+-- a part that was cut before, and operators past what a word holds
+pub index_cut : (descent part : ℕ) (only : Bool) (rows pages n : ℕ) → 1 ≤ rows → capped_pair (index_scan_cost descent (capped part) only rows pages (min n (2 ^ 64 - 1))) ≡ capped_pair (index_scan_cost descent part only rows pages n)
+index_cut descent part only rows pages n some = ap (pair (capped descent)) (plus-two part (fetch_cost only rows pages) (rows * row_cost (min n (2 ^ 64 - 1))) ∙ work-cut (part + fetch_cost only rows pages) rows n some)
   where
-    one : (n m : ℕ) (a x y : Bool) → n < m → x ≡ nat_lt n m && a → y ≡ false → x || y ≡ a
+    plus-two : (x y z : ℕ) → capped (capped x + y + z) ≡ capped (x + y + z)
+    plus-two x y z = omega arith
+
+-- an index scan over numbers that are those of a rule
+pub index_rule : (d part found pages ops descent own rows touched all most : ℕ) (only : Bool) → d ≡ descent → part ≡ capped own → found ≡ rows → pages ≡ touched → ops ≡ min all (2 ^ 64 - 1) → all ≡ most → 1 ≤ rows →
+    capped_pair (index_scan_cost d part only found pages ops) ≡ capped_pair (index_scan_cost descent own only rows touched most)
+index_rule d part found pages ops descent own rows touched all most only e f g h i j some =
+    ap (λ x. capped_pair (index_scan_cost x part only found pages ops)) e
+    ∙ ap (λ x. capped_pair (index_scan_cost descent x only found pages ops)) f
+    ∙ ap (λ x. capped_pair (index_scan_cost descent (capped own) only x pages ops)) g
+    ∙ ap (λ x. capped_pair (index_scan_cost descent (capped own) only rows x ops)) h
+    ∙ ap (λ x. capped_pair (index_scan_cost descent (capped own) only rows touched x)) (i ∙ ap (λ x. min x (2 ^ 64 - 1)) j)
+    ∙ index_cut descent own only rows touched most some
+
+-- the operators of the clauses over a relation, and of those of its parameterisation
+pub base_operators : (r : ℕ) (base none : List ℕ) (ks : List Clause) → ((k : ℕ) → contains base k ≡ nat_lt k (length ks) && is_base r (clause_at ks k)) → ((k : ℕ) → contains none k ≡ false) → operators (conditions_from 0 (either_but base none none) ks) ≡ operators (conditions_where (is_base r) ks)
+base_operators r base none ks h g = ap operators (where-from (is_base r) (either_but base none none) ks 0 at)
+  where
+    one : (n m : ℕ) (a x y : Bool) → n < m → x ≡ nat_lt n m && a → y ≡ false → (x || y) && not y ≡ a
     one n m a x y lt e f = grind (arith, common_steps, lt, e, f)
 
-    at : (k : ℕ) → k < length ks → either base none (0 + k) ≡ is_base r (clause_at ks k)
-    at k lt = subst (λ m. either base none m ≡ is_base r (clause_at ks k)) (let same : k ≡ 0 + k = omega arith in same) (one k (length ks) (is_base r (clause_at ks k)) (contains base k) (contains none k) lt (h k) (g k))
+    at : (k : ℕ) → k < length ks → either_but base none none (0 + k) ≡ is_base r (clause_at ks k)
+    at k lt = subst (λ m. either_but base none none m ≡ is_base r (clause_at ks k)) (let same : k ≡ 0 + k = omega arith in same) (one k (length ks) (is_base r (clause_at ks k)) (contains base k) (contains none k) lt (h k) (g k))
 
-pub local_operators_are : (r : ℕ) (p : Set) (base param : List ℕ) (ks : List Clause) → ((k : ℕ) → contains base k ≡ nat_lt k (length ks) && is_base r (clause_at ks k)) → ((k : ℕ) → contains param k ≡ nat_lt k (length ks) && is_param r p (clause_at ks k)) → operators (conditions_from 0 (either base param) ks) ≡ operators (conditions_where (λ k. is_base r k || is_param r p k) ks)
-local_operators_are r p base param ks h g = ap operators (where_params r p base param ks h g)
+pub local_operators_are : (r : ℕ) (p : Set) (base param none : List ℕ) (ks : List Clause) → ((k : ℕ) → contains base k ≡ nat_lt k (length ks) && is_base r (clause_at ks k)) → ((k : ℕ) → contains param k ≡ nat_lt k (length ks) && is_param r p (clause_at ks k)) → ((k : ℕ) → contains none k ≡ false) → operators (conditions_from 0 (either_but base param none) ks) ≡ operators (conditions_where (is_local r p) ks)
+local_operators_are r p base param none ks h g e = ap operators (from-same 0 (either_but base param none) (either base param) ks (λ k lt. but-none (either base param (0 + k)) (contains none (0 + k)) (e (0 + k))) ∙ where_params r p base param ks h g)
+  where
+    but-none : (x y : Bool) → y ≡ false → x && not y ≡ x
+    but-none x y f = grind (arith, common_steps, f)
+
+-- the operators of a relation's clauses that are no conditions of an index
+pub other_operators_are : (r : ℕ) (p : Set) (base param conditions : List ℕ) (ks : List Clause) → ((k : ℕ) → contains base k ≡ nat_lt k (length ks) && is_base r (clause_at ks k)) → ((k : ℕ) → contains param k ≡ nat_lt k (length ks) && is_param r p (clause_at ks k)) → operators (conditions_from 0 (either_but base param conditions) ks) ≡ operators (conditions_from 0 (λ n. is_local r p (clause_at ks n) && not (contains conditions n)) ks)
+other_operators_are r p base param conditions ks h g = ap operators (from-same 0 (either_but base param conditions) (λ n. is_local r p (clause_at ks n) && not (contains conditions n)) ks at)
+  where
+    two : (n m : ℕ) (a b x y z : Bool) → n < m → x ≡ nat_lt n m && a → y ≡ nat_lt n m && b → (x || y) && not z ≡ (a || b) && not z
+    two n m a b x y z lt e f = grind (arith, common_steps, lt, e, f)
+
+    at : (k : ℕ) → k < length ks → either_but base param conditions (0 + k) ≡ is_local r p (clause_at ks (0 + k)) && not (contains conditions (0 + k))
+    at k lt = two (0 + k) (length ks) (is_base r (clause_at ks (0 + k))) (is_param r p (clause_at ks (0 + k))) (contains base (0 + k)) (contains param (0 + k)) (contains conditions (0 + k)) (omega (arith, lt)) (h (0 + k)) (g (0 + k))
 
 -- operators summed clause by clause
 pub sum-yes : (ks : List Clause) (chosen : ℕ → Bool) (n sum ops next whole : ℕ) → n < length ks → chosen n ≡ true → ops ≡ min (atom_count (clause_at ks n).cond) (2 ^ 64 - 1) → next ≡ min (sum + ops) (2 ^ 64 - 1) → min (sum + operators (conditions_from n chosen (drop n ks))) (2 ^ 64 - 1) ≡ whole → min (next + operators (conditions_from (n + 1) chosen (drop (n + 1) ks))) (2 ^ 64 - 1) ≡ whole
@@ -62,7 +93,7 @@ sum-no ks chosen n sum next whole lt e g h =
     subst (λ x. min (next + operators x) (2 ^ 64 - 1) ≡ whole) (conditions-at ks chosen n false lt e)
     (subst (λ m. min (m + operators (conditions_from n chosen (drop n ks))) (2 ^ 64 - 1) ≡ whole) (sym g) h)
 
-none-left : (ks : List Clause) (n : ℕ) → length ks ≤ n → drop n ks ≡ []
+pub none-left : (ks : List Clause) (n : ℕ) → length ks ≤ n → drop n ks ≡ []
 none-left [] zero h = refl
 none-left [] (suc n) h = refl
 none-left (k ∷ ks) zero h = absurd (omega (arith, h))

@@ -4,3 +4,8 @@ pub mod ColumnLemmas
 pub mod KeptLemmas
 pub mod ProductLemmas
 pub mod CostLemmas
+pub mod PartLemmas
+pub mod PredicateLemmas
+pub mod CountLemmas
+pub mod LimitLemmas
+pub mod ScanLemmas

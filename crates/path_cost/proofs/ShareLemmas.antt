@@ -11,6 +11,7 @@ use Rattle.pg_value.specs.declared.operators.Op.{Op}
 use Rattle.pg_value.specs.declared.operators.Op.TheVariants.{Lt, Le, Eq, Ge, Gt, Ne, AbsLt, AbsLe, AbsEq, AbsGe, AbsGt}
 use Rattle.pg_value.specs.declared.value.SqlType.{SqlType}
 use Rattle.pg_value.specs.declared.value.Value.{Value}
+use Rattle.cost_rules.proofs.RisingLemmas.{ceil-least}
 use Rattle.catalog.specs.Statistics.{Statistics, Common, IsLawfulStatistics, shares}
 use Rattle.catalog.specs.declared.limits.TheConstants.{WHOLE_SHARE}
 use Rattle.path_cost.specs.declared.shares.TheConstants.{ALL_ROWS, THIRD, UNKNOWN_NULLS, PER_SHARE}
@@ -55,14 +56,6 @@ less-than-all a = omega arith
 
 part-most : (n d m : ℕ) → n ≤ m → n / d ≤ m
 part-most n d m h = le_trans (div-le_self n d) h
-
--- a fraction rounded up is the least number whose multiple reaches the dividend
-pub ceil-least : (x k n : ℕ) → 1 ≤ n → x ≤ k * n → div_ceil x n ≤ k
-ceil-least x k n some h =
-    let bounds = div_ceil_times x n some in
-    let below : div_ceil x n * n < (k + 1) * n = omega (arith, bounds.1, h, add-mul k 1 n) in
-    let less : div_ceil x n < k + 1 = lt_of_mul-lt-mul_right n below in
-    omega (arith, less)
 
 -- a common value's share is one of them
 share-most : (test : Common → Bool) (xs : List Common) (n : ℕ) → option_map (λ (p : Common). p.1) (find test xs) ≡ Some n → n ≤ shares xs

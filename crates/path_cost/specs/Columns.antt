@@ -1,29 +1,14 @@
 -- What is known of the columns of a query. The values without statistics are own.
-use Rattle.std.specs.Prelude.{ℕ, ◌&&◌, Bool, false, [], length, min, nat_lt, slice_index_or, All, IsTrue, Option, Some, None}
-use Rattle.pg_base.specs.declared.numbers.TableNo.{TableNo}
-use Rattle.pg_value.specs.declared.columns.Column.{Column}
-use Rattle.pg_value.specs.declared.value.SqlType.{SqlType}
-use Rattle.pg_value.specs.declared.value.SqlType.TheVariants as types
+use Rattle.std.specs.Prelude.{ℕ, ◌&&◌, Bool, [], length, min, nat_lt, All, IsTrue, Option, Some, None}
 use Rattle.pg_expr.specs.declared.operand.ColRef.{ColRef}
 use Rattle.pg_expr.specs.Columns.{each_column}
 use Rattle.pg_expr.specs.Cond.{Cond}
 use Rattle.pg_expr.specs.Typed.{IsTyped}
 use Rattle.catalog.specs.Contents.{Contents, IsTable, stats_at, table_at}
-use Rattle.catalog.specs.Range.{Range, relation_at}
+use Rattle.catalog.specs.Range.{Range, table_of, type_in}
 use Rattle.catalog.specs.Statistics.{Statistics}
 use Rattle.catalog.specs.Tables.{rows_of}
 use Rattle.path_cost.specs.declared.shares.TheConstants.{UNKNOWN_DISTINCT}
-
--- the table of a column's relation
-abbrev pub table_of : Range → ColRef → TableNo
-table_of range x = (relation_at range x.rel).0
-
--- the column of a relation's table
-abbrev pub column_at : Contents → Range → ColRef → Column
-column_at c range x = slice_index_or (table_at c (table_of range x)).columns x.col.0 (record { typed = types.Bool; not_null = false })
-
-abbrev pub type_in : Contents → Range → ColRef → SqlType
-type_in c range x = (column_at c range x).typed
 
 -- a column is one of a relation's table
 abbrev pub is_column : Contents → Range → ColRef → Bool

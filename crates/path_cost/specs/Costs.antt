@@ -1,25 +1,57 @@
--- Costs of scans over a catalogue, a query's relations and its clauses. They are exact: no number is cut. Own; the rules
--- for numbers are those of cost_rules.
-use Rattle.std.specs.Prelude.{ℕ, ◌+◌, ◌||◌, Bool, List, [], ◌∷◌}
+-- Costs of scans over a catalogue, a query's relations and its clauses. They are exact: no number is cut. Own, in the
+-- manner of PostgreSQL's cost_seqscan, cost_index, cost_bitmap_tree_node and cost_bitmap_heap_scan; the rules for numbers
+-- are those of cost_rules.
+use Rattle.std.specs.Prelude.{ℕ, ◌+◌, ◌&&◌, min, not, Bool, List, [], ◌∷◌, length}
+use Rattle.pg_base.specs.declared.numbers.IndexNo.{IndexNo}
+use Rattle.opfamily.specs.declared.classes.Method.{Method}
+use Rattle.opfamily.specs.declared.classes.Method.TheVariants.{Btree, Hash}
 use Rattle.pg_expr.specs.Cond.{Cond}
 use Rattle.pg_expr.specs.Columns.{atom_count}
-use Rattle.catalog.specs.Contents.{Contents}
+use Rattle.catalog.specs.Contents.{Contents, index_at}
 use Rattle.catalog.specs.Range.{Range}
 use Rattle.eq_classes.specs.Clauses.{Set, Table}
-use Rattle.eq_classes.specs.Parts.{is_base, is_param}
+use Rattle.eq_classes.specs.Listing.{clause_at}
+use Rattle.eq_classes.specs.Parts.{is_base}
 use Rattle.cost_rules.specs.declared.pair.Pair.{Pair}
-use Rattle.cost_rules.specs.Scans.{seq_scan_cost, bitmap_scan_cost}
-use Rattle.path_cost.specs.Estimates.{conditions_from, conditions_where, kept, table_pages, table_rows}
+use Rattle.cost_rules.specs.declared.parameters.TheConstants.{HASH_DESCENT}
+use Rattle.cost_rules.specs.Scans.{descent_of, part_cost, index_scan_cost, seq_scan_cost, bitmap_scan_cost}
+use Rattle.path_cost.specs.Estimates.{conditions_from, conditions_where, entries, is_local, kept, picked_from, table_pages, table_rows}
 
 -- the operators of conditions: their atoms together
 abbrev pub operators : List Cond → ℕ
 operators [] = 0
 operators (e ∷ es) = atom_count e + operators es
 
+-- the way down an index: through the levels of a B-tree, one step in a hash index
+abbrev pub descent_by : Method → ℕ → ℕ
+descent_by Btree n = descent_of n
+descent_by Hash n = HASH_DESCENT
+
+abbrev pub descent : Contents → IndexNo → ℕ
+descent c i = descent_by (index_at c i).method (entries c i)
+
+module _ (c : Contents) (range : Range) where
+  -- the entries that a scan of an index looks at: those that meet its bounds, no more than there are
+  abbrev pub touched : IndexNo → ℕ → List Cond → ℕ
+  touched i r bounds = min (entries c i) (kept c range (table_rows c range r) bounds)
+
+  -- an index's own part, with its bounds, and so many conditions on each entry
+  abbrev pub part_within : IndexNo → ℕ → List Cond → ℕ → ℕ
+  part_within i r bounds n = part_cost (descent c i) (touched i r bounds) (entries c i) n
+
+  -- the part of the index that serves an arm of an OR: the arm's parts in order, of which those of these numbers are
+  -- bounds and all are conditions
+  abbrev pub arm_part : IndexNo → ℕ → List Cond → (ℕ → Bool) → ℕ
+  arm_part i r parts bounds = part_within i r (picked_from 0 bounds parts) (length parts)
+
 module _ (c : Contents) (range : Range) (t : Table) where
   -- the operators of a relation's clauses, with those of its parameterisation
   abbrev pub local_operators : ℕ → Set → ℕ
-  local_operators r p = operators (conditions_where (λ k. is_base r k || is_param r p k) t.clauses)
+  local_operators r p = operators (conditions_where (is_local r p) t.clauses)
+
+  -- the operators of those of them that are no conditions of an index
+  abbrev pub other_operators : ℕ → Set → (ℕ → Bool) → ℕ
+  other_operators r p conditions = operators (conditions_from 0 (λ n. is_local r p (clause_at t.clauses n) && not (conditions n)) t.clauses)
 
   -- a sequential scan: every page, and each row with the clauses over the relation alone
   abbrev pub seq_cost : ℕ → Pair
@@ -28,6 +60,20 @@ module _ (c : Contents) (range : Range) (t : Table) where
   -- the rows of a relation after the clauses of a set of numbers
   abbrev pub rows_after : ℕ → (ℕ → Bool) → ℕ
   rows_after r chosen = kept c range (table_rows c range r) (conditions_from 0 chosen t.clauses)
+
+  -- an index's own part, where the clauses of a set of numbers are its bounds, and those of another its conditions
+  abbrev pub index_part : IndexNo → ℕ → (ℕ → Bool) → (ℕ → Bool) → ℕ
+  index_part i r bounds conditions = part_within c range i r (conditions_from 0 bounds t.clauses) (length (conditions_from 0 conditions t.clauses))
+
+  -- the rows that a scan of an index finds: the entries that meet its conditions
+  abbrev pub found : IndexNo → ℕ → (ℕ → Bool) → ℕ
+  found i r conditions = min (entries c i) (rows_after r conditions)
+
+  -- an index scan: the index's part, the heap pages of the rows found, none where it is index-only, and each of these
+  -- rows with the clauses that are no conditions
+  abbrev pub index_cost : IndexNo → ℕ → Set → (ℕ → Bool) → (ℕ → Bool) → Bool → Pair
+  index_cost i r p bounds conditions only =
+      index_scan_cost (descent c i) (index_part i r bounds conditions) only (found i r conditions) (table_pages c range r) (other_operators r p conditions)
 
   -- a bitmap scan over the parts of its indexes: the rows are those after the clauses that it uses, and each is tested by
   -- all clauses of the relation and of the parameterisation

@@ -1,15 +1,18 @@
 -- Estimated rows. Own, in the manner of PostgreSQL's clauselist_selectivity, set_baserel_size_estimates and
 -- get_parameterized_baserel_size.
-use Rattle.std.specs.Prelude.{ℕ, ◌+◌, ◌*◌, Bool, ◌||◌, cond, List, [], ◌∷◌, map, filter, fold, length}
-use Rattle.std.specs.List.{range_with_len}
+use Rattle.std.specs.Prelude.{ℕ, ◌+◌, ◌*◌, Bool, false, ◌&&◌, ◌||◌, cond, nat_eq, not, List, [], ◌∷◌, map, filter, fold, length, Option, Some, None}
+use Rattle.std.specs.List.{list_any, range_with_len}
 use Rattle.std.specs.Int.{div_ceil}
+use Rattle.pg_base.specs.declared.numbers.IndexNo.{IndexNo}
 use Rattle.pg_expr.specs.AtomSets.{contains}
 use Rattle.pg_expr.specs.Cond.{Cond}
-use Rattle.catalog.specs.Contents.{Contents}
+use Rattle.catalog.specs.Contents.{Contents, index_at}
+use Rattle.catalog.specs.Indexes.{Index}
 use Rattle.catalog.specs.Range.{Range, relation_at}
 use Rattle.catalog.specs.Tables.{rows_of, pages_of}
 use Rattle.eq_classes.specs.Clauses.{Clause, Set, Table}
-use Rattle.eq_classes.specs.Parts.{is_all, is_base, is_param}
+use Rattle.eq_classes.specs.Listing.{pair_class_of}
+use Rattle.eq_classes.specs.Parts.{is_all, is_base, is_join, is_param}
 use Rattle.cost_rules.specs.Powers.{clamped}
 use Rattle.path_cost.specs.declared.shares.TheConstants.{ALL_ROWS}
 use Rattle.path_cost.specs.Selectivity.{selectivity}
@@ -18,14 +21,34 @@ use Rattle.path_cost.specs.Selectivity.{selectivity}
 abbrev pub conditions_where : (Clause → Bool) → List Clause → List Cond
 conditions_where test clauses = map (λ (k : Clause). k.cond) (filter test clauses)
 
+-- those of a list of conditions that have a number of a set, in order; the first of the list has the number given
+abbrev pub picked_from : ℕ → (ℕ → Bool) → List Cond → List Cond
+picked_from n chosen [] = []
+picked_from n chosen (e ∷ es) = cond (chosen n) (e ∷ picked_from (n + 1) chosen es) (picked_from (n + 1) chosen es)
+
 -- the conditions of the clauses of a set of numbers, by their numbers; the first clause of the list has the number given
 abbrev pub conditions_from : ℕ → (ℕ → Bool) → List Clause → List Cond
-conditions_from n chosen [] = []
-conditions_from n chosen (k ∷ ks) = cond (chosen n) (k.cond ∷ conditions_from (n + 1) chosen ks) (conditions_from (n + 1) chosen ks)
+conditions_from n chosen clauses = picked_from n chosen (map (λ (k : Clause). k.cond) clauses)
+
+-- a clause is over a relation alone, or one that it tests with the relations of a parameterisation
+abbrev pub is_local : ℕ → Set → Clause → Bool
+is_local r p k = is_base r k || is_param r p k
+
+-- a clause is the pair clause of a class of a list
+abbrev pub is_pair_by : Option ℕ → List ℕ → Bool
+is_pair_by None keys = false
+is_pair_by (Some n) keys = list_any (nat_eq n) keys
+
+abbrev pub is_pair_of : List ℕ → Clause → Bool
+is_pair_of keys k = is_pair_by (pair_class_of k.source) keys
 
 -- a number is in one of two sets of clauses
 abbrev pub either : List ℕ → List ℕ → ℕ → Bool
 either a b n = contains a n || contains b n
+
+-- and not in a third
+abbrev pub either_but : List ℕ → List ℕ → List ℕ → ℕ → Bool
+either_but a b c n = either a b n && not (contains c n)
 
 -- the relations of a set from a number on, so many of them, in FROM order
 abbrev pub relations_from : ℕ → ℕ → Set → List ℕ
@@ -63,4 +86,17 @@ module _ (c : Contents) (range : Range) where
 
   -- the rows of a relation with the relations of a parameterisation
   abbrev pub param_rows : Table → ℕ → Set → ℕ
-  param_rows t r p = kept (table_rows c range r) (conditions_where (λ k. is_base r k || is_param r p k) t.clauses)
+  param_rows t r p = kept (table_rows c range r) (conditions_where (is_local r p) t.clauses)
+
+  -- the pairs of rows of two sets that are equal in the classes of a list
+  abbrev pub pairs : Table → Set → Set → List ℕ → ℕ
+  pairs t a b keys = kept (clamped (set_rows t a * set_rows t b)) (conditions_where (λ k. is_join a b k && is_pair_of keys k) t.clauses)
+
+-- the entries of an index: the rows of its table at which its predicate, as one condition, is taken to be True; without
+-- a predicate all rows
+abbrev pub entries_by : Contents → Index → Option Cond → ℕ
+entries_by c x None = rows_of c x.table
+entries_by c x (Some predicate) = kept c ((x.table, []) ∷ []) (rows_of c x.table) (predicate ∷ [])
+
+abbrev pub entries : Contents → IndexNo → ℕ
+entries c i = entries_by c (index_at c i) (index_at c i).predicate

@@ -4,3 +4,5 @@ pub mod Known
 pub mod Relations
 pub mod Estimates
 pub mod Costs
+pub mod Limits
+pub mod NumberTables

@@ -13,12 +13,12 @@ use Rattle.pg_expr.specs.declared.operand.Operand.{Operand}
 use Rattle.pg_expr.specs.declared.operand.Operand.TheVariants.{Col, Lit}
 use Rattle.pg_expr.specs.Cond.{Cond, compare, is_null, is_not_null, bool_col, const, all_of, any_of, negation, Conds, no_conds, cond_and}
 use Rattle.catalog.specs.Contents.{Contents}
-use Rattle.catalog.specs.Range.{Range}
+use Rattle.catalog.specs.Range.{Range, column_at}
 use Rattle.catalog.specs.Statistics.{Common, Statistics, shares}
 use Rattle.catalog.specs.declared.limits.TheConstants.{WHOLE_SHARE}
 use Rattle.eq_classes.specs.Holding.{is_true}
 use Rattle.path_cost.specs.declared.shares.TheConstants.{ALL_ROWS, THIRD, HALF, UNKNOWN_NULLS, PER_SHARE}
-use Rattle.path_cost.specs.Columns.{column_at, known, stats_of}
+use Rattle.path_cost.specs.Columns.{known, stats_of}
 
 -- a comparison of two values is True
 abbrev pub holds : Op → Value → Value → Bool

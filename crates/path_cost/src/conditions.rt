@@ -6,7 +6,8 @@ ghost use Rattle.pg_expr.specs.Columns.{each_column, each_column_of, passes_colu
 ghost use Rattle.pg_expr.specs.Typed.{AreTyped, IsTyped, some_value};
 ghost use Rattle.pg_expr.specs.Cond as conds;
 ghost use Rattle.pg_expr.specs.View as view;
-ghost use Rattle.path_cost.specs.Columns.{AreTables, IsOver, is_column, stats_of, type_in};
+ghost use Rattle.path_cost.specs.Columns.{AreTables, IsOver, is_column, stats_of};
+ghost use Rattle.catalog.specs.Range.{type_in};
 ghost use Rattle.path_cost.specs.Relations.{range_of};
 ghost use Rattle.path_cost.specs.Selectivity as sel;
 

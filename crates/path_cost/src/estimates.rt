@@ -1,24 +1,28 @@
 //! Estimated rows. Rows are from 1 to 10^12.
 
-ghost use Rattle.std.specs.Prelude.{◌≡◌, ◌≤◌, ◌<◌, ◌^◌, ◌*◌, All, length};
+ghost use Rattle.std.specs.Prelude.{◌≡◌, ◌≤◌, ◌<◌, ◌^◌, ◌*◌, ◌&&◌, ℕ, All, length, map, nat_eq, nat_lt};
+ghost use Rattle.std.specs.List.{list_any};
 ghost use Rattle.pg_base.specs.Sets.{has};
 ghost use Rattle.pg_expr.specs.AtomSets.{contains};
 ghost use Rattle.eq_classes.specs.Clauses.{Clause};
+ghost use Rattle.eq_classes.specs.Listing.{clause_at};
+ghost use Rattle.eq_classes.specs.Parts.{is_join};
+ghost use Rattle.eq_classes.specs.declared.classes.ClassNo.{ClassNo};
 ghost use Rattle.catalog.specs.Contents.{IsTable};
 ghost use Rattle.cost_rules.specs.Costs.{IsEstimate};
 ghost use Rattle.cost_rules.specs.Powers.{clamped};
 ghost use Rattle.path_cost.specs.Columns.{AreTables, IsOver};
-ghost use Rattle.path_cost.specs.Estimates.{either, conditions_from, kept, param_rows, product_rows, relations, set_rows, share_of_rows, table_rows};
+ghost use Rattle.path_cost.specs.Estimates.{either, conditions_from, is_pair_of, kept, pairs as pairs_of, param_rows, product_rows, relations, set_rows, share_of_rows, table_rows};
 
 use crate::conditions::selectivity;
 use crate::shares::ALL_ROWS;
 use catalog::{Catalog, RangeTable};
 use cost_rules::MOST_ESTIMATE;
-use eq_classes::{Classes, ClauseSet};
+use eq_classes::{ClassNo, Classes, ClauseSet, note};
 use pg_base::{RelNo, RelSet};
 
 /// A share of some rows, rounded up.
-fn keep(rows: u64, share: u32) -> u64
+pub(crate) fn keep(rows: u64, share: u32) -> u64
     requires rows { rows ≤ 10 ^ 12 }
     requires share { share ≤ 1_000_000_000 }
     ensures value { result ≡ share_of_rows rows share }
@@ -116,6 +120,66 @@ fn product(cat: &Catalog, range: &RangeTable, s: RelSet) -> u64
         }
     }
     rows
+}
+
+/// The pairs of rows of two sets that are equal in some classes, before the other clauses that join the sets: a merge by
+/// these classes works on so many.
+#[tactic(auto, using(crate::proofs::KeptLemmas::used_alone, crate::proofs::KeptLemmas::where_pairs))]
+pub fn pairs(
+    cat: &Catalog,
+    range: &RangeTable,
+    classes: &Classes,
+    a: RelSet,
+    b: RelSet,
+    keys: &[ClassNo],
+) -> u64
+    requires tables { AreTables cat.now range.now }
+    requires clauses { All (λ (k : Clause). IsOver cat.now range.now k.cond) classes.now.clauses }
+    requires few { length range.now ≤ 16 }
+    ensures rows { result ≡ pairs_of cat.now range.now classes.now (has a.0) (has b.0) (map (λ (k : ClassNo). k.0) keys.now) }
+    ensures estimate { IsEstimate result }
+{
+    let product = times(rows(cat, range, classes, a), rows(cat, range, classes, b));
+    let equal = key_pairs(classes, a, b, keys);
+    after(cat, range, classes, product, &equal, &ClauseSet::empty())
+}
+
+/// The pair clauses of some classes among the clauses that join two sets.
+#[tactic(auto, using(eq_classes::proofs::WordLemmas::grows, crate::proofs::KeptLemmas::inside_twice))]
+pub fn key_pairs(classes: &Classes, a: RelSet, b: RelSet, keys: &[ClassNo]) -> ClauseSet
+    ensures { (k : ℕ) → contains result k ≡ nat_lt k (length classes.now.clauses) && (is_join (has a.0) (has b.0) (clause_at classes.now.clauses k) && is_pair_of (map (λ (k : ClassNo). k.0) keys.now) (clause_at classes.now.clauses k)) }
+{
+    let joining = classes.join_clauses(a, b);
+    let mut set = ClauseSet::empty();
+    for n in 0..classes.count() {
+        let is = is_key_pair(classes, &joining, n as u16, keys);
+        note(&mut set, n as u16, is);
+    }
+    set
+}
+
+/// Whether a clause is in a set and the pair clause of one of some classes.
+fn is_key_pair(classes: &Classes, joining: &ClauseSet, n: u16, keys: &[ClassNo]) -> bool
+    requires clause { n < length classes.now.clauses }
+    requires below { n < 512 }
+    ensures { result ≡ contains joining.now n && is_pair_of (map (λ (k : ClassNo). k.0) keys.now) (clause_at classes.now.clauses n) }
+{
+    match classes.pair_class(n) {
+        Some(class) => joining.has(n) && is_among(keys, class),
+        None => false,
+    }
+}
+
+/// Whether a class is one of some.
+fn is_among(keys: &[ClassNo], class: ClassNo) -> bool
+    ensures { result ≡ list_any (nat_eq class.0) (map (λ (k : ClassNo). k.0) keys.now) }
+{
+    for k in keys {
+        if class.0 == k.0 {
+            return true;
+        }
+    }
+    false
 }
 
 /// A product of rows.

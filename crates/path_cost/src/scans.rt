@@ -8,7 +8,7 @@ ghost use Rattle.cost_rules.specs.declared.parameters.TheConstants.{MOST_COST};
 ghost use Rattle.cost_rules.specs.Costs.{IsCost, IsEstimate, capped_pair};
 ghost use Rattle.path_cost.specs.Columns.{AreTables, IsOver};
 ghost use Rattle.path_cost.specs.Costs.{bitmap_cost, operators, seq_cost};
-ghost use Rattle.path_cost.specs.Estimates.{either, conditions_from, table_pages};
+ghost use Rattle.path_cost.specs.Estimates.{either_but, conditions_from, table_pages};
 
 use crate::estimates::{after, is_in_either, relation_rows};
 use catalog::{Catalog, RangeTable};
@@ -17,21 +17,29 @@ use eq_classes::{Classes, ClauseSet};
 use pg_base::{RelNo, RelSet};
 use pg_expr::ops;
 
-/// The operators of the clauses of two sets. A number past 2^64 - 1 is answered as 2^64 - 1.
-fn operators_of(classes: &Classes, one: &ClauseSet, other: &ClauseSet) -> u64
-    ensures { result ≡ min (operators (conditions_from 0 (either one.now other.now) classes.now.clauses)) (2 ^ 64 - 1) }
+/// The operators of the clauses of two sets that are not in a third. A number past 2^64 - 1 is answered as 2^64 - 1.
+pub fn operators_of(classes: &Classes, one: &ClauseSet, other: &ClauseSet, but: &ClauseSet) -> u64
+    ensures { result ≡ min (operators (conditions_from 0 (either_but one.now other.now but.now) classes.now.clauses)) (2 ^ 64 - 1) }
 {
     let mut sum: u64 = 0;
     for n in 0..classes.count() {
-        if is_in_either(one, other, n as u16) {
+        if is_left(one, other, but, n as u16) {
             sum = sum.saturating_add(ops(classes.clause(n as u16)));
         }
     }
     sum
 }
 
+/// Whether a clause is in one of two sets and not in a third.
+fn is_left(one: &ClauseSet, other: &ClauseSet, but: &ClauseSet, n: u16) -> bool
+    requires { n < 512 }
+    ensures { result ≡ either_but one.now other.now but.now n }
+{
+    is_in_either(one, other, n) && !but.has(n)
+}
+
 /// The pages of a relation's table.
-fn relation_pages(cat: &Catalog, range: &RangeTable, r: RelNo) -> u64
+pub(crate) fn relation_pages(cat: &Catalog, range: &RangeTable, r: RelNo) -> u64
     requires tables { AreTables cat.now range.now }
     requires relation { r.0 < length range.now }
     ensures pages { result ≡ table_pages cat.now range.now r.0 }
@@ -50,7 +58,8 @@ pub fn seq(cat: &Catalog, range: &RangeTable, classes: &Classes, r: RelNo) -> Pa
     ensures cost { IsCost result }
 {
     let base = classes.base_clauses(r);
-    let ops = operators_of(classes, &base, &ClauseSet::empty());
+    let none = ClauseSet::empty();
+    let ops = operators_of(classes, &base, &none, &none);
     seq_scan(
         relation_pages(cat, range, r),
         relation_rows(cat, range, r),
@@ -90,6 +99,6 @@ pub fn bitmap(
     );
     let base = classes.base_clauses(r);
     let param = classes.param_clauses(r, p);
-    let ops = operators_of(classes, &base, &param);
+    let ops = operators_of(classes, &base, &param, &ClauseSet::empty());
     bitmap_scan(parts, rows, relation_pages(cat, range, r), ops)
 }

@@ -4,7 +4,8 @@ ghost use Rattle.std.specs.Prelude.{◌≡◌, ◌<◌, ◌≤◌, IfSome, IsTru
 ghost use Rattle.std.specs.Option.{option_map};
 ghost use Rattle.catalog.specs.Contents.{IsColumn, IsTable, table_at};
 ghost use Rattle.catalog.specs.Entries.{statistics};
-ghost use Rattle.path_cost.specs.Columns.{AreTables, column_at, is_column, known as known_of, stats_of, table_of, type_in};
+ghost use Rattle.catalog.specs.Range.{column_at, table_of, type_in};
+ghost use Rattle.path_cost.specs.Columns.{AreTables, is_column, known as known_of, stats_of};
 ghost use Rattle.path_cost.specs.Known.{IsLawfulKnown, statistics_of};
 ghost use Rattle.path_cost.specs.Relations.{range_of};
 

@@ -3,7 +3,8 @@ use Rattle.pg_expr.specs.Columns.{each_column_of}
 use Rattle.pg_expr.specs.Typed.{AreTyped}
 use Rattle.pg_expr.specs.View.{conds}
 use Rattle.path_cost.specs.declared.shares.TheConstants.{ALL_ROWS}
-use Rattle.path_cost.specs.Columns.{is_column, type_in}
+use Rattle.path_cost.specs.Columns.{is_column}
+use Rattle.catalog.specs.Range.{type_in}
 use Rattle.path_cost.specs.Relations.{range_of}
 use Rattle.path_cost.specs.Selectivity.{of_all, of_any}
 use Rattle.path_cost.proofs.conditions.+share.Given as goal

@@ -4,7 +4,7 @@ use Rattle.std.proofs.lemmas.Grind.{common_steps}
 use Rattle.pg_value.specs.declared.columns.Column.{Column}
 use Rattle.catalog.specs.Contents.{stats_at}
 use Rattle.catalog.specs.Entries.{statistics}
-use Rattle.path_cost.specs.Columns.{table_of}
+use Rattle.catalog.specs.Range.{table_of}
 use Rattle.path_cost.specs.Relations.{range_of}
 use Rattle.path_cost.proofs.ColumnLemmas.{column_laws, lent_lawful}
 use Rattle.path_cost.proofs.tables.known.Goals as goal

@@ -1,0 +1,229 @@
+//! The costs of indexes over a catalogue, a query's relations and its clauses. Each cost is cut to at most 10^18.
+
+ghost use Rattle.std.specs.Prelude.{◌≡◌, ◌≤◌, ◌<◌, false, All, length, map, min};
+ghost use Rattle.pg_base.specs.Sets.{has};
+ghost use Rattle.pg_base.specs.declared.limits.TheConstants.{MOST_ATOMS};
+ghost use Rattle.pg_expr.specs.AtomSets.{contains};
+ghost use Rattle.pg_expr.specs.declared.expr.Expr.{Expr};
+ghost use Rattle.pg_expr.specs.Pushed.{parts_of};
+ghost use Rattle.pg_expr.specs.View as view;
+ghost use Rattle.catalog.specs.Contents.{Contents, IsIndex};
+ghost use Rattle.catalog.specs.Range.{Range};
+ghost use Rattle.eq_classes.specs.Classes.{listed};
+ghost use Rattle.eq_classes.specs.Clauses.{Clause};
+ghost use Rattle.cost_rules.specs.declared.parameters.TheConstants.{MOST_COST};
+ghost use Rattle.cost_rules.specs.Costs.{IsCost, IsEstimate, capped, capped_pair};
+ghost use Rattle.cost_rules.specs.Scans.{part_cost};
+ghost use Rattle.path_cost.specs.Columns.{AreTables, IsOver};
+ghost use Rattle.path_cost.specs.Costs as costs;
+ghost use Rattle.path_cost.specs.Estimates.{conditions_from, entries as entries_of, kept, picked_from};
+
+use crate::conditions::{selectivity, share_of};
+use crate::estimates::{after, keep, relation_rows};
+use crate::scans::{operators_of, relation_pages};
+use crate::tables::Relations;
+use catalog::{Catalog, RangeTable};
+use cost_rules::{HASH_DESCENT, Pair, btree_descent, index_entries, index_scan};
+use eq_classes::{Classes, ClauseSet};
+use opfamily::Method;
+use pg_base::{IndexNo, RelNo, RelSet};
+use pg_expr::{AtomSet, Expr};
+use std::slice;
+
+/// The entries of an index: the rows of its table at which its predicate, taken as one condition, is true, or all rows.
+pub fn entries(cat: &Catalog, i: IndexNo) -> u64
+    requires index { IsIndex cat.now i }
+    ensures entries { result ≡ entries_of cat.now i }
+    ensures estimate { IsEstimate result }
+{
+    cat.lawful();
+    let def = cat.index(i);
+    let rows = cat.rows(def.table);
+    match &def.predicate {
+        Some(predicate) => keep(
+            rows,
+            share_of(cat, Relations::One(def.table), predicate) as u32,
+        ),
+        None => rows,
+    }
+}
+
+/// The way down an index.
+fn descent(cat: &Catalog, i: IndexNo) -> u64
+    requires index { IsIndex cat.now i }
+    ensures descent { result ≡ costs.descent cat.now i }
+    ensures small { result ≤ 2_090 }
+{
+    match cat.index(i).method {
+        Method::Btree => btree_descent(entries(cat, i)),
+        Method::Hash => HASH_DESCENT,
+    }
+}
+
+/// An index's own part where so many rows meet its bounds, and so many conditions are made on each entry.
+fn own_part(cat: &Catalog, i: IndexNo, rows: u64, conditions: u64) -> u64
+    requires index { IsIndex cat.now i }
+    requires rows { IsEstimate rows }
+    ensures rule { result ≡ capped (part_cost (costs.descent cat.now i) (min (entries_of cat.now i) rows) (entries_of cat.now i) conditions) }
+    ensures reached { costs.descent cat.now i ≤ result }
+    ensures most { result ≤ MOST_COST }
+{
+    let all = entries(cat, i);
+    index_entries(descent(cat, i), rows.min(all), all, conditions)
+}
+
+/// How many clauses a set has.
+fn count_of(classes: &Classes, set: &ClauseSet) -> u64
+    ensures count { result ≡ length (conditions_from 0 (contains set.now) classes.now.clauses) }
+{
+    let mut count = 0;
+    for n in 0..classes.count() {
+        if set.has(n as u16) {
+            count += 1;
+        }
+    }
+    count
+}
+
+/// An index's own part of a scan of a relation: the way down, the part of its pages that the entries within the bounds
+/// have, at random, and each of these entries with the conditions. It is at most 10^18.
+#[tactic(auto, using(crate::proofs::KeptLemmas::used_alone))]
+pub fn index_part(
+    cat: &Catalog,
+    range: &RangeTable,
+    classes: &Classes,
+    i: IndexNo,
+    r: RelNo,
+    bounds: &ClauseSet,
+    conditions: &ClauseSet,
+) -> u64
+    requires tables { AreTables cat.now range.now }
+    requires clauses { All (λ (k : Clause). IsOver cat.now range.now k.cond) classes.now.clauses }
+    requires relation { r.0 < length range.now }
+    requires index { IsIndex cat.now i }
+    ensures rule { result ≡ capped (costs.index_part cat.now range.now classes.now i r.0 (contains bounds.now) (contains conditions.now)) }
+    ensures reached { costs.descent cat.now i ≤ result }
+    ensures most { result ≤ MOST_COST }
+{
+    let rows = relation_rows(cat, range, r);
+    let within = after(cat, range, classes, rows, bounds, &ClauseSet::empty());
+    own_part(cat, i, within, count_of(classes, conditions))
+}
+
+/// The part of the index that serves an arm of an OR: the parts of the arm's AND, or the arm itself, in order; those of
+/// the numbers given, from 0, are its bounds, and all are its conditions. It is at most 10^18.
+pub fn arm_part(
+    cat: &Catalog,
+    range: &RangeTable,
+    i: IndexNo,
+    r: RelNo,
+    arm: &Expr,
+    bounds: &AtomSet,
+) -> u64
+    requires tables { AreTables cat.now range.now }
+    requires over { IsOver cat.now range.now (view.cond arm.now) }
+    requires few { length (listed (parts_of false (view.cond arm.now))) ≤ MOST_ATOMS }
+    requires relation { r.0 < length range.now }
+    requires index { IsIndex cat.now i }
+    ensures rule { result ≡ capped (costs.arm_part cat.now range.now i r.0 (listed (parts_of false (view.cond arm.now))) (contains bounds.now)) }
+    ensures most { result ≤ MOST_COST }
+{
+    let parts = parts_of_arm(arm);
+    let within = after_parts(cat, range, relation_rows(cat, range, r), parts, bounds);
+    own_part(cat, i, within, parts.len() as u64)
+}
+
+/// The parts of an AND, or a condition itself.
+#[tactic(auto, using(crate::proofs::PartLemmas::one_over))]
+fn parts_of_arm(arm: &Expr) -> &[Expr]
+    ensures parts { map view.cond result.now ≡ listed (parts_of false (view.cond arm.now)) }
+    ensures over { (c : Contents) (range : Range) → IsOver c range (view.cond arm.now) → All (λ (e : Expr). IsOver c range (view.cond e)) result.now }
+{
+    match arm {
+        Expr::And(parts) => parts.items(),
+        _ => slice::from_ref(arm),
+    }
+}
+
+/// So many rows after those of some conditions that have a number of a set.
+fn after_parts(
+    cat: &Catalog,
+    range: &RangeTable,
+    rows: u64,
+    parts: &[Expr],
+    chosen: &AtomSet,
+) -> u64
+    requires tables { AreTables cat.now range.now }
+    requires over { All (λ (e : Expr). IsOver cat.now range.now (view.cond e)) parts.now }
+    requires few { length parts.now ≤ MOST_ATOMS }
+    requires rows { IsEstimate rows }
+    ensures value { result ≡ kept cat.now range.now rows (picked_from 0 (contains chosen.now) (map view.cond parts.now)) }
+    ensures estimate { IsEstimate result }
+{
+    let mut left = rows;
+    for n in 0..parts.len() {
+        if chosen.has(n as u8) {
+            left = keep(left, selectivity(cat, range, &parts[n]));
+        }
+    }
+    left
+}
+
+/// An index scan of a relation: the index's own part, of which the way down comes before the first row; the heap pages
+/// of the rows found, at random, but none where the scan is index-only; and each row found with the clauses of the
+/// relation and of the parameterisation that are no conditions.
+pub fn index(
+    cat: &Catalog,
+    range: &RangeTable,
+    classes: &Classes,
+    i: IndexNo,
+    r: RelNo,
+    p: RelSet,
+    bounds: &ClauseSet,
+    conditions: &ClauseSet,
+    only: bool,
+) -> Pair
+    requires tables { AreTables cat.now range.now }
+    requires clauses { All (λ (k : Clause). IsOver cat.now range.now k.cond) classes.now.clauses }
+    requires few { length range.now ≤ 16 }
+    requires relation { r.0 < length range.now }
+    requires index { IsIndex cat.now i }
+    ensures rule { result ≡ capped_pair (costs.index_cost cat.now range.now classes.now i r.0 (has p.0) (contains bounds.now) (contains conditions.now) only) }
+    ensures cost { IsCost result }
+    ensures part_of { capped (costs.index_part cat.now range.now classes.now i r.0 (contains bounds.now) (contains conditions.now)) ≤ result.total }
+{
+    let part = index_part(cat, range, classes, i, r, bounds, conditions);
+    let found = rows_found(cat, range, classes, i, r, conditions);
+    let base = classes.base_clauses(r);
+    let param = classes.param_clauses(r, p);
+    let ops = operators_of(classes, &base, &param, conditions);
+    index_scan(
+        descent(cat, i),
+        part,
+        only,
+        found,
+        relation_pages(cat, range, r),
+        ops,
+    )
+}
+
+/// The rows that a scan of an index finds.
+#[tactic(auto, using(crate::proofs::KeptLemmas::used_alone))]
+fn rows_found(
+    cat: &Catalog,
+    range: &RangeTable,
+    classes: &Classes,
+    i: IndexNo,
+    r: RelNo,
+    conditions: &ClauseSet,
+) -> u64
+    requires tables { AreTables cat.now range.now }
+    requires clauses { All (λ (k : Clause). IsOver cat.now range.now k.cond) classes.now.clauses }
+    requires relation { r.0 < length range.now }
+    requires index { IsIndex cat.now i }
+    ensures rows { result ≡ costs.found cat.now range.now classes.now i r.0 (contains conditions.now) }
+    ensures estimate { IsEstimate result }
+{
+    let rows = relation_rows(cat, range, r);
+    after(cat, range, classes, rows, conditions, &ClauseSet::empty()).min(entries(cat, i))
+}

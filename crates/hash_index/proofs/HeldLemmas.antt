@@ -6,6 +6,8 @@ use Rattle.std.specs.List.Sorted.{IsNonDecreasingBy}
 use Rattle.std.specs.Ordering.{is_eq, is_gt, is_lt, ordering_then, ordering_reverse, ordering_index}
 use Rattle.std.proofs.lemmas.Bool.{true≢false, false≢true}
 use Rattle.std.proofs.lemmas.Cmp.{on_total, then_total, nat_cmp_total}
+use Rattle.std.specs.Prelude.{All, length}
+use Rattle.std.proofs.lemmas.List.{length-map}
 use Rattle.std.proofs.lemmas.List.Elements.{All-append, All-from_recursion}
 use Rattle.std.proofs.lemmas.List.Sorted.{searchable_from_sorted}
 use Rattle.pg_base.specs.declared.numbers.Tid.{Tid}
@@ -136,13 +138,21 @@ pub inserted_numbers : (ts : List Tid) (hs : List Held) (t : Tid) (h : Held) (n 
 inserted_numbers ts hs t h n same is =
     map_insert (λ (x : Tid). x.0) n t ts ∙ ap₂ (λ l m. take n l ++ m ∷ drop n l) same is ∙ sym (map_insert (λ (x : Held). x.row) n h hs)
 
+-- more rows
+pub lawful_with_all : (t : Table) (added : List Held) → IsLawful t → All (λ (h : Held). IsOfFamily (key_family t.key) h.value) added → IsLawful (with_held t added)
+lawful_with_all t added lawful fits = record {
+  hashes = lawful.hashes;
+  fits = All-in_order (held_order t.key) (held_total t.key) (λ (x : Held). IsOfFamily (key_family t.key) x.value) (t.held ++ added) (All-append (λ (x : Held). IsOfFamily (key_family t.key) x.value) t.held added lawful.fits fits);
+  order = in_order_is (held_order t.key) (held_total t.key) (t.held ++ added);
+}
+
 -- one more row
 pub lawful_with : (t : Table) (h : Held) → IsLawful t → IsOfFamily (key_family t.key) h.value → IsLawful (with_held t (h ∷ []))
-lawful_with t h lawful fits = record {
-  hashes = lawful.hashes;
-  fits = All-in_order (held_order t.key) (held_total t.key) (λ (x : Held). IsOfFamily (key_family t.key) x.value) (t.held ++ h ∷ []) (All-append (λ (x : Held). IsOfFamily (key_family t.key) x.value) t.held (h ∷ []) lawful.fits (All-from_recursion (λ (x : Held). IsOfFamily (key_family t.key) x.value) (h ∷ []) (fits, tt)));
-  order = in_order_is (held_order t.key) (held_total t.key) (t.held ++ h ∷ []);
-}
+lawful_with t h lawful fits = lawful_with_all t (h ∷ []) lawful (All-from_recursion (λ (x : Held). IsOfFamily (key_family t.key) x.value) (h ∷ []) (fits, tt))
+
+-- as many numbers as rows
+pub as_many : (ts : List Tid) (hs : List Held) → numbers ts ≡ rows_of hs → length ts ≡ length hs
+as_many ts hs same = sym (length-map ts (λ (t : Tid). t.0)) ∙ ap (λ (l : List ℕ). length l) same ∙ length-map hs (λ (h : Held). h.row)
 
 pub found_rows : (t : Table) → IsLawful t → (v : Value) → IsOfFamily (key_family t.key) v → IsKnown v → (ts : List Tid) → numbers ts ≡ rows_of t.held → (start count n : ℕ) → n ≡ count
     → take count (drop start t.held) ≡ filter (λ (h : Held). is_eq (key_order t.key h.value v)) t.held → numbers (take n (drop start ts)) ≡ rows_equal v t.held

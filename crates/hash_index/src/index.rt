@@ -1,6 +1,6 @@
 //! The index itself.
 
-ghost use Rattle.std.specs.Prelude.{◌≡◌, ◌∷◌, [], map, IfOk, OnOk, OnErr, is_some, true};
+ghost use Rattle.std.specs.Prelude.{◌≡◌, ◌∷◌, [], map, All, IfOk, OnOk, OnErr, is_some, true};
 ghost use Rattle.pg_value.specs.declared.operators.Op.TheVariants.{Eq};
 ghost use Rattle.pg_value.specs.Order.{IsOfFamily};
 ghost use Rattle.opfamily.specs.declared.classes.Method.TheVariants.{Hash};
@@ -8,7 +8,7 @@ ghost use Rattle.opfamily.specs.Answers.{number_in};
 ghost use Rattle.opfamily.specs.KeyOrder.{key_family};
 ghost use Rattle.hash_index.specs.Held.{IsLawful, with_held, rows_equal};
 
-use crate::rows::{Row, is_known, place_of, ties};
+use crate::rows::{Row, append_numbers, is_known, merge_sorted, place_of, ties, write_numbers};
 use opfamily::IndexKey;
 use pg_base::Tid;
 use pg_value::Value;
@@ -63,6 +63,27 @@ impl HashIndex {
             return Err(AllocError);
         }
         Ok(())
+    }
+
+    /// Adds many rows at once, each with its value, NULL or of the kind that the key's class hashes: they are sorted and
+    /// merged with those that are there. For want of memory the index is as before.
+    pub fn insert_all(&mut self, added: Vec<Row>) -> Result<(), AllocError>
+        requires { All (λ h. IsOfFamily (key_family self.old.key) h.value) added.items }
+        ensures inserted { OnOk result (self.new ≡ with_held self.old added.items) }
+        ensures refused { OnErr result (self.new ≡ self.old) }
+    {
+        let held = self.tids.len();
+        append_numbers(&mut self.tids, &added)?;
+        match merge_sorted(self.key, &mut self.rows, added) {
+            Ok(()) => {
+                write_numbers(&mut self.tids, &self.rows);
+                Ok(())
+            }
+            Err(refused) => {
+                self.tids.truncate(held);
+                Err(refused)
+            }
+        }
     }
 
     /// The rows whose value equals this one, rising; none for NULL.

@@ -8,3 +8,4 @@ mod rows;
 mod tests;
 
 pub use index::HashIndex;
+pub use rows::Row;

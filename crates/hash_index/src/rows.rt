@@ -1,6 +1,6 @@
 //! Rows with their values, in the order of the values.
 
-ghost use Rattle.std.specs.Prelude.{◌≡◌, ◌+◌, ◌≤◌, ◌∷◌, ◌++◌, [], length, take, drop, filter, true, false};
+ghost use Rattle.std.specs.Prelude.{◌≡◌, ◌+◌, ◌≤◌, ◌∷◌, ◌++◌, [], length, map, take, drop, filter, true, false, OnOk, OnErr};
 ghost use Rattle.std.specs.Ordering.{is_eq};
 ghost use Rattle.pg_value.specs.declared.value.Value.TheVariants.{Null};
 ghost use Rattle.pg_value.specs.Sorting.{IsInOrder, in_order};
@@ -10,12 +10,13 @@ ghost use Rattle.hash_index.specs.Held.{held_order, IsKnown};
 use opfamily::IndexKey;
 use pg_base::Tid;
 use pg_value::Value;
+use std::alloc::AllocError;
 use std::cmp::Ordering;
 use std::marker::Model;
 
 /// A row with its value.
 #[derive(Debug, Drop)]
-pub(crate) struct Row {
+pub struct Row {
     value: Value,
     tid: Tid,
 }
@@ -30,10 +31,17 @@ impl Model for Row {
 
 impl Row {
     /// The row of this number, with this value.
-    pub(crate) fn new(value: Value, tid: Tid) -> Row
+    pub fn new(value: Value, tid: Tid) -> Row
         ensures { result ≡ record { value = value; row = tid.0 } }
     {
         Row { value, tid }
+    }
+
+    /// Its number.
+    pub(crate) fn tid(&self) -> Tid
+        ensures { result.0 ≡ self.now.row }
+    {
+        self.tid
     }
 
     /// How it stands to another: by the values, then by the rows.
@@ -59,6 +67,52 @@ pub(crate) fn place_of(key: IndexKey, rows: &[Row], row: &Row) -> usize
     ensures placed { take result rows.now ++ row.now ∷ drop result rows.now ≡ in_order (held_order key) (rows.now ++ row.now ∷ []) }
 {
     rows.partition_point(|r| !r.order(key, row).is_gt())
+}
+
+/// Adds many rows and sorts them all, which takes little more than one pass over those that stand in order. For want of
+/// memory the rows are as before.
+pub(crate) fn merge_sorted(
+    key: IndexKey,
+    rows: &mut Vec<Row>,
+    mut added: Vec<Row>,
+) -> Result<(), AllocError>
+    ensures inserted { OnOk result (rows.new.items ≡ in_order (held_order key) (rows.old.items ++ added.items)) }
+    ensures longer { OnOk result (length rows.new.items ≡ length rows.old.items + length added.items) }
+    ensures refused { OnErr result (rows.new.items ≡ rows.old.items) }
+{
+    let held = rows.len();
+    rows.append(&mut added)?;
+    if rows.sort_by(|a, b| a.order(key, b)).is_err() {
+        rows.truncate(held);
+        return Err(AllocError);
+    }
+    Ok(())
+}
+
+/// Adds the numbers of rows. For want of memory the numbers are as before.
+pub(crate) fn append_numbers(tids: &mut Vec<Tid>, rows: &[Row]) -> Result<(), AllocError>
+    ensures longer { OnOk result (length tids.new.items ≡ length tids.old.items + length rows.now) }
+    ensures kept { OnOk result (take (length tids.old.items) tids.new.items ≡ tids.old.items) }
+    ensures refused { OnErr result (tids.new.items ≡ tids.old.items) }
+{
+    let held = tids.len();
+    for row in rows {
+        if tids.push(row.tid()).is_err() {
+            tids.truncate(held);
+            return Err(AllocError);
+        }
+    }
+    Ok(())
+}
+
+/// Writes the numbers of rows over as many others.
+pub(crate) fn write_numbers(tids: &mut Vec<Tid>, rows: &[Row])
+    requires { length tids.old.items ≡ length rows.now }
+    ensures { map (λ t. t.0) tids.new.items ≡ map (λ r. r.row) rows.now }
+{
+    for n in 0..rows.len() {
+        tids[n] = rows[n].tid();
+    }
 }
 
 /// Where the rows begin whose values tie with one, and how many there are.

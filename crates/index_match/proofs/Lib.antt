@@ -1,0 +1,6 @@
+pub mod SlotLemmas
+pub mod BoundLemmas
+pub mod FoundLemmas
+pub mod ArmLemmas
+pub mod UsableLemmas
+pub mod PartLemmas

@@ -1,0 +1,79 @@
+-- Numbered conditions as a list with a place for each number, where those that are left out have none. Own.
+use Rattle.std.specs.Prelude.{ℕ, ◌+◌, Bool, false, cond, ◌&&◌, ◌||◌, nat_eq, nat_lt, List, [], ◌∷◌, length, map, find, filter_map, slice_index_or, Option, Some, None}
+use Rattle.std.specs.List.{cons_option, position_from, range_with_len}
+use Rattle.std.specs.Option.{option_map}
+use Rattle.pg_expr.specs.AtomSets.{contains}
+use Rattle.pg_expr.specs.Cond.{Cond}
+use Rattle.pg_expr.specs.View as view
+use Rattle.opfamily.specs.declared.classes.IndexKey.{IndexKey}
+use Rattle.opfamily.specs.declared.classes.Method.{Method}
+use Rattle.catalog.specs.Indexes.{Index}
+use Rattle.eq_classes.specs.Clauses.{Clause, Set}
+use Rattle.eq_classes.specs.Parts.{is_base, is_param}
+use Rattle.index_match.specs.declared.slots.Conditions.{Conditions}
+use Rattle.index_match.specs.declared.slots.Conditions.TheVariants.{Clauses, Parts}
+use Rattle.index_match.specs.declared.slots.Chosen.{Chosen}
+use Rattle.index_match.specs.Numbered.{Numbered}
+use Rattle.index_match.specs.Conditions.{has_form, is_condition}
+use Rattle.index_match.specs.Bounds.{is_fixing}
+
+-- the clauses of a set of numbers; the first clause of the list has the number given
+abbrev pub chosen_from : ℕ → (ℕ → Bool) → List Clause → List (Option Cond)
+chosen_from n chosen [] = []
+chosen_from n chosen (k ∷ ks) = cond (chosen n) (Some k.cond) None ∷ chosen_from (n + 1) chosen ks
+
+-- the places of these conditions
+abbrev pub chosen_slots : Chosen → List (Option Cond)
+chosen_slots c = chosen_from 0 (contains c.set.now) c.classes.now.clauses
+
+abbrev pub slots_of : Conditions → List (Option Cond)
+slots_of (Clauses c) = chosen_slots c
+slots_of (Parts es) = map (λ e. Some (view.cond e)) es.now
+
+-- the conditions that have a place, and these with their numbers
+abbrev pub placed : List (Option Cond) → List Cond
+placed slots = filter_map (λ slot. slot) slots
+
+abbrev pub numbered_at : ℕ → Cond → Numbered
+numbered_at n e = record { number = n; cond = e }
+
+abbrev pub numbered_from : ℕ → List (Option Cond) → List Numbered
+numbered_from n [] = []
+numbered_from n (slot ∷ slots) = cons_option (option_map (numbered_at n) slot) (numbered_from (n + 1) slots)
+
+-- a place has a condition that passes a test
+abbrev pub passes : (Cond → Bool) → Option Cond → Bool
+passes test None = false
+passes test (Some e) = test e
+
+-- it has a condition on a key column, and one that fixes it
+abbrev pub is_on_key : Method → ℕ → IndexKey → Option Cond → Bool
+is_on_key m r k = passes (has_form m r k)
+
+abbrev pub is_fixing_on : Method → ℕ → IndexKey → Option Cond → Bool
+is_fixing_on m r k = passes (λ e. has_form m r k e && is_fixing e)
+
+-- a clause over a relation and its parameterisation is a condition of the index
+abbrev pub is_local : ℕ → Set → Clause → Bool
+is_local r p k = is_base r k || is_param r p k
+
+abbrev pub is_found : Index → ℕ → Set → Clause → Bool
+is_found d r p k = is_local r p k && is_condition d r k.cond
+
+-- a number was found
+abbrev pub is_number : ℕ → Option ℕ → Bool
+is_number n None = false
+is_number n (Some m) = nat_eq n m
+
+-- a number is that of a bound: by the places of the conditions, from the left over the key columns
+abbrev pub bound_at : Method → ℕ → List IndexKey → List (Option Cond) → ℕ → Bool
+bound_at m r [] slots j = false
+bound_at m r (k ∷ ks) slots j =
+    elim (position_from (is_fixing_on m r k) 0 slots) [
+      | None ↦ nat_lt j (length slots) && is_on_key m r k (slice_index_or slots j None)
+      | Some n ↦ nat_eq j n || bound_at m r ks slots j
+    ]
+
+-- the least number of a set below an end
+abbrev pub least : (ℕ → Bool) → ℕ → Option ℕ
+least chosen end = find chosen (range_with_len 0 end)

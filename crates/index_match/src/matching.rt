@@ -1,0 +1,124 @@
+//! The conditions of an index among the clauses of a relation and of its parameterisation.
+
+ghost use Rattle.std.specs.Prelude.{◌≡◌, ◌<◌, ◌≤◌, ◌&&◌, ℕ, not, length, nat_lt};
+ghost use Rattle.pg_base.specs.Sets.{has};
+ghost use Rattle.pg_expr.specs.AtomSets.{contains};
+ghost use Rattle.catalog.specs.Contents.{IsIndex};
+ghost use Rattle.catalog.specs.Entries.{index_of};
+ghost use Rattle.eq_classes.specs.Listing.{clause_at};
+ghost use Rattle.index_match.specs.Numbered.{has_number, local};
+ghost use Rattle.index_match.specs.Conditions.{conditions_among};
+ghost use Rattle.index_match.specs.Bounds.{index_bounds, index_tests};
+ghost use Rattle.index_match.specs.Slots as slots;
+ghost use Rattle.index_match.specs.Slots.{bound_at, chosen_from, is_found, is_number, numbered_from};
+
+use crate::bounds::{bounds, note};
+use crate::forms::is_condition;
+use crate::slots::{Chosen, Conditions};
+use catalog::{Catalog, IndexDef, RangeTable};
+use eq_classes::{Classes, ClauseSet};
+use opfamily::Method;
+use pg_base::{IndexNo, RelNo, RelSet};
+
+/// The conditions of an index, by clause numbers.
+#[derive(Drop)]
+pub struct Match {
+    /// Those that bound one contiguous part of the index.
+    pub bounds: ClauseSet,
+    /// The others, which are tests of its entries.
+    pub tests: ClauseSet,
+}
+
+/// The clauses of the relation and its parameterisation that the index may use on some key column.
+#[tactic(auto, using(crate::proofs::FoundLemmas::finding))]
+fn all_found(def: &IndexDef, classes: &Classes, r: RelNo, p: RelSet) -> ClauseSet
+    requires below { r.0 < 16 }
+    ensures { (j : ℕ) → contains result j ≡ nat_lt j (length classes.now.clauses) && is_found (index_of def.now) r.0 (has p.0) (clause_at classes.now.clauses j) }
+{
+    let base = classes.base_clauses(r);
+    let param = classes.param_clauses(r, p);
+    let mut set = ClauseSet::empty();
+    for n in 0..classes.count() {
+        let is_local = base.has(n as u16) || param.has(n as u16);
+        let is = is_local && is_condition(def, r, classes.clause(n as u16));
+        note(&mut set, n as u16, is);
+    }
+    set
+}
+
+/// The least number of a set alone.
+fn least(set: &ClauseSet, end: usize) -> ClauseSet
+    requires few { end ≤ 512 }
+    ensures { (j : ℕ) → contains result j ≡ is_number j (slots.least (contains set.now) end) }
+{
+    let mut one = ClauseSet::empty();
+    for n in 0..end {
+        if set.has(n as u16) {
+            one.insert(n as u16);
+            return one;
+        }
+    }
+    one
+}
+
+/// The conditions of the index: a hash index has the first one alone.
+fn found(def: &IndexDef, classes: &Classes, r: RelNo, p: RelSet) -> ClauseSet
+    requires below { r.0 < 16 }
+    ensures conditions { numbered_from 0 (chosen_from 0 (contains result) classes.now.clauses) ≡ conditions_among (index_of def.now) r.0 (local classes.now r.0 (has p.0)) }
+{
+    let all = all_found(def, classes, r, p);
+    match def.method {
+        Method::Btree => all,
+        Method::Hash => least(&all, classes.count()),
+    }
+}
+
+/// The members of a set, below an end, that another set does not have.
+#[tactic(auto, using(eq_classes::proofs::WordLemmas::grows))]
+fn without(set: &ClauseSet, other: &ClauseSet, end: usize) -> ClauseSet
+    requires few { end ≤ 512 }
+    ensures { (j : ℕ) → contains result j ≡ nat_lt j end && (contains set.now j && not (contains other.now j)) }
+{
+    let mut rest = ClauseSet::empty();
+    for n in 0..end {
+        let is = set.has(n as u16) && !other.has(n as u16);
+        note(&mut rest, n as u16, is);
+    }
+    rest
+}
+
+/// The numbers of the bounds among the clauses of a set.
+fn bounding(def: &IndexDef, r: RelNo, classes: &Classes, set: &ClauseSet) -> ClauseSet
+    ensures { (j : ℕ) → contains result j ≡ bound_at def.now.method r.0 def.now.keys.items (chosen_from 0 (contains set.now) classes.now.clauses) j }
+{
+    let chosen = Chosen { classes, set };
+    let _ = chosen.end();
+    bounds(def, r, &Conditions::Clauses(chosen))
+}
+
+/// The conditions of index `i` for a scan of relation `r`, with `p` as its parameter: the clauses over `r` alone and
+/// those that the parameter lets it test, of the forms column op literal that is not NULL and column op column of another
+/// relation, either way round, on a key column with an operator of its class's family; for a B-tree IS NULL and IS NOT
+/// NULL too. A hash index has the first one alone. The bounds are found from the left over the key columns: the first
+/// condition that leaves the column one value (IS NULL or the equality of the key's family), and the next column
+/// follows; the first column without such a one gives all its conditions, and none after it gives any. It takes no
+/// memory.
+pub fn conditions(
+    cat: &Catalog,
+    range: &RangeTable,
+    classes: &Classes,
+    i: IndexNo,
+    r: RelNo,
+    p: RelSet,
+) -> Match
+    requires index { IsIndex cat.now i }
+    requires below { r.0 < 16 }
+    ensures bounds { (n : ℕ) → contains result.bounds n ≡ has_number (index_bounds cat.now classes.now i r.0 (has p.0)) n }
+    ensures tests { (n : ℕ) → contains result.tests n ≡ has_number (index_tests cat.now classes.now i r.0 (has p.0)) n }
+{
+    let def = cat.index(i);
+    let found = found(def, classes, r, p);
+    let bounds = bounding(def, r, classes, &found);
+    let tests = without(&found, &bounds, classes.count());
+    Match { bounds, tests }
+}

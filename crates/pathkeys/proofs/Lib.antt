@@ -1,0 +1,3 @@
+pub mod CoveringLemmas
+pub mod OnceLemmas
+pub mod StepLemmas

@@ -1,0 +1,107 @@
+-- Key lists: the classes by which rows are known to be sorted. Source: PostgreSQL, src/backend/optimizer/README (PathKeys).
+use Rattle.std.specs.Prelude.{◌≡◌, ◌≢◌, ◌<◌, ℕ, Bool, true, false, not, cond, ◌&&◌, ◌||◌, nat_eq, List, [], ◌∷◌, length, filter, filter_map, All, AllPairs, Option, Some, None}
+use Rattle.std.specs.List.{list_any}
+use Rattle.std.specs.Option.{option_or}
+use Rattle.pg_base.specs.declared.numbers.IndexNo.{IndexNo}
+use Rattle.pg_value.specs.declared.operators.Family.{Family}
+use Rattle.pg_value.specs.declared.operators.Family.TheVariants as families
+use Rattle.opfamily.specs.KeyOrder.{key_family}
+use Rattle.opfamily.specs.declared.classes.IndexKey.{IndexKey}
+use Rattle.opfamily.specs.declared.classes.Method.{Method}
+use Rattle.opfamily.specs.declared.classes.Method.TheVariants.{Btree, Hash}
+use Rattle.pg_expr.specs.declared.operand.ColRef.{ColRef}
+use Rattle.catalog.specs.Contents.{Contents, index_at}
+use Rattle.eq_classes.specs.declared.order.OrderItem.{OrderItem}
+use Rattle.eq_classes.specs.Classes.{Class, class_number, in_family}
+use Rattle.eq_classes.specs.Clauses.{Table, has_constant}
+use Rattle.eq_classes.specs.Listing.{class_at}
+
+-- classes by their numbers
+abbrev pub Keys : Type 0
+Keys = List ℕ
+
+-- no class stands twice
+abbrev pub AreDifferent : Keys → Type 0
+AreDifferent keys = AllPairs (λ m n. m ≢ n) keys
+
+abbrev pub is_constant : Table → ℕ → Bool
+is_constant t n = has_constant (class_at t.classes n)
+
+-- a key list of a table: different classes of it, none with a constant
+pub record IsKeyList (t : Table) (keys : Keys) : Type 0 where
+  pub different : AreDifferent keys
+  pub classes : All (λ n. n < length t.classes) keys
+  pub free : All (λ n. is_constant t n ≡ false) keys
+
+-- the class of a column in a family
+abbrev pub class_of : Table → ColRef → Family → Option ℕ
+class_of t x f = class_number t.classes (in_family x f)
+
+-- the class of a column in its default family: that of integers, of text or of booleans, of which a type has one
+abbrev pub order_class : Table → ColRef → Option ℕ
+order_class t x = option_or (class_of t x families.Integer) (option_or (class_of t x families.Text) (class_of t x families.Bool))
+
+-- each number that stands nowhere before it
+abbrev pub once : List ℕ → List ℕ
+once [] = []
+once (n ∷ ns) = n ∷ filter (λ m. not (nat_eq n m)) (once ns)
+
+-- the order keys: the classes of the ORDER BY columns, without those that have a constant or stood before
+abbrev pub order_keys : Table → List OrderItem → Keys
+order_keys t order = once (filter (λ n. not (is_constant t n)) (filter_map (λ (item : OrderItem). order_class t item.col) order))
+
+-- what a key column of an index adds to the keys: the list ends, the column is passed over, or it gives its class
+pub data Step : Type 0 where
+  ends : Step
+  passes : Step
+  gives : ℕ → Step
+
+-- a direction or place of NULL, turned round for a backward scan
+abbrev pub turned : Bool → Bool → Bool
+turned backward b = cond backward (not b) b
+
+abbrev pub is_equal : Bool → Bool → Bool
+is_equal a b = cond a b (not b)
+
+-- the key column's direction and place of NULL, both turned round for a backward scan, are the class's
+abbrev pub has_direction : Bool → IndexKey → Class → Bool
+has_direction backward k c = is_equal (turned backward k.descending) c.descending && is_equal (turned backward k.nulls_first) c.nulls_first
+
+-- a column without a class ends the list; a class that has a constant or is taken is passed over; another is given where the directions are equal, else it ends the list
+abbrev pub step_of : Table → Bool → Keys → IndexKey → Option ℕ → Step
+step_of t backward taken k None = ends
+step_of t backward taken k (Some n) =
+    cond (is_constant t n || list_any (nat_eq n) taken) passes (cond (has_direction backward k (class_at t.classes n)) (gives n) ends)
+
+-- the column of a relation that a key column is
+abbrev pub column_of : ℕ → IndexKey → ColRef
+column_of r k = record { rel = record { 0 = r }; col = k.col }
+
+-- the class of a key column, in the family of its operator class
+abbrev pub class_of_key : Table → ℕ → IndexKey → Option ℕ
+class_of_key t r k = class_of t (column_of r k) (key_family k)
+
+-- from the left over the key columns, where some classes are taken already
+abbrev pub keys_from : Table → ℕ → Bool → Keys → List IndexKey → Keys
+keys_from t r backward taken [] = []
+keys_from t r backward taken (k ∷ ks) =
+    elim (step_of t backward taken k (class_of_key t r k)) [
+      | ends ↦ []
+      | passes ↦ keys_from t r backward taken ks
+      | gives n ↦ n ∷ keys_from t r backward (n ∷ taken) ks
+    ]
+
+-- a hash index gives no order
+abbrev pub keys_by : Method → Table → ℕ → Bool → List IndexKey → Keys
+keys_by Btree t r backward ks = keys_from t r backward [] ks
+keys_by Hash t r backward ks = []
+
+-- the keys of a scan of a relation by an index, forward or backward
+abbrev pub index_keys : Contents → Table → IndexNo → ℕ → Bool → Keys
+index_keys c t i r backward = keys_by (index_at c i).method t r backward (index_at c i).keys
+
+-- a key list covers another where the other is a prefix of it
+abbrev pub covers : Keys → Keys → Bool
+covers _ [] = true
+covers [] (n ∷ ns) = false
+covers (m ∷ ms) (n ∷ ns) = nat_eq m n && covers ms ns

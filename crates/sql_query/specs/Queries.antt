@@ -1,17 +1,32 @@
 -- A query with its names bound to a catalogue, without pointers (PostgreSQL manual, chapter Queries; the list of used
 -- columns is own).
-use Rattle.std.specs.Prelude.{ℕ, List, length}
+use Rattle.std.specs.Prelude.{ℕ, nat_lt, List, length, Option}
 use Rattle.pg_expr.specs.declared.operand.ColRef.{ColRef}
 use Rattle.pg_expr.specs.Cond.{Cond}
 use Rattle.catalog.specs.Range.{Range}
+use Rattle.eq_classes.specs.declared.order.OrderItem.{OrderItem}
+use Rattle.eq_classes.specs.Clauses.{Set, Table}
 
--- the relations in FROM order, the columns of the select list, every column that is named, and the conjuncts as written
+-- LIMIT, or none, and OFFSET (PostgreSQL manual, chapter Queries, LIMIT and OFFSET)
+pub record Window : Type 0 where
+  pub limit : Option ℕ
+  pub offset : ℕ
+
+-- the relations in FROM order, the classes with the numbered clauses, the columns of the select list, the items of ORDER
+-- BY, every column that is named, the conjuncts as written, and the window, where LIMIT or OFFSET is written
 pub record Query : Type 0 where
   pub range : Range
+  pub classes : Table
   pub select : List ColRef
+  pub order : List OrderItem
   pub used : List ColRef
   pub where_all : List Cond
+  pub window : Option Window
 
 -- the number of its relations
 abbrev pub width : Query → ℕ
 width q = length q.range
+
+-- the set of its relations
+abbrev pub all_of_query : Query → Set
+all_of_query q k = nat_lt k (width q)

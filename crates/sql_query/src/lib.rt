@@ -3,6 +3,7 @@
 
 mod columns;
 mod laws;
+mod order;
 mod prepared;
 #[cfg(test)]
 mod tests;
@@ -10,4 +11,5 @@ mod tests;
 pub use catalog::RangeTable;
 pub use columns::ColList;
 pub use laws::selected_columns;
+pub use order::OrderList;
 pub use prepared::Prepared;

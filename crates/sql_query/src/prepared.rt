@@ -1,27 +1,34 @@
 //! A query with its names bound.
 
 use crate::columns::ColList;
+use crate::order::OrderList;
 use catalog::RangeTable;
+use eq_classes::Classes;
 use pg_expr::Exprs;
 use std::marker::Model;
 
 /// A query over a catalogue. It is well bound there where its relations are tables of the catalogue with different
-/// aliases, each of its columns is one of its relation's table, `used` holds every column of `select` and of
-/// `where_all`, and the conditions are well typed. Contracts see a `Query`.
+/// aliases, `used` holds every column of `select`, `order` and `where_all` and each is one of its relation's table, the
+/// conditions are well typed and keep the limits of conjuncts and atoms, and `classes` are those of the conditions in
+/// pushed form and of `order`. Contracts see a `Query`, which has no window.
 #[derive(Drop)]
 pub struct Prepared {
     /// The relations, in FROM order.
     pub range: RangeTable,
+    /// The classes of the conditions and of ORDER BY, with the numbered clauses.
+    pub classes: Classes,
     /// The columns of the select list from the left.
     pub select: ColList,
+    /// The items of ORDER BY from the left.
+    pub order: OrderList,
     /// Every column that is named anywhere in the statement.
     pub used: ColList,
-    /// The conditions, all of which are to be True, as written.
+    /// The conjuncts as written, all of which are to be True: a condition's parts where it is an AND, else itself.
     pub where_all: Exprs,
 }
 
 impl Model for Prepared {
-    ghost use Rattle.std.specs.Prelude.{map};
+    ghost use Rattle.std.specs.Prelude.{map, None};
     ghost use Rattle.std.specs.Coded.{codes};
     ghost use Rattle.pg_expr.specs.CondCode.{cond_code};
     ghost use Rattle.pg_expr.specs.View.{cond};
@@ -31,5 +38,5 @@ impl Model for Prepared {
 
     ghost coded = { Prim.hlevel (codes, cond_code (Prim.hlevel codes)) };
 
-    ghost view = { λ q. record { range = q.range; select = q.select; used = q.used; where_all = map cond q.where_all.items.items } };
+    ghost view = { λ q. record { range = q.range; classes = q.classes; select = q.select; order = q.order; used = q.used; where_all = map cond q.where_all.items.items; window = None } };
 }

@@ -1,0 +1,4 @@
+pub mod FitsLemmas
+pub mod OverLemmas
+pub mod MeaningLemmas
+pub mod FewLemmas

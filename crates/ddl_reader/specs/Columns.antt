@@ -1,6 +1,6 @@
 -- The columns of CREATE TABLE: as they are written, and bound from the left (PostgreSQL manual, CREATE
 -- TABLE; code 42704 of the appendix Error Codes).
-use Rattle.std.specs.Prelude.{ℕ, Bool, true, false, List, [], ◌∷◌, Option, Some, None, Result, Ok, Err}
+use Rattle.std.specs.Prelude.{ℕ, Bool, true, false, List, Option, Some, None, Result, Ok, Err}
 use Rattle.pg_base.specs.declared.faults.Code.TheVariants.{S8}
 use Rattle.pg_base.specs.declared.faults.Fault.{Fault}
 use Rattle.pg_value.specs.declared.value.SqlType.{SqlType}
@@ -10,6 +10,7 @@ use Rattle.sql_grammar.specs.Terminals.{token_of}
 use Rattle.sql_grammar.specs.Syntax.{Mark, Nulls, unwritten, not_null, nullable, ColDef, coldef}
 use Rattle.sql_grammar.specs.Faults.{bytes_of, fault_at}
 use Rattle.ddl_reader.specs.Types.{type_named}
+use Rattle.ddl_reader.specs.Lists.{parts_of, bound_each}
 
 -- a column as it is written: its name and its type's name, in small letters, each with its token, and whether NOT NULL stands
 pub record Written : Type 0 where
@@ -37,8 +38,7 @@ written (coldef name kind nulls) = record { name = bytes_of name; name_at = toke
 
 -- further columns
 abbrev pub further : List (Mark × ColDef) → List Written
-further [] = []
-further ((_, c) ∷ cs) = written c ∷ further cs
+further = parts_of written
 
 -- with its type, where there is one of the name; else the type's name is at fault
 abbrev pub bound_by : Option SqlType → Written → Result Bound Fault
@@ -49,13 +49,6 @@ bound_by (Some t) w = Ok (record { name = w.name; name_at = w.name_at; column = 
 abbrev pub bound : Written → Result Bound Fault
 bound w = bound_by (type_named w.kind) w
 
--- one before others, or the first fault
-abbrev pub before_all : Result Bound Fault → Result (List Bound) Fault → Result (List Bound) Fault
-before_all (Err f) rest = Err f
-before_all (Ok b) (Err f) = Err f
-before_all (Ok b) (Ok bs) = Ok (b ∷ bs)
-
 -- columns bound from the left, or the first fault
 abbrev pub bound_all : List Written → Result (List Bound) Fault
-bound_all [] = Ok []
-bound_all (w ∷ ws) = before_all (bound w) (bound_all ws)
+bound_all = bound_each bound

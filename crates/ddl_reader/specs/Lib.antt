@@ -1,8 +1,10 @@
 pub mod Block
 pub mod Types
+pub mod Lists
 pub mod Columns
 pub mod Reads
 pub mod Tables
+pub mod Statistics
 pub mod Readings
 pub mod Soundness
 pub mod Statements

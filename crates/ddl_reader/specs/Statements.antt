@@ -1,4 +1,5 @@
--- What a statement that defines a table or loads data means, and its first fault (PostgreSQL manual, CREATE TABLE and COPY).
+-- What a statement that defines a table, gives statistics or loads data means, and its first fault (PostgreSQL manual, CREATE
+-- TABLE and COPY; STATISTICS is own).
 use Rattle.std.specs.Prelude.{◌≡◌, ◌⊎◌, ℕ, Bool, true, false, List, [], ◌∷◌, Result, Err, Some}
 use Rattle.pg_base.specs.declared.faults.Code.TheVariants.{S1}
 use Rattle.pg_base.specs.declared.faults.Fault.{Fault}
@@ -6,11 +7,11 @@ use Rattle.pg_base.specs.declared.faults.Refusal.{Refusal}
 use Rattle.pg_base.specs.declared.faults.Refusal.TheVariants as refusal
 use Rattle.sql_lex.specs.declared.tokens.Token.{Token}
 use Rattle.sql_grammar.specs.declared.class.Word.TheVariants.{Create}
-use Rattle.sql_grammar.specs.declared.class.Free.TheVariants.{Copy}
+use Rattle.sql_grammar.specs.declared.class.Free.TheVariants.{Copy, Statistics}
 use Rattle.sql_grammar.specs.declared.class.Class.{Class}
 use Rattle.sql_grammar.specs.declared.class.Class.TheVariants.{Key, Name}
 use Rattle.sql_grammar.specs.Terminals.{Terminal, token_of, class_of}
-use Rattle.sql_grammar.specs.Syntax.{Statement, empty, create_table, query, copy}
+use Rattle.sql_grammar.specs.Syntax.{Statement, empty, create_table, query, copy, sizes, column_statistics}
 use Rattle.sql_grammar.specs.Faults.{bytes_of, terminals, IsStatement, IsFirstFault, fault_at}
 use Rattle.sql_grammar.specs.Spelled.{IsSpelled}
 use Rattle.sql_grammar.specs.CopyLine.{IsDataStart}
@@ -18,14 +19,16 @@ use Rattle.catalog.specs.Contents.{Contents}
 use Rattle.catalog.specs.Tables.{table_named}
 use Rattle.ddl_reader.specs.Columns.{written, further, bound_all}
 use Rattle.ddl_reader.specs.Tables.{Reading, table_of, data_after}
+use Rattle.ddl_reader.specs.Statistics.{table_statistics, column_statistics_of, commons_of, bounds_of}
 
--- CREATE or COPY
+-- CREATE, COPY or STATISTICS
 abbrev pub opens_ddl : Class → Bool
 opens_ddl (Key Create) = true
 opens_ddl (Name (Some Copy)) = true
+opens_ddl (Name (Some Statistics)) = true
 opens_ddl _ = false
 
--- the statement begins with CREATE or COPY
+-- the statement begins with CREATE, COPY or STATISTICS
 abbrev pub begins_ddl : List Terminal → Bool
 begins_ddl [] = false
 begins_ddl (word ∷ _) = opens_ddl (class_of word)
@@ -35,6 +38,8 @@ abbrev pub Means : Contents → List ℕ → Statement → Result Reading Fault 
 Means cat text (create_table _ _ n _ c cs _ _) r = r ≡ table_of (bytes_of n) (token_of n) (bound_all (written c ∷ further cs))
 Means cat text (copy k n null) r =
     (start : Result ℕ Fault) × IsDataStart text k.stop.end start × (r ≡ data_after (table_named cat (bytes_of n)) (token_of n) null.value null.token start)
+Means cat text (sizes k n rows pages e) r = r ≡ table_statistics cat n rows pages
+Means cat text (column_statistics k n c distinct nulls commons bounds e) r = r ≡ column_statistics_of cat n c distinct nulls (commons_of commons) (bounds_of bounds)
 Means cat text (empty e) r = ⊥
 Means cat text (query q e) r = ⊥
 
@@ -44,11 +49,11 @@ pub record IsMeaning (cat : Contents) (text : List ℕ) (tokens : List Token) (r
   pub spelled : IsSpelled statement text tokens
   pub means : Means cat text statement r
 
--- another first word than CREATE or COPY is a syntax fault at its token
+-- another first word than CREATE, COPY or STATISTICS is a syntax fault at its token
 abbrev pub IsOtherWord : List Token → Fault → Type 0
 IsOtherWord tokens f = (token : Token) × (later : List Token) × (tokens ≡ token ∷ later) × (f ≡ fault_at S1 token)
 
--- the first fault, by whether the first word is CREATE or COPY: of the statement's syntax or after it; or that word's
+-- the first fault, by whether the first word is CREATE, COPY or STATISTICS: of the statement's syntax or after it; or that word's
 abbrev pub IsDdlFault : Contents → List ℕ → List Token → Fault → Bool → Type 0
 IsDdlFault cat text tokens f true = IsFirstFault IsStatement text tokens f ⊎ IsMeaning cat text tokens (Err f)
 IsDdlFault cat text tokens f false = IsOtherWord tokens f

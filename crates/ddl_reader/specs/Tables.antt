@@ -1,8 +1,9 @@
--- What CREATE TABLE and COPY define (PostgreSQL manual, CREATE TABLE and COPY).
+-- What CREATE TABLE, COPY and STATISTICS define (PostgreSQL manual, CREATE TABLE and COPY; STATISTICS is own).
 use Rattle.std.specs.Prelude.{ℕ, List, [], ◌∷◌, drop, map, cond, Option, Some, None, Result, Ok, Err}
 use Rattle.std.specs.Str.{bytes_eq}
 use Rattle.pg_base.specs.declared.limits.TheConstants.{MOST_COLUMNS}
 use Rattle.pg_base.specs.declared.numbers.TableNo.{TableNo}
+use Rattle.pg_base.specs.declared.numbers.ColNo.{ColNo}
 use Rattle.pg_base.specs.declared.faults.Code.TheVariants.{S2, S15, S17}
 use Rattle.pg_base.specs.declared.faults.Limit.TheVariants.{Columns}
 use Rattle.pg_base.specs.declared.faults.Fault.{Fault}
@@ -10,11 +11,15 @@ use Rattle.pg_value.specs.declared.columns.Column.{Column}
 use Rattle.pg_value.specs.Fields.{null_text}
 use Rattle.sql_lex.specs.declared.tokens.Token.{Token}
 use Rattle.sql_grammar.specs.Faults.{fault_at}
+use Rattle.catalog.specs.Statistics.{Statistics}
 use Rattle.ddl_reader.specs.Columns.{Bound}
 
--- what is defined: a table by its name, its columns' names and its columns; or data for a table, from an offset on
+-- what is defined: a table by its name, its columns' names and its columns; the rows and pages of a table; what is known of
+-- a column of a table; or data for a table, from an offset on
 pub data Definition : Type 0 where
   table : List ℕ → List (List ℕ) → List Column → Definition
+  sizes_for : TableNo → ℕ → ℕ → Definition
+  statistics_for : TableNo → ColNo → Statistics → Definition
   data_for : TableNo → ℕ → Definition
 
 -- with the offsets of the words at which the catalogue's refusals stand

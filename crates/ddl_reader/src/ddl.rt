@@ -1,6 +1,7 @@
-//! What is read of a statement that defines a table or loads data.
+//! What is read of a statement that defines a table, loads data or gives statistics.
 
-use pg_base::TableNo;
+use catalog::ColumnStats;
+use pg_base::{ColNo, TableNo};
 use pg_value::{Bytes, Columns};
 
 /// A definition, bound to the catalogue.
@@ -11,6 +12,18 @@ pub enum Ddl {
         name: Bytes,
         names: Vec<Bytes>,
         columns: Columns,
+    },
+    /// STATISTICS of a table: its number of rows and of pages. A number past 64 bits is 2^64 - 1.
+    Rows {
+        table: TableNo,
+        rows: u64,
+        pages: u64,
+    },
+    /// STATISTICS of a column of a table. Shares are in parts per million; a share past 32 bits is 2^32 - 1.
+    Column {
+        table: TableNo,
+        col: ColNo,
+        stats: ColumnStats,
     },
     /// COPY: the table whose data follow, and the byte offset in the script of the first data byte.
     Copy {
@@ -24,7 +37,9 @@ pub enum Ddl {
 pub struct Read {
     /// What is defined.
     pub ddl: Ddl,
-    /// For a table the offset of the new name, then those of the column names; for COPY none.
+    /// For a table the offset of the new name, then those of the column names; for COPY none. For STATISTICS those of the
+    /// places that the catalogue counts: of the numbers of rows and of pages; or of the numbers of different values and of
+    /// NULLs, then of each common value and its share, then of each bound of the histogram. A literal begins at its `-`.
     pub at: Vec<u32>,
     /// The offset of the word after USING; 0, where there is none.
     pub method: u32,

@@ -5,7 +5,9 @@ mod block;
 mod columns;
 mod copy;
 mod ddl;
+mod literals;
 mod read;
+mod statistics;
 mod table;
 #[cfg(test)]
 mod tests;

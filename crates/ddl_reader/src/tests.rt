@@ -4,13 +4,13 @@ ghost use Rattle.std.specs.Prelude.{◌≡◌, ◌≤◌, ◌^◌, ◌∷◌, []
 
 use crate::{Ddl, Read, block_end, read_ddl};
 use catalog::{Catalog, CatalogFault};
-use pg_base::{Code, Fault, Limit, Memory, Refusal, TableNo};
-use pg_value::{Bytes, Column, Columns, SqlType};
+use pg_base::{Code, ColNo, Fault, Limit, Memory, Refusal, TableNo};
+use pg_value::{Bytes, Column, Columns, SqlType, Value};
 use sql_lex::lex_statement;
 use std::alloc::Global;
 
 /// Statements, and their first fault: its kind, its place and where its words end.
-const WRONG: [(&[u8], Code, u32, u32); 32] = [
+const WRONG: [(&[u8], Code, u32, u32); 48] = [
     (b"CREATE TABLE t (a foo, b bar);", Code::S8, 18, 21),
     (
         b"CREATE TABLE t (a int4, b Bar NOT NULL);",
@@ -102,6 +102,82 @@ const WRONG: [(&[u8], Code, u32, u32); 32] = [
         47,
         47,
     ),
+    (b"STATISTICS nope ROWS 1 PAGES 1;", Code::S2, 11, 15),
+    (b"STATISTICS a ROWS 1;", Code::S1, 19, 19),
+    (b"STATISTICS a ROWS -1 PAGES 1;", Code::S1, 18, 18),
+    (b"STATISTICS nope.b DISTINCT 1 NULLS 0;", Code::S2, 11, 15),
+    (
+        b"STATISTICS a.nope DISTINCT 1 NULLS 0 COMMON ('x' 1);",
+        Code::S3,
+        13,
+        17,
+    ),
+    (
+        b"STATISTICS a . b DISTINCT 1 NULLS 0 COMMON (1);",
+        Code::S1,
+        45,
+        45,
+    ),
+    (
+        b"STATISTICS a.b DISTINCT 1 NULLS 0 HISTOGRAM (1) COMMON (1 1);",
+        Code::S1,
+        48,
+        48,
+    ),
+    (
+        b"STATISTICS a.b DISTINCT 0 NULLS 0 COMMON (-2147483649 5);",
+        Code::S11,
+        42,
+        43,
+    ),
+    (
+        b"STATISTICS a.b DISTINCT 0 NULLS 0 COMMON (1 5, '99999999999' 5);",
+        Code::S11,
+        47,
+        60,
+    ),
+    (
+        b"STATISTICS a.b DISTINCT 0 NULLS 0 COMMON (1 5) HISTOGRAM (1, 'x');",
+        Code::S12,
+        61,
+        64,
+    ),
+    (
+        b"STATISTICS a.b DISTINCT 0 NULLS 0 COMMON (TRUE 5) HISTOGRAM ('x');",
+        Code::S10,
+        42,
+        46,
+    ),
+    (
+        b"STATISTICS a.b DISTINCT 0 NULLS 0 COMMON (1 0, NULL 5) HISTOGRAM ('x');",
+        Code::S17,
+        47,
+        51,
+    ),
+    (
+        b"STATISTICS a.t DISTINCT 0 NULLS 0 COMMON ('x' 5) HISTOGRAM ('a', - 99999999999999999999);",
+        Code::S10,
+        65,
+        66,
+    ),
+    (
+        b"STATISTICS a.f DISTINCT 0 NULLS 0 COMMON ('yes' 5, 'o' 7);",
+        Code::S12,
+        51,
+        54,
+    ),
+    (
+        b"STATISTICS a.b DISTINCT 0 NULLS 0 HISTOGRAM ('\\N');",
+        Code::S12,
+        45,
+        49,
+    ),
+    (
+        b"STATISTICS nope.nope DISTINCT 1 NULLS 0 COMMON (1 1) x;",
+        Code::S1,
+        53,
+        53,
+    ),
     (b"SELECT b FROM a;", Code::S1, 0, 0),
 ];
 
@@ -141,19 +217,35 @@ fn name(alloc: Global, letter: u8) -> Result<Bytes, Memory>
     Ok(Bytes::from_vec(bytes))
 }
 
-/// The table a, of b.
-fn one_table(alloc: Global) -> Result<Catalog, CatalogFault> {
-    let column = Column {
-        typed: SqlType::Int4,
+/// A column of this type.
+fn of(typed: SqlType) -> Column {
+    Column {
+        typed,
         not_null: false,
-    };
+    }
+}
+
+/// The table a, of b, t and f.
+fn one_table(alloc: Global) -> Result<Catalog, CatalogFault> {
     let mut names = Vec::new(alloc);
     let mut columns = Vec::new(alloc);
     names.push(name(alloc, b'b')?)?;
-    columns.push(column)?;
+    names.push(name(alloc, b't')?)?;
+    names.push(name(alloc, b'f')?)?;
+    columns.push(of(SqlType::Int4))?;
+    columns.push(of(SqlType::Text))?;
+    columns.push(of(SqlType::Bool))?;
     let mut catalog = Catalog::new(alloc);
     catalog.add_table(name(alloc, b'a')?, names, Columns::from_vec(columns))?;
     Ok(catalog)
+}
+
+/// The whole number of a value; 0 where it is none.
+fn whole(value: &Value) -> i64 {
+    match value {
+        Value::Int(number) => *number,
+        _ => 0,
+    }
 }
 
 /// The statement at the text's beginning.
@@ -195,7 +287,7 @@ fn reads_a_table(rt: HostRuntime) {
             assert!(rt; names[1].items() == b"b_2".as_slice());
             assert_eq!(rt; columns.items(), COLUMNS.as_slice());
         }
-        Ddl::Copy { .. } => assert!(rt; false),
+        _ => assert!(rt; false),
     }
 }
 
@@ -215,6 +307,48 @@ fn reads_the_head_of_data(rt: HostRuntime) {
             assert_eq!(rt; start, 50);
             assert_eq!(rt; at.len(), 0);
             assert_eq!(rt; method, 0);
+        }
+        _ => assert!(rt; false),
+    }
+}
+
+#[test]
+fn reads_the_size_of_a_table(rt: HostRuntime) {
+    let cat = one_table(rt.alloc()).expect(&rt, "a table");
+    let text = b"Statistics A rows 99999999999999999999 PAGES 7;";
+    let Read { ddl, at, .. } = read(rt.alloc(), &cat, text).expect(&rt, "sizes");
+    assert_eq!(rt; at.as_slice(), [18, 45].as_slice());
+    match ddl {
+        Ddl::Rows { table, rows, pages } => {
+            assert_eq!(rt; table, TableNo(0));
+            assert_eq!(rt; rows, u64::MAX);
+            assert_eq!(rt; pages, 7);
+        }
+        _ => assert!(rt; false),
+    }
+}
+
+#[test]
+fn reads_what_is_known_of_a_column(rt: HostRuntime) {
+    let cat = one_table(rt.alloc()).expect(&rt, "a table");
+    let text =
+        b"STATISTICS a.b DISTINCT 4 NULLS 4294967296 COMMON (-7 5, '8' 4294967295) HISTOGRAM (1, - 2);";
+    let Read { ddl, at, .. } = read(rt.alloc(), &cat, text).expect(&rt, "statistics");
+    assert_eq!(rt; at.as_slice(), [24, 32, 51, 54, 57, 61, 84, 87].as_slice());
+    match ddl {
+        Ddl::Column { table, col, stats } => {
+            assert_eq!(rt; table, TableNo(0));
+            assert_eq!(rt; col, ColNo(0));
+            assert_eq!(rt; stats.distinct, 4);
+            assert_eq!(rt; stats.nulls, u32::MAX);
+            assert_eq!(rt; stats.common.len(), 2);
+            assert_eq!(rt; whole(&stats.common[0].0), -7);
+            assert_eq!(rt; stats.common[0].1, 5);
+            assert_eq!(rt; whole(&stats.common[1].0), 8);
+            assert_eq!(rt; stats.common[1].1, u32::MAX);
+            assert_eq!(rt; stats.histogram.len(), 2);
+            assert_eq!(rt; whole(&stats.histogram[0]), 1);
+            assert_eq!(rt; whole(&stats.histogram[1]), -2);
         }
         _ => assert!(rt; false),
     }

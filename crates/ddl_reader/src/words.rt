@@ -2,12 +2,12 @@
 
 ghost use Rattle.std.specs.Prelude.{◌≡◌, List, ◌∷◌, IfOk};
 ghost use Rattle.pg_base.specs.declared.faults.Refusal.TheVariants as refusal;
-ghost use Rattle.sql_grammar.specs.Terminals.{Terminal, Ident, Said, t_name, t_quoted};
+ghost use Rattle.sql_grammar.specs.Terminals.{Terminal, Ident, Said, t_name, t_number, t_quoted};
 ghost use Rattle.sql_grammar.specs.Faults.{fault_at as fault_at_token};
-ghost use Rattle.sql_cursor.specs.Reading.{BeginsName, BeginsQuoted};
+ghost use Rattle.sql_cursor.specs.Reading.{BeginsName, BeginsNumber, BeginsQuoted};
 
 use pg_base::{Code, Memory, Refusal};
-use sql_cursor::{Cursor, Spelled};
+use sql_cursor::{Cursor, Number, Spelled};
 use sql_grammar::fault_at;
 use sql_lex::Token;
 use std::alloc::Global;
@@ -39,4 +39,15 @@ pub fn quoted(alloc: Global, from: &mut Cursor) -> Result<Spelled, Memory>
         unreachable!();
     };
     Ok(found)
+}
+
+/// The number that stands next.
+pub fn number(from: &mut Cursor) -> Number
+    requires { (n : Said) × (rest : List Terminal) × (from.old ≡ t_number n ∷ rest) }
+    ensures { BeginsNumber result from.old from.new }
+{
+    let Some(found) = from.number() else {
+        unreachable!();
+    };
+    found
 }

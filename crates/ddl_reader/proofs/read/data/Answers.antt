@@ -1,7 +1,7 @@
 use Rattle.std.proofs.Common.{Ok, Err, refl, subst}
 use Rattle.std.proofs.lemmas.Result.{err_from_is_err_and}
 use Rattle.sql_grammar.specs.CopyLine.{IsDataStart}
-use Rattle.ddl_reader.proofs.StatementLaws.{stop-at}
+use Rattle.ddl_reader.proofs.StatementLemmas.{stop-at}
 use Rattle.ddl_reader.proofs.read.data.Goals as goal
 
 pub returns-in_err-start : goal.returns-in_err-start

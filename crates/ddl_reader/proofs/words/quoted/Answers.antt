@@ -1,4 +1,4 @@
-use Rattle.ddl_reader.proofs.Answered.{none-of}
+use Rattle.ddl_reader.proofs.AnswerLemmas.{none-of}
 use Rattle.ddl_reader.proofs.words.quoted.Goals as goal
 
 pub unreachable-requires : goal.unreachable-requires

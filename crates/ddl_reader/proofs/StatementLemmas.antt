@@ -1,13 +1,14 @@
 -- A statement by its first word.
-use Rattle.std.proofs.Common.{◌≡◌, ℕ, Bool, true, false, List, [], ◌∷◌, ◌++◌, drop, subst, sym, refl, ap, ◌∙◌, Result, Ok, Err, inl, inr, IfOk, IfErr}
+use Rattle.std.proofs.Common.{◌≡◌, ◌⊎◌, ℕ, Bool, true, false, List, [], ◌∷◌, ◌++◌, drop, subst, sym, refl, ap, ◌∙◌, Result, Ok, Err, inl, inr, IfOk, IfErr}
 use Rattle.pg_base.specs.declared.faults.Fault.{Fault}
 use Rattle.pg_base.specs.declared.faults.Refusal.{Refusal}
 use Rattle.pg_base.specs.declared.faults.Refusal.TheVariants as refusal
 use Rattle.sql_lex.specs.declared.tokens.Token.{Token}
 use Rattle.sql_grammar.specs.declared.class.Word.TheVariants.{Create}
-use Rattle.sql_grammar.specs.declared.class.Symbol.TheVariants.{Open}
-use Rattle.sql_grammar.specs.Terminals.{Terminal, Ident, Said, token_of, t_key, t_mark, t_name}
-use Rattle.sql_grammar.specs.Syntax.{Key, Mark, ColDef, CopyWords, Ending, Statement, empty, create_table, query, copy, semicolon, text_end, select_from}
+use Rattle.sql_grammar.specs.declared.class.Free.TheVariants.{Distinct, Nulls as NullsWord, Pages, Rows, Statistics}
+use Rattle.sql_grammar.specs.declared.class.Symbol.TheVariants.{Dot, Open}
+use Rattle.sql_grammar.specs.Terminals.{Terminal, Ident, Said, free, token_of, t_key, t_mark, t_name}
+use Rattle.sql_grammar.specs.Syntax.{Key, Mark, ColDef, CopyWords, Common, Histogram, Ending, Statement, empty, create_table, query, copy, sizes, column_statistics, semicolon, text_end, select_from}
 use Rattle.sql_grammar.specs.Words.{words_of, words_of_ending}
 use Rattle.sql_grammar.specs.Faults.{bytes_of, terminals, IsWhole}
 use Rattle.sql_grammar.specs.CopyLine.{IsDataStart}
@@ -17,9 +18,10 @@ use Rattle.catalog.specs.Contents.{Contents}
 use Rattle.catalog.specs.Tables.{table_named}
 use Rattle.ddl_reader.specs.declared.ddl.Read.{Read}
 use Rattle.ddl_reader.specs.Columns.{written, further, bound_all}
-use Rattle.ddl_reader.specs.Reads.{words_of_body, Reads}
+use Rattle.ddl_reader.specs.Reads.{words_of_body, Reads, SpellsSizes, SpellsColumn, ends_common, ends_histogram, words_of_sizes, words_of_column}
+use Rattle.ddl_reader.specs.Statistics.{table_statistics, column_statistics_of, commons_of, bounds_of}
 use Rattle.ddl_reader.specs.Tables.{Reading, table_of, data_after}
-use Rattle.ddl_reader.specs.Statements.{begins_ddl, IsMeaning, IsDdlFault, IsDdlRefusal}
+use Rattle.ddl_reader.specs.Statements.{begins_ddl, Means, IsMeaning, IsDdlFault, IsDdlRefusal}
 use Rattle.ddl_reader.specs.Readings.{reading, ReadsAs, IsSyntaxRefusal}
 
 -- a statement that is CREATE TABLE, whose words after CREATE are these
@@ -40,19 +42,39 @@ creates (create_table k t n o c cs m e) token left is =
     record { create = k; table = t; name = n; opening = o; column = c; columns = cs; closing = m; ending = e; is = refl; words = ap (drop 2) (sym is) }
 creates (empty (semicolon t)) token left is = absurd (cc (is))
 creates (empty (text_end t)) token left is = absurd (cc (is))
-creates (query (select_from k o os f n a) e) token left is = absurd (cc (is))
+creates (query (select_from k o os f n a w) e) token left is = absurd (cc (is))
 creates (copy k n null) token left is = absurd (cc (is))
+creates (sizes k n rows pages e) token left is = absurd (cc (is))
+creates (column_statistics k n c d z m h e) token left is = absurd (cc (is))
 
 -- a statement that is COPY
 abbrev pub LoadsData : Statement → Type 0
 LoadsData x = (k : CopyWords) × (n : Ident) × (null : Said) × (x ≡ copy k n null)
 
-pub loads : (x : Statement) (ts : List Terminal) → words_of x ≡ ts → begins_ddl ts ≡ true → BeginsNot (t_key Create) ts → LoadsData x
-loads (create_table k t n o c cs m e) ts is ddl other = absurd (other _ (k, sym is))
-loads (empty (semicolon t)) ts is ddl other = let wrong = ap begins_ddl is ∙ ddl in absurd (cc (wrong))
-loads (empty (text_end t)) ts is ddl other = let wrong = ap begins_ddl is ∙ ddl in absurd (cc (wrong))
-loads (query (select_from k o os f n a) e) ts is ddl other = let wrong = ap begins_ddl is ∙ ddl in absurd (cc (wrong))
-loads (copy k n null) ts is ddl other = (k, n, null, refl)
+pub loads : (x : Statement) (ts : List Terminal) → words_of x ≡ ts → begins_ddl ts ≡ true → BeginsNot (t_key Create) ts → BeginsNot (λ token. t_name (free Statistics token)) ts → LoadsData x
+loads (create_table k t n o c cs m e) ts is ddl other others = absurd (other _ (k, sym is))
+loads (empty (semicolon t)) ts is ddl other others = let wrong = ap begins_ddl is ∙ ddl in absurd (cc (wrong))
+loads (empty (text_end t)) ts is ddl other others = let wrong = ap begins_ddl is ∙ ddl in absurd (cc (wrong))
+loads (query (select_from k o os f n a w) e) ts is ddl other others = let wrong = ap begins_ddl is ∙ ddl in absurd (cc (wrong))
+loads (copy k n null) ts is ddl other others = (k, n, null, refl)
+loads (sizes k n rows pages e) ts is ddl other others = absurd (others _ (k.statistics, sym is))
+loads (column_statistics k n c d z m h e) ts is ddl other others = absurd (others _ (k.statistics, sym is))
+
+-- the word that ends a statement is none of its lists
+ends-lists : (e : Ending) → (ends_common (words_of_ending e) ≡ true) × (ends_histogram (words_of_ending e) ≡ true)
+ends-lists (semicolon t) = (refl, refl)
+ends-lists (text_end t) = (refl, refl)
+
+-- a statement that is STATISTICS, whose words after that word are these
+pub describes : (x : Statement) (token : Token) (left : List Terminal) → words_of x ≡ t_name (free Statistics token) ∷ left → SpellsSizes left ⊎ SpellsColumn left
+describes (sizes k n rows pages e) token left is = inl (n, free Rows k.rows, rows, t_name (free Pages k.pages), pages, words_of_ending e, ap (drop 1) (sym is))
+describes (column_statistics k n c d z m h e) token left is =
+    inr (n, k.dot, c, t_name (free Distinct k.distinct), d, t_name (free NullsWord k.nulls), z, m, h, words_of_ending e, (ends-lists e).0, (ends-lists e).1, ap (drop 1) (sym is))
+describes (create_table k t n o c cs m e) token left is = absurd (cc (is))
+describes (empty (semicolon t)) token left is = absurd (cc (is))
+describes (empty (text_end t)) token left is = absurd (cc (is))
+describes (query (select_from k o os f n a w) e) token left is = absurd (cc (is))
+describes (copy k n null) token left is = absurd (cc (is))
 
 -- the last of some tokens
 abbrev last : Token → List Token → Token
@@ -73,16 +95,33 @@ pub stop-at : (k : CopyWords) (n : Ident) (null : Said) (text : List ℕ) (token
 stop-at k n null text tokens before token end from all is split at = at ∙ ap (λ (t : Token). t.end) (stops k n null text tokens before token (sym is ∙ all) split)
 
 module _ (cat : Contents) (text : List ℕ) where
-  table-by : (k t : Key) (n : Ident) (o : Mark) (c : ColDef) (cs : List (Mark × ColDef)) (m : Mark) (e : Ending) (r : Result Read Refusal) →
-      Reads Read Reading reading r (table_of (bytes_of n) (token_of n) (bound_all (written c ∷ further cs))) → ReadsAs cat text (create_table k t n o c cs m e) r
-  table-by k t n o c cs m e (Ok v) reads = sym reads
-  table-by k t n o c cs m e (Err (refusal.Fault f)) reads = sym reads
-  table-by k t n o c cs m e (Err refusal.Memory) reads = tt
+  -- a statement that means what is read
+  means-by : (x : Statement) (m : Result Reading Fault) (r : Result Read Refusal) → ((v : Result Reading Fault) → v ≡ m → Means cat text x v) → Reads Read Reading reading r m → ReadsAs cat text x r
+  means-by x m (Ok v) on reads = on (Ok (reading v)) (sym reads)
+  means-by x m (Err (refusal.Fault f)) on reads = on (Err f) (sym reads)
+  means-by x m (Err refusal.Memory) on reads = tt
 
   -- a table that is read
   pub table-as : (x : Statement) (left : List Terminal) (r : Result Read Refusal) (t : CreatesTable x left) → Reads Read Reading reading r (table_of (bytes_of t.name) (token_of t.name) (bound_all (written t.column ∷ further t.columns))) →
       ReadsAs cat text x r
-  table-as x left r t reads = subst (λ y. ReadsAs cat text y r) (sym t.is) (table-by t.create t.table t.name t.opening t.column t.columns t.closing t.ending r reads)
+  table-as x left r t reads = subst (λ y. ReadsAs cat text y r) (sym t.is) (means-by (create_table t.create t.table t.name t.opening t.column t.columns t.closing t.ending) _ r (λ v same. same) reads)
+
+  -- statistics that are read
+  pub statistics-as : (x : Statement) (token : Token) (left : List Terminal) (r : Result Read Refusal) → words_of x ≡ t_name (free Statistics token) ∷ left →
+      ((t k : Ident) (rows : Said) (b : Terminal) (pages : Said) (rest : List Terminal) → left ≡ t_name t ∷ words_of_sizes k rows b pages rest → Reads Read Reading reading r (table_statistics cat t rows pages)) →
+      ((t : Ident) (m : Mark) (c : Ident) (a : Terminal) (d : Said) (b : Terminal) (n : Said) (cs : Common) (h : Histogram) (rest : List Terminal) → ends_common rest ≡ true → ends_histogram rest ≡ true →
+      left ≡ t_name t ∷ t_mark Dot m ∷ words_of_column c a d b n cs h rest → Reads Read Reading reading r (column_statistics_of cat t c d n (commons_of cs) (bounds_of h))) →
+      ReadsAs cat text x r
+  statistics-as (sizes k n rows pages e) token left r is table column =
+      means-by (sizes k n rows pages e) _ r (λ v same. same) (table n (free Rows k.rows) rows (t_name (free Pages k.pages)) pages (words_of_ending e) (ap (drop 1) (sym is)))
+  statistics-as (column_statistics k n c d z m h e) token left r is table column =
+      means-by (column_statistics k n c d z m h e) _ r (λ v same. same)
+      (column n k.dot c (t_name (free Distinct k.distinct)) d (t_name (free NullsWord k.nulls)) z m h (words_of_ending e) (ends-lists e).0 (ends-lists e).1 (ap (drop 1) (sym is)))
+  statistics-as (create_table k t n o c cs m e) token left r is table column = absurd (cc (is))
+  statistics-as (empty (semicolon t)) token left r is table column = absurd (cc (is))
+  statistics-as (empty (text_end t)) token left r is table column = absurd (cc (is))
+  statistics-as (query (select_from k o os f n a w) e) token left r is table column = absurd (cc (is))
+  statistics-as (copy k n null) token left r is table column = absurd (cc (is))
 
   data-by : (k : CopyWords) (n : Ident) (null : Said) (r : Result Read Refusal) (start : Result ℕ Fault) → IsDataStart text k.stop.end start →
       Reads Read Reading reading r (data_after (table_named cat (bytes_of n)) (token_of n) null.value null.token start) → ReadsAs cat text (copy k n null) r

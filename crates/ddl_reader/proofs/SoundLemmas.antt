@@ -1,10 +1,8 @@
 -- What a statement means is sound.
-use Rattle.std.proofs.Common.{◌≡◌, ℕ, ◌<◌, ◌≤◌, Bool, true, false, cond, List, [], ◌∷◌, ◌++◌, length, drop, map, refl, sym, ap, ◌∙◌, subst, arith, Option, Some, None, Result, Ok, Err, IfOk, All, append_assoc, position}
-use Rattle.std.specs.Option.{option_map}
+use Rattle.std.proofs.Common.{◌≡◌, ℕ, ◌≤◌, Bool, true, false, cond, List, [], ◌∷◌, ◌++◌, length, drop, map, refl, sym, ap, ◌∙◌, subst, arith, Option, Some, None, Result, Ok, Err, IfOk, All, append_assoc}
 use Rattle.std.specs.Str.{bytes_eq}
 use Rattle.std.proofs.lemmas.List.{length-map, length-drop}
 use Rattle.std.proofs.lemmas.List.Elements.{All-nil, All-cons, All-tail}
-use Rattle.std.proofs.lemmas.List.Quantifiers.{position-Some}
 use Rattle.std.proofs.lemmas.Option.{slice_get_within}
 use Rattle.pg_base.specs.declared.limits.TheConstants.{MOST_COLUMNS}
 use Rattle.pg_base.specs.declared.faults.Fault.{Fault}
@@ -14,24 +12,27 @@ use Rattle.pg_value.specs.declared.value.SqlType.{SqlType}
 use Rattle.sql_lex.specs.declared.tokens.Token.{Token}
 use Rattle.sql_lex.specs.Words.{AreWords}
 use Rattle.sql_grammar.specs.Terminals.{Terminal, Ident, token_of, t_name}
-use Rattle.sql_grammar.specs.Syntax.{Mark, Nulls, unwritten, not_null, nullable, ColDef, coldef, Statement, empty, create_table, query, copy}
-use Rattle.sql_grammar.specs.Words.{words_of, words_of_nulls, words_of_coldef, words_of_columns}
+use Rattle.sql_grammar.specs.Syntax.{Mark, Nulls, unwritten, not_null, nullable, ColDef, coldef, Statement, empty, create_table, query, copy, sizes, column_statistics}
+use Rattle.sql_grammar.specs.Words.{words_of, words_of_nulls, words_of_coldef, words_of_columns, words_of_ending}
 use Rattle.sql_grammar.specs.Faults.{bytes_of}
 use Rattle.sql_grammar.specs.Unique.{token_in}
 use Rattle.sql_grammar.proofs.ExprTrees.{tokens-are}
 use Rattle.sql_grammar.specs.CopyLine.{IsDataStart, after_blanks}
 use Rattle.pg_base.specs.Names.{IsName}
-use Rattle.catalog.specs.Contents.{Contents, IsTable, table_names}
+use Rattle.catalog.specs.Contents.{Contents, IsTable, IsLawful}
 use Rattle.catalog.specs.Tables.{table_named}
 use Rattle.ddl_reader.specs.declared.ddl.Read.{Read}
 use Rattle.ddl_reader.specs.Types.{type_named}
-use Rattle.ddl_reader.specs.Columns.{Written, Bound, written, further, bound, bound_by, before_all, bound_all}
+use Rattle.ddl_reader.specs.Columns.{Written, Bound, written, further, bound, bound_by, bound_all}
+use Rattle.ddl_reader.specs.Statistics.{commons_of, bounds_of}
 use Rattle.ddl_reader.specs.Tables.{Reading, data_for, table_reading, limited, table_of, data_of, data_after}
 use Rattle.pg_value.specs.Fields.{null_text}
 use Rattle.ddl_reader.specs.Statements.{Means, IsMeaning}
 use Rattle.ddl_reader.specs.Readings.{reading}
 use Rattle.ddl_reader.specs.Soundness.{IsSound}
 use Rattle.ddl_reader.proofs.TokenLaws.{starts-within}
+use Rattle.ddl_reader.proofs.ListLemmas.{each-same}
+use Rattle.ddl_reader.proofs.SoundStatisticsLemmas.{AreWithin, within-all, known-table, sizes-sound, column-sound, places-within}
 use Rattle.sql_cursor.proofs.Named.{AreNamed, named-from}
 
 -- what bound columns have of those that are written
@@ -43,15 +44,8 @@ module _ {A : Type 0} (ours : Bound → A) (theirs : Written → A)
       let same : record { name = w.name; name_at = w.name_at; column = record { typed = t; not_null = w.not_null } } ≡ b = cc in
       sym (ap ours same) ∙ alike w t
 
-  alike-by : (w : Written) (ws : List Written) (bs : List Bound) (r : Result Bound Fault) (rs : Result (List Bound) Fault) → ((b : Bound) → r ≡ Ok b → ours b ≡ theirs w) →
-      ((cs : List Bound) → rs ≡ Ok cs → map ours cs ≡ map theirs ws) → before_all r rs ≡ Ok bs → map ours bs ≡ theirs w ∷ map theirs ws
-  alike-by w ws bs (Err f) rs one more is = absurd (cc)
-  alike-by w ws bs (Ok b) (Err f) one more is = absurd (cc)
-  alike-by w ws bs (Ok b) (Ok cs) one more is = let same : b ∷ cs ≡ bs = cc in subst (λ l. map ours l ≡ theirs w ∷ map theirs ws) same (rw (one b refl, more cs refl) refl)
-
   all-alike : (ws : List Written) (bs : List Bound) → bound_all ws ≡ Ok bs → map ours bs ≡ map theirs ws
-  all-alike [] bs is = let none : [] ≡ bs = cc in subst (λ l. map ours l ≡ []) none refl
-  all-alike (w ∷ ws) bs is = alike-by w ws bs (bound w) (bound_all ws) (λ b e. bound-alike w b (type_named w.kind) e) (λ cs e. all-alike ws cs e) is
+  all-alike ws bs is = sym (each-same bound theirs ours (λ w b e. sym (bound-alike w b (type_named w.kind) e)) ws bs is)
 
 -- the names of bound columns and their places are those that are written
 abbrev AreCalled : List Written → List Bound → Type 0
@@ -131,22 +125,13 @@ module _ (cat : Contents) (text : List ℕ) where
       limited-sound (table_reading name token bs) r bs (drop MOST_COLUMNS bs) refl (λ few. table-sound name token w ws bs named all (called (w ∷ ws) bs is) here low (put (w ∷ ws) bs is) few) means
 
   -- data that are meant
-  known : (name : List ℕ) (t : TableNo) (o : Option ℕ) → position (bytes_eq name) (table_names cat) ≡ o → option_map (λ n. record { 0 = n }) o ≡ Some t → IsTable cat t
-  known name t None at is = absurd (cc (is))
-  known name t (Some n) at is =
-      let within = (position-Some (bytes_eq name) (table_names cat) n [] at).0 in
-      let len = length-map cat.tables (λ d. d.name) in
-      let here : n < length cat.tables = omega (arith, within, len) in
-      let same : record { 0 = n } ≡ t = cc (is) in
-      subst (IsTable cat) same here
-
   text-sound : (t : TableNo) (start : ℕ) (r : Reading) (f : Fault) (b : Bool) → IsTable cat t → start ≤ length text → Ok r ≡ cond b (Ok (record { definition = data_for t start; at = []; method = 0 })) (Err f) → IsSound cat text r
   text-sound t start r f true there within is = let same : record { definition = data_for t start; at = []; method = 0 } ≡ r = cc (is) in subst (IsSound cat text) same (there, within)
   text-sound t start r f false there within is = absurd (cc (is))
 
   of-sound : (name : List ℕ) (name_at null_at : Token) (null : List ℕ) (start : ℕ) (r : Reading) (o : Option TableNo) → table_named cat name ≡ o → start ≤ length text → Ok r ≡ data_of o name_at null null_at start → IsSound cat text r
   of-sound name name_at null_at null start r None is within means = absurd (cc (means))
-  of-sound name name_at null_at null start r (Some t) is within means = text-sound t start r _ (bytes_eq null null_text) (known name t _ refl is) within means
+  of-sound name name_at null_at null start r (Some t) is within means = text-sound t start r _ (bytes_eq null null_text) (known-table cat text name t _ refl is) within means
 
   data-sound : (name : List ℕ) (name_at null_at : Token) (null : List ℕ) (end : ℕ) (r : Reading) (start : Result ℕ Fault) → IsDataStart text end start →
       Ok r ≡ data_after (table_named cat name) name_at null null_at start → IsSound cat text r
@@ -155,23 +140,27 @@ module _ (cat : Contents) (text : List ℕ) where
       let lf = slice_get_within text (after_blanks text end) 10 begins.0 in
       of-sound name name_at null_at null start r (table_named cat name) refl (omega (arith, lf, begins.1)) means
 
-  statement-sound : (r : Reading) (x : Statement) → Holds (λ n. IsName (bytes_of n)) (words_of x) → Holds (λ n. (token_of n).start ≤ length text) (words_of x) → Means cat text x (Ok r) → IsSound cat text r
-  statement-sound r (empty e) named placed means = absurd means
-  statement-sound r (query q e) named placed means = absurd means
-  statement-sound r (copy k n null) named placed (start, begins, means) = data-sound (bytes_of n) _ _ null.value _ r start begins means
-  statement-sound r (create_table k t n o c cs m e) named placed means =
+  statement-sound : (r : Reading) (x : Statement) → IsLawful cat → Holds (λ n. IsName (bytes_of n)) (words_of x) → Holds (λ n. (token_of n).start ≤ length text) (words_of x) → AreWithin (length text) (words_of x) → Means cat text x (Ok r) →
+      IsSound cat text r
+  statement-sound r (empty e) lawful named placed low means = absurd means
+  statement-sound r (query q e) lawful named placed low means = absurd means
+  statement-sound r (copy k n null) lawful named placed low (start, begins, means) = data-sound (bytes_of n) _ _ null.value _ r start begins means
+  statement-sound r (create_table k t n o c cs m e) lawful named placed low means =
       bound-sound (bytes_of n) (token_of n) (written c) (further cs) r _ (named.1.1.0 n refl) (columns-hold _ IsName (λ w. w.name) (λ i j nulls h. h) c cs _ named.1.1.1.1)
       (placed.1.1.0 n refl) (columns-hold _ (λ a. a ≤ length text) (λ w. w.name_at.start) (λ i j nulls h. h) c cs _ placed.1.1.1.1) refl means
+  statement-sound r (sizes k n rows pages e) lawful named placed low means = sizes-sound cat text n rows pages r low.1.1.1.0 low.1.1.1.1.1.0 means
+  statement-sound r (column_statistics k n c d z m h e) lawful named placed low means =
+      column-sound cat text n c d z (commons_of m) (bounds_of h) r lawful (places-within (length text) d z m h (words_of_ending e) low.1.1.1.1.1.0 low.1.1.1.1.1.1.1.0 low.1.1.1.1.1.1.1.1) means
 
-  meaning-sound : (tokens : List Token) (from : ℕ) (r : Reading) → AreWords text from tokens → IsMeaning cat text tokens (Ok r) → IsSound cat text r
-  meaning-sound tokens from r w m =
+  meaning-sound : (tokens : List Token) (from : ℕ) (r : Reading) → IsLawful cat → AreWords text from tokens → IsMeaning cat text tokens (Ok r) → IsSound cat text r
+  meaning-sound tokens from r lawful w m =
       let x = m.statement in
       let words = m.spelled.words in
       let named = subst AreNamed (sym words) (named-from text from tokens 0 w m.spelled.limits) in
       let placed = subst (All (λ u. u.start ≤ length text)) (sym (tokens-are (words_of x) text tokens words)) (starts-within text from tokens w) in
-      statement-sound r x (holds-named (words_of x) named) (holds-placed (length text) (words_of x) placed) m.means
+      statement-sound r x lawful (holds-named (words_of x) named) (holds-placed (length text) (words_of x) placed) (within-all (length text) (words_of x) placed) m.means
 
   -- a statement that is read
-  pub sound-as : (tokens : List Token) (from : ℕ) (r : Result Read Refusal) → AreWords text from tokens → IfOk r (λ v. IsMeaning cat text tokens (Ok (reading v))) → IfOk r (λ v. IsSound cat text (reading v))
-  sound-as tokens from (Ok v) w m = meaning-sound tokens from (reading v) w m
-  sound-as tokens from (Err e) w m = tt
+  pub sound-as : (tokens : List Token) (from : ℕ) (r : Result Read Refusal) → IsLawful cat → AreWords text from tokens → IfOk r (λ v. IsMeaning cat text tokens (Ok (reading v))) → IfOk r (λ v. IsSound cat text (reading v))
+  sound-as tokens from (Ok v) lawful w m = meaning-sound tokens from (reading v) lawful w m
+  sound-as tokens from (Err e) lawful w m = tt

@@ -1,0 +1,24 @@
+-- The first words of STATISTICS.
+use Rattle.std.proofs.Common.{◌≡◌, ◌⊎◌, inl, inr, List, sym, ap, ◌∙◌, Result}
+use Rattle.pg_base.specs.declared.faults.Code.TheVariants.{S2}
+use Rattle.pg_base.specs.declared.faults.Fault.{Fault}
+use Rattle.pg_base.specs.declared.numbers.TableNo.{TableNo}
+use Rattle.sql_grammar.specs.declared.class.Symbol.TheVariants.{Dot}
+use Rattle.sql_grammar.specs.Terminals.{Terminal, Ident, Said, t_mark}
+use Rattle.sql_cursor.specs.declared.cursor.Spelled.{Spelled}
+use Rattle.sql_cursor.specs.Reading.{BeginsName, BeginsNot, spelled}
+use Rattle.catalog.specs.Contents.{Contents}
+use Rattle.catalog.specs.Tables.{table_named}
+use Rattle.ddl_reader.specs.Statistics.{known, table_of_name}
+use Rattle.ddl_reader.specs.Reads.{SpellsSizes, SpellsColumn, words_of_sizes}
+use Rattle.ddl_reader.proofs.Parts.{named}
+
+-- without a dot the sizes of a table are left
+pub sizes-left : (old mid new : List Terminal) (title : Spelled) → SpellsSizes old ⊎ SpellsColumn old → BeginsName title old mid → BeginsNot (t_mark Dot) mid → new ≡ mid →
+    (r : Ident) × (rows : Said) × (b : Terminal) × (pages : Said) × (rest : List Terminal) × (new ≡ words_of_sizes r rows b pages rest)
+sizes-left old mid new title (inl (t, r, rows, b, pages, rest, is)) begins other same = (r, rows, b, pages, rest, same ∙ (named t (words_of_sizes r rows b pages rest) title old mid is begins).1)
+sizes-left old mid new title (inr (t, m, c, a, d, b, n, cs, h, rest, commons, bounds, is)) begins other same = absurd (other _ (m, (named t _ title old mid is begins).1))
+
+-- the table that is told
+pub table-told : (cat : Contents) (t : Ident) (title : Spelled) (r : Result TableNo Fault) → title ≡ spelled t → known S2 title.token (table_named cat title.bytes) ≡ r → table_of_name cat t ≡ r
+table-told cat t title r is told = ap (λ (x : Spelled). known S2 x.token (table_named cat x.bytes)) (sym is) ∙ told

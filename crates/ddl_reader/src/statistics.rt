@@ -1,0 +1,226 @@
+//! STATISTICS: the size of a table, and what is known of a column.
+
+ghost use Rattle.std.specs.Prelude.{◌≡◌, ◌≤◌, ◌-◌, ◌^◌, ◌⊎◌, min, List, ◌∷◌, ◌++◌, map, true, IfOk, OnOk, MatchResult};
+ghost use Rattle.std.specs.List.{flat_map};
+ghost use Rattle.pg_base.specs.declared.faults.Code.TheVariants.{S2, S3};
+ghost use Rattle.pg_base.specs.declared.faults.Refusal.TheVariants as refusal;
+ghost use Rattle.pg_base.specs.declared.numbers.TableNo.{TableNo};
+ghost use Rattle.pg_base.specs.declared.numbers.ColNo.{ColNo};
+ghost use Rattle.sql_grammar.specs.declared.class.Symbol.TheVariants.{Dot};
+ghost use Rattle.sql_grammar.specs.Terminals.{Terminal, Ident, Said, token_of, t_mark, t_name, t_number};
+ghost use Rattle.sql_grammar.specs.Syntax.{Mark, Common, Histogram};
+ghost use Rattle.sql_grammar.specs.Faults.{bytes_of};
+ghost use Rattle.sql_cursor.specs.Reading.{numbered};
+ghost use Rattle.expr_reader.specs.Conditions.{next};
+ghost use Rattle.catalog.specs.Contents.{IsTable, IsColumn, table_at};
+ghost use Rattle.catalog.specs.Indexes.{type_at};
+ghost use Rattle.catalog.specs.Tables.{table_named, column_named};
+ghost use Rattle.ddl_reader.specs.declared.ddl.Read.{Read};
+ghost use Rattle.ddl_reader.specs.Statistics.{known, sizes_reading, statistics_of, column_of_name, table_statistics, column_statistics_of, commons_of, bounds_of};
+ghost use Rattle.ddl_reader.specs.Reads.{Reads, Tells, SpellsSizes, SpellsColumn, ends_common, ends_histogram, words_of_sizes, words_of_column, words_of_lists, common_seen, starts_seen, value_seen, start_seen};
+ghost use Rattle.ddl_reader.specs.Tables.{Reading};
+ghost use Rattle.ddl_reader.specs.Readings.{reading, statistics_read};
+
+use crate::ddl::{Ddl, Read};
+use crate::literals::{CommonRead, common, histogram};
+use crate::words::{name, number, word_fault};
+use catalog::{Catalog, ColumnStats};
+use expr_reader::Placed;
+use pg_base::{Code, ColNo, Memory, Refusal, TableNo};
+use pg_value::{SqlType, Value};
+use sql_cursor::{Cursor, Number, Spelled};
+use sql_grammar::Symbol;
+use std::alloc::Global;
+
+/// A column of a table, and the numbers of its different values and of its NULLs.
+#[derive(Clone, Copy)]
+struct Counted {
+    table: TableNo,
+    col: ColNo,
+    distinct: Number,
+    nulls: Number,
+}
+
+/// The table of this name. An unknown one is refused (42P01) at its name.
+fn table_of(cat: &Catalog, name: &Spelled) -> Result<TableNo, Refusal>
+    ensures told { Tells TableNo TableNo (λ t. t) result (known S2 name.now.token (table_named cat.now name.now.bytes)) }
+    ensures there { IfOk result (IsTable cat.now) }
+{
+    match cat.table(name.bytes.items()) {
+        Some(table) => Ok(table),
+        None => Err(word_fault(Code::S2, name.token)),
+    }
+}
+
+/// The column of this name, of a table. An unknown one is refused (42703) at its name.
+fn column_of(cat: &Catalog, table: TableNo, name: &Spelled) -> Result<ColNo, Refusal>
+    requires { IsTable cat.now table }
+    ensures told { Tells ColNo ColNo (λ c. c) result (known S3 name.now.token (column_named cat.now table name.now.bytes)) }
+    ensures there { IfOk result (IsColumn cat.now table) }
+{
+    match cat.column(table, name.bytes.items()) {
+        Some(col) => Ok(col),
+        None => Err(word_fault(Code::S3, name.token)),
+    }
+}
+
+/// The type of a column of a table.
+fn type_of(cat: &Catalog, table: TableNo, col: ColNo) -> SqlType
+    requires table { IsTable cat.now table }
+    requires column { IsColumn cat.now table col }
+    ensures { result ≡ type_at (table_at cat.now table).columns col }
+{
+    cat.columns(table).items()[col.0 as usize].typed
+}
+
+/// A number, or 2^32 - 1 where it is more.
+fn narrow(n: u64) -> u32
+    ensures { result ≡ min n (2 ^ 32 - 1) }
+{
+    n.min(u64::from(u32::MAX)) as u32
+}
+
+/// Common values with their shares. The places of both are put behind `at`.
+fn common_values(
+    alloc: Global,
+    read: Vec<CommonRead>,
+    at: &mut Vec<u32>,
+) -> Result<Vec<(Value, u32)>, Memory>
+    ensures values { IfOk result (λ v. v.items ≡ map common_seen read.items) }
+    ensures places { OnOk result (at.new.items ≡ at.old.items ++ flat_map starts_seen read.items) }
+{
+    let mut values = Vec::new(alloc);
+    for one in read {
+        let CommonRead { literal, share } = one;
+        let Placed {
+            value,
+            token: place,
+        } = literal;
+        values.push((value, narrow(share.value)))?;
+        at.push(place.start)?;
+        at.push(share.token.start)?;
+    }
+    Ok(values)
+}
+
+/// The bounds of a histogram. Their places are put behind `at`.
+fn bound_values(alloc: Global, read: Vec<Placed>, at: &mut Vec<u32>) -> Result<Vec<Value>, Memory>
+    ensures values { IfOk result (λ v. v.items ≡ map value_seen read.items) }
+    ensures places { OnOk result (at.new.items ≡ at.old.items ++ map start_seen read.items) }
+{
+    let mut values = Vec::new(alloc);
+    for one in read {
+        let Placed { value, token } = one;
+        values.push(value)?;
+        at.push(token.start)?;
+    }
+    Ok(values)
+}
+
+/// The statistics of a column with these common values and bounds.
+fn made(
+    alloc: Global,
+    counted: Counted,
+    common: Vec<CommonRead>,
+    bounds: Vec<Placed>,
+) -> Result<Read, Refusal>
+    ensures { MatchResult result (λ r. reading r ≡ statistics_read counted common.items bounds.items) (λ e. e ≡ refusal.Memory) }
+{
+    let mut at = Vec::new(alloc);
+    at.push(counted.distinct.token.start)?;
+    at.push(counted.nulls.token.start)?;
+    let common = common_values(alloc, common, &mut at)?;
+    let histogram = bound_values(alloc, bounds, &mut at)?;
+    let stats = ColumnStats {
+        distinct: counted.distinct.value,
+        nulls: narrow(counted.nulls.value),
+        common,
+        histogram,
+    };
+    Ok(Read {
+        ddl: Ddl::Column {
+            table: counted.table,
+            col: counted.col,
+            stats,
+        },
+        at,
+        method: 0,
+    })
+}
+
+/// The lists of literals of a column of type `t`, which are bound from the left.
+fn lists(alloc: Global, t: SqlType, counted: Counted, from: &mut Cursor) -> Result<Read, Refusal>
+    requires { (cs : Common) × (h : Histogram) × (rest : List Terminal) × (ends_common rest ≡ true) × (ends_histogram rest ≡ true) × (from.old ≡ words_of_lists cs h rest) }
+    ensures { (d n : Said) (cs : Common) (h : Histogram) (rest : List Terminal) → counted.distinct ≡ numbered d → counted.nulls ≡ numbered n → ends_common rest ≡ true → ends_histogram rest ≡ true → from.old ≡ words_of_lists cs h rest →
+        Reads Read Reading reading result (statistics_of t counted.table counted.col d n (commons_of cs) (bounds_of h)) }
+{
+    let common = common(alloc, t, from)?;
+    let bounds = histogram(alloc, t, from)?;
+    made(alloc, counted, common, bounds)
+}
+
+/// STATISTICS of a column of a table, from the column's name on. An unknown column is refused (42703) at its name.
+fn column(alloc: Global, cat: &Catalog, table: TableNo, from: &mut Cursor) -> Result<Read, Refusal>
+    requires there { IsTable cat.now table }
+    requires words { (c : Ident) × (a : Terminal) × (d : Said) × (b : Terminal) × (n : Said) × (cs : Common) × (h : Histogram) × (rest : List Terminal) ×
+        (ends_common rest ≡ true) × (ends_histogram rest ≡ true) × (from.old ≡ words_of_column c a d b n cs h rest) }
+    ensures { (c : Ident) (a : Terminal) (d : Said) (b : Terminal) (n : Said) (cs : Common) (h : Histogram) (rest : List Terminal) → ends_common rest ≡ true → ends_histogram rest ≡ true →
+        from.old ≡ words_of_column c a d b n cs h rest →
+        Reads Read Reading reading result
+        (next (column_of_name cat.now table c) (λ col. statistics_of (type_at (table_at cat.now table).columns col) table col d n (commons_of cs) (bounds_of h))) }
+{
+    let title = name(alloc, from)?;
+    let col = column_of(cat, table, &title)?;
+    from.skip(1);
+    let distinct = number(from);
+    from.skip(1);
+    let nulls = number(from);
+    let counted = Counted {
+        table,
+        col,
+        distinct,
+        nulls,
+    };
+    lists(alloc, type_of(cat, table, col), counted, from)
+}
+
+/// STATISTICS of a table, from ROWS on.
+fn sizes(alloc: Global, table: TableNo, from: &mut Cursor) -> Result<Read, Refusal>
+    requires { (r : Ident) × (rows : Said) × (b : Terminal) × (pages : Said) × (rest : List Terminal) × (from.old ≡ words_of_sizes r rows b pages rest) }
+    ensures { (r : Ident) (rows : Said) (b : Terminal) (pages : Said) (rest : List Terminal) → from.old ≡ words_of_sizes r rows b pages rest →
+        MatchResult result (λ v. reading v ≡ sizes_reading rows pages table) (λ e. e ≡ refusal.Memory) }
+{
+    from.skip(1);
+    let rows = number(from);
+    from.skip(1);
+    let pages = number(from);
+    let mut at = Vec::new(alloc);
+    at.push(rows.token.start)?;
+    at.push(pages.token.start)?;
+    Ok(Read {
+        ddl: Ddl::Rows {
+            table,
+            rows: rows.value,
+            pages: pages.value,
+        },
+        at,
+        method: 0,
+    })
+}
+
+/// STATISTICS from the table's name on. The table's name is bound (42P01), then a column's (42703), then all literals, from the left.
+pub fn statistics(alloc: Global, cat: &Catalog, from: &mut Cursor) -> Result<Read, Refusal>
+    requires { SpellsSizes from.old ⊎ SpellsColumn from.old }
+    ensures sizes { (t r : Ident) (rows : Said) (b : Terminal) (pages : Said) (rest : List Terminal) →
+        from.old ≡ t_name t ∷ words_of_sizes r rows b pages rest → Reads Read Reading reading result (table_statistics cat.now t rows pages) }
+    ensures column { (t : Ident) (m : Mark) (c : Ident) (a : Terminal) (d : Said) (b : Terminal) (n : Said) (cs : Common) (h : Histogram) (rest : List Terminal) →
+        ends_common rest ≡ true → ends_histogram rest ≡ true → from.old ≡ t_name t ∷ t_mark Dot m ∷ words_of_column c a d b n cs h rest →
+        Reads Read Reading reading result (column_statistics_of cat.now t c d n (commons_of cs) (bounds_of h)) }
+{
+    let title = name(alloc, from)?;
+    let table = table_of(cat, &title)?;
+    if from.takes_mark(Symbol::Dot) {
+        return column(alloc, cat, table, from);
+    }
+    sizes(alloc, table, from)
+}

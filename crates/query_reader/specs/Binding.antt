@@ -1,30 +1,59 @@
--- What a SELECT means over a catalogue, or its first fault: FROM first, then the list from the left (PostgreSQL manual,
--- chapter Queries; codes: appendix Error Codes).
-use Rattle.std.specs.Prelude.{ℕ, List, [], ◌∷◌, ◌++◌, Option, Some, None, Result, Ok, Err}
+-- What a SELECT means over a catalogue, or its first fault: FROM first, then WHERE, then the list from the left, then the
+-- limits (PostgreSQL manual, chapter Queries; codes: appendix Error Codes; the limits are own).
+use Rattle.std.specs.Prelude.{ℕ, nat_lt, cond, List, [], ◌∷◌, ◌++◌, length, Option, Some, None, Result, Ok, Err}
 use Rattle.pg_base.specs.declared.numbers.TableNo.{TableNo}
-use Rattle.pg_base.specs.declared.faults.Code.TheVariants.{S2, S3, S4}
+use Rattle.pg_base.specs.declared.faults.Code.TheVariants.{S2, S15}
 use Rattle.pg_base.specs.declared.faults.Fault.{Fault}
+use Rattle.pg_base.specs.declared.faults.Limit.{Limit}
+use Rattle.pg_base.specs.declared.faults.Limit.TheVariants.{Atoms, Conjuncts}
+use Rattle.pg_base.specs.declared.limits.TheConstants.{MOST_ATOMS, MOST_CONJUNCTS}
+use Rattle.pg_value.specs.declared.value.SqlType.{SqlType}
 use Rattle.pg_expr.specs.declared.operand.ColRef.{ColRef}
+use Rattle.pg_expr.specs.Columns.{atom_count_of}
+use Rattle.pg_expr.specs.Cond.{Cond, conds_of}
+use Rattle.pg_expr.specs.Conjuncts.{conjuncts_of}
 use Rattle.catalog.specs.Contents.{Contents}
-use Rattle.catalog.specs.Range.{Range}
+use Rattle.catalog.specs.Range.{Range, type_in}
 use Rattle.catalog.specs.Tables.{table_named}
+use Rattle.eq_classes.specs.Classes.{conjuncts_in, listed}
+use Rattle.eq_classes.specs.Clauses.{Table}
 use Rattle.sql_lex.specs.declared.tokens.Token.{Token}
 use Rattle.sql_grammar.specs.Faults.{fault_at}
-use Rattle.sql_grammar.specs.Syntax.{Select}
+use Rattle.sql_grammar.specs.Syntax.{Select, Where, no_where, where_expr}
 use Rattle.sql_cursor.specs.declared.cursor.Spelled.{Spelled}
+use Rattle.expr_reader.specs.Conditions.{meaning_of_expr, next, the_column}
+use Rattle.expr_reader.specs.Scope.{Scope, columns_of, look_up, under}
 use Rattle.sql_query.specs.Queries.{Query}
 use Rattle.query_reader.specs.declared.written.Item.{Item}
 use Rattle.query_reader.specs.declared.written.Item.TheVariants.{Every, EveryOf, Bare, Qualified}
 use Rattle.query_reader.specs.declared.written.Source.{Source}
+use Rattle.query_reader.specs.Named.{columns_in_all}
+use Rattle.query_reader.specs.Scope.{scope_of}
 use Rattle.query_reader.specs.Written.{Written, written_of}
-use Rattle.query_reader.specs.Scope.{Scope, scope_of, columns_of, under, Found, one, no_table, no_column, many, look_up}
 
--- the column that was found: an unknown qualifier is at fault itself, and else the name
-abbrev pub found_column : Found → Token → Token → Result (List ColRef) Fault
-found_column (one column) qualifier name = Ok (column ∷ [])
-found_column no_table qualifier name = Err (fault_at S2 qualifier)
-found_column no_column qualifier name = Err (fault_at S3 name)
-found_column many qualifier name = Err (fault_at S4 name)
+-- a SELECT with its names bound, apart from its classes: its relations, the columns that it shows, and its conjuncts as
+-- written
+pub record Bound : Type 0 where
+  pub range : Range
+  pub select : List ColRef
+  pub where_all : List Cond
+
+-- the query with these classes: it names the columns that it shows and those of its conjuncts, and has no ORDER BY and no
+-- window
+abbrev pub query_with : Table → Bound → Query
+query_with classes b = record {
+  range = b.range;
+  classes = classes;
+  select = b.select;
+  order = [];
+  used = b.select ++ columns_in_all (conds_of b.where_all);
+  where_all = b.where_all;
+  window = None;
+}
+
+-- the one column that is found
+abbrev pub alone : ColRef → Result (List ColRef) Fault
+alone c = Ok (c ∷ [])
 
 -- the columns under an alias: there is one at least
 abbrev pub found_relation : Scope → Token → Result (List ColRef) Fault
@@ -35,8 +64,8 @@ found_relation (v ∷ scope) qualifier = Ok (columns_of (v ∷ scope))
 abbrev pub item_columns : Scope → Item → Result (List ColRef) Fault
 item_columns scope Every = Ok (columns_of scope)
 item_columns scope (EveryOf q) = found_relation (under q.bytes scope) q.token
-item_columns scope (Bare n) = found_column (look_up scope None n.bytes) n.token n.token
-item_columns scope (Qualified q n) = found_column (look_up scope (Some q.bytes) n.bytes) q.token n.token
+item_columns scope (Bare n) = next (the_column (look_up scope None n.bytes) n.token n.token) alone
+item_columns scope (Qualified q n) = next (the_column (look_up scope (Some q.bytes) n.bytes) q.token n.token) alone
 
 -- one after the other: the first fault wins
 abbrev pub then_columns : Result (List ColRef) Fault → Result (List ColRef) Fault → Result (List ColRef) Fault
@@ -49,6 +78,21 @@ abbrev pub list_columns : Scope → List Item → Result (List ColRef) Fault
 list_columns scope [] = Ok []
 list_columns scope (item ∷ items) = then_columns (item_columns scope item) (list_columns scope items)
 
+-- the conjuncts of WHERE as written: the parts of an AND, else the condition itself
+abbrev pub conjuncts_written : Scope → (ColRef → SqlType) → Where → Result (List Cond) Fault
+conjuncts_written scope type_of no_where = Ok []
+conjuncts_written scope type_of (where_expr _ e) = next (meaning_of_expr scope type_of e) (λ c. Ok (listed (conjuncts_of c)))
+
+-- the first limit that conjuncts as written are past: that of their number in pushed form, a constant among them, then that of
+-- their atoms
+abbrev pub past_limit : List Cond → Option Limit
+past_limit ws = cond (nat_lt MOST_CONJUNCTS (length (conjuncts_in ws))) (Some Conjuncts) (cond (nat_lt MOST_ATOMS (atom_count_of (conds_of ws))) (Some Atoms) None)
+
+-- a limit that is passed is at fault at the statement's first token
+abbrev pub limited : {A : Type 0} → Token → Option Limit → A → Result A Fault
+limited start None x = Ok x
+limited start (Some limit) x = Err (fault_at (S15 limit) start)
+
 -- the alias that is given, else the table's name
 abbrev pub alias_or : Option Spelled → Spelled → List ℕ
 alias_or None table = table.bytes
@@ -59,20 +103,17 @@ abbrev pub source_range : Option TableNo → Source → Result Range Fault
 source_range None source = Err (fault_at S2 source.table.token)
 source_range (Some table) source = Ok ((table, alias_or source.alias source.table) ∷ [])
 
--- the query over these relations: it names the columns that it shows, and no others, and has no condition
-abbrev pub shows : Range → Result (List ColRef) Fault → Result Query Fault
-shows range (Ok columns) = Ok (record { range = range; select = columns; used = columns; where_all = [] })
-shows range (Err fault) = Err fault
+-- WHERE, then the list, over the relations after FROM, then the limits
+abbrev pub bound_over : Contents → Token → List Item → Where → Range → Result Bound Fault
+bound_over c start items condition range =
+    next (conjuncts_written (scope_of c range) (type_in c range) condition) (λ conjuncts.
+    next (list_columns (scope_of c range) items) (λ columns.
+    limited start (past_limit conjuncts) (record { range = range; select = columns; where_all = conjuncts })))
 
--- the list, over the relations after FROM
-abbrev pub bound_over : Contents → Result Range Fault → List Item → Result Query Fault
-bound_over c (Ok range) items = shows range (list_columns (scope_of c range) items)
-bound_over c (Err fault) items = Err fault
+-- what is written in a statement that begins at this token means
+abbrev pub bound_written : Contents → Token → Written → Result Bound Fault
+bound_written c start w = next (source_range (table_named c w.source.table.bytes) w.source) (bound_over c start w.items w.condition)
 
--- what is written means
-abbrev pub bound_written : Contents → Written → Result Query Fault
-bound_written c w = bound_over c (source_range (table_named c w.source.table.bytes) w.source) w.items
-
--- what a SELECT means
-abbrev pub bound : Contents → Select → Result Query Fault
-bound c q = bound_written c (written_of q)
+-- what a SELECT in a statement that begins at this token means
+abbrev pub bound : Contents → Token → Select → Result Bound Fault
+bound c start q = bound_written c start (written_of q)

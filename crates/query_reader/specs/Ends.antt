@@ -1,7 +1,8 @@
 -- What stands behind a part of a SELECT: by these words its reading knows where it ends (own).
-use Rattle.std.specs.Prelude.{List, ◌∷◌, Bool, true, false}
+use Rattle.std.specs.Prelude.{List, ◌∷◌, Bool, true, false, not, ◌&&◌}
 use Rattle.sql_grammar.specs.Terminals.{Terminal, t_key, t_mark, t_name}
-use Rattle.sql_grammar.specs.declared.class.Word.TheVariants.{As}
+use Rattle.sql_grammar.specs.Unique.{ends_expr}
+use Rattle.sql_grammar.specs.declared.class.Word.TheVariants.{As, Where}
 use Rattle.sql_grammar.specs.declared.class.Symbol.TheVariants.{Dot}
 
 -- no `.` stands next
@@ -14,3 +15,12 @@ abbrev pub ends_alias : List Terminal → Bool
 ends_alias (t_key As _ ∷ _) = false
 ends_alias (t_name _ ∷ _) = false
 ends_alias _ = true
+
+-- WHERE stands next
+abbrev pub begins_where : List Terminal → Bool
+begins_where (t_key Where _ ∷ _) = true
+begins_where _ = false
+
+-- neither WHERE stands next nor a word that goes on an expression
+abbrev pub ends_where : List Terminal → Bool
+ends_where ts = not (begins_where ts) && ends_expr ts

@@ -1,20 +1,9 @@
--- Which columns are visible and which one a name means (PostgreSQL manual, chapter Value Expressions, Column References).
-use Rattle.std.specs.Prelude.{ℕ, ◌+◌, List, [], ◌∷◌, ◌++◌, map, filter, Option, Some, None}
-use Rattle.std.specs.Str.{bytes_eq}
+-- The columns that are visible over the relations of a query (PostgreSQL manual, chapter Value Expressions, Column References).
+use Rattle.std.specs.Prelude.{ℕ, ◌+◌, List, [], ◌∷◌, ◌++◌}
 use Rattle.pg_base.specs.declared.numbers.RelNo.{RelNo}
-use Rattle.pg_expr.specs.declared.operand.ColRef.{ColRef}
 use Rattle.catalog.specs.Contents.{Contents, table_at}
 use Rattle.catalog.specs.Range.{Range}
-
--- a visible column: the alias of its relation, its name and itself
-pub record Visible : Type 0 where
-  pub alias : List ℕ
-  pub name : List ℕ
-  pub column : ColRef
-
--- the visible columns, in order
-abbrev pub Scope : Type 0
-Scope = List Visible
+use Rattle.expr_reader.specs.Scope.{Scope}
 
 -- the columns of a relation that have these names, from column k on
 abbrev pub columns_from : List ℕ → RelNo → ℕ → List (List ℕ) → Scope
@@ -31,37 +20,7 @@ relations_from c k ((table, alias) ∷ range) = columns_from alias (record { 0 =
 abbrev pub scope_of : Contents → Range → Scope
 scope_of c range = relations_from c 0 range
 
--- the columns themselves
-abbrev pub columns_of : Scope → List ColRef
-columns_of scope = map (λ v. v.column) scope
-
--- those of the relations under an alias
-abbrev pub under : List ℕ → Scope → Scope
-under alias scope = filter (λ v. bytes_eq alias v.alias) scope
-
--- those of a name
-abbrev pub of_name : List ℕ → Scope → Scope
-of_name name scope = filter (λ v. bytes_eq name v.name) scope
-
--- what a name means
-pub data Found : Type 0 where
-  one : ColRef → Found
-  no_table : Found
-  no_column : Found
-  many : Found
-
--- the one column there
-abbrev pub the_one : Scope → Found
-the_one [] = no_column
-the_one (v ∷ []) = one v.column
-the_one (v ∷ w ∷ scope) = many
-
--- the column of a name among those of one alias
-abbrev pub among : List ℕ → Scope → Found
-among name [] = no_table
-among name (v ∷ scope) = the_one (of_name name (v ∷ scope))
-
--- the column that a name means, with a qualifier or without
-abbrev pub look_up : Scope → Option (List ℕ) → List ℕ → Found
-look_up scope None name = the_one (of_name name scope)
-look_up scope (Some alias) name = among name (under alias scope)
+-- what names are looked up in: the contents of a catalogue, and the relations of a query over it
+pub record Sight : Type 0 where
+  pub contents : Contents
+  pub range : Range

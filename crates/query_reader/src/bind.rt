@@ -1,27 +1,38 @@
 //! Binding the names of a SELECT to a catalogue.
 
-ghost use Rattle.std.specs.Prelude.{◌≡◌, ◌<◌, ℕ, List, [], ◌∷◌, ◌++◌, length, Ok, Err, Some, None, true, false, IfOk, MatchOption, MatchResult};
-ghost use Rattle.std.specs.Str.{bytes_eq};
-ghost use Rattle.sql_lex.specs.declared.tokens.Token.{Token};
-ghost use Rattle.sql_grammar.specs.Faults.{fault_at as fault_at_token};
+ghost use Rattle.std.specs.Prelude.{◌≡◌, ◌++◌, ℕ, List, [], ◌∷◌, length, Ok, Err, Some, None, true, IfOk, MatchOption, MatchResult, map};
 ghost use Rattle.pg_base.specs.Names.{IsName};
-ghost use Rattle.pg_base.specs.declared.faults.Code.TheVariants.{S2, S3};
-ghost use Rattle.sql_query.specs.WellBound.{IsWellBound};
+ghost use Rattle.pg_base.specs.declared.faults.Code.TheVariants.{S2};
+ghost use Rattle.pg_expr.specs.Cond.{conds_of};
+ghost use Rattle.pg_expr.specs.View.{cond, conds};
 ghost use Rattle.catalog.specs.Contents.{IsTable, IsLawfulTable, table_at};
-ghost use Rattle.catalog.specs.Tables.{column_named, table_named};
-ghost use Rattle.query_reader.specs.Scope.{scope_of, columns_of, of_name, the_one};
-ghost use Rattle.query_reader.specs.Binding.{found_column, item_columns, list_columns, shows, alias_or, bound_written};
+ghost use Rattle.catalog.specs.Tables.{table_named};
+ghost use Rattle.sql_grammar.specs.Faults.{fault_at as fault_at_token};
+ghost use Rattle.sql_grammar.specs.Syntax.{Where};
+ghost use Rattle.sql_grammar.specs.Terminals.{Terminal};
+ghost use Rattle.sql_grammar.specs.Words.{words_of_where};
+ghost use Rattle.expr_reader.specs.Conditions.{next, the_column};
+ghost use Rattle.sql_query.specs.WellBound.{IsWellBound};
 ghost use Rattle.query_reader.specs.Adds.{Adds, AddsAll};
+ghost use Rattle.query_reader.specs.Binding.{alias_or, alone, bound_over, bound_written, item_columns, list_columns};
+ghost use Rattle.query_reader.specs.Ends.{ends_where};
+ghost use Rattle.query_reader.specs.Named.{columns_in_all};
+ghost use Rattle.query_reader.specs.Scope.{scope_of};
 ghost use Rattle.query_reader.specs.Select.{IsReadAs};
 
+use crate::conditions::{classes_within, written_conjuncts};
+use crate::named;
+use crate::relation::Relation;
 use crate::written::{Item, Query, Source};
 use catalog::{Catalog, RangeTable};
-use pg_base::{Code, ColNo, Fault, Refusal, RelNo, TableNo};
-use pg_expr::{ColRef, Exprs};
+use expr_reader::{Found, Scope};
+use pg_base::{Code, Fault, Memory, Refusal, TableNo};
+use pg_expr::{ColRef, Expr};
 use pg_value::Bytes;
-use sql_cursor::Spelled;
+use sql_cursor::{Cursor, Spelled};
 use sql_grammar::fault_at;
-use sql_query::{ColList, Prepared};
+use sql_lex::Token;
+use sql_query::{ColList, OrderList, Prepared};
 use std::alloc::Global;
 
 /// The table of a name, or its fault.
@@ -37,121 +48,103 @@ fn table_of(cat: &Catalog, name: &Spelled) -> Result<TableNo, Fault>
     }
 }
 
-/// The column of a name of a table, or its fault.
-fn column_of(cat: &Catalog, table: TableNo, name: &Spelled) -> Result<ColNo, Fault>
-    requires { IsTable cat.now table }
-    ensures { MatchResult result (λ k. column_named cat.now table name.now.bytes ≡ Some k) (λ f. (column_named cat.now table name.now.bytes ≡ None) × (f ≡ fault_at_token S3 name.now.token)) }
+/// The column that was found, or its fault: an unknown qualifier is at fault itself, and else the name.
+fn found_column(found: Found, qualifier: Token, name: Token) -> Result<ColRef, Fault>
+    ensures { result ≡ the_column found qualifier name }
 {
-    match cat.column(table, name.bytes.items()) {
-        Some(number) => Ok(number),
-        None => Err(fault_at(Code::S3, name.token)),
+    match found {
+        Found::One(column) => Ok(column),
+        Found::NoTable => Err(fault_at(Code::S2, qualifier)),
+        Found::NoColumn => Err(fault_at(Code::S3, name)),
+        Found::Many => Err(fault_at(Code::S4, name)),
     }
 }
 
-/// That a qualifier is the alias, or its fault.
-fn check_alias(qualifier: &Spelled, alias: &[u8]) -> Result<(), Fault>
-    ensures { MatchResult result (λ _. bytes_eq qualifier.now.bytes alias.now ≡ true) (λ f. (bytes_eq qualifier.now.bytes alias.now ≡ false) × (f ≡ fault_at_token S2 qualifier.now.token)) }
-{
-    if qualifier.bytes.items() == alias {
-        Ok(())
-    } else {
-        Err(fault_at(Code::S2, qualifier.token))
-    }
-}
-
-/// Adds every column of the table, the only relation.
-fn every(cat: &Catalog, table: TableNo, all: &mut Vec<ColRef>) -> Result<(), Refusal>
-    requires table { IsTable cat.now table }
-    requires lawful { IsLawfulTable (table_at cat.now table) }
-    ensures { (alias : List ℕ) → Adds (Ok (columns_of (scope_of cat.now ((table, alias) ∷ [])))) all.old.items all.new.items result }
-{
-    let count = cat.columns(table).items().len() as u8;
-    for col in 0..count {
-        all.push(ColRef {
-            rel: RelNo(0),
-            col: ColNo(col),
-        })?;
-    }
-    Ok(())
-}
-
-/// Adds the column of this name of the table, the only relation.
-fn one(cat: &Catalog, table: TableNo, name: &Spelled, all: &mut Vec<ColRef>) -> Result<(), Refusal>
-    requires table { IsTable cat.now table }
-    requires lawful { IsLawfulTable (table_at cat.now table) }
-    ensures { (alias : List ℕ) (qualifier : Token) → Adds (found_column (the_one (of_name name.now.bytes (scope_of cat.now ((table, alias) ∷ [])))) qualifier name.now.token) all.old.items all.new.items result }
-{
-    let col = column_of(cat, table, name)?;
-    all.push(ColRef { rel: RelNo(0), col })?;
-    Ok(())
-}
-
-/// Adds the columns of an item; the table under this alias is the only relation.
-fn add_item(
-    cat: &Catalog,
-    table: TableNo,
-    alias: &[u8],
-    item: &Item,
+/// Adds the column that was found.
+fn add_column(
+    found: Found,
+    qualifier: Token,
+    name: Token,
     all: &mut Vec<ColRef>,
 ) -> Result<(), Refusal>
-    requires table { IsTable cat.now table }
-    requires lawful { IsLawfulTable (table_at cat.now table) }
-    ensures { Adds (item_columns (scope_of cat.now ((table, alias.now) ∷ [])) item.now) all.old.items all.new.items result }
+    ensures { Adds (next (the_column found qualifier name) alone) all.old.items all.new.items result }
+{
+    all.push(found_column(found, qualifier, name)?)?;
+    Ok(())
+}
+
+/// Adds the columns of an item.
+fn add_item(relation: &Relation, item: &Item, all: &mut Vec<ColRef>) -> Result<(), Refusal>
+    ensures { Adds (item_columns (scope_of relation.now.contents relation.now.range) item.now) all.old.items all.new.items result }
 {
     match item {
-        Item::Every => every(cat, table, all),
-        Item::EveryOf(qualifier) => {
-            check_alias(qualifier, alias)?;
-            every(cat, table, all)
+        Item::Every => relation.add_all(all),
+        Item::EveryOf(qualifier) => relation.add_under(qualifier, all),
+        Item::Bare(name) => {
+            let found = relation.column(None, name.bytes.items());
+            add_column(found, name.token, name.token, all)
         }
-        Item::Bare(name) => one(cat, table, name, all),
         Item::Qualified(qualifier, name) => {
-            check_alias(qualifier, alias)?;
-            one(cat, table, name, all)
+            let found = relation.column(Some(qualifier.bytes.items()), name.bytes.items());
+            add_column(found, qualifier.token, name.token, all)
         }
     }
 }
 
 /// Adds the columns of all items from the left, up to the first fault.
-fn add_items(
-    cat: &Catalog,
-    table: TableNo,
-    alias: &[u8],
-    items: &[Item],
-    all: &mut Vec<ColRef>,
-) -> Result<(), Refusal>
-    requires table { IsTable cat.now table }
-    requires lawful { IsLawfulTable (table_at cat.now table) }
-    ensures { AddsAll (list_columns (scope_of cat.now ((table, alias.now) ∷ [])) items.now) all.old.items all.new.items result }
+fn add_items(relation: &Relation, items: &[Item], all: &mut Vec<ColRef>) -> Result<(), Refusal>
+    ensures { AddsAll (list_columns (scope_of relation.now.contents relation.now.range) items.now) all.old.items all.new.items result }
 {
     for item in items {
-        add_item(cat, table, alias, item, all)?;
+        add_item(relation, item, all)?;
     }
     Ok(())
 }
 
-/// The query over the table under this alias.
+/// Every column that is named: those shown, then those of the conjuncts.
+fn used_columns(alloc: Global, select: &[ColRef], written: &[Expr]) -> Result<Vec<ColRef>, Memory>
+    ensures { IfOk result (λ xs. xs.items ≡ select.now ++ columns_in_all (conds written.now)) }
+{
+    let mut used = Vec::from_slice(alloc, select)?;
+    let mut more = named::columns_in_all(alloc, written)?;
+    used.append(&mut more)?;
+    Ok(used)
+}
+
+/// The query over the table under this alias: WHERE, then the items, then the limits.
 fn over(
     alloc: Global,
     cat: &Catalog,
     table: TableNo,
     alias: Bytes,
     items: &[Item],
+    start: Token,
+    from: &mut Cursor,
 ) -> Result<Prepared, Refusal>
     requires table { IsTable cat.now table }
     requires lawful { IsLawfulTable (table_at cat.now table) }
-    ensures { let range = (table, alias) ∷ [] in IsReadAs (shows range (list_columns (scope_of cat.now range) items.now)) result }
+    requires name { IsName alias }
+    requires words { (w : Where) × (rest : List Terminal) × (ends_where rest ≡ true) × (from.old ≡ words_of_where w ++ rest) }
+    ensures meaning { (w : Where) (rest : List Terminal) → ends_where rest ≡ true → from.old ≡ words_of_where w ++ rest → IsReadAs (bound_over cat.now start items.now w ((table, alias) ∷ [])) result }
+    ensures well_bound { IfOk result (IsWellBound cat.now) }
+    ensures one { IfOk result (λ q. length q.range ≡ 1) }
 {
+    let relation = Relation::new(cat, table, alias.items());
+    let written = written_conjuncts(alloc, &relation, from)?;
     let mut select = Vec::new(alloc);
-    add_items(cat, table, alias.items(), items, &mut select)?;
-    let used = Vec::from_slice(alloc, &select)?;
+    add_items(&relation, items, &mut select)?;
+    let classes = classes_within(alloc, &relation, written.items(), start)?;
+    let used = used_columns(alloc, &select, written.items())?;
+    drop(relation);
     let mut relations = Vec::new(alloc);
     relations.push((table, alias))?;
     Ok(Prepared {
         range: RangeTable::from_vec(relations),
+        classes,
         select: ColList::from_vec(select),
+        order: OrderList::from_vec(Vec::new(alloc)),
         used: ColList::from_vec(used),
-        where_all: Exprs::from_vec(Vec::new(alloc)),
+        where_all: written,
     })
 }
 
@@ -171,16 +164,32 @@ fn alias_of(table: Spelled, alias: Option<Spelled>) -> Bytes
     }
 }
 
-/// The query that a SELECT means, or its first fault of binding.
-pub fn bind(alloc: Global, cat: &Catalog, query: Query) -> Result<Prepared, Refusal>
-    requires { MatchOption query.source.alias (Unit {0}) (λ a. IsName a.bytes) }
-    ensures meaning { IsReadAs (bound_written cat.now (record { items = query.items.items; source = query.source })) result }
+/// The query that a SELECT means, or its first fault of binding: its items and its source, with its WHERE next, in a
+/// statement that begins at this token.
+pub fn bind(
+    alloc: Global,
+    cat: &Catalog,
+    query: Query,
+    start: Token,
+    from: &mut Cursor,
+) -> Result<Prepared, Refusal>
+    requires alias { MatchOption query.source.alias (Unit {0}) (λ a. IsName a.bytes) }
+    requires words { (w : Where) × (rest : List Terminal) × (ends_where rest ≡ true) × (from.old ≡ words_of_where w ++ rest) }
+    ensures meaning { (w : Where) (rest : List Terminal) → ends_where rest ≡ true → from.old ≡ words_of_where w ++ rest →
+        IsReadAs (bound_written cat.now start (record { items = query.items.items; source = query.source; condition = w })) result }
     ensures well_bound { IfOk result (IsWellBound cat.now) }
     ensures one { IfOk result (λ q. length q.range ≡ 1) }
-    ensures unconditional { IfOk result (λ q. q.where_all ≡ []) }
 {
     let Query { items, source } = query;
     let Source { table, alias } = source;
     let number = table_of(cat, &table)?;
-    over(alloc, cat, number, alias_of(table, alias), &items)
+    over(
+        alloc,
+        cat,
+        number,
+        alias_of(table, alias),
+        &items,
+        start,
+        from,
+    )
 }

@@ -2,7 +2,10 @@
 #![tactic(auto)]
 
 mod bind;
+mod conditions;
+mod named;
 mod read;
+mod relation;
 mod select;
 #[cfg(test)]
 mod tests;

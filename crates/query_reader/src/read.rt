@@ -94,13 +94,13 @@ fn items(alloc: Global, from: &mut Cursor) -> Result<Vec<Item>, Memory>
     Ok(all)
 }
 
-/// A SELECT, from the word after SELECT on.
+/// The list and what stands after FROM, from the word after SELECT on.
 pub fn query(alloc: Global, from: &mut Cursor) -> Result<Query, Memory>
     requires { (o : Output) × (os : List (Mark × Output)) × (f : Key) × (n : Ident) × (a : Alias) × (rest : List Terminal) × (ends_alias rest ≡ true) ×
         (from.old ≡ words_of_output o ++ (words_of_outputs os ++ t_key From f ∷ t_name n ∷ (words_of_alias a ++ rest))) }
     ensures { IfOk result (λ q. (o : Output) (os : List (Mark × Output)) (f : Key) (n : Ident) (a : Alias) (rest : List Terminal) → ends_alias rest ≡ true →
         from.old ≡ words_of_output o ++ (words_of_outputs os ++ t_key From f ∷ t_name n ∷ (words_of_alias a ++ rest)) →
-        (q.items.items ≡ item_of o ∷ items_of os) × (q.source ≡ source_of n a)) }
+        (q.items.items ≡ item_of o ∷ items_of os) × (q.source ≡ source_of n a) × (from.new ≡ rest)) }
 {
     let items = items(alloc, from)?;
     if !from.takes(Word::From) {

@@ -13,17 +13,95 @@ use sql_lex::lex_statement;
 use sql_query::Prepared;
 use std::alloc::Global;
 
-/// Selects, their table, its alias and the columns that they show.
-const RIGHT: [(&[u8], u8, &[u8], &[u8]); 5] = [
-    (b"SELECT b, T.A, * FROM T;", 0, b"t", &[1, 0, 0, 1]),
-    (b"SELECT u.b, u.* FROM t u;", 0, b"u", &[1, 0, 1]),
-    (b"select c from s As T", 1, b"t", &[0]),
-    (b"SELECT t . * /* all */ FROM t", 0, b"t", &[0, 1]),
-    (b"SELECT Stdin.d FROM s stdin;", 1, b"stdin", &[1]),
+/// Selects, their table, its alias, the columns that they show, those that they name, and how many conjuncts they have as
+/// written and how many clauses.
+const RIGHT: [(&[u8], u8, &[u8], &[u8], &[u8], usize, usize); 10] = [
+    (
+        b"SELECT b, T.A, * FROM T;",
+        0,
+        b"t",
+        &[1, 0, 0, 1],
+        &[1, 0, 0, 1],
+        0,
+        0,
+    ),
+    (
+        b"SELECT u.b, u.* FROM t u;",
+        0,
+        b"u",
+        &[1, 0, 1],
+        &[1, 0, 1],
+        0,
+        0,
+    ),
+    (b"select c from s As T", 1, b"t", &[0], &[0], 0, 0),
+    (
+        b"SELECT t . * /* all */ FROM t",
+        0,
+        b"t",
+        &[0, 1],
+        &[0, 1],
+        0,
+        0,
+    ),
+    (
+        b"SELECT Stdin.d FROM s stdin;",
+        1,
+        b"stdin",
+        &[1],
+        &[1],
+        0,
+        0,
+    ),
+    (
+        b"SELECT a FROM t WHERE b = 1;",
+        0,
+        b"t",
+        &[0],
+        &[0, 1],
+        1,
+        1,
+    ),
+    (
+        b"SELECT b FROM t u WHERE u.b < 3 AND (a IS NULL AND NOT TRUE)",
+        0,
+        b"u",
+        &[1],
+        &[1, 1, 0],
+        3,
+        3,
+    ),
+    (
+        b"SELECT a FROM t WHERE NOT (a = '7' OR b < a);",
+        0,
+        b"t",
+        &[0],
+        &[0, 0, 1, 0],
+        1,
+        2,
+    ),
+    (
+        b"SELECT a FROM t WHERE a = a",
+        0,
+        b"t",
+        &[0],
+        &[0, 0, 0],
+        1,
+        1,
+    ),
+    (
+        b"SELECT b FROM t WHERE a = 1 AND a = 1 AND b = a;",
+        0,
+        b"t",
+        &[1],
+        &[1, 0, 0, 1, 0],
+        3,
+        2,
+    ),
 ];
 
 /// Selects, the fault that refuses them and the place of its word.
-const WRONG: [(&[u8], Code, u32, u32); 19] = [
+const WRONG: [(&[u8], Code, u32, u32); 31] = [
     (b"SELECT zz FROM nope;", Code::S2, 15, 19),
     (b"SELECT zz FROM t;", Code::S3, 7, 9),
     (b"SELECT nope.a FROM t;", Code::S2, 7, 11),
@@ -47,6 +125,88 @@ const WRONG: [(&[u8], Code, u32, u32); 19] = [
         Code::S15(Limit::Name),
         17,
         81,
+    ),
+    (b"SELECT zz FROM t WHERE yy = 1;", Code::S3, 23, 25),
+    (b"SELECT a FROM t WHERE zz IS NULL;", Code::S3, 22, 24),
+    (b"SELECT zz FROM nope WHERE yy = 1;", Code::S2, 15, 19),
+    (b"SELECT a FROM t WHERE s.c = 1;", Code::S2, 22, 23),
+    (b"SELECT a FROM t WHERE a = 'x';", Code::S12, 26, 29),
+    (
+        b"SELECT a FROM t WHERE a = '99999999999';",
+        Code::S11,
+        26,
+        39,
+    ),
+    (
+        b"SELECT a FROM t WHERE a = -9223372036854775809;",
+        Code::S11,
+        26,
+        27,
+    ),
+    (b"SELECT a FROM t WHERE a != TRUE;", Code::S9, 24, 26),
+    (b"SELECT a FROM t WHERE t.a;", Code::S10, 22, 23),
+    (b"SELECT zz FROM t WHERE TRUE;", Code::S3, 7, 9),
+    (b"SELECT a FROM t WHERE a = 1 AND;", Code::S1, 31, 31),
+    (b"SELECT a FROM t WHERE;", Code::S1, 21, 21),
+];
+
+/// Selects of so many parts, and the limit that they are past.
+const LONG: [(&[u8], &[u8], &[u8], usize, Option<Limit>); 8] = [
+    (
+        b"SELECT a FROM t WHERE a < 1",
+        b" AND a < 1",
+        b";",
+        31,
+        None,
+    ),
+    (
+        b"SELECT a FROM t WHERE a < 1",
+        b" AND a < 1",
+        b";",
+        32,
+        Some(Limit::Conjuncts),
+    ),
+    (
+        b"SELECT a FROM t WHERE TRUE",
+        b" AND TRUE",
+        b";",
+        32,
+        Some(Limit::Conjuncts),
+    ),
+    (
+        b"SELECT a FROM t WHERE NOT (a < 1",
+        b" OR a < 1",
+        b");",
+        32,
+        Some(Limit::Conjuncts),
+    ),
+    (
+        b"SELECT a FROM t WHERE TRUE OR a < 1",
+        b" OR a < 1",
+        b";",
+        255,
+        None,
+    ),
+    (
+        b"SELECT a FROM t WHERE a < 1",
+        b" OR a < 1",
+        b";",
+        256,
+        Some(Limit::Atoms),
+    ),
+    (
+        b"SELECT a FROM t WHERE NOT (a < 1",
+        b" OR a < 1",
+        b");",
+        256,
+        Some(Limit::Conjuncts),
+    ),
+    (
+        b"SELECT a FROM t WHERE b IS NULL AND (a < 1",
+        b" OR a < 1",
+        b");",
+        255,
+        Some(Limit::Atoms),
     ),
 ];
 
@@ -119,14 +279,52 @@ fn are_columns(columns: &[ColRef], numbers: &[u8]) -> bool {
     same
 }
 
+/// The head, the part so many times, and the tail.
+fn repeated(
+    alloc: Global,
+    head: &[u8],
+    part: &[u8],
+    tail: &[u8],
+    count: usize,
+) -> Result<Vec<u8>, Memory> {
+    let mut text = Vec::from_slice(alloc, head)?;
+    for _ in 0..count {
+        text.extend_from_slice(part)?;
+    }
+    text.extend_from_slice(tail)?;
+    Ok(text)
+}
+
+fn fault_of(code: Code, from: u32, to: u32) -> Fault {
+    Fault {
+        code,
+        at: from,
+        from,
+        to,
+        rec: 0,
+        table: TableNo(0),
+        col: 0,
+    }
+}
+
+fn told(reading: Result<Prepared, Refusal>) -> Option<Refusal> {
+    match reading {
+        Ok(_) => None,
+        Err(refusal) => Some(refusal),
+    }
+}
+
 #[test]
 fn reads_selects(rt: HostRuntime) {
     let catalog = two_tables(rt.alloc()).expect(&rt, "tables");
-    for (text, table, alias, columns) in RIGHT {
+    for (text, table, alias, shown, used, conjuncts, clauses) in RIGHT {
         assert!(rt; text.len() < 100);
         let query = reading(rt.alloc(), &catalog, text).expect(&rt, "a query");
-        assert!(rt; are_columns(query.select.items(), columns));
-        assert!(rt; are_columns(query.used.items(), columns));
+        assert!(rt; are_columns(query.select.items(), shown));
+        assert!(rt; are_columns(query.used.items(), used));
+        assert_eq!(rt; query.where_all.items().len(), conjuncts);
+        assert_eq!(rt; query.classes.count(), clauses);
+        assert_eq!(rt; query.order.items().len(), 0);
         assert_eq!(rt; query.range.items().len(), 1);
         for (number, name) in query.range.items() {
             assert_eq!(rt; *number, TableNo(table));
@@ -140,19 +338,28 @@ fn refuses_at_the_first_fault(rt: HostRuntime) {
     let catalog = two_tables(rt.alloc()).expect(&rt, "tables");
     for (text, code, from, to) in WRONG {
         assert!(rt; text.len() < 100);
-        let fault = Fault {
-            code,
-            at: from,
-            from,
-            to,
-            rec: 0,
-            table: TableNo(0),
-            col: 0,
-        };
-        let told = match reading(rt.alloc(), &catalog, text) {
-            Ok(_) => None,
-            Err(refusal) => Some(refusal),
-        };
-        assert_eq!(rt; told, Some(Refusal::Fault(fault)), "{text:?}");
+        let found = told(reading(rt.alloc(), &catalog, text));
+        assert_eq!(rt;
+            found,
+            Some(Refusal::Fault(fault_of(code, from, to))),
+            "{text:?}"
+        );
+    }
+}
+
+#[test]
+fn limits_stand_at_the_first_word(rt: HostRuntime) {
+    let catalog = two_tables(rt.alloc()).expect(&rt, "tables");
+    for (head, part, tail, count, limit) in LONG {
+        let text = repeated(rt.alloc(), head, part, tail, count).expect(&rt, "a text");
+        assert!(rt; text.len() < 10_000);
+        let found = told(reading(rt.alloc(), &catalog, &text));
+        match limit {
+            Some(limit) => {
+                let fault = fault_of(Code::S15(limit), 0, 6);
+                assert_eq!(rt; found, Some(Refusal::Fault(fault)));
+            }
+            None => assert_eq!(rt; found, None),
+        }
     }
 }

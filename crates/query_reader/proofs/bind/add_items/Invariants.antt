@@ -1,4 +1,4 @@
-use Rattle.std.proofs.Common.{◌≡◌, List, [], ◌∷◌, ◌++◌, drop, Ok}
+use Rattle.std.proofs.Common.{◌≡◌, List, ◌++◌, drop, Ok}
 use Rattle.pg_expr.specs.declared.operand.ColRef.{ColRef}
 use Rattle.query_reader.specs.Scope.{scope_of}
 use Rattle.query_reader.specs.Binding.{then_columns, list_columns}
@@ -6,6 +6,6 @@ use Rattle.query_reader.proofs.bind.add_items.Given as goal
 
 abbrev pub invariant-loop-item : goal.invariant-loop-item
 invariant-loop-item l =
-    let scope = scope_of l.cat ((l.table, l.alias) ∷ []) in
+    let scope = scope_of l.relation.contents l.relation.range in
     (so : List ColRef) × (l.all.items ≡ l.fn.all.items ++ so) ×
     (then_columns (Ok so) (list_columns scope (drop l.item-index l.items)) ≡ list_columns scope l.items)

@@ -1,5 +1,5 @@
 use Rattle.std.proofs.Common.{Some, refl, sym, ap, ◌∙◌}
-use Rattle.query_reader.proofs.Parts.{after-as, alias-read}
+use Rattle.query_reader.proofs.PartLemmas.{after-as, alias-read}
 use Rattle.query_reader.proofs.read.alias.Goals as goal
 
 pub returns-then-takes : goal.returns-then-takes

@@ -1,6 +1,6 @@
 use Rattle.std.proofs.Common.{[], ◌∷◌, ◌++◌, refl, sym, ap, ◌∙◌, append-nil}
 use Rattle.query_reader.specs.Written.{item_of, items_of}
-use Rattle.query_reader.proofs.Parts.{fronted, items-end, next-item, no-item, pushed}
+use Rattle.query_reader.proofs.PartLemmas.{fronted, items-end, next-item, no-item, pushed}
 use Rattle.query_reader.proofs.read.items.Goals as goal
 
 pub item-requires : goal.item-requires

@@ -13,7 +13,7 @@ use Rattle.sql_grammar.specs.Terminals.{Terminal, other, t_key, t_mark, t_name, 
 use Rattle.sql_grammar.specs.declared.class.Word.TheVariants.{From, Select as SelectKey}
 use Rattle.sql_grammar.specs.declared.class.Symbol.TheVariants.{Star}
 use Rattle.sql_grammar.specs.Reading.{terminal_of}
-use Rattle.sql_grammar.specs.Syntax.{every, no_alias, Select, select_from, Ending, semicolon, text_end, Statement, empty, create_table, query, copy}
+use Rattle.sql_grammar.specs.Syntax.{every, no_alias, Select, select_from, Ending, semicolon, text_end, no_where, Statement, empty, create_table, query, copy, sizes, column_statistics}
 use Rattle.sql_grammar.specs.Words.{words_of, words_of_select, words_of_ending, levels_of}
 use Rattle.sql_grammar.specs.Faults.{IsStatement, IsPrefix, IsAtFault, IsFirstFault, IsWhole, AreWithinLimits, terminals, limit_of, fault_at}
 use Rattle.query_reader.specs.Select.{IsQuery, AreWordsOf, AreSelect}
@@ -25,6 +25,8 @@ is-query (empty (text_end t)) limit w k ts first levels is = absurd (cc)
 is-query (create_table k t n o c cs m e) limit w key ts first levels is = absurd (cc)
 is-query (query q e) limit w k ts first levels is = (q, e, levels, is)
 is-query (copy k n text) limit w key ts first levels is = absurd (cc)
+is-query (sizes k n r p e) limit w key ts first levels is = absurd (cc)
+is-query (column_statistics k n c d m v h e) limit w key ts first levels is = absurd (cc)
 
 is-statement : (limit : ℕ) (ts : List Terminal) → IsQuery limit ts → IsStatement limit ts
 is-statement limit ts (q, e, levels, is) = (query q e, levels, is)
@@ -43,7 +45,7 @@ abbrev after_select : List Terminal
 after_select = t_mark Star no_place ∷ t_key From no_place ∷ t_name (other [] no_place) ∷ t_semicolon no_place ∷ []
 
 a-query : (limit : ℕ) (k : Token) → IsQuery limit (t_key SelectKey k ∷ after_select)
-a-query limit k = (select_from k (every no_place) [] no_place (other [] no_place) no_alias, semicolon no_place, omega arith, refl)
+a-query limit k = (select_from k (every no_place) [] no_place (other [] no_place) no_alias no_where, semicolon no_place, omega arith, refl)
 
 cause-of : (before : List Terminal) (t : Terminal) (code : Code) →
     ((limit : ℕ) → IsPrefix IsStatement limit (before ++ t ∷ []) → IsPrefix IsQuery limit (before ++ t ∷ [])) →
@@ -112,10 +114,10 @@ excluded text tokens fault q end f w =
     (middle (λ t. limit_of t ≡ None) before t after (subst AreWithinLimits parts w.limits)) f.cause
 
 begins-select : (q : Select) (end : Ending) (w : Terminal) (rest : List Terminal) → words_of_select q ++ words_of_ending end ≡ w ∷ rest → (k : Token) × (w ≡ t_key SelectKey k)
-begins-select (select_from k o os f n a) end w rest is = (k, cc)
+begins-select (select_from k o os f n a c) end w rest is = (k, cc)
 
 no-words : (q : Select) (end : Ending) → ¬ (words_of_select q ++ words_of_ending end ≡ [])
-no-words (select_from k o os f n a) end is = cc (is)
+no-words (select_from k o os f n a c) end is = cc (is)
 
 -- another first word than SELECT
 pub first-word : (text : List ℕ) (token : Token) (after : List Token) → ((k : Token) → terminal_of text token ≡ t_key SelectKey k → ⊥) → IsFirstFault IsQuery text (token ∷ after) (fault_at S1 token)

@@ -1,7 +1,8 @@
 use Rattle.std.proofs.Common.{◌≡◌, ℕ, List, ◌++◌, drop, length}
 use Rattle.catalog.specs.Contents.{table_at}
-use Rattle.query_reader.specs.Scope.{columns_from, columns_of}
-use Rattle.query_reader.proofs.bind.every.Given as goal
+use Rattle.expr_reader.specs.Scope.{columns_of}
+use Rattle.query_reader.specs.Scope.{columns_from}
+use Rattle.query_reader.proofs.relation.every.Given as goal
 
 abbrev pub invariant-loop-col : goal.invariant-loop-col
 invariant-loop-col l =

@@ -9,7 +9,7 @@ use Rattle.pg_base.specs.Names.{IsName}
 use Rattle.query_reader.specs.declared.written.Source.{Source}
 use Rattle.query_reader.specs.Written.{alias_of}
 use Rattle.query_reader.specs.Binding.{alias_or}
-use Rattle.query_reader.proofs.Reading.{Parted}
+use Rattle.query_reader.proofs.ReadingLemmas.{Parted}
 use Rattle.sql_grammar.specs.Syntax.{Select, Ending}
 
 after-words : (xs ys : List Terminal) → AreNamed (xs ++ ys) → AreNamed ys

@@ -1,8 +1,8 @@
 use Rattle.std.proofs.Common.{◌++◌, sym, ap, ◌∙◌, arith, append-nil}
 use Rattle.catalog.specs.Contents.{table_at}
-use Rattle.query_reader.specs.Scope.{columns_of}
-use Rattle.query_reader.proofs.BindLaws.{column-more, column-end, column-added, columns-done}
-use Rattle.query_reader.proofs.bind.every.Goals as goal
+use Rattle.expr_reader.specs.Scope.{columns_of}
+use Rattle.query_reader.proofs.RelationLemmas.{column-more, column-end, column-added, columns-done}
+use Rattle.query_reader.proofs.relation.every.Goals as goal
 
 pub loop-col-preserved : goal.loop-col-preserved
 loop-col-preserved c =

@@ -6,7 +6,10 @@ use Rattle.std.proofs.lemmas.Slice.Eq.{bytes_eq-Decides}
 use Rattle.std.proofs.lemmas.List.Elements.{All-tail}
 use Rattle.pg_base.specs.declared.numbers.RelNo.{RelNo}
 use Rattle.pg_base.specs.Names.{AreDistinct}
-use Rattle.query_reader.specs.Scope.{columns_from, under, of_name, Found, one, no_column, the_one}
+use Rattle.expr_reader.specs.Scope.{under, of_name, the_one}
+use Rattle.expr_reader.specs.declared.found.Found.{Found}
+use Rattle.expr_reader.specs.declared.found.Found.TheVariants.{One, NoColumn}
+use Rattle.query_reader.specs.Scope.{columns_from}
 
 differs-by : (b : Bool) (x y : List ℕ) → (b ≡ true → x ≡ y) → x ≢ y → b ≡ false
 differs-by true x y told apart = absurd (apart (told refl))
@@ -17,8 +20,8 @@ differs x y apart = differs-by (bytes_eq x y) x y (bytes_eq-Decides x y).0 apart
 
 -- the column at a place, where there is one
 abbrev pub found_at : RelNo → Option ℕ → Found
-found_at rel (Some k) = one (record { rel = rel; col = record { 0 = k } })
-found_at rel None = no_column
+found_at rel (Some k) = One (record { rel = rel; col = record { 0 = k } })
+found_at rel None = NoColumn
 
 module _ (alias : List ℕ) (rel : RelNo) where
   none-named : (name : List ℕ) (k : ℕ) (names : List (List ℕ)) → All (λ n. name ≢ n) names → of_name name (columns_from alias rel k names) ≡ []

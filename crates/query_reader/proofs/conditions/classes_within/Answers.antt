@@ -1,0 +1,16 @@
+use Rattle.std.proofs.Common.{map}
+use Rattle.pg_expr.specs.View.{cond}
+use Rattle.query_reader.proofs.ConjunctLemmas.{pushed-bound, pushed-near, pushed-typed}
+use Rattle.query_reader.proofs.conditions.classes_within.Goals as goal
+
+pub build-requires-clause-bound : goal.build-requires-clause-bound
+build-requires-clause-bound c =
+    pushed-bound c.args.relation.now.contents c.args.relation.now.range (map cond c.args.written.now) c.requires.over c.in_ok-pushed.pushed.items.items c.in_ok-pushed.ensures
+
+pub build-requires-clause-typed : goal.build-requires-clause-typed
+build-requires-clause-typed c =
+    pushed-typed c.args.relation.now.contents c.args.relation.now.range (map cond c.args.written.now) c.requires.over c.in_ok-pushed.pushed.items.items c.in_ok-pushed.ensures
+
+pub build-requires-clause-rels : goal.build-requires-clause-rels
+build-requires-clause-rels c =
+    pushed-near c.args.relation.now.contents c.args.relation.now.range (map cond c.args.written.now) c.requires.over c.in_ok-pushed.pushed.items.items c.in_ok-pushed.ensures c.requires.few

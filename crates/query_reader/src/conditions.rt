@@ -1,0 +1,103 @@
+//! The conjuncts of WHERE, and their classes.
+
+ghost use Rattle.std.specs.Prelude.{◌≡◌, ◌≤◌, ◌-◌, ◌^◌, ◌++◌, [], List, All, IfOk, length, map, min, true, IsTrue};
+ghost use Rattle.pg_expr.specs.Columns.{atom_count_of};
+ghost use Rattle.pg_expr.specs.View.{cond, conds};
+ghost use Rattle.catalog.specs.Range.{type_in};
+ghost use Rattle.eq_classes.specs.Classes.{conjuncts_in};
+ghost use Rattle.eq_classes.specs.Holding.{IsTable};
+ghost use Rattle.path_cost.specs.Columns.{IsOver, is_column};
+ghost use Rattle.sql_grammar.specs.Syntax.{Where};
+ghost use Rattle.sql_grammar.specs.Terminals.{Terminal};
+ghost use Rattle.sql_grammar.specs.Words.{words_of_where};
+ghost use Rattle.expr_reader.specs.Reads.{Reads};
+ghost use Rattle.expr_reader.specs.Scope.{Visible};
+ghost use Rattle.query_reader.specs.Binding.{conjuncts_written, limited, past_limit};
+ghost use Rattle.query_reader.specs.Ends.{ends_where};
+ghost use Rattle.query_reader.specs.Scope.{scope_of};
+ghost use Rattle.query_reader.specs.Conveys.{Conveys};
+
+use crate::relation::Relation;
+use eq_classes::Classes;
+use expr_reader::take_expr;
+use pg_base::{Code, Limit, MOST_ATOMS, MOST_CONJUNCTS, Memory, Refusal};
+use pg_expr::{Expr, Exprs, conjuncts, ops, push_not};
+use sql_cursor::Cursor;
+use sql_grammar::{Word, fault_at};
+use sql_lex::Token;
+use std::alloc::Global;
+
+/// The conjuncts of WHERE as written, or its first fault; none where no WHERE is next.
+pub fn written_conjuncts(
+    alloc: Global,
+    relation: &Relation,
+    from: &mut Cursor,
+) -> Result<Exprs, Refusal>
+    requires words { (w : Where) × (rest : List Terminal) × (ends_where rest ≡ true) × (from.old ≡ words_of_where w ++ rest) }
+    requires seen { All (λ (v : Visible). IsTrue (is_column relation.now.contents relation.now.range v.column)) (scope_of relation.now.contents relation.now.range) }
+    ensures read { (w : Where) (rest : List Terminal) → ends_where rest ≡ true → from.old ≡ words_of_where w ++ rest →
+        Reads (λ (es : Exprs). map cond es.items.items) (conjuncts_written (scope_of relation.now.contents relation.now.range) (type_in relation.now.contents relation.now.range) w) rest result from.new }
+    ensures over { IfOk result (λ es. All (IsOver relation.now.contents relation.now.range) (map cond es.items.items)) }
+{
+    if !from.takes(Word::Where) {
+        return Ok(Exprs::from_vec(Vec::new(alloc)));
+    }
+    let condition = take_expr(alloc, relation, from)?;
+    Ok(conjuncts(alloc, condition)?)
+}
+
+/// The conjuncts in pushed form.
+fn pushed_conjuncts(alloc: Global, written: &[Expr]) -> Result<Exprs, Memory>
+    ensures { IfOk result (λ es. map cond es.items.items ≡ conjuncts_in (map cond written.now)) }
+{
+    let mut all = Vec::new(alloc);
+    for part in written {
+        let pushed = push_not(alloc, part.copy(alloc)?)?;
+        let mut parts = conjuncts(alloc, pushed)?;
+        all.append(&mut parts.items)?;
+    }
+    Ok(Exprs::from_vec(all))
+}
+
+/// The number of atoms of conditions; 2^64 - 1 where there are more.
+fn atoms(written: &[Expr]) -> u64
+    ensures { result ≡ min (atom_count_of (conds written.now)) (2 ^ 64 - 1) }
+{
+    let mut count: u64 = 0;
+    for part in written {
+        count = count.saturating_add(ops(part));
+    }
+    count
+}
+
+/// The first limit that conjuncts are past, given in pushed form too.
+fn past_limit(written: &[Expr], pushed: &[Expr]) -> Option<Limit>
+    requires { map cond pushed.now ≡ conjuncts_in (map cond written.now) }
+    ensures { result ≡ past_limit (map cond written.now) }
+{
+    if pushed.len() > MOST_CONJUNCTS {
+        return Some(Limit::Conjuncts);
+    }
+    if atoms(written) > MOST_ATOMS as u64 {
+        return Some(Limit::Atoms);
+    }
+    None
+}
+
+/// The classes of conjuncts as written and of no ORDER BY, or the limit that is passed, at the statement's first token.
+pub fn classes_within(
+    alloc: Global,
+    relation: &Relation,
+    written: &[Expr],
+    start: Token,
+) -> Result<Classes, Refusal>
+    requires over { All (IsOver relation.now.contents relation.now.range) (map cond written.now) }
+    requires few { length relation.now.range ≤ 16 }
+    ensures { Conveys (λ ws t. IsTable (record { conjuncts = conjuncts_in ws; order = []; type_of = type_in relation.now.contents relation.now.range }) t) (limited start (past_limit (map cond written.now)) (map cond written.now)) result }
+{
+    let pushed = pushed_conjuncts(alloc, written)?;
+    if let Some(limit) = past_limit(written, pushed.items()) {
+        return Err(Refusal::Fault(fault_at(Code::S15(limit), start)));
+    }
+    Ok(Classes::build(alloc, pushed, &[], relation)?)
+}

@@ -1,0 +1,97 @@
+-- Estimates are at least 1; a plan costs at least what each child does, and before its first row no more than in all.
+use Rattle.std.proofs.Common.{◌≡◌, ◌≤◌, ℕ, ◌+◌, ◌*◌, List, [], ◌∷◌, length, arith, le_refl}
+use Rattle.std.proofs.Common.{◌<◌, ◌⊎◌, inl, inr, subst, sym, true, nat_le}
+use Rattle.std.proofs.lemmas.Bool.{and_parts, cases_lt}
+use Rattle.std.proofs.lemmas.Bool.Decides.{nat_tests}
+use Rattle.std.proofs.lemmas.List.{get_or_past}
+use Rattle.std.specs.Prelude.{fold, Option, Some, None}
+use Rattle.pg_base.specs.declared.numbers.TableNo.{TableNo}
+use Rattle.catalog.specs.Statistics.{is_count}
+use Rattle.catalog.specs.Tables.{rows_by, rows_of}
+use Rattle.catalog.specs.declared.limits.TheConstants.{MOST_NUMBER}
+use Rattle.catalog.specs.declared.table.Sizes.{Sizes}
+use Rattle.pg_base.specs.Sets.{has}
+use Rattle.pg_expr.specs.Cond.{Cond}
+use Rattle.catalog.specs.Contents.{Contents, TableDef, AreSizes, IsLawful, no_table, table_at}
+use Rattle.catalog.specs.Range.{Range, relation_at}
+use Rattle.cost_rules.specs.Powers.{clamped}
+use Rattle.cost_rules.proofs.RisingLemmas.{sort-startup, nest-startup, merge-startup, sort-child, nest-children, merge-children}
+use Rattle.eq_classes.specs.Clauses.{Set, Table}
+use Rattle.eq_classes.specs.Parts.{is_all}
+use Rattle.sql_query.specs.Queries.{Query, Window}
+use Rattle.path_cost.specs.Estimates.{conditions_where, kept, is_local, pairs, share_of_rows, set_rows, product_rows, relations, table_rows}
+use Rattle.path_cost.specs.Selectivity.{selectivity}
+use Rattle.pathkeys.specs.Keys.{Keys}
+use Rattle.plan_tree.specs.Plans.{Plan, seq, index, index_only, bitmap, sort, nest, merge, set_of, GivenScan, given_scan}
+use Rattle.plan_tree.specs.Costs.{cost, estimate, rows_given, join_operators, merge_operators, asked, asked_by, HaveRows}
+
+some-clamped : (n : ℕ) → 1 ≤ clamped n
+some-clamped n = omega arith
+
+some-folded : {A : Type 0} (f : ℕ → A → ℕ) → ((m : ℕ) (a : A) → 1 ≤ f m a) → (n : ℕ) (xs : List A) → 1 ≤ n → 1 ≤ fold f n xs
+some-folded f some n [] h = h
+some-folded f some n (x ∷ xs) h = some-folded f some (f n x) xs (some n x)
+
+some-kept : (c : Contents) (range : Range) (n : ℕ) (es : List Cond) → 1 ≤ n → 1 ≤ kept c range n es
+some-kept c range n es h = some-folded {A = Cond} (λ m e. share_of_rows m (selectivity c range e)) (λ m e. some-clamped _) n es h
+
+pub some-rows : (c : Contents) (range : Range) (t : Table) (set : Set) → 1 ≤ set_rows c range t set
+some-rows c range t set =
+    some-kept c range (product_rows c range (relations range set)) (conditions_where (is_all set) t.clauses)
+    (some-folded {A = ℕ} (λ m r. clamped (m * table_rows c range r)) (λ m r. some-clamped (m * table_rows c range r)) 1 (relations range set) (le_refl 1))
+
+-- a sum is at least its first part
+first-of-three : (a b c : ℕ) → a ≤ a + b + c
+first-of-three a b c = omega arith
+
+first-of-five : (a b c d e : ℕ) → a ≤ a + b + c + d + e
+first-of-five a b c d e = omega arith
+
+module _ (c : Contents) (q : Query) (some : HaveRows c q) where
+  some-given : (set : Set) (g : Option GivenScan) → 1 ≤ rows_given c q set g
+  some-given set None = some-rows c q.range q.classes set
+  some-given set (Some s) = some-kept c q.range (table_rows c q.range s.relation.0) (conditions_where (is_local s.relation.0 (has s.param.0)) q.classes.clauses) (some s.relation.0)
+
+  pub some-estimated : (p : Plan) → 1 ≤ estimate c q p
+  some-estimated p = some-given (set_of p) (given_scan p)
+
+  pub startup-most : (p : Plan) → (cost c q p).startup ≤ (cost c q p).total
+  startup-most (seq r) = omega arith
+  startup-most (index r i backward p) = first-of-five _ _ _ _ _
+  startup-most (index_only r i backward p) = first-of-five _ _ _ _ _
+  startup-most (bitmap r p bits) = first-of-three _ _ _
+  startup-most (sort keys input) = sort-startup (cost c q input) (set_rows c q.range q.classes (set_of input))
+  startup-most (nest outer inner) = nest-startup (cost c q outer) (cost c q inner) (estimate c q outer) (estimate c q inner) (join_operators q outer inner) (some-estimated outer) (startup-most outer) (startup-most inner)
+  startup-most (merge keys outer inner) = merge-startup (cost c q outer) (cost c q inner) (estimate c q outer) (estimate c q inner) (length keys) (pairs c q.range q.classes (set_of outer) (set_of inner) keys) (merge_operators q keys outer inner) (startup-most outer) (startup-most inner)
+
+  pub nest-most : (outer inner : Plan) → ((cost c q outer).total ≤ (cost c q (nest outer inner)).total) × ((cost c q inner).total ≤ (cost c q (nest outer inner)).total)
+  nest-most outer inner = nest-children (cost c q outer) (cost c q inner) (estimate c q outer) (estimate c q inner) (join_operators q outer inner) (some-estimated outer)
+
+pub sort-most : (c : Contents) (q : Query) (keys : Keys) (input : Plan) → (cost c q input).total ≤ (cost c q (sort keys input)).total
+sort-most c q keys input = sort-child (cost c q input) (set_rows c q.range q.classes (set_of input))
+
+pub merge-most : (c : Contents) (q : Query) (keys : Keys) (outer inner : Plan) → ((cost c q outer).total ≤ (cost c q (merge keys outer inner)).total) × ((cost c q inner).total ≤ (cost c q (merge keys outer inner)).total)
+merge-most c q keys outer inner = merge-children (cost c q outer) (cost c q inner) (estimate c q outer) (estimate c q inner) (length keys) (pairs c q.range q.classes (set_of outer) (set_of inner) keys) (merge_operators q keys outer inner)
+
+asked-by-most : (limit : Option ℕ) (offset n : ℕ) → asked_by limit offset n ≤ n
+asked-by-most None offset n = le_refl n
+asked-by-most (Some limit) offset n = omega arith
+
+-- no more rows are asked for than there are
+pub asked-most : (w : Window) (n : ℕ) → asked w n ≤ n
+asked-most w n = asked-by-most w.limit w.offset n
+
+counted : (n : ℕ) → is_count n ≡ true → 1 ≤ n
+counted n h = let first = (and_parts (nat_le 1 n) (nat_le n MOST_NUMBER) h).0 in grind (arith, nat_tests)
+
+some-by : (loaded : ℕ) (sizes : Option Sizes) → AreSizes sizes → 1 ≤ rows_by loaded sizes
+some-by loaded None h = omega arith
+some-by loaded (Some s) h = counted s.rows h.rows
+
+some-sizes : (c : Contents) (t : TableNo) → IsLawful c → (t.0 < length c.tables) ⊎ (length c.tables ≤ t.0) → 1 ≤ rows_of c t
+some-sizes c t h (inl there) = some-by (table_at c t).loaded (table_at c t).sizes (h.tables t.0 no_table there).sizes
+some-sizes c t h (inr past) = let P : TableDef → Type 0 = λ d. 1 ≤ rows_by d.loaded d.sizes in subst P (sym (get_or_past c.tables t.0 no_table past)) (omega arith)
+
+-- the tables of lawful contents have rows, and so has what stands where a number is none of a table
+pub lawful-rows : (c : Contents) (q : Query) → IsLawful c → HaveRows c q
+lawful-rows c q h r = let t = (relation_at q.range (record { 0 = r })).0 in some-sizes c t h (cases_lt t.0 (length c.tables))

@@ -1,0 +1,9 @@
+pub mod LikeLemmas
+pub mod ReplacingLemmas
+pub mod DominationLemmas
+pub mod BoundLemmas
+pub mod FinishLemmas
+pub mod AtMostLemmas
+pub mod EstimateLemmas
+pub mod JoinLemmas
+pub mod ScanLemmas

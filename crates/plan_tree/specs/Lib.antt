@@ -1,0 +1,14 @@
+pub mod Plans
+pub mod Bitmaps
+pub mod Keys
+pub mod Space
+pub mod Costs
+pub mod Least
+pub mod Paths
+pub mod Views
+pub mod Reads
+pub mod Ranks
+pub mod Entries
+pub mod Run
+pub mod Counts
+pub mod Sorted

@@ -4,7 +4,7 @@
 usage: judge_scripts.py JUDGE PROGRAM [COUNT [SEED]]
 
 COUNT right scripts and COUNT broken ones are made (500 each where it is not given). JUDGE is a program called as
-`JUDGE judge --stage 2 --allow '' SCRIPT OUT ERRORS STATUS` that exits with 0 where the answer is allowed. A right script has to
+`JUDGE judge --stage 3 --allow '' SCRIPT OUT ERRORS STATUS` that exits with 0 where the answer is allowed. A right script has to
 end with status 0.
 """
 import collections
@@ -25,6 +25,8 @@ LIMITS = {"int2": 2**15, "int4": 2**31, "int8": 2**63}
 NAMES = ["t", "u", "orders", "line_items", "x1", "a$b", "_k", "copy", "stdin", "format", "csv", "region", "qty", "statistics"]
 RESERVED = ["select", "table", "from", "null", "order", "where", "as"]
 TRUTHS = ["t", "true", "TRUE", "y", "yes", "on", "1", "f", "false", "no", "off", "0", "N", " t ", "tru"]
+COMPARISONS = ["<", "<=", "=", ">=", ">", "<>", "!="]
+BY_SIZE = ["|<|", "|<=|", "|=|", "|>=|", "|>|"]
 NO_TRUTHS = ["", "o", "2", "truex", "nein", "tr ue"]
 NO_NUMBERS = ["", "x", "1.5", "--1", "0x10", "1_000", "1 2", "+", "1e3"]
 
@@ -127,6 +129,124 @@ def copy(rng, table, records, null="'\\N'"):
     return text + "".join(r + end for r in records) + "\\." + rng.choice(["\n", "\n", "\r\n"])
 
 
+def literal_text(text):
+    return "'" + text.replace("'", "''") + "'"
+
+
+def literal(rng, kind):
+    """A literal that may stand beside a column of this type, as words."""
+    if rng.random() < 0.08:
+        return [in_any_case(rng, "null")]
+    if kind == "text":
+        return [literal_text(rng.choice(["", "x", "Ann", "a,b", "it's", "two\nlines", "\\N", "naïve", "b" * rng.choice([1, 8192])]))]
+    if kind == "bool":
+        return [rng.choice([in_any_case(rng, "true"), in_any_case(rng, "false"), literal_text(rng.choice(TRUTHS))])]
+    value = rng.choice([0, 1, -1, 7, rng.randrange(100), rng.randrange(-40000, 40000), 2**63 - 1, -2**63])
+    if rng.random() < 0.2:
+        limit = LIMITS[kind]
+        return [literal_text(rng.choice(["5", " -7 ", "+3", "007", str(limit - 1), str(-limit)]))]
+    return ["-", str(-value)] if value < 0 else [str(value)]
+
+
+def named(rng, shown, name):
+    return [in_any_case(rng, shown), ".", in_any_case(rng, name)] if rng.random() < 0.3 else [in_any_case(rng, name)]
+
+
+def comparison(rng, table, shown):
+    name, kind, _ = rng.choice(table.columns)
+    ops = COMPARISONS + (BY_SIZE if kind in LIMITS else [])
+    left = named(rng, shown, name)
+    like = [n for n, k, _ in table.columns if k == kind or (k in LIMITS and kind in LIMITS)]
+    right = named(rng, shown, rng.choice(like)) if rng.random() < 0.2 else literal(rng, kind)
+    if rng.random() < 0.1:
+        left = literal(rng, kind) if kind != "text" else [literal_text("m")]
+        if left[0].lower() == "null" or (left[0].startswith("'") and kind != "text"):
+            left = named(rng, shown, name)
+    return (right + [rng.choice(ops)] + left) if rng.random() < 0.2 else (left + [rng.choice(ops)] + right)
+
+
+def atom(rng, table, shown):
+    kind = rng.randrange(12)
+    name, typed, _ = rng.choice(table.columns)
+    if kind < 2:
+        return named(rng, shown, name) + [in_any_case(rng, w) for w in rng.choice([("is", "null"), ("is", "not", "null")])]
+    if kind == 2:
+        return [in_any_case(rng, rng.choice(["true", "false", "null"]))]
+    if kind == 3 and typed == "bool":
+        return named(rng, shown, name)
+    return comparison(rng, table, shown)
+
+
+def condition(rng, table, shown, depth):
+    """A condition of so many levels at most, as words."""
+    kind = rng.randrange(8)
+    if depth == 0 or kind < 3:
+        return atom(rng, table, shown)
+    if kind == 3:
+        return [in_any_case(rng, "not")] + condition(rng, table, shown, depth - 1) if rng.random() < 0.5 else (
+            [in_any_case(rng, "not"), "("] + condition(rng, table, shown, max(0, depth - 2)) + [")"]) if depth > 1 else atom(rng, table, shown)
+    if kind == 4:
+        return ["("] + condition(rng, table, shown, depth - 1) + [")"]
+    words = condition(rng, table, shown, depth - 1)
+    for _ in range(rng.choice([1, 1, 2, 4])):
+        words += [in_any_case(rng, rng.choice(["and", "or"]))] + condition(rng, table, shown, depth - 1)
+    return words
+
+
+def long_condition(rng, table, shown):
+    """A condition at a limit: 32 levels, 32 conjuncts or 256 atoms."""
+    kind = rng.randrange(4)
+    name = table.columns[0][0]
+    test = [name, "is", "null"]
+    if kind == 0:
+        return ["("] * 32 + test + [")"] * 32
+    if kind == 1:
+        return ["not"] * 32 + test
+    if kind == 2:
+        return test + (["and"] + test) * 31
+    return (test + (["or"] + test) * 255)
+
+
+def number_words(rng, low, high):
+    return str(rng.choice([low, high, rng.randint(low, high), rng.randint(low, min(high, low + 1000))]))
+
+
+def sizes(rng, table):
+    words = [in_any_case(rng, w) for w in ("statistics", table.name, "rows")] + [number_words(rng, 1, 10**9)]
+    return words + [in_any_case(rng, "pages"), number_words(rng, 1, 10**9)]
+
+
+def values_of(rng, kind, count):
+    """Different values of a type in rising order, each with a literal for it."""
+    if kind == "bool":
+        return [[rng.choice(["false", literal_text("f")])], [rng.choice(["true", literal_text("1")])]][:count]
+    if kind == "text":
+        texts = sorted({rng.choice(["", "a", "b", "ab", "it's", "z"]) + str(rng.randrange(500)) for _ in range(count)}, key=lambda t: t.encode())
+        return [[literal_text(t)] for t in texts]
+    numbers = sorted({rng.randrange(-LIMITS[kind], LIMITS[kind]) if rng.random() < 0.5 else rng.randrange(-50, 1000) for _ in range(count)})
+    numbers = [n for n in numbers if -LIMITS[kind] <= n < LIMITS[kind]]
+    return [[literal_text(str(n))] if rng.random() < 0.2 else (["-", str(-n)] if n < 0 else [str(n)]) for n in numbers]
+
+
+def column_statistics(rng, table):
+    name, kind, _ = rng.choice(table.columns)
+    common = values_of(rng, kind, rng.choice([0, 0, 1, 3, 16]))
+    rng.shuffle(common)
+    bounds = values_of(rng, kind, rng.choice([0, 0, 2, 5, 101]))
+    bounds = bounds if len(bounds) > 1 else []
+    nulls = rng.choice([0, rng.randint(0, 500_000)])
+    shares = [rng.randint(1, 500_000 // 16) for _ in common]
+    distinct = max(1, len(common)) + rng.choice([0, 1, 100, 10**8])
+    words = [in_any_case(rng, "statistics"), in_any_case(rng, table.name), ".", in_any_case(rng, name)]
+    words += [in_any_case(rng, "distinct"), str(distinct), in_any_case(rng, "nulls"), str(nulls)]
+    for number, (value, share) in enumerate(zip(common, shares)):
+        words += ([","] if number else [in_any_case(rng, "common"), "("]) + value + [str(share)]
+    words += [")"] if common else []
+    for number, value in enumerate(bounds):
+        words += ([","] if number else [in_any_case(rng, "histogram"), "("]) + value
+    return words + ([")"] if bounds else [])
+
+
 def select(rng, table):
     alias = rng.choice([None, None, "u", "t", "Alias", "copy", table.name])
     shown = (alias or table.name)
@@ -149,6 +269,9 @@ def select(rng, table):
         if rng.random() < 0.5:
             words.append(in_any_case(rng, "as"))
         words.append(in_any_case(rng, alias))
+    if rng.random() < 0.6:
+        test = long_condition(rng, table, shown) if rng.random() < 0.03 else condition(rng, table, shown, rng.choice([0, 1, 2, 3, 5]))
+        words += [in_any_case(rng, "where")] + test
     return words
 
 
@@ -173,6 +296,9 @@ def statements(rng):
             table = rng.choice(tables)
             many = rng.choice([0, 1, 2, 3, 3, 10, 99, 100, 101, 250])
             parts.append(copy(rng, table, [record(rng, table) for _ in range(many)]))
+        elif kind < 7:
+            given = sizes if rng.random() < 0.4 else column_statistics
+            parts.append(spaced(rng, given(rng, rng.choice(tables))) + ";")
         elif kind < 9:
             parts.append(spaced(rng, select(rng, rng.choice(tables))) + ";")
         else:
@@ -211,9 +337,54 @@ def broken_data(rng, table):
     return records
 
 
+def broken_condition(rng, table):
+    """A SELECT with a condition that is at fault, alone or among others."""
+    name, kind, _ = rng.choice(table.columns)
+    test = f"{name} IS NULL"
+    whole = {"text": "'x'", "bool": "TRUE"}.get(kind, "1")
+    fault = rng.choice([
+        "(" * 33 + test + ")" * 33, "NOT " * 33 + test, " AND ".join([test] * 33), " OR ".join([test] * 257),
+        "NOT (" + " OR ".join([test] * 33) + ")", " OR ".join([test, "TRUE"] * 129), f"{name} |<| 'x'", f"{name} |=| TRUE", f"{name} = 9223372036854775808",
+        f"{name} = -9223372036854775809", f"{name} < 'x y'", f"{name} > '{'9' * 30}'", "missing = 1", f"other.{name} = {whole}", f"{name} = {name} AND missing",
+        f"{name}", f"NOT {name}", f"{name} = ", f"{name} IS 1", f"({test}", f"{test})", f"{name} = {whole} {name}", "1 = 'x'", "1 = TRUE", "TRUE = 'maybe'",
+        f"{name} < '{'a' * 8193}'", f"{name} = {whole} AND", "NULL = NULL OR 'a' |<| 'b'", f"{name} == {whole}", f"{name} = '\\N'", "'1' = '2' AND 1 |>| 'z'"])
+    tests = [" ".join(condition(rng, table, table.name, 1)) for _ in range(rng.choice([0, 0, 1, 2]))]
+    tests.insert(rng.randint(0, len(tests)), fault)
+    return f"SELECT {rng.choice(['*', name, 'missing'] if rng.random() < 0.2 else ['*', name])} FROM {table.name} WHERE {' AND '.join(tests)};"
+
+
+def broken_statistics(rng, table):
+    """STATISTICS at fault: a name, a number, a literal, a share or a bound."""
+    name, kind, _ = rng.choice(table.columns)
+    past = rng.choice([0, 10**9 + 1, 2**64, 10**30])
+    values = [" ".join(v) for v in values_of(rng, kind, 30)]
+    bad = rng.choice(["NULL", "'x y'", "TRUE", "1", "-1", "9" * 25, "'" + "9" * 25 + "'", "'a'"])
+    share = rng.choice([0, 10**6, 10**6 + 1, 2**32 + 1, 5])
+    common = [f"{v} {rng.choice([1, 1000])}" for v in values[:rng.choice([1, 3, 17, 30])]]
+    common.insert(rng.randint(0, len(common)), f"{rng.choice([bad, values[0]])} {share}")
+    bounds = values[:rng.choice([1, 2, 5, 30])]
+    bounds.insert(rng.randint(0, len(bounds)), rng.choice([bad, values[-1], values[0]]))
+    if rng.random() < 0.1:
+        bounds = [values[0]] * 102
+    of = f"STATISTICS {table.name}.{name}"
+    return rng.choice([
+        f"STATISTICS {table.name} ROWS {past} PAGES 1;", f"STATISTICS {table.name} ROWS 1 PAGES {past};", f"STATISTICS {table.name} ROWS {past} PAGES {past};",
+        "STATISTICS missing ROWS 1 PAGES 1;", f"STATISTICS {table.name}.missing DISTINCT 1 NULLS 0;", f"STATISTICS missing.{name} DISTINCT 1 NULLS 0;",
+        f"{of} DISTINCT {past} NULLS 0;", f"{of} DISTINCT 1 NULLS {rng.choice([10**6 + 1, 2**32, 10**30])};",
+        f"{of} DISTINCT {rng.choice([1, 2, 100])} NULLS {rng.choice([0, 999_000])} COMMON ({', '.join(common)});",
+        f"{of} DISTINCT 100 NULLS 0 HISTOGRAM ({', '.join(bounds)});",
+        f"{of} DISTINCT {past} NULLS 0 COMMON ({', '.join(common)}) HISTOGRAM ({', '.join(bounds)});",
+        f"{of} DISTINCT 1 NULLS 0 HISTOGRAM (1) COMMON (1 1);", f"{of} DISTINCT 1 NULLS 0 COMMON (1);", f"{of} DISTINCT -1 NULLS 0;",
+        f"STATISTICS {table.name} ROWS 1;", f"STATISTICS {table.name} PAGES 1 ROWS 1;"])
+
+
 def broken_statement(rng, tables):
     table = rng.choice(tables)
     names = [name for name, _, _ in table.columns]
+    if rng.random() < 0.4:
+        return broken_condition(rng, table)
+    if rng.random() < 0.3:
+        return broken_statistics(rng, table)
     kind = rng.randrange(16)
     if kind == 0:
         return spaced(rng, create(rng, table)) + ";"
@@ -249,7 +420,7 @@ def broken_statement(rng, tables):
     return rng.choice([
         f"SELECT * FROM {table.name} x y;", f"SELECT FROM {table.name};", "EXPLAIN;", "CREATE INDEX;", "SELECT * FROM;", "foo;",
         "CREATE TABLE (a int4);", "CREATE TABLE fresh ();", "CREATE TABLE fresh (a int4,);", "CREATE TABLE select (a int4);",
-        "'open", "/* open", "1a;", "#;", "COPY t;", f"SELECT *, FROM {table.name};", f"SELECT * FROM {table.name} WHERE true;",
+        "'open", "/* open", "1a;", "#;", "COPY t;", f"SELECT *, FROM {table.name};", f"SELECT * FROM {table.name} WHERE;",
         f"SELECT a b FROM {table.name};", "CREATE TABLE fresh (a int4 NOT);", f"SELECT * FROM {table.name}, {table.name};"])
 
 
@@ -292,7 +463,7 @@ def main():
             for path, data in zip(names, (script.encode(), ran.stdout, ran.stderr)):
                 path.write_bytes(data)
             verdict = subprocess.run(
-                [sys.executable, judge, "judge", "--stage", "2", "--allow", "", *map(str, names), str(ran.returncode)],
+                [sys.executable, judge, "judge", "--stage", "3", "--allow", "", *map(str, names), str(ran.returncode)],
                 capture_output=True, text=True)
             statuses["right" if right else "broken", ran.returncode, ran.stderr.decode()[:11]] += 1
             if verdict.returncode != 0 or (right and ran.returncode != 0):

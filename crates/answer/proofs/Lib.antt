@@ -1,4 +1,7 @@
-mod Lists
-mod Picking
-pub mod Putting
-mod Scanning
+mod CheapLemmas
+mod LineLemmas
+mod ListLemmas
+mod PickingLemmas
+pub mod PuttingLemmas
+mod RowLemmas
+mod ScanLemmas

@@ -1,8 +1,12 @@
 -- What a SELECT prints. Own.
-use Rattle.std.specs.Prelude.{ℕ, ◌≡◌, List, ◌++◌, length, map, slice_index_or, IsPermutation}
+use Rattle.std.specs.Prelude.{ℕ, ◌≡◌, List, ◌++◌, length, map, filter, slice_index_or, IsPermutation}
 use Rattle.std.specs.List.{flat_map}
+use Rattle.pg_value.specs.declared.value.Value.{Value}
 use Rattle.pg_value.specs.declared.value.Value.TheVariants.{Null}
 use Rattle.pg_expr.specs.declared.operand.ColRef.{ColRef}
+use Rattle.eq_classes.specs.Clauses.{Clause}
+use Rattle.eq_classes.specs.Holding.{hold}
+use Rattle.eq_classes.specs.Parts.{is_base}
 use Rattle.heap.specs.Stored.{Values}
 use Rattle.row_text.specs.Texts.{row_line, count_line}
 use Rattle.sql_query.specs.Queries.{Query}
@@ -28,10 +32,18 @@ pub record IsAnswer (w : World) (q : Query) (p : Plan) (bytes : List ℕ) : Type
   pub meant : IsPermutation (tuples_of w q p) (meaning w q)
   pub printed : bytes ≡ answer_text w q p
 
+-- the value of a column of a row, whatever its relation
+abbrev pub value_in : Values → ColRef → Value
+value_in row x = slice_index_or row x.col.0 Null
+
 -- the values of these columns of a row
 abbrev pub picked : List ColRef → Values → Values
-picked columns row = map (λ (c : ColRef). slice_index_or row c.col.0 Null) columns
+picked columns row = map (value_in row) columns
 
 -- a line for each row, of the values of these columns
 abbrev pub picked_text : List ColRef → List Values → List ℕ
 picked_text columns rows = flat_map (λ row. row_line (picked columns row)) rows
+
+-- the rows of a query's one relation at which the clauses over it alone are True
+abbrev pub passing : List Clause → List Values → List Values
+passing clauses rows = filter (λ row. hold (value_in row) (is_base 0) clauses) rows

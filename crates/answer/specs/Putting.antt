@@ -12,7 +12,7 @@ pub record HasPut (old new : Option (List ℕ)) (pending later bytes : List ℕ)
   pub together : written ++ later ≡ pending ++ bytes
 
 -- what a call that puts these bytes did: all of them, or it stopped with some first bytes written
-abbrev pub Puts : {E : Type 0} → Option (List ℕ) → Option (List ℕ) → List ℕ → List ℕ → Result (Unit {0}) E → List ℕ → Type 0
+abbrev pub Puts : {T E : Type 0} → Option (List ℕ) → Option (List ℕ) → List ℕ → List ℕ → Result T E → List ℕ → Type 0
 Puts old new pending later result bytes = MatchResult result (λ _. HasPut old new pending later bytes) (λ _. AppendsPrefix old new (pending ++ bytes))
 
 -- the stop for writing has its cause in the sink's faults, and nothing else raises them

@@ -5,6 +5,7 @@ mod plan_line;
 mod print;
 mod put;
 mod rows;
+mod scan;
 mod stop;
 #[cfg(test)]
 mod tests;

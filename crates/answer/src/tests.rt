@@ -2,17 +2,21 @@
 
 ghost use Rattle.std.specs.Prelude.{◌≡◌, ◌∷◌, ◌<◌, [], length, true, IfOk};
 ghost use Rattle.catalog.specs.Contents.{table_at};
+ghost use Rattle.catalog.specs.Range.{type_in};
+ghost use Rattle.eq_classes.specs.Holding.{IsTable};
 ghost use Rattle.pg_base.specs.Names.{begins_name};
 ghost use Rattle.sql_query.specs.WellBound.{IsWellBound};
 ghost use Rattle.sql_query.specs.Worlds.{Holds};
 
+use crate::scan::column_type;
 use crate::{Stop, print_answer};
 use catalog::{Catalog, RangeTable};
+use eq_classes::Classes;
 use heap::{Counters, Counting, Heap};
 use pg_base::{ColNo, MemSink, RelNo, Steps, TableNo};
-use pg_expr::{ColRef, Exprs};
-use pg_value::{Bytes, Column, Columns, SqlType};
-use sql_query::{ColList, Prepared};
+use pg_expr::{Binding, ColRef, Exprs};
+use pg_value::{Bytes, Column, Columns, SqlType, Value};
+use sql_query::{ColList, OrderList, Prepared};
 use std::alloc::{AllocError, Global};
 use std::marker::Brand;
 use std::sync::ledger::{Blank, Ledger};
@@ -137,21 +141,65 @@ fn column(number: u8) -> ColRef
     }
 }
 
+/// The types of the columns of a catalogue's relations; each value is NULL.
+#[derive(Drop)]
+struct Types<'a> {
+    cat: &'a Catalog,
+    range: &'a RangeTable,
+    null: Value,
+}
+
+impl<'a> Binding for Types<'a> {
+    ghost use Rattle.std.specs.Prelude.{◌&&◌, nat_lt, length};
+    ghost use Rattle.catalog.specs.Range.{table_of, type_in};
+    ghost use Rattle.path_cost.specs.Columns.{is_column};
+
+    ghost binds = { λ b x. is_column b.cat.now b.range.now x && nat_lt (table_of b.range.now x).0 (length b.cat.now.tables) };
+
+    ghost value_at = { λ b x. b.null };
+
+    ghost type_of = { λ b x. type_in b.cat.now b.range.now x };
+
+    fn value(&self, _c: ColRef) -> &Value {
+        &self.null
+    }
+
+    fn typed(&self, c: ColRef) -> SqlType {
+        column_type(self.cat, self.range, c)
+    }
+}
+
+/// The classes of no conditions.
+fn no_classes(alloc: Global, cat: &Catalog, range: &RangeTable) -> Result<Classes, AllocError>
+    ensures { IfOk result (IsTable (record { conjuncts = []; order = []; type_of = type_in cat.now range.now })) }
+{
+    let types = Types {
+        cat,
+        range,
+        null: Value::Null,
+    };
+    Classes::build(alloc, Exprs::from_vec(Vec::new(alloc)), &[], &types)
+}
+
 fn query_of(alloc: Global, catalog: &Catalog, alias: u8) -> Result<Prepared, AllocError>
     requires one { length catalog.now.tables ≡ 1 }
     requires three { length (table_at catalog.now (record { 0 = 0 })).columns ≡ 3 }
     requires alias { begins_name alias ≡ true }
     ensures bound { IfOk result (λ q. IsWellBound catalog.now q) }
     ensures one { IfOk result (λ q. length q.range ≡ 1) }
-    ensures unconditional { IfOk result (λ q. q.where_all ≡ []) }
+    ensures unordered { IfOk result (λ q. q.order ≡ []) }
 {
     let mut relations = Vec::new(alloc);
     relations.push((TableNo(0), name(alloc, alias)?))?;
     let select = three_columns(alloc)?;
     let used = three_columns(alloc)?;
+    let range = RangeTable::from_vec(relations);
+    let classes = no_classes(alloc, catalog, &range)?;
     Ok(Prepared {
-        range: RangeTable::from_vec(relations),
+        range,
+        classes,
         select,
+        order: OrderList::from_vec(Vec::new(alloc)),
         used,
         where_all: Exprs::from_vec(Vec::new(alloc)),
     })

@@ -1,21 +1,24 @@
 -- Which statement begins at a place of a script, what it does, and where the next one begins (PostgreSQL manual, chapter SQL
 -- Commands).
-use Rattle.std.specs.Prelude.{◌≡◌, ℕ, ◌-◌, List, length, slice_index_or, slice_range, Ok}
+use Rattle.std.specs.Prelude.{◌≡◌, ℕ, true, ◌-◌, List, length, slice_index_or, slice_range, Ok}
 use Rattle.sql_lex.specs.declared.tokens.Kind.TheVariants.{End}
 use Rattle.sql_lex.specs.declared.tokens.Token.{Token}
 use Rattle.sql_lex.specs.Words.{AreWords}
-use Rattle.sql_grammar.specs.Syntax.{Statement, empty, create_table, query, copy}
+use Rattle.sql_grammar.specs.Syntax.{Statement, empty, create_table, query, copy, sizes, column_statistics}
 use Rattle.sql_grammar.specs.Spelled.{IsSpelled}
+use Rattle.catalog.specs.Statistics.{AreAllowed, is_count}
 use Rattle.catalog.specs.Tables.{IsAcceptable}
+use Rattle.eq_classes.specs.Clauses.{Table}
+use Rattle.eq_classes.specs.Holding.{IsTable}
 use Rattle.ddl_reader.specs.Block.{IsBlockEnd}
 use Rattle.ddl_reader.specs.Statements.{Means}
-use Rattle.ddl_reader.specs.Tables.{Definition, table, data_for, Reading}
+use Rattle.ddl_reader.specs.Tables.{Definition, table, sizes_for, statistics_for, data_for, Reading}
 use Rattle.heap.specs.Loading.{records_of, loaded}
 use Rattle.heap.specs.Stored.{Stored}
-use Rattle.query_reader.specs.Binding.{bound}
-use Rattle.sql_query.specs.Queries.{Query}
+use Rattle.query_reader.specs.Binding.{Bound, bound, query_with}
+use Rattle.sql_query.specs.WellBound.{given_of}
 use Rattle.sql_query.specs.Worlds.{World, stored_at}
-use Rattle.pgplan.specs.Actions.{Action, idle, make, fill, answer}
+use Rattle.pgplan.specs.Actions.{Action, idle, make, size, describe, fill, answer}
 
 -- the token of this number; past the last one, one without bytes at the text's begin
 abbrev pub token_at : List Token → ℕ → Token
@@ -25,10 +28,12 @@ token_at tokens k = slice_index_or tokens k (record { kind = End; start = 0; end
 abbrev pub end_of : List Token → ℕ
 end_of tokens = (token_at tokens (length tokens - 1)).end
 
--- what a definition does, and the offset after it: a table is accepted by the catalogue; data go up to the line that ends them,
--- and the table takes them
+-- what a definition does, and the offset after it: a table is accepted by the catalogue; so are the sizes of a table and the
+-- statistics of a column; data go up to the line that ends them, and the table takes them
 abbrev pub Carries : World → List ℕ → List Token → Definition → Action → ℕ → Type 0
 Carries w text tokens (table name names columns) action next = IsAcceptable w.contents name names × (action ≡ make name names columns) × (next ≡ end_of tokens)
+Carries w text tokens (sizes_for t rows pages) action next = (is_count rows ≡ true) × (is_count pages ≡ true) × (action ≡ size t rows pages) × (next ≡ end_of tokens)
+Carries w text tokens (statistics_for t column s) action next = AreAllowed s × (action ≡ describe t column s) × (next ≡ end_of tokens)
 Carries w text tokens (data_for t start) action next =
     (end : ℕ) × (s : Stored) × IsBlockEnd text start end next × (loaded (stored_at w t) (records_of (slice_range text start end)) ≡ Ok s) × (action ≡ fill t s)
 
@@ -36,11 +41,17 @@ Carries w text tokens (data_for t start) action next =
 abbrev pub Defines : World → List ℕ → List Token → Statement → Action → ℕ → Type 0
 Defines w text tokens x action next = (r : Reading) × Means w.contents text x (Ok r) × Carries w text tokens r.definition action next
 
+-- what a SELECT that means this does: it answers the query with its classes
+abbrev pub Answers : World → Bound → Action → Type 0
+Answers w b action = (t : Table) × IsTable (given_of w.contents (query_with t b)) t × (action ≡ answer (query_with t b))
+
 -- what a statement of these tokens does, and the offset after it
 abbrev pub Does : World → List ℕ → List Token → Statement → Action → ℕ → Type 0
 Does w text tokens (empty e) action next = (action ≡ idle) × (next ≡ end_of tokens)
-Does w text tokens (query q e) action next = (p : Query) × (bound w.contents q ≡ Ok p) × (action ≡ answer p) × (next ≡ end_of tokens)
+Does w text tokens (query q e) action next = (b : Bound) × (bound w.contents (token_at tokens 0) q ≡ Ok b) × Answers w b action × (next ≡ end_of tokens)
 Does w text tokens (create_table k t n o c cs m e) action next = Defines w text tokens (create_table k t n o c cs m e) action next
+Does w text tokens (sizes k n r p e) action next = Defines w text tokens (sizes k n r p e) action next
+Does w text tokens (column_statistics k n c d nulls commons bounds e) action next = Defines w text tokens (column_statistics k n c d nulls commons bounds e) action next
 Does w text tokens (copy k n null) action next = Defines w text tokens (copy k n null) action next
 
 -- the tokens are a statement that does this

@@ -1,5 +1,5 @@
 -- How the refusals of the calls below end a step. Own.
-use Rattle.std.specs.Prelude.{◌≡◌, ◌≢◌, ◌+◌, ℕ, List, length, Option, Some, None}
+use Rattle.std.specs.Prelude.{◌≡◌, ◌≢◌, ◌+◌, ◌<◌, ℕ, List, length, Option, Some, None}
 use Rattle.pg_base.specs.declared.faults.Fault.{Fault as FaultType}
 use Rattle.pg_base.specs.declared.faults.Refusal.{Refusal}
 use Rattle.pg_base.specs.declared.faults.Refusal.TheVariants as refusal
@@ -29,3 +29,8 @@ end_by None = Memory
 -- no memory
 abbrev pub IsCauseFor : CatalogFault → ℕ → Type 0
 IsCauseFor e count = e ≢ refused.Memory → (c : Contents) × (name : List ℕ) × (names : List (List ℕ)) × (count ≡ length names + 1) × IsRefusal c name names e
+
+-- a number or literal at one of so many places is at fault
+abbrev pub IsNumberAmong : CatalogFault → ℕ → Type 0
+IsNumberAmong (refused.BadNumber place) count = place < count
+IsNumberAmong _ count = ⊥

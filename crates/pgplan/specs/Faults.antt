@@ -2,26 +2,27 @@
 -- (PostgreSQL manual, appendix Error Codes; the order is own).
 use Rattle.std.specs.Prelude.{◌≡◌, ◌⊎◌, ℕ, ◌+◌, List, [], ◌∷◌, length, drop, slice_index_or, slice_range, Option, Some, None, Ok, Err}
 use Rattle.pg_base.specs.declared.numbers.TableNo.{TableNo}
-use Rattle.pg_base.specs.declared.faults.Code.TheVariants.{S5, S6, S11, S12, S13, S14, S15}
+use Rattle.pg_base.specs.declared.faults.Code.TheVariants.{S5, S6, S11, S12, S13, S14, S15, S17}
 use Rattle.pg_base.specs.declared.faults.Limit.TheVariants.{Tables, Rows, Text}
 use Rattle.pg_base.specs.declared.faults.Fault.{Fault}
 use Rattle.pg_base.specs.Faults.{data_fault, syntax_fault, words_fault}
 use Rattle.sql_lex.specs.declared.tokens.Token.{Token}
 use Rattle.sql_lex.specs.Words.{AreWords, IsWordFault}
-use Rattle.sql_grammar.specs.Syntax.{Statement, empty, create_table, query, copy}
+use Rattle.sql_grammar.specs.Syntax.{Statement, empty, create_table, query, copy, sizes, column_statistics}
 use Rattle.sql_grammar.specs.Faults.{IsStatement, IsFirstFault}
 use Rattle.sql_grammar.specs.Spelled.{IsSpelled}
 use Rattle.catalog.specs.declared.fault.CatalogFault.{CatalogFault}
 use Rattle.catalog.specs.declared.fault.CatalogFault.TheVariants as refused
-use Rattle.catalog.specs.Tables.{IsRefusal}
+use Rattle.catalog.specs.Tables.{IsRefusal, IsSizeRefusal, IsStatisticsRefusal}
 use Rattle.ddl_reader.specs.Block.{HaveNoMark, lines_of, IsBlockEnd}
 use Rattle.ddl_reader.specs.Statements.{Means}
-use Rattle.ddl_reader.specs.Tables.{Definition, table, data_for, Reading}
+use Rattle.ddl_reader.specs.Tables.{Definition, table, sizes_for, statistics_for, data_for, Reading}
 use Rattle.heap.specs.declared.fault.CopyFault.{CopyFault}
 use Rattle.heap.specs.declared.fault.CopyFault.TheVariants as copying
 use Rattle.heap.specs.Loading.{records_of, loaded}
 use Rattle.query_reader.specs.Binding.{bound}
 use Rattle.sql_query.specs.Worlds.{World, stored_at}
+use Rattle.pgplan.specs.Accepted.{token_at}
 
 -- where the words end that begin at these offsets
 abbrev pub word_ends : List ℕ → List (List ℕ) → List ℕ
@@ -37,6 +38,12 @@ table_fault (refused.ColumnTwice place) at ends = Some (words_fault S6 (slice_in
 table_fault refused.TooMany at ends = Some (words_fault (S15 Tables) (slice_index_or at 0 0) (slice_index_or ends 0 0))
 table_fault (refused.BadNumber place) at ends = None
 table_fault refused.Memory at ends = None
+
+-- the fault of what the catalogue refuses statistics for, whose numbers and literals begin at these offsets: at the first that is
+-- not allowed
+abbrev pub number_fault : CatalogFault → (at : List ℕ) → Option Fault
+number_fault (refused.BadNumber place) at = let here = slice_index_or at place 0 in Some (words_fault S17 here here)
+number_fault _ at = None
 
 -- the fault of what data for a table, from an offset on, are refused for; want of memory is none
 abbrev pub rows_fault : CopyFault → TableNo → ℕ → Option Fault
@@ -57,9 +64,11 @@ abbrev pub IsBlockFault : World → List ℕ → TableNo → ℕ → Fault → T
 IsBlockFault w text t start f =
     (end next : ℕ) × (e : CopyFault) × IsBlockEnd text start end next × (loaded (stored_at w t) (records_of (slice_range text start end)) ≡ Err e) × (rows_fault e t start ≡ Some f)
 
--- why a definition is not carried out: the catalogue refuses it; or the data have no end, or are at fault
+-- why a definition is not carried out: the catalogue refuses it, a new table or statistics of one; or the data have no end, or are at fault
 abbrev pub IsRefused : World → List ℕ → Definition → List ℕ → Fault → Type 0
 IsRefused w text (table name names columns) at f = (e : CatalogFault) × IsRefusal w.contents name names e × (table_fault e at (word_ends at (name ∷ names)) ≡ Some f)
+IsRefused w text (sizes_for t rows pages) at f = (e : CatalogFault) × IsSizeRefusal rows pages e × (number_fault e at ≡ Some f)
+IsRefused w text (statistics_for t column s) at f = (e : CatalogFault) × IsStatisticsRefusal s e × (number_fault e at ≡ Some f)
 IsRefused w text (data_for t start) at f = (HaveNoMark (lines_of (drop start text)) × (f ≡ endless_fault start)) ⊎ IsBlockFault w text t start f
 
 -- a definition's fault: in its names and limits, or why it is not carried out
@@ -67,16 +76,18 @@ abbrev pub IsDefinitionFault : World → List ℕ → Statement → Fault → Ty
 IsDefinitionFault w text x f = Means w.contents text x (Err f) ⊎ ((r : Reading) × Means w.contents text x (Ok r) × IsRefused w text r.definition r.at f)
 
 -- the first fault of a statement whose syntax has none
-abbrev pub IsMeaningFault : World → List ℕ → Statement → Fault → Type 0
-IsMeaningFault w text (empty e) f = ⊥
-IsMeaningFault w text (query q e) f = bound w.contents q ≡ Err f
-IsMeaningFault w text (create_table k t n o c cs m e) f = IsDefinitionFault w text (create_table k t n o c cs m e) f
-IsMeaningFault w text (copy k n null) f = IsDefinitionFault w text (copy k n null) f
+abbrev pub IsMeaningFault : World → List ℕ → List Token → Statement → Fault → Type 0
+IsMeaningFault w text tokens (empty e) f = ⊥
+IsMeaningFault w text tokens (query q e) f = bound w.contents (token_at tokens 0) q ≡ Err f
+IsMeaningFault w text tokens (create_table k t n o c cs m e) f = IsDefinitionFault w text (create_table k t n o c cs m e) f
+IsMeaningFault w text tokens (sizes k n r p e) f = IsDefinitionFault w text (sizes k n r p e) f
+IsMeaningFault w text tokens (column_statistics k n c d nulls commons bounds e) f = IsDefinitionFault w text (column_statistics k n c d nulls commons bounds e) f
+IsMeaningFault w text tokens (copy k n null) f = IsDefinitionFault w text (copy k n null) f
 
 -- the first fault of a statement whose words have none: of its syntax, or of what it means
 pub data IsFaultOver (w : World) (text : List ℕ) (tokens : List Token) (f : Fault) : Type 0 where
   in_syntax : IsFirstFault IsStatement text tokens f → IsFaultOver w text tokens f
-  in_meaning : (x : Statement) → IsSpelled x text tokens → IsMeaningFault w text x f → IsFaultOver w text tokens f
+  in_meaning : (x : Statement) → IsSpelled x text tokens → IsMeaningFault w text tokens x f → IsFaultOver w text tokens f
 
 -- the first fault of the statement that begins at this place: of its words, or after them
 pub data IsFault (w : World) (text : List ℕ) (from : ℕ) (f : Fault) : Type 0 where

@@ -4,7 +4,7 @@ use Rattle.sql_query.specs.Worlds.{World}
 use Rattle.sql_query.specs.Tuples.{no_rows}
 use Rattle.answer.specs.Plans.{Plan, fetches, looks}
 use Rattle.answer.specs.Answers.{IsAnswer, tuples_of}
-use Rattle.pgplan.specs.Actions.{Action, idle, make, fill, answer}
+use Rattle.pgplan.specs.Actions.{Action, idle, make, size, describe, fill, answer}
 
 -- the bytes printed, the rows fetched, and the most looks at entries and at rows already found
 pub record Reply : Type 0 where
@@ -21,6 +21,8 @@ no_reply = record { bytes = []; fetched = 0; looked = 0 }
 abbrev pub IsReply : World → Action → Reply → Type 0
 IsReply w idle r = r ≡ no_reply
 IsReply w (make name names columns) r = r ≡ no_reply
+IsReply w (size t rows pages) r = r ≡ no_reply
+IsReply w (describe t column s) r = r ≡ no_reply
 IsReply w (fill t s) r = r ≡ no_reply
 IsReply w (answer q) r =
     (p : Plan) × IsAnswer w q p r.bytes × (r.fetched ≡ fetches w q p (no_rows q)) × (r.looked ≡ looks w q p (no_rows q) + 32 * length (tuples_of w q p))

@@ -1,15 +1,18 @@
-//! CREATE TABLE and COPY, carried out.
+//! CREATE TABLE, COPY and STATISTICS, carried out.
 
-ghost use Rattle.std.specs.Prelude.{◌≡◌, ◌≤◌, ◌+◌, ◌^◌, ◌<◌, ℕ, All, IfErr, IfOk, Ok, OnErr, OnOk, length, slice_range, true, []};
+ghost use Rattle.std.specs.Prelude.{◌≡◌, ◌≤◌, ◌+◌, ◌*◌, ◌^◌, ◌<◌, ℕ, List, All, IfErr, IfOk, Ok, OnErr, OnOk, length, slice_range, true, []};
 ghost use Rattle.pg_base.specs.declared.limits.TheConstants.{MOST_SCRIPT_BYTES};
 ghost use Rattle.sql_lex.specs.Words.{AreWords};
 ghost use Rattle.sql_grammar.specs.Faults.{terminals};
-ghost use Rattle.catalog.specs.Contents.{IsTable};
+ghost use Rattle.catalog.specs.Contents.{IsColumn, IsTable, table_at};
+ghost use Rattle.catalog.specs.Entries.{statistics};
+ghost use Rattle.catalog.specs.Indexes.{type_at};
+ghost use Rattle.catalog.specs.Statistics.{AreAllowed, AreValuesOf, is_count};
 ghost use Rattle.pg_base.specs.Names.{IsName};
 ghost use Rattle.catalog.specs.Tables.{IsAcceptable};
 ghost use Rattle.ddl_reader.specs.Block.{IsBlockEnd};
 ghost use Rattle.ddl_reader.specs.Statements.{begins_ddl};
-ghost use Rattle.ddl_reader.specs.Tables.{data_for, table as table_of};
+ghost use Rattle.ddl_reader.specs.Tables.{data_for, sizes_for, statistics_for, table as table_of};
 ghost use Rattle.heap.specs.Loading.{loaded, records_of};
 ghost use Rattle.heap.specs.Stored.{Stored};
 ghost use Rattle.sql_query.specs.Worlds.{IsWorld, stored_at, world};
@@ -18,12 +21,12 @@ ghost use Rattle.pgplan.specs.Accepted.{end_of as end_of_tokens};
 ghost use Rattle.pgplan.specs.Steps.{IsDefined, Refuses, RefusesDefinition};
 
 use crate::end::End;
-use crate::faults::{endless, refused_data, refused_table, word_ends};
+use crate::faults::{endless, refused_data, refused_statistics, refused_table, word_ends};
 use crate::store::{fill, make};
-use catalog::Catalog;
+use catalog::{Catalog, ColumnStats};
 use ddl_reader::{Ddl, Read, block_end, read_ddl};
 use heap::{Counters, Heap};
-use pg_base::TableNo;
+use pg_base::{ColNo, TableNo};
 use pg_value::{Bytes, Columns};
 use sql_lex::Tokens;
 use std::alloc::Global;
@@ -56,6 +59,14 @@ pub(crate) fn define<C: Counters>(
             table(alloc, catalog, heaps, &at, name, names, columns)?;
             Ok(end_of(tokens))
         }
+        Ddl::Rows { table, rows, pages } => {
+            size(catalog, &at, table, rows, pages)?;
+            Ok(end_of(tokens))
+        }
+        Ddl::Column { table, col, stats } => {
+            describe(catalog, &at, table, col, stats)?;
+            Ok(end_of(tokens))
+        }
         Ddl::Copy { table, start } => data(catalog, heaps, text, table, start),
     }
 }
@@ -86,6 +97,47 @@ fn table<C: Counters>(
     match make(alloc, catalog, heaps, name, names, columns) {
         Ok(()) => Ok(()),
         Err(refused) => Err(refused_table(refused, at, &ends)),
+    }
+}
+
+/// Keeps the rows and pages of a table, whose numbers stand at these offsets. Its rows stay as they are.
+fn size(catalog: &mut Catalog, at: &[u32], table: TableNo, rows: u64, pages: u64) -> Result<(), End>
+    requires table { IsTable catalog.old table }
+    requires places { length at.now ≡ 2 }
+    ensures accepted { OnOk result ((is_count rows ≡ true) × (is_count pages ≡ true)) }
+    ensures made { OnOk result ((stored : List Stored) → world catalog.new stored ≡ actions.after (world catalog.old stored) (actions.size table rows pages)) }
+    ensures refused { (stored : List Stored) (text : List ℕ) → IfErr result (λ e. RefusesDefinition e (world catalog.old stored) text (sizes_for table rows pages) at.now) }
+    ensures world { (stored : List Stored) → IsWorld (world catalog.old stored) → IsWorld (world catalog.new stored) }
+    ensures unchanged { OnErr result (catalog.new ≡ catalog.old) }
+{
+    match catalog.set_rows(table, rows, pages) {
+        Ok(()) => Ok(()),
+        Err(refused) => Err(refused_statistics(refused, at)),
+    }
+}
+
+/// Keeps what is known of a column of a table, whose numbers and literals stand at these offsets. The table's rows stay as they
+/// are.
+fn describe(
+    catalog: &mut Catalog,
+    at: &[u32],
+    table: TableNo,
+    col: ColNo,
+    stats: ColumnStats,
+) -> Result<(), End>
+    requires table { IsTable catalog.old table }
+    requires column { IsColumn catalog.old table col }
+    requires values { AreValuesOf (type_at (table_at catalog.old table).columns col) (statistics stats) }
+    requires places { length at.now ≡ 2 + (2 * length (statistics stats).common + length (statistics stats).histogram) }
+    ensures accepted { OnOk result (AreAllowed (statistics stats)) }
+    ensures made { OnOk result ((stored : List Stored) → world catalog.new stored ≡ actions.after (world catalog.old stored) (actions.describe table col (statistics stats))) }
+    ensures refused { (stored : List Stored) (text : List ℕ) → IfErr result (λ e. RefusesDefinition e (world catalog.old stored) text (statistics_for table col (statistics stats)) at.now) }
+    ensures world { (stored : List Stored) → IsWorld (world catalog.old stored) → IsWorld (world catalog.new stored) }
+    ensures unchanged { OnErr result (catalog.new ≡ catalog.old) }
+{
+    match catalog.set_column(table, col, stats) {
+        Ok(()) => Ok(()),
+        Err(refused) => Err(refused_statistics(refused, at)),
     }
 }
 

@@ -2,8 +2,8 @@
 
 ghost use Rattle.std.specs.Prelude.{◌≡◌, ◌≤◌, ◌+◌, ◌^◌, ◌<◌, ◌∷◌, All, IfOk, length};
 ghost use Rattle.pg_base.specs.Names.{IsName};
-ghost use Rattle.pgplan.specs.Ending.{IsCauseFor, end_by};
-ghost use Rattle.pgplan.specs.Faults.{endless_fault, rows_fault, table_fault, word_ends as ends_of_words};
+ghost use Rattle.pgplan.specs.Ending.{IsCauseFor, IsNumberAmong, end_by};
+ghost use Rattle.pgplan.specs.Faults.{endless_fault, number_fault, rows_fault, table_fault, word_ends as ends_of_words};
 
 use crate::end::End;
 use catalog::CatalogFault;
@@ -52,6 +52,24 @@ pub(crate) fn refused_table(refused: CatalogFault, at: &[u32], ends: &[u32]) -> 
         CatalogFault::Memory => return End::Memory,
     };
     End::Fault(fault)
+}
+
+/// How the refusal of statistics ends its step, whose numbers and literals begin at these offsets: with its fault at the first that
+/// is not allowed.
+pub(crate) fn refused_statistics(refused: CatalogFault, at: &[u32]) -> End
+    requires cause { IsNumberAmong refused (length at.now) }
+    ensures { result ≡ end_by (number_fault refused at.now) }
+{
+    match refused {
+        CatalogFault::BadNumber(place) => {
+            let here = at[place as usize];
+            End::Fault(Fault::at_words(Code::S17, here, here))
+        }
+        CatalogFault::NameTaken
+        | CatalogFault::ColumnTwice(_)
+        | CatalogFault::TooMany
+        | CatalogFault::Memory => unreachable!(),
+    }
 }
 
 /// The fault of COPY data that no line ends.

@@ -26,10 +26,15 @@ const THREE_ROWS: &[u8] = b"Seq Scan on t  (cost=412 rows=3)\n1\n2\n3\n(3 rows)\
 
 const NO_ROWS: &[u8] = b"Seq Scan on t  (cost=404 rows=1)\n(0 rows)\n";
 
+const CLASS: &[u8] =
+    b"CREATE TABLE t (a int8);\nCOPY t FROM STDIN WITH (FORMAT CSV, NULL '\\N');\n1\n2\n3\n\\.\nSELECT * FROM t WHERE a = 1 AND a = 2;\n";
+
+const CLASS_ROWS: &[u8] = b"Seq Scan on t  (cost=418 rows=1)\n(0 rows)\n";
+
 const USAGE: &[u8] = b"usage: pgplan run | pgplan sample N\n";
 
 /// A script whose statement at fault prints nothing, and its line: the words and their syntax, names, data, and a parameter.
-const FAULTS: [(&[u8], &[u8]); 23] = [
+const FAULTS: [(&[u8], &[u8]); 51] = [
     (b"SELECT * FROM t 'x;", b"ERROR 42601 at 16: syntax error\n"),
     (
         b"/* /* */ SELECT * FROM t;",
@@ -104,10 +109,122 @@ const FAULTS: [(&[u8], &[u8]); 23] = [
         b"CREATE TABLE t (a int8);\nCOPY t FROM STDIN WITH (FORMAT CSV, NULL '');\n1\n\\.\n",
         b"ERROR 22023 at 66: invalid parameter\n",
     ),
+    (
+        b"CREATE TABLE t (a int4, b text, c bool);\nSELECT * FROM t WHERE a;",
+        b"ERROR 42804 at 63: wrong type\n",
+    ),
+    (
+        b"CREATE TABLE t (a int4, b text, c bool);\nSELECT * FROM t WHERE z = 1;",
+        b"ERROR 42703 at 63: no column z\n",
+    ),
+    (
+        b"CREATE TABLE t (a int4, b text, c bool);\nSELECT zz FROM t WHERE u.a = 1;",
+        b"ERROR 42P01 at 64: no table u\n",
+    ),
+    (
+        b"CREATE TABLE t (a int4, b text, c bool);\nSELECT z FROM t WHERE b |<| 'x';",
+        b"ERROR 42883 at 65: no operator |<|\n",
+    ),
+    (
+        b"CREATE TABLE t (a int4, b text, c bool);\nSELECT * FROM t WHERE 'x' != 1;",
+        b"ERROR 22P02 at 63: invalid input\n",
+    ),
+    (
+        b"CREATE TABLE t (a int4, b text, c bool);\nSELECT * FROM t WHERE a = 9223372036854775808;",
+        b"ERROR 22003 at 67: out of range\n",
+    ),
+    (
+        b"CREATE TABLE t (a int4, b text, c bool);\nSELECT * FROM t WHERE c = 'maybe';",
+        b"ERROR 22P02 at 67: invalid input\n",
+    ),
+    (
+        b"CREATE TABLE t (a int4, b text, c bool);\nSELECT * FROM t WHERE a < '3000000000';",
+        b"ERROR 22003 at 67: out of range\n",
+    ),
+    (
+        b"CREATE TABLE t (a int4, b text, c bool);\nSELECT * FROM t WHERE (a = 1;",
+        b"ERROR 42601 at 69: syntax error\n",
+    ),
+    (
+        b"CREATE TABLE t (a int4, b text, c bool);\nSELECT * FROM t WHERE;",
+        b"ERROR 42601 at 62: syntax error\n",
+    ),
+    (
+        b"CREATE TABLE t (a int4, b text, c bool);\nSELECT * FROM t WHERE a IS 1;",
+        b"ERROR 42601 at 68: syntax error\n",
+    ),
+    (
+        b"CREATE TABLE t (a int4, b text, c bool);\nSELECT zz FROM t WHERE TRUE;",
+        b"ERROR 42703 at 48: no column zz\n",
+    ),
+    (
+        b"CREATE TABLE t (a int4, b text, c bool);\nSTATISTICS u ROWS 1 PAGES 1;",
+        b"ERROR 42P01 at 52: no table u\n",
+    ),
+    (
+        b"CREATE TABLE t (a int4, b text, c bool);\nSTATISTICS t.z DISTINCT 1 NULLS 0;",
+        b"ERROR 42703 at 54: no column z\n",
+    ),
+    (
+        b"CREATE TABLE t (a int4, b text, c bool);\nSTATISTICS t ROWS 0 PAGES 0;",
+        b"ERROR 22023 at 59: invalid parameter\n",
+    ),
+    (
+        b"CREATE TABLE t (a int4, b text, c bool);\nSTATISTICS t ROWS 1 PAGES 1000000001;",
+        b"ERROR 22023 at 67: invalid parameter\n",
+    ),
+    (
+        b"CREATE TABLE t (a int4, b text, c bool);\nSTATISTICS t.a DISTINCT 0 NULLS 0 COMMON ('x' 1);",
+        b"ERROR 22P02 at 83: invalid input\n",
+    ),
+    (
+        b"CREATE TABLE t (a int4, b text, c bool);\nSTATISTICS t.a DISTINCT 2 NULLS 1000001;",
+        b"ERROR 22023 at 73: invalid parameter\n",
+    ),
+    (
+        b"CREATE TABLE t (a int4, b text, c bool);\nSTATISTICS t.a DISTINCT 2 NULLS 0 COMMON (1 5, 2 0);",
+        b"ERROR 22023 at 90: invalid parameter\n",
+    ),
+    (
+        b"CREATE TABLE t (a int4, b text, c bool);\nSTATISTICS t.a DISTINCT 2 NULLS 0 COMMON (1 5, -1 5, 3 5);",
+        b"ERROR 22023 at 94: invalid parameter\n",
+    ),
+    (
+        b"CREATE TABLE t (a int4, b text, c bool);\nSTATISTICS t.b DISTINCT 9 NULLS 500000 COMMON ('x' 400000, 'y' 100001);",
+        b"ERROR 22023 at 104: invalid parameter\n",
+    ),
+    (
+        b"CREATE TABLE t (a int4, b text, c bool);\nSTATISTICS t.c DISTINCT 2 NULLS 0 COMMON (NULL 1);",
+        b"ERROR 22023 at 83: invalid parameter\n",
+    ),
+    (
+        b"CREATE TABLE t (a int4, b text, c bool);\nSTATISTICS t.a DISTINCT 2 NULLS 0 HISTOGRAM (1);",
+        b"ERROR 22023 at 86: invalid parameter\n",
+    ),
+    (
+        b"CREATE TABLE t (a int4, b text, c bool);\nSTATISTICS t.a DISTINCT 2 NULLS 0 HISTOGRAM (1, 3, -2);",
+        b"ERROR 22023 at 92: invalid parameter\n",
+    ),
+    (
+        b"CREATE TABLE t (a int4, b text, c bool);\nSTATISTICS t.a DISTINCT 2 NULLS 0 COMMON (1 5, 1 5);",
+        b"ERROR 22023 at 88: invalid parameter\n",
+    ),
+    (
+        b"CREATE TABLE t (a int4, b text, c bool);\nSTATISTICS t.c DISTINCT 2 NULLS 0 HISTOGRAM (1);",
+        b"ERROR 42804 at 86: wrong type\n",
+    ),
+    (
+        b"CREATE TABLE t (a int4, b text, c bool);\nSTATISTICS t.a DISTINCT 2 NULLS 18446744073709551616;",
+        b"ERROR 22023 at 73: invalid parameter\n",
+    ),
+    (
+        b"CREATE TABLE t (a int4, b text, c bool);\nSTATISTICS t ROWS 1;",
+        b"ERROR 42601 at 60: syntax error\n",
+    ),
 ];
 
 /// A script past a limit: a head, a part so many times, and a tail; and its line.
-const LIMITS: [(&[u8], &[u8], usize, &[u8], &[u8]); 5] = [
+const LIMITS: [(&[u8], &[u8], usize, &[u8], &[u8]); 11] = [
     (
         b"CREATE TABLE t (a int2",
         b", b int2",
@@ -142,6 +259,48 @@ const LIMITS: [(&[u8], &[u8], usize, &[u8], &[u8]); 5] = [
         100_001,
         b"\\.\n",
         b"ERROR 54000 at 73: limit rows, record 100001\n",
+    ),
+    (
+        b"CREATE TABLE t (a int8);\nSELECT * FROM t WHERE a IS NULL",
+        b" AND a IS NULL",
+        32,
+        b";",
+        b"ERROR 54000 at 25: limit conjuncts\n",
+    ),
+    (
+        b"CREATE TABLE t (a int8);\nSELECT * FROM t WHERE a IS NULL",
+        b" OR a IS NULL",
+        256,
+        b";",
+        b"ERROR 54000 at 25: limit atoms\n",
+    ),
+    (
+        b"CREATE TABLE t (a int8);\nSELECT * FROM t WHERE ",
+        b"(",
+        33,
+        b"a IS NULL;",
+        b"ERROR 54000 at 79: limit depth\n",
+    ),
+    (
+        b"CREATE TABLE t (a int8);\nSELECT * FROM t WHERE ",
+        b"NOT ",
+        33,
+        b"a IS NULL;",
+        b"ERROR 54000 at 175: limit depth\n",
+    ),
+    (
+        b"CREATE TABLE t (a text);\nSELECT * FROM t WHERE a = '",
+        b"x",
+        8193,
+        b"';",
+        b"ERROR 54000 at 51: limit text\n",
+    ),
+    (
+        b"CREATE TABLE t (a int8);\nSTATISTICS t.a DISTINCT 1000 NULLS 0 HISTOGRAM (1",
+        b", 1",
+        101,
+        b");",
+        b"ERROR 22023 at 376: invalid parameter\n",
     ),
 ];
 
@@ -271,6 +430,135 @@ Seq Scan on a  (cost=412 rows=3)
 (3 rows)
 "#;
 
+/// Conditions over a table with NULLs, then statistics, which change the estimates and not the rows.
+const CONDITIONS: &[u8] = br#"CREATE TABLE t (a int4, b text, c bool, d int8 NOT NULL);
+COPY t FROM STDIN WITH (FORMAT CSV, NULL '\N');
+1,x,t,10
+\N,y,\N,-20
+3,\N,f,20
+-3,it's,t,0
+2,"",f,9223372036854775807
+\.
+SELECT a FROM t WHERE NOT a = 2;
+SELECT a FROM t WHERE a = NULL;
+SELECT a FROM t WHERE NOT (a = NULL);
+SELECT a FROM t WHERE a <> 1 OR a IS NULL;
+SELECT d FROM t WHERE c;
+SELECT d FROM t WHERE NOT c;
+SELECT d FROM t WHERE c IS NULL OR c = TRUE;
+SELECT * FROM t WHERE b = 'it''s';
+SELECT a, d FROM t WHERE b < 'x' AND b <> '';
+SELECT a FROM t WHERE a |=| 3 AND a IS NOT NULL;
+SELECT a FROM t u WHERE u.a = a;
+SELECT a FROM t WHERE a = 1 AND a = 2;
+SELECT a FROM t WHERE a = d OR '2' = a OR 3 <= a;
+SELECT a FROM t WHERE a = d;
+SELECT a FROM t WHERE d > 9223372036854775806 AND TRUE;
+SELECT a FROM t WHERE NULL;
+SELECT a FROM t WHERE 1 = 1;
+SELECT a FROM t WHERE NOT (a < 3 AND c);
+SELECT d FROM t WHERE d = 20 AND a = 3 AND NOT b IS NOT NULL;
+STATISTICS t ROWS 1000 PAGES 10;
+SELECT a FROM t WHERE a > 1;
+STATISTICS t.a DISTINCT 4 NULLS 200000 COMMON (1 300000, -3 100000) HISTOGRAM (-5, 0, '10');
+SELECT a FROM t WHERE a > 1;
+SELECT a FROM t WHERE a = -3 AND b IS NOT NULL;
+STATISTICS t.a DISTINCT 1000000000 NULLS 1000000;
+STATISTICS t ROWS 1 PAGES 1000000000;
+COPY t FROM STDIN WITH (FORMAT CSV, NULL '\N');
+7,z,t,7
+\.
+SELECT d FROM t WHERE a >= 3 AND NOT NOT (d |<=| '20')
+"#;
+
+const CONDITIONS_REPLIES: &[u8] = br#"Seq Scan on t  (cost=425 rows=4)
+1
+3
+-3
+(3 rows)
+Seq Scan on t  (cost=425 rows=1)
+(0 rows)
+Seq Scan on t  (cost=425 rows=1)
+(0 rows)
+Seq Scan on t  (cost=430 rows=5)
+\N
+3
+-3
+2
+(4 rows)
+Seq Scan on t  (cost=425 rows=3)
+10
+0
+(2 rows)
+Seq Scan on t  (cost=425 rows=3)
+20
+9223372036854775807
+(2 rows)
+Seq Scan on t  (cost=430 rows=2)
+10
+-20
+0
+(3 rows)
+Seq Scan on t  (cost=425 rows=1)
+-3,it's,t,0
+(1 row)
+Seq Scan on t  (cost=430 rows=2)
+-3,0
+(1 row)
+Seq Scan on t  (cost=430 rows=1)
+3
+-3
+(2 rows)
+Seq Scan on t u  (cost=425 rows=5)
+1
+3
+-3
+2
+(4 rows)
+Seq Scan on t  (cost=430 rows=1)
+(0 rows)
+Seq Scan on t  (cost=435 rows=3)
+3
+2
+(2 rows)
+Seq Scan on t  (cost=425 rows=1)
+(0 rows)
+Seq Scan on t  (cost=425 rows=2)
+2
+(1 row)
+Seq Scan on t  (cost=420 rows=1)
+(0 rows)
+Seq Scan on t  (cost=425 rows=5)
+1
+\N
+3
+-3
+2
+(5 rows)
+Seq Scan on t  (cost=430 rows=4)
+3
+2
+(2 rows)
+Seq Scan on t  (cost=435 rows=1)
+20
+(1 row)
+Seq Scan on t  (cost=9000 rows=334)
+3
+2
+(2 rows)
+Seq Scan on t  (cost=9000 rows=100)
+3
+2
+(2 rows)
+Seq Scan on t  (cost=10000 rows=100)
+-3
+(1 row)
+Seq Scan on t  (cost=400000000006 rows=1)
+20
+7
+(2 rows)
+"#;
+
 /// A run and what it must answer.
 #[derive(Drop)]
 struct Case<'a> {
@@ -350,6 +638,8 @@ fn answers_worked_scripts(rt: HostRuntime) -> Result<(), Fail> {
             b"Seq Scan on t u  (cost=404 rows=1)\nx,1,x\n(1 row)\n",
         ),
         Case::answered(THIRTY, THIRTY_REPLIES),
+        Case::answered(CONDITIONS, CONDITIONS_REPLIES),
+        Case::answered(CLASS, CLASS_ROWS),
         Case::refused(THIRD, NO_ROWS, b"ERROR 42703 at 52: no column zz\n"),
     ];
     for case in &cases {

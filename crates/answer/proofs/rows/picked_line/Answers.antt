@@ -1,4 +1,4 @@
-use Rattle.answer.proofs.Picking.{picked_pushed}
+use Rattle.answer.proofs.PickingLemmas.{picked_pushed}
 use Rattle.answer.proofs.rows.picked_line.Goals as goal
 
 pub loop-column-preserved : goal.loop-column-preserved

@@ -1,4 +1,4 @@
-use Rattle.pgplan.proofs.BlockLaws.{end-within}
+use Rattle.pgplan.proofs.BlockLemmas.{end-within}
 use Rattle.pgplan.proofs.define.data.Goals as goal
 
 pub slice_bounds-fill-end : goal.slice_bounds-fill-end

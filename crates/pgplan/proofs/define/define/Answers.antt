@@ -1,7 +1,7 @@
 use Rattle.std.proofs.Common.{arith, ap, length}
 use Rattle.std.proofs.lemmas.Result.{err_from_is_err_and, IfErr-weaker, IfOk-weaker}
 use Rattle.sql_query.specs.Worlds.{world}
-use Rattle.pgplan.proofs.DefineLaws.{read-refused, sound-table, table-told, table-defined, sound-data, data-told, data-defined, low-places}
+use Rattle.pgplan.proofs.DefineLemmas.{read-refused, sizes-defined, sizes-told, statistics-defined, statistics-told, sound-table, table-told, table-defined, sound-data, data-told, data-defined, low-places}
 use Rattle.pgplan.proofs.define.define.Goals as goal
 
 pub returns-in_err-read-clause-refused : goal.returns-in_err-read-clause-refused
@@ -73,3 +73,35 @@ pub returns-clause-refused : goal.returns-clause-refused
 returns-clause-refused g c =
     let w = world c.args.catalog.now c.args.heaps.now.items in
     IfErr-weaker c.data.result _ _ (λ e h. data-told w c.args.text.now c.args.tokens.now c.in_ok-read.read c.in-Copy.table c.in-Copy.start c.in-Copy.is c.in_ok-read.ensures.read e h) c.data.ensures.refused
+
+pub returns-in_err-size-in-Rows-clause-refused : goal.returns-in_err-size-in-Rows-clause-refused
+returns-in_err-size-in-Rows-clause-refused g c =
+    let w = world c.args.catalog.now c.args.heaps.now.items in
+    let p = err_from_is_err_and c.from_residual-in_err-size-in-Rows.result c.from_residual-in_err-size-in-Rows.ensures.1 in
+    rw (p.1, p.2) (
+    sizes-told w c.args.text.now c.args.tokens.now c.in_ok-read.read c.in-Rows.table c.in-Rows.rows c.in-Rows.pages c.in-Rows.is c.in_ok-read.ensures.read
+    c.deref-in-Rows.result.now c.deref-in-Rows.ensures.value c.in_err-size-in-Rows.field-0.0 (c.in_err-size-in-Rows.ensures.refused c.args.heaps.now.items c.args.text.now)
+    )
+
+pub returns-in-Rows-clause-defined : goal.returns-in-Rows-clause-defined
+returns-in-Rows-clause-defined g c =
+    let w = world c.args.catalog.now c.args.heaps.now.items in
+    sizes-defined w c.args.text.now c.args.tokens.now c.in_ok-read.read c.in-Rows.table c.in-Rows.rows c.in-Rows.pages c.in-Rows.is c.in_ok-read.ensures.read
+    (world c.size.new.catalog c.args.heaps.now.items) c.end_of-in-Rows.result c.in_ok-size-in-Rows.ensures.accepted.0 c.in_ok-size-in-Rows.ensures.accepted.1 c.end_of-in-Rows.ensures
+    (c.in_ok-size-in-Rows.ensures.made c.args.heaps.now.items)
+
+pub returns-in_err-describe-in-Column-clause-refused : goal.returns-in_err-describe-in-Column-clause-refused
+returns-in_err-describe-in-Column-clause-refused g c =
+    let w = world c.args.catalog.now c.args.heaps.now.items in
+    let p = err_from_is_err_and c.from_residual-in_err-describe-in-Column.result c.from_residual-in_err-describe-in-Column.ensures.1 in
+    rw (p.1, p.2) (
+    statistics-told w c.args.text.now c.args.tokens.now c.in_ok-read.read c.in-Column.table c.in-Column.col c.in-Column.stats c.in-Column.is c.in_ok-read.ensures.read
+    c.deref-in-Column.result.now c.deref-in-Column.ensures.value c.in_err-describe-in-Column.field-0.0 (c.in_err-describe-in-Column.ensures.refused c.args.heaps.now.items c.args.text.now)
+    )
+
+pub returns-in-Column-clause-defined : goal.returns-in-Column-clause-defined
+returns-in-Column-clause-defined g c =
+    let w = world c.args.catalog.now c.args.heaps.now.items in
+    statistics-defined w c.args.text.now c.args.tokens.now c.in_ok-read.read c.in-Column.table c.in-Column.col c.in-Column.stats c.in-Column.is c.in_ok-read.ensures.read
+    (world c.describe.new.catalog c.args.heaps.now.items) c.end_of-in-Column.result c.in_ok-describe-in-Column.ensures.accepted c.end_of-in-Column.ensures
+    (c.in_ok-describe-in-Column.ensures.made c.args.heaps.now.items)

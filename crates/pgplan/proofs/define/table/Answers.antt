@@ -1,7 +1,7 @@
 use Rattle.std.proofs.Common.{◌∷◌, arith}
 use Rattle.sql_query.specs.Worlds.{world}
-use Rattle.pgplan.proofs.EndLaws.{ends-as-many, ends-told}
-use Rattle.pgplan.proofs.RefusalLaws.{cause-for, refused-told}
+use Rattle.pgplan.proofs.WordEndLemmas.{ends-as-many, ends-told}
+use Rattle.pgplan.proofs.RefusalLemmas.{cause-for, refused-told}
 use Rattle.pgplan.proofs.define.table.Goals as goal
 
 pub refused_table-requires-clause-ends : goal.refused_table-requires-clause-ends

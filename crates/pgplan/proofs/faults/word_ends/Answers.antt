@@ -1,7 +1,7 @@
 use Rattle.std.proofs.Common.{ℕ, List, add-one, ◌+◌, ◌∷◌, ◌++◌, ◌<◌, ◌∙◌, [], ap, sym, length, get_or, take, arith}
 use Rattle.std.proofs.lemmas.List.{get_or_default, take_all, take_more}
 use Rattle.pgplan.specs.Faults.{word_ends as ends_of_words}
-use Rattle.pgplan.proofs.EndLaws.{ends-at, ends-length}
+use Rattle.pgplan.proofs.WordEndLemmas.{ends-at, ends-length}
 use Rattle.pgplan.proofs.faults.word_ends.Goals as goal
 
 pub loop-n-preserved : goal.loop-n-preserved

@@ -1,4 +1,4 @@
-use Rattle.pgplan.proofs.OneReading.{one_read, one_first_fault, read_apart}
+use Rattle.pgplan.proofs.OneReadingLemmas.{one_read, one_first_fault, read_apart}
 use Rattle.pgplan.proofs.laws.one_reading.Goals as goal
 
 pub returns : goal.returns

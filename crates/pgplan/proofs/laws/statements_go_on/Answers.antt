@@ -1,4 +1,4 @@
-use Rattle.pgplan.proofs.Places.{read-behind}
+use Rattle.pgplan.proofs.PlaceLemmas.{read-behind}
 use Rattle.pgplan.proofs.laws.statements_go_on.Goals as goal
 
 pub returns : goal.returns

@@ -3,7 +3,7 @@ use Rattle.std.proofs.lemmas.Result.{err_from_is_err_and}
 use Rattle.heap.specs.Loading.{NamesColumnOf, loaded, records_of}
 use Rattle.sql_query.specs.Worlds.{stored_at, world}
 use Rattle.pgplan.specs.Actions as actions
-use Rattle.pgplan.proofs.StoreLaws.{after-fill, as-many, holds-at, stored-default}
+use Rattle.pgplan.proofs.StoreLemmas.{after-fill, as-many, holds-at, stored-default}
 use Rattle.pgplan.proofs.store.fill.Goals as goal
 
 pub index_mut-heap-requires : goal.index_mut-heap-requires

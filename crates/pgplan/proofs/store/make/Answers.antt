@@ -1,7 +1,7 @@
 use Rattle.std.proofs.Common.{◌≡◌, sym, subst, rules}
 use Rattle.sql_query.specs.Worlds.{IsWorld, world}
 use Rattle.pgplan.specs.Actions as actions
-use Rattle.pgplan.proofs.StoreLaws.{after-make}
+use Rattle.pgplan.proofs.StoreLemmas.{after-make}
 use Rattle.pgplan.proofs.store.make.Goals as goal
 
 pub returns-in-Ok-clause-world : goal.returns-in-Ok-clause-world

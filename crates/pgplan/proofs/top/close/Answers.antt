@@ -1,6 +1,6 @@
 use Rattle.std.proofs.Common.{◌≡◌, Err, rules}
 use Rattle.pgplan.specs.declared.end.End.TheVariants.{Fault}
-use Rattle.pgplan.proofs.TopLaws.{told_fault}
+use Rattle.pgplan.proofs.TopLemmas.{told_fault}
 use Rattle.pgplan.proofs.top.close.Goals as goal
 
 pub returns-in-Err-Fault-clause-line : goal.returns-in-Err-Fault-clause-line

@@ -1,4 +1,4 @@
-use Rattle.pgplan.proofs.TopLaws.{cause_over, has_field, run_over}
+use Rattle.pgplan.proofs.TopLemmas.{cause_over, has_field, run_over}
 use Rattle.pgplan.proofs.top.counted.Goals as goal
 
 pub returns-clause-answers : goal.returns-clause-answers

@@ -2,7 +2,7 @@ use Rattle.std.proofs.Common.{◌≡◌, ℕ, List, [], ◌∷◌, ap, ◌∙◌
 use Rattle.std.specs.String.{string_bytes}
 use Rattle.std.proofs.lemmas.Slice.Eq.{slice_eq-Decides}
 use Rattle.std.proofs.lemmas.Bool.Decides.{Decides-eqb}
-use Rattle.pgplan.proofs.TopLaws.{one_item}
+use Rattle.pgplan.proofs.TopLemmas.{one_item}
 use Rattle.pgplan.proofs.top.is_run.Goals as goal
 
 pub returns-in-len1 : goal.returns-in-len1

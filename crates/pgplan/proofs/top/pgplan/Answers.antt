@@ -1,4 +1,4 @@
-use Rattle.pgplan.proofs.TopLaws.{complete_run, reached_run}
+use Rattle.pgplan.proofs.TopLemmas.{complete_run, reached_run}
 use Rattle.pgplan.proofs.top.pgplan.Goals as goal
 
 pub returns-in-Ok-clause-complete : goal.returns-in-Ok-clause-complete

@@ -1,6 +1,6 @@
 use Rattle.std.proofs.Common.{◌∙◌}
 use Rattle.std.proofs.lemmas.Result.{err_from_is_err_and}
-use Rattle.pgplan.proofs.Scripts.{step_further, stopped}
+use Rattle.pgplan.proofs.ScriptLemmas.{step_further, stopped}
 use Rattle.pgplan.proofs.work.work.Goals as goal
 
 pub returns-in_err-at-clause-ended : goal.returns-in_err-at-clause-ended

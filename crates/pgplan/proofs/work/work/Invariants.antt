@@ -1,5 +1,5 @@
 use Rattle.std.proofs.Common.{◌≡◌, ◌≤◌, ◌-◌, length}
-use Rattle.pgplan.proofs.Scripts.{IsUnderWay}
+use Rattle.pgplan.proofs.ScriptLemmas.{IsUnderWay}
 use Rattle.pgplan.proofs.work.work.Given as goal
 
 abbrev pub invariant-statements : goal.invariant-statements

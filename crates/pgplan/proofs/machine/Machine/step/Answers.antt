@@ -1,9 +1,9 @@
 use Rattle.std.proofs.Common.{◌≡◌, length, arith, sym, subst, ap, ◌∙◌}
 use Rattle.sql_query.specs.Worlds.{world}
 use Rattle.pgplan.specs.Steps.{Refuses, StopsOver}
-use Rattle.pgplan.proofs.Places.{ends-behind}
+use Rattle.pgplan.proofs.PlaceLemmas.{ends-behind}
 use Rattle.std.proofs.lemmas.Result.{IfErr-weaker}
-use Rattle.pgplan.proofs.Stepping.{done-idle, defined-ahead, defined-inside, answered-ahead, answered-inside, stopped-definition, stopped-query}
+use Rattle.pgplan.proofs.SteppingLemmas.{done-idle, defined-ahead, defined-inside, answered-ahead, answered-inside, stopped-definition, stopped-query}
 use Rattle.pgplan.proofs.machine.Machine.step.Goals as goal
 
 pub returns-then-items-eq1-clause-done : goal.returns-then-items-eq1-clause-done

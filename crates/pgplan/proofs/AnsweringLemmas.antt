@@ -27,7 +27,7 @@ use Rattle.pgplan.specs.Ending.{end_of_refusal, end_of_stop}
 use Rattle.pgplan.specs.Accepted.{IsReadOver}
 use Rattle.pgplan.specs.Replies.{Reply, IsReply}
 use Rattle.pgplan.specs.Steps.{IsAnsweredOver, IsBegunOver, StopsOver}
-use Rattle.pgplan.proofs.Queries.{Binds, goes-on, query-fault, fault-plain}
+use Rattle.pgplan.proofs.QueryLemmas.{Binds, goes-on, query-fault, fault-plain}
 
 plain-field : (c : Contents) (f : Fault) → f.rec ≡ 0 → IsFieldOf c f
 plain-field c f none = λ field some. absurd (omega (arith, none, some))
@@ -37,7 +37,8 @@ pub reading-stops : (w : World) (text : List ℕ) (tokens : List Token) (from : 
     begins_ddl (terminals text tokens) ≡ false → IsGrammatical text tokens (Err refused) → Binds w text tokens (Err refused) →
     StopsOver (end_of_refusal refused) w text tokens held held fetched fetched
 reading-stops w text tokens from held fetched (refusal.Fault f) words short some other grammar binds =
-    (query-fault w text tokens f other (goes-on text from tokens words short some) grammar binds, plain-field w.contents f (fault-plain w text tokens f grammar binds), refl, refl)
+    let one : 0 < length tokens = omega (arith, some) in
+    (query-fault w text tokens one f other (goes-on text from tokens words short some) grammar binds, plain-field w.contents f (fault-plain w text tokens one f grammar binds), refl, refl)
 reading-stops w text tokens from held fetched refusal.Memory words short some other grammar binds = inl (refl, refl)
 
 -- the reply to a query by its first scan

@@ -41,7 +41,7 @@ pub prefix-of : (a b : Option (List ℕ)) (xs ys zs : List ℕ) → AppendsPrefi
 prefix-of a b xs ys zs some e = let P : List ℕ → Type 0 = λ l. AppendsPrefix a b l in subst P e (prefix-longer a b xs ys some)
 
 -- a call that stopped
-pub puts-stopped : {E : Type 0} (a b : Option (List ℕ)) (p q : List ℕ) (r : Result (Unit {0}) E) (bytes : List ℕ) → IsErr r → AppendsPrefix a b (p ++ bytes) → Puts a b p q r bytes
+pub puts-stopped : {T E : Type 0} (a b : Option (List ℕ)) (p q : List ℕ) (r : Result T E) (bytes : List ℕ) → IsErr r → AppendsPrefix a b (p ++ bytes) → Puts a b p q r bytes
 puts-stopped a b p q (Ok u) bytes is some = cc
 puts-stopped a b p q (Err e) bytes is some = some
 

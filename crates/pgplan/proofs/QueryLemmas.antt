@@ -1,5 +1,5 @@
 -- What the reading of a SELECT says of a statement that is no definition and is not empty.
-use Rattle.std.proofs.Common.{◌≡◌, ℕ, ◌+◌, ◌<◌, ◌≤◌, Bool, true, false, cond, nat_eq, List, [], ◌∷◌, ◌++◌, length, inl, inr, Ok, Err, Result, refl, sym, ap, ◌∙◌, arith}
+use Rattle.std.proofs.Common.{◌≡◌, ℕ, ◌+◌, ◌<◌, ◌≤◌, Bool, true, false, cond, nat_eq, List, [], ◌∷◌, ◌++◌, length, inl, inr, Ok, Err, Result, refl, sym, ap, subst, ◌∙◌, arith}
 use Rattle.std.proofs.lemmas.Bool.Decides.{nat_tests}
 use Rattle.std.proofs.lemmas.List.{map-append}
 use Rattle.pg_base.specs.declared.limits.TheConstants.{MOST_LEVELS, MOST_SCRIPT_BYTES}
@@ -14,19 +14,22 @@ use Rattle.sql_lex.specs.Words.{AreWords}
 use Rattle.sql_grammar.specs.Terminals.{Terminal, class_of}
 use Rattle.sql_grammar.specs.Table.{is_ending}
 use Rattle.sql_grammar.specs.Reading.{terminal_of, is_end, ends_once}
-use Rattle.sql_grammar.specs.Syntax.{Select, Ending, semicolon, text_end, Statement, empty, create_table, query, copy}
+use Rattle.sql_grammar.specs.Syntax.{Select, Ending, semicolon, text_end, Statement, empty, create_table, query, copy, sizes, column_statistics}
 use Rattle.sql_grammar.specs.Words.{words_of, levels_of}
 use Rattle.sql_grammar.specs.Faults.{IsStatement, IsPrefix, IsAtFault, IsFirstFault, terminals}
 use Rattle.sql_grammar.proofs.StatementWords.{words-are-tokens}
 use Rattle.ddl_reader.specs.Statements.{begins_ddl}
 use Rattle.query_reader.specs.Select.{IsQuery, AreWordsOf, AreSelect, IsGrammatical, IsReadAs}
-use Rattle.query_reader.specs.Binding.{bound}
+use Rattle.query_reader.specs.Binding.{Bound, bound, query_with}
 use Rattle.sql_query.specs.Queries.{Query}
+use Rattle.eq_classes.specs.Holding.{IsTable}
+use Rattle.sql_query.specs.WellBound.{IsWellBound, given_of}
 use Rattle.sql_query.specs.Worlds.{World}
 use Rattle.pgplan.specs.Actions.{answer}
-use Rattle.pgplan.specs.Accepted.{IsReadOver, end_of}
+use Rattle.pgplan.specs.Accepted.{IsReadOver, end_of, token_at}
 use Rattle.pgplan.specs.Faults.{IsFaultOver, in_syntax, in_meaning}
-use Rattle.pgplan.proofs.Bindings.{bound-plain, first-plain}
+use Rattle.pgplan.proofs.BindingLemmas.{bound-plain}
+use Rattle.pgplan.proofs.PlainLemmas.{first-plain}
 
 -- the first word is `;` or the text's end
 abbrev begins_end : List Terminal → Bool
@@ -39,6 +42,8 @@ is-query (empty (semicolon t)) limit ts other goes levels is = let e = ap begins
 is-query (empty (text_end t)) limit ts other goes levels is = let e = ap begins_end is ∙ goes in absurd (cc (e))
 is-query (create_table k t n o c cs m end) limit ts other goes levels is = let e = ap begins_ddl is ∙ other in absurd (cc (e))
 is-query (query q end) limit ts other goes levels is = (q, end, levels, is)
+is-query (sizes k n r p end) limit ts other goes levels is = let e = ap begins_ddl is ∙ other in absurd (cc (e))
+is-query (column_statistics k n c d nulls commons bounds end) limit ts other goes levels is = let e = ap begins_ddl is ∙ other in absurd (cc (e))
 is-query (copy k n null) limit ts other goes levels is = let e = ap begins_ddl is ∙ other in absurd (cc (e))
 
 is-statement : (limit : ℕ) (ts : List Terminal) → IsQuery limit ts → IsStatement limit ts
@@ -103,30 +108,47 @@ goes-on text from [] words short some = refl
 goes-on text from (t ∷ ts) words short some =
     goes-by (is_end text t) (length ts) (ends_once text ts) (omega (arith, some)) (words-are-tokens text from (t ∷ ts) words (omega (arith, short))).last
 
-meant-ok : (r : Result Query Fault) (read : Query) → IsReadAs r (Ok read) → r ≡ Ok read
-meant-ok (Ok p) read is = ap Ok (sym is)
+-- what is read where this is meant is the query of it with its own classes, and a fault that is told is its fault
+pub meant-ok : (r : Result Bound Fault) (read : Query) → IsReadAs r (Ok read) → (b : Bound) × (r ≡ Ok b) × (read ≡ query_with read.classes b)
+meant-ok (Ok b) read is = (b, refl, is)
 meant-ok (Err f) read is = absurd is
 
-meant-fault : (r : Result Query Fault) (f : Fault) → IsReadAs r (Err (refusal.Fault f)) → r ≡ Err f
-meant-fault (Ok p) f is = absurd is
+meant-fault : (r : Result Bound Fault) (f : Fault) → IsReadAs r (Err (refusal.Fault f)) → r ≡ Err f
+meant-fault (Ok b) f is = absurd is
 meant-fault (Err told) f is = ap Err (sym is)
 
 -- what is read of a SELECT is what its statement means
 abbrev pub Binds : World → List ℕ → List Token → Result Query Refusal → Type 0
-Binds w text tokens r = (q : Select) (end : Ending) → AreWordsOf q end text tokens → IsReadAs (bound w.contents q) r
+Binds w text tokens r = (q : Select) (end : Ending) (start : Token) (later : List Token) → tokens ≡ start ∷ later → AreWordsOf q end text tokens → IsReadAs (bound w.contents start q) r
 
-pub read-query : (w : World) (text : List ℕ) (tokens : List Token) (p : Query) → AreSelect text tokens → Binds w text tokens (Ok p) → IsReadOver w text tokens (answer p) (end_of tokens)
-read-query w text tokens p (q, end, spelled) binds = record {
-  statement = query q end;
-  spelled = spelled;
-  does = (p, meant-ok (bound w.contents q) p (binds q end spelled), refl, refl);
-}
+-- the words of a statement begin with its first token
+first-token : (tokens : List Token) → 0 < length tokens → (later : List Token) × (tokens ≡ token_at tokens 0 ∷ later)
+first-token [] some = absurd (omega (arith, some))
+first-token (t ∷ ts) some = (ts, refl)
 
-pub query-fault : (w : World) (text : List ℕ) (tokens : List Token) (f : Fault) → begins_ddl (terminals text tokens) ≡ false → begins_end (terminals text tokens) ≡ false →
-    IsGrammatical text tokens (Err (refusal.Fault f)) → Binds w text tokens (Err (refusal.Fault f)) → IsFaultOver w text tokens f
-query-fault w text tokens f other goes (inl g) binds = in_syntax (statement-fault text tokens f other goes g)
-query-fault w text tokens f other goes (inr (q, end, spelled)) binds = in_meaning (query q end) spelled (meant-fault (bound w.contents q) f (binds q end spelled))
+module _ (w : World) (text : List ℕ) (tokens : List Token) (some : 0 < length tokens) where
+  binds-first : (r : Result Query Refusal) (q : Select) (end : Ending) → Binds w text tokens r → AreWordsOf q end text tokens → IsReadAs (bound w.contents (token_at tokens 0) q) r
+  binds-first r q end binds spelled = let (later, is) = first-token tokens some in binds q end (token_at tokens 0) later is spelled
 
-pub fault-plain : (w : World) (text : List ℕ) (tokens : List Token) (f : Fault) → IsGrammatical text tokens (Err (refusal.Fault f)) → Binds w text tokens (Err (refusal.Fault f)) → f.rec ≡ 0
-fault-plain w text tokens f (inl g) binds = first-plain IsQuery text tokens f g
-fault-plain w text tokens f (inr (q, end, spelled)) binds = bound-plain w.contents q f (meant-fault (bound w.contents q) f (binds q end spelled))
+  -- a query that is read has no ORDER BY
+  pub read-unordered : (p : Query) → AreSelect text tokens → Binds w text tokens (Ok p) → p.order ≡ []
+  read-unordered p (q, end, spelled) binds =
+      let (b, means, is) = meant-ok (bound w.contents (token_at tokens 0) q) p (binds-first (Ok p) q end binds spelled) in
+      ap (λ (x : Query). x.order) is
+
+  pub read-query : (p : Query) → AreSelect text tokens → Binds w text tokens (Ok p) → IsWellBound w.contents p → IsReadOver w text tokens (answer p) (end_of tokens)
+  read-query p (q, end, spelled) binds well =
+      let (b, means, is) = meant-ok (bound w.contents (token_at tokens 0) q) p (binds-first (Ok p) q end binds spelled) in
+      let table : IsTable (given_of w.contents (query_with p.classes b)) p.classes = subst (λ (x : Query). IsTable (given_of w.contents x) p.classes) is well.classes in
+      record { statement = query q end; spelled = spelled; does = (b, means, (p.classes, table, ap answer is), refl) }
+
+  pub query-fault : (f : Fault) → begins_ddl (terminals text tokens) ≡ false → begins_end (terminals text tokens) ≡ false →
+      IsGrammatical text tokens (Err (refusal.Fault f)) → Binds w text tokens (Err (refusal.Fault f)) → IsFaultOver w text tokens f
+  query-fault f other goes (inl g) binds = in_syntax (statement-fault text tokens f other goes g)
+  query-fault f other goes (inr (q, end, spelled)) binds =
+      in_meaning (query q end) spelled (meant-fault (bound w.contents (token_at tokens 0) q) f (binds-first (Err (refusal.Fault f)) q end binds spelled))
+
+  pub fault-plain : (f : Fault) → IsGrammatical text tokens (Err (refusal.Fault f)) → Binds w text tokens (Err (refusal.Fault f)) → f.rec ≡ 0
+  fault-plain f (inl g) binds = first-plain IsQuery text tokens f g
+  fault-plain f (inr (q, end, spelled)) binds =
+      bound-plain w.contents (token_at tokens 0) q f (meant-fault (bound w.contents (token_at tokens 0) q) f (binds-first (Err (refusal.Fault f)) q end binds spelled))

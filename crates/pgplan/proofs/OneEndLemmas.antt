@@ -1,5 +1,5 @@
--- Data end at one place, and a table is refused for one cause.
-use Rattle.std.proofs.Common.{◌≡◌, ℕ, ◌+◌, ◌<◌, inl, inr, List, [], ◌∷◌, ◌++◌, length, take, drop, get_or, true, false, refl, sym, ap, ◌∙◌, arith, subst, Contains, slice_index_or, Some, None, Result, Ok, Err}
+-- Data end at one place, and a table and statistics are refused for one cause.
+use Rattle.std.proofs.Common.{◌≡◌, ℕ, ◌+◌, ◌<◌, inl, inr, Bool, List, [], ◌∷◌, ◌++◌, length, take, drop, get_or, true, false, refl, sym, ap, ◌∙◌, arith, subst, Contains, slice_index_or, Some, None, Result, Ok, Err}
 use Rattle.std.proofs.lemmas.Bool.{cases_lt}
 use Rattle.std.proofs.lemmas.List.{get_or-take, get_or_default, length-take, take-take}
 use Rattle.std.proofs.lemmas.List.Elements.{All-head, All-tail}
@@ -7,12 +7,13 @@ use Rattle.pg_base.specs.declared.faults.Fault.{Fault}
 use Rattle.sql_grammar.specs.CopyLine.{IsDataStart}
 use Rattle.catalog.specs.Contents.{Contents}
 use Rattle.pg_base.specs.Names.{AreDistinct, IsFirstRepeat}
-use Rattle.catalog.specs.Tables.{IsAcceptable, IsRefusal}
+use Rattle.catalog.specs.Statistics.{AreAllowed, IsFirstRefused, Statistics, is_count, is_refused}
+use Rattle.catalog.specs.Tables.{IsAcceptable, IsRefusal, IsSizeRefusal, IsStatisticsRefusal}
 use Rattle.catalog.specs.declared.fault.CatalogFault.{CatalogFault}
 use Rattle.catalog.specs.declared.fault.CatalogFault.TheVariants.{NameTaken, ColumnTwice, TooMany, BadNumber, Memory}
 use Rattle.catalog.proofs.NameLaws.{fresh}
 use Rattle.ddl_reader.specs.Block.{HaveNoMark, is_mark, size_of, lines_of, IsBlockEnd}
-use Rattle.pgplan.specs.Faults.{table_fault}
+use Rattle.pgplan.specs.Faults.{number_fault, table_fault}
 
 -- a line is a mark or none
 marked : (a b : List ℕ) → is_mark a ≡ true → is_mark b ≡ false → a ≡ b → ⊥
@@ -105,3 +106,61 @@ no_refusal c name names at ends (ColumnTwice p) f a h i = repeats names p h.1 a.
 no_refusal c name names at ends TooMany f a h i = omega (arith, h.2, a.room)
 no_refusal c name names at ends (BadNumber p) f a h i = absurd h
 no_refusal c name names at ends Memory f a h i = no-fault f i
+
+both_ways : (b : Bool) → b ≡ true → b ≡ false → ⊥
+both_ways b p q = let wrong : true ≡ false = sym p ∙ q in cc
+
+one_number : (at : List ℕ) (p q : ℕ) (f g : Fault) → p ≡ q → number_fault (BadNumber p) at ≡ Some f → number_fault (BadNumber q) at ≡ Some g → f ≡ g
+one_number at p q f g same i j = some-one f g (sym i ∙ (ap (λ n. number_fault (BadNumber n) at) same ∙ j))
+
+one_size : (rows pages p q : ℕ) → IsSizeRefusal rows pages (BadNumber p) → IsSizeRefusal rows pages (BadNumber q) → p ≡ q
+one_size rows pages p q (inl (a, x)) (inl (b, y)) = a ∙ sym b
+one_size rows pages p q (inl (a, x)) (inr (b, y, z)) = absurd (both_ways (is_count rows) y x)
+one_size rows pages p q (inr (a, x, z)) (inl (b, y)) = absurd (both_ways (is_count rows) x y)
+one_size rows pages p q (inr (a, x, z)) (inr (b, y, u)) = a ∙ sym b
+
+one_place : (s : Statistics) (p q : ℕ) → IsFirstRefused s p → IsFirstRefused s q → p ≡ q
+one_place s p q h k = elim (cases_lt p q) [
+  | inl lt ↦ absurd (both_ways (is_refused s p) h.refused (k.before p lt))
+  | inr le ↦ elim (cases_lt q p) [ inl lt ↦ absurd (both_ways (is_refused s q) k.refused (h.before q lt)) | inr ge ↦ omega (arith, le, ge) ]
+]
+
+-- the numbers of a table's sizes are refused at one place
+pub one_size_refusal : (rows pages : ℕ) (at : List ℕ) (d e : CatalogFault) (f g : Fault) → IsSizeRefusal rows pages d → IsSizeRefusal rows pages e → number_fault d at ≡ Some f → number_fault e at ≡ Some g → f ≡ g
+one_size_refusal rows pages at (BadNumber p) (BadNumber q) f g h k i j = one_number at p q f g (one_size rows pages p q h k) i j
+one_size_refusal rows pages at (BadNumber p) NameTaken f g h k i j = absurd k
+one_size_refusal rows pages at (BadNumber p) (ColumnTwice q) f g h k i j = absurd k
+one_size_refusal rows pages at (BadNumber p) TooMany f g h k i j = absurd k
+one_size_refusal rows pages at (BadNumber p) Memory f g h k i j = absurd k
+one_size_refusal rows pages at NameTaken e f g h k i j = absurd h
+one_size_refusal rows pages at (ColumnTwice p) e f g h k i j = absurd h
+one_size_refusal rows pages at TooMany e f g h k i j = absurd h
+one_size_refusal rows pages at Memory e f g h k i j = absurd h
+
+-- so are the statistics of a column
+pub one_statistics_refusal : (s : Statistics) (at : List ℕ) (d e : CatalogFault) (f g : Fault) → IsStatisticsRefusal s d → IsStatisticsRefusal s e → number_fault d at ≡ Some f → number_fault e at ≡ Some g → f ≡ g
+one_statistics_refusal s at (BadNumber p) (BadNumber q) f g h k i j = one_number at p q f g (one_place s p q h k) i j
+one_statistics_refusal s at (BadNumber p) NameTaken f g h k i j = absurd k
+one_statistics_refusal s at (BadNumber p) (ColumnTwice q) f g h k i j = absurd k
+one_statistics_refusal s at (BadNumber p) TooMany f g h k i j = absurd k
+one_statistics_refusal s at (BadNumber p) Memory f g h k i j = absurd k
+one_statistics_refusal s at NameTaken e f g h k i j = absurd h
+one_statistics_refusal s at (ColumnTwice p) e f g h k i j = absurd h
+one_statistics_refusal s at TooMany e f g h k i j = absurd h
+one_statistics_refusal s at Memory e f g h k i j = absurd h
+
+-- sizes and statistics that are taken are not refused
+pub no_size_refusal : (rows pages : ℕ) (e : CatalogFault) → is_count rows ≡ true → is_count pages ≡ true → IsSizeRefusal rows pages e → ⊥
+no_size_refusal rows pages (BadNumber p) some more (inl (at, bad)) = both_ways (is_count rows) some bad
+no_size_refusal rows pages (BadNumber p) some more (inr (at, good, bad)) = both_ways (is_count pages) more bad
+no_size_refusal rows pages NameTaken some more h = h
+no_size_refusal rows pages (ColumnTwice p) some more h = h
+no_size_refusal rows pages TooMany some more h = h
+no_size_refusal rows pages Memory some more h = h
+
+pub no_statistics_refusal : (s : Statistics) (e : CatalogFault) → AreAllowed s → IsStatisticsRefusal s e → ⊥
+no_statistics_refusal s (BadNumber p) allowed h = both_ways (is_refused s p) h.refused (allowed p)
+no_statistics_refusal s NameTaken allowed h = h
+no_statistics_refusal s (ColumnTwice p) allowed h = h
+no_statistics_refusal s TooMany allowed h = h
+no_statistics_refusal s Memory allowed h = h

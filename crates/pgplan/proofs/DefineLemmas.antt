@@ -1,7 +1,10 @@
 -- A definition that is read: what it does, or why it is refused.
-use Rattle.std.proofs.Common.{◌≡◌, ◌≤◌, ◌^◌, ℕ, Bool, true, false, cond, List, [], ◌∷◌, Vec, Global, length, slice_range, drop, get_or, Option, Some, None, Result, Ok, Err, All, refl, arith, ap, subst, ◌∙◌, inl, inr}
+use Rattle.std.proofs.Common.{◌≡◌, ◌≤◌, ◌^◌, ℕ, Bool, true, false, cond, List, [], ◌∷◌, Vec, Global, length, slice_range, drop, get_or, Option, Some, None, Result, Ok, Err, All, refl, sym, arith, ap, subst, ◌∙◌, inl, inr}
 use Rattle.std.specs.Str.{bytes_eq}
+use Rattle.pg_base.specs.declared.numbers.ColNo.{ColNo}
 use Rattle.pg_base.specs.declared.numbers.TableNo.{TableNo}
+use Rattle.pg_base.specs.declared.faults.Code.{Code}
+use Rattle.pg_base.specs.declared.faults.Code.TheVariants.{S2, S3}
 use Rattle.pg_base.specs.declared.faults.Fault.{Fault}
 use Rattle.pg_base.specs.declared.limits.TheConstants.{MOST_COLUMNS, MOST_SCRIPT_BYTES}
 use Rattle.pg_base.specs.declared.faults.Refusal.{Refusal}
@@ -9,21 +12,28 @@ use Rattle.pg_base.specs.declared.faults.Refusal.TheVariants as refusal
 use Rattle.pg_value.specs.declared.columns.Column.{Column}
 use Rattle.pg_value.specs.declared.value.SqlType.{SqlType}
 use Rattle.sql_lex.specs.declared.tokens.Token.{Token}
-use Rattle.sql_grammar.specs.Terminals.{token_of}
-use Rattle.sql_grammar.specs.Syntax.{Statement, empty, create_table, query, copy}
+use Rattle.sql_grammar.specs.Terminals.{Ident, Said, token_of}
+use Rattle.sql_grammar.specs.Syntax.{Lit, Statement, empty, create_table, query, copy, sizes, column_statistics}
 use Rattle.sql_grammar.specs.Faults.{terminals, bytes_of}
 use Rattle.sql_grammar.specs.CopyLine.{IsDataStart}
-use Rattle.catalog.specs.Contents.{Contents, IsTable}
-use Rattle.catalog.specs.Tables.{IsAcceptable, table_named}
+use Rattle.catalog.specs.Contents.{Contents, IsTable, table_at}
+use Rattle.catalog.specs.Tables.{IsAcceptable, column_named, table_named}
+use Rattle.catalog.specs.Entries.{statistics}
+use Rattle.catalog.specs.Indexes.{type_at}
+use Rattle.catalog.specs.Statistics.{AreAllowed, is_count}
+use Rattle.catalog.specs.declared.statistics.ColumnStats.{ColumnStats}
 use Rattle.ddl_reader.specs.declared.ddl.Ddl.{Ddl}
-use Rattle.ddl_reader.specs.declared.ddl.Ddl.TheVariants.{Table, Copy}
+use Rattle.ddl_reader.specs.declared.ddl.Ddl.TheVariants.{Table, Rows, Column as Column', Copy}
 use Rattle.ddl_reader.specs.declared.ddl.Read.{Read}
 use Rattle.ddl_reader.specs.Readings.{definition, reading}
 use Rattle.ddl_reader.specs.Types.{type_named}
-use Rattle.ddl_reader.specs.Columns.{Written, written, Bound, bound, bound_by, before_all, bound_all, further}
-use Rattle.ddl_reader.specs.Tables.{table, data_for, Reading, table_reading, limited, table_of, data_of, data_after}
+use Rattle.ddl_reader.specs.Columns.{Written, written, Bound, bound, bound_by, bound_all, further}
+use Rattle.ddl_reader.specs.Lists.{before_all, bound_each}
+use Rattle.ddl_reader.specs.Statistics.{CommonWords, common_value, known, table_of_name, column_of_name, table_statistics, statistics_of, column_statistics_of, commons_of, bounds_of}
+use Rattle.expr_reader.specs.Literals.{typed_value}
+use Rattle.ddl_reader.specs.Tables.{table, sizes_for, statistics_for, data_for, Reading, table_reading, limited, table_of, data_of, data_after}
 use Rattle.pg_value.specs.Fields.{null_text}
-use Rattle.ddl_reader.specs.Soundness.{IsSound, IsSoundTable}
+use Rattle.ddl_reader.specs.Soundness.{AreSoundSizes, AreSoundStatistics, IsSound, IsSoundTable}
 use Rattle.ddl_reader.specs.Block.{IsBlockEnd}
 use Rattle.ddl_reader.specs.Statements.{begins_ddl, Means, IsMeaning, IsDdlFault, IsDdlRefusal}
 use Rattle.fault_line.specs.Tells.{IsFieldOf}
@@ -32,77 +42,112 @@ use Rattle.heap.specs.Stored.{Stored}
 use Rattle.sql_query.specs.Worlds.{World, stored_at}
 use Rattle.pgplan.specs.declared.end.End.{End}
 use Rattle.pgplan.specs.declared.end.End.TheVariants as ends
-use Rattle.pgplan.specs.Actions.{Action, after, make, fill}
+use Rattle.pgplan.specs.Actions.{Action, after, make, size, describe, fill}
 use Rattle.pgplan.specs.Ending.{end_of_refusal}
 use Rattle.pgplan.specs.Faults.{IsRefused, IsMeaningFault, IsFaultOver, in_syntax, in_meaning}
 use Rattle.pgplan.specs.Accepted.{end_of, Carries, Does}
 use Rattle.pgplan.specs.Replies.{IsReply, no_reply}
 use Rattle.pgplan.specs.Steps.{IsDefined, Refuses, RefusesDefinition}
+use Rattle.pgplan.proofs.PlainLemmas.{IsPlain, next-plain, typed-plain}
 
 -- faults of words, of syntax and of names are in no record of data
 no-field : (c : Contents) (f : Fault) → f.rec ≡ 0 → IsFieldOf c f
 no-field c f none = λ field some. absurd (omega (arith, none, some))
 
-abbrev rec-of : {A : Type 0} → Result A Fault → ℕ
-rec-of (Ok v) = 0
-rec-of (Err f) = f.rec
+type-plain : (o : Option SqlType) (w : Written) → IsPlain (bound_by o w)
+type-plain None w = refl
+type-plain (Some t) w = tt
 
-bound-plain : (o : Option SqlType) (w : Written) → rec-of (bound_by o w) ≡ 0
-bound-plain None w = refl
-bound-plain (Some t) w = refl
-
-before-plain : (r : Result Bound Fault) (rs : Result (List Bound) Fault) → rec-of r ≡ 0 → rec-of rs ≡ 0 → rec-of (before_all r rs) ≡ 0
+before-plain : {B : Type 0} (r : Result B Fault) (rs : Result (List B) Fault) → IsPlain r → IsPlain rs → IsPlain (before_all r rs)
 before-plain (Err f) rs one more = one
 before-plain (Ok b) (Err f) one more = more
-before-plain (Ok b) (Ok bs) one more = refl
+before-plain (Ok b) (Ok bs) one more = tt
 
-columns-plain : (ws : List Written) → rec-of (bound_all ws) ≡ 0
-columns-plain [] = refl
-columns-plain (w ∷ ws) = before-plain (bound w) (bound_all ws) (bound-plain (type_named w.kind) w) (columns-plain ws)
+each-plain : {A B : Type 0} (bind : A → Result B Fault) (xs : List A) → ((x : A) → IsPlain (bind x)) → IsPlain (bound_each bind xs)
+each-plain bind [] h = tt
+each-plain bind (x ∷ xs) h = before-plain (bind x) (bound_each bind xs) (h x) (each-plain bind xs h)
 
-limited-plain : (m : Reading) (left : List Bound) → rec-of (limited m left) ≡ 0
-limited-plain m [] = refl
+columns-plain : (ws : List Written) → IsPlain (bound_all ws)
+columns-plain ws = each-plain bound ws (λ w. type-plain (type_named w.kind) w)
+
+limited-plain : (m : Reading) (left : List Bound) → IsPlain (limited m left)
+limited-plain m [] = tt
 limited-plain m (b ∷ left) = refl
 
-table-plain : (name : List ℕ) (token : Token) (m : Result (List Bound) Fault) → rec-of m ≡ 0 → rec-of (table_of name token m) ≡ 0
+table-plain : (name : List ℕ) (token : Token) (m : Result (List Bound) Fault) → IsPlain m → IsPlain (table_of name token m)
 table-plain name token (Err f) none = none
 table-plain name token (Ok bs) none = limited-plain (table_reading name token bs) (drop MOST_COLUMNS bs)
 
-either-plain : (b : Bool) (m : Reading) (f : Fault) → f.rec ≡ 0 → rec-of (cond b (Ok m) (Err f)) ≡ 0
-either-plain true m f none = refl
+either-plain : (b : Bool) (m : Reading) (f : Fault) → f.rec ≡ 0 → IsPlain (cond b (Ok m) (Err f))
+either-plain true m f none = tt
 either-plain false m f none = none
 
-data-plain : (o : Option TableNo) (name_at null_at : Token) (null : List ℕ) (start : ℕ) → rec-of (data_of o name_at null null_at start) ≡ 0
+data-plain : (o : Option TableNo) (name_at null_at : Token) (null : List ℕ) (start : ℕ) → IsPlain (data_of o name_at null null_at start)
 data-plain None name_at null_at null start = refl
 data-plain (Some t) name_at null_at null start = either-plain (bytes_eq null null_text) _ _ refl
 
-after-plain : (text : List ℕ) (end : ℕ) (o : Option TableNo) (name_at null_at : Token) (null : List ℕ) (start : Result ℕ Fault) → IsDataStart text end start → rec-of (data_after o name_at null null_at start) ≡ 0
+after-plain : (text : List ℕ) (end : ℕ) (o : Option TableNo) (name_at null_at : Token) (null : List ℕ) (start : Result ℕ Fault) → IsDataStart text end start → IsPlain (data_after o name_at null null_at start)
 after-plain text end o name_at null_at null (Err f) begins = ap (λ (g : Fault). g.rec) begins.1
 after-plain text end o name_at null_at null (Ok start) begins = data-plain o name_at null_at null start
 
-means-plain : (cat : Contents) (text : List ℕ) (x : Statement) (r : Result Reading Fault) → Means cat text x r → rec-of r ≡ 0
+-- the names and literals of STATISTICS
+known-plain : {A : Type 0} (code : Code) (token : Token) (o : Option A) → IsPlain (known code token o)
+known-plain code token None = refl
+known-plain code token (Some x) = tt
+
+name-plain : (cat : Contents) (n : Ident) → IsPlain (table_of_name cat n)
+name-plain cat n = known-plain S2 (token_of n) (table_named cat (bytes_of n))
+
+column-name-plain : (cat : Contents) (t : TableNo) (n : Ident) → IsPlain (column_of_name cat t n)
+column-name-plain cat t n = known-plain S3 (token_of n) (column_named cat t (bytes_of n))
+
+sizes-plain : (cat : Contents) (n : Ident) (rows pages : Said) → IsPlain (table_statistics cat n rows pages)
+sizes-plain cat n rows pages = next-plain (table_of_name cat n) _ (name-plain cat n) (λ t. tt)
+
+common-plain : (t : SqlType) (w : CommonWords) → IsPlain (common_value t w)
+common-plain t w = next-plain (typed_value t w.0) _ (typed-plain t w.0) (λ v. tt)
+
+values-plain : (t : SqlType) (of : TableNo) (col : ColNo) (distinct nulls : Said) (commons : List CommonWords) (bounds : List Lit) → IsPlain (statistics_of t of col distinct nulls commons bounds)
+values-plain t of col distinct nulls commons bounds =
+    next-plain (bound_each (common_value t) commons) _ (each-plain (common_value t) commons (common-plain t))
+    (λ values. next-plain (bound_each (typed_value t) bounds) _ (each-plain (typed_value t) bounds (typed-plain t)) (λ limits. tt))
+
+statistics-plain : (cat : Contents) (n c : Ident) (distinct nulls : Said) (commons : List CommonWords) (bounds : List Lit) → IsPlain (column_statistics_of cat n c distinct nulls commons bounds)
+statistics-plain cat n c distinct nulls commons bounds =
+    next-plain (table_of_name cat n) _ (name-plain cat n)
+    (λ t. next-plain (column_of_name cat t c) _ (column-name-plain cat t c) (λ col. values-plain (type_at (table_at cat t).columns col) t col distinct nulls commons bounds))
+
+means-plain : (cat : Contents) (text : List ℕ) (x : Statement) (r : Result Reading Fault) → Means cat text x r → IsPlain r
 means-plain cat text (empty e) r means = absurd means
 means-plain cat text (query q e) r means = absurd means
-means-plain cat text (create_table k t n o c cs m e) r means = ap rec-of means ∙ table-plain (bytes_of n) (token_of n) (bound_all (written c ∷ further cs)) (columns-plain (written c ∷ further cs))
-means-plain cat text (copy k n null) r (start, begins, means) = ap rec-of means ∙ after-plain text k.stop.end (table_named cat (bytes_of n)) (token_of n) null.token null.value start begins
+means-plain cat text (create_table k t n o c cs m e) r means = subst IsPlain (sym means) (table-plain (bytes_of n) (token_of n) (bound_all (written c ∷ further cs)) (columns-plain (written c ∷ further cs)))
+means-plain cat text (sizes k n r p e) m means = subst IsPlain (sym means) (sizes-plain cat n r p)
+means-plain cat text (column_statistics k n c d nulls commons bounds e) r means = subst IsPlain (sym means) (statistics-plain cat n c d nulls (commons_of commons) (bounds_of bounds))
+means-plain cat text (copy k n null) r (start, begins, means) = subst IsPlain (sym means) (after-plain text k.stop.end (table_named cat (bytes_of n)) (token_of n) null.token null.value start begins)
 
 module _ (w : World) (text : List ℕ) (tokens : List Token) where
-  names-fault : (x : Statement) (f : Fault) → Means w.contents text x (Err f) → IsMeaningFault w text x f
+  names-fault : (x : Statement) (f : Fault) → Means w.contents text x (Err f) → IsMeaningFault w text tokens x f
   names-fault (empty e) f means = absurd means
   names-fault (query q e) f means = absurd means
   names-fault (create_table k t n o c cs m e) f means = inl means
+  names-fault (sizes k n r p e) f means = inl means
+  names-fault (column_statistics k n c d nulls commons bounds e) f means = inl means
   names-fault (copy k n null) f means = inl means
 
-  carried-fault : (x : Statement) (r : Reading) (f : Fault) → Means w.contents text x (Ok r) → IsRefused w text r.definition r.at f → IsMeaningFault w text x f
+  carried-fault : (x : Statement) (r : Reading) (f : Fault) → Means w.contents text x (Ok r) → IsRefused w text r.definition r.at f → IsMeaningFault w text tokens x f
   carried-fault (empty e) r f means because = absurd means
   carried-fault (query q e) r f means because = absurd means
   carried-fault (create_table k t n o c cs m e) r f means because = inr (r, means, because)
+  carried-fault (sizes k n m p e) r f means because = inr (r, means, because)
+  carried-fault (column_statistics k n c d nulls commons bounds e) r f means because = inr (r, means, because)
   carried-fault (copy k n null) r f means because = inr (r, means, because)
 
   does : (x : Statement) (r : Reading) (action : Action) (next : ℕ) → Means w.contents text x (Ok r) → Carries w text tokens r.definition action next → Does w text tokens x action next
   does (empty e) r action next means carries = absurd means
   does (query q e) r action next means carries = absurd means
   does (create_table k t n o c cs m e) r action next means carries = (r, means, carries)
+  does (sizes k n m p e) r action next means carries = (r, means, carries)
+  does (column_statistics k n c d nulls commons bounds e) r action next means carries = (r, means, carries)
   does (copy k n null) r action next means carries = (r, means, carries)
 
   refused-by : (f : Fault) → IsDdlFault w.contents text tokens f true → IsFaultOver w text tokens f × IsFieldOf w.contents f
@@ -181,3 +226,33 @@ module _ (w : World) (text : List ℕ) (tokens : List Token) (v : Read) where
 
       pub data-defined : (w' : World) (next end : ℕ) (s : Stored) → IsBlockEnd text start end next → loaded (stored_at w t) (records_of (slice_range text start end)) ≡ Ok s → w' ≡ after w (fill t s) → IsDefined w w' text tokens next
       data-defined w' next end s block ok filled = defined-as w text tokens w' _ (fill t s) next data-means (end, s, block, ok, refl) refl filled
+
+  -- the sizes of a table that were read
+  module _ (t : TableNo) (rows pages : ℕ) (is : v.ddl ≡ Rows t rows pages) where
+    pub sound-sizes : IsSound w.contents text (reading v) → AreSoundSizes w.contents text t v.at.items
+    sound-sizes sound = subst (IsSound w.contents text) (seen v (Rows t rows pages) is) sound
+
+    module _ (m : IsMeaning w.contents text tokens (Ok (reading v))) where
+      sizes-means : IsMeaning w.contents text tokens (Ok (record { definition = sizes_for t rows pages; at = v.at.items; method = v.method }))
+      sizes-means = subst (λ (r : Reading). IsMeaning w.contents text tokens (Ok r)) (seen v (Rows t rows pages) is) m
+
+      pub sizes-told : (at : List ℕ) → at ≡ v.at.items → (e : End) → RefusesDefinition e w text (sizes_for t rows pages) at → Refuses e w text tokens
+      sizes-told at same e h = definition-refused w text tokens _ e sizes-means (subst (RefusesDefinition e w text (sizes_for t rows pages)) same h)
+
+      pub sizes-defined : (w' : World) (next : ℕ) → is_count rows ≡ true → is_count pages ≡ true → next ≡ end_of tokens → w' ≡ after w (size t rows pages) → IsDefined w w' text tokens next
+      sizes-defined w' next some more at made = defined-as w text tokens w' _ (size t rows pages) next sizes-means (some, more, refl, at) refl made
+
+  -- the statistics of a column that were read
+  module _ (t : TableNo) (col : ColNo) (stats : ColumnStats) (is : v.ddl ≡ Column' t col stats) where
+    pub sound-statistics : IsSound w.contents text (reading v) → AreSoundStatistics w.contents text t col (statistics stats) v.at.items
+    sound-statistics sound = subst (IsSound w.contents text) (seen v (Column' t col stats) is) sound
+
+    module _ (m : IsMeaning w.contents text tokens (Ok (reading v))) where
+      statistics-means : IsMeaning w.contents text tokens (Ok (record { definition = statistics_for t col (statistics stats); at = v.at.items; method = v.method }))
+      statistics-means = subst (λ (r : Reading). IsMeaning w.contents text tokens (Ok r)) (seen v (Column' t col stats) is) m
+
+      pub statistics-told : (at : List ℕ) → at ≡ v.at.items → (e : End) → RefusesDefinition e w text (statistics_for t col (statistics stats)) at → Refuses e w text tokens
+      statistics-told at same e h = definition-refused w text tokens _ e statistics-means (subst (RefusesDefinition e w text (statistics_for t col (statistics stats))) same h)
+
+      pub statistics-defined : (w' : World) (next : ℕ) → AreAllowed (statistics stats) → next ≡ end_of tokens → w' ≡ after w (describe t col (statistics stats)) → IsDefined w w' text tokens next
+      statistics-defined w' next allowed at made = defined-as w text tokens w' _ (describe t col (statistics stats)) next statistics-means (allowed, refl, at) refl made

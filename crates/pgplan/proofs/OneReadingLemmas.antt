@@ -5,33 +5,40 @@ use Rattle.sql_lex.specs.declared.tokens.Token.{Token}
 use Rattle.pg_base.specs.Faults.{syntax_fault}
 use Rattle.sql_lex.proofs.UniqueLaws.{one_list, one_fault, no_fault}
 use Rattle.sql_grammar.specs.Terminals.{token_of}
-use Rattle.sql_grammar.specs.Syntax.{Statement, empty, create_table, query, copy}
+use Rattle.sql_grammar.specs.Syntax.{Statement, empty, create_table, query, copy, sizes, column_statistics}
 use Rattle.sql_grammar.specs.Faults.{bytes_of, IsStatement}
 use Rattle.catalog.specs.Contents.{Contents}
 use Rattle.catalog.specs.Tables.{table_named}
 use Rattle.ddl_reader.specs.Statements.{Means}
-use Rattle.ddl_reader.specs.Tables.{Definition, table, data_for, Reading, data_after}
+use Rattle.ddl_reader.specs.Tables.{Definition, table, sizes_for, statistics_for, data_for, Reading, data_after}
 use Rattle.heap.specs.Loading.{records_of, loaded}
+use Rattle.query_reader.specs.Binding.{Bound, query_with}
+use Rattle.sql_query.specs.WellBound.{given_of}
+use Rattle.eq_classes.proofs.UniqueLemmas.{table_one}
 use Rattle.sql_query.specs.Worlds.{World, stored_at}
 use Rattle.pgplan.specs.Actions.{Action, fill, answer}
-use Rattle.pgplan.specs.Accepted.{Carries, Does, IsReadOver, IsRead}
+use Rattle.pgplan.specs.Accepted.{Answers, Carries, Does, IsReadOver, IsRead}
 use Rattle.pgplan.specs.Faults.{word_ends, rows_fault, IsRefused, IsDefinitionFault, IsMeaningFault, IsFaultOver, in_syntax, in_meaning, IsFault, in_words, after_words}
 use Rattle.pgplan.specs.Replies.{Reply, IsReply}
 use Rattle.sql_grammar.proofs.Trees.{one_tree}
-use Rattle.pgplan.proofs.FirstFaults.{one_first, no_first}
-use Rattle.pgplan.proofs.Ends.{one_end, no_end, one_start, some-one, one_refusal, no_refusal}
+use Rattle.pgplan.proofs.FirstFaultLemmas.{one_first, no_first}
+use Rattle.pgplan.proofs.OneEndLemmas.{one_end, no_end, one_start, some-one, one_refusal, no_refusal, one_size_refusal, one_statistics_refusal, no_size_refusal, no_statistics_refusal}
 
 -- a definition means one thing
 one_meaning : (c : Contents) (text : List ℕ) (x : Statement) (r s : Result Reading Fault) → Means c text x r → Means c text x s → r ≡ s
 one_meaning c text (empty e) r s h k = absurd h
 one_meaning c text (query q e) r s h k = absurd h
 one_meaning c text (create_table a t n o d ds m e) r s h k = h ∙ sym k
+one_meaning c text (sizes k n d p e) r s h l = h ∙ sym l
+one_meaning c text (column_statistics k n d i nulls commons bounds e) r s h l = h ∙ sym l
 one_meaning c text (copy words n null) r s (a, p, h) (b, q, k) =
     h ∙ (ap (λ i. data_after (table_named c (bytes_of n)) (token_of n) null.value null.token i) (one_start text words.stop.end a b p q) ∙ sym k)
 
 module _ (w : World) (text : List ℕ) (tokens : List Token) where
   one_carried : (d : Definition) (a b : Action) (m n : ℕ) → Carries w text tokens d a m → Carries w text tokens d b n → (a ≡ b) × (m ≡ n)
   one_carried (table name names columns) a b m n h k = (h.1 ∙ sym k.1, h.2 ∙ sym k.2)
+  one_carried (sizes_for t rows pages) a b m n h k = (h.2 ∙ sym k.2, h.3 ∙ sym k.3)
+  one_carried (statistics_for t col s) a b m n h k = (h.1 ∙ sym k.1, h.2 ∙ sym k.2)
   one_carried (data_for t start) a b m n (x, s, p, h, i) (y, u, q, k, j) =
       let (end, next) = one_end text start x m y n p q in
       let both : Ok s ≡ Ok u = sym h ∙ (ap (λ e. loaded (stored_at w t) (records_of (slice_range text start e))) end ∙ k) in
@@ -45,12 +52,19 @@ module _ (w : World) (text : List ℕ) (tokens : List Token) where
       let same : s ≡ r = cc in
       one_carried r.definition a b m n i (subst (λ e. Carries w text tokens e.definition b n) same j)
 
+  -- a query has one table of classes
+  one_answer : (p : Bound) (a b : Action) → Answers w p a → Answers w p b → a ≡ b
+  one_answer p a b (t, h, i) (u, k, j) =
+      i ∙ (ap (λ z. answer (query_with z p)) (table_one (given_of w.contents (query_with t p)) t u h k) ∙ sym j)
+
   one_done : (x : Statement) (a b : Action) (m n : ℕ) → Does w text tokens x a m → Does w text tokens x b n → (a ≡ b) × (m ≡ n)
   one_done (empty e) a b m n h k = (h.0 ∙ sym k.0, h.1 ∙ sym k.1)
   one_done (query q e) a b m n (p, h, i, x) (s, k, j, y) =
       let both : Ok p ≡ Ok s = sym h ∙ k in
-      let same : p ≡ s = cc in
-      (i ∙ (ap answer same ∙ sym j), x ∙ sym y)
+      let same : s ≡ p = cc in
+      (one_answer p a b i (subst (λ z. Answers w z b) same j), x ∙ sym y)
+  one_done (sizes c i d p e) a b m n (r, h, u) (s, k, v) = one_defined (sizes c i d p e) a b m n r s h k u v
+  one_done (column_statistics c i d p nulls commons bounds e) a b m n (r, h, u) (s, k, v) = one_defined (column_statistics c i d p nulls commons bounds e) a b m n r s h k u v
   one_done (create_table c t i o d ds z e) a b m n (r, h, p) (s, k, q) = one_defined (create_table c t i o d ds z e) a b m n r s h k p q
   one_done (copy c i null) a b m n (r, h, p) (s, k, q) = one_defined (copy c i null) a b m n r s h k p q
 
@@ -61,6 +75,8 @@ module _ (w : World) (text : List ℕ) (tokens : List Token) where
 
   one_refused : (d : Definition) (at : List ℕ) (f g : Fault) → IsRefused w text d at f → IsRefused w text d at g → f ≡ g
   one_refused (table name names columns) at f g (d, h, i) (e, k, j) = one_refusal w.contents name names at (word_ends at (name ∷ names)) d e f g h k i j
+  one_refused (sizes_for t rows pages) at f g (d, h, i) (e, k, j) = one_size_refusal rows pages at d e f g h k i j
+  one_refused (statistics_for t col s) at f g (d, h, i) (e, k, j) = one_statistics_refusal s at d e f g h k i j
   one_refused (data_for t start) at f g (inl (h, i)) (inl (k, j)) = i ∙ sym j
   one_refused (data_for t start) at f g (inl (h, i)) (inr (y, n, e, q, k, j)) = absurd (no_end text start y n q h)
   one_refused (data_for t start) at f g (inr (x, m, d, p, h, i)) (inl (k, j)) = absurd (no_end text start x m p k)
@@ -73,6 +89,8 @@ module _ (w : World) (text : List ℕ) (tokens : List Token) where
   -- a definition that is carried out is not refused
   not_refused : (d : Definition) (a : Action) (n : ℕ) (at : List ℕ) (f : Fault) → Carries w text tokens d a n → IsRefused w text d at f → ⊥
   not_refused (table name names columns) a n at f h (e, k, j) = no_refusal w.contents name names at (word_ends at (name ∷ names)) e f h.0 k j
+  not_refused (sizes_for t rows pages) a n at f h (e, k, j) = no_size_refusal rows pages e h.0 h.1 k
+  not_refused (statistics_for t col s) a n at f h (e, k, j) = no_statistics_refusal s e h.0 k
   not_refused (data_for t start) a n at f (x, s, p, h, i) (inl (k, j)) = no_end text start x n p k
   not_refused (data_for t start) a n at f (x, s, p, h, i) (inr (y, m, e, q, k, j)) =
       let (end, next) = one_end text start x n y m p q in
@@ -95,16 +113,20 @@ module _ (w : World) (text : List ℕ) (tokens : List Token) where
       let same : s ≡ r = cc in
       not_refused r.definition a n r.at f i (subst (λ e. IsRefused w text e.definition e.at f) same j)
 
-  one_meant : (x : Statement) (f g : Fault) → IsMeaningFault w text x f → IsMeaningFault w text x g → f ≡ g
+  one_meant : (x : Statement) (f g : Fault) → IsMeaningFault w text tokens x f → IsMeaningFault w text tokens x g → f ≡ g
   one_meant (empty e) f g h k = absurd h
   one_meant (query q e) f g h k = let both : Err f ≡ Err g = sym h ∙ k in cc
   one_meant (create_table c t n o d ds m e) f g h k = one_definition (create_table c t n o d ds m e) f g h k
+  one_meant (sizes c n r p e) f g h k = one_definition (sizes c n r p e) f g h k
+  one_meant (column_statistics c n d i nulls commons bounds e) f g h k = one_definition (column_statistics c n d i nulls commons bounds e) f g h k
   one_meant (copy c n null) f g h k = one_definition (copy c n null) f g h k
 
-  not_meant : (x : Statement) (a : Action) (n : ℕ) (f : Fault) → Does w text tokens x a n → IsMeaningFault w text x f → ⊥
+  not_meant : (x : Statement) (a : Action) (n : ℕ) (f : Fault) → Does w text tokens x a n → IsMeaningFault w text tokens x f → ⊥
   not_meant (empty e) a n f h k = absurd k
   not_meant (query q e) a n f (p, h, i, x) k = let both : Ok p ≡ Err f = sym h ∙ k in absurd (cc)
   not_meant (create_table c t i o d ds m e) a n f (r, h, p) k = no_definition (create_table c t i o d ds m e) a n r f h p k
+  not_meant (sizes c i d p e) a n f (r, h, u) k = no_definition (sizes c i d p e) a n r f h u k
+  not_meant (column_statistics c i d p nulls commons bounds e) a n f (r, h, u) k = no_definition (column_statistics c i d p nulls commons bounds e) a n r f h u k
   not_meant (copy c i null) a n f (r, h, p) k = no_definition (copy c i null) a n r f h p k
 
   one_fault_over : (f g : Fault) → IsFaultOver w text tokens f → IsFaultOver w text tokens g → f ≡ g
@@ -113,13 +135,13 @@ module _ (w : World) (text : List ℕ) (tokens : List Token) where
   one_fault_over f g (in_meaning x is h) (in_syntax q) = absurd (no_first text tokens x g is q)
   one_fault_over f g (in_meaning x is h) (in_meaning y so k) =
       let same = one_tree y x (so.words ∙ sym is.words) in
-      one_meant x f g h (subst (λ z. IsMeaningFault w text z g) same k)
+      one_meant x f g h (subst (λ z. IsMeaningFault w text tokens z g) same k)
 
   no_fault_over : (a : Action) (n : ℕ) (f : Fault) → IsReadOver w text tokens a n → IsFaultOver w text tokens f → ⊥
   no_fault_over a n f p (in_syntax q) = no_first text tokens p.statement f p.spelled q
   no_fault_over a n f p (in_meaning y so k) =
       let same = one_tree y p.statement (so.words ∙ sym p.spelled.words) in
-      not_meant p.statement a n f p.does (subst (λ x. IsMeaningFault w text x f) same k)
+      not_meant p.statement a n f p.does (subst (λ x. IsMeaningFault w text tokens x f) same k)
 
 -- one action and one end
 pub one_read : (w : World) (text : List ℕ) (from m n : ℕ) (a b : Action) → IsRead w text from a m → IsRead w text from b n → (a ≡ b) × (m ≡ n)

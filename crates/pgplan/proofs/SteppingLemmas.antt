@@ -9,13 +9,13 @@ use Rattle.sql_grammar.specs.Reading.{terminal_of, ends_once, is_end}
 use Rattle.sql_grammar.specs.Syntax.{empty, semicolon, text_end}
 use Rattle.sql_grammar.specs.Faults.{limit_of}
 use Rattle.sql_grammar.proofs.StatementWords.{words-are-tokens}
-use Rattle.answer.proofs.Putting.{appends-none}
+use Rattle.answer.proofs.PuttingLemmas.{appends-none}
 use Rattle.sql_query.specs.Worlds.{World}
 use Rattle.pgplan.specs.declared.end.End.{End}
 use Rattle.pgplan.specs.declared.end.End.TheVariants as ends
 use Rattle.pgplan.specs.Actions.{idle, answer}
 use Rattle.pgplan.specs.Accepted.{end_of, IsReadOver}
-use Rattle.pgplan.proofs.Places.{read-behind}
+use Rattle.pgplan.proofs.PlaceLemmas.{read-behind}
 use Rattle.pgplan.specs.Faults.{after_words}
 use Rattle.pgplan.specs.Replies.{no_reply}
 use Rattle.pgplan.specs.Steps.{Traces, traces as traces_of, Advances, IsBegun, Stops, IsDefined, Refuses, IsAnsweredOver, IsBegunOver, StopsOver}

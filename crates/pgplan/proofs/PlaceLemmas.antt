@@ -7,7 +7,9 @@ use Rattle.std.proofs.lemmas.List.{length-drop, length-take, nil_from_length}
 use Rattle.std.proofs.lemmas.Option.{slice_get_within}
 use Rattle.std.proofs.lemmas.List.Elements.{All-contains}
 use Rattle.std.proofs.lemmas.List.Sums.{AllPass-from_list_all}
+use Rattle.pg_base.specs.declared.numbers.ColNo.{ColNo}
 use Rattle.pg_base.specs.declared.numbers.TableNo.{TableNo}
+use Rattle.pg_value.specs.declared.value.SqlType.{SqlType}
 use Rattle.pg_base.specs.declared.faults.Code.TheVariants.{S17}
 use Rattle.pg_base.specs.declared.faults.Fault.{Fault}
 use Rattle.pg_base.specs.declared.limits.TheConstants.{MOST_COLUMNS}
@@ -18,18 +20,24 @@ use Rattle.sql_lex.specs.declared.tokens.Token.{Token}
 use Rattle.sql_lex.specs.Forms.{IsToken, symbols}
 use Rattle.sql_lex.specs.Words.{AreWords, IsNext, is_last}
 use Rattle.sql_grammar.specs.Terminals.{Ident, Said, token_of}
-use Rattle.sql_grammar.specs.Syntax.{CopyWords, Statement, empty, create_table, query, copy}
+use Rattle.sql_grammar.specs.Syntax.{CopyWords, Lit, Statement, empty, create_table, query, copy, sizes, column_statistics}
 use Rattle.sql_grammar.specs.Words.{words_of}
 use Rattle.sql_grammar.specs.Faults.{bytes_of, fault_at, terminals}
 use Rattle.sql_grammar.specs.CopyLine.{IsDataStart, after_blanks}
+use Rattle.catalog.specs.Contents.{Contents, table_at}
+use Rattle.catalog.specs.Indexes.{type_at}
 use Rattle.catalog.specs.Tables.{table_named}
+use Rattle.expr_reader.specs.Conditions.{next as following}
+use Rattle.expr_reader.specs.Literals.{typed_value}
+use Rattle.ddl_reader.specs.Lists.{bound_each}
+use Rattle.ddl_reader.specs.Statistics.{CommonWords, common_value, table_of_name, column_of_name, table_statistics, statistics_of, column_statistics_of, commons_of, bounds_of}
 use Rattle.sql_grammar.proofs.ExprTrees.{tokens-are}
 use Rattle.ddl_reader.specs.Columns.{Bound, bound_all, written, further}
-use Rattle.ddl_reader.specs.Tables.{Definition, table, data_for, Reading, data_after, limited, table_of, table_reading}
+use Rattle.ddl_reader.specs.Tables.{Definition, table, sizes_for, statistics_for, data_for, Reading, data_after, limited, table_of, table_reading}
 use Rattle.pg_value.specs.Fields.{null_text}
 use Rattle.sql_query.specs.Worlds.{World}
 use Rattle.pgplan.specs.Actions.{Action}
-use Rattle.pgplan.proofs.BlockLaws.{block-within}
+use Rattle.pgplan.proofs.BlockLemmas.{block-within}
 use Rattle.pgplan.specs.Accepted.{token_at, end_of, Carries, Does, IsReadOver}
 
 -- some byte, tested by whether the list is empty
@@ -104,11 +112,15 @@ start-behind text from start is = (omega (arith, is.1), omega (arith, is.1, slic
 carried-table : (w : World) (text : List ℕ) (tokens : List Token) (d : Definition) (action : Action) (next : ℕ) (name : List ℕ) (names : List (List ℕ)) (columns : List Column) →
     d ≡ table name names columns → Carries w text tokens d action next → next ≡ end_of tokens
 carried-table w text tokens (table n ns cs) action next name names columns e c = c.2
+carried-table w text tokens (sizes_for t rows pages) action next name names columns e c = cc
+carried-table w text tokens (statistics_for t col s) action next name names columns e c = cc
 carried-table w text tokens (data_for t start) action next name names columns e c = cc
 
 carried-data : (w : World) (text : List ℕ) (tokens : List Token) (d : Definition) (action : Action) (next : ℕ) (t : TableNo) (start : ℕ) →
     d ≡ data_for t start → start ≤ length text → Carries w text tokens d action next → (start ≤ next) × (next ≤ length text)
 carried-data w text tokens (table n ns cs) action next t start e within c = cc
+carried-data w text tokens (sizes_for u rows pages) action next t start e within c = cc
+carried-data w text tokens (statistics_for u col s) action next t start e within c = cc
 carried-data w text tokens (data_for u from) action next t start e within c =
     let same : from ≡ start = cc in
     let P : ℕ → Type 0 = λ s. (s ≤ next) × (next ≤ length text) in
@@ -140,6 +152,30 @@ data-behind w text tokens action next from (Some u) name null_at null (Ok start)
     let ends = carried-data w text tokens r.definition action next u start (is-data (Some u) name null_at null (bytes_eq null null_text) start r u e) begins.1 c in
     (omega (arith, begins.0, ends.0), ends.1)
 
+-- a reading whose statement ends with its last token
+abbrev EndsLast : World → List ℕ → List Token → Result Reading Fault → Type 0
+EndsLast w text tokens (Ok r) = (action : Action) (next : ℕ) → Carries w text tokens r.definition action next → next ≡ end_of tokens
+EndsLast w text tokens (Err f) = Unit {0}
+
+module _ (w : World) (text : List ℕ) (tokens : List Token) where
+  next-last : {A : Type 0} (r : Result A Fault) (more : A → Result Reading Fault) → ((x : A) → EndsLast w text tokens (more x)) → EndsLast w text tokens (following r more)
+  next-last (Ok x) more h = h x
+  next-last (Err f) more h = tt
+
+  sizes-last : (c : Contents) (n : Ident) (rows pages : Said) → EndsLast w text tokens (table_statistics c n rows pages)
+  sizes-last c n rows pages = next-last (table_of_name c n) _ (λ t action next carried. carried.3)
+
+  values-last : (type : SqlType) (t : TableNo) (col : ColNo) (distinct nulls : Said) (commons : List CommonWords) (bounds : List Lit) → EndsLast w text tokens (statistics_of type t col distinct nulls commons bounds)
+  values-last type t col distinct nulls commons bounds =
+      next-last (bound_each (common_value type) commons) _ (λ values. next-last (bound_each (typed_value type) bounds) _ (λ limits action next carried. carried.2))
+
+  statistics-last : (c : Contents) (n column : Ident) (distinct nulls : Said) (commons : List CommonWords) (bounds : List Lit) → EndsLast w text tokens (column_statistics_of c n column distinct nulls commons bounds)
+  statistics-last c n column distinct nulls commons bounds =
+      next-last (table_of_name c n) _ (λ t. next-last (column_of_name c t column) _ (λ col. values-last (type_at (table_at c t).columns col) t col distinct nulls commons bounds))
+
+  last-by : (r : Reading) (m : Result Reading Fault) (action : Action) (next : ℕ) → Ok r ≡ m → EndsLast w text tokens m → Carries w text tokens r.definition action next → next ≡ end_of tokens
+  last-by r m action next is ends carried = (subst (EndsLast w text tokens) (sym is) ends) action next carried
+
 copy-end : (text : List ℕ) (tokens : List Token) (k : CopyWords) (n : Ident) (null : Said) → words_of (copy k n null) ≡ terminals text tokens → k.stop.end ≡ end_of tokens
 copy-end text tokens k n null e = ap end_of (tokens-are (words_of (copy k n null)) text tokens e)
 
@@ -159,6 +195,13 @@ does-behind w text from tokens (empty e) action next words spelled does = at-end
 does-behind w text from tokens (query q e) action next words spelled does = at-end-of text from next (end_of tokens) does.3 (ends-behind text from tokens words)
 does-behind w text from tokens (create_table k t n o c cs m e) action next words spelled does =
     at-end-of text from next (end_of tokens) (table-behind w text tokens action next (bytes_of n) (token_of n) (bound_all (written c ∷ further cs)) does.0 does.1 does.2) (ends-behind text from tokens words)
+does-behind w text from tokens (sizes k n r p e) action next words spelled does =
+    at-end-of text from next (end_of tokens) (last-by w text tokens does.0 (table_statistics w.contents n r p) action next does.1 (sizes-last w text tokens w.contents n r p) does.2) (ends-behind text from tokens words)
+does-behind w text from tokens (column_statistics k n c d nulls commons bounds e) action next words spelled does =
+    at-end-of text from next (end_of tokens)
+    (last-by w text tokens does.0 (column_statistics_of w.contents n c d nulls (commons_of commons) (bounds_of bounds)) action next does.1
+    (statistics-last w text tokens w.contents n c d nulls (commons_of commons) (bounds_of bounds)) does.2)
+    (ends-behind text from tokens words)
 does-behind w text from tokens (copy k n null) action next words spelled does =
     behind-data text from k.stop.end (end_of tokens) next (copy-end text tokens k n null spelled) (ends-behind text from tokens words)
     (data-behind w text tokens action next k.stop.end (table_named w.contents (bytes_of n)) (token_of n) null.token null.value does.1.0 does.0 does.1.1 does.1.2 does.2)

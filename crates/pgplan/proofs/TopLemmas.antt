@@ -18,7 +18,7 @@ use Rattle.pgplan.specs.Steps.{HasField}
 use Rattle.pgplan.specs.Scripts.{Worked, AreWorked, world_after, place_after}
 use Rattle.pgplan.specs.Statuses.{IsTold, line_of_work, number_of, status_of_work}
 use Rattle.pgplan.specs.Runs.{Ends, IsAnswered, IsRunOver, HasStatusCause, HasNoFault, ReachesFault, IsCutShort}
-use Rattle.pgplan.proofs.OneReading.{one_read, read_apart}
+use Rattle.pgplan.proofs.OneReadingLemmas.{one_read, read_apart}
 
 -- a list of one, mapped
 pub one_item : {A B : Type 0} (f : A → B) (xs : List A) (x : A) → 1 ≤ length xs → length xs < 2 → x ≡ get_or xs 0 x → map f xs ≡ f x ∷ []

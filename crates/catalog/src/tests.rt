@@ -12,41 +12,12 @@ use crate::contents::Catalog;
 use crate::fault::CatalogFault;
 use crate::index_def::IndexDef;
 use crate::statistics::ColumnStats;
+use fixtures::{columns, name, names};
 use opfamily::{IndexKey, Method, OpClass};
 use pg_base::{ColNo, IndexNo, Memory, TableNo};
-use pg_value::{Bytes, Column, Columns, SqlType, Value};
+use pg_value::{SqlType, Value};
 use std::alloc::Global;
 use std::test::Fail;
-
-fn name(alloc: Global, letter: u8) -> Result<Bytes, Memory>
-    ensures { IfOk result (λ b. b ≡ letter ∷ []) }
-{
-    let mut bytes = Vec::new(alloc);
-    bytes.push(letter)?;
-    Ok(Bytes::from_vec(bytes))
-}
-
-fn pair(alloc: Global, first: u8, second: u8) -> Result<Vec<Bytes>, Memory>
-    ensures { IfOk result (λ v. v.items ≡ (first ∷ []) ∷ (second ∷ []) ∷ []) }
-{
-    let mut names = Vec::new(alloc);
-    names.push(name(alloc, first)?)?;
-    names.push(name(alloc, second)?)?;
-    Ok(names)
-}
-
-fn two_columns(alloc: Global) -> Result<Columns, Memory>
-    ensures { IfOk result (λ c. c ≡ texts) }
-{
-    let column = Column {
-        typed: SqlType::Text,
-        not_null: false,
-    };
-    let mut columns = Vec::new(alloc);
-    columns.push(column)?;
-    columns.push(column)?;
-    Ok(Columns::from_vec(columns))
-}
 
 fn add(
     catalog: &mut Catalog,
@@ -59,8 +30,12 @@ fn add(
     requires first { begins_name first ≡ true }
     requires second { begins_name second ≡ true }
 {
-    let names = pair(alloc, first, second)?;
-    catalog.add_table(name(alloc, table)?, names, two_columns(alloc)?)
+    let names = names(alloc, &[first, second])?;
+    catalog.add_table(
+        name(alloc, table)?,
+        names,
+        columns(alloc, &[SqlType::Text, SqlType::Text])?,
+    )
 }
 
 /// A catalogue of one table `t` of two text columns.
@@ -68,8 +43,12 @@ fn small(alloc: Global) -> Result<Catalog, CatalogFault>
     ensures { IfOk result HasTexts }
 {
     let mut catalog = Catalog::new(alloc);
-    let names = pair(alloc, b'a', b'b')?;
-    catalog.add_table(name(alloc, b't')?, names, two_columns(alloc)?)?;
+    let names = names(alloc, b"ab")?;
+    catalog.add_table(
+        name(alloc, b't')?,
+        names,
+        columns(alloc, &[SqlType::Text, SqlType::Text])?,
+    )?;
     Ok(catalog)
 }
 

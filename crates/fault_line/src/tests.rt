@@ -5,8 +5,9 @@ ghost use Rattle.fault_line.specs.Tells.{IsFieldOf};
 
 use crate::write_fault;
 use catalog::Catalog;
+use fixtures::{columns, name, names};
 use pg_base::{Code, ColNo, Fault, Limit, MemSink, Memory, TableNo};
-use pg_value::{Bytes, Column, Columns, SqlType};
+use pg_value::SqlType;
 use std::alloc::Global;
 use std::process::Abort;
 use std::test::Fail;
@@ -18,36 +19,6 @@ const UNEQUAL: &[u8] = b"CREATE TABLE t (a int4, b text);\nSELECT a FROM t WHERE
 // Up to the data.
 const COPY: &[u8] =
     b"CREATE TABLE t (a int4, b text);\nCOPY t FROM STDIN WITH (FORMAT CSV, NULL '\\N');\n";
-
-fn name(alloc: Global, letter: u8) -> Result<Bytes, Memory>
-    ensures { IfOk result (λ b. b ≡ letter ∷ []) }
-{
-    let mut bytes = Vec::new(alloc);
-    bytes.push(letter)?;
-    Ok(Bytes::from_vec(bytes))
-}
-
-fn names(alloc: Global) -> Result<Vec<Bytes>, Memory>
-    ensures { IfOk result (λ v. v.items ≡ (97 ∷ []) ∷ (98 ∷ []) ∷ []) }
-{
-    let mut names = Vec::new(alloc);
-    names.push(name(alloc, b'a')?)?;
-    names.push(name(alloc, b'b')?)?;
-    Ok(names)
-}
-
-fn columns(alloc: Global) -> Result<Columns, Memory>
-    ensures { IfOk result (λ c. length c ≡ 2) }
-{
-    let column = Column {
-        typed: SqlType::Text,
-        not_null: false,
-    };
-    let mut columns = Vec::new(alloc);
-    columns.push(column)?;
-    columns.push(column)?;
-    Ok(Columns::from_vec(columns))
-}
 
 /// The line that a sink with ample room takes.
 fn check<R: Abort + AllocGlobal>(
@@ -248,7 +219,11 @@ fn faults_of_words(rt: HostRuntime) -> Result<(), Fail> {
 fn faults_of_data(rt: HostRuntime) -> Result<(), Fail> {
     let alloc = rt.alloc();
     let mut catalog = Catalog::new(alloc);
-    let made = catalog.add_table(name(alloc, b't')?, names(alloc)?, columns(alloc)?);
+    let made = catalog.add_table(
+        name(alloc, b't')?,
+        names(alloc, b"ab")?,
+        columns(alloc, &[SqlType::Text, SqlType::Text])?,
+    );
     assert_eq!(rt; made, Ok(TableNo(0)));
     let table = catalog.table(b"t").ok_or("no table")?;
     let column = catalog.column(table, b"b").ok_or("no column")?;

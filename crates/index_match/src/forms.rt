@@ -40,7 +40,7 @@ fn is_key(r: RelNo, key: IndexKey, x: ColRef) -> bool
 }
 
 /// Whether a side of a comparison is the key's column.
-fn is_key_side(r: RelNo, key: IndexKey, side: &Operand) -> bool
+pub fn is_key_side(r: RelNo, key: IndexKey, side: &Operand) -> bool
     ensures { result ≡ forms.is_key_side r.0 key side.now }
 {
     match side {
@@ -51,7 +51,7 @@ fn is_key_side(r: RelNo, key: IndexKey, side: &Operand) -> bool
 
 /// Whether a side may be compared with a column of the relation: a literal that is not NULL, or a column of another
 /// relation.
-fn is_outside(r: RelNo, side: &Operand) -> bool
+pub fn is_outside(r: RelNo, side: &Operand) -> bool
     ensures { result ≡ forms.is_outside r.0 side.now }
 {
     match side {
@@ -69,7 +69,7 @@ fn is_across(r: RelNo, key: IndexKey, a: &Operand, b: &Operand) -> bool
 }
 
 /// Whether an index may use a condition on a key column.
-pub(crate) fn has_form(m: Method, r: RelNo, key: IndexKey, e: &Expr) -> bool
+pub fn has_form(m: Method, r: RelNo, key: IndexKey, e: &Expr) -> bool
     ensures { result ≡ forms.has_form m r.0 key (cond e.now) }
 {
     match e {
@@ -87,7 +87,7 @@ pub(crate) fn is_condition(def: &IndexDef, r: RelNo, e: &Expr) -> bool
 }
 
 /// Whether a condition on a key column leaves it one value.
-pub(crate) fn is_fixing(e: &Expr) -> bool
+pub fn is_fixing(e: &Expr) -> bool
     ensures { result ≡ bounds.is_fixing (cond e.now) }
 {
     match e {

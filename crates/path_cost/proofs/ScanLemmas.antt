@@ -1,6 +1,8 @@
 -- Costs of scans within the limits of tables and clauses.
 use Rattle.std.proofs.Common.{◌≡◌, ◌<◌, ◌≤◌, ◌∙◌, ℕ, ◌+◌, ◌-◌, ◌*◌, ◌/◌, ◌^◌, ◌&&◌, min, max, nat_eq, nat_lt, cond, Bool, true, false, List, [], ◌∷◌, All, length, map, filter, suc, refl, sym, ap, subst, arith, IsTrue, Option, Some, None, le_trans, mul-le-mul, mul-le-mul_left, mul-le-mul_right, mul_comm}
+use Rattle.std.specs.Prelude.{sum as sum_of}
 use Rattle.std.specs.Int.{div_ceil}
+use Rattle.std.proofs.lemmas.List.Sums.{sum_by-le}
 use Rattle.std.proofs.lemmas.Grind.{common_steps}
 use Rattle.std.proofs.lemmas.List.Elements.{All-from_recursion, All-head, All-tail}
 use Rattle.std.specs.List.{AllByRecursion}
@@ -19,7 +21,7 @@ use Rattle.catalog.specs.declared.limits.TheConstants.{MOST_NUMBER}
 use Rattle.catalog.proofs.SizeLemmas.{pages-bounded, rows-bounded}
 use Rattle.eq_classes.specs.Clauses.{Clause, Set, Table}
 use Rattle.eq_classes.specs.Parts.{is_base}
-use Rattle.cost_rules.specs.declared.parameters.TheConstants.{ENTRIES_PER_PAGE, INDEX_TUPLE, OPERATOR, RANDOM_PAGE}
+use Rattle.cost_rules.specs.declared.parameters.TheConstants.{BITMAP_CHILD, ENTRIES_PER_PAGE, INDEX_TUPLE, OPERATOR, RANDOM_PAGE}
 use Rattle.cost_rules.specs.Costs.{row_cost}
 use Rattle.cost_rules.specs.Powers.{log_up}
 use Rattle.cost_rules.specs.Scans.{descent_of, fetch_cost, heap_pages_of, page_in_order, pages_of_entries, part_cost}
@@ -196,3 +198,11 @@ module _ (c : Contents) (range : Range) (t : Table) (h : AreWithinLimits c range
               one : (b : Bool) → HasColumns c range j.cond → AllByRecursion (HasColumns c range) (conditions_from (m + 1) used js) → AllByRecursion (HasColumns c range) (cond b (j.cond ∷ conditions_from (m + 1) used js) (conditions_from (m + 1) used js))
               one true own rest = (own, rest)
               one false own rest = rest
+
+  pub bitmap-parts-few : (r : ℕ) (p : Set) (used : ℕ → Bool) (parts : List ℕ) → r < length range → length parts ≤ MOST_ATOMS + 8 →
+      All (λ n. n ≤ 523 * 10 ^ 9) parts → (bitmap_cost c range t r p used (sum_of parts + BITMAP_CHILD * length parts)).total ≤ 142 * 10 ^ 12
+  bitmap-parts-few r p used parts within few small =
+      most _ (sum_of parts) (length parts) (bitmap-few r p used (sum_of parts + BITMAP_CHILD * length parts) within) (sum_by-le (λ n. n) (523 * 10 ^ 9) parts small) few
+    where
+      most : (total s n : ℕ) → total ≤ s + BITMAP_CHILD * n + 3 * 10 ^ 12 → s ≤ n * (523 * 10 ^ 9) → n ≤ MOST_ATOMS + 8 → total ≤ 142 * 10 ^ 12
+      most total s n k l m = omega (arith, k, l, m)

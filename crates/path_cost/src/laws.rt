@@ -1,6 +1,7 @@
 //! Laws of estimates and of the costs of scans.
 
-ghost use Rattle.std.specs.Prelude.{◌≡◌, ◌≤◌, ◌<◌, ◌+◌, ◌*◌, ◌^◌, ℕ, Bool, List, All, length};
+ghost use Rattle.std.specs.Prelude.{◌≡◌, ◌≤◌, ◌<◌, ◌+◌, ◌*◌, ◌^◌, ℕ, Bool, List, All, length, sum};
+ghost use Rattle.cost_rules.specs.declared.parameters.TheConstants.{BITMAP_CHILD};
 ghost use Rattle.pg_base.specs.declared.limits.TheConstants.{MOST_ATOMS};
 ghost use Rattle.pg_base.specs.declared.numbers.IndexNo.{IndexNo};
 ghost use Rattle.pg_expr.specs.Cond.{Cond};
@@ -32,7 +33,8 @@ pub fn shares_of_rows()
 {}
 
 /// Within the limits of tables and clauses every scan costs far less than 10^18, so that each is admissible. A bitmap
-/// scan's own share is small beside the parts of its indexes.
+/// scan's own share is small beside the parts of its indexes, of which a tree of at most 8 elements has one for each
+/// leaf and each arm; no scan costs more than 1.42 x 10^14.
 pub fn scans_are_admissible()
     ensures seq { (c : Contents) (range : Range) (t : Table) (r : ℕ) → AreWithinLimits c range t → r < length range →
         (seq_cost c range t r).total ≤ 2 * 10 ^ 12 }
@@ -46,4 +48,7 @@ pub fn scans_are_admissible()
         (index_cost c range t i r p bounds conditions only).total ≤ 4 * 10 ^ 12 }
     ensures bitmap { (c : Contents) (range : Range) (t : Table) (r : ℕ) (p : Set) (used : ℕ → Bool) (parts : ℕ) →
         AreWithinLimits c range t → r < length range → (bitmap_cost c range t r p used parts).total ≤ parts + 3 * 10 ^ 12 }
+    ensures bitmap_of_parts { (c : Contents) (range : Range) (t : Table) (r : ℕ) (p : Set) (used : ℕ → Bool) (parts : List ℕ) →
+        AreWithinLimits c range t → r < length range → length parts ≤ MOST_ATOMS + 8 → All (λ n. n ≤ 523 * 10 ^ 9) parts →
+        (bitmap_cost c range t r p used (sum parts + BITMAP_CHILD * length parts)).total ≤ 142 * 10 ^ 12 }
 {}

@@ -1,6 +1,6 @@
 //! Entries in the order of their keys: where one more goes, how many more are merged with them, which meet bounds.
 
-ghost use Rattle.std.specs.Prelude.{◌≡◌, ◌≤◌, ◌∷◌, ◌++◌, [], length, filter, take, drop, All, OnOk, OnErr};
+ghost use Rattle.std.specs.Prelude.{◌≡◌, ◌≤◌, ◌∷◌, ◌++◌, [], length, filter, nat_lt, take, drop, All, OnOk, OnErr};
 ghost use Rattle.pg_value.specs.Sorting.{IsInOrder, in_order};
 ghost use Rattle.opfamily.specs.KeyOrder.{AreKeyValues, entry_order};
 ghost use Rattle.btree_index.specs.Bounds.{AreBounds, meets_all};
@@ -52,6 +52,13 @@ pub(crate) fn merge_sorted(
         return Err(AllocError);
     }
     Ok(())
+}
+
+/// Keeps the entries of the rows whose numbers are below `rows`, in their order.
+pub(crate) fn keep_rows(entries: &mut Vec<Entry>, rows: u32)
+    ensures { entries.new.items ≡ filter (λ e. nat_lt e.row rows) entries.old.items }
+{
+    entries.retain(|e| e.tid().0 < rows);
 }
 
 /// The entries that meet the bounds. They stand together.

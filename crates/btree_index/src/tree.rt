@@ -3,12 +3,12 @@
 ghost use Rattle.std.specs.Prelude.{◌≡◌, ◌∷◌, [], length, filter, All, IfOk, OnOk, OnErr};
 ghost use Rattle.opfamily.specs.KeyOrder.{AreKeyValues};
 ghost use Rattle.btree_index.specs.Bounds.{AreBounds, meets_all};
-ghost use Rattle.btree_index.specs.Tree.{IsEntryOf, IsLawful, with_entries, in_direction};
+ghost use Rattle.btree_index.specs.Tree.{IsEntryOf, IsLawful, of_rows_below, with_entries, in_direction};
 
 use crate::bounds::Probe;
 use crate::cursors::Cursor;
 use crate::entries::Entry;
-use crate::sorted::{insert_sorted, merge_sorted, part_of};
+use crate::sorted::{insert_sorted, keep_rows, merge_sorted, part_of};
 use opfamily::IndexKey;
 use pg_base::{ColNo, Tid};
 use pg_value::Value;
@@ -87,6 +87,14 @@ impl<L: Ledger> BTree<L> {
         ensures refused { OnErr result (self.new ≡ self.old) }
     {
         merge_sorted(&self.keys, &mut self.entries, added)
+    }
+
+    /// Keeps the entries of the rows whose numbers are below `rows`. It takes no memory, so it undoes what was added for
+    /// rows that a load had put behind the others.
+    pub fn cut(&mut self, rows: u32)
+        ensures { self.new ≡ of_rows_below rows self.old }
+    {
+        keep_rows(&mut self.entries, rows);
     }
 
     /// A cursor before the first entry, in its direction, of the part that meets the bounds.

@@ -1,5 +1,5 @@
 -- Rows by value: their order is total, equal values tie in it, and one more row keeps the index lawful.
-use Rattle.std.proofs.Common.{◌≡◌, ℕ, zero, suc, ◌+◌, Bool, true, false, cond, List, [], ◌∷◌, ◌++◌, map, take, drop, get_or, filter, refl, sym, ap, ap₂, ◌∙◌, arith, Ordering, Less, Equal, Greater}
+use Rattle.std.proofs.Common.{◌≡◌, ℕ, zero, suc, ◌+◌, Bool, true, false, cond, List, [], ◌∷◌, ◌++◌, map, take, drop, get_or, filter, refl, sym, subst, ap, ap₂, ◌∙◌, arith, Ordering, Less, Equal, Greater}
 use Rattle.std.specs.Prelude.{is_some}
 use Rattle.std.specs.Cmp.{IsTotalOrder}
 use Rattle.std.specs.List.Sorted.{IsNonDecreasingBy}
@@ -8,7 +8,9 @@ use Rattle.std.proofs.lemmas.Bool.{true≢false, false≢true}
 use Rattle.std.proofs.lemmas.Cmp.{on_total, then_total, nat_cmp_total}
 use Rattle.std.specs.Prelude.{All, length}
 use Rattle.std.proofs.lemmas.List.{length-map}
-use Rattle.std.proofs.lemmas.List.Elements.{All-append, All-from_recursion}
+use Rattle.std.specs.Prelude.{IsFalse}
+use Rattle.std.proofs.lemmas.List.Kept.{AllPairs-filter}
+use Rattle.std.proofs.lemmas.List.Elements.{All-append, All-filter, All-from_recursion}
 use Rattle.std.proofs.lemmas.List.Sorted.{searchable_from_sorted}
 use Rattle.pg_base.specs.declared.numbers.Tid.{Tid}
 use Rattle.pg_value.specs.declared.operators.Family.{Family}
@@ -158,3 +160,20 @@ pub found_rows : (t : Table) → IsLawful t → (v : Value) → IsOfFamily (key_
     → take count (drop start t.held) ≡ filter (λ (h : Held). is_eq (key_order t.key h.value v)) t.held → numbers (take n (drop start ts)) ≡ rows_equal v t.held
 found_rows t lawful v fv known ts same start count n is tied =
     ap (λ m. numbers (take m (drop start ts))) is ∙ part_numbers ts t.held start count same ∙ ap rows_of tied ∙ ties_equal t lawful v fv known
+
+-- some of the rows, and their numbers
+map_filter : {A B : Type 0} (f : A → B) (test : B → Bool) (xs : List A) → map f (filter (λ x. test (f x)) xs) ≡ filter test (map f xs)
+map_filter f test [] = refl
+map_filter f test (x ∷ xs) = elim (test (f x)) as (λ b. map f (cond b (x ∷ filter (λ y. test (f y)) xs) (filter (λ y. test (f y)) xs)) ≡ cond b (f x ∷ filter test (map f xs)) (filter test (map f xs)))
+    [ true ↦ ap (λ l. f x ∷ l) (map_filter f test xs) | false ↦ map_filter f test xs ]
+
+pub kept_numbers : (test : ℕ → Bool) (ts new : List Tid) (hs held : List Held) → numbers ts ≡ rows_of hs → new ≡ filter (λ t. test t.0) ts → held ≡ filter (λ h. test h.row) hs → numbers new ≡ rows_of held
+kept_numbers test ts new hs held same is kept =
+    ap numbers is ∙ map_filter (λ (t : Tid). t.0) test ts ∙ ap (filter test) same ∙ sym (map_filter (λ (h : Held). h.row) test hs) ∙ ap rows_of (sym kept)
+
+pub lawful_among : (k : IndexKey) (test : Held → Bool) (hs new : List Held) → IsLawful (record { key = k; held = hs }) → new ≡ filter test hs → IsLawful (record { key = k; held = new })
+lawful_among k test hs new lawful is = subst (λ l. IsLawful (record { key = k; held = l })) (sym is) (record {
+  hashes = lawful.hashes;
+  fits = All-filter test (λ (h : Held). IsOfFamily (key_family k) h.value) hs lawful.fits;
+  order = AllPairs-filter (λ x y. IsFalse (is_gt (held_order k x y))) test hs lawful.order;
+})

@@ -1,5 +1,5 @@
 -- What a hash index stands for: values with the rows that have them (PostgreSQL manual, chapter Indexes, Hash; rows rising is own).
-use Rattle.std.specs.Prelude.{◌≡◌, ℕ, Bool, true, false, List, ◌++◌, All, map, filter, is_some}
+use Rattle.std.specs.Prelude.{◌≡◌, ℕ, Bool, true, false, List, ◌++◌, All, map, filter, is_some, nat_lt}
 use Rattle.std.specs.Ordering.{on, then_cmp, nat_cmp}
 use Rattle.std.specs.declared.cmp.Ordering.{Ordering}
 use Rattle.pg_value.specs.declared.operators.Op.TheVariants.{Eq}
@@ -52,3 +52,7 @@ pub record IsLawful (t : Table) : Type 0 where
 -- a table with more rows
 abbrev pub with_held : Table → List Held → Table
 with_held t added = record { key = t.key; held = in_order (held_order t.key) (t.held ++ added) }
+
+-- a table without the rows from a number on
+abbrev pub of_rows_below : ℕ → Table → Table
+of_rows_below rows t = record { key = t.key; held = filter (λ h. nat_lt h.row rows) t.held }

@@ -6,9 +6,12 @@ ghost use Rattle.pg_value.specs.Order.{IsOfFamily};
 ghost use Rattle.opfamily.specs.declared.classes.Method.TheVariants.{Hash};
 ghost use Rattle.opfamily.specs.Answers.{number_in};
 ghost use Rattle.opfamily.specs.KeyOrder.{key_family};
-ghost use Rattle.hash_index.specs.Held.{IsLawful, with_held, rows_equal};
+ghost use Rattle.hash_index.specs.Held.{IsLawful, of_rows_below, with_held, rows_equal};
 
-use crate::rows::{Row, append_numbers, is_known, merge_sorted, place_of, ties, write_numbers};
+use crate::rows::{
+    Row, append_numbers, is_known, keep_numbers, keep_rows, merge_sorted, place_of, ties,
+    write_numbers,
+};
 use opfamily::IndexKey;
 use pg_base::Tid;
 use pg_value::Value;
@@ -84,6 +87,15 @@ impl HashIndex {
                 Err(refused)
             }
         }
+    }
+
+    /// Keeps the rows whose numbers are below `rows`. It takes no memory, so it undoes what was added for rows that a load
+    /// had put behind the others.
+    pub fn cut(&mut self, rows: u32)
+        ensures { self.new ≡ of_rows_below rows self.old }
+    {
+        keep_rows(&mut self.rows, rows);
+        keep_numbers(&mut self.tids, rows);
     }
 
     /// The rows whose value equals this one, rising; none for NULL.

@@ -1,6 +1,6 @@
 //! Rows with their values, in the order of the values.
 
-ghost use Rattle.std.specs.Prelude.{◌≡◌, ◌+◌, ◌≤◌, ◌∷◌, ◌++◌, [], length, map, take, drop, filter, true, false, OnOk, OnErr};
+ghost use Rattle.std.specs.Prelude.{◌≡◌, ◌+◌, ◌≤◌, ◌∷◌, ◌++◌, [], length, map, take, drop, filter, nat_lt, true, false, OnOk, OnErr};
 ghost use Rattle.std.specs.Ordering.{is_eq};
 ghost use Rattle.pg_value.specs.declared.value.Value.TheVariants.{Null};
 ghost use Rattle.pg_value.specs.Sorting.{IsInOrder, in_order};
@@ -113,6 +113,20 @@ pub(crate) fn write_numbers(tids: &mut Vec<Tid>, rows: &[Row])
     for n in 0..rows.len() {
         tids[n] = rows[n].tid();
     }
+}
+
+/// Keeps the rows whose numbers are below `end`, in their order.
+pub(crate) fn keep_rows(rows: &mut Vec<Row>, end: u32)
+    ensures { rows.new.items ≡ filter (λ r. nat_lt r.row end) rows.old.items }
+{
+    rows.retain(|row| row.tid().0 < end);
+}
+
+/// Keeps the numbers below `end`, in their order.
+pub(crate) fn keep_numbers(tids: &mut Vec<Tid>, end: u32)
+    ensures { tids.new.items ≡ filter (λ t. nat_lt t.0 end) tids.old.items }
+{
+    tids.retain(|tid| tid.0 < end);
 }
 
 /// Where the rows begin whose values tie with one, and how many there are.

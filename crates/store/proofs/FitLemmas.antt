@@ -1,0 +1,184 @@
+-- What an index has of lawful rows: values that are of its keys' families.
+use Rattle.std.proofs.Common.{cond as when, ◌≡◌, ◌<◌, ◌≤◌, ◌+◌, ◌-◌, ◌&&◌, ◌||◌, ℕ, zero, suc, Bool, true, false, List, [], ◌∷◌, Option, Some, length, get_or, map, refl, sym, subst, arith, All}
+use Rattle.std.specs.Prelude.{IsTrue, is_some, nat_eq, nat_lt, slice_index_or}
+use Rattle.std.specs.List.{AllByRecursion, AllZip}
+use Rattle.std.proofs.lemmas.Bool.{and_from, and_parts, false≢true}
+use Rattle.std.proofs.lemmas.List.{length-map}
+use Rattle.std.proofs.lemmas.List.Elements.{All-from_recursion, recursion_from_All}
+use Rattle.std.proofs.lemmas.Slice.Zip.{AllZip-long}
+use Rattle.pg_value.specs.declared.columns.Column.{Column}
+use Rattle.pg_value.specs.declared.operators.Family.{Family}
+use Rattle.pg_value.specs.declared.operators.Family.TheVariants.{Integer, IntAbs, Text as TextFamily, Bool as BoolFamily}
+use Rattle.pg_value.specs.declared.operators.Op.TheVariants.{Eq}
+use Rattle.pg_value.specs.declared.value.SqlType.{SqlType}
+use Rattle.pg_value.specs.declared.value.SqlType.TheVariants.{Int2, Int4, Int8, Text as TextType, Bool as BoolType}
+use Rattle.pg_value.specs.declared.value.Value.{Value}
+use Rattle.pg_value.specs.declared.value.Value.TheVariants.{Null, Int, Bool as Flag, Text as String}
+use Rattle.pg_value.specs.Order.{IsOfFamily}
+use Rattle.pg_value.specs.Types.{IsOfType}
+use Rattle.opfamily.specs.Answers.{accepted, family_of, has_method, is_type, number_in}
+use Rattle.opfamily.specs.Table.{both_methods, class}
+use Rattle.opfamily.specs.KeyOrder.{AreKeyValues, Entry, family_or_integer, first_value, key_family}
+use Rattle.opfamily.specs.declared.classes.IndexKey.{IndexKey}
+use Rattle.opfamily.specs.declared.classes.Method.{Method}
+use Rattle.opfamily.specs.declared.classes.Method.TheVariants.{Btree, Hash}
+use Rattle.opfamily.specs.declared.classes.OpClass.{OpClass}
+use Rattle.opfamily.specs.declared.classes.OpClass.TheVariants.{Int2Ops, Int4Ops, Int8Ops, TextOps, BoolOps, Int2AbsOps, Int4AbsOps, Int8AbsOps}
+use Rattle.pg_expr.specs.declared.operand.ColRef.{ColRef}
+use Rattle.std.specs.Option.{option_map}
+use Rattle.pg_expr.specs.declared.expr.Expr.{Expr}
+use Rattle.pg_expr.specs.View.{cond}
+use Rattle.pg_expr.specs.Columns.{each_column}
+use Rattle.pg_expr.specs.Cond.{Cond}
+use Rattle.pg_expr.specs.Typed.{FitsTypes, some_value}
+use Rattle.pg_expr.proofs.ColumnLaws.{weaker-each}
+use Rattle.eq_classes.proofs.SideLemmas.{type_fits}
+use Rattle.heap.specs.Stored.{IsRowOf, IsValueOf, Values}
+use Rattle.catalog.specs.Indexes.{FitsColumns, Index, IsConditionOf, IsKeyOf, IsLawfulIndex, IsPredicateOf, no_column, type_at}
+use Rattle.btree_index.specs.Tree.{IsEntryOf}
+use Rattle.hash_index.specs.Held.{Held}
+use Rattle.plan_tree.specs.Entries.{cell, entry, meets}
+use Rattle.store.specs.Kept.{first_key, found, held_of}
+use Rattle.store.proofs.FoundLemmas.{among, among-suc}
+
+-- a row's values by place
+value_fits : (c : Column) (v : Value) → IsValueOf c v → IsOfType c.typed v
+value_fits c Null h = tt
+value_fits c (Int n) h = h
+value_fits c (Flag b) h = h
+value_fits c (String bs) h = h.0
+
+fits-at : (cs : List Column) (vs : Values) → AllZip IsValueOf cs vs → (k : ℕ) (d : Column) → IsOfType (slice_index_or cs k d).typed (slice_index_or vs k Null)
+fits-at [] [] h k d = tt
+fits-at [] (v ∷ vs) h k d = absurd h
+fits-at (c ∷ cs) [] h k d = absurd h
+fits-at (c ∷ cs) (v ∷ vs) h zero d = value_fits c v h.0
+fits-at (c ∷ cs) (v ∷ vs) h (suc k) d = fits-at cs vs h.1 k d
+
+module _ (columns : List Column) (row : Values) (is : IsRowOf columns row) where
+  pub wide : length row ≡ length columns
+  wide = AllZip-long IsValueOf columns row is
+
+  -- the columns that the row binds, as those of relation 0
+  abbrev binds : ColRef → Bool
+  binds x = nat_lt x.col.0 (length columns) && nat_lt x.col.0 (length row)
+
+  columns-bound : (e : Cond) → IsConditionOf columns e → IsTrue (each_column binds e)
+  columns-bound e h =
+      weaker-each (λ x. nat_eq x.rel.0 0 && nat_lt x.col.0 (length columns)) binds
+      (λ x within. let low = (and_parts (nat_eq x.rel.0 0) (nat_lt x.col.0 (length columns)) within).1 in
+      and_from (nat_lt x.col.0 (length columns)) (nat_lt x.col.0 (length row)) low (subst (λ n. IsTrue (nat_lt x.col.0 n)) (sym wide) low))
+      e h.within
+
+  pub predicate-bound : (p : Option Expr) (e : Expr) → p ≡ Some e → IsPredicateOf columns (option_map cond p) → IsTrue (each_column binds (cond e))
+  predicate-bound p e is h = columns-bound (cond e) (subst (λ (q : Option Expr). IsPredicateOf columns (option_map cond q)) is h)
+
+  pub values-fit : FitsTypes (λ x. type_at columns x.col) binds (λ x. cell row x.col)
+  values-fit x h = fits-at columns row is x.col.0 no_column
+
+-- the type that a class accepts
+or-false : (b : Bool) → b || false ≡ true → b ≡ true
+or-false true h = refl
+or-false false h = h
+
+own-type : (b : Bool) (own t : SqlType) → (b && is_type own t) || false ≡ true → is_type own t ≡ true
+own-type b own t h = (and_parts b (is_type own t) (or-false (b && is_type own t) h)).1
+
+some-of : (f : Family) (own t : SqlType) → is_type own t ≡ true → IsOfFamily f (some_value own) → IsOfFamily f (some_value t)
+some-of f Int2 Int2 e h = h
+some-of f Int4 Int4 e h = h
+some-of f Int8 Int8 e h = h
+some-of f TextType TextType e h = h
+some-of f BoolType BoolType e h = h
+some-of f own t e h = absurd (false≢true e)
+
+-- some value of the type is of the kind that the class orders
+class-fits : (m : Method) (t : SqlType) (c : OpClass) → accepted c m t ≡ true → IsOfFamily (family_or_integer (family_of c)) (some_value t)
+class-fits m t Int2Ops h = some-of Integer Int2 t (own-type (has_method (class Int2Ops [] Int2 both_methods) m) Int2 t h) tt
+class-fits m t Int4Ops h = some-of Integer Int4 t (own-type (has_method (class Int4Ops [] Int4 both_methods) m) Int4 t h) tt
+class-fits m t Int8Ops h = some-of Integer Int8 t (own-type (has_method (class Int8Ops [] Int8 both_methods) m) Int8 t h) tt
+class-fits m t TextOps h = some-of TextFamily TextType t (own-type (has_method (class TextOps [] TextType both_methods) m) TextType t h) tt
+class-fits m t BoolOps h = some-of BoolFamily BoolType t (own-type (has_method (class BoolOps [] BoolType both_methods) m) BoolType t h) tt
+class-fits m t Int2AbsOps h = some-of IntAbs Int2 t (own-type (has_method (class Int2AbsOps [] Int2 (Btree ∷ [])) m) Int2 t h) tt
+class-fits m t Int4AbsOps h = some-of IntAbs Int4 t (own-type (has_method (class Int4AbsOps [] Int4 (Btree ∷ [])) m) Int4 t h) tt
+class-fits m t Int8AbsOps h = some-of IntAbs Int8 t (own-type (has_method (class Int8AbsOps [] Int8 (Btree ∷ [])) m) Int8 t h) tt
+
+pub key-fits : (columns : List Column) (m : Method) (k : IndexKey) (row : Values) → IsKeyOf columns m k → IsRowOf columns row → IsOfFamily (key_family k) (cell row k.col)
+unfolding key_family
+key-fits columns m k row of is =
+    type_fits (family_or_integer (family_of k.class)) (type_at columns k.col) (cell row k.col) (class-fits m (type_at columns k.col) k.class of.class) (fits-at columns row is k.col.0 no_column)
+
+class-hashes : (t : SqlType) (c : OpClass) → accepted c Hash t ≡ true → is_some (number_in (family_or_integer (family_of c)) Hash Eq) ≡ true
+class-hashes t Int2Ops h = refl
+class-hashes t Int4Ops h = refl
+class-hashes t Int8Ops h = refl
+class-hashes t TextOps h = refl
+class-hashes t BoolOps h = refl
+class-hashes t Int2AbsOps h = absurd (false≢true h)
+class-hashes t Int4AbsOps h = absurd (false≢true h)
+class-hashes t Int8AbsOps h = absurd (false≢true h)
+
+-- a class that accepts a type for hash has `=` for it
+pub key-hashes : (t : SqlType) (k : IndexKey) → accepted k.class Hash t ≡ true → is_some (number_in (key_family k) Hash Eq) ≡ true
+unfolding key_family
+key-hashes t k h = class-hashes t k.class h
+
+-- the values of a lawful row are those of an entry
+keys-fit : (columns : List Column) (m : Method) (row : Values) → IsRowOf columns row → (ks : List IndexKey) → AllByRecursion (IsKeyOf columns m) ks → AreKeyValues ks (map (λ (k : IndexKey). cell row k.col) ks)
+keys-fit columns m row is [] of = tt
+keys-fit columns m row is (k ∷ ks) of = (key-fits columns m k row of.0 is, keys-fit columns m row is ks of.1)
+
+pub entry-fits : (columns : List Column) (d : Index) (rows : List Values) (n : ℕ) → FitsColumns columns d → IsRowOf columns (get_or rows n []) → IsEntryOf d.keys d.include (entry d rows n)
+entry-fits columns d rows n fits is = record {
+  keys = keys-fit columns d.method (get_or rows n []) is d.keys (recursion_from_All (IsKeyOf columns d.method) d.keys fits.keys);
+  include = length-map d.include (cell (get_or rows n []));
+}
+
+each-cond : {A : Type 0} (P : A → Type 0) (b : Bool) (x : A) (l : List A) → P x → AllByRecursion P l → AllByRecursion P (when b (x ∷ l) l)
+each-cond P true x l p h = (p, h)
+each-cond P false x l p h = h
+
+each-among : (P : Entry → Type 0) (d : Index) (rows : List Values) (a n : ℕ) → ((k : ℕ) → k < a + n → P (entry d rows k)) → AllByRecursion P (among d rows a n)
+each-among P d rows a zero h = tt
+each-among P d rows a (suc n) h =
+    subst (AllByRecursion P) (sym (among-suc d rows a n))
+    (each-cond P (meets d.predicate (get_or rows a [])) (entry d rows a) (among d rows (a + 1) n) (h a (omega arith)) (each-among P d rows (a + 1) n (λ k lt. h k (omega arith))))
+
+each-mapped : {A B : Type 0} (P : B → Type 0) (f : A → B) (l : List A) → AllByRecursion (λ x. P (f x)) l → AllByRecursion P (map f l)
+each-mapped P f [] h = tt
+each-mapped P f (x ∷ l) h = (h.0, each-mapped P f l h.1)
+
+module _ (columns : List Column) (d : Index) (lawful : IsLawfulIndex columns d) (rows : List Values) (each : All (IsRowOf columns) rows) (from : ℕ) (le : from ≤ length rows) where
+  pub found-fits : All (IsEntryOf d.keys d.include) (found d rows from)
+  found-fits =
+      All-from_recursion (IsEntryOf d.keys d.include) (found d rows from)
+      (each-among (IsEntryOf d.keys d.include) d rows from (length rows - from) (λ k lt. entry-fits columns d rows k lawful.fits (each k [] (omega arith))))
+
+-- the values that a hash index holds
+key-of-one : (ks : List IndexKey) (row : Values) → 0 < length ks → first_value (map (λ (k : IndexKey). cell row k.col) ks) ≡ cell row (first_key ks).col
+key-of-one [] row lt = absurd (omega (arith, lt))
+key-of-one (k ∷ ks) row lt = refl
+
+first-of-all : (P : IndexKey → Type 0) (ks : List IndexKey) → 0 < length ks → All P ks → P (first_key ks)
+first-of-all P [] lt h = absurd (omega (arith, lt))
+first-of-all P (k ∷ ks) lt h = h 0 k (omega arith)
+
+module _ (columns : List Column) (d : Index) (lawful : IsLawfulIndex columns d) where
+  pub first-key-is : IsKeyOf columns d.method (first_key d.keys)
+  first-key-is = first-of-all (IsKeyOf columns d.method) d.keys lawful.fits.some lawful.fits.keys
+
+  module _ (rows : List Values) (each : All (IsRowOf columns) rows) (from : ℕ) (le : from ≤ length rows) where
+    pub held-fits : All (λ (h : Held). IsOfFamily (key_family (first_key d.keys)) h.value) (map held_of (found d rows from))
+    held-fits =
+        let P : Held → Type 0 = λ (h : Held). IsOfFamily (key_family (first_key d.keys)) h.value in
+        All-from_recursion P (map held_of (found d rows from))
+        (each-mapped P held_of (found d rows from)
+        (each-among (λ (e : Entry). P (held_of e)) d rows from (length rows - from)
+        (λ k lt. subst (IsOfFamily (key_family (first_key d.keys))) (sym (key-of-one d.keys (get_or rows k []) lawful.fits.some))
+        (key-fits columns d.method (first_key d.keys) (get_or rows k []) first-key-is (each k [] (omega arith))))))
+
+  -- a hash index may be built by the one key
+  pub hash-builds : (k : IndexKey) → d.method ≡ Hash → k ≡ get_or d.keys 0 k → is_some (number_in (key_family k) Hash Eq) ≡ true
+  hash-builds k hash first =
+      let here : IsKeyOf columns d.method k = subst (IsKeyOf columns d.method) (sym first) (lawful.fits.keys 0 k lawful.fits.some) in
+      key-hashes (type_at columns k.col) k (subst (λ (m : Method). accepted k.class m (type_at columns k.col) ≡ true) hash here.class)

@@ -1,0 +1,15 @@
+use Rattle.std.proofs.Common.{◌≡◌, ◌+◌, ◌-◌, ◌*◌, length, map, take}
+use Rattle.std.specs.Prelude.{slice_index_or}
+use Rattle.catalog.specs.Contents.{numbers_from}
+use Rattle.sql_query.specs.Worlds.{nothing_stored}
+use Rattle.store.specs.Kept.{built_over, first_rows}
+use Rattle.store.specs.View.{built}
+use Rattle.store.proofs.SwapLemmas.{swapped}
+use Rattle.store.proofs.store.grow.Given as goal
+
+abbrev pub invariant-loop-n : goal.invariant-loop-n
+invariant-loop-n g l = record {
+  long : length l.indexes.items ≡ length l.cat.indexes;
+  built : map built l.indexes.items ≡ swapped (built_over l.heaps) (built_over (first_rows l.before l.t l.heaps)) l.cat.indexes l.n;
+  looks : l.looks ≡ l.fn.looks + length (numbers_from 0 (take l.n l.cat.indexes) l.t) * (length (slice_index_or l.heaps l.t.0 nothing_stored).rows - l.before);
+}

@@ -1,0 +1,97 @@
+-- What is kept of a catalogue: the rows of its tables, and its indexes built over them (PostgreSQL manual, chapter Indexes;
+-- the order of equal keys is own).
+use Rattle.std.specs.Prelude.{◌≡◌, ℕ, ◌-◌, ◌*◌, false, cond, nat_eq, List, [], ◌∷◌, ◌++◌, filter, length, map, slice_index_or, slice_set, take}
+use Rattle.std.specs.List.{range_with_len}
+use Rattle.pg_base.specs.declared.numbers.TableNo.{TableNo}
+use Rattle.pg_value.specs.Sorting.{in_order}
+use Rattle.opfamily.specs.KeyOrder.{Entry, first_value}
+use Rattle.opfamily.specs.declared.classes.IndexKey.{IndexKey}
+use Rattle.opfamily.specs.declared.classes.Method.{Method}
+use Rattle.opfamily.specs.declared.classes.Method.TheVariants.{Btree, Hash}
+use Rattle.opfamily.specs.declared.classes.OpClass.TheVariants.{Int2Ops}
+use Rattle.btree_index.specs.Tree.{Tree}
+use Rattle.btree_index.specs.Tree as tree
+use Rattle.hash_index.specs.Held.{Held, Table, held_order}
+use Rattle.hash_index.specs.Held as held
+use Rattle.heap.specs.Stored.{Stored, Values}
+use Rattle.catalog.specs.Contents.{Contents, NamedIndex, indexes_of}
+use Rattle.catalog.specs.Indexes.{Index}
+use Rattle.sql_query.specs.Worlds.{IsWorld, nothing_stored, world}
+use Rattle.plan_tree.specs.Entries.{entries_over, entry, meets}
+
+-- an index as it is built
+pub data Built : Type 0 where
+  sorted : Tree → Built
+  hashed : Table → Built
+
+-- what is stored of each table, and the indexes, each in order of making
+pub record Kept : Type 0 where
+  pub stored : List Stored
+  pub built : List Built
+
+abbrev pub nothing_kept : Kept
+nothing_kept = record { stored = []; built = [] }
+
+-- one more table, the last
+abbrev pub with_heap : Kept → Stored → Kept
+with_heap k h = record { stored = k.stored ++ h ∷ []; built = k.built }
+
+-- what is stored of a table
+abbrev pub stored_of : Kept → TableNo → Stored
+stored_of k t = slice_index_or k.stored t.0 nothing_stored
+
+-- the entries of an index for the rows from a number on, in the order of the rows
+abbrev pub found : Index → List Values → ℕ → List Entry
+found d rows from = map (entry d rows) (filter (λ n. meets d.predicate (slice_index_or rows n [])) (range_with_len from (length rows - from)))
+
+-- the one key of a hash index; what stands where there is none
+abbrev pub first_key : List IndexKey → IndexKey
+first_key [] = record { col = record { 0 = 0 }; class = Int2Ops; descending = false; nulls_first = false }
+first_key (k ∷ ks) = k
+
+-- an entry with one key, as a hash index holds it
+abbrev pub held_of : Entry → Held
+held_of e = record { value = first_value e.keys; row = e.row }
+
+-- an index with exactly its entries over the rows of its table: a B-tree has them in the order of its keys, equal ones by
+-- row, a hash index by the value of its one key, equal ones by row
+abbrev pub tree_of : Index → List Values → Tree
+tree_of d rows = record { keys = d.keys; include = d.include; entries = entries_over d rows }
+
+abbrev pub table_of : Index → List Values → Table
+table_of d rows = record { key = first_key d.keys; held = in_order (held_order (first_key d.keys)) (map held_of (entries_over d rows)) }
+
+abbrev pub built_by : Method → Index → List Values → Built
+built_by Btree d rows = sorted (tree_of d rows)
+built_by Hash d rows = hashed (table_of d rows)
+
+abbrev pub built_of : Index → List Values → Built
+built_of d rows = built_by d.method d rows
+
+-- an index without the entries of the rows from a number on
+abbrev pub below : ℕ → Built → Built
+below rows (sorted t) = sorted (tree.of_rows_below rows t)
+below rows (hashed t) = hashed (held.of_rows_below rows t)
+
+-- an index of a catalogue, over what is stored of its table
+abbrev pub built_over : List Stored → NamedIndex → Built
+built_over stored x = built_of x.index (slice_index_or stored x.index.table.0 nothing_stored).rows
+
+-- of a catalogue: each table has its rows, and each index is built over those of its table
+pub record IsStoreOf (c : Contents) (k : Kept) : Type 0 where
+  pub world : IsWorld (world c k.stored)
+  pub built : k.built ≡ map (built_over k.stored) c.indexes
+
+-- the looks of a load by which this comes to be stored of a table: one at each new row for each index of the table
+abbrev pub load_looks : Contents → TableNo → (old new : Stored) → ℕ
+load_looks c t old new = length (indexes_of c t) * (length new.rows - length old.rows)
+
+-- what is stored, but of one table the first rows alone
+abbrev pub first_rows : ℕ → TableNo → List Stored → List Stored
+first_rows n t stored = slice_set stored t.0 (record (slice_index_or stored t.0 nothing_stored) { rows = take n (slice_index_or stored t.0 nothing_stored).rows })
+
+-- built indexes of these definitions, those of a table without the entries of the rows from a number on
+unfoldable pub cut_back : TableNo → ℕ → List NamedIndex → List Built → List Built
+cut_back t n [] bs = bs
+cut_back t n (x ∷ xs) [] = []
+cut_back t n (x ∷ xs) (b ∷ bs) = cond (nat_eq x.index.table.0 t.0) (below n b) b ∷ cut_back t n xs bs

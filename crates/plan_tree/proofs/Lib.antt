@@ -7,3 +7,11 @@ pub mod AtMostLemmas
 pub mod EstimateLemmas
 pub mod JoinLemmas
 pub mod ScanLemmas
+pub mod ElementLemmas
+pub mod GatherLemmas
+pub mod NamedLemmas
+pub mod ConditionLemmas
+pub mod FrontLemmas
+pub mod PathLemmas
+pub mod PricingLemmas
+pub mod CostableLemmas

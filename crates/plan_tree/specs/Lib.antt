@@ -8,7 +8,10 @@ pub mod Paths
 pub mod Views
 pub mod Reads
 pub mod Ranks
+pub mod Fronts
 pub mod Entries
 pub mod Run
 pub mod Counts
 pub mod Sorted
+pub mod Gathering
+pub mod Costable

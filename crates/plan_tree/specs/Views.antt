@@ -1,12 +1,15 @@
 -- The trees that bitmap trees, plans and paths stand for. Own.
-use Rattle.std.specs.Prelude.{List, [], ◌∷◌, map}
+use Rattle.std.specs.Prelude.{Bool, List, [], ◌∷◌, map}
 use Rattle.plan_tree.specs.Plans.{BitTree, leaf, all_hold, some_arm, BitTrees, no_trees, tree_and, Plan, seq, index, index_only, bitmap, sort, nest, merge}
-use Rattle.plan_tree.specs.Paths.{Path}
+use Rattle.plan_tree.specs.Bitmaps.{Element, by_index, by_clause}
+use Rattle.plan_tree.specs.Paths.{Path, is_at_most}
 use Rattle.plan_tree.specs.declared.bits.BitTree.{BitTree as Bits}
 use Rattle.plan_tree.specs.declared.bits.BitTree.TheOpen.{BitTree-F, Leaf, And, Or}
 use Rattle.plan_tree.specs.declared.bits.BitTree.TheFolds.{fold-BitTree}
 use Rattle.plan_tree.specs.declared.plan.Plan.{Plan as Planned, Seq, Index, IndexOnly, Bitmap, Sort', Nest', Merge'}
 use Rattle.plan_tree.specs.declared.path.Path.{Path as Costed}
+use Rattle.plan_tree.specs.declared.elements.Element.{Element as Chosen}
+use Rattle.plan_tree.specs.declared.elements.Element.TheVariants as chosen
 
 abbrev pub trees_of : List BitTree → BitTrees
 trees_of [] = no_trees
@@ -38,3 +41,12 @@ plan (Merge' keys _ outer _ inner) = merge keys (plan outer) (plan inner)
 -- a path with the tree of its plan
 abbrev pub path : Costed → Path
 path p = record { tree = plan p.plan; set = p.set; param = p.param; startup = p.startup; cost = p.cost; rows = p.rows; keys = p.keys }
+
+-- what an element of a bitmap stands for
+abbrev pub element : Chosen → Element
+element (chosen.Index i) = by_index i
+element (chosen.Clause n) = by_clause n
+
+-- one path with its plan may take another's place
+abbrev pub is_path_at_most : Costed → Costed → Bool
+is_path_at_most a b = is_at_most (path a) (path b)

@@ -18,14 +18,14 @@ use pg_base::RelSet;
 use sql_query::Prepared;
 
 /// The relations of a query, in FROM order.
-pub(crate) fn range_of(q: &Prepared) -> &RangeTable
+pub fn range_of(q: &Prepared) -> &RangeTable
     ensures { result.now ≡ q.now.range }
 {
     &q.range
 }
 
 /// The classes of a query, with its numbered clauses.
-pub(crate) fn classes_of(q: &Prepared) -> &Classes
+pub fn classes_of(q: &Prepared) -> &Classes
     ensures { result.now ≡ q.now.classes }
 {
     &q.classes

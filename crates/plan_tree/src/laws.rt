@@ -9,6 +9,7 @@ ghost use Rattle.pathkeys.specs.Keys.{Keys};
 ghost use Rattle.plan_tree.specs.Plans.{Plan, sort, nest, merge, set_of, given_scan, is_sort, joins};
 ghost use Rattle.plan_tree.specs.Costs.{HaveRows, cost, estimate, price};
 ghost use Rattle.plan_tree.specs.Space.{IsLike, IsBuilt, IsFinished};
+ghost use Rattle.plan_tree.specs.Costable.{IsCostable};
 ghost use Rattle.plan_tree.specs.Least.{IsAdmissible, Dominates, StandsFor};
 ghost use Rattle.plan_tree.specs.Paths.{Path, HasItsNumbers, is_at_most};
 
@@ -92,4 +93,10 @@ pub fn admissible_children()
 pub fn at_most_is_domination()
     ensures { (c : Contents) (q : Query) (a b : Path) → HasItsNumbers c q a → HasItsNumbers c q b →
         IsTrue (is_at_most a b) ↔ Dominates c q a.tree b.tree }
+{}
+
+/// A plan of the space has a cost, and so has a sort of it by any classes.
+pub fn built_plans_are_costable()
+    ensures built { (c : Contents) (q : Query) (p : Plan) → IsBuilt c q p → IsCostable c q p }
+    ensures sorted { (c : Contents) (q : Query) (keys : Keys) (p : Plan) → IsBuilt c q p → IsCostable c q (sort keys p) }
 {}

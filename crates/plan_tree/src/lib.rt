@@ -3,24 +3,37 @@
 #![tactic(auto)]
 
 mod bits;
+mod elements;
 mod estimates;
+mod index_scans;
 mod joins;
 mod laws;
+mod make;
+mod parts;
 mod path;
 mod plan;
+mod pricing;
 mod scans;
 mod sets;
 #[cfg(test)]
 mod tests;
 
 pub use bits::{BitTree, BitTrees};
-pub use estimates::estimate;
+pub use elements::{
+    Element, Elements, MOST_ELEMENTS, first_elements, has_condition, is_index_on, matches_arm,
+    or_arms,
+};
+pub use estimates::{classes_of, estimate, range_of};
+pub use index_scans::{is_index_only_scan, is_index_scan};
 pub use joins::{merge_cost, nest_cost};
 pub use laws::{
-    admissible_children, at_most_is_domination, cost_bounds, dominating_finish, dominating_sides,
-    domination, like_plans, replaced_children,
+    admissible_children, at_most_is_domination, built_plans_are_costable, cost_bounds,
+    dominating_finish, dominating_sides, domination, like_plans, replaced_children,
 };
+pub use make::{conditions_found, names_exactly, offer_scan, others_named, scan_path};
+pub use parts::{arm_part_of, index_part_of};
 pub use path::Path;
 pub use plan::Plan;
-pub use scans::{index_scan_cost, seq_scan_cost};
+pub use pricing::{arms_at, bitmap_scan_cost, cost, use_tree};
+pub use scans::{bounds_and_tests, index_scan_cost, seq_scan_cost};
 pub use sets::set_of;

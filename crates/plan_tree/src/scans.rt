@@ -31,7 +31,7 @@ pub fn seq_scan_cost(cat: &Catalog, q: &Prepared, r: RelNo) -> Pair
 
 /// The bounds and tests of an index together.
 #[tactic(auto, using(eq_classes::proofs::WordLemmas::grows))]
-fn bounds_and_tests(classes: &Classes, found: &Match) -> ClauseSet
+pub fn bounds_and_tests(classes: &Classes, found: &Match) -> ClauseSet
     ensures { (k : ℕ) → contains result k ≡ nat_lt k (length classes.now.clauses) && (contains found.now.bounds k || contains found.now.tests k) }
 {
     let mut set = ClauseSet::empty();

@@ -1,0 +1,10 @@
+pub mod TotalLemmas
+pub mod KeyLemmas
+pub mod TieLemmas
+pub mod IndexOrderLemmas
+pub mod IndexKeyLemmas
+pub mod SortedLemmas
+pub mod PrefixLemmas
+pub mod OrderedLemmas
+pub mod ItemLemmas
+pub mod FinishedOrderLemmas

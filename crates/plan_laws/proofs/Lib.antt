@@ -1,0 +1,14 @@
+pub mod EachLemmas
+pub mod PermLemmas
+pub mod ProductLemmas
+pub mod TupleLemmas
+pub mod FilterLemmas
+pub mod ClauseLemmas
+pub mod JoinLemmas
+pub mod ReorderLemmas
+pub mod PredicateLemmas
+pub mod ScanLemmas
+pub mod BitmapLemmas
+pub mod GivingLemmas
+pub mod FinishedLemmas
+pub mod ReadingLemmas

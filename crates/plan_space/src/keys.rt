@@ -1,0 +1,97 @@
+//! The keys of plans, place by place.
+
+ghost use Rattle.std.specs.Prelude.{◌≡◌, ◌≤◌, ◌↔◌, IsTrue, Some, false, length, slice_get, true};
+ghost use Rattle.eq_classes.specs.declared.classes.ClassNo.{ClassNo as Numbered};
+ghost use Rattle.std.specs.Option.{option_map};
+ghost use Rattle.catalog.specs.Contents.{IsIndex};
+ghost use Rattle.pathkeys.specs.Finding.{class_numbers};
+ghost use Rattle.pathkeys.specs.Keys.{covers};
+ghost use Rattle.plan_tree.specs.Costable.{IsCostable};
+ghost use Rattle.plan_tree.specs.Keys as keys;
+ghost use Rattle.plan_tree.specs.Views.{plan};
+
+use catalog::Catalog;
+use eq_classes::ClassNo;
+use pathkeys::index_key;
+use pg_base::{IndexNo, RelNo, RelSet};
+use plan_tree::{Plan, classes_of, range_of};
+use sql_query::Prepared;
+
+/// The class at place `n`, from 0, of the keys of a scan by an index.
+fn scan_key(
+    cat: &Catalog,
+    q: &Prepared,
+    r: RelNo,
+    i: IndexNo,
+    backward: bool,
+    p: RelSet,
+    n: u8,
+) -> Option<ClassNo>
+    requires index { IsIndex cat.now i }
+    ensures class { option_map (λ c. c.0) result ≡ slice_get (keys.scan_keys cat.now q.now r i backward p) n }
+{
+    if p.0 == 0 {
+        index_key(cat, range_of(q), classes_of(q), i, r, backward, n)
+    } else {
+        None
+    }
+}
+
+/// The class at place `n`, from 0, of a list.
+fn list_key(keys: &[ClassNo], n: u8) -> Option<ClassNo>
+    ensures class { option_map (λ c. c.0) result ≡ slice_get (class_numbers keys.now) n }
+{
+    keys.get(n as usize).copied()
+}
+
+/// The class at place `n`, from 0, of the keys by which a plan's rows are sorted. None exactly where the list is not so
+/// long. It takes no memory.
+pub fn key_at(cat: &Catalog, q: &Prepared, p: &Plan, n: u8) -> Option<ClassNo>
+    requires plan { IsCostable cat.now q.now (plan p.now) }
+    ensures class { option_map (λ c. c.0) result ≡ slice_get (keys.keys_of cat.now q.now (plan p.now)) n }
+{
+    match p {
+        Plan::Seq { .. } => None,
+        Plan::Index {
+            rel,
+            index,
+            backward,
+            param,
+        } => scan_key(cat, q, *rel, *index, *backward, *param, n),
+        Plan::IndexOnly {
+            rel,
+            index,
+            backward,
+            param,
+        } => scan_key(cat, q, *rel, *index, *backward, *param, n),
+        Plan::Bitmap { .. } => None,
+        Plan::Sort { keys, .. } => list_key(keys.items(), n),
+        Plan::Nest { outer, .. } => key_at(cat, q, outer, n),
+        Plan::Merge { outer, .. } => key_at(cat, q, outer, n),
+    }
+}
+
+/// Whether a class was found, and is this one.
+fn is_at(found: Option<ClassNo>, c: ClassNo) -> bool
+    ensures yes { result ≡ true → option_map (λ (k : Numbered). k.0) found ≡ Some c.0 }
+    ensures no { result ≡ false → ¬ (option_map (λ (k : Numbered). k.0) found ≡ Some c.0) }
+{
+    match found {
+        Some(k) => k.0 == c.0,
+        None => false,
+    }
+}
+
+/// Whether the keys by which a plan's rows are sorted begin with a list of at most 255 classes. It takes no memory.
+pub fn keys_begin_with(cat: &Catalog, q: &Prepared, p: &Plan, list: &[ClassNo]) -> bool
+    requires plan { IsCostable cat.now q.now (plan p.now) }
+    requires few { length list.now ≤ 255 }
+    ensures covered { IsTrue result ↔ (covers (keys.keys_of cat.now q.now (plan p.now)) (class_numbers list.now) ≡ true) }
+{
+    for n in 0..list.len() {
+        if !is_at(key_at(cat, q, p, n as u8), list[n]) {
+            return false;
+        }
+    }
+    true
+}

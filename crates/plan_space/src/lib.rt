@@ -1,0 +1,10 @@
+//! Which plans are in the plan space of a query. Nothing is asked of what stands inside a plan.
+#![tactic(auto)]
+
+mod keys;
+mod trees;
+mod validity;
+
+pub use keys::{key_at, keys_begin_with};
+pub use trees::is_bitmap_scan;
+pub use validity::{is_index_only_scan, is_index_scan};

@@ -1,0 +1,44 @@
+-- What a front has after the bitmap scans over some sets of elements were offered to it.
+use Rattle.std.proofs.Common.{◌≡◌, ◌<◌, ◌≤◌, ◌⊎◌, ℕ, ◌+◌, List, subst, arith, inl, inr}
+use Rattle.std.proofs.lemmas.Bool.{cases_lt}
+use Rattle.pg_base.specs.Sets.{has}
+use Rattle.pg_base.specs.declared.numbers.RelNo.{RelNo}
+use Rattle.pg_base.specs.declared.rel_set.RelSet.{RelSet}
+use Rattle.catalog.specs.Contents.{Contents}
+use Rattle.eq_classes.specs.Clauses.{one}
+use Rattle.sql_query.specs.Queries.{Query}
+use Rattle.plan_tree.specs.Plans.{BitTree, bitmap}
+use Rattle.plan_tree.specs.Space.{IsPlanOf}
+use Rattle.plan_tree.specs.Least.{IsAdmissible}
+use Rattle.plan_tree.specs.Paths.{Path}
+use Rattle.plan_tree.specs.Fronts.{AreOldOrOffers, ArePathsOf, HasDominating, StayDominated, is_bitmap}
+use Rattle.plan_tree.proofs.FrontLemmas.{old-stay}
+use Rattle.bitmap_scan.specs.Chosen.{combined, marked}
+use Rattle.bitmap_scan.proofs.ScanLemmas.{MarkIsDominated, offers-trans}
+
+module _ (c : Contents) (q : Query) (r : RelNo) (p : RelSet) (ts : List BitTree) (old : List Path) where
+  -- the scans of all marks below a number were offered
+  pub record AreOffered (new : List Path) (n : ℕ) : Type 0 where
+    pub paths : ArePathsOf c q new
+    pub kept : AreOldOrOffers c q is_bitmap (one r.0) (has p.0) old new
+    pub still : StayDominated c q old new
+    pub each : (m : ℕ) → m < n → MarkIsDominated c q r p ts new m
+
+  pub none-offered : ArePathsOf c q old → AreOffered old 0
+  none-offered h = record { paths = h; kept = old-stay c q is_bitmap (one r.0) (has p.0) old; still = λ t d. d; each = λ m lt. absurd (omega (arith, lt)) }
+
+  pub one-offered : (mid new : List Path) (n : ℕ) (ds : List BitTree) → AreOffered mid n → ds ≡ marked n ts → ArePathsOf c q new → AreOldOrOffers c q is_bitmap (one r.0) (has p.0) mid new → StayDominated c q mid new →
+      (IsPlanOf c q (one r.0) (has p.0) (bitmap r p (combined ds)) → IsAdmissible c q (bitmap r p (combined ds)) → HasDominating c q new (bitmap r p (combined ds))) → AreOffered new (n + 1)
+  one-offered mid new n ds h same paths kept still this = record {
+    paths = paths;
+    kept = offers-trans c q is_bitmap (one r.0) (has p.0) old mid new h.kept kept;
+    still = λ t d. still t (h.still t d);
+    each = λ m lt. by m lt (cases_lt m n);
+  }
+    where
+      by : (m : ℕ) → m < n + 1 → (m < n) ⊎ (n ≤ m) → MarkIsDominated c q r p ts new m
+      by m lt (inl less) = λ plan admissible. still (bitmap r p (combined (marked m ts))) (h.each m less plan admissible)
+      by m lt (inr more) =
+          let at : n ≡ m = omega (arith, lt, more) in
+          subst (MarkIsDominated c q r p ts new) at
+          (subst (λ (xs : List BitTree). IsPlanOf c q (one r.0) (has p.0) (bitmap r p (combined xs)) → IsAdmissible c q (bitmap r p (combined xs)) → HasDominating c q new (bitmap r p (combined xs))) same this)

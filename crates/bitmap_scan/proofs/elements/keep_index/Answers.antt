@@ -1,0 +1,17 @@
+use Rattle.std.proofs.Common.{rules, ◌≡◌, ◌∙◌, sym}
+use Rattle.pg_base.specs.Sets.{has}
+use Rattle.index_match.proofs.PartLemmas.{conditions_local}
+use Rattle.plan_tree.specs.Plans.{leaf}
+use Rattle.plan_tree.specs.Views.{bits}
+use Rattle.plan_tree.specs.declared.bits.BitTree.{Leaf}
+use Rattle.plan_tree.specs.declared.bits.BitTree.TheViews.{the_lemmas}
+use Rattle.plan_tree.specs.declared.bits.BitTree.TheVariants.{rolls-Leaf}
+use Rattle.plan_tree.specs.declared.bits.BitTree.TheFolds.{fold-roll-BitTree, fold_out-BitTree, fold-roll-BitTrees, fold_out-BitTrees}
+use Rattle.bitmap_scan.proofs.KeptLemmas.{kept-of}
+use Rattle.bitmap_scan.proofs.elements.keep_index.Goals as goal
+
+pub returns-clause-kept : goal.returns-clause-kept
+returns-clause-kept c =
+    let is : bits (Leaf c.args.i) ≡ leaf c.args.i = search (rules, the_lemmas, rolls-Leaf, fold-roll-BitTree, fold_out-BitTree, fold-roll-BitTrees, fold_out-BitTrees) in
+    kept-of c.args.cat.now c.args.q.now c.args.r c.args.p _ (leaf c.args.i) is c.index_part_of.ensures.part c.conditions_found.ensures
+    (λ n e. (conditions_local c.args.cat.now c.args.q.now.classes c.args.i c.args.r.0 (has c.args.p.0) n (sym (c.conditions_found.ensures n) ∙ e)).0)

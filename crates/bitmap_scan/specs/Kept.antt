@@ -1,0 +1,30 @@
+-- What is kept of an element in its tree of least part. Own.
+use Rattle.std.specs.Prelude.{◌≡◌, ◌<◌, ℕ, true, length}
+use Rattle.pg_base.specs.Sets.{has}
+use Rattle.pg_base.specs.declared.numbers.RelNo.{RelNo}
+use Rattle.pg_base.specs.declared.rel_set.RelSet.{RelSet}
+use Rattle.pg_expr.specs.AtomSets.{contains}
+use Rattle.catalog.specs.Contents.{Contents, IsIndex}
+use Rattle.sql_query.specs.Queries.{Query}
+use Rattle.cost_rules.specs.Costs.{capped}
+use Rattle.plan_tree.specs.Plans.{BitTree}
+use Rattle.plan_tree.specs.Bitmaps.{Element, by_index, by_clause, IsMatchedOr, condition_at, uses}
+use Rattle.plan_tree.specs.Costs.{part_of}
+use Rattle.plan_tree.specs.Views.{bits}
+use Rattle.bitmap_scan.specs.declared.kept.Kept.{Kept}
+
+-- the tree that is kept
+abbrev pub tree_in : Kept → BitTree
+tree_in k = bits k.tree
+
+module _ (c : Contents) (q : Query) (r : RelNo) (p : RelSet) where
+  -- an index of the catalogue, or an OR clause that is matched
+  abbrev pub IsMade : Element → Type 0
+  IsMade (by_index i) = IsIndex c i
+  IsMade (by_clause n) = (n < length q.classes.clauses) × IsMatchedOr c q r.0 (condition_at q n)
+
+  -- the part, once cut, and the clauses are those of the tree
+  pub record IsKept (k : Kept) : Type 0 where
+    pub part : k.part ≡ capped (part_of c q r p (tree_in k))
+    pub used : (n : ℕ) → contains k.used n ≡ uses c q r.0 (has p.0) (tree_in k) n
+    pub within : (n : ℕ) → contains k.used n ≡ true → n < length q.classes.clauses

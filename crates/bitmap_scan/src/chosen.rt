@@ -1,0 +1,85 @@
+//! Some of the elements together: what they use, their parts, and their tree.
+
+ghost use Rattle.std.specs.Prelude.{◌≡◌, ◌<◌, ◌≤◌, ◌&&◌, ℕ, IfOk, length, map, nat_lt};
+ghost use Rattle.std.specs.List.{list_any};
+ghost use Rattle.pg_expr.specs.AtomSets.{contains};
+ghost use Rattle.cost_rules.specs.Costs.{capped};
+ghost use Rattle.plan_tree.specs.Costs.{together};
+ghost use Rattle.plan_tree.specs.Views.{bits};
+ghost use Rattle.bitmap_scan.specs.Chosen.{combined, marked};
+ghost use Rattle.bitmap_scan.specs.Kept.{tree_in};
+
+use crate::arms::with_part;
+use crate::kept::Kept;
+use eq_classes::{ClauseSet, note};
+use pg_base::Memory;
+use plan_tree::{BitTree, BitTrees, classes_of};
+use sql_query::Prepared;
+use std::alloc::Global;
+
+/// The elements that the binary digits of a number mark, the lowest digit the first element. The error means want of
+/// memory.
+pub(crate) fn chosen_by<'a>(
+    alloc: Global,
+    kept: &'a [Kept],
+    mask: usize,
+) -> Result<Vec<&'a Kept>, Memory>
+    ensures { IfOk result (λ v. map (λ k. k.now) v.items ≡ marked mask kept.now) }
+{
+    let mut chosen = Vec::new(alloc);
+    let mut left = mask;
+    for k in kept {
+        if left % 2 == 1 {
+            chosen.push(k)?;
+        }
+        left /= 2;
+    }
+    Ok(chosen)
+}
+
+/// Whether some element uses the clause of a number.
+fn is_used(chosen: &[&Kept], n: u16) -> bool
+    requires { n < 512 }
+    ensures { result ≡ list_any (λ k. contains k.now.used n) chosen.now }
+{
+    chosen.iter().any(|k| k.used.has(n))
+}
+
+/// The clauses that some elements use.
+#[tactic(auto, using(eq_classes::proofs::WordLemmas::grows))]
+pub(crate) fn used_by(q: &Prepared, chosen: &[&Kept]) -> ClauseSet
+    ensures { (n : ℕ) → contains result n ≡ nat_lt n (length q.now.classes.clauses) && list_any (λ k. contains k.now.used n) chosen.now }
+{
+    let mut set = ClauseSet::empty();
+    for n in 0..classes_of(q).count() {
+        let is = is_used(chosen, n as u16);
+        note(&mut set, n as u16, is);
+    }
+    set
+}
+
+/// The parts of some elements together, with 100 for each after the first, cut to at most 10^18.
+pub(crate) fn parts_together(chosen: &[&Kept]) -> u64
+    ensures { result ≡ capped (together (map (λ k. k.now.part) chosen.now)) }
+{
+    let mut sum = 0;
+    for n in 0..chosen.len() {
+        sum = with_part(sum, chosen[n].part, n);
+    }
+    sum
+}
+
+/// The tree of some elements: the one, or the AND of several. The error means want of memory.
+pub(crate) fn combine(alloc: Global, chosen: &[&Kept]) -> Result<BitTree, Memory>
+    requires some { 1 ≤ length chosen.now }
+    ensures { IfOk result (λ b. bits b ≡ combined (map (λ k. tree_in k.now) chosen.now)) }
+{
+    if chosen.len() == 1 {
+        return chosen[0].tree.copy(alloc);
+    }
+    let mut items = Vec::new(alloc);
+    for k in chosen {
+        items.push(k.tree.copy(alloc)?)?;
+    }
+    Ok(BitTree::And(BitTrees { items }))
+}

@@ -1,0 +1,106 @@
+//! The bitmap scans that are offered to a front.
+
+ghost use Rattle.std.specs.Prelude.{◌≡◌, ◌<◌, ◌≤◌, ◌^◌, All, OnOk, length, map};
+ghost use Rattle.pg_base.specs.Sets.{has};
+ghost use Rattle.eq_classes.specs.Clauses.{one};
+ghost use Rattle.sql_query.specs.Queries.{width};
+ghost use Rattle.plan_tree.specs.Fronts.{AreDominated, AreOldOrOffers, ArePathsOf, HasDominating, StayDominated, is_bitmap};
+ghost use Rattle.plan_tree.specs.Least.{IsAdmissible};
+ghost use Rattle.plan_tree.specs.Plans.{bitmap};
+ghost use Rattle.plan_tree.specs.Reads.{IsOverTables};
+ghost use Rattle.plan_tree.specs.Space.{IsPlanOf};
+ghost use Rattle.plan_tree.specs.Views.{path};
+ghost use Rattle.bitmap_scan.specs.Chosen.{AreChosen, combined};
+ghost use Rattle.bitmap_scan.specs.Kept.{IsKept, tree_in};
+
+use crate::chosen::{chosen_by, combine, parts_together, used_by};
+use crate::elements::keep_all;
+use crate::kept::Kept;
+use catalog::Catalog;
+use pareto::Front;
+use path_cost::bitmap;
+use pathkeys::Keys;
+use pg_base::{Memory, RelNo, RelSet};
+use plan_tree::{Path, Plan, classes_of, first_elements, names_exactly, offer_scan, range_of};
+use sql_query::Prepared;
+use std::alloc::Global;
+
+/// How many sets there are of so many elements, the empty one too.
+fn sets_of(n: usize) -> usize
+    requires few { n ≤ 8 }
+    ensures { result ≡ 2 ^ n }
+{
+    1 << n
+}
+
+/// Offers the bitmap scan over the tree of some elements, where there are some and the other relations that their
+/// clauses name are exactly those of the parameterisation. The error means want of memory.
+fn offer_chosen(
+    alloc: Global,
+    cat: &Catalog,
+    q: &Prepared,
+    r: RelNo,
+    p: RelSet,
+    chosen: &[&Kept],
+    front: &mut Front<Path>,
+) -> Result<(), Memory>
+    requires query { IsOverTables cat.now q.now }
+    requires relation { r.0 < width q.now }
+    requires chosen { AreChosen cat.now q.now r p (map (λ k. tree_in k.now) chosen.now) }
+    requires kept { All (λ k. IsKept cat.now q.now r p k.now) chosen.now }
+    requires paths { ArePathsOf cat.now q.now (map path front.old) }
+    ensures paths { ArePathsOf cat.now q.now (map path front.new) }
+    ensures kept { AreOldOrOffers cat.now q.now is_bitmap (one r.0) (has p.0) (map path front.old) (map path front.new) }
+    ensures dominated { let t = bitmap r p (combined (map (λ k. tree_in k.now) chosen.now)) in
+        OnOk result (IsPlanOf cat.now q.now (one r.0) (has p.0) t → IsAdmissible cat.now q.now t → HasDominating cat.now q.now (map path front.new) t) }
+    ensures still { StayDominated cat.now q.now (map path front.old) (map path front.new) }
+{
+    if chosen.is_empty() {
+        return Ok(());
+    }
+    let used = used_by(q, chosen);
+    if !names_exactly(cat, q, r, p, &used) {
+        return Ok(());
+    }
+    let parts = parts_together(chosen);
+    let cost = bitmap(cat, range_of(q), classes_of(q), r, p, &used, parts);
+    let bits = combine(alloc, chosen)?;
+    let keys = Keys::from_slice(alloc, &[])?;
+    let t = Plan::Bitmap {
+        rel: r,
+        param: p,
+        bits,
+    };
+    offer_scan(cat, q, r, p, t, cost, keys, front)
+}
+
+/// Offers a front the bitmap scans of relation `r` where the rows of `p` are given: for each set of the first elements
+/// that names exactly the relations of `p` beside `r`, the scan over the tree of least part. Trees of the same elements
+/// differ in their parts alone, and the cost does not fall where these do not, so every admissible bitmap scan of the
+/// plan space is then dominated. Elements are the usable indexes with a condition, then the OR clauses each of whose arms
+/// some usable index wholly matches; the first 8 are combined, so there are at most 255 sets. The error means want of
+/// memory: what was offered before stays.
+pub fn bitmaps(
+    alloc: Global,
+    cat: &Catalog,
+    q: &Prepared,
+    r: RelNo,
+    p: RelSet,
+    front: &mut Front<Path>,
+) -> Result<(), Memory>
+    requires query { IsOverTables cat.now q.now }
+    requires relation { r.0 < width q.now }
+    requires paths { ArePathsOf cat.now q.now (map path front.old) }
+    ensures paths { ArePathsOf cat.now q.now (map path front.new) }
+    ensures kept { AreOldOrOffers cat.now q.now is_bitmap (one r.0) (has p.0) (map path front.old) (map path front.new) }
+    ensures dominated { OnOk result (AreDominated cat.now q.now is_bitmap (one r.0) (has p.0) (map path front.new)) }
+    ensures still { StayDominated cat.now q.now (map path front.old) (map path front.new) }
+{
+    let elements = first_elements(cat, q, r, p);
+    let kept = keep_all(alloc, cat, q, r, p, elements.items())?;
+    for mask in 0..sets_of(kept.len()) {
+        let chosen = chosen_by(alloc, &kept, mask)?;
+        offer_chosen(alloc, cat, q, r, p, &chosen, front)?;
+    }
+    Ok(())
+}

@@ -1,0 +1,4 @@
+pub mod EstimateLemmas
+pub mod OrderLemmas
+pub mod RelationLemmas
+pub mod PlaceLemmas

@@ -1,0 +1,77 @@
+//! The plan that a query is answered by.
+
+ghost use Rattle.std.specs.Prelude.{◌≡◌, IfErr, IfOk};
+ghost use Rattle.pathkeys.specs.Keys as keys;
+ghost use Rattle.sql_query.specs.Queries.{width};
+ghost use Rattle.sql_query.specs.WellBound.{IsWellBound};
+ghost use Rattle.plan_tree.specs.Least.{IsAdmissible, IsBestPlan};
+ghost use Rattle.plan_tree.specs.Paths.{IsFinishedPath};
+ghost use Rattle.plan_tree.specs.Plans as plans;
+ghost use Rattle.plan_tree.specs.Space.{IsFinished};
+ghost use Rattle.plan_tree.specs.Views.{path};
+ghost use Rattle.planner.specs.declared.least_plan.PlanFault.TheVariants.{CostLimit};
+
+use crate::finishing::{finish, has_no_window, least_place};
+use crate::relation::relation_paths;
+use catalog::Catalog;
+use pathkeys::{Keys, order_keys};
+use pg_base::Memory;
+use plan_tree::{Path, classes_of};
+use sql_query::Prepared;
+use std::alloc::{AllocError, Global};
+
+/// What a query is answered by.
+#[derive(Drop)]
+pub struct Planned {
+    /// A path of a finished plan: one of all relations, in the order asked for.
+    pub best: Path,
+}
+
+/// Why a query has no plan.
+#[derive(Clone, Copy, Debug, PartialEq, Eq)]
+pub enum PlanFault {
+    /// Each of its finished plans costs 10^18 or more.
+    CostLimit,
+    /// Want of memory.
+    Memory,
+}
+
+impl From<AllocError> for PlanFault {
+    ghost use Rattle.planner.specs.declared.least_plan.PlanFault.TheVariants.{Memory};
+
+    ghost from_gives = { λ _ fault. fault ≡ Memory };
+
+    fn from(_: AllocError) -> PlanFault {
+        PlanFault::Memory
+    }
+}
+
+/// The order keys of a query. The error means want of memory.
+fn order_asked(alloc: Global, q: &Prepared) -> Result<Keys, Memory>
+    ensures { IfOk result (λ ks. ks ≡ keys.order_keys q.now.classes q.now.order) }
+{
+    order_keys(alloc, classes_of(q), q.order.items())
+}
+
+/// A plan of least cost for a query of one relation: its path is of a finished plan below 10^18, and no other such plan
+/// of the whole plan space costs less. A scan whose keys begin with the order keys is finished; any other is sorted.
+/// `CostLimit` comes exactly where no finished plan is below 10^18, and `Memory` means want of memory.
+pub fn plan(alloc: Global, cat: &Catalog, q: &Prepared) -> Result<Planned, PlanFault>
+    requires bound { IsWellBound cat.now q.now }
+    requires one { width q.now ≡ 1 }
+    ensures best { IfOk result (λ planned. IsFinishedPath cat.now q.now (path planned.best)) }
+    ensures least { IfOk result (λ planned. IsBestPlan cat.now q.now (path planned.best).tree) }
+    ensures limit { IfErr result (λ e. e ≡ CostLimit → (t : plans.Plan) → IsFinished cat.now q.now t → ¬ IsAdmissible cat.now q.now t) }
+{
+    has_no_window(q);
+    let front = relation_paths(alloc, cat, q)?;
+    let order = order_asked(alloc, q)?;
+    let paths = front.items();
+    match least_place(cat, q, paths, &order) {
+        None => Err(PlanFault::CostLimit),
+        Some(at) => {
+            let best = finish(alloc, cat, q, &paths[at], order)?;
+            Ok(Planned { best })
+        }
+    }
+}

@@ -1,0 +1,10 @@
+//! The plan of a query: one of its plan space that no other admissible one undercuts (PostgreSQL,
+//! src/backend/optimizer/README; src/backend/optimizer/plan/planner.c, grouping_planner). A cost unit is 1/400 of a
+//! sequential page.
+#![tactic(auto)]
+
+mod finishing;
+mod least_plan;
+mod relation;
+
+pub use least_plan::{PlanFault, Planned, plan};

@@ -1,0 +1,4 @@
+pub mod TakingLemmas
+pub mod SpaceLemmas
+pub mod IndexLemmas
+pub mod TestLemmas

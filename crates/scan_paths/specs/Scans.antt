@@ -1,0 +1,39 @@
+-- Scans of a relation by one index, and what an offer of scans does to a front. Own.
+use Rattle.std.specs.Prelude.{Bool, true, false, List}
+use Rattle.pg_base.specs.Sets.{has}
+use Rattle.pg_base.specs.declared.numbers.IndexNo.{IndexNo}
+use Rattle.pg_base.specs.declared.numbers.RelNo.{RelNo}
+use Rattle.pg_base.specs.declared.rel_set.RelSet.{RelSet}
+use Rattle.catalog.specs.Contents.{Contents}
+use Rattle.eq_classes.specs.Clauses.{one}
+use Rattle.sql_query.specs.Queries.{Query}
+use Rattle.plan_tree.specs.Plans.{Plan, index, index_only}
+use Rattle.plan_tree.specs.Space.{IsBuilt}
+use Rattle.plan_tree.specs.Least.{IsAdmissible}
+use Rattle.plan_tree.specs.Paths.{Path}
+use Rattle.plan_tree.specs.Fronts.{AreOldOrOffers, ArePathsOf, HasDominating, StayDominated, is_no_bitmap}
+use Rattle.scan_paths.specs.declared.index_scans.ByIndex.{ByIndex}
+
+-- a scan of a relation by an index, index-only or not
+abbrev pub tree_by : Bool → RelNo → IndexNo → Bool → RelSet → Plan
+tree_by false r i backward p = index r i backward p
+tree_by true r i backward p = index_only r i backward p
+
+abbrev pub tree_of : ByIndex → Bool → Plan
+tree_of s backward = tree_by s.only s.rel s.index backward s.param
+
+module _ (c : Contents) (q : Query) where
+  -- an admissible scan of the space is dominated
+  abbrev pub IsServed : List Path → Plan → Type 0
+  IsServed paths t = IsBuilt c q t → IsAdmissible c q t → HasDominating c q paths t
+
+module _ (c : Contents) (q : Query) (r : RelNo) (p : RelSet) where
+  -- scans of the relation with the parameterisation were offered: nothing else is new, and what was dominated still is
+  pub record TakesScans (old new : List Path) : Type 0 where
+    pub paths : ArePathsOf c q new
+    pub kept : AreOldOrOffers c q is_no_bitmap (one r.0) (has p.0) old new
+    pub still : StayDominated c q old new
+
+  -- each scan by an index that is of the space and admissible is dominated, index-only or not, either way
+  abbrev pub IsIndexServed : List Path → IndexNo → Type 0
+  IsIndexServed paths i = (only backward : Bool) → IsServed c q paths (tree_by only r i backward p)

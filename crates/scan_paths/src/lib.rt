@@ -1,0 +1,10 @@
+//! Scans of one relation, but those by a bitmap, offered as paths (PostgreSQL, src/backend/optimizer/path/allpaths.c,
+//! set_plain_rel_pathlist, and indxpath.c, create_index_paths).
+#![tactic(auto)]
+
+mod index_scans;
+mod relation_scans;
+#[cfg(test)]
+mod tests;
+
+pub use relation_scans::scans;

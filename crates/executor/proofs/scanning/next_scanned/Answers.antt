@@ -1,0 +1,25 @@
+use Rattle.std.proofs.Common.{◌≡◌, ◌∷◌, ◌++◌, ◌∙◌, [], List, length, sym, ap, rules}
+use Rattle.pg_base.specs.declared.numbers.Tid.{Tid}
+use Rattle.sql_query.specs.Queries.{Query}
+use Rattle.plan_tree.specs.Views.{plan}
+use Rattle.scan_exec.specs.Coming.{Coming, left}
+use Rattle.executor.specs.Numbers.{numbers}
+use Rattle.executor.proofs.DrawLemmas.{found_left, none_left, none_behind}
+use Rattle.executor.proofs.ScanLemmas.{scan_long, scan_step}
+use Rattle.executor.proofs.scanning.next_scanned.Goals as goal
+
+pub returns-in_ok-push-in-Some-clause-some : goal.returns-in_ok-push-in-Some-clause-some
+returns-in_ok-push-in-Some-clause-some g c = λ (q : Query).
+    let row : c.from_vec.result ≡ c.in-Some.tid ∷ [] = search rules in
+    scan_step q (plan c.args.scanning.now.plan.now) c.from_vec.result (left c.args.scanning.now.rows) (left c.next.new.self) c.requires.good.scan (ap length row)
+    (found_left c.args.scanning.now.rows c.in-Some.tid.0 c.in-Some.ensures.row
+    ∙ ap (λ (cs : List Coming). c.in-Some.tid.0 ∷ left cs) (sym c.in-Some.ensures.rest)
+    ∙ ap (λ (t : List Tid). numbers t ++ left c.next.new.self) (sym row))
+
+pub returns-in_ok-push-in-Some-clause-len : goal.returns-in_ok-push-in-Some-clause-len
+returns-in_ok-push-in-Some-clause-len g c =
+    let row : c.from_vec.result ≡ c.in-Some.tid ∷ [] = search rules in
+    scan_long (plan c.args.scanning.now.plan.now) (length c.from_vec.result) c.requires.good.scan c.requires.good.below (ap length row)
+
+pub returns-in-None-clause-none : goal.returns-in-None-clause-none
+returns-in-None-clause-none g c = (none_left c.args.scanning.now.rows c.in-None.ensures.row, c.in-None.ensures.rest ∙ none_behind c.args.scanning.now.rows c.in-None.ensures.row)

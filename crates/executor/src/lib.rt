@@ -1,0 +1,15 @@
+//! Plans run: their tuples are drawn one by one, or all at once (PostgreSQL, src/backend/executor/README).
+#![tactic(auto)]
+
+mod laws;
+mod node;
+mod rows;
+mod running;
+mod scanning;
+mod sorting;
+mod tuple;
+
+pub use laws::{plans_without_joins, tuples_have_rows};
+pub use rows::Rows;
+pub use running::execute;
+pub use tuple::Tuple;

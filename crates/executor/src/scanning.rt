@@ -1,0 +1,89 @@
+//! Scans that are drawn from.
+
+ghost use Rattle.std.specs.Prelude.{◌≡◌, ◌≤◌, ◌+◌, ◌∷◌, [], true, length, IfOk, IfSome, IfNone};
+ghost use Rattle.heap.specs.Tuples.{padded, rank};
+ghost use Rattle.sql_query.specs.Queries.{Query, width};
+ghost use Rattle.sql_query.specs.Tuples.{no_rows};
+ghost use Rattle.sql_query.specs.WellBound.{IsWellBound};
+ghost use Rattle.sql_query.specs.Worlds.{world};
+ghost use Rattle.store.specs.Kept.{IsStoreOf};
+ghost use Rattle.plan_tree.specs.Counts as counts;
+ghost use Rattle.plan_tree.specs.Counts.{looks};
+ghost use Rattle.plan_tree.specs.Plans.{set_of};
+ghost use Rattle.plan_tree.specs.Run.{run};
+ghost use Rattle.plan_tree.specs.Views.{plan};
+ghost use Rattle.scan_exec.specs.Coming.{allowed, behind, coming, is_given, left, owed};
+ghost use Rattle.scan_exec.specs.Plans.{IsScan};
+ghost use Rattle.executor.specs.Drawn.{IsDrawable, is_scan};
+ghost use Rattle.executor.specs.Node.{IsScanning, scanning_left};
+
+use crate::tuple::Tuple;
+use catalog::Catalog;
+use heap::Counters;
+use pg_base::{Memory, Steps};
+use plan_tree::Plan;
+use scan_exec::ScanRows;
+use sql_query::Prepared;
+use std::alloc::Global;
+use store::Store;
+
+/// A plan that is one scan, and its rows.
+#[derive(Drop)]
+pub(crate) struct Scanning<'a, C: Counters> {
+    pub(crate) plan: &'a Plan,
+    pub(crate) rows: ScanRows<'a, C>,
+}
+
+/// A scan that is given no rows, before its first one. The error means want of memory.
+pub(crate) fn start_scanning<'a, C: Counters>(
+    alloc: Global,
+    cat: &'a Catalog,
+    q: &'a Prepared,
+    p: &'a Plan,
+    store: &'a Store<C>,
+    reads: &mut Steps<C::Looks>,
+) -> Result<Scanning<'a, C>, Memory>
+    requires bound { IsWellBound cat.now q.now }
+    requires store { IsStoreOf cat.now store.now }
+    requires plan { IsDrawable (world cat.now store.now.stored) q.now (plan p.now) }
+    requires scan { IsScan (plan p.now) }
+    ensures good { IfOk result (λ s. IsScanning s) }
+    ensures plan { IfOk result (λ s. s.plan.now ≡ p.now) }
+    ensures one { is_scan (plan p.now) ≡ true }
+    ensures left { IfOk result (λ s. scanning_left q.now s ≡ run (world cat.now store.now.stored) q.now (plan p.now) (no_rows q.now)) }
+    ensures owed { IfOk result (λ s. owed s.rows ≡ counts.fetches (world cat.now store.now.stored) q.now (plan p.now) (no_rows q.now)) }
+    ensures coming { IfOk result (λ s. s.rows ≡ coming (world cat.now store.now.stored) q.now (plan p.now) (no_rows q.now)) }
+    ensures reads { IfOk result (λ s. reads.new + allowed s.rows ≤ reads.old + looks (world cat.now store.now.stored) q.now (plan p.now) (no_rows q.now)) }
+    ensures most { reads.new ≤ reads.old + looks (world cat.now store.now.stored) q.now (plan p.now) (no_rows q.now) }
+{
+    let rows = ScanRows::start(alloc, cat, q, p, store, &[], reads)?;
+    Ok(Scanning { plan: p, rows })
+}
+
+/// The next tuple of a scan. Up to and with its row, each row that the scan comes to is fetched and each entry looked at as
+/// the kind of scan does. The error means want of memory.
+pub(crate) fn next_scanned<'a, C: Counters>(
+    alloc: Global,
+    scanning: &mut Scanning<'a, C>,
+    fetches: &mut Steps<C::Fetches>,
+    reads: &mut Steps<C::Looks>,
+) -> Result<Option<Tuple>, Memory>
+    requires good { IsScanning scanning.old }
+    ensures good { IsScanning scanning.new }
+    ensures plan { scanning.new.plan.now ≡ scanning.old.plan.now }
+    ensures some { (q : Query) → IfOk result (λ o. IfSome o (λ t. scanning_left q scanning.old ≡ padded (width q) (set_of (plan scanning.old.plan.now)) t ∷ scanning_left q scanning.new)) }
+    ensures len { IfOk result (λ o. IfSome o (λ t. length t ≡ rank (set_of (plan scanning.old.plan.now)) 16)) }
+    ensures none { IfOk result (λ o. IfNone o ((left scanning.old.rows ≡ []) × (scanning.new.rows ≡ []))) }
+    ensures rest { scanning.new.rows ≡ behind is_given scanning.old.rows }
+    ensures exact { fetches.new + owed scanning.new.rows ≡ fetches.old + owed scanning.old.rows }
+    ensures reads { reads.new + allowed scanning.new.rows ≤ reads.old + allowed scanning.old.rows }
+{
+    match scanning.rows.next(fetches, reads) {
+        Some(tid) => {
+            let mut row = Vec::new(alloc);
+            row.push(tid)?;
+            Ok(Some(Tuple::from_vec(row)))
+        }
+        None => Ok(None),
+    }
+}

@@ -1,0 +1,74 @@
+//! Sorts that were drained and are drawn from.
+
+ghost use Rattle.std.specs.Prelude.{◌≡◌, ◌≤◌, ◌<◌, ◌+◌, ◌*◌, ◌∷◌, [], All, drop, length, IfOk, IfSome, IfNone, OnOk};
+ghost use Rattle.pg_base.specs.Sets.{has};
+ghost use Rattle.pg_value.specs.Sorting.{in_order};
+ghost use Rattle.eq_classes.specs.Holding.{IsWithin};
+ghost use Rattle.heap.specs.Tuples.{padded_tuples, rank};
+ghost use Rattle.pathkeys.specs.Sorted.{keys_order};
+ghost use Rattle.sql_query.specs.Queries.{all_of_query, width};
+ghost use Rattle.sql_query.specs.Tuples.{value_at};
+ghost use Rattle.sql_query.specs.WellBound.{IsWellBound};
+ghost use Rattle.sql_query.specs.Worlds.{world};
+ghost use Rattle.plan_tree.specs.Counts.{MOST_READS};
+ghost use Rattle.sort_rows.specs.Rows.{AllHaveRows};
+ghost use Rattle.store.specs.Kept.{IsStoreOf};
+ghost use Rattle.executor.specs.Node.{IsSorting, sorting_left};
+
+use crate::tuple::Tuple;
+use catalog::Catalog;
+use heap::{Counters, Tuples};
+use pathkeys::Keys;
+use pg_base::{Memory, Steps};
+use sort_rows::sort_rows;
+use sql_query::Prepared;
+use std::alloc::Global;
+use store::Store;
+
+/// Sorted tuples, of which those before a place were given.
+#[derive(Drop)]
+pub(crate) struct Sorting {
+    pub(crate) kept: Tuples,
+    pub(crate) at: u32,
+}
+
+/// A sort of these tuples by the classes of a key list, before its first tuple. The error means want of memory.
+pub(crate) fn start_sorting<C: Counters>(
+    alloc: Global,
+    cat: &Catalog,
+    q: &Prepared,
+    store: &Store<C>,
+    keys: &Keys,
+    input: &Tuples,
+    reads: &mut Steps<C::Looks>,
+) -> Result<Sorting, Memory>
+    requires bound { IsWellBound cat.now q.now }
+    requires store { IsStoreOf cat.now store.now }
+    requires keys { All (λ n. n < length q.now.classes.classes) keys.now }
+    requires set { IsWithin (has input.now.set.0) (all_of_query q.now) }
+    requires rows { AllHaveRows (world cat.now store.now.stored) q.now input.now }
+    ensures good { IfOk result (λ s. IsSorting s) }
+    ensures set { IfOk result (λ s. s.kept.set ≡ input.now.set) }
+    ensures left { IfOk result (λ s. sorting_left q.now s ≡ in_order (keys_order (value_at (world cat.now store.now.stored) q.now) q.now.classes (has input.now.set.0) keys.now) (padded_tuples (width q.now) input.now)) }
+    ensures cost { reads.new ≤ reads.old + MOST_READS * length input.now.rows }
+{
+    let kept = sort_rows(alloc, cat, q, store.heaps(), keys, input, reads)?;
+    Ok(Sorting { kept, at: 0 })
+}
+
+/// The next tuple. The error means want of memory.
+pub(crate) fn next_sorted(alloc: Global, sorting: &mut Sorting) -> Result<Option<Tuple>, Memory>
+    requires good { IsSorting sorting.old }
+    ensures good { OnOk result (IsSorting sorting.new) }
+    ensures kept { sorting.new.kept ≡ sorting.old.kept }
+    ensures some { IfOk result (λ o. IfSome o (λ t. drop sorting.old.at sorting.old.kept.rows ≡ t ∷ drop sorting.new.at sorting.new.kept.rows)) }
+    ensures len { IfOk result (λ o. IfSome o (λ t. length t ≡ rank (has sorting.old.kept.set.0) 16)) }
+    ensures none { IfOk result (λ o. IfNone o ((drop sorting.old.at sorting.old.kept.rows ≡ []) × (drop sorting.new.at sorting.new.kept.rows ≡ []))) }
+{
+    if sorting.at == sorting.kept.len() {
+        return Ok(None);
+    }
+    let row = Vec::from_slice(alloc, sorting.kept.get(sorting.at))?;
+    sorting.at += 1;
+    Ok(Some(Tuple::from_vec(row)))
+}

@@ -1,0 +1,12 @@
+use Rattle.std.proofs.Common.{length}
+use Rattle.catalog.specs.Entries.{index_of}
+use Rattle.scan_probes.specs.Filters.{conditions_of}
+use Rattle.scan_exec.proofs.HeldLemmas.{IsMarkingBy}
+use Rattle.scan_exec.proofs.bitmap.mark_entries.Given as goal
+
+abbrev pub invariant-loop-entry : goal.invariant-loop-entry
+invariant-loop-entry g l =
+    IsMarkingBy l.beside.cat.now l.beside.range.now l.beside.rel.0 l.given (conditions_of l.conditions) (index_of l.def) l.fn.held l.held l.fn.cursor l.left l.fn.reads l.reads
+
+abbrev pub decreases-loop-entry : goal.decreases-loop-entry
+decreases-loop-entry g l = length l.left

@@ -1,0 +1,64 @@
+-- The rows that a scan has still to come to, where it stands at a place of its relation's rows or of an index. Own.
+use Rattle.std.specs.Prelude.{ℕ, ◌<◌, ◌-◌, true, false, ◌&&◌, Bool, List, [], length, map, slice_index_or}
+use Rattle.std.specs.List.{range_with_len}
+use Rattle.opfamily.specs.KeyOrder.{Entry}
+use Rattle.pg_expr.specs.Cond.{Cond}
+use Rattle.catalog.specs.Contents.{Contents}
+use Rattle.catalog.specs.Indexes.{Index}
+use Rattle.catalog.specs.Range.{Range}
+use Rattle.heap.specs.Stored.{Values}
+use Rattle.scan_probes.specs.Values.{Given, are_true, value_beside, value_in, value_in_entry}
+use Rattle.scan_probes.specs.Scenes.{AreReadyAtEntry, AreReadyAtRow}
+use Rattle.scan_exec.specs.Coming.{Coming}
+
+-- whether conditions are True at a row beside the rows given, and at an entry
+abbrev pub passes_row : ℕ → Given → List Cond → Values → Bool
+passes_row r given es row = are_true (value_beside r (value_in row) given) es
+
+abbrev pub passes_entry : ℕ → Given → List Cond → Index → Entry → Bool
+passes_entry r given es d e = are_true (value_beside r (value_in_entry d e) given) es
+
+-- the row of a number is fetched, and given where the clauses are True
+abbrev pub fetched_at : ℕ → Given → List Cond → List Values → ℕ → Coming
+fetched_at r given es rows n = record { row = n; looked = false; fetched = true; given = passes_row r given es (slice_index_or rows n []) }
+
+-- the rows of some numbers, in their order
+abbrev pub rows_of : ℕ → Given → List Cond → List Values → List ℕ → List Coming
+rows_of r given es rows ns = map (fetched_at r given es rows) ns
+
+-- the rows from a place on
+abbrev pub rows_from : ℕ → Given → List Cond → List Values → ℕ → List Coming
+rows_from r given es rows n = rows_of r given es rows (range_with_len n (length rows - n))
+
+-- an entry that a cursor gives: where it meets the tests its row is fetched, and given where the clauses are True there
+abbrev pub entry_at : ℕ → Given → List Cond → List Cond → Index → List Values → Entry → Coming
+entry_at r given tests es d rows e = record {
+  row = e.row;
+  looked = true;
+  fetched = passes_entry r given tests d e;
+  given = passes_entry r given tests d e && passes_row r given es (slice_index_or rows e.row []);
+}
+
+-- the same without a fetch: the clauses are tested at the entry too
+abbrev pub covered_at : ℕ → Given → List Cond → List Cond → Index → Entry → Coming
+covered_at r given tests es d e = record {
+  row = e.row;
+  looked = true;
+  fetched = false;
+  given = passes_entry r given tests d e && passes_entry r given es d e;
+}
+
+-- what stands at the entries of an index: each is of a row, and the tests and clauses can be tested there
+pub record IsReadyEntry (c : Contents) (range : Range) (r : ℕ) (given : Given) (tests es : List Cond) (d : Index) (rows : List Values) (e : Entry) : Type 0 where
+  pub within : e.row < length rows
+  pub entry : AreReadyAtEntry c range r given tests d e
+  pub row : AreReadyAtRow c range r given es (slice_index_or rows e.row [])
+
+pub record IsReadyCover (c : Contents) (range : Range) (r : ℕ) (given : Given) (tests es : List Cond) (d : Index) (e : Entry) : Type 0 where
+  pub tested : AreReadyAtEntry c range r given tests d e
+  pub clauses : AreReadyAtEntry c range r given es d e
+
+-- what stands at row numbers: each is of a row, and the clauses can be tested there
+pub record IsReadyNumber (c : Contents) (range : Range) (r : ℕ) (given : Given) (es : List Cond) (rows : List Values) (n : ℕ) : Type 0 where
+  pub within : n < length rows
+  pub clauses : AreReadyAtRow c range r given es (slice_index_or rows n [])

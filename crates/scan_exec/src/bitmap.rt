@@ -1,0 +1,335 @@
+//! Bitmaps of the rows that the indexes of a bitmap tree hold, and their scans.
+
+ghost use Rattle.std.specs.Prelude.{◌≡◌, ◌<◌, ◌≤◌, ◌+◌, All, IfOk, OnOk, filter, length, map, nat_lt, true};
+ghost use Rattle.std.specs.List.{AllByRecursion, AllZip};
+ghost use Rattle.pg_base.specs.Sets.{has};
+ghost use Rattle.pg_expr.specs.View as view;
+ghost use Rattle.opfamily.specs.KeyOrder.{Entry};
+ghost use Rattle.heap.specs.TidSets.{TidSet};
+ghost use Rattle.catalog.specs.Contents.{index_at};
+ghost use Rattle.catalog.specs.Entries.{index_of};
+ghost use Rattle.index_match.specs.Arms.{arm_parts, takes_parts};
+ghost use Rattle.index_match.specs.Conditions.{index_conditions};
+ghost use Rattle.scan_probes.specs.Filters.{conditions_of};
+ghost use Rattle.sql_query.specs.Tuples.{rows_of_relation};
+ghost use Rattle.plan_tree.specs.Bitmaps.{IsIndexOn, MatchesArm};
+ghost use Rattle.plan_tree.specs.Counts.{arm_looks, entries_met, index_looks, tree_looks, all_tree_looks};
+ghost use Rattle.plan_tree.specs.Entries.{entry_rows};
+ghost use Rattle.plan_tree.specs.Plans as plans;
+ghost use Rattle.plan_tree.specs.Run.{at_which, met, some_holds, all_hold_row, holds, held as held_rows};
+ghost use Rattle.plan_tree.specs.Space.{IsBitmapScan};
+ghost use Rattle.plan_tree.specs.Views.{bits, bits_all};
+ghost use Rattle.store.specs.Kept.{built_of, hashed, sorted};
+ghost use Rattle.scan_exec.specs.Coming.{coming};
+ghost use Rattle.scan_exec.specs.Held.{AreHeldTrees, IsHeldTree, IsMade, IsReadyMark, set_held, with_arms, with_rows};
+ghost use Rattle.scan_exec.specs.Kinds.{passes_entry};
+ghost use Rattle.scan_exec.specs.Scene.{AreUsed, IsNear, IsSceneOf, limits, tuple_of, world_of};
+
+use crate::hashed::rows_equal;
+use crate::index::seek;
+use crate::numbers::BitRows;
+use crate::scene::Scene;
+use btree_index::{BTree, Cursor};
+use catalog::IndexDef;
+use hash_index::HashIndex;
+use heap::{Counters, Tids};
+use pg_base::{IndexNo, Memory, Steps, Tid};
+use pg_expr::Expr;
+use plan_tree::{BitTree, arms_at};
+use predicate_proof::and_parts;
+use scan_probes::{Beside, Given, pass_entry};
+use std::alloc::Global;
+use std::slice;
+use store::BuiltIndex;
+
+/// Puts in the rows of the entries of a cursor at which conditions are True. Each entry is one look.
+fn mark_entries<C: Counters>(
+    beside: &Beside,
+    given: &Given,
+    conditions: &[&Expr],
+    def: &IndexDef,
+    cursor: Cursor<C::Looks>,
+    held: &mut Tids,
+    reads: &mut Steps<C::Looks>,
+)
+    requires made { IsMade held.old }
+    requires ready { All (IsReadyMark beside.now.cat.now beside.now.range.now beside.now.rel.0 given.now (conditions_of conditions.now) (index_of def.now) held.old.bound) cursor }
+    ensures held { held.new ≡ with_rows held.old (map (λ (e : Entry). e.row) (filter (passes_entry beside.now.rel.0 given.now (conditions_of conditions.now) (index_of def.now)) cursor.entry)) }
+    ensures looks { reads.new ≡ reads.old + length cursor.entry }
+{
+    let mut left = cursor;
+    while let Some(entry) = left.next(reads) {
+        if pass_entry(beside, given, conditions, def, &entry) {
+            held.add(entry.tid());
+        }
+    }
+}
+
+/// Puts in rows by their numbers.
+fn mark_rows(tids: &[Tid], held: &mut Tids)
+    requires made { IsMade held.old }
+    requires within { AllByRecursion (λ t. t.0 < held.old.bound) tids.now }
+    ensures { held.new ≡ with_rows held.old (map (λ t. t.0) tids.now) }
+{
+    for tid in tids {
+        held.add(*tid);
+    }
+}
+
+/// Puts in the rows of the entries of a B-tree at which its conditions are True. Each entry within its bounds is one look. The
+/// error means want of memory.
+fn mark_sorted<C: Counters>(
+    alloc: Global,
+    at: &Scene<C>,
+    given: &Given,
+    i: IndexNo,
+    tree: &BTree<C::Looks>,
+    conditions: &[&Expr],
+    held: &mut Tids,
+    reads: &mut Steps<C::Looks>,
+) -> Result<(), Memory>
+    requires scene { IsSceneOf at.now given.now }
+    requires index { IsIndexOn at.now.cat.now at.now.q.now at.now.rel.0 i }
+    requires tree { sorted tree.now ≡ built_of (index_at at.now.cat.now i) (rows_of_relation (world_of at.now) at.now.q.now at.now.rel) }
+    requires used { AreUsed at.now.cat.now at.now.q.now at.now.rel at.now.param i (conditions_of conditions.now) }
+    requires made { IsMade held.old }
+    requires bound { held.old.bound ≡ length (rows_of_relation (world_of at.now) at.now.q.now at.now.rel) }
+    ensures held { OnOk result (held.new ≡ with_rows held.old (at_which (world_of at.now) at.now.q.now at.now.rel (tuple_of at.now) (conditions_of conditions.now) (entry_rows (world_of at.now) i))) }
+    ensures most { reads.new ≤ reads.old + entries_met (world_of at.now) at.now.q.now (index_at at.now.cat.now i).method at.now.rel i (tuple_of at.now) (limits (index_at at.now.cat.now i) at.now.rel.0 (conditions_of conditions.now)) }
+{
+    let cursor = seek(alloc, at, given, i, tree, conditions, false)?;
+    let beside = at.beside();
+    let def = at.cat.index(i);
+    mark_entries::<C>(&beside, given, conditions, def, cursor, held, reads);
+    Ok(())
+}
+
+/// Puts in the rows of a hash index at which its one condition is True. The error means want of memory.
+fn mark_hashed<C: Counters>(
+    alloc: Global,
+    at: &Scene<C>,
+    given: &Given,
+    i: IndexNo,
+    index: &HashIndex,
+    conditions: &[&Expr],
+    held: &mut Tids,
+) -> Result<(), Memory>
+    requires scene { IsSceneOf at.now given.now }
+    requires index { IsIndexOn at.now.cat.now at.now.q.now at.now.rel.0 i }
+    requires table { hashed index.now ≡ built_of (index_at at.now.cat.now i) (rows_of_relation (world_of at.now) at.now.q.now at.now.rel) }
+    requires one { length conditions.now ≡ 1 }
+    requires used { AreUsed at.now.cat.now at.now.q.now at.now.rel at.now.param i (conditions_of conditions.now) }
+    requires made { IsMade held.old }
+    requires bound { held.old.bound ≡ length (rows_of_relation (world_of at.now) at.now.q.now at.now.rel) }
+    ensures held { OnOk result (held.new ≡ with_rows held.old (at_which (world_of at.now) at.now.q.now at.now.rel (tuple_of at.now) (conditions_of conditions.now) (entry_rows (world_of at.now) i))) }
+{
+    let tids = rows_equal(alloc, at, given, i, index, conditions[0])?;
+    mark_rows(tids, held);
+    Ok(())
+}
+
+/// Puts in the rows of the entries of an index at which its conditions are True. Each entry of a B-tree within its bounds is
+/// one look. The error means want of memory.
+fn mark<C: Counters>(
+    alloc: Global,
+    at: &Scene<C>,
+    given: &Given,
+    i: IndexNo,
+    conditions: &[&Expr],
+    held: &mut Tids,
+    reads: &mut Steps<C::Looks>,
+) -> Result<(), Memory>
+    requires scene { IsSceneOf at.now given.now }
+    requires index { IsIndexOn at.now.cat.now at.now.q.now at.now.rel.0 i }
+    requires takes { takes_parts (index_at at.now.cat.now i).method (length conditions.now) ≡ true }
+    requires used { AreUsed at.now.cat.now at.now.q.now at.now.rel at.now.param i (conditions_of conditions.now) }
+    requires made { IsMade held.old }
+    requires bound { held.old.bound ≡ length (rows_of_relation (world_of at.now) at.now.q.now at.now.rel) }
+    ensures held { OnOk result (held.new ≡ with_rows held.old (at_which (world_of at.now) at.now.q.now at.now.rel (tuple_of at.now) (conditions_of conditions.now) (entry_rows (world_of at.now) i))) }
+    ensures most { reads.new ≤ reads.old + entries_met (world_of at.now) at.now.q.now (index_at at.now.cat.now i).method at.now.rel i (tuple_of at.now) (limits (index_at at.now.cat.now i) at.now.rel.0 (conditions_of conditions.now)) }
+{
+    match at.store.index(i) {
+        BuiltIndex::Sorted(tree) => {
+            mark_sorted(alloc, at, given, i, tree, conditions, held, reads)
+        }
+        BuiltIndex::Hashed(index) => mark_hashed(alloc, at, given, i, index, conditions, held),
+    }
+}
+
+/// The rows of the entries of an index that meet its conditions. The error means want of memory.
+fn hold_index<C: Counters>(
+    alloc: Global,
+    at: &Scene<C>,
+    given: &Given,
+    i: IndexNo,
+    reads: &mut Steps<C::Looks>,
+) -> Result<Tids, Memory>
+    requires scene { IsSceneOf at.now given.now }
+    requires tree { IsHeldTree at.now.cat.now at.now.q.now at.now.rel at.now.param (plans.leaf i) }
+    ensures held { IfOk result (λ s. s ≡ set_held (world_of at.now) at.now.q.now at.now.rel at.now.param (plans.leaf i) (tuple_of at.now)) }
+    ensures most { reads.new ≤ reads.old + index_looks (world_of at.now) at.now.q.now at.now.rel i at.now.param (tuple_of at.now) }
+{
+    let conditions = at.conditions(alloc, i)?;
+    let rows = at.heap().len();
+    let mut held = Tids::empty(alloc, rows)?;
+    mark(alloc, at, given, i, &conditions, &mut held, reads)?;
+    Ok(held)
+}
+
+/// An arm as the list of its AND's parts, or itself.
+#[tactic(auto, using(index_match::proofs::ArmLemmas::parts))]
+fn arm_list(arm: &Expr) -> &[Expr]
+    ensures { map view.cond result.now ≡ arm_parts (view.cond arm.now) }
+{
+    match and_parts(arm) {
+        Some(parts) => parts,
+        None => slice::from_ref(arm),
+    }
+}
+
+/// These parts, each lent. The error means want of memory.
+fn parts_of(alloc: Global, arm: &Expr) -> Result<Vec<&Expr>, Memory>
+    ensures { IfOk result (λ v. conditions_of v.items ≡ arm_parts (view.cond arm.now)) }
+{
+    let listed = arm_list(arm);
+    let mut parts = Vec::new(alloc);
+    for part in listed {
+        parts.push(part)?;
+    }
+    Ok(parts)
+}
+
+/// Puts in the rows that an arm holds by an index that matches it. The error means want of memory.
+fn mark_arm<C: Counters>(
+    alloc: Global,
+    at: &Scene<C>,
+    given: &Given,
+    arm: &Expr,
+    i: IndexNo,
+    held: &mut Tids,
+    reads: &mut Steps<C::Looks>,
+) -> Result<(), Memory>
+    requires scene { IsSceneOf at.now given.now }
+    requires near { IsNear at.now.cat.now at.now.q.now at.now.rel.0 (has at.now.param.0) (view.cond arm.now) }
+    requires matched { MatchesArm at.now.cat.now at.now.q.now at.now.rel.0 (view.cond arm.now) i }
+    requires made { IsMade held.old }
+    requires bound { held.old.bound ≡ length (rows_of_relation (world_of at.now) at.now.q.now at.now.rel) }
+    ensures held { OnOk result (held.new ≡ with_rows held.old (at_which (world_of at.now) at.now.q.now at.now.rel (tuple_of at.now) (arm_parts (view.cond arm.now)) (entry_rows (world_of at.now) i))) }
+    ensures most { reads.new ≤ reads.old + entries_met (world_of at.now) at.now.q.now (index_at at.now.cat.now i).method at.now.rel i (tuple_of at.now) (limits (index_at at.now.cat.now i) at.now.rel.0 (arm_parts (view.cond arm.now))) }
+{
+    let parts = parts_of(alloc, arm)?;
+    mark(alloc, at, given, i, &parts, held, reads)
+}
+
+/// Puts in the rows that some of these arms holds, by an index for each. The error means want of memory.
+fn mark_arms<C: Counters>(
+    alloc: Global,
+    at: &Scene<C>,
+    given: &Given,
+    arms: &[Expr],
+    indexes: &[IndexNo],
+    held: &mut Tids,
+    reads: &mut Steps<C::Looks>,
+) -> Result<(), Memory>
+    requires scene { IsSceneOf at.now given.now }
+    requires near { All (λ e. IsNear at.now.cat.now at.now.q.now at.now.rel.0 (has at.now.param.0) (view.cond e)) arms.now }
+    requires matched { AllZip (MatchesArm at.now.cat.now at.now.q.now at.now.rel.0) (map view.cond arms.now) indexes.now }
+    requires made { IsMade held.old }
+    requires bound { held.old.bound ≡ length (rows_of_relation (world_of at.now) at.now.q.now at.now.rel) }
+    ensures held { OnOk result (held.new ≡ with_arms (world_of at.now) at.now.q.now at.now.rel (tuple_of at.now) held.old (map view.cond arms.now) indexes.now) }
+    ensures most { reads.new ≤ reads.old + arm_looks (world_of at.now) at.now.q.now at.now.rel (tuple_of at.now) (map view.cond arms.now) indexes.now }
+{
+    for n in 0..arms.len() {
+        mark_arm(alloc, at, given, &arms[n], indexes[n], held, reads)?;
+    }
+    Ok(())
+}
+
+/// The rows that some arm of an OR clause holds. The error means want of memory.
+fn hold_arms<C: Counters>(
+    alloc: Global,
+    at: &Scene<C>,
+    given: &Given,
+    n: u16,
+    indexes: &[IndexNo],
+    reads: &mut Steps<C::Looks>,
+) -> Result<Tids, Memory>
+    requires scene { IsSceneOf at.now given.now }
+    requires tree { IsHeldTree at.now.cat.now at.now.q.now at.now.rel at.now.param (plans.some_arm n indexes.now) }
+    ensures held { IfOk result (λ s. s ≡ set_held (world_of at.now) at.now.q.now at.now.rel at.now.param (plans.some_arm n indexes.now) (tuple_of at.now)) }
+    ensures most { reads.new ≤ reads.old + tree_looks (world_of at.now) at.now.q.now at.now.rel at.now.param (tuple_of at.now) (plans.some_arm n indexes.now) }
+{
+    let rows = at.heap().len();
+    let mut held = Tids::empty(alloc, rows)?;
+    match arms_at(at.q, n) {
+        Some(arms) => {
+            mark_arms(alloc, at, given, arms, indexes, &mut held, reads)?;
+            Ok(held)
+        }
+        None => Ok(held),
+    }
+}
+
+/// The rows that a bitmap tree holds. The error means want of memory.
+#[cycle(hold)]
+fn hold<C: Counters>(
+    alloc: Global,
+    at: &Scene<C>,
+    given: &Given,
+    tree: &BitTree,
+    reads: &mut Steps<C::Looks>,
+) -> Result<Tids, Memory>
+    requires scene { IsSceneOf at.now given.now }
+    requires tree { IsHeldTree at.now.cat.now at.now.q.now at.now.rel at.now.param (bits tree.now) }
+    ensures held { IfOk result (λ s. s ≡ set_held (world_of at.now) at.now.q.now at.now.rel at.now.param (bits tree.now) (tuple_of at.now)) }
+    ensures most { reads.new ≤ reads.old + tree_looks (world_of at.now) at.now.q.now at.now.rel at.now.param (tuple_of at.now) (bits tree.now) }
+{
+    match tree {
+        BitTree::Leaf(i) => hold_index(alloc, at, given, *i, reads),
+        BitTree::And(parts) => hold_all(alloc, at, given, &parts.items, reads),
+        BitTree::Or(n, indexes) => hold_arms(alloc, at, given, *n, indexes, reads),
+    }
+}
+
+/// The rows that each of some bitmap trees holds, of which there is one at least. The error means want of memory.
+#[cycle(hold)]
+fn hold_all<C: Counters>(
+    alloc: Global,
+    at: &Scene<C>,
+    given: &Given,
+    trees: &[BitTree],
+    reads: &mut Steps<C::Looks>,
+) -> Result<Tids, Memory>
+    requires scene { IsSceneOf at.now given.now }
+    requires trees { AreHeldTrees at.now.cat.now at.now.q.now at.now.rel at.now.param (bits_all trees.now) }
+    requires some { 0 < length trees.now }
+    ensures held { IfOk result (λ s. s ≡ set_held (world_of at.now) at.now.q.now at.now.rel at.now.param (plans.all_hold (bits_all trees.now)) (tuple_of at.now)) }
+    ensures most { reads.new ≤ reads.old + all_tree_looks (world_of at.now) at.now.q.now at.now.rel at.now.param (tuple_of at.now) (bits_all trees.now) }
+{
+    let mut held = hold(alloc, at, given, &trees[0], reads)?;
+    for n in 1..trees.len() {
+        let other = hold(alloc, at, given, &trees[n], reads)?;
+        held.and(&other);
+    }
+    Ok(held)
+}
+
+/// The scan of the rows that a bitmap tree holds. The tree's looks come first. The error means want of memory.
+pub(crate) fn bit_rows<'a, C: Counters>(
+    alloc: Global,
+    at: &Scene<'a, '_, C>,
+    given: Given<'a>,
+    tree: &BitTree,
+    reads: &mut Steps<C::Looks>,
+) -> Result<BitRows<'a, C>, Memory>
+    requires scene { IsSceneOf at.now given }
+    requires scan { IsBitmapScan at.now.cat.now at.now.q.now at.now.rel at.now.param (bits tree.now) }
+    ensures coming { IfOk result (λ s. s ≡ coming (world_of at.now) at.now.q.now (plans.bitmap at.now.rel at.now.param (bits tree.now)) (tuple_of at.now)) }
+    ensures most { reads.new ≤ reads.old + tree_looks (world_of at.now) at.now.q.now at.now.rel at.now.param (tuple_of at.now) (bits tree.now) }
+{
+    let held = hold(alloc, at, &given, tree, reads)?;
+    let clauses = at.clauses(alloc)?;
+    let beside = at.beside();
+    let heap = at.heap();
+    Ok(BitRows::start(beside, given, clauses, heap, held))
+}

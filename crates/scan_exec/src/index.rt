@@ -1,0 +1,106 @@
+//! Scans of a B-tree, begun from the conditions of the index.
+
+ghost use Rattle.std.specs.Prelude.{◌≡◌, IfOk, false, filter, map, true};
+ghost use Rattle.opfamily.specs.declared.classes.Method.TheVariants.{Btree};
+ghost use Rattle.btree_index.specs.Tree.{in_direction};
+ghost use Rattle.catalog.specs.Contents.{index_at};
+ghost use Rattle.scan_probes.specs.Filters.{conditions_of};
+ghost use Rattle.sql_query.specs.Meaning.{all_true};
+ghost use Rattle.sql_query.specs.Tuples.{beside, rows_of_relation};
+ghost use Rattle.plan_tree.specs.Bitmaps.{IsIndexOn};
+ghost use Rattle.plan_tree.specs.Entries.{entries};
+ghost use Rattle.plan_tree.specs.Run.{directed};
+ghost use Rattle.plan_tree.specs.Space.{IsIndexOnlyScan, IsIndexScan};
+ghost use Rattle.store.specs.Kept.{built_of, sorted};
+ghost use Rattle.scan_probes.specs.Values.{Given as Rows};
+ghost use Rattle.scan_exec.specs.Coming.{bounded, entry_row};
+ghost use Rattle.scan_exec.specs.Scene.{AreUsed, IsSceneOf, limits, tuple_of, world_of};
+
+use crate::scene::Scene;
+use crate::sorted::{IndexRows, OnlyRows};
+use btree_index::{BTree, Cursor};
+use heap::Counters;
+use pg_base::{IndexNo, Memory};
+use pg_expr::Expr;
+use scan_probes::{Given, index_probes};
+use std::alloc::Global;
+use store::BuiltIndex;
+
+/// A cursor over the entries of an index that meet those of its conditions that bound a part of it. The error means want of
+/// memory.
+pub(crate) fn seek<'a, C: Counters>(
+    alloc: Global,
+    at: &Scene<'a, '_, C>,
+    given: &Given,
+    i: IndexNo,
+    tree: &'a BTree<C::Looks>,
+    conditions: &[&Expr],
+    backward: bool,
+) -> Result<Cursor<'a, C::Looks>, Memory>
+    requires scene { IsSceneOf at.now given.now }
+    requires index { IsIndexOn at.now.cat.now at.now.q.now at.now.rel.0 i }
+    requires tree { sorted tree.now ≡ built_of (index_at at.now.cat.now i) (rows_of_relation (world_of at.now) at.now.q.now at.now.rel) }
+    requires conditions { AreUsed at.now.cat.now at.now.q.now at.now.rel at.now.param i (conditions_of conditions.now) }
+    ensures { IfOk result (λ cursor. cursor ≡ in_direction backward (filter (λ e. all_true (world_of at.now) at.now.q.now (beside at.now.q.now at.now.rel.0 e.row (tuple_of at.now)) (limits (index_at at.now.cat.now i) at.now.rel.0 (conditions_of conditions.now))) (entries (world_of at.now) i))) }
+{
+    let def = at.cat.index(i);
+    let probes = index_probes(alloc, at.rel, &def.keys, given, conditions)?;
+    Ok(tree.seek(&probes, backward))
+}
+
+/// The scan of a B-tree. The error means want of memory.
+pub(crate) fn index_rows<'a, C: Counters>(
+    alloc: Global,
+    at: &Scene<'a, '_, C>,
+    given: Given<'a>,
+    i: IndexNo,
+    tree: &'a BTree<C::Looks>,
+    backward: bool,
+) -> Result<IndexRows<'a, C>, Memory>
+    requires scene { IsSceneOf at.now given }
+    requires scan { IsIndexScan at.now.cat.now at.now.q.now at.now.rel i backward at.now.param }
+    requires tree { sorted tree.now ≡ built_of (index_at at.now.cat.now i) (rows_of_relation (world_of at.now) at.now.q.now at.now.rel) }
+    ensures { IfOk result (λ s. s ≡ map (entry_row (world_of at.now) at.now.q.now at.now.rel i false at.now.param (tuple_of at.now)) (directed (world_of at.now) at.now.q.now backward (bounded (world_of at.now) at.now.q.now at.now.rel i at.now.param (tuple_of at.now)))) }
+{
+    let conditions = at.conditions(alloc, i)?;
+    let cursor = seek(alloc, at, &given, i, tree, &conditions, backward)?;
+    let clauses = at.clauses(alloc)?;
+    let beside = at.beside();
+    let def = at.cat.index(i);
+    let heap = at.heap();
+    Ok(IndexRows::start(beside, given, conditions, clauses, def, cursor, heap))
+}
+
+/// The index-only scan of a B-tree. The error means want of memory.
+pub(crate) fn only_rows<'a, C: Counters>(
+    alloc: Global,
+    at: &Scene<'a, '_, C>,
+    given: Given<'a>,
+    i: IndexNo,
+    backward: bool,
+) -> Result<OnlyRows<'a, C>, Memory>
+    requires scene { IsSceneOf at.now given }
+    requires scan { IsIndexOnlyScan at.now.cat.now at.now.q.now at.now.rel i backward at.now.param }
+    ensures { IfOk result (λ s. s ≡ map (entry_row (world_of at.now) at.now.q.now at.now.rel i true at.now.param (tuple_of at.now)) (directed (world_of at.now) at.now.q.now backward (bounded (world_of at.now) at.now.q.now at.now.rel i at.now.param (tuple_of at.now)))) }
+{
+    let tree = sorted_index(at, i);
+    let conditions = at.conditions(alloc, i)?;
+    let cursor = seek(alloc, at, &given, i, tree, &conditions, backward)?;
+    let clauses = at.clauses(alloc)?;
+    let beside = at.beside();
+    let def = at.cat.index(i);
+    Ok(OnlyRows::start(beside, given, conditions, clauses, def, cursor))
+}
+
+/// The B-tree of an index.
+fn sorted_index<'a, C: Counters>(at: &Scene<'a, '_, C>, i: IndexNo) -> &'a BTree<C::Looks>
+    requires scene { (given : Rows) × IsSceneOf at.now given }
+    requires index { IsIndexOn at.now.cat.now at.now.q.now at.now.rel.0 i }
+    requires ordered { (index_at at.now.cat.now i).method ≡ Btree }
+    ensures { sorted result.now ≡ built_of (index_at at.now.cat.now i) (rows_of_relation (world_of at.now) at.now.q.now at.now.rel) }
+{
+    match at.store.index(i) {
+        BuiltIndex::Sorted(tree) => tree,
+        BuiltIndex::Hashed(_) => unreachable!(),
+    }
+}

@@ -1,0 +1,243 @@
+//! Scans of every kind, drawn from row by row.
+
+ghost use Rattle.std.specs.Prelude.{◌≡◌, ◌+◌, ◌≤◌, IfOk, OnErr, OnOk, find, option_map};
+ghost use Rattle.pg_base.specs.Sets.{has};
+ghost use Rattle.heap.specs.Tuples.{padded};
+ghost use Rattle.sql_query.specs.Queries.{width};
+ghost use Rattle.sql_query.specs.WellBound.{IsWellBound};
+ghost use Rattle.sql_query.specs.Worlds.{world};
+ghost use Rattle.catalog.specs.Contents.{index_at};
+ghost use Rattle.plan_tree.specs.Counts.{given_looks, looks};
+ghost use Rattle.plan_tree.specs.Space.{IsBuilt, IsIndexScan};
+ghost use Rattle.plan_tree.specs.Views.{plan};
+ghost use Rattle.scan_probes.specs.Scenes.{AreRowsOf};
+ghost use Rattle.store.specs.Kept.{IsStoreOf};
+ghost use Rattle.scan_exec.specs.Coming.{allowed, behind, coming, index_coming, is_given, owed};
+ghost use Rattle.scan_exec.specs.Plans as plans;
+ghost use Rattle.scan_exec.specs.Plans.{IsScan};
+ghost use Rattle.scan_exec.specs.Rows.{rows_of_kind};
+ghost use Rattle.scan_exec.specs.Scene.{IsSceneOf, tuple_of, world_of};
+
+use crate::bitmap::bit_rows;
+use crate::hashed::hash_rows;
+use crate::index::{index_rows, only_rows};
+use crate::numbers::{BitRows, HashRows};
+use crate::scene::Scene;
+use crate::seq::{SeqRows, seq_rows};
+use crate::sorted::{IndexRows, OnlyRows};
+use catalog::Catalog;
+use heap::Counters;
+use pg_base::{IndexNo, Memory, RelNo, RelSet, Steps, Tid};
+use plan_tree::Plan;
+use scan_probes::{Given, read_given};
+use sql_query::Prepared;
+use std::alloc::Global;
+use std::marker::Model;
+use store::{BuiltIndex, Store};
+
+/// A scan by its kind.
+#[derive(Drop)]
+pub(crate) enum Kind<'a, C: Counters> {
+    Seq(SeqRows<'a, C>),
+    Index(IndexRows<'a, C>),
+    Only(OnlyRows<'a, C>),
+    Hash(HashRows<'a, C>),
+    Bits(BitRows<'a, C>),
+}
+
+/// A scan of a plan, drawn from row by row. Contracts see the rows that it has still to come to.
+#[derive(Drop)]
+pub struct ScanRows<'a, C: Counters> {
+    kind: Kind<'a, C>,
+}
+
+impl<'a, C: Counters> Model for ScanRows<'a, C> {
+    ghost use Rattle.std.specs.Prelude.{List};
+    ghost use Rattle.scan_exec.specs.Coming.{Coming};
+
+    ghost Value = { List Coming };
+
+    ghost use Rattle.scan_exec.specs.Rows.{rows_of_kind};
+
+    ghost view = { λ s. rows_of_kind s.kind };
+}
+
+/// The relation of a scan.
+pub(crate) fn relation_of(p: &Plan) -> RelNo
+    requires { IsScan (plan p.now) }
+    ensures { result ≡ plans.relation_of (plan p.now) }
+{
+    match p {
+        Plan::Seq { rel }
+        | Plan::Index { rel, .. }
+        | Plan::IndexOnly { rel, .. }
+        | Plan::Bitmap { rel, .. } => *rel,
+        _ => unreachable!(),
+    }
+}
+
+/// The relations whose rows a scan is given.
+fn param_of(p: &Plan) -> RelSet
+    requires { IsScan (plan p.now) }
+    ensures { result ≡ plans.param_of (plan p.now) }
+{
+    match p {
+        Plan::Index { param, .. } | Plan::IndexOnly { param, .. } | Plan::Bitmap { param, .. } => {
+            *param
+        }
+        _ => RelSet(0),
+    }
+}
+
+/// The scan of an index, by the kind of the index.
+fn by_index<'a, C: Counters>(
+    alloc: Global,
+    at: &Scene<'a, '_, C>,
+    given: Given<'a>,
+    i: IndexNo,
+    backward: bool,
+) -> Result<Kind<'a, C>, Memory>
+    requires scene { IsSceneOf at.now given }
+    requires scan { IsIndexScan at.now.cat.now at.now.q.now at.now.rel i backward at.now.param }
+    ensures { IfOk result (λ kind. rows_of_kind kind ≡ index_coming (world_of at.now) at.now.q.now (index_at at.now.cat.now i).method at.now.rel i backward at.now.param (tuple_of at.now)) }
+{
+    match at.store.index(i) {
+        BuiltIndex::Sorted(tree) => {
+            let rows = index_rows(alloc, at, given, i, tree, backward)?;
+            Ok(Kind::Index(rows))
+        }
+        BuiltIndex::Hashed(index) => {
+            let rows = hash_rows(alloc, at, given, i, index)?;
+            Ok(Kind::Hash(rows))
+        }
+    }
+}
+
+/// The scan of a plan, where its rows are given.
+fn by_plan<'a, C: Counters>(
+    alloc: Global,
+    at: &Scene<'a, '_, C>,
+    given: Given<'a>,
+    p: &Plan,
+    reads: &mut Steps<C::Looks>,
+) -> Result<Kind<'a, C>, Memory>
+    requires scene { IsSceneOf at.now given }
+    requires scan { IsScan (plan p.now) }
+    requires built { IsBuilt at.now.cat.now at.now.q.now (plan p.now) }
+    requires relation { at.now.rel ≡ plans.relation_of (plan p.now) }
+    requires param { at.now.param ≡ plans.param_of (plan p.now) }
+    ensures coming { IfOk result (λ kind. rows_of_kind kind ≡ coming (world_of at.now) at.now.q.now (plan p.now) (tuple_of at.now)) }
+    ensures looks { IfOk result (λ kind. reads.new + (allowed (rows_of_kind kind) + given_looks (world_of at.now) at.now.q.now at.now.param) ≤ reads.old + looks (world_of at.now) at.now.q.now (plan p.now) (tuple_of at.now)) }
+    ensures most { reads.new + given_looks (world_of at.now) at.now.q.now at.now.param ≤ reads.old + looks (world_of at.now) at.now.q.now (plan p.now) (tuple_of at.now) }
+{
+    match p {
+        Plan::Seq { .. } => {
+            let rows = seq_rows(alloc, at, given)?;
+            Ok(Kind::Seq(rows))
+        }
+        Plan::Index {
+            index,
+            backward,
+            ..
+        } => by_index(alloc, at, given, *index, *backward),
+        Plan::IndexOnly {
+            index,
+            backward,
+            ..
+        } => {
+            let rows = only_rows(alloc, at, given, *index, *backward)?;
+            Ok(Kind::Only(rows))
+        }
+        Plan::Bitmap { bits, .. } => {
+            let rows = bit_rows(alloc, at, given, bits, reads)?;
+            Ok(Kind::Bits(rows))
+        }
+        _ => unreachable!(),
+    }
+}
+
+impl<'a, C: Counters> ScanRows<'a, C> {
+    /// The scan of a plan over a store, where rows of the relations of its parameterisation are given by their numbers, in
+    /// FROM order. These are read, and the tree of a bitmap is made; the looks of both, and those still to come, are within
+    /// the plan's. The error means want of memory.
+    pub fn start(
+        alloc: Global,
+        cat: &'a Catalog,
+        q: &'a Prepared,
+        p: &'a Plan,
+        store: &'a Store<C>,
+        outer: &[Tid],
+        reads: &mut Steps<C::Looks>,
+    ) -> Result<ScanRows<'a, C>, Memory>
+        requires bound { IsWellBound cat.now q.now }
+        requires store { IsStoreOf cat.now store.now }
+        requires scan { IsScan (plan p.now) }
+        requires built { IsBuilt cat.now q.now (plan p.now) }
+        requires outer { AreRowsOf (world cat.now store.now.stored) q.now (plans.param_of (plan p.now)) outer.now }
+        ensures coming { IfOk result (λ s. s ≡ coming (world cat.now store.now.stored) q.now (plan p.now) (padded (width q.now) (has (plans.param_of (plan p.now)).0) outer.now)) }
+        ensures looks { IfOk result (λ s. reads.new + allowed s ≤ reads.old + looks (world cat.now store.now.stored) q.now (plan p.now) (padded (width q.now) (has (plans.param_of (plan p.now)).0) outer.now)) }
+        ensures most { reads.new ≤ reads.old + looks (world cat.now store.now.stored) q.now (plan p.now) (padded (width q.now) (has (plans.param_of (plan p.now)).0) outer.now) }
+    {
+        let rel = relation_of(p);
+        let param = param_of(p);
+        let heaps = store.heaps();
+        let given = read_given(alloc, cat, q, heaps, param, outer, reads)?;
+        let at = Scene {
+            cat,
+            q,
+            store,
+            rel,
+            param,
+            outer,
+        };
+        let kind = by_plan(alloc, &at, given, p, reads)?;
+        Ok(ScanRows { kind })
+    }
+
+    /// Begins anew, as `start` does, in the place of the scan that it was. After want of memory it is as before.
+    pub fn restart(
+        &mut self,
+        alloc: Global,
+        cat: &'a Catalog,
+        q: &'a Prepared,
+        p: &'a Plan,
+        store: &'a Store<C>,
+        outer: &[Tid],
+        reads: &mut Steps<C::Looks>,
+    ) -> Result<(), Memory>
+        requires bound { IsWellBound cat.now q.now }
+        requires store { IsStoreOf cat.now store.now }
+        requires scan { IsScan (plan p.now) }
+        requires built { IsBuilt cat.now q.now (plan p.now) }
+        requires outer { AreRowsOf (world cat.now store.now.stored) q.now (plans.param_of (plan p.now)) outer.now }
+        ensures coming { OnOk result (self.new ≡ coming (world cat.now store.now.stored) q.now (plan p.now) (padded (width q.now) (has (plans.param_of (plan p.now)).0) outer.now)) }
+        ensures refused { OnErr result (self.new ≡ self.old) }
+        ensures looks { OnOk result (reads.new + allowed self.new ≤ reads.old + looks (world cat.now store.now.stored) q.now (plan p.now) (padded (width q.now) (has (plans.param_of (plan p.now)).0) outer.now)) }
+        ensures most { reads.new ≤ reads.old + looks (world cat.now store.now.stored) q.now (plan p.now) (padded (width q.now) (has (plans.param_of (plan p.now)).0) outer.now) }
+    {
+        let rows = ScanRows::start(alloc, cat, q, p, store, outer, reads)?;
+        *self = rows;
+        Ok(())
+    }
+
+    /// The next row that is given. Of the rows that the scan comes to, up to and with that one, each that its kind fetches is
+    /// one fetch, and each entry one look.
+    pub fn next(
+        &mut self,
+        fetches: &mut Steps<C::Fetches>,
+        reads: &mut Steps<C::Looks>,
+    ) -> Option<Tid>
+        ensures row { option_map (λ t. t.0) result ≡ option_map (λ c. c.row) (find is_given self.old) }
+        ensures rest { self.new ≡ behind is_given self.old }
+        ensures exact { fetches.new + owed self.new ≡ fetches.old + owed self.old }
+        ensures looked { reads.new + allowed self.new ≡ reads.old + allowed self.old }
+    {
+        match &mut self.kind {
+            Kind::Seq(rows) => rows.next(fetches),
+            Kind::Index(rows) => rows.next(fetches, reads),
+            Kind::Only(rows) => rows.next(reads),
+            Kind::Hash(rows) => rows.next(fetches),
+            Kind::Bits(rows) => rows.next(fetches),
+        }
+    }
+}

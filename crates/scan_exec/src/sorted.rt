@@ -1,0 +1,159 @@
+//! Scans of B-tree indexes.
+
+ghost use Rattle.std.specs.Prelude.{◌≡◌, ◌+◌, All, find, map, option_map};
+ghost use Rattle.catalog.specs.Entries.{index_of};
+ghost use Rattle.scan_probes.specs.Filters.{conditions_of};
+ghost use Rattle.scan_exec.specs.Coming.{allowed, behind, is_given, owed};
+ghost use Rattle.scan_exec.specs.Kinds.{IsReadyCover, IsReadyEntry, covered_at, entry_at};
+
+use btree_index::Cursor;
+use catalog::IndexDef;
+use heap::{Counters, Heap};
+use pg_base::{Steps, Tid};
+use pg_expr::Expr;
+use scan_probes::{Beside, Given, pass_entry, pass_row};
+use std::marker::Model;
+
+/// A scan of a B-tree: each entry that its cursor gives is tested, where it passes its row is fetched, and that is given where
+/// the clauses are True. Contracts see the rows that it has still to come to.
+#[derive(Drop)]
+pub struct IndexRows<'a, C: Counters> {
+    beside: Beside<'a>,
+    given: Given<'a>,
+    tests: Vec<&'a Expr>,
+    clauses: Vec<&'a Expr>,
+    def: &'a IndexDef,
+    cursor: Cursor<'a, C::Looks>,
+    heap: &'a Heap<C>,
+}
+
+impl<'a, C: Counters> Model for IndexRows<'a, C> {
+    ghost use Rattle.std.specs.Prelude.{List, All, map};
+    ghost use Rattle.catalog.specs.Entries.{index_of};
+    ghost use Rattle.scan_probes.specs.Filters.{conditions_of};
+    ghost use Rattle.scan_exec.specs.Coming.{Coming};
+    ghost use Rattle.scan_exec.specs.Kinds.{IsReadyEntry, entry_at};
+
+    ghost Value = { List Coming };
+
+    ghost view = { λ s. map (entry_at s.beside.rel.0 s.given (conditions_of s.tests.items) (conditions_of s.clauses.items) (index_of s.def.now) s.heap.now.rows) s.cursor };
+
+    ghost invariant = { λ s. All (IsReadyEntry s.beside.cat.now s.beside.range.now s.beside.rel.0 s.given (conditions_of s.tests.items) (conditions_of s.clauses.items) (index_of s.def.now) s.heap.now.rows) s.cursor };
+}
+
+impl<'a, C: Counters> IndexRows<'a, C> {
+    /// A scan of the entries of a cursor.
+    pub fn start(
+        beside: Beside<'a>,
+        given: Given<'a>,
+        tests: Vec<&'a Expr>,
+        clauses: Vec<&'a Expr>,
+        def: &'a IndexDef,
+        cursor: Cursor<'a, C::Looks>,
+        heap: &'a Heap<C>,
+    ) -> IndexRows<'a, C>
+        requires { All (IsReadyEntry beside.cat.now beside.range.now beside.rel.0 given (conditions_of tests.items) (conditions_of clauses.items) (index_of def.now) heap.now.rows) cursor }
+        ensures { result ≡ map (entry_at beside.entry.rel.0 given.entry (conditions_of tests.entry.items) (conditions_of clauses.entry.items) (index_of def.now) heap.now.rows) cursor.entry }
+    {
+        IndexRows {
+            beside,
+            given,
+            tests,
+            clauses,
+            def,
+            cursor,
+            heap,
+        }
+    }
+
+    /// The next row that is given. Up to and with that one, each entry that the scan comes to is one look, and the row of each
+    /// that passes the tests one fetch.
+    pub fn next(
+        &mut self,
+        fetches: &mut Steps<C::Fetches>,
+        reads: &mut Steps<C::Looks>,
+    ) -> Option<Tid>
+        ensures row { option_map (λ t. t.0) result ≡ option_map (λ c. c.row) (find is_given self.old) }
+        ensures rest { self.new ≡ behind is_given self.old }
+        ensures exact { fetches.new + owed self.new ≡ fetches.old + owed self.old }
+        ensures looked { reads.new + allowed self.new ≡ reads.old + allowed self.old }
+    {
+        while let Some(entry) = self.cursor.next(reads) {
+            if pass_entry(&self.beside, &self.given, &self.tests, self.def, &entry) {
+                let tid = entry.tid();
+                let row = self.heap.fetch(tid, fetches);
+                if pass_row(&self.beside, &self.given, &self.clauses, row) {
+                    return Some(tid);
+                }
+            }
+        }
+        None
+    }
+}
+
+/// A scan of a B-tree that takes all columns from the entries, so that no row is fetched: each entry that its cursor gives is
+/// tested, and its row given where the clauses are True there too. Contracts see the rows that it has still to come to.
+#[derive(Drop)]
+pub struct OnlyRows<'a, C: Counters> {
+    beside: Beside<'a>,
+    given: Given<'a>,
+    tests: Vec<&'a Expr>,
+    clauses: Vec<&'a Expr>,
+    def: &'a IndexDef,
+    cursor: Cursor<'a, C::Looks>,
+}
+
+impl<'a, C: Counters> Model for OnlyRows<'a, C> {
+    ghost use Rattle.std.specs.Prelude.{List, All, map};
+    ghost use Rattle.catalog.specs.Entries.{index_of};
+    ghost use Rattle.scan_probes.specs.Filters.{conditions_of};
+    ghost use Rattle.scan_exec.specs.Coming.{Coming};
+    ghost use Rattle.scan_exec.specs.Kinds.{IsReadyCover, covered_at};
+
+    ghost Value = { List Coming };
+
+    ghost view = { λ s. map (covered_at s.beside.rel.0 s.given (conditions_of s.tests.items) (conditions_of s.clauses.items) (index_of s.def.now)) s.cursor };
+
+    ghost invariant = { λ s. All (IsReadyCover s.beside.cat.now s.beside.range.now s.beside.rel.0 s.given (conditions_of s.tests.items) (conditions_of s.clauses.items) (index_of s.def.now)) s.cursor };
+}
+
+impl<'a, C: Counters> OnlyRows<'a, C> {
+    /// A scan of the entries of a cursor.
+    pub fn start(
+        beside: Beside<'a>,
+        given: Given<'a>,
+        tests: Vec<&'a Expr>,
+        clauses: Vec<&'a Expr>,
+        def: &'a IndexDef,
+        cursor: Cursor<'a, C::Looks>,
+    ) -> OnlyRows<'a, C>
+        requires { All (IsReadyCover beside.cat.now beside.range.now beside.rel.0 given (conditions_of tests.items) (conditions_of clauses.items) (index_of def.now)) cursor }
+        ensures { result ≡ map (covered_at beside.entry.rel.0 given.entry (conditions_of tests.entry.items) (conditions_of clauses.entry.items) (index_of def.now)) cursor.entry }
+    {
+        OnlyRows {
+            beside,
+            given,
+            tests,
+            clauses,
+            def,
+            cursor,
+        }
+    }
+
+    /// The next row that is given. Up to and with that one, each entry that the scan comes to is one look.
+    pub fn next(&mut self, reads: &mut Steps<C::Looks>) -> Option<Tid>
+        ensures row { option_map (λ t. t.0) result ≡ option_map (λ c. c.row) (find is_given self.old) }
+        ensures rest { self.new ≡ behind is_given self.old }
+        ensures unfetched { owed self.new ≡ owed self.old }
+        ensures looked { reads.new + allowed self.new ≡ reads.old + allowed self.old }
+    {
+        while let Some(entry) = self.cursor.next(reads) {
+            if pass_entry(&self.beside, &self.given, &self.tests, self.def, &entry)
+                && pass_entry(&self.beside, &self.given, &self.clauses, self.def, &entry)
+            {
+                return Some(entry.tid());
+            }
+        }
+        None
+    }
+}

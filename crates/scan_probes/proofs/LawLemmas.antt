@@ -1,0 +1,85 @@
+-- Conditions of typed queries as bounds of an index.
+use Rattle.std.proofs.Common.{◌≡◌, ℕ, Bool, true, false, cond, nat_eq, List, [], ◌∷◌, refl, sym, ap, subst, ⊎_elim, All}
+use Rattle.std.specs.List.{AllByRecursion}
+use Rattle.std.proofs.lemmas.Bool.{and_from, cases_Bool, eqb-true}
+use Rattle.pg_base.specs.declared.numbers.ColNo.{ColNo}
+use Rattle.pg_value.specs.declared.value.SqlType.{SqlType}
+use Rattle.pg_value.specs.declared.value.SqlType.TheVariants.{Int2, Int4, Int8, Text as TextType, Bool as BoolType}
+use Rattle.pg_value.specs.declared.value.Value.{Value}
+use Rattle.pg_value.specs.Types.{IsOfType}
+use Rattle.opfamily.specs.declared.classes.IndexKey.{IndexKey}
+use Rattle.opfamily.specs.declared.classes.Method.TheVariants.{Btree}
+use Rattle.pg_expr.specs.declared.operand.ColRef.{ColRef}
+use Rattle.pg_expr.specs.declared.operand.Operand.{Operand}
+use Rattle.pg_expr.specs.declared.operand.Operand.TheVariants.{Col, Lit}
+use Rattle.pg_expr.specs.Cond.{Cond, compare, is_null, is_not_null, bool_col, const, all_of, any_of, negation, Conds, no_conds, cond_and}
+use Rattle.pg_expr.specs.Columns.{each_column, each_column_of, passes_column}
+use Rattle.pg_expr.specs.Typed.{IsTyped, some_value}
+use Rattle.pg_expr.proofs.DefinedLaws.{typed-defined}
+use Rattle.pg_expr.proofs.PushedLaws.{IsDefined}
+use Rattle.eq_classes.proofs.ListLemmas.{all_at}
+use Rattle.btree_index.specs.Bounds.{AreBounds, meets_all}
+use Rattle.index_match.specs.Bounds.{bounding}
+use Rattle.index_match.specs.Numbered.{Numbered, conditions_of}
+use Rattle.scan_probes.specs.Values.{Given, are_true, value_beside}
+use Rattle.scan_probes.specs.Probes.{AreOf, FitGiven, FitOwn, IsKeyTyped, column_of, given_value, probes_from}
+use Rattle.scan_probes.proofs.ProbeLemmas.{key_fits}
+use Rattle.scan_probes.proofs.BoundsLemmas.{IsKeySampled, in_conditions, probes_bound, probes_meet}
+
+abbrev pub any : ColRef → Bool
+any x = true
+
+side_any : (o : Operand) → passes_column any o ≡ true
+side_any (Col x) = refl
+side_any (Lit v) = refl
+
+mutual
+  pub each_any : (e : Cond) → each_column any e ≡ true
+  each_any (compare op a b) = and_from _ _ (side_any a) (side_any b)
+  each_any (is_null x) = refl
+  each_any (is_not_null x) = refl
+  each_any (bool_col x) = refl
+  each_any (const t) = refl
+  each_any (all_of es) = each_any_of es
+  each_any (any_of es) = each_any_of es
+  each_any (negation e) = each_any e
+
+  each_any_of : (es : Conds) → each_column_of any es ≡ true
+  each_any_of no_conds = refl
+  each_any_of (cond_and e es) = and_from _ _ (each_any e) (each_any_of es)
+
+pub is_some : (t : SqlType) → IsOfType t (some_value t)
+is_some Int2 = refl
+is_some Int4 = refl
+is_some Int8 = refl
+is_some TextType = tt
+is_some BoolType = tt
+
+module _ (type_of : ColRef → SqlType) (r : ℕ) (given : Given) (fit : FitGiven type_of given) where
+  -- values beside the rows given are of their types
+  fits_beside : (own : ColNo → Value) → FitOwn type_of r own → (x : ColRef) → IsOfType (type_of x) (value_beside r own given x)
+  fits_beside own fit_own x = ⊎_elim
+      (λ (t : nat_eq x.rel.0 r ≡ true).
+      let same : x ≡ column_of r x.col = ap (λ (k : ℕ). column_of k x.col) (eqb-true x.rel.0 r t) in
+      subst (λ (v : Value). IsOfType (type_of x) v) (sym (ap (λ (b : Bool). cond b (own x.col) (given_value given x)) t)) (subst (λ (y : ColRef). IsOfType (type_of y) (own x.col)) (sym same) (fit_own x.col)))
+      (λ (f : nat_eq x.rel.0 r ≡ false).
+      subst (λ (v : Value). IsOfType (type_of x) v) (sym (ap (λ (b : Bool). cond b (own x.col) (given_value given x)) f)) (fit x))
+      (cases_Bool (nat_eq x.rel.0 r))
+
+  pub defined_beside : (own : ColNo → Value) → FitOwn type_of r own → (e : Cond) → IsTyped type_of e → IsDefined (value_beside r own given) e
+  defined_beside own fit_own e typed = typed-defined type_of any (value_beside r own given) (λ x h. fits_beside own fit_own x) e typed (each_any e)
+
+  keys_sampled : (ks : List IndexKey) → AllByRecursion (IsKeyTyped type_of r) ks → AllByRecursion (IsKeySampled r type_of) ks
+  keys_sampled [] all = tt
+  keys_sampled (k ∷ ks) all = (key_fits k Btree (type_of (column_of r k.col)) all.0, keys_sampled ks all.1)
+
+  pub conditions_bound : (ks : List IndexKey) (es : List Cond) → AllByRecursion (IsKeyTyped type_of r) ks → All (IsTyped type_of) es → AreBounds 0 ks (probes_from r 0 ks given es)
+  conditions_bound ks es keys typed =
+      probes_bound r given type_of es
+      (λ e i. defined_beside (λ c. some_value (type_of (column_of r c))) (λ c. is_some (type_of (column_of r c))) e (all_at (IsTyped type_of) es typed e i)) 0 ks (keys_sampled ks keys)
+
+  pub conditions_met : (own : ColNo → Value) → FitOwn type_of r own → (ks : List IndexKey) (vs : List Value) (cs : List Numbered) → AreOf own 0 ks vs → All (IsTyped type_of) (conditions_of cs)
+      → meets_all (probes_from r 0 ks given (conditions_of cs)) vs ≡ are_true (value_beside r own given) (conditions_of (bounding Btree r ks cs))
+  conditions_met own fit_own ks vs cs at typed =
+      probes_meet r given own vs cs
+      (λ c i. defined_beside own fit_own c.cond (all_at (IsTyped type_of) (conditions_of cs) typed c.cond (in_conditions cs c i))) 0 ks at

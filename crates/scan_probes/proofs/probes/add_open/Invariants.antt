@@ -1,0 +1,11 @@
+use Rattle.std.proofs.Common.{◌≡◌, ◌++◌, drop, map}
+use Rattle.pg_expr.specs.View.{cond}
+use Rattle.scan_probes.specs.Probes.{AreKnown, on_key, probe_of}
+use Rattle.scan_probes.proofs.probes.add_open.Given as goal
+
+abbrev pub invariant-loop-condition : goal.invariant-loop-condition
+invariant-loop-condition l =
+    let rest = map (λ e. cond e.now) (drop l.condition-index l.conditions) in
+    (l.probes.items ++ map (probe_of l.r.0 l.key l.column l.given) (on_key l.r.0 l.key rest)
+    ≡ l.fn.probes.items ++ map (probe_of l.r.0 l.key l.column l.given) (on_key l.r.0 l.key (map (λ e. cond e.now) l.conditions)))
+    × AreKnown l.r.0 l.given rest

@@ -1,0 +1,11 @@
+use Rattle.std.proofs.Common.{◌≡◌, drop, map}
+use Rattle.std.specs.Prelude.{find}
+use Rattle.pg_expr.specs.View.{cond}
+use Rattle.index_match.specs.Bounds.{is_fixing}
+use Rattle.scan_probes.specs.Probes.{AreKnown, on_key}
+use Rattle.scan_probes.proofs.probes.fixing_probe.Given as goal
+
+abbrev pub invariant-loop-condition : goal.invariant-loop-condition
+invariant-loop-condition l =
+    let rest = map (λ e. cond e.now) (drop l.condition-index l.conditions) in
+    (find is_fixing (on_key l.r.0 l.key rest) ≡ find is_fixing (on_key l.r.0 l.key (map (λ e. cond e.now) l.conditions))) × AreKnown l.r.0 l.given rest

@@ -1,0 +1,4 @@
+pub mod Values
+pub mod Filters
+pub mod Scenes
+pub mod Probes

@@ -1,0 +1,76 @@
+-- The values of columns where a row of one relation, or an entry of an index on it, stands beside rows of others. Own.
+use Rattle.std.specs.Prelude.{◌≡◌, ◌+◌, ◌<◌, ℕ, Bool, true, false, cond, ◌&&◌, ◌||◌, nat_eq, nat_lt, List, [], ◌∷◌, length, map, slice_index_or, Option, Some, None}
+use Rattle.std.specs.List.{list_any, list_all, range_with_len}
+use Rattle.pg_base.specs.declared.numbers.ColNo.{ColNo}
+use Rattle.pg_value.specs.declared.value.Value.{Value}
+use Rattle.pg_value.specs.declared.value.Value.TheVariants.{Null}
+use Rattle.opfamily.specs.KeyOrder.{Entry}
+use Rattle.opfamily.specs.declared.classes.IndexKey.{IndexKey}
+use Rattle.pg_expr.specs.declared.operand.ColRef.{ColRef}
+use Rattle.pg_expr.specs.Cond.{Cond}
+use Rattle.pg_expr.specs.Truths.{truth_at}
+use Rattle.catalog.specs.Indexes.{Index}
+use Rattle.eq_classes.specs.Clauses.{Set}
+use Rattle.eq_classes.specs.Holding.{is_true}
+use Rattle.heap.specs.Stored.{Values}
+use Rattle.sql_query.specs.Queries.{Query, width}
+use Rattle.sql_query.specs.Worlds.{World}
+use Rattle.sql_query.specs.Tuples.{Tuple, row_at}
+
+-- rows given, each in the place of its relation; a relation without one has none
+abbrev pub Given : Type 0
+Given = List (Option Values)
+
+-- the rows that a tuple has of the relations of a set
+abbrev pub given_of : World → Query → Set → Tuple → Given
+given_of w q set o = map (λ k. cond (set k) (Some (row_at w q o (record { 0 = k }))) None) (range_with_len 0 (width q))
+
+-- the value of a column in a row; NULL where there is none
+abbrev pub value_in : Values → ColNo → Value
+value_in row c = slice_index_or row c.0 Null
+
+abbrev pub value_or_null : Option Values → ColNo → Value
+value_or_null None c = Null
+value_or_null (Some row) c = value_in row c
+
+abbrev pub has_value : Option Values → ColNo → Bool
+has_value None c = false
+has_value (Some row) c = nat_lt c.0 (length row)
+
+-- the value of a column among the values of some columns, else another
+abbrev pub value_among : List ColNo → List Value → Value → ColNo → Value
+value_among [] vs other c = other
+value_among (n ∷ ns) [] other c = other
+value_among (n ∷ ns) (v ∷ vs) other c = cond (nat_eq c.0 n.0) v (value_among ns vs other c)
+
+-- the value of a column in an entry of an index: a key value or one that the index includes
+abbrev pub key_columns : Index → List ColNo
+key_columns d = map (λ (k : IndexKey). k.col) d.keys
+
+abbrev pub value_in_entry : Index → Entry → ColNo → Value
+value_in_entry d e c = value_among (key_columns d) e.keys (value_among d.include e.include Null c) c
+
+abbrev pub is_held : Index → ColNo → Bool
+is_held d c = list_any (λ (n : ColNo). nat_eq c.0 n.0) (key_columns d) || list_any (λ (n : ColNo). nat_eq c.0 n.0) d.include
+
+-- the column is a key column or one included, of which there are fewer than 256, and the entry has a value for each of these
+pub record HasEntryValue (d : Index) (e : Entry) (c : ColNo) : Type 0 where
+  pub held : is_held d c ≡ true
+  pub keys : length e.keys ≡ length d.keys
+  pub include : length e.include ≡ length d.include
+  pub few : length d.keys + length d.include < 256
+
+abbrev pub has_entry_value : Index → Entry → ColNo → Bool
+has_entry_value d e c =
+    is_held d c && (nat_eq (length e.keys) (length d.keys) && (nat_eq (length e.include) (length d.include) && nat_lt (length d.keys + length d.include) 256))
+
+-- a column of the relation has the values of its own, any other column those of the rows given
+abbrev pub value_beside : ℕ → (ColNo → Value) → Given → ColRef → Value
+value_beside r own given x = cond (nat_eq x.rel.0 r) (own x.col) (value_or_null (slice_index_or given x.rel.0 None) x.col)
+
+abbrev pub is_beside : ℕ → (ColNo → Bool) → Given → ColRef → Bool
+is_beside r has given x = cond (nat_eq x.rel.0 r) (has x.col) (has_value (slice_index_or given x.rel.0 None) x.col)
+
+-- each condition of a list is True; only True counts
+abbrev pub are_true : (ColRef → Value) → List Cond → Bool
+are_true values es = list_all (λ e. is_true (truth_at values e)) es

@@ -1,0 +1,171 @@
+//! The conditions of an index as bounds of a part of it.
+
+ghost use Rattle.std.specs.Prelude.{◌≡◌, ◌<◌, ◌++◌, true, IfOk, IfSome, OnOk, IsTrue, length, map, find, option_map};
+ghost use Rattle.opfamily.specs.declared.classes.Method.TheVariants.{Btree, Hash};
+ghost use Rattle.pg_expr.specs.Truths.{value_of};
+ghost use Rattle.pg_expr.specs.View.{cond};
+ghost use Rattle.index_match.specs.Bounds as bounds;
+ghost use Rattle.index_match.specs.Conditions as forms;
+ghost use Rattle.scan_probes.specs.Probes.{AreKnown, compared_with, given_value, is_given, is_known, on_key, probe_of, probes_from};
+
+use crate::given::Given;
+use btree_index::{Bound, Probe};
+use index_match::{has_form, is_fixing, is_key_side, is_outside};
+use opfamily::{IndexKey, Method};
+use pg_base::{Memory, RelNo};
+use pg_expr::{Expr, Operand};
+use pg_value::{Value, commutator};
+use std::alloc::Global;
+
+/// The value of a side that is a literal or a column of a row given. The error means want of memory.
+fn side_value(alloc: Global, given: &Given, o: &Operand) -> Result<Value, Memory>
+    requires { IsTrue (is_given given.now o.now) }
+    ensures { IfOk result (λ v. v ≡ value_of (given_value given.now) o.now) }
+{
+    match o {
+        Operand::Lit(v) => v.copy(alloc),
+        Operand::Col(x) => match given.row(x.rel) {
+            Some(row) => row.value(x.col).copy(alloc),
+            None => unreachable!(),
+        },
+    }
+}
+
+/// A comparison of a key column. The error means want of memory.
+fn bound(
+    alloc: Global,
+    column: u8,
+    op: pg_value::Op,
+    given: &Given,
+    side: &Operand,
+) -> Result<Probe, Memory>
+    requires { IsTrue (is_given given.now side.now) }
+    ensures { IfOk result (λ p. p ≡ Probe.Bound (record { col = column; op = op; value = value_of (given_value given.now) side.now })) }
+{
+    let value = side_value(alloc, given, side)?;
+    Ok(Probe::Bound(Bound {
+        col: column,
+        op,
+        value,
+    }))
+}
+
+/// A condition on a key column, with the column on the left. The error means want of memory.
+fn probe(
+    alloc: Global,
+    r: RelNo,
+    key: IndexKey,
+    column: u8,
+    given: &Given,
+    e: &Expr,
+) -> Result<Probe, Memory>
+    requires form { forms.has_form Btree r.0 key (cond e.now) ≡ true }
+    requires known { is_known r.0 given.now (cond e.now) ≡ true }
+    ensures { IfOk result (λ p. p ≡ probe_of r.0 key column given.now (cond e.now)) }
+{
+    match e {
+        Expr::Compare(op, a, b) => {
+            if is_key_side(r, key, a) && is_outside(r, b) {
+                bound(alloc, column, *op, given, b)
+            } else {
+                bound(alloc, column, commutator(*op), given, a)
+            }
+        }
+        Expr::IsNull(_) => Ok(Probe::IsNull(column)),
+        _ => Ok(Probe::NotNull(column)),
+    }
+}
+
+/// The first condition that fixes a key column. None where no condition does. The error means want of memory.
+fn fixing_probe(
+    alloc: Global,
+    r: RelNo,
+    key: IndexKey,
+    column: u8,
+    given: &Given,
+    conditions: &[&Expr],
+) -> Result<Option<Probe>, Memory>
+    requires { AreKnown r.0 given.now (map (λ e. cond e.now) conditions.now) }
+    ensures { IfOk result (λ p. p ≡ option_map (probe_of r.0 key column given.now) (find bounds.is_fixing (on_key r.0 key (map (λ e. cond e.now) conditions.now)))) }
+{
+    for condition in conditions {
+        if has_form(Method::Btree, r, key, condition) && is_fixing(condition) {
+            let fixing = probe(alloc, r, key, column, given, condition)?;
+            return Ok(Some(fixing));
+        }
+    }
+    Ok(None)
+}
+
+/// Adds the conditions on a key column that no condition fixes. The error means want of memory.
+fn add_open(
+    alloc: Global,
+    r: RelNo,
+    key: IndexKey,
+    column: u8,
+    given: &Given,
+    conditions: &[&Expr],
+    probes: &mut Vec<Probe>,
+) -> Result<(), Memory>
+    requires { AreKnown r.0 given.now (map (λ e. cond e.now) conditions.now) }
+    ensures { OnOk result (probes.new.items ≡ probes.old.items ++ map (probe_of r.0 key column given.now) (on_key r.0 key (map (λ e. cond e.now) conditions.now))) }
+{
+    for condition in conditions {
+        if has_form(Method::Btree, r, key, condition) {
+            probes.push(probe(alloc, r, key, column, given, condition)?)?;
+        }
+    }
+    Ok(())
+}
+
+/// The value that the condition of a hash index on a key of relation `r` compares the key with, where rows of other
+/// relations are given. The error means want of memory.
+pub fn equal_value(
+    alloc: Global,
+    r: RelNo,
+    key: IndexKey,
+    given: &Given,
+    e: &Expr,
+) -> Result<Value, Memory>
+    requires form { forms.has_form Hash r.0 key (cond e.now) ≡ true }
+    requires known { is_known r.0 given.now (cond e.now) ≡ true }
+    ensures { IfOk result (λ v. v ≡ compared_with r.0 key given.now (cond e.now)) }
+{
+    match e {
+        Expr::Compare(_, a, b) => {
+            if is_key_side(r, key, a) && is_outside(r, b) {
+                side_value(alloc, given, b)
+            } else {
+                side_value(alloc, given, a)
+            }
+        }
+        _ => unreachable!(),
+    }
+}
+
+/// The conditions of a B-tree of these keys, on relation `r`, as bounds of its entries, where rows of other relations are
+/// given. The error means want of memory.
+pub fn index_probes(
+    alloc: Global,
+    r: RelNo,
+    keys: &[IndexKey],
+    given: &Given,
+    conditions: &[&Expr],
+) -> Result<Vec<Probe>, Memory>
+    requires few { length keys.now < 256 }
+    requires known { AreKnown r.0 given.now (map (λ e. cond e.now) conditions.now) }
+    ensures { IfOk result (λ v. v.items ≡ probes_from r.0 0 keys.now given.now (map (λ e. cond e.now) conditions.now)) }
+{
+    let mut probes = Vec::new(alloc);
+    for column in 0..keys.len() {
+        let key = keys[column];
+        match fixing_probe(alloc, r, key, column as u8, given, conditions)? {
+            Some(fixing) => probes.push(fixing)?,
+            None => {
+                add_open(alloc, r, key, column as u8, given, conditions, &mut probes)?;
+                return Ok(probes);
+            }
+        }
+    }
+    Ok(probes)
+}

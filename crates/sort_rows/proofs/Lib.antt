@@ -1,0 +1,6 @@
+pub mod ColumnLemmas
+pub mod ListLemmas
+pub mod OrderLemmas
+pub mod RankLemmas
+pub mod RowLemmas
+pub mod SortLemmas

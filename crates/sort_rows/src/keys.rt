@@ -1,0 +1,121 @@
+//! Sort keys of tuples: their values, and how they compare.
+
+ghost use Rattle.std.specs.Prelude.{◌≡◌, ◌+◌, ◌≤◌, All, IfOk, length, map, slice_index_or};
+ghost use Rattle.pg_base.specs.Sets.{has};
+ghost use Rattle.pg_value.specs.declared.value.Value.TheVariants.{Null};
+ghost use Rattle.pg_value.specs.ColumnOrder.{column_order};
+ghost use Rattle.eq_classes.specs.Holding.{IsWithin};
+ghost use Rattle.heap.specs.Tuples.{relation_count};
+ghost use Rattle.path_cost.specs.Columns.{AreTables};
+ghost use Rattle.sql_query.specs.Queries.{all_of_query};
+ghost use Rattle.sql_query.specs.Tuples.{value_at};
+ghost use Rattle.sql_query.specs.Worlds.{IsWorld, world};
+ghost use Rattle.sort_rows.specs.Columns.{columns_order, key_at, values_order, IsSortColumn};
+ghost use Rattle.sort_rows.specs.Rows.{AreRowsAt, HasRows, tuple_of};
+
+use crate::columns::SortColumn;
+use catalog::Catalog;
+use heap::{Counters, Heaps, Row};
+use pg_base::{Memory, RelNo, RelSet, Steps, Tid};
+use pg_value::{Value, column_order};
+use sql_query::Prepared;
+use std::alloc::Global;
+use std::cmp::Ordering;
+
+/// The rows of a tuple of a set of relations, in FROM order. Each is one look. The error means want of memory.
+fn tuple_rows<'a, C: Counters>(
+    alloc: Global,
+    cat: &Catalog,
+    q: &Prepared,
+    heaps: &'a Heaps<C>,
+    set: RelSet,
+    tuple: &[Tid],
+    reads: &mut Steps<C::Looks>,
+) -> Result<Vec<&'a Row>, Memory>
+    requires world { IsWorld (world cat.now heaps.now) }
+    requires tables { AreTables cat.now q.now.range }
+    requires set { IsWithin (has set.0) (all_of_query q.now) }
+    requires width { length tuple.now ≡ relation_count set }
+    requires rows { HasRows (world cat.now heaps.now) q.now (has set.0) tuple.now }
+    ensures rows { IfOk result (λ rows. AreRowsAt (world cat.now heaps.now) q.now set tuple.now (map (λ r. r.now) rows.items)) }
+    ensures cost { reads.new ≤ reads.old + relation_count set }
+{
+    let mut rows = Vec::new(alloc);
+    for r in 0..16 {
+        if set.has(RelNo(r)) {
+            let (table, _) = &q.range.items()[r as usize];
+            let row = heaps.get(*table).look(tuple[rows.len()], reads);
+            rows.push(row)?;
+        }
+    }
+    Ok(rows)
+}
+
+/// The values of a tuple of a set of relations at columns of them. Each relation's row is read once, by one look. The
+/// error means want of memory.
+pub fn read_key<'a, C: Counters>(
+    alloc: Global,
+    cat: &Catalog,
+    q: &Prepared,
+    heaps: &'a Heaps<C>,
+    set: RelSet,
+    columns: &[SortColumn],
+    tuple: &[Tid],
+    reads: &mut Steps<C::Looks>,
+) -> Result<Vec<&'a Value>, Memory>
+    requires world { IsWorld (world cat.now heaps.now) }
+    requires tables { AreTables cat.now q.now.range }
+    requires set { IsWithin (has set.0) (all_of_query q.now) }
+    requires columns { All (IsSortColumn cat.now q.now (has set.0)) columns.now }
+    requires width { length tuple.now ≡ relation_count set }
+    requires rows { HasRows (world cat.now heaps.now) q.now (has set.0) tuple.now }
+    ensures key { IfOk result (λ key. map (λ v. v.now) key.items ≡ key_at columns.now (value_at (world cat.now heaps.now) q.now (tuple_of q.now set tuple.now))) }
+    ensures cost { reads.new ≤ reads.old + relation_count set }
+{
+    let rows = tuple_rows(alloc, cat, q, heaps, set, tuple, reads)?;
+    let mut key = Vec::new(alloc);
+    for column in columns {
+        key.push(rows[column.place].value(column.column.col))?;
+    }
+    Ok(key)
+}
+
+/// How two keys stand to one another, by the first column that tells them apart. A value that a key lacks counts as
+/// NULL.
+pub fn compare_keys(columns: &[SortColumn], a: &[&Value], b: &[&Value]) -> Ordering
+    ensures { result ≡ columns_order columns.now (map (λ v. v.now) a.now) (map (λ v. v.now) b.now) }
+{
+    for i in 0..columns.len() {
+        match compare_at(columns[i], a, b, i) {
+            Ordering::Equal => {}
+            unequal => return unequal,
+        }
+    }
+    Ordering::Equal
+}
+
+/// How the values at one place of two keys stand to one another by a column.
+fn compare_at(column: SortColumn, a: &[&Value], b: &[&Value], place: usize) -> Ordering
+    ensures { result ≡ values_order column (slice_index_or (map (λ v. v.now) a.now) place Null) (slice_index_or (map (λ v. v.now) b.now) place Null) }
+{
+    let null = Value::Null;
+    let one = value_or(a, place, &null);
+    let other = value_or(b, place, &null);
+    column_order(
+        column.family,
+        column.descending,
+        column.nulls_first,
+        one,
+        other,
+    )
+}
+
+/// The value at a place of a key, or another one past its end.
+fn value_or<'a>(key: &'a [&Value], place: usize, past: &'a Value) -> &'a Value
+    ensures { result.now ≡ slice_index_or (map (λ v. v.now) key.now) place past.now }
+{
+    match key.get(place) {
+        Some(value) => value,
+        None => past,
+    }
+}

@@ -6,3 +6,4 @@ pub mod PartLemmas
 pub mod AtomLemmas
 pub mod EndLemmas
 pub mod TypedLemmas
+pub mod StepLemmas

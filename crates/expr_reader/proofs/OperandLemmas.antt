@@ -8,6 +8,7 @@ use Rattle.sql_grammar.specs.declared.class.Symbol.TheVariants.{Dot}
 use Rattle.sql_grammar.specs.Faults.{bytes_of}
 use Rattle.sql_grammar.specs.Terminals.{Terminal, Ident, t_mark, t_name, token_of}
 use Rattle.sql_grammar.specs.Syntax.{Col, bare, qualified, Operand, column}
+use Rattle.sql_grammar.specs.Unique.{token_in}
 use Rattle.sql_grammar.specs.Words.{words_of_col}
 use Rattle.sql_cursor.specs.declared.cursor.Spelled.{Spelled}
 use Rattle.sql_cursor.specs.Reading.{BeginsName, BeginsNot, spelled}
@@ -15,7 +16,7 @@ use Rattle.expr_reader.specs.declared.found.Found.{Found}
 use Rattle.expr_reader.specs.declared.found.Found.TheVariants.{One, NoTable, NoColumn, Many}
 use Rattle.expr_reader.specs.declared.written.Side.{Side}
 use Rattle.expr_reader.specs.declared.written.Side.TheVariants.{Column}
-use Rattle.expr_reader.specs.Conditions.{next, Side as SideTree, of_column, side_of, the_column}
+use Rattle.expr_reader.specs.Conditions.{next, Side as SideTree, of_column, side_of, the_column, column_of, place_of_col}
 use Rattle.expr_reader.specs.Scope.{Scope, look_up}
 use Rattle.expr_reader.specs.Written.{side_meant, side_read}
 
@@ -35,21 +36,30 @@ bare-col (qualified q d n) rest old left s (m, says, first) absent is =
     let same : t_name m ∷ left ≡ t_name q ∷ t_mark Dot d ∷ t_name n ∷ rest = sym first ∙ is in
     absurd (absent (t_name n ∷ rest) (d, cc (same)))
 
--- what a side means where its column is found so
-found-meant : (type_of : ColRef → SqlType) (f : Found) (first name : Token) →
-    next (the_column f first name) (λ c. Ok (Column c (type_of c) first)) ≡ next (next (the_column f first name) (λ r. Ok (of_column r (type_of r) first))) (λ s. Ok (side_read s))
-found-meant type_of (One c) first name = refl
-found-meant type_of NoTable first name = refl
-found-meant type_of NoColumn first name = refl
-found-meant type_of Many first name = refl
-
-pub bare-meant : (scope : Scope) (type_of : ColRef → SqlType) (c : Col) (n : Ident) (s : Spelled) (f : Found) (bytes : List ℕ) → c ≡ bare n → s ≡ spelled n → f ≡ look_up scope None bytes → bytes ≡ s.bytes →
-    next (the_column f s.token s.token) (λ r. Ok (Column r (type_of r) s.token)) ≡ side_meant scope type_of (column c)
-bare-meant scope type_of c n s f bytes is says found value =
+-- the column of a bare name
+pub bare-column : (scope : Scope) (c : Col) (n : Ident) (s : Spelled) (f : Found) (bytes : List ℕ) → c ≡ bare n → s ≡ spelled n → f ≡ look_up scope None bytes → bytes ≡ s.bytes →
+    the_column f s.token s.token ≡ column_of scope c
+bare-column scope c n s f bytes is says found value =
     let now : f ≡ look_up scope None (bytes_of n) = found ∙ ap (look_up scope None) (value ∙ ap (λ (x : Spelled). x.bytes) says) in
-    ap (λ (x : Spelled). next (the_column f x.token x.token) (λ r. Ok (Column r (type_of r) x.token))) says
-    ∙ (ap (λ (x : Found). next (the_column x (token_of n) (token_of n)) (λ r. Ok (Column r (type_of r) (token_of n)))) now
-    ∙ (found-meant type_of (look_up scope None (bytes_of n)) (token_of n) (token_of n) ∙ ap (λ (x : Col). side_meant scope type_of (column x)) (sym is)))
+    ap (λ (x : Spelled). the_column f x.token x.token) says ∙ (ap (λ (x : Found). the_column x (token_of n) (token_of n)) now ∙ ap (column_of scope) (sym is))
+
+-- a column that is told is the one that was found
+pub is-found : (f : Found) (first name : Token) (x : ColRef) → the_column f first name ≡ Ok x → f ≡ One x
+is-found (One c) first name x is = let same : c ≡ x = cc (is) in ap One same
+is-found NoTable first name x is = absurd (cc (is))
+is-found NoColumn first name x is = absurd (cc (is))
+is-found Many first name x is = absurd (cc (is))
+
+-- the token of its first word
+pub first-place : (c : Col) (rest old : List Terminal) (t : Token) → old ≡ words_of_col c ++ rest → ((w : Terminal) (left : List Terminal) → old ≡ w ∷ left → t ≡ token_in w) → t ≡ place_of_col c
+first-place (bare n) rest old t is told = told (t_name n) rest is
+first-place (qualified q d n) rest old t is told = told (t_name q) (t_mark Dot d ∷ t_name n ∷ rest) is
+
+-- a side whose column is told
+pub side-told : (scope : Scope) (type_of : ColRef → SqlType) (c : Col) (x : ColRef) (t : SqlType) (first : Token) → column_of scope c ≡ Ok x → t ≡ type_of x → first ≡ place_of_col c → Ok (Column x t first) ≡ side_meant scope type_of (column c)
+side-told scope type_of c x t first is typed place =
+    ap (λ u. Ok (Column x u first)) typed ∙ (ap (λ p. Ok (Column x (type_of x) p)) place ∙
+    sym (ap (λ m. next (next m (λ r. Ok (of_column r (type_of r) (place_of_col c)))) (λ s. Ok (side_read s))) is))
 
 fault-by : {A B : Type 0} (m : Result A Fault) (seen : A → B) (f : Fault) → next m (λ s. Ok (seen s)) ≡ Err f → m ≡ Err f
 fault-by (Ok s) seen f is = absurd (cc (is))

@@ -19,7 +19,7 @@ seen-all [] = All-nil (Seen [])
 seen-all (v ∷ vs) = All-cons (Seen (v ∷ vs)) v vs (0, omega arith, refl) (All-weaker (Seen vs) (Seen (v ∷ vs)) (later v vs) vs (seen-all vs))
 
 module _ (P : ColRef → Type 0) where
-  the-one-all : (sub : Scope) (c : ColRef) → All (λ v. P v.column) sub → the_one sub ≡ One c → P c
+  pub the-one-all : (sub : Scope) (c : ColRef) → All (λ v. P v.column) sub → the_one sub ≡ One c → P c
   the-one-all [] c all is = absurd (cc (is))
   the-one-all (v ∷ []) c all is = let same : v.column ≡ c = cc (is) in subst P same (All-head (λ u. P u.column) v [] all)
   the-one-all (v ∷ w ∷ vs) c all is = absurd (cc (is))

@@ -17,6 +17,7 @@ mod written;
 
 pub use found::Found;
 pub use laws::meanings_are_bound;
+pub use operand::{found_column, take_column};
 pub use read::{read_expr, take_expr};
 pub use scope::Scope;
 pub use value::{Placed, read_literal};

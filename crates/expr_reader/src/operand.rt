@@ -1,14 +1,11 @@
 //! A side of a comparison: a column that is looked up, or a literal.
 
-ghost use Rattle.std.specs.Prelude.{◌≡◌, ◌≤◌, length, true, List, ◌++◌, Ok, Contains, None, Some};
-ghost use Rattle.pg_expr.specs.declared.operand.ColRef.{ColRef};
+ghost use Rattle.std.specs.Prelude.{◌≡◌, ◌≤◌, length, true, List, ◌++◌, Contains, IfOk};
 ghost use Rattle.sql_grammar.specs.Terminals.{Terminal};
 ghost use Rattle.sql_grammar.specs.Syntax.{Col, Operand, column as column_tree};
 ghost use Rattle.sql_grammar.specs.Unique.{ends_operand};
 ghost use Rattle.sql_grammar.specs.Words.{words_of_col, words_of_operand};
-ghost use Rattle.expr_reader.specs.declared.found.Found.TheVariants.{One};
-ghost use Rattle.expr_reader.specs.declared.written.Side.TheVariants.{Column};
-ghost use Rattle.expr_reader.specs.Conditions.{next, the_column};
+ghost use Rattle.expr_reader.specs.Conditions.{the_column, column_of};
 ghost use Rattle.expr_reader.specs.Reads.{Reads};
 ghost use Rattle.expr_reader.specs.Scope.{columns_of};
 ghost use Rattle.expr_reader.specs.Written.{side_meant};
@@ -18,39 +15,54 @@ use crate::literal::literal;
 use crate::scope::Scope;
 use crate::written::Side;
 use pg_base::{Code, Fault, Refusal};
+use pg_expr::ColRef;
 use sql_cursor::Cursor;
 use sql_grammar::{Class, Symbol, fault_at};
 use sql_lex::Token;
 use std::alloc::Global;
 
-/// The side that a name means, with the tokens of its first word and of the column's word.
-fn found_side<S: Scope>(scope: &S, found: Found, first: Token, name: Token) -> Result<Side, Fault>
-    requires { (c : ColRef) → found ≡ One c → Contains (columns_of (S.visible scope.now)) c }
-    ensures { result ≡ next (the_column found first name) (λ c. Ok (Column c (S.type_of scope.now c) first)) }
+/// The column that was found, or its fault: an unknown qualifier is at fault itself (42P01), and else the name, as an unknown
+/// one (42703) or one that several visible columns have (42702).
+pub fn found_column(found: Found, qualifier: Token, name: Token) -> Result<ColRef, Fault>
+    ensures { result ≡ the_column found qualifier name }
 {
     match found {
-        Found::One(c) => Ok(Side::Column(c, scope.typed(c), first)),
-        Found::NoTable => Err(fault_at(Code::S2, first)),
+        Found::One(column) => Ok(column),
+        Found::NoTable => Err(fault_at(Code::S2, qualifier)),
         Found::NoColumn => Err(fault_at(Code::S3, name)),
         Found::Many => Err(fault_at(Code::S4, name)),
     }
 }
 
-/// The column that is next.
+/// The column that is next, bound to the visible ones. The condition is that the words that are left begin with one, and that
+/// no dot follows it. The refusal is `Memory`, or the column's fault as `found_column` gives it.
+pub fn take_column<S: Scope>(alloc: Global, scope: &S, from: &mut Cursor) -> Result<ColRef, Refusal>
+    requires { (c : Col) × (rest : List Terminal) × (ends_operand rest ≡ true) × (from.old ≡ words_of_col c ++ rest) }
+    ensures read { (c : Col) (rest : List Terminal) → ends_operand rest ≡ true → from.old ≡ words_of_col c ++ rest →
+        Reads (λ x. x) (column_of (S.visible scope.now) c) rest result from.new }
+    ensures ahead { length from.new ≤ length from.old }
+    ensures visible { IfOk result (Contains (columns_of (S.visible scope.now))) }
+{
+    let first = from.expect_name(alloc)?;
+    if !from.takes_mark(Symbol::Dot) {
+        let found = scope.column(None, first.bytes.items());
+        return Ok(found_column(found, first.token, first.token)?);
+    }
+    let second = from.expect_name(alloc)?;
+    let found = scope.column(Some(first.bytes.items()), second.bytes.items());
+    Ok(found_column(found, first.token, second.token)?)
+}
+
+/// The column that is next, with its type and the token of its first word.
 fn column<S: Scope>(alloc: Global, scope: &S, from: &mut Cursor) -> Result<Side, Refusal>
     requires { (c : Col) × (rest : List Terminal) × (ends_operand rest ≡ true) × (from.old ≡ words_of_col c ++ rest) }
     ensures read { (c : Col) (rest : List Terminal) → ends_operand rest ≡ true → from.old ≡ words_of_col c ++ rest →
         Reads (λ x. x) (side_meant (S.visible scope.now) (S.type_of scope.now) (column_tree c)) rest result from.new }
     ensures ahead { length from.new ≤ length from.old }
 {
-    let first = from.expect_name(alloc)?;
-    if !from.takes_mark(Symbol::Dot) {
-        let found = scope.column(None, first.bytes.items());
-        return Ok(found_side(scope, found, first.token, first.token)?);
-    }
-    let second = from.expect_name(alloc)?;
-    let found = scope.column(Some(first.bytes.items()), second.bytes.items());
-    Ok(found_side(scope, found, first.token, second.token)?)
+    let first = from.token();
+    let c = take_column(alloc, scope, from)?;
+    Ok(Side::Column(c, scope.typed(c), first))
 }
 
 /// The operand that is next.

@@ -1,2 +1,4 @@
 pub mod Reading
 pub mod Operators
+pub mod Lists
+pub mod Sorts

@@ -3,7 +3,9 @@
 
 mod cursor;
 mod laws;
+mod sort;
 mod values;
 
 pub use cursor::{Cursor, Number, Operator, Spelled};
 pub use laws::names_among_words;
+pub use sort::{descending, nulls_first};

@@ -1,13 +1,13 @@
--- The walk takes every statement.
+-- The walk takes every part of a statement.
 use Rattle.std.proofs.Common.{◌≡◌, ℕ, ◌+◌, ◌≤◌, true, List, [], ◌∷◌, ◌++◌, None, refl, sym, ap, ◌∙◌, arith, append_assoc, append-nil, nat_le}
 use Rattle.std.proofs.lemmas.Bool.{le-leb}
 use Rattle.sql_grammar.specs.Terminals.{Terminal, Said, t_key, t_mark, t_name, t_number, class_of}
 use Rattle.sql_grammar.specs.declared.class.Word.TheVariants.{From, Is}
 use Rattle.sql_grammar.specs.declared.class.Symbol.TheVariants.{Close, Dot}
 use Rattle.sql_grammar.specs.declared.table.Item.{Item}
-use Rattle.sql_grammar.specs.declared.table.Item.TheVariants.{Keyword, Label, Whole, Ends, Query, Nullness, MoreColumns, Negation, MoreAnds, MoreOrs, Closes, NotEnds, AfterName, AfterColumn, AfterTruth, Side, AfterQualifier, Result, MoreResults, AfterResult, MaybeAlias, MaybeWhere, MaybeCommon, MoreShares, MaybeHistogram, MoreBounds, Literal, Digits}
-use Rattle.sql_grammar.specs.Syntax.{Mark, bare, qualified, yes, no, unknown, Lit, number, negative, quoted, constant, Operand, column, literal, Expr, either_of, Ors, no_or, or_conj, Conj, both_of, Ands, no_and, and_neg, Neg, negated, plain, Atom, parens, compare, is_null, is_not_null, column_alone, constant_alone, Nulls, unwritten, not_null, nullable, ColDef, coldef, Output, every, every_of, one, Alias, no_alias, bare_alias, as_alias, Where, no_where, where_expr, Select, select_from, Share, share, Common, no_common, common, Histogram, no_histogram, histogram, Ending, semicolon, text_end, Statement, empty, create_table, query, copy, sizes, column_statistics}
-use Rattle.sql_grammar.specs.Words.{words_of, words_of_lit, words_of_operand, words_of_expr, words_of_ors, words_of_conj, words_of_ands, words_of_neg, words_of_atom, words_of_nulls, words_of_coldef, words_of_columns, words_of_output, words_of_outputs, words_of_alias, words_of_where, words_of_select, words_of_share, words_of_shares, words_of_common, words_of_bounds, words_of_histogram, words_of_ending, levels_of, levels_of_select, levels_of_where, levels_of_expr, levels_of_ors, levels_of_conj, levels_of_ands, levels_of_neg, levels_of_atom}
+use Rattle.sql_grammar.specs.declared.table.Item.TheVariants.{Keyword, Label, Ends, Query, Nullness, MoreColumns, Negation, MoreAnds, MoreOrs, Closes, NotEnds, AfterName, AfterColumn, AfterTruth, Side, AfterQualifier, Result, MoreResults, AfterResult, MaybeAlias, MaybeWhere, MaybeCommon, MoreShares, MaybeHistogram, MoreBounds, Literal, Digits}
+use Rattle.sql_grammar.specs.Syntax.{Mark, bare, qualified, yes, no, unknown, Lit, number, negative, quoted, constant, Operand, column, literal, Expr, either_of, Ors, no_or, or_conj, Conj, both_of, Ands, no_and, and_neg, Neg, negated, plain, Atom, parens, compare, is_null, is_not_null, column_alone, constant_alone, Nulls, unwritten, not_null, nullable, ColDef, coldef, Output, every, every_of, one, Alias, no_alias, bare_alias, as_alias, Where, no_where, where_expr, Select, select_from, Share, share, Common, no_common, common, Histogram, no_histogram, histogram, Ending, semicolon, text_end}
+use Rattle.sql_grammar.specs.Words.{words_of_lit, words_of_operand, words_of_expr, words_of_ors, words_of_conj, words_of_ands, words_of_neg, words_of_atom, words_of_nulls, words_of_coldef, words_of_columns, words_of_output, words_of_outputs, words_of_alias, words_of_where, words_of_select, words_of_share, words_of_shares, words_of_common, words_of_bounds, words_of_histogram, words_of_ending, levels_of_select, levels_of_where, levels_of_expr, levels_of_ors, levels_of_conj, levels_of_ands, levels_of_neg, levels_of_atom}
 use Rattle.sql_grammar.specs.Table.{takes_of, is_optional}
 use Rattle.sql_grammar.specs.Machine.{depth_of, takes_all}
 
@@ -27,7 +27,7 @@ truth-passes (t_mark Dot _ ∷ ts) p = refl
 truth-passes (t_key Is _ ∷ ts) p = refl
 truth-passes (_ ∷ ts) p = p
 
-qualifier-passes : (ts : List Terminal) → Passes AfterName ts → Passes AfterQualifier ts
+pub qualifier-passes : (ts : List Terminal) → Passes AfterName ts → Passes AfterQualifier ts
 qualifier-passes [] p = tt
 qualifier-passes (t_mark Dot _ ∷ ts) p = absurd (cc)
 qualifier-passes (_ ∷ ts) p = refl
@@ -60,18 +60,18 @@ after-ors no_or ts p = p
 after-ors (or_conj k c cs) ts p = record { atom = refl; ands = refl }
 
 module _ (limit : ℕ) where
-  skip : (i : Item) (s : List Item) (ts : List Terminal) → is_optional i ≡ true → Passes i ts → takes_all limit ts (i ∷ s) ≡ takes_all limit ts s
+  pub skip : (i : Item) (s : List Item) (ts : List Terminal) → is_optional i ≡ true → Passes i ts → takes_all limit ts (i ∷ s) ≡ takes_all limit ts s
   skip i s [] o p = rw o refl
   skip i s (t ∷ ts) o p = rw (p, o) refl
 
-  apart : (a b ts : List Terminal) (s : List Item) → takes_all limit ((a ++ b) ++ ts) s ≡ takes_all limit (a ++ (b ++ ts)) s
+  pub apart : (a b ts : List Terminal) (s : List Item) → takes_all limit ((a ++ b) ++ ts) s ≡ takes_all limit (a ++ (b ++ ts)) s
   apart a b ts s = ap (λ l. takes_all limit l s) (append_assoc a b ts)
 
   level-ends : (s : List Item) (ts : List Terminal) → takes_all limit ts (NotEnds ∷ s) ≡ takes_all limit ts s
   level-ends s [] = refl
   level-ends s (t ∷ ts) = refl
 
-  side : (o : Operand) (s : List Item) (ts : List Terminal) → Passes AfterQualifier ts → takes_all limit (words_of_operand o ++ ts) (Side ∷ s) ≡ takes_all limit ts s
+  pub side : (o : Operand) (s : List Item) (ts : List Terminal) → Passes AfterQualifier ts → takes_all limit (words_of_operand o ++ ts) (Side ∷ s) ≡ takes_all limit ts s
   side (column (bare n)) s ts p = skip AfterQualifier s ts refl p
   side (column (qualified q d n)) s ts p = refl
   side (literal (number n)) s ts p = refl
@@ -148,7 +148,7 @@ module _ (limit : ℕ) where
   after-columns [] m ts = refl
   after-columns (c ∷ cs) m ts = refl
 
-  columns : (c : ColDef) (cs : List (Mark × ColDef)) (m : Mark) (s : List Item) (ts : List Terminal) →
+  pub columns : (c : ColDef) (cs : List (Mark × ColDef)) (m : Mark) (s : List Item) (ts : List Terminal) →
       takes_all limit (words_of_coldef c ++ (words_of_columns cs ++ t_mark Close m ∷ ts)) (Label ∷ Label ∷ Nullness ∷ MoreColumns ∷ s) ≡ takes_all limit ts s
   columns (coldef n t x) [] m s ts = nulls x (MoreColumns ∷ s) (t_mark Close m ∷ ts) refl
   columns (coldef n t x) ((comma, c) ∷ cs) m s ts =
@@ -175,11 +175,11 @@ module _ (limit : ℕ) where
   alias (bare_alias n) s ts p = refl
   alias (as_alias k n) s ts p = refl
 
-  condition : (w : Where) (s : List Item) (ts : List Terminal) → levels_of_where w + depth_of s ≤ limit → EndsSelect ts → takes_all limit (words_of_where w ++ ts) (MaybeWhere ∷ s) ≡ takes_all limit ts s
+  pub condition : (w : Where) (s : List Item) (ts : List Terminal) → levels_of_where w + depth_of s ≤ limit → EndsSelect ts → takes_all limit (words_of_where w ++ ts) (MaybeWhere ∷ s) ≡ takes_all limit ts s
   condition no_where s ts low p = skip MaybeWhere s ts refl p.condition
   condition (where_expr k e) s ts low p = expr e s ts low p.expr
 
-  selected : (q : Select) (s : List Item) (ts : List Terminal) → levels_of_select q + depth_of s ≤ limit → EndsSelect ts → takes_all limit (words_of_select q ++ ts) (Query ∷ s) ≡ takes_all limit ts s
+  pub selected : (q : Select) (s : List Item) (ts : List Terminal) → levels_of_select q + depth_of s ≤ limit → EndsSelect ts → takes_all limit (words_of_select q ++ ts) (Query ∷ s) ≡ takes_all limit ts s
   selected (select_from k o os f n a w) s ts low p =
       apart (words_of_output o) (words_of_outputs os ++ t_key From f ∷ t_name n ∷ (words_of_alias a ++ words_of_where w)) ts _ ∙
       (ap (λ l. takes_all limit (words_of_output o ++ l) (Result ∷ MoreResults ∷ Keyword From ∷ Label ∷ MaybeAlias ∷ MaybeWhere ∷ s))
@@ -208,7 +208,7 @@ module _ (limit : ℕ) where
       (lit l (Digits ∷ MoreShares ∷ s) (t_number n ∷ (words_of_shares ((c, x) ∷ xs) ++ t_mark Close m ∷ ts)) ∙
       (apart (words_of_share x) (words_of_shares xs) (t_mark Close m ∷ ts) _ ∙ shares x xs m s ts))
 
-  common-values : (v : Common) (s : List Item) (ts : List Terminal) → Passes MaybeCommon ts → takes_all limit (words_of_common v ++ ts) (MaybeCommon ∷ s) ≡ takes_all limit ts s
+  pub common-values : (v : Common) (s : List Item) (ts : List Terminal) → Passes MaybeCommon ts → takes_all limit (words_of_common v ++ ts) (MaybeCommon ∷ s) ≡ takes_all limit ts s
   common-values no_common s ts p = skip MaybeCommon s ts refl p
   common-values (common k o x xs m) s ts p =
       apart (words_of_share x) (words_of_shares xs ++ t_mark Close m ∷ []) ts _ ∙
@@ -220,39 +220,25 @@ module _ (limit : ℕ) where
   bounds l ((c, k) ∷ ls) m s ts =
       lit l (MoreBounds ∷ s) (words_of_bounds ((c, k) ∷ ls) ++ t_mark Close m ∷ ts) ∙ (apart (words_of_lit k) (words_of_bounds ls) (t_mark Close m ∷ ts) _ ∙ bounds k ls m s ts)
 
-  histograms : (h : Histogram) (s : List Item) (ts : List Terminal) → Passes MaybeHistogram ts → takes_all limit (words_of_histogram h ++ ts) (MaybeHistogram ∷ s) ≡ takes_all limit ts s
+  pub histograms : (h : Histogram) (s : List Item) (ts : List Terminal) → Passes MaybeHistogram ts → takes_all limit (words_of_histogram h ++ ts) (MaybeHistogram ∷ s) ≡ takes_all limit ts s
   histograms no_histogram s ts p = skip MaybeHistogram s ts refl p
   histograms (histogram k o l ls m) s ts p =
       apart (words_of_lit l) (words_of_bounds ls ++ t_mark Close m ∷ []) ts _ ∙
       (ap (λ x. takes_all limit (words_of_lit l ++ x) (Literal ∷ MoreBounds ∷ s)) (append_assoc (words_of_bounds ls) (t_mark Close m ∷ []) ts) ∙ bounds l ls m s ts)
 
-  ending : (e : Ending) → takes_all limit (words_of_ending e) (Ends ∷ []) ≡ true
+  pub ending : (e : Ending) → takes_all limit (words_of_ending e) (Ends ∷ []) ≡ true
   ending (semicolon t) = refl
   ending (text_end t) = refl
 
-  after-query : (e : Ending) → EndsSelect (words_of_ending e)
+  pub after-query : (e : Ending) → EndsSelect (words_of_ending e)
   after-query (semicolon t) = record { alias = refl; condition = refl; expr = record { conj = record { atom = refl; ands = refl }; ors = refl } }
   after-query (text_end t) = record { alias = refl; condition = refl; expr = record { conj = record { atom = refl; ands = refl }; ors = refl } }
 
-  after-histogram : (e : Ending) → Passes MaybeHistogram (words_of_ending e)
+  pub after-histogram : (e : Ending) → Passes MaybeHistogram (words_of_ending e)
   after-histogram (semicolon t) = refl
   after-histogram (text_end t) = refl
 
-  after-common : (h : Histogram) (e : Ending) → Passes MaybeCommon (words_of_histogram h ++ words_of_ending e)
+  pub after-common : (h : Histogram) (e : Ending) → Passes MaybeCommon (words_of_histogram h ++ words_of_ending e)
   after-common no_histogram (semicolon t) = refl
   after-common no_histogram (text_end t) = refl
   after-common (histogram k o l ls m) e = refl
-
-  opened : (q : Select) (ts : List Terminal) (s : List Item) → takes_all limit (words_of_select q ++ ts) (Whole ∷ []) ≡ takes_all limit (words_of_select q ++ ts) (Query ∷ Ends ∷ [])
-  opened (select_from k o os f n a w) ts s = refl
-
-  pub statement : (x : Statement) → levels_of x ≤ limit → takes_all limit (words_of x) (Whole ∷ []) ≡ true
-  statement (empty (semicolon t)) low = refl
-  statement (empty (text_end t)) low = refl
-  statement (create_table k t n o c cs m e) low = columns c cs m (Ends ∷ []) (words_of_ending e) ∙ ending e
-  statement (query q e) low = opened q (words_of_ending e) [] ∙ (selected q (Ends ∷ []) (words_of_ending e) (omega (arith, low)) (after-query e) ∙ ending e)
-  statement (copy k n text) low = refl
-  statement (sizes k n r p e) low = ending e
-  statement (column_statistics k n c d z v h e) low =
-      common-values v (MaybeHistogram ∷ Ends ∷ []) (words_of_histogram h ++ words_of_ending e) (after-common h e) ∙
-      (histograms h (Ends ∷ []) (words_of_ending e) (after-histogram e) ∙ ending e)

@@ -3,15 +3,17 @@ use Rattle.std.proofs.Common.{◌≡◌, ℕ, Bool, true, false, ◌&&◌, not, 
 use Rattle.std.proofs.lemmas.Bool.{and_parts}
 use Rattle.sql_grammar.specs.declared.class.Class.{Class}
 use Rattle.sql_grammar.specs.declared.table.Item.{Item}
-use Rattle.sql_grammar.specs.declared.table.Item.TheVariants.{Whole, Ends, Stop}
+use Rattle.sql_grammar.specs.declared.table.Item.TheVariants.{Whole, Ends, Stop, AfterCreate}
 use Rattle.sql_grammar.specs.Table.{Expansion, takes_of, is_optional, takes_end, is_ending}
 use Rattle.sql_grammar.specs.Machine.{depth_of, opens, by_row, step_of, may_end, is_empty, is_closed}
-use Rattle.sql_grammar.proofs.Room.{row_test, row-room}
+use Rattle.sql_grammar.proofs.RoomTests.{row_test}
+use Rattle.sql_grammar.proofs.Room.{row-room}
 
 optional-inner : (i : Item) → is_optional i ≡ true → takes_end i ≡ false
 optional-inner Whole o = absurd (cc)
 optional-inner Ends o = absurd (cc)
 optional-inner Stop o = absurd (cc)
+optional-inner AfterCreate o = absurd (cc)
 optional-inner _ o = refl
 
 -- without such an item in front the stack's end is what counts
@@ -81,6 +83,7 @@ last-needed : (i : Item) → takes_end i ≡ true → is_optional i ≡ false
 last-needed Whole l = refl
 last-needed Ends l = refl
 last-needed Stop l = refl
+last-needed AfterCreate l = refl
 last-needed _ l = absurd (cc)
 
 pub still-open : (s : List Item) → is_closed false true s ≡ true → may_end s ≡ false

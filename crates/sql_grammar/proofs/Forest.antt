@@ -1,14 +1,18 @@
 -- What the items of a stack may stand for: a part of a statement each.
-use Rattle.std.proofs.Common.{◌≡◌, ℕ, ◌+◌, ◌≤◌, List, [], ◌∷◌, ◌++◌}
+use Rattle.std.proofs.Common.{◌≡◌, ℕ, ◌+◌, ◌≤◌, List, [], ◌∷◌, ◌++◌, Option, Some, None}
 use Rattle.sql_lex.specs.declared.tokens.Token.{Token}
 use Rattle.sql_grammar.specs.Terminals.{Terminal, t_key, t_mark, t_name, t_number, t_quoted, t_semicolon, Ident, Said, free}
-use Rattle.sql_grammar.specs.declared.class.Word.TheVariants.{Is}
-use Rattle.sql_grammar.specs.declared.class.Free.TheVariants.{Statistics}
+use Rattle.sql_grammar.specs.declared.class.Word.TheVariants.{Create, Is}
+use Rattle.sql_grammar.specs.declared.class.Free.TheVariants.{Nulls as NullsWord, Statistics}
 use Rattle.sql_grammar.specs.declared.class.Symbol.TheVariants.{Close, Dot}
 use Rattle.sql_grammar.specs.declared.table.Item.{Item}
-use Rattle.sql_grammar.specs.declared.table.Item.TheVariants.{Keyword, Sign, FreeWord, Label, Digits, QuotedText, Whole, Ends, Stop, Query, Nullness, MoreColumns, Result, MoreResults, AfterResult, StarOrLabel, MaybeAlias, MaybeWhere, Figures, MaybeCommon, MoreShares, MaybeHistogram, MoreBounds, Literal, Negation, MoreAnds, MoreOrs, Closes, NotEnds, AfterName, AfterColumn, AfterIs, AfterLiteral, AfterTruth, Side, AfterQualifier}
+use Rattle.sql_grammar.specs.declared.table.Item.TheVariants.{Keyword, Sign, FreeWord, Label, Digits, QuotedText, Whole, Ends, Stop, Query, Nullness, MoreColumns, Result, MoreResults, AfterResult, StarOrLabel, MaybeAlias, MaybeWhere, Figures, MaybeCommon, MoreShares, MaybeHistogram, MoreBounds, Literal, Negation, MoreAnds, MoreOrs, Closes, NotEnds, AfterName, AfterColumn, AfterIs, AfterLiteral, AfterTruth, Side, AfterQualifier, MaybeOrder, MoreOrderings, MaybeDirection, MaybeNulls, FirstOrLast, AfterCreate, MaybeUsing, MaybeClass, MoreKeys, MaybeInclude, MoreNames}
 use Rattle.sql_grammar.specs.Syntax.{Key, Mark, Col, Constant, Lit, constant, Operand, Ors, Ands, Neg, Atom, Nulls, ColDef, Output, Alias, Where, Select, Share, Common, Histogram, Ending, Statement}
 use Rattle.sql_grammar.specs.Words.{words_of, words_of_col, words_of_lit, words_of_operand, words_of_ors, words_of_ands, words_of_neg, words_of_atom, words_of_nulls, words_of_columns, words_of_output, words_of_outputs, words_of_alias, words_of_where, words_of_select, words_of_common, words_of_shares, words_of_histogram, words_of_bounds, words_of_ending, levels_of, levels_of_where, levels_of_select, levels_of_ors, levels_of_ands, levels_of_neg, levels_of_atom}
+use Rattle.sql_grammar.specs.Syntax.{Direction, NullsEnd, Ordering, OrderBy}
+use Rattle.sql_grammar.specs.Words.{words_of_direction, words_of_nulls_end, words_of_orderings, words_of_order}
+use Rattle.sql_grammar.specs.Syntax.{OpClass, IndexKey, Using, Include}
+use Rattle.sql_grammar.specs.Words.{words_of_class, words_of_keys, words_of_using, words_of_names, words_of_include}
 use Rattle.sql_grammar.specs.Machine.{depth_of}
 
 -- an atom that begins with `front` and goes on so; it opens no level
@@ -57,6 +61,17 @@ Part limit depth MoreShares = List (Mark × Share) × Mark
 Part limit depth MaybeHistogram = Histogram
 Part limit depth MoreBounds = List (Mark × Lit) × Mark
 Part limit depth Literal = Lit
+Part limit depth MaybeOrder = OrderBy
+Part limit depth MoreOrderings = List (Mark × Ordering)
+Part limit depth MaybeDirection = Direction
+Part limit depth MaybeNulls = NullsEnd
+Part limit depth FirstOrLast = (ts : List Terminal) × ((k : Token) → (n : NullsEnd) × (words_of_nulls_end n ≡ t_name (free NullsWord k) ∷ ts))
+Part limit depth AfterCreate = (ts : List Terminal) × ((k : Key) → (x : Statement) × (words_of x ≡ t_key Create k ∷ ts) × (levels_of x + depth ≤ limit))
+Part limit depth MaybeUsing = Using
+Part limit depth MaybeClass = OpClass
+Part limit depth MoreKeys = List (Mark × IndexKey) × Mark
+Part limit depth MaybeInclude = Include
+Part limit depth MoreNames = List (Mark × Ident) × Mark
 
 -- its words
 abbrev pub words_of_part : (limit depth : ℕ) (i : Item) → Part limit depth i → List Terminal
@@ -96,6 +111,17 @@ words_of_part limit depth MoreShares p = words_of_shares p.0 ++ t_mark Close p.1
 words_of_part limit depth MaybeHistogram p = words_of_histogram p
 words_of_part limit depth MoreBounds p = words_of_bounds p.0 ++ t_mark Close p.1 ∷ []
 words_of_part limit depth Literal p = words_of_lit p
+words_of_part limit depth MaybeOrder p = words_of_order p
+words_of_part limit depth MoreOrderings p = words_of_orderings p
+words_of_part limit depth MaybeDirection p = words_of_direction p
+words_of_part limit depth MaybeNulls p = words_of_nulls_end p
+words_of_part limit depth FirstOrLast p = p.0
+words_of_part limit depth AfterCreate p = p.0
+words_of_part limit depth MaybeUsing p = words_of_using p
+words_of_part limit depth MaybeClass p = words_of_class p
+words_of_part limit depth MoreKeys p = words_of_keys p.0 ++ t_mark Close p.1 ∷ []
+words_of_part limit depth MaybeInclude p = words_of_include p
+words_of_part limit depth MoreNames p = words_of_names p.0 ++ t_mark Close p.1 ∷ []
 
 -- what a stack stands for
 abbrev pub Parts : ℕ → List Item → Type 0
@@ -106,3 +132,8 @@ Parts limit (i ∷ s) = Part limit (depth_of s) i × Parts limit s
 abbrev pub words_of_parts : (limit : ℕ) (s : List Item) → Parts limit s → List Terminal
 words_of_parts limit [] _ = []
 words_of_parts limit (i ∷ s) p = words_of_part limit (depth_of s) i p.0 ++ words_of_parts limit s p.1
+
+-- parts for what stands for an item after a terminal give parts for the item that begin with the terminal
+abbrev pub IsRule : (limit : ℕ) → List Item → Item → Terminal → Option (List Item) → Type 0
+IsRule limit s i t None = Unit {0}
+IsRule limit s i t (Some is) = (f : Parts limit (is ++ s)) → (g : Parts limit (i ∷ s)) × (words_of_parts limit (i ∷ s) g ≡ t ∷ words_of_parts limit (is ++ s) f)

@@ -1,9 +1,17 @@
 pub mod Codes
 pub mod Forest
+pub mod OrderRules
+pub mod IndexRules
 pub mod Rules
 pub mod Sound
+pub mod RoomTests
+pub mod OrderRoom
+pub mod IndexRoom
 pub mod Room
 pub mod Complete
+pub mod OrderComplete
+pub mod IndexComplete
+pub mod StatementComplete
 pub mod Reach
 pub mod Endings
 pub mod Walked
@@ -13,4 +21,7 @@ pub mod StatementWords
 pub mod ListLemmas
 pub mod StatisticsLemmas
 pub mod Trees
+pub mod OrderTrees
+pub mod IndexTrees
+pub mod StatementTrees
 pub mod ExprTrees

@@ -1,8 +1,8 @@
 -- The stack has room for what a step brings.
-use Rattle.std.proofs.Common.{◌≡◌, ℕ, ◌+◌, ◌*◌, ◌≤◌, ◌<◌, Bool, true, false, ◌&&◌, not, List, [], ◌∷◌, ◌++◌, length, Some, None, refl, sym, ap, ◌∙◌, subst, arith, length-append, cond, nat_le, nat_eq}
+use Rattle.std.proofs.Common.{◌≡◌, ℕ, ◌+◌, ◌*◌, ◌≤◌, ◌<◌, Bool, true, false, List, [], ◌∷◌, ◌++◌, length, Some, None, refl, sym, ap, ◌∙◌, subst, arith, length-append, cond, nat_eq}
 use Rattle.std.proofs.lemmas.Bool.{leb-true, le-leb, lt-leb, and_parts}
 use Rattle.pg_base.specs.declared.limits.TheConstants.{MOST_LEVELS}
-use Rattle.sql_grammar.specs.declared.class.Free.TheVariants.{Common, Copy, Histogram, Rows, Statistics}
+use Rattle.sql_grammar.specs.declared.class.Free.TheVariants.{Common, Copy, Explain, Histogram, Rows, Statistics}
 use Rattle.sql_grammar.specs.declared.class.Free.{Free}
 use Rattle.sql_grammar.specs.declared.class.Word.{Word}
 use Rattle.sql_grammar.specs.declared.class.Word.TheVariants.{And, As, Create, Is, Not, Or, Select, Where}
@@ -11,24 +11,14 @@ use Rattle.sql_grammar.specs.declared.class.Symbol.TheVariants.{Open, Close, Com
 use Rattle.sql_grammar.specs.declared.class.Class.{Class}
 use Rattle.sql_grammar.specs.declared.class.Class.TheVariants.{Key, Mark, Name, Number, Quoted, Operator, Semicolon, End}
 use Rattle.sql_grammar.specs.declared.table.Item.{Item}
-use Rattle.sql_grammar.specs.declared.table.Item.TheVariants.{Keyword, Sign, FreeWord, Label, Digits, QuotedText, Whole, Ends, Stop, Query, Nullness, MoreColumns, Result, MoreResults, AfterResult, StarOrLabel, MaybeAlias, MaybeWhere, Figures, MaybeCommon, MoreShares, MaybeHistogram, MoreBounds, Literal, Negation, MoreAnds, MoreOrs, Closes, NotEnds, AfterName, AfterColumn, AfterIs, AfterLiteral, AfterTruth, Side, AfterQualifier}
-use Rattle.sql_grammar.specs.Table.{word_code, sign_code, free_code, Expansion, takes_of, is_optional, takes_end, is_ending, room_of, statement_takes, ends_takes, stop_takes, query_takes, nullness_takes, columns_takes, output_takes, outputs_takes, after_output_takes, star_takes, alias_takes, where_takes, figures_takes, common_takes, shares_takes, histogram_takes, bounds_takes, lit_takes, negation_takes, ands_takes, ors_takes, literal_takes, column_takes, name_takes, side_takes, qualifier_takes, keyword_takes, sign_takes, free_takes, label_takes, digits_takes, quoted_takes}
-use Rattle.sql_grammar.specs.Machine.{depth_of, opens, pushed, by_row, step_of, Fits, is_empty, is_closed}
+use Rattle.sql_grammar.specs.declared.table.Item.TheVariants.{Keyword, Sign, FreeWord, Label, Digits, QuotedText, Whole, Ends, Stop, Query, Nullness, MoreColumns, Result, MoreResults, AfterResult, StarOrLabel, MaybeAlias, MaybeWhere, Figures, MaybeCommon, MoreShares, MaybeHistogram, MoreBounds, Literal, Negation, MoreAnds, MoreOrs, Closes, NotEnds, AfterName, AfterColumn, AfterIs, AfterLiteral, AfterTruth, Side, AfterQualifier, MaybeOrder, MoreOrderings, MaybeDirection, MaybeNulls, FirstOrLast, AfterCreate, MaybeUsing, MaybeClass, MoreKeys, MaybeInclude, MoreNames}
+use Rattle.sql_grammar.specs.Table.{word_code, sign_code, free_code, takes_of, is_optional, room_of, statement_takes, ends_takes, stop_takes, query_takes, nullness_takes, columns_takes, output_takes, outputs_takes, after_output_takes, star_takes, alias_takes, where_takes, figures_takes, common_takes, shares_takes, histogram_takes, bounds_takes, lit_takes, negation_takes, ands_takes, ors_takes, literal_takes, column_takes, name_takes, side_takes, qualifier_takes, keyword_takes, sign_takes, free_takes, label_takes, digits_takes, quoted_takes}
+use Rattle.sql_grammar.specs.Machine.{depth_of, opens, pushed, by_row, step_of, Fits}
 use Rattle.sql_grammar.specs.Steps.{Taken}
+use Rattle.sql_grammar.proofs.RoomTests.{room_test, row_test}
+use Rattle.sql_grammar.proofs.OrderRoom.{order-room, orderings-room, direction-room, nulls-room, nulls-end-room}
+use Rattle.sql_grammar.proofs.IndexRoom.{create-room, using-room, class-room, keys-room, include-room, names-room}
 use Rattle.sql_grammar.proofs.Sound.{flat-depth}
-
-abbrev room_test : ℕ → List Item → Bool
-room_test room [] = true
-room_test room (i ∷ s) = nat_le (room_of i + length s) (room + 3 * depth_of s) && room_test room s
-
--- only an item that takes a statement's end takes one, and then nothing is left; any other token leaves such an item last
-abbrev pub ending_test : Item → Class → List Item → Bool
-ending_test i t is = cond (takes_end i) (cond (is_ending t) (is_empty is) (is_closed false true is)) (not (is_ending t) && is_closed true false is)
-
--- a row keeps within the item's room, opens one level at most, and keeps the statement's end last
-abbrev pub row_test : Item → Class → Expansion → Bool
-row_test i t None = true
-row_test i t (Some is) = (nat_le (depth_of is) 1 && room_test (room_of i) is) && ending_test i t is
 
 keyword-room : (w : Word) (t : Class) → row_test (Keyword w) t (keyword_takes w t) ≡ true
 keyword-room w (Key v) = elim (nat_eq (word_code v) (word_code w)) as (λ b. row_test (Keyword w) (Key v) (cond b (Some []) None) ≡ true) [ true ↦ refl | false ↦ refl ]
@@ -50,6 +40,7 @@ statement-room : (t : Class) → row_test Whole t (statement_takes t) ≡ true
 statement-room (Key Create) = refl
 statement-room (Key Select) = refl
 statement-room (Name (Some Copy)) = refl
+statement-room (Name (Some Explain)) = refl
 statement-room (Name (Some Statistics)) = refl
 statement-room Semicolon = refl
 statement-room End = refl
@@ -218,6 +209,17 @@ row-room MoreShares t = shares-room t
 row-room MaybeHistogram t = histogram-room t
 row-room MoreBounds t = bounds-room t
 row-room Literal t = lit-room t
+row-room MaybeOrder t = order-room t
+row-room MoreOrderings t = orderings-room t
+row-room MaybeDirection t = direction-room t
+row-room MaybeNulls t = nulls-room t
+row-room FirstOrLast t = nulls-end-room t
+row-room AfterCreate t = create-room t
+row-room MaybeUsing t = using-room t
+row-room MaybeClass t = class-room t
+row-room MoreKeys t = keys-room t
+row-room MaybeInclude t = include-room t
+row-room MoreNames t = names-room t
 
 room-some : (i : Item) → 1 ≤ room_of i
 room-some Whole = omega arith

@@ -2,25 +2,32 @@
 use Rattle.std.proofs.Common.{◌≡◌, ℕ, ◌≤◌, Bool, true, false, List, [], ◌∷◌, ◌++◌, Some, None, refl, sym, ap, ◌∙◌, arith, append_assoc, append-nil, cond, nat_eq}
 use Rattle.sql_lex.specs.declared.tokens.Token.{Token}
 use Rattle.sql_lex.specs.declared.tokens.Kind.TheVariants.{End}
-use Rattle.sql_grammar.specs.Terminals.{Terminal, Said, t_key, t_mark, t_name, t_number, t_quoted, t_operator, t_semicolon, t_end, free, other, class_of}
-use Rattle.sql_grammar.specs.declared.class.Free.TheVariants.{Common, Copy, Distinct, Histogram, Nulls, Pages, Rows, Statistics}
+use Rattle.sql_grammar.specs.Terminals.{Terminal, Ident, Said, t_key, t_mark, t_name, t_number, t_quoted, t_operator, t_semicolon, t_end, free, other, class_of}
+use Rattle.sql_grammar.specs.declared.class.Free.TheVariants.{Common, Copy, Distinct, Explain, Histogram, Last, Nulls, Pages, Rows, Statistics}
 use Rattle.sql_grammar.specs.declared.class.Free.{Free as FreeT}
 use Rattle.sql_grammar.specs.declared.class.Word.{Word}
-use Rattle.sql_grammar.specs.declared.class.Word.TheVariants.{And, As, Create, False, Is, Not, Null, Or, Select, True, Where}
+use Rattle.sql_grammar.specs.declared.class.Word.TheVariants.{And, As, Create, False, Is, Not, Null, Or, Select, Table, True, Where}
 use Rattle.sql_grammar.specs.declared.class.Symbol.{Symbol}
 use Rattle.sql_grammar.specs.declared.class.Symbol.TheVariants.{Open, Close, Comma, Dot, Minus, Star}
 use Rattle.sql_grammar.specs.declared.table.Item.{Item}
-use Rattle.sql_grammar.specs.declared.table.Item.TheVariants.{Keyword, Sign, FreeWord, Label, Digits, QuotedText, Whole, Ends, Stop, Query, Nullness, MoreColumns, Result, MoreResults, AfterResult, StarOrLabel, MaybeAlias, MaybeWhere, Figures, MaybeCommon, MoreShares, MaybeHistogram, MoreBounds, Literal, Negation, MoreAnds, MoreOrs, Closes, NotEnds, AfterName, AfterColumn, AfterIs, AfterLiteral, AfterTruth, Side, AfterQualifier}
+use Rattle.sql_grammar.specs.declared.table.Item.TheVariants.{Keyword, Sign, FreeWord, Label, Digits, QuotedText, Whole, Ends, Stop, Query, Nullness, MoreColumns, Result, MoreResults, AfterResult, StarOrLabel, MaybeAlias, MaybeWhere, Figures, MaybeCommon, MoreShares, MaybeHistogram, MoreBounds, Literal, Negation, MoreAnds, MoreOrs, Closes, NotEnds, AfterName, AfterColumn, AfterIs, AfterLiteral, AfterTruth, Side, AfterQualifier, MaybeOrder, MoreOrderings, MaybeDirection, MaybeNulls, FirstOrLast, AfterCreate, MaybeUsing, MaybeClass, MoreKeys, MaybeInclude, MoreNames}
 use Rattle.sql_grammar.specs.Syntax.{bare, qualified, yes, no, unknown, number, negative, quoted, constant, column, literal, either_of, no_or, or_conj, both_of, no_and, and_neg, negated, plain, parens, compare, is_null, is_not_null, column_alone, constant_alone, unwritten, not_null, nullable, coldef, every, every_of, one, no_alias, bare_alias, as_alias, no_where, where_expr, select_from, share, no_common, common, no_histogram, histogram, semicolon, text_end, empty, create_table, query, copy, sizes, column_statistics}
 use Rattle.sql_grammar.specs.Words.{words_of_operand, words_of_ending, words_of_common, words_of_histogram}
+use Rattle.sql_grammar.specs.Syntax.{no_direction, no_nulls_end, nulls_last, no_order, no_explain, explain, ordered_select}
+use Rattle.sql_grammar.specs.Syntax.{no_class, no_using, no_include}
 use Rattle.sql_grammar.proofs.Codes.{same_word, same_sign, same_free}
 use Rattle.sql_grammar.specs.Table.{word_code, sign_code, free_code, Expansion, takes_of, is_optional, statement_takes, ends_takes, stop_takes, query_takes, nullness_takes, columns_takes, output_takes, outputs_takes, after_output_takes, star_takes, alias_takes, where_takes, figures_takes, common_takes, shares_takes, histogram_takes, bounds_takes, lit_takes, negation_takes, ands_takes, ors_takes, literal_takes, column_takes, name_takes, side_takes, qualifier_takes, keyword_takes, sign_takes, free_takes, label_takes, digits_takes, quoted_takes}
 use Rattle.sql_grammar.specs.Machine.{depth_of}
-use Rattle.sql_grammar.proofs.Forest.{Atom_after, Part, Parts, words_of_parts}
+use Rattle.sql_grammar.proofs.Forest.{Atom_after, Part, Parts, words_of_parts, IsRule}
+use Rattle.sql_grammar.proofs.OrderRules as orders
+use Rattle.sql_grammar.proofs.IndexRules as indexes
 
 -- where a word stands that is not there
 abbrev no_place : Token
 no_place = record { kind = End; start = 0; end = 0 }
+
+abbrev a_name : Ident
+a_name = other (97 ∷ []) no_place
 
 abbrev saying : List ℕ → Said
 saying value = record { value = value; token = no_place }
@@ -28,12 +35,12 @@ saying value = record { value = value; token = no_place }
 module _ (limit : ℕ) (s : List Item) (shallow : depth_of s ≤ limit) where
   -- parts for what stands for i after t give parts for i that begin with t
   abbrev pub Rule : Item → Terminal → Expansion → Type 0
-  Rule i t None = Unit {0}
-  Rule i t (Some is) = (f : Parts limit (is ++ s)) → (g : Parts limit (i ∷ s)) × (words_of_parts limit (i ∷ s) g ≡ t ∷ words_of_parts limit (is ++ s) f)
+  Rule i t e = IsRule limit s i t e
 
   statement_rule : (t : Terminal) → Rule Whole t (statement_takes (class_of t))
-  statement_rule (t_key Create k) = λ (t, (n, (o, (c, (y, (nulls, ((cs, m), (e, f)))))))). (((create_table k t n o (coldef c y nulls) cs m e, omega arith), f), simp append_assoc)
-  statement_rule (t_key Select k) = λ (o, (os, (from, (n, (a, ((w, low), (e, f))))))). (((query (select_from k o os from n a w) e, omega arith), f), simp append_assoc)
+  statement_rule (t_key Create k) = λ ((ts, after'), f). let (x, is, low) = after' k in (((x, low), f), ap (λ l. l ++ words_of_parts limit s f) is)
+  statement_rule (t_key Select k) = λ (o, (os, (from, (n, (a, ((w, low), (y, (e, f)))))))). (((query (ordered_select no_explain (select_from k o os from n a w) y e), omega arith), f), simp append_assoc)
+  statement_rule (t_name (free Explain k)) = λ ((q, low), (y, (e, f))). (((query (ordered_select (explain k) q y e), omega arith), f), simp append_assoc)
   statement_rule (t_name (free Copy k)) = λ (n, (from_at, (stdin, (with_at, (open_at, (format, (csv, (comma, (null, (text, (close_at, (stop, f)))))))))))).
       (((copy (record { copy = k; from_at = from_at; stdin = stdin; with_at = with_at; open_at = open_at; format = format; csv = csv; comma = comma; null = null; close_at = close_at; stop = stop }) n text, omega arith), f), refl)
   statement_rule (t_name (free Statistics k)) = λ (n, ((ts, after'), (e, f))).
@@ -283,6 +290,17 @@ module _ (limit : ℕ) (s : List Item) (shallow : depth_of s ≤ limit) where
   rule MaybeHistogram t = histogram_rule t
   rule MoreBounds t = bounds_rule t
   rule Literal t = lit_rule t
+  rule MaybeOrder t = orders.order_rule limit s t
+  rule MoreOrderings t = orders.orderings_rule limit s t
+  rule MaybeDirection t = orders.direction_rule limit s t
+  rule MaybeNulls t = orders.nulls_rule limit s t
+  rule FirstOrLast t = orders.nulls_end_rule limit s t
+  rule AfterCreate t = indexes.create_rule limit s shallow t
+  rule MaybeUsing t = indexes.using_rule limit s t
+  rule MaybeClass t = indexes.class_rule limit s t
+  rule MoreKeys t = indexes.keys_rule limit s t
+  rule MaybeInclude t = indexes.include_rule limit s t
+  rule MoreNames t = indexes.names_rule limit s t
 
   -- an optional item stands for nothing
   pub nothing : (i : Item) → is_optional i ≡ true → (f : Parts limit s) → (g : Parts limit (i ∷ s)) × (words_of_parts limit (i ∷ s) g ≡ words_of_parts limit s f)
@@ -300,6 +318,13 @@ module _ (limit : ℕ) (s : List Item) (shallow : depth_of s ≤ limit) where
   nothing MaybeWhere o f = (((no_where, omega arith), f), refl)
   nothing MaybeCommon o f = ((no_common, f), refl)
   nothing MaybeHistogram o f = ((no_histogram, f), refl)
+  nothing MaybeOrder o f = ((no_order, f), refl)
+  nothing MoreOrderings o f = (([], f), refl)
+  nothing MaybeDirection o f = ((no_direction, f), refl)
+  nothing MaybeNulls o f = ((no_nulls_end, f), refl)
+  nothing MaybeUsing o f = ((no_using, f), refl)
+  nothing MaybeClass o f = ((no_class, f), refl)
+  nothing MaybeInclude o f = ((no_include, f), refl)
   nothing _ o f = absurd (cc)
 
   -- every item stands for something
@@ -307,13 +332,13 @@ module _ (limit : ℕ) (s : List Item) (shallow : depth_of s ≤ limit) where
   something (Keyword w) = no_place
   something (Sign w) = no_place
   something (FreeWord w) = no_place
-  something Label = other (97 ∷ []) no_place
+  something Label = a_name
   something Digits = saying (48 ∷ [])
   something QuotedText = saying []
   something Whole = (empty (semicolon no_place), omega arith)
   something Ends = semicolon no_place
   something Stop = no_place
-  something Query = (select_from no_place (every no_place) [] no_place (other (97 ∷ []) no_place) no_alias no_where, omega arith)
+  something Query = (select_from no_place (every no_place) [] no_place a_name no_alias no_where, omega arith)
   something Nullness = unwritten
   something MoreColumns = ([], no_place)
   something Negation = (plain (constant_alone yes no_place), omega arith)
@@ -343,3 +368,17 @@ module _ (limit : ℕ) (s : List Item) (shallow : depth_of s ≤ limit) where
   something MaybeHistogram = no_histogram
   something MoreBounds = ([], no_place)
   something Literal = number (saying (48 ∷ []))
+  something MaybeOrder = no_order
+  something MoreOrderings = []
+  something MaybeDirection = no_direction
+  something MaybeNulls = no_nulls_end
+  something FirstOrLast = (t_name (free Last no_place) ∷ [], λ k. (nulls_last k no_place, refl))
+  something AfterCreate = (
+    t_key Table no_place ∷ t_name a_name ∷ t_mark Open no_place ∷ t_name a_name ∷ t_name a_name ∷ t_mark Close no_place ∷ t_semicolon no_place ∷ [],
+    λ k. (create_table k no_place a_name no_place (coldef a_name a_name unwritten) [] no_place (semicolon no_place), refl, omega arith),
+  )
+  something MaybeUsing = no_using
+  something MaybeClass = no_class
+  something MoreKeys = ([], no_place)
+  something MaybeInclude = no_include
+  something MoreNames = ([], no_place)

@@ -1,16 +1,14 @@
--- A list of words is spelled by one statement.
-use Rattle.std.proofs.Common.{◌≡◌, ℕ, Bool, true, false, List, [], ◌∷◌, ◌++◌, drop, refl, sym, ap, ◌∙◌, arith}
+-- A list of words is spelled by one part of a statement.
+use Rattle.std.proofs.Common.{◌≡◌, Bool, true, false, List, [], ◌∷◌, ◌++◌, drop, refl, sym, ap, ◌∙◌}
 use Rattle.std.proofs.lemmas.List.{append_assoc}
-use Rattle.sql_grammar.specs.declared.class.Word.TheVariants.{As, Create, From, Not, Null, Select}
-use Rattle.sql_grammar.specs.declared.class.Free.TheVariants.{Copy, Statistics}
+use Rattle.sql_grammar.specs.declared.class.Word.TheVariants.{And, As, From, Is, Not, Null, Or, Select, Where as WhereKey}
 use Rattle.sql_grammar.specs.declared.class.Symbol.TheVariants.{Close, Comma, Dot, Star}
-use Rattle.sql_grammar.specs.Terminals.{Terminal, Ident, free, t_key, t_mark, t_name}
-use Rattle.sql_grammar.specs.Syntax.{Key, Mark, CopyWords, SizesWords, ColumnWords, bare, qualified, Nulls, unwritten, not_null, nullable, ColDef, coldef, Output, every, every_of, one, Alias, no_alias, bare_alias, as_alias, Where, no_where, where_expr, Histogram, no_histogram, histogram, Select as SelectTree, select_from, Ending, semicolon, text_end, Statement, empty, create_table, query, copy, sizes, column_statistics}
+use Rattle.sql_grammar.specs.Terminals.{Terminal, Ident, t_key, t_mark, t_name, t_operator}
+use Rattle.sql_grammar.specs.Syntax.{Key, Mark, bare, qualified, Nulls, unwritten, not_null, nullable, ColDef, coldef, Output, every, every_of, one, Alias, no_alias, bare_alias, as_alias, Where, no_where, where_expr, Select as SelectTree, select_from, Ending, semicolon, text_end}
 use Rattle.sql_grammar.specs.Unique.{ends_operand, ends_expr}
-use Rattle.sql_grammar.specs.Words.{words_of_nulls, words_of_coldef, words_of_columns, words_of_output, words_of_outputs, words_of_alias, words_of_where, words_of_select, words_of_histogram, words_of_ending, words_of}
+use Rattle.sql_grammar.specs.Words.{words_of_nulls, words_of_coldef, words_of_columns, words_of_output, words_of_outputs, words_of_alias, words_of_where, words_of_select, words_of_ending}
 use Rattle.sql_grammar.proofs.ExprTrees.{one_expr, tested}
 use Rattle.sql_grammar.proofs.ListLemmas.{one_list}
-use Rattle.sql_grammar.proofs.StatisticsLemmas.{ends_common, ends_histogram, one_common, one_histogram}
 
 -- nothing that goes on a column's definition is next
 abbrev ends_nulls : List Terminal → Bool
@@ -84,7 +82,7 @@ one_outputs = one_list Output words_of_output words_of_outputs (t_key From) ends
     (λ m o os f x. ap (λ l. t_mark Comma m ∷ l) (append_assoc (words_of_output o) (words_of_outputs os) (t_key From f ∷ x)))
     (λ f g x y e. cc (e)) (λ f m x y e. absurd (cc (e))) fronted-ends one_output
 
-one_ending : (e f : Ending) → words_of_ending e ≡ words_of_ending f → e ≡ f
+pub one_ending : (e f : Ending) → words_of_ending e ≡ words_of_ending f → e ≡ f
 one_ending (semicolon s) (semicolon t) h = let at : s ≡ t = cc in ap semicolon at
 one_ending (semicolon s) (text_end t) h = absurd (cc)
 one_ending (text_end s) (semicolon t) h = absurd (cc)
@@ -96,25 +94,56 @@ aliasless (t_name n ∷ x) = false
 aliasless (t_key As _ ∷ x) = false
 aliasless _ = true
 
-aliasless-where : (w : Where) (e : Ending) → aliasless (words_of_where w ++ words_of_ending e) ≡ true
-aliasless-where no_where (semicolon t) = refl
-aliasless-where no_where (text_end t) = refl
-aliasless-where (where_expr k c) e = refl
+-- no WHERE is next
+abbrev whereless : List Terminal → Bool
+whereless (t_key WhereKey _ ∷ x) = false
+whereless _ = true
 
-ends-expr : (e : Ending) → ends_expr (words_of_ending e) ≡ true
-ends-expr (semicolon t) = refl
-ends-expr (text_end t) = refl
+-- nothing that goes on a SELECT is next: no name, AS, WHERE, dot, operator, IS, AND or OR
+abbrev pub ends_select : List Terminal → Bool
+ends_select (t_name _ ∷ _) = false
+ends_select (t_key As _ ∷ _) = false
+ends_select (t_key WhereKey _ ∷ _) = false
+ends_select (t_mark Dot _ ∷ _) = false
+ends_select (t_operator _ ∷ _) = false
+ends_select (t_key Is _ ∷ _) = false
+ends_select (t_key And _ ∷ _) = false
+ends_select (t_key Or _ ∷ _) = false
+ends_select _ = true
 
-one_where : (a b : Where) (e f : Ending) → words_of_where a ++ words_of_ending e ≡ words_of_where b ++ words_of_ending f → (a ≡ b) × (e ≡ f)
-one_where no_where no_where e f h = (refl, one_ending e f h)
-one_where no_where (where_expr j d) (semicolon t) f h = absurd (cc)
-one_where no_where (where_expr j d) (text_end t) f h = absurd (cc)
-one_where (where_expr i c) no_where e (semicolon t) h = absurd (cc)
-one_where (where_expr i c) no_where e (text_end t) h = absurd (cc)
-one_where (where_expr i c) (where_expr j d) e f h =
+select-alias : (x : List Terminal) → ends_select x ≡ true → aliasless x ≡ true
+select-alias (t_name _ ∷ _) h = absurd (cc)
+select-alias (t_key As _ ∷ _) h = absurd (cc)
+select-alias _ h = refl
+
+select-where : (x : List Terminal) → ends_select x ≡ true → whereless x ≡ true
+select-where (t_key WhereKey _ ∷ _) h = absurd (cc)
+select-where _ h = refl
+
+select-expr : (x : List Terminal) → ends_select x ≡ true → ends_expr x ≡ true
+select-expr (t_mark Dot _ ∷ _) h = absurd (cc)
+select-expr (t_operator _ ∷ _) h = absurd (cc)
+select-expr (t_key Is _ ∷ _) h = absurd (cc)
+select-expr (t_key And _ ∷ _) h = absurd (cc)
+select-expr (t_key Or _ ∷ _) h = absurd (cc)
+select-expr _ h = refl
+
+pub ending-select : (e : Ending) → ends_select (words_of_ending e) ≡ true
+ending-select (semicolon t) = refl
+ending-select (text_end t) = refl
+
+aliasless-where : (w : Where) (x : List Terminal) → ends_select x ≡ true → aliasless (words_of_where w ++ x) ≡ true
+aliasless-where no_where x h = select-alias x h
+aliasless-where (where_expr k c) x h = refl
+
+pub one_where : (a b : Where) (x y : List Terminal) → ends_select x ≡ true → ends_select y ≡ true → words_of_where a ++ x ≡ words_of_where b ++ y → (a ≡ b) × (x ≡ y)
+one_where no_where no_where x y h k e = (refl, e)
+one_where no_where (where_expr j d) x y h k e = absurd (tested whereless x (words_of_where (where_expr j d) ++ y) (select-where x h) refl e)
+one_where (where_expr i c) no_where x y h k e = absurd (tested whereless y (words_of_where (where_expr i c) ++ x) (select-where y k) refl (sym e))
+one_where (where_expr i c) (where_expr j d) x y h k e =
     let key : i ≡ j = cc in
-    let (condition, last) = one_expr c d (words_of_ending e) (words_of_ending f) (ends-expr e) (ends-expr f) (ap (drop 1) h) in
-    (cc (key, condition), one_ending e f last)
+    let (condition, rest) = one_expr c d x y (select-expr x h) (select-expr y k) (ap (drop 1) e) in
+    (cc (key, condition), rest)
 
 one_alias : (a b : Alias) (x y : List Terminal) → aliasless x ≡ true → aliasless y ≡ true → words_of_alias a ++ x ≡ words_of_alias b ++ y → (a ≡ b) × (x ≡ y)
 one_alias no_alias no_alias x y h k e = (refl, e)
@@ -128,109 +157,35 @@ one_alias (as_alias i n) (bare_alias m) x y h k e = absurd (cc)
 one_alias (as_alias i n) (as_alias j m) x y h k e = let key : i ≡ j = cc in let name : n ≡ m = cc in (cc (key, name), ap (drop 2) e)
 
 -- the table of a SELECT and what follows
-abbrev ranged : Ident → Alias → Where → Ending → List Terminal
-ranged n a w e = t_name n ∷ (words_of_alias a ++ (words_of_where w ++ words_of_ending e))
+abbrev ranged : Ident → Alias → Where → List Terminal → List Terminal
+ranged n a w x = t_name n ∷ (words_of_alias a ++ (words_of_where w ++ x))
 
-select_words : (k : Key) (o : Output) (os : List (Mark × Output)) (f : Key) (n : Ident) (a : Alias) (w : Where) (e : Ending) →
-    words_of_select (select_from k o os f n a w) ++ words_of_ending e ≡ t_key Select k ∷ (words_of_output o ++ fronted os f (ranged n a w e))
-select_words k o os f n a w e =
+select_words : (k : Key) (o : Output) (os : List (Mark × Output)) (f : Key) (n : Ident) (a : Alias) (w : Where) (x : List Terminal) →
+    words_of_select (select_from k o os f n a w) ++ x ≡ t_key Select k ∷ (words_of_output o ++ fronted os f (ranged n a w x))
+select_words k o os f n a w x =
     ap (λ l. t_key Select k ∷ l)
-    (append_assoc (words_of_output o) (words_of_outputs os ++ t_key From f ∷ t_name n ∷ (words_of_alias a ++ words_of_where w)) (words_of_ending e)
+    (append_assoc (words_of_output o) (words_of_outputs os ++ t_key From f ∷ t_name n ∷ (words_of_alias a ++ words_of_where w)) x
     ∙ ap (λ l. words_of_output o ++ l)
-    (append_assoc (words_of_outputs os) (t_key From f ∷ t_name n ∷ (words_of_alias a ++ words_of_where w)) (words_of_ending e)
-    ∙ ap (λ l. fronted os f (t_name n ∷ l)) (append_assoc (words_of_alias a) (words_of_where w) (words_of_ending e))))
+    (append_assoc (words_of_outputs os) (t_key From f ∷ t_name n ∷ (words_of_alias a ++ words_of_where w)) x
+    ∙ ap (λ l. fronted os f (t_name n ∷ l)) (append_assoc (words_of_alias a) (words_of_where w) x)))
 
-one_query : (p q : SelectTree) (e f : Ending) → words_of_select p ++ words_of_ending e ≡ words_of_select q ++ words_of_ending f → query p e ≡ query q f
-one_query (select_from k o os i n a v) (select_from l u us j m b w) e f h =
-    let whole = sym (select_words k o os i n a v e) ∙ (h ∙ select_words l u us j m b w f) in
+pub one_select : (p q : SelectTree) (x y : List Terminal) → ends_select x ≡ true → ends_select y ≡ true → words_of_select p ++ x ≡ words_of_select q ++ y → (p ≡ q) × (x ≡ y)
+one_select (select_from k o os i n a v) (select_from l u us j m b w) x y s t h =
+    let whole = sym (select_words k o os i n a v x) ∙ (h ∙ select_words l u us j m b w y) in
     let key : k ≡ l = cc (whole) in
-    let (first, more) = one_output o u (fronted os i (ranged n a v e)) (fronted us j (ranged m b w f)) (fronted-ends os i (ranged n a v e)) (fronted-ends us j (ranged m b w f)) (ap (drop 1) whole) in
-    let (others, from, table) = one_outputs os us i j (ranged n a v e) (ranged m b w f) more in
+    let (first, more) = one_output o u (fronted os i (ranged n a v x)) (fronted us j (ranged m b w y)) (fronted-ends os i (ranged n a v x)) (fronted-ends us j (ranged m b w y)) (ap (drop 1) whole) in
+    let (others, from, table) = one_outputs os us i j (ranged n a v x) (ranged m b w y) more in
     let name : n ≡ m = cc (table) in
-    let (alias, after) = one_alias a b (words_of_where v ++ words_of_ending e) (words_of_where w ++ words_of_ending f) (aliasless-where v e) (aliasless-where w f) (ap (drop 1) table) in
-    let (condition, end) = one_where v w e f after in
-    cc (key, first, others, from, name, alias, condition, end)
+    let (alias, after) = one_alias a b (words_of_where v ++ x) (words_of_where w ++ y) (aliasless-where v x s) (aliasless-where w y t) (ap (drop 1) table) in
+    let (condition, rest) = one_where v w x y s t after in
+    (cc (key, first, others, from, name, alias, condition), rest)
 
 -- a new table's columns and end
 abbrev columns_words : ColDef → List (Mark × ColDef) → Mark → Ending → List Terminal
 columns_words c cs m e = words_of_coldef c ++ closed cs m (words_of_ending e)
 
-one_table : (c d : ColDef) (cs ds : List (Mark × ColDef)) (m n : Mark) (e f : Ending) → columns_words c cs m e ≡ columns_words d ds n f → (c ≡ d) × (cs ≡ ds) × (m ≡ n) × (e ≡ f)
+pub one_table : (c d : ColDef) (cs ds : List (Mark × ColDef)) (m n : Mark) (e f : Ending) → columns_words c cs m e ≡ columns_words d ds n f → (c ≡ d) × (cs ≡ ds) × (m ≡ n) × (e ≡ f)
 one_table c d cs ds m n e f h =
     let (first, more) = one_coldef c d (closed cs m (words_of_ending e)) (closed ds n (words_of_ending f)) (ends-closed cs m (words_of_ending e)) (ends-closed ds n (words_of_ending f)) h in
     let (others, mark, last) = one_columns cs ds m n (words_of_ending e) (words_of_ending f) more in
     (first, others, mark, one_ending e f last)
-
--- the kind of a statement, by its first words
-abbrev kind_of : List Terminal → ℕ
-kind_of (t_key Create _ ∷ x) = 1
-kind_of (t_key Select _ ∷ x) = 2
-kind_of (t_name (free Copy _) ∷ x) = 3
-kind_of (t_name (free Statistics _) ∷ _ ∷ t_mark _ _ ∷ x) = 5
-kind_of (t_name (free Statistics _) ∷ x) = 4
-kind_of _ = 0
-
-abbrev kind : Statement → ℕ
-kind (empty e) = 0
-kind (create_table k t n o c cs m e) = 1
-kind (query q e) = 2
-kind (copy k n null) = 3
-kind (sizes k n r p e) = 4
-kind (column_statistics k n c d z v h e) = 5
-
-kind-is : (x : Statement) → kind_of (words_of x) ≡ kind x
-kind-is (empty (semicolon t)) = refl
-kind-is (empty (text_end t)) = refl
-kind-is (create_table k t n o c cs m e) = refl
-kind-is (query (select_from k o os f n a w) e) = refl
-kind-is (copy k n null) = refl
-kind-is (sizes k n r p e) = refl
-kind-is (column_statistics k n c d z v h e) = refl
-
-same_kind : (x y : Statement) → words_of x ≡ words_of y → kind x ≡ kind y
-same_kind x y e = sym (kind-is x) ∙ (ap kind_of e ∙ kind-is y)
-
-abbrev rebuilt : CopyWords → CopyWords
-rebuilt k = record { copy = k.copy; from_at = k.from_at; stdin = k.stdin; with_at = k.with_at; open_at = k.open_at; format = k.format; csv = k.csv; comma = k.comma; null = k.null; close_at = k.close_at; stop = k.stop }
-
-abbrev rebuilt_sizes : SizesWords → SizesWords
-rebuilt_sizes k = record { statistics = k.statistics; rows = k.rows; pages = k.pages }
-
-abbrev rebuilt_column : ColumnWords → ColumnWords
-rebuilt_column k = record { statistics = k.statistics; dot = k.dot; distinct = k.distinct; nulls = k.nulls }
-
-histogram-ends : (e : Ending) → ends_histogram (words_of_ending e) ≡ true
-histogram-ends (semicolon t) = refl
-histogram-ends (text_end t) = refl
-
-common-ends : (g : Histogram) (e : Ending) → ends_common (words_of_histogram g ++ words_of_ending e) ≡ true
-common-ends no_histogram (semicolon t) = refl
-common-ends no_histogram (text_end t) = refl
-common-ends (histogram k o l ls m) e = refl
-
-one_of : (x y : Statement) → kind x ≡ kind y → words_of x ≡ words_of y → x ≡ y
-one_of (empty e) (empty f) k h = ap empty (one_ending e f h)
-one_of (create_table a t n o c cs m e) (create_table b u i p d ds j f) k h =
-    let first : a ≡ b = cc in
-    let second : t ≡ u = cc in
-    let name : n ≡ i = cc in
-    let open_at : o ≡ p = cc in
-    let (head, others, mark, end) = one_table c d cs ds m j e f (ap (drop 4) h) in
-    cc (first, second, name, open_at, head, others, mark, end)
-one_of (query p e) (query q f) k h = one_query p q e f h
-one_of (copy i n a) (copy j m b) k h = let same : copy (rebuilt i) n a ≡ copy (rebuilt j) m b = cc in same
-one_of (sizes i n r p e) (sizes j m s q f) k h =
-    let end = one_ending e f (ap (drop 6) h) in
-    let same : sizes (rebuilt_sizes i) n r p e ≡ sizes (rebuilt_sizes j) m s q f = cc (h, end) in
-    same
-one_of (column_statistics i n a c x v g e) (column_statistics j m b d y w q f) k h =
-    let (values, more) = one_common v w (words_of_histogram g ++ words_of_ending e) (words_of_histogram q ++ words_of_ending f) (common-ends g e) (common-ends q f) (ap (drop 8) h) in
-    let (bounds, last) = one_histogram g q (words_of_ending e) (words_of_ending f) (histogram-ends e) (histogram-ends f) more in
-    let end = one_ending e f last in
-    let same : column_statistics (rebuilt_column i) n a c x v g e ≡ column_statistics (rebuilt_column j) m b d y w q f = cc (h, values, bounds, end) in
-    same
-one_of _ _ k h = absurd (omega (arith, k))
-
--- a list of words, each with its token, is spelled by one statement
-pub one_tree : (x y : Statement) → words_of x ≡ words_of y → x ≡ y
-one_tree x y e = one_of x y (same_kind x y e) e

@@ -9,7 +9,7 @@ use Rattle.sql_lex.specs.declared.tokens.Kind.TheVariants.{Word as WordKind, Num
 use Rattle.sql_grammar.specs.declared.class.Word.{Word}
 use Rattle.sql_grammar.specs.declared.class.Word.TheVariants.{And, As, Asc, Create, Cross, Desc, False, From, Group, Inner, Is, Join, Limit, Not, Null, Offset, On, Or, Order, Select, Table, True, Using, Where, With}
 use Rattle.sql_grammar.specs.declared.class.Free.{Free}
-use Rattle.sql_grammar.specs.declared.class.Free.TheVariants.{Common, Copy, Csv, Distinct, Format, Histogram, Nulls, Pages, Rows, Statistics, Stdin}
+use Rattle.sql_grammar.specs.declared.class.Free.TheVariants.{By, Common, Copy, Csv, Distinct, Explain, First, Format, Histogram, Include, Index, Last, Nulls, Pages, Rows, Statistics, Stdin}
 use Rattle.sql_grammar.specs.declared.class.Symbol.TheVariants.{Open, Close, Comma, Dot, Minus, Star}
 use Rattle.sql_grammar.specs.Terminals.{Ident, free, other, Terminal, t_key, t_mark, t_name, t_number, t_quoted, t_operator, t_semicolon, t_end, class_of}
 use Rattle.sql_grammar.specs.Table.{is_ending}
@@ -44,12 +44,18 @@ spelling_of With = 119 ∷ 105 ∷ 116 ∷ 104 ∷ []
 
 -- the words with a place of their own that may be names, in small letters
 abbrev pub free_spelling_of : Free → List ℕ
+free_spelling_of By = 98 ∷ 121 ∷ []
 free_spelling_of Common = 99 ∷ 111 ∷ 109 ∷ 109 ∷ 111 ∷ 110 ∷ []
 free_spelling_of Copy = 99 ∷ 111 ∷ 112 ∷ 121 ∷ []
 free_spelling_of Csv = 99 ∷ 115 ∷ 118 ∷ []
 free_spelling_of Distinct = 100 ∷ 105 ∷ 115 ∷ 116 ∷ 105 ∷ 110 ∷ 99 ∷ 116 ∷ []
+free_spelling_of Explain = 101 ∷ 120 ∷ 112 ∷ 108 ∷ 97 ∷ 105 ∷ 110 ∷ []
+free_spelling_of First = 102 ∷ 105 ∷ 114 ∷ 115 ∷ 116 ∷ []
 free_spelling_of Format = 102 ∷ 111 ∷ 114 ∷ 109 ∷ 97 ∷ 116 ∷ []
 free_spelling_of Histogram = 104 ∷ 105 ∷ 115 ∷ 116 ∷ 111 ∷ 103 ∷ 114 ∷ 97 ∷ 109 ∷ []
+free_spelling_of Include = 105 ∷ 110 ∷ 99 ∷ 108 ∷ 117 ∷ 100 ∷ 101 ∷ []
+free_spelling_of Index = 105 ∷ 110 ∷ 100 ∷ 101 ∷ 120 ∷ []
+free_spelling_of Last = 108 ∷ 97 ∷ 115 ∷ 116 ∷ []
 free_spelling_of Nulls = 110 ∷ 117 ∷ 108 ∷ 108 ∷ 115 ∷ []
 free_spelling_of Pages = 112 ∷ 97 ∷ 103 ∷ 101 ∷ 115 ∷ []
 free_spelling_of Rows = 114 ∷ 111 ∷ 119 ∷ 115 ∷ []
@@ -62,7 +68,7 @@ reserved_words = And ∷ As ∷ Asc ∷ Create ∷ Cross ∷ Desc ∷ False ∷ 
 
 -- all words with a place of their own that may be names
 abbrev pub free_words : List Free
-free_words = Common ∷ Copy ∷ Csv ∷ Distinct ∷ Format ∷ Histogram ∷ Nulls ∷ Pages ∷ Rows ∷ Statistics ∷ Stdin ∷ []
+free_words = By ∷ Common ∷ Copy ∷ Csv ∷ Distinct ∷ Explain ∷ First ∷ Format ∷ Histogram ∷ Include ∷ Index ∷ Last ∷ Nulls ∷ Pages ∷ Rows ∷ Statistics ∷ Stdin ∷ []
 
 -- the reserved word of this spelling
 abbrev pub reserved_of : List ℕ → Option Word

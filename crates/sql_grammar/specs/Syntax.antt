@@ -3,7 +3,8 @@
 -- (PostgreSQL manual, chapters SQL Syntax and SQL Commands, cut down to this program's statements).
 use Rattle.std.specs.Prelude.{List}
 use Rattle.sql_lex.specs.declared.tokens.Token.{Token}
-use Rattle.sql_grammar.specs.Terminals.{Ident, Said}
+use Rattle.sql_grammar.specs.declared.class.Free.TheVariants.{Nulls as NullsWord}
+use Rattle.sql_grammar.specs.Terminals.{Ident, Said, free}
 
 -- the token of a reserved word, and that of a symbol
 abbrev pub Key : Type 0
@@ -99,6 +100,69 @@ pub data Where : Type 0 where
 pub data Select : Type 0 where
   select_from : Key → Output → List (Mark × Output) → Key → Ident → Alias → Where → Select
 
+-- a statement's end: ";" or the text's end
+pub data Ending : Type 0 where
+  semicolon : Token → Ending
+  text_end : Token → Ending
+
+-- [ASC | DESC]
+pub data Direction : Type 0 where
+  no_direction : Direction
+  ascending : Key → Direction
+  descending : Key → Direction
+
+-- [NULLS FIRST | NULLS LAST]
+pub data NullsEnd : Type 0 where
+  no_nulls_end : NullsEnd
+  nulls_first : Token → Token → NullsEnd
+  nulls_last : Token → Token → NullsEnd
+
+-- ord = col [ASC | DESC] [NULLS FIRST | NULLS LAST]
+pub data Ordering : Type 0 where
+  ordering : Col → Direction → NullsEnd → Ordering
+
+-- [ORDER BY ord { "," ord }]
+pub data OrderBy : Type 0 where
+  no_order : OrderBy
+  order_by : Key → Token → Ordering → List (Mark × Ordering) → OrderBy
+
+-- [EXPLAIN]
+pub data Explaining : Type 0 where
+  no_explain : Explaining
+  explain : Token → Explaining
+
+-- ordered = [EXPLAIN] select [ORDER BY ord { "," ord }] end
+pub data OrderedSelect : Type 0 where
+  ordered_select : Explaining → Select → OrderBy → Ending → OrderedSelect
+
+-- the name is not `nulls`: behind a key's column that word begins NULLS FIRST or NULLS LAST
+abbrev pub IsClassName : Ident → Type 0
+IsClassName (free NullsWord _) = ⊥
+IsClassName _ = Unit {0}
+
+-- [name], an operator class
+pub data OpClass : Type 0 where
+  no_class : OpClass
+  op_class : (n : Ident) → IsClassName n → OpClass
+
+-- key = name [name] [ASC | DESC] [NULLS FIRST | NULLS LAST]
+pub data IndexKey : Type 0 where
+  index_key : Ident → OpClass → Direction → NullsEnd → IndexKey
+
+-- [USING name]
+pub data Using : Type 0 where
+  no_using : Using
+  using_method : Key → Ident → Using
+
+-- [INCLUDE "(" name { "," name } ")"]
+pub data Include : Type 0 where
+  no_include : Include
+  include_columns : Token → Mark → Ident → List (Mark × Ident) → Mark → Include
+
+-- index = CREATE INDEX name ON name [USING name] "(" key { "," key } ")" [INCLUDE "(" name { "," name } ")"] [WHERE expr] end
+pub data CreateIndex : Type 0 where
+  index_on : Key → Token → Ident → Key → Ident → Using → Mark → IndexKey → List (Mark × IndexKey) → Mark → Include → Where → Ending → CreateIndex
+
 -- a common value and its share = lit number
 pub data Share : Type 0 where
   share : Lit → Said → Share
@@ -112,11 +176,6 @@ pub data Common : Type 0 where
 pub data Histogram : Type 0 where
   no_histogram : Histogram
   histogram : Token → Mark → Lit → List (Mark × Lit) → Mark → Histogram
-
--- a statement's end: ";" or the text's end
-pub data Ending : Type 0 where
-  semicolon : Token → Ending
-  text_end : Token → Ending
 
 -- the words of COPY beside its table's name and its text for NULL
 pub record CopyWords : Type 0 where
@@ -145,7 +204,7 @@ pub record ColumnWords : Type 0 where
   pub distinct : Token
   pub nulls : Token
 
--- statement = [CREATE TABLE name "(" coldef { "," coldef } ")" | select] end
+-- statement = [CREATE TABLE name "(" coldef { "," coldef } ")"] end | index | ordered
 --           | COPY name FROM STDIN WITH "(" FORMAT CSV "," NULL quoted ")" ";"
 --           | STATISTICS name ROWS number PAGES number end
 --           | STATISTICS name "." name DISTINCT number NULLS number [COMMON "(" lit number { "," lit number } ")"]
@@ -153,7 +212,8 @@ pub record ColumnWords : Type 0 where
 pub data Statement : Type 0 where
   empty : Ending → Statement
   create_table : Key → Key → Ident → Mark → ColDef → List (Mark × ColDef) → Mark → Ending → Statement
-  query : Select → Ending → Statement
+  create_index : CreateIndex → Statement
+  query : OrderedSelect → Statement
   copy : CopyWords → Ident → Said → Statement
   sizes : SizesWords → Ident → Said → Said → Ending → Statement
   column_statistics : ColumnWords → Ident → Ident → Said → Said → Common → Histogram → Ending → Statement

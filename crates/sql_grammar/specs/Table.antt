@@ -1,6 +1,6 @@
 -- The table of the walk: the items that stand in an item's place after a token (own).
 use Rattle.std.specs.Prelude.{ℕ, Bool, true, false, List, [], ◌∷◌, Option, Some, None, cond, nat_eq}
-use Rattle.sql_grammar.specs.declared.class.Free.TheVariants.{Common, Copy, Csv, Distinct, Format, Histogram, Nulls, Pages, Rows, Statistics, Stdin}
+use Rattle.sql_grammar.specs.declared.class.Free.TheVariants.{By, Common, Copy, Csv, Distinct, Explain, First, Format, Histogram, Include, Index, Last, Nulls, Pages, Rows, Statistics, Stdin}
 use Rattle.sql_grammar.specs.declared.class.Free.{Free}
 use Rattle.sql_grammar.specs.declared.class.Word.{Word}
 use Rattle.sql_grammar.specs.declared.class.Word.TheVariants.{And, As, Asc, Create, Cross, Desc, False, From, Group, Inner, Is, Join, Limit, Not, Null, Offset, On, Or, Order, Select, Table, True, Using, Where, With}
@@ -9,7 +9,9 @@ use Rattle.sql_grammar.specs.declared.class.Symbol.TheVariants.{Open, Close, Com
 use Rattle.sql_grammar.specs.declared.class.Class.{Class}
 use Rattle.sql_grammar.specs.declared.class.Class.TheVariants.{Key, Mark, Name, Number, Quoted, Operator, Semicolon, End}
 use Rattle.sql_grammar.specs.declared.table.Item.{Item}
-use Rattle.sql_grammar.specs.declared.table.Item.TheVariants.{Keyword, Sign, FreeWord, Label, Digits, QuotedText, Whole, Ends, Stop, Query, Nullness, MoreColumns, Result, MoreResults, AfterResult, StarOrLabel, MaybeAlias, MaybeWhere, Figures, MaybeCommon, MoreShares, MaybeHistogram, MoreBounds, Literal, Negation, MoreAnds, MoreOrs, Closes, NotEnds, AfterName, AfterColumn, AfterIs, AfterLiteral, AfterTruth, Side, AfterQualifier}
+use Rattle.sql_grammar.specs.declared.table.Item.TheVariants.{Keyword, Sign, FreeWord, Label, Digits, QuotedText, Whole, Ends, Stop, Query, Nullness, MoreColumns, Result, MoreResults, AfterResult, StarOrLabel, MaybeAlias, MaybeWhere, Figures, MaybeCommon, MoreShares, MaybeHistogram, MoreBounds, Literal, Negation, MoreAnds, MoreOrs, Closes, NotEnds, AfterName, AfterColumn, AfterIs, AfterLiteral, AfterTruth, Side, AfterQualifier, MaybeOrder, MoreOrderings, MaybeDirection, MaybeNulls, FirstOrLast, AfterCreate, MaybeUsing, MaybeClass, MoreKeys, MaybeInclude, MoreNames}
+use Rattle.sql_grammar.specs.OrderTable.{order_takes, orderings_takes, direction_takes, nulls_takes, nulls_end_takes}
+use Rattle.sql_grammar.specs.IndexTable.{create_takes, using_takes, class_takes, keys_takes, include_takes, names_takes}
 
 -- the items in an item's place; None where the token is not awaited
 abbrev pub Expansion : Type 0
@@ -54,22 +56,29 @@ sign_code Star = 5
 
 -- the number of a word with a place of its own
 abbrev pub free_code : Free → ℕ
-free_code Common = 0
-free_code Copy = 1
-free_code Csv = 2
-free_code Distinct = 3
-free_code Format = 4
-free_code Histogram = 5
-free_code Nulls = 6
-free_code Pages = 7
-free_code Rows = 8
-free_code Statistics = 9
-free_code Stdin = 10
+free_code By = 0
+free_code Common = 1
+free_code Copy = 2
+free_code Csv = 3
+free_code Distinct = 4
+free_code Explain = 5
+free_code First = 6
+free_code Format = 7
+free_code Histogram = 8
+free_code Include = 9
+free_code Index = 10
+free_code Last = 11
+free_code Nulls = 12
+free_code Pages = 13
+free_code Rows = 14
+free_code Statistics = 15
+free_code Stdin = 16
 
--- a statement and its end: `CREATE TABLE`, `SELECT`, `COPY`, `STATISTICS`, or nothing before the end
+-- a statement and its end: `CREATE`, `SELECT`, `EXPLAIN`, `COPY`, `STATISTICS`, or nothing before the end
 abbrev pub statement_takes : Class → Expansion
-statement_takes (Key Create) = Some (Keyword Table ∷ Label ∷ Sign Open ∷ Label ∷ Label ∷ Nullness ∷ MoreColumns ∷ Ends ∷ [])
-statement_takes (Key Select) = Some (Result ∷ MoreResults ∷ Keyword From ∷ Label ∷ MaybeAlias ∷ MaybeWhere ∷ Ends ∷ [])
+statement_takes (Key Create) = Some (AfterCreate ∷ [])
+statement_takes (Key Select) = Some (Result ∷ MoreResults ∷ Keyword From ∷ Label ∷ MaybeAlias ∷ MaybeWhere ∷ MaybeOrder ∷ Ends ∷ [])
+statement_takes (Name (Some Explain)) = Some (Query ∷ MaybeOrder ∷ Ends ∷ [])
 statement_takes (Name (Some Copy)) = Some (Label ∷ Keyword From ∷ FreeWord Stdin ∷ Keyword With ∷ Sign Open ∷ FreeWord Format ∷ FreeWord Csv ∷ Sign Comma ∷ Keyword Null ∷ QuotedText ∷ Sign Close ∷ Stop ∷ [])
 statement_takes (Name (Some Statistics)) = Some (Label ∷ Figures ∷ Ends ∷ [])
 statement_takes Semicolon = Some []
@@ -300,6 +309,17 @@ takes_of AfterLiteral t = literal_takes t
 takes_of AfterTruth t = literal_takes t
 takes_of Side t = side_takes t
 takes_of AfterQualifier t = qualifier_takes t
+takes_of MaybeOrder t = order_takes t
+takes_of MoreOrderings t = orderings_takes t
+takes_of MaybeDirection t = direction_takes t
+takes_of MaybeNulls t = nulls_takes t
+takes_of FirstOrLast t = nulls_end_takes t
+takes_of AfterCreate t = create_takes t
+takes_of MaybeUsing t = using_takes t
+takes_of MaybeClass t = class_takes t
+takes_of MoreKeys t = keys_takes t
+takes_of MaybeInclude t = include_takes t
+takes_of MoreNames t = names_takes t
 
 -- no token need come for it
 abbrev pub is_optional : Item → Bool
@@ -317,6 +337,13 @@ is_optional AfterName = true
 is_optional AfterColumn = true
 is_optional AfterTruth = true
 is_optional AfterQualifier = true
+is_optional MaybeOrder = true
+is_optional MoreOrderings = true
+is_optional MaybeDirection = true
+is_optional MaybeNulls = true
+is_optional MaybeUsing = true
+is_optional MaybeClass = true
+is_optional MaybeInclude = true
 is_optional _ = false
 
 -- the levels of an expression that end with it
@@ -327,7 +354,7 @@ level_of _ = 0
 
 -- the most cells that it and what comes of it take within a level
 abbrev pub room_of : Item → ℕ
-room_of Whole = 12
+room_of Whole = 13
 room_of Query = 6
 room_of MoreColumns = 4
 room_of MoreResults = 2
@@ -341,6 +368,12 @@ room_of Negation = 2
 room_of MoreAnds = 3
 room_of MoreOrs = 4
 room_of AfterName = 2
+room_of MaybeOrder = 6
+room_of MoreOrderings = 5
+room_of AfterCreate = 13
+room_of MoreKeys = 5
+room_of MaybeInclude = 3
+room_of MoreNames = 2
 room_of _ = 1
 
 -- it takes the word that ends a statement
@@ -348,6 +381,7 @@ abbrev pub takes_end : Item → Bool
 takes_end Whole = true
 takes_end Ends = true
 takes_end Stop = true
+takes_end AfterCreate = true
 takes_end _ = false
 
 -- `;` or the text's end

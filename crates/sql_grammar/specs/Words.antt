@@ -2,12 +2,12 @@
 -- Commands), and how deep its expressions are nested (own).
 use Rattle.std.specs.Prelude.{ℕ, ◌+◌, max, List, [], ◌∷◌, ◌++◌}
 use Rattle.sql_lex.specs.declared.tokens.Token.{Token}
-use Rattle.sql_grammar.specs.Terminals.{Terminal, t_key, t_mark, t_name, t_number, t_quoted, t_operator, t_semicolon, t_end, free}
-use Rattle.sql_grammar.specs.declared.class.Free.TheVariants.{Common as CommonWord, Copy, Csv, Distinct, Format, Histogram as HistogramWord, Nulls as NullsWord, Pages, Rows, Statistics, Stdin}
+use Rattle.sql_grammar.specs.Terminals.{Terminal, Ident, t_key, t_mark, t_name, t_number, t_quoted, t_operator, t_semicolon, t_end, free}
+use Rattle.sql_grammar.specs.declared.class.Free.TheVariants.{By, Common as CommonWord, Copy, Csv, Distinct, Explain, First, Format, Histogram as HistogramWord, Include as IncludeWord, Index as IndexWord, Last, Nulls as NullsWord, Pages, Rows, Statistics, Stdin}
 use Rattle.sql_grammar.specs.declared.class.Word.{Word}
-use Rattle.sql_grammar.specs.declared.class.Word.TheVariants.{And, As, Create, False, From, Is, Not, Null, Or, Select, Table, True, Where as WhereKey, With}
+use Rattle.sql_grammar.specs.declared.class.Word.TheVariants.{And, As, Asc, Create, Desc, False, From, Is, Not, Null, On, Or, Order, Select, Table, True, Using as UsingKey, Where as WhereKey, With}
 use Rattle.sql_grammar.specs.declared.class.Symbol.TheVariants.{Open, Close, Comma, Dot, Minus, Star}
-use Rattle.sql_grammar.specs.Syntax.{Col, bare, qualified, Constant, yes, no, unknown, Lit, number, negative, quoted, constant, Operand, column, literal, Expr, either_of, Ors, no_or, or_conj, Conj, both_of, Ands, no_and, and_neg, Neg, negated, plain, Atom, parens, compare, is_null, is_not_null, column_alone, constant_alone, Nulls, unwritten, not_null, nullable, ColDef, coldef, Output, every, every_of, one, Alias, no_alias, bare_alias, as_alias, Select as SelectTree, select_from, Where, no_where, where_expr, Share, share, Common, no_common, common, Histogram, no_histogram, histogram, Ending, semicolon, text_end, Statement, empty, create_table, query, copy, sizes, column_statistics}
+use Rattle.sql_grammar.specs.Syntax.{Col, bare, qualified, Constant, yes, no, unknown, Lit, number, negative, quoted, constant, Operand, column, literal, Expr, either_of, Ors, no_or, or_conj, Conj, both_of, Ands, no_and, and_neg, Neg, negated, plain, Atom, parens, compare, is_null, is_not_null, column_alone, constant_alone, Nulls, unwritten, not_null, nullable, ColDef, coldef, Output, every, every_of, one, Alias, no_alias, bare_alias, as_alias, Select as SelectTree, select_from, Where, no_where, where_expr, Share, share, Common, no_common, common, Histogram, no_histogram, histogram, Ending, semicolon, text_end, Direction, no_direction, ascending, descending, NullsEnd, no_nulls_end, nulls_first, nulls_last, Ordering, ordering, OrderBy, no_order, order_by, Explaining, no_explain, explain, OrderedSelect, ordered_select, OpClass, no_class, op_class, IndexKey, index_key, Using, no_using, using_method, Include, no_include, include_columns, CreateIndex, index_on, Statement, empty, create_table, create_index, query, copy, sizes, column_statistics}
 
 -- a column, with its table's name and a dot before it where that is written
 abbrev pub words_of_col : Col → List Terminal
@@ -106,6 +106,81 @@ words_of_where (where_expr k e) = t_key WhereKey k ∷ words_of_expr e
 abbrev pub words_of_select : SelectTree → List Terminal
 words_of_select (select_from k o os f n a w) = t_key Select k ∷ (words_of_output o ++ (words_of_outputs os ++ t_key From f ∷ t_name n ∷ (words_of_alias a ++ words_of_where w)))
 
+-- the word that ends a statement
+abbrev pub words_of_ending : Ending → List Terminal
+words_of_ending (semicolon t) = t_semicolon t ∷ []
+words_of_ending (text_end t) = t_end t ∷ []
+
+-- ASC, DESC or nothing
+abbrev pub words_of_direction : Direction → List Terminal
+words_of_direction no_direction = []
+words_of_direction (ascending k) = t_key Asc k ∷ []
+words_of_direction (descending k) = t_key Desc k ∷ []
+
+-- NULLS FIRST, NULLS LAST or nothing
+abbrev pub words_of_nulls_end : NullsEnd → List Terminal
+words_of_nulls_end no_nulls_end = []
+words_of_nulls_end (nulls_first n f) = t_name (free NullsWord n) ∷ t_name (free First f) ∷ []
+words_of_nulls_end (nulls_last n l) = t_name (free NullsWord n) ∷ t_name (free Last l) ∷ []
+
+-- a column with its direction and the end at which its NULLs stand
+abbrev pub words_of_ordering : Ordering → List Terminal
+words_of_ordering (ordering c d n) = words_of_col c ++ (words_of_direction d ++ words_of_nulls_end n)
+
+-- further ones, each after a comma
+abbrev pub words_of_orderings : List (Token × Ordering) → List Terminal
+words_of_orderings [] = []
+words_of_orderings ((m, o) ∷ os) = t_mark Comma m ∷ (words_of_ordering o ++ words_of_orderings os)
+
+-- ORDER BY and what follows it, or nothing
+abbrev pub words_of_order : OrderBy → List Terminal
+words_of_order no_order = []
+words_of_order (order_by k b o os) = t_key Order k ∷ t_name (free By b) ∷ (words_of_ordering o ++ words_of_orderings os)
+
+-- EXPLAIN or nothing
+abbrev pub words_of_explaining : Explaining → List Terminal
+words_of_explaining no_explain = []
+words_of_explaining (explain k) = t_name (free Explain k) ∷ []
+
+-- a SELECT with its order and its end
+abbrev pub words_of_ordered : OrderedSelect → List Terminal
+words_of_ordered (ordered_select x q o e) = words_of_explaining x ++ (words_of_select q ++ (words_of_order o ++ words_of_ending e))
+
+-- an operator class, or nothing
+abbrev pub words_of_class : OpClass → List Terminal
+words_of_class no_class = []
+words_of_class (op_class n _) = t_name n ∷ []
+
+-- a key's column with its operator class, its direction and the end at which its NULLs stand
+abbrev pub words_of_key : IndexKey → List Terminal
+words_of_key (index_key n c d z) = t_name n ∷ (words_of_class c ++ (words_of_direction d ++ words_of_nulls_end z))
+
+-- further keys, each after a comma
+abbrev pub words_of_keys : List (Token × IndexKey) → List Terminal
+words_of_keys [] = []
+words_of_keys ((m, k) ∷ ks) = t_mark Comma m ∷ (words_of_key k ++ words_of_keys ks)
+
+-- USING and an access method, or nothing
+abbrev pub words_of_using : Using → List Terminal
+words_of_using no_using = []
+words_of_using (using_method k n) = t_key UsingKey k ∷ t_name n ∷ []
+
+-- further columns, each after a comma
+abbrev pub words_of_names : List (Token × Ident) → List Terminal
+words_of_names [] = []
+words_of_names ((m, n) ∷ ns) = t_mark Comma m ∷ t_name n ∷ words_of_names ns
+
+-- INCLUDE and its columns, or nothing
+abbrev pub words_of_include : Include → List Terminal
+words_of_include no_include = []
+words_of_include (include_columns k o n ns m) = t_name (free IncludeWord k) ∷ t_mark Open o ∷ t_name n ∷ (words_of_names ns ++ t_mark Close m ∷ [])
+
+-- CREATE INDEX with its end
+abbrev pub words_of_index : CreateIndex → List Terminal
+words_of_index (index_on k i n o t u p x xs m c w e) =
+    t_key Create k ∷ t_name (free IndexWord i) ∷ t_name n ∷ t_key On o ∷ t_name t ∷
+    (words_of_using u ++ t_mark Open p ∷ (words_of_key x ++ (words_of_keys xs ++ t_mark Close m ∷ (words_of_include c ++ (words_of_where w ++ words_of_ending e)))))
+
 -- a common value and its share
 abbrev pub words_of_share : Share → List Terminal
 words_of_share (share l n) = words_of_lit l ++ t_number n ∷ []
@@ -130,17 +205,13 @@ abbrev pub words_of_histogram : Histogram → List Terminal
 words_of_histogram no_histogram = []
 words_of_histogram (histogram k o l ls m) = t_name (free HistogramWord k) ∷ t_mark Open o ∷ (words_of_lit l ++ (words_of_bounds ls ++ t_mark Close m ∷ []))
 
--- the word that ends a statement
-abbrev pub words_of_ending : Ending → List Terminal
-words_of_ending (semicolon t) = t_semicolon t ∷ []
-words_of_ending (text_end t) = t_end t ∷ []
-
 -- a statement with its end
 abbrev pub words_of : Statement → List Terminal
 words_of (empty e) = words_of_ending e
 words_of (create_table k t n o c cs m e) =
     t_key Create k ∷ t_key Table t ∷ t_name n ∷ t_mark Open o ∷ (words_of_coldef c ++ (words_of_columns cs ++ t_mark Close m ∷ words_of_ending e))
-words_of (query q e) = words_of_select q ++ words_of_ending e
+words_of (create_index x) = words_of_index x
+words_of (query x) = words_of_ordered x
 words_of (copy k n text) =
     t_name (free Copy k.copy) ∷ t_name n ∷ t_key From k.from_at ∷ t_name (free Stdin k.stdin) ∷ t_key With k.with_at ∷ t_mark Open k.open_at ∷ t_name (free Format k.format) ∷ t_name (free Csv k.csv) ∷
     t_mark Comma k.comma ∷ t_key Null k.null ∷ t_quoted text ∷ t_mark Close k.close_at ∷ t_semicolon k.stop ∷ []
@@ -194,11 +265,19 @@ levels_of_where (where_expr _ e) = levels_of_expr e
 abbrev pub levels_of_select : SelectTree → ℕ
 levels_of_select (select_from _ _ _ _ _ _ w) = levels_of_where w
 
+-- those of a SELECT with its order, and of CREATE INDEX
+abbrev pub levels_of_ordered : OrderedSelect → ℕ
+levels_of_ordered (ordered_select _ q _ _) = levels_of_select q
+
+abbrev pub levels_of_index : CreateIndex → ℕ
+levels_of_index (index_on _ _ _ _ _ _ _ _ _ _ _ w _) = levels_of_where w
+
 -- those of a statement
 abbrev pub levels_of : Statement → ℕ
 levels_of (empty _) = 0
 levels_of (create_table _ _ _ _ _ _ _ _) = 0
-levels_of (query q _) = levels_of_select q
+levels_of (create_index x) = levels_of_index x
+levels_of (query x) = levels_of_ordered x
 levels_of (copy _ _ _) = 0
 levels_of (sizes _ _ _ _ _) = 0
 levels_of (column_statistics _ _ _ _ _ _ _ _) = 0

@@ -33,12 +33,18 @@ pub enum Word {
 /// A word that has a place in the grammar and may be a name elsewhere.
 #[derive(Clone, Copy, Debug, PartialEq, Eq)]
 pub enum Free {
+    By,
     Common,
     Copy,
     Csv,
     Distinct,
+    Explain,
+    First,
     Format,
     Histogram,
+    Include,
+    Index,
+    Last,
     Nulls,
     Pages,
     Rows,

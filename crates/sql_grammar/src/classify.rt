@@ -39,13 +39,19 @@ const WORDS: [Word; 25] = [
 ];
 
 /// The words with a place of their own that may be names.
-const FREE_WORDS: [Free; 11] = [
+const FREE_WORDS: [Free; 17] = [
+    Free::By,
     Free::Common,
     Free::Copy,
     Free::Csv,
     Free::Distinct,
+    Free::Explain,
+    Free::First,
     Free::Format,
     Free::Histogram,
+    Free::Include,
+    Free::Index,
+    Free::Last,
     Free::Nulls,
     Free::Pages,
     Free::Rows,
@@ -91,12 +97,18 @@ fn free_spelling(word: Free) -> &'static [u8]
     ensures { result.now ≡ free_spelling_of word }
 {
     match word {
+        Free::By => b"by",
         Free::Common => b"common",
         Free::Copy => b"copy",
         Free::Csv => b"csv",
         Free::Distinct => b"distinct",
+        Free::Explain => b"explain",
+        Free::First => b"first",
         Free::Format => b"format",
         Free::Histogram => b"histogram",
+        Free::Include => b"include",
+        Free::Index => b"index",
+        Free::Last => b"last",
         Free::Nulls => b"nulls",
         Free::Pages => b"pages",
         Free::Rows => b"rows",

@@ -11,10 +11,14 @@ mod fault;
 mod laws;
 mod limits;
 mod rows;
+mod rows_index;
+mod rows_order;
 mod stack;
 mod table;
 #[cfg(test)]
 mod tests;
+#[cfg(test)]
+mod tests_kinds;
 mod walk;
 
 pub use class::{Class, Free, Symbol, Word};

@@ -7,23 +7,14 @@ use crate::class::{Class, Free, Symbol, Word};
 use crate::table::Item;
 
 /// The items that stand in an item's place; None where the token is not awaited.
-type Expansion = Option<&'static [Item]>;
+pub type Expansion = Option<&'static [Item]>;
 
-/// A statement and its end: `CREATE TABLE`, `SELECT`, `COPY`, `STATISTICS`, or nothing before the end.
+/// A statement and its end: `CREATE`, `SELECT`, `EXPLAIN`, `COPY`, `STATISTICS`, or nothing before the end.
 pub fn statement(class: Class) -> Expansion
     ensures { MatchOption result (statement_takes class ≡ None) (λ r. statement_takes class ≡ Some r.now) }
 {
     match class {
-        Class::Key(Word::Create) => Some(&[
-            Item::Keyword(Word::Table),
-            Item::Label,
-            Item::Sign(Symbol::Open),
-            Item::Label,
-            Item::Label,
-            Item::Nullness,
-            Item::MoreColumns,
-            Item::Ends,
-        ]),
+        Class::Key(Word::Create) => Some(&[Item::AfterCreate]),
         Class::Key(Word::Select) => Some(&[
             Item::Result,
             Item::MoreResults,
@@ -31,8 +22,10 @@ pub fn statement(class: Class) -> Expansion
             Item::Label,
             Item::MaybeAlias,
             Item::MaybeWhere,
+            Item::MaybeOrder,
             Item::Ends,
         ]),
+        Class::Name(Some(Free::Explain)) => Some(&[Item::Query, Item::MaybeOrder, Item::Ends]),
         Class::Name(Some(Free::Copy)) => Some(&[
             Item::Label,
             Item::Keyword(Word::From),

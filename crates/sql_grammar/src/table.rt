@@ -6,7 +6,7 @@ ghost use Rattle.std.specs.Prelude.{◌≡◌, ◌≤◌, MatchOption};
 ghost use Rattle.sql_grammar.specs.Table.{takes_of, is_optional, level_of};
 
 use crate::class::{Class, Free, Symbol, Word};
-use crate::rows;
+use crate::{rows, rows_index, rows_order};
 
 /// What is awaited.
 #[derive(Clone, Copy)]
@@ -83,6 +83,28 @@ pub enum Item {
     Side,
     /// What follows a name in an operand.
     AfterQualifier,
+    /// ORDER BY and its columns, or nothing.
+    MaybeOrder,
+    /// Further columns of it.
+    MoreOrderings,
+    /// ASC, DESC or nothing.
+    MaybeDirection,
+    /// NULLS FIRST, NULLS LAST or nothing.
+    MaybeNulls,
+    /// FIRST or LAST.
+    FirstOrLast,
+    /// What follows CREATE, up to the statement's end.
+    AfterCreate,
+    /// USING and an access method, or nothing.
+    MaybeUsing,
+    /// An operator class, or nothing.
+    MaybeClass,
+    /// Further keys, and the closing parenthesis.
+    MoreKeys,
+    /// INCLUDE and its columns, or nothing.
+    MaybeInclude,
+    /// Further columns of INCLUDE, and the closing parenthesis.
+    MoreNames,
 }
 
 /// The items that are awaited in this one's place after the token; None where the token is not awaited.
@@ -124,6 +146,17 @@ pub fn takes(item: Item, class: Class) -> Option<&'static [Item]>
         Item::AfterLiteral | Item::AfterTruth => rows::after_literal(class),
         Item::Side => rows::operand(class),
         Item::AfterQualifier => rows::after_qualifier(class),
+        Item::MaybeOrder => rows_order::order(class),
+        Item::MoreOrderings => rows_order::orderings(class),
+        Item::MaybeDirection => rows_order::direction(class),
+        Item::MaybeNulls => rows_order::nulls(class),
+        Item::FirstOrLast => rows_order::nulls_end(class),
+        Item::AfterCreate => rows_index::created(class),
+        Item::MaybeUsing => rows_index::using(class),
+        Item::MaybeClass => rows_index::op_class(class),
+        Item::MoreKeys => rows_index::keys(class),
+        Item::MaybeInclude => rows_index::include(class),
+        Item::MoreNames => rows_index::names(class),
     }
 }
 
@@ -147,6 +180,13 @@ pub fn may_be_empty(item: Item) -> bool
             | Item::AfterColumn
             | Item::AfterTruth
             | Item::AfterQualifier
+            | Item::MaybeOrder
+            | Item::MoreOrderings
+            | Item::MaybeDirection
+            | Item::MaybeNulls
+            | Item::MaybeUsing
+            | Item::MaybeClass
+            | Item::MaybeInclude
     )
 }
 

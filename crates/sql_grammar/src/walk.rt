@@ -1,6 +1,6 @@
 //! The walk over a statement's tokens: where they leave the grammar, and where a part of a statement ends.
 //!
-//! Conditions of the three calls: the text has at most 2^31 bytes, the tokens are the words of a statement from some offset of
+//! Conditions of the calls: the text has at most 2^31 bytes, the tokens are the words of a statement from some offset of
 //! it, up to `;` or the text's end, and `first` is the number of one of them. None of them takes memory.
 
 ghost use Rattle.std.specs.Prelude.{◌≡◌, ℕ, ◌^◌, ◌<◌, ◌≤◌, length, drop, true, MatchOption};

@@ -4,3 +4,4 @@ pub mod Forms
 pub mod Words
 pub mod Cuts
 pub mod Stops
+pub mod Ends

@@ -1,6 +1,7 @@
 //! Tokens: where each word of a statement stands in its text.
 
-ghost use Rattle.std.specs.Prelude.{◌≡◌};
+ghost use Rattle.std.specs.Prelude.{◌≡◌, ◌<◌, length};
+ghost use Rattle.sql_lex.specs.Ends.{end_of};
 
 use std::marker::Model;
 
@@ -58,5 +59,13 @@ impl Tokens {
         ensures { result.now ≡ self.now }
     {
         &self.tokens
+    }
+
+    /// Where the last token ends: the byte offset past its last byte.
+    pub fn end(&self) -> u32
+        requires { 0 < length self.now }
+        ensures { result ≡ end_of self.now }
+    {
+        self.tokens[self.tokens.len() - 1].end
     }
 }

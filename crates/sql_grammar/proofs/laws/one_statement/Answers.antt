@@ -1,5 +1,5 @@
 use Rattle.sql_grammar.proofs.ExprTrees.{tokens-are}
-use Rattle.sql_grammar.proofs.Trees.{one_tree}
+use Rattle.sql_grammar.proofs.StatementTrees.{one_tree}
 use Rattle.sql_grammar.specs.Words.{words_of}
 use Rattle.sql_grammar.proofs.laws.one_statement.Goals as goal
 

@@ -1,0 +1,78 @@
+-- The walk takes every CREATE INDEX.
+use Rattle.std.proofs.Common.{◌≡◌, ℕ, ◌≤◌, true, List, [], ◌∷◌, ◌++◌, refl, ◌∙◌, arith}
+use Rattle.sql_grammar.specs.Terminals.{Terminal, Ident, free, t_mark, t_name}
+use Rattle.sql_grammar.specs.declared.class.Free.TheVariants.{Nulls}
+use Rattle.sql_grammar.specs.declared.class.Symbol.TheVariants.{Open, Close}
+use Rattle.sql_grammar.specs.declared.table.Item.{Item}
+use Rattle.sql_grammar.specs.declared.table.Item.TheVariants.{Sign, Label, Ends, MaybeWhere, MaybeDirection, MaybeNulls, Whole, MaybeUsing, MaybeClass, MoreKeys, MaybeInclude, MoreNames}
+use Rattle.sql_grammar.specs.Syntax.{Mark, Where, no_where, where_expr, Ending, semicolon, text_end}
+use Rattle.sql_grammar.specs.Words.{words_of_where, words_of_ending}
+use Rattle.sql_grammar.specs.Syntax.{Direction, no_direction, ascending, descending, NullsEnd, no_nulls_end, nulls_first, nulls_last}
+use Rattle.sql_grammar.specs.Words.{words_of_direction, words_of_nulls_end}
+use Rattle.sql_grammar.specs.Syntax.{IsClassName, no_class, op_class, IndexKey, index_key, Using, no_using, using_method, Include, no_include, include_columns, CreateIndex, index_on}
+use Rattle.sql_grammar.specs.Words.{words_of_key, words_of_keys, words_of_using, words_of_names, words_of_include, words_of_index, levels_of_index}
+use Rattle.sql_grammar.specs.Machine.{takes_all}
+use Rattle.sql_grammar.proofs.Complete.{Passes, skip, apart, condition, ending, after-query}
+use Rattle.sql_grammar.proofs.OrderComplete.{sorted}
+
+-- what follows a key
+pub record EndsKey (ts : List Terminal) : Type 0 where
+  pub op_class : Passes MaybeClass ts
+  pub direction : Passes MaybeDirection ts
+  pub nulls : Passes MaybeNulls ts
+
+after-column : (d : Direction) (z : NullsEnd) (ts : List Terminal) → Passes MaybeClass ts → Passes MaybeClass ((words_of_direction d ++ words_of_nulls_end z) ++ ts)
+after-column no_direction no_nulls_end ts p = p
+after-column no_direction (nulls_first n f) ts p = refl
+after-column no_direction (nulls_last n l) ts p = refl
+after-column (ascending k) z ts p = refl
+after-column (descending k) z ts p = refl
+
+after-key : (ks : List (Mark × IndexKey)) (m : Mark) (ts : List Terminal) → EndsKey (words_of_keys ks ++ t_mark Close m ∷ ts)
+after-key [] m ts = record { op_class = refl; direction = refl; nulls = refl }
+after-key (k ∷ ks) m ts = record { op_class = refl; direction = refl; nulls = refl }
+
+after-include : (w : Where) (e : Ending) → Passes MaybeInclude (words_of_where w ++ words_of_ending e)
+after-include no_where (semicolon t) = refl
+after-include no_where (text_end t) = refl
+after-include (where_expr k c) e = refl
+
+module _ (limit : ℕ) where
+  named : (n : Ident) → IsClassName n → (s : List Item) (ts : List Terminal) → takes_all limit (t_name n ∷ ts) (MaybeClass ∷ s) ≡ takes_all limit ts s
+  named (free Nulls k) p s ts = absurd p
+  named _ p s ts = refl
+
+  key : (x : IndexKey) (s : List Item) (ts : List Terminal) → EndsKey ts →
+      takes_all limit (words_of_key x ++ ts) (Label ∷ MaybeClass ∷ MaybeDirection ∷ MaybeNulls ∷ s) ≡ takes_all limit ts s
+  key (index_key n no_class d z) s ts p =
+      skip limit MaybeClass (MaybeDirection ∷ MaybeNulls ∷ s) ((words_of_direction d ++ words_of_nulls_end z) ++ ts) refl (after-column d z ts p.op_class) ∙
+      sorted limit d z s ts p.direction p.nulls
+  key (index_key n (op_class c named') d z) s ts p =
+      named c named' (MaybeDirection ∷ MaybeNulls ∷ s) ((words_of_direction d ++ words_of_nulls_end z) ++ ts) ∙ sorted limit d z s ts p.direction p.nulls
+
+  keys : (x : IndexKey) (xs : List (Mark × IndexKey)) (m : Mark) (s : List Item) (ts : List Terminal) →
+      takes_all limit (words_of_key x ++ (words_of_keys xs ++ t_mark Close m ∷ ts)) (Label ∷ MaybeClass ∷ MaybeDirection ∷ MaybeNulls ∷ MoreKeys ∷ s) ≡ takes_all limit ts s
+  keys x [] m s ts = key x (MoreKeys ∷ s) (t_mark Close m ∷ ts) (after-key [] m ts)
+  keys x ((c, y) ∷ ys) m s ts =
+      key x (MoreKeys ∷ s) (words_of_keys ((c, y) ∷ ys) ++ t_mark Close m ∷ ts) (after-key ((c, y) ∷ ys) m ts) ∙
+      (apart limit (words_of_key y) (words_of_keys ys) (t_mark Close m ∷ ts) (Label ∷ MaybeClass ∷ MaybeDirection ∷ MaybeNulls ∷ MoreKeys ∷ s) ∙ keys y ys m s ts)
+
+  using : (u : Using) (p : Mark) (s : List Item) (ts : List Terminal) → takes_all limit (words_of_using u ++ t_mark Open p ∷ ts) (MaybeUsing ∷ Sign Open ∷ s) ≡ takes_all limit ts s
+  using no_using p s ts = refl
+  using (using_method k n) p s ts = refl
+
+  names : (ns : List (Mark × Ident)) (m : Mark) (s : List Item) (ts : List Terminal) → takes_all limit (words_of_names ns ++ t_mark Close m ∷ ts) (MoreNames ∷ s) ≡ takes_all limit ts s
+  names [] m s ts = refl
+  names ((c, n) ∷ ns) m s ts = names ns m s ts
+
+  include : (c : Include) (s : List Item) (ts : List Terminal) → Passes MaybeInclude ts → takes_all limit (words_of_include c ++ ts) (MaybeInclude ∷ s) ≡ takes_all limit ts s
+  include no_include s ts p = skip limit MaybeInclude s ts refl p
+  include (include_columns k o n ns m) s ts p = apart limit (words_of_names ns) (t_mark Close m ∷ []) ts (MoreNames ∷ s) ∙ names ns m s ts
+
+  pub index : (x : CreateIndex) → levels_of_index x ≤ limit → takes_all limit (words_of_index x) (Whole ∷ []) ≡ true
+  index (index_on k i n o t u p x xs m c w e) low =
+      using u p (Label ∷ MaybeClass ∷ MaybeDirection ∷ MaybeNulls ∷ MoreKeys ∷ MaybeInclude ∷ MaybeWhere ∷ Ends ∷ [])
+      (words_of_key x ++ (words_of_keys xs ++ t_mark Close m ∷ (words_of_include c ++ (words_of_where w ++ words_of_ending e)))) ∙
+      (keys x xs m (MaybeInclude ∷ MaybeWhere ∷ Ends ∷ []) (words_of_include c ++ (words_of_where w ++ words_of_ending e)) ∙
+      (include c (MaybeWhere ∷ Ends ∷ []) (words_of_where w ++ words_of_ending e) (after-include w e) ∙
+      (condition limit w (Ends ∷ []) (words_of_ending e) (omega (arith, low)) (after-query limit e) ∙ ending limit e)))

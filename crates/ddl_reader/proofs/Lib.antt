@@ -13,3 +13,4 @@ pub mod TokenLaws
 pub mod StatementLemmas
 pub mod SoundStatisticsLemmas
 pub mod SoundLemmas
+pub mod OpeningLemmas

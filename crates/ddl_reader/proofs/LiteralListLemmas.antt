@@ -19,7 +19,7 @@ use Rattle.expr_reader.specs.Conditions.{next}
 use Rattle.expr_reader.specs.Reads.{Reads as ReadsOn}
 use Rattle.ddl_reader.specs.declared.literals.CommonRead.{CommonRead}
 use Rattle.ddl_reader.specs.Statistics.{CommonWords, common_words, commons_of, bounds_of}
-use Rattle.ddl_reader.specs.Lists.{parts_of}
+use Rattle.sql_cursor.specs.Lists.{parts_of}
 use Rattle.ddl_reader.specs.Reads.{Reads, ends_common, ends_histogram, words_of_shares_left, words_of_bounds_left, placed, common_placed}
 use Rattle.ddl_reader.proofs.ListLemmas.{Parts}
 

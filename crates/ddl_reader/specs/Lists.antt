@@ -1,20 +1,2 @@
--- A list of parts bound from the left (own).
-use Rattle.std.specs.Prelude.{List, [], ◌∷◌, Result, Ok, Err}
-use Rattle.pg_base.specs.declared.faults.Fault.{Fault}
-use Rattle.sql_grammar.specs.Syntax.{Mark}
-
--- the further parts, each behind its comma
-abbrev pub parts_of : {A B : Type 0} → (A → B) → List (Mark × A) → List B
-parts_of part [] = []
-parts_of part ((_, x) ∷ xs) = part x ∷ parts_of part xs
-
--- one before others, or the first fault
-abbrev pub before_all : {B : Type 0} → Result B Fault → Result (List B) Fault → Result (List B) Fault
-before_all (Err f) rest = Err f
-before_all (Ok b) (Err f) = Err f
-before_all (Ok b) (Ok bs) = Ok (b ∷ bs)
-
--- each bound, from the left, or the first fault
-abbrev pub bound_each : {A B : Type 0} → (A → Result B Fault) → List A → Result (List B) Fault
-bound_each bind [] = Ok []
-bound_each bind (x ∷ xs) = before_all (bind x) (bound_each bind xs)
+-- Lists of parts bound from the left, as every statement binds them.
+pub use Rattle.sql_cursor.specs.Lists.{parts_of, before_all, bound_each}

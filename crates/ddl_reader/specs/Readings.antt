@@ -35,7 +35,8 @@ ReadsAs cat text x (Ok v) = Means cat text x (Ok (reading v))
 ReadsAs cat text x (Err (refusal.Fault f)) = Means cat text x (Err f)
 ReadsAs cat text x (Err refusal.Memory) = Unit {0}
 
--- why the syntax is refused, by whether the first word is CREATE, COPY or STATISTICS; that takes no memory
+-- why the syntax is refused, by whether the first word is CREATE, without INDEX behind it, COPY or STATISTICS; that takes no
+-- memory
 abbrev pub IsSyntaxRefusal : List ℕ → List Token → Bool → Refusal → Type 0
 IsSyntaxRefusal text tokens true (refusal.Fault f) = IsFirstFault IsStatement text tokens f
 IsSyntaxRefusal text tokens false (refusal.Fault f) = IsOtherWord tokens f

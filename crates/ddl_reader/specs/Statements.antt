@@ -1,17 +1,17 @@
 -- What a statement that defines a table, gives statistics or loads data means, and its first fault (PostgreSQL manual, CREATE
 -- TABLE and COPY; STATISTICS is own).
-use Rattle.std.specs.Prelude.{◌≡◌, ◌⊎◌, ℕ, Bool, true, false, List, [], ◌∷◌, Result, Err, Some}
+use Rattle.std.specs.Prelude.{◌≡◌, ◌⊎◌, ℕ, Bool, true, false, not, ◌&&◌, List, [], ◌∷◌, Result, Err, Some}
 use Rattle.pg_base.specs.declared.faults.Code.TheVariants.{S1}
 use Rattle.pg_base.specs.declared.faults.Fault.{Fault}
 use Rattle.pg_base.specs.declared.faults.Refusal.{Refusal}
 use Rattle.pg_base.specs.declared.faults.Refusal.TheVariants as refusal
 use Rattle.sql_lex.specs.declared.tokens.Token.{Token}
 use Rattle.sql_grammar.specs.declared.class.Word.TheVariants.{Create}
-use Rattle.sql_grammar.specs.declared.class.Free.TheVariants.{Copy, Statistics}
+use Rattle.sql_grammar.specs.declared.class.Free.TheVariants.{Copy, Index, Statistics}
 use Rattle.sql_grammar.specs.declared.class.Class.{Class}
 use Rattle.sql_grammar.specs.declared.class.Class.TheVariants.{Key, Name}
-use Rattle.sql_grammar.specs.Terminals.{Terminal, token_of, class_of}
-use Rattle.sql_grammar.specs.Syntax.{Statement, empty, create_table, query, copy, sizes, column_statistics}
+use Rattle.sql_grammar.specs.Terminals.{Terminal, free, t_key, t_name, token_of, class_of}
+use Rattle.sql_grammar.specs.Syntax.{Statement, empty, create_table, create_index, query, copy, sizes, column_statistics}
 use Rattle.sql_grammar.specs.Faults.{bytes_of, terminals, IsStatement, IsFirstFault, fault_at}
 use Rattle.sql_grammar.specs.Spelled.{IsSpelled}
 use Rattle.sql_grammar.specs.CopyLine.{IsDataStart}
@@ -21,6 +21,11 @@ use Rattle.ddl_reader.specs.Columns.{written, further, bound_all}
 use Rattle.ddl_reader.specs.Tables.{Reading, table_of, data_after}
 use Rattle.ddl_reader.specs.Statistics.{table_statistics, column_statistics_of, commons_of, bounds_of}
 
+-- CREATE INDEX
+abbrev pub begins_index : List Terminal → Bool
+begins_index (t_key Create _ ∷ t_name (free Index _) ∷ _) = true
+begins_index _ = false
+
 -- CREATE, COPY or STATISTICS
 abbrev pub opens_ddl : Class → Bool
 opens_ddl (Key Create) = true
@@ -28,10 +33,10 @@ opens_ddl (Name (Some Copy)) = true
 opens_ddl (Name (Some Statistics)) = true
 opens_ddl _ = false
 
--- the statement begins with CREATE, COPY or STATISTICS
+-- the statement begins with CREATE, but not CREATE INDEX, with COPY or with STATISTICS
 abbrev pub begins_ddl : List Terminal → Bool
 begins_ddl [] = false
-begins_ddl (word ∷ _) = opens_ddl (class_of word)
+begins_ddl (word ∷ words) = not (begins_index (word ∷ words)) && opens_ddl (class_of word)
 
 -- what a statement means, or its first fault after its syntax: of COPY the rest of its line comes first, from the `;` on
 abbrev pub Means : Contents → List ℕ → Statement → Result Reading Fault → Type 0
@@ -41,7 +46,8 @@ Means cat text (copy k n null) r =
 Means cat text (sizes k n rows pages e) r = r ≡ table_statistics cat n rows pages
 Means cat text (column_statistics k n c distinct nulls commons bounds e) r = r ≡ column_statistics_of cat n c distinct nulls (commons_of commons) (bounds_of bounds)
 Means cat text (empty e) r = ⊥
-Means cat text (query q e) r = ⊥
+Means cat text (create_index x) r = ⊥
+Means cat text (query x) r = ⊥
 
 -- the tokens spell a statement that means this
 pub record IsMeaning (cat : Contents) (text : List ℕ) (tokens : List Token) (r : Result Reading Fault) : Type 0 where
@@ -49,11 +55,11 @@ pub record IsMeaning (cat : Contents) (text : List ℕ) (tokens : List Token) (r
   pub spelled : IsSpelled statement text tokens
   pub means : Means cat text statement r
 
--- another first word than CREATE, COPY or STATISTICS is a syntax fault at its token
+-- another statement, by its first words, is a syntax fault at its first token
 abbrev pub IsOtherWord : List Token → Fault → Type 0
 IsOtherWord tokens f = (token : Token) × (later : List Token) × (tokens ≡ token ∷ later) × (f ≡ fault_at S1 token)
 
--- the first fault, by whether the first word is CREATE, COPY or STATISTICS: of the statement's syntax or after it; or that word's
+-- the first fault, by whether the statement begins so: of its syntax or after it; or that of its first word
 abbrev pub IsDdlFault : Contents → List ℕ → List Token → Fault → Bool → Type 0
 IsDdlFault cat text tokens f true = IsFirstFault IsStatement text tokens f ⊎ IsMeaning cat text tokens (Err f)
 IsDdlFault cat text tokens f false = IsOtherWord tokens f

@@ -16,4 +16,4 @@ mod words;
 
 pub use block::block_end;
 pub use ddl::{Ddl, Read};
-pub use read::{is_ddl, read_ddl};
+pub use read::{is_ddl, is_index, read_ddl};

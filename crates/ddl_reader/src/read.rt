@@ -13,7 +13,7 @@ ghost use Rattle.catalog.specs.Tables.{table_named};
 ghost use Rattle.ddl_reader.specs.declared.ddl.Read.{Read};
 ghost use Rattle.ddl_reader.specs.Reads.{Reads};
 ghost use Rattle.ddl_reader.specs.Tables.{Reading, data_after};
-ghost use Rattle.ddl_reader.specs.Statements.{opens_ddl, begins_ddl, IsMeaning, IsDdlRefusal};
+ghost use Rattle.ddl_reader.specs.Statements.{opens_ddl, begins_ddl, begins_index, IsMeaning, IsDdlRefusal};
 ghost use Rattle.ddl_reader.specs.Readings.{reading, ReadsAs, IsSyntaxRefusal};
 ghost use Rattle.ddl_reader.specs.Soundness.{IsSound};
 
@@ -35,8 +35,7 @@ fn last_end(text: &[u8], tokens: &Tokens) -> u32
     ensures last { (before : List Token) × (token : Token) × (tokens.now ≡ before ++ token ∷ []) × (result ≡ token.end) }
     ensures within { result ≤ length text.now }
 {
-    let items = tokens.items();
-    items[items.len() - 1].end
+    tokens.end()
 }
 
 /// COPY. The rest of its line comes first.
@@ -88,12 +87,28 @@ fn opens(class: Class) -> bool
     }
 }
 
-/// Whether the statement of these tokens begins with CREATE, COPY or STATISTICS.
+/// Whether the statement of these tokens begins with CREATE INDEX.
+pub fn is_index(text: &[u8], tokens: &Tokens) -> bool
+    requires short { length text.now ≤ 2 ^ 31 }
+    requires words { (from : ℕ) × AreWords text.now from tokens.now }
+    ensures { result ≡ begins_index (terminals text.now tokens.now) }
+{
+    let mut from = Cursor::new(text, tokens, 0);
+    if !from.takes(Word::Create) {
+        return false;
+    }
+    from.takes_free(Free::Index)
+}
+
+/// Whether the statement of these tokens begins with CREATE, but not with CREATE INDEX, with COPY or with STATISTICS.
 pub fn is_ddl(text: &[u8], tokens: &Tokens) -> bool
     requires short { length text.now ≤ 2 ^ 31 }
     requires words { (from : ℕ) × AreWords text.now from tokens.now }
     ensures { result ≡ begins_ddl (terminals text.now tokens.now) }
 {
+    if is_index(text, tokens) {
+        return false;
+    }
     let from = Cursor::new(text, tokens, 0);
     match from.peek() {
         Some(class) => opens(class),
@@ -101,7 +116,8 @@ pub fn is_ddl(text: &[u8], tokens: &Tokens) -> bool
     }
 }
 
-/// The first fault of the syntax: another first word than CREATE, COPY or STATISTICS (42601), or what the grammar refuses (42601, 54000).
+/// The first fault of the syntax: CREATE INDEX or another first word than CREATE, COPY or STATISTICS (42601), or what the
+/// grammar refuses (42601, 54000).
 fn check_syntax(text: &[u8], tokens: &Tokens) -> Result<(), Refusal>
     requires short { length text.now ≤ 2 ^ 31 }
     requires words { (from : ℕ) × AreWords text.now from tokens.now }
@@ -120,7 +136,8 @@ fn check_syntax(text: &[u8], tokens: &Tokens) -> Result<(), Refusal>
 
 /// Reads the statement of these tokens: its value, bound to the catalogue, or its first fault.
 ///
-/// Another first word than CREATE, COPY or STATISTICS is a fault (42601). Faults of syntax come first (42601, 54000), for COPY
+/// CREATE INDEX, and another first word than CREATE, COPY or STATISTICS, is a fault (42601) at the first word. Faults of syntax
+/// come first (42601, 54000), for COPY
 /// those of the rest of its line included. Then names and literals bind from the left: an unknown type (42704), an unknown
 /// table (42P01) and an unknown column (42703) at the word, a text for NULL other than `\N` (22023) at that text. A literal of
 /// STATISTICS that gives no value to the column is at fault at its first byte, a `-` included: 22003, 22P02 or 42804, and 22023

@@ -4,8 +4,9 @@ ghost use Rattle.std.specs.Prelude.{◌≡◌, ◌≤◌, ◌^◌, ◌∷◌, []
 
 use crate::{Ddl, Read, block_end, read_ddl};
 use catalog::{Catalog, CatalogFault};
+use fixtures::{columns, name, names};
 use pg_base::{Code, ColNo, Fault, Limit, Memory, Refusal, TableNo};
-use pg_value::{Bytes, Column, Columns, SqlType, Value};
+use pg_value::{Column, SqlType, Value};
 use sql_lex::lex_statement;
 use std::alloc::Global;
 
@@ -21,7 +22,7 @@ const WRONG: [(&[u8], Code, u32, u32); 48] = [
     (b"CREATE TABLE t (a foo, b int4", Code::S1, 29, 29),
     (b"CREATE TABLE t (a int4,);", Code::S1, 23, 23),
     (b"CREATE TABLE t (a int4 NOT);", Code::S1, 26, 26),
-    (b"CREATE INDEX i;", Code::S1, 7, 7),
+    (b"CREATE INDEX i;", Code::S1, 0, 0),
     (
         b"CREATE TABLE t (a int2,b int2,c int2,d int2,e int2,f int2,g int2,h int2,i int2,j int2,k int2,l int2,m int2,n int2,o int2,p int2,Qq int2,r int2);",
         Code::S15(Limit::Columns),
@@ -209,34 +210,11 @@ const BLOCKS: [(&[u8], Option<(u32, u32)>); 8] = [
     (b"", None),
 ];
 
-fn name(alloc: Global, letter: u8) -> Result<Bytes, Memory>
-    ensures { IfOk result (λ b. b ≡ letter ∷ []) }
-{
-    let mut bytes = Vec::new(alloc);
-    bytes.push(letter)?;
-    Ok(Bytes::from_vec(bytes))
-}
-
-/// A column of this type.
-fn of(typed: SqlType) -> Column {
-    Column {
-        typed,
-        not_null: false,
-    }
-}
-
 /// The table a, of b, t and f.
 fn one_table(alloc: Global) -> Result<Catalog, CatalogFault> {
-    let mut names = Vec::new(alloc);
-    let mut columns = Vec::new(alloc);
-    names.push(name(alloc, b'b')?)?;
-    names.push(name(alloc, b't')?)?;
-    names.push(name(alloc, b'f')?)?;
-    columns.push(of(SqlType::Int4))?;
-    columns.push(of(SqlType::Text))?;
-    columns.push(of(SqlType::Bool))?;
+    let types = columns(alloc, &[SqlType::Int4, SqlType::Text, SqlType::Bool])?;
     let mut catalog = Catalog::new(alloc);
-    catalog.add_table(name(alloc, b'a')?, names, Columns::from_vec(columns))?;
+    catalog.add_table(name(alloc, b'a')?, names(alloc, b"btf")?, types)?;
     Ok(catalog)
 }
 

@@ -1,5 +1,5 @@
 -- Every column of a query that is bound is one of its relation's table.
-use Rattle.std.proofs.Common.{ℕ, ◌+◌, ◌≤◌, Bool, true, false, List, [], ◌∷◌, ◌++◌, length, filter, cond, All, Some, None, Result, Ok, Err, sym, subst, arith, append-nil}
+use Rattle.std.proofs.Common.{ℕ, ◌+◌, ◌≤◌, Bool, true, false, List, [], ◌∷◌, ◌++◌, length, filter, map, cond, All, Some, None, Result, Ok, Err, sym, subst, arith, append-nil}
 use Rattle.std.specs.Str.{bytes_eq}
 use Rattle.std.proofs.lemmas.List.Elements.{All-nil, All-cons}
 use Rattle.pg_base.specs.declared.numbers.TableNo.{TableNo}
@@ -34,7 +34,7 @@ use Rattle.eq_classes.specs.Holding.{IsTable as IsTableOf}
 use Rattle.eq_classes.proofs.HoldLemmas.{map_in}
 use Rattle.eq_classes.proofs.ListLemmas.{IsIn, all_at, all_from, contains_from_in, in_left, in_parts, in_right}
 use Rattle.path_cost.specs.Columns.{IsOver, is_column}
-use Rattle.query_reader.proofs.ConjunctLemmas.{all-passing, limits-kept, named-columns, names-only}
+use Rattle.query_reader.proofs.ConjunctLemmas.{all-passing, limits-kept, named-columns, names-only, order-columns}
 
 module _ (P : ColRef → Type 0) where
   -- P holds of each
@@ -142,21 +142,27 @@ module _ (c : Contents) (t : TableNo) (alias : List ℕ) (lawful : IsLawfulTable
     distinct = λ i j d below lt. absurd (omega (arith, below, lt));
   }
 
-  -- the query of columns that the list shows and of conjuncts over the relation, with their classes
-  pub well-bound : IsTable c t → IsName alias → (items : List Item) (cs : List ColRef) (ws : List Cond) (classes : Table) → list_columns (scope_of c only) items ≡ Ok cs →
-      All (IsOver c only) ws → past_limit ws ≡ None → IsTableOf (record { conjuncts = conjuncts_in ws; order = []; type_of = type_in c only }) classes →
-      IsWellBound c (query_with classes (record { range = only; select = cs; where_all = ws }))
-  well-bound table name items cs ws classes shown over kept is =
-      let used = cs ++ columns_in_all (conds_of ws) in
+  -- the query of columns that the list shows, of conjuncts and of an order over the relation, with their classes
+  pub well-bound : IsTable c t → IsName alias → (items : List Item) (cs : List ColRef) (ws : List Cond) (order : List OrderItem) (classes : Table) → list_columns (scope_of c only) items ≡ Ok cs →
+      All (IsOver c only) ws → All (λ (i : OrderItem). is_column c only i.col ≡ true) order → past_limit ws ≡ None → IsTableOf (record { conjuncts = conjuncts_in ws; order = order; type_of = type_in c only }) classes →
+      IsWellBound c (query_with classes (record { range = only; select = cs; where_all = ws; order = order }))
+  well-bound table name items cs ws order classes shown over ordered kept is =
+      let named = columns_in_all (conds_of ws) in
+      let sorted = map (λ (i : OrderItem). i.col) order in
+      let used = cs ++ (named ++ sorted) in
       record {
         range = only-range table name;
         used = all_from (IsColumnOf c only) used (λ x i. ⊎_elim
             (λ (h : IsIn x cs). all_at (IsColumnOf c only) cs (shown-columns items cs shown) x h)
-            (λ (h : IsIn x (columns_in_all (conds_of ws))). named-columns c only ws over x h)
-            (in_parts x cs (columns_in_all (conds_of ws)) i));
-        select = all_from (Contains used) cs (λ x i. contains_from_in used x (in_left x cs (columns_in_all (conds_of ws)) i));
-        order = All-nil (λ (i : OrderItem). Contains used i.col);
-        conditions = names-only used ws (λ x i. in_right x cs (columns_in_all (conds_of ws)) i);
+            (λ (h : IsIn x (named ++ sorted)). ⊎_elim
+            (λ (k : IsIn x named). named-columns c only ws over x k)
+            (λ (k : IsIn x sorted). order-columns c only order ordered x k)
+            (in_parts x named sorted h))
+            (in_parts x cs (named ++ sorted) i));
+        select = all_from (Contains used) cs (λ x i. contains_from_in used x (in_left x cs (named ++ sorted) i));
+        order = all_from (λ (i : OrderItem). Contains used i.col) order
+            (λ i j. contains_from_in used i.col (in_right i.col cs (named ++ sorted) (in_right i.col named sorted (map_in (λ (k : OrderItem). k.col) order i j))));
+        conditions = names-only used ws (λ x i. in_right x cs (named ++ sorted) (in_left x named sorted i));
         typed = all_from (IsTyped (type_in c only)) ws (λ w i. (all_at (IsOver c only) ws over w i).typed);
         limits = limits-kept ws kept;
         classes = is;
@@ -186,11 +192,12 @@ all-seen c t alias lawful =
     (λ v i. all_at (λ (x : ColRef). is_column c ((t, alias) ∷ []) x ≡ true) (columns_of scope) (all-passing c ((t, alias) ∷ []) (columns_of scope) (visible-columns c t alias lawful)) v.column (map_in (λ (w : Visible). w.column) scope v i))
 
 pub well-bound-in : (s : Sight) (c : Contents) (t : TableNo) (alias : List ℕ) → s ≡ sight c t alias → IsLawfulTable (table_at c t) → IsTable c t → IsName alias →
-    (items : List Item) (cs : List ColRef) (ws : List Cond) (classes : Table) → list_columns (scope_of s.contents s.range) items ≡ Ok cs → All (IsOver s.contents s.range) ws → past_limit ws ≡ None →
-    IsTableOf (record { conjuncts = conjuncts_in ws; order = []; type_of = type_in s.contents s.range }) classes →
-    IsWellBound c (query_with classes (record { range = (t, alias) ∷ []; select = cs; where_all = ws }))
-well-bound-in s c t alias is lawful table name items cs ws classes =
-    let P : Sight → Type 0 = λ x. list_columns (scope_of x.contents x.range) items ≡ Ok cs → All (IsOver x.contents x.range) ws → past_limit ws ≡ None →
-    IsTableOf (record { conjuncts = conjuncts_in ws; order = []; type_of = type_in x.contents x.range }) classes →
-    IsWellBound c (query_with classes (record { range = (t, alias) ∷ []; select = cs; where_all = ws })) in
-    subst P (sym is) (well-bound c t alias lawful table name items cs ws classes)
+    (items : List Item) (cs : List ColRef) (ws : List Cond) (order : List OrderItem) (classes : Table) → list_columns (scope_of s.contents s.range) items ≡ Ok cs → All (IsOver s.contents s.range) ws →
+    All (λ (i : OrderItem). is_column s.contents s.range i.col ≡ true) order → past_limit ws ≡ None →
+    IsTableOf (record { conjuncts = conjuncts_in ws; order = order; type_of = type_in s.contents s.range }) classes →
+    IsWellBound c (query_with classes (record { range = (t, alias) ∷ []; select = cs; where_all = ws; order = order }))
+well-bound-in s c t alias is lawful table name items cs ws order classes =
+    let P : Sight → Type 0 = λ x. list_columns (scope_of x.contents x.range) items ≡ Ok cs → All (IsOver x.contents x.range) ws → All (λ (i : OrderItem). is_column x.contents x.range i.col ≡ true) order → past_limit ws ≡ None →
+    IsTableOf (record { conjuncts = conjuncts_in ws; order = order; type_of = type_in x.contents x.range }) classes →
+    IsWellBound c (query_with classes (record { range = (t, alias) ∷ []; select = cs; where_all = ws; order = order })) in
+    subst P (sym is) (well-bound c t alias lawful table name items cs ws order classes)

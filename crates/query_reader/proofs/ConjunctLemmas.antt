@@ -21,6 +21,7 @@ use Rattle.pg_expr.proofs.KeptLaws.{conjuncts-each, conjuncts-typed}
 use Rattle.catalog.specs.Contents.{Contents, table_at}
 use Rattle.catalog.specs.Range.{Range, table_of, type_in}
 use Rattle.eq_classes.specs.Classes.{conjuncts_in, listed}
+use Rattle.eq_classes.specs.declared.order.OrderItem.{OrderItem}
 use Rattle.eq_classes.proofs.ListLemmas.{IsIn, all_at, all_from, in_parts, in_left, in_right}
 use Rattle.eq_classes.proofs.WrittenLemmas.{in_columns, in_typed}
 use Rattle.path_cost.specs.Columns.{IsOver, is_column}
@@ -188,6 +189,19 @@ pub named-columns : (c : Contents) (range : Range) (ws : List Cond) → All (IsO
 named-columns c range ws over x i =
     let each = all_from (λ (w : Cond). each_column (is_column c range) w ≡ true) ws (λ w j. (all_at (IsOver c range) ws over w j).columns) in
     is-column-of c range x (pass-named-all (is_column c range) (conds_of ws) (all-pass (is_column c range) ws each) x i)
+
+-- the columns of an order over the relations are theirs
+pub order-columns : (c : Contents) (range : Range) (items : List OrderItem) → All (λ (i : OrderItem). is_column c range i.col ≡ true) items → (x : ColRef) → IsIn x (map (λ i. i.col) items) → IsColumnOf c range x
+order-columns c range [] h x i = absurd i
+order-columns c range (z ∷ zs) h x i = ⊎_elim
+    (λ (e : x ≡ z.col). is-column-of c range x (ap (is_column c range) e ∙ all_at (λ (k : OrderItem). is_column c range k.col ≡ true) (z ∷ zs) h z (inl refl)))
+    (λ (later : IsIn x (map (λ i. i.col) zs)). order-columns c range zs (all_from (λ (k : OrderItem). is_column c range k.col ≡ true) zs (λ k j. all_at (λ (k : OrderItem). is_column c range k.col ≡ true) (z ∷ zs) h k (inr j))) x later)
+    i
+
+-- and of relations below 16
+pub order-near : (c : Contents) (range : Range) (items : List OrderItem) → length range ≤ 16 → All (λ (i : OrderItem). is_column c range i.col ≡ true) items → All (λ (i : OrderItem). i.col.rel.0 < 16) items
+order-near c range items few h = all_from (λ (i : OrderItem). i.col.rel.0 < 16) items
+    (λ i j. let at = is-column-of c range i.col (all_at (λ (k : OrderItem). is_column c range k.col ≡ true) items h i j) in omega (arith, few, at.relation))
 
 -- conjuncts that are past no limit keep the limits
 kept-by : (a b : ℕ) → nat_lt a b ≡ false → b ≤ a

@@ -6,6 +6,7 @@ pub mod RelationLemmas
 pub mod AddLemmas
 pub mod BoundLemmas
 pub mod ConjunctLemmas
+pub mod OrderLemmas
 pub mod WhereLemmas
 pub mod QueryLemmas
 pub mod AliasLemmas

@@ -1,72 +1,117 @@
--- From the words of a statement to the query that they say, and to the first fault.
-use Rattle.std.proofs.Common.{◌≡◌, inr, true, ℕ, List, ◌∷◌, ◌++◌, Result, Ok, Err, refl, sym, ap, subst, ◌∙◌, ◌<◌, ◌+◌, length, drop, get_or, append_assoc}
-use Rattle.std.proofs.lemmas.List.{drop_more}
-use Rattle.pg_base.specs.declared.faults.Code.TheVariants.{S1}
+-- From the words of a statement to the query that they say.
+use Rattle.std.proofs.Common.{◌≡◌, inr, true, ℕ, zero, suc, List, [], ◌∷◌, ◌++◌, Result, Ok, Err, refl, sym, ap, subst, ◌∙◌, drop, get_or, append_assoc}
+use Rattle.std.proofs.lemmas.List.{drop-map}
 use Rattle.pg_base.specs.declared.faults.Fault.{Fault}
 use Rattle.pg_base.specs.declared.faults.Refusal.{Refusal}
 use Rattle.pg_base.specs.declared.faults.Refusal.TheVariants as refusal
 use Rattle.sql_lex.specs.declared.tokens.Token.{Token}
-use Rattle.sql_grammar.specs.Terminals.{Terminal, Ident, t_key, t_name}
-use Rattle.sql_grammar.specs.declared.class.Word.TheVariants.{From, Select as SelectKey}
-use Rattle.sql_grammar.specs.Syntax.{Key, Mark, Output, Alias, Where, no_where, where_expr, Select, select_from, Ending, semicolon, text_end}
-use Rattle.sql_grammar.specs.Words.{words_of_output, words_of_outputs, words_of_alias, words_of_where, words_of_select, words_of_ending}
+use Rattle.sql_grammar.specs.Terminals.{Terminal, Ident, t_key, t_name, t_semicolon, t_end}
+use Rattle.sql_grammar.specs.declared.class.Word.TheVariants.{From}
+use Rattle.sql_grammar.specs.Syntax.{Key, Mark, Output, Alias, Where, no_where, where_expr, select_from, OrderBy, no_order, order_by, no_explain, explain, OrderedSelect, ordered_select, Ending, semicolon, text_end, query}
+use Rattle.sql_grammar.specs.Words.{words_of_output, words_of_outputs, words_of_alias, words_of_where, words_of_order, words_of_ordered, words_of_ending}
 use Rattle.sql_grammar.specs.Reading.{terminal_of}
-use Rattle.sql_grammar.specs.Faults.{terminals, IsFirstFault, fault_at}
-use Rattle.sql_cursor.specs.Reading.{BeginsNot}
+use Rattle.sql_grammar.specs.Faults.{terminals}
+use Rattle.sql_grammar.specs.Spelled.{IsSpelled}
+use Rattle.sql_cursor.proofs.Named.{AreNamed}
+use Rattle.catalog.specs.Contents.{Contents}
 use Rattle.sql_query.specs.Queries.{Query}
 use Rattle.query_reader.specs.declared.written.Item.{Item}
 use Rattle.query_reader.specs.declared.written.Source.{Source}
-use Rattle.query_reader.specs.Written.{Written, item_of, items_of, source_of, written_of}
-use Rattle.query_reader.specs.Binding.{Bound}
-use Rattle.query_reader.specs.Ends.{ends_alias, ends_where}
-use Rattle.query_reader.specs.Select.{IsQuery, AreWordsOf, AreSelect, IsGrammatical, IsReadAs}
-use Rattle.query_reader.proofs.GrammarLemmas.{first-word}
+use Rattle.query_reader.specs.Written.{Written, item_of, items_of, source_of}
+use Rattle.query_reader.specs.Binding.{Bound, bound, bound_written}
+use Rattle.query_reader.specs.Ends.{ends_alias, ends_where, ends_order}
+use Rattle.query_reader.specs.Select.{AreSelect, IsGrammatical, IsReadAs, words_before}
 
-abbrev pub written_by : List Item → Source → Where → Written
-written_by items source condition = record { items = items; source = source; condition = condition }
+-- the names among what is left of some words
+left-named : (n : ℕ) (ts : List Terminal) → AreNamed ts → AreNamed (drop n ts)
+left-named zero ts h = h
+left-named (suc n) [] h = tt
+left-named (suc n) (w ∷ ws) h = left-named n ws h.1
+
+abbrev pub written_by : List Item → Source → Where → OrderBy → Written
+written_by items source condition order = record { items = items; source = source; condition = condition; order = order }
+
+-- what stands behind the table and its alias
+abbrev pub behind : Where → OrderBy → Ending → List Terminal
+behind w y e = words_of_where w ++ (words_of_order y ++ words_of_ending e)
 
 -- the parts of a SELECT whose words are left after SELECT
-pub record Parted (q : Select) (end : Ending) (left : List Terminal) : Type 0 where
+pub record Parted (x : OrderedSelect) (left : List Terminal) : Type 0 where
   pub first : Output
   pub more : List (Mark × Output)
   pub from_at : Key
   pub name : Ident
   pub alias : Alias
   pub condition : Where
-  pub split : left ≡ words_of_output first ++ (words_of_outputs more ++ t_key From from_at ∷ t_name name ∷ (words_of_alias alias ++ (words_of_where condition ++ words_of_ending end)))
-  pub value : written_by (item_of first ∷ items_of more) (source_of name alias) condition ≡ written_of q
+  pub order : OrderBy
+  pub ending : Ending
+  pub split : left ≡ words_of_output first ++ (words_of_outputs more ++ t_key From from_at ∷ t_name name ∷ (words_of_alias alias ++ behind condition order ending))
+  pub means : (c : Contents) (start : Token) → bound_written c start (written_by (item_of first ∷ items_of more) (source_of name alias) condition order) ≡ bound c start x
 
 regroup : (x y z c e : List Terminal) (f n : Terminal) → (x ++ (y ++ f ∷ n ∷ (z ++ c))) ++ e ≡ x ++ (y ++ f ∷ n ∷ (z ++ (c ++ e)))
 regroup x y z c e f n =
     append_assoc x (y ++ f ∷ n ∷ (z ++ c)) e ∙ ap (λ l. x ++ l) (append_assoc y (f ∷ n ∷ (z ++ c)) e) ∙ ap (λ l. x ++ (y ++ f ∷ n ∷ l)) (append_assoc z c e)
 
-parted : (q : Select) (end : Ending) (key : Token) (left : List Terminal) → t_key SelectKey key ∷ left ≡ words_of_select q ++ words_of_ending end → Parted q end left
-parted (select_from k o os f n a w) end key left is =
-    let later : left ≡ (words_of_output o ++ (words_of_outputs os ++ t_key From f ∷ t_name n ∷ (words_of_alias a ++ words_of_where w))) ++ words_of_ending end = cc in
-    record {
-      first = o;
-      more = os;
-      from_at = f;
-      name = n;
-      alias = a;
-      condition = w;
-      split = later ∙ regroup (words_of_output o) (words_of_outputs os) (words_of_alias a) (words_of_where w) (words_of_ending end) (t_key From f) (t_name n);
-      value = refl;
-    }
+-- the words after those before SELECT, and SELECT
+after-select : (x : OrderedSelect) (ts : List Terminal) (n : ℕ) → words_of_ordered x ≡ ts → n ≡ words_before ts → drop 1 (drop n ts) ≡ drop 1 (drop (words_before (words_of_ordered x)) (words_of_ordered x))
+after-select x ts n is at = ap (λ i. drop 1 (drop i ts)) at ∙ ap (λ l. drop 1 (drop (words_before l) l)) (sym is)
 
--- WHERE and the word that ends a statement go on no alias, and that word on no WHERE
-pub ends-so : (w : Where) (end : Ending) → ends_alias (words_of_where w ++ words_of_ending end) ≡ true
-ends-so no_where (semicolon t) = refl
-ends-so no_where (text_end t) = refl
-ends-so (where_expr k e) end = refl
+parted : (x : OrderedSelect) (ts : List Terminal) (n : ℕ) → words_of_ordered x ≡ ts → n ≡ words_before ts → Parted x (drop 1 (drop n ts))
+parted (ordered_select no_explain (select_from k o os f m a w) y e) ts n is at = record {
+  first = o;
+  more = os;
+  from_at = f;
+  name = m;
+  alias = a;
+  condition = w;
+  order = y;
+  ending = e;
+  split = after-select (ordered_select no_explain (select_from k o os f m a w) y e) ts n is at ∙
+      regroup (words_of_output o) (words_of_outputs os) (words_of_alias a) (words_of_where w) (words_of_order y ++ words_of_ending e) (t_key From f) (t_name m);
+  means = λ c start. refl;
+}
+parted (ordered_select (explain t) (select_from k o os f m a w) y e) ts n is at = record {
+  first = o;
+  more = os;
+  from_at = f;
+  name = m;
+  alias = a;
+  condition = w;
+  order = y;
+  ending = e;
+  split = after-select (ordered_select (explain t) (select_from k o os f m a w) y e) ts n is at ∙
+      regroup (words_of_output o) (words_of_outputs os) (words_of_alias a) (words_of_where w) (words_of_order y ++ words_of_ending e) (t_key From f) (t_name m);
+  means = λ c start. refl;
+}
 
-pub ends-where : (end : Ending) → ends_where (words_of_ending end) ≡ true
-ends-where (semicolon t) = refl
-ends-where (text_end t) = refl
+-- what is left of some tokens after those before SELECT, and SELECT
+pub tree : (text : List ℕ) (tokens : List Token) (first : ℕ) (x : OrderedSelect) → IsSpelled (query x) text tokens → first ≡ words_before (terminals text tokens) → (old left : List Terminal) → old ≡ terminals text (drop first tokens) →
+    left ≡ drop 1 old → Parted x left
+tree text tokens first x w at old left is skipped =
+    subst (Parted x) (sym (skipped ∙ ap (drop 1) (is ∙ sym (drop-map (terminal_of text) first tokens)))) (parted x (terminals text tokens) first w.words at)
 
-pub tree : (text : List ℕ) (tokens : List Token) (key : Token) (left : List Terminal) → terminals text tokens ≡ t_key SelectKey key ∷ left →
-    (q : Select) (end : Ending) → AreWordsOf q end text tokens → Parted q end left
-tree text tokens key left first q end w = parted q end key left (sym first ∙ sym w.words)
+-- the names among what is left are named
+pub words-named : (text : List ℕ) (tokens : List Token) (first : ℕ) (old left : List Terminal) → old ≡ terminals text (drop first tokens) → left ≡ drop 1 old → AreNamed (terminals text tokens) → AreNamed left
+words-named text tokens first old left is skipped named =
+    subst AreNamed (sym (skipped ∙ ap (drop 1) (is ∙ sym (drop-map (terminal_of text) first tokens)))) (left-named 1 (drop first (terminals text tokens)) (left-named first (terminals text tokens) named))
+
+-- what stands behind the table goes on no alias, what stands behind WHERE on no condition, and what stands behind ORDER BY ends
+-- the statement
+pub ends-so : (w : Where) (y : OrderBy) (e : Ending) → ends_alias (behind w y e) ≡ true
+ends-so no_where no_order (semicolon t) = refl
+ends-so no_where no_order (text_end t) = refl
+ends-so no_where (order_by k b o os) e = refl
+ends-so (where_expr k c) y e = refl
+
+pub ends-where : (y : OrderBy) (rest : List Terminal) → ends_order rest ≡ true → ends_where (words_of_order y ++ rest) ≡ true
+ends-where no_order (t_semicolon t ∷ rest) ends = refl
+ends-where no_order (t_end t ∷ rest) ends = refl
+ends-where no_order _ ends = absurd (cc (ends))
+ends-where (order_by k b o os) rest ends = refl
+
+pub ends-all : (e : Ending) → ends_order (words_of_ending e) ≡ true
+ends-all (semicolon t) = refl
+ends-all (text_end t) = refl
 
 -- a SELECT may be read and may be refused
 pub grammatical : (text : List ℕ) (tokens : List Token) (r : Result Query Refusal) → AreSelect text tokens → IsGrammatical text tokens r
@@ -78,22 +123,8 @@ pub read-as-memory : (x : Result Bound Fault) → IsReadAs x (Err refusal.Memory
 read-as-memory (Ok p) = tt
 read-as-memory (Err f) = tt
 
-not-select : (text : List ℕ) (token : Token) (after ts : List Terminal) → ts ≡ terminal_of text token ∷ after → BeginsNot (t_key SelectKey) ts → (k : Token) → terminal_of text token ≡ t_key SelectKey k → ⊥
-not-select text token after ts is absent k at = absent after (k, is ∙ ap (λ w. w ∷ after) at)
-
--- another first word than SELECT is refused at its token
-pub refused : (text : List ℕ) (tokens given : List Token) (first : ℕ) (d : Token) (fault : Fault) (ts : List Terminal) → first < length tokens → given ≡ tokens →
-    ts ≡ terminals text (drop first tokens) → BeginsNot (t_key SelectKey) ts → fault ≡ fault_at S1 (get_or given first d) → IsFirstFault IsQuery text (drop first tokens) fault
-refused text tokens given first d fault ts lt same seen absent is =
-    let t = get_or tokens first d in
-    let later = drop (first + 1) tokens in
-    let split = drop_more tokens first d lt in
-    let told = is ∙ ap (λ xs. fault_at S1 (get_or xs first d)) same in
-    subst (λ xs. IsFirstFault IsQuery text xs fault) (sym split)
-    (subst (λ f. IsFirstFault IsQuery text (t ∷ later) f) (sym told) (first-word text t later (not-select text t (terminals text later) ts (seen ∙ ap (terminals text) split) absent)))
-
-pub same-written : (items more : List Item) (source other : Source) (w : Where) → items ≡ more → source ≡ other → written_by items source w ≡ written_by more other w
-same-written items more source other w list from = cc (list, from)
+pub same-written : (items more : List Item) (source other : Source) (w : Where) (y : OrderBy) → items ≡ more → source ≡ other → written_by items source w y ≡ written_by more other w y
+same-written items more source other w y list from = cc (list, from)
 
 -- what holds at the first token of a list that is given
 pub at-start : (P : Token → Type 0) (tokens given later : List Token) (start d : Token) → given ≡ tokens → tokens ≡ start ∷ later → P (get_or given 0 d) → P start

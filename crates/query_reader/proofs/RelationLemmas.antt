@@ -15,7 +15,7 @@ use Rattle.catalog.specs.Tables.{column_named}
 use Rattle.sql_lex.specs.declared.tokens.Token.{Token}
 use Rattle.expr_reader.specs.Scope.{Scope, Visible, columns_of, under, of_name, the_one, among, look_up}
 use Rattle.expr_reader.specs.declared.found.Found.{Found}
-use Rattle.expr_reader.specs.declared.found.Found.TheVariants.{One, NoTable, NoColumn}
+use Rattle.expr_reader.specs.declared.found.Found.TheVariants.{One, NoTable, NoColumn, Many}
 use Rattle.query_reader.specs.Scope.{columns_from, scope_of}
 use Rattle.sql_grammar.specs.Faults.{fault_at}
 use Rattle.query_reader.specs.Binding.{found_relation}
@@ -30,6 +30,10 @@ first_relation = record { 0 = 0 }
 abbrev pub found_number : Option ColNo → Found
 found_number (Some k) = One (record { rel = first_relation; col = k })
 found_number None = NoColumn
+
+not-many : (o : Option ColNo) → ¬ (found_number o ≡ Many)
+not-many (Some k) is = cc (is)
+not-many None is = cc (is)
 
 number-found : (o : Option ℕ) → found_at first_relation o ≡ found_number (option_map (λ n. record { 0 = n }) o)
 number-found (Some k) = refl
@@ -109,6 +113,10 @@ sight c t alias = record { contents = c; range = (t, alias) ∷ [] }
 module _ (s : Sight) (c : Contents) (t : TableNo) (alias : List ℕ) (is : sight c t alias ≡ s) (lawful : IsLawfulTable (table_at c t)) where
   pub named-in : (name : List ℕ) → found_number (column_named c t name) ≡ look_up (scope_of s.contents s.range) None name
   named-in name = subst (λ (x : Sight). found_number (column_named c t name) ≡ look_up (scope_of x.contents x.range) None name) is (sym (one-column c t alias lawful name))
+
+  -- a name is that of one column at most
+  pub named-once : (name : List ℕ) → ¬ (look_up (scope_of s.contents s.range) None name ≡ Many)
+  named-once name many = not-many (column_named c t name) (named-in name ∙ many)
 
   pub named-under : (q name : List ℕ) → bytes_eq q alias ≡ true → look_up (scope_of s.contents s.range) None name ≡ look_up (scope_of s.contents s.range) (Some q) name
   named-under q name same = subst (λ (x : Sight). look_up (scope_of x.contents x.range) None name ≡ look_up (scope_of x.contents x.range) (Some q) name) is (sym (one-under c t alias lawful q name same))

@@ -1,6 +1,6 @@
--- What a SELECT means over a catalogue, or its first fault: FROM first, then WHERE, then the list from the left, then the
--- limits (PostgreSQL manual, chapter Queries; codes: appendix Error Codes; the limits are own).
-use Rattle.std.specs.Prelude.{ℕ, nat_lt, cond, List, [], ◌∷◌, ◌++◌, length, Option, Some, None, Result, Ok, Err}
+-- What a SELECT means over a catalogue, or its first fault: FROM first, then WHERE, then the list from the left, then ORDER BY,
+-- then the limits (PostgreSQL manual, chapter Queries; codes: appendix Error Codes; the limits are own).
+use Rattle.std.specs.Prelude.{ℕ, nat_lt, cond, List, [], ◌∷◌, ◌++◌, length, map, Option, Some, None, Result, Ok, Err}
 use Rattle.pg_base.specs.declared.numbers.TableNo.{TableNo}
 use Rattle.pg_base.specs.declared.faults.Code.TheVariants.{S2, S15}
 use Rattle.pg_base.specs.declared.faults.Fault.{Fault}
@@ -17,9 +17,10 @@ use Rattle.catalog.specs.Range.{Range, type_in}
 use Rattle.catalog.specs.Tables.{table_named}
 use Rattle.eq_classes.specs.Classes.{conjuncts_in, listed}
 use Rattle.eq_classes.specs.Clauses.{Table}
+use Rattle.eq_classes.specs.declared.order.OrderItem.{OrderItem}
 use Rattle.sql_lex.specs.declared.tokens.Token.{Token}
 use Rattle.sql_grammar.specs.Faults.{fault_at}
-use Rattle.sql_grammar.specs.Syntax.{Select, Where, no_where, where_expr}
+use Rattle.sql_grammar.specs.Syntax.{Where, no_where, where_expr, OrderBy, OrderedSelect, ordered_select}
 use Rattle.sql_cursor.specs.declared.cursor.Spelled.{Spelled}
 use Rattle.expr_reader.specs.Conditions.{meaning_of_expr, next, the_column}
 use Rattle.expr_reader.specs.Scope.{Scope, columns_of, look_up, under}
@@ -28,25 +29,30 @@ use Rattle.query_reader.specs.declared.written.Item.{Item}
 use Rattle.query_reader.specs.declared.written.Item.TheVariants.{Every, EveryOf, Bare, Qualified}
 use Rattle.query_reader.specs.declared.written.Source.{Source}
 use Rattle.query_reader.specs.Named.{columns_in_all}
+use Rattle.query_reader.specs.Order.{order_items}
 use Rattle.query_reader.specs.Scope.{scope_of}
 use Rattle.query_reader.specs.Written.{Written, written_of}
 
--- a SELECT with its names bound, apart from its classes: its relations, the columns that it shows, and its conjuncts as
--- written
+-- a SELECT with its names bound, apart from its classes: its relations, the columns that it shows, its conjuncts as written,
+-- and the items of ORDER BY
 pub record Bound : Type 0 where
   pub range : Range
   pub select : List ColRef
   pub where_all : List Cond
+  pub order : List OrderItem
 
--- the query with these classes: it names the columns that it shows and those of its conjuncts, and has no ORDER BY and no
--- window
+-- every column that is named: those shown, those of the conjuncts, and those of ORDER BY
+abbrev pub named_in : List ColRef → List Cond → List OrderItem → List ColRef
+named_in select conjuncts order = select ++ (columns_in_all (conds_of conjuncts) ++ map (λ i. i.col) order)
+
+-- the query with these classes, which has no window
 abbrev pub query_with : Table → Bound → Query
 query_with classes b = record {
   range = b.range;
   classes = classes;
   select = b.select;
-  order = [];
-  used = b.select ++ columns_in_all (conds_of b.where_all);
+  order = b.order;
+  used = named_in b.select b.where_all b.order;
   where_all = b.where_all;
   window = None;
 }
@@ -103,17 +109,18 @@ abbrev pub source_range : Option TableNo → Source → Result Range Fault
 source_range None source = Err (fault_at S2 source.table.token)
 source_range (Some table) source = Ok ((table, alias_or source.alias source.table) ∷ [])
 
--- WHERE, then the list, over the relations after FROM, then the limits
-abbrev pub bound_over : Contents → Token → List Item → Where → Range → Result Bound Fault
-bound_over c start items condition range =
+-- WHERE, then the list, then ORDER BY, over the relations after FROM, then the limits
+abbrev pub bound_over : Contents → Token → List Item → Where → OrderBy → Range → Result Bound Fault
+bound_over c start items condition order range =
     next (conjuncts_written (scope_of c range) (type_in c range) condition) (λ conjuncts.
     next (list_columns (scope_of c range) items) (λ columns.
-    limited start (past_limit conjuncts) (record { range = range; select = columns; where_all = conjuncts })))
+    next (order_items (scope_of c range) columns order) (λ ordered.
+    limited start (past_limit conjuncts) (record { range = range; select = columns; where_all = conjuncts; order = ordered }))))
 
 -- what is written in a statement that begins at this token means
 abbrev pub bound_written : Contents → Token → Written → Result Bound Fault
-bound_written c start w = next (source_range (table_named c w.source.table.bytes) w.source) (bound_over c start w.items w.condition)
+bound_written c start w = next (source_range (table_named c w.source.table.bytes) w.source) (bound_over c start w.items w.condition w.order)
 
--- what a SELECT in a statement that begins at this token means
-abbrev pub bound : Contents → Token → Select → Result Bound Fault
-bound c start q = bound_written c start (written_of q)
+-- what a SELECT with its order means, in a statement that begins at this token
+abbrev pub bound : Contents → Token → OrderedSelect → Result Bound Fault
+bound c start (ordered_select _ q y _) = bound_written c start (written_of q y)

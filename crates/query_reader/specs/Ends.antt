@@ -1,8 +1,9 @@
 -- What stands behind a part of a SELECT: by these words its reading knows where it ends (own).
 use Rattle.std.specs.Prelude.{List, ◌∷◌, Bool, true, false, not, ◌&&◌}
-use Rattle.sql_grammar.specs.Terminals.{Terminal, t_key, t_mark, t_name}
+use Rattle.sql_grammar.specs.Terminals.{Terminal, free, t_key, t_mark, t_name, t_semicolon, t_end}
 use Rattle.sql_grammar.specs.Unique.{ends_expr}
-use Rattle.sql_grammar.specs.declared.class.Word.TheVariants.{As, Where}
+use Rattle.sql_grammar.specs.declared.class.Word.TheVariants.{As, Asc, Desc, Where}
+use Rattle.sql_grammar.specs.declared.class.Free.TheVariants.{Nulls}
 use Rattle.sql_grammar.specs.declared.class.Symbol.TheVariants.{Dot}
 
 -- no `.` stands next
@@ -24,3 +25,17 @@ begins_where _ = false
 -- neither WHERE stands next nor a word that goes on an expression
 abbrev pub ends_where : List Terminal → Bool
 ends_where ts = not (begins_where ts) && ends_expr ts
+
+-- no word that goes on an item of ORDER BY stands next: no dot, ASC, DESC or `nulls`
+abbrev pub ends_ordering : List Terminal → Bool
+ends_ordering (t_mark Dot _ ∷ _) = false
+ends_ordering (t_key Asc _ ∷ _) = false
+ends_ordering (t_key Desc _ ∷ _) = false
+ends_ordering (t_name (free Nulls _) ∷ _) = false
+ends_ordering _ = true
+
+-- the word that ends a statement stands next
+abbrev pub ends_order : List Terminal → Bool
+ends_order (t_semicolon _ ∷ _) = true
+ends_order (t_end _ ∷ _) = true
+ends_order _ = false

@@ -3,6 +3,7 @@ pub mod Ends
 pub mod Scope
 pub mod Conveys
 pub mod Named
+pub mod Order
 pub mod Binding
 pub mod Adds
 pub mod Select

@@ -3,29 +3,29 @@
 ghost use Rattle.std.specs.Prelude.{◌≡◌, ◌++◌, ℕ, List, [], ◌∷◌, length, Ok, Err, Some, None, true, IfOk, MatchOption, MatchResult, map};
 ghost use Rattle.pg_base.specs.Names.{IsName};
 ghost use Rattle.pg_base.specs.declared.faults.Code.TheVariants.{S2};
-ghost use Rattle.pg_expr.specs.Cond.{conds_of};
-ghost use Rattle.pg_expr.specs.View.{cond, conds};
+ghost use Rattle.pg_expr.specs.View.{cond};
 ghost use Rattle.catalog.specs.Contents.{IsTable, IsLawfulTable, table_at};
 ghost use Rattle.catalog.specs.Tables.{table_named};
 ghost use Rattle.sql_grammar.specs.Faults.{fault_at as fault_at_token};
-ghost use Rattle.sql_grammar.specs.Syntax.{Where};
+ghost use Rattle.sql_grammar.specs.Syntax.{Where, OrderBy};
 ghost use Rattle.sql_grammar.specs.Terminals.{Terminal};
-ghost use Rattle.sql_grammar.specs.Words.{words_of_where};
+ghost use Rattle.sql_grammar.specs.Words.{words_of_where, words_of_order};
 ghost use Rattle.expr_reader.specs.Conditions.{next, the_column};
 ghost use Rattle.sql_query.specs.WellBound.{IsWellBound};
 ghost use Rattle.query_reader.specs.Adds.{Adds, AddsAll};
-ghost use Rattle.query_reader.specs.Binding.{alias_or, alone, bound_over, bound_written, item_columns, list_columns};
-ghost use Rattle.query_reader.specs.Ends.{ends_where};
-ghost use Rattle.query_reader.specs.Named.{columns_in_all};
+ghost use Rattle.query_reader.specs.Binding.{alias_or, alone, bound_over, bound_written, item_columns, list_columns, named_in};
+ghost use Rattle.query_reader.specs.Ends.{ends_order};
 ghost use Rattle.query_reader.specs.Scope.{scope_of};
 ghost use Rattle.query_reader.specs.Select.{IsReadAs};
 
 use crate::conditions::{classes_within, written_conjuncts};
 use crate::named;
+use crate::order::order_by;
 use crate::relation::Relation;
 use crate::written::{Item, Query, Source};
 use catalog::{Catalog, RangeTable};
-use expr_reader::{Found, Scope};
+use eq_classes::OrderItem;
+use expr_reader::{Found, Scope, found_column};
 use pg_base::{Code, Fault, Memory, Refusal, TableNo};
 use pg_expr::{ColRef, Expr};
 use pg_value::Bytes;
@@ -45,18 +45,6 @@ fn table_of(cat: &Catalog, name: &Spelled) -> Result<TableNo, Fault>
     match cat.table(name.bytes.items()) {
         Some(number) => Ok(number),
         None => Err(fault_at(Code::S2, name.token)),
-    }
-}
-
-/// The column that was found, or its fault: an unknown qualifier is at fault itself, and else the name.
-fn found_column(found: Found, qualifier: Token, name: Token) -> Result<ColRef, Fault>
-    ensures { result ≡ the_column found qualifier name }
-{
-    match found {
-        Found::One(column) => Ok(column),
-        Found::NoTable => Err(fault_at(Code::S2, qualifier)),
-        Found::NoColumn => Err(fault_at(Code::S3, name)),
-        Found::Many => Err(fault_at(Code::S4, name)),
     }
 }
 
@@ -101,17 +89,35 @@ fn add_items(relation: &Relation, items: &[Item], all: &mut Vec<ColRef>) -> Resu
     Ok(())
 }
 
-/// Every column that is named: those shown, then those of the conjuncts.
-fn used_columns(alloc: Global, select: &[ColRef], written: &[Expr]) -> Result<Vec<ColRef>, Memory>
-    ensures { IfOk result (λ xs. xs.items ≡ select.now ++ columns_in_all (conds written.now)) }
+/// The columns of an order.
+fn order_columns(alloc: Global, order: &[OrderItem]) -> Result<Vec<ColRef>, Memory>
+    ensures { IfOk result (λ xs. xs.items ≡ map (λ (i : OrderItem). i.col) order.now) }
+{
+    let mut all = Vec::new(alloc);
+    for item in order {
+        all.push(item.col)?;
+    }
+    Ok(all)
+}
+
+/// Every column that is named: those shown, then those of the conjuncts, then those of ORDER BY.
+fn used_columns(
+    alloc: Global,
+    select: &[ColRef],
+    written: &[Expr],
+    order: &[OrderItem],
+) -> Result<Vec<ColRef>, Memory>
+    ensures { IfOk result (λ xs. xs.items ≡ named_in select.now (map cond written.now) order.now) }
 {
     let mut used = Vec::from_slice(alloc, select)?;
     let mut more = named::columns_in_all(alloc, written)?;
+    let mut last = order_columns(alloc, order)?;
+    more.append(&mut last)?;
     used.append(&mut more)?;
     Ok(used)
 }
 
-/// The query over the table under this alias: WHERE, then the items, then the limits.
+/// The query over the table under this alias: WHERE, then the items, then ORDER BY, then the limits.
 fn over(
     alloc: Global,
     cat: &Catalog,
@@ -124,8 +130,9 @@ fn over(
     requires table { IsTable cat.now table }
     requires lawful { IsLawfulTable (table_at cat.now table) }
     requires name { IsName alias }
-    requires words { (w : Where) × (rest : List Terminal) × (ends_where rest ≡ true) × (from.old ≡ words_of_where w ++ rest) }
-    ensures meaning { (w : Where) (rest : List Terminal) → ends_where rest ≡ true → from.old ≡ words_of_where w ++ rest → IsReadAs (bound_over cat.now start items.now w ((table, alias) ∷ [])) result }
+    requires words { (w : Where) × (y : OrderBy) × (rest : List Terminal) × (ends_order rest ≡ true) × (from.old ≡ words_of_where w ++ (words_of_order y ++ rest)) }
+    ensures meaning { (w : Where) (y : OrderBy) (rest : List Terminal) → ends_order rest ≡ true → from.old ≡ words_of_where w ++ (words_of_order y ++ rest) →
+        IsReadAs (bound_over cat.now start items.now w y ((table, alias) ∷ [])) result }
     ensures well_bound { IfOk result (IsWellBound cat.now) }
     ensures one { IfOk result (λ q. length q.range ≡ 1) }
 {
@@ -133,8 +140,9 @@ fn over(
     let written = written_conjuncts(alloc, &relation, from)?;
     let mut select = Vec::new(alloc);
     add_items(&relation, items, &mut select)?;
-    let classes = classes_within(alloc, &relation, written.items(), start)?;
-    let used = used_columns(alloc, &select, written.items())?;
+    let order = order_by(alloc, &relation, from)?;
+    let classes = classes_within(alloc, &relation, written.items(), &order, start)?;
+    let used = used_columns(alloc, &select, written.items(), &order)?;
     drop(relation);
     let mut relations = Vec::new(alloc);
     relations.push((table, alias))?;
@@ -142,7 +150,7 @@ fn over(
         range: RangeTable::from_vec(relations),
         classes,
         select: ColList::from_vec(select),
-        order: OrderList::from_vec(Vec::new(alloc)),
+        order: OrderList::from_vec(order),
         used: ColList::from_vec(used),
         where_all: written,
     })
@@ -164,8 +172,8 @@ fn alias_of(table: Spelled, alias: Option<Spelled>) -> Bytes
     }
 }
 
-/// The query that a SELECT means, or its first fault of binding: its items and its source, with its WHERE next, in a
-/// statement that begins at this token.
+/// The query that a SELECT means, or its first fault of binding: its items and its source, with its WHERE and its ORDER BY
+/// next, in a statement that begins at this token.
 pub fn bind(
     alloc: Global,
     cat: &Catalog,
@@ -174,9 +182,9 @@ pub fn bind(
     from: &mut Cursor,
 ) -> Result<Prepared, Refusal>
     requires alias { MatchOption query.source.alias (Unit {0}) (λ a. IsName a.bytes) }
-    requires words { (w : Where) × (rest : List Terminal) × (ends_where rest ≡ true) × (from.old ≡ words_of_where w ++ rest) }
-    ensures meaning { (w : Where) (rest : List Terminal) → ends_where rest ≡ true → from.old ≡ words_of_where w ++ rest →
-        IsReadAs (bound_written cat.now start (record { items = query.items.items; source = query.source; condition = w })) result }
+    requires words { (w : Where) × (y : OrderBy) × (rest : List Terminal) × (ends_order rest ≡ true) × (from.old ≡ words_of_where w ++ (words_of_order y ++ rest)) }
+    ensures meaning { (w : Where) (y : OrderBy) (rest : List Terminal) → ends_order rest ≡ true → from.old ≡ words_of_where w ++ (words_of_order y ++ rest) →
+        IsReadAs (bound_written cat.now start (record { items = query.items.items; source = query.source; condition = w; order = y })) result }
     ensures well_bound { IfOk result (IsWellBound cat.now) }
     ensures one { IfOk result (λ q. length q.range ≡ 1) }
 {

@@ -1,6 +1,6 @@
 //! The conjuncts of WHERE, and their classes.
 
-ghost use Rattle.std.specs.Prelude.{◌≡◌, ◌≤◌, ◌-◌, ◌^◌, ◌++◌, [], List, All, IfOk, length, map, min, true, IsTrue};
+ghost use Rattle.std.specs.Prelude.{◌≡◌, ◌≤◌, ◌-◌, ◌^◌, ◌++◌, List, All, IfOk, length, map, min, true, IsTrue};
 ghost use Rattle.pg_expr.specs.Columns.{atom_count_of};
 ghost use Rattle.pg_expr.specs.View.{cond, conds};
 ghost use Rattle.catalog.specs.Range.{type_in};
@@ -18,7 +18,7 @@ ghost use Rattle.query_reader.specs.Scope.{scope_of};
 ghost use Rattle.query_reader.specs.Conveys.{Conveys};
 
 use crate::relation::Relation;
-use eq_classes::Classes;
+use eq_classes::{Classes, OrderItem};
 use expr_reader::take_expr;
 use pg_base::{Code, Limit, MOST_ATOMS, MOST_CONJUNCTS, Memory, Refusal};
 use pg_expr::{Expr, Exprs, conjuncts, ops, push_not};
@@ -84,20 +84,22 @@ fn past_limit(written: &[Expr], pushed: &[Expr]) -> Option<Limit>
     None
 }
 
-/// The classes of conjuncts as written and of no ORDER BY, or the limit that is passed, at the statement's first token.
+/// The classes of conjuncts as written and of an order, or the limit that is passed, at the statement's first token.
 pub fn classes_within(
     alloc: Global,
     relation: &Relation,
     written: &[Expr],
+    order: &[OrderItem],
     start: Token,
 ) -> Result<Classes, Refusal>
     requires over { All (IsOver relation.now.contents relation.now.range) (map cond written.now) }
+    requires order { All (λ (i : OrderItem). IsTrue (is_column relation.now.contents relation.now.range i.col)) order.now }
     requires few { length relation.now.range ≤ 16 }
-    ensures { Conveys (λ ws t. IsTable (record { conjuncts = conjuncts_in ws; order = []; type_of = type_in relation.now.contents relation.now.range }) t) (limited start (past_limit (map cond written.now)) (map cond written.now)) result }
+    ensures { Conveys (λ ws t. IsTable (record { conjuncts = conjuncts_in ws; order = order.now; type_of = type_in relation.now.contents relation.now.range }) t) (limited start (past_limit (map cond written.now)) (map cond written.now)) result }
 {
     let pushed = pushed_conjuncts(alloc, written)?;
     if let Some(limit) = past_limit(written, pushed.items()) {
         return Err(Refusal::Fault(fault_at(Code::S15(limit), start)));
     }
-    Ok(Classes::build(alloc, pushed, &[], relation)?)
+    Ok(Classes::build(alloc, pushed, order, relation)?)
 }

@@ -3,7 +3,9 @@
 
 mod bind;
 mod conditions;
+mod laws;
 mod named;
+mod order;
 mod read;
 mod relation;
 mod select;
@@ -11,4 +13,5 @@ mod select;
 mod tests;
 mod written;
 
-pub use select::read_select;
+pub use laws::selects_are_no_other;
+pub use select::{explains, read_select};

@@ -2,7 +2,8 @@
 
 ghost use Rattle.std.specs.Prelude.{◌≡◌, ◌∷◌, [], ℕ, List, Ok, Err, MatchResult, None, Some};
 ghost use Rattle.catalog.specs.Contents.{IsTable, IsLawfulTable, table_at};
-ghost use Rattle.expr_reader.specs.Scope.{columns_of, look_up, under};
+ghost use Rattle.expr_reader.specs.Scope.{columns_of, look_up, of_name, the_one, under};
+ghost use Rattle.expr_reader.specs.declared.found.Found.TheVariants.{Many};
 ghost use Rattle.query_reader.specs.Adds.{Adds};
 ghost use Rattle.query_reader.specs.Binding.{found_relation};
 ghost use Rattle.query_reader.specs.Scope.{scope_of};
@@ -113,6 +114,13 @@ impl<'a> Relation<'a> {
             alias,
             null: Value::Null,
         }
+    }
+
+    /// No name is that of two columns.
+    pub fn has_names_once(&self)
+        ensures { (name : List ℕ) → ¬ (the_one (of_name name (scope_of self.now.contents self.now.range)) ≡ Many) }
+    {
+        let _ = &self.cat;
     }
 
     /// What a name means without a qualifier.

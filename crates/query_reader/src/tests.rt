@@ -1,15 +1,22 @@
 //! Selects over two tables: what they are read as, and where they are refused. The places were found by a planner written
 //! apart from this one.
 
-ghost use Rattle.std.specs.Prelude.{◌≡◌, ◌≤◌, ◌^◌, ◌∷◌, [], length, true, IfOk};
+ghost use Rattle.std.specs.Prelude.{◌≡◌, ◌≤◌, ◌^◌, ◌∷◌, [], ℕ, length, true, IfOk};
 ghost use Rattle.pg_base.specs.Names.{begins_name};
+ghost use Rattle.sql_lex.specs.Words.{AreWords};
+ghost use Rattle.sql_grammar.specs.Faults.{terminals};
+ghost use Rattle.query_reader.specs.Select.{begins_query};
 
-use crate::read_select;
+use crate::{explains, read_select, selects_are_no_other};
 use catalog::{Catalog, CatalogFault};
+use eq_classes::OrderItem;
+use fixtures::{columns, name, names};
 use pg_base::{Code, Fault, Limit, Memory, Refusal, RelNo, TableNo};
 use pg_expr::ColRef;
-use pg_value::{Bytes, Column, Columns, SqlType};
-use sql_lex::lex_statement;
+use pg_value::SqlType;
+use sql_cursor::Cursor;
+use sql_grammar::Word;
+use sql_lex::{Tokens, lex_statement};
 use sql_query::Prepared;
 use std::alloc::Global;
 
@@ -100,8 +107,37 @@ const RIGHT: [(&[u8], u8, &[u8], &[u8], &[u8], usize, usize); 10] = [
     ),
 ];
 
+/// Ordered selects, the items of their order and the columns that they name.
+const ORDERED: [(&[u8], &[(u8, bool, bool)], &[u8]); 3] = [
+    (
+        b"SELECT a FROM t ORDER BY b;",
+        &[(1, false, false)],
+        &[0, 1],
+    ),
+    (
+        b"EXPLAIN SELECT b FROM t u WHERE a = 1 ORDER BY u.a DESC, B ASC NULLS FIRST",
+        &[(0, true, true), (1, false, true)],
+        &[1, 0, 0, 1],
+    ),
+    (
+        b"select * from t order by t.a nulls last, a desc nulls last;",
+        &[(0, false, false), (0, true, false)],
+        &[0, 1, 0, 0],
+    ),
+];
+
 /// Selects, the fault that refuses them and the place of its word.
-const WRONG: [(&[u8], Code, u32, u32); 31] = [
+const WRONG: [(&[u8], Code, u32, u32); 35] = [
+    (b"SELECT a FROM t ORDER BY a, zz;", Code::S3, 28, 30),
+    (b"SELECT a FROM t u ORDER BY t.a;", Code::S2, 27, 28),
+    (b"SELECT zz FROM t ORDER BY yy;", Code::S3, 7, 9),
+    (
+        b"EXPLAIN SELECT a FROM t ORDER BY zz DESC ASC;",
+        Code::S1,
+        41,
+        41,
+    ),
+    (b"EXPLAIN COPY t;", Code::S1, 8, 8),
     (b"SELECT zz FROM nope;", Code::S2, 15, 19),
     (b"SELECT zz FROM t;", Code::S3, 7, 9),
     (b"SELECT nope.a FROM t;", Code::S2, 7, 11),
@@ -119,7 +155,6 @@ const WRONG: [(&[u8], Code, u32, u32); 31] = [
     (b"SELECT a FROM t u v;", Code::S1, 18, 18),
     (b"SELECT a, FROM t;", Code::S1, 10, 10),
     (b"SELECT zz FROM t as select;", Code::S1, 20, 20),
-    (b"CREATE TABLE t (a int4);", Code::S1, 0, 0),
     (
         b"SELECT zz FROM t aaaaaaaaaaaaaaaaaaaaaaaaaaaaaaaaaaaaaaaaaaaaaaaaaaaaaaaaaaaaaaaa;",
         Code::S15(Limit::Name),
@@ -151,7 +186,14 @@ const WRONG: [(&[u8], Code, u32, u32); 31] = [
 ];
 
 /// Selects of so many parts, and the limit that they are past.
-const LONG: [(&[u8], &[u8], &[u8], usize, Option<Limit>); 8] = [
+const LONG: [(&[u8], &[u8], &[u8], usize, Option<Limit>); 9] = [
+    (
+        b"EXPLAIN SELECT a FROM t WHERE a < 1",
+        b" AND a < 1",
+        b" ORDER BY a;",
+        32,
+        Some(Limit::Conjuncts),
+    ),
     (
         b"SELECT a FROM t WHERE a < 1",
         b" AND a < 1",
@@ -210,36 +252,6 @@ const LONG: [(&[u8], &[u8], &[u8], usize, Option<Limit>); 8] = [
     ),
 ];
 
-fn name(alloc: Global, letter: u8) -> Result<Bytes, Memory>
-    ensures { IfOk result (λ b. b ≡ letter ∷ []) }
-{
-    let mut bytes = Vec::new(alloc);
-    bytes.push(letter)?;
-    Ok(Bytes::from_vec(bytes))
-}
-
-fn pair(alloc: Global, first: u8, second: u8) -> Result<Vec<Bytes>, Memory>
-    ensures { IfOk result (λ v. v.items ≡ (first ∷ []) ∷ (second ∷ []) ∷ []) }
-{
-    let mut names = Vec::new(alloc);
-    names.push(name(alloc, first)?)?;
-    names.push(name(alloc, second)?)?;
-    Ok(names)
-}
-
-fn two_columns(alloc: Global) -> Result<Columns, Memory>
-    ensures { IfOk result (λ c. length c ≡ 2) }
-{
-    let column = Column {
-        typed: SqlType::Int4,
-        not_null: false,
-    };
-    let mut columns = Vec::new(alloc);
-    columns.push(column)?;
-    columns.push(column)?;
-    Ok(Columns::from_vec(columns))
-}
-
 fn add(
     catalog: &mut Catalog,
     alloc: Global,
@@ -251,8 +263,12 @@ fn add(
     requires first { begins_name first ≡ true }
     requires second { begins_name second ≡ true }
 {
-    let names = pair(alloc, first, second)?;
-    catalog.add_table(name(alloc, table)?, names, two_columns(alloc)?)
+    let names = names(alloc, &[first, second])?;
+    catalog.add_table(
+        name(alloc, table)?,
+        names,
+        columns(alloc, &[SqlType::Int4, SqlType::Int4])?,
+    )
 }
 
 /// The tables t, of a and b, and s, of c and d.
@@ -263,12 +279,30 @@ fn two_tables(alloc: Global) -> Result<Catalog, CatalogFault> {
     Ok(catalog)
 }
 
+/// Whether SELECT or EXPLAIN is the first word.
+fn begins(text: &[u8], tokens: &Tokens) -> bool
+    requires short { length text.now ≤ 2 ^ 31 }
+    requires words { (from : ℕ) × AreWords text.now from tokens.now }
+    ensures { result ≡ true → begins_query (terminals text.now tokens.now) ≡ true }
+{
+    let mut from = Cursor::new(text, tokens, 0);
+    if from.takes(Word::Select) {
+        return true;
+    }
+    explains(text, tokens)
+}
+
 /// The SELECT at the text's beginning.
 fn reading(alloc: Global, catalog: &Catalog, text: &[u8]) -> Result<Prepared, Refusal>
     requires { length text.now ≤ 2 ^ 31 }
 {
     let tokens = lex_statement(alloc, text, 0)?;
-    read_select(alloc, catalog, text, &tokens, 0)
+    selects_are_no_other();
+    let first = if explains(text, &tokens) { 1 } else { 0 };
+    if !begins(text, &tokens) || tokens.items().len() < 2 {
+        return Err(Refusal::Memory);
+    }
+    read_select(alloc, catalog, text, &tokens, first)
 }
 
 fn are_columns(columns: &[ColRef], numbers: &[u8]) -> bool {
@@ -333,6 +367,28 @@ fn reads_selects(rt: HostRuntime) {
     }
 }
 
+fn are_items(items: &[OrderItem], wanted: &[(u8, bool, bool)]) -> bool {
+    let mut same = items.len() == wanted.len();
+    for (item, (col, descending, nulls_first)) in items.iter().zip(wanted) {
+        same = same
+            && item.col.col.0 == *col
+            && item.descending == *descending
+            && item.nulls_first == *nulls_first;
+    }
+    same
+}
+
+#[test]
+fn reads_orders(rt: HostRuntime) {
+    let catalog = two_tables(rt.alloc()).expect(&rt, "tables");
+    for (text, items, used) in ORDERED {
+        assert!(rt; text.len() < 100);
+        let query = reading(rt.alloc(), &catalog, text).expect(&rt, "a query");
+        assert!(rt; are_items(query.order.items(), items));
+        assert!(rt; are_columns(query.used.items(), used));
+    }
+}
+
 #[test]
 fn refuses_at_the_first_fault(rt: HostRuntime) {
     let catalog = two_tables(rt.alloc()).expect(&rt, "tables");
@@ -356,7 +412,8 @@ fn limits_stand_at_the_first_word(rt: HostRuntime) {
         let found = told(reading(rt.alloc(), &catalog, &text));
         match limit {
             Some(limit) => {
-                let fault = fault_of(Code::S15(limit), 0, 6);
+                let end = if head.first() == Some(&b'E') { 7 } else { 6 };
+                let fault = fault_of(Code::S15(limit), 0, end);
                 assert_eq!(rt; found, Some(Refusal::Fault(fault)));
             }
             None => assert_eq!(rt; found, None),

@@ -5,6 +5,7 @@ use Rattle.sql_grammar.specs.Terminals.{free, t_key, t_name}
 use Rattle.sql_grammar.specs.Words.{words_of, words_of_ending}
 use Rattle.sql_grammar.specs.Faults.{terminals}
 use Rattle.sql_cursor.specs.Reading.{BeginsNot}
+use Rattle.ddl_reader.specs.Statements.{begins_ddl}
 use Rattle.ddl_reader.proofs.StatementLemmas.{creates, loads, describes, table-as, statistics-as, data-as}
 use Rattle.ddl_reader.proofs.read.statement.Goals as goal
 
@@ -12,13 +13,13 @@ pub table-requires : goal.table-requires
 table-requires c =
     let (x, is) = c.requires.tree in
     let (token, took) = c.if-takes.ensures.took refl in
-    let t = creates x token c.takes.new.self (is ∙ (sym c.new-from.ensures ∙ took)) in
+    let t = creates x token c.takes.new.self (ap begins_ddl is ∙ c.requires.opens) (is ∙ (sym c.new-from.ensures ∙ took)) in
     (t.name, t.opening, t.column, t.columns, t.closing, words_of_ending t.ending, c.skip.ensures ∙ t.words)
 
 pub returns-then-takes : goal.returns-then-takes
 returns-then-takes c = λ x is.
     let (token, took) = c.if-takes.ensures.took refl in
-    let t = creates x token c.takes.new.self (is ∙ (sym c.new-from.ensures ∙ took)) in
+    let t = creates x token c.takes.new.self (ap begins_ddl is ∙ c.requires.opens) (is ∙ (sym c.new-from.ensures ∙ took)) in
     table-as c.args.cat.now c.args.text.now x c.takes.new.self c.table.result t
     (c.table.ensures t.name t.opening t.column t.columns t.closing (words_of_ending t.ending) (c.skip.ensures ∙ t.words))
 

@@ -1,0 +1,98 @@
+//! The key columns.
+
+ghost use Rattle.std.specs.Prelude.{◌≡◌, ◌≤◌, ◌++◌, List, length, true, OnOk, Vec};
+ghost use Rattle.std.specs.declared.alloc.Global.{Global};
+ghost use Rattle.sql_grammar.specs.Terminals.{Terminal, Ident};
+ghost use Rattle.sql_grammar.specs.Syntax.{Mark, Direction, NullsEnd, OpClass as ClassTree, IndexKey as KeyTree, index_key};
+ghost use Rattle.sql_grammar.specs.Words.{words_of_key};
+ghost use Rattle.catalog.specs.Contents.{IsTable, IsColumn, table_at};
+ghost use Rattle.catalog.specs.Indexes.{type_at};
+ghost use Rattle.expr_reader.specs.Reads.{Reads};
+ghost use Rattle.sql_cursor.specs.Lists.{bound_each};
+ghost use Rattle.index_reader.specs.Keys.{key_bound, keys_of};
+ghost use Rattle.index_reader.specs.Reads.{ends_key, words_of_keys_left};
+ghost use Rattle.index_reader.specs.declared.keys.KeyRead.{KeyRead};
+
+use crate::classes::op_class;
+use crate::names::column_of;
+use catalog::Catalog;
+use opfamily::{IndexKey, Method};
+use pg_base::{ColNo, Refusal, TableNo};
+use pg_value::SqlType;
+use sql_cursor::{Cursor, descending, nulls_first};
+use sql_grammar::Symbol;
+use sql_lex::Token;
+use std::alloc::Global;
+
+/// A key column, and the token of its name.
+#[derive(Clone, Copy, Debug, PartialEq, Eq)]
+pub struct KeyRead {
+    /// The key.
+    pub key: IndexKey,
+    /// Where the column's name stands.
+    pub token: Token,
+}
+
+/// The type of a column of a table.
+fn type_of(cat: &Catalog, table: TableNo, col: ColNo) -> SqlType
+    requires table { IsTable cat.now table }
+    requires column { IsColumn cat.now table col }
+    ensures { result ≡ type_at (table_at cat.now table).columns col }
+{
+    cat.columns(table).items()[col.0 as usize].typed
+}
+
+/// The key column that is next: its name is bound (42703), then its operator class (42704, 42804).
+fn one_key(
+    alloc: Global,
+    cat: &Catalog,
+    table: TableNo,
+    method: Method,
+    from: &mut Cursor,
+) -> Result<KeyRead, Refusal>
+    requires there { IsTable cat.now table }
+    requires words { (n : Ident) × (c : ClassTree) × (d : Direction) × (z : NullsEnd) × (rest : List Terminal) × (ends_key rest ≡ true) × (from.old ≡ words_of_key (index_key n c d z) ++ rest) }
+    ensures read { (n : Ident) (c : ClassTree) (d : Direction) (z : NullsEnd) (rest : List Terminal) → ends_key rest ≡ true → from.old ≡ words_of_key (index_key n c d z) ++ rest →
+        Reads (λ k. k) (key_bound cat.now table method (index_key n c d z)) rest result from.new }
+    ensures ahead { OnOk result (length from.new ≤ length from.old) }
+{
+    let name = from.expect_name(alloc)?;
+    let col = column_of(cat, table, &name)?;
+    let class = op_class(alloc, method, type_of(cat, table, col), from)?;
+    let descending = descending(from);
+    let nulls_first = nulls_first(from, descending);
+    let key = IndexKey {
+        col,
+        class,
+        descending,
+        nulls_first,
+    };
+    Ok(KeyRead {
+        key,
+        token: name.token,
+    })
+}
+
+/// The key columns up to `)`, which is taken.
+pub fn keys(
+    alloc: Global,
+    cat: &Catalog,
+    table: TableNo,
+    method: Method,
+    from: &mut Cursor,
+) -> Result<Vec<KeyRead>, Refusal>
+    requires there { IsTable cat.now table }
+    requires words { (x : KeyTree) × (xs : List (Mark × KeyTree)) × (m : Mark) × (rest : List Terminal) × (from.old ≡ words_of_keys_left x xs m rest) }
+    ensures { (x : KeyTree) (xs : List (Mark × KeyTree)) (m : Mark) (rest : List Terminal) → from.old ≡ words_of_keys_left x xs m rest →
+        Reads (λ (v : Vec KeyRead Global). v.items) (bound_each (key_bound cat.now table method) (keys_of x xs)) rest result from.new }
+{
+    let mut all = Vec::new(alloc);
+    let first = one_key(alloc, cat, table, method, from)?;
+    all.push(first)?;
+    'more: while from.takes_mark(Symbol::Comma) {
+        let next = one_key(alloc, cat, table, method, from)?;
+        all.push(next)?;
+    }
+    from.skip(1);
+    Ok(all)
+}

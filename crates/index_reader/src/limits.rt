@@ -1,0 +1,55 @@
+//! The limits of an index.
+
+ghost use Rattle.std.specs.Prelude.{◌≡◌, List, drop, map, option_map, cond as when, Ok, Err, IfOk};
+ghost use Rattle.pg_base.specs.declared.faults.Code.TheVariants.{S15};
+ghost use Rattle.pg_base.specs.declared.faults.Limit.TheVariants.{Atoms};
+ghost use Rattle.pg_base.specs.declared.limits.TheConstants.{MOST_COLUMNS};
+ghost use Rattle.pg_expr.specs.View.{cond};
+ghost use Rattle.sql_grammar.specs.Faults.{fault_at as fault_at_token};
+ghost use Rattle.index_reader.specs.Meaning.{has_many_atoms, limited, name_tokens};
+
+use crate::keys::KeyRead;
+use crate::names::NamedColumn;
+use pg_base::{Code, Fault, Limit, MOST_ATOMS, MOST_COLUMNS, Memory};
+use pg_expr::{Expr, ops};
+use sql_grammar::fault_at;
+use sql_lex::Token;
+use std::alloc::Global;
+
+/// The tokens of the columns' names, in order.
+pub fn name_tokens_of(
+    alloc: Global,
+    keys: &[KeyRead],
+    names: &[NamedColumn],
+) -> Result<Vec<Token>, Memory>
+    ensures { IfOk result (λ v. v.items ≡ name_tokens keys.now names.now) }
+{
+    let mut all = Vec::new(alloc);
+    for key in keys {
+        all.push(key.token)?;
+    }
+    for name in names {
+        all.push(name.token)?;
+    }
+    Ok(all)
+}
+
+/// The limit of columns (54000): the first name too many is at fault.
+pub fn check_columns(names: &[Token]) -> Result<(), Fault>
+    ensures { result ≡ limited (drop MOST_COLUMNS names.now) (Ok tt) }
+{
+    if names.len() > MOST_COLUMNS {
+        return Err(fault_at(Code::S15(Limit::Columns), names[MOST_COLUMNS]));
+    }
+    Ok(())
+}
+
+/// The limit of atoms (54000), at the statement's first token.
+pub fn check_atoms(start: Token, predicate: &Option<Expr>) -> Result<(), Fault>
+    ensures { result ≡ when (has_many_atoms (option_map cond predicate.now)) (Err (fault_at_token (S15 Atoms) start)) (Ok tt) }
+{
+    match predicate {
+        Some(e) if ops(e) > MOST_ATOMS as u64 => Err(fault_at(Code::S15(Limit::Atoms), start)),
+        _ => Ok(()),
+    }
+}

@@ -1,0 +1,71 @@
+//! Reading a statement for CREATE INDEX.
+
+ghost use Rattle.std.specs.Prelude.{◌≡◌, ◌^◌, ◌≤◌, ℕ, [], length, true, IfOk, IfErr, Ok};
+ghost use Rattle.sql_lex.specs.Words.{AreWords};
+ghost use Rattle.sql_grammar.specs.Faults.{terminals};
+ghost use Rattle.sql_grammar.specs.Syntax.{CreateIndex};
+ghost use Rattle.sql_grammar.specs.Words.{words_of_index};
+ghost use Rattle.expr_reader.specs.Reads.{Reads};
+ghost use Rattle.ddl_reader.specs.Statements.{begins_index};
+ghost use Rattle.index_reader.specs.Meaning.{meaning};
+ghost use Rattle.index_reader.specs.Reads.{reading};
+ghost use Rattle.index_reader.specs.Soundness.{IsSound};
+ghost use Rattle.index_reader.specs.Statements.{IsMeaning, IsRefusal};
+
+use crate::index::{ReadIndex, index};
+use catalog::Catalog;
+use pg_base::Refusal;
+use sql_cursor::Cursor;
+use sql_grammar::statement_fault;
+use sql_lex::Tokens;
+use std::alloc::Global;
+
+/// The statement of these tokens, whose syntax has no fault.
+fn statement(
+    alloc: Global,
+    cat: &Catalog,
+    text: &[u8],
+    tokens: &Tokens,
+) -> Result<ReadIndex, Refusal>
+    requires short { length text.now ≤ 2 ^ 31 }
+    requires words { (from : ℕ) × AreWords text.now from tokens.now }
+    requires tree { (x : CreateIndex) × (words_of_index x ≡ terminals text.now tokens.now) }
+    ensures { (x : CreateIndex) → words_of_index x ≡ terminals text.now tokens.now → Reads reading (meaning cat.now x) [] result [] }
+{
+    let mut from = Cursor::new(text, tokens, 0);
+    index(alloc, cat, &mut from)
+}
+
+/// Reads the CREATE INDEX of these tokens: its value, bound to the catalogue, or its first fault.
+///
+/// Faults of syntax come first (42601, 54000). Then names bind from the left: an unknown table (42P01), an unknown access
+/// method (42704), then for each key column an unknown one (42703) and an operator class that is unknown or that the method
+/// has not (42704), or that does not accept the column's type (42804), each at its word; then an unknown column of INCLUDE
+/// (42703). Then the condition binds over the table's columns, which the table's name qualifies too, with the faults of
+/// `expr_reader::take_expr`. Then comes the limit of 16 columns (54000) at the first name too many, then that of 256 atoms of
+/// the condition (54000) at the statement's first word.
+///
+/// Without USING the method is btree; without an operator class it is that of the type's default family. DESC alone puts
+/// NULLs first, and otherwise they are last unless said. The condition is in pushed form, and its columns are those of
+/// relation 0. What the catalogue refuses is not asked here, but what is read may be handed to `Catalog::add_index`, and
+/// `at` has an offset for each place that it counts. The text has at most 2^31 bytes, and the tokens are the words of a
+/// statement from some offset of it, of which the first two are CREATE INDEX.
+pub fn read_index(
+    alloc: Global,
+    cat: &Catalog,
+    text: &[u8],
+    tokens: &Tokens,
+) -> Result<ReadIndex, Refusal>
+    requires short { length text.now ≤ 2 ^ 31 }
+    requires words { (from : ℕ) × AreWords text.now from tokens.now }
+    requires opens { begins_index (terminals text.now tokens.now) ≡ true }
+    ensures read { IfOk result (λ r. IsMeaning cat.now text.now tokens.now (Ok (reading r))) }
+    ensures sound { IfOk result (λ r. IsSound cat.now text.now (reading r)) }
+    ensures refused { IfErr result (IsRefusal cat.now text.now tokens.now) }
+{
+    cat.lawful();
+    match statement_fault(text, tokens, 0) {
+        Some(fault) => Err(Refusal::Fault(fault)),
+        None => statement(alloc, cat, text, tokens),
+    }
+}

@@ -1,0 +1,20 @@
+use Rattle.std.proofs.Common.{ap}
+use Rattle.std.proofs.lemmas.Result.{on_ok_weaker}
+use Rattle.plan_tree.specs.Views.{bits, plan}
+use Rattle.explain.proofs.ShownLemmas.{bitmap-lines, has-line, tree-indexes}
+use Rattle.explain.proofs.nodes.+put_plan.Goals as goal
+
+pub put_line-requires-clause-line : goal.put_line-requires-clause-line
+put_line-requires-clause-line t c = has-line c.args.cat.now c.args.q.now (plan c.args.p.now) c.requires.lines
+
+pub put_bits-requires : goal.put_bits-requires
+put_bits-requires t c =
+    let line = rw c.in-Bitmap.is at c.requires.lines in
+    record { tree = tree-indexes c.args.cat.now c.args.q.now c.in-Bitmap.rel.0 (bits c.in-Bitmap.bits) line.costable.1 }
+
+pub returns-in-Bitmap : goal.returns-in-Bitmap
+returns-in-Bitmap t c =
+    on_ok_weaker c.put_bits.result
+    (λ more. bitmap-lines c.args.cat.now c.args.q.now c.args.lead.now c.in_ok-below.below (plan c.args.p.now) c.in-Bitmap.rel c.in-Bitmap.param (bits c.in-Bitmap.bits) c.args.text.now.items
+    c.put_line.new.text.items c.put_bits.new.text.items (ap plan c.in-Bitmap.is) c.in_ok-below.ensures c.in_ok-put_line.ensures more)
+    c.put_bits.ensures

@@ -1,0 +1,214 @@
+//! Whole plans.
+
+ghost use Rattle.std.specs.Prelude.{◌≡◌, ◌<◌, ◌++◌, ℕ, All, IfOk, OnOk, length};
+ghost use Rattle.std.specs.String.{string_bytes};
+ghost use Rattle.catalog.specs.Contents.{IsIndex};
+ghost use Rattle.pathkeys.specs.Keys as keys;
+ghost use Rattle.plan_tree.specs.Costs as costs;
+ghost use Rattle.plan_tree.specs.Costable.{IsCostable};
+ghost use Rattle.plan_tree.specs.Least.{IsAdmissible};
+ghost use Rattle.plan_tree.specs.Plans as plans;
+ghost use Rattle.plan_tree.specs.Views.{path, plan};
+ghost use Rattle.sql_query.specs.Queries.{width};
+ghost use Rattle.sql_query.specs.WellBound.{IsWellBound};
+ghost use Rattle.explain.specs.Lines.{HasLine, HasLines, IsShown};
+ghost use Rattle.explain.specs.Texts as texts;
+ghost use Rattle.explain.specs.Texts.{backward_text, numbers_text, scan_name};
+
+use crate::bits::put_bits;
+use crate::keys::put_keys;
+use crate::lead::Lead;
+use crate::relations::{put_relation, put_scanned};
+use catalog::Catalog;
+use pathkeys::Keys;
+use pg_base::{IndexNo, Memory, RelNo, RelSet};
+use pg_value::Bytes;
+use plan_tree::{Path, Plan, cost, estimate, set_of};
+use sql_query::Prepared;
+use std::alloc::Global;
+
+/// The cost and the rows of a node.
+fn numbers(alloc: Global, total: u64, rows: u64) -> Result<String, Memory>
+    ensures { IfOk result (λ text. string_bytes text ≡ numbers_text total rows) }
+{
+    format!(in alloc; "  (cost={total} rows={rows})\n")
+}
+
+/// Appends what a plan costs in all, and its estimated rows.
+fn put_numbers(
+    alloc: Global,
+    text: &mut Vec<u8>,
+    cat: &Catalog,
+    q: &Prepared,
+    p: &Plan,
+) -> Result<(), Memory>
+    requires bound { IsWellBound cat.now q.now }
+    requires costable { IsCostable cat.now q.now (plan p.now) }
+    requires admissible { IsAdmissible cat.now q.now (plan p.now) }
+    ensures { OnOk result (text.new.items ≡ text.old.items ++ numbers_text (costs.cost cat.now q.now (plan p.now)).total (costs.estimate cat.now q.now (plan p.now))) }
+{
+    let total = cost(cat, q, p).total;
+    let rows = estimate(cat, q, p);
+    let numbers = numbers(alloc, total, rows)?;
+    text.extend_from_slice(numbers.as_bytes())
+}
+
+/// Appends what a scan by an index is.
+#[allow(clippy::too_many_arguments)]
+fn put_index(
+    text: &mut Vec<u8>,
+    cat: &Catalog,
+    q: &Prepared,
+    only: bool,
+    r: RelNo,
+    i: IndexNo,
+    backward: bool,
+    p: RelSet,
+) -> Result<(), Memory>
+    requires bound { IsWellBound cat.now q.now }
+    requires relation { r.0 < width q.now }
+    requires index { IsIndex cat.now i }
+    ensures { OnOk result (text.new.items ≡ text.old.items ++ texts.index_text cat.now q.now only r i backward p) }
+{
+    put_scan_name(text, only, backward)?;
+    text.extend_from_slice(b" using ")?;
+    text.extend_from_slice(cat.index_name(i))?;
+    text.extend_from_slice(b" on ")?;
+    put_scanned(text, cat, q, r, p)
+}
+
+/// Appends the kind of a scan by an index, and its direction.
+fn put_scan_name(text: &mut Vec<u8>, only: bool, backward: bool) -> Result<(), Memory>
+    ensures { OnOk result (text.new.items ≡ text.old.items ++ (scan_name only ++ backward_text backward)) }
+{
+    if only {
+        text.extend_from_slice(b"Index Only Scan")?;
+    } else {
+        text.extend_from_slice(b"Index Scan")?;
+    }
+    if backward {
+        text.extend_from_slice(b" Backward")?;
+    }
+    Ok(())
+}
+
+/// Appends the keys of a node, by their first members inside the relations of its plan.
+fn put_node_keys(
+    text: &mut Vec<u8>,
+    cat: &Catalog,
+    q: &Prepared,
+    p: &Plan,
+    keys: &Keys,
+) -> Result<(), Memory>
+    requires bound { IsWellBound cat.now q.now }
+    requires costable { IsCostable cat.now q.now (plan p.now) }
+    requires classes { All (λ n. n < length q.now.classes.classes) keys.now }
+    ensures { OnOk result (text.new.items ≡ text.old.items ++ texts.keys_text cat.now q.now (plans.set_of (plan p.now)) keys.now) }
+{
+    put_keys(text, cat, q, set_of(p), keys.items())
+}
+
+/// Appends what a node is.
+fn put_title(text: &mut Vec<u8>, cat: &Catalog, q: &Prepared, p: &Plan) -> Result<(), Memory>
+    requires bound { IsWellBound cat.now q.now }
+    requires line { HasLine cat.now q.now (plan p.now) }
+    ensures { OnOk result (text.new.items ≡ text.old.items ++ texts.title cat.now q.now (plan p.now)) }
+{
+    match p {
+        Plan::Seq { rel } => {
+            text.extend_from_slice(b"Seq Scan on ")?;
+            put_relation(text, cat, q, *rel)
+        }
+        Plan::Index {
+            rel,
+            index,
+            backward,
+            param,
+        } => put_index(text, cat, q, false, *rel, *index, *backward, *param),
+        Plan::IndexOnly {
+            rel,
+            index,
+            backward,
+            param,
+        } => put_index(text, cat, q, true, *rel, *index, *backward, *param),
+        Plan::Bitmap { rel, param, .. } => {
+            text.extend_from_slice(b"Bitmap Heap Scan on ")?;
+            put_scanned(text, cat, q, *rel, *param)
+        }
+        Plan::Sort { keys, .. } => {
+            text.extend_from_slice(b"Sort by ")?;
+            put_node_keys(text, cat, q, p, keys)
+        }
+        Plan::Nest { .. } => text.extend_from_slice(b"Nested Loop"),
+        Plan::Merge { keys, .. } => {
+            text.extend_from_slice(b"Merge Join by ")?;
+            put_node_keys(text, cat, q, p, keys)
+        }
+    }
+}
+
+/// Appends the line of a node.
+fn put_line(
+    alloc: Global,
+    text: &mut Vec<u8>,
+    cat: &Catalog,
+    q: &Prepared,
+    lead: &Lead,
+    p: &Plan,
+) -> Result<(), Memory>
+    requires bound { IsWellBound cat.now q.now }
+    requires line { HasLine cat.now q.now (plan p.now) }
+    ensures { OnOk result (text.new.items ≡ text.old.items ++ texts.node_line cat.now q.now lead.now (plan p.now)) }
+{
+    lead.put(text)?;
+    put_title(text, cat, q, p)?;
+    put_numbers(alloc, text, cat, q, p)
+}
+
+/// Appends the lines of a plan.
+fn put_plan(
+    alloc: Global,
+    text: &mut Vec<u8>,
+    cat: &Catalog,
+    q: &Prepared,
+    lead: &Lead,
+    p: &Plan,
+) -> Result<(), Memory>
+    requires bound { IsWellBound cat.now q.now }
+    requires lines { HasLines cat.now q.now (plan p.now) }
+    ensures { OnOk result (text.new.items ≡ text.old.items ++ texts.text_at cat.now q.now lead.now (plan p.now)) }
+{
+    put_line(alloc, text, cat, q, lead, p)?;
+    let below = lead.deeper(alloc)?;
+    match p {
+        Plan::Seq { .. } => Ok(()),
+        Plan::Index { .. } => Ok(()),
+        Plan::IndexOnly { .. } => Ok(()),
+        Plan::Bitmap { bits, .. } => put_bits(alloc, text, cat, q, &below, bits),
+        Plan::Sort { input, .. } => put_plan(alloc, text, cat, q, &below, input),
+        Plan::Nest { outer, inner } => {
+            put_plan(alloc, text, cat, q, &below, outer)?;
+            put_plan(alloc, text, cat, q, &below, inner)
+        }
+        Plan::Merge { outer, inner, .. } => {
+            put_plan(alloc, text, cat, q, &below, outer)?;
+            put_plan(alloc, text, cat, q, &below, inner)
+        }
+    }
+}
+
+/// The text of a plan: a line for each of its nodes, with what the node's plan costs in all, in 1/400 of a sequential
+/// page, and its estimated rows; under it those of its children, deeper, the outer one first. The plan is one of the
+/// space for its set and parameterisation, or a finished one, and costs below 10^18. The error means want of memory.
+pub fn plan_text(alloc: Global, cat: &Catalog, q: &Prepared, p: &Path) -> Result<Bytes, Memory>
+    requires bound { IsWellBound cat.now q.now }
+    requires plan { IsShown cat.now q.now (path p.now).tree }
+    requires admissible { IsAdmissible cat.now q.now (path p.now).tree }
+    ensures text { IfOk result (λ text. text ≡ texts.plan_text cat.now q.now (path p.now).tree) }
+{
+    cat.lawful();
+    let mut text = Vec::new(alloc);
+    let top = Lead::top(alloc);
+    put_plan(alloc, &mut text, cat, q, &top, &p.plan)?;
+    Ok(Bytes::from_vec(text))
+}

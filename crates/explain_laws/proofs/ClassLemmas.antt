@@ -1,0 +1,267 @@
+-- The text of a key tells its class.
+use Rattle.std.proofs.Common.{◌≡◌, ◌<◌, ℕ, Bool, true, false, not, cond, List, [], ◌∷◌, ◌++◌, codes, get_or, drop, length, map, refl, sym, ◌∙◌, ap, ap₂, subst, append_assoc, inl, inr, arith}
+use Rattle.std.specs.Prelude.{Option, None, Some, Contains, filter, filter_map, nat_eq}
+use Rattle.std.specs.List.{AllByRecursion}
+use Rattle.std.specs.Option.{option_or}
+use Rattle.std.proofs.lemmas.Bool.{and_from, true≢false, lt-ltb}
+use Rattle.std.proofs.lemmas.List.{append_cancel_left, get_or_default}
+use Rattle.pg_base.specs.declared.numbers.ColNo.{ColNo}
+use Rattle.pg_base.specs.declared.numbers.RelNo.{RelNo}
+use Rattle.pg_value.specs.declared.operators.Family.{Family}
+use Rattle.pg_value.specs.declared.operators.Family.TheVariants as families
+use Rattle.pg_value.specs.declared.value.SqlType.{SqlType}
+use Rattle.pg_value.specs.Order.{IsOfFamily}
+use Rattle.pg_expr.specs.declared.operand.ColRef.{ColRef}
+use Rattle.pg_expr.specs.Typed.{some_value}
+use Rattle.catalog.specs.Contents.{Contents, IsColumn, IsLawful, name_at}
+use Rattle.catalog.specs.Range.{relation_at, table_of, type_in}
+use Rattle.eq_classes.specs.declared.order.OrderItem.{OrderItem}
+use Rattle.eq_classes.specs.Classes.{Class, has_member, in_family, is_family}
+use Rattle.eq_classes.specs.Clauses.{Set, Table, first_in}
+use Rattle.eq_classes.specs.Listing.{blank, class_at}
+use Rattle.eq_classes.proofs.EqualLemmas.{family_self}
+use Rattle.eq_classes.proofs.ListLemmas.{IsIn, all_at, any_from, found_in, in_filter_map, in_from_contains}
+use Rattle.eq_classes.proofs.SoundLemmas.{class_sound, in_member, member_in}
+use Rattle.eq_classes.proofs.WrittenLemmas.{in_typed}
+use Rattle.class_laws.proofs.PartLemmas.{apart_at}
+use Rattle.sql_query.specs.Queries.{Query, all_of_query, width}
+use Rattle.sql_query.specs.WellBound.{IsColumnOf, IsWellBound, given_of}
+use Rattle.pathkeys.specs.Keys.{Keys, class_of, is_constant, once, order_class, order_keys}
+use Rattle.sort_rows.proofs.ColumnLemmas.{member_is}
+use Rattle.order_laws.proofs.IndexOrderLemmas.{class_found}
+use Rattle.order_laws.proofs.ItemLemmas.{default_of, same_family, sample_fits}
+use Rattle.order_laws.proofs.KeyLemmas.{find_more}
+use Rattle.explain.specs.Texts.{column_text, direction_text, family_text, key_text, keys_text, listed, member_text}
+use Rattle.explain_laws.proofs.NameLemmas.{alias-name, alias-same, column-name, column-same, relation-table}
+use Rattle.explain_laws.proofs.SplitLemmas.{split, stops, word}
+
+abbrev pub is_abs : Family → Bool
+is_abs families.IntAbs = true
+is_abs _ = false
+
+abs-is : (f : Family) → is_abs f ≡ true → f ≡ families.IntAbs
+abs-is families.Integer h = absurd (true≢false (sym h))
+abs-is families.IntAbs h = refl
+abs-is families.Text h = absurd (true≢false (sym h))
+abs-is families.Bool h = absurd (true≢false (sym h))
+
+not-abs : (f : Family) → is_abs f ≡ false → f ≡ families.IntAbs → ⊥
+not-abs f h e = true≢false (sym (ap is_abs e) ∙ h)
+
+-- a type has one family beside that of absolute values
+one-family : (t : SqlType) (f g : Family) → IsOfFamily f (some_value t) → IsOfFamily g (some_value t) → is_abs f ≡ is_abs g → f ≡ g
+one-family t f g hf hg e = by (is_abs f) refl
+  where
+    by : (b : Bool) → is_abs f ≡ b → f ≡ g
+    by true p = abs-is f p ∙ sym (abs-is g (sym e ∙ p))
+    by false p = same_family f g (default_of t f hf (not-abs f p)) (default_of t g hg (not-abs g (sym e ∙ p)))
+
+-- what stands behind the column of a key
+abbrev pub tail_text : Class → List ℕ
+tail_text k = family_text k.family ++ direction_text k.descending k.nulls_first
+
+stops-direction : (d n : Bool) (s : List ℕ) → stops s ≡ true → stops (direction_text d n ++ s) ≡ true
+stops-direction true true s h = refl
+stops-direction true false s h = refl
+stops-direction false true s h = refl
+stops-direction false false s h = h
+
+stops-tail : (f : Family) (d n : Bool) (s : List ℕ) → stops s ≡ true → stops ((family_text f ++ direction_text d n) ++ s) ≡ true
+stops-tail families.Integer d n s h = stops-direction d n s h
+stops-tail families.IntAbs d n s h = refl
+stops-tail families.Text d n s h = stops-direction d n s h
+stops-tail families.Bool d n s h = stops-direction d n s h
+
+-- the second byte of a direction, or of what stands behind a key
+abbrev direction_byte : Bool → Bool → ℕ
+direction_byte true n = 68
+direction_byte false true = 78
+direction_byte false false = 32
+
+direction-second : (d n : Bool) (s : List ℕ) → get_or s 1 0 ≡ 32 → get_or (direction_text d n ++ s) 1 0 ≡ direction_byte d n
+direction-second true true s h = refl
+direction-second true false s h = refl
+direction-second false true s h = refl
+direction-second false false s h = h
+
+tail-second : (f : Family) (d n : Bool) (s : List ℕ) → get_or s 1 0 ≡ 32 → get_or ((family_text f ++ direction_text d n) ++ s) 1 0 ≡ cond (is_abs f) 105 (direction_byte d n)
+tail-second families.Integer d n s h = direction-second d n s h
+tail-second families.IntAbs d n s h = refl
+tail-second families.Text d n s h = direction-second d n s h
+tail-second families.Bool d n s h = direction-second d n s h
+
+no-abs : (d n : Bool) → 105 ≡ direction_byte d n → ⊥
+no-abs true n e = omega (arith, e)
+no-abs false true e = omega (arith, e)
+no-abs false false e = omega (arith, e)
+
+abs-same : (a b d n e m : Bool) → cond a 105 (direction_byte d n) ≡ cond b 105 (direction_byte e m) → a ≡ b
+abs-same true true d n e m h = refl
+abs-same true false d n e m h = absurd (no-abs e m h)
+abs-same false true d n e m h = absurd (no-abs d n (sym h))
+abs-same false false d n e m h = refl
+
+-- what may stand behind a key: a comma and a space, or two spaces
+pub record IsNext (s : List ℕ) : Type 0 where
+  pub stops_name : stops s ≡ true
+  pub space : get_or s 1 0 ≡ 32
+
+-- a class of a table with a first member inside a set
+pub record IsShownKey (t : Table) (set : Set) (n : ℕ) : Type 0 where
+  pub low : n < length t.classes
+  pub member : ColRef
+  pub first : first_in (class_at t.classes n) set ≡ Some member
+
+abbrev pub AreShownKeys : Query → Set → Keys → Type 0
+AreShownKeys q set keys = AllByRecursion (IsShownKey q.classes set) keys
+
+module _ (c : Contents) (q : Query) (lawful : IsLawful c) (bound : IsWellBound c q) where
+  abbrev type_of : ColRef → SqlType
+  type_of = type_in c q.range
+
+  class-in : (n : ℕ) → n < length q.classes.classes → IsIn (class_at q.classes.classes n) q.classes.classes
+  class-in n lt = in_from_contains q.classes.classes (class_at q.classes.classes n) (n, lt, get_or_default q.classes.classes n (class_at q.classes.classes n) blank lt)
+
+  member-fits : (n : ℕ) (x : ColRef) → n < length q.classes.classes → IsIn x (class_at q.classes.classes n).members → IsOfFamily (class_at q.classes.classes n).family (some_value (type_of x))
+  member-fits n x lt i =
+      (class_sound (given_of c q) (λ y. some_value (type_of y)) (in_typed type_of q.where_all bound.typed) (λ y. sample_fits (type_of y)) q.classes.classes bound.classes.classes (class_at q.classes.classes n) (class-in n lt)).fits x i
+
+  class-same : (n m : ℕ) (x : ColRef) → n < length q.classes.classes → m < length q.classes.classes → IsIn x (class_at q.classes.classes n).members → IsIn x (class_at q.classes.classes m).members →
+      is_abs (class_at q.classes.classes n).family ≡ is_abs (class_at q.classes.classes m).family → n ≡ m
+  class-same n m x ln lm i j e =
+      let k = class_at q.classes.classes n in
+      let l = class_at q.classes.classes m in
+      let same = one-family (type_of x) k.family l.family (member-fits n x ln i) (member-fits m x lm j) e in
+      apart_at (given_of c q) q.classes bound.classes (in_family x k.family) n m ln lm
+      (and_from (is_family k.family k.family) (has_member k x) (family_self k.family) (in_member k x i))
+      (and_from (is_family l.family k.family) (has_member l x) (ap (λ (f : Family). is_family f k.family) (sym same) ∙ family_self k.family) (in_member l x j))
+
+  shown-in : (set : Set) (n : ℕ) (k : IsShownKey q.classes set n) → IsIn k.member (class_at q.classes.classes n).members
+  shown-in set n k = found_in (λ (y : ColRef). set y.rel.0) (class_at q.classes.classes n).members k.member k.first
+
+  shown-column : (set : Set) (n : ℕ) (k : IsShownKey q.classes set n) → IsColumnOf c q.range k.member
+  shown-column set n k = member_is c q bound (class_at q.classes.classes n) (class-in n k.low) k.member (shown-in set n k)
+
+  abbrev alias_at : ColRef → List ℕ
+  alias_at x = (relation_at q.range x.rel).1
+
+  abbrev name_of : ColRef → List ℕ
+  name_of x = name_at c (table_of q.range x) x.col
+
+  key-is : (set : Set) (n : ℕ) (k : IsShownKey q.classes set n) (s : List ℕ) → key_text c q set n ++ s ≡ alias_at k.member ++ 46 ∷ (name_of k.member ++ (tail_text (class_at q.classes.classes n) ++ s))
+  key-is set n k s =
+      let x = k.member in
+      let T = tail_text (class_at q.classes.classes n) in
+      ap (λ (o : Option ColRef). (member_text c q o ++ T) ++ s) k.first
+      ∙ append_assoc (column_text c q x) T s
+      ∙ append_assoc (alias_at x) (46 ∷ name_of x) (T ++ s)
+
+  pub key-split : (a b : Set) (n m : ℕ) → IsShownKey q.classes a n → IsShownKey q.classes b m → (s t : List ℕ) → IsNext s → IsNext t → key_text c q a n ++ s ≡ key_text c q b m ++ t → (n ≡ m) × (s ≡ t)
+  key-split a b n m k l s t hs ht e =
+      let x = k.member in
+      let y = l.member in
+      let cx = shown-column a n k in
+      let cy = shown-column b m l in
+      let K = class_at q.classes.classes n in
+      let L = class_at q.classes.classes m in
+      let tx = relation-table c q.range bound.range x.rel cx.relation in
+      let ty = relation-table c q.range bound.range y.rel cy.relation in
+      let whole = sym (key-is a n k s) ∙ e ∙ key-is b m l t in
+      let one = split (alias_at x) (alias_at y) (46 ∷ (name_of x ++ (tail_text K ++ s))) (46 ∷ (name_of y ++ (tail_text L ++ t)))
+      (word (alias_at x) (alias-name c q.range bound.range x.rel cx.relation)) (word (alias_at y) (alias-name c q.range bound.range y.rel cy.relation)) refl refl whole in
+      let two = split (name_of x) (name_of y) (tail_text K ++ s) (tail_text L ++ t)
+      (word (name_of x) (column-name c lawful (table_of q.range x) x.col tx cx.column)) (word (name_of y) (column-name c lawful (table_of q.range y) y.col ty cy.column))
+      (stops-tail K.family K.descending K.nulls_first s hs.stops_name) (stops-tail L.family L.descending L.nulls_first t ht.stops_name)
+      (ap (λ (z : List ℕ). drop 1 z) one.1) in
+      let rel : x.rel ≡ y.rel = alias-same c q.range bound.range x.rel y.rel cx.relation cy.relation one.0 in
+      let same : x ≡ y = same-column x y rel cx cy two.0 in
+      let abs = abs-same (is_abs K.family) (is_abs L.family) K.descending K.nulls_first L.descending L.nulls_first
+      (sym (tail-second K.family K.descending K.nulls_first s hs.space) ∙ ap (λ (z : List ℕ). get_or z 1 0) two.1 ∙ tail-second L.family L.descending L.nulls_first t ht.space) in
+      let P : ColRef → Type 0 = λ z. IsIn z K.members in
+      let number : n ≡ m = class-same n m y k.low l.low (subst P same (shown-in a n k)) (shown-in b m l) abs in
+      (number, append_cancel_left (tail_text L) s t (sym (ap (λ (j : ℕ). tail_text (class_at q.classes.classes j) ++ s) number) ∙ two.1))
+    where
+      same-column : (x y : ColRef) → x.rel ≡ y.rel → IsColumnOf c q.range x → IsColumnOf c q.range y → name_of x ≡ name_of y → x ≡ y
+      same-column x y rel hx hy names =
+          let P : RelNo → Type 0 = λ r. IsColumn c (relation_at q.range r).0 y.col in
+          let named : name_of x ≡ name_at c (table_of q.range x) y.col = names ∙ ap (λ (r : RelNo). name_at c (relation_at q.range r).0 y.col) (sym rel) in
+          let col : x.col ≡ y.col = column-same c lawful (table_of q.range x) x.col y.col (relation-table c q.range bound.range x.rel hx.relation) hx.column (subst P (sym rel) hy.column) named in
+          ap₂ (λ (r : RelNo) (k : ColNo). let z : ColRef = record { rel = r; col = k } in z) rel col
+
+  next-keys : (a : Set) (ks : Keys) (s : List ℕ) → IsNext (listed (codes ", ") (map (key_text c q a) ks) ++ 32 ∷ 32 ∷ s)
+  next-keys a [] s = record { stops_name = refl; space = refl }
+  next-keys a (k ∷ ks) s = record { stops_name = refl; space = refl }
+
+  more-keys : (a b : Set) (ks ls : Keys) (s t : List ℕ) → AreShownKeys q a ks → AreShownKeys q b ls →
+      listed (codes ", ") (map (key_text c q a) ks) ++ 32 ∷ 32 ∷ s ≡ listed (codes ", ") (map (key_text c q b) ls) ++ 32 ∷ 32 ∷ t → (ks ≡ ls) × (s ≡ t)
+  more-keys a b [] [] s t h g e = (refl, ap (λ (z : List ℕ). drop 2 z) e)
+  more-keys a b [] (l ∷ ls) s t h g e = let bad : 32 ≡ 44 = ap (λ (z : List ℕ). get_or z 0 0) e in absurd (omega (arith, bad))
+  more-keys a b (k ∷ ks) [] s t h g e = let bad : 44 ≡ 32 = ap (λ (z : List ℕ). get_or z 0 0) e in absurd (omega (arith, bad))
+  more-keys a b (k ∷ ks) (l ∷ ls) s t h g e =
+      let A = listed (codes ", ") (map (key_text c q a) ks) in
+      let B = listed (codes ", ") (map (key_text c q b) ls) in
+      let one : (key_text c q a k ++ A) ++ 32 ∷ 32 ∷ s ≡ (key_text c q b l ++ B) ++ 32 ∷ 32 ∷ t = ap (λ (z : List ℕ). drop 2 z) e in
+      let two = key-split a b k l h.0 g.0 (A ++ 32 ∷ 32 ∷ s) (B ++ 32 ∷ 32 ∷ t) (next-keys a ks s) (next-keys b ls t)
+      (sym (append_assoc (key_text c q a k) A (32 ∷ 32 ∷ s)) ∙ one ∙ append_assoc (key_text c q b l) B (32 ∷ 32 ∷ t)) in
+      let rest = more-keys a b ks ls s t h.1 g.1 two.1 in
+      (ap₂ (λ (j : ℕ) (js : List ℕ). j ∷ js) two.0 rest.0, rest.1)
+
+  pub keys-split : (a b : Set) (ks ls : Keys) (s t : List ℕ) → 0 < length ks → 0 < length ls → AreShownKeys q a ks → AreShownKeys q b ls →
+      keys_text c q a ks ++ 32 ∷ 32 ∷ s ≡ keys_text c q b ls ++ 32 ∷ 32 ∷ t → (ks ≡ ls) × (s ≡ t)
+  keys-split a b [] ls s t some more h g e = absurd (omega (arith, some))
+  keys-split a b (k ∷ ks) [] s t some more h g e = absurd (omega (arith, more))
+  keys-split a b (k ∷ ks) (l ∷ ls) s t some more h g e =
+      let A = listed (codes ", ") (map (key_text c q a) ks) in
+      let B = listed (codes ", ") (map (key_text c q b) ls) in
+      let two = key-split a b k l h.0 g.0 (A ++ 32 ∷ 32 ∷ s) (B ++ 32 ∷ 32 ∷ t) (next-keys a ks s) (next-keys b ls t)
+      (sym (append_assoc (key_text c q a k) A (32 ∷ 32 ∷ s)) ∙ e ∙ append_assoc (key_text c q b l) B (32 ∷ 32 ∷ t)) in
+      let rest = more-keys a b ks ls s t h.1 g.1 two.1 in
+      (ap₂ (λ (j : ℕ) (js : List ℕ). j ∷ js) two.0 rest.0, rest.1)
+
+  -- the order keys are such keys of the whole query
+  of-family : (x : ColRef) (f : Family) (n : ℕ) → x.rel.0 < width q → class_of q.classes x f ≡ Some n → IsShownKey q.classes (all_of_query q) n
+  of-family x f n lt h =
+      let of = class_found q.classes x f n h in
+      let all = all_of_query q in
+      let k = class_at q.classes.classes n in
+      let first = find_more (λ y. all y.rel.0) (λ y. all y.rel.0) (λ y is. is) k.members (any_from (λ y. all y.rel.0) k.members x (member_in k x of.member) (lt-ltb x.rel.0 (width q) lt)) in
+      record { low = of.low; member = first.0; first = first.1 }
+
+  of-order : (x : ColRef) (n : ℕ) → x.rel.0 < width q → order_class q.classes x ≡ Some n → IsShownKey q.classes (all_of_query q) n
+  of-order x n lt h = by (class_of q.classes x families.Integer) (class_of q.classes x families.Text) (class_of q.classes x families.Bool) refl refl refl h
+    where
+      by : (i t b : Option ℕ) → class_of q.classes x families.Integer ≡ i → class_of q.classes x families.Text ≡ t → class_of q.classes x families.Bool ≡ b → option_or i (option_or t b) ≡ Some n →
+          IsShownKey q.classes (all_of_query q) n
+      by (Some m) t b ei et eb e = of-family x families.Integer n lt (ei ∙ e)
+      by None (Some m) b ei et eb e = of-family x families.Text n lt (et ∙ e)
+      by None None b ei et eb e = of-family x families.Bool n lt (eb ∙ e)
+
+  in-filtered : (p : ℕ → Bool) (ns : List ℕ) (n : ℕ) → IsIn n (filter p ns) → IsIn n ns
+  in-filtered p [] n h = h
+  in-filtered p (m ∷ ms) n h = by (p m) (in-filtered p ms n) h
+    where
+      by : (b : Bool) → (IsIn n (filter p ms) → IsIn n ms) → IsIn n (cond b (m ∷ filter p ms) (filter p ms)) → IsIn n (m ∷ ms)
+      by true f (inl same) = inl same
+      by true f (inr later) = inr (f later)
+      by false f later = inr (f later)
+
+  in-once : (ns : List ℕ) (n : ℕ) → IsIn n (once ns) → IsIn n ns
+  in-once [] n h = h
+  in-once (m ∷ ms) n (inl same) = inl same
+  in-once (m ∷ ms) n (inr later) = inr (in-once ms n (in-filtered (λ j. not (nat_eq m j)) (once ms) n later))
+
+  each-shown : (keys : Keys) → ((n : ℕ) → IsIn n keys → IsShownKey q.classes (all_of_query q) n) → AreShownKeys q (all_of_query q) keys
+  each-shown [] f = tt
+  each-shown (n ∷ ns) f = (f n (inl refl), each-shown ns (λ m i. f m (inr i)))
+
+  pub order-shown : AreShownKeys q (all_of_query q) (order_keys q.classes q.order)
+  order-shown = each-shown (order_keys q.classes q.order) each
+    where
+      each : (n : ℕ) → IsIn n (order_keys q.classes q.order) → IsShownKey q.classes (all_of_query q) n
+      each n i =
+          let class_by : OrderItem → Option ℕ = λ item. order_class q.classes item.col in
+          let found = filter_map class_by q.order in
+          let w = in_filter_map class_by q.order n (in-filtered (λ m. not (is_constant q.classes m)) found n (in-once (filter (λ m. not (is_constant q.classes m)) found) n i)) in
+          of-order w.0.col n
+          (all_at (IsColumnOf c q.range) q.used bound.used w.0.col (in_from_contains q.used w.0.col (all_at (λ (o : OrderItem). Contains q.used o.col) q.order bound.order w.0 w.1))).relation
+          w.2

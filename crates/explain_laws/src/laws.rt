@@ -1,0 +1,16 @@
+//! Laws of the texts of plans.
+
+ghost use Rattle.std.specs.Prelude.{◌≡◌};
+ghost use Rattle.catalog.specs.Contents.{Contents, IsLawful};
+ghost use Rattle.sql_query.specs.Queries.{Query};
+ghost use Rattle.sql_query.specs.WellBound.{IsWellBound};
+ghost use Rattle.plan_tree.specs.Plans.{Plan};
+ghost use Rattle.explain.specs.Lines.{IsShown};
+ghost use Rattle.explain.specs.Texts.{plan_text};
+
+/// Two plans of one query, each of the plan space for its set and parameterisation or finished, are one plan where their
+/// texts are the same.
+pub fn different_plans_have_different_texts()
+    ensures { (c : Contents) (q : Query) (a b : Plan) → IsLawful c → IsWellBound c q → IsShown c q a → IsShown c q b →
+        plan_text c q a ≡ plan_text c q b → a ≡ b }
+{}

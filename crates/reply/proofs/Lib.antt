@@ -1,0 +1,4 @@
+pub mod DrawingLemmas
+pub mod PuttingLemmas
+pub mod ReplyLemmas
+pub mod RowLemmas

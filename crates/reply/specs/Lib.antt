@@ -1,0 +1,5 @@
+pub mod Answers
+pub mod Replies
+pub mod Putting
+pub mod Showing
+pub mod Stops

@@ -1,0 +1,179 @@
+//! The reply to a query, written to out.
+
+ghost use Rattle.std.specs.Prelude.{◌≡◌, ◌+◌, ◌*◌, ◌≤◌, ◌++◌, All, IfErr, OnErr, OnOk, length};
+ghost use Rattle.std.specs.Io.KnownBytes.{Appends};
+ghost use Rattle.pg_base.specs.Writing.{AppendsPrefix};
+ghost use Rattle.sql_query.specs.Queries.{width};
+ghost use Rattle.sql_query.specs.WellBound.{IsWellBound};
+ghost use Rattle.sql_query.specs.Worlds.{world};
+ghost use Rattle.store.specs.Kept.{IsStoreOf};
+ghost use Rattle.plan_tree.specs.Counts.{MOST_READS};
+ghost use Rattle.plan_tree.specs.Least.{IsBestPlan};
+ghost use Rattle.plan_tree.specs.Paths.{IsFinishedPath};
+ghost use Rattle.plan_tree.specs.Views.{path};
+ghost use Rattle.reply.specs.Answers.{HasNoPlan, result_text};
+ghost use Rattle.reply.specs.Putting.{HasWriteCause};
+ghost use Rattle.reply.specs.Replies.{HasBegun, HasReplied, IsAnswerTo, IsExplanationOf, Leaves, traces};
+ghost use Rattle.executor.specs.Numbers.{IsTupleOf};
+
+use crate::best::best_path;
+use crate::put::{flush, put};
+use crate::rows::put_rows;
+use crate::stop::{Broken, Stop};
+use catalog::Catalog;
+use executor::{Rows, tuples_have_rows};
+use explain::plan_text;
+use heap::Counters;
+use order_laws::finished_plans_are_ordered;
+use pg_base::{Sink, Steps};
+use plan_laws::plans_give_their_tuples;
+use plan_tree::Path;
+use row_text::count_line;
+use sql_query::Prepared;
+use std::alloc::Global;
+use store::Store;
+
+/// Prints the answer to a query of one relation: the text of a plan that no admissible one undercuts, a line for each row
+/// that the plan gives, in its order, which is that of ORDER BY, and the number of these rows. They are the query's meaning,
+/// each as often. The plan that is printed is the one that is run; each row is written, or held to be, before the next one is
+/// drawn. Rows are fetched as often as the plan fetches them, and entries and rows already found looked at as often as it
+/// does at most, with 32 more looks for each printed row. At `Write` and `Memory` out has a prefix of that, or is as before;
+/// at `Write` its count of faults rose. `NoPlan` comes only where each finished plan costs 10^18 or more, and changes nothing.
+pub fn answer<C: Counters, K: Sink>(
+    alloc: Global,
+    cat: &Catalog,
+    q: &Prepared,
+    store: &Store<C>,
+    out: &mut K,
+    fetches: &mut Steps<C::Fetches>,
+    reads: &mut Steps<C::Looks>,
+) -> Result<(), Stop>
+    requires bound { IsWellBound cat.now q.now }
+    requires store { IsStoreOf cat.now store.now }
+    requires one { width q.now ≡ 1 }
+    ensures answered { OnOk result (HasReplied (IsAnswerTo (world cat.now store.now.stored) q.now) (traces (K.held out.old) fetches.old reads.old) (traces (K.held out.new) fetches.new reads.new)) }
+    ensures stopped { IfErr result (λ stop. Leaves stop (IsAnswerTo (world cat.now store.now.stored) q.now) (traces (K.held out.old) fetches.old reads.old) (traces (K.held out.new) fetches.new reads.new)) }
+    ensures no_plan { IfErr result (λ stop. stop ≡ Stop.NoPlan → HasNoPlan cat.now q.now) }
+    ensures cause { HasWriteCause Stop.Write (K.faults out.old) (K.faults out.new) result }
+{
+    let best = best_path(alloc, cat, q)?;
+    answer_by(alloc, cat, q, &best, store, out, fetches, reads)?;
+    Ok(())
+}
+
+/// Prints the text of a plan of a query of one relation that no admissible one undercuts. No row is read. At `Write` and
+/// `Memory` out has a prefix of that, or is as before; at `Write` its count of faults rose. `NoPlan` comes only where each
+/// finished plan costs 10^18 or more, and changes nothing.
+pub fn explain_query<K: Sink>(
+    alloc: Global,
+    cat: &Catalog,
+    q: &Prepared,
+    out: &mut K,
+) -> Result<(), Stop>
+    requires bound { IsWellBound cat.now q.now }
+    requires one { width q.now ≡ 1 }
+    ensures explained { OnOk result (HasReplied (IsExplanationOf cat.now q.now) (traces (K.held out.old) 0 0) (traces (K.held out.new) 0 0)) }
+    ensures stopped { IfErr result (λ stop. Leaves stop (IsExplanationOf cat.now q.now) (traces (K.held out.old) 0 0) (traces (K.held out.new) 0 0)) }
+    ensures no_plan { IfErr result (λ stop. stop ≡ Stop.NoPlan → HasNoPlan cat.now q.now) }
+    ensures cause { HasWriteCause Stop.Write (K.faults out.old) (K.faults out.new) result }
+{
+    let best = best_path(alloc, cat, q)?;
+    explain_by(alloc, cat, q, &best, out)?;
+    Ok(())
+}
+
+/// Prints the answer to a query by a best plan.
+fn answer_by<C: Counters, K: Sink>(
+    alloc: Global,
+    cat: &Catalog,
+    q: &Prepared,
+    best: &Path,
+    store: &Store<C>,
+    out: &mut K,
+    fetches: &mut Steps<C::Fetches>,
+    reads: &mut Steps<C::Looks>,
+) -> Result<(), Broken>
+    requires bound { IsWellBound cat.now q.now }
+    requires store { IsStoreOf cat.now store.now }
+    requires one { width q.now ≡ 1 }
+    requires finished { IsFinishedPath cat.now q.now (path best.now) }
+    requires best { IsBestPlan cat.now q.now (path best.now).tree }
+    ensures ok { OnOk result (HasReplied (IsAnswerTo (world cat.now store.now.stored) q.now) (traces (K.held out.old) fetches.old reads.old) (traces (K.held out.new) fetches.new reads.new)) }
+    ensures err { OnErr result (HasBegun (IsAnswerTo (world cat.now store.now.stored) q.now) (traces (K.held out.old) fetches.old reads.old) (traces (K.held out.new) fetches.new reads.new)) }
+    ensures cause { HasWriteCause Broken.Write (K.faults out.old) (K.faults out.new) result }
+{
+    plans_give_their_tuples();
+    finished_plans_are_ordered();
+    tuples_have_rows();
+    let text = plan_text(alloc, cat, q, best)?;
+    let mut rows = Rows::start(alloc, cat, q, &best.plan, store)?;
+    put_result(
+        alloc,
+        cat,
+        q,
+        store,
+        text.items(),
+        &mut rows,
+        out,
+        fetches,
+        reads,
+    )
+}
+
+/// Prints a text, a line for each tuple that is to be drawn, and their number.
+fn put_result<C: Counters, K: Sink>(
+    alloc: Global,
+    cat: &Catalog,
+    q: &Prepared,
+    store: &Store<C>,
+    text: &[u8],
+    rows: &mut Rows<C>,
+    out: &mut K,
+    fetches: &mut Steps<C::Fetches>,
+    reads: &mut Steps<C::Looks>,
+) -> Result<(), Broken>
+    requires bound { IsWellBound cat.now q.now }
+    requires store { IsStoreOf cat.now store.now }
+    requires tuples { All (IsTupleOf (world cat.now store.now.stored) q.now) rows.old.left }
+    ensures ok { OnOk result (Appends (K.held out.old) (K.held out.new) (text.now ++ result_text (world cat.now store.now.stored) q.now rows.old.left)) }
+    ensures err { OnErr result (AppendsPrefix (K.held out.old) (K.held out.new) (text.now ++ result_text (world cat.now store.now.stored) q.now rows.old.left)) }
+    ensures cause { HasWriteCause Broken.Write (K.faults out.old) (K.faults out.new) result }
+    ensures fetches { OnOk result (fetches.new ≡ fetches.old + rows.old.owed) }
+    ensures fewer { fetches.new ≤ fetches.old + rows.old.owed }
+    ensures reads { reads.new ≤ reads.old + (rows.old.allowed + MOST_READS * length rows.old.left) }
+{
+    let mut pending = Vec::from_slice(alloc, text)?;
+    let count = put_rows(
+        alloc,
+        cat,
+        q,
+        store,
+        rows,
+        out,
+        &mut pending,
+        fetches,
+        reads,
+    )?;
+    let line = count_line(alloc, count)?;
+    put(out, &mut pending, &line)?;
+    flush(out, &pending)
+}
+
+/// Prints the text of a best plan of a query.
+fn explain_by<K: Sink>(
+    alloc: Global,
+    cat: &Catalog,
+    q: &Prepared,
+    best: &Path,
+    out: &mut K,
+) -> Result<(), Broken>
+    requires bound { IsWellBound cat.now q.now }
+    requires finished { IsFinishedPath cat.now q.now (path best.now) }
+    requires best { IsBestPlan cat.now q.now (path best.now).tree }
+    ensures ok { OnOk result (HasReplied (IsExplanationOf cat.now q.now) (traces (K.held out.old) 0 0) (traces (K.held out.new) 0 0)) }
+    ensures err { OnErr result (HasBegun (IsExplanationOf cat.now q.now) (traces (K.held out.old) 0 0) (traces (K.held out.new) 0 0)) }
+    ensures cause { HasWriteCause Broken.Write (K.faults out.old) (K.faults out.new) result }
+{
+    let shown = plan_text(alloc, cat, q, best)?;
+    flush(out, shown.items())
+}

@@ -1,0 +1,36 @@
+//! Bytes put on their way to a sink, written some at a time.
+
+ghost use Rattle.std.specs.Prelude.{◌≡◌, ◌++◌, OnOk, OnErr};
+ghost use Rattle.std.specs.Io.KnownBytes.{Appends};
+ghost use Rattle.pg_base.specs.Writing.{AppendsPrefix};
+ghost use Rattle.reply.specs.Putting.{Puts, HasWriteCause};
+ghost use Rattle.reply.specs.declared.stop.Broken.TheVariants.{Write};
+
+use crate::stop::Broken;
+use pg_base::{Sink, write_all};
+
+/// So many bytes are written at once.
+const ENOUGH: usize = 1024;
+
+/// Puts these bytes behind the pending ones, and writes all that is pending once it is enough.
+pub(crate) fn put<K: Sink>(out: &mut K, pending: &mut Vec<u8>, bytes: &[u8]) -> Result<(), Broken>
+    ensures puts { Puts (K.held out.old) (K.held out.new) pending.old.items pending.new.items result bytes.now }
+    ensures cause { HasWriteCause Write (K.faults out.old) (K.faults out.new) result }
+{
+    pending.extend_from_slice(bytes)?;
+    if pending.len() >= ENOUGH {
+        write_all(out, pending)?;
+        pending.clear();
+    }
+    Ok(())
+}
+
+/// Writes all that is pending.
+pub(crate) fn flush<K: Sink>(out: &mut K, pending: &[u8]) -> Result<(), Broken>
+    ensures ok { OnOk result (Appends (K.held out.old) (K.held out.new) pending.now) }
+    ensures err { OnErr result (AppendsPrefix (K.held out.old) (K.held out.new) pending.now) }
+    ensures cause { HasWriteCause Write (K.faults out.old) (K.faults out.new) result }
+{
+    write_all(out, pending)?;
+    Ok(())
+}

@@ -1,72 +1,89 @@
 -- How a query ends: answered, refused, or stopped on its way out.
-use Rattle.std.proofs.Common.{◌≡◌, ℕ, ◌+◌, ◌*◌, ◌≤◌, ◌<◌, false, List, length, inl, inr, Ok, Err, Result, IfErr, IsErrAnd, refl, sym, subst, arith}
-use Rattle.std.specs.declared.option.Option.{Option}
-use Rattle.std.specs.Io.KnownBytes.{Appends}
-use Rattle.pg_base.specs.Writing.{AppendsPrefix}
-use Rattle.pg_base.specs.declared.limits.TheConstants.{MOST_SCRIPT_BYTES}
+use Rattle.std.proofs.Common.{◌≡◌, ℕ, ◌+◌, ◌<◌, ◌∙◌, Bool, true, false, cond, List, length, inl, inr, Ok, Err, Result, IfErr, IsErrAnd, refl, sym, ap, subst, arith}
 use Rattle.pg_base.specs.declared.faults.Fault.{Fault}
 use Rattle.pg_base.specs.declared.faults.Refusal.{Refusal}
 use Rattle.pg_base.specs.declared.faults.Refusal.TheVariants as refusal
 use Rattle.sql_lex.specs.declared.tokens.Token.{Token}
-use Rattle.sql_lex.specs.Words.{AreWords}
+use Rattle.sql_lex.specs.Ends.{end_of, token_at}
 use Rattle.sql_grammar.specs.Faults.{terminals}
 use Rattle.catalog.specs.Contents.{Contents}
 use Rattle.fault_line.specs.Tells.{IsFieldOf}
-use Rattle.ddl_reader.specs.Statements.{begins_ddl}
-use Rattle.query_reader.specs.Select.{IsGrammatical}
+use Rattle.query_reader.specs.Select.{AreSelect, IsGrammatical, is_explained, words_before}
 use Rattle.sql_query.specs.Queries.{Query}
-use Rattle.answer.specs.declared.stop.Stop.{Stop}
-use Rattle.answer.specs.declared.stop.Stop.TheVariants as stop
+use Rattle.sql_query.specs.WellBound.{IsWellBound}
 use Rattle.sql_query.specs.Worlds.{World}
-use Rattle.sql_query.specs.Tuples.{no_rows}
-use Rattle.answer.specs.Plans.{first_scan, fetches, looks}
-use Rattle.answer.specs.Answers.{IsAnswer, answer_text, tuples_of}
+use Rattle.reply.specs.declared.stop.Stop.{Stop}
+use Rattle.reply.specs.declared.stop.Stop.TheVariants as stop
+use Rattle.reply.specs.Answers.{HasNoPlan}
+use Rattle.reply.specs.Replies.{HasBegun, HasReplied, Leaves, Traces}
+use Rattle.reply.specs.Putting.{HasWriteCause}
 use Rattle.pgplan.specs.declared.end.End.{End}
-use Rattle.pgplan.specs.Actions.{answer}
+use Rattle.pgplan.specs.declared.end.End.TheVariants as ends
+use Rattle.definitions.specs.Actions.{Action, after, answer, explain}
 use Rattle.pgplan.specs.Ending.{end_of_refusal, end_of_stop}
-use Rattle.pgplan.specs.Accepted.{IsReadOver}
-use Rattle.pgplan.specs.Replies.{Reply, IsReply}
-use Rattle.pgplan.specs.Steps.{IsAnsweredOver, IsBegunOver, StopsOver}
-use Rattle.pgplan.proofs.QueryLemmas.{Binds, goes-on, query-fault, fault-plain}
+use Rattle.pgplan.specs.Accepted.{asked}
+use Rattle.pgplan.specs.Faults.{no_plan}
+use Rattle.pgplan.specs.Replies.{IsReply}
+use Rattle.pgplan.specs.Steps.{IsAnsweredOver, StopsOver}
+use Rattle.pgplan.proofs.QueryLemmas.{Binds, query-fault, fault-plain, read-query, unplanned}
 
 plain-field : (c : Contents) (f : Fault) → f.rec ≡ 0 → IsFieldOf c f
 plain-field c f none = λ field some. absurd (omega (arith, none, some))
 
 -- a query that is not read stops with the world and out as before
-pub reading-stops : (w : World) (text : List ℕ) (tokens : List Token) (from : ℕ) (held : Option (List ℕ)) (fetched : ℕ) (refused : Refusal) → AreWords text from tokens → length text ≤ MOST_SCRIPT_BYTES → 1 < length tokens →
-    begins_ddl (terminals text tokens) ≡ false → IsGrammatical text tokens (Err refused) → Binds w text tokens (Err refused) →
-    StopsOver (end_of_refusal refused) w text tokens held held fetched fetched
-reading-stops w text tokens from held fetched (refusal.Fault f) words short some other grammar binds =
+pub reading-stops : (w : World) (text : List ℕ) (tokens : List Token) (here : Traces) (refused : Refusal) → 1 < length tokens → IsGrammatical text tokens (Err refused) → Binds w text tokens (Err refused) →
+    StopsOver (end_of_refusal refused) w text tokens here here
+reading-stops w text tokens here (refusal.Fault f) some grammar binds =
     let one : 0 < length tokens = omega (arith, some) in
-    (query-fault w text tokens one f other (goes-on text from tokens words short some) grammar binds, plain-field w.contents f (fault-plain w text tokens one f grammar binds), refl, refl)
-reading-stops w text tokens from held fetched refusal.Memory words short some other grammar binds = inl (refl, refl)
+    (query-fault w text tokens one f grammar binds, plain-field w.contents f (fault-plain w text tokens one f grammar binds), refl)
+reading-stops w text tokens here refusal.Memory some grammar binds = inl refl
 
--- the reply to a query by its first scan
-abbrev scan_reply : World → Query → Reply
-scan_reply w q = record {
-  bytes = answer_text w q first_scan;
-  fetched = fetches w q first_scan (no_rows q);
-  looked = looks w q first_scan (no_rows q) + 32 * length (tuples_of w q first_scan);
+-- a query leaves the world as it is
+still : (w : World) (explained : Bool) (q : Query) → w ≡ after w (cond explained (explain q) (answer q))
+still w true q = refl
+still w false q = refl
+
+module _ (w : World) (text : List ℕ) (tokens : List Token) (some : 0 < length tokens) (q : Query) (select : AreSelect text tokens) (binds : Binds w text tokens (Ok q)) (well : IsWellBound w.contents q)
+    (explained : Bool) (is : explained ≡ is_explained (terminals text tokens)) (old new : Traces) where
+  -- its reply was written whole
+  pub answered-over : (next : ℕ) → next ≡ end_of tokens → HasReplied (IsReply w (cond explained (explain q) (answer q))) old new → IsAnsweredOver w text tokens next old new
+  answered-over next at replied =
+      subst (λ n. IsAnsweredOver w text tokens n old new) (sym at)
+      (asked text tokens q, read-query w text tokens some q select binds well, still w (is_explained (terminals text tokens)) q, subst (λ (b : Bool). HasReplied (IsReply w (cond b (explain q) (answer q))) old new) is replied)
+
+  begun-over : HasBegun (IsReply w (cond explained (explain q) (answer q))) old new → HasBegun (IsReply w (asked text tokens q)) old new
+  begun-over begun = subst (λ (b : Bool). HasBegun (IsReply w (cond b (explain q) (answer q))) old new) is begun
+
+  -- or it was not
+  printing-stops : (e : Stop) (select' : Token) → select' ≡ token_at tokens (words_before (terminals text tokens)) → Leaves e (IsReply w (cond explained (explain q) (answer q))) old new → (e ≡ stop.NoPlan → HasNoPlan w.contents q) →
+      StopsOver (end_of_stop e select') w text tokens old new
+  printing-stops stop.NoPlan word at same none =
+      subst (λ (t : Token). StopsOver (end_of_stop stop.NoPlan t) w text tokens old new) (sym at)
+      (unplanned w text tokens some q select binds well (none refl), plain-field w.contents (no_plan text tokens) refl, same)
+  printing-stops stop.Write word at begun none = (asked text tokens q, end_of tokens, read-query w text tokens some q select binds well, begun-over begun)
+  printing-stops stop.Memory word at (inl same) none = inl same
+  printing-stops stop.Memory word at (inr begun) none = inr (asked text tokens q, end_of tokens, read-query w text tokens some q select binds well, begun-over begun)
+
+  pub printing-told : (e : Stop) (word : Token) (end : End) → end ≡ end_of_stop e word → word ≡ token_at tokens (words_before (terminals text tokens)) → Leaves e (IsReply w (cond explained (explain q) (answer q))) old new → (e ≡ stop.NoPlan → HasNoPlan w.contents q) →
+      StopsOver end w text tokens old new
+  printing-told e word end ends at leaves none = subst (λ (x : End). StopsOver x w text tokens old new) (sym ends) (printing-stops e word at leaves none)
+
+-- what it told of out's faults
+abbrev ended : End → Result ℕ End
+ended e = Err e
+
+pub cause-by : (e : Stop) (word : Token) (end : End) (before now : ℕ) → end ≡ end_of_stop e word → HasWriteCause {T = Unit {0}} stop.Write before now (Err e) → HasWriteCause {T = ℕ} ends.Write before now (Err end)
+cause-by stop.NoPlan word end before now is cause = record {
+  write = λ wrong. absurd (let bad : ended (end_of_stop stop.NoPlan word) ≡ ended ends.Write = ap ended (sym is) ∙ wrong in cc (bad));
+  quiet = λ not. cause.quiet (λ wrong. absurd (cc (wrong)));
+}
+cause-by stop.Write word end before now is cause = record { write = λ so. cause.write refl; quiet = λ not. absurd (not (ap ended is)) }
+cause-by stop.Memory word end before now is cause = record {
+  write = λ wrong. absurd (let bad : ended (end_of_stop stop.Memory word) ≡ ended ends.Write = ap ended (sym is) ∙ wrong in cc (bad));
+  quiet = λ not. cause.quiet (λ wrong. absurd (cc (wrong)));
 }
 
-scan-replies : (w : World) (q : Query) → IsAnswer w q first_scan (answer_text w q first_scan) → IsReply w (answer q) (scan_reply w q)
-scan-replies w q is = (first_scan, is, refl, refl)
-
-module _ (w : World) (text : List ℕ) (tokens : List Token) (q : Query) (next : ℕ) (read : IsReadOver w text tokens (answer q) next) (is : IsAnswer w q first_scan (answer_text w q first_scan))
-    (held held' : Option (List ℕ)) (fetched fetched' : ℕ) where
-  pub answered-over : Appends held held' (answer_text w q first_scan) → fetched' ≡ fetched + fetches w q first_scan (no_rows q) → IsAnsweredOver w text tokens next held held' fetched fetched'
-  answered-over gained cost = record { query = q; read = read; reply = scan_reply w q; answers = scan-replies w q is; gained = gained; cost = cost }
-
-  begun-over : AppendsPrefix held held' (answer_text w q first_scan) → fetched' ≤ fetched + fetches w q first_scan (no_rows q) → IsBegunOver w text tokens held held' fetched fetched'
-  begun-over gained cost = record { query = q; next = next; read = read; reply = scan_reply w q; answers = scan-replies w q is; gained = gained; cost = cost }
-
-  -- a query whose answer is not written whole
-  pub printing-stops : AppendsPrefix held held' (answer_text w q first_scan) → fetched' ≤ fetched + fetches w q first_scan (no_rows q) → (e : Stop) → StopsOver (end_of_stop e) w text tokens held held' fetched fetched'
-  printing-stops gained cost stop.Write = begun-over gained cost
-  printing-stops gained cost stop.Memory = inr (begun-over gained cost)
-
 -- what a `?` hands on
-pub stops-by : (r : Result ℕ End) (e : End) (w : World) (text : List ℕ) (tokens : List Token) (held held' : Option (List ℕ)) (fetched fetched' : ℕ) →
-    StopsOver e w text tokens held held' fetched fetched' → IsErrAnd r (λ x. x ≡ e) → IfErr r (λ x. StopsOver x w text tokens held held' fetched fetched')
-stops-by (Ok n) e w text tokens held held' fetched fetched' stops is = tt
-stops-by (Err x) e w text tokens held held' fetched fetched' stops is = subst (λ x. StopsOver x w text tokens held held' fetched fetched') (sym is) stops
+pub stops-by : (r : Result ℕ End) (e : End) (w : World) (text : List ℕ) (tokens : List Token) (old new : Traces) → StopsOver e w text tokens old new → IsErrAnd r (λ x. x ≡ e) → IfErr r (λ x. StopsOver x w text tokens old new)
+stops-by (Ok n) e w text tokens old new stops is = tt
+stops-by (Err x) e w text tokens old new stops is = subst (λ x. StopsOver x w text tokens old new) (sym is) stops

@@ -1,5 +1,5 @@
 -- A definition that is read: what it does, or why it is refused.
-use Rattle.std.proofs.Common.{◌≡◌, ◌≤◌, ◌^◌, ℕ, Bool, true, false, cond, List, [], ◌∷◌, Vec, Global, length, slice_range, drop, get_or, Option, Some, None, Result, Ok, Err, All, refl, sym, arith, ap, subst, ◌∙◌, inl, inr}
+use Rattle.std.proofs.Common.{◌≡◌, ◌≤◌, ◌+◌, ◌^◌, ℕ, Bool, true, false, cond, List, [], ◌∷◌, Vec, Global, length, slice_range, drop, get_or, Option, Some, None, Result, Ok, Err, All, refl, sym, arith, ap, subst, ◌∙◌, inl, inr}
 use Rattle.std.specs.Str.{bytes_eq}
 use Rattle.pg_base.specs.declared.numbers.ColNo.{ColNo}
 use Rattle.pg_base.specs.declared.numbers.TableNo.{TableNo}
@@ -13,7 +13,7 @@ use Rattle.pg_value.specs.declared.columns.Column.{Column}
 use Rattle.pg_value.specs.declared.value.SqlType.{SqlType}
 use Rattle.sql_lex.specs.declared.tokens.Token.{Token}
 use Rattle.sql_grammar.specs.Terminals.{Ident, Said, token_of}
-use Rattle.sql_grammar.specs.Syntax.{Lit, Statement, empty, create_table, query, copy, sizes, column_statistics}
+use Rattle.sql_grammar.specs.Syntax.{Lit, Statement, empty, create_table, create_index, query, copy, sizes, column_statistics}
 use Rattle.sql_grammar.specs.Faults.{terminals, bytes_of}
 use Rattle.sql_grammar.specs.CopyLine.{IsDataStart}
 use Rattle.catalog.specs.Contents.{Contents, IsTable, table_at}
@@ -28,7 +28,7 @@ use Rattle.ddl_reader.specs.declared.ddl.Read.{Read}
 use Rattle.ddl_reader.specs.Readings.{definition, reading}
 use Rattle.ddl_reader.specs.Types.{type_named}
 use Rattle.ddl_reader.specs.Columns.{Written, written, Bound, bound, bound_by, bound_all, further}
-use Rattle.ddl_reader.specs.Lists.{before_all, bound_each}
+use Rattle.sql_cursor.specs.Lists.{before_all, bound_each}
 use Rattle.ddl_reader.specs.Statistics.{CommonWords, common_value, known, table_of_name, column_of_name, table_statistics, statistics_of, column_statistics_of, commons_of, bounds_of}
 use Rattle.expr_reader.specs.Literals.{typed_value}
 use Rattle.ddl_reader.specs.Tables.{table, sizes_for, statistics_for, data_for, Reading, table_reading, limited, table_of, data_of, data_after}
@@ -42,12 +42,14 @@ use Rattle.heap.specs.Stored.{Stored}
 use Rattle.sql_query.specs.Worlds.{World, stored_at}
 use Rattle.pgplan.specs.declared.end.End.{End}
 use Rattle.pgplan.specs.declared.end.End.TheVariants as ends
-use Rattle.pgplan.specs.Actions.{Action, after, make, size, describe, fill}
+use Rattle.definitions.specs.Actions.{Action, after, make, size, describe, fill}
 use Rattle.pgplan.specs.Ending.{end_of_refusal}
 use Rattle.pgplan.specs.Faults.{IsRefused, IsMeaningFault, IsFaultOver, in_syntax, in_meaning}
-use Rattle.pgplan.specs.Accepted.{end_of, Carries, Does}
-use Rattle.pgplan.specs.Replies.{IsReply, no_reply}
-use Rattle.pgplan.specs.Steps.{IsDefined, Refuses, RefusesDefinition}
+use Rattle.sql_lex.specs.Ends.{end_of}
+use Rattle.pgplan.specs.Accepted.{Carries, Does}
+use Rattle.store.specs.Kept.{load_looks}
+use Rattle.pgplan.specs.Replies.{IsReply, silent}
+use Rattle.pgplan.specs.Steps.{IsCarrying, IsDefined, Refuses, RefusesData, RefusesDefinition}
 use Rattle.pgplan.proofs.PlainLemmas.{IsPlain, next-plain, typed-plain}
 
 -- faults of words, of syntax and of names are in no record of data
@@ -119,7 +121,8 @@ statistics-plain cat n c distinct nulls commons bounds =
 
 means-plain : (cat : Contents) (text : List ℕ) (x : Statement) (r : Result Reading Fault) → Means cat text x r → IsPlain r
 means-plain cat text (empty e) r means = absurd means
-means-plain cat text (query q e) r means = absurd means
+means-plain cat text (create_index x) r means = absurd means
+means-plain cat text (query x) r means = absurd means
 means-plain cat text (create_table k t n o c cs m e) r means = subst IsPlain (sym means) (table-plain (bytes_of n) (token_of n) (bound_all (written c ∷ further cs)) (columns-plain (written c ∷ further cs)))
 means-plain cat text (sizes k n r p e) m means = subst IsPlain (sym means) (sizes-plain cat n r p)
 means-plain cat text (column_statistics k n c d nulls commons bounds e) r means = subst IsPlain (sym means) (statistics-plain cat n c d nulls (commons_of commons) (bounds_of bounds))
@@ -128,7 +131,8 @@ means-plain cat text (copy k n null) r (start, begins, means) = subst IsPlain (s
 module _ (w : World) (text : List ℕ) (tokens : List Token) where
   names-fault : (x : Statement) (f : Fault) → Means w.contents text x (Err f) → IsMeaningFault w text tokens x f
   names-fault (empty e) f means = absurd means
-  names-fault (query q e) f means = absurd means
+  names-fault (create_index x) f means = absurd means
+  names-fault (query x) f means = absurd means
   names-fault (create_table k t n o c cs m e) f means = inl means
   names-fault (sizes k n r p e) f means = inl means
   names-fault (column_statistics k n c d nulls commons bounds e) f means = inl means
@@ -136,7 +140,8 @@ module _ (w : World) (text : List ℕ) (tokens : List Token) where
 
   carried-fault : (x : Statement) (r : Reading) (f : Fault) → Means w.contents text x (Ok r) → IsRefused w text r.definition r.at f → IsMeaningFault w text tokens x f
   carried-fault (empty e) r f means because = absurd means
-  carried-fault (query q e) r f means because = absurd means
+  carried-fault (create_index x) r f means because = absurd means
+  carried-fault (query x) r f means because = absurd means
   carried-fault (create_table k t n o c cs m e) r f means because = inr (r, means, because)
   carried-fault (sizes k n m p e) r f means because = inr (r, means, because)
   carried-fault (column_statistics k n c d nulls commons bounds e) r f means because = inr (r, means, because)
@@ -144,7 +149,8 @@ module _ (w : World) (text : List ℕ) (tokens : List Token) where
 
   does : (x : Statement) (r : Reading) (action : Action) (next : ℕ) → Means w.contents text x (Ok r) → Carries w text tokens r.definition action next → Does w text tokens x action next
   does (empty e) r action next means carries = absurd means
-  does (query q e) r action next means carries = absurd means
+  does (create_index x) r action next means carries = absurd means
+  does (query x) r action next means carries = absurd means
   does (create_table k t n o c cs m e) r action next means carries = (r, means, carries)
   does (sizes k n m p e) r action next means carries = (r, means, carries)
   does (column_statistics k n c d nulls commons bounds e) r action next means carries = (r, means, carries)
@@ -156,33 +162,32 @@ module _ (w : World) (text : List ℕ) (tokens : List Token) where
       (in_meaning m.statement m.spelled (names-fault m.statement f m.means), no-field w.contents f (means-plain w.contents text m.statement (Err f) m.means))
 
   -- what the reader refuses
-  pub read-refused : (r : Refusal) → begins_ddl (terminals text tokens) ≡ true → IsDdlRefusal w.contents text tokens r → Refuses (end_of_refusal r) w text tokens
-  read-refused (refusal.Fault f) opens h = refused-by f (subst (IsDdlFault w.contents text tokens f) opens h)
-  read-refused refusal.Memory opens h = tt
+  pub read-refused : (looked : ℕ) (r : Refusal) → begins_ddl (terminals text tokens) ≡ true → IsDdlRefusal w.contents text tokens r → Refuses (end_of_refusal r) w text tokens looked looked
+  read-refused looked (refusal.Fault f) opens h = let (fault, field) = refused-by f (subst (IsDdlFault w.contents text tokens f) opens h) in (fault, field, refl)
+  read-refused looked refusal.Memory opens h = inl refl
 
   -- what is read and not carried out
-  pub definition-refused : (r : Reading) (e : End) → IsMeaning w.contents text tokens (Ok r) → RefusesDefinition e w text r.definition r.at → Refuses e w text tokens
-  definition-refused r (ends.Fault f) m h = (in_meaning m.statement m.spelled (carried-fault m.statement r f m.means h.0), h.1)
-  definition-refused r ends.Write m h = h
-  definition-refused r ends.Memory m h = tt
+  pub definition-refused : (looked looked' : ℕ) (r : Reading) (e : End) → looked' ≡ looked → IsMeaning w.contents text tokens (Ok r) → RefusesDefinition e w text r.definition r.at → Refuses e w text tokens looked looked'
+  definition-refused looked looked' r (ends.Fault f) same m h = (in_meaning m.statement m.spelled (carried-fault m.statement r f m.means h.0), h.1, same)
+  definition-refused looked looked' r ends.Write same m h = h
+  definition-refused looked looked' r ends.Memory same m h = inl same
 
   -- what is carried out
-  pub defined-as : (w' : World) (r : Reading) (action : Action) (next : ℕ) → IsMeaning w.contents text tokens (Ok r) → Carries w text tokens r.definition action next → IsReply w action no_reply → w' ≡ after w action →
-      IsDefined w w' text tokens next
-  defined-as w' r action next m carries reply is =
-      (action, record { statement = m.statement; spelled = m.spelled; does = does m.statement r action next m.means carries }, reply, is)
+  pub carrying-as : (looked looked' : ℕ) (r : Reading) (action : Action) (next looks : ℕ) → IsMeaning w.contents text tokens (Ok r) → Carries w text tokens r.definition action next → IsReply w action (silent looks) → looked' ≤ looked + looks →
+      IsCarrying w text tokens action next looked looked'
+  carrying-as looked looked' r action next looks m carries reply within =
+      record { read = record { statement = m.statement; spelled = m.spelled; does = does m.statement r action next m.means carries }; looks = looks; reply = reply; within = within }
+
+  -- what is carried out without a look
+  pub defined-as : (looked : ℕ) (w' : World) (r : Reading) (action : Action) (next : ℕ) → IsMeaning w.contents text tokens (Ok r) → Carries w text tokens r.definition action next → IsReply w action (silent 0) → w' ≡ after w action →
+      IsDefined w w' text tokens next looked looked
+  defined-as looked w' r action next m carries reply is = (action, carrying-as looked looked r action next 0 m carries reply (omega arith), is)
 
 -- why a new table is refused is told without a text
 table-refused : (e : End) (w : World) (text name : List ℕ) (names : List (List ℕ)) (columns : List Column) (at : List ℕ) → RefusesDefinition e w [] (table name names columns) at → RefusesDefinition e w text (table name names columns) at
 table-refused (ends.Fault f) w text name names columns at h = h
 table-refused ends.Write w text name names columns at h = h
 table-refused ends.Memory w text name names columns at h = tt
-
--- why data are refused is told without places
-data-refused : (e : End) (w : World) (text : List ℕ) (t : TableNo) (start : ℕ) (at : List ℕ) → RefusesDefinition e w text (data_for t start) [] → RefusesDefinition e w text (data_for t start) at
-data-refused (ends.Fault f) w text t start at h = h
-data-refused ends.Write w text t start at h = h
-data-refused ends.Memory w text t start at h = tt
 
 -- a reading by its definition
 seen : (v : Read) (d : Ddl) → v.ddl ≡ d → reading v ≡ record { definition = definition d; at = v.at.items; method = v.method }
@@ -194,7 +199,7 @@ low-places text at places same short low k d lt =
     let is = ap (λ (l : List ℕ). get_or l k d) same in
     omega (arith, here, is, short)
 
-module _ (w : World) (text : List ℕ) (tokens : List Token) (v : Read) where
+module _ (w : World) (text : List ℕ) (tokens : List Token) (v : Read) (looked : ℕ) where
   -- a new table that was read
   module _ (name : List ℕ) (names : Vec (List ℕ) Global) (columns : List Column) (is : v.ddl ≡ Table name names columns) where
     pub sound-table : IsSound w.contents text (reading v) → IsSoundTable text name names.items columns v.at.items
@@ -204,13 +209,13 @@ module _ (w : World) (text : List ℕ) (tokens : List Token) (v : Read) where
       table-means : IsMeaning w.contents text tokens (Ok (record { definition = table name names.items columns; at = v.at.items; method = v.method }))
       table-means = subst (λ (r : Reading). IsMeaning w.contents text tokens (Ok r)) (seen v (Table name names columns) is) m
 
-      pub table-told : (at : List ℕ) → at ≡ v.at.items → (e : End) → RefusesDefinition e w [] (table name names.items columns) at → Refuses e w text tokens
+      pub table-told : (at : List ℕ) → at ≡ v.at.items → (e : End) → RefusesDefinition e w [] (table name names.items columns) at → Refuses e w text tokens looked looked
       table-told at same e h =
-          definition-refused w text tokens _ e table-means
+          definition-refused w text tokens looked looked _ e refl table-means
           (table-refused e w text name names.items columns v.at.items (subst (RefusesDefinition e w [] (table name names.items columns)) same h))
 
-      pub table-defined : (w' : World) (next : ℕ) → IsAcceptable w.contents name names.items → next ≡ end_of tokens → w' ≡ after w (make name names.items columns) → IsDefined w w' text tokens next
-      table-defined w' next accepted at made = defined-as w text tokens w' _ (make name names.items columns) next table-means (accepted, refl, at) refl made
+      pub table-defined : (w' : World) (next : ℕ) → IsAcceptable w.contents name names.items → next ≡ end_of tokens → w' ≡ after w (make name names.items columns) → IsDefined w w' text tokens next looked looked
+      table-defined w' next accepted at made = defined-as w text tokens looked w' _ (make name names.items columns) next table-means (accepted, refl, at) refl made
 
   -- data that were read
   module _ (t : TableNo) (start : ℕ) (is : v.ddl ≡ Copy t start) where
@@ -221,11 +226,19 @@ module _ (w : World) (text : List ℕ) (tokens : List Token) (v : Read) where
       data-means : IsMeaning w.contents text tokens (Ok (record { definition = data_for t start; at = v.at.items; method = v.method }))
       data-means = subst (λ (r : Reading). IsMeaning w.contents text tokens (Ok r)) (seen v (Copy t start) is) m
 
-      pub data-told : (e : End) → RefusesDefinition e w text (data_for t start) [] → Refuses e w text tokens
-      data-told e h = definition-refused w text tokens _ e data-means (data-refused e w text t start v.at.items h)
+      data-carrying : (looked' next end : ℕ) (s : Stored) → IsBlockEnd text start end next → loaded (stored_at w t) (records_of (slice_range text start end)) ≡ Ok s → looked' ≤ looked + load_looks w.contents t (stored_at w t) s →
+          IsCarrying w text tokens (fill t s) next looked looked'
+      data-carrying looked' next end s block ok within = carrying-as w text tokens looked looked' _ (fill t s) next _ data-means (end, s, block, ok, refl) refl within
 
-      pub data-defined : (w' : World) (next end : ℕ) (s : Stored) → IsBlockEnd text start end next → loaded (stored_at w t) (records_of (slice_range text start end)) ≡ Ok s → w' ≡ after w (fill t s) → IsDefined w w' text tokens next
-      data-defined w' next end s block ok filled = defined-as w text tokens w' _ (fill t s) next data-means (end, s, block, ok, refl) refl filled
+      pub data-told : (e : End) (looked' : ℕ) → RefusesData e w text t start looked looked' → Refuses e w text tokens looked looked'
+      data-told (ends.Fault f) looked' (h, same) = definition-refused w text tokens looked looked' _ (ends.Fault f) same data-means h
+      data-told ends.Write looked' h = h
+      data-told ends.Memory looked' (inl same) = inl same
+      data-told ends.Memory looked' (inr (end, next, s, block, ok, within)) = inr (fill t s, next, data-carrying looked' next end s block ok within)
+
+      pub data-defined : (w' : World) (looked' next end : ℕ) (s : Stored) → IsBlockEnd text start end next → loaded (stored_at w t) (records_of (slice_range text start end)) ≡ Ok s → w' ≡ after w (fill t s) →
+          looked' ≡ looked + load_looks w.contents t (stored_at w t) s → IsDefined w w' text tokens next looked looked'
+      data-defined w' looked' next end s block ok filled looks = (fill t s, data-carrying looked' next end s block ok (omega (arith, looks)), filled)
 
   -- the sizes of a table that were read
   module _ (t : TableNo) (rows pages : ℕ) (is : v.ddl ≡ Rows t rows pages) where
@@ -236,11 +249,11 @@ module _ (w : World) (text : List ℕ) (tokens : List Token) (v : Read) where
       sizes-means : IsMeaning w.contents text tokens (Ok (record { definition = sizes_for t rows pages; at = v.at.items; method = v.method }))
       sizes-means = subst (λ (r : Reading). IsMeaning w.contents text tokens (Ok r)) (seen v (Rows t rows pages) is) m
 
-      pub sizes-told : (at : List ℕ) → at ≡ v.at.items → (e : End) → RefusesDefinition e w text (sizes_for t rows pages) at → Refuses e w text tokens
-      sizes-told at same e h = definition-refused w text tokens _ e sizes-means (subst (RefusesDefinition e w text (sizes_for t rows pages)) same h)
+      pub sizes-told : (at : List ℕ) → at ≡ v.at.items → (e : End) → RefusesDefinition e w text (sizes_for t rows pages) at → Refuses e w text tokens looked looked
+      sizes-told at same e h = definition-refused w text tokens looked looked _ e refl sizes-means (subst (RefusesDefinition e w text (sizes_for t rows pages)) same h)
 
-      pub sizes-defined : (w' : World) (next : ℕ) → is_count rows ≡ true → is_count pages ≡ true → next ≡ end_of tokens → w' ≡ after w (size t rows pages) → IsDefined w w' text tokens next
-      sizes-defined w' next some more at made = defined-as w text tokens w' _ (size t rows pages) next sizes-means (some, more, refl, at) refl made
+      pub sizes-defined : (w' : World) (next : ℕ) → is_count rows ≡ true → is_count pages ≡ true → next ≡ end_of tokens → w' ≡ after w (size t rows pages) → IsDefined w w' text tokens next looked looked
+      sizes-defined w' next some more at made = defined-as w text tokens looked w' _ (size t rows pages) next sizes-means (some, more, refl, at) refl made
 
   -- the statistics of a column that were read
   module _ (t : TableNo) (col : ColNo) (stats : ColumnStats) (is : v.ddl ≡ Column' t col stats) where
@@ -251,8 +264,8 @@ module _ (w : World) (text : List ℕ) (tokens : List Token) (v : Read) where
       statistics-means : IsMeaning w.contents text tokens (Ok (record { definition = statistics_for t col (statistics stats); at = v.at.items; method = v.method }))
       statistics-means = subst (λ (r : Reading). IsMeaning w.contents text tokens (Ok r)) (seen v (Column' t col stats) is) m
 
-      pub statistics-told : (at : List ℕ) → at ≡ v.at.items → (e : End) → RefusesDefinition e w text (statistics_for t col (statistics stats)) at → Refuses e w text tokens
-      statistics-told at same e h = definition-refused w text tokens _ e statistics-means (subst (RefusesDefinition e w text (statistics_for t col (statistics stats))) same h)
+      pub statistics-told : (at : List ℕ) → at ≡ v.at.items → (e : End) → RefusesDefinition e w text (statistics_for t col (statistics stats)) at → Refuses e w text tokens looked looked
+      statistics-told at same e h = definition-refused w text tokens looked looked _ e refl statistics-means (subst (RefusesDefinition e w text (statistics_for t col (statistics stats))) same h)
 
-      pub statistics-defined : (w' : World) (next : ℕ) → AreAllowed (statistics stats) → next ≡ end_of tokens → w' ≡ after w (describe t col (statistics stats)) → IsDefined w w' text tokens next
-      statistics-defined w' next allowed at made = defined-as w text tokens w' _ (describe t col (statistics stats)) next statistics-means (allowed, refl, at) refl made
+      pub statistics-defined : (w' : World) (next : ℕ) → AreAllowed (statistics stats) → next ≡ end_of tokens → w' ≡ after w (describe t col (statistics stats)) → IsDefined w w' text tokens next looked looked
+      statistics-defined w' next allowed at made = defined-as w text tokens looked w' _ (describe t col (statistics stats)) next statistics-means (allowed, refl, at) refl made

@@ -3,7 +3,6 @@ pub mod ScriptLemmas
 pub mod TopLemmas
 pub mod SteppingLemmas
 pub mod WordEndLemmas
-pub mod StoreLemmas
 pub mod PlainLemmas
 pub mod BindingLemmas
 pub mod QueryLemmas
@@ -14,3 +13,8 @@ pub mod DefineLemmas
 pub mod FirstFaultLemmas
 pub mod OneEndLemmas
 pub mod OneReadingLemmas
+pub mod IndexingLemmas
+pub mod OneIndexLemmas
+pub mod LoadingLemmas
+pub mod WordPlaceLemmas
+pub mod ReplyLemmas

@@ -76,7 +76,7 @@ one_repeat names p q h k = elim (cases_lt p q) [
 ]
 
 -- a fault that is none
-no-fault : (f : Fault) → None ≡ Some f → ⊥
+pub no-fault : (f : Fault) → None ≡ Some f → ⊥
 no-fault f e = cc
 
 -- a new table is refused in one way

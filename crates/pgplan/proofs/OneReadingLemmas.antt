@@ -1,33 +1,41 @@
 -- A statement has one reading from each place on.
-use Rattle.std.proofs.Common.{◌≡◌, ℕ, inl, inr, List, ◌∷◌, sym, ap, ◌∙◌, subst, slice_range, Some, Result, Ok, Err}
+use Rattle.std.proofs.Common.{◌≡◌, ℕ, inl, inr, Bool, true, false, cond, List, ◌∷◌, sym, ap, ◌∙◌, subst, slice_range, Some, Result, Ok, Err}
 use Rattle.pg_base.specs.declared.faults.Fault.{Fault}
 use Rattle.sql_lex.specs.declared.tokens.Token.{Token}
 use Rattle.pg_base.specs.Faults.{syntax_fault}
 use Rattle.sql_lex.proofs.UniqueLaws.{one_list, one_fault, no_fault}
 use Rattle.sql_grammar.specs.Terminals.{token_of}
-use Rattle.sql_grammar.specs.Syntax.{Statement, empty, create_table, query, copy, sizes, column_statistics}
-use Rattle.sql_grammar.specs.Faults.{bytes_of, IsStatement}
+use Rattle.sql_grammar.specs.Syntax.{CreateIndex, OrderedSelect, Statement, empty, create_table, create_index, query, copy, sizes, column_statistics}
+use Rattle.sql_grammar.specs.Faults.{bytes_of, IsStatement, terminals}
 use Rattle.catalog.specs.Contents.{Contents}
-use Rattle.catalog.specs.Tables.{table_named}
+use Rattle.catalog.specs.Tables.{IsIndexRefusal, table_named}
+use Rattle.eq_classes.specs.Holding.{IsTable}
 use Rattle.ddl_reader.specs.Statements.{Means}
 use Rattle.ddl_reader.specs.Tables.{Definition, table, sizes_for, statistics_for, data_for, Reading, data_after}
 use Rattle.heap.specs.Loading.{records_of, loaded}
+use Rattle.index_reader.specs.Meaning.{Reading as IndexReading}
 use Rattle.query_reader.specs.Binding.{Bound, query_with}
+use Rattle.query_reader.specs.Select.{is_explained}
+use Rattle.sql_query.specs.Queries.{Query}
 use Rattle.sql_query.specs.WellBound.{given_of}
 use Rattle.eq_classes.proofs.UniqueLemmas.{table_one}
 use Rattle.sql_query.specs.Worlds.{World, stored_at}
-use Rattle.pgplan.specs.Actions.{Action, fill, answer}
-use Rattle.pgplan.specs.Accepted.{Answers, Carries, Does, IsReadOver, IsRead}
-use Rattle.pgplan.specs.Faults.{word_ends, rows_fault, IsRefused, IsDefinitionFault, IsMeaningFault, IsFaultOver, in_syntax, in_meaning, IsFault, in_words, after_words}
-use Rattle.pgplan.specs.Replies.{Reply, IsReply}
-use Rattle.sql_grammar.proofs.Trees.{one_tree}
+use Rattle.definitions.specs.Actions.{Action, answer, build, explain, fill}
+use Rattle.pgplan.specs.Accepted.{Answers, Carries, Does, Indexes, IsReadOver, IsRead, asked}
+use Rattle.pgplan.specs.Faults.{index_fault, word_ends, rows_fault, IsRefused, IsDefinitionFault, IsIndexFault, IsQueryFault, IsMeaningFault, IsFaultOver, in_syntax, in_meaning, IsFault, in_words, after_words}
+use Rattle.reply.specs.Answers.{HasNoPlan}
+use Rattle.reply.specs.Replies.{Reply}
+use Rattle.pgplan.specs.Replies.{IsReply}
+use Rattle.pgplan.proofs.OneIndexLemmas.{one_index_refusal, no_index_refusal}
+use Rattle.sql_grammar.proofs.StatementTrees.{one_tree}
 use Rattle.pgplan.proofs.FirstFaultLemmas.{one_first, no_first}
 use Rattle.pgplan.proofs.OneEndLemmas.{one_end, no_end, one_start, some-one, one_refusal, no_refusal, one_size_refusal, one_statistics_refusal, no_size_refusal, no_statistics_refusal}
 
 -- a definition means one thing
 one_meaning : (c : Contents) (text : List ℕ) (x : Statement) (r s : Result Reading Fault) → Means c text x r → Means c text x s → r ≡ s
 one_meaning c text (empty e) r s h k = absurd h
-one_meaning c text (query q e) r s h k = absurd h
+one_meaning c text (create_index x) r s h k = absurd h
+one_meaning c text (query x) r s h k = absurd h
 one_meaning c text (create_table a t n o d ds m e) r s h k = h ∙ sym k
 one_meaning c text (sizes k n d p e) r s h l = h ∙ sym l
 one_meaning c text (column_statistics k n d i nulls commons bounds e) r s h l = h ∙ sym l
@@ -53,16 +61,23 @@ module _ (w : World) (text : List ℕ) (tokens : List Token) where
       one_carried r.definition a b m n i (subst (λ e. Carries w text tokens e.definition b n) same j)
 
   -- a query has one table of classes
-  one_answer : (p : Bound) (a b : Action) → Answers w p a → Answers w p b → a ≡ b
+  one_answer : (p : Bound) (a b : Action) → Answers w text tokens p a → Answers w text tokens p b → a ≡ b
   one_answer p a b (t, h, i) (u, k, j) =
-      i ∙ (ap (λ z. answer (query_with z p)) (table_one (given_of w.contents (query_with t p)) t u h k) ∙ sym j)
+      i ∙ (ap (λ z. asked text tokens (query_with z p)) (table_one (given_of w.contents (query_with t p)) t u h k) ∙ sym j)
+
+  one_index : (x : CreateIndex) (a b : Action) (m n : ℕ) → Indexes w tokens x a m → Indexes w tokens x b n → (a ≡ b) × (m ≡ n)
+  one_index x a b m n (r, h, accepted, i, p) (s, k, accepted', j, q) =
+      let both : Ok r ≡ Ok s = sym h ∙ k in
+      let same : r ≡ s = cc in
+      (i ∙ (ap (λ (y : IndexReading). build y.name y.index) same ∙ sym j), p ∙ sym q)
 
   one_done : (x : Statement) (a b : Action) (m n : ℕ) → Does w text tokens x a m → Does w text tokens x b n → (a ≡ b) × (m ≡ n)
   one_done (empty e) a b m n h k = (h.0 ∙ sym k.0, h.1 ∙ sym k.1)
-  one_done (query q e) a b m n (p, h, i, x) (s, k, j, y) =
+  one_done (create_index x) a b m n h k = one_index x a b m n h k
+  one_done (query q) a b m n (p, h, i, x) (s, k, j, y) =
       let both : Ok p ≡ Ok s = sym h ∙ k in
       let same : s ≡ p = cc in
-      (one_answer p a b i (subst (λ z. Answers w z b) same j), x ∙ sym y)
+      (one_answer p a b i (subst (λ z. Answers w text tokens z b) same j), x ∙ sym y)
   one_done (sizes c i d p e) a b m n (r, h, u) (s, k, v) = one_defined (sizes c i d p e) a b m n r s h k u v
   one_done (column_statistics c i d p nulls commons bounds e) a b m n (r, h, u) (s, k, v) = one_defined (column_statistics c i d p nulls commons bounds e) a b m n r s h k u v
   one_done (create_table c t i o d ds z e) a b m n (r, h, p) (s, k, q) = one_defined (create_table c t i o d ds z e) a b m n r s h k p q
@@ -113,21 +128,62 @@ module _ (w : World) (text : List ℕ) (tokens : List Token) where
       let same : s ≡ r = cc in
       not_refused r.definition a n r.at f i (subst (λ e. IsRefused w text e.definition e.at f) same j)
 
+  one_indexed : (x : CreateIndex) (f g : Fault) → IsIndexFault w tokens x f → IsIndexFault w tokens x g → f ≡ g
+  one_indexed x f g (inl h) (inl k) = let both : Err f ≡ Err g = sym h ∙ k in cc
+  one_indexed x f g (inl h) (inr (s, e, k, j, v)) = let both : Err f ≡ Ok s = sym h ∙ k in absurd (cc)
+  one_indexed x f g (inr (r, d, h, i, u)) (inl k) = let both : Ok r ≡ Err g = sym h ∙ k in absurd (cc)
+  one_indexed x f g (inr (r, d, h, i, u)) (inr (s, e, k, j, v)) =
+      let both : Ok r ≡ Ok s = sym h ∙ k in
+      let same : s ≡ r = cc in
+      one_index_refusal w.contents r.name r.index r.at r.method tokens d e f g i (subst (λ (y : IndexReading). IsIndexRefusal w.contents y.name y.index e) same j) u
+      (subst (λ (y : IndexReading). index_fault e y.at y.method tokens ≡ Some g) same v)
+
+  not_indexed : (x : CreateIndex) (a : Action) (n : ℕ) (f : Fault) → Indexes w tokens x a n → IsIndexFault w tokens x f → ⊥
+  not_indexed x a n f (r, h, accepted, i, p) (inl k) = let both : Ok r ≡ Err f = sym h ∙ k in absurd (cc)
+  not_indexed x a n f (r, h, accepted, i, p) (inr (s, e, k, j, v)) =
+      let both : Ok r ≡ Ok s = sym h ∙ k in
+      let same : s ≡ r = cc in
+      no_index_refusal w.contents r.name r.index r.at r.method tokens e f accepted (subst (λ (y : IndexReading). IsIndexRefusal w.contents y.name y.index e) same j)
+      (subst (λ (y : IndexReading). index_fault e y.at y.method tokens ≡ Some f) same v)
+
+  one_query : (x : OrderedSelect) (f g : Fault) → IsQueryFault w text tokens x f → IsQueryFault w text tokens x g → f ≡ g
+  one_query x f g (inl h) (inl k) = let both : Err f ≡ Err g = sym h ∙ k in cc
+  one_query x f g (inl h) (inr (b, k, (t, of, none, at))) = let both : Err f ≡ Ok b = sym h ∙ k in absurd (cc)
+  one_query x f g (inr (b, h, (t, of, none, at))) (inl k) = let both : Ok b ≡ Err g = sym h ∙ k in absurd (cc)
+  one_query x f g (inr (b, h, (t, of, none, at))) (inr (d, k, (u, of', none', at'))) = at ∙ sym at'
+
+  -- a query with a reply has a plan
+  has-plan : (explained : Bool) (q : Query) (r : Reply) → IsReply w (cond explained (explain q) (answer q)) r → HasNoPlan w.contents q → ⊥
+  has-plan true q r reply none = none reply.plan reply.explanation.best.finished reply.explanation.best.admissible
+  has-plan false q r reply none = none reply.plan reply.answer.best.finished reply.answer.best.admissible
+
+  not_queried : (x : OrderedSelect) (a : Action) (n : ℕ) (r : Reply) (f : Fault) → Does w text tokens (query x) a n → IsReply w a r → IsQueryFault w text tokens x f → ⊥
+  not_queried x a n r f (p, h, i, y) reply (inl k) = let both : Ok p ≡ Err f = sym h ∙ k in absurd (cc)
+  not_queried x a n r f (p, h, (t, of, is), y) reply (inr (b, k, (u, of', none, at))) =
+      let both : Ok p ≡ Ok b = sym h ∙ k in
+      let same : b ≡ p = cc in
+      let there : IsTable (given_of w.contents (query_with u p)) u = subst (λ (z : Bound). IsTable (given_of w.contents (query_with u z)) u) same of' in
+      let one : u ≡ t = sym (table_one (given_of w.contents (query_with t p)) t u of there) in
+      let plans = subst (λ (z : Bound). HasNoPlan w.contents (query_with u z)) same none in
+      has-plan (is_explained (terminals text tokens)) (query_with t p) r (subst (λ (z : Action). IsReply w z r) is reply) (subst (λ z. HasNoPlan w.contents (query_with z p)) one plans)
+
   one_meant : (x : Statement) (f g : Fault) → IsMeaningFault w text tokens x f → IsMeaningFault w text tokens x g → f ≡ g
   one_meant (empty e) f g h k = absurd h
-  one_meant (query q e) f g h k = let both : Err f ≡ Err g = sym h ∙ k in cc
+  one_meant (create_index x) f g h k = one_indexed x f g h k
+  one_meant (query x) f g h k = one_query x f g h k
   one_meant (create_table c t n o d ds m e) f g h k = one_definition (create_table c t n o d ds m e) f g h k
   one_meant (sizes c n r p e) f g h k = one_definition (sizes c n r p e) f g h k
   one_meant (column_statistics c n d i nulls commons bounds e) f g h k = one_definition (column_statistics c n d i nulls commons bounds e) f g h k
   one_meant (copy c n null) f g h k = one_definition (copy c n null) f g h k
 
-  not_meant : (x : Statement) (a : Action) (n : ℕ) (f : Fault) → Does w text tokens x a n → IsMeaningFault w text tokens x f → ⊥
-  not_meant (empty e) a n f h k = absurd k
-  not_meant (query q e) a n f (p, h, i, x) k = let both : Ok p ≡ Err f = sym h ∙ k in absurd (cc)
-  not_meant (create_table c t i o d ds m e) a n f (r, h, p) k = no_definition (create_table c t i o d ds m e) a n r f h p k
-  not_meant (sizes c i d p e) a n f (r, h, u) k = no_definition (sizes c i d p e) a n r f h u k
-  not_meant (column_statistics c i d p nulls commons bounds e) a n f (r, h, u) k = no_definition (column_statistics c i d p nulls commons bounds e) a n r f h u k
-  not_meant (copy c i null) a n f (r, h, p) k = no_definition (copy c i null) a n r f h p k
+  not_meant : (x : Statement) (a : Action) (n : ℕ) (r : Reply) (f : Fault) → Does w text tokens x a n → IsReply w a r → IsMeaningFault w text tokens x f → ⊥
+  not_meant (empty e) a n r f h reply k = absurd k
+  not_meant (create_index x) a n r f h reply k = not_indexed x a n f h k
+  not_meant (query x) a n r f h reply k = not_queried x a n r f h reply k
+  not_meant (create_table c t i o d ds m e) a n r f (s, h, p) reply k = no_definition (create_table c t i o d ds m e) a n s f h p k
+  not_meant (sizes c i d p e) a n r f (s, h, u) reply k = no_definition (sizes c i d p e) a n s f h u k
+  not_meant (column_statistics c i d p nulls commons bounds e) a n r f (s, h, u) reply k = no_definition (column_statistics c i d p nulls commons bounds e) a n s f h u k
+  not_meant (copy c i null) a n r f (s, h, p) reply k = no_definition (copy c i null) a n s f h p k
 
   one_fault_over : (f g : Fault) → IsFaultOver w text tokens f → IsFaultOver w text tokens g → f ≡ g
   one_fault_over f g (in_syntax p) (in_syntax q) = one_first IsStatement text tokens f g p q
@@ -137,11 +193,11 @@ module _ (w : World) (text : List ℕ) (tokens : List Token) where
       let same = one_tree y x (so.words ∙ sym is.words) in
       one_meant x f g h (subst (λ z. IsMeaningFault w text tokens z g) same k)
 
-  no_fault_over : (a : Action) (n : ℕ) (f : Fault) → IsReadOver w text tokens a n → IsFaultOver w text tokens f → ⊥
-  no_fault_over a n f p (in_syntax q) = no_first text tokens p.statement f p.spelled q
-  no_fault_over a n f p (in_meaning y so k) =
+  no_fault_over : (a : Action) (n : ℕ) (r : Reply) (f : Fault) → IsReadOver w text tokens a n → IsReply w a r → IsFaultOver w text tokens f → ⊥
+  no_fault_over a n r f p reply (in_syntax q) = no_first text tokens p.statement f p.spelled q
+  no_fault_over a n r f p reply (in_meaning y so k) =
       let same = one_tree y p.statement (so.words ∙ sym p.spelled.words) in
-      not_meant p.statement a n f p.does (subst (λ x. IsMeaningFault w text tokens x f) same k)
+      not_meant p.statement a n r f p.does reply (subst (λ x. IsMeaningFault w text tokens x f) same k)
 
 -- one action and one end
 pub one_read : (w : World) (text : List ℕ) (from m n : ℕ) (a b : Action) → IsRead w text from a m → IsRead w text from b n → (a ≡ b) × (m ≡ n)
@@ -157,4 +213,4 @@ one_first_fault w text from f g (after_words ts h p) (after_words us k q) = one_
 -- not both, where there is a reply
 pub read_apart : (w : World) (text : List ℕ) (from n : ℕ) (a : Action) (r : Reply) (f : Fault) → IsRead w text from a n → IsReply w a r → IsFault w text from f → ⊥
 read_apart w text from n a r f (ts, h, p) reply (in_words k (us, q)) = no_fault text from ts us f.at h q
-read_apart w text from n a r f (ts, h, p) reply (after_words us k q) = no_fault_over w text ts a n f p (subst (λ l. IsFaultOver w text l f) (one_list text from us ts k h) q)
+read_apart w text from n a r f (ts, h, p) reply (after_words us k q) = no_fault_over w text ts a n r f p reply (subst (λ l. IsFaultOver w text l f) (one_list text from us ts k h) q)

@@ -20,7 +20,7 @@ use Rattle.sql_lex.specs.declared.tokens.Token.{Token}
 use Rattle.sql_lex.specs.Forms.{IsToken, symbols}
 use Rattle.sql_lex.specs.Words.{AreWords, IsNext, is_last}
 use Rattle.sql_grammar.specs.Terminals.{Ident, Said, token_of}
-use Rattle.sql_grammar.specs.Syntax.{CopyWords, Lit, Statement, empty, create_table, query, copy, sizes, column_statistics}
+use Rattle.sql_grammar.specs.Syntax.{CopyWords, Lit, Statement, empty, create_table, create_index, query, copy, sizes, column_statistics}
 use Rattle.sql_grammar.specs.Words.{words_of}
 use Rattle.sql_grammar.specs.Faults.{bytes_of, fault_at, terminals}
 use Rattle.sql_grammar.specs.CopyLine.{IsDataStart, after_blanks}
@@ -29,16 +29,17 @@ use Rattle.catalog.specs.Indexes.{type_at}
 use Rattle.catalog.specs.Tables.{table_named}
 use Rattle.expr_reader.specs.Conditions.{next as following}
 use Rattle.expr_reader.specs.Literals.{typed_value}
-use Rattle.ddl_reader.specs.Lists.{bound_each}
+use Rattle.sql_cursor.specs.Lists.{bound_each}
 use Rattle.ddl_reader.specs.Statistics.{CommonWords, common_value, table_of_name, column_of_name, table_statistics, statistics_of, column_statistics_of, commons_of, bounds_of}
 use Rattle.sql_grammar.proofs.ExprTrees.{tokens-are}
 use Rattle.ddl_reader.specs.Columns.{Bound, bound_all, written, further}
 use Rattle.ddl_reader.specs.Tables.{Definition, table, sizes_for, statistics_for, data_for, Reading, data_after, limited, table_of, table_reading}
 use Rattle.pg_value.specs.Fields.{null_text}
 use Rattle.sql_query.specs.Worlds.{World}
-use Rattle.pgplan.specs.Actions.{Action}
+use Rattle.definitions.specs.Actions.{Action}
 use Rattle.pgplan.proofs.BlockLemmas.{block-within}
-use Rattle.pgplan.specs.Accepted.{token_at, end_of, Carries, Does, IsReadOver}
+use Rattle.sql_lex.specs.Ends.{token_at, end_of}
+use Rattle.pgplan.specs.Accepted.{Carries, Does, IsReadOver}
 
 -- some byte, tested by whether the list is empty
 abbrev some : List ℕ → Bool
@@ -192,7 +193,8 @@ behind-data text from mid end next e is more = record {
 does-behind : (w : World) (text : List ℕ) (from : ℕ) (tokens : List Token) (x : Statement) (action : Action) (next : ℕ) →
     AreWords text from tokens → words_of x ≡ terminals text tokens → Does w text tokens x action next → EndsBehind text from next
 does-behind w text from tokens (empty e) action next words spelled does = at-end-of text from next (end_of tokens) does.1 (ends-behind text from tokens words)
-does-behind w text from tokens (query q e) action next words spelled does = at-end-of text from next (end_of tokens) does.3 (ends-behind text from tokens words)
+does-behind w text from tokens (create_index x) action next words spelled does = at-end-of text from next (end_of tokens) does.4 (ends-behind text from tokens words)
+does-behind w text from tokens (query x) action next words spelled does = at-end-of text from next (end_of tokens) does.3 (ends-behind text from tokens words)
 does-behind w text from tokens (create_table k t n o c cs m e) action next words spelled does =
     at-end-of text from next (end_of tokens) (table-behind w text tokens action next (bytes_of n) (token_of n) (bound_all (written c ∷ further cs)) does.0 does.1 does.2) (ends-behind text from tokens words)
 does-behind w text from tokens (sizes k n r p e) action next words spelled does =

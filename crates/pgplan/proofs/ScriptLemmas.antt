@@ -6,11 +6,12 @@ use Rattle.pg_base.proofs.Bytes.{Appends-more}
 use Rattle.sql_query.specs.Worlds.{World, empty_world}
 use Rattle.pgplan.specs.declared.end.End.{End}
 use Rattle.pgplan.specs.declared.end.End.TheVariants as ends
-use Rattle.pgplan.specs.Actions.{after}
+use Rattle.definitions.specs.Actions.{after}
 use Rattle.pgplan.specs.Accepted.{IsRead}
 use Rattle.pgplan.specs.Replies.{IsReply}
 use Rattle.pgplan.specs.Scripts.{Worked, AreWorked, AreFirst, world_after, place_after, replies}
-use Rattle.pgplan.specs.Steps.{Traces, Advances, IsBegun, Stops}
+use Rattle.reply.specs.Replies.{Traces}
+use Rattle.pgplan.specs.Steps.{Advances, IsBegun, Stops}
 use Rattle.pgplan.specs.Runs.{IsAnswered, IsCutOff, Ends}
 
 -- one more statement
@@ -52,13 +53,13 @@ is_under_way text w held e = record { statements = []; first = tt; place = refl;
 pub step_further : (text : List ℕ) (at next : ℕ) (w w' : World) (held : Option (List ℕ)) (old new : Traces) → IsUnderWay text at w held old.held → at < length text →
     Advances w w' text at next old new → IsUnderWay text next w' held new.held
 step_further text at next w w' held old new so more step =
-    let s : Worked = record { action = step.action; next = next; reply = step.reply } in
+    let s : Worked = record { action = step.action; next = next; reply = step.replied.reply } in
     record {
       statements = so.statements ++ s ∷ [];
-      first = AreWorked-more empty_world text 0 so.statements s so.first (rw so.place more) (rw (so.world, so.place) step.read) (rw so.world step.answers);
+      first = AreWorked-more empty_world text 0 so.statements s so.first (rw so.place more) (rw (so.world, so.place) step.read) (rw so.world step.replied.answers);
       place = place_after-more 0 so.statements s;
       world = world_after-more empty_world so.statements s ∙ ap (λ (v : World). after v step.action) so.world ∙ sym step.world;
-      gained = Appends-more held old.held new.held (replies so.statements) step.reply.bytes _ so.gained step.gained (replies-more so.statements s);
+      gained = Appends-more held old.held new.held (replies so.statements) step.replied.reply.bytes _ so.gained step.replied.gained (replies-more so.statements s);
     }
 
 -- at the end of the text
@@ -75,11 +76,11 @@ cut_off text at w held old new so more begun = record {
   action = begun.action;
   next = begun.next;
   read = rw (so.world, so.place) begun.read;
-  reply = begun.reply;
-  answers = rw so.world begun.answers;
-  count = begun.gained.0;
-  within = begun.gained.1;
-  gained = Appends-more held old.held new.held (replies so.statements) (take begun.gained.0 begun.reply.bytes) _ so.gained begun.gained.2 refl;
+  reply = begun.begun.reply;
+  answers = rw so.world begun.begun.answers;
+  count = begun.begun.gained.0;
+  within = begun.begun.gained.1;
+  gained = Appends-more held old.held new.held (replies so.statements) (take begun.begun.gained.0 begun.begun.reply.bytes) _ so.gained begun.begun.gained.2 refl;
 }
 
 -- a statement that was not worked

@@ -10,8 +10,8 @@ use Rattle.catalog.specs.Contents.{Contents}
 use Rattle.sql_query.specs.Worlds.{World, empty_world}
 use Rattle.pgplan.specs.declared.end.End.{End}
 use Rattle.pgplan.specs.declared.end.End.TheVariants as ends
-use Rattle.pgplan.specs.Actions.{Action, after}
-use Rattle.answer.specs.Putting.{HasWriteCause}
+use Rattle.definitions.specs.Actions.{Action, after}
+use Rattle.reply.specs.Putting.{HasWriteCause}
 use Rattle.pgplan.specs.Faults.{IsFault}
 use Rattle.fault_line.specs.Tells.{IsFieldOf}
 use Rattle.pgplan.specs.Steps.{HasField}

@@ -1,13 +1,14 @@
 -- Which statement begins at a place of a script, what it does, and where the next one begins (PostgreSQL manual, chapter SQL
 -- Commands).
-use Rattle.std.specs.Prelude.{◌≡◌, ℕ, true, ◌-◌, List, length, slice_index_or, slice_range, Ok}
-use Rattle.sql_lex.specs.declared.tokens.Kind.TheVariants.{End}
+use Rattle.std.specs.Prelude.{◌≡◌, ℕ, true, cond, List, slice_range, Ok}
 use Rattle.sql_lex.specs.declared.tokens.Token.{Token}
+use Rattle.sql_lex.specs.Ends.{token_at, end_of}
 use Rattle.sql_lex.specs.Words.{AreWords}
-use Rattle.sql_grammar.specs.Syntax.{Statement, empty, create_table, query, copy, sizes, column_statistics}
+use Rattle.sql_grammar.specs.Syntax.{CreateIndex, Statement, empty, create_table, create_index, query, copy, sizes, column_statistics}
+use Rattle.sql_grammar.specs.Faults.{terminals}
 use Rattle.sql_grammar.specs.Spelled.{IsSpelled}
 use Rattle.catalog.specs.Statistics.{AreAllowed, is_count}
-use Rattle.catalog.specs.Tables.{IsAcceptable}
+use Rattle.catalog.specs.Tables.{IsAcceptable, IsAcceptableIndex}
 use Rattle.eq_classes.specs.Clauses.{Table}
 use Rattle.eq_classes.specs.Holding.{IsTable}
 use Rattle.ddl_reader.specs.Block.{IsBlockEnd}
@@ -15,18 +16,13 @@ use Rattle.ddl_reader.specs.Statements.{Means}
 use Rattle.ddl_reader.specs.Tables.{Definition, table, sizes_for, statistics_for, data_for, Reading}
 use Rattle.heap.specs.Loading.{records_of, loaded}
 use Rattle.heap.specs.Stored.{Stored}
+use Rattle.index_reader.specs.Meaning.{Reading as IndexReading, meaning}
 use Rattle.query_reader.specs.Binding.{Bound, bound, query_with}
+use Rattle.query_reader.specs.Select.{is_explained}
+use Rattle.sql_query.specs.Queries.{Query}
 use Rattle.sql_query.specs.WellBound.{given_of}
 use Rattle.sql_query.specs.Worlds.{World, stored_at}
-use Rattle.pgplan.specs.Actions.{Action, idle, make, size, describe, fill, answer}
-
--- the token of this number; past the last one, one without bytes at the text's begin
-abbrev pub token_at : List Token → ℕ → Token
-token_at tokens k = slice_index_or tokens k (record { kind = End; start = 0; end = 0 })
-
--- where the last token ends
-abbrev pub end_of : List Token → ℕ
-end_of tokens = (token_at tokens (length tokens - 1)).end
+use Rattle.definitions.specs.Actions.{Action, idle, make, build, size, describe, fill, answer, explain}
 
 -- what a definition does, and the offset after it: a table is accepted by the catalogue; so are the sizes of a table and the
 -- statistics of a column; data go up to the line that ends them, and the table takes them
@@ -41,14 +37,24 @@ Carries w text tokens (data_for t start) action next =
 abbrev pub Defines : World → List ℕ → List Token → Statement → Action → ℕ → Type 0
 Defines w text tokens x action next = (r : Reading) × Means w.contents text x (Ok r) × Carries w text tokens r.definition action next
 
--- what a SELECT that means this does: it answers the query with its classes
-abbrev pub Answers : World → Bound → Action → Type 0
-Answers w b action = (t : Table) × IsTable (given_of w.contents (query_with t b)) t × (action ≡ answer (query_with t b))
+-- CREATE INDEX makes the index that it means, where the catalogue accepts it
+abbrev pub Indexes : World → List Token → CreateIndex → Action → ℕ → Type 0
+Indexes w tokens x action next =
+    (r : IndexReading) × (meaning w.contents x ≡ Ok r) × IsAcceptableIndex w.contents r.name r.index × (action ≡ build r.name r.index) × (next ≡ end_of tokens)
+
+-- a query is answered, or explained where EXPLAIN is the first word
+abbrev pub asked : List ℕ → List Token → Query → Action
+asked text tokens q = cond (is_explained (terminals text tokens)) (explain q) (answer q)
+
+-- what a SELECT that means this does: it answers or explains the query with its classes
+abbrev pub Answers : World → List ℕ → List Token → Bound → Action → Type 0
+Answers w text tokens b action = (t : Table) × IsTable (given_of w.contents (query_with t b)) t × (action ≡ asked text tokens (query_with t b))
 
 -- what a statement of these tokens does, and the offset after it
 abbrev pub Does : World → List ℕ → List Token → Statement → Action → ℕ → Type 0
 Does w text tokens (empty e) action next = (action ≡ idle) × (next ≡ end_of tokens)
-Does w text tokens (query q e) action next = (b : Bound) × (bound w.contents (token_at tokens 0) q ≡ Ok b) × Answers w b action × (next ≡ end_of tokens)
+Does w text tokens (create_index x) action next = Indexes w tokens x action next
+Does w text tokens (query x) action next = (b : Bound) × (bound w.contents (token_at tokens 0) x ≡ Ok b) × Answers w text tokens b action × (next ≡ end_of tokens)
 Does w text tokens (create_table k t n o c cs m e) action next = Defines w text tokens (create_table k t n o c cs m e) action next
 Does w text tokens (sizes k n r p e) action next = Defines w text tokens (sizes k n r p e) action next
 Does w text tokens (column_statistics k n c d nulls commons bounds e) action next = Defines w text tokens (column_statistics k n c d nulls commons bounds e) action next

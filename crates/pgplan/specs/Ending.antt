@@ -7,8 +7,11 @@ use Rattle.catalog.specs.declared.fault.CatalogFault.{CatalogFault}
 use Rattle.catalog.specs.declared.fault.CatalogFault.TheVariants as refused
 use Rattle.catalog.specs.Contents.{Contents}
 use Rattle.catalog.specs.Tables.{IsRefusal}
-use Rattle.answer.specs.declared.stop.Stop.{Stop}
-use Rattle.answer.specs.declared.stop.Stop.TheVariants as stop
+use Rattle.pg_base.specs.declared.faults.Code.TheVariants.{S16}
+use Rattle.sql_grammar.specs.Faults.{fault_at}
+use Rattle.sql_lex.specs.declared.tokens.Token.{Token}
+use Rattle.reply.specs.declared.stop.Stop.{Stop}
+use Rattle.reply.specs.declared.stop.Stop.TheVariants as stop
 use Rattle.pgplan.specs.declared.end.End.{End}
 use Rattle.pgplan.specs.declared.end.End.TheVariants.{Fault, Write, Memory}
 
@@ -16,9 +19,11 @@ abbrev pub end_of_refusal : Refusal → End
 end_of_refusal (refusal.Fault f) = Fault f
 end_of_refusal refusal.Memory = Memory
 
-abbrev pub end_of_stop : Stop → End
-end_of_stop stop.Write = Write
-end_of_stop stop.Memory = Memory
+-- a reply that was not written whole: that there is no plan is a fault at the word SELECT
+abbrev pub end_of_stop : Stop → Token → End
+end_of_stop stop.NoPlan select = Fault (fault_at S16 select)
+end_of_stop stop.Write select = Write
+end_of_stop stop.Memory select = Memory
 
 -- a fault, and want of memory where there is none
 abbrev pub end_by : Option FaultType → End
@@ -34,3 +39,8 @@ IsCauseFor e count = e ≢ refused.Memory → (c : Contents) × (name : List ℕ
 abbrev pub IsNumberAmong : CatalogFault → ℕ → Type 0
 IsNumberAmong (refused.BadNumber place) count = place < count
 IsNumberAmong _ count = ⊥
+
+-- the place of a repeated column is one of so many after the first
+abbrev pub IsPlaceAmong : CatalogFault → ℕ → Type 0
+IsPlaceAmong (refused.ColumnTwice place) count = place + 1 < count
+IsPlaceAmong _ count = Unit {0}

@@ -1,28 +1,36 @@
--- The first fault of a statement: of its words, of its syntax, of its names and limits, then of its data or of the catalogue
+-- The first fault of a statement: of its words, of its syntax, of its names and limits, then of its data, of the catalogue, or of
+-- its plans
 -- (PostgreSQL manual, appendix Error Codes; the order is own).
-use Rattle.std.specs.Prelude.{◌≡◌, ◌⊎◌, ℕ, ◌+◌, List, [], ◌∷◌, length, drop, slice_index_or, slice_range, Option, Some, None, Ok, Err}
+use Rattle.std.specs.Prelude.{◌≡◌, ◌⊎◌, ℕ, ◌+◌, List, [], ◌∷◌, cond, nat_eq, length, drop, slice_index_or, slice_range, Option, Some, None, Ok, Err}
 use Rattle.pg_base.specs.declared.numbers.TableNo.{TableNo}
-use Rattle.pg_base.specs.declared.faults.Code.TheVariants.{S5, S6, S11, S12, S13, S14, S15, S17}
-use Rattle.pg_base.specs.declared.faults.Limit.TheVariants.{Tables, Rows, Text}
+use Rattle.pg_base.specs.declared.faults.Code.{Code}
+use Rattle.pg_base.specs.declared.faults.Code.TheVariants.{S5, S6, S11, S12, S13, S14, S15, S16, S17}
+use Rattle.pg_base.specs.declared.faults.Limit.TheVariants.{Indexes, Tables, Rows, Text}
 use Rattle.pg_base.specs.declared.faults.Fault.{Fault}
 use Rattle.pg_base.specs.Faults.{data_fault, syntax_fault, words_fault}
 use Rattle.sql_lex.specs.declared.tokens.Token.{Token}
 use Rattle.sql_lex.specs.Words.{AreWords, IsWordFault}
-use Rattle.sql_grammar.specs.Syntax.{Statement, empty, create_table, query, copy, sizes, column_statistics}
-use Rattle.sql_grammar.specs.Faults.{IsStatement, IsFirstFault}
+use Rattle.sql_grammar.specs.Syntax.{OrderedSelect, CreateIndex, Statement, empty, create_table, create_index, query, copy, sizes, column_statistics}
+use Rattle.sql_grammar.specs.Faults.{IsStatement, IsFirstFault, fault_at, terminals}
 use Rattle.sql_grammar.specs.Spelled.{IsSpelled}
 use Rattle.catalog.specs.declared.fault.CatalogFault.{CatalogFault}
 use Rattle.catalog.specs.declared.fault.CatalogFault.TheVariants as refused
-use Rattle.catalog.specs.Tables.{IsRefusal, IsSizeRefusal, IsStatisticsRefusal}
+use Rattle.catalog.specs.Tables.{IsRefusal, IsIndexRefusal, IsSizeRefusal, IsStatisticsRefusal}
+use Rattle.eq_classes.specs.Clauses.{Table}
+use Rattle.eq_classes.specs.Holding.{IsTable}
 use Rattle.ddl_reader.specs.Block.{HaveNoMark, lines_of, IsBlockEnd}
 use Rattle.ddl_reader.specs.Statements.{Means}
 use Rattle.ddl_reader.specs.Tables.{Definition, table, sizes_for, statistics_for, data_for, Reading}
 use Rattle.heap.specs.declared.fault.CopyFault.{CopyFault}
 use Rattle.heap.specs.declared.fault.CopyFault.TheVariants as copying
 use Rattle.heap.specs.Loading.{records_of, loaded}
-use Rattle.query_reader.specs.Binding.{bound}
+use Rattle.index_reader.specs.Meaning.{Reading as IndexReading, meaning}
+use Rattle.query_reader.specs.Binding.{Bound, bound, query_with}
+use Rattle.query_reader.specs.Select.{words_before}
+use Rattle.reply.specs.Answers.{HasNoPlan}
+use Rattle.sql_query.specs.WellBound.{given_of}
 use Rattle.sql_query.specs.Worlds.{World, stored_at}
-use Rattle.pgplan.specs.Accepted.{token_at}
+use Rattle.sql_lex.specs.Ends.{token_at}
 
 -- where the words end that begin at these offsets
 abbrev pub word_ends : List ℕ → List (List ℕ) → List ℕ
@@ -38,6 +46,24 @@ table_fault (refused.ColumnTwice place) at ends = Some (words_fault S6 (slice_in
 table_fault refused.TooMany at ends = Some (words_fault (S15 Tables) (slice_index_or at 0 0) (slice_index_or ends 0 0))
 table_fault (refused.BadNumber place) at ends = None
 table_fault refused.Memory at ends = None
+
+-- where the word ends that begins at an offset; the offset itself where none does
+abbrev pub end_of_word : List Token → ℕ → ℕ
+end_of_word [] at = at
+end_of_word (t ∷ ts) at = cond (nat_eq t.start at) t.end (end_of_word ts at)
+
+-- a fault at the word that begins at an offset
+abbrev pub word_fault : Code → List Token → ℕ → Fault
+word_fault code tokens at = words_fault code at (end_of_word tokens at)
+
+-- the fault of what the catalogue refuses an index for, whose words begin at these offsets, the new name first and then its
+-- columns: at the new name, at a repeated column's, or, for the form of a hash index, at the access method's
+abbrev pub index_fault : CatalogFault → (at : List ℕ) → (method : ℕ) → List Token → Option Fault
+index_fault refused.NameTaken at method tokens = Some (word_fault S5 tokens (slice_index_or at 0 0))
+index_fault (refused.ColumnTwice place) at method tokens = Some (word_fault S6 tokens (slice_index_or at (place + 1) 0))
+index_fault refused.TooMany at method tokens = Some (word_fault (S15 Indexes) tokens (slice_index_or at 0 0))
+index_fault (refused.BadNumber place) at method tokens = Some (word_fault S17 tokens method)
+index_fault refused.Memory at method tokens = None
 
 -- the fault of what the catalogue refuses statistics for, whose numbers and literals begin at these offsets: at the first that is
 -- not allowed
@@ -75,10 +101,30 @@ IsRefused w text (data_for t start) at f = (HaveNoMark (lines_of (drop start tex
 abbrev pub IsDefinitionFault : World → List ℕ → Statement → Fault → Type 0
 IsDefinitionFault w text x f = Means w.contents text x (Err f) ⊎ ((r : Reading) × Means w.contents text x (Ok r) × IsRefused w text r.definition r.at f)
 
+-- a fault of CREATE INDEX: in its names and limits, or the catalogue refuses the index
+abbrev pub IsIndexFault : World → List Token → CreateIndex → Fault → Type 0
+IsIndexFault w tokens x f =
+    (meaning w.contents x ≡ Err f) ⊎ ((r : IndexReading) × (e : CatalogFault) × (meaning w.contents x ≡ Ok r) × IsIndexRefusal w.contents r.name r.index e × (index_fault e r.at r.method tokens ≡ Some f))
+
+-- that a query has no admissible plan is at fault at the word SELECT
+abbrev pub no_plan : List ℕ → List Token → Fault
+no_plan text tokens = fault_at S16 (token_at tokens (words_before (terminals text tokens)))
+
+-- the query with its classes has none
+abbrev pub IsUnplanned : World → List ℕ → List Token → Bound → Fault → Type 0
+IsUnplanned w text tokens b f =
+    (t : Table) × IsTable (given_of w.contents (query_with t b)) t × HasNoPlan w.contents (query_with t b) × (f ≡ no_plan text tokens)
+
+-- a fault of a query: in its names and limits, or that it has no admissible plan
+abbrev pub IsQueryFault : World → List ℕ → List Token → OrderedSelect → Fault → Type 0
+IsQueryFault w text tokens x f =
+    (bound w.contents (token_at tokens 0) x ≡ Err f) ⊎ ((b : Bound) × (bound w.contents (token_at tokens 0) x ≡ Ok b) × IsUnplanned w text tokens b f)
+
 -- the first fault of a statement whose syntax has none
 abbrev pub IsMeaningFault : World → List ℕ → List Token → Statement → Fault → Type 0
 IsMeaningFault w text tokens (empty e) f = ⊥
-IsMeaningFault w text tokens (query q e) f = bound w.contents (token_at tokens 0) q ≡ Err f
+IsMeaningFault w text tokens (create_index x) f = IsIndexFault w tokens x f
+IsMeaningFault w text tokens (query x) f = IsQueryFault w text tokens x f
 IsMeaningFault w text tokens (create_table k t n o c cs m e) f = IsDefinitionFault w text (create_table k t n o c cs m e) f
 IsMeaningFault w text tokens (sizes k n r p e) f = IsDefinitionFault w text (sizes k n r p e) f
 IsMeaningFault w text tokens (column_statistics k n c d nulls commons bounds e) f = IsDefinitionFault w text (column_statistics k n c d nulls commons bounds e) f

@@ -1,4 +1,3 @@
-pub mod Actions
 pub mod Accepted
 pub mod Faults
 pub mod Ending

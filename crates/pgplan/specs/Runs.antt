@@ -11,10 +11,11 @@ use Rattle.fault_line.specs.Tells.{IsFieldOf}
 use Rattle.sql_query.specs.Worlds.{World, empty_world}
 use Rattle.pgplan.specs.declared.end.End.{End}
 use Rattle.pgplan.specs.declared.end.End.TheVariants as ends
-use Rattle.pgplan.specs.Actions.{Action}
+use Rattle.definitions.specs.Actions.{Action}
 use Rattle.pgplan.specs.Accepted.{IsRead}
 use Rattle.pgplan.specs.Faults.{IsFault}
-use Rattle.pgplan.specs.Replies.{Reply, IsReply}
+use Rattle.reply.specs.Replies.{Reply}
+use Rattle.pgplan.specs.Replies.{IsReply}
 use Rattle.pgplan.specs.Scripts.{Worked, AreFirst, AreAll, world_after, place_after, replies}
 use Rattle.pgplan.specs.Statuses.{IsTold, line_of}
 

@@ -2,9 +2,10 @@
 use Rattle.std.specs.Prelude.{ℕ, ◌≡◌, ◌<◌, List, [], ◌∷◌, length}
 use Rattle.std.specs.List.{flat_map}
 use Rattle.sql_query.specs.Worlds.{World, empty_world}
-use Rattle.pgplan.specs.Actions.{Action, after}
+use Rattle.definitions.specs.Actions.{Action, after}
 use Rattle.pgplan.specs.Accepted.{IsRead}
-use Rattle.pgplan.specs.Replies.{Reply, IsReply}
+use Rattle.reply.specs.Replies.{Reply}
+use Rattle.pgplan.specs.Replies.{IsReply}
 
 -- a statement that was worked: what it did, where the next one begins, and its reply
 pub record Worked : Type 0 where

@@ -1,52 +1,36 @@
 -- What a step of the script machine does. Own.
-use Rattle.std.specs.Prelude.{ℕ, ◌≡◌, ◌⊎◌, ◌+◌, ◌≤◌, List}
-use Rattle.std.specs.declared.option.Option.{Option}
-use Rattle.std.specs.Io.KnownBytes.{Appends}
-use Rattle.pg_base.specs.Writing.{AppendsPrefix}
+use Rattle.std.specs.Prelude.{ℕ, ◌≡◌, ◌⊎◌, ◌+◌, ◌≤◌, List, [], slice_range, Ok}
+use Rattle.pg_base.specs.declared.numbers.TableNo.{TableNo}
 use Rattle.sql_lex.specs.declared.tokens.Token.{Token}
 use Rattle.catalog.specs.Contents.{Contents}
-use Rattle.ddl_reader.specs.Tables.{Definition}
+use Rattle.ddl_reader.specs.Block.{IsBlockEnd}
+use Rattle.ddl_reader.specs.Tables.{Definition, data_for}
 use Rattle.fault_line.specs.Tells.{IsFieldOf}
-use Rattle.sql_query.specs.Queries.{Query}
-use Rattle.sql_query.specs.Worlds.{World}
+use Rattle.heap.specs.Loading.{loaded, records_of}
+use Rattle.heap.specs.Stored.{Stored}
+use Rattle.reply.specs.Replies.{HasBegun, HasReplied, Traces}
+use Rattle.sql_query.specs.Worlds.{World, stored_at}
+use Rattle.store.specs.Kept.{load_looks}
 use Rattle.pgplan.specs.declared.end.End.{End}
 use Rattle.pgplan.specs.declared.end.End.TheVariants as ends
-use Rattle.pgplan.specs.Actions.{Action, answer, after}
+use Rattle.definitions.specs.Actions.{Action, after}
 use Rattle.pgplan.specs.Accepted.{IsRead, IsReadOver}
 use Rattle.pgplan.specs.Faults.{IsFault, IsFaultOver, IsRefused}
-use Rattle.pgplan.specs.Replies.{Reply, IsReply, no_reply}
-
--- what a step changes beside the world: the bytes that out holds, and the two counters
-pub record Traces : Type 0 where
-  pub held : Option (List ℕ)
-  pub fetched : ℕ
-  pub looked : ℕ
-
--- these bytes held, so many rows fetched, so many looks
-abbrev pub traces : Option (List ℕ) → ℕ → ℕ → Traces
-traces held fetched looked = record { held = held; fetched = fetched; looked = looked }
+use Rattle.pgplan.specs.Replies.{IsReply, silent}
 
 -- the statement at this place was read and carried out, and out gained its reply
 pub record Advances (w w' : World) (text : List ℕ) (at next : ℕ) (old new : Traces) : Type 0 where
   pub action : Action
   pub read : IsRead w text at action next
   pub world : w' ≡ after w action
-  pub reply : Reply
-  pub answers : IsReply w action reply
-  pub gained : Appends old.held new.held reply.bytes
-  pub fetched : new.fetched ≡ old.fetched + reply.fetched
-  pub looked : new.looked ≤ old.looked + reply.looked
+  pub replied : HasReplied (IsReply w action) old new
 
 -- the statement at this place has a reply, and out gained some first bytes of it
 pub record IsBegun (w : World) (text : List ℕ) (at : ℕ) (old new : Traces) : Type 0 where
   pub action : Action
   pub next : ℕ
   pub read : IsRead w text at action next
-  pub reply : Reply
-  pub answers : IsReply w action reply
-  pub gained : AppendsPrefix old.held new.held reply.bytes
-  pub fetched : new.fetched ≤ old.fetched + reply.fetched
-  pub looked : new.looked ≤ old.looked + reply.looked
+  pub begun : HasBegun (IsReply w action) old new
 
 -- where a field of COPY data is at fault, the catalogue has its table and column
 abbrev pub HasField : Contents → End → Type 0
@@ -60,15 +44,23 @@ Stops (ends.Fault f) w text at old new = IsFault w text at f × IsFieldOf w.cont
 Stops ends.Write w text at old new = IsBegun w text at old new
 Stops ends.Memory w text at old new = (new ≡ old) ⊎ IsBegun w text at old new
 
--- the tokens are a definition, which was carried out and prints nothing
-abbrev pub IsDefined : World → World → List ℕ → List Token → ℕ → Type 0
-IsDefined w w' text tokens next = (action : Action) × IsReadOver w text tokens action next × IsReply w action no_reply × (w' ≡ after w action)
+-- the tokens do this, print nothing, and took no more looks than that takes
+pub record IsCarrying (w : World) (text : List ℕ) (tokens : List Token) (action : Action) (next : ℕ) (looked looked' : ℕ) : Type 0 where
+  pub read : IsReadOver w text tokens action next
+  pub looks : ℕ
+  pub reply : IsReply w action (silent looks)
+  pub within : looked' ≤ looked + looks
 
--- why the statement of these tokens was not carried out, before anything was written
-abbrev pub Refuses : End → World → List ℕ → List Token → Type 0
-Refuses (ends.Fault f) w text tokens = IsFaultOver w text tokens f × IsFieldOf w.contents f
-Refuses ends.Write w text tokens = ⊥
-Refuses ends.Memory w text tokens = Unit {0}
+-- the tokens are a definition, which was carried out
+abbrev pub IsDefined : World → World → List ℕ → List Token → ℕ → (looked looked' : ℕ) → Type 0
+IsDefined w w' text tokens next looked looked' = (action : Action) × IsCarrying w text tokens action next looked looked' × (w' ≡ after w action)
+
+-- why the statement of these tokens was not carried out, before anything was written: its first fault, before anything was
+-- looked at; or want of memory, it may be at some of its looks
+abbrev pub Refuses : End → World → List ℕ → List Token → (looked looked' : ℕ) → Type 0
+Refuses (ends.Fault f) w text tokens looked looked' = IsFaultOver w text tokens f × IsFieldOf w.contents f × (looked' ≡ looked)
+Refuses ends.Write w text tokens looked looked' = ⊥
+Refuses ends.Memory w text tokens looked looked' = (looked' ≡ looked) ⊎ ((action : Action) × (next : ℕ) × IsCarrying w text tokens action next looked looked')
 
 -- why a definition was not carried out
 abbrev pub RefusesDefinition : End → World → List ℕ → Definition → List ℕ → Type 0
@@ -76,28 +68,27 @@ RefusesDefinition (ends.Fault f) w text definition at = IsRefused w text definit
 RefusesDefinition ends.Write w text definition at = ⊥
 RefusesDefinition ends.Memory w text definition at = Unit {0}
 
--- the tokens are a query, whose answer out gained
-pub record IsAnsweredOver (w : World) (text : List ℕ) (tokens : List Token) (next : ℕ) (held held' : Option (List ℕ)) (fetched fetched' : ℕ) : Type 0 where
-  pub query : Query
-  pub read : IsReadOver w text tokens (answer query) next
-  pub reply : Reply
-  pub answers : IsReply w (answer query) reply
-  pub gained : Appends held held' reply.bytes
-  pub cost : fetched' ≡ fetched + reply.fetched
+-- data for a table, from an offset on, are loaded with no more looks than that takes
+abbrev pub AreLoaded : World → List ℕ → TableNo → ℕ → (looked looked' : ℕ) → Type 0
+AreLoaded w text t start looked looked' =
+    (end next : ℕ) × (s : Stored) × IsBlockEnd text start end next × (loaded (stored_at w t) (records_of (slice_range text start end)) ≡ Ok s) × (looked' ≤ looked + load_looks w.contents t (stored_at w t) s)
 
--- the tokens are a query, and out gained some first bytes of its answer
-pub record IsBegunOver (w : World) (text : List ℕ) (tokens : List Token) (held held' : Option (List ℕ)) (fetched fetched' : ℕ) : Type 0 where
-  pub query : Query
-  pub next : ℕ
-  pub read : IsReadOver w text tokens (answer query) next
-  pub reply : Reply
-  pub answers : IsReply w (answer query) reply
-  pub gained : AppendsPrefix held held' reply.bytes
-  pub cost : fetched' ≤ fetched + reply.fetched
+-- why data for a table, from an offset on, were not loaded: their fault, or want of memory, it may be at some of the looks
+abbrev pub RefusesData : End → World → List ℕ → TableNo → ℕ → (looked looked' : ℕ) → Type 0
+RefusesData (ends.Fault f) w text t start looked looked' = RefusesDefinition (ends.Fault f) w text (data_for t start) [] × (looked' ≡ looked)
+RefusesData ends.Write w text t start looked looked' = ⊥
+RefusesData ends.Memory w text t start looked looked' = (looked' ≡ looked) ⊎ AreLoaded w text t start looked looked'
+
+-- the tokens are a query, whose reply out gained
+abbrev pub IsAnsweredOver : World → List ℕ → List Token → ℕ → Traces → Traces → Type 0
+IsAnsweredOver w text tokens next old new = (action : Action) × IsReadOver w text tokens action next × (w ≡ after w action) × HasReplied (IsReply w action) old new
+
+-- the tokens are a query, and out gained some first bytes of its reply
+abbrev pub IsBegunOver : World → List ℕ → List Token → Traces → Traces → Type 0
+IsBegunOver w text tokens old new = (action : Action) × (next : ℕ) × IsReadOver w text tokens action next × HasBegun (IsReply w action) old new
 
 -- why the query of these tokens was not answered whole
-abbrev pub StopsOver : End → World → List ℕ → List Token → (held held' : Option (List ℕ)) → (fetched fetched' : ℕ) → Type 0
-StopsOver (ends.Fault f) w text tokens held held' fetched fetched' = IsFaultOver w text tokens f × IsFieldOf w.contents f × (held' ≡ held) × (fetched' ≡ fetched)
-StopsOver ends.Write w text tokens held held' fetched fetched' = IsBegunOver w text tokens held held' fetched fetched'
-StopsOver ends.Memory w text tokens held held' fetched fetched' =
-    ((held' ≡ held) × (fetched' ≡ fetched)) ⊎ IsBegunOver w text tokens held held' fetched fetched'
+abbrev pub StopsOver : End → World → List ℕ → List Token → Traces → Traces → Type 0
+StopsOver (ends.Fault f) w text tokens old new = IsFaultOver w text tokens f × IsFieldOf w.contents f × (new ≡ old)
+StopsOver ends.Write w text tokens old new = IsBegunOver w text tokens old new
+StopsOver ends.Memory w text tokens old new = (new ≡ old) ⊎ IsBegunOver w text tokens old new

@@ -15,21 +15,22 @@ ghost use Rattle.ddl_reader.specs.Statements.{begins_ddl};
 ghost use Rattle.ddl_reader.specs.Tables.{data_for, sizes_for, statistics_for, table as table_of};
 ghost use Rattle.heap.specs.Loading.{loaded, records_of};
 ghost use Rattle.heap.specs.Stored.{Stored};
-ghost use Rattle.sql_query.specs.Worlds.{IsWorld, stored_at, world};
-ghost use Rattle.pgplan.specs.Actions as actions;
-ghost use Rattle.pgplan.specs.Accepted.{end_of as end_of_tokens};
-ghost use Rattle.pgplan.specs.Steps.{IsDefined, Refuses, RefusesDefinition};
+ghost use Rattle.sql_query.specs.Worlds.{stored_at, world};
+ghost use Rattle.definitions.specs.Actions as actions;
+ghost use Rattle.store.specs.Kept.{IsStoreOf, Kept, load_looks, stored_of};
+ghost use Rattle.pgplan.specs.Steps.{IsDefined, Refuses, RefusesData, RefusesDefinition};
 
 use crate::end::End;
 use crate::faults::{endless, refused_data, refused_statistics, refused_table, word_ends};
-use crate::store::{fill, make};
 use catalog::{Catalog, ColumnStats};
 use ddl_reader::{Ddl, Read, block_end, read_ddl};
-use heap::{Counters, Heap};
-use pg_base::{ColNo, TableNo};
+use definitions::{fill, make};
+use heap::Counters;
+use pg_base::{ColNo, Steps, TableNo};
 use pg_value::{Bytes, Columns};
 use sql_lex::Tokens;
 use std::alloc::Global;
+use store::Store;
 
 /// Carries out the definition of these tokens and gives the offset after it. A refused one changes nothing.
 pub(crate) fn define<C: Counters>(
@@ -37,16 +38,17 @@ pub(crate) fn define<C: Counters>(
     text: &[u8],
     tokens: &Tokens,
     catalog: &mut Catalog,
-    heaps: &mut Vec<Heap<C>>,
+    store: &mut Store<C>,
+    reads: &mut Steps<C::Looks>,
 ) -> Result<u32, End>
     requires short { length text.now ≤ MOST_SCRIPT_BYTES }
     requires words { (from : ℕ) × AreWords text.now from tokens.now }
     requires opens { begins_ddl (terminals text.now tokens.now) ≡ true }
-    requires world { IsWorld (world catalog.old heaps.old.items) }
-    ensures defined { IfOk result (IsDefined (world catalog.old heaps.old.items) (world catalog.new heaps.new.items) text.now tokens.now) }
-    ensures refused { IfErr result (λ e. Refuses e (world catalog.old heaps.old.items) text.now tokens.now) }
-    ensures world { IsWorld (world catalog.new heaps.new.items) }
-    ensures unchanged { OnErr result ((catalog.new ≡ catalog.old) × (heaps.new.items ≡ heaps.old.items)) }
+    requires store { IsStoreOf catalog.old store.old }
+    ensures defined { IfOk result (λ next. IsDefined (world catalog.old store.old.stored) (world catalog.new store.new.stored) text.now tokens.now next reads.old reads.new) }
+    ensures refused { IfErr result (λ e. Refuses e (world catalog.old store.old.stored) text.now tokens.now reads.old reads.new) }
+    ensures store { IsStoreOf catalog.new store.new }
+    ensures unchanged { OnErr result ((catalog.new ≡ catalog.old) × (store.new ≡ store.old)) }
 {
     let read = read_ddl(alloc, catalog, text, tokens)?;
     let Read { ddl, at, .. } = read;
@@ -56,18 +58,18 @@ pub(crate) fn define<C: Counters>(
             names,
             columns,
         } => {
-            table(alloc, catalog, heaps, &at, name, names, columns)?;
-            Ok(end_of(tokens))
+            table(alloc, catalog, store, &at, name, names, columns)?;
+            Ok(tokens.end())
         }
         Ddl::Rows { table, rows, pages } => {
             size(catalog, &at, table, rows, pages)?;
-            Ok(end_of(tokens))
+            Ok(tokens.end())
         }
         Ddl::Column { table, col, stats } => {
             describe(catalog, &at, table, col, stats)?;
-            Ok(end_of(tokens))
+            Ok(tokens.end())
         }
-        Ddl::Copy { table, start } => data(catalog, heaps, text, table, start),
+        Ddl::Copy { table, start } => data(catalog, store, text, table, start, reads),
     }
 }
 
@@ -75,26 +77,26 @@ pub(crate) fn define<C: Counters>(
 fn table<C: Counters>(
     alloc: Global,
     catalog: &mut Catalog,
-    heaps: &mut Vec<Heap<C>>,
+    store: &mut Store<C>,
     at: &[u32],
     name: Bytes,
     names: Vec<Bytes>,
     columns: Columns,
 ) -> Result<(), End>
-    requires world { IsWorld (world catalog.old heaps.old.items) }
+    requires store { IsStoreOf catalog.old store.old }
     requires width { length names.items ≡ length columns }
     requires name { IsName name }
     requires names { All IsName names.items }
     requires places { length at.now ≡ length names.items + 1 }
     requires within { All (λ a. a ≤ 2 ^ 31) at.now }
     ensures accepted { OnOk result (IsAcceptable catalog.old name names.items) }
-    ensures made { OnOk result (world catalog.new heaps.new.items ≡ actions.after (world catalog.old heaps.old.items) (actions.make name names.items columns)) }
-    ensures refused { IfErr result (λ e. RefusesDefinition e (world catalog.old heaps.old.items) [] (table_of name names.items columns) at.now) }
-    ensures world { IsWorld (world catalog.new heaps.new.items) }
-    ensures unchanged { OnErr result ((catalog.new ≡ catalog.old) × (heaps.new.items ≡ heaps.old.items)) }
+    ensures made { OnOk result (world catalog.new store.new.stored ≡ actions.after (world catalog.old store.old.stored) (actions.make name names.items columns)) }
+    ensures refused { IfErr result (λ e. RefusesDefinition e (world catalog.old store.old.stored) [] (table_of name names.items columns) at.now) }
+    ensures store { IsStoreOf catalog.new store.new }
+    ensures unchanged { OnErr result ((catalog.new ≡ catalog.old) × (store.new ≡ store.old)) }
 {
     let ends = word_ends(alloc, at, &name, &names)?;
-    match make(alloc, catalog, heaps, name, names, columns) {
+    match make(alloc, catalog, store, name, names, columns) {
         Ok(()) => Ok(()),
         Err(refused) => Err(refused_table(refused, at, &ends)),
     }
@@ -107,7 +109,7 @@ fn size(catalog: &mut Catalog, at: &[u32], table: TableNo, rows: u64, pages: u64
     ensures accepted { OnOk result ((is_count rows ≡ true) × (is_count pages ≡ true)) }
     ensures made { OnOk result ((stored : List Stored) → world catalog.new stored ≡ actions.after (world catalog.old stored) (actions.size table rows pages)) }
     ensures refused { (stored : List Stored) (text : List ℕ) → IfErr result (λ e. RefusesDefinition e (world catalog.old stored) text (sizes_for table rows pages) at.now) }
-    ensures world { (stored : List Stored) → IsWorld (world catalog.old stored) → IsWorld (world catalog.new stored) }
+    ensures store { (k : Kept) → IsStoreOf catalog.old k → IsStoreOf catalog.new k }
     ensures unchanged { OnErr result (catalog.new ≡ catalog.old) }
 {
     match catalog.set_rows(table, rows, pages) {
@@ -132,7 +134,7 @@ fn describe(
     ensures accepted { OnOk result (AreAllowed (statistics stats)) }
     ensures made { OnOk result ((stored : List Stored) → world catalog.new stored ≡ actions.after (world catalog.old stored) (actions.describe table col (statistics stats))) }
     ensures refused { (stored : List Stored) (text : List ℕ) → IfErr result (λ e. RefusesDefinition e (world catalog.old stored) text (statistics_for table col (statistics stats)) at.now) }
-    ensures world { (stored : List Stored) → IsWorld (world catalog.old stored) → IsWorld (world catalog.new stored) }
+    ensures store { (k : Kept) → IsStoreOf catalog.old k → IsStoreOf catalog.new k }
     ensures unchanged { OnErr result (catalog.new ≡ catalog.old) }
 {
     match catalog.set_column(table, col, stats) {
@@ -144,34 +146,32 @@ fn describe(
 /// Loads the COPY data that begin at an offset into a table, and gives the offset after the line that ends them.
 fn data<C: Counters>(
     catalog: &mut Catalog,
-    heaps: &mut Vec<Heap<C>>,
+    store: &mut Store<C>,
     text: &[u8],
     table: TableNo,
     start: u32,
+    reads: &mut Steps<C::Looks>,
 ) -> Result<u32, End>
     requires short { length text.now ≤ MOST_SCRIPT_BYTES }
     requires start { start ≤ length text.now }
-    requires world { IsWorld (world catalog.old heaps.old.items) }
+    requires store { IsStoreOf catalog.old store.old }
     requires table { IsTable catalog.old table }
-    ensures loaded { IfOk result (λ next. (end : ℕ) × (s : Stored) × IsBlockEnd text.now start end next × (loaded (stored_at (world catalog.old heaps.old.items) table) (records_of (slice_range text.now start end)) ≡ Ok s) × (world catalog.new heaps.new.items ≡ actions.after (world catalog.old heaps.old.items) (actions.fill table s))) }
-    ensures refused { IfErr result (λ e. RefusesDefinition e (world catalog.old heaps.old.items) text.now (data_for table start) []) }
-    ensures world { IsWorld (world catalog.new heaps.new.items) }
-    ensures unchanged { OnErr result ((catalog.new ≡ catalog.old) × (heaps.new.items ≡ heaps.old.items)) }
+    ensures loaded { IfOk result (λ next. (end : ℕ) × (s : Stored) × IsBlockEnd text.now start end next × (loaded (stored_at (world catalog.old store.old.stored) table) (records_of (slice_range text.now start end)) ≡ Ok s) × (world catalog.new store.new.stored ≡ actions.after (world catalog.old store.old.stored) (actions.fill table s)) × (reads.new ≡ reads.old + load_looks catalog.old table (stored_of store.old table) s)) }
+    ensures refused { IfErr result (λ e. RefusesData e (world catalog.old store.old.stored) text.now table start reads.old reads.new) }
+    ensures store { IsStoreOf catalog.new store.new }
+    ensures unchanged { OnErr result ((catalog.new ≡ catalog.old) × (store.new ≡ store.old)) }
 {
     let Some((end, next)) = block_end(text, start) else {
         return Err(End::Fault(endless(start)));
     };
-    match fill(catalog, heaps, table, &text[start as usize..end as usize]) {
+    match fill(
+        catalog,
+        store,
+        table,
+        &text[start as usize..end as usize],
+        reads,
+    ) {
         Ok(()) => Ok(next),
         Err(refused) => Err(refused_data(refused, table, start)),
     }
-}
-
-/// Where the last token ends.
-pub(crate) fn end_of(tokens: &Tokens) -> u32
-    requires { 0 < length tokens.now }
-    ensures { result ≡ end_of_tokens tokens.now }
-{
-    let items = tokens.items();
-    items[items.len() - 1].end
 }

@@ -2,7 +2,6 @@
 
 ghost use Rattle.std.specs.Prelude.{◌≡◌};
 
-use answer::Stop;
 use pg_base::{Fault, Refusal};
 
 /// Why a step gives no reply. The machine is then as before.
@@ -35,19 +34,6 @@ impl From<Refusal> for End {
         match refusal {
             Refusal::Fault(fault) => End::Fault(fault),
             Refusal::Memory => End::Memory,
-        }
-    }
-}
-
-impl From<Stop> for End {
-    ghost use Rattle.pgplan.specs.Ending.{end_of_stop};
-
-    ghost from_gives = { λ stop end. end ≡ end_of_stop stop };
-
-    fn from(stop: Stop) -> End {
-        match stop {
-            Stop::Write => End::Write,
-            Stop::Memory => End::Memory,
         }
     }
 }

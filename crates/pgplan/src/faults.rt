@@ -2,14 +2,15 @@
 
 ghost use Rattle.std.specs.Prelude.{◌≡◌, ◌≤◌, ◌+◌, ◌^◌, ◌<◌, ◌∷◌, All, IfOk, length};
 ghost use Rattle.pg_base.specs.Names.{IsName};
-ghost use Rattle.pgplan.specs.Ending.{IsCauseFor, IsNumberAmong, end_by};
-ghost use Rattle.pgplan.specs.Faults.{endless_fault, number_fault, rows_fault, table_fault, word_ends as ends_of_words};
+ghost use Rattle.pgplan.specs.Ending.{IsCauseFor, IsNumberAmong, IsPlaceAmong, end_by};
+ghost use Rattle.pgplan.specs.Faults.{end_of_word as end_of_word_at, endless_fault, index_fault, number_fault, rows_fault, table_fault, word_ends as ends_of_words, word_fault};
 
 use crate::end::End;
 use catalog::CatalogFault;
 use heap::CopyFault;
 use pg_base::{Code, Fault, Limit, Memory, TableNo};
 use pg_value::Bytes;
+use sql_lex::{Token, Tokens};
 use std::alloc::Global;
 
 /// Where the words end that begin at these offsets: a new table's name, and those of its columns.
@@ -49,6 +50,42 @@ pub(crate) fn refused_table(refused: CatalogFault, at: &[u32], ends: &[u32]) -> 
         }
         CatalogFault::TooMany => Fault::at_words(Code::S15(Limit::Tables), at[0], ends[0]),
         CatalogFault::BadNumber(_) => unreachable!(),
+        CatalogFault::Memory => return End::Memory,
+    };
+    End::Fault(fault)
+}
+
+/// Where the word ends that begins at a byte offset; the offset itself where none does.
+fn end_of_word(tokens: &[Token], at: u32) -> u32
+    ensures { result ≡ end_of_word_at tokens.now at }
+{
+    for token in tokens {
+        if token.start == at {
+            return token.end;
+        }
+    }
+    at
+}
+
+/// A fault at the word that begins at a byte offset.
+fn at_word(code: Code, tokens: &Tokens, at: u32) -> Fault
+    ensures { result ≡ word_fault code tokens.now at }
+{
+    Fault::at_words(code, at, end_of_word(tokens.items(), at))
+}
+
+/// How the refusal of an index ends its step, whose name and columns begin at these offsets, and its access method at `method`:
+/// with its fault at the new name, at the repeated column, or, where a hash index is not of its form, at the method.
+pub(crate) fn refused_index(refused: CatalogFault, at: &[u32], method: u32, tokens: &Tokens) -> End
+    requires some { 0 < length at.now }
+    requires place { IsPlaceAmong refused (length at.now) }
+    ensures { result ≡ end_by (index_fault refused at.now method tokens.now) }
+{
+    let fault = match refused {
+        CatalogFault::NameTaken => at_word(Code::S5, tokens, at[0]),
+        CatalogFault::ColumnTwice(place) => at_word(Code::S6, tokens, at[place as usize + 1]),
+        CatalogFault::TooMany => at_word(Code::S15(Limit::Indexes), tokens, at[0]),
+        CatalogFault::BadNumber(_) => at_word(Code::S17, tokens, method),
         CatalogFault::Memory => return End::Memory,
     };
     End::Fault(fault)

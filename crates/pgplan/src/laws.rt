@@ -3,10 +3,11 @@
 ghost use Rattle.std.specs.Prelude.{◌≡◌, ◌<◌, ◌≤◌, ℕ, List, length};
 ghost use Rattle.pg_base.specs.declared.faults.Fault.{Fault};
 ghost use Rattle.sql_query.specs.Worlds.{World};
-ghost use Rattle.pgplan.specs.Actions.{Action};
+ghost use Rattle.definitions.specs.Actions.{Action};
 ghost use Rattle.pgplan.specs.Accepted.{IsRead};
 ghost use Rattle.pgplan.specs.Faults.{IsFault};
-ghost use Rattle.pgplan.specs.Replies.{IsReply, Reply};
+ghost use Rattle.reply.specs.Replies.{Reply};
+ghost use Rattle.pgplan.specs.Replies.{IsReply};
 
 /// A statement ends behind the place at which it begins, and inside the text.
 pub fn statements_go_on()

@@ -4,11 +4,11 @@
 mod define;
 mod end;
 mod faults;
+mod index;
 mod laws;
 mod machine;
 mod query;
 mod status;
-mod store;
 #[cfg(test)]
 mod tests;
 mod top;

@@ -3,40 +3,45 @@
 ghost use Rattle.std.specs.Prelude.{◌≡◌, ◌≤◌, ◌^◌, ◌<◌, IfErr, IfOk, OnErr, length};
 ghost use Rattle.pg_base.specs.declared.limits.TheConstants.{MOST_SCRIPT_BYTES};
 ghost use Rattle.sql_query.specs.Worlds.{empty_world};
-ghost use Rattle.answer.specs.Putting.{HasWriteCause};
-ghost use Rattle.pgplan.specs.Steps.{Advances, Stops, traces};
+ghost use Rattle.reply.specs.Putting.{HasWriteCause};
+ghost use Rattle.reply.specs.Replies.{traces};
+ghost use Rattle.pgplan.specs.Steps.{Advances, Stops};
 
-use crate::define::{define, end_of};
+use crate::define::define;
 use crate::end::End;
+use crate::index::create_index;
 use crate::query::answer_query;
 use catalog::Catalog;
-use ddl_reader::is_ddl;
-use heap::{Counters, Heap};
+use ddl_reader::{is_ddl, is_index};
+use heap::Counters;
 use pg_base::{Sink, Steps};
 use sql_lex::lex_statement;
 use std::alloc::Global;
 use std::marker::Model;
+use store::Store;
 
-/// The tables that a script has made, with their rows. Contracts see a `World`.
+/// The tables and indexes that a script has made, with the tables' rows and the built indexes, each with exactly its entries
+/// over the rows. Contracts see a `World`.
 #[derive(Drop)]
 pub struct Machine<C: Counters> {
     alloc: Global,
     catalog: Catalog,
-    heaps: Vec<Heap<C>>,
+    store: Store<C>,
 }
 
 impl<C: Counters> Model for Machine<C> {
     ghost use Rattle.std.specs.Coded.{codes};
     ghost use Rattle.pg_expr.specs.CondCode.{cond_code};
-    ghost use Rattle.sql_query.specs.Worlds.{World, IsWorld, world};
+    ghost use Rattle.sql_query.specs.Worlds.{World, world};
+    ghost use Rattle.store.specs.Kept.{IsStoreOf};
 
     ghost Value = { World };
 
     ghost coded = { Prim.hlevel (codes, cond_code (Prim.hlevel codes)) };
 
-    ghost view = { λ m. world m.catalog m.heaps.items };
+    ghost view = { λ m. world m.catalog m.store.stored };
 
-    ghost invariant = { λ m. IsWorld (world m.catalog m.heaps.items) };
+    ghost invariant = { λ m. IsStoreOf m.catalog m.store };
 }
 
 impl<C: Counters> Machine<C> {
@@ -47,7 +52,7 @@ impl<C: Counters> Machine<C> {
         Machine {
             alloc,
             catalog: Catalog::new(alloc),
-            heaps: Vec::new(alloc),
+            store: Store::new(alloc),
         }
     }
 
@@ -60,10 +65,10 @@ impl<C: Counters> Machine<C> {
 
     /// Works the statement that begins at the byte offset `at` and gives the offset after it. Its reply, if it has one, is
     /// written to `out` before that. `fetches` counts the rows that are fetched, and `reads` the entries and rows already
-    /// found that are looked at, of which a sequential scan has none. The text has at most `MOST_SCRIPT_BYTES` bytes, and `at` is at most its length.
+    /// found that are looked at, and the rows that indexes are built over. The text has at most `MOST_SCRIPT_BYTES` bytes, and `at` is at most its length.
     ///
-    /// The refusal is the statement's first fault, of its words, its syntax, its names, its limits, its data, or of the
-    /// catalogue; or a failed out, or want of memory. The machine is then as before, and with a fault nothing was written.
+    /// The refusal is the statement's first fault, of its words, its syntax, its names, its limits, its data, of the
+    /// catalogue, or that it has no admissible plan; or a failed out, or want of memory. The machine is then as before, and with a fault nothing was written.
     pub fn step<K: Sink>(
         &mut self,
         text: &[u8],
@@ -83,7 +88,7 @@ impl<C: Counters> Machine<C> {
     {
         let tokens = lex_statement(self.alloc, text, at)?;
         if tokens.items().len() == 1 {
-            return Ok(end_of(&tokens));
+            return Ok(tokens.end());
         }
         if is_ddl(text, &tokens) {
             return define(
@@ -91,7 +96,18 @@ impl<C: Counters> Machine<C> {
                 text,
                 &tokens,
                 &mut self.catalog,
-                &mut self.heaps,
+                &mut self.store,
+                reads,
+            );
+        }
+        if is_index(text, &tokens) {
+            return create_index(
+                self.alloc,
+                text,
+                &tokens,
+                &mut self.catalog,
+                &mut self.store,
+                reads,
             );
         }
         answer_query(
@@ -99,9 +115,10 @@ impl<C: Counters> Machine<C> {
             text,
             &tokens,
             &self.catalog,
-            &self.heaps,
+            &self.store,
             out,
             fetches,
+            reads,
         )
     }
 }

@@ -31,10 +31,90 @@ const CLASS: &[u8] =
 
 const CLASS_ROWS: &[u8] = b"Seq Scan on t  (cost=418 rows=1)\n(0 rows)\n";
 
+/// Indexes by which rows come in order, partial ones, two at once, a sort, and a key of equal values.
+const COVERED: &[u8] = br#"CREATE TABLE t (a int4, b int4);
+CREATE INDEX ta ON t (a) INCLUDE (b);
+COPY t FROM STDIN WITH (FORMAT CSV, NULL '\N');
+1,10
+1,11
+2,12
+\.
+STATISTICS t ROWS 100000 PAGES 1000;
+SELECT a, b FROM t ORDER BY a DESC;
+"#;
+
+const COVERED_REPLIES: &[u8] =
+    br#"Index Only Scan Backward using ta on t  (cost=1400167 rows=100000)
+2,12
+1,11
+1,10
+(3 rows)
+"#;
+
+const PARTIAL: &[u8] = br#"CREATE TABLE t (a int4, b int4);
+CREATE INDEX tp ON t (b) WHERE a > 10;
+STATISTICS t ROWS 1000 PAGES 10;
+STATISTICS t.b DISTINCT 100 NULLS 0;
+EXPLAIN SELECT * FROM t WHERE a > 10 AND b = 7;
+EXPLAIN SELECT * FROM t WHERE a >= 10 AND b = 7;
+EXPLAIN SELECT * FROM t WHERE a >= 11 AND b = 7;
+"#;
+
+const PARTIAL_REPLIES: &[u8] = br#"Bitmap Heap Scan on t  (cost=7119 rows=4)
+  ->  Bitmap Index Scan on tp
+Seq Scan on t  (cost=10000 rows=4)
+Bitmap Heap Scan on t  (cost=7119 rows=4)
+  ->  Bitmap Index Scan on tp
+"#;
+
+const EITHER: &[u8] = br#"CREATE TABLE t (a int4, b int4, c int4);
+CREATE INDEX ta ON t (a);
+CREATE INDEX tb ON t (b);
+STATISTICS t ROWS 1000 PAGES 10;
+STATISTICS t.a DISTINCT 100 NULLS 0;
+STATISTICS t.b DISTINCT 100 NULLS 0;
+EXPLAIN SELECT * FROM t WHERE (a = 1 OR b = 2);
+"#;
+
+const EITHER_REPLIES: &[u8] = br#"Bitmap Heap Scan on t  (cost=7700 rows=20)
+  ->  BitmapOr 1
+        ->  Bitmap Index Scan on ta
+        ->  Bitmap Index Scan on tb
+"#;
+
+const SORTED: &[u8] = br#"CREATE TABLE t (a int4, b int4);
+COPY t FROM STDIN WITH (FORMAT CSV, NULL '\N');
+2,1
+\N,2
+1,3
+2,4
+\.
+SELECT * FROM t ORDER BY a DESC;
+"#;
+
+const SORTED_REPLIES: &[u8] = br#"Sort by t.a DESC  (cost=436 rows=4)
+  ->  Seq Scan on t  (cost=416 rows=4)
+\N,2
+2,1
+2,4
+1,3
+(4 rows)
+"#;
+
+const KEYED: &[u8] = br#"CREATE TABLE t (a int4, b int4);
+CREATE INDEX tab ON t (a, b);
+STATISTICS t ROWS 1000 PAGES 10;
+STATISTICS t.a DISTINCT 100 NULLS 0;
+EXPLAIN SELECT * FROM t WHERE a = 5 ORDER BY b;
+"#;
+
+const KEYED_REPLIES: &[u8] = br#"Index Only Scan using tab on t  (cost=1780 rows=10)
+"#;
+
 const USAGE: &[u8] = b"usage: pgplan run | pgplan sample N\n";
 
 /// A script whose statement at fault prints nothing, and its line: the words and their syntax, names, data, and a parameter.
-const FAULTS: [(&[u8], &[u8]); 51] = [
+const FAULTS: [(&[u8], &[u8]); 73] = [
     (b"SELECT * FROM t 'x;", b"ERROR 42601 at 16: syntax error\n"),
     (
         b"/* /* */ SELECT * FROM t;",
@@ -220,6 +300,94 @@ const FAULTS: [(&[u8], &[u8]); 51] = [
     (
         b"CREATE TABLE t (a int4, b text, c bool);\nSTATISTICS t ROWS 1;",
         b"ERROR 42601 at 60: syntax error\n",
+    ),
+    (
+        b"CREATE TABLE t (a int4, b text, c bool);\nCREATE INDEX t ON t (a);",
+        b"ERROR 42P07 at 54: duplicate name t\n",
+    ),
+    (
+        b"CREATE TABLE t (a int4, b text, c bool);\nCREATE INDEX i ON t (a); CREATE INDEX I ON t (b);",
+        b"ERROR 42P07 at 79: duplicate name i\n",
+    ),
+    (
+        b"CREATE TABLE t (a int4, b text, c bool);\nCREATE INDEX i ON u (a);",
+        b"ERROR 42P01 at 59: no table u\n",
+    ),
+    (
+        b"CREATE TABLE t (a int4, b text, c bool);\nCREATE INDEX i ON t (a, z);",
+        b"ERROR 42703 at 65: no column z\n",
+    ),
+    (
+        b"CREATE TABLE t (a int4, b text, c bool);\nCREATE INDEX i ON t (a, b, A);",
+        b"ERROR 42701 at 68: duplicate column a\n",
+    ),
+    (
+        b"CREATE TABLE t (a int4, b text, c bool);\nCREATE INDEX i ON t (a) INCLUDE (b, a);",
+        b"ERROR 42701 at 77: duplicate column a\n",
+    ),
+    (
+        b"CREATE TABLE t (a int4, b text, c bool);\nCREATE INDEX i ON t USING gin (a);",
+        b"ERROR 42704 at 67: unknown gin\n",
+    ),
+    (
+        b"CREATE TABLE t (a int4, b text, c bool);\nCREATE INDEX i ON t USING hash (a, b);",
+        b"ERROR 22023 at 67: invalid parameter\n",
+    ),
+    (
+        b"CREATE TABLE t (a int4, b text, c bool);\nCREATE INDEX i ON t USING hash (a DESC);",
+        b"ERROR 22023 at 67: invalid parameter\n",
+    ),
+    (
+        b"CREATE TABLE t (a int4, b text, c bool);\nCREATE INDEX i ON t USING hash (a) INCLUDE (b);",
+        b"ERROR 22023 at 67: invalid parameter\n",
+    ),
+    (
+        b"CREATE TABLE t (a int4, b text, c bool);\nCREATE INDEX i ON t (a text_ops);",
+        b"ERROR 42804 at 64: wrong type\n",
+    ),
+    (
+        b"CREATE TABLE t (a int4, b text, c bool);\nCREATE INDEX i ON t (a nope_ops);",
+        b"ERROR 42704 at 64: unknown nope_ops\n",
+    ),
+    (
+        b"CREATE TABLE t (a int4, b text, c bool);\nCREATE INDEX i ON t (a) WHERE z > 1;",
+        b"ERROR 42703 at 71: no column z\n",
+    ),
+    (
+        b"CREATE TABLE t (a int4, b text, c bool);\nCREATE INDEX i ON t a;",
+        b"ERROR 42601 at 61: syntax error\n",
+    ),
+    (
+        b"CREATE TABLE t (a int4, b text, c bool);\nCREATE INDEX i t (a);",
+        b"ERROR 42601 at 56: syntax error\n",
+    ),
+    (
+        b"CREATE TABLE t (a int4, b text, c bool);\nSELECT a FROM t ORDER BY z;",
+        b"ERROR 42703 at 66: no column z\n",
+    ),
+    (
+        b"CREATE TABLE t (a int4, b text, c bool);\nSELECT a FROM t ORDER BY u.a;",
+        b"ERROR 42P01 at 66: no table u\n",
+    ),
+    (
+        b"CREATE TABLE t (a int4, b text, c bool);\nSELECT a FROM t ORDER a;",
+        b"ERROR 42601 at 63: syntax error\n",
+    ),
+    (
+        b"CREATE TABLE t (a int4, b text, c bool);\nEXPLAIN SELECT zz FROM t;",
+        b"ERROR 42703 at 56: no column zz\n",
+    ),
+    (
+        b"CREATE TABLE t (a int4, b text, c bool);\nEXPLAIN CREATE TABLE u (a int4);",
+        b"ERROR 42601 at 49: syntax error\n",
+    ),
+    (
+        b"CREATE TABLE t (a int4, b text, c bool);\nEXPLAIN SELECT a FROM t ORDER BY a NULLS;",
+        b"ERROR 42601 at 81: syntax error\n",
+    ),
+    (
+        b"CREATE TABLE t (a int4, b text, c bool);\nCREATE INDEX i0 ON t (a); CREATE INDEX i1 ON t (a); CREATE INDEX i2 ON t (a); CREATE INDEX i3 ON t (a); CREATE INDEX i4 ON t (a); CREATE INDEX i5 ON t (a); CREATE INDEX i6 ON t (a); CREATE INDEX i7 ON t (a); CREATE INDEX i8 ON t (a);",
+        b"ERROR 54000 at 262: limit indexes\n",
     ),
 ];
 
@@ -640,6 +808,11 @@ fn answers_worked_scripts(rt: HostRuntime) -> Result<(), Fail> {
         Case::answered(THIRTY, THIRTY_REPLIES),
         Case::answered(CONDITIONS, CONDITIONS_REPLIES),
         Case::answered(CLASS, CLASS_ROWS),
+        Case::answered(COVERED, COVERED_REPLIES),
+        Case::answered(PARTIAL, PARTIAL_REPLIES),
+        Case::answered(EITHER, EITHER_REPLIES),
+        Case::answered(SORTED, SORTED_REPLIES),
+        Case::answered(KEYED, KEYED_REPLIES),
         Case::refused(THIRD, NO_ROWS, b"ERROR 42703 at 52: no column zz\n"),
     ];
     for case in &cases {

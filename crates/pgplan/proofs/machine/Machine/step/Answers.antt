@@ -1,44 +1,54 @@
 use Rattle.std.proofs.Common.{◌≡◌, length, arith, sym, subst, ap, ◌∙◌}
+use Rattle.std.proofs.lemmas.Result.{IfErr-weaker}
 use Rattle.sql_query.specs.Worlds.{world}
+use Rattle.reply.specs.Replies.{traces}
 use Rattle.pgplan.specs.Steps.{Refuses, StopsOver}
 use Rattle.pgplan.proofs.PlaceLemmas.{ends-behind}
-use Rattle.std.proofs.lemmas.Result.{IfErr-weaker}
+use Rattle.pgplan.proofs.QueryLemmas.{are-no-other}
 use Rattle.pgplan.proofs.SteppingLemmas.{done-idle, defined-ahead, defined-inside, answered-ahead, answered-inside, stopped-definition, stopped-query}
 use Rattle.pgplan.proofs.machine.Machine.step.Goals as goal
 
 pub returns-then-items-eq1-clause-done : goal.returns-then-items-eq1-clause-done
 returns-then-items-eq1-clause-done g c =
     let one : length c.in_ok-tokens.tokens ≡ 1 = sym (ap length c.items.ensures) ∙ c.if-items-eq1.true in
-    rw c.end_of.ensures (done-idle c.args.self.now c.args.text.now c.args.at c.in_ok-tokens.tokens _ (omega (arith, c.requires.short)) c.in_ok-tokens.ensures.words one)
+    rw c.end.ensures (done-idle c.args.self.now c.args.text.now c.args.at c.in_ok-tokens.tokens _ _ _ (omega (arith, c.requires.short)) c.in_ok-tokens.ensures.words one)
 
 pub returns-then-items-eq1-clause-ahead : goal.returns-then-items-eq1-clause-ahead
-returns-then-items-eq1-clause-ahead g c = rw c.end_of.ensures (ends-behind c.args.text.now c.args.at c.in_ok-tokens.tokens c.in_ok-tokens.ensures.words).ahead
+returns-then-items-eq1-clause-ahead g c = rw c.end.ensures (ends-behind c.args.text.now c.args.at c.in_ok-tokens.tokens c.in_ok-tokens.ensures.words).ahead
 
 pub returns-then-is_ddl-clause-ahead : goal.returns-then-is_ddl-clause-ahead
-returns-then-is_ddl-clause-ahead g c = defined-ahead _ _ c.args.text.now c.args.at c.in_ok-tokens.tokens c.define.result c.in_ok-tokens.ensures.words c.define.ensures.defined
+returns-then-is_ddl-clause-ahead g c = defined-ahead _ _ c.args.text.now c.args.at c.in_ok-tokens.tokens _ _ c.define.result c.in_ok-tokens.ensures.words c.define.ensures.defined
 
 pub returns-then-is_ddl-clause-inside : goal.returns-then-is_ddl-clause-inside
-returns-then-is_ddl-clause-inside g c = defined-inside _ _ c.args.text.now c.args.at c.in_ok-tokens.tokens c.define.result c.in_ok-tokens.ensures.words c.define.ensures.defined
+returns-then-is_ddl-clause-inside g c = defined-inside _ _ c.args.text.now c.args.at c.in_ok-tokens.tokens _ _ c.define.result c.in_ok-tokens.ensures.words c.define.ensures.defined
 
 pub returns-clause-ahead : goal.returns-clause-ahead
-returns-clause-ahead g c = answered-ahead _ c.args.text.now c.args.at c.in_ok-tokens.tokens _ _ _ _ c.answer_query.result c.in_ok-tokens.ensures.words c.answer_query.ensures.answered
+returns-clause-ahead g c = answered-ahead _ c.args.text.now c.args.at c.in_ok-tokens.tokens _ _ c.answer_query.result c.in_ok-tokens.ensures.words c.answer_query.ensures.answered
 
 pub returns-clause-inside : goal.returns-clause-inside
-returns-clause-inside g c = answered-inside _ c.args.text.now c.args.at c.in_ok-tokens.tokens _ _ _ _ c.answer_query.result c.in_ok-tokens.ensures.words c.answer_query.ensures.answered
+returns-clause-inside g c = answered-inside _ c.args.text.now c.args.at c.in_ok-tokens.tokens _ _ c.answer_query.result c.in_ok-tokens.ensures.words c.answer_query.ensures.answered
 
 pub returns-then-is_ddl-clause-stopped : goal.returns-then-is_ddl-clause-stopped
 returns-then-is_ddl-clause-stopped g c =
     IfErr-weaker c.define.result _ _
-    (λ e h. stopped-definition e c.args.self.now c.args.text.now c.args.at c.in_ok-tokens.tokens _ c.in_ok-tokens.ensures.words (subst (λ w. Refuses e w c.args.text.now c.in_ok-tokens.tokens) c.self.view_is h)) c.define.ensures.refused
+    (λ e h. stopped-definition e c.args.self.now c.args.text.now c.args.at c.in_ok-tokens.tokens _ _ _ _ c.in_ok-tokens.ensures.words (subst (λ w. Refuses e w c.args.text.now c.in_ok-tokens.tokens c.args.reads.now c.define.new.reads) c.self.view_is h)) c.define.ensures.refused
+
+pub returns-then-is_index-clause-ahead : goal.returns-then-is_index-clause-ahead
+returns-then-is_index-clause-ahead g c = defined-ahead _ _ c.args.text.now c.args.at c.in_ok-tokens.tokens _ _ c.create_index.result c.in_ok-tokens.ensures.words c.create_index.ensures.defined
+
+pub returns-then-is_index-clause-inside : goal.returns-then-is_index-clause-inside
+returns-then-is_index-clause-inside g c = defined-inside _ _ c.args.text.now c.args.at c.in_ok-tokens.tokens _ _ c.create_index.result c.in_ok-tokens.ensures.words c.create_index.ensures.defined
+
+pub returns-then-is_index-clause-stopped : goal.returns-then-is_index-clause-stopped
+returns-then-is_index-clause-stopped g c =
+    IfErr-weaker c.create_index.result _ _
+    (λ e h. stopped-definition e c.args.self.now c.args.text.now c.args.at c.in_ok-tokens.tokens _ _ _ _ c.in_ok-tokens.ensures.words (subst (λ w. Refuses e w c.args.text.now c.in_ok-tokens.tokens c.args.reads.now c.create_index.new.reads) c.self.view_is h)) c.create_index.ensures.refused
 
 pub returns-clause-stopped : goal.returns-clause-stopped
 returns-clause-stopped g c =
-    let held = g.K.Sink.held c.args.out.now in
-    let held' = g.K.Sink.held c.answer_query.new.out in
-    let f = c.args.fetches.now in
-    let f' = c.answer_query.new.fetches in
+    let old = traces (g.K.Sink.held c.args.out.now) c.args.fetches.now c.args.reads.now in
+    let new = traces (g.K.Sink.held c.answer_query.new.out) c.answer_query.new.fetches c.answer_query.new.reads in
     let text = c.args.text.now in
     let tokens = c.in_ok-tokens.tokens in
-    let here : world c.self.inside.catalog c.deref.result.now ≡ c.args.self.now = ap (world c.self.inside.catalog) c.deref.ensures.value ∙ c.self.view_is in
     IfErr-weaker c.answer_query.result _ _
-    (λ e h. stopped-query e c.args.self.now text c.args.at tokens held held' f f' c.args.reads.now c.in_ok-tokens.ensures.words (subst (λ w. StopsOver e w text tokens held held' f f') here h)) c.answer_query.ensures.stopped
+    (λ e h. stopped-query e c.args.self.now text c.args.at tokens old new c.in_ok-tokens.ensures.words (subst (λ w. StopsOver e w text tokens old new) c.self.view_is h)) c.answer_query.ensures.stopped

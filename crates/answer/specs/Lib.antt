@@ -1,5 +1,0 @@
-pub mod Plans
-pub mod Texts
-pub mod Answers
-pub mod Scans
-pub mod Putting

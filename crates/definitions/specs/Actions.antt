@@ -1,0 +1,44 @@
+-- What a statement does to what is stored. Own.
+use Rattle.std.specs.Prelude.{ℕ, List, [], ◌∷◌, ◌++◌, length, slice_set}
+use Rattle.pg_base.specs.declared.numbers.ColNo.{ColNo}
+use Rattle.pg_base.specs.declared.numbers.TableNo.{TableNo}
+use Rattle.pg_value.specs.declared.columns.Column.{Column}
+use Rattle.catalog.specs.Contents.{new_table, with_index, with_table, with_loaded, with_sizes, with_stats}
+use Rattle.catalog.specs.Indexes.{Index}
+use Rattle.catalog.specs.Statistics.{Statistics}
+use Rattle.heap.specs.Stored.{Stored}
+use Rattle.sql_query.specs.Queries.{Query}
+use Rattle.sql_query.specs.Worlds.{World, world}
+
+pub data Action : Type 0 where
+  -- an empty statement
+  idle : Action
+  -- CREATE TABLE: a table of this name, with these names for its columns, and the columns
+  make : List ℕ → List (List ℕ) → List Column → Action
+  -- CREATE INDEX: an index of this name
+  build : List ℕ → Index → Action
+  -- STATISTICS of a table: its rows and its pages
+  size : TableNo → ℕ → ℕ → Action
+  -- STATISTICS of a column of a table: what is known of it
+  describe : TableNo → ColNo → Statistics → Action
+  -- COPY: this is stored of the table from then on
+  fill : TableNo → Stored → Action
+  -- SELECT
+  answer : Query → Action
+  -- EXPLAIN of a SELECT
+  explain : Query → Action
+
+-- the world after an accepted statement: one more table, one more index or other statistics beside the same rows, other rows
+-- of a table, or the same
+abbrev pub after : World → Action → World
+after w idle = w
+after w (make name names columns) = record {
+  contents = with_table w.contents (new_table name names columns);
+  stored = w.stored ++ record { columns = columns; rows = [] } ∷ [];
+}
+after w (build name x) = world (with_index w.contents name x) w.stored
+after w (size t rows pages) = world (with_sizes w.contents t rows pages) w.stored
+after w (describe t column s) = world (with_stats w.contents t column s) w.stored
+after w (fill t s) = record { contents = with_loaded w.contents t (length s.rows); stored = slice_set w.stored t.0 s }
+after w (answer q) = w
+after w (explain q) = w

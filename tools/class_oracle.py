@@ -396,8 +396,9 @@ def lists(rng, count):
         yield " ".join(map(str, numbers)), f"{len(t.clauses)} {clauses} {folded(0, shown_classes(t))} {folded(0, shown_parts(t))}"
 
 
-def answers(lines, program, crates):
-    """The lines of numbers that a program over these crates prints, each for one of these lines."""
+def answers(lines, program, crates, files=()):
+    """The lines of numbers that a program over these crates, with these files of crates beside it, prints, each for one of these
+    lines."""
     root = pathlib.Path(__file__).resolve().parent.parent
     with tempfile.TemporaryDirectory() as folder:
         copy = pathlib.Path(folder)
@@ -406,6 +407,8 @@ def answers(lines, program, crates):
         source = copy / "crates" / "judge_lists" / "src"
         source.mkdir(parents=True)
         (source / "main.rt").write_text(program)
+        for file in files:
+            shutil.copy(root / "crates" / file, source)
         wanted = [line for line in (root / "crates.txt").read_text().splitlines() if line.split(":")[0] in crates]
         (copy / "crates.txt").write_text("\n".join([*wanted, "judge_lists: " + " ".join(crates)]) + "\n")
         ran = subprocess.run(["rt", "try", "--steps", "100000000000", "--seconds", "600"], cwd=source.parent, input="".join(line + "\n" for line in lines),

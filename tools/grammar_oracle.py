@@ -5,13 +5,14 @@ usage: tools/grammar_oracle.py FOLDER [COUNT [SEED [STAGE]]]
 
 FOLDER holds the package `pgoracle` of the reference parser, written apart from
 this repository: `lexer.lex_statement(text, at)` gives the tokens of a statement
-and `grammar.Parser(tokens, STAGE).statement()` raises its first fault: stage 3,
-which is taken where none is given, has WHERE and STATISTICS. The crates
+and `grammar.Parser(tokens, STAGE).statement()` raises its first fault: stage 10,
+which is taken where none is given, has every statement of one table. The crates
 sql_grammar, sql_lex and pg_base are copied to a folder of their own, with tests
 made of the statements and the faults that the reference parser finds, and
 `rt try --test` runs them there. Nothing in the repository changes.
 """
 
+import os
 import random
 import shutil
 import subprocess
@@ -24,7 +25,7 @@ CRATES = ("pg_base", "sql_lex", "sql_grammar")
 RESERVED = ("and as asc create cross desc false from group inner is join limit not null offset "
             "on or order select table true using where with").split()
 NAMES = ("a b t rows first copy csv format stdin index statistics last _x x1 nulls pages distinct "
-         "common histogram").split()
+         "common histogram by explain include").split()
 SYMBOLS = "( ) , . * - ; < <= = <> |<|".split()
 OPERATORS = "< <= = >= > <> != |<| |>=|".split()
 CHUNK = 100
@@ -112,17 +113,41 @@ def output(r):
     return r.choice((["*"], [name(r), ".", "*"], column(r), column(r)))
 
 
+def direction(r):
+    return r.choice(([], ["asc"], ["desc"])) + r.choice(([], [], ["nulls", "first"], ["nulls", "last"]))
+
+
+def ordering(r):
+    return column(r) + direction(r)
+
+
+def key(r):
+    return [name(r)] + ([name(r)] if r.random() < 0.3 else []) + direction(r)
+
+
+def index(r):
+    out = ["create", "index", name(r), "on", name(r)]
+    out += ["using", name(r)] if r.random() < 0.4 else []
+    out += ["("] + joined(r, key) + [")"]
+    out += ["include", "("] + joined(r, lambda r: [name(r)]) + [")"] if r.random() < 0.4 else []
+    return out + (["where"] + condition(r) if r.random() < 0.4 else [])
+
+
 def statement(r):
     """The words of a statement, without its end."""
-    kind = r.randrange(12)
+    kind = r.randrange(15)
     if kind == 0:
         return []
+    if kind > 11:
+        return index(r)
     if kind < 3:
         return ["create", "table", name(r), "("] + joined(r, definition) + [")"]
     if kind < 8:
         alias = r.choice(([], [name(r)], ["as", name(r)]))
         where = ["where"] + condition(r) if kind > 4 else []
-        return ["select"] + joined(r, output) + ["from", name(r)] + alias + where
+        order = ["order", "by"] + joined(r, ordering) if r.random() < 0.5 else []
+        explained = ["explain"] if r.random() < 0.3 else []
+        return explained + ["select"] + joined(r, output) + ["from", name(r)] + alias + where + order
     if kind < 11:
         return statistics(r)
     return ["copy", name(r)] + "from stdin with ( format csv , null".split() + [text(r), ")"]
@@ -210,11 +235,12 @@ fn kind_of(code: Code) -> u32 {
 
 
 def main():
+    os.environ["PGPLAN_ONE_RELATION"] = "1"
     sys.path.insert(0, sys.argv[1])
     from pgoracle import faults, grammar, lexer
     count = int(sys.argv[2]) if len(sys.argv) > 2 else 2000
     r = random.Random(int(sys.argv[3]) if len(sys.argv) > 3 else 1)
-    stage = int(sys.argv[4]) if len(sys.argv) > 4 else 3
+    stage = int(sys.argv[4]) if len(sys.argv) > 4 else 10
     tests, tally = HEAD, [0, 0, 0, 0, 0]
     for part in range(0, count, CHUNK):
         rows = ""

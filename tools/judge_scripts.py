@@ -4,8 +4,8 @@
 usage: judge_scripts.py JUDGE PROGRAM [COUNT [SEED]]
 
 COUNT right scripts and COUNT broken ones are made (500 each where it is not given). JUDGE is a program called as
-`JUDGE judge --stage 3 --allow '' SCRIPT OUT ERRORS STATUS` that exits with 0 where the answer is allowed. A right script has to
-end with status 0.
+`JUDGE judge --stage 10 --one-relation --allow '' SCRIPT OUT ERRORS STATUS` that exits with 0 where the answer is allowed. A right
+script has to end with status 0.
 """
 import collections
 import pathlib
@@ -31,9 +31,13 @@ NO_TRUTHS = ["", "o", "2", "truex", "nein", "tr ue"]
 NO_NUMBERS = ["", "x", "1.5", "--1", "0x10", "1_000", "1 2", "+", "1e3"]
 
 
+CLASSES = {"int2": ["int2_ops", "int2_abs_ops"], "int4": ["int4_ops", "int4_abs_ops"], "int8": ["int8_ops", "int8_abs_ops"],
+           "text": ["text_ops"], "bool": ["bool_ops"]}
+
+
 class Table:
     def __init__(self, name, columns):
-        self.name, self.columns = name, columns
+        self.name, self.columns, self.indexes, self.predicates = name, columns, 0, []
 
 
 def in_any_case(rng, word):
@@ -271,7 +275,57 @@ def select(rng, table):
         words.append(in_any_case(rng, alias))
     if rng.random() < 0.6:
         test = long_condition(rng, table, shown) if rng.random() < 0.03 else condition(rng, table, shown, rng.choice([0, 1, 2, 3, 5]))
+        if shown == table.name and table.predicates and rng.random() < 0.5:
+            test = ["("] + rng.choice(table.predicates) + [")", in_any_case(rng, "and"), "("] + test + [")"] if len(test) < 60 else test
         words += [in_any_case(rng, "where")] + test
+    if rng.random() < 0.4:
+        words += order_by(rng, table, shown)
+    return ([in_any_case(rng, "explain")] if rng.random() < 0.3 else []) + words
+
+
+def ordering(rng):
+    """The direction of a key and the place of its NULLs, as words."""
+    words = rng.choice([[], [], ["asc"], ["desc"]]) + rng.choice([[], [], [], ["nulls", "first"], ["nulls", "last"]])
+    return [in_any_case(rng, w) for w in words]
+
+
+def index(rng, table, name):
+    """CREATE INDEX of any kind, as words."""
+    words = [in_any_case(rng, w) for w in ("create", "index", name, "on", table.name)]
+    columns = rng.sample(table.columns, len(table.columns))
+    if rng.random() < 0.25:
+        column, kind, _ = columns[0]
+        words += [in_any_case(rng, w) for w in ("using", "hash")] + ["(", in_any_case(rng, column)]
+        words += [in_any_case(rng, CLASSES[kind][0])] if rng.random() < 0.3 else []
+        words += [in_any_case(rng, "asc")] if rng.random() < 0.1 else []
+        words.append(")")
+    else:
+        words += [in_any_case(rng, w) for w in ("using", "btree")] if rng.random() < 0.3 else []
+        keys = columns[:rng.choice([1, 1, 2, 3, 16])]
+        for number, (column, kind, _) in enumerate(keys):
+            words += ["," if number else "(", in_any_case(rng, column)]
+            words += [in_any_case(rng, rng.choice(CLASSES[kind]))] if rng.random() < 0.3 else []
+            words += ordering(rng)
+        words.append(")")
+        rest = columns[len(keys):][:rng.choice([1, 1, 2, 16])]
+        if rest and rng.random() < 0.4:
+            words.append(in_any_case(rng, "include"))
+            for number, (column, _, _) in enumerate(rest):
+                words += ["," if number else "(", in_any_case(rng, column)]
+            words.append(")")
+    if rng.random() < 0.4:
+        predicate = condition(rng, table, table.name, rng.choice([0, 0, 0, 1, 2]))
+        table.predicates.append(predicate)
+        words += [in_any_case(rng, "where")] + predicate
+    table.indexes += 1
+    return words
+
+
+def order_by(rng, table, shown):
+    words = [in_any_case(rng, "order"), in_any_case(rng, "by")]
+    for number in range(rng.choice([1, 1, 2, 3])):
+        words += [","] if number else []
+        words += named(rng, shown, rng.choice(table.columns)[0]) + ordering(rng)
     return words
 
 
@@ -287,12 +341,20 @@ def new_table(rng, tables):
 def statements(rng):
     """The statements of a right script, each a text with its end."""
     tables, parts = [], []
-    for _ in range(rng.choice([0, 1, 2, 3, 5, 8, 12])):
-        kind = rng.randrange(10)
-        if kind < 3 or not tables:
+    names = []
+    for _ in range(rng.choice([0, 1, 2, 3, 5, 8, 12, 20])):
+        kind = rng.randrange(14)
+        if kind > 9 and tables and tables[-1].indexes < 8:
+            names.append(new_name(rng, names + [t.name for t in tables]))
+            parts.append(spaced(rng, index(rng, tables[-1], names[-1])) + ";")
+        elif kind > 9 and tables:
+            parts.append(spaced(rng, select(rng, tables[-1])) + ";")
+        elif kind < 2 or not tables:
             tables.append(new_table(rng, tables))
+            while tables[-1].name in names + [t.name for t in tables[:-1]]:
+                tables[-1].name = "z" + tables[-1].name[:50]
             parts.append(spaced(rng, create(rng, tables[-1])) + ";")
-        elif kind < 6:
+        elif kind < 5:
             table = rng.choice(tables)
             many = rng.choice([0, 1, 2, 3, 3, 10, 99, 100, 101, 250])
             parts.append(copy(rng, table, [record(rng, table) for _ in range(many)]))
@@ -378,9 +440,49 @@ def broken_statistics(rng, table):
         f"STATISTICS {table.name} ROWS 1;", f"STATISTICS {table.name} PAGES 1 ROWS 1;"])
 
 
+def broken_index(rng, table):
+    """CREATE INDEX at fault."""
+    names = [name for name, _, _ in table.columns]
+    name, kind, _ = rng.choice(table.columns)
+    whole = {"text": "'x'", "bool": "TRUE"}.get(kind, "1")
+    wrong = rng.choice([c for k in CLASSES for c in CLASSES[k]] + ["nope", "btree", "nulls"])
+    on = f"ON {table.name}"
+    tail = rng.choice(["", f" WHERE missing = 1", f" WHERE {name} = 'x y'", f" WHERE {name}", " WHERE"])
+    many = ", ".join((names * 17)[:17])
+    return rng.choice([
+        f"CREATE INDEX {table.name} {on} ({name});", f"CREATE INDEX fresh ON missing ({name});", f"CREATE INDEX fresh {on} (missing){tail};",
+        f"CREATE INDEX fresh {on} USING gin ({name});", f"CREATE INDEX fresh {on} ({name} {wrong}){tail};", f"CREATE INDEX fresh {on} ({name}, {name});",
+        f"CREATE INDEX fresh {on} ({name}) INCLUDE ({name});", f"CREATE INDEX fresh {on} ({name}) INCLUDE (missing){tail};",
+        f"CREATE INDEX fresh {on} USING hash ({name} {wrong});", f"CREATE INDEX fresh {on} USING hash ({name} DESC);",
+        f"CREATE INDEX fresh {on} USING hash ({', '.join(names)});", f"CREATE INDEX fresh {on} USING hash ({name}) INCLUDE ({names[0]});",
+        f"CREATE INDEX fresh {on} USING hash ({name} NULLS FIRST);", f"CREATE INDEX fresh {on} ({many});", f"CREATE INDEX fresh {on} ({name}) INCLUDE ({many});",
+        f"CREATE INDEX fresh {on} ({name}){tail};", f"CREATE INDEX fresh {on} ({name}) WHERE {' OR '.join([name + ' IS NULL'] * 257)};",
+        f"CREATE INDEX fresh {on} ({name}) WHERE fresh.{name} = {whole};", f"CREATE INDEX fresh {on} {name};", f"CREATE INDEX {on} ({name});",
+        f"CREATE INDEX fresh {on} ({name} NULLS);", f"CREATE INDEX fresh {on} ({name} ASC DESC);", f"CREATE INDEX fresh {on} ({name}) USING hash;",
+        f"CREATE INDEX fresh {on} ({name}) INCLUDE ();", f"CREATE INDEX {'n' * 64} {on} ({name});",
+        "".join(f"CREATE INDEX many{n} {on} ({name});\n" for n in range(9)), f"CREATE INDEX fresh {on} ({name}); CREATE INDEX fresh {on} ({name});",
+        f"CREATE INDEX fresh {on} ({name}); CREATE TABLE fresh (a int4);", f"CREATE UNIQUE INDEX fresh {on} ({name});"])
+
+
+def broken_order(rng, table):
+    """A SELECT whose ORDER BY, or EXPLAIN, is at fault."""
+    name = rng.choice(table.columns)[0]
+    return rng.choice([
+        f"SELECT * FROM {table.name} ORDER BY missing;", f"SELECT {name} FROM {table.name} ORDER BY other.{name};", f"SELECT missing FROM {table.name} ORDER BY nothing;",
+        f"SELECT * FROM {table.name} ORDER {name};", f"SELECT * FROM {table.name} ORDER BY;", f"SELECT * FROM {table.name} ORDER BY 1;",
+        f"SELECT * FROM {table.name} ORDER BY {name} NULLS;", f"SELECT * FROM {table.name} ORDER BY {name} NULLS FIRST DESC;",
+        f"SELECT * FROM {table.name} ORDER BY {name},;", f"SELECT * FROM {table.name} ORDER BY {name} WHERE {name} IS NULL;",
+        f"EXPLAIN SELECT * FROM {table.name} ORDER BY missing;", f"EXPLAIN SELECT * FROM {table.name} WHERE {' OR '.join([name + ' IS NULL'] * 257)};",
+        f"EXPLAIN COPY {table.name} FROM STDIN;", "EXPLAIN;", f"EXPLAIN EXPLAIN SELECT * FROM {table.name};", f"EXPLAIN (TABLE) SELECT * FROM {table.name};",
+        f"EXPLAIN SELECT * FROM {table.name} LIMIT 1;", f"SELECT * FROM {table.name} GROUP BY {name};", f"EXPLAIN CREATE INDEX fresh ON {table.name} ({name});",
+        f"SELECT * FROM {table.name} ORDER BY {table.name}.*;", f"SELECT {name} FROM {table.name} u ORDER BY {table.name}.{name};"])
+
+
 def broken_statement(rng, tables):
     table = rng.choice(tables)
     names = [name for name, _, _ in table.columns]
+    if rng.random() < 0.35:
+        return broken_index(rng, table) if rng.random() < 0.7 else broken_order(rng, table)
     if rng.random() < 0.4:
         return broken_condition(rng, table)
     if rng.random() < 0.3:
@@ -463,7 +565,7 @@ def main():
             for path, data in zip(names, (script.encode(), ran.stdout, ran.stderr)):
                 path.write_bytes(data)
             verdict = subprocess.run(
-                [sys.executable, judge, "judge", "--stage", "3", "--allow", "", *map(str, names), str(ran.returncode)],
+                [sys.executable, judge, "judge", "--stage", "10", "--one-relation", "--allow", "", *map(str, names), str(ran.returncode)],
                 capture_output=True, text=True)
             statuses["right" if right else "broken", ran.returncode, ran.stderr.decode()[:11]] += 1
             if verdict.returncode != 0 or (right and ran.returncode != 0):

@@ -1,0 +1,5 @@
+use Rattle.planner.proofs.RelationLemmas.{bound-over}
+use Rattle.worked_plans.proofs.script.query.Goals as goal
+
+pub returns-clause-over : goal.returns-clause-over
+returns-clause-over c = bound-over c.args.cat.now c.in_ok-q.q c.in_ok-q.ensures.well_bound

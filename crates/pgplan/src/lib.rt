@@ -11,6 +11,8 @@ mod query;
 mod status;
 #[cfg(test)]
 mod tests;
+#[cfg(test)]
+mod tests_pace;
 mod top;
 mod work;
 

@@ -11,7 +11,7 @@ use Rattle.pg_expr.specs.Cond.{Cond}
 use Rattle.pg_expr.specs.Pushed.{is_lower}
 use Rattle.eq_classes.specs.declared.order.OrderItem.{OrderItem}
 use Rattle.eq_classes.specs.Equality.{Equality, equal_in, equality_in, is_column}
-use Rattle.eq_classes.specs.Classes.{Given, Linked, conjunct, constant, same, turned, chain, Class, is_family, has_member, Mention, is_in, left_of, ordered_by, mentions, first_mention, literals, IsClass, AreClasses}
+use Rattle.eq_classes.specs.Classes.{Premises, Linked, conjunct, constant, same, turned, chain, Class, is_family, has_member, Mention, is_in, left_of, ordered_by, mentions, first_mention, literals, IsClass, AreClasses}
 use Rattle.eq_classes.specs.Grouping.{Part, has_side, grouped}
 use Rattle.eq_classes.specs.Building.{arranged, is_group_of, columns_by, members_of, class_with, with_mention, mention_in, left_by, by_conjuncts, by_order, all_classes}
 use Rattle.eq_classes.proofs.ListLemmas.{IsIn, Before, earlier_in, later_in, in_parts, in_from_contains, all_from, found_in, found_passes, any_from, any_at, pairs_all}
@@ -60,7 +60,7 @@ left_is None = refl
 left_is (Some e) = refl
 
 -- the classes of the mentions so far
-pub record IsSoFar (g : Given) (done : List Mention) (out : List Class) : Type 0 where
+pub record IsSoFar (g : Premises) (done : List Mention) (out : List Class) : Type 0 where
   pub each : (c : Class) → IsIn c out → IsClass g c
   pub every : (m : Mention) → IsIn m done → list_any (λ c. is_in c m) out ≡ true
   pub first : (c : Class) → IsIn c out → position_or_len (is_in c) done < length done
@@ -89,7 +89,7 @@ column_side p y i = any_from (is_column y) p.columns y i (column_self y)
 side_column : (p : Part) (y : ColRef) → has_side p (Col y) ≡ true → IsIn y p.columns
 side_column p y h = let w = any_at (is_column y) p.columns h in subst (λ (a : ColRef). IsIn a p.columns) (sym (column_is y w.0 w.2)) w.1
 
-module _ (g : Given) where
+module _ (g : Premises) where
   abbrev ps : List Part
   ps = grouped g.type_of g.conjuncts []
 
@@ -256,7 +256,7 @@ module _ (g : Given) where
         numbered = pairs_all (λ c d. first_mention g c < first_mention g d) (all_classes g) done.rises;
       }
 
-pub built_is : (g : Given) (ps qs : List Part) (start mid last : List Class) → ps ≡ grouped g.type_of g.conjuncts [] → qs ≡ grouped g.type_of g.conjuncts [] → start ≡ [] → mid ≡ by_conjuncts g ps g.conjuncts start → last ≡ by_order g qs g.order mid → last ≡ all_classes g
+pub built_is : (g : Premises) (ps qs : List Part) (start mid last : List Class) → ps ≡ grouped g.type_of g.conjuncts [] → qs ≡ grouped g.type_of g.conjuncts [] → start ≡ [] → mid ≡ by_conjuncts g ps g.conjuncts start → last ≡ by_order g qs g.order mid → last ≡ all_classes g
 built_is g ps qs start mid last p q s m l =
     l
     ∙ ap (λ (a : List Part). by_order g a g.order mid) q

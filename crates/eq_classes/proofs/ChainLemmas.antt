@@ -5,7 +5,7 @@ use Rattle.pg_value.specs.declared.operators.Family.{Family}
 use Rattle.pg_value.specs.declared.operators.Op.{Op}
 use Rattle.pg_value.specs.declared.value.SqlType.{SqlType}
 use Rattle.pg_value.specs.declared.value.Value.{Value}
-use Rattle.pg_value.specs.Truths.{truth_of_op}
+use Rattle.pg_value.specs.Truths.{is_true, truth_of_op}
 use Rattle.pg_expr.specs.declared.operand.ColRef.{ColRef}
 use Rattle.pg_expr.specs.declared.operand.Operand.{Operand}
 use Rattle.pg_expr.specs.declared.operand.Operand.TheVariants.{Col, Lit}
@@ -13,10 +13,10 @@ use Rattle.pg_expr.specs.Cond.{Cond, compare, is_null, is_not_null, bool_col, co
 use Rattle.pg_expr.specs.Truths.{value_of, truth_at}
 use Rattle.pg_expr.specs.Typed.{IsTyped}
 use Rattle.eq_classes.specs.Equality.{Equality, equal_in, equality_in, equality_family, is_column, are_equal, as_clause}
-use Rattle.eq_classes.specs.Classes.{Given, Linked, conjunct, constant, same, turned, chain}
+use Rattle.eq_classes.specs.Classes.{Premises, Linked, conjunct, constant, same, turned, chain}
 use Rattle.eq_classes.specs.Clauses.{Set}
 use Rattle.eq_classes.specs.Parts.{is_inside}
-use Rattle.eq_classes.specs.Holding.{is_true, Fits}
+use Rattle.eq_classes.specs.Holding.{Fits}
 use Rattle.eq_classes.proofs.ListLemmas.{IsIn, in_from_contains, all_at}
 use Rattle.eq_classes.proofs.EqualLemmas.{column_is, truth_equal, truth_self, equal_sym, equal_trans}
 use Rattle.eq_classes.proofs.SideLemmas.{equality_is, family_operator, left_fits, right_fits}
@@ -63,7 +63,7 @@ module _ (type_of : ColRef → SqlType) (b : ColRef → Value) where
   as_inside set (any_of cs) h = h
   as_inside set (negation c) h = h
 
-module _ (g : Given) (b : ColRef → Value) (typed : All (IsTyped g.type_of) g.conjuncts) (fits : Fits g.type_of b) where
+module _ (g : Premises) (b : ColRef → Value) (typed : All (IsTyped g.type_of) g.conjuncts) (fits : Fits g.type_of b) where
   -- an equality conjunct is true exactly where its sides are equal in its family
   pub conjunct_truth : (k : Cond) (e : Equality) → IsIn k g.conjuncts → equality_in g.type_of k ≡ Some e → is_true (truth_at b k) ≡ are_equal e.family (b e.left) (value_of b e.right)
   conjunct_truth k e i h =

@@ -3,12 +3,13 @@ use Rattle.std.proofs.Common.{◌≡◌, ℕ, Bool, true, false, inl, ⊎_elim, 
 use Rattle.std.proofs.lemmas.Bool.{cases_Bool, and_from, true≢false, eq-eqb}
 use Rattle.pg_value.specs.declared.value.Value.{Value}
 use Rattle.pg_value.specs.Order.{IsOfFamily}
+use Rattle.pg_value.specs.Truths.{is_true}
 use Rattle.pg_expr.specs.declared.operand.ColRef.{ColRef}
 use Rattle.pg_expr.specs.Truths.{truth_at}
 use Rattle.eq_classes.specs.Equality.{are_equal, is_column}
 use Rattle.eq_classes.specs.Classes.{Class}
 use Rattle.eq_classes.specs.Clauses.{Clause, clause, by_class, first_in, one, is_same, is_first, equals, equals_constant, constant_clauses, inner_clause, inner_clauses, pair_clause, pair_clauses}
-use Rattle.eq_classes.specs.Holding.{is_true, hold}
+use Rattle.eq_classes.specs.Holding.{hold}
 use Rattle.eq_classes.proofs.ListLemmas.{IsIn, Before, earlier_in, later_in, found_in, in_filter, before_filter, filter_before}
 use Rattle.eq_classes.proofs.HoldLemmas.{in_map, map_in, in_flat_map, flat_map_in, in_each_pair, each_pair_in, hold_at, hold_from}
 use Rattle.eq_classes.proofs.EqualLemmas.{column_is, truth_equal}

@@ -13,7 +13,7 @@ use Rattle.pg_expr.specs.Cond.{Cond, compare, is_null, is_not_null, bool_col, co
 use Rattle.pg_expr.specs.Columns.{passes_column, each_column}
 use Rattle.eq_classes.specs.declared.order.OrderItem.{OrderItem}
 use Rattle.eq_classes.specs.Equality.{Equality, equality_family, equal_in, equality_in, is_column, as_clause}
-use Rattle.eq_classes.specs.Classes.{Given, Linked, conjunct, constant, same, turned, chain, Class, is_family, has_member, Mention, is_in, left_of, in_family, ordered_by, mentions, first_mention, IsClass, AreClasses}
+use Rattle.eq_classes.specs.Classes.{Premises, Linked, conjunct, constant, same, turned, chain, Class, is_family, has_member, Mention, is_in, left_of, in_family, ordered_by, mentions, first_mention, IsClass, AreClasses}
 use Rattle.eq_classes.specs.Clauses.{Source, Clause, clause, by_conjunct, by_class, by_pair, one, first_in, is_first, equals, equals_constant, conjunct_clauses, constant_clauses, inner_clause, inner_clauses, pair_clause, pair_clauses, has_constant, class_clauses, clauses_from, clause_list}
 use Rattle.eq_classes.proofs.ListLemmas.{IsIn, Before, in_parts, in_filter, in_filter_map, in_from_contains, all_at, earlier_in, later_in}
 use Rattle.eq_classes.proofs.EqualLemmas.{column_is, family_is}
@@ -111,7 +111,7 @@ as_clause_passes test type_of (negation c) h = h
 some_mention : (m n : Mention) → Some m ≡ Some n → m ≡ n
 some_mention m n h = cc
 
-module _ (test : ColRef → Bool) (g : Given) (pass : (k : Cond) → IsIn k g.conjuncts → each_column test k ≡ true) (items : (i : OrderItem) → IsIn i g.order → test i.col ≡ true) where
+module _ (test : ColRef → Bool) (g : Premises) (pass : (k : Cond) → IsIn k g.conjuncts → each_column test k ≡ true) (items : (i : OrderItem) → IsIn i g.order → test i.col ≡ true) where
   equality_passes : (k : Cond) (e : Equality) → IsIn k g.conjuncts → equality_in g.type_of k ≡ Some e → (test e.left ≡ true) × Passes test e.right
   equality_passes k e i h =
       let q = equality_is g.type_of k e h in

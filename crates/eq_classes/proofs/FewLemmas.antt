@@ -12,7 +12,7 @@ use Rattle.pg_expr.specs.declared.operand.Operand.TheVariants.{Col, Lit}
 use Rattle.pg_expr.specs.Cond.{Cond}
 use Rattle.pg_expr.specs.Pushed.{is_lower}
 use Rattle.eq_classes.specs.Equality.{Equality, equality_in, is_column, is_other, are_equal}
-use Rattle.eq_classes.specs.Classes.{Given, Linked, Class, is_family, has_member, Mention, mentions, first_mention, literals, distinct, IsClass, AreClasses}
+use Rattle.eq_classes.specs.Classes.{Premises, Linked, Class, is_family, has_member, Mention, mentions, first_mention, literals, distinct, IsClass, AreClasses}
 use Rattle.eq_classes.specs.Clauses.{Clause, clause, by_class, one, first_in, is_same, is_first, equals, equals_constant, each_pair, conjunct_clauses, constant_clauses, inner_clause, inner_clauses, pair_clause, pair_clauses, has_constant, class_clauses, clauses_from, clause_list}
 use Rattle.eq_classes.specs.Grouping.{Part, has_side, columns_in, literals_in, started, united, touches, gathered, added, grouped}
 use Rattle.eq_classes.proofs.ListLemmas.{IsIn, Before, earlier_in, later_in, in_filter, filter_in, before_filter, in_from_contains, all_at, pairs_at, any_from, any_at}
@@ -162,7 +162,7 @@ module _ (f : Family) (l : ColRef) (r : Operand) (right : has_side (started f l 
       let e = started_weight f l r in
       ap weights (gathered_is f l r ps [] (started f l r)) ∙ (omega (arith, a, b, d, e))
 
-module _ (g : Given) where
+module _ (g : Premises) where
   abbrev eqs : List Cond → ℕ
   eqs [] = 0
   eqs (k ∷ ks) = cond (is_some (equality_in g.type_of k)) (suc (eqs ks)) (eqs ks)
@@ -224,7 +224,7 @@ distinct_apart f (v ∷ vs) a b (inr h) e = distinct_apart f vs a b (before_filt
 column_same : (x y : ColRef) → Col x ≡ Col y → x ≡ y
 column_same x y h = cc
 
-module _ (g : Given) (classes : List Class) (are : AreClasses g classes) where
+module _ (g : Premises) (classes : List Class) (are : AreClasses g classes) where
   class_is : (c : Class) → IsIn c classes → IsClass g c
   class_is c i = all_at (IsClass g) classes are.each c i
 
@@ -479,7 +479,7 @@ filter_weights : (test : Part → Bool) (ps : List Part) → weights (filter tes
 filter_weights test ps = let e = weights-parts test ps in omega (arith, e)
 
 -- at most 32 conjuncts over relations below 16 make at most 512 clauses
-pub few_clauses : (g : Given) (classes : List Class) → AreClasses g classes → ((c : Class) → IsIn c classes → (x : ColRef) → IsIn x c.members → x.rel.0 < 16) → length g.conjuncts ≤ 32 → length (clause_list g.type_of g.conjuncts classes) ≤ 512
+pub few_clauses : (g : Premises) (classes : List Class) → AreClasses g classes → ((c : Class) → IsIn c classes → (x : ColRef) → IsIn x c.members → x.rel.0 < 16) → length g.conjuncts ≤ 32 → length (clause_list g.type_of g.conjuncts classes) ≤ 512
 few_clauses g classes are near few =
     let conjuncts = conjuncts_count g 1 g.conjuncts in
     let heavy = grouped_weights g g.conjuncts [] in

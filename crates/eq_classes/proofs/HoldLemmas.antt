@@ -2,10 +2,11 @@
 use Rattle.std.proofs.Common.{◌≡◌, Bool, true, false, not, ◌&&◌, ◌||◌, inl, inr, ⊎_elim, List, [], ◌∷◌, ◌++◌, map, flat_map, refl, sym, ap, ◌∙◌, subst}
 use Rattle.std.proofs.lemmas.Bool.{and_parts, and_from, true≢false}
 use Rattle.pg_value.specs.declared.value.Value.{Value}
+use Rattle.pg_value.specs.Truths.{is_true}
 use Rattle.pg_expr.specs.declared.operand.ColRef.{ColRef}
 use Rattle.pg_expr.specs.Truths.{truth_at}
 use Rattle.eq_classes.specs.Clauses.{Clause, each_pair}
-use Rattle.eq_classes.specs.Holding.{is_true, hold}
+use Rattle.eq_classes.specs.Holding.{hold}
 use Rattle.eq_classes.proofs.ListLemmas.{IsIn, Before, in_left, in_right, in_parts}
 
 module _ {A B : Type 0} where

@@ -9,7 +9,7 @@ use Rattle.pg_expr.specs.declared.operand.Operand.{Operand}
 use Rattle.pg_expr.specs.declared.operand.Operand.TheVariants.{Col, Lit}
 use Rattle.pg_expr.specs.Cond.{Cond}
 use Rattle.eq_classes.specs.Equality.{Equality, equal_in, equality_in, is_column, is_other, are_equal}
-use Rattle.eq_classes.specs.Classes.{Given, Linked, conjunct, constant, same, turned, chain, is_family}
+use Rattle.eq_classes.specs.Classes.{Premises, Linked, conjunct, constant, same, turned, chain, is_family}
 use Rattle.eq_classes.specs.Grouping.{Part, has_side, columns_in, literals_in, started, united, touches, gathered, added, grouped}
 use Rattle.eq_classes.proofs.ListLemmas.{IsIn, Before, in_left, in_right, in_parts, in_filter, filter_in, before_filter, either_before, contains_from_in, in_from_contains, any_from, any_at}
 use Rattle.eq_classes.proofs.EqualLemmas.{column_is, family_is, family_self, equal_sym, equal_trans}
@@ -81,7 +81,7 @@ module _ (f : Family) (l : ColRef) (r : Operand) where
       (cases_Bool (touches f l r p))
 
 -- groups whose elements are linked, and that share none within a family
-pub record IsPartition (g : Given) (ps : List Part) : Type 0 where
+pub record IsPartition (g : Premises) (ps : List Part) : Type 0 where
   pub linked : (p : Part) → IsIn p ps → (x y : Operand) → has_side p x ≡ true → has_side p y ≡ true → Linked g p.family x y
   pub apart : (p q : Part) → Before p q ps → p.family ≡ q.family → (x : Operand) → has_side p x ≡ true → has_side q x ≡ true → ⊥
 
@@ -93,7 +93,7 @@ pub record IsJoined (ps : List Part) (e : Equality) : Type 0 where
   pub left : has_side part (Col e.left) ≡ true
   pub right : has_side part e.right ≡ true
 
-module _ (g : Given) (k : Cond) (e : Equality) (ik : IsIn k g.conjuncts) (is : equality_in g.type_of k ≡ Some e) (ps : List Part) (old : IsPartition g ps) where
+module _ (g : Premises) (k : Cond) (e : Equality) (ik : IsIn k g.conjuncts) (is : equality_in g.type_of k ≡ Some e) (ps : List Part) (old : IsPartition g ps) where
   abbrev f : Family
   f = e.family
 
@@ -252,7 +252,7 @@ literal_moves p f fam v w e h =
     let e' : are_equal p.family v w ≡ true = subst (λ (a : Family). are_equal a v w ≡ true) (sym fam) e in
     any_from (are_equal p.family w) p.literals u.0 u.1 (equal_trans p.family w v u.0 (equal_sym p.family v w e') u.2)
 
-module _ (g : Given) where
+module _ (g : Premises) where
   -- the groups of all conjuncts
   added_partition : (k : Cond) (o : Option Equality) → IsIn k g.conjuncts → equality_in g.type_of k ≡ o → (ps : List Part) → IsPartition g ps → IsPartition g (added o ps)
   added_partition k None ik is ps old = old

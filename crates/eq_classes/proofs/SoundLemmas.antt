@@ -15,7 +15,7 @@ use Rattle.pg_expr.specs.Typed.{IsTyped}
 use Rattle.opfamily.specs.Answers.{default_family_of}
 use Rattle.eq_classes.specs.declared.order.OrderItem.{OrderItem}
 use Rattle.eq_classes.specs.Equality.{Equality, equal_in, equality_in, is_column, are_equal}
-use Rattle.eq_classes.specs.Classes.{Given, Linked, conjunct, constant, same, turned, chain, Class, is_family, has_member, Mention, is_in, left_of, in_family, ordered_by, mentions, first_mention, literal_of, literal_in, literals, distinct, IsClass, AreClasses}
+use Rattle.eq_classes.specs.Classes.{Premises, Linked, conjunct, constant, same, turned, chain, Class, is_family, has_member, Mention, is_in, left_of, in_family, ordered_by, mentions, first_mention, literal_of, literal_in, literals, distinct, IsClass, AreClasses}
 use Rattle.eq_classes.specs.Holding.{Fits}
 use Rattle.eq_classes.proofs.ListLemmas.{IsIn, Before, in_parts, in_filter, in_filter_map, in_from_contains, all_at, pairs_at, any_from, any_at}
 use Rattle.eq_classes.proofs.EqualLemmas.{column_is, family_is}
@@ -43,7 +43,7 @@ literal_is (Col d) v h = cc
 literal_is (Lit w) v h = ap Lit (some_value_is w v h)
 
 -- where a literal of a class stands
-pub record IsLiteral (g : Given) (c : Class) (v : Value) : Type 0 where
+pub record IsLiteral (g : Premises) (c : Class) (v : Value) : Type 0 where
   pub cond : Cond
   pub equality : Equality
   pub given : IsIn cond g.conjuncts
@@ -52,7 +52,7 @@ pub record IsLiteral (g : Given) (c : Class) (v : Value) : Type 0 where
   pub left : IsIn equality.left c.members
   pub right : equality.right ≡ Lit v
 
-literal_at : (g : Given) (c : Class) (v : Value) (k : Cond) → IsIn k g.conjuncts → (o : Option Equality) → equality_in g.type_of k ≡ o → literal_in c o ≡ Some v → IsLiteral g c v
+literal_at : (g : Premises) (c : Class) (v : Value) (k : Cond) → IsIn k g.conjuncts → (o : Option Equality) → equality_in g.type_of k ≡ o → literal_in c o ≡ Some v → IsLiteral g c v
 literal_at g c v k i None e h = cc
 literal_at g c v k i (Some q) e h = ⊎_elim
     (λ (t : is_in c (left_of q) ≡ true).
@@ -61,7 +61,7 @@ literal_at g c v k i (Some q) e h = ⊎_elim
     (λ (t : is_in c (left_of q) ≡ false). let no : None ≡ Some v = rw t at h in cc)
     (cases_Bool (is_in c (left_of q)))
 
-pub literal_stands : (g : Given) (c : Class) (v : Value) → IsIn v (literals g c) → IsLiteral g c v
+pub literal_stands : (g : Premises) (c : Class) (v : Value) → IsIn v (literals g c) → IsLiteral g c v
 literal_stands g c v h =
     let w = in_filter_map (λ k. literal_in c (equality_in g.type_of k)) g.conjuncts v h in
     literal_at g c v w.0 w.1 (equality_in g.type_of w.0) refl w.2
@@ -92,7 +92,7 @@ members_differ c rising x y before = ⊎_elim
     (λ (t : is_column x y ≡ false). t)
     (cases_Bool (is_column x y))
 
-module _ (g : Given) (b : ColRef → Value) (typed : All (IsTyped g.type_of) g.conjuncts) (fits : Fits g.type_of b) where
+module _ (g : Premises) (b : ColRef → Value) (typed : All (IsTyped g.type_of) g.conjuncts) (fits : Fits g.type_of b) where
   abbrev Fitting : Family → Operand → Type 0
   Fitting f (Col c) = IsOfFamily f (b c)
   Fitting f (Lit v) = Unit {0}

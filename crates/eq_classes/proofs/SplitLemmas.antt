@@ -3,6 +3,7 @@ use Rattle.std.proofs.Common.{◌≡◌, ℕ, suc, Bool, true, false, not, ◌&&
 use Rattle.std.proofs.lemmas.Bool.{cases_Bool, and_parts, or_cases, or_left, or_right, true≢false, eqb-true}
 use Rattle.pg_value.specs.declared.value.SqlType.{SqlType}
 use Rattle.pg_value.specs.declared.value.Value.{Value}
+use Rattle.pg_value.specs.Truths.{is_true}
 use Rattle.pg_expr.specs.declared.operand.ColRef.{ColRef}
 use Rattle.pg_expr.specs.Cond.{Cond}
 use Rattle.pg_expr.specs.Columns.{names_rel}
@@ -11,7 +12,7 @@ use Rattle.eq_classes.specs.Equality.{equality_in, as_clause}
 use Rattle.eq_classes.specs.Classes.{Class}
 use Rattle.eq_classes.specs.Clauses.{Set, one, by_conjunct, Clause, clause, conjunct_clauses, class_clauses, clauses_from, clause_list}
 use Rattle.eq_classes.specs.Parts.{union, is_inside, names_some, is_all, is_join, is_param, is_join_param}
-use Rattle.eq_classes.specs.Holding.{is_true, hold}
+use Rattle.eq_classes.specs.Holding.{hold}
 use Rattle.eq_classes.proofs.ListLemmas.{IsIn}
 use Rattle.eq_classes.proofs.HoldLemmas.{hold-append}
 use Rattle.eq_classes.proofs.ClassHoldLemmas.{IsSound}

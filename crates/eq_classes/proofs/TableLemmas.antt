@@ -2,15 +2,16 @@
 use Rattle.std.proofs.Common.{◌≡◌, ℕ, Bool, true, false, ◌&&◌, List, All, Some, sym, ap, ◌∙◌, subst}
 use Rattle.std.proofs.lemmas.Bool.{and_parts}
 use Rattle.pg_value.specs.declared.value.Value.{Value}
+use Rattle.pg_value.specs.Truths.{is_true}
 use Rattle.pg_expr.specs.declared.operand.ColRef.{ColRef}
 use Rattle.pg_expr.specs.Cond.{Cond, conds_of}
 use Rattle.pg_expr.specs.Columns.{each_column}
 use Rattle.pg_expr.specs.Truths.{truth_of_all}
 use Rattle.pg_expr.specs.Typed.{IsTyped}
-use Rattle.eq_classes.specs.Classes.{Given, Class, IsClass, conjuncts_in}
+use Rattle.eq_classes.specs.Classes.{Premises, Class, IsClass, conjuncts_in}
 use Rattle.eq_classes.specs.Clauses.{Set, one, first_in, Clause, clauses_from, conjunct_clauses, clause_list, Table}
 use Rattle.eq_classes.specs.Parts.{union, is_inside, is_all, is_base, is_join, is_param, is_join_param}
-use Rattle.eq_classes.specs.Holding.{is_true, hold, Fits, IsTable, AreApart, IsWithin, AgreeOn, HasClass}
+use Rattle.eq_classes.specs.Holding.{hold, Fits, IsTable, AreApart, IsWithin, AgreeOn, HasClass}
 use Rattle.eq_classes.proofs.ListLemmas.{IsIn, in_from_contains, all_at}
 use Rattle.eq_classes.proofs.HoldLemmas.{hold-append}
 use Rattle.eq_classes.proofs.ClassHoldLemmas.{IsSound}
@@ -19,10 +20,10 @@ use Rattle.eq_classes.proofs.SoundLemmas.{class_sound, members_differ}
 use Rattle.eq_classes.proofs.WhereLemmas.{class_part, conjunct_holds, clauses_hold}
 use Rattle.eq_classes.proofs.WrittenLemmas.{each_true, true_each, in_typed, in_inside, in_truth}
 
-abbrev pub made : Given → List Class → List Clause
+abbrev pub made : Premises → List Class → List Clause
 made g classes = clause_list g.type_of g.conjuncts classes
 
-module _ (g : Given) (t : Table) (is : IsTable g t) where
+module _ (g : Premises) (t : Table) (is : IsTable g t) where
   pub list_is : made g t.classes ≡ t.clauses
   list_is = sym is.clauses
 
@@ -51,6 +52,6 @@ module _ (g : Given) (t : Table) (is : IsTable g t) where
       ∙ in_truth g.type_of ws typed b fits
 
 -- what the clauses of a table of given conjuncts mean
-abbrev pub Means : Given → Table → Type 0
+abbrev pub Means : Premises → Table → Type 0
 Means g t = (ws : List Cond) (b : ColRef → Value) (set : Set) → g.conjuncts ≡ conjuncts_in ws → All (IsTyped g.type_of) ws → Fits g.type_of b → set 0 ≡ true
     → All (λ w. each_column (λ x. set x.rel.0) w ≡ true) ws → hold b (is_all set) t.clauses ≡ is_true (truth_of_all b (conds_of ws))

@@ -18,7 +18,7 @@ use Rattle.pg_expr.specs.Cond.{Cond, compare, is_null, is_not_null, bool_col, co
 use Rattle.pg_expr.specs.Columns.{atom_count}
 use Rattle.pg_expr.specs.Typed.{IsTyped, some_value}
 use Rattle.eq_classes.specs.Equality.{equality_family, equality_of, is_column, as_clause}
-use Rattle.eq_classes.specs.Classes.{Given, Class, AreClasses}
+use Rattle.eq_classes.specs.Classes.{Premises, Class, AreClasses}
 use Rattle.eq_classes.specs.Clauses.{Clause, clause_list, equals, equals_constant}
 use Rattle.eq_classes.specs.Holding.{Fits}
 use Rattle.eq_classes.proofs.ListLemmas.{IsIn, all_at}
@@ -95,7 +95,7 @@ as_clause_typed type_of (all_of cs) h = h
 as_clause_typed type_of (any_of cs) h = h
 as_clause_typed type_of (negation c) h = h
 
-module _ (g : Given) (typed : All (IsTyped g.type_of) g.conjuncts) (classes : List Class) (are : AreClasses g classes) where
+module _ (g : Premises) (typed : All (IsTyped g.type_of) g.conjuncts) (classes : List Class) (are : AreClasses g classes) where
   fits : Fits g.type_of (sample g.type_of)
   fits x = is_some_value (g.type_of x)
 
@@ -124,7 +124,7 @@ as_clause_atoms type_of (any_of cs) = refl
 as_clause_atoms type_of (negation c) = refl
 
 -- no clause has more atoms than a conjunct may have, which is one at least
-pub clause_atoms : (g : Given) (classes : List Class) (most : ℕ) → 1 ≤ most → All (λ k. atom_count k ≤ most) g.conjuncts → (k : Clause) → IsIn k (clause_list g.type_of g.conjuncts classes) → atom_count k.cond ≤ most
+pub clause_atoms : (g : Premises) (classes : List Class) (most : ℕ) → 1 ≤ most → All (λ k. atom_count k ≤ most) g.conjuncts → (k : Clause) → IsIn k (clause_list g.type_of g.conjuncts classes) → atom_count k.cond ≤ most
 clause_atoms g classes most some few = each_clause g.type_of g.conjuncts classes (λ e. atom_count e ≤ most)
     (λ k i. (let same = as_clause_atoms g.type_of k in let here = all_at (λ (e : Cond). atom_count e ≤ most) g.conjuncts few k i in omega (arith, same, here)))
     (λ c i x y ix iy. some)

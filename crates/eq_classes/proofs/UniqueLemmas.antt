@@ -1,4 +1,4 @@
--- Given conjuncts and an ORDER BY have one table.
+-- Premises conjuncts and an ORDER BY have one table.
 use Rattle.std.proofs.Common.{◌≡◌, ◌<◌, Bool, true, ◌&&◌, ◌⊎◌, inl, inr, ⊎_elim, List, [], ◌∷◌, length, nat_eq, nat_lt, refl, sym, ap, ◌∙◌, subst, arith}
 use Rattle.std.specs.List.{list_any}
 use Rattle.std.proofs.lemmas.Bool.{and_parts, or_cases, ltb-true, eqb-true}
@@ -7,7 +7,7 @@ use Rattle.pg_value.specs.declared.value.Value.{Value}
 use Rattle.pg_expr.specs.declared.operand.ColRef.{ColRef}
 use Rattle.pg_expr.specs.declared.operand.Operand.TheVariants.{Col}
 use Rattle.pg_expr.specs.Pushed.{is_lower}
-use Rattle.eq_classes.specs.Classes.{Given, Linked, Class, is_family, has_member, Mention, is_in, mentions, first_mention, IsClass, AreClasses}
+use Rattle.eq_classes.specs.Classes.{Premises, Linked, Class, is_family, has_member, Mention, is_in, mentions, first_mention, IsClass, AreClasses}
 use Rattle.eq_classes.specs.Clauses.{Clause, clause_list, Table}
 use Rattle.eq_classes.specs.Holding.{IsTable}
 use Rattle.eq_classes.proofs.ListLemmas.{IsIn, Before, all_at, pairs_at, any_at}
@@ -46,13 +46,13 @@ abbrev made : Family → List ColRef → List Value → Bool → Bool → Class
 made f members constants descending nulls_first = record { family = f; members = members; constants = constants; descending = descending; nulls_first = nulls_first }
 
 -- a class is its family and its members
-same_made : (g : Given) (f : Family) (m : List ColRef) (k k' : List Value) (d d' n n' : Bool) → IsClass g (made f m k d n) → IsClass g (made f m k' d' n') → made f m k d n ≡ made f m k' d' n'
+same_made : (g : Premises) (f : Family) (m : List ColRef) (k k' : List Value) (d d' n n' : Bool) → IsClass g (made f m k d n) → IsClass g (made f m k' d' n') → made f m k d n ≡ made f m k' d' n'
 same_made g f m k k' d d' n n' p q =
     let constants : k ≡ k' = p.constants ∙ sym q.constants in
     let both : (d, n) ≡ (d', n') = p.direction ∙ sym q.direction in
     ap (λ (a : List Value). made f m a d n) constants ∙ ap (λ (a : Bool × Bool). made f m k' a.0 a.1) both
 
-same_class : (g : Given) (c d : Class) → IsClass g c → IsClass g d → c.family ≡ d.family → c.members ≡ d.members → c ≡ d
+same_class : (g : Premises) (c d : Class) → IsClass g c → IsClass g d → c.family ≡ d.family → c.members ≡ d.members → c ≡ d
 same_class g c d p q family members =
     let moved : made c.family c.members d.constants d.descending d.nulls_first ≡ d = ap (λ (f : Family). made f c.members d.constants d.descending d.nulls_first) family ∙ ap (λ (m : List ColRef). made d.family m d.constants d.descending d.nulls_first) members in
     same_made g c.family c.members c.constants d.constants c.descending d.descending c.nulls_first d.nulls_first p (subst (IsClass g) (sym moved) q) ∙ moved
@@ -60,7 +60,7 @@ same_class g c d p q family members =
 abbrev table_of : List Clause → List Class → Table
 table_of ks cs = record { clauses = ks; classes = cs }
 
-module _ (g : Given) where
+module _ (g : Premises) where
   half : (c d : Class) → IsClass g c → IsClass g d → c.family ≡ d.family → (y : ColRef) → has_member c y ≡ true → has_member d y ≡ true → (x : ColRef) → IsIn x c.members → IsIn x d.members
   half c d p q family y hc hd x ix =
       member_in d x ((q.joined y x hd).1 (subst (λ (f : Family). Linked g f (Col y) (Col x)) family ((p.joined y x hc).0 (in_member c x ix))))

@@ -7,6 +7,7 @@ use Rattle.pg_value.specs.declared.operators.Op.{Op}
 use Rattle.pg_value.specs.declared.value.SqlType.{SqlType}
 use Rattle.pg_value.specs.declared.value.Value.{Value}
 use Rattle.pg_value.specs.declared.value.Value.TheVariants.{Null, Int, Bool as Flag, Text as String}
+use Rattle.pg_value.specs.Truths.{is_true}
 use Rattle.pg_expr.specs.declared.operand.ColRef.{ColRef}
 use Rattle.pg_expr.specs.declared.operand.Operand.{Operand}
 use Rattle.pg_expr.specs.declared.operand.Operand.TheVariants.{Col, Lit}
@@ -15,10 +16,10 @@ use Rattle.pg_expr.specs.Columns.{passes_column, each_column}
 use Rattle.pg_expr.specs.Truths.{value_of, truth_at}
 use Rattle.pg_expr.specs.Typed.{IsTyped}
 use Rattle.eq_classes.specs.Equality.{Equality, equal_in, equality_in, is_column, are_equal, is_other, as_clause}
-use Rattle.eq_classes.specs.Classes.{Given, conjunct, Class, is_family, has_member, is_in, left_of, ordered_by, mentions, literal_of, literal_in, literals, distinct, IsClass, AreClasses}
+use Rattle.eq_classes.specs.Classes.{Premises, conjunct, Class, is_family, has_member, is_in, left_of, ordered_by, mentions, literal_of, literal_in, literals, distinct, IsClass, AreClasses}
 use Rattle.eq_classes.specs.Clauses.{Set, by_conjunct, Clause, clause, conjunct_clauses, has_constant, class_clauses, clauses_from, clause_list}
 use Rattle.eq_classes.specs.Parts.{has_column, is_inside, is_all}
-use Rattle.eq_classes.specs.Holding.{is_true, hold, Fits}
+use Rattle.eq_classes.specs.Holding.{hold, Fits}
 use Rattle.eq_classes.proofs.ListLemmas.{IsIn, in_left, filter_in, filter_map_in, contains_from_in, all_at, any_at}
 use Rattle.eq_classes.proofs.EqualLemmas.{order_self, equal_sym, equal_trans, family_is, family_self}
 use Rattle.eq_classes.proofs.HoldLemmas.{hold_at, hold-append}
@@ -92,7 +93,7 @@ class_part b chosen n (d ∷ ds) c h e =
     (λ (later : IsIn c ds). class_part b chosen (suc n) ds c later parts.1)
     h
 
-module _ (g : Given) (classes : List Class) (are : AreClasses g classes) (b : ColRef → Value) (typed : All (IsTyped g.type_of) g.conjuncts) (fits : Fits g.type_of b) where
+module _ (g : Premises) (classes : List Class) (are : AreClasses g classes) (b : ColRef → Value) (typed : All (IsTyped g.type_of) g.conjuncts) (fits : Fits g.type_of b) where
   abbrev table : List Clause
   table = clause_list g.type_of g.conjuncts classes
 

@@ -8,7 +8,7 @@ use Rattle.pg_expr.specs.declared.operand.ColRef.{ColRef}
 use Rattle.pg_expr.specs.Cond.{Cond}
 use Rattle.eq_classes.specs.declared.order.OrderItem.{OrderItem}
 use Rattle.eq_classes.specs.Equality.{equality_in}
-use Rattle.eq_classes.specs.Classes.{Given, Class, is_family, has_member, Mention, is_in, left_of, in_family, ordered_by, mentions, first_mention, IsClass, AreClasses}
+use Rattle.eq_classes.specs.Classes.{Premises, Class, is_family, has_member, Mention, is_in, left_of, in_family, ordered_by, mentions, first_mention, IsClass, AreClasses}
 use Rattle.eq_classes.proofs.ListLemmas.{IsIn, Before, earlier_in, later_in, in_at, in_filter, before_filter, in_filter_map, all_at, pairs_at}
 use Rattle.eq_classes.proofs.EqualLemmas.{column_is, family_is}
 use Rattle.eq_classes.proofs.UniqueLemmas.{meeting}
@@ -58,7 +58,7 @@ of_item x (Some f) m h =
     let e : in_family x f ≡ m = some_mention (in_family x f) m h in
     (ap (λ (n : Mention). n.column) (sym e), ap (λ (n : Mention). Some n.family) e)
 
-module _ (g : Given) (classes : List Class) (are : AreClasses g classes) (near : (i : OrderItem) → IsIn i g.order → i.col.rel.0 < 16) (narrow : (i : OrderItem) → IsIn i g.order → i.col.col.0 < 256) where
+module _ (g : Premises) (classes : List Class) (are : AreClasses g classes) (near : (i : OrderItem) → IsIn i g.order → i.col.rel.0 < 16) (narrow : (i : OrderItem) → IsIn i g.order → i.col.col.0 < 256) where
   abbrev early : List Mention
   early = filter_map (λ k. option_map left_of (equality_in g.type_of k)) g.conjuncts
 

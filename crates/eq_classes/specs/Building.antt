@@ -12,11 +12,11 @@ use Rattle.pg_expr.specs.Pushed.{is_lower}
 use Rattle.pg_expr.specs.View as view
 use Rattle.eq_classes.specs.declared.order.OrderItem.{OrderItem}
 use Rattle.eq_classes.specs.Equality.{Equality, equality_in, is_column, are_equal}
-use Rattle.eq_classes.specs.Classes.{Given, Class, is_family, Mention, is_in, left_of, ordered_by, literals, direction_of}
+use Rattle.eq_classes.specs.Classes.{Premises, Class, is_family, Mention, is_in, left_of, ordered_by, literals, direction_of}
 use Rattle.eq_classes.specs.Grouping.{Part, grouped}
 
 -- what a call is handed
-abbrev pub given : (ColRef → SqlType) → List Expr → List OrderItem → Given
+abbrev pub given : (ColRef → SqlType) → List Expr → List OrderItem → Premises
 given type_of es order = record { conjuncts = map view.cond es; order = order; type_of = type_of }
 
 -- a column put in its place among columns in order, once
@@ -52,7 +52,7 @@ abbrev pub noted_option : Family → Option Value → List Value → List Value
 noted_option f None known = known
 noted_option f (Some v) known = cond (list_any (are_equal f v) known) known (known ++ v ∷ [])
 
-abbrev pub class_with : Given → Family → List ColRef → Class
+abbrev pub class_with : Premises → Family → List ColRef → Class
 class_with g f members = record {
   family = f;
   members = members;
@@ -62,7 +62,7 @@ class_with g f members = record {
 }
 
 -- the classes with that of a mention, where none is there yet
-abbrev pub with_mention : Given → List Part → Option Mention → List Class → List Class
+abbrev pub with_mention : Premises → List Part → Option Mention → List Class → List Class
 with_mention g ps None cs = cs
 with_mention g ps (Some m) cs = cond (list_any (λ c. is_in c m) cs) cs (cs ++ class_with g m.family (members_of ps m.family m.column) ∷ [])
 
@@ -74,15 +74,15 @@ abbrev pub mention_in : (ColRef → SqlType) → Cond → Option Mention
 mention_in type_of k = left_by (equality_in type_of k)
 
 -- those of the conjuncts, then those of ORDER BY
-abbrev pub by_conjuncts : Given → List Part → List Cond → List Class → List Class
+abbrev pub by_conjuncts : Premises → List Part → List Cond → List Class → List Class
 by_conjuncts g ps [] cs = cs
 by_conjuncts g ps (k ∷ ks) cs = by_conjuncts g ps ks (with_mention g ps (mention_in g.type_of k) cs)
 
-abbrev pub by_order : Given → List Part → List OrderItem → List Class → List Class
+abbrev pub by_order : Premises → List Part → List OrderItem → List Class → List Class
 by_order g ps [] cs = cs
 by_order g ps (i ∷ is) cs = by_order g ps is (with_mention g ps (ordered_by g.type_of i) cs)
 
-abbrev pub all_classes : Given → List Class
+abbrev pub all_classes : Premises → List Class
 all_classes g =
     let ps = grouped g.type_of g.conjuncts [] in
     by_order g ps g.order (by_conjuncts g ps g.conjuncts [])

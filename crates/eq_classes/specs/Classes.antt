@@ -16,14 +16,14 @@ use Rattle.eq_classes.specs.declared.order.OrderItem.{OrderItem}
 use Rattle.eq_classes.specs.Equality.{Equality, equal_in, equality_in, is_column, are_equal}
 
 -- what classes are made of: the conjuncts in order, the ORDER BY, and the types of the columns
-pub record Given : Type 0 where
+pub record Premises : Type 0 where
   pub conjuncts : List Cond
   pub order : List OrderItem
   pub type_of : ColRef → SqlType
 
 -- a chain of equality conjuncts of the family joins two columns or literals: the least equivalence that holds between
 -- the sides of each of them, where literals that are equal in the family are one constant
-pub data Linked (g : Given) (f : Family) : Operand → Operand → Type 0 where
+pub data Linked (g : Premises) (f : Family) : Operand → Operand → Type 0 where
   conjunct : (k : Cond) (c : ColRef) (o : Operand) → Contains g.conjuncts k → equality_in g.type_of k ≡ Some (equal_in c o f) → Linked g f (Col c) o
   constant : (v w : Value) → are_equal f v w ≡ true → Linked g f (Lit v) (Lit w)
   same : (x : Operand) → Linked g f x x
@@ -67,11 +67,11 @@ abbrev pub ordered_by : (ColRef → SqlType) → OrderItem → Option Mention
 ordered_by type_of item = option_map (in_family item.col) (default_family_of (type_of item.col))
 
 -- the left sides of the equality conjuncts in order, then the columns of ORDER BY in order
-abbrev pub mentions : Given → List Mention
+abbrev pub mentions : Premises → List Mention
 mentions g = filter_map (λ k. option_map left_of (equality_in g.type_of k)) g.conjuncts ++ filter_map (ordered_by g.type_of) g.order
 
 -- the place of the first conjunct of a class, or that of its column in ORDER BY where it has no conjunct
-abbrev pub first_mention : Given → Class → ℕ
+abbrev pub first_mention : Premises → Class → ℕ
 first_mention g c = position_or_len (is_in c) (mentions g)
 
 abbrev pub literal_of : Operand → Option Value
@@ -84,7 +84,7 @@ literal_in c None = None
 literal_in c (Some e) = cond (is_in c (left_of e)) (literal_of e.right) None
 
 -- the literals of a class in the order in which the conjuncts write them
-abbrev pub literals : Given → Class → List Value
+abbrev pub literals : Premises → Class → List Value
 literals g c = filter_map (λ k. literal_in c (equality_in g.type_of k)) g.conjuncts
 
 -- each value that is equal in the family to none before it: of equal literals the first written
@@ -106,11 +106,11 @@ direction_by None = (false, false)
 direction_by (Some item) = (item.descending, item.nulls_first)
 
 -- the direction of the first item by the class
-abbrev pub direction_of : Given → Class → Bool × Bool
+abbrev pub direction_of : Premises → Class → Bool × Bool
 direction_of g c = direction_by (find (orders_by g.type_of c) g.order)
 
 -- what a class is, whatever its number
-pub record IsClass (g : Given) (c : Class) : Type 0 where
+pub record IsClass (g : Premises) (c : Class) : Type 0 where
   -- another column is in the class of a member exactly where a chain of equality conjuncts joins them
   pub joined : (x y : ColRef) → IsTrue (has_member c x) → (IsTrue (has_member c y) ↔ Linked g c.family (Col x) (Col y))
   -- its members are in the order of (relation, column), each once
@@ -120,7 +120,7 @@ pub record IsClass (g : Given) (c : Class) : Type 0 where
   pub direction : (c.descending, c.nulls_first) ≡ direction_of g c
 
 -- the classes in the order of their numbers
-pub record AreClasses (g : Given) (classes : List Class) : Type 0 where
+pub record AreClasses (g : Premises) (classes : List Class) : Type 0 where
   pub each : All (IsClass g) classes
   -- each equality conjunct has a class, and each ORDER BY column has one of its default family
   pub every : All (λ m. IsTrue (list_any (λ c. is_in c m) classes)) (mentions g)

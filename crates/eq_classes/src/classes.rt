@@ -57,13 +57,14 @@ impl Classes {
     ghost use Rattle.pg_expr.specs.AtomSets.{contains};
     ghost use Rattle.eq_classes.specs.Listing.{class_at, clause_at, clause_of, conjunct_of, pair_class_of};
     ghost use Rattle.pg_value.specs.declared.value.Value.{Value};
+    ghost use Rattle.pg_value.specs.Truths.{is_true};
     ghost use Rattle.pg_expr.specs.declared.operand.ColRef.{ColRef};
     ghost use Rattle.pg_expr.specs.Cond.{Cond, conds_of};
     ghost use Rattle.pg_expr.specs.Columns.{each_column, each_column_of, names_rel};
     ghost use Rattle.pg_expr.specs.Truths.{truth_of_all};
     ghost use Rattle.pg_expr.specs.Typed.{IsTyped, AreTyped};
     ghost use Rattle.eq_classes.specs.Building.{given};
-    ghost use Rattle.eq_classes.specs.Holding.{IsTable, Fits, hold, is_true};
+    ghost use Rattle.eq_classes.specs.Holding.{IsTable, Fits, hold};
 
     /// The classes and clauses of conjuncts in pushed form, none of them an AND, and an ORDER BY. The conditions are
     /// that each conjunct is well typed, that each column is bound and of a relation below 16, and that there are at

@@ -7,7 +7,7 @@ use Rattle.pg_value.specs.declared.operators.Op.{Op}
 use Rattle.pg_value.specs.declared.operators.Op.TheVariants.{Lt, Le, Eq, Ge, Gt, Ne, AbsEq}
 use Rattle.pg_value.specs.declared.value.Value.{Value}
 use Rattle.pg_value.specs.declared.value.Value.TheVariants.{Null}
-use Rattle.pg_value.specs.Truths.{truth_of_op, commutator_of}
+use Rattle.pg_value.specs.Truths.{is_true, truth_of_op, commutator_of}
 use Rattle.pg_expr.specs.declared.operand.ColRef.{ColRef}
 use Rattle.pg_expr.specs.declared.operand.Operand.{Operand}
 use Rattle.pg_expr.specs.declared.operand.Operand.TheVariants.{Col, Lit}
@@ -16,7 +16,6 @@ use Rattle.catalog.specs.Contents.{Contents}
 use Rattle.catalog.specs.Range.{Range, column_at}
 use Rattle.catalog.specs.Statistics.{Common, Statistics, shares}
 use Rattle.catalog.specs.declared.limits.TheConstants.{WHOLE_SHARE}
-use Rattle.eq_classes.specs.Holding.{is_true}
 use Rattle.path_cost.specs.declared.shares.TheConstants.{ALL_ROWS, THIRD, HALF, UNKNOWN_NULLS, PER_SHARE}
 use Rattle.path_cost.specs.Columns.{known, stats_of}
 

@@ -39,6 +39,12 @@ abbrev pub truth_of : Bool → Truth
 truth_of true = True
 truth_of false = False
 
+-- whether a row passes: only True does, Unknown is no more than False (SQL, WHERE)
+abbrev pub is_true : Truth → Bool
+is_true True = true
+is_true False = false
+is_true Unknown = false
+
 -- whether an operator compares absolute values
 abbrev pub is_absolute : Op → Bool
 is_absolute AbsLt = true

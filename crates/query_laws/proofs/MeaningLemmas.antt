@@ -5,12 +5,12 @@ use Rattle.std.specs.List.{list_all}
 use Rattle.pg_value.specs.declared.operators.Truth.{Truth}
 use Rattle.pg_value.specs.declared.operators.Truth.TheVariants.{True, False, Unknown}
 use Rattle.pg_value.specs.declared.value.Value.{Value}
-use Rattle.pg_value.specs.Truths.{both}
+use Rattle.pg_value.specs.Truths.{is_true, both}
 use Rattle.pg_expr.specs.declared.operand.ColRef.{ColRef}
 use Rattle.pg_expr.specs.Cond.{Cond, conds_of}
 use Rattle.pg_expr.specs.Truths.{truth_at, truth_of_all}
 use Rattle.eq_classes.specs.Clauses.{Set, one}
-use Rattle.eq_classes.specs.Holding.{hold, is_true}
+use Rattle.eq_classes.specs.Holding.{hold}
 use Rattle.eq_classes.specs.Parts.{is_all, is_base}
 use Rattle.eq_classes.proofs.TableLemmas.{where_at}
 use Rattle.class_laws.proofs.PartLemmas.{base_at}

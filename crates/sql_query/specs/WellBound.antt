@@ -8,7 +8,7 @@ use Rattle.pg_expr.specs.Typed.{IsTyped}
 use Rattle.pg_expr.specs.declared.operand.ColRef.{ColRef}
 use Rattle.catalog.specs.Contents.{Contents, IsColumn}
 use Rattle.catalog.specs.Range.{Range, IsRange, table_of, type_in}
-use Rattle.eq_classes.specs.Classes.{Given, conjuncts_in}
+use Rattle.eq_classes.specs.Classes.{Premises, conjuncts_in}
 use Rattle.eq_classes.specs.Holding.{IsTable}
 use Rattle.sql_query.specs.Queries.{Query}
 
@@ -22,7 +22,7 @@ abbrev pub NamesOnly : List ColRef → Cond → Type 0
 NamesOnly columns e = (test : ColRef → Bool) → All (λ x. IsTrue (test x)) columns → IsTrue (each_column test e)
 
 -- what the classes of a query are made of: its conjuncts in pushed form, its ORDER BY and the types of its columns
-abbrev pub given_of : Contents → Query → Given
+abbrev pub given_of : Contents → Query → Premises
 given_of c q = record { conjuncts = conjuncts_in q.where_all; order = q.order; type_of = type_in c q.range }
 
 -- the conjuncts in pushed form, a constant among them, and the atoms of these conditions are not too many

@@ -22,7 +22,7 @@ use Rattle.plan_tree.specs.declared.bits.BitTree.TheVariants.{rolls-And}
 use Rattle.plan_tree.specs.declared.bits.BitTree.TheFolds.{fold-roll-BitTree, fold_out-BitTree, fold-roll-BitTrees, fold_out-BitTrees}
 use Rattle.plan_tree.specs.declared.elements.Element.{Element as Chosen}
 use Rattle.plan_tree.proofs.FrontLemmas.{all-sources}
-use Rattle.bitmap_scan.specs.Kept.{IsMade}
+use Rattle.bitmap_scan.specs.ElementTrees.{IsMade}
 
 -- what an AND of bitmap trees stands for
 pub and-is : (parts : Parts) → bits (And parts) ≡ all_hold (trees_of (map bits parts.items.items))
@@ -46,20 +46,20 @@ clauses-within test k (x ∷ xs) m le = by (test x) (omega (arith, le)) (clauses
     by true lt rest = (lt, rest)
     by false lt rest = rest
 
-all-mapped : {A B : Type 0} (P : B → Type 0) (f : A → B) (xs : List A) → AllByRecursion (λ (x : A). P (f x)) xs → AllByRecursion P (map f xs)
+pub all-mapped : {A B : Type 0} (P : B → Type 0) (f : A → B) (xs : List A) → AllByRecursion (λ (x : A). P (f x)) xs → AllByRecursion P (map f xs)
 all-mapped P f [] h = tt
 all-mapped P f (x ∷ xs) h = (h.0, all-mapped P f xs h.1)
 
-all-joined : {A : Type 0} (P : A → Type 0) (xs ys : List A) → AllByRecursion P xs → AllByRecursion P ys → AllByRecursion P (xs ++ ys)
+pub all-joined : {A : Type 0} (P : A → Type 0) (xs ys : List A) → AllByRecursion P xs → AllByRecursion P ys → AllByRecursion P (xs ++ ys)
 all-joined P [] ys h k = k
 all-joined P (x ∷ xs) ys h k = (h.0, all-joined P xs ys h.1 k)
 
-all-weaker : {A : Type 0} (P Q : A → Type 0) → ((x : A) → P x → Q x) → (xs : List A) → AllByRecursion P xs → AllByRecursion Q xs
+pub all-weaker : {A : Type 0} (P Q : A → Type 0) → ((x : A) → P x → Q x) → (xs : List A) → AllByRecursion P xs → AllByRecursion Q xs
 all-weaker P Q f [] h = tt
 all-weaker P Q f (x ∷ xs) h = (f x h.0, all-weaker P Q f xs h.1)
 
 -- what is picked has both the property of the picked and that of all
-all-picked : {A : Type 0} (P Q : A → Type 0) (xs ys : List A) → ArePicked P xs ys → AllByRecursion Q xs → AllByRecursion (λ (x : A). Q x × P x) ys
+pub all-picked : {A : Type 0} (P Q : A → Type 0) (xs ys : List A) → ArePicked P xs ys → AllByRecursion Q xs → AllByRecursion (λ (x : A). Q x × P x) ys
 all-picked P Q _ _ none_left all = tt
 all-picked P Q _ _ (picked x xs ys h rest) all = ((all.0, h), all-picked P Q xs ys rest all.1)
 all-picked P Q _ _ (passed x xs ys h rest) all = all-picked P Q xs ys rest all.1

@@ -19,8 +19,8 @@ use Rattle.plan_tree.specs.Views.{element, trees_of}
 use Rattle.plan_tree.specs.declared.elements.Element.{Element}
 use Rattle.plan_tree.proofs.FrontLemmas.{all-sources}
 use Rattle.bitmap_scan.specs.Chosen.{combined, marked, IsLeastTree}
-use Rattle.bitmap_scan.specs.Kept.{IsKept, tree_in}
-use Rattle.bitmap_scan.specs.declared.kept.Kept.{Kept}
+use Rattle.bitmap_scan.specs.ElementTrees.{IsKept, tree_in}
+use Rattle.bitmap_scan.specs.declared.element_tree.ElementTree.{ElementTree}
 use Rattle.bitmap_scan.proofs.ArmLemmas.{zip-push}
 use Rattle.bitmap_scan.proofs.LeastLemmas.{sum-cons}
 
@@ -32,14 +32,14 @@ capped-child us vs e h = omega (arith, e, h)
 
 module _ (c : Contents) (q : Query) (r : RelNo) (p : RelSet) where
   -- what is kept of some elements
-  pub record AreKept (es : List Element) (ks : List Kept) : Type 0 where
+  pub record AreKept (es : List Element) (ks : List ElementTree) : Type 0 where
     pub least : AllZip (IsLeastTree c q r p) (map element es) (map tree_in ks)
     pub each : All (IsKept c q r p) ks
 
   pub none-kept : AreKept [] []
   none-kept = record { least = tt; each = All-nil (IsKept c q r p) }
 
-  pub one-kept : (es : List Element) (ks : List Kept) (i : ℕ) (d : Element) (k : Kept) → i < length es → AreKept (take i es) ks → IsLeastTree c q r p (element (get_or es i d)) (tree_in k) → IsKept c q r p k → AreKept (take (i + 1) es) (ks ++ k ∷ [])
+  pub one-kept : (es : List Element) (ks : List ElementTree) (i : ℕ) (d : Element) (k : ElementTree) → i < length es → AreKept (take i es) ks → IsLeastTree c q r p (element (get_or es i d)) (tree_in k) → IsKept c q r p k → AreKept (take (i + 1) es) (ks ++ k ∷ [])
   one-kept es ks i d k lt h least kept = record {
     least =
         let left = ap (map element) (take_more es i d lt) ∙ map-append element (take i es) (get_or es i d ∷ []) in
@@ -50,7 +50,7 @@ module _ (c : Contents) (q : Query) (r : RelNo) (p : RelSet) where
   }
 
   -- that a tree's part and clauses are what is kept
-  pub kept-of : (k : Kept) (t : BitTree) → tree_in k ≡ t → k.part ≡ capped (part_of c q r p t) → ((n : ℕ) → contains k.used n ≡ uses c q r.0 (has p.0) t n) → ((n : ℕ) → contains k.used n ≡ true → n < length q.classes.clauses) → IsKept c q r p k
+  pub kept-of : (k : ElementTree) (t : BitTree) → tree_in k ≡ t → k.part ≡ capped (part_of c q r p t) → ((n : ℕ) → contains k.used n ≡ uses c q r.0 (has p.0) t n) → ((n : ℕ) → contains k.used n ≡ true → n < length q.classes.clauses) → IsKept c q r p k
   kept-of k t same part used within = record {
     part = subst (λ (u : BitTree). k.part ≡ capped (part_of c q r p u)) (sym same) part;
     used = subst (λ (u : BitTree). (n : ℕ) → contains k.used n ≡ uses c q r.0 (has p.0) u n) (sym same) used;
@@ -66,7 +66,7 @@ module _ (c : Contents) (q : Query) (r : RelNo) (p : RelSet) where
   combined-uses (t ∷ []) n = or-false (uses c q r.0 (has p.0) t n)
   combined-uses (t ∷ (u ∷ us)) n = refl
 
-  within-one : (k : Kept) (n : ℕ) (rest b : Bool) → IsKept c q r p k → contains k.used n ≡ b → (rest ≡ true → n < length q.classes.clauses) → b || rest ≡ true → n < length q.classes.clauses
+  within-one : (k : ElementTree) (n : ℕ) (rest b : Bool) → IsKept c q r p k → contains k.used n ≡ b → (rest ≡ true → n < length q.classes.clauses) → b || rest ≡ true → n < length q.classes.clauses
   within-one k n rest true h g later e = h.within n g
   within-one k n rest false h g later e = later e
 
@@ -82,7 +82,7 @@ module _ (c : Contents) (q : Query) (r : RelNo) (p : RelSet) where
   combined-part (t ∷ []) = one-part (part_of c q r p t)
   combined-part (t ∷ (u ∷ us)) = refl
 
-  module _ {X : Type 0} (f : X → Kept) where
+  module _ {X : Type 0} (f : X → ElementTree) where
     abbrev EachKept : X → Type 0
     EachKept x = IsKept c q r p (f x)
 
@@ -154,11 +154,11 @@ map-map g f [] = refl
 map-map g f (x ∷ xs) = ap (λ ys. g (f x) ∷ ys) (map-map g f xs)
 
 -- the trees of those that are marked
-pub marked-trees : {X : Type 0} (f : X → Kept) (xs ys : List X) (n : ℕ) (ks ls : List Kept) → xs ≡ ys → map f ys ≡ marked n ks → ks ≡ ls → map (λ (x : X). tree_in (f x)) xs ≡ marked n (map tree_in ls)
+pub marked-trees : {X : Type 0} (f : X → ElementTree) (xs ys : List X) (n : ℕ) (ks ls : List ElementTree) → xs ≡ ys → map f ys ≡ marked n ks → ks ≡ ls → map (λ (x : X). tree_in (f x)) xs ≡ marked n (map tree_in ls)
 marked-trees f xs ys n ks ls e h g =
     map-map tree_in f xs ∙ ap (map tree_in) (ap (map f) e ∙ h ∙ ap (marked n) g) ∙ marked-map tree_in n ls
 
-pub marked-each : {X : Type 0} (P : Kept → Type 0) (f : X → Kept) (xs ys : List X) (n : ℕ) (ks ls : List Kept) → xs ≡ ys → map f ys ≡ marked n ks → ks ≡ ls → All P ls → All (λ (x : X). P (f x)) xs
+pub marked-each : {X : Type 0} (P : ElementTree → Type 0) (f : X → ElementTree) (xs ys : List X) (n : ℕ) (ks ls : List ElementTree) → xs ≡ ys → map f ys ≡ marked n ks → ks ≡ ls → All P ls → All (λ (x : X). P (f x)) xs
 marked-each P f xs ys n ks ls e h g all =
     let same = ap (map f) e ∙ h ∙ ap (marked n) g in
     all-sources f P xs (subst (All P) (sym same) (all-marked P n ls all))

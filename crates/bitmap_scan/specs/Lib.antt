@@ -1,3 +1,3 @@
 pub mod Arms
 pub mod Chosen
-pub mod Kept
+pub mod ElementTrees

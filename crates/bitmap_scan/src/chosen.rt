@@ -7,10 +7,10 @@ ghost use Rattle.cost_rules.specs.Costs.{capped};
 ghost use Rattle.plan_tree.specs.Costs.{together};
 ghost use Rattle.plan_tree.specs.Views.{bits};
 ghost use Rattle.bitmap_scan.specs.Chosen.{combined, marked};
-ghost use Rattle.bitmap_scan.specs.Kept.{tree_in};
+ghost use Rattle.bitmap_scan.specs.ElementTrees.{tree_in};
 
 use crate::arms::with_part;
-use crate::kept::Kept;
+use crate::element_tree::ElementTree;
 use eq_classes::{ClauseSet, note};
 use pg_base::Memory;
 use plan_tree::{BitTree, BitTrees, classes_of};
@@ -21,9 +21,9 @@ use std::alloc::Global;
 /// memory.
 pub(crate) fn chosen_by<'a>(
     alloc: Global,
-    kept: &'a [Kept],
+    kept: &'a [ElementTree],
     mask: usize,
-) -> Result<Vec<&'a Kept>, Memory>
+) -> Result<Vec<&'a ElementTree>, Memory>
     ensures { IfOk result (λ v. map (λ k. k.now) v.items ≡ marked mask kept.now) }
 {
     let mut chosen = Vec::new(alloc);
@@ -38,7 +38,7 @@ pub(crate) fn chosen_by<'a>(
 }
 
 /// Whether some element uses the clause of a number.
-fn is_used(chosen: &[&Kept], n: u16) -> bool
+fn is_used(chosen: &[&ElementTree], n: u16) -> bool
     requires { n < 512 }
     ensures { result ≡ list_any (λ k. contains k.now.used n) chosen.now }
 {
@@ -47,7 +47,7 @@ fn is_used(chosen: &[&Kept], n: u16) -> bool
 
 /// The clauses that some elements use.
 #[tactic(auto, using(eq_classes::proofs::WordLemmas::grows))]
-pub(crate) fn used_by(q: &Prepared, chosen: &[&Kept]) -> ClauseSet
+pub(crate) fn used_by(q: &Prepared, chosen: &[&ElementTree]) -> ClauseSet
     ensures { (n : ℕ) → contains result n ≡ nat_lt n (length q.now.classes.clauses) && list_any (λ k. contains k.now.used n) chosen.now }
 {
     let mut set = ClauseSet::empty();
@@ -59,7 +59,7 @@ pub(crate) fn used_by(q: &Prepared, chosen: &[&Kept]) -> ClauseSet
 }
 
 /// The parts of some elements together, with 100 for each after the first, cut to at most 10^18.
-pub(crate) fn parts_together(chosen: &[&Kept]) -> u64
+pub(crate) fn parts_together(chosen: &[&ElementTree]) -> u64
     ensures { result ≡ capped (together (map (λ k. k.now.part) chosen.now)) }
 {
     let mut sum = 0;
@@ -70,7 +70,7 @@ pub(crate) fn parts_together(chosen: &[&Kept]) -> u64
 }
 
 /// The tree of some elements: the one, or the AND of several. The error means want of memory.
-pub(crate) fn combine(alloc: Global, chosen: &[&Kept]) -> Result<BitTree, Memory>
+pub(crate) fn combine(alloc: Global, chosen: &[&ElementTree]) -> Result<BitTree, Memory>
     requires some { 1 ≤ length chosen.now }
     ensures { IfOk result (λ b. bits b ≡ combined (map (λ k. tree_in k.now) chosen.now)) }
 {

@@ -9,10 +9,10 @@ ghost use Rattle.plan_tree.specs.Bitmaps.{IsMatchedOr, by_clause, by_index, cond
 ghost use Rattle.plan_tree.specs.Reads.{IsOverTables};
 ghost use Rattle.plan_tree.specs.Views.{element};
 ghost use Rattle.bitmap_scan.specs.Chosen.{IsLeastTree};
-ghost use Rattle.bitmap_scan.specs.Kept.{IsKept, IsMade, tree_in};
+ghost use Rattle.bitmap_scan.specs.ElementTrees.{IsKept, IsMade, tree_in};
 
 use crate::arms::least_matches;
-use crate::kept::Kept;
+use crate::element_tree::ElementTree;
 use catalog::Catalog;
 use eq_classes::ClauseSet;
 use pg_base::{IndexNo, Memory, RelNo, RelSet};
@@ -21,14 +21,14 @@ use sql_query::Prepared;
 use std::alloc::Global;
 
 /// An index that is an element.
-fn keep_index(cat: &Catalog, q: &Prepared, r: RelNo, p: RelSet, i: IndexNo) -> Kept
+fn keep_index(cat: &Catalog, q: &Prepared, r: RelNo, p: RelSet, i: IndexNo) -> ElementTree
     requires query { IsOverTables cat.now q.now }
     requires relation { r.0 < width q.now }
     requires index { IsIndex cat.now i }
     ensures least { IsLeastTree cat.now q.now r p (by_index i) (tree_in result) }
     ensures kept { IsKept cat.now q.now r p result }
 {
-    Kept {
+    ElementTree {
         tree: BitTree::Leaf(i),
         part: index_part_of(cat, q, r, p, i),
         used: conditions_found(cat, q, r, i, p),
@@ -54,7 +54,7 @@ fn keep_clause(
     r: RelNo,
     p: RelSet,
     n: u16,
-) -> Result<Kept, Memory>
+) -> Result<ElementTree, Memory>
     requires query { IsOverTables cat.now q.now }
     requires relation { r.0 < width q.now }
     requires clause { n < length q.now.classes.clauses }
@@ -67,7 +67,7 @@ fn keep_clause(
         None => unreachable!(),
     };
     let (indexes, part) = least_matches(alloc, cat, q, r, arms)?;
-    Ok(Kept {
+    Ok(ElementTree {
         tree: BitTree::Or(n, indexes),
         part,
         used: only(q, n),
@@ -82,7 +82,7 @@ fn keep(
     r: RelNo,
     p: RelSet,
     e: Element,
-) -> Result<Kept, Memory>
+) -> Result<ElementTree, Memory>
     requires query { IsOverTables cat.now q.now }
     requires relation { r.0 < width q.now }
     requires made { IsMade cat.now q.now r p (element e) }
@@ -103,7 +103,7 @@ pub(crate) fn keep_all(
     r: RelNo,
     p: RelSet,
     elements: &[Element],
-) -> Result<Vec<Kept>, Memory>
+) -> Result<Vec<ElementTree>, Memory>
     requires query { IsOverTables cat.now q.now }
     requires relation { r.0 < width q.now }
     requires made { All (λ e. IsMade cat.now q.now r p (element e)) elements.now }

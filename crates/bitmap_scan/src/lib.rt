@@ -5,8 +5,8 @@
 
 mod arms;
 mod chosen;
+mod element_tree;
 mod elements;
-mod kept;
 mod offers;
 
 pub use offers::bitmaps;

@@ -11,11 +11,11 @@ ghost use Rattle.plan_tree.specs.Reads.{IsOverTables};
 ghost use Rattle.plan_tree.specs.Space.{IsPlanOf};
 ghost use Rattle.plan_tree.specs.Views.{path};
 ghost use Rattle.bitmap_scan.specs.Chosen.{AreChosen, combined};
-ghost use Rattle.bitmap_scan.specs.Kept.{IsKept, tree_in};
+ghost use Rattle.bitmap_scan.specs.ElementTrees.{IsKept, tree_in};
 
 use crate::chosen::{chosen_by, combine, parts_together, used_by};
+use crate::element_tree::ElementTree;
 use crate::elements::keep_all;
-use crate::kept::Kept;
 use catalog::Catalog;
 use pareto::Front;
 use path_cost::bitmap;
@@ -41,7 +41,7 @@ fn offer_chosen(
     q: &Prepared,
     r: RelNo,
     p: RelSet,
-    chosen: &[&Kept],
+    chosen: &[&ElementTree],
     front: &mut Front<Path>,
 ) -> Result<(), Memory>
     requires query { IsOverTables cat.now q.now }

@@ -15,7 +15,7 @@ use Rattle.pg_value.specs.declared.columns.Column.{Column}
 use Rattle.pg_value.specs.declared.operators.Op.TheVariants.{Eq}
 use Rattle.pg_value.specs.declared.value.Value.{Value}
 use Rattle.pg_value.specs.Order.{IsOfFamily}
-use Rattle.pg_value.specs.Truths.{truth_of_op}
+use Rattle.pg_value.specs.Truths.{is_true, truth_of_op}
 use Rattle.opfamily.specs.Answers.{accepted}
 use Rattle.opfamily.specs.KeyOrder.{Entry, first_value, key_family}
 use Rattle.opfamily.specs.declared.classes.IndexKey.{IndexKey}
@@ -34,10 +34,8 @@ use Rattle.catalog.specs.Contents.{Contents, IsLawful, index_at, table_at}
 use Rattle.catalog.specs.Indexes.{Index, IsKeyOf, IsLawfulIndex}
 use Rattle.catalog.specs.Indexes as indexes
 use Rattle.catalog.specs.Range.{Range, relation_at, type_in}
-use Rattle.eq_classes.specs.Holding.{is_true}
 use Rattle.eq_classes.proofs.HoldLemmas.{in_map}
 use Rattle.eq_classes.proofs.ListLemmas.{IsIn, all_from, in_filter}
-use Rattle.hash_index.specs.Held as held
 use Rattle.hash_index.specs.Held.{Held, Table, rows_equal}
 use Rattle.index_match.specs.Conditions.{allowed, has_form, index_conditions, is_condition, is_hash}
 use Rattle.index_match.specs.Numbered.{Numbered, conditions_of, local}
@@ -257,7 +255,7 @@ module _ (c : Contents) (k : Kept) (q : Query) (r : RelNo) (p : RelSet) (outer :
         subst (IsOfFamily (key_family key)) (sym (ap (λ (y : Held). y.value) m.2 ∙ value_of_entry m.0 is))
         (key-fits columns d.method key (slice_index_or rows (m.0).row []) of_key (row_lawful (m.0).row is.within))
 
-    equal_at : (x : Entry) → IsEntryAt d rows x → held.is_true (truth_of_op Eq (held_of x).value value) ≡ all_true w q (beside q r.0 x.row o) (e ∷ [])
+    equal_at : (x : Entry) → IsEntryAt d rows x → is_true (truth_of_op Eq (held_of x).value value) ≡ all_true w q (beside q r.0 x.row o) (e ∷ [])
     equal_at x is =
         let own = value_in (slice_index_or rows x.row []) in
         equals_true r.0 key given own (first_value x.keys) (value_of_entry x is) e form_first (defined_at own (own_fits c k q r p outer given at x.row))
@@ -267,9 +265,9 @@ module _ (c : Contents) (k : Kept) (q : Query) (r : RelNo) (p : RelSet) (outer :
     pub rows_are : rows_equal value (table_of d rows).held ≡ at_which w q r o (e ∷ []) (entry_rows w i)
     rows_are =
         equal_rows key (key-hashes (type_in c q.range (column_of r.0 key.col)) key accepts) value value_fits (map held_of es) (entries_rise d rows hash) all_fit
-        ∙ ap (map (λ (h : Held). h.row)) (filter_of_map (λ (h : Held). held.is_true (truth_of_op Eq h.value value)) held_of es)
-        ∙ map_of_map (λ (h : Held). h.row) held_of (filter (λ (x : Entry). held.is_true (truth_of_op Eq (held_of x).value value)) es)
-        ∙ ap (map (λ (x : Entry). x.row)) (filter_in_same (λ (x : Entry). held.is_true (truth_of_op Eq (held_of x).value value)) (λ (x : Entry). all_true w q (beside q r.0 x.row o) (e ∷ [])) es (λ x j. equal_at x (here x j)))
+        ∙ ap (map (λ (h : Held). h.row)) (filter_of_map (λ (h : Held). is_true (truth_of_op Eq h.value value)) held_of es)
+        ∙ map_of_map (λ (h : Held). h.row) held_of (filter (λ (x : Entry). is_true (truth_of_op Eq (held_of x).value value)) es)
+        ∙ ap (map (λ (x : Entry). x.row)) (filter_in_same (λ (x : Entry). is_true (truth_of_op Eq (held_of x).value value)) (λ (x : Entry). all_true w q (beside q r.0 x.row o) (e ∷ [])) es (λ x j. equal_at x (here x j)))
         ∙ sym (filter_of_map (λ (n : ℕ). all_true w q (beside q r.0 n o) (e ∷ [])) (λ (x : Entry). x.row) es)
         ∙ ap (λ (l : List Entry). at_which w q r o (e ∷ []) (map (λ (x : Entry). x.row) l)) (sym (entries_are c k q r p outer given at i on))
 

@@ -9,14 +9,12 @@ use Rattle.pg_value.specs.declared.operators.Family.{Family}
 use Rattle.pg_value.specs.declared.operators.Family.TheVariants.{Integer, IntAbs, Text as TextFamily, Bool as BoolFamily}
 use Rattle.pg_value.specs.declared.operators.Op.{Op}
 use Rattle.pg_value.specs.declared.operators.Op.TheVariants.{Lt, Le, Eq, Ge, Gt, Ne, AbsLt, AbsLe, AbsEq, AbsGe, AbsGt}
-use Rattle.pg_value.specs.declared.operators.Truth.{Truth}
-use Rattle.pg_value.specs.declared.operators.Truth.TheVariants.{True, False, Unknown}
 use Rattle.pg_value.specs.declared.value.SqlType.{SqlType}
 use Rattle.pg_value.specs.declared.value.Value.{Value}
 use Rattle.pg_value.specs.declared.value.Value.TheVariants.{Null, Int, Bool as Flag, Text as String}
 use Rattle.pg_value.specs.Order.{IsOfFamily}
 use Rattle.pg_value.specs.Sorting.{IsInOrder, in_order}
-use Rattle.pg_value.specs.Truths.{truth_of_op}
+use Rattle.pg_value.specs.Truths.{is_true, truth_of_op}
 use Rattle.pg_value.proofs.SortingLemmas.{in_order_fixed}
 use Rattle.opfamily.specs.Answers.{number_in}
 use Rattle.opfamily.specs.KeyOrder.{Entry, key_family, key_order}
@@ -29,7 +27,6 @@ use Rattle.pg_expr.specs.Cond.{Cond, compare, is_null, is_not_null, bool_col, co
 use Rattle.pg_expr.specs.Truths.{truth_at}
 use Rattle.pg_expr.specs.Typed.{some_value}
 use Rattle.pg_expr.proofs.PushedLaws.{IsDefined}
-use Rattle.eq_classes.specs.Holding.{is_true}
 use Rattle.eq_classes.proofs.HoldLemmas.{in_map}
 use Rattle.eq_classes.proofs.ListLemmas.{IsIn, Before, all_from, before_filter, earlier_in, in_filter, later_in, pairs_all}
 use Rattle.btree_index.specs.Bounds as tree
@@ -144,21 +141,15 @@ module _ (r : ℕ) (k : IndexKey) (given : Given) where
 
   -- a value equals it where the condition is True
   pub equals_true : (own : ColNo → Value) (v : Value) → v ≡ own k.col → (e : Cond) → has_form Hash r k e ≡ true → IsDefined (value_beside r own given) e
-      → held.is_true (truth_of_op Eq v (compared_with r k given e)) ≡ is_true (truth_at (value_beside r own given) e)
+      → is_true (truth_of_op Eq v (compared_with r k given e)) ≡ is_true (truth_at (value_beside r own given) e)
   equals_true own v at e form defined =
-      same_held (truth_of_op Eq v (compared_with r k given e))
-      ∙ ap (λ (p : Probe). tree.meets p (v ∷ [])) (sym (equal_probe e form))
+      ap (λ (p : Probe). tree.meets p (v ∷ [])) (sym (equal_probe e form))
       ∙ meets_true r k given 0 own (v ∷ []) at e (as_ordered e form) defined
-    where
-      same_held : (t : Truth) → held.is_true t ≡ tree.is_true t
-      same_held True = refl
-      same_held False = refl
-      same_held Unknown = refl
 
 -- values that are equal tie in the order of the key
 module _ (k : IndexKey) (hashes : is_some (number_in (key_family k) Hash Eq) ≡ true) (v : Value) (fits : IsOfFamily (key_family k) v) where
   abbrev equals : Held → Bool
-  equals h = held.is_true (truth_of_op Eq h.value v)
+  equals h = is_true (truth_of_op Eq h.value v)
 
   known_or_null : (u : Value) → (u ≡ Null) ⊎ IsKnown u
   known_or_null Null = inl refl

@@ -18,8 +18,8 @@ use Rattle.plan_tree.specs.Bitmaps.{IsIndexOn, table_of_relation}
 use Rattle.plan_tree.specs.Space.{AreSides, IsBuilt, IsPlanOf, IsSameSet, may_go}
 use Rattle.plan_tree.specs.Costs.{cost, scan_cost}
 use Rattle.plan_tree.specs.Paths.{Path}
-use Rattle.plan_tree.specs.Fronts.{AreDominated, is_no_bitmap}
-use Rattle.scan_paths.specs.Scans.{IsIndexServed, IsServed, tree_by}
+use Rattle.plan_tree.specs.Fronts.{AreDominated, IsServed, is_no_bitmap}
+use Rattle.scan_paths.specs.Scans.{IsIndexServed, tree_by}
 use Rattle.scan_paths.proofs.IndexLemmas.{index-listed}
 
 -- the parameterisation of a scan is the set that it has
@@ -82,7 +82,7 @@ or_true true = refl
 or_true false = refl
 
 -- so a join reads more than one relation
-no-join : (outer inner : Plan) (r : ℕ) → AreSides outer inner → IsSameSet (λ k. set_of outer k || set_of inner k) (one r) → ⊥
+pub no-join : (outer inner : Plan) (r : ℕ) → AreSides outer inner → IsSameSet (λ k. set_of outer k || set_of inner k) (one r) → ⊥
 no-join outer inner r sides same =
     let o = reads-some outer in
     let i = reads-some inner in
@@ -90,12 +90,12 @@ no-join outer inner r sides same =
     let at-i : i.0 ≡ r = eqb-true i.0 r (sym (same i.0) ∙ ap (λ b. set_of outer i.0 || b) i.1 ∙ or_true (set_of outer i.0)) in
     true≢false (sym (subst (λ k. set_of inner k ≡ true) (at-i ∙ sym at-o) i.1) ∙ sides.apart o.0 o.1)
 
-same-relation : (r s : RelNo) → IsSameSet (one s.0) (one r.0) → r ≡ s
+pub same-relation : (r s : RelNo) → IsSameSet (one s.0) (one r.0) → r ≡ s
 same-relation r s same =
     let e : s.0 ≡ r.0 = eqb-true s.0 r.0 (sym (same s.0) ∙ eq-eqb s.0 s.0 refl) in
     sym (ap (λ (n : ℕ). let x : RelNo = record { 0 = n } in x) e)
 
-same-param : (r : RelNo) (p o : RelSet) → IsSameSet (param_in (scan_given r o)) (has p.0) → p ≡ o
+pub same-param : (r : RelNo) (p o : RelSet) → IsSameSet (param_in (scan_given r o)) (has p.0) → p ≡ o
 same-param r p o same =
     let e : p.0 ≡ o.0 = same_set p.0 o.0 (λ k. sym (same k) ∙ given-param r o k) in
     ap (λ (n : ℕ). let x : RelSet = record { 0 = n } in x) e

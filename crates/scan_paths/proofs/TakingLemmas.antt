@@ -11,9 +11,9 @@ use Rattle.eq_classes.specs.Clauses.{one}
 use Rattle.sql_query.specs.Queries.{Query}
 use Rattle.plan_tree.specs.Plans.{Plan}
 use Rattle.plan_tree.specs.Paths.{Path}
-use Rattle.plan_tree.specs.Fronts.{ArePathsOf, IsOffer, StayDominated, is_no_bitmap}
+use Rattle.plan_tree.specs.Fronts.{ArePathsOf, IsOffer, IsServed, StayDominated, is_no_bitmap}
 use Rattle.plan_tree.proofs.FrontLemmas.{old-stay}
-use Rattle.scan_paths.specs.Scans.{IsIndexServed, IsServed, TakesScans}
+use Rattle.scan_paths.specs.Scans.{IsIndexServed, TakesScans}
 
 pub either-way : (P : Bool → Type 0) → P false → P true → (b : Bool) → P b
 either-way P no-way way false = no-way

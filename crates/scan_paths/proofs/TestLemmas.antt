@@ -5,7 +5,7 @@ use Rattle.std.proofs.lemmas.List.Elements.{All-head, All-nil, All-weaker}
 use Rattle.pg_base.specs.declared.limits.TheConstants.{MOST_ATOMS}
 use Rattle.pg_expr.specs.Columns.{atom_count}
 use Rattle.catalog.specs.Contents.{Contents, IsTable as IsTableOf}
-use Rattle.eq_classes.specs.Classes.{Class, Given, first_mention}
+use Rattle.eq_classes.specs.Classes.{Class, Premises, first_mention}
 use Rattle.eq_classes.specs.Clauses.{Clause, Table, clause_list}
 use Rattle.eq_classes.specs.Holding.{IsTable}
 use Rattle.path_cost.specs.Columns.{IsOver}
@@ -16,11 +16,11 @@ no-class : (n : Class → ℕ) (cs : List Class) → All (λ c. n c < 0) cs → 
 no-class n [] h = refl
 no-class n (c ∷ cs) h = absurd (omega (arith, All-head (λ d. n d < 0) c cs h))
 
-pub no-clause : (g : Given) (t : Table) → IsTable g t → g.conjuncts ≡ [] → g.order ≡ [] → t.clauses ≡ []
+pub no-clause : (g : Premises) (t : Table) → IsTable g t → g.conjuncts ≡ [] → g.order ≡ [] → t.clauses ≡ []
 no-clause g t h none no-order =
-    let bare : Given = record { conjuncts = []; order = []; type_of = g.type_of } in
+    let bare : Premises = record { conjuncts = []; order = []; type_of = g.type_of } in
     let same : g ≡ bare = λ z. record { conjuncts = none z; order = no-order z; type_of = g.type_of } in
-    let table : IsTable bare t = subst (λ (k : Given). IsTable k t) same h in
+    let table : IsTable bare t = subst (λ (k : Premises). IsTable k t) same h in
     table.clauses ∙ ap (clause_list g.type_of []) (no-class (first_mention bare) t.classes table.classes.none_else)
 
 -- so it is one over a catalogue with a table

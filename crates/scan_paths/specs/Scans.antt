@@ -8,10 +8,8 @@ use Rattle.catalog.specs.Contents.{Contents}
 use Rattle.eq_classes.specs.Clauses.{one}
 use Rattle.sql_query.specs.Queries.{Query}
 use Rattle.plan_tree.specs.Plans.{Plan, index, index_only}
-use Rattle.plan_tree.specs.Space.{IsBuilt}
-use Rattle.plan_tree.specs.Least.{IsAdmissible}
 use Rattle.plan_tree.specs.Paths.{Path}
-use Rattle.plan_tree.specs.Fronts.{AreOldOrOffers, ArePathsOf, HasDominating, StayDominated, is_no_bitmap}
+use Rattle.plan_tree.specs.Fronts.{AreOldOrOffers, ArePathsOf, IsServed, StayDominated, is_no_bitmap}
 use Rattle.scan_paths.specs.declared.index_scans.ByIndex.{ByIndex}
 
 -- a scan of a relation by an index, index-only or not
@@ -21,11 +19,6 @@ tree_by true r i backward p = index_only r i backward p
 
 abbrev pub tree_of : ByIndex → Bool → Plan
 tree_of s backward = tree_by s.only s.rel s.index backward s.param
-
-module _ (c : Contents) (q : Query) where
-  -- an admissible scan of the space is dominated
-  abbrev pub IsServed : List Path → Plan → Type 0
-  IsServed paths t = IsBuilt c q t → IsAdmissible c q t → HasDominating c q paths t
 
 module _ (c : Contents) (q : Query) (r : RelNo) (p : RelSet) where
   -- scans of the relation with the parameterisation were offered: nothing else is new, and what was dominated still is

@@ -6,12 +6,12 @@ ghost use Rattle.catalog.specs.Contents.{IsIndex, index_at};
 ghost use Rattle.index_match.specs.Conditions.{is_hash};
 ghost use Rattle.sql_query.specs.Queries.{width};
 ghost use Rattle.plan_tree.specs.Bitmaps.{IsIndexOn};
-ghost use Rattle.plan_tree.specs.Fronts.{ArePathsOf};
+ghost use Rattle.plan_tree.specs.Fronts.{ArePathsOf, IsServed};
 ghost use Rattle.plan_tree.specs.Keys as keys;
 ghost use Rattle.plan_tree.specs.Reads.{IsOverTables};
 ghost use Rattle.plan_tree.specs.Space.{IsBuilt, may_go};
 ghost use Rattle.plan_tree.specs.Views.{path, plan};
-ghost use Rattle.scan_paths.specs.Scans.{IsIndexServed, IsServed, TakesScans, tree_of};
+ghost use Rattle.scan_paths.specs.Scans.{IsIndexServed, TakesScans, tree_of};
 
 use catalog::Catalog;
 use opfamily::Method;

@@ -6,11 +6,11 @@ ghost use Rattle.catalog.specs.Contents.{IsTable};
 ghost use Rattle.eq_classes.specs.Clauses.{one};
 ghost use Rattle.sql_query.specs.Queries.{width};
 ghost use Rattle.plan_tree.specs.Bitmaps.{IsIndexOn, table_of_relation};
-ghost use Rattle.plan_tree.specs.Fronts.{AreDominated, AreOldOrOffers, ArePathsOf, StayDominated, is_no_bitmap};
+ghost use Rattle.plan_tree.specs.Fronts.{AreDominated, AreOldOrOffers, ArePathsOf, IsServed, StayDominated, is_no_bitmap};
 ghost use Rattle.plan_tree.specs.Plans as plans;
 ghost use Rattle.plan_tree.specs.Reads.{IsOverTables};
 ghost use Rattle.plan_tree.specs.Views.{path};
-ghost use Rattle.scan_paths.specs.Scans.{IsIndexServed, IsServed, TakesScans};
+ghost use Rattle.scan_paths.specs.Scans.{IsIndexServed, TakesScans};
 
 use crate::index_scans::offer_by_index;
 use catalog::Catalog;

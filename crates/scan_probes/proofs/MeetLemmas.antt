@@ -4,13 +4,11 @@ use Rattle.std.proofs.lemmas.Bool.{and_parts, true≢false, eqb-true}
 use Rattle.pg_base.specs.declared.numbers.ColNo.{ColNo}
 use Rattle.pg_value.specs.declared.operators.Op.{Op}
 use Rattle.pg_value.specs.declared.operators.Op.TheVariants.{Lt, Le, Eq, Ge, Gt, Ne, AbsLt, AbsLe, AbsEq, AbsGe, AbsGt}
-use Rattle.pg_value.specs.declared.operators.Truth.{Truth}
-use Rattle.pg_value.specs.declared.operators.Truth.TheVariants.{True, False, Unknown}
 use Rattle.pg_value.specs.declared.value.SqlType.{SqlType}
 use Rattle.pg_value.specs.declared.value.Value.{Value}
 use Rattle.pg_value.specs.declared.value.Value.TheVariants.{Null, Int, Bool as Flag, Text as String}
 use Rattle.pg_value.specs.Order.{IsOfFamily}
-use Rattle.pg_value.specs.Truths.{AreComparable, commutator_of, truth_of_op}
+use Rattle.pg_value.specs.Truths.{is_true, AreComparable, commutator_of, truth_of_op}
 use Rattle.pg_value.proofs.OrderLaws.{truth_exchanged}
 use Rattle.opfamily.specs.KeyOrder.{key_family}
 use Rattle.opfamily.specs.declared.classes.IndexKey.{IndexKey}
@@ -22,7 +20,6 @@ use Rattle.pg_expr.specs.Cond.{Cond, compare, is_null, is_not_null, bool_col, co
 use Rattle.pg_expr.specs.Truths.{truth_at, value_of}
 use Rattle.pg_expr.specs.Typed.{some_value}
 use Rattle.pg_expr.proofs.PushedLaws.{IsDefined, kinds_turned}
-use Rattle.eq_classes.specs.Holding.{is_true}
 use Rattle.btree_index.specs.declared.bounds.Probe.{Probe}
 use Rattle.btree_index.specs.declared.bounds.Probe.TheVariants.{Bound}
 use Rattle.btree_index.specs.Bounds as tree
@@ -32,11 +29,6 @@ use Rattle.index_match.specs.Bounds.{is_fixing}
 use Rattle.scan_probes.specs.Values.{Given, value_beside}
 use Rattle.scan_probes.specs.Probes.{column_of, given_value, probe_of}
 use Rattle.scan_probes.proofs.ProbeLemmas.{commutes, same_family}
-
-pub same_true : (t : Truth) → tree.is_true t ≡ is_true t
-same_true True = refl
-same_true False = refl
-same_true Unknown = refl
 
 equality_turned : (op : Op) → tree.is_equality (commutator_of op) ≡ tree.is_equality op
 equality_turned Lt = refl
@@ -164,10 +156,8 @@ module _ (r : ℕ) (k : IndexKey) (given : Given) where
       meets_true (compare op a b) h defined =
           let values = value_beside r own given in
           on_side (λ p. tree.meets p vs ≡ is_true (truth_of_op op (value_of values a) (value_of values b))) op a b h
-          (λ ka ob. same_true (truth_of_op op (tree.value_at vs column) (value_of (given_value given) b))
-          ∙ ap₂ (λ (v w : Value). is_true (truth_of_op op v w)) (at ∙ sym (key_side own a ka)) (sym (outside own b ob)))
-          (λ oa kb. same_true (truth_of_op (commutator_of op) (tree.value_at vs column) (value_of (given_value given) a))
-          ∙ ap₂ (λ (v w : Value). is_true (truth_of_op (commutator_of op) v w)) (at ∙ sym (key_side own b kb)) (sym (outside own a oa))
+          (λ ka ob. ap₂ (λ (v w : Value). is_true (truth_of_op op v w)) (at ∙ sym (key_side own a ka)) (sym (outside own b ob)))
+          (λ oa kb. ap₂ (λ (v w : Value). is_true (truth_of_op (commutator_of op) v w)) (at ∙ sym (key_side own b kb)) (sym (outside own a oa))
           ∙ ap is_true (truth_exchanged op (value_of values a) (value_of values b) defined))
       meets_true (is_null x) h defined =
           ap tree.is_null (at ∙ sym (key_read own x (and_parts true (is_key r k x) h).1)) ∙ null_true (value_beside r own given x)

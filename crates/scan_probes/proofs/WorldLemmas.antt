@@ -9,6 +9,7 @@ use Rattle.pg_base.specs.declared.numbers.RelNo.{RelNo}
 use Rattle.pg_value.specs.declared.value.Value.{Value}
 use Rattle.pg_value.specs.declared.value.Value.TheVariants.{Null}
 use Rattle.pg_value.specs.Types.{IsOfType}
+use Rattle.pg_value.specs.Truths.{is_true}
 use Rattle.pg_expr.specs.declared.operand.ColRef.{ColRef}
 use Rattle.pg_expr.specs.declared.operand.Operand.{Operand}
 use Rattle.pg_expr.specs.declared.operand.Operand.TheVariants.{Col, Lit}
@@ -17,7 +18,6 @@ use Rattle.pg_expr.specs.Columns.{each_column, each_column_of, passes_column}
 use Rattle.pg_expr.proofs.ColumnLaws.{agree-truth}
 use Rattle.catalog.specs.Range.{table_of, type_in}
 use Rattle.heap.specs.Stored.{Values}
-use Rattle.eq_classes.specs.Holding.{is_true}
 use Rattle.path_cost.specs.Columns.{is_column}
 use Rattle.query_laws.proofs.FitsLemmas.{values_fit}
 use Rattle.sql_query.specs.Meaning.{all_true}

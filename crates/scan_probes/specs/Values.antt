@@ -4,6 +4,7 @@ use Rattle.std.specs.List.{list_any, list_all, range_with_len}
 use Rattle.pg_base.specs.declared.numbers.ColNo.{ColNo}
 use Rattle.pg_value.specs.declared.value.Value.{Value}
 use Rattle.pg_value.specs.declared.value.Value.TheVariants.{Null}
+use Rattle.pg_value.specs.Truths.{is_true}
 use Rattle.opfamily.specs.KeyOrder.{Entry}
 use Rattle.opfamily.specs.declared.classes.IndexKey.{IndexKey}
 use Rattle.pg_expr.specs.declared.operand.ColRef.{ColRef}
@@ -11,7 +12,6 @@ use Rattle.pg_expr.specs.Cond.{Cond}
 use Rattle.pg_expr.specs.Truths.{truth_at}
 use Rattle.catalog.specs.Indexes.{Index}
 use Rattle.eq_classes.specs.Clauses.{Set}
-use Rattle.eq_classes.specs.Holding.{is_true}
 use Rattle.heap.specs.Stored.{Values}
 use Rattle.sql_query.specs.Queries.{Query, width}
 use Rattle.sql_query.specs.Worlds.{World}

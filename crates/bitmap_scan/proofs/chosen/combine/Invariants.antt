@@ -1,6 +1,6 @@
 use Rattle.std.proofs.Common.{◌≡◌, map, take}
 use Rattle.plan_tree.specs.Views.{bits}
-use Rattle.bitmap_scan.specs.Kept.{tree_in}
+use Rattle.bitmap_scan.specs.ElementTrees.{tree_in}
 use Rattle.bitmap_scan.proofs.chosen.combine.Given as goal
 
 abbrev pub invariant-loop-k : goal.invariant-loop-k

@@ -5,7 +5,7 @@ use Rattle.plan_tree.specs.Bitmaps.{Element, MOST_ELEMENTS}
 use Rattle.plan_tree.specs.Plans.{BitTree}
 use Rattle.plan_tree.specs.Views.{element, path}
 use Rattle.bitmap_scan.specs.Chosen.{IsLeastTree}
-use Rattle.bitmap_scan.specs.Kept.{IsKept, tree_in}
+use Rattle.bitmap_scan.specs.ElementTrees.{IsKept, tree_in}
 use Rattle.bitmap_scan.proofs.KeptLemmas.{marked-each, marked-trees}
 use Rattle.bitmap_scan.proofs.MarkedLemmas.{marked-zip, zip-length}
 use Rattle.bitmap_scan.proofs.OfferLemmas.{one-offered}

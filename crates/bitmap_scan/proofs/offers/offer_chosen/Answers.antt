@@ -13,7 +13,7 @@ use Rattle.plan_tree.specs.Plans.{BitTree, bitmap}
 use Rattle.plan_tree.specs.Space.{IsPlanOf}
 use Rattle.plan_tree.specs.Views.{path}
 use Rattle.bitmap_scan.specs.Chosen.{combined}
-use Rattle.bitmap_scan.specs.Kept.{tree_in}
+use Rattle.bitmap_scan.specs.ElementTrees.{tree_in}
 use Rattle.bitmap_scan.proofs.KeptLemmas.{parts-together, used-together}
 use Rattle.bitmap_scan.proofs.ScanLemmas.{chosen-scan, cost-cut, named-from, named-to}
 use Rattle.bitmap_scan.proofs.offers.offer_chosen.Goals as goal

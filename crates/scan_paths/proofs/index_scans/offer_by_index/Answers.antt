@@ -1,7 +1,8 @@
 use Rattle.std.proofs.Common.{Bool, false, map}
 use Rattle.std.proofs.lemmas.Result.{on_ok_weaker}
+use Rattle.plan_tree.specs.Fronts.{IsServed}
 use Rattle.plan_tree.specs.Views.{path}
-use Rattle.scan_paths.specs.Scans.{IsServed, tree_by}
+use Rattle.scan_paths.specs.Scans.{tree_by}
 use Rattle.scan_paths.proofs.TakingLemmas.{either-way, served-later, takes-then}
 use Rattle.scan_paths.proofs.index_scans.offer_by_index.Goals as goal
 

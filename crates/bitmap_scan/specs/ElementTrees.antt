@@ -11,10 +11,10 @@ use Rattle.plan_tree.specs.Plans.{BitTree}
 use Rattle.plan_tree.specs.Bitmaps.{Element, by_index, by_clause, IsMatchedOr, condition_at, uses}
 use Rattle.plan_tree.specs.Costs.{part_of}
 use Rattle.plan_tree.specs.Views.{bits}
-use Rattle.bitmap_scan.specs.declared.kept.Kept.{Kept}
+use Rattle.bitmap_scan.specs.declared.element_tree.ElementTree.{ElementTree}
 
 -- the tree that is kept
-abbrev pub tree_in : Kept → BitTree
+abbrev pub tree_in : ElementTree → BitTree
 tree_in k = bits k.tree
 
 module _ (c : Contents) (q : Query) (r : RelNo) (p : RelSet) where
@@ -24,7 +24,7 @@ module _ (c : Contents) (q : Query) (r : RelNo) (p : RelSet) where
   IsMade (by_clause n) = (n < length q.classes.clauses) × IsMatchedOr c q r.0 (condition_at q n)
 
   -- the part, once cut, and the clauses are those of the tree
-  pub record IsKept (k : Kept) : Type 0 where
+  pub record IsKept (k : ElementTree) : Type 0 where
     pub part : k.part ≡ capped (part_of c q r p (tree_in k))
     pub used : (n : ℕ) → contains k.used n ≡ uses c q r.0 (has p.0) (tree_in k) n
     pub within : (n : ℕ) → contains k.used n ≡ true → n < length q.classes.clauses

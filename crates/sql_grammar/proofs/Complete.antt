@@ -1,13 +1,13 @@
 -- The walk takes every part of a statement.
 use Rattle.std.proofs.Common.{◌≡◌, ℕ, ◌+◌, ◌≤◌, true, List, [], ◌∷◌, ◌++◌, None, refl, sym, ap, ◌∙◌, arith, append_assoc, append-nil, nat_le}
 use Rattle.std.proofs.lemmas.Bool.{le-leb}
-use Rattle.sql_grammar.specs.Terminals.{Terminal, Said, t_key, t_mark, t_name, t_number, class_of}
-use Rattle.sql_grammar.specs.declared.class.Word.TheVariants.{From, Is}
+use Rattle.sql_grammar.specs.Terminals.{Terminal, Said, t_key, t_mark, t_number, class_of}
+use Rattle.sql_grammar.specs.declared.class.Word.TheVariants.{Is}
 use Rattle.sql_grammar.specs.declared.class.Symbol.TheVariants.{Close, Dot}
 use Rattle.sql_grammar.specs.declared.table.Item.{Item}
-use Rattle.sql_grammar.specs.declared.table.Item.TheVariants.{Keyword, Label, Ends, Query, Nullness, MoreColumns, Negation, MoreAnds, MoreOrs, Closes, NotEnds, AfterName, AfterColumn, AfterTruth, Side, AfterQualifier, Result, MoreResults, AfterResult, MaybeAlias, MaybeWhere, MaybeCommon, MoreShares, MaybeHistogram, MoreBounds, Literal, Digits}
-use Rattle.sql_grammar.specs.Syntax.{Mark, bare, qualified, yes, no, unknown, Lit, number, negative, quoted, constant, Operand, column, literal, Expr, either_of, Ors, no_or, or_conj, Conj, both_of, Ands, no_and, and_neg, Neg, negated, plain, Atom, parens, compare, is_null, is_not_null, column_alone, constant_alone, Nulls, unwritten, not_null, nullable, ColDef, coldef, Output, every, every_of, one, Alias, no_alias, bare_alias, as_alias, Where, no_where, where_expr, Select, select_from, Share, share, Common, no_common, common, Histogram, no_histogram, histogram, Ending, semicolon, text_end}
-use Rattle.sql_grammar.specs.Words.{words_of_lit, words_of_operand, words_of_expr, words_of_ors, words_of_conj, words_of_ands, words_of_neg, words_of_atom, words_of_nulls, words_of_coldef, words_of_columns, words_of_output, words_of_outputs, words_of_alias, words_of_where, words_of_select, words_of_share, words_of_shares, words_of_common, words_of_bounds, words_of_histogram, words_of_ending, levels_of_select, levels_of_where, levels_of_expr, levels_of_ors, levels_of_conj, levels_of_ands, levels_of_neg, levels_of_atom}
+use Rattle.sql_grammar.specs.declared.table.Item.TheVariants.{Label, Ends, Nullness, MoreColumns, Negation, MoreAnds, MoreOrs, Closes, NotEnds, AfterName, AfterColumn, AfterTruth, Side, AfterQualifier, Result, MoreResults, AfterResult, MaybeAlias, MoreJoins, MoreGroups, MaybeWhere, MaybeCommon, MoreShares, MaybeHistogram, MoreBounds, Literal, Digits}
+use Rattle.sql_grammar.specs.Syntax.{Mark, bare, qualified, yes, no, unknown, Lit, number, negative, quoted, constant, Operand, column, literal, Expr, either_of, Ors, no_or, or_conj, Conj, both_of, Ands, no_and, and_neg, Neg, negated, plain, Atom, parens, compare, is_null, is_not_null, column_alone, constant_alone, Nulls, unwritten, not_null, nullable, ColDef, coldef, Output, every, every_of, one, Alias, no_alias, bare_alias, as_alias, Where, no_where, where_expr, Share, share, Common, no_common, common, Histogram, no_histogram, histogram, Ending, semicolon, text_end}
+use Rattle.sql_grammar.specs.Words.{words_of_lit, words_of_operand, words_of_expr, words_of_ors, words_of_conj, words_of_ands, words_of_neg, words_of_atom, words_of_nulls, words_of_coldef, words_of_columns, words_of_output, words_of_outputs, words_of_alias, words_of_where, words_of_share, words_of_shares, words_of_common, words_of_bounds, words_of_histogram, words_of_ending, levels_of_where, levels_of_expr, levels_of_ors, levels_of_conj, levels_of_ands, levels_of_neg, levels_of_atom}
 use Rattle.sql_grammar.specs.Table.{takes_of, is_optional}
 use Rattle.sql_grammar.specs.Machine.{depth_of, takes_all}
 
@@ -44,12 +44,10 @@ pub record EndsExpr (ts : List Terminal) : Type 0 where
 -- what follows a SELECT
 pub record EndsSelect (ts : List Terminal) : Type 0 where
   pub alias : Passes MaybeAlias ts
+  pub joins : Passes MoreJoins ts
+  pub groups : Passes MoreGroups ts
   pub condition : Passes MaybeWhere ts
   pub expr : EndsExpr ts
-
-after-alias : (w : Where) (ts : List Terminal) → Passes MaybeAlias ts → Passes MaybeAlias (words_of_where w ++ ts)
-after-alias no_where ts p = p
-after-alias (where_expr k e) ts p = refl
 
 after-ands : (ns : Ands) (ts : List Terminal) → Passes AfterName ts → Passes AfterName (words_of_ands ns ++ ts)
 after-ands no_and ts p = p
@@ -164,13 +162,13 @@ module _ (limit : ℕ) where
   output (one (bare n)) s ts p = skip AfterResult s ts refl p
   output (one (qualified q d n)) s ts p = refl
 
-  outputs : (o : Output) (os : List (Mark × Output)) (s : List Item) (ts : List Terminal) → Passes AfterResult ts → Passes MoreResults ts →
+  pub outputs : (o : Output) (os : List (Mark × Output)) (s : List Item) (ts : List Terminal) → Passes AfterResult ts → Passes MoreResults ts →
       takes_all limit (words_of_output o ++ (words_of_outputs os ++ ts)) (Result ∷ MoreResults ∷ s) ≡ takes_all limit ts s
   outputs o [] s ts p q = output o (MoreResults ∷ s) ts p ∙ skip MoreResults s ts refl q
   outputs o ((m, o') ∷ os) s ts p q =
       output o (MoreResults ∷ s) (words_of_outputs ((m, o') ∷ os) ++ ts) refl ∙ (apart (words_of_output o') (words_of_outputs os) ts _ ∙ outputs o' os s ts p q)
 
-  alias : (a : Alias) (s : List Item) (ts : List Terminal) → Passes MaybeAlias ts → takes_all limit (words_of_alias a ++ ts) (MaybeAlias ∷ s) ≡ takes_all limit ts s
+  pub alias : (a : Alias) (s : List Item) (ts : List Terminal) → Passes MaybeAlias ts → takes_all limit (words_of_alias a ++ ts) (MaybeAlias ∷ s) ≡ takes_all limit ts s
   alias no_alias s ts p = skip MaybeAlias s ts refl p
   alias (bare_alias n) s ts p = refl
   alias (as_alias k n) s ts p = refl
@@ -178,19 +176,6 @@ module _ (limit : ℕ) where
   pub condition : (w : Where) (s : List Item) (ts : List Terminal) → levels_of_where w + depth_of s ≤ limit → EndsSelect ts → takes_all limit (words_of_where w ++ ts) (MaybeWhere ∷ s) ≡ takes_all limit ts s
   condition no_where s ts low p = skip MaybeWhere s ts refl p.condition
   condition (where_expr k e) s ts low p = expr e s ts low p.expr
-
-  pub selected : (q : Select) (s : List Item) (ts : List Terminal) → levels_of_select q + depth_of s ≤ limit → EndsSelect ts → takes_all limit (words_of_select q ++ ts) (Query ∷ s) ≡ takes_all limit ts s
-  selected (select_from k o os f n a w) s ts low p =
-      apart (words_of_output o) (words_of_outputs os ++ t_key From f ∷ t_name n ∷ (words_of_alias a ++ words_of_where w)) ts _ ∙
-      (ap (λ l. takes_all limit (words_of_output o ++ l) (Result ∷ MoreResults ∷ Keyword From ∷ Label ∷ MaybeAlias ∷ MaybeWhere ∷ s))
-      (append_assoc (words_of_outputs os) (t_key From f ∷ t_name n ∷ (words_of_alias a ++ words_of_where w)) ts) ∙
-      (outputs o os (Keyword From ∷ Label ∷ MaybeAlias ∷ MaybeWhere ∷ s) _ refl refl ∙
-      (apart (words_of_alias a) (words_of_where w) ts (MaybeAlias ∷ MaybeWhere ∷ s) ∙
-      (alias a (MaybeWhere ∷ s) (words_of_where w ++ ts) (after-alias w ts p.alias) ∙ condition w s ts low p))))
-
-  pub selected_alone : (q : Select) → levels_of_select q ≤ limit → takes_all limit (words_of_select q) (Query ∷ []) ≡ true
-  selected_alone q low = ap (λ l. takes_all limit l (Query ∷ [])) (sym (append-nil (words_of_select q))) ∙
-      selected q [] [] (omega arith) (record { alias = tt; condition = tt; expr = record { conj = record { atom = tt; ands = tt }; ors = tt } })
 
   lit : (l : Lit) (s : List Item) (ts : List Terminal) → takes_all limit (words_of_lit l ++ ts) (Literal ∷ s) ≡ takes_all limit ts s
   lit (number n) s ts = refl
@@ -231,8 +216,8 @@ module _ (limit : ℕ) where
   ending (text_end t) = refl
 
   pub after-query : (e : Ending) → EndsSelect (words_of_ending e)
-  after-query (semicolon t) = record { alias = refl; condition = refl; expr = record { conj = record { atom = refl; ands = refl }; ors = refl } }
-  after-query (text_end t) = record { alias = refl; condition = refl; expr = record { conj = record { atom = refl; ands = refl }; ors = refl } }
+  after-query (semicolon t) = record { alias = refl; joins = refl; groups = refl; condition = refl; expr = record { conj = record { atom = refl; ands = refl }; ors = refl } }
+  after-query (text_end t) = record { alias = refl; joins = refl; groups = refl; condition = refl; expr = record { conj = record { atom = refl; ands = refl }; ors = refl } }
 
   pub after-histogram : (e : Ending) → Passes MaybeHistogram (words_of_ending e)
   after-histogram (semicolon t) = refl

@@ -6,9 +6,9 @@ use Rattle.sql_grammar.specs.declared.class.Word.TheVariants.{Create, Is}
 use Rattle.sql_grammar.specs.declared.class.Free.TheVariants.{Nulls as NullsWord, Statistics}
 use Rattle.sql_grammar.specs.declared.class.Symbol.TheVariants.{Close, Dot}
 use Rattle.sql_grammar.specs.declared.table.Item.{Item}
-use Rattle.sql_grammar.specs.declared.table.Item.TheVariants.{Keyword, Sign, FreeWord, Label, Digits, QuotedText, Whole, Ends, Stop, Query, Nullness, MoreColumns, Result, MoreResults, AfterResult, StarOrLabel, MaybeAlias, MaybeWhere, Figures, MaybeCommon, MoreShares, MaybeHistogram, MoreBounds, Literal, Negation, MoreAnds, MoreOrs, Closes, NotEnds, AfterName, AfterColumn, AfterIs, AfterLiteral, AfterTruth, Side, AfterQualifier, MaybeOrder, MoreOrderings, MaybeDirection, MaybeNulls, FirstOrLast, AfterCreate, MaybeUsing, MaybeClass, MoreKeys, MaybeInclude, MoreNames}
-use Rattle.sql_grammar.specs.Syntax.{Key, Mark, Col, Constant, Lit, constant, Operand, Ors, Ands, Neg, Atom, Nulls, ColDef, Output, Alias, Where, Select, Share, Common, Histogram, Ending, Statement}
-use Rattle.sql_grammar.specs.Words.{words_of, words_of_col, words_of_lit, words_of_operand, words_of_ors, words_of_ands, words_of_neg, words_of_atom, words_of_nulls, words_of_columns, words_of_output, words_of_outputs, words_of_alias, words_of_where, words_of_select, words_of_common, words_of_shares, words_of_histogram, words_of_bounds, words_of_ending, levels_of, levels_of_where, levels_of_select, levels_of_ors, levels_of_ands, levels_of_neg, levels_of_atom}
+use Rattle.sql_grammar.specs.declared.table.Item.TheVariants.{Keyword, Sign, FreeWord, Label, Digits, QuotedText, Whole, Ends, Stop, Query, Nullness, MoreColumns, Result, MoreResults, AfterResult, StarOrLabel, MaybeAlias, MoreJoins, MoreGroups, MaybeWhere, Figures, MaybeCommon, MoreShares, MaybeHistogram, MoreBounds, Literal, Negation, MoreAnds, MoreOrs, Closes, NotEnds, AfterName, AfterColumn, AfterIs, AfterLiteral, AfterTruth, Side, AfterQualifier, MaybeOrder, MoreOrderings, MaybeDirection, MaybeNulls, FirstOrLast, AfterCreate, MaybeUsing, MaybeClass, MoreKeys, MaybeInclude, MoreNames}
+use Rattle.sql_grammar.specs.Syntax.{Key, Mark, Col, Constant, Lit, constant, Operand, Ors, Ands, Neg, Atom, Nulls, ColDef, Output, Alias, Join, Group, Where, Select, Share, Common, Histogram, Ending, Statement}
+use Rattle.sql_grammar.specs.Words.{words_of, words_of_col, words_of_lit, words_of_operand, words_of_ors, words_of_ands, words_of_neg, words_of_atom, words_of_nulls, words_of_columns, words_of_output, words_of_outputs, words_of_alias, words_of_joins, words_of_groups, words_of_where, words_of_select, words_of_common, words_of_shares, words_of_histogram, words_of_bounds, words_of_ending, levels_of, levels_of_joins, levels_of_groups, levels_of_where, levels_of_select, levels_of_ors, levels_of_ands, levels_of_neg, levels_of_atom}
 use Rattle.sql_grammar.specs.Syntax.{Direction, NullsEnd, Ordering, OrderBy}
 use Rattle.sql_grammar.specs.Words.{words_of_direction, words_of_nulls_end, words_of_orderings, words_of_order}
 use Rattle.sql_grammar.specs.Syntax.{OpClass, IndexKey, Using, Include}
@@ -54,6 +54,8 @@ Part limit depth MoreResults = List (Mark × Output)
 Part limit depth AfterResult = (ts : List Terminal) × ((n : Ident) → (o : Output) × (words_of_output o ≡ t_name n ∷ ts))
 Part limit depth StarOrLabel = (ts : List Terminal) × ((n : Ident) (d : Mark) → (o : Output) × (words_of_output o ≡ t_name n ∷ t_mark Dot d ∷ ts))
 Part limit depth MaybeAlias = Alias
+Part limit depth MoreJoins = (x : List Join) × (levels_of_joins x + depth ≤ limit)
+Part limit depth MoreGroups = (x : List (Mark × Group)) × (levels_of_groups x + depth ≤ limit)
 Part limit depth MaybeWhere = (x : Where) × (levels_of_where x + depth ≤ limit)
 Part limit depth Figures = (ts : List Terminal) × Statement_after ts
 Part limit depth MaybeCommon = Common
@@ -104,6 +106,8 @@ words_of_part limit depth MoreResults p = words_of_outputs p
 words_of_part limit depth AfterResult p = p.0
 words_of_part limit depth StarOrLabel p = p.0
 words_of_part limit depth MaybeAlias p = words_of_alias p
+words_of_part limit depth MoreJoins p = words_of_joins p.0
+words_of_part limit depth MoreGroups p = words_of_groups p.0
 words_of_part limit depth MaybeWhere p = words_of_where p.0
 words_of_part limit depth Figures p = p.0
 words_of_part limit depth MaybeCommon p = words_of_common p

@@ -1,14 +1,17 @@
 pub mod Codes
 pub mod Forest
+pub mod FromRules
 pub mod OrderRules
 pub mod IndexRules
 pub mod Rules
 pub mod Sound
 pub mod RoomTests
+pub mod FromRoom
 pub mod OrderRoom
 pub mod IndexRoom
 pub mod Room
 pub mod Complete
+pub mod FromComplete
 pub mod OrderComplete
 pub mod IndexComplete
 pub mod StatementComplete
@@ -21,6 +24,7 @@ pub mod StatementWords
 pub mod ListLemmas
 pub mod StatisticsLemmas
 pub mod Trees
+pub mod FromTrees
 pub mod OrderTrees
 pub mod IndexTrees
 pub mod StatementTrees

@@ -8,7 +8,8 @@ use Rattle.sql_grammar.specs.Words.{words_of_select, words_of_ending}
 use Rattle.sql_grammar.specs.Syntax.{Direction, no_direction, ascending, descending, NullsEnd, no_nulls_end, nulls_first, nulls_last, Ordering, ordering, OrderBy, no_order, order_by, no_explain, explain, OrderedSelect, ordered_select}
 use Rattle.sql_grammar.specs.Words.{words_of_direction, words_of_nulls_end, words_of_ordering, words_of_orderings, words_of_order, words_of_ordered, levels_of_ordered}
 use Rattle.sql_grammar.specs.Machine.{takes_all}
-use Rattle.sql_grammar.proofs.Complete.{Passes, EndsSelect, skip, apart, selected, ending, after-query}
+use Rattle.sql_grammar.proofs.Complete.{Passes, EndsSelect, skip, apart, ending, after-query}
+use Rattle.sql_grammar.proofs.FromComplete.{selected}
 
 -- what follows a column of an order
 pub record EndsOrdering (ts : List Terminal) : Type 0 where
@@ -70,10 +71,10 @@ module _ (limit : ℕ) where
 
   after-select : (y : OrderBy) (e : Ending) → EndsSelect (words_of_order y ++ words_of_ending e)
   after-select no_order e = after-query limit e
-  after-select (order_by k b o os) e = record { alias = refl; condition = refl; expr = record { conj = record { atom = refl; ands = refl }; ors = refl } }
+  after-select (order_by k b o os) e = record { alias = refl; joins = refl; groups = refl; condition = refl; expr = record { conj = record { atom = refl; ands = refl }; ors = refl } }
 
   opened : (q : Select) (ts : List Terminal) → takes_all limit (words_of_select q ++ ts) (Whole ∷ []) ≡ takes_all limit (words_of_select q ++ ts) (Query ∷ MaybeOrder ∷ Ends ∷ [])
-  opened (select_from k o os f n a w) ts = refl
+  opened (select_from k o os f g gs w) ts = refl
 
   rest : (q : Select) (y : OrderBy) (e : Ending) → levels_of_ordered (ordered_select no_explain q y e) ≤ limit →
       takes_all limit (words_of_select q ++ (words_of_order y ++ words_of_ending e)) (Query ∷ MaybeOrder ∷ Ends ∷ []) ≡ true

@@ -11,7 +11,8 @@ use Rattle.sql_grammar.specs.Unique.{ends_operand}
 use Rattle.sql_grammar.specs.Words.{words_of_col, words_of_select, words_of_ending}
 use Rattle.sql_grammar.specs.Words.{words_of_direction, words_of_nulls_end, words_of_ordering, words_of_orderings, words_of_order, words_of_ordered}
 use Rattle.sql_grammar.proofs.ExprTrees.{one_operand, tested}
-use Rattle.sql_grammar.proofs.Trees.{ends_select, ending-select, one_select, one_ending}
+use Rattle.sql_grammar.proofs.Trees.{ends_select, ending-select, one_ending}
+use Rattle.sql_grammar.proofs.FromTrees.{one_select}
 
 -- neither ASC nor DESC is next
 abbrev ends_direction : List Terminal → Bool
@@ -173,8 +174,8 @@ one_rest p q a b e f h =
 
 pub one_ordered : (x y : OrderedSelect) → words_of_ordered x ≡ words_of_ordered y → x ≡ y
 one_ordered (ordered_select no_explain p a e) (ordered_select no_explain q b f) h = let (first, order, end) = one_rest p q a b e f h in cc (first, order, end)
-one_ordered (ordered_select no_explain (select_from k o os i n l w) a e) (ordered_select (explain j) q b f) h = absurd (cc)
-one_ordered (ordered_select (explain i) p a e) (ordered_select no_explain (select_from k o os j n l w) b f) h = absurd (cc)
+one_ordered (ordered_select no_explain (select_from k o os i g gs w) a e) (ordered_select (explain j) q b f) h = absurd (cc)
+one_ordered (ordered_select (explain i) p a e) (ordered_select no_explain (select_from k o os j g gs w) b f) h = absurd (cc)
 one_ordered (ordered_select (explain i) p a e) (ordered_select (explain j) q b f) h =
     let word : i ≡ j = cc (h) in
     let (first, order, end) = one_rest p q a b e f (ap (drop 1) h) in

@@ -20,7 +20,8 @@ use Rattle.sql_grammar.specs.Faults.{Production, IsStatement, IsSelect, IsExpr, 
 use Rattle.sql_grammar.specs.Walk.{StopsBy, IsUnawaitedAt, WalkEnds, WalkStops, IsWalk}
 use Rattle.sql_grammar.proofs.Forest.{Parts, words_of_parts}
 use Rattle.sql_grammar.proofs.Sound.{begun, ended}
-use Rattle.sql_grammar.proofs.Complete.{selected_alone, alone}
+use Rattle.sql_grammar.proofs.Complete.{alone}
+use Rattle.sql_grammar.proofs.FromComplete.{selected_alone}
 use Rattle.sql_grammar.proofs.StatementComplete.{statement}
 
 -- a greater limit takes no less

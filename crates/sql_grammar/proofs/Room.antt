@@ -11,11 +11,12 @@ use Rattle.sql_grammar.specs.declared.class.Symbol.TheVariants.{Open, Close, Com
 use Rattle.sql_grammar.specs.declared.class.Class.{Class}
 use Rattle.sql_grammar.specs.declared.class.Class.TheVariants.{Key, Mark, Name, Number, Quoted, Operator, Semicolon, End}
 use Rattle.sql_grammar.specs.declared.table.Item.{Item}
-use Rattle.sql_grammar.specs.declared.table.Item.TheVariants.{Keyword, Sign, FreeWord, Label, Digits, QuotedText, Whole, Ends, Stop, Query, Nullness, MoreColumns, Result, MoreResults, AfterResult, StarOrLabel, MaybeAlias, MaybeWhere, Figures, MaybeCommon, MoreShares, MaybeHistogram, MoreBounds, Literal, Negation, MoreAnds, MoreOrs, Closes, NotEnds, AfterName, AfterColumn, AfterIs, AfterLiteral, AfterTruth, Side, AfterQualifier, MaybeOrder, MoreOrderings, MaybeDirection, MaybeNulls, FirstOrLast, AfterCreate, MaybeUsing, MaybeClass, MoreKeys, MaybeInclude, MoreNames}
+use Rattle.sql_grammar.specs.declared.table.Item.TheVariants.{Keyword, Sign, FreeWord, Label, Digits, QuotedText, Whole, Ends, Stop, Query, Nullness, MoreColumns, Result, MoreResults, AfterResult, StarOrLabel, MaybeAlias, MoreJoins, MoreGroups, MaybeWhere, Figures, MaybeCommon, MoreShares, MaybeHistogram, MoreBounds, Literal, Negation, MoreAnds, MoreOrs, Closes, NotEnds, AfterName, AfterColumn, AfterIs, AfterLiteral, AfterTruth, Side, AfterQualifier, MaybeOrder, MoreOrderings, MaybeDirection, MaybeNulls, FirstOrLast, AfterCreate, MaybeUsing, MaybeClass, MoreKeys, MaybeInclude, MoreNames}
 use Rattle.sql_grammar.specs.Table.{word_code, sign_code, free_code, takes_of, is_optional, room_of, statement_takes, ends_takes, stop_takes, query_takes, nullness_takes, columns_takes, output_takes, outputs_takes, after_output_takes, star_takes, alias_takes, where_takes, figures_takes, common_takes, shares_takes, histogram_takes, bounds_takes, lit_takes, negation_takes, ands_takes, ors_takes, literal_takes, column_takes, name_takes, side_takes, qualifier_takes, keyword_takes, sign_takes, free_takes, label_takes, digits_takes, quoted_takes}
 use Rattle.sql_grammar.specs.Machine.{depth_of, opens, pushed, by_row, step_of, Fits}
 use Rattle.sql_grammar.specs.Steps.{Taken}
 use Rattle.sql_grammar.proofs.RoomTests.{room_test, row_test}
+use Rattle.sql_grammar.proofs.FromRoom.{joins-room, groups-room}
 use Rattle.sql_grammar.proofs.OrderRoom.{order-room, orderings-room, direction-room, nulls-room, nulls-end-room}
 use Rattle.sql_grammar.proofs.IndexRoom.{create-room, using-room, class-room, keys-room, include-room, names-room}
 use Rattle.sql_grammar.proofs.Sound.{flat-depth}
@@ -202,6 +203,8 @@ row-room MoreResults t = outputs-room t
 row-room AfterResult t = after-output-room t
 row-room StarOrLabel t = star-room t
 row-room MaybeAlias t = alias-room t
+row-room MoreJoins t = joins-room t
+row-room MoreGroups t = groups-room t
 row-room MaybeWhere t = where-room t
 row-room Figures t = figures-room t
 row-room MaybeCommon t = common-room t

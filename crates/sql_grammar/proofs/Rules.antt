@@ -6,19 +6,20 @@ use Rattle.sql_grammar.specs.Terminals.{Terminal, Ident, Said, t_key, t_mark, t_
 use Rattle.sql_grammar.specs.declared.class.Free.TheVariants.{Common, Copy, Distinct, Explain, Histogram, Last, Nulls, Pages, Rows, Statistics}
 use Rattle.sql_grammar.specs.declared.class.Free.{Free as FreeT}
 use Rattle.sql_grammar.specs.declared.class.Word.{Word}
-use Rattle.sql_grammar.specs.declared.class.Word.TheVariants.{And, As, Create, False, Is, Not, Null, Or, Select, Table, True, Where}
+use Rattle.sql_grammar.specs.declared.class.Word.TheVariants.{And, As, Create, False, From, Is, Not, Null, Or, Select, Table, True, Where}
 use Rattle.sql_grammar.specs.declared.class.Symbol.{Symbol}
 use Rattle.sql_grammar.specs.declared.class.Symbol.TheVariants.{Open, Close, Comma, Dot, Minus, Star}
 use Rattle.sql_grammar.specs.declared.table.Item.{Item}
-use Rattle.sql_grammar.specs.declared.table.Item.TheVariants.{Keyword, Sign, FreeWord, Label, Digits, QuotedText, Whole, Ends, Stop, Query, Nullness, MoreColumns, Result, MoreResults, AfterResult, StarOrLabel, MaybeAlias, MaybeWhere, Figures, MaybeCommon, MoreShares, MaybeHistogram, MoreBounds, Literal, Negation, MoreAnds, MoreOrs, Closes, NotEnds, AfterName, AfterColumn, AfterIs, AfterLiteral, AfterTruth, Side, AfterQualifier, MaybeOrder, MoreOrderings, MaybeDirection, MaybeNulls, FirstOrLast, AfterCreate, MaybeUsing, MaybeClass, MoreKeys, MaybeInclude, MoreNames}
-use Rattle.sql_grammar.specs.Syntax.{bare, qualified, yes, no, unknown, number, negative, quoted, constant, column, literal, either_of, no_or, or_conj, both_of, no_and, and_neg, negated, plain, parens, compare, is_null, is_not_null, column_alone, constant_alone, unwritten, not_null, nullable, coldef, every, every_of, one, no_alias, bare_alias, as_alias, no_where, where_expr, select_from, share, no_common, common, no_histogram, histogram, semicolon, text_end, empty, create_table, query, copy, sizes, column_statistics}
-use Rattle.sql_grammar.specs.Words.{words_of_operand, words_of_ending, words_of_common, words_of_histogram}
+use Rattle.sql_grammar.specs.declared.table.Item.TheVariants.{Keyword, Sign, FreeWord, Label, Digits, QuotedText, Whole, Ends, Stop, Query, Nullness, MoreColumns, Result, MoreResults, AfterResult, StarOrLabel, MaybeAlias, MoreJoins, MoreGroups, MaybeWhere, Figures, MaybeCommon, MoreShares, MaybeHistogram, MoreBounds, Literal, Negation, MoreAnds, MoreOrs, Closes, NotEnds, AfterName, AfterColumn, AfterIs, AfterLiteral, AfterTruth, Side, AfterQualifier, MaybeOrder, MoreOrderings, MaybeDirection, MaybeNulls, FirstOrLast, AfterCreate, MaybeUsing, MaybeClass, MoreKeys, MaybeInclude, MoreNames}
+use Rattle.sql_grammar.specs.Syntax.{bare, qualified, yes, no, unknown, number, negative, quoted, constant, column, literal, either_of, no_or, or_conj, both_of, no_and, and_neg, negated, plain, parens, compare, is_null, is_not_null, column_alone, constant_alone, unwritten, not_null, nullable, coldef, every, every_of, one, no_alias, bare_alias, as_alias, relation, group_of, no_where, where_expr, select_from, share, no_common, common, no_histogram, histogram, semicolon, text_end, empty, create_table, query, copy, sizes, column_statistics}
+use Rattle.sql_grammar.specs.Words.{words_of_operand, words_of_output, words_of_outputs, words_of_alias, words_of_joins, words_of_groups, words_of_where, words_of_select, words_of_order, words_of_ending, words_of_common, words_of_histogram}
 use Rattle.sql_grammar.specs.Syntax.{no_direction, no_nulls_end, nulls_last, no_order, no_explain, explain, ordered_select}
 use Rattle.sql_grammar.specs.Syntax.{no_class, no_using, no_include}
 use Rattle.sql_grammar.proofs.Codes.{same_word, same_sign, same_free}
 use Rattle.sql_grammar.specs.Table.{word_code, sign_code, free_code, Expansion, takes_of, is_optional, statement_takes, ends_takes, stop_takes, query_takes, nullness_takes, columns_takes, output_takes, outputs_takes, after_output_takes, star_takes, alias_takes, where_takes, figures_takes, common_takes, shares_takes, histogram_takes, bounds_takes, lit_takes, negation_takes, ands_takes, ors_takes, literal_takes, column_takes, name_takes, side_takes, qualifier_takes, keyword_takes, sign_takes, free_takes, label_takes, digits_takes, quoted_takes}
 use Rattle.sql_grammar.specs.Machine.{depth_of}
 use Rattle.sql_grammar.proofs.Forest.{Atom_after, Part, Parts, words_of_parts, IsRule}
+use Rattle.sql_grammar.proofs.FromRules as froms
 use Rattle.sql_grammar.proofs.OrderRules as orders
 use Rattle.sql_grammar.proofs.IndexRules as indexes
 
@@ -39,7 +40,14 @@ module _ (limit : ℕ) (s : List Item) (shallow : depth_of s ≤ limit) where
 
   statement_rule : (t : Terminal) → Rule Whole t (statement_takes (class_of t))
   statement_rule (t_key Create k) = λ ((ts, after'), f). let (x, is, low) = after' k in (((x, low), f), ap (λ l. l ++ words_of_parts limit s f) is)
-  statement_rule (t_key Select k) = λ (o, (os, (from, (n, (a, ((w, low), (y, (e, f)))))))). (((query (ordered_select no_explain (select_from k o os from n a w) y e), omega arith), f), simp append_assoc)
+  statement_rule (t_key Select k) = λ (o, (os, (from, (n, (a, ((js, ejs), ((gs, egs), ((w, low), (y, (e, f)))))))))). (
+    ((query (ordered_select no_explain (select_from k o os from (group_of (relation n a) js) gs w) y e), omega arith), f),
+    let parts : List Terminal = words_of_parts limit s f in
+        append_assoc (words_of_select (select_from k o os from (group_of (relation n a) js) gs w)) (words_of_order y ++ words_of_ending e) parts ∙
+        (ap (λ l. words_of_select (select_from k o os from (group_of (relation n a) js) gs w) ++ l) (append_assoc (words_of_order y) (words_of_ending e) parts) ∙
+        ap (λ l. t_key Select k ∷ l) (froms.select-words (words_of_output o) (words_of_outputs os) (words_of_alias a) (words_of_joins js) (words_of_groups gs) (words_of_where w)
+        (words_of_order y ++ (words_of_ending e ++ parts)) (t_key From from) (t_name n))),
+  )
   statement_rule (t_name (free Explain k)) = λ ((q, low), (y, (e, f))). (((query (ordered_select (explain k) q y e), omega arith), f), simp append_assoc)
   statement_rule (t_name (free Copy k)) = λ (n, (from_at, (stdin, (with_at, (open_at, (format, (csv, (comma, (null, (text, (close_at, (stop, f)))))))))))).
       (((copy (record { copy = k; from_at = from_at; stdin = stdin; with_at = with_at; open_at = open_at; format = format; csv = csv; comma = comma; null = null; close_at = close_at; stop = stop }) n text, omega arith), f), refl)
@@ -60,7 +68,7 @@ module _ (limit : ℕ) (s : List Item) (shallow : depth_of s ≤ limit) where
   stop_rule _ = tt
 
   query_rule : (t : Terminal) → Rule Query t (query_takes (class_of t))
-  query_rule (t_key Select k) = λ (o, (os, (from, (n, (a, ((w, low), f)))))). (((select_from k o os from n a w, low), f), simp append_assoc)
+  query_rule (t_key Select k) = λ (o, (os, (from, (n, (a, ((js, ejs), ((gs, egs), ((w, low), f)))))))). (((select_from k o os from (group_of (relation n a) js) gs w, omega arith), f), simp append_assoc)
   query_rule _ = tt
 
   output_rule : (t : Terminal) → Rule Result t (output_takes (class_of t))
@@ -283,6 +291,8 @@ module _ (limit : ℕ) (s : List Item) (shallow : depth_of s ≤ limit) where
   rule AfterResult t = after_output_rule t
   rule StarOrLabel t = star_rule t
   rule MaybeAlias t = alias_rule t
+  rule MoreJoins t = froms.joins_rule limit s t
+  rule MoreGroups t = froms.groups_rule limit s t
   rule MaybeWhere t = where_rule t
   rule Figures t = figures_rule t
   rule MaybeCommon t = common_rule t
@@ -315,6 +325,8 @@ module _ (limit : ℕ) (s : List Item) (shallow : depth_of s ≤ limit) where
   nothing MoreResults o f = (([], f), refl)
   nothing AfterResult o f = ((([], λ n. (one (bare n), refl)), f), refl)
   nothing MaybeAlias o f = ((no_alias, f), refl)
+  nothing MoreJoins o f = ((([], omega arith), f), refl)
+  nothing MoreGroups o f = ((([], omega arith), f), refl)
   nothing MaybeWhere o f = (((no_where, omega arith), f), refl)
   nothing MaybeCommon o f = ((no_common, f), refl)
   nothing MaybeHistogram o f = ((no_histogram, f), refl)
@@ -338,7 +350,7 @@ module _ (limit : ℕ) (s : List Item) (shallow : depth_of s ≤ limit) where
   something Whole = (empty (semicolon no_place), omega arith)
   something Ends = semicolon no_place
   something Stop = no_place
-  something Query = (select_from no_place (every no_place) [] no_place a_name no_alias no_where, omega arith)
+  something Query = (select_from no_place (every no_place) [] no_place (group_of (relation a_name no_alias) []) [] no_where, omega arith)
   something Nullness = unwritten
   something MoreColumns = ([], no_place)
   something Negation = (plain (constant_alone yes no_place), omega arith)
@@ -358,6 +370,8 @@ module _ (limit : ℕ) (s : List Item) (shallow : depth_of s ≤ limit) where
   something AfterResult = ([], λ n. (one (bare n), refl))
   something StarOrLabel = (t_mark Star no_place ∷ [], λ n d. (every_of n d no_place, refl))
   something MaybeAlias = no_alias
+  something MoreJoins = ([], omega arith)
+  something MoreGroups = ([], omega arith)
   something MaybeWhere = (no_where, omega arith)
   something Figures = (
     t_name (free Rows no_place) ∷ t_number (saying (48 ∷ [])) ∷ t_name (free Pages no_place) ∷ t_number (saying (48 ∷ [])) ∷ [],

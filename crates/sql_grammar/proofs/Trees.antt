@@ -1,12 +1,12 @@
 -- A list of words is spelled by one part of a statement.
 use Rattle.std.proofs.Common.{◌≡◌, Bool, true, false, List, [], ◌∷◌, ◌++◌, drop, refl, sym, ap, ◌∙◌}
 use Rattle.std.proofs.lemmas.List.{append_assoc}
-use Rattle.sql_grammar.specs.declared.class.Word.TheVariants.{And, As, From, Is, Not, Null, Or, Select, Where as WhereKey}
+use Rattle.sql_grammar.specs.declared.class.Word.TheVariants.{As, Cross, From, Inner, Join, Not, Null, Where as WhereKey}
 use Rattle.sql_grammar.specs.declared.class.Symbol.TheVariants.{Close, Comma, Dot, Star}
-use Rattle.sql_grammar.specs.Terminals.{Terminal, Ident, t_key, t_mark, t_name, t_operator}
-use Rattle.sql_grammar.specs.Syntax.{Key, Mark, bare, qualified, Nulls, unwritten, not_null, nullable, ColDef, coldef, Output, every, every_of, one, Alias, no_alias, bare_alias, as_alias, Where, no_where, where_expr, Select as SelectTree, select_from, Ending, semicolon, text_end}
+use Rattle.sql_grammar.specs.Terminals.{Terminal, t_key, t_mark, t_name}
+use Rattle.sql_grammar.specs.Syntax.{Key, Mark, bare, qualified, Nulls, unwritten, not_null, nullable, ColDef, coldef, Output, every, every_of, one, Alias, no_alias, bare_alias, as_alias, Where, no_where, where_expr, Ending, semicolon, text_end}
 use Rattle.sql_grammar.specs.Unique.{ends_operand, ends_expr}
-use Rattle.sql_grammar.specs.Words.{words_of_nulls, words_of_coldef, words_of_columns, words_of_output, words_of_outputs, words_of_alias, words_of_where, words_of_select, words_of_ending}
+use Rattle.sql_grammar.specs.Words.{words_of_nulls, words_of_coldef, words_of_columns, words_of_output, words_of_outputs, words_of_alias, words_of_where, words_of_ending}
 use Rattle.sql_grammar.proofs.ExprTrees.{one_expr, tested}
 use Rattle.sql_grammar.proofs.ListLemmas.{one_list}
 
@@ -47,7 +47,7 @@ one_columns = one_list ColDef words_of_coldef words_of_columns (t_mark Close) en
     (λ t c cs m x. ap (λ l. t_mark Comma t ∷ l) (append_assoc (words_of_coldef c) (words_of_columns cs) (t_mark Close m ∷ x)))
     (λ m n x y e. cc (e)) (λ m t x y e. absurd (cc (e))) ends-closed one_coldef
 
-one_output : (a b : Output) (x y : List Terminal) → ends_operand x ≡ true → ends_operand y ≡ true → words_of_output a ++ x ≡ words_of_output b ++ y → (a ≡ b) × (x ≡ y)
+pub one_output : (a b : Output) (x y : List Terminal) → ends_operand x ≡ true → ends_operand y ≡ true → words_of_output a ++ x ≡ words_of_output b ++ y → (a ≡ b) × (x ≡ y)
 one_output (every s) (every t) x y h k e = let star : s ≡ t = cc in (ap every star, ap (drop 1) e)
 one_output (every s) (every_of m f t) x y h k e = absurd (cc)
 one_output (every s) (one (bare m)) x y h k e = absurd (cc)
@@ -70,14 +70,14 @@ one_output (one (qualified q d n)) (one (qualified r f m)) x y h k e =
     (cc (table, dot, name), ap (drop 3) e)
 
 -- further outputs and the FROM after them
-abbrev fronted : List (Mark × Output) → Key → List Terminal → List Terminal
+abbrev pub fronted : List (Mark × Output) → Key → List Terminal → List Terminal
 fronted os f x = words_of_outputs os ++ t_key From f ∷ x
 
-fronted-ends : (os : List (Mark × Output)) (f : Key) (x : List Terminal) → ends_operand (fronted os f x) ≡ true
+pub fronted-ends : (os : List (Mark × Output)) (f : Key) (x : List Terminal) → ends_operand (fronted os f x) ≡ true
 fronted-ends [] f x = refl
 fronted-ends ((m, o) ∷ os) f x = refl
 
-one_outputs : (os us : List (Mark × Output)) (f g : Key) (x y : List Terminal) → fronted os f x ≡ fronted us g y → (os ≡ us) × (f ≡ g) × (x ≡ y)
+pub one_outputs : (os us : List (Mark × Output)) (f g : Key) (x y : List Terminal) → fronted os f x ≡ fronted us g y → (os ≡ us) × (f ≡ g) × (x ≡ y)
 one_outputs = one_list Output words_of_output words_of_outputs (t_key From) ends_operand (λ f x. refl)
     (λ m o os f x. ap (λ l. t_mark Comma m ∷ l) (append_assoc (words_of_output o) (words_of_outputs os) (t_key From f ∷ x)))
     (λ f g x y e. cc (e)) (λ f m x y e. absurd (cc (e))) fronted-ends one_output
@@ -89,7 +89,7 @@ one_ending (text_end s) (semicolon t) h = absurd (cc)
 one_ending (text_end s) (text_end t) h = let at : s ≡ t = cc in ap text_end at
 
 -- no name and no AS is next
-abbrev aliasless : List Terminal → Bool
+abbrev pub aliasless : List Terminal → Bool
 aliasless (t_name n ∷ x) = false
 aliasless (t_key As _ ∷ x) = false
 aliasless _ = true
@@ -99,42 +99,63 @@ abbrev whereless : List Terminal → Bool
 whereless (t_key WhereKey _ ∷ x) = false
 whereless _ = true
 
--- nothing that goes on a SELECT is next: no name, AS, WHERE, dot, operator, IS, AND or OR
-abbrev pub ends_select : List Terminal → Bool
-ends_select (t_name _ ∷ _) = false
-ends_select (t_key As _ ∷ _) = false
-ends_select (t_key WhereKey _ ∷ _) = false
-ends_select (t_mark Dot _ ∷ _) = false
-ends_select (t_operator _ ∷ _) = false
-ends_select (t_key Is _ ∷ _) = false
-ends_select (t_key And _ ∷ _) = false
-ends_select (t_key Or _ ∷ _) = false
-ends_select _ = true
+-- nothing that goes on a join is next: no name, AS, dot, operator, IS, AND or OR
+abbrev pub ends_join : List Terminal → Bool
+ends_join (t_name _ ∷ _) = false
+ends_join (t_key As _ ∷ _) = false
+ends_join x = ends_expr x
 
-select-alias : (x : List Terminal) → ends_select x ≡ true → aliasless x ≡ true
-select-alias (t_name _ ∷ _) h = absurd (cc)
-select-alias (t_key As _ ∷ _) h = absurd (cc)
-select-alias _ h = refl
+-- nor a further join
+abbrev pub ends_group : List Terminal → Bool
+ends_group (t_key Join _ ∷ _) = false
+ends_group (t_key Inner _ ∷ _) = false
+ends_group (t_key Cross _ ∷ _) = false
+ends_group x = ends_join x
+
+-- nor a further group
+abbrev pub ends_from : List Terminal → Bool
+ends_from (t_mark Comma _ ∷ _) = false
+ends_from x = ends_group x
+
+-- nothing that goes on a SELECT is next: none of these and no WHERE
+abbrev pub ends_select : List Terminal → Bool
+ends_select (t_key WhereKey _ ∷ _) = false
+ends_select x = ends_from x
+
+pub join-alias : (x : List Terminal) → ends_join x ≡ true → aliasless x ≡ true
+join-alias (t_name _ ∷ _) h = absurd (cc)
+join-alias (t_key As _ ∷ _) h = absurd (cc)
+join-alias _ h = refl
+
+pub join-expr : (x : List Terminal) → ends_join x ≡ true → ends_expr x ≡ true
+join-expr (t_name _ ∷ _) h = absurd (cc)
+join-expr (t_key As _ ∷ _) h = absurd (cc)
+join-expr _ h = h
+
+pub group-join : (x : List Terminal) → ends_group x ≡ true → ends_join x ≡ true
+group-join (t_key Join _ ∷ _) h = absurd (cc)
+group-join (t_key Inner _ ∷ _) h = absurd (cc)
+group-join (t_key Cross _ ∷ _) h = absurd (cc)
+group-join _ h = h
+
+pub from-group : (x : List Terminal) → ends_from x ≡ true → ends_group x ≡ true
+from-group (t_mark Comma _ ∷ _) h = absurd (cc)
+from-group _ h = h
+
+pub select-from : (x : List Terminal) → ends_select x ≡ true → ends_from x ≡ true
+select-from (t_key WhereKey _ ∷ _) h = absurd (cc)
+select-from _ h = h
 
 select-where : (x : List Terminal) → ends_select x ≡ true → whereless x ≡ true
 select-where (t_key WhereKey _ ∷ _) h = absurd (cc)
 select-where _ h = refl
 
 select-expr : (x : List Terminal) → ends_select x ≡ true → ends_expr x ≡ true
-select-expr (t_mark Dot _ ∷ _) h = absurd (cc)
-select-expr (t_operator _ ∷ _) h = absurd (cc)
-select-expr (t_key Is _ ∷ _) h = absurd (cc)
-select-expr (t_key And _ ∷ _) h = absurd (cc)
-select-expr (t_key Or _ ∷ _) h = absurd (cc)
-select-expr _ h = refl
+select-expr x h = join-expr x (group-join x (from-group x (select-from x h)))
 
 pub ending-select : (e : Ending) → ends_select (words_of_ending e) ≡ true
 ending-select (semicolon t) = refl
 ending-select (text_end t) = refl
-
-aliasless-where : (w : Where) (x : List Terminal) → ends_select x ≡ true → aliasless (words_of_where w ++ x) ≡ true
-aliasless-where no_where x h = select-alias x h
-aliasless-where (where_expr k c) x h = refl
 
 pub one_where : (a b : Where) (x y : List Terminal) → ends_select x ≡ true → ends_select y ≡ true → words_of_where a ++ x ≡ words_of_where b ++ y → (a ≡ b) × (x ≡ y)
 one_where no_where no_where x y h k e = (refl, e)
@@ -145,7 +166,7 @@ one_where (where_expr i c) (where_expr j d) x y h k e =
     let (condition, rest) = one_expr c d x y (select-expr x h) (select-expr y k) (ap (drop 1) e) in
     (cc (key, condition), rest)
 
-one_alias : (a b : Alias) (x y : List Terminal) → aliasless x ≡ true → aliasless y ≡ true → words_of_alias a ++ x ≡ words_of_alias b ++ y → (a ≡ b) × (x ≡ y)
+pub one_alias : (a b : Alias) (x y : List Terminal) → aliasless x ≡ true → aliasless y ≡ true → words_of_alias a ++ x ≡ words_of_alias b ++ y → (a ≡ b) × (x ≡ y)
 one_alias no_alias no_alias x y h k e = (refl, e)
 one_alias no_alias (bare_alias m) x y h k e = absurd (tested aliasless x (t_name m ∷ y) h refl e)
 one_alias no_alias (as_alias j m) x y h k e = absurd (tested aliasless x (t_key As j ∷ t_name m ∷ y) h refl e)
@@ -155,30 +176,6 @@ one_alias (bare_alias n) (as_alias j m) x y h k e = absurd (cc)
 one_alias (as_alias i n) no_alias x y h k e = absurd (tested aliasless y (t_key As i ∷ t_name n ∷ x) k refl (sym e))
 one_alias (as_alias i n) (bare_alias m) x y h k e = absurd (cc)
 one_alias (as_alias i n) (as_alias j m) x y h k e = let key : i ≡ j = cc in let name : n ≡ m = cc in (cc (key, name), ap (drop 2) e)
-
--- the table of a SELECT and what follows
-abbrev ranged : Ident → Alias → Where → List Terminal → List Terminal
-ranged n a w x = t_name n ∷ (words_of_alias a ++ (words_of_where w ++ x))
-
-select_words : (k : Key) (o : Output) (os : List (Mark × Output)) (f : Key) (n : Ident) (a : Alias) (w : Where) (x : List Terminal) →
-    words_of_select (select_from k o os f n a w) ++ x ≡ t_key Select k ∷ (words_of_output o ++ fronted os f (ranged n a w x))
-select_words k o os f n a w x =
-    ap (λ l. t_key Select k ∷ l)
-    (append_assoc (words_of_output o) (words_of_outputs os ++ t_key From f ∷ t_name n ∷ (words_of_alias a ++ words_of_where w)) x
-    ∙ ap (λ l. words_of_output o ++ l)
-    (append_assoc (words_of_outputs os) (t_key From f ∷ t_name n ∷ (words_of_alias a ++ words_of_where w)) x
-    ∙ ap (λ l. fronted os f (t_name n ∷ l)) (append_assoc (words_of_alias a) (words_of_where w) x)))
-
-pub one_select : (p q : SelectTree) (x y : List Terminal) → ends_select x ≡ true → ends_select y ≡ true → words_of_select p ++ x ≡ words_of_select q ++ y → (p ≡ q) × (x ≡ y)
-one_select (select_from k o os i n a v) (select_from l u us j m b w) x y s t h =
-    let whole = sym (select_words k o os i n a v x) ∙ (h ∙ select_words l u us j m b w y) in
-    let key : k ≡ l = cc (whole) in
-    let (first, more) = one_output o u (fronted os i (ranged n a v x)) (fronted us j (ranged m b w y)) (fronted-ends os i (ranged n a v x)) (fronted-ends us j (ranged m b w y)) (ap (drop 1) whole) in
-    let (others, from, table) = one_outputs os us i j (ranged n a v x) (ranged m b w y) more in
-    let name : n ≡ m = cc (table) in
-    let (alias, after) = one_alias a b (words_of_where v ++ x) (words_of_where w ++ y) (aliasless-where v x s) (aliasless-where w y t) (ap (drop 1) table) in
-    let (condition, rest) = one_where v w x y s t after in
-    (cc (key, first, others, from, name, alias, condition), rest)
 
 -- a new table's columns and end
 abbrev columns_words : ColDef → List (Mark × ColDef) → Mark → Ending → List Terminal

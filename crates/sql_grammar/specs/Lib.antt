@@ -1,6 +1,8 @@
 pub mod Terminals
 pub mod Syntax
 pub mod Words
+pub mod FromParts
+pub mod FromTable
 pub mod OrderTable
 pub mod IndexTable
 pub mod Table

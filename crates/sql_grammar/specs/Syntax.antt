@@ -85,20 +85,38 @@ pub data Output : Type 0 where
   every_of : Ident → Mark → Mark → Output
   one : Col → Output
 
--- from = name [[AS] name]
+-- [[AS] name]
 pub data Alias : Type 0 where
   no_alias : Alias
   bare_alias : Ident → Alias
   as_alias : Key → Ident → Alias
+
+-- from = name [[AS] name]
+pub data Relation : Type 0 where
+  relation : Ident → Alias → Relation
+
+-- [INNER]
+pub data Inner : Type 0 where
+  no_inner : Inner
+  inner : Key → Inner
+
+-- join = [INNER] JOIN from ON expr | CROSS JOIN from
+pub data Join : Type 0 where
+  join_on : Inner → Key → Relation → Key → Expr → Join
+  cross_join : Key → Key → Relation → Join
+
+-- group = from { join }
+pub data Group : Type 0 where
+  group_of : Relation → List Join → Group
 
 -- [WHERE expr]
 pub data Where : Type 0 where
   no_where : Where
   where_expr : Key → Expr → Where
 
--- select = SELECT item { "," item } FROM from [WHERE expr]
+-- select = SELECT item { "," item } FROM group { "," group } [WHERE expr]
 pub data Select : Type 0 where
-  select_from : Key → Output → List (Mark × Output) → Key → Ident → Alias → Where → Select
+  select_from : Key → Output → List (Mark × Output) → Key → Group → List (Mark × Group) → Where → Select
 
 -- a statement's end: ";" or the text's end
 pub data Ending : Type 0 where

@@ -9,7 +9,8 @@ use Rattle.sql_grammar.specs.declared.class.Symbol.TheVariants.{Open, Close, Com
 use Rattle.sql_grammar.specs.declared.class.Class.{Class}
 use Rattle.sql_grammar.specs.declared.class.Class.TheVariants.{Key, Mark, Name, Number, Quoted, Operator, Semicolon, End}
 use Rattle.sql_grammar.specs.declared.table.Item.{Item}
-use Rattle.sql_grammar.specs.declared.table.Item.TheVariants.{Keyword, Sign, FreeWord, Label, Digits, QuotedText, Whole, Ends, Stop, Query, Nullness, MoreColumns, Result, MoreResults, AfterResult, StarOrLabel, MaybeAlias, MaybeWhere, Figures, MaybeCommon, MoreShares, MaybeHistogram, MoreBounds, Literal, Negation, MoreAnds, MoreOrs, Closes, NotEnds, AfterName, AfterColumn, AfterIs, AfterLiteral, AfterTruth, Side, AfterQualifier, MaybeOrder, MoreOrderings, MaybeDirection, MaybeNulls, FirstOrLast, AfterCreate, MaybeUsing, MaybeClass, MoreKeys, MaybeInclude, MoreNames}
+use Rattle.sql_grammar.specs.declared.table.Item.TheVariants.{Keyword, Sign, FreeWord, Label, Digits, QuotedText, Whole, Ends, Stop, Query, Nullness, MoreColumns, Result, MoreResults, AfterResult, StarOrLabel, MaybeAlias, MoreJoins, MoreGroups, MaybeWhere, Figures, MaybeCommon, MoreShares, MaybeHistogram, MoreBounds, Literal, Negation, MoreAnds, MoreOrs, Closes, NotEnds, AfterName, AfterColumn, AfterIs, AfterLiteral, AfterTruth, Side, AfterQualifier, MaybeOrder, MoreOrderings, MaybeDirection, MaybeNulls, FirstOrLast, AfterCreate, MaybeUsing, MaybeClass, MoreKeys, MaybeInclude, MoreNames}
+use Rattle.sql_grammar.specs.FromTable.{joins_takes, groups_takes}
 use Rattle.sql_grammar.specs.OrderTable.{order_takes, orderings_takes, direction_takes, nulls_takes, nulls_end_takes}
 use Rattle.sql_grammar.specs.IndexTable.{create_takes, using_takes, class_takes, keys_takes, include_takes, names_takes}
 
@@ -77,7 +78,7 @@ free_code Stdin = 16
 -- a statement and its end: `CREATE`, `SELECT`, `EXPLAIN`, `COPY`, `STATISTICS`, or nothing before the end
 abbrev pub statement_takes : Class → Expansion
 statement_takes (Key Create) = Some (AfterCreate ∷ [])
-statement_takes (Key Select) = Some (Result ∷ MoreResults ∷ Keyword From ∷ Label ∷ MaybeAlias ∷ MaybeWhere ∷ MaybeOrder ∷ Ends ∷ [])
+statement_takes (Key Select) = Some (Result ∷ MoreResults ∷ Keyword From ∷ Label ∷ MaybeAlias ∷ MoreJoins ∷ MoreGroups ∷ MaybeWhere ∷ MaybeOrder ∷ Ends ∷ [])
 statement_takes (Name (Some Explain)) = Some (Query ∷ MaybeOrder ∷ Ends ∷ [])
 statement_takes (Name (Some Copy)) = Some (Label ∷ Keyword From ∷ FreeWord Stdin ∷ Keyword With ∷ Sign Open ∷ FreeWord Format ∷ FreeWord Csv ∷ Sign Comma ∷ Keyword Null ∷ QuotedText ∷ Sign Close ∷ Stop ∷ [])
 statement_takes (Name (Some Statistics)) = Some (Label ∷ Figures ∷ Ends ∷ [])
@@ -98,7 +99,7 @@ stop_takes _ = None
 
 -- a SELECT
 abbrev pub query_takes : Class → Expansion
-query_takes (Key Select) = Some (Result ∷ MoreResults ∷ Keyword From ∷ Label ∷ MaybeAlias ∷ MaybeWhere ∷ [])
+query_takes (Key Select) = Some (Result ∷ MoreResults ∷ Keyword From ∷ Label ∷ MaybeAlias ∷ MoreJoins ∷ MoreGroups ∷ MaybeWhere ∷ [])
 query_takes _ = None
 
 -- NULL or NOT NULL
@@ -290,6 +291,8 @@ takes_of MoreResults t = outputs_takes t
 takes_of AfterResult t = after_output_takes t
 takes_of StarOrLabel t = star_takes t
 takes_of MaybeAlias t = alias_takes t
+takes_of MoreJoins t = joins_takes t
+takes_of MoreGroups t = groups_takes t
 takes_of MaybeWhere t = where_takes t
 takes_of Figures t = figures_takes t
 takes_of MaybeCommon t = common_takes t
@@ -327,6 +330,8 @@ is_optional Nullness = true
 is_optional MoreResults = true
 is_optional AfterResult = true
 is_optional MaybeAlias = true
+is_optional MoreJoins = true
+is_optional MoreGroups = true
 is_optional MaybeWhere = true
 is_optional MaybeCommon = true
 is_optional MaybeHistogram = true
@@ -355,9 +360,11 @@ level_of _ = 0
 -- the most cells that it and what comes of it take within a level
 abbrev pub room_of : Item → ℕ
 room_of Whole = 13
-room_of Query = 6
+room_of Query = 10
 room_of MoreColumns = 4
 room_of MoreResults = 2
+room_of MoreJoins = 8
+room_of MoreGroups = 9
 room_of MaybeWhere = 4
 room_of Figures = 7
 room_of MaybeCommon = 4

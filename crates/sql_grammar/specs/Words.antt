@@ -5,9 +5,9 @@ use Rattle.sql_lex.specs.declared.tokens.Token.{Token}
 use Rattle.sql_grammar.specs.Terminals.{Terminal, Ident, t_key, t_mark, t_name, t_number, t_quoted, t_operator, t_semicolon, t_end, free}
 use Rattle.sql_grammar.specs.declared.class.Free.TheVariants.{By, Common as CommonWord, Copy, Csv, Distinct, Explain, First, Format, Histogram as HistogramWord, Include as IncludeWord, Index as IndexWord, Last, Nulls as NullsWord, Pages, Rows, Statistics, Stdin}
 use Rattle.sql_grammar.specs.declared.class.Word.{Word}
-use Rattle.sql_grammar.specs.declared.class.Word.TheVariants.{And, As, Asc, Create, Desc, False, From, Is, Not, Null, On, Or, Order, Select, Table, True, Using as UsingKey, Where as WhereKey, With}
+use Rattle.sql_grammar.specs.declared.class.Word.TheVariants.{And, As, Asc, Create, Cross, Desc, False, From, Inner as InnerKey, Is, Join as JoinKey, Not, Null, On, Or, Order, Select, Table, True, Using as UsingKey, Where as WhereKey, With}
 use Rattle.sql_grammar.specs.declared.class.Symbol.TheVariants.{Open, Close, Comma, Dot, Minus, Star}
-use Rattle.sql_grammar.specs.Syntax.{Col, bare, qualified, Constant, yes, no, unknown, Lit, number, negative, quoted, constant, Operand, column, literal, Expr, either_of, Ors, no_or, or_conj, Conj, both_of, Ands, no_and, and_neg, Neg, negated, plain, Atom, parens, compare, is_null, is_not_null, column_alone, constant_alone, Nulls, unwritten, not_null, nullable, ColDef, coldef, Output, every, every_of, one, Alias, no_alias, bare_alias, as_alias, Select as SelectTree, select_from, Where, no_where, where_expr, Share, share, Common, no_common, common, Histogram, no_histogram, histogram, Ending, semicolon, text_end, Direction, no_direction, ascending, descending, NullsEnd, no_nulls_end, nulls_first, nulls_last, Ordering, ordering, OrderBy, no_order, order_by, Explaining, no_explain, explain, OrderedSelect, ordered_select, OpClass, no_class, op_class, IndexKey, index_key, Using, no_using, using_method, Include, no_include, include_columns, CreateIndex, index_on, Statement, empty, create_table, create_index, query, copy, sizes, column_statistics}
+use Rattle.sql_grammar.specs.Syntax.{Col, bare, qualified, Constant, yes, no, unknown, Lit, number, negative, quoted, constant, Operand, column, literal, Expr, either_of, Ors, no_or, or_conj, Conj, both_of, Ands, no_and, and_neg, Neg, negated, plain, Atom, parens, compare, is_null, is_not_null, column_alone, constant_alone, Nulls, unwritten, not_null, nullable, ColDef, coldef, Output, every, every_of, one, Alias, no_alias, bare_alias, as_alias, Relation, relation, Inner, no_inner, inner, Join, join_on, cross_join, Group, group_of, Select as SelectTree, select_from, Where, no_where, where_expr, Share, share, Common, no_common, common, Histogram, no_histogram, histogram, Ending, semicolon, text_end, Direction, no_direction, ascending, descending, NullsEnd, no_nulls_end, nulls_first, nulls_last, Ordering, ordering, OrderBy, no_order, order_by, Explaining, no_explain, explain, OrderedSelect, ordered_select, OpClass, no_class, op_class, IndexKey, index_key, Using, no_using, using_method, Include, no_include, include_columns, CreateIndex, index_on, Statement, empty, create_table, create_index, query, copy, sizes, column_statistics}
 
 -- a column, with its table's name and a dot before it where that is written
 abbrev pub words_of_col : Col → List Terminal
@@ -97,14 +97,42 @@ words_of_alias no_alias = []
 words_of_alias (bare_alias n) = t_name n ∷ []
 words_of_alias (as_alias k n) = t_key As k ∷ t_name n ∷ []
 
+-- a relation: a table's name with its alias
+abbrev pub words_of_relation : Relation → List Terminal
+words_of_relation (relation n a) = t_name n ∷ words_of_alias a
+
+-- INNER or nothing
+abbrev pub words_of_inner : Inner → List Terminal
+words_of_inner no_inner = []
+words_of_inner (inner k) = t_key InnerKey k ∷ []
+
+-- [INNER] JOIN and a relation with its condition, or CROSS JOIN and a relation
+abbrev pub words_of_join : Join → List Terminal
+words_of_join (join_on i j r o e) = words_of_inner i ++ t_key JoinKey j ∷ (words_of_relation r ++ t_key On o ∷ words_of_expr e)
+words_of_join (cross_join c j r) = t_key Cross c ∷ t_key JoinKey j ∷ words_of_relation r
+
+-- joins from the left
+abbrev pub words_of_joins : List Join → List Terminal
+words_of_joins [] = []
+words_of_joins (j ∷ js) = words_of_join j ++ words_of_joins js
+
+-- a relation and what is joined to it
+abbrev pub words_of_group : Group → List Terminal
+words_of_group (group_of r js) = words_of_relation r ++ words_of_joins js
+
+-- further ones, each after a comma
+abbrev pub words_of_groups : List (Token × Group) → List Terminal
+words_of_groups [] = []
+words_of_groups ((m, g) ∷ gs) = t_mark Comma m ∷ (words_of_group g ++ words_of_groups gs)
+
 -- WHERE before an expression, or nothing
 abbrev pub words_of_where : Where → List Terminal
 words_of_where no_where = []
 words_of_where (where_expr k e) = t_key WhereKey k ∷ words_of_expr e
 
--- SELECT item { "," item } FROM name [[AS] name] [WHERE expr]
+-- SELECT item { "," item } FROM group { "," group } [WHERE expr]
 abbrev pub words_of_select : SelectTree → List Terminal
-words_of_select (select_from k o os f n a w) = t_key Select k ∷ (words_of_output o ++ (words_of_outputs os ++ t_key From f ∷ t_name n ∷ (words_of_alias a ++ words_of_where w)))
+words_of_select (select_from k o os f g gs w) = t_key Select k ∷ (words_of_output o ++ (words_of_outputs os ++ t_key From f ∷ (words_of_group g ++ (words_of_groups gs ++ words_of_where w))))
 
 -- the word that ends a statement
 abbrev pub words_of_ending : Ending → List Terminal
@@ -261,9 +289,28 @@ abbrev pub levels_of_where : Where → ℕ
 levels_of_where no_where = 0
 levels_of_where (where_expr _ e) = levels_of_expr e
 
--- those of a SELECT
+-- those of a join's condition, which are counted from 0 for each
+abbrev pub levels_of_join : Join → ℕ
+levels_of_join (join_on _ _ _ _ e) = levels_of_expr e
+levels_of_join (cross_join _ _ _) = 0
+
+-- the most of some joins
+abbrev pub levels_of_joins : List Join → ℕ
+levels_of_joins [] = 0
+levels_of_joins (j ∷ js) = max (levels_of_join j) (levels_of_joins js)
+
+-- those of a relation and what is joined to it
+abbrev pub levels_of_group : Group → ℕ
+levels_of_group (group_of _ js) = levels_of_joins js
+
+-- the most of further ones
+abbrev pub levels_of_groups : List (Token × Group) → ℕ
+levels_of_groups [] = 0
+levels_of_groups ((_, g) ∷ gs) = max (levels_of_group g) (levels_of_groups gs)
+
+-- those of a SELECT: the most of its conditions
 abbrev pub levels_of_select : SelectTree → ℕ
-levels_of_select (select_from _ _ _ _ _ _ w) = levels_of_where w
+levels_of_select (select_from _ _ _ _ g gs w) = max (levels_of_group g) (max (levels_of_groups gs) (levels_of_where w))
 
 -- those of a SELECT with its order, and of CREATE INDEX
 abbrev pub levels_of_ordered : OrderedSelect → ℕ

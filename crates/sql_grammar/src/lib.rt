@@ -11,12 +11,15 @@ mod fault;
 mod laws;
 mod limits;
 mod rows;
+mod rows_from;
 mod rows_index;
 mod rows_order;
 mod stack;
 mod table;
 #[cfg(test)]
 mod tests;
+#[cfg(test)]
+mod tests_joins;
 #[cfg(test)]
 mod tests_kinds;
 mod walk;

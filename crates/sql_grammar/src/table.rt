@@ -6,7 +6,7 @@ ghost use Rattle.std.specs.Prelude.{◌≡◌, ◌≤◌, MatchOption};
 ghost use Rattle.sql_grammar.specs.Table.{takes_of, is_optional, level_of};
 
 use crate::class::{Class, Free, Symbol, Word};
-use crate::{rows, rows_index, rows_order};
+use crate::{rows, rows_from, rows_index, rows_order};
 
 /// What is awaited.
 #[derive(Clone, Copy)]
@@ -45,6 +45,10 @@ pub enum Item {
     StarOrLabel,
     /// An alias or nothing.
     MaybeAlias,
+    /// Further joins of a group.
+    MoreJoins,
+    /// Further groups of a FROM list.
+    MoreGroups,
     /// WHERE and a condition, or nothing.
     MaybeWhere,
     /// What STATISTICS gives, after a table's name.
@@ -129,6 +133,8 @@ pub fn takes(item: Item, class: Class) -> Option<&'static [Item]>
         Item::AfterResult => rows::after_output(class),
         Item::StarOrLabel => rows::star_or_label(class),
         Item::MaybeAlias => rows::alias(class),
+        Item::MoreJoins => rows_from::joins(class),
+        Item::MoreGroups => rows_from::groups(class),
         Item::MaybeWhere => rows::condition(class),
         Item::Figures => rows::figures(class),
         Item::MaybeCommon => rows::common(class),
@@ -170,6 +176,8 @@ pub fn may_be_empty(item: Item) -> bool
             | Item::MoreResults
             | Item::AfterResult
             | Item::MaybeAlias
+            | Item::MoreJoins
+            | Item::MoreGroups
             | Item::MaybeWhere
             | Item::MaybeCommon
             | Item::MaybeHistogram

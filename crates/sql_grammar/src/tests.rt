@@ -53,9 +53,9 @@ const STATEMENTS: [(&[u8], Option<u32>); 80] = [
     (b"SELECT a.b.c FROM t;", Some(10)),
     (b"SELECT *.a FROM t;", Some(8)),
     (b"SELECT a FROM;", Some(13)),
-    (b"SELECT a FROM t, u;", Some(15)),
+    (b"SELECT a FROM t, u;", None),
     (b"SELECT a FROM t WHERE a = 1;", None),
-    (b"SELECT a FROM t JOIN u ON a = b;", Some(16)),
+    (b"SELECT a FROM t JOIN u ON a = b;", None),
     (b"SELECT 1 FROM t;", Some(7)),
     (b"SELECT a < b FROM t;", Some(9)),
     (b"SELECT using FROM t;", Some(7)),
@@ -208,12 +208,14 @@ const LONG: [(&[u8], &[u8], usize, &[u8], Option<(Limit, u32, u32)>); 13] = [
 ];
 
 /// Texts, and the end of the SELECT at their beginning, or the place of its syntax fault.
-const SELECTS: [(&[u8], Result<u32, u32>); 7] = [
+const SELECTS: [(&[u8], Result<u32, u32>); 9] = [
     (b"SELECT a FROM t WHERE a = 1 b", Ok(8)),
     (b"SELECT a FROM t WHERE", Err(21)),
     (b"SELECT *, b.c FROM t)", Ok(8)),
     (b"SELECT a FROM t AS u v", Ok(6)),
     (b"SELECT a FROM t u", Ok(5)),
+    (b"SELECT a FROM t, u JOIN v ON a = b ON", Ok(12)),
+    (b"SELECT a FROM t CROSS", Err(21)),
     (b"SELECT a;", Err(8)),
     (b"t;", Err(0)),
 ];

@@ -4,7 +4,7 @@ use Rattle.std.proofs.lemmas.List.{map-append}
 use Rattle.pg_base.specs.declared.faults.Fault.{Fault}
 use Rattle.pg_base.specs.declared.faults.Refusal.{Refusal}
 use Rattle.pg_base.specs.declared.faults.Refusal.TheVariants as refusal
-use Rattle.ddl_reader.specs.Reads.{Reads, Tells}
+use Rattle.ddl_reader.specs.AsMeant.{IsAsMeant, Tells}
 
 module _ (T : Type 0) (A : Type 0) (B : T → Type 0) where
   pub none-of : (o : Option T) → ((x : T) → o ≡ Some x → ⊥) → MatchOption o A B → A
@@ -12,12 +12,12 @@ module _ (T : Type 0) (A : Type 0) (B : T → Type 0) where
   none-of (Some x) other m = absurd (other x refl)
 
 -- a refusal that is handed on
-pub err-reads : {T V U W : Type 0} (view : T → V) (views : U → W) (e : Refusal) (m : Result V Fault) (ms : Result W Fault) → Reads T V view (Err e) m → ((f : Fault) → m ≡ Err f → ms ≡ Err f) → Reads U W views (Err e) ms
+pub err-reads : {T V U W : Type 0} (view : T → V) (views : U → W) (e : Refusal) (m : Result V Fault) (ms : Result W Fault) → IsAsMeant T V view (Err e) m → ((f : Fault) → m ≡ Err f → ms ≡ Err f) → IsAsMeant U W views (Err e) ms
 err-reads view views (refusal.Fault f) m ms r on = on f r
 err-reads view views refusal.Memory m ms r on = tt
 
 -- what takes no memory
-pub told-reads : (T V : Type 0) (view : T → V) (r : Result T Refusal) (m : Result V Fault) → Tells T V view r m → Reads T V view r m
+pub told-reads : (T V : Type 0) (view : T → V) (r : Result T Refusal) (m : Result V Fault) → Tells T V view r m → IsAsMeant T V view r m
 told-reads T V view (Ok x) m is = is
 told-reads T V view (Err (refusal.Fault f)) m is = is
 told-reads T V view (Err refusal.Memory) m is = tt

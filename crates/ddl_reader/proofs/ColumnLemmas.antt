@@ -5,7 +5,7 @@ use Rattle.sql_grammar.specs.Terminals.{Terminal, t_mark}
 use Rattle.sql_grammar.specs.Syntax.{Mark, ColDef}
 use Rattle.sql_grammar.specs.Words.{words_of_coldef, words_of_columns}
 use Rattle.ddl_reader.specs.Columns.{Written, Bound, written, bound}
-use Rattle.ddl_reader.specs.Reads.{ends_nulls}
+use Rattle.ddl_reader.specs.AsMeant.{ends_nulls}
 use Rattle.ddl_reader.proofs.ListLemmas.{Parts}
 
 abbrev pub column_parts : Parts ColDef Written Bound

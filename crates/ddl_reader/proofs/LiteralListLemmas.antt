@@ -20,7 +20,7 @@ use Rattle.expr_reader.specs.Reads.{Reads as ReadsOn}
 use Rattle.ddl_reader.specs.declared.literals.CommonRead.{CommonRead}
 use Rattle.ddl_reader.specs.Statistics.{CommonWords, common_words, commons_of, bounds_of}
 use Rattle.sql_cursor.specs.Lists.{parts_of}
-use Rattle.ddl_reader.specs.Reads.{Reads, ends_common, ends_histogram, words_of_shares_left, words_of_bounds_left, placed, common_placed}
+use Rattle.ddl_reader.specs.AsMeant.{IsAsMeant, ends_common, ends_histogram, words_of_shares_left, words_of_bounds_left, placed, common_placed}
 use Rattle.ddl_reader.proofs.ListLemmas.{Parts}
 
 -- the kinds of list
@@ -32,7 +32,7 @@ share_parts t = record { part = common_words; bind = common_placed t; words = wo
 
 -- a literal that is read
 literal-by : (m : Result Value Fault) (place : Token) (rest : List Terminal) (r : Result Placed Refusal) (left : List Terminal) → ReadsOn (λ x. x.value) m rest r left → IfOk r (λ x. x.token ≡ place) →
-    Reads Placed Placed (λ x. x) r (next m (λ v. Ok (record { value = v; token = place }))) × OnOk r (left ≡ rest)
+    IsAsMeant Placed Placed (λ x. x) r (next m (λ v. Ok (record { value = v; token = place }))) × OnOk r (left ≡ rest)
 literal-by (Ok v) place rest (Ok x) left (is, after) at = (ap (λ b. Ok b) (rw (sym is, sym at) refl), after)
 literal-by (Ok v) place rest (Err (refusal.Fault f)) left read at = absurd read
 literal-by (Ok v) place rest (Err refusal.Memory) left read at = (tt, tt)
@@ -41,7 +41,7 @@ literal-by (Err f) place rest (Err (refusal.Fault g)) left read at = (ap Err (sy
 literal-by (Err f) place rest (Err refusal.Memory) left read at = (tt, tt)
 
 pub literal-read : (t : SqlType) (l : Lit) (rest : List Terminal) (r : Result Placed Refusal) (left : List Terminal) → ReadsOn (λ x. x.value) (typed_value t l) rest r left → IfOk r (λ x. x.token ≡ place_of_lit l) →
-    Reads Placed Placed (λ x. x) r (placed t l) × OnOk r (left ≡ rest)
+    IsAsMeant Placed Placed (λ x. x) r (placed t l) × OnOk r (left ≡ rest)
 literal-read t l rest r left = literal-by (typed_value t l) (place_of_lit l) rest r left
 
 -- a number that is taken

@@ -17,7 +17,7 @@ use Rattle.sql_cursor.specs.Reading.{BeginsName, spelled}
 use Rattle.ddl_reader.specs.declared.ddl.Read.{Read}
 use Rattle.ddl_reader.specs.declared.columns.ColumnDef.{ColumnDef}
 use Rattle.ddl_reader.specs.Columns.{Bound}
-use Rattle.ddl_reader.specs.Reads.{Reads, seen}
+use Rattle.ddl_reader.specs.AsMeant.{IsAsMeant, seen}
 use Rattle.ddl_reader.specs.Tables.{Reading, table_reading, limited, table_of}
 use Rattle.ddl_reader.specs.Readings.{reading}
 use Rattle.ddl_reader.proofs.Parts.{named}
@@ -40,11 +40,11 @@ module _ (n : Ident) (ds : List ColumnDef) (m : Result (List Bound) Fault) (mean
       rw (meant, is) (ap (limited (table_reading (bytes_of n) (token_of n) (map seen ds))) none)
 
 -- what is made is read
-pub made-reads : (r : Result Read Refusal) (v : Reading) (m : Result Reading Fault) → MatchResult r (λ x. reading x ≡ v) (λ e. e ≡ refusal.Memory) → m ≡ Ok v → Reads Read Reading reading r m
+pub made-reads : (r : Result Read Refusal) (v : Reading) (m : Result Reading Fault) → MatchResult r (λ x. reading x ≡ v) (λ e. e ≡ refusal.Memory) → m ≡ Ok v → IsAsMeant Read Reading reading r m
 made-reads (Ok x) v m is e = e ∙ ap Ok (sym is)
 made-reads (Err (refusal.Fault f)) v m is e = absurd (cc)
 made-reads (Err refusal.Memory) v m is e = tt
 
 -- a fault that is read
-pub fault-reads : (r : Result Read Refusal) (e : Refusal) (f : Fault) (m : Result Reading Fault) → r ≡ Err e → e ≡ refusal.Fault f → m ≡ Err f → Reads Read Reading reading r m
+pub fault-reads : (r : Result Read Refusal) (e : Refusal) (f : Fault) (m : Result Reading Fault) → r ≡ Err e → e ≡ refusal.Fault f → m ≡ Err f → IsAsMeant Read Reading reading r m
 fault-reads r e f m is told wrong = rw (is, told) wrong

@@ -8,7 +8,7 @@ use Rattle.sql_grammar.specs.Words.{words_of_nulls}
 use Rattle.sql_cursor.specs.declared.cursor.Spelled.{Spelled}
 use Rattle.sql_cursor.specs.Reading.{BeginsNot, BeginsName, spelled}
 use Rattle.ddl_reader.specs.Columns.{refuses_null}
-use Rattle.ddl_reader.specs.Reads.{ends_nulls}
+use Rattle.ddl_reader.specs.AsMeant.{ends_nulls}
 
 -- a name that is taken
 pub named : (n : Ident) (ws : List Terminal) (s : Spelled) (old new : List Terminal) → old ≡ t_name n ∷ ws → BeginsName s old new → (s ≡ spelled n) × (new ≡ ws)

@@ -18,7 +18,7 @@ use Rattle.catalog.specs.Contents.{Contents}
 use Rattle.catalog.specs.Tables.{table_named}
 use Rattle.ddl_reader.specs.declared.ddl.Read.{Read}
 use Rattle.ddl_reader.specs.Columns.{written, further, bound_all}
-use Rattle.ddl_reader.specs.Reads.{words_of_body, Reads, SpellsSizes, SpellsColumn, ends_common, ends_histogram, words_of_sizes, words_of_column}
+use Rattle.ddl_reader.specs.AsMeant.{words_of_body, IsAsMeant, SpellsSizes, SpellsColumn, ends_common, ends_histogram, words_of_sizes, words_of_column}
 use Rattle.ddl_reader.specs.Statistics.{table_statistics, column_statistics_of, commons_of, bounds_of}
 use Rattle.ddl_reader.specs.Tables.{Reading, table_of, data_after}
 use Rattle.ddl_reader.specs.Statements.{begins_ddl, Means, IsMeaning, IsDdlFault, IsDdlRefusal}
@@ -102,21 +102,21 @@ stop-at k n null text tokens before token end from all is split at = at ∙ ap (
 
 module _ (cat : Contents) (text : List ℕ) where
   -- a statement that means what is read
-  means-by : (x : Statement) (m : Result Reading Fault) (r : Result Read Refusal) → ((v : Result Reading Fault) → v ≡ m → Means cat text x v) → Reads Read Reading reading r m → ReadsAs cat text x r
+  means-by : (x : Statement) (m : Result Reading Fault) (r : Result Read Refusal) → ((v : Result Reading Fault) → v ≡ m → Means cat text x v) → IsAsMeant Read Reading reading r m → ReadsAs cat text x r
   means-by x m (Ok v) on reads = on (Ok (reading v)) (sym reads)
   means-by x m (Err (refusal.Fault f)) on reads = on (Err f) (sym reads)
   means-by x m (Err refusal.Memory) on reads = tt
 
   -- a table that is read
-  pub table-as : (x : Statement) (left : List Terminal) (r : Result Read Refusal) (t : CreatesTable x left) → Reads Read Reading reading r (table_of (bytes_of t.name) (token_of t.name) (bound_all (written t.column ∷ further t.columns))) →
+  pub table-as : (x : Statement) (left : List Terminal) (r : Result Read Refusal) (t : CreatesTable x left) → IsAsMeant Read Reading reading r (table_of (bytes_of t.name) (token_of t.name) (bound_all (written t.column ∷ further t.columns))) →
       ReadsAs cat text x r
   table-as x left r t reads = subst (λ y. ReadsAs cat text y r) (sym t.is) (means-by (create_table t.create t.table t.name t.opening t.column t.columns t.closing t.ending) _ r (λ v same. same) reads)
 
   -- statistics that are read
   pub statistics-as : (x : Statement) (token : Token) (left : List Terminal) (r : Result Read Refusal) → words_of x ≡ t_name (free Statistics token) ∷ left →
-      ((t k : Ident) (rows : Said) (b : Terminal) (pages : Said) (rest : List Terminal) → left ≡ t_name t ∷ words_of_sizes k rows b pages rest → Reads Read Reading reading r (table_statistics cat t rows pages)) →
+      ((t k : Ident) (rows : Said) (b : Terminal) (pages : Said) (rest : List Terminal) → left ≡ t_name t ∷ words_of_sizes k rows b pages rest → IsAsMeant Read Reading reading r (table_statistics cat t rows pages)) →
       ((t : Ident) (m : Mark) (c : Ident) (a : Terminal) (d : Said) (b : Terminal) (n : Said) (cs : Common) (h : Histogram) (rest : List Terminal) → ends_common rest ≡ true → ends_histogram rest ≡ true →
-      left ≡ t_name t ∷ t_mark Dot m ∷ words_of_column c a d b n cs h rest → Reads Read Reading reading r (column_statistics_of cat t c d n (commons_of cs) (bounds_of h))) →
+      left ≡ t_name t ∷ t_mark Dot m ∷ words_of_column c a d b n cs h rest → IsAsMeant Read Reading reading r (column_statistics_of cat t c d n (commons_of cs) (bounds_of h))) →
       ReadsAs cat text x r
   statistics-as (sizes k n rows pages e) token left r is table column =
       means-by (sizes k n rows pages e) _ r (λ v same. same) (table n (free Rows k.rows) rows (t_name (free Pages k.pages)) pages (words_of_ending e) (ap (drop 1) (sym is)))
@@ -132,14 +132,14 @@ module _ (cat : Contents) (text : List ℕ) where
   statistics-as (copy k n null) token left r is table column = absurd (cc (is))
 
   data-by : (k : CopyWords) (n : Ident) (null : Said) (r : Result Read Refusal) (start : Result ℕ Fault) → IsDataStart text k.stop.end start →
-      Reads Read Reading reading r (data_after (table_named cat (bytes_of n)) (token_of n) null.value null.token start) → ReadsAs cat text (copy k n null) r
+      IsAsMeant Read Reading reading r (data_after (table_named cat (bytes_of n)) (token_of n) null.value null.token start) → ReadsAs cat text (copy k n null) r
   data-by k n null (Ok v) start begins reads = (start, begins, sym reads)
   data-by k n null (Err (refusal.Fault f)) start begins reads = (start, begins, sym reads)
   data-by k n null (Err refusal.Memory) start begins reads = tt
 
   -- data that are read
   pub data-as : (x : Statement) (r : Result Read Refusal) (k : CopyWords) (n : Ident) (null : Said) → x ≡ copy k n null →
-      (start : Result ℕ Fault) × IsDataStart text k.stop.end start × Reads Read Reading reading r (data_after (table_named cat (bytes_of n)) (token_of n) null.value null.token start) → ReadsAs cat text x r
+      (start : Result ℕ Fault) × IsDataStart text k.stop.end start × IsAsMeant Read Reading reading r (data_after (table_named cat (bytes_of n)) (token_of n) null.value null.token start) → ReadsAs cat text x r
   data-as x r k n null is (start, begins, reads) = subst (λ y. ReadsAs cat text y r) (sym is) (data-by k n null r start begins reads)
 
   -- a statement that is read

@@ -10,7 +10,7 @@ use Rattle.sql_cursor.specs.Reading.{BeginsName, BeginsNot, spelled}
 use Rattle.catalog.specs.Contents.{Contents}
 use Rattle.catalog.specs.Tables.{table_named}
 use Rattle.ddl_reader.specs.Statistics.{known, table_of_name}
-use Rattle.ddl_reader.specs.Reads.{SpellsSizes, SpellsColumn, words_of_sizes}
+use Rattle.ddl_reader.specs.AsMeant.{SpellsSizes, SpellsColumn, words_of_sizes}
 use Rattle.ddl_reader.proofs.Parts.{named}
 
 -- without a dot the sizes of a table are left

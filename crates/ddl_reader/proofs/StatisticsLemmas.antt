@@ -17,7 +17,7 @@ use Rattle.ddl_reader.specs.declared.literals.CommonRead.{CommonRead}
 use Rattle.ddl_reader.specs.declared.statistics.Counted.{Counted}
 use Rattle.sql_cursor.specs.Lists.{bound_each}
 use Rattle.ddl_reader.specs.Statistics.{CommonWords, common_value, number_of_32, start_of, start_of_lit, starts_of_common, statistics_of}
-use Rattle.ddl_reader.specs.Reads.{placed, common_placed, common_seen, starts_seen, value_seen, start_seen}
+use Rattle.ddl_reader.specs.AsMeant.{placed, common_placed, common_seen, starts_seen, value_seen, start_seen}
 use Rattle.ddl_reader.specs.Readings.{statistics_read}
 use Rattle.ddl_reader.proofs.ListLemmas.{each-ok, each-err, each-same}
 

@@ -2,7 +2,7 @@ pub mod Block
 pub mod Types
 pub mod Lists
 pub mod Columns
-pub mod Reads
+pub mod AsMeant
 pub mod Tables
 pub mod Statistics
 pub mod Readings

@@ -15,7 +15,7 @@ use Rattle.ddl_reader.specs.declared.ddl.Read.{Read}
 use Rattle.ddl_reader.specs.declared.literals.CommonRead.{CommonRead}
 use Rattle.ddl_reader.specs.declared.statistics.Counted.{Counted}
 use Rattle.expr_reader.specs.declared.value.Placed.{Placed}
-use Rattle.ddl_reader.specs.Reads.{common_seen, starts_seen, value_seen, start_seen}
+use Rattle.ddl_reader.specs.AsMeant.{common_seen, starts_seen, value_seen, start_seen}
 use Rattle.ddl_reader.specs.Tables.{Definition, table, sizes_for, statistics_for, data_for, Reading}
 
 -- what is defined

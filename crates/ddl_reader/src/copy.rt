@@ -7,7 +7,7 @@ ghost use Rattle.sql_grammar.specs.Words.{words_of};
 ghost use Rattle.sql_grammar.specs.Faults.{bytes_of};
 ghost use Rattle.catalog.specs.Tables.{table_named};
 ghost use Rattle.ddl_reader.specs.declared.ddl.Read.{Read};
-ghost use Rattle.ddl_reader.specs.Reads.{Reads, Tells};
+ghost use Rattle.ddl_reader.specs.AsMeant.{IsAsMeant, Tells};
 ghost use Rattle.ddl_reader.specs.Tables.{Reading, data_of};
 ghost use Rattle.ddl_reader.specs.Readings.{reading};
 
@@ -46,7 +46,7 @@ fn bind(
 pub fn copy(alloc: Global, cat: &Catalog, start: u32, from: &mut Cursor) -> Result<Read, Refusal>
     requires { (k : CopyWords) × (n : Ident) × (null : Said) × (from.old ≡ words_of (copy_tree k n null)) }
     ensures { (k : CopyWords) (n : Ident) (null : Said) → from.old ≡ words_of (copy_tree k n null) →
-        Reads Read Reading reading result (data_of (table_named cat.now (bytes_of n)) (token_of n) null.value null.token start) }
+        IsAsMeant Read Reading reading result (data_of (table_named cat.now (bytes_of n)) (token_of n) null.value null.token start) }
 {
     from.skip(1);
     let title = name(alloc, from)?;

@@ -10,7 +10,7 @@ ghost use Rattle.expr_reader.specs.declared.value.Placed.{Placed};
 ghost use Rattle.ddl_reader.specs.declared.literals.CommonRead.{CommonRead};
 ghost use Rattle.sql_cursor.specs.Lists.{parts_of, bound_each};
 ghost use Rattle.ddl_reader.specs.Statistics.{common_words, commons_of, bounds_of};
-ghost use Rattle.ddl_reader.specs.Reads.{Reads, ends_common, ends_histogram, words_of_shares_left, words_of_bounds_left, placed, common_placed};
+ghost use Rattle.ddl_reader.specs.AsMeant.{IsAsMeant, ends_common, ends_histogram, words_of_shares_left, words_of_bounds_left, placed, common_placed};
 
 use crate::words::number;
 use expr_reader::{Placed, read_literal};
@@ -32,7 +32,7 @@ pub struct CommonRead {
 /// The next literal, for a column of type `t`.
 fn bound(alloc: Global, t: SqlType, from: &mut Cursor) -> Result<Placed, Refusal>
     requires { (l : Lit) × (rest : List Terminal) × (from.old ≡ words_of_lit l ++ rest) }
-    ensures read { (l : Lit) (rest : List Terminal) → from.old ≡ words_of_lit l ++ rest → Reads Placed Placed (λ x. x) result (placed t l) }
+    ensures read { (l : Lit) (rest : List Terminal) → from.old ≡ words_of_lit l ++ rest → IsAsMeant Placed Placed (λ x. x) result (placed t l) }
     ensures left { OnOk result ((l : Lit) (rest : List Terminal) → from.old ≡ words_of_lit l ++ rest → from.new ≡ rest) }
     ensures ahead { length from.new ≤ length from.old }
 {
@@ -42,7 +42,7 @@ fn bound(alloc: Global, t: SqlType, from: &mut Cursor) -> Result<Placed, Refusal
 /// The next common value and its share.
 fn share(alloc: Global, t: SqlType, from: &mut Cursor) -> Result<CommonRead, Refusal>
     requires { (s : Share) × (rest : List Terminal) × (from.old ≡ words_of_share s ++ rest) }
-    ensures read { (s : Share) (rest : List Terminal) → from.old ≡ words_of_share s ++ rest → Reads CommonRead CommonRead (λ x. x) result (common_placed t (common_words s)) }
+    ensures read { (s : Share) (rest : List Terminal) → from.old ≡ words_of_share s ++ rest → IsAsMeant CommonRead CommonRead (λ x. x) result (common_placed t (common_words s)) }
     ensures left { OnOk result ((s : Share) (rest : List Terminal) → from.old ≡ words_of_share s ++ rest → from.new ≡ rest) }
     ensures ahead { OnOk result (length from.new ≤ length from.old) }
 {
@@ -55,7 +55,7 @@ fn share(alloc: Global, t: SqlType, from: &mut Cursor) -> Result<CommonRead, Ref
 fn bounds(alloc: Global, t: SqlType, from: &mut Cursor) -> Result<Vec<Placed>, Refusal>
     requires { (l : Lit) × (ls : List (Mark × Lit)) × (m : Mark) × (rest : List Terminal) × (from.old ≡ words_of_bounds_left l ls m rest) }
     ensures read { (l : Lit) (ls : List (Mark × Lit)) (m : Mark) (rest : List Terminal) → from.old ≡ words_of_bounds_left l ls m rest →
-        Reads (Vec Placed Global) (List Placed) (λ v. v.items) result (bound_each (placed t) (l ∷ parts_of (λ x. x) ls)) }
+        IsAsMeant (Vec Placed Global) (List Placed) (λ v. v.items) result (bound_each (placed t) (l ∷ parts_of (λ x. x) ls)) }
     ensures left { OnOk result ((l : Lit) (ls : List (Mark × Lit)) (m : Mark) (rest : List Terminal) → from.old ≡ words_of_bounds_left l ls m rest → from.new ≡ t_mark Close m ∷ rest) }
 {
     let mut all = Vec::new(alloc);
@@ -72,7 +72,7 @@ fn bounds(alloc: Global, t: SqlType, from: &mut Cursor) -> Result<Vec<Placed>, R
 fn shares(alloc: Global, t: SqlType, from: &mut Cursor) -> Result<Vec<CommonRead>, Refusal>
     requires { (s : Share) × (ss : List (Mark × Share)) × (m : Mark) × (rest : List Terminal) × (from.old ≡ words_of_shares_left s ss m rest) }
     ensures read { (s : Share) (ss : List (Mark × Share)) (m : Mark) (rest : List Terminal) → from.old ≡ words_of_shares_left s ss m rest →
-        Reads (Vec CommonRead Global) (List CommonRead) (λ v. v.items) result (bound_each (common_placed t) (common_words s ∷ parts_of common_words ss)) }
+        IsAsMeant (Vec CommonRead Global) (List CommonRead) (λ v. v.items) result (bound_each (common_placed t) (common_words s ∷ parts_of common_words ss)) }
     ensures left { OnOk result ((s : Share) (ss : List (Mark × Share)) (m : Mark) (rest : List Terminal) → from.old ≡ words_of_shares_left s ss m rest → from.new ≡ t_mark Close m ∷ rest) }
 {
     let mut all = Vec::new(alloc);
@@ -89,7 +89,7 @@ fn shares(alloc: Global, t: SqlType, from: &mut Cursor) -> Result<Vec<CommonRead
 pub fn common(alloc: Global, t: SqlType, from: &mut Cursor) -> Result<Vec<CommonRead>, Refusal>
     requires { (c : Common) × (rest : List Terminal) × (ends_common rest ≡ true) × (from.old ≡ words_of_common c ++ rest) }
     ensures read { (c : Common) (rest : List Terminal) → ends_common rest ≡ true → from.old ≡ words_of_common c ++ rest →
-        Reads (Vec CommonRead Global) (List CommonRead) (λ v. v.items) result (bound_each (common_placed t) (commons_of c)) }
+        IsAsMeant (Vec CommonRead Global) (List CommonRead) (λ v. v.items) result (bound_each (common_placed t) (commons_of c)) }
     ensures left { OnOk result ((c : Common) (rest : List Terminal) → ends_common rest ≡ true → from.old ≡ words_of_common c ++ rest → from.new ≡ rest) }
 {
     if !from.takes_free(Free::Common) {
@@ -105,7 +105,7 @@ pub fn common(alloc: Global, t: SqlType, from: &mut Cursor) -> Result<Vec<Common
 pub fn histogram(alloc: Global, t: SqlType, from: &mut Cursor) -> Result<Vec<Placed>, Refusal>
     requires { (h : Histogram) × (rest : List Terminal) × (ends_histogram rest ≡ true) × (from.old ≡ words_of_histogram h ++ rest) }
     ensures { (h : Histogram) (rest : List Terminal) → ends_histogram rest ≡ true → from.old ≡ words_of_histogram h ++ rest →
-        Reads (Vec Placed Global) (List Placed) (λ v. v.items) result (bound_each (placed t) (bounds_of h)) }
+        IsAsMeant (Vec Placed Global) (List Placed) (λ v. v.items) result (bound_each (placed t) (bounds_of h)) }
 {
     if !from.takes_free(Free::Histogram) {
         return Ok(Vec::new(alloc));

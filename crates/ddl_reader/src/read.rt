@@ -11,7 +11,7 @@ ghost use Rattle.sql_grammar.specs.CopyLine.{IsDataStart};
 ghost use Rattle.sql_grammar.specs.Terminals.{Ident, Said, token_of};
 ghost use Rattle.catalog.specs.Tables.{table_named};
 ghost use Rattle.ddl_reader.specs.declared.ddl.Read.{Read};
-ghost use Rattle.ddl_reader.specs.Reads.{Reads};
+ghost use Rattle.ddl_reader.specs.AsMeant.{IsAsMeant};
 ghost use Rattle.ddl_reader.specs.Tables.{Reading, data_after};
 ghost use Rattle.ddl_reader.specs.Statements.{opens_ddl, begins_ddl, begins_index, IsMeaning, IsDdlRefusal};
 ghost use Rattle.ddl_reader.specs.Readings.{reading, ReadsAs, IsSyntaxRefusal};
@@ -51,7 +51,7 @@ fn data(
     requires all { from.old ≡ terminals text.now tokens.now }
     requires copy { (k : CopyWords) × (n : Ident) × (null : Said) × (from.old ≡ words_of (copy_tree k n null)) }
     ensures { (k : CopyWords) (n : Ident) (null : Said) → from.old ≡ words_of (copy_tree k n null) →
-        (start : Result ℕ Fault) × IsDataStart text.now k.stop.end start × Reads Read Reading reading result (data_after (table_named cat.now (bytes_of n)) (token_of n) null.value null.token start) }
+        (start : Result ℕ Fault) × IsDataStart text.now k.stop.end start × IsAsMeant Read Reading reading result (data_after (table_named cat.now (bytes_of n)) (token_of n) null.value null.token start) }
 {
     let start = data_start(text, last_end(text, tokens))?;
     copy(alloc, cat, start, from)

@@ -17,7 +17,7 @@ ghost use Rattle.catalog.specs.Indexes.{type_at};
 ghost use Rattle.catalog.specs.Tables.{table_named, column_named};
 ghost use Rattle.ddl_reader.specs.declared.ddl.Read.{Read};
 ghost use Rattle.ddl_reader.specs.Statistics.{known, sizes_reading, statistics_of, column_of_name, table_statistics, column_statistics_of, commons_of, bounds_of};
-ghost use Rattle.ddl_reader.specs.Reads.{Reads, Tells, SpellsSizes, SpellsColumn, ends_common, ends_histogram, words_of_sizes, words_of_column, words_of_lists, common_seen, starts_seen, value_seen, start_seen};
+ghost use Rattle.ddl_reader.specs.AsMeant.{IsAsMeant, Tells, SpellsSizes, SpellsColumn, ends_common, ends_histogram, words_of_sizes, words_of_column, words_of_lists, common_seen, starts_seen, value_seen, start_seen};
 ghost use Rattle.ddl_reader.specs.Tables.{Reading};
 ghost use Rattle.ddl_reader.specs.Readings.{reading, statistics_read};
 
@@ -152,7 +152,7 @@ fn made(
 fn lists(alloc: Global, t: SqlType, counted: Counted, from: &mut Cursor) -> Result<Read, Refusal>
     requires { (cs : Common) × (h : Histogram) × (rest : List Terminal) × (ends_common rest ≡ true) × (ends_histogram rest ≡ true) × (from.old ≡ words_of_lists cs h rest) }
     ensures { (d n : Said) (cs : Common) (h : Histogram) (rest : List Terminal) → counted.distinct ≡ numbered d → counted.nulls ≡ numbered n → ends_common rest ≡ true → ends_histogram rest ≡ true → from.old ≡ words_of_lists cs h rest →
-        Reads Read Reading reading result (statistics_of t counted.table counted.col d n (commons_of cs) (bounds_of h)) }
+        IsAsMeant Read Reading reading result (statistics_of t counted.table counted.col d n (commons_of cs) (bounds_of h)) }
 {
     let common = common(alloc, t, from)?;
     let bounds = histogram(alloc, t, from)?;
@@ -166,7 +166,7 @@ fn column(alloc: Global, cat: &Catalog, table: TableNo, from: &mut Cursor) -> Re
         (ends_common rest ≡ true) × (ends_histogram rest ≡ true) × (from.old ≡ words_of_column c a d b n cs h rest) }
     ensures { (c : Ident) (a : Terminal) (d : Said) (b : Terminal) (n : Said) (cs : Common) (h : Histogram) (rest : List Terminal) → ends_common rest ≡ true → ends_histogram rest ≡ true →
         from.old ≡ words_of_column c a d b n cs h rest →
-        Reads Read Reading reading result
+        IsAsMeant Read Reading reading result
         (next (column_of_name cat.now table c) (λ col. statistics_of (type_at (table_at cat.now table).columns col) table col d n (commons_of cs) (bounds_of h))) }
 {
     let title = name(alloc, from)?;
@@ -212,10 +212,10 @@ fn sizes(alloc: Global, table: TableNo, from: &mut Cursor) -> Result<Read, Refus
 pub fn statistics(alloc: Global, cat: &Catalog, from: &mut Cursor) -> Result<Read, Refusal>
     requires { SpellsSizes from.old ⊎ SpellsColumn from.old }
     ensures sizes { (t r : Ident) (rows : Said) (b : Terminal) (pages : Said) (rest : List Terminal) →
-        from.old ≡ t_name t ∷ words_of_sizes r rows b pages rest → Reads Read Reading reading result (table_statistics cat.now t rows pages) }
+        from.old ≡ t_name t ∷ words_of_sizes r rows b pages rest → IsAsMeant Read Reading reading result (table_statistics cat.now t rows pages) }
     ensures column { (t : Ident) (m : Mark) (c : Ident) (a : Terminal) (d : Said) (b : Terminal) (n : Said) (cs : Common) (h : Histogram) (rest : List Terminal) →
         ends_common rest ≡ true → ends_histogram rest ≡ true → from.old ≡ t_name t ∷ t_mark Dot m ∷ words_of_column c a d b n cs h rest →
-        Reads Read Reading reading result (column_statistics_of cat.now t c d n (commons_of cs) (bounds_of h)) }
+        IsAsMeant Read Reading reading result (column_statistics_of cat.now t c d n (commons_of cs) (bounds_of h)) }
 {
     let title = name(alloc, from)?;
     let table = table_of(cat, &title)?;

@@ -14,7 +14,7 @@ use Rattle.catalog.specs.Tables.{column_named}
 use Rattle.expr_reader.specs.Scope.{Visible, columns_of, of_name, the_one, among, look_up}
 use Rattle.expr_reader.specs.declared.found.Found.TheVariants.{NoTable}
 use Rattle.query_reader.specs.Scope.{columns_from}
-use Rattle.query_reader.proofs.RelationLemmas.{found_number}
+use Rattle.query_reader.proofs.RelationsLemmas.{found_number}
 use Rattle.query_reader.proofs.ScopeLemmas.{found_at, found-from, under-same, under-other}
 use Rattle.index_reader.specs.Visible.{Sight, visible_in}
 
@@ -34,7 +34,7 @@ visible-columns alias n k [] le = All-nil (λ v. IsTrue (is_column n v.column))
 visible-columns alias n k (x ∷ xs) le =
     All-cons (λ v. IsTrue (is_column n v.column)) _ (columns_from alias first_relation (k + 1) xs) (lt-ltb k n (omega (arith, le))) (visible-columns alias n (k + 1) xs (omega (arith, le)))
 
-number-found : (o : Option ℕ) → found_at first_relation o ≡ found_number (option_map (λ n. record { 0 = n }) o)
+number-found : (o : Option ℕ) → found_at first_relation o ≡ found_number first_relation (option_map (λ n. record { 0 = n }) o)
 number-found (Some k) = refl
 number-found None = refl
 
@@ -50,13 +50,13 @@ module _ (s : Sight) (c : Contents) (t : TableNo) (alias : List ℕ) (is : sight
   abbrev names : List (List ℕ)
   names = (table_at c t).names
 
-  one-column : (name : List ℕ) → the_one (of_name name (columns_from alias first_relation 0 names)) ≡ found_number (column_named c t name)
+  one-column : (name : List ℕ) → the_one (of_name name (columns_from alias first_relation 0 names)) ≡ found_number first_relation (column_named c t name)
   one-column name =
       found-from alias first_relation name 0 names lawful.distinct ∙
       (ap (found_at first_relation) (sym (position_from-zero (bytes_eq name) names)) ∙ number-found (position (bytes_eq name) names))
 
-  pub named-in : (name : List ℕ) → found_number (column_named c t name) ≡ look_up (visible_in s) None name
-  named-in name = subst (λ (x : Sight). found_number (column_named c t name) ≡ look_up (visible_in x) None name) is (sym (one-column name))
+  pub named-in : (name : List ℕ) → found_number first_relation (column_named c t name) ≡ look_up (visible_in s) None name
+  named-in name = subst (λ (x : Sight). found_number first_relation (column_named c t name) ≡ look_up (visible_in x) None name) is (sym (one-column name))
 
   pub named-under : (q name : List ℕ) → bytes_eq q alias ≡ true → look_up (visible_in s) None name ≡ look_up (visible_in s) (Some q) name
   named-under q name same =

@@ -1,5 +1,5 @@
--- Every column of a query that is bound is one of its relation's table.
-use Rattle.std.proofs.Common.{ℕ, ◌+◌, ◌≤◌, Bool, true, false, List, [], ◌∷◌, ◌++◌, length, filter, map, cond, All, Some, None, Result, Ok, Err, sym, subst, arith, append-nil}
+-- Every visible column is one of its relation's table, and so is every one of a query that is bound.
+use Rattle.std.proofs.Common.{ℕ, nat_lt, ◌+◌, ◌≤◌, Bool, true, false, drop, take, length-append, length-drop, append_assoc, ◌∙◌, get_or, List, [], ◌∷◌, ◌++◌, length, filter, map, cond, All, Some, None, Result, Ok, Err, sym, subst, arith}
 use Rattle.std.specs.Str.{bytes_eq}
 use Rattle.std.proofs.lemmas.List.Elements.{All-nil, All-cons}
 use Rattle.pg_base.specs.declared.numbers.TableNo.{TableNo}
@@ -7,7 +7,7 @@ use Rattle.pg_base.specs.declared.faults.Fault.{Fault}
 use Rattle.pg_expr.specs.declared.operand.ColRef.{ColRef}
 use Rattle.pg_expr.specs.Typed.{IsTyped}
 use Rattle.pg_base.specs.Names.{IsName}
-use Rattle.catalog.specs.Contents.{Contents, table_at, IsTable, IsLawfulTable}
+use Rattle.catalog.specs.Contents.{Contents, table_at, IsLawfulTable}
 use Rattle.catalog.specs.Range.{Range}
 use Rattle.sql_lex.specs.declared.tokens.Token.{Token}
 use Rattle.sql_query.specs.WellBound.{IsColumnOf, IsWellBound}
@@ -16,17 +16,16 @@ use Rattle.query_reader.specs.declared.written.Item.TheVariants.{Every, EveryOf,
 use Rattle.expr_reader.specs.Scope.{Scope, Visible, columns_of, under, of_name, the_one, among, look_up}
 use Rattle.expr_reader.specs.declared.found.Found.{Found}
 use Rattle.expr_reader.specs.declared.found.Found.TheVariants.{One, NoTable, NoColumn, Many}
-use Rattle.query_reader.specs.Scope.{columns_from, scope_of}
+use Rattle.query_reader.specs.From.{AreRelations}
+use Rattle.query_reader.specs.Scope.{Sight, columns_from, relations_from, scope_after, scope_of, visible_in}
 use Rattle.query_reader.specs.Binding.{query_with, alone, found_relation, past_limit, then_columns, item_columns, list_columns}
 use Rattle.expr_reader.specs.Conditions.{next, the_column}
 use Rattle.query_reader.specs.Named.{columns_in_all}
-use Rattle.query_reader.specs.Scope.{Sight}
-use Rattle.query_reader.proofs.RelationLemmas.{first_relation, sight}
 use Rattle.std.proofs.Common.{ap, ◌≡◌, ◌<◌, ⊎_elim, Contains}
 use Rattle.std.specs.Prelude.{slice_index_or}
 use Rattle.catalog.specs.Indexes.{no_column}
 use Rattle.pg_expr.specs.Cond.{Cond, conds_of}
-use Rattle.catalog.specs.Range.{IsRange, type_in}
+use Rattle.catalog.specs.Range.{type_in}
 use Rattle.eq_classes.specs.declared.order.OrderItem.{OrderItem}
 use Rattle.eq_classes.specs.Classes.{conjuncts_in}
 use Rattle.eq_classes.specs.Clauses.{Table}
@@ -34,7 +33,12 @@ use Rattle.eq_classes.specs.Holding.{IsTable as IsTableOf}
 use Rattle.eq_classes.proofs.HoldLemmas.{map_in}
 use Rattle.eq_classes.proofs.ListLemmas.{IsIn, all_at, all_from, contains_from_in, in_left, in_parts, in_right}
 use Rattle.path_cost.specs.Columns.{IsOver, is_column}
-use Rattle.query_reader.proofs.ConjunctLemmas.{all-passing, limits-kept, named-columns, names-only, order-columns}
+use Rattle.std.proofs.Math.Seq.{get_or-append_seam}
+use Rattle.std.proofs.lemmas.Bool.{cases_Bool, ltb-true}
+use Rattle.std.proofs.lemmas.List.{get_or_default, length-take-le, nil_from_length, take-append-drop}
+use Rattle.std.proofs.lemmas.List.Elements.{All-drop, All-tail}
+use Rattle.catalog.specs.Range.{relation_at}
+use Rattle.query_reader.proofs.ConjunctLemmas.{all-passing, kept-by, limits-kept, named-columns, names-only, order-columns}
 
 module _ (P : ColRef → Type 0) where
   -- P holds of each
@@ -110,94 +114,91 @@ module _ (P : ColRef → Type 0) where
   list-holds s [] h = tt
   list-holds s (i ∷ items) h = then-holds (item_columns s i) (list_columns s items) (item-holds s i h) (list-holds s items h)
 
--- one relation
-module _ (c : Contents) (t : TableNo) (alias : List ℕ) (lawful : IsLawfulTable (table_at c t)) where
-  abbrev only : Range
-  only = (t, alias) ∷ []
+-- the relation at a place of some relations
+there-at : (before rs : Range) (r : TableNo × List ℕ) (k : ℕ) → length before ≡ k → relation_at (before ++ r ∷ rs) (record { 0 = k }) ≡ r
+there-at before rs r k is = ap (λ n. slice_index_or (before ++ r ∷ rs) n (record { 0 = 0 }, [])) (sym is) ∙ get_or-append_seam before r rs (record { 0 = 0 }, [])
 
-  columns-in : (k : ℕ) (names : List (List ℕ)) → k + length names ≤ length (table_at c t).columns → HoldsIn (IsColumnOf c only) (columns_from alias first_relation k names)
-  columns-in k [] fits = tt
-  columns-in k (n ∷ names) fits = (record { relation = omega arith; column = omega (arith, fits) }, columns-in (k + 1) names (omega (arith, fits)))
+module _ (c : Contents) (range : Range) where
+  columns-in : (r : TableNo × List ℕ) (k j : ℕ) (names : List (List ℕ)) → k < length range → relation_at range (record { 0 = k }) ≡ r → j + length names ≤ length (table_at c r.0).columns →
+      HoldsIn (IsColumnOf c range) (columns_from r.1 (record { 0 = k }) j names)
+  columns-in r k j [] lt is fits = tt
+  columns-in r k j (n ∷ names) lt is fits =
+      (record { relation = lt; column = subst (λ (x : TableNo × List ℕ). j < length (table_at c x.0).columns) (sym is) (omega (arith, fits)) }, columns-in r k (j + 1) names lt is (omega (arith, fits)))
 
-  there : HoldsIn (IsColumnOf c only) (scope_of c only)
-  there = subst (HoldsIn (IsColumnOf c only)) (sym (append-nil _)) (columns-in 0 (table_at c t).names (omega (arith, lawful.width)))
+module _ (c : Contents) where
+  both-hold : (P : ColRef → Type 0) (xs ys : Scope) → HoldsIn P xs → HoldsIn P ys → HoldsIn P (xs ++ ys)
+  both-hold P [] ys h g = g
+  both-hold P (x ∷ xs) ys h g = (h.0, both-hold P xs ys h.1 g)
 
-  -- each visible column is one of its table
-  visible-columns : All (IsColumnOf c only) (columns_of (scope_of c only))
-  visible-columns = holds-all (IsColumnOf c only) (columns_of (scope_of c only)) (columns-hold (IsColumnOf c only) (scope_of c only) there)
+  relations-in : (range before rs : Range) (k : ℕ) → range ≡ before ++ rs → length before ≡ k → All (λ r. IsLawfulTable (table_at c r.0)) rs → HoldsIn (IsColumnOf c range) (relations_from c k rs)
+  relations-in range before [] k is at lawful = tt
+  relations-in range before ((t, alias) ∷ rs) k is at lawful =
+      let own : IsLawfulTable (table_at c t) = lawful 0 (t, alias) (omega arith) in
+      let within : k < length range = omega (arith, at, ap length is, length-append before ((t, alias) ∷ rs)) in
+      both-hold (IsColumnOf c range) (columns_from alias (record { 0 = k }) 0 (table_at c t).names) (relations_from c (k + 1) rs)
+      (columns-in c range (t, alias) k 0 (table_at c t).names within (ap (λ (x : Range). relation_at x (record { 0 = k })) is ∙ there-at before rs (t, alias) k at) (omega (arith, own.width)))
+      (relations-in range (before ++ (t, alias) ∷ []) rs (k + 1) (is ∙ sym (append_assoc before ((t, alias) ∷ []) rs)) (omega (arith, at, length-append before ((t, alias) ∷ []))) (All-tail (λ r. IsLawfulTable (table_at c r.0)) (t, alias) rs lawful))
 
-  ok-holds : (x : Result (List ColRef) Fault) (cs : List ColRef) → HoldsOk (IsColumnOf c only) x → x ≡ Ok cs → Holds (IsColumnOf c only) cs
-  ok-holds x cs h is = subst (HoldsOk (IsColumnOf c only)) is h
+  pub visible-hold : (range : Range) (first : ℕ) → All (λ r. IsLawfulTable (table_at c r.0)) range → HoldsIn (IsColumnOf c range) (scope_after c first range)
+  visible-hold range first lawful = ⊎_elim
+      (λ (h : nat_lt (length range) first ≡ true). let lt : length range < first = ltb-true (length range) first h in
+      subst (HoldsIn (IsColumnOf c range)) (sym (ap (relations_from c first) (nil_from_length (drop first range) (omega (arith, lt, length-drop first range))))) tt)
+      (λ (h : nat_lt (length range) first ≡ false). let le = kept-by (length range) first h in relations-in range (take first range) (drop first range) first (sym (take-append-drop first range)) (length-take-le first range le) (All-drop (λ r. IsLawfulTable (table_at c r.0)) first range lawful))
+      (cases_Bool (nat_lt (length range) first))
 
-  -- so is each that the list shows
-  pub shown-columns : (items : List Item) (cs : List ColRef) → list_columns (scope_of c only) items ≡ Ok cs → All (IsColumnOf c only) cs
-  shown-columns items cs is = holds-all (IsColumnOf c only) cs (ok-holds (list_columns (scope_of c only) items) cs (list-holds (IsColumnOf c only) (scope_of c only) items there) is)
+  -- each visible column is one of its relation's table
+  pub visible-columns : (range : Range) (first : ℕ) → All (λ r. IsLawfulTable (table_at c r.0)) range → All (IsColumnOf c range) (columns_of (scope_after c first range))
+  visible-columns range first lawful = holds-all (IsColumnOf c range) (columns_of (scope_after c first range)) (columns-hold (IsColumnOf c range) (scope_after c first range) (visible-hold range first lawful))
 
-  only-range : IsTable c t → IsName alias → IsRange c only
-  only-range table name = record {
-    some = omega arith;
-    few = omega arith;
-    tables = All-cons (λ (r : TableNo × List ℕ). IsTable c r.0) (t, alias) [] table (All-nil (λ (r : TableNo × List ℕ). IsTable c r.0));
-    names = All-cons (λ (r : TableNo × List ℕ). IsName r.1) (t, alias) [] name (All-nil (λ (r : TableNo × List ℕ). IsName r.1));
-    distinct = λ i j d below lt. absurd (omega (arith, below, lt));
-  }
+  pub all-seen : (range : Range) (first : ℕ) → All (λ r. IsLawfulTable (table_at c r.0)) range → All (λ (v : Visible). is_column c range v.column ≡ true) (scope_after c first range)
+  all-seen range first lawful =
+      let scope = scope_after c first range in
+      all_from (λ (v : Visible). is_column c range v.column ≡ true) scope
+      (λ v i. all_at (λ (x : ColRef). is_column c range x ≡ true) (columns_of scope) (all-passing c range (columns_of scope) (visible-columns range first lawful)) v.column (map_in (λ (w : Visible). w.column) scope v i))
 
-  -- the query of columns that the list shows, of conjuncts and of an order over the relation, with their classes
-  pub well-bound : IsTable c t → IsName alias → (items : List Item) (cs : List ColRef) (ws : List Cond) (order : List OrderItem) (classes : Table) → list_columns (scope_of c only) items ≡ Ok cs →
-      All (IsOver c only) ws → All (λ (i : OrderItem). is_column c only i.col ≡ true) order → past_limit ws ≡ None → IsTableOf (record { conjuncts = conjuncts_in ws; order = order; type_of = type_in c only }) classes →
-      IsWellBound c (query_with classes (record { range = only; select = cs; where_all = ws; order = order }))
-  well-bound table name items cs ws order classes shown over ordered kept is =
+-- columns that are seen of relations as they are lent
+module _ (s : Sight) (c : Contents) (range : Range) (first : ℕ) (is : record { contents = c; range = range; first = first } ≡ s) (are : AreRelations c range) where
+  pub seen-column : (x : ColRef) → IsIn x (columns_of (visible_in s)) → IsColumnOf c range x
+  seen-column x i = all_at (IsColumnOf c range) (columns_of (scope_after c first range)) (visible-columns c range first are.lawful) x (subst (λ (y : Sight). IsIn x (columns_of (visible_in y))) (sym is) i)
+
+  pub seen-relation : (x : ColRef) (d : TableNo × List ℕ) → x.rel.0 < length range → relation_at range x.rel ≡ get_or range x.rel.0 d
+  seen-relation x d lt = get_or_default range x.rel.0 (record { 0 = 0 }, []) d lt
+
+  pub seen-type : (x : ColRef) (d : TableNo × List ℕ) → x.rel.0 < length range → (slice_index_or (table_at c (get_or range x.rel.0 d).0).columns x.col.0 no_column).typed ≡ type_in s.contents s.range x
+  seen-type x d lt =
+      ap (λ (y : TableNo × List ℕ). (slice_index_or (table_at c y.0).columns x.col.0 no_column).typed) (sym (seen-relation x d lt)) ∙ ap (λ (y : Sight). type_in y.contents y.range x) is
+
+ok-holds : (P : ColRef → Type 0) (x : Result (List ColRef) Fault) (cs : List ColRef) → HoldsOk P x → x ≡ Ok cs → Holds P cs
+ok-holds P x cs h is = subst (HoldsOk P) is h
+
+module _ (c : Contents) (range : Range) (are : AreRelations c range) where
+  -- each column that the list shows is one of a relation's table
+  pub shown-columns : (items : List Item) (cs : List ColRef) → list_columns (scope_of c range) items ≡ Ok cs → All (IsColumnOf c range) cs
+  shown-columns items cs is =
+      holds-all (IsColumnOf c range) cs (ok-holds (IsColumnOf c range) (list_columns (scope_of c range) items) cs (list-holds (IsColumnOf c range) (scope_of c range) items (visible-hold c range 0 are.lawful)) is)
+
+  -- the query of columns that the list shows, of conjuncts and of an order over the relations, with their classes
+  pub well-bound : 0 < length range → (items : List Item) (cs : List ColRef) (ws : List Cond) (order : List OrderItem) (classes : Table) → list_columns (scope_of c range) items ≡ Ok cs →
+      All (IsOver c range) ws → All (λ (i : OrderItem). is_column c range i.col ≡ true) order → past_limit ws ≡ None → IsTableOf (record { conjuncts = conjuncts_in ws; order = order; type_of = type_in c range }) classes →
+      All (λ r. IsName r.1) range → IsWellBound c (query_with classes (record { range = range; select = cs; where_all = ws; order = order }))
+  well-bound some items cs ws order classes shown over ordered kept is names =
       let named = columns_in_all (conds_of ws) in
       let sorted = map (λ (i : OrderItem). i.col) order in
       let used = cs ++ (named ++ sorted) in
       record {
-        range = only-range table name;
-        used = all_from (IsColumnOf c only) used (λ x i. ⊎_elim
-            (λ (h : IsIn x cs). all_at (IsColumnOf c only) cs (shown-columns items cs shown) x h)
+        range = record { some = some; few = are.few; tables = are.tables; names = names; distinct = are.distinct };
+        used = all_from (IsColumnOf c range) used (λ x i. ⊎_elim
+            (λ (h : IsIn x cs). all_at (IsColumnOf c range) cs (shown-columns items cs shown) x h)
             (λ (h : IsIn x (named ++ sorted)). ⊎_elim
-            (λ (k : IsIn x named). named-columns c only ws over x k)
-            (λ (k : IsIn x sorted). order-columns c only order ordered x k)
+            (λ (k : IsIn x named). named-columns c range ws over x k)
+            (λ (k : IsIn x sorted). order-columns c range order ordered x k)
             (in_parts x named sorted h))
             (in_parts x cs (named ++ sorted) i));
         select = all_from (Contains used) cs (λ x i. contains_from_in used x (in_left x cs (named ++ sorted) i));
         order = all_from (λ (i : OrderItem). Contains used i.col) order
             (λ i j. contains_from_in used i.col (in_right i.col cs (named ++ sorted) (in_right i.col named sorted (map_in (λ (k : OrderItem). k.col) order i j))));
         conditions = names-only used ws (λ x i. in_right x cs (named ++ sorted) (in_left x named sorted i));
-        typed = all_from (IsTyped (type_in c only)) ws (λ w i. (all_at (IsOver c only) ws over w i).typed);
+        typed = all_from (IsTyped (type_in c range)) ws (λ w i. (all_at (IsOver c range) ws over w i).typed);
         limits = limits-kept ws kept;
         classes = is;
       }
-
-module _ (s : Sight) (c : Contents) (t : TableNo) (alias : List ℕ) (is : sight c t alias ≡ s) (lawful : IsLawfulTable (table_at c t)) where
-  at-first : (x : ColRef) → IsColumnOf c ((t, alias) ∷ []) x → (x.rel.0 ≡ 0) × (x.col.0 < length (table_at c t).columns)
-  at-first x h =
-      let first : x.rel.0 ≡ 0 = omega (arith, h.relation) in
-      (first, subst (λ (k : ℕ). x.col.0 < length (table_at c (slice_index_or {A = TableNo × List ℕ} ((t, alias) ∷ []) k (record { 0 = 0 }, [])).0).columns) first h.column)
-
-  -- a column that is seen is one of the table
-  pub seen-column : (x : ColRef) → IsIn x (columns_of (scope_of s.contents s.range)) → (x.rel.0 ≡ 0) × (x.col.0 < length (table_at c t).columns)
-  seen-column = subst (λ (y : Sight). (x : ColRef) → IsIn x (columns_of (scope_of y.contents y.range)) → (x.rel.0 ≡ 0) × (x.col.0 < length (table_at c t).columns)) is
-      (λ x i. at-first x (all_at (IsColumnOf c ((t, alias) ∷ [])) (columns_of (scope_of c ((t, alias) ∷ []))) (visible-columns c t alias lawful) x i))
-
-  -- and its type is the table's
-  pub seen-type : (x : ColRef) → x.rel.0 ≡ 0 → (slice_index_or (table_at c t).columns x.col.0 no_column).typed ≡ type_in s.contents s.range x
-  seen-type x first = subst (λ (y : Sight). (slice_index_or (table_at c t).columns x.col.0 no_column).typed ≡ type_in y.contents y.range x) is
-      (ap (λ (k : ℕ). (slice_index_or (table_at c (slice_index_or {A = TableNo × List ℕ} ((t, alias) ∷ []) k (record { 0 = 0 }, [])).0).columns x.col.0 no_column).typed) (sym first))
-
--- each visible column of one relation is a column of the relations
-pub all-seen : (c : Contents) (t : TableNo) (alias : List ℕ) → IsLawfulTable (table_at c t) → All (λ (v : Visible). is_column c ((t, alias) ∷ []) v.column ≡ true) (scope_of c ((t, alias) ∷ []))
-all-seen c t alias lawful =
-    let scope = scope_of c ((t, alias) ∷ []) in
-    all_from (λ (v : Visible). is_column c ((t, alias) ∷ []) v.column ≡ true) scope
-    (λ v i. all_at (λ (x : ColRef). is_column c ((t, alias) ∷ []) x ≡ true) (columns_of scope) (all-passing c ((t, alias) ∷ []) (columns_of scope) (visible-columns c t alias lawful)) v.column (map_in (λ (w : Visible). w.column) scope v i))
-
-pub well-bound-in : (s : Sight) (c : Contents) (t : TableNo) (alias : List ℕ) → s ≡ sight c t alias → IsLawfulTable (table_at c t) → IsTable c t → IsName alias →
-    (items : List Item) (cs : List ColRef) (ws : List Cond) (order : List OrderItem) (classes : Table) → list_columns (scope_of s.contents s.range) items ≡ Ok cs → All (IsOver s.contents s.range) ws →
-    All (λ (i : OrderItem). is_column s.contents s.range i.col ≡ true) order → past_limit ws ≡ None →
-    IsTableOf (record { conjuncts = conjuncts_in ws; order = order; type_of = type_in s.contents s.range }) classes →
-    IsWellBound c (query_with classes (record { range = (t, alias) ∷ []; select = cs; where_all = ws; order = order }))
-well-bound-in s c t alias is lawful table name items cs ws order classes =
-    let P : Sight → Type 0 = λ x. list_columns (scope_of x.contents x.range) items ≡ Ok cs → All (IsOver x.contents x.range) ws → All (λ (i : OrderItem). is_column x.contents x.range i.col ≡ true) order → past_limit ws ≡ None →
-    IsTableOf (record { conjuncts = conjuncts_in ws; order = order; type_of = type_in x.contents x.range }) classes →
-    IsWellBound c (query_with classes (record { range = (t, alias) ∷ []; select = cs; where_all = ws; order = order })) in
-    subst P (sym is) (well-bound c t alias lawful table name items cs ws order classes)

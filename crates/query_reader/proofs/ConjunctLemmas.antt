@@ -204,7 +204,7 @@ order-near c range items few h = all_from (λ (i : OrderItem). i.col.rel.0 < 16)
     (λ i j. let at = is-column-of c range i.col (all_at (λ (k : OrderItem). is_column c range k.col ≡ true) items h i j) in omega (arith, few, at.relation))
 
 -- conjuncts that are past no limit keep the limits
-kept-by : (a b : ℕ) → nat_lt a b ≡ false → b ≤ a
+pub kept-by : (a b : ℕ) → nat_lt a b ≡ false → b ≤ a
 kept-by a b h = grind (arith, common_steps)
 
 pub limits-kept : (ws : List Cond) → past_limit ws ≡ None → IsWithinLimits ws

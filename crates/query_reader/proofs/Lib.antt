@@ -2,11 +2,15 @@ pub mod PartLemmas
 pub mod ScopeLemmas
 pub mod GrammarLemmas
 pub mod ReadingLemmas
-pub mod RelationLemmas
+pub mod RelationsLemmas
 pub mod AddLemmas
 pub mod BoundLemmas
 pub mod ConjunctLemmas
 pub mod OrderLemmas
+pub mod JoinLemmas
+pub mod SourceLemmas
+pub mod FromLemmas
+pub mod GrowLemmas
 pub mod WhereLemmas
 pub mod QueryLemmas
 pub mod AliasLemmas

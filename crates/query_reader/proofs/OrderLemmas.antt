@@ -1,5 +1,5 @@
 -- ORDER BY: what its words tell, and what its items mean.
-use Rattle.std.proofs.Common.{◌≡◌, ◌+◌, ℕ, Bool, true, false, List, [], ◌∷◌, ◌++◌, All, IsErrAnd, drop, filter, cond, Some, None, Result, Ok, Err, refl, sym, ap, subst, ◌∙◌, append-nil, append_assoc}
+use Rattle.std.proofs.Common.{◌≡◌, ℕ, Bool, true, List, [], ◌∷◌, ◌++◌, All, IsErrAnd, drop, Some, None, Result, Ok, Err, refl, sym, ap, subst, ◌∙◌, append-nil, append_assoc}
 use Rattle.std.specs.List.{list_any}
 use Rattle.std.specs.Str.{bytes_eq}
 use Rattle.std.proofs.lemmas.List.Elements.{All-filter, All-nil}
@@ -13,19 +13,20 @@ use Rattle.sql_grammar.specs.declared.class.Symbol.TheVariants.{Comma, Dot}
 use Rattle.sql_grammar.specs.declared.class.Word.TheVariants.{Asc, Desc, Order}
 use Rattle.sql_grammar.specs.declared.class.Free.TheVariants.{Nulls}
 use Rattle.sql_grammar.specs.Faults.{bytes_of}
-use Rattle.sql_grammar.specs.Terminals.{Terminal, free, token_of, t_key, t_mark, t_name, t_semicolon, t_end}
+use Rattle.sql_grammar.specs.Terminals.{Terminal, Ident, free, token_of, t_key, t_mark, t_name, t_semicolon, t_end}
 use Rattle.sql_grammar.specs.Syntax.{Mark, Col, bare, qualified, Direction, no_direction, ascending, descending, NullsEnd, no_nulls_end, nulls_first, nulls_last, Ordering, ordering, OrderBy, no_order, order_by}
 use Rattle.sql_grammar.specs.Unique.{ends_operand}
 use Rattle.sql_grammar.specs.Words.{words_of_col, words_of_direction, words_of_nulls_end, words_of_ordering, words_of_orderings, words_of_order}
 use Rattle.sql_cursor.specs.Lists.{parts_of, bound_each}
-use Rattle.sql_cursor.specs.Reading.{BeginsNot}
+use Rattle.sql_cursor.specs.declared.cursor.Spelled.{Spelled}
+use Rattle.sql_cursor.specs.Reading.{BeginsName, BeginsNot, spelled}
 use Rattle.sql_cursor.specs.Sorts.{is_descending, has_nulls_first, ends_direction, ends_nulls_end}
 use Rattle.sql_cursor.proofs.EachLemmas.{bound-err, bound-ok, each-holds}
 use Rattle.expr_reader.specs.declared.found.Found.{Found}
-use Rattle.expr_reader.specs.declared.found.Found.TheVariants.{One, Many}
-use Rattle.expr_reader.specs.Conditions.{next, the_column, column_of}
+use Rattle.expr_reader.specs.declared.found.Found.TheVariants.{One}
+use Rattle.expr_reader.specs.Conditions.{next, the_column}
 use Rattle.expr_reader.specs.Reads.{Reads}
-use Rattle.expr_reader.specs.Scope.{Visible, Scope, of_name, the_one, look_up}
+use Rattle.expr_reader.specs.Scope.{Visible, Scope, of_name, look_up}
 use Rattle.expr_reader.proofs.OperandLemmas.{is-found}
 use Rattle.expr_reader.proofs.ReadsLemmas.{read-ok, read-refused, was-read}
 use Rattle.expr_reader.proofs.ScopeLemmas.{found-all, the-one-all}
@@ -70,44 +71,76 @@ column-words (ordering c d z) rest old ends is =
     let sort = words_of_direction d ++ words_of_nulls_end z in
     (c, sort ++ rest, ends-column d z rest ends, is ∙ append_assoc (words_of_col c) sort rest)
 
--- where a name is that of one visible column at most, the select list has no say
-sought-same : (test : Visible → Bool) (all : Scope) → ¬ (the_one all ≡ Many) → first_among (filter test all) (the_one all) ≡ the_one all
-sought-same test [] once = refl
-sought-same test (v ∷ []) once = elim (test v) as (λ b. first_among (cond b (v ∷ []) []) (One v.column) ≡ One v.column) [ true ↦ refl | false ↦ refl ]
-sought-same test (v ∷ w ∷ vs) once = absurd (once refl)
+-- the column of a bare name of an order
+pub bare-ordering : (scope : Scope) (select : List ColRef) (c : Col) (n : Ident) (s : Spelled) (f : Found) (bytes : List ℕ) → c ≡ bare n → s ≡ spelled n →
+    f ≡ first_among (shown_of_name scope select bytes) (look_up scope None bytes) → bytes ≡ s.bytes → the_column f s.token s.token ≡ order_column scope select c
+bare-ordering scope select c n s f bytes is says found value =
+    let now : f ≡ first_among (shown_of_name scope select (bytes_of n)) (look_up scope None (bytes_of n)) =
+    found ∙ ap (λ b. first_among (shown_of_name scope select b) (look_up scope None b)) (value ∙ ap (λ (x : Spelled). x.bytes) says) in
+    ap (λ (x : Spelled). the_column f x.token x.token) says ∙ (ap (λ (x : Found). the_column x (token_of n) (token_of n)) now ∙ ap (order_column scope select) (sym is))
 
-module _ (scope : Scope) (select : List ColRef) (once : (name : List ℕ) → ¬ (the_one (of_name name scope) ≡ Many)) where
-  column-same : (c : Col) → column_of scope c ≡ order_column scope select c
-  column-same (bare n) = sym (ap (λ f. the_column f (token_of n) (token_of n)) (sought-same (λ v. list_any (is_column v.column) select) (of_name (bytes_of n) scope) (once (bytes_of n))))
-  column-same (qualified q d n) = refl
+-- a qualified one
+pub record QualifiedCol (c : Col) (rest : List Terminal) (s : Spelled) (left : List Terminal) : Type 0 where
+  pub qualifier : Ident
+  pub dot : Token
+  pub name : Ident
+  pub col : c ≡ qualified qualifier dot name
+  pub says : s ≡ spelled qualifier
+  pub words : left ≡ t_name name ∷ rest
 
+pub qualified-col : (c : Col) (rest old mid left : List Terminal) (s : Spelled) (t : Token) → ends_operand rest ≡ true → BeginsName s old mid → mid ≡ t_mark Dot t ∷ left → old ≡ words_of_col c ++ rest → QualifiedCol c rest s left
+qualified-col (bare n) rest old mid left s t ends (m, says, first) took is =
+    let same : t_name m ∷ mid ≡ t_name n ∷ rest = sym first ∙ is in
+    let so : t_mark Dot t ∷ left ≡ rest = sym took ∙ cc (same) in
+    let wrong = ap ends_operand so ∙ ends in absurd (cc (wrong))
+qualified-col (qualified q d n) rest old mid left s t ends (m, says, first) took is =
+    let same : t_name m ∷ mid ≡ t_name q ∷ t_mark Dot d ∷ t_name n ∷ rest = sym first ∙ is in
+    let name : m ≡ q = cc (same) in
+    record { qualifier = q; dot = d; name = n; col = refl; says = says ∙ ap spelled name; words = cc (same, took) }
+
+pub qualified-ordering : (scope : Scope) (select : List ColRef) (c : Col) (q n : Ident) (d : Token) (s u : Spelled) (f : Found) (alias bytes : List ℕ) → c ≡ qualified q d n → s ≡ spelled q → u ≡ spelled n →
+    f ≡ look_up scope (Some alias) bytes → alias ≡ s.bytes → bytes ≡ u.bytes → the_column f s.token u.token ≡ order_column scope select c
+qualified-ordering scope select c q n d s u f alias bytes is says told found under value =
+    let now : f ≡ look_up scope (Some (bytes_of q)) (bytes_of n) =
+    found ∙ (ap (λ a. look_up scope (Some a) bytes) (under ∙ ap (λ (x : Spelled). x.bytes) says) ∙ ap (look_up scope (Some (bytes_of q))) (value ∙ ap (λ (x : Spelled). x.bytes) told)) in
+    ap (λ (x : Spelled). the_column f x.token u.token) says ∙ (ap (λ (x : Spelled). the_column f (token_of q) x.token) told ∙
+    (ap (λ (x : Found). the_column x (token_of q) (token_of n)) now ∙ ap (order_column scope select) (sym is)))
+
+-- the name behind the dot
+pub second-name : (s : Spelled) (old left : List Terminal) (n : Ident) (rest : List Terminal) → BeginsName s old left → old ≡ t_name n ∷ rest → (s ≡ spelled n) × (left ≡ rest)
+second-name s old left n rest (m, says, first) is =
+    let same : t_name m ∷ left ≡ t_name n ∷ rest = sym first ∙ is in
+    let name : m ≡ n = cc (same) in
+    (says ∙ ap spelled name, cc (same))
+
+module _ (scope : Scope) (select : List ColRef) where
   -- an item whose column is refused
   pub item-stopped : (o : Ordering) (rest old mid new : List Terminal) (e : Refusal) (r : Result OrderItem Refusal) → ends_ordering rest ≡ true → old ≡ words_of_ordering o ++ rest →
-      ((c : Col) (more : List Terminal) → ends_operand more ≡ true → old ≡ words_of_col c ++ more → Reads {T = ColRef} {A = ColRef} (λ x. x) (column_of scope c) more (Err e) mid) → IsErrAnd r (λ g. g ≡ e) →
+      ((c : Col) (more : List Terminal) → ends_operand more ≡ true → old ≡ words_of_col c ++ more → Reads {T = ColRef} {A = ColRef} (λ x. x) (order_column scope select c) more (Err e) mid) → IsErrAnd r (λ g. g ≡ e) →
       Reads (λ i. i) (order_item scope select o) rest r new
   item-stopped (ordering c d z) rest old mid new e r ends is told stop =
       let sort = words_of_direction d ++ words_of_nulls_end z in
-      read-refused ColRef OrderItem ColRef OrderItem (λ x. x) (λ i. i) (column_of scope c) _ e r _ _ _ _
+      read-refused ColRef OrderItem ColRef OrderItem (λ x. x) (λ i. i) (order_column scope select c) _ e r _ _ _ _
       (told c (sort ++ rest) (ends-column d z rest ends) (is ∙ append_assoc (words_of_col c) sort rest))
-      (λ f wrong. ap (λ m. next m (λ x. Ok (record { col = x; descending = is_descending d; nulls_first = has_nulls_first (is_descending d) z }))) (sym (column-same c) ∙ wrong)) stop
+      (λ f wrong. ap (λ m. next m (λ x. Ok (record { col = x; descending = is_descending d; nulls_first = has_nulls_first (is_descending d) z }))) wrong) stop
 
   item-as : (x : ColRef) (down first wanted firsts : Bool) → down ≡ wanted → first ≡ firsts → ◌≡◌ {A = OrderItem} (record { col = x; descending = down; nulls_first = first }) (record { col = x; descending = wanted; nulls_first = firsts })
   item-as x down first wanted firsts d f = rw (d, f) refl
 
   -- an item that is read
   pub item-read : (o : Ordering) (rest old mid last new : List Terminal) (x : ColRef) (down first : Bool) → ends_ordering rest ≡ true → old ≡ words_of_ordering o ++ rest →
-      ((c : Col) (more : List Terminal) → ends_operand more ≡ true → old ≡ words_of_col c ++ more → Reads (λ x. x) (column_of scope c) more (Ok x) mid) →
+      ((c : Col) (more : List Terminal) → ends_operand more ≡ true → old ≡ words_of_col c ++ more → Reads (λ x. x) (order_column scope select c) more (Ok x) mid) →
       ((d : Direction) (more : List Terminal) → ends_direction more ≡ true → mid ≡ words_of_direction d ++ more → (down ≡ is_descending d) × (last ≡ more)) →
       ((z : NullsEnd) (more : List Terminal) → ends_nulls_end more ≡ true → last ≡ words_of_nulls_end z ++ more → (first ≡ has_nulls_first down z) × (new ≡ more)) →
       Reads (λ i. i) (order_item scope select o) rest (Ok (record { col = x; descending = down; nulls_first = first })) new
   item-read (ordering c d z) rest old mid last new x down first ends is column direction nulls =
       let sort = words_of_direction d ++ words_of_nulls_end z in
-      let told = was-read ColRef ColRef (λ y. y) (column_of scope c) x (sort ++ rest) mid (column c (sort ++ rest) (ends-column d z rest ends) (is ∙ append_assoc (words_of_col c) sort rest)) in
+      let told = was-read ColRef ColRef (λ y. y) (order_column scope select c) x (sort ++ rest) mid (column c (sort ++ rest) (ends-column d z rest ends) (is ∙ append_assoc (words_of_col c) sort rest)) in
       let (at, left) = direction d (words_of_nulls_end z ++ rest) (ends-direction z rest ends) (told.words ∙ append_assoc (words_of_direction d) (words_of_nulls_end z) rest) in
       let (end, done) = nulls z rest (ends-nulls rest ends) left in
       read-ok OrderItem OrderItem (λ i. i) _ _ rest new
       (ap (λ (i : OrderItem). Ok i) (item-as x down first (is_descending d) (has_nulls_first (is_descending d) z) at (end ∙ ap (λ b. has_nulls_first b z) at))
-      ∙ sym (ap (λ m. next m (λ x. Ok (record { col = x; descending = is_descending d; nulls_first = has_nulls_first (is_descending d) z }))) (sym (column-same c) ∙ told.meant))) done
+      ∙ sym (ap (λ m. next m (λ x. Ok (record { col = x; descending = is_descending d; nulls_first = has_nulls_first (is_descending d) z }))) told.meant)) done
 
 module _ (bind : Ordering → Result OrderItem Fault) where
   -- items read so far, and those still to come

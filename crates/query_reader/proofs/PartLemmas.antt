@@ -124,7 +124,3 @@ pub alias-read : {E : Type 0} (r : Result (Option Spelled) E) (Q : E → Type 0)
 alias-read (Ok found) Q first old new left absent given = λ a rest ends is.
     alias-found a rest old new found ends (λ more (t, e). absent more (t, sym left ∙ e)) given (left ∙ is)
 alias-read (Err e) Q first old new left absent given = tt
-
--- what is left after FROM
-pub same-left : (t f : Token) (left rest : List Terminal) → t_key From t ∷ left ≡ t_key From f ∷ rest → left ≡ rest
-same-left t f left rest is = cc

@@ -1,10 +1,9 @@
 -- The query that is put together.
-use Rattle.std.proofs.Common.{◌≡◌, ℕ, List, [], ◌∷◌, ◌++◌, IsErrAnd, Option, Some, None, Result, Ok, Err, refl, sym, ap, subst, ◌∙◌}
+use Rattle.std.proofs.Common.{◌≡◌, List, map, ◌++◌, IsErrAnd, Option, Some, None, Result, Ok, Err, refl, sym, ap, subst, ◌∙◌}
 use Rattle.pg_base.specs.declared.faults.Code.TheVariants.{S15}
 use Rattle.pg_base.specs.declared.faults.Fault.{Fault}
 use Rattle.pg_base.specs.declared.faults.Refusal.{Refusal}
 use Rattle.pg_base.specs.declared.faults.Refusal.TheVariants as refusal
-use Rattle.pg_base.specs.declared.numbers.TableNo.{TableNo}
 use Rattle.pg_base.specs.declared.faults.Limit.{Limit}
 use Rattle.pg_expr.specs.declared.operand.ColRef.{ColRef}
 use Rattle.pg_expr.specs.Cond.{Cond}
@@ -19,11 +18,16 @@ use Rattle.sql_grammar.specs.Terminals.{Terminal}
 use Rattle.expr_reader.specs.Reads.{Reads}
 use Rattle.expr_reader.proofs.StepLemmas.{step, stop}
 use Rattle.sql_query.specs.Queries.{Query}
+use Rattle.sql_query.specs.WellBound.{IsWellBound}
+use Rattle.expr_reader.specs.Conditions.{next}
 use Rattle.query_reader.specs.declared.written.Item.{Item}
 use Rattle.query_reader.specs.Order.{order_items}
-use Rattle.query_reader.specs.Scope.{scope_of, Sight}
+use Rattle.query_reader.specs.Scope.{scope_of, visible_in, Sight}
+use Rattle.query_reader.specs.From.{Joined}
+use Rattle.pg_expr.specs.declared.expr.Expr.{Expr as ExprRead}
+use Rattle.pg_expr.specs.View.{cond}
+use Rattle.std.proofs.lemmas.List.{map-append}
 use Rattle.query_reader.specs.Select.{IsReadAs}
-use Rattle.query_reader.proofs.RelationLemmas.{sight}
 use Rattle.query_reader.specs.Adds.{AddsAll}
 use Rattle.query_reader.specs.Binding.{Bound, bound_over, conjuncts_written, limited, list_columns, named_in, past_limit, query_with}
 use Rattle.query_reader.specs.Conveys.{Conveys}
@@ -46,12 +50,12 @@ limit-by Says start (Some l) ws t h = absurd h
 pub within : {T : Type 0} (Says : List Cond → T → Type 0) (start : Token) (ws : List Cond) (t : T) → Conveys Says (limited start (past_limit ws) ws) (Ok t) → (past_limit ws ≡ None) × Says ws t
 within Says start ws t h = limit-by Says start (past_limit ws) ws t h
 
-pub same-query : (range other : Range) (classes : Table) (select columns used : List ColRef) (order items : List OrderItem) (ws : List Cond) → range ≡ other → select ≡ columns → order ≡ items →
-    used ≡ named_in columns ws items →
-    query_with classes (record { range = other; select = columns; where_all = ws; order = items }) ≡ record { range = range; classes = classes; select = select; order = order; used = used; where_all = ws; window = None }
-same-query range other classes select columns used order items ws r s o u =
-    let P : Range → List ColRef → List OrderItem → List ColRef → Query = λ a b d e. record { range = a; classes = classes; select = b; order = d; used = e; where_all = ws; window = None } in
-    sym (ap (λ a. P a select order used) r ∙ ap (λ b. P other b order used) s ∙ ap (λ d. P other columns d used) o ∙ ap (λ e. P other columns items e) u)
+pub same-query : (range other : Range) (classes : Table) (select columns used : List ColRef) (order items : List OrderItem) (ws all : List Cond) → range ≡ other → select ≡ columns → order ≡ items →
+    used ≡ named_in columns all items → ws ≡ all →
+    query_with classes (record { range = other; select = columns; where_all = all; order = items }) ≡ record { range = range; classes = classes; select = select; order = order; used = used; where_all = ws; window = None }
+same-query range other classes select columns used order items ws all r s o u w =
+    let P : Range → List ColRef → List OrderItem → List ColRef → List Cond → Query = λ a b d e g. record { range = a; classes = classes; select = b; order = d; used = e; where_all = g; window = None } in
+    sym (ap (λ a. P a select order used ws) r ∙ ap (λ b. P other b order used ws) s ∙ ap (λ d. P other columns d used ws) o ∙ ap (λ e. P other columns items e ws) u ∙ ap (λ g. P other columns items (named_in columns all items) g) w)
 
 -- a limit that is passed is told of whatever is within it
 limited-any : {A B : Type 0} (start : Token) (o : Option Limit) (x : A) (z : B) (f : Fault) → limited start o x ≡ Err f → limited start o z ≡ Err f
@@ -94,40 +98,93 @@ pub stopped-short : (m : Result Bound Fault) (r : Result Query Refusal) → IsEr
 stopped-short m r told = stopped m refusal.Memory r (no-fault m) told
 
 -- what is meant over the relations, step by step
-module _ (s : Sight) (start : Token) (items : List Item) (w : Where) (y : OrderBy) where
+module _ (c : Contents) (range : Range) (joined : List Cond) (start : Token) (items : List Item) (w : Where) (y : OrderBy) where
   abbrev pub meant : Result Bound Fault
-  meant = bound_over s.contents start items w y s.range
+  meant = bound_over start items w y (record { contents = c; range = range; conjuncts = joined })
 
-  module _ (ws : List Cond) (conjuncts : conjuncts_written (scope_of s.contents s.range) (type_in s.contents s.range) w ≡ Ok ws) where
-    pub columns-wrong : (f : Fault) → list_columns (scope_of s.contents s.range) items ≡ Err f → meant ≡ Err f
-    columns-wrong f wrong = step (conjuncts_written (scope_of s.contents s.range) (type_in s.contents s.range) w) _ ws conjuncts ∙ stop (list_columns (scope_of s.contents s.range) items) _ f wrong
+  conjuncts-stop : (f : Fault) → conjuncts_written (scope_of c range) (type_in c range) w ≡ Err f → meant ≡ Err f
+  conjuncts-stop f wrong = stop (conjuncts_written (scope_of c range) (type_in c range) w) _ f wrong
 
-    module _ (cs : List ColRef) (columns : list_columns (scope_of s.contents s.range) items ≡ Ok cs) where
-      pub order-wrong : (f : Fault) → order_items (scope_of s.contents s.range) cs y ≡ Err f → meant ≡ Err f
-      order-wrong f wrong =
-          step (conjuncts_written (scope_of s.contents s.range) (type_in s.contents s.range) w) _ ws conjuncts ∙
-          (step (list_columns (scope_of s.contents s.range) items) _ cs columns ∙ stop (order_items (scope_of s.contents s.range) cs y) _ f wrong)
+  module _ (ws : List Cond) (conjuncts : conjuncts_written (scope_of c range) (type_in c range) w ≡ Ok ws) where
+    columns-stop : (f : Fault) → list_columns (scope_of c range) items ≡ Err f → meant ≡ Err f
+    columns-stop f wrong = step (conjuncts_written (scope_of c range) (type_in c range) w) _ ws conjuncts ∙ stop (list_columns (scope_of c range) items) _ f wrong
 
-      module _ (os : List OrderItem) (ordered : order_items (scope_of s.contents s.range) cs y ≡ Ok os) where
-        abbrev all : Bound
-        all = record { range = s.range; select = cs; where_all = ws; order = os }
+    module _ (cs : List ColRef) (columns : list_columns (scope_of c range) items ≡ Ok cs) where
+      order-stop : (f : Fault) → order_items (scope_of c range) cs y ≡ Err f → meant ≡ Err f
+      order-stop f wrong =
+          step (conjuncts_written (scope_of c range) (type_in c range) w) _ ws conjuncts ∙
+          (step (list_columns (scope_of c range) items) _ cs columns ∙ stop (order_items (scope_of c range) cs y) _ f wrong)
 
-        up-to-limits : meant ≡ limited start (past_limit ws) all
+      module _ (os : List OrderItem) (ordered : order_items (scope_of c range) cs y ≡ Ok os) where
+        abbrev pub all : Bound
+        all = record { range = range; select = cs; where_all = joined ++ ws; order = os }
+
+        up-to-limits : meant ≡ limited start (past_limit (joined ++ ws)) all
         up-to-limits =
-            step (conjuncts_written (scope_of s.contents s.range) (type_in s.contents s.range) w) _ ws conjuncts ∙
-            (step (list_columns (scope_of s.contents s.range) items) _ cs columns ∙ step (order_items (scope_of s.contents s.range) cs y) _ os ordered)
+            step (conjuncts_written (scope_of c range) (type_in c range) w) _ ws conjuncts ∙
+            (step (list_columns (scope_of c range) items) _ cs columns ∙ step (order_items (scope_of c range) cs y) _ os ordered)
 
-        pub limit-wrong : (f : Fault) → limited start (past_limit ws) ws ≡ Err f → meant ≡ Err f
-        limit-wrong f wrong = up-to-limits ∙ limited-any start (past_limit ws) ws all f wrong
+        limit-stop : (f : Fault) → limited start (past_limit (joined ++ ws)) (joined ++ ws) ≡ Err f → meant ≡ Err f
+        limit-stop f wrong = up-to-limits ∙ limited-any start (past_limit (joined ++ ws)) (joined ++ ws) all f wrong
 
-        pub all-meant : past_limit ws ≡ None → meant ≡ Ok all
-        all-meant kept = up-to-limits ∙ ap (λ o. limited start o all) kept
+        all-kept : past_limit (joined ++ ws) ≡ None → meant ≡ Ok all
+        all-kept kept = up-to-limits ∙ ap (λ o. limited start o all) kept
 
--- over the one relation
-pub at-sight : (s : Sight) (c : Contents) (t : TableNo) (alias : List ℕ) (start : Token) (items : List Item) (w : Where) (y : OrderBy) (r : Result Query Refusal) → s ≡ sight c t alias →
-    IsReadAs (bound_over s.contents start items w y s.range) r → IsReadAs (bound_over c start items w y ((t, alias) ∷ [])) r
-at-sight s c t alias start items w y r is told = subst (λ (x : Sight). IsReadAs (bound_over x.contents start items w y x.range) r) is told
+  -- the same where all relations are in sight
+  module _ (s : Sight) (look : s ≡ record { contents = c; range = range; first = 0 }) where
+    pub conjuncts-wrong : (f : Fault) → conjuncts_written (visible_in s) (type_in s.contents s.range) w ≡ Err f → meant ≡ Err f
+    conjuncts-wrong f wrong = conjuncts-stop f (subst (λ (x : Sight). conjuncts_written (visible_in x) (type_in x.contents x.range) w ≡ Err f) look wrong)
+
+    module _ (ws : List Cond) (conjuncts : conjuncts_written (visible_in s) (type_in s.contents s.range) w ≡ Ok ws) where
+      pub own-conjuncts : conjuncts_written (scope_of c range) (type_in c range) w ≡ Ok ws
+      own-conjuncts = subst (λ (x : Sight). conjuncts_written (visible_in x) (type_in x.contents x.range) w ≡ Ok ws) look conjuncts
+
+      pub columns-wrong : (f : Fault) → list_columns (visible_in s) items ≡ Err f → meant ≡ Err f
+      columns-wrong f wrong = columns-stop ws own-conjuncts f (subst (λ (x : Sight). list_columns (visible_in x) items ≡ Err f) look wrong)
+
+      module _ (cs : List ColRef) (columns : list_columns (visible_in s) items ≡ Ok cs) where
+        pub own-columns : list_columns (scope_of c range) items ≡ Ok cs
+        own-columns = subst (λ (x : Sight). list_columns (visible_in x) items ≡ Ok cs) look columns
+
+        pub order-wrong : (f : Fault) → order_items (visible_in s) cs y ≡ Err f → meant ≡ Err f
+        order-wrong f wrong = order-stop ws own-conjuncts cs own-columns f (subst (λ (x : Sight). order_items (visible_in x) cs y ≡ Err f) look wrong)
+
+        module _ (os : List OrderItem) (ordered : order_items (visible_in s) cs y ≡ Ok os) where
+          pub own-order : order_items (scope_of c range) cs y ≡ Ok os
+          own-order = subst (λ (x : Sight). order_items (visible_in x) cs y ≡ Ok os) look ordered
+
+          pub limit-wrong : (f : Fault) → limited start (past_limit (joined ++ ws)) (joined ++ ws) ≡ Err f → meant ≡ Err f
+          limit-wrong f wrong = limit-stop ws own-conjuncts cs own-columns os own-order f wrong
+
+          pub all-meant : past_limit (joined ++ ws) ≡ None → meant ≡ Ok (all ws own-conjuncts cs own-columns os own-order)
+          all-meant kept = all-kept ws own-conjuncts cs own-columns os own-order kept
+
+-- what is meant over relations as they are lent is meant over those that contracts see
+pub at-joined : (i j : Joined) (start : Token) (items : List Item) (w : Where) (y : OrderBy) (r : Result Query Refusal) → i ≡ j → IsReadAs (bound_over start items w y i) r → IsReadAs (bound_over start items w y j) r
+at-joined i j start items w y r is told = subst (λ (x : Joined). IsReadAs (bound_over start items w y x) r) is told
+
+-- conjuncts of conditions of joins, and those of WHERE behind them
+pub both-conjuncts : (old new more : List ExprRead) → new ≡ old ++ more → map cond old ++ map cond more ≡ map cond new
+both-conjuncts old new more grown = sym (ap (map cond) grown ∙ map-append cond old more)
 
 -- the query that is put together is what is meant
 pub read-so : (m : Result Bound Fault) (b : Bound) (q : Query) → m ≡ Ok b → query_with q.classes b ≡ q → IsReadAs m (Ok q)
 read-so m b q is same = subst (λ (x : Result Bound Fault). IsReadAs x (Ok q)) (sym is) (sym same)
+
+pub bound-at : (i j : Joined) (q : Query) → i ≡ j → IsWellBound i.contents q → IsWellBound j.contents q
+bound-at i j q is h = subst (λ (x : Joined). IsWellBound x.contents q) is h
+
+-- the relations of a query that is bound are those that FROM names
+limited-range : (start : Token) (o : Option Limit) (b : Bound) (q : Query) → IsReadAs (limited start o b) (Ok q) → q.range ≡ b.range
+limited-range start None b q h = ap (λ (x : Query). x.range) h
+limited-range start (Some l) b q h = absurd h
+
+next-range : {A : Type 0} (m : Result A Fault) (more : A → Result Bound Fault) (range : Range) (q : Query) → ((a : A) → IsReadAs (more a) (Ok q) → q.range ≡ range) → IsReadAs (next m more) (Ok q) → q.range ≡ range
+next-range (Ok a) more range q later h = later a h
+next-range (Err f) more range q later h = absurd h
+
+pub over-range : (start : Token) (items : List Item) (w : Where) (y : OrderBy) (j : Joined) (q : Query) → IsReadAs (bound_over start items w y j) (Ok q) → q.range ≡ j.range
+over-range start items w y j q h =
+    next-range (conjuncts_written (scope_of j.contents j.range) (type_in j.contents j.range) w) _ j.range q
+    (λ ks. next-range (list_columns (scope_of j.contents j.range) items) _ j.range q
+    (λ cs. next-range (order_items (scope_of j.contents j.range) cs y) _ j.range q (λ os. limited-range start (past_limit (j.conjuncts ++ ks)) _ q))) h

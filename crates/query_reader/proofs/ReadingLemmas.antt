@@ -1,25 +1,24 @@
 -- From the words of a statement to the query that they say.
-use Rattle.std.proofs.Common.{◌≡◌, inr, true, ℕ, zero, suc, List, [], ◌∷◌, ◌++◌, Result, Ok, Err, refl, sym, ap, subst, ◌∙◌, drop, get_or, append_assoc}
+use Rattle.std.proofs.Common.{◌≡◌, ◌<◌, length, arith, inr, true, ℕ, zero, suc, List, [], ◌∷◌, ◌++◌, Result, Ok, Err, refl, sym, ap, subst, ◌∙◌, drop, get_or, append_assoc}
 use Rattle.std.proofs.lemmas.List.{drop-map}
 use Rattle.pg_base.specs.declared.faults.Fault.{Fault}
 use Rattle.pg_base.specs.declared.faults.Refusal.{Refusal}
 use Rattle.pg_base.specs.declared.faults.Refusal.TheVariants as refusal
 use Rattle.sql_lex.specs.declared.tokens.Token.{Token}
-use Rattle.sql_grammar.specs.Terminals.{Terminal, Ident, t_key, t_name, t_semicolon, t_end}
+use Rattle.sql_grammar.specs.Terminals.{Terminal, t_key, t_semicolon, t_end}
 use Rattle.sql_grammar.specs.declared.class.Word.TheVariants.{From}
-use Rattle.sql_grammar.specs.Syntax.{Key, Mark, Output, Alias, Where, no_where, where_expr, select_from, OrderBy, no_order, order_by, no_explain, explain, OrderedSelect, ordered_select, Ending, semicolon, text_end, query}
-use Rattle.sql_grammar.specs.Words.{words_of_output, words_of_outputs, words_of_alias, words_of_where, words_of_order, words_of_ordered, words_of_ending}
+use Rattle.sql_grammar.specs.Syntax.{Key, Mark, Output, Group, Where, select_from, OrderBy, no_order, order_by, no_explain, explain, OrderedSelect, ordered_select, Ending, semicolon, text_end, query}
+use Rattle.sql_grammar.specs.Words.{words_of_output, words_of_outputs, words_of_group, words_of_groups, words_of_where, words_of_order, words_of_ordered, words_of_ending}
 use Rattle.sql_grammar.specs.Reading.{terminal_of}
 use Rattle.sql_grammar.specs.Faults.{terminals}
 use Rattle.sql_grammar.specs.Spelled.{IsSpelled}
 use Rattle.sql_cursor.proofs.Named.{AreNamed}
 use Rattle.catalog.specs.Contents.{Contents}
 use Rattle.sql_query.specs.Queries.{Query}
-use Rattle.query_reader.specs.declared.written.Item.{Item}
-use Rattle.query_reader.specs.declared.written.Source.{Source}
-use Rattle.query_reader.specs.Written.{Written, item_of, items_of, source_of}
-use Rattle.query_reader.specs.Binding.{Bound, bound, bound_written}
-use Rattle.query_reader.specs.Ends.{ends_alias, ends_where, ends_order}
+use Rattle.sql_grammar.specs.FromParts.{groups_after}
+use Rattle.query_reader.specs.Written.{item_of, items_of}
+use Rattle.query_reader.specs.Binding.{Bound, bound, bound_from}
+use Rattle.query_reader.specs.Ends.{ends_where, ends_order}
 use Rattle.query_reader.specs.Select.{AreSelect, IsGrammatical, IsReadAs, words_before}
 
 -- the names among what is left of some words
@@ -28,10 +27,7 @@ left-named zero ts h = h
 left-named (suc n) [] h = tt
 left-named (suc n) (w ∷ ws) h = left-named n ws h.1
 
-abbrev pub written_by : List Item → Source → Where → OrderBy → Written
-written_by items source condition order = record { items = items; source = source; condition = condition; order = order }
-
--- what stands behind the table and its alias
+-- what stands behind FROM
 abbrev pub behind : Where → OrderBy → Ending → List Terminal
 behind w y e = words_of_where w ++ (words_of_order y ++ words_of_ending e)
 
@@ -40,47 +36,48 @@ pub record Parted (x : OrderedSelect) (left : List Terminal) : Type 0 where
   pub first : Output
   pub more : List (Mark × Output)
   pub from_at : Key
-  pub name : Ident
-  pub alias : Alias
+  pub group : Group
+  pub groups : List (Mark × Group)
   pub condition : Where
   pub order : OrderBy
   pub ending : Ending
-  pub split : left ≡ words_of_output first ++ (words_of_outputs more ++ t_key From from_at ∷ t_name name ∷ (words_of_alias alias ++ behind condition order ending))
-  pub means : (c : Contents) (start : Token) → bound_written c start (written_by (item_of first ∷ items_of more) (source_of name alias) condition order) ≡ bound c start x
+  pub split : left ≡ words_of_output first ++ (words_of_outputs more ++ t_key From from_at ∷ (words_of_group group ++ (words_of_groups groups ++ behind condition order ending)))
+  pub means : (c : Contents) (start : Token) → bound_from c start (item_of first ∷ items_of more) (group ∷ groups_after groups) condition order ≡ bound c start x
 
-regroup : (x y z c e : List Terminal) (f n : Terminal) → (x ++ (y ++ f ∷ n ∷ (z ++ c))) ++ e ≡ x ++ (y ++ f ∷ n ∷ (z ++ (c ++ e)))
-regroup x y z c e f n =
-    append_assoc x (y ++ f ∷ n ∷ (z ++ c)) e ∙ ap (λ l. x ++ l) (append_assoc y (f ∷ n ∷ (z ++ c)) e) ∙ ap (λ l. x ++ (y ++ f ∷ n ∷ l)) (append_assoc z c e)
+regroup : (x y z c d e : List Terminal) (f : Terminal) → (x ++ (y ++ f ∷ (z ++ (c ++ d)))) ++ e ≡ x ++ (y ++ f ∷ (z ++ (c ++ (d ++ e))))
+regroup x y z c d e f =
+    append_assoc x (y ++ f ∷ (z ++ (c ++ d))) e ∙ (ap (λ l. x ++ l) (append_assoc y (f ∷ (z ++ (c ++ d))) e) ∙
+    (ap (λ l. x ++ (y ++ f ∷ l)) (append_assoc z (c ++ d) e) ∙ ap (λ l. x ++ (y ++ f ∷ (z ++ l))) (append_assoc c d e)))
 
 -- the words after those before SELECT, and SELECT
 after-select : (x : OrderedSelect) (ts : List Terminal) (n : ℕ) → words_of_ordered x ≡ ts → n ≡ words_before ts → drop 1 (drop n ts) ≡ drop 1 (drop (words_before (words_of_ordered x)) (words_of_ordered x))
 after-select x ts n is at = ap (λ i. drop 1 (drop i ts)) at ∙ ap (λ l. drop 1 (drop (words_before l) l)) (sym is)
 
 parted : (x : OrderedSelect) (ts : List Terminal) (n : ℕ) → words_of_ordered x ≡ ts → n ≡ words_before ts → Parted x (drop 1 (drop n ts))
-parted (ordered_select no_explain (select_from k o os f m a w) y e) ts n is at = record {
+parted (ordered_select no_explain (select_from k o os f g gs w) y e) ts n is at = record {
   first = o;
   more = os;
   from_at = f;
-  name = m;
-  alias = a;
+  group = g;
+  groups = gs;
   condition = w;
   order = y;
   ending = e;
-  split = after-select (ordered_select no_explain (select_from k o os f m a w) y e) ts n is at ∙
-      regroup (words_of_output o) (words_of_outputs os) (words_of_alias a) (words_of_where w) (words_of_order y ++ words_of_ending e) (t_key From f) (t_name m);
+  split = after-select (ordered_select no_explain (select_from k o os f g gs w) y e) ts n is at ∙
+      regroup (words_of_output o) (words_of_outputs os) (words_of_group g) (words_of_groups gs) (words_of_where w) (words_of_order y ++ words_of_ending e) (t_key From f);
   means = λ c start. refl;
 }
-parted (ordered_select (explain t) (select_from k o os f m a w) y e) ts n is at = record {
+parted (ordered_select (explain t) (select_from k o os f g gs w) y e) ts n is at = record {
   first = o;
   more = os;
   from_at = f;
-  name = m;
-  alias = a;
+  group = g;
+  groups = gs;
   condition = w;
   order = y;
   ending = e;
-  split = after-select (ordered_select (explain t) (select_from k o os f m a w) y e) ts n is at ∙
-      regroup (words_of_output o) (words_of_outputs os) (words_of_alias a) (words_of_where w) (words_of_order y ++ words_of_ending e) (t_key From f) (t_name m);
+  split = after-select (ordered_select (explain t) (select_from k o os f g gs w) y e) ts n is at ∙
+      regroup (words_of_output o) (words_of_outputs os) (words_of_group g) (words_of_groups gs) (words_of_where w) (words_of_order y ++ words_of_ending e) (t_key From f);
   means = λ c start. refl;
 }
 
@@ -95,14 +92,7 @@ pub words-named : (text : List ℕ) (tokens : List Token) (first : ℕ) (old lef
 words-named text tokens first old left is skipped named =
     subst AreNamed (sym (skipped ∙ ap (drop 1) (is ∙ sym (drop-map (terminal_of text) first tokens)))) (left-named 1 (drop first (terminals text tokens)) (left-named first (terminals text tokens) named))
 
--- what stands behind the table goes on no alias, what stands behind WHERE on no condition, and what stands behind ORDER BY ends
--- the statement
-pub ends-so : (w : Where) (y : OrderBy) (e : Ending) → ends_alias (behind w y e) ≡ true
-ends-so no_where no_order (semicolon t) = refl
-ends-so no_where no_order (text_end t) = refl
-ends-so no_where (order_by k b o os) e = refl
-ends-so (where_expr k c) y e = refl
-
+-- what stands behind WHERE goes on no condition, and what stands behind ORDER BY ends the statement
 pub ends-where : (y : OrderBy) (rest : List Terminal) → ends_order rest ≡ true → ends_where (words_of_order y ++ rest) ≡ true
 ends-where no_order (t_semicolon t ∷ rest) ends = refl
 ends-where no_order (t_end t ∷ rest) ends = refl
@@ -123,9 +113,10 @@ pub read-as-memory : (x : Result Bound Fault) → IsReadAs x (Err refusal.Memory
 read-as-memory (Ok p) = tt
 read-as-memory (Err f) = tt
 
-pub same-written : (items more : List Item) (source other : Source) (w : Where) (y : OrderBy) → items ≡ more → source ≡ other → written_by items source w y ≡ written_by more other w y
-same-written items more source other w y list from = cc (list, from)
-
 -- what holds at the first token of a list that is given
 pub at-start : (P : Token → Type 0) (tokens given later : List Token) (start d : Token) → given ≡ tokens → tokens ≡ start ∷ later → P (get_or given 0 d) → P start
 at-start P tokens given later start d same is h = subst P (ap (λ ts. get_or ts 0 d) (same ∙ is)) h
+
+pub some-token : (tokens : List Token) → 0 < length tokens → (start : Token) × (later : List Token) × (tokens ≡ start ∷ later)
+some-token [] some = absurd (omega (arith, some))
+some-token (t ∷ ts) some = (t, ts, refl)

@@ -1,4 +1,4 @@
--- The columns of one relation: found by name, and under its alias alone.
+-- The columns of a relation: found by name, and under its alias alone.
 use Rattle.std.proofs.Common.{◌≡◌, ◌≢◌, ℕ, ◌+◌, Bool, true, false, List, [], ◌∷◌, Option, Some, None, All, cond, refl, sym, ◌∙◌, suc, arith}
 use Rattle.std.specs.List.{position_from}
 use Rattle.std.specs.Str.{bytes_eq}
@@ -15,7 +15,7 @@ differs-by : (b : Bool) (x y : List ℕ) → (b ≡ true → x ≡ y) → x ≢ 
 differs-by true x y told apart = absurd (apart (told refl))
 differs-by false x y told apart = refl
 
-differs : (x y : List ℕ) → x ≢ y → bytes_eq x y ≡ false
+pub differs : (x y : List ℕ) → x ≢ y → bytes_eq x y ≡ false
 differs x y apart = differs-by (bytes_eq x y) x y (bytes_eq-Decides x y).0 apart
 
 -- the column at a place, where there is one

@@ -1,5 +1,5 @@
 -- WHERE where it is next, and where it is not.
-use Rattle.std.proofs.Common.{◌≡◌, Bool, true, not, List, [], ◌∷◌, ◌++◌, map, Result, Ok, Err, IsErrAnd, All, refl, sym, ap, ◌∙◌, subst}
+use Rattle.std.proofs.Common.{◌≡◌, true, not, List, [], ◌∷◌, ◌++◌, map, Result, Ok, Err, IsErrAnd, refl, sym, ap, ◌∙◌, subst}
 use Rattle.std.proofs.lemmas.Bool.{and_parts, true≢false}
 use Rattle.pg_base.specs.declared.faults.Fault.{Fault}
 use Rattle.pg_base.specs.declared.faults.Refusal.{Refusal}
@@ -8,10 +8,8 @@ use Rattle.pg_value.specs.declared.value.SqlType.{SqlType}
 use Rattle.pg_expr.specs.declared.operand.ColRef.{ColRef}
 use Rattle.pg_expr.specs.declared.expr.Expr.{Expr as ExprRead}
 use Rattle.pg_expr.specs.declared.expr.Exprs.{Exprs}
-use Rattle.pg_expr.specs.Columns.{each_column}
 use Rattle.pg_expr.specs.Cond.{Cond}
 use Rattle.pg_expr.specs.Conjuncts.{conjuncts_of}
-use Rattle.pg_expr.specs.Typed.{IsTyped}
 use Rattle.pg_expr.specs.View.{cond, conds}
 use Rattle.eq_classes.specs.Classes.{listed}
 use Rattle.sql_lex.specs.declared.tokens.Token.{Token}
@@ -23,9 +21,9 @@ use Rattle.sql_grammar.specs.Words.{words_of_expr, words_of_where}
 use Rattle.sql_cursor.specs.Reading.{BeginsNot}
 use Rattle.expr_reader.specs.Conditions.{meaning_of_expr, next}
 use Rattle.expr_reader.specs.Reads.{Reads}
-use Rattle.expr_reader.specs.Scope.{Scope, Visible}
-use Rattle.expr_reader.proofs.TypedLemmas.{expr-good}
+use Rattle.expr_reader.specs.Scope.{Scope}
 use Rattle.query_reader.specs.Binding.{conjuncts_written}
+use Rattle.query_reader.specs.From.{conjuncts_of_expr}
 use Rattle.query_reader.specs.Ends.{begins_where, ends_where}
 use Rattle.query_reader.proofs.ConjunctLemmas.{listed-as}
 
@@ -71,29 +69,19 @@ module _ (scope : Scope) (type_of : ColRef → SqlType) where
   read-by (Ok c) rest new x es told listed-parts = (listed-as es.items.items (conjuncts_of (cond x)) listed-parts ∙ ap (λ d. listed (conjuncts_of d)) told.0, told.1)
   read-by (Err f) rest new x es told listed-parts = absurd told
 
-  -- its expression is refused
-  pub condition-stopped : (w : Where) (rest left new : List Terminal) (f : Refusal) (r : Result Exprs Refusal) → There w rest left →
-      ((e : Expr) (rest : List Terminal) → ends_expr rest ≡ true → left ≡ words_of_expr e ++ rest → Reads cond (meaning_of_expr scope type_of e) rest (Err f) new) → IsErrAnd r (λ g. g ≡ f) →
+  -- an expression that is refused
+  pub condition-stopped : (e : Expr) (rest new : List Terminal) (f : Refusal) (r : Result Exprs Refusal) → Reads cond (meaning_of_expr scope type_of e) rest (Err f) new → IsErrAnd r (λ g. g ≡ f) →
+      Reads seen (conjuncts_of_expr scope type_of e) rest r new
+  condition-stopped e rest new f r told stop = stopped-by (meaning_of_expr scope type_of e) rest new new f r told stop
+
+  -- one that is read, and taken apart
+  pub condition-read : (e : Expr) (rest new : List Terminal) (x : ExprRead) (es : Exprs) → Reads cond (meaning_of_expr scope type_of e) rest (Ok x) new → conds es.items.items ≡ conjuncts_of (cond x) →
+      Reads seen (conjuncts_of_expr scope type_of e) rest (Ok es) new
+  condition-read e rest new x es told listed-parts = read-by (meaning_of_expr scope type_of e) rest new x es told listed-parts
+
+  -- WHERE before it
+  pub where-read : (w : Where) (rest left new : List Terminal) (r : Result Exprs Refusal) → There w rest left →
+      ((e : Expr) (rest : List Terminal) → ends_expr rest ≡ true → left ≡ words_of_expr e ++ rest → Reads seen (conjuncts_of_expr scope type_of e) rest r new) →
       Reads seen (conjuncts_written scope type_of w) rest r new
-  condition-stopped w rest left new f r at told stop =
-      subst (λ (v : Where). Reads seen (conjuncts_written scope type_of v) rest r new) (sym at.is)
-      (stopped-by (meaning_of_expr scope type_of at.condition) rest new new f r (told at.condition rest at.ends at.words) stop)
-
-  -- its expression is read, and taken apart
-  pub condition-read : (w : Where) (rest left new : List Terminal) (x : ExprRead) (es : Exprs) → There w rest left →
-      ((e : Expr) (rest : List Terminal) → ends_expr rest ≡ true → left ≡ words_of_expr e ++ rest → Reads cond (meaning_of_expr scope type_of e) rest (Ok x) new) → conds es.items.items ≡ conjuncts_of (cond x) →
-      Reads seen (conjuncts_written scope type_of w) rest (Ok es) new
-  condition-read w rest left new x es at told listed-parts =
-      subst (λ (v : Where). Reads seen (conjuncts_written scope type_of v) rest (Ok es) new) (sym at.is)
-      (read-by (meaning_of_expr scope type_of at.condition) rest new x es (told at.condition rest at.ends at.words) listed-parts)
-
-  meant-by : (m : Result Cond Fault) (rest new : List Terminal) (x : ExprRead) → Reads cond m rest (Ok x) new → m ≡ Ok (cond x)
-  meant-by (Ok c) rest new x told = ap Ok (sym told.0)
-  meant-by (Err f) rest new x told = absurd told
-
-  -- what is read is well typed, and names visible columns
-  pub condition-good : (test : ColRef → Bool) → All (λ (v : Visible). test v.column ≡ true) scope → (w : Where) (rest left new : List Terminal) (x : ExprRead) → There w rest left →
-      ((e : Expr) (rest : List Terminal) → ends_expr rest ≡ true → left ≡ words_of_expr e ++ rest → Reads cond (meaning_of_expr scope type_of e) rest (Ok x) new) →
-      IsTyped type_of (cond x) × (each_column test (cond x) ≡ true)
-  condition-good test all w rest left new x at told =
-      expr-good scope type_of test all at.condition (cond x) (meant-by (meaning_of_expr scope type_of at.condition) rest new x (told at.condition rest at.ends at.words))
+  where-read w rest left new r at told =
+      subst (λ (v : Where). Reads seen (conjuncts_written scope type_of v) rest r new) (sym at.is) (told at.condition rest at.ends at.words)

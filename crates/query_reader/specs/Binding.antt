@@ -1,7 +1,6 @@
--- What a SELECT means over a catalogue, or its first fault: FROM first, then WHERE, then the list from the left, then ORDER BY,
--- then the limits (PostgreSQL manual, chapter Queries; codes: appendix Error Codes; the limits are own).
-use Rattle.std.specs.Prelude.{ℕ, nat_lt, cond, List, [], ◌∷◌, ◌++◌, length, map, Option, Some, None, Result, Ok, Err}
-use Rattle.pg_base.specs.declared.numbers.TableNo.{TableNo}
+-- What a SELECT means over a catalogue, or its first fault: FROM first with the conditions of its joins, then WHERE, then the list
+-- from the left, then ORDER BY, then the limits (PostgreSQL manual, chapter Queries; codes: appendix Error Codes; the limits are own).
+use Rattle.std.specs.Prelude.{nat_lt, cond, List, [], ◌∷◌, ◌++◌, length, map, Option, Some, None, Result, Ok, Err}
 use Rattle.pg_base.specs.declared.faults.Code.TheVariants.{S2, S15}
 use Rattle.pg_base.specs.declared.faults.Fault.{Fault}
 use Rattle.pg_base.specs.declared.faults.Limit.{Limit}
@@ -11,27 +10,25 @@ use Rattle.pg_value.specs.declared.value.SqlType.{SqlType}
 use Rattle.pg_expr.specs.declared.operand.ColRef.{ColRef}
 use Rattle.pg_expr.specs.Columns.{atom_count_of}
 use Rattle.pg_expr.specs.Cond.{Cond, conds_of}
-use Rattle.pg_expr.specs.Conjuncts.{conjuncts_of}
 use Rattle.catalog.specs.Contents.{Contents}
 use Rattle.catalog.specs.Range.{Range, type_in}
-use Rattle.catalog.specs.Tables.{table_named}
-use Rattle.eq_classes.specs.Classes.{conjuncts_in, listed}
+use Rattle.eq_classes.specs.Classes.{conjuncts_in}
 use Rattle.eq_classes.specs.Clauses.{Table}
 use Rattle.eq_classes.specs.declared.order.OrderItem.{OrderItem}
 use Rattle.sql_lex.specs.declared.tokens.Token.{Token}
 use Rattle.sql_grammar.specs.Faults.{fault_at}
-use Rattle.sql_grammar.specs.Syntax.{Where, no_where, where_expr, OrderBy, OrderedSelect, ordered_select}
-use Rattle.sql_cursor.specs.declared.cursor.Spelled.{Spelled}
-use Rattle.expr_reader.specs.Conditions.{meaning_of_expr, next, the_column}
+use Rattle.sql_grammar.specs.FromParts.{groups_after}
+use Rattle.sql_grammar.specs.Syntax.{Group, Where, no_where, where_expr, select_from, OrderBy, OrderedSelect, ordered_select}
+use Rattle.expr_reader.specs.Conditions.{next, the_column}
 use Rattle.expr_reader.specs.Scope.{Scope, columns_of, look_up, under}
 use Rattle.sql_query.specs.Queries.{Query}
 use Rattle.query_reader.specs.declared.written.Item.{Item}
 use Rattle.query_reader.specs.declared.written.Item.TheVariants.{Every, EveryOf, Bare, Qualified}
-use Rattle.query_reader.specs.declared.written.Source.{Source}
+use Rattle.query_reader.specs.From.{Joined, conjuncts_of_expr, nothing_joined, with_groups}
 use Rattle.query_reader.specs.Named.{columns_in_all}
 use Rattle.query_reader.specs.Order.{order_items}
 use Rattle.query_reader.specs.Scope.{scope_of}
-use Rattle.query_reader.specs.Written.{Written, written_of}
+use Rattle.query_reader.specs.Written.{item_of, items_of}
 
 -- a SELECT with its names bound, apart from its classes: its relations, the columns that it shows, its conjuncts as written,
 -- and the items of ORDER BY
@@ -84,10 +81,10 @@ abbrev pub list_columns : Scope → List Item → Result (List ColRef) Fault
 list_columns scope [] = Ok []
 list_columns scope (item ∷ items) = then_columns (item_columns scope item) (list_columns scope items)
 
--- the conjuncts of WHERE as written: the parts of an AND, else the condition itself
+-- the conjuncts of WHERE as written
 abbrev pub conjuncts_written : Scope → (ColRef → SqlType) → Where → Result (List Cond) Fault
 conjuncts_written scope type_of no_where = Ok []
-conjuncts_written scope type_of (where_expr _ e) = next (meaning_of_expr scope type_of e) (λ c. Ok (listed (conjuncts_of c)))
+conjuncts_written scope type_of (where_expr _ e) = conjuncts_of_expr scope type_of e
 
 -- the first limit that conjuncts as written are past: that of their number in pushed form, a constant among them, then that of
 -- their atoms
@@ -99,28 +96,20 @@ abbrev pub limited : {A : Type 0} → Token → Option Limit → A → Result A 
 limited start None x = Ok x
 limited start (Some limit) x = Err (fault_at (S15 limit) start)
 
--- the alias that is given, else the table's name
-abbrev pub alias_or : Option Spelled → Spelled → List ℕ
-alias_or None table = table.bytes
-alias_or (Some alias) table = alias.bytes
+-- WHERE, then the list, then ORDER BY, over the relations that FROM names, then the limits. The conjuncts are those of the
+-- conditions of joins in the order of the text, then those of WHERE.
+abbrev pub bound_over : Token → List Item → Where → OrderBy → Joined → Result Bound Fault
+bound_over start items condition order j =
+    let scope = scope_of j.contents j.range in
+    next (conjuncts_written scope (type_in j.contents j.range) condition) (λ conjuncts.
+    next (list_columns scope items) (λ columns.
+    next (order_items scope columns order) (λ ordered.
+    limited start (past_limit (j.conjuncts ++ conjuncts)) (record { range = j.range; select = columns; where_all = j.conjuncts ++ conjuncts; order = ordered }))))
 
--- the relations after FROM
-abbrev pub source_range : Option TableNo → Source → Result Range Fault
-source_range None source = Err (fault_at S2 source.table.token)
-source_range (Some table) source = Ok ((table, alias_or source.alias source.table) ∷ [])
-
--- WHERE, then the list, then ORDER BY, over the relations after FROM, then the limits
-abbrev pub bound_over : Contents → Token → List Item → Where → OrderBy → Range → Result Bound Fault
-bound_over c start items condition order range =
-    next (conjuncts_written (scope_of c range) (type_in c range) condition) (λ conjuncts.
-    next (list_columns (scope_of c range) items) (λ columns.
-    next (order_items (scope_of c range) columns order) (λ ordered.
-    limited start (past_limit conjuncts) (record { range = range; select = columns; where_all = conjuncts; order = ordered }))))
-
--- what is written in a statement that begins at this token means
-abbrev pub bound_written : Contents → Token → Written → Result Bound Fault
-bound_written c start w = next (source_range (table_named c w.source.table.bytes) w.source) (bound_over c start w.items w.condition w.order)
+-- what these parts of a SELECT mean, in a statement that begins at this token: FROM first
+abbrev pub bound_from : Contents → Token → List Item → List Group → Where → OrderBy → Result Bound Fault
+bound_from c start items groups condition order = next (with_groups (nothing_joined c) groups) (bound_over start items condition order)
 
 -- what a SELECT with its order means, in a statement that begins at this token
 abbrev pub bound : Contents → Token → OrderedSelect → Result Bound Fault
-bound c start (ordered_select _ q y _) = bound_written c start (written_of q y)
+bound c start (ordered_select _ (select_from _ o os _ g gs w) y _) = bound_from c start (item_of o ∷ items_of os) (g ∷ groups_after gs) w y

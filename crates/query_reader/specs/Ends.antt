@@ -2,9 +2,9 @@
 use Rattle.std.specs.Prelude.{List, ◌∷◌, Bool, true, false, not, ◌&&◌}
 use Rattle.sql_grammar.specs.Terminals.{Terminal, free, t_key, t_mark, t_name, t_semicolon, t_end}
 use Rattle.sql_grammar.specs.Unique.{ends_expr}
-use Rattle.sql_grammar.specs.declared.class.Word.TheVariants.{As, Asc, Desc, Where}
+use Rattle.sql_grammar.specs.declared.class.Word.TheVariants.{As, Asc, Desc, Order, Where}
 use Rattle.sql_grammar.specs.declared.class.Free.TheVariants.{Nulls}
-use Rattle.sql_grammar.specs.declared.class.Symbol.TheVariants.{Dot}
+use Rattle.sql_grammar.specs.declared.class.Symbol.TheVariants.{Comma, Dot}
 
 -- no `.` stands next
 abbrev pub ends_item : List Terminal → Bool
@@ -16,6 +16,19 @@ abbrev pub ends_alias : List Terminal → Bool
 ends_alias (t_key As _ ∷ _) = false
 ends_alias (t_name _ ∷ _) = false
 ends_alias _ = true
+
+-- a word that stands behind all of FROM is next
+abbrev pub ends_from : List Terminal → Bool
+ends_from (t_key Where _ ∷ _) = true
+ends_from (t_key Order _ ∷ _) = true
+ends_from (t_semicolon _ ∷ _) = true
+ends_from (t_end _ ∷ _) = true
+ends_from _ = false
+
+-- a comma is, or such a word: nothing that goes on the group before it
+abbrev pub ends_group : List Terminal → Bool
+ends_group (t_mark Comma _ ∷ _) = true
+ends_group ts = ends_from ts
 
 -- WHERE stands next
 abbrev pub begins_where : List Terminal → Bool

@@ -1,6 +1,8 @@
 pub mod Written
 pub mod Ends
+pub mod Joins
 pub mod Scope
+pub mod From
 pub mod Conveys
 pub mod Named
 pub mod Order

@@ -1,8 +1,11 @@
 -- The columns that are visible over the relations of a query (PostgreSQL manual, chapter Value Expressions, Column References).
-use Rattle.std.specs.Prelude.{ℕ, ◌+◌, List, [], ◌∷◌, ◌++◌}
+use Rattle.std.specs.Prelude.{ℕ, ◌+◌, List, [], ◌∷◌, ◌++◌, drop}
 use Rattle.pg_base.specs.declared.numbers.RelNo.{RelNo}
 use Rattle.catalog.specs.Contents.{Contents, table_at}
-use Rattle.catalog.specs.Range.{Range}
+use Rattle.pg_expr.specs.declared.operand.ColRef.{ColRef}
+use Rattle.catalog.specs.Range.{Range, relation_at}
+use Rattle.expr_reader.specs.declared.found.Found.{Found}
+use Rattle.expr_reader.specs.declared.found.Found.TheVariants.{One, NoColumn, Many}
 use Rattle.expr_reader.specs.Scope.{Scope}
 
 -- the columns of a relation that have these names, from column k on
@@ -20,7 +23,25 @@ relations_from c k ((table, alias) ∷ range) = columns_from alias (record { 0 =
 abbrev pub scope_of : Contents → Range → Scope
 scope_of c range = relations_from c 0 range
 
--- what names are looked up in: the contents of a catalogue, and the relations of a query over it
+-- every column of the relations from this one on: a condition of a join sees those of its own group
+abbrev pub scope_after : Contents → ℕ → Range → Scope
+scope_after c first range = relations_from c first (drop first range)
+
+-- what names are looked up in: the contents of a catalogue, the relations of a query over it, and the first of those that are
+-- visible
 pub record Sight : Type 0 where
   pub contents : Contents
   pub range : Range
+  pub first : ℕ
+
+abbrev pub visible_in : Sight → Scope
+visible_in s = scope_after s.contents s.first s.range
+
+-- the columns of the relation of a number
+abbrev pub own_columns : Sight → ℕ → Scope
+own_columns s k = columns_from (relation_at s.range (record { 0 = k })).1 (record { 0 = k }) 0 (table_at s.contents (relation_at s.range (record { 0 = k })).0).names
+
+-- what a name means where one more column has it
+abbrev pub also : Found → ColRef → Found
+also NoColumn x = One x
+also _ x = Many

@@ -1,7 +1,6 @@
--- What a SELECT's syntax tree says: each name in small letters, with its token (own).
+-- What the parts of a SELECT's syntax tree say: each name in small letters, with its token (own).
 use Rattle.std.specs.Prelude.{List, [], ◌∷◌, Option, Some, None}
-use Rattle.sql_grammar.specs.Terminals.{Ident}
-use Rattle.sql_grammar.specs.Syntax.{Mark, bare, qualified, Output, every, every_of, one, Alias, no_alias, bare_alias, as_alias, Where, Select, select_from, OrderBy}
+use Rattle.sql_grammar.specs.Syntax.{Mark, bare, qualified, Output, every, every_of, one, Alias, no_alias, bare_alias, as_alias, Relation, relation}
 use Rattle.sql_cursor.specs.declared.cursor.Spelled.{Spelled}
 use Rattle.sql_cursor.specs.Reading.{spelled}
 use Rattle.query_reader.specs.declared.written.Item.{Item}
@@ -26,17 +25,6 @@ alias_of no_alias = None
 alias_of (bare_alias n) = Some (spelled n)
 alias_of (as_alias _ n) = Some (spelled n)
 
--- what stands after FROM
-abbrev pub source_of : Ident → Alias → Source
-source_of n a = record { table = spelled n; alias = alias_of a }
-
--- a SELECT: its items, its source, its WHERE and its ORDER BY
-pub record Written : Type 0 where
-  pub items : List Item
-  pub source : Source
-  pub condition : Where
-  pub order : OrderBy
-
--- a SELECT with this order
-abbrev pub written_of : Select → OrderBy → Written
-written_of (select_from _ o os _ n a w) y = record { items = item_of o ∷ items_of os; source = source_of n a; condition = w; order = y }
+-- a relation
+abbrev pub source_of : Relation → Source
+source_of (relation n a) = record { table = spelled n; alias = alias_of a }

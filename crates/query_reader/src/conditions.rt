@@ -1,4 +1,4 @@
-//! The conjuncts of WHERE, and their classes.
+//! The conjuncts of conditions, and their classes.
 
 ghost use Rattle.std.specs.Prelude.{◌≡◌, ◌≤◌, ◌-◌, ◌^◌, ◌++◌, List, All, IfOk, length, map, min, true, IsTrue};
 ghost use Rattle.pg_expr.specs.Columns.{atom_count_of};
@@ -7,17 +7,18 @@ ghost use Rattle.catalog.specs.Range.{type_in};
 ghost use Rattle.eq_classes.specs.Classes.{conjuncts_in};
 ghost use Rattle.eq_classes.specs.Holding.{IsTable};
 ghost use Rattle.path_cost.specs.Columns.{IsOver, is_column};
-ghost use Rattle.sql_grammar.specs.Syntax.{Where};
+ghost use Rattle.sql_grammar.specs.Syntax.{Expr as ExprTree, Where};
 ghost use Rattle.sql_grammar.specs.Terminals.{Terminal};
-ghost use Rattle.sql_grammar.specs.Words.{words_of_where};
+ghost use Rattle.sql_grammar.specs.Unique.{ends_expr};
+ghost use Rattle.sql_grammar.specs.Words.{words_of_expr, words_of_where};
 ghost use Rattle.expr_reader.specs.Reads.{Reads};
-ghost use Rattle.expr_reader.specs.Scope.{Visible};
 ghost use Rattle.query_reader.specs.Binding.{conjuncts_written, limited, past_limit};
 ghost use Rattle.query_reader.specs.Ends.{ends_where};
-ghost use Rattle.query_reader.specs.Scope.{scope_of};
+ghost use Rattle.query_reader.specs.From.{conjuncts_of_expr};
+ghost use Rattle.query_reader.specs.Scope.{visible_in};
 ghost use Rattle.query_reader.specs.Conveys.{Conveys};
 
-use crate::relation::Relation;
+use crate::relations::Relations;
 use eq_classes::{Classes, OrderItem};
 use expr_reader::take_expr;
 use pg_base::{Code, Limit, MOST_ATOMS, MOST_CONJUNCTS, Memory, Refusal};
@@ -27,23 +28,38 @@ use sql_grammar::{Word, fault_at};
 use sql_lex::Token;
 use std::alloc::Global;
 
+/// The conjuncts, as written, of the condition that is next over the visible columns, or its first fault.
+pub fn conjuncts_next(
+    alloc: Global,
+    relations: &Relations,
+    from: &mut Cursor,
+) -> Result<Exprs, Refusal>
+    requires { (e : ExprTree) × (rest : List Terminal) × (ends_expr rest ≡ true) × (from.old ≡ words_of_expr e ++ rest) }
+    ensures read { (e : ExprTree) (rest : List Terminal) → ends_expr rest ≡ true → from.old ≡ words_of_expr e ++ rest →
+        Reads (λ (es : Exprs). map cond es.items.items) (conjuncts_of_expr (visible_in relations.now) (type_in relations.now.contents relations.now.range) e) rest result from.new }
+    ensures over { IfOk result (λ es. All (IsOver relations.now.contents relations.now.range) (map cond es.items.items)) }
+    ensures ahead { length from.new ≤ length from.old }
+{
+    relations.see_their_columns();
+    let condition = take_expr(alloc, relations, from)?;
+    Ok(conjuncts(alloc, condition)?)
+}
+
 /// The conjuncts of WHERE as written, or its first fault; none where no WHERE is next.
 pub fn written_conjuncts(
     alloc: Global,
-    relation: &Relation,
+    relations: &Relations,
     from: &mut Cursor,
 ) -> Result<Exprs, Refusal>
-    requires words { (w : Where) × (rest : List Terminal) × (ends_where rest ≡ true) × (from.old ≡ words_of_where w ++ rest) }
-    requires seen { All (λ (v : Visible). IsTrue (is_column relation.now.contents relation.now.range v.column)) (scope_of relation.now.contents relation.now.range) }
+    requires { (w : Where) × (rest : List Terminal) × (ends_where rest ≡ true) × (from.old ≡ words_of_where w ++ rest) }
     ensures read { (w : Where) (rest : List Terminal) → ends_where rest ≡ true → from.old ≡ words_of_where w ++ rest →
-        Reads (λ (es : Exprs). map cond es.items.items) (conjuncts_written (scope_of relation.now.contents relation.now.range) (type_in relation.now.contents relation.now.range) w) rest result from.new }
-    ensures over { IfOk result (λ es. All (IsOver relation.now.contents relation.now.range) (map cond es.items.items)) }
+        Reads (λ (es : Exprs). map cond es.items.items) (conjuncts_written (visible_in relations.now) (type_in relations.now.contents relations.now.range) w) rest result from.new }
+    ensures over { IfOk result (λ es. All (IsOver relations.now.contents relations.now.range) (map cond es.items.items)) }
 {
     if !from.takes(Word::Where) {
         return Ok(Exprs::from_vec(Vec::new(alloc)));
     }
-    let condition = take_expr(alloc, relation, from)?;
-    Ok(conjuncts(alloc, condition)?)
+    conjuncts_next(alloc, relations, from)
 }
 
 /// The conjuncts in pushed form.
@@ -87,19 +103,19 @@ fn past_limit(written: &[Expr], pushed: &[Expr]) -> Option<Limit>
 /// The classes of conjuncts as written and of an order, or the limit that is passed, at the statement's first token.
 pub fn classes_within(
     alloc: Global,
-    relation: &Relation,
+    relations: &Relations,
     written: &[Expr],
     order: &[OrderItem],
     start: Token,
 ) -> Result<Classes, Refusal>
-    requires over { All (IsOver relation.now.contents relation.now.range) (map cond written.now) }
-    requires order { All (λ (i : OrderItem). IsTrue (is_column relation.now.contents relation.now.range i.col)) order.now }
-    requires few { length relation.now.range ≤ 16 }
-    ensures { Conveys (λ ws t. IsTable (record { conjuncts = conjuncts_in ws; order = order.now; type_of = type_in relation.now.contents relation.now.range }) t) (limited start (past_limit (map cond written.now)) (map cond written.now)) result }
+    requires over { All (IsOver relations.now.contents relations.now.range) (map cond written.now) }
+    requires order { All (λ (i : OrderItem). IsTrue (is_column relations.now.contents relations.now.range i.col)) order.now }
+    requires few { length relations.now.range ≤ 16 }
+    ensures { Conveys (λ ws t. IsTable (record { conjuncts = conjuncts_in ws; order = order.now; type_of = type_in relations.now.contents relations.now.range }) t) (limited start (past_limit (map cond written.now)) (map cond written.now)) result }
 {
     let pushed = pushed_conjuncts(alloc, written)?;
     if let Some(limit) = past_limit(written, pushed.items()) {
         return Err(Refusal::Fault(fault_at(Code::S15(limit), start)));
     }
-    Ok(Classes::build(alloc, pushed, order, relation)?)
+    Ok(Classes::build(alloc, pushed, order, relations)?)
 }

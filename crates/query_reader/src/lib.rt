@@ -7,8 +7,9 @@ mod laws;
 mod named;
 mod order;
 mod read;
-mod relation;
+mod relations;
 mod select;
+mod sources;
 #[cfg(test)]
 mod tests;
 mod written;

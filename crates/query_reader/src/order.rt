@@ -2,35 +2,61 @@
 
 ghost use Rattle.std.specs.Prelude.{◌≡◌, ◌≤◌, ◌++◌, List, ◌∷◌, All, IfOk, IsTrue, OnOk, Vec, length, true};
 ghost use Rattle.std.specs.declared.alloc.Global.{Global};
-ghost use Rattle.pg_expr.specs.declared.operand.ColRef.{ColRef};
 ghost use Rattle.path_cost.specs.Columns.{is_column};
-ghost use Rattle.sql_grammar.specs.Syntax.{Mark, Ordering, OrderBy};
+ghost use Rattle.sql_grammar.specs.Syntax.{Col, Mark, Ordering, OrderBy};
 ghost use Rattle.sql_grammar.specs.Terminals.{Terminal};
-ghost use Rattle.sql_grammar.specs.Words.{words_of_ordering, words_of_orderings, words_of_order};
+ghost use Rattle.sql_grammar.specs.Words.{words_of_col, words_of_ordering, words_of_orderings, words_of_order};
+ghost use Rattle.sql_grammar.specs.Unique.{ends_operand};
 ghost use Rattle.sql_cursor.specs.Lists.{parts_of, bound_each};
 ghost use Rattle.expr_reader.specs.Reads.{Reads};
-ghost use Rattle.expr_reader.specs.Scope.{Visible};
 ghost use Rattle.query_reader.specs.Ends.{ends_order, ends_ordering};
-ghost use Rattle.query_reader.specs.Order.{order_item as item_meant, order_items as items_meant};
-ghost use Rattle.query_reader.specs.Scope.{scope_of};
+ghost use Rattle.query_reader.specs.Order.{order_column as column_meant, order_item as item_meant, order_items as items_meant};
+ghost use Rattle.query_reader.specs.Scope.{visible_in};
 
-use crate::relation::Relation;
+use crate::relations::Relations;
 use eq_classes::OrderItem;
-use expr_reader::take_column;
+use expr_reader::{Scope, found_column};
 use pg_base::Refusal;
+use pg_expr::ColRef;
 use sql_cursor::{Cursor, descending, nulls_first};
 use sql_grammar::{Symbol, Word};
 use std::alloc::Global;
 
-/// The item that is next. With one relation a bare name means the same in the select list and elsewhere.
-fn order_item(alloc: Global, relation: &Relation, from: &mut Cursor) -> Result<OrderItem, Refusal>
+/// The column that is next: a name alone is sought in the select list first.
+fn order_column(
+    alloc: Global,
+    relations: &Relations,
+    select: &[ColRef],
+    from: &mut Cursor,
+) -> Result<ColRef, Refusal>
+    requires { (c : Col) × (rest : List Terminal) × (ends_operand rest ≡ true) × (from.old ≡ words_of_col c ++ rest) }
+    ensures read { (c : Col) (rest : List Terminal) → ends_operand rest ≡ true → from.old ≡ words_of_col c ++ rest →
+        Reads (λ x. x) (column_meant (visible_in relations.now) select.now c) rest result from.new }
+    ensures ahead { length from.new ≤ length from.old }
+{
+    let first = from.expect_name(alloc)?;
+    if !from.takes_mark(Symbol::Dot) {
+        let found = relations.ordering(first.bytes.items(), select);
+        return Ok(found_column(found, first.token, first.token)?);
+    }
+    let second = from.expect_name(alloc)?;
+    let found = relations.column(Some(first.bytes.items()), second.bytes.items());
+    Ok(found_column(found, first.token, second.token)?)
+}
+
+/// The item that is next.
+fn order_item(
+    alloc: Global,
+    relations: &Relations,
+    select: &[ColRef],
+    from: &mut Cursor,
+) -> Result<OrderItem, Refusal>
     requires { (o : Ordering) × (rest : List Terminal) × (ends_ordering rest ≡ true) × (from.old ≡ words_of_ordering o ++ rest) }
-    ensures read { (select : List ColRef) (o : Ordering) (rest : List Terminal) → ends_ordering rest ≡ true → from.old ≡ words_of_ordering o ++ rest →
-        Reads (λ i. i) (item_meant (scope_of relation.now.contents relation.now.range) select o) rest result from.new }
+    ensures read { (o : Ordering) (rest : List Terminal) → ends_ordering rest ≡ true → from.old ≡ words_of_ordering o ++ rest →
+        Reads (λ i. i) (item_meant (visible_in relations.now) select.now o) rest result from.new }
     ensures ahead { OnOk result (length from.new ≤ length from.old) }
 {
-    relation.has_names_once();
-    let col = take_column(alloc, relation, from)?;
+    let col = order_column(alloc, relations, select, from)?;
     let descending = descending(from);
     let nulls_first = nulls_first(from, descending);
     Ok(OrderItem {
@@ -43,18 +69,19 @@ fn order_item(alloc: Global, relation: &Relation, from: &mut Cursor) -> Result<O
 /// The items from the left.
 fn order_items(
     alloc: Global,
-    relation: &Relation,
+    relations: &Relations,
+    select: &[ColRef],
     from: &mut Cursor,
 ) -> Result<Vec<OrderItem>, Refusal>
     requires { (o : Ordering) × (os : List (Mark × Ordering)) × (rest : List Terminal) × (ends_order rest ≡ true) × (from.old ≡ words_of_ordering o ++ (words_of_orderings os ++ rest)) }
-    ensures { (select : List ColRef) (o : Ordering) (os : List (Mark × Ordering)) (rest : List Terminal) → ends_order rest ≡ true → from.old ≡ words_of_ordering o ++ (words_of_orderings os ++ rest) →
-        Reads (λ (v : Vec OrderItem Global). v.items) (bound_each (item_meant (scope_of relation.now.contents relation.now.range) select) (o ∷ parts_of (λ x. x) os)) rest result from.new }
+    ensures { (o : Ordering) (os : List (Mark × Ordering)) (rest : List Terminal) → ends_order rest ≡ true → from.old ≡ words_of_ordering o ++ (words_of_orderings os ++ rest) →
+        Reads (λ (v : Vec OrderItem Global). v.items) (bound_each (item_meant (visible_in relations.now) select.now) (o ∷ parts_of (λ x. x) os)) rest result from.new }
 {
     let mut all = Vec::new(alloc);
-    let first = order_item(alloc, relation, from)?;
+    let first = order_item(alloc, relations, select, from)?;
     all.push(first)?;
     'more: while from.takes_mark(Symbol::Comma) {
-        let next = order_item(alloc, relation, from)?;
+        let next = order_item(alloc, relations, select, from)?;
         all.push(next)?;
     }
     Ok(all)
@@ -63,18 +90,19 @@ fn order_items(
 /// The items of ORDER BY, or its first fault; none where no ORDER is next.
 pub fn order_by(
     alloc: Global,
-    relation: &Relation,
+    relations: &Relations,
+    select: &[ColRef],
     from: &mut Cursor,
 ) -> Result<Vec<OrderItem>, Refusal>
-    requires words { (y : OrderBy) × (rest : List Terminal) × (ends_order rest ≡ true) × (from.old ≡ words_of_order y ++ rest) }
-    requires seen { All (λ (v : Visible). IsTrue (is_column relation.now.contents relation.now.range v.column)) (scope_of relation.now.contents relation.now.range) }
-    ensures read { (select : List ColRef) (y : OrderBy) (rest : List Terminal) → ends_order rest ≡ true → from.old ≡ words_of_order y ++ rest →
-        Reads (λ (v : Vec OrderItem Global). v.items) (items_meant (scope_of relation.now.contents relation.now.range) select y) rest result from.new }
-    ensures over { IfOk result (λ v. All (λ i. IsTrue (is_column relation.now.contents relation.now.range i.col)) v.items) }
+    requires { (y : OrderBy) × (rest : List Terminal) × (ends_order rest ≡ true) × (from.old ≡ words_of_order y ++ rest) }
+    ensures read { (y : OrderBy) (rest : List Terminal) → ends_order rest ≡ true → from.old ≡ words_of_order y ++ rest →
+        Reads (λ (v : Vec OrderItem Global). v.items) (items_meant (visible_in relations.now) select.now y) rest result from.new }
+    ensures over { IfOk result (λ v. All (λ i. IsTrue (is_column relations.now.contents relations.now.range i.col)) v.items) }
 {
     if !from.takes(Word::Order) {
         return Ok(Vec::new(alloc));
     }
+    relations.see_their_columns();
     from.skip(1);
-    order_items(alloc, relation, from)
+    order_items(alloc, relations, select, from)
 }

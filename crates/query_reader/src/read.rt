@@ -3,14 +3,15 @@
 
 ghost use Rattle.std.specs.Prelude.{◌≡◌, List, ◌∷◌, ◌++◌, ◌≤◌, length, true, IfOk};
 ghost use Rattle.sql_grammar.specs.Terminals.{Terminal, Ident, t_key, t_name};
-ghost use Rattle.sql_grammar.specs.Syntax.{Key, Mark, Output, Alias};
-ghost use Rattle.sql_grammar.specs.Words.{words_of_output, words_of_outputs, words_of_alias};
+ghost use Rattle.sql_grammar.specs.Syntax.{Key, Mark, Output, Alias, Join, Relation};
+ghost use Rattle.sql_grammar.specs.Words.{words_of_output, words_of_outputs, words_of_alias, words_of_joins, words_of_relation};
 ghost use Rattle.sql_grammar.specs.declared.class.Word.TheVariants.{From};
 ghost use Rattle.sql_cursor.specs.Reading.{spelled};
 ghost use Rattle.query_reader.specs.Written.{item_of, items_of, alias_of as alias_value, source_of};
-ghost use Rattle.query_reader.specs.Ends.{ends_item, ends_alias};
+ghost use Rattle.query_reader.specs.Ends.{ends_item, ends_alias, ends_group};
+ghost use Rattle.query_reader.specs.Joins.{IsNext};
 
-use crate::written::{Item, Query, Source};
+use crate::written::{Item, Joining, Source};
 use pg_base::Memory;
 use sql_cursor::{Cursor, Spelled};
 use sql_grammar::{Symbol, Word};
@@ -69,15 +70,33 @@ fn alias(alloc: Global, from: &mut Cursor) -> Result<Option<Spelled>, Memory>
     from.name(alloc)
 }
 
-/// What stands after FROM.
-fn source(alloc: Global, from: &mut Cursor) -> Result<Source, Memory>
-    requires { (n : Ident) × (a : Alias) × (rest : List Terminal) × (ends_alias rest ≡ true) × (from.old ≡ t_name n ∷ (words_of_alias a ++ rest)) }
-    ensures { IfOk result (λ x. (n : Ident) (a : Alias) (rest : List Terminal) → ends_alias rest ≡ true → from.old ≡ t_name n ∷ (words_of_alias a ++ rest) →
-        (x ≡ source_of n a) × (from.new ≡ rest)) }
+/// A relation of FROM.
+pub fn source(alloc: Global, from: &mut Cursor) -> Result<Source, Memory>
+    requires { (r : Relation) × (rest : List Terminal) × (ends_alias rest ≡ true) × (from.old ≡ words_of_relation r ++ rest) }
+    ensures { IfOk result (λ x. (r : Relation) (rest : List Terminal) → ends_alias rest ≡ true → from.old ≡ words_of_relation r ++ rest → (x ≡ source_of r) × (from.new ≡ rest)) }
 {
     let table = name(alloc, from)?;
     let alias = alias(alloc, from)?;
     Ok(Source { table, alias })
+}
+
+/// How the next relation of a group is joined, by the words before it; None where no join is next.
+pub fn joining(from: &mut Cursor) -> Option<Joining>
+    requires { (js : List Join) × (rest : List Terminal) × (ends_group rest ≡ true) × (from.old ≡ words_of_joins js ++ rest) }
+    ensures { (js : List Join) (rest : List Terminal) → ends_group rest ≡ true → from.old ≡ words_of_joins js ++ rest → IsNext result js rest from.new }
+{
+    if from.takes(Word::Cross) {
+        from.skip(1);
+        return Some(Joining::Cross);
+    }
+    if from.takes(Word::Inner) {
+        from.skip(1);
+        return Some(Joining::On);
+    }
+    if from.takes(Word::Join) {
+        return Some(Joining::On);
+    }
+    None
 }
 
 /// The items of the list, up to FROM.
@@ -94,18 +113,13 @@ fn items(alloc: Global, from: &mut Cursor) -> Result<Vec<Item>, Memory>
     Ok(all)
 }
 
-/// The list and what stands after FROM, from the word after SELECT on.
-pub fn query(alloc: Global, from: &mut Cursor) -> Result<Query, Memory>
-    requires { (o : Output) × (os : List (Mark × Output)) × (f : Key) × (n : Ident) × (a : Alias) × (rest : List Terminal) × (ends_alias rest ≡ true) ×
-        (from.old ≡ words_of_output o ++ (words_of_outputs os ++ t_key From f ∷ t_name n ∷ (words_of_alias a ++ rest))) }
-    ensures { IfOk result (λ q. (o : Output) (os : List (Mark × Output)) (f : Key) (n : Ident) (a : Alias) (rest : List Terminal) → ends_alias rest ≡ true →
-        from.old ≡ words_of_output o ++ (words_of_outputs os ++ t_key From f ∷ t_name n ∷ (words_of_alias a ++ rest)) →
-        (q.items.items ≡ item_of o ∷ items_of os) × (q.source ≡ source_of n a) × (from.new ≡ rest)) }
+/// The list and FROM, from the word after SELECT on.
+pub fn list(alloc: Global, from: &mut Cursor) -> Result<Vec<Item>, Memory>
+    requires { (o : Output) × (os : List (Mark × Output)) × (f : Key) × (rest : List Terminal) × (from.old ≡ words_of_output o ++ (words_of_outputs os ++ t_key From f ∷ rest)) }
+    ensures { IfOk result (λ v. (o : Output) (os : List (Mark × Output)) (f : Key) (rest : List Terminal) → from.old ≡ words_of_output o ++ (words_of_outputs os ++ t_key From f ∷ rest) →
+        (v.items ≡ item_of o ∷ items_of os) × (from.new ≡ rest)) }
 {
     let items = items(alloc, from)?;
-    if !from.takes(Word::From) {
-        unreachable!();
-    }
-    let source = source(alloc, from)?;
-    Ok(Query { items, source })
+    from.skip(1);
+    Ok(items)
 }

@@ -11,7 +11,7 @@ ghost use Rattle.query_reader.specs.Binding.{bound};
 ghost use Rattle.query_reader.specs.Select.{AreNoOther, IsGrammatical, IsReadAs, is_explained, words_before};
 
 use crate::bind::bind;
-use crate::read::query;
+use crate::read::list;
 use catalog::Catalog;
 use pg_base::Refusal;
 use sql_cursor::Cursor;
@@ -30,24 +30,26 @@ pub fn explains(text: &[u8], tokens: &Tokens) -> bool
     from.takes_free(Free::Explain)
 }
 
-/// The SELECT of these tokens with its order, behind EXPLAIN where that is written: the relations, the columns shown in order,
-/// the items of ORDER BY, the conjuncts of WHERE as written, the classes of these and of ORDER BY, and the columns named, which
-/// are those shown, then those of WHERE, then those of ORDER BY. `first` is the number of the word SELECT: 1 behind EXPLAIN,
-/// else 0.
+/// The SELECT of these tokens with its order, behind EXPLAIN where that is written: the relations in the order of FROM, the
+/// columns shown in order, the items of ORDER BY, the conjuncts as written, which are those of the conditions of joins in the
+/// order of the text and then those of WHERE, the classes of these and of ORDER BY, and the columns named, which are those shown,
+/// then those of the conjuncts, then those of ORDER BY. `first` is the number of the word SELECT: 1 behind EXPLAIN, else 0.
 ///
-/// FROM is bound first, then WHERE, then the list from the left, then ORDER BY. A relation is seen under its alias alone, which
-/// is the table's name where none is given; `*` and `alias.*` are every column in order. A bare name of ORDER BY is sought in
-/// the list first; DESC alone puts NULLs first, and otherwise they are last unless said. Names compare in small letters. Then
-/// come the limits, at the first byte of the whole statement: at most 32 conjuncts in pushed form, of which a constant is one,
+/// FROM is bound first, from the left, then WHERE, then the list from the left, then ORDER BY. Of a relation its number comes
+/// first (at most 8, over all groups), then its table, then its alias, and right behind it the condition of its join, which sees
+/// the relations of its own group up to it; all else sees all relations. A relation is seen under its alias alone, which is the
+/// table's name where none is given; `*` and `alias.*` are every column in order. A bare name of ORDER BY is sought in the list
+/// first; DESC alone puts NULLs first, and otherwise they are last unless said. Names compare in small letters. Then come the
+/// limits, at the first byte of the whole statement: at most 32 conjuncts in pushed form, of which a constant is one,
 /// then at most 256 atoms, of which a constant is none (PostgreSQL manual, chapters Queries and Type Conversion; the limits are
 /// own).
 ///
 /// The text has at most 2^31 bytes, and the tokens are the words of a statement from some offset of it, which is of no other
 /// kind. The refusal is the first fault: that of the statement's grammar (42601; 54000 for a name over 63 bytes, a text over
-/// 8,192 or an expression over 32 levels deep), else an unknown table or qualifier (42P01) or column (42703), a literal out of
+/// 8,192 or an expression over 32 levels deep), else a relation too many (54000), an unknown table or qualifier (42P01), an alias
+/// that stands twice (42712), an unknown column (42703) or one that several visible relations have (42702), a literal out of
 /// range (22003) or not of its type (22P02), a missing operator (42883) or a column that is no condition (42804), with its word,
-/// else a limit (54000). It is `Memory` only of a SELECT without a fault of the grammar. With one relation no column is
-/// ambiguous, no alias stands twice and no relation is too many.
+/// else a limit (54000). It is `Memory` only of a SELECT without a fault of the grammar.
 pub fn read_select(
     alloc: Global,
     cat: &Catalog,
@@ -64,13 +66,12 @@ pub fn read_select(
     ensures binding { (x : OrderedSelect) (start : Token) (later : List Token) → tokens.now ≡ start ∷ later →
         IsSpelled (query_tree x) text.now tokens.now → IsReadAs (bound cat.now start x) result }
     ensures well_bound { IfOk result (IsWellBound cat.now) }
-    ensures one { IfOk result (λ q. length q.range ≡ 1) }
 {
     if let Some(fault) = statement_fault(text, tokens, 0) {
         return Err(Refusal::Fault(fault));
     }
     let mut from = Cursor::new(text, tokens, first);
     from.skip(1);
-    let query = query(alloc, &mut from)?;
-    bind(alloc, cat, query, tokens.items()[0], &mut from)
+    let items = list(alloc, &mut from)?;
+    bind(alloc, cat, &items, tokens.items()[0], &mut from)
 }

@@ -11,9 +11,9 @@ use crate::{explains, read_select, selects_are_no_other};
 use catalog::{Catalog, CatalogFault};
 use eq_classes::OrderItem;
 use fixtures::{columns, name, names};
-use pg_base::{Code, Fault, Limit, Memory, Refusal, RelNo, TableNo};
+use pg_base::{Code, Fault, Limit, Memory, Refusal, TableNo};
 use pg_expr::ColRef;
-use pg_value::SqlType;
+use pg_value::{Bytes, SqlType};
 use sql_cursor::Cursor;
 use sql_grammar::Word;
 use sql_lex::{Tokens, lex_statement};
@@ -252,6 +252,189 @@ const LONG: [(&[u8], &[u8], &[u8], usize, Option<Limit>); 9] = [
     ),
 ];
 
+/// Selects of several relations, their tables, the columns that they show, those that they name, and how many conjuncts they
+/// have as written and how many clauses.
+const JOINS: [(&[u8], &[u8], &[u8], &[u8], usize, usize); 6] = [
+    (
+        b"SELECT * FROM t, s;",
+        &[0, 1],
+        &[0, 1, 10, 11],
+        &[0, 1, 10, 11],
+        0,
+        0,
+    ),
+    (
+        b"SELECT * FROM s, t",
+        &[1, 0],
+        &[0, 1, 10, 11],
+        &[0, 1, 10, 11],
+        0,
+        0,
+    ),
+    (
+        b"SELECT s.*, t.b, * FROM t JOIN s ON a = c;",
+        &[0, 1],
+        &[10, 11, 1, 0, 1, 10, 11],
+        &[10, 11, 1, 0, 1, 10, 11, 0, 10],
+        1,
+        1,
+    ),
+    (
+        b"SELECT y.*, x.a FROM t x, t y WHERE x.a = y.b;",
+        &[0, 0],
+        &[10, 11, 0],
+        &[10, 11, 0, 0, 11],
+        1,
+        1,
+    ),
+    (
+        b"SELECT x.b FROM t x INNER JOIN s ON a < c AND d IS NULL CROSS JOIN t y WHERE y.a = x.b AND c = 1;",
+        &[0, 1, 0],
+        &[1],
+        &[1, 0, 10, 11, 20, 1, 10],
+        4,
+        4,
+    ),
+    (
+        b"SELECT d FROM s, t x JOIN t y ON x.a = y.a WHERE x.b = c OR TRUE;",
+        &[1, 0, 0],
+        &[1],
+        &[1, 10, 20, 11, 0],
+        2,
+        2,
+    ),
+];
+
+/// Ordered selects of several relations, and the items of their order.
+const ORDERED_JOINS: [(&[u8], &[(u8, bool, bool)]); 3] = [
+    (
+        b"SELECT x.a, x.a FROM t x, t y ORDER BY a;",
+        &[(0, false, false)],
+    ),
+    (
+        b"SELECT y.* FROM t x, t y ORDER BY b DESC, y.a;",
+        &[(11, true, true), (10, false, false)],
+    ),
+    (
+        b"SELECT x.a, d FROM t x, s JOIN t y ON c = a ORDER BY a, c, y.a DESC NULLS LAST;",
+        &[(0, false, false), (10, false, false), (20, true, false)],
+    ),
+];
+
+/// Selects of several relations, the fault that refuses them and the place of its word.
+const WRONG_JOINS: [(&[u8], Code, u32, u32); 35] = [
+    (b"SELECT zz FROM t, nope;", Code::S2, 18, 22),
+    (b"SELECT zz FROM nope, t x, s x;", Code::S2, 15, 19),
+    (b"SELECT zz FROM t, t;", Code::S7, 18, 19),
+    (b"SELECT zz FROM t x, s X;", Code::S7, 22, 23),
+    (b"SELECT zz FROM t s, s;", Code::S7, 20, 21),
+    (b"SELECT zz FROM t JOIN s ON yy = 1;", Code::S3, 27, 29),
+    (
+        b"SELECT zz FROM t JOIN s ON a = c JOIN nope ON yy = 1;",
+        Code::S2,
+        38,
+        42,
+    ),
+    (
+        b"SELECT zz FROM t JOIN s ON yy = 1, nope;",
+        Code::S3,
+        27,
+        29,
+    ),
+    (
+        b"SELECT zz FROM t x JOIN s ON x.a = y.c JOIN t y ON TRUE;",
+        Code::S2,
+        35,
+        36,
+    ),
+    (
+        b"SELECT zz FROM t x, s JOIN t y ON x.a = c;",
+        Code::S2,
+        34,
+        35,
+    ),
+    (b"SELECT zz FROM t x, s JOIN t y ON b = c;", Code::S3, 7, 9),
+    (b"SELECT a FROM t x JOIN t y ON a = 1;", Code::S4, 30, 31),
+    (b"SELECT a FROM t x, t y;", Code::S4, 7, 8),
+    (b"SELECT x.a FROM t x, t y WHERE b = 1;", Code::S4, 31, 32),
+    (b"SELECT x.a FROM t x, t y ORDER BY b;", Code::S4, 34, 35),
+    (
+        b"SELECT x.a, y.a FROM t x, t y ORDER BY a;",
+        Code::S4,
+        39,
+        40,
+    ),
+    (b"SELECT * FROM t x, t y ORDER BY b;", Code::S4, 32, 33),
+    (b"SELECT z.* FROM t x, t y;", Code::S2, 7, 8),
+    (b"SELECT x.c FROM t x, s;", Code::S3, 9, 10),
+    (
+        b"SELECT a FROM t t1, t t2, t t3, t t4, t t5, t t6, t t7, t t8, nope;",
+        Code::S15(Limit::Relations),
+        62,
+        66,
+    ),
+    (
+        b"SELECT a FROM t t1, t t2, t t3, t t4, t t5 JOIN t t6 ON TRUE, t t7, t t8 CROSS JOIN t t8;",
+        Code::S15(Limit::Relations),
+        84,
+        85,
+    ),
+    (
+        b"SELECT a FROM t t1, t t2, t t3, t t4, t t5 JOIN t t6 ON TRUE, t t7, t t8;",
+        Code::S4,
+        7,
+        8,
+    ),
+    (
+        b"SELECT a FROM t x CROSS JOIN s CROSS JOIN s;",
+        Code::S7,
+        42,
+        43,
+    ),
+    (
+        b"SELECT a FROM t x CROSS JOIN t y INNER JOIN s ON x.a = c AND y.zz = d;",
+        Code::S3,
+        63,
+        65,
+    ),
+    (
+        b"SELECT a FROM t JOIN s ON c WHERE zz = 1;",
+        Code::S10,
+        26,
+        27,
+    ),
+    (
+        b"SELECT a FROM t JOIN s ON c != TRUE WHERE zz = 1;",
+        Code::S9,
+        28,
+        30,
+    ),
+    (
+        b"SELECT a FROM t JOIN s ON a = '99999999999';",
+        Code::S11,
+        30,
+        43,
+    ),
+    (b"SELECT a FROM t, s WHERE nope.a = 1;", Code::S2, 25, 29),
+    (b"SELECT a FROM t, nope WHERE yy = 1;", Code::S2, 17, 21),
+    (
+        b"EXPLAIN SELECT a FROM t x, s JOIN t y ON x.a = c;",
+        Code::S2,
+        41,
+        42,
+    ),
+    (b"SELECT a FROM t JOIN s;", Code::S1, 22, 22),
+    (b"SELECT a FROM t CROSS JOIN s ON a = c;", Code::S1, 29, 29),
+    (b"SELECT a FROM t, s JOIN t y ON a = c;", Code::S4, 7, 8),
+    (b"SELECT a FROM t JOIN s ON a = c, t y;", Code::S4, 7, 8),
+    (
+        b"SELECT t.a FROM t JOIN s ON a = c, t y ORDER BY b;",
+        Code::S4,
+        48,
+        49,
+    ),
+];
+
 fn add(
     catalog: &mut Catalog,
     alloc: Global,
@@ -305,10 +488,25 @@ fn reading(alloc: Global, catalog: &Catalog, text: &[u8]) -> Result<Prepared, Re
     read_select(alloc, catalog, text, &tokens, first)
 }
 
+/// Whether a column has this number: that of its relation ten times, and its own.
+fn is_numbered(column: ColRef, number: u8) -> bool {
+    let ColRef { rel, col } = column;
+    rel.0 < 8 && col.0 < 10 && rel.0 * 10 + col.0 == number
+}
+
 fn are_columns(columns: &[ColRef], numbers: &[u8]) -> bool {
     let mut same = columns.len() == numbers.len();
     for (column, number) in columns.iter().zip(numbers) {
-        same = same && column.rel == RelNo(0) && column.col.0 == *number;
+        same = same && is_numbered(*column, *number);
+    }
+    same
+}
+
+/// Whether the relations are of these tables.
+fn are_tables(range: &[(TableNo, Bytes)], tables: &[u8]) -> bool {
+    let mut same = range.len() == tables.len();
+    for (relation, table) in range.iter().zip(tables) {
+        same = same && relation.0 == TableNo(*table);
     }
     same
 }
@@ -371,7 +569,7 @@ fn are_items(items: &[OrderItem], wanted: &[(u8, bool, bool)]) -> bool {
     let mut same = items.len() == wanted.len();
     for (item, (col, descending, nulls_first)) in items.iter().zip(wanted) {
         same = same
-            && item.col.col.0 == *col
+            && is_numbered(item.col, *col)
             && item.descending == *descending
             && item.nulls_first == *nulls_first;
     }
@@ -418,5 +616,43 @@ fn limits_stand_at_the_first_word(rt: HostRuntime) {
             }
             None => assert_eq!(rt; found, None),
         }
+    }
+}
+
+#[test]
+fn reads_joins(rt: HostRuntime) {
+    let catalog = two_tables(rt.alloc()).expect(&rt, "tables");
+    for (text, tables, shown, used, conjuncts, clauses) in JOINS {
+        assert!(rt; text.len() < 200);
+        let query = reading(rt.alloc(), &catalog, text).expect(&rt, "a query");
+        assert!(rt; are_tables(query.range.items(), tables));
+        assert!(rt; are_columns(query.select.items(), shown));
+        assert!(rt; are_columns(query.used.items(), used));
+        assert_eq!(rt; query.where_all.items().len(), conjuncts);
+        assert_eq!(rt; query.classes.count(), clauses);
+    }
+}
+
+#[test]
+fn reads_orders_of_joins(rt: HostRuntime) {
+    let catalog = two_tables(rt.alloc()).expect(&rt, "tables");
+    for (text, items) in ORDERED_JOINS {
+        assert!(rt; text.len() < 200);
+        let query = reading(rt.alloc(), &catalog, text).expect(&rt, "a query");
+        assert!(rt; are_items(query.order.items(), items));
+    }
+}
+
+#[test]
+fn refuses_joins_at_the_first_fault(rt: HostRuntime) {
+    let catalog = two_tables(rt.alloc()).expect(&rt, "tables");
+    for (text, code, from, to) in WRONG_JOINS {
+        assert!(rt; text.len() < 200);
+        let found = told(reading(rt.alloc(), &catalog, text));
+        assert_eq!(rt;
+            found,
+            Some(Refusal::Fault(fault_of(code, from, to))),
+            "{text:?}"
+        );
     }
 }

@@ -1,4 +1,4 @@
-//! A SELECT as it is written: each name in small letters, with its token.
+//! Parts of a SELECT as they are written: each name in small letters, with its token.
 
 use sql_cursor::Spelled;
 
@@ -15,16 +15,18 @@ pub enum Item {
     Qualified(Spelled, Spelled),
 }
 
-/// What stands after FROM: a table, and its alias where one is given.
+/// A relation of FROM: a table, and its alias where one is given.
 #[derive(Debug, Drop)]
 pub struct Source {
     pub table: Spelled,
     pub alias: Option<Spelled>,
 }
 
-/// A SELECT as it is written.
-#[derive(Debug, Drop)]
-pub struct Query {
-    pub items: Vec<Item>,
-    pub source: Source,
+/// How a relation is joined to those before it in its group.
+#[derive(Clone, Copy, Debug, PartialEq, Eq)]
+pub enum Joining {
+    /// With a condition.
+    On,
+    /// Without one.
+    Cross,
 }

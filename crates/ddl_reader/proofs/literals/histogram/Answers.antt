@@ -3,7 +3,7 @@ use Rattle.std.specs.declared.alloc.Global.{Global}
 use Rattle.sql_grammar.specs.Syntax.{Lit}
 use Rattle.expr_reader.specs.declared.value.Placed.{Placed}
 use Rattle.sql_cursor.specs.Lists.{bound_each}
-use Rattle.ddl_reader.specs.Reads.{Reads, placed}
+use Rattle.ddl_reader.specs.AsMeant.{IsAsMeant, placed}
 use Rattle.ddl_reader.proofs.LiteralListLemmas.{has-bounds, no-bounds}
 use Rattle.ddl_reader.proofs.literals.histogram.Goals as goal
 
@@ -22,5 +22,5 @@ pub returns : goal.returns
 returns c = λ h rest ends is.
     let (token, took) = c.if-not-takes_free.ensures.took refl in
     let o = has-bounds h rest c.args.from.now c.takes_free.new.self token ends took is in
-    subst (λ (ls : List Lit). Reads (Vec Placed Global) (List Placed) (λ v. v.items) c.bounds.result (bound_each (placed c.args.t) ls)) (sym o.is)
+    subst (λ (ls : List Lit). IsAsMeant (Vec Placed Global) (List Placed) (λ v. v.items) c.bounds.result (bound_each (placed c.args.t) ls)) (sym o.is)
     (c.bounds.ensures.read o.first o.further o.close rest (c.skip.ensures ∙ o.words))

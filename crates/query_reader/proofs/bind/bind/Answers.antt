@@ -1,9 +1,49 @@
-use Rattle.std.proofs.Common.{sym, subst}
-use Rattle.pg_base.specs.Names.{IsName}
-use Rattle.query_reader.proofs.AliasLemmas.{alias-is}
+use Rattle.std.proofs.Common.{◌≡◌, ◌∷◌, ◌++◌, Result, ap, sym, subst, ◌∙◌, arith}
+use Rattle.std.proofs.lemmas.Result.{IfOk-weaker}
+use Rattle.pg_base.specs.declared.faults.Fault.{Fault}
+use Rattle.catalog.specs.Contents.{Contents}
+use Rattle.sql_grammar.specs.FromParts.{groups_after}
+use Rattle.sql_grammar.specs.Words.{words_of_order, words_of_where}
+use Rattle.expr_reader.proofs.StepLemmas.{step, stop}
+use Rattle.sql_query.specs.WellBound.{IsWellBound}
+use Rattle.query_reader.specs.Binding.{Bound, bound_over}
+use Rattle.query_reader.specs.From.{Joined, nothing_joined, with_groups}
+use Rattle.query_reader.specs.Select.{IsReadAs}
+use Rattle.query_reader.proofs.GrowLemmas.{some-groups}
+use Rattle.query_reader.proofs.JoinLemmas.{behind-from}
+use Rattle.query_reader.proofs.QueryLemmas.{stopped}
+use Rattle.query_reader.proofs.SourceLemmas.{into-fault, was-into}
 use Rattle.query_reader.proofs.bind.bind.Goals as goal
 
-pub over-requires-clause-name : goal.over-requires-clause-name
-over-requires-clause-name c =
-    let found = c.in_ok-number.ensures in
-    subst IsName (sym c.alias_of.ensures) (alias-is c.args.query.source.alias c.args.query.source.table c.requires.alias (subst IsName found.name found.lawful.name))
+pub returns-in_err-take_groups-clause-meaning : goal.returns-in_err-take_groups-clause-meaning
+returns-in_err-take_groups-clause-meaning c = λ g gs w y rest ends is.
+    let told = c.in_err-take_groups.ensures g gs (words_of_where w ++ (words_of_order y ++ rest)) (behind-from w y rest ends) is in
+    stopped _ c.in_err-take_groups.field-0.0 _
+    (λ f at. stop (with_groups (nothing_joined c.args.cat.now) (g ∷ groups_after gs)) _ f
+    (ap (λ (j : Joined). with_groups j (g ∷ groups_after gs)) (sym c.new-sources.ensures) ∙ into-fault (Unit {0}) Joined c.take_groups.new.self _ (words_of_where w ++ (words_of_order y ++ rest)) c.take_groups.new.from _ f told at))
+    c.from_residual.ensures.1
+
+pub over-requires-clause-some : goal.over-requires-clause-some
+over-requires-clause-some c =
+    let (g, gs, w, y, rest, ends, is) = c.requires in
+    let told = c.in_ok-take_groups.ensures g gs (words_of_where w ++ (words_of_order y ++ rest)) (behind-from w y rest ends) is in
+    let so = was-into (Unit {0}) Joined c.take_groups.new.self (with_groups c.new-sources.result (g ∷ groups_after gs)) _ (words_of_where w ++ (words_of_order y ++ rest)) c.take_groups.new.from told in
+    omega (arith, (some-groups c.new-sources.result c.take_groups.new.self g (groups_after gs) so.meant).more)
+
+pub returns-clause-meaning : goal.returns-clause-meaning
+returns-clause-meaning c = λ g gs w y rest ends is.
+    let told = c.in_ok-take_groups.ensures g gs (words_of_where w ++ (words_of_order y ++ rest)) (behind-from w y rest ends) is in
+    let so = was-into (Unit {0}) Joined c.take_groups.new.self (with_groups c.new-sources.result (g ∷ groups_after gs)) _ (words_of_where w ++ (words_of_order y ++ rest)) c.take_groups.new.from told in
+    let meant = ap (λ (j : Joined). with_groups j (g ∷ groups_after gs)) (sym c.new-sources.ensures) ∙ so.meant in
+    subst (λ (m : Result Bound Fault). IsReadAs m c.over.result)
+    (sym (step (with_groups (nothing_joined c.args.cat.now) (g ∷ groups_after gs)) (bound_over c.args.start c.args.items.now w y) c.take_groups.new.self meant))
+    (c.over.ensures.meaning w y rest ends so.words)
+
+pub returns-clause-well_bound : goal.returns-clause-well_bound
+returns-clause-well_bound c =
+    let (g, gs, w, y, rest, ends, is) = c.requires in
+    let told = c.in_ok-take_groups.ensures g gs (words_of_where w ++ (words_of_order y ++ rest)) (behind-from w y rest ends) is in
+    let so = was-into (Unit {0}) Joined c.take_groups.new.self (with_groups c.new-sources.result (g ∷ groups_after gs)) _ (words_of_where w ++ (words_of_order y ++ rest)) c.take_groups.new.from told in
+    let grown = some-groups c.new-sources.result c.take_groups.new.self g (groups_after gs) so.meant in
+    let same : c.take_groups.new.self.contents ≡ c.args.cat.now = grown.contents ∙ ap (λ (j : Joined). j.contents) c.new-sources.ensures in
+    IfOk-weaker c.over.result _ _ (λ q has names. subst (λ (x : Contents). IsWellBound x q) same (has names)) c.over.ensures.well_bound

@@ -1,11 +1,11 @@
 -- A list covers another where they agree at each place of the other.
 use Prim.Native.Nat.{suc, zero}
-use Rattle.std.proofs.Common.{◌≡◌, ◌<◌, ◌≤◌, ℕ, ◌+◌, Bool, true, false, nat_eq, nat_lt, List, [], ◌∷◌, get_or, length, refl, sym, ap, subst, arith}
-use Rattle.std.specs.Prelude.{Some, is_some, slice_get}
+use Rattle.std.proofs.Common.{◌≡◌, ◌∙◌, ◌<◌, ◌≤◌, ℕ, ◌+◌, Bool, true, false, nat_eq, nat_lt, List, [], ◌∷◌, get_or, length, refl, sym, ap, subst, arith}
+use Rattle.std.specs.Prelude.{None, Option, Some, is_some, slice_get}
 use Rattle.std.proofs.lemmas.Bool.{and_from, and_parts, eq-eqb, eqb-true, true≢false}
 use Rattle.std.proofs.lemmas.Bool.Decides.{nat_tests}
 use Rattle.eq_classes.specs.declared.classes.ClassNo.{ClassNo}
-use Rattle.pathkeys.specs.Finding.{class_numbers}
+use Rattle.pathkeys.specs.Finding.{class_numbers, is_class}
 use Rattle.pathkeys.specs.Keys.{Keys, covers}
 
 pub covers-at : (a b : Keys) (k : ℕ) → covers a b ≡ true → k < length b → slice_get a k ≡ slice_get b k
@@ -39,3 +39,11 @@ below-next P n h here k lt = by (nat_lt k n) refl
       where
         at : n ≡ k → P k
         at s = subst P s here
+
+pub class-at : (n : ℕ) (o : Option ℕ) → is_class n o ≡ true → o ≡ Some n
+class-at n None e = absurd (true≢false (sym e))
+class-at n (Some m) e = ap Some (sym (eqb-true n m e))
+
+pub other-class : (n : ℕ) (o : Option ℕ) → is_class n o ≡ false → ¬ (o ≡ Some n)
+other-class n None e same = cc
+other-class n (Some m) e same = let is : n ≡ m = cc in true≢false (sym (eq-eqb n m is) ∙ e)

@@ -1,1 +1,4 @@
+pub mod Examples
 pub mod Ordered
+pub mod OrderKeys
+pub mod Sorts

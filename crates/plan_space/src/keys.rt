@@ -4,7 +4,7 @@ ghost use Rattle.std.specs.Prelude.{◌≡◌, ◌≤◌, ◌↔◌, IsTrue, Som
 ghost use Rattle.eq_classes.specs.declared.classes.ClassNo.{ClassNo as Numbered};
 ghost use Rattle.std.specs.Option.{option_map};
 ghost use Rattle.catalog.specs.Contents.{IsIndex};
-ghost use Rattle.pathkeys.specs.Finding.{class_numbers};
+ghost use Rattle.pathkeys.specs.Finding.{class_numbers, is_class};
 ghost use Rattle.pathkeys.specs.Keys.{covers};
 ghost use Rattle.plan_tree.specs.Costable.{IsCostable};
 ghost use Rattle.plan_tree.specs.Keys as keys;
@@ -72,12 +72,11 @@ pub fn key_at(cat: &Catalog, q: &Prepared, p: &Plan, n: u8) -> Option<ClassNo>
 }
 
 /// Whether a class was found, and is this one.
-fn is_at(found: Option<ClassNo>, c: ClassNo) -> bool
-    ensures yes { result ≡ true → option_map (λ (k : Numbered). k.0) found ≡ Some c.0 }
-    ensures no { result ≡ false → ¬ (option_map (λ (k : Numbered). k.0) found ≡ Some c.0) }
+pub(crate) fn is_at(found: Option<ClassNo>, c: ClassNo) -> bool
+    ensures { result ≡ is_class c.0 (option_map (λ (k : Numbered). k.0) found) }
 {
     match found {
-        Some(k) => k.0 == c.0,
+        Some(k) => c.0 == k.0,
         None => false,
     }
 }

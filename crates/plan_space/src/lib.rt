@@ -1,10 +1,17 @@
 //! Which plans are in the plan space of a query. Nothing is asked of what stands inside a plan.
 #![tactic(auto)]
 
+mod finished;
+mod joins;
 mod keys;
+mod order;
+mod sorts;
+#[cfg(test)]
+mod tests;
 mod trees;
 mod validity;
 
+pub use finished::validate;
 pub use keys::{key_at, keys_begin_with};
 pub use trees::is_bitmap_scan;
 pub use validity::{is_index_only_scan, is_index_scan};

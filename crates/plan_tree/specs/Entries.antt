@@ -6,6 +6,7 @@ use Rattle.pg_base.specs.declared.numbers.IndexNo.{IndexNo}
 use Rattle.pg_value.specs.declared.value.Value.{Value}
 use Rattle.pg_value.specs.declared.value.Value.TheVariants.{Null}
 use Rattle.pg_value.specs.Sorting.{in_order}
+use Rattle.pg_value.specs.Truths.{is_true}
 use Rattle.opfamily.specs.KeyOrder.{Entry, entry_order}
 use Rattle.opfamily.specs.declared.classes.IndexKey.{IndexKey}
 use Rattle.opfamily.specs.declared.classes.Method.{Method}
@@ -16,7 +17,6 @@ use Rattle.pg_expr.specs.Truths.{truth_at}
 use Rattle.heap.specs.Stored.{Values}
 use Rattle.catalog.specs.Contents.{index_at}
 use Rattle.catalog.specs.Indexes.{Index}
-use Rattle.eq_classes.specs.Holding.{is_true}
 use Rattle.sql_query.specs.Worlds.{World, stored_at}
 
 -- the value of a column in a row

@@ -4,7 +4,7 @@ use Rattle.catalog.specs.Contents.{Contents}
 use Rattle.eq_classes.specs.Clauses.{Set}
 use Rattle.sql_query.specs.Queries.{Query}
 use Rattle.plan_tree.specs.Plans.{Plan, bitmap}
-use Rattle.plan_tree.specs.Space.{IsPlanOf}
+use Rattle.plan_tree.specs.Space.{IsBuilt, IsPlanOf}
 use Rattle.plan_tree.specs.Least.{IsAdmissible, Dominates}
 use Rattle.plan_tree.specs.Paths.{Path, IsPathOf}
 
@@ -25,6 +25,10 @@ module _ (c : Contents) (q : Query) where
     pub path : Path
     pub is_there : Contains paths path
     pub dominates : Dominates c q path.tree t
+
+  -- so for a plan, where it is of the space and admissible
+  abbrev pub IsServed : List Path → Plan → Type 0
+  IsServed paths t = IsBuilt c q t → IsAdmissible c q t → HasDominating paths t
 
   -- so for each admissible plan of a set and a parameterisation that passes a test
   abbrev pub AreDominated : (Plan → Bool) → Set → Set → List Path → Type 0

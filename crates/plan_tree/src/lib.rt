@@ -30,7 +30,9 @@ pub use laws::{
     admissible_children, at_most_is_domination, built_plans_are_costable, cost_bounds,
     dominating_finish, dominating_sides, domination, like_plans, replaced_children,
 };
-pub use make::{conditions_found, names_exactly, offer_scan, others_named, scan_path};
+pub use make::{
+    conditions_found, has_no_window, names_exactly, offer_scan, others_named, scan_path,
+};
 pub use parts::{arm_part_of, index_part_of};
 pub use path::Path;
 pub use plan::Plan;

@@ -95,7 +95,7 @@ pub fn names_exactly(cat: &Catalog, q: &Prepared, r: RelNo, p: RelSet, set: &Cla
 }
 
 /// A prepared query has no window.
-fn has_no_window(q: &Prepared)
+pub fn has_no_window(q: &Prepared)
     ensures { q.now.window ≡ None }
 {
     let _ = &q.range;

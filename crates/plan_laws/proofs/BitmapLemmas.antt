@@ -9,13 +9,12 @@ use Rattle.pg_base.specs.declared.numbers.IndexNo.{IndexNo}
 use Rattle.pg_base.specs.declared.rel_set.RelSet.{RelSet}
 use Rattle.pg_value.specs.declared.operators.Truth.{Truth}
 use Rattle.pg_value.specs.declared.operators.Truth.TheVariants.{True, False, Unknown}
-use Rattle.pg_value.specs.Truths.{both, either}
+use Rattle.pg_value.specs.Truths.{is_true, both, either}
 use Rattle.pg_value.specs.declared.value.Value.{Value}
 use Rattle.pg_expr.specs.declared.operand.ColRef.{ColRef}
 use Rattle.pg_expr.specs.Cond.{Cond, compare, is_null, is_not_null, bool_col, const, all_of, any_of, negation, Conds, no_conds, cond_and}
 use Rattle.pg_expr.specs.Truths.{truth_at, truth_of_all, truth_of_any}
 use Rattle.eq_classes.specs.Clauses.{Clause}
-use Rattle.eq_classes.specs.Holding.{is_true}
 use Rattle.pg_base.specs.declared.numbers.TableNo.{TableNo}
 use Rattle.catalog.specs.Contents.{Contents, NamedIndex, IsIndex, index_at, indexes_of, no_index, numbers_from}
 use Rattle.sql_query.specs.Queries.{Query, width}

@@ -4,10 +4,11 @@ use Rattle.std.specs.List.{AllByRecursion, list_all, enumerate_from}
 use Rattle.std.proofs.lemmas.List.Elements.{filter-append}
 use Rattle.std.proofs.lemmas.Bool.{cases_Bool, true≢false}
 use Rattle.pg_value.specs.declared.value.Value.{Value}
+use Rattle.pg_value.specs.Truths.{is_true}
 use Rattle.pg_expr.specs.declared.operand.ColRef.{ColRef}
 use Rattle.pg_expr.specs.Truths.{truth_at}
 use Rattle.eq_classes.specs.Clauses.{Clause}
-use Rattle.eq_classes.specs.Holding.{hold, is_true}
+use Rattle.eq_classes.specs.Holding.{hold}
 use Rattle.index_match.specs.Numbered.{numbered, those, conditions_of}
 use Rattle.sql_query.specs.Queries.{Query}
 use Rattle.sql_query.specs.Worlds.{World}

@@ -1,3 +1,4 @@
+pub mod WellBoundLemmas
 pub mod EachLemmas
 pub mod PermLemmas
 pub mod ProductLemmas

@@ -12,6 +12,7 @@ use Rattle.pg_value.specs.declared.operators.Truth.{Truth}
 use Rattle.pg_value.specs.declared.operators.Truth.TheVariants.{True, False, Unknown}
 use Rattle.pg_value.specs.declared.value.Value.{Value}
 use Rattle.pg_value.specs.Types.{IsOfType}
+use Rattle.pg_value.specs.Truths.{is_true}
 use Rattle.pg_value.proofs.OrderLaws.{value_total}
 use Rattle.pg_expr.specs.declared.operand.ColRef.{ColRef}
 use Rattle.pg_expr.specs.Columns.{each_column}
@@ -26,7 +27,7 @@ use Rattle.catalog.specs.Indexes.{no_column}
 use Rattle.catalog.specs.Range.{relation_at}
 use Rattle.eq_classes.specs.Clauses.{one, Clause}
 use Rattle.eq_classes.specs.Parts.{is_base, has_column}
-use Rattle.eq_classes.specs.Holding.{hold, is_true}
+use Rattle.eq_classes.specs.Holding.{hold}
 use Rattle.sql_query.specs.Queries.{Query, width}
 use Rattle.sql_query.specs.Tuples.{Tuple, row_of, one_row, beside, value_at, rows_of_relation}
 use Rattle.sql_query.specs.Worlds.{World, IsWorld}

@@ -28,7 +28,7 @@ use Rattle.catalog.specs.Contents.{index_at}
 use Rattle.catalog.specs.Indexes.{Index}
 use Rattle.eq_classes.specs.Clauses.{Set, one, Source, by_conjunct, by_class, by_pair}
 use Rattle.eq_classes.specs.Parts.{union, is_all, is_base, is_param, is_param_from, is_inside, is_lowest, is_relation_of}
-use Rattle.eq_classes.specs.Holding.{is_true}
+use Rattle.pg_value.specs.Truths.{is_true}
 use Rattle.sql_query.specs.Meaning.{all_true}
 use Rattle.sql_query.specs.Queries.{Query, width}
 use Rattle.sql_query.specs.Tuples.{Tuple, row_of, one_row, beside, value_at, rows_of_relation, row_numbers}

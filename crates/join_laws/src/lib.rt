@@ -1,0 +1,6 @@
+//! Joins made of kept plans: where each join of kept plans is dominated, each plan of the space is.
+#![tactic(auto)]
+
+mod laws;
+
+pub use laws::admissible_plans_are_dominated;

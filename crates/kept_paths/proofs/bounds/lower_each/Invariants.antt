@@ -1,0 +1,13 @@
+use Rattle.std.proofs.Common.{◌≡◌, ◌&&◌, ◌||◌, ℕ, nat_le, take}
+use Rattle.std.specs.Option.{IsSome}
+use Rattle.pathkeys.specs.Keys.{Keys}
+use Rattle.kept_paths.specs.Bounds.{is_told, known_at}
+use Rattle.kept_paths.proofs.ReadLemmas.{passed}
+use Rattle.kept_paths.proofs.bounds.lower_each.Given as goal
+
+-- the cost is told of the shorter lists that the list begins with
+abbrev pub invariant-loop-n : goal.invariant-loop-n
+invariant-loop-n l = record {
+  rooms : (m : ℕ) → IsSome (known_at l.bounds (take m l.list));
+  told : (ks : Keys) (c : ℕ) → is_told l.bounds ks c ≡ (is_told l.fn.bounds ks c || (passed l.n l.list ks && nat_le l.cost c));
+}

@@ -1,0 +1,115 @@
+//! For each list of classes, the least that paths whose keys begin with it cost.
+
+ghost use Rattle.std.specs.Prelude.{◌≡◌, ◌≢◌, ◌&&◌, ◌||◌, ℕ, IsSome, OnOk, nat_le, take};
+ghost use Rattle.pathkeys.specs.Keys as keys;
+ghost use Rattle.kept_paths.specs.Bounds.{is_told, is_within, known_at};
+
+use pg_base::Memory;
+use std::alloc::Global;
+use std::collections::BTreeMap;
+
+/// What is known of the paths whose keys begin with a list.
+#[derive(Clone, Copy)]
+pub(crate) struct Known {
+    /// The least that one of them costs, where there is one.
+    least: Option<u64>,
+    /// Where a path of just these keys was put last, if one was.
+    at: Option<usize>,
+}
+
+/// What is known of each list that the keys of a path begin with, by the numbers of its classes.
+pub(crate) type Bounds = BTreeMap<Vec<u16>, Known>;
+
+/// Whether a path costs no more than a cost, with keys that begin with a list.
+pub(crate) fn is_told(bounds: &Bounds, list: &[u16], cost: u64) -> bool
+    ensures { result ≡ is_told bounds.now list.now cost }
+{
+    match bounds.get(list) {
+        Some(known) => is_within(known.least, cost),
+        None => false,
+    }
+}
+
+/// Whether a least cost is no more than another cost.
+fn is_within(least: Option<u64>, cost: u64) -> bool
+    ensures { result ≡ is_within least cost }
+{
+    match least {
+        Some(least) => least <= cost,
+        None => false,
+    }
+}
+
+/// Where a path of just this list was put last, if one was.
+pub(crate) fn place_of(bounds: &Bounds, list: &[u16]) -> Option<usize> {
+    match bounds.get(list) {
+        Some(known) => known.at,
+        None => None,
+    }
+}
+
+/// Makes room for a list, of which nothing more is told then. The error means want of memory.
+fn add_room(alloc: Global, bounds: &mut Bounds, list: &[u16]) -> Result<(), Memory>
+    ensures told { (ks : keys.Keys) (n : ℕ) → is_told bounds.new ks n ≡ is_told bounds.old ks n }
+    ensures room { OnOk result (IsSome (known_at bounds.new list.now)) }
+    ensures rooms { (ks : keys.Keys) → IsSome (known_at bounds.old ks) → IsSome (known_at bounds.new ks) }
+{
+    if bounds.contains_key(list) {
+        return Ok(());
+    }
+    let nothing = Known {
+        least: None,
+        at: None,
+    };
+    let list = Vec::from_slice(alloc, list)?;
+    bounds.insert(list, nothing)?;
+    Ok(())
+}
+
+/// Makes room for each list that a list begins with. The error means want of memory.
+pub(crate) fn add_rooms(alloc: Global, bounds: &mut Bounds, list: &[u16]) -> Result<(), Memory>
+    ensures told { (ks : keys.Keys) (n : ℕ) → is_told bounds.new ks n ≡ is_told bounds.old ks n }
+    ensures rooms { OnOk result ((n : ℕ) → IsSome (known_at bounds.new (take n list.now))) }
+{
+    for n in 0..list.len() {
+        add_room(alloc, bounds, &list[..n])?;
+    }
+    add_room(alloc, bounds, list)
+}
+
+/// What is known once a path of a cost is there too, which was put at a place if it has just these keys.
+fn lowered(known: Known, cost: u64, at: Option<usize>) -> Known
+    ensures { (n : ℕ) → is_within result.least n ≡ (is_within known.least n || nat_le cost n) }
+{
+    let least = match known.least {
+        Some(least) => least.min(cost),
+        None => cost,
+    };
+    Known {
+        least: Some(least),
+        at: at.or(known.at),
+    }
+}
+
+/// Notes of a list that there is a path of a cost, which was put at a place if it has just these keys.
+fn lower(bounds: &mut Bounds, list: &[u16], cost: u64, at: Option<usize>)
+    requires { IsSome (known_at bounds.old list.now) }
+    ensures here { (n : ℕ) → is_told bounds.new list.now n ≡ (is_told bounds.old list.now n || nat_le cost n) }
+    ensures others { (ks : keys.Keys) → ks ≢ list.now → known_at bounds.new ks ≡ known_at bounds.old ks }
+    ensures room { IsSome (known_at bounds.new list.now) }
+{
+    if let Some(known) = bounds.get_mut(list) {
+        *known = lowered(*known, cost, at);
+    }
+}
+
+/// Notes of each list that a path's keys begin with what the path costs, and where it was put.
+pub(crate) fn lower_each(bounds: &mut Bounds, list: &[u16], cost: u64, at: usize)
+    requires { (n : ℕ) → IsSome (known_at bounds.old (take n list.now)) }
+    ensures { (ks : keys.Keys) (n : ℕ) → is_told bounds.new ks n ≡ (is_told bounds.old ks n || keys.covers list.now ks && nat_le cost n) }
+{
+    for n in 0..list.len() {
+        lower(bounds, &list[..n], cost, None);
+    }
+    lower(bounds, list, cost, Some(at));
+}

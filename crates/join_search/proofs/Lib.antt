@@ -1,0 +1,10 @@
+pub mod TableLemmas
+pub mod SetLemmas
+pub mod PlanLemmas
+pub mod TestedLemmas
+pub mod OfferLemmas
+pub mod ItemLemmas
+pub mod NestLemmas
+pub mod ListLemmas
+pub mod MergeLemmas
+pub mod SearchLemmas

@@ -1,0 +1,406 @@
+-- Merge joins of two sets: in the plan space, with their cost, and dominated by those of the cheapest sides.
+use Rattle.std.proofs.Common.{◌≡◌, ◌⊎◌, ◌<◌, ◌≤◌, ℕ, ◌-◌, ◌^◌, true, false, not, ◌||◌, ◌&&◌, Bool, cond, List, [], length, map, min, inl, inr, refl, sym, ◌∙◌, ap, ap₂, subst, subst₂, le_refl, arith}
+use Rattle.std.specs.Prelude.{All, Contains, None}
+use Rattle.std.proofs.lemmas.Bool.{cases_lt, true≢false}
+use Rattle.std.proofs.lemmas.List.Elements.{All-contains, All-contains_itself, All-map, All-nil, All-weaker}
+use Rattle.pg_base.specs.Sets.{has}
+use Rattle.pg_base.specs.declared.rel_set.RelSet.{RelSet}
+use Rattle.catalog.specs.Contents.{Contents}
+use Rattle.cost_rules.specs.Costs.{capped, capped_pair, merge_cost, pair, sort_cost}
+use Rattle.cost_rules.specs.declared.pair.Pair.{Pair}
+use Rattle.cost_rules.specs.declared.parameters.TheConstants.{MOST_COST}
+use Rattle.eq_classes.specs.Clauses.{Set}
+use Rattle.eq_classes.specs.Parts.{is_join}
+use Rattle.path_cost.specs.Costs.{operators}
+use Rattle.path_cost.specs.Estimates.{conditions_where, is_pair_of, pairs, set_rows}
+use Rattle.pathkeys.specs.Keys.{Keys, covers}
+use Rattle.pathkeys.proofs.CoveringLemmas.{covers-refl}
+use Rattle.sql_query.specs.Queries.{Query}
+use Rattle.plan_tree.specs.Costs.{cost, estimate, merge_operators}
+use Rattle.plan_tree.specs.Fronts.{IsServed, StayDominated}
+use Rattle.plan_tree.specs.Keys.{keys_of}
+use Rattle.plan_tree.specs.Least.{IsAdmissible}
+use Rattle.plan_tree.specs.Paths.{Path}
+use Rattle.plan_tree.specs.Plans.{Plan, seq, index, index_only, bitmap, sort, nest, merge, empty, is_sort, param_of, set_of}
+use Rattle.plan_tree.specs.Space.{HasKeys, IsBuilt, IsEmpty, IsLike, IsMergeList, IsPlanOf, IsSameSet}
+use Rattle.plan_tree.proofs.BoundLemmas.{merge-most}
+use Rattle.plan_tree.proofs.DominationLemmas.{dominates-trans}
+use Rattle.plan_tree.specs.Views.{path}
+use Rattle.plan_tree.specs.declared.path.Path.{Path as Costed}
+use Rattle.plan_tree.proofs.FrontLemmas.{all-sources, contains-mapped}
+use Rattle.plan_tree.proofs.JoinLemmas.{merge_costs}
+use Rattle.plan_tree.proofs.LikeLemmas.{set-like}
+use Rattle.plan_tree.proofs.ReplacingLemmas.{merge-totals, sort-totals}
+use Rattle.kept_paths.specs.Bounds.{IsBeaten}
+use Rattle.join_search.specs.Tables.{Fronts, none}
+use Rattle.join_search.specs.Joins.{ArePlaced, IsJoinOfKept, IsKept, IsPathAt, IsPlanIn, IsSideIn, IsSideKept}
+use Rattle.join_search.specs.Merges.{AreOutersServed, ArePlainServed, IsBestSide, IsCheapestBy, IsMergeWork, IsSideOf, cost_by, side_of}
+use Rattle.join_search.specs.Offers.{AreMergesServed, IsCheapest}
+use Rattle.join_search.specs.Splits.{IsSplit}
+use Rattle.join_search.specs.declared.merges.MergeWork.{MergeWork}
+use Rattle.join_search.specs.declared.splits.Split.{Split}
+use Rattle.join_search.proofs.OfferLemmas.{beaten-dominated, cheapest-of, no-startup, served-later}
+use Rattle.join_search.proofs.ItemLemmas.{there-kept, plan-of-none, side-of-none}
+use Rattle.join_search.proofs.PlanLemmas.{at-none, at-set, sets-same, whole-rows}
+
+by-true : (keys : Keys) (o : Costed) → covers o.keys keys ≡ true → cost_by keys o ≡ o.cost
+by-true keys o e = ap (λ b. cond b o.cost (2 ^ 64 - 1)) e
+
+by-false : (keys : Keys) (o : Costed) → covers o.keys keys ≡ false → cost_by keys o ≡ 2 ^ 64 - 1
+by-false keys o e = ap (λ b. cond b o.cost (2 ^ 64 - 1)) e
+
+-- the cheapest of the paths whose keys begin with a list
+pub cheapest-by : (paths : List Costed) (p : Costed) (keys : Keys) → Contains paths p → All (λ o. cost_by keys p ≤ cost_by keys o) paths → covers p.keys keys ≡ true → IsCheapestBy keys (map path paths) (path p)
+cheapest-by paths p keys is_there least e = record {
+  is_there = contains-mapped path paths p is_there;
+  begins = e;
+  least = All-map (λ (o : Path). covers o.keys keys ≡ true → p.cost ≤ o.cost) path paths (All-weaker (λ (o : Costed). cost_by keys p ≤ cost_by keys o) (λ (o : Costed). covers o.keys keys ≡ true → p.cost ≤ o.cost) one paths least);
+}
+  where
+    one : (o : Costed) → cost_by keys p ≤ cost_by keys o → covers o.keys keys ≡ true → p.cost ≤ o.cost
+    one o le f = omega (arith, le, by-true keys p e, by-true keys o f)
+
+pub none-begins : (paths : List Costed) (p : Costed) (keys : Keys) → All (λ o. o.cost < MOST_COST) paths → All (λ o. cost_by keys p ≤ cost_by keys o) paths → covers p.keys keys ≡ false → All (λ o. covers o.keys keys ≡ false) (map path paths)
+none-begins paths p keys below least e =
+    All-map (λ (o : Path). covers o.keys keys ≡ false) path paths (All-weaker (Contains paths) (λ (o : Costed). covers o.keys keys ≡ false) one paths (All-contains_itself paths))
+  where
+    one : (o : Costed) → Contains paths o → covers o.keys keys ≡ false
+    one o h = by (covers o.keys keys) refl
+      where
+        by : (b : Bool) → covers o.keys keys ≡ b → covers o.keys keys ≡ false
+        by false f = f
+        by true f =
+            let le = All-contains (λ (x : Costed). cost_by keys p ≤ cost_by keys x) paths o least h in
+            let lt = All-contains (λ (x : Costed). x.cost < MOST_COST) paths o below h in
+            absurd (omega (arith, le, lt, by-false keys p e, by-true keys o f))
+
+pub none-empty : (paths : List Costed) (keys : Keys) → paths ≡ [] → All (λ o. covers o.keys keys ≡ false) (map path paths)
+none-empty paths keys e = subst (All (λ (o : Path). covers o.keys keys ≡ false)) (ap (map path) (sym e)) (All-nil (λ (o : Path). covers o.keys keys ≡ false))
+
+-- a kept plan that is no sort may be a side
+plain-kept : (fronts : Fronts) (t : Plan) → is_sort t ≡ false → IsKept fronts t → IsSideKept fronts t
+plain-kept fronts (seq r) e k = k
+plain-kept fronts (index r i backward p) e k = k
+plain-kept fronts (index_only r i backward p) e k = k
+plain-kept fronts (bitmap r p bits) e k = k
+plain-kept fronts (sort ks input) e k = absurd (true≢false e)
+plain-kept fronts (nest o i) e k = k
+plain-kept fronts (merge ks o i) e k = k
+
+module _ (c : Contents) (q : Query) where
+  side-set : (keys : Keys) (t : Plan) (b : Bool) → set_of (side_of keys t b) ≡ set_of t
+  side-set keys t true = refl
+  side-set keys t false = refl
+
+  side-param : (keys : Keys) (t : Plan) (b : Bool) → param_of (side_of keys t b) ≡ param_of t
+  side-param keys t true = refl
+  side-param keys t false = refl
+
+  side-estimate : (keys : Keys) (t : Plan) (b : Bool) → estimate c q (side_of keys t b) ≡ estimate c q t
+  side-estimate keys t true = refl
+  side-estimate keys t false = refl
+
+  side-built : (keys : Keys) (t : Plan) (b : Bool) → IsBuilt c q t → is_sort t ≡ false → IsBuilt c q (side_of keys t b)
+  side-built keys t true built plain = (built, plain)
+  side-built keys t false built plain = built
+
+  plain-has : (t : Plan) (keys : Keys) → is_sort t ≡ false → covers (keys_of c q t) keys ≡ true → HasKeys c q t keys
+  plain-has (seq r) keys e h = h
+  plain-has (index r i backward p) keys e h = h
+  plain-has (index_only r i backward p) keys e h = h
+  plain-has (bitmap r p bits) keys e h = h
+  plain-has (sort ks input) keys e h = absurd (true≢false e)
+  plain-has (nest outer inner) keys e h = h
+  plain-has (merge ks outer inner) keys e h = h
+
+  side-has : (keys : Keys) (p : Path) (b : Bool) → is_sort p.tree ≡ false → p.keys ≡ keys_of c q p.tree → (b ≡ false → covers p.keys keys ≡ true) → HasKeys c q (side_of keys p.tree b) keys
+  side-has keys p true plain same h = refl
+  side-has keys p false plain same h = plain-has p.tree keys plain (subst (λ ks. covers ks keys ≡ true) same (h refl))
+
+  pub side-keys : (keys : Keys) (p : Path) (b : Bool) → p.keys ≡ keys_of c q p.tree → cond b keys p.keys ≡ keys_of c q (side_of keys p.tree b)
+  side-keys keys p true same = refl
+  side-keys keys p false same = same
+
+  side-reads : (keys : Keys) (s : RelSet) (p : Path) (b : Bool) → IsPathAt c q s none p → IsSameSet (has s.0) (set_of (side_of keys p.tree b))
+  side-reads keys s p b at k = at-set c q s none p at k ∙ ap (λ (x : Set). x k) (sym (side-set keys p.tree b))
+
+  side-whole : (keys : Keys) (s : RelSet) (p : Path) (b : Bool) → IsPathAt c q s none p → IsEmpty (param_of (side_of keys p.tree b))
+  side-whole keys s p b at k = ap (λ (x : Set). x k) (side-param keys p.tree b) ∙ at-none c q s p at k
+
+  -- what a side costs
+  pub side-sorted : (s : RelSet) (p : Path) (keys : Keys) (rows : ℕ) (b : Bool) → IsPathAt c q s none p → rows ≡ set_rows c q.range q.classes (has s.0) → b ≡ true → (capped_pair (sort_cost (pair 0 p.cost) rows)).total ≡ capped (cost c q (side_of keys p.tree b)).total
+  side-sorted s p keys rows true at same e =
+      let as-set : has s.0 ≡ set_of p.tree = sets-same (has s.0) (set_of p.tree) (at-set c q s none p at) in
+      ap (λ n. capped (sort_cost (pair 0 n) rows).total) at.is_path.numbers.cost
+      ∙ ap (λ n. capped (sort_cost (pair 0 (cost c q p.tree).total) n).total) (same ∙ ap (set_rows c q.range q.classes) as-set)
+  side-sorted s p keys rows false at same e = absurd (true≢false (sym e))
+
+  pub side-plain : (s : RelSet) (p : Path) (keys : Keys) (b : Bool) → IsPathAt c q s none p → b ≡ false → p.cost ≡ capped (cost c q (side_of keys p.tree b)).total
+  side-plain s p keys false at e = omega (arith, at.is_path.numbers.cost, at.admissible)
+  side-plain s p keys true at e = absurd (true≢false e)
+
+  -- the merge of two sides is a plan of their sets
+  pub merge-plan : (j : Split) (keys : Keys) (o i : Path) (bo bi : Bool) → IsSplit c q j → IsMergeList c q (has j.outer.0) (has j.inner.0) keys → IsPathAt c q j.outer none o → IsPathAt c q j.inner none i →
+      (bo ≡ false → covers o.keys keys ≡ true) → (bi ≡ false → covers i.keys keys ≡ true) → IsPlanOf c q (has j.set.0) empty (merge keys (side_of keys o.tree bo) (side_of keys i.tree bi))
+  merge-plan j keys o i bo bi split list outer inner ho hi =
+      let op = outer.is_path.plan in
+      let ip = inner.is_path.plan in
+      let reads = side-reads keys j.outer o bo outer in
+      let reads' = side-reads keys j.inner i bi inner in
+      record {
+        built = (
+          side-built keys o.tree bo op.built op.plain,
+          side-built keys i.tree bi ip.built ip.plain,
+          record {
+            sides = record { apart = λ k is. sym (reads' k) ∙ split.divided.apart k (reads k ∙ is); outer_whole = side-whole keys j.outer o bo outer };
+            inner_whole = side-whole keys j.inner i bi inner;
+            list = subst₂ (λ a b. IsMergeList c q a b keys) (sets-same (has j.outer.0) _ reads) (sets-same (has j.inner.0) _ reads') list;
+            outer_keys = side-has keys o bo op.plain outer.is_path.numbers.keys ho;
+            inner_keys = side-has keys i bi ip.plain inner.is_path.numbers.keys hi;
+          },
+        );
+        plain = refl;
+        set_is = λ k. ap₂ (λ x y. x || y) (sym (reads k)) (sym (reads' k)) ∙ sym (split.divided.all k);
+        param_is = λ k. refl;
+      }
+
+  -- and costs as much
+  pub merge-total : (j : Split) (keys : Keys) (o i : Path) (bo bi : Bool) (w : MergeWork) (oc ic len : ℕ) (result : Pair) → IsSplit c q j → IsPathAt c q j.outer none o → IsPathAt c q j.inner none i → IsMergeWork c q j keys w →
+      oc ≡ capped (cost c q (side_of keys o.tree bo)).total → ic ≡ capped (cost c q (side_of keys i.tree bi)).total → len ≡ length keys →
+      result ≡ capped_pair (merge_cost (pair 0 oc) (pair 0 ic) j.outer_rows j.inner_rows len w.pairs w.ops) → result.total ≡ capped (cost c q (merge keys (side_of keys o.tree bo) (side_of keys i.tree bi))).total
+  merge-total j keys o i bo bi w oc ic len result split outer inner work eo ei el e =
+      let t = side_of keys o.tree bo in
+      let u = side_of keys i.tree bi in
+      let reads = side-reads keys j.outer o bo outer in
+      let reads' = side-reads keys j.inner i bi inner in
+      let rows : j.outer_rows ≡ estimate c q t = split.outer_rows ∙ whole-rows c q j.outer t reads (side-whole keys j.outer o bo outer) in
+      let rows' : j.inner_rows ≡ estimate c q u = split.inner_rows ∙ whole-rows c q j.inner u reads' (side-whole keys j.inner i bi inner) in
+      let as-set : has j.outer.0 ≡ set_of t = sets-same (has j.outer.0) (set_of t) reads in
+      let as-set' : has j.inner.0 ≡ set_of u = sets-same (has j.inner.0) (set_of u) reads' in
+      let equal : w.pairs ≡ pairs c q.range q.classes (set_of t) (set_of u) keys = work.pairs ∙ (λ x. pairs c q.range q.classes (as-set x) (as-set' x) keys) in
+      let ops : w.ops ≡ min (merge_operators q keys t u) (2 ^ 64 - 1) =
+      work.ops ∙ (λ x. min (operators (conditions_where (λ k. is_join (as-set x) (as-set' x) k && not (is_pair_of keys k)) q.classes.clauses)) (2 ^ 64 - 1)) in
+      ap (λ (p : Pair). p.total)
+      (merge_costs result (pair 0 oc) (pair 0 ic) j.outer_rows j.inner_rows len w.pairs w.ops (estimate c q t) (estimate c q u) (length keys) (pairs c q.range q.classes (set_of t) (set_of u) keys) (merge_operators q keys t u)
+      e rows rows' el equal ops work.estimate.some (pair 0 (cost c q t).total) (pair 0 (cost c q u).total) (ap (pair 0) eo) (ap (pair 0) ei))
+
+  -- a side is a sort by the list of a path's plan, or a path's plan whose keys begin with the list
+  side-cases : (paths : List Path) (keys : Keys) (t : Plan) → IsSideIn paths t → HasKeys c q t keys → ((x : Plan) × IsPlanIn paths x × (t ≡ sort keys x)) ⊎ (IsPlanIn paths t × (covers (keys_of c q t) keys ≡ true))
+  side-cases paths keys (sort ks input) k h = inl (input, k, ap (λ (l : Keys). sort l input) h)
+  side-cases paths keys (seq r) k h = inr (k, h)
+  side-cases paths keys (index r i backward p) k h = inr (k, h)
+  side-cases paths keys (index_only r i backward p) k h = inr (k, h)
+  side-cases paths keys (bitmap r p bits) k h = inr (k, h)
+  side-cases paths keys (nest o i) k h = inr (k, h)
+  side-cases paths keys (merge ks o i) k h = inr (k, h)
+
+  -- the set and the parameterisation of a plan of some paths
+  plan-reads : (s : RelSet) (paths : List Path) (t : Plan) → All (IsPathAt c q s none) paths → IsPlanIn paths t → IsSameSet (has s.0) (set_of t) × IsEmpty (param_of t)
+  plan-reads s paths t at k =
+      let h = All-contains (IsPathAt c q s none) paths k.path at k.is_there in
+      (λ n. at-set c q s none k.path h n ∙ ap (λ (u : Plan). set_of u n) k.is_plan, λ n. sym (ap (λ (u : Plan). param_of u n) k.is_plan) ∙ at-none c q s k.path h n)
+
+  path-like : (keys : Keys) (s : RelSet) (paths : List Path) (p : Path) (b : Bool) (t : Plan) → All (IsPathAt c q s none) paths → IsPathAt c q s none p → IsPlanIn paths t → IsLike (side_of keys p.tree b) t
+  path-like keys s paths p b t at is k =
+      let r = plan-reads s paths t at k in
+      record { set = λ n. sym (side-reads keys s p b is n) ∙ r.0 n; param = λ n. side-whole keys s p b is n ∙ sym (r.1 n) }
+
+  -- a join with sides of the same sets that cost no more, and keys that begin with the outer side's, serves another
+  pub replaced : q.window ≡ None → (front : List Path) (keys : Keys) (o p i j : Plan) → IsLike p o → IsLike j i → (cost c q p).total ≤ (cost c q o).total → (cost c q j).total ≤ (cost c q i).total → IsBuilt c q p → IsBuilt c q j →
+      HasKeys c q p keys → HasKeys c q j keys → covers (keys_of c q p) (keys_of c q o) ≡ true → IsServed c q front (merge keys p j) → IsServed c q front (merge keys o i)
+  replaced window front keys o p i j lp lj tp tj bp bj hp hj kp served built admissible =
+      let most = merge-totals c q keys p o j i lp lj tp tj in
+      let n = built.2 in
+      let again : IsBuilt c q (merge keys p j) = (
+        bp,
+        bj,
+        record {
+          sides = record { apart = λ k e. lj.set k ∙ n.sides.apart k (sym (lp.set k) ∙ e); outer_whole = λ k. lp.param k ∙ n.sides.outer_whole k };
+          inner_whole = λ k. lj.param k ∙ n.inner_whole k;
+          list = subst₂ (λ a b. IsMergeList c q a b keys) (sym (set-like p o lp)) (sym (set-like j i lj)) n.list;
+          outer_keys = hp;
+          inner_keys = hj;
+        },
+      ) in
+      let found = served again (omega (arith, most, admissible)) in
+      record {
+        path = found.path;
+        is_there = found.is_there;
+        dominates = dominates-trans c q found.path.tree (merge keys p j) (merge keys o i) found.dominates (record {
+          like = record { set = λ k. ap₂ (λ x y. x || y) (lp.set k) (lj.set k); param = λ k. refl };
+          total = most;
+          startup = no-startup q.window _ _ window;
+          keys = kp;
+        });
+      }
+
+  -- where the merges of all outer sides with the best inner one are served, those with any inner side are
+  pub merges-served : q.window ≡ None → (front outers inners : List Path) (keys : Keys) (b : RelSet) (p : Path) (sorted : Bool) → All (IsPathAt c q b none) inners → IsBestSide c q keys inners p sorted →
+      AreOutersServed c q front outers keys (side_of keys p.tree sorted) → AreMergesServed c q front outers inners keys
+  merges-served window front outers inners keys b p sorted at best served o i so si built admissible =
+      let is = All-contains (IsPathAt c q b none) inners p at best.side.is_there in
+      let n = built.2 in
+      let below = merge-most c q keys o i in
+      let least = best.least i si built.1 n.inner_keys (omega (arith, below.1, admissible)) in
+      let own : IsLike o o = record { set = λ k. refl; param = λ k. refl } in
+      replaced window front keys o o i (side_of keys p.tree sorted) own (like is i (side-cases inners keys i si n.inner_keys)) (le_refl (cost c q o).total) least built.0
+      (side-built keys p.tree sorted is.is_path.plan.built is.is_path.plan.plain) n.outer_keys
+      (side-has keys p sorted is.is_path.plan.plain is.is_path.numbers.keys best.side.begins) (covers-refl (keys_of c q o)) (served o so) built admissible
+    where
+      like : IsPathAt c q b none p → (i : Plan) → ((x : Plan) × IsPlanIn inners x × (i ≡ sort keys x)) ⊎ (IsPlanIn inners i × (covers (keys_of c q i) keys ≡ true)) → IsLike (side_of keys p.tree sorted) i
+      like is i (inl (x, k, e)) = subst (IsLike (side_of keys p.tree sorted)) (sym e) (let l = path-like keys b inners p sorted x at is k in record { set = l.set; param = l.param })
+      like is i (inr (k, h)) = path-like keys b inners p sorted i at is k
+
+  -- the outer sides: paths whose keys begin with the list, and sorts
+  pub outers-served : (front outers : List Path) (keys : Keys) (a : RelSet) (i : Plan) → All (IsPathAt c q a none) outers → ArePlainServed c q front keys i outers → ((o : Plan) → IsPlanIn outers o → IsServed c q front (merge keys (sort keys o) i)) → AreOutersServed c q front outers keys i
+  outers-served front outers keys a i at plain sorted o so built admissible = by (side-cases outers keys o so built.2.outer_keys) built admissible
+    where
+      by : ((x : Plan) × IsPlanIn outers x × (o ≡ sort keys x)) ⊎ (IsPlanIn outers o × (covers (keys_of c q o) keys ≡ true)) → IsServed c q front (merge keys o i)
+      by (inl (x, k, e)) = subst (λ t. IsServed c q front (merge keys t i)) (sym e) (sorted x k)
+      by (inr (k, h)) =
+          let is = All-contains (IsPathAt c q a none) outers k.path at k.is_there in
+          let begins : covers k.path.keys keys ≡ true = ap (λ ks. covers ks keys) (is.is_path.numbers.keys ∙ ap (keys_of c q) k.is_plan) ∙ h in
+          let one = All-contains (λ (x : Path). covers x.keys keys ≡ true → IsServed c q front (merge keys x.tree i)) outers k.path plain k.is_there begins in
+          subst (λ t. IsServed c q front (merge keys t i)) k.is_plan one
+
+  -- the cheapest outer path sorted serves the others sorted
+  pub sorted-served : q.window ≡ None → (front outers : List Path) (keys : Keys) (a : RelSet) (p : Path) (i : Plan) → All (IsPathAt c q a none) outers → IsCheapest outers p → IsServed c q front (merge keys (sort keys p.tree) i) →
+      (o : Plan) → IsPlanIn outers o → IsServed c q front (merge keys (sort keys o) i)
+  sorted-served window front outers keys a p i at cheapest served o k built admissible =
+      let is = All-contains (IsPathAt c q a none) outers p at cheapest.is_there in
+      let is' = All-contains (IsPathAt c q a none) outers k.path at k.is_there in
+      let least = All-contains (λ (e : Path). p.cost ≤ e.cost) outers k.path cheapest.least k.is_there in
+      let like = path-like keys a outers p false o at is k in
+      let total : (cost c q p.tree).total ≤ (cost c q o).total = subst₂ (λ m n. m ≤ n) is.is_path.numbers.cost (is'.is_path.numbers.cost ∙ ap (λ (t : Plan). (cost c q t).total) k.is_plan) least in
+      let own : IsLike i i = record { set = λ n. refl; param = λ n. refl } in
+      replaced window front keys (sort keys o) (sort keys p.tree) i i (record { set = like.set; param = like.param }) own (sort-totals c q keys p.tree o like total).total (le_refl (cost c q i).total) (is.is_path.plan.built, is.is_path.plan.plain) built.1
+      refl built.2.inner_keys (covers-refl keys) served built admissible
+
+  -- the best of all sides
+  module _ (keys : Keys) (b : RelSet) (paths : List Path) (at : All (IsPathAt c q b none) paths) (p : Path) (cheapest : IsCheapest paths p) where
+    is-p : IsPathAt c q b none p
+    is-p = All-contains (IsPathAt c q b none) paths p at cheapest.is_there
+
+    sorts-least : (x : Plan) → IsPlanIn paths x → (cost c q (sort keys p.tree)).total ≤ (cost c q (sort keys x)).total
+    sorts-least x k =
+        let is' = All-contains (IsPathAt c q b none) paths k.path at k.is_there in
+        let least = All-contains (λ (e : Path). p.cost ≤ e.cost) paths k.path cheapest.least k.is_there in
+        let total : (cost c q p.tree).total ≤ (cost c q x).total = subst₂ (λ m n. m ≤ n) is-p.is_path.numbers.cost (is'.is_path.numbers.cost ∙ ap (λ (t : Plan). (cost c q t).total) k.is_plan) least in
+        (sort-totals c q keys p.tree x (path-like keys b paths p false x at is-p k) total).total
+
+    plain-cost : (t : Plan) (k : IsPlanIn paths t) → k.path.cost ≡ (cost c q t).total
+    plain-cost t k = (All-contains (IsPathAt c q b none) paths k.path at k.is_there).is_path.numbers.cost ∙ ap (λ (u : Plan). (cost c q u).total) k.is_plan
+
+    plain-begins : (t : Plan) (k : IsPlanIn paths t) → covers (keys_of c q t) keys ≡ true → covers k.path.keys keys ≡ true
+    plain-begins t k h = ap (λ ks. covers ks keys) ((All-contains (IsPathAt c q b none) paths k.path at k.is_there).is_path.numbers.keys ∙ ap (keys_of c q) k.is_plan) ∙ h
+
+    -- no path's keys begin with the list
+    pub best-alone : All (λ x. covers x.keys keys ≡ false) paths → IsBestSide c q keys paths p true
+    best-alone never = record { side = record { is_there = cheapest.is_there; begins = λ e. absurd (true≢false e) }; least = λ t s built h admissible. by t (side-cases paths keys t s h) }
+      where
+        by : (t : Plan) → ((x : Plan) × IsPlanIn paths x × (t ≡ sort keys x)) ⊎ (IsPlanIn paths t × (covers (keys_of c q t) keys ≡ true)) → (cost c q (sort keys p.tree)).total ≤ (cost c q t).total
+        by t (inl (x, k, e)) = subst (λ u. (cost c q (sort keys p.tree)).total ≤ (cost c q u).total) (sym e) (sorts-least x k)
+        by t (inr (k, h)) = absurd (true≢false (sym (plain-begins t k h) ∙ All-contains (λ (x : Path). covers x.keys keys ≡ false) paths k.path never k.is_there))
+
+    module _ (o : Path) (found : IsCheapestBy keys paths o) (n : ℕ) (e : n ≡ capped (cost c q (sort keys p.tree)).total) where
+      is-o : IsPathAt c q b none o
+      is-o = All-contains (IsPathAt c q b none) paths o at found.is_there
+
+      plain-least : (t : Plan) (k : IsPlanIn paths t) → covers (keys_of c q t) keys ≡ true → o.cost ≤ (cost c q t).total
+      plain-least t k h = subst (λ m. o.cost ≤ m) (plain-cost t k) (All-contains (λ (x : Path). covers x.keys keys ≡ true → o.cost ≤ x.cost) paths k.path found.least k.is_there (plain-begins t k h))
+
+      pub best-plain : o.cost ≤ n → IsBestSide c q keys paths o false
+      best-plain less = record { side = record { is_there = found.is_there; begins = λ f. found.begins }; least = λ t s built h admissible. by t admissible (side-cases paths keys t s h) }
+        where
+          own : o.cost ≡ (cost c q o.tree).total
+          own = is-o.is_path.numbers.cost
+
+          by : (t : Plan) → IsAdmissible c q t → ((x : Plan) × IsPlanIn paths x × (t ≡ sort keys x)) ⊎ (IsPlanIn paths t × (covers (keys_of c q t) keys ≡ true)) → (cost c q o.tree).total ≤ (cost c q t).total
+          by t admissible (inl (x, k, f)) =
+              let sorts = subst (λ u. (cost c q (sort keys p.tree)).total ≤ (cost c q u).total) (sym f) (sorts-least x k) in
+              omega (arith, own, less, e, sorts, admissible)
+          by t admissible (inr (k, h)) = omega (arith, own, plain-least t k h)
+
+      pub best-sorted : n < o.cost → IsBestSide c q keys paths p true
+      best-sorted more = record { side = record { is_there = cheapest.is_there; begins = λ f. absurd (true≢false f) }; least = λ t s built h admissible. by t admissible (side-cases paths keys t s h) }
+        where
+          by : (t : Plan) → IsAdmissible c q t → ((x : Plan) × IsPlanIn paths x × (t ≡ sort keys x)) ⊎ (IsPlanIn paths t × (covers (keys_of c q t) keys ≡ true)) → (cost c q (sort keys p.tree)).total ≤ (cost c q t).total
+          by t admissible (inl (x, k, f)) = subst (λ u. (cost c q (sort keys p.tree)).total ≤ (cost c q u).total) (sym f) (sorts-least x k)
+          by t admissible (inr (k, h)) = omega (arith, more, e, plain-least t k h, admissible)
+
+  -- the best side, as it is found
+  pub best-none : (keys : Keys) (b : RelSet) (paths : List Costed) (p : Costed) → All (IsPathAt c q b none) (map path paths) → Contains paths p → All (λ o. p.cost ≤ o.cost) paths → All (λ o. covers o.keys keys ≡ false) (map path paths) → IsBestSide c q keys (map path paths) (path p) true
+  best-none keys b paths p at is_there least never = best-alone keys b (map path paths) at (path p) (cheapest-of paths p is_there least) never
+
+  pub best-either : (keys : Keys) (b : RelSet) (paths : List Costed) (p o r : Costed) (sorted : Bool) (n : ℕ) → All (IsPathAt c q b none) (map path paths) → Contains paths p → All (λ o. p.cost ≤ o.cost) paths →
+      IsCheapestBy keys (map path paths) (path o) → n ≡ capped (cost c q (sort keys (path p).tree)).total →
+      (o.cost ≤ n → (r ≡ o) × (sorted ≡ false)) → (n < o.cost → (r ≡ p) × (sorted ≡ true)) → IsBestSide c q keys (map path paths) (path r) sorted
+  best-either keys b paths p o r sorted n at is_there least found e plain other = by (cases_lt n o.cost)
+    where
+      cheap : IsCheapest (map path paths) (path p)
+      cheap = cheapest-of paths p is_there least
+
+      by : (n < o.cost) ⊎ (o.cost ≤ n) → IsBestSide c q keys (map path paths) (path r) sorted
+      by (inl lt) =
+          let h = other lt in
+          subst₂ (λ (x : Costed) (f : Bool). IsBestSide c q keys (map path paths) (path x) f) (sym h.0) (sym h.1) (best-sorted keys b (map path paths) at (path p) cheap (path o) found n e lt)
+      by (inr le) =
+          let h = plain le in
+          subst₂ (λ (x : Costed) (f : Bool). IsBestSide c q keys (map path paths) (path x) f) (sym h.0) (sym h.1) (best-plain keys b (map path paths) at (path p) cheap (path o) found n e le)
+
+  pub paths-below : (s : RelSet) (paths : List Costed) → All (IsPathAt c q s none) (map path paths) → All (λ o. o.cost < MOST_COST) paths
+  paths-below s paths h =
+      All-weaker (λ (o : Costed). IsPathAt c q s none (path o)) (λ (o : Costed). o.cost < MOST_COST) (λ o k. let e = k.is_path.numbers.cost in let below = k.admissible in omega (arith, e, below)) paths (all-sources path (IsPathAt c q s none) paths h)
+
+  -- the merge of two sides of a table's fronts
+  module _ (fronts : Fronts) (placed : ArePlaced c q fronts) (j : Split) (keys : Keys) (split : IsSplit c q j) (list : IsMergeList c q (has j.outer.0) (has j.inner.0) keys)
+      (o i : Path) (bo bi : Bool) (outer : IsSideOf keys (fronts j.outer none) o bo) (inner : IsSideOf keys (fronts j.inner none) i bi) where
+    outer-at : IsPathAt c q j.outer none o
+    outer-at = All-contains (IsPathAt c q j.outer none) (fronts j.outer none) o (placed.paths j.outer none) outer.is_there
+
+    inner-at : IsPathAt c q j.inner none i
+    inner-at = All-contains (IsPathAt c q j.inner none) (fronts j.inner none) i (placed.paths j.inner none) inner.is_there
+
+    pub sides-plan : IsPlanOf c q (has j.set.0) empty (merge keys (side_of keys o.tree bo) (side_of keys i.tree bi))
+    sides-plan = merge-plan j keys o i bo bi split list outer-at inner-at outer.begins inner.begins
+
+    kept-side : (s : RelSet) (p : Path) (b : Bool) → Contains (fronts s none) p → is_sort p.tree ≡ false → IsSideKept fronts (side_of keys p.tree b)
+    kept-side s p true there plain = there-kept fronts s none p there
+    kept-side s p false there plain = plain-kept fronts p.tree plain (there-kept fronts s none p there)
+
+    pub sides-kept : IsJoinOfKept fronts (merge keys (side_of keys o.tree bo) (side_of keys i.tree bi))
+    sides-kept = (kept-side j.outer o bo outer.is_there outer-at.is_path.plan.plain, kept-side j.inner i bi inner.is_there inner-at.is_path.plan.plain)
+
+    pub sides-beaten : (front : List Path) (n : ℕ) (ks : Keys) → All (IsPathAt c q j.set none) front → n ≡ capped (cost c q (merge keys (side_of keys o.tree bo) (side_of keys i.tree bi))).total → ks ≡ cond bo keys o.keys → q.window ≡ None → IsBeaten front n ks → IsServed c q front (merge keys (side_of keys o.tree bo) (side_of keys i.tree bi))
+    sides-beaten front n ks paths e k window beaten built admissible =
+        beaten-dominated c q j.set front (merge keys (side_of keys o.tree bo) (side_of keys i.tree bi)) n ks paths sides-plan (omega (arith, e, admissible)) (k ∙ side-keys keys o bo outer-at.is_path.numbers.keys) window beaten
+
+    pub sides-keys : (ks : Keys) → ks ≡ cond bo keys o.keys → ks ≡ keys_of c q (merge keys (side_of keys o.tree bo) (side_of keys i.tree bi))
+    sides-keys ks k = k ∙ side-keys keys o bo outer-at.is_path.numbers.keys
+
+  pub merges-none : (front outers inners : List Path) (keys : Keys) → inners ≡ [] → AreMergesServed c q front outers inners keys
+  merges-none front outers inners keys e o i so si = absurd (side-of-none inners i e si)
+
+  pub sorted-none : (front outers : List Path) (keys : Keys) (i : Plan) → outers ≡ [] → (o : Plan) → IsPlanIn outers o → IsServed c q front (merge keys (sort keys o) i)
+  sorted-none front outers keys i e o k = absurd (plan-of-none outers o e k)
+
+  pub merges-later : (old new outers inners : List Path) (keys : Keys) → StayDominated c q old new → AreMergesServed c q old outers inners keys → AreMergesServed c q new outers inners keys
+  merges-later old new outers inners keys still h o i so si = served-later c q old new (merge keys o i) still (h o i so si)
+
+  pub plain-later : (old new outers : List Path) (keys : Keys) (i : Plan) → StayDominated c q old new → ArePlainServed c q old keys i outers → ArePlainServed c q new keys i outers
+  plain-later old new outers keys i still h =
+      All-weaker (λ (o : Path). covers o.keys keys ≡ true → IsServed c q old (merge keys o.tree i)) (λ (o : Path). covers o.keys keys ≡ true → IsServed c q new (merge keys o.tree i)) (λ o k e. served-later c q old new (merge keys o.tree i) still (k e)) outers h
+
+  -- a list that is no merge list has no merge of the space
+  pub merges-all : (front outers inners : List Path) (a b : RelSet) (lists : List Keys) → All (IsPathAt c q a none) outers → All (IsPathAt c q b none) inners → ((keys : Keys) → IsMergeList c q (has a.0) (has b.0) keys → Contains lists keys) →
+      All (AreMergesServed c q front outers inners) lists → (keys : Keys) → AreMergesServed c q front outers inners keys
+  merges-all front outers inners a b lists at at' all h keys o i so si built admissible =
+      let n = built.2 in
+      let reads = reads-of a outers o at (side-cases outers keys o so n.outer_keys) in
+      let reads' = reads-of b inners i at' (side-cases inners keys i si n.inner_keys) in
+      let list = subst₂ (λ x y. IsMergeList c q x y keys) (sym (sets-same (has a.0) (set_of o) reads)) (sym (sets-same (has b.0) (set_of i) reads')) n.list in
+      All-contains (AreMergesServed c q front outers inners) lists keys h (all keys list) o i so si built admissible
+    where
+      reads-of : (s : RelSet) (paths : List Path) (t : Plan) → All (IsPathAt c q s none) paths → ((x : Plan) × IsPlanIn paths x × (t ≡ sort keys x)) ⊎ (IsPlanIn paths t × (covers (keys_of c q t) keys ≡ true)) → IsSameSet (has s.0) (set_of t)
+      reads-of s paths t is (inl (x, k, e)) n = (plan-reads s paths x is k).0 n ∙ ap (λ (u : Plan). set_of u n) (sym e)
+      reads-of s paths t is (inr (k, h)) n = (plan-reads s paths t is k).0 n

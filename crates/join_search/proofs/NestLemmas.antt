@@ -1,0 +1,154 @@
+-- Nested loops of two sets: in the plan space, with their cost, and dominated by those with the cheapest inner path.
+use Rattle.std.proofs.Common.{◌≡◌, ◌<◌, ◌≤◌, ℕ, ◌-◌, ◌^◌, ◌||◌, List, [], min, refl, sym, ◌∙◌, ap, ap₂, subst, subst₂, le_refl, arith}
+use Rattle.std.specs.Prelude.{All, Contains, Option, None, Some}
+use Rattle.std.proofs.lemmas.List.Elements.{All-contains}
+use Rattle.pg_base.specs.Sets.{has}
+use Rattle.pg_base.specs.declared.rel_set.RelSet.{RelSet}
+use Rattle.catalog.specs.Contents.{Contents}
+use Rattle.cost_rules.specs.Costs.{capped, capped_pair, nest_cost, pair}
+use Rattle.cost_rules.specs.declared.pair.Pair.{Pair}
+use Rattle.cost_rules.specs.declared.parameters.TheConstants.{MOST_COST}
+use Rattle.eq_classes.specs.Clauses.{Set}
+use Rattle.eq_classes.specs.Holding.{IsWithin}
+use Rattle.path_cost.specs.Costs.{operators}
+use Rattle.path_cost.specs.Estimates.{conditions_where}
+use Rattle.pathkeys.proofs.CoveringLemmas.{covers-refl}
+use Rattle.sql_query.specs.Queries.{Query}
+use Rattle.plan_tree.specs.Costs.{cost, estimate, join_operators}
+use Rattle.plan_tree.specs.Fronts.{IsServed, StayDominated}
+use Rattle.plan_tree.specs.Keys.{keys_of}
+use Rattle.plan_tree.specs.Paths.{Path}
+use Rattle.plan_tree.specs.Plans.{Plan, empty, joins, nest, param_of, set_of}
+use Rattle.plan_tree.specs.Space.{IsBuilt, IsLike, IsPlanOf}
+use Rattle.plan_tree.specs.declared.path.Path.{Path as Costed}
+use Rattle.plan_tree.proofs.DominationLemmas.{dominates-trans}
+use Rattle.plan_tree.proofs.JoinLemmas.{nest_costs}
+use Rattle.plan_tree.proofs.ReplacingLemmas.{nest-totals}
+use Rattle.join_search.specs.Tables.{Fronts, front_at, none, params_of, paths_at, paths_of}
+use Rattle.join_search.specs.Joins.{ArePlaced, IsPathAt}
+use Rattle.join_search.specs.Nests.{IsInner, IsNestWork}
+use Rattle.join_search.specs.Offers.{AreNestsServed, IsCheapest}
+use Rattle.join_search.specs.Splits.{IsSplit}
+use Rattle.join_search.specs.declared.nests.NestWork.{NestWork}
+use Rattle.join_search.specs.declared.splits.Split.{Split}
+use Rattle.join_search.specs.declared.table.Table.{Table}
+use Rattle.join_search.proofs.OfferLemmas.{no-startup, served-later}
+use Rattle.join_search.proofs.ItemLemmas.{plan-of-none}
+use Rattle.join_search.proofs.TableLemmas.{params-found}
+use Rattle.join_search.proofs.PlanLemmas.{at-none, at-param, at-set, sets-same, whole-rows}
+
+-- the cut total of an admissible plan
+pub cut-pair : (n m : ℕ) → n ≡ m → m < MOST_COST → pair 0 n ≡ capped_pair (pair 0 m)
+cut-pair n m e below = let same : n ≡ capped m = omega (arith, e, below) in ap (pair 0) same
+
+module _ (c : Contents) (q : Query) where
+  -- the nested loop of two paths is a plan of their sets
+  pub nest-plan : (j : Split) (o i : Path) → IsSplit c q j → IsPathAt c q j.outer none o → IsInner c q j i → IsPlanOf c q (has j.set.0) empty (nest o.tree i.tree)
+  nest-plan j o i split outer inner =
+      let op = outer.is_path.plan in
+      let ip = inner.stands.is_path.plan in
+      let reads = at-set c q j.outer none o outer in
+      let reads' = at-set c q j.inner i.param i inner.stands in
+      record {
+        built = (
+          op.built,
+          ip.built,
+          record {
+            sides = record { apart = λ k is. sym (reads' k) ∙ split.divided.apart k (reads k ∙ is); outer_whole = at-none c q j.outer o outer };
+            given = λ k is. sym (reads k) ∙ inner.given k (at-param c q j.inner i.param i inner.stands k ∙ is);
+            outer_plain = op.plain;
+            inner_plain = ip.plain;
+          },
+        );
+        plain = refl;
+        set_is = λ k. ap₂ (λ x y. x || y) (sym (reads k)) (sym (reads' k)) ∙ sym (split.divided.all k);
+        param_is = λ k. refl;
+      }
+
+  -- and costs as much
+  pub nest-total : (j : Split) (o i : Path) (w : NestWork) (result : Pair) → IsSplit c q j → IsPathAt c q j.outer none o → IsInner c q j i → IsNestWork c q j.outer i.tree w →
+      result ≡ capped_pair (nest_cost (pair 0 o.cost) (pair 0 i.cost) j.outer_rows w.inner_rows w.ops) → result.total ≡ capped (cost c q (nest o.tree i.tree)).total
+  nest-total j o i w result split outer inner work e =
+      let x = (cost c q o.tree).total in
+      let y = (cost c q i.tree).total in
+      let rows : j.outer_rows ≡ estimate c q o.tree = split.outer_rows ∙ whole-rows c q j.outer o.tree (at-set c q j.outer none o outer) (at-none c q j.outer o outer) in
+      let ops : w.ops ≡ min (join_operators q o.tree i.tree) (2 ^ 64 - 1) =
+      work.ops ∙ ap (λ (a : Set). min (operators (conditions_where (joins a i.tree) q.classes.clauses)) (2 ^ 64 - 1)) (sets-same (has j.outer.0) (set_of o.tree) (at-set c q j.outer none o outer)) in
+      ap (λ (p : Pair). p.total)
+      (nest_costs result (pair 0 o.cost) (pair 0 i.cost) j.outer_rows w.inner_rows w.ops (estimate c q o.tree) (estimate c q i.tree) (join_operators q o.tree i.tree) e rows work.inner_rows ops split.outer_estimate.some work.inner_estimate.some
+      (pair 0 x) (pair 0 y) (cut-pair o.cost x outer.is_path.numbers.cost outer.admissible) (cut-pair i.cost y inner.stands.is_path.numbers.cost inner.stands.admissible))
+
+  same-like : (s p : RelSet) (x y : Path) → IsPathAt c q s p x → IsPathAt c q s p y → IsLike x.tree y.tree
+  same-like s p x y h k = record {
+    set = λ n. sym (at-set c q s p x h n) ∙ at-set c q s p y k n;
+    param = λ n. sym (at-param c q s p x h n) ∙ at-param c q s p y k n;
+  }
+
+  -- what a cheaper path of the same place serves as inner one, another is served by
+  module _ (window : q.window ≡ None) (front : List Path) (b p : RelSet) (i y : Path) (at : IsPathAt c q b p i) (at' : IsPathAt c q b p y) (least : i.cost ≤ y.cost) where
+    inner-replaced : (o : Plan) → IsServed c q front (nest o i.tree) → IsServed c q front (nest o y.tree)
+    inner-replaced o served built admissible =
+        let like = same-like b p i y at at' in
+        let total : (cost c q i.tree).total ≤ (cost c q y.tree).total = subst₂ (λ m n. m ≤ n) at.is_path.numbers.cost at'.is_path.numbers.cost least in
+        let own : IsLike o o = record { set = λ k. refl; param = λ k. refl } in
+        let most = nest-totals c q o o i.tree y.tree own like (le_refl (cost c q o).total) total in
+        let n = built.2 in
+        let again : IsBuilt c q (nest o i.tree) = (
+          built.0,
+          at.is_path.plan.built,
+          record {
+            sides = record { apart = λ k is. like.set k ∙ n.sides.apart k is; outer_whole = n.sides.outer_whole };
+            given = λ k is. n.given k (sym (like.param k) ∙ is);
+            outer_plain = n.outer_plain;
+            inner_plain = at.is_path.plan.plain;
+          },
+        ) in
+        let found = served again (omega (arith, most, admissible)) in
+        record {
+          path = found.path;
+          is_there = found.is_there;
+          dominates = dominates-trans c q found.path.tree (nest o i.tree) (nest o y.tree) found.dominates (record {
+            like = record { set = λ k. ap (λ x. set_of o k || x) (like.set k); param = λ k. refl };
+            total = most;
+            startup = no-startup q.window _ _ window;
+            keys = covers-refl (keys_of c q o);
+          });
+        }
+
+  pub nests-served : q.window ≡ None → (front outers inners : List Path) (b p : RelSet) (i : Path) → All (IsPathAt c q b p) inners → IsCheapest inners i → All (λ o. IsServed c q front (nest o.tree i.tree)) outers → AreNestsServed c q front outers inners
+  nests-served window front outers inners b p i at cheapest served o y x z =
+      let is = All-contains (IsPathAt c q b p) inners i at cheapest.is_there in
+      let is' = All-contains (IsPathAt c q b p) inners z.path at z.is_there in
+      let least = All-contains (λ (e : Path). i.cost ≤ e.cost) inners z.path cheapest.least z.is_there in
+      let one = All-contains (λ (e : Path). IsServed c q front (nest e.tree i.tree)) outers x.path served x.is_there in
+      subst₂ (λ a d. IsServed c q front (nest a d)) x.is_plan z.is_plan (inner-replaced window front b p i z.path is is' least x.path.tree one)
+
+  pub given-inner : (j : Split) (p : RelSet) (x : Path) → IsPathAt c q j.inner p x → IsWithin (has p.0) (has j.outer.0) → IsInner c q j x
+  given-inner j p x h within = record {
+    stands = subst (λ (r : RelSet). IsPathAt c q j.inner r x) (sym h.param) h;
+    given = subst (λ (r : RelSet). IsWithin (has r.0) (has j.outer.0)) (sym h.param) within;
+  }
+
+  pub nests-none : (front outers inners : List Path) → inners ≡ [] → AreNestsServed c q front outers inners
+  nests-none front outers inners e o i x y = absurd (plan-of-none inners i e y)
+
+  -- no inner path may be given rows of others than the outer set
+  pub nests-apart : (fronts : Fronts) (front : List Path) (a b p : RelSet) → ArePlaced c q fronts → (IsWithin (has p.0) (has a.0) → ⊥) → AreNestsServed c q front (fronts a none) (fronts b p)
+  nests-apart fronts front a b p placed apart o i x y built admissible =
+      let h = All-contains (IsPathAt c q a none) (fronts a none) x.path (placed.paths a none) x.is_there in
+      let k = All-contains (IsPathAt c q b p) (fronts b p) y.path (placed.paths b p) y.is_there in
+      absurd (apart (λ n is.
+      at-set c q a none x.path h n ∙ ap (λ (t : Plan). set_of t n) x.is_plan
+      ∙ built.2.given n (sym (ap (λ (t : Plan). param_of t n) y.is_plan) ∙ sym (at-param c q b p y.path k n) ∙ is)))
+
+  pub nests-later : (old new outers inners : List Path) → StayDominated c q old new → AreNestsServed c q old outers inners → AreNestsServed c q new outers inners
+  nests-later old new outers inners still h o i x y = served-later c q old new (nest o i) still (h o i x y)
+
+  -- those with the parameterisations at which the set has a front are all
+  pub nests-all : (table : Table) (front : List Path) (a b : RelSet) (params : List RelSet) → params ≡ params_of b table.places.items →
+      All (λ p. AreNestsServed c q front (paths_at table a none) (paths_at table b p)) params → (p : RelSet) → AreNestsServed c q front (paths_at table a none) (paths_at table b p)
+  nests-all table front a b params same h p = by (front_at table b p) refl
+    where
+      by : (o : Option (List Costed)) → front_at table b p ≡ o → AreNestsServed c q front (paths_at table a none) (paths_at table b p)
+      by None e = nests-none front (paths_at table a none) (paths_at table b p) (ap paths_of e)
+      by (Some f) e = All-contains (λ (r : RelSet). AreNestsServed c q front (paths_at table a none) (paths_at table b r)) params p h (subst (λ (ps : List RelSet). Contains ps p) (sym same) (params-found b p f table.places.items e))

@@ -1,0 +1,88 @@
+-- The clauses that a join with an inner path tests, and the operators of joins.
+use Rattle.std.proofs.Common.{◌≡◌, ◌<◌, ℕ, Bool, true, false, cond, ◌||◌, ◌&&◌, nat_eq, nat_lt, List, length, refl, sym, ◌∙◌, ap, ap₂, arith}
+use Rattle.std.specs.Prelude.{Option, Some, None, IfSome}
+use Rattle.std.proofs.lemmas.Bool.{eqb-true}
+use Rattle.pg_base.specs.Sets.{has}
+use Rattle.pg_base.proofs.SetLaws.{has-zero, none-zero, same_set}
+use Rattle.pg_base.specs.declared.numbers.RelNo.{RelNo}
+use Rattle.pg_base.specs.declared.rel_set.RelSet.{RelSet}
+use Rattle.pg_expr.specs.AtomSets.{contains}
+use Rattle.catalog.specs.Contents.{Contents}
+use Rattle.eq_classes.specs.Clauses.{Table, one}
+use Rattle.eq_classes.specs.Listing.{clause_at}
+use Rattle.eq_classes.specs.Parts.{is_join, is_join_param}
+use Rattle.sql_query.specs.Queries.{Query, width}
+use Rattle.plan_tree.specs.Paths.{Path}
+use Rattle.plan_tree.specs.Plans.{Plan, seq, index, index_only, bitmap, sort, nest, merge, GivenScan, given_scan, is_empty, joins_with, param_in, param_of, set_of}
+use Rattle.plan_tree.specs.Reads.{IsOverTables, ReadsBelow}
+use Rattle.plan_tree.specs.Space.{IsSameSet}
+use Rattle.plan_tree.proofs.PathLemmas.{built-below}
+use Rattle.join_search.specs.Nests.{AreTested, IsInner}
+use Rattle.join_search.specs.declared.splits.Split.{Split}
+use Rattle.join_search.proofs.PlanLemmas.{at-param, at-set, given-none, sets-same}
+
+either-below : (n k : ℕ) (a b : Bool) → (a ≡ true → k < n) → (b ≡ true → k < n) → a || b ≡ true → k < n
+either-below n k true b f g e = f refl
+either-below n k false b f g e = g e
+
+one-below : (n r k : ℕ) → r < n → nat_eq k r ≡ true → k < n
+one-below n r k lt e = let same : k ≡ r = eqb-true k r e in omega (arith, lt, same)
+
+-- the relations of a plan that reads relations below a number
+pub read-below : (n : ℕ) (t : Plan) (k : ℕ) → ReadsBelow n t → set_of t k ≡ true → k < n
+read-below n (seq r) k h e = one-below n r.0 k h e
+read-below n (index r i backward p) k h e = one-below n r.0 k h e
+read-below n (index_only r i backward p) k h e = one-below n r.0 k h e
+read-below n (bitmap r p bits) k h e = one-below n r.0 k h e
+read-below n (sort keys input) k h e = read-below n input k h e
+read-below n (nest o i) k h e = either-below n k (set_of o k) (set_of i k) (read-below n o k h.0) (read-below n i k h.1) e
+read-below n (merge keys o i) k h e = either-below n k (set_of o k) (set_of i k) (read-below n o k h.0) (read-below n i k h.1) e
+
+-- a scan that is given rows is of one relation
+scan-one : (r : RelNo) (p : RelSet) (b : Bool) → IfSome (cond b None (Some (record { relation = r; param = p }))) (λ (s : GivenScan). IsSameSet (one r.0) (one s.relation.0))
+scan-one r p true = tt
+scan-one r p false = λ k. refl
+
+given-one : (t : Plan) → IfSome (given_scan t) (λ (s : GivenScan). IsSameSet (set_of t) (one s.relation.0))
+given-one (seq r) = tt
+given-one (index r i backward p) = scan-one r p (is_empty p)
+given-one (index_only r i backward p) = scan-one r p (is_empty p)
+given-one (bitmap r p bits) = scan-one r p (is_empty p)
+given-one (sort keys input) = given-one input
+given-one (nest o i) = tt
+given-one (merge keys o i) = tt
+
+pub given-some : (t : Plan) (r : RelNo) (p : RelSet) → IsSameSet (has p.0) (param_of t) → (p.0 ≡ 0 → ⊥) → set_of t r.0 ≡ true → given_scan t ≡ Some (record { relation = r; param = p })
+given-some t r p params some reads = by (given_scan t) params (given-one t)
+  where
+    by : (g : Option GivenScan) → IsSameSet (has p.0) (param_in g) → IfSome g (λ (s : GivenScan). IsSameSet (set_of t) (one s.relation.0)) → g ≡ Some (record { relation = r; param = p })
+    by None same of = absurd (some (none-zero p.0 same))
+    by (Some s) same of =
+        let rel : s.relation.0 ≡ r.0 = sym (eqb-true r.0 s.relation.0 (sym (of r.0) ∙ reads)) in
+        let param : s.param.0 ≡ p.0 = same_set s.param.0 p.0 (λ k. sym (same k)) in
+        ap₂ (λ (m n : ℕ). Some (record { relation = record { 0 = m }; param = record { 0 = n } })) rel param
+
+module _ (c : Contents) (q : Query) (j : Split) (x : Path) where
+  reads : IsInner c q j x → IsSameSet (has j.inner.0) (set_of x.tree)
+  reads h = at-set c q j.inner x.param x h.stands
+
+  -- its relations are those of the query
+  pub few-relation : (r : ℕ) → IsOverTables c q → IsInner c q j x → has j.inner.0 r ≡ true → r < 16
+  few-relation r over h is =
+      let below = read-below (width q) x.tree r (built-below c q x.tree h.stands.is_path.plan.built) (sym (reads h r) ∙ is) in
+      omega (arith, below, over.few)
+
+  pub tested-whole : (table : Table) (set : List ℕ) → IsInner c q j x → x.param.0 ≡ 0 → table ≡ q.classes →
+      ((k : ℕ) → contains set k ≡ nat_lt k (length table.clauses) && is_join (has j.outer.0) (has j.inner.0) (clause_at table.clauses k)) → AreTested q j.outer x.tree set
+  tested-whole table set h zero same tested =
+      let whole : given_scan x.tree ≡ None = given-none x.tree (λ k. sym (at-param c q j.inner x.param x h.stands k) ∙ ap (λ n. has n k) zero ∙ has-zero k) in
+      let as-set : has j.inner.0 ≡ set_of x.tree = sets-same (has j.inner.0) (set_of x.tree) (reads h) in
+      let none : None ≡ given_scan x.tree = sym whole in
+      λ k. tested k ∙ (λ z. nat_lt k (length (same z).clauses) && joins_with (has j.outer.0) (as-set z) (none z) (clause_at (same z).clauses k))
+
+  pub tested-given : (r : RelNo) (table : Table) (set : List ℕ) → IsInner c q j x → (x.param.0 ≡ 0 → ⊥) → has j.inner.0 r.0 ≡ true → table ≡ q.classes →
+      ((k : ℕ) → contains set k ≡ nat_lt k (length table.clauses) && is_join_param (has j.outer.0) r.0 (has x.param.0) (clause_at table.clauses k)) → AreTested q j.outer x.tree set
+  tested-given r table set h some is same tested =
+      let scan : Some (record { relation = r; param = x.param }) ≡ given_scan x.tree =
+      sym (given-some x.tree r x.param (at-param c q j.inner x.param x h.stands) some (sym (reads h r.0) ∙ is)) in
+      λ k. tested k ∙ (λ z. nat_lt k (length (same z).clauses) && joins_with (has j.outer.0) (set_of x.tree) (scan z) (clause_at (same z).clauses k))

@@ -1,0 +1,16 @@
+use Rattle.std.proofs.Common.{◌<◌, map}
+use Rattle.std.specs.Prelude.{All}
+use Rattle.pg_base.specs.declared.rel_set.RelSet.{RelSet}
+use Rattle.plan_tree.specs.Views.{path}
+use Rattle.join_search.specs.Joins.{IsJoinPath}
+use Rattle.join_search.specs.Offers.{AreJoinsServed}
+use Rattle.join_search.specs.Splits.{IsDivided}
+use Rattle.join_search.specs.Tables.{none, paths_at}
+use Rattle.join_search.proofs.by_sets.joins_of.Given as goal
+
+-- the joins of the parts below a number with the rest were offered
+abbrev pub invariant-loop-part : goal.invariant-loop-part
+invariant-loop-part l = record {
+  joins : All (IsJoinPath l.cat l.q (paths_at l.table) l.set none) (map path l.kept);
+  served : (a b : RelSet) → a.0 < l.part → IsDivided l.set a b → AreJoinsServed l.cat l.q (paths_at l.table) (map path l.kept) a b;
+}

@@ -1,0 +1,13 @@
+use Rattle.std.proofs.Common.{map, take}
+use Rattle.std.specs.Prelude.{All}
+use Rattle.plan_tree.specs.Views.{path}
+use Rattle.join_search.specs.Offers.{AreMergesServed, TakesJoins}
+use Rattle.join_search.specs.Tables.{none, paths_at}
+use Rattle.join_search.proofs.merges.offer_merges.Given as goal
+
+-- the merges by the lists so far were offered
+abbrev pub invariant-loop-by : goal.invariant-loop-by
+invariant-loop-by l = record {
+  takes : TakesJoins l.cat l.q (paths_at l.table) l.j.set (map path l.fn.front) (map path l.front);
+  served : All (λ by'. AreMergesServed l.cat l.q (map path l.front) (paths_at l.table l.j.outer none) (paths_at l.table l.j.inner none) by') (take l.by-index l.by-items);
+}

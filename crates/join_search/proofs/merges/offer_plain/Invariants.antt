@@ -1,0 +1,17 @@
+use Rattle.std.proofs.Common.{◌≡◌, map, take, true}
+use Rattle.std.specs.Prelude.{All}
+use Rattle.pathkeys.specs.Keys.{covers}
+use Rattle.plan_tree.specs.Fronts.{IsServed}
+use Rattle.plan_tree.specs.Plans.{merge}
+use Rattle.plan_tree.specs.Views.{path}
+use Rattle.join_search.specs.Merges.{side_plan}
+use Rattle.join_search.specs.Offers.{TakesJoins}
+use Rattle.join_search.specs.Tables.{paths_at}
+use Rattle.join_search.proofs.merges.offer_plain.Given as goal
+
+-- the merges of the outer paths so far, where their keys begin with the list, were offered
+abbrev pub invariant-loop-outer : goal.invariant-loop-outer
+invariant-loop-outer l = record {
+  takes : TakesJoins l.cat l.q (paths_at l.table) l.j.set (map path l.fn.front) (map path l.front);
+  served : All (λ o. covers (path o).keys l.by ≡ true → IsServed l.cat l.q (map path l.front) (merge l.by (path o).tree (side_plan l.by l.inner))) (take l.outer-index l.outer-items);
+}

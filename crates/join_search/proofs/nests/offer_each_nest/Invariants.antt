@@ -1,0 +1,15 @@
+use Rattle.std.proofs.Common.{map, take}
+use Rattle.std.specs.Prelude.{All}
+use Rattle.plan_tree.specs.Fronts.{IsServed}
+use Rattle.plan_tree.specs.Plans.{nest}
+use Rattle.plan_tree.specs.Views.{path}
+use Rattle.join_search.specs.Offers.{TakesJoins}
+use Rattle.join_search.specs.Tables.{paths_at}
+use Rattle.join_search.proofs.nests.offer_each_nest.Given as goal
+
+-- the nested loops of the outer paths so far were offered
+abbrev pub invariant-loop-outer : goal.invariant-loop-outer
+invariant-loop-outer l = record {
+  takes : TakesJoins l.cat l.q (paths_at l.table) l.j.set (map path l.fn.front) (map path l.front);
+  served : All (λ o. IsServed l.cat l.q (map path l.front) (nest (path o).tree (path l.inner).tree)) (take l.outer-index l.outer-items);
+}

@@ -1,0 +1,13 @@
+use Rattle.std.proofs.Common.{map, take}
+use Rattle.std.specs.Prelude.{All}
+use Rattle.plan_tree.specs.Views.{path}
+use Rattle.join_search.specs.Offers.{AreNestsServed, TakesJoins}
+use Rattle.join_search.specs.Tables.{none, paths_at}
+use Rattle.join_search.proofs.nests.offer_nests.Given as goal
+
+-- the nested loops with the inner paths of the parameterisations so far were offered
+abbrev pub invariant-loop-p : goal.invariant-loop-p
+invariant-loop-p l = record {
+  takes : TakesJoins l.cat l.q (paths_at l.table) l.j.set (map path l.fn.front) (map path l.front);
+  served : All (λ p. AreNestsServed l.cat l.q (map path l.front) (paths_at l.table l.j.outer none) (paths_at l.table l.j.inner p)) (take l.p-index l.p-items);
+}

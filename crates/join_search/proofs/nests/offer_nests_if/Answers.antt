@@ -1,0 +1,16 @@
+use Rattle.std.proofs.Common.{◌∙◌, map, sym, true≢false}
+use Rattle.plan_tree.specs.Views.{path}
+use Rattle.join_search.specs.Tables.{paths_at}
+use Rattle.join_search.proofs.NestLemmas.{nests-apart}
+use Rattle.join_search.proofs.OfferLemmas.{takes-none}
+use Rattle.join_search.proofs.nests.offer_nests_if.Goals as goal
+
+pub offer_nests_given-requires-clause-given : goal.offer_nests_given-requires-clause-given
+offer_nests_given-requires-clause-given c = c.within.ensures.0 c.if-within.true
+
+pub returns-else-within-clause-takes : goal.returns-else-within-clause-takes
+returns-else-within-clause-takes c = takes-none c.args.cat.now c.args.q.now (paths_at c.args.table.now) c.args.j.set (map path c.args.front.now) c.requires.joins
+
+pub returns-else-within-clause-served : goal.returns-else-within-clause-served
+returns-else-within-clause-served c =
+    nests-apart c.args.cat.now c.args.q.now (paths_at c.args.table.now) (map path c.args.front.now) c.args.j.outer c.args.j.inner c.args.p c.requires.placed (λ within. true≢false (sym (c.within.ensures.1 within) ∙ c.if-within.false))

@@ -1,0 +1,7 @@
+pub mod Tables
+pub mod Joins
+pub mod Splits
+pub mod Offers
+pub mod Nests
+pub mod Merges
+pub mod Search

@@ -1,0 +1,89 @@
+-- Merge joins of two sets: their lists of classes, their sides, and what they are reckoned from (PostgreSQL,
+-- src/backend/optimizer/path/joinpath.c, sort_inner_and_outer; that every list is tried is own).
+use Rattle.std.specs.Prelude.{◌≡◌, ◌≤◌, ◌^◌, ◌-◌, ◌&&◌, ◌++◌, ℕ, Bool, true, false, not, cond, nat_eq, List, [], ◌∷◌, All, Contains, filter, map, min}
+use Rattle.std.specs.List.{list_any, flat_map}
+use Rattle.pg_base.specs.Sets.{has}
+use Rattle.catalog.specs.Contents.{Contents}
+use Rattle.cost_rules.specs.Costs.{IsEstimate}
+use Rattle.eq_classes.specs.Parts.{is_join}
+use Rattle.path_cost.specs.Costs.{operators}
+use Rattle.path_cost.specs.Estimates.{conditions_where, is_pair_of, pairs}
+use Rattle.pathkeys.specs.Keys.{Keys, covers}
+use Rattle.sql_query.specs.Queries.{Query}
+use Rattle.plan_tree.specs.Fronts.{IsServed}
+use Rattle.plan_tree.specs.Costs.{cost}
+use Rattle.plan_tree.specs.Least.{IsAdmissible}
+use Rattle.plan_tree.specs.Paths.{Path}
+use Rattle.plan_tree.specs.Plans.{Plan, sort, merge}
+use Rattle.plan_tree.specs.Space.{HasKeys, IsBuilt}
+use Rattle.plan_tree.specs.Views.{path}
+use Rattle.plan_tree.specs.declared.path.Path.{Path as Costed}
+use Rattle.join_search.specs.declared.merges.MergeWork.{MergeWork}
+use Rattle.join_search.specs.declared.sides.Side.{Side}
+use Rattle.join_search.specs.declared.splits.Split.{Split}
+use Rattle.join_search.specs.Joins.{IsSideIn}
+
+-- a list with one more class, each of some that it has not; the same of each of some lists
+abbrev pub longer : List ℕ → Keys → List Keys
+longer ns keys = map (λ n. keys ++ n ∷ []) (filter (λ n. not (list_any (nat_eq n) keys)) ns)
+
+abbrev pub all_longer : List ℕ → List Keys → List Keys
+all_longer ns lists = flat_map (longer ns) lists
+
+-- the lists of one, two and three of some classes
+abbrev pub ones : List ℕ → List Keys
+ones ns = all_longer ns ([] ∷ [])
+
+abbrev pub twos : List ℕ → List Keys
+twos ns = all_longer ns (ones ns)
+
+abbrev pub lists_of : List ℕ → List Keys
+lists_of ns = (ones ns ++ twos ns) ++ all_longer ns (twos ns)
+
+-- the plan of a path, or its sort by the list
+abbrev pub side_of : Keys → Plan → Bool → Plan
+side_of keys t sorted = cond sorted (sort keys t) t
+
+abbrev pub side_path : Side → Path
+side_path s = path s.path.now
+
+abbrev pub side_plan : Keys → Side → Plan
+side_plan keys s = side_of keys (side_path s).tree s.sorted
+
+abbrev pub side_keys : Keys → Side → Keys
+side_keys keys s = cond s.sorted keys (side_path s).keys
+
+-- a path of some whose keys begin with the list, or a path that is to be sorted
+pub record IsSideOf (keys : Keys) (paths : List Path) (p : Path) (sorted : Bool) : Type 0 where
+  pub is_there : Contains paths p
+  pub begins : sorted ≡ false → covers p.keys keys ≡ true
+
+-- what a path costs, or more than any path where its keys do not begin with the list
+abbrev pub cost_by : Keys → Costed → ℕ
+cost_by keys p = cond (covers p.keys keys) p.cost (2 ^ 64 - 1)
+
+-- a path of least cost among those whose keys begin with the list
+pub record IsCheapestBy (keys : Keys) (paths : List Path) (p : Path) : Type 0 where
+  pub is_there : Contains paths p
+  pub begins : covers p.keys keys ≡ true
+  pub least : All (λ o. covers o.keys keys ≡ true → p.cost ≤ o.cost) paths
+
+module _ (c : Contents) (q : Query) where
+  -- a side that costs no more than any other of an admissible merge
+  pub record IsBestSide (keys : Keys) (paths : List Path) (p : Path) (sorted : Bool) : Type 0 where
+    pub side : IsSideOf keys paths p sorted
+    pub least : (t : Plan) → IsSideIn paths t → IsBuilt c q t → HasKeys c q t keys → IsAdmissible c q t → (cost c q (side_of keys p.tree sorted)).total ≤ (cost c q t).total
+
+  -- the pairs of rows of a merge, and its operators for each of them
+  pub record IsMergeWork (j : Split) (keys : Keys) (w : MergeWork) : Type 0 where
+    pub pairs : w.pairs ≡ pairs c q.range q.classes (has j.outer.0) (has j.inner.0) keys
+    pub estimate : IsEstimate w.pairs
+    pub ops : w.ops ≡ min (operators (conditions_where (λ k. is_join (has j.outer.0) (has j.inner.0) k && not (is_pair_of keys k)) q.classes.clauses)) (2 ^ 64 - 1)
+
+  -- the merges of each outer side with one inner side
+  abbrev pub AreOutersServed : List Path → List Path → Keys → Plan → Type 0
+  AreOutersServed front outers keys i = (o : Plan) → IsSideIn outers o → IsServed c q front (merge keys o i)
+
+  -- those of the outer paths that are not sorted
+  abbrev pub ArePlainServed : List Path → Keys → Plan → List Path → Type 0
+  ArePlainServed front keys i outers = All (λ o. covers o.keys keys ≡ true → IsServed c q front (merge keys o.tree i)) outers

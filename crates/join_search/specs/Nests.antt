@@ -1,0 +1,33 @@
+-- What a nested loop is reckoned from. Own.
+use Rattle.std.specs.Prelude.{◌≡◌, ◌^◌, ◌-◌, ◌&&◌, ℕ, List, length, min, nat_lt}
+use Rattle.pg_base.specs.Sets.{has}
+use Rattle.pg_base.specs.declared.rel_set.RelSet.{RelSet}
+use Rattle.pg_expr.specs.AtomSets.{contains}
+use Rattle.catalog.specs.Contents.{Contents}
+use Rattle.cost_rules.specs.Costs.{IsEstimate}
+use Rattle.eq_classes.specs.Holding.{IsWithin}
+use Rattle.eq_classes.specs.Listing.{clause_at}
+use Rattle.path_cost.specs.Costs.{operators}
+use Rattle.path_cost.specs.Estimates.{conditions_where}
+use Rattle.sql_query.specs.Queries.{Query}
+use Rattle.plan_tree.specs.Costs.{estimate}
+use Rattle.plan_tree.specs.Paths.{Path}
+use Rattle.plan_tree.specs.Plans.{Plan, joins}
+use Rattle.join_search.specs.declared.nests.NestWork.{NestWork}
+use Rattle.join_search.specs.declared.splits.Split.{Split}
+use Rattle.join_search.specs.Joins.{IsPathAt}
+
+-- a set of clauses has those that a nested loop of an outer set with a plan tests
+abbrev pub AreTested : Query → RelSet → Plan → List ℕ → Type 0
+AreTested q a t set = (k : ℕ) → contains set k ≡ nat_lt k (length q.classes.clauses) && joins (has a.0) t (clause_at q.classes.clauses k)
+
+module _ (c : Contents) (q : Query) where
+  -- a path that may be the inner one of two sets: what it is given is of the outer set
+  pub record IsInner (j : Split) (x : Path) : Type 0 where
+    pub stands : IsPathAt c q j.inner x.param x
+    pub given : IsWithin (has x.param.0) (has j.outer.0)
+
+  pub record IsNestWork (a : RelSet) (t : Plan) (w : NestWork) : Type 0 where
+    pub inner_rows : w.inner_rows ≡ estimate c q t
+    pub inner_estimate : IsEstimate w.inner_rows
+    pub ops : w.ops ≡ min (operators (conditions_where (joins (has a.0) t) q.classes.clauses)) (2 ^ 64 - 1)

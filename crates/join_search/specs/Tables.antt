@@ -1,0 +1,50 @@
+-- A table of fronts, by the set of relations and the parameterisation that they are of (PostgreSQL,
+-- src/backend/optimizer/README, Optimizer Data Structures; the table is own).
+use Rattle.std.specs.Prelude.{◌≡◌, ℕ, zero, suc, Bool, ◌&&◌, cond, nat_eq, List, [], ◌∷◌, filter, map, Option, Some, None}
+use Rattle.pg_base.specs.declared.rel_set.RelSet.{RelSet}
+use Rattle.plan_tree.specs.Paths.{Path}
+use Rattle.plan_tree.specs.Views.{path}
+use Rattle.plan_tree.specs.declared.path.Path.{Path as Costed}
+use Rattle.join_search.specs.declared.table.Placed.{Placed}
+use Rattle.join_search.specs.declared.table.Table.{Table}
+
+abbrev pub none : RelSet
+none = record { 0 = 0 }
+
+-- a front stands at a set and a parameterisation
+abbrev pub is_at : RelSet → RelSet → Placed → Bool
+is_at s p f = nat_eq f.set.0 s.0 && nat_eq f.param.0 p.0
+
+-- the first front that does
+abbrev pub found_at : RelSet → RelSet → List Placed → Option (List Costed)
+found_at s p [] = None
+found_at s p (f ∷ fs) = cond (is_at s p f) (Some f.front) (found_at s p fs)
+
+-- the front of a number replaced
+abbrev pub with_front : List Placed → ℕ → List Costed → List Placed
+with_front [] n front = []
+with_front (f ∷ fs) zero front = record f { front = front } ∷ fs
+with_front (f ∷ fs) (suc n) front = f ∷ with_front fs n front
+
+abbrev pub front_at : Table → RelSet → RelSet → Option (List Costed)
+front_at t s p = found_at s p t.places.items
+
+-- the parameterisations of the fronts of a set
+abbrev pub params_of : RelSet → List Placed → List RelSet
+params_of s fs = map (λ (f : Placed). f.param) (filter (λ (f : Placed). nat_eq f.set.0 s.0) fs)
+
+abbrev pub paths_of : Option (List Costed) → List Path
+paths_of None = []
+paths_of (Some front) = map path front
+
+-- fronts by set and parameterisation, as lists of paths
+abbrev pub Fronts : Type 0
+Fronts = RelSet → RelSet → List Path
+
+-- those of a table; where no front was put there are no paths
+abbrev pub paths_at : Table → Fronts
+paths_at t s p = paths_of (front_at t s p)
+
+-- two places are one
+abbrev pub IsSamePlace : RelSet → RelSet → RelSet → RelSet → Type 0
+IsSamePlace s p t o = (s.0 ≡ t.0) × (p.0 ≡ o.0)

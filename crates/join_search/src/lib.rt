@@ -1,0 +1,17 @@
+//! Joins by sets of relations: every admissible join of kept paths is covered by the front of its set (PostgreSQL,
+//! src/backend/optimizer/README, Join Tree Construction). A cost unit is 1/400 of a sequential page.
+#![tactic(auto)]
+
+mod by_sets;
+mod lists;
+mod merges;
+mod nests;
+mod offers;
+mod sides;
+mod splits;
+mod table;
+#[cfg(test)]
+mod tests;
+
+pub use by_sets::search;
+pub use table::Table;

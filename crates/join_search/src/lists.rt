@@ -1,0 +1,164 @@
+//! The lists of classes by which two sets may be merged.
+
+ghost use Rattle.std.specs.Prelude.{◌≡◌, ◌++◌, ◌∷◌, [], All, IfOk, OnOk, Contains, false, nat_eq, take};
+ghost use Rattle.std.specs.List.{list_any};
+ghost use Rattle.std.specs.Option.{option_map, option_to_list};
+ghost use Rattle.pg_base.specs.Sets.{has};
+ghost use Rattle.eq_classes.specs.Parts.{joining_from};
+ghost use Rattle.pathkeys.specs.Finding.{class_numbers};
+ghost use Rattle.pathkeys.specs.Keys as keys;
+ghost use Rattle.plan_tree.specs.Space.{IsMergeList};
+ghost use Rattle.join_search.specs.Merges.{all_longer, lists_of, longer};
+
+use catalog::Catalog;
+use eq_classes::ClassNo;
+use pathkeys::Keys;
+use pg_base::{Memory, RelSet};
+use plan_tree::classes_of;
+use sql_query::Prepared;
+use std::alloc::Global;
+
+/// Puts a class that was found behind others. The error means want of memory.
+fn add_found(out: &mut Vec<ClassNo>, class: Option<ClassNo>) -> Result<(), Memory>
+    ensures { OnOk result (class_numbers out.new.items ≡ class_numbers out.old.items ++ option_to_list (option_map (λ n. n.0) class)) }
+{
+    if let Some(c) = class {
+        out.push(c)?;
+    }
+    Ok(())
+}
+
+/// The first four joining classes of two sets. The error means want of memory.
+fn joining(alloc: Global, q: &Prepared, a: RelSet, b: RelSet) -> Result<Vec<ClassNo>, Memory>
+    ensures { IfOk result (λ v. class_numbers v.items ≡ take 4 (joining_from (has a.0) (has b.0) 0 q.now.classes.classes)) }
+{
+    let four = classes_of(q).joining(a, b);
+    let mut found = Vec::new(alloc);
+    for n in 0..4 {
+        add_found(&mut found, four[n])?;
+    }
+    Ok(found)
+}
+
+/// Whether a class is one of some.
+fn is_among(classes: &[ClassNo], c: ClassNo) -> bool
+    ensures { result ≡ list_any (nat_eq c.0) (class_numbers classes.now) }
+{
+    for k in classes {
+        if c.0 == k.0 {
+            return true;
+        }
+    }
+    false
+}
+
+/// Whether a list has a class.
+fn has_class(list: &Keys, c: ClassNo) -> bool
+    ensures { result ≡ list_any (nat_eq c.0) list.now }
+{
+    is_among(list.items(), c)
+}
+
+/// Some classes, copied. The error means want of memory.
+fn copied(alloc: Global, classes: &[ClassNo]) -> Result<Vec<ClassNo>, Memory>
+    ensures { IfOk result (λ v. v.items ≡ classes.now) }
+{
+    let mut items = Vec::new(alloc);
+    for k in classes {
+        items.push(*k)?;
+    }
+    Ok(items)
+}
+
+/// A list with one more class, which it has not. The error means want of memory.
+fn with_class(alloc: Global, list: &Keys, c: ClassNo) -> Result<Keys, Memory>
+    requires new { list_any (nat_eq c.0) list.now ≡ false }
+    ensures { IfOk result (λ ks. ks ≡ list.now ++ c.0 ∷ []) }
+{
+    let mut items = copied(alloc, list.items())?;
+    items.push(c)?;
+    Keys::from_slice(alloc, &items)
+}
+
+/// Puts behind some lists the list with one more class, where it has not the class. The error means want of memory.
+fn add_one_longer(alloc: Global, c: ClassNo, list: &Keys, out: &mut Vec<Keys>) -> Result<(), Memory>
+    ensures { OnOk result (out.new.items ≡ out.old.items ++ longer (c.0 ∷ []) list.now) }
+{
+    if has_class(list, c) {
+        return Ok(());
+    }
+    let more = with_class(alloc, list, c)?;
+    out.push(more)?;
+    Ok(())
+}
+
+/// Puts behind some lists a list with one more class, each of some that it has not. The error means want of memory.
+fn add_longer(
+    alloc: Global,
+    classes: &[ClassNo],
+    list: &Keys,
+    out: &mut Vec<Keys>,
+) -> Result<(), Memory>
+    ensures { OnOk result (out.new.items ≡ out.old.items ++ longer (class_numbers classes.now) list.now) }
+{
+    for c in classes {
+        add_one_longer(alloc, *c, list, out)?;
+    }
+    Ok(())
+}
+
+/// The same of each of some lists. The error means want of memory.
+fn add_all_longer(
+    alloc: Global,
+    classes: &[ClassNo],
+    lists: &[Keys],
+    out: &mut Vec<Keys>,
+) -> Result<(), Memory>
+    ensures { OnOk result (out.new.items ≡ out.old.items ++ all_longer (class_numbers classes.now) lists.now) }
+{
+    for list in lists {
+        add_longer(alloc, classes, list, out)?;
+    }
+    Ok(())
+}
+
+/// The list of the empty list alone. The error means want of memory.
+fn no_classes(alloc: Global) -> Result<Vec<Keys>, Memory>
+    ensures { IfOk result (λ v. v.items ≡ [] ∷ []) }
+{
+    let mut lists = Vec::new(alloc);
+    lists.push(Keys::from_slice(alloc, &[])?)?;
+    Ok(lists)
+}
+
+/// The lists of 1 to 3 different ones of some classes, in any order. The error means want of memory.
+fn lists_among(alloc: Global, classes: &[ClassNo]) -> Result<Vec<Keys>, Memory>
+    ensures { IfOk result (λ v. v.items ≡ lists_of (class_numbers classes.now)) }
+{
+    let none = no_classes(alloc)?;
+    let mut ones = Vec::new(alloc);
+    add_all_longer(alloc, classes, &none, &mut ones)?;
+    let mut twos = Vec::new(alloc);
+    add_all_longer(alloc, classes, &ones, &mut twos)?;
+    let mut all = Vec::new(alloc);
+    add_all_longer(alloc, classes, &none, &mut all)?;
+    add_all_longer(alloc, classes, &ones, &mut all)?;
+    add_all_longer(alloc, classes, &twos, &mut all)?;
+    Ok(all)
+}
+
+/// The lists by which two sets may be merged: 1 to 3 different ones of their first four joining classes, in any order.
+/// The error means want of memory.
+pub(crate) fn merge_lists(
+    alloc: Global,
+    cat: &Catalog,
+    q: &Prepared,
+    a: RelSet,
+    b: RelSet,
+) -> Result<Vec<Keys>, Memory>
+    ensures sound { IfOk result (λ v. All (IsMergeList cat.now q.now (has a.0) (has b.0)) v.items) }
+    ensures complete { IfOk result (λ v. (ks : keys.Keys) → IsMergeList cat.now q.now (has a.0) (has b.0) ks → Contains v.items ks) }
+{
+    let classes = joining(alloc, q, a, b)?;
+    lists_among(alloc, &classes)
+}

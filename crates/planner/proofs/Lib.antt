@@ -1,4 +1,7 @@
 pub mod EstimateLemmas
 pub mod OrderLemmas
-pub mod RelationLemmas
 pub mod PlaceLemmas
+pub mod GivenLemmas
+pub mod BaseLemmas
+pub mod SearchLemmas
+pub mod TableLemmas

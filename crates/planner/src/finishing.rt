@@ -16,16 +16,9 @@ use catalog::Catalog;
 use cost_rules::{MOST_COST, Pair, sort};
 use pathkeys::{Keys, covers};
 use pg_base::Memory;
-use plan_tree::{Path, Plan};
+use plan_tree::{Path, Plan, has_no_window};
 use sql_query::Prepared;
 use std::alloc::Global;
-
-/// A prepared query has no window.
-pub(crate) fn has_no_window(q: &Prepared)
-    ensures { q.now.window ≡ None }
-{
-    let _ = &q.range;
-}
 
 /// The cost of a sort of the path's plan, cut to at most 10^18.
 fn sorted_cost(cat: &Catalog, q: &Prepared, p: &Path) -> u64

@@ -1,22 +1,24 @@
 //! The plan that a query is answered by.
 
-ghost use Rattle.std.specs.Prelude.{◌≡◌, IfErr, IfOk};
+ghost use Rattle.std.specs.Prelude.{◌≡◌, IfErr, IfOk, map};
 ghost use Rattle.pathkeys.specs.Keys as keys;
-ghost use Rattle.sql_query.specs.Queries.{width};
 ghost use Rattle.sql_query.specs.WellBound.{IsWellBound};
 ghost use Rattle.plan_tree.specs.Least.{IsAdmissible, IsBestPlan};
 ghost use Rattle.plan_tree.specs.Paths.{IsFinishedPath};
 ghost use Rattle.plan_tree.specs.Plans as plans;
 ghost use Rattle.plan_tree.specs.Space.{IsFinished};
 ghost use Rattle.plan_tree.specs.Views.{path};
+ghost use Rattle.join_search.specs.Tables.{none, paths_at};
+ghost use Rattle.planner.specs.Finishing.{AreCandidates};
 ghost use Rattle.planner.specs.declared.least_plan.PlanFault.TheVariants.{CostLimit};
 
-use crate::finishing::{finish, has_no_window, least_place};
-use crate::relation::relation_paths;
+use crate::base::{all_relations, base_table};
+use crate::finishing::{finish, least_place};
 use catalog::Catalog;
+use join_search::{Table, search};
 use pathkeys::{Keys, order_keys};
-use pg_base::Memory;
-use plan_tree::{Path, classes_of};
+use pg_base::{Memory, RelSet};
+use plan_tree::{Path, classes_of, has_no_window};
 use sql_query::Prepared;
 use std::alloc::{AllocError, Global};
 
@@ -53,20 +55,30 @@ fn order_asked(alloc: Global, q: &Prepared) -> Result<Keys, Memory>
     order_keys(alloc, classes_of(q), q.order.items())
 }
 
-/// A plan of least cost for a query of one relation: its path is of a finished plan below 10^18, and no other such plan
-/// of the whole plan space costs less. A scan whose keys begin with the order keys is finished; any other is sorted.
-/// `CostLimit` comes exactly where no finished plan is below 10^18, and `Memory` means want of memory.
-pub fn plan(alloc: Global, cat: &Catalog, q: &Prepared) -> Result<Planned, PlanFault>
-    requires bound { IsWellBound cat.now q.now }
-    requires one { width q.now ≡ 1 }
+/// The paths of all relations, lent.
+fn whole_paths(table: &Table, all: RelSet) -> &[Path]
+    ensures { map path result.now ≡ paths_at table.now all none }
+{
+    match table.front(all, RelSet(0)) {
+        Some(front) => front.items(),
+        None => &[],
+    }
+}
+
+/// The least of some paths of all relations, in the order asked for.
+fn least_of(
+    alloc: Global,
+    cat: &Catalog,
+    q: &Prepared,
+    paths: &[Path],
+) -> Result<Planned, PlanFault>
+    requires { AreCandidates cat.now q.now (map path paths.now) }
     ensures best { IfOk result (λ planned. IsFinishedPath cat.now q.now (path planned.best)) }
     ensures least { IfOk result (λ planned. IsBestPlan cat.now q.now (path planned.best).tree) }
     ensures limit { IfErr result (λ e. e ≡ CostLimit → (t : plans.Plan) → IsFinished cat.now q.now t → ¬ IsAdmissible cat.now q.now t) }
 {
     has_no_window(q);
-    let front = relation_paths(alloc, cat, q)?;
     let order = order_asked(alloc, q)?;
-    let paths = front.items();
     match least_place(cat, q, paths, &order) {
         None => Err(PlanFault::CostLimit),
         Some(at) => {
@@ -74,4 +86,21 @@ pub fn plan(alloc: Global, cat: &Catalog, q: &Prepared) -> Result<Planned, PlanF
             Ok(Planned { best })
         }
     }
+}
+
+/// A plan of least cost: its path is of a finished plan below 10^18, and no other such plan of the whole plan space costs
+/// less, whatever joins it is made of. A plan of all relations whose keys begin with the order keys is finished; any
+/// other is sorted. `CostLimit` comes exactly where no finished plan is below 10^18, and `Memory` means want of memory.
+/// With n relations some 3^n pairs of sets are joined, each by what was kept of the two.
+pub fn plan(alloc: Global, cat: &Catalog, q: &Prepared) -> Result<Planned, PlanFault>
+    requires bound { IsWellBound cat.now q.now }
+    ensures best { IfOk result (λ planned. IsFinishedPath cat.now q.now (path planned.best)) }
+    ensures least { IfOk result (λ planned. IsBestPlan cat.now q.now (path planned.best).tree) }
+    ensures limit { IfErr result (λ e. e ≡ CostLimit → (t : plans.Plan) → IsFinished cat.now q.now t → ¬ IsAdmissible cat.now q.now t) }
+{
+    cat.lawful();
+    let base = base_table(alloc, cat, q)?;
+    let table = search(alloc, cat, q, base)?;
+    let all = all_relations(q);
+    least_of(alloc, cat, q, whole_paths(&table, all))
 }

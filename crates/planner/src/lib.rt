@@ -3,8 +3,8 @@
 //! sequential page.
 #![tactic(auto)]
 
+mod base;
 mod finishing;
 mod least_plan;
-mod relation;
 
 pub use least_plan::{PlanFault, Planned, plan};

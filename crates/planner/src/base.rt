@@ -1,0 +1,143 @@
+//! The paths of one relation, also where rows of other relations are given.
+
+ghost use Rattle.std.specs.Prelude.{◌≡◌, ◌<◌, ◌≤◌, ℕ, false, IfOk, OnOk, Some, map};
+ghost use Rattle.pg_base.specs.Sets.{has};
+ghost use Rattle.pg_base.specs.declared.rel_set.RelSet as sets;
+ghost use Rattle.eq_classes.specs.Clauses.{one};
+ghost use Rattle.sql_query.specs.Queries.{all_of_query, width};
+ghost use Rattle.plan_tree.specs.Fronts.{AreDominated};
+ghost use Rattle.plan_tree.specs.Plans as plans;
+ghost use Rattle.plan_tree.specs.Reads.{IsOverTables};
+ghost use Rattle.plan_tree.specs.Space.{IsPlanOf, IsSameSet};
+ghost use Rattle.plan_tree.specs.Views.{path};
+ghost use Rattle.join_search.specs.Joins.{IsBase};
+ghost use Rattle.join_search.specs.Tables.{IsSamePlace, front_at, paths_at};
+ghost use Rattle.planner.specs.Bases.{AreAllOf, HaveScansOf, is_plan};
+
+use bitmap_scan::bitmaps;
+use catalog::Catalog;
+use join_search::Table;
+use pareto::Front;
+use pg_base::{Memory, RelNo, RelSet};
+use plan_tree::{Path, classes_of, others_named, range_of};
+use scan_paths::scans;
+use sql_query::Prepared;
+use std::alloc::{AllocError, Global};
+
+/// Whether a scan of a relation may be given the rows of these others: the clauses that it then tests name each of them.
+/// Where it says no there is no such scan.
+fn may_be_given(cat: &Catalog, q: &Prepared, r: RelNo, p: RelSet) -> bool
+    requires query { IsOverTables cat.now q.now }
+    requires relation { r.0 < width q.now }
+    ensures { result ≡ false → (t : plans.Plan) → ¬ IsPlanOf cat.now q.now (one r.0) (has p.0) t }
+{
+    let tested = classes_of(q).param_clauses(r, p);
+    let named = others_named(cat, q, r, &tested);
+    p.within(named)
+}
+
+/// The paths of a relation where the rows of these others are given: its scans, those that no other one dominates. The
+/// error means want of memory.
+fn relation_paths(
+    alloc: Global,
+    cat: &Catalog,
+    q: &Prepared,
+    r: RelNo,
+    p: RelSet,
+) -> Result<Front<Path>, Memory>
+    requires query { IsOverTables cat.now q.now }
+    requires relation { r.0 < width q.now }
+    ensures { IfOk result (λ front. AreAllOf cat.now q.now (one r.0) (has p.0) (map path front)) }
+{
+    let mut front = Front::new(alloc);
+    scans(alloc, cat, q, r, p, &mut front)?;
+    bitmaps(alloc, cat, q, r, p, &mut front)?;
+    Ok(front)
+}
+
+/// Puts a front into a table. The error means want of memory.
+fn put(table: &mut Table, s: RelSet, p: RelSet, front: Front<Path>) -> Result<(), Memory>
+    ensures here { OnOk result (front_at table.new s p ≡ Some front) }
+    ensures others { (t o : sets.RelSet) → ¬ IsSamePlace t o s p → front_at table.new t o ≡ front_at table.old t o }
+{
+    match table.put(s, p, front) {
+        Ok(()) => Ok(()),
+        Err(_) => Err(AllocError),
+    }
+}
+
+/// Puts the paths of a relation where the rows of these others are given into a table, if there may be some. The error
+/// means want of memory.
+fn add_paths(
+    alloc: Global,
+    cat: &Catalog,
+    q: &Prepared,
+    r: RelNo,
+    s: RelSet,
+    p: RelSet,
+    table: &mut Table,
+) -> Result<(), Memory>
+    requires query { IsOverTables cat.now q.now }
+    requires relation { r.0 < width q.now }
+    requires set { IsSameSet (has s.0) (one r.0) }
+    requires base { IsBase cat.now q.now table.old }
+    ensures base { OnOk result (IsBase cat.now q.now table.new) }
+    ensures dominated { OnOk result (AreDominated cat.now q.now is_plan (one r.0) (has p.0) (paths_at table.new s p)) }
+    ensures others { (t o : sets.RelSet) → ¬ IsSamePlace t o s p → front_at table.new t o ≡ front_at table.old t o }
+{
+    if !may_be_given(cat, q, r, p) {
+        return Ok(());
+    }
+    let front = relation_paths(alloc, cat, q, r, p)?;
+    put(table, s, p, front)
+}
+
+/// Puts the paths of a relation at each parameterisation into a table. The error means want of memory.
+fn add_relation(
+    alloc: Global,
+    cat: &Catalog,
+    q: &Prepared,
+    r: RelNo,
+    all: RelSet,
+    table: &mut Table,
+) -> Result<(), Memory>
+    requires query { IsOverTables cat.now q.now }
+    requires relation { r.0 < width q.now }
+    requires all { IsSameSet (has all.0) (all_of_query q.now) }
+    requires base { IsBase cat.now q.now table.old }
+    ensures base { OnOk result (IsBase cat.now q.now table.new) }
+    ensures scans { OnOk result (HaveScansOf cat.now q.now (paths_at table.new) r.0) }
+    ensures others { (t o : sets.RelSet) → ¬ IsSameSet (has t.0) (one r.0) → front_at table.new t o ≡ front_at table.old t o }
+{
+    let s = RelSet::one(r);
+    for bits in 0..all.0 as u32 + 1 {
+        add_paths(alloc, cat, q, r, s, RelSet(bits as u16), table)?;
+    }
+    Ok(())
+}
+
+/// The set of all relations.
+pub(crate) fn all_relations(q: &Prepared) -> RelSet
+    requires few { width q.now ≤ 16 }
+    ensures { IsSameSet (has result.0) (all_of_query q.now) }
+{
+    let mut all = RelSet::empty();
+    for r in 0..range_of(q).items().len() {
+        all = all.union(RelSet::one(RelNo(r as u8)));
+    }
+    all
+}
+
+/// The paths of each relation, at each parameterisation that its scans may have. The error means want of memory.
+pub(crate) fn base_table(alloc: Global, cat: &Catalog, q: &Prepared) -> Result<Table, Memory>
+    requires query { IsOverTables cat.now q.now }
+    ensures base { IfOk result (λ t. IsBase cat.now q.now t) }
+    ensures scans { IfOk result (λ t. (r : ℕ) → r < width q.now → HaveScansOf cat.now q.now (paths_at t) r) }
+{
+    let all = all_relations(q);
+    let mut table = Table::new(alloc);
+    for r in 0..range_of(q).items().len() {
+        add_relation(alloc, cat, q, RelNo(r as u8), all, &mut table)?;
+    }
+    Ok(table)
+}

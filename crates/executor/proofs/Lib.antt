@@ -3,6 +3,14 @@ pub mod RankLemmas
 pub mod DrawLemmas
 pub mod ScanLemmas
 pub mod SortLemmas
-pub mod SingleLemmas
+pub mod DrawableLemmas
 pub mod NodeLemmas
 pub mod KeptLemmas
+pub mod AlikeLemmas
+pub mod ProbeLemmas
+pub mod PairsLemmas
+pub mod ProbingLemmas
+pub mod PartLemmas
+pub mod StartLemmas
+pub mod CurrentLemmas
+pub mod FoundLemmas

@@ -1,5 +1,7 @@
 pub mod Numbers
 pub mod Drawn
+pub mod Probe
+pub mod Pairs
 pub mod Node
 pub mod Good
 pub mod Reading

@@ -1,21 +1,14 @@
 //! Laws of what finished plans give.
 
-ghost use Rattle.std.specs.Prelude.{◌≡◌, ◌↔◌, All};
-ghost use Rattle.catalog.specs.Contents.{Contents};
-ghost use Rattle.sql_query.specs.Queries.{Query, width};
+ghost use Rattle.std.specs.Prelude.{All};
+ghost use Rattle.sql_query.specs.Queries.{Query};
 ghost use Rattle.sql_query.specs.Tuples.{no_rows};
 ghost use Rattle.sql_query.specs.WellBound.{IsWellBound};
 ghost use Rattle.sql_query.specs.Worlds.{World, IsWorld};
 ghost use Rattle.plan_tree.specs.Plans.{Plan};
 ghost use Rattle.plan_tree.specs.Run.{run};
 ghost use Rattle.plan_tree.specs.Space.{IsFinished};
-ghost use Rattle.executor.specs.Drawn.{HasNoJoin};
 ghost use Rattle.executor.specs.Numbers.{IsTupleOf};
-
-/// A finished plan of a query of one relation is one without joins, and no other is.
-pub fn plans_without_joins()
-    ensures { (c : Contents) (q : Query) (p : Plan) → IsFinished c q p → ((width q ≡ 1) ↔ HasNoJoin p) }
-{}
 
 /// Each tuple that a finished plan gives has a number for each relation of the query, that of one of its rows.
 pub fn tuples_have_rows()

@@ -3,13 +3,15 @@
 
 mod laws;
 mod node;
+mod pairs;
+mod probe;
 mod rows;
 mod running;
 mod scanning;
 mod sorting;
 mod tuple;
 
-pub use laws::{plans_without_joins, tuples_have_rows};
+pub use laws::tuples_have_rows;
 pub use rows::Rows;
 pub use running::execute;
 pub use tuple::Tuple;

@@ -1,4 +1,4 @@
--- What a plan that is shown has: its nodes have lines, and its query is over tables.
+-- What a plan that is shown has: its nodes have lines.
 use Prim.Native.Nat.{suc, zero}
 use Rattle.std.proofs.Common.{◌≡◌, ◌<◌, inl, inr, ℕ, ◌+◌, Bool, true, false, cond, ◌||◌, nat_eq, List, [], ◌∷◌, ◌++◌, append_assoc, length, take, refl, sym, ◌∙◌, ap, ap₂, subst, arith, ⊎_elim}
 use Rattle.std.specs.Prelude.{All}
@@ -15,24 +15,17 @@ use Rattle.eq_classes.specs.Clauses.{Set}
 use Rattle.eq_classes.specs.Parts.{is_joining, joining_from}
 use Rattle.eq_classes.proofs.ListLemmas.{IsIn, all_from}
 use Rattle.sql_query.specs.Queries.{Query}
-use Rattle.sql_query.specs.WellBound.{IsWellBound}
-use Rattle.query_laws.proofs.FewLemmas.{atoms_few}
-use Rattle.query_laws.proofs.OverLemmas.{clauses_over}
 use Rattle.pathkeys.specs.Keys.{Keys, order_keys}
 use Rattle.pathkeys.proofs.OnceLemmas.{order_keys_are_keys}
 use Rattle.plan_tree.specs.Plans.{Plan, seq, index, index_only, bitmap, sort, nest, merge, BitTree, leaf, all_hold, some_arm, BitTrees, no_trees, tree_and, set_of, is_sort}
 use Rattle.plan_tree.specs.Costs.{HaveRows}
 use Rattle.plan_tree.specs.Costable.{IsCostableTree, AreCostableTrees, IsMatchedBy}
 use Rattle.plan_tree.specs.Least.{IsAdmissible}
-use Rattle.plan_tree.specs.Reads.{IsOverTables}
 use Rattle.plan_tree.specs.Space.{IsBuilt, HasKeys, MeetsOrder}
 use Rattle.plan_tree.proofs.BoundLemmas.{merge-most, nest-most, sort-most}
 use Rattle.plan_tree.proofs.CostableLemmas.{built-costable}
 use Rattle.explain.specs.Lines.{HasIndexes, HasLine, HasLines, HaveIndexes, IsShown}
 use Rattle.explain.specs.Texts.{bits_text, node_line, text_at}
-
-pub bound-over : (c : Contents) (q : Query) → IsWellBound c q → IsOverTables c q
-bound-over c q h = let few = h.range.few in record { tables = h.range.tables; few = omega (arith, few); clauses = clauses_over c q h; atoms = atoms_few c q h }
 
 pub has-line : (c : Contents) (q : Query) (p : Plan) → HasLines c q p → HasLine c q p
 has-line c q (seq r) h = h

@@ -1,7 +1,6 @@
 //! The plan that a query is answered by.
 
 ghost use Rattle.std.specs.Prelude.{◌≡◌, ◌≢◌, IfErr, IfOk};
-ghost use Rattle.sql_query.specs.Queries.{width};
 ghost use Rattle.sql_query.specs.WellBound.{IsWellBound};
 ghost use Rattle.plan_tree.specs.Least.{IsBestPlan};
 ghost use Rattle.plan_tree.specs.Paths.{IsFinishedPath};
@@ -26,11 +25,10 @@ fn unplanned(fault: PlanFault) -> Stop
     }
 }
 
-/// The path of a plan of a query of one relation that no admissible one undercuts. `NoPlan` comes only where no finished plan
+/// The path of a plan of a query that no admissible one undercuts. `NoPlan` comes only where no finished plan
 /// is admissible; the other error is want of memory.
 pub(crate) fn best_path(alloc: Global, cat: &Catalog, q: &Prepared) -> Result<Path, Stop>
     requires bound { IsWellBound cat.now q.now }
-    requires one { width q.now ≡ 1 }
     ensures finished { IfOk result (λ p. IsFinishedPath cat.now q.now (path p)) }
     ensures best { IfOk result (λ p. IsBestPlan cat.now q.now (path p).tree) }
     ensures no_plan { IfErr result (λ stop. stop ≡ Stop.NoPlan → HasNoPlan cat.now q.now) }

@@ -3,7 +3,6 @@
 ghost use Rattle.std.specs.Prelude.{◌≡◌, ◌+◌, ◌*◌, ◌≤◌, ◌++◌, All, IfErr, OnErr, OnOk, length};
 ghost use Rattle.std.specs.Io.KnownBytes.{Appends};
 ghost use Rattle.pg_base.specs.Writing.{AppendsPrefix};
-ghost use Rattle.sql_query.specs.Queries.{width};
 ghost use Rattle.sql_query.specs.WellBound.{IsWellBound};
 ghost use Rattle.sql_query.specs.Worlds.{world};
 ghost use Rattle.store.specs.Kept.{IsStoreOf};
@@ -33,7 +32,7 @@ use sql_query::Prepared;
 use std::alloc::Global;
 use store::Store;
 
-/// Prints the answer to a query of one relation: the text of a plan that no admissible one undercuts, a line for each row
+/// Prints the answer to a query: the text of a plan that no admissible one undercuts, a line for each row
 /// that the plan gives, in its order, which is that of ORDER BY, and the number of these rows. They are the query's meaning,
 /// each as often. The plan that is printed is the one that is run; each row is written, or held to be, before the next one is
 /// drawn. Rows are fetched as often as the plan fetches them, and entries and rows already found looked at as often as it
@@ -50,7 +49,6 @@ pub fn answer<C: Counters, K: Sink>(
 ) -> Result<(), Stop>
     requires bound { IsWellBound cat.now q.now }
     requires store { IsStoreOf cat.now store.now }
-    requires one { width q.now ≡ 1 }
     ensures answered { OnOk result (HasReplied (IsAnswerTo (world cat.now store.now.stored) q.now) (traces (K.held out.old) fetches.old reads.old) (traces (K.held out.new) fetches.new reads.new)) }
     ensures stopped { IfErr result (λ stop. Leaves stop (IsAnswerTo (world cat.now store.now.stored) q.now) (traces (K.held out.old) fetches.old reads.old) (traces (K.held out.new) fetches.new reads.new)) }
     ensures no_plan { IfErr result (λ stop. stop ≡ Stop.NoPlan → HasNoPlan cat.now q.now) }
@@ -61,7 +59,7 @@ pub fn answer<C: Counters, K: Sink>(
     Ok(())
 }
 
-/// Prints the text of a plan of a query of one relation that no admissible one undercuts. No row is read. At `Write` and
+/// Prints the text of a plan of a query that no admissible one undercuts. No row is read. At `Write` and
 /// `Memory` out has a prefix of that, or is as before; at `Write` its count of faults rose. `NoPlan` comes only where each
 /// finished plan costs 10^18 or more, and changes nothing.
 pub fn explain_query<K: Sink>(
@@ -71,7 +69,6 @@ pub fn explain_query<K: Sink>(
     out: &mut K,
 ) -> Result<(), Stop>
     requires bound { IsWellBound cat.now q.now }
-    requires one { width q.now ≡ 1 }
     ensures explained { OnOk result (HasReplied (IsExplanationOf cat.now q.now) (traces (K.held out.old) 0 0) (traces (K.held out.new) 0 0)) }
     ensures stopped { IfErr result (λ stop. Leaves stop (IsExplanationOf cat.now q.now) (traces (K.held out.old) 0 0) (traces (K.held out.new) 0 0)) }
     ensures no_plan { IfErr result (λ stop. stop ≡ Stop.NoPlan → HasNoPlan cat.now q.now) }
@@ -95,7 +92,6 @@ fn answer_by<C: Counters, K: Sink>(
 ) -> Result<(), Broken>
     requires bound { IsWellBound cat.now q.now }
     requires store { IsStoreOf cat.now store.now }
-    requires one { width q.now ≡ 1 }
     requires finished { IsFinishedPath cat.now q.now (path best.now) }
     requires best { IsBestPlan cat.now q.now (path best.now).tree }
     ensures ok { OnOk result (HasReplied (IsAnswerTo (world cat.now store.now.stored) q.now) (traces (K.held out.old) fetches.old reads.old) (traces (K.held out.new) fetches.new reads.new)) }

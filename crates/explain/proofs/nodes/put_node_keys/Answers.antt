@@ -2,7 +2,7 @@ use Rattle.sql_query.specs.Queries.{width}
 use Rattle.plan_tree.specs.Views.{plan}
 use Rattle.plan_tree.proofs.EstimateLemmas.{below-more}
 use Rattle.plan_tree.proofs.PricingLemmas.{costable-reads}
-use Rattle.explain.proofs.ShownLemmas.{bound-over}
+use Rattle.plan_laws.proofs.WellBoundLemmas.{bound-over}
 use Rattle.explain.proofs.nodes.put_node_keys.Goals as goal
 
 pub set_of-requires : goal.set_of-requires

@@ -1,6 +1,6 @@
 use Rattle.plan_tree.specs.Views.{plan}
 use Rattle.plan_tree.proofs.PricingLemmas.{costable-reads}
-use Rattle.explain.proofs.ShownLemmas.{bound-over}
+use Rattle.plan_laws.proofs.WellBoundLemmas.{bound-over}
 use Rattle.explain.proofs.nodes.put_numbers.Goals as goal
 
 pub cost-total-requires-clause-query : goal.cost-total-requires-clause-query

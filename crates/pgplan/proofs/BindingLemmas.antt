@@ -1,7 +1,10 @@
 -- A fault of a SELECT is in no record of data.
-use Rattle.std.proofs.Common.{◌≡◌, ℕ, List, [], ◌∷◌, Option, Some, None, Ok, Err, Result, refl, subst}
+use Rattle.std.proofs.Common.{◌≡◌, ℕ, Bool, true, false, cond, nat_lt, length, List, [], ◌∷◌, ◌++◌, Option, Some, None, Ok, Err, Result, refl, subst}
 use Rattle.pg_base.specs.declared.faults.Fault.{Fault}
 use Rattle.pg_base.specs.declared.faults.Limit.{Limit}
+use Rattle.pg_base.specs.declared.faults.Limit.TheVariants.{Relations}
+use Rattle.pg_base.specs.declared.faults.Code.TheVariants.{S2, S7, S15}
+use Rattle.pg_base.specs.declared.limits.TheConstants.{MOST_RELATIONS}
 use Rattle.pg_base.specs.declared.numbers.TableNo.{TableNo}
 use Rattle.pg_value.specs.declared.value.SqlType.{SqlType}
 use Rattle.pg_expr.specs.declared.operand.ColRef.{ColRef}
@@ -10,18 +13,21 @@ use Rattle.catalog.specs.Range.{Range, type_in}
 use Rattle.catalog.specs.Tables.{table_named}
 use Rattle.sql_lex.specs.declared.tokens.Token.{Token}
 use Rattle.sql_grammar.specs.Terminals.{token_of}
-use Rattle.sql_grammar.specs.Faults.{bytes_of}
-use Rattle.sql_grammar.specs.Syntax.{Col, bare, qualified, Ordering, ordering, OrderBy, no_order, order_by, OrderedSelect, ordered_select, Where, no_where, where_expr}
+use Rattle.sql_grammar.specs.Faults.{bytes_of, fault_at}
+use Rattle.sql_grammar.specs.Syntax.{Col, bare, qualified, Ordering, ordering, OrderBy, no_order, order_by, OrderedSelect, ordered_select, Expr, Join, join_on, cross_join, Group, group_of, select_from, Where, no_where, where_expr}
+use Rattle.sql_grammar.specs.FromParts.{groups_after}
+use Rattle.sql_cursor.specs.declared.cursor.Spelled.{Spelled}
 use Rattle.sql_cursor.specs.Lists.{before_all, bound_each, parts_of}
 use Rattle.expr_reader.specs.Conditions.{next, the_column, meaning_of_expr}
 use Rattle.expr_reader.specs.Scope.{Scope, under, look_up}
 use Rattle.query_reader.specs.declared.written.Item.{Item}
 use Rattle.query_reader.specs.declared.written.Item.TheVariants.{Every, EveryOf, Bare, Qualified}
 use Rattle.query_reader.specs.declared.written.Source.{Source}
-use Rattle.query_reader.specs.Written.{Written, written_of}
+use Rattle.query_reader.specs.Written.{item_of, items_of, source_of}
 use Rattle.query_reader.specs.Order.{first_among, order_column, order_item, order_items, shown_of_name}
-use Rattle.query_reader.specs.Scope.{scope_of}
-use Rattle.query_reader.specs.Binding.{found_relation, item_columns, then_columns, list_columns, conjuncts_written, limited, past_limit, source_range, bound_over, bound_written, bound}
+use Rattle.query_reader.specs.Scope.{scope_after, scope_of}
+use Rattle.query_reader.specs.From.{Joined, alias_or, conjuncts_of_expr, is_taken, nothing_joined, of_table, under_alias, with_condition, with_group, with_groups, with_join, with_joins, with_relation}
+use Rattle.query_reader.specs.Binding.{found_relation, item_columns, then_columns, list_columns, conjuncts_written, limited, past_limit, bound_over, bound_from, bound}
 use Rattle.pgplan.proofs.PlainLemmas.{IsPlain, next-plain, found-plain, expr-plain}
 
 relation-plain : (scope : Scope) (qualifier : Token) → IsPlain (found_relation scope qualifier)
@@ -52,9 +58,45 @@ limit-plain : {A : Type 0} (start : Token) (limit : Option Limit) (x : A) → Is
 limit-plain start None x = tt
 limit-plain start (Some limit) x = refl
 
-source-plain : (table : Option TableNo) (source : Source) → IsPlain (source_range table source)
-source-plain None source = refl
-source-plain (Some table) source = tt
+under-plain : (j : Joined) (table : TableNo) (alias : Spelled) → IsPlain (under_alias j table alias)
+under-plain j table alias = by (is_taken j.range alias.bytes)
+  where
+    by : (taken : Bool) → IsPlain (cond taken (Err (fault_at S7 alias.token)) (Ok (record j { range = j.range ++ (table, alias.bytes) ∷ [] })))
+    by true = refl
+    by false = tt
+
+of-table-plain : (j : Joined) (table : Option TableNo) (source : Source) → IsPlain (of_table j table source)
+of-table-plain j None source = refl
+of-table-plain j (Some table) source = under-plain j table (alias_or source.alias source.table)
+
+relation-added-plain : (j : Joined) (source : Source) → IsPlain (with_relation j source)
+relation-added-plain j source = by (nat_lt (length j.range) MOST_RELATIONS)
+  where
+    by : (few : Bool) → IsPlain (cond few (of_table j (table_named j.contents source.table.bytes) source) (Err (fault_at (S15 Relations) source.table.token)))
+    by true = of-table-plain j (table_named j.contents source.table.bytes) source
+    by false = refl
+
+conjuncts-plain : (scope : Scope) (type_of : ColRef → SqlType) (e : Expr) → IsPlain (conjuncts_of_expr scope type_of e)
+conjuncts-plain scope type_of e = next-plain (meaning_of_expr scope type_of e) _ (expr-plain scope type_of e) (λ c. tt)
+
+condition-plain : (first : ℕ) (j : Joined) (e : Expr) → IsPlain (with_condition first j e)
+condition-plain first j e =
+    next-plain (conjuncts_of_expr (scope_after j.contents first j.range) (type_in j.contents j.range) e) _ (conjuncts-plain (scope_after j.contents first j.range) (type_in j.contents j.range) e) (λ ks. tt)
+
+join-plain : (first : ℕ) (j : Joined) (x : Join) → IsPlain (with_join first j x)
+join-plain first j (join_on i k r o e) = next-plain (with_relation j (source_of r)) _ (relation-added-plain j (source_of r)) (λ i. condition-plain first i e)
+join-plain first j (cross_join k i r) = relation-added-plain j (source_of r)
+
+joins-plain : (first : ℕ) (j : Joined) (xs : List Join) → IsPlain (with_joins first j xs)
+joins-plain first j [] = tt
+joins-plain first j (x ∷ xs) = next-plain (with_join first j x) _ (join-plain first j x) (λ i. joins-plain first i xs)
+
+group-plain : (j : Joined) (g : Group) → IsPlain (with_group j g)
+group-plain j (group_of r xs) = next-plain (with_relation j (source_of r)) _ (relation-added-plain j (source_of r)) (λ i. joins-plain (length j.range) i xs)
+
+groups-plain : (j : Joined) (gs : List Group) → IsPlain (with_groups j gs)
+groups-plain j [] = tt
+groups-plain j (g ∷ gs) = next-plain (with_group j g) _ (group-plain j g) (λ i. groups-plain i gs)
 
 before-plain : {B : Type 0} (r : Result B Fault) (rs : Result (List B) Fault) → IsPlain r → IsPlain rs → IsPlain (before_all r rs)
 before-plain (Err f) rs one more = one
@@ -76,16 +118,15 @@ order-plain : (scope : Scope) (select : List ColRef) (o : OrderBy) → IsPlain (
 order-plain scope select no_order = tt
 order-plain scope select (order_by k b o os) = each-plain (order_item scope select) (o ∷ parts_of (λ x. x) os) (order-item-plain scope select)
 
-over-plain : (c : Contents) (start : Token) (items : List Item) (w : Where) (order : OrderBy) (range : Range) → IsPlain (bound_over c start items w order range)
-over-plain c start items w order range =
-    next-plain (conjuncts_written (scope_of c range) (type_in c range) w) _ (where-plain (scope_of c range) (type_in c range) w)
-    (λ conjuncts. next-plain (list_columns (scope_of c range) items) _ (list-plain (scope_of c range) items)
-    (λ columns. next-plain (order_items (scope_of c range) columns order) _ (order-plain (scope_of c range) columns order)
-    (λ ordered. limit-plain start (past_limit conjuncts) (record { range = range; select = columns; where_all = conjuncts; order = ordered }))))
+over-plain : (start : Token) (items : List Item) (w : Where) (order : OrderBy) (j : Joined) → IsPlain (bound_over start items w order j)
+over-plain start items w order j =
+    next-plain (conjuncts_written (scope_of j.contents j.range) (type_in j.contents j.range) w) _ (where-plain (scope_of j.contents j.range) (type_in j.contents j.range) w)
+    (λ conjuncts. next-plain (list_columns (scope_of j.contents j.range) items) _ (list-plain (scope_of j.contents j.range) items)
+    (λ columns. next-plain (order_items (scope_of j.contents j.range) columns order) _ (order-plain (scope_of j.contents j.range) columns order)
+    (λ ordered. limit-plain start (past_limit (j.conjuncts ++ conjuncts)) (record { range = j.range; select = columns; where_all = j.conjuncts ++ conjuncts; order = ordered }))))
 
-written-plain : (c : Contents) (start : Token) (w : Written) → IsPlain (bound_written c start w)
-written-plain c start w =
-    next-plain (source_range (table_named c w.source.table.bytes) w.source) _ (source-plain (table_named c w.source.table.bytes) w.source) (over-plain c start w.items w.condition w.order)
+from-plain : (c : Contents) (start : Token) (items : List Item) (gs : List Group) (w : Where) (order : OrderBy) → IsPlain (bound_from c start items gs w order)
+from-plain c start items gs w order = next-plain (with_groups (nothing_joined c) gs) _ (groups-plain (nothing_joined c) gs) (over-plain start items w order)
 
 pub bound-plain : (c : Contents) (start : Token) (x : OrderedSelect) (f : Fault) → bound c start x ≡ Err f → f.rec ≡ 0
-bound-plain c start (ordered_select e q o end) f is = subst IsPlain is (written-plain c start (written_of q o))
+bound-plain c start (ordered_select e (select_from k o os m g gs w) y end) f is = subst IsPlain is (from-plain c start (item_of o ∷ items_of os) (g ∷ groups_after gs) w y)

@@ -9,10 +9,6 @@ mod laws;
 mod machine;
 mod query;
 mod status;
-#[cfg(test)]
-mod tests;
-#[cfg(test)]
-mod tests_pace;
 mod top;
 mod work;
 

@@ -4,7 +4,6 @@ ghost use Rattle.std.specs.Prelude.{◌≡◌, ◌≤◌, ◌<◌, ℕ, Bool, If
 ghost use Rattle.pg_base.specs.declared.limits.TheConstants.{MOST_SCRIPT_BYTES};
 ghost use Rattle.sql_lex.specs.Ends.{token_at as token_of_number};
 ghost use Rattle.sql_lex.specs.Words.{AreWords};
-ghost use Rattle.sql_query.specs.Queries.{width};
 ghost use Rattle.sql_query.specs.WellBound.{IsWellBound};
 ghost use Rattle.sql_query.specs.Worlds.{world};
 ghost use Rattle.store.specs.Kept.{IsStoreOf};
@@ -75,7 +74,6 @@ fn print<C: Counters, K: Sink>(
 ) -> Result<(), Stop>
     requires bound { IsWellBound catalog.now query.now }
     requires store { IsStoreOf catalog.now store.now }
-    requires one { width query.now ≡ 1 }
     ensures replied { OnOk result (HasReplied (IsReply (world catalog.now store.now.stored) (cond explained (actions.explain query.now) (actions.answer query.now))) (traces (K.held out.old) fetches.old reads.old) (traces (K.held out.new) fetches.new reads.new)) }
     ensures stopped { IfErr result (λ stop. Leaves stop (IsReply (world catalog.now store.now.stored) (cond explained (actions.explain query.now) (actions.answer query.now))) (traces (K.held out.old) fetches.old reads.old) (traces (K.held out.new) fetches.new reads.new)) }
     ensures no_plan { IfErr result (λ stop. stop ≡ Stop.NoPlan → HasNoPlan catalog.now query.now) }

@@ -1,5 +1,5 @@
 -- A statement whose first word is SELECT.
-use Rattle.std.proofs.Common.{◌≡◌, ℕ, Bool, true, false, List, ◌∷◌, refl, sym, ap, ◌∙◌}
+use Rattle.std.proofs.Common.{◌≡◌, ℕ, Bool, true, false, List, ◌∷◌, refl, ap, ◌∙◌}
 use Rattle.sql_lex.specs.declared.tokens.Token.{Token}
 use Rattle.sql_grammar.specs.declared.class.Word.TheVariants.{Select}
 use Rattle.sql_grammar.specs.Terminals.{Terminal, t_key}
@@ -7,7 +7,7 @@ use Rattle.sql_grammar.specs.Syntax.{index_on, semicolon, text_end, Statement, e
 use Rattle.sql_grammar.specs.Words.{words_of}
 use Rattle.sql_grammar.specs.Faults.{terminals}
 use Rattle.sql_cursor.specs.Reading.{Begins}
-use Rattle.query_reader.specs.Select.{AreNoOther, is_explained, is_query, words_before}
+use Rattle.query_reader.specs.Select.{AreNoOther, is_query, words_before}
 
 abbrev begins_select : List Terminal → Bool
 begins_select (t_key Select _ ∷ _) = true

@@ -1,6 +1,6 @@
 //! Definitions carried out on a catalogue, and queries read over it.
 
-ghost use Rattle.std.specs.Prelude.{◌≡◌, ◌≤◌, ◌^◌, ℕ, IfOk, IsTrue, length};
+ghost use Rattle.std.specs.Prelude.{◌≡◌, ◌≤◌, ◌<◌, ◌^◌, ℕ, IfOk, IsTrue, length};
 ghost use Rattle.sql_lex.specs.Words.{AreWords};
 ghost use Rattle.sql_grammar.specs.Faults.{terminals};
 ghost use Rattle.query_reader.specs.Select.{AreNoOther, words_before};
@@ -105,11 +105,11 @@ fn is_select(text: &[u8], tokens: &Tokens) -> bool
     from.takes(Word::Select)
 }
 
-/// The query that a SELECT of one table means.
+/// The query that a SELECT means.
 pub fn query(alloc: Global, cat: &Catalog, text: &[u8]) -> Result<Prepared, Stopped>
     ensures bound { IfOk result (IsWellBound cat.now) }
     ensures over { IfOk result (IsOverTables cat.now) }
-    ensures one { IfOk result (λ q. width q ≡ 1) }
+    ensures some { IfOk result (λ q. 0 < width q) }
 {
     if text.len() > MOST_BYTES {
         return Err(Stopped::Long);

@@ -1,6 +1,6 @@
-//! Worked queries of one table, whose numbers were reckoned by hand and by a planner written apart from this one.
+//! Worked queries, whose numbers were reckoned by hand and by a planner written apart from this one.
 
-ghost use Rattle.std.specs.Prelude.{◌≡◌};
+ghost use Rattle.std.specs.Prelude.{◌<◌};
 ghost use Rattle.catalog.specs.Contents.{IsIndex};
 ghost use Rattle.sql_query.specs.Queries.{width};
 ghost use Rattle.sql_query.specs.WellBound.{IsWellBound};
@@ -63,8 +63,56 @@ const EIGHT: &[&[u8]] = &[
     b"STATISTICS t.c DISTINCT 60 NULLS 0;",
 ];
 
+/// Three tables of one column each, the first the greatest.
+const THREE: &[&[u8]] = &[
+    b"CREATE TABLE x (a int4);",
+    b"CREATE TABLE y (a int4);",
+    b"CREATE TABLE z (a int4);",
+    b"STATISTICS x ROWS 1000 PAGES 10;",
+    b"STATISTICS y ROWS 500 PAGES 5;",
+    b"STATISTICS z ROWS 10 PAGES 1;",
+    b"STATISTICS x.a DISTINCT 1000 NULLS 0;",
+    b"STATISTICS y.a DISTINCT 500 NULLS 0;",
+    b"STATISTICS z.a DISTINCT 10 NULLS 0;",
+];
+
+/// Customers, their orders and the lines of these.
+const SHOP: &[&[u8]] = &[
+    b"CREATE TABLE customers (id int4 NOT NULL, region int4, name text);",
+    b"CREATE TABLE orders (id int4 NOT NULL, customer int4, total int8);",
+    b"CREATE TABLE lines (order_id int4, qty int4, item text);",
+    b"CREATE INDEX customers_id ON customers (id);",
+    b"CREATE INDEX orders_customer ON orders (customer);",
+    b"CREATE INDEX lines_order ON lines (order_id);",
+    b"STATISTICS customers ROWS 1000 PAGES 10;",
+    b"STATISTICS orders ROWS 10000 PAGES 100;",
+    b"STATISTICS lines ROWS 20000 PAGES 200;",
+    b"STATISTICS customers.id DISTINCT 1000 NULLS 0;",
+    b"STATISTICS orders.customer DISTINCT 1000 NULLS 0;",
+    b"STATISTICS orders.id DISTINCT 10000 NULLS 0;",
+    b"STATISTICS lines.order_id DISTINCT 10000 NULLS 0;",
+];
+
 /// Definitions and a query, and the cost and the rows of its best plan.
-const BEST: [(&[&[u8]], &[u8], u64, u64); 16] = [
+const BEST: [(&[&[u8]], &[u8], u64, u64); 19] = [
+    (
+        THREE,
+        b"SELECT x.a FROM x, y, z WHERE x.a = y.a AND y.a = z.a;",
+        44_630,
+        5,
+    ),
+    (
+        THREE,
+        b"SELECT x.a FROM x JOIN y ON x.a = y.a;",
+        46_500,
+        500,
+    ),
+    (
+        SHOP,
+        b"SELECT c.name, o.total, l.qty FROM customers c JOIN orders o ON o.customer = c.id JOIN lines l ON l.order_id = o.id WHERE c.id = 7 ORDER BY l.qty;",
+        69_202,
+        20,
+    ),
     (
         &[ON_A, SMALL, A_HUNDRED],
         b"SELECT * FROM t WHERE a = 5;",
@@ -236,7 +284,7 @@ fn catalogue(alloc: Global, definitions: &[&[u8]]) -> Result<Catalog, Stopped> {
 /// The entries of an index, its part, and the costs of both scans by it.
 fn numbers(cat: &Catalog, q: &Prepared, i: IndexNo) -> [u64; 4]
     requires over { IsOverTables cat.now q.now }
-    requires one { width q.now ≡ 1 }
+    requires some { 0 < width q.now }
     requires index { IsIndex cat.now i }
 {
     let (r, none) = (RelNo(0), RelSet::empty());
@@ -251,7 +299,6 @@ fn numbers(cat: &Catalog, q: &Prepared, i: IndexNo) -> [u64; 4]
 /// The cost and the rows of the best plan.
 fn best(alloc: Global, cat: &Catalog, q: &Prepared) -> Result<(u64, u64), PlanFault>
     requires bound { IsWellBound cat.now q.now }
-    requires one { width q.now ≡ 1 }
 {
     let planned = plan(alloc, cat, q)?;
     Ok((planned.best.cost, planned.best.rows))

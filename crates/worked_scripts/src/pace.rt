@@ -1,0 +1,162 @@
+//! How many rows a SELECT fetches and looks at, and that rows leave while others are still to be drawn.
+
+ghost use Rattle.std.specs.Prelude.{◌≡◌, ◌≤◌, ◌<◌, IfOk, length};
+ghost use Rattle.pg_base.specs.declared.limits.TheConstants.{MOST_SCRIPT_BYTES};
+
+use heap::{Counters, Counting};
+use pg_base::{MOST_SCRIPT_BYTES, MemSink, Steps};
+use pgplan::{End, Machine};
+use std::alloc::{AllocError, Global};
+use std::marker::Brand;
+use std::process::Abort;
+use std::sync::ledger::{Blank, Ledger};
+use std::test::Fail;
+
+/// 1000 rows with 0 to 99 in turn come after these statements, and more statements after them.
+const INDEXED: &[u8] =
+    b"CREATE TABLE t (a int4, b int4); CREATE INDEX ta ON t (a);\nCOPY t FROM STDIN WITH (FORMAT CSV, NULL '\\N');\n";
+
+const KNOWN: &[u8] =
+    b"\\.\nSTATISTICS t ROWS 100000 PAGES 1000; STATISTICS t.a DISTINCT 100000 NULLS 0; STATISTICS t.b DISTINCT 100 NULLS 0;";
+
+const BY_INDEX: &[u8] = b"SELECT * FROM t WHERE a = 5;";
+
+const IN_TURN: &[u8] = b"SELECT * FROM t WHERE b = 1;";
+
+/// The script of the table, with what is known of it.
+fn script(alloc: Global) -> Result<Vec<u8>, AllocError>
+    ensures { IfOk result (λ text. length text.items ≤ MOST_SCRIPT_BYTES) }
+{
+    let mut text = Vec::from_slice(alloc, INDEXED)?;
+    for n in 0..1000u32 {
+        let row = [
+            b'0' + (n % 100 / 10) as u8,
+            b'0' + (n % 10) as u8,
+            b',',
+            b'1',
+            b'\n',
+        ];
+        text.extend_from_slice(&row)?;
+    }
+    text.extend_from_slice(KNOWN)?;
+    if text.len() > MOST_SCRIPT_BYTES {
+        return Err(AllocError);
+    }
+    Ok(text)
+}
+
+/// Works all statements of a script, of 16 at most.
+fn worked<C: Counters>(
+    machine: &mut Machine<C>,
+    text: &[u8],
+    out: &mut MemSink,
+    fetches: &mut Steps<C::Fetches>,
+    reads: &mut Steps<C::Looks>,
+) -> Result<(), End>
+    requires { length text.now ≤ MOST_SCRIPT_BYTES }
+{
+    let mut at = 0;
+    for _ in 0..16 {
+        if at as usize > text.len() {
+            return Ok(());
+        }
+        at = machine.step(text, at, out, fetches, reads)?;
+    }
+    Ok(())
+}
+
+/// A query, how its reply begins and ends, and the out that it is answered to: of so much room, and whose write of that
+/// number fails.
+#[derive(Clone, Copy)]
+pub(crate) struct Asked<'a> {
+    pub(crate) query: &'a [u8],
+    pub(crate) begins: &'a [u8],
+    pub(crate) ends: &'a [u8],
+    pub(crate) room: usize,
+    pub(crate) fails: u64,
+}
+
+/// What a query did: whether out stopped it, whether its reply begins and ends so, and the rows that it fetched and looked at.
+#[derive(Clone, Copy)]
+pub(crate) struct Outcome {
+    pub(crate) stopped: bool,
+    pub(crate) as_told: bool,
+    pub(crate) fetches: u64,
+    pub(crate) looks: u64,
+}
+
+/// What a query does over the tables of a script.
+pub(crate) fn drawn(alloc: Global, tables: &[u8], asked: Asked) -> Result<Outcome, AllocError>
+    requires tables { length tables.now ≤ MOST_SCRIPT_BYTES }
+    requires query { length asked.query.now ≤ MOST_SCRIPT_BYTES }
+{
+    counted::<Brand, Brand>(alloc, Blank::new(1), Blank::new(1), tables, asked)
+}
+
+fn counted<L: Ledger, M: Ledger>(
+    alloc: Global,
+    fetching: Blank,
+    reading: Blank,
+    tables: &[u8],
+    asked: Asked,
+) -> Result<Outcome, AllocError>
+    requires name { fetching.name ≡ L.name }
+    requires parts { fetching.parts ≡ L.parts }
+    requires some { 0 < fetching.parts }
+    requires other_name { reading.name ≡ M.name }
+    requires other_parts { reading.parts ≡ M.parts }
+    requires some_too { 0 < reading.parts }
+    requires short_tables { length tables.now ≤ MOST_SCRIPT_BYTES }
+    requires short { length asked.query.now ≤ MOST_SCRIPT_BYTES }
+{
+    let mut machine = Machine::<Counting<L, M>>::new(alloc);
+    let mut fetches = Steps::<L>::new(fetching);
+    let mut reads = Steps::<M>::new(reading);
+    let mut out = MemSink::new(alloc, asked.room, Vec::from_slice(alloc, &[asked.fails])?)?;
+    if worked(&mut machine, tables, &mut out, &mut fetches, &mut reads).is_err() {
+        return Err(AllocError);
+    }
+    let before = reads.shown();
+    let ended = machine.step(asked.query, 0, &mut out, &mut fetches, &mut reads);
+    Ok(Outcome {
+        stopped: matches!(ended, Err(End::Write)),
+        as_told: out.bytes().starts_with(asked.begins) && out.bytes().ends_with(asked.ends),
+        fetches: fetches.shown(),
+        looks: reads.shown().saturating_sub(before),
+    })
+}
+
+/// What a query does over the table of 1000 rows.
+fn drawn_from_rows(alloc: Global, asked: Asked) -> Result<Outcome, AllocError>
+    requires { length asked.query.now ≤ MOST_SCRIPT_BYTES }
+{
+    let tables = script(alloc)?;
+    drawn(alloc, &tables, asked)
+}
+
+#[test]
+fn rows_are_fetched_as_the_plan_says(rt: HostRuntime) -> Result<(), Fail> {
+    let alloc = rt.alloc();
+    let cases: [(&[u8], usize, bool, u64, u64, u64); 3] = [
+        (BY_INDEX, 4096, false, 10, 10, 20),
+        (IN_TURN, 65_536, false, 1000, 1000, 1000),
+        (IN_TURN, 37, true, 1, 999, 999),
+    ];
+    for (query, room, full, least, most, looks) in cases {
+        if query.len() > MOST_SCRIPT_BYTES {
+            continue;
+        }
+        let asked = Asked {
+            query,
+            begins: b"",
+            ends: b"",
+            room,
+            fails: 0,
+        };
+        let did = drawn_from_rows(alloc, asked)?;
+        assert_eq!(rt; did.stopped, full);
+        assert!(rt; least <= did.fetches && did.fetches <= most);
+        assert!(rt; did.looks <= looks);
+    }
+    Ok(())
+}

@@ -6,13 +6,12 @@ usage: tools/grammar_oracle.py FOLDER [COUNT [SEED [STAGE]]]
 FOLDER holds the package `pgoracle` of the reference parser, written apart from
 this repository: `lexer.lex_statement(text, at)` gives the tokens of a statement
 and `grammar.Parser(tokens, STAGE).statement()` raises its first fault: stage 10,
-which is taken where none is given, has every statement of one table. The crates
-sql_grammar, sql_lex and pg_base are copied to a folder of their own, with tests
-made of the statements and the faults that the reference parser finds, and
-`rt try --test` runs them there. Nothing in the repository changes.
+which is taken where none is given, has every statement that this grammar has. The crates sql_grammar, sql_lex and
+pg_base are copied to a folder of their own, with tests made of the statements
+and the faults that the reference parser finds, and `rt try --test` runs them
+there. Nothing in the repository changes.
 """
 
-import os
 import random
 import shutil
 import subprocess
@@ -133,6 +132,23 @@ def index(r):
     return out + (["where"] + condition(r) if r.random() < 0.4 else [])
 
 
+def relation(r):
+    return [name(r)] + r.choice(([], [name(r)], ["as", name(r)]))
+
+
+def join(r):
+    if r.random() < 0.3:
+        return ["cross", "join"] + relation(r)
+    return r.choice((["join"], ["inner", "join"])) + relation(r) + ["on"] + condition(r)
+
+
+def group(r):
+    out = relation(r)
+    while r.random() < 0.4:
+        out += join(r)
+    return out
+
+
 def statement(r):
     """The words of a statement, without its end."""
     kind = r.randrange(15)
@@ -143,11 +159,11 @@ def statement(r):
     if kind < 3:
         return ["create", "table", name(r), "("] + joined(r, definition) + [")"]
     if kind < 8:
-        alias = r.choice(([], [name(r)], ["as", name(r)]))
+        tables = joined(r, group)
         where = ["where"] + condition(r) if kind > 4 else []
         order = ["order", "by"] + joined(r, ordering) if r.random() < 0.5 else []
         explained = ["explain"] if r.random() < 0.3 else []
-        return explained + ["select"] + joined(r, output) + ["from", name(r)] + alias + where + order
+        return explained + ["select"] + joined(r, output) + ["from"] + tables + where + order
     if kind < 11:
         return statistics(r)
     return ["copy", name(r)] + "from stdin with ( format csv , null".split() + [text(r), ")"]
@@ -235,7 +251,6 @@ fn kind_of(code: Code) -> u32 {
 
 
 def main():
-    os.environ["PGPLAN_ONE_RELATION"] = "1"
     sys.path.insert(0, sys.argv[1])
     from pgoracle import faults, grammar, lexer
     count = int(sys.argv[2]) if len(sys.argv) > 2 else 2000

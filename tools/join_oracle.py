@@ -1,12 +1,12 @@
 #!/usr/bin/env python3
-"""Compares scans with a parameterisation and trees of joins with a reference on random queries of several relations.
+"""Compares the search for a least plan with a reference on random queries of several relations.
 
 usage: tools/join_oracle.py FOLDER [COUNT [SEED]]
 
 FOLDER holds the package `pgoracle` of the reference. A program run without a proof on a copy of the crates reads definitions
-through the project's own readers and a query in numbers. It prints the front of each relation with each parameterisation, the
-judgement of random scans, true and false, and the costs and rows of random trees of joins, merges and sorts. Prints how many
-queries agree.
+through the project's own readers and a query in numbers. It prints the front of each relation with each parameterisation and of
+each larger set of relations, the judgement of random scans, true and false, the costs and rows of random trees of joins, merges
+and sorts, and the cost and rows of the best plan. Prints how many queries agree.
 """
 import random
 import sys
@@ -30,6 +30,7 @@ mod script;
 use bitmap_scan::bitmaps;
 use catalog::{Catalog, RangeTable};
 use eq_classes::{ClassNo, Classes, OrderItem};
+use join_search::{Table, search};
 use pareto::Front;
 use pathkeys::{Keys, order_keys};
 use pg_base::{ColNo, IndexNo, RelNo, RelSet, TableNo};
@@ -37,6 +38,7 @@ use pg_expr::{Binding, ColRef, Expr, Exprs, Operand};
 use pg_value::{Bytes, Op, SqlType, Truth, Value};
 use plan_space::{is_bitmap_scan, is_index_only_scan, is_index_scan};
 use plan_tree::{BitTree, BitTrees, Path, Plan, cost, estimate, set_of};
+use planner::{PlanFault, plan};
 use scan_paths::scans;
 use script::define;
 use sql_query::{ColList, OrderList, Prepared};
@@ -137,11 +139,14 @@ fn tree(alloc: Global, input: &mut Input) -> Result<Plan, AllocError> {
     }
 }
 
-fn show_front(rt: HostRuntime, cat: &Catalog, q: &Prepared, r: RelNo, p: RelSet) -> io::Result<()> {
-    let alloc = rt.alloc();
+fn base_front(alloc: Global, cat: &Catalog, q: &Prepared, r: RelNo, p: RelSet) -> Result<Front<Path>, AllocError> {
     let mut front: Front<Path> = Front::new(alloc);
     scans(alloc, cat, q, r, p, &mut front)?;
     bitmaps(alloc, cat, q, r, p, &mut front)?;
+    Ok(front)
+}
+
+fn show_front(rt: HostRuntime, front: &Front<Path>) -> io::Result<()> {
     print!(rt; " {}", front.items().len())?;
     for path in front.items() {
         print!(rt; " {} {} {}", path.cost, path.rows, path.keys.items().len())?;
@@ -150,6 +155,41 @@ fn show_front(rt: HostRuntime, cat: &Catalog, q: &Prepared, r: RelNo, p: RelSet)
         }
     }
     Ok(())
+}
+
+fn show_fronts(rt: HostRuntime, cat: &Catalog, q: &Prepared) -> io::Result<()> {
+    let alloc = rt.alloc();
+    let n = q.range.items().len() as u16;
+    let mut base = Table::new(alloc);
+    for r in 0..n {
+        for p in 0..1u16 << n {
+            if p >> r & 1 == 0 {
+                let front = base_front(alloc, cat, q, RelNo(r as u8), RelSet(p))?;
+                show_front(rt, &front)?;
+                if base.put(RelSet(1 << r), RelSet(p), front).is_err() {
+                    return println!(rt; "out of memory");
+                }
+            }
+        }
+    }
+    let table = search(alloc, cat, q, base)?;
+    for s in 1..1u16 << n {
+        if s & (s - 1) != 0 {
+            match table.front(RelSet(s), RelSet(0)) {
+                Some(front) => show_front(rt, front)?,
+                None => print!(rt; " 0")?,
+            }
+        }
+    }
+    Ok(())
+}
+
+fn show_best(rt: HostRuntime, cat: &Catalog, q: &Prepared) -> io::Result<()> {
+    match plan(rt.alloc(), cat, q) {
+        Ok(planned) => print!(rt; " 1 {} {}", planned.best.cost, planned.best.rows),
+        Err(PlanFault::CostLimit) => print!(rt; " 0"),
+        Err(PlanFault::Memory) => print!(rt; " out of memory"),
+    }
 }
 
 fn is_scan(cat: &Catalog, q: &Prepared, p: &Plan) -> bool {
@@ -168,14 +208,7 @@ fn show(rt: HostRuntime, cat: &Catalog, q: &Prepared, input: &mut Input) -> io::
     for k in order.items() {
         print!(rt; " {}", k.0)?;
     }
-    let n = q.range.items().len() as u16;
-    for r in 0..n {
-        for p in 0..1u16 << n {
-            if p >> r & 1 == 0 {
-                show_front(rt, cat, q, RelNo(r as u8), RelSet(p))?;
-            }
-        }
-    }
+    show_fronts(rt, cat, q)?;
     for _ in 0..input.next() {
         print!(rt; " {}", u8::from(is_scan(cat, q, &tree(alloc, input)?)))?;
     }
@@ -184,6 +217,7 @@ fn show(rt: HostRuntime, cat: &Catalog, q: &Prepared, input: &mut Input) -> io::
         let c = cost(cat, q, &t);
         print!(rt; " {} {} {} {}", c.startup, c.total, estimate(cat, q, &t), set_of(&t).0)?;
     }
+    show_best(rt, cat, q)?;
     println!(rt; "")
 }
 
@@ -385,8 +419,12 @@ def one(rng, kinds):
     line += [len(trees), *(x for t in trees for x in tree_numbers(t[0], numbers))]
     fronts = [sorted((p.cost, p.rows, tuple(p.keys)) for p in planner.fronts.get((1 << r, s), ()))
               for r in range(n) for s in range(1 << n) if not s >> r & 1]
+    fronts += [sorted((p.cost, p.rows, tuple(p.keys)) for p in planner.fronts.get((s, 0), ())) for s in range(1, 1 << n) if s & (s - 1)]
     yes = [int(space.scan(scan) is not None) for scan in judged]
     behind = yes + [x for t in trees for x in (min(t[1], MOST), min(t[2], MOST), t[3], t[4])]
+    best = planner.best(space.order_keys)
+    behind += [1, best.cost[1], best.path.rows] if best else [0]
+    kinds["best plans" if best else "queries without a plan"] += 1
     kinds["judged scans in the space"] += sum(yes)
     kinds["judged scans out of it"] += len(yes) - sum(yes)
     kinds["paths with a parameterisation"] += sum(len(v) for (_, p), v in planner.fronts.items() if p)

@@ -7,8 +7,6 @@ mod cursors;
 mod entries;
 mod sides;
 mod sorted;
-#[cfg(test)]
-mod tests;
 mod tree;
 
 pub use bounds::{Bound, Probe};

@@ -13,8 +13,6 @@ mod range;
 mod sizes;
 mod statistics;
 mod table;
-#[cfg(test)]
-mod tests;
 
 pub use contents::Catalog;
 pub use fault::CatalogFault;

@@ -8,8 +8,6 @@ mod pair;
 mod parameters;
 mod powers;
 mod scans;
-#[cfg(test)]
-mod tests;
 
 pub use joins::{merge, nest, price, sort};
 pub use laws::{capped_children, least_powers, rising_costs};

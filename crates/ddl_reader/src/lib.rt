@@ -9,8 +9,6 @@ mod literals;
 mod read;
 mod statistics;
 mod table;
-#[cfg(test)]
-mod tests;
 mod types;
 mod words;
 

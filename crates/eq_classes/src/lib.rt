@@ -9,8 +9,6 @@ mod equality;
 mod group;
 mod order;
 mod rel_sets;
-#[cfg(test)]
-mod tests;
 
 pub use classes::{ClassNo, Classes};
 pub use clause_set::{ClauseSet, note};

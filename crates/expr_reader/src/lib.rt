@@ -10,8 +10,6 @@ mod literal;
 mod operand;
 mod read;
 mod scope;
-#[cfg(test)]
-mod tests;
 mod value;
 mod written;
 

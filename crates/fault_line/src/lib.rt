@@ -4,8 +4,6 @@
 mod line;
 mod pieces;
 mod tells;
-#[cfg(test)]
-mod tests;
 mod texts;
 
 pub use line::write_fault;

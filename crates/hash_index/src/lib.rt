@@ -4,8 +4,6 @@
 
 mod index;
 mod rows;
-#[cfg(test)]
-mod tests;
 
 pub use index::HashIndex;
 pub use rows::Row;

@@ -7,8 +7,6 @@ mod heaps;
 mod laws;
 mod load;
 mod store;
-#[cfg(test)]
-mod tests;
 mod tids;
 mod tuples;
 

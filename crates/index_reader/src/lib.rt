@@ -11,8 +11,6 @@ mod names;
 mod predicate;
 mod read;
 mod table_scope;
-#[cfg(test)]
-mod tests;
 
 pub use index::ReadIndex;
 pub use read::read_index;

@@ -10,8 +10,6 @@ mod offers;
 mod sides;
 mod splits;
 mod table;
-#[cfg(test)]
-mod tests;
 
 pub use by_sets::search;
 pub use table::Table;

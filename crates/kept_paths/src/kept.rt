@@ -148,8 +148,8 @@ impl KeptPaths {
         }
     }
 
-    /// Whether some path costs no more, with keys that begin with these. Such a path is at most each path of that cost and
-    /// these keys. The error means want of memory.
+    /// Whether some path costs no more, with keys that begin with these. Where all are of one set and parameterisation, such a
+    /// path is at most each one of that cost and these keys. The error means want of memory.
     pub fn is_beaten(&self, alloc: Global, cost: u64, by: &Keys) -> Result<bool, Memory>
         ensures { IfOk result (λ b. IsTrue b ↔ IsBeaten (map path self.now) cost by.now) }
     {

@@ -4,7 +4,5 @@
 
 mod bounds;
 mod kept;
-#[cfg(test)]
-mod tests;
 
 pub use kept::KeptPaths;

@@ -11,8 +11,6 @@ mod laws;
 mod operand;
 mod push;
 mod same;
-#[cfg(test)]
-mod tests;
 
 pub use and_list::conjuncts;
 pub use atom_set::AtomSet;

@@ -1,4 +1,3 @@
-pub mod ExampleLemmas
 pub mod JoinLemmas
 pub mod KeyLemmas
 pub mod NamedLemmas

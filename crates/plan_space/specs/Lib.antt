@@ -1,4 +1,3 @@
-pub mod Examples
 pub mod Ordered
 pub mod OrderKeys
 pub mod Sorts

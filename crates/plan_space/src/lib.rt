@@ -6,8 +6,6 @@ mod joins;
 mod keys;
 mod order;
 mod sorts;
-#[cfg(test)]
-mod tests;
 mod trees;
 mod validity;
 

@@ -15,8 +15,6 @@ mod plan;
 mod pricing;
 mod scans;
 mod sets;
-#[cfg(test)]
-mod tests;
 
 pub use bits::{BitTree, BitTrees};
 pub use elements::{

@@ -9,6 +9,3 @@ mod parts;
 
 pub use implication::{ClauseList, implied_conditions_hold, implies, no_clauses_imply_nothing};
 pub use parts::{and_parts, or_parts};
-
-#[cfg(test)]
-mod tests;

@@ -10,8 +10,6 @@ mod read;
 mod relations;
 mod select;
 mod sources;
-#[cfg(test)]
-mod tests;
 mod written;
 
 pub use laws::selects_are_no_other;

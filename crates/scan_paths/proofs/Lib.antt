@@ -1,4 +1,3 @@
 pub mod TakingLemmas
 pub mod SpaceLemmas
 pub mod IndexLemmas
-pub mod TestLemmas

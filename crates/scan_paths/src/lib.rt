@@ -4,7 +4,5 @@
 
 mod index_scans;
 mod relation_scans;
-#[cfg(test)]
-mod tests;
 
 pub use relation_scans::scans;

@@ -5,8 +5,6 @@
 mod columns;
 mod keys;
 mod sort;
-#[cfg(test)]
-mod tests;
 
 pub use columns::{SortColumn, sort_columns};
 pub use keys::{compare_keys, read_key};

@@ -16,12 +16,6 @@ mod rows_index;
 mod rows_order;
 mod stack;
 mod table;
-#[cfg(test)]
-mod tests;
-#[cfg(test)]
-mod tests_joins;
-#[cfg(test)]
-mod tests_kinds;
 mod walk;
 
 pub use class::{Class, Free, Symbol, Word};

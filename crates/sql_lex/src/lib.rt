@@ -6,8 +6,6 @@ mod forms;
 mod laws;
 mod letters;
 mod statement;
-#[cfg(test)]
-mod tests;
 mod tokens;
 
 pub use laws::{causes, one_reading};

@@ -5,8 +5,6 @@ mod columns;
 mod laws;
 mod order;
 mod prepared;
-#[cfg(test)]
-mod tests;
 
 pub use catalog::RangeTable;
 pub use columns::ColList;

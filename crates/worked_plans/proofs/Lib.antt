@@ -1,1 +1,3 @@
+mod ClauseLemmas
+mod ExampleLemmas
 mod FirstWordLemmas

@@ -1,5 +1,0 @@
-use Rattle.std.proofs.Common.{length}
-use Rattle.btree_index.proofs.tests.+are_open.Given as goal
-
-abbrev pub decreases-are_open : goal.decreases-are_open
-decreases-are_open l = length l.bounds.now

@@ -1,5 +1,0 @@
-use Rattle.std.proofs.Common.{length}
-use Rattle.eq_classes.proofs.tests.+exprs_of.Given as goal
-
-abbrev pub decreases-exprs_of : goal.decreases-exprs_of
-decreases-exprs_of l = length l.parts.now

@@ -1,8 +1,0 @@
-use Rattle.std.proofs.Common.{◌≡◌, ◌+◌}
-use Rattle.heap.proofs.tests.shown.Given as goal
-
-abbrev pub invariant-loop-t : goal.invariant-loop-t
-invariant-loop-t g l = record {
-  fetches : l.fetches ≡ l.fn.fetches + l.t;
-  looks : l.looks ≡ l.fn.looks + l.t;
-}

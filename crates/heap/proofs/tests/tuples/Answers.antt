@@ -1,8 +1,0 @@
-use Rattle.std.proofs.Common.{refl}
-use Rattle.pg_base.specs.Sets.{has}
-use Rattle.heap.specs.Tuples.{rank}
-use Rattle.heap.proofs.tests.tuples.Goals as goal
-
-pub pairs-requires : goal.pairs-requires
-unfolding has rank
-pairs-requires g c = refl

@@ -1,7 +1,0 @@
-use Rattle.std.proofs.Common.{◌≡◌, ◌<◌, ℕ}
-use Rattle.eq_classes.specs.Listing.{clause_at}
-use Rattle.plan_space.specs.Examples.{firsts_equal}
-use Rattle.plan_space.proofs.tests.are_all.Given as goal
-
-abbrev pub invariant-loop-n : goal.invariant-loop-n
-invariant-loop-n l = (k : ℕ) → k < l.n → (clause_at l.classes.clauses k).cond ≡ firsts_equal

@@ -1,0 +1,7 @@
+use Rattle.worked_data.proofs.heaps.read.Given as goal
+
+abbrev pub ghosts-counted-L-Ledger : goal.ghosts-counted-L-Ledger
+ghosts-counted-L-Ledger a = record { name = a.fetching.name; parts = a.fetching.parts }
+
+abbrev pub ghosts-counted-M-Ledger : goal.ghosts-counted-M-Ledger
+ghosts-counted-M-Ledger a = record { name = a.looking.name; parts = a.looking.parts }

@@ -1,0 +1,8 @@
+use Rattle.std.proofs.Common.{◌≡◌, ◌+◌}
+use Rattle.worked_data.proofs.heaps.shown.Given as goal
+
+abbrev pub invariant-loop-t : goal.invariant-loop-t
+invariant-loop-t g l = record {
+  fetches : l.fetches ≡ l.fn.fetches + l.t;
+  looks : l.looks ≡ l.fn.looks + l.t;
+}

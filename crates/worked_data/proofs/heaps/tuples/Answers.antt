@@ -1,0 +1,8 @@
+use Rattle.std.proofs.Common.{refl}
+use Rattle.pg_base.specs.Sets.{has}
+use Rattle.heap.specs.Tuples.{rank}
+use Rattle.worked_data.proofs.heaps.tuples.Goals as goal
+
+pub pairs-requires : goal.pairs-requires
+unfolding has rank
+pairs-requires g c = refl

@@ -1,0 +1,19 @@
+//! Catalogues, heaps, indexes and orders of worked data, and the lines that are printed.
+#![tactic(auto)]
+
+#[cfg(test)]
+mod catalogues;
+#[cfg(test)]
+mod entries;
+#[cfg(test)]
+mod faults;
+#[cfg(test)]
+mod hashed;
+#[cfg(test)]
+mod heaps;
+#[cfg(test)]
+mod lists;
+#[cfg(test)]
+mod rows;
+#[cfg(test)]
+mod sorts;

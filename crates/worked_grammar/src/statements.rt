@@ -1,0 +1,337 @@
+//! Statements and where they leave the grammar. The places were found by a parser written apart from this one.
+
+use crate::first::{first_fault, first_wrong, limit_fault};
+use pg_base::{Code, Fault, Limit, Refusal};
+use sql_grammar::{data_start, expr_end, select_end};
+use sql_lex::lex_statement;
+use std::alloc::Global;
+
+/// Statements, and the place of their syntax fault.
+const STATEMENTS: [(&[u8], Option<u32>); 80] = [
+    (b"", None),
+    (b" /* a /* b */ c */ ;", None),
+    (b"CREATE TABLE t (a int4);", None),
+    (
+        b"create table T ( a INT4 , b text not null,c bool NULL ) ;",
+        None,
+    ),
+    (b"CREATE TABLE t (a int4)", None),
+    (
+        b"CREATE TABLE rows (copy first, format csv NOT NULL, stdin index);",
+        None,
+    ),
+    (b"CREATE TABLE copy (copy copy);", None),
+    (b"CREATE;", Some(6)),
+    (b"CREATE t;", Some(7)),
+    (b"CREATE TABLE ;", Some(13)),
+    (b"CREATE TABLE select (a int4);", Some(13)),
+    (b"CREATE TABLE t ();", Some(16)),
+    (b"CREATE TABLE t (a);", Some(17)),
+    (b"CREATE TABLE t (a int4,);", Some(23)),
+    (b"CREATE TABLE t (a int4 b);", Some(23)),
+    (b"CREATE TABLE t (a int4 NOT);", Some(26)),
+    (b"CREATE TABLE t (a int4 NULL NULL);", Some(28)),
+    (b"CREATE TABLE t (a int4", Some(22)),
+    (b"CREATE TABLE t (a int4;", Some(22)),
+    (b"CREATE TABLE t (a int4)) ;", Some(23)),
+    (b"CREATE TABLE t (limit int4);", Some(16)),
+    (b"CREATE TABLE 1 (a int4);", Some(13)),
+    (b"CREATE TABLE t.u (a int4);", Some(14)),
+    (b"SELECT * FROM t;", None),
+    (b"SELECT *, t.*, a, t.a FROM t;", None),
+    (b"select rows, first.copy, with_x FROM last", None),
+    (b"SELECT a FROM t AS u;", None),
+    (b"SELECT a FROM t AS;", Some(18)),
+    (b"SELECT a FROM t AS u v;", Some(21)),
+    (b"SELECT * FROM t x y;", Some(18)),
+    (b"SELECT a b FROM t;", Some(9)),
+    (b"SELECT", Some(6)),
+    (b"SELECT a", Some(8)),
+    (b"SELECT a, FROM t;", Some(10)),
+    (b"SELECT a. FROM t;", Some(10)),
+    (b"SELECT a.b.c FROM t;", Some(10)),
+    (b"SELECT *.a FROM t;", Some(8)),
+    (b"SELECT a FROM;", Some(13)),
+    (b"SELECT a FROM t, u;", None),
+    (b"SELECT a FROM t WHERE a = 1;", None),
+    (b"SELECT a FROM t JOIN u ON a = b;", None),
+    (b"SELECT 1 FROM t;", Some(7)),
+    (b"SELECT a < b FROM t;", Some(9)),
+    (b"SELECT using FROM t;", Some(7)),
+    (b"SELECT (a) FROM t;", Some(7)),
+    (b"COPY t FROM STDIN WITH (FORMAT CSV, NULL '\\N');", None),
+    (b"copy copy from stdin with (format csv, null '');", None),
+    (b"COPY t FROM STDIN WITH (FORMAT CSV, NULL '\\N')", Some(46)),
+    (
+        b"COPY t (a) FROM STDIN WITH (FORMAT CSV, NULL 'x');",
+        Some(7),
+    ),
+    (b"COPY t FROM STDIN WITH FORMAT CSV;", Some(23)),
+    (b"COPY t FROM STDIN WITH (csv, NULL 'x');", Some(24)),
+    (b"COPY t FROM STDIN WITH (FORMAT text, NULL 'x');", Some(31)),
+    (b"COPY t FROM STDIN WITH (FORMAT CSV);", Some(34)),
+    (b"COPY t FROM STDIN WITH (FORMAT CSV, NULL x);", Some(41)),
+    (b"COPY t FROM STDIN WITH (FORMAT CSV, NULL NULL);", Some(41)),
+    (
+        b"COPY t FROM STDIN WITH (FORMAT CSV, NULL 'x') x;",
+        Some(46),
+    ),
+    (b"STATISTICS t ROWS 1 PAGES 1;", None),
+    (
+        b"SELECT a FROM t u WHERE a = 1 OR NOT (t.b IS NOT NULL AND -2 < b) AND c;",
+        None,
+    ),
+    (b"SELECT a FROM t WHERE;", Some(21)),
+    (b"SELECT a FROM t WHERE a = 1 b;", Some(28)),
+    (b"SELECT a FROM t WHERE a = 1 WHERE b;", Some(28)),
+    (b"SELECT a FROM t WHERE 1;", Some(23)),
+    (b"SELECT a FROM t WHERE (a = 1;", Some(28)),
+    (b"SELECT a FROM t AS WHERE a;", Some(19)),
+    (b"statistics statistics rows 0 pages 0", None),
+    (
+        b"STATISTICS rows.pages DISTINCT 2 NULLS 3 HISTOGRAM (false);",
+        None,
+    ),
+    (
+        b"STATISTICS t.a DISTINCT 0 NULLS 0 COMMON (-1 500, 2 300) HISTOGRAM (1, -2, 'x', NULL);",
+        None,
+    ),
+    (b"STATISTICS t;", Some(12)),
+    (b"STATISTICS t ROWS -1 PAGES 1;", Some(18)),
+    (b"STATISTICS t ROWS 1 PAGES 1 COMMON (1 1);", Some(28)),
+    (b"STATISTICS t.a ROWS 1 PAGES 1;", Some(15)),
+    (b"STATISTICS t.a DISTINCT 1 NULL 1;", Some(26)),
+    (b"STATISTICS t.a DISTINCT 1 NULLS 1 COMMON ();", Some(42)),
+    (
+        b"STATISTICS t.a DISTINCT 1 NULLS 1 COMMON (1, 2);",
+        Some(43),
+    ),
+    (
+        b"STATISTICS t.a DISTINCT 1 NULLS 1 COMMON (1 -1);",
+        Some(44),
+    ),
+    (b"STATISTICS t.a DISTINCT 1 NULLS 1 COMMON (a 1);", Some(42)),
+    (
+        b"STATISTICS t.a DISTINCT 1 NULLS 1 HISTOGRAM (1 1);",
+        Some(47),
+    ),
+    (
+        b"STATISTICS t.a DISTINCT 1 NULLS 1 HISTOGRAM (1) COMMON (1 1);",
+        Some(48),
+    ),
+    (b"EXPLAIN COPY t;", Some(8)),
+    (b"t;", Some(0)),
+];
+
+/// Statements of a front, repeated bytes and a back, and the limit that is passed from one place to another.
+const LONG: [(&[u8], &[u8], usize, &[u8], Option<(Limit, u32, u32)>); 13] = [
+    (b"SELECT ", b"a", 63, b" FROM t;", None),
+    (
+        b"SELECT ",
+        b"a",
+        64,
+        b" FROM t;",
+        Some((Limit::Name, 7, 71)),
+    ),
+    (
+        b"SELECT b.",
+        b"Z",
+        64,
+        b" x FROM t;",
+        Some((Limit::Name, 9, 73)),
+    ),
+    (b"CREATE TABLE t (", b"_", 63, b" int4);", None),
+    (
+        b"CREATE TABLE t (a ",
+        b"_1",
+        32,
+        b");",
+        Some((Limit::Name, 18, 82)),
+    ),
+    (
+        b"SELECT a FROM t ",
+        b"u",
+        64,
+        b" v;",
+        Some((Limit::Name, 16, 80)),
+    ),
+    (
+        b"COPY ",
+        b"c",
+        64,
+        b" FORM STDIN;",
+        Some((Limit::Name, 5, 69)),
+    ),
+    (
+        b"COPY t FROM STDIN WITH (FORMAT CSV, NULL '",
+        b"x",
+        8192,
+        b"');",
+        None,
+    ),
+    (
+        b"COPY t FROM STDIN WITH (FORMAT CSV, NULL '",
+        b"''",
+        8192,
+        b"');",
+        None,
+    ),
+    (
+        b"COPY t FROM STDIN WITH (FORMAT CSV, NULL '",
+        b"x",
+        8193,
+        b"') x;",
+        Some((Limit::Text, 41, 8236)),
+    ),
+    (
+        b"COPY t FROM STDIN WITH (FORMAT CSV, NULL '",
+        b"''",
+        8193,
+        b"');",
+        Some((Limit::Text, 41, 16429)),
+    ),
+    (
+        b"SELECT a FROM t WHERE b.",
+        b"c",
+        64,
+        b" = 1 c;",
+        Some((Limit::Name, 24, 88)),
+    ),
+    (
+        b"STATISTICS t.a DISTINCT 1 NULLS 1 COMMON ('",
+        b"x",
+        8193,
+        b"' a);",
+        Some((Limit::Text, 42, 8237)),
+    ),
+];
+
+/// Texts, and the end of the SELECT at their beginning, or the place of its syntax fault.
+const SELECTS: [(&[u8], Result<u32, u32>); 9] = [
+    (b"SELECT a FROM t WHERE a = 1 b", Ok(8)),
+    (b"SELECT a FROM t WHERE", Err(21)),
+    (b"SELECT *, b.c FROM t)", Ok(8)),
+    (b"SELECT a FROM t AS u v", Ok(6)),
+    (b"SELECT a FROM t u", Ok(5)),
+    (b"SELECT a FROM t, u JOIN v ON a = b ON", Ok(12)),
+    (b"SELECT a FROM t CROSS", Err(21)),
+    (b"SELECT a;", Err(8)),
+    (b"t;", Err(0)),
+];
+
+/// Texts, and the end of the expression at their beginning, or the place of its syntax fault.
+const EXPRESSIONS: [(&[u8], Result<u32, u32>); 8] = [
+    (b"a = 1;", Ok(3)),
+    (b"a IS NOT NULL AND b)", Ok(6)),
+    (b"NOT (a OR b) c;", Ok(6)),
+    (b"-1 = a, b", Ok(4)),
+    (b"a = b = c;", Ok(3)),
+    (b"t.a < 'x' OR;", Err(12)),
+    (b"1;", Err(1)),
+    (b"(a;", Err(2)),
+];
+
+/// Expressions of repeated bytes and a back, and their end, or from where to where the word stands that opens a level too many.
+const DEEP: [(&[u8], usize, &[u8], Result<u32, (u32, u32)>); 5] = [
+    (b"NOT ", 32, b"a;", Ok(33)),
+    (b"NOT ", 33, b"a;", Err((128, 131))),
+    (b"((", 16, b"a))))))))))))))))))))))))))))))));", Ok(65)),
+    (b"(NOT ", 16, b"(a = 1) OR b;", Err((80, 81))),
+    (b"a IS NOT NULL AND ", 40, b"b;", Ok(201)),
+];
+
+/// What stands before such an expression in a statement: 22 bytes.
+const FRONT: &[u8] = b"SELECT a FROM t WHERE ";
+
+/// Texts after a `;`, and the place of the data or of the syntax fault.
+const LINES: [(&[u8], Result<u32, u32>); 7] = [
+    (b"\n", Ok(1)),
+    (b" \t\r \n1,2\n", Ok(5)),
+    (b"\n\n", Ok(1)),
+    (b"", Err(0)),
+    (b" \r", Err(2)),
+    (b"  x\n", Err(2)),
+    (b"\x0c\n", Err(0)),
+];
+
+/// `front`, `count` times `middle`, and `back`.
+fn repeated(
+    alloc: Global,
+    front: &[u8],
+    middle: &[u8],
+    count: usize,
+    back: &[u8],
+) -> Result<Vec<u8>, Refusal> {
+    let mut text = Vec::from_slice(alloc, front)?;
+    for _ in 0..count {
+        text.extend_from_slice(middle)?;
+    }
+    text.extend_from_slice(back)?;
+    Ok(text)
+}
+
+#[test]
+fn finds_the_first_syntax_fault(rt: HostRuntime) {
+    assert_eq!(rt; first_wrong(rt.alloc(), &STATEMENTS), Ok(None));
+}
+
+#[test]
+fn keeps_the_limits_of_names_and_texts(rt: HostRuntime) {
+    for (front, middle, count, back, passed) in LONG {
+        let text = repeated(rt.alloc(), front, middle, count, back).expect(&rt, "text");
+        assert!(rt; text.len() < 100_000);
+        assert_eq!(rt; first_fault(rt.alloc(), &text), Ok(limit_fault(passed)));
+    }
+}
+
+#[test]
+fn finds_the_end_of_a_part(rt: HostRuntime) {
+    for (text, end) in SELECTS {
+        assert!(rt; text.len() < 100);
+        let tokens = lex_statement(rt.alloc(), text, 0).expect(&rt, "tokens");
+        assert_eq!(rt;
+            select_end(text, &tokens, 0),
+            end.map_err(Fault::syntax),
+            "{text:?}"
+        );
+    }
+    for (text, end) in EXPRESSIONS {
+        assert!(rt; text.len() < 100);
+        let tokens = lex_statement(rt.alloc(), text, 0).expect(&rt, "tokens");
+        assert_eq!(rt;
+            expr_end(text, &tokens, 0),
+            end.map_err(Fault::syntax),
+            "{text:?}"
+        );
+    }
+}
+
+#[test]
+fn keeps_the_limit_of_levels(rt: HostRuntime) {
+    for (middle, count, back, end) in DEEP {
+        let text = repeated(rt.alloc(), b"", middle, count, back).expect(&rt, "text");
+        assert!(rt; text.len() < 1_000);
+        let tokens = lex_statement(rt.alloc(), &text, 0).expect(&rt, "tokens");
+        let expected = end.map_err(|(from, to)| Fault::at_words(Code::S15(Limit::Depth), from, to));
+        assert_eq!(rt; expr_end(&text, &tokens, 0), expected);
+        let whole = repeated(rt.alloc(), FRONT, middle, count, back).expect(&rt, "statement");
+        assert!(rt; whole.len() < 1_000);
+        let moved = match end {
+            Ok(_) => None,
+            Err((from, to)) => Some((Limit::Depth, from + 22, to + 22)),
+        };
+        assert_eq!(rt; first_fault(rt.alloc(), &whole), Ok(limit_fault(moved)));
+    }
+}
+
+#[test]
+fn finds_the_data_after_a_line(rt: HostRuntime) {
+    for (text, start) in LINES {
+        assert!(rt; text.len() < 100);
+        assert_eq!(rt;
+            data_start(text, 0),
+            start.map_err(Fault::syntax),
+            "{text:?}"
+        );
+    }
+}

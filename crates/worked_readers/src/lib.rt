@@ -1,0 +1,11 @@
+//! Worked statements: what their readers make of them, and where they refuse them.
+#![tactic(auto)]
+
+#[cfg(test)]
+mod definitions;
+#[cfg(test)]
+mod indexes;
+#[cfg(test)]
+mod selects;
+#[cfg(test)]
+mod tables;

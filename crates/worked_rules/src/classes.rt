@@ -1,0 +1,383 @@
+//! Small lists of conjuncts with their classes and clauses, and each call once with ample memory.
+
+ghost use Rattle.std.specs.Prelude.{◌≡◌, ◌≤◌, true, IfOk, IsTrue, length, nat_lt};
+ghost use Rattle.pg_base.specs.declared.limits.TheConstants.{MOST_CONJUNCTS};
+ghost use Rattle.pg_value.specs.declared.operators.Op.TheVariants.{Eq, AbsEq};
+ghost use Rattle.pg_expr.specs.declared.operand.Operand.TheVariants.{Col, Lit};
+ghost use Rattle.pg_value.specs.declared.value.Value.TheVariants.{Int};
+ghost use Rattle.pg_expr.specs.Cond.{compare, cond_and, no_conds};
+ghost use Rattle.pg_expr.specs.Columns.{each_column, each_column_of};
+ghost use Rattle.pg_expr.specs.Typed.{IsTyped, AreTyped};
+ghost use Rattle.pg_expr.specs.View.{cond, conds};
+ghost use Rattle.pg_value.specs.declared.value.SqlType.TheVariants.{Int8};
+ghost use Rattle.opfamily.specs.Answers.{does_exist};
+
+use eq_classes::{ClassNo, Classes, ClauseSet, OrderItem};
+use pg_base::{ColNo, Memory, RelNo, RelSet};
+use pg_expr::{Binding, ColRef, Expr, Exprs, Operand, is_same};
+use pg_value::{Family, Op, SqlType, Value};
+use std::alloc::Global;
+use std::test::Fail;
+
+/// Columns of type int8.
+#[derive(Drop)]
+struct Wide {
+    value: Value,
+}
+
+impl Binding for Wide {
+    ghost use Rattle.std.specs.Prelude.{true};
+    ghost use Rattle.pg_value.specs.declared.value.SqlType.TheVariants.{Int8};
+
+    ghost binds = { λ r c. true };
+
+    ghost value_at = { λ r c. r.value };
+
+    ghost type_of = { λ r c. Int8 };
+
+    fn value(&self, _c: ColRef) -> &Value {
+        &self.value
+    }
+
+    fn typed(&self, _c: ColRef) -> SqlType {
+        SqlType::Int8
+    }
+}
+
+fn column(rel: u8, col: u8) -> ColRef
+    ensures { result ≡ record { rel = record { 0 = rel }; col = record { 0 = col } } }
+{
+    ColRef {
+        rel: RelNo(rel),
+        col: ColNo(col),
+    }
+}
+
+/// Two columns, equal in absolute value.
+fn equal_by_size(a: ColRef, b: ColRef) -> Expr
+    ensures { cond result ≡ compare AbsEq (Col a) (Col b) }
+{
+    Expr::Compare(Op::AbsEq, Operand::Col(a), Operand::Col(b))
+}
+
+/// A column equal to a number.
+fn equal_to(a: ColRef, n: i64) -> Expr
+    ensures { cond result ≡ compare Eq (Col a) (Lit (Int n)) }
+{
+    Expr::Compare(Op::Eq, Operand::Col(a), Operand::Lit(Value::Int(n)))
+}
+
+/// The first column of two relations compared.
+fn firsts(op: Op, a: u8, b: u8) -> Expr
+    ensures { cond result ≡ compare op (Col (record { rel = record { 0 = a }; col = record { 0 = 0 } })) (Col (record { rel = record { 0 = b }; col = record { 0 = 0 } })) }
+{
+    Expr::Compare(op, Operand::Col(column(a, 0)), Operand::Col(column(b, 0)))
+}
+
+fn three(alloc: Global, a: Expr, b: Expr, c: Expr) -> Result<Exprs, Memory>
+    ensures parts { IfOk result (λ es. conds es.items.items ≡ cond_and (cond a) (cond_and (cond b) (cond_and (cond c) no_conds))) }
+    ensures few { IfOk result (λ es. length es.items.items ≤ MOST_CONJUNCTS) }
+{
+    let mut items = Vec::new(alloc);
+    items.push(a)?;
+    items.push(b)?;
+    items.push(c)?;
+    Ok(Exprs::from_vec(items))
+}
+
+/// Whether the clauses of a set are those wanted.
+fn holds(t: &Classes, set: &ClauseSet, wanted: &[u16]) -> bool {
+    for n in 0..t.count() {
+        if set.has(n as u16) != wanted.contains(&(n as u16)) {
+            return false;
+        }
+    }
+    true
+}
+
+/// Whether the clauses are those wanted, with the numbers of their conjuncts, 0 for none.
+fn lists(t: &Classes, wanted: &[Expr], numbers: &[u16]) -> bool {
+    if t.count() != wanted.len() || numbers.len() != wanted.len() {
+        return false;
+    }
+    for n in 0..wanted.len() {
+        if !is_same(t.clause(n as u16), &wanted[n])
+            || t.conjunct(n as u16).unwrap_or(0) != numbers[n]
+        {
+            return false;
+        }
+    }
+    true
+}
+
+#[test]
+fn chain(rt: HostRuntime) -> Result<(), Fail> {
+    let alloc = rt.alloc();
+    let conjuncts = three(
+        alloc,
+        firsts(Op::Eq, 0, 1),
+        firsts(Op::Lt, 0, 2),
+        firsts(Op::Eq, 1, 2),
+    )?;
+    let order = [
+        OrderItem {
+            col: column(3, 1),
+            descending: false,
+            nulls_first: true,
+        },
+        OrderItem {
+            col: column(2, 0),
+            descending: true,
+            nulls_first: true,
+        },
+    ];
+    let t = Classes::build(alloc, conjuncts, &order, &Wide { value: Value::Null })?;
+    let wanted = three(
+        alloc,
+        firsts(Op::Lt, 0, 2),
+        firsts(Op::Eq, 0, 1),
+        firsts(Op::Eq, 0, 2),
+    )?;
+    assert!(rt; t.count() == 4);
+    let mut all = wanted.items;
+    all.push(firsts(Op::Eq, 1, 2))?;
+    assert!(rt; lists(&t, &all, &[2, 0, 0, 0]));
+    let first = RelSet::one(RelNo(0));
+    let second = RelSet::one(RelNo(1));
+    let third = RelSet::one(RelNo(2));
+    let both = first.union(second);
+    assert!(rt; holds(&t, &t.base_clauses(RelNo(0)), &[]));
+    assert!(rt; holds(&t, &t.all_clauses(both.union(third)), &[0, 1, 2]));
+    assert!(rt; holds(&t, &t.all_clauses(second.union(third)), &[3]));
+    assert!(rt; holds(&t, &t.join_clauses(both, third), &[0, 2]));
+    assert!(rt; holds(&t, &t.join_clauses(second, third), &[3]));
+    assert!(rt; holds(&t, &t.param_clauses(RelNo(2), both), &[0, 2]));
+    assert!(rt; holds(&t, &t.param_clauses(RelNo(2), second), &[3]));
+    assert!(rt; holds(&t, &t.join_param_clauses(both, RelNo(2), second), &[0]));
+    assert!(rt; holds(&t, &t.join_param_clauses(both, RelNo(2), both), &[]));
+    assert!(rt; t.joining(both, third) == [Some(ClassNo(0)), None, None, None]);
+    assert!(rt; t.joining(third, RelSet::one(RelNo(3))) == [None, None, None, None]);
+    assert!(rt; t.class_of(column(0, 0), Family::IntAbs).is_none());
+    let found = t.class_of(column(2, 0), Family::Integer);
+    assert!(rt; found == Some(ClassNo(0)));
+    if let Some(n) = found {
+        assert!(rt; !t.has_constant(n) && t.direction(n) == (true, true));
+        assert!(rt; t.family(n) == Family::Integer);
+        assert!(rt; t.member(n, second.union(third)) == Some(column(1, 0)));
+    }
+    let found = t.class_of(column(3, 1), Family::Integer);
+    assert!(rt; found == Some(ClassNo(1)));
+    if let Some(n) = found {
+        assert!(rt; t.direction(n) == (false, true));
+        assert!(rt; t.member(n, both).is_none());
+    }
+    Ok(())
+}
+
+#[test]
+fn constants(rt: HostRuntime) -> Result<(), Fail> {
+    let alloc = rt.alloc();
+    let conjuncts = three(
+        alloc,
+        firsts(Op::Eq, 0, 0),
+        equal_by_size(column(0, 0), column(0, 1)),
+        equal_to(column(1, 0), 5),
+    )?;
+    let t = Classes::build(alloc, conjuncts, &[], &Wide { value: Value::Null })?;
+    let wanted = three(
+        alloc,
+        Expr::IsNotNull(column(0, 0)),
+        equal_by_size(column(0, 0), column(0, 1)),
+        equal_to(column(1, 0), 5),
+    )?;
+    assert!(rt; lists(&t, wanted.items(), &[1, 0, 0]));
+    let both = RelSet::one(RelNo(0)).union(RelSet::one(RelNo(1)));
+    assert!(rt; holds(&t, &t.base_clauses(RelNo(0)), &[0, 1]));
+    assert!(rt; holds(&t, &t.base_clauses(RelNo(1)), &[2]));
+    assert!(rt; holds(&t, &t.all_clauses(both), &[0, 1, 2]));
+    assert!(rt; t.class_of(column(0, 0), Family::Integer).is_none());
+    assert!(rt; t.class_of(column(0, 1), Family::IntAbs) == Some(ClassNo(0)));
+    let found = t.class_of(column(1, 0), Family::Integer);
+    assert!(rt; found == Some(ClassNo(1)));
+    if let Some(n) = found {
+        assert!(rt; t.has_constant(n));
+    }
+    Ok(())
+}
+
+/// The sign of a comparison.
+#[derive(Clone, Copy)]
+enum Sign {
+    Equal,
+    AbsEqual,
+    Greater,
+}
+
+/// A conjunct or a clause of a case, over int8 columns: two columns, each by its relation and its place there, or a column
+/// and a number.
+#[derive(Clone, Copy)]
+enum Part {
+    Two(Sign, u8, u8, u8, u8),
+    One(Sign, u8, u8, i64),
+}
+
+fn op_of(sign: Sign) -> Op
+    ensures { does_exist result Int8 Int8 ≡ true }
+{
+    match sign {
+        Sign::Equal => Op::Eq,
+        Sign::AbsEqual => Op::AbsEq,
+        Sign::Greater => Op::Gt,
+    }
+}
+
+/// The expression of a part. Relations count below 16.
+fn expr_of(part: Part) -> Expr
+    ensures typed { IsTyped (λ c. Int8) (cond result) }
+    ensures rels { IsTrue (each_column (λ c. nat_lt c.rel.0 16) (cond result)) }
+    ensures bound { IsTrue (each_column (λ c. true) (cond result)) }
+{
+    match part {
+        Part::Two(sign, a, i, b, j) => Expr::Compare(
+            op_of(sign),
+            Operand::Col(column(a % 16, i)),
+            Operand::Col(column(b % 16, j)),
+        ),
+        Part::One(sign, a, i, n) => Expr::Compare(
+            op_of(sign),
+            Operand::Col(column(a % 16, i)),
+            Operand::Lit(Value::Int(n)),
+        ),
+    }
+}
+
+/// The expressions of some parts.
+fn exprs_of(alloc: Global, parts: &[Part]) -> Result<Vec<Expr>, Memory>
+    ensures typed { IfOk result (λ es. AreTyped (λ c. Int8) (conds es.items)) }
+    ensures rels { IfOk result (λ es. IsTrue (each_column_of (λ c. nat_lt c.rel.0 16) (conds es.items))) }
+    ensures bound { IfOk result (λ es. IsTrue (each_column_of (λ c. true) (conds es.items))) }
+    ensures many { IfOk result (λ es. length es.items ≡ length parts.now) }
+{
+    let Some((part, others)) = parts.split_first() else {
+        return Ok(Vec::new(alloc));
+    };
+    let mut exprs = exprs_of(alloc, others)?;
+    exprs.insert(0, expr_of(*part))?;
+    Ok(exprs)
+}
+
+#[test]
+fn clauses_of_small_lists(rt: HostRuntime) -> Result<(), Fail> {
+    let alloc = rt.alloc();
+    let table = [
+        // a column and a number
+        (
+            &[Part::One(Sign::Equal, 0, 0, 5)] as &[Part],
+            &[Part::One(Sign::Equal, 0, 0, 5)] as &[Part],
+            &[0u16] as &[u16],
+        ),
+        // two numbers for one column
+        (
+            &[
+                Part::One(Sign::Equal, 0, 0, 1),
+                Part::One(Sign::Equal, 0, 0, 2),
+            ],
+            &[
+                Part::One(Sign::Equal, 0, 0, 1),
+                Part::One(Sign::Equal, 0, 0, 2),
+            ],
+            &[0, 0],
+        ),
+        // one number twice
+        (
+            &[
+                Part::One(Sign::Equal, 0, 0, 1),
+                Part::One(Sign::Equal, 0, 0, 1),
+            ],
+            &[Part::One(Sign::Equal, 0, 0, 1)],
+            &[0],
+        ),
+        // one number joins two columns
+        (
+            &[
+                Part::One(Sign::Equal, 1, 0, 3),
+                Part::One(Sign::Equal, 0, 1, 3),
+            ],
+            &[
+                Part::One(Sign::Equal, 0, 1, 3),
+                Part::One(Sign::Equal, 1, 0, 3),
+            ],
+            &[0, 0],
+        ),
+        // what is no equality comes first, with its number
+        (
+            &[
+                Part::One(Sign::Equal, 0, 1, 7),
+                Part::One(Sign::Greater, 0, 0, 10),
+            ],
+            &[
+                Part::One(Sign::Greater, 0, 0, 10),
+                Part::One(Sign::Equal, 0, 1, 7),
+            ],
+            &[2, 0],
+        ),
+        // a chain over three relations
+        (
+            &[
+                Part::Two(Sign::Equal, 0, 0, 1, 0),
+                Part::Two(Sign::Equal, 1, 0, 2, 0),
+            ],
+            &[
+                Part::Two(Sign::Equal, 0, 0, 1, 0),
+                Part::Two(Sign::Equal, 0, 0, 2, 0),
+                Part::Two(Sign::Equal, 1, 0, 2, 0),
+            ],
+            &[0, 0, 0],
+        ),
+        // two members of one relation
+        (
+            &[
+                Part::Two(Sign::Equal, 0, 0, 0, 1),
+                Part::Two(Sign::Equal, 0, 1, 1, 0),
+            ],
+            &[
+                Part::Two(Sign::Equal, 0, 0, 0, 1),
+                Part::Two(Sign::Equal, 0, 0, 1, 0),
+            ],
+            &[0, 0],
+        ),
+        // two families are two classes
+        (
+            &[
+                Part::Two(Sign::AbsEqual, 0, 0, 1, 0),
+                Part::One(Sign::Equal, 0, 0, 3),
+            ],
+            &[
+                Part::Two(Sign::AbsEqual, 0, 0, 1, 0),
+                Part::One(Sign::Equal, 0, 0, 3),
+            ],
+            &[0, 0],
+        ),
+        // customers, orders and lines: the number reaches the orders
+        (
+            &[
+                Part::Two(Sign::Equal, 0, 0, 1, 1),
+                Part::Two(Sign::Equal, 1, 0, 2, 0),
+                Part::One(Sign::Equal, 0, 0, 7),
+            ],
+            &[
+                Part::One(Sign::Equal, 0, 0, 7),
+                Part::One(Sign::Equal, 1, 1, 7),
+                Part::Two(Sign::Equal, 1, 0, 2, 0),
+            ],
+            &[0, 0, 0],
+        ),
+    ];
+    for (conjuncts, clauses, numbers) in table {
+        assert!(rt; conjuncts.len() <= 32);
+        let given = Exprs::from_vec(exprs_of(alloc, conjuncts)?);
+        let t = Classes::build(alloc, given, &[], &Wide { value: Value::Null })?;
+        assert!(rt; lists(&t, &exprs_of(alloc, clauses)?, numbers));
+    }
+    Ok(())
+}

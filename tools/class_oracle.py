@@ -7,19 +7,17 @@ FOLDER holds the package `pgoracle` of the reference. The crates are copied into
 reads lists is run on them without a proof. It prints for each list the clauses, the classes as each call shows them, and
 every set of clauses over four relations. Prints how many lists agree.
 """
-import pathlib
 import random
-import shutil
-import subprocess
 import sys
-import tempfile
+
+from trying import try_over
 
 OPERATORS = ["<", "<=", "=", ">=", ">", "<>", "|<|", "|<=|", "|=|", "|>=|", "|>|"]
 TYPES = ["int4", "int8", "text", "bool"]
 KINDS = ["int", "int", "text", "bool"]
 FAMILIES = ["integer", "abs", "text", "bool"]
 RELATIONS = 4
-CRATES = ["pg_base", "pg_value", "opfamily", "pg_expr", "eq_classes"]
+CRATES = ["eq_classes"]
 
 READER = r"""
 #[derive(Drop)]
@@ -399,20 +397,8 @@ def lists(rng, count):
 def answers(lines, program, crates, files=()):
     """The lines of numbers that a program over these crates, with these files of crates beside it, prints, each for one of these
     lines."""
-    root = pathlib.Path(__file__).resolve().parent.parent
-    with tempfile.TemporaryDirectory() as folder:
-        copy = pathlib.Path(folder)
-        for crate in crates:
-            shutil.copytree(root / "crates" / crate, copy / "crates" / crate, ignore=shutil.ignore_patterns("out", "must-fail"))
-        source = copy / "crates" / "judge_lists" / "src"
-        source.mkdir(parents=True)
-        (source / "main.rt").write_text(program)
-        for file in files:
-            shutil.copy(root / "crates" / file, source)
-        wanted = [line for line in (root / "crates.txt").read_text().splitlines() if line.split(":")[0] in crates]
-        (copy / "crates.txt").write_text("\n".join([*wanted, "judge_lists: " + " ".join(crates)]) + "\n")
-        ran = subprocess.run(["rt", "try", "--steps", "100000000000", "--seconds", "600"], cwd=source.parent, input="".join(line + "\n" for line in lines),
-                             capture_output=True, text=True)
+    ran = try_over(crates, "main.rt", program, ["--steps", "100000000000", "--seconds", "600"], files,
+                   input="".join(line + "\n" for line in lines), capture_output=True)
     found = [line for line in ran.stdout.splitlines() if line and all(word.isdigit() for word in line.split())]
     if len(found) != len(lines):
         print(ran.stdout[-2000:], ran.stderr[-4000:], file=sys.stderr)

@@ -13,7 +13,7 @@ from types import SimpleNamespace
 
 from class_oracle import CRATES, OPERATORS, READER, TYPES, answers, encode, report
 
-ALL = [*CRATES, "catalog", "cost_rules", "path_cost"]
+ALL = [*CRATES, "path_cost"]
 KIND = ["int", "int", "text", "bool"]
 
 PROGRAM = r"""

@@ -13,14 +13,10 @@ there. Nothing in the repository changes.
 """
 
 import random
-import shutil
-import subprocess
 import sys
-import tempfile
-from pathlib import Path
 
-ROOT = Path(__file__).resolve().parent.parent
-CRATES = ("pg_base", "sql_lex", "sql_grammar")
+from trying import try_over
+
 RESERVED = ("and as asc create cross desc false from group inner is join limit not null offset "
             "on or order select table true using where with").split()
 NAMES = ("a b t rows first copy csv format stdin index statistics last _x x1 nulls pages distinct "
@@ -234,8 +230,10 @@ fn part_%d(rt: HostRuntime) {
 '''
 
 HEAD = '''//! Random statements.
-use crate::statement_fault;
+#![tactic(auto)]
+
 use pg_base::{Code, Limit};
+use sql_grammar::statement_fault;
 use sql_lex::lex_statement;
 
 fn kind_of(code: Code) -> u32 {
@@ -267,15 +265,7 @@ def main():
             rows += '        (b"%s", %d, %d),\n' % (literal, kind, at)
         tests += TEST % (part // CHUNK, rows)
     print("statements %d, syntax faults %d, names %d, texts %d, depths %d" % tuple(tally))
-    with tempfile.TemporaryDirectory() as folder:
-        top = Path(folder)
-        for crate in CRATES:
-            shutil.copytree(ROOT / "crates" / crate, top / "crates" / crate, ignore=shutil.ignore_patterns("out"))
-        lines = (ROOT / "crates.txt").read_text().splitlines(True)
-        (top / "crates.txt").write_text("".join(l for l in lines if l.split(":")[0] in CRATES))
-        shutil.copy(ROOT / "HANDLES", top / "HANDLES")
-        (top / "crates/sql_grammar/src/tests.rt").write_text(tests)
-        return subprocess.run(["rt", "try", "--test"], cwd=top / "crates/sql_grammar").returncode
+    return try_over(["sql_grammar"], "lib.rt", tests, ["--test"]).returncode
 
 
 if __name__ == "__main__":

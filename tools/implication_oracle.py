@@ -6,17 +6,14 @@ usage: tools/implication_oracle.py FOLDER [COUNT [SEED]]
 FOLDER holds the package `pgoracle` of the reference. The crates are copied into a folder of their own, where a program that
 reads pairs is run on them without a proof. Prints how many pairs agree.
 """
-import pathlib
 import random
-import shutil
-import subprocess
 import sys
-import tempfile
+
+from trying import try_over
 
 PLAIN = ["<", "<=", "=", ">=", ">", "<>"]
 OPERATORS = PLAIN + ["|<|", "|<=|", "|=|", "|>=|", "|>|"]
 KIND = {0: "int", 1: "int", 2: "text", 3: "bool"}
-CRATES = ["pg_base", "pg_value", "opfamily", "pg_expr", "predicate_proof"]
 
 PROGRAM = r"""
 //! Reads clauses and a predicate in postfix numbers, a pair a line, and prints yes or no for each.
@@ -242,18 +239,7 @@ def pairs(rng, count):
 
 
 def answers(lines):
-    root = pathlib.Path(__file__).resolve().parent.parent
-    with tempfile.TemporaryDirectory() as folder:
-        copy = pathlib.Path(folder)
-        for crate in CRATES:
-            shutil.copytree(root / "crates" / crate, copy / "crates" / crate, ignore=shutil.ignore_patterns("out", "must-fail"))
-        source = copy / "crates" / "judge_pairs" / "src"
-        source.mkdir(parents=True)
-        (source / "main.rt").write_text(PROGRAM)
-        wanted = [line for line in (root / "crates.txt").read_text().splitlines() if line.split(":")[0] in CRATES]
-        (copy / "crates.txt").write_text("\n".join([*wanted, "judge_pairs: pg_base pg_value opfamily pg_expr predicate_proof"]) + "\n")
-        ran = subprocess.run(["rt", "try"], cwd=source.parent, input="".join(line + "\n" for line in lines),
-                             capture_output=True, text=True)
+    ran = try_over(["predicate_proof"], "main.rt", PROGRAM, input="".join(line + "\n" for line in lines), capture_output=True)
     return [line for line in ran.stdout.splitlines() if line in ("yes", "no")]
 
 

@@ -144,6 +144,14 @@ fn pushed_forms(rt: HostRuntime) -> Result<(), Fail> {
 }
 
 #[test]
+fn operands_are_copied(rt: HostRuntime) -> Result<(), Fail> {
+    let copied = left().copy(rt.alloc())?;
+    let one = Expr::Compare(Op::Eq, copied, five());
+    assert!(rt; is_same(&one, &Expr::Compare(Op::Eq, left(), five())));
+    Ok(())
+}
+
+#[test]
 fn conjuncts_in_order(rt: HostRuntime) -> Result<(), Fail> {
     let tests = [column(0, 0), column(0, 1), column(1, 0)];
     let first = pair(rt.alloc(), Expr::IsNull(tests[0]), Expr::IsNull(tests[1]))?;

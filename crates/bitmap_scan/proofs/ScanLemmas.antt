@@ -10,7 +10,8 @@ use Rattle.pg_base.specs.declared.numbers.RelNo.{RelNo}
 use Rattle.pg_base.specs.declared.rel_set.RelSet.{RelSet}
 use Rattle.catalog.specs.Contents.{Contents}
 use Rattle.eq_classes.specs.Clauses.{Set, one}
-use Rattle.sql_query.specs.Queries.{Query, Window, width}
+use Rattle.sql_query.specs.Queries.{Query, width}
+use Rattle.sql_query.specs.declared.window.Window.{Window}
 use Rattle.cost_rules.specs.Costs.{IsAtMost, capped, capped_pair, pair, row_cost}
 use Rattle.cost_rules.specs.Scans.{bitmap_scan_cost, heap_pages_of, page_in_order}
 use Rattle.cost_rules.specs.declared.parameters.TheConstants.{MOST_COST}

@@ -8,3 +8,5 @@ pub mod ReplacementLemmas
 pub mod SizeLemmas
 pub mod IndexLemmas
 pub mod NamedLemmas
+pub mod AnalysedLemmas
+pub mod ChangedLemmas

@@ -1,11 +1,11 @@
 -- The sizes of a table of lawful contents are at most the greatest number that a statement may give.
-use Rattle.std.proofs.Common.{◌≡◌, ◌≤◌, ◌&&◌, ℕ, Bool, Option, None, Some, arith, true, false, nat_le, refl}
+use Rattle.std.proofs.Common.{◌≡◌, ◌≤◌, ◌&&◌, ℕ, Bool, Option, None, Some, arith, true, false, nat_le}
 use Rattle.std.proofs.lemmas.Bool.Decides.{nat_tests}
 use Rattle.pg_base.specs.declared.numbers.TableNo.{TableNo}
 use Rattle.catalog.specs.Contents.{Contents, AreSizes, IsLawful, IsTable, no_table, table_at}
 use Rattle.catalog.specs.Statistics.{is_count}
 use Rattle.catalog.specs.Tables.{pages_by, pages_of, rows_by, rows_of}
-use Rattle.catalog.specs.declared.limits.TheConstants.{MOST_NUMBER, ROWS_PER_PAGE}
+use Rattle.catalog.specs.declared.limits.TheConstants.{MOST_NUMBER}
 use Rattle.catalog.specs.declared.table.Sizes.{Sizes}
 
 last-holds : (a b : Bool) → a && b ≡ true → b ≡ true

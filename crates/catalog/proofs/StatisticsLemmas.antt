@@ -1,9 +1,9 @@
 -- Statistics of which nothing is refused are lawful, and the first places tell of all.
-use Rattle.std.proofs.Common.{◌≡◌, ◌≢◌, ◌<◌, ◌≤◌, ◌+◌, ◌-◌, ◌*◌, ◌%◌, ◌&&◌, ◌||◌, ◌∙◌, inl, inr, [], ◌∷◌, ℕ, Bool, true, false, not, nat_eq, nat_le, nat_lt, List, length, take, zero, suc, get_or, refl, sym, ap, arith}
+use Rattle.std.proofs.Common.{◌≡◌, ◌≢◌, ◌<◌, ◌≤◌, ◌+◌, ◌-◌, ◌*◌, ◌%◌, ◌&&◌, ◌||◌, ◌∙◌, inl, inr, [], ◌∷◌, ℕ, Bool, true, false, not, nat_eq, nat_le, nat_lt, List, length, take, zero, suc, get_or, refl, sym, ap, arith, cond, min, get_or-take}
 use Rattle.std.specs.List.{list_any}
 use Rattle.std.proofs.lemmas.Bool.{cases_lt}
 use Rattle.std.proofs.lemmas.Bool.Decides.{nat_tests}
-use Rattle.std.proofs.lemmas.List.{get_or_default, take_all}
+use Rattle.std.proofs.lemmas.List.{get_or_default, length-take, take_all}
 use Rattle.std.proofs.lemmas.List.Sums.{sum_by-take-le}
 use Rattle.pg_value.specs.declared.value.SqlType.{SqlType}
 use Rattle.catalog.specs.Statistics.{AreAllowed, AreValuesOf, Common, IsLawfulStatistics, Statistics, bound_at, bound_of, common_at, is_below, is_bound_refused, is_common_refused, is_equal, is_refused, is_share_refused, no_common, pair_of, shares}
@@ -183,3 +183,66 @@ module _ (t : SqlType) (s : Statistics) (values : AreValuesOf t s) (clean : AreA
 -- with the NULLs, the first shares are at most the whole
 pub prefix-whole : (t : SqlType) (s : Statistics) → IsLawfulStatistics t s → (k : ℕ) → s.nulls + shares (take k s.common) ≤ WHOLE_SHARE
 prefix-whole t s h k = let part = sum_by-take-le (λ (p : Common). p.1) s.common k in omega (arith, part, h.whole)
+
+cond_false : (b c d : Bool) → (b ≡ true → c ≡ false) → (b ≡ false → d ≡ false) → cond b c d ≡ false
+cond_false true c d h g = h refl
+cond_false false c d h g = g refl
+
+or_both : (a b : Bool) → a ≡ false → b ≡ false → a || b ≡ false
+or_both true b e f = e
+or_both false b e f = f
+
+and_fails : (a b : Bool) → (a ≡ true → b ≡ false) → a && b ≡ false
+and_fails true b h = h refl
+and_fails false b h = refl
+
+-- a test that fails at each element of a list fails at all
+any-none : {X : Type 0} (p : X → Bool) (xs : List X) → ((i : ℕ) (d : X) → i < length xs → p (get_or xs i d) ≡ false) → list_any p xs ≡ false
+any-none p [] h = refl
+any-none p (x ∷ xs) h = or_both (p x) _ (h 0 x (omega arith)) (any-none p xs (λ i d lt. h (suc i) d (omega (arith, lt))))
+
+-- lawful statistics are allowed
+module _ (t : SqlType) (s : Statistics) (h : IsLawfulStatistics t s) where
+  value-allowed : (k : ℕ) → k < length s.common → is_common_refused s k ≡ false
+  value-allowed k lt =
+      let few = h.few in
+      let within = h.within in
+      or_both (nat_le MOST_COMMON k) _ (grind (arith, nat_tests))
+      (or_both (nat_le s.distinct k) _ (grind (arith, nat_tests))
+      (any-none (λ (p : Common). is_equal p.0 (common_at s k).0) (take k s.common) (λ i d low.
+      let less : i < min k (length s.common) = rw length-take at low in
+      ap (λ (p : Common). is_equal p.0 (common_at s k).0) (get_or-take k s.common i d (omega (arith, less)))
+      ∙ ap (λ (p : Common). is_equal (get_or s.common i d).0 p.0) (get_or_default s.common k no_common d lt)
+      ∙ h.different i k d (omega (arith, less)) lt)))
+
+  share-allowed : (k : ℕ) → k < length s.common → is_share_refused s k ≡ false
+  share-allowed k lt =
+      let some = h.shared k no_common lt in
+      let most = prefix-whole t s h (k + 1) in
+      or_both (nat_eq (common_at s k).1 0) _ (grind (arith, nat_tests)) (grind (arith, nat_tests))
+
+  bound-allowed : (k : ℕ) → k < length s.histogram → is_bound_refused s k ≡ false
+  bound-allowed k lt =
+      let most = h.bounds in
+      let two = h.two in
+      or_both (nat_le MOST_BOUNDS k) _ (grind (arith, nat_tests))
+      (or_both (nat_eq (length s.histogram) 1) _ (grind (arith, nat_tests))
+      (and_fails (nat_lt 0 k) _ (λ e.
+      let some : 0 < k = grind (arith, nat_tests) in
+      let back : k - 1 + 1 ≡ k = omega (arith, some) in
+      ap (λ n. is_below (bound_at s n) (bound_at s (k - 1))) (sym back) ∙ h.rising (k - 1) (omega (arith, some, lt)))))
+
+  pub lawful-allowed : AreAllowed s
+  lawful-allowed place =
+      let some = h.some in
+      let most = h.most in
+      let whole = h.whole in
+      cond_false (nat_eq place 0) _ _ (λ e. grind (arith, nat_tests)) (λ zeroth.
+      cond_false (nat_eq place 1) _ _ (λ e. grind (arith, nat_tests)) (λ first.
+      cond_false (nat_lt (pair_of place) (length s.common)) _ _
+      (λ e.
+      let lt : pair_of place < length s.common = grind (arith, nat_tests) in
+      cond_false (nat_eq (place % 2) 0) _ _ (λ even. value-allowed (pair_of place) lt) (λ odd. share-allowed (pair_of place) lt))
+      (λ e. and_fails (nat_lt (bound_of s place) (length s.histogram)) _ (λ f.
+      let lt : bound_of s place < length s.histogram = grind (arith, nat_tests) in
+      bound-allowed (bound_of s place) lt))))

@@ -147,7 +147,7 @@ abbrev pub AreSizes : Option Sizes → Type 0
 AreSizes None = Unit {0}
 AreSizes (Some s) = AreLawfulSizes s
 
--- a lawful table: 1 to 16 columns, each with a name, and no two of the same name; what statements gave for it is lawful
+-- a lawful table: 1 to MOST_COLUMNS columns, each with a name, and no two of the same name; what statements gave for it is lawful
 pub record IsLawfulTable (d : TableDef) : Type 0 where
   pub name : IsName d.name
   pub names : All IsName d.names
@@ -164,7 +164,7 @@ pub record IsIndexOf (c : Contents) (x : NamedIndex) : Type 0 where
   pub table : IsTable c x.index.table
   pub index : IsLawfulIndex (table_at c x.index.table).columns x.index
 
--- lawful contents: at most 64 tables, each lawful and with at most 8 indexes, each index lawful, and no two of the same name
+-- lawful contents: at most MOST_TABLES tables, each lawful and with at most MOST_INDEXES indexes, each index lawful, and no two of the same name
 pub record IsLawful (c : Contents) : Type 0 where
   pub tables : All IsLawfulTable c.tables
   pub few : length c.tables ≤ MOST_TABLES

@@ -4,15 +4,10 @@ use Rattle.std.specs.Option.{option_map}
 use Rattle.std.specs.declared.alloc.Global.{Global}
 use Rattle.pg_expr.specs.View.{cond}
 use Rattle.catalog.specs.declared.index_def.IndexDef.{IndexDef}
-use Rattle.catalog.specs.declared.statistics.ColumnStats.{ColumnStats}
+pub use Rattle.catalog.specs.Known.{statistics}
 use Rattle.catalog.specs.declared.table.Table.{Table}
 use Rattle.catalog.specs.Contents.{Contents, NamedIndex, TableDef, numbers_from}
 use Rattle.catalog.specs.Indexes.{Index}
-use Rattle.catalog.specs.Statistics.{Statistics}
-
--- the statistics that a `ColumnStats` stands for
-abbrev pub statistics : ColumnStats → Statistics
-statistics s = record { distinct = s.distinct; nulls = s.nulls; common = s.common.items; histogram = s.histogram.items }
 
 -- the index that an `IndexDef` stands for
 abbrev pub index_of : IndexDef → Index

@@ -71,7 +71,7 @@ abbrev pub IsPredicateOf : List Column → Option Cond → Type 0
 IsPredicateOf columns None = Unit {0}
 IsPredicateOf columns (Some e) = IsConditionOf columns e
 
--- a definition fits a table's columns: it has 1 to 16 columns, all the table's, with a key among them
+-- a definition fits a table's columns: it has 1 to MOST_COLUMNS columns, all the table's, with a key among them
 pub record FitsColumns (columns : List Column) (x : Index) : Type 0 where
   pub some : 0 < length x.keys
   pub few : length x.keys + length x.include ≤ MOST_COLUMNS

@@ -6,3 +6,5 @@ pub mod Entries
 pub mod Tables
 pub mod Range
 pub mod TextTables
+pub mod Known
+pub mod Analysed

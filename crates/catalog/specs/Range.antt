@@ -32,7 +32,7 @@ type_in c range x = (column_at c range x).typed
 abbrev pub aliases : Range → List (List ℕ)
 aliases range = map (λ r. r.1) range
 
--- the relations of a query over a catalogue: 1 to 8, each of a table there, and no two under the same name
+-- the relations of a query over a catalogue: 1 to MOST_RELATIONS, each of a table there, and no two under the same name
 pub record IsRange (c : Contents) (range : Range) : Type 0 where
   pub some : 0 < length range
   pub few : length range ≤ MOST_RELATIONS

@@ -16,7 +16,7 @@ use pg_base::{IndexNo, MOST_INDEXES, TableNo};
 use pg_value::Bytes;
 
 impl Catalog {
-    /// Makes an index and gives its number, the next one. Its definition is of a table there, with a key, 1 to 16
+    /// Makes an index and gives its number, the next one. Its definition is of a table there, with a key, 1 to 32
     /// columns in all, each the table's, classes that accept the method and the column's type, and a predicate that is
     /// well typed over the table's columns and in pushed form. It is refused where a table or an index has its name,
     /// else where a key or INCLUDE column repeats an earlier one, at that place, else where its table has 8 indexes,

@@ -11,10 +11,11 @@ ghost use Rattle.catalog.specs.Statistics.{AreAllowed, AreValuesOf, IsLawfulStat
 ghost use Rattle.catalog.specs.Tables.{pages_of, rows_of};
 ghost use Rattle.catalog.specs.declared.limits.TheConstants.{MOST_NUMBER, WHOLE_SHARE};
 
-/// Statistics that are not refused are lawful. With the NULLs, the first shares of lawful statistics are at most the
+/// Statistics are not refused exactly where they are lawful. With the NULLs, the first shares of lawful statistics are at most the
 /// whole, however many are taken. What lawful contents know of a column is lawful.
 pub fn statistics_laws()
     ensures lawful { (t : SqlType) (s : Statistics) → AreValuesOf t s → AreAllowed s → IsLawfulStatistics t s }
+    ensures allowed { (t : SqlType) (s : Statistics) → IsLawfulStatistics t s → AreAllowed s }
     ensures prefix { (t : SqlType) (s : Statistics) → IsLawfulStatistics t s →
         (k : ℕ) → s.nulls + shares (take k s.common) ≤ WHOLE_SHARE }
     ensures of_column { (c : Contents) (t : TableNo) (x : ColNo) (s : Statistics) → IsLawful c → IsTable c t →

@@ -20,4 +20,4 @@ pub use index_def::IndexDef;
 pub use laws::{index_laws, replacement_laws, size_laws, statistics_laws};
 pub use limits::{MOST_BOUNDS, MOST_COMMON, MOST_NUMBER, ROWS_PER_PAGE, WHOLE_SHARE};
 pub use range::RangeTable;
-pub use statistics::ColumnStats;
+pub use statistics::{ColumnList, ColumnStats, TableStats};

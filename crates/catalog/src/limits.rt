@@ -10,3 +10,6 @@ pub const WHOLE_SHARE: u32 = 1_000_000;
 pub const MOST_COMMON: usize = 16;
 /// A histogram has at most so many bounds, and is not of one bound.
 pub const MOST_BOUNDS: usize = 101;
+
+// The columns of a value's table and those of a table here have one limit.
+const _: () = prove!(pg_base::MOST_COLUMNS == pg_value::MOST_COLUMNS);

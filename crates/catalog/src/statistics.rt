@@ -1,13 +1,14 @@
 //! What is known of a column, and what of it is refused.
 
-ghost use Rattle.std.specs.Prelude.{◌≡◌, ◌<◌, ◌≤◌, ◌+◌, ◌^◌, All, MatchOption, length, slice_index_or, take};
+ghost use Rattle.std.specs.Prelude.{◌≡◌, ◌<◌, ◌≤◌, ◌+◌, ◌^◌, All, MatchOption, length, map, slice_index_or, take};
 ghost use Rattle.std.specs.List.{list_any};
 ghost use Rattle.pg_value.specs.declared.value.SqlType.{SqlType};
-ghost use Rattle.catalog.specs.Entries.{statistics};
+ghost use Rattle.catalog.specs.Known.{statistics};
 ghost use Rattle.catalog.specs.Statistics.{AreAllowed, AreValuesOf, Common, IsFirstRefused, IsValueOf, is_below, is_bound_refused, is_common_refused, is_count as is_a_count, is_equal, is_refused, is_share_refused, no_common, shares};
 
 use crate::limits::{MOST_BOUNDS, MOST_COMMON, MOST_NUMBER, WHOLE_SHARE};
 use pg_value::{Op, Truth, Value, apply};
+use std::marker::Model;
 
 /// What is known of a column. Shares are in parts per million of the table's rows.
 #[derive(Debug, Drop)]
@@ -21,6 +22,56 @@ pub struct ColumnStats {
     /// The bounds of a histogram, rising: between two neighbours stand equally many of the rows that are neither NULL
     /// nor of a common value.
     pub histogram: Vec<Value>,
+}
+
+/// What is known of some columns, from the left. Contracts see the list.
+#[derive(Debug, Drop)]
+pub struct ColumnList {
+    columns: Vec<ColumnStats>,
+}
+
+impl Model for ColumnList {
+    ghost use Rattle.std.specs.Prelude.{List, map};
+    ghost use Rattle.catalog.specs.Known.{statistics};
+    ghost use Rattle.catalog.specs.Statistics.{Statistics};
+
+    ghost Value = { List Statistics };
+
+    ghost view = { λ l. map statistics l.columns.items };
+}
+
+impl ColumnList {
+    /// The list of these.
+    pub fn from_vec(v: Vec<ColumnStats>) -> ColumnList
+        ensures { result ≡ map statistics v.items }
+    {
+        ColumnList { columns: v }
+    }
+
+    /// What is known of each, itself.
+    pub(crate) fn into_vec(self) -> Vec<ColumnStats>
+        ensures { map statistics result.items ≡ self }
+    {
+        self.columns
+    }
+
+    /// What is known of each, lent.
+    pub fn items(&self) -> &[ColumnStats]
+        ensures { map statistics result.now ≡ self.now }
+    {
+        &self.columns
+    }
+}
+
+/// What is known of a table: its rows and pages, and its columns.
+#[derive(Debug, Drop)]
+pub struct TableStats {
+    /// Its rows.
+    pub rows: u64,
+    /// Its pages.
+    pub pages: u64,
+    /// What is known of each of its columns, from the left.
+    pub columns: ColumnList,
 }
 
 /// Whether a number is one of rows, of pages or of different values: 1 to 10^9.

@@ -31,7 +31,7 @@ module _ (n : Ident) (ds : List ColumnDef) (m : Result (List Bound) Fault) (mean
   past d is =
       let lt = slice_get_within ds MOST_COLUMNS d is in
       let at = get_or_from_slice_get ds MOST_COLUMNS d d is in
-      let later = drop-map seen MOST_COLUMNS ds ∙ (ap (map seen) (drop-cons ds 16 d lt) ∙ ap (λ y. seen y ∷ map seen (drop (suc MOST_COLUMNS) ds)) at) in
+      let later = drop-map seen MOST_COLUMNS ds ∙ (ap (map seen) (drop-cons ds MOST_COLUMNS d lt) ∙ ap (λ y. seen y ∷ map seen (drop (suc MOST_COLUMNS) ds)) at) in
       rw meant (ap (limited (table_reading (bytes_of n) (token_of n) (map seen ds))) later)
 
   pub within : (s : Spelled) → s ≡ spelled n → length ds ≤ MOST_COLUMNS → table_of (bytes_of n) (token_of n) m ≡ Ok (table_reading s.bytes s.token (map seen ds))

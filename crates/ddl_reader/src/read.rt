@@ -141,7 +141,7 @@ fn check_syntax(text: &[u8], tokens: &Tokens) -> Result<(), Refusal>
 /// those of the rest of its line included. Then names and literals bind from the left: an unknown type (42704), an unknown
 /// table (42P01) and an unknown column (42703) at the word, a text for NULL other than `\N` (22023) at that text. A literal of
 /// STATISTICS that gives no value to the column is at fault at its first byte, a `-` included: 22003, 22P02 or 42804, and 22023
-/// for NULL. Then comes the limit of 16 columns (54000), at the first name too many.
+/// for NULL. Then comes the limit of 32 columns (54000), at the first name too many.
 ///
 /// What the catalogue refuses is not asked here, but what is read may be handed to it: names are names, each of the 1 to 16
 /// columns has one; the table of COPY and STATISTICS is there, and so is the column, and each value is of its type and is not

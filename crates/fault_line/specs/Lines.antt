@@ -3,9 +3,9 @@ use Rattle.std.specs.Prelude.{ℕ, ◌-◌, List, [], ◌++◌, codes, map, take
 use Rattle.std.specs.Fmt.{decimal}
 use Rattle.std.specs.Char.{to_ascii_lowercase}
 use Rattle.pg_base.specs.declared.faults.Code.{Code}
-use Rattle.pg_base.specs.declared.faults.Code.TheVariants.{S1, S2, S3, S4, S5, S6, S7, S8, S9, S10, S11, S12, S13, S14, S15, S16, S17}
+use Rattle.pg_base.specs.declared.faults.Code.TheVariants.{S1, S2, S3, S4, S5, S6, S7, S8, S9, S10, S11, S12, S13, S14, S15, S16, S17, S18}
 use Rattle.pg_base.specs.declared.faults.Limit.{Limit}
-use Rattle.pg_base.specs.declared.faults.Limit.TheVariants.{Tables, Columns, Rows, Text, Name, Indexes, Relations, Conjuncts, Atoms, Depth}
+use Rattle.pg_base.specs.declared.faults.Limit.TheVariants.{Tables, Columns, Rows, Text, Name, Indexes, Relations, Conjuncts, Atoms, Depth, Candidates, Queries}
 use Rattle.pg_base.specs.declared.faults.Fault.{Fault}
 use Rattle.catalog.specs.Contents.{Contents, name_at}
 use Rattle.fault_line.specs.declared.tells.Place.{Place}
@@ -33,6 +33,7 @@ code_text S14 = codes "23502"
 code_text (S15 _) = codes "54000"
 code_text S16 = codes "54001"
 code_text S17 = codes "22023"
+code_text S18 = codes "42803"
 
 -- the text of a limit
 abbrev pub limit_text : Limit → List ℕ
@@ -46,6 +47,8 @@ limit_text Relations = codes "limit relations"
 limit_text Conjuncts = codes "limit conjuncts"
 limit_text Atoms = codes "limit atoms"
 limit_text Depth = codes "limit depth"
+limit_text Candidates = codes "limit candidates"
+limit_text Queries = codes "limit queries"
 
 -- the text of a fault before what it names: by its kind and the number of its record, 0 where no record is at fault
 abbrev pub phrase : Code → ℕ → List ℕ
@@ -66,6 +69,7 @@ phrase S14 rec = codes "null"
 phrase (S15 limit) rec = limit_text limit
 phrase S16 rec = codes "no admissible plan"
 phrase S17 rec = codes "invalid parameter"
+phrase S18 rec = codes "ungrouped column "
 
 -- the word at fault as the text names it
 abbrev pub naming_text : Naming → List ℕ → List ℕ

@@ -1,7 +1,7 @@
 -- What a fault's text names beside its kind. Own.
 use Rattle.std.specs.Prelude.{◌<◌, ◌≡◌}
 use Rattle.pg_base.specs.declared.faults.Code.{Code}
-use Rattle.pg_base.specs.declared.faults.Code.TheVariants.{S2, S3, S4, S5, S6, S7, S8, S9, S11, S12, S13, S14, S15}
+use Rattle.pg_base.specs.declared.faults.Code.TheVariants.{S2, S3, S4, S5, S6, S7, S8, S9, S11, S12, S13, S14, S15, S18}
 use Rattle.pg_base.specs.declared.faults.Limit.TheVariants.{Rows, Text}
 use Rattle.pg_base.specs.declared.faults.Fault.{Fault}
 use Rattle.pg_base.specs.declared.numbers.ColNo.{ColNo}
@@ -21,6 +21,7 @@ naming_of S6 = Small
 naming_of S7 = Small
 naming_of S8 = Small
 naming_of S9 = AsWritten
+naming_of S18 = Small
 naming_of _ = Nothing
 
 -- what of COPY data is named: a record, or a field of a record

@@ -27,6 +27,7 @@ pub(crate) fn code_word(code: Code) -> &'static [u8]
         Code::S15(_) => b"54000",
         Code::S16 => b"54001",
         Code::S17 => b"22023",
+        Code::S18 => b"42803",
     }
 }
 
@@ -45,6 +46,8 @@ pub(crate) fn limit_words(limit: Limit) -> &'static [u8]
         Limit::Conjuncts => b"limit conjuncts",
         Limit::Atoms => b"limit atoms",
         Limit::Depth => b"limit depth",
+        Limit::Candidates => b"limit candidates",
+        Limit::Queries => b"limit queries",
     }
 }
 
@@ -70,6 +73,7 @@ pub(crate) fn first_words(code: Code, rec: u32) -> &'static [u8]
         Code::S15(limit) => limit_words(limit),
         Code::S16 => b"no admissible plan",
         Code::S17 => b"invalid parameter",
+        Code::S18 => b"ungrouped column ",
     }
 }
 

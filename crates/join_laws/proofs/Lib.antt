@@ -1,1 +1,3 @@
 pub mod InductionLemmas
+pub mod UsefulLemmas
+pub mod LeastLemmas

@@ -1,18 +1,33 @@
 //! The law by which a search through sets of relations finds a least plan. Source: PostgreSQL,
 //! src/backend/optimizer/README (Join Tree Construction).
 
-ghost use Rattle.std.specs.Prelude.{◌≡◌, false, List, Contains};
+ghost use Rattle.std.specs.Prelude.{◌≡◌, ◌<◌, ℕ, false, List, Contains};
 ghost use Rattle.catalog.specs.Contents.{Contents};
 ghost use Rattle.sql_query.specs.Queries.{Query};
-ghost use Rattle.plan_tree.specs.Costs.{HaveRows};
-ghost use Rattle.plan_tree.specs.Least.{IsAdmissible};
+ghost use Rattle.plan_tree.specs.Costs.{HaveRows, price};
+ghost use Rattle.plan_tree.specs.Least.{IsAdmissible, IsLeast};
 ghost use Rattle.plan_tree.specs.Plans.{Plan, is_sort};
 ghost use Rattle.plan_tree.specs.Space.{IsBuilt};
 ghost use Rattle.join_laws.specs.Closed.{IsClosed, IsUndercut};
+ghost use Rattle.join_laws.specs.Useful.{HasEnough, IsBelow, IsClosedBelow, IsLeastKept};
 
 /// Where some plans dominate each admissible scan and each admissible join of their own, they dominate each admissible
 /// plan of the space that is no sort.
 pub fn admissible_plans_are_dominated()
     ensures { (c : Contents) (q : Query) (kept : List Plan) → HaveRows c q → IsClosed c q (Contains kept) →
         (t : Plan) → IsBuilt c q t → is_sort t ≡ false → IsAdmissible c q t → IsUndercut c q (Contains kept) t }
+{}
+
+/// Where some plans suffice for each scan and each join of their own below a limit, they suffice for each plan of the
+/// space below it that is no sort.
+pub fn kept_plans_suffice()
+    ensures { (c : Contents) (q : Query) (kept : List Plan) (limit : ℕ) → HaveRows c q → IsClosedBelow c q (Contains kept) limit →
+        (t : Plan) → IsBuilt c q t → is_sort t ≡ false → IsBelow c q limit t → HasEnough c q (Contains kept) limit t }
+{}
+
+/// Of plans that are kept below a limit, a finished one of no greater price than any other, and of a price below the
+/// limit, is of no greater price than any admissible finished plan.
+pub fn least_kept_plan_is_least()
+    ensures { (c : Contents) (q : Query) (kept : List Plan) (limit : ℕ) → HaveRows c q → IsClosedBelow c q (Contains kept) limit →
+        (b : Plan) → IsLeastKept c q (Contains kept) b → price c q b < limit → IsLeast c q b }
 {}

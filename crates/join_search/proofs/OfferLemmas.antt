@@ -12,7 +12,8 @@ use Rattle.cost_rules.specs.Costs.{capped}
 use Rattle.cost_rules.specs.declared.parameters.TheConstants.{MOST_COST}
 use Rattle.path_cost.specs.Estimates.{set_rows}
 use Rattle.pathkeys.specs.Keys.{Keys, covers}
-use Rattle.sql_query.specs.Queries.{Query, Window}
+use Rattle.sql_query.specs.Queries.{Query}
+use Rattle.sql_query.specs.declared.window.Window.{Window}
 use Rattle.plan_tree.specs.Costs.{cost}
 use Rattle.plan_tree.specs.Fronts.{ArePathsOf, HasDominating, IsServed, StayDominated}
 use Rattle.plan_tree.specs.Keys.{keys_of}

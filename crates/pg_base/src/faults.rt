@@ -12,26 +12,30 @@ pub type Memory = AllocError;
 /// A limit of the program that a statement goes past (54000).
 #[derive(Clone, Copy, Debug, PartialEq, Eq)]
 pub enum Limit {
-    /// More than 64 tables.
+    /// More than `MOST_TABLES` tables.
     Tables,
-    /// More than 16 columns of a table, or key and INCLUDE columns of an index.
+    /// More than `MOST_COLUMNS` columns of a table, or key and INCLUDE columns of an index.
     Columns,
-    /// More than 100,000 rows of a table.
+    /// More than `MOST_ROWS` rows of a table.
     Rows,
-    /// A text of more than 8,192 bytes.
+    /// A text of more than `MOST_TEXT_BYTES` bytes.
     Text,
-    /// A name of more than 63 bytes.
+    /// A name of more than `MOST_NAME_BYTES` bytes.
     Name,
-    /// More than 8 indexes of a table.
+    /// More than `MOST_INDEXES` indexes of a table.
     Indexes,
-    /// More than 8 relations of a query.
+    /// More than `MOST_RELATIONS` relations of a query.
     Relations,
-    /// More than 32 conjuncts of a query.
+    /// More than `MOST_CONJUNCTS` conjuncts of a query.
     Conjuncts,
-    /// More than 256 atoms of a statement.
+    /// More than `MOST_ATOMS` atoms of a statement.
     Atoms,
-    /// An expression nested more than 32 levels deep.
+    /// An expression nested more than `MOST_LEVELS` levels deep.
     Depth,
+    /// More than `MOST_CANDIDATES` candidate indexes of ADVISE.
+    Candidates,
+    /// More than `MOST_QUERIES` queries of ADVISE.
+    Queries,
 }
 
 /// The kind of a fault.
@@ -71,6 +75,8 @@ pub enum Code {
     S16,
     /// A parameter out of its range (22023).
     S17,
+    /// A column outside of calls that is not among those of GROUP BY (42803).
+    S18,
 }
 
 /// The first fault of a statement.

@@ -1,9 +1,13 @@
 //! The columns of a table.
 
 ghost use Rattle.std.specs.Prelude.{◌≡◌, ◌≤◌, ◌<◌, length, slice_get, Some};
+ghost use Rattle.pg_value.specs.declared.columns.TheConstants.{MOST_COLUMNS};
 
 use crate::value::SqlType;
 use std::marker::Model;
+
+/// A table has at most so many columns. Own.
+pub const MOST_COLUMNS: usize = 32;
 
 /// A column's type, and whether it takes no NULL.
 #[derive(Clone, Copy, Debug, PartialEq, Eq)]
@@ -14,7 +18,7 @@ pub struct Column {
     pub not_null: bool,
 }
 
-/// A list of 1 to 16 columns. Contracts see the list.
+/// A list of 1 to `MOST_COLUMNS` columns. Contracts see the list.
 #[derive(Debug, Drop)]
 pub struct Columns {
     columns: Vec<Column>,
@@ -23,29 +27,30 @@ pub struct Columns {
 impl Model for Columns {
     ghost use Rattle.std.specs.Prelude.{List, ◌<◌, ◌≤◌, vec_len};
     ghost use Rattle.pg_value.specs.declared.columns.Column.{Column};
+    ghost use Rattle.pg_value.specs.declared.columns.TheConstants.{MOST_COLUMNS};
 
     ghost Value = { List Column };
 
     ghost view = { λ c. c.columns.items };
 
-    ghost invariant = { λ c. (0 < vec_len c.columns) × (vec_len c.columns ≤ 16) };
+    ghost invariant = { λ c. (0 < vec_len c.columns) × (vec_len c.columns ≤ MOST_COLUMNS) };
 }
 
 impl Columns {
     /// The list of these columns.
     pub fn from_vec(v: Vec<Column>) -> Columns
         requires some { 0 < length v.items }
-        requires few { length v.items ≤ 16 }
+        requires few { length v.items ≤ MOST_COLUMNS }
         ensures { result ≡ v.items }
     {
         Columns { columns: v }
     }
 
-    /// The columns from the left, lent: 1 to 16 of them.
+    /// The columns from the left, lent: 1 to `MOST_COLUMNS` of them.
     pub fn items(&self) -> &[Column]
         ensures items { result.now ≡ self.now }
         ensures some { 0 < length self.now }
-        ensures few { length self.now ≤ 16 }
+        ensures few { length self.now ≤ MOST_COLUMNS }
     {
         &self.columns
     }

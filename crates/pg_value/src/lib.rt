@@ -11,7 +11,7 @@ mod operators;
 mod value;
 
 pub use bytes::Bytes;
-pub use columns::{Column, Columns};
+pub use columns::{Column, Columns, MOST_COLUMNS};
 pub use comparison::{apply, commutator, compare, negator, order_is_total};
 pub use directions::column_order;
 pub use fields::{FieldFault, read_digits, read_value, signed_value, spellings_are_read};

@@ -18,7 +18,8 @@ use Rattle.cost_rules.specs.Powers.{clamped}
 use Rattle.cost_rules.proofs.RisingLemmas.{sort-startup, nest-startup, merge-startup, sort-child, nest-children, merge-children}
 use Rattle.eq_classes.specs.Clauses.{Set, Table}
 use Rattle.eq_classes.specs.Parts.{is_all}
-use Rattle.sql_query.specs.Queries.{Query, Window}
+use Rattle.sql_query.specs.Queries.{Query}
+use Rattle.sql_query.specs.declared.window.Window.{Window}
 use Rattle.path_cost.specs.Estimates.{conditions_where, kept, is_local, pairs, share_of_rows, set_rows, product_rows, relations, table_rows}
 use Rattle.path_cost.specs.Selectivity.{selectivity}
 use Rattle.pathkeys.specs.Keys.{Keys}

@@ -3,7 +3,8 @@ use Rattle.std.proofs.Common.{◌≡◌, ◌≤◌, true, false, ◌∙◌, ◌�
 use Rattle.std.specs.Prelude.{Option, Some, None}
 use Rattle.catalog.specs.Contents.{Contents}
 use Rattle.cost_rules.proofs.RisingLemmas.{price-rises}
-use Rattle.sql_query.specs.Queries.{Query, Window, all_of_query}
+use Rattle.sql_query.specs.Queries.{Query, all_of_query}
+use Rattle.sql_query.specs.declared.window.Window.{Window}
 use Rattle.pathkeys.specs.Keys.{Keys, covers, order_keys}
 use Rattle.plan_tree.specs.Plans.{Plan, seq, index, index_only, bitmap, sort, nest, merge, is_sort}
 use Rattle.plan_tree.specs.Keys.{keys_of}

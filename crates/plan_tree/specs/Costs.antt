@@ -9,7 +9,8 @@ use Rattle.catalog.specs.Contents.{Contents, index_at}
 use Rattle.eq_classes.specs.Clauses.{Set}
 use Rattle.eq_classes.specs.Parts.{is_join}
 use Rattle.index_match.specs.Numbered.{has_number}
-use Rattle.sql_query.specs.Queries.{Query, Window, all_of_query}
+use Rattle.sql_query.specs.Queries.{Query, all_of_query}
+use Rattle.sql_query.specs.declared.window.Window.{Window}
 use Rattle.cost_rules.specs.declared.pair.Pair.{Pair}
 use Rattle.cost_rules.specs.declared.parameters.TheConstants.{BITMAP_CHILD}
 use Rattle.cost_rules.specs.Costs.{sort_cost, nest_cost, merge_cost, price_of}

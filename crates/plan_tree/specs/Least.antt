@@ -3,7 +3,8 @@
 use Rattle.std.specs.Prelude.{◌≡◌, ◌<◌, ◌≤◌, ℕ, true, Option, Some, None}
 use Rattle.catalog.specs.Contents.{Contents}
 use Rattle.cost_rules.specs.declared.parameters.TheConstants.{MOST_COST}
-use Rattle.sql_query.specs.Queries.{Query, Window}
+use Rattle.sql_query.specs.Queries.{Query}
+use Rattle.sql_query.specs.declared.window.Window.{Window}
 use Rattle.pathkeys.specs.Keys.{Keys, covers}
 use Rattle.plan_tree.specs.Plans.{Plan}
 use Rattle.plan_tree.specs.Keys.{keys_of}

@@ -15,6 +15,7 @@ mod plan;
 mod pricing;
 mod scans;
 mod sets;
+mod window;
 
 pub use bits::{BitTree, BitTrees};
 pub use elements::{
@@ -28,12 +29,11 @@ pub use laws::{
     admissible_children, at_most_is_domination, built_plans_are_costable, cost_bounds,
     dominating_finish, dominating_sides, domination, like_plans, replaced_children,
 };
-pub use make::{
-    conditions_found, has_no_window, names_exactly, offer_scan, others_named, scan_path,
-};
+pub use make::{conditions_found, names_exactly, offer_scan, others_named, scan_path};
 pub use parts::{arm_part_of, index_part_of};
 pub use path::Path;
 pub use plan::Plan;
 pub use pricing::{arms_at, bitmap_scan_cost, cost, use_tree};
 pub use scans::{bounds_and_tests, index_scan_cost, seq_scan_cost};
 pub use sets::set_of;
+pub use window::{asked, price_of, startup_of};

@@ -1,6 +1,6 @@
 //! Paths of scans: made with their numbers, and offered to a front.
 
-ghost use Rattle.std.specs.Prelude.{◌≡◌, ◌<◌, ◌↔◌, ℕ, Bool, true, All, IsTrue, None, OnOk, length, map};
+ghost use Rattle.std.specs.Prelude.{◌≡◌, ◌<◌, ◌↔◌, ℕ, Bool, true, All, IsTrue, OnOk, length, map};
 ghost use Rattle.std.specs.List.{list_any};
 ghost use Rattle.pg_base.specs.Sets.{has};
 ghost use Rattle.pg_expr.specs.AtomSets.{contains};
@@ -30,6 +30,7 @@ use crate::estimates::{classes_of, estimate, range_of};
 use crate::path::Path;
 use crate::plan::Plan;
 use crate::scans::bounds_and_tests;
+use crate::window::startup_of;
 use catalog::Catalog;
 use cost_rules::{MOST_COST, Pair};
 use eq_classes::ClauseSet;
@@ -94,15 +95,8 @@ pub fn names_exactly(cat: &Catalog, q: &Prepared, r: RelNo, p: RelSet, set: &Cla
     others_named(cat, q, r, set) == p
 }
 
-/// A prepared query has no window.
-pub fn has_no_window(q: &Prepared)
-    ensures { q.now.window ≡ None }
-{
-    let _ = &q.range;
-}
-
 /// The path of an admissible scan of a relation with a parameterisation: its plan with its set, its costs, its rows and
-/// its keys. The startup is 0, since a prepared query has no window.
+/// its keys.
 pub fn scan_path(
     cat: &Catalog,
     q: &Prepared,
@@ -122,13 +116,13 @@ pub fn scan_path(
     ensures numbers { IsPathOf cat.now q.now (path result) }
     ensures admissible { IsAdmissible cat.now q.now (plan t) }
 {
-    has_no_window(q);
+    cat.lawful();
     let rows = estimate(cat, q, &t);
     Path {
         plan: t,
         set: RelSet::one(r),
         param: p,
-        startup: 0,
+        startup: startup_of(q, cost),
         cost: cost.total,
         rows,
         keys,

@@ -11,7 +11,8 @@ use Rattle.eq_classes.specs.Parts.{is_all}
 use Rattle.path_cost.specs.Estimates.{conditions_where, product_rows, relations, set_rows, share_of_rows, table_rows}
 use Rattle.path_cost.specs.Selectivity.{selectivity}
 use Rattle.pathkeys.specs.Keys.{Keys}
-use Rattle.sql_query.specs.Queries.{Query, Window}
+use Rattle.sql_query.specs.Queries.{Query}
+use Rattle.sql_query.specs.declared.window.Window.{Window}
 use Rattle.plan_tree.specs.Costs.{cost, rows_given}
 use Rattle.plan_tree.specs.Paths.{Path, HasItsNumbers, startup_kept}
 use Rattle.plan_tree.specs.Least.{IsAdmissible}

@@ -136,6 +136,7 @@ fn over(
         order: OrderList::from_vec(order),
         used: ColList::from_vec(used),
         where_all: Exprs::from_vec(written),
+        window: None,
     })
 }
 

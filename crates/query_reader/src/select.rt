@@ -36,7 +36,7 @@ pub fn explains(text: &[u8], tokens: &Tokens) -> bool
 /// then those of the conjuncts, then those of ORDER BY. `first` is the number of the word SELECT: 1 behind EXPLAIN, else 0.
 ///
 /// FROM is bound first, from the left, then WHERE, then the list from the left, then ORDER BY. Of a relation its number comes
-/// first (at most 8, over all groups), then its table, then its alias, and right behind it the condition of its join, which sees
+/// first (at most 10, over all groups), then its table, then its alias, and right behind it the condition of its join, which sees
 /// the relations of its own group up to it; all else sees all relations. A relation is seen under its alias alone, which is the
 /// table's name where none is given; `*` and `alias.*` are every column in order. A bare name of ORDER BY is sought in the list
 /// first; DESC alone puts NULLs first, and otherwise they are last unless said. Names compare in small letters. Then come the

@@ -6,11 +6,7 @@ use Rattle.pg_expr.specs.Cond.{Cond}
 use Rattle.catalog.specs.Range.{Range}
 use Rattle.eq_classes.specs.declared.order.OrderItem.{OrderItem}
 use Rattle.eq_classes.specs.Clauses.{Set, Table}
-
--- LIMIT, or none, and OFFSET (PostgreSQL manual, chapter Queries, LIMIT and OFFSET)
-pub record Window : Type 0 where
-  pub limit : Option ℕ
-  pub offset : ℕ
+use Rattle.sql_query.specs.declared.window.Window.{Window}
 
 -- the relations in FROM order, the classes with the numbered clauses, the columns of the select list, the items of ORDER
 -- BY, every column that is named, the conjuncts as written, and the window, where LIMIT or OFFSET is written

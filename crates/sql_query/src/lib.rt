@@ -5,9 +5,11 @@ mod columns;
 mod laws;
 mod order;
 mod prepared;
+mod window;
 
 pub use catalog::RangeTable;
 pub use columns::ColList;
 pub use laws::selected_columns;
 pub use order::OrderList;
 pub use prepared::Prepared;
+pub use window::Window;

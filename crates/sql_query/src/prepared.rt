@@ -2,6 +2,7 @@
 
 use crate::columns::ColList;
 use crate::order::OrderList;
+use crate::window::Window;
 use catalog::RangeTable;
 use eq_classes::Classes;
 use pg_expr::Exprs;
@@ -10,7 +11,7 @@ use std::marker::Model;
 /// A query over a catalogue. It is well bound there where its relations are tables of the catalogue with different
 /// aliases, `used` holds every column of `select`, `order` and `where_all` and each is one of its relation's table, the
 /// conditions are well typed and keep the limits of conjuncts and atoms, and `classes` are those of the conditions in
-/// pushed form and of `order`. Contracts see a `Query`, which has no window.
+/// pushed form and of `order`. Contracts see a `Query`.
 #[derive(Drop)]
 pub struct Prepared {
     /// The relations, in FROM order.
@@ -25,10 +26,12 @@ pub struct Prepared {
     pub used: ColList,
     /// The conjuncts as written, all of which are to be True: a condition's parts where it is an AND, else itself.
     pub where_all: Exprs,
+    /// The window, where LIMIT or OFFSET is written.
+    pub window: Option<Window>,
 }
 
 impl Model for Prepared {
-    ghost use Rattle.std.specs.Prelude.{map, None};
+    ghost use Rattle.std.specs.Prelude.{map};
     ghost use Rattle.std.specs.Coded.{codes};
     ghost use Rattle.pg_expr.specs.CondCode.{cond_code};
     ghost use Rattle.pg_expr.specs.View.{cond};
@@ -38,5 +41,5 @@ impl Model for Prepared {
 
     ghost coded = { Prim.hlevel (codes, cond_code (Prim.hlevel codes)) };
 
-    ghost view = { λ q. record { range = q.range; classes = q.classes; select = q.select; order = q.order; used = q.used; where_all = map cond q.where_all.items.items; window = None } };
+    ghost view = { λ q. record { range = q.range; classes = q.classes; select = q.select; order = q.order; used = q.used; where_all = map cond q.where_all.items.items; window = q.window } };
 }

@@ -84,6 +84,7 @@ fn query(alloc: Global) -> Result<Prepared, Memory>
         order: OrderList::from_vec(order),
         used: ColList::from_vec(used),
         where_all: Exprs::from_vec(Vec::new(alloc)),
+        window: None,
     })
 }
 

@@ -49,6 +49,7 @@ fn query(alloc: Global, columns: u8) -> Result<Prepared, Memory>
         order: OrderList::from_vec(Vec::new(alloc)),
         used: ColList::from_vec(used),
         where_all: Exprs::from_vec(Vec::new(alloc)),
+        window: None,
     })
 }
 

@@ -119,6 +119,8 @@ line AS (
     SELECT ''::text AS tab, 0 AS part, ''::text AS key, 0 AS n,
         '-- Tables of the schema ' || :'schema' || ' of ' || current_database() || ', with the sizes and values that the last ANALYZE found.' AS text
     UNION ALL
+    SELECT '', 0, '', 2, '-- There is no such schema.' WHERE NOT EXISTS (SELECT FROM pg_namespace WHERE nspname = :'schema')
+    UNION ALL
     SELECT '', 0, '', 1, '-- Texts compare byte by byte in pgplan, also where their collation here says otherwise.'
     WHERE EXISTS (SELECT FROM col WHERE typ = 'text' AND NOT by_bytes)
     UNION ALL

@@ -1,7 +1,0 @@
-CREATE TABLE t (a int8);
-COPY t FROM STDIN WITH (FORMAT CSV, NULL '\N');
-1
-2
-3
-\.
-SELECT * FROM t;

@@ -7,8 +7,9 @@ ghost use Rattle.btree_index.specs.Tree.{IsEntryOf, IsLawful, of_rows_below, wit
 
 use crate::bounds::Probe;
 use crate::cursors::Cursor;
+use crate::edges::Edge;
 use crate::entries::Entry;
-use crate::sorted::{insert_sorted, keep_rows, merge_sorted, part_of};
+use crate::pages::Pages;
 use opfamily::IndexKey;
 use pg_base::{ColNo, Tid};
 use pg_value::Value;
@@ -22,18 +23,19 @@ use std::sync::ledger::Ledger;
 pub struct BTree<L: Ledger> {
     keys: Vec<IndexKey>,
     include: Vec<ColNo>,
-    entries: Vec<Entry>,
+    pages: Pages,
     ledger: PhantomData<L>,
 }
 
 impl<L: Ledger> Model for BTree<L> {
+    ghost use Rattle.btree_index.specs.Pages.{IsPaged, entries_of};
     ghost use Rattle.btree_index.specs.Tree.{Tree, IsLawful};
 
     ghost Value = { Tree };
 
-    ghost view = { λ t. record { keys = t.keys.items; include = t.include.items; entries = t.entries.items } };
+    ghost view = { λ t. record { keys = t.keys.items; include = t.include.items; entries = entries_of t.pages } };
 
-    ghost invariant = { λ t. IsLawful (record { keys = t.keys.items; include = t.include.items; entries = t.entries.items }) };
+    ghost invariant = { λ t. IsPaged t.pages × IsLawful (record { keys = t.keys.items; include = t.include.items; entries = entries_of t.pages }) };
 }
 
 impl<L: Ledger> BTree<L> {
@@ -48,7 +50,7 @@ impl<L: Ledger> BTree<L> {
         Ok(BTree {
             keys: Vec::from_slice(alloc, keys)?,
             include: Vec::from_slice(alloc, include)?,
-            entries: Vec::new(alloc),
+            pages: Pages::new(alloc)?,
             ledger: PhantomData,
         })
     }
@@ -76,7 +78,9 @@ impl<L: Ledger> BTree<L> {
         ensures inserted { OnOk result (self.new ≡ with_entries self.old (record { row = t.0; keys = key.items; include = include.items } ∷ [])) }
         ensures refused { OnErr result (self.new ≡ self.old) }
     {
-        insert_sorted(&self.keys, &mut self.entries, Entry::new(key, include, t))
+        let entry = Entry::new(key, include, t);
+        let place = self.pages.find(&self.keys, &Edge::Behind(&entry));
+        self.pages.insert(&self.keys, place, entry)
     }
 
     /// Adds many entries at once: they are sorted and merged with those that are there. For want of memory the index
@@ -86,7 +90,7 @@ impl<L: Ledger> BTree<L> {
         ensures inserted { OnOk result (self.new ≡ with_entries self.old added.items) }
         ensures refused { OnErr result (self.new ≡ self.old) }
     {
-        merge_sorted(&self.keys, &mut self.entries, added)
+        self.pages.merge(&self.keys, added)
     }
 
     /// Keeps the entries of the rows whose numbers are below `rows`. It takes no memory, so it undoes what was added for
@@ -94,7 +98,7 @@ impl<L: Ledger> BTree<L> {
     pub fn cut(&mut self, rows: u32)
         ensures { self.new ≡ of_rows_below rows self.old }
     {
-        keep_rows(&mut self.entries, rows);
+        self.pages.keep_rows(rows);
     }
 
     /// A cursor before the first entry, in its direction, of the part that meets the bounds.
@@ -104,6 +108,13 @@ impl<L: Ledger> BTree<L> {
         ensures each { All (IsEntryOf self.now.keys self.now.include) result }
         ensures lawful { IsLawful self.now }
     {
-        Cursor::over(part_of(&self.keys, &self.entries, bounds), backward)
+        let start = self.pages.find(&self.keys, &Edge::Start(bounds));
+        let end = self.pages.find(&self.keys, &Edge::End(bounds));
+        Cursor::over(&self.pages, start, end, backward)
+    }
+
+    /// How many leaves there are, which tests ask.
+    pub fn leaves(&self) -> u32 {
+        u32::try_from(self.pages.leaves.len()).unwrap_or(u32::MAX)
     }
 }

@@ -10,3 +10,4 @@ pub mod IndexLemmas
 pub mod NamedLemmas
 pub mod AnalysedLemmas
 pub mod ChangedLemmas
+pub mod CopyLemmas

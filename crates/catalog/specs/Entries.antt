@@ -9,6 +9,15 @@ use Rattle.catalog.specs.declared.table.Table.{Table}
 use Rattle.catalog.specs.Contents.{Contents, NamedIndex, TableDef, numbers_from}
 use Rattle.catalog.specs.Indexes.{Index}
 
+-- two tables of the same columns and indexes, of which the same is known
+pub record IsSameTable (a b : Table) : Type 0 where
+  pub names : b.names ≡ a.names
+  pub columns : b.columns ≡ a.columns
+  pub loaded : b.loaded ≡ a.loaded
+  pub sizes : b.sizes ≡ a.sizes
+  pub stats : map (option_map statistics) b.stats.items ≡ map (option_map statistics) a.stats.items
+  pub indexes : b.indexes.items ≡ a.indexes.items
+
 -- the index that an `IndexDef` stands for
 abbrev pub index_of : IndexDef → Index
 index_of d = record { table = d.table; method = d.method; keys = d.keys.items; include = d.include.items; predicate = option_map cond d.predicate }

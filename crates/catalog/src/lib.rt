@@ -2,6 +2,7 @@
 #![tactic(auto)]
 
 mod contents;
+mod copies;
 mod entries;
 mod fault;
 mod index_def;

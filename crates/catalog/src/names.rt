@@ -39,6 +39,17 @@ impl Names {
         Ok(Names { set })
     }
 
+    /// The same names. The error means want of memory.
+    pub fn copy(&self, alloc: Global) -> Result<Names, Memory>
+        ensures { IfOk result (λ n. n ≡ self.now) }
+    {
+        let mut set = IndexSet::new(alloc);
+        for n in 0..self.set.len() {
+            set.insert(Vec::from_slice(alloc, self.get(n))?)?;
+        }
+        Ok(Names { set })
+    }
+
     /// The place of a name, from 0. None where it is not in the list.
     pub fn find(&self, name: &[u8]) -> Option<usize>
         ensures place { result ≡ position (bytes_eq name.now) self.now }

@@ -1,9 +1,10 @@
 //! The columns of a table.
 
-ghost use Rattle.std.specs.Prelude.{◌≡◌, ◌≤◌, ◌<◌, length, slice_get, Some};
+ghost use Rattle.std.specs.Prelude.{◌≡◌, ◌≤◌, ◌<◌, length, slice_get, IfOk, Some};
 ghost use Rattle.pg_value.specs.declared.columns.TheConstants.{MOST_COLUMNS};
 
 use crate::value::SqlType;
+use std::alloc::{AllocError, Global};
 use std::marker::Model;
 
 /// A table has at most so many columns. Own.
@@ -53,5 +54,14 @@ impl Columns {
         ensures few { length self.now ≤ MOST_COLUMNS }
     {
         &self.columns
+    }
+
+    /// The same columns. The error means want of memory.
+    pub fn copy(&self, alloc: Global) -> Result<Columns, AllocError>
+        ensures { IfOk result (λ c. c ≡ self.now) }
+    {
+        Ok(Columns {
+            columns: Vec::from_slice(alloc, &self.columns)?,
+        })
     }
 }

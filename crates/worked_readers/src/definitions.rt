@@ -24,16 +24,16 @@ const WRONG: [(&[u8], Code, u32, u32); 48] = [
     (b"CREATE TABLE t (a int4 NOT);", Code::S1, 26, 26),
     (b"CREATE INDEX i;", Code::S1, 0, 0),
     (
-        b"CREATE TABLE t (a int2,b int2,c int2,d int2,e int2,f int2,g int2,h int2,i int2,j int2,k int2,l int2,m int2,n int2,o int2,p int2,Qq int2,r int2);",
+        b"CREATE TABLE t (a int2,b int2,c int2,d int2,e int2,f int2,g int2,h int2,i int2,j int2,k int2,l int2,m int2,n int2,o int2,p int2,q int2,r int2,s int2,t int2,u int2,v int2,w int2,x int2,y int2,z int2,a1 int2,b1 int2,c1 int2,d1 int2,e1 int2,f1 int2,Qq int2,r2 int2);",
         Code::S15(Limit::Columns),
-        128,
-        130,
+        246,
+        248,
     ),
     (
-        b"CREATE TABLE t (a int2,b int2,c int2,d int2,e int2,f int2,g int2,h int2,i int2,j int2,k int2,l int2,m int2,n int2,o int2,p int2,q int2,r nope);",
+        b"CREATE TABLE t (a int2,b int2,c int2,d int2,e int2,f int2,g int2,h int2,i int2,j int2,k int2,l int2,m int2,n int2,o int2,p int2,q int2,r int2,s int2,t int2,u int2,v int2,w int2,x int2,y int2,z int2,a1 int2,b1 int2,c1 int2,d1 int2,e1 int2,f1 int2,q2 int2,r2 nope);",
         Code::S8,
-        137,
-        141,
+        257,
+        261,
     ),
     (
         b"COPY u FROM STDIN WITH (FORMAT CSV, NULL '');\n\\.\n",

@@ -53,16 +53,16 @@ const WRONG: [(&[u8], Code, u32, u32); 17] = [
     (b"CREATE INDEX i ON a (b) WHERE b = 'x';", Code::S12, 34, 37),
     (b"CREATE INDEX i ON a (b) WHERE t = 1;", Code::S9, 32, 33),
     (
-        b"CREATE INDEX i ON a (b,b,b,b,b,b,b,b,b) INCLUDE (b,b,b,b,b,b,b,T,f);",
+        b"CREATE INDEX i ON a (b,b,b,b,b,b,b,b,b,b,b,b,b,b,b,b,b) INCLUDE (b,b,b,b,b,b,b,b,b,b,b,b,b,b,b,T,f);",
         Code::S15(Limit::Columns),
-        63,
-        64,
+        95,
+        96,
     ),
     (
-        b"CREATE INDEX i ON a (b,b,b,b,b,b,b,b,b) INCLUDE (b,b,b,b,b,b,b,t,z);",
+        b"CREATE INDEX i ON a (b,b,b,b,b,b,b,b,b,b,b,b,b,b,b,b,b) INCLUDE (b,b,b,b,b,b,b,b,b,b,b,b,b,b,b,t,z);",
         Code::S3,
-        65,
-        66,
+        97,
+        98,
     ),
 ];
 

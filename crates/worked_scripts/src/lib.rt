@@ -1,12 +1,8 @@
-//! Worked scripts, run whole by the top call and statement by statement by its machine.
+//! Runs of the top call over sources and outs that fail, and what its machine fetches and looks at.
 #![tactic(auto)]
 
 #[cfg(test)]
 mod counts;
-#[cfg(test)]
-mod faults;
-#[cfg(test)]
-mod joins;
 #[cfg(test)]
 mod outside;
 #[cfg(test)]
@@ -15,5 +11,3 @@ mod pace;
 mod product;
 #[cfg(test)]
 mod runs;
-#[cfg(test)]
-mod scripts;

@@ -15,30 +15,6 @@ pub(crate) struct Case<'a> {
     pub(crate) errors: &'a [u8],
 }
 
-impl<'a> Case<'a> {
-    /// A script whose statements are all answered.
-    pub(crate) fn answered(script: &'a [u8], out: &'a [u8]) -> Case<'a> {
-        Case {
-            word: "run",
-            script,
-            status: 0,
-            out,
-            errors: b"",
-        }
-    }
-
-    /// A script with a fault.
-    pub(crate) fn refused(script: &'a [u8], out: &'a [u8], errors: &'a [u8]) -> Case<'a> {
-        Case {
-            word: "run",
-            script,
-            status: 3,
-            out,
-            errors,
-        }
-    }
-}
-
 /// What the outside does: so many bytes by one call, and the calls that fail.
 #[derive(Clone, Copy)]
 pub(crate) struct Outside {

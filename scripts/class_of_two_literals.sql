@@ -1,0 +1,7 @@
+CREATE TABLE t (a int8);
+COPY t FROM STDIN WITH (FORMAT CSV, NULL '\N');
+1
+2
+3
+\.
+SELECT * FROM t WHERE a = 1 AND a = 2;

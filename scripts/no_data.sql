@@ -1,0 +1,2 @@
+CREATE TABLE t (a int8);
+SELECT * FROM t;

@@ -1,0 +1,7 @@
+CREATE TABLE t (s text);
+COPY t FROM STDIN WITH (FORMAT CSV, NULL '\N');
+"a,b"
+""
+\N
+\.
+SELECT * FROM t;

@@ -1,0 +1,8 @@
+CREATE TABLE t (a int4, b int4);
+COPY t FROM STDIN WITH (FORMAT CSV, NULL '\N');
+2,1
+\N,2
+1,3
+2,4
+\.
+SELECT * FROM t ORDER BY a DESC;

@@ -1,0 +1,1 @@
+CREATE TABLE t (a int8); SELECT a FROM t; SELECT A, Zz FROM t; SELECT * FROM t;

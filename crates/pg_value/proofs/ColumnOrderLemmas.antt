@@ -12,16 +12,16 @@ use Rattle.pg_value.specs.ColumnOrder.{directed, column_order}
 use Rattle.pg_value.proofs.OrderLaws.{value_total}
 
 -- NULL before or after all others
-abbrev rank : Bool → Value → ℕ
+abbrev pub rank : Bool → Value → ℕ
 rank nulls_first Null = cond nulls_first 0 2
 rank nulls_first (Int n) = 1
 rank nulls_first (Flag b) = 1
 rank nulls_first (String t) = 1
 
-abbrev turned : {K : Type 0} → Bool → (K → K → Ordering) → K → K → Ordering
+abbrev pub turned : {K : Type 0} → Bool → (K → K → Ordering) → K → K → Ordering
 turned b R = cond b (flip_args R) R
 
-turned_total : {K : Type 0} (b : Bool) (R : K → K → Ordering) → IsTotalOrder R → IsTotalOrder (turned b R)
+pub turned_total : {K : Type 0} (b : Bool) (R : K → K → Ordering) → IsTotalOrder R → IsTotalOrder (turned b R)
 turned_total true R o = back_total o
 turned_total false R o = o
 

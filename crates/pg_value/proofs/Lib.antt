@@ -7,3 +7,4 @@ pub mod StableSortLemmas
 pub mod SortingLemmas
 pub mod SortByLemmas
 pub mod PartSearchLemmas
+pub mod KindLemmas

@@ -4,3 +4,4 @@ pub mod Truths
 pub mod Types
 pub mod ColumnOrder
 pub mod Sorting
+pub mod Kinds

@@ -1,17 +1,18 @@
 //! The index itself.
 
-ghost use Rattle.std.specs.Prelude.{◌≡◌, ◌∷◌, [], map, All, IfOk, OnOk, OnErr, is_some, true};
+ghost use Rattle.std.specs.Prelude.{◌≡◌, ◌∷◌, ◌++◌, [], ◌<◌, length, map, All, IfOk, OnOk, OnErr, is_some, true};
 ghost use Rattle.pg_value.specs.declared.operators.Op.TheVariants.{Eq};
 ghost use Rattle.pg_value.specs.Order.{IsOfFamily};
+ghost use Rattle.pg_value.specs.Sorting.{in_order};
 ghost use Rattle.opfamily.specs.declared.classes.Method.TheVariants.{Hash};
 ghost use Rattle.opfamily.specs.Answers.{number_in};
 ghost use Rattle.opfamily.specs.KeyOrder.{key_family};
-ghost use Rattle.hash_index.specs.Held.{IsLawful, of_rows_below, with_held, rows_equal};
+ghost use Rattle.hash_index.specs.Chains.{IsChained, taken_back};
+ghost use Rattle.hash_index.specs.Groups.{held_by};
+ghost use Rattle.hash_index.specs.Held.{IsLawful, held_order, of_rows_below, with_held, rows_equal};
 
-use crate::rows::{
-    Row, append_numbers, is_known, keep_numbers, keep_rows, merge_sorted, place_of, ties,
-    write_numbers,
-};
+use crate::chains::{Chains, Place};
+use crate::rows::{Row, is_known};
 use opfamily::IndexKey;
 use pg_base::Tid;
 use pg_value::Value;
@@ -21,21 +22,21 @@ use std::marker::Model;
 /// The rows of each value of one key. Contracts see a `Table`.
 #[derive(Drop)]
 pub struct HashIndex {
+    alloc: Global,
     key: IndexKey,
-    rows: Vec<Row>,
-    tids: Vec<Tid>,
+    chains: Chains,
 }
 
 impl Model for HashIndex {
-    ghost use Rattle.std.specs.Prelude.{◌≡◌, map};
-    ghost use Rattle.pg_base.specs.declared.numbers.Tid.{Tid};
-    ghost use Rattle.hash_index.specs.Held.{Held, Table, IsLawful};
+    ghost use Rattle.hash_index.specs.Held.{Table};
+    ghost use Rattle.hash_index.specs.Groups.{held_in};
+    ghost use Rattle.hash_index.specs.Chains.{IsChained};
 
     ghost Value = { Table };
 
-    ghost view = { λ h. record { key = h.key; held = h.rows.items } };
+    ghost view = { λ h. record { key = h.key; held = held_in h.key h.chains.groups.items } };
 
-    ghost invariant = { λ h. IsLawful (record { key = h.key; held = h.rows.items }) × (map (λ (t : Tid). t.0) h.tids.items ≡ map (λ (r : Held). r.row) h.rows.items) };
+    ghost invariant = { λ h. IsChained h.key h.chains };
 }
 
 impl HashIndex {
@@ -45,9 +46,9 @@ impl HashIndex {
         ensures { IfOk result (λ h. h ≡ record { key = key; held = [] }) }
     {
         Ok(HashIndex {
+            alloc,
             key,
-            rows: Vec::new(alloc),
-            tids: Vec::new(alloc),
+            chains: Chains::new(alloc, key)?,
         })
     }
 
@@ -58,32 +59,22 @@ impl HashIndex {
         ensures inserted { OnOk result (self.new ≡ with_held self.old (record { value = v; row = t.0 } ∷ [])) }
         ensures refused { OnErr result (self.new ≡ self.old) }
     {
-        let row = Row::new(v, t);
-        let place = place_of(self.key, &self.rows, &row);
-        self.tids.insert(place, t)?;
-        if self.rows.insert(place, row).is_err() {
-            self.tids.remove(place);
-            return Err(AllocError);
-        }
+        self.chains.put(self.key, v, t)?;
         Ok(())
     }
 
-    /// Adds many rows at once, each with its value, NULL or of the kind that the key's class hashes: they are sorted and
-    /// merged with those that are there. For want of memory the index is as before.
+    /// Adds many rows at once, each with its value, NULL or of the kind that the key's class hashes. For want of memory the
+    /// index is as before.
     pub fn insert_all(&mut self, added: Vec<Row>) -> Result<(), AllocError>
         requires { All (λ h. IsOfFamily (key_family self.old.key) h.value) added.items }
         ensures inserted { OnOk result (self.new ≡ with_held self.old added.items) }
         ensures refused { OnErr result (self.new ≡ self.old) }
     {
-        let held = self.tids.len();
-        append_numbers(&mut self.tids, &added)?;
-        match merge_sorted(self.key, &mut self.rows, added) {
-            Ok(()) => {
-                write_numbers(&mut self.tids, &self.rows);
-                Ok(())
-            }
+        let mut places = Vec::new(self.alloc);
+        match put_all(self.key, &mut self.chains, &mut places, added) {
+            Ok(()) => Ok(()),
             Err(refused) => {
-                self.tids.truncate(held);
+                take_back(&mut self.chains, places);
                 Err(refused)
             }
         }
@@ -94,8 +85,7 @@ impl HashIndex {
     pub fn cut(&mut self, rows: u32)
         ensures { self.new ≡ of_rows_below rows self.old }
     {
-        keep_rows(&mut self.rows, rows);
-        keep_numbers(&mut self.tids, rows);
+        self.chains.cut(self.key, rows);
     }
 
     /// The rows whose value equals this one, rising; none for NULL.
@@ -108,7 +98,52 @@ impl HashIndex {
         if !is_known(v) {
             return &[];
         }
-        let (start, count) = ties(key, &self.rows, v);
-        &self.tids[start..start + count]
+        match self.chains.slot_of(key, v) {
+            Some(slot) => self.chains.groups[slot as usize].tids(),
+            None => &[],
+        }
+    }
+
+    /// How many buckets there are.
+    pub fn buckets(&self) -> u32 {
+        u32::try_from(self.chains.heads.len()).unwrap_or(u32::MAX)
+    }
+}
+
+/// Puts each row among those of its value, and notes its place. For want of memory some are put there.
+fn put_all(
+    key: IndexKey,
+    chains: &mut Chains,
+    places: &mut Vec<Place>,
+    added: Vec<Row>,
+) -> Result<(), AllocError>
+    requires chained { IsChained key chains.old }
+    requires none { places.old.items ≡ [] }
+    requires fits { All (λ h. IsOfFamily (key_family key) h.value) added.items }
+    ensures chained { IsChained key chains.new }
+    ensures within { All (λ p. p.slot < length chains.new.groups.items) places.new.items }
+    ensures back { held_by (taken_back places.new.items chains.new.groups.items) ≡ held_by chains.old.groups.items }
+    ensures put { OnOk result (in_order (held_order key) (held_by chains.new.groups.items) ≡ in_order (held_order key) (held_by chains.old.groups.items ++ added.items)) }
+{
+    for row in added {
+        let (value, tid) = row.into_parts();
+        let place = chains.put(key, value, tid)?;
+        if places.push(place).is_err() {
+            chains.take_out(place);
+            return Err(AllocError);
+        }
+    }
+    Ok(())
+}
+
+/// Takes out the rows at places, from the last place on.
+fn take_back(chains: &mut Chains, mut places: Vec<Place>)
+    requires { All (λ p. p.slot < length chains.old.groups.items) places.items }
+    ensures groups { chains.new.groups.items ≡ taken_back places.items chains.old.groups.items }
+    ensures heads { chains.new.heads ≡ chains.old.heads }
+    ensures links { chains.new.links ≡ chains.old.links }
+{
+    while let Some(place) = places.pop() {
+        chains.take_out(place);
     }
 }

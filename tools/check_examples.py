@@ -3,10 +3,11 @@
 
 usage: tools/check_examples.py PROGRAM
 
-A script NAME.sql of examples/ and of scripts/ has NAME.out, NAME.err and NAME.status beside it. scripts/faults.json is a list of
-scripts that print nothing, each with the line of its fault. scripts/limits.json has scripts at a limit and one past it: `script`
-and `out` are lists of texts, each with how often it stands, and `{n}` in such a text is the number of the time, from 1 on; where
-several plans cost the least, `begins` and `ends` stand in place of `out`; `line` is that of the fault, empty where there is none.
+A script NAME.sql of examples/ and of scripts/ has NAME.out, NAME.err and NAME.status beside it. The other files of scripts/ are
+lists. faults.json has scripts that print nothing, each with the line of its fault. limits.json has scripts at a limit and one past
+it: `script` and `out` are lists of texts, each with how often it stands, and `{n}` in such a text is the number of the time, from 1
+on; where several plans cost the least, `begins` and `ends` stand in place of `out`; `line` is that of the fault, empty where there
+is none. best_plans.json has scripts that end with an EXPLAIN, each with how the first line of its output ends.
 
 Each script comes to the program whole, and a short one once more a byte at a time. Prints a line for each difference, and last
 the number of runs that passed and failed.
@@ -21,13 +22,25 @@ ROOT = pathlib.Path(__file__).resolve().parent.parent
 SHORT = 4096
 
 
+def exactly(wanted):
+    return lambda out: out == wanted
+
+
+def between(begins, ends):
+    return lambda out: out.startswith(begins) and out.endswith(ends)
+
+
+def headed(ends):
+    return lambda out: out.partition(b"\n")[0].endswith(ends)
+
+
 def stored(script):
     """What a script has to give, from the files beside it."""
     out, err, status = (script.with_suffix(ending).read_bytes() for ending in (".out", ".err", ".status"))
-    return script.relative_to(ROOT), script.read_bytes(), (out, b"", err, int(status))
+    return script.relative_to(ROOT), script.read_bytes(), exactly(out), err, int(status)
 
 
-def refused(line):
+def ended(line):
     """The errors and the status of a script whose fault is told by this line, or that has none."""
     return ((line + "\n").encode(), 3) if line else (b"", 0)
 
@@ -36,16 +49,22 @@ def text_of(parts):
     return "".join(text.replace("{n}", str(n)) for text, times in parts for n in range(1, times + 1)).encode()
 
 
+def listed(name):
+    return json.loads((ROOT / "scripts" / name).read_text())
+
+
 def cases():
-    """Each case with its name, its script, and how its output begins (or is) and ends, its errors and its status."""
+    """Each case: its name, its script, what its output has to be, its errors and its status."""
     for folder in ("examples", "scripts"):
         for script in sorted((ROOT / folder).glob("*.sql")):
             yield stored(script)
-    for script, line in json.loads((ROOT / "scripts/faults.json").read_text()):
-        yield f"fault {script!r}", script.encode(), (b"", b"", *refused(line))
-    for case in json.loads((ROOT / "scripts/limits.json").read_text()):
-        begins = text_of(case["out"]) if "out" in case else case["begins"].encode()
-        yield f"limit {case['what']}", text_of(case["script"]), (begins, case.get("ends", "").encode(), *refused(case["line"]))
+    for script, line in listed("faults.json"):
+        yield f"fault {script!r}", script.encode(), exactly(b""), *ended(line)
+    for case in listed("limits.json"):
+        told = exactly(text_of(case["out"])) if "out" in case else between(case["begins"].encode(), case["ends"].encode())
+        yield f"limit {case['what']}", text_of(case["script"]), told, *ended(case["line"])
+    for script, ends in listed("best_plans.json"):
+        yield f"plan {script!r}", script.encode(), headed(ends.encode()), *ended("")
 
 
 def answer(program, script, piece):
@@ -61,24 +80,18 @@ def answer(program, script, piece):
     return out, err, run.returncode
 
 
-def is_as_told(got, wanted):
-    out, err, status = got
-    begins, ends, errors, ended = wanted
-    whole = out.startswith(begins) and out.endswith(ends) if ends else out == begins
-    return whole and (err, status) == (errors, ended)
-
-
 def main():
     program = pathlib.Path(sys.argv[1]).resolve()
     passed = failed = 0
-    for name, script, wanted in cases():
-        for piece in (max(1, len(script)), 1) if 1 < len(script) <= SHORT else (max(1, len(script)),):
-            got = answer(program, script, piece)
-            if is_as_told(got, wanted):
+    for name, script, told, errors, status in cases():
+        whole = max(1, len(script))
+        for piece in (whole, 1) if 1 < whole <= SHORT else (whole,):
+            out, err, ran = answer(program, script, piece)
+            if told(out) and (err, ran) == (errors, status):
                 passed += 1
                 continue
             failed += 1
-            print(f"examples: {name}, by {piece} bytes: {got!r} and not {wanted!r}"[:2000])
+            print(f"examples: {name}, by {piece} bytes: status {ran}, errors {err!r}, output {out!r}"[:2000])
     print(f"examples: {passed} passed, {failed} failed")
     sys.exit(failed != 0 or not passed)
 

@@ -17,7 +17,6 @@ use pg_base::{ColNo, Memory, RelNo, RelSet};
 use pg_expr::{Binding, ColRef, Expr, Exprs, Operand, is_same};
 use pg_value::{Family, Op, SqlType, Value};
 use std::alloc::Global;
-use std::test::Fail;
 
 /// Columns of type int8.
 #[derive(Drop)]
@@ -110,9 +109,39 @@ fn lists(t: &Classes, wanted: &[Expr], numbers: &[u16]) -> bool {
     true
 }
 
-#[test]
-fn chain(rt: HostRuntime) -> Result<(), Fail> {
-    let alloc = rt.alloc();
+/// A set of clauses that is asked for, with sets of relations as bits.
+#[derive(Clone, Copy)]
+enum Asked {
+    Base(u8),
+    All(u16),
+    Join(u16, u16),
+    Param(u8, u16),
+    JoinParam(u16, u8, u16),
+}
+
+/// The clauses that are asked for. Relations count below 16.
+fn clauses_of(t: &Classes, asked: Asked) -> ClauseSet {
+    match asked {
+        Asked::Base(r) => t.base_clauses(RelNo(r % 16)),
+        Asked::All(s) => t.all_clauses(RelSet(s)),
+        Asked::Join(a, b) => t.join_clauses(RelSet(a), RelSet(b)),
+        Asked::Param(r, p) => t.param_clauses(RelNo(r % 16), RelSet(p)),
+        Asked::JoinParam(a, r, p) => t.join_param_clauses(RelSet(a), RelNo(r % 16), RelSet(p)),
+    }
+}
+
+/// The first set that has other clauses than wanted.
+fn first_other(t: &Classes, rows: &[(Asked, &[u16])]) -> Option<Asked> {
+    for (asked, wanted) in rows {
+        if !holds(t, &clauses_of(t, *asked), wanted) {
+            return Some(*asked);
+        }
+    }
+    None
+}
+
+/// Three relations of one class, a comparison beside it, and an order.
+fn chain_of(alloc: Global) -> Result<Classes, Memory> {
     let conjuncts = three(
         alloc,
         firsts(Op::Eq, 0, 1),
@@ -131,78 +160,117 @@ fn chain(rt: HostRuntime) -> Result<(), Fail> {
             nulls_first: true,
         },
     ];
-    let t = Classes::build(alloc, conjuncts, &order, &Wide { value: Value::Null })?;
-    let wanted = three(
+    Classes::build(alloc, conjuncts, &order, &Wide { value: Value::Null })
+}
+
+/// Its clauses.
+fn clauses_of_chain(alloc: Global) -> Result<Vec<Expr>, Memory> {
+    let first = three(
         alloc,
         firsts(Op::Lt, 0, 2),
         firsts(Op::Eq, 0, 1),
         firsts(Op::Eq, 0, 2),
     )?;
-    assert!(rt; t.count() == 4);
-    let mut all = wanted.items;
+    let mut all = first.items;
     all.push(firsts(Op::Eq, 1, 2))?;
-    assert!(rt; lists(&t, &all, &[2, 0, 0, 0]));
-    let first = RelSet::one(RelNo(0));
-    let second = RelSet::one(RelNo(1));
-    let third = RelSet::one(RelNo(2));
-    let both = first.union(second);
-    assert!(rt; holds(&t, &t.base_clauses(RelNo(0)), &[]));
-    assert!(rt; holds(&t, &t.all_clauses(both.union(third)), &[0, 1, 2]));
-    assert!(rt; holds(&t, &t.all_clauses(second.union(third)), &[3]));
-    assert!(rt; holds(&t, &t.join_clauses(both, third), &[0, 2]));
-    assert!(rt; holds(&t, &t.join_clauses(second, third), &[3]));
-    assert!(rt; holds(&t, &t.param_clauses(RelNo(2), both), &[0, 2]));
-    assert!(rt; holds(&t, &t.param_clauses(RelNo(2), second), &[3]));
-    assert!(rt; holds(&t, &t.join_param_clauses(both, RelNo(2), second), &[0]));
-    assert!(rt; holds(&t, &t.join_param_clauses(both, RelNo(2), both), &[]));
-    assert!(rt; t.joining(both, third) == [Some(ClassNo(0)), None, None, None]);
-    assert!(rt; t.joining(third, RelSet::one(RelNo(3))) == [None, None, None, None]);
-    assert!(rt; t.class_of(column(0, 0), Family::IntAbs).is_none());
-    let found = t.class_of(column(2, 0), Family::Integer);
-    assert!(rt; found == Some(ClassNo(0)));
-    if let Some(n) = found {
-        assert!(rt; !t.has_constant(n) && t.direction(n) == (true, true));
-        assert!(rt; t.family(n) == Family::Integer);
-        assert!(rt; t.member(n, second.union(third)) == Some(column(1, 0)));
-    }
-    let found = t.class_of(column(3, 1), Family::Integer);
-    assert!(rt; found == Some(ClassNo(1)));
-    if let Some(n) = found {
-        assert!(rt; t.direction(n) == (false, true));
-        assert!(rt; t.member(n, both).is_none());
-    }
-    Ok(())
+    Ok(all)
+}
+
+const CHAIN: [(Asked, &[u16]); 9] = [
+    (Asked::Base(0), &[]),
+    (Asked::All(0b111), &[0, 1, 2]),
+    (Asked::All(0b110), &[3]),
+    (Asked::Join(0b011, 0b100), &[0, 2]),
+    (Asked::Join(0b010, 0b100), &[3]),
+    (Asked::Param(2, 0b011), &[0, 2]),
+    (Asked::Param(2, 0b010), &[3]),
+    (Asked::JoinParam(0b011, 2, 0b010), &[0]),
+    (Asked::JoinParam(0b011, 2, 0b011), &[]),
+];
+
+#[test]
+fn chain(rt: HostRuntime) {
+    let t = chain_of(rt.alloc()).expect(&rt, "classes");
+    let wanted = clauses_of_chain(rt.alloc()).expect(&rt, "clauses");
+    assert!(rt; t.count() == 4);
+    assert!(rt; lists(&t, &wanted, &[2, 0, 0, 0]));
+    assert!(rt; first_other(&t, &CHAIN).is_none());
+}
+
+/// Whether column `a` of relation 2 is of class 0, whose direction is that of the order, with a member in relation 1.
+fn has_first_class(t: &Classes) -> bool {
+    let Some(n) = t.class_of(column(2, 0), Family::Integer) else {
+        return false;
+    };
+    n == ClassNo(0)
+        && !t.has_constant(n)
+        && t.direction(n) == (true, true)
+        && t.family(n) == Family::Integer
+        && t.member(n, RelSet(0b110)) == Some(column(1, 0))
+}
+
+/// Whether the other column of the order is of class 1, without a member in relations 0 and 1.
+fn has_second_class(t: &Classes) -> bool {
+    let Some(n) = t.class_of(column(3, 1), Family::Integer) else {
+        return false;
+    };
+    n == ClassNo(1) && t.direction(n) == (false, true) && t.member(n, RelSet(0b011)).is_none()
 }
 
 #[test]
-fn constants(rt: HostRuntime) -> Result<(), Fail> {
-    let alloc = rt.alloc();
+fn classes_of_chain(rt: HostRuntime) {
+    let t = chain_of(rt.alloc()).expect(&rt, "classes");
+    assert!(rt; t.joining(RelSet(0b011), RelSet(0b100)) == [Some(ClassNo(0)), None, None, None]);
+    assert!(rt; t.joining(RelSet(0b100), RelSet(0b1000)) == [None, None, None, None]);
+    assert!(rt; t.class_of(column(0, 0), Family::IntAbs).is_none());
+    assert!(rt; has_first_class(&t));
+    assert!(rt; has_second_class(&t));
+}
+
+/// A column equal to itself, two of equal size, and one with a number.
+fn constants_of(alloc: Global) -> Result<Classes, Memory> {
     let conjuncts = three(
         alloc,
         firsts(Op::Eq, 0, 0),
         equal_by_size(column(0, 0), column(0, 1)),
         equal_to(column(1, 0), 5),
     )?;
-    let t = Classes::build(alloc, conjuncts, &[], &Wide { value: Value::Null })?;
-    let wanted = three(
+    Classes::build(alloc, conjuncts, &[], &Wide { value: Value::Null })
+}
+
+/// Their clauses.
+fn clauses_of_constants(alloc: Global) -> Result<Exprs, Memory> {
+    three(
         alloc,
         Expr::IsNotNull(column(0, 0)),
         equal_by_size(column(0, 0), column(0, 1)),
         equal_to(column(1, 0), 5),
-    )?;
+    )
+}
+
+const CONSTANTS: [(Asked, &[u16]); 3] = [
+    (Asked::Base(0), &[0, 1]),
+    (Asked::Base(1), &[2]),
+    (Asked::All(0b011), &[0, 1, 2]),
+];
+
+/// Whether the class of the number is class 1.
+fn has_constant_class(t: &Classes) -> bool {
+    match t.class_of(column(1, 0), Family::Integer) {
+        Some(n) => n == ClassNo(1) && t.has_constant(n),
+        None => false,
+    }
+}
+
+#[test]
+fn constants(rt: HostRuntime) {
+    let t = constants_of(rt.alloc()).expect(&rt, "classes");
+    let wanted = clauses_of_constants(rt.alloc()).expect(&rt, "clauses");
     assert!(rt; lists(&t, wanted.items(), &[1, 0, 0]));
-    let both = RelSet::one(RelNo(0)).union(RelSet::one(RelNo(1)));
-    assert!(rt; holds(&t, &t.base_clauses(RelNo(0)), &[0, 1]));
-    assert!(rt; holds(&t, &t.base_clauses(RelNo(1)), &[2]));
-    assert!(rt; holds(&t, &t.all_clauses(both), &[0, 1, 2]));
+    assert!(rt; first_other(&t, &CONSTANTS).is_none());
     assert!(rt; t.class_of(column(0, 0), Family::Integer).is_none());
     assert!(rt; t.class_of(column(0, 1), Family::IntAbs) == Some(ClassNo(0)));
-    let found = t.class_of(column(1, 0), Family::Integer);
-    assert!(rt; found == Some(ClassNo(1)));
-    if let Some(n) = found {
-        assert!(rt; t.has_constant(n));
-    }
-    Ok(())
+    assert!(rt; has_constant_class(&t));
 }
 
 /// The sign of a comparison.
@@ -266,118 +334,137 @@ fn exprs_of(alloc: Global, parts: &[Part]) -> Result<Vec<Expr>, Memory>
     Ok(exprs)
 }
 
-#[test]
-fn clauses_of_small_lists(rt: HostRuntime) -> Result<(), Fail> {
-    let alloc = rt.alloc();
-    let table = [
-        // a column and a number
-        (
-            &[Part::One(Sign::Equal, 0, 0, 5)] as &[Part],
-            &[Part::One(Sign::Equal, 0, 0, 5)] as &[Part],
-            &[0u16] as &[u16],
-        ),
-        // two numbers for one column
-        (
-            &[
-                Part::One(Sign::Equal, 0, 0, 1),
-                Part::One(Sign::Equal, 0, 0, 2),
-            ],
-            &[
-                Part::One(Sign::Equal, 0, 0, 1),
-                Part::One(Sign::Equal, 0, 0, 2),
-            ],
-            &[0, 0],
-        ),
-        // one number twice
-        (
-            &[
-                Part::One(Sign::Equal, 0, 0, 1),
-                Part::One(Sign::Equal, 0, 0, 1),
-            ],
-            &[Part::One(Sign::Equal, 0, 0, 1)],
-            &[0],
-        ),
-        // one number joins two columns
-        (
-            &[
-                Part::One(Sign::Equal, 1, 0, 3),
-                Part::One(Sign::Equal, 0, 1, 3),
-            ],
-            &[
-                Part::One(Sign::Equal, 0, 1, 3),
-                Part::One(Sign::Equal, 1, 0, 3),
-            ],
-            &[0, 0],
-        ),
-        // what is no equality comes first, with its number
-        (
-            &[
-                Part::One(Sign::Equal, 0, 1, 7),
-                Part::One(Sign::Greater, 0, 0, 10),
-            ],
-            &[
-                Part::One(Sign::Greater, 0, 0, 10),
-                Part::One(Sign::Equal, 0, 1, 7),
-            ],
-            &[2, 0],
-        ),
-        // a chain over three relations
-        (
-            &[
-                Part::Two(Sign::Equal, 0, 0, 1, 0),
-                Part::Two(Sign::Equal, 1, 0, 2, 0),
-            ],
-            &[
-                Part::Two(Sign::Equal, 0, 0, 1, 0),
-                Part::Two(Sign::Equal, 0, 0, 2, 0),
-                Part::Two(Sign::Equal, 1, 0, 2, 0),
-            ],
-            &[0, 0, 0],
-        ),
-        // two members of one relation
-        (
-            &[
-                Part::Two(Sign::Equal, 0, 0, 0, 1),
-                Part::Two(Sign::Equal, 0, 1, 1, 0),
-            ],
-            &[
-                Part::Two(Sign::Equal, 0, 0, 0, 1),
-                Part::Two(Sign::Equal, 0, 0, 1, 0),
-            ],
-            &[0, 0],
-        ),
-        // two families are two classes
-        (
-            &[
-                Part::Two(Sign::AbsEqual, 0, 0, 1, 0),
-                Part::One(Sign::Equal, 0, 0, 3),
-            ],
-            &[
-                Part::Two(Sign::AbsEqual, 0, 0, 1, 0),
-                Part::One(Sign::Equal, 0, 0, 3),
-            ],
-            &[0, 0],
-        ),
-        // customers, orders and lines: the number reaches the orders
-        (
-            &[
-                Part::Two(Sign::Equal, 0, 0, 1, 1),
-                Part::Two(Sign::Equal, 1, 0, 2, 0),
-                Part::One(Sign::Equal, 0, 0, 7),
-            ],
-            &[
-                Part::One(Sign::Equal, 0, 0, 7),
-                Part::One(Sign::Equal, 1, 1, 7),
-                Part::Two(Sign::Equal, 1, 0, 2, 0),
-            ],
-            &[0, 0, 0],
-        ),
-    ];
-    for (conjuncts, clauses, numbers) in table {
-        assert!(rt; conjuncts.len() <= 32);
-        let given = Exprs::from_vec(exprs_of(alloc, conjuncts)?);
-        let t = Classes::build(alloc, given, &[], &Wide { value: Value::Null })?;
-        assert!(rt; lists(&t, &exprs_of(alloc, clauses)?, numbers));
+/// Conjuncts, their clauses, and the numbers of the conjuncts that these are, 0 for none.
+type Row<'a> = (&'a [Part], &'a [Part], &'a [u16]);
+
+const LISTS: [Row; 9] = [
+    // a column and a number
+    (
+        &[Part::One(Sign::Equal, 0, 0, 5)],
+        &[Part::One(Sign::Equal, 0, 0, 5)],
+        &[0],
+    ),
+    // two numbers for one column
+    (
+        &[
+            Part::One(Sign::Equal, 0, 0, 1),
+            Part::One(Sign::Equal, 0, 0, 2),
+        ],
+        &[
+            Part::One(Sign::Equal, 0, 0, 1),
+            Part::One(Sign::Equal, 0, 0, 2),
+        ],
+        &[0, 0],
+    ),
+    // one number twice
+    (
+        &[
+            Part::One(Sign::Equal, 0, 0, 1),
+            Part::One(Sign::Equal, 0, 0, 1),
+        ],
+        &[Part::One(Sign::Equal, 0, 0, 1)],
+        &[0],
+    ),
+    // one number joins two columns
+    (
+        &[
+            Part::One(Sign::Equal, 1, 0, 3),
+            Part::One(Sign::Equal, 0, 1, 3),
+        ],
+        &[
+            Part::One(Sign::Equal, 0, 1, 3),
+            Part::One(Sign::Equal, 1, 0, 3),
+        ],
+        &[0, 0],
+    ),
+    // what is no equality comes first, with its number
+    (
+        &[
+            Part::One(Sign::Equal, 0, 1, 7),
+            Part::One(Sign::Greater, 0, 0, 10),
+        ],
+        &[
+            Part::One(Sign::Greater, 0, 0, 10),
+            Part::One(Sign::Equal, 0, 1, 7),
+        ],
+        &[2, 0],
+    ),
+    // a chain over three relations
+    (
+        &[
+            Part::Two(Sign::Equal, 0, 0, 1, 0),
+            Part::Two(Sign::Equal, 1, 0, 2, 0),
+        ],
+        &[
+            Part::Two(Sign::Equal, 0, 0, 1, 0),
+            Part::Two(Sign::Equal, 0, 0, 2, 0),
+            Part::Two(Sign::Equal, 1, 0, 2, 0),
+        ],
+        &[0, 0, 0],
+    ),
+    // two members of one relation
+    (
+        &[
+            Part::Two(Sign::Equal, 0, 0, 0, 1),
+            Part::Two(Sign::Equal, 0, 1, 1, 0),
+        ],
+        &[
+            Part::Two(Sign::Equal, 0, 0, 0, 1),
+            Part::Two(Sign::Equal, 0, 0, 1, 0),
+        ],
+        &[0, 0],
+    ),
+    // two families are two classes
+    (
+        &[
+            Part::Two(Sign::AbsEqual, 0, 0, 1, 0),
+            Part::One(Sign::Equal, 0, 0, 3),
+        ],
+        &[
+            Part::Two(Sign::AbsEqual, 0, 0, 1, 0),
+            Part::One(Sign::Equal, 0, 0, 3),
+        ],
+        &[0, 0],
+    ),
+    // customers, orders and lines: the number reaches the orders
+    (
+        &[
+            Part::Two(Sign::Equal, 0, 0, 1, 1),
+            Part::Two(Sign::Equal, 1, 0, 2, 0),
+            Part::One(Sign::Equal, 0, 0, 7),
+        ],
+        &[
+            Part::One(Sign::Equal, 0, 0, 7),
+            Part::One(Sign::Equal, 1, 1, 7),
+            Part::Two(Sign::Equal, 1, 0, 2, 0),
+        ],
+        &[0, 0, 0],
+    ),
+];
+
+/// Whether the classes of these conjuncts have these clauses.
+fn are_listed(alloc: Global, row: Row) -> Result<bool, Memory> {
+    let (conjuncts, clauses, numbers) = row;
+    if conjuncts.len() > 32 {
+        return Ok(false);
     }
-    Ok(())
+    let given = Exprs::from_vec(exprs_of(alloc, conjuncts)?);
+    let t = Classes::build(alloc, given, &[], &Wide { value: Value::Null })?;
+    let wanted = exprs_of(alloc, clauses)?;
+    Ok(lists(&t, &wanted, numbers))
+}
+
+/// The first conjuncts with other clauses.
+fn first_wrong<'a>(alloc: Global, rows: &[Row<'a>]) -> Option<&'a [Part]> {
+    for row in rows {
+        if !are_listed(alloc, *row).unwrap_or(false) {
+            return Some(row.0);
+        }
+    }
+    None
+}
+
+#[test]
+fn clauses_of_small_lists(rt: HostRuntime) {
+    assert!(rt; first_wrong(rt.alloc(), &LISTS).is_none());
 }

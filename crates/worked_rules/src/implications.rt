@@ -5,7 +5,6 @@ use pg_expr::{ColRef, Expr, Exprs, Operand};
 use pg_value::{Column, Columns, Op, SqlType, Truth, Value};
 use predicate_proof::{ClauseList, implies};
 use std::alloc::{AllocError, Global};
-use std::test::Fail;
 
 /// No clause, one or two.
 #[derive(Drop)]
@@ -102,92 +101,105 @@ fn columns(alloc: Global) -> Result<Columns, AllocError> {
     ]?))
 }
 
-#[test]
-fn comparisons_with_numbers(rt: HostRuntime) -> Result<(), Fail> {
-    let columns = columns(rt.alloc())?;
-    let cases = [
-        (Op::Lt, 5, Op::Lt, 5, true),
-        (Op::Lt, 5, Op::Lt, 4, false),
-        (Op::Lt, 5, Op::Le, 4, false),
-        (Op::Lt, 5, Op::Ne, 5, true),
-        (Op::Lt, 5, Op::Ge, 0, false),
-        (Op::Le, 5, Op::Lt, 5, false),
-        (Op::Le, 5, Op::Lt, 6, true),
-        (Op::Le, 5, Op::Le, 5, true),
-        (Op::Le, 5, Op::Ne, 5, false),
-        (Op::Eq, 5, Op::Lt, 6, true),
-        (Op::Eq, 5, Op::Le, 5, true),
-        (Op::Eq, 5, Op::Eq, 6, false),
-        (Op::Eq, 5, Op::Ge, 5, true),
-        (Op::Eq, 5, Op::Gt, 5, false),
-        (Op::Eq, 5, Op::Ne, 6, true),
-        (Op::Ge, 10, Op::Gt, 10, false),
-        (Op::Ge, 11, Op::Gt, 10, true),
-        (Op::Gt, 10, Op::Gt, 10, true),
-        (Op::Gt, 10, Op::Ge, 11, false),
-        (Op::Gt, 10, Op::Ne, 10, true),
-        (Op::Ne, 5, Op::Ne, 5, true),
-        (Op::Ne, 5, Op::Lt, 6, false),
-        (Op::AbsLt, -5, Op::AbsLe, 5, true),
-        (Op::AbsEq, -5, Op::AbsEq, 5, true),
-        (Op::AbsLt, 5, Op::Lt, 5, false),
-        (Op::AbsEq, 5, Op::Ne, 6, false),
-    ];
-    for (op, n, other, m, want) in cases {
+/// A comparison of a clause, one of a goal, and whether the first implies the second.
+type Row = (Op, i64, Op, i64, bool);
+
+const COMPARISONS: [Row; 26] = [
+    (Op::Lt, 5, Op::Lt, 5, true),
+    (Op::Lt, 5, Op::Lt, 4, false),
+    (Op::Lt, 5, Op::Le, 4, false),
+    (Op::Lt, 5, Op::Ne, 5, true),
+    (Op::Lt, 5, Op::Ge, 0, false),
+    (Op::Le, 5, Op::Lt, 5, false),
+    (Op::Le, 5, Op::Lt, 6, true),
+    (Op::Le, 5, Op::Le, 5, true),
+    (Op::Le, 5, Op::Ne, 5, false),
+    (Op::Eq, 5, Op::Lt, 6, true),
+    (Op::Eq, 5, Op::Le, 5, true),
+    (Op::Eq, 5, Op::Eq, 6, false),
+    (Op::Eq, 5, Op::Ge, 5, true),
+    (Op::Eq, 5, Op::Gt, 5, false),
+    (Op::Eq, 5, Op::Ne, 6, true),
+    (Op::Ge, 10, Op::Gt, 10, false),
+    (Op::Ge, 11, Op::Gt, 10, true),
+    (Op::Gt, 10, Op::Gt, 10, true),
+    (Op::Gt, 10, Op::Ge, 11, false),
+    (Op::Gt, 10, Op::Ne, 10, true),
+    (Op::Ne, 5, Op::Ne, 5, true),
+    (Op::Ne, 5, Op::Lt, 6, false),
+    (Op::AbsLt, -5, Op::AbsLe, 5, true),
+    (Op::AbsEq, -5, Op::AbsEq, 5, true),
+    (Op::AbsLt, 5, Op::Lt, 5, false),
+    (Op::AbsEq, 5, Op::Ne, 6, false),
+];
+
+/// The first row whose answer is another one, or whose clause implies a comparison of another column.
+fn first_wrong(columns: &Columns, rows: &[Row]) -> Option<Row> {
+    for row in rows {
+        let (op, n, other, m, want) = *row;
         let clauses = Clauses::One(clause(0, op, n));
-        assert_eq!(rt;
-            implies(&clauses, &goal(0, other, m), &columns),
-            want,
-            "{n} {m}"
-        );
-        assert!(rt; !implies(&clauses, &goal(1, other, m), &columns), "{n} {m}");
+        if implies(&clauses, &goal(0, other, m), columns) != want {
+            return Some(*row);
+        }
+        if implies(&clauses, &goal(1, other, m), columns) {
+            return Some(*row);
+        }
     }
-    Ok(())
+    None
 }
 
 #[test]
-fn each_part_of_a_goal(rt: HostRuntime) -> Result<(), Fail> {
-    let columns = columns(rt.alloc())?;
-    let both = joined(rt.alloc(), false, goal(0, Op::Gt, 5), goal(1, Op::Ne, 8))?;
+fn comparisons_with_numbers(rt: HostRuntime) {
+    let columns = columns(rt.alloc()).expect(&rt, "columns");
+    assert!(rt; first_wrong(&columns, &COMPARISONS).is_none());
+}
+
+#[test]
+fn each_part_of_a_goal(rt: HostRuntime) {
+    let columns = columns(rt.alloc()).expect(&rt, "columns");
+    let both = joined(rt.alloc(), false, goal(0, Op::Gt, 5), goal(1, Op::Ne, 8));
+    let both = both.expect(&rt, "a goal");
     let tens = Clauses::Two(clause(0, Op::Gt, 10), clause(1, Op::Eq, 7));
     let ten = Clauses::One(clause(0, Op::Gt, 10));
     assert!(rt; implies(&tens, &given(1), &columns));
     assert!(rt; !implies(&tens, &given(2), &columns));
     assert!(rt; implies(&tens, &both, &columns));
     assert!(rt; !implies(&ten, &both, &columns));
-    Ok(())
+}
+
+/// A number below 0 in one column, and 1 or 2 in another.
+fn alternatives(alloc: Global) -> Result<Clauses, AllocError> {
+    let one_of = joined(alloc, true, clause(0, Op::Eq, 1), clause(0, Op::Eq, 2))?;
+    Ok(Clauses::Two(clause(1, Op::Lt, 0), one_of))
 }
 
 #[test]
-fn each_alternative_of_a_clause(rt: HostRuntime) -> Result<(), Fail> {
-    let columns = columns(rt.alloc())?;
-    let turned = joined(rt.alloc(), true, goal(0, Op::Eq, 2), goal(0, Op::Le, 1))?;
-    let one_of = joined(rt.alloc(), true, clause(0, Op::Eq, 1), clause(0, Op::Eq, 2))?;
-    let clauses = Clauses::Two(clause(1, Op::Lt, 0), one_of);
+fn each_alternative_of_a_clause(rt: HostRuntime) {
+    let columns = columns(rt.alloc()).expect(&rt, "columns");
+    let turned = joined(rt.alloc(), true, goal(0, Op::Eq, 2), goal(0, Op::Le, 1));
+    let turned = turned.expect(&rt, "a goal");
+    let clauses = alternatives(rt.alloc()).expect(&rt, "clauses");
     assert!(rt; implies(&clauses, &goal(0, Op::Lt, 3), &columns));
     assert!(rt; !implies(&clauses, &goal(0, Op::Lt, 2), &columns));
     assert!(rt; implies(&clauses, &turned, &columns));
-    Ok(())
 }
 
 #[test]
-fn nulls_and_no_clauses(rt: HostRuntime) -> Result<(), Fail> {
-    let columns = columns(rt.alloc())?;
+fn nulls_and_no_clauses(rt: HostRuntime) {
+    let columns = columns(rt.alloc()).expect(&rt, "columns");
     let null = Operand::Lit(Value::Null);
     let null = Clauses::One(Expr::Compare(Op::Lt, Operand::Col(column(1, 0)), null));
     let nothing = Clauses::Nothing(Expr::Const(Truth::True));
     assert!(rt; implies(&null, &given(0), &columns));
     assert!(rt; !implies(&null, &goal(0, Op::Le, 5), &columns));
     assert!(rt; !implies(&nothing, &Expr::Const(Truth::True), &columns));
-    Ok(())
 }
 
 #[test]
-fn a_negated_flag_is_its_own_goal(rt: HostRuntime) -> Result<(), Fail> {
-    let columns = columns(rt.alloc())?;
-    let same = not_flag(rt.alloc(), 0)?;
-    let flag = Clauses::One(not_flag(rt.alloc(), 1)?);
+fn a_negated_flag_is_its_own_goal(rt: HostRuntime) {
+    let columns = columns(rt.alloc()).expect(&rt, "columns");
+    let same = not_flag(rt.alloc(), 0).expect(&rt, "a goal");
+    let flag = Clauses::One(not_flag(rt.alloc(), 1).expect(&rt, "a clause"));
     assert!(rt; implies(&flag, &same, &columns));
     assert!(rt; !implies(&flag, &given(2), &columns));
-    Ok(())
 }

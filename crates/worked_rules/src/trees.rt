@@ -10,7 +10,6 @@ use pg_expr::{
 };
 use pg_value::{Op, SqlType, Truth, Value};
 use std::alloc::Global;
-use std::test::Fail;
 
 /// A row whose columns are all of type bool and have one value.
 #[derive(Drop)]
@@ -62,11 +61,11 @@ fn column(rel: u8, col: u8) -> ColRef
 }
 
 #[test]
-fn truths_of_negations(rt: HostRuntime) -> Result<(), Fail> {
+fn truths_of_negations(rt: HostRuntime) {
     let a = column(0, 0);
     let holds = Expr::Compare(Op::Eq, Operand::Col(a), Operand::Lit(Value::Bool(true)));
-    let both = pair(rt.alloc(), holds, Expr::IsNull(a))?;
-    let e = not(rt.alloc(), Expr::And(both))?;
+    let both = pair(rt.alloc(), holds, Expr::IsNull(a)).expect(&rt, "ample memory");
+    let e = not(rt.alloc(), Expr::And(both)).expect(&rt, "ample memory");
     assert_eq!(rt; eval(&e, &Row { value: Value::Null }), Truth::Unknown);
     assert_eq!(rt;
         eval(
@@ -77,13 +76,15 @@ fn truths_of_negations(rt: HostRuntime) -> Result<(), Fail> {
         ),
         Truth::True
     );
-    Ok(())
 }
 
 #[test]
-fn truths_of_alternatives(rt: HostRuntime) -> Result<(), Fail> {
+fn truths_of_alternatives(rt: HostRuntime) {
     let a = column(0, 0);
-    let either = Expr::Or(pair(rt.alloc(), Expr::BoolCol(a), Expr::IsNotNull(a))?);
+    let either = Expr::Or(pair(rt.alloc(), Expr::BoolCol(a), Expr::IsNotNull(a)).expect(
+        &rt,
+        "ample memory",
+    ));
     assert_eq!(rt; eval(&either, &Row { value: Value::Null }), Truth::Unknown);
     assert_eq!(rt;
         eval(
@@ -96,7 +97,6 @@ fn truths_of_alternatives(rt: HostRuntime) -> Result<(), Fail> {
     );
     let row = Row { value: Value::Null };
     assert_eq!(rt; row.typed(a), SqlType::Bool);
-    Ok(())
 }
 
 /// Two columns of two relations, and 5.
@@ -131,39 +131,42 @@ fn alternatives(alloc: Global) -> Result<Expr, Memory> {
 }
 
 #[test]
-fn pushed_forms(rt: HostRuntime) -> Result<(), Fail> {
-    let e = negated(rt.alloc())?;
+fn pushed_forms(rt: HostRuntime) {
+    let e = negated(rt.alloc()).expect(&rt, "ample memory");
     assert_eq!(rt; ops(&e), 3);
-    let copied = e.copy(rt.alloc())?;
+    let copied = e.copy(rt.alloc()).expect(&rt, "ample memory");
     assert!(rt; is_same(&copied, &e));
-    let pushed = push_not(rt.alloc(), e)?;
-    let expected = alternatives(rt.alloc())?;
+    let pushed = push_not(rt.alloc(), e).expect(&rt, "ample memory");
+    let expected = alternatives(rt.alloc()).expect(&rt, "ample memory");
     assert!(rt; is_same(&pushed, &expected));
     assert!(rt; !is_same(&pushed, &copied));
-    Ok(())
 }
 
 #[test]
-fn operands_are_copied(rt: HostRuntime) -> Result<(), Fail> {
-    let copied = left().copy(rt.alloc())?;
+fn operands_are_copied(rt: HostRuntime) {
+    let copied = left().copy(rt.alloc()).expect(&rt, "ample memory");
     let one = Expr::Compare(Op::Eq, copied, five());
     assert!(rt; is_same(&one, &Expr::Compare(Op::Eq, left(), five())));
-    Ok(())
 }
 
 #[test]
-fn conjuncts_in_order(rt: HostRuntime) -> Result<(), Fail> {
+fn conjuncts_in_order(rt: HostRuntime) {
     let tests = [column(0, 0), column(0, 1), column(1, 0)];
-    let first = pair(rt.alloc(), Expr::IsNull(tests[0]), Expr::IsNull(tests[1]))?;
-    let e = Expr::And(pair(rt.alloc(), Expr::And(first), Expr::IsNull(tests[2]))?);
-    let list = conjuncts(rt.alloc(), e)?;
+    let first = pair(rt.alloc(), Expr::IsNull(tests[0]), Expr::IsNull(tests[1])).expect(
+        &rt,
+        "ample memory",
+    );
+    let e = Expr::And(pair(rt.alloc(), Expr::And(first), Expr::IsNull(tests[2])).expect(
+        &rt,
+        "ample memory",
+    ));
+    let list = conjuncts(rt.alloc(), e).expect(&rt, "ample memory");
     assert_eq!(rt; list.items().len(), 3);
     for (part, c) in list.items().iter().zip(tests) {
         assert!(rt; is_same(part, &Expr::IsNull(c)));
     }
-    let copied = list.copy(rt.alloc())?;
+    let copied = list.copy(rt.alloc()).expect(&rt, "ample memory");
     assert!(rt; is_same(&Expr::And(copied), &Expr::And(list)));
-    Ok(())
 }
 
 #[test]

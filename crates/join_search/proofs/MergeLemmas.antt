@@ -1,12 +1,12 @@
 -- Merge joins of two sets: in the plan space, with their cost, and dominated by those of the cheapest sides.
 use Rattle.std.proofs.Common.{◌≡◌, ◌⊎◌, ◌<◌, ◌≤◌, ℕ, ◌-◌, ◌^◌, true, false, not, ◌||◌, ◌&&◌, Bool, cond, List, [], length, map, min, inl, inr, refl, sym, ◌∙◌, ap, ap₂, subst, subst₂, le_refl, arith}
-use Rattle.std.specs.Prelude.{All, Contains, None}
+use Rattle.std.specs.Prelude.{All, Contains}
 use Rattle.std.proofs.lemmas.Bool.{cases_lt, true≢false}
 use Rattle.std.proofs.lemmas.List.Elements.{All-contains, All-contains_itself, All-map, All-nil, All-weaker}
 use Rattle.pg_base.specs.Sets.{has}
 use Rattle.pg_base.specs.declared.rel_set.RelSet.{RelSet}
 use Rattle.catalog.specs.Contents.{Contents}
-use Rattle.cost_rules.specs.Costs.{capped, capped_pair, merge_cost, pair, sort_cost}
+use Rattle.cost_rules.specs.Costs.{IsAtMost, capped, capped_pair, merge_cost, sort_cost}
 use Rattle.cost_rules.specs.declared.pair.Pair.{Pair}
 use Rattle.cost_rules.specs.declared.parameters.TheConstants.{MOST_COST}
 use Rattle.eq_classes.specs.Clauses.{Set}
@@ -16,14 +16,14 @@ use Rattle.path_cost.specs.Estimates.{conditions_where, is_pair_of, pairs, set_r
 use Rattle.pathkeys.specs.Keys.{Keys, covers}
 use Rattle.pathkeys.proofs.CoveringLemmas.{covers-refl}
 use Rattle.sql_query.specs.Queries.{Query}
-use Rattle.plan_tree.specs.Costs.{cost, estimate, merge_operators}
-use Rattle.plan_tree.specs.Fronts.{IsServed, StayDominated}
+use Rattle.plan_tree.specs.Costs.{HaveRows, cost, estimate, merge_operators}
+use Rattle.plan_tree.specs.Fronts.{HasDominating, IsServed, StayDominated}
 use Rattle.plan_tree.specs.Keys.{keys_of}
-use Rattle.plan_tree.specs.Least.{IsAdmissible}
-use Rattle.plan_tree.specs.Paths.{Path}
+use Rattle.plan_tree.specs.Least.{IsAdmissible, IsStartupAtMost}
+use Rattle.plan_tree.specs.Paths.{Path, kept_cost, startup_kept}
 use Rattle.plan_tree.specs.Plans.{Plan, seq, index, index_only, bitmap, sort, nest, merge, empty, is_sort, param_of, set_of}
 use Rattle.plan_tree.specs.Space.{HasKeys, IsBuilt, IsEmpty, IsLike, IsMergeList, IsPlanOf, IsSameSet}
-use Rattle.plan_tree.proofs.BoundLemmas.{merge-most}
+use Rattle.plan_tree.proofs.BoundLemmas.{merge-most, startup-most}
 use Rattle.plan_tree.proofs.DominationLemmas.{dominates-trans}
 use Rattle.plan_tree.specs.Views.{path}
 use Rattle.plan_tree.specs.declared.path.Path.{Path as Costed}
@@ -32,14 +32,15 @@ use Rattle.plan_tree.proofs.JoinLemmas.{merge_costs}
 use Rattle.plan_tree.proofs.LikeLemmas.{set-like}
 use Rattle.plan_tree.proofs.ReplacingLemmas.{merge-totals, sort-totals}
 use Rattle.kept_paths.specs.Bounds.{IsBeaten}
+use Rattle.plan_tree.proofs.WindowLemmas.{kept-least, kept-most, kept-rises, merge-kept, sort-kept, startup-both, startup-from}
 use Rattle.join_search.specs.Tables.{Fronts, none}
 use Rattle.join_search.specs.Joins.{ArePlaced, IsJoinOfKept, IsKept, IsPathAt, IsPlanIn, IsSideIn, IsSideKept}
-use Rattle.join_search.specs.Merges.{AreOutersServed, ArePlainServed, IsBestSide, IsCheapestBy, IsMergeWork, IsSideOf, cost_by, side_of}
+use Rattle.join_search.specs.Merges.{AreEarlyServed, AreOutersServed, ArePlainEarlyServed, ArePlainServed, IsBestSide, IsCheapestBy, IsMergeWork, IsSideOf, cost_by, side_of}
 use Rattle.join_search.specs.Offers.{AreMergesServed, IsCheapest}
 use Rattle.join_search.specs.Splits.{IsSplit}
 use Rattle.join_search.specs.declared.merges.MergeWork.{MergeWork}
 use Rattle.join_search.specs.declared.splits.Split.{Split}
-use Rattle.join_search.proofs.OfferLemmas.{beaten-dominated, cheapest-of, no-startup, served-later}
+use Rattle.join_search.proofs.OfferLemmas.{beaten-dominated, cheapest-of, served-later}
 use Rattle.join_search.proofs.ItemLemmas.{there-kept, plan-of-none, side-of-none}
 use Rattle.join_search.proofs.PlanLemmas.{at-none, at-set, sets-same, whole-rows}
 
@@ -128,16 +129,16 @@ module _ (c : Contents) (q : Query) where
   side-whole keys s p b at k = ap (λ (x : Set). x k) (side-param keys p.tree b) ∙ at-none c q s p at k
 
   -- what a side costs
-  pub side-sorted : (s : RelSet) (p : Path) (keys : Keys) (rows : ℕ) (b : Bool) → IsPathAt c q s none p → rows ≡ set_rows c q.range q.classes (has s.0) → b ≡ true → (capped_pair (sort_cost (pair 0 p.cost) rows)).total ≡ capped (cost c q (side_of keys p.tree b)).total
+  pub side-sorted : (s : RelSet) (p : Path) (keys : Keys) (rows : ℕ) (b : Bool) → IsPathAt c q s none p → rows ≡ set_rows c q.range q.classes (has s.0) → b ≡ true →
+      kept_cost q.window (capped_pair (sort_cost (capped_pair (kept_cost q.window (cost c q p.tree))) rows)) ≡ capped_pair (kept_cost q.window (cost c q (side_of keys p.tree b)))
   side-sorted s p keys rows true at same e =
       let as-set : has s.0 ≡ set_of p.tree = sets-same (has s.0) (set_of p.tree) (at-set c q s none p at) in
-      ap (λ n. capped (sort_cost (pair 0 n) rows).total) at.is_path.numbers.cost
-      ∙ ap (λ n. capped (sort_cost (pair 0 (cost c q p.tree).total) n).total) (same ∙ ap (set_rows c q.range q.classes) as-set)
+      sort-kept q.window (cost c q p.tree) rows ∙ ap (λ n. capped_pair (kept_cost q.window (sort_cost (cost c q p.tree) n))) (same ∙ ap (set_rows c q.range q.classes) as-set)
   side-sorted s p keys rows false at same e = absurd (true≢false (sym e))
 
-  pub side-plain : (s : RelSet) (p : Path) (keys : Keys) (b : Bool) → IsPathAt c q s none p → b ≡ false → p.cost ≡ capped (cost c q (side_of keys p.tree b)).total
-  side-plain s p keys false at e = omega (arith, at.is_path.numbers.cost, at.admissible)
-  side-plain s p keys true at e = absurd (true≢false e)
+  pub side-plain : (p : Path) (keys : Keys) (b : Bool) → b ≡ false → capped_pair (kept_cost q.window (cost c q p.tree)) ≡ capped_pair (kept_cost q.window (cost c q (side_of keys p.tree b)))
+  side-plain p keys false e = refl
+  side-plain p keys true e = absurd (true≢false e)
 
   -- the merge of two sides is a plan of their sets
   pub merge-plan : (j : Split) (keys : Keys) (o i : Path) (bo bi : Bool) → IsSplit c q j → IsMergeList c q (has j.outer.0) (has j.inner.0) keys → IsPathAt c q j.outer none o → IsPathAt c q j.inner none i →
@@ -165,10 +166,10 @@ module _ (c : Contents) (q : Query) where
       }
 
   -- and costs as much
-  pub merge-total : (j : Split) (keys : Keys) (o i : Path) (bo bi : Bool) (w : MergeWork) (oc ic len : ℕ) (result : Pair) → IsSplit c q j → IsPathAt c q j.outer none o → IsPathAt c q j.inner none i → IsMergeWork c q j keys w →
-      oc ≡ capped (cost c q (side_of keys o.tree bo)).total → ic ≡ capped (cost c q (side_of keys i.tree bi)).total → len ≡ length keys →
-      result ≡ capped_pair (merge_cost (pair 0 oc) (pair 0 ic) j.outer_rows j.inner_rows len w.pairs w.ops) → result.total ≡ capped (cost c q (merge keys (side_of keys o.tree bo) (side_of keys i.tree bi))).total
-  merge-total j keys o i bo bi w oc ic len result split outer inner work eo ei el e =
+  pub merge-cost : (j : Split) (keys : Keys) (o i : Path) (bo bi : Bool) (w : MergeWork) (x y : Pair) (len : ℕ) (result : Pair) → IsSplit c q j → IsPathAt c q j.outer none o → IsPathAt c q j.inner none i → IsMergeWork c q j keys w →
+      x ≡ capped_pair (kept_cost q.window (cost c q (side_of keys o.tree bo))) → y ≡ capped_pair (kept_cost q.window (cost c q (side_of keys i.tree bi))) → len ≡ length keys →
+      result ≡ capped_pair (merge_cost x y j.outer_rows j.inner_rows len w.pairs w.ops) → result ≡ capped_pair (kept_cost q.window (cost c q (merge keys (side_of keys o.tree bo) (side_of keys i.tree bi))))
+  merge-cost j keys o i bo bi w x y len result split outer inner work ex ey el e =
       let t = side_of keys o.tree bo in
       let u = side_of keys i.tree bi in
       let reads = side-reads keys j.outer o bo outer in
@@ -177,12 +178,15 @@ module _ (c : Contents) (q : Query) where
       let rows' : j.inner_rows ≡ estimate c q u = split.inner_rows ∙ whole-rows c q j.inner u reads' (side-whole keys j.inner i bi inner) in
       let as-set : has j.outer.0 ≡ set_of t = sets-same (has j.outer.0) (set_of t) reads in
       let as-set' : has j.inner.0 ≡ set_of u = sets-same (has j.inner.0) (set_of u) reads' in
-      let equal : w.pairs ≡ pairs c q.range q.classes (set_of t) (set_of u) keys = work.pairs ∙ (λ x. pairs c q.range q.classes (as-set x) (as-set' x) keys) in
+      let equal : w.pairs ≡ pairs c q.range q.classes (set_of t) (set_of u) keys = work.pairs ∙ (λ z. pairs c q.range q.classes (as-set z) (as-set' z) keys) in
       let ops : w.ops ≡ min (merge_operators q keys t u) (2 ^ 64 - 1) =
-      work.ops ∙ (λ x. min (operators (conditions_where (λ k. is_join (as-set x) (as-set' x) k && not (is_pair_of keys k)) q.classes.clauses)) (2 ^ 64 - 1)) in
-      ap (λ (p : Pair). p.total)
-      (merge_costs result (pair 0 oc) (pair 0 ic) j.outer_rows j.inner_rows len w.pairs w.ops (estimate c q t) (estimate c q u) (length keys) (pairs c q.range q.classes (set_of t) (set_of u) keys) (merge_operators q keys t u)
-      e rows rows' el equal ops work.estimate.some (pair 0 (cost c q t).total) (pair 0 (cost c q u).total) (ap (pair 0) eo) (ap (pair 0) ei))
+      work.ops ∙ (λ z. min (operators (conditions_where (λ k. is_join (as-set z) (as-set' z) k && not (is_pair_of keys k)) q.classes.clauses)) (2 ^ 64 - 1)) in
+      let a = cost c q t in
+      let b = cost c q u in
+      let equal-rows = pairs c q.range q.classes (set_of t) (set_of u) keys in
+      merge_costs result x y j.outer_rows j.inner_rows len w.pairs w.ops (estimate c q t) (estimate c q u) (length keys) equal-rows (merge_operators q keys t u)
+      e rows rows' el equal ops work.estimate.some (kept_cost q.window a) (kept_cost q.window b) ex ey
+      ∙ ap capped_pair (merge-kept q.window a b (estimate c q t) (estimate c q u) (length keys) equal-rows (merge_operators q keys t u))
 
   -- a side is a sort by the list of a path's plan, or a path's plan whose keys begin with the list
   side-cases : (paths : List Path) (keys : Keys) (t : Plan) → IsSideIn paths t → HasKeys c q t keys → ((x : Plan) × IsPlanIn paths x × (t ≡ sort keys x)) ⊎ (IsPlanIn paths t × (covers (keys_of c q t) keys ≡ true))
@@ -206,9 +210,10 @@ module _ (c : Contents) (q : Query) where
       record { set = λ n. sym (side-reads keys s p b is n) ∙ r.0 n; param = λ n. side-whole keys s p b is n ∙ sym (r.1 n) }
 
   -- a join with sides of the same sets that cost no more, and keys that begin with the outer side's, serves another
-  pub replaced : q.window ≡ None → (front : List Path) (keys : Keys) (o p i j : Plan) → IsLike p o → IsLike j i → (cost c q p).total ≤ (cost c q o).total → (cost c q j).total ≤ (cost c q i).total → IsBuilt c q p → IsBuilt c q j →
+  pub replaced : (front : List Path) (keys : Keys) (o p i j : Plan) → IsLike p o → IsLike j i → (cost c q p).total ≤ (cost c q o).total → (cost c q j).total ≤ (cost c q i).total →
+      IsStartupAtMost q.window (cost c q p).startup (cost c q o).startup → IsStartupAtMost q.window (cost c q j).startup (cost c q i).startup → IsBuilt c q p → IsBuilt c q j →
       HasKeys c q p keys → HasKeys c q j keys → covers (keys_of c q p) (keys_of c q o) ≡ true → IsServed c q front (merge keys p j) → IsServed c q front (merge keys o i)
-  replaced window front keys o p i j lp lj tp tj bp bj hp hj kp served built admissible =
+  replaced front keys o p i j lp lj tp tj sp sj bp bj hp hj kp served built admissible =
       let most = merge-totals c q keys p o j i lp lj tp tj in
       let n = built.2 in
       let again : IsBuilt c q (merge keys p j) = (
@@ -229,27 +234,46 @@ module _ (c : Contents) (q : Query) where
         dominates = dominates-trans c q found.path.tree (merge keys p j) (merge keys o i) found.dominates (record {
           like = record { set = λ k. ap₂ (λ x y. x || y) (lp.set k) (lj.set k); param = λ k. refl };
           total = most;
-          startup = no-startup q.window _ _ window;
+          startup = startup-both q.window (cost c q p).startup (cost c q o).startup (cost c q j).startup (cost c q i).startup sp sj;
           keys = kp;
         });
       }
 
-  -- where the merges of all outer sides with the best inner one are served, those with any inner side are
-  pub merges-served : q.window ≡ None → (front outers inners : List Path) (keys : Keys) (b : RelSet) (p : Path) (sorted : Bool) → All (IsPathAt c q b none) inners → IsBestSide c q keys inners p sorted →
-      AreOutersServed c q front outers keys (side_of keys p.tree sorted) → AreMergesServed c q front outers inners keys
-  merges-served window front outers inners keys b p sorted at best served o i so si built admissible =
-      let is = All-contains (IsPathAt c q b none) inners p at best.side.is_there in
-      let n = built.2 in
-      let below = merge-most c q keys o i in
-      let least = best.least i si built.1 n.inner_keys (omega (arith, below.1, admissible)) in
+  startup-refl : (t : Plan) → IsStartupAtMost q.window (cost c q t).startup (cost c q t).startup
+  startup-refl t = startup-from q.window (cost c q t).startup (cost c q t).startup (le_refl (cost c q t).startup)
+
+  -- where the merges of all outer sides with an inner side are served, so are those with one that costs no less
+  inner-replaced : (front outers inners : List Path) (keys : Keys) (b : RelSet) (p : Path) (sorted : Bool) (i : Plan) → All (IsPathAt c q b none) inners → IsSideOf keys inners p sorted → IsSideIn inners i → HasKeys c q i keys →
+      (cost c q (side_of keys p.tree sorted)).total ≤ (cost c q i).total → IsStartupAtMost q.window (cost c q (side_of keys p.tree sorted)).startup (cost c q i).startup →
+      AreOutersServed c q front outers keys (side_of keys p.tree sorted) → AreOutersServed c q front outers keys i
+  inner-replaced front outers inners keys b p sorted i at side si has total startup served o so built admissible =
+      let is = All-contains (IsPathAt c q b none) inners p at side.is_there in
       let own : IsLike o o = record { set = λ k. refl; param = λ k. refl } in
-      replaced window front keys o o i (side_of keys p.tree sorted) own (like is i (side-cases inners keys i si n.inner_keys)) (le_refl (cost c q o).total) least built.0
-      (side-built keys p.tree sorted is.is_path.plan.built is.is_path.plan.plain) n.outer_keys
-      (side-has keys p sorted is.is_path.plan.plain is.is_path.numbers.keys best.side.begins) (covers-refl (keys_of c q o)) (served o so) built admissible
+      replaced front keys o o i (side_of keys p.tree sorted) own (like is i (side-cases inners keys i si has)) (le_refl (cost c q o).total) total (startup-refl o) startup built.0
+      (side-built keys p.tree sorted is.is_path.plan.built is.is_path.plan.plain) built.2.outer_keys
+      (side-has keys p sorted is.is_path.plan.plain is.is_path.numbers.keys side.begins) (covers-refl (keys_of c q o)) (served o so) built admissible
     where
       like : IsPathAt c q b none p → (i : Plan) → ((x : Plan) × IsPlanIn inners x × (i ≡ sort keys x)) ⊎ (IsPlanIn inners i × (covers (keys_of c q i) keys ≡ true)) → IsLike (side_of keys p.tree sorted) i
       like is i (inl (x, k, e)) = subst (IsLike (side_of keys p.tree sorted)) (sym e) (let l = path-like keys b inners p sorted x at is k in record { set = l.set; param = l.param })
       like is i (inr (k, h)) = path-like keys b inners p sorted i at is k
+
+  -- where the merges of all outer sides with the best inner one are served, and those with each that starts earlier, those with
+  -- any inner side are
+  pub merges-served : HaveRows c q → (front outers inners : List Path) (keys : Keys) (b : RelSet) (p : Path) (sorted : Bool) (n : Pair) → All (IsPathAt c q b none) inners → IsBestSide c q keys inners p sorted →
+      n ≡ capped_pair (kept_cost q.window (cost c q (side_of keys p.tree sorted))) →
+      AreOutersServed c q front outers keys (side_of keys p.tree sorted) → AreEarlyServed c q front outers inners keys n.startup → AreMergesServed c q front outers inners keys
+  merges-served some front outers inners keys b p sorted n at best e served early o i so si built admissible = by (cases_lt (startup_kept q.window (cost c q i).startup) n.startup)
+    where
+      by : (startup_kept q.window (cost c q i).startup < n.startup) ⊎ (n.startup ≤ startup_kept q.window (cost c q i).startup) → HasDominating c q front (merge keys o i)
+      by (inl lt) = early i si built.2.inner_keys lt o so built admissible
+      by (inr le) =
+          let below = merge-most c q keys o i in
+          let most = startup-most c q some i in
+          let kept = kept-least q.window (cost c q i).startup in
+          let cut = ap (λ (x : Pair). x.startup) e in
+          let least = best.least i si built.1 built.2.inner_keys (omega (arith, below.1, admissible)) in
+          inner-replaced front outers inners keys b p sorted i at best.side si built.2.inner_keys least
+          (kept-most q.window (cost c q (side_of keys p.tree sorted)).startup (cost c q i).startup (omega (arith, cut, le, kept, most, below.1, admissible))) served o so built admissible
 
   -- the outer sides: paths whose keys begin with the list, and sorts
   pub outers-served : (front outers : List Path) (keys : Keys) (a : RelSet) (i : Plan) → All (IsPathAt c q a none) outers → ArePlainServed c q front keys i outers → ((o : Plan) → IsPlanIn outers o → IsServed c q front (merge keys (sort keys o) i)) → AreOutersServed c q front outers keys i
@@ -263,30 +287,63 @@ module _ (c : Contents) (q : Query) where
           let one = All-contains (λ (x : Path). covers x.keys keys ≡ true → IsServed c q front (merge keys x.tree i)) outers k.path plain k.is_there begins in
           subst (λ t. IsServed c q front (merge keys t i)) k.is_plan one
 
-  -- the cheapest outer path sorted serves the others sorted
-  pub sorted-served : q.window ≡ None → (front outers : List Path) (keys : Keys) (a : RelSet) (p : Path) (i : Plan) → All (IsPathAt c q a none) outers → IsCheapest outers p → IsServed c q front (merge keys (sort keys p.tree) i) →
-      (o : Plan) → IsPlanIn outers o → IsServed c q front (merge keys (sort keys o) i)
-  sorted-served window front outers keys a p i at cheapest served o k built admissible =
-      let is = All-contains (IsPathAt c q a none) outers p at cheapest.is_there in
-      let is' = All-contains (IsPathAt c q a none) outers k.path at k.is_there in
-      let least = All-contains (λ (e : Path). p.cost ≤ e.cost) outers k.path cheapest.least k.is_there in
-      let like = path-like keys a outers p false o at is k in
+  -- a sort of the cheapest path costs no more than other sorts, neither before its first row nor in all
+  sorts-most : (keys : Keys) (a : RelSet) (paths : List Path) (p : Path) (o : Plan) → All (IsPathAt c q a none) paths → IsCheapest paths p → IsPlanIn paths o → IsAtMost (cost c q (sort keys p.tree)) (cost c q (sort keys o))
+  sorts-most keys a paths p o at cheapest k =
+      let is = All-contains (IsPathAt c q a none) paths p at cheapest.is_there in
+      let is' = All-contains (IsPathAt c q a none) paths k.path at k.is_there in
+      let least = All-contains (λ (e : Path). p.cost ≤ e.cost) paths k.path cheapest.least k.is_there in
       let total : (cost c q p.tree).total ≤ (cost c q o).total = subst₂ (λ m n. m ≤ n) is.is_path.numbers.cost (is'.is_path.numbers.cost ∙ ap (λ (t : Plan). (cost c q t).total) k.is_plan) least in
+      sort-totals c q keys p.tree o (path-like keys a paths p false o at is k) total
+
+  -- the cheapest outer path sorted serves the others sorted
+  pub sorted-served : (front outers : List Path) (keys : Keys) (a : RelSet) (p : Path) (i : Plan) → All (IsPathAt c q a none) outers → IsCheapest outers p → IsServed c q front (merge keys (sort keys p.tree) i) →
+      (o : Plan) → IsPlanIn outers o → IsServed c q front (merge keys (sort keys o) i)
+  sorted-served front outers keys a p i at cheapest served o k built admissible =
+      let is = All-contains (IsPathAt c q a none) outers p at cheapest.is_there in
+      let like = path-like keys a outers p false o at is k in
+      let most = sorts-most keys a outers p o at cheapest k in
       let own : IsLike i i = record { set = λ n. refl; param = λ n. refl } in
-      replaced window front keys (sort keys o) (sort keys p.tree) i i (record { set = like.set; param = like.param }) own (sort-totals c q keys p.tree o like total).total (le_refl (cost c q i).total) (is.is_path.plan.built, is.is_path.plan.plain) built.1
+      replaced front keys (sort keys o) (sort keys p.tree) i i (record { set = like.set; param = like.param }) own most.total (le_refl (cost c q i).total)
+      (startup-from q.window (cost c q (sort keys p.tree)).startup (cost c q (sort keys o)).startup most.startup) (startup-refl i) (is.is_path.plan.built, is.is_path.plan.plain) built.1
       refl built.2.inner_keys (covers-refl keys) served built admissible
+
+  -- the inner sides that start before a cost: paths whose keys begin with the list, and sorts, of which that of the cheapest path is first
+  pub early-served : (front outers inners : List Path) (keys : Keys) (b : RelSet) (p : Path) (startup : ℕ) → All (IsPathAt c q b none) inners → IsCheapest inners p → ArePlainEarlyServed c q front outers keys startup inners →
+      (startup_kept q.window (cost c q (sort keys p.tree)).startup < startup → AreOutersServed c q front outers keys (sort keys p.tree)) → AreEarlyServed c q front outers inners keys startup
+  early-served front outers inners keys b p startup at cheapest plain sorted i si has lt = by (side-cases inners keys i si has)
+    where
+      by : ((x : Plan) × IsPlanIn inners x × (i ≡ sort keys x)) ⊎ (IsPlanIn inners i × (covers (keys_of c q i) keys ≡ true)) → AreOutersServed c q front outers keys i
+      by (inl (x, k, e)) =
+          let most = sorts-most keys b inners p x at cheapest k in
+          let same : cost c q (sort keys x) ≡ cost c q i = ap (cost c q) (sym e) in
+          let total = subst (λ (n : Pair). (cost c q (sort keys p.tree)).total ≤ n.total) same most.total in
+          let start = subst (λ (n : Pair). (cost c q (sort keys p.tree)).startup ≤ n.startup) same most.startup in
+          let rises = kept-rises q.window (cost c q (sort keys p.tree)).startup (cost c q i).startup start in
+          inner-replaced front outers inners keys b p true i at (record { is_there = cheapest.is_there; begins = λ f. absurd (true≢false f) }) si has total
+          (startup-from q.window (cost c q (sort keys p.tree)).startup (cost c q i).startup start) (sorted (omega (arith, rises, lt)))
+      by (inr (k, h)) =
+          let is = All-contains (IsPathAt c q b none) inners k.path at k.is_there in
+          let begins : covers k.path.keys keys ≡ true = ap (λ ks. covers ks keys) (is.is_path.numbers.keys ∙ ap (keys_of c q) k.is_plan) ∙ h in
+          let starts : k.path.startup ≡ startup_kept q.window (cost c q i).startup = is.is_path.numbers.startup ∙ ap (λ (t : Plan). startup_kept q.window (cost c q t).startup) k.is_plan in
+          let one = All-contains (λ (x : Path). covers x.keys keys ≡ true → x.startup < startup → AreOutersServed c q front outers keys x.tree) inners k.path plain k.is_there begins (omega (arith, starts, lt)) in
+          subst (AreOutersServed c q front outers keys) k.is_plan one
+
+  pub early-none : (front outers inners : List Path) (keys : Keys) (startup : ℕ) → inners ≡ [] → AreEarlyServed c q front outers inners keys startup
+  early-none front outers inners keys startup e i si has lt = absurd (side-of-none inners i e si)
+
+  pub outers-later : (old new outers : List Path) (keys : Keys) (i : Plan) → StayDominated c q old new → AreOutersServed c q old outers keys i → AreOutersServed c q new outers keys i
+  outers-later old new outers keys i still h o so = served-later c q old new (merge keys o i) still (h o so)
+
+  pub plain-early-later : (old new outers inners : List Path) (keys : Keys) (startup : ℕ) → StayDominated c q old new → ArePlainEarlyServed c q old outers keys startup inners → ArePlainEarlyServed c q new outers keys startup inners
+  plain-early-later old new outers inners keys startup still h =
+      All-weaker (λ (i : Path). covers i.keys keys ≡ true → i.startup < startup → AreOutersServed c q old outers keys i.tree) (λ (i : Path). covers i.keys keys ≡ true → i.startup < startup → AreOutersServed c q new outers keys i.tree)
+      (λ i k e lt. outers-later old new outers keys i.tree still (k e lt)) inners h
 
   -- the best of all sides
   module _ (keys : Keys) (b : RelSet) (paths : List Path) (at : All (IsPathAt c q b none) paths) (p : Path) (cheapest : IsCheapest paths p) where
-    is-p : IsPathAt c q b none p
-    is-p = All-contains (IsPathAt c q b none) paths p at cheapest.is_there
-
     sorts-least : (x : Plan) → IsPlanIn paths x → (cost c q (sort keys p.tree)).total ≤ (cost c q (sort keys x)).total
-    sorts-least x k =
-        let is' = All-contains (IsPathAt c q b none) paths k.path at k.is_there in
-        let least = All-contains (λ (e : Path). p.cost ≤ e.cost) paths k.path cheapest.least k.is_there in
-        let total : (cost c q p.tree).total ≤ (cost c q x).total = subst₂ (λ m n. m ≤ n) is-p.is_path.numbers.cost (is'.is_path.numbers.cost ∙ ap (λ (t : Plan). (cost c q t).total) k.is_plan) least in
-        (sort-totals c q keys p.tree x (path-like keys b paths p false x at is-p k) total).total
+    sorts-least x k = (sorts-most keys b paths p x at cheapest k).total
 
     plain-cost : (t : Plan) (k : IsPlanIn paths t) → k.path.cost ≡ (cost c q t).total
     plain-cost t k = (All-contains (IsPathAt c q b none) paths k.path at k.is_there).is_path.numbers.cost ∙ ap (λ (u : Plan). (cost c q u).total) k.is_plan
@@ -371,9 +428,9 @@ module _ (c : Contents) (q : Query) where
     pub sides-kept : IsJoinOfKept fronts (merge keys (side_of keys o.tree bo) (side_of keys i.tree bi))
     sides-kept = (kept-side j.outer o bo outer.is_there outer-at.is_path.plan.plain, kept-side j.inner i bi inner.is_there inner-at.is_path.plan.plain)
 
-    pub sides-beaten : (front : List Path) (n : ℕ) (ks : Keys) → All (IsPathAt c q j.set none) front → n ≡ capped (cost c q (merge keys (side_of keys o.tree bo) (side_of keys i.tree bi))).total → ks ≡ cond bo keys o.keys → q.window ≡ None → IsBeaten front n ks → IsServed c q front (merge keys (side_of keys o.tree bo) (side_of keys i.tree bi))
-    sides-beaten front n ks paths e k window beaten built admissible =
-        beaten-dominated c q j.set front (merge keys (side_of keys o.tree bo) (side_of keys i.tree bi)) n ks paths sides-plan (omega (arith, e, admissible)) (k ∙ side-keys keys o bo outer-at.is_path.numbers.keys) window beaten
+    pub sides-beaten : (front : List Path) (n : Pair) (ks : Keys) → All (IsPathAt c q j.set none) front → n ≡ capped_pair (kept_cost q.window (cost c q (merge keys (side_of keys o.tree bo) (side_of keys i.tree bi)))) → ks ≡ cond bo keys o.keys → IsBeaten front n ks → IsServed c q front (merge keys (side_of keys o.tree bo) (side_of keys i.tree bi))
+    sides-beaten front n ks paths e k beaten built admissible =
+        beaten-dominated c q j.set front (merge keys (side_of keys o.tree bo) (side_of keys i.tree bi)) n ks paths sides-plan e (k ∙ side-keys keys o bo outer-at.is_path.numbers.keys) beaten
 
     pub sides-keys : (ks : Keys) → ks ≡ cond bo keys o.keys → ks ≡ keys_of c q (merge keys (side_of keys o.tree bo) (side_of keys i.tree bi))
     sides-keys ks k = k ∙ side-keys keys o bo outer-at.is_path.numbers.keys

@@ -1,13 +1,13 @@
 -- Nested loops of two sets: in the plan space, with their cost, and dominated by those with the cheapest inner path.
-use Rattle.std.proofs.Common.{◌≡◌, ◌<◌, ◌≤◌, ℕ, ◌-◌, ◌^◌, ◌||◌, List, [], min, refl, sym, ◌∙◌, ap, ap₂, subst, subst₂, le_refl, arith}
+use Rattle.std.proofs.Common.{◌≡◌, ◌⊎◌, ◌<◌, ◌≤◌, ◌-◌, ◌^◌, ◌||◌, List, [], min, inl, inr, refl, sym, ◌∙◌, ap, ap₂, subst, subst₂, le_refl, arith}
 use Rattle.std.specs.Prelude.{All, Contains, Option, None, Some}
-use Rattle.std.proofs.lemmas.List.Elements.{All-contains}
+use Rattle.std.proofs.lemmas.Bool.{cases_lt}
+use Rattle.std.proofs.lemmas.List.Elements.{All-contains, All-weaker}
 use Rattle.pg_base.specs.Sets.{has}
 use Rattle.pg_base.specs.declared.rel_set.RelSet.{RelSet}
 use Rattle.catalog.specs.Contents.{Contents}
-use Rattle.cost_rules.specs.Costs.{capped, capped_pair, nest_cost, pair}
+use Rattle.cost_rules.specs.Costs.{capped_pair, nest_cost}
 use Rattle.cost_rules.specs.declared.pair.Pair.{Pair}
-use Rattle.cost_rules.specs.declared.parameters.TheConstants.{MOST_COST}
 use Rattle.eq_classes.specs.Clauses.{Set}
 use Rattle.eq_classes.specs.Holding.{IsWithin}
 use Rattle.path_cost.specs.Costs.{operators}
@@ -17,29 +17,26 @@ use Rattle.sql_query.specs.Queries.{Query}
 use Rattle.plan_tree.specs.Costs.{cost, estimate, join_operators}
 use Rattle.plan_tree.specs.Fronts.{IsServed, StayDominated}
 use Rattle.plan_tree.specs.Keys.{keys_of}
-use Rattle.plan_tree.specs.Paths.{Path}
+use Rattle.plan_tree.specs.Paths.{Path, kept_cost}
 use Rattle.plan_tree.specs.Plans.{Plan, empty, joins, nest, param_of, set_of}
 use Rattle.plan_tree.specs.Space.{IsBuilt, IsLike, IsPlanOf}
 use Rattle.plan_tree.specs.declared.path.Path.{Path as Costed}
 use Rattle.plan_tree.proofs.DominationLemmas.{dominates-trans}
 use Rattle.plan_tree.proofs.JoinLemmas.{nest_costs}
 use Rattle.plan_tree.proofs.ReplacingLemmas.{nest-totals}
+use Rattle.plan_tree.proofs.WindowLemmas.{kept-most, nest-kept, startup-both, startup-from}
 use Rattle.join_search.specs.Tables.{Fronts, front_at, none, params_of, paths_at, paths_of}
 use Rattle.join_search.specs.Joins.{ArePlaced, IsPathAt}
 use Rattle.join_search.specs.Nests.{IsInner, IsNestWork}
-use Rattle.join_search.specs.Offers.{AreNestsServed, IsCheapest}
+use Rattle.join_search.specs.Offers.{AreEachServed, AreEarlyServed, AreNestsServed, IsCheapest}
 use Rattle.join_search.specs.Splits.{IsSplit}
 use Rattle.join_search.specs.declared.nests.NestWork.{NestWork}
 use Rattle.join_search.specs.declared.splits.Split.{Split}
 use Rattle.join_search.specs.declared.table.Table.{Table}
-use Rattle.join_search.proofs.OfferLemmas.{no-startup, served-later}
+use Rattle.join_search.proofs.OfferLemmas.{served-later}
 use Rattle.join_search.proofs.ItemLemmas.{plan-of-none}
 use Rattle.join_search.proofs.TableLemmas.{params-found}
 use Rattle.join_search.proofs.PlanLemmas.{at-none, at-param, at-set, sets-same, whole-rows}
-
--- the cut total of an admissible plan
-pub cut-pair : (n m : ℕ) → n ≡ m → m < MOST_COST → pair 0 n ≡ capped_pair (pair 0 m)
-cut-pair n m e below = let same : n ≡ capped m = omega (arith, e, below) in ap (pair 0) same
 
 module _ (c : Contents) (q : Query) where
   -- the nested loop of two paths is a plan of their sets
@@ -66,17 +63,18 @@ module _ (c : Contents) (q : Query) where
       }
 
   -- and costs as much
-  pub nest-total : (j : Split) (o i : Path) (w : NestWork) (result : Pair) → IsSplit c q j → IsPathAt c q j.outer none o → IsInner c q j i → IsNestWork c q j.outer i.tree w →
-      result ≡ capped_pair (nest_cost (pair 0 o.cost) (pair 0 i.cost) j.outer_rows w.inner_rows w.ops) → result.total ≡ capped (cost c q (nest o.tree i.tree)).total
-  nest-total j o i w result split outer inner work e =
-      let x = (cost c q o.tree).total in
-      let y = (cost c q i.tree).total in
+  pub nest-cost : (j : Split) (o i : Path) (w : NestWork) (x y result : Pair) → IsSplit c q j → IsPathAt c q j.outer none o → IsInner c q j i → IsNestWork c q j.outer i.tree w →
+      x ≡ capped_pair (kept_cost q.window (cost c q o.tree)) → y ≡ capped_pair (kept_cost q.window (cost c q i.tree)) →
+      result ≡ capped_pair (nest_cost x y j.outer_rows w.inner_rows w.ops) → result ≡ capped_pair (kept_cost q.window (cost c q (nest o.tree i.tree)))
+  nest-cost j o i w x y result split outer inner work ex ey e =
+      let a = cost c q o.tree in
+      let b = cost c q i.tree in
       let rows : j.outer_rows ≡ estimate c q o.tree = split.outer_rows ∙ whole-rows c q j.outer o.tree (at-set c q j.outer none o outer) (at-none c q j.outer o outer) in
       let ops : w.ops ≡ min (join_operators q o.tree i.tree) (2 ^ 64 - 1) =
       work.ops ∙ ap (λ (a : Set). min (operators (conditions_where (joins a i.tree) q.classes.clauses)) (2 ^ 64 - 1)) (sets-same (has j.outer.0) (set_of o.tree) (at-set c q j.outer none o outer)) in
-      ap (λ (p : Pair). p.total)
-      (nest_costs result (pair 0 o.cost) (pair 0 i.cost) j.outer_rows w.inner_rows w.ops (estimate c q o.tree) (estimate c q i.tree) (join_operators q o.tree i.tree) e rows work.inner_rows ops split.outer_estimate.some work.inner_estimate.some
-      (pair 0 x) (pair 0 y) (cut-pair o.cost x outer.is_path.numbers.cost outer.admissible) (cut-pair i.cost y inner.stands.is_path.numbers.cost inner.stands.admissible))
+      nest_costs result x y j.outer_rows w.inner_rows w.ops (estimate c q o.tree) (estimate c q i.tree) (join_operators q o.tree i.tree) e rows work.inner_rows ops split.outer_estimate.some work.inner_estimate.some
+      (kept_cost q.window a) (kept_cost q.window b) ex ey
+      ∙ ap capped_pair (nest-kept q.window a b (estimate c q o.tree) (estimate c q i.tree) (join_operators q o.tree i.tree))
 
   same-like : (s p : RelSet) (x y : Path) → IsPathAt c q s p x → IsPathAt c q s p y → IsLike x.tree y.tree
   same-like s p x y h k = record {
@@ -84,12 +82,13 @@ module _ (c : Contents) (q : Query) where
     param = λ n. sym (at-param c q s p x h n) ∙ at-param c q s p y k n;
   }
 
-  -- what a cheaper path of the same place serves as inner one, another is served by
-  module _ (window : q.window ≡ None) (front : List Path) (b p : RelSet) (i y : Path) (at : IsPathAt c q b p i) (at' : IsPathAt c q b p y) (least : i.cost ≤ y.cost) where
+  -- what a path of the same place serves as inner one that costs no more, another is served by
+  module _ (front : List Path) (b p : RelSet) (i y : Path) (at : IsPathAt c q b p i) (at' : IsPathAt c q b p y) (least : i.cost ≤ y.cost) (first : i.startup ≤ y.startup) where
     inner-replaced : (o : Plan) → IsServed c q front (nest o i.tree) → IsServed c q front (nest o y.tree)
     inner-replaced o served built admissible =
         let like = same-like b p i y at at' in
         let total : (cost c q i.tree).total ≤ (cost c q y.tree).total = subst₂ (λ m n. m ≤ n) at.is_path.numbers.cost at'.is_path.numbers.cost least in
+        let startup = kept-most q.window (cost c q i.tree).startup (cost c q y.tree).startup (subst₂ (λ m n. m ≤ n) at.is_path.numbers.startup at'.is_path.numbers.startup first) in
         let own : IsLike o o = record { set = λ k. refl; param = λ k. refl } in
         let most = nest-totals c q o o i.tree y.tree own like (le_refl (cost c q o).total) total in
         let n = built.2 in
@@ -110,18 +109,26 @@ module _ (c : Contents) (q : Query) where
           dominates = dominates-trans c q found.path.tree (nest o i.tree) (nest o y.tree) found.dominates (record {
             like = record { set = λ k. ap (λ x. set_of o k || x) (like.set k); param = λ k. refl };
             total = most;
-            startup = no-startup q.window _ _ window;
+            startup = startup-both q.window (cost c q o).startup (cost c q o).startup (cost c q i.tree).startup (cost c q y.tree).startup (startup-from q.window _ _ (le_refl (cost c q o).startup)) startup;
             keys = covers-refl (keys_of c q o);
           });
         }
 
-  pub nests-served : q.window ≡ None → (front outers inners : List Path) (b p : RelSet) (i : Path) → All (IsPathAt c q b p) inners → IsCheapest inners i → All (λ o. IsServed c q front (nest o.tree i.tree)) outers → AreNestsServed c q front outers inners
-  nests-served window front outers inners b p i at cheapest served o y x z =
-      let is = All-contains (IsPathAt c q b p) inners i at cheapest.is_there in
-      let is' = All-contains (IsPathAt c q b p) inners z.path at z.is_there in
-      let least = All-contains (λ (e : Path). i.cost ≤ e.cost) inners z.path cheapest.least z.is_there in
-      let one = All-contains (λ (e : Path). IsServed c q front (nest e.tree i.tree)) outers x.path served x.is_there in
-      subst₂ (λ a d. IsServed c q front (nest a d)) x.is_plan z.is_plan (inner-replaced window front b p i z.path is is' least x.path.tree one)
+  -- where the nested loops with the cheapest inner path are served, and those with each that starts earlier, all are
+  pub nests-served : (front outers inners : List Path) (b p : RelSet) (i : Path) → All (IsPathAt c q b p) inners → IsCheapest inners i → AreEachServed c q front outers i.tree → AreEarlyServed c q front outers i.startup inners → AreNestsServed c q front outers inners
+  nests-served front outers inners b p i at cheapest served early o y x z =
+      subst₂ (λ a d. IsServed c q front (nest a d)) x.is_plan z.is_plan (by (cases_lt z.path.startup i.startup))
+    where
+      by : (z.path.startup < i.startup) ⊎ (i.startup ≤ z.path.startup) → IsServed c q front (nest x.path.tree z.path.tree)
+      by (inl lt) = All-contains (λ (e : Path). IsServed c q front (nest e.tree z.path.tree)) outers x.path (All-contains (λ (e : Path). e.startup < i.startup → AreEachServed c q front outers e.tree) inners z.path early z.is_there lt) x.is_there
+      by (inr le) =
+          let is = All-contains (IsPathAt c q b p) inners i at cheapest.is_there in
+          let is' = All-contains (IsPathAt c q b p) inners z.path at z.is_there in
+          let least = All-contains (λ (e : Path). i.cost ≤ e.cost) inners z.path cheapest.least z.is_there in
+          inner-replaced front b p i z.path is is' least le x.path.tree (All-contains (λ (e : Path). IsServed c q front (nest e.tree i.tree)) outers x.path served x.is_there)
+
+  pub each-later : (old new outers : List Path) (i : Plan) → StayDominated c q old new → AreEachServed c q old outers i → AreEachServed c q new outers i
+  each-later old new outers i still h = All-weaker (λ (o : Path). IsServed c q old (nest o.tree i)) (λ (o : Path). IsServed c q new (nest o.tree i)) (λ o k. served-later c q old new (nest o.tree i) still k) outers h
 
   pub given-inner : (j : Split) (p : RelSet) (x : Path) → IsPathAt c q j.inner p x → IsWithin (has p.0) (has j.outer.0) → IsInner c q j x
   given-inner j p x h within = record {

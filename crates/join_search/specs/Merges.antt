@@ -1,6 +1,6 @@
 -- Merge joins of two sets: their lists of classes, their sides, and what they are reckoned from (PostgreSQL,
 -- src/backend/optimizer/path/joinpath.c, sort_inner_and_outer; that every list is tried is own).
-use Rattle.std.specs.Prelude.{◌≡◌, ◌≤◌, ◌^◌, ◌-◌, ◌&&◌, ◌++◌, ℕ, Bool, true, false, not, cond, nat_eq, List, [], ◌∷◌, All, Contains, filter, map, min}
+use Rattle.std.specs.Prelude.{◌≡◌, ◌≤◌, ◌<◌, ◌^◌, ◌-◌, ◌&&◌, ◌++◌, ℕ, Bool, true, false, not, cond, nat_eq, List, [], ◌∷◌, All, Contains, filter, map, min}
 use Rattle.std.specs.List.{list_any, flat_map}
 use Rattle.pg_base.specs.Sets.{has}
 use Rattle.catalog.specs.Contents.{Contents}
@@ -13,7 +13,7 @@ use Rattle.sql_query.specs.Queries.{Query}
 use Rattle.plan_tree.specs.Fronts.{IsServed}
 use Rattle.plan_tree.specs.Costs.{cost}
 use Rattle.plan_tree.specs.Least.{IsAdmissible}
-use Rattle.plan_tree.specs.Paths.{Path}
+use Rattle.plan_tree.specs.Paths.{Path, startup_kept}
 use Rattle.plan_tree.specs.Plans.{Plan, sort, merge}
 use Rattle.plan_tree.specs.Space.{HasKeys, IsBuilt}
 use Rattle.plan_tree.specs.Views.{path}
@@ -69,7 +69,7 @@ pub record IsCheapestBy (keys : Keys) (paths : List Path) (p : Path) : Type 0 wh
   pub least : All (λ o. covers o.keys keys ≡ true → p.cost ≤ o.cost) paths
 
 module _ (c : Contents) (q : Query) where
-  -- a side that costs no more than any other of an admissible merge
+  -- a side that costs no more in all than any other of an admissible merge
   pub record IsBestSide (keys : Keys) (paths : List Path) (p : Path) (sorted : Bool) : Type 0 where
     pub side : IsSideOf keys paths p sorted
     pub least : (t : Plan) → IsSideIn paths t → IsBuilt c q t → HasKeys c q t keys → IsAdmissible c q t → (cost c q (side_of keys p.tree sorted)).total ≤ (cost c q t).total
@@ -83,6 +83,15 @@ module _ (c : Contents) (q : Query) where
   -- the merges of each outer side with one inner side
   abbrev pub AreOutersServed : List Path → List Path → Keys → Plan → Type 0
   AreOutersServed front outers keys i = (o : Plan) → IsSideIn outers o → IsServed c q front (merge keys o i)
+
+  -- those with each inner side that starts before a cost
+  abbrev pub AreEarlyServed : List Path → List Path → List Path → Keys → ℕ → Type 0
+  AreEarlyServed front outers inners keys startup =
+      (i : Plan) → IsSideIn inners i → HasKeys c q i keys → startup_kept q.window (cost c q i).startup < startup → AreOutersServed front outers keys i
+
+  -- those with each inner path whose keys begin with the list, where it starts before a cost
+  abbrev pub ArePlainEarlyServed : List Path → List Path → Keys → ℕ → List Path → Type 0
+  ArePlainEarlyServed front outers keys startup inners = All (λ i. covers i.keys keys ≡ true → i.startup < startup → AreOutersServed front outers keys i.tree) inners
 
   -- those of the outer paths that are not sorted
   abbrev pub ArePlainServed : List Path → Keys → Plan → List Path → Type 0

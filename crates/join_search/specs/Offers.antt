@@ -1,5 +1,5 @@
 -- What an offer of joins does to the front of a set. Own.
-use Rattle.std.specs.Prelude.{◌≤◌, List, All, Contains}
+use Rattle.std.specs.Prelude.{◌≤◌, ◌<◌, ℕ, List, All, Contains}
 use Rattle.pg_base.specs.declared.rel_set.RelSet.{RelSet}
 use Rattle.catalog.specs.Contents.{Contents}
 use Rattle.sql_query.specs.Queries.{Query}
@@ -21,7 +21,14 @@ module _ (c : Contents) (q : Query) where
     pub paths : All (IsJoinPath c q fronts s none) new
     pub still : StayDominated c q old new
 
-  -- the nested loop of a path with each of some, and of each of some with each of others
+  -- the nested loops of some outer paths with an inner plan, and those with the inner paths that start before a cost
+  abbrev pub AreEachServed : List Path → List Path → Plan → Type 0
+  AreEachServed front outers i = All (λ o. IsServed c q front (nest o.tree i)) outers
+
+  abbrev pub AreEarlyServed : List Path → List Path → ℕ → List Path → Type 0
+  AreEarlyServed front outers startup inners = All (λ i. i.startup < startup → AreEachServed front outers i.tree) inners
+
+  -- the nested loop of each of some with each of others
   abbrev pub AreNestsServed : List Path → List Path → List Path → Type 0
   AreNestsServed front outers inners = (o i : Plan) → IsPlanIn outers o → IsPlanIn inners i → IsServed c q front (nest o i)
 

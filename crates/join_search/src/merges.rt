@@ -1,35 +1,36 @@
 //! Merge joins of two sets (PostgreSQL, src/backend/optimizer/path/joinpath.c, sort_inner_and_outer and
 //! match_unsorted_outer).
 
-ghost use Rattle.std.specs.Prelude.{◌≡◌, All, Contains, IfOk, OnOk, false, map, true};
+ghost use Rattle.std.specs.Prelude.{◌≡◌, ◌<◌, All, Contains, IfOk, OnOk, false, map, true};
 ghost use Rattle.pg_base.specs.Sets.{has};
-ghost use Rattle.cost_rules.specs.Costs.{capped};
+ghost use Rattle.cost_rules.specs.Costs.{capped_pair};
 ghost use Rattle.pathkeys.specs.Keys as keys;
 ghost use Rattle.plan_tree.specs.Fronts.{IsServed};
 ghost use Rattle.plan_tree.specs.Costs as costs;
+ghost use Rattle.plan_tree.specs.Paths.{kept_cost, startup_kept};
 ghost use Rattle.plan_tree.specs.Plans as plans;
 ghost use Rattle.plan_tree.specs.Reads.{IsOverTables};
 ghost use Rattle.plan_tree.specs.Space.{IsMergeList};
 ghost use Rattle.plan_tree.specs.Views.{path, plan};
 ghost use Rattle.join_search.specs.Joins.{ArePlaced, IsJoinPath, IsKept, IsPathAt, IsPlanIn};
-ghost use Rattle.join_search.specs.Merges.{AreOutersServed, ArePlainServed, IsBestSide, IsMergeWork, IsSideOf, side_path, side_plan};
+ghost use Rattle.join_search.specs.Merges.{AreEarlyServed, AreOutersServed, ArePlainEarlyServed, ArePlainServed, IsMergeWork, IsSideOf, side_path, side_plan};
 ghost use Rattle.join_search.specs.Offers.{AreMergesServed, TakesJoins};
 ghost use Rattle.join_search.specs.Splits.{IsSplit};
 ghost use Rattle.join_search.specs.Tables.{Fronts, none, paths_at};
 
 use crate::lists::merge_lists;
-use crate::offers::{cheapest, in_all, offer_join};
+use crate::offers::{cheapest, offer_join};
 use crate::sides::{Side, best_side, keys_of, plan_of, side_cost};
 use crate::splits::Split;
 use crate::table::Table;
 use catalog::Catalog;
-use cost_rules::{MOST_COST, merge};
+use cost_rules::{MOST_COST, Pair, merge};
 use eq_classes::ClauseSet;
 use kept_paths::KeptPaths;
 use path_cost::{key_pairs, operators_of, pairs};
 use pathkeys::{Keys, covers};
 use pg_base::{Memory, RelSet};
-use plan_tree::{Path, Plan, classes_of, has_no_window, range_of};
+use plan_tree::{Path, Plan, classes_of, range_of};
 use sql_query::Prepared;
 use std::alloc::Global;
 
@@ -57,8 +58,8 @@ fn merge_work(cat: &Catalog, q: &Prepared, j: Split, by: &Keys) -> MergeWork
     MergeWork { pairs: rows, ops }
 }
 
-/// The cost of a merge, cut to at most 10^18.
-fn merge_total(
+/// The cost of a merge, as a path keeps it, cut to at most 10^18.
+fn merge_kept(
     cat: &Catalog,
     q: &Prepared,
     j: Split,
@@ -66,18 +67,16 @@ fn merge_total(
     outer: Side,
     inner: Side,
     work: MergeWork,
-) -> u64
+) -> Pair
     requires split { IsSplit cat.now q.now j }
     requires list { IsMergeList cat.now q.now (has j.outer.0) (has j.inner.0) by.now }
     requires outer { IsPathAt cat.now q.now j.outer none (side_path outer) }
     requires inner { IsPathAt cat.now q.now j.inner none (side_path inner) }
     requires work { IsMergeWork cat.now q.now j by.now work }
-    ensures { result ≡ capped (costs.cost cat.now q.now (plans.merge by.now (side_plan by.now outer.entry) (side_plan by.now inner.entry))).total }
+    ensures { result ≡ capped_pair (kept_cost q.now.window (costs.cost cat.now q.now (plans.merge by.now (side_plan by.now outer.entry) (side_plan by.now inner.entry)))) }
 {
-    let outer_total = side_cost(cat, q, j.outer, j.outer_rows, outer);
-    let inner_total = side_cost(cat, q, j.inner, j.inner_rows, inner);
-    let outer_cost = in_all(outer_total);
-    let inner_cost = in_all(inner_total);
+    let outer_cost = side_cost(cat, q, j.outer, j.outer_rows, outer);
+    let inner_cost = side_cost(cat, q, j.inner, j.inner_rows, inner);
     let list = by.items();
     let keys = list.len() as u64;
     merge(
@@ -89,7 +88,6 @@ fn merge_total(
         work.pairs,
         work.ops,
     )
-    .total
 }
 
 /// The merge of two sides, copied. The error means want of memory.
@@ -126,9 +124,8 @@ fn offer_merge(
     ensures takes { TakesJoins cat.now q.now (paths_at table.now) j.set (map path front.old) (map path front.new) }
     ensures served { OnOk result (IsServed cat.now q.now (map path front.new) (plans.merge by.now (side_plan by.now outer.entry) (side_plan by.now inner.entry))) }
 {
-    has_no_window(q);
-    let cost = merge_total(cat, q, j, by, outer, inner, work);
-    if cost >= MOST_COST {
+    let cost = merge_kept(cat, q, j, by, outer, inner, work);
+    if cost.total >= MOST_COST {
         return Ok(());
     }
     let keys = keys_of(alloc, outer, by)?;
@@ -222,7 +219,6 @@ fn offer_sorted(
     ensures takes { TakesJoins cat.now q.now (paths_at table.now) j.set (map path front.old) (map path front.new) }
     ensures served { OnOk result ((o : plans.Plan) → IsPlanIn (paths_at table.now j.outer none) o → IsServed cat.now q.now (map path front.new) (plans.merge by.now (plans.sort by.now o) (side_plan by.now inner.entry))) }
 {
-    has_no_window(q);
     let outers = table.paths(j.outer, RelSet(0));
     match cheapest(outers) {
         Some(path) => {
@@ -233,7 +229,158 @@ fn offer_sorted(
     }
 }
 
-/// Offers the merges of two sets by a list. The error means want of memory.
+/// Offers the merges by a list of each outer side with an inner one. The error means want of memory.
+fn offer_side(
+    alloc: Global,
+    cat: &Catalog,
+    q: &Prepared,
+    table: &Table,
+    j: Split,
+    by: &Keys,
+    inner: Side,
+    work: MergeWork,
+    front: &mut KeptPaths,
+) -> Result<(), Memory>
+    requires placed { ArePlaced cat.now q.now (paths_at table.now) }
+    requires split { IsSplit cat.now q.now j }
+    requires list { IsMergeList cat.now q.now (has j.outer.0) (has j.inner.0) by.now }
+    requires inner { IsSideOf by.now (paths_at table.now j.inner none) (side_path inner) inner.sorted }
+    requires work { IsMergeWork cat.now q.now j by.now work }
+    requires joins { All (IsJoinPath cat.now q.now (paths_at table.now) j.set none) (map path front.old) }
+    ensures takes { TakesJoins cat.now q.now (paths_at table.now) j.set (map path front.old) (map path front.new) }
+    ensures served { OnOk result (AreOutersServed cat.now q.now (map path front.new) (paths_at table.now j.outer none) by.now (side_plan by.now inner.entry)) }
+{
+    offer_plain(alloc, cat, q, table, j, by, inner, work, front)?;
+    offer_sorted(alloc, cat, q, table, j, by, inner, work, front)
+}
+
+/// Offers the merges by a list of each outer side with an inner path, where its keys begin with the list and it starts
+/// before a cost. The error means want of memory.
+fn offer_if_early(
+    alloc: Global,
+    cat: &Catalog,
+    q: &Prepared,
+    table: &Table,
+    j: Split,
+    by: &Keys,
+    inner: &Path,
+    startup: u64,
+    work: MergeWork,
+    front: &mut KeptPaths,
+) -> Result<(), Memory>
+    requires placed { ArePlaced cat.now q.now (paths_at table.now) }
+    requires split { IsSplit cat.now q.now j }
+    requires list { IsMergeList cat.now q.now (has j.outer.0) (has j.inner.0) by.now }
+    requires inner { Contains (paths_at table.now j.inner none) (path inner.now) }
+    requires work { IsMergeWork cat.now q.now j by.now work }
+    requires joins { All (IsJoinPath cat.now q.now (paths_at table.now) j.set none) (map path front.old) }
+    ensures takes { TakesJoins cat.now q.now (paths_at table.now) j.set (map path front.old) (map path front.new) }
+    ensures served { OnOk result (keys.covers inner.now.keys by.now ≡ true → inner.now.startup < startup → AreOutersServed cat.now q.now (map path front.new) (paths_at table.now j.outer none) by.now (path inner.now).tree) }
+{
+    if inner.startup >= startup {
+        return Ok(());
+    }
+    if !covers(&inner.keys, by) {
+        return Ok(());
+    }
+    let side = Side {
+        path: inner,
+        sorted: false,
+    };
+    offer_side(alloc, cat, q, table, j, by, side, work, front)
+}
+
+/// Offers the merges by a list of each outer side with the inner paths whose keys begin with the list and that start
+/// before a cost. The error means want of memory.
+fn offer_early_plain(
+    alloc: Global,
+    cat: &Catalog,
+    q: &Prepared,
+    table: &Table,
+    j: Split,
+    by: &Keys,
+    startup: u64,
+    work: MergeWork,
+    front: &mut KeptPaths,
+) -> Result<(), Memory>
+    requires placed { ArePlaced cat.now q.now (paths_at table.now) }
+    requires split { IsSplit cat.now q.now j }
+    requires list { IsMergeList cat.now q.now (has j.outer.0) (has j.inner.0) by.now }
+    requires work { IsMergeWork cat.now q.now j by.now work }
+    requires joins { All (IsJoinPath cat.now q.now (paths_at table.now) j.set none) (map path front.old) }
+    ensures takes { TakesJoins cat.now q.now (paths_at table.now) j.set (map path front.old) (map path front.new) }
+    ensures served { OnOk result (ArePlainEarlyServed cat.now q.now (map path front.new) (paths_at table.now j.outer none) by.now startup (paths_at table.now j.inner none)) }
+{
+    for inner in table.paths(j.inner, RelSet(0)) {
+        offer_if_early(alloc, cat, q, table, j, by, inner, startup, work, front)?;
+    }
+    Ok(())
+}
+
+/// Offers the merges by a list of each outer side with the sort of an inner path, where it starts before a cost. The error
+/// means want of memory.
+fn offer_sort_if_early(
+    alloc: Global,
+    cat: &Catalog,
+    q: &Prepared,
+    table: &Table,
+    j: Split,
+    by: &Keys,
+    inner: &Path,
+    startup: u64,
+    work: MergeWork,
+    front: &mut KeptPaths,
+) -> Result<(), Memory>
+    requires placed { ArePlaced cat.now q.now (paths_at table.now) }
+    requires split { IsSplit cat.now q.now j }
+    requires list { IsMergeList cat.now q.now (has j.outer.0) (has j.inner.0) by.now }
+    requires inner { Contains (paths_at table.now j.inner none) (path inner.now) }
+    requires work { IsMergeWork cat.now q.now j by.now work }
+    requires joins { All (IsJoinPath cat.now q.now (paths_at table.now) j.set none) (map path front.old) }
+    ensures takes { TakesJoins cat.now q.now (paths_at table.now) j.set (map path front.old) (map path front.new) }
+    ensures served { OnOk result (startup_kept q.now.window (costs.cost cat.now q.now (plans.sort by.now (path inner.now).tree)).startup < startup → AreOutersServed cat.now q.now (map path front.new) (paths_at table.now j.outer none) by.now (plans.sort by.now (path inner.now).tree)) }
+{
+    let side = Side {
+        path: inner,
+        sorted: true,
+    };
+    let cost = side_cost(cat, q, j.inner, j.inner_rows, side);
+    if cost.startup >= startup {
+        return Ok(());
+    }
+    offer_side(alloc, cat, q, table, j, by, side, work, front)
+}
+
+/// Offers the merges by a list of each outer side with the inner sides that start before a cost: paths whose keys begin
+/// with the list, and the sort of the cheapest one, which starts first of all sorts. The error means want of memory.
+fn offer_early_sides(
+    alloc: Global,
+    cat: &Catalog,
+    q: &Prepared,
+    table: &Table,
+    j: Split,
+    by: &Keys,
+    startup: u64,
+    work: MergeWork,
+    front: &mut KeptPaths,
+) -> Result<(), Memory>
+    requires placed { ArePlaced cat.now q.now (paths_at table.now) }
+    requires split { IsSplit cat.now q.now j }
+    requires list { IsMergeList cat.now q.now (has j.outer.0) (has j.inner.0) by.now }
+    requires work { IsMergeWork cat.now q.now j by.now work }
+    requires joins { All (IsJoinPath cat.now q.now (paths_at table.now) j.set none) (map path front.old) }
+    ensures takes { TakesJoins cat.now q.now (paths_at table.now) j.set (map path front.old) (map path front.new) }
+    ensures served { OnOk result (AreEarlyServed cat.now q.now (map path front.new) (paths_at table.now j.outer none) (paths_at table.now j.inner none) by.now startup) }
+{
+    offer_early_plain(alloc, cat, q, table, j, by, startup, work, front)?;
+    match cheapest(table.paths(j.inner, RelSet(0))) {
+        Some(least) => offer_sort_if_early(alloc, cat, q, table, j, by, least, startup, work, front),
+        None => Ok(()),
+    }
+}
+
+/// Offers the merges of two sets by a list: with the inner side that costs least in all, and with each that starts
+/// earlier. The error means want of memory.
 fn offer_merges_by(
     alloc: Global,
     cat: &Catalog,
@@ -251,13 +398,14 @@ fn offer_merges_by(
     ensures takes { TakesJoins cat.now q.now (paths_at table.now) j.set (map path front.old) (map path front.new) }
     ensures served { OnOk result (AreMergesServed cat.now q.now (map path front.new) (paths_at table.now j.outer none) (paths_at table.now j.inner none) by.now) }
 {
-    has_no_window(q);
+    cat.lawful();
     let inners = table.paths(j.inner, RelSet(0));
     match best_side(cat, q, j.inner, j.inner_rows, inners, by) {
-        Some(inner) => {
+        Some(best) => {
             let work = merge_work(cat, q, j, by);
-            offer_plain(alloc, cat, q, table, j, by, inner, work, front)?;
-            offer_sorted(alloc, cat, q, table, j, by, inner, work, front)
+            let cost = side_cost(cat, q, j.inner, j.inner_rows, best);
+            offer_side(alloc, cat, q, table, j, by, best, work, front)?;
+            offer_early_sides(alloc, cat, q, table, j, by, cost.startup, work, front)
         }
         None => Ok(()),
     }

@@ -1,31 +1,32 @@
 //! Nested loops of two sets (PostgreSQL, src/backend/optimizer/path/joinpath.c, match_unsorted_outer).
 
-ghost use Rattle.std.specs.Prelude.{◌≡◌, All, IfOk, OnOk, map};
+ghost use Rattle.std.specs.Prelude.{◌≡◌, ◌<◌, All, Contains, IfOk, OnOk, map};
 ghost use Rattle.pg_base.specs.Sets.{has};
-ghost use Rattle.cost_rules.specs.Costs.{capped};
+ghost use Rattle.cost_rules.specs.Costs.{capped_pair};
 ghost use Rattle.eq_classes.specs.Holding.{IsWithin};
 ghost use Rattle.plan_tree.specs.Fronts.{IsServed};
 ghost use Rattle.plan_tree.specs.Costs as costs;
+ghost use Rattle.plan_tree.specs.Paths.{kept_cost};
 ghost use Rattle.plan_tree.specs.Plans as plans;
 ghost use Rattle.plan_tree.specs.Reads.{IsOverTables};
 ghost use Rattle.plan_tree.specs.Views.{path, plan};
 ghost use Rattle.join_search.specs.Joins.{ArePlaced, IsJoinPath, IsKept, IsPathAt};
 ghost use Rattle.join_search.specs.Nests.{AreTested, IsInner, IsNestWork};
-ghost use Rattle.join_search.specs.Offers.{AreNestsServed, TakesJoins};
+ghost use Rattle.join_search.specs.Offers.{AreEachServed, AreEarlyServed, AreNestsServed, TakesJoins};
 ghost use Rattle.join_search.specs.Splits.{IsSplit};
 ghost use Rattle.join_search.specs.Tables.{Fronts, none, paths_at};
 ghost use Rattle.pg_base.specs.declared.rel_set.RelSet as sets;
 
-use crate::offers::{cheapest, in_all, offer_join};
+use crate::offers::{cheapest, offer_join};
 use crate::splits::{Split, some_relation};
 use crate::table::Table;
 use catalog::Catalog;
-use cost_rules::{MOST_COST, nest};
+use cost_rules::{MOST_COST, Pair, nest};
 use eq_classes::ClauseSet;
 use kept_paths::KeptPaths;
 use path_cost::operators_of;
 use pg_base::{Memory, RelSet};
-use plan_tree::{Path, Plan, classes_of, estimate, has_no_window};
+use plan_tree::{Path, Plan, classes_of, cost_of, estimate};
 use sql_query::Prepared;
 use std::alloc::Global;
 
@@ -68,23 +69,23 @@ fn nest_work(cat: &Catalog, q: &Prepared, j: Split, inner: &Path) -> NestWork
     NestWork { inner_rows, ops }
 }
 
-/// The cost of a nested loop, cut to at most 10^18.
-fn nest_total(
+/// The cost of a nested loop, as a path keeps it, cut to at most 10^18.
+fn nest_kept(
     cat: &Catalog,
     q: &Prepared,
     j: Split,
     outer: &Path,
     inner: &Path,
     work: NestWork,
-) -> u64
+) -> Pair
     requires split { IsSplit cat.now q.now j }
     requires outer { IsPathAt cat.now q.now j.outer none (path outer.now) }
     requires inner { IsInner cat.now q.now j (path inner.now) }
     requires work { IsNestWork cat.now q.now j.outer (path inner.now).tree work }
-    ensures { result ≡ capped (costs.cost cat.now q.now (plans.nest (path outer.now).tree (path inner.now).tree)).total }
+    ensures { result ≡ capped_pair (kept_cost q.now.window (costs.cost cat.now q.now (plans.nest (path outer.now).tree (path inner.now).tree))) }
 {
-    let outer_cost = in_all(outer.cost);
-    let inner_cost = in_all(inner.cost);
+    let outer_cost = cost_of(cat, q, outer);
+    let inner_cost = cost_of(cat, q, inner);
     nest(
         outer_cost,
         inner_cost,
@@ -92,7 +93,6 @@ fn nest_total(
         work.inner_rows,
         work.ops,
     )
-    .total
 }
 
 /// The nested loop of two plans, copied. The error means want of memory.
@@ -124,9 +124,8 @@ fn offer_nest(
     ensures takes { (kept : Fronts) → IsKept kept (path outer.now).tree → IsKept kept (path inner.now).tree → All (IsJoinPath cat.now q.now kept j.set none) (map path front.old) → TakesJoins cat.now q.now kept j.set (map path front.old) (map path front.new) }
     ensures served { OnOk result (IsServed cat.now q.now (map path front.new) (plans.nest (path outer.now).tree (path inner.now).tree)) }
 {
-    has_no_window(q);
-    let cost = nest_total(cat, q, j, outer, inner, work);
-    if cost >= MOST_COST {
+    let cost = nest_kept(cat, q, j, outer, inner, work);
+    if cost.total >= MOST_COST {
         return Ok(());
     }
     if front.is_beaten(alloc, cost, &outer.keys)? {
@@ -155,7 +154,7 @@ fn offer_each_nest(
     requires work { IsNestWork cat.now q.now j.outer (path inner.now).tree work }
     requires joins { All (IsJoinPath cat.now q.now (paths_at table.now) j.set none) (map path front.old) }
     ensures takes { TakesJoins cat.now q.now (paths_at table.now) j.set (map path front.old) (map path front.new) }
-    ensures served { OnOk result (All (λ o. IsServed cat.now q.now (map path front.new) (plans.nest o.tree (path inner.now).tree)) (paths_at table.now j.outer none)) }
+    ensures served { OnOk result (AreEachServed cat.now q.now (map path front.new) (paths_at table.now j.outer none) (path inner.now).tree) }
 {
     for outer in table.paths(j.outer, RelSet(0)) {
         offer_nest(alloc, cat, q, j, outer, inner, work, front)?;
@@ -163,8 +162,87 @@ fn offer_each_nest(
     Ok(())
 }
 
+/// Offers the nested loops of each outer path with an inner one of a parameterisation that is of the outer set. The error
+/// means want of memory.
+fn offer_nests_of(
+    alloc: Global,
+    cat: &Catalog,
+    q: &Prepared,
+    table: &Table,
+    j: Split,
+    p: RelSet,
+    inner: &Path,
+    front: &mut KeptPaths,
+) -> Result<(), Memory>
+    requires query { IsOverTables cat.now q.now }
+    requires placed { ArePlaced cat.now q.now (paths_at table.now) }
+    requires split { IsSplit cat.now q.now j }
+    requires given { IsWithin (has p.0) (has j.outer.0) }
+    requires inner { Contains (paths_at table.now j.inner p) (path inner.now) }
+    requires joins { All (IsJoinPath cat.now q.now (paths_at table.now) j.set none) (map path front.old) }
+    ensures takes { TakesJoins cat.now q.now (paths_at table.now) j.set (map path front.old) (map path front.new) }
+    ensures served { OnOk result (AreEachServed cat.now q.now (map path front.new) (paths_at table.now j.outer none) (path inner.now).tree) }
+{
+    let work = nest_work(cat, q, j, inner);
+    offer_each_nest(alloc, cat, q, table, j, inner, work, front)
+}
+
+/// Offers the same, where the inner path starts before a cost. The error means want of memory.
+fn offer_if_early(
+    alloc: Global,
+    cat: &Catalog,
+    q: &Prepared,
+    table: &Table,
+    j: Split,
+    p: RelSet,
+    inner: &Path,
+    startup: u64,
+    front: &mut KeptPaths,
+) -> Result<(), Memory>
+    requires query { IsOverTables cat.now q.now }
+    requires placed { ArePlaced cat.now q.now (paths_at table.now) }
+    requires split { IsSplit cat.now q.now j }
+    requires given { IsWithin (has p.0) (has j.outer.0) }
+    requires inner { Contains (paths_at table.now j.inner p) (path inner.now) }
+    requires joins { All (IsJoinPath cat.now q.now (paths_at table.now) j.set none) (map path front.old) }
+    ensures takes { TakesJoins cat.now q.now (paths_at table.now) j.set (map path front.old) (map path front.new) }
+    ensures served { OnOk result (inner.now.startup < startup → AreEachServed cat.now q.now (map path front.new) (paths_at table.now j.outer none) (path inner.now).tree) }
+{
+    if inner.startup >= startup {
+        return Ok(());
+    }
+    offer_nests_of(alloc, cat, q, table, j, p, inner, front)
+}
+
+/// Offers nested loops of the outer set with the inner paths of a parameterisation that is of the outer set: with those
+/// that start before a cost. The error means want of memory.
+fn offer_early(
+    alloc: Global,
+    cat: &Catalog,
+    q: &Prepared,
+    table: &Table,
+    j: Split,
+    p: RelSet,
+    startup: u64,
+    front: &mut KeptPaths,
+) -> Result<(), Memory>
+    requires query { IsOverTables cat.now q.now }
+    requires placed { ArePlaced cat.now q.now (paths_at table.now) }
+    requires split { IsSplit cat.now q.now j }
+    requires given { IsWithin (has p.0) (has j.outer.0) }
+    requires joins { All (IsJoinPath cat.now q.now (paths_at table.now) j.set none) (map path front.old) }
+    ensures takes { TakesJoins cat.now q.now (paths_at table.now) j.set (map path front.old) (map path front.new) }
+    ensures served { OnOk result (AreEarlyServed cat.now q.now (map path front.new) (paths_at table.now j.outer none) startup (paths_at table.now j.inner p)) }
+{
+    for inner in table.paths(j.inner, p) {
+        offer_if_early(alloc, cat, q, table, j, p, inner, startup, front)?;
+    }
+    Ok(())
+}
+
 /// Offers nested loops of the outer set with the inner paths of a parameterisation that is of the outer set: those with
-/// the cheapest of them, which are at most the others. The error means want of memory.
+/// the cheapest of them, and with each that starts earlier. No other one costs less before its first row or in all. The
+/// error means want of memory.
 fn offer_nests_given(
     alloc: Global,
     cat: &Catalog,
@@ -182,12 +260,10 @@ fn offer_nests_given(
     ensures takes { TakesJoins cat.now q.now (paths_at table.now) j.set (map path front.old) (map path front.new) }
     ensures served { OnOk result (AreNestsServed cat.now q.now (map path front.new) (paths_at table.now j.outer none) (paths_at table.now j.inner p)) }
 {
-    has_no_window(q);
-    let inners = table.paths(j.inner, p);
-    match cheapest(inners) {
-        Some(inner) => {
-            let work = nest_work(cat, q, j, inner);
-            offer_each_nest(alloc, cat, q, table, j, inner, work, front)
+    match cheapest(table.paths(j.inner, p)) {
+        Some(least) => {
+            offer_nests_of(alloc, cat, q, table, j, p, least, front)?;
+            offer_early(alloc, cat, q, table, j, p, least.startup, front)
         }
         None => Ok(()),
     }

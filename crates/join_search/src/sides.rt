@@ -2,23 +2,24 @@
 
 ghost use Rattle.std.specs.Prelude.{◌≡◌, ◌≤◌, ◌<◌, All, Contains, IfNone, IfOk, IfSome, [], false, map, true};
 ghost use Rattle.pg_base.specs.Sets.{has};
-ghost use Rattle.cost_rules.specs.Costs.{IsEstimate, capped};
+ghost use Rattle.cost_rules.specs.Costs.{IsCost, IsEstimate, capped_pair};
 ghost use Rattle.cost_rules.specs.declared.parameters.TheConstants.{MOST_COST};
 ghost use Rattle.path_cost.specs.Estimates.{set_rows};
 ghost use Rattle.pathkeys.specs.Keys as keys;
 ghost use Rattle.plan_tree.specs.Costs as costs;
+ghost use Rattle.plan_tree.specs.Paths.{kept_cost};
 ghost use Rattle.plan_tree.specs.Views.{path, plan};
 ghost use Rattle.join_search.specs.Joins.{IsPathAt};
 ghost use Rattle.join_search.specs.Merges as merges;
 ghost use Rattle.join_search.specs.Merges.{IsBestSide, IsCheapestBy, side_keys, side_path, side_plan};
 ghost use Rattle.join_search.specs.Tables.{none};
 
-use crate::offers::{cheapest, in_all};
+use crate::offers::cheapest;
 use catalog::Catalog;
-use cost_rules::sort;
+use cost_rules::{Pair, sort};
 use pathkeys::{Keys, covers};
 use pg_base::{Memory, RelSet};
-use plan_tree::{Path, Plan};
+use plan_tree::{Path, Plan, cost_of, kept_of};
 use sql_query::Prepared;
 use std::alloc::Global;
 
@@ -31,18 +32,19 @@ pub(crate) struct Side<'a> {
     pub(crate) sorted: bool,
 }
 
-/// What a side of a set costs, cut to at most 10^18. `rows` are those of the set.
-pub(crate) fn side_cost(cat: &Catalog, q: &Prepared, set: RelSet, rows: u64, s: Side) -> u64
+/// The cost of a side of a set, as a path keeps it, cut to at most 10^18. `rows` are those of the set.
+pub(crate) fn side_cost(cat: &Catalog, q: &Prepared, set: RelSet, rows: u64, s: Side) -> Pair
     requires at { IsPathAt cat.now q.now set none (side_path s) }
     requires rows { rows ≡ set_rows cat.now q.now.range q.now.classes (has set.0) }
     requires estimate { IsEstimate rows }
-    ensures cost { (by : keys.Keys) → result ≡ capped (costs.cost cat.now q.now (side_plan by s.entry)).total }
-    ensures most { result ≤ MOST_COST }
+    ensures kept { (by : keys.Keys) → result ≡ capped_pair (kept_cost q.now.window (costs.cost cat.now q.now (side_plan by s.entry))) }
+    ensures cost { IsCost result }
 {
+    let cost = cost_of(cat, q, s.path);
     if s.sorted {
-        sort(in_all(s.path.cost), rows).total
+        kept_of(q, sort(cost, rows))
     } else {
-        s.path.cost
+        cost
     }
 }
 
@@ -120,8 +122,8 @@ fn cheaper_side<'a>(plain: &'a Path, sorted: &'a Path, cost: u64) -> Side<'a>
     }
 }
 
-/// The side of least cost: a path whose keys begin with the list, or the sort of the cheapest one. None exactly where
-/// there are no paths.
+/// The side that costs least in all: a path whose keys begin with the list, or the sort of the cheapest one. None exactly
+/// where there are no paths.
 pub(crate) fn best_side<'a>(
     cat: &Catalog,
     q: &Prepared,
@@ -143,7 +145,7 @@ pub(crate) fn best_side<'a>(
     match cheapest_by(paths, by) {
         Some(plain) => {
             let cost = side_cost(cat, q, set, rows, sorted);
-            Some(cheaper_side(plain, sorted.path, cost))
+            Some(cheaper_side(plain, sorted.path, cost.total))
         }
         None => Some(sorted),
     }

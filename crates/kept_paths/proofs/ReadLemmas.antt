@@ -13,7 +13,8 @@ use Rattle.std.specs.Ordering.{is_eq, nat_cmp}
 use Rattle.std.specs.Str.{bytes_eq}
 use Rattle.pathkeys.specs.Keys.{Keys, covers}
 use Rattle.pathkeys.proofs.CoveringLemmas.{covers-prefix, prefix-covers}
-use Rattle.kept_paths.specs.Bounds.{Bounds, is_told, is_within, known_at, tells}
+use Rattle.cost_rules.specs.declared.pair.Pair.{Pair}
+use Rattle.kept_paths.specs.Bounds.{Bounds, is_first, is_told, is_within, known_at, least_in}
 use Rattle.kept_paths.specs.declared.bounds.Known.{Known}
 
 abbrev pub Numbers : Type 0
@@ -54,14 +55,14 @@ abbrev pub IsKnownAs : Keys → Option Known → Bounds → Bounds → Type 0
 IsKnownAs list w m n = UpdatesBy (λ (x y : Numbers). slice_cmp nat_cmp x.items y.items) (λ k. slice_cmp nat_cmp list k.items) m n w
 
 -- room for a list tells nothing more
-pub room-told : (list : Keys) (m n : Bounds) (k : Known) → IsKnownAs list (Some k) m n → k.least ≡ None → known_at m list ≡ None → (ks : Keys) (cost : ℕ) → is_told n ks cost ≡ is_told m ks cost
+pub room-told : (list : Keys) (m n : Bounds) (k : Known) → IsKnownAs list (Some k) m n → k.least ≡ None → known_at m list ≡ None → (ks : Keys) (cost : Pair) → is_told n ks cost ≡ is_told m ks cost
 room-told list m n k h nothing none ks cost = ⊎_elim here other (same-or list ks)
   where
     here : list ≡ ks → is_told n ks cost ≡ is_told m ks cost
-    here same = subst (λ (l : Keys). is_told n l cost ≡ is_told m l cost) same (ap (λ x. tells x cost) (known-here list m n (Some k) h) ∙ ap (λ l. is_within l cost) nothing ∙ sym (ap (λ x. tells x cost) none))
+    here same = subst (λ (l : Keys). is_told n l cost ≡ is_told m l cost) same (ap (λ x. is_within (least_in x) cost) (known-here list m n (Some k) h) ∙ ap (λ l. is_within l cost) nothing ∙ sym (ap (λ x. is_within (least_in x) cost) none))
 
     other : bytes_eq list ks ≡ false → is_told n ks cost ≡ is_told m ks cost
-    other differ = ap (λ x. tells x cost) (known-other list m n (Some k) h ks differ)
+    other differ = ap (λ x. is_within (least_in x) cost) (known-other list m n (Some k) h ks differ)
 
 pub rooms-stay : (list : Keys) (m n : Bounds) (k : Known) → IsKnownAs list (Some k) m n → (ks : Keys) → IsSome (known_at m ks) → IsSome (known_at n ks)
 rooms-stay list m n k h ks some = ⊎_elim
@@ -70,10 +71,10 @@ rooms-stay list m n k h ks some = ⊎_elim
     (same-or list ks)
 
 -- what a lower cost makes of a list that is known
-pub lower-here : (list : Keys) (m n : Bounds) (old new : Known) (cost : ℕ) → IsKnownAs list (Some new) m n → known_at m list ≡ Some old →
-    ((c : ℕ) → is_within new.least c ≡ (is_within old.least c || nat_le cost c)) → (c : ℕ) → is_told n list c ≡ (is_told m list c || nat_le cost c)
+pub lower-here : (list : Keys) (m n : Bounds) (old new : Known) (cost : Pair) → IsKnownAs list (Some new) m n → known_at m list ≡ Some old →
+    ((c : Pair) → is_within new.least c ≡ (is_within old.least c || is_first cost c)) → (c : Pair) → is_told n list c ≡ (is_told m list c || is_first cost c)
 lower-here list m n old new cost h is low c =
-    ap (λ x. tells x c) (known-here list m n (Some new) h) ∙ low c ∙ ap (λ x. tells x c || nat_le cost c) (sym is)
+    ap (λ x. is_within (least_in x) c) (known-here list m n (Some new) h) ∙ low c ∙ ap (λ x. is_within (least_in x) c || is_first cost c) (sym is)
 
 -- the lists that a list begins with, shorter than a number
 abbrev pub passed : ℕ → Keys → Keys → Bool
@@ -102,11 +103,11 @@ short (suc n) [] = omega arith
 short (suc n) (k ∷ ks) = let le = short n ks in omega (arith, le)
 
 -- one more of the lists that a list begins with was lowered
-pub lowered-more : (old now new : Bounds) (list : Keys) (i cost : ℕ) → i ≤ length list →
-    ((ks : Keys) (n : ℕ) → is_told now ks n ≡ (is_told old ks n || (passed i list ks && nat_le cost n))) →
-    ((n : ℕ) → is_told new (take i list) n ≡ (is_told now (take i list) n || nat_le cost n)) →
+pub lowered-more : (old now new : Bounds) (list : Keys) (i : ℕ) (cost : Pair) → i ≤ length list →
+    ((ks : Keys) (n : Pair) → is_told now ks n ≡ (is_told old ks n || (passed i list ks && is_first cost n))) →
+    ((n : Pair) → is_told new (take i list) n ≡ (is_told now (take i list) n || is_first cost n)) →
     ((ks : Keys) → ks ≢ take i list → known_at new ks ≡ known_at now ks) →
-    (ks : Keys) (n : ℕ) → is_told new ks n ≡ (is_told old ks n || (passed (i + 1) list ks && nat_le cost n))
+    (ks : Keys) (n : Pair) → is_told new ks n ≡ (is_told old ks n || (passed (i + 1) list ks && is_first cost n))
 lowered-more old now new list i cost le before here others ks n = ⊎_elim at-it elsewhere (same-or (take i list) ks)
   where
     long : length (take i list) ≡ i
@@ -115,15 +116,15 @@ lowered-more old now new list i cost le before here others ks n = ⊎_elim at-it
     covered : covers list (take i list) ≡ true
     covered = prefix-covers list (take i list) (ap (λ k. take k list) long)
 
-    first : is_told new (take i list) n ≡ (is_told old (take i list) n || (passed (i + 1) list (take i list) && nat_le cost n))
+    first : is_told new (take i list) n ≡ (is_told old (take i list) n || (passed (i + 1) list (take i list) && is_first cost n))
     first =
-        here n ∙ ap (λ b. b || nat_le cost n) (before (take i list) n)
-        ∙ joined (is_told old (take i list) n) (passed i list (take i list)) (passed (i + 1) list (take i list)) (nat_le cost n)
+        here n ∙ ap (λ b. b || is_first cost n) (before (take i list) n)
+        ∙ joined (is_told old (take i list) n) (passed i list (take i list)) (passed (i + 1) list (take i list)) (is_first cost n)
         (and-differ (covers list (take i list)) (nat_lt (length (take i list)) i) (at-length (length (take i list)) i long))
         (and_from (covers list (take i list)) (nat_lt (length (take i list)) (i + 1)) covered (below-next (length (take i list)) i long))
 
-    at-it : take i list ≡ ks → is_told new ks n ≡ (is_told old ks n || (passed (i + 1) list ks && nat_le cost n))
-    at-it same = subst (λ (l : Keys). is_told new l n ≡ (is_told old l n || (passed (i + 1) list l && nat_le cost n))) same first
+    at-it : take i list ≡ ks → is_told new ks n ≡ (is_told old ks n || (passed (i + 1) list ks && is_first cost n))
+    at-it same = subst (λ (l : Keys). is_told new l n ≡ (is_told old l n || (passed (i + 1) list l && is_first cost n))) same first
 
     apart-from : bytes_eq (take i list) ks ≡ false → ks ≡ take i list → ⊥
     apart-from differ e = false≢true (sym differ ∙ (bytes_decides (take i list) ks).1 (sym e))
@@ -133,10 +134,10 @@ lowered-more old now new list i cost le before here others ks n = ⊎_elim at-it
     as-passed differ true e =
         ap (λ b. covers list ks && b) (not-at (length ks) i (λ is. apart-from differ (sym (covers-prefix list ks e) ∙ ap (λ k. take k list) is)))
 
-    elsewhere : bytes_eq (take i list) ks ≡ false → is_told new ks n ≡ (is_told old ks n || (passed (i + 1) list ks && nat_le cost n))
+    elsewhere : bytes_eq (take i list) ks ≡ false → is_told new ks n ≡ (is_told old ks n || (passed (i + 1) list ks && is_first cost n))
     elsewhere differ =
-        ap (λ x. tells x n) (others ks (apart-from differ)) ∙ before ks n
-        ∙ ap (λ b. is_told old ks n || (b && nat_le cost n)) (as-passed differ (covers list ks) refl)
+        ap (λ x. is_within (least_in x) n) (others ks (apart-from differ)) ∙ before ks n
+        ∙ ap (λ b. is_told old ks n || (b && is_first cost n)) (as-passed differ (covers list ks) refl)
 
 pub passed-all : (list ks : Keys) → passed (length list + 1) list ks ≡ covers list ks
 passed-all list ks = by (covers list ks) refl
@@ -163,16 +164,16 @@ pub rooms-all : (b : Bounds) (list : Keys) → ((m : ℕ) → m < length list �
 rooms-all b list shorter whole m = ⊎_elim (shorter m) (λ le. subst (λ (l : Keys). IsSome (known_at b l)) (sym (take_all m list le)) whole) (cases_lt m (length list))
 
 -- the cost was told of the shorter lists that a list begins with, and of the list
-pub lowered-each : (old now new : Bounds) (list : Keys) (cost : ℕ) →
-    ((ks : Keys) (n : ℕ) → is_told now ks n ≡ (is_told old ks n || (passed (length list) list ks && nat_le cost n))) →
-    ((n : ℕ) → is_told new list n ≡ (is_told now list n || nat_le cost n)) →
+pub lowered-each : (old now new : Bounds) (list : Keys) (cost : Pair) →
+    ((ks : Keys) (n : Pair) → is_told now ks n ≡ (is_told old ks n || (passed (length list) list ks && is_first cost n))) →
+    ((n : Pair) → is_told new list n ≡ (is_told now list n || is_first cost n)) →
     ((ks : Keys) → ks ≢ list → known_at new ks ≡ known_at now ks) →
-    (ks : Keys) (n : ℕ) → is_told new ks n ≡ (is_told old ks n || (covers list ks && nat_le cost n))
+    (ks : Keys) (n : Pair) → is_told new ks n ≡ (is_told old ks n || (covers list ks && is_first cost n))
 lowered-each old now new list cost before here others ks n =
     lowered-more old now new list (length list) cost (omega arith) before
-    (subst (λ (l : Keys). (n : ℕ) → is_told new l n ≡ (is_told now l n || nat_le cost n)) whole here)
+    (subst (λ (l : Keys). (n : Pair) → is_told new l n ≡ (is_told now l n || is_first cost n)) whole here)
     (subst (λ (l : Keys). (ks : Keys) → ks ≢ l → known_at new ks ≡ known_at now ks) whole others) ks n
-    ∙ ap (λ b. is_told old ks n || (b && nat_le cost n)) (passed-all list ks)
+    ∙ ap (λ b. is_told old ks n || (b && is_first cost n)) (passed-all list ks)
   where
     whole : list ≡ take (length list) list
     whole = sym (take_all (length list) list (omega arith))

@@ -1,19 +1,36 @@
 -- Paths that would not be kept beside others, and bounds that tell so (PostgreSQL, src/backend/optimizer/util/pathnode.c,
 -- add_path_precheck; that bounds stand beside the paths is own).
-use Rattle.std.specs.Prelude.{◌≡◌, ◌≤◌, ◌↔◌, ℕ, Bool, true, false, nat_le, List, Option, None, Some, Vec, Contains}
+use Rattle.std.specs.Prelude.{◌≡◌, ◌≤◌, ◌↔◌, ◌&&◌, ◌||◌, ℕ, Bool, true, false, nat_eq, nat_le, nat_lt, List, Option, None, Some, Vec, Contains}
 use Rattle.std.specs.BTreeMap.{BTreeMap, get_by}
 use Rattle.std.specs.Global.{Global}
 use Rattle.std.specs.Cmp.Lexicographic.{slice_cmp}
 use Rattle.std.specs.Ordering.{nat_cmp}
+use Rattle.cost_rules.specs.Costs.{pair}
+use Rattle.cost_rules.specs.declared.pair.Pair.{Pair}
 use Rattle.pathkeys.specs.Keys.{Keys, covers}
 use Rattle.plan_tree.specs.Paths.{Path}
 use Rattle.kept_paths.specs.declared.bounds.Known.{Known}
 
--- a path of a list costs no more, and its keys begin with these
-pub record IsBeaten (paths : List Path) (cost : ℕ) (keys : Keys) : Type 0 where
+-- a path of a list costs no more, neither before its first row nor in all, and its keys begin with these
+pub record IsBeaten (paths : List Path) (cost : Pair) (keys : Keys) : Type 0 where
   pub path : Path
   pub is_there : Contains paths path
-  pub cheap : path.cost ≤ cost
+  pub early : path.startup ≤ cost.startup
+  pub cheap : path.cost ≤ cost.total
+  pub covers : covers path.keys keys ≡ true
+
+-- one cost comes no later than another by the totals, and where these are equal by the startups
+abbrev pub is_first : Pair → Pair → Bool
+is_first a b = nat_lt a.total b.total || (nat_eq a.total b.total && nat_le a.startup b.startup)
+
+abbrev pub pair_of : Path → Pair
+pair_of p = pair p.startup p.cost
+
+-- a path of a list costs no more so, and its keys begin with these
+pub record IsPreceded (paths : List Path) (cost : Pair) (keys : Keys) : Type 0 where
+  pub path : Path
+  pub is_there : Contains paths path
+  pub first : is_first (pair_of path) cost ≡ true
   pub covers : covers path.keys keys ≡ true
 
 abbrev pub Bounds : Type 0
@@ -23,19 +40,29 @@ Bounds = BTreeMap (Vec ℕ Global) Known
 abbrev pub known_at : Bounds → Keys → Option Known
 known_at bounds keys = get_by (λ k. slice_cmp nat_cmp keys k.items) bounds
 
--- a least cost that is no more than another cost
-abbrev pub is_within : Option ℕ → ℕ → Bool
+abbrev pub least_in : Option Known → Option Pair
+least_in None = None
+least_in (Some known) = known.least
+
+-- the least cost of a list, where one is known
+abbrev pub least_at : Bounds → Keys → Option Pair
+least_at bounds keys = least_in (known_at bounds keys)
+
+-- a least cost that comes no later than another cost
+abbrev pub is_within : Option Pair → Pair → Bool
 is_within None cost = false
-is_within (Some least) cost = nat_le least cost
+is_within (Some least) cost = is_first least cost
 
-abbrev pub tells : Option Known → ℕ → Bool
-tells None cost = false
-tells (Some known) cost = is_within known.least cost
+-- a list is known with a least cost that comes no later
+abbrev pub is_told : Bounds → Keys → Pair → Bool
+is_told bounds keys cost = is_within (least_at bounds keys) cost
 
--- a list is known with a least cost that is no more
-abbrev pub is_told : Bounds → Keys → ℕ → Bool
-is_told bounds keys cost = tells (known_at bounds keys) cost
+-- a least cost that is no more than another cost, neither before the first row nor in all
+abbrev pub beats : Option Pair → Pair → Bool
+beats None cost = false
+beats (Some least) cost = nat_le least.startup cost.startup && nat_le least.total cost.total
 
--- the bounds tell of each list and cost just whether a path costs no more, with keys that begin with the list
+-- the bounds tell of each list and cost just whether a path costs no more by its total, then by its startup, with keys that
+-- begin with the list
 abbrev pub AreTold : List Path → Bounds → Type 0
-AreTold paths bounds = (keys : Keys) (cost : ℕ) → (is_told bounds keys cost ≡ true) ↔ IsBeaten paths cost keys
+AreTold paths bounds = (keys : Keys) (cost : Pair) → (is_told bounds keys cost ≡ true) ↔ IsPreceded paths cost keys

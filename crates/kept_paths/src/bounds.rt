@@ -1,9 +1,12 @@
-//! For each list of classes, the least that paths whose keys begin with it cost.
+//! For each list of classes, the least cost of a path whose keys begin with it.
 
-ghost use Rattle.std.specs.Prelude.{◌≡◌, ◌≢◌, ◌&&◌, ◌||◌, ℕ, IsSome, OnOk, nat_le, take};
+ghost use Rattle.std.specs.Prelude.{◌≡◌, ◌≢◌, ◌&&◌, ◌||◌, ℕ, IsSome, OnOk, take};
+ghost use Rattle.cost_rules.specs.declared.pair.Pair as pairs;
 ghost use Rattle.pathkeys.specs.Keys as keys;
-ghost use Rattle.kept_paths.specs.Bounds.{is_told, is_within, known_at};
+ghost use Rattle.kept_paths.specs.Bounds.{is_first, is_told, is_within, known_at};
+ghost use Rattle.kept_paths.specs.Bounds as bounds_of;
 
+use cost_rules::Pair;
 use pg_base::Memory;
 use std::alloc::Global;
 use std::collections::BTreeMap;
@@ -11,8 +14,8 @@ use std::collections::BTreeMap;
 /// What is known of the paths whose keys begin with a list.
 #[derive(Clone, Copy)]
 pub(crate) struct Known {
-    /// The least that one of them costs, where there is one.
-    least: Option<u64>,
+    /// The least cost of one of them by its total, then by its startup, where there is one.
+    least: Option<Pair>,
     /// Where a path of just these keys was put last, if one was.
     at: Option<usize>,
 }
@@ -20,23 +23,34 @@ pub(crate) struct Known {
 /// What is known of each list that the keys of a path begin with, by the numbers of its classes.
 pub(crate) type Bounds = BTreeMap<Vec<u16>, Known>;
 
-/// Whether a path costs no more than a cost, with keys that begin with a list.
-pub(crate) fn is_told(bounds: &Bounds, list: &[u16], cost: u64) -> bool
-    ensures { result ≡ is_told bounds.now list.now cost }
+/// The least cost of a path whose keys begin with a list, where there is one.
+pub(crate) fn least_at(bounds: &Bounds, list: &[u16]) -> Option<Pair>
+    ensures { result ≡ bounds_of.least_at bounds.now list.now }
 {
     match bounds.get(list) {
-        Some(known) => is_within(known.least, cost),
+        Some(known) => known.least,
+        None => None,
+    }
+}
+
+/// Whether a least cost is no more than another cost, neither before the first row nor in all.
+pub(crate) fn beats(least: Option<Pair>, cost: Pair) -> bool
+    ensures { result ≡ bounds_of.beats least cost }
+{
+    match least {
+        Some(least) => least.startup <= cost.startup && least.total <= cost.total,
         None => false,
     }
 }
 
-/// Whether a least cost is no more than another cost.
-fn is_within(least: Option<u64>, cost: u64) -> bool
-    ensures { result ≡ is_within least cost }
+/// The one of two costs that comes first by its total, then by its startup.
+fn first_of(a: Pair, b: Pair) -> Pair
+    ensures { (n : pairs.Pair) → is_first result n ≡ (is_first a n || is_first b n) }
 {
-    match least {
-        Some(least) => least <= cost,
-        None => false,
+    if a.total < b.total || a.total == b.total && a.startup <= b.startup {
+        a
+    } else {
+        b
     }
 }
 
@@ -50,7 +64,7 @@ pub(crate) fn place_of(bounds: &Bounds, list: &[u16]) -> Option<usize> {
 
 /// Makes room for a list, of which nothing more is told then. The error means want of memory.
 fn add_room(alloc: Global, bounds: &mut Bounds, list: &[u16]) -> Result<(), Memory>
-    ensures told { (ks : keys.Keys) (n : ℕ) → is_told bounds.new ks n ≡ is_told bounds.old ks n }
+    ensures told { (ks : keys.Keys) (n : pairs.Pair) → is_told bounds.new ks n ≡ is_told bounds.old ks n }
     ensures room { OnOk result (IsSome (known_at bounds.new list.now)) }
     ensures rooms { (ks : keys.Keys) → IsSome (known_at bounds.old ks) → IsSome (known_at bounds.new ks) }
 {
@@ -68,7 +82,7 @@ fn add_room(alloc: Global, bounds: &mut Bounds, list: &[u16]) -> Result<(), Memo
 
 /// Makes room for each list that a list begins with. The error means want of memory.
 pub(crate) fn add_rooms(alloc: Global, bounds: &mut Bounds, list: &[u16]) -> Result<(), Memory>
-    ensures told { (ks : keys.Keys) (n : ℕ) → is_told bounds.new ks n ≡ is_told bounds.old ks n }
+    ensures told { (ks : keys.Keys) (n : pairs.Pair) → is_told bounds.new ks n ≡ is_told bounds.old ks n }
     ensures rooms { OnOk result ((n : ℕ) → IsSome (known_at bounds.new (take n list.now))) }
 {
     for n in 0..list.len() {
@@ -78,11 +92,11 @@ pub(crate) fn add_rooms(alloc: Global, bounds: &mut Bounds, list: &[u16]) -> Res
 }
 
 /// What is known once a path of a cost is there too, which was put at a place if it has just these keys.
-fn lowered(known: Known, cost: u64, at: Option<usize>) -> Known
-    ensures { (n : ℕ) → is_within result.least n ≡ (is_within known.least n || nat_le cost n) }
+fn lowered(known: Known, cost: Pair, at: Option<usize>) -> Known
+    ensures { (n : pairs.Pair) → is_within result.least n ≡ (is_within known.least n || is_first cost n) }
 {
     let least = match known.least {
-        Some(least) => least.min(cost),
+        Some(least) => first_of(least, cost),
         None => cost,
     };
     Known {
@@ -92,9 +106,9 @@ fn lowered(known: Known, cost: u64, at: Option<usize>) -> Known
 }
 
 /// Notes of a list that there is a path of a cost, which was put at a place if it has just these keys.
-fn lower(bounds: &mut Bounds, list: &[u16], cost: u64, at: Option<usize>)
+fn lower(bounds: &mut Bounds, list: &[u16], cost: Pair, at: Option<usize>)
     requires { IsSome (known_at bounds.old list.now) }
-    ensures here { (n : ℕ) → is_told bounds.new list.now n ≡ (is_told bounds.old list.now n || nat_le cost n) }
+    ensures here { (n : pairs.Pair) → is_told bounds.new list.now n ≡ (is_told bounds.old list.now n || is_first cost n) }
     ensures others { (ks : keys.Keys) → ks ≢ list.now → known_at bounds.new ks ≡ known_at bounds.old ks }
     ensures room { IsSome (known_at bounds.new list.now) }
 {
@@ -104,9 +118,9 @@ fn lower(bounds: &mut Bounds, list: &[u16], cost: u64, at: Option<usize>)
 }
 
 /// Notes of each list that a path's keys begin with what the path costs, and where it was put.
-pub(crate) fn lower_each(bounds: &mut Bounds, list: &[u16], cost: u64, at: usize)
+pub(crate) fn lower_each(bounds: &mut Bounds, list: &[u16], cost: Pair, at: usize)
     requires { (n : ℕ) → IsSome (known_at bounds.old (take n list.now)) }
-    ensures { (ks : keys.Keys) (n : ℕ) → is_told bounds.new ks n ≡ (is_told bounds.old ks n || keys.covers list.now ks && nat_le cost n) }
+    ensures { (ks : keys.Keys) (n : pairs.Pair) → is_told bounds.new ks n ≡ (is_told bounds.old ks n || keys.covers list.now ks && is_first cost n) }
 {
     for n in 0..list.len() {
         lower(bounds, &list[..n], cost, None);

@@ -6,7 +6,8 @@ ghost use Rattle.pareto.specs.Front.{AreKeptOr};
 ghost use Rattle.plan_tree.specs.Views.{is_path_at_most, path};
 ghost use Rattle.kept_paths.specs.Bounds.{AreTold, IsBeaten};
 
-use crate::bounds::{Bounds, add_rooms, is_told, lower_each, place_of};
+use crate::bounds::{Bounds, add_rooms, beats, least_at, lower_each, place_of};
+use cost_rules::Pair;
 use pareto::{Front, Ranked};
 use pathkeys::Keys;
 use pg_base::Memory;
@@ -99,7 +100,10 @@ fn keep(alloc: Global, paths: &mut Vec<Path>, bounds: &mut Bounds, made: Path) -
     ensures err { OnErr result (paths.new.items ≡ paths.old.items) }
     ensures told { AreTold (map path paths.old.items) bounds.old → AreTold (map path paths.new.items) bounds.new }
 {
-    let cost = made.cost;
+    let cost = Pair {
+        startup: made.startup,
+        total: made.cost,
+    };
     let list = numbers_of(alloc, &made.keys)?;
     add_rooms(alloc, bounds, list.as_slice())?;
     let place = place_of(bounds, list.as_slice()).unwrap_or(paths.len());
@@ -148,13 +152,15 @@ impl KeptPaths {
         }
     }
 
-    /// Whether some path costs no more, with keys that begin with these. Where all are of one set and parameterisation, such a
-    /// path is at most each one of that cost and these keys. The error means want of memory.
-    pub fn is_beaten(&self, alloc: Global, cost: u64, by: &Keys) -> Result<bool, Memory>
-        ensures { IfOk result (λ b. IsTrue b ↔ IsBeaten (map path self.now) cost by.now) }
+    /// Whether some path costs no more, neither before its first row nor in all, with keys that begin with these: where it
+    /// says yes there is one, and where no path has a startup it says yes if there is one. Where all are of one set and
+    /// parameterisation, such a path is at most each one of that cost and these keys. The error means want of memory.
+    pub fn is_beaten(&self, alloc: Global, cost: Pair, by: &Keys) -> Result<bool, Memory>
+        ensures sound { IfOk result (λ b. IsTrue b → IsBeaten (map path self.now) cost by.now) }
+        ensures exact { IfOk result (λ b. All (λ p. p.startup ≡ 0) (map path self.now) → IsBeaten (map path self.now) cost by.now → IsTrue b) }
     {
         let list = numbers_of(alloc, by)?;
-        Ok(is_told(&self.bounds, list.as_slice(), cost))
+        Ok(beats(least_at(&self.bounds, list.as_slice()), cost))
     }
 
     /// Keeps a path. One that it is at most may be let go of. The error means want of memory, and all is as before.

@@ -15,3 +15,4 @@ pub mod FrontLemmas
 pub mod PathLemmas
 pub mod PricingLemmas
 pub mod CostableLemmas
+pub mod WindowLemmas

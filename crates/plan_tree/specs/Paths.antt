@@ -4,6 +4,8 @@ use Rattle.std.specs.Prelude.{◌≡◌, ℕ, Bool, ◌&&◌, nat_eq, nat_le, Op
 use Rattle.pg_base.specs.Sets.{has}
 use Rattle.pg_base.specs.declared.rel_set.RelSet.{RelSet}
 use Rattle.catalog.specs.Contents.{Contents}
+use Rattle.cost_rules.specs.Costs.{pair}
+use Rattle.cost_rules.specs.declared.pair.Pair.{Pair}
 use Rattle.sql_query.specs.Queries.{Query}
 use Rattle.sql_query.specs.declared.window.Window.{Window}
 use Rattle.pathkeys.specs.Keys.{Keys, covers}
@@ -26,6 +28,10 @@ pub record Path : Type 0 where
 abbrev pub startup_kept : Option Window → ℕ → ℕ
 startup_kept None n = 0
 startup_kept (Some w) n = n
+
+-- what a path keeps of a cost: that startup, and the total
+abbrev pub kept_cost : Option Window → Pair → Pair
+kept_cost w cost = pair (startup_kept w cost.startup) cost.total
 
 -- the set, the numbers and the keys of a path are those of its plan
 pub record HasItsNumbers (c : Contents) (q : Query) (p : Path) : Type 0 where

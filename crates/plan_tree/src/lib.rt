@@ -36,4 +36,4 @@ pub use plan::Plan;
 pub use pricing::{arms_at, bitmap_scan_cost, cost, use_tree};
 pub use scans::{bounds_and_tests, index_scan_cost, seq_scan_cost};
 pub use sets::set_of;
-pub use window::{asked, price_of, startup_of};
+pub use window::{asked, cost_of, kept_of, price_of, startup_of};

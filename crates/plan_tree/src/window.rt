@@ -2,11 +2,15 @@
 
 ghost use Rattle.std.specs.Prelude.{◌≡◌, ◌≤◌};
 ghost use Rattle.catalog.specs.Contents.{Contents};
-ghost use Rattle.cost_rules.specs.Costs.{IsEstimate};
+ghost use Rattle.cost_rules.specs.Costs.{IsCost, IsEstimate, capped_pair};
 ghost use Rattle.plan_tree.specs.Costs as costs;
-ghost use Rattle.plan_tree.specs.Paths.{startup_kept};
+ghost use Rattle.plan_tree.specs.Least.{IsAdmissible};
+ghost use Rattle.plan_tree.specs.Paths.{HasItsNumbers, kept_cost, startup_kept};
 ghost use Rattle.plan_tree.specs.Plans as plans;
+ghost use Rattle.plan_tree.specs.Views.{path};
 
+use crate::path::Path;
+use catalog::Catalog;
 use cost_rules::{Pair, price};
 use sql_query::{Prepared, Window};
 
@@ -17,6 +21,32 @@ pub fn startup_of(q: &Prepared, cost: Pair) -> u64
     match q.window {
         None => 0,
         Some(_) => cost.startup,
+    }
+}
+
+/// What a path keeps of a cost.
+pub fn kept_of(q: &Prepared, cost: Pair) -> Pair
+    requires { IsCost cost }
+    ensures kept { result ≡ kept_cost q.now.window cost }
+    ensures cost { IsCost result }
+{
+    Pair {
+        startup: startup_of(q, cost),
+        total: cost.total,
+    }
+}
+
+/// The cost of an admissible path: what it keeps of its plan's.
+pub fn cost_of(cat: &Catalog, q: &Prepared, p: &Path) -> Pair
+    requires numbers { HasItsNumbers cat.now q.now (path p.now) }
+    requires admissible { IsAdmissible cat.now q.now (path p.now).tree }
+    ensures kept { result ≡ capped_pair (kept_cost q.now.window (costs.cost cat.now q.now (path p.now).tree)) }
+    ensures cost { IsCost result }
+{
+    cat.lawful();
+    Pair {
+        startup: p.startup,
+        total: p.cost,
     }
 }
 
@@ -31,11 +61,11 @@ pub fn asked(w: Window, rows: u64) -> u64
     }
 }
 
-/// The price of a plan of all relations, whose cost and whose rows are given.
+/// The price of a plan of all relations, of which what a path keeps of its cost, and its rows are given.
 pub fn price_of(q: &Prepared, cost: Pair, rows: u64) -> u64
     requires startup { cost.startup ≤ cost.total }
     requires rows { IsEstimate rows }
-    ensures price { (c : Contents) (p : plans.Plan) → cost ≡ costs.cost c q.now p → rows ≡ costs.query_rows c q.now → result ≡ costs.price c q.now p }
+    ensures price { (c : Contents) (p : plans.Plan) → cost ≡ kept_cost q.now.window (costs.cost c q.now p) → rows ≡ costs.query_rows c q.now → result ≡ costs.price c q.now p }
     ensures most { result ≤ cost.total }
 {
     match q.window {

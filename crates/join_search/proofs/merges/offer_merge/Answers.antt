@@ -14,8 +14,8 @@ pub returns-then-branch-clause-served : goal.returns-then-branch-clause-served
 returns-then-branch-clause-served c =
     let fronts = paths_at c.args.table.now in
     sides-beaten c.args.cat.now c.args.q.now fronts c.requires.placed c.args.j c.args.by.now c.requires.split c.requires.list (side_path c.args.outer) (side_path c.args.inner) c.args.outer.sorted c.args.inner.sorted c.requires.outer c.requires.inner
-    (map path c.args.front.now) c.merge_total-cost.result c.in_ok-keys.keys (joins-there c.args.cat.now c.args.q.now fronts c.args.j.set (map path c.args.front.now) c.requires.joins) c.merge_total-cost.ensures c.in_ok-keys.ensures c.has_no_window.ensures
-    (c.in_ok-is_beaten.ensures.0 c.if-branch.true)
+    (map path c.args.front.now) c.merge_kept-cost.result c.in_ok-keys.keys (joins-there c.args.cat.now c.args.q.now fronts c.args.j.set (map path c.args.front.now) c.requires.joins) c.merge_kept-cost.ensures c.in_ok-keys.ensures
+    (c.in_ok-is_beaten.ensures.sound c.if-branch.true)
 
 pub offer_join-requires-clause-of : goal.offer_join-requires-clause-of
 offer_join-requires-clause-of c =

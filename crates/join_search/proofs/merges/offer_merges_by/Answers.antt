@@ -1,46 +1,49 @@
 use Rattle.std.proofs.Common.{map, subst}
 use Rattle.std.specs.Prelude.{List}
+use Rattle.std.proofs.lemmas.List.Elements.{All-contains}
 use Rattle.std.proofs.lemmas.Result.{on_ok_weaker}
 use Rattle.plan_tree.specs.Paths.{Path}
 use Rattle.plan_tree.specs.Views.{path}
+use Rattle.plan_tree.proofs.BoundLemmas.{lawful-rows}
+use Rattle.join_search.specs.Joins.{IsPathAt}
 use Rattle.join_search.specs.Merges.{IsBestSide, IsSideOf, side_path, side_plan}
 use Rattle.join_search.specs.Tables.{none, paths_at}
 use Rattle.join_search.proofs.ItemLemmas.{lent-at, none-lent}
-use Rattle.join_search.proofs.MergeLemmas.{merges-none, merges-served, outers-served, plain-later}
+use Rattle.join_search.proofs.MergeLemmas.{merges-none, merges-served, outers-later}
 use Rattle.join_search.proofs.OfferLemmas.{takes-none, takes-then}
 use Rattle.join_search.proofs.merges.offer_merges_by.Goals as goal
 
 pub best_side-requires-clause-paths : goal.best_side-requires-clause-paths
 best_side-requires-clause-paths c = lent-at c.args.cat.now c.args.q.now (paths_at c.args.table.now) c.args.j.inner none c.paths-inners.result.now c.requires.placed c.paths-inners.ensures
 
-pub offer_plain-requires-clause-inner : goal.offer_plain-requires-clause-inner
-offer_plain-requires-clause-inner c =
-    subst (λ (ps : List Path). IsSideOf c.args.by.now ps (side_path c.in-Some.inner) c.in-Some.inner.sorted) c.paths-inners.ensures c.in-Some.ensures.some.side
+pub side_cost-cost-requires-clause-at : goal.side_cost-cost-requires-clause-at
+side_cost-cost-requires-clause-at c =
+    All-contains (IsPathAt c.args.cat.now c.args.q.now c.args.j.inner none) (map path c.paths-inners.result.now) (side_path c.in-Some.best)
+    (lent-at c.args.cat.now c.args.q.now (paths_at c.args.table.now) c.args.j.inner none c.paths-inners.result.now c.requires.placed c.paths-inners.ensures) c.in-Some.ensures.some.side.is_there
 
-pub offer_sorted-requires-clause-inner : goal.offer_sorted-requires-clause-inner
-offer_sorted-requires-clause-inner c =
-    subst (λ (ps : List Path). IsSideOf c.args.by.now ps (side_path c.in-Some.inner) c.in-Some.inner.sorted) c.paths-inners.ensures c.in-Some.ensures.some.side
+pub offer_side-requires-clause-inner : goal.offer_side-requires-clause-inner
+offer_side-requires-clause-inner c =
+    subst (λ (ps : List Path). IsSideOf c.args.by.now ps (side_path c.in-Some.best) c.in-Some.best.sorted) c.paths-inners.ensures c.in-Some.ensures.some.side
 
-pub returns-in_ok-offer_plain-in-Some-clause-takes : goal.returns-in_ok-offer_plain-in-Some-clause-takes
-returns-in_ok-offer_plain-in-Some-clause-takes c =
-    takes-then c.args.cat.now c.args.q.now (paths_at c.args.table.now) c.args.j.set (map path c.args.front.now) (map path c.offer_plain.new.front) (map path c.offer_sorted.new.front) c.offer_plain.ensures.takes c.offer_sorted.ensures.takes
+pub returns-in_ok-offer_side-in-Some-clause-takes : goal.returns-in_ok-offer_side-in-Some-clause-takes
+returns-in_ok-offer_side-in-Some-clause-takes c =
+    takes-then c.args.cat.now c.args.q.now (paths_at c.args.table.now) c.args.j.set (map path c.args.front.now) (map path c.offer_side.new.front) (map path c.offer_early_sides.new.front) c.offer_side.ensures.takes c.offer_early_sides.ensures.takes
 
-pub returns-in_ok-offer_plain-in-Some-clause-served : goal.returns-in_ok-offer_plain-in-Some-clause-served
-returns-in_ok-offer_plain-in-Some-clause-served c =
+pub returns-in_ok-offer_side-in-Some-clause-served : goal.returns-in_ok-offer_side-in-Some-clause-served
+returns-in_ok-offer_side-in-Some-clause-served c =
     let contents = c.args.cat.now in
     let q = c.args.q.now in
     let by' = c.args.by.now in
     let j = c.args.j in
     let fronts = paths_at c.args.table.now in
-    let s = c.in-Some.inner in
-    let i = side_plan by' s in
-    let middle = map path c.offer_plain.new.front in
-    let after = map path c.offer_sorted.new.front in
+    let s = c.in-Some.best in
+    let middle = map path c.offer_side.new.front in
+    let after = map path c.offer_early_sides.new.front in
     let best = subst (λ (ps : List Path). IsBestSide contents q by' ps (side_path s) s.sorted) c.paths-inners.ensures c.in-Some.ensures.some in
-    on_ok_weaker c.offer_sorted.result
-    (λ sorted. merges-served contents q c.has_no_window.ensures after (fronts j.outer none) (fronts j.inner none) by' j.inner (side_path s) s.sorted (c.requires.placed.paths j.inner none) best
-    (outers-served contents q after (fronts j.outer none) by' j.outer i (c.requires.placed.paths j.outer none) (plain-later contents q middle after (fronts j.outer none) by' i c.offer_sorted.ensures.takes.still c.in_ok-offer_plain-in-Some.ensures.served) sorted))
-    c.offer_sorted.ensures.served
+    on_ok_weaker c.offer_early_sides.result
+    (merges-served contents q (lawful-rows contents q c.lawful.ensures) after (fronts j.outer none) (fronts j.inner none) by' j.inner (side_path s) s.sorted c.side_cost-cost.result (c.requires.placed.paths j.inner none) best (c.side_cost-cost.ensures.kept by')
+    (outers-later contents q middle after (fronts j.outer none) by' (side_plan by' s) c.offer_early_sides.ensures.takes.still c.in_ok-offer_side-in-Some.ensures.served))
+    c.offer_early_sides.ensures.served
 
 pub returns-in-None-clause-takes : goal.returns-in-None-clause-takes
 returns-in-None-clause-takes c = takes-none c.args.cat.now c.args.q.now (paths_at c.args.table.now) c.args.j.set (map path c.args.front.now) c.requires.joins

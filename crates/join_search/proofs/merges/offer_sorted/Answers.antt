@@ -21,7 +21,7 @@ returns-in-Some-clause-served c =
     let ps = paths_at c.args.table.now a none in
     let p = c.in-Some.path.now in
     on_ok_weaker c.offer_merge.result
-    (sorted-served c.args.cat.now c.args.q.now c.has_no_window.ensures (map path c.offer_merge.new.front) ps c.args.by.now a (path p) (side_plan c.args.by.now c.args.inner) (c.requires.placed.paths a none)
+    (sorted-served c.args.cat.now c.args.q.now (map path c.offer_merge.new.front) ps c.args.by.now a (path p) (side_plan c.args.by.now c.args.inner) (c.requires.placed.paths a none)
     (cheapest-lent c.paths-outers.result.now ps p c.paths-outers.ensures c.in-Some.ensures.is_there c.in-Some.ensures.least))
     c.offer_merge.ensures.served
 

@@ -1,5 +1,6 @@
-use Rattle.std.proofs.Common.{map}
+use Rattle.std.proofs.Common.{ap, map}
 use Rattle.std.proofs.lemmas.List.Elements.{All-contains}
+use Rattle.cost_rules.specs.declared.pair.Pair.{Pair}
 use Rattle.plan_tree.specs.Views.{path}
 use Rattle.plan_tree.proofs.FrontLemmas.{contains-mapped}
 use Rattle.join_search.specs.Joins.{IsPathAt}
@@ -13,8 +14,8 @@ cheapest_by-requires c = record { below = paths-below c.args.cat.now c.args.q.no
 pub returns-in-Some-clause-some : goal.returns-in-Some-clause-some
 returns-in-Some-clause-some c =
     let p = c.in_ok-cheapest.ensures in
-    best-either c.args.cat.now c.args.q.now c.args.by.now c.args.set c.args.paths.now c.in_ok-cheapest.field-0.now c.in-Some.plain.now c.cheaper_side.result.path.now c.cheaper_side.result.sorted c.side_cost-cost.result
-    c.requires.paths p.is_there p.least c.in-Some.ensures.some (c.side_cost-cost.ensures.cost c.args.by.now) c.cheaper_side.ensures.plain c.cheaper_side.ensures.sorted
+    best-either c.args.cat.now c.args.q.now c.args.by.now c.args.set c.args.paths.now c.in_ok-cheapest.field-0.now c.in-Some.plain.now c.cheaper_side.result.path.now c.cheaper_side.result.sorted c.side_cost-cost.result.total
+    c.requires.paths p.is_there p.least c.in-Some.ensures.some (ap (λ (n : Pair). n.total) (c.side_cost-cost.ensures.kept c.args.by.now)) c.cheaper_side.ensures.plain c.cheaper_side.ensures.sorted
 
 pub returns-in-None-clause-some : goal.returns-in-None-clause-some
 returns-in-None-clause-some c =

@@ -1,8 +1,9 @@
-use Rattle.std.proofs.Common.{◌≡◌, ◌&&◌, ◌||◌, ℕ, length, nat_le, subst, take, arith}
+use Rattle.std.proofs.Common.{◌≡◌, ◌&&◌, ◌||◌, ℕ, length, subst, take, arith}
 use Rattle.std.proofs.lemmas.List.{take_all}
 use Rattle.std.specs.Option.{IsSome}
 use Rattle.pathkeys.specs.Keys.{Keys}
-use Rattle.kept_paths.specs.Bounds.{is_told, known_at}
+use Rattle.cost_rules.specs.declared.pair.Pair.{Pair}
+use Rattle.kept_paths.specs.Bounds.{is_first, is_told, known_at}
 use Rattle.kept_paths.proofs.ReadLemmas.{lowered-each, lowered-more, passed, room-same}
 use Rattle.kept_paths.proofs.bounds.lower_each.Goals as goal
 
@@ -21,5 +22,5 @@ lower-requires-2 c =
 pub returns : goal.returns
 returns c =
     let list = c.args.list.now in
-    let all = subst (λ (i : ℕ). (ks : Keys) (n : ℕ) → is_told c.loop-n.bounds ks n ≡ (is_told c.args.bounds.now ks n || (passed i list ks && nat_le c.args.cost n))) (omega (arith, c.loop-n-test.false, c.loop-n.auto.n-end)) c.loop-n.invariant.told in
+    let all = subst (λ (i : ℕ). (ks : Keys) (n : Pair) → is_told c.loop-n.bounds ks n ≡ (is_told c.args.bounds.now ks n || (passed i list ks && is_first c.args.cost n))) (omega (arith, c.loop-n-test.false, c.loop-n.auto.n-end)) c.loop-n.invariant.told in
     lowered-each c.args.bounds.now c.loop-n.bounds c.lower-2.new.bounds list c.args.cost all c.lower-2.ensures.here c.lower-2.ensures.others

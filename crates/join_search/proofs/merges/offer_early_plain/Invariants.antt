@@ -1,0 +1,15 @@
+use Rattle.std.proofs.Common.{◌≡◌, ◌<◌, map, take, true}
+use Rattle.std.specs.Prelude.{All}
+use Rattle.pathkeys.specs.Keys.{covers}
+use Rattle.plan_tree.specs.Views.{path}
+use Rattle.join_search.specs.Merges.{AreOutersServed}
+use Rattle.join_search.specs.Offers.{TakesJoins}
+use Rattle.join_search.specs.Tables.{none, paths_at}
+use Rattle.join_search.proofs.merges.offer_early_plain.Given as goal
+
+-- the merges with the inner paths so far, where their keys begin with the list and they start before the cost, were offered
+abbrev pub invariant-loop-inner : goal.invariant-loop-inner
+invariant-loop-inner l = record {
+  takes : TakesJoins l.cat l.q (paths_at l.table) l.j.set (map path l.fn.front) (map path l.front);
+  served : All (λ i. covers (path i).keys l.by ≡ true → (path i).startup < l.startup → AreOutersServed l.cat l.q (map path l.front) (paths_at l.table l.j.outer none) l.by (path i).tree) (take l.inner-index l.inner-items);
+}

@@ -1,0 +1,13 @@
+use Rattle.std.proofs.Common.{◌<◌, map, take}
+use Rattle.std.specs.Prelude.{All}
+use Rattle.plan_tree.specs.Views.{path}
+use Rattle.join_search.specs.Offers.{AreEachServed, TakesJoins}
+use Rattle.join_search.specs.Tables.{none, paths_at}
+use Rattle.join_search.proofs.nests.offer_early.Given as goal
+
+-- the nested loops with the inner paths so far, where they start before the cost, were offered
+abbrev pub invariant-loop-inner : goal.invariant-loop-inner
+invariant-loop-inner l = record {
+  takes : TakesJoins l.cat l.q (paths_at l.table) l.j.set (map path l.fn.front) (map path l.front);
+  served : All (λ i. (path i).startup < l.startup → AreEachServed l.cat l.q (map path l.front) (paths_at l.table l.j.outer none) (path i).tree) (take l.inner-index l.inner-items);
+}

@@ -181,6 +181,11 @@ pub data Include : Type 0 where
 pub data CreateIndex : Type 0 where
   index_on : Key → Token → Ident → Key → Ident → Using → Mark → IndexKey → List (Mark × IndexKey) → Mark → Include → Where → Ending → CreateIndex
 
+-- cand = name ON name [USING name] "(" key { "," key } ")" [INCLUDE "(" name { "," name } ")"] [WHERE expr]: CREATE INDEX without
+-- its first two words and its end
+pub data Cand : Type 0 where
+  cand_on : Ident → Key → Ident → Using → Mark → IndexKey → List (Mark × IndexKey) → Mark → Include → Where → Cand
+
 -- a common value and its share = lit number
 pub data Share : Type 0 where
   share : Lit → Said → Share

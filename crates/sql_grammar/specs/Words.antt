@@ -7,7 +7,7 @@ use Rattle.sql_grammar.specs.declared.class.Free.TheVariants.{By, Common as Comm
 use Rattle.sql_grammar.specs.declared.class.Word.{Word}
 use Rattle.sql_grammar.specs.declared.class.Word.TheVariants.{And, As, Asc, Create, Cross, Desc, False, From, Inner as InnerKey, Is, Join as JoinKey, Not, Null, On, Or, Order, Select, Table, True, Using as UsingKey, Where as WhereKey, With}
 use Rattle.sql_grammar.specs.declared.class.Symbol.TheVariants.{Open, Close, Comma, Dot, Minus, Star}
-use Rattle.sql_grammar.specs.Syntax.{Col, bare, qualified, Constant, yes, no, unknown, Lit, number, negative, quoted, constant, Operand, column, literal, Expr, either_of, Ors, no_or, or_conj, Conj, both_of, Ands, no_and, and_neg, Neg, negated, plain, Atom, parens, compare, is_null, is_not_null, column_alone, constant_alone, Nulls, unwritten, not_null, nullable, ColDef, coldef, Output, every, every_of, one, Alias, no_alias, bare_alias, as_alias, Relation, relation, Inner, no_inner, inner, Join, join_on, cross_join, Group, group_of, Select as SelectTree, select_from, Where, no_where, where_expr, Share, share, Common, no_common, common, Histogram, no_histogram, histogram, Ending, semicolon, text_end, Direction, no_direction, ascending, descending, NullsEnd, no_nulls_end, nulls_first, nulls_last, Ordering, ordering, OrderBy, no_order, order_by, Explaining, no_explain, explain, OrderedSelect, ordered_select, OpClass, no_class, op_class, IndexKey, index_key, Using, no_using, using_method, Include, no_include, include_columns, CreateIndex, index_on, Statement, empty, create_table, create_index, query, copy, sizes, column_statistics}
+use Rattle.sql_grammar.specs.Syntax.{Col, bare, qualified, Constant, yes, no, unknown, Lit, number, negative, quoted, constant, Operand, column, literal, Expr, either_of, Ors, no_or, or_conj, Conj, both_of, Ands, no_and, and_neg, Neg, negated, plain, Atom, parens, compare, is_null, is_not_null, column_alone, constant_alone, Nulls, unwritten, not_null, nullable, ColDef, coldef, Output, every, every_of, one, Alias, no_alias, bare_alias, as_alias, Relation, relation, Inner, no_inner, inner, Join, join_on, cross_join, Group, group_of, Select as SelectTree, select_from, Where, no_where, where_expr, Share, share, Common, no_common, common, Histogram, no_histogram, histogram, Ending, semicolon, text_end, Direction, no_direction, ascending, descending, NullsEnd, no_nulls_end, nulls_first, nulls_last, Ordering, ordering, OrderBy, no_order, order_by, Explaining, no_explain, explain, OrderedSelect, ordered_select, OpClass, no_class, op_class, IndexKey, index_key, Using, no_using, using_method, Include, no_include, include_columns, CreateIndex, index_on, Cand, cand_on, Statement, empty, create_table, create_index, query, copy, sizes, column_statistics}
 
 -- a column, with its table's name and a dot before it where that is written
 abbrev pub words_of_col : Col → List Terminal
@@ -209,6 +209,12 @@ words_of_index (index_on k i n o t u p x xs m c w e) =
     t_key Create k ∷ t_name (free IndexWord i) ∷ t_name n ∷ t_key On o ∷ t_name t ∷
     (words_of_using u ++ t_mark Open p ∷ (words_of_key x ++ (words_of_keys xs ++ t_mark Close m ∷ (words_of_include c ++ (words_of_where w ++ words_of_ending e)))))
 
+-- CREATE INDEX without its first two words and its end
+abbrev pub words_of_cand : Cand → List Terminal
+words_of_cand (cand_on n o t u p x xs m c w) =
+    t_name n ∷ t_key On o ∷ t_name t ∷
+    (words_of_using u ++ t_mark Open p ∷ (words_of_key x ++ (words_of_keys xs ++ t_mark Close m ∷ (words_of_include c ++ words_of_where w))))
+
 -- a common value and its share
 abbrev pub words_of_share : Share → List Terminal
 words_of_share (share l n) = words_of_lit l ++ t_number n ∷ []
@@ -318,6 +324,10 @@ levels_of_ordered (ordered_select _ q _ _) = levels_of_select q
 
 abbrev pub levels_of_index : CreateIndex → ℕ
 levels_of_index (index_on _ _ _ _ _ _ _ _ _ _ _ w _) = levels_of_where w
+
+-- those of CREATE INDEX without its first two words and its end
+abbrev pub levels_of_cand : Cand → ℕ
+levels_of_cand (cand_on _ _ _ _ _ _ _ _ _ w) = levels_of_where w
 
 -- those of a statement
 abbrev pub levels_of : Statement → ℕ

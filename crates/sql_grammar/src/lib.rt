@@ -24,4 +24,4 @@ pub use copy_line::data_start;
 pub use fault::fault_at;
 pub use laws::{one_expression, one_statement, words_are_tokens};
 pub use limits::limit_passed;
-pub use walk::{expr_end, select_end, statement_fault};
+pub use walk::{cand_end, expr_end, select_end, statement_fault};

@@ -2,7 +2,7 @@
 
 use crate::first::{first_fault, first_wrong, limit_fault};
 use pg_base::{Code, Fault, Limit, Refusal};
-use sql_grammar::{data_start, expr_end, select_end};
+use sql_grammar::{cand_end, data_start, expr_end, select_end};
 use sql_lex::lex_statement;
 use std::alloc::Global;
 
@@ -231,6 +231,27 @@ const EXPRESSIONS: [(&[u8], Result<u32, u32>); 8] = [
     (b"(a;", Err(2)),
 ];
 
+/// Texts, and the end of the candidate for an index at their beginning, or the place of its syntax fault.
+const CANDIDATES: [(&[u8], Result<u32, u32>); 14] = [
+    (b"i ON t (a), j ON t (b))", Ok(6)),
+    (b"i ON t USING hash (a) (", Ok(8)),
+    (
+        b"i ON t (a, b DESC NULLS FIRST) INCLUDE (c, d) WHERE a = 1 OR b) (SELECT",
+        Ok(23),
+    ),
+    (b"i ON t (a) INCLUDE (b), j", Ok(10)),
+    (b"i ON t (a) INCLUDE b", Err(19)),
+    (b"i ON t (a) INCLUDE (b) INCLUDE (c)", Ok(10)),
+    (b"i ON t (a) WHERE;", Err(16)),
+    (b"i ON t (a nulls)", Err(15)),
+    (b"i ON t ()", Err(8)),
+    (b"CREATE INDEX i ON t (a)", Err(0)),
+    (b"i ON t (a", Err(9)),
+    (b"i ON t (a);", Ok(6)),
+    (b"i ON t (a) WHERE (a = 1)) b", Ok(12)),
+    (b"i ON t (a) WHERE a USING", Ok(8)),
+];
+
 /// Expressions of repeated bytes and a back, and their end, or from where to where the word stands that opens a level too many.
 const DEEP: [(&[u8], usize, &[u8], Result<u32, (u32, u32)>); 5] = [
     (b"NOT ", 32, b"a;", Ok(33)),
@@ -300,6 +321,19 @@ fn finds_the_end_of_a_part(rt: HostRuntime) {
         let tokens = lex_statement(rt.alloc(), text, 0).expect(&rt, "tokens");
         assert_eq!(rt;
             expr_end(text, &tokens, 0),
+            end.map_err(Fault::syntax),
+            "{text:?}"
+        );
+    }
+}
+
+#[test]
+fn finds_the_end_of_a_candidate(rt: HostRuntime) {
+    for (text, end) in CANDIDATES {
+        assert!(rt; text.len() < 100);
+        let tokens = lex_statement(rt.alloc(), text, 0).expect(&rt, "tokens");
+        assert_eq!(rt;
+            cand_end(text, &tokens, 0),
             end.map_err(Fault::syntax),
             "{text:?}"
         );

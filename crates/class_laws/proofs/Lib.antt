@@ -1,3 +1,4 @@
 pub mod AlikeLemmas
 pub mod LocalLemmas
 pub mod PartLemmas
+pub mod JoiningLemmas

@@ -24,6 +24,8 @@ use Rattle.plan_tree.specs.Least.{IsAdmissible}
 use Rattle.plan_tree.specs.Space.{IsBuilt, HasKeys, MeetsOrder}
 use Rattle.plan_tree.proofs.BoundLemmas.{merge-most, nest-most, sort-most}
 use Rattle.plan_tree.proofs.CostableLemmas.{built-costable}
+use Rattle.class_laws.proofs.JoiningLemmas.{joining_classes}
+use Rattle.plan_laws.proofs.ByClassesLemmas.{IsByClasses, plain_by_classes, side_by_classes, top_by_classes}
 use Rattle.explain.specs.Lines.{HasIndexes, HasLine, HasLines, HaveIndexes, IsShown}
 use Rattle.explain.specs.Texts.{bits_text, node_line, text_at}
 
@@ -54,100 +56,35 @@ mutual
   trees-indexes c q r no_trees h = tt
   trees-indexes c q r (tree_and b bs) h = (tree-indexes c q r b h.0, trees-indexes c q r bs h.1)
 
--- the keys of a merge are classes
-joining-below : (a b : Set) (m : ℕ) (cs : List Class) (n : ℕ) → list_any (nat_eq n) (joining_from a b m cs) ≡ true → n < m + length cs
-joining-below a b m [] n h = absurd (true≢false (sym h))
-joining-below a b m (c ∷ cs) n h = by (joining-below a b (suc m) cs n) (is_joining a b c) h
-  where
-    by : (list_any (nat_eq n) (joining_from a b (suc m) cs) ≡ true → n < suc m + length cs) → (v : Bool) → list_any (nat_eq n) (cond v (m ∷ joining_from a b (suc m) cs) (joining_from a b (suc m) cs)) ≡ true → n < m + length (c ∷ cs)
-    by later true h = ⊎_elim
-        (λ (here : nat_eq n m ≡ true). let same : n ≡ m = eqb-true n m here in omega (arith, same))
-        (λ (more : list_any (nat_eq n) (joining_from a b (suc m) cs) ≡ true). let lt = later more in omega (arith, lt))
-        (or_cases (nat_eq n m) (list_any (nat_eq n) (joining_from a b (suc m) cs)) h)
-    by later false h = let lt = later h in omega (arith, lt)
-
-either : (a b c : Bool) → (b ≡ true → c ≡ true) → a || b ≡ true → a || c ≡ true
-either true b c f h = refl
-either false b c f h = f h
-
-any-taken : (p : ℕ → Bool) (k : ℕ) (xs : List ℕ) → list_any p (take k xs) ≡ true → list_any p xs ≡ true
-any-taken p zero xs h = absurd (true≢false (sym h))
-any-taken p (suc k) [] h = absurd (true≢false (sym h))
-any-taken p (suc k) (x ∷ xs) h = either (p x) (list_any p (take k xs)) (list_any p xs) (any-taken p k xs) h
-
-pub joining-classes : (a b : Set) (cs : List Class) (keys : Keys) → list_all (λ n. list_any (nat_eq n) (take 4 (joining_from a b 0 cs))) keys ≡ true → All (λ n. n < length cs) keys
-joining-classes a b cs keys h = all_from (λ n. n < length cs) keys (each keys h)
-  where
-    each : (ks : Keys) → list_all (λ n. list_any (nat_eq n) (take 4 (joining_from a b 0 cs))) ks ≡ true → (n : ℕ) → IsIn n ks → n < length cs
-    each [] h n i = absurd i
-    each (k ∷ ks) h n (inl same) =
-        let parts = and_parts (list_any (nat_eq k) (take 4 (joining_from a b 0 cs))) (list_all (λ m. list_any (nat_eq m) (take 4 (joining_from a b 0 cs))) ks) h in
-        let lt = joining-below a b 0 cs k (any-taken (nat_eq k) 4 (joining_from a b 0 cs) parts.0) in
-        omega (arith, lt, same)
-    each (k ∷ ks) h n (inr later) =
-        each ks (and_parts (list_any (nat_eq k) (take 4 (joining_from a b 0 cs))) (list_all (λ m. list_any (nat_eq m) (take 4 (joining_from a b 0 cs))) ks) h).1 n later
-
 module _ (c : Contents) (q : Query) where
-  -- a sort is by classes
-  abbrev IsByClasses : Plan → Type 0
-  IsByClasses (sort keys input) = All (λ n. n < length q.classes.classes) keys
-  IsByClasses _ = Unit {0}
-
   no-classes : All (λ n. n < length q.classes.classes) []
   no-classes = λ k d lt. absurd (omega (arith, lt))
 
-  plain-classes : (p : Plan) → is_sort p ≡ false → IsByClasses p
-  plain-classes (seq r) h = tt
-  plain-classes (index r i backward p) h = tt
-  plain-classes (index_only r i backward p) h = tt
-  plain-classes (bitmap r p bits) h = tt
-  plain-classes (sort keys input) h = absurd (true≢false h)
-  plain-classes (nest outer inner) h = tt
-  plain-classes (merge keys outer inner) h = tt
-
-  side-classes : (p : Plan) (keys : Keys) → HasKeys c q p keys → All (λ n. n < length q.classes.classes) keys → IsByClasses p
-  side-classes (seq r) keys h all = tt
-  side-classes (index r i backward p) keys h all = tt
-  side-classes (index_only r i backward p) keys h all = tt
-  side-classes (bitmap r p bits) keys h all = tt
-  side-classes (sort ks input) keys h all = subst (All (λ n. n < length q.classes.classes)) (sym h) all
-  side-classes (nest outer inner) keys h all = tt
-  side-classes (merge ks outer inner) keys h all = tt
-
   module _ (some : HaveRows c q) where
-    built-lines : (p : Plan) → IsBuilt c q p → IsAdmissible c q p → IsByClasses p → HasLines c q p
+    built-lines : (p : Plan) → IsBuilt c q p → IsAdmissible c q p → IsByClasses c q p → HasLines c q p
     built-lines (seq r) b a k = record { costable = built-costable c q (seq r) b; admissible = a; classes = no-classes }
     built-lines (index r i backward p) b a k = record { costable = built-costable c q (index r i backward p) b; admissible = a; classes = no-classes }
     built-lines (index_only r i backward p) b a k = record { costable = built-costable c q (index_only r i backward p) b; admissible = a; classes = no-classes }
     built-lines (bitmap r p bits) b a k = record { costable = built-costable c q (bitmap r p bits) b; admissible = a; classes = no-classes }
     built-lines (sort keys input) b a k = (
       record { costable = built-costable c q (sort keys input) b; admissible = a; classes = k },
-      built-lines input b.0 (lt_of_le_of_lt (sort-most c q keys input) a) (plain-classes input b.1),
+      built-lines input b.0 (lt_of_le_of_lt (sort-most c q keys input) a) (plain_by_classes c q input b.1),
     )
     built-lines (nest outer inner) b a k = (
       record { costable = built-costable c q (nest outer inner) b; admissible = a; classes = no-classes },
-      built-lines outer b.0 (lt_of_le_of_lt (nest-most c q some outer inner).0 a) (plain-classes outer b.2.outer_plain),
-      built-lines inner b.1 (lt_of_le_of_lt (nest-most c q some outer inner).1 a) (plain-classes inner b.2.inner_plain),
+      built-lines outer b.0 (lt_of_le_of_lt (nest-most c q some outer inner).0 a) (plain_by_classes c q outer b.2.outer_plain),
+      built-lines inner b.1 (lt_of_le_of_lt (nest-most c q some outer inner).1 a) (plain_by_classes c q inner b.2.inner_plain),
     )
     built-lines (merge keys outer inner) b a k =
-        let classes = joining-classes (set_of outer) (set_of inner) q.classes.classes keys b.2.list.joining in (
+        let classes = joining_classes (set_of outer) (set_of inner) q.classes.classes keys b.2.list.joining in (
           record { costable = built-costable c q (merge keys outer inner) b; admissible = a; classes = classes },
-          built-lines outer b.0 (lt_of_le_of_lt (merge-most c q keys outer inner).0 a) (side-classes outer keys b.2.outer_keys classes),
-          built-lines inner b.1 (lt_of_le_of_lt (merge-most c q keys outer inner).1 a) (side-classes inner keys b.2.inner_keys classes),
+          built-lines outer b.0 (lt_of_le_of_lt (merge-most c q keys outer inner).0 a) (side_by_classes c q outer keys b.2.outer_keys classes),
+          built-lines inner b.1 (lt_of_le_of_lt (merge-most c q keys outer inner).1 a) (side_by_classes c q inner keys b.2.inner_keys classes),
         )
 
-    top-classes : (p : Plan) → MeetsOrder c q p (order_keys q.classes q.order) → IsByClasses p
-    top-classes (seq r) h = tt
-    top-classes (index r i backward p) h = tt
-    top-classes (index_only r i backward p) h = tt
-    top-classes (bitmap r p bits) h = tt
-    top-classes (sort keys input) h = subst (All (λ n. n < length q.classes.classes)) (sym h.0) (order_keys_are_keys q.classes q.order).classes
-    top-classes (nest outer inner) h = tt
-    top-classes (merge keys outer inner) h = tt
-
     pub shown-lines : (p : Plan) → IsShown c q p → IsAdmissible c q p → HasLines c q p
-    shown-lines p (inl of) a = built-lines p of.built a (plain-classes p of.plain)
-    shown-lines p (inr done) a = built-lines p done.built a (top-classes p done.ordered)
+    shown-lines p (inl of) a = built-lines p of.built a (plain_by_classes c q p of.plain)
+    shown-lines p (inr done) a = built-lines p done.built a (top_by_classes c q p done.ordered)
 
 -- the lines of a bitmap scan
 pub bitmap-lines : (c : Contents) (q : Query) (d below : ℕ) (p : Plan) (r : RelNo) (param : RelSet) (b : BitTree) (old mid new : List ℕ) → p ≡ bitmap r param b → below ≡ d + 1 →

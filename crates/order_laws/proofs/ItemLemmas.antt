@@ -21,13 +21,14 @@ use Rattle.eq_classes.specs.Classes.{Class, Mention, is_family, has_member, is_i
 use Rattle.eq_classes.specs.Listing.{class_at}
 use Rattle.eq_classes.specs.Parts.{is_all}
 use Rattle.eq_classes.proofs.EqualLemmas.{family_self}
+use Rattle.eq_classes.proofs.HoldLemmas.{in_map}
 use Rattle.eq_classes.proofs.ListLemmas.{IsIn, all_at, any_from, filter_map_in, found_in, found_passes, in_at, in_from_contains, in_right}
 use Rattle.eq_classes.proofs.SoundLemmas.{class_sound, in_member, member_in}
 use Rattle.class_laws.proofs.PartLemmas.{apart_at}
 use Rattle.sql_query.specs.Meaning.{item_order, item_order_in}
 use Rattle.sql_query.specs.Queries.{Query, all_of_query, width}
 use Rattle.sql_query.specs.Tuples.{Tuple, value_at}
-use Rattle.sql_query.specs.WellBound.{given_of, IsColumnOf, IsWellBound}
+use Rattle.sql_query.specs.WellBound.{given_with, IsColumnOf, IsDirected, IsWellBound, ordered_columns}
 use Rattle.sql_query.specs.Worlds.{World, IsWorld}
 use Rattle.pathkeys.specs.Keys.{class_of, order_class, is_constant}
 use Rattle.pathkeys.specs.Sorted.{class_order, order_at}
@@ -100,7 +101,7 @@ module _ (w : World) (q : Query) (world : IsWorld w) (bound : IsWellBound w.cont
   member_default : (x : ColRef) (f : Family) (n : ℕ) → ClassOf q.classes x f n → (f ≡ families.IntAbs → ⊥) → default_family_of (type_of x) ≡ Some f
   member_default x f n of other =
       let c : Class = class_at q.classes.classes n in
-      let sound = class_sound (given_of w.contents q) (λ y. some_value (type_of y)) (typed w q world bound) (λ y. sample_fits (type_of y)) q.classes.classes bound.classes.classes c (in_from_contains q.classes.classes c of.class) in
+      let sound = class_sound (given_with w.contents q bound.items) (λ y. some_value (type_of y)) (typed w q world bound) (λ y. sample_fits (type_of y)) q.classes.classes bound.classes.classes c (in_from_contains q.classes.classes c of.class) in
       default_of (type_of x) f (subst (λ (h : Family). IsOfFamily h (some_value (type_of x))) (sym of.family) (sound.fits x (member_in c x of.member))) other
 
   no_other : (x : ColRef) (f g : Family) → default_family_of (type_of x) ≡ Some f → (g ≡ families.IntAbs → ⊥) → (f ≡ g → ⊥) → class_of q.classes x g ≡ None
@@ -163,7 +164,7 @@ module _ (w : World) (q : Query) (world : IsWorld w) (bound : IsWellBound w.cont
           let of = class_found q.classes item.col f m e in
           let there : is_in (class_at q.classes.classes m) (in_family item.col f) ≡ true =
           and_from (is_family (class_at q.classes.classes m).family f) (has_member (class_at q.classes.classes m) item.col) (ap (λ (g : Family). is_family g f) (sym of.family) ∙ family_self f) of.member in
-          ap Some (apart_at (given_of w.contents q) q.classes bound.classes (in_family item.col f) m n of.low low there here)
+          ap Some (apart_at (given_with w.contents q bound.items) q.classes bound.classes (in_family item.col f) m n of.low low there here)
 
       by_family : (o : Option Family) → default_family_of (type_of item.col) ≡ o → is_some_and (is_in (class_at q.classes.classes n)) (option_map (in_family item.col) o) ≡ true → order_class q.classes item.col ≡ Some n
       by_family None e g = absurd (true≢false (sym g))
@@ -177,6 +178,12 @@ module _ (w : World) (q : Query) (world : IsWorld w) (bound : IsWellBound w.cont
   column_inside item i =
       lt-ltb item.col.rel.0 (width q)
       (all_at (IsColumnOf w.contents q.range) q.used bound.used item.col (in_from_contains q.used item.col (all_at (λ (o : OrderItem). Contains q.used o.col) q.order bound.order item i))).relation
+
+  -- its column is that of an item of which the classes are made
+  stood_item : (item : OrderItem) → IsIn item q.order → (j : OrderItem) × IsIn j bound.items × (item.col ≡ j.col)
+  stood_item item i =
+      in_map (λ (o : OrderItem). o.col) bound.items item.col
+      (in_from_contains (ordered_columns bound.items) item.col (all_at (λ (o : OrderItem). Contains (ordered_columns bound.items) o.col) q.order bound.stands item i))
 
   module _ (x y : Tuple) (holds_x : holds_at w q x (is_all (all_of_query q)) ≡ true) (holds_y : holds_at w q y (is_all (all_of_query q)) ≡ true) where
     -- an item with a default family orders as that family does
@@ -210,11 +217,14 @@ module _ (w : World) (q : Query) (world : IsWorld w) (bound : IsWellBound w.cont
         by None e = refl
         by (Some f) e =
             let m : Mention = in_family item.col f in
-            let named : IsIn m (mentions (given_of w.contents q)) =
-            in_right m (filter_map (λ k. option_map left_of (equality_in type_of k)) (given_of w.contents q).conjuncts) (filter_map (ordered_by type_of) q.order)
-            (filter_map_in (ordered_by type_of) q.order item m i (ap (option_map (in_family item.col)) e)) in
+            let named = stood_item item i in
+            let orders : ordered_by type_of named.0 ≡ Some m =
+            subst (λ (x : ColRef). option_map (in_family x) (default_family_of (type_of x)) ≡ Some m) named.2 (ap (option_map (in_family item.col)) e) in
+            let mentioned : IsIn m (mentions (given_with w.contents q bound.items)) =
+            in_right m (filter_map (λ k. option_map left_of (equality_in type_of k)) (given_with w.contents q bound.items).conjuncts) (filter_map (ordered_by type_of) bound.items)
+            (filter_map_in (ordered_by type_of) bound.items named.0 m named.1 orders) in
             absurd (found_none (λ c. is_in c m) 0 q.classes.classes (sym (order_class_is item.col f e) ∙ h)
-            (all_at (λ n. IsTrue (list_any (λ c. is_in c n) q.classes.classes)) (mentions (given_of w.contents q)) bound.classes.classes.every m named))
+            (all_at (λ n. IsTrue (list_any (λ c. is_in c n) q.classes.classes)) (mentions (given_with w.contents q bound.items)) bound.classes.classes.every m mentioned))
 
     constant_ties : (item : OrderItem) → IsIn item q.order → (n : ℕ) → ItemClass item.col n → is_constant q.classes n ≡ true → item_order w q item x y ≡ Equal
     constant_ties item i n of h =
@@ -227,16 +237,16 @@ module _ (w : World) (q : Query) (world : IsWorld w) (bound : IsWellBound w.cont
         item_by_class item n of
         ∙ tie_in_all c.family c.descending c.nulls_first item.descending item.nulls_first (value_at w q x item.col) (value_at w q y item.col) (class_alike item i n of ∙ h)
 
-    -- the first item by a class gives it its direction
-    direction_is : (before : List OrderItem) (item : OrderItem) (after : List OrderItem) → q.order ≡ before ++ item ∷ after → (n : ℕ) → ItemClass item.col n → AllByRecursion (λ j. order_class q.classes j.col ≡ Some n → ⊥) before
+    -- the first item by a class without a constant has its direction
+    direction_is : (before : List OrderItem) (item : OrderItem) (after : List OrderItem) → q.order ≡ before ++ item ∷ after → (n : ℕ) → ItemClass item.col n → is_constant q.classes n ≡ false → AllByRecursion (λ j. order_class q.classes j.col ≡ Some n → ⊥) before
         → ◌≡◌ {A = Bool × Bool} ((class_at q.classes.classes n).descending, (class_at q.classes.classes n).nulls_first) (item.descending, item.nulls_first)
-    direction_is before item after e n of none =
+    direction_is before item after e n of free none =
         let c : Class = class_at q.classes.classes n in
-        let is : IsClass (given_of w.contents q) c = all_at (IsClass (given_of w.contents q)) q.classes.classes bound.classes.classes.each c (in_from_contains q.classes.classes c of.class.class) in
+        let directed = all_at (IsDirected w.contents q) q.classes.classes bound.directions c (in_from_contains q.classes.classes c of.class.class) in
         let here : orders_by type_of c item ≡ true =
         ap (λ (o : Option Family). is_some_and (is_in c) (option_map (in_family item.col) o)) of.default
         ∙ and_from (is_family c.family of.in_default) (has_member c item.col) (ap (λ (g : Family). is_family g of.in_default) (sym of.class.family) ∙ family_self of.in_default) of.class.member in
-        is.direction ∙ ap direction_by (ap (find (orders_by type_of c)) e ∙ first_passing (orders_by type_of c) before item after (passed before none) here)
+        sym (directed free item (ap (find (orders_by type_of c)) e ∙ first_passing (orders_by type_of c) before item after (passed before none) here))
       where
         passed : (js : List OrderItem) → AllByRecursion (λ j. order_class q.classes j.col ≡ Some n → ⊥) js → AllByRecursion (λ j. orders_by type_of (class_at q.classes.classes n) j ≡ false) js
         passed [] h = tt
@@ -248,10 +258,10 @@ module _ (w : World) (q : Query) (world : IsWorld w) (bound : IsWellBound w.cont
           passed js h.1,
         )
 
-    first_orders : (before : List OrderItem) (item : OrderItem) (after : List OrderItem) → q.order ≡ before ++ item ∷ after → (n : ℕ) → ItemClass item.col n → AllByRecursion (λ j. order_class q.classes j.col ≡ Some n → ⊥) before
+    first_orders : (before : List OrderItem) (item : OrderItem) (after : List OrderItem) → q.order ≡ before ++ item ∷ after → (n : ℕ) → ItemClass item.col n → is_constant q.classes n ≡ false → AllByRecursion (λ j. order_class q.classes j.col ≡ Some n → ⊥) before
         → item_order w q item x y ≡ class_order (class_at q.classes.classes n) (all_of_query q) (value_at w q x) (value_at w q y)
-    first_orders before item after e n of none =
-        let same = direction_is before item after e n of none in
+    first_orders before item after e n of free none =
+        let same = direction_is before item after e n of free none in
         item_by_class item n of
         ∙ ap (λ (d : Bool × Bool). column_order (class_at q.classes.classes n).family d.0 d.1 (value_at w q x item.col) (value_at w q y item.col)) (sym same)
         ∙ class_alike item (item_in before item after e) n of
@@ -264,5 +274,5 @@ module _ (w : World) (q : Query) (world : IsWorld w) (bound : IsWellBound w.cont
         no_class = λ none. no_class_ties x y holds_x holds_y item i none;
         constant = λ n is h. constant_ties x y holds_x holds_y item i n (class_by_default item.col n is) h;
         tied = λ n is h. class_ties x y holds_x holds_y item i n (class_by_default item.col n is) h;
-        first = λ n is none. first_orders x y holds_x holds_y before item after e n (class_by_default item.col n is) none;
+        first = λ n is free none. first_orders x y holds_x holds_y before item after e n (class_by_default item.col n is) free none;
       }

@@ -83,8 +83,8 @@ module _ (w : World) (q : Query) where
     pub constant : (n : ℕ) → class_by item ≡ Some n → is_constant q.classes n ≡ true → item_order w q item x y ≡ Equal
     -- it ties where its class does
     pub tied : (n : ℕ) → class_by item ≡ Some n → class_order (class_at q.classes.classes n) (all_of_query q) (value_at w q x) (value_at w q y) ≡ Equal → item_order w q item x y ≡ Equal
-    -- the first item by a class orders as the class
-    pub first : (n : ℕ) → class_by item ≡ Some n → AllByRecursion (λ j. class_by j ≡ Some n → ⊥) before → item_order w q item x y ≡ class_order (class_at q.classes.classes n) (all_of_query q) (value_at w q x) (value_at w q y)
+    -- the first item by a class without a constant orders as the class
+    pub first : (n : ℕ) → class_by item ≡ Some n → is_constant q.classes n ≡ false → AllByRecursion (λ j. class_by j ≡ Some n → ⊥) before → item_order w q item x y ≡ class_order (class_at q.classes.classes n) (all_of_query q) (value_at w q x) (value_at w q y)
 
   -- each item does, at tuples at which all clauses hold
   abbrev pub ItemsFollow : Type 0
@@ -150,7 +150,7 @@ module _ (w : World) (q : Query) where
             h))
         by_tests later n is false false a b h =
             let k : kept n ≡ true = ap not a in
-            let same = facts.first n is (unseen taken n b k before seen) in
+            let same = facts.first n is a (unseen taken n b k before seen) in
             ap (λ (o : Ordering). is_gt (ordering_then o (lex items))) same
             ∙ after_same (class_order (class_at q.classes.classes n) (all_of_query q) (value_at w q x) (value_at w q y)) (by_keys w q (all_of_query q) (filter (untaken (n ∷ taken)) (keys_of_items items)) x y) (lex items)
             (subst (λ (l : Keys). Ups l)

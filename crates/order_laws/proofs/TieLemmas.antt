@@ -17,7 +17,7 @@ use Rattle.eq_classes.specs.Holding.{HasClass}
 use Rattle.class_laws.proofs.PartLemmas.{constant_at, tie_at}
 use Rattle.sql_query.specs.Queries.{Query}
 use Rattle.sql_query.specs.Tuples.{Tuple, value_at}
-use Rattle.sql_query.specs.WellBound.{given_of, IsWellBound}
+use Rattle.sql_query.specs.WellBound.{given_with, IsWellBound}
 use Rattle.sql_query.specs.Worlds.{World, IsWorld}
 use Rattle.plan_laws.specs.Meant.{holds_at}
 use Rattle.plan_laws.proofs.ClauseLemmas.{fits, typed}
@@ -103,7 +103,7 @@ module _ (w : World) (q : Query) (world : IsWorld w) (bound : IsWellBound w.cont
       → column_order c.family d n (value_at w q s x) (value_at w q t x) ≡ column_order c.family d n (value_at w q s y) (value_at w q t y)
   members_alike x y hx hy sx sy d n =
       let R = column_order c.family d n in
-      let g = given_of w.contents q in
+      let g = given_with w.contents q bound.items in
       ⊎_elim
       (λ (same : x ≡ y). ap (λ (z : ColRef). R (value_at w q s z) (value_at w q t z)) same)
       (λ (equal_s : are_equal c.family (value_at w q s x) (value_at w q s y) ≡ true). ⊎_elim
@@ -120,4 +120,4 @@ module _ (w : World) (q : Query) (world : IsWorld w) (bound : IsWellBound w.cont
       → column_order c.family d n (value_at w q s x) (value_at w q t x) ≡ Equal
   constants_tie x some hx sx d n =
       equal_ties c.family d n (value_at w q s x) (value_at w q t x)
-      (constant_at (given_of w.contents q) q.classes bound.classes (value_at w q s) (value_at w q t) set c x (typed w q world bound) (fits w q world bound s) (fits w q world bound t) holds_s holds_t has some hx sx)
+      (constant_at (given_with w.contents q bound.items) q.classes bound.classes (value_at w q s) (value_at w q t) set c x (typed w q world bound) (fits w q world bound s) (fits w q world bound t) holds_s holds_t has some hx sx)

@@ -12,7 +12,7 @@ use Rattle.class_laws.proofs.LocalLemmas.{all_reads, base_reads, param_reads}
 use Rattle.class_laws.proofs.PartLemmas.{base_at, local_at, params_at, split_at}
 use Rattle.sql_query.specs.Queries.{Query, width}
 use Rattle.sql_query.specs.Tuples.{Tuple, row_of, merged, rows_of_relation, value_at}
-use Rattle.sql_query.specs.WellBound.{given_of, IsWellBound}
+use Rattle.sql_query.specs.WellBound.{given_with, IsWellBound}
 use Rattle.sql_query.specs.Worlds.{World, IsWorld}
 use Rattle.query_laws.proofs.FitsLemmas.{values_fit}
 use Rattle.plan_tree.specs.Entries.{cell}
@@ -40,30 +40,30 @@ module _ (w : World) (q : Query) where
     pub fits : (t : Tuple) → Fits (type_in w.contents q.range) (value_at w q t)
     fits t = values_fit w q t world
 
-    pub typed : All (IsTyped (type_in w.contents q.range)) (given_of w.contents q).conjuncts
+    pub typed : All (IsTyped (type_in w.contents q.range)) (given_with w.contents q bound.items).conjuncts
     typed = in_typed (type_in w.contents q.range) q.where_all bound.typed
 
     pub all_splits : (t : Tuple) (a b : Set) → AreApart a b → holds_at w q t (is_all (union a b)) ≡ holds_at w q t (is_all a) && (holds_at w q t (is_all b) && holds_at w q t (is_join a b))
-    all_splits t a b apart = split_at (given_of w.contents q) q.classes bound.classes (value_at w q t) typed (fits t) a b apart
+    all_splits t a b apart = split_at (given_with w.contents q bound.items) q.classes bound.classes (value_at w q t) typed (fits t) a b apart
 
     pub params_split : (t : Tuple) (a p : Set) (r : ℕ) → IsWithin p a → a r ≡ false → holds_at w q t (is_all a) ≡ true
         → holds_at w q t (is_join a (one r)) ≡ holds_at w q t (is_param r p) && holds_at w q t (is_join_param a r p)
-    params_split t a p r part out h = params_at (given_of w.contents q) q.classes bound.classes (value_at w q t) typed (fits t) a p r part out h
+    params_split t a p r part out h = params_at (given_with w.contents q bound.items) q.classes bound.classes (value_at w q t) typed (fits t) a p r part out h
 
     pub one_is_base : (t : Tuple) (r : ℕ) → holds_at w q t (is_all (one r)) ≡ holds_at w q t (is_base r)
-    one_is_base t r = base_at (given_of w.contents q) q.classes bound.classes (value_at w q t) r
+    one_is_base t r = base_at (given_with w.contents q bound.items) q.classes bound.classes (value_at w q t) r
 
     pub local_all : (s t : Tuple) (a : Set) → HaveSameRows a s t → holds_at w q s (is_all a) ≡ holds_at w q t (is_all a)
     local_all s t a same =
-        let g = given_of w.contents q in
+        let g = given_with w.contents q bound.items in
         local_at g q.classes bound.classes a (is_all a) (all_reads g.type_of g.conjuncts q.classes.classes a) (value_at w q s) (value_at w q t) (agree a s t same)
 
     pub local_base : (s t : Tuple) (r : ℕ) → HaveSameRows (one r) s t → holds_at w q s (is_base r) ≡ holds_at w q t (is_base r)
     local_base s t r same =
-        let g = given_of w.contents q in
+        let g = given_with w.contents q bound.items in
         local_at g q.classes bound.classes (one r) (is_base r) (base_reads g.type_of g.conjuncts q.classes.classes r) (value_at w q s) (value_at w q t) (agree (one r) s t same)
 
     pub local_param : (s t : Tuple) (r : ℕ) (p : Set) → HaveSameRows (union (one r) p) s t → holds_at w q s (is_param r p) ≡ holds_at w q t (is_param r p)
     local_param s t r p same =
-        let g = given_of w.contents q in
+        let g = given_with w.contents q bound.items in
         local_at g q.classes bound.classes (union (one r) p) (is_param r p) (param_reads g.type_of g.conjuncts q.classes.classes r p) (value_at w q s) (value_at w q t) (agree (union (one r) p) s t same)

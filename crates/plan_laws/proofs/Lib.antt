@@ -13,3 +13,4 @@ pub mod BitmapLemmas
 pub mod GivingLemmas
 pub mod FinishedLemmas
 pub mod ReadingLemmas
+pub mod ByClassesLemmas

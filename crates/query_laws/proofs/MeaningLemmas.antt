@@ -17,7 +17,7 @@ use Rattle.class_laws.proofs.PartLemmas.{base_at}
 use Rattle.sql_query.specs.Meaning.{all_true}
 use Rattle.sql_query.specs.Queries.{Query, all_of_query, width}
 use Rattle.sql_query.specs.Tuples.{Tuple, value_at}
-use Rattle.sql_query.specs.WellBound.{given_of, IsWellBound}
+use Rattle.sql_query.specs.WellBound.{given_with, IsWellBound}
 use Rattle.sql_query.specs.Worlds.{World, IsWorld}
 use Rattle.query_laws.proofs.FitsLemmas.{values_fit}
 use Rattle.query_laws.proofs.OverLemmas.{conditions_inside}
@@ -42,13 +42,13 @@ only_first n k one = grind (arith, common_steps)
 module _ (w : World) (q : Query) (t : Tuple) (world : IsWorld w) (is : IsWellBound w.contents q) where
   pub clauses_mean : hold (value_at w q t) (is_all (all_of_query q)) q.classes.clauses ≡ all_true w q t q.where_all
   clauses_mean =
-      where_at (given_of w.contents q) q.classes is.classes q.where_all (value_at w q t) (all_of_query q) refl is.typed (values_fit w q t world) (some_inside (width q) is.range.some)
+      where_at (given_with w.contents q is.items) q.classes is.classes q.where_all (value_at w q t) (all_of_query q) refl is.typed (values_fit w q t world) (some_inside (width q) is.range.some)
       (conditions_inside w.contents q is)
       ∙ all_is_each (value_at w q t) q.where_all
 
   pub base_means : width q ≡ 1 → hold (value_at w q t) (is_base 0) q.classes.clauses ≡ all_true w q t q.where_all
   base_means single =
       let same : all_of_query q ≡ one 0 = λ i k. only_first (width q) k single i in
-      sym (base_at (given_of w.contents q) q.classes is.classes (value_at w q t) 0)
+      sym (base_at (given_with w.contents q is.items) q.classes is.classes (value_at w q t) 0)
       ∙ ap (λ (s : Set). hold (value_at w q t) (is_all s) q.classes.clauses) (sym same)
       ∙ clauses_mean

@@ -14,13 +14,13 @@ use Rattle.eq_classes.proofs.TypedLemmas.{clause_typed}
 use Rattle.eq_classes.proofs.WrittenLemmas.{in_columns, in_typed}
 use Rattle.path_cost.specs.Columns.{is_column, IsOver}
 use Rattle.sql_query.specs.Queries.{Query, all_of_query}
-use Rattle.sql_query.specs.WellBound.{given_of, IsColumnOf, IsWellBound, NamesOnly}
+use Rattle.sql_query.specs.WellBound.{given_with, IsColumnOf, IsWellBound, NamesOnly}
 
 below : (a b : ℕ) → a < b → nat_lt a b ≡ true
 below a b lt = grind (arith, common_steps)
 
 module _ (c : Contents) (q : Query) (is : IsWellBound c q) where
-  used_is : (x : ColRef) → IsIn x q.used → is_column c q.range x ≡ true
+  pub used_is : (x : ColRef) → IsIn x q.used → is_column c q.range x ≡ true
   used_is x i =
       let of : IsColumnOf c q.range x = all_at (IsColumnOf c q.range) q.used is.used x i in
       and_from _ _ (below _ _ of.relation) (below _ _ of.column)
@@ -34,17 +34,18 @@ module _ (c : Contents) (q : Query) (is : IsWellBound c q) where
   pub conditions_inside : All (λ w. each_column (λ x. all_of_query q x.rel.0) w ≡ true) q.where_all
   conditions_inside = conditions_pass (λ x. all_of_query q x.rel.0) (λ x i. below _ _ (all_at (IsColumnOf c q.range) q.used is.used x i).relation)
 
-  order_is : (i : OrderItem) → IsIn i q.order → is_column c q.range i.col ≡ true
-  order_is i at = used_is i.col (in_from_contains q.used i.col (all_at (λ (o : OrderItem). Contains q.used o.col) q.order is.order i at))
+  -- the columns of the items of which its classes are made are named
+  pub item_used : (i : OrderItem) → IsIn i is.items → IsIn i.col q.used
+  item_used i at = in_from_contains q.used i.col (all_at (λ (o : OrderItem). Contains q.used o.col) is.items is.named i at)
 
   clause_over : (k : Clause) → IsIn k q.classes.clauses → IsOver c q.range k.cond
   clause_over k i =
-      let g = given_of c q in
+      let g = given_with c q is.items in
       let test : ColRef → Bool = is_column c q.range in
       let listed = subst (IsIn k) is.classes.clauses i in
       let passed : All (λ e. each_column test e ≡ true) g.conjuncts = in_columns q.where_all test (conditions_pass test used_is) in
       record {
-        columns = clause_passes test g (all_at (λ (e : Cond). each_column test e ≡ true) g.conjuncts passed) order_is q.classes.classes is.classes.classes k listed;
+        columns = clause_passes test g (all_at (λ (e : Cond). each_column test e ≡ true) g.conjuncts passed) (λ i at. used_is i.col (item_used i at)) q.classes.classes is.classes.classes k listed;
         typed = clause_typed g (in_typed g.type_of q.where_all is.typed) q.classes.classes is.classes.classes k listed;
       }
 

@@ -11,6 +11,8 @@ use Rattle.catalog.specs.Contents.{Contents, table_at, IsLawfulTable}
 use Rattle.catalog.specs.Range.{Range}
 use Rattle.sql_lex.specs.declared.tokens.Token.{Token}
 use Rattle.sql_query.specs.WellBound.{IsColumnOf, IsWellBound}
+use Rattle.sql_query.proofs.OrderLemmas.{own_directions, own_stands}
+use Rattle.query_reader.specs.Select.{IsBoundByItself}
 use Rattle.query_reader.specs.declared.written.Item.{Item}
 use Rattle.query_reader.specs.declared.written.Item.TheVariants.{Every, EveryOf, Bare, Qualified}
 use Rattle.expr_reader.specs.Scope.{Scope, Visible, columns_of, under, of_name, the_one, among, look_up}
@@ -180,12 +182,15 @@ module _ (c : Contents) (range : Range) (are : AreRelations c range) where
   -- the query of columns that the list shows, of conjuncts and of an order over the relations, with their classes
   pub well-bound : 0 < length range → (items : List Item) (cs : List ColRef) (ws : List Cond) (order : List OrderItem) (classes : Table) → list_columns (scope_of c range) items ≡ Ok cs →
       All (IsOver c range) ws → All (λ (i : OrderItem). is_column c range i.col ≡ true) order → past_limit ws ≡ None → IsTableOf (record { conjuncts = conjuncts_in ws; order = order; type_of = type_in c range }) classes →
-      All (λ r. IsName r.1) range → IsWellBound c (query_with classes (record { range = range; select = cs; where_all = ws; order = order }))
+      All (λ r. IsName r.1) range → IsBoundByItself c (query_with classes (record { range = range; select = cs; where_all = ws; order = order }))
   well-bound some items cs ws order classes shown over ordered kept is names =
       let named = columns_in_all (conds_of ws) in
       let sorted = map (λ (i : OrderItem). i.col) order in
       let used = cs ++ (named ++ sorted) in
-      record {
+      let q = query_with classes (record { range = range; select = cs; where_all = ws; order = order }) in
+      let order_used = all_from (λ (i : OrderItem). Contains used i.col) order
+      (λ i j. contains_from_in used i.col (in_right i.col cs (named ++ sorted) (in_right i.col named sorted (map_in (λ (k : OrderItem). k.col) order i j)))) in
+      let well : IsWellBound c q = record {
         range = record { some = some; few = are.few; tables = are.tables; names = names; distinct = are.distinct };
         used = all_from (IsColumnOf c range) used (λ x i. ⊎_elim
             (λ (h : IsIn x cs). all_at (IsColumnOf c range) cs (shown-columns items cs shown) x h)
@@ -195,10 +200,14 @@ module _ (c : Contents) (range : Range) (are : AreRelations c range) where
             (in_parts x named sorted h))
             (in_parts x cs (named ++ sorted) i));
         select = all_from (Contains used) cs (λ x i. contains_from_in used x (in_left x cs (named ++ sorted) i));
-        order = all_from (λ (i : OrderItem). Contains used i.col) order
-            (λ i j. contains_from_in used i.col (in_right i.col cs (named ++ sorted) (in_right i.col named sorted (map_in (λ (k : OrderItem). k.col) order i j))));
+        order = order_used;
         conditions = names-only used ws (λ x i. in_right x cs (named ++ sorted) (in_left x named sorted i));
         typed = all_from (IsTyped (type_in c range)) ws (λ w i. (all_at (IsOver c range) ws over w i).typed);
         limits = limits-kept ws kept;
+        items = order;
+        named = order_used;
         classes = is;
-      }
+        stands = own_stands order;
+        directions = own_directions c q is;
+      } in
+      record { well_bound = well; classes = is }

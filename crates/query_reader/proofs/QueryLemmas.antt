@@ -18,7 +18,6 @@ use Rattle.sql_grammar.specs.Terminals.{Terminal}
 use Rattle.expr_reader.specs.Reads.{Reads}
 use Rattle.expr_reader.proofs.StepLemmas.{step, stop}
 use Rattle.sql_query.specs.Queries.{Query}
-use Rattle.sql_query.specs.WellBound.{IsWellBound}
 use Rattle.expr_reader.specs.Conditions.{next}
 use Rattle.query_reader.specs.declared.written.Item.{Item}
 use Rattle.query_reader.specs.Order.{order_items}
@@ -27,7 +26,7 @@ use Rattle.query_reader.specs.From.{Joined}
 use Rattle.pg_expr.specs.declared.expr.Expr.{Expr as ExprRead}
 use Rattle.pg_expr.specs.View.{cond}
 use Rattle.std.proofs.lemmas.List.{map-append}
-use Rattle.query_reader.specs.Select.{IsReadAs}
+use Rattle.query_reader.specs.Select.{IsBoundByItself, IsReadAs}
 use Rattle.query_reader.specs.Adds.{AddsAll}
 use Rattle.query_reader.specs.Binding.{Bound, bound_over, conjuncts_written, limited, list_columns, named_in, past_limit, query_with}
 use Rattle.query_reader.specs.Conveys.{Conveys}
@@ -171,8 +170,8 @@ both-conjuncts old new more grown = sym (ap (map cond) grown ∙ map-append cond
 pub read-so : (m : Result Bound Fault) (b : Bound) (q : Query) → m ≡ Ok b → query_with q.classes b ≡ q → IsReadAs m (Ok q)
 read-so m b q is same = subst (λ (x : Result Bound Fault). IsReadAs x (Ok q)) (sym is) (sym same)
 
-pub bound-at : (i j : Joined) (q : Query) → i ≡ j → IsWellBound i.contents q → IsWellBound j.contents q
-bound-at i j q is h = subst (λ (x : Joined). IsWellBound x.contents q) is h
+pub bound-at : (i j : Joined) (q : Query) → i ≡ j → IsBoundByItself i.contents q → IsBoundByItself j.contents q
+bound-at i j q is h = subst (λ (x : Joined). IsBoundByItself x.contents q) is h
 
 -- the relations of a query that is bound are those that FROM names
 limited-range : (start : Token) (o : Option Limit) (b : Bound) (q : Query) → IsReadAs (limited start o b) (Ok q) → q.range ≡ b.range

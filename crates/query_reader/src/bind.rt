@@ -8,12 +8,11 @@ ghost use Rattle.sql_grammar.specs.Syntax.{Group, Mark, Where, OrderBy};
 ghost use Rattle.sql_grammar.specs.Terminals.{Terminal};
 ghost use Rattle.sql_grammar.specs.Words.{words_of_group, words_of_groups, words_of_where, words_of_order};
 ghost use Rattle.expr_reader.specs.Conditions.{next, the_column};
-ghost use Rattle.sql_query.specs.WellBound.{IsWellBound};
 ghost use Rattle.query_reader.specs.Adds.{Adds, AddsAll};
 ghost use Rattle.query_reader.specs.Binding.{alone, bound_from, bound_over, item_columns, list_columns, named_in};
 ghost use Rattle.query_reader.specs.Ends.{ends_order};
 ghost use Rattle.query_reader.specs.Scope.{visible_in};
-ghost use Rattle.query_reader.specs.Select.{IsReadAs};
+ghost use Rattle.query_reader.specs.Select.{IsBoundByItself, IsReadAs};
 
 use crate::conditions::{classes_within, written_conjuncts};
 use crate::named;
@@ -113,7 +112,7 @@ fn over(
     requires words { (w : Where) × (y : OrderBy) × (rest : List Terminal) × (ends_order rest ≡ true) × (from.old ≡ words_of_where w ++ (words_of_order y ++ rest)) }
     ensures meaning { (w : Where) (y : OrderBy) (rest : List Terminal) → ends_order rest ≡ true → from.old ≡ words_of_where w ++ (words_of_order y ++ rest) →
         IsReadAs (bound_over start items.now w y sources.entry) result }
-    ensures well_bound { IfOk result (λ q. All (λ r. IsName r.1) q.range → IsWellBound sources.entry.contents q) }
+    ensures itself { IfOk result (λ q. All (λ r. IsName r.1) q.range → IsBoundByItself sources.entry.contents q) }
 {
     let Sources {
         cat,
@@ -154,7 +153,7 @@ pub fn bind(
     ensures meaning { (g : Group) (gs : List (Mark × Group)) (w : Where) (y : OrderBy) (rest : List Terminal) → ends_order rest ≡ true →
         from.old ≡ words_of_group g ++ (words_of_groups gs ++ (words_of_where w ++ (words_of_order y ++ rest))) →
         IsReadAs (bound_from cat.now start items.now (g ∷ groups_after gs) w y) result }
-    ensures well_bound { IfOk result (λ q. All (λ r. IsName r.1) q.range → IsWellBound cat.now q) }
+    ensures itself { IfOk result (λ q. All (λ r. IsName r.1) q.range → IsBoundByItself cat.now q) }
 {
     let mut sources = Sources::new(alloc, cat);
     sources.take_groups(alloc, from)?;

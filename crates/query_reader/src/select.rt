@@ -6,9 +6,10 @@ ghost use Rattle.sql_lex.specs.declared.tokens.Token.{Token};
 ghost use Rattle.sql_grammar.specs.Faults.{terminals};
 ghost use Rattle.sql_grammar.specs.Spelled.{IsSpelled};
 ghost use Rattle.sql_grammar.specs.Syntax.{OrderedSelect, query as query_tree};
-ghost use Rattle.sql_query.specs.WellBound.{IsWellBound};
+ghost use Rattle.eq_classes.specs.Holding.{IsTable};
+ghost use Rattle.sql_query.specs.WellBound.{IsWellBound, given_of};
 ghost use Rattle.query_reader.specs.Binding.{bound};
-ghost use Rattle.query_reader.specs.Select.{AreNoOther, IsGrammatical, IsReadAs, is_explained, words_before};
+ghost use Rattle.query_reader.specs.Select.{AreNoOther, IsBoundByItself, IsGrammatical, IsReadAs, is_explained, words_before};
 
 use crate::bind::bind;
 use crate::read::list;
@@ -28,6 +29,33 @@ pub fn explains(text: &[u8], tokens: &Tokens) -> bool
 {
     let mut from = Cursor::new(text, tokens, 0);
     from.takes_free(Free::Explain)
+}
+
+/// The same, where what is read is told of whole.
+fn read_whole(
+    alloc: Global,
+    cat: &Catalog,
+    text: &[u8],
+    tokens: &Tokens,
+    first: u32,
+) -> Result<Prepared, Refusal>
+    requires short { length text.now ≤ 2 ^ 31 }
+    requires words { (from : ℕ) × AreWords text.now from tokens.now }
+    requires kind { AreNoOther text.now tokens.now }
+    requires within { first < length tokens.now }
+    requires first { first ≡ words_before (terminals text.now tokens.now) }
+    ensures grammar { IsGrammatical text.now tokens.now result }
+    ensures binding { (x : OrderedSelect) (start : Token) (later : List Token) → tokens.now ≡ start ∷ later →
+        IsSpelled (query_tree x) text.now tokens.now → IsReadAs (bound cat.now start x) result }
+    ensures itself { IfOk result (IsBoundByItself cat.now) }
+{
+    if let Some(fault) = statement_fault(text, tokens, 0) {
+        return Err(Refusal::Fault(fault));
+    }
+    let mut from = Cursor::new(text, tokens, first);
+    from.skip(1);
+    let items = list(alloc, &mut from)?;
+    bind(alloc, cat, &items, tokens.items()[0], &mut from)
 }
 
 /// The SELECT of these tokens with its order, behind EXPLAIN where that is written: the relations in the order of FROM, the
@@ -66,12 +94,7 @@ pub fn read_select(
     ensures binding { (x : OrderedSelect) (start : Token) (later : List Token) → tokens.now ≡ start ∷ later →
         IsSpelled (query_tree x) text.now tokens.now → IsReadAs (bound cat.now start x) result }
     ensures well_bound { IfOk result (IsWellBound cat.now) }
+    ensures classes { IfOk result (λ q. IsTable (given_of cat.now q) q.classes) }
 {
-    if let Some(fault) = statement_fault(text, tokens, 0) {
-        return Err(Refusal::Fault(fault));
-    }
-    let mut from = Cursor::new(text, tokens, first);
-    from.skip(1);
-    let items = list(alloc, &mut from)?;
-    bind(alloc, cat, &items, tokens.items()[0], &mut from)
+    read_whole(alloc, cat, text, tokens, first)
 }

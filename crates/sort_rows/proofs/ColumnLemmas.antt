@@ -24,7 +24,7 @@ use Rattle.eq_classes.proofs.ListLemmas.{IsIn, all_at, all_from, found_in, found
 use Rattle.eq_classes.proofs.WrittenLemmas.{in_columns}
 use Rattle.path_cost.specs.Columns.{is_column}
 use Rattle.sql_query.specs.Queries.{Query}
-use Rattle.sql_query.specs.WellBound.{given_of, IsColumnOf, IsWellBound, NamesOnly}
+use Rattle.sql_query.specs.WellBound.{given_with, IsColumnOf, IsWellBound, NamesOnly}
 use Rattle.eq_classes.specs.declared.classes.ClassNo.{ClassNo}
 use Rattle.pathkeys.specs.Finding.{class_numbers}
 use Rattle.pathkeys.specs.Keys.{Keys}
@@ -45,10 +45,10 @@ module _ (c : Contents) (q : Query) (is : IsWellBound c q) where
       let of : IsColumnOf c q.range x = all_at (IsColumnOf c q.range) q.used is.used x i in
       and_from _ _ (below _ _ of.relation) (below _ _ of.column)
 
-  order_is : (i : OrderItem) → IsIn i q.order → is_column c q.range i.col ≡ true
-  order_is i at = used_is i.col (in_from_contains q.used i.col (all_at (λ (o : OrderItem). Contains q.used o.col) q.order is.order i at))
+  items_are : (i : OrderItem) → IsIn i is.items → is_column c q.range i.col ≡ true
+  items_are i at = used_is i.col (in_from_contains q.used i.col (all_at (λ (o : OrderItem). Contains q.used o.col) is.items is.named i at))
 
-  conjuncts_are : All (λ e. each_column (is_column c q.range) e ≡ true) (given_of c q).conjuncts
+  conjuncts_are : All (λ e. each_column (is_column c q.range) e ≡ true) (given_with c q is.items).conjuncts
   conjuncts_are =
       in_columns q.where_all (is_column c q.range)
       (all_from (λ (w : Cond). each_column (is_column c q.range) w ≡ true) q.where_all
@@ -57,7 +57,7 @@ module _ (c : Contents) (q : Query) (is : IsWellBound c q) where
   pub member_is : (k : Class) → IsIn k q.classes.classes → (x : ColRef) → IsIn x k.members → IsColumnOf c q.range x
   member_is k ik x ix =
       let passed : is_column c q.range x ≡ true =
-      member_passes (is_column c q.range) (given_of c q) (all_at (λ (e : Cond). each_column (is_column c q.range) e ≡ true) (given_of c q).conjuncts conjuncts_are) order_is q.classes.classes is.classes.classes k ik x ix in
+      member_passes (is_column c q.range) (given_with c q is.items) (all_at (λ (e : Cond). each_column (is_column c q.range) e ≡ true) (given_with c q is.items).conjuncts conjuncts_are) items_are q.classes.classes is.classes.classes k ik x ix in
       let both = and_parts _ _ passed in
       record { relation = from_below _ _ both.0; column = from_below _ _ both.1 }
 

@@ -3,3 +3,4 @@ pub mod WellBound
 pub mod Worlds
 pub mod Tuples
 pub mod Meaning
+pub mod Grouped

@@ -26,3 +26,15 @@ width q = length q.range
 -- the set of its relations
 abbrev pub all_of_query : Query → Set
 all_of_query q k = nat_lt k (width q)
+
+-- the same query in another order
+abbrev pub in_order_of : Query → List OrderItem → Query
+in_order_of q order = record {
+  range = q.range;
+  classes = q.classes;
+  select = q.select;
+  order = order;
+  used = q.used;
+  where_all = q.where_all;
+  window = q.window;
+}

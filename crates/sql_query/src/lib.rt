@@ -2,6 +2,7 @@
 #![tactic(auto)]
 
 mod columns;
+mod grouped;
 mod laws;
 mod order;
 mod prepared;
@@ -9,7 +10,11 @@ mod window;
 
 pub use catalog::RangeTable;
 pub use columns::ColList;
-pub use laws::selected_columns;
+pub use grouped::{Grouped, Item, ItemList};
+pub use laws::{
+    another_order_is_well_bound, no_order_is_well_bound, own_classes_have_their_directions,
+    selected_columns,
+};
 pub use order::OrderList;
 pub use prepared::Prepared;
 pub use window::Window;

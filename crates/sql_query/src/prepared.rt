@@ -11,12 +11,14 @@ use std::marker::Model;
 /// A query over a catalogue. It is well bound there where its relations are tables of the catalogue with different
 /// aliases, `used` holds every column of `select`, `order` and `where_all` and each is one of its relation's table, the
 /// conditions are well typed and keep the limits of conjuncts and atoms, and `classes` are those of the conditions in
-/// pushed form and of `order`. Contracts see a `Query`.
+/// pushed form and of a list of order items over columns of `used`, in which each column of `order` stands. An item of `order`
+/// whose class has no constant and belongs to no earlier item of `order` has its class's direction. For a query that is read
+/// this list is `order` itself; of a grouped one the GROUP BY columns stand behind it. Contracts see a `Query`.
 #[derive(Drop)]
 pub struct Prepared {
     /// The relations, in FROM order.
     pub range: RangeTable,
-    /// The classes of the conditions and of ORDER BY, with the numbered clauses.
+    /// The classes of the conditions and of the order items, with the numbered clauses.
     pub classes: Classes,
     /// The columns of the select list from the left.
     pub select: ColList,

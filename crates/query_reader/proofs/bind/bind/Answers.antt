@@ -5,10 +5,9 @@ use Rattle.catalog.specs.Contents.{Contents}
 use Rattle.sql_grammar.specs.FromParts.{groups_after}
 use Rattle.sql_grammar.specs.Words.{words_of_order, words_of_where}
 use Rattle.expr_reader.proofs.StepLemmas.{step, stop}
-use Rattle.sql_query.specs.WellBound.{IsWellBound}
 use Rattle.query_reader.specs.Binding.{Bound, bound_over}
 use Rattle.query_reader.specs.From.{Joined, nothing_joined, with_groups}
-use Rattle.query_reader.specs.Select.{IsReadAs}
+use Rattle.query_reader.specs.Select.{IsBoundByItself, IsReadAs}
 use Rattle.query_reader.proofs.GrowLemmas.{some-groups}
 use Rattle.query_reader.proofs.JoinLemmas.{behind-from}
 use Rattle.query_reader.proofs.QueryLemmas.{stopped}
@@ -39,11 +38,11 @@ returns-clause-meaning c = λ g gs w y rest ends is.
     (sym (step (with_groups (nothing_joined c.args.cat.now) (g ∷ groups_after gs)) (bound_over c.args.start c.args.items.now w y) c.take_groups.new.self meant))
     (c.over.ensures.meaning w y rest ends so.words)
 
-pub returns-clause-well_bound : goal.returns-clause-well_bound
-returns-clause-well_bound c =
+pub returns-clause-itself : goal.returns-clause-itself
+returns-clause-itself c =
     let (g, gs, w, y, rest, ends, is) = c.requires in
     let told = c.in_ok-take_groups.ensures g gs (words_of_where w ++ (words_of_order y ++ rest)) (behind-from w y rest ends) is in
     let so = was-into (Unit {0}) Joined c.take_groups.new.self (with_groups c.new-sources.result (g ∷ groups_after gs)) _ (words_of_where w ++ (words_of_order y ++ rest)) c.take_groups.new.from told in
     let grown = some-groups c.new-sources.result c.take_groups.new.self g (groups_after gs) so.meant in
     let same : c.take_groups.new.self.contents ≡ c.args.cat.now = grown.contents ∙ ap (λ (j : Joined). j.contents) c.new-sources.ensures in
-    IfOk-weaker c.over.result _ _ (λ q has names. subst (λ (x : Contents). IsWellBound x q) same (has names)) c.over.ensures.well_bound
+    IfOk-weaker c.over.result _ _ (λ q has names. subst (λ (x : Contents). IsBoundByItself x q) same (has names)) c.over.ensures.itself

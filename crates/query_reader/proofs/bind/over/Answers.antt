@@ -15,7 +15,7 @@ use Rattle.expr_reader.specs.Reads.{Reads}
 use Rattle.expr_reader.proofs.ReadsLemmas.{was-read}
 use Rattle.path_cost.specs.Columns.{IsOver, is_column}
 use Rattle.sql_grammar.specs.Words.{words_of_order}
-use Rattle.sql_query.specs.WellBound.{IsWellBound}
+use Rattle.query_reader.specs.Select.{IsBoundByItself}
 use Rattle.query_reader.specs.Binding.{conjuncts_written, limited, list_columns, named_in, past_limit}
 use Rattle.query_reader.specs.From.{Joined}
 use Rattle.query_reader.specs.Order.{order_items}
@@ -110,8 +110,8 @@ returns-clause-meaning c = λ w y rest ends is.
     at-joined (record { contents = cat; range = range; conjuncts = map cond old }) c.args.sources c.args.start c.args.items.now w y _ c.sources.view_is
     (read-so _ _ _ (all-meant cat range (map cond old) c.args.start c.args.items.now w y s look ws conj.meant shown.columns shown.is c.in_ok-order.order.items sorted.meant kept.0) same)
 
-pub returns-clause-well_bound : goal.returns-clause-well_bound
-returns-clause-well_bound c = λ names.
+pub returns-clause-itself : goal.returns-clause-itself
+returns-clause-itself c = λ names.
     let s : Sight = c.new-range.result in
     let cat = c.sources.inside.cat.now in
     let range : Range = c.sources.inside.relations.items in
@@ -138,4 +138,4 @@ returns-clause-well_bound c = λ names.
     let classes = subst (λ (x : Sight). IsTable (record { conjuncts = conjuncts_in (map cond old ++ ws); order = c.in_ok-order.order.items; type_of = type_in x.contents x.range }) c.in_ok-classes.classes) look table in
     let named = subst (λ (r : Range). All (λ x. IsName x.1) r) c.from_vec.ensures names in
     bound-at (record { contents = cat; range = range; conjuncts = map cond old }) c.args.sources _ c.sources.view_is
-    (subst (IsWellBound cat) same (well-bound cat range c.sources.invariant.0 some c.args.items.now shown.columns (map cond old ++ ws) c.in_ok-order.order.items c.in_ok-classes.classes columns over ordered kept.0 classes named))
+    (subst (IsBoundByItself cat) same (well-bound cat range c.sources.invariant.0 some c.args.items.now shown.columns (map cond old ++ ws) c.in_ok-order.order.items c.in_ok-classes.classes columns over ordered kept.0 classes named))

@@ -11,7 +11,7 @@ use Rattle.pg_expr.specs.Typed.{IsTyped}
 use Rattle.eq_classes.specs.Classes.{Premises, Class, IsClass, conjuncts_in}
 use Rattle.eq_classes.specs.Clauses.{Set, one, first_in, Clause, clauses_from, conjunct_clauses, clause_list, Table}
 use Rattle.eq_classes.specs.Parts.{union, is_inside, is_all, is_base, is_join, is_param, is_join_param}
-use Rattle.eq_classes.specs.Holding.{hold, Fits, IsTable, AreApart, IsWithin, AgreeOn, HasClass}
+use Rattle.eq_classes.specs.Holding.{hold, Fits, IsClassTable, AreApart, IsWithin, AgreeOn, HasClass}
 use Rattle.eq_classes.proofs.ListLemmas.{IsIn, in_from_contains, all_at}
 use Rattle.eq_classes.proofs.HoldLemmas.{hold-append}
 use Rattle.eq_classes.proofs.ClassHoldLemmas.{IsSound}
@@ -23,7 +23,7 @@ use Rattle.eq_classes.proofs.WrittenLemmas.{each_true, true_each, in_typed, in_i
 abbrev pub made : Premises → List Class → List Clause
 made g classes = clause_list g.type_of g.conjuncts classes
 
-module _ (g : Premises) (t : Table) (is : IsTable g t) where
+module _ (g : Premises) (t : Table) (is : IsClassTable g t) where
   pub list_is : made g t.classes ≡ t.clauses
   list_is = sym is.clauses
 

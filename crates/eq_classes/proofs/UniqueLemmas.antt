@@ -9,7 +9,7 @@ use Rattle.pg_expr.specs.declared.operand.Operand.TheVariants.{Col}
 use Rattle.pg_expr.specs.Pushed.{is_lower}
 use Rattle.eq_classes.specs.Classes.{Premises, Linked, Class, is_family, has_member, Mention, is_in, mentions, first_mention, IsClass, AreClasses}
 use Rattle.eq_classes.specs.Clauses.{Clause, clause_list, Table}
-use Rattle.eq_classes.specs.Holding.{IsTable}
+use Rattle.eq_classes.specs.Holding.{IsClassTable}
 use Rattle.eq_classes.proofs.ListLemmas.{IsIn, Before, all_at, pairs_at, any_at}
 use Rattle.eq_classes.proofs.EqualLemmas.{family_is}
 use Rattle.eq_classes.proofs.SoundLemmas.{member_in, in_member, position_found}
@@ -87,7 +87,7 @@ module _ (g : Premises) where
       (pairs_at (λ c d. first_mention g c < first_mention g d) cs are.numbered) (pairs_at (λ c d. first_mention g c < first_mention g d) ds are'.numbered)
       (found_in_other cs ds are are') (found_in_other ds cs are' are)
 
-  pub table_one : (t u : Table) → IsTable g t → IsTable g u → t ≡ u
+  pub table_one : (t u : Table) → IsClassTable g t → IsClassTable g u → t ≡ u
   table_one t u p q =
       let classes : t.classes ≡ u.classes = classes_one t.classes u.classes p.classes q.classes in
       let listed : t.clauses ≡ u.clauses = p.clauses ∙ ap (clause_list g.type_of g.conjuncts) classes ∙ sym q.clauses in

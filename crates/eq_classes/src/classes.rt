@@ -64,7 +64,7 @@ impl Classes {
     ghost use Rattle.pg_expr.specs.Truths.{truth_of_all};
     ghost use Rattle.pg_expr.specs.Typed.{IsTyped, AreTyped};
     ghost use Rattle.eq_classes.specs.Building.{given};
-    ghost use Rattle.eq_classes.specs.Holding.{IsTable, Fits, hold};
+    ghost use Rattle.eq_classes.specs.Holding.{IsClassTable, Fits, hold};
 
     /// The classes and clauses of conjuncts in pushed form, none of them an AND, and an ORDER BY. The conditions are
     /// that each conjunct is well typed, that each column is bound and of a relation below 16, and that there are at
@@ -81,7 +81,7 @@ impl Classes {
         requires rels { IsTrue (each_column_of (λ c. nat_lt c.rel.0 16) (view.conds conjuncts.items.items)) }
         requires order_rels { All (λ i. i.col.rel.0 < 16) order.now }
         requires few { length conjuncts.items.items ≤ MOST_CONJUNCTS }
-        ensures table { IfOk result (λ t. IsTable (given (B.type_of typed.now) conjuncts.items.items order.now) t) }
+        ensures table { IfOk result (λ t. IsClassTable (given (B.type_of typed.now) conjuncts.items.items order.now) t) }
         ensures means { IfOk result (λ t. (ws : List Cond) (b : ColRef → Value) (set : Set) →
             map view.cond conjuncts.items.items ≡ conjuncts_in ws → All (IsTyped (B.type_of typed.now)) ws →
             Fits (B.type_of typed.now) b → set 0 ≡ true → All (λ w. each_column (λ x. set x.rel.0) w ≡ true) ws →
@@ -102,7 +102,7 @@ impl Classes {
         requires rels { IsTrue (each_column_of (λ c. nat_lt c.rel.0 16) (view.conds conjuncts.items.items)) }
         requires order_rels { All (λ i. i.col.rel.0 < 16) order.now }
         requires few { length conjuncts.items.items ≤ MOST_CONJUNCTS }
-        ensures { IfOk result (λ t. IsTable (given (B.type_of typed.now) conjuncts.items.items order.now) t) }
+        ensures { IfOk result (λ t. IsClassTable (given (B.type_of typed.now) conjuncts.items.items order.now) t) }
     {
         let classes = make_classes(alloc, conjuncts.items(), order, typed)?;
         let mut clauses = Vec::new(alloc);

@@ -16,7 +16,7 @@ use Rattle.pathkeys.specs.Finding.{class_numbers}
 use Rattle.sql_query.specs.Queries.{Query}
 use Rattle.sql_query.specs.WellBound.{IsColumnOf, IsWellBound}
 use Rattle.sort_rows.proofs.ColumnLemmas.{member_is}
-use Rattle.explain.specs.Texts.{key_text, listed}
+use Rattle.explain.specs.Texts.{key_text, with_commas}
 
 pub member-column : (c : Contents) (q : Query) → IsWellBound c q → (n : ℕ) → n < length q.classes.classes → (set : RelSet) (x : ColRef) (t : Table) → t ≡ q.classes → Some x ≡ first_in (class_at t.classes n) (has set.0) → IsColumnOf c q.range x
 member-column c q is n lt set x t same found =
@@ -36,16 +36,16 @@ comma-next n = grind (arith, nat_tests)
 -- one key more
 module _ (c : Contents) (q : Query) (set : RelSet) (ks : List ClassNo) (n : ℕ) (d : ClassNo) (lt : n < length ks) where
   pub keys-more : (start text mid new : List ℕ) → mid ≡ text ++ cond (nat_eq n 0) [] (codes ", ") → new ≡ mid ++ key_text c q (has set.0) (get_or ks n d).0 →
-      text ++ listed (cond (nat_eq n 0) [] (codes ", ")) (map (key_text c q (has set.0)) (class_numbers (drop n ks))) ≡ start →
-      new ++ listed (cond (nat_eq (n + 1) 0) [] (codes ", ")) (map (key_text c q (has set.0)) (class_numbers (drop (n + 1) ks))) ≡ start
+      text ++ with_commas (cond (nat_eq n 0) [] (codes ", ")) (map (key_text c q (has set.0)) (class_numbers (drop n ks))) ≡ start →
+      new ++ with_commas (cond (nat_eq (n + 1) 0) [] (codes ", ")) (map (key_text c q (has set.0)) (class_numbers (drop (n + 1) ks))) ≡ start
   keys-more start text mid new first next before =
       let key = key_text c q (has set.0) (get_or ks n d).0 in
       let comma = cond (nat_eq n 0) [] (codes ", ") in
       let texts : List ClassNo → List (List ℕ) = λ l. map (key_text c q (has set.0)) (class_numbers l) in
-      let rest = listed (codes ", ") (texts (drop (n + 1) ks)) in
+      let rest = with_commas (codes ", ") (texts (drop (n + 1) ks)) in
       let same : drop n ks ≡ get_or ks n d ∷ drop (n + 1) ks = drop-cons ks n d lt ∙ ap (λ (m : ℕ). get_or ks n d ∷ drop m ks) (let e : suc n ≡ n + 1 = omega arith in e) in
-      let whole : text ++ (comma ++ (key ++ rest)) ≡ start = sym (ap (λ (l : List ClassNo). text ++ listed comma (texts l)) same) ∙ before in
-      ap (λ b. new ++ listed (cond b [] (codes ", ")) (texts (drop (n + 1) ks))) (comma-next n)
+      let whole : text ++ (comma ++ (key ++ rest)) ≡ start = sym (ap (λ (l : List ClassNo). text ++ with_commas comma (texts l)) same) ∙ before in
+      ap (λ b. new ++ with_commas (cond b [] (codes ", ")) (texts (drop (n + 1) ks))) (comma-next n)
       ∙ ap (λ l. l ++ rest) next
       ∙ ap (λ l. (l ++ key) ++ rest) first
       ∙ append_assoc (text ++ comma) key rest

@@ -7,7 +7,7 @@ ghost use Rattle.path_cost.specs.Columns.{AreTables};
 ghost use Rattle.sql_query.specs.Queries.{width};
 ghost use Rattle.sql_query.specs.WellBound.{IsColumnOf};
 ghost use Rattle.explain.specs.Texts as texts;
-ghost use Rattle.explain.specs.Texts.{listed, relation_text, with_alias};
+ghost use Rattle.explain.specs.Texts.{with_commas, relation_text, with_alias};
 
 use catalog::Catalog;
 use pg_base::{IndexNo, Memory, RelNo, RelSet};
@@ -56,7 +56,7 @@ fn put_before(text: &mut Vec<u8>, first: bool) -> Result<(), Memory>
 /// Appends an alias where its relation is given, and says whether the next one is still the first.
 fn put_alias(text: &mut Vec<u8>, alias: &[u8], is: bool, first: bool) -> Result<bool, Memory>
     ensures { IfOk result (λ still. (xs : List (List ℕ)) →
-        text.new.items ++ listed (cond still (codes " for ") (codes ", ")) xs ≡ text.old.items ++ listed (cond first (codes " for ") (codes ", ")) (with_alias is alias.now xs)) }
+        text.new.items ++ with_commas (cond still (codes " for ") (codes ", ")) xs ≡ text.old.items ++ with_commas (cond first (codes " for ") (codes ", ")) (with_alias is alias.now xs)) }
 {
     if !is {
         return Ok(first);

@@ -31,7 +31,7 @@ use Rattle.sort_rows.proofs.ColumnLemmas.{member_is}
 use Rattle.order_laws.proofs.IndexOrderLemmas.{class_found}
 use Rattle.order_laws.proofs.ItemLemmas.{default_of, same_family, sample_fits}
 use Rattle.order_laws.proofs.KeyLemmas.{find_more}
-use Rattle.explain.specs.Texts.{column_text, direction_text, family_text, key_text, keys_text, listed, member_text}
+use Rattle.explain.specs.Texts.{column_text, direction_text, family_text, key_text, keys_text, with_commas, member_text}
 use Rattle.explain_laws.proofs.NameLemmas.{alias-name, alias-same, column-name, column-same, relation-table}
 use Rattle.explain_laws.proofs.SplitLemmas.{split, stops, word}
 
@@ -188,18 +188,18 @@ module _ (c : Contents) (q : Query) (lawful : IsLawful c) (bound : IsWellBound c
           let col : x.col ≡ y.col = column-same c lawful (table_of q.range x) x.col y.col (relation-table c q.range bound.range x.rel hx.relation) hx.column (subst P (sym rel) hy.column) named in
           ap₂ (λ (r : RelNo) (k : ColNo). let z : ColRef = record { rel = r; col = k } in z) rel col
 
-  next-keys : (a : Set) (ks : Keys) (s : List ℕ) → IsNext (listed (codes ", ") (map (key_text c q a) ks) ++ 32 ∷ 32 ∷ s)
+  next-keys : (a : Set) (ks : Keys) (s : List ℕ) → IsNext (with_commas (codes ", ") (map (key_text c q a) ks) ++ 32 ∷ 32 ∷ s)
   next-keys a [] s = record { stops_name = refl; space = refl }
   next-keys a (k ∷ ks) s = record { stops_name = refl; space = refl }
 
   more-keys : (a b : Set) (ks ls : Keys) (s t : List ℕ) → AreShownKeys q a ks → AreShownKeys q b ls →
-      listed (codes ", ") (map (key_text c q a) ks) ++ 32 ∷ 32 ∷ s ≡ listed (codes ", ") (map (key_text c q b) ls) ++ 32 ∷ 32 ∷ t → (ks ≡ ls) × (s ≡ t)
+      with_commas (codes ", ") (map (key_text c q a) ks) ++ 32 ∷ 32 ∷ s ≡ with_commas (codes ", ") (map (key_text c q b) ls) ++ 32 ∷ 32 ∷ t → (ks ≡ ls) × (s ≡ t)
   more-keys a b [] [] s t h g e = (refl, ap (λ (z : List ℕ). drop 2 z) e)
   more-keys a b [] (l ∷ ls) s t h g e = let bad : 32 ≡ 44 = ap (λ (z : List ℕ). get_or z 0 0) e in absurd (omega (arith, bad))
   more-keys a b (k ∷ ks) [] s t h g e = let bad : 44 ≡ 32 = ap (λ (z : List ℕ). get_or z 0 0) e in absurd (omega (arith, bad))
   more-keys a b (k ∷ ks) (l ∷ ls) s t h g e =
-      let A = listed (codes ", ") (map (key_text c q a) ks) in
-      let B = listed (codes ", ") (map (key_text c q b) ls) in
+      let A = with_commas (codes ", ") (map (key_text c q a) ks) in
+      let B = with_commas (codes ", ") (map (key_text c q b) ls) in
       let one : (key_text c q a k ++ A) ++ 32 ∷ 32 ∷ s ≡ (key_text c q b l ++ B) ++ 32 ∷ 32 ∷ t = ap (λ (z : List ℕ). drop 2 z) e in
       let two = key-split a b k l h.0 g.0 (A ++ 32 ∷ 32 ∷ s) (B ++ 32 ∷ 32 ∷ t) (next-keys a ks s) (next-keys b ls t)
       (sym (append_assoc (key_text c q a k) A (32 ∷ 32 ∷ s)) ∙ one ∙ append_assoc (key_text c q b l) B (32 ∷ 32 ∷ t)) in
@@ -211,8 +211,8 @@ module _ (c : Contents) (q : Query) (lawful : IsLawful c) (bound : IsWellBound c
   keys-split a b [] ls s t some more h g e = absurd (omega (arith, some))
   keys-split a b (k ∷ ks) [] s t some more h g e = absurd (omega (arith, more))
   keys-split a b (k ∷ ks) (l ∷ ls) s t some more h g e =
-      let A = listed (codes ", ") (map (key_text c q a) ks) in
-      let B = listed (codes ", ") (map (key_text c q b) ls) in
+      let A = with_commas (codes ", ") (map (key_text c q a) ks) in
+      let B = with_commas (codes ", ") (map (key_text c q b) ls) in
       let two = key-split a b k l h.0 g.0 (A ++ 32 ∷ 32 ∷ s) (B ++ 32 ∷ 32 ∷ t) (next-keys a ks s) (next-keys b ls t)
       (sym (append_assoc (key_text c q a k) A (32 ∷ 32 ∷ s)) ∙ e ∙ append_assoc (key_text c q b l) B (32 ∷ 32 ∷ t)) in
       let rest = more-keys a b ks ls s t h.1 g.1 two.1 in

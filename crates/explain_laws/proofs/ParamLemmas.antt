@@ -17,7 +17,7 @@ use Rattle.catalog.specs.Contents.{Contents}
 use Rattle.eq_classes.specs.Clauses.{Clause}
 use Rattle.eq_classes.specs.Parts.{has_column, is_inside}
 use Rattle.eq_classes.proofs.InsideLemmas.{names_inside}
-use Rattle.path_cost.specs.Columns.{IsOver, is_column}
+use Rattle.path_cost.specs.Columns.{IsOver, is_column_in}
 use Rattle.path_cost.specs.Estimates.{conditions_from}
 use Rattle.index_match.specs.Conditions.{index_conditions}
 use Rattle.index_match.specs.Numbered.{has_number}
@@ -46,7 +46,7 @@ module _ (c : Contents) (q : Query) (bound : IsWellBound c q) where
       inside : is_inside (all_of_query q) e ≡ true
       inside =
           and_from (each_column (λ x. all_of_query q x.rel.0) e) (has_column e || all_of_query q 0)
-          (weaker-each (is_column c q.range) (λ x. all_of_query q x.rel.0) (λ x h. below x.rel.0 (and_parts (nat_lt x.rel.0 (length q.range)) _ h).0) e over.columns)
+          (weaker-each (is_column_in c q.range) (λ x. all_of_query q x.rel.0) (λ x h. below x.rel.0 (and_parts (nat_lt x.rel.0 (length q.range)) _ h).0) e over.columns)
           (or_right (has_column e) (all_of_query q 0) (lt-ltb 0 (width q) bound.range.some))
 
       out : all_of_query q k ≡ false

@@ -10,7 +10,7 @@ use Rattle.std.proofs.lemmas.Bool.{and_from, and_parts, true≢false}
 use Rattle.std.proofs.lemmas.Bool.Decides.{nat_tests}
 use Rattle.std.proofs.lemmas.Slice.Eq.{bytes_eq-Decides}
 use Rattle.pg_base.specs.Names.{IsName, is_in_name}
-use Rattle.explain.specs.Texts.{listed, numbers_text, relation_text}
+use Rattle.explain.specs.Texts.{with_commas, numbers_text, relation_text}
 
 -- no byte of a name begins a text
 abbrev pub stops : List ℕ → Bool
@@ -96,24 +96,24 @@ numbers-split m n a b x y e =
 abbrev pub Names : List (List ℕ) → Type 0
 Names ws = AllByRecursion IsName ws
 
-stops-more : (us : List (List ℕ)) (s : List ℕ) → stops (listed (codes ", ") us ++ 32 ∷ s) ≡ true
+stops-more : (us : List (List ℕ)) (s : List ℕ) → stops (with_commas (codes ", ") us ++ 32 ∷ s) ≡ true
 stops-more [] s = refl
 stops-more (a ∷ us) s = refl
 
-more-split : (us bs : List (List ℕ)) (s t : List ℕ) → Names us → Names bs → listed (codes ", ") us ++ 32 ∷ s ≡ listed (codes ", ") bs ++ 32 ∷ t → (us ≡ bs) × (s ≡ t)
+more-split : (us bs : List (List ℕ)) (s t : List ℕ) → Names us → Names bs → with_commas (codes ", ") us ++ 32 ∷ s ≡ with_commas (codes ", ") bs ++ 32 ∷ t → (us ≡ bs) × (s ≡ t)
 more-split [] [] s t h k e = (refl, ap (λ (l : List ℕ). drop 1 l) e)
 more-split [] (b ∷ bs) s t h k e = let bad : 32 ≡ 44 = ap (λ (l : List ℕ). get_or l 0 0) e in absurd (omega (arith, bad))
 more-split (a ∷ us) [] s t h k e = let bad : 44 ≡ 32 = ap (λ (l : List ℕ). get_or l 0 0) e in absurd (omega (arith, bad))
 more-split (a ∷ us) (b ∷ bs) s t h k e =
-    let one : (a ++ listed (codes ", ") us) ++ 32 ∷ s ≡ (b ++ listed (codes ", ") bs) ++ 32 ∷ t = ap (λ (l : List ℕ). drop 2 l) e in
-    let two = split a b (listed (codes ", ") us ++ 32 ∷ s) (listed (codes ", ") bs ++ 32 ∷ t) (word a h.0) (word b k.0) (stops-more us s) (stops-more bs t)
-    (sym (append_assoc a (listed (codes ", ") us) (32 ∷ s)) ∙ one ∙ append_assoc b (listed (codes ", ") bs) (32 ∷ t)) in
+    let one : (a ++ with_commas (codes ", ") us) ++ 32 ∷ s ≡ (b ++ with_commas (codes ", ") bs) ++ 32 ∷ t = ap (λ (l : List ℕ). drop 2 l) e in
+    let two = split a b (with_commas (codes ", ") us ++ 32 ∷ s) (with_commas (codes ", ") bs ++ 32 ∷ t) (word a h.0) (word b k.0) (stops-more us s) (stops-more bs t)
+    (sym (append_assoc a (with_commas (codes ", ") us) (32 ∷ s)) ∙ one ∙ append_assoc b (with_commas (codes ", ") bs) (32 ∷ t)) in
     let rest = more-split us bs s t h.1 k.1 two.1 in
     (ap₂ (λ (c : List ℕ) (l : List (List ℕ)). c ∷ l) two.0 rest.0, rest.1)
 
 -- the relations that are given, and what stands behind them
 abbrev pub after : List (List ℕ) → List ℕ → List ℕ
-after us s = listed (codes " for ") us ++ 32 ∷ 32 ∷ s
+after us s = with_commas (codes " for ") us ++ 32 ∷ 32 ∷ s
 
 stops-after : (us : List (List ℕ)) (s : List ℕ) → stops (after us s) ≡ true
 stops-after [] s = refl
@@ -124,34 +124,34 @@ given-split [] [] s t h k e = (refl, ap (λ (l : List ℕ). drop 2 l) e)
 given-split [] (b ∷ bs) s t h k e = let bad : 32 ≡ 102 = ap (λ (l : List ℕ). get_or l 1 0) e in absurd (omega (arith, bad))
 given-split (a ∷ us) [] s t h k e = let bad : 102 ≡ 32 = ap (λ (l : List ℕ). get_or l 1 0) e in absurd (omega (arith, bad))
 given-split (a ∷ us) (b ∷ bs) s t h k e =
-    let one : (a ++ listed (codes ", ") us) ++ 32 ∷ 32 ∷ s ≡ (b ++ listed (codes ", ") bs) ++ 32 ∷ 32 ∷ t = ap (λ (l : List ℕ). drop 5 l) e in
-    let two = split a b (listed (codes ", ") us ++ 32 ∷ 32 ∷ s) (listed (codes ", ") bs ++ 32 ∷ 32 ∷ t) (word a h.0) (word b k.0) (stops-more us (32 ∷ s)) (stops-more bs (32 ∷ t))
-    (sym (append_assoc a (listed (codes ", ") us) (32 ∷ 32 ∷ s)) ∙ one ∙ append_assoc b (listed (codes ", ") bs) (32 ∷ 32 ∷ t)) in
+    let one : (a ++ with_commas (codes ", ") us) ++ 32 ∷ 32 ∷ s ≡ (b ++ with_commas (codes ", ") bs) ++ 32 ∷ 32 ∷ t = ap (λ (l : List ℕ). drop 5 l) e in
+    let two = split a b (with_commas (codes ", ") us ++ 32 ∷ 32 ∷ s) (with_commas (codes ", ") bs ++ 32 ∷ 32 ∷ t) (word a h.0) (word b k.0) (stops-more us (32 ∷ s)) (stops-more bs (32 ∷ t))
+    (sym (append_assoc a (with_commas (codes ", ") us) (32 ∷ 32 ∷ s)) ∙ one ∙ append_assoc b (with_commas (codes ", ") bs) (32 ∷ 32 ∷ t)) in
     let rest = more-split us bs (32 ∷ s) (32 ∷ t) h.1 k.1 two.1 in
     (ap₂ (λ (c : List ℕ) (l : List (List ℕ)). c ∷ l) two.0 rest.0, ap (λ (l : List ℕ). drop 1 l) rest.1)
 
 -- an alias beside the table's name is told from given relations, though it may be the word `for`
-mixed-last : (us : List (List ℕ)) (b s z : List ℕ) → IsName b → listed (codes ", ") us ++ 32 ∷ 32 ∷ s ≡ 32 ∷ (b ++ z) → ⊥
+mixed-last : (us : List (List ℕ)) (b s z : List ℕ) → IsName b → with_commas (codes ", ") us ++ 32 ∷ 32 ∷ s ≡ 32 ∷ (b ++ z) → ⊥
 mixed-last [] [] s z n e = n
 mixed-last [] (c ∷ cs) s z n e = no-space c cs n (sym (ap (λ (l : List ℕ). get_or l 1 0) e))
 mixed-last (a ∷ us) b s z n e = let bad : 44 ≡ 32 = ap (λ (l : List ℕ). get_or l 0 0) e in omega (arith, bad)
 
-mixed-for : (a : List ℕ) (us bs : List (List ℕ)) (s t : List ℕ) → IsName a → Names bs → 32 ∷ ((a ++ listed (codes ", ") us) ++ 32 ∷ 32 ∷ s) ≡ after bs t → ⊥
+mixed-for : (a : List ℕ) (us bs : List (List ℕ)) (s t : List ℕ) → IsName a → Names bs → 32 ∷ ((a ++ with_commas (codes ", ") us) ++ 32 ∷ 32 ∷ s) ≡ after bs t → ⊥
 mixed-for [] us bs s t h k e = h
 mixed-for (c ∷ cs) us [] s t h k e = no-space c cs h (ap (λ (l : List ℕ). get_or l 1 0) e)
 mixed-for (c ∷ cs) us (b ∷ bs) s t h k e =
     let a = c ∷ cs in
-    let one : (a ++ listed (codes ", ") us) ++ 32 ∷ 32 ∷ s ≡ codes "for" ++ 32 ∷ ((b ++ listed (codes ", ") bs) ++ 32 ∷ 32 ∷ t) = ap (λ (l : List ℕ). drop 1 l) e in
-    let two = split a (codes "for") (listed (codes ", ") us ++ 32 ∷ 32 ∷ s) (32 ∷ ((b ++ listed (codes ", ") bs) ++ 32 ∷ 32 ∷ t)) (word a h) refl (stops-more us (32 ∷ s)) refl
-    (sym (append_assoc a (listed (codes ", ") us) (32 ∷ 32 ∷ s)) ∙ one) in
-    mixed-last us b s (listed (codes ", ") bs ++ 32 ∷ 32 ∷ t) k.0 (two.1 ∙ ap (λ (l : List ℕ). 32 ∷ l) (append_assoc b (listed (codes ", ") bs) (32 ∷ 32 ∷ t)))
+    let one : (a ++ with_commas (codes ", ") us) ++ 32 ∷ 32 ∷ s ≡ codes "for" ++ 32 ∷ ((b ++ with_commas (codes ", ") bs) ++ 32 ∷ 32 ∷ t) = ap (λ (l : List ℕ). drop 1 l) e in
+    let two = split a (codes "for") (with_commas (codes ", ") us ++ 32 ∷ 32 ∷ s) (32 ∷ ((b ++ with_commas (codes ", ") bs) ++ 32 ∷ 32 ∷ t)) (word a h) refl (stops-more us (32 ∷ s)) refl
+    (sym (append_assoc a (with_commas (codes ", ") us) (32 ∷ 32 ∷ s)) ∙ one) in
+    mixed-last us b s (with_commas (codes ", ") bs ++ 32 ∷ 32 ∷ t) k.0 (two.1 ∙ ap (λ (l : List ℕ). 32 ∷ l) (append_assoc b (with_commas (codes ", ") bs) (32 ∷ 32 ∷ t)))
 
 mixed : (us bs : List (List ℕ)) (w s t : List ℕ) → Names us → Names bs → IsName w → after us s ≡ 32 ∷ (w ++ after bs t) → ⊥
 mixed [] bs [] s t h k n e = n
 mixed [] bs (c ∷ cs) s t h k n e = no-space c cs n (sym (ap (λ (l : List ℕ). get_or l 1 0) e))
 mixed (a ∷ us) bs w s t h k n e =
-    let one : codes "for" ++ 32 ∷ ((a ++ listed (codes ", ") us) ++ 32 ∷ 32 ∷ s) ≡ w ++ after bs t = ap (λ (l : List ℕ). drop 1 l) e in
-    let two = split (codes "for") w (32 ∷ ((a ++ listed (codes ", ") us) ++ 32 ∷ 32 ∷ s)) (after bs t) refl (word w n) refl (stops-after bs t) one in
+    let one : codes "for" ++ 32 ∷ ((a ++ with_commas (codes ", ") us) ++ 32 ∷ 32 ∷ s) ≡ w ++ after bs t = ap (λ (l : List ℕ). drop 1 l) e in
+    let two = split (codes "for") w (32 ∷ ((a ++ with_commas (codes ", ") us) ++ 32 ∷ 32 ∷ s)) (after bs t) refl (word w n) refl (stops-after bs t) one in
     mixed-for a us bs s t h.0 k two.1
 
 pub relation-split : (m n a b : List ℕ) (us bs : List (List ℕ)) (s t : List ℕ) → IsName m → IsName n → IsName a → IsName b → Names us → Names bs →

@@ -12,14 +12,14 @@ use Rattle.catalog.specs.Contents.{Contents, IsColumn, IsKnown, IsLawful, IsTabl
 use Rattle.catalog.specs.Indexes.{no_column}
 use Rattle.catalog.specs.Range.{Range, table_of, type_in}
 use Rattle.catalog.specs.Statistics.{Statistics, IsLawfulStatistics}
-use Rattle.path_cost.specs.Columns.{AreTables, is_column, stats_or}
+use Rattle.path_cost.specs.Columns.{AreTables, is_column_in, stats_or}
 use Rattle.path_cost.specs.Known.{IsLawfulKnown, statistics_of}
 use Rattle.path_cost.specs.declared.known.Known.{Known}
 
 in-range : (a b n m : ℕ) → IsTrue (nat_lt a n && nat_lt b m) → (a < n) × (b < m)
 in-range a b n m h = (grind (arith, common_steps, h), grind (arith, common_steps, h))
 
-pub column_laws : (c : Contents) (range : Range) (x : ColRef) → AreTables c range → IsTrue (is_column c range x) → (x.rel.0 < length range) × IsTable c (table_of range x) × IsColumn c (table_of range x) x.col
+pub column_laws : (c : Contents) (range : Range) (x : ColRef) → AreTables c range → IsTrue (is_column_in c range x) → (x.rel.0 < length range) × IsTable c (table_of range x) × IsColumn c (table_of range x) x.col
 column_laws c range x tables h =
     let both = in-range x.rel.0 x.col.0 (length range) (length (table_at c (table_of range x)).columns) h in
     (both.0, tables x.rel.0 _ both.0, both.1)

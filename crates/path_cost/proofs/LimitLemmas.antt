@@ -27,7 +27,7 @@ use Rattle.catalog.specs.Tables.{rows_by, rows_of}
 use Rattle.catalog.specs.declared.table.Sizes.{Sizes}
 use Rattle.path_cost.specs.declared.shares.TheConstants.{ALL_ROWS}
 use Rattle.catalog.specs.Range.{type_in}
-use Rattle.path_cost.specs.Columns.{AreTables, is_column, known, stats_of, stats_or}
+use Rattle.path_cost.specs.Columns.{AreTables, is_column_in, known, stats_of, stats_or}
 use Rattle.path_cost.specs.Estimates.{kept, share_of_rows}
 use Rattle.path_cost.specs.Limits.{AreWithinLimits, HasColumns}
 use Rattle.path_cost.specs.Selectivity.{and_share, column_literal, of_all, of_any, of_column_and, of_comparison, of_null, or_share, selectivity}
@@ -45,20 +45,20 @@ rows-some c t h there = some-rows (table_at c t).loaded (table_at c t).sizes (h.
 
 module _ (c : Contents) (range : Range) (lawful : IsLawful c) (tables : AreTables c range) where
   -- what is taken to be known of a column is lawful
-  known-lawful : (x : ColRef) → IsTrue (is_column c range x) → IsLawfulStatistics (type_in c range x) (stats_of c range x)
+  known-lawful : (x : ColRef) → IsTrue (is_column_in c range x) → IsLawfulStatistics (type_in c range x) (stats_of c range x)
   known-lawful x h = by (known c range x) refl
     where
       by : (o : Option Statistics) → known c range x ≡ o → IsLawfulStatistics (type_in c range x) (stats_or (rows_of c (table_of range x)) o)
       by None e = unknown_lawful (type_in c range x) (rows_of c (table_of range x)) (rows-some c (table_of range x) lawful (column_laws c range x tables h).1)
       by (Some s) e = stats_lawful c (table_of range x) x.col s lawful (column_laws c range x tables h).1 e
 
-  literal-most : (op : Op) (x : ColRef) (v : Value) → IsTrue (is_column c range x) → of_column_and c range op x v ≤ ALL_ROWS
+  literal-most : (op : Op) (x : ColRef) (v : Value) → IsTrue (is_column_in c range x) → of_column_and c range op x v ≤ ALL_ROWS
   literal-most op x Null h = omega arith
   literal-most op x (Int n) h = column-most (type_in c range x) (stats_of c range x) (known-lawful x h) op (Int n)
   literal-most op x (Flag b) h = column-most (type_in c range x) (stats_of c range x) (known-lawful x h) op (Flag b)
   literal-most op x (Text t) h = column-most (type_in c range x) (stats_of c range x) (known-lawful x h) op (Text t)
 
-  compared-most : (op : Op) (l r : Operand) → IsTrue (passes_column (is_column c range) l) → IsTrue (passes_column (is_column c range) r) → of_comparison c range op l r ≤ ALL_ROWS
+  compared-most : (op : Op) (l r : Operand) → IsTrue (passes_column (is_column_in c range) l) → IsTrue (passes_column (is_column_in c range) r) → of_comparison c range op l r ≤ ALL_ROWS
   compared-most op (Col x) (Col y) h k = two-columns-most op (stats_of c range x) (stats_of c range y) (known-lawful x h).some
   compared-most op (Col x) (Lit v) h k = literal-most op x v h
   compared-most op (Lit v) (Col x) h k = literal-most (commutator_of op) x v k
@@ -67,13 +67,13 @@ module _ (c : Contents) (range : Range) (lawful : IsLawful c) (tables : AreTable
   left-most : (a : ℕ) → ALL_ROWS - a ≤ ALL_ROWS
   left-most a = omega arith
 
-  null-share-most : (x : ColRef) → IsTrue (is_column c range x) → of_null c range x ≤ ALL_ROWS
+  null-share-most : (x : ColRef) → IsTrue (is_column_in c range x) → of_null c range x ≤ ALL_ROWS
   null-share-most x h = null-most (column_at c range x) (known c range x) (λ s e. nulls_most c (table_of range x) x.col s lawful (column_laws c range x tables h).1 e)
 
   mutual
     pub share-most : (e : Cond) → HasColumns c range e → selectivity c range e ≤ ALL_ROWS
     share-most (compare op l r) h =
-        let sides = and_parts (passes_column (is_column c range) l) (passes_column (is_column c range) r) h in
+        let sides = and_parts (passes_column (is_column_in c range) l) (passes_column (is_column_in c range) r) h in
         compared-most op l r sides.0 sides.1
     share-most (is_null x) h = null-share-most x h
     share-most (is_not_null x) h = left-most _
@@ -83,16 +83,16 @@ module _ (c : Contents) (range : Range) (lawful : IsLawful c) (tables : AreTable
     share-most (any_of es) h = any-shares-most es 0 h (omega arith)
     share-most (negation e) h = left-most _
 
-    all-shares-most : (es : Conds) (a : ℕ) → IsTrue (each_column_of (is_column c range) es) → a ≤ ALL_ROWS → of_all c range a es ≤ ALL_ROWS
+    all-shares-most : (es : Conds) (a : ℕ) → IsTrue (each_column_of (is_column_in c range) es) → a ≤ ALL_ROWS → of_all c range a es ≤ ALL_ROWS
     all-shares-most no_conds a h most = most
     all-shares-most (cond_and e es) a h most =
-        let parts = and_parts (each_column (is_column c range) e) (each_column_of (is_column c range) es) h in
+        let parts = and_parts (each_column (is_column_in c range) e) (each_column_of (is_column_in c range) es) h in
         all-shares-most es (and_share a (selectivity c range e)) parts.1 (and_most a (selectivity c range e) most (share-most e parts.0))
 
-    any-shares-most : (es : Conds) (a : ℕ) → IsTrue (each_column_of (is_column c range) es) → a ≤ ALL_ROWS → of_any c range a es ≤ ALL_ROWS
+    any-shares-most : (es : Conds) (a : ℕ) → IsTrue (each_column_of (is_column_in c range) es) → a ≤ ALL_ROWS → of_any c range a es ≤ ALL_ROWS
     any-shares-most no_conds a h most = most
     any-shares-most (cond_and e es) a h most =
-        let parts = and_parts (each_column (is_column c range) e) (each_column_of (is_column c range) es) h in
+        let parts = and_parts (each_column (is_column_in c range) e) (each_column_of (is_column_in c range) es) h in
         any-shares-most es (or_share a (selectivity c range e)) parts.1 (or_most a (selectivity c range e) most (share-most e parts.0))
 
   -- a share of some rows is no more than they are

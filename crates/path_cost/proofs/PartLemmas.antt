@@ -18,7 +18,7 @@ use Rattle.catalog.specs.Contents.{Contents}
 use Rattle.catalog.specs.Range.{Range}
 use Rattle.eq_classes.specs.Classes.{listed}
 use Rattle.catalog.specs.Range.{type_in}
-use Rattle.path_cost.specs.Columns.{IsOver, is_column}
+use Rattle.path_cost.specs.Columns.{IsOver, is_column_in}
 use Rattle.path_cost.specs.Estimates.{kept, picked_from, share_of_rows}
 use Rattle.path_cost.specs.Selectivity.{selectivity}
 
@@ -30,10 +30,10 @@ listed_conds (e ∷ es) = ap (λ xs. e ∷ xs) (listed_conds es)
 pub and-is : (parts : Exprs) → view.cond (And parts) ≡ all_of (view.conds parts.items.items)
 and-is parts = search (rules, the_lemmas, rolls-And, fold-roll-Expr, fold_out-Expr, fold-roll-Exprs, fold_out-Exprs)
 
-over-each : (c : Contents) (range : Range) (es : List Expr) → IsTrue (each_column_of (is_column c range) (view.conds es)) → AreTyped (type_in c range) (view.conds es) → AllByRecursion (λ (e : Expr). IsOver c range (view.cond e)) es
+over-each : (c : Contents) (range : Range) (es : List Expr) → IsTrue (each_column_of (is_column_in c range) (view.conds es)) → AreTyped (type_in c range) (view.conds es) → AllByRecursion (λ (e : Expr). IsOver c range (view.cond e)) es
 over-each c range [] h t = tt
 over-each c range (e ∷ es) h t =
-    let parts = and_parts (each_column (is_column c range) (view.cond e)) (each_column_of (is_column c range) (view.conds es)) h in
+    let parts = and_parts (each_column (is_column_in c range) (view.cond e)) (each_column_of (is_column_in c range) (view.conds es)) h in
     (record { columns = parts.0; typed = t.0 }, over-each c range es parts.1 t.1)
 
 -- the parts of an AND are over what it is over

@@ -17,7 +17,7 @@ use Rattle.catalog.specs.Contents.{Contents, IsIndex, IsLawful, index_at, no_ind
 use Rattle.catalog.specs.Indexes.{Index, IsConditionOf, IsPredicateOf, type_at}
 use Rattle.pg_expr.proofs.ColumnLaws.{weaker-each}
 use Rattle.catalog.specs.Range.{type_in}
-use Rattle.path_cost.specs.Columns.{is_column}
+use Rattle.path_cost.specs.Columns.{is_column_in}
 
 -- a condition whose columns have the same types is as well typed
 module _ (test : ColRef → Bool) (t u : ColRef → SqlType) (agree : (x : ColRef) → IsTrue (test x) → t x ≡ u x) where
@@ -61,9 +61,9 @@ typed-alone c t e h =
 within-one : (k : ℕ) (b : Bool) → IsTrue (nat_eq k 0 && b) → IsTrue (nat_lt k 1 && b)
 within-one k b h = grind (arith, common_steps, h)
 
-columns-alone : (c : Contents) (t : TableNo) (e : Cond) → IsConditionOf (table_at c t).columns e → IsTrue (each_column (is_column c ((t, []) ∷ [])) e)
+columns-alone : (c : Contents) (t : TableNo) (e : Cond) → IsConditionOf (table_at c t).columns e → IsTrue (each_column (is_column_in c ((t, []) ∷ [])) e)
 columns-alone c t e h =
-    weaker-each (λ x. nat_eq x.rel.0 0 && nat_lt x.col.0 (length (table_at c t).columns)) (is_column c ((t, []) ∷ []))
+    weaker-each (λ x. nat_eq x.rel.0 0 && nat_lt x.col.0 (length (table_at c t).columns)) (is_column_in c ((t, []) ∷ []))
     (λ x w. subst (λ (s : TableNo). IsTrue (nat_lt x.rel.0 1 && nat_lt x.col.0 (length (table_at c s).columns))) (sym (first-table t x.rel.0 (of-relation x.rel.0 _ w))) (within-one x.rel.0 _ w)) e h.within
 
 own-condition : (c : Contents) (i : IndexNo) (x : Index) (e : Cond) → IsLawful c → IsIndex c i → x ≡ index_at c i → x.predicate ≡ Some e → IsConditionOf (table_at c x.table).columns e
@@ -72,7 +72,7 @@ own-condition c i x e h within same is =
     let here : IsPredicateOf (table_at c x.table).columns x.predicate = subst (λ (y : Index). IsPredicateOf (table_at c y.table).columns y.predicate) (sym same) own in
     subst (IsPredicateOf (table_at c x.table).columns) is here
 
-pub predicate_columns : (c : Contents) (i : IndexNo) (x : Index) (e : Cond) → IsLawful c → IsIndex c i → x ≡ index_at c i → x.predicate ≡ Some e → IsTrue (each_column (is_column c ((x.table, []) ∷ [])) e)
+pub predicate_columns : (c : Contents) (i : IndexNo) (x : Index) (e : Cond) → IsLawful c → IsIndex c i → x ≡ index_at c i → x.predicate ≡ Some e → IsTrue (each_column (is_column_in c ((x.table, []) ∷ [])) e)
 predicate_columns c i x e h within same is = columns-alone c x.table e (own-condition c i x e h within same is)
 
 pub predicate_typed : (c : Contents) (i : IndexNo) (x : Index) (e : Cond) → IsLawful c → IsIndex c i → x ≡ index_at c i → x.predicate ≡ Some e → IsTyped (type_in c ((x.table, []) ∷ [])) e

@@ -11,8 +11,8 @@ use Rattle.catalog.specs.Tables.{rows_of}
 use Rattle.path_cost.specs.declared.shares.TheConstants.{UNKNOWN_DISTINCT}
 
 -- a column is one of a relation's table
-abbrev pub is_column : Contents → Range → ColRef → Bool
-is_column c range x = nat_lt x.rel.0 (length range) && nat_lt x.col.0 (length (table_at c (table_of range x)).columns)
+abbrev pub is_column_in : Contents → Range → ColRef → Bool
+is_column_in c range x = nat_lt x.rel.0 (length range) && nat_lt x.col.0 (length (table_at c (table_of range x)).columns)
 
 -- each relation is a table of the catalogue
 abbrev pub AreTables : Contents → Range → Type 0
@@ -20,7 +20,7 @@ AreTables c range = All (λ r. IsTable c r.0) range
 
 -- a condition is over the relations: its columns are theirs, and it is well typed
 pub record IsOver (c : Contents) (range : Range) (e : Cond) : Type 0 where
-  pub columns : IsTrue (each_column (is_column c range) e)
+  pub columns : IsTrue (each_column (is_column_in c range) e)
   pub typed : IsTyped (type_in c range) e
 
 -- what is known of a column; without statistics it has at most 200 different values, and no NULLs

@@ -7,12 +7,12 @@ use Rattle.catalog.specs.Contents.{Contents, IsLawful, IsTable, table_at}
 use Rattle.catalog.specs.Range.{Range}
 use Rattle.catalog.specs.declared.limits.TheConstants.{MOST_NUMBER}
 use Rattle.eq_classes.specs.Clauses.{Clause, Table}
-use Rattle.path_cost.specs.Columns.{AreTables, is_column}
+use Rattle.path_cost.specs.Columns.{AreTables, is_column_in}
 use Rattle.path_cost.specs.Costs.{operators}
 
 -- the columns of a condition are those of the relations
 abbrev pub HasColumns : Contents → Range → Cond → Type 0
-HasColumns c range e = IsTrue (each_column (is_column c range) e)
+HasColumns c range e = IsTrue (each_column (is_column_in c range) e)
 
 -- lawful contents with at most 10^9 rows loaded into each table; relations that are its tables; and at most 512 clauses
 -- over their columns, with at most 1024 operators together

@@ -6,7 +6,7 @@ ghost use Rattle.pg_expr.specs.Columns.{each_column, each_column_of, passes_colu
 ghost use Rattle.pg_expr.specs.Typed.{AreTyped, IsTyped, some_value};
 ghost use Rattle.pg_expr.specs.Cond as conds;
 ghost use Rattle.pg_expr.specs.View as view;
-ghost use Rattle.path_cost.specs.Columns.{AreTables, IsOver, is_column, stats_of};
+ghost use Rattle.path_cost.specs.Columns.{AreTables, IsOver, is_column_in, stats_of};
 ghost use Rattle.catalog.specs.Range.{type_in};
 ghost use Rattle.path_cost.specs.Relations.{range_of};
 ghost use Rattle.path_cost.specs.Selectivity as sel;
@@ -31,7 +31,7 @@ pub fn selectivity(cat: &Catalog, range: &RangeTable, e: &Expr) -> u32
 #[cycle(share)]
 pub(crate) fn share_of(cat: &Catalog, relations: Relations, e: &Expr) -> u64
     requires tables { AreTables cat.now (range_of relations) }
-    requires columns { IsTrue (each_column (is_column cat.now (range_of relations)) (view.cond e.now)) }
+    requires columns { IsTrue (each_column (is_column_in cat.now (range_of relations)) (view.cond e.now)) }
     requires typed { IsTyped (type_in cat.now (range_of relations)) (view.cond e.now) }
     ensures share { result ≡ sel.selectivity cat.now (range_of relations.entry) (view.cond e.now) }
     ensures part { result ≤ 1_000_000_000 }
@@ -51,7 +51,7 @@ pub(crate) fn share_of(cat: &Catalog, relations: Relations, e: &Expr) -> u64
 #[cycle(share)]
 fn all_share(cat: &Catalog, relations: Relations, parts: &[Expr]) -> u64
     requires tables { AreTables cat.now (range_of relations) }
-    requires columns { IsTrue (each_column_of (is_column cat.now (range_of relations)) (view.conds parts.now)) }
+    requires columns { IsTrue (each_column_of (is_column_in cat.now (range_of relations)) (view.conds parts.now)) }
     requires typed { AreTyped (type_in cat.now (range_of relations)) (view.conds parts.now) }
     ensures share { result ≡ sel.of_all cat.now (range_of relations.entry) ALL_ROWS (view.conds parts.now) }
     ensures part { result ≤ 1_000_000_000 }
@@ -66,7 +66,7 @@ fn all_share(cat: &Catalog, relations: Relations, parts: &[Expr]) -> u64
 #[cycle(share)]
 fn any_share(cat: &Catalog, relations: Relations, parts: &[Expr]) -> u64
     requires tables { AreTables cat.now (range_of relations) }
-    requires columns { IsTrue (each_column_of (is_column cat.now (range_of relations)) (view.conds parts.now)) }
+    requires columns { IsTrue (each_column_of (is_column_in cat.now (range_of relations)) (view.conds parts.now)) }
     requires typed { AreTyped (type_in cat.now (range_of relations)) (view.conds parts.now) }
     ensures share { result ≡ sel.of_any cat.now (range_of relations.entry) 0 (view.conds parts.now) }
     ensures part { result ≤ 1_000_000_000 }
@@ -110,7 +110,7 @@ fn all_or_none(all: bool) -> u64
 /// The share of rows at which a column is NULL.
 fn null_share(cat: &Catalog, relations: Relations, x: ColRef) -> u64
     requires tables { AreTables cat.now (range_of relations) }
-    requires column { IsTrue (is_column cat.now (range_of relations) x) }
+    requires column { IsTrue (is_column_in cat.now (range_of relations) x) }
     ensures share { result ≡ sel.of_null cat.now (range_of relations.entry) x }
     ensures part { result ≤ 1_000_000_000 }
 {
@@ -126,8 +126,8 @@ fn null_share(cat: &Catalog, relations: Relations, x: ColRef) -> u64
 /// The share of rows at which a comparison is true.
 fn compared(cat: &Catalog, relations: Relations, op: Op, l: &Operand, r: &Operand) -> u64
     requires tables { AreTables cat.now (range_of relations) }
-    requires left { IsTrue (passes_column (is_column cat.now (range_of relations)) l.now) }
-    requires right { IsTrue (passes_column (is_column cat.now (range_of relations)) r.now) }
+    requires left { IsTrue (passes_column (is_column_in cat.now (range_of relations)) l.now) }
+    requires right { IsTrue (passes_column (is_column_in cat.now (range_of relations)) r.now) }
     requires typed { IsTyped (type_in cat.now (range_of relations)) (conds.compare op l.now r.now) }
     ensures share { result ≡ sel.of_comparison cat.now (range_of relations.entry) op l.now r.now }
     ensures part { result ≤ 1_000_000_000 }
@@ -147,7 +147,7 @@ fn compared(cat: &Catalog, relations: Relations, op: Op, l: &Operand, r: &Operan
 /// The share of rows at which a comparison of a column with a literal is true; none with NULL.
 fn literal_share(cat: &Catalog, relations: Relations, op: Op, x: ColRef, v: &Value) -> u64
     requires tables { AreTables cat.now (range_of relations) }
-    requires column { IsTrue (is_column cat.now (range_of relations) x) }
+    requires column { IsTrue (is_column_in cat.now (range_of relations) x) }
     requires kind { IsSameKind (some_value (type_in cat.now (range_of relations) x)) v.now }
     ensures share { result ≡ sel.of_column_and cat.now (range_of relations.entry) op x v.now }
     ensures part { result ≤ 1_000_000_000 }

@@ -5,7 +5,7 @@ ghost use Rattle.std.specs.Option.{option_map};
 ghost use Rattle.catalog.specs.Contents.{IsColumn, IsTable, table_at};
 ghost use Rattle.catalog.specs.Entries.{statistics};
 ghost use Rattle.catalog.specs.Range.{column_at, table_of, type_in};
-ghost use Rattle.path_cost.specs.Columns.{AreTables, is_column, known as known_of, stats_of};
+ghost use Rattle.path_cost.specs.Columns.{AreTables, is_column_in, known as known_of, stats_of};
 ghost use Rattle.path_cost.specs.Known.{IsLawfulKnown, statistics_of};
 ghost use Rattle.path_cost.specs.Relations.{range_of};
 
@@ -40,7 +40,7 @@ impl<'a> Relations<'a> {
 #[tactic(auto, using(crate::proofs::ColumnLemmas::column_laws))]
 pub(crate) fn column(cat: &Catalog, relations: Relations, x: ColRef) -> Column
     requires tables { AreTables cat.now (range_of relations) }
-    requires column { IsTrue (is_column cat.now (range_of relations) x) }
+    requires column { IsTrue (is_column_in cat.now (range_of relations) x) }
     ensures { result ≡ column_at cat.now (range_of relations.entry) x }
 {
     cat.columns(relations.table(x)).items()[x.col.0 as usize]
@@ -50,7 +50,7 @@ pub(crate) fn column(cat: &Catalog, relations: Relations, x: ColRef) -> Column
 #[tactic(auto, using(crate::proofs::ColumnLemmas::column_laws, crate::proofs::ColumnLemmas::lent_lawful, crate::proofs::ColumnLemmas::unknown_lawful))]
 pub(crate) fn known<'a>(cat: &'a Catalog, relations: Relations, x: ColRef) -> Known<'a>
     requires tables { AreTables cat.now (range_of relations) }
-    requires column { IsTrue (is_column cat.now (range_of relations) x) }
+    requires column { IsTrue (is_column_in cat.now (range_of relations) x) }
     ensures stats { statistics_of result ≡ stats_of cat.now (range_of relations.entry) x }
     ensures typed { result.typed ≡ type_in cat.now (range_of relations.entry) x }
     ensures lawful { IsLawfulKnown result }
@@ -88,7 +88,7 @@ fn lent(typed: SqlType, s: &ColumnStats) -> Known
 #[tactic(auto, using(crate::proofs::ColumnLemmas::column_laws, crate::proofs::ColumnLemmas::nulls_most))]
 pub(crate) fn nulls(cat: &Catalog, relations: Relations, x: ColRef) -> Option<u32>
     requires tables { AreTables cat.now (range_of relations) }
-    requires column { IsTrue (is_column cat.now (range_of relations) x) }
+    requires column { IsTrue (is_column_in cat.now (range_of relations) x) }
     ensures given { result ≡ option_map (λ s. s.nulls) (known_of cat.now (range_of relations.entry) x) }
     ensures part { IfSome result (λ n. n ≤ 1_000_000) }
 {

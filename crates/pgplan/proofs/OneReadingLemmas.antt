@@ -9,7 +9,7 @@ use Rattle.sql_grammar.specs.Syntax.{CreateIndex, OrderedSelect, Statement, empt
 use Rattle.sql_grammar.specs.Faults.{bytes_of, IsStatement, terminals}
 use Rattle.catalog.specs.Contents.{Contents}
 use Rattle.catalog.specs.Tables.{IsIndexRefusal, table_named}
-use Rattle.eq_classes.specs.Holding.{IsTable}
+use Rattle.eq_classes.specs.Holding.{IsClassTable}
 use Rattle.ddl_reader.specs.Statements.{Means}
 use Rattle.ddl_reader.specs.Tables.{Definition, table, sizes_for, statistics_for, data_for, Reading, data_after}
 use Rattle.heap.specs.Loading.{records_of, loaded}
@@ -162,7 +162,7 @@ module _ (w : World) (text : List ℕ) (tokens : List Token) where
   not_queried x a n r f (p, h, (t, of, is), y) reply (inr (b, k, (u, of', none, at))) =
       let both : Ok p ≡ Ok b = sym h ∙ k in
       let same : b ≡ p = cc in
-      let there : IsTable (given_of w.contents (query_with u p)) u = subst (λ (z : Bound). IsTable (given_of w.contents (query_with u z)) u) same of' in
+      let there : IsClassTable (given_of w.contents (query_with u p)) u = subst (λ (z : Bound). IsClassTable (given_of w.contents (query_with u z)) u) same of' in
       let one : u ≡ t = sym (table_one (given_of w.contents (query_with t p)) t u of there) in
       let plans = subst (λ (z : Bound). HasNoPlan w.contents (query_with u z)) same none in
       has-plan (is_explained (terminals text tokens)) (query_with t p) r (subst (λ (z : Action). IsReply w z r) is reply) (subst (λ z. HasNoPlan w.contents (query_with z p)) one plans)

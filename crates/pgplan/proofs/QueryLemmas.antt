@@ -17,10 +17,10 @@ use Rattle.sql_grammar.specs.Faults.{IsStatement, terminals}
 use Rattle.sql_grammar.specs.Spelled.{IsSpelled}
 use Rattle.sql_grammar.proofs.StatementWords.{words-are-tokens}
 use Rattle.ddl_reader.specs.Statements.{begins_ddl, begins_index}
-use Rattle.query_reader.specs.Select.{AreNoOther, AreSelect, IsGrammatical, IsReadAs, is_explained, is_query, words_before}
+use Rattle.query_reader.specs.Select.{AreNoOther, AreSelect, IsGrammatical, IsBoundAs, is_explained, is_query, words_before}
 use Rattle.query_reader.specs.Binding.{Bound, bound, query_with}
 use Rattle.sql_query.specs.Queries.{Query}
-use Rattle.eq_classes.specs.Holding.{IsTable}
+use Rattle.eq_classes.specs.Holding.{IsClassTable}
 use Rattle.sql_query.specs.WellBound.{IsWellBound, given_of}
 use Rattle.sql_query.specs.Worlds.{World}
 use Rattle.reply.specs.Answers.{HasNoPlan}
@@ -68,17 +68,17 @@ before-within text tokens some = by (is_explained (terminals text tokens))
     by false = omega (arith, some)
 
 -- what is read where this is meant is the query of it with its own classes, and a fault that is told is its fault
-meant-ok : (r : Result Bound Fault) (read : Query) → IsReadAs r (Ok read) → (b : Bound) × (r ≡ Ok b) × (read ≡ query_with read.classes b)
+meant-ok : (r : Result Bound Fault) (read : Query) → IsBoundAs r (Ok read) → (b : Bound) × (r ≡ Ok b) × (read ≡ query_with read.classes b)
 meant-ok (Ok b) read is = (b, refl, is)
 meant-ok (Err f) read is = absurd is
 
-meant-fault : (r : Result Bound Fault) (f : Fault) → IsReadAs r (Err (refusal.Fault f)) → r ≡ Err f
+meant-fault : (r : Result Bound Fault) (f : Fault) → IsBoundAs r (Err (refusal.Fault f)) → r ≡ Err f
 meant-fault (Ok b) f is = absurd is
 meant-fault (Err told) f is = ap Err (sym is)
 
 -- what is read of a SELECT is what its statement means
 abbrev pub Binds : World → List ℕ → List Token → Result Query Refusal → Type 0
-Binds w text tokens r = (x : OrderedSelect) (start : Token) (later : List Token) → tokens ≡ start ∷ later → IsSpelled (query x) text tokens → IsReadAs (bound w.contents start x) r
+Binds w text tokens r = (x : OrderedSelect) (start : Token) (later : List Token) → tokens ≡ start ∷ later → IsSpelled (query x) text tokens → IsBoundAs (bound w.contents start x) r
 
 -- the words of a statement begin with its first token
 first-token : (tokens : List Token) → 0 < length tokens → (later : List Token) × (tokens ≡ token_at tokens 0 ∷ later)
@@ -86,15 +86,15 @@ first-token [] some = absurd (omega (arith, some))
 first-token (t ∷ ts) some = (ts, refl)
 
 module _ (w : World) (text : List ℕ) (tokens : List Token) (some : 0 < length tokens) where
-  binds-first : (r : Result Query Refusal) (x : OrderedSelect) → Binds w text tokens r → IsSpelled (query x) text tokens → IsReadAs (bound w.contents (token_at tokens 0) x) r
+  binds-first : (r : Result Query Refusal) (x : OrderedSelect) → Binds w text tokens r → IsSpelled (query x) text tokens → IsBoundAs (bound w.contents (token_at tokens 0) x) r
   binds-first r x binds spelled = let (later, is) = first-token tokens some in binds x (token_at tokens 0) later is spelled
 
   module _ (p : Query) (select : AreSelect text tokens) (binds : Binds w text tokens (Ok p)) (well : IsWellBound w.contents p) where
     meant : (b : Bound) × (bound w.contents (token_at tokens 0) select.0 ≡ Ok b) × (p ≡ query_with p.classes b)
     meant = meant-ok (bound w.contents (token_at tokens 0) select.0) p (binds-first (Ok p) select.0 binds select.1)
 
-    its-table : (b : Bound) → p ≡ query_with p.classes b → IsTable (given_of w.contents (query_with p.classes b)) p.classes
-    its-table b is = subst (λ (x : Query). IsTable (given_of w.contents x) p.classes) is well.classes
+    its-table : (b : Bound) → p ≡ query_with p.classes b → IsClassTable (given_of w.contents (query_with p.classes b)) p.classes
+    its-table b is = subst (λ (x : Query). IsClassTable (given_of w.contents x) p.classes) is well.classes
 
     pub read-query : IsReadOver w text tokens (asked text tokens p) (end_of tokens)
     read-query =

@@ -10,7 +10,7 @@ use Rattle.sql_grammar.specs.Spelled.{IsSpelled}
 use Rattle.catalog.specs.Statistics.{AreAllowed, is_count}
 use Rattle.catalog.specs.Tables.{IsAcceptable, IsAcceptableIndex}
 use Rattle.eq_classes.specs.Clauses.{Table}
-use Rattle.eq_classes.specs.Holding.{IsTable}
+use Rattle.eq_classes.specs.Holding.{IsClassTable}
 use Rattle.ddl_reader.specs.Block.{IsBlockEnd}
 use Rattle.ddl_reader.specs.Statements.{Means}
 use Rattle.ddl_reader.specs.Tables.{Definition, table, sizes_for, statistics_for, data_for, Reading}
@@ -48,7 +48,7 @@ asked text tokens q = cond (is_explained (terminals text tokens)) (explain q) (a
 
 -- what a SELECT that means this does: it answers or explains the query with its classes
 abbrev pub Answers : World → List ℕ → List Token → Bound → Action → Type 0
-Answers w text tokens b action = (t : Table) × IsTable (given_of w.contents (query_with t b)) t × (action ≡ asked text tokens (query_with t b))
+Answers w text tokens b action = (t : Table) × IsClassTable (given_of w.contents (query_with t b)) t × (action ≡ asked text tokens (query_with t b))
 
 -- what a statement of these tokens does, and the offset after it
 abbrev pub Does : World → List ℕ → List Token → Statement → Action → ℕ → Type 0

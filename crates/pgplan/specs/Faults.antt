@@ -17,7 +17,7 @@ use Rattle.catalog.specs.declared.fault.CatalogFault.{CatalogFault}
 use Rattle.catalog.specs.declared.fault.CatalogFault.TheVariants as refused
 use Rattle.catalog.specs.Tables.{IsRefusal, IsIndexRefusal, IsSizeRefusal, IsStatisticsRefusal}
 use Rattle.eq_classes.specs.Clauses.{Table}
-use Rattle.eq_classes.specs.Holding.{IsTable}
+use Rattle.eq_classes.specs.Holding.{IsClassTable}
 use Rattle.ddl_reader.specs.Block.{HaveNoMark, lines_of, IsBlockEnd}
 use Rattle.ddl_reader.specs.Statements.{Means}
 use Rattle.ddl_reader.specs.Tables.{Definition, table, sizes_for, statistics_for, data_for, Reading}
@@ -113,7 +113,7 @@ no_plan text tokens = fault_at S16 (token_at tokens (words_before (terminals tex
 -- the query with its classes has none
 abbrev pub IsUnplanned : World → List ℕ → List Token → Bound → Fault → Type 0
 IsUnplanned w text tokens b f =
-    (t : Table) × IsTable (given_of w.contents (query_with t b)) t × HasNoPlan w.contents (query_with t b) × (f ≡ no_plan text tokens)
+    (t : Table) × IsClassTable (given_of w.contents (query_with t b)) t × HasNoPlan w.contents (query_with t b) × (f ≡ no_plan text tokens)
 
 -- a fault of a query: in its names and limits, or that it has no admissible plan
 abbrev pub IsQueryFault : World → List ℕ → List Token → OrderedSelect → Fault → Type 0

@@ -15,7 +15,7 @@ use Rattle.pg_expr.specs.Cond.{Cond}
 use Rattle.pg_expr.specs.Columns.{names_rel, rels_below}
 use Rattle.pg_expr.proofs.ColumnLaws.{weaker-each}
 use Rattle.catalog.specs.Range.{Range}
-use Rattle.path_cost.specs.Columns.{IsOver, is_column}
+use Rattle.path_cost.specs.Columns.{IsOver, is_column_in}
 use Rattle.catalog.specs.Contents.{Contents, index_at}
 use Rattle.eq_classes.specs.Clauses.{Clause, Set, Table}
 use Rattle.eq_classes.specs.Listing.{clause_at}
@@ -175,7 +175,7 @@ same-by-number p others named is = (λ e k. ap (λ n. has n k) (same p others e)
 
 -- a condition over the relations of a query names no others
 pub few-relations : (c : Contents) (range : Range) (e : Cond) → length range ≤ 16 → IsOver c range e → IsTrue (rels_below 16 e)
-few-relations c range e few over = weaker-each (is_column c range) (λ x. nat_lt x.rel.0 16) (λ x h. below x.rel.0 (length range) few (and_parts (nat_lt x.rel.0 (length range)) _ h).0) e over.columns
+few-relations c range e few over = weaker-each (is_column_in c range) (λ x. nat_lt x.rel.0 16) (λ x h. below x.rel.0 (length range) few (and_parts (nat_lt x.rel.0 (length range)) _ h).0) e over.columns
   where
     below : (m n : ℕ) → n ≤ 16 → nat_lt m n ≡ true → nat_lt m 16 ≡ true
     below m n le h = grind (arith, common_steps, le, h)

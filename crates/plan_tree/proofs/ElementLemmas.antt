@@ -20,7 +20,7 @@ use Rattle.catalog.specs.Contents.{Contents, NamedIndex, no_index, numbers_from,
 use Rattle.catalog.specs.Range.{Range, type_in}
 use Rattle.eq_classes.specs.Clauses.{Clause}
 use Rattle.eq_classes.specs.Listing.{clause_at}
-use Rattle.path_cost.specs.Columns.{IsOver, is_column}
+use Rattle.path_cost.specs.Columns.{IsOver, is_column_in}
 use Rattle.pg_expr.specs.AtomSets.{contains}
 use Rattle.index_match.specs.Numbered.{Numbered, has_number}
 use Rattle.sql_query.specs.Queries.{Query}
@@ -51,10 +51,10 @@ or-any (all_of es) = refl
 or-any (any_of es) = refl
 or-any (negation e) = refl
 
-over-each : (c : Contents) (range : Range) (es : List Expr) → IsTrue (each_column_of (is_column c range) (view.conds es)) → AreTyped (type_in c range) (view.conds es) → AllByRecursion (λ (e : Expr). IsOver c range (view.cond e)) es
+over-each : (c : Contents) (range : Range) (es : List Expr) → IsTrue (each_column_of (is_column_in c range) (view.conds es)) → AreTyped (type_in c range) (view.conds es) → AllByRecursion (λ (e : Expr). IsOver c range (view.cond e)) es
 over-each c range [] h t = tt
 over-each c range (e ∷ es) h t =
-    let parts = and_parts (each_column (is_column c range) (view.cond e)) (each_column_of (is_column c range) (view.conds es)) h in
+    let parts = and_parts (each_column (is_column_in c range) (view.cond e)) (each_column_of (is_column_in c range) (view.conds es)) h in
     (record { columns = parts.0; typed = t.0 }, over-each c range es parts.1 t.1)
 
 -- the arms of an OR are over what it is over, and have no more atoms

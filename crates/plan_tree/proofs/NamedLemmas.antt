@@ -9,7 +9,7 @@ use Rattle.pg_expr.proofs.ColumnLaws.{weaker-each}
 use Rattle.catalog.specs.Contents.{Contents}
 use Rattle.eq_classes.specs.Clauses.{Clause}
 use Rattle.eq_classes.specs.Listing.{clause_at}
-use Rattle.path_cost.specs.Columns.{IsOver, is_column}
+use Rattle.path_cost.specs.Columns.{IsOver, is_column_in}
 use Rattle.path_cost.specs.Estimates.{conditions_from}
 use Rattle.path_cost.proofs.CostLemmas.{none-left}
 use Rattle.path_cost.proofs.KeptLemmas.{conditions-at}
@@ -20,7 +20,7 @@ use Rattle.plan_tree.specs.Reads.{IsOverTables}
 pub few-relations : (c : Contents) (q : Query) (n : ℕ) → IsOverTables c q → n < length q.classes.clauses → IsTrue (rels_below 16 (clause_at q.classes.clauses n).cond)
 few-relations c q n h lt =
     let over : IsOver c q.range (clause_at q.classes.clauses n).cond = All-get_or (λ (k : Clause). IsOver c q.range k.cond) q.classes.clauses n _ lt h.clauses in
-    weaker-each (is_column c q.range) (λ x. nat_lt x.rel.0 16)
+    weaker-each (is_column_in c q.range) (λ x. nat_lt x.rel.0 16)
     (λ x is. lt-ltb x.rel.0 16 (omega (arith, h.few, ltb-true x.rel.0 (length q.range) (and_parts (nat_lt x.rel.0 (length q.range)) _ is).0)))
     (clause_at q.classes.clauses n).cond over.columns
 

@@ -19,7 +19,7 @@ use Rattle.eq_classes.proofs.ListLemmas.{some_same}
 use Rattle.index_match.specs.Numbered.{Numbered, has_number, local}
 use Rattle.index_match.proofs.FoundLemmas.{chosen_numbers, those_are}
 use Rattle.index_match.proofs.PartLemmas.{conditions_local}
-use Rattle.path_cost.specs.Columns.{IsOver, is_column}
+use Rattle.path_cost.specs.Columns.{IsOver, is_column_in}
 use Rattle.path_cost.specs.Estimates.{conditions_from, is_local}
 use Rattle.sql_query.specs.Queries.{Query, width}
 use Rattle.plan_tree.specs.Bitmaps.{AreElements, Element, HasArms, HaveArms, IsBitTree, IsElement, IsTreeOver, MOST_ELEMENTS, by_clause, by_index, candidates, element_of, elements_of, some_uses, table_of_relation, uses}
@@ -65,7 +65,7 @@ below c q k chosen n (x ∷ ks) over h = by (below c q k chosen (n + 1) ks (All-
     here : names_rel k x.cond ≡ true → k < width q
     here g =
         let first = All-head (λ (y : Clause). IsOver c q.range y.cond) x ks over in
-        let found = column_both (is_column c q.range) (λ y. nat_eq k y.rel.0) x.cond first.columns g in
+        let found = column_both (is_column_in c q.range) (λ y. nat_eq k y.rel.0) x.cond first.columns g in
         let lt : (found.0).rel.0 < width q = ltb-true (found.0).rel.0 (width q) (and_parts (nat_lt (found.0).rel.0 (width q)) _ found.1).0 in
         subst (λ m. m < width q) (sym (eqb-true k (found.0).rel.0 found.2)) lt
 

@@ -53,8 +53,8 @@ SameAtom (negation c) (negation d) = SameAtom c d
 SameAtom _ _ = ⊥
 
 -- a column has this number
-abbrev pub is_column : ColNo → ColRef → Bool
-is_column d c = nat_eq c.col.0 d.0
+abbrev pub has_number : ColNo → ColRef → Bool
+has_number d c = nat_eq c.col.0 d.0
 
 -- the family of an operator over a type: int_abs_ops for one by absolute value, else the type's default family, to which `<>` counts
 abbrev pub typed_family : SqlType → Op → Option Family
@@ -115,6 +115,6 @@ TableGives columns op c v other d w = (c ≡ d) × (operator_family columns c op
 
 -- what a comparison implies beside its equals: IS NOT NULL of each column in it, and by the table comparisons of its column
 abbrev pub ComparisonGives : List Column → Cond → Cond → Type 0
-ComparisonGives columns (compare op l r) (is_not_null d) = IsTrue (some_column (is_column d.col) (compare op l r))
+ComparisonGives columns (compare op l r) (is_not_null d) = IsTrue (some_column (has_number d.col) (compare op l r))
 ComparisonGives columns (compare op (Col c) (Lit v)) (compare other (Col d) (Lit w)) = TableGives columns op c.col v other d.col w
 ComparisonGives columns _ _ = ⊥

@@ -3,7 +3,7 @@
 ghost use Rattle.std.specs.Prelude.{◌≡◌, ◌↔◌, IsTrue, Some};
 ghost use Rattle.pg_expr.specs.Columns.{names_column};
 ghost use Rattle.pg_expr.specs.View.{cond};
-ghost use Rattle.predicate_proof.specs.Atoms.{CellHolds, ComparisonGives, IsFamilyValue, SameAtom, SameSide, TableGives, cell, is_column, operator_family, plain, typed_family};
+ghost use Rattle.predicate_proof.specs.Atoms.{CellHolds, ComparisonGives, IsFamilyValue, SameAtom, SameSide, TableGives, cell, has_number, operator_family, plain, typed_family};
 
 use opfamily::default_family;
 use pg_base::ColNo;
@@ -140,8 +140,8 @@ fn table_gives(
 }
 
 /// Whether a side of a comparison is the column of this number.
-fn is_column(side: &Operand, d: ColNo) -> bool
-    ensures { result ≡ names_column (is_column d) side.now }
+fn has_number(side: &Operand, d: ColNo) -> bool
+    ensures { result ≡ names_column (has_number d) side.now }
 {
     match side {
         Operand::Col(c) => c.col == d,
@@ -154,7 +154,7 @@ pub fn comparison_gives(columns: &[Column], clause: &Expr, goal: &Expr) -> bool
     ensures { IsTrue result ↔ ComparisonGives columns.now (cond clause.now) (cond goal.now) }
 {
     match (clause, goal) {
-        (Expr::Compare(_, l, r), Expr::IsNotNull(d)) => is_column(l, d.col) || is_column(r, d.col),
+        (Expr::Compare(_, l, r), Expr::IsNotNull(d)) => has_number(l, d.col) || has_number(r, d.col),
         (
             Expr::Compare(op, Operand::Col(c), Operand::Lit(v)),
             Expr::Compare(other, Operand::Col(d), Operand::Lit(w)),

@@ -12,7 +12,7 @@ use Rattle.eq_classes.proofs.ColumnLemmas.{clause_passes}
 use Rattle.eq_classes.proofs.ListLemmas.{IsIn, all_at, all_from, in_from_contains}
 use Rattle.eq_classes.proofs.TypedLemmas.{clause_typed}
 use Rattle.eq_classes.proofs.WrittenLemmas.{in_columns, in_typed}
-use Rattle.path_cost.specs.Columns.{is_column, IsOver}
+use Rattle.path_cost.specs.Columns.{is_column_in, IsOver}
 use Rattle.sql_query.specs.Queries.{Query, all_of_query}
 use Rattle.sql_query.specs.WellBound.{given_with, IsColumnOf, IsWellBound, NamesOnly}
 
@@ -20,7 +20,7 @@ below : (a b : ℕ) → a < b → nat_lt a b ≡ true
 below a b lt = grind (arith, common_steps)
 
 module _ (c : Contents) (q : Query) (is : IsWellBound c q) where
-  pub used_is : (x : ColRef) → IsIn x q.used → is_column c q.range x ≡ true
+  pub used_is : (x : ColRef) → IsIn x q.used → is_column_in c q.range x ≡ true
   used_is x i =
       let of : IsColumnOf c q.range x = all_at (IsColumnOf c q.range) q.used is.used x i in
       and_from _ _ (below _ _ of.relation) (below _ _ of.column)
@@ -41,7 +41,7 @@ module _ (c : Contents) (q : Query) (is : IsWellBound c q) where
   clause_over : (k : Clause) → IsIn k q.classes.clauses → IsOver c q.range k.cond
   clause_over k i =
       let g = given_with c q is.items in
-      let test : ColRef → Bool = is_column c q.range in
+      let test : ColRef → Bool = is_column_in c q.range in
       let listed = subst (IsIn k) is.classes.clauses i in
       let passed : All (λ e. each_column test e ≡ true) g.conjuncts = in_columns q.where_all test (conditions_pass test used_is) in
       record {

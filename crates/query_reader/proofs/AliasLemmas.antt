@@ -22,7 +22,7 @@ use Rattle.sql_lex.specs.declared.tokens.Token.{Token}
 use Rattle.sql_query.specs.Queries.{Query}
 use Rattle.query_reader.specs.declared.written.Item.{Item}
 use Rattle.query_reader.specs.Binding.{bound_from, bound_over}
-use Rattle.query_reader.specs.Select.{IsReadAs}
+use Rattle.query_reader.specs.Select.{IsBoundAs}
 use Rattle.query_reader.proofs.QueryLemmas.{over-range}
 use Rattle.query_reader.specs.From.{Joined, nothing_joined, alias_or, conjuncts_of_expr, is_taken, of_table, with_condition, with_group, with_groups, with_join, with_joins, with_relation}
 use Rattle.query_reader.specs.Scope.{scope_after}
@@ -108,13 +108,13 @@ all-named j i g gs rest words h is =
     next-named (with_group j g) (λ k. with_groups k (groups_after gs)) i (λ k. group-named j k g (before-words (words_of_group g) (words_of_groups gs ++ rest) words) h)
     (λ k f. groups-named k i gs (before-words (words_of_groups gs) rest (after-words (words_of_group g) (words_of_groups gs ++ rest) words)) f) is
 
-names-by : (m : Result Joined Fault) (start : Token) (items : List Item) (w : Where) (y : OrderBy) (q : Query) → ((j : Joined) → m ≡ Ok j → HasNames j) → IsReadAs (next m (bound_over start items w y)) (Ok q) → All (λ r. IsName r.1) q.range
+names-by : (m : Result Joined Fault) (start : Token) (items : List Item) (w : Where) (y : OrderBy) (q : Query) → ((j : Joined) → m ≡ Ok j → HasNames j) → IsBoundAs (next m (bound_over start items w y)) (Ok q) → All (λ r. IsName r.1) q.range
 names-by (Ok j) start items w y q has h = subst (λ (r : Range). All (λ x. IsName x.1) r) (sym (over-range start items w y j q h)) (has j refl)
 names-by (Err f) start items w y q has h = absurd h
 
 -- a query whose statement has names within the limits
 pub named-query : (c : Contents) (start : Token) (items : List Item) (g : Group) (gs : List (Mark × Group)) (w : Where) (y : OrderBy) (rest : List Terminal) (P : Query → Type 0) (r : Result Query Refusal) →
-    AreNamed (words_of_group g ++ (words_of_groups gs ++ rest)) → IsReadAs (bound_from c start items (g ∷ groups_after gs) w y) r → IfOk r (λ q. All (λ x. IsName x.1) q.range → P q) → IfOk r P
+    AreNamed (words_of_group g ++ (words_of_groups gs ++ rest)) → IsBoundAs (bound_from c start items (g ∷ groups_after gs) w y) r → IfOk r (λ q. All (λ x. IsName x.1) q.range → P q) → IfOk r P
 named-query c start items g gs w y rest P (Ok q) words read has =
     has (names-by (with_groups (nothing_joined c) (g ∷ groups_after gs)) start items w y q (λ j. all-named (nothing_joined c) j g gs rest words (All-nil (λ (r : TableNo × List ℕ). IsName r.1))) read)
 named-query c start items g gs w y rest P (Err e) words read has = tt

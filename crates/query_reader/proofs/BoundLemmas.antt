@@ -31,10 +31,10 @@ use Rattle.catalog.specs.Range.{type_in}
 use Rattle.eq_classes.specs.declared.order.OrderItem.{OrderItem}
 use Rattle.eq_classes.specs.Classes.{conjuncts_in}
 use Rattle.eq_classes.specs.Clauses.{Table}
-use Rattle.eq_classes.specs.Holding.{IsTable as IsTableOf}
+use Rattle.eq_classes.specs.Holding.{IsClassTable as IsTableOf}
 use Rattle.eq_classes.proofs.HoldLemmas.{map_in}
 use Rattle.eq_classes.proofs.ListLemmas.{IsIn, all_at, all_from, contains_from_in, in_left, in_parts, in_right}
-use Rattle.path_cost.specs.Columns.{IsOver, is_column}
+use Rattle.path_cost.specs.Columns.{IsOver, is_column_in}
 use Rattle.std.proofs.Math.Seq.{get_or-append_seam}
 use Rattle.std.proofs.lemmas.Bool.{cases_Bool, ltb-true}
 use Rattle.std.proofs.lemmas.List.{get_or_default, length-take-le, nil_from_length, take-append-drop}
@@ -152,11 +152,11 @@ module _ (c : Contents) where
   pub visible-columns : (range : Range) (first : ℕ) → All (λ r. IsLawfulTable (table_at c r.0)) range → All (IsColumnOf c range) (columns_of (scope_after c first range))
   visible-columns range first lawful = holds-all (IsColumnOf c range) (columns_of (scope_after c first range)) (columns-hold (IsColumnOf c range) (scope_after c first range) (visible-hold range first lawful))
 
-  pub all-seen : (range : Range) (first : ℕ) → All (λ r. IsLawfulTable (table_at c r.0)) range → All (λ (v : Visible). is_column c range v.column ≡ true) (scope_after c first range)
+  pub all-seen : (range : Range) (first : ℕ) → All (λ r. IsLawfulTable (table_at c r.0)) range → All (λ (v : Visible). is_column_in c range v.column ≡ true) (scope_after c first range)
   all-seen range first lawful =
       let scope = scope_after c first range in
-      all_from (λ (v : Visible). is_column c range v.column ≡ true) scope
-      (λ v i. all_at (λ (x : ColRef). is_column c range x ≡ true) (columns_of scope) (all-passing c range (columns_of scope) (visible-columns range first lawful)) v.column (map_in (λ (w : Visible). w.column) scope v i))
+      all_from (λ (v : Visible). is_column_in c range v.column ≡ true) scope
+      (λ v i. all_at (λ (x : ColRef). is_column_in c range x ≡ true) (columns_of scope) (all-passing c range (columns_of scope) (visible-columns range first lawful)) v.column (map_in (λ (w : Visible). w.column) scope v i))
 
 -- columns that are seen of relations as they are lent
 module _ (s : Sight) (c : Contents) (range : Range) (first : ℕ) (is : record { contents = c; range = range; first = first } ≡ s) (are : AreRelations c range) where
@@ -181,7 +181,7 @@ module _ (c : Contents) (range : Range) (are : AreRelations c range) where
 
   -- the query of columns that the list shows, of conjuncts and of an order over the relations, with their classes
   pub well-bound : 0 < length range → (items : List Item) (cs : List ColRef) (ws : List Cond) (order : List OrderItem) (classes : Table) → list_columns (scope_of c range) items ≡ Ok cs →
-      All (IsOver c range) ws → All (λ (i : OrderItem). is_column c range i.col ≡ true) order → past_limit ws ≡ None → IsTableOf (record { conjuncts = conjuncts_in ws; order = order; type_of = type_in c range }) classes →
+      All (IsOver c range) ws → All (λ (i : OrderItem). is_column_in c range i.col ≡ true) order → past_limit ws ≡ None → IsTableOf (record { conjuncts = conjuncts_in ws; order = order; type_of = type_in c range }) classes →
       All (λ r. IsName r.1) range → IsBoundByItself c (query_with classes (record { range = range; select = cs; where_all = ws; order = order }))
   well-bound some items cs ws order classes shown over ordered kept is names =
       let named = columns_in_all (conds_of ws) in

@@ -24,7 +24,7 @@ use Rattle.eq_classes.specs.Classes.{conjuncts_in, listed}
 use Rattle.eq_classes.specs.declared.order.OrderItem.{OrderItem}
 use Rattle.eq_classes.proofs.ListLemmas.{IsIn, all_at, all_from, in_parts, in_left, in_right}
 use Rattle.eq_classes.proofs.WrittenLemmas.{in_columns, in_typed}
-use Rattle.path_cost.specs.Columns.{IsOver, is_column}
+use Rattle.path_cost.specs.Columns.{IsOver, is_column_in}
 use Rattle.sql_query.specs.WellBound.{IsColumnOf, IsWithinLimits, NamesOnly}
 use Rattle.query_reader.specs.Binding.{past_limit}
 use Rattle.query_reader.specs.Named.{column_in, columns_in, columns_in_all}
@@ -76,29 +76,29 @@ typed-all t ks h = all_from (IsTyped t) ks (at ks h) where
   at (z ∷ zs) h k i = ⊎_elim (λ (e : k ≡ z). subst (IsTyped t) (sym e) h.0) (λ (later : IsIn k zs). at zs h.1 k later) i
 
 -- the conjuncts of a condition over the relations are over them
-pub conjuncts-over : (c : Contents) (range : Range) (e : Cond) (es : List Expr) → view.conds es ≡ conjuncts_of e → each_column (is_column c range) e ≡ true → IsTyped (type_in c range) e → All (IsOver c range) (map view.cond es)
+pub conjuncts-over : (c : Contents) (range : Range) (e : Cond) (es : List Expr) → view.conds es ≡ conjuncts_of e → each_column (is_column_in c range) e ≡ true → IsTyped (type_in c range) e → All (IsOver c range) (map view.cond es)
 conjuncts-over c range e es is columns typed =
     let ks = map view.cond es in
-    let passed = pass-all (is_column c range) ks (ap (each_column_of (is_column c range)) is ∙ conjuncts-each (is_column c range) e ∙ columns) in
+    let passed = pass-all (is_column_in c range) ks (ap (each_column_of (is_column_in c range)) is ∙ conjuncts-each (is_column_in c range) e ∙ columns) in
     let fine = typed-all (type_in c range) ks (subst (AreTyped (type_in c range)) (sym is) (conjuncts-typed (type_in c range) e typed)) in
-    all_from (IsOver c range) ks (λ k i. record { columns = all_at (λ (e : Cond). each_column (is_column c range) e ≡ true) ks passed k i; typed = all_at (IsTyped (type_in c range)) ks fine k i })
+    all_from (IsOver c range) ks (λ k i. record { columns = all_at (λ (e : Cond). each_column (is_column_in c range) e ≡ true) ks passed k i; typed = all_at (IsTyped (type_in c range)) ks fine k i })
 
 -- what the classes ask of the conjuncts in pushed form
 module _ (c : Contents) (range : Range) (ws : List Cond) (over : All (IsOver c range) ws) (es : List Expr) (is : map view.cond es ≡ conjuncts_in ws) where
-  written-columns : All (λ w. each_column (is_column c range) w ≡ true) ws
-  written-columns = all_from (λ (w : Cond). each_column (is_column c range) w ≡ true) ws (λ w i. (all_at (IsOver c range) ws over w i).columns)
+  written-columns : All (λ w. each_column (is_column_in c range) w ≡ true) ws
+  written-columns = all_from (λ (w : Cond). each_column (is_column_in c range) w ≡ true) ws (λ w i. (all_at (IsOver c range) ws over w i).columns)
 
   written-typed : All (IsTyped (type_in c range)) ws
   written-typed = all_from (IsTyped (type_in c range)) ws (λ w i. (all_at (IsOver c range) ws over w i).typed)
 
-  near : length range ≤ 16 → (x : ColRef) → is_column c range x ≡ true → nat_lt x.rel.0 16 ≡ true
+  near : length range ≤ 16 → (x : ColRef) → is_column_in c range x ≡ true → nat_lt x.rel.0 16 ≡ true
   near few x h =
       let parts = and_parts (nat_lt x.rel.0 (length range)) (nat_lt x.col.0 (length (table_at c (table_of range x)).columns)) h in
       let lt = ltb-true x.rel.0 (length range) parts.0 in
       grind (arith, common_steps)
 
-  pub pushed-bound : each_column_of (is_column c range) (view.conds es) ≡ true
-  pushed-bound = ap (λ ks. each_column_of (is_column c range) (conds_of ks)) is ∙ all-pass (is_column c range) (conjuncts_in ws) (in_columns ws (is_column c range) written-columns)
+  pub pushed-bound : each_column_of (is_column_in c range) (view.conds es) ≡ true
+  pushed-bound = ap (λ ks. each_column_of (is_column_in c range) (conds_of ks)) is ∙ all-pass (is_column_in c range) (conjuncts_in ws) (in_columns ws (is_column_in c range) written-columns)
 
   pub pushed-typed : AreTyped (type_in c range) (view.conds es)
   pushed-typed = subst (λ (ks : List Cond). AreTyped (type_in c range) (conds_of ks)) (sym is) (all-typed (type_in c range) (conjuncts_in ws) (in_typed (type_in c range) ws written-typed))
@@ -106,7 +106,7 @@ module _ (c : Contents) (range : Range) (ws : List Cond) (over : All (IsOver c r
   pub pushed-near : length range ≤ 16 → each_column_of (λ x. nat_lt x.rel.0 16) (view.conds es) ≡ true
   pushed-near few =
       let test : ColRef → Bool = λ x. nat_lt x.rel.0 16 in
-      let each : All (λ w. each_column test w ≡ true) ws = all_from (λ (w : Cond). each_column test w ≡ true) ws (λ w i. weaker-each (is_column c range) test (near few) w ((all_at (IsOver c range) ws over w i).columns)) in
+      let each : All (λ w. each_column test w ≡ true) ws = all_from (λ (w : Cond). each_column test w ≡ true) ws (λ w i. weaker-each (is_column_in c range) test (near few) w ((all_at (IsOver c range) ws over w i).columns)) in
       ap (λ ks. each_column_of test (conds_of ks)) is ∙ all-pass test (conjuncts_in ws) (in_columns ws test each)
 
 -- the columns that a condition names: a test that they pass, it passes, and the other way round
@@ -168,7 +168,7 @@ names-in (z ∷ zs) w i x h = ⊎_elim
 pub names-only : (used : List ColRef) (ws : List Cond) → ((x : ColRef) → IsIn x (columns_in_all (conds_of ws)) → IsIn x used) → All (NamesOnly used) ws
 names-only used ws inside = all_from (NamesOnly used) ws (λ w i test all. names-pass test w (λ x h. all_at (λ (y : ColRef). test y ≡ true) used all x (inside x (names-in ws w i x h))))
 
-pub is-column-of : (c : Contents) (range : Range) (x : ColRef) → is_column c range x ≡ true → IsColumnOf c range x
+pub is-column-of : (c : Contents) (range : Range) (x : ColRef) → is_column_in c range x ≡ true → IsColumnOf c range x
 is-column-of c range x h =
     let parts = and_parts (nat_lt x.rel.0 (length range)) (nat_lt x.col.0 (length (table_at c (table_of range x)).columns)) h in
     record { relation = ltb-true _ _ parts.0; column = ltb-true _ _ parts.1 }
@@ -176,32 +176,32 @@ is-column-of c range x h =
 below : (a b : ℕ) → a < b → nat_lt a b ≡ true
 below a b lt = grind (arith, common_steps)
 
-pub all-passing : (c : Contents) (range : Range) (xs : List ColRef) → All (IsColumnOf c range) xs → All (λ x. is_column c range x ≡ true) xs
+pub all-passing : (c : Contents) (range : Range) (xs : List ColRef) → All (IsColumnOf c range) xs → All (λ x. is_column_in c range x ≡ true) xs
 all-passing c range xs h = all-weaker xs h where
-  passes : (x : ColRef) → IsColumnOf c range x → is_column c range x ≡ true
+  passes : (x : ColRef) → IsColumnOf c range x → is_column_in c range x ≡ true
   passes x of = and_from _ _ (below _ _ of.relation) (below _ _ of.column)
 
-  all-weaker : (xs : List ColRef) → All (IsColumnOf c range) xs → All (λ x. is_column c range x ≡ true) xs
-  all-weaker xs h = all_from (λ (x : ColRef). is_column c range x ≡ true) xs (λ x i. passes x (all_at (IsColumnOf c range) xs h x i))
+  all-weaker : (xs : List ColRef) → All (IsColumnOf c range) xs → All (λ x. is_column_in c range x ≡ true) xs
+  all-weaker xs h = all_from (λ (x : ColRef). is_column_in c range x ≡ true) xs (λ x i. passes x (all_at (IsColumnOf c range) xs h x i))
 
 -- the columns that conditions over the relations name are theirs
 pub named-columns : (c : Contents) (range : Range) (ws : List Cond) → All (IsOver c range) ws → (x : ColRef) → IsIn x (columns_in_all (conds_of ws)) → IsColumnOf c range x
 named-columns c range ws over x i =
-    let each = all_from (λ (w : Cond). each_column (is_column c range) w ≡ true) ws (λ w j. (all_at (IsOver c range) ws over w j).columns) in
-    is-column-of c range x (pass-named-all (is_column c range) (conds_of ws) (all-pass (is_column c range) ws each) x i)
+    let each = all_from (λ (w : Cond). each_column (is_column_in c range) w ≡ true) ws (λ w j. (all_at (IsOver c range) ws over w j).columns) in
+    is-column-of c range x (pass-named-all (is_column_in c range) (conds_of ws) (all-pass (is_column_in c range) ws each) x i)
 
 -- the columns of an order over the relations are theirs
-pub order-columns : (c : Contents) (range : Range) (items : List OrderItem) → All (λ (i : OrderItem). is_column c range i.col ≡ true) items → (x : ColRef) → IsIn x (map (λ i. i.col) items) → IsColumnOf c range x
+pub order-columns : (c : Contents) (range : Range) (items : List OrderItem) → All (λ (i : OrderItem). is_column_in c range i.col ≡ true) items → (x : ColRef) → IsIn x (map (λ i. i.col) items) → IsColumnOf c range x
 order-columns c range [] h x i = absurd i
 order-columns c range (z ∷ zs) h x i = ⊎_elim
-    (λ (e : x ≡ z.col). is-column-of c range x (ap (is_column c range) e ∙ all_at (λ (k : OrderItem). is_column c range k.col ≡ true) (z ∷ zs) h z (inl refl)))
-    (λ (later : IsIn x (map (λ i. i.col) zs)). order-columns c range zs (all_from (λ (k : OrderItem). is_column c range k.col ≡ true) zs (λ k j. all_at (λ (k : OrderItem). is_column c range k.col ≡ true) (z ∷ zs) h k (inr j))) x later)
+    (λ (e : x ≡ z.col). is-column-of c range x (ap (is_column_in c range) e ∙ all_at (λ (k : OrderItem). is_column_in c range k.col ≡ true) (z ∷ zs) h z (inl refl)))
+    (λ (later : IsIn x (map (λ i. i.col) zs)). order-columns c range zs (all_from (λ (k : OrderItem). is_column_in c range k.col ≡ true) zs (λ k j. all_at (λ (k : OrderItem). is_column_in c range k.col ≡ true) (z ∷ zs) h k (inr j))) x later)
     i
 
 -- and of relations below 16
-pub order-near : (c : Contents) (range : Range) (items : List OrderItem) → length range ≤ 16 → All (λ (i : OrderItem). is_column c range i.col ≡ true) items → All (λ (i : OrderItem). i.col.rel.0 < 16) items
+pub order-near : (c : Contents) (range : Range) (items : List OrderItem) → length range ≤ 16 → All (λ (i : OrderItem). is_column_in c range i.col ≡ true) items → All (λ (i : OrderItem). i.col.rel.0 < 16) items
 order-near c range items few h = all_from (λ (i : OrderItem). i.col.rel.0 < 16) items
-    (λ i j. let at = is-column-of c range i.col (all_at (λ (k : OrderItem). is_column c range k.col ≡ true) items h i j) in omega (arith, few, at.relation))
+    (λ i j. let at = is-column-of c range i.col (all_at (λ (k : OrderItem). is_column_in c range k.col ≡ true) items h i j) in omega (arith, few, at.relation))
 
 -- conjuncts that are past no limit keep the limits
 pub kept-by : (a b : ℕ) → nat_lt a b ≡ false → b ≤ a

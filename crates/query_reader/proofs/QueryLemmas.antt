@@ -26,7 +26,7 @@ use Rattle.query_reader.specs.From.{Joined}
 use Rattle.pg_expr.specs.declared.expr.Expr.{Expr as ExprRead}
 use Rattle.pg_expr.specs.View.{cond}
 use Rattle.std.proofs.lemmas.List.{map-append}
-use Rattle.query_reader.specs.Select.{IsBoundByItself, IsReadAs}
+use Rattle.query_reader.specs.Select.{IsBoundByItself, IsBoundAs}
 use Rattle.query_reader.specs.Adds.{AddsAll}
 use Rattle.query_reader.specs.Binding.{Bound, bound_over, conjuncts_written, limited, list_columns, named_in, past_limit, query_with}
 use Rattle.query_reader.specs.Conveys.{Conveys}
@@ -81,19 +81,19 @@ conveys-fault A T Says (Err g) (refusal.Fault h) f told is = cc (told, is)
 conveys-fault A T Says (Err g) refusal.Memory f told is = absurd (cc (is))
 
 -- what is refused after it is so refused
-told-so : (f : Fault) (d : Refusal) → d ≡ refusal.Fault f → IsReadAs (Err f) (Err d)
-told-so f d is = subst (λ (e : Refusal). IsReadAs (Err f) (Err e)) (sym is) refl
+told-so : (f : Fault) (d : Refusal) → d ≡ refusal.Fault f → IsBoundAs (Err f) (Err d)
+told-so f d is = subst (λ (e : Refusal). IsBoundAs (Err f) (Err e)) (sym is) refl
 
-pub stopped : (m : Result Bound Fault) (e : Refusal) (r : Result Query Refusal) → ((f : Fault) → e ≡ refusal.Fault f → m ≡ Err f) → IsErrAnd r (λ d. d ≡ e) → IsReadAs m r
+pub stopped : (m : Result Bound Fault) (e : Refusal) (r : Result Query Refusal) → ((f : Fault) → e ≡ refusal.Fault f → m ≡ Err f) → IsErrAnd r (λ d. d ≡ e) → IsBoundAs m r
 stopped m e (Ok q) wrong told = absurd told
-stopped m (refusal.Fault f) (Err d) wrong told = subst (λ (x : Result Bound Fault). IsReadAs x (Err d)) (sym (wrong f refl)) (told-so f d told)
-stopped (Ok b) refusal.Memory (Err d) wrong told = subst (λ (e : Refusal). IsReadAs (Ok b) (Err e)) (sym told) tt
-stopped (Err f) refusal.Memory (Err d) wrong told = subst (λ (e : Refusal). IsReadAs (Err f) (Err e)) (sym told) tt
+stopped m (refusal.Fault f) (Err d) wrong told = subst (λ (x : Result Bound Fault). IsBoundAs x (Err d)) (sym (wrong f refl)) (told-so f d told)
+stopped (Ok b) refusal.Memory (Err d) wrong told = subst (λ (e : Refusal). IsBoundAs (Ok b) (Err e)) (sym told) tt
+stopped (Err f) refusal.Memory (Err d) wrong told = subst (λ (e : Refusal). IsBoundAs (Err f) (Err e)) (sym told) tt
 
 no-fault : (m : Result Bound Fault) (f : Fault) → refusal.Memory ≡ refusal.Fault f → m ≡ Err f
 no-fault m f is = absurd (cc (is))
 
-pub stopped-short : (m : Result Bound Fault) (r : Result Query Refusal) → IsErrAnd r (λ d. d ≡ refusal.Memory) → IsReadAs m r
+pub stopped-short : (m : Result Bound Fault) (r : Result Query Refusal) → IsErrAnd r (λ d. d ≡ refusal.Memory) → IsBoundAs m r
 stopped-short m r told = stopped m refusal.Memory r (no-fault m) told
 
 -- what is meant over the relations, step by step
@@ -159,30 +159,30 @@ module _ (c : Contents) (range : Range) (joined : List Cond) (start : Token) (it
           all-meant kept = all-kept ws own-conjuncts cs own-columns os own-order kept
 
 -- what is meant over relations as they are lent is meant over those that contracts see
-pub at-joined : (i j : Joined) (start : Token) (items : List Item) (w : Where) (y : OrderBy) (r : Result Query Refusal) → i ≡ j → IsReadAs (bound_over start items w y i) r → IsReadAs (bound_over start items w y j) r
-at-joined i j start items w y r is told = subst (λ (x : Joined). IsReadAs (bound_over start items w y x) r) is told
+pub at-joined : (i j : Joined) (start : Token) (items : List Item) (w : Where) (y : OrderBy) (r : Result Query Refusal) → i ≡ j → IsBoundAs (bound_over start items w y i) r → IsBoundAs (bound_over start items w y j) r
+at-joined i j start items w y r is told = subst (λ (x : Joined). IsBoundAs (bound_over start items w y x) r) is told
 
 -- conjuncts of conditions of joins, and those of WHERE behind them
 pub both-conjuncts : (old new more : List ExprRead) → new ≡ old ++ more → map cond old ++ map cond more ≡ map cond new
 both-conjuncts old new more grown = sym (ap (map cond) grown ∙ map-append cond old more)
 
 -- the query that is put together is what is meant
-pub read-so : (m : Result Bound Fault) (b : Bound) (q : Query) → m ≡ Ok b → query_with q.classes b ≡ q → IsReadAs m (Ok q)
-read-so m b q is same = subst (λ (x : Result Bound Fault). IsReadAs x (Ok q)) (sym is) (sym same)
+pub read-so : (m : Result Bound Fault) (b : Bound) (q : Query) → m ≡ Ok b → query_with q.classes b ≡ q → IsBoundAs m (Ok q)
+read-so m b q is same = subst (λ (x : Result Bound Fault). IsBoundAs x (Ok q)) (sym is) (sym same)
 
 pub bound-at : (i j : Joined) (q : Query) → i ≡ j → IsBoundByItself i.contents q → IsBoundByItself j.contents q
 bound-at i j q is h = subst (λ (x : Joined). IsBoundByItself x.contents q) is h
 
 -- the relations of a query that is bound are those that FROM names
-limited-range : (start : Token) (o : Option Limit) (b : Bound) (q : Query) → IsReadAs (limited start o b) (Ok q) → q.range ≡ b.range
+limited-range : (start : Token) (o : Option Limit) (b : Bound) (q : Query) → IsBoundAs (limited start o b) (Ok q) → q.range ≡ b.range
 limited-range start None b q h = ap (λ (x : Query). x.range) h
 limited-range start (Some l) b q h = absurd h
 
-next-range : {A : Type 0} (m : Result A Fault) (more : A → Result Bound Fault) (range : Range) (q : Query) → ((a : A) → IsReadAs (more a) (Ok q) → q.range ≡ range) → IsReadAs (next m more) (Ok q) → q.range ≡ range
+next-range : {A : Type 0} (m : Result A Fault) (more : A → Result Bound Fault) (range : Range) (q : Query) → ((a : A) → IsBoundAs (more a) (Ok q) → q.range ≡ range) → IsBoundAs (next m more) (Ok q) → q.range ≡ range
 next-range (Ok a) more range q later h = later a h
 next-range (Err f) more range q later h = absurd h
 
-pub over-range : (start : Token) (items : List Item) (w : Where) (y : OrderBy) (j : Joined) (q : Query) → IsReadAs (bound_over start items w y j) (Ok q) → q.range ≡ j.range
+pub over-range : (start : Token) (items : List Item) (w : Where) (y : OrderBy) (j : Joined) (q : Query) → IsBoundAs (bound_over start items w y j) (Ok q) → q.range ≡ j.range
 over-range start items w y j q h =
     next-range (conjuncts_written (scope_of j.contents j.range) (type_in j.contents j.range) w) _ j.range q
     (λ ks. next-range (list_columns (scope_of j.contents j.range) items) _ j.range q

@@ -19,7 +19,7 @@ use Rattle.sql_grammar.specs.FromParts.{groups_after}
 use Rattle.query_reader.specs.Written.{item_of, items_of}
 use Rattle.query_reader.specs.Binding.{Bound, bound, bound_from}
 use Rattle.query_reader.specs.Ends.{ends_where, ends_order}
-use Rattle.query_reader.specs.Select.{AreSelect, IsGrammatical, IsReadAs, words_before}
+use Rattle.query_reader.specs.Select.{AreSelect, IsGrammatical, IsBoundAs, words_before}
 
 -- the names among what is left of some words
 left-named : (n : ℕ) (ts : List Terminal) → AreNamed ts → AreNamed (drop n ts)
@@ -109,7 +109,7 @@ grammatical text tokens (Ok p) s = s
 grammatical text tokens (Err (refusal.Fault f)) s = inr s
 grammatical text tokens (Err refusal.Memory) s = s
 
-pub read-as-memory : (x : Result Bound Fault) → IsReadAs x (Err refusal.Memory)
+pub read-as-memory : (x : Result Bound Fault) → IsBoundAs x (Err refusal.Memory)
 read-as-memory (Ok p) = tt
 read-as-memory (Err f) = tt
 

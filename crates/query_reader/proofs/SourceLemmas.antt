@@ -28,7 +28,7 @@ use Rattle.catalog.specs.Contents.{Contents, IsTable, IsLawfulTable, table_at}
 use Rattle.catalog.specs.Range.{Range, aliases, relation_at, type_in, table_of}
 use Rattle.catalog.specs.Indexes.{no_column}
 use Rattle.eq_classes.proofs.ListLemmas.{Before, IsIn, any_from, in_parts, pairs_all, pairs_at}
-use Rattle.path_cost.specs.Columns.{IsOver, is_column}
+use Rattle.path_cost.specs.Columns.{IsOver, is_column_in}
 use Rattle.sql_grammar.specs.Terminals.{Terminal}
 use Rattle.query_reader.specs.Conveys.{Conveys, ReadsInto}
 use Rattle.query_reader.specs.From.{AreRelations, is_taken}
@@ -134,14 +134,14 @@ module _ (c : Contents) (range : Range) (t : TableNo) (alias : List ℕ) where
   same-relation : (x : ColRef) → x.rel.0 < length range → relation_at more x.rel ≡ relation_at range x.rel
   same-relation x lt = get_or_append_left range ((t, alias) ∷ []) (record { 0 = 0 }, []) x.rel.0 lt
 
-  still-column : (x : ColRef) → is_column c range x ≡ true → is_column c more x ≡ true
+  still-column : (x : ColRef) → is_column_in c range x ≡ true → is_column_in c more x ≡ true
   still-column x h =
       let parts = and_parts (nat_lt x.rel.0 (length range)) (nat_lt x.col.0 (length (table_at c (table_of range x)).columns)) h in
       let lt = ltb-true x.rel.0 (length range) parts.0 in
       and_from _ _ (lt-ltb x.rel.0 (length more) (omega (arith, lt, length-append range ((t, alias) ∷ []))))
       (ap (λ (r : TableNo × List ℕ). nat_lt x.col.0 (length (table_at c r.0).columns)) (same-relation x lt) ∙ parts.1)
 
-  same-type : (x : ColRef) → is_column c range x ≡ true → type_in c range x ≡ type_in c more x
+  same-type : (x : ColRef) → is_column_in c range x ≡ true → type_in c range x ≡ type_in c more x
   same-type x h =
       let parts = and_parts (nat_lt x.rel.0 (length range)) (nat_lt x.col.0 (length (table_at c (table_of range x)).columns)) h in
       ap (λ (r : TableNo × List ℕ). (slice_index_or (table_at c r.0).columns x.col.0 no_column).typed) (sym (same-relation x (ltb-true x.rel.0 (length range) parts.0)))
@@ -174,8 +174,8 @@ module _ (test : ColRef → Bool) (t u : ColRef → SqlType) (same : (x : ColRef
 
 over-more : (c : Contents) (range : Range) (t : TableNo) (alias : List ℕ) (e : Cond) → IsOver c range e → IsOver c (more c range t alias) e
 over-more c range t alias e over = record {
-  columns = weaker-each (is_column c range) (is_column c (more c range t alias)) (still-column c range t alias) e over.columns;
-  typed = typed-same (is_column c range) (type_in c range) (type_in c (more c range t alias)) (same-type c range t alias) e over.columns over.typed;
+  columns = weaker-each (is_column_in c range) (is_column_in c (more c range t alias)) (still-column c range t alias) e over.columns;
+  typed = typed-same (is_column_in c range) (type_in c range) (type_in c (more c range t alias)) (same-type c range t alias) e over.columns over.typed;
 }
 
 pub all-over-more : (c : Contents) (range : Range) (t : TableNo) (alias : List ℕ) (es : List Cond) → All (IsOver c range) es → All (IsOver c (more c range t alias)) es

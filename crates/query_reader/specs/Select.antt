@@ -12,7 +12,7 @@ use Rattle.sql_grammar.specs.Words.{words_of}
 use Rattle.sql_grammar.specs.Faults.{IsStatement, IsFirstFault, terminals}
 use Rattle.sql_grammar.specs.Spelled.{IsSpelled}
 use Rattle.catalog.specs.Contents.{Contents}
-use Rattle.eq_classes.specs.Holding.{IsTable}
+use Rattle.eq_classes.specs.Holding.{IsClassTable}
 use Rattle.sql_query.specs.Queries.{Query}
 use Rattle.sql_query.specs.WellBound.{IsWellBound, given_of}
 use Rattle.query_reader.specs.Binding.{Bound, query_with}
@@ -53,10 +53,10 @@ IsGrammatical text tokens (Err (refusal.Fault fault)) = IsFirstFault IsStatement
 IsGrammatical text tokens (Err refusal.Memory) = AreSelect text tokens
 
 -- what is read where this is the meaning: the query of it with its own classes, its fault, or there was no memory
-abbrev pub IsReadAs : Result Bound Fault → Result Query Refusal → Type 0
-IsReadAs = Conveys (λ meant read. read ≡ query_with read.classes meant)
+abbrev pub IsBoundAs : Result Bound Fault → Result Query Refusal → Type 0
+IsBoundAs = Conveys (λ meant read. read ≡ query_with read.classes meant)
 
 -- a well bound query whose classes are made of its own ORDER BY
 pub record IsBoundByItself (c : Contents) (q : Query) : Type 0 where
   pub well_bound : IsWellBound c q
-  pub classes : IsTable (given_of c q) q.classes
+  pub classes : IsClassTable (given_of c q) q.classes

@@ -12,7 +12,7 @@ ghost use Rattle.query_reader.specs.Adds.{Adds, AddsAll};
 ghost use Rattle.query_reader.specs.Binding.{alone, bound_from, bound_over, item_columns, list_columns, named_in};
 ghost use Rattle.query_reader.specs.Ends.{ends_order};
 ghost use Rattle.query_reader.specs.Scope.{visible_in};
-ghost use Rattle.query_reader.specs.Select.{IsBoundByItself, IsReadAs};
+ghost use Rattle.query_reader.specs.Select.{IsBoundByItself, IsBoundAs};
 
 use crate::conditions::{classes_within, written_conjuncts};
 use crate::named;
@@ -111,7 +111,7 @@ fn over(
     requires some { 0 < length sources.range }
     requires words { (w : Where) × (y : OrderBy) × (rest : List Terminal) × (ends_order rest ≡ true) × (from.old ≡ words_of_where w ++ (words_of_order y ++ rest)) }
     ensures meaning { (w : Where) (y : OrderBy) (rest : List Terminal) → ends_order rest ≡ true → from.old ≡ words_of_where w ++ (words_of_order y ++ rest) →
-        IsReadAs (bound_over start items.now w y sources.entry) result }
+        IsBoundAs (bound_over start items.now w y sources.entry) result }
     ensures itself { IfOk result (λ q. All (λ r. IsName r.1) q.range → IsBoundByItself sources.entry.contents q) }
 {
     let Sources {
@@ -152,7 +152,7 @@ pub fn bind(
         (from.old ≡ words_of_group g ++ (words_of_groups gs ++ (words_of_where w ++ (words_of_order y ++ rest)))) }
     ensures meaning { (g : Group) (gs : List (Mark × Group)) (w : Where) (y : OrderBy) (rest : List Terminal) → ends_order rest ≡ true →
         from.old ≡ words_of_group g ++ (words_of_groups gs ++ (words_of_where w ++ (words_of_order y ++ rest))) →
-        IsReadAs (bound_from cat.now start items.now (g ∷ groups_after gs) w y) result }
+        IsBoundAs (bound_from cat.now start items.now (g ∷ groups_after gs) w y) result }
     ensures itself { IfOk result (λ q. All (λ r. IsName r.1) q.range → IsBoundByItself cat.now q) }
 {
     let mut sources = Sources::new(alloc, cat);

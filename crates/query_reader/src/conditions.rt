@@ -5,8 +5,8 @@ ghost use Rattle.pg_expr.specs.Columns.{atom_count_of};
 ghost use Rattle.pg_expr.specs.View.{cond, conds};
 ghost use Rattle.catalog.specs.Range.{type_in};
 ghost use Rattle.eq_classes.specs.Classes.{conjuncts_in};
-ghost use Rattle.eq_classes.specs.Holding.{IsTable};
-ghost use Rattle.path_cost.specs.Columns.{IsOver, is_column};
+ghost use Rattle.eq_classes.specs.Holding.{IsClassTable};
+ghost use Rattle.path_cost.specs.Columns.{IsOver, is_column_in};
 ghost use Rattle.sql_grammar.specs.Syntax.{Expr as ExprTree, Where};
 ghost use Rattle.sql_grammar.specs.Terminals.{Terminal};
 ghost use Rattle.sql_grammar.specs.Unique.{ends_expr};
@@ -109,9 +109,9 @@ pub fn classes_within(
     start: Token,
 ) -> Result<Classes, Refusal>
     requires over { All (IsOver relations.now.contents relations.now.range) (map cond written.now) }
-    requires order { All (λ (i : OrderItem). IsTrue (is_column relations.now.contents relations.now.range i.col)) order.now }
+    requires order { All (λ (i : OrderItem). IsTrue (is_column_in relations.now.contents relations.now.range i.col)) order.now }
     requires few { length relations.now.range ≤ 16 }
-    ensures { Conveys (λ ws t. IsTable (record { conjuncts = conjuncts_in ws; order = order.now; type_of = type_in relations.now.contents relations.now.range }) t) (limited start (past_limit (map cond written.now)) (map cond written.now)) result }
+    ensures { Conveys (λ ws t. IsClassTable (record { conjuncts = conjuncts_in ws; order = order.now; type_of = type_in relations.now.contents relations.now.range }) t) (limited start (past_limit (map cond written.now)) (map cond written.now)) result }
 {
     let pushed = pushed_conjuncts(alloc, written)?;
     if let Some(limit) = past_limit(written, pushed.items()) {

@@ -2,7 +2,7 @@
 
 ghost use Rattle.std.specs.Prelude.{◌≡◌, ◌≤◌, ◌++◌, List, ◌∷◌, All, IfOk, IsTrue, OnOk, Vec, length, true};
 ghost use Rattle.std.specs.declared.alloc.Global.{Global};
-ghost use Rattle.path_cost.specs.Columns.{is_column};
+ghost use Rattle.path_cost.specs.Columns.{is_column_in};
 ghost use Rattle.sql_grammar.specs.Syntax.{Col, Mark, Ordering, OrderBy};
 ghost use Rattle.sql_grammar.specs.Terminals.{Terminal};
 ghost use Rattle.sql_grammar.specs.Words.{words_of_col, words_of_ordering, words_of_orderings, words_of_order};
@@ -97,7 +97,7 @@ pub fn order_by(
     requires { (y : OrderBy) × (rest : List Terminal) × (ends_order rest ≡ true) × (from.old ≡ words_of_order y ++ rest) }
     ensures read { (y : OrderBy) (rest : List Terminal) → ends_order rest ≡ true → from.old ≡ words_of_order y ++ rest →
         Reads (λ (v : Vec OrderItem Global). v.items) (items_meant (visible_in relations.now) select.now y) rest result from.new }
-    ensures over { IfOk result (λ v. All (λ i. IsTrue (is_column relations.now.contents relations.now.range i.col)) v.items) }
+    ensures over { IfOk result (λ v. All (λ i. IsTrue (is_column_in relations.now.contents relations.now.range i.col)) v.items) }
 {
     if !from.takes(Word::Order) {
         return Ok(Vec::new(alloc));

@@ -4,7 +4,7 @@ ghost use Rattle.std.specs.Prelude.{◌≡◌, ◌<◌, ℕ, List, [], ◌∷◌
 ghost use Rattle.std.specs.List.{list_any};
 ghost use Rattle.catalog.specs.Contents.{IsTable, IsLawfulTable, table_at};
 ghost use Rattle.eq_classes.specs.Equality.{is_column as is_same_column};
-ghost use Rattle.path_cost.specs.Columns.{is_column};
+ghost use Rattle.path_cost.specs.Columns.{is_column_in};
 ghost use Rattle.expr_reader.specs.Scope.{Visible, columns_of, look_up, of_name, the_one, under};
 ghost use Rattle.query_reader.specs.Adds.{Adds};
 ghost use Rattle.query_reader.specs.Binding.{found_relation};
@@ -74,9 +74,9 @@ impl<'a> Scope for Relations<'a> {
 impl<'a> Binding for Relations<'a> {
     ghost use Rattle.pg_value.specs.declared.value.Value.TheVariants.{Null};
     ghost use Rattle.catalog.specs.Range.{type_in};
-    ghost use Rattle.path_cost.specs.Columns.{is_column};
+    ghost use Rattle.path_cost.specs.Columns.{is_column_in};
 
-    ghost binds = { λ r x. is_column r.contents r.range x };
+    ghost binds = { λ r x. is_column_in r.contents r.range x };
 
     ghost value_at = { λ r x. Null };
 
@@ -146,7 +146,7 @@ impl<'a> Relations<'a> {
 
     /// Each visible column is one of the relations.
     pub fn see_their_columns(&self)
-        ensures { All (λ (v : Visible). IsTrue (is_column self.now.contents self.now.range v.column)) (visible_in self.now) }
+        ensures { All (λ (v : Visible). IsTrue (is_column_in self.now.contents self.now.range v.column)) (visible_in self.now) }
     {
         let _ = &self.cat;
     }

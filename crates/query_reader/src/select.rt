@@ -6,10 +6,10 @@ ghost use Rattle.sql_lex.specs.declared.tokens.Token.{Token};
 ghost use Rattle.sql_grammar.specs.Faults.{terminals};
 ghost use Rattle.sql_grammar.specs.Spelled.{IsSpelled};
 ghost use Rattle.sql_grammar.specs.Syntax.{OrderedSelect, query as query_tree};
-ghost use Rattle.eq_classes.specs.Holding.{IsTable};
+ghost use Rattle.eq_classes.specs.Holding.{IsClassTable};
 ghost use Rattle.sql_query.specs.WellBound.{IsWellBound, given_of};
 ghost use Rattle.query_reader.specs.Binding.{bound};
-ghost use Rattle.query_reader.specs.Select.{AreNoOther, IsBoundByItself, IsGrammatical, IsReadAs, is_explained, words_before};
+ghost use Rattle.query_reader.specs.Select.{AreNoOther, IsBoundByItself, IsGrammatical, IsBoundAs, is_explained, words_before};
 
 use crate::bind::bind;
 use crate::read::list;
@@ -46,7 +46,7 @@ fn read_whole(
     requires first { first ≡ words_before (terminals text.now tokens.now) }
     ensures grammar { IsGrammatical text.now tokens.now result }
     ensures binding { (x : OrderedSelect) (start : Token) (later : List Token) → tokens.now ≡ start ∷ later →
-        IsSpelled (query_tree x) text.now tokens.now → IsReadAs (bound cat.now start x) result }
+        IsSpelled (query_tree x) text.now tokens.now → IsBoundAs (bound cat.now start x) result }
     ensures itself { IfOk result (IsBoundByItself cat.now) }
 {
     if let Some(fault) = statement_fault(text, tokens, 0) {
@@ -92,9 +92,9 @@ pub fn read_select(
     requires first { first ≡ words_before (terminals text.now tokens.now) }
     ensures grammar { IsGrammatical text.now tokens.now result }
     ensures binding { (x : OrderedSelect) (start : Token) (later : List Token) → tokens.now ≡ start ∷ later →
-        IsSpelled (query_tree x) text.now tokens.now → IsReadAs (bound cat.now start x) result }
+        IsSpelled (query_tree x) text.now tokens.now → IsBoundAs (bound cat.now start x) result }
     ensures well_bound { IfOk result (IsWellBound cat.now) }
-    ensures classes { IfOk result (λ q. IsTable (given_of cat.now q) q.classes) }
+    ensures classes { IfOk result (λ q. IsClassTable (given_of cat.now q) q.classes) }
 {
     read_whole(alloc, cat, text, tokens, first)
 }

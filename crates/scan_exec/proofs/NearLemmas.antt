@@ -33,7 +33,7 @@ use Rattle.index_match.specs.Conditions.{allowed, index_conditions, is_condition
 use Rattle.index_match.specs.Numbered.{Numbered, base, conditions_of, local, those}
 use Rattle.index_match.specs.Slots.{is_local}
 use Rattle.index_match.proofs.PartLemmas.{clauses_by_number}
-use Rattle.path_cost.specs.Columns.{IsOver, is_column}
+use Rattle.path_cost.specs.Columns.{IsOver, is_column_in}
 use Rattle.sql_query.specs.Meaning.{all_true}
 use Rattle.sql_query.specs.Queries.{Query, width}
 use Rattle.sql_query.specs.Tuples.{Tuple, beside, row_at, row_of, rows_of_relation}
@@ -87,7 +87,7 @@ module _ (c : Contents) (k : Kept) (q : Query) (r : RelNo) (p : RelSet) (outer :
   row n = slice_index_or (rows_of_relation w q r) n []
 
   abbrev near : ColRef → Bool
-  near x = is_column c q.range x && union (one r.0) (has p.0) x.rel.0
+  near x = is_column_in c q.range x && union (one r.0) (has p.0) x.rel.0
 
   abbrev Near : Cond → Type 0
   Near = IsNear c q r.0 (has p.0)
@@ -104,13 +104,13 @@ module _ (c : Contents) (k : Kept) (q : Query) (r : RelNo) (p : RelSet) (outer :
       wide (stored_at w t).columns (slice_index_or (stored_at w t).rows m []) (h.lawful.each m [] within)
       ∙ ap length h.columns
 
-  column_in : (x : ColRef) → is_column c q.range x ≡ true → (x.rel.0 < width q) × (x.col.0 < length (table_at c (table_of q.range x)).columns)
+  column_in : (x : ColRef) → is_column_in c q.range x ≡ true → (x.rel.0 < width q) × (x.col.0 < length (table_at c (table_of q.range x)).columns)
   column_in x h =
       let parts = and_parts (nat_lt x.rel.0 (length q.range)) (nat_lt x.col.0 (length (table_at c (table_of q.range x)).columns)) h in
       (ltb-true _ _ parts.0, ltb-true _ _ parts.1)
 
   -- a column of a relation whose row is given has a value there
-  given_value : (x : ColRef) → is_column c q.range x ≡ true → has p.0 x.rel.0 ≡ true → has_value (slice_index_or g x.rel.0 None) x.col ≡ true
+  given_value : (x : ColRef) → is_column_in c q.range x ≡ true → has p.0 x.rel.0 ≡ true → has_value (slice_index_or g x.rel.0 None) x.col ≡ true
   given_value x column in_set =
       let lt = column_in x column in
       let number : row_of o x.rel.0 < length (rows_of_relation w q x.rel) =
@@ -119,12 +119,12 @@ module _ (c : Contents) (k : Kept) (q : Query) (r : RelNo) (p : RelSet) (outer :
       ap (λ (v : Option Values). has_value v x.col) (slot w q over r (has p.0) o x.rel.0 lt.0 ∙ ap (λ (b : Bool). cond b (Some (row_at w q o x.rel)) None) in_set)
       ∙ lt-ltb x.col.0 (length (row_at w q o x.rel)) (omega (arith, long, lt.1))
 
-  table_in : (x : ColRef) → is_column c q.range x ≡ true → nat_lt (table_of q.range x).0 (length c.tables) ≡ true
+  table_in : (x : ColRef) → is_column_in c q.range x ≡ true → nat_lt (table_of q.range x).0 (length c.tables) ≡ true
   table_in x column = lt-ltb _ _ (at.bound.range.tables x.rel.0 (record { 0 = 0 }, []) (column_in x column).0)
 
   binds_from : (own : ColNo → Bool) (x : ColRef) → near x ≡ true → (x.rel.0 ≡ r.0 → own x.col ≡ true) → binds_at c q.range r.0 own g x ≡ true
   binds_from own x is mine =
-      let parts = and_parts (is_column c q.range x) (union (one r.0) (has p.0) x.rel.0) is in
+      let parts = and_parts (is_column_in c q.range x) (union (one r.0) (has p.0) x.rel.0) is in
       and_from _ _ parts.0 (and_from _ _ (table_in x parts.0)
       (⊎_elim
       (λ (t : nat_eq x.rel.0 r.0 ≡ true).
@@ -154,7 +154,7 @@ module _ (c : Contents) (k : Kept) (q : Query) (r : RelNo) (p : RelSet) (outer :
   testable_at n within e is = record {
     columns = weaker-each near (binds_at c q.range r.0 (is_within (row n)) g)
         (λ x h. binds_from (is_within (row n)) x h (λ same.
-        let lt = column_in x (and_parts (is_column c q.range x) (union (one r.0) (has p.0) x.rel.0) h).0 in
+        let lt = column_in x (and_parts (is_column_in c q.range x) (union (one r.0) (has p.0) x.rel.0) h).0 in
         let long = row_long r.0 n at.relation within in
         let table : table_of q.range x ≡ (relation_at q.range r).0 = ap (λ (m : ℕ). (relation_at q.range (record { 0 = m })).0) same in
         let columns : length (table_at c (table_of q.range x)).columns ≡ length (table_at c (relation_at q.range r).0).columns = ap (λ (t : TableNo). length (table_at c t).columns) table in
@@ -188,7 +188,7 @@ module _ (c : Contents) (k : Kept) (q : Query) (r : RelNo) (p : RelSet) (outer :
       (λ (b : is_param r.0 (has p.0) x ≡ true). param_reads gs.type_of gs.conjuncts q.classes.classes r.0 (has p.0) x (subst (IsIn x) at.bound.classes.clauses i) b)
       (or_cases (is_base r.0 x) (is_param r.0 (has p.0) x) is) in
       record {
-        columns = each_both (is_column c q.range) (λ y. union (one r.0) (has p.0) y.rel.0) x.cond of.columns
+        columns = each_both (is_column_in c q.range) (λ y. union (one r.0) (has p.0) y.rel.0) x.cond of.columns
             (and_parts (each_column (λ y. union (one r.0) (has p.0) y.rel.0) x.cond) (has_column x.cond || union (one r.0) (has p.0) 0) inside).0;
         typed = of.typed;
       }

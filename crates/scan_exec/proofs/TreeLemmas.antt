@@ -30,7 +30,7 @@ use Rattle.index_match.specs.Arms.{arm_parts, arms_of, is_matched, takes_parts}
 use Rattle.index_match.specs.Conditions.{allowed, is_condition}
 use Rattle.index_match.specs.Numbered.{Numbered, conditions_of, local, numbered}
 use Rattle.index_match.specs.Slots.{is_local}
-use Rattle.path_cost.specs.Columns.{is_column}
+use Rattle.path_cost.specs.Columns.{is_column_in}
 use Rattle.sql_query.specs.Queries.{Query}
 use Rattle.plan_tree.specs.Bitmaps.{ArePicked, Element, IsBitTree, IsElement, HasArms, HaveArms, MOST_ELEMENTS, MatchesArm, by_clause, by_index, candidates, condition_at, element_of, elements_of, none_left, passed, picked, table_of_relation}
 use Rattle.plan_tree.specs.Plans.{BitTree, leaf, all_hold, some_arm, BitTrees, no_trees, tree_and}
@@ -47,7 +47,7 @@ use Rattle.scan_exec.proofs.NearLemmas.{clauses_near}
 -- a condition's parts are over what it is over
 module _ (c : Contents) (q : Query) (r : ℕ) (p : Set) where
   abbrev near : ColRef → Bool
-  near x = is_column c q.range x && union (one r) p x.rel.0
+  near x = is_column_in c q.range x && union (one r) p x.rel.0
 
   near_listed : (cs : Conds) → each_column_of near cs ≡ true → AreTyped (type_in c q.range) cs → (e : Cond) → IsIn e (listed cs) → IsNear c q r p e
   near_listed no_conds columns typed e i = absurd i

@@ -18,7 +18,7 @@ use Rattle.eq_classes.specs.Parts.{union}
 use Rattle.index_match.specs.Bounds.{bounding}
 use Rattle.index_match.specs.Conditions.{is_condition}
 use Rattle.index_match.specs.Numbered.{conditions_of, numbered_from_0}
-use Rattle.path_cost.specs.Columns.{is_column}
+use Rattle.path_cost.specs.Columns.{is_column_in}
 use Rattle.sql_query.specs.Queries.{Query, width}
 use Rattle.sql_query.specs.Tuples.{Tuple}
 use Rattle.sql_query.specs.WellBound.{IsWellBound}
@@ -38,7 +38,7 @@ pub record IsScene (c : Contents) (k : Kept) (q : Query) (r : RelNo) (p : RelSet
 
 -- a condition is over the columns of a relation and of those of a set, and well typed
 pub record IsNear (c : Contents) (q : Query) (r : ℕ) (p : Set) (e : Cond) : Type 0 where
-  pub columns : each_column (λ x. is_column c q.range x && union (one r) p x.rel.0) e ≡ true
+  pub columns : each_column (λ x. is_column_in c q.range x && union (one r) p x.rel.0) e ≡ true
   pub typed : IsTyped (type_in c q.range) e
 
 -- and an index may use it on a key column

@@ -18,7 +18,7 @@ use Rattle.pg_expr.specs.Columns.{each_column, each_column_of, passes_column}
 use Rattle.pg_expr.proofs.ColumnLaws.{agree-truth}
 use Rattle.catalog.specs.Range.{table_of, type_in}
 use Rattle.heap.specs.Stored.{Values}
-use Rattle.path_cost.specs.Columns.{is_column}
+use Rattle.path_cost.specs.Columns.{is_column_in}
 use Rattle.query_laws.proofs.FitsLemmas.{values_fit}
 use Rattle.sql_query.specs.Meaning.{all_true}
 use Rattle.sql_query.specs.Queries.{Query, width}
@@ -70,7 +70,7 @@ module _ (w : World) (q : Query) (over : IsOverWorld w q) (r : RelNo) (p : ℕ �
   -- a column that has a value has that of the tuple
   agrees : (n : ℕ) (has : ColNo → Bool) (own : ColNo → Value) → ((c : ColNo) → has c ≡ true → own c ≡ value_in (row n) c) → (x : ColRef) → binds_at w.contents q.range r.0 has given x ≡ true → value_beside r.0 own given x ≡ value_at w q (beside q r.0 n o) x
   agrees n has own own_is x bound =
-      let parts = and_parts (is_column w.contents q.range x) _ bound in
+      let parts = and_parts (is_column_in w.contents q.range x) _ bound in
       let there = (and_parts (nat_lt (table_of q.range x).0 (length w.contents.tables)) _ parts.1).1 in
       let lt : x.rel.0 < width q = ltb-true x.rel.0 (length q.range) (and_parts (nat_lt x.rel.0 (length q.range)) _ parts.0).0 in
       ⊎_elim

@@ -17,7 +17,7 @@ use Rattle.catalog.specs.Contents.{Contents}
 use Rattle.catalog.specs.Entries.{index_of}
 use Rattle.catalog.specs.Indexes.{Index}
 use Rattle.catalog.specs.Range.{Range, table_of, type_in}
-use Rattle.path_cost.specs.Columns.{is_column}
+use Rattle.path_cost.specs.Columns.{is_column_in}
 use Rattle.sql_query.specs.WellBound.{IsWellBound}
 use Rattle.sql_query.specs.Queries.{Query}
 use Rattle.sql_query.specs.Worlds.{World, IsWorld}
@@ -55,7 +55,7 @@ abbrev pub values_at : Bound → ColRef → Value
 values_at b x = value_beside b.rel.0 (own_value b.own) b.given.now x
 
 abbrev pub binds_at : Contents → Range → ℕ → (ColNo → Bool) → Given → ColRef → Bool
-binds_at c range r has given x = is_column c range x && (nat_lt (table_of range x).0 (length c.tables) && is_beside r has given x)
+binds_at c range r has given x = is_column_in c range x && (nat_lt (table_of range x).0 (length c.tables) && is_beside r has given x)
 
 abbrev pub binds : Contents → Range → Bound → ColRef → Bool
 binds c range b = binds_at c range b.rel.0 (has_own_value b.own) b.given.now

@@ -22,7 +22,7 @@ use Rattle.eq_classes.specs.Listing.{class_at, blank}
 use Rattle.eq_classes.proofs.ColumnLemmas.{member_passes}
 use Rattle.eq_classes.proofs.ListLemmas.{IsIn, all_at, all_from, found_in, found_passes, in_filter_map, in_from_contains}
 use Rattle.eq_classes.proofs.WrittenLemmas.{in_columns}
-use Rattle.path_cost.specs.Columns.{is_column}
+use Rattle.path_cost.specs.Columns.{is_column_in}
 use Rattle.sql_query.specs.Queries.{Query}
 use Rattle.sql_query.specs.WellBound.{given_with, IsColumnOf, IsWellBound, NamesOnly}
 use Rattle.eq_classes.specs.declared.classes.ClassNo.{ClassNo}
@@ -40,24 +40,24 @@ from_below a b is = grind (arith, common_steps)
 
 -- each member of a class of a well bound query is a column of one of its relations
 module _ (c : Contents) (q : Query) (is : IsWellBound c q) where
-  used_is : (x : ColRef) → IsIn x q.used → is_column c q.range x ≡ true
+  used_is : (x : ColRef) → IsIn x q.used → is_column_in c q.range x ≡ true
   used_is x i =
       let of : IsColumnOf c q.range x = all_at (IsColumnOf c q.range) q.used is.used x i in
       and_from _ _ (below _ _ of.relation) (below _ _ of.column)
 
-  items_are : (i : OrderItem) → IsIn i is.items → is_column c q.range i.col ≡ true
+  items_are : (i : OrderItem) → IsIn i is.items → is_column_in c q.range i.col ≡ true
   items_are i at = used_is i.col (in_from_contains q.used i.col (all_at (λ (o : OrderItem). Contains q.used o.col) is.items is.named i at))
 
-  conjuncts_are : All (λ e. each_column (is_column c q.range) e ≡ true) (given_with c q is.items).conjuncts
+  conjuncts_are : All (λ e. each_column (is_column_in c q.range) e ≡ true) (given_with c q is.items).conjuncts
   conjuncts_are =
-      in_columns q.where_all (is_column c q.range)
-      (all_from (λ (w : Cond). each_column (is_column c q.range) w ≡ true) q.where_all
-      (λ w i. all_at (NamesOnly q.used) q.where_all is.conditions w i (is_column c q.range) (all_from (λ x. is_column c q.range x ≡ true) q.used used_is)))
+      in_columns q.where_all (is_column_in c q.range)
+      (all_from (λ (w : Cond). each_column (is_column_in c q.range) w ≡ true) q.where_all
+      (λ w i. all_at (NamesOnly q.used) q.where_all is.conditions w i (is_column_in c q.range) (all_from (λ x. is_column_in c q.range x ≡ true) q.used used_is)))
 
   pub member_is : (k : Class) → IsIn k q.classes.classes → (x : ColRef) → IsIn x k.members → IsColumnOf c q.range x
   member_is k ik x ix =
-      let passed : is_column c q.range x ≡ true =
-      member_passes (is_column c q.range) (given_with c q is.items) (all_at (λ (e : Cond). each_column (is_column c q.range) e ≡ true) (given_with c q is.items).conjuncts conjuncts_are) items_are q.classes.classes is.classes.classes k ik x ix in
+      let passed : is_column_in c q.range x ≡ true =
+      member_passes (is_column_in c q.range) (given_with c q is.items) (all_at (λ (e : Cond). each_column (is_column_in c q.range) e ≡ true) (given_with c q is.items).conjuncts conjuncts_are) items_are q.classes.classes is.classes.classes k ik x ix in
       let both = and_parts _ _ passed in
       record { relation = from_below _ _ both.0; column = from_below _ _ both.1 }
 

@@ -5,7 +5,7 @@ use Rattle.catalog.specs.Contents.{Contents}
 use Rattle.catalog.specs.Range.{type_in}
 use Rattle.eq_classes.specs.declared.order.OrderItem.{OrderItem}
 use Rattle.eq_classes.specs.Classes.{IsClass, direction_by, orders_by}
-use Rattle.eq_classes.specs.Holding.{IsTable}
+use Rattle.eq_classes.specs.Holding.{IsClassTable}
 use Rattle.eq_classes.proofs.HoldLemmas.{map_in}
 use Rattle.eq_classes.proofs.ListLemmas.{all_at, all_from, contains_from_in, found_in, found_passes}
 use Rattle.sql_query.specs.Queries.{Query, in_order_of}
@@ -16,7 +16,7 @@ pub own_stands : (order : List OrderItem) → All (λ i. Contains (ordered_colum
 own_stands order = all_from (λ (i : OrderItem). Contains (ordered_columns order) i.col) order (λ i at. contains_from_in (ordered_columns order) i.col (map_in (λ (k : OrderItem). k.col) order i at))
 
 -- and each class has the direction of its first item
-pub own_directions : (c : Contents) (q : Query) → IsTable (given_of c q) q.classes → All (IsDirected c q) q.classes.classes
+pub own_directions : (c : Contents) (q : Query) → IsClassTable (given_of c q) q.classes → All (IsDirected c q) q.classes.classes
 own_directions c q is = all_from (IsDirected c q) q.classes.classes
     (λ k at free item found.
     let own : IsClass (given_of c q) k = all_at (IsClass (given_of c q)) q.classes.classes is.classes.each k at in

@@ -11,7 +11,7 @@ use Rattle.catalog.specs.Range.{Range, IsRange, table_of, type_in}
 use Rattle.eq_classes.specs.declared.order.OrderItem.{OrderItem}
 use Rattle.eq_classes.specs.Classes.{Class, Premises, conjuncts_in, direction_by, orders_by}
 use Rattle.eq_classes.specs.Clauses.{has_constant}
-use Rattle.eq_classes.specs.Holding.{HasClass, IsTable}
+use Rattle.eq_classes.specs.Holding.{HasClass, IsClassTable}
 use Rattle.sql_query.specs.Queries.{Query}
 
 -- a column of a relation of the query: one of that relation's table
@@ -65,6 +65,6 @@ pub record IsWellBound (c : Contents) (q : Query) : Type 0 where
   -- the order items of which its classes are made
   pub items : List OrderItem
   pub named : All (λ i. Contains q.used i.col) items
-  pub classes : IsTable (given_with c q items) q.classes
+  pub classes : IsClassTable (given_with c q items) q.classes
   pub stands : All (λ i. Contains (ordered_columns items) i.col) q.order
   pub directions : All (IsDirected c q) q.classes.classes

@@ -2,7 +2,7 @@
 
 ghost use Rattle.std.specs.Prelude.{List, [], All, Contains};
 ghost use Rattle.catalog.specs.Contents.{Contents};
-ghost use Rattle.eq_classes.specs.Holding.{IsTable};
+ghost use Rattle.eq_classes.specs.Holding.{IsClassTable};
 ghost use Rattle.eq_classes.specs.declared.order.OrderItem.{OrderItem};
 ghost use Rattle.sql_query.specs.Queries.{Query, in_order_of};
 ghost use Rattle.sql_query.specs.WellBound.{IsColumnOf, IsDirected, IsDirectedBy, IsWellBound, given_of, ordered_columns};
@@ -14,7 +14,7 @@ pub fn selected_columns()
 
 /// Where the classes are made of ORDER BY itself, the first item by each of them has its direction.
 pub fn own_classes_have_their_directions()
-    ensures { (c : Contents) (q : Query) → IsTable (given_of c q) q.classes → All (IsDirected c q) q.classes.classes }
+    ensures { (c : Contents) (q : Query) → IsClassTable (given_of c q) q.classes → All (IsDirected c q) q.classes.classes }
 {}
 
 /// A well bound query is well bound in each other order whose columns it names and stand among the items of its classes, and

@@ -7,7 +7,7 @@ use Rattle.pg_expr.specs.Columns.{atom_count}
 use Rattle.catalog.specs.Contents.{Contents, IsTable as IsTableOf}
 use Rattle.eq_classes.specs.Classes.{Class, Premises, first_mention}
 use Rattle.eq_classes.specs.Clauses.{Clause, Table, clause_list}
-use Rattle.eq_classes.specs.Holding.{IsTable}
+use Rattle.eq_classes.specs.Holding.{IsClassTable}
 use Rattle.path_cost.specs.Columns.{IsOver}
 use Rattle.sql_query.specs.Queries.{Query, width}
 use Rattle.plan_tree.specs.Reads.{IsOverTables}
@@ -16,11 +16,11 @@ no-class : (n : Class → ℕ) (cs : List Class) → All (λ c. n c < 0) cs → 
 no-class n [] h = refl
 no-class n (c ∷ cs) h = absurd (omega (arith, All-head (λ d. n d < 0) c cs h))
 
-pub no-clause : (g : Premises) (t : Table) → IsTable g t → g.conjuncts ≡ [] → g.order ≡ [] → t.clauses ≡ []
+pub no-clause : (g : Premises) (t : Table) → IsClassTable g t → g.conjuncts ≡ [] → g.order ≡ [] → t.clauses ≡ []
 no-clause g t h none no-order =
     let bare : Premises = record { conjuncts = []; order = []; type_of = g.type_of } in
     let same : g ≡ bare = λ z. record { conjuncts = none z; order = no-order z; type_of = g.type_of } in
-    let table : IsTable bare t = subst (λ (k : Premises). IsTable k t) same h in
+    let table : IsClassTable bare t = subst (λ (k : Premises). IsClassTable k t) same h in
     table.clauses ∙ ap (clause_list g.type_of []) (no-class (first_mention bare) t.classes table.classes.none_else)
 
 -- so it is one over a catalogue with a table

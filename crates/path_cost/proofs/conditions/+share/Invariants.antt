@@ -3,7 +3,7 @@ use Rattle.pg_expr.specs.Columns.{each_column_of}
 use Rattle.pg_expr.specs.Typed.{AreTyped}
 use Rattle.pg_expr.specs.View.{conds}
 use Rattle.path_cost.specs.declared.shares.TheConstants.{ALL_ROWS}
-use Rattle.path_cost.specs.Columns.{is_column}
+use Rattle.path_cost.specs.Columns.{is_column_in}
 use Rattle.catalog.specs.Range.{type_in}
 use Rattle.path_cost.specs.Relations.{range_of}
 use Rattle.path_cost.specs.Selectivity.{of_all, of_any}
@@ -17,7 +17,7 @@ invariant-all_share-loop-part l =
     record {
       share : of_all l.cat range l.all rest ≡ of_all l.cat range ALL_ROWS (conds l.parts);
       part : l.all ≤ 1000000000;
-      columns : IsTrue (each_column_of (is_column l.cat range) rest);
+      columns : IsTrue (each_column_of (is_column_in l.cat range) rest);
       typed : AreTyped (type_in l.cat range) rest;
     }
 
@@ -28,6 +28,6 @@ invariant-any_share-loop-part l =
     record {
       share : of_any l.cat range l.any rest ≡ of_any l.cat range 0 (conds l.parts);
       part : l.any ≤ 1000000000;
-      columns : IsTrue (each_column_of (is_column l.cat range) rest);
+      columns : IsTrue (each_column_of (is_column_in l.cat range) rest);
       typed : AreTyped (type_in l.cat range) rest;
     }

@@ -7,7 +7,7 @@ use Rattle.sql_grammar.specs.Words.{words_of_order, words_of_where}
 use Rattle.expr_reader.proofs.StepLemmas.{step, stop}
 use Rattle.query_reader.specs.Binding.{Bound, bound_over}
 use Rattle.query_reader.specs.From.{Joined, nothing_joined, with_groups}
-use Rattle.query_reader.specs.Select.{IsBoundByItself, IsReadAs}
+use Rattle.query_reader.specs.Select.{IsBoundByItself, IsBoundAs}
 use Rattle.query_reader.proofs.GrowLemmas.{some-groups}
 use Rattle.query_reader.proofs.JoinLemmas.{behind-from}
 use Rattle.query_reader.proofs.QueryLemmas.{stopped}
@@ -34,7 +34,7 @@ returns-clause-meaning c = λ g gs w y rest ends is.
     let told = c.in_ok-take_groups.ensures g gs (words_of_where w ++ (words_of_order y ++ rest)) (behind-from w y rest ends) is in
     let so = was-into (Unit {0}) Joined c.take_groups.new.self (with_groups c.new-sources.result (g ∷ groups_after gs)) _ (words_of_where w ++ (words_of_order y ++ rest)) c.take_groups.new.from told in
     let meant = ap (λ (j : Joined). with_groups j (g ∷ groups_after gs)) (sym c.new-sources.ensures) ∙ so.meant in
-    subst (λ (m : Result Bound Fault). IsReadAs m c.over.result)
+    subst (λ (m : Result Bound Fault). IsBoundAs m c.over.result)
     (sym (step (with_groups (nothing_joined c.args.cat.now) (g ∷ groups_after gs)) (bound_over c.args.start c.args.items.now w y) c.take_groups.new.self meant))
     (c.over.ensures.meaning w y rest ends so.words)
 

@@ -9,11 +9,11 @@ use Rattle.pg_expr.specs.View.{cond}
 use Rattle.catalog.specs.Range.{Range, type_in}
 use Rattle.eq_classes.specs.Classes.{conjuncts_in}
 use Rattle.eq_classes.specs.Clauses.{Table}
-use Rattle.eq_classes.specs.Holding.{IsTable}
+use Rattle.eq_classes.specs.Holding.{IsClassTable}
 use Rattle.eq_classes.specs.declared.order.OrderItem.{OrderItem}
 use Rattle.expr_reader.specs.Reads.{Reads}
 use Rattle.expr_reader.proofs.ReadsLemmas.{was-read}
-use Rattle.path_cost.specs.Columns.{IsOver, is_column}
+use Rattle.path_cost.specs.Columns.{IsOver, is_column_in}
 use Rattle.sql_grammar.specs.Words.{words_of_order}
 use Rattle.query_reader.specs.Select.{IsBoundByItself}
 use Rattle.query_reader.specs.Binding.{conjuncts_written, limited, list_columns, named_in, past_limit}
@@ -78,7 +78,7 @@ returns-in_err-classes-clause-meaning c = λ w y rest ends is.
     (stopped _ c.in_err-classes.field-0.0 _
     (λ f at. limit-wrong cat range (map cond old) c.args.start c.args.items.now w y s look ws conj.meant shown.columns shown.is c.in_ok-order.order.items sorted.meant f
     (subst (λ (l : List Cond). limited c.args.start (past_limit l) l ≡ Err f) every
-    (conveys-fault (List Cond) Table (λ ks t. IsTable (record { conjuncts = conjuncts_in ks; order = c.deref-4.result.now; type_of = type_in s.contents s.range }) t) _ _ f c.in_err-classes.ensures at)))
+    (conveys-fault (List Cond) Table (λ ks t. IsClassTable (record { conjuncts = conjuncts_in ks; order = c.deref-4.result.now; type_of = type_in s.contents s.range }) t) _ _ f c.in_err-classes.ensures at)))
     c.from_residual-in_err-classes.ensures.1)
 
 pub returns-in_err-used-clause-meaning : goal.returns-in_err-used-clause-meaning
@@ -100,7 +100,7 @@ returns-clause-meaning c = λ w y rest ends is.
     let sorted = was-read (Vec OrderItem Global) (List OrderItem) (λ (v : Vec OrderItem Global). v.items) (order_items (visible_in s) shown.columns y) c.in_ok-order.order rest _
     (subst (λ (l : List ColRef). Reads (λ (v : Vec OrderItem Global). v.items) (order_items (visible_in s) l y) rest (Ok c.in_ok-order.order) c.order_by.new.from) (c.deref-2.ensures.value ∙ select) (c.in_ok-order.ensures.read y rest ends conj.words)) in
     let every : map cond c.deref-3.result.now ≡ map cond old ++ ws = ap (map cond) c.deref-3.ensures.value ∙ sym both in
-    let Says : List Cond → Table → Type 0 = λ ks t. IsTable (record { conjuncts = conjuncts_in ks; order = c.deref-4.result.now; type_of = type_in s.contents s.range }) t in
+    let Says : List Cond → Table → Type 0 = λ ks t. IsClassTable (record { conjuncts = conjuncts_in ks; order = c.deref-4.result.now; type_of = type_in s.contents s.range }) t in
     let kept = subst (λ (l : List Cond). (past_limit l ≡ None) × Says l c.in_ok-classes.classes) every (within Says c.args.start (map cond c.deref-3.result.now) c.in_ok-classes.classes c.in_ok-classes.ensures) in
     let same = same-query c.from_vec.result range c.in_ok-classes.classes c.from_vec-2.result shown.columns c.from_vec-4.result c.from_vec-3.result c.in_ok-order.order.items (map cond c.from_vec-5.result.items.items) (map cond old ++ ws)
     c.from_vec.ensures (c.from_vec-2.ensures ∙ select) c.from_vec-3.ensures
@@ -122,7 +122,7 @@ returns-clause-itself c = λ names.
     let shown = added-all (list_columns (visible_in s) c.args.items.now) c.new-select.result.items c.add_items.new.all.items _ c.in_ok-add_items.ensures in
     let select = shown.grown ∙ ap (λ l. l ++ shown.columns) c.new-select.ensures.items in
     let every : map cond c.deref-3.result.now ≡ map cond old ++ ws = ap (map cond) c.deref-3.ensures.value ∙ sym both in
-    let Says : List Cond → Table → Type 0 = λ ks t. IsTable (record { conjuncts = conjuncts_in ks; order = c.deref-4.result.now; type_of = type_in s.contents s.range }) t in
+    let Says : List Cond → Table → Type 0 = λ ks t. IsClassTable (record { conjuncts = conjuncts_in ks; order = c.deref-4.result.now; type_of = type_in s.contents s.range }) t in
     let kept = subst (λ (l : List Cond). (past_limit l ≡ None) × Says l c.in_ok-classes.classes) every (within Says c.args.start (map cond c.deref-3.result.now) c.in_ok-classes.classes c.in_ok-classes.ensures) in
     let same = same-query c.from_vec.result range c.in_ok-classes.classes c.from_vec-2.result shown.columns c.from_vec-4.result c.from_vec-3.result c.in_ok-order.order.items (map cond c.from_vec-5.result.items.items) (map cond old ++ ws)
     c.from_vec.ensures (c.from_vec-2.ensures ∙ select) c.from_vec-3.ensures
@@ -133,9 +133,9 @@ returns-clause-itself c = λ names.
     let some = subst (λ (j : Joined). 0 < length j.range) (sym c.sources.view_is) c.requires.some in
     let columns = subst (λ (x : Sight). list_columns (visible_in x) c.args.items.now ≡ Ok shown.columns) look shown.is in
     let over = subst (λ (x : Sight). All (IsOver x.contents x.range) (map cond old ++ ws)) look (All-append (IsOver s.contents s.range) (map cond old) ws before c.in_ok-more.ensures.over) in
-    let ordered = subst (λ (x : Sight). All (λ (i : OrderItem). is_column x.contents x.range i.col ≡ true) c.in_ok-order.order.items) look c.in_ok-order.ensures.over in
-    let table = subst (λ (l : List OrderItem). IsTable (record { conjuncts = conjuncts_in (map cond old ++ ws); order = l; type_of = type_in s.contents s.range }) c.in_ok-classes.classes) c.deref-4.ensures.value kept.1 in
-    let classes = subst (λ (x : Sight). IsTable (record { conjuncts = conjuncts_in (map cond old ++ ws); order = c.in_ok-order.order.items; type_of = type_in x.contents x.range }) c.in_ok-classes.classes) look table in
+    let ordered = subst (λ (x : Sight). All (λ (i : OrderItem). is_column_in x.contents x.range i.col ≡ true) c.in_ok-order.order.items) look c.in_ok-order.ensures.over in
+    let table = subst (λ (l : List OrderItem). IsClassTable (record { conjuncts = conjuncts_in (map cond old ++ ws); order = l; type_of = type_in s.contents s.range }) c.in_ok-classes.classes) c.deref-4.ensures.value kept.1 in
+    let classes = subst (λ (x : Sight). IsClassTable (record { conjuncts = conjuncts_in (map cond old ++ ws); order = c.in_ok-order.order.items; type_of = type_in x.contents x.range }) c.in_ok-classes.classes) look table in
     let named = subst (λ (r : Range). All (λ x. IsName x.1) r) c.from_vec.ensures names in
     bound-at (record { contents = cat; range = range; conjuncts = map cond old }) c.args.sources _ c.sources.view_is
     (subst (IsBoundByItself cat) same (well-bound cat range c.sources.invariant.0 some c.args.items.now shown.columns (map cond old ++ ws) c.in_ok-order.order.items c.in_ok-classes.classes columns over ordered kept.0 classes named))

@@ -1,5 +1,5 @@
 use Rattle.catalog.specs.Range.{type_in}
-use Rattle.path_cost.specs.Columns.{is_column}
+use Rattle.path_cost.specs.Columns.{is_column_in}
 use Rattle.pg_expr.specs.View.{cond}
 use Rattle.query_reader.specs.Scope.{visible_in}
 use Rattle.query_reader.proofs.ConjunctLemmas.{conjuncts-over}
@@ -20,4 +20,4 @@ pub returns-clause-over : goal.returns-clause-over
 returns-clause-over c =
     let s = c.args.relations.now in
     conjuncts-over s.contents s.range (cond c.in_ok-condition.condition) c.in_ok-conjuncts.field-0.items.items c.in_ok-conjuncts.ensures.list
-    (c.in_ok-condition.ensures.visible (is_column s.contents s.range) c.see_their_columns.ensures) c.in_ok-condition.ensures.typed
+    (c.in_ok-condition.ensures.visible (is_column_in s.contents s.range) c.see_their_columns.ensures) c.in_ok-condition.ensures.typed

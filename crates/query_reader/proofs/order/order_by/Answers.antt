@@ -1,7 +1,7 @@
 use Rattle.std.proofs.Common.{List, Vec, Ok, refl, sym, ap, ◌∙◌, subst}
 use Rattle.std.specs.declared.alloc.Global.{Global}
 use Rattle.eq_classes.specs.declared.order.OrderItem.{OrderItem}
-use Rattle.path_cost.specs.Columns.{is_column}
+use Rattle.path_cost.specs.Columns.{is_column_in}
 use Rattle.expr_reader.proofs.ReadsLemmas.{read-ok, read-has}
 use Rattle.expr_reader.specs.Reads.{Reads}
 use Rattle.query_reader.specs.Order.{order_items}
@@ -39,4 +39,4 @@ returns-clause-over c =
     let read = subst (λ z. Reads (λ (v : Vec OrderItem Global). v.items) (order_items (visible_in s) c.args.select.now z) rest c.order_items.result c.order_items.new.from) (sym t.is)
     (c.order_items.ensures t.item t.items rest ends t.words) in
     read-has (Vec OrderItem Global) (List OrderItem) (λ v. v.items) _ (order_items (visible_in s) c.args.select.now y) c.order_items.result rest _ read
-    (order-seen (visible_in s) (is_column s.contents s.range) c.see_their_columns.ensures c.args.select.now y)
+    (order-seen (visible_in s) (is_column_in s.contents s.range) c.see_their_columns.ensures c.args.select.now y)

@@ -48,3 +48,19 @@ pub(crate) fn first_unlimited<'a>(
     }
     Ok(None)
 }
+
+/// The first of some statements that has more than 1,000 bytes, or its first fault elsewhere than told: at the first place
+/// where a production is not offered, at the second where it is.
+pub(crate) fn first_otherwise<'a>(
+    alloc: Global,
+    rows: &[(&'a [u8], Option<u32>, Option<u32>)],
+    offered: bool,
+) -> Result<Option<&'a [u8]>, Refusal> {
+    for (text, without, within) in rows {
+        let at = if offered { within } else { without };
+        if text.len() > 1_000 || first_fault(alloc, text)? != at.map(Fault::syntax) {
+            return Ok(Some(text));
+        }
+    }
+    Ok(None)
+}

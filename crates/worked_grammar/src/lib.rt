@@ -10,6 +10,8 @@ mod joins;
 #[cfg(test)]
 mod kinds;
 #[cfg(test)]
+mod offered;
+#[cfg(test)]
 mod statements;
 #[cfg(test)]
 mod words;

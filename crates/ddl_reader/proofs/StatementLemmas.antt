@@ -8,7 +8,7 @@ use Rattle.sql_grammar.specs.declared.class.Word.TheVariants.{Create}
 use Rattle.sql_grammar.specs.declared.class.Free.TheVariants.{Distinct, Nulls as NullsWord, Pages, Rows, Statistics}
 use Rattle.sql_grammar.specs.declared.class.Symbol.TheVariants.{Dot, Open}
 use Rattle.sql_grammar.specs.Terminals.{Terminal, Ident, Said, free, token_of, t_key, t_mark, t_name}
-use Rattle.sql_grammar.specs.Syntax.{Key, Mark, ColDef, CopyWords, Common, Histogram, Ending, Statement, empty, create_table, create_index, query, copy, sizes, column_statistics, semicolon, text_end, index_on, no_explain, explain, ordered_select, select_from}
+use Rattle.sql_grammar.specs.Syntax.{Key, Mark, ColDef, CopyWords, Common, Histogram, Ending, Statement, empty, create_table, create_index, query, copy, sizes, column_statistics, analyze, semicolon, text_end, index_on, no_explain, explain, ordered_select, select_from}
 use Rattle.sql_grammar.specs.Words.{words_of, words_of_ending}
 use Rattle.sql_grammar.specs.Faults.{bytes_of, terminals, IsWhole}
 use Rattle.sql_grammar.specs.CopyLine.{IsDataStart}
@@ -43,11 +43,12 @@ creates (create_table k t n o c cs m e) token left ddl is =
 creates (empty (semicolon t)) token left ddl is = absurd (cc (is))
 creates (empty (text_end t)) token left ddl is = absurd (cc (is))
 creates (create_index (index_on k i n o t u p x xs m c w e)) token left ddl is = absurd (cc (ddl))
-creates (query (ordered_select no_explain (select_from k o os f n a w) y e)) token left ddl is = absurd (cc (is))
-creates (query (ordered_select (explain k) q y e)) token left ddl is = absurd (cc (is))
+creates (query (ordered_select no_explain (select_from k o os f n a w) y v e)) token left ddl is = absurd (cc (is))
+creates (query (ordered_select (explain k) q y v e)) token left ddl is = absurd (cc (is))
 creates (copy k n null) token left ddl is = absurd (cc (is))
 creates (sizes k n rows pages e) token left ddl is = absurd (cc (is))
 creates (column_statistics k n c d z m h e) token left ddl is = absurd (cc (is))
+creates (analyze p k n e) token left ddl is = absurd (cc (is))
 
 -- a statement that is COPY
 abbrev pub LoadsData : Statement → Type 0
@@ -58,11 +59,12 @@ loads (create_table k t n o c cs m e) ts is ddl other others = absurd (other _ (
 loads (empty (semicolon t)) ts is ddl other others = let wrong = ap begins_ddl is ∙ ddl in absurd (cc (wrong))
 loads (empty (text_end t)) ts is ddl other others = let wrong = ap begins_ddl is ∙ ddl in absurd (cc (wrong))
 loads (create_index (index_on k i n o t u p x xs m c w e)) ts is ddl other others = absurd (other _ (k, sym is))
-loads (query (ordered_select no_explain (select_from k o os f n a w) y e)) ts is ddl other others = let wrong = ap begins_ddl is ∙ ddl in absurd (cc (wrong))
-loads (query (ordered_select (explain k) q y e)) ts is ddl other others = let wrong = ap begins_ddl is ∙ ddl in absurd (cc (wrong))
+loads (query (ordered_select no_explain (select_from k o os f n a w) y v e)) ts is ddl other others = let wrong = ap begins_ddl is ∙ ddl in absurd (cc (wrong))
+loads (query (ordered_select (explain k) q y v e)) ts is ddl other others = let wrong = ap begins_ddl is ∙ ddl in absurd (cc (wrong))
 loads (copy k n null) ts is ddl other others = (k, n, null, refl)
 loads (sizes k n rows pages e) ts is ddl other others = absurd (others _ (k.statistics, sym is))
 loads (column_statistics k n c d z m h e) ts is ddl other others = absurd (others _ (k.statistics, sym is))
+loads (analyze p k n e) ts is ddl other others = let wrong = ap begins_ddl is ∙ ddl in absurd (cc (wrong))
 
 -- the word that ends a statement is none of its lists
 ends-lists : (e : Ending) → (ends_common (words_of_ending e) ≡ true) × (ends_histogram (words_of_ending e) ≡ true)
@@ -78,9 +80,10 @@ describes (create_table k t n o c cs m e) token left is = absurd (cc (is))
 describes (empty (semicolon t)) token left is = absurd (cc (is))
 describes (empty (text_end t)) token left is = absurd (cc (is))
 describes (create_index (index_on k i n o t u p x xs m c w e)) token left is = absurd (cc (is))
-describes (query (ordered_select no_explain (select_from k o os f n a w) y e)) token left is = absurd (cc (is))
-describes (query (ordered_select (explain k) q y e)) token left is = absurd (cc (is))
+describes (query (ordered_select no_explain (select_from k o os f n a w) y v e)) token left is = absurd (cc (is))
+describes (query (ordered_select (explain k) q y v e)) token left is = absurd (cc (is))
 describes (copy k n null) token left is = absurd (cc (is))
+describes (analyze p k n e) token left is = absurd (cc (is))
 
 -- the last of some tokens
 abbrev last : Token → List Token → Token
@@ -127,9 +130,10 @@ module _ (cat : Contents) (text : List ℕ) where
   statistics-as (empty (semicolon t)) token left r is table column = absurd (cc (is))
   statistics-as (empty (text_end t)) token left r is table column = absurd (cc (is))
   statistics-as (create_index (index_on k i n o t u p x xs m c w e)) token left r is table column = absurd (cc (is))
-  statistics-as (query (ordered_select no_explain (select_from k o os f n a w) y e)) token left r is table column = absurd (cc (is))
-  statistics-as (query (ordered_select (explain k) q y e)) token left r is table column = absurd (cc (is))
+  statistics-as (query (ordered_select no_explain (select_from k o os f n a w) y v e)) token left r is table column = absurd (cc (is))
+  statistics-as (query (ordered_select (explain k) q y v e)) token left r is table column = absurd (cc (is))
   statistics-as (copy k n null) token left r is table column = absurd (cc (is))
+  statistics-as (analyze p k n e) token left r is table column = absurd (cc (is))
 
   data-by : (k : CopyWords) (n : Ident) (null : Said) (r : Result Read Refusal) (start : Result ℕ Fault) → IsDataStart text k.stop.end start →
       IsAsMeant Read Reading reading r (data_after (table_named cat (bytes_of n)) (token_of n) null.value null.token start) → ReadsAs cat text (copy k n null) r

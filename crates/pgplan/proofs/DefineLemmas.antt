@@ -13,7 +13,7 @@ use Rattle.pg_value.specs.declared.columns.Column.{Column}
 use Rattle.pg_value.specs.declared.value.SqlType.{SqlType}
 use Rattle.sql_lex.specs.declared.tokens.Token.{Token}
 use Rattle.sql_grammar.specs.Terminals.{Ident, Said, token_of}
-use Rattle.sql_grammar.specs.Syntax.{Lit, Statement, empty, create_table, create_index, query, copy, sizes, column_statistics}
+use Rattle.sql_grammar.specs.Syntax.{Lit, Statement, empty, create_table, create_index, query, copy, sizes, column_statistics, analyze}
 use Rattle.sql_grammar.specs.Faults.{terminals, bytes_of}
 use Rattle.sql_grammar.specs.CopyLine.{IsDataStart}
 use Rattle.catalog.specs.Contents.{Contents, IsTable, table_at}
@@ -127,6 +127,7 @@ means-plain cat text (create_table k t n o c cs m e) r means = subst IsPlain (sy
 means-plain cat text (sizes k n r p e) m means = subst IsPlain (sym means) (sizes-plain cat n r p)
 means-plain cat text (column_statistics k n c d nulls commons bounds e) r means = subst IsPlain (sym means) (statistics-plain cat n c d nulls (commons_of commons) (bounds_of bounds))
 means-plain cat text (copy k n null) r (start, begins, means) = subst IsPlain (sym means) (after-plain text k.stop.end (table_named cat (bytes_of n)) (token_of n) null.token null.value start begins)
+means-plain cat text (analyze p k n e) r means = absurd means
 
 module _ (w : World) (text : List ℕ) (tokens : List Token) where
   names-fault : (x : Statement) (f : Fault) → Means w.contents text x (Err f) → IsMeaningFault w text tokens x f
@@ -137,6 +138,7 @@ module _ (w : World) (text : List ℕ) (tokens : List Token) where
   names-fault (sizes k n r p e) f means = inl means
   names-fault (column_statistics k n c d nulls commons bounds e) f means = inl means
   names-fault (copy k n null) f means = inl means
+  names-fault (analyze p k n e) f means = absurd means
 
   carried-fault : (x : Statement) (r : Reading) (f : Fault) → Means w.contents text x (Ok r) → IsRefused w text r.definition r.at f → IsMeaningFault w text tokens x f
   carried-fault (empty e) r f means because = absurd means
@@ -146,6 +148,7 @@ module _ (w : World) (text : List ℕ) (tokens : List Token) where
   carried-fault (sizes k n m p e) r f means because = inr (r, means, because)
   carried-fault (column_statistics k n c d nulls commons bounds e) r f means because = inr (r, means, because)
   carried-fault (copy k n null) r f means because = inr (r, means, because)
+  carried-fault (analyze p k n e) r f means because = absurd means
 
   does : (x : Statement) (r : Reading) (action : Action) (next : ℕ) → Means w.contents text x (Ok r) → Carries w text tokens r.definition action next → Does w text tokens x action next
   does (empty e) r action next means carries = absurd means
@@ -155,6 +158,7 @@ module _ (w : World) (text : List ℕ) (tokens : List Token) where
   does (sizes k n m p e) r action next means carries = (r, means, carries)
   does (column_statistics k n c d nulls commons bounds e) r action next means carries = (r, means, carries)
   does (copy k n null) r action next means carries = (r, means, carries)
+  does (analyze p k n e) r action next means carries = absurd means
 
   refused-by : (f : Fault) → IsDdlFault w.contents text tokens f true → IsFaultOver w text tokens f × IsFieldOf w.contents f
   refused-by f (inl first) = (in_syntax first, no-field w.contents f (ap (λ (g : Fault). g.rec) first.place))

@@ -5,7 +5,7 @@ use Rattle.sql_lex.specs.declared.tokens.Token.{Token}
 use Rattle.pg_base.specs.Faults.{syntax_fault}
 use Rattle.sql_lex.proofs.UniqueLaws.{one_list, one_fault, no_fault}
 use Rattle.sql_grammar.specs.Terminals.{token_of}
-use Rattle.sql_grammar.specs.Syntax.{CreateIndex, OrderedSelect, Statement, empty, create_table, create_index, query, copy, sizes, column_statistics}
+use Rattle.sql_grammar.specs.Syntax.{CreateIndex, OrderedSelect, Statement, empty, create_table, create_index, query, copy, sizes, column_statistics, analyze}
 use Rattle.sql_grammar.specs.Faults.{bytes_of, IsStatement, terminals}
 use Rattle.catalog.specs.Contents.{Contents}
 use Rattle.catalog.specs.Tables.{IsIndexRefusal, table_named}
@@ -41,6 +41,7 @@ one_meaning c text (sizes k n d p e) r s h l = h ∙ sym l
 one_meaning c text (column_statistics k n d i nulls commons bounds e) r s h l = h ∙ sym l
 one_meaning c text (copy words n null) r s (a, p, h) (b, q, k) =
     h ∙ (ap (λ i. data_after (table_named c (bytes_of n)) (token_of n) null.value null.token i) (one_start text words.stop.end a b p q) ∙ sym k)
+one_meaning c text (analyze p k n e) r s h l = absurd h
 
 module _ (w : World) (text : List ℕ) (tokens : List Token) where
   one_carried : (d : Definition) (a b : Action) (m n : ℕ) → Carries w text tokens d a m → Carries w text tokens d b n → (a ≡ b) × (m ≡ n)
@@ -82,6 +83,7 @@ module _ (w : World) (text : List ℕ) (tokens : List Token) where
   one_done (column_statistics c i d p nulls commons bounds e) a b m n (r, h, u) (s, k, v) = one_defined (column_statistics c i d p nulls commons bounds e) a b m n r s h k u v
   one_done (create_table c t i o d ds z e) a b m n (r, h, p) (s, k, q) = one_defined (create_table c t i o d ds z e) a b m n r s h k p q
   one_done (copy c i null) a b m n (r, h, p) (s, k, q) = one_defined (copy c i null) a b m n r s h k p q
+  one_done (analyze p k i e) a b m n h u = absurd h
 
   one_over : (a b : Action) (m n : ℕ) → IsReadOver w text tokens a m → IsReadOver w text tokens b n → (a ≡ b) × (m ≡ n)
   one_over a b m n p q =
@@ -175,6 +177,7 @@ module _ (w : World) (text : List ℕ) (tokens : List Token) where
   one_meant (sizes c n r p e) f g h k = one_definition (sizes c n r p e) f g h k
   one_meant (column_statistics c n d i nulls commons bounds e) f g h k = one_definition (column_statistics c n d i nulls commons bounds e) f g h k
   one_meant (copy c n null) f g h k = one_definition (copy c n null) f g h k
+  one_meant (analyze p k n e) f g h l = absurd h
 
   not_meant : (x : Statement) (a : Action) (n : ℕ) (r : Reply) (f : Fault) → Does w text tokens x a n → IsReply w a r → IsMeaningFault w text tokens x f → ⊥
   not_meant (empty e) a n r f h reply k = absurd k
@@ -184,6 +187,7 @@ module _ (w : World) (text : List ℕ) (tokens : List Token) where
   not_meant (sizes c i d p e) a n r f (s, h, u) reply k = no_definition (sizes c i d p e) a n s f h u k
   not_meant (column_statistics c i d p nulls commons bounds e) a n r f (s, h, u) reply k = no_definition (column_statistics c i d p nulls commons bounds e) a n s f h u k
   not_meant (copy c i null) a n r f (s, h, p) reply k = no_definition (copy c i null) a n s f h p k
+  not_meant (analyze p k i e) a n r f h reply l = absurd h
 
   one_fault_over : (f g : Fault) → IsFaultOver w text tokens f → IsFaultOver w text tokens g → f ≡ g
   one_fault_over f g (in_syntax p) (in_syntax q) = one_first IsStatement text tokens f g p q

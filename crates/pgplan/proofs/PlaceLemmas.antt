@@ -20,7 +20,7 @@ use Rattle.sql_lex.specs.declared.tokens.Token.{Token}
 use Rattle.sql_lex.specs.Forms.{IsToken, symbols}
 use Rattle.sql_lex.specs.Words.{AreWords, IsNext, is_last}
 use Rattle.sql_grammar.specs.Terminals.{Ident, Said, token_of}
-use Rattle.sql_grammar.specs.Syntax.{CopyWords, Lit, Statement, empty, create_table, create_index, query, copy, sizes, column_statistics}
+use Rattle.sql_grammar.specs.Syntax.{CopyWords, Lit, Statement, empty, create_table, create_index, query, copy, sizes, column_statistics, analyze}
 use Rattle.sql_grammar.specs.Words.{words_of}
 use Rattle.sql_grammar.specs.Faults.{bytes_of, fault_at, terminals}
 use Rattle.sql_grammar.specs.CopyLine.{IsDataStart, after_blanks}
@@ -207,6 +207,7 @@ does-behind w text from tokens (column_statistics k n c d nulls commons bounds e
 does-behind w text from tokens (copy k n null) action next words spelled does =
     behind-data text from k.stop.end (end_of tokens) next (copy-end text tokens k n null spelled) (ends-behind text from tokens words)
     (data-behind w text tokens action next k.stop.end (table_named w.contents (bytes_of n)) (token_of n) null.token null.value does.1.0 does.0 does.1.1 does.1.2 does.2)
+does-behind w text from tokens (analyze p k n e) action next words spelled does = absurd does
 
 -- a statement ends behind the place at which it begins, inside the text
 pub read-behind : (w : World) (text : List ℕ) (from : ℕ) (tokens : List Token) (action : Action) (next : ℕ) → AreWords text from tokens → IsReadOver w text tokens action next → EndsBehind text from next

@@ -11,7 +11,7 @@ use Rattle.sql_lex.specs.Ends.{end_of, token_at}
 use Rattle.sql_grammar.specs.Terminals.{Terminal, class_of}
 use Rattle.sql_grammar.specs.Table.{is_ending}
 use Rattle.sql_grammar.specs.Reading.{terminal_of, is_end, ends_once}
-use Rattle.sql_grammar.specs.Syntax.{OrderedSelect, index_on, semicolon, text_end, Statement, empty, create_table, create_index, query, copy, sizes, column_statistics}
+use Rattle.sql_grammar.specs.Syntax.{OrderedSelect, index_on, semicolon, text_end, Statement, empty, create_table, create_index, query, copy, sizes, column_statistics, analyze}
 use Rattle.sql_grammar.specs.Words.{words_of}
 use Rattle.sql_grammar.specs.Faults.{IsStatement, terminals}
 use Rattle.sql_grammar.specs.Spelled.{IsSpelled}
@@ -44,6 +44,7 @@ no-other (query q) ts other index goes is = refl
 no-other (sizes k n r p end) ts other index goes is = let e = ap begins_ddl is ∙ other in absurd (cc (e))
 no-other (column_statistics k n c d nulls commons bounds end) ts other index goes is = let e = ap begins_ddl is ∙ other in absurd (cc (e))
 no-other (copy k n null) ts other index goes is = let e = ap begins_ddl is ∙ other in absurd (cc (e))
+no-other (analyze p k n end) ts other index goes is = absurd p
 
 -- where more words than one stand, the first is no end
 goes-by : (b : Bool) (n : ℕ) (rest : Bool) → 0 < n → cond b (nat_eq n 0) rest ≡ true → b ≡ false

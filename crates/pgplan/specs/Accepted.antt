@@ -4,7 +4,7 @@ use Rattle.std.specs.Prelude.{◌≡◌, ℕ, true, cond, List, slice_range, Ok}
 use Rattle.sql_lex.specs.declared.tokens.Token.{Token}
 use Rattle.sql_lex.specs.Ends.{token_at, end_of}
 use Rattle.sql_lex.specs.Words.{AreWords}
-use Rattle.sql_grammar.specs.Syntax.{CreateIndex, Statement, empty, create_table, create_index, query, copy, sizes, column_statistics}
+use Rattle.sql_grammar.specs.Syntax.{CreateIndex, Statement, empty, create_table, create_index, query, copy, sizes, column_statistics, analyze}
 use Rattle.sql_grammar.specs.Faults.{terminals}
 use Rattle.sql_grammar.specs.Spelled.{IsSpelled}
 use Rattle.catalog.specs.Statistics.{AreAllowed, is_count}
@@ -59,6 +59,7 @@ Does w text tokens (create_table k t n o c cs m e) action next = Defines w text 
 Does w text tokens (sizes k n r p e) action next = Defines w text tokens (sizes k n r p e) action next
 Does w text tokens (column_statistics k n c d nulls commons bounds e) action next = Defines w text tokens (column_statistics k n c d nulls commons bounds e) action next
 Does w text tokens (copy k n null) action next = Defines w text tokens (copy k n null) action next
+Does w text tokens (analyze p k n e) action next = ⊥
 
 -- the tokens are a statement that does this
 pub record IsReadOver (w : World) (text : List ℕ) (tokens : List Token) (action : Action) (next : ℕ) : Type 0 where

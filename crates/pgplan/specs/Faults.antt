@@ -10,7 +10,7 @@ use Rattle.pg_base.specs.declared.faults.Fault.{Fault}
 use Rattle.pg_base.specs.Faults.{data_fault, syntax_fault, words_fault}
 use Rattle.sql_lex.specs.declared.tokens.Token.{Token}
 use Rattle.sql_lex.specs.Words.{AreWords, IsWordFault}
-use Rattle.sql_grammar.specs.Syntax.{OrderedSelect, CreateIndex, Statement, empty, create_table, create_index, query, copy, sizes, column_statistics}
+use Rattle.sql_grammar.specs.Syntax.{OrderedSelect, CreateIndex, Statement, empty, create_table, create_index, query, copy, sizes, column_statistics, analyze}
 use Rattle.sql_grammar.specs.Faults.{IsStatement, IsFirstFault, fault_at, terminals}
 use Rattle.sql_grammar.specs.Spelled.{IsSpelled}
 use Rattle.catalog.specs.declared.fault.CatalogFault.{CatalogFault}
@@ -129,6 +129,7 @@ IsMeaningFault w text tokens (create_table k t n o c cs m e) f = IsDefinitionFau
 IsMeaningFault w text tokens (sizes k n r p e) f = IsDefinitionFault w text (sizes k n r p e) f
 IsMeaningFault w text tokens (column_statistics k n c d nulls commons bounds e) f = IsDefinitionFault w text (column_statistics k n c d nulls commons bounds e) f
 IsMeaningFault w text tokens (copy k n null) f = IsDefinitionFault w text (copy k n null) f
+IsMeaningFault w text tokens (analyze p k n e) f = ⊥
 
 -- the first fault of a statement whose words have none: of its syntax, or of what it means
 pub data IsFaultOver (w : World) (text : List ℕ) (tokens : List Token) (f : Fault) : Type 0 where

@@ -12,7 +12,7 @@ use Rattle.sql_lex.specs.declared.tokens.Token.{Token}
 use Rattle.sql_grammar.specs.declared.class.Symbol.TheVariants.{Open}
 use Rattle.sql_grammar.specs.declared.class.Word.TheVariants.{On}
 use Rattle.sql_grammar.specs.Terminals.{Terminal, Ident, t_key, t_mark, t_name}
-use Rattle.sql_grammar.specs.Syntax.{Key, Mark, Where, no_where, where_expr, Ending, semicolon, text_end, IndexKey as KeyTree, Using, Include, CreateIndex, index_on, Statement, empty, create_table, create_index, query, copy, sizes, column_statistics, no_explain, explain, ordered_select, select_from}
+use Rattle.sql_grammar.specs.Syntax.{Key, Mark, Where, no_where, where_expr, Ending, semicolon, text_end, IndexKey as KeyTree, Using, Include, CreateIndex, index_on, Statement, empty, create_table, create_index, query, copy, sizes, column_statistics, analyze, no_explain, explain, ordered_select, select_from}
 use Rattle.sql_grammar.specs.Words.{words_of, words_of_where, words_of_ending, words_of_using, words_of_include, words_of_index}
 use Rattle.sql_grammar.specs.Faults.{fault_at, terminals, IsWhole}
 use Rattle.sql_grammar.specs.Spelled.{IsSpelled}
@@ -151,11 +151,12 @@ is-index (create_index y) ts is opens = (y, refl)
 is-index (empty (semicolon t)) ts is opens = let wrong = ap begins_index is ∙ opens in absurd (cc (wrong))
 is-index (empty (text_end t)) ts is opens = let wrong = ap begins_index is ∙ opens in absurd (cc (wrong))
 is-index (create_table k t n o c cs m e) ts is opens = let wrong = ap begins_index is ∙ opens in absurd (cc (wrong))
-is-index (query (ordered_select no_explain (select_from k o os f n a w) y e)) ts is opens = let wrong = ap begins_index is ∙ opens in absurd (cc (wrong))
-is-index (query (ordered_select (explain k) q y e)) ts is opens = let wrong = ap begins_index is ∙ opens in absurd (cc (wrong))
+is-index (query (ordered_select no_explain (select_from k o os f n a w) y v e)) ts is opens = let wrong = ap begins_index is ∙ opens in absurd (cc (wrong))
+is-index (query (ordered_select (explain k) q y v e)) ts is opens = let wrong = ap begins_index is ∙ opens in absurd (cc (wrong))
 is-index (copy k n null) ts is opens = let wrong = ap begins_index is ∙ opens in absurd (cc (wrong))
 is-index (sizes k n rows pages e) ts is opens = let wrong = ap begins_index is ∙ opens in absurd (cc (wrong))
 is-index (column_statistics k n c d z m h e) ts is opens = let wrong = ap begins_index is ∙ opens in absurd (cc (wrong))
+is-index (analyze p k n e) ts is opens = let wrong = ap begins_index is ∙ opens in absurd (cc (wrong))
 
 -- the CREATE INDEX that the tokens spell
 pub record Indexing (text : List ℕ) (tokens : List Token) : Type 0 where

@@ -129,4 +129,4 @@ from-plain : (c : Contents) (start : Token) (items : List Item) (gs : List Group
 from-plain c start items gs w order = next-plain (with_groups (nothing_joined c) gs) _ (groups-plain (nothing_joined c) gs) (over-plain start items w order)
 
 pub bound-plain : (c : Contents) (start : Token) (x : OrderedSelect) (f : Fault) → bound c start x ≡ Err f → f.rec ≡ 0
-bound-plain c start (ordered_select e (select_from k o os m g gs w) y end) f is = subst IsPlain is (from-plain c start (item_of o ∷ items_of os) (g ∷ groups_after gs) w y)
+bound-plain c start (ordered_select e (select_from k o os m g gs w) y v end) f is = subst IsPlain is (from-plain c start (item_of o ∷ items_of os) (g ∷ groups_after gs) w y)

@@ -11,7 +11,7 @@ use Rattle.sql_lex.specs.declared.tokens.Token.{Token}
 use Rattle.sql_grammar.specs.declared.class.Free.TheVariants.{Explain}
 use Rattle.sql_grammar.specs.Terminals.{Terminal, free, t_name}
 use Rattle.sql_grammar.specs.Reading.{terminal_of}
-use Rattle.sql_grammar.specs.Syntax.{OrderedSelect, semicolon, text_end, index_on, Statement, empty, create_table, create_index, query, copy, sizes, column_statistics}
+use Rattle.sql_grammar.specs.Syntax.{OrderedSelect, semicolon, text_end, index_on, Statement, empty, create_table, create_index, query, copy, sizes, column_statistics, analyze}
 use Rattle.sql_grammar.specs.Faults.{IsStatement, IsPrefix, IsAtFault, IsFirstFault, IsWhole, AreWithinLimits, terminals, limit_of}
 use Rattle.sql_grammar.specs.Spelled.{IsSpelled}
 use Rattle.sql_grammar.specs.Words.{words_of}
@@ -38,6 +38,7 @@ no-other (create_index (index_on k i n o t u p x xs m c w e)) ts is begins = let
 no-other (copy k n null) ts is begins = let wrong = ap begins_query is ∙ begins in absurd (cc (wrong))
 no-other (sizes k n r p e) ts is begins = let wrong = ap begins_query is ∙ begins in absurd (cc (wrong))
 no-other (column_statistics k n c d z m h e) ts is begins = let wrong = ap begins_query is ∙ begins in absurd (cc (wrong))
+no-other (analyze p k n e) ts is begins = let wrong = ap begins_query is ∙ begins in absurd (cc (wrong))
 
 query-by : (text : List ℕ) (tokens : List Token) (x : Statement) → is_query x ≡ true → IsSpelled x text tokens → AreSelect text tokens
 query-by text tokens (empty e) is s = absurd (cc (is))
@@ -47,6 +48,7 @@ query-by text tokens (query x) is s = (x, s)
 query-by text tokens (copy k n null) is s = absurd (cc (is))
 query-by text tokens (sizes k n r p e) is s = absurd (cc (is))
 query-by text tokens (column_statistics k n c d z m h e) is s = absurd (cc (is))
+query-by text tokens (analyze p k n e) is s = absurd (cc (is))
 
 -- a whole statement that is no other one is a SELECT
 pub whole-query : (text : List ℕ) (tokens : List Token) → IsWhole text tokens → AreNoOther text tokens → AreSelect text tokens

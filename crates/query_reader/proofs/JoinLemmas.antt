@@ -2,7 +2,7 @@
 use Rattle.std.proofs.Common.{◌≡◌, ◌<◌, true, List, [], ◌∷◌, ◌++◌, length, drop, refl, sym, ap, ◌∙◌, append_assoc, length-append, arith}
 use Rattle.sql_lex.specs.declared.tokens.Token.{Token}
 use Rattle.sql_grammar.specs.Terminals.{Terminal, Ident, t_key, t_mark, t_name, t_semicolon, t_end}
-use Rattle.sql_grammar.specs.declared.class.Word.TheVariants.{Cross as CrossKey, Inner as InnerKey, Join as JoinKey, On as OnKey, Where as WhereKey, Order}
+use Rattle.sql_grammar.specs.declared.class.Word.TheVariants.{Cross as CrossKey, Inner as InnerKey, Join as JoinKey, Limit as LimitKey, Offset as OffsetKey, On as OnKey, Where as WhereKey, Order}
 use Rattle.sql_grammar.specs.declared.class.Symbol.TheVariants.{Comma}
 use Rattle.sql_grammar.specs.Syntax.{Mark, Alias, Relation, relation, no_inner, inner, Join, join_on, cross_join, Group, Where, no_where, where_expr, OrderBy, no_order, order_by}
 use Rattle.sql_grammar.specs.Unique.{ends_expr}
@@ -63,6 +63,8 @@ groups-end [] rest ends = from-group rest ends
 groups-end ((m, g) ∷ gs) rest ends = refl
 
 order-from : (y : OrderBy) (rest : List Terminal) → ends_order rest ≡ true → ends_from (words_of_order y ++ rest) ≡ true
+order-from no_order (t_key LimitKey _ ∷ rest) ends = refl
+order-from no_order (t_key OffsetKey _ ∷ rest) ends = refl
 order-from no_order (t_semicolon _ ∷ rest) ends = refl
 order-from no_order (t_end _ ∷ rest) ends = refl
 order-from no_order _ ends = absurd (cc (ends))

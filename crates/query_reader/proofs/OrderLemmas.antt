@@ -10,7 +10,7 @@ use Rattle.eq_classes.specs.Equality.{is_column}
 use Rattle.eq_classes.specs.declared.order.OrderItem.{OrderItem}
 use Rattle.sql_lex.specs.declared.tokens.Token.{Token}
 use Rattle.sql_grammar.specs.declared.class.Symbol.TheVariants.{Comma, Dot}
-use Rattle.sql_grammar.specs.declared.class.Word.TheVariants.{Asc, Desc, Order}
+use Rattle.sql_grammar.specs.declared.class.Word.TheVariants.{Asc, Desc, Limit as LimitKey, Offset as OffsetKey, Order}
 use Rattle.sql_grammar.specs.declared.class.Free.TheVariants.{Nulls}
 use Rattle.sql_grammar.specs.Faults.{bytes_of}
 use Rattle.sql_grammar.specs.Terminals.{Terminal, Ident, free, token_of, t_key, t_mark, t_name, t_semicolon, t_end}
@@ -35,6 +35,8 @@ use Rattle.query_reader.specs.Order.{shown_of_name, first_among, order_column, o
 
 -- what stands behind an item
 pub end-orders : (rest : List Terminal) → ends_order rest ≡ true → ends_ordering rest ≡ true
+end-orders (t_key LimitKey t ∷ rest) ends = refl
+end-orders (t_key OffsetKey t ∷ rest) ends = refl
 end-orders (t_semicolon t ∷ rest) ends = refl
 end-orders (t_end t ∷ rest) ends = refl
 end-orders _ ends = absurd (cc (ends))

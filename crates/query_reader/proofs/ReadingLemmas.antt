@@ -6,9 +6,9 @@ use Rattle.pg_base.specs.declared.faults.Refusal.{Refusal}
 use Rattle.pg_base.specs.declared.faults.Refusal.TheVariants as refusal
 use Rattle.sql_lex.specs.declared.tokens.Token.{Token}
 use Rattle.sql_grammar.specs.Terminals.{Terminal, t_key, t_semicolon, t_end}
-use Rattle.sql_grammar.specs.declared.class.Word.TheVariants.{From}
-use Rattle.sql_grammar.specs.Syntax.{Key, Mark, Output, Group, Where, select_from, OrderBy, no_order, order_by, no_explain, explain, OrderedSelect, ordered_select, Ending, semicolon, text_end, query}
-use Rattle.sql_grammar.specs.Words.{words_of_output, words_of_outputs, words_of_group, words_of_groups, words_of_where, words_of_order, words_of_ordered, words_of_ending}
+use Rattle.sql_grammar.specs.declared.class.Word.TheVariants.{From, Limit as LimitKey, Offset as OffsetKey}
+use Rattle.sql_grammar.specs.Syntax.{Key, Mark, Output, Group, Where, select_from, OrderBy, no_order, order_by, no_limit, most_rows, no_offset, skipped_rows, Window, window, no_explain, explain, OrderedSelect, ordered_select, Ending, semicolon, text_end, query}
+use Rattle.sql_grammar.specs.Words.{words_of_output, words_of_outputs, words_of_group, words_of_groups, words_of_where, words_of_order, words_of_ordered, words_of_window, words_of_ending}
 use Rattle.sql_grammar.specs.Reading.{terminal_of}
 use Rattle.sql_grammar.specs.Faults.{terminals}
 use Rattle.sql_grammar.specs.Spelled.{IsSpelled}
@@ -28,8 +28,8 @@ left-named (suc n) [] h = tt
 left-named (suc n) (w ∷ ws) h = left-named n ws h.1
 
 -- what stands behind FROM
-abbrev pub behind : Where → OrderBy → Ending → List Terminal
-behind w y e = words_of_where w ++ (words_of_order y ++ words_of_ending e)
+abbrev pub behind : Where → OrderBy → Window → Ending → List Terminal
+behind w y v e = words_of_where w ++ (words_of_order y ++ (words_of_window v ++ words_of_ending e))
 
 -- the parts of a SELECT whose words are left after SELECT
 pub record Parted (x : OrderedSelect) (left : List Terminal) : Type 0 where
@@ -40,8 +40,9 @@ pub record Parted (x : OrderedSelect) (left : List Terminal) : Type 0 where
   pub groups : List (Mark × Group)
   pub condition : Where
   pub order : OrderBy
+  pub window : Window
   pub ending : Ending
-  pub split : left ≡ words_of_output first ++ (words_of_outputs more ++ t_key From from_at ∷ (words_of_group group ++ (words_of_groups groups ++ behind condition order ending)))
+  pub split : left ≡ words_of_output first ++ (words_of_outputs more ++ t_key From from_at ∷ (words_of_group group ++ (words_of_groups groups ++ behind condition order window ending)))
   pub means : (c : Contents) (start : Token) → bound_from c start (item_of first ∷ items_of more) (group ∷ groups_after groups) condition order ≡ bound c start x
 
 regroup : (x y z c d e : List Terminal) (f : Terminal) → (x ++ (y ++ f ∷ (z ++ (c ++ d)))) ++ e ≡ x ++ (y ++ f ∷ (z ++ (c ++ (d ++ e))))
@@ -54,7 +55,7 @@ after-select : (x : OrderedSelect) (ts : List Terminal) (n : ℕ) → words_of_o
 after-select x ts n is at = ap (λ i. drop 1 (drop i ts)) at ∙ ap (λ l. drop 1 (drop (words_before l) l)) (sym is)
 
 parted : (x : OrderedSelect) (ts : List Terminal) (n : ℕ) → words_of_ordered x ≡ ts → n ≡ words_before ts → Parted x (drop 1 (drop n ts))
-parted (ordered_select no_explain (select_from k o os f g gs w) y e) ts n is at = record {
+parted (ordered_select no_explain (select_from k o os f g gs w) y v e) ts n is at = record {
   first = o;
   more = os;
   from_at = f;
@@ -62,12 +63,13 @@ parted (ordered_select no_explain (select_from k o os f g gs w) y e) ts n is at 
   groups = gs;
   condition = w;
   order = y;
+  window = v;
   ending = e;
-  split = after-select (ordered_select no_explain (select_from k o os f g gs w) y e) ts n is at ∙
-      regroup (words_of_output o) (words_of_outputs os) (words_of_group g) (words_of_groups gs) (words_of_where w) (words_of_order y ++ words_of_ending e) (t_key From f);
+  split = after-select (ordered_select no_explain (select_from k o os f g gs w) y v e) ts n is at ∙
+      regroup (words_of_output o) (words_of_outputs os) (words_of_group g) (words_of_groups gs) (words_of_where w) (words_of_order y ++ (words_of_window v ++ words_of_ending e)) (t_key From f);
   means = λ c start. refl;
 }
-parted (ordered_select (explain t) (select_from k o os f g gs w) y e) ts n is at = record {
+parted (ordered_select (explain t) (select_from k o os f g gs w) y v e) ts n is at = record {
   first = o;
   more = os;
   from_at = f;
@@ -75,9 +77,10 @@ parted (ordered_select (explain t) (select_from k o os f g gs w) y e) ts n is at
   groups = gs;
   condition = w;
   order = y;
+  window = v;
   ending = e;
-  split = after-select (ordered_select (explain t) (select_from k o os f g gs w) y e) ts n is at ∙
-      regroup (words_of_output o) (words_of_outputs os) (words_of_group g) (words_of_groups gs) (words_of_where w) (words_of_order y ++ words_of_ending e) (t_key From f);
+  split = after-select (ordered_select (explain t) (select_from k o os f g gs w) y v e) ts n is at ∙
+      regroup (words_of_output o) (words_of_outputs os) (words_of_group g) (words_of_groups gs) (words_of_where w) (words_of_order y ++ (words_of_window v ++ words_of_ending e)) (t_key From f);
   means = λ c start. refl;
 }
 
@@ -92,16 +95,20 @@ pub words-named : (text : List ℕ) (tokens : List Token) (first : ℕ) (old lef
 words-named text tokens first old left is skipped named =
     subst AreNamed (sym (skipped ∙ ap (drop 1) (is ∙ sym (drop-map (terminal_of text) first tokens)))) (left-named 1 (drop first (terminals text tokens)) (left-named first (terminals text tokens) named))
 
--- what stands behind WHERE goes on no condition, and what stands behind ORDER BY ends the statement
+-- what stands behind WHERE goes on no condition, and what stands behind ORDER BY is a window and the statement's end
 pub ends-where : (y : OrderBy) (rest : List Terminal) → ends_order rest ≡ true → ends_where (words_of_order y ++ rest) ≡ true
+ends-where no_order (t_key LimitKey t ∷ rest) ends = refl
+ends-where no_order (t_key OffsetKey t ∷ rest) ends = refl
 ends-where no_order (t_semicolon t ∷ rest) ends = refl
 ends-where no_order (t_end t ∷ rest) ends = refl
 ends-where no_order _ ends = absurd (cc (ends))
 ends-where (order_by k b o os) rest ends = refl
 
-pub ends-all : (e : Ending) → ends_order (words_of_ending e) ≡ true
-ends-all (semicolon t) = refl
-ends-all (text_end t) = refl
+pub ends-all : (v : Window) (e : Ending) → ends_order (words_of_window v ++ words_of_ending e) ≡ true
+ends-all (window (most_rows p k n) o) e = refl
+ends-all (window no_limit (skipped_rows p k n)) e = refl
+ends-all (window no_limit no_offset) (semicolon t) = refl
+ends-all (window no_limit no_offset) (text_end t) = refl
 
 -- a SELECT may be read and may be refused
 pub grammatical : (text : List ℕ) (tokens : List Token) (r : Result Query Refusal) → AreSelect text tokens → IsGrammatical text tokens r

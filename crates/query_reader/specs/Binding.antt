@@ -112,4 +112,4 @@ bound_from c start items groups condition order = next (with_groups (nothing_joi
 
 -- what a SELECT with its order means, in a statement that begins at this token
 abbrev pub bound : Contents → Token → OrderedSelect → Result Bound Fault
-bound c start (ordered_select _ (select_from _ o os _ g gs w) y _) = bound_from c start (item_of o ∷ items_of os) (g ∷ groups_after gs) w y
+bound c start (ordered_select _ (select_from _ o os _ g gs w) y _ _) = bound_from c start (item_of o ∷ items_of os) (g ∷ groups_after gs) w y

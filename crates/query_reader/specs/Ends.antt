@@ -2,7 +2,7 @@
 use Rattle.std.specs.Prelude.{List, ◌∷◌, Bool, true, false, not, ◌&&◌}
 use Rattle.sql_grammar.specs.Terminals.{Terminal, free, t_key, t_mark, t_name, t_semicolon, t_end}
 use Rattle.sql_grammar.specs.Unique.{ends_expr}
-use Rattle.sql_grammar.specs.declared.class.Word.TheVariants.{As, Asc, Desc, Order, Where}
+use Rattle.sql_grammar.specs.declared.class.Word.TheVariants.{As, Asc, Desc, Limit, Offset, Order, Where}
 use Rattle.sql_grammar.specs.declared.class.Free.TheVariants.{Nulls}
 use Rattle.sql_grammar.specs.declared.class.Symbol.TheVariants.{Comma, Dot}
 
@@ -21,6 +21,8 @@ ends_alias _ = true
 abbrev pub ends_from : List Terminal → Bool
 ends_from (t_key Where _ ∷ _) = true
 ends_from (t_key Order _ ∷ _) = true
+ends_from (t_key Limit _ ∷ _) = true
+ends_from (t_key Offset _ ∷ _) = true
 ends_from (t_semicolon _ ∷ _) = true
 ends_from (t_end _ ∷ _) = true
 ends_from _ = false
@@ -47,8 +49,10 @@ ends_ordering (t_key Desc _ ∷ _) = false
 ends_ordering (t_name (free Nulls _) ∷ _) = false
 ends_ordering _ = true
 
--- the word that ends a statement stands next
+-- a word that stands behind an order is next: LIMIT, OFFSET, or the one that ends the statement
 abbrev pub ends_order : List Terminal → Bool
+ends_order (t_key Limit _ ∷ _) = true
+ends_order (t_key Offset _ ∷ _) = true
 ends_order (t_semicolon _ ∷ _) = true
 ends_order (t_end _ ∷ _) = true
 ends_order _ = false

@@ -6,11 +6,11 @@ use Rattle.sql_grammar.specs.declared.class.Word.TheVariants.{Create, Is}
 use Rattle.sql_grammar.specs.declared.class.Free.TheVariants.{Nulls as NullsWord, Statistics}
 use Rattle.sql_grammar.specs.declared.class.Symbol.TheVariants.{Close, Dot}
 use Rattle.sql_grammar.specs.declared.table.Item.{Item}
-use Rattle.sql_grammar.specs.declared.table.Item.TheVariants.{Keyword, Sign, FreeWord, Label, Digits, QuotedText, Whole, Ends, Stop, Query, Nullness, MoreColumns, Result, MoreResults, AfterResult, StarOrLabel, MaybeAlias, MoreJoins, MoreGroups, MaybeWhere, Figures, MaybeCommon, MoreShares, MaybeHistogram, MoreBounds, Literal, Negation, MoreAnds, MoreOrs, Closes, NotEnds, AfterName, AfterColumn, AfterIs, AfterLiteral, AfterTruth, Side, AfterQualifier, MaybeOrder, MoreOrderings, MaybeDirection, MaybeNulls, FirstOrLast, AfterCreate, MaybeUsing, MaybeClass, MoreKeys, MaybeInclude, MoreNames}
+use Rattle.sql_grammar.specs.declared.table.Item.TheVariants.{Keyword, Sign, FreeWord, Label, Digits, QuotedText, Whole, Ends, Stop, Query, Nullness, MoreColumns, Result, MoreResults, AfterResult, StarOrLabel, MaybeAlias, MoreJoins, MoreGroups, MaybeWhere, Figures, MaybeCommon, MoreShares, MaybeHistogram, MoreBounds, Literal, Negation, MoreAnds, MoreOrs, Closes, NotEnds, AfterName, AfterColumn, AfterIs, AfterLiteral, AfterTruth, Side, AfterQualifier, MaybeOrder, MoreOrderings, MaybeLimit, MaybeOffset, MaybeDirection, MaybeNulls, FirstOrLast, AfterCreate, MaybeUsing, MaybeClass, MoreKeys, MaybeInclude, MoreNames}
 use Rattle.sql_grammar.specs.Syntax.{Key, Mark, Col, Constant, Lit, constant, Operand, Ors, Ands, Neg, Atom, Nulls, ColDef, Output, Alias, Join, Group, Where, Select, Share, Common, Histogram, Ending, Statement}
 use Rattle.sql_grammar.specs.Words.{words_of, words_of_col, words_of_lit, words_of_operand, words_of_ors, words_of_ands, words_of_neg, words_of_atom, words_of_nulls, words_of_columns, words_of_output, words_of_outputs, words_of_alias, words_of_joins, words_of_groups, words_of_where, words_of_select, words_of_common, words_of_shares, words_of_histogram, words_of_bounds, words_of_ending, levels_of, levels_of_joins, levels_of_groups, levels_of_where, levels_of_select, levels_of_ors, levels_of_ands, levels_of_neg, levels_of_atom}
-use Rattle.sql_grammar.specs.Syntax.{Direction, NullsEnd, Ordering, OrderBy}
-use Rattle.sql_grammar.specs.Words.{words_of_direction, words_of_nulls_end, words_of_orderings, words_of_order}
+use Rattle.sql_grammar.specs.Syntax.{Direction, NullsEnd, Ordering, OrderBy, Limit, Offset}
+use Rattle.sql_grammar.specs.Words.{words_of_direction, words_of_nulls_end, words_of_orderings, words_of_order, words_of_limit, words_of_offset}
 use Rattle.sql_grammar.specs.Syntax.{OpClass, IndexKey, Using, Include}
 use Rattle.sql_grammar.specs.Words.{words_of_class, words_of_keys, words_of_using, words_of_names, words_of_include}
 use Rattle.sql_grammar.specs.Machine.{depth_of}
@@ -65,6 +65,8 @@ Part limit depth MoreBounds = List (Mark × Lit) × Mark
 Part limit depth Literal = Lit
 Part limit depth MaybeOrder = OrderBy
 Part limit depth MoreOrderings = List (Mark × Ordering)
+Part limit depth MaybeLimit = Limit
+Part limit depth MaybeOffset = Offset
 Part limit depth MaybeDirection = Direction
 Part limit depth MaybeNulls = NullsEnd
 Part limit depth FirstOrLast = (ts : List Terminal) × ((k : Token) → (n : NullsEnd) × (words_of_nulls_end n ≡ t_name (free NullsWord k) ∷ ts))
@@ -117,6 +119,8 @@ words_of_part limit depth MoreBounds p = words_of_bounds p.0 ++ t_mark Close p.1
 words_of_part limit depth Literal p = words_of_lit p
 words_of_part limit depth MaybeOrder p = words_of_order p
 words_of_part limit depth MoreOrderings p = words_of_orderings p
+words_of_part limit depth MaybeLimit p = words_of_limit p
+words_of_part limit depth MaybeOffset p = words_of_offset p
 words_of_part limit depth MaybeDirection p = words_of_direction p
 words_of_part limit depth MaybeNulls p = words_of_nulls_end p
 words_of_part limit depth FirstOrLast p = p.0

@@ -2,17 +2,18 @@
 use Rattle.std.proofs.Common.{◌≡◌, ℕ, ◌≤◌, true, List, [], ◌∷◌, ◌++◌, refl, ◌∙◌, arith}
 use Rattle.sql_grammar.specs.Terminals.{Terminal, Ident, free, t_mark, t_name}
 use Rattle.sql_grammar.specs.declared.class.Free.TheVariants.{Nulls}
+use Rattle.sql_grammar.specs.declared.class.Word.TheVariants.{On}
 use Rattle.sql_grammar.specs.declared.class.Symbol.TheVariants.{Open, Close}
 use Rattle.sql_grammar.specs.declared.table.Item.{Item}
-use Rattle.sql_grammar.specs.declared.table.Item.TheVariants.{Sign, Label, Ends, MaybeWhere, MaybeDirection, MaybeNulls, Whole, MaybeUsing, MaybeClass, MoreKeys, MaybeInclude, MoreNames}
+use Rattle.sql_grammar.specs.declared.table.Item.TheVariants.{Keyword, Sign, Label, Ends, MaybeWhere, MaybeDirection, MaybeNulls, Whole, MaybeUsing, MaybeClass, MoreKeys, MaybeInclude, MoreNames}
 use Rattle.sql_grammar.specs.Syntax.{Mark, Where, no_where, where_expr, Ending, semicolon, text_end}
-use Rattle.sql_grammar.specs.Words.{words_of_where, words_of_ending}
+use Rattle.sql_grammar.specs.Words.{words_of_where, words_of_ending, levels_of_where}
 use Rattle.sql_grammar.specs.Syntax.{Direction, no_direction, ascending, descending, NullsEnd, no_nulls_end, nulls_first, nulls_last}
 use Rattle.sql_grammar.specs.Words.{words_of_direction, words_of_nulls_end}
-use Rattle.sql_grammar.specs.Syntax.{IsClassName, no_class, op_class, IndexKey, index_key, Using, no_using, using_method, Include, no_include, include_columns, CreateIndex, index_on}
-use Rattle.sql_grammar.specs.Words.{words_of_key, words_of_keys, words_of_using, words_of_names, words_of_include, words_of_index, levels_of_index}
+use Rattle.sql_grammar.specs.Syntax.{IsClassName, no_class, op_class, IndexKey, index_key, Using, no_using, using_method, Include, no_include, include_columns, CreateIndex, index_on, Cand, cand_on}
+use Rattle.sql_grammar.specs.Words.{words_of_key, words_of_keys, words_of_using, words_of_names, words_of_include, words_of_index, words_of_cand, levels_of_index, levels_of_cand}
 use Rattle.sql_grammar.specs.Machine.{takes_all}
-use Rattle.sql_grammar.proofs.Complete.{Passes, skip, apart, condition, ending, after-query}
+use Rattle.sql_grammar.proofs.Complete.{Passes, skip, apart, alone, condition, ending, after-query}
 use Rattle.sql_grammar.proofs.OrderComplete.{sorted}
 
 -- what follows a key
@@ -36,6 +37,10 @@ after-include : (w : Where) (e : Ending) → Passes MaybeInclude (words_of_where
 after-include no_where (semicolon t) = refl
 after-include no_where (text_end t) = refl
 after-include (where_expr k c) e = refl
+
+include-last : (w : Where) → Passes MaybeInclude (words_of_where w)
+include-last no_where = tt
+include-last (where_expr k e) = refl
 
 module _ (limit : ℕ) where
   named : (n : Ident) → IsClassName n → (s : List Item) (ts : List Terminal) → takes_all limit (t_name n ∷ ts) (MaybeClass ∷ s) ≡ takes_all limit ts s
@@ -76,3 +81,15 @@ module _ (limit : ℕ) where
       (keys x xs m (MaybeInclude ∷ MaybeWhere ∷ Ends ∷ []) (words_of_include c ++ (words_of_where w ++ words_of_ending e)) ∙
       (include c (MaybeWhere ∷ Ends ∷ []) (words_of_where w ++ words_of_ending e) (after-include w e) ∙
       (condition limit w (Ends ∷ []) (words_of_ending e) (omega (arith, low)) (after-query limit e) ∙ ending limit e)))
+
+  condition-alone : (w : Where) → levels_of_where w ≤ limit → takes_all limit (words_of_where w) (MaybeWhere ∷ []) ≡ true
+  condition-alone no_where low = refl
+  condition-alone (where_expr k e) low = alone limit e low
+
+  pub cand : (x : Cand) → levels_of_cand x ≤ limit →
+      takes_all limit (words_of_cand x) (Label ∷ Keyword On ∷ Label ∷ MaybeUsing ∷ Sign Open ∷ Label ∷ MaybeClass ∷ MaybeDirection ∷ MaybeNulls ∷ MoreKeys ∷ MaybeInclude ∷ MaybeWhere ∷ []) ≡ true
+  cand (cand_on n o t u p x xs m c w) low =
+      using u p (Label ∷ MaybeClass ∷ MaybeDirection ∷ MaybeNulls ∷ MoreKeys ∷ MaybeInclude ∷ MaybeWhere ∷ [])
+      (words_of_key x ++ (words_of_keys xs ++ t_mark Close m ∷ (words_of_include c ++ words_of_where w))) ∙
+      (keys x xs m (MaybeInclude ∷ MaybeWhere ∷ []) (words_of_include c ++ words_of_where w) ∙
+      (include c (MaybeWhere ∷ []) (words_of_where w) (include-last w) ∙ condition-alone w low))

@@ -2,16 +2,19 @@ pub mod Codes
 pub mod Forest
 pub mod FromRules
 pub mod OrderRules
+pub mod WindowRules
 pub mod IndexRules
 pub mod Rules
 pub mod Sound
 pub mod RoomTests
 pub mod FromRoom
 pub mod OrderRoom
+pub mod WindowRoom
 pub mod IndexRoom
 pub mod Room
 pub mod Complete
 pub mod FromComplete
+pub mod WindowComplete
 pub mod OrderComplete
 pub mod IndexComplete
 pub mod StatementComplete
@@ -25,6 +28,7 @@ pub mod ListLemmas
 pub mod StatisticsLemmas
 pub mod Trees
 pub mod FromTrees
+pub mod WindowTrees
 pub mod OrderTrees
 pub mod IndexTrees
 pub mod StatementTrees

@@ -2,13 +2,14 @@
 use Rattle.std.proofs.Common.{◌≡◌, ℕ, ◌≤◌, true, List, [], ◌∷◌, ◌++◌, refl, ◌∙◌, arith}
 use Rattle.sql_grammar.specs.Terminals.{Terminal}
 use Rattle.sql_grammar.specs.declared.table.Item.{Item}
-use Rattle.sql_grammar.specs.declared.table.Item.TheVariants.{Label, Ends, Query, AfterQualifier, MaybeDirection, MaybeNulls, Whole, MaybeOrder, MoreOrderings}
-use Rattle.sql_grammar.specs.Syntax.{Mark, bare, qualified, Select, select_from, Ending, semicolon, text_end}
-use Rattle.sql_grammar.specs.Words.{words_of_select, words_of_ending}
+use Rattle.sql_grammar.specs.declared.table.Item.TheVariants.{Label, Ends, Query, AfterQualifier, MaybeDirection, MaybeNulls, Whole, MaybeOrder, MoreOrderings, MaybeLimit, MaybeOffset}
+use Rattle.sql_grammar.specs.Syntax.{Mark, bare, qualified, Select, select_from, Ending, Window}
+use Rattle.sql_grammar.specs.Words.{words_of_select, words_of_window, words_of_ending}
 use Rattle.sql_grammar.specs.Syntax.{Direction, no_direction, ascending, descending, NullsEnd, no_nulls_end, nulls_first, nulls_last, Ordering, ordering, OrderBy, no_order, order_by, no_explain, explain, OrderedSelect, ordered_select}
 use Rattle.sql_grammar.specs.Words.{words_of_direction, words_of_nulls_end, words_of_ordering, words_of_orderings, words_of_order, words_of_ordered, levels_of_ordered}
 use Rattle.sql_grammar.specs.Machine.{takes_all}
-use Rattle.sql_grammar.proofs.Complete.{Passes, EndsSelect, skip, apart, ending, after-query}
+use Rattle.sql_grammar.proofs.Complete.{Passes, EndsSelect, skip, apart, ending}
+use Rattle.sql_grammar.proofs.WindowComplete.{EndsOrder, window-order, windowed}
 use Rattle.sql_grammar.proofs.FromComplete.{selected}
 
 -- what follows a column of an order
@@ -59,27 +60,27 @@ module _ (limit : ℕ) where
       one o (MoreOrderings ∷ s) (words_of_orderings ((m, u) ∷ os) ++ ts) (record { qualifier = refl; direction = refl; nulls = refl }) ∙
       (apart limit (words_of_ordering u) (words_of_orderings os) ts (Label ∷ AfterQualifier ∷ MaybeDirection ∷ MaybeNulls ∷ MoreOrderings ∷ s) ∙ all u os s ts p q)
 
-  order : (y : OrderBy) (e : Ending) (s : List Item) → takes_all limit (words_of_order y ++ words_of_ending e) (MaybeOrder ∷ s) ≡ takes_all limit (words_of_ending e) s
-  order no_order (semicolon t) s = refl
-  order no_order (text_end t) s = refl
-  order (order_by k b o os) (semicolon t) s =
-      apart limit (words_of_ordering o) (words_of_orderings os) (words_of_ending (semicolon t)) (Label ∷ AfterQualifier ∷ MaybeDirection ∷ MaybeNulls ∷ MoreOrderings ∷ s) ∙
-      all o os s (words_of_ending (semicolon t)) (record { qualifier = refl; direction = refl; nulls = refl }) refl
-  order (order_by k b o os) (text_end t) s =
-      apart limit (words_of_ordering o) (words_of_orderings os) (words_of_ending (text_end t)) (Label ∷ AfterQualifier ∷ MaybeDirection ∷ MaybeNulls ∷ MoreOrderings ∷ s) ∙
-      all o os s (words_of_ending (text_end t)) (record { qualifier = refl; direction = refl; nulls = refl }) refl
+  order : (y : OrderBy) (s : List Item) (ts : List Terminal) → EndsOrder ts → takes_all limit (words_of_order y ++ ts) (MaybeOrder ∷ s) ≡ takes_all limit ts s
+  order no_order s ts p = skip limit MaybeOrder s ts refl p.none
+  order (order_by k b o os) s ts p =
+      apart limit (words_of_ordering o) (words_of_orderings os) ts (Label ∷ AfterQualifier ∷ MaybeDirection ∷ MaybeNulls ∷ MoreOrderings ∷ s) ∙
+      all o os s ts (record { qualifier = p.qualifier; direction = p.direction; nulls = p.nulls }) p.more
 
-  after-select : (y : OrderBy) (e : Ending) → EndsSelect (words_of_order y ++ words_of_ending e)
-  after-select no_order e = after-query limit e
-  after-select (order_by k b o os) e = record { alias = refl; joins = refl; groups = refl; condition = refl; expr = record { conj = record { atom = refl; ands = refl }; ors = refl } }
+  after-select : (y : OrderBy) (ts : List Terminal) → EndsOrder ts → EndsSelect (words_of_order y ++ ts)
+  after-select no_order ts p = p.select
+  after-select (order_by k b o os) ts p = record { alias = refl; joins = refl; groups = refl; condition = refl; expr = record { conj = record { atom = refl; ands = refl }; ors = refl } }
 
-  opened : (q : Select) (ts : List Terminal) → takes_all limit (words_of_select q ++ ts) (Whole ∷ []) ≡ takes_all limit (words_of_select q ++ ts) (Query ∷ MaybeOrder ∷ Ends ∷ [])
+  opened : (q : Select) (ts : List Terminal) →
+      takes_all limit (words_of_select q ++ ts) (Whole ∷ []) ≡ takes_all limit (words_of_select q ++ ts) (Query ∷ MaybeOrder ∷ MaybeLimit ∷ MaybeOffset ∷ Ends ∷ [])
   opened (select_from k o os f g gs w) ts = refl
 
-  rest : (q : Select) (y : OrderBy) (e : Ending) → levels_of_ordered (ordered_select no_explain q y e) ≤ limit →
-      takes_all limit (words_of_select q ++ (words_of_order y ++ words_of_ending e)) (Query ∷ MaybeOrder ∷ Ends ∷ []) ≡ true
-  rest q y e low = selected limit q (MaybeOrder ∷ Ends ∷ []) (words_of_order y ++ words_of_ending e) (omega (arith, low)) (after-select y e) ∙ (order y e (Ends ∷ []) ∙ ending limit e)
+  rest : (q : Select) (y : OrderBy) (v : Window) (e : Ending) → levels_of_ordered (ordered_select no_explain q y v e) ≤ limit →
+      takes_all limit (words_of_select q ++ (words_of_order y ++ (words_of_window v ++ words_of_ending e))) (Query ∷ MaybeOrder ∷ MaybeLimit ∷ MaybeOffset ∷ Ends ∷ []) ≡ true
+  rest q y v e low =
+      let last : List Terminal = words_of_window v ++ words_of_ending e in
+      selected limit q (MaybeOrder ∷ MaybeLimit ∷ MaybeOffset ∷ Ends ∷ []) (words_of_order y ++ last) (omega (arith, low)) (after-select y last (window-order v e)) ∙
+      (order y (MaybeLimit ∷ MaybeOffset ∷ Ends ∷ []) last (window-order v e) ∙ (windowed limit v e (Ends ∷ []) ∙ ending limit e))
 
   pub ordered : (x : OrderedSelect) → levels_of_ordered x ≤ limit → takes_all limit (words_of_ordered x) (Whole ∷ []) ≡ true
-  ordered (ordered_select no_explain q y e) low = opened q (words_of_order y ++ words_of_ending e) ∙ rest q y e low
-  ordered (ordered_select (explain k) q y e) low = rest q y e low
+  ordered (ordered_select no_explain q y v e) low = opened q (words_of_order y ++ (words_of_window v ++ words_of_ending e)) ∙ rest q y v e low
+  ordered (ordered_select (explain k) q y v e) low = rest q y v e low

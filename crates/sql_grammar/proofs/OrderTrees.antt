@@ -5,13 +5,14 @@ use Rattle.sql_grammar.specs.declared.class.Word.TheVariants.{Asc, Desc, Order}
 use Rattle.sql_grammar.specs.declared.class.Free.TheVariants.{Nulls}
 use Rattle.sql_grammar.specs.declared.class.Symbol.TheVariants.{Comma, Dot}
 use Rattle.sql_grammar.specs.Terminals.{Terminal, free, t_key, t_mark, t_name}
-use Rattle.sql_grammar.specs.Syntax.{Mark, Col, column, Select, select_from, Ending, semicolon, text_end}
+use Rattle.sql_grammar.specs.Syntax.{Mark, Col, column, Select, select_from, no_limit, most_rows, no_offset, skipped_rows, Window, window, Ending, semicolon, text_end}
 use Rattle.sql_grammar.specs.Syntax.{Direction, no_direction, ascending, descending, NullsEnd, no_nulls_end, nulls_first, nulls_last, Ordering, ordering, OrderBy, no_order, order_by, no_explain, explain, OrderedSelect, ordered_select}
 use Rattle.sql_grammar.specs.Unique.{ends_operand}
-use Rattle.sql_grammar.specs.Words.{words_of_col, words_of_select, words_of_ending}
+use Rattle.sql_grammar.specs.Words.{words_of_col, words_of_select, words_of_window, words_of_ending}
 use Rattle.sql_grammar.specs.Words.{words_of_direction, words_of_nulls_end, words_of_ordering, words_of_orderings, words_of_order, words_of_ordered}
 use Rattle.sql_grammar.proofs.ExprTrees.{one_operand, tested}
-use Rattle.sql_grammar.proofs.Trees.{ends_select, ending-select, one_ending}
+use Rattle.sql_grammar.proofs.Trees.{ends_select}
+use Rattle.sql_grammar.proofs.WindowTrees.{one_window}
 use Rattle.sql_grammar.proofs.FromTrees.{one_select}
 
 -- neither ASC nor DESC is next
@@ -137,46 +138,56 @@ one_orderings ((m, o) ∷ os) ((n, u) ∷ us) x y h k e =
     let (others, rest) = one_orderings os us x y h k more in
     (cc (comma, first, others), rest)
 
-ending-order : (e : Ending) → ends_order (words_of_ending e) ≡ true
-ending-order (semicolon t) = refl
-ending-order (text_end t) = refl
-
 -- no ORDER is next
 abbrev orderless : List Terminal → Bool
 orderless (t_key Order _ ∷ _) = false
 orderless _ = true
 
-ending-orderless : (e : Ending) → orderless (words_of_ending e) ≡ true
-ending-orderless (semicolon t) = refl
-ending-orderless (text_end t) = refl
+-- what may stand behind an order
+record EndsOrder (x : List Terminal) : Type 0 where
+  order : ends_order x ≡ true
+  none : orderless x ≡ true
+  select : ends_select x ≡ true
 
-one_order : (a b : OrderBy) (e f : Ending) → words_of_order a ++ words_of_ending e ≡ words_of_order b ++ words_of_ending f → (a ≡ b) × (e ≡ f)
-one_order no_order no_order e f h = (refl, one_ending e f h)
-one_order no_order (order_by j b u us) e f h = absurd (tested orderless (words_of_ending e) (words_of_order (order_by j b u us) ++ words_of_ending f) (ending-orderless e) refl h)
-one_order (order_by i b o os) no_order e f h = absurd (tested orderless (words_of_ending f) (words_of_order (order_by i b o os) ++ words_of_ending e) (ending-orderless f) refl (sym h))
-one_order (order_by i b o os) (order_by j c u us) e f h =
+window-ends : (w : Window) (e : Ending) → EndsOrder (words_of_window w ++ words_of_ending e)
+window-ends (window (most_rows p k n) o) e = record { order = refl; none = refl; select = refl }
+window-ends (window no_limit (skipped_rows p k n)) e = record { order = refl; none = refl; select = refl }
+window-ends (window no_limit no_offset) (semicolon t) = record { order = refl; none = refl; select = refl }
+window-ends (window no_limit no_offset) (text_end t) = record { order = refl; none = refl; select = refl }
+
+one_order : (a b : OrderBy) (x y : List Terminal) → EndsOrder x → EndsOrder y → words_of_order a ++ x ≡ words_of_order b ++ y → (a ≡ b) × (x ≡ y)
+one_order no_order no_order x y p q h = (refl, h)
+one_order no_order (order_by j b u us) x y p q h = absurd (tested orderless x (words_of_order (order_by j b u us) ++ y) p.none refl h)
+one_order (order_by i b o os) no_order x y p q h = absurd (tested orderless y (words_of_order (order_by i b o os) ++ x) q.none refl (sym h))
+one_order (order_by i b o os) (order_by j c u us) x y p q h =
     let key : i ≡ j = cc (h) in
     let word : b ≡ c = cc (h) in
-    let (first, more) = one_ordering o u (words_of_orderings os ++ words_of_ending e) (words_of_orderings us ++ words_of_ending f) (more-ends os (words_of_ending e) (ending-order e)) (more-ends us (words_of_ending f) (ending-order f))
-    (sym (append_assoc (words_of_ordering o) (words_of_orderings os) (words_of_ending e)) ∙ (ap (drop 2) h ∙ append_assoc (words_of_ordering u) (words_of_orderings us) (words_of_ending f))) in
-    let (others, last) = one_orderings os us (words_of_ending e) (words_of_ending f) (ending-order e) (ending-order f) more in
-    (cc (key, word, first, others), one_ending e f last)
+    let (first, more) = one_ordering o u (words_of_orderings os ++ x) (words_of_orderings us ++ y) (more-ends os x p.order) (more-ends us y q.order)
+    (sym (append_assoc (words_of_ordering o) (words_of_orderings os) x) ∙ (ap (drop 2) h ∙ append_assoc (words_of_ordering u) (words_of_orderings us) y)) in
+    let (others, last) = one_orderings os us x y p.order q.order more in
+    (cc (key, word, first, others), last)
 
-order-select : (a : OrderBy) (e : Ending) → ends_select (words_of_order a ++ words_of_ending e) ≡ true
-order-select no_order e = ending-select e
-order-select (order_by k b o os) e = refl
+order-select : (a : OrderBy) (x : List Terminal) → EndsOrder x → ends_select (words_of_order a ++ x) ≡ true
+order-select no_order x p = p.select
+order-select (order_by k b o os) x p = refl
 
-one_rest : (p q : Select) (a b : OrderBy) (e f : Ending) → words_of_select p ++ (words_of_order a ++ words_of_ending e) ≡ words_of_select q ++ (words_of_order b ++ words_of_ending f) → (p ≡ q) × (a ≡ b) × (e ≡ f)
-one_rest p q a b e f h =
-    let (first, more) = one_select p q (words_of_order a ++ words_of_ending e) (words_of_order b ++ words_of_ending f) (order-select a e) (order-select b f) h in
-    let (order, end) = one_order a b e f more in
-    (first, order, end)
+-- a window and an end
+abbrev behind : Window → Ending → List Terminal
+behind w e = words_of_window w ++ words_of_ending e
+
+one_rest : (p q : Select) (a b : OrderBy) (v w : Window) (e f : Ending) → words_of_select p ++ (words_of_order a ++ behind v e) ≡ words_of_select q ++ (words_of_order b ++ behind w f) →
+    (p ≡ q) × (a ≡ b) × (v ≡ w) × (e ≡ f)
+one_rest p q a b v w e f h =
+    let (first, more) = one_select p q (words_of_order a ++ behind v e) (words_of_order b ++ behind w f) (order-select a (behind v e) (window-ends v e)) (order-select b (behind w f) (window-ends w f)) h in
+    let (order, rest) = one_order a b (behind v e) (behind w f) (window-ends v e) (window-ends w f) more in
+    let (rows, end) = one_window v w e f rest in
+    (first, order, rows, end)
 
 pub one_ordered : (x y : OrderedSelect) → words_of_ordered x ≡ words_of_ordered y → x ≡ y
-one_ordered (ordered_select no_explain p a e) (ordered_select no_explain q b f) h = let (first, order, end) = one_rest p q a b e f h in cc (first, order, end)
-one_ordered (ordered_select no_explain (select_from k o os i g gs w) a e) (ordered_select (explain j) q b f) h = absurd (cc)
-one_ordered (ordered_select (explain i) p a e) (ordered_select no_explain (select_from k o os j g gs w) b f) h = absurd (cc)
-one_ordered (ordered_select (explain i) p a e) (ordered_select (explain j) q b f) h =
+one_ordered (ordered_select no_explain p a v e) (ordered_select no_explain q b w f) h = let (first, order, rows, end) = one_rest p q a b v w e f h in cc (first, order, rows, end)
+one_ordered (ordered_select no_explain (select_from k o os i g gs c) a v e) (ordered_select (explain j) q b w f) h = absurd (cc)
+one_ordered (ordered_select (explain i) p a v e) (ordered_select no_explain (select_from k o os j g gs c) b w f) h = absurd (cc)
+one_ordered (ordered_select (explain i) p a v e) (ordered_select (explain j) q b w f) h =
     let word : i ≡ j = cc (h) in
-    let (first, order, end) = one_rest p q a b e f (ap (drop 1) h) in
-    cc (word, first, order, end)
+    let (first, order, rows, end) = one_rest p q a b v w e f (ap (drop 1) h) in
+    cc (word, first, order, rows, end)

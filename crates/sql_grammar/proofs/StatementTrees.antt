@@ -1,12 +1,14 @@
 -- A list of words is spelled by one statement.
 use Rattle.std.proofs.Common.{◌≡◌, ℕ, true, List, ◌∷◌, ◌++◌, drop, refl, sym, ap, ◌∙◌, arith}
 use Rattle.sql_grammar.specs.declared.class.Word.TheVariants.{Create, Select}
-use Rattle.sql_grammar.specs.declared.class.Free.TheVariants.{Copy, Explain, Statistics}
+use Rattle.sql_grammar.specs.declared.class.Free.TheVariants.{Analyze, Copy, Explain, Statistics}
+use Rattle.sql_grammar.specs.declared.offered.TheConstants.{READS_ANALYZE}
 use Rattle.sql_grammar.specs.Terminals.{Terminal, free, t_key, t_mark, t_name}
-use Rattle.sql_grammar.specs.Syntax.{CopyWords, SizesWords, ColumnWords, Histogram, no_histogram, histogram, select_from, Ending, semicolon, text_end, no_explain, explain, ordered_select, index_on, Statement, empty, create_table, create_index, query, copy, sizes, column_statistics}
+use Rattle.sql_grammar.specs.Syntax.{CopyWords, SizesWords, ColumnWords, Histogram, no_histogram, histogram, select_from, Ending, semicolon, text_end, no_explain, explain, ordered_select, index_on, Statement, empty, create_table, create_index, query, copy, sizes, column_statistics, analyze}
 use Rattle.sql_grammar.specs.Words.{words_of_histogram, words_of_ending, words_of}
 use Rattle.sql_grammar.proofs.StatisticsLemmas.{ends_common, ends_histogram, one_common, one_histogram}
 use Rattle.sql_grammar.proofs.Trees.{one_ending, one_table}
+use Rattle.sql_grammar.proofs.WindowTrees.{one_offered}
 use Rattle.sql_grammar.proofs.OrderTrees.{one_ordered}
 use Rattle.sql_grammar.proofs.IndexTrees.{one_index}
 
@@ -19,6 +21,7 @@ kind_of (t_name (free Explain _) ∷ x) = 2
 kind_of (t_name (free Copy _) ∷ x) = 3
 kind_of (t_name (free Statistics _) ∷ _ ∷ t_mark _ _ ∷ x) = 5
 kind_of (t_name (free Statistics _) ∷ x) = 4
+kind_of (t_name (free Analyze _) ∷ x) = 7
 kind_of _ = 0
 
 abbrev kind : Statement → ℕ
@@ -29,17 +32,19 @@ kind (query x) = 2
 kind (copy k n null) = 3
 kind (sizes k n r p e) = 4
 kind (column_statistics k n c d z v h e) = 5
+kind (analyze p k n e) = 7
 
 kind-is : (x : Statement) → kind_of (words_of x) ≡ kind x
 kind-is (empty (semicolon t)) = refl
 kind-is (empty (text_end t)) = refl
 kind-is (create_table k t n o c cs m e) = refl
 kind-is (create_index (index_on k i n o t u p x xs m c w e)) = refl
-kind-is (query (ordered_select no_explain (select_from k o os f g gs w) y e)) = refl
-kind-is (query (ordered_select (explain x) q y e)) = refl
+kind-is (query (ordered_select no_explain (select_from k o os f g gs w) y v e)) = refl
+kind-is (query (ordered_select (explain x) q y v e)) = refl
 kind-is (copy k n null) = refl
 kind-is (sizes k n r p e) = refl
 kind-is (column_statistics k n c d z v h e) = refl
+kind-is (analyze p k n e) = refl
 
 same_kind : (x y : Statement) → words_of x ≡ words_of y → kind x ≡ kind y
 same_kind x y e = sym (kind-is x) ∙ (ap kind_of e ∙ kind-is y)
@@ -84,6 +89,12 @@ one_of (column_statistics i n a c x v g e) (column_statistics j m b d y w q f) k
     let end = one_ending e f last in
     let same : column_statistics (rebuilt_column i) n a c x v g e ≡ column_statistics (rebuilt_column j) m b d y w q f = cc (h, values, bounds, end) in
     same
+one_of (analyze p i n e) (analyze q j m f) k h =
+    let offered = one_offered READS_ANALYZE p q in
+    let word : i ≡ j = cc (h) in
+    let name : n ≡ m = cc (h) in
+    let end = one_ending e f (ap (drop 2) h) in
+    cc (offered, word, name, end)
 one_of _ _ k h = absurd (omega (arith, k))
 
 -- a list of words, each with its token, is spelled by one statement

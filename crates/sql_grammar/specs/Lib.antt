@@ -4,6 +4,7 @@ pub mod Words
 pub mod FromParts
 pub mod FromTable
 pub mod OrderTable
+pub mod WindowTable
 pub mod IndexTable
 pub mod Table
 pub mod Machine

@@ -9,7 +9,7 @@ use Rattle.sql_lex.specs.declared.tokens.Kind.TheVariants.{Word as WordKind, Num
 use Rattle.sql_grammar.specs.declared.class.Word.{Word}
 use Rattle.sql_grammar.specs.declared.class.Word.TheVariants.{And, As, Asc, Create, Cross, Desc, False, From, Group, Inner, Is, Join, Limit, Not, Null, Offset, On, Or, Order, Select, Table, True, Using, Where, With}
 use Rattle.sql_grammar.specs.declared.class.Free.{Free}
-use Rattle.sql_grammar.specs.declared.class.Free.TheVariants.{By, Common, Copy, Csv, Distinct, Explain, First, Format, Histogram, Include, Index, Last, Nulls, Pages, Rows, Statistics, Stdin}
+use Rattle.sql_grammar.specs.declared.class.Free.TheVariants.{Analyze, By, Common, Copy, Csv, Distinct, Explain, First, Format, Histogram, Include, Index, Last, Nulls, Pages, Rows, Statistics, Stdin}
 use Rattle.sql_grammar.specs.declared.class.Symbol.TheVariants.{Open, Close, Comma, Dot, Minus, Star}
 use Rattle.sql_grammar.specs.Terminals.{Ident, free, other, Terminal, t_key, t_mark, t_name, t_number, t_quoted, t_operator, t_semicolon, t_end, class_of}
 use Rattle.sql_grammar.specs.Table.{is_ending}
@@ -44,6 +44,7 @@ spelling_of With = 119 ∷ 105 ∷ 116 ∷ 104 ∷ []
 
 -- the words with a place of their own that may be names, in small letters
 abbrev pub free_spelling_of : Free → List ℕ
+free_spelling_of Analyze = 97 ∷ 110 ∷ 97 ∷ 108 ∷ 121 ∷ 122 ∷ 101 ∷ []
 free_spelling_of By = 98 ∷ 121 ∷ []
 free_spelling_of Common = 99 ∷ 111 ∷ 109 ∷ 109 ∷ 111 ∷ 110 ∷ []
 free_spelling_of Copy = 99 ∷ 111 ∷ 112 ∷ 121 ∷ []
@@ -68,7 +69,7 @@ reserved_words = And ∷ As ∷ Asc ∷ Create ∷ Cross ∷ Desc ∷ False ∷ 
 
 -- all words with a place of their own that may be names
 abbrev pub free_words : List Free
-free_words = By ∷ Common ∷ Copy ∷ Csv ∷ Distinct ∷ Explain ∷ First ∷ Format ∷ Histogram ∷ Include ∷ Index ∷ Last ∷ Nulls ∷ Pages ∷ Rows ∷ Statistics ∷ Stdin ∷ []
+free_words = Analyze ∷ By ∷ Common ∷ Copy ∷ Csv ∷ Distinct ∷ Explain ∷ First ∷ Format ∷ Histogram ∷ Include ∷ Index ∷ Last ∷ Nulls ∷ Pages ∷ Rows ∷ Statistics ∷ Stdin ∷ []
 
 -- the reserved word of this spelling
 abbrev pub reserved_of : List ℕ → Option Word

@@ -1,9 +1,10 @@
 -- The statements, as they are written, each word with its token: a type for each production, a case for each spelling that
 -- it allows
 -- (PostgreSQL manual, chapters SQL Syntax and SQL Commands, cut down to this program's statements).
-use Rattle.std.specs.Prelude.{List}
+use Rattle.std.specs.Prelude.{Bool, true, false, List}
 use Rattle.sql_lex.specs.declared.tokens.Token.{Token}
 use Rattle.sql_grammar.specs.declared.class.Free.TheVariants.{Nulls as NullsWord}
+use Rattle.sql_grammar.specs.declared.offered.TheConstants.{READS_ANALYZE, READS_WINDOW}
 use Rattle.sql_grammar.specs.Terminals.{Ident, Said, free}
 
 -- the token of a reserved word, and that of a symbol
@@ -12,6 +13,11 @@ Key = Token
 
 abbrev pub Mark : Type 0
 Mark = Token
+
+-- a production that a script may have so far (own)
+abbrev pub IsOffered : Bool → Type 0
+IsOffered true = Unit {0}
+IsOffered false = ⊥
 
 -- col = name ["." name]
 pub data Col : Type 0 where
@@ -144,14 +150,28 @@ pub data OrderBy : Type 0 where
   no_order : OrderBy
   order_by : Key → Token → Ordering → List (Mark × Ordering) → OrderBy
 
+-- [LIMIT number]
+pub data Limit : Type 0 where
+  no_limit : Limit
+  most_rows : IsOffered READS_WINDOW → Key → Said → Limit
+
+-- [OFFSET number]
+pub data Offset : Type 0 where
+  no_offset : Offset
+  skipped_rows : IsOffered READS_WINDOW → Key → Said → Offset
+
+-- window = [LIMIT number] [OFFSET number]
+pub data Window : Type 0 where
+  window : Limit → Offset → Window
+
 -- [EXPLAIN]
 pub data Explaining : Type 0 where
   no_explain : Explaining
   explain : Token → Explaining
 
--- ordered = [EXPLAIN] select [ORDER BY ord { "," ord }] end
+-- ordered = [EXPLAIN] select [ORDER BY ord { "," ord }] window end
 pub data OrderedSelect : Type 0 where
-  ordered_select : Explaining → Select → OrderBy → Ending → OrderedSelect
+  ordered_select : Explaining → Select → OrderBy → Window → Ending → OrderedSelect
 
 -- the name is not `nulls`: behind a key's column that word begins NULLS FIRST or NULLS LAST
 abbrev pub IsClassName : Ident → Type 0
@@ -180,6 +200,11 @@ pub data Include : Type 0 where
 -- index = CREATE INDEX name ON name [USING name] "(" key { "," key } ")" [INCLUDE "(" name { "," name } ")"] [WHERE expr] end
 pub data CreateIndex : Type 0 where
   index_on : Key → Token → Ident → Key → Ident → Using → Mark → IndexKey → List (Mark × IndexKey) → Mark → Include → Where → Ending → CreateIndex
+
+-- cand = name ON name [USING name] "(" key { "," key } ")" [INCLUDE "(" name { "," name } ")"] [WHERE expr]: CREATE INDEX without
+-- its first two words and its end
+pub data Cand : Type 0 where
+  cand_on : Ident → Key → Ident → Using → Mark → IndexKey → List (Mark × IndexKey) → Mark → Include → Where → Cand
 
 -- a common value and its share = lit number
 pub data Share : Type 0 where
@@ -227,6 +252,7 @@ pub record ColumnWords : Type 0 where
 --           | STATISTICS name ROWS number PAGES number end
 --           | STATISTICS name "." name DISTINCT number NULLS number [COMMON "(" lit number { "," lit number } ")"]
 --             [HISTOGRAM "(" lit { "," lit } ")"] end
+--           | ANALYZE name end
 pub data Statement : Type 0 where
   empty : Ending → Statement
   create_table : Key → Key → Ident → Mark → ColDef → List (Mark × ColDef) → Mark → Ending → Statement
@@ -235,3 +261,4 @@ pub data Statement : Type 0 where
   copy : CopyWords → Ident → Said → Statement
   sizes : SizesWords → Ident → Said → Said → Ending → Statement
   column_statistics : ColumnWords → Ident → Ident → Said → Said → Common → Histogram → Ending → Statement
+  analyze : IsOffered READS_ANALYZE → Token → Ident → Ending → Statement

@@ -1,7 +1,8 @@
 -- The table of the walk: the items that stand in an item's place after a token (own).
 use Rattle.std.specs.Prelude.{ℕ, Bool, true, false, List, [], ◌∷◌, Option, Some, None, cond, nat_eq}
-use Rattle.sql_grammar.specs.declared.class.Free.TheVariants.{By, Common, Copy, Csv, Distinct, Explain, First, Format, Histogram, Include, Index, Last, Nulls, Pages, Rows, Statistics, Stdin}
+use Rattle.sql_grammar.specs.declared.class.Free.TheVariants.{Analyze, By, Common, Copy, Csv, Distinct, Explain, First, Format, Histogram, Include, Index, Last, Nulls, Pages, Rows, Statistics, Stdin}
 use Rattle.sql_grammar.specs.declared.class.Free.{Free}
+use Rattle.sql_grammar.specs.declared.offered.TheConstants.{READS_ANALYZE}
 use Rattle.sql_grammar.specs.declared.class.Word.{Word}
 use Rattle.sql_grammar.specs.declared.class.Word.TheVariants.{And, As, Asc, Create, Cross, Desc, False, From, Group, Inner, Is, Join, Limit, Not, Null, Offset, On, Or, Order, Select, Table, True, Using, Where, With}
 use Rattle.sql_grammar.specs.declared.class.Symbol.{Symbol}
@@ -9,9 +10,10 @@ use Rattle.sql_grammar.specs.declared.class.Symbol.TheVariants.{Open, Close, Com
 use Rattle.sql_grammar.specs.declared.class.Class.{Class}
 use Rattle.sql_grammar.specs.declared.class.Class.TheVariants.{Key, Mark, Name, Number, Quoted, Operator, Semicolon, End}
 use Rattle.sql_grammar.specs.declared.table.Item.{Item}
-use Rattle.sql_grammar.specs.declared.table.Item.TheVariants.{Keyword, Sign, FreeWord, Label, Digits, QuotedText, Whole, Ends, Stop, Query, Nullness, MoreColumns, Result, MoreResults, AfterResult, StarOrLabel, MaybeAlias, MoreJoins, MoreGroups, MaybeWhere, Figures, MaybeCommon, MoreShares, MaybeHistogram, MoreBounds, Literal, Negation, MoreAnds, MoreOrs, Closes, NotEnds, AfterName, AfterColumn, AfterIs, AfterLiteral, AfterTruth, Side, AfterQualifier, MaybeOrder, MoreOrderings, MaybeDirection, MaybeNulls, FirstOrLast, AfterCreate, MaybeUsing, MaybeClass, MoreKeys, MaybeInclude, MoreNames}
+use Rattle.sql_grammar.specs.declared.table.Item.TheVariants.{Keyword, Sign, FreeWord, Label, Digits, QuotedText, Whole, Ends, Stop, Query, Nullness, MoreColumns, Result, MoreResults, AfterResult, StarOrLabel, MaybeAlias, MoreJoins, MoreGroups, MaybeWhere, Figures, MaybeCommon, MoreShares, MaybeHistogram, MoreBounds, Literal, Negation, MoreAnds, MoreOrs, Closes, NotEnds, AfterName, AfterColumn, AfterIs, AfterLiteral, AfterTruth, Side, AfterQualifier, MaybeOrder, MoreOrderings, MaybeLimit, MaybeOffset, MaybeDirection, MaybeNulls, FirstOrLast, AfterCreate, MaybeUsing, MaybeClass, MoreKeys, MaybeInclude, MoreNames}
 use Rattle.sql_grammar.specs.FromTable.{joins_takes, groups_takes}
 use Rattle.sql_grammar.specs.OrderTable.{order_takes, orderings_takes, direction_takes, nulls_takes, nulls_end_takes}
+use Rattle.sql_grammar.specs.WindowTable.{limit_takes, offset_takes}
 use Rattle.sql_grammar.specs.IndexTable.{create_takes, using_takes, class_takes, keys_takes, include_takes, names_takes}
 
 -- the items in an item's place; None where the token is not awaited
@@ -57,31 +59,33 @@ sign_code Star = 5
 
 -- the number of a word with a place of its own
 abbrev pub free_code : Free → ℕ
-free_code By = 0
-free_code Common = 1
-free_code Copy = 2
-free_code Csv = 3
-free_code Distinct = 4
-free_code Explain = 5
-free_code First = 6
-free_code Format = 7
-free_code Histogram = 8
-free_code Include = 9
-free_code Index = 10
-free_code Last = 11
-free_code Nulls = 12
-free_code Pages = 13
-free_code Rows = 14
-free_code Statistics = 15
-free_code Stdin = 16
+free_code Analyze = 0
+free_code By = 1
+free_code Common = 2
+free_code Copy = 3
+free_code Csv = 4
+free_code Distinct = 5
+free_code Explain = 6
+free_code First = 7
+free_code Format = 8
+free_code Histogram = 9
+free_code Include = 10
+free_code Index = 11
+free_code Last = 12
+free_code Nulls = 13
+free_code Pages = 14
+free_code Rows = 15
+free_code Statistics = 16
+free_code Stdin = 17
 
--- a statement and its end: `CREATE`, `SELECT`, `EXPLAIN`, `COPY`, `STATISTICS`, or nothing before the end
+-- a statement and its end: `CREATE`, `SELECT`, `EXPLAIN`, `COPY`, `STATISTICS`, `ANALYZE`, or nothing before the end
 abbrev pub statement_takes : Class → Expansion
 statement_takes (Key Create) = Some (AfterCreate ∷ [])
-statement_takes (Key Select) = Some (Result ∷ MoreResults ∷ Keyword From ∷ Label ∷ MaybeAlias ∷ MoreJoins ∷ MoreGroups ∷ MaybeWhere ∷ MaybeOrder ∷ Ends ∷ [])
-statement_takes (Name (Some Explain)) = Some (Query ∷ MaybeOrder ∷ Ends ∷ [])
+statement_takes (Key Select) = Some (Result ∷ MoreResults ∷ Keyword From ∷ Label ∷ MaybeAlias ∷ MoreJoins ∷ MoreGroups ∷ MaybeWhere ∷ MaybeOrder ∷ MaybeLimit ∷ MaybeOffset ∷ Ends ∷ [])
+statement_takes (Name (Some Explain)) = Some (Query ∷ MaybeOrder ∷ MaybeLimit ∷ MaybeOffset ∷ Ends ∷ [])
 statement_takes (Name (Some Copy)) = Some (Label ∷ Keyword From ∷ FreeWord Stdin ∷ Keyword With ∷ Sign Open ∷ FreeWord Format ∷ FreeWord Csv ∷ Sign Comma ∷ Keyword Null ∷ QuotedText ∷ Sign Close ∷ Stop ∷ [])
 statement_takes (Name (Some Statistics)) = Some (Label ∷ Figures ∷ Ends ∷ [])
+statement_takes (Name (Some Analyze)) = cond READS_ANALYZE (Some (Label ∷ Ends ∷ [])) None
 statement_takes Semicolon = Some []
 statement_takes End = Some []
 statement_takes _ = None
@@ -314,6 +318,8 @@ takes_of Side t = side_takes t
 takes_of AfterQualifier t = qualifier_takes t
 takes_of MaybeOrder t = order_takes t
 takes_of MoreOrderings t = orderings_takes t
+takes_of MaybeLimit t = limit_takes t
+takes_of MaybeOffset t = offset_takes t
 takes_of MaybeDirection t = direction_takes t
 takes_of MaybeNulls t = nulls_takes t
 takes_of FirstOrLast t = nulls_end_takes t
@@ -344,6 +350,8 @@ is_optional AfterTruth = true
 is_optional AfterQualifier = true
 is_optional MaybeOrder = true
 is_optional MoreOrderings = true
+is_optional MaybeLimit = true
+is_optional MaybeOffset = true
 is_optional MaybeDirection = true
 is_optional MaybeNulls = true
 is_optional MaybeUsing = true
@@ -359,7 +367,7 @@ level_of _ = 0
 
 -- the most cells that it and what comes of it take within a level
 abbrev pub room_of : Item → ℕ
-room_of Whole = 13
+room_of Whole = 14
 room_of Query = 10
 room_of MoreColumns = 4
 room_of MoreResults = 2

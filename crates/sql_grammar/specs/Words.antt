@@ -3,11 +3,11 @@
 use Rattle.std.specs.Prelude.{ℕ, ◌+◌, max, List, [], ◌∷◌, ◌++◌}
 use Rattle.sql_lex.specs.declared.tokens.Token.{Token}
 use Rattle.sql_grammar.specs.Terminals.{Terminal, Ident, t_key, t_mark, t_name, t_number, t_quoted, t_operator, t_semicolon, t_end, free}
-use Rattle.sql_grammar.specs.declared.class.Free.TheVariants.{By, Common as CommonWord, Copy, Csv, Distinct, Explain, First, Format, Histogram as HistogramWord, Include as IncludeWord, Index as IndexWord, Last, Nulls as NullsWord, Pages, Rows, Statistics, Stdin}
+use Rattle.sql_grammar.specs.declared.class.Free.TheVariants.{Analyze, By, Common as CommonWord, Copy, Csv, Distinct, Explain, First, Format, Histogram as HistogramWord, Include as IncludeWord, Index as IndexWord, Last, Nulls as NullsWord, Pages, Rows, Statistics, Stdin}
 use Rattle.sql_grammar.specs.declared.class.Word.{Word}
-use Rattle.sql_grammar.specs.declared.class.Word.TheVariants.{And, As, Asc, Create, Cross, Desc, False, From, Inner as InnerKey, Is, Join as JoinKey, Not, Null, On, Or, Order, Select, Table, True, Using as UsingKey, Where as WhereKey, With}
+use Rattle.sql_grammar.specs.declared.class.Word.TheVariants.{And, As, Asc, Create, Cross, Desc, False, From, Inner as InnerKey, Is, Join as JoinKey, Limit as LimitKey, Not, Null, Offset as OffsetKey, On, Or, Order, Select, Table, True, Using as UsingKey, Where as WhereKey, With}
 use Rattle.sql_grammar.specs.declared.class.Symbol.TheVariants.{Open, Close, Comma, Dot, Minus, Star}
-use Rattle.sql_grammar.specs.Syntax.{Col, bare, qualified, Constant, yes, no, unknown, Lit, number, negative, quoted, constant, Operand, column, literal, Expr, either_of, Ors, no_or, or_conj, Conj, both_of, Ands, no_and, and_neg, Neg, negated, plain, Atom, parens, compare, is_null, is_not_null, column_alone, constant_alone, Nulls, unwritten, not_null, nullable, ColDef, coldef, Output, every, every_of, one, Alias, no_alias, bare_alias, as_alias, Relation, relation, Inner, no_inner, inner, Join, join_on, cross_join, Group, group_of, Select as SelectTree, select_from, Where, no_where, where_expr, Share, share, Common, no_common, common, Histogram, no_histogram, histogram, Ending, semicolon, text_end, Direction, no_direction, ascending, descending, NullsEnd, no_nulls_end, nulls_first, nulls_last, Ordering, ordering, OrderBy, no_order, order_by, Explaining, no_explain, explain, OrderedSelect, ordered_select, OpClass, no_class, op_class, IndexKey, index_key, Using, no_using, using_method, Include, no_include, include_columns, CreateIndex, index_on, Statement, empty, create_table, create_index, query, copy, sizes, column_statistics}
+use Rattle.sql_grammar.specs.Syntax.{Col, bare, qualified, Constant, yes, no, unknown, Lit, number, negative, quoted, constant, Operand, column, literal, Expr, either_of, Ors, no_or, or_conj, Conj, both_of, Ands, no_and, and_neg, Neg, negated, plain, Atom, parens, compare, is_null, is_not_null, column_alone, constant_alone, Nulls, unwritten, not_null, nullable, ColDef, coldef, Output, every, every_of, one, Alias, no_alias, bare_alias, as_alias, Relation, relation, Inner, no_inner, inner, Join, join_on, cross_join, Group, group_of, Select as SelectTree, select_from, Where, no_where, where_expr, Share, share, Common, no_common, common, Histogram, no_histogram, histogram, Ending, semicolon, text_end, Direction, no_direction, ascending, descending, NullsEnd, no_nulls_end, nulls_first, nulls_last, Ordering, ordering, OrderBy, no_order, order_by, Limit, no_limit, most_rows, Offset, no_offset, skipped_rows, Window, window, Explaining, no_explain, explain, OrderedSelect, ordered_select, OpClass, no_class, op_class, IndexKey, index_key, Using, no_using, using_method, Include, no_include, include_columns, CreateIndex, index_on, Cand, cand_on, Statement, empty, create_table, create_index, query, copy, sizes, column_statistics, analyze}
 
 -- a column, with its table's name and a dot before it where that is written
 abbrev pub words_of_col : Col → List Terminal
@@ -165,14 +165,28 @@ abbrev pub words_of_order : OrderBy → List Terminal
 words_of_order no_order = []
 words_of_order (order_by k b o os) = t_key Order k ∷ t_name (free By b) ∷ (words_of_ordering o ++ words_of_orderings os)
 
+-- LIMIT and a number, or nothing
+abbrev pub words_of_limit : Limit → List Terminal
+words_of_limit no_limit = []
+words_of_limit (most_rows _ k n) = t_key LimitKey k ∷ t_number n ∷ []
+
+-- OFFSET and a number, or nothing
+abbrev pub words_of_offset : Offset → List Terminal
+words_of_offset no_offset = []
+words_of_offset (skipped_rows _ k n) = t_key OffsetKey k ∷ t_number n ∷ []
+
+-- LIMIT, then OFFSET
+abbrev pub words_of_window : Window → List Terminal
+words_of_window (window l o) = words_of_limit l ++ words_of_offset o
+
 -- EXPLAIN or nothing
 abbrev pub words_of_explaining : Explaining → List Terminal
 words_of_explaining no_explain = []
 words_of_explaining (explain k) = t_name (free Explain k) ∷ []
 
--- a SELECT with its order and its end
+-- a SELECT with its order, its window and its end
 abbrev pub words_of_ordered : OrderedSelect → List Terminal
-words_of_ordered (ordered_select x q o e) = words_of_explaining x ++ (words_of_select q ++ (words_of_order o ++ words_of_ending e))
+words_of_ordered (ordered_select x q o w e) = words_of_explaining x ++ (words_of_select q ++ (words_of_order o ++ (words_of_window w ++ words_of_ending e)))
 
 -- an operator class, or nothing
 abbrev pub words_of_class : OpClass → List Terminal
@@ -208,6 +222,12 @@ abbrev pub words_of_index : CreateIndex → List Terminal
 words_of_index (index_on k i n o t u p x xs m c w e) =
     t_key Create k ∷ t_name (free IndexWord i) ∷ t_name n ∷ t_key On o ∷ t_name t ∷
     (words_of_using u ++ t_mark Open p ∷ (words_of_key x ++ (words_of_keys xs ++ t_mark Close m ∷ (words_of_include c ++ (words_of_where w ++ words_of_ending e)))))
+
+-- CREATE INDEX without its first two words and its end
+abbrev pub words_of_cand : Cand → List Terminal
+words_of_cand (cand_on n o t u p x xs m c w) =
+    t_name n ∷ t_key On o ∷ t_name t ∷
+    (words_of_using u ++ t_mark Open p ∷ (words_of_key x ++ (words_of_keys xs ++ t_mark Close m ∷ (words_of_include c ++ words_of_where w))))
 
 -- a common value and its share
 abbrev pub words_of_share : Share → List Terminal
@@ -248,6 +268,7 @@ words_of (sizes k n r p e) =
 words_of (column_statistics k n c d z m h e) =
     t_name (free Statistics k.statistics) ∷ t_name n ∷ t_mark Dot k.dot ∷ t_name c ∷ t_name (free Distinct k.distinct) ∷ t_number d ∷ t_name (free NullsWord k.nulls) ∷ t_number z ∷
     (words_of_common m ++ (words_of_histogram h ++ words_of_ending e))
+words_of (analyze _ k n e) = t_name (free Analyze k) ∷ t_name n ∷ words_of_ending e
 
 -- The levels of an expression: a `(` and a NOT open one each.
 
@@ -314,10 +335,14 @@ levels_of_select (select_from _ _ _ _ g gs w) = max (levels_of_group g) (max (le
 
 -- those of a SELECT with its order, and of CREATE INDEX
 abbrev pub levels_of_ordered : OrderedSelect → ℕ
-levels_of_ordered (ordered_select _ q _ _) = levels_of_select q
+levels_of_ordered (ordered_select _ q _ _ _) = levels_of_select q
 
 abbrev pub levels_of_index : CreateIndex → ℕ
 levels_of_index (index_on _ _ _ _ _ _ _ _ _ _ _ w _) = levels_of_where w
+
+-- those of CREATE INDEX without its first two words and its end
+abbrev pub levels_of_cand : Cand → ℕ
+levels_of_cand (cand_on _ _ _ _ _ _ _ _ _ w) = levels_of_where w
 
 -- those of a statement
 abbrev pub levels_of : Statement → ℕ
@@ -328,3 +353,4 @@ levels_of (query x) = levels_of_ordered x
 levels_of (copy _ _ _) = 0
 levels_of (sizes _ _ _ _ _) = 0
 levels_of (column_statistics _ _ _ _ _ _ _ _) = 0
+levels_of (analyze _ _ _ _) = 0

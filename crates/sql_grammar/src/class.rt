@@ -33,6 +33,7 @@ pub enum Word {
 /// A word that has a place in the grammar and may be a name elsewhere.
 #[derive(Clone, Copy, Debug, PartialEq, Eq)]
 pub enum Free {
+    Analyze,
     By,
     Common,
     Copy,

@@ -39,7 +39,8 @@ const WORDS: [Word; 25] = [
 ];
 
 /// The words with a place of their own that may be names.
-const FREE_WORDS: [Free; 17] = [
+const FREE_WORDS: [Free; 18] = [
+    Free::Analyze,
     Free::By,
     Free::Common,
     Free::Copy,
@@ -97,6 +98,7 @@ fn free_spelling(word: Free) -> &'static [u8]
     ensures { result.now ≡ free_spelling_of word }
 {
     match word {
+        Free::Analyze => b"analyze",
         Free::By => b"by",
         Free::Common => b"common",
         Free::Copy => b"copy",

@@ -4,12 +4,13 @@ ghost use Rattle.std.specs.Prelude.{◌≡◌, MatchOption};
 ghost use Rattle.sql_grammar.specs.Table.{statement_takes, ends_takes, stop_takes, query_takes, nullness_takes, columns_takes, output_takes, outputs_takes, after_output_takes, star_takes, alias_takes, where_takes, figures_takes, common_takes, shares_takes, histogram_takes, bounds_takes, lit_takes, negation_takes, ands_takes, ors_takes, literal_takes, column_takes, name_takes, side_takes, qualifier_takes, label_takes, digits_takes, quoted_takes, keyword_takes, sign_takes, free_takes};
 
 use crate::class::{Class, Free, Symbol, Word};
+use crate::offered::READS_ANALYZE;
 use crate::table::Item;
 
 /// The items that stand in an item's place; None where the token is not awaited.
 pub type Expansion = Option<&'static [Item]>;
 
-/// A statement and its end: `CREATE`, `SELECT`, `EXPLAIN`, `COPY`, `STATISTICS`, or nothing before the end.
+/// A statement and its end: `CREATE`, `SELECT`, `EXPLAIN`, `COPY`, `STATISTICS`, `ANALYZE`, or nothing before the end.
 pub fn statement(class: Class) -> Expansion
     ensures { MatchOption result (statement_takes class ≡ None) (λ r. statement_takes class ≡ Some r.now) }
 {
@@ -25,9 +26,17 @@ pub fn statement(class: Class) -> Expansion
             Item::MoreGroups,
             Item::MaybeWhere,
             Item::MaybeOrder,
+            Item::MaybeLimit,
+            Item::MaybeOffset,
             Item::Ends,
         ]),
-        Class::Name(Some(Free::Explain)) => Some(&[Item::Query, Item::MaybeOrder, Item::Ends]),
+        Class::Name(Some(Free::Explain)) => Some(&[
+            Item::Query,
+            Item::MaybeOrder,
+            Item::MaybeLimit,
+            Item::MaybeOffset,
+            Item::Ends,
+        ]),
         Class::Name(Some(Free::Copy)) => Some(&[
             Item::Label,
             Item::Keyword(Word::From),
@@ -43,6 +52,7 @@ pub fn statement(class: Class) -> Expansion
             Item::Stop,
         ]),
         Class::Name(Some(Free::Statistics)) => Some(&[Item::Label, Item::Figures, Item::Ends]),
+        Class::Name(Some(Free::Analyze)) if READS_ANALYZE => Some(&[Item::Label, Item::Ends]),
         Class::Semicolon | Class::End => Some(&[]),
         _ => None,
     }

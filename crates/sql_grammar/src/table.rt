@@ -6,7 +6,7 @@ ghost use Rattle.std.specs.Prelude.{◌≡◌, ◌≤◌, MatchOption};
 ghost use Rattle.sql_grammar.specs.Table.{takes_of, is_optional, level_of};
 
 use crate::class::{Class, Free, Symbol, Word};
-use crate::{rows, rows_from, rows_index, rows_order};
+use crate::{rows, rows_from, rows_index, rows_order, rows_window};
 
 /// What is awaited.
 #[derive(Clone, Copy)]
@@ -91,6 +91,10 @@ pub enum Item {
     MaybeOrder,
     /// Further columns of it.
     MoreOrderings,
+    /// LIMIT and a number, or nothing.
+    MaybeLimit,
+    /// OFFSET and a number, or nothing.
+    MaybeOffset,
     /// ASC, DESC or nothing.
     MaybeDirection,
     /// NULLS FIRST, NULLS LAST or nothing.
@@ -154,6 +158,8 @@ pub fn takes(item: Item, class: Class) -> Option<&'static [Item]>
         Item::AfterQualifier => rows::after_qualifier(class),
         Item::MaybeOrder => rows_order::order(class),
         Item::MoreOrderings => rows_order::orderings(class),
+        Item::MaybeLimit => rows_window::most(class),
+        Item::MaybeOffset => rows_window::skipped(class),
         Item::MaybeDirection => rows_order::direction(class),
         Item::MaybeNulls => rows_order::nulls(class),
         Item::FirstOrLast => rows_order::nulls_end(class),
@@ -190,6 +196,8 @@ pub fn may_be_empty(item: Item) -> bool
             | Item::AfterQualifier
             | Item::MaybeOrder
             | Item::MoreOrderings
+            | Item::MaybeLimit
+            | Item::MaybeOffset
             | Item::MaybeDirection
             | Item::MaybeNulls
             | Item::MaybeUsing

@@ -3,7 +3,7 @@ use Rattle.std.proofs.Common.{◌≡◌, ℕ, Bool, true, false, List, ◌∷◌
 use Rattle.sql_lex.specs.declared.tokens.Token.{Token}
 use Rattle.sql_grammar.specs.declared.class.Word.TheVariants.{Select}
 use Rattle.sql_grammar.specs.Terminals.{Terminal, t_key}
-use Rattle.sql_grammar.specs.Syntax.{index_on, semicolon, text_end, Statement, empty, create_table, create_index, query, copy, sizes, column_statistics}
+use Rattle.sql_grammar.specs.Syntax.{index_on, semicolon, text_end, Statement, empty, create_table, create_index, query, copy, sizes, column_statistics, analyze}
 use Rattle.sql_grammar.specs.Words.{words_of}
 use Rattle.sql_grammar.specs.Faults.{terminals}
 use Rattle.sql_cursor.specs.Reading.{Begins}
@@ -22,6 +22,7 @@ select-is-query (query q) token left is = refl
 select-is-query (sizes k n r p end) token left is = let e = ap begins_select is in absurd (cc (e))
 select-is-query (column_statistics k n c d nulls commons bounds end) token left is = let e = ap begins_select is in absurd (cc (e))
 select-is-query (copy k n null) token left is = let e = ap begins_select is in absurd (cc (e))
+select-is-query (analyze p k n end) token left is = let e = ap begins_select is in absurd (cc (e))
 
 module _ (text : List ℕ) (tokens : List Token) (left : List Terminal) (first : Begins (t_key Select) (terminals text tokens) left) where
   pub is-no-other : AreNoOther text tokens

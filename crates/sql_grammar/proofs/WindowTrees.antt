@@ -1,0 +1,60 @@
+-- A list of words is spelled by one LIMIT and OFFSET.
+use Rattle.std.proofs.Common.{◌≡◌, Bool, true, false, List, ◌∷◌, ◌++◌, drop, refl, sym, ap, ◌∙◌}
+use Rattle.std.proofs.lemmas.List.{append_assoc}
+use Rattle.sql_grammar.specs.declared.class.Word.TheVariants.{Limit as LimitKey, Offset as OffsetKey}
+use Rattle.sql_grammar.specs.declared.offered.TheConstants.{READS_WINDOW}
+use Rattle.sql_grammar.specs.Terminals.{Terminal, t_key}
+use Rattle.sql_grammar.specs.Syntax.{IsOffered, Limit, no_limit, most_rows, Offset, no_offset, skipped_rows, Window, window, Ending, semicolon, text_end}
+use Rattle.sql_grammar.specs.Words.{words_of_limit, words_of_offset, words_of_window, words_of_ending}
+use Rattle.sql_grammar.proofs.ExprTrees.{tested}
+use Rattle.sql_grammar.proofs.Trees.{one_ending}
+
+-- a production is in the grammar in one way
+pub one_offered : (b : Bool) (p q : IsOffered b) → p ≡ q
+one_offered true p q = refl
+one_offered false p q = absurd p
+
+-- no LIMIT is next, and no OFFSET
+abbrev limitless : List Terminal → Bool
+limitless (t_key LimitKey _ ∷ _) = false
+limitless _ = true
+
+abbrev offsetless : List Terminal → Bool
+offsetless (t_key OffsetKey _ ∷ _) = false
+offsetless _ = true
+
+one_limit : (a b : Limit) (x y : List Terminal) → limitless x ≡ true → limitless y ≡ true → words_of_limit a ++ x ≡ words_of_limit b ++ y → (a ≡ b) × (x ≡ y)
+one_limit no_limit no_limit x y h k e = (refl, e)
+one_limit no_limit (most_rows q j m) x y h k e = absurd (tested limitless x (words_of_limit (most_rows q j m) ++ y) h refl e)
+one_limit (most_rows p i n) no_limit x y h k e = absurd (tested limitless y (words_of_limit (most_rows p i n) ++ x) k refl (sym e))
+one_limit (most_rows p i n) (most_rows q j m) x y h k e =
+    let offered = one_offered READS_WINDOW p q in
+    let word : i ≡ j = cc (e) in
+    let number : n ≡ m = cc (e) in
+    (cc (offered, word, number), ap (drop 2) e)
+
+one_offset : (a b : Offset) (x y : List Terminal) → offsetless x ≡ true → offsetless y ≡ true → words_of_offset a ++ x ≡ words_of_offset b ++ y → (a ≡ b) × (x ≡ y)
+one_offset no_offset no_offset x y h k e = (refl, e)
+one_offset no_offset (skipped_rows q j m) x y h k e = absurd (tested offsetless x (words_of_offset (skipped_rows q j m) ++ y) h refl e)
+one_offset (skipped_rows p i n) no_offset x y h k e = absurd (tested offsetless y (words_of_offset (skipped_rows p i n) ++ x) k refl (sym e))
+one_offset (skipped_rows p i n) (skipped_rows q j m) x y h k e =
+    let offered = one_offered READS_WINDOW p q in
+    let word : i ≡ j = cc (e) in
+    let number : n ≡ m = cc (e) in
+    (cc (offered, word, number), ap (drop 2) e)
+
+ends-offset : (e : Ending) → offsetless (words_of_ending e) ≡ true
+ends-offset (semicolon t) = refl
+ends-offset (text_end t) = refl
+
+ends-limit : (o : Offset) (e : Ending) → limitless (words_of_offset o ++ words_of_ending e) ≡ true
+ends-limit no_offset (semicolon t) = refl
+ends-limit no_offset (text_end t) = refl
+ends-limit (skipped_rows p k n) e = refl
+
+pub one_window : (v w : Window) (e f : Ending) → words_of_window v ++ words_of_ending e ≡ words_of_window w ++ words_of_ending f → (v ≡ w) × (e ≡ f)
+one_window (window l o) (window m u) e f h =
+    let (most, more) = one_limit l m (words_of_offset o ++ words_of_ending e) (words_of_offset u ++ words_of_ending f) (ends-limit o e) (ends-limit u f)
+    (sym (append_assoc (words_of_limit l) (words_of_offset o) (words_of_ending e)) ∙ (h ∙ append_assoc (words_of_limit m) (words_of_offset u) (words_of_ending f))) in
+    let (skipped, last) = one_offset o u (words_of_ending e) (words_of_ending f) (ends-offset e) (ends-offset f) more in
+    (cc (most, skipped), one_ending e f last)

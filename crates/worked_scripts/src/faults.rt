@@ -4,7 +4,7 @@ use crate::runs::{CALM, Case, Outside, check};
 use std::test::Fail;
 
 /// A script whose statement at fault prints nothing, and its line: the words and their syntax, names, data, and a parameter.
-const FAULTS: [(&[u8], &[u8]); 73] = [
+const FAULTS: [(&[u8], &[u8]); 75] = [
     (b"SELECT * FROM t 'x;", b"ERROR 42601 at 16: syntax error\n"),
     (
         b"/* /* */ SELECT * FROM t;",
@@ -23,6 +23,8 @@ const FAULTS: [(&[u8], &[u8]); 73] = [
         b"ERROR 42601 at 73: syntax error\n",
     ),
     (b"SELECT * FROM t;", b"ERROR 42P01 at 14: no table t\n"),
+    (b"ANALYZE T;", b"ERROR 42P01 at 8: no table t\n"),
+    (b"ANALYZE;", b"ERROR 42601 at 7: syntax error\n"),
     (
         b"COPY t FROM STDIN WITH (FORMAT CSV, NULL '\\N');\n1\n\\.\n",
         b"ERROR 42P01 at 5: no table t\n",

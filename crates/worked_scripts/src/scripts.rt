@@ -364,6 +364,43 @@ Seq Scan on t  (cost=400000000006 rows=1)
 (2 rows)
 "#;
 
+/// Statistics of rows: a value that occurs three times, one that occurs once beside it, and a histogram. Rows that come later
+/// change nothing, and what STATISTICS gave before is gone.
+const ANALYZED: &[u8] = br#"CREATE TABLE t (a int4);
+COPY t FROM STDIN WITH (FORMAT CSV, NULL '\N');
+1
+1
+1
+2
+\N
+\.
+STATISTICS t ROWS 9 PAGES 9;
+STATISTICS t.a DISTINCT 9 NULLS 9;
+ANALYZE t;
+EXPLAIN SELECT * FROM t WHERE a = 1;
+EXPLAIN SELECT * FROM t WHERE a = 2;
+CREATE TABLE u (a int4);
+COPY u FROM STDIN WITH (FORMAT CSV, NULL '\N');
+1
+2
+3
+4
+5
+\.
+analyze u;
+EXPLAIN SELECT * FROM u WHERE a < 3;
+COPY u FROM STDIN WITH (FORMAT CSV, NULL '\N');
+6
+\.
+EXPLAIN SELECT * FROM u WHERE a < 3;
+"#;
+
+const ANALYZED_REPLIES: &[u8] = br#"Seq Scan on t  (cost=425 rows=3)
+Seq Scan on t  (cost=425 rows=1)
+Seq Scan on u  (cost=425 rows=2)
+Seq Scan on u  (cost=425 rows=2)
+"#;
+
 #[test]
 fn answers_worked_scripts(rt: HostRuntime) -> Result<(), Fail> {
     let cases = [
@@ -386,6 +423,7 @@ fn answers_worked_scripts(rt: HostRuntime) -> Result<(), Fail> {
         Case::answered(EITHER, EITHER_REPLIES),
         Case::answered(SORTED, SORTED_REPLIES),
         Case::answered(KEYED, KEYED_REPLIES),
+        Case::answered(ANALYZED, ANALYZED_REPLIES),
         Case::refused(THIRD, NO_ROWS, b"ERROR 42703 at 52: no column zz\n"),
     ];
     for case in &cases {

@@ -51,15 +51,19 @@ pub data-requires-clause-copy : goal.data-requires-clause-copy
 data-requires-clause-copy c =
     let (x, is) = c.requires.tree in
     let first = c.if-takes.ensures.left refl ∙ c.new-from.ensures in
-    let left = c.if-takes_free.ensures.left refl ∙ first in
+    let second = c.if-takes_free.ensures.left refl ∙ first in
+    let left = c.if-takes_free-2.ensures.left refl ∙ second in
     let others = subst (BeginsNot (λ token. t_name (free Statistics token))) first (c.if-takes_free.ensures.other refl) in
-    let (k, n, null, copy) = loads x (terminals c.args.text.now c.args.tokens.now) is c.requires.opens (subst (BeginsNot (t_key Create)) c.new-from.ensures (c.if-takes.ensures.other refl)) others in
+    let none = subst (BeginsNot (λ token. t_name (free Analyze token))) second (c.if-takes_free-2.ensures.other refl) in
+    let (k, n, null, copy) = loads x (terminals c.args.text.now c.args.tokens.now) is c.requires.opens (subst (BeginsNot (t_key Create)) c.new-from.ensures (c.if-takes.ensures.other refl)) others none in
     (k, n, null, left ∙ (sym is ∙ ap words_of copy))
 
 pub returns : goal.returns
 returns c = λ x is.
     let first = c.if-takes.ensures.left refl ∙ c.new-from.ensures in
-    let left = c.if-takes_free.ensures.left refl ∙ first in
+    let second = c.if-takes_free.ensures.left refl ∙ first in
+    let left = c.if-takes_free-2.ensures.left refl ∙ second in
     let others = subst (BeginsNot (λ token. t_name (free Statistics token))) first (c.if-takes_free.ensures.other refl) in
-    let (k, n, null, copy) = loads x (terminals c.args.text.now c.args.tokens.now) is c.requires.opens (subst (BeginsNot (t_key Create)) c.new-from.ensures (c.if-takes.ensures.other refl)) others in
+    let none = subst (BeginsNot (λ token. t_name (free Analyze token))) second (c.if-takes_free-2.ensures.other refl) in
+    let (k, n, null, copy) = loads x (terminals c.args.text.now c.args.tokens.now) is c.requires.opens (subst (BeginsNot (t_key Create)) c.new-from.ensures (c.if-takes.ensures.other refl)) others none in
     data-as c.args.cat.now c.args.text.now x c.data.result k n null copy (c.data.ensures k n null (left ∙ (sym is ∙ ap words_of copy)))

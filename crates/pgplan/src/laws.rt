@@ -6,7 +6,7 @@ ghost use Rattle.pg_base.specs.declared.numbers.TableNo.{TableNo};
 ghost use Rattle.sql_lex.specs.declared.tokens.Token.{Token};
 ghost use Rattle.sql_grammar.specs.declared.offered.TheConstants.{READS_ANALYZE};
 ghost use Rattle.sql_grammar.specs.Faults.{fault_at};
-ghost use Rattle.sql_grammar.specs.Syntax.{Ending, IsOffered, analyze};
+ghost use Rattle.sql_grammar.specs.Syntax.{Ending, IsOffered, analyze as analyze_tree};
 ghost use Rattle.sql_grammar.specs.Terminals.{Ident, token_of};
 ghost use Rattle.analyze.specs.Analysis.{table_statistics};
 ghost use Rattle.catalog.specs.Analysed.{IsAllowedTable};
@@ -37,6 +37,6 @@ pub fn one_reading()
 /// After its syntax ANALYZE has one fault, that its table is unknown, at the name: so none of a number out of range (22023). The
 /// catalogue would refuse nothing of what is found of a table's rows.
 pub fn analysis_is_never_refused()
-    ensures fault { (w : World) (text : List ℕ) (tokens : List Token) (p : IsOffered READS_ANALYZE) (k : Token) (n : Ident) (e : Ending) (f : Fault) → IsMeaningFault w text tokens (analyze p k n e) f → f ≡ fault_at S2 (token_of n) }
+    ensures fault { (w : World) (text : List ℕ) (tokens : List Token) (p : IsOffered READS_ANALYZE) (k : Token) (n : Ident) (e : Ending) (f : Fault) → IsMeaningFault w text tokens (analyze_tree p k n e) f → f ≡ fault_at S2 (token_of n) }
     ensures allowed { (c : Contents) (k : Kept) (t : TableNo) → IsStoreOf c k → IsTable c t → IsAllowedTable (table_statistics (stored_of k t)) }
 {}

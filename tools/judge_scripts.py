@@ -1,13 +1,15 @@
 #!/usr/bin/env python3
 """Runs pgplan on random scripts, right and broken ones, and has each answer judged by a reference.
 
-usage: judge_scripts.py JUDGE PROGRAM [COUNT [SEED [RELATIONS]]]
+usage: judge_scripts.py [--stage STAGE] JUDGE PROGRAM [COUNT [SEED [RELATIONS]]]
 
 COUNT right scripts and COUNT broken ones are made (500 each where it is not given). Queries have up to four relations, or with
-RELATIONS exactly so many, and are only explained then. JUDGE is a program called as
-`JUDGE judge --stage 10 --allow '' SCRIPT OUT ERRORS STATUS` that exits with 0 where the answer is allowed. A right script has to end
+RELATIONS exactly so many, and are only explained then. STAGE tells which statements the judge knows (10+17, with ANALYZE, where it
+is not given); without its 17 there is no ANALYZE in right scripts. JUDGE is a program called as
+`JUDGE judge --stage STAGE --allow '' SCRIPT OUT ERRORS STATUS` that exits with 0 where the answer is allowed. A right script has to end
 with status 0, or with 54001 where no plan is below the limit of costs.
 """
+import argparse
 import collections
 import pathlib
 import random
@@ -28,7 +30,12 @@ def queried(rng, tables, relations):
     return joined_select(rng, tables) if rng.random() < 0.6 else select(rng, rng.choice(tables))
 
 
-def statements(rng, relations):
+def knows_analyze(stage):
+    """Whether a stage as 10, 17 or 10+17 has ANALYZE."""
+    return any(int(part) >= 17 if first else int(part) == 17 for first, part in zip([True] + [False] * 9, stage.split("+")))
+
+
+def statements(rng, relations, analyzes):
     """The statements of a right script, each a text with its end."""
     tables, parts = [], []
     names = []
@@ -49,6 +56,8 @@ def statements(rng, relations):
             many = rng.choice([0, 1, 2, 3, 3, 10, 99, 100, 101, 250])
             table.rows += many
             parts.append(copy(rng, table, [record(rng, table) for _ in range(many)]))
+        elif kind < 7 and analyzes and rng.random() < 0.4:
+            parts.append(spaced(rng, ["ANALYZE", rng.choice(tables).name]) + ";")
         elif kind < 7:
             given = sizes if rng.random() < 0.4 else column_statistics
             parts.append(spaced(rng, given(rng, rng.choice(tables))) + ";")
@@ -59,8 +68,8 @@ def statements(rng, relations):
     return tables, parts
 
 
-def right_script(rng, relations):
-    tables, parts = statements(rng, relations)
+def right_script(rng, relations, analyzes):
+    tables, parts = statements(rng, relations, analyzes)
     if relations and tables:
         parts.append(spaced(rng, queried(rng, tables, relations)) + ";")
     text = "".join(part + rng.choice(["", "\n", "\n", gap(rng)]) for part in parts)
@@ -217,7 +226,8 @@ def broken_statement(rng, tables):
     return rng.choice([
         f"SELECT * FROM {table.name} x y;", f"SELECT FROM {table.name};", "EXPLAIN;", "CREATE INDEX;", "SELECT * FROM;", "foo;",
         "CREATE TABLE (a int4);", "CREATE TABLE fresh ();", "CREATE TABLE fresh (a int4,);", "CREATE TABLE select (a int4);",
-        "'open", "/* open", "1a;", "#;", "COPY t;", f"SELECT *, FROM {table.name};", f"SELECT * FROM {table.name} WHERE;",
+        "ANALYZE missing;", "ANALYZE;", f"ANALYZE {table.name}.{names[0]};", f"ANALYZE {table.name} ({names[0]});", f"EXPLAIN ANALYZE {table.name};",
+        f"analyze {table.name}, {table.name};", "'open", "/* open", "1a;", "#;", "COPY t;", f"SELECT *, FROM {table.name};", f"SELECT * FROM {table.name} WHERE;",
         f"SELECT a b FROM {table.name};", "CREATE TABLE fresh (a int4 NOT);", f"SELECT * FROM {table.name}, {table.name};"])
 
 
@@ -234,8 +244,8 @@ def cut_up(rng, text):
     return text
 
 
-def broken_script(rng, relations):
-    tables, parts = statements(rng, relations)
+def broken_script(rng, relations, analyzes):
+    tables, parts = statements(rng, relations, analyzes)
     if not tables:
         tables = [new_table(rng, [])]
         parts.append(spaced(rng, create(rng, tables[0])) + ";")
@@ -247,21 +257,26 @@ def broken_script(rng, relations):
 
 
 def main():
-    judge, program = sys.argv[1], sys.argv[2]
-    count = int(sys.argv[3]) if len(sys.argv) > 3 else 500
-    rng = random.Random(int(sys.argv[4]) if len(sys.argv) > 4 else 1)
-    relations = int(sys.argv[5]) if len(sys.argv) > 5 else 0
+    words = argparse.ArgumentParser()
+    words.add_argument("--stage", default="10+17")
+    words.add_argument("judge")
+    words.add_argument("program")
+    words.add_argument("numbers", nargs="*", type=int)
+    said = words.parse_args()
+    judge, program, stage, analyzes = said.judge, said.program, said.stage, knows_analyze(said.stage)
+    count, seed, relations = [*said.numbers, *[500, 1, 0][len(said.numbers):]]
+    rng = random.Random(seed)
     failed, statuses = 0, collections.Counter()
     with tempfile.TemporaryDirectory() as folder:
         names = [pathlib.Path(folder, name) for name in ("script", "out", "errors")]
         for number in range(2 * count):
             right = number < count
-            script = right_script(rng, relations) if right else broken_script(rng, relations)
+            script = right_script(rng, relations, analyzes) if right else broken_script(rng, relations, analyzes)
             ran = subprocess.run([program, "run"], input=script.encode(), capture_output=True)
             for path, data in zip(names, (script.encode(), ran.stdout, ran.stderr)):
                 path.write_bytes(data)
             verdict = subprocess.run(
-                [sys.executable, judge, "judge", "--stage", "10", "--allow", "", *map(str, names), str(ran.returncode)],
+                [sys.executable, judge, "judge", "--stage", stage, "--allow", "", *map(str, names), str(ran.returncode)],
                 capture_output=True, text=True)
             statuses["right" if right else "broken", ran.returncode, ran.stderr.decode()[:11]] += 1
             refused = right and ran.returncode != 0 and not ran.stderr.startswith(b"ERROR 54001")

@@ -32,7 +32,7 @@ use Rattle.ddl_reader.specs.Readings.{reading}
 use Rattle.ddl_reader.specs.Soundness.{IsSound}
 use Rattle.ddl_reader.proofs.TokenLaws.{starts-within}
 use Rattle.ddl_reader.proofs.ListLemmas.{each-same}
-use Rattle.ddl_reader.proofs.SoundStatisticsLemmas.{AreWithin, within-all, known-table, sizes-sound, column-sound, places-within}
+use Rattle.ddl_reader.proofs.SoundStatisticsLemmas.{AreWithin, within-all, known-table, sizes-sound, column-sound, analysis-sound, places-within}
 use Rattle.sql_cursor.proofs.Named.{AreNamed, named-from}
 
 -- what bound columns have of those that are written
@@ -150,6 +150,7 @@ module _ (cat : Contents) (text : List ℕ) where
   statement-sound r (create_table k t n o c cs m e) lawful named placed low means =
       bound-sound (bytes_of n) (token_of n) (written c) (further cs) r _ (named.1.1.0 n refl) (columns-hold _ IsName (λ w. w.name) (λ i j nulls h. h) c cs _ named.1.1.1.1)
       (placed.1.1.0 n refl) (columns-hold _ (λ a. a ≤ length text) (λ w. w.name_at.start) (λ i j nulls h. h) c cs _ placed.1.1.1.1) refl means
+  statement-sound r (analyze offered k n e) lawful named placed low means = analysis-sound cat text n r means
   statement-sound r (sizes k n rows pages e) lawful named placed low means = sizes-sound cat text n rows pages r low.1.1.1.0 low.1.1.1.1.1.0 means
   statement-sound r (column_statistics k n c d z m h e) lawful named placed low means =
       column-sound cat text n c d z (commons_of m) (bounds_of h) r lawful (places-within (length text) d z m h (words_of_ending e) low.1.1.1.1.1.0 low.1.1.1.1.1.1.1.0 low.1.1.1.1.1.1.1.1) means

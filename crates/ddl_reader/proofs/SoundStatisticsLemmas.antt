@@ -1,4 +1,4 @@
--- What STATISTICS means is sound.
+-- What STATISTICS and ANALYZE mean is sound.
 use Rattle.std.proofs.Common.{◌≡◌, ℕ, ◌+◌, ◌*◌, ◌<◌, ◌≤◌, List, [], ◌∷◌, ◌++◌, length, map, refl, ap, subst, arith, Option, Some, None, position, Result, Ok, Err, All, length-append}
 use Rattle.std.specs.List.{flat_map}
 use Rattle.std.specs.Option.{option_map}
@@ -27,7 +27,7 @@ use Rattle.catalog.specs.Indexes.{type_at}
 use Rattle.catalog.specs.Statistics.{IsValueOf}
 use Rattle.catalog.specs.Tables.{table_named, column_named}
 use Rattle.sql_cursor.specs.Lists.{parts_of, bound_each}
-use Rattle.ddl_reader.specs.Statistics.{CommonWords, common_words, commons_of, bounds_of, common_value, known, number_of_32, number_of_64, start_of, start_of_lit, starts_of_common, places_of, sizes_reading, statistics_of, column_of_name, table_statistics, column_statistics_of}
+use Rattle.ddl_reader.specs.Statistics.{CommonWords, common_words, commons_of, bounds_of, common_value, known, number_of_32, number_of_64, start_of, start_of_lit, starts_of_common, places_of, sizes_reading, statistics_of, column_of_name, table_statistics, column_statistics_of, analysis, analysis_reading}
 use Rattle.ddl_reader.specs.Tables.{Reading, statistics_for}
 use Rattle.ddl_reader.specs.Soundness.{IsSound}
 use Rattle.ddl_reader.proofs.ListLemmas.{each-same}
@@ -150,6 +150,13 @@ module _ (cat : Contents) (text : List ℕ) where
         places = refl;
         within = All-cons (λ a. a ≤ length text) (start_of rows) (start_of pages ∷ []) first (All-cons (λ a. a ≤ length text) (start_of pages) [] second (All-nil (λ a. a ≤ length text)));
       })
+
+  -- the table to be analyzed
+  pub analysis-sound : (n : Ident) (r : Reading) → Ok r ≡ analysis cat n → IsSound cat text r
+  analysis-sound n r is =
+      let (t, named, e) = known-is S2 (token_of n) (table_named cat (bytes_of n)) (λ t. Ok (analysis_reading t)) r is in
+      let same : analysis_reading t ≡ r = cc (e) in
+      subst (IsSound cat text) same (known-table (bytes_of n) t _ refl named)
 
   lists-sound : (t : TableNo) (col : ColNo) (d z : Said) (ws : List CommonWords) (ls : List Lit) (r : Reading) (commons : Result (List (Value × ℕ)) Fault) (bounds : Result (List Value) Fault) →
       IsTable cat t → IsColumn cat t col → All (λ a. a ≤ length text) (places_of d z ws ls) →

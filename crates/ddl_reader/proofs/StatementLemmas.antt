@@ -5,7 +5,7 @@ use Rattle.pg_base.specs.declared.faults.Refusal.{Refusal}
 use Rattle.pg_base.specs.declared.faults.Refusal.TheVariants as refusal
 use Rattle.sql_lex.specs.declared.tokens.Token.{Token}
 use Rattle.sql_grammar.specs.declared.class.Word.TheVariants.{Create}
-use Rattle.sql_grammar.specs.declared.class.Free.TheVariants.{Distinct, Nulls as NullsWord, Pages, Rows, Statistics}
+use Rattle.sql_grammar.specs.declared.class.Free.TheVariants.{Analyze, Distinct, Nulls as NullsWord, Pages, Rows, Statistics}
 use Rattle.sql_grammar.specs.declared.class.Symbol.TheVariants.{Dot, Open}
 use Rattle.sql_grammar.specs.Terminals.{Terminal, Ident, Said, free, token_of, t_key, t_mark, t_name}
 use Rattle.sql_grammar.specs.Syntax.{Key, Mark, ColDef, CopyWords, Common, Histogram, Ending, Statement, empty, create_table, create_index, query, copy, sizes, column_statistics, analyze, semicolon, text_end, index_on, no_explain, explain, ordered_select, select_from}
@@ -19,7 +19,7 @@ use Rattle.catalog.specs.Tables.{table_named}
 use Rattle.ddl_reader.specs.declared.ddl.Read.{Read}
 use Rattle.ddl_reader.specs.Columns.{written, further, bound_all}
 use Rattle.ddl_reader.specs.AsMeant.{words_of_body, IsAsMeant, SpellsSizes, SpellsColumn, ends_common, ends_histogram, words_of_sizes, words_of_column}
-use Rattle.ddl_reader.specs.Statistics.{table_statistics, column_statistics_of, commons_of, bounds_of}
+use Rattle.ddl_reader.specs.Statistics.{table_statistics, column_statistics_of, commons_of, bounds_of, analysis}
 use Rattle.ddl_reader.specs.Tables.{Reading, table_of, data_after}
 use Rattle.ddl_reader.specs.Statements.{begins_ddl, Means, IsMeaning, IsDdlFault, IsDdlRefusal}
 use Rattle.ddl_reader.specs.Readings.{reading, ReadsAs, IsSyntaxRefusal}
@@ -48,23 +48,24 @@ creates (query (ordered_select (explain k) q y v e)) token left ddl is = absurd 
 creates (copy k n null) token left ddl is = absurd (cc (is))
 creates (sizes k n rows pages e) token left ddl is = absurd (cc (is))
 creates (column_statistics k n c d z m h e) token left ddl is = absurd (cc (is))
-creates (analyze p k n e) token left ddl is = absurd (cc (is))
+creates (analyze offered k n e) token left ddl is = absurd (cc (is))
 
 -- a statement that is COPY
 abbrev pub LoadsData : Statement → Type 0
 LoadsData x = (k : CopyWords) × (n : Ident) × (null : Said) × (x ≡ copy k n null)
 
-pub loads : (x : Statement) (ts : List Terminal) → words_of x ≡ ts → begins_ddl ts ≡ true → BeginsNot (t_key Create) ts → BeginsNot (λ token. t_name (free Statistics token)) ts → LoadsData x
-loads (create_table k t n o c cs m e) ts is ddl other others = absurd (other _ (k, sym is))
-loads (empty (semicolon t)) ts is ddl other others = let wrong = ap begins_ddl is ∙ ddl in absurd (cc (wrong))
-loads (empty (text_end t)) ts is ddl other others = let wrong = ap begins_ddl is ∙ ddl in absurd (cc (wrong))
-loads (create_index (index_on k i n o t u p x xs m c w e)) ts is ddl other others = absurd (other _ (k, sym is))
-loads (query (ordered_select no_explain (select_from k o os f n a w) y v e)) ts is ddl other others = let wrong = ap begins_ddl is ∙ ddl in absurd (cc (wrong))
-loads (query (ordered_select (explain k) q y v e)) ts is ddl other others = let wrong = ap begins_ddl is ∙ ddl in absurd (cc (wrong))
-loads (copy k n null) ts is ddl other others = (k, n, null, refl)
-loads (sizes k n rows pages e) ts is ddl other others = absurd (others _ (k.statistics, sym is))
-loads (column_statistics k n c d z m h e) ts is ddl other others = absurd (others _ (k.statistics, sym is))
-loads (analyze p k n e) ts is ddl other others = let wrong = ap begins_ddl is ∙ ddl in absurd (cc (wrong))
+pub loads : (x : Statement) (ts : List Terminal) → words_of x ≡ ts → begins_ddl ts ≡ true → BeginsNot (t_key Create) ts → BeginsNot (λ token. t_name (free Statistics token)) ts → BeginsNot (λ token. t_name (free Analyze token)) ts →
+    LoadsData x
+loads (create_table k t n o c cs m e) ts is ddl other others none = absurd (other _ (k, sym is))
+loads (empty (semicolon t)) ts is ddl other others none = let wrong = ap begins_ddl is ∙ ddl in absurd (cc (wrong))
+loads (empty (text_end t)) ts is ddl other others none = let wrong = ap begins_ddl is ∙ ddl in absurd (cc (wrong))
+loads (create_index (index_on k i n o t u p x xs m c w e)) ts is ddl other others none = absurd (other _ (k, sym is))
+loads (query (ordered_select no_explain (select_from k o os f n a w) y v e)) ts is ddl other others none = let wrong = ap begins_ddl is ∙ ddl in absurd (cc (wrong))
+loads (query (ordered_select (explain k) q y v e)) ts is ddl other others none = let wrong = ap begins_ddl is ∙ ddl in absurd (cc (wrong))
+loads (copy k n null) ts is ddl other others none = (k, n, null, refl)
+loads (sizes k n rows pages e) ts is ddl other others none = absurd (others _ (k.statistics, sym is))
+loads (column_statistics k n c d z m h e) ts is ddl other others none = absurd (others _ (k.statistics, sym is))
+loads (analyze offered k n e) ts is ddl other others none = absurd (none _ (k, sym is))
 
 -- the word that ends a statement is none of its lists
 ends-lists : (e : Ending) → (ends_common (words_of_ending e) ≡ true) × (ends_histogram (words_of_ending e) ≡ true)
@@ -83,7 +84,20 @@ describes (create_index (index_on k i n o t u p x xs m c w e)) token left is = a
 describes (query (ordered_select no_explain (select_from k o os f n a w) y v e)) token left is = absurd (cc (is))
 describes (query (ordered_select (explain k) q y v e)) token left is = absurd (cc (is))
 describes (copy k n null) token left is = absurd (cc (is))
-describes (analyze p k n e) token left is = absurd (cc (is))
+describes (analyze offered k n e) token left is = absurd (cc (is))
+
+-- a statement that is ANALYZE, whose words after that word are these
+pub analyzes : (x : Statement) (token : Token) (left : List Terminal) → words_of x ≡ t_name (free Analyze token) ∷ left → (n : Ident) × (rest : List Terminal) × (left ≡ t_name n ∷ rest)
+analyzes (analyze offered k n e) token left is = (n, words_of_ending e, ap (drop 1) (sym is))
+analyzes (create_table k t n o c cs m e) token left is = absurd (cc (is))
+analyzes (empty (semicolon t)) token left is = absurd (cc (is))
+analyzes (empty (text_end t)) token left is = absurd (cc (is))
+analyzes (create_index (index_on k i n o t u p x xs m c w e)) token left is = absurd (cc (is))
+analyzes (query (ordered_select no_explain (select_from k o os f n a w) y v e)) token left is = absurd (cc (is))
+analyzes (query (ordered_select (explain k) q y v e)) token left is = absurd (cc (is))
+analyzes (copy k n null) token left is = absurd (cc (is))
+analyzes (sizes k n rows pages e) token left is = absurd (cc (is))
+analyzes (column_statistics k n c d z m h e) token left is = absurd (cc (is))
 
 -- the last of some tokens
 abbrev last : Token → List Token → Token
@@ -133,7 +147,21 @@ module _ (cat : Contents) (text : List ℕ) where
   statistics-as (query (ordered_select no_explain (select_from k o os f n a w) y v e)) token left r is table column = absurd (cc (is))
   statistics-as (query (ordered_select (explain k) q y v e)) token left r is table column = absurd (cc (is))
   statistics-as (copy k n null) token left r is table column = absurd (cc (is))
-  statistics-as (analyze p k n e) token left r is table column = absurd (cc (is))
+  statistics-as (analyze offered k n e) token left r is table column = absurd (cc (is))
+
+  -- a table to be analyzed that is read
+  pub analysis-as : (x : Statement) (token : Token) (left : List Terminal) (r : Result Read Refusal) → words_of x ≡ t_name (free Analyze token) ∷ left →
+      ((n : Ident) (rest : List Terminal) → left ≡ t_name n ∷ rest → IsAsMeant Read Reading reading r (analysis cat n)) → ReadsAs cat text x r
+  analysis-as (analyze offered k n e) token left r is table = means-by (analyze offered k n e) _ r (λ v same. same) (table n (words_of_ending e) (ap (drop 1) (sym is)))
+  analysis-as (create_table k t n o c cs m e) token left r is table = absurd (cc (is))
+  analysis-as (empty (semicolon t)) token left r is table = absurd (cc (is))
+  analysis-as (empty (text_end t)) token left r is table = absurd (cc (is))
+  analysis-as (create_index (index_on k i n o t u p x xs m c w e)) token left r is table = absurd (cc (is))
+  analysis-as (query (ordered_select no_explain (select_from k o os f n a w) y v e)) token left r is table = absurd (cc (is))
+  analysis-as (query (ordered_select (explain k) q y v e)) token left r is table = absurd (cc (is))
+  analysis-as (copy k n null) token left r is table = absurd (cc (is))
+  analysis-as (sizes k n rows pages e) token left r is table = absurd (cc (is))
+  analysis-as (column_statistics k n c d z m h e) token left r is table = absurd (cc (is))
 
   data-by : (k : CopyWords) (n : Ident) (null : Said) (r : Result Read Refusal) (start : Result ℕ Fault) → IsDataStart text k.stop.end start →
       IsAsMeant Read Reading reading r (data_after (table_named cat (bytes_of n)) (token_of n) null.value null.token start) → ReadsAs cat text (copy k n null) r

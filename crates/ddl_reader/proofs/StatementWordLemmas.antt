@@ -1,5 +1,5 @@
--- The first words of STATISTICS.
-use Rattle.std.proofs.Common.{◌≡◌, ◌⊎◌, inl, inr, List, sym, ap, ◌∙◌, Result}
+-- The first words of STATISTICS and of ANALYZE.
+use Rattle.std.proofs.Common.{◌≡◌, ◌⊎◌, inl, inr, ℕ, List, [], sym, ap, ◌∙◌, Ok, Result}
 use Rattle.pg_base.specs.declared.faults.Code.TheVariants.{S2}
 use Rattle.pg_base.specs.declared.faults.Fault.{Fault}
 use Rattle.pg_base.specs.declared.numbers.TableNo.{TableNo}
@@ -7,9 +7,11 @@ use Rattle.sql_grammar.specs.declared.class.Symbol.TheVariants.{Dot}
 use Rattle.sql_grammar.specs.Terminals.{Terminal, Ident, Said, t_mark}
 use Rattle.sql_cursor.specs.declared.cursor.Spelled.{Spelled}
 use Rattle.sql_cursor.specs.Reading.{BeginsName, BeginsNot, spelled}
+use Rattle.expr_reader.specs.Conditions.{next}
 use Rattle.catalog.specs.Contents.{Contents}
 use Rattle.catalog.specs.Tables.{table_named}
-use Rattle.ddl_reader.specs.Statistics.{known, table_of_name}
+use Rattle.ddl_reader.specs.Statistics.{known, table_of_name, analysis, analysis_reading}
+use Rattle.ddl_reader.specs.Tables.{Reading, analysis_of}
 use Rattle.ddl_reader.specs.AsMeant.{SpellsSizes, SpellsColumn, words_of_sizes}
 use Rattle.ddl_reader.proofs.Parts.{named}
 
@@ -22,3 +24,13 @@ sizes-left old mid new title (inr (t, m, c, a, d, b, n, cs, h, rest, commons, bo
 -- the table that is told
 pub table-told : (cat : Contents) (t : Ident) (title : Spelled) (r : Result TableNo Fault) → title ≡ spelled t → known S2 title.token (table_named cat title.bytes) ≡ r → table_of_name cat t ≡ r
 table-told cat t title r is told = ap (λ (x : Spelled). known S2 x.token (table_named cat x.bytes)) (sym is) ∙ told
+
+-- a table to be analyzed that is read, with no place
+abbrev placed-so : TableNo → List ℕ → Reading
+placed-so t at = record { definition = analysis_of t; at = at; method = 0 }
+
+abbrev read-so : Reading → Result Reading Fault
+read-so r = Ok r
+
+pub analysis-read : (cat : Contents) (n : Ident) (t : TableNo) (at : List ℕ) → table_of_name cat n ≡ Ok t → at ≡ [] → analysis cat n ≡ Ok (placed-so t at)
+analysis-read cat n t at table none = ap (λ (k : Result TableNo Fault). next k (λ i. Ok (analysis_reading i))) table ∙ ap (λ (l : List ℕ). read-so (placed-so t l)) (sym none)

@@ -10,13 +10,13 @@ use Rattle.catalog.specs.Contents.{Contents}
 use Rattle.catalog.specs.Entries.{statistics}
 use Rattle.ddl_reader.specs.Statements.{Means, IsOtherWord}
 use Rattle.ddl_reader.specs.declared.ddl.Ddl.{Ddl}
-use Rattle.ddl_reader.specs.declared.ddl.Ddl.TheVariants.{Table, Rows, Column, Copy}
+use Rattle.ddl_reader.specs.declared.ddl.Ddl.TheVariants.{Table, Rows, Column, Copy, Analyze}
 use Rattle.ddl_reader.specs.declared.ddl.Read.{Read}
 use Rattle.ddl_reader.specs.declared.literals.CommonRead.{CommonRead}
 use Rattle.ddl_reader.specs.declared.statistics.Counted.{Counted}
 use Rattle.expr_reader.specs.declared.value.Placed.{Placed}
 use Rattle.ddl_reader.specs.AsMeant.{common_seen, starts_seen, value_seen, start_seen}
-use Rattle.ddl_reader.specs.Tables.{Definition, table, sizes_for, statistics_for, data_for, Reading}
+use Rattle.ddl_reader.specs.Tables.{Definition, table, sizes_for, statistics_for, data_for, analysis_of, Reading}
 
 -- what is defined
 abbrev pub definition : Ddl → Definition
@@ -24,6 +24,7 @@ definition (Table name names columns) = table name names.items columns
 definition (Rows t rows pages) = sizes_for t rows pages
 definition (Column t col stats) = statistics_for t col (statistics stats)
 definition (Copy t start) = data_for t start
+definition (Analyze t) = analysis_of t
 
 -- what is read
 abbrev pub reading : Read → Reading
@@ -35,8 +36,8 @@ ReadsAs cat text x (Ok v) = Means cat text x (Ok (reading v))
 ReadsAs cat text x (Err (refusal.Fault f)) = Means cat text x (Err f)
 ReadsAs cat text x (Err refusal.Memory) = Unit {0}
 
--- why the syntax is refused, by whether the first word is CREATE, without INDEX behind it, COPY or STATISTICS; that takes no
--- memory
+-- why the syntax is refused, by whether the first word is CREATE, without INDEX behind it, COPY, STATISTICS or ANALYZE; that
+-- takes no memory
 abbrev pub IsSyntaxRefusal : List ℕ → List Token → Bool → Refusal → Type 0
 IsSyntaxRefusal text tokens true (refusal.Fault f) = IsFirstFault IsStatement text tokens f
 IsSyntaxRefusal text tokens false (refusal.Fault f) = IsOtherWord tokens f

@@ -8,7 +8,7 @@ use Rattle.pg_value.specs.declared.columns.Column.{Column}
 use Rattle.catalog.specs.Contents.{Contents, IsTable, IsColumn, table_at}
 use Rattle.catalog.specs.Indexes.{type_at}
 use Rattle.catalog.specs.Statistics.{Statistics, AreValuesOf}
-use Rattle.ddl_reader.specs.Tables.{Definition, table, sizes_for, statistics_for, data_for, Reading}
+use Rattle.ddl_reader.specs.Tables.{Definition, table, sizes_for, statistics_for, data_for, analysis_of, Reading}
 
 -- a new table: all names are in small letters, each of the columns, of which there is one at least and the limit of
 -- a table at most, has one, and each name has a place in the text, the table's too
@@ -36,13 +36,14 @@ pub record AreSoundStatistics (cat : Contents) (text : List ℕ) (t : TableNo) (
   pub places : length at ≡ 2 + (2 * length s.common + length s.histogram)
   pub within : All (λ a. a ≤ length text) at
 
--- a definition with the places of its words: a new table, the size of a table, what is known of a column, or data for a
--- table of the catalogue from an offset in the text on
+-- a definition with the places of its words: a new table, the size of a table, what is known of a column, data for a
+-- table of the catalogue from an offset in the text on, or a table of the catalogue to be analyzed
 abbrev pub IsSoundDefinition : Contents → List ℕ → Definition → List ℕ → Type 0
 IsSoundDefinition cat text (table name names columns) at = IsSoundTable text name names columns at
 IsSoundDefinition cat text (sizes_for t rows pages) at = AreSoundSizes cat text t at
 IsSoundDefinition cat text (statistics_for t col s) at = AreSoundStatistics cat text t col s at
 IsSoundDefinition cat text (data_for t start) at = IsTable cat t × (start ≤ length text)
+IsSoundDefinition cat text (analysis_of t) at = IsTable cat t
 
 -- what is read is sound
 abbrev pub IsSound : Contents → List ℕ → Reading → Type 0

@@ -1,5 +1,5 @@
--- What a statement that defines a table, gives statistics or loads data means, and its first fault (PostgreSQL manual, CREATE
--- TABLE and COPY; STATISTICS is own).
+-- What a statement that defines a table, gives or finds statistics, or loads data means, and its first fault (PostgreSQL manual,
+-- CREATE TABLE, COPY and ANALYZE; STATISTICS is own).
 use Rattle.std.specs.Prelude.{◌≡◌, ◌⊎◌, ℕ, Bool, true, false, not, ◌&&◌, List, [], ◌∷◌, Result, Err, Some}
 use Rattle.pg_base.specs.declared.faults.Code.TheVariants.{S1}
 use Rattle.pg_base.specs.declared.faults.Fault.{Fault}
@@ -7,7 +7,7 @@ use Rattle.pg_base.specs.declared.faults.Refusal.{Refusal}
 use Rattle.pg_base.specs.declared.faults.Refusal.TheVariants as refusal
 use Rattle.sql_lex.specs.declared.tokens.Token.{Token}
 use Rattle.sql_grammar.specs.declared.class.Word.TheVariants.{Create}
-use Rattle.sql_grammar.specs.declared.class.Free.TheVariants.{Copy, Index, Statistics}
+use Rattle.sql_grammar.specs.declared.class.Free.TheVariants.{Analyze, Copy, Index, Statistics}
 use Rattle.sql_grammar.specs.declared.class.Class.{Class}
 use Rattle.sql_grammar.specs.declared.class.Class.TheVariants.{Key, Name}
 use Rattle.sql_grammar.specs.Terminals.{Terminal, free, t_key, t_name, token_of, class_of}
@@ -19,21 +19,22 @@ use Rattle.catalog.specs.Contents.{Contents}
 use Rattle.catalog.specs.Tables.{table_named}
 use Rattle.ddl_reader.specs.Columns.{written, further, bound_all}
 use Rattle.ddl_reader.specs.Tables.{Reading, table_of, data_after}
-use Rattle.ddl_reader.specs.Statistics.{table_statistics, column_statistics_of, commons_of, bounds_of}
+use Rattle.ddl_reader.specs.Statistics.{table_statistics, column_statistics_of, commons_of, bounds_of, analysis}
 
 -- CREATE INDEX
 abbrev pub begins_index : List Terminal → Bool
 begins_index (t_key Create _ ∷ t_name (free Index _) ∷ _) = true
 begins_index _ = false
 
--- CREATE, COPY or STATISTICS
+-- CREATE, COPY, STATISTICS or ANALYZE
 abbrev pub opens_ddl : Class → Bool
 opens_ddl (Key Create) = true
 opens_ddl (Name (Some Copy)) = true
 opens_ddl (Name (Some Statistics)) = true
+opens_ddl (Name (Some Analyze)) = true
 opens_ddl _ = false
 
--- the statement begins with CREATE, but not CREATE INDEX, with COPY or with STATISTICS
+-- the statement begins with CREATE, but not CREATE INDEX, with COPY, with STATISTICS or with ANALYZE
 abbrev pub begins_ddl : List Terminal → Bool
 begins_ddl [] = false
 begins_ddl (word ∷ words) = not (begins_index (word ∷ words)) && opens_ddl (class_of word)
@@ -45,6 +46,7 @@ Means cat text (copy k n null) r =
     (start : Result ℕ Fault) × IsDataStart text k.stop.end start × (r ≡ data_after (table_named cat (bytes_of n)) (token_of n) null.value null.token start)
 Means cat text (sizes k n rows pages e) r = r ≡ table_statistics cat n rows pages
 Means cat text (column_statistics k n c distinct nulls commons bounds e) r = r ≡ column_statistics_of cat n c distinct nulls (commons_of commons) (bounds_of bounds)
+Means cat text (analyze offered k n e) r = r ≡ analysis cat n
 Means cat text (empty e) r = ⊥
 Means cat text (create_index x) r = ⊥
 Means cat text (query x) r = ⊥

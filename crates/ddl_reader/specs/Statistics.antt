@@ -1,5 +1,5 @@
--- What STATISTICS gives of a table and of a column (own; the values of literals: PostgreSQL manual, chapter Type Conversion,
--- Value Storage).
+-- What STATISTICS gives of a table and of a column, and which table ANALYZE names (STATISTICS is own; the values of literals:
+-- PostgreSQL manual, chapter Type Conversion, Value Storage).
 use Rattle.std.specs.Prelude.{ℕ, ◌-◌, ◌^◌, min, List, [], ◌∷◌, ◌++◌, map, flat_map, Option, Some, None, Result, Ok, Err}
 use Rattle.std.specs.Str.Parse.{digits_value}
 use Rattle.pg_base.specs.declared.numbers.TableNo.{TableNo}
@@ -19,7 +19,7 @@ use Rattle.catalog.specs.Contents.{Contents, table_at}
 use Rattle.catalog.specs.Indexes.{type_at}
 use Rattle.catalog.specs.Tables.{table_named, column_named}
 use Rattle.sql_cursor.specs.Lists.{parts_of, bound_each}
-use Rattle.ddl_reader.specs.Tables.{Reading, sizes_for, statistics_for}
+use Rattle.ddl_reader.specs.Tables.{Reading, sizes_for, statistics_for, analysis_of}
 
 -- the number that a word writes, or the greatest of its field where it is more
 abbrev pub number_up_to : ℕ → Said → ℕ
@@ -102,3 +102,10 @@ abbrev pub column_statistics_of : Contents → Ident → Ident → Said → Said
 column_statistics_of cat n c distinct nulls commons bounds =
     next (table_of_name cat n) (λ t.
     next (column_of_name cat t c) (λ col. statistics_of (type_at (table_at cat t).columns col) t col distinct nulls commons bounds))
+
+-- ANALYZE: its table's name is bound, and no refusal of the catalogue has a place
+abbrev pub analysis_reading : TableNo → Reading
+analysis_reading t = record { definition = analysis_of t; at = []; method = 0 }
+
+abbrev pub analysis : Contents → Ident → Result Reading Fault
+analysis cat n = next (table_of_name cat n) (λ t. Ok (analysis_reading t))

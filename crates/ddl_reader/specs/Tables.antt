@@ -1,4 +1,4 @@
--- What CREATE TABLE, COPY and STATISTICS define (PostgreSQL manual, CREATE TABLE and COPY; STATISTICS is own).
+-- What CREATE TABLE, COPY, STATISTICS and ANALYZE define (PostgreSQL manual, CREATE TABLE, COPY and ANALYZE; STATISTICS is own).
 use Rattle.std.specs.Prelude.{ℕ, List, [], ◌∷◌, drop, map, cond, Option, Some, None, Result, Ok, Err}
 use Rattle.std.specs.Str.{bytes_eq}
 use Rattle.pg_base.specs.declared.limits.TheConstants.{MOST_COLUMNS}
@@ -15,12 +15,13 @@ use Rattle.catalog.specs.Statistics.{Statistics}
 use Rattle.ddl_reader.specs.Columns.{Bound}
 
 -- what is defined: a table by its name, its columns' names and its columns; the rows and pages of a table; what is known of
--- a column of a table; or data for a table, from an offset on
+-- a column of a table; data for a table, from an offset on; or that the rows of a table give its statistics
 pub data Definition : Type 0 where
   table : List ℕ → List (List ℕ) → List Column → Definition
   sizes_for : TableNo → ℕ → ℕ → Definition
   statistics_for : TableNo → ColNo → Statistics → Definition
   data_for : TableNo → ℕ → Definition
+  analysis_of : TableNo → Definition
 
 -- with the offsets of the words at which the catalogue's refusals stand
 pub record Reading : Type 0 where

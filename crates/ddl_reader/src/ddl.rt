@@ -1,4 +1,4 @@
-//! What is read of a statement that defines a table, loads data or gives statistics.
+//! What is read of a statement that defines a table, loads data, or gives or finds statistics.
 
 use catalog::ColumnStats;
 use pg_base::{ColNo, TableNo};
@@ -30,6 +30,10 @@ pub enum Ddl {
         table: TableNo,
         start: u32,
     },
+    /// ANALYZE: the table whose statistics its rows give.
+    Analyze {
+        table: TableNo,
+    },
 }
 
 /// A definition with the byte offsets in the script at which a refusal of the catalogue stands.
@@ -37,7 +41,7 @@ pub enum Ddl {
 pub struct Read {
     /// What is defined.
     pub ddl: Ddl,
-    /// For a table the offset of the new name, then those of the column names; for COPY none. For STATISTICS those of the
+    /// For a table the offset of the new name, then those of the column names; for COPY and ANALYZE none. For STATISTICS those of the
     /// places that the catalogue counts: of the numbers of rows and of pages; or of the numbers of different values and of
     /// NULLs, then of each common value and its share, then of each bound of the histogram. A literal begins at its `-`.
     pub at: Vec<u32>,

@@ -1,6 +1,7 @@
-//! Reading the statements that define tables and load data.
+//! Reading the statements that define tables, load data, and give or find statistics.
 #![tactic(auto)]
 
+mod analysis;
 mod block;
 mod columns;
 mod copy;

@@ -1,4 +1,4 @@
-//! Reading a statement that defines a table, gives statistics or loads data.
+//! Reading a statement that defines a table, gives or finds statistics, or loads data.
 
 ghost use Rattle.std.specs.Prelude.{◌≡◌, ◌≤◌, ◌<◌, ◌^◌, ℕ, List, [], ◌∷◌, ◌++◌, length, true, IfOk, IfErr, Ok, Result, MatchResult};
 ghost use Rattle.pg_base.specs.declared.faults.Fault.{Fault};
@@ -17,6 +17,7 @@ ghost use Rattle.ddl_reader.specs.Statements.{opens_ddl, begins_ddl, begins_inde
 ghost use Rattle.ddl_reader.specs.Readings.{reading, ReadsAs, IsSyntaxRefusal};
 ghost use Rattle.ddl_reader.specs.Soundness.{IsSound};
 
+use crate::analysis::analysis;
 use crate::copy::copy;
 use crate::ddl::Read;
 use crate::statistics::statistics;
@@ -73,16 +74,19 @@ fn statement(alloc: Global, cat: &Catalog, text: &[u8], tokens: &Tokens) -> Resu
     if from.takes_free(Free::Statistics) {
         return statistics(alloc, cat, &mut from);
     }
+    if from.takes_free(Free::Analyze) {
+        return analysis(alloc, cat, &mut from);
+    }
     data(alloc, cat, text, tokens, &mut from)
 }
 
-/// Whether a word of this class is CREATE, COPY or STATISTICS.
+/// Whether a word of this class is CREATE, COPY, STATISTICS or ANALYZE.
 fn opens(class: Class) -> bool
     ensures { result ≡ opens_ddl class }
 {
     match class {
         Class::Key(Word::Create) => true,
-        Class::Name(Some(Free::Copy | Free::Statistics)) => true,
+        Class::Name(Some(Free::Copy | Free::Statistics | Free::Analyze)) => true,
         _ => false,
     }
 }
@@ -100,7 +104,7 @@ pub fn is_index(text: &[u8], tokens: &Tokens) -> bool
     from.takes_free(Free::Index)
 }
 
-/// Whether the statement of these tokens begins with CREATE, but not with CREATE INDEX, with COPY or with STATISTICS.
+/// Whether the statement of these tokens begins with CREATE, but not with CREATE INDEX, with COPY, with STATISTICS or with ANALYZE.
 pub fn is_ddl(text: &[u8], tokens: &Tokens) -> bool
     requires short { length text.now ≤ 2 ^ 31 }
     requires words { (from : ℕ) × AreWords text.now from tokens.now }
@@ -116,8 +120,8 @@ pub fn is_ddl(text: &[u8], tokens: &Tokens) -> bool
     }
 }
 
-/// The first fault of the syntax: CREATE INDEX or another first word than CREATE, COPY or STATISTICS (42601), or what the
-/// grammar refuses (42601, 54000).
+/// The first fault of the syntax: CREATE INDEX or another first word than CREATE, COPY, STATISTICS or ANALYZE (42601), or what
+/// the grammar refuses (42601, 54000).
 fn check_syntax(text: &[u8], tokens: &Tokens) -> Result<(), Refusal>
     requires short { length text.now ≤ 2 ^ 31 }
     requires words { (from : ℕ) × AreWords text.now from tokens.now }
@@ -136,15 +140,15 @@ fn check_syntax(text: &[u8], tokens: &Tokens) -> Result<(), Refusal>
 
 /// Reads the statement of these tokens: its value, bound to the catalogue, or its first fault.
 ///
-/// CREATE INDEX, and another first word than CREATE, COPY or STATISTICS, is a fault (42601) at the first word. Faults of syntax
-/// come first (42601, 54000), for COPY
+/// CREATE INDEX, and another first word than CREATE, COPY, STATISTICS or ANALYZE, is a fault (42601) at the first word. Faults
+/// of syntax come first (42601, 54000), for COPY
 /// those of the rest of its line included. Then names and literals bind from the left: an unknown type (42704), an unknown
 /// table (42P01) and an unknown column (42703) at the word, a text for NULL other than `\N` (22023) at that text. A literal of
 /// STATISTICS that gives no value to the column is at fault at its first byte, a `-` included: 22003, 22P02 or 42804, and 22023
 /// for NULL. Then comes the limit of 32 columns (54000), at the first name too many.
 ///
 /// What the catalogue refuses is not asked here, but what is read may be handed to it: names are names, each of the 1 to 16
-/// columns has one; the table of COPY and STATISTICS is there, and so is the column, and each value is of its type and is not
+/// columns has one; the table of COPY, STATISTICS and ANALYZE is there, and so is the column, and each value is of its type and is not
 /// NULL. `at` has an offset for each place that the catalogue counts, however many literals are given. The text has at most
 /// 2^31 bytes, and the tokens are the words of a statement from some offset of it.
 pub fn read_ddl(alloc: Global, cat: &Catalog, text: &[u8], tokens: &Tokens) -> Result<Read, Refusal>

@@ -42,7 +42,7 @@ struct Counted {
 }
 
 /// The table of this name. An unknown one is refused (42P01) at its name.
-fn table_of(cat: &Catalog, name: &Spelled) -> Result<TableNo, Refusal>
+pub(crate) fn table_of(cat: &Catalog, name: &Spelled) -> Result<TableNo, Refusal>
     ensures told { Tells TableNo TableNo (λ t. t) result (known S2 name.now.token (table_named cat.now name.now.bytes)) }
     ensures there { IfOk result (IsTable cat.now) }
 {

@@ -3,12 +3,14 @@ use Rattle.std.specs.Prelude.{ℕ, List, [], ◌∷◌, ◌++◌, length, slice_
 use Rattle.pg_base.specs.declared.numbers.ColNo.{ColNo}
 use Rattle.pg_base.specs.declared.numbers.TableNo.{TableNo}
 use Rattle.pg_value.specs.declared.columns.Column.{Column}
+use Rattle.analyze.specs.Analysis.{table_statistics}
+use Rattle.catalog.specs.Analysed.{with_analysis}
 use Rattle.catalog.specs.Contents.{new_table, with_index, with_table, with_loaded, with_sizes, with_stats}
 use Rattle.catalog.specs.Indexes.{Index}
 use Rattle.catalog.specs.Statistics.{Statistics}
 use Rattle.heap.specs.Stored.{Stored}
 use Rattle.sql_query.specs.Queries.{Query}
-use Rattle.sql_query.specs.Worlds.{World, world}
+use Rattle.sql_query.specs.Worlds.{World, stored_at, world}
 
 pub data Action : Type 0 where
   -- an empty statement
@@ -23,13 +25,15 @@ pub data Action : Type 0 where
   describe : TableNo → ColNo → Statistics → Action
   -- COPY: this is stored of the table from then on
   fill : TableNo → Stored → Action
+  -- ANALYZE: the statistics of a table are those of its rows
+  gather : TableNo → Action
   -- SELECT
   answer : Query → Action
   -- EXPLAIN of a SELECT
   explain : Query → Action
 
--- the world after an accepted statement: one more table, one more index or other statistics beside the same rows, other rows
--- of a table, or the same
+-- the world after an accepted statement: one more table, one more index or other statistics beside the same rows, given or
+-- found, other rows of a table, or the same
 abbrev pub after : World → Action → World
 after w idle = w
 after w (make name names columns) = record {
@@ -40,5 +44,6 @@ after w (build name x) = world (with_index w.contents name x) w.stored
 after w (size t rows pages) = world (with_sizes w.contents t rows pages) w.stored
 after w (describe t column s) = world (with_stats w.contents t column s) w.stored
 after w (fill t s) = record { contents = with_loaded w.contents t (length s.rows); stored = slice_set w.stored t.0 s }
+after w (gather t) = world (with_analysis w.contents t (table_statistics (stored_at w t))) w.stored
 after w (answer q) = w
 after w (explain q) = w

@@ -23,15 +23,15 @@ use Rattle.catalog.specs.Indexes.{type_at}
 use Rattle.catalog.specs.Statistics.{AreAllowed, is_count}
 use Rattle.catalog.specs.declared.statistics.ColumnStats.{ColumnStats}
 use Rattle.ddl_reader.specs.declared.ddl.Ddl.{Ddl}
-use Rattle.ddl_reader.specs.declared.ddl.Ddl.TheVariants.{Table, Rows, Column as Column', Copy}
+use Rattle.ddl_reader.specs.declared.ddl.Ddl.TheVariants.{Table, Rows, Column as Column', Copy, Analyze}
 use Rattle.ddl_reader.specs.declared.ddl.Read.{Read}
 use Rattle.ddl_reader.specs.Readings.{definition, reading}
 use Rattle.ddl_reader.specs.Types.{type_named}
 use Rattle.ddl_reader.specs.Columns.{Written, written, Bound, bound, bound_by, bound_all, further}
 use Rattle.sql_cursor.specs.Lists.{before_all, bound_each}
-use Rattle.ddl_reader.specs.Statistics.{CommonWords, common_value, known, table_of_name, column_of_name, table_statistics, statistics_of, column_statistics_of, commons_of, bounds_of}
+use Rattle.ddl_reader.specs.Statistics.{CommonWords, common_value, known, table_of_name, column_of_name, table_statistics, statistics_of, column_statistics_of, commons_of, bounds_of, analysis}
 use Rattle.expr_reader.specs.Literals.{typed_value}
-use Rattle.ddl_reader.specs.Tables.{table, sizes_for, statistics_for, data_for, Reading, table_reading, limited, table_of, data_of, data_after}
+use Rattle.ddl_reader.specs.Tables.{table, sizes_for, statistics_for, data_for, analysis_of, Reading, table_reading, limited, table_of, data_of, data_after}
 use Rattle.pg_value.specs.Fields.{null_text}
 use Rattle.ddl_reader.specs.Soundness.{AreSoundSizes, AreSoundStatistics, IsSound, IsSoundTable}
 use Rattle.ddl_reader.specs.Block.{IsBlockEnd}
@@ -42,7 +42,7 @@ use Rattle.heap.specs.Stored.{Stored}
 use Rattle.sql_query.specs.Worlds.{World, stored_at}
 use Rattle.pgplan.specs.declared.end.End.{End}
 use Rattle.pgplan.specs.declared.end.End.TheVariants as ends
-use Rattle.definitions.specs.Actions.{Action, after, make, size, describe, fill}
+use Rattle.definitions.specs.Actions.{Action, after, make, size, describe, fill, gather}
 use Rattle.pgplan.specs.Ending.{end_of_refusal}
 use Rattle.pgplan.specs.Faults.{IsRefused, IsMeaningFault, IsFaultOver, in_syntax, in_meaning}
 use Rattle.sql_lex.specs.Ends.{end_of}
@@ -106,6 +106,9 @@ column-name-plain cat t n = known-plain S3 (token_of n) (column_named cat t (byt
 sizes-plain : (cat : Contents) (n : Ident) (rows pages : Said) → IsPlain (table_statistics cat n rows pages)
 sizes-plain cat n rows pages = next-plain (table_of_name cat n) _ (name-plain cat n) (λ t. tt)
 
+analysis-plain : (cat : Contents) (n : Ident) → IsPlain (analysis cat n)
+analysis-plain cat n = next-plain (table_of_name cat n) _ (name-plain cat n) (λ t. tt)
+
 common-plain : (t : SqlType) (w : CommonWords) → IsPlain (common_value t w)
 common-plain t w = next-plain (typed_value t w.0) _ (typed-plain t w.0) (λ v. tt)
 
@@ -126,8 +129,8 @@ means-plain cat text (query x) r means = absurd means
 means-plain cat text (create_table k t n o c cs m e) r means = subst IsPlain (sym means) (table-plain (bytes_of n) (token_of n) (bound_all (written c ∷ further cs)) (columns-plain (written c ∷ further cs)))
 means-plain cat text (sizes k n r p e) m means = subst IsPlain (sym means) (sizes-plain cat n r p)
 means-plain cat text (column_statistics k n c d nulls commons bounds e) r means = subst IsPlain (sym means) (statistics-plain cat n c d nulls (commons_of commons) (bounds_of bounds))
+means-plain cat text (analyze p k n e) r means = subst IsPlain (sym means) (analysis-plain cat n)
 means-plain cat text (copy k n null) r (start, begins, means) = subst IsPlain (sym means) (after-plain text k.stop.end (table_named cat (bytes_of n)) (token_of n) null.token null.value start begins)
-means-plain cat text (analyze p k n e) r means = absurd means
 
 module _ (w : World) (text : List ℕ) (tokens : List Token) where
   names-fault : (x : Statement) (f : Fault) → Means w.contents text x (Err f) → IsMeaningFault w text tokens x f
@@ -138,7 +141,7 @@ module _ (w : World) (text : List ℕ) (tokens : List Token) where
   names-fault (sizes k n r p e) f means = inl means
   names-fault (column_statistics k n c d nulls commons bounds e) f means = inl means
   names-fault (copy k n null) f means = inl means
-  names-fault (analyze p k n e) f means = absurd means
+  names-fault (analyze p k n e) f means = inl means
 
   carried-fault : (x : Statement) (r : Reading) (f : Fault) → Means w.contents text x (Ok r) → IsRefused w text r.definition r.at f → IsMeaningFault w text tokens x f
   carried-fault (empty e) r f means because = absurd means
@@ -148,7 +151,7 @@ module _ (w : World) (text : List ℕ) (tokens : List Token) where
   carried-fault (sizes k n m p e) r f means because = inr (r, means, because)
   carried-fault (column_statistics k n c d nulls commons bounds e) r f means because = inr (r, means, because)
   carried-fault (copy k n null) r f means because = inr (r, means, because)
-  carried-fault (analyze p k n e) r f means because = absurd means
+  carried-fault (analyze p k n e) r f means because = inr (r, means, because)
 
   does : (x : Statement) (r : Reading) (action : Action) (next : ℕ) → Means w.contents text x (Ok r) → Carries w text tokens r.definition action next → Does w text tokens x action next
   does (empty e) r action next means carries = absurd means
@@ -158,7 +161,7 @@ module _ (w : World) (text : List ℕ) (tokens : List Token) where
   does (sizes k n m p e) r action next means carries = (r, means, carries)
   does (column_statistics k n c d nulls commons bounds e) r action next means carries = (r, means, carries)
   does (copy k n null) r action next means carries = (r, means, carries)
-  does (analyze p k n e) r action next means carries = absurd means
+  does (analyze p k n e) r action next means carries = (r, means, carries)
 
   refused-by : (f : Fault) → IsDdlFault w.contents text tokens f true → IsFaultOver w text tokens f × IsFieldOf w.contents f
   refused-by f (inl first) = (in_syntax first, no-field w.contents f (ap (λ (g : Fault). g.rec) first.place))
@@ -273,3 +276,22 @@ module _ (w : World) (text : List ℕ) (tokens : List Token) (v : Read) (looked 
 
       pub statistics-defined : (w' : World) (next : ℕ) → AreAllowed (statistics stats) → next ≡ end_of tokens → w' ≡ after w (describe t col (statistics stats)) → IsDefined w w' text tokens next looked looked
       statistics-defined w' next allowed at made = defined-as w text tokens looked w' _ (describe t col (statistics stats)) next statistics-means (allowed, refl, at) refl made
+
+  -- a table to be analyzed that was read
+  module _ (t : TableNo) (is : v.ddl ≡ Analyze t) where
+    pub sound-analysis : IsSound w.contents text (reading v) → IsTable w.contents t
+    sound-analysis sound = subst (IsSound w.contents text) (seen v (Analyze t) is) sound
+
+    module _ (m : IsMeaning w.contents text tokens (Ok (reading v))) where
+      analysis-means : IsMeaning w.contents text tokens (Ok (record { definition = analysis_of t; at = v.at.items; method = v.method }))
+      analysis-means = subst (λ (r : Reading). IsMeaning w.contents text tokens (Ok r)) (seen v (Analyze t) is) m
+
+      analysis-carrying : (looked' next : ℕ) → next ≡ end_of tokens → looked' ≤ looked + length (stored_at w t).rows → IsCarrying w text tokens (gather t) next looked looked'
+      analysis-carrying looked' next at within = carrying-as w text tokens looked looked' _ (gather t) next (length (stored_at w t).rows) analysis-means (refl, at) refl within
+
+      pub analysis-told : (e : End) (looked' : ℕ) → e ≡ ends.Memory → looked' ≤ looked + length (stored_at w t).rows → Refuses e w text tokens looked looked'
+      analysis-told e looked' is within =
+          subst (λ (d : End). Refuses d w text tokens looked looked') (sym is) (inr (gather t, end_of tokens, analysis-carrying looked' (end_of tokens) refl within))
+
+      pub analysis-defined : (w' : World) (looked' next : ℕ) → next ≡ end_of tokens → w' ≡ after w (gather t) → looked' ≡ looked + length (stored_at w t).rows → IsDefined w w' text tokens next looked looked'
+      analysis-defined w' looked' next at gathered looks = (gather t, analysis-carrying looked' next at (omega (arith, looks)), gathered)

@@ -13,6 +13,7 @@ pub mod DefineLemmas
 pub mod FirstFaultLemmas
 pub mod OneEndLemmas
 pub mod OneReadingLemmas
+pub mod NeverRefusedLemmas
 pub mod IndexingLemmas
 pub mod OneIndexLemmas
 pub mod LoadingLemmas

@@ -11,7 +11,7 @@ use Rattle.catalog.specs.Contents.{Contents}
 use Rattle.catalog.specs.Tables.{IsIndexRefusal, table_named}
 use Rattle.eq_classes.specs.Holding.{IsClassTable}
 use Rattle.ddl_reader.specs.Statements.{Means}
-use Rattle.ddl_reader.specs.Tables.{Definition, table, sizes_for, statistics_for, data_for, Reading, data_after}
+use Rattle.ddl_reader.specs.Tables.{Definition, table, sizes_for, statistics_for, data_for, analysis_of, Reading, data_after}
 use Rattle.heap.specs.Loading.{records_of, loaded}
 use Rattle.index_reader.specs.Meaning.{Reading as IndexReading}
 use Rattle.query_reader.specs.Binding.{Bound, query_with}
@@ -39,6 +39,7 @@ one_meaning c text (query x) r s h k = absurd h
 one_meaning c text (create_table a t n o d ds m e) r s h k = h ∙ sym k
 one_meaning c text (sizes k n d p e) r s h l = h ∙ sym l
 one_meaning c text (column_statistics k n d i nulls commons bounds e) r s h l = h ∙ sym l
+one_meaning c text (analyze p k n e) r s h l = h ∙ sym l
 one_meaning c text (copy words n null) r s (a, p, h) (b, q, k) =
     h ∙ (ap (λ i. data_after (table_named c (bytes_of n)) (token_of n) null.value null.token i) (one_start text words.stop.end a b p q) ∙ sym k)
 one_meaning c text (analyze p k n e) r s h l = absurd h
@@ -48,6 +49,7 @@ module _ (w : World) (text : List ℕ) (tokens : List Token) where
   one_carried (table name names columns) a b m n h k = (h.1 ∙ sym k.1, h.2 ∙ sym k.2)
   one_carried (sizes_for t rows pages) a b m n h k = (h.2 ∙ sym k.2, h.3 ∙ sym k.3)
   one_carried (statistics_for t col s) a b m n h k = (h.1 ∙ sym k.1, h.2 ∙ sym k.2)
+  one_carried (analysis_of t) a b m n h k = (h.0 ∙ sym k.0, h.1 ∙ sym k.1)
   one_carried (data_for t start) a b m n (x, s, p, h, i) (y, u, q, k, j) =
       let (end, next) = one_end text start x m y n p q in
       let both : Ok s ≡ Ok u = sym h ∙ (ap (λ e. loaded (stored_at w t) (records_of (slice_range text start e))) end ∙ k) in
@@ -82,6 +84,7 @@ module _ (w : World) (text : List ℕ) (tokens : List Token) where
   one_done (sizes c i d p e) a b m n (r, h, u) (s, k, v) = one_defined (sizes c i d p e) a b m n r s h k u v
   one_done (column_statistics c i d p nulls commons bounds e) a b m n (r, h, u) (s, k, v) = one_defined (column_statistics c i d p nulls commons bounds e) a b m n r s h k u v
   one_done (create_table c t i o d ds z e) a b m n (r, h, p) (s, k, q) = one_defined (create_table c t i o d ds z e) a b m n r s h k p q
+  one_done (analyze v c i e) a b m n (r, h, p) (s, k, q) = one_defined (analyze v c i e) a b m n r s h k p q
   one_done (copy c i null) a b m n (r, h, p) (s, k, q) = one_defined (copy c i null) a b m n r s h k p q
   one_done (analyze p k i e) a b m n h u = absurd h
 
@@ -94,6 +97,7 @@ module _ (w : World) (text : List ℕ) (tokens : List Token) where
   one_refused (table name names columns) at f g (d, h, i) (e, k, j) = one_refusal w.contents name names at (word_ends at (name ∷ names)) d e f g h k i j
   one_refused (sizes_for t rows pages) at f g (d, h, i) (e, k, j) = one_size_refusal rows pages at d e f g h k i j
   one_refused (statistics_for t col s) at f g (d, h, i) (e, k, j) = one_statistics_refusal s at d e f g h k i j
+  one_refused (analysis_of t) at f g h k = absurd h
   one_refused (data_for t start) at f g (inl (h, i)) (inl (k, j)) = i ∙ sym j
   one_refused (data_for t start) at f g (inl (h, i)) (inr (y, n, e, q, k, j)) = absurd (no_end text start y n q h)
   one_refused (data_for t start) at f g (inr (x, m, d, p, h, i)) (inl (k, j)) = absurd (no_end text start x m p k)
@@ -108,6 +112,7 @@ module _ (w : World) (text : List ℕ) (tokens : List Token) where
   not_refused (table name names columns) a n at f h (e, k, j) = no_refusal w.contents name names at (word_ends at (name ∷ names)) e f h.0 k j
   not_refused (sizes_for t rows pages) a n at f h (e, k, j) = no_size_refusal rows pages e h.0 h.1 k
   not_refused (statistics_for t col s) a n at f h (e, k, j) = no_statistics_refusal s e h.0 k
+  not_refused (analysis_of t) a n at f h k = k
   not_refused (data_for t start) a n at f (x, s, p, h, i) (inl (k, j)) = no_end text start x n p k
   not_refused (data_for t start) a n at f (x, s, p, h, i) (inr (y, m, e, q, k, j)) =
       let (end, next) = one_end text start x n y m p q in
@@ -176,6 +181,7 @@ module _ (w : World) (text : List ℕ) (tokens : List Token) where
   one_meant (create_table c t n o d ds m e) f g h k = one_definition (create_table c t n o d ds m e) f g h k
   one_meant (sizes c n r p e) f g h k = one_definition (sizes c n r p e) f g h k
   one_meant (column_statistics c n d i nulls commons bounds e) f g h k = one_definition (column_statistics c n d i nulls commons bounds e) f g h k
+  one_meant (analyze p c n e) f g h k = one_definition (analyze p c n e) f g h k
   one_meant (copy c n null) f g h k = one_definition (copy c n null) f g h k
   one_meant (analyze p k n e) f g h l = absurd h
 
@@ -186,6 +192,7 @@ module _ (w : World) (text : List ℕ) (tokens : List Token) where
   not_meant (create_table c t i o d ds m e) a n r f (s, h, p) reply k = no_definition (create_table c t i o d ds m e) a n s f h p k
   not_meant (sizes c i d p e) a n r f (s, h, u) reply k = no_definition (sizes c i d p e) a n s f h u k
   not_meant (column_statistics c i d p nulls commons bounds e) a n r f (s, h, u) reply k = no_definition (column_statistics c i d p nulls commons bounds e) a n s f h u k
+  not_meant (analyze v c i e) a n r f (s, h, p) reply k = no_definition (analyze v c i e) a n s f h p k
   not_meant (copy c i null) a n r f (s, h, p) reply k = no_definition (copy c i null) a n s f h p k
   not_meant (analyze p k i e) a n r f h reply l = absurd h
 

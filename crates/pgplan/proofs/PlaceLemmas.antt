@@ -30,10 +30,10 @@ use Rattle.catalog.specs.Tables.{table_named}
 use Rattle.expr_reader.specs.Conditions.{next as following}
 use Rattle.expr_reader.specs.Literals.{typed_value}
 use Rattle.sql_cursor.specs.Lists.{bound_each}
-use Rattle.ddl_reader.specs.Statistics.{CommonWords, common_value, table_of_name, column_of_name, table_statistics, statistics_of, column_statistics_of, commons_of, bounds_of}
+use Rattle.ddl_reader.specs.Statistics.{CommonWords, common_value, table_of_name, column_of_name, table_statistics, statistics_of, column_statistics_of, commons_of, bounds_of, analysis}
 use Rattle.sql_grammar.proofs.ExprTrees.{tokens-are}
 use Rattle.ddl_reader.specs.Columns.{Bound, bound_all, written, further}
-use Rattle.ddl_reader.specs.Tables.{Definition, table, sizes_for, statistics_for, data_for, Reading, data_after, limited, table_of, table_reading}
+use Rattle.ddl_reader.specs.Tables.{Definition, table, sizes_for, statistics_for, data_for, analysis_of, Reading, data_after, limited, table_of, table_reading}
 use Rattle.pg_value.specs.Fields.{null_text}
 use Rattle.sql_query.specs.Worlds.{World}
 use Rattle.definitions.specs.Actions.{Action}
@@ -116,12 +116,14 @@ carried-table w text tokens (table n ns cs) action next name names columns e c =
 carried-table w text tokens (sizes_for t rows pages) action next name names columns e c = cc
 carried-table w text tokens (statistics_for t col s) action next name names columns e c = cc
 carried-table w text tokens (data_for t start) action next name names columns e c = cc
+carried-table w text tokens (analysis_of t) action next name names columns e c = cc
 
 carried-data : (w : World) (text : List ℕ) (tokens : List Token) (d : Definition) (action : Action) (next : ℕ) (t : TableNo) (start : ℕ) →
     d ≡ data_for t start → start ≤ length text → Carries w text tokens d action next → (start ≤ next) × (next ≤ length text)
 carried-data w text tokens (table n ns cs) action next t start e within c = cc
 carried-data w text tokens (sizes_for u rows pages) action next t start e within c = cc
 carried-data w text tokens (statistics_for u col s) action next t start e within c = cc
+carried-data w text tokens (analysis_of u) action next t start e within c = cc
 carried-data w text tokens (data_for u from) action next t start e within c =
     let same : from ≡ start = cc in
     let P : ℕ → Type 0 = λ s. (s ≤ next) × (next ≤ length text) in
@@ -166,6 +168,9 @@ module _ (w : World) (text : List ℕ) (tokens : List Token) where
   sizes-last : (c : Contents) (n : Ident) (rows pages : Said) → EndsLast w text tokens (table_statistics c n rows pages)
   sizes-last c n rows pages = next-last (table_of_name c n) _ (λ t action next carried. carried.3)
 
+  analysis-last : (c : Contents) (n : Ident) → EndsLast w text tokens (analysis c n)
+  analysis-last c n = next-last (table_of_name c n) _ (λ t action next carried. carried.1)
+
   values-last : (type : SqlType) (t : TableNo) (col : ColNo) (distinct nulls : Said) (commons : List CommonWords) (bounds : List Lit) → EndsLast w text tokens (statistics_of type t col distinct nulls commons bounds)
   values-last type t col distinct nulls commons bounds =
       next-last (bound_each (common_value type) commons) _ (λ values. next-last (bound_each (typed_value type) bounds) _ (λ limits action next carried. carried.2))
@@ -204,6 +209,8 @@ does-behind w text from tokens (column_statistics k n c d nulls commons bounds e
     (last-by w text tokens does.0 (column_statistics_of w.contents n c d nulls (commons_of commons) (bounds_of bounds)) action next does.1
     (statistics-last w text tokens w.contents n c d nulls (commons_of commons) (bounds_of bounds)) does.2)
     (ends-behind text from tokens words)
+does-behind w text from tokens (analyze p k n e) action next words spelled does =
+    at-end-of text from next (end_of tokens) (last-by w text tokens does.0 (analysis w.contents n) action next does.1 (analysis-last w text tokens w.contents n) does.2) (ends-behind text from tokens words)
 does-behind w text from tokens (copy k n null) action next words spelled does =
     behind-data text from k.stop.end (end_of tokens) next (copy-end text tokens k n null spelled) (ends-behind text from tokens words)
     (data-behind w text tokens action next k.stop.end (table_named w.contents (bytes_of n)) (token_of n) null.token null.value does.1.0 does.0 does.1.1 does.1.2 does.2)

@@ -43,6 +43,7 @@ no-other (create_index (index_on k i n o t u p x xs m c w e)) ts other index goe
 no-other (query q) ts other index goes is = refl
 no-other (sizes k n r p end) ts other index goes is = let e = ap begins_ddl is ∙ other in absurd (cc (e))
 no-other (column_statistics k n c d nulls commons bounds end) ts other index goes is = let e = ap begins_ddl is ∙ other in absurd (cc (e))
+no-other (analyze p k n end) ts other index goes is = let e = ap begins_ddl is ∙ other in absurd (cc (e))
 no-other (copy k n null) ts other index goes is = let e = ap begins_ddl is ∙ other in absurd (cc (e))
 no-other (analyze p k n end) ts other index goes is = absurd p
 

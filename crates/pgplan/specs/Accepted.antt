@@ -13,7 +13,7 @@ use Rattle.eq_classes.specs.Clauses.{Table}
 use Rattle.eq_classes.specs.Holding.{IsClassTable}
 use Rattle.ddl_reader.specs.Block.{IsBlockEnd}
 use Rattle.ddl_reader.specs.Statements.{Means}
-use Rattle.ddl_reader.specs.Tables.{Definition, table, sizes_for, statistics_for, data_for, Reading}
+use Rattle.ddl_reader.specs.Tables.{Definition, table, sizes_for, statistics_for, data_for, analysis_of, Reading}
 use Rattle.heap.specs.Loading.{records_of, loaded}
 use Rattle.heap.specs.Stored.{Stored}
 use Rattle.index_reader.specs.Meaning.{Reading as IndexReading, meaning}
@@ -22,16 +22,18 @@ use Rattle.query_reader.specs.Select.{is_explained}
 use Rattle.sql_query.specs.Queries.{Query}
 use Rattle.sql_query.specs.WellBound.{given_of}
 use Rattle.sql_query.specs.Worlds.{World, stored_at}
-use Rattle.definitions.specs.Actions.{Action, idle, make, build, size, describe, fill, answer, explain}
+use Rattle.definitions.specs.Actions.{Action, idle, make, build, size, describe, fill, gather, answer, explain}
 
 -- what a definition does, and the offset after it: a table is accepted by the catalogue; so are the sizes of a table and the
--- statistics of a column; data go up to the line that ends them, and the table takes them
+-- statistics of a column; data go up to the line that ends them, and the table takes them; and the statistics of a table are
+-- gathered from its rows
 abbrev pub Carries : World → List ℕ → List Token → Definition → Action → ℕ → Type 0
 Carries w text tokens (table name names columns) action next = IsAcceptable w.contents name names × (action ≡ make name names columns) × (next ≡ end_of tokens)
 Carries w text tokens (sizes_for t rows pages) action next = (is_count rows ≡ true) × (is_count pages ≡ true) × (action ≡ size t rows pages) × (next ≡ end_of tokens)
 Carries w text tokens (statistics_for t column s) action next = AreAllowed s × (action ≡ describe t column s) × (next ≡ end_of tokens)
 Carries w text tokens (data_for t start) action next =
     (end : ℕ) × (s : Stored) × IsBlockEnd text start end next × (loaded (stored_at w t) (records_of (slice_range text start end)) ≡ Ok s) × (action ≡ fill t s)
+Carries w text tokens (analysis_of t) action next = (action ≡ gather t) × (next ≡ end_of tokens)
 
 -- what a definition that is read does, and the offset after it
 abbrev pub Defines : World → List ℕ → List Token → Statement → Action → ℕ → Type 0
@@ -59,7 +61,7 @@ Does w text tokens (create_table k t n o c cs m e) action next = Defines w text 
 Does w text tokens (sizes k n r p e) action next = Defines w text tokens (sizes k n r p e) action next
 Does w text tokens (column_statistics k n c d nulls commons bounds e) action next = Defines w text tokens (column_statistics k n c d nulls commons bounds e) action next
 Does w text tokens (copy k n null) action next = Defines w text tokens (copy k n null) action next
-Does w text tokens (analyze p k n e) action next = ⊥
+Does w text tokens (analyze p k n e) action next = Defines w text tokens (analyze p k n e) action next
 
 -- the tokens are a statement that does this
 pub record IsReadOver (w : World) (text : List ℕ) (tokens : List Token) (action : Action) (next : ℕ) : Type 0 where

@@ -20,7 +20,7 @@ use Rattle.eq_classes.specs.Clauses.{Table}
 use Rattle.eq_classes.specs.Holding.{IsClassTable}
 use Rattle.ddl_reader.specs.Block.{HaveNoMark, lines_of, IsBlockEnd}
 use Rattle.ddl_reader.specs.Statements.{Means}
-use Rattle.ddl_reader.specs.Tables.{Definition, table, sizes_for, statistics_for, data_for, Reading}
+use Rattle.ddl_reader.specs.Tables.{Definition, table, sizes_for, statistics_for, data_for, analysis_of, Reading}
 use Rattle.heap.specs.declared.fault.CopyFault.{CopyFault}
 use Rattle.heap.specs.declared.fault.CopyFault.TheVariants as copying
 use Rattle.heap.specs.Loading.{records_of, loaded}
@@ -90,12 +90,13 @@ abbrev pub IsBlockFault : World → List ℕ → TableNo → ℕ → Fault → T
 IsBlockFault w text t start f =
     (end next : ℕ) × (e : CopyFault) × IsBlockEnd text start end next × (loaded (stored_at w t) (records_of (slice_range text start end)) ≡ Err e) × (rows_fault e t start ≡ Some f)
 
--- why a definition is not carried out: the catalogue refuses it, a new table or statistics of one; or the data have no end, or are at fault
+-- why a definition is not carried out: the catalogue refuses it, a new table or statistics of one; or the data have no end, or are at fault. What is found of a table's rows is never refused
 abbrev pub IsRefused : World → List ℕ → Definition → List ℕ → Fault → Type 0
 IsRefused w text (table name names columns) at f = (e : CatalogFault) × IsRefusal w.contents name names e × (table_fault e at (word_ends at (name ∷ names)) ≡ Some f)
 IsRefused w text (sizes_for t rows pages) at f = (e : CatalogFault) × IsSizeRefusal rows pages e × (number_fault e at ≡ Some f)
 IsRefused w text (statistics_for t column s) at f = (e : CatalogFault) × IsStatisticsRefusal s e × (number_fault e at ≡ Some f)
 IsRefused w text (data_for t start) at f = (HaveNoMark (lines_of (drop start text)) × (f ≡ endless_fault start)) ⊎ IsBlockFault w text t start f
+IsRefused w text (analysis_of t) at f = ⊥
 
 -- a definition's fault: in its names and limits, or why it is not carried out
 abbrev pub IsDefinitionFault : World → List ℕ → Statement → Fault → Type 0
@@ -129,7 +130,7 @@ IsMeaningFault w text tokens (create_table k t n o c cs m e) f = IsDefinitionFau
 IsMeaningFault w text tokens (sizes k n r p e) f = IsDefinitionFault w text (sizes k n r p e) f
 IsMeaningFault w text tokens (column_statistics k n c d nulls commons bounds e) f = IsDefinitionFault w text (column_statistics k n c d nulls commons bounds e) f
 IsMeaningFault w text tokens (copy k n null) f = IsDefinitionFault w text (copy k n null) f
-IsMeaningFault w text tokens (analyze p k n e) f = ⊥
+IsMeaningFault w text tokens (analyze p k n e) f = IsDefinitionFault w text (analyze p k n e) f
 
 -- the first fault of a statement whose words have none: of its syntax, or of what it means
 pub data IsFaultOver (w : World) (text : List ℕ) (tokens : List Token) (f : Fault) : Type 0 where

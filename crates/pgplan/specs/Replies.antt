@@ -3,14 +3,14 @@ use Rattle.std.specs.Prelude.{ℕ, ◌≡◌, [], length}
 use Rattle.sql_query.specs.Worlds.{World, stored_at}
 use Rattle.reply.specs.Replies.{Reply, IsAnswerTo, IsExplanationOf}
 use Rattle.store.specs.Kept.{load_looks}
-use Rattle.definitions.specs.Actions.{Action, idle, make, build, size, describe, fill, answer, explain}
+use Rattle.definitions.specs.Actions.{Action, idle, make, build, size, describe, fill, gather, answer, explain}
 
 -- nothing printed and nothing fetched, with so many looks
 abbrev pub silent : ℕ → Reply
 silent looks = record { bytes = []; fetched = 0; looked = looks }
 
 -- an accepted statement's reply: SELECT prints the answer by a best plan, and its EXPLAIN that plan alone. The others print
--- nothing: CREATE INDEX looks at each row of its table, and COPY at each new row for each index of the table
+-- nothing: CREATE INDEX and ANALYZE look at each row of their table, and COPY at each new row for each index of the table
 abbrev pub IsReply : World → Action → Reply → Type 0
 IsReply w idle r = r ≡ silent 0
 IsReply w (make name names columns) r = r ≡ silent 0
@@ -18,5 +18,6 @@ IsReply w (build name x) r = r ≡ silent (length (stored_at w x.table).rows)
 IsReply w (size t rows pages) r = r ≡ silent 0
 IsReply w (describe t column s) r = r ≡ silent 0
 IsReply w (fill t s) r = r ≡ silent (load_looks w.contents t (stored_at w t) s)
+IsReply w (gather t) r = r ≡ silent (length (stored_at w t).rows)
 IsReply w (answer q) r = IsAnswerTo w q r
 IsReply w (explain q) r = IsExplanationOf w.contents q r

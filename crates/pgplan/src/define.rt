@@ -1,4 +1,4 @@
-//! CREATE TABLE, COPY and STATISTICS, carried out.
+//! CREATE TABLE, COPY, STATISTICS and ANALYZE, carried out.
 
 ghost use Rattle.std.specs.Prelude.{◌≡◌, ◌≤◌, ◌+◌, ◌*◌, ◌^◌, ◌<◌, ℕ, List, All, IfErr, IfOk, Ok, OnErr, OnOk, length, slice_range, true, []};
 ghost use Rattle.pg_base.specs.declared.limits.TheConstants.{MOST_SCRIPT_BYTES};
@@ -24,7 +24,7 @@ use crate::end::End;
 use crate::faults::{endless, refused_data, refused_statistics, refused_table, word_ends};
 use catalog::{Catalog, ColumnStats};
 use ddl_reader::{Ddl, Read, block_end, read_ddl};
-use definitions::{fill, make};
+use definitions::{fill, gather, make};
 use heap::Counters;
 use pg_base::{ColNo, Steps, TableNo};
 use pg_value::{Bytes, Columns};
@@ -67,6 +67,10 @@ pub(crate) fn define<C: Counters>(
         }
         Ddl::Column { table, col, stats } => {
             describe(catalog, &at, table, col, stats)?;
+            Ok(tokens.end())
+        }
+        Ddl::Analyze { table } => {
+            gather(alloc, catalog, store, table, reads)?;
             Ok(tokens.end())
         }
         Ddl::Copy { table, start } => data(catalog, store, text, table, start, reads),

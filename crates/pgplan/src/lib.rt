@@ -13,6 +13,6 @@ mod top;
 mod work;
 
 pub use end::End;
-pub use laws::{one_reading, statements_go_on};
+pub use laws::{analysis_is_never_refused, one_reading, statements_go_on};
 pub use machine::Machine;
 pub use top::pgplan;

@@ -65,7 +65,7 @@ impl<C: Counters> Machine<C> {
 
     /// Works the statement that begins at the byte offset `at` and gives the offset after it. Its reply, if it has one, is
     /// written to `out` before that. `fetches` counts the rows that are fetched, and `reads` the entries and rows already
-    /// found that are looked at, and the rows that indexes are built over. The text has at most `MOST_SCRIPT_BYTES` bytes, and `at` is at most its length.
+    /// found that are looked at, and the rows that indexes are built over and that statistics are gathered from. The text has at most `MOST_SCRIPT_BYTES` bytes, and `at` is at most its length.
     ///
     /// The refusal is the statement's first fault, of its words, its syntax, its names, its limits, its data, of the
     /// catalogue, or that it has no admissible plan; or a failed out, or want of memory. The machine is then as before, and with a fault nothing was written.

@@ -4,7 +4,7 @@
 //! it: its first word is a syntax fault. Everything here is proved for both values.
 
 /// ANALYZE of a table.
-pub const READS_ANALYZE: bool = false;
+pub const READS_ANALYZE: bool = true;
 
 /// LIMIT and OFFSET behind a SELECT with its order.
 pub const READS_WINDOW: bool = false;

@@ -1,4 +1,4 @@
-use Rattle.std.proofs.Common.{◌-◌, length, subst, sym, ◌∙◌, ◌≤◌, arith}
+use Rattle.std.proofs.Common.{◌-◌, length, subst, sym, ◌≤◌, arith}
 use Rattle.sql_lex.specs.declared.tokens.Kind.TheVariants.{End}
 use Rattle.ddl_reader.proofs.TokenLaws.{ends-within, some-token, last-token}
 use Rattle.ddl_reader.proofs.read.last_end.Goals as goal

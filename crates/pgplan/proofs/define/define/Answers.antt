@@ -1,7 +1,7 @@
 use Rattle.std.proofs.Common.{arith, ap, length}
 use Rattle.std.proofs.lemmas.Result.{err_from_is_err_and, IfErr-weaker, IfOk-weaker}
 use Rattle.sql_query.specs.Worlds.{world}
-use Rattle.pgplan.proofs.DefineLemmas.{read-refused, sizes-defined, sizes-told, statistics-defined, statistics-told, sound-table, table-told, table-defined, sound-data, data-told, data-defined, low-places}
+use Rattle.pgplan.proofs.DefineLemmas.{read-refused, sizes-defined, sizes-told, sound-analysis, analysis-defined, analysis-told, statistics-defined, statistics-told, sound-table, table-told, table-defined, sound-data, data-told, data-defined, low-places}
 use Rattle.pgplan.proofs.define.define.Goals as goal
 
 pub returns-in_err-read-clause-refused : goal.returns-in_err-read-clause-refused
@@ -105,3 +105,23 @@ returns-in-Column-clause-defined g c =
     statistics-defined w c.args.text.now c.args.tokens.now c.in_ok-read.read c.args.reads.now c.in-Column.table c.in-Column.col c.in-Column.stats c.in-Column.is c.in_ok-read.ensures.read
     (world c.describe.new.catalog c.args.store.now.stored) c.end-in-Column.result c.in_ok-describe-in-Column.ensures.accepted c.end-in-Column.ensures
     (c.in_ok-describe-in-Column.ensures.made c.args.store.now.stored)
+
+pub gather-requires-clause-table : goal.gather-requires-clause-table
+gather-requires-clause-table g c =
+    let w = world c.args.catalog.now c.args.store.now.stored in
+    sound-analysis w c.args.text.now c.args.tokens.now c.in_ok-read.read c.args.reads.now c.in-Analyze.table c.in-Analyze.is c.in_ok-read.ensures.sound
+
+pub returns-in_err-gather-in-Analyze-clause-refused : goal.returns-in_err-gather-in-Analyze-clause-refused
+returns-in_err-gather-in-Analyze-clause-refused g c =
+    let w = world c.args.catalog.now c.args.store.now.stored in
+    let p = err_from_is_err_and c.from_residual-in_err-gather-in-Analyze.result c.from_residual-in_err-gather-in-Analyze.ensures.1 in
+    rw p.1 (
+    analysis-told w c.args.text.now c.args.tokens.now c.in_ok-read.read c.args.reads.now c.in-Analyze.table c.in-Analyze.is c.in_ok-read.ensures.read
+    _ c.gather.new.reads p.2 c.gather.ensures.fewer
+    )
+
+pub returns-in-Analyze-clause-defined : goal.returns-in-Analyze-clause-defined
+returns-in-Analyze-clause-defined g c =
+    let w = world c.args.catalog.now c.args.store.now.stored in
+    analysis-defined w c.args.text.now c.args.tokens.now c.in_ok-read.read c.args.reads.now c.in-Analyze.table c.in-Analyze.is c.in_ok-read.ensures.read
+    (world c.gather.new.catalog c.args.store.now.stored) c.gather.new.reads c.end-in-Analyze.result c.end-in-Analyze.ensures c.in_ok-gather-in-Analyze.ensures.gathered c.in_ok-gather-in-Analyze.ensures.looks

@@ -1,0 +1,31 @@
+//! ANALYZE: the table whose statistics its rows give.
+
+ghost use Rattle.std.specs.Prelude.{◌≡◌, ◌∷◌, List};
+ghost use Rattle.sql_grammar.specs.Terminals.{Terminal, Ident, t_name};
+ghost use Rattle.ddl_reader.specs.declared.ddl.Read.{Read};
+ghost use Rattle.ddl_reader.specs.AsMeant.{IsAsMeant};
+ghost use Rattle.ddl_reader.specs.Readings.{reading};
+ghost use Rattle.ddl_reader.specs.Statistics.{analysis as analysis_meant};
+ghost use Rattle.ddl_reader.specs.Tables.{Reading};
+
+use crate::ddl::{Ddl, Read};
+use crate::statistics::table_of;
+use crate::words::name;
+use catalog::Catalog;
+use pg_base::Refusal;
+use sql_cursor::Cursor;
+use std::alloc::Global;
+
+/// ANALYZE from the table's name on. An unknown table is refused (42P01) at its name.
+pub(crate) fn analysis(alloc: Global, cat: &Catalog, from: &mut Cursor) -> Result<Read, Refusal>
+    requires { (n : Ident) × (rest : List Terminal) × (from.old ≡ t_name n ∷ rest) }
+    ensures { (n : Ident) (rest : List Terminal) → from.old ≡ t_name n ∷ rest → IsAsMeant Read Reading reading result (analysis_meant cat.now n) }
+{
+    let title = name(alloc, from)?;
+    let table = table_of(cat, &title)?;
+    Ok(Read {
+        ddl: Ddl::Analyze { table },
+        at: Vec::new(alloc),
+        method: 0,
+    })
+}

@@ -145,7 +145,6 @@ module _ (cat : Contents) (text : List ℕ) where
   statement-sound r (empty e) lawful named placed low means = absurd means
   statement-sound r (create_index x) lawful named placed low means = absurd means
   statement-sound r (query x) lawful named placed low means = absurd means
-  statement-sound r (analyze p k n e) lawful named placed low means = absurd means
   statement-sound r (copy k n null) lawful named placed low (start, begins, means) = data-sound (bytes_of n) _ _ null.value _ r start begins means
   statement-sound r (create_table k t n o c cs m e) lawful named placed low means =
       bound-sound (bytes_of n) (token_of n) (written c) (further cs) r _ (named.1.1.0 n refl) (columns-hold _ IsName (λ w. w.name) (λ i j nulls h. h) c cs _ named.1.1.1.1)

@@ -50,7 +50,6 @@ Means cat text (analyze offered k n e) r = r ≡ analysis cat n
 Means cat text (empty e) r = ⊥
 Means cat text (create_index x) r = ⊥
 Means cat text (query x) r = ⊥
-Means cat text (analyze p k n e) r = ⊥
 
 -- the tokens spell a statement that means this
 pub record IsMeaning (cat : Contents) (text : List ℕ) (tokens : List Token) (r : Result Reading Fault) : Type 0 where

@@ -42,7 +42,6 @@ one_meaning c text (column_statistics k n d i nulls commons bounds e) r s h l = 
 one_meaning c text (analyze p k n e) r s h l = h ∙ sym l
 one_meaning c text (copy words n null) r s (a, p, h) (b, q, k) =
     h ∙ (ap (λ i. data_after (table_named c (bytes_of n)) (token_of n) null.value null.token i) (one_start text words.stop.end a b p q) ∙ sym k)
-one_meaning c text (analyze p k n e) r s h l = absurd h
 
 module _ (w : World) (text : List ℕ) (tokens : List Token) where
   one_carried : (d : Definition) (a b : Action) (m n : ℕ) → Carries w text tokens d a m → Carries w text tokens d b n → (a ≡ b) × (m ≡ n)
@@ -86,7 +85,6 @@ module _ (w : World) (text : List ℕ) (tokens : List Token) where
   one_done (create_table c t i o d ds z e) a b m n (r, h, p) (s, k, q) = one_defined (create_table c t i o d ds z e) a b m n r s h k p q
   one_done (analyze v c i e) a b m n (r, h, p) (s, k, q) = one_defined (analyze v c i e) a b m n r s h k p q
   one_done (copy c i null) a b m n (r, h, p) (s, k, q) = one_defined (copy c i null) a b m n r s h k p q
-  one_done (analyze p k i e) a b m n h u = absurd h
 
   one_over : (a b : Action) (m n : ℕ) → IsReadOver w text tokens a m → IsReadOver w text tokens b n → (a ≡ b) × (m ≡ n)
   one_over a b m n p q =
@@ -183,7 +181,6 @@ module _ (w : World) (text : List ℕ) (tokens : List Token) where
   one_meant (column_statistics c n d i nulls commons bounds e) f g h k = one_definition (column_statistics c n d i nulls commons bounds e) f g h k
   one_meant (analyze p c n e) f g h k = one_definition (analyze p c n e) f g h k
   one_meant (copy c n null) f g h k = one_definition (copy c n null) f g h k
-  one_meant (analyze p k n e) f g h l = absurd h
 
   not_meant : (x : Statement) (a : Action) (n : ℕ) (r : Reply) (f : Fault) → Does w text tokens x a n → IsReply w a r → IsMeaningFault w text tokens x f → ⊥
   not_meant (empty e) a n r f h reply k = absurd k
@@ -194,7 +191,6 @@ module _ (w : World) (text : List ℕ) (tokens : List Token) where
   not_meant (column_statistics c i d p nulls commons bounds e) a n r f (s, h, u) reply k = no_definition (column_statistics c i d p nulls commons bounds e) a n s f h u k
   not_meant (analyze v c i e) a n r f (s, h, p) reply k = no_definition (analyze v c i e) a n s f h p k
   not_meant (copy c i null) a n r f (s, h, p) reply k = no_definition (copy c i null) a n s f h p k
-  not_meant (analyze p k i e) a n r f h reply l = absurd h
 
   one_fault_over : (f g : Fault) → IsFaultOver w text tokens f → IsFaultOver w text tokens g → f ≡ g
   one_fault_over f g (in_syntax p) (in_syntax q) = one_first IsStatement text tokens f g p q

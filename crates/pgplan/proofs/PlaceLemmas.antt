@@ -214,7 +214,6 @@ does-behind w text from tokens (analyze p k n e) action next words spelled does 
 does-behind w text from tokens (copy k n null) action next words spelled does =
     behind-data text from k.stop.end (end_of tokens) next (copy-end text tokens k n null spelled) (ends-behind text from tokens words)
     (data-behind w text tokens action next k.stop.end (table_named w.contents (bytes_of n)) (token_of n) null.token null.value does.1.0 does.0 does.1.1 does.1.2 does.2)
-does-behind w text from tokens (analyze p k n e) action next words spelled does = absurd does
 
 -- a statement ends behind the place at which it begins, inside the text
 pub read-behind : (w : World) (text : List ℕ) (from : ℕ) (tokens : List Token) (action : Action) (next : ℕ) → AreWords text from tokens → IsReadOver w text tokens action next → EndsBehind text from next

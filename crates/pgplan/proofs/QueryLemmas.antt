@@ -45,7 +45,6 @@ no-other (sizes k n r p end) ts other index goes is = let e = ap begins_ddl is �
 no-other (column_statistics k n c d nulls commons bounds end) ts other index goes is = let e = ap begins_ddl is ∙ other in absurd (cc (e))
 no-other (analyze p k n end) ts other index goes is = let e = ap begins_ddl is ∙ other in absurd (cc (e))
 no-other (copy k n null) ts other index goes is = let e = ap begins_ddl is ∙ other in absurd (cc (e))
-no-other (analyze p k n end) ts other index goes is = absurd p
 
 -- where more words than one stand, the first is no end
 goes-by : (b : Bool) (n : ℕ) (rest : Bool) → 0 < n → cond b (nat_eq n 0) rest ≡ true → b ≡ false

@@ -25,7 +25,7 @@ use Rattle.eq_classes.proofs.SoundLemmas.{class_sound, in_member, member_in}
 use Rattle.eq_classes.proofs.WrittenLemmas.{in_typed}
 use Rattle.class_laws.proofs.PartLemmas.{apart_at}
 use Rattle.sql_query.specs.Queries.{Query, all_of_query, width}
-use Rattle.sql_query.specs.WellBound.{IsColumnOf, IsWellBound, given_of}
+use Rattle.sql_query.specs.WellBound.{IsColumnOf, IsWellBound, given_with}
 use Rattle.pathkeys.specs.Keys.{Keys, class_of, is_constant, once, order_class, order_keys}
 use Rattle.sort_rows.proofs.ColumnLemmas.{member_is}
 use Rattle.order_laws.proofs.IndexOrderLemmas.{class_found}
@@ -124,7 +124,7 @@ module _ (c : Contents) (q : Query) (lawful : IsLawful c) (bound : IsWellBound c
 
   member-fits : (n : ℕ) (x : ColRef) → n < length q.classes.classes → IsIn x (class_at q.classes.classes n).members → IsOfFamily (class_at q.classes.classes n).family (some_value (type_of x))
   member-fits n x lt i =
-      (class_sound (given_of c q) (λ y. some_value (type_of y)) (in_typed type_of q.where_all bound.typed) (λ y. sample_fits (type_of y)) q.classes.classes bound.classes.classes (class_at q.classes.classes n) (class-in n lt)).fits x i
+      (class_sound (given_with c q bound.items) (λ y. some_value (type_of y)) (in_typed type_of q.where_all bound.typed) (λ y. sample_fits (type_of y)) q.classes.classes bound.classes.classes (class_at q.classes.classes n) (class-in n lt)).fits x i
 
   class-same : (n m : ℕ) (x : ColRef) → n < length q.classes.classes → m < length q.classes.classes → IsIn x (class_at q.classes.classes n).members → IsIn x (class_at q.classes.classes m).members →
       is_abs (class_at q.classes.classes n).family ≡ is_abs (class_at q.classes.classes m).family → n ≡ m
@@ -132,7 +132,7 @@ module _ (c : Contents) (q : Query) (lawful : IsLawful c) (bound : IsWellBound c
       let k = class_at q.classes.classes n in
       let l = class_at q.classes.classes m in
       let same = one-family (type_of x) k.family l.family (member-fits n x ln i) (member-fits m x lm j) e in
-      apart_at (given_of c q) q.classes bound.classes (in_family x k.family) n m ln lm
+      apart_at (given_with c q bound.items) q.classes bound.classes (in_family x k.family) n m ln lm
       (and_from (is_family k.family k.family) (has_member k x) (family_self k.family) (in_member k x i))
       (and_from (is_family l.family k.family) (has_member l x) (ap (λ (f : Family). is_family f k.family) (sym same) ∙ family_self k.family) (in_member l x j))
 

@@ -13,7 +13,7 @@ use Rattle.eq_classes.specs.Classes.{Class}
 use Rattle.eq_classes.specs.Clauses.{Clause, by_class, by_conjunct, class_clauses, clause, clause_list, clauses_from, conjunct_clauses, constant_clauses, each_pair, equals, equals_constant, first_in, has_constant, inner_clause, inner_clauses, is_first, one, pair_clause, pair_clauses}
 use Rattle.eq_classes.specs.Listing.{conjunct_of}
 use Rattle.sql_query.specs.Queries.{Query}
-use Rattle.sql_query.specs.WellBound.{IsWellBound, given_of}
+use Rattle.sql_query.specs.WellBound.{IsWellBound, given_with}
 use Rattle.plan_tree.specs.Bitmaps.{condition_at, condition_by, is_or}
 use Rattle.explain.specs.Texts.{conjunct_by}
 
@@ -128,13 +128,13 @@ pub record HasConjunct (q : Query) (n : ℕ) : Type 0 where
   pub few : number < 2 ^ 64
 
 module _ (c : Contents) (q : Query) (bound : IsWellBound c q) where
-  same_list : q.classes.clauses ≡ clause_list (given_of c q).type_of (given_of c q).conjuncts q.classes.classes
+  same_list : q.classes.clauses ≡ clause_list (given_with c q bound.items).type_of (given_with c q bound.items).conjuncts q.classes.classes
   same_list = bound.classes.clauses
 
   pub or-conjunct : (n : ℕ) → n < length q.classes.clauses → is_or (condition_at q n) ≡ true → HasConjunct q n
   or-conjunct n lt o = by (slice_get q.classes.clauses n) refl o
     where
-      most : length (given_of c q).conjuncts ≤ 32
+      most : length (given_with c q bound.items).conjuncts ≤ 32
       most = bound.limits.conjuncts
 
       past : (ks : List Clause) (m : ℕ) → m < length ks → slice_get ks m ≡ None → ⊥
@@ -145,10 +145,10 @@ module _ (c : Contents) (q : Query) (bound : IsWellBound c q) where
       by : (k : Option Clause) → slice_get q.classes.clauses n ≡ k → is_or (condition_by k) ≡ true → HasConjunct q n
       by None e h = absurd (past q.classes.clauses n lt e)
       by (Some x) e h =
-          let f = found (given_of c q).type_of (clauses_from 0 q.classes.classes) (made-classes 0 q.classes.classes) 1 (given_of c q).conjuncts n x (sym (ap (λ (ks : List Clause). slice_get ks n) same_list) ∙ e) h in
+          let f = found (given_with c q bound.items).type_of (clauses_from 0 q.classes.classes) (made-classes 0 q.classes.classes) 1 (given_with c q bound.items).conjuncts n x (sym (ap (λ (ks : List Clause). slice_get ks n) same_list) ∙ e) h in
           record { number = f.0; is = ap conjunct_by e ∙ f.1; few = omega (arith, f.2, most) }
 
   pub conjunct-same : (n m k : ℕ) → conjunct_by (slice_get q.classes.clauses n) ≡ Some k → conjunct_by (slice_get q.classes.clauses m) ≡ Some k → n ≡ m
   conjunct-same n m k h g =
-      unique (given_of c q).type_of (clauses_from 0 q.classes.classes) (made-classes 0 q.classes.classes) 1 (given_of c q).conjuncts n m k
+      unique (given_with c q bound.items).type_of (clauses_from 0 q.classes.classes) (made-classes 0 q.classes.classes) 1 (given_with c q bound.items).conjuncts n m k
       (sym (ap (λ (ks : List Clause). conjunct_by (slice_get ks n)) same_list) ∙ h) (sym (ap (λ (ks : List Clause). conjunct_by (slice_get ks m)) same_list) ∙ g)

@@ -22,7 +22,7 @@ use Rattle.plan_tree.specs.Space.{HasKeys, IsBuilt, IsSameSet, MeetsOrder}
 use Rattle.plan_tree.proofs.CostableLemmas.{built-costable}
 use Rattle.order_laws.proofs.KeyLemmas.{AreKeys, list_keys, wider}
 use Rattle.explain.specs.Lines.{IsShown}
-use Rattle.explain.proofs.ShownLemmas.{joining-classes}
+use Rattle.class_laws.proofs.JoiningLemmas.{joining_classes}
 use Rattle.explain.specs.Texts.{aliases_in, bits_text, lead, numbers_text, plan_text, scanned_text, text_at, title}
 use Rattle.explain_laws.proofs.BitLemmas.{IsShallow, IsTreeTold, bits-split, line-shallow, shallow-end, shallow-more, tree-told}
 use Rattle.explain_laws.proofs.ClassLemmas.{AreShownKeys, keys-split, order-shown}
@@ -255,7 +255,7 @@ module _ (c : Contents) (q : Query) where
         let b = set_of inner in
         let list = h.2.list in
         let some : 0 < length keys = list.some in
-        let all = joining-classes a b q.classes.classes keys list.joining in
+        let all = joining_classes a b q.classes.classes keys list.joining in
         let low : (n : ℕ) → IsIn n keys → n < length q.classes.classes = all_at (λ m. m < length q.classes.classes) keys all in
         let both = list_keys q.classes a b keys list.joining in
         let whole = wider q.classes a (union a b) (λ j in_a. ap (λ (v : Bool). v || b j) in_a) keys both.0 in (

@@ -10,7 +10,8 @@ use Rattle.catalog.specs.Contents.{Contents}
 use Rattle.fault_line.specs.Tells.{IsFieldOf}
 use Rattle.query_reader.specs.Select.{AreSelect, IsGrammatical, is_explained, words_before}
 use Rattle.sql_query.specs.Queries.{Query}
-use Rattle.sql_query.specs.WellBound.{IsWellBound}
+use Rattle.eq_classes.specs.Holding.{IsTable}
+use Rattle.sql_query.specs.WellBound.{given_of}
 use Rattle.sql_query.specs.Worlds.{World}
 use Rattle.reply.specs.declared.stop.Stop.{Stop}
 use Rattle.reply.specs.declared.stop.Stop.TheVariants as stop
@@ -43,13 +44,13 @@ still : (w : World) (explained : Bool) (q : Query) → w ≡ after w (cond expla
 still w true q = refl
 still w false q = refl
 
-module _ (w : World) (text : List ℕ) (tokens : List Token) (some : 0 < length tokens) (q : Query) (select : AreSelect text tokens) (binds : Binds w text tokens (Ok q)) (well : IsWellBound w.contents q)
+module _ (w : World) (text : List ℕ) (tokens : List Token) (some : 0 < length tokens) (q : Query) (select : AreSelect text tokens) (binds : Binds w text tokens (Ok q)) (own : IsTable (given_of w.contents q) q.classes)
     (explained : Bool) (is : explained ≡ is_explained (terminals text tokens)) (old new : Traces) where
   -- its reply was written whole
   pub answered-over : (next : ℕ) → next ≡ end_of tokens → HasReplied (IsReply w (cond explained (explain q) (answer q))) old new → IsAnsweredOver w text tokens next old new
   answered-over next at replied =
       subst (λ n. IsAnsweredOver w text tokens n old new) (sym at)
-      (asked text tokens q, read-query w text tokens some q select binds well, still w (is_explained (terminals text tokens)) q, subst (λ (b : Bool). HasReplied (IsReply w (cond b (explain q) (answer q))) old new) is replied)
+      (asked text tokens q, read-query w text tokens some q select binds own, still w (is_explained (terminals text tokens)) q, subst (λ (b : Bool). HasReplied (IsReply w (cond b (explain q) (answer q))) old new) is replied)
 
   begun-over : HasBegun (IsReply w (cond explained (explain q) (answer q))) old new → HasBegun (IsReply w (asked text tokens q)) old new
   begun-over begun = subst (λ (b : Bool). HasBegun (IsReply w (cond b (explain q) (answer q))) old new) is begun
@@ -59,10 +60,10 @@ module _ (w : World) (text : List ℕ) (tokens : List Token) (some : 0 < length 
       StopsOver (end_of_stop e select') w text tokens old new
   printing-stops stop.NoPlan word at same none =
       subst (λ (t : Token). StopsOver (end_of_stop stop.NoPlan t) w text tokens old new) (sym at)
-      (unplanned w text tokens some q select binds well (none refl), plain-field w.contents (no_plan text tokens) refl, same)
-  printing-stops stop.Write word at begun none = (asked text tokens q, end_of tokens, read-query w text tokens some q select binds well, begun-over begun)
+      (unplanned w text tokens some q select binds own (none refl), plain-field w.contents (no_plan text tokens) refl, same)
+  printing-stops stop.Write word at begun none = (asked text tokens q, end_of tokens, read-query w text tokens some q select binds own, begun-over begun)
   printing-stops stop.Memory word at (inl same) none = inl same
-  printing-stops stop.Memory word at (inr begun) none = inr (asked text tokens q, end_of tokens, read-query w text tokens some q select binds well, begun-over begun)
+  printing-stops stop.Memory word at (inr begun) none = inr (asked text tokens q, end_of tokens, read-query w text tokens some q select binds own, begun-over begun)
 
   pub printing-told : (e : Stop) (word : Token) (end : End) → end ≡ end_of_stop e word → word ≡ token_at tokens (words_before (terminals text tokens)) → Leaves e (IsReply w (cond explained (explain q) (answer q))) old new → (e ≡ stop.NoPlan → HasNoPlan w.contents q) →
       StopsOver end w text tokens old new

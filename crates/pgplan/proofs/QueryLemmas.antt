@@ -21,7 +21,7 @@ use Rattle.query_reader.specs.Select.{AreNoOther, AreSelect, IsGrammatical, IsBo
 use Rattle.query_reader.specs.Binding.{Bound, bound, query_with}
 use Rattle.sql_query.specs.Queries.{Query}
 use Rattle.eq_classes.specs.Holding.{IsClassTable}
-use Rattle.sql_query.specs.WellBound.{IsWellBound, given_of}
+use Rattle.sql_query.specs.WellBound.{given_of}
 use Rattle.sql_query.specs.Worlds.{World}
 use Rattle.reply.specs.Answers.{HasNoPlan}
 use Rattle.pgplan.specs.Accepted.{IsReadOver, asked}
@@ -90,12 +90,12 @@ module _ (w : World) (text : List ℕ) (tokens : List Token) (some : 0 < length 
   binds-first : (r : Result Query Refusal) (x : OrderedSelect) → Binds w text tokens r → IsSpelled (query x) text tokens → IsBoundAs (bound w.contents (token_at tokens 0) x) r
   binds-first r x binds spelled = let (later, is) = first-token tokens some in binds x (token_at tokens 0) later is spelled
 
-  module _ (p : Query) (select : AreSelect text tokens) (binds : Binds w text tokens (Ok p)) (well : IsWellBound w.contents p) where
+  module _ (p : Query) (select : AreSelect text tokens) (binds : Binds w text tokens (Ok p)) (own : IsClassTable (given_of w.contents p) p.classes) where
     meant : (b : Bound) × (bound w.contents (token_at tokens 0) select.0 ≡ Ok b) × (p ≡ query_with p.classes b)
     meant = meant-ok (bound w.contents (token_at tokens 0) select.0) p (binds-first (Ok p) select.0 binds select.1)
 
     its-table : (b : Bound) → p ≡ query_with p.classes b → IsClassTable (given_of w.contents (query_with p.classes b)) p.classes
-    its-table b is = subst (λ (x : Query). IsClassTable (given_of w.contents x) p.classes) is well.classes
+    its-table b is = subst (λ (x : Query). IsClassTable (given_of w.contents x) p.classes) is own
 
     pub read-query : IsReadOver w text tokens (asked text tokens p) (end_of tokens)
     read-query =

@@ -29,7 +29,7 @@ use Rattle.eq_classes.proofs.ColumnLemmas.{clause_passes}
 use Rattle.eq_classes.proofs.HoldLemmas.{in_map}
 use Rattle.eq_classes.proofs.ListLemmas.{IsIn, all_at, all_from, in_filter, in_from_contains, in_left, in_parts}
 use Rattle.eq_classes.proofs.WrittenLemmas.{in_columns}
-use Rattle.query_laws.proofs.OverLemmas.{conditions_pass}
+use Rattle.query_laws.proofs.OverLemmas.{conditions_pass, item_used}
 use Rattle.btree_index.specs.Tree.{in_direction}
 use Rattle.index_match.specs.Bounds.{index_bounds}
 use Rattle.index_match.specs.Conditions.{index_conditions, is_condition}
@@ -39,7 +39,7 @@ use Rattle.index_match.specs.Usable.{holds_columns}
 use Rattle.sql_query.specs.Meaning.{all_true}
 use Rattle.sql_query.specs.Queries.{Query, width}
 use Rattle.sql_query.specs.Tuples.{Tuple, beside, row_numbers, rows_of_relation}
-use Rattle.sql_query.specs.WellBound.{given_of}
+use Rattle.sql_query.specs.WellBound.{given_with}
 use Rattle.sql_query.specs.Worlds.{World, world}
 use Rattle.plan_tree.specs.Bitmaps.{IsIndexOn}
 use Rattle.plan_tree.specs.Entries.{entries}
@@ -230,10 +230,10 @@ module _ (c : Contents) (k : Kept) (q : Query) (r : RelNo) (p : RelSet) (outer :
 
       clause_held : (x : Clause) → IsIn x q.classes.clauses → each_column (holds_own d r.0) x.cond ≡ true
       clause_held x j =
-          let gs = given_of c q in
+          let gs = given_with c q at.bound.items in
           let passed : All (λ e. each_column (holds_own d r.0) e ≡ true) gs.conjuncts = in_columns q.where_all (holds_own d r.0) (conditions_pass c q at.bound (holds_own d r.0) used_own) in
           clause_passes (holds_own d r.0) gs (all_at (λ (e : Cond). each_column (holds_own d r.0) e ≡ true) gs.conjuncts passed)
-          (λ (y : OrderItem) l. used_own y.col (in_from_contains q.used y.col (all_at (λ (z : OrderItem). Contains q.used z.col) q.order at.bound.order y l)))
+          (λ (y : OrderItem) l. used_own y.col (item_used c q at.bound y l))
           q.classes.classes at.bound.classes.classes x (subst (IsIn x) at.bound.classes.clauses j)
 
       clauses_held : (e : Cond) → IsIn e (clauses_at w q r p) → IsHeldNear c q r.0 (has p.0) d e

@@ -24,7 +24,7 @@ returns-in-Ok-clause-answered g c =
     let old = traces (g.K.Sink.held c.args.out.now) c.args.fetches.now c.args.reads.now in
     let new = traces (g.K.Sink.held c.print.new.out) c.print.new.fetches c.print.new.reads in
     answered-over (world c.args.catalog.now c.args.store.now.stored) c.args.text.now c.args.tokens.now (omega (arith, c.requires.some)) c.in_ok-query.query
-    c.in_ok-query.ensures.grammar c.in_ok-query.ensures.binding c.in_ok-query.ensures.well_bound c.explains-explained.result c.explains-explained.ensures old new c.end.result c.end.ensures c.in-Ok.ensures.replied
+    c.in_ok-query.ensures.grammar c.in_ok-query.ensures.binding c.in_ok-query.ensures.classes c.explains-explained.result c.explains-explained.ensures old new c.end.result c.end.ensures c.in-Ok.ensures.replied
 
 pub returns-clause-stopped : goal.returns-clause-stopped
 returns-clause-stopped g c =
@@ -32,7 +32,7 @@ returns-clause-stopped g c =
     let new = traces (g.K.Sink.held c.print.new.out) c.print.new.fetches c.print.new.reads in
     let first : c.from-first.result ≡ words_before (terminals c.args.text.now c.args.tokens.now) = search rules in
     printing-told (world c.args.catalog.now c.args.store.now.stored) c.args.text.now c.args.tokens.now (omega (arith, c.requires.some)) c.in_ok-query.query
-    c.in_ok-query.ensures.grammar c.in_ok-query.ensures.binding c.in_ok-query.ensures.well_bound c.explains-explained.result c.explains-explained.ensures old new
+    c.in_ok-query.ensures.grammar c.in_ok-query.ensures.binding c.in_ok-query.ensures.classes c.explains-explained.result c.explains-explained.ensures old new
     c.in-Err.stop c.token_at-select.result c.stopped_at.result c.stopped_at.ensures (c.token_at-select.ensures ∙ ap (λ (n : ℕ). token_at c.args.tokens.now n) first) c.in-Err.ensures.stopped c.in-Err.ensures.no_plan
 
 pub returns-clause-cause : goal.returns-clause-cause

@@ -10,7 +10,7 @@ use Rattle.catalog.specs.Contents.{Contents}
 use Rattle.fault_line.specs.Tells.{IsFieldOf}
 use Rattle.query_reader.specs.Select.{AreSelect, IsGrammatical, is_explained, words_before}
 use Rattle.sql_query.specs.Queries.{Query}
-use Rattle.eq_classes.specs.Holding.{IsTable}
+use Rattle.eq_classes.specs.Holding.{IsClassTable}
 use Rattle.sql_query.specs.WellBound.{given_of}
 use Rattle.sql_query.specs.Worlds.{World}
 use Rattle.reply.specs.declared.stop.Stop.{Stop}
@@ -44,7 +44,7 @@ still : (w : World) (explained : Bool) (q : Query) → w ≡ after w (cond expla
 still w true q = refl
 still w false q = refl
 
-module _ (w : World) (text : List ℕ) (tokens : List Token) (some : 0 < length tokens) (q : Query) (select : AreSelect text tokens) (binds : Binds w text tokens (Ok q)) (own : IsTable (given_of w.contents q) q.classes)
+module _ (w : World) (text : List ℕ) (tokens : List Token) (some : 0 < length tokens) (q : Query) (select : AreSelect text tokens) (binds : Binds w text tokens (Ok q)) (own : IsClassTable (given_of w.contents q) q.classes)
     (explained : Bool) (is : explained ≡ is_explained (terminals text tokens)) (old new : Traces) where
   -- its reply was written whole
   pub answered-over : (next : ℕ) → next ≡ end_of tokens → HasReplied (IsReply w (cond explained (explain q) (answer q))) old new → IsAnsweredOver w text tokens next old new

@@ -32,14 +32,7 @@ pub(crate) fn how_named(code: Code) -> Naming
     ensures { result ≡ naming_of code }
 {
     match code {
-        Code::S2
-        | Code::S3
-        | Code::S4
-        | Code::S5
-        | Code::S6
-        | Code::S7
-        | Code::S8
-        | Code::S18 => {
+        Code::S2 | Code::S3 | Code::S4 | Code::S5 | Code::S6 | Code::S7 | Code::S8 | Code::S18 => {
             Naming::Small
         }
         Code::S9 => Naming::AsWritten,

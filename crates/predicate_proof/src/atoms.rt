@@ -154,7 +154,8 @@ pub fn comparison_gives(columns: &[Column], clause: &Expr, goal: &Expr) -> bool
     ensures { IsTrue result ↔ ComparisonGives columns.now (cond clause.now) (cond goal.now) }
 {
     match (clause, goal) {
-        (Expr::Compare(_, l, r), Expr::IsNotNull(d)) => has_number(l, d.col) || has_number(r, d.col),
+        (Expr::Compare(_, l, r), Expr::IsNotNull(d)) => has_number(l, d.col)
+            || has_number(r, d.col),
         (
             Expr::Compare(op, Operand::Col(c), Operand::Lit(v)),
             Expr::Compare(other, Operand::Col(d), Operand::Lit(w)),

@@ -45,21 +45,21 @@ module _ (c : Contents) (q : Query) where
       let same = uncut-kept q.window (cost c q t) n (startup-most c q some t) e below in
       let total : n.total ≡ (cost c q t).total = ap (λ (x : Pair). x.total) same in
       record {
-    is_path = record {
-      plan = record { built = of.built; plain = of.plain; set_is = of.set_is; param_is = λ m. of.param_is m ∙ sym (has-zero m) };
-      numbers = record {
-        set = λ m. sym (of.set_is m);
-        param = λ m. has-zero m ∙ sym (of.param_is m);
-        startup = ap (λ (x : Pair). x.startup) same;
-        cost = total;
-        rows = r ∙ whole-rows c q s t (λ m. sym (of.set_is m)) of.param_is;
-        keys = k;
-      };
-    };
-    admissible = omega (arith, total, below);
-    set = refl;
-    param = refl;
-  }
+        is_path = record {
+          plan = record { built = of.built; plain = of.plain; set_is = of.set_is; param_is = λ m. of.param_is m ∙ sym (has-zero m) };
+          numbers = record {
+            set = λ m. sym (of.set_is m);
+            param = λ m. has-zero m ∙ sym (of.param_is m);
+            startup = ap (λ (x : Pair). x.startup) same;
+            cost = total;
+            rows = r ∙ whole-rows c q s t (λ m. sym (of.set_is m)) of.param_is;
+            keys = k;
+          };
+        };
+        admissible = omega (arith, total, below);
+        set = refl;
+        param = refl;
+      }
 
   pub paths-there : (s : RelSet) (ps : List Path) → All (IsPathAt c q s none) ps → ArePathsOf c q ps
   paths-there s ps h = All-weaker (IsPathAt c q s none) _ (λ x k. k.is_path) ps h

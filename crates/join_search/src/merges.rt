@@ -374,7 +374,9 @@ fn offer_early_sides(
 {
     offer_early_plain(alloc, cat, q, table, j, by, startup, work, front)?;
     match cheapest(table.paths(j.inner, RelSet(0))) {
-        Some(least) => offer_sort_if_early(alloc, cat, q, table, j, by, least, startup, work, front),
+        Some(least) => offer_sort_if_early(
+            alloc, cat, q, table, j, by, least, startup, work, front,
+        ),
         None => Ok(()),
     }
 }

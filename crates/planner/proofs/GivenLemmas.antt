@@ -11,7 +11,7 @@ use Rattle.pg_base.specs.declared.rel_set.RelSet.{RelSet}
 use Rattle.pg_expr.specs.Columns.{names_rel}
 use Rattle.pg_expr.specs.Cond.{Cond}
 use Rattle.catalog.specs.Contents.{Contents, indexes_of}
-use Rattle.eq_classes.specs.Clauses.{Clause, one}
+use Rattle.eq_classes.specs.Clauses.{Clause, Set, one}
 use Rattle.eq_classes.specs.Listing.{clause_at}
 use Rattle.eq_classes.specs.Parts.{is_base, is_param}
 use Rattle.eq_classes.proofs.InsideLemmas.{column_both, names_inside}
@@ -20,7 +20,8 @@ use Rattle.index_match.specs.Numbered.{Numbered, has_number, local}
 use Rattle.index_match.proofs.FoundLemmas.{chosen_numbers, those_are}
 use Rattle.index_match.proofs.PartLemmas.{conditions_local}
 use Rattle.path_cost.specs.Columns.{IsOver, is_column_in}
-use Rattle.path_cost.specs.Estimates.{conditions_from, is_local}
+use Rattle.path_cost.specs.Estimates.{conditions_from, conditions_where, is_local}
+use Rattle.path_cost.proofs.KeptLemmas.{where-from}
 use Rattle.sql_query.specs.Queries.{Query, width}
 use Rattle.plan_tree.specs.Bitmaps.{AreElements, Element, HasArms, HaveArms, IsBitTree, IsElement, IsTreeOver, MOST_ELEMENTS, by_clause, by_index, candidates, element_of, elements_of, some_uses, table_of_relation, uses}
 use Rattle.plan_tree.specs.Plans.{BitTree, leaf, all_hold, some_arm, BitTrees, no_trees, tree_and}
@@ -28,6 +29,14 @@ use Rattle.plan_tree.specs.Space.{others_named}
 use Rattle.plan_tree.proofs.FrontLemmas.{contains-source}
 use Rattle.bitmap_scan.proofs.ElementLemmas.{all-joined, all-mapped, all-picked, all-weaker}
 use Rattle.bitmap_scan.proofs.MarkedLemmas.{chosen-is-there}
+
+-- what the clauses of a parameterisation name, where a set has their numbers
+pub named-where : (r : ℕ) (param : Set) (ks : List Clause) (given : ℕ → Bool) → ((n : ℕ) → given n ≡ nat_lt n (length ks) && is_param r param (clause_at ks n)) →
+    (k : ℕ) → others_named r (conditions_from 0 given ks) k ≡ others_named r (conditions_where (is_param r param) ks) k
+named-where r param ks given are k = ap (λ (es : List Cond). others_named r es k) (where-from (is_param r param) given ks 0 at)
+  where
+    at : (j : ℕ) → j < length ks → given (0 + j) ≡ is_param r param (clause_at ks j)
+    at j lt = let same : 0 + j ≡ j = omega arith in ap given same ∙ are j ∙ ap (λ b. b && is_param r param (clause_at ks j)) (lt-ltb j (length ks) lt)
 
 -- what passes a test among the conditions of some clauses does so among those of others that have it
 more-pass : (f : Cond → Bool) (chosen other : ℕ → Bool) (n : ℕ) (ks : List Clause) →

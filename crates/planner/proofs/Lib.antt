@@ -1,5 +1,5 @@
 pub mod EstimateLemmas
-pub mod OrderLemmas
+pub mod PriceLemmas
 pub mod PlaceLemmas
 pub mod GivenLemmas
 pub mod BaseLemmas

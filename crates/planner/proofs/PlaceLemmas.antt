@@ -1,18 +1,18 @@
--- The path at a place, and the least cost of the paths before it.
-use Rattle.std.proofs.Common.{◌≡◌, ◌<◌, ◌≤◌, ℕ, ◌+◌, List, get_or, length, map, take, sym, ◌∙◌, ap, subst, take_all, arith}
-use Rattle.std.specs.Prelude.{All, IfSome, Option, Some, None}
+-- The path at a place, and the least price of the paths before it.
+use Rattle.std.proofs.Common.{◌≡◌, ◌⊎◌, ◌<◌, ◌≤◌, ℕ, ◌+◌, List, get_or, length, map, take, inl, inr, refl, sym, ◌∙◌, ap, subst, take_all}
+use Rattle.std.specs.Prelude.{All, IfNone, IfSome, Option, Some, None}
 use Rattle.std.proofs.lemmas.List.{get_or_default}
-use Rattle.std.proofs.lemmas.List.Elements.{All-contains, All-map, All-more, All-weaker}
+use Rattle.std.proofs.lemmas.List.Elements.{All-contains, All-map, All-more, All-nil, All-weaker}
 use Rattle.catalog.specs.Contents.{Contents}
-use Rattle.cost_rules.specs.Costs.{capped}
-use Rattle.cost_rules.specs.declared.parameters.TheConstants.{MOST_COST}
 use Rattle.sql_query.specs.Queries.{Query}
 use Rattle.plan_tree.specs.Least.{IsAdmissible}
 use Rattle.plan_tree.specs.Paths.{Path}
 use Rattle.plan_tree.specs.Views.{path}
 use Rattle.plan_tree.specs.declared.path.Path.{Path as Costed}
 use Rattle.plan_tree.proofs.FrontLemmas.{contains-mapped}
-use Rattle.planner.specs.Finishing.{IsLeastOf, finished, finished_total}
+use Rattle.planner.specs.Finishing.{IsLeastOf, IsPriced, finished, finished_price}
+use Rattle.planner.specs.Priced.{IsUnder}
+use Rattle.planner.specs.declared.finishing.Least.{Least}
 
 pub at-place : (P : Path → Type 0) (xs : List Costed) (k : ℕ) (x : Costed) → k < length xs → x ≡ get_or xs k x → All P (map path xs) → P (path x)
 at-place P xs k x lt e h = All-contains P (map path xs) (path x) h (contains-mapped path xs x (k, lt, sym e))
@@ -21,66 +21,74 @@ pub one-more : (P : Costed → Type 0) (xs : List Costed) (k : ℕ) (x : Costed)
 one-more P xs k x lt e before this = All-more P xs k x lt before (subst P e this)
 
 module _ (c : Contents) (q : Query) where
-  -- what the plan of a path costs in the order asked for, cut
-  abbrev pub total_at : Costed → ℕ
-  total_at x = capped (finished_total c q (path x).tree)
+  -- the least price of the paths so far, and where it is
+  pub record IsLeastSoFar (xs : List Costed) (best : Option Least) (at : ℕ) : Type 0 where
+    pub within : IfSome best (λ b. b.at < length xs)
+    pub priced : IfSome best (λ b. (d : Costed) → IsPriced c q (path (get_or xs b.at d)) b.price)
+    pub under : All (λ x. IsAdmissible c q (finished c q (path x).tree) → IsUnder best (finished_price c q (path x).tree)) (take at xs)
 
-  -- the least cost of the paths so far, and where it is
-  pub record IsLeastSoFar (xs : List Costed) (place : Option ℕ) (least at : ℕ) : Type 0 where
-    pub within : IfSome place (λ k. k < length xs)
-    pub placed : IfSome place (λ k. (d : Costed) → least ≡ total_at (get_or xs k d))
-    pub below : IfSome place (λ k. least < MOST_COST)
-    pub most : least ≤ MOST_COST
-    pub none : place ≡ None → least ≡ MOST_COST
-    pub under : All (λ x. least ≤ total_at x) (take at xs)
+  pub none-so-far : (xs : List Costed) → IsLeastSoFar xs None 0
+  none-so-far xs = record { within = tt; priced = tt; under = All-nil (λ x. IsAdmissible c q (finished c q (path x).tree) → IsUnder None (finished_price c q (path x).tree)) }
 
-  module _ (xs : List Costed) (place : Option ℕ) (least at : ℕ) (before : IsLeastSoFar xs place least at) where
-    module _ (x : Costed) (lt : at < length xs) (is : x ≡ get_or xs at x) where
-      pub so-far-less : total_at x < least → IsLeastSoFar xs (Some at) (total_at x) (at + 1)
-      so-far-less less = record {
-        within = lt;
-        placed = λ d. ap total_at (is ∙ get_or_default xs at x d lt);
-        below = (let m = before.most in omega (arith, m, less));
-        most = (let m = before.most in omega (arith, m, less));
-        none = λ e. absurd (some-none e);
-        under = one-more (λ y. total_at x ≤ total_at y) xs at x lt is
-            (All-weaker (λ y. least ≤ total_at y) (λ y. total_at x ≤ total_at y) (λ y h. (omega (arith, h, less))) (take at xs) before.under) (omega arith);
-      }
-        where
-          some-none : Some at ≡ None → ⊥
-          some-none e = cc
+  -- one more path
+  module _ (xs : List Costed) (old new : Option Least) (price : Option ℕ) (at : ℕ) (before : IsLeastSoFar xs old at) (x : Costed) (lt : at < length xs) (is : x ≡ get_or xs at x)
+      (found : IfSome price (IsPriced c q (path x))) (never : IfNone price (¬ IsAdmissible c q (finished c q (path x).tree)))
+      (first : (n : ℕ) → IsUnder old n → IsUnder new n) (this : (n : ℕ) → price ≡ Some n → IsUnder new n)
+      (from : IfSome new (λ r. (old ≡ Some r) ⊎ ((r.at ≡ at) × (price ≡ Some r.price)))) where
+    from-old : (P : Least → Type 0) (r : Least) → old ≡ Some r → IfSome old P → P r
+    from-old P r e h = subst (λ (o : Option Least). IfSome o P) e h
 
-      pub so-far-same : least ≤ total_at x → IsLeastSoFar xs place least (at + 1)
-      so-far-same more = record {
-        within = before.within;
-        placed = before.placed;
-        below = before.below;
-        most = before.most;
-        none = before.none;
-        under = one-more (λ y. least ≤ total_at y) xs at x lt is before.under more;
-      }
+    from-price : (P : ℕ → Type 0) (n : ℕ) → price ≡ Some n → IfSome price P → P n
+    from-price P n e h = subst (λ (o : Option ℕ). IfSome o P) e h
 
-    module _ (all : length xs ≤ at) where
-      whole : All (λ y. least ≤ total_at y) xs
-      whole = subst (All (λ y. least ≤ total_at y)) (take_all at xs all) before.under
+    by-some : (P : Least → Type 0) → ((r : Least) → (old ≡ Some r) ⊎ ((r.at ≡ at) × (price ≡ Some r.price)) → P r) → (o : Option Least) → IfSome o (λ r. (old ≡ Some r) ⊎ ((r.at ≡ at) × (price ≡ Some r.price))) → IfSome o P
+    by-some P each None h = tt
+    by-some P each (Some r) h = each r h
 
-      pub none-admissible : place ≡ None → All (λ p. ¬ IsAdmissible c q (finished c q p.tree)) (map path xs)
-      none-admissible e =
-          let top = before.none e in
-          All-map (λ p. ¬ IsAdmissible c q (finished c q p.tree)) path xs
-          (All-weaker (λ y. least ≤ total_at y) (λ y. ¬ IsAdmissible c q (finished c q (path y).tree)) (λ y h a. (omega (arith, top, h, a))) xs whole)
+    within-one : (r : Least) → (old ≡ Some r) ⊎ ((r.at ≡ at) × (price ≡ Some r.price)) → r.at < length xs
+    within-one r (inl e) = from-old (λ b. b.at < length xs) r e before.within
+    within-one r (inr h) = subst (λ n. n < length xs) (sym h.0) lt
 
-      least-at : (x : Costed) → least < MOST_COST → least ≡ total_at x → IsLeastOf c q (map path xs) (path x).tree
-      least-at x below is = record {
-        admissible = omega (arith, below, is);
-        least = All-map (λ p. finished_total c q (path x).tree ≤ finished_total c q p.tree) path xs
-            (All-weaker (λ y. least ≤ total_at y) (λ y. finished_total c q (path x).tree ≤ finished_total c q (path y).tree) (λ y h. (omega (arith, below, is, h))) xs whole);
-      }
+    priced-one : (r : Least) → (old ≡ Some r) ⊎ ((r.at ≡ at) × (price ≡ Some r.price)) → (d : Costed) → IsPriced c q (path (get_or xs r.at d)) r.price
+    priced-one r (inl e) d = from-old (λ b. (d : Costed) → IsPriced c q (path (get_or xs b.at d)) b.price) r e before.priced d
+    priced-one r (inr h) d =
+        let same : x ≡ get_or xs r.at d = is ∙ get_or_default xs at x d lt ∙ ap (λ n. get_or xs n d) (sym h.0) in
+        subst (λ (y : Costed). IsPriced c q (path y) r.price) same (from-price (IsPriced c q (path x)) r.price h.1 found)
 
-      pub least-found : IfSome place (λ k. (d : Costed) → IsLeastOf c q (map path xs) (path (get_or xs k d)).tree)
-      least-found = by place before.placed before.below
-        where
-          by : (o : Option ℕ) → IfSome o (λ k. (d : Costed) → least ≡ total_at (get_or xs k d)) → IfSome o (λ k. least < MOST_COST) →
-              IfSome o (λ k. (d : Costed) → IsLeastOf c q (map path xs) (path (get_or xs k d)).tree)
-          by None h b = tt
-          by (Some k) h b = λ d. least-at (get_or xs k d) b (h d)
+    under-this : (o : Option ℕ) → price ≡ o → IsAdmissible c q (finished c q (path x).tree) → IsUnder new (finished_price c q (path x).tree)
+    under-this None e a = absurd (subst (λ (o : Option ℕ). IfNone o (¬ IsAdmissible c q (finished c q (path x).tree))) e never a)
+    under-this (Some n) e a = subst (IsUnder new) (from-price (IsPriced c q (path x)) n e found).price (this n e)
+
+    pub one-so-far : IsLeastSoFar xs new (at + 1)
+    one-so-far = record {
+      within = by-some (λ b. b.at < length xs) within-one new from;
+      priced = by-some (λ b. (d : Costed) → IsPriced c q (path (get_or xs b.at d)) b.price) priced-one new from;
+      under = one-more (λ y. IsAdmissible c q (finished c q (path y).tree) → IsUnder new (finished_price c q (path y).tree)) xs at x lt is
+          (All-weaker (λ y. IsAdmissible c q (finished c q (path y).tree) → IsUnder old (finished_price c q (path y).tree)) (λ y. IsAdmissible c q (finished c q (path y).tree) → IsUnder new (finished_price c q (path y).tree))
+          (λ y h a. first (finished_price c q (path y).tree) (h a)) (take at xs) before.under) (under-this price refl);
+    }
+
+  module _ (xs : List Costed) (best : Option Least) (at : ℕ) (so : IsLeastSoFar xs best at) (all : length xs ≤ at) where
+    whole : All (λ x. IsAdmissible c q (finished c q (path x).tree) → IsUnder best (finished_price c q (path x).tree)) xs
+    whole = subst (All (λ x. IsAdmissible c q (finished c q (path x).tree) → IsUnder best (finished_price c q (path x).tree))) (take_all at xs all) so.under
+
+    pub none-admissible : best ≡ None → All (λ p. ¬ IsAdmissible c q (finished c q p.tree)) (map path xs)
+    none-admissible e =
+        All-map (λ p. ¬ IsAdmissible c q (finished c q p.tree)) path xs
+        (All-weaker (λ x. IsAdmissible c q (finished c q (path x).tree) → IsUnder best (finished_price c q (path x).tree)) (λ x. ¬ IsAdmissible c q (finished c q (path x).tree))
+        (λ x h a. subst (λ (o : Option Least). IsUnder o (finished_price c q (path x).tree)) e (h a)) xs whole)
+
+    pub least-found : (r : Least) → best ≡ Some r → (d : Costed) → IsLeastOf c q (map path xs) (path (get_or xs r.at d)).tree
+    least-found r e d =
+        let priced = subst (λ (o : Option Least). IfSome o (λ b. (d : Costed) → IsPriced c q (path (get_or xs b.at d)) b.price)) e so.priced d in
+        let t = (path (get_or xs r.at d)).tree in
+        record {
+          admissible = priced.admissible;
+          least = All-map (λ (p : Path). IsAdmissible c q (finished c q p.tree) → finished_price c q t ≤ finished_price c q p.tree) path xs
+              (All-weaker (λ x. IsAdmissible c q (finished c q (path x).tree) → IsUnder best (finished_price c q (path x).tree))
+              (λ x. IsAdmissible c q (finished c q (path x).tree) → finished_price c q t ≤ finished_price c q (path x).tree)
+              (λ x h a. subst (λ n. n ≤ finished_price c q (path x).tree) priced.price (subst (λ (o : Option Least). IsUnder o (finished_price c q (path x).tree)) e (h a))) xs whole);
+        }
+
+    pub place-within : (r : Least) → best ≡ Some r → r.at < length xs
+    place-within r e = subst (λ (o : Option Least). IfSome o (λ b. b.at < length xs)) e so.within

@@ -1,10 +1,11 @@
 -- Paths of all relations of a query, and their plans brought into the order asked for (PostgreSQL,
--- src/backend/optimizer/plan/planner.c, create_ordered_paths).
-use Rattle.std.specs.Prelude.{◌≤◌, ℕ, cond, true, List, All}
+-- src/backend/optimizer/plan/planner.c, create_ordered_paths; src/backend/optimizer/util/pathnode.c,
+-- compare_fractional_path_costs; the limit is own).
+use Rattle.std.specs.Prelude.{◌≡◌, ◌≤◌, ℕ, cond, true, List, All}
 use Rattle.catalog.specs.Contents.{Contents}
 use Rattle.pathkeys.specs.Keys.{covers, order_keys}
 use Rattle.sql_query.specs.Queries.{Query, all_of_query}
-use Rattle.plan_tree.specs.Costs.{cost}
+use Rattle.plan_tree.specs.Costs.{price}
 use Rattle.plan_tree.specs.Fronts.{AreDominated}
 use Rattle.plan_tree.specs.Keys.{keys_of}
 use Rattle.plan_tree.specs.Least.{IsAdmissible}
@@ -28,10 +29,16 @@ module _ (c : Contents) (q : Query) where
   abbrev pub finished : Plan → Plan
   finished t = cond (covers (keys_of c q t) (order_keys q.classes q.order)) t (sort (order_keys q.classes q.order) t)
 
-  abbrev pub finished_total : Plan → ℕ
-  finished_total t = (cost c q (finished t)).total
+  abbrev pub finished_price : Plan → ℕ
+  finished_price t = price c q (finished t)
 
-  -- a plan that is admissible once it is in the order asked for, and costs no more then than those of some paths do
+  -- so many is what the plan of a path costs by its price in the order asked for, where it is admissible so
+  pub record IsPriced (p : Path) (n : ℕ) : Type 0 where
+    pub admissible : IsAdmissible c q (finished p.tree)
+    pub price : n ≡ finished_price p.tree
+
+  -- a plan that is admissible once it is in the order asked for, and of no greater price then than those of some paths
+  -- that are admissible so
   pub record IsLeastOf (paths : List Path) (t : Plan) : Type 0 where
     pub admissible : IsAdmissible c q (finished t)
-    pub least : All (λ p. finished_total t ≤ finished_total p.tree) paths
+    pub least : All (λ p. IsAdmissible c q (finished p.tree) → finished_price t ≤ finished_price p.tree) paths

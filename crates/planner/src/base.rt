@@ -1,6 +1,6 @@
 //! The paths of one relation, also where rows of other relations are given.
 
-ghost use Rattle.std.specs.Prelude.{◌≡◌, ◌<◌, ◌≤◌, ℕ, false, IfOk, OnOk, Some, map};
+ghost use Rattle.std.specs.Prelude.{◌≡◌, ◌<◌, ◌≤◌, ◌↔◌, ℕ, IsTrue, false, IfOk, OnOk, Some, map};
 ghost use Rattle.pg_base.specs.Sets.{has};
 ghost use Rattle.pg_base.specs.declared.rel_set.RelSet as sets;
 ghost use Rattle.eq_classes.specs.Clauses.{one};
@@ -12,7 +12,7 @@ ghost use Rattle.plan_tree.specs.Space.{IsPlanOf, IsSameSet};
 ghost use Rattle.plan_tree.specs.Views.{path};
 ghost use Rattle.join_search.specs.Joins.{IsBase};
 ghost use Rattle.join_search.specs.Tables.{IsSamePlace, front_at, paths_at};
-ghost use Rattle.planner.specs.Bases.{AreAllOf, HaveScansOf, is_plan};
+ghost use Rattle.planner.specs.Bases.{AreAllOf, AreNamed, HaveScansOf, is_plan};
 
 use bitmap_scan::bitmaps;
 use catalog::Catalog;
@@ -24,12 +24,13 @@ use scan_paths::scans;
 use sql_query::Prepared;
 use std::alloc::{AllocError, Global};
 
-/// Whether a scan of a relation may be given the rows of these others: the clauses that it then tests name each of them.
-/// Where it says no there is no such scan.
+/// Whether a scan of a relation may be given the rows of these others: the clauses that it then tests beside its own name
+/// each of them. Where it says no there is no such scan.
 fn may_be_given(cat: &Catalog, q: &Prepared, r: RelNo, p: RelSet) -> bool
     requires query { IsOverTables cat.now q.now }
     requires relation { r.0 < width q.now }
-    ensures { result ≡ false → (t : plans.Plan) → ¬ IsPlanOf cat.now q.now (one r.0) (has p.0) t }
+    ensures named { IsTrue result ↔ AreNamed q.now r.0 (has p.0) }
+    ensures none { result ≡ false → (t : plans.Plan) → ¬ IsPlanOf cat.now q.now (one r.0) (has p.0) t }
 {
     let tested = classes_of(q).param_clauses(r, p);
     let named = others_named(cat, q, r, &tested);

@@ -1,52 +1,101 @@
-//! Paths of all relations brought into the order asked for (PostgreSQL, src/backend/optimizer/plan/planner.c,
-//! create_ordered_paths).
+//! Paths of all relations brought into the order asked for, and their prices (PostgreSQL,
+//! src/backend/optimizer/plan/planner.c, create_ordered_paths; src/backend/optimizer/util/pathnode.c,
+//! get_cheapest_fractional_path).
 
-ghost use Rattle.std.specs.Prelude.{◌≡◌, ◌<◌, All, IfOk, IfSome, None, get_or, length, map};
-ghost use Rattle.cost_rules.specs.Costs.{capped};
+ghost use Rattle.std.specs.Prelude.{◌≡◌, ◌⊎◌, ◌<◌, ◌≤◌, ℕ, All, IfNone, IfOk, IfSome, None, Some, get_or, length, map};
+ghost use Rattle.cost_rules.specs.Costs.{IsCost, capped_pair};
 ghost use Rattle.pathkeys.specs.Keys as keys;
 ghost use Rattle.plan_tree.specs.Costs as costs;
 ghost use Rattle.plan_tree.specs.Least.{IsAdmissible};
-ghost use Rattle.plan_tree.specs.Paths.{HasItsNumbers};
+ghost use Rattle.plan_tree.specs.Paths.{HasItsNumbers, kept_cost};
 ghost use Rattle.plan_tree.specs.Plans as plans;
 ghost use Rattle.plan_tree.specs.Views.{path};
 ghost use Rattle.plan_tree.specs.declared.path.Path as costed;
-ghost use Rattle.planner.specs.Finishing.{IsLeastOf, IsWhole, finished, finished_total};
+ghost use Rattle.planner.specs.Finishing.{IsLeastOf, IsPriced, IsWhole, finished};
+ghost use Rattle.planner.specs.Priced.{IsUnder};
 
 use catalog::Catalog;
 use cost_rules::{MOST_COST, Pair, sort};
 use pathkeys::{Keys, covers};
 use pg_base::Memory;
-use plan_tree::{Path, Plan, has_no_window};
+use plan_tree::{Path, Plan, cost_of, kept_of, price_of};
 use sql_query::Prepared;
 use std::alloc::Global;
 
-/// The cost of a sort of the path's plan, cut to at most 10^18.
-fn sorted_cost(cat: &Catalog, q: &Prepared, p: &Path) -> u64
-    requires whole { IsWhole cat.now q.now (path p.now) }
-    ensures { (by : keys.Keys) → result ≡ capped (costs.cost cat.now q.now (plans.sort by (path p.now).tree)).total }
-{
-    let input = Pair {
-        startup: 0,
-        total: p.cost,
-    };
-    sort(input, p.rows).total
+/// A path of the least price of some.
+#[derive(Clone, Copy)]
+pub(crate) struct Least {
+    /// Its place.
+    at: usize,
+    /// Its price in the order asked for.
+    price: u64,
 }
 
-/// The cost of the path's plan in the order asked for, cut to at most 10^18.
-fn finished_cost(cat: &Catalog, q: &Prepared, p: &Path, order: &Keys) -> u64
+/// The cost of a sort of the path's plan, as a path keeps it, cut to at most 10^18.
+fn sorted_cost(cat: &Catalog, q: &Prepared, p: &Path) -> Pair
+    requires whole { IsWhole cat.now q.now (path p.now) }
+    ensures kept { (by : keys.Keys) → result ≡ capped_pair (kept_cost q.now.window (costs.cost cat.now q.now (plans.sort by (path p.now).tree))) }
+    ensures cost { IsCost result }
+{
+    let input = cost_of(cat, q, p);
+    kept_of(q, sort(input, p.rows))
+}
+
+/// The cost of the path's plan in the order asked for, as a path keeps it, cut to at most 10^18.
+fn finished_cost(cat: &Catalog, q: &Prepared, p: &Path, order: &Keys) -> Pair
     requires whole { IsWhole cat.now q.now (path p.now) }
     requires order { order.now ≡ keys.order_keys q.now.classes q.now.order }
-    ensures { result ≡ capped (finished_total cat.now q.now (path p.now).tree) }
+    ensures kept { result ≡ capped_pair (kept_cost q.now.window (costs.cost cat.now q.now (finished cat.now q.now (path p.now).tree))) }
+    ensures cost { IsCost result }
 {
     if covers(&p.keys, order) {
-        p.cost
+        cost_of(cat, q, p)
     } else {
         sorted_cost(cat, q, p)
     }
 }
 
-/// The place of a path whose plan, in the order asked for, is admissible and costs least. None exactly where no plan of
-/// the paths is admissible then.
+/// The price of the path's plan in the order asked for. None exactly where it is not admissible then.
+fn finished_price(cat: &Catalog, q: &Prepared, p: &Path, order: &Keys) -> Option<u64>
+    requires whole { IsWhole cat.now q.now (path p.now) }
+    requires order { order.now ≡ keys.order_keys q.now.classes q.now.order }
+    ensures priced { IfSome result (λ n. IsPriced cat.now q.now (path p.now) n) }
+    ensures none { IfNone result (¬ IsAdmissible cat.now q.now (finished cat.now q.now (path p.now).tree)) }
+{
+    cat.lawful();
+    let cost = finished_cost(cat, q, p, order);
+    if cost.total >= MOST_COST {
+        return None;
+    }
+    Some(price_of(q, cost, p.rows))
+}
+
+/// The first of two where it is of no greater price.
+fn lesser(best: Option<Least>, new: Least) -> Least
+    ensures first { (n : ℕ) → IsUnder best n → result.price ≤ n }
+    ensures this { result.price ≤ new.price }
+    ensures from { (best ≡ Some result) ⊎ (result ≡ new) }
+{
+    match best {
+        Some(least) => { if least.price <= new.price { least } else { new } }
+        None => new,
+    }
+}
+
+/// The least price of some paths and of one more, if that one has a price.
+fn least_with(best: Option<Least>, at: usize, price: Option<u64>) -> Option<Least>
+    ensures first { (n : ℕ) → IsUnder best n → IsUnder result n }
+    ensures this { (n : ℕ) → price ≡ Some n → IsUnder result n }
+    ensures from { IfSome result (λ r. (best ≡ Some r) ⊎ ((r.at ≡ at) × (price ≡ Some r.price))) }
+{
+    match price {
+        Some(price) => Some(lesser(best, Least { at, price })),
+        None => best,
+    }
+}
+
+/// The place of a path whose plan, in the order asked for, is admissible and of the least price. None exactly where no
+/// plan of the paths is admissible then.
 pub(crate) fn least_place(
     cat: &Catalog,
     q: &Prepared,
@@ -59,16 +108,15 @@ pub(crate) fn least_place(
     ensures least { IfSome result (λ at. (d : costed.Path) → IsLeastOf cat.now q.now (map path paths.now) (path (get_or paths.now at d)).tree) }
     ensures none { result ≡ None → All (λ p. ¬ IsAdmissible cat.now q.now (finished cat.now q.now p.tree)) (map path paths.now) }
 {
-    let mut place = None;
-    let mut least = MOST_COST;
+    let mut best = None;
     for at in 0..paths.len() {
-        let cost = finished_cost(cat, q, &paths[at], order);
-        if cost < least {
-            place = Some(at);
-            least = cost;
-        }
+        let price = finished_price(cat, q, &paths[at], order);
+        best = least_with(best, at, price);
     }
-    place
+    match best {
+        Some(least) => Some(least.at),
+        None => None,
+    }
 }
 
 /// The path of a sort of the path's plan by the order keys, which is admissible. The error means want of memory.
@@ -78,7 +126,7 @@ fn sorted(alloc: Global, cat: &Catalog, q: &Prepared, p: Path, order: Keys) -> R
     ensures tree { IfOk result (λ made. (path made).tree ≡ plans.sort order (path p).tree) }
     ensures numbers { IfOk result (λ made. HasItsNumbers cat.now q.now (path made)) }
 {
-    has_no_window(q);
+    cat.lawful();
     let cost = sorted_cost(cat, q, &p);
     let keys = order.copy(alloc)?;
     let (set, param, rows) = (p.set, p.param, p.rows);
@@ -87,8 +135,8 @@ fn sorted(alloc: Global, cat: &Catalog, q: &Prepared, p: Path, order: Keys) -> R
         plan: Plan::Sort { keys: order, input },
         set,
         param,
-        startup: 0,
-        cost,
+        startup: cost.startup,
+        cost: cost.total,
         rows,
         keys,
     })

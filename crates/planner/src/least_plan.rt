@@ -1,6 +1,6 @@
 //! The plan that a query is answered by.
 
-ghost use Rattle.std.specs.Prelude.{◌≡◌, IfErr, IfOk, map};
+ghost use Rattle.std.specs.Prelude.{◌≡◌, ◌↔◌, IfErr, IfOk, map};
 ghost use Rattle.pathkeys.specs.Keys as keys;
 ghost use Rattle.sql_query.specs.WellBound.{IsWellBound};
 ghost use Rattle.plan_tree.specs.Least.{IsAdmissible, IsBestPlan};
@@ -18,7 +18,7 @@ use catalog::Catalog;
 use join_search::{Table, search};
 use pathkeys::{Keys, order_keys};
 use pg_base::{Memory, RelSet};
-use plan_tree::{Path, classes_of, has_no_window};
+use plan_tree::{Path, classes_of};
 use sql_query::Prepared;
 use std::alloc::{AllocError, Global};
 
@@ -65,20 +65,22 @@ fn whole_paths(table: &Table, all: RelSet) -> &[Path]
     }
 }
 
-/// The least of some paths of all relations, in the order asked for.
+/// The least of some paths of all relations, in the order asked for. `CostLimit` comes exactly where no finished plan is
+/// below 10^18, and `Memory` means want of memory where one is.
 fn least_of(
     alloc: Global,
     cat: &Catalog,
     q: &Prepared,
     paths: &[Path],
+    order: Keys,
 ) -> Result<Planned, PlanFault>
-    requires { AreCandidates cat.now q.now (map path paths.now) }
+    requires candidates { AreCandidates cat.now q.now (map path paths.now) }
+    requires order { order ≡ keys.order_keys q.now.classes q.now.order }
     ensures best { IfOk result (λ planned. IsFinishedPath cat.now q.now (path planned.best)) }
     ensures least { IfOk result (λ planned. IsBestPlan cat.now q.now (path planned.best).tree) }
-    ensures limit { IfErr result (λ e. e ≡ CostLimit → (t : plans.Plan) → IsFinished cat.now q.now t → ¬ IsAdmissible cat.now q.now t) }
+    ensures limit { IfErr result (λ e. (e ≡ CostLimit) ↔ ((t : plans.Plan) → IsFinished cat.now q.now t → ¬ IsAdmissible cat.now q.now t)) }
 {
-    has_no_window(q);
-    let order = order_asked(alloc, q)?;
+    cat.lawful();
     match least_place(cat, q, paths, &order) {
         None => Err(PlanFault::CostLimit),
         Some(at) => {
@@ -88,9 +90,9 @@ fn least_of(
     }
 }
 
-/// A plan of least cost: its path is of a finished plan below 10^18, and no other such plan of the whole plan space costs
-/// less, whatever joins it is made of. A plan of all relations whose keys begin with the order keys is finished; any
-/// other is sorted. `CostLimit` comes exactly where no finished plan is below 10^18, and `Memory` means want of memory.
+/// A plan of least price: its path is of a finished plan below 10^18, and no other such plan of the whole plan space is of
+/// a lower price, whatever joins it is made of. The price is the total, or under a window what the rows asked for cost. A
+/// plan of all relations whose keys begin with the order keys is finished; any other is sorted. `CostLimit` comes exactly where no finished plan is below 10^18, and `Memory` means want of memory.
 /// With n relations some 3^n pairs of sets are joined, each by what was kept of the two.
 pub fn plan(alloc: Global, cat: &Catalog, q: &Prepared) -> Result<Planned, PlanFault>
     requires bound { IsWellBound cat.now q.now }
@@ -99,8 +101,9 @@ pub fn plan(alloc: Global, cat: &Catalog, q: &Prepared) -> Result<Planned, PlanF
     ensures limit { IfErr result (λ e. e ≡ CostLimit → (t : plans.Plan) → IsFinished cat.now q.now t → ¬ IsAdmissible cat.now q.now t) }
 {
     cat.lawful();
+    let order = order_asked(alloc, q)?;
     let base = base_table(alloc, cat, q)?;
     let table = search(alloc, cat, q, base)?;
     let all = all_relations(q);
-    least_of(alloc, cat, q, whole_paths(&table, all))
+    least_of(alloc, cat, q, whole_paths(&table, all), order)
 }

@@ -1,6 +1,6 @@
 use Rattle.planner.proofs.PlaceLemmas.{IsLeastSoFar}
 use Rattle.planner.proofs.finishing.least_place.Given as goal
 
--- the least cost of the paths so far, and where it is
+-- the least price of the paths so far, and where it is
 abbrev pub invariant-loop-at : goal.invariant-loop-at
-invariant-loop-at l = IsLeastSoFar l.cat l.q l.paths l.place l.least l.at
+invariant-loop-at l = IsLeastSoFar l.cat l.q l.paths l.best l.at

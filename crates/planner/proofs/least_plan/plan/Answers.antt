@@ -13,8 +13,8 @@ base_table-requires c = record { query = bound-over c.args.cat.now c.args.q.now 
 pub search-requires-clause-query : goal.search-requires-clause-query
 search-requires-clause-query c = bound-over c.args.cat.now c.args.q.now c.requires.bound
 
-pub least_of-requires : goal.least_of-requires
-least_of-requires c =
+pub least_of-requires-clause-candidates : goal.least_of-requires-clause-candidates
+least_of-requires-clause-candidates c =
     let contents = c.args.cat.now in
     let q = c.args.q.now in
     let base = c.in_ok-base.base in

@@ -1,7 +1,7 @@
 -- What is found of a table's rows is kept, and never refused.
-use Rattle.std.proofs.Common.{◌≡◌, ◌<◌, ◌∙◌, Bool, true, false, [], length, Some, ap, sym, subst, arith, inl, inr, refl}
+use Rattle.std.proofs.Common.{◌≡◌, ◌<◌, ◌∙◌, Bool, true, false, [], length, Some, Result, Ok, Err, ap, sym, subst, arith, inl, inr, refl}
 use Rattle.std.proofs.lemmas.Bool.{true≢false}
-use Rattle.std.specs.Prelude.{slice_get}
+use Rattle.std.specs.Prelude.{IfErr, OnOk, is_err, slice_get}
 use Rattle.std.proofs.lemmas.Option.{get_or_from_slice_get}
 use Rattle.pg_base.specs.declared.numbers.TableNo.{TableNo}
 use Rattle.heap.specs.Stored.{Stored}
@@ -48,15 +48,23 @@ module _ (c : Contents) (k : Kept) (of : IsStoreOf c k) (t : TableNo) (is : IsTa
 
       -- no cause of a refusal is left
       not-both : {b : Bool} → b ≡ true → b ≡ false → ⊥
-      not-both yes no = true≢false (sym yes ∙ no)
+      not-both held wrong = true≢false (sym held ∙ wrong)
 
       pub none : (e : CatalogFault) → IsTableRefusal s e → ⊥
       none (refused.BadNumber place) (inl (inl (at-rows, wrong))) = not-both allowed.rows wrong
       none (refused.BadNumber place) (inl (inr (at-pages, some, wrong))) = not-both allowed.pages wrong
-      none (refused.BadNumber place) (inr (some, more, r)) =
+      none (refused.BadNumber place) (inr (some, (more, r))) =
           let d : Statistics = record { distinct = 1; nulls = 0; common = []; histogram = [] } in
           not-both (r.refused d).refused (allowed.columns r.column d r.within place)
       none refused.NameTaken h = h
       none (refused.ColumnTwice place) h = h
       none refused.TooMany h = h
       none refused.Memory h = h
+
+      pub never-refused : {T : Type 0} (r : Result T CatalogFault) → IfErr r (IsTableRefusal s) → is_err r ≡ true → ⊥
+      never-refused (Ok x) cause wrong = true≢false (sym wrong)
+      never-refused (Err e) cause wrong = none e cause
+
+      pub is-kept : {T : Type 0} (r : Result T CatalogFault) (d : Contents) → IfErr r (IsTableRefusal s) → OnOk r (d ≡ with_analysis c t s) → d ≡ with_analysis c t s
+      is-kept (Ok x) d cause made = made
+      is-kept (Err e) d cause made = absurd (none e cause)

@@ -26,6 +26,8 @@ group-alias : (rest : List Terminal) → ends_group rest ≡ true → ends_alias
 group-alias (t_mark Comma _ ∷ rest) ends = refl
 group-alias (t_key WhereKey _ ∷ rest) ends = refl
 group-alias (t_key Order _ ∷ rest) ends = refl
+group-alias (t_key LimitKey _ ∷ rest) ends = refl
+group-alias (t_key OffsetKey _ ∷ rest) ends = refl
 group-alias (t_semicolon _ ∷ rest) ends = refl
 group-alias (t_end _ ∷ rest) ends = refl
 group-alias _ ends = absurd (cc (ends))
@@ -34,6 +36,8 @@ group-expr : (rest : List Terminal) → ends_group rest ≡ true → ends_expr r
 group-expr (t_mark Comma _ ∷ rest) ends = refl
 group-expr (t_key WhereKey _ ∷ rest) ends = refl
 group-expr (t_key Order _ ∷ rest) ends = refl
+group-expr (t_key LimitKey _ ∷ rest) ends = refl
+group-expr (t_key OffsetKey _ ∷ rest) ends = refl
 group-expr (t_semicolon _ ∷ rest) ends = refl
 group-expr (t_end _ ∷ rest) ends = refl
 group-expr _ ends = absurd (cc (ends))
@@ -54,6 +58,8 @@ joins-expr (cross_join c j r ∷ js) rest ends = refl
 pub from-group : (rest : List Terminal) → ends_from rest ≡ true → ends_group rest ≡ true
 from-group (t_key WhereKey _ ∷ rest) ends = refl
 from-group (t_key Order _ ∷ rest) ends = refl
+from-group (t_key LimitKey _ ∷ rest) ends = refl
+from-group (t_key OffsetKey _ ∷ rest) ends = refl
 from-group (t_semicolon _ ∷ rest) ends = refl
 from-group (t_end _ ∷ rest) ends = refl
 from-group _ ends = absurd (cc (ends))

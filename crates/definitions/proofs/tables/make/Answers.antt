@@ -1,7 +1,6 @@
-use Rattle.std.proofs.Common.{rules, ◌≡◌, ◌∙◌, [], sym, subst}
+use Rattle.std.proofs.Common.{rules, ◌≡◌, [], sym, subst}
 use Rattle.catalog.specs.Contents.{Contents, indexes_of, new_table, with_table}
-use Rattle.store.specs.Kept.{IsStoreOf, Kept, with_heap}
-use Rattle.store.proofs.GrowthLemmas.{at_ok}
+use Rattle.store.specs.Kept.{IsStoreOf, with_heap}
 use Rattle.store.proofs.LawLemmas.{table-added}
 use Rattle.definitions.proofs.TableLemmas.{bare}
 use Rattle.definitions.proofs.tables.make.Goals as goal

@@ -21,9 +21,42 @@ use Rattle.query_reader.specs.From.{Joined}
 use Rattle.query_reader.specs.Order.{order_items}
 use Rattle.query_reader.specs.Scope.{Sight, visible_in}
 use Rattle.query_reader.proofs.BoundLemmas.{well-bound}
-use Rattle.query_reader.proofs.QueryLemmas.{added-all, all-meant, at-joined, both-conjuncts, bound-at, conveys-fault, limit-wrong, order-wrong, read-so, reads-fault, same-query, stopped, stopped-short, within}
+use Rattle.query_reader.proofs.QueryLemmas.{added-all, adds-fault, all-meant, at-joined, both-conjuncts, bound-at, columns-wrong, conjuncts-wrong, conveys-fault, limit-wrong, order-wrong, read-so, reads-fault, same-query, stopped, stopped-short, within}
 use Rattle.query_reader.proofs.ReadingLemmas.{ends-where}
 use Rattle.query_reader.proofs.bind.over.Goals as goal
+
+pub returns-in_err-more-clause-meaning : goal.returns-in_err-more-clause-meaning
+returns-in_err-more-clause-meaning c = λ w y rest ends is.
+    let s : Sight = c.new-range.result in
+    let cat = c.sources.inside.cat.now in
+    let range : Range = c.sources.inside.relations.items in
+    let old = c.sources.inside.written.items in
+    let look : s ≡ record { contents = cat; range = range; first = 0 } = c.new-range.ensures ∙ ap (λ (r : Range). record { contents = cat; range = r; first = 0 }) c.deref.ensures.value in
+    at-joined (record { contents = cat; range = range; conjuncts = map cond old }) c.args.sources c.args.start c.args.items.now w y _ c.sources.view_is
+    (stopped _ c.in_err-more.field-0.0 _
+    (λ f at. conjuncts-wrong cat range (map cond old) c.args.start c.args.items.now w y s look f
+    (reads-fault Exprs (List Cond) (λ (es : Exprs). map cond es.items.items) (conjuncts_written (visible_in s) (type_in s.contents s.range) w) (words_of_order y ++ rest) _ _ f
+    (c.in_err-more.ensures.read w (words_of_order y ++ rest) (ends-where y rest ends) is) at))
+    c.from_residual.ensures.1)
+
+pub returns-in_err-append-clause-meaning : goal.returns-in_err-append-clause-meaning
+returns-in_err-append-clause-meaning c = λ w y rest ends is. stopped-short _ _ c.from_residual-in_err-append.ensures.1
+
+pub returns-in_err-add_items-clause-meaning : goal.returns-in_err-add_items-clause-meaning
+returns-in_err-add_items-clause-meaning c = λ w y rest ends is.
+    let s : Sight = c.new-range.result in
+    let cat = c.sources.inside.cat.now in
+    let range : Range = c.sources.inside.relations.items in
+    let old = c.sources.inside.written.items in
+    let look : s ≡ record { contents = cat; range = range; first = 0 } = c.new-range.ensures ∙ ap (λ (r : Range). record { contents = cat; range = r; first = 0 }) c.deref.ensures.value in
+    let ws = map cond c.in_ok-more.more.items.items in
+    let conj = was-read Exprs (List Cond) (λ (es : Exprs). map cond es.items.items) (conjuncts_written (visible_in s) (type_in s.contents s.range) w) c.in_ok-more.more (words_of_order y ++ rest) _
+    (c.in_ok-more.ensures.read w (words_of_order y ++ rest) (ends-where y rest ends) is) in
+    at-joined (record { contents = cat; range = range; conjuncts = map cond old }) c.args.sources c.args.start c.args.items.now w y _ c.sources.view_is
+    (stopped _ c.in_err-add_items.field-0.0 _
+    (λ f at. columns-wrong cat range (map cond old) c.args.start c.args.items.now w y s look ws conj.meant f
+    (adds-fault (Unit {0}) (list_columns (visible_in s) c.args.items.now) c.new-select.result.items c.add_items.new.all.items _ f c.in_err-add_items.ensures at))
+    c.from_residual-in_err-add_items.ensures.1)
 
 pub returns-in_err-order-clause-meaning : goal.returns-in_err-order-clause-meaning
 returns-in_err-order-clause-meaning c = λ w y rest ends is.

@@ -1,6 +1,7 @@
 //! Paths offered one by one: which are kept, and which are told as beaten.
 
 use crate::made::{keys_of, scan};
+use cost_rules::Pair;
 use kept_paths::KeptPaths;
 use pg_base::Memory;
 use std::alloc::Global;
@@ -15,7 +16,11 @@ fn offer(alloc: Global, kept: &mut KeptPaths, cost: u64, is_sorted: bool) -> Res
 /// Whether a path that costs 10 is told as beaten.
 fn is_told(alloc: Global, kept: &KeptPaths, is_sorted: bool) -> Result<bool, Memory> {
     let keys = keys_of(alloc, is_sorted)?;
-    kept.is_beaten(alloc, 10, &keys)
+    let cost = Pair {
+        startup: 0,
+        total: 10,
+    };
+    kept.is_beaten(alloc, cost, &keys)
 }
 
 #[test]

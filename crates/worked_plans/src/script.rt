@@ -57,7 +57,7 @@ impl From<CatalogFault> for Stopped {
     }
 }
 
-/// Carries out a new table or statistics.
+/// Carries out a new table or statistics. COPY and ANALYZE change nothing, since no rows are loaded.
 fn describe(alloc: Global, cat: &mut Catalog, text: &[u8], tokens: &Tokens) -> Result<(), Stopped>
     requires short { length text.now ≤ 2 ^ 31 }
     requires words { (from : ℕ) × AreWords text.now from tokens.now }
@@ -74,7 +74,7 @@ fn describe(alloc: Global, cat: &mut Catalog, text: &[u8], tokens: &Tokens) -> R
         }
         Ddl::Rows { table, rows, pages } => cat.set_rows(table, rows, pages)?,
         Ddl::Column { table, col, stats } => cat.set_column(table, col, stats)?,
-        Ddl::Copy { .. } => {}
+        Ddl::Copy { .. } | Ddl::Analyze { .. } => {}
     }
     Ok(())
 }

@@ -147,7 +147,7 @@ fn check_syntax(text: &[u8], tokens: &Tokens) -> Result<(), Refusal>
 /// STATISTICS that gives no value to the column is at fault at its first byte, a `-` included: 22003, 22P02 or 42804, and 22023
 /// for NULL. Then comes the limit of 32 columns (54000), at the first name too many.
 ///
-/// What the catalogue refuses is not asked here, but what is read may be handed to it: names are names, each of the 1 to 16
+/// What the catalogue refuses is not asked here, but what is read may be handed to it: names are names, each of the 1 to 32
 /// columns has one; the table of COPY, STATISTICS and ANALYZE is there, and so is the column, and each value is of its type and is not
 /// NULL. `at` has an offset for each place that the catalogue counts, however many literals are given. The text has at most
 /// 2^31 bytes, and the tokens are the words of a statement from some offset of it.

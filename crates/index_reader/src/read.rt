@@ -42,7 +42,7 @@ fn statement(
 /// method (42704), then for each key column an unknown one (42703) and an operator class that is unknown or that the method
 /// has not (42704), or that does not accept the column's type (42804), each at its word; then an unknown column of INCLUDE
 /// (42703). Then the condition binds over the table's columns, which the table's name qualifies too, with the faults of
-/// `expr_reader::take_expr`. Then comes the limit of 16 columns (54000) at the first name too many, then that of 256 atoms of
+/// `expr_reader::take_expr`. Then comes the limit of columns (54000, [`MOST_COLUMNS`](pg_base::MOST_COLUMNS)) at the first name too many, then that of 256 atoms of
 /// the condition (54000) at the statement's first word.
 ///
 /// Without USING the method is btree; without an operator class it is that of the type's default family. DESC alone puts

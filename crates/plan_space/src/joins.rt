@@ -20,12 +20,9 @@ use crate::sorts::{has_keys, is_sort};
 use catalog::Catalog;
 use eq_classes::{ClassNo, Classes};
 use pathkeys::Keys;
-use pg_base::RelSet;
+use pg_base::{MOST_MERGE_KEYS, RelSet};
 use plan_tree::{Plan, classes_of, set_of};
 use sql_query::Prepared;
-
-/// A merge is by at most so many classes.
-const MOST_KEYS: usize = 3;
 
 /// The relations whose rows a plan must be given.
 pub(crate) fn param_of(p: &Plan) -> RelSet
@@ -53,7 +50,7 @@ fn are_sides(outer: &Plan, inner: &Plan) -> bool
 
 /// Whether a nested loop of two plans is in the plan space: neither is a sort, and the rows that the inner one must be
 /// given are of relations that the outer one reads.
-pub(crate) fn is_nest(outer: &Plan, inner: &Plan) -> bool
+pub fn is_nest(outer: &Plan, inner: &Plan) -> bool
     requires outer { ReadsBelow 16 (plan outer.now) }
     requires inner { ReadsBelow 16 (plan inner.now) }
     ensures { IsTrue result ↔ space.IsNest (plan outer.now) (plan inner.now) }
@@ -78,12 +75,13 @@ fn are_found(found: &[Option<ClassNo>], list: &[ClassNo]) -> bool
     list.iter().all(|c| is_one_of(found, *c))
 }
 
-/// Whether a merge of two sets may be by a list: 1 to 3 different classes of the first four that join the sets.
-fn is_merge_list(classes: &Classes, a: RelSet, b: RelSet, list: &Keys) -> bool
+/// Whether a merge of two sets may be by a list: 1 to [`MOST_MERGE_KEYS`] different classes of the first
+/// [`MOST_JOINING_CLASSES`](pg_base::MOST_JOINING_CLASSES) that join the sets (own).
+pub fn is_merge_list(classes: &Classes, a: RelSet, b: RelSet, list: &Keys) -> bool
     ensures { (c : Contents) (q : Query) → q.classes ≡ classes.now → IsTrue result ↔ space.IsMergeList c q (has a.0) (has b.0) list.now }
 {
     let list = list.items();
-    if list.is_empty() || list.len() > MOST_KEYS {
+    if list.is_empty() || list.len() > MOST_MERGE_KEYS {
         return false;
     }
     are_found(&classes.joining(a, b), list)
@@ -98,9 +96,9 @@ fn are_whole_sides(outer: &Plan, inner: &Plan) -> bool
     are_sides(outer, inner) && param_of(inner).is_empty()
 }
 
-/// Whether a merge of two plans by a list is in the plan space: neither is given rows, the list is of 1 to 3 different
-/// classes of the first four that join them, and each has the list.
-pub(crate) fn is_merge(cat: &Catalog, q: &Prepared, list: &Keys, outer: &Plan, inner: &Plan) -> bool
+/// Whether a merge of two plans by a list is in the plan space: neither is given rows, the list may be that of a merge of
+/// their sets ([`is_merge_list`]), and each has the list.
+pub fn is_merge(cat: &Catalog, q: &Prepared, list: &Keys, outer: &Plan, inner: &Plan) -> bool
     requires query { IsOverTables cat.now q.now }
     requires outer { IsCostable cat.now q.now (plan outer.now) }
     requires inner { IsCostable cat.now q.now (plan inner.now) }

@@ -46,7 +46,7 @@ pub(crate) fn sort_list(p: &Plan) -> Option<&Keys>
 
 /// Whether a plan may be a side of a merge by a list of at most 255 classes: it sorts by exactly the list, or is no sort
 /// and its keys begin with the list.
-pub(crate) fn has_keys(cat: &Catalog, q: &Prepared, p: &Plan, list: &Keys) -> bool
+pub fn has_keys(cat: &Catalog, q: &Prepared, p: &Plan, list: &Keys) -> bool
     requires plan { IsCostable cat.now q.now (plan p.now) }
     requires few { length list.now ≤ 255 }
     ensures { IsTrue result ↔ HasKeys cat.now q.now (plan p.now) list.now }

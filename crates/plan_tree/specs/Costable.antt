@@ -2,6 +2,7 @@
 -- matches, and merges by 1 to 3 classes. A plan need not be of the space. Own.
 use Rattle.std.specs.Prelude.{◌≡◌, ◌<◌, ◌≤◌, ℕ, true, length}
 use Rattle.std.specs.List.{AllZip}
+use Rattle.pg_base.specs.declared.limits.TheConstants.{MOST_MERGE_KEYS}
 use Rattle.pg_base.specs.declared.numbers.IndexNo.{IndexNo}
 use Rattle.pg_expr.specs.Cond.{Cond}
 use Rattle.catalog.specs.Contents.{Contents, IsIndex, index_at}
@@ -9,7 +10,6 @@ use Rattle.index_match.specs.Arms.{arms_of, is_matched}
 use Rattle.sql_query.specs.Queries.{Query, width}
 use Rattle.plan_tree.specs.Plans.{Plan, seq, index, index_only, bitmap, sort, nest, merge, BitTree, leaf, all_hold, some_arm, BitTrees, no_trees, tree_and}
 use Rattle.plan_tree.specs.Bitmaps.{condition_at}
-use Rattle.plan_tree.specs.Space.{MOST_MERGE_KEYS}
 
 -- an index of the catalogue matches an arm wholly
 pub record IsMatchedBy (c : Contents) (r : ℕ) (arm : Cond) (i : IndexNo) : Type 0 where

@@ -3,6 +3,7 @@
 use Rattle.std.specs.Prelude.{◌≡◌, ◌<◌, ◌≤◌, ℕ, Bool, true, false, not, ◌&&◌, ◌||◌, nat_eq, nat_lt, List, length, take}
 use Rattle.std.specs.List.{list_any, list_all}
 use Rattle.pg_base.specs.Sets.{has}
+use Rattle.pg_base.specs.declared.limits.TheConstants.{MOST_JOINING_CLASSES, MOST_MERGE_KEYS}
 use Rattle.pg_base.specs.declared.numbers.IndexNo.{IndexNo}
 use Rattle.pg_base.specs.declared.numbers.RelNo.{RelNo}
 use Rattle.pg_base.specs.declared.rel_set.RelSet.{RelSet}
@@ -21,10 +22,6 @@ use Rattle.index_match.specs.Usable.{IsUsable, holds_columns}
 use Rattle.plan_tree.specs.Plans.{Plan, seq, index, index_only, bitmap, sort, nest, merge, BitTree, set_of, param_of, is_empty, is_sort}
 use Rattle.plan_tree.specs.Bitmaps.{IsIndexOn, IsBitTree, uses}
 use Rattle.plan_tree.specs.Keys.{keys_of}
-
--- a merge is by at most so many classes
-abbrev pub MOST_MERGE_KEYS : ℕ
-MOST_MERGE_KEYS = 3
 
 -- the relations other than r that conditions name
 abbrev pub others_named : ℕ → List Cond → Set
@@ -88,12 +85,12 @@ module _ (c : Contents) (q : Query) where
     pub tree : IsBitTree c q r.0 (has p.0) bits
     pub named : IsSameSet (has p.0) (others_named r.0 (conditions_used r p bits))
 
-  -- 1 to 3 different classes of the first four joining ones
+  -- 1 to MOST_MERGE_KEYS different classes of the first MOST_JOINING_CLASSES joining ones
   pub record IsMergeList (a b : Set) (keys : Keys) : Type 0 where
     pub some : 1 ≤ length keys
     pub few : length keys ≤ MOST_MERGE_KEYS
     pub different : AreDifferent keys
-    pub joining : list_all (λ n. list_any (nat_eq n) (take 4 (joining_from a b 0 q.classes.classes))) keys ≡ true
+    pub joining : list_all (λ n. list_any (nat_eq n) (take MOST_JOINING_CLASSES (joining_from a b 0 q.classes.classes))) keys ≡ true
 
   -- a sort by exactly the list, or a plan whose keys begin with it
   abbrev pub HasKeys : Plan → Keys → Type 0

@@ -7,4 +7,4 @@
 pub const READS_ANALYZE: bool = true;
 
 /// LIMIT and OFFSET behind a SELECT with its order.
-pub const READS_WINDOW: bool = false;
+pub const READS_WINDOW: bool = true;

@@ -4,10 +4,10 @@
 usage: judge_scripts.py [--stage STAGE] JUDGE PROGRAM [COUNT [SEED [RELATIONS]]]
 
 COUNT right scripts and COUNT broken ones are made (500 each where it is not given). Queries have up to four relations, or with
-RELATIONS exactly so many, and are only explained then. STAGE tells which statements the judge knows (10+17, with ANALYZE, where it
-is not given); without its 17 there is no ANALYZE in right scripts. JUDGE is a program called as
-`JUDGE judge --stage STAGE --allow '' SCRIPT OUT ERRORS STATUS` that exits with 0 where the answer is allowed. A right script has to end
-with status 0, or with 54001 where no plan is below the limit of costs.
+RELATIONS exactly so many, and are only explained then. STAGE tells which statements the judge knows (10+15+17+limits where it is not
+given: joins, LIMIT and OFFSET, ANALYZE, up to ten relations and 32 columns); without its 17 there is no ANALYZE in right scripts, and
+without its 15 no LIMIT. JUDGE is a program called as `JUDGE judge --stage STAGE --allow '' SCRIPT OUT ERRORS STATUS` that exits with 0
+where the answer is allowed. A right script has to end with status 0, or with 54001 where no plan is below the limit of costs.
 """
 import argparse
 import collections
@@ -22,30 +22,44 @@ from script_parts import (CLASSES, LIMITS, NO_NUMBERS, NO_TRUTHS, Scope, Table, 
                           index, new_name, new_table, record, select, sizes, spaced, values_of)
 
 
-def queried(rng, tables, relations):
-    """A SELECT as words: of one table, of several, or of exactly so many relations and explained."""
-    if relations:
-        words = joined_select(rng, tables, [relations])
-        return words if words[0].lower() == "explain" else ["EXPLAIN", *words]
-    return joined_select(rng, tables) if rng.random() < 0.6 else select(rng, rng.choice(tables))
+def window(rng):
+    """LIMIT, OFFSET, or both, as words."""
+    number = lambda: str(rng.choice([0, 0, 1, 1, 2, 3, 5, 10, 40, 100, 1000, rng.randrange(200), 2**63 - 1]))
+    kept = rng.randrange(1, 4)
+    return ([rng.choice(["LIMIT", "limit"]), number()] if kept & 1 else []) + ([rng.choice(["OFFSET", "Offset"]), number()] if kept & 2 else [])
 
 
-def knows_analyze(stage):
-    """Whether a stage as 10, 17 or 10+17 has ANALYZE."""
-    return any(int(part) >= 17 if first else int(part) == 17 for first, part in zip([True] + [False] * 9, stage.split("+")))
+def queried(rng, tables, asked):
+    """A SELECT as words: of one table, of several, or of exactly so many relations and explained; now and then its first rows."""
+    if asked.relations:
+        words = joined_select(rng, tables, [asked.relations])
+        words = words if words[0].lower() == "explain" else ["EXPLAIN", *words]
+    else:
+        words = joined_select(rng, tables) if rng.random() < 0.6 else select(rng, rng.choice(tables))
+    return [*words, *window(rng)] if asked.windows and rng.random() < 0.4 else words
 
 
-def statements(rng, relations, analyzes):
+def knows(stage, number):
+    """Whether a stage as 10, 17 or 10+15+limits has the statements of this number."""
+    first, *others = stage.split("+")
+    return int(first) >= number or str(number) in others
+
+
+# Which statements right scripts have beside those that each judge knows, and how many relations a query has, 0 for up to four.
+Asked = collections.namedtuple("Asked", "analyzes windows relations")
+
+
+def statements(rng, asked):
     """The statements of a right script, each a text with its end."""
     tables, parts = [], []
     names = []
-    for _ in range(rng.choice([8, 12, 20] if relations else [0, 1, 2, 3, 5, 8, 12, 20])):
+    for _ in range(rng.choice([8, 12, 20] if asked.relations else [0, 1, 2, 3, 5, 8, 12, 20])):
         kind = rng.randrange(14)
         if kind > 9 and tables and tables[-1].indexes < 8:
             names.append(new_name(rng, names + [t.name for t in tables]))
             parts.append(spaced(rng, index(rng, tables[-1], names[-1])) + ";")
         elif kind > 9 and tables:
-            parts.append(spaced(rng, queried(rng, tables, relations)) + ";")
+            parts.append(spaced(rng, queried(rng, tables, asked)) + ";")
         elif kind < 2 or not tables:
             tables.append(new_table(rng, tables))
             while tables[-1].name in names + [t.name for t in tables[:-1]]:
@@ -56,22 +70,22 @@ def statements(rng, relations, analyzes):
             many = rng.choice([0, 1, 2, 3, 3, 10, 99, 100, 101, 250])
             table.rows += many
             parts.append(copy(rng, table, [record(rng, table) for _ in range(many)]))
-        elif kind < 7 and analyzes and rng.random() < 0.4:
+        elif kind < 7 and asked.analyzes and rng.random() < 0.4:
             parts.append(spaced(rng, ["ANALYZE", rng.choice(tables).name]) + ";")
         elif kind < 7:
             given = sizes if rng.random() < 0.4 else column_statistics
             parts.append(spaced(rng, given(rng, rng.choice(tables))) + ";")
         elif kind < 9:
-            parts.append(spaced(rng, queried(rng, tables, relations)) + ";")
+            parts.append(spaced(rng, queried(rng, tables, asked)) + ";")
         else:
             parts.append(rng.choice([";", " ;", "-- nothing\n;", "\n"]))
     return tables, parts
 
 
-def right_script(rng, relations, analyzes):
-    tables, parts = statements(rng, relations, analyzes)
-    if relations and tables:
-        parts.append(spaced(rng, queried(rng, tables, relations)) + ";")
+def right_script(rng, asked):
+    tables, parts = statements(rng, asked)
+    if asked.relations and tables:
+        parts.append(spaced(rng, queried(rng, tables, asked)) + ";")
     text = "".join(part + rng.choice(["", "\n", "\n", gap(rng)]) for part in parts)
     if rng.random() < 0.2 and text.rstrip().endswith(";") and "COPY" not in text.upper():
         text = text.rstrip()[:-1]
@@ -150,7 +164,7 @@ def broken_index(rng, table):
     wrong = rng.choice([c for k in CLASSES for c in CLASSES[k]] + ["nope", "btree", "nulls"])
     on = f"ON {table.name}"
     tail = rng.choice(["", f" WHERE missing = 1", f" WHERE {name} = 'x y'", f" WHERE {name}", " WHERE"])
-    many = ", ".join((names * 17)[:17])
+    many = ", ".join((names * 33)[:33])
     return rng.choice([
         f"CREATE INDEX {table.name} {on} ({name});", f"CREATE INDEX fresh ON missing ({name});", f"CREATE INDEX fresh {on} (missing){tail};",
         f"CREATE INDEX fresh {on} USING gin ({name});", f"CREATE INDEX fresh {on} ({name} {wrong}){tail};", f"CREATE INDEX fresh {on} ({name}, {name});",
@@ -180,9 +194,24 @@ def broken_order(rng, table):
         f"SELECT * FROM {table.name} ORDER BY {table.name}.*;", f"SELECT {name} FROM {table.name} u ORDER BY {table.name}.{name};"])
 
 
+def broken_window(rng, table):
+    """A SELECT whose LIMIT or OFFSET is at fault, or stands behind another fault or before one."""
+    name = rng.choice(table.columns)[0]
+    past = rng.choice([2**63, 2**64, 10**30])
+    many = " AND ".join([f"{name} IS NULL"] * 33)
+    from_table = f"{rng.choice(['', 'EXPLAIN '])}SELECT * FROM {table.name}"
+    return from_table + rng.choice([
+        f" LIMIT {past}", f" OFFSET {past}", f" LIMIT 1 OFFSET {past}", f" LIMIT {past} OFFSET {past}", f" ORDER BY missing LIMIT {past}",
+        f" WHERE {many} LIMIT {past}", f" WHERE {many} LIMIT 1", f" ORDER BY {name} OFFSET {past}", " LIMIT", " OFFSET", " LIMIT ALL",
+        " LIMIT -1", " LIMIT '1'", " LIMIT 1 LIMIT 1", " OFFSET 1 LIMIT 1", " LIMIT 1 OFFSET 1 ROWS", " OFFSET 1 OFFSET 1", " LIMIT 1, 1",
+        f" LIMIT 1 ORDER BY {name}", f" LIMIT 1 WHERE {name} IS NULL", " FETCH FIRST ROW ONLY", " LIMIT (1)", " LIMIT 1x"]) + ";"
+
+
 def broken_statement(rng, tables):
     table = rng.choice(tables)
     names = [name for name, _, _ in table.columns]
+    if rng.random() < 0.1:
+        return broken_window(rng, table)
     if rng.random() < 0.35:
         return broken_joins(rng, tables)
     if rng.random() < 0.35:
@@ -200,7 +229,7 @@ def broken_statement(rng, tables):
     if kind == 2:
         return "CREATE TABLE fresh (a int4, b %s, c money);" % rng.choice(["int9", "varchar", "float8"])
     if kind == 3:
-        return "CREATE TABLE fresh (" + ", ".join(f"c{n} int4" for n in range(rng.choice([17, 20]))) + ");"
+        return "CREATE TABLE fresh (" + ", ".join(f"c{n} int4" for n in range(rng.choice([33, 40]))) + ");"
     if kind == 4:
         return "".join(f"CREATE TABLE many{n} (a int4);\n" for n in range(65))
     if kind == 5:
@@ -244,8 +273,8 @@ def cut_up(rng, text):
     return text
 
 
-def broken_script(rng, relations, analyzes):
-    tables, parts = statements(rng, relations, analyzes)
+def broken_script(rng, asked):
+    tables, parts = statements(rng, asked)
     if not tables:
         tables = [new_table(rng, [])]
         parts.append(spaced(rng, create(rng, tables[0])) + ";")
@@ -258,20 +287,21 @@ def broken_script(rng, relations, analyzes):
 
 def main():
     words = argparse.ArgumentParser()
-    words.add_argument("--stage", default="10+17")
+    words.add_argument("--stage", default="10+15+17+limits")
     words.add_argument("judge")
     words.add_argument("program")
     words.add_argument("numbers", nargs="*", type=int)
     said = words.parse_args()
-    judge, program, stage, analyzes = said.judge, said.program, said.stage, knows_analyze(said.stage)
+    judge, program, stage = said.judge, said.program, said.stage
     count, seed, relations = [*said.numbers, *[500, 1, 0][len(said.numbers):]]
+    asked = Asked(knows(stage, 17), knows(stage, 15), relations)
     rng = random.Random(seed)
     failed, statuses = 0, collections.Counter()
     with tempfile.TemporaryDirectory() as folder:
         names = [pathlib.Path(folder, name) for name in ("script", "out", "errors")]
         for number in range(2 * count):
             right = number < count
-            script = right_script(rng, relations, analyzes) if right else broken_script(rng, relations, analyzes)
+            script = right_script(rng, asked) if right else broken_script(rng, asked)
             ran = subprocess.run([program, "run"], input=script.encode(), capture_output=True)
             for path, data in zip(names, (script.encode(), ran.stdout, ran.stderr)):
                 path.write_bytes(data)

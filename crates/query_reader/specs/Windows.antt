@@ -28,9 +28,9 @@ skipped_of (skipped_rows _ _ n) = next (rows_of n) (λ rows. Ok (Some rows))
 
 -- the window of a limit and an offset: there is none where neither is written, and without an OFFSET no row is passed over
 abbrev pub window_by : Option ℕ → Option ℕ → Option Window
-window_by None None = None
-window_by (Some most) None = Some (record { limit = Some most; offset = 0 })
 window_by most (Some skipped) = Some (record { limit = most; offset = skipped })
+window_by (Some most) None = Some (record { limit = Some most; offset = 0 })
+window_by None None = None
 
 -- the window that is written: LIMIT first, then OFFSET
 abbrev pub window_of : WindowTree → Result (Option Window) Fault

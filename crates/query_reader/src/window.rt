@@ -52,10 +52,15 @@ fn skipped_rows(from: &mut Cursor) -> Result<Option<u64>, Fault>
 fn window_by(limit: Option<u64>, offset: Option<u64>) -> Option<Window>
     ensures { result ≡ window_by limit offset }
 {
-    match (limit, offset) {
-        (None, None) => None,
-        (limit, None) => Some(Window { limit, offset: 0 }),
-        (limit, Some(offset)) => Some(Window { limit, offset }),
+    match offset {
+        Some(offset) => Some(Window { limit, offset }),
+        None => match limit {
+            Some(most) => Some(Window {
+                limit: Some(most),
+                offset: 0,
+            }),
+            None => None,
+        },
     }
 }
 

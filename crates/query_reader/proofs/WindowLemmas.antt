@@ -1,4 +1,4 @@
--- LIMIT and OFFSET: what their words tell, and what they ask for.
+-- LIMIT and OFFSET where they are next, and where they are not.
 use Rattle.std.proofs.Common.{◌≡◌, true, List, ◌∷◌, ◌++◌, None, Result, Ok, Err, IsErrAnd, refl, sym, ap, ◌∙◌, drop}
 use Rattle.pg_base.specs.declared.faults.Fault.{Fault}
 use Rattle.sql_lex.specs.declared.tokens.Token.{Token}

@@ -1,5 +1,5 @@
 -- Every visible column is one of its relation's table, and so is every one of a query that is bound.
-use Rattle.std.proofs.Common.{ℕ, nat_lt, ◌+◌, ◌≤◌, Bool, true, false, drop, take, length-append, length-drop, append_assoc, ◌∙◌, get_or, List, [], ◌∷◌, ◌++◌, length, filter, map, cond, All, Some, None, Result, Ok, Err, sym, subst, arith}
+use Rattle.std.proofs.Common.{ℕ, nat_lt, ◌+◌, ◌≤◌, Bool, true, false, drop, take, length-append, length-drop, append_assoc, ◌∙◌, get_or, List, [], ◌∷◌, ◌++◌, length, filter, map, cond, All, Option, Some, None, Result, Ok, Err, sym, subst, arith}
 use Rattle.std.specs.Str.{bytes_eq}
 use Rattle.std.proofs.lemmas.List.Elements.{All-nil, All-cons}
 use Rattle.pg_base.specs.declared.numbers.TableNo.{TableNo}
@@ -11,6 +11,7 @@ use Rattle.catalog.specs.Contents.{Contents, table_at, IsLawfulTable}
 use Rattle.catalog.specs.Range.{Range}
 use Rattle.sql_lex.specs.declared.tokens.Token.{Token}
 use Rattle.sql_query.specs.WellBound.{IsColumnOf, IsWellBound}
+use Rattle.sql_query.specs.declared.window.Window.{Window}
 use Rattle.sql_query.proofs.OrderLemmas.{own_directions, own_stands}
 use Rattle.query_reader.specs.Select.{IsBoundByItself}
 use Rattle.query_reader.specs.declared.written.Item.{Item}
@@ -180,14 +181,14 @@ module _ (c : Contents) (range : Range) (are : AreRelations c range) where
       holds-all (IsColumnOf c range) cs (ok-holds (IsColumnOf c range) (list_columns (scope_of c range) items) cs (list-holds (IsColumnOf c range) (scope_of c range) items (visible-hold c range 0 are.lawful)) is)
 
   -- the query of columns that the list shows, of conjuncts and of an order over the relations, with their classes
-  pub well-bound : 0 < length range → (items : List Item) (cs : List ColRef) (ws : List Cond) (order : List OrderItem) (classes : Table) → list_columns (scope_of c range) items ≡ Ok cs →
+  pub well-bound : 0 < length range → (items : List Item) (cs : List ColRef) (ws : List Cond) (order : List OrderItem) (window : Option Window) (classes : Table) → list_columns (scope_of c range) items ≡ Ok cs →
       All (IsOver c range) ws → All (λ (i : OrderItem). is_column_in c range i.col ≡ true) order → past_limit ws ≡ None → IsTableOf (record { conjuncts = conjuncts_in ws; order = order; type_of = type_in c range }) classes →
-      All (λ r. IsName r.1) range → IsBoundByItself c (query_with classes (record { range = range; select = cs; where_all = ws; order = order }))
-  well-bound some items cs ws order classes shown over ordered kept is names =
+      All (λ r. IsName r.1) range → IsBoundByItself c (query_with classes (record { range = range; select = cs; where_all = ws; order = order; window = window }))
+  well-bound some items cs ws order window classes shown over ordered kept is names =
       let named = columns_in_all (conds_of ws) in
       let sorted = map (λ (i : OrderItem). i.col) order in
       let used = cs ++ (named ++ sorted) in
-      let q = query_with classes (record { range = range; select = cs; where_all = ws; order = order }) in
+      let q = query_with classes (record { range = range; select = cs; where_all = ws; order = order; window = window }) in
       let order_used = all_from (λ (i : OrderItem). Contains used i.col) order
       (λ i j. contains_from_in used i.col (in_right i.col cs (named ++ sorted) (in_right i.col named sorted (map_in (λ (k : OrderItem). k.col) order i j)))) in
       let well : IsWellBound c q = record {

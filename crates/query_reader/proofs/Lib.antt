@@ -12,5 +12,6 @@ pub mod SourceLemmas
 pub mod FromLemmas
 pub mod GrowLemmas
 pub mod WhereLemmas
+pub mod WindowLemmas
 pub mod QueryLemmas
 pub mod AliasLemmas

@@ -13,16 +13,18 @@ use Rattle.eq_classes.specs.declared.order.OrderItem.{OrderItem}
 use Rattle.eq_classes.specs.Clauses.{Table}
 use Rattle.sql_lex.specs.declared.tokens.Token.{Token}
 use Rattle.sql_grammar.specs.Faults.{fault_at}
-use Rattle.sql_grammar.specs.Syntax.{Where, OrderBy}
+use Rattle.sql_grammar.specs.Syntax.{Where, OrderBy, Window as WindowTree}
 use Rattle.sql_grammar.specs.Terminals.{Terminal}
 use Rattle.expr_reader.specs.Reads.{Reads}
 use Rattle.expr_reader.proofs.StepLemmas.{step, stop}
 use Rattle.sql_query.specs.Queries.{Query}
+use Rattle.sql_query.specs.declared.window.Window.{Window}
 use Rattle.expr_reader.specs.Conditions.{next}
 use Rattle.query_reader.specs.declared.written.Item.{Item}
 use Rattle.query_reader.specs.Order.{order_items}
 use Rattle.query_reader.specs.Scope.{scope_of, visible_in, Sight}
 use Rattle.query_reader.specs.From.{Joined}
+use Rattle.query_reader.specs.Windows.{window_of}
 use Rattle.pg_expr.specs.declared.expr.Expr.{Expr as ExprRead}
 use Rattle.pg_expr.specs.View.{cond}
 use Rattle.std.proofs.lemmas.List.{map-append}
@@ -49,11 +51,12 @@ limit-by Says start (Some l) ws t h = absurd h
 pub within : {T : Type 0} (Says : List Cond → T → Type 0) (start : Token) (ws : List Cond) (t : T) → Conveys Says (limited start (past_limit ws) ws) (Ok t) → (past_limit ws ≡ None) × Says ws t
 within Says start ws t h = limit-by Says start (past_limit ws) ws t h
 
-pub same-query : (range other : Range) (classes : Table) (select columns used : List ColRef) (order items : List OrderItem) (ws all : List Cond) → range ≡ other → select ≡ columns → order ≡ items →
+pub same-query : (range other : Range) (classes : Table) (select columns used : List ColRef) (order items : List OrderItem) (ws all : List Cond) (window : Option Window) → range ≡ other → select ≡ columns → order ≡ items →
     used ≡ named_in columns all items → ws ≡ all →
-    query_with classes (record { range = other; select = columns; where_all = all; order = items }) ≡ record { range = range; classes = classes; select = select; order = order; used = used; where_all = ws; window = None }
-same-query range other classes select columns used order items ws all r s o u w =
-    let P : Range → List ColRef → List OrderItem → List ColRef → List Cond → Query = λ a b d e g. record { range = a; classes = classes; select = b; order = d; used = e; where_all = g; window = None } in
+    query_with classes (record { range = other; select = columns; where_all = all; order = items; window = window }) ≡
+    record { range = range; classes = classes; select = select; order = order; used = used; where_all = ws; window = window }
+same-query range other classes select columns used order items ws all window r s o u w =
+    let P : Range → List ColRef → List OrderItem → List ColRef → List Cond → Query = λ a b d e g. record { range = a; classes = classes; select = b; order = d; used = e; where_all = g; window = window } in
     sym (ap (λ a. P a select order used ws) r ∙ ap (λ b. P other b order used ws) s ∙ ap (λ d. P other columns d used ws) o ∙ ap (λ e. P other columns items e ws) u ∙ ap (λ g. P other columns items (named_in columns all items) g) w)
 
 -- a limit that is passed is told of whatever is within it
@@ -80,6 +83,10 @@ conveys-fault A T Says (Ok a) refusal.Memory f told is = absurd (cc (is))
 conveys-fault A T Says (Err g) (refusal.Fault h) f told is = cc (told, is)
 conveys-fault A T Says (Err g) refusal.Memory f told is = absurd (cc (is))
 
+-- the same of a part that takes no memory
+pub told-fault : {A : Type 0} (m : Result A Fault) (g f : Fault) → Err g ≡ m → refusal.Fault g ≡ refusal.Fault f → m ≡ Err f
+told-fault m g f is at = let same : g ≡ f = cc (at) in sym is ∙ ap (λ x. Err x) same
+
 -- what is refused after it is so refused
 told-so : (f : Fault) (d : Refusal) → d ≡ refusal.Fault f → IsBoundAs (Err f) (Err d)
 told-so f d is = subst (λ (e : Refusal). IsBoundAs (Err f) (Err e)) (sym is) refl
@@ -97,9 +104,9 @@ pub stopped-short : (m : Result Bound Fault) (r : Result Query Refusal) → IsEr
 stopped-short m r told = stopped m refusal.Memory r (no-fault m) told
 
 -- what is meant over the relations, step by step
-module _ (c : Contents) (range : Range) (joined : List Cond) (start : Token) (items : List Item) (w : Where) (y : OrderBy) where
+module _ (c : Contents) (range : Range) (joined : List Cond) (start : Token) (items : List Item) (w : Where) (y : OrderBy) (v : WindowTree) where
   abbrev pub meant : Result Bound Fault
-  meant = bound_over start items w y (record { contents = c; range = range; conjuncts = joined })
+  meant = bound_over start items w y v (record { contents = c; range = range; conjuncts = joined })
 
   conjuncts-stop : (f : Fault) → conjuncts_written (scope_of c range) (type_in c range) w ≡ Err f → meant ≡ Err f
   conjuncts-stop f wrong = stop (conjuncts_written (scope_of c range) (type_in c range) w) _ f wrong
@@ -115,19 +122,27 @@ module _ (c : Contents) (range : Range) (joined : List Cond) (start : Token) (it
           (step (list_columns (scope_of c range) items) _ cs columns ∙ stop (order_items (scope_of c range) cs y) _ f wrong)
 
       module _ (os : List OrderItem) (ordered : order_items (scope_of c range) cs y ≡ Ok os) where
-        abbrev pub all : Bound
-        all = record { range = range; select = cs; where_all = joined ++ ws; order = os }
-
-        up-to-limits : meant ≡ limited start (past_limit (joined ++ ws)) all
-        up-to-limits =
+        window-stop : (f : Fault) → window_of v ≡ Err f → meant ≡ Err f
+        window-stop f wrong =
             step (conjuncts_written (scope_of c range) (type_in c range) w) _ ws conjuncts ∙
-            (step (list_columns (scope_of c range) items) _ cs columns ∙ step (order_items (scope_of c range) cs y) _ os ordered)
+            (step (list_columns (scope_of c range) items) _ cs columns ∙
+            (step (order_items (scope_of c range) cs y) _ os ordered ∙ stop (window_of v) _ f wrong))
 
-        limit-stop : (f : Fault) → limited start (past_limit (joined ++ ws)) (joined ++ ws) ≡ Err f → meant ≡ Err f
-        limit-stop f wrong = up-to-limits ∙ limited-any start (past_limit (joined ++ ws)) (joined ++ ws) all f wrong
+        module _ (rows : Option Window) (windowed : window_of v ≡ Ok rows) where
+          abbrev pub all : Bound
+          all = record { range = range; select = cs; where_all = joined ++ ws; order = os; window = rows }
 
-        all-kept : past_limit (joined ++ ws) ≡ None → meant ≡ Ok all
-        all-kept kept = up-to-limits ∙ ap (λ o. limited start o all) kept
+          up-to-limits : meant ≡ limited start (past_limit (joined ++ ws)) all
+          up-to-limits =
+              step (conjuncts_written (scope_of c range) (type_in c range) w) _ ws conjuncts ∙
+              (step (list_columns (scope_of c range) items) _ cs columns ∙
+              (step (order_items (scope_of c range) cs y) _ os ordered ∙ step (window_of v) _ rows windowed))
+
+          limit-stop : (f : Fault) → limited start (past_limit (joined ++ ws)) (joined ++ ws) ≡ Err f → meant ≡ Err f
+          limit-stop f wrong = up-to-limits ∙ limited-any start (past_limit (joined ++ ws)) (joined ++ ws) all f wrong
+
+          all-kept : past_limit (joined ++ ws) ≡ None → meant ≡ Ok all
+          all-kept kept = up-to-limits ∙ ap (λ o. limited start o all) kept
 
   -- the same where all relations are in sight
   module _ (s : Sight) (look : s ≡ record { contents = c; range = range; first = 0 }) where
@@ -152,15 +167,19 @@ module _ (c : Contents) (range : Range) (joined : List Cond) (start : Token) (it
           pub own-order : order_items (scope_of c range) cs y ≡ Ok os
           own-order = subst (λ (x : Sight). order_items (visible_in x) cs y ≡ Ok os) look ordered
 
-          pub limit-wrong : (f : Fault) → limited start (past_limit (joined ++ ws)) (joined ++ ws) ≡ Err f → meant ≡ Err f
-          limit-wrong f wrong = limit-stop ws own-conjuncts cs own-columns os own-order f wrong
+          pub window-wrong : (f : Fault) → window_of v ≡ Err f → meant ≡ Err f
+          window-wrong f wrong = window-stop ws own-conjuncts cs own-columns os own-order f wrong
 
-          pub all-meant : past_limit (joined ++ ws) ≡ None → meant ≡ Ok (all ws own-conjuncts cs own-columns os own-order)
-          all-meant kept = all-kept ws own-conjuncts cs own-columns os own-order kept
+          module _ (rows : Option Window) (windowed : window_of v ≡ Ok rows) where
+            pub limit-wrong : (f : Fault) → limited start (past_limit (joined ++ ws)) (joined ++ ws) ≡ Err f → meant ≡ Err f
+            limit-wrong f wrong = limit-stop ws own-conjuncts cs own-columns os own-order rows windowed f wrong
+
+            pub all-meant : past_limit (joined ++ ws) ≡ None → meant ≡ Ok (all ws own-conjuncts cs own-columns os own-order rows windowed)
+            all-meant kept = all-kept ws own-conjuncts cs own-columns os own-order rows windowed kept
 
 -- what is meant over relations as they are lent is meant over those that contracts see
-pub at-joined : (i j : Joined) (start : Token) (items : List Item) (w : Where) (y : OrderBy) (r : Result Query Refusal) → i ≡ j → IsBoundAs (bound_over start items w y i) r → IsBoundAs (bound_over start items w y j) r
-at-joined i j start items w y r is told = subst (λ (x : Joined). IsBoundAs (bound_over start items w y x) r) is told
+pub at-joined : (i j : Joined) (start : Token) (items : List Item) (w : Where) (y : OrderBy) (v : WindowTree) (r : Result Query Refusal) → i ≡ j → IsBoundAs (bound_over start items w y v i) r → IsBoundAs (bound_over start items w y v j) r
+at-joined i j start items w y v r is told = subst (λ (x : Joined). IsBoundAs (bound_over start items w y v x) r) is told
 
 -- conjuncts of conditions of joins, and those of WHERE behind them
 pub both-conjuncts : (old new more : List ExprRead) → new ≡ old ++ more → map cond old ++ map cond more ≡ map cond new
@@ -182,8 +201,9 @@ next-range : {A : Type 0} (m : Result A Fault) (more : A → Result Bound Fault)
 next-range (Ok a) more range q later h = later a h
 next-range (Err f) more range q later h = absurd h
 
-pub over-range : (start : Token) (items : List Item) (w : Where) (y : OrderBy) (j : Joined) (q : Query) → IsBoundAs (bound_over start items w y j) (Ok q) → q.range ≡ j.range
-over-range start items w y j q h =
+pub over-range : (start : Token) (items : List Item) (w : Where) (y : OrderBy) (v : WindowTree) (j : Joined) (q : Query) → IsBoundAs (bound_over start items w y v j) (Ok q) → q.range ≡ j.range
+over-range start items w y v j q h =
     next-range (conjuncts_written (scope_of j.contents j.range) (type_in j.contents j.range) w) _ j.range q
     (λ ks. next-range (list_columns (scope_of j.contents j.range) items) _ j.range q
-    (λ cs. next-range (order_items (scope_of j.contents j.range) cs y) _ j.range q (λ os. limited-range start (past_limit (j.conjuncts ++ ks)) _ q))) h
+    (λ cs. next-range (order_items (scope_of j.contents j.range) cs y) _ j.range q
+    (λ os. next-range (window_of v) _ j.range q (λ rows. limited-range start (past_limit (j.conjuncts ++ ks)) _ q)))) h

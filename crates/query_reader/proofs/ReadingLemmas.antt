@@ -18,7 +18,7 @@ use Rattle.sql_query.specs.Queries.{Query}
 use Rattle.sql_grammar.specs.FromParts.{groups_after}
 use Rattle.query_reader.specs.Written.{item_of, items_of}
 use Rattle.query_reader.specs.Binding.{Bound, bound, bound_from}
-use Rattle.query_reader.specs.Ends.{ends_where, ends_order}
+use Rattle.query_reader.specs.Ends.{ends_where, ends_order, ends_window}
 use Rattle.query_reader.specs.Select.{AreSelect, IsGrammatical, IsBoundAs, words_before}
 
 -- the names among what is left of some words
@@ -43,7 +43,7 @@ pub record Parted (x : OrderedSelect) (left : List Terminal) : Type 0 where
   pub window : Window
   pub ending : Ending
   pub split : left ≡ words_of_output first ++ (words_of_outputs more ++ t_key From from_at ∷ (words_of_group group ++ (words_of_groups groups ++ behind condition order window ending)))
-  pub means : (c : Contents) (start : Token) → bound_from c start (item_of first ∷ items_of more) (group ∷ groups_after groups) condition order ≡ bound c start x
+  pub means : (c : Contents) (start : Token) → bound_from c start (item_of first ∷ items_of more) (group ∷ groups_after groups) condition order window ≡ bound c start x
 
 regroup : (x y z c d e : List Terminal) (f : Terminal) → (x ++ (y ++ f ∷ (z ++ (c ++ d)))) ++ e ≡ x ++ (y ++ f ∷ (z ++ (c ++ (d ++ e))))
 regroup x y z c d e f =
@@ -95,7 +95,8 @@ pub words-named : (text : List ℕ) (tokens : List Token) (first : ℕ) (old lef
 words-named text tokens first old left is skipped named =
     subst AreNamed (sym (skipped ∙ ap (drop 1) (is ∙ sym (drop-map (terminal_of text) first tokens)))) (left-named 1 (drop first (terminals text tokens)) (left-named first (terminals text tokens) named))
 
--- what stands behind WHERE goes on no condition, and what stands behind ORDER BY is a window and the statement's end
+-- what stands behind WHERE goes on no condition, what stands behind ORDER BY is a window and the statement's end, and what stands
+-- behind a window is that end
 pub ends-where : (y : OrderBy) (rest : List Terminal) → ends_order rest ≡ true → ends_where (words_of_order y ++ rest) ≡ true
 ends-where no_order (t_key LimitKey t ∷ rest) ends = refl
 ends-where no_order (t_key OffsetKey t ∷ rest) ends = refl
@@ -104,11 +105,16 @@ ends-where no_order (t_end t ∷ rest) ends = refl
 ends-where no_order _ ends = absurd (cc (ends))
 ends-where (order_by k b o os) rest ends = refl
 
-pub ends-all : (v : Window) (e : Ending) → ends_order (words_of_window v ++ words_of_ending e) ≡ true
-ends-all (window (most_rows p k n) o) e = refl
-ends-all (window no_limit (skipped_rows p k n)) e = refl
-ends-all (window no_limit no_offset) (semicolon t) = refl
-ends-all (window no_limit no_offset) (text_end t) = refl
+pub ends-order : (v : Window) (rest : List Terminal) → ends_window rest ≡ true → ends_order (words_of_window v ++ rest) ≡ true
+ends-order (window (most_rows p k n) o) rest ends = refl
+ends-order (window no_limit (skipped_rows p k n)) rest ends = refl
+ends-order (window no_limit no_offset) (t_semicolon t ∷ rest) ends = refl
+ends-order (window no_limit no_offset) (t_end t ∷ rest) ends = refl
+ends-order (window no_limit no_offset) _ ends = absurd (cc (ends))
+
+pub ends-all : (e : Ending) → ends_window (words_of_ending e) ≡ true
+ends-all (semicolon t) = refl
+ends-all (text_end t) = refl
 
 -- a SELECT may be read and may be refused
 pub grammatical : (text : List ℕ) (tokens : List Token) (r : Result Query Refusal) → AreSelect text tokens → IsGrammatical text tokens r

@@ -1,5 +1,6 @@
 -- What a SELECT means over a catalogue, or its first fault: FROM first with the conditions of its joins, then WHERE, then the list
--- from the left, then ORDER BY, then the limits (PostgreSQL manual, chapter Queries; codes: appendix Error Codes; the limits are own).
+-- from the left, then ORDER BY, then LIMIT and OFFSET, then the limits of conjuncts and atoms (PostgreSQL manual, chapter Queries;
+-- codes: appendix Error Codes; the limits are own).
 use Rattle.std.specs.Prelude.{nat_lt, cond, List, [], ◌∷◌, ◌++◌, length, map, Option, Some, None, Result, Ok, Err}
 use Rattle.pg_base.specs.declared.faults.Code.TheVariants.{S2, S15}
 use Rattle.pg_base.specs.declared.faults.Fault.{Fault}
@@ -18,31 +19,34 @@ use Rattle.eq_classes.specs.declared.order.OrderItem.{OrderItem}
 use Rattle.sql_lex.specs.declared.tokens.Token.{Token}
 use Rattle.sql_grammar.specs.Faults.{fault_at}
 use Rattle.sql_grammar.specs.FromParts.{groups_after}
-use Rattle.sql_grammar.specs.Syntax.{Group, Where, no_where, where_expr, select_from, OrderBy, OrderedSelect, ordered_select}
+use Rattle.sql_grammar.specs.Syntax.{Group, Where, no_where, where_expr, select_from, OrderBy, Window as WindowTree, OrderedSelect, ordered_select}
 use Rattle.expr_reader.specs.Conditions.{next, the_column}
 use Rattle.expr_reader.specs.Scope.{Scope, columns_of, look_up, under}
 use Rattle.sql_query.specs.Queries.{Query}
+use Rattle.sql_query.specs.declared.window.Window.{Window}
 use Rattle.query_reader.specs.declared.written.Item.{Item}
 use Rattle.query_reader.specs.declared.written.Item.TheVariants.{Every, EveryOf, Bare, Qualified}
 use Rattle.query_reader.specs.From.{Joined, conjuncts_of_expr, nothing_joined, with_groups}
 use Rattle.query_reader.specs.Named.{columns_in_all}
 use Rattle.query_reader.specs.Order.{order_items}
 use Rattle.query_reader.specs.Scope.{scope_of}
+use Rattle.query_reader.specs.Windows.{window_of}
 use Rattle.query_reader.specs.Written.{item_of, items_of}
 
 -- a SELECT with its names bound, apart from its classes: its relations, the columns that it shows, its conjuncts as written,
--- and the items of ORDER BY
+-- the items of ORDER BY, and its window, where LIMIT or OFFSET is written
 pub record Bound : Type 0 where
   pub range : Range
   pub select : List ColRef
   pub where_all : List Cond
   pub order : List OrderItem
+  pub window : Option Window
 
 -- every column that is named: those shown, those of the conjuncts, and those of ORDER BY
 abbrev pub named_in : List ColRef → List Cond → List OrderItem → List ColRef
 named_in select conjuncts order = select ++ (columns_in_all (conds_of conjuncts) ++ map (λ i. i.col) order)
 
--- the query with these classes, which has no window
+-- the query with these classes
 abbrev pub query_with : Table → Bound → Query
 query_with classes b = record {
   range = b.range;
@@ -51,7 +55,7 @@ query_with classes b = record {
   order = b.order;
   used = named_in b.select b.where_all b.order;
   where_all = b.where_all;
-  window = None;
+  window = b.window;
 }
 
 -- the one column that is found
@@ -96,20 +100,21 @@ abbrev pub limited : {A : Type 0} → Token → Option Limit → A → Result A 
 limited start None x = Ok x
 limited start (Some limit) x = Err (fault_at (S15 limit) start)
 
--- WHERE, then the list, then ORDER BY, over the relations that FROM names, then the limits. The conjuncts are those of the
--- conditions of joins in the order of the text, then those of WHERE.
-abbrev pub bound_over : Token → List Item → Where → OrderBy → Joined → Result Bound Fault
-bound_over start items condition order j =
+-- WHERE, then the list, then ORDER BY, over the relations that FROM names, then LIMIT and OFFSET, then the limits. The conjuncts
+-- are those of the conditions of joins in the order of the text, then those of WHERE.
+abbrev pub bound_over : Token → List Item → Where → OrderBy → WindowTree → Joined → Result Bound Fault
+bound_over start items condition order rows j =
     let scope = scope_of j.contents j.range in
     next (conjuncts_written scope (type_in j.contents j.range) condition) (λ conjuncts.
     next (list_columns scope items) (λ columns.
     next (order_items scope columns order) (λ ordered.
-    limited start (past_limit (j.conjuncts ++ conjuncts)) (record { range = j.range; select = columns; where_all = j.conjuncts ++ conjuncts; order = ordered }))))
+    next (window_of rows) (λ window.
+    limited start (past_limit (j.conjuncts ++ conjuncts)) (record { range = j.range; select = columns; where_all = j.conjuncts ++ conjuncts; order = ordered; window = window })))))
 
 -- what these parts of a SELECT mean, in a statement that begins at this token: FROM first
-abbrev pub bound_from : Contents → Token → List Item → List Group → Where → OrderBy → Result Bound Fault
-bound_from c start items groups condition order = next (with_groups (nothing_joined c) groups) (bound_over start items condition order)
+abbrev pub bound_from : Contents → Token → List Item → List Group → Where → OrderBy → WindowTree → Result Bound Fault
+bound_from c start items groups condition order rows = next (with_groups (nothing_joined c) groups) (bound_over start items condition order rows)
 
--- what a SELECT with its order means, in a statement that begins at this token
+-- what a SELECT with its order and its window means, in a statement that begins at this token
 abbrev pub bound : Contents → Token → OrderedSelect → Result Bound Fault
-bound c start (ordered_select _ (select_from _ o os _ g gs w) y _ _) = bound_from c start (item_of o ∷ items_of os) (g ∷ groups_after gs) w y
+bound c start (ordered_select _ (select_from _ o os _ g gs w) y v _) = bound_from c start (item_of o ∷ items_of os) (g ∷ groups_after gs) w y v

@@ -56,3 +56,14 @@ ends_order (t_key Offset _ ∷ _) = true
 ends_order (t_semicolon _ ∷ _) = true
 ends_order (t_end _ ∷ _) = true
 ends_order _ = false
+
+-- no LIMIT stands next
+abbrev pub ends_limit : List Terminal → Bool
+ends_limit (t_key Limit _ ∷ _) = false
+ends_limit _ = true
+
+-- the word that ends the statement is next
+abbrev pub ends_window : List Terminal → Bool
+ends_window (t_semicolon _ ∷ _) = true
+ends_window (t_end _ ∷ _) = true
+ends_window _ = false

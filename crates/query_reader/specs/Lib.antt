@@ -6,6 +6,7 @@ pub mod From
 pub mod Conveys
 pub mod Named
 pub mod Order
+pub mod Windows
 pub mod Binding
 pub mod Adds
 pub mod Select

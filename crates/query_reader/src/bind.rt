@@ -4,13 +4,13 @@ ghost use Rattle.std.specs.Prelude.{◌≡◌, ◌<◌, ◌++◌, List, ◌∷�
 ghost use Rattle.pg_base.specs.Names.{IsName};
 ghost use Rattle.pg_expr.specs.View.{cond};
 ghost use Rattle.sql_grammar.specs.FromParts.{groups_after};
-ghost use Rattle.sql_grammar.specs.Syntax.{Group, Mark, Where, OrderBy};
+ghost use Rattle.sql_grammar.specs.Syntax.{Group, Mark, Where, OrderBy, Window as WindowTree};
 ghost use Rattle.sql_grammar.specs.Terminals.{Terminal};
-ghost use Rattle.sql_grammar.specs.Words.{words_of_group, words_of_groups, words_of_where, words_of_order};
+ghost use Rattle.sql_grammar.specs.Words.{words_of_group, words_of_groups, words_of_where, words_of_order, words_of_window};
 ghost use Rattle.expr_reader.specs.Conditions.{next, the_column};
 ghost use Rattle.query_reader.specs.Adds.{Adds, AddsAll};
 ghost use Rattle.query_reader.specs.Binding.{alone, bound_from, bound_over, item_columns, list_columns, named_in};
-ghost use Rattle.query_reader.specs.Ends.{ends_order};
+ghost use Rattle.query_reader.specs.Ends.{ends_window};
 ghost use Rattle.query_reader.specs.Scope.{visible_in};
 ghost use Rattle.query_reader.specs.Select.{IsBoundByItself, IsBoundAs};
 
@@ -19,6 +19,7 @@ use crate::named;
 use crate::order::order_by;
 use crate::relations::Relations;
 use crate::sources::Sources;
+use crate::window::window;
 use crate::written::Item;
 use catalog::{Catalog, RangeTable};
 use eq_classes::OrderItem;
@@ -99,8 +100,8 @@ fn used_columns(
     Ok(used)
 }
 
-/// The query over the relations of FROM with the conjuncts of its conditions: WHERE, then the items, then ORDER BY, then the
-/// limits.
+/// The query over the relations of FROM with the conjuncts of its conditions: WHERE, then the items, then ORDER BY, then LIMIT
+/// and OFFSET, then the limits.
 fn over(
     alloc: Global,
     sources: Sources,
@@ -109,9 +110,9 @@ fn over(
     from: &mut Cursor,
 ) -> Result<Prepared, Refusal>
     requires some { 0 < length sources.range }
-    requires words { (w : Where) × (y : OrderBy) × (rest : List Terminal) × (ends_order rest ≡ true) × (from.old ≡ words_of_where w ++ (words_of_order y ++ rest)) }
-    ensures meaning { (w : Where) (y : OrderBy) (rest : List Terminal) → ends_order rest ≡ true → from.old ≡ words_of_where w ++ (words_of_order y ++ rest) →
-        IsBoundAs (bound_over start items.now w y sources.entry) result }
+    requires words { (w : Where) × (y : OrderBy) × (v : WindowTree) × (rest : List Terminal) × (ends_window rest ≡ true) × (from.old ≡ words_of_where w ++ (words_of_order y ++ (words_of_window v ++ rest))) }
+    ensures meaning { (w : Where) (y : OrderBy) (v : WindowTree) (rest : List Terminal) → ends_window rest ≡ true → from.old ≡ words_of_where w ++ (words_of_order y ++ (words_of_window v ++ rest)) →
+        IsBoundAs (bound_over start items.now w y v sources.entry) result }
     ensures itself { IfOk result (λ q. All (λ r. IsName r.1) q.range → IsBoundByItself sources.entry.contents q) }
 {
     let Sources {
@@ -125,6 +126,7 @@ fn over(
     let mut select = Vec::new(alloc);
     add_items(&range, items, &mut select)?;
     let order = order_by(alloc, &range, &select, from)?;
+    let window = window(from)?;
     let classes = classes_within(alloc, &range, &written, &order, start)?;
     let used = used_columns(alloc, &select, &written, &order)?;
     drop(range);
@@ -135,12 +137,12 @@ fn over(
         order: OrderList::from_vec(order),
         used: ColList::from_vec(used),
         where_all: Exprs::from_vec(written),
-        window: None,
+        window,
     })
 }
 
-/// The query that a SELECT means, or its first fault of binding: these items, with its FROM, its WHERE and its ORDER BY next, in
-/// a statement that begins at this token.
+/// The query that a SELECT means, or its first fault of binding: these items, with its FROM, its WHERE, its ORDER BY, its LIMIT
+/// and its OFFSET next, in a statement that begins at this token.
 pub fn bind(
     alloc: Global,
     cat: &Catalog,
@@ -148,11 +150,11 @@ pub fn bind(
     start: Token,
     from: &mut Cursor,
 ) -> Result<Prepared, Refusal>
-    requires { (g : Group) × (gs : List (Mark × Group)) × (w : Where) × (y : OrderBy) × (rest : List Terminal) × (ends_order rest ≡ true) ×
-        (from.old ≡ words_of_group g ++ (words_of_groups gs ++ (words_of_where w ++ (words_of_order y ++ rest)))) }
-    ensures meaning { (g : Group) (gs : List (Mark × Group)) (w : Where) (y : OrderBy) (rest : List Terminal) → ends_order rest ≡ true →
-        from.old ≡ words_of_group g ++ (words_of_groups gs ++ (words_of_where w ++ (words_of_order y ++ rest))) →
-        IsBoundAs (bound_from cat.now start items.now (g ∷ groups_after gs) w y) result }
+    requires { (g : Group) × (gs : List (Mark × Group)) × (w : Where) × (y : OrderBy) × (v : WindowTree) × (rest : List Terminal) × (ends_window rest ≡ true) ×
+        (from.old ≡ words_of_group g ++ (words_of_groups gs ++ (words_of_where w ++ (words_of_order y ++ (words_of_window v ++ rest))))) }
+    ensures meaning { (g : Group) (gs : List (Mark × Group)) (w : Where) (y : OrderBy) (v : WindowTree) (rest : List Terminal) → ends_window rest ≡ true →
+        from.old ≡ words_of_group g ++ (words_of_groups gs ++ (words_of_where w ++ (words_of_order y ++ (words_of_window v ++ rest)))) →
+        IsBoundAs (bound_from cat.now start items.now (g ∷ groups_after gs) w y v) result }
     ensures itself { IfOk result (λ q. All (λ r. IsName r.1) q.range → IsBoundByItself cat.now q) }
 {
     let mut sources = Sources::new(alloc, cat);

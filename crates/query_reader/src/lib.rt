@@ -10,6 +10,7 @@ mod read;
 mod relations;
 mod select;
 mod sources;
+mod window;
 mod written;
 
 pub use laws::selects_are_no_other;

@@ -61,23 +61,25 @@ fn read_whole(
 /// The SELECT of these tokens with its order, behind EXPLAIN where that is written: the relations in the order of FROM, the
 /// columns shown in order, the items of ORDER BY, the conjuncts as written, which are those of the conditions of joins in the
 /// order of the text and then those of WHERE, the classes of these and of ORDER BY, and the columns named, which are those shown,
-/// then those of the conjuncts, then those of ORDER BY. `first` is the number of the word SELECT: 1 behind EXPLAIN, else 0.
+/// then those of the conjuncts, then those of ORDER BY. Where LIMIT or OFFSET is written, it has a window: the number of LIMIT, if
+/// that is written, and that of OFFSET, or 0. `first` is the number of the word SELECT: 1 behind EXPLAIN, else 0.
 ///
 /// FROM is bound first, from the left, then WHERE, then the list from the left, then ORDER BY. Of a relation its number comes
 /// first (at most 10, over all groups), then its table, then its alias, and right behind it the condition of its join, which sees
 /// the relations of its own group up to it; all else sees all relations. A relation is seen under its alias alone, which is the
 /// table's name where none is given; `*` and `alias.*` are every column in order. A bare name of ORDER BY is sought in the list
-/// first; DESC alone puts NULLs first, and otherwise they are last unless said. Names compare in small letters. Then come the
-/// limits, at the first byte of the whole statement: at most 32 conjuncts in pushed form, of which a constant is one,
-/// then at most 256 atoms, of which a constant is none (PostgreSQL manual, chapters Queries and Type Conversion; the limits are
-/// own).
+/// first; DESC alone puts NULLs first, and otherwise they are last unless said. Names compare in small letters. Then come LIMIT
+/// and OFFSET, whose numbers are each at most 2^63 - 1, and then the limits, at the first byte of the whole statement: at most 32
+/// conjuncts in pushed form, of which a constant is one, then at most 256 atoms, of which a constant is none (PostgreSQL manual,
+/// chapters Queries and Type Conversion; the limits are own).
 ///
 /// The text has at most 2^31 bytes, and the tokens are the words of a statement from some offset of it, which is of no other
 /// kind. The refusal is the first fault: that of the statement's grammar (42601; 54000 for a name over 63 bytes, a text over
 /// 8,192 or an expression over 32 levels deep), else a relation too many (54000), an unknown table or qualifier (42P01), an alias
 /// that stands twice (42712), an unknown column (42703) or one that several visible relations have (42702), a literal out of
 /// range (22003) or not of its type (22P02), a missing operator (42883) or a column that is no condition (42804), with its word,
-/// else a limit (54000). It is `Memory` only of a SELECT without a fault of the grammar.
+/// else a number of LIMIT or OFFSET that is too great (22003), with its word, else a limit (54000). It is `Memory` only of a SELECT
+/// without a fault of the grammar.
 pub fn read_select(
     alloc: Global,
     cat: &Catalog,

@@ -9,3 +9,5 @@ mod indexes;
 mod selects;
 #[cfg(test)]
 mod tables;
+#[cfg(test)]
+mod windows;

@@ -455,7 +455,7 @@ fn add(
 }
 
 /// The tables t, of a and b, and s, of c and d.
-fn two_tables(alloc: Global) -> Result<Catalog, CatalogFault> {
+pub(crate) fn two_tables(alloc: Global) -> Result<Catalog, CatalogFault> {
     let mut catalog = Catalog::new(alloc);
     add(&mut catalog, alloc, b't', b'a', b'b')?;
     add(&mut catalog, alloc, b's', b'c', b'd')?;
@@ -476,7 +476,7 @@ fn begins(text: &[u8], tokens: &Tokens) -> bool
 }
 
 /// The SELECT at the text's beginning.
-fn reading(alloc: Global, catalog: &Catalog, text: &[u8]) -> Result<Prepared, Refusal>
+pub(crate) fn reading(alloc: Global, catalog: &Catalog, text: &[u8]) -> Result<Prepared, Refusal>
     requires { length text.now ≤ 2 ^ 31 }
 {
     let tokens = lex_statement(alloc, text, 0)?;
@@ -512,7 +512,7 @@ fn are_tables(range: &[(TableNo, Bytes)], tables: &[u8]) -> bool {
 }
 
 /// The head, the part so many times, and the tail.
-fn repeated(
+pub(crate) fn repeated(
     alloc: Global,
     head: &[u8],
     part: &[u8],
@@ -598,14 +598,14 @@ fn is_using(alloc: Global, catalog: &Catalog, text: &[u8], used: &[u8]) -> Resul
 }
 
 /// The refusal of a SELECT, if any.
-fn refusal(alloc: Global, catalog: &Catalog, text: &[u8]) -> Option<Refusal>
+pub(crate) fn refusal(alloc: Global, catalog: &Catalog, text: &[u8]) -> Option<Refusal>
     requires { length text.now ≤ 2 ^ 31 }
 {
     reading(alloc, catalog, text).err()
 }
 
 /// The first of some SELECTs that has more than 1,000 bytes, or is refused elsewhere than told.
-fn first_wrong<'a>(
+pub(crate) fn first_wrong<'a>(
     alloc: Global,
     catalog: &Catalog,
     rows: &[(&'a [u8], Code, u32, u32)],

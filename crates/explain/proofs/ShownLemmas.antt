@@ -1,27 +1,20 @@
 -- What a plan that is shown has: its nodes have lines.
-use Prim.Native.Nat.{suc, zero}
-use Rattle.std.proofs.Common.{◌≡◌, ◌<◌, inl, inr, ℕ, ◌+◌, Bool, true, false, cond, ◌||◌, nat_eq, List, [], ◌∷◌, ◌++◌, append_assoc, length, take, refl, sym, ◌∙◌, ap, ap₂, subst, arith, ⊎_elim}
+use Rattle.std.proofs.Common.{◌≡◌, ◌<◌, inl, inr, ℕ, ◌+◌, List, [], ◌∷◌, ◌++◌, append_assoc, length, refl, sym, ◌∙◌, ap, ap₂, subst, arith}
 use Rattle.std.specs.Prelude.{All}
-use Rattle.std.specs.List.{AllZip, list_all, list_any}
+use Rattle.std.specs.List.{AllZip}
 use Rattle.std.proofs.Math.Nat.{lt_of_le_of_lt}
-use Rattle.std.proofs.lemmas.Bool.{or_cases, and_parts, true≢false, eqb-true}
 use Rattle.pg_base.specs.declared.numbers.IndexNo.{IndexNo}
 use Rattle.pg_base.specs.declared.numbers.RelNo.{RelNo}
 use Rattle.pg_base.specs.declared.rel_set.RelSet.{RelSet}
 use Rattle.pg_expr.specs.Cond.{Cond}
 use Rattle.catalog.specs.Contents.{Contents, IsIndex}
-use Rattle.eq_classes.specs.Classes.{Class}
-use Rattle.eq_classes.specs.Clauses.{Set}
-use Rattle.eq_classes.specs.Parts.{is_joining, joining_from}
 use Rattle.eq_classes.proofs.ListLemmas.{IsIn, all_from}
 use Rattle.sql_query.specs.Queries.{Query}
-use Rattle.pathkeys.specs.Keys.{Keys, order_keys}
-use Rattle.pathkeys.proofs.OnceLemmas.{order_keys_are_keys}
-use Rattle.plan_tree.specs.Plans.{Plan, seq, index, index_only, bitmap, sort, nest, merge, BitTree, leaf, all_hold, some_arm, BitTrees, no_trees, tree_and, set_of, is_sort}
+use Rattle.plan_tree.specs.Plans.{Plan, seq, index, index_only, bitmap, sort, nest, merge, BitTree, leaf, all_hold, some_arm, BitTrees, no_trees, tree_and, set_of}
 use Rattle.plan_tree.specs.Costs.{HaveRows}
 use Rattle.plan_tree.specs.Costable.{IsCostableTree, AreCostableTrees, IsMatchedBy}
 use Rattle.plan_tree.specs.Least.{IsAdmissible}
-use Rattle.plan_tree.specs.Space.{IsBuilt, HasKeys, MeetsOrder}
+use Rattle.plan_tree.specs.Space.{IsBuilt}
 use Rattle.plan_tree.proofs.BoundLemmas.{merge-most, nest-most, sort-most}
 use Rattle.plan_tree.proofs.CostableLemmas.{built-costable}
 use Rattle.class_laws.proofs.JoiningLemmas.{joining_classes}

@@ -1,12 +1,11 @@
 //! Costs and rows.
 
-ghost use Rattle.std.specs.Prelude.{◌≡◌, ◌≤◌, ◌++◌, IfOk, codes};
-ghost use Rattle.std.specs.Fmt.{decimal};
+ghost use Rattle.std.specs.Prelude.{◌≡◌, ◌≤◌, IfOk};
 ghost use Rattle.std.specs.Option.{IsSome};
 ghost use Rattle.std.specs.String.{string_bytes};
 ghost use Rattle.sql_query.specs.declared.window.Window as windows;
 ghost use Rattle.explain.specs.Texts as texts;
-ghost use Rattle.explain.specs.Texts.{most_text, numbers_text, rows_behind};
+ghost use Rattle.explain.specs.Texts.{numbers_text, rows_behind, window_text};
 
 use cost_rules::Pair;
 use pg_base::Memory;
@@ -32,7 +31,7 @@ pub(crate) fn numbers(
 
 /// LIMIT and OFFSET.
 fn window_words(alloc: Global, w: Window) -> Result<String, Memory>
-    ensures { IfOk result (λ text. string_bytes text ≡ codes "Limit " ++ (most_text w.limit ++ (codes " offset " ++ decimal w.offset))) }
+    ensures { IfOk result (λ text. string_bytes text ≡ window_text w) }
 {
     let offset = w.offset;
     match w.limit {

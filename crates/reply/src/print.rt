@@ -37,14 +37,16 @@ use store::Store;
 
 /// Prints the answer to a query: the text of a plan that no admissible one undercuts in price, a line for each row
 /// that the plan gives, in its order, which is that of ORDER BY, and the number of these rows. They are the query's meaning,
-/// each as often. Under LIMIT and OFFSET the line of these comes first, the rows are the first ones behind the offset, up to
-/// the limit, and none is drawn behind the last of them; the rows that the plan would give are the query's meaning.
-/// The plan that is printed is the one that is run; each row is written, or held to be, before the next one is
-/// drawn. Rows are fetched as often as the plan fetches them, and entries and rows already found looked at as often as it
-/// does at most, with 32 more looks for each printed row. Under LIMIT one scan fetches the rows up to and with that of the last
-/// tuple that is drawn, any plan all of its own where it gives fewer tuples, none where no tuple is asked for, and else no
-/// more than its own. At `Write` and `Memory` out has a prefix of that, or is as before;
-/// at `Write` its count of faults rose. `NoPlan` comes only where each finished plan costs 10^18 or more, and changes nothing.
+/// each as often. Where the query has a window, the line of LIMIT and OFFSET comes first, and of these rows those behind the
+/// offset are printed, up to the limit; no tuple is drawn behind the last one.
+///
+/// The plan that is printed is the one that is run; each row is written, or held to be, before the next one is drawn. Rows are
+/// fetched as often as the plan fetches them, and entries and rows already found looked at as often as it does at most, with 32
+/// more looks for each printed row. Under LIMIT one scan fetches the rows up to and with that of the last tuple drawn; any
+/// plan fetches all of its rows where it gives fewer tuples, none where no tuple is asked for, and else no more than all.
+///
+/// At `Write` and `Memory` out has a prefix of that, or is as before; at `Write` its count of faults rose. `NoPlan` comes only
+/// where each finished plan costs 10^18 or more, and changes nothing.
 pub fn answer<C: Counters, K: Sink>(
     alloc: Global,
     cat: &Catalog,
@@ -72,10 +74,9 @@ pub fn answer<C: Counters, K: Sink>(
     Ok(())
 }
 
-/// Prints the text of a plan of a query that no admissible one undercuts in price, under LIMIT and OFFSET with their line
-/// first. No row is read. At `Write` and
-/// `Memory` out has a prefix of that, or is as before; at `Write` its count of faults rose. `NoPlan` comes only where each
-/// finished plan costs 10^18 or more, and changes nothing.
+/// Prints the text of a plan of a query that no admissible one undercuts in price, where the query has a window under the line
+/// of LIMIT and OFFSET. No row is read. At `Write` and `Memory` out has a prefix of that, or is as before; at `Write` its
+/// count of faults rose. `NoPlan` comes only where each finished plan costs 10^18 or more, and changes nothing.
 pub fn explain_query<K: Sink>(
     alloc: Global,
     cat: &Catalog,

@@ -6,10 +6,12 @@ use Rattle.std.proofs.lemmas.Bool.Decides.{nat_tests}
 use Rattle.std.proofs.lemmas.List.{drop-drop, length-drop}
 use Rattle.std.proofs.lemmas.List.Elements.{filter-append}
 use Rattle.scan_exec.specs.Coming.{Coming, behind, is_given, owed}
+use Rattle.sql_query.specs.Meaning.{up_to, windowed}
 use Rattle.sql_query.specs.Tuples.{Tuple}
+use Rattle.sql_query.specs.declared.window.Window.{Window}
 use Rattle.executor.specs.Reading.{Reading}
 use Rattle.reply.specs.Drawing.{Draws, drawn_by, past}
-use Rattle.reply.specs.Effort.{HasRisen, exactly, fetched_by, fetched_to, last_by, looked_by, through}
+use Rattle.reply.specs.Effort.{HasRisen, exactly, fetched_by, fetched_to, last_by, limit_in, looked_by, offset_in, through}
 
 module _ {A : Type 0} (test : A → Bool) where
   past_none : (n : ℕ) → past test n [] ≡ []
@@ -199,3 +201,8 @@ looked_few (Some n) offset all shown l l' most none = by (nat_eq (offset + n) 0)
         let offset_is : offset ≡ 0 = grind (arith, nat_tests) in
         omega (arith, none (ap (λ (k : ℕ). Some k) n_is) offset_is)
     by false e = most
+
+-- the window of a list, by what is left behind its offset
+pub windowed_is : (w : Option Window) (ts left : List Tuple) → left ≡ drop (offset_in w) ts → up_to (limit_in w) left ≡ windowed w ts
+windowed_is None ts left same = same
+windowed_is (Some w) ts left same = ap (up_to w.limit) same

@@ -1,5 +1,5 @@
 -- The reply to a query, by whether it is explained.
-use Rattle.std.proofs.Common.{◌≡◌, ℕ, ◌+◌, Bool, true, false, cond, inl, inr, Ok, Err, Result, OnOk, IfErr, ap, arith}
+use Rattle.std.proofs.Common.{◌≡◌, ℕ, ◌+◌, Bool, true, false, cond, inl, inr, Ok, Err, Result, OnOk, IfErr, ap, arith, sym, subst}
 use Rattle.std.specs.declared.option.Option.{Option}
 use Rattle.std.specs.Prelude.{List}
 use Rattle.catalog.specs.Contents.{Contents}
@@ -7,13 +7,17 @@ use Rattle.sql_query.specs.Queries.{Query}
 use Rattle.sql_query.specs.Worlds.{World}
 use Rattle.reply.specs.declared.stop.Stop.{Stop}
 use Rattle.reply.specs.declared.stop.Stop.TheVariants.{NoPlan, Write, Memory}
+use Rattle.reply.specs.Effort.{HasRisen, Rise, exactly}
 use Rattle.reply.specs.Replies.{HasBegun, HasReplied, IsAnswerTo, IsExplanationOf, Leaves, Traces, traces}
 use Rattle.definitions.specs.Actions.{answer, explain}
 use Rattle.pgplan.specs.Replies.{IsReply}
 
 module _ (c : Contents) (q : Query) (held held' : Option (List ℕ)) (f l : ℕ) where
+  none-fetched : (rise : Rise) → rise ≡ exactly 0 → HasRisen rise f f
+  none-fetched rise is = subst (λ (r : Rise). HasRisen r f f) (sym is) (record { within = omega arith; exact = omega arith })
+
   moved : HasReplied (IsExplanationOf c q) (traces held 0 0) (traces held' 0 0) → HasReplied (IsExplanationOf c q) (traces held f l) (traces held' f l)
-  moved is = record { reply = is.reply; answers = is.answers; gained = is.gained; fetched = omega (arith, is.answers.fetched); looked = omega arith }
+  moved is = record { reply = is.reply; answers = is.answers; gained = is.gained; fetched = none-fetched is.reply.fetched is.answers.fetched; looked = omega arith }
 
   begun-moved : HasBegun (IsExplanationOf c q) (traces held 0 0) (traces held' 0 0) → HasBegun (IsExplanationOf c q) (traces held f l) (traces held' f l)
   begun-moved is = record { reply = is.reply; answers = is.answers; gained = is.gained; fetched = omega arith; looked = omega arith }

@@ -9,6 +9,7 @@ use Rattle.sql_grammar.specs.Reading.{terminal_of, ends_once, is_end}
 use Rattle.sql_grammar.specs.Syntax.{empty, semicolon, text_end}
 use Rattle.sql_grammar.specs.Faults.{limit_of}
 use Rattle.sql_grammar.proofs.StatementWords.{words-are-tokens}
+use Rattle.reply.specs.Effort.{HasRisen, exactly}
 use Rattle.reply.specs.Replies.{Traces, traces as traces_of}
 use Rattle.sql_query.specs.Worlds.{World}
 use Rattle.pgplan.specs.declared.end.End.{End}
@@ -52,6 +53,10 @@ one-token-idle w text from (t ∷ []) short words one =
     alone w text t (terminal_of text t) refl (ends-alone text t (is_end text t) refl (words-are-tokens text from (t ∷ []) words short).last)
 one-token-idle w text from (t ∷ u ∷ ts) short words one = absurd (omega (arith, one))
 
+-- nothing is fetched
+none-fetched : (n : ℕ) → HasRisen (exactly 0) n n
+none-fetched n = record { within = omega arith; exact = omega arith }
+
 -- a definition was carried out
 pub done-quietly : (w w' : World) (text : List ℕ) (at next : ℕ) (tokens : List Token) (held : Option (List ℕ)) (fetched looked looked' : ℕ) → AreWords text at tokens → IsDefined w w' text tokens next looked looked' →
     Advances w w' text at next (traces_of held fetched looked) (traces_of held fetched looked')
@@ -59,7 +64,7 @@ done-quietly w w' text at next tokens held fetched looked looked' words (action,
   action = action;
   read = (tokens, words, is.read);
   world = after;
-  replied = record { reply = silent is.looks; answers = is.reply; gained = Appends-none held; fetched = omega arith; looked = is.within };
+  replied = record { reply = silent is.looks; answers = is.reply; gained = Appends-none held; fetched = none-fetched fetched; looked = is.within };
 }
 
 pub done-idle : (w : World) (text : List ℕ) (at : ℕ) (tokens : List Token) (held : Option (List ℕ)) (fetched looked : ℕ) → length text ≤ 2 ^ 31 → AreWords text at tokens → length tokens ≡ 1 →

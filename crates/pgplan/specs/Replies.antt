@@ -1,13 +1,14 @@
 -- What an accepted statement prints, and what that costs. Own.
 use Rattle.std.specs.Prelude.{ℕ, ◌≡◌, [], length}
 use Rattle.sql_query.specs.Worlds.{World, stored_at}
+use Rattle.reply.specs.Effort.{exactly}
 use Rattle.reply.specs.Replies.{Reply, IsAnswerTo, IsExplanationOf}
 use Rattle.store.specs.Kept.{load_looks}
 use Rattle.definitions.specs.Actions.{Action, idle, make, build, size, describe, fill, gather, answer, explain}
 
 -- nothing printed and nothing fetched, with so many looks
 abbrev pub silent : ℕ → Reply
-silent looks = record { bytes = []; fetched = 0; looked = looks }
+silent looks = record { bytes = []; fetched = exactly 0; looked = looks }
 
 -- an accepted statement's reply: SELECT prints the answer by a best plan, and its EXPLAIN that plan alone. The others print
 -- nothing: CREATE INDEX and ANALYZE look at each row of their table, and COPY at each new row for each index of the table

@@ -24,6 +24,11 @@ use std::sync::ledger::{Blank, Ledger};
 /// Does all that the program does and answers the exit status: 0 where all was read, answered and written; 1 where the
 /// words are no command; 2 where the source failed; 3 where a statement has a fault; 4 where out failed; 5 for want of
 /// memory; 6 where the source gave more bytes than a script may have. A status other than 0 writes its line to `errors`.
+///
+/// For every script read to its end, each SELECT prints a plan of the written plan space at its own costs that no admissible
+/// plan undercuts in price; the rows printed are, in order, the window of LIMIT and OFFSET of those that this plan gives, which
+/// as a bag, before the window, are the query's meaning in three-valued logic, in its ORDER BY. A statement is refused only for
+/// the fault that is named, which may be that no plan is admissible, or for want of memory.
 pub fn pgplan<S: Source, K: Sink, E: Sink>(
     alloc: Global,
     words: &[String],

@@ -1,80 +1,93 @@
 -- Replies, by a best plan.
-use Rattle.std.proofs.Common.{◌≡◌, ℕ, ◌+◌, ◌*◌, ◌≤◌, List, ◌++◌, length, refl, arith, ap, ap₂, subst, Option, Result, Ok, Err, OnOk, OnErr, IsPermutation}
+use Rattle.std.proofs.Common.{◌≡◌, ℕ, ◌+◌, ◌≤◌, Bool, List, ◌++◌, length, refl, arith, ap, ap₂, ◌∙◌, subst, Option, Result, Ok, Err, OnOk, OnErr, IsPermutation}
 use Rattle.std.specs.Io.KnownBytes.{Appends}
 use Rattle.pg_base.specs.Writing.{AppendsPrefix}
 use Rattle.catalog.specs.Contents.{Contents}
-use Rattle.sql_query.specs.Meaning.{IsOrdered, meaning}
+use Rattle.sql_query.specs.Meaning.{IsOrdered, meaning, windowed}
 use Rattle.sql_query.specs.Queries.{Query}
 use Rattle.sql_query.specs.Tuples.{Tuple, no_rows}
 use Rattle.sql_query.specs.Worlds.{World}
-use Rattle.plan_tree.specs.Counts.{MOST_READS, fetches, looks}
+use Rattle.plan_tree.specs.Counts.{fetches, looks}
 use Rattle.plan_tree.specs.Least.{IsBestPlan}
 use Rattle.plan_tree.specs.Plans.{Plan}
+use Rattle.scan_exec.specs.Coming.{Coming, coming}
+use Rattle.executor.specs.Drawn.{is_scan}
 use Rattle.executor.specs.Reading.{Reading}
-use Rattle.explain.specs.Texts.{plan_text}
+use Rattle.explain.specs.Texts.{explained_text}
 use Rattle.reply.specs.Answers.{result_text, tuples_of}
+use Rattle.reply.specs.Effort.{HasRisen, Rise, answer_fetches, answer_looks, exactly, fetched_by, last_in, looked_by}
 use Rattle.reply.specs.Replies.{HasBegun, HasReplied, IsAnswerTo, IsExplanationOf, Reply, traces}
 
 module _ (c : Contents) (q : Query) (p : Plan) (a b : Option (List ℕ)) (best : IsBestPlan c q p) where
-  abbrev is_explanation : IsExplanationOf c q (record { bytes = plan_text c q p; fetched = 0; looked = 0 })
+  abbrev explanation : Reply
+  explanation = record { bytes = explained_text c q p; fetched = exactly 0; looked = 0 }
+
+  abbrev is_explanation : IsExplanationOf c q explanation
   is_explanation = record { plan = p; explanation = record { best = best; printed = refl }; fetched = refl; looked = refl }
 
-  pub explained : Appends a b (plan_text c q p) → HasReplied (IsExplanationOf c q) (traces a 0 0) (traces b 0 0)
+  pub explained : Appends a b (explained_text c q p) → HasReplied (IsExplanationOf c q) (traces a 0 0) (traces b 0 0)
   explained gained = record {
-    reply = record { bytes = plan_text c q p; fetched = 0; looked = 0 };
+    reply = explanation;
     answers = is_explanation;
     gained = gained;
-    fetched = refl;
+    fetched = record { within = omega arith; exact = refl };
     looked = omega arith;
   }
 
-  pub explaining : AppendsPrefix a b (plan_text c q p) → HasBegun (IsExplanationOf c q) (traces a 0 0) (traces b 0 0)
-  explaining gained = record {
-    reply = record { bytes = plan_text c q p; fetched = 0; looked = 0 };
-    answers = is_explanation;
-    gained = gained;
-    fetched = omega arith;
-    looked = omega arith;
-  }
+  pub explaining : AppendsPrefix a b (explained_text c q p) → HasBegun (IsExplanationOf c q) (traces a 0 0) (traces b 0 0)
+  explaining gained = record { reply = explanation; answers = is_explanation; gained = gained; fetched = omega arith; looked = omega arith }
 
 -- an answer by a best plan whose tuples are the query's meaning, in its order
 module _ (w : World) (q : Query) (p : Plan) (best : IsBestPlan w.contents q p) (meant : IsPermutation (tuples_of w q p) (meaning w q)) (ordered : IsOrdered w q (tuples_of w q p)) where
   abbrev pub answer_bytes : List ℕ
-  answer_bytes = plan_text w.contents q p ++ result_text w q (tuples_of w q p)
+  answer_bytes = explained_text w.contents q p ++ result_text w q (windowed q.window (tuples_of w q p))
 
   abbrev answer_reply : Reply
-  answer_reply = record { bytes = answer_bytes; fetched = fetches w q p (no_rows q); looked = looks w q p (no_rows q) + MOST_READS * length (tuples_of w q p) }
+  answer_reply = record { bytes = answer_bytes; fetched = answer_fetches w q p; looked = answer_looks w q p }
 
   abbrev is_answer : IsAnswerTo w q answer_reply
   is_answer = record { plan = p; answer = record { best = best; meant = meant; ordered = ordered; printed = refl }; fetched = refl; looked = refl }
 
-  pub answered : (a b : Option (List ℕ)) (f f' l l' : ℕ) → Appends a b answer_bytes → f' ≡ f + fetches w q p (no_rows q)
-      → l' ≤ l + (looks w q p (no_rows q) + MOST_READS * length (tuples_of w q p)) → HasReplied (IsAnswerTo w q) (traces a f l) (traces b f' l')
+  pub answered : (a b : Option (List ℕ)) (f f' l l' : ℕ) → Appends a b answer_bytes → HasRisen (answer_fetches w q p) f f' → l' ≤ l + answer_looks w q p
+      → HasReplied (IsAnswerTo w q) (traces a f l) (traces b f' l')
   answered a b f f' l l' gained fetched looked = record { reply = answer_reply; answers = is_answer; gained = gained; fetched = fetched; looked = looked }
 
-  pub answering : (a b : Option (List ℕ)) (f f' l l' : ℕ) → AppendsPrefix a b answer_bytes → f' ≤ f + fetches w q p (no_rows q)
-      → l' ≤ l + (looks w q p (no_rows q) + MOST_READS * length (tuples_of w q p)) → HasBegun (IsAnswerTo w q) (traces a f l) (traces b f' l')
+  pub answering : (a b : Option (List ℕ)) (f f' l l' : ℕ) → AppendsPrefix a b answer_bytes → f' ≤ f + (answer_fetches w q p).most → l' ≤ l + answer_looks w q p
+      → HasBegun (IsAnswerTo w q) (traces a f l) (traces b f' l')
   answering a b f f' l l' gained fetched looked = record { reply = answer_reply; answers = is_answer; gained = gained; fetched = fetched; looked = looked }
 
   -- what a call did that printed a text and the tuples of a reading, where these are the plan's
-  module _ (text : List ℕ) (r : Reading) (a b : Option (List ℕ)) (f f' l l' : ℕ) (of_text : text ≡ plan_text w.contents q p) (left : r.left ≡ tuples_of w q p) (owed : r.owed ≡ fetches w q p (no_rows q))
-      (allowed : r.allowed ≡ looks w q p (no_rows q)) where
-    bytes_are : text ++ result_text w q r.left ≡ answer_bytes
-    bytes_are = ap₂ (λ (x : List ℕ) (ts : List Tuple). x ++ result_text w q ts) of_text left
+  module _ (text : List ℕ) (r : Reading) (a b : Option (List ℕ)) (f f' l l' : ℕ) (of_text : text ≡ explained_text w.contents q p) (left : r.left ≡ tuples_of w q p) (owed : r.owed ≡ fetches w q p (no_rows q))
+      (allowed : r.allowed ≡ looks w q p (no_rows q)) (one : r.one ≡ is_scan p) (come : r.coming ≡ coming w q p (no_rows q)) where
+    abbrev rise : Rise
+    rise = fetched_by (last_in q.window) (length r.left) r.owed r.one r.coming
 
-    few : l' ≤ l + (r.allowed + MOST_READS * length r.left) → l' ≤ l + (looks w q p (no_rows q) + MOST_READS * length (tuples_of w q p))
-    few looked = omega (arith, looked, allowed, ap (λ (ts : List Tuple). length ts) left)
+    abbrev most_looks : ℕ
+    most_looks = looked_by (last_in q.window) r.allowed (length (windowed q.window r.left))
 
-    pub answered_on : {E : Type 0} (result : Result (Unit {0}) E) → OnOk result (Appends a b (text ++ result_text w q r.left)) → OnOk result (f' ≡ f + r.owed)
-        → l' ≤ l + (r.allowed + MOST_READS * length r.left) → OnOk result (HasReplied (IsAnswerTo w q) (traces a f l) (traces b f' l'))
+    bytes_are : text ++ result_text w q (windowed q.window r.left) ≡ answer_bytes
+    bytes_are = ap₂ (λ (x : List ℕ) (ts : List Tuple). x ++ result_text w q (windowed q.window ts)) of_text left
+
+    rise_is : rise ≡ answer_fetches w q p
+    rise_is =
+        ap₂ (λ (ts : List Tuple) (n : ℕ). fetched_by (last_in q.window) (length ts) n r.one r.coming) left owed
+        ∙ ap₂ (λ (b : Bool) (cs : List Coming). fetched_by (last_in q.window) (length (tuples_of w q p)) (fetches w q p (no_rows q)) b cs) one come
+
+    looks_are : most_looks ≡ answer_looks w q p
+    looks_are = ap₂ (λ (n : ℕ) (ts : List Tuple). looked_by (last_in q.window) n (length (windowed q.window ts))) allowed left
+
+    pub answered_on : {E : Type 0} (result : Result (Unit {0}) E) → OnOk result (Appends a b (text ++ result_text w q (windowed q.window r.left))) → OnOk result (HasRisen rise f f')
+        → l' ≤ l + most_looks → OnOk result (HasReplied (IsAnswerTo w q) (traces a f l) (traces b f' l'))
     answered_on (Ok u) gained fetched looked =
         let P : List ℕ → Type 0 = λ x. Appends a b x in
-        answered a b f f' l l' (subst P bytes_are gained) (omega (arith, fetched, owed)) (few looked)
+        let R : Rise → Type 0 = λ x. HasRisen x f f' in
+        answered a b f f' l l' (subst P bytes_are gained) (subst R rise_is fetched) (omega (arith, looked, looks_are))
     answered_on (Err e) gained fetched looked = tt
 
-    pub answering_on : {E : Type 0} (result : Result (Unit {0}) E) → OnErr result (AppendsPrefix a b (text ++ result_text w q r.left)) → f' ≤ f + r.owed
-        → l' ≤ l + (r.allowed + MOST_READS * length r.left) → OnErr result (HasBegun (IsAnswerTo w q) (traces a f l) (traces b f' l'))
+    pub answering_on : {E : Type 0} (result : Result (Unit {0}) E) → OnErr result (AppendsPrefix a b (text ++ result_text w q (windowed q.window r.left))) → f' ≤ f + rise.most
+        → l' ≤ l + most_looks → OnErr result (HasBegun (IsAnswerTo w q) (traces a f l) (traces b f' l'))
     answering_on (Ok u) gained fetched looked = tt
     answering_on (Err e) gained fetched looked =
         let P : List ℕ → Type 0 = λ x. AppendsPrefix a b x in
-        answering a b f f' l l' (subst P bytes_are gained) (omega (arith, fetched, owed)) (few looked)
+        let R : Rise → Type 0 = λ x. f' ≤ f + x.most in
+        answering a b f f' l l' (subst P bytes_are gained) (subst R rise_is fetched) (omega (arith, looked, looks_are))

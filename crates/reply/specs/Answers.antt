@@ -6,12 +6,12 @@ use Rattle.row_text.specs.Texts.{row_line, count_line}
 use Rattle.sql_query.specs.Queries.{Query}
 use Rattle.sql_query.specs.Worlds.{World}
 use Rattle.sql_query.specs.Tuples.{Tuple, no_rows}
-use Rattle.sql_query.specs.Meaning.{IsOrdered, meaning, shown}
+use Rattle.sql_query.specs.Meaning.{IsOrdered, meaning, shown, windowed}
 use Rattle.plan_tree.specs.Least.{IsAdmissible, IsBestPlan}
 use Rattle.plan_tree.specs.Plans.{Plan}
 use Rattle.plan_tree.specs.Run.{run}
 use Rattle.plan_tree.specs.Space.{IsFinished}
-use Rattle.explain.specs.Texts.{plan_text}
+use Rattle.explain.specs.Texts.{explained_text}
 
 -- all tuples of a plan, in the order in which it gives them
 abbrev pub tuples_of : World → Query → Plan → List Tuple
@@ -25,18 +25,19 @@ tuples_text w q ts = flat_map (λ t. row_line (shown w q t)) ts
 abbrev pub result_text : World → Query → List Tuple → List ℕ
 result_text w q ts = tuples_text w q ts ++ count_line (length ts)
 
--- by a best plan, whose tuples are the query's meaning, each as often, and in its ORDER BY as written: the plan's text, and
--- those tuples in their order with their number
+-- by a best plan, whose tuples are the query's meaning, each as often, and in its ORDER BY as written: the plan's text, with
+-- the line of LIMIT and OFFSET first where one is written, and of those tuples, in their order, the ones that these let
+-- through, with their number
 pub record IsAnswer (w : World) (q : Query) (p : Plan) (bytes : List ℕ) : Type 0 where
   pub best : IsBestPlan w.contents q p
   pub meant : IsPermutation (tuples_of w q p) (meaning w q)
   pub ordered : IsOrdered w q (tuples_of w q p)
-  pub printed : bytes ≡ plan_text w.contents q p ++ result_text w q (tuples_of w q p)
+  pub printed : bytes ≡ explained_text w.contents q p ++ result_text w q (windowed q.window (tuples_of w q p))
 
 -- the text of a best plan alone
 pub record IsExplanation (c : Contents) (q : Query) (p : Plan) (bytes : List ℕ) : Type 0 where
   pub best : IsBestPlan c q p
-  pub printed : bytes ≡ plan_text c q p
+  pub printed : bytes ≡ explained_text c q p
 
 -- no plan of all relations in the order asked for is admissible
 abbrev pub HasNoPlan : Contents → Query → Type 0

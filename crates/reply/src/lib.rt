@@ -2,9 +2,12 @@
 #![tactic(auto)]
 
 mod best;
+mod pass;
 mod print;
 mod put;
 mod rows;
+mod setting;
+mod shown;
 mod stop;
 
 pub use print::{answer, explain_query};

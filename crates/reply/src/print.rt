@@ -1,27 +1,30 @@
 //! The reply to a query, written to out.
 
-ghost use Rattle.std.specs.Prelude.{◌≡◌, ◌+◌, ◌*◌, ◌≤◌, ◌++◌, All, IfErr, OnErr, OnOk, length};
+ghost use Rattle.std.specs.Prelude.{◌≡◌, ◌+◌, ◌≤◌, ◌++◌, All, IfErr, OnErr, OnOk, length};
 ghost use Rattle.std.specs.Io.KnownBytes.{Appends};
 ghost use Rattle.pg_base.specs.Writing.{AppendsPrefix};
+ghost use Rattle.sql_query.specs.Meaning.{windowed};
 ghost use Rattle.sql_query.specs.WellBound.{IsWellBound};
 ghost use Rattle.sql_query.specs.Worlds.{world};
 ghost use Rattle.store.specs.Kept.{IsStoreOf};
-ghost use Rattle.plan_tree.specs.Counts.{MOST_READS};
 ghost use Rattle.plan_tree.specs.Least.{IsBestPlan};
 ghost use Rattle.plan_tree.specs.Paths.{IsFinishedPath};
 ghost use Rattle.plan_tree.specs.Views.{path};
 ghost use Rattle.reply.specs.Answers.{HasNoPlan, result_text};
+ghost use Rattle.reply.specs.Effort.{HasRisen, fetched_by, last_in, looked_by};
 ghost use Rattle.reply.specs.Putting.{HasWriteCause};
 ghost use Rattle.reply.specs.Replies.{HasBegun, HasReplied, IsAnswerTo, IsExplanationOf, Leaves, traces};
+ghost use Rattle.reply.specs.Settings.{IsSetting, world_of};
 ghost use Rattle.executor.specs.Numbers.{IsTupleOf};
 
 use crate::best::best_path;
 use crate::put::{flush, put};
-use crate::rows::put_rows;
+use crate::rows::put_window;
+use crate::setting::Setting;
+use crate::shown::shown_text;
 use crate::stop::{Broken, Stop};
 use catalog::Catalog;
 use executor::{Rows, tuples_have_rows};
-use explain::plan_text;
 use heap::Counters;
 use order_laws::finished_plans_are_ordered;
 use pg_base::{Sink, Steps};
@@ -32,12 +35,18 @@ use sql_query::Prepared;
 use std::alloc::Global;
 use store::Store;
 
-/// Prints the answer to a query: the text of a plan that no admissible one undercuts, a line for each row
+/// Prints the answer to a query: the text of a plan that no admissible one undercuts in price, a line for each row
 /// that the plan gives, in its order, which is that of ORDER BY, and the number of these rows. They are the query's meaning,
-/// each as often. The plan that is printed is the one that is run; each row is written, or held to be, before the next one is
-/// drawn. Rows are fetched as often as the plan fetches them, and entries and rows already found looked at as often as it
-/// does at most, with 32 more looks for each printed row. At `Write` and `Memory` out has a prefix of that, or is as before;
-/// at `Write` its count of faults rose. `NoPlan` comes only where each finished plan costs 10^18 or more, and changes nothing.
+/// each as often. Where the query has a window, the line of LIMIT and OFFSET comes first, and of these rows those behind the
+/// offset are printed, up to the limit; no tuple is drawn behind the last one.
+///
+/// The plan that is printed is the one that is run; each row is written, or held to be, before the next one is drawn. Rows are
+/// fetched as often as the plan fetches them, and entries and rows already found looked at as often as it does at most, with 32
+/// more looks for each printed row. Under LIMIT one scan fetches the rows up to and with that of the last tuple drawn; any
+/// plan fetches all of its rows where it gives fewer tuples, none where no tuple is asked for, and else no more than all.
+///
+/// At `Write` and `Memory` out has a prefix of that, or is as before; at `Write` its count of faults rose. `NoPlan` comes only
+/// where each finished plan costs 10^18 or more, and changes nothing.
 pub fn answer<C: Counters, K: Sink>(
     alloc: Global,
     cat: &Catalog,
@@ -55,13 +64,19 @@ pub fn answer<C: Counters, K: Sink>(
     ensures cause { HasWriteCause Stop.Write (K.faults out.old) (K.faults out.new) result }
 {
     let best = best_path(alloc, cat, q)?;
-    answer_by(alloc, cat, q, &best, store, out, fetches, reads)?;
+    let at = Setting {
+        alloc,
+        cat,
+        q,
+        store,
+    };
+    answer_by(&at, &best, out, fetches, reads)?;
     Ok(())
 }
 
-/// Prints the text of a plan of a query that no admissible one undercuts. No row is read. At `Write` and
-/// `Memory` out has a prefix of that, or is as before; at `Write` its count of faults rose. `NoPlan` comes only where each
-/// finished plan costs 10^18 or more, and changes nothing.
+/// Prints the text of a plan of a query that no admissible one undercuts in price, where the query has a window under the line
+/// of LIMIT and OFFSET. No row is read. At `Write` and `Memory` out has a prefix of that, or is as before; at `Write` its
+/// count of faults rose. `NoPlan` comes only where each finished plan costs 10^18 or more, and changes nothing.
 pub fn explain_query<K: Sink>(
     alloc: Global,
     cat: &Catalog,
@@ -81,76 +96,48 @@ pub fn explain_query<K: Sink>(
 
 /// Prints the answer to a query by a best plan.
 fn answer_by<C: Counters, K: Sink>(
-    alloc: Global,
-    cat: &Catalog,
-    q: &Prepared,
+    at: &Setting<C>,
     best: &Path,
-    store: &Store<C>,
     out: &mut K,
     fetches: &mut Steps<C::Fetches>,
     reads: &mut Steps<C::Looks>,
 ) -> Result<(), Broken>
-    requires bound { IsWellBound cat.now q.now }
-    requires store { IsStoreOf cat.now store.now }
-    requires finished { IsFinishedPath cat.now q.now (path best.now) }
-    requires best { IsBestPlan cat.now q.now (path best.now).tree }
-    ensures ok { OnOk result (HasReplied (IsAnswerTo (world cat.now store.now.stored) q.now) (traces (K.held out.old) fetches.old reads.old) (traces (K.held out.new) fetches.new reads.new)) }
-    ensures err { OnErr result (HasBegun (IsAnswerTo (world cat.now store.now.stored) q.now) (traces (K.held out.old) fetches.old reads.old) (traces (K.held out.new) fetches.new reads.new)) }
+    requires setting { IsSetting at.now }
+    requires finished { IsFinishedPath at.now.cat.now at.now.q.now (path best.now) }
+    requires best { IsBestPlan at.now.cat.now at.now.q.now (path best.now).tree }
+    ensures ok { OnOk result (HasReplied (IsAnswerTo (world_of at.now) at.now.q.now) (traces (K.held out.old) fetches.old reads.old) (traces (K.held out.new) fetches.new reads.new)) }
+    ensures err { OnErr result (HasBegun (IsAnswerTo (world_of at.now) at.now.q.now) (traces (K.held out.old) fetches.old reads.old) (traces (K.held out.new) fetches.new reads.new)) }
     ensures cause { HasWriteCause Broken.Write (K.faults out.old) (K.faults out.new) result }
 {
     plans_give_their_tuples();
     finished_plans_are_ordered();
     tuples_have_rows();
-    let text = plan_text(alloc, cat, q, best)?;
-    let mut rows = Rows::start(alloc, cat, q, &best.plan, store)?;
-    put_result(
-        alloc,
-        cat,
-        q,
-        store,
-        text.items(),
-        &mut rows,
-        out,
-        fetches,
-        reads,
-    )
+    let text = shown_text(at.alloc, at.cat, at.q, best)?;
+    let mut rows = Rows::start(at.alloc, at.cat, at.q, &best.plan, at.store)?;
+    put_result(at, &text, &mut rows, out, fetches, reads)
 }
 
-/// Prints a text, a line for each tuple that is to be drawn, and their number.
+/// Prints a text, a line for each tuple that is to be drawn and that LIMIT and OFFSET let through, and the number of these.
 fn put_result<C: Counters, K: Sink>(
-    alloc: Global,
-    cat: &Catalog,
-    q: &Prepared,
-    store: &Store<C>,
+    at: &Setting<C>,
     text: &[u8],
     rows: &mut Rows<C>,
     out: &mut K,
     fetches: &mut Steps<C::Fetches>,
     reads: &mut Steps<C::Looks>,
 ) -> Result<(), Broken>
-    requires bound { IsWellBound cat.now q.now }
-    requires store { IsStoreOf cat.now store.now }
-    requires tuples { All (IsTupleOf (world cat.now store.now.stored) q.now) rows.old.left }
-    ensures ok { OnOk result (Appends (K.held out.old) (K.held out.new) (text.now ++ result_text (world cat.now store.now.stored) q.now rows.old.left)) }
-    ensures err { OnErr result (AppendsPrefix (K.held out.old) (K.held out.new) (text.now ++ result_text (world cat.now store.now.stored) q.now rows.old.left)) }
+    requires setting { IsSetting at.now }
+    requires tuples { All (IsTupleOf (world_of at.now) at.now.q.now) rows.old.left }
+    ensures ok { OnOk result (Appends (K.held out.old) (K.held out.new) (text.now ++ result_text (world_of at.now) at.now.q.now (windowed at.now.q.now.window rows.old.left))) }
+    ensures err { OnErr result (AppendsPrefix (K.held out.old) (K.held out.new) (text.now ++ result_text (world_of at.now) at.now.q.now (windowed at.now.q.now.window rows.old.left))) }
     ensures cause { HasWriteCause Broken.Write (K.faults out.old) (K.faults out.new) result }
-    ensures fetches { OnOk result (fetches.new ≡ fetches.old + rows.old.owed) }
-    ensures fewer { fetches.new ≤ fetches.old + rows.old.owed }
-    ensures reads { reads.new ≤ reads.old + (rows.old.allowed + MOST_READS * length rows.old.left) }
+    ensures fetches { OnOk result (HasRisen (fetched_by (last_in at.now.q.now.window) (length rows.old.left) rows.old.owed rows.old.one rows.old.coming) fetches.old fetches.new) }
+    ensures fewer { fetches.new ≤ fetches.old + (fetched_by (last_in at.now.q.now.window) (length rows.old.left) rows.old.owed rows.old.one rows.old.coming).most }
+    ensures reads { reads.new ≤ reads.old + looked_by (last_in at.now.q.now.window) rows.old.allowed (length (windowed at.now.q.now.window rows.old.left)) }
 {
-    let mut pending = Vec::from_slice(alloc, text)?;
-    let count = put_rows(
-        alloc,
-        cat,
-        q,
-        store,
-        rows,
-        out,
-        &mut pending,
-        fetches,
-        reads,
-    )?;
-    let line = count_line(alloc, count)?;
+    let mut pending = Vec::from_slice(at.alloc, text)?;
+    let count = put_window(at, rows, out, &mut pending, fetches, reads)?;
+    let line = count_line(at.alloc, count)?;
     put(out, &mut pending, &line)?;
     flush(out, &pending)
 }
@@ -170,6 +157,6 @@ fn explain_by<K: Sink>(
     ensures err { OnErr result (HasBegun (IsExplanationOf cat.now q.now) (traces (K.held out.old) 0 0) (traces (K.held out.new) 0 0)) }
     ensures cause { HasWriteCause Broken.Write (K.faults out.old) (K.faults out.new) result }
 {
-    let shown = plan_text(alloc, cat, q, best)?;
-    flush(out, shown.items())
+    let text = shown_text(alloc, cat, q, best)?;
+    flush(out, &text)
 }

@@ -160,3 +160,114 @@ fn rows_are_fetched_as_the_plan_says(rt: HostRuntime) -> Result<(), Fail> {
     }
     Ok(())
 }
+
+/// A query over the table of 1000 rows, the rows that it fetches, and how often it looks at most.
+#[derive(Clone, Copy)]
+struct Fetched<'a> {
+    query: &'a [u8],
+    fetches: u64,
+    looks: u64,
+}
+
+/// Rows that are passed over are fetched and not looked at; none is fetched behind the last one; a look prints a row, or is one
+/// at an entry. An inner side is drawn whole before the first row of its join, and the input of a sort too.
+const WINDOWS: [Fetched; 13] = [
+    Fetched {
+        query: b"SELECT * FROM t LIMIT 5 OFFSET 2;",
+        fetches: 7,
+        looks: 5,
+    },
+    Fetched {
+        query: b"SELECT * FROM t LIMIT 0;",
+        fetches: 0,
+        looks: 0,
+    },
+    Fetched {
+        query: b"SELECT x.b, y.b FROM t x, t y LIMIT 0;",
+        fetches: 0,
+        looks: 0,
+    },
+    Fetched {
+        query: b"SELECT x.b, y.b FROM t x, t y LIMIT 1;",
+        fetches: 1001,
+        looks: 4,
+    },
+    Fetched {
+        query: b"SELECT * FROM t LIMIT 0 OFFSET 3;",
+        fetches: 3,
+        looks: 0,
+    },
+    Fetched {
+        query: b"SELECT * FROM t OFFSET 998;",
+        fetches: 1000,
+        looks: 2,
+    },
+    Fetched {
+        query: b"SELECT * FROM t LIMIT 2000;",
+        fetches: 1000,
+        looks: 1000,
+    },
+    Fetched {
+        query: b"SELECT * FROM t WHERE a != 0 LIMIT 1;",
+        fetches: 2,
+        looks: 1,
+    },
+    Fetched {
+        query: b"SELECT * FROM t WHERE b = 1 LIMIT 1000;",
+        fetches: 1000,
+        looks: 1000,
+    },
+    Fetched {
+        query: b"SELECT * FROM t WHERE a = 5 LIMIT 3;",
+        fetches: 3,
+        looks: 13,
+    },
+    Fetched {
+        query: b"SELECT * FROM t WHERE a = 5 LIMIT 3 OFFSET 9;",
+        fetches: 10,
+        looks: 11,
+    },
+    Fetched {
+        query: b"SELECT a FROM t WHERE a = 5 LIMIT 3;",
+        fetches: 0,
+        looks: 6,
+    },
+    Fetched {
+        query: b"SELECT * FROM t ORDER BY b LIMIT 1;",
+        fetches: 1000,
+        looks: 1001,
+    },
+];
+
+/// Whether a query fetches and looks so.
+fn is_fetched(alloc: Global, case: Fetched) -> Result<bool, AllocError> {
+    if case.query.len() > MOST_SCRIPT_BYTES {
+        return Err(AllocError);
+    }
+    let asked = Asked {
+        query: case.query,
+        begins: b"Limit ",
+        ends: b")\n",
+        room: 65_536,
+        fails: 0,
+    };
+    let did = drawn_from_rows(alloc, asked)?;
+    Ok(did.as_told && did.fetches == case.fetches && did.looks <= case.looks)
+}
+
+/// The first query of a table that does not.
+fn first_wrong(alloc: Global, cases: &[Fetched]) -> Result<Option<usize>, AllocError> {
+    for n in 0..cases.len() {
+        if !is_fetched(alloc, cases[n])? {
+            return Ok(Some(n));
+        }
+    }
+    Ok(None)
+}
+
+#[test]
+fn no_row_is_fetched_behind_the_last_one(rt: HostRuntime) -> Result<(), Fail> {
+    let wrong = first_wrong(rt.alloc(), &WINDOWS)?;
+    assert_eq!(rt; wrong, None);
+    Ok(())
+}

@@ -1,44 +1,53 @@
-use Rattle.std.proofs.Common.{rules, refl}
-use Rattle.sql_query.specs.Worlds.{world}
+use Rattle.std.proofs.Common.{rules, sym, subst, ◌∙◌, ℕ, arith}
 use Rattle.executor.specs.Numbers.{numbers}
-use Rattle.reply.proofs.DrawingLemmas.{drawn_more, drawn_none, drawn_stopped, line_stopped, next_is, rest_are, some_left}
+use Rattle.reply.specs.Drawing.{Draws}
+use Rattle.reply.specs.Effort.{limit_in}
+use Rattle.reply.specs.Settings.{world_of}
+use Rattle.reply.proofs.DrawingLemmas.{drawn_more, drawn_stopped, line_stopped, next_is, rest_are, some_left, within_more}
+use Rattle.reply.proofs.LimitLemmas.{draws_more}
 use Rattle.reply.proofs.PuttingLemmas.{puts-stopped}
 use Rattle.reply.proofs.rows.put_rows.Goals as goal
 
-pub drawn-init : goal.drawn-init
-drawn-init g c = record {
-  drawn = drawn_none (world c.args.cat.now c.args.store.now.stored) c.args.q.now c.args.rows.now (g.K.Sink.held c.args.out.now) c.args.pending.now.items c.args.fetches.now c.args.reads.now;
-  quiet = refl;
-  tuples = c.requires.tuples;
-}
-
-pub returns-in_err-tuple-clause-puts : goal.returns-in_err-tuple-clause-puts
-returns-in_err-tuple-clause-puts g c =
+pub returns-in_err-next-clause-puts : goal.returns-in_err-next-clause-puts
+returns-in_err-next-clause-puts g c =
     puts-stopped _ _ _ _ c.from_residual.result _ c.from_residual.ensures.0
-    (drawn_stopped (world c.args.cat.now c.args.store.now.stored) c.args.q.now c.args.rows.now c.drawn.rows c.drawn.rows _ _ _ _ _ _ _ _ _ c.drawn.invariant.drawn)
+    (drawn_stopped (world_of c.args.at.now) c.args.at.now.q.now c.args.rows.now c.drawn.rows c.drawn.rows _ _ _ _ _ _ _ c.drawn.invariant.drawn (limit_in c.args.at.now.q.now.window) c.drawn.invariant.within)
 
-pub returns-in_err-count-clause-puts : goal.returns-in_err-count-clause-puts
-returns-in_err-count-clause-puts g c =
-    puts-stopped _ _ _ _ c.from_residual-in_err-count.result _ c.from_residual-in_err-count.ensures.0
-    (drawn_stopped (world c.args.cat.now c.args.store.now.stored) c.args.q.now c.args.rows.now c.drawn.rows c.drawn.rows _ _ _ _ _ _ _ _ _ c.drawn.invariant.drawn)
+pub returns-in_err-count-in-Some-clause-puts : goal.returns-in_err-count-in-Some-clause-puts
+returns-in_err-count-in-Some-clause-puts g c =
+    puts-stopped _ _ _ _ c.from_residual-in_err-count-in-Some.result _ c.from_residual-in_err-count-in-Some.ensures.0
+    (drawn_stopped (world_of c.args.at.now) c.args.at.now.q.now c.args.rows.now c.drawn.rows c.drawn.rows _ _ _ _ _ _ _ c.drawn.invariant.drawn (limit_in c.args.at.now.q.now.window) c.drawn.invariant.within)
 
-pub put_row-requires-clause-tuple : goal.put_row-requires-clause-tuple
-put_row-requires-clause-tuple g c =
-    next_is (world c.args.cat.now c.args.store.now.stored) c.args.q.now (numbers c.items.result.now) c.next.new.self.left c.drawn.rows.left
-    (some_left c.in_ok-tuple.field-0 c.in-Some.tuple c.items.result.now c.drawn.rows.left c.next.new.self.left c.in-Some.is c.items.ensures c.in_ok-tuple.ensures.some) c.drawn.invariant.tuples
+pub put_row-requires-clause-tuple-in-Some : goal.put_row-requires-clause-tuple-in-Some
+put_row-requires-clause-tuple-in-Some g c =
+    next_is (world_of c.args.at.now) c.args.at.now.q.now (numbers c.items.result.now) c.next.new.self.left c.drawn.rows.left
+    (some_left c.in_ok-next.field-0 c.in-Some.tuple c.items.result.now c.drawn.rows.left c.next.new.self.left c.in-Some.is c.items.ensures c.in_ok-next.ensures.some) c.drawn.invariant.tuples
 
-pub returns-in_err-put_row-clause-puts : goal.returns-in_err-put_row-clause-puts
-returns-in_err-put_row-clause-puts g c =
-    puts-stopped _ _ _ _ c.from_residual-in_err-put_row.result _ c.from_residual-in_err-put_row.ensures.0
-    (line_stopped (world c.args.cat.now c.args.store.now.stored) c.args.q.now c.args.rows.now c.drawn.rows c.next.new.self _ _ _ _ _ _ _ _ _ c.drawn.invariant.drawn (numbers c.items.result.now) _
-    (some_left c.in_ok-tuple.field-0 c.in-Some.tuple c.items.result.now c.drawn.rows.left c.next.new.self.left c.in-Some.is c.items.ensures c.in_ok-tuple.ensures.some) c.in_err-put_row.ensures.puts)
+pub returns-in_err-put_row-in-Some-clause-puts : goal.returns-in_err-put_row-in-Some-clause-puts
+returns-in_err-put_row-in-Some-clause-puts g c =
+    puts-stopped _ _ _ _ c.from_residual-in_err-put_row-in-Some.result _ c.from_residual-in_err-put_row-in-Some.ensures.0
+    (line_stopped (world_of c.args.at.now) c.args.at.now.q.now c.args.rows.now c.drawn.rows c.next.new.self _ _ _ _ _ _ _ c.drawn.invariant.drawn (limit_in c.args.at.now.q.now.window) c.drawn.invariant.within
+    (numbers c.items.result.now)
+    (some_left c.in_ok-next.field-0 c.in-Some.tuple c.items.result.now c.drawn.rows.left c.next.new.self.left c.in-Some.is c.items.ensures c.in_ok-next.ensures.some)
+    (sym c.is_wanted.ensures ∙ c.drawn-test.true) _ c.in_err-put_row-in-Some.ensures.puts)
 
 pub drawn-preserved : goal.drawn-preserved
 drawn-preserved g c =
-    let left = some_left c.in_ok-tuple.field-0 c.in-Some.tuple c.items.result.now c.drawn.rows.left c.next.new.self.left c.in-Some.is c.items.ensures c.in_ok-tuple.ensures.some in
+    let w = world_of c.args.at.now in
+    let q = c.args.at.now.q.now in
+    let more = sym c.is_wanted.ensures ∙ c.drawn-test.true in
+    let left = some_left c.in_ok-next.field-0 c.in-Some.tuple c.items.result.now c.drawn.rows.left c.next.new.self.left c.in-Some.is c.items.ensures c.in_ok-next.ensures.some in
     record {
-      drawn = drawn_more (world c.args.cat.now c.args.store.now.stored) c.args.q.now c.args.rows.now c.drawn.rows c.next.new.self _ _ _ _ _ _ _ _ _ c.drawn.invariant.drawn (numbers c.items.result.now) _ _ _ _ _ _
-          left c.in_ok-put_row.ensures.puts c.in_ok-count.ensures c.in_ok-tuple.ensures.exact c.in_ok-tuple.ensures.reads c.in_ok-put_row.ensures.reads;
-      quiet = search (rules, c.in_ok-put_row.ensures.cause);
-      tuples = rest_are (world c.args.cat.now c.args.store.now.stored) c.args.q.now (numbers c.items.result.now) c.next.new.self.left c.drawn.rows.left left c.drawn.invariant.tuples;
+      drawn = drawn_more w q c.args.rows.now c.drawn.rows c.next.new.self _ _ _ _ _ _ _ c.drawn.invariant.drawn (numbers c.items.result.now) _ _ _ _ _
+          left c.in_ok-put_row-in-Some.ensures.puts c.in_ok-count-in-Some.ensures c.in_ok-next.ensures.reads c.in_ok-put_row-in-Some.ensures.reads;
+      draws = (
+          let P : ℕ → Type 0 = λ k. Draws k c.args.rows.now c.next.new.self c.args.fetches.now c.next.new.fetches in
+          subst P (sym c.in_ok-count-in-Some.ensures)
+          (draws_more c.drawn.count c.args.rows.now c.drawn.rows c.next.new.self c.args.fetches.now c.drawn.fetches c.next.new.fetches c.drawn.invariant.draws c.in_ok-next.ensures.one
+          c.in_ok-next.ensures.exact c.in_ok-next.ensures.pace_fetches (numbers c.items.result.now) left c.in_ok-next.ensures.pace)
+          );
+      within = within_more (limit_in q.window) c.drawn.count _ more c.in_ok-count-in-Some.ensures;
+      quiet = search (rules, c.in_ok-put_row-in-Some.ensures.cause);
+      idle = λ none. absurd (omega (arith, none, c.in_ok-count-in-Some.ensures));
+      tuples = rest_are w q (numbers c.items.result.now) c.next.new.self.left c.drawn.rows.left left c.drawn.invariant.tuples;
     }

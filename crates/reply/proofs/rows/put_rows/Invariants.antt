@@ -1,14 +1,19 @@
 use Rattle.std.proofs.Common.{◌≡◌, All, length}
-use Rattle.sql_query.specs.Worlds.{world}
 use Rattle.executor.specs.Numbers.{IsTupleOf}
-use Rattle.reply.proofs.DrawingLemmas.{HasDrawn}
+use Rattle.reply.specs.Drawing.{Draws}
+use Rattle.reply.specs.Effort.{limit_in}
+use Rattle.reply.specs.Settings.{world_of}
+use Rattle.reply.proofs.DrawingLemmas.{HasDrawn, IsWithin}
 use Rattle.reply.proofs.rows.put_rows.Given as goal
 
 abbrev pub invariant-drawn : goal.invariant-drawn
 invariant-drawn g l = record {
-  drawn : HasDrawn (world l.cat l.store.stored) l.q l.fn.rows l.rows (g.K.Sink.held l.fn.out) (g.K.Sink.held l.out) l.fn.pending.items l.pending.items l.count l.fn.fetches l.fetches l.fn.reads l.reads;
+  drawn : HasDrawn (world_of l.at) l.at.q.now l.fn.rows l.rows (g.K.Sink.held l.fn.out) (g.K.Sink.held l.out) l.fn.pending.items l.pending.items l.count l.fn.reads l.reads;
+  draws : Draws l.count l.fn.rows l.rows l.fn.fetches l.fetches;
+  within : IsWithin (limit_in l.at.q.now.window) l.count;
   quiet : g.K.Sink.faults l.out ≡ g.K.Sink.faults l.fn.out;
-  tuples : All (IsTupleOf (world l.cat l.store.stored) l.q) l.rows.left;
+  idle : l.count ≡ 0 → l.reads ≡ l.fn.reads;
+  tuples : All (IsTupleOf (world_of l.at) l.at.q.now) l.rows.left;
 }
 
 abbrev pub decreases-drawn : goal.decreases-drawn

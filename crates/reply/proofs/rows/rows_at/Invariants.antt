@@ -3,11 +3,11 @@ use Rattle.std.specs.List.{range_with_len}
 use Rattle.executor.specs.Numbers.{numbers}
 use Rattle.plan_laws.specs.Meant.{relation}
 use Rattle.sql_query.specs.Tuples.{row_at}
-use Rattle.sql_query.specs.Worlds.{world}
+use Rattle.reply.specs.Settings.{world_of}
 use Rattle.reply.proofs.rows.rows_at.Given as goal
 
 abbrev pub invariant-loop-n : goal.invariant-loop-n
 invariant-loop-n g l = record {
-  rows : map (λ r. r.now) l.rows.items ≡ map (λ k. row_at (world l.cat l.store.stored) l.q (numbers l.tuple) (relation k)) (range_with_len 0 l.n);
+  rows : map (λ r. r.now) l.rows.items ≡ map (λ k. row_at (world_of l.at) l.at.q.now (numbers l.tuple) (relation k)) (range_with_len 0 l.n);
   reads : l.reads ≡ l.fn.reads + l.n;
 }

@@ -1,0 +1,74 @@
+-- What an answer fetches, and what it may look at: for all tuples of its plan, or under LIMIT for the first of them. Own; how
+-- far a plan is drawn is PostgreSQL's (src/backend/executor/nodeLimit.c).
+use Rattle.std.specs.Prelude.{ℕ, zero, suc, ◌≡◌, ◌+◌, ◌*◌, ◌≤◌, Bool, cond, nat_eq, nat_lt, List, [], ◌∷◌, length, Option, Some, None, IfSome}
+use Rattle.sql_query.specs.Meaning.{windowed}
+use Rattle.sql_query.specs.Queries.{Query}
+use Rattle.sql_query.specs.Tuples.{no_rows}
+use Rattle.sql_query.specs.Worlds.{World}
+use Rattle.sql_query.specs.declared.window.Window.{Window}
+use Rattle.plan_tree.specs.Counts.{MOST_READS, fetches, looks}
+use Rattle.plan_tree.specs.Plans.{Plan}
+use Rattle.scan_exec.specs.Coming.{Coming, coming, is_given, owed}
+use Rattle.executor.specs.Drawn.{is_scan}
+use Rattle.reply.specs.Answers.{tuples_of}
+
+-- by how much a count rises: at most by so much, and by so much exactly once a reply is whole, where that is told
+pub record Rise : Type 0 where
+  pub most : ℕ
+  pub whole : Option ℕ
+
+-- by so much, and on the way by no more
+abbrev pub exactly : ℕ → Rise
+exactly n = record { most = n; whole = Some n }
+
+pub record HasRisen (rise : Rise) (old new : ℕ) : Type 0 where
+  pub within : new ≤ old + rise.most
+  pub exact : IfSome rise.whole (λ n. new ≡ old + n)
+
+-- a list up to and with the n-th element that passes a test: nothing for 0, and all of it where fewer pass
+abbrev pub through : {A : Type 0} → (A → Bool) → ℕ → List A → List A
+through test zero xs = []
+through test (suc n) [] = []
+through test (suc n) (x ∷ xs) = x ∷ through test (cond (test x) n (suc n)) xs
+
+-- how many tuples are passed over, and how many are shown at most, where LIMIT is written
+abbrev pub offset_in : Option Window → ℕ
+offset_in None = 0
+offset_in (Some w) = w.offset
+
+abbrev pub limit_in : Option Window → Option ℕ
+limit_in None = None
+limit_in (Some w) = w.limit
+
+-- the number of the last tuple that is drawn, where LIMIT is written
+abbrev pub last_by : ℕ → Option ℕ → Option ℕ
+last_by offset None = None
+last_by offset (Some limit) = Some (offset + limit)
+
+abbrev pub last_in : Option Window → Option ℕ
+last_in w = last_by (offset_in w) (limit_in w)
+
+-- the fetches for tuples up to the n-th, of so many that a plan gives for so many fetches in all. No tuple takes none; where
+-- the plan gives fewer than n, it is drawn whole; one scan fetches the rows that it comes to up to and with the n-th that it
+-- gives; joins and sorts fetch no more than in all
+abbrev pub fetched_to : ℕ → ℕ → ℕ → Bool → List Coming → Rise
+fetched_to n given all scan rows =
+    cond (nat_eq n 0) (exactly 0) (record { most = all; whole = cond (nat_lt given n) (Some all) (cond scan (Some (owed (through is_given n rows))) None) })
+
+-- the same up to the last one that is drawn: without LIMIT the plan is drawn whole
+abbrev pub fetched_by : Option ℕ → ℕ → ℕ → Bool → List Coming → Rise
+fetched_by None given all scan rows = exactly all
+fetched_by (Some n) given all scan rows = fetched_to n given all scan rows
+
+-- the most looks, of so many that the plan takes in all, with 32 for each tuple shown; no tuple drawn takes none
+abbrev pub looked_by : Option ℕ → ℕ → ℕ → ℕ
+looked_by None all shown = all + MOST_READS * shown
+looked_by (Some n) all shown = cond (nat_eq n 0) 0 (all + MOST_READS * shown)
+
+module _ (w : World) (q : Query) (p : Plan) where
+  -- what the answer by a plan fetches, and how often it looks at most
+  abbrev pub answer_fetches : Rise
+  answer_fetches = fetched_by (last_in q.window) (length (tuples_of w q p)) (fetches w q p (no_rows q)) (is_scan p) (coming w q p (no_rows q))
+
+  abbrev pub answer_looks : ℕ
+  answer_looks = looked_by (last_in q.window) (looks w q p (no_rows q)) (length (windowed q.window (tuples_of w q p)))

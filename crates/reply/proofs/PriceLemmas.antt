@@ -1,6 +1,6 @@
 -- The rows and the price of a finished path.
-use Rattle.std.proofs.Common.{◌≡◌, ◌≤◌, ◌*◌, ℕ, Bool, true, false, ◌||◌, List, [], ◌∷◌, refl, sym, ◌∙◌, ap, subst, arith, Option, Some, None, Result, Ok, Err, IfOk}
-use Rattle.std.specs.Prelude.{IsSome, fold}
+use Rattle.std.proofs.Common.{◌≡◌, ◌≤◌, ◌*◌, ℕ, Bool, true, false, ◌||◌, List, [], ◌∷◌, refl, sym, ◌∙◌, ap, ap₂, subst, arith, Option, Some, None}
+use Rattle.std.specs.Prelude.{fold}
 use Rattle.catalog.specs.Contents.{Contents}
 use Rattle.cost_rules.specs.Costs.{IsEstimate, capped_pair}
 use Rattle.cost_rules.specs.Powers.{clamped}
@@ -12,7 +12,9 @@ use Rattle.path_cost.specs.Estimates.{conditions_where, product_rows, relations,
 use Rattle.path_cost.specs.Selectivity.{selectivity}
 use Rattle.pg_expr.specs.Cond.{Cond}
 use Rattle.sql_query.specs.Queries.{Query, all_of_query}
-use Rattle.plan_tree.specs.Costs.{HaveRows, cost, query_rows, rows_given}
+use Rattle.sql_query.specs.declared.window.Window.{Window}
+use Rattle.explain.specs.Texts.{limit_text, line_by, window_line}
+use Rattle.plan_tree.specs.Costs.{HaveRows, asked, cost, price, query_rows, rows_given}
 use Rattle.plan_tree.specs.Least.{IsAdmissible}
 use Rattle.plan_tree.specs.Paths.{IsFinishedPath, Path, kept_cost}
 use Rattle.plan_tree.specs.Plans.{given_scan, nest, set_of}
@@ -56,3 +58,7 @@ module _ (c : Contents) (q : Query) (p : Path) (h : IsFinishedPath c q p) where
   kept-whole some x admissible e =
       let total = ap (λ (y : Pair). y.total) e in
       uncut-kept q.window (cost c q p.tree) x (startup-most c q some p.tree) e (omega (arith, total, admissible))
+
+  -- the line of LIMIT and OFFSET, by its price and the rows asked for
+  pub line-is : (w : Window) → q.window ≡ Some w → (n m : ℕ) → n ≡ price c q p.tree → m ≡ asked w p.rows → limit_text w n m ≡ window_line c q p.tree
+  line-is w is n m priced wanted = ap₂ (limit_text w) priced (wanted ∙ ap (asked w) rows-are) ∙ ap (λ (o : Option Window). line_by c q o p.tree) (sym is)

@@ -1,5 +1,6 @@
 -- Replies, by a best plan.
-use Rattle.std.proofs.Common.{◌≡◌, ℕ, ◌+◌, ◌≤◌, Bool, List, ◌++◌, length, refl, arith, ap, ap₂, ◌∙◌, subst, Option, Result, Ok, Err, OnOk, OnErr, IsPermutation}
+use Rattle.std.proofs.Common.{◌≡◌, ℕ, ◌+◌, ◌≤◌, Bool, List, ◌++◌, length, refl, arith, ap, ap₂, ◌∙◌, subst, Option, Result, Ok, Err, IfErr, OnOk, OnErr, IsPermutation, sym}
+use Rattle.std.specs.Result.{IsErrAnd}
 use Rattle.std.specs.Io.KnownBytes.{Appends}
 use Rattle.pg_base.specs.Writing.{AppendsPrefix}
 use Rattle.catalog.specs.Contents.{Contents}
@@ -17,6 +18,20 @@ use Rattle.explain.specs.Texts.{explained_text}
 use Rattle.reply.specs.Answers.{result_text, tuples_of}
 use Rattle.reply.specs.Effort.{HasRisen, Rise, answer_fetches, answer_looks, exactly, fetched_by, last_in, looked_by}
 use Rattle.reply.specs.Replies.{HasBegun, HasReplied, IsAnswerTo, IsExplanationOf, Reply, traces}
+use Rattle.reply.specs.Stops.{stop_by}
+use Rattle.reply.specs.declared.stop.Broken.{Broken}
+use Rattle.reply.specs.declared.stop.Broken.TheVariants.{Write, Memory}
+use Rattle.reply.specs.declared.stop.Stop.{Stop}
+use Rattle.reply.specs.declared.stop.Stop.TheVariants as stops
+
+-- a text that is not written whole is of a query that has a plan
+pub broken-has-plan : (r : Result (Unit {0}) Stop) (b : Broken) (P : Type 0) → IsErrAnd r (λ e. e ≡ stop_by b) → IfErr r (λ e. e ≡ stops.NoPlan → P)
+broken-has-plan (Ok u) b P is = tt
+broken-has-plan (Err e) b P is = by b is
+  where
+    by : (b : Broken) → e ≡ stop_by b → e ≡ stops.NoPlan → P
+    by Write same none = absurd (cc (same, none))
+    by Memory same none = absurd (cc (same, none))
 
 module _ (c : Contents) (q : Query) (p : Plan) (a b : Option (List ℕ)) (best : IsBestPlan c q p) where
   abbrev explanation : Reply

@@ -47,8 +47,9 @@ pub(crate) fn pass_over<C: Counters>(
     ensures idle { offset ≡ 0 → (fetches.new ≡ fetches.old) × (reads.new ≡ reads.old) }
 {
     for _ in 0..offset {
-        if rows.next(fetches, reads)?.is_none() {
-            return Ok(());
+        match rows.next(fetches, reads)? {
+            Some(_) => {}
+            None => return Ok(()),
         }
     }
     Ok(())

@@ -1,12 +1,22 @@
-use Rattle.std.proofs.Common.{rules, sym, subst, ◌∙◌, ℕ, arith}
+use Rattle.std.proofs.Common.{rules, refl, sym, subst, ◌∙◌, ℕ, arith}
 use Rattle.executor.specs.Numbers.{numbers}
 use Rattle.reply.specs.Drawing.{Draws}
 use Rattle.reply.specs.Effort.{limit_in}
 use Rattle.reply.specs.Settings.{world_of}
-use Rattle.reply.proofs.DrawingLemmas.{drawn_more, drawn_stopped, line_stopped, next_is, rest_are, some_left, within_more}
-use Rattle.reply.proofs.LimitLemmas.{draws_more}
+use Rattle.reply.proofs.DrawingLemmas.{drawn_more, drawn_none, drawn_stopped, line_stopped, looked_more, next_is, rest_are, some_left, within_more, within_none}
+use Rattle.reply.proofs.LimitLemmas.{draws_more, draws_none}
 use Rattle.reply.proofs.PuttingLemmas.{puts-stopped}
 use Rattle.reply.proofs.rows.put_rows.Goals as goal
+
+pub drawn-init : goal.drawn-init
+drawn-init g c = record {
+  drawn = drawn_none (world_of c.args.at.now) c.args.at.now.q.now c.args.rows.now (g.K.Sink.held c.args.out.now) c.args.pending.now.items c.args.reads.now;
+  draws = draws_none c.args.rows.now c.args.fetches.now;
+  within = within_none (limit_in c.args.at.now.q.now.window);
+  quiet = refl;
+  idle = λ none. refl;
+  tuples = c.requires.tuples;
+}
 
 pub returns-in_err-next-clause-puts : goal.returns-in_err-next-clause-puts
 returns-in_err-next-clause-puts g c =
@@ -18,8 +28,8 @@ returns-in_err-count-in-Some-clause-puts g c =
     puts-stopped _ _ _ _ c.from_residual-in_err-count-in-Some.result _ c.from_residual-in_err-count-in-Some.ensures.0
     (drawn_stopped (world_of c.args.at.now) c.args.at.now.q.now c.args.rows.now c.drawn.rows c.drawn.rows _ _ _ _ _ _ _ c.drawn.invariant.drawn (limit_in c.args.at.now.q.now.window) c.drawn.invariant.within)
 
-pub put_row-requires-clause-tuple-in-Some : goal.put_row-requires-clause-tuple-in-Some
-put_row-requires-clause-tuple-in-Some g c =
+pub put_row-requires-clause-tuple : goal.put_row-requires-clause-tuple
+put_row-requires-clause-tuple g c =
     next_is (world_of c.args.at.now) c.args.at.now.q.now (numbers c.items.result.now) c.next.new.self.left c.drawn.rows.left
     (some_left c.in_ok-next.field-0 c.in-Some.tuple c.items.result.now c.drawn.rows.left c.next.new.self.left c.in-Some.is c.items.ensures c.in_ok-next.ensures.some) c.drawn.invariant.tuples
 
@@ -30,6 +40,19 @@ returns-in_err-put_row-in-Some-clause-puts g c =
     (numbers c.items.result.now)
     (some_left c.in_ok-next.field-0 c.in-Some.tuple c.items.result.now c.drawn.rows.left c.next.new.self.left c.in-Some.is c.items.ensures c.in_ok-next.ensures.some)
     (sym c.is_wanted.ensures ∙ c.drawn-test.true) _ c.in_err-put_row-in-Some.ensures.puts)
+
+pub returns-in_err-put_row-in-Some-clause-reads : goal.returns-in_err-put_row-in-Some-clause-reads
+returns-in_err-put_row-in-Some-clause-reads g c =
+    omega (
+      arith,
+      looked_more (world_of c.args.at.now) c.args.at.now.q.now c.args.rows.now c.drawn.rows c.next.new.self _ _ _ _ _ _ _ c.drawn.invariant.drawn (limit_in c.args.at.now.q.now.window) c.drawn.invariant.within
+      (numbers c.items.result.now)
+      (some_left c.in_ok-next.field-0 c.in-Some.tuple c.items.result.now c.drawn.rows.left c.next.new.self.left c.in-Some.is c.items.ensures c.in_ok-next.ensures.some)
+      (sym c.is_wanted.ensures ∙ c.drawn-test.true),
+      c.drawn.invariant.drawn.looked,
+      c.in_ok-next.ensures.reads,
+      c.in_err-put_row-in-Some.ensures.reads,
+    )
 
 pub drawn-preserved : goal.drawn-preserved
 drawn-preserved g c =

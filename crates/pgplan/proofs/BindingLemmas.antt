@@ -1,20 +1,23 @@
 -- A fault of a SELECT is in no record of data.
 use Rattle.std.proofs.Common.{◌≡◌, ℕ, Bool, true, false, cond, nat_lt, length, List, [], ◌∷◌, ◌++◌, Option, Some, None, Ok, Err, Result, refl, subst}
+use Rattle.std.specs.Str.Parse.{digits_value}
 use Rattle.pg_base.specs.declared.faults.Fault.{Fault}
 use Rattle.pg_base.specs.declared.faults.Limit.{Limit}
 use Rattle.pg_base.specs.declared.faults.Limit.TheVariants.{Relations}
-use Rattle.pg_base.specs.declared.faults.Code.TheVariants.{S2, S7, S15}
+use Rattle.pg_base.specs.declared.faults.Code.TheVariants.{S2, S7, S11, S15}
 use Rattle.pg_base.specs.declared.limits.TheConstants.{MOST_RELATIONS}
 use Rattle.pg_base.specs.declared.numbers.TableNo.{TableNo}
 use Rattle.pg_value.specs.declared.value.SqlType.{SqlType}
+use Rattle.pg_value.specs.declared.value.SqlType.TheVariants as types
+use Rattle.pg_value.specs.Types.{limit}
 use Rattle.pg_expr.specs.declared.operand.ColRef.{ColRef}
 use Rattle.catalog.specs.Contents.{Contents}
 use Rattle.catalog.specs.Range.{Range, type_in}
 use Rattle.catalog.specs.Tables.{table_named}
 use Rattle.sql_lex.specs.declared.tokens.Token.{Token}
-use Rattle.sql_grammar.specs.Terminals.{token_of}
+use Rattle.sql_grammar.specs.Terminals.{Said, token_of}
 use Rattle.sql_grammar.specs.Faults.{bytes_of, fault_at}
-use Rattle.sql_grammar.specs.Syntax.{Col, bare, qualified, Ordering, ordering, OrderBy, no_order, order_by, OrderedSelect, ordered_select, Expr, Join, join_on, cross_join, Group, group_of, select_from, Where, no_where, where_expr}
+use Rattle.sql_grammar.specs.Syntax.{Col, bare, qualified, Ordering, ordering, OrderBy, no_order, order_by, OrderedSelect, ordered_select, Expr, Join, join_on, cross_join, Group, group_of, select_from, Where, no_where, where_expr, Limit as LimitTree, no_limit, most_rows, Offset, no_offset, skipped_rows, Window as WindowTree, window}
 use Rattle.sql_grammar.specs.FromParts.{groups_after}
 use Rattle.sql_cursor.specs.declared.cursor.Spelled.{Spelled}
 use Rattle.sql_cursor.specs.Lists.{before_all, bound_each, parts_of}
@@ -27,6 +30,7 @@ use Rattle.query_reader.specs.Written.{item_of, items_of, source_of}
 use Rattle.query_reader.specs.Order.{first_among, order_column, order_item, order_items, shown_of_name}
 use Rattle.query_reader.specs.Scope.{scope_after, scope_of}
 use Rattle.query_reader.specs.From.{Joined, alias_or, conjuncts_of_expr, is_taken, nothing_joined, of_table, under_alias, with_condition, with_group, with_groups, with_join, with_joins, with_relation}
+use Rattle.query_reader.specs.Windows.{most_of, rows_of, skipped_of, window_of}
 use Rattle.query_reader.specs.Binding.{found_relation, item_columns, then_columns, list_columns, conjuncts_written, limited, past_limit, bound_over, bound_from, bound}
 use Rattle.pgplan.proofs.PlainLemmas.{IsPlain, next-plain, found-plain, expr-plain}
 
@@ -54,9 +58,9 @@ where-plain : (scope : Scope) (type_of : ColRef → SqlType) (w : Where) → IsP
 where-plain scope type_of no_where = tt
 where-plain scope type_of (where_expr k e) = next-plain (meaning_of_expr scope type_of e) _ (expr-plain scope type_of e) (λ c. tt)
 
-limit-plain : {A : Type 0} (start : Token) (limit : Option Limit) (x : A) → IsPlain (limited start limit x)
+limit-plain : {A : Type 0} (start : Token) (past : Option Limit) (x : A) → IsPlain (limited start past x)
 limit-plain start None x = tt
-limit-plain start (Some limit) x = refl
+limit-plain start (Some l) x = refl
 
 under-plain : (j : Joined) (table : TableNo) (alias : Spelled) → IsPlain (under_alias j table alias)
 under-plain j table alias = by (is_taken j.range alias.bytes)
@@ -118,15 +122,34 @@ order-plain : (scope : Scope) (select : List ColRef) (o : OrderBy) → IsPlain (
 order-plain scope select no_order = tt
 order-plain scope select (order_by k b o os) = each-plain (order_item scope select) (o ∷ parts_of (λ x. x) os) (order-item-plain scope select)
 
-over-plain : (start : Token) (items : List Item) (w : Where) (order : OrderBy) (j : Joined) → IsPlain (bound_over start items w order j)
-over-plain start items w order j =
+rows-plain : (n : Said) → IsPlain (rows_of n)
+rows-plain n = by (nat_lt (digits_value 10 n.value) (limit types.Int8))
+  where
+    by : (small : Bool) → IsPlain (cond small (Ok (digits_value 10 n.value)) (Err (fault_at S11 n.token)))
+    by true = tt
+    by false = refl
+
+most-plain : (l : LimitTree) → IsPlain (most_of l)
+most-plain no_limit = tt
+most-plain (most_rows p k n) = next-plain (rows_of n) _ (rows-plain n) (λ rows. tt)
+
+skipped-plain : (o : Offset) → IsPlain (skipped_of o)
+skipped-plain no_offset = tt
+skipped-plain (skipped_rows p k n) = next-plain (rows_of n) _ (rows-plain n) (λ rows. tt)
+
+window-plain : (v : WindowTree) → IsPlain (window_of v)
+window-plain (window l o) = next-plain (most_of l) _ (most-plain l) (λ most. next-plain (skipped_of o) _ (skipped-plain o) (λ skipped. tt))
+
+over-plain : (start : Token) (items : List Item) (w : Where) (order : OrderBy) (v : WindowTree) (j : Joined) → IsPlain (bound_over start items w order v j)
+over-plain start items w order v j =
     next-plain (conjuncts_written (scope_of j.contents j.range) (type_in j.contents j.range) w) _ (where-plain (scope_of j.contents j.range) (type_in j.contents j.range) w)
     (λ conjuncts. next-plain (list_columns (scope_of j.contents j.range) items) _ (list-plain (scope_of j.contents j.range) items)
     (λ columns. next-plain (order_items (scope_of j.contents j.range) columns order) _ (order-plain (scope_of j.contents j.range) columns order)
-    (λ ordered. limit-plain start (past_limit (j.conjuncts ++ conjuncts)) (record { range = j.range; select = columns; where_all = j.conjuncts ++ conjuncts; order = ordered }))))
+    (λ ordered. next-plain (window_of v) _ (window-plain v)
+    (λ rows. limit-plain start (past_limit (j.conjuncts ++ conjuncts)) (record { range = j.range; select = columns; where_all = j.conjuncts ++ conjuncts; order = ordered; window = rows })))))
 
-from-plain : (c : Contents) (start : Token) (items : List Item) (gs : List Group) (w : Where) (order : OrderBy) → IsPlain (bound_from c start items gs w order)
-from-plain c start items gs w order = next-plain (with_groups (nothing_joined c) gs) _ (groups-plain (nothing_joined c) gs) (over-plain start items w order)
+from-plain : (c : Contents) (start : Token) (items : List Item) (gs : List Group) (w : Where) (order : OrderBy) (v : WindowTree) → IsPlain (bound_from c start items gs w order v)
+from-plain c start items gs w order v = next-plain (with_groups (nothing_joined c) gs) _ (groups-plain (nothing_joined c) gs) (over-plain start items w order v)
 
 pub bound-plain : (c : Contents) (start : Token) (x : OrderedSelect) (f : Fault) → bound c start x ≡ Err f → f.rec ≡ 0
-bound-plain c start (ordered_select e (select_from k o os m g gs w) y v end) f is = subst IsPlain is (from-plain c start (item_of o ∷ items_of os) (g ∷ groups_after gs) w y)
+bound-plain c start (ordered_select e (select_from k o os m g gs w) y v end) f is = subst IsPlain is (from-plain c start (item_of o ∷ items_of os) (g ∷ groups_after gs) w y v)

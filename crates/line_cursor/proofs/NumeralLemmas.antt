@@ -1,7 +1,7 @@
 -- The digits of a number, which are bytes of names too, and the number that they write.
 use Prim.Native.Nat.{suc, zero}
 use Rattle.std.proofs.Common.{◌≡◌, ◌<◌, ◌^◌, ◌-◌, ℕ, ◌+◌, ◌/◌, ◌%◌, ◌==◌, Bool, true, false, cond, ◌||◌, ◌&&◌, nat_lt, min, List, [], ◌∷◌, length, get_or, refl, sym, ◌∙◌, ap, subst, arith}
-use Rattle.std.specs.Prelude.{if◌then◌else◌, Option, Some, None, option_and_then}
+use Rattle.std.specs.Prelude.{if◌then◌else◌, Some, None, option_and_then}
 use Rattle.std.specs.Int.{IsInRange}
 use Rattle.std.specs.Char.{is_ascii_digit, is_ascii_lowercase}
 use Rattle.std.specs.Fmt.{decimal, digit_glyph, digits, digits_onto}

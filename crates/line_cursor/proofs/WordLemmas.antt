@@ -65,8 +65,7 @@ stops-behind (b ∷ bs) = by (is_in_name b) refl (stops-behind bs)
 -- the same with what is left as a slice has it
 pub word-left : (text : List ℕ) (n : ℕ) → n ≡ word_end text → (text ≡ take n text ++ take (length text - n) (drop n text)) × (list_all is_in_name (take n text) ≡ true) × (stops (take (length text - n) (drop n text)) ≡ true)
 word-left text n e =
-    let all : take (length text - n) (drop n text) ≡ drop n text = take_all (length text - n) (drop n text) (let l = length-drop n text in omega (arith, l)) in
-    (
+    let all : take (length text - n) (drop n text) ≡ drop n text = take_all (length text - n) (drop n text) (let l = length-drop n text in omega (arith, l)) in (
       sym (take-append-drop n text) ∙ ap (λ (l : List ℕ). take n text ++ l) (sym all),
       ap (λ (m : ℕ). list_all is_in_name (take m text)) e ∙ word-of text,
       ap stops all ∙ (ap (λ (m : ℕ). stops (drop m text)) e ∙ stops-behind text),

@@ -13,6 +13,6 @@ pub returns : goal.returns
 returns c = record {
   is = found c.args.self.now c.word.new.self c.word.result.now c.number_of.result c.word.ensures.split (sym c.number_of.ensures);
   only = λ n rest lt e s.
-    let w = c.word.ensures.only (decimal n) rest e (decimal-word n) s in
-    (c.number_of.ensures ∙ ap number_written w.0 ∙ read-back n lt, w.1);
+      let w = c.word.ensures.only (decimal n) rest e (decimal-word n) s in
+      (c.number_of.ensures ∙ ap number_written w.0 ∙ read-back n lt, w.1);
 }

@@ -13,6 +13,6 @@ returns c =
       word = r.1;
       stops = r.2;
       only = λ w rest e h s.
-        let same = c.self.view_is ∙ e in
-        parted left w rest n same (c.word_length-end.ensures.word ∙ (ap word_end same ∙ word-end w rest h s));
+          let same = c.self.view_is ∙ e in
+          parted left w rest n same (c.word_length-end.ensures.word ∙ (ap word_end same ∙ word-end w rest h s));
     }

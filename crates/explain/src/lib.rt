@@ -5,6 +5,8 @@ mod bits;
 mod keys;
 mod lead;
 mod nodes;
+mod numbers;
 mod relations;
 
 pub use nodes::plan_text;
+pub use numbers::limit_text;

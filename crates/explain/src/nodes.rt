@@ -1,7 +1,6 @@
 //! Whole plans.
 
 ghost use Rattle.std.specs.Prelude.{◌≡◌, ◌<◌, ◌++◌, ℕ, All, IfOk, OnOk, length};
-ghost use Rattle.std.specs.String.{string_bytes};
 ghost use Rattle.catalog.specs.Contents.{IsIndex};
 ghost use Rattle.pathkeys.specs.Keys as keys;
 ghost use Rattle.plan_tree.specs.Costs as costs;
@@ -13,11 +12,12 @@ ghost use Rattle.sql_query.specs.Queries.{width};
 ghost use Rattle.sql_query.specs.WellBound.{IsWellBound};
 ghost use Rattle.explain.specs.Lines.{HasLine, HasLines, IsShown};
 ghost use Rattle.explain.specs.Texts as texts;
-ghost use Rattle.explain.specs.Texts.{backward_text, numbers_text, scan_name};
+ghost use Rattle.explain.specs.Texts.{backward_text, first_depth, numbers_text, scan_name};
 
 use crate::bits::put_bits;
 use crate::keys::put_keys;
 use crate::lead::Lead;
+use crate::numbers::numbers;
 use crate::relations::{put_relation, put_scanned};
 use catalog::Catalog;
 use pathkeys::Keys;
@@ -27,14 +27,7 @@ use plan_tree::{Path, Plan, cost, estimate, set_of};
 use sql_query::Prepared;
 use std::alloc::Global;
 
-/// The cost and the rows of a node.
-fn numbers(alloc: Global, total: u64, rows: u64) -> Result<String, Memory>
-    ensures { IfOk result (λ text. string_bytes text ≡ numbers_text total rows) }
-{
-    format!(in alloc; "  (cost={total} rows={rows})\n")
-}
-
-/// Appends what a plan costs in all, and its estimated rows.
+/// Appends what a plan costs, and its estimated rows.
 fn put_numbers(
     alloc: Global,
     text: &mut Vec<u8>,
@@ -45,11 +38,11 @@ fn put_numbers(
     requires bound { IsWellBound cat.now q.now }
     requires costable { IsCostable cat.now q.now (plan p.now) }
     requires admissible { IsAdmissible cat.now q.now (plan p.now) }
-    ensures { OnOk result (text.new.items ≡ text.old.items ++ numbers_text (costs.cost cat.now q.now (plan p.now)).total (costs.estimate cat.now q.now (plan p.now))) }
+    ensures { OnOk result (text.new.items ≡ text.old.items ++ numbers_text q.now.window (costs.cost cat.now q.now (plan p.now)) (costs.estimate cat.now q.now (plan p.now))) }
 {
-    let total = cost(cat, q, p).total;
+    let pair = cost(cat, q, p);
     let rows = estimate(cat, q, p);
-    let numbers = numbers(alloc, total, rows)?;
+    let numbers = numbers(alloc, q.window, pair, rows)?;
     text.extend_from_slice(numbers.as_bytes())
 }
 
@@ -197,9 +190,22 @@ fn put_plan(
     }
 }
 
+/// What stands before the first line of a plan.
+fn first_lead(alloc: Global, q: &Prepared) -> Result<Lead, Memory>
+    ensures { IfOk result (λ first. first ≡ first_depth q.now.window) }
+{
+    let top = Lead::top(alloc);
+    match q.window {
+        None => Ok(top),
+        Some(_) => top.deeper(alloc),
+    }
+}
+
 /// The text of a plan: a line for each of its nodes, with what the node's plan costs in all, in 1/400 of a sequential
-/// page, and its estimated rows; under it those of its children, deeper, the outer one first. The plan is one of the
-/// space for its set and parameterisation, or a finished one, and costs below 10^18. The error means want of memory.
+/// page, and its estimated rows; under it those of its children, deeper, the outer one first. Where the query has a
+/// window, each line also has what its plan costs before its first row, and the first one is as deep as below the line of
+/// LIMIT and OFFSET, which `limit_text` gives. The plan is one of the space for its set and parameterisation, or a finished
+/// one, and costs below 10^18. The error means want of memory.
 pub fn plan_text(alloc: Global, cat: &Catalog, q: &Prepared, p: &Path) -> Result<Bytes, Memory>
     requires bound { IsWellBound cat.now q.now }
     requires plan { IsShown cat.now q.now (path p.now).tree }
@@ -208,7 +214,7 @@ pub fn plan_text(alloc: Global, cat: &Catalog, q: &Prepared, p: &Path) -> Result
 {
     cat.lawful();
     let mut text = Vec::new(alloc);
-    let top = Lead::top(alloc);
-    put_plan(alloc, &mut text, cat, q, &top, &p.plan)?;
+    let first = first_lead(alloc, q)?;
+    put_plan(alloc, &mut text, cat, q, &first, &p.plan)?;
     Ok(Bytes::from_vec(text))
 }

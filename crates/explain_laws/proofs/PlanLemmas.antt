@@ -1,6 +1,6 @@
 -- The lines of a plan tell the plan.
 use Rattle.std.proofs.Common.{◌≡◌, ◌<◌, inl, inr, ℕ, ◌+◌, ◌*◌, Bool, true, false, cond, ◌||◌, List, [], ◌∷◌, ◌++◌, codes, drop, get_or, length, refl, sym, ◌∙◌, ap, ap₂, subst, append_assoc, arith}
-use Rattle.std.specs.Prelude.{nat_lt}
+use Rattle.std.specs.Prelude.{nat_lt, Option, Some, None}
 use Rattle.std.proofs.lemmas.Bool.{true≢false}
 use Rattle.std.proofs.lemmas.Bool.Decides.{nat_tests}
 use Rattle.std.proofs.lemmas.List.{append_cancel_left}
@@ -15,15 +15,17 @@ use Rattle.eq_classes.specs.Parts.{union}
 use Rattle.eq_classes.proofs.ListLemmas.{IsIn, all_at}
 use Rattle.sql_query.specs.Queries.{Query, all_of_query, width}
 use Rattle.sql_query.specs.WellBound.{IsWellBound}
+use Rattle.sql_query.specs.declared.window.Window.{Window}
 use Rattle.pathkeys.specs.Keys.{Keys, order_keys}
-use Rattle.plan_tree.specs.Costs.{cost, estimate}
+use Rattle.cost_rules.specs.declared.pair.Pair.{Pair}
+use Rattle.plan_tree.specs.Costs.{asked, cost, estimate, price, query_rows}
 use Rattle.plan_tree.specs.Plans.{Plan, seq, index, index_only, bitmap, sort, nest, merge, is_sort, set_of}
 use Rattle.plan_tree.specs.Space.{HasKeys, IsBuilt, IsSameSet, MeetsOrder}
 use Rattle.plan_tree.proofs.CostableLemmas.{built-costable}
 use Rattle.order_laws.proofs.KeyLemmas.{AreKeys, list_keys, wider}
 use Rattle.explain.specs.Lines.{IsShown}
 use Rattle.class_laws.proofs.JoiningLemmas.{joining_classes}
-use Rattle.explain.specs.Texts.{aliases_in, bits_text, lead, numbers_text, plan_text, scanned_text, text_at, title}
+use Rattle.explain.specs.Texts.{aliases_in, bits_text, explained_text, first_depth, lead, line_by, numbers_text, plan_text, rows_behind, scanned_text, text_at, title, window_text}
 use Rattle.explain_laws.proofs.BitLemmas.{IsShallow, IsTreeTold, bits-split, line-shallow, shallow-end, shallow-more, tree-told}
 use Rattle.explain_laws.proofs.ClassLemmas.{AreShownKeys, keys-split, order-shown}
 use Rattle.explain_laws.proofs.NameLemmas.{alias-name, alias-same, aliases-names, index-name, index-same, relation-table, table-name}
@@ -55,7 +57,7 @@ module _ (c : Contents) (q : Query) where
 
   -- the numbers of a node, and the lines beneath it
   abbrev numbers_of : Plan → List ℕ
-  numbers_of p = numbers_text (cost c q p).total (estimate c q p)
+  numbers_of p = numbers_text q.window (cost c q p) (estimate c q p)
 
   abbrev below : ℕ → Plan → List ℕ
   below d (seq r) = []
@@ -92,7 +94,18 @@ module _ (c : Contents) (q : Query) where
   kinds d a b x y e = sym (kind-is a (rest_of d a x)) ∙ ap three (titles d a b x y e) ∙ kind-is b (rest_of d b y)
 
   beneath : (d : ℕ) (a b : Plan) (x y : List ℕ) → drop 2 (rest_of d a x) ≡ drop 2 (rest_of d b y) → below d a ++ x ≡ below d b ++ y
-  beneath d a b x y e = numbers-split (cost c q a).total (cost c q b).total (estimate c q a) (estimate c q b) (below d a ++ x) (below d b ++ y) (ap (λ (l : List ℕ). 32 ∷ 32 ∷ l) e)
+  beneath d a b x y e = numbers-split q.window (cost c q a) (cost c q b) (estimate c q a) (estimate c q b) (below d a ++ x) (below d b ++ y) (ap (λ (l : List ℕ). 32 ∷ 32 ∷ l) e)
+
+  behind-line : (window : Option Window) (a b : Plan) (x y : List ℕ) → line_by c q window a ++ x ≡ line_by c q window b ++ y → x ≡ y
+  behind-line None a b x y e = e
+  behind-line (Some w) a b x y e =
+      let rows = rows_behind w.offset (asked w (query_rows c q)) in
+      let m : Pair = record { startup = 0; total = price c q a } in
+      let n : Pair = record { startup = 0; total = price c q b } in
+      let one : numbers_text None m rows ++ x ≡ numbers_text None n rows ++ y =
+          append_cancel_left (window_text w) (numbers_text None m rows ++ x) (numbers_text None n rows ++ y)
+          (sym (append_assoc (window_text w) (numbers_text None m rows) x) ∙ e ∙ append_assoc (window_text w) (numbers_text None n rows) y) in
+      numbers-split None m n rows rows x y one
 
   -- a plan of which its lines tell all
   abbrev Tells : Plan → Type 0
@@ -288,4 +301,9 @@ module _ (c : Contents) (q : Query) where
     -- plans of one text are one
     pub text-tells : (a b : Plan) → IsShown c q a → IsShown c q b → plan_text c q a ≡ plan_text c q b → a ≡ b
     text-tells a b h g e =
-        (plan-split a b 0 [] [] (shown-tells a h) (shown-tells b g) (shallow-end 0) (shallow-end 0) (ap (λ (l : List ℕ). l ++ []) e)).0
+        let d = first_depth q.window in
+        (plan-split a b d [] [] (shown-tells a h) (shown-tells b g) (shallow-end d) (shallow-end d) (ap (λ (l : List ℕ). l ++ []) e)).0
+
+    -- and so are plans of which the same is printed: the line of LIMIT and OFFSET tells at most their prices apart
+    pub printed-tells : (a b : Plan) → IsShown c q a → IsShown c q b → explained_text c q a ≡ explained_text c q b → a ≡ b
+    printed-tells a b h g e = text-tells a b h g (behind-line q.window a b (plan_text c q a) (plan_text c q b) e)

@@ -1,7 +1,7 @@
 -- Texts are taken to pieces: behind a name stands a byte that no name has.
 use Prim.Native.Nat.{suc, zero}
 use Rattle.std.proofs.Common.{◌≡◌, ◌<◌, ℕ, ◌+◌, ◌/◌, ◌%◌, ◌==◌, Bool, true, false, not, cond, ◌||◌, nat_lt, List, [], ◌∷◌, ◌++◌, codes, get_or, drop, refl, sym, ◌∙◌, ap, ap₂, append_assoc, arith}
-use Rattle.std.specs.Prelude.{if◌then◌else◌}
+use Rattle.std.specs.Prelude.{if◌then◌else◌, Option, Some, None}
 use Rattle.std.specs.Char.{is_ascii_digit, is_ascii_lowercase}
 use Rattle.std.specs.Fmt.{decimal, digit_glyph, digits, digits_onto}
 use Rattle.std.specs.List.{AllByRecursion, list_all}
@@ -10,7 +10,9 @@ use Rattle.std.proofs.lemmas.Bool.{and_from, and_parts, true≢false}
 use Rattle.std.proofs.lemmas.Bool.Decides.{nat_tests}
 use Rattle.std.proofs.lemmas.Slice.Eq.{bytes_eq-Decides}
 use Rattle.pg_base.specs.Names.{IsName, is_in_name}
-use Rattle.explain.specs.Texts.{with_commas, numbers_text, relation_text}
+use Rattle.sql_query.specs.declared.window.Window.{Window}
+use Rattle.cost_rules.specs.declared.pair.Pair.{Pair}
+use Rattle.explain.specs.Texts.{cost_text, with_commas, numbers_text, relation_text}
 
 -- no byte of a name begins a text
 abbrev pub stops : List ℕ → Bool
@@ -80,15 +82,23 @@ pub decimal-word : (n : ℕ) → list_all is_in_name (decimal n) ≡ true
 unfolding digits
 decimal-word n = onto-word 64 n [] refl
 
+-- behind the cost of a node
+cost-split : (window : Option Window) (m n : Pair) (x y : List ℕ) → stops x ≡ true → stops y ≡ true → cost_text window m ++ x ≡ cost_text window n ++ y → x ≡ y
+cost-split None m n x y sx sy e = (split (decimal m.total) (decimal n.total) x y (decimal-word m.total) (decimal-word n.total) sx sy e).1
+cost-split (Some w) m n x y sx sy e =
+    let one = split (decimal m.startup) (decimal n.startup) ((codes ".." ++ decimal m.total) ++ x) ((codes ".." ++ decimal n.total) ++ y) (decimal-word m.startup) (decimal-word n.startup) refl refl
+    (sym (append_assoc (decimal m.startup) (codes ".." ++ decimal m.total) x) ∙ e ∙ append_assoc (decimal n.startup) (codes ".." ++ decimal n.total) y) in
+    (split (decimal m.total) (decimal n.total) x y (decimal-word m.total) (decimal-word n.total) sx sy (ap (λ (l : List ℕ). drop 2 l) one.1)).1
+
 -- behind the numbers of a node
-abbrev rows_part : ℕ → List ℕ
+abbrev pub rows_part : ℕ → List ℕ
 rows_part n = codes " rows=" ++ (decimal n ++ codes ")\n")
 
-pub numbers-split : (m n a b : ℕ) (x y : List ℕ) → numbers_text m a ++ x ≡ numbers_text n b ++ y → x ≡ y
-numbers-split m n a b x y e =
-    let one : (decimal m ++ rows_part a) ++ x ≡ (decimal n ++ rows_part b) ++ y = ap (λ (l : List ℕ). drop 8 l) e in
-    let two = split (decimal m) (decimal n) (rows_part a ++ x) (rows_part b ++ y) (decimal-word m) (decimal-word n) refl refl (sym (append_assoc (decimal m) (rows_part a) x) ∙ one ∙ append_assoc (decimal n) (rows_part b) y) in
-    let three : (decimal a ++ codes ")\n") ++ x ≡ (decimal b ++ codes ")\n") ++ y = ap (λ (l : List ℕ). drop 6 l) two.1 in
+pub numbers-split : (window : Option Window) (m n : Pair) (a b : ℕ) (x y : List ℕ) → numbers_text window m a ++ x ≡ numbers_text window n b ++ y → x ≡ y
+numbers-split window m n a b x y e =
+    let one : (cost_text window m ++ rows_part a) ++ x ≡ (cost_text window n ++ rows_part b) ++ y = ap (λ (l : List ℕ). drop 8 l) e in
+    let two = cost-split window m n (rows_part a ++ x) (rows_part b ++ y) refl refl (sym (append_assoc (cost_text window m) (rows_part a) x) ∙ one ∙ append_assoc (cost_text window n) (rows_part b) y) in
+    let three : (decimal a ++ codes ")\n") ++ x ≡ (decimal b ++ codes ")\n") ++ y = ap (λ (l : List ℕ). drop 6 l) two in
     let four = split (decimal a) (decimal b) (codes ")\n" ++ x) (codes ")\n" ++ y) (decimal-word a) (decimal-word b) refl refl (sym (append_assoc (decimal a) (codes ")\n") x) ∙ three ∙ append_assoc (decimal b) (codes ")\n") y) in
     ap (λ (l : List ℕ). drop 2 l) four.1
 

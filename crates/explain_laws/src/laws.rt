@@ -6,11 +6,13 @@ ghost use Rattle.sql_query.specs.Queries.{Query};
 ghost use Rattle.sql_query.specs.WellBound.{IsWellBound};
 ghost use Rattle.plan_tree.specs.Plans.{Plan};
 ghost use Rattle.explain.specs.Lines.{IsShown};
-ghost use Rattle.explain.specs.Texts.{plan_text};
+ghost use Rattle.explain.specs.Texts.{explained_text, plan_text};
 
 /// Two plans of one query, each of the plan space for its set and parameterisation or finished, are one plan where their
-/// texts are the same.
+/// texts are the same, or where what is printed of them is, with the line of LIMIT and OFFSET where the query has a window.
 pub fn different_plans_have_different_texts()
-    ensures { (c : Contents) (q : Query) (a b : Plan) → IsLawful c → IsWellBound c q → IsShown c q a → IsShown c q b →
+    ensures texts { (c : Contents) (q : Query) (a b : Plan) → IsLawful c → IsWellBound c q → IsShown c q a → IsShown c q b →
         plan_text c q a ≡ plan_text c q b → a ≡ b }
+    ensures printed { (c : Contents) (q : Query) (a b : Plan) → IsLawful c → IsWellBound c q → IsShown c q a → IsShown c q b →
+        explained_text c q a ≡ explained_text c q b → a ≡ b }
 {}

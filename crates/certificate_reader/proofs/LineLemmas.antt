@@ -15,7 +15,7 @@ use Rattle.sql_query.specs.Queries.{Query}
 use Rattle.certificates.specs.Certificates.{Entry, Side}
 use Rattle.certificates.specs.Limit.{MOST_ENTRIES}
 use Rattle.certificate_reader.specs.Faults.{BeginsText, IsText}
-use Rattle.certificate_text.specs.HasText.{HasLine, IsEntryNumber}
+use Rattle.certificate_text.specs.HasText.{HasEntryLine, IsEntryNumber}
 use Rattle.certificate_reader.specs.Passed.{Passed}
 use Rattle.certificate_text.specs.Texts.{best_line, ended, entries_text, entry_line, entry_text, head_text, is_line}
 
@@ -69,11 +69,11 @@ other-line c q n e s lt same =
     let first = digit-first (decimal n) (codes " " ++ entry_text c q e) is.0.0 (decimal-digits n) in
     true≢false (sym first ∙ ap (λ (l : List ℕ). is_ascii_digit (get_or l 0 0)) same)
 
-module _ (c : Contents) (q : Query) (plain : (n : ℕ) (e : Entry) → HasLine c q e → is_line (entry_line c q n e) ≡ true) where
+module _ (c : Contents) (q : Query) (plain : (n : ℕ) (e : Entry) → HasEntryLine c q e → is_line (entry_line c q n e) ≡ true) where
   -- a text that begins with the lines of some entries goes on with lines of further entries and with a best plan
   pub record GoesOn (n : ℕ) (s : Side) (tail : List ℕ) : Type 0 where
     pub more : List Entry
-    pub lines : All (HasLine c q) more
+    pub lines : All (HasEntryLine c q) more
     pub is : tail ≡ entries_text c q n more ++ ended (best_line s)
 
   front : (line rest : List ℕ) → ended line ++ rest ≡ line ++ 10 ∷ rest
@@ -82,17 +82,17 @@ module _ (c : Contents) (q : Query) (plain : (n : ℕ) (e : Entry) → HasLine c
   after : (n : ℕ) (e : Entry) (es : List Entry) (tail : List ℕ) → entries_text c q n (e ∷ es) ++ tail ≡ entry_line c q n e ++ 10 ∷ (entries_text c q (n + 1) es ++ tail)
   after n e es tail = append_assoc (ended (entry_line c q n e)) (entries_text c q (n + 1) es) tail ∙ front (entry_line c q n e) (entries_text c q (n + 1) es ++ tail)
 
-  pub goes-on : (n : ℕ) (es fs : List Entry) (s : Side) (tail : List ℕ) → n + length es < 2 ^ 64 → All (HasLine c q) es → All (HasLine c q) fs →
+  pub goes-on : (n : ℕ) (es fs : List Entry) (s : Side) (tail : List ℕ) → n + length es < 2 ^ 64 → All (HasEntryLine c q) es → All (HasEntryLine c q) fs →
       entries_text c q n es ++ tail ≡ entries_text c q n fs ++ ended (best_line s) → GoesOn (n + length es) s tail
   goes-on n [] fs s tail lt he hf e = record { more = fs; lines = hf; is = subst (λ m. tail ≡ entries_text c q m fs ++ ended (best_line s)) (omega arith) e }
   goes-on n (x ∷ es) [] s tail lt he hf e =
-      let same = parted (entry_line c q n x) (best_line s) (entries_text c q (n + 1) es ++ tail) [] (plain n x (All-head (HasLine c q) x es he)) (best-line s) (sym (after n x es tail) ∙ e) in
+      let same = parted (entry_line c q n x) (best_line s) (entries_text c q (n + 1) es ++ tail) [] (plain n x (All-head (HasEntryLine c q) x es he)) (best-line s) (sym (after n x es tail) ∙ e) in
       absurd (other-line c q n x s (omega (arith, lt)) same.0)
   goes-on n (x ∷ es) (y ∷ fs) s tail lt he hf e =
-      let same = parted (entry_line c q n x) (entry_line c q n y) (entries_text c q (n + 1) es ++ tail) (entries_text c q (n + 1) fs ++ ended (best_line s)) (plain n x (All-head (HasLine c q) x es he)) (plain n y (All-head (HasLine c q) y fs hf))
+      let same = parted (entry_line c q n x) (entry_line c q n y) (entries_text c q (n + 1) es ++ tail) (entries_text c q (n + 1) fs ++ ended (best_line s)) (plain n x (All-head (HasEntryLine c q) x es he)) (plain n y (All-head (HasEntryLine c q) y fs hf))
       (sym (after n x es tail) ∙ (e ∙ after n y fs (ended (best_line s)))) in
       let one : (n + 1) + length es ≡ n + suc (length es) = omega arith in
-      subst (λ m. GoesOn m s tail) one (goes-on (n + 1) es fs s tail (omega (arith, lt)) (All-tail (HasLine c q) x es he) (All-tail (HasLine c q) y fs hf) same.1)
+      subst (λ m. GoesOn m s tail) one (goes-on (n + 1) es fs s tail (omega (arith, lt)) (All-tail (HasEntryLine c q) x es he) (All-tail (HasEntryLine c q) y fs hf) same.1)
 
   -- the text of a certificate that begins with a part goes on so
   pub from-part : (es : List Entry) (part tail : List ℕ) → Passed c q es part → IsText c q (part ++ tail) → (s : Side) × IsEntryNumber s.entry × GoesOn (1 + length es) s tail
@@ -125,25 +125,25 @@ module _ (c : Contents) (q : Query) (plain : (n : ℕ) (e : Entry) → HasLine c
   }
 
   -- what a text goes on with begins with a line of a next entry or of a best plan
-  line-is : (m : ℕ) (s : Side) (line rest : List ℕ) → is_line line ≡ true → ((e : Entry) → HasLine c q e → ¬ (line ≡ entry_line c q m e)) → ¬ (line ≡ best_line s) →
-      (more : List Entry) → All (HasLine c q) more → line ++ 10 ∷ rest ≡ entries_text c q m more ++ ended (best_line s) → ⊥
+  line-is : (m : ℕ) (s : Side) (line rest : List ℕ) → is_line line ≡ true → ((e : Entry) → HasEntryLine c q e → ¬ (line ≡ entry_line c q m e)) → ¬ (line ≡ best_line s) →
+      (more : List Entry) → All (HasEntryLine c q) more → line ++ 10 ∷ rest ≡ entries_text c q m more ++ ended (best_line s) → ⊥
   line-is m s line rest h no-entry no-best [] hs e = no-best (parted line (best_line s) rest [] h (best-line s) e).0
   line-is m s line rest h no-entry no-best (x ∷ xs) hs e =
-      let first = All-head (HasLine c q) x xs hs in
+      let first = All-head (HasEntryLine c q) x xs hs in
       no-entry x first (parted line (entry_line c q m x) rest (entries_text c q (m + 1) xs ++ ended (best_line s)) h (plain m x first) (e ∙ after m x xs (ended (best_line s)))).0
 
   -- a line that is neither that of a next entry nor that of a best plan is in no text behind the part
   pub line-stops : (es : List Entry) (part line : List ℕ) → Passed c q es part → is_line line ≡ true →
-      ((e : Entry) → HasLine c q e → ¬ (line ≡ entry_line c q (1 + length es) e)) → ((s : Side) → IsEntryNumber s.entry → ¬ (line ≡ best_line s)) → ¬ BeginsText c q (part ++ ended line)
+      ((e : Entry) → HasEntryLine c q e → ¬ (line ≡ entry_line c q (1 + length es) e)) → ((s : Side) → IsEntryNumber s.entry → ¬ (line ≡ best_line s)) → ¬ BeginsText c q (part ++ ended line)
   line-stops es part line p h no-entry no-best b =
       let t = subst (IsText c q) (append_assoc part (ended line) b.rest) b.text in
       let g = from-part es part (ended line ++ b.rest) p t in
       line-is (1 + length es) (g.0) line b.rest h no-entry (no-best (g.0) g.1) (g.2).more (g.2).lines (sym (front line b.rest) ∙ (g.2).is)
 
-  best-alone : (m : ℕ) (s o : Side) (b : ℕ) (rest : List ℕ) → m < 2 ^ 64 → (more : List Entry) → All (HasLine c q) more → best_line s ++ 10 ∷ (b ∷ rest) ≡ entries_text c q m more ++ ended (best_line o) → ⊥
+  best-alone : (m : ℕ) (s o : Side) (b : ℕ) (rest : List ℕ) → m < 2 ^ 64 → (more : List Entry) → All (HasEntryLine c q) more → best_line s ++ 10 ∷ (b ∷ rest) ≡ entries_text c q m more ++ ended (best_line o) → ⊥
   best-alone m s o b rest lt [] hs e = true≢false (ap has_some (parted (best_line s) (best_line o) (b ∷ rest) [] (best-line s) (best-line o) e).1)
   best-alone m s o b rest lt (x ∷ xs) hs e =
-      let first = All-head (HasLine c q) x xs hs in
+      let first = All-head (HasEntryLine c q) x xs hs in
       other-line c q m x s lt (sym (parted (best_line s) (entry_line c q m x) (b ∷ rest) (entries_text c q (m + 1) xs ++ ended (best_line o)) (best-line s) (plain m x first) (e ∙ after m x xs (ended (best_line o)))).0)
 
   -- behind a best plan a text has nothing
@@ -172,9 +172,9 @@ module _ (c : Contents) (q : Query) (plain : (n : ℕ) (e : Entry) → HasLine c
       ap (λ (m : ℕ). (ended (entry_line c q n x) ++ entries_text c q (n + 1) es) ++ ended (entry_line c q m e)) same)
 
   -- one more entry
-  pub entry-passed : (es : List Entry) (part : List ℕ) (e : Entry) → Passed c q es part → HasLine c q e → length es + 1 ≤ MOST_ENTRIES → Passed c q (es ++ e ∷ []) (part ++ ended (entry_line c q (1 + length es) e))
+  pub entry-passed : (es : List Entry) (part : List ℕ) (e : Entry) → Passed c q es part → HasEntryLine c q e → length es + 1 ≤ MOST_ENTRIES → Passed c q (es ++ e ∷ []) (part ++ ended (entry_line c q (1 + length es) e))
   entry-passed es part e p h few = record {
-    lines = All-push (HasLine c q) es e p.lines h;
+    lines = All-push (HasEntryLine c q) es e p.lines h;
     few = subst (λ n. n ≤ MOST_ENTRIES) (sym (length-append es (e ∷ []))) few;
     is = ap (λ (l : List ℕ). l ++ ended (entry_line c q (1 + length es) e)) p.is ∙ (append_assoc (head_text q.window) (entries_text c q 1 es) (ended (entry_line c q (1 + length es) e)) ∙ ap (λ (l : List ℕ). head_text q.window ++ l) (sym (more-text 1 es e)));
   }

@@ -17,6 +17,7 @@ use Rattle.pg_value.specs.declared.operators.Family.TheVariants as families
 use Rattle.pg_expr.specs.declared.operand.ColRef.{ColRef}
 use Rattle.catalog.specs.Contents.{Contents, IsIndex, IsLawful, IsTable, index_name_at, name_at, no_index, no_table}
 use Rattle.catalog.specs.Range.{Range, relation_at, table_of}
+use Rattle.cost_rules.specs.Costs.{pair}
 use Rattle.eq_classes.specs.Classes.{Class}
 use Rattle.eq_classes.specs.Clauses.{Set, first_in}
 use Rattle.eq_classes.specs.Listing.{blank, class_at}
@@ -28,10 +29,10 @@ use Rattle.sql_query.specs.declared.window.Window.{Window}
 use Rattle.sql_query.specs.WellBound.{IsColumnOf, IsWellBound}
 use Rattle.pathkeys.specs.Keys.{Keys}
 use Rattle.plan_tree.specs.Plans.{BitTree, leaf, all_hold, some_arm, BitTrees, no_trees, tree_and, is_empty}
-use Rattle.explain.specs.Texts.{aliases_in, backward_text, column_text, conjunct_by, direction_text, family_text, key_text, keys_text, member_text, number_text, with_alias, with_commas}
+use Rattle.explain.specs.Texts.{aliases_in, backward_text, column_text, conjunct_by, cost_text, direction_text, family_text, key_text, keys_text, member_text, number_text, with_alias, with_commas}
 use Rattle.certificates.specs.Certificates.{Entry, Node, Side, by_seq, by_index, by_index_only, by_bitmap, by_nest, by_merge}
-use Rattle.certificate_text.specs.HasText.{HasBitsText, HasElementText, HasLine, HasNodeText, HaveElementTexts}
-use Rattle.certificate_text.specs.Texts.{costs_text, entry_line, entry_text, is_line, leaf_text, made_text, measures_text, node_text, param_text, set_text, side_text, sides_text, tree_text, tree_texts, with_bare_commas}
+use Rattle.certificate_text.specs.HasText.{HasBitsText, HasElementText, HasEntryLine, HasNodeText, HaveElementTexts}
+use Rattle.certificate_text.specs.Texts.{entry_line, entry_text, is_line, leaf_text, made_text, measures_text, node_text, param_text, set_text, side_text, sides_text, tree_text, tree_texts, with_bare_commas}
 
 pub joined-line : (a b : List ℕ) → is_line a ≡ true → is_line b ≡ true → is_line (a ++ b) ≡ true
 joined-line [] b h k = k
@@ -89,7 +90,7 @@ number-text-line : (o : Option ℕ) → is_line (number_text o) ≡ true
 number-text-line None = refl
 number-text-line (Some n) = number-line n
 
-cost-line : (w : Option Window) (s t : ℕ) → is_line (costs_text w s t) ≡ true
+cost-line : (w : Option Window) (s t : ℕ) → is_line (cost_text w (pair s t)) ≡ true
 cost-line None s t = number-line t
 cost-line (Some w) s t = joined-line (decimal s) (codes ".." ++ decimal t) (number-line s) (number-line t)
 
@@ -189,19 +190,19 @@ module _ (c : Contents) (q : Query) (lawful : IsLawful c) (bound : IsWellBound c
       joined-line (keys_text c q (has s.0) keys) (codes " " ++ (side_text a ++ (codes " " ++ side_text b))) (keys-line (has s.0) keys h.0.classes)
       (joined-line (side_text a) (codes " " ++ side_text b) (side-line a) (side-line b))
 
-  made-line : (e : Entry) → HasLine c q e → is_line (made_text c q e) ≡ true
+  made-line : (e : Entry) → HasEntryLine c q e → is_line (made_text c q e) ≡ true
   made-line e h =
       joined-line (set_text q e.set) (param_text q e.param ++ (codes " " ++ node_text c q e.set e.node)) (set-line e.set)
       (joined-line (param_text q e.param) (codes " " ++ node_text c q e.set e.node) (param-line e.param) (node-line e.set e.node h.node))
 
-  measures-line : (e : Entry) → HasLine c q e → is_line (measures_text c q e) ≡ true
+  measures-line : (e : Entry) → HasEntryLine c q e → is_line (measures_text c q e) ≡ true
   measures-line e h =
       let keys = keys_text c q (has e.set.0) e.keys ++ codes ")" in
-      joined-line (costs_text q.window e.startup e.cost) (codes " rows=" ++ (decimal e.rows ++ (codes " keys=(" ++ keys))) (cost-line q.window e.startup e.cost)
+      joined-line (cost_text q.window (pair e.startup e.cost)) (codes " rows=" ++ (decimal e.rows ++ (codes " keys=(" ++ keys))) (cost-line q.window e.startup e.cost)
       (joined-line (decimal e.rows) (codes " keys=(" ++ keys) (number-line e.rows)
       (joined-line (keys_text c q (has e.set.0) e.keys) (codes ")") (keys-line (has e.set.0) e.keys h.keys.classes) refl))
 
   -- the line of an entry
-  pub plain-line : (n : ℕ) (e : Entry) → HasLine c q e → is_line (entry_line c q n e) ≡ true
+  pub plain-line : (n : ℕ) (e : Entry) → HasEntryLine c q e → is_line (entry_line c q n e) ≡ true
   plain-line n e h =
       joined-line (decimal n) (codes " " ++ entry_text c q e) (number-line n) (joined-line (made_text c q e) (measures_text c q e) (made-line e h) (measures-line e h))

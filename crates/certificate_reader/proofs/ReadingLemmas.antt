@@ -11,7 +11,7 @@ use Rattle.certificates.specs.Certificates.{Entry, Side}
 use Rattle.certificates.specs.Limit.{MOST_ENTRIES}
 use Rattle.certificate_reader.specs.Faults.{BeginsText, IsFaultLine, IsText, Stops, at_line, at_end}
 use Rattle.certificate_reader.specs.Lines.{heads, joined, line_end}
-use Rattle.certificate_text.specs.HasText.{HasLine, HasText, IsEntryNumber}
+use Rattle.certificate_text.specs.HasText.{HasEntryLine, HasText, IsEntryNumber}
 use Rattle.certificate_reader.specs.Passed.{Passed}
 use Rattle.certificate_reader.specs.Reading.{IsReadSoFar}
 use Rattle.certificate_text.specs.Texts.{best_line, certificate_text, ended, entries_text, entry_line, head_text, is_line}
@@ -63,9 +63,9 @@ module _ (c : Contents) (q : Query) where
   cut-again : (block part line rest left : List ℕ) → block ≡ part ++ left → left ≡ ended line ++ rest → block ≡ (part ++ ended line) ++ rest
   cut-again block part line rest left e f = e ∙ (ap (λ (l : List ℕ). part ++ l) f ∙ sym (append_assoc part (ended line) rest))
 
-  module _ (plain : (n : ℕ) (e : Entry) → HasLine c q e → is_line (entry_line c q n e) ≡ true) where
+  module _ (plain : (n : ℕ) (e : Entry) → HasEntryLine c q e → is_line (entry_line c q n e) ≡ true) where
     pub entry-read : (block : List ℕ) (es : List Entry) (left line rest : List ℕ) (e : Entry) → IsReadSoFar c q block es left → left ≡ ended line ++ rest → is_line line ≡ true →
-        HasLine c q e → line ≡ entry_line c q (length es + 1) e → length es + 1 ≤ MOST_ENTRIES → IsReadSoFar c q block (es ++ e ∷ []) rest
+        HasEntryLine c q e → line ≡ entry_line c q (length es + 1) e → length es + 1 ≤ MOST_ENTRIES → IsReadSoFar c q block (es ++ e ∷ []) rest
     entry-read block es left line rest e r f h has is few =
         let one : length es + 1 ≡ 1 + length es = omega arith in
         let same : line ≡ entry_line c q (1 + length es) e = is ∙ ap (λ n. entry_line c q n e) one in
@@ -83,7 +83,7 @@ module _ (c : Contents) (q : Query) where
         }
 
     pub bad-line : (block : List ℕ) (es : List Entry) (left line rest : List ℕ) → IsReadSoFar c q block es left → left ≡ ended line ++ rest → is_line line ≡ true →
-        ((e : Entry) → HasLine c q e → ¬ (line ≡ entry_line c q (length es + 1) e)) → ((s : Side) → IsEntryNumber s.entry → ¬ (line ≡ best_line s)) → IsFaultLine c q block (length (heads q.window) + length es + 1)
+        ((e : Entry) → HasEntryLine c q e → ¬ (line ≡ entry_line c q (length es + 1) e)) → ((s : Side) → IsEntryNumber s.entry → ¬ (line ≡ best_line s)) → IsFaultLine c q block (length (heads q.window) + length es + 1)
     bad-line block es left line rest r f h no-entry no-best =
         let one : 1 + length es ≡ length es + 1 = omega arith in
         record {

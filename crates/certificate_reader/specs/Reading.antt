@@ -7,7 +7,7 @@ use Rattle.certificates.specs.Views.{certificate, entry, side}
 use Rattle.certificates.specs.declared.certificate.Certificate.{Certificate as Certified}
 use Rattle.certificate_reader.specs.Faults.{IsFaultLine}
 use Rattle.certificate_reader.specs.Lines.{heads, joined}
-use Rattle.certificate_text.specs.HasText.{HasLine, HasText, IsEntryNumber}
+use Rattle.certificate_text.specs.HasText.{HasEntryLine, HasText, IsEntryNumber}
 use Rattle.certificate_reader.specs.Passed.{Passed}
 use Rattle.certificate_text.specs.Texts.{best_line, certificate_text, ended, entry_line, is_line}
 use Rattle.certificate_reader.specs.declared.line.Line.{Line}
@@ -20,9 +20,9 @@ use Rattle.certificate_reader.specs.declared.block.CertFault.TheVariants as cert
 module _ (c : Contents) (q : Query) where
   -- the line of the entry of a number or of a best plan is read as it; a bad line is neither. Want of memory says nothing
   abbrev pub IsRead : ℕ → List ℕ → Result Line LineFault → Type 0
-  IsRead n line (Ok (lines.Entry e)) = HasLine c q (entry e) × (line ≡ entry_line c q n (entry e))
+  IsRead n line (Ok (lines.Entry e)) = HasEntryLine c q (entry e) × (line ≡ entry_line c q n (entry e))
   IsRead n line (Ok (lines.Best s)) = IsEntryNumber s.entry × (line ≡ best_line (side s))
-  IsRead n line (Err faults.Bad) = ((e : Entry) → HasLine c q e → ¬ (line ≡ entry_line c q n e)) × ((s : Side) → IsEntryNumber s.entry → ¬ (line ≡ best_line s))
+  IsRead n line (Err faults.Bad) = ((e : Entry) → HasEntryLine c q e → ¬ (line ≡ entry_line c q n e)) × ((s : Side) → IsEntryNumber s.entry → ¬ (line ≡ best_line s))
   IsRead n line (Err faults.Memory) = Unit {0}
 
   -- some lines of a block were read as entries, and the rest is left

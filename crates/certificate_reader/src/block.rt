@@ -1,6 +1,6 @@
 //! A block of lines read as a certificate.
 
-ghost use Rattle.std.specs.Prelude.{◌≡◌, ◌<◌, ◌≤◌, ◌+◌, ◌∷◌, ◌++◌, ◌^◌, ℕ, List, [], IfSome, IfNone, OnOk, length, map, true};
+ghost use Rattle.std.specs.Prelude.{◌≡◌, ◌≢◌, ◌<◌, ◌≤◌, ◌+◌, ◌∷◌, ◌++◌, ◌^◌, ℕ, List, [], IfSome, IfNone, MatchOption, OnOk, length, map, true};
 ghost use Rattle.sql_query.specs.WellBound.{IsWellBound};
 ghost use Rattle.certificate_reader.specs.Reading.{IsBestBefore, IsBlock};
 ghost use Rattle.certificate_text.specs.Texts.{ended, head_text, is_line};
@@ -81,15 +81,21 @@ fn first_line(q: &Prepared) -> u32
     }
 }
 
+/// What stands behind the first bytes of a block, where it begins with these.
+fn behind<'a>(block: &'a [u8], head: &[u8]) -> Option<&'a [u8]>
+    ensures { MatchOption result ((rest : List ℕ) → block.now ≢ head.now ++ rest) (λ rest. block.now ≡ head.now ++ rest.now) }
+{
+    block.strip_prefix(head)
+}
+
 /// What stands behind the first line of a certificate of a query with a window; all of the block where there is none. None
 /// where the block does not begin with that line.
 fn behind_head<'a>(q: &Prepared, block: &'a [u8]) -> Option<&'a [u8]>
-    ensures some { IfSome result (λ rest. block.now ≡ head_text q.now.window ++ rest.now) }
-    ensures none { IfNone result ((rest : List ℕ) → ¬ (block.now ≡ head_text q.now.window ++ rest)) }
+    ensures { MatchOption result ((rest : List ℕ) → block.now ≢ head_text q.now.window ++ rest) (λ rest. block.now ≡ head_text q.now.window ++ rest.now) }
 {
     match q.window {
         None => Some(block),
-        Some(_) => block.strip_prefix(b"certificate 2\n".as_slice()),
+        Some(_) => behind(block, b"certificate 2\n"),
     }
 }
 

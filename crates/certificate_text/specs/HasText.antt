@@ -65,7 +65,7 @@ module _ (c : Contents) (q : Query) where
   HasNodeText s (by_merge keys a b) = HasKeysText q s keys × (1 ≤ length keys) × IsEntryNumber a.entry × IsEntryNumber b.entry
 
   -- an entry that has a line
-  pub record HasLine (e : Entry) : Type 0 where
+  pub record HasEntryLine (e : Entry) : Type 0 where
     pub some : (k : ℕ) × (has e.set.0 k ≡ true)
     pub set : IsSetOf q (has e.set.0)
     pub param : IsSetOf q (has e.param.0)
@@ -79,5 +79,5 @@ module _ (c : Contents) (q : Query) where
   -- a certificate that has a text
   pub record HasText (t : Certificate) : Type 0 where
     pub few : length t.entries ≤ MOST_ENTRIES
-    pub lines : All HasLine t.entries
+    pub lines : All HasEntryLine t.entries
     pub best : IsEntryNumber t.best.entry

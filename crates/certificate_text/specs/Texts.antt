@@ -7,10 +7,11 @@ use Rattle.pg_base.specs.Sets.{has}
 use Rattle.pg_base.specs.declared.numbers.IndexNo.{IndexNo}
 use Rattle.pg_base.specs.declared.rel_set.RelSet.{RelSet}
 use Rattle.catalog.specs.Contents.{Contents, index_name_at}
+use Rattle.cost_rules.specs.Costs.{pair}
 use Rattle.sql_query.specs.Queries.{Query}
 use Rattle.sql_query.specs.declared.window.Window.{Window}
 use Rattle.plan_tree.specs.Plans.{BitTree, leaf, all_hold, some_arm, BitTrees, no_trees, tree_and, is_empty}
-use Rattle.explain.specs.Texts.{aliases_in, backward_text, conjunct_by, keys_text, number_text, scan_name, with_commas}
+use Rattle.explain.specs.Texts.{aliases_in, backward_text, conjunct_by, cost_text, keys_text, number_text, scan_name, with_commas}
 use Rattle.certificates.specs.Certificates.{Side, Node, by_seq, by_index, by_index_only, by_bitmap, by_nest, by_merge, Entry, Certificate}
 
 -- texts in a row: the first behind a text of its own, each other one behind a comma alone
@@ -33,11 +34,6 @@ sides_text outer inner = codes " " ++ (side_text outer ++ (codes " " ++ side_tex
 abbrev pub head_text : Option Window → List ℕ
 head_text None = []
 head_text (Some w) = codes "certificate 2\n"
-
--- what an entry costs: in all, or where the query has a window before the first row and in all
-abbrev pub costs_text : Option Window → ℕ → ℕ → List ℕ
-costs_text None startup total = decimal total
-costs_text (Some w) startup total = decimal startup ++ (codes ".." ++ decimal total)
 
 -- no byte is LF
 abbrev pub is_line : List ℕ → Bool
@@ -100,7 +96,7 @@ module _ (c : Contents) (q : Query) where
   -- an entry's costs, rows and keys
   abbrev pub measures_text : Entry → List ℕ
   measures_text e =
-      codes " cost=" ++ (costs_text q.window e.startup e.cost ++ (codes " rows=" ++ (decimal e.rows ++ (codes " keys=(" ++ (keys_text c q (has e.set.0) e.keys ++ codes ")")))))
+      codes " cost=" ++ (cost_text q.window (pair e.startup e.cost) ++ (codes " rows=" ++ (decimal e.rows ++ (codes " keys=(" ++ (keys_text c q (has e.set.0) e.keys ++ codes ")")))))
 
   -- the line of an entry without its number and without LF
   abbrev pub entry_text : Entry → List ℕ

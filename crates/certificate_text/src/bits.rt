@@ -141,11 +141,12 @@ pub(crate) fn put_bits(
     ensures { OnOk result (text.new.items ≡ text.old.items ++ texts.tree_text cat.now q.now (bits tree.now)) }
 {
     match tree {
+        BitTree::Leaf(i) => put_leaf(text, cat, *i),
         BitTree::And(parts) => {
             text.extend_from_slice(b"And(")?;
             put_elements(alloc, text, cat, q, &parts.items)?;
             text.extend_from_slice(b")")
         }
-        _ => put_element(alloc, text, cat, q, tree),
+        BitTree::Or(n, indexes) => put_or(alloc, text, cat, q, *n, indexes),
     }
 }

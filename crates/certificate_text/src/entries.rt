@@ -3,11 +3,13 @@
 ghost use Rattle.std.specs.Prelude.{◌≡◌, ◌≤◌, ◌++◌, All, IfOk, OnOk, codes, length, map};
 ghost use Rattle.std.specs.Fmt.{decimal};
 ghost use Rattle.pg_base.specs.Sets.{has};
+ghost use Rattle.cost_rules.specs.Costs.{pair};
+ghost use Rattle.explain.specs.Texts.{cost_text};
 ghost use Rattle.sql_query.specs.Queries.{width};
 ghost use Rattle.sql_query.specs.WellBound.{IsWellBound};
 ghost use Rattle.certificates.specs.Limit.{MOST_ENTRIES};
 ghost use Rattle.certificates.specs.Views.{certificate, entry, side};
-ghost use Rattle.certificate_text.specs.HasText.{HasLine, HasText};
+ghost use Rattle.certificate_text.specs.HasText.{HasEntryLine, HasText};
 ghost use Rattle.certificate_text.specs.Texts as texts;
 
 use crate::keys::put_keys;
@@ -28,7 +30,7 @@ fn put_cost(
     startup: u64,
     total: u64,
 ) -> Result<(), Memory>
-    ensures { OnOk result (text.new.items ≡ text.old.items ++ texts.costs_text q.now.window startup total) }
+    ensures { OnOk result (text.new.items ≡ text.old.items ++ cost_text q.now.window (pair startup total)) }
 {
     match q.window {
         None => put_number(alloc, text, total),
@@ -50,7 +52,7 @@ fn put_plan(
 ) -> Result<(), Memory>
     requires bound { IsWellBound cat.now q.now }
     requires few { width q.now ≤ 16 }
-    requires line { HasLine cat.now q.now (entry e.now) }
+    requires line { HasEntryLine cat.now q.now (entry e.now) }
     ensures { OnOk result (text.new.items ≡ text.old.items ++ texts.made_text cat.now q.now (entry e.now)) }
 {
     put_set(text, q, e.set)?;
@@ -68,7 +70,7 @@ fn put_numbers(
     e: &Entry,
 ) -> Result<(), Memory>
     requires bound { IsWellBound cat.now q.now }
-    requires line { HasLine cat.now q.now (entry e.now) }
+    requires line { HasEntryLine cat.now q.now (entry e.now) }
     ensures { OnOk result (text.new.items ≡ text.old.items ++ texts.measures_text cat.now q.now (entry e.now)) }
 {
     text.extend_from_slice(b" cost=")?;
@@ -91,7 +93,7 @@ fn put_entry(
 ) -> Result<(), Memory>
     requires bound { IsWellBound cat.now q.now }
     requires few { width q.now ≤ 16 }
-    requires line { HasLine cat.now q.now (entry e.now) }
+    requires line { HasEntryLine cat.now q.now (entry e.now) }
     ensures { OnOk result (text.new.items ≡ text.old.items ++ texts.ended (texts.entry_line cat.now q.now n (entry e.now))) }
 {
     put_number(alloc, text, n)?;
@@ -112,7 +114,7 @@ fn put_entries(
     requires bound { IsWellBound cat.now q.now }
     requires few { width q.now ≤ 16 }
     requires numbers { length entries.now ≤ MOST_ENTRIES }
-    requires lines { All (HasLine cat.now q.now) (map entry entries.now) }
+    requires lines { All (HasEntryLine cat.now q.now) (map entry entries.now) }
     ensures { OnOk result (text.new.items ≡ text.old.items ++ texts.entries_text cat.now q.now 1 (map entry entries.now)) }
 {
     for n in 0..entries.len() {

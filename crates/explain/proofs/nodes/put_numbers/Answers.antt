@@ -3,8 +3,8 @@ use Rattle.plan_tree.proofs.PricingLemmas.{costable-reads}
 use Rattle.plan_laws.proofs.WellBoundLemmas.{bound-over}
 use Rattle.explain.proofs.nodes.put_numbers.Goals as goal
 
-pub cost-total-requires-clause-query : goal.cost-total-requires-clause-query
-cost-total-requires-clause-query c = bound-over c.args.cat.now c.args.q.now c.requires.bound
+pub cost-pair-requires-clause-query : goal.cost-pair-requires-clause-query
+cost-pair-requires-clause-query c = bound-over c.args.cat.now c.args.q.now c.requires.bound
 
 pub estimate-rows-requires-clause-query : goal.estimate-rows-requires-clause-query
 estimate-rows-requires-clause-query c = bound-over c.args.cat.now c.args.q.now c.requires.bound

@@ -78,14 +78,21 @@ fn put_index(
     Ok(())
 }
 
+/// Appends two numbers.
+fn put_two(alloc: Global, text: &mut Vec<u8>, first: u32, second: u32) -> Result<(), Memory>
+    ensures { OnOk result (text.new.items ≡ text.old.items ++ (decimal first ++ (codes " " ++ decimal second))) }
+{
+    put_number(alloc, text, u64::from(first))?;
+    text.extend_from_slice(b" ")?;
+    put_number(alloc, text, u64::from(second))
+}
+
 /// Appends a nested loop.
 fn put_nest(alloc: Global, text: &mut Vec<u8>, outer: u32, inner: u32) -> Result<(), Memory>
     ensures { OnOk result (text.new.items ≡ text.old.items ++ texts.nest_text outer inner) }
 {
     text.extend_from_slice(b"Nested Loop ")?;
-    put_number(alloc, text, u64::from(outer))?;
-    text.extend_from_slice(b" ")?;
-    put_number(alloc, text, u64::from(inner))
+    put_two(alloc, text, outer, inner)
 }
 
 /// Appends the sides of a merge.

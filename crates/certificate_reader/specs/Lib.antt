@@ -1,4 +1,0 @@
-pub mod Lines
-pub mod Faults
-pub mod Passed
-pub mod Reading

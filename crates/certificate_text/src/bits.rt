@@ -1,0 +1,152 @@
+//! Bitmap trees in one line.
+
+ghost use Rattle.std.specs.Prelude.{◌≡◌, ◌++◌, [], All, OnOk, codes, cond, map, slice_get};
+ghost use Rattle.catalog.specs.Contents.{IsIndex};
+ghost use Rattle.explain.specs.Texts.{conjunct_by, number_text, with_commas};
+ghost use Rattle.plan_tree.specs.Views.{bits, bits_all};
+ghost use Rattle.certificate_text.specs.HasText.{HasBitsText, HasElementText, HaveElementTexts};
+ghost use Rattle.certificate_text.specs.Texts as texts;
+
+use catalog::Catalog;
+use pg_base::{IndexNo, Memory};
+use plan_tree::{BitTree, classes_of};
+use sql_query::Prepared;
+use std::alloc::Global;
+
+/// Appends a comma and a space, where something stands before.
+fn put_comma(text: &mut Vec<u8>, first: bool) -> Result<(), Memory>
+    ensures { OnOk result (text.new.items ≡ text.old.items ++ cond first [] (codes ", ")) }
+{
+    if !first {
+        text.extend_from_slice(b", ")?;
+    }
+    Ok(())
+}
+
+/// Appends the entries of an index.
+fn put_leaf(text: &mut Vec<u8>, cat: &Catalog, i: IndexNo) -> Result<(), Memory>
+    requires index { IsIndex cat.now i }
+    ensures { OnOk result (text.new.items ≡ text.old.items ++ texts.leaf_text cat.now i) }
+{
+    text.extend_from_slice(b"Index ")?;
+    text.extend_from_slice(cat.index_name(i))?;
+    Ok(())
+}
+
+/// Appends the entries of some indexes.
+fn put_leaves(text: &mut Vec<u8>, cat: &Catalog, indexes: &[IndexNo]) -> Result<(), Memory>
+    requires indexes { All (IsIndex cat.now) indexes.now }
+    ensures { OnOk result (text.new.items ≡ text.old.items ++ with_commas [] (map (texts.leaf_text cat.now) indexes.now)) }
+{
+    let mut first = true;
+    for i in indexes {
+        put_comma(text, first)?;
+        put_leaf(text, cat, *i)?;
+        first = false;
+    }
+    Ok(())
+}
+
+/// The number, from 1, of the conjunct that a clause is. None where there is no such clause, or a class makes it.
+fn conjunct_of(q: &Prepared, n: u16) -> Option<u16>
+    ensures { result ≡ conjunct_by (slice_get q.now.classes.clauses n) }
+{
+    let classes = classes_of(q);
+    if (n as usize) < classes.count() {
+        classes.conjunct(n)
+    } else {
+        None
+    }
+}
+
+/// Appends a number, where there is one.
+fn put_conjunct(alloc: Global, text: &mut Vec<u8>, number: Option<u16>) -> Result<(), Memory>
+    ensures { OnOk result (text.new.items ≡ text.old.items ++ number_text number) }
+{
+    match number {
+        Some(n) => {
+            let digits = format!(in alloc; "{n}")?;
+            text.extend_from_slice(digits.as_bytes())
+        }
+        None => Ok(()),
+    }
+}
+
+/// Appends an OR by the number of its conjunct, with an index for each arm.
+fn put_or(
+    alloc: Global,
+    text: &mut Vec<u8>,
+    cat: &Catalog,
+    q: &Prepared,
+    n: u16,
+    indexes: &[IndexNo],
+) -> Result<(), Memory>
+    requires indexes { All (IsIndex cat.now) indexes.now }
+    ensures { OnOk result (text.new.items ≡ text.old.items ++ texts.or_text cat.now q.now n indexes.now) }
+{
+    text.extend_from_slice(b"Or ")?;
+    put_conjunct(alloc, text, conjunct_of(q, n))?;
+    text.extend_from_slice(b"(")?;
+    put_leaves(text, cat, indexes)?;
+    text.extend_from_slice(b")")
+}
+
+/// Appends an element: the entries of an index, or an OR.
+fn put_element(
+    alloc: Global,
+    text: &mut Vec<u8>,
+    cat: &Catalog,
+    q: &Prepared,
+    tree: &BitTree,
+) -> Result<(), Memory>
+    requires element { HasElementText cat.now q.now (bits tree.now) }
+    ensures { OnOk result (text.new.items ≡ text.old.items ++ texts.tree_text cat.now q.now (bits tree.now)) }
+{
+    match tree {
+        BitTree::Leaf(i) => put_leaf(text, cat, *i),
+        BitTree::And(_) => unreachable!(),
+        BitTree::Or(n, indexes) => put_or(alloc, text, cat, q, *n, indexes),
+    }
+}
+
+/// Appends elements.
+fn put_elements(
+    alloc: Global,
+    text: &mut Vec<u8>,
+    cat: &Catalog,
+    q: &Prepared,
+    trees: &[BitTree],
+) -> Result<(), Memory>
+    requires elements { HaveElementTexts cat.now q.now (bits_all trees.now) }
+    ensures { OnOk result (text.new.items ≡ text.old.items ++ with_commas [] (texts.tree_texts cat.now q.now (bits_all trees.now))) }
+{
+    let mut first = true;
+    for tree in trees {
+        put_comma(text, first)?;
+        put_element(alloc, text, cat, q, tree)?;
+        first = false;
+    }
+    Ok(())
+}
+
+/// Appends a bitmap tree: an element, or several in parentheses.
+pub(crate) fn put_bits(
+    alloc: Global,
+    text: &mut Vec<u8>,
+    cat: &Catalog,
+    q: &Prepared,
+    tree: &BitTree,
+) -> Result<(), Memory>
+    requires tree { HasBitsText cat.now q.now (bits tree.now) }
+    ensures { OnOk result (text.new.items ≡ text.old.items ++ texts.tree_text cat.now q.now (bits tree.now)) }
+{
+    match tree {
+        BitTree::Leaf(i) => put_leaf(text, cat, *i),
+        BitTree::And(parts) => {
+            text.extend_from_slice(b"And(")?;
+            put_elements(alloc, text, cat, q, &parts.items)?;
+            text.extend_from_slice(b")")
+        }
+        BitTree::Or(n, indexes) => put_or(alloc, text, cat, q, *n, indexes),
+    }
+}

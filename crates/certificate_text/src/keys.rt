@@ -1,0 +1,119 @@
+//! Key lists.
+
+ghost use Rattle.std.specs.Prelude.{◌≡◌, ◌<◌, ◌++◌, ℕ, All, OnOk, codes, cond, length, nat_eq};
+ghost use Rattle.std.specs.Prelude.{[]};
+ghost use Rattle.pg_base.specs.Sets.{has};
+ghost use Rattle.eq_classes.specs.Clauses.{first_in};
+ghost use Rattle.eq_classes.specs.Listing.{class_at};
+ghost use Rattle.path_cost.specs.Columns.{AreTables};
+ghost use Rattle.pathkeys.specs.Finding.{class_numbers};
+ghost use Rattle.sql_query.specs.WellBound.{IsColumnOf, IsWellBound};
+ghost use Rattle.explain.specs.Texts as texts;
+ghost use Rattle.explain.specs.Texts.{direction_text, family_text};
+
+use catalog::Catalog;
+use eq_classes::ClassNo;
+use pg_base::{Memory, RelSet};
+use pg_expr::ColRef;
+use pg_value::Family;
+use plan_tree::{classes_of, range_of};
+use sql_query::Prepared;
+
+/// Appends the family of a key, where it is that of absolute values.
+fn put_family(text: &mut Vec<u8>, family: Family) -> Result<(), Memory>
+    ensures { OnOk result (text.new.items ≡ text.old.items ++ family_text family) }
+{
+    match family {
+        Family::IntAbs => text.extend_from_slice(b" int_abs_ops"),
+        _ => Ok(()),
+    }
+}
+
+/// Appends the direction of a key and the place of NULL, where they do not go without saying.
+fn put_direction(text: &mut Vec<u8>, descending: bool, nulls_first: bool) -> Result<(), Memory>
+    ensures { OnOk result (text.new.items ≡ text.old.items ++ direction_text descending nulls_first) }
+{
+    match (descending, nulls_first) {
+        (true, true) => text.extend_from_slice(b" DESC"),
+        (true, false) => text.extend_from_slice(b" DESC NULLS LAST"),
+        (false, true) => text.extend_from_slice(b" NULLS FIRST"),
+        (false, false) => Ok(()),
+    }
+}
+
+/// Appends a column behind the alias of its relation.
+fn put_column(text: &mut Vec<u8>, cat: &Catalog, q: &Prepared, x: ColRef) -> Result<(), Memory>
+    requires tables { AreTables cat.now q.now.range }
+    requires column { IsColumnOf cat.now q.now.range x }
+    ensures { OnOk result (text.new.items ≡ text.old.items ++ texts.column_text cat.now q.now x) }
+{
+    let (table, alias) = &range_of(q).items()[x.rel.0 as usize];
+    text.extend_from_slice(alias.items())?;
+    text.push(b'.')?;
+    text.extend_from_slice(cat.column_name(*table, x.col))
+}
+
+/// Appends the first member of a class inside a set.
+fn put_member(
+    text: &mut Vec<u8>,
+    cat: &Catalog,
+    q: &Prepared,
+    set: RelSet,
+    c: ClassNo,
+) -> Result<(), Memory>
+    requires bound { IsWellBound cat.now q.now }
+    requires class { c.0 < length q.now.classes.classes }
+    ensures { OnOk result (text.new.items ≡ text.old.items ++ texts.member_text cat.now q.now (first_in (class_at q.now.classes.classes c.0) (has set.0))) }
+{
+    match classes_of(q).member(c, set) {
+        Some(x) => put_column(text, cat, q, x),
+        None => Ok(()),
+    }
+}
+
+/// Appends a key.
+fn put_key(
+    text: &mut Vec<u8>,
+    cat: &Catalog,
+    q: &Prepared,
+    set: RelSet,
+    c: ClassNo,
+) -> Result<(), Memory>
+    requires bound { IsWellBound cat.now q.now }
+    requires class { c.0 < length q.now.classes.classes }
+    ensures { OnOk result (text.new.items ≡ text.old.items ++ texts.key_text cat.now q.now (has set.0) c.0) }
+{
+    put_member(text, cat, q, set, c)?;
+    put_family(text, classes_of(q).family(c))?;
+    let (descending, nulls_first) = classes_of(q).direction(c);
+    put_direction(text, descending, nulls_first)
+}
+
+/// Appends a comma and a space, where a key is not the first.
+fn put_comma(text: &mut Vec<u8>, n: usize) -> Result<(), Memory>
+    ensures { OnOk result (text.new.items ≡ text.old.items ++ cond (nat_eq n 0) [] (codes ", ")) }
+{
+    if n > 0 {
+        text.extend_from_slice(b", ")?;
+    }
+    Ok(())
+}
+
+/// Appends keys by their first members inside a set.
+pub(crate) fn put_keys(
+    text: &mut Vec<u8>,
+    cat: &Catalog,
+    q: &Prepared,
+    set: RelSet,
+    keys: &[ClassNo],
+) -> Result<(), Memory>
+    requires bound { IsWellBound cat.now q.now }
+    requires classes { All (λ n. n < length q.now.classes.classes) (class_numbers keys.now) }
+    ensures { OnOk result (text.new.items ≡ text.old.items ++ texts.keys_text cat.now q.now (has set.0) (class_numbers keys.now)) }
+{
+    for n in 0..keys.len() {
+        put_comma(text, n)?;
+        put_key(text, cat, q, set, keys[n])?;
+    }
+    Ok(())
+}

@@ -1,0 +1,10 @@
+//! The text of a certificate: a line for each entry, and one for the best plan.
+#![tactic(auto)]
+
+mod bits;
+mod entries;
+mod keys;
+mod nodes;
+mod sets;
+
+pub use entries::certificate_text;

@@ -1,0 +1,18 @@
+use Rattle.std.proofs.Common.{◌∙◌, ap, sym}
+use Rattle.line_cursor.specs.Words.{word_end}
+use Rattle.line_cursor.proofs.WordLemmas.{parted, word-end, word-left}
+use Rattle.line_cursor.proofs.cursor.LineCursor.word.Goals as goal
+
+pub returns : goal.returns
+returns c =
+    let left = c.self.inside.left.now in
+    let n = c.word_length-end.result in
+    let r = word-left left n c.word_length-end.ensures.word in
+    record {
+      split = sym c.self.view_is ∙ r.0;
+      word = r.1;
+      stops = r.2;
+      only = λ w rest e h s.
+          let same = c.self.view_is ∙ e in
+          parted left w rest n same (c.word_length-end.ensures.word ∙ (ap word_end same ∙ word-end w rest h s));
+    }

@@ -46,9 +46,9 @@ returns-in_err-put_row-in-Some-clause-reads g c =
     omega (
       arith,
       looked_more (world_of c.args.at.now) c.args.at.now.q.now c.args.rows.now c.drawn.rows c.next.new.self _ _ _ _ _ _ _ c.drawn.invariant.drawn (limit_in c.args.at.now.q.now.window) c.drawn.invariant.within
-      (numbers c.items.result.now)
-      (some_left c.in_ok-next.field-0 c.in-Some.tuple c.items.result.now c.drawn.rows.left c.next.new.self.left c.in-Some.is c.items.ensures c.in_ok-next.ensures.some)
-      (sym c.is_wanted.ensures ∙ c.drawn-test.true),
+          (numbers c.items.result.now)
+          (some_left c.in_ok-next.field-0 c.in-Some.tuple c.items.result.now c.drawn.rows.left c.next.new.self.left c.in-Some.is c.items.ensures c.in_ok-next.ensures.some)
+          (sym c.is_wanted.ensures ∙ c.drawn-test.true),
       c.drawn.invariant.drawn.looked,
       c.in_ok-next.ensures.reads,
       c.in_err-put_row-in-Some.ensures.reads,

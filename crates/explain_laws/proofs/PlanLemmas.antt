@@ -103,8 +103,8 @@ module _ (c : Contents) (q : Query) where
       let m : Pair = record { startup = 0; total = price c q a } in
       let n : Pair = record { startup = 0; total = price c q b } in
       let one : numbers_text None m rows ++ x ≡ numbers_text None n rows ++ y =
-          append_cancel_left (window_text w) (numbers_text None m rows ++ x) (numbers_text None n rows ++ y)
-          (sym (append_assoc (window_text w) (numbers_text None m rows) x) ∙ e ∙ append_assoc (window_text w) (numbers_text None n rows) y) in
+      append_cancel_left (window_text w) (numbers_text None m rows ++ x) (numbers_text None n rows ++ y)
+      (sym (append_assoc (window_text w) (numbers_text None m rows) x) ∙ e ∙ append_assoc (window_text w) (numbers_text None n rows) y) in
       numbers-split None m n rows rows x y one
 
   -- a plan of which its lines tell all

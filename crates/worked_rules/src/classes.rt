@@ -1,22 +1,17 @@
 //! Small lists of conjuncts with their classes and clauses, and each call once with ample memory.
 
-ghost use Rattle.std.specs.Prelude.{◌≡◌, ◌≤◌, true, IfOk, IsTrue, length, nat_lt};
-ghost use Rattle.pg_base.specs.declared.limits.TheConstants.{MOST_CONJUNCTS};
-ghost use Rattle.pg_value.specs.declared.operators.Op.TheVariants.{Eq, AbsEq};
-ghost use Rattle.pg_expr.specs.declared.operand.Operand.TheVariants.{Col, Lit};
-ghost use Rattle.pg_value.specs.declared.value.Value.TheVariants.{Int};
-ghost use Rattle.pg_expr.specs.Cond.{compare, cond_and, no_conds};
+ghost use Rattle.std.specs.Prelude.{◌≡◌, ◌<◌, true, All, IfOk, IsTrue, length, nat_lt};
+ghost use Rattle.pg_value.specs.declared.value.SqlType.TheVariants.{Int8};
+ghost use Rattle.opfamily.specs.Answers.{does_exist};
 ghost use Rattle.pg_expr.specs.Columns.{each_column, each_column_of};
 ghost use Rattle.pg_expr.specs.Typed.{IsTyped, AreTyped};
 ghost use Rattle.pg_expr.specs.View.{cond, conds};
-ghost use Rattle.pg_value.specs.declared.value.SqlType.TheVariants.{Int8};
-ghost use Rattle.opfamily.specs.Answers.{does_exist};
 
 use eq_classes::{ClassNo, Classes, ClauseSet, OrderItem};
 use pg_base::{ColNo, Memory, RelNo, RelSet};
 use pg_expr::{Binding, ColRef, Expr, Exprs, Operand, is_same};
 use pg_value::{Family, Op, SqlType, Value};
-use std::alloc::Global;
+use std::alloc::{AllocError, Global};
 
 /// Columns of type int8.
 #[derive(Drop)]
@@ -52,36 +47,83 @@ fn column(rel: u8, col: u8) -> ColRef
     }
 }
 
-/// Two columns, equal in absolute value.
-fn equal_by_size(a: ColRef, b: ColRef) -> Expr
-    ensures { cond result ≡ compare AbsEq (Col a) (Col b) }
-{
-    Expr::Compare(Op::AbsEq, Operand::Col(a), Operand::Col(b))
+/// The sign of a comparison.
+#[derive(Clone, Copy)]
+enum Sign {
+    Equal,
+    AbsEqual,
+    Less,
+    Greater,
 }
 
-/// A column equal to a number.
-fn equal_to(a: ColRef, n: i64) -> Expr
-    ensures { cond result ≡ compare Eq (Col a) (Lit (Int n)) }
-{
-    Expr::Compare(Op::Eq, Operand::Col(a), Operand::Lit(Value::Int(n)))
+/// A conjunct or a clause of a case, over int8 columns: two columns, each by its relation and its place there, a column and a
+/// number, or a column that is not NULL.
+#[derive(Clone, Copy)]
+enum Part {
+    Two(Sign, u8, u8, u8, u8),
+    One(Sign, u8, u8, i64),
+    Given(u8, u8),
 }
 
-/// The first column of two relations compared.
-fn firsts(op: Op, a: u8, b: u8) -> Expr
-    ensures { cond result ≡ compare op (Col (record { rel = record { 0 = a }; col = record { 0 = 0 } })) (Col (record { rel = record { 0 = b }; col = record { 0 = 0 } })) }
+fn op_of(sign: Sign) -> Op
+    ensures { does_exist result Int8 Int8 ≡ true }
 {
-    Expr::Compare(op, Operand::Col(column(a, 0)), Operand::Col(column(b, 0)))
+    match sign {
+        Sign::Equal => Op::Eq,
+        Sign::AbsEqual => Op::AbsEq,
+        Sign::Less => Op::Lt,
+        Sign::Greater => Op::Gt,
+    }
 }
 
-fn three(alloc: Global, a: Expr, b: Expr, c: Expr) -> Result<Exprs, Memory>
-    ensures parts { IfOk result (λ es. conds es.items.items ≡ cond_and (cond a) (cond_and (cond b) (cond_and (cond c) no_conds))) }
-    ensures few { IfOk result (λ es. length es.items.items ≤ MOST_CONJUNCTS) }
+/// The expression of a part. Relations count below 16.
+fn expr_of(part: Part) -> Expr
+    ensures typed { IsTyped (λ c. Int8) (cond result) }
+    ensures rels { IsTrue (each_column (λ c. nat_lt c.rel.0 16) (cond result)) }
+    ensures bound { IsTrue (each_column (λ c. true) (cond result)) }
 {
-    let mut items = Vec::new(alloc);
-    items.push(a)?;
-    items.push(b)?;
-    items.push(c)?;
-    Ok(Exprs::from_vec(items))
+    match part {
+        Part::Two(sign, a, i, b, j) => Expr::Compare(
+            op_of(sign),
+            Operand::Col(column(a % 16, i)),
+            Operand::Col(column(b % 16, j)),
+        ),
+        Part::One(sign, a, i, n) => Expr::Compare(
+            op_of(sign),
+            Operand::Col(column(a % 16, i)),
+            Operand::Lit(Value::Int(n)),
+        ),
+        Part::Given(a, i) => Expr::IsNotNull(column(a % 16, i)),
+    }
+}
+
+/// The expressions of some parts.
+fn exprs_of(alloc: Global, parts: &[Part]) -> Result<Vec<Expr>, Memory>
+    ensures typed { IfOk result (λ es. AreTyped (λ c. Int8) (conds es.items)) }
+    ensures rels { IfOk result (λ es. IsTrue (each_column_of (λ c. nat_lt c.rel.0 16) (conds es.items))) }
+    ensures bound { IfOk result (λ es. IsTrue (each_column_of (λ c. true) (conds es.items))) }
+    ensures many { IfOk result (λ es. length es.items ≡ length parts.now) }
+{
+    let Some((part, others)) = parts.split_first() else {
+        return Ok(Vec::new(alloc));
+    };
+    let mut exprs = exprs_of(alloc, others)?;
+    exprs.insert(0, expr_of(*part))?;
+    Ok(exprs)
+}
+
+/// The most conjuncts of a case.
+const MOST: usize = 32;
+
+/// The classes of some parts and an order.
+fn classes_of(alloc: Global, parts: &[Part], order: &[OrderItem]) -> Result<Classes, Memory>
+    requires { All (λ i. i.col.rel.0 < 16) order.now }
+{
+    if parts.len() > MOST {
+        return Err(AllocError);
+    }
+    let conjuncts = Exprs::from_vec(exprs_of(alloc, parts)?);
+    Classes::build(alloc, conjuncts, order, &Wide { value: Value::Null })
 }
 
 /// Whether the clauses of a set are those wanted.
@@ -140,14 +182,30 @@ fn first_other(t: &Classes, rows: &[(Asked, &[u16])]) -> Option<Asked> {
     None
 }
 
-/// Three relations of one class, a comparison beside it, and an order.
+/// Whether the clauses are these parts, with the numbers of their conjuncts, 0 for none.
+fn has_clauses(alloc: Global, t: &Classes, wanted: &[Part], numbers: &[u16]) -> bool {
+    match exprs_of(alloc, wanted) {
+        Ok(exprs) => lists(t, &exprs, numbers),
+        Err(_) => false,
+    }
+}
+
+/// Three relations of one class, and a comparison beside it.
+const CHAIN_PARTS: [Part; 3] = [
+    Part::Two(Sign::Equal, 0, 0, 1, 0),
+    Part::Two(Sign::Less, 0, 0, 2, 0),
+    Part::Two(Sign::Equal, 1, 0, 2, 0),
+];
+
+const CHAIN_CLAUSES: [Part; 4] = [
+    Part::Two(Sign::Less, 0, 0, 2, 0),
+    Part::Two(Sign::Equal, 0, 0, 1, 0),
+    Part::Two(Sign::Equal, 0, 0, 2, 0),
+    Part::Two(Sign::Equal, 1, 0, 2, 0),
+];
+
+/// Their classes, with an order.
 fn chain_of(alloc: Global) -> Result<Classes, Memory> {
-    let conjuncts = three(
-        alloc,
-        firsts(Op::Eq, 0, 1),
-        firsts(Op::Lt, 0, 2),
-        firsts(Op::Eq, 1, 2),
-    )?;
     let order = [
         OrderItem {
             col: column(3, 1),
@@ -160,20 +218,7 @@ fn chain_of(alloc: Global) -> Result<Classes, Memory> {
             nulls_first: true,
         },
     ];
-    Classes::build(alloc, conjuncts, &order, &Wide { value: Value::Null })
-}
-
-/// Its clauses.
-fn clauses_of_chain(alloc: Global) -> Result<Vec<Expr>, Memory> {
-    let first = three(
-        alloc,
-        firsts(Op::Lt, 0, 2),
-        firsts(Op::Eq, 0, 1),
-        firsts(Op::Eq, 0, 2),
-    )?;
-    let mut all = first.items;
-    all.push(firsts(Op::Eq, 1, 2))?;
-    Ok(all)
+    classes_of(alloc, &CHAIN_PARTS, &order)
 }
 
 const CHAIN: [(Asked, &[u16]); 9] = [
@@ -191,9 +236,7 @@ const CHAIN: [(Asked, &[u16]); 9] = [
 #[test]
 fn chain(rt: HostRuntime) {
     let t = chain_of(rt.alloc()).expect(&rt, "classes");
-    let wanted = clauses_of_chain(rt.alloc()).expect(&rt, "clauses");
-    assert!(rt; t.count() == 4);
-    assert!(rt; lists(&t, &wanted, &[2, 0, 0, 0]));
+    assert!(rt; has_clauses(rt.alloc(), &t, &CHAIN_CLAUSES, &[2, 0, 0, 0]));
     assert!(rt; first_other(&t, &CHAIN).is_none());
 }
 
@@ -228,25 +271,17 @@ fn classes_of_chain(rt: HostRuntime) {
 }
 
 /// A column equal to itself, two of equal size, and one with a number.
-fn constants_of(alloc: Global) -> Result<Classes, Memory> {
-    let conjuncts = three(
-        alloc,
-        firsts(Op::Eq, 0, 0),
-        equal_by_size(column(0, 0), column(0, 1)),
-        equal_to(column(1, 0), 5),
-    )?;
-    Classes::build(alloc, conjuncts, &[], &Wide { value: Value::Null })
-}
+const CONSTANT_PARTS: [Part; 3] = [
+    Part::Two(Sign::Equal, 0, 0, 0, 0),
+    Part::Two(Sign::AbsEqual, 0, 0, 0, 1),
+    Part::One(Sign::Equal, 1, 0, 5),
+];
 
-/// Their clauses.
-fn clauses_of_constants(alloc: Global) -> Result<Exprs, Memory> {
-    three(
-        alloc,
-        Expr::IsNotNull(column(0, 0)),
-        equal_by_size(column(0, 0), column(0, 1)),
-        equal_to(column(1, 0), 5),
-    )
-}
+const CONSTANT_CLAUSES: [Part; 3] = [
+    Part::Given(0, 0),
+    Part::Two(Sign::AbsEqual, 0, 0, 0, 1),
+    Part::One(Sign::Equal, 1, 0, 5),
+];
 
 const CONSTANTS: [(Asked, &[u16]); 3] = [
     (Asked::Base(0), &[0, 1]),
@@ -264,74 +299,12 @@ fn has_constant_class(t: &Classes) -> bool {
 
 #[test]
 fn constants(rt: HostRuntime) {
-    let t = constants_of(rt.alloc()).expect(&rt, "classes");
-    let wanted = clauses_of_constants(rt.alloc()).expect(&rt, "clauses");
-    assert!(rt; lists(&t, wanted.items(), &[1, 0, 0]));
+    let t = classes_of(rt.alloc(), &CONSTANT_PARTS, &[]).expect(&rt, "classes");
+    assert!(rt; has_clauses(rt.alloc(), &t, &CONSTANT_CLAUSES, &[1, 0, 0]));
     assert!(rt; first_other(&t, &CONSTANTS).is_none());
     assert!(rt; t.class_of(column(0, 0), Family::Integer).is_none());
     assert!(rt; t.class_of(column(0, 1), Family::IntAbs) == Some(ClassNo(0)));
     assert!(rt; has_constant_class(&t));
-}
-
-/// The sign of a comparison.
-#[derive(Clone, Copy)]
-enum Sign {
-    Equal,
-    AbsEqual,
-    Greater,
-}
-
-/// A conjunct or a clause of a case, over int8 columns: two columns, each by its relation and its place there, or a column
-/// and a number.
-#[derive(Clone, Copy)]
-enum Part {
-    Two(Sign, u8, u8, u8, u8),
-    One(Sign, u8, u8, i64),
-}
-
-fn op_of(sign: Sign) -> Op
-    ensures { does_exist result Int8 Int8 ≡ true }
-{
-    match sign {
-        Sign::Equal => Op::Eq,
-        Sign::AbsEqual => Op::AbsEq,
-        Sign::Greater => Op::Gt,
-    }
-}
-
-/// The expression of a part. Relations count below 16.
-fn expr_of(part: Part) -> Expr
-    ensures typed { IsTyped (λ c. Int8) (cond result) }
-    ensures rels { IsTrue (each_column (λ c. nat_lt c.rel.0 16) (cond result)) }
-    ensures bound { IsTrue (each_column (λ c. true) (cond result)) }
-{
-    match part {
-        Part::Two(sign, a, i, b, j) => Expr::Compare(
-            op_of(sign),
-            Operand::Col(column(a % 16, i)),
-            Operand::Col(column(b % 16, j)),
-        ),
-        Part::One(sign, a, i, n) => Expr::Compare(
-            op_of(sign),
-            Operand::Col(column(a % 16, i)),
-            Operand::Lit(Value::Int(n)),
-        ),
-    }
-}
-
-/// The expressions of some parts.
-fn exprs_of(alloc: Global, parts: &[Part]) -> Result<Vec<Expr>, Memory>
-    ensures typed { IfOk result (λ es. AreTyped (λ c. Int8) (conds es.items)) }
-    ensures rels { IfOk result (λ es. IsTrue (each_column_of (λ c. nat_lt c.rel.0 16) (conds es.items))) }
-    ensures bound { IfOk result (λ es. IsTrue (each_column_of (λ c. true) (conds es.items))) }
-    ensures many { IfOk result (λ es. length es.items ≡ length parts.now) }
-{
-    let Some((part, others)) = parts.split_first() else {
-        return Ok(Vec::new(alloc));
-    };
-    let mut exprs = exprs_of(alloc, others)?;
-    exprs.insert(0, expr_of(*part))?;
-    Ok(exprs)
 }
 
 /// Conjuncts, their clauses, and the numbers of the conjuncts that these are, 0 for none.
@@ -443,22 +416,19 @@ const LISTS: [Row; 9] = [
 ];
 
 /// Whether the classes of these conjuncts have these clauses.
-fn are_listed(alloc: Global, row: Row) -> Result<bool, Memory> {
+fn are_listed(alloc: Global, row: Row) -> bool {
     let (conjuncts, clauses, numbers) = row;
-    if conjuncts.len() > 32 {
-        return Ok(false);
+    match classes_of(alloc, conjuncts, &[]) {
+        Ok(t) => has_clauses(alloc, &t, clauses, numbers),
+        Err(_) => false,
     }
-    let given = Exprs::from_vec(exprs_of(alloc, conjuncts)?);
-    let t = Classes::build(alloc, given, &[], &Wide { value: Value::Null })?;
-    let wanted = exprs_of(alloc, clauses)?;
-    Ok(lists(&t, &wanted, numbers))
 }
 
-/// The first conjuncts with other clauses.
-fn first_wrong<'a>(alloc: Global, rows: &[Row<'a>]) -> Option<&'a [Part]> {
-    for row in rows {
-        if !are_listed(alloc, *row).unwrap_or(false) {
-            return Some(row.0);
+/// The place of the first conjuncts with other clauses.
+fn first_wrong(alloc: Global, rows: &[Row]) -> Option<usize> {
+    for n in 0..rows.len() {
+        if !are_listed(alloc, rows[n]) {
+            return Some(n);
         }
     }
     None
@@ -466,5 +436,5 @@ fn first_wrong<'a>(alloc: Global, rows: &[Row<'a>]) -> Option<&'a [Part]> {
 
 #[test]
 fn clauses_of_small_lists(rt: HostRuntime) {
-    assert!(rt; first_wrong(rt.alloc(), &LISTS).is_none());
+    assert_eq!(rt; first_wrong(rt.alloc(), &LISTS), None);
 }

@@ -8,42 +8,87 @@ use pg_base::ColNo;
 use pg_value::{Family, Op, SqlType, Value};
 use std::cmp::Ordering;
 
+const SMALL: SqlType = SqlType::Int2;
+
+const BIG: SqlType = SqlType::Int8;
+
+const TEXT: SqlType = SqlType::Text;
+
+/// A name, and the operator class that has it.
+type Named<'a> = (&'a [u8], Option<OpClass>);
+
+const NAMED: [Named; 4] = [
+    (b"int4_ops", Some(OpClass::Int4Ops)),
+    (b"int2_abs_ops", Some(OpClass::Int2AbsOps)),
+    (b"INT4_OPS", None),
+    (b"int4_op", None),
+];
+
+/// The first name that another class has.
+fn first_named<'a>(rows: &[Named<'a>]) -> Option<&'a [u8]> {
+    for (name, class) in rows {
+        if class_named(name) != *class {
+            return Some(*name);
+        }
+    }
+    None
+}
+
+#[test]
+fn classes_by_name(rt: HostRuntime) {
+    assert!(rt; first_named(&NAMED).is_none());
+}
+
 #[test]
 fn answers_of_the_manual(rt: HostRuntime) {
-    assert_eq!(rt; class_named(b"int4_ops"), Some(OpClass::Int4Ops));
-    assert_eq!(rt; class_named(b"int2_abs_ops"), Some(OpClass::Int2AbsOps));
-    assert_eq!(rt; class_named(b"INT4_OPS"), None);
-    assert_eq!(rt; class_named(b"int4_op"), None);
-    assert_eq!(rt;
-        default_class(SqlType::Text, Method::Hash),
-        OpClass::TextOps
+    let (text, size) = (
+        default_class(TEXT, Method::Hash),
+        family(OpClass::Int8AbsOps),
     );
-    assert_eq!(rt; family(OpClass::Int8AbsOps), Family::IntAbs);
-    assert_eq!(rt; default_family(SqlType::Int2), Family::Integer);
-    assert!(rt; accepts(OpClass::BoolOps, Method::Hash, SqlType::Bool));
-    assert!(rt; !accepts(OpClass::Int4Ops, Method::Btree, SqlType::Int8));
-    assert!(rt; !accepts(OpClass::Int4AbsOps, Method::Hash, SqlType::Int4));
-    assert!(rt; operator_exists(Op::Ne, SqlType::Int2, SqlType::Int8));
-    assert!(rt; !operator_exists(Op::AbsLt, SqlType::Text, SqlType::Text));
-    assert!(rt; !operator_exists(Op::Eq, SqlType::Int4, SqlType::Bool));
+    let number = default_family(SqlType::Int2);
+    assert!(rt; (text, size, number) == (OpClass::TextOps, Family::IntAbs, Family::Integer));
+    let accepted = [
+        accepts(OpClass::BoolOps, Method::Hash, SqlType::Bool),
+        accepts(OpClass::Int4Ops, Method::Btree, SqlType::Int8),
+        accepts(OpClass::Int4AbsOps, Method::Hash, SqlType::Int4),
+    ];
+    assert!(rt; accepted == [true, false, false]);
+    let exists = [
+        operator_exists(Op::Ne, SMALL, BIG),
+        operator_exists(Op::AbsLt, TEXT, TEXT),
+        operator_exists(Op::Eq, SqlType::Int4, SqlType::Bool),
+    ];
+    assert!(rt; exists == [true, false, false]);
+}
+
+/// A family, a method, an operator, the types of its sides, and the number of its strategy.
+type Strategy = (Family, Method, Op, SqlType, SqlType, Option<u8>);
+
+const STRATEGIES: [Strategy; 8] = [
+    (Family::Integer, Method::Btree, Op::Lt, SMALL, BIG, Some(1)),
+    (Family::Integer, Method::Btree, Op::Gt, BIG, SMALL, Some(5)),
+    (Family::Integer, Method::Btree, Op::Ne, BIG, BIG, None),
+    (Family::Integer, Method::Hash, Op::Eq, SMALL, BIG, Some(1)),
+    (Family::Text, Method::Hash, Op::Ge, TEXT, TEXT, None),
+    (Family::Text, Method::Btree, Op::Eq, TEXT, SMALL, None),
+    (Family::IntAbs, Method::Btree, Op::AbsGe, BIG, BIG, Some(4)),
+    (Family::IntAbs, Method::Hash, Op::AbsEq, BIG, BIG, None),
+];
+
+/// The place of the first row with another strategy.
+fn first_strategy(rows: &[Strategy]) -> Option<usize> {
+    for n in 0..rows.len() {
+        let (family, method, op, left, right, number) = rows[n];
+        if strategy(family, method, op, left, right) != number {
+            return Some(n);
+        }
+    }
+    None
 }
 
 #[test]
 fn strategies_of_the_manual(rt: HostRuntime) {
-    let (small, big, text) = (SqlType::Int2, SqlType::Int8, SqlType::Text);
-    let cases = [
-        (Family::Integer, Method::Btree, Op::Lt, small, big, Some(1)),
-        (Family::Integer, Method::Btree, Op::Gt, big, small, Some(5)),
-        (Family::Integer, Method::Btree, Op::Ne, big, big, None),
-        (Family::Integer, Method::Hash, Op::Eq, small, big, Some(1)),
-        (Family::Text, Method::Hash, Op::Ge, text, text, None),
-        (Family::Text, Method::Btree, Op::Eq, text, small, None),
-        (Family::IntAbs, Method::Btree, Op::AbsGe, big, big, Some(4)),
-        (Family::IntAbs, Method::Hash, Op::AbsEq, big, big, None),
-    ];
-    for (f, m, op, l, r, want) in cases {
-        assert_eq!(rt; strategy(f, m, op, l, r), want);
-    }
+    assert_eq!(rt; first_strategy(&STRATEGIES), None);
 }
 
 fn key(class: OpClass, descending: bool, nulls_first: bool) -> IndexKey {
@@ -55,23 +100,46 @@ fn key(class: OpClass, descending: bool, nulls_first: bool) -> IndexKey {
     }
 }
 
+/// Two lists of two values, the second of each none for NULL, and how the first stands to the second.
+type Compared = (i64, Option<i64>, i64, Option<i64>, Ordering);
+
+const COMPARED: [Compared; 6] = [
+    (1, Some(1), 2, Some(1), Ordering::Less),
+    (1, Some(-1), 1, Some(1), Ordering::Equal),
+    (1, Some(-3), 1, Some(2), Ordering::Less),
+    (1, None, 1, Some(2), Ordering::Less),
+    (2, None, 1, Some(2), Ordering::Greater),
+    (1, None, 1, None, Ordering::Equal),
+];
+
+fn value(n: Option<i64>) -> Value {
+    match n {
+        Some(n) => Value::Int(n),
+        None => Value::Null,
+    }
+}
+
+fn order(keys: &[IndexKey], row: Compared) -> Ordering {
+    let left = [Value::Int(row.0), value(row.1)];
+    let right = [Value::Int(row.2), value(row.3)];
+    keys_order(keys, &left, &right)
+}
+
+/// The first lists with another order.
+fn first_order(keys: &[IndexKey], rows: &[Compared]) -> Option<Compared> {
+    for row in rows {
+        if order(keys, *row) != row.4 {
+            return Some(*row);
+        }
+    }
+    None
+}
+
 #[test]
 fn lists_of_two_keys(rt: HostRuntime) {
     let keys = [
         key(OpClass::Int4Ops, false, false),
         key(OpClass::Int8AbsOps, true, true),
     ];
-    let cases = [
-        (1, Some(1), 2, Some(1), Ordering::Less),
-        (1, Some(-1), 1, Some(1), Ordering::Equal),
-        (1, Some(-3), 1, Some(2), Ordering::Less),
-        (1, None, 1, Some(2), Ordering::Less),
-        (2, None, 1, Some(2), Ordering::Greater),
-        (1, None, 1, None, Ordering::Equal),
-    ];
-    for (a, b, c, d, order) in cases {
-        let left = [Value::Int(a), b.map_or(Value::Null, Value::Int)];
-        let right = [Value::Int(c), d.map_or(Value::Null, Value::Int)];
-        assert_eq!(rt; keys_order(&keys, &left, &right), order);
-    }
+    assert_eq!(rt; first_order(&keys, &COMPARED), None);
 }

@@ -46,59 +46,30 @@ fn column(rel: u8, col: u8) -> ColRef {
     }
 }
 
-/// Column 0, 1 or 2 of relation 1 beside a number, as a clause.
-fn clause(col: u8, op: Op, n: i64) -> Expr {
+/// A column of a relation beside a number.
+fn compared(rel: u8, col: u8, op: Op, n: i64) -> Expr {
     Expr::Compare(
         op,
-        Operand::Col(column(1, col)),
+        Operand::Col(column(rel, col)),
         Operand::Lit(Value::Int(n)),
     )
 }
 
-/// The same of relation 0, as a goal.
-fn goal(col: u8, op: Op, n: i64) -> Expr {
-    Expr::Compare(
-        op,
-        Operand::Col(column(0, col)),
-        Operand::Lit(Value::Int(n)),
-    )
-}
-
-/// That a column of relation 0 is not NULL, as a goal.
-fn given(col: u8) -> Expr {
-    Expr::IsNotNull(column(0, col))
-}
-
-/// Two conditions joined by OR, or by AND.
-fn joined(alloc: Global, is_or: bool, first: Expr, second: Expr) -> Result<Expr, AllocError> {
-    let mut parts = Vec::new(alloc);
-    parts.push(first)?;
-    parts.push(second)?;
-    let parts = Exprs::from_vec(parts);
-    Ok(if is_or {
-        Expr::Or(parts)
-    } else {
-        Expr::And(parts)
-    })
-}
-
-/// That the flag of a relation is not true, as NOT has it.
-fn not_flag(alloc: Global, rel: u8) -> Result<Expr, AllocError> {
-    let flag = Box::new(alloc, Expr::BoolCol(column(rel, 2)))?;
-    Ok(Expr::Not(flag))
+fn column_of(typed: SqlType) -> Column {
+    Column {
+        typed,
+        not_null: false,
+    }
 }
 
 /// Three columns: int4, int8, bool.
 fn columns(alloc: Global) -> Result<Columns, AllocError> {
-    let of_type = |typed| Column {
-        typed,
-        not_null: false,
-    };
-    Ok(Columns::from_vec(vec![in alloc;
-        of_type(SqlType::Int4),
-        of_type(SqlType::Int8),
-        of_type(SqlType::Bool),
-    ]?))
+    let columns = [
+        column_of(SqlType::Int4),
+        column_of(SqlType::Int8),
+        column_of(SqlType::Bool),
+    ];
+    Ok(Columns::from_vec(Vec::from_slice(alloc, &columns)?))
 }
 
 /// A comparison of a clause, one of a goal, and whether the first implies the second.
@@ -133,15 +104,24 @@ const COMPARISONS: [Row; 26] = [
     (Op::AbsEq, 5, Op::Ne, 6, false),
 ];
 
-/// The first row whose answer is another one, or whose clause implies a comparison of another column.
+/// Whether clauses imply a comparison of a column of relation 0.
+fn do_imply(columns: &Columns, given: &Clauses, col: u8, op: Op, n: i64) -> bool {
+    let goal = compared(0, col, op, n);
+    implies(given, &goal, columns)
+}
+
+/// Whether a row has this answer, and its clause implies no comparison of another column.
+fn is_row(columns: &Columns, row: Row) -> bool {
+    let given = Clauses::One(compared(1, 0, row.0, row.1));
+    let own = do_imply(columns, &given, 0, row.2, row.3);
+    let other = do_imply(columns, &given, 1, row.2, row.3);
+    own == row.4 && !other
+}
+
+/// The first row with another answer.
 fn first_wrong(columns: &Columns, rows: &[Row]) -> Option<Row> {
     for row in rows {
-        let (op, n, other, m, want) = *row;
-        let clauses = Clauses::One(clause(0, op, n));
-        if implies(&clauses, &goal(0, other, m), columns) != want {
-            return Some(*row);
-        }
-        if implies(&clauses, &goal(1, other, m), columns) {
+        if !is_row(columns, *row) {
             return Some(*row);
         }
     }
@@ -154,52 +134,121 @@ fn comparisons_with_numbers(rt: HostRuntime) {
     assert!(rt; first_wrong(&columns, &COMPARISONS).is_none());
 }
 
-#[test]
-fn each_part_of_a_goal(rt: HostRuntime) {
-    let columns = columns(rt.alloc()).expect(&rt, "columns");
-    let both = joined(rt.alloc(), false, goal(0, Op::Gt, 5), goal(1, Op::Ne, 8));
-    let both = both.expect(&rt, "a goal");
-    let tens = Clauses::Two(clause(0, Op::Gt, 10), clause(1, Op::Eq, 7));
-    let ten = Clauses::One(clause(0, Op::Gt, 10));
-    assert!(rt; implies(&tens, &given(1), &columns));
-    assert!(rt; !implies(&tens, &given(2), &columns));
-    assert!(rt; implies(&tens, &both, &columns));
-    assert!(rt; !implies(&ten, &both, &columns));
+/// A column beside a number.
+type Compared = (u8, Op, i64);
+
+/// A condition on the columns of one relation: a column beside a number or NULL, a column that is not NULL, two comparisons
+/// joined, that the flag is not true, as NOT has it, and True.
+#[derive(Clone, Copy)]
+enum Part {
+    Compare(u8, Op, i64),
+    CompareNull(u8, Op),
+    Given(u8),
+    And(Compared, Compared),
+    Or(Compared, Compared),
+    NotFlag,
+    True,
 }
 
-/// A number below 0 in one column, and 1 or 2 in another.
-fn alternatives(alloc: Global) -> Result<Clauses, AllocError> {
-    let one_of = joined(alloc, true, clause(0, Op::Eq, 1), clause(0, Op::Eq, 2))?;
-    Ok(Clauses::Two(clause(1, Op::Lt, 0), one_of))
+/// Two comparisons of a relation.
+fn both(alloc: Global, rel: u8, first: Compared, second: Compared) -> Result<Exprs, AllocError> {
+    let mut exprs = Vec::new(alloc);
+    exprs.push(compared(rel, first.0, first.1, first.2))?;
+    exprs.push(compared(rel, second.0, second.1, second.2))?;
+    Ok(Exprs::from_vec(exprs))
+}
+
+/// The condition of a relation.
+fn expr(alloc: Global, rel: u8, part: Part) -> Result<Expr, AllocError> {
+    match part {
+        Part::Compare(col, op, n) => Ok(compared(rel, col, op, n)),
+        Part::CompareNull(col, op) => {
+            let null = Operand::Lit(Value::Null);
+            Ok(Expr::Compare(op, Operand::Col(column(rel, col)), null))
+        }
+        Part::Given(col) => Ok(Expr::IsNotNull(column(rel, col))),
+        Part::And(first, second) => Ok(Expr::And(both(alloc, rel, first, second)?)),
+        Part::Or(first, second) => Ok(Expr::Or(both(alloc, rel, first, second)?)),
+        Part::NotFlag => Ok(Expr::Not(Box::new(alloc, Expr::BoolCol(column(rel, 2)))?)),
+        Part::True => Ok(Expr::Const(Truth::True)),
+    }
+}
+
+/// The conditions of relation 1 as clauses.
+fn clauses_of(alloc: Global, parts: &[Part]) -> Result<Clauses, AllocError> {
+    match parts {
+        [] => Ok(Clauses::Nothing(Expr::Const(Truth::True))),
+        [one] => Ok(Clauses::One(expr(alloc, 1, *one)?)),
+        [first, second, ..] => {
+            let first = expr(alloc, 1, *first)?;
+            let second = expr(alloc, 1, *second)?;
+            Ok(Clauses::Two(first, second))
+        }
+    }
+}
+
+/// At most two clauses, a goal, and whether the clauses imply it.
+type Implied<'a> = (&'a [Part], Part, bool);
+
+const TENS: &[Part] = &[Part::Compare(0, Op::Gt, 10), Part::Compare(1, Op::Eq, 7)];
+
+const BOTH: Part = Part::And((0, Op::Gt, 5), (1, Op::Ne, 8));
+
+const ONE_OF: &[Part] = &[
+    Part::Compare(1, Op::Lt, 0),
+    Part::Or((0, Op::Eq, 1), (0, Op::Eq, 2)),
+];
+
+const IMPLIED: [Implied; 12] = [
+    // each part of a goal
+    (TENS, Part::Given(1), true),
+    (TENS, Part::Given(2), false),
+    (TENS, BOTH, true),
+    (&[Part::Compare(0, Op::Gt, 10)], BOTH, false),
+    // each alternative of a clause
+    (ONE_OF, Part::Compare(0, Op::Lt, 3), true),
+    (ONE_OF, Part::Compare(0, Op::Lt, 2), false),
+    (ONE_OF, Part::Or((0, Op::Eq, 2), (0, Op::Le, 1)), true),
+    // NULL, and no clause
+    (&[Part::CompareNull(0, Op::Lt)], Part::Given(0), true),
+    (
+        &[Part::CompareNull(0, Op::Lt)],
+        Part::Compare(0, Op::Le, 5),
+        false,
+    ),
+    (&[], Part::True, false),
+    // a negated flag is its own goal
+    (&[Part::NotFlag], Part::NotFlag, true),
+    (&[Part::NotFlag], Part::Given(2), false),
+];
+
+/// Whether clauses imply the condition of relation 0; none for want of memory.
+fn does_imply(alloc: Global, columns: &Columns, given: &Clauses, goal: Part) -> Option<bool> {
+    match expr(alloc, 0, goal) {
+        Ok(goal) => Some(implies(given, &goal, columns)),
+        Err(_) => None,
+    }
+}
+
+fn is_implied(alloc: Global, columns: &Columns, row: Implied) -> bool {
+    match clauses_of(alloc, row.0) {
+        Ok(given) => does_imply(alloc, columns, &given, row.1) == Some(row.2),
+        Err(_) => false,
+    }
+}
+
+/// The place of the first row with another answer.
+fn first_other(alloc: Global, columns: &Columns, rows: &[Implied]) -> Option<usize> {
+    for n in 0..rows.len() {
+        if !is_implied(alloc, columns, rows[n]) {
+            return Some(n);
+        }
+    }
+    None
 }
 
 #[test]
-fn each_alternative_of_a_clause(rt: HostRuntime) {
+fn parts_of_goals_and_clauses(rt: HostRuntime) {
     let columns = columns(rt.alloc()).expect(&rt, "columns");
-    let turned = joined(rt.alloc(), true, goal(0, Op::Eq, 2), goal(0, Op::Le, 1));
-    let turned = turned.expect(&rt, "a goal");
-    let clauses = alternatives(rt.alloc()).expect(&rt, "clauses");
-    assert!(rt; implies(&clauses, &goal(0, Op::Lt, 3), &columns));
-    assert!(rt; !implies(&clauses, &goal(0, Op::Lt, 2), &columns));
-    assert!(rt; implies(&clauses, &turned, &columns));
-}
-
-#[test]
-fn nulls_and_no_clauses(rt: HostRuntime) {
-    let columns = columns(rt.alloc()).expect(&rt, "columns");
-    let null = Operand::Lit(Value::Null);
-    let null = Clauses::One(Expr::Compare(Op::Lt, Operand::Col(column(1, 0)), null));
-    let nothing = Clauses::Nothing(Expr::Const(Truth::True));
-    assert!(rt; implies(&null, &given(0), &columns));
-    assert!(rt; !implies(&null, &goal(0, Op::Le, 5), &columns));
-    assert!(rt; !implies(&nothing, &Expr::Const(Truth::True), &columns));
-}
-
-#[test]
-fn a_negated_flag_is_its_own_goal(rt: HostRuntime) {
-    let columns = columns(rt.alloc()).expect(&rt, "columns");
-    let same = not_flag(rt.alloc(), 0).expect(&rt, "a goal");
-    let flag = Clauses::One(not_flag(rt.alloc(), 1).expect(&rt, "a clause"));
-    assert!(rt; implies(&flag, &same, &columns));
-    assert!(rt; !implies(&flag, &given(2), &columns));
+    assert_eq!(rt; first_other(rt.alloc(), &columns, &IMPLIED), None);
 }

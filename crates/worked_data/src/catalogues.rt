@@ -1,11 +1,13 @@
 //! The calls on a small catalogue, with ample memory. What is refused is told with its place.
 
-ghost use Rattle.std.specs.Prelude.{◌≡◌, ◌<◌, ◌≤◌, ◌+◌, [], true, IfOk};
+ghost use Rattle.std.specs.Prelude.{◌≡◌, ◌<◌, [], true, All, IfOk, length};
 ghost use Rattle.pg_base.specs.Names.{begins_name};
 ghost use Rattle.pg_value.specs.declared.value.SqlType.TheVariants.{Text as TextType};
-ghost use Rattle.catalog.specs.Entries.{index_of, statistics};
+ghost use Rattle.catalog.specs.Contents.{IsTable};
+ghost use Rattle.catalog.specs.Entries.{index_of};
 ghost use Rattle.catalog.specs.Indexes.{FitsColumns};
-ghost use Rattle.catalog.specs.Statistics.{AreValuesOf};
+ghost use Rattle.catalog.specs.Known.{statistics};
+ghost use Rattle.catalog.specs.Statistics.{AreValuesOf, IsValueOf};
 ghost use Rattle.catalog.specs.TextTables.{HasTexts, texts};
 
 use catalog::{Catalog, CatalogFault, ColumnStats, IndexDef};
@@ -14,225 +16,321 @@ use opfamily::{IndexKey, Method, OpClass};
 use pg_base::{ColNo, IndexNo, Memory, TableNo};
 use pg_value::{SqlType, Value};
 use std::alloc::Global;
-use std::test::Fail;
 
+/// A letter that names a table, a column or an index.
+#[derive(Clone, Copy)]
+pub(crate) enum Letter {
+    A,
+    B,
+    I,
+    T,
+    U,
+}
+
+fn byte(letter: Letter) -> u8
+    ensures { begins_name result ≡ true }
+{
+    match letter {
+        Letter::A => b'a',
+        Letter::B => b'b',
+        Letter::I => b'i',
+        Letter::T => b't',
+        Letter::U => b'u',
+    }
+}
+
+/// Adds a table of two text columns.
 fn add(
     catalog: &mut Catalog,
     alloc: Global,
-    table: u8,
-    first: u8,
-    second: u8,
-) -> Result<TableNo, CatalogFault>
-    requires table { begins_name table ≡ true }
-    requires first { begins_name first ≡ true }
-    requires second { begins_name second ≡ true }
-{
-    let names = names(alloc, &[first, second])?;
-    catalog.add_table(
-        name(alloc, table)?,
-        names,
-        columns(alloc, &[SqlType::Text, SqlType::Text])?,
-    )
+    table: Letter,
+    first: Letter,
+    second: Letter,
+) -> Result<TableNo, CatalogFault> {
+    let columns = columns(alloc, &[SqlType::Text, SqlType::Text])?;
+    let named = name(alloc, byte(table))?;
+    let names = names(alloc, &[byte(first), byte(second)])?;
+    catalog.add_table(named, names, columns)
 }
 
 /// A catalogue of one table `t` of two text columns.
-fn small(alloc: Global) -> Result<Catalog, CatalogFault>
+pub(crate) fn small(alloc: Global) -> Result<Catalog, CatalogFault>
     ensures { IfOk result HasTexts }
 {
     let mut catalog = Catalog::new(alloc);
+    let columns = columns(alloc, &[SqlType::Text, SqlType::Text])?;
+    let named = name(alloc, b't')?;
     let names = names(alloc, b"ab")?;
-    catalog.add_table(
-        name(alloc, b't')?,
-        names,
-        columns(alloc, &[SqlType::Text, SqlType::Text])?,
-    )?;
+    catalog.add_table(named, names, columns)?;
     Ok(catalog)
 }
 
-/// An index of table `t` over its first column, so many times, with its second in INCLUDE so many times.
-fn definition(
+/// The second column, so often.
+fn seconds(alloc: Global, count: u8) -> Result<Vec<ColNo>, Memory>
+    ensures columns { IfOk result (λ v. All (λ c. c.0 < 2) v.items) }
+    ensures count { IfOk result (λ v. length v.items ≡ count) }
+{
+    let mut columns = Vec::new(alloc);
+    for _ in 0..count {
+        columns.push(ColNo(1))?;
+    }
+    Ok(columns)
+}
+
+/// An index of table `t` over its first column, with its second in INCLUDE so often.
+pub(crate) fn definition(
     alloc: Global,
     method: Method,
-    keys: usize,
     descending: bool,
-    others: usize,
+    others: u8,
 ) -> Result<IndexDef, Memory>
-    requires some { 0 < keys }
-    requires few { keys + others ≤ 4 }
+    requires { others < 3 }
     ensures table { IfOk result (λ d. d.table.0 ≡ 0) }
     ensures fits { IfOk result (λ d. FitsColumns texts (index_of d)) }
 {
-    let mut listed = Vec::new(alloc);
-    for _ in 0..keys {
-        listed.push(IndexKey {
-            col: ColNo(0),
-            class: OpClass::TextOps,
-            descending,
-            nulls_first: false,
-        })?;
-    }
-    let mut include = Vec::new(alloc);
-    for _ in 0..others {
-        include.push(ColNo(1))?;
-    }
+    let include = seconds(alloc, others)?;
+    let mut keys = Vec::new(alloc);
+    keys.push(IndexKey {
+        col: ColNo(0),
+        class: OpClass::TextOps,
+        descending,
+        nulls_first: false,
+    })?;
     Ok(IndexDef {
         table: TableNo(0),
         method,
-        keys: listed,
+        keys,
         include,
         predicate: None,
     })
 }
 
-fn index(
+/// An index by its name, its method, whether its key descends, and how often the second column is in INCLUDE.
+pub(crate) type Indexed = (Letter, Method, bool, u8);
+
+/// Adds an index of table `t`. Columns in INCLUDE count below 3.
+pub(crate) fn index(
     catalog: &mut Catalog,
     alloc: Global,
-    letter: u8,
-    method: Method,
-    keys: (usize, bool),
-    others: usize,
+    of: Indexed,
 ) -> Result<IndexNo, CatalogFault>
-    requires texts { HasTexts catalog.old }
-    requires letter { begins_name letter ≡ true }
-    requires some { 0 < keys.0 }
-    requires few { keys.0 + others ≤ 4 }
-    ensures { HasTexts catalog.new }
-{
-    let def = definition(alloc, method, keys.0, keys.1, others)?;
-    catalog.add_index(name(alloc, letter)?, def)
-}
-
-/// What is known of a text column, its values by their one letter.
-fn known(
-    alloc: Global,
-    numbers: (u64, u32),
-    common: &[(u8, u32)],
-    histogram: &[u8],
-) -> Result<ColumnStats, CatalogFault>
-    ensures { IfOk result (λ s. AreValuesOf TextType (statistics s)) }
-{
-    let mut values = Vec::new(alloc);
-    for n in 0..common.len() {
-        values.push((Value::Text(name(alloc, common[n].0)?), common[n].1))?;
-    }
-    let mut bounds = Vec::new(alloc);
-    for n in 0..histogram.len() {
-        bounds.push(Value::Text(name(alloc, histogram[n])?))?;
-    }
-    Ok(ColumnStats {
-        distinct: numbers.0,
-        nulls: numbers.1,
-        common: values,
-        histogram: bounds,
-    })
-}
-
-fn keep(
-    catalog: &mut Catalog,
-    alloc: Global,
-    numbers: (u64, u32),
-    common: &[(u8, u32)],
-    histogram: &[u8],
-) -> Result<(), CatalogFault>
     requires { HasTexts catalog.old }
     ensures { HasTexts catalog.new }
 {
-    let s = known(alloc, numbers, common, histogram)?;
+    let (letter, method, descending, others) = of;
+    let def = definition(alloc, method, descending, others % 3)?;
+    let named = name(alloc, byte(letter))?;
+    catalog.add_index(named, def)
+}
+
+/// A text of one letter.
+fn text(alloc: Global, letter: u8) -> Result<Value, Memory>
+    ensures { IfOk result (IsValueOf TextType) }
+{
+    let bytes = name(alloc, letter)?;
+    Ok(Value::Text(bytes))
+}
+
+/// Texts with their shares.
+fn common_texts(alloc: Global, common: &[(u8, u32)]) -> Result<Vec<(Value, u32)>, Memory>
+    ensures { IfOk result (λ v. All (λ p. IsValueOf TextType p.0) v.items) }
+{
+    let mut texts = Vec::new(alloc);
+    for (letter, share) in common {
+        texts.push((text(alloc, *letter)?, *share))?;
+    }
+    Ok(texts)
+}
+
+fn texts_of(alloc: Global, letters: &[u8]) -> Result<Vec<Value>, Memory>
+    ensures { IfOk result (λ v. All (IsValueOf TextType) v.items) }
+{
+    let mut texts = Vec::new(alloc);
+    for letter in letters {
+        texts.push(text(alloc, *letter)?)?;
+    }
+    Ok(texts)
+}
+
+/// What is said of a text column: how many values it has and its share of NULL, its common values with their shares, and
+/// the bounds of its histogram, each text by its one letter.
+pub(crate) type Said<'a> = (u64, u32, &'a [(u8, u32)], &'a [u8]);
+
+fn known(alloc: Global, said: Said) -> Result<ColumnStats, Memory>
+    ensures { IfOk result (λ s. AreValuesOf TextType (statistics s)) }
+{
+    let common = common_texts(alloc, said.2)?;
+    let histogram = texts_of(alloc, said.3)?;
+    Ok(ColumnStats {
+        distinct: said.0,
+        nulls: said.1,
+        common,
+        histogram,
+    })
+}
+
+/// Keeps what is said of the second column of table `t`.
+pub(crate) fn keep(catalog: &mut Catalog, alloc: Global, said: Said) -> Result<(), CatalogFault>
+    requires { HasTexts catalog.old }
+    ensures { HasTexts catalog.new }
+{
+    let s = known(alloc, said)?;
     catalog.set_column(TableNo(0), ColNo(1), s)
 }
 
-#[test]
-fn tables(rt: HostRuntime) -> Result<(), Fail> {
-    let alloc = rt.alloc();
-    let mut catalog = Catalog::new(alloc);
-    assert_eq!(rt; add(&mut catalog, alloc, b't', b'a', b'b'), Ok(TableNo(0)));
-    assert_eq!(rt;
-        add(&mut catalog, alloc, b't', b'b', b'b'),
-        Err(CatalogFault::NameTaken)
-    );
-    assert_eq!(rt;
-        add(&mut catalog, alloc, b'u', b'b', b'b'),
-        Err(CatalogFault::ColumnTwice(1))
-    );
-    assert_eq!(rt; add(&mut catalog, alloc, b'u', b'b', b'a'), Ok(TableNo(1)));
-    assert_eq!(rt; catalog.table(b"u"), Some(TableNo(1)));
-    assert_eq!(rt; catalog.table(b"a"), None);
-    if let Some(t) = catalog.table(b"u") {
-        assert_eq!(rt; (catalog.rows(t), catalog.pages(t)), (1, 1));
-        let column = catalog.column(t, b"a");
-        assert_eq!(rt; column, Some(ColNo(1)));
-        if let Some(c) = column {
-            assert!(rt; *catalog.column_name(t, c) == *b"a".as_slice());
-            assert!(rt; catalog.stats(t, c).is_none());
+/// A table by its name and those of its columns, and its number or why it is refused.
+type Added = ([Letter; 3], Result<TableNo, CatalogFault>);
+
+const ADDED: [Added; 4] = [
+    ([Letter::T, Letter::A, Letter::B], Ok(TableNo(0))),
+    (
+        [Letter::T, Letter::B, Letter::B],
+        Err(CatalogFault::NameTaken),
+    ),
+    (
+        [Letter::U, Letter::B, Letter::B],
+        Err(CatalogFault::ColumnTwice(1)),
+    ),
+    ([Letter::U, Letter::B, Letter::A], Ok(TableNo(1))),
+];
+
+/// The place of the first table with another number or fault.
+fn first_added(catalog: &mut Catalog, alloc: Global, tables: &[Added]) -> Option<usize> {
+    for n in 0..tables.len() {
+        let (names, wanted) = &tables[n];
+        if add(catalog, alloc, names[0], names[1], names[2]) != *wanted {
+            return Some(n);
         }
-        catalog.set_loaded(t, 101);
-        assert_eq!(rt; (catalog.rows(t), catalog.pages(t)), (101, 2));
-        assert_eq!(rt; catalog.set_rows(t, 0, 0), Err(CatalogFault::BadNumber(0)));
-        assert_eq!(rt;
-            catalog.set_rows(t, 1, 1_000_000_001),
-            Err(CatalogFault::BadNumber(1))
-        );
-        assert_eq!(rt; catalog.set_rows(t, 7, 1_000_000_000), Ok(()));
-        assert_eq!(rt; (catalog.rows(t), catalog.pages(t)), (7, 1_000_000_000));
     }
-    Ok(())
+    None
+}
+
+/// Rows and pages that a statement gives, and why it is refused.
+type Sized = (u64, u64, Option<CatalogFault>);
+
+const SIZES: [Sized; 3] = [
+    (0, 0, Some(CatalogFault::BadNumber(0))),
+    (1, 1_000_000_001, Some(CatalogFault::BadNumber(1))),
+    (7, 1_000_000_000, None),
+];
+
+/// The first rows and pages with another fault.
+fn first_size(catalog: &mut Catalog, t: TableNo, sizes: &[Sized]) -> Option<(u64, u64)>
+    requires { IsTable catalog.old t }
+    ensures { IsTable catalog.new t }
+{
+    for (rows, pages, refused) in sizes {
+        if catalog.set_rows(t, *rows, *pages).err() != *refused {
+            return Some((*rows, *pages));
+        }
+    }
+    None
 }
 
 #[test]
-fn indexes(rt: HostRuntime) -> Result<(), Fail> {
-    let alloc = rt.alloc();
-    let mut catalog = small(alloc)?;
-    let (btree, hash) = (Method::Btree, Method::Hash);
+fn tables(rt: HostRuntime) {
+    let mut catalog = Catalog::new(rt.alloc());
+    assert_eq!(rt; first_added(&mut catalog, rt.alloc(), &ADDED), None);
+    assert_eq!(rt; catalog.table(b"u"), Some(TableNo(1)));
+    assert_eq!(rt; catalog.table(b"a"), None);
+    let t = catalog.table(b"u").expect(&rt, "a table");
+    assert_eq!(rt; (catalog.rows(t), catalog.pages(t)), (1, 1));
+    let column = catalog.column(t, b"a").expect(&rt, "a column");
+    assert_eq!(rt; column, ColNo(1));
+    assert!(rt; *catalog.column_name(t, column) == *b"a".as_slice());
+    assert!(rt; catalog.stats(t, column).is_none());
+    catalog.set_loaded(t, 101);
+    assert_eq!(rt; (catalog.rows(t), catalog.pages(t)), (101, 2));
+    assert_eq!(rt; first_size(&mut catalog, t, &SIZES), None);
+    assert_eq!(rt; (catalog.rows(t), catalog.pages(t)), (7, 1_000_000_000));
+}
+
+const INDEXED: [(Indexed, Result<IndexNo, CatalogFault>); 4] = [
+    (
+        (Letter::T, Method::Btree, false, 0),
+        Err(CatalogFault::NameTaken),
+    ),
+    (
+        (Letter::I, Method::Btree, false, 2),
+        Err(CatalogFault::ColumnTwice(2)),
+    ),
+    (
+        (Letter::I, Method::Hash, true, 0),
+        Err(CatalogFault::BadNumber(0)),
+    ),
+    ((Letter::I, Method::Btree, true, 1), Ok(IndexNo(0))),
+];
+
+/// The place of the first index with another number or fault.
+fn first_indexed(
+    catalog: &mut Catalog,
+    alloc: Global,
+    indexes: &[(Indexed, Result<IndexNo, CatalogFault>)],
+) -> Option<usize>
+    requires { HasTexts catalog.old }
+    ensures { HasTexts catalog.new }
+{
+    for n in 0..indexes.len() {
+        let (of, wanted) = &indexes[n];
+        if index(catalog, alloc, *of) != *wanted {
+            return Some(n);
+        }
+    }
+    None
+}
+
+#[test]
+fn indexes(rt: HostRuntime) {
+    let mut catalog = small(rt.alloc()).expect(&rt, "ample memory");
+    assert_eq!(rt; first_indexed(&mut catalog, rt.alloc(), &INDEXED), None);
     assert_eq!(rt;
-        index(&mut catalog, alloc, b't', btree, (1, false), 0),
-        Err(CatalogFault::NameTaken)
-    );
-    assert_eq!(rt;
-        index(&mut catalog, alloc, b'i', btree, (1, false), 2),
-        Err(CatalogFault::ColumnTwice(2))
-    );
-    assert_eq!(rt;
-        index(&mut catalog, alloc, b'i', hash, (1, true), 0),
-        Err(CatalogFault::BadNumber(0))
-    );
-    assert_eq!(rt;
-        index(&mut catalog, alloc, b'i', btree, (1, true), 1),
-        Ok(IndexNo(0))
-    );
-    assert_eq!(rt;
-        add(&mut catalog, alloc, b'i', b'a', b'b'),
+        add(&mut catalog, rt.alloc(), Letter::I, Letter::A, Letter::B),
         Err(CatalogFault::NameTaken)
     );
     assert_eq!(rt; catalog.index_named(b"i"), Some(IndexNo(0)));
     assert_eq!(rt; catalog.index_named(b"t"), None);
-    if let Some(i) = catalog.index_named(b"i") {
-        assert!(rt; *catalog.index_name(i) == *b"i".as_slice());
-        assert_eq!(rt; catalog.index(i).keys.len(), 1);
+    let i = catalog.index_named(b"i").expect(&rt, "an index");
+    assert!(rt; *catalog.index_name(i) == *b"i".as_slice());
+    assert_eq!(rt; catalog.index(i).keys.len(), 1);
+}
+
+/// Statistics that are kept or refused in turn.
+const SAID: [(Said, Option<CatalogFault>); 5] = [
+    ((0, 0, &[], b""), Some(CatalogFault::BadNumber(0))),
+    (
+        (3, 0, &[(b'x', 1), (b'x', 1)], b""),
+        Some(CatalogFault::BadNumber(4)),
+    ),
+    (
+        (3, 1, &[(b'x', 1_000_000)], b""),
+        Some(CatalogFault::BadNumber(3)),
+    ),
+    (
+        (3, 0, &[(b'x', 1)], b"xyyx"),
+        Some(CatalogFault::BadNumber(7)),
+    ),
+    ((3, 1, &[(b'x', 999_999)], b"xyy"), None),
+];
+
+/// The place of the first statistics with another fault.
+fn first_said(
+    catalog: &mut Catalog,
+    alloc: Global,
+    rows: &[(Said, Option<CatalogFault>)],
+) -> Option<usize>
+    requires { HasTexts catalog.old }
+{
+    for n in 0..rows.len() {
+        let (said, refused) = &rows[n];
+        if keep(catalog, alloc, *said).err() != *refused {
+            return Some(n);
+        }
     }
-    Ok(())
+    None
 }
 
 #[test]
-fn statistics_of_columns(rt: HostRuntime) -> Result<(), Fail> {
-    let alloc = rt.alloc();
-    let mut catalog = small(alloc)?;
-    let bad = |place| Err(CatalogFault::BadNumber(place));
-    assert_eq!(rt; keep(&mut catalog, alloc, (0, 0), &[], &[]), bad(0));
-    assert_eq!(rt;
-        keep(&mut catalog, alloc, (3, 0), &[(b'x', 1), (b'x', 1)], &[]),
-        bad(4)
-    );
-    assert_eq!(rt;
-        keep(&mut catalog, alloc, (3, 1), &[(b'x', 1_000_000)], &[]),
-        bad(3)
-    );
-    assert_eq!(rt;
-        keep(&mut catalog, alloc, (3, 0), &[(b'x', 1)], b"xyyx"),
-        bad(7)
-    );
-    assert_eq!(rt;
-        keep(&mut catalog, alloc, (3, 1), &[(b'x', 999_999)], b"xyy"),
-        Ok(())
-    );
-    Ok(())
+fn statistics_of_columns(rt: HostRuntime) {
+    let mut catalog = small(rt.alloc()).expect(&rt, "ample memory");
+    assert_eq!(rt; first_said(&mut catalog, rt.alloc(), &SAID), None);
 }

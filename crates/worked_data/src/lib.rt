@@ -1,8 +1,11 @@
-//! Catalogues, heaps, indexes and orders of worked data, and the lines that are printed.
+//! Catalogues and their copies, heaps, indexes with their leaves and buckets, orders of worked data, and the lines that are
+//! printed.
 #![tactic(auto)]
 
 #[cfg(test)]
 mod catalogues;
+#[cfg(test)]
+mod copies;
 #[cfg(test)]
 mod entries;
 #[cfg(test)]
@@ -13,6 +16,8 @@ mod hashed;
 mod heaps;
 #[cfg(test)]
 mod lists;
+#[cfg(test)]
+mod pages;
 #[cfg(test)]
 mod rows;
 #[cfg(test)]

@@ -19,57 +19,46 @@ fn column(family: Family, descending: bool, nulls_first: bool) -> SortColumn {
     }
 }
 
+/// Two rows of two keys, none for NULL, and how the first stands to the second.
+type Compared = ([Option<i64>; 2], [Option<i64>; 2], Ordering);
+
+const COMPARED: [Compared; 6] = [
+    ([Some(1), Some(1)], [Some(2), Some(1)], Ordering::Less),
+    ([Some(1), Some(-1)], [Some(1), Some(1)], Ordering::Equal),
+    ([Some(1), Some(-3)], [Some(1), Some(2)], Ordering::Less),
+    ([Some(1), None], [Some(1), Some(2)], Ordering::Less),
+    ([None, Some(1)], [Some(1), Some(2)], Ordering::Greater),
+    ([None, None], [None, None], Ordering::Equal),
+];
+
+fn value(n: Option<i64>) -> Value {
+    match n {
+        Some(n) => Value::Int(n),
+        None => Value::Null,
+    }
+}
+
+fn order(columns: &[SortColumn], left: [Option<i64>; 2], right: [Option<i64>; 2]) -> Ordering {
+    let (a, b) = (value(left[0]), value(left[1]));
+    let (c, d) = (value(right[0]), value(right[1]));
+    compare_keys(columns, &[&a, &b], &[&c, &d])
+}
+
+/// The first pair of rows with another order.
+fn first_other(columns: &[SortColumn], rows: &[Compared]) -> Option<Compared> {
+    for row in rows {
+        if order(columns, row.0, row.1) != row.2 {
+            return Some(*row);
+        }
+    }
+    None
+}
+
 #[test]
 fn keys_of_two_columns(rt: HostRuntime) {
     let columns = [
         column(Family::Integer, false, false),
         column(Family::IntAbs, true, true),
     ];
-    let cases = [
-        (
-            Value::Int(1),
-            Value::Int(1),
-            Value::Int(2),
-            Value::Int(1),
-            Ordering::Less,
-        ),
-        (
-            Value::Int(1),
-            Value::Int(-1),
-            Value::Int(1),
-            Value::Int(1),
-            Ordering::Equal,
-        ),
-        (
-            Value::Int(1),
-            Value::Int(-3),
-            Value::Int(1),
-            Value::Int(2),
-            Ordering::Less,
-        ),
-        (
-            Value::Int(1),
-            Value::Null,
-            Value::Int(1),
-            Value::Int(2),
-            Ordering::Less,
-        ),
-        (
-            Value::Null,
-            Value::Int(1),
-            Value::Int(1),
-            Value::Int(2),
-            Ordering::Greater,
-        ),
-        (
-            Value::Null,
-            Value::Null,
-            Value::Null,
-            Value::Null,
-            Ordering::Equal,
-        ),
-    ];
-    for (a, b, c, d, order) in &cases {
-        assert_eq!(rt; compare_keys(&columns, &[a, b], &[c, d]), *order);
-    }
+    assert_eq!(rt; first_other(&columns, &COMPARED), None);
 }

@@ -3,6 +3,6 @@ use Rattle.pg_base.specs.Sets.{has}
 use Rattle.heap.specs.Tuples.{rank}
 use Rattle.worked_data.proofs.heaps.tuples.Goals as goal
 
-pub pairs-requires : goal.pairs-requires
+pub pairs-three-requires : goal.pairs-three-requires
 unfolding has rank
-pairs-requires g c = refl
+pairs-three-requires g c = refl

@@ -1,0 +1,131 @@
+//! Copies of definitions, and what a change of a copy leaves.
+
+ghost use Rattle.std.specs.Prelude.{◌<◌, IfOk, length};
+ghost use Rattle.catalog.specs.Contents.{IsTable};
+
+use crate::catalogues::{Letter, definition, index, keep, small};
+use catalog::{Catalog, CatalogFault, ColumnStats, IndexDef};
+use opfamily::Method;
+use pg_base::{ColNo, Memory, RelNo, TableNo};
+use pg_expr::{ColRef, Expr, is_same};
+use pg_value::Value;
+use std::alloc::Global;
+
+/// Table `t` with rows, an index, and what is said of its second column.
+fn described(alloc: Global) -> Result<Catalog, CatalogFault>
+    ensures { IfOk result (λ c. 0 < length c.tables) }
+{
+    let mut catalog = small(alloc)?;
+    index(&mut catalog, alloc, (Letter::I, Method::Btree, true, 1))?;
+    keep(&mut catalog, alloc, (3, 1, &[(b'x', 999_999)], b"xyy"))?;
+    catalog.set_loaded(TableNo(0), 101);
+    Ok(catalog)
+}
+
+fn is_same_text(a: &Value, b: &Value) -> bool {
+    match (a, b) {
+        (Value::Text(a), Value::Text(b)) => a.items() == b.items(),
+        _ => false,
+    }
+}
+
+fn are_same_texts(a: &[Value], b: &[Value]) -> bool {
+    a.len() == b.len() && a.iter().zip(b).all(|(a, b)| is_same_text(a, b))
+}
+
+fn are_same_common(a: &[(Value, u32)], b: &[(Value, u32)]) -> bool {
+    a.len() == b.len()
+        && a.iter()
+            .zip(b)
+            .all(|(a, b)| is_same_text(&a.0, &b.0) && a.1 == b.1)
+}
+
+fn are_same_stats(a: Option<&ColumnStats>, b: Option<&ColumnStats>) -> bool {
+    match (a, b) {
+        (Some(a), Some(b)) => {
+            (a.distinct, a.nulls) == (b.distinct, b.nulls)
+                && are_same_common(&a.common, &b.common)
+                && are_same_texts(&a.histogram, &b.histogram)
+        }
+        (None, None) => true,
+        _ => false,
+    }
+}
+
+/// Whether a table has the same names, sizes and indexes in both.
+fn is_same_table(a: &Catalog, b: &Catalog, t: TableNo) -> bool
+    requires first { IsTable a.now t }
+    requires second { IsTable b.now t }
+{
+    a.table_name(t) == b.table_name(t)
+        && a.columns(t).items() == b.columns(t).items()
+        && (a.rows(t), a.pages(t)) == (b.rows(t), b.pages(t))
+        && a.indexes(t) == b.indexes(t)
+}
+
+/// Whether the same is known of a column in both.
+fn is_same_column(a: &Catalog, b: &Catalog, t: TableNo, name: &[u8]) -> bool
+    requires first { IsTable a.now t }
+    requires second { IsTable b.now t }
+{
+    match (a.column(t, name), b.column(t, name)) {
+        (Some(c), Some(d)) => c == d && are_same_stats(a.stats(t, c), b.stats(t, d)),
+        _ => false,
+    }
+}
+
+/// Whether both have the index `i` with the same definition.
+fn is_same_index(a: &Catalog, b: &Catalog) -> bool {
+    match (a.index_named(b"i"), b.index_named(b"i")) {
+        (Some(i), Some(j)) => is_same_definition(a.index(i), b.index(j)),
+        _ => false,
+    }
+}
+
+fn is_same_definition(a: &IndexDef, b: &IndexDef) -> bool {
+    a.table == b.table
+        && a.method == b.method
+        && a.keys.as_slice() == b.keys.as_slice()
+        && a.include.as_slice() == b.include.as_slice()
+        && are_same_predicates(&a.predicate, &b.predicate)
+}
+
+fn are_same_predicates(a: &Option<Expr>, b: &Option<Expr>) -> bool {
+    match (a, b) {
+        (Some(a), Some(b)) => is_same(a, b),
+        (None, None) => true,
+        _ => false,
+    }
+}
+
+#[test]
+fn a_copy_has_the_same_contents(rt: HostRuntime) {
+    let catalog = described(rt.alloc()).expect(&rt, "ample memory");
+    let mut copied = catalog.copy(rt.alloc()).expect(&rt, "ample memory");
+    let t = catalog.table(b"t").expect(&rt, "a table");
+    assert_eq!(rt; copied.table(b"t"), Some(t));
+    assert!(rt; is_same_table(&catalog, &copied, t));
+    assert!(rt; is_same_column(&catalog, &copied, t, b"a"));
+    assert!(rt; is_same_column(&catalog, &copied, t, b"b"));
+    assert!(rt; is_same_index(&catalog, &copied));
+    copied.set_loaded(t, 7);
+    assert_eq!(rt; (catalog.rows(t), copied.rows(t)), (101, 7));
+}
+
+/// An index of the rows whose second column is not NULL.
+fn partial(alloc: Global) -> Result<IndexDef, Memory> {
+    let mut def = definition(alloc, Method::Btree, true, 1)?;
+    def.predicate = Some(Expr::IsNotNull(ColRef {
+        rel: RelNo(0),
+        col: ColNo(1),
+    }));
+    Ok(def)
+}
+
+#[test]
+fn a_copy_of_a_definition_is_the_same(rt: HostRuntime) {
+    let def = partial(rt.alloc()).expect(&rt, "ample memory");
+    let copied = def.copy(rt.alloc()).expect(&rt, "ample memory");
+    assert!(rt; is_same_definition(&def, &copied));
+    assert!(rt; copied.predicate.is_some());
+}

@@ -1,0 +1,138 @@
+//! Leaves as they split, and slots as they are linked.
+
+ghost use Rattle.std.specs.Prelude.{◌≡◌, ◌<◌, ◌∷◌, [], IfOk};
+
+use crate::entries::{next_row, of_numbers, put};
+use btree_index::BTree;
+use linked::Links;
+use pg_base::Steps;
+use std::alloc::{AllocError, Global};
+use std::marker::Brand;
+use std::sync::ledger::{Blank, Ledger};
+
+/// Adds so many entries, the least number first or the greatest.
+fn put_numbers<L: Ledger>(
+    alloc: Global,
+    tree: &mut BTree<L>,
+    count: u32,
+    falling: bool,
+) -> Result<(), AllocError> {
+    for row in 0..count {
+        let number = if falling {
+            -i64::from(row)
+        } else {
+            i64::from(row)
+        };
+        put(alloc, tree, number, row)?;
+    }
+    Ok(())
+}
+
+/// How many leaves so many entries stand on.
+fn leaves_of<L: Ledger>(alloc: Global, count: u32, falling: bool) -> Result<u32, AllocError> {
+    let mut tree = of_numbers::<L>(alloc)?;
+    put_numbers(alloc, &mut tree, count, falling)?;
+    Ok(tree.leaves())
+}
+
+/// Numbers of entries, and on how many leaves they stand where each is put in behind the others, and where before them. 129
+/// are split into 64 and 65: 63 more fit on the second leaf, and 64 more on the first.
+const LEAVES: [(u32, u32, u32); 8] = [
+    (0, 1, 1),
+    (128, 1, 1),
+    (129, 2, 2),
+    (192, 2, 2),
+    (193, 3, 2),
+    (194, 3, 3),
+    (257, 4, 3),
+    (1_000, 15, 15),
+];
+
+/// The first row with other leaves.
+fn first_other<L: Ledger>(alloc: Global, rows: &[(u32, u32, u32)]) -> Option<u32> {
+    for (count, rising, falling) in rows {
+        if leaves_of::<L>(alloc, *count, false) != Ok(*rising)
+            || leaves_of::<L>(alloc, *count, true) != Ok(*falling)
+        {
+            return Some(*count);
+        }
+    }
+    None
+}
+
+#[test]
+fn full_leaves_are_split(rt: HostRuntime) {
+    assert_eq!(rt; first_other::<Brand>(rt.alloc(), &LEAVES), None);
+}
+
+/// Whether a cursor gives the rows from 0 up to a number, or the same from the last on, and no other.
+fn gives_all<L: Ledger>(tree: &BTree<L>, count: u32, backward: bool, steps: &mut Steps<L>) -> bool {
+    let mut cursor = tree.seek(&[], backward);
+    for n in 0..count {
+        let row = if backward { count - 1 - n } else { n };
+        if next_row(&mut cursor, steps) != Some(row) {
+            return false;
+        }
+    }
+    next_row(&mut cursor, steps).is_none()
+}
+
+/// Whether cursors both ways give a thousand entries that were put in by rising numbers.
+fn gives_thousand(alloc: Global) -> Result<[bool; 2], AllocError> {
+    gives_thousand_with::<Brand>(alloc, Blank::new(1))
+}
+
+fn gives_thousand_with<L: Ledger>(alloc: Global, blank: Blank) -> Result<[bool; 2], AllocError>
+    requires name { blank.name ≡ L.name }
+    requires parts { blank.parts ≡ L.parts }
+    requires some { 0 < blank.parts }
+{
+    let mut tree = of_numbers::<L>(alloc)?;
+    put_numbers(alloc, &mut tree, 1_000, false)?;
+    let mut steps = Steps::<L>::new(blank);
+    Ok([
+        gives_all(&tree, 1_000, false, &mut steps),
+        gives_all(&tree, 1_000, true, &mut steps),
+    ])
+}
+
+#[test]
+fn cursors_go_over_leaves_both_ways(rt: HostRuntime) {
+    let given = gives_thousand(rt.alloc()).expect(&rt, "ample memory");
+    assert_eq!(rt; given, [true, true]);
+}
+
+/// Three slots, each alone.
+fn three_slots(alloc: Global) -> Result<Links, AllocError>
+    ensures { IfOk result (λ l. l ≡ (0 ∷ []) ∷ (1 ∷ []) ∷ (2 ∷ []) ∷ []) }
+{
+    let mut links = Links::new(alloc);
+    links.add()?;
+    links.add()?;
+    links.add()?;
+    Ok(links)
+}
+
+#[test]
+fn slots_are_linked_both_ways(rt: HostRuntime) {
+    let mut links = three_slots(rt.alloc()).expect(&rt, "ample memory");
+    links.insert_after(0, 1);
+    links.insert_after(0, 2);
+    assert_eq!(rt;
+        [links.next(0), links.next(2), links.next(1)],
+        [Some(2), Some(1), None]
+    );
+    assert_eq!(rt;
+        [links.prev(0), links.prev(2), links.prev(1)],
+        [None, Some(0), Some(2)]
+    );
+    links.unlink(2);
+    assert_eq!(rt;
+        [links.next(0), links.next(1), links.next(2)],
+        [Some(1), None, None]
+    );
+    assert_eq!(rt;
+        [links.prev(0), links.prev(1), links.prev(2)],
+        [None, Some(0), None]
+    );
+}

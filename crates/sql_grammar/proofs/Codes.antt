@@ -2,7 +2,7 @@
 use Rattle.std.proofs.Common.{◌≡◌, ℕ, true, [], ◌∷◌, get_or, refl, sym, ap, ◌∙◌, nat_eq}
 use Rattle.std.proofs.lemmas.Bool.{eqb-true}
 use Rattle.sql_grammar.specs.declared.class.Free.{Free}
-use Rattle.sql_grammar.specs.declared.class.Free.TheVariants.{Analyze, By, Common, Copy, Csv, Distinct, Explain, First, Format, Histogram, Include, Index, Last, Nulls, Pages, Rows, Statistics, Stdin}
+use Rattle.sql_grammar.specs.declared.class.Free.TheVariants.{Advise, Analyze, By, Check, Common, Copy, Csv, Distinct, Explain, First, Format, Histogram, Include, Index, Last, Nulls, Pages, Plan, Rows, Statistics, Stdin, Use}
 use Rattle.sql_grammar.specs.declared.class.Word.{Word}
 use Rattle.sql_grammar.specs.declared.class.Word.TheVariants.{And, As, Asc, Create, Cross, Desc, False, From, Group, Inner, Is, Join, Limit, Not, Null, Offset, On, Or, Order, Select, Table, True, Using, Where, With}
 use Rattle.sql_grammar.specs.declared.class.Symbol.{Symbol}

@@ -8,7 +8,7 @@ use Rattle.std.proofs.lemmas.Bool.{false_from_ne_true}
 use Rattle.sql_grammar.specs.declared.class.Word.{Word}
 use Rattle.sql_grammar.specs.declared.class.Word.TheVariants.{And, As, Asc, Create, Cross, Desc, False, From, Group, Inner, Is, Join, Limit, Not, Null, Offset, On, Or, Order, Select, Table, True, Using, Where, With}
 use Rattle.sql_grammar.specs.declared.class.Free.{Free}
-use Rattle.sql_grammar.specs.declared.class.Free.TheVariants.{Analyze, By, Common, Copy, Csv, Distinct, Explain, First, Format, Histogram, Include, Index, Last, Nulls, Pages, Rows, Statistics, Stdin}
+use Rattle.sql_grammar.specs.declared.class.Free.TheVariants.{Advise, Analyze, By, Check, Common, Copy, Csv, Distinct, Explain, First, Format, Histogram, Include, Index, Last, Nulls, Pages, Plan, Rows, Statistics, Stdin, Use}
 use Rattle.sql_grammar.specs.Reading.{spelling_of, free_spelling_of}
 
 -- the spellings are in small letters

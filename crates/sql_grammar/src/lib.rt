@@ -26,5 +26,7 @@ pub use copy_line::data_start;
 pub use fault::fault_at;
 pub use laws::{one_expression, one_statement, words_are_tokens};
 pub use limits::limit_passed;
-pub use offered::{READS_ANALYZE, READS_WINDOW};
+pub use offered::{
+    READS_ADVISE, READS_ANALYZE, READS_CHECK, READS_PLAN, READS_TABLE, READS_WINDOW,
+};
 pub use walk::{cand_end, expr_end, select_end, statement_fault};

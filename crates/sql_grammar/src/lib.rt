@@ -12,6 +12,7 @@ mod laws;
 mod limits;
 mod offered;
 mod rows;
+mod rows_advise;
 mod rows_from;
 mod rows_index;
 mod rows_order;
@@ -29,4 +30,4 @@ pub use limits::limit_passed;
 pub use offered::{
     READS_ADVISE, READS_ANALYZE, READS_CHECK, READS_PLAN, READS_TABLE, READS_WINDOW,
 };
-pub use walk::{cand_end, expr_end, select_end, statement_fault};
+pub use walk::{cand_end, expr_end, select_end, statement_fault, windowed_select_end};

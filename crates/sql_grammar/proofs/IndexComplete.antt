@@ -47,7 +47,7 @@ ending-cand (semicolon t) = record { include = refl; condition = refl; expr = re
 ending-cand (text_end t) = record { include = refl; condition = refl; expr = record { conj = record { atom = refl; ands = refl }; ors = refl } }
 
 -- the words of CREATE INDEX from its method on, and those behind them
-cand-words : (u k ks c w ts : List Terminal) (p m : Terminal) → (u ++ p ∷ (k ++ (ks ++ m ∷ (c ++ w)))) ++ ts ≡ u ++ p ∷ (k ++ (ks ++ m ∷ (c ++ (w ++ ts))))
+pub cand-words : (u k ks c w ts : List Terminal) (p m : Terminal) → (u ++ p ∷ (k ++ (ks ++ m ∷ (c ++ w)))) ++ ts ≡ u ++ p ∷ (k ++ (ks ++ m ∷ (c ++ (w ++ ts))))
 cand-words u k ks c w ts p m = simp append_assoc
 
 module _ (limit : ℕ) where

@@ -35,6 +35,5 @@ pub mod WindowTrees
 pub mod OrderTrees
 pub mod IndexTrees
 pub mod AdviseTrees
-pub mod PartEnds
 pub mod StatementTrees
 pub mod ExprTrees

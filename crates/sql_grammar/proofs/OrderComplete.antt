@@ -36,7 +36,7 @@ after-column (ascending k) z ts p = refl
 after-column (descending k) z ts p = refl
 
 -- the words of a SELECT with its order and its window, and those behind them
-windowed-words : (q y w ts : List Terminal) → (q ++ (y ++ w)) ++ ts ≡ q ++ (y ++ (w ++ ts))
+pub windowed-words : (q y w ts : List Terminal) → (q ++ (y ++ w)) ++ ts ≡ q ++ (y ++ (w ++ ts))
 windowed-words q y w ts = append_assoc q (y ++ w) ts ∙ ap (λ l. q ++ l) (append_assoc y w ts)
 
 module _ (limit : ℕ) where

@@ -1,5 +1,5 @@
 -- The walk takes every statement that is in the grammar by a constant.
-use Rattle.std.proofs.Common.{◌≡◌, ℕ, ◌+◌, ◌≤◌, Bool, true, false, List, [], ◌∷◌, ◌++◌, Some, None, refl, ap, ◌∙◌, arith, append_assoc, cond}
+use Rattle.std.proofs.Common.{◌≡◌, ℕ, ◌+◌, ◌≤◌, Bool, true, false, List, [], ◌∷◌, ◌++◌, Some, None, refl, ◌∙◌, arith, cond}
 use Rattle.sql_lex.specs.declared.tokens.Token.{Token}
 use Rattle.sql_grammar.specs.Terminals.{Terminal, Ident, Said, free, t_mark, t_name, t_number, t_semicolon}
 use Rattle.sql_grammar.specs.declared.class.Free.TheVariants.{Plan}
@@ -9,8 +9,8 @@ use Rattle.sql_grammar.specs.declared.table.Item.TheVariants.{Sign, FreeWord, La
 use Rattle.sql_grammar.specs.Syntax.{Mark, IsOffered, Select, OrderBy, WindowedSelect, Cand, Advised, advised, Ending, semicolon, text_end}
 use Rattle.sql_grammar.specs.Words.{words_of_select, words_of_order, words_of_windowed, words_of_cand, words_of_cands, words_of_advised, words_of_more_advised, words_of_ending, levels_of_select, levels_of_windowed, levels_of_cand, levels_of_cands, levels_of_advised, levels_of_more_advised}
 use Rattle.sql_grammar.specs.Machine.{depth_of, by_row, takes_then, takes_all}
-use Rattle.sql_grammar.proofs.Complete.{skip, apart, ending}
-use Rattle.sql_grammar.proofs.WindowComplete.{EndsWindow, ending-window, parenthesis-window}
+use Rattle.sql_grammar.proofs.Complete.{apart, ending}
+use Rattle.sql_grammar.proofs.WindowComplete.{ending-window, parenthesis-window}
 use Rattle.sql_grammar.proofs.OrderComplete.{windowed-select, ordered-select}
 use Rattle.sql_grammar.proofs.IndexComplete.{EndsCand, candidate}
 

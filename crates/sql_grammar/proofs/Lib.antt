@@ -35,5 +35,6 @@ pub mod WindowTrees
 pub mod OrderTrees
 pub mod IndexTrees
 pub mod AdviseTrees
+pub mod PartEnds
 pub mod StatementTrees
 pub mod ExprTrees

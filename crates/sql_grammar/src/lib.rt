@@ -25,7 +25,9 @@ pub use class::{Class, Free, Symbol, Word};
 pub use classify::class_of;
 pub use copy_line::data_start;
 pub use fault::fault_at;
-pub use laws::{one_expression, one_statement, words_are_tokens};
+pub use laws::{
+    one_candidate, one_expression, one_statement, one_windowed_select, words_are_tokens,
+};
 pub use limits::limit_passed;
 pub use offered::{
     READS_ADVISE, READS_ANALYZE, READS_CHECK, READS_PLAN, READS_TABLE, READS_WINDOW,

@@ -1,6 +1,6 @@
 -- Two queries of the tests: each is cheaper where one candidate is there.
-use Rattle.std.specs.Prelude.{◌≡◌, ◌<◌, ◌^◌, ℕ, Bool, true, false, cond, nat_eq, bit_and, Option, Some}
-use Rattle.std.proofs.Common.{sym, ap, ◌∙◌, arith, subst}
+use Rattle.std.specs.Prelude.{◌≡◌, ℕ, cond, nat_eq, bit_and, Option, Some}
+use Rattle.std.proofs.Common.{sym, ap, ◌∙◌}
 use Rattle.std.proofs.lemmas.Nat.{and_assoc}
 use Rattle.std.specs.Int.Bits.{and_self}
 
@@ -15,16 +15,6 @@ IsLiked q s o = o ≡ Some (liked q s)
 
 pub liked-unique : (q s : ℕ) (a b : Option ℕ) → IsLiked q s a → IsLiked q s b → a ≡ b
 liked-unique q s a b e f = e ∙ sym f
-
-some-is : (a b : ℕ) → Some a ≡ Some b → a ≡ b
-some-is a b e = cc
-
-few : (b : Bool) → cond b 5 3 < 10 ^ 18
-few true = omega arith
-few false = omega arith
-
-pub liked-bounded : (q s c : ℕ) → IsLiked q s (Some c) → c < 10 ^ 18
-liked-bounded q s c e = subst (λ n. n < 10 ^ 18) (sym (some-is c (liked q s) e)) (few (nat_eq (bit_and s (concern q)) 0))
 
 pub liked-depends : (q s : ℕ) (o : Option ℕ) → IsLiked q (bit_and s (concern q)) o → IsLiked q s o
 liked-depends q s o e = e ∙ ap (λ n. Some (cond (nat_eq n 0) 5 3)) (and_assoc (concern q) s (concern q) ∙ ap (bit_and s) (and_self (concern q)))

@@ -3,7 +3,7 @@
 ghost use Rattle.std.specs.Prelude.{◌≡◌, ◌<◌, ◌≤◌, ◌+◌, ◌^◌, ℕ, IfOk, MatchOption, Some};
 ghost use Rattle.advisor.specs.Advices.{IsBestBelow, chosen, priced};
 ghost use Rattle.advisor.specs.Choices.{HasNoAdvice, IsAdvice, preference as preference_of};
-ghost use Rattle.advisor.specs.Memos.{IsMemo};
+ghost use Rattle.advisor.specs.Memos.{AreBelow, IsMemo};
 
 use crate::pricer::Pricer;
 use crate::prices::{Prices, sum_prices};
@@ -58,10 +58,12 @@ fn better<P: Pricer>(
     set: u16,
 ) -> Result<Option<Advice>, Memory>
     requires memo { IsMemo (P.priced p.old) prices.old }
+    requires below { AreBelow prices.old }
     requires within { set < 2 ^ n }
     requires best { IsBestBelow (P.priced p.old) (P.count p.old) n k set best }
     ensures best { IfOk result (IsBestBelow (P.priced p.old) (P.count p.old) n k (set + 1)) }
     ensures memo { IsMemo (P.priced p.old) prices.new }
+    ensures known_below { AreBelow prices.new }
     ensures same { p.new ≡ p.old }
 {
     if size(n, set) > k {
@@ -110,7 +112,7 @@ mod tests {
     }
 
     impl Pricer for Likings {
-        ghost use Rattle.advisor.specs.Likings.{IsLiked, concern, liked-bounded, liked-depends, liked-unique};
+        ghost use Rattle.advisor.specs.Likings.{IsLiked, concern, liked-depends, liked-unique};
 
         ghost count = { λ p. 2 };
 
@@ -136,8 +138,6 @@ mod tests {
         }
 
         ghost unique = { λ p q s a b. liked-unique q s a b };
-
-        ghost bounded = { λ p q s c. liked-bounded q s c };
 
         ghost depends = { λ p q s o. liked-depends q s o };
     }

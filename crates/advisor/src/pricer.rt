@@ -1,6 +1,6 @@
 //! What queries cost.
 
-ghost use Rattle.std.specs.Prelude.{bit_and, ◌≡◌, ◌<◌, ◌≤◌, ◌^◌, ℕ, Option, Some, IfOk};
+ghost use Rattle.std.specs.Prelude.{bit_and, ◌≡◌, ◌<◌, ◌≤◌, ◌^◌, ℕ, Option, IfOk, IfSome};
 
 use pg_base::{MOST_QUERIES, Memory};
 
@@ -26,18 +26,16 @@ pub trait Pricer {
         requires { q < count self.now }
         ensures { result ≡ concerns self.now q };
 
-    /// What a query costs with a set of candidates; None where it has no plan then. It leaves all that
-    /// contracts see as it was. The error means want of memory.
+    /// What a query costs with a set of candidates, below 10^18; None where it has no plan then. It leaves all that contracts
+    /// see as it was. The error means want of memory.
     fn price(&mut self, q: u8, s: u16) -> Result<Option<u64>, Memory>
         requires { q < count self.old }
         ensures price { IfOk result (priced self.old q s) }
+        ensures below { IfOk result (λ o. IfSome o (λ n. n < 10 ^ 18)) }
         ensures same { self.new ≡ self.old };
 
     /// No query has two costs with one set.
     ghost unique: { (p : Self) (q s : ℕ) (a b : Option ℕ) → priced p q s a → priced p q s b → a ≡ b };
-
-    /// Each cost is below 10^18.
-    ghost bounded: { (p : Self) (q s c : ℕ) → priced p q s (Some c) → c < 10 ^ 18 };
 
     /// A cost depends on the candidates that may change it alone.
     ghost depends: { (p : Self) (q s : ℕ) (o : Option ℕ) → priced p q (bit_and s (concerns p q)) o → priced p q s o };

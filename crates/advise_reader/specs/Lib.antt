@@ -5,4 +5,5 @@ pub mod Candidates
 pub mod Queries
 pub mod Meaning
 pub mod Soundness
+pub mod Walk
 pub mod Statements

@@ -2,9 +2,8 @@
 use Rattle.std.specs.Prelude.{List, ◌∷◌}
 use Rattle.sql_lex.specs.declared.tokens.Token.{Token}
 use Rattle.sql_grammar.specs.Terminals.{token_of}
-use Rattle.sql_grammar.specs.Syntax.{Mark, Cand, cand_on, WindowedSelect, windowed_select, Advised, advised}
+use Rattle.sql_grammar.specs.Syntax.{Mark, Cand, cand_on, WindowedSelect, Advised, advised}
 use Rattle.sql_cursor.specs.Lists.{parts_of}
-use Rattle.query_reader.specs.Parts.{SelectPart}
 
 -- the word that names a candidate
 abbrev pub name_token : Cand → Token
@@ -14,13 +13,9 @@ name_token (cand_on n _ _ _ _ _ _ _ _ _) = token_of n
 abbrev pub candidates_of : Cand → List (Mark × Cand) → List Cand
 candidates_of x xs = x ∷ parts_of (λ c. c) xs
 
--- a SELECT with its order and its window, as a part of a statement
-abbrev pub part_in : WindowedSelect → SelectPart
-part_in (windowed_select q y w) = record { select = q; order = y; window = w }
-
--- that between two parentheses
-abbrev pub select_in : Advised → SelectPart
-select_in (advised _ x _) = part_in x
+-- the SELECT between two parentheses
+abbrev pub select_in : Advised → WindowedSelect
+select_in (advised _ x _) = x
 
 -- the `(` before it
 abbrev pub open_token : Advised → Token

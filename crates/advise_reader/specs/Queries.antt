@@ -11,16 +11,11 @@ use Rattle.sql_grammar.specs.Faults.{fault_at}
 use Rattle.catalog.specs.Contents.{Contents}
 use Rattle.sql_query.specs.Queries.{Query}
 use Rattle.query_reader.specs.Binding.{Bound, bound_part, query_with}
-use Rattle.query_reader.specs.Parts.{SelectPart}
 use Rattle.advise_reader.specs.Parts.{open_token, select_in}
 
--- what a SELECT means as a part of a statement that begins at this token
-abbrev pub part_bound : Contents → Token → SelectPart → Result Bound Fault
-part_bound c start x = bound_part c start x.select x.order x.window
-
--- that of one behind so many: the one too many is at fault at its `(`, and is not bound
+-- what a SELECT behind so many means: the one too many is at fault at its `(`, and is not bound
 abbrev pub query_bound : Contents → Token → ℕ → Advised → Result Bound Fault
-query_bound c start earlier x = cond (nat_lt earlier MOST_QUERIES) (part_bound c start (select_in x)) (Err (fault_at (S15 Queries) (open_token x)))
+query_bound c start earlier x = cond (nat_lt earlier MOST_QUERIES) (bound_part c start (select_in x)) (Err (fault_at (S15 Queries) (open_token x)))
 
 -- the query of what is meant, with classes of its own, or the fault
 abbrev pub IsQueryOf : Result Bound Fault → Result Query Fault → Type 0

@@ -3,7 +3,12 @@
 #![tactic(auto)]
 
 mod advising;
+mod allowed;
+mod candidates;
+mod ends;
+mod queries;
 mod read;
+mod room;
 
 pub use advising::Advising;
 pub use read::{is_advise, read_advise};

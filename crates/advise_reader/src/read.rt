@@ -1,16 +1,21 @@
 //! Reading a statement for ADVISE.
 
-ghost use Rattle.std.specs.Prelude.{◌≡◌, ◌^◌, ◌≤◌, ℕ, length, true, IfOk, IfErr, Ok};
+ghost use Rattle.std.specs.Prelude.{◌≡◌, ◌^◌, ◌≤◌, ℕ, List, ◌∷◌, drop, length, true, IfOk, IfErr, Ok};
 ghost use Rattle.sql_lex.specs.Words.{AreWords};
 ghost use Rattle.sql_grammar.specs.Faults.{terminals};
+ghost use Rattle.sql_grammar.specs.Terminals.{Said, Terminal, t_number};
+ghost use Rattle.advise_reader.specs.Meaning.{most_meant};
 ghost use Rattle.advise_reader.specs.Soundness.{IsSound};
 ghost use Rattle.advise_reader.specs.Statements.{asked, begins_advise, IsMeaning, IsRefusal};
 
 use crate::advising::Advising;
+use crate::candidates::{AllRead, candidates};
+use crate::queries::queries;
+use crate::room::room_fault;
 use catalog::Catalog;
-use pg_base::Refusal;
+use pg_base::{Code, Fault, MOST_CANDIDATES, Refusal};
 use sql_cursor::Cursor;
-use sql_grammar::Free;
+use sql_grammar::{Free, fault_at, statement_fault};
 use sql_lex::Tokens;
 use std::alloc::Global;
 
@@ -22,6 +27,24 @@ pub fn is_advise(text: &[u8], tokens: &Tokens) -> bool
 {
     let mut from = Cursor::new(text, tokens, 0);
     from.takes_free(Free::Advise)
+}
+
+/// The number behind ADVISE: the most candidates that are to be made. One past 10 is refused (22023), at the number.
+fn most(text: &[u8], tokens: &Tokens) -> Result<u8, Fault>
+    requires short { length text.now ≤ 2 ^ 31 }
+    requires words { (from : ℕ) × AreWords text.now from tokens.now }
+    requires there { (n : Said) × (rest : List Terminal) × (terminals text.now (drop 1 tokens.now) ≡ t_number n ∷ rest) }
+    ensures told { (n : Said) (rest : List Terminal) → terminals text.now (drop 1 tokens.now) ≡ t_number n ∷ rest → result ≡ most_meant n }
+    ensures few { IfOk result (λ n. n ≤ MOST_CANDIDATES) }
+{
+    let mut from = Cursor::new(text, tokens, 1);
+    let Some(number) = from.number() else {
+        unreachable!();
+    };
+    if number.value > MOST_CANDIDATES as u64 {
+        return Err(fault_at(Code::S17, number.token));
+    }
+    Ok(number.value as u8)
 }
 
 /// Reads the ADVISE of these tokens: what it asks, bound to the catalogue, or its first fault.
@@ -51,5 +74,22 @@ pub fn read_advise(
     ensures sound { IfOk result (λ a. IsSound cat.now (asked a)) }
     ensures refused { IfErr result (IsRefusal cat.now text.now tokens.now) }
 {
-    unreachable!()
+    if let Some(fault) = statement_fault(text, tokens, 0) {
+        return Err(Refusal::Fault(fault));
+    }
+    let most = most(text, tokens)?;
+    let AllRead {
+        candidates,
+        names,
+        end,
+    } = candidates(alloc, cat, text, tokens, 3)?;
+    if let Some(fault) = room_fault(cat, &names, &candidates) {
+        return Err(Refusal::Fault(fault));
+    }
+    let queries = queries(alloc, cat, text, tokens, end + 1)?;
+    Ok(Advising {
+        most,
+        candidates,
+        queries,
+    })
 }

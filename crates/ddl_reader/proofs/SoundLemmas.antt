@@ -125,8 +125,8 @@ module _ (cat : Contents) (text : List ℕ) where
       limited-sound (table_reading name token bs) r bs (drop MOST_COLUMNS bs) refl (λ few. table-sound name token w ws bs named all (called (w ∷ ws) bs is) here low (put (w ∷ ws) bs is) few) means
 
   -- data that are meant
-  text-sound : (t : TableNo) (start : ℕ) (r : Reading) (f : Fault) (b : Bool) → IsTable cat t → start ≤ length text → Ok r ≡ cond b (Ok (record { definition = data_for t start; at = []; method = 0 })) (Err f) → IsSound cat text r
-  text-sound t start r f true there within is = let same : record { definition = data_for t start; at = []; method = 0 } ≡ r = cc (is) in subst (IsSound cat text) same (there, within)
+  text-sound : (t : TableNo) (start : ℕ) (r : Reading) (f : Fault) (b : Bool) → IsTable cat t → start ≤ length text → Ok r ≡ cond b (Ok (record { definition = data_for t start; at = [] })) (Err f) → IsSound cat text r
+  text-sound t start r f true there within is = let same : record { definition = data_for t start; at = [] } ≡ r = cc (is) in subst (IsSound cat text) same (there, within)
   text-sound t start r f false there within is = absurd (cc (is))
 
   of-sound : (name : List ℕ) (name_at null_at : Token) (null : List ℕ) (start : ℕ) (r : Reading) (o : Option TableNo) → table_named cat name ≡ o → start ≤ length text → Ok r ≡ data_of o name_at null null_at start → IsSound cat text r

@@ -13,5 +13,5 @@ mod sources;
 mod window;
 mod written;
 
-pub use laws::selects_are_no_other;
-pub use select::{explains, read_select};
+pub use laws::{a_query_has_its_select, selects_are_no_other};
+pub use select::{explains, read_part, read_select};

@@ -1,11 +1,13 @@
 //! Whether a candidate that is read may be made.
 
-ghost use Rattle.std.specs.Prelude.{◌≡◌, ◌<◌, ◌+◌, ◌≤◌, ◌↔◌, IsTrue, IfSome, MatchOption, OnErr, take, length, slice_index_or, Contains, Err};
+ghost use Rattle.std.specs.Prelude.{◌≡◌, ◌<◌, ◌+◌, ◌≤◌, ◌↔◌, IsTrue, MatchOption, take, length, slice_index_or, Contains};
+ghost use Rattle.std.specs.List.{list_any};
+ghost use Rattle.std.specs.Str.{bytes_eq};
 ghost use Rattle.pg_base.specs.declared.limits.TheConstants.{MOST_COLUMNS};
 ghost use Rattle.catalog.specs.Contents.{all_names};
 ghost use Rattle.catalog.specs.Entries.{index_of};
 ghost use Rattle.catalog.specs.Indexes.{AreDifferent, IsFirstTwice, columns_of, has_form, is_plain};
-ghost use Rattle.index_candidates.specs.Candidates.{names_of, with_candidates};
+ghost use Rattle.index_candidates.specs.Candidates.{with_candidates};
 ghost use Rattle.index_reader.specs.Reads.{reading};
 ghost use Rattle.advise_reader.specs.Candidates.{IsAllowed, IsNotAllowed};
 ghost use Rattle.advise_reader.specs.Places.{end_of_word as end_of_word_at, word_fault};
@@ -97,14 +99,9 @@ fn is_of_form(def: &IndexDef) -> bool
 
 /// Whether one of some candidates has this name.
 fn is_among(candidates: &[Candidate], name: &[u8]) -> bool
-    ensures { IsTrue result ↔ Contains (names_of candidates.now) name.now }
+    ensures { result ≡ list_any (λ x. bytes_eq name.now x.name) candidates.now }
 {
-    for x in candidates {
-        if x.name.items() == name {
-            return true;
-        }
-    }
-    false
+    candidates.iter().any(|x| name == x.name.items())
 }
 
 /// Whether a table, an index or one of some candidates has this name.

@@ -91,6 +91,7 @@ pub(crate) fn candidates(
     requires there { (w : Row) × RowAt text.now tokens.now first w }
     ensures told { (w : Row) (start : Token) (later : List Token) → tokens.now ≡ start ∷ later → RowAt text.now tokens.now first w →
         TellsCandidates cat.now start text.now tokens.now w result }
+    ensures as_many { IfOk result (λ r. length r.names.items ≡ length r.candidates.items) }
     ensures sound { IfOk result (λ r. AreApart cat.now r.candidates.items) }
 {
     let mut candidates = Vec::new(alloc);

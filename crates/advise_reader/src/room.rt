@@ -1,6 +1,7 @@
 //! The limit of a table's indexes.
 
 ghost use Rattle.std.specs.Prelude.{◌≡◌, ◌≤◌, [], length, MatchOption, Ok, Err};
+ghost use Rattle.pg_base.specs.declared.limits.TheConstants.{MOST_CANDIDATES};
 ghost use Rattle.catalog.specs.Contents.{IsTable, indexes_of};
 ghost use Rattle.index_candidates.specs.Candidates.{with_candidates};
 ghost use Rattle.advise_reader.specs.Candidates.{with_room};
@@ -37,7 +38,8 @@ pub(crate) fn room_fault(cat: &Catalog, names: &[Token], candidates: &[Candidate
 {
     cat.lawful();
     for n in 0..candidates.len() {
-        if indexes_on(cat, &candidates[..n], candidates[n].def.table) >= MOST_INDEXES {
+        let x = &candidates[n];
+        if indexes_on(cat, &candidates[..n], x.def.table) >= MOST_INDEXES {
             return Some(fault_at(Code::S15(Limit::Indexes), names[n]));
         }
     }

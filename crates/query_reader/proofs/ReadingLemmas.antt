@@ -7,8 +7,8 @@ use Rattle.pg_base.specs.declared.faults.Refusal.TheVariants as refusal
 use Rattle.sql_lex.specs.declared.tokens.Token.{Token}
 use Rattle.sql_grammar.specs.Terminals.{Terminal, t_key, t_semicolon, t_end}
 use Rattle.sql_grammar.specs.declared.class.Word.TheVariants.{From, Limit as LimitKey, Offset as OffsetKey}
-use Rattle.sql_grammar.specs.Syntax.{Key, Mark, Output, Group, Where, Select, select_from, OrderBy, no_order, order_by, no_limit, most_rows, no_offset, skipped_rows, Window, window}
-use Rattle.sql_grammar.specs.Words.{words_of_output, words_of_outputs, words_of_group, words_of_groups, words_of_where, words_of_order, words_of_window}
+use Rattle.sql_grammar.specs.Syntax.{Key, Mark, Output, Group, Where, select_from, OrderBy, no_order, order_by, no_limit, most_rows, no_offset, skipped_rows, Window, window, WindowedSelect, windowed_select}
+use Rattle.sql_grammar.specs.Words.{words_of_output, words_of_outputs, words_of_group, words_of_groups, words_of_where, words_of_order, words_of_window, words_of_windowed}
 use Rattle.sql_grammar.specs.Reading.{terminal_of}
 use Rattle.sql_grammar.specs.Faults.{terminals}
 use Rattle.sql_cursor.proofs.Named.{AreNamed}
@@ -19,7 +19,7 @@ use Rattle.query_reader.specs.Written.{item_of, items_of}
 use Rattle.query_reader.specs.Binding.{Bound, bound_from, bound_part}
 use Rattle.query_reader.specs.Ends.{ends_where, ends_order, ends_window}
 use Rattle.query_reader.specs.Select.{AreWithSelectAt, IsBoundAs, IsGrammatical}
-use Rattle.query_reader.specs.Parts.{SelectPart, words_of_part, IsPartAt}
+use Rattle.query_reader.specs.Parts.{IsPartAt}
 
 -- the names among what is left of some words
 left-named : (n : ℕ) (ts : List Terminal) → AreNamed ts → AreNamed (drop n ts)
@@ -37,7 +37,7 @@ abbrev pub behind : Where → OrderBy → Window → List Terminal
 behind w y v = words_of_where w ++ (words_of_order y ++ (words_of_window v ++ []))
 
 -- the parts of a SELECT whose words are left after SELECT
-pub record Parted (x : SelectPart) (left : List Terminal) : Type 0 where
+pub record Parted (x : WindowedSelect) (left : List Terminal) : Type 0 where
   pub first : Output
   pub more : List (Mark × Output)
   pub from_at : Key
@@ -47,15 +47,15 @@ pub record Parted (x : SelectPart) (left : List Terminal) : Type 0 where
   pub order : OrderBy
   pub window : Window
   pub split : left ≡ words_of_output first ++ (words_of_outputs more ++ t_key From from_at ∷ (words_of_group group ++ (words_of_groups groups ++ behind condition order window)))
-  pub means : (c : Contents) (start : Token) → bound_from c start (item_of first ∷ items_of more) (group ∷ groups_after groups) condition order window ≡ bound_part c start x.select x.order x.window
+  pub means : (c : Contents) (start : Token) → bound_from c start (item_of first ∷ items_of more) (group ∷ groups_after groups) condition order window ≡ bound_part c start x
 
 regroup : (x y z c d e : List Terminal) (f : Terminal) → (x ++ (y ++ f ∷ (z ++ (c ++ d)))) ++ e ≡ x ++ (y ++ f ∷ (z ++ (c ++ (d ++ e))))
 regroup x y z c d e f =
     append_assoc x (y ++ f ∷ (z ++ (c ++ d))) e ∙ (ap (λ l. x ++ l) (append_assoc y (f ∷ (z ++ (c ++ d))) e) ∙
     (ap (λ l. x ++ (y ++ f ∷ l)) (append_assoc z (c ++ d) e) ∙ ap (λ l. x ++ (y ++ f ∷ (z ++ l))) (append_assoc c d e)))
 
-parted : (q : Select) (y : OrderBy) (v : Window) (ts : List Terminal) → words_of_part (record { select = q; order = y; window = v }) ≡ ts → Parted (record { select = q; order = y; window = v }) (drop 1 ts)
-parted (select_from k o os f g gs w) y v ts is = record {
+parted : (x : WindowedSelect) (ts : List Terminal) → words_of_windowed x ≡ ts → Parted x (drop 1 ts)
+parted (windowed_select (select_from k o os f g gs w) y v) ts is = record {
   first = o;
   more = os;
   from_at = f;
@@ -70,17 +70,20 @@ parted (select_from k o os f g gs w) y v ts is = record {
 }
 
 -- what is left after SELECT of the tokens between two numbers
-pub tree : (text : List ℕ) (tokens : List Token) (first end : ℕ) (x : SelectPart) → IsPartAt text tokens first end x → (old left : List Terminal) → old ≡ terminals text (drop first (take end tokens)) → left ≡ drop 1 old → Parted x left
-tree text tokens first end x at old left is skipped = subst (Parted x) (sym (skipped ∙ ap (drop 1) is)) (parted x.select x.order x.window (terminals text (drop first (take end tokens))) at.words)
+pub tree : (text : List ℕ) (tokens : List Token) (first end : ℕ) (x : WindowedSelect) → IsPartAt text tokens first end x → (old left : List Terminal) → old ≡ terminals text (drop first (take end tokens)) → left ≡ drop 1 old → Parted x left
+tree text tokens first end x at old left is skipped = subst (Parted x) (sym (skipped ∙ ap (drop 1) is)) (parted x (terminals text (drop first (take end tokens))) at.words)
 
 between : (text : List ℕ) (tokens : List Token) (first end : ℕ) → terminals text (drop first (take end tokens)) ≡ drop first (take end (terminals text tokens))
 between text tokens first end = sym (drop-map (terminal_of text) first (take end tokens)) ∙ ap (drop first) (sym (take-map (terminal_of text) end tokens))
 
+-- the names among the tokens between two numbers
+pub named-between : (text : List ℕ) (tokens : List Token) (first end : ℕ) → AreNamed (terminals text tokens) → AreNamed (terminals text (drop first (take end tokens)))
+named-between text tokens first end named = subst AreNamed (sym (between text tokens first end)) (left-named first (take end (terminals text tokens)) (taken-named end (terminals text tokens) named))
+
 -- the names among what is left are named
 pub words-named : (text : List ℕ) (tokens : List Token) (first end : ℕ) (old left : List Terminal) → old ≡ terminals text (drop first (take end tokens)) → left ≡ drop 1 old → AreNamed (terminals text tokens) → AreNamed left
 words-named text tokens first end old left is skipped named =
-    subst AreNamed (sym (skipped ∙ ap (drop 1) (is ∙ between text tokens first end)))
-    (left-named 1 (drop first (take end (terminals text tokens))) (left-named first (take end (terminals text tokens)) (taken-named end (terminals text tokens) named)))
+    subst AreNamed (sym (skipped ∙ ap (drop 1) is)) (left-named 1 (terminals text (drop first (take end tokens))) (named-between text tokens first end named))
 
 -- what stands behind WHERE goes on no condition, and what stands behind ORDER BY is a window
 pub ends-where : (y : OrderBy) (rest : List Terminal) → ends_order rest ≡ true → ends_where (words_of_order y ++ rest) ≡ true

@@ -1,13 +1,14 @@
 -- What reading a SELECT gives: told of its syntax tree, of which tokens have one at most.
-use Rattle.std.specs.Prelude.{◌≡◌, ◌⊎◌, ℕ, Bool, true, false, cond, List, ◌∷◌, drop, Result, Ok, Err}
+use Rattle.std.specs.Prelude.{◌≡◌, ◌⊎◌, ℕ, Bool, true, false, List, ◌∷◌, drop, Result, Ok, Err}
 use Rattle.pg_base.specs.declared.faults.Code.TheVariants.{S1}
 use Rattle.pg_base.specs.declared.faults.Fault.{Fault}
 use Rattle.pg_base.specs.declared.faults.Refusal.{Refusal}
 use Rattle.pg_base.specs.declared.faults.Refusal.TheVariants as refusal
 use Rattle.sql_lex.specs.declared.tokens.Token.{Token}
-use Rattle.sql_grammar.specs.declared.class.Free.TheVariants.{Explain}
+use Rattle.sql_grammar.specs.declared.class.Free.TheVariants.{Check, Explain, Use}
+use Rattle.sql_grammar.specs.declared.class.Symbol.TheVariants.{Open}
 use Rattle.sql_grammar.specs.declared.class.Word.TheVariants.{Select as SelectKey}
-use Rattle.sql_grammar.specs.Terminals.{Terminal, free, t_key, t_name}
+use Rattle.sql_grammar.specs.Terminals.{Terminal, free, t_key, t_mark, t_name}
 use Rattle.sql_grammar.specs.Syntax.{OrderedSelect, Statement, query}
 use Rattle.sql_grammar.specs.Words.{words_of}
 use Rattle.sql_grammar.specs.Faults.{IsStatement, IsFirstFault, IsWhole, fault_at, terminals}
@@ -25,9 +26,14 @@ abbrev pub is_explained : List Terminal → Bool
 is_explained (t_name (free Explain _) ∷ _) = true
 is_explained _ = false
 
--- the number of words before SELECT: 1 behind EXPLAIN, else 0
+-- the number of words before the SELECT that a statement's end ends: behind EXPLAIN (TABLE) 4, behind EXPLAIN or CHECK 1, behind
+-- USE PLAN 2, else 0
 abbrev pub words_before : List Terminal → ℕ
-words_before ts = cond (is_explained ts) 1 0
+words_before (t_name (free Explain _) ∷ t_mark Open _ ∷ _) = 4
+words_before (t_name (free Explain _) ∷ _) = 1
+words_before (t_name (free Check _) ∷ _) = 1
+words_before (t_name (free Use _) ∷ _) = 2
+words_before _ = 0
 
 -- the first word is SELECT or EXPLAIN
 abbrev pub begins_query : List Terminal → Bool

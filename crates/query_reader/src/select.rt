@@ -4,10 +4,11 @@ ghost use Rattle.std.specs.Prelude.{◌≡◌, ℕ, ◌^◌, ◌<◌, ◌≤◌,
 ghost use Rattle.sql_lex.specs.Words.{AreWords};
 ghost use Rattle.sql_lex.specs.declared.tokens.Token.{Token};
 ghost use Rattle.sql_grammar.specs.Faults.{terminals, IsWhole};
+ghost use Rattle.sql_grammar.specs.Syntax.{WindowedSelect};
 ghost use Rattle.eq_classes.specs.Holding.{IsClassTable};
 ghost use Rattle.sql_query.specs.WellBound.{IsWellBound, given_of};
 ghost use Rattle.query_reader.specs.Binding.{bound_part};
-ghost use Rattle.query_reader.specs.Parts.{SelectPart, HavePart, HaveSelectAt, IsPartAt, IsSelectAt};
+ghost use Rattle.query_reader.specs.Parts.{HavePart, HaveSelectAt, IsPartAt, IsSelectAt};
 ghost use Rattle.query_reader.specs.Select.{IsBoundByItself, IsGrammatical, IsBoundAs, IsNoSelectAt, is_explained};
 
 use crate::bind::bind;
@@ -57,8 +58,8 @@ fn part(
     requires short { length text.now ≤ 2 ^ 31 }
     requires words { (from : ℕ) × AreWords text.now from tokens.now }
     requires part { HavePart text.now tokens.now first end }
-    ensures binding { (x : SelectPart) (start : Token) (later : List Token) → tokens.now ≡ start ∷ later →
-        IsPartAt text.now tokens.now first end x → IsBoundAs (bound_part cat.now start x.select x.order x.window) result }
+    ensures binding { (x : WindowedSelect) (start : Token) (later : List Token) → tokens.now ≡ start ∷ later →
+        IsPartAt text.now tokens.now first end x → IsBoundAs (bound_part cat.now start x) result }
     ensures itself { IfOk result (IsBoundByItself cat.now) }
 {
     let mut from = Cursor::part(text, tokens, first, end);
@@ -79,8 +80,8 @@ fn read_whole(
     requires words { (from : ℕ) × AreWords text.now from tokens.now }
     requires within { first < length tokens.now }
     ensures grammar { IsGrammatical text.now tokens.now first result }
-    ensures binding { (x : SelectPart) (start : Token) (later : List Token) → tokens.now ≡ start ∷ later →
-        IsWhole text.now tokens.now → IsSelectAt text.now tokens.now first x → IsBoundAs (bound_part cat.now start x.select x.order x.window) result }
+    ensures binding { (x : WindowedSelect) (start : Token) (later : List Token) → tokens.now ≡ start ∷ later →
+        IsWhole text.now tokens.now → IsSelectAt text.now tokens.now first x → IsBoundAs (bound_part cat.now start x) result }
     ensures itself { IfOk result (IsBoundByItself cat.now) }
 {
     if let Some(fault) = statement_fault(text, tokens, 0) {
@@ -134,8 +135,8 @@ pub fn read_select(
     requires words { (from : ℕ) × AreWords text.now from tokens.now }
     requires within { first < length tokens.now }
     ensures grammar { IsGrammatical text.now tokens.now first result }
-    ensures binding { (x : SelectPart) (start : Token) (later : List Token) → tokens.now ≡ start ∷ later →
-        IsWhole text.now tokens.now → IsSelectAt text.now tokens.now first x → IsBoundAs (bound_part cat.now start x.select x.order x.window) result }
+    ensures binding { (x : WindowedSelect) (start : Token) (later : List Token) → tokens.now ≡ start ∷ later →
+        IsWhole text.now tokens.now → IsSelectAt text.now tokens.now first x → IsBoundAs (bound_part cat.now start x) result }
     ensures well_bound { IfOk result (IsWellBound cat.now) }
     ensures classes { IfOk result (λ q. IsClassTable (given_of cat.now q) q.classes) }
 {
@@ -156,8 +157,8 @@ pub fn read_part(
     requires short { length text.now ≤ 2 ^ 31 }
     requires words { (from : ℕ) × AreWords text.now from tokens.now }
     requires part { HavePart text.now tokens.now first end }
-    ensures binding { (x : SelectPart) (start : Token) (later : List Token) → tokens.now ≡ start ∷ later →
-        IsPartAt text.now tokens.now first end x → IsBoundAs (bound_part cat.now start x.select x.order x.window) result }
+    ensures binding { (x : WindowedSelect) (start : Token) (later : List Token) → tokens.now ≡ start ∷ later →
+        IsPartAt text.now tokens.now first end x → IsBoundAs (bound_part cat.now start x) result }
     ensures well_bound { IfOk result (IsWellBound cat.now) }
     ensures classes { IfOk result (λ q. IsClassTable (given_of cat.now q) q.classes) }
 {

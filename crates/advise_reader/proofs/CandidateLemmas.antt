@@ -285,3 +285,53 @@ one-wrong c start tokens earlier found first x e f same is told = subst (λ (l :
 
 pub one-meant : (c : Contents) (start : Token) (tokens : List Token) (earlier found : List NamedIndex) (x : Cand) (y : NamedIndex) → earlier ≡ found → CandidateMeans c start tokens earlier x (Ok y) → CandidateMeans c start tokens found x (Ok y)
 one-meant c start tokens earlier found x y same told = subst (λ (l : List NamedIndex). CandidateMeans c start tokens l x (Ok y)) same told
+
+-- one more was read
+module _ (c : Contents) (start : Token) (text : List ℕ) (tokens : List Token) (found : List NamedIndex) (names : List Token) (at : ℕ) (w : Row) (g : Going c start text tokens found names at w) where
+  -- what is told of it, and what the lists are then
+  pub record OneMore (end : ℕ) (found' : List NamedIndex) (names' : List Token) : Type 0 where
+    pub value : NamedIndex
+    pub token : Token
+    pub means : CandidateMeans c start tokens found g.left.first (Ok value)
+    pub name : token ≡ name_token g.left.first
+    pub place : end ≡ at + length (words_of_cand g.left.first)
+    pub all : found' ≡ found ++ value ∷ []
+    pub named : names' ≡ names ++ token ∷ []
+
+  pub one-more : (earlier : List NamedIndex) (r : OneRead) (given : List Token) (d : Token) (found' : List NamedIndex) (names' : List Token) → earlier ≡ found → given ≡ tokens → TellsCandidate c start tokens earlier at g.left.first (Ok r) →
+      found' ≡ found ++ r.candidate ∷ [] → names' ≡ names ++ get_or given at d ∷ [] → OneMore r.end found' names'
+  one-more earlier r given d found' names' same whole told all named =
+      let (next, left, s, ends, low) = first-stands text tokens at g.left g.there in
+      let lt = stands-within text tokens at (words_of_cand g.left.first) next left s in
+      record {
+        value = r.candidate;
+        token = get_or tokens at d;
+        means = one-meant c start tokens earlier found g.left.first r.candidate same told.0;
+        name = name-at text tokens at g.left.first (next ∷ left) d s.are (omega (arith, lt));
+        place = told.1;
+        all = all;
+        named = named ∙ ap (λ (ts : List Token). names ++ get_or ts at d ∷ []) whole;
+      }
+
+  pub more-out : (end : ℕ) (found' : List NamedIndex) (names' : List Token) → OneMore end found' names' → BeginsNot (t_mark Comma) (terminals text (drop end tokens)) →
+      CandidatesMean c start tokens (candidates_of w.first w.more) (Ok found') × (names' ≡ map name_token (candidates_of w.first w.more)) × (terminals text (drop end tokens) ≡ t_mark Close w.close ∷ w.rest)
+  more-out end found' names' m none =
+      let (all, so, left) = goes-out c start text tokens found names at w g m.value m.token end m.means m.name m.place none in
+      (subst (λ (l : List NamedIndex). CandidatesMean c start tokens (candidates_of w.first w.more) (Ok l)) (sym m.all) all, m.named ∙ so, left)
+
+  pub more-on : (end : ℕ) (found' : List NamedIndex) (names' : List Token) (left : List Terminal) → OneMore end found' names' → Begins (t_mark Comma) (terminals text (drop end tokens)) left → Going c start text tokens found' names' (end + 1) w
+  more-on end found' names' left m comma =
+      subst (λ (l : List NamedIndex). Going c start text tokens l names' (end + 1) w) (sym m.all)
+      (subst (λ (l : List Token). Going c start text tokens (found ++ m.value ∷ []) l (end + 1) w) (sym m.named)
+      (goes-on c start text tokens found names at w g m.value m.token end left m.means m.name m.place comma))
+
+pub apart-then : (c : Contents) (earlier found found' : List NamedIndex) (x : NamedIndex) → earlier ≡ found → AreApart c found → length earlier < MOST_CANDIDATES → IsCandidateIndex (with_candidates c earlier) x → found' ≡ found ++ x ∷ [] → AreApart c found'
+apart-then c earlier found found' x same all room may is =
+    subst (AreApart c) (sym is)
+    (apart-more c found x all (subst (λ (l : List NamedIndex). length l < MOST_CANDIDATES) same room) (subst (λ (l : List NamedIndex). IsCandidateIndex (with_candidates c l) x) same may))
+
+pub as-many : (found found' : List NamedIndex) (names names' : List Token) (x : NamedIndex) (t : Token) → length names ≡ length found → found' ≡ found ++ x ∷ [] → names' ≡ names ++ t ∷ [] → length names' ≡ length found'
+as-many found found' names names' x t many is named =
+    let a = ap length is ∙ length-append found (x ∷ []) in
+    let b = ap length named ∙ length-append names (t ∷ []) in
+    omega (arith, many, a, b)

@@ -233,3 +233,13 @@ ongoing c text tokens first found at (w, there) on =
     let lt = ends-within text tokens first [] next rest (there.are ∙ is) in
     let (start, later, whole) = some-token tokens (omega (arith, lt)) in
     record { start = start; later = later; whole = whole; row = w; going = on w start later whole there }
+
+-- what is told of one behind those that were found
+pub one-wrong : (c : Contents) (start : Token) (earlier found : List Query) (first : ℕ) (x : Advised) (e : Refusal) (f : Fault) → earlier ≡ found → e ≡ refusal.Fault f → TellsQuery c start earlier first x (Err e) → QueryMeans c start found x (Err f)
+one-wrong c start earlier found first x e f same is told = subst (λ (l : List Query). QueryMeans c start l x (Err f)) same (one-fault c start earlier first x e f is told)
+
+pub one-meant : (c : Contents) (start : Token) (earlier found : List Query) (x : Advised) (q : Query) → earlier ≡ found → QueryMeans c start earlier x (Ok q) → QueryMeans c start found x (Ok q)
+one-meant c start earlier found x q same told = subst (λ (l : List Query). QueryMeans c start l x (Ok q)) same told
+
+pub room-for : (earlier found : List Query) → earlier ≡ found → length earlier < MOST_QUERIES → length found < MOST_QUERIES
+room-for earlier found same lt = subst (λ (l : List Query). length l < MOST_QUERIES) same lt

@@ -1,5 +1,5 @@
 -- From what is told of the parts of ADVISE to what is told of the whole.
-use Rattle.std.proofs.Common.{◌≡◌, ◌<◌, ◌+◌, ◌∙◌, ◌∷◌, ℕ, List, [], length, map, drop, Result, Ok, Err, IfErr, inl, inr, tt, refl, sym, ap, subst, arith}
+use Rattle.std.proofs.Common.{◌≡◌, ◌<◌, ◌+◌, ◌∙◌, ◌∷◌, ℕ, List, [], length, map, drop, Result, Ok, Err, IfErr, inl, inr, refl, sym, ap, subst, arith}
 use Rattle.std.specs.Result.{IsErrAnd}
 use Rattle.pg_base.specs.declared.faults.Fault.{Fault}
 use Rattle.pg_base.specs.declared.faults.Refusal.{Refusal}

@@ -1,9 +1,9 @@
-use Rattle.std.proofs.Common.{◌≡◌, ◌∙◌, sym, ap, subst, get_or}
+use Rattle.std.proofs.Common.{◌∙◌, sym, ap, subst, get_or}
 use Rattle.std.proofs.lemmas.List.{get_or_default}
 use Rattle.pg_base.specs.Sets.{has}
-use Rattle.catalog.specs.Contents.{Contents, NamedIndex, no_index, with_index}
-use Rattle.catalog.specs.Tables.{Fits, IsAcceptableIndex}
-use Rattle.index_prices.proofs.AddingLemmas.{acceptable, fits, with-next, without-next}
+use Rattle.catalog.specs.Contents.{Contents, no_index, with_index}
+use Rattle.catalog.specs.Tables.{IsAcceptableIndex}
+use Rattle.index_prices.proofs.AddingLemmas.{acceptable, with-next, without-next}
 use Rattle.index_prices.proofs.adding.with_added.Goals as goal
 use Rattle.index_prices.proofs.adding.with_added.Goals.{then-has_number+in_ok-add, else-has_number}
 

@@ -1,5 +1,4 @@
-use Rattle.std.proofs.Common.{◌≤◌, arith, subst, sym}
-use mir.Val.{bool_byte}
+use Rattle.std.proofs.Common.{arith}
 use Rattle.index_prices.proofs.ReadLemmas.{behind-small, byte-most}
 use Rattle.index_prices.proofs.pricer.read_of.Goals as goal
 

@@ -1,4 +1,4 @@
-use Rattle.std.proofs.Common.{◌≡◌, ◌++◌, ◌∙◌, ℕ, Global, List, Vec, sym, ap, get_or}
+use Rattle.std.proofs.Common.{◌++◌, ◌∙◌, ℕ, Global, List, Vec, sym, ap, get_or}
 use Rattle.std.proofs.lemmas.List.{get_or_default}
 use Rattle.pg_base.specs.Sets.{has}
 use Rattle.catalog.specs.Contents.{no_index}

@@ -1,6 +1,5 @@
-use Rattle.std.proofs.Common.{◌≡◌, ◌<◌, ℕ, List, length, sym, ap, subst}
+use Rattle.std.proofs.Common.{◌<◌, length, sym, subst}
 use Rattle.std.specs.Result.{IfOk}
-use Rattle.sql_query.specs.Queries.{Query}
 use Rattle.index_prices.specs.Prices.{prices_of}
 use Rattle.index_prices.specs.Proposals.{Proposal}
 use Rattle.index_prices.proofs.ProposalLemmas.{price-told, query-bound}

@@ -1,0 +1,105 @@
+-- The part of a key list that can still be of use: the classes that it begins with that are open, or the order keys.
+use Rattle.std.proofs.Common.{◌≡◌, ◌≢◌, ◌⊎◌, ◌<◌, ◌≤◌, ℕ, zero, suc, Bool, true, false, ◌&&◌, ◌||◌, cond, nat_eq, List, [], ◌∷◌, length, take, get_or, inl, inr, refl, sym, ◌∙◌, ap, subst, subst₂, arith}
+use Rattle.std.specs.Prelude.{All, AllPairs, Option, Some, None, find, is_some}
+use Rattle.std.specs.List.{list_all, list_any}
+use Rattle.std.proofs.lemmas.Bool.{and_parts, eq-eqb, eqb-true, true≢false}
+use Rattle.std.proofs.lemmas.List.Elements.{All-cons, All-head, All-nil, All-tail, All-take}
+use Rattle.std.proofs.lemmas.List.Kept.{AllPairs-cons}
+use Rattle.pg_expr.specs.declared.operand.ColRef.{ColRef}
+use Rattle.eq_classes.specs.Clauses.{Set}
+use Rattle.eq_classes.specs.declared.classes.ClassNo.{ClassNo}
+use Rattle.pathkeys.specs.Finding.{class_numbers}
+use Rattle.pathkeys.specs.Keys.{AreDifferent, Keys, covers, order_keys}
+use Rattle.pathkeys.proofs.CoveringLemmas.{covers-refl}
+use Rattle.sql_query.specs.Queries.{Query}
+use Rattle.join_laws.specs.Useful.{are_open, is_open}
+use Rattle.join_search.specs.Sufficing.{IsPartOfUse}
+use Rattle.join_search.specs.declared.useful.Asked.{Asked}
+
+-- a class that is not open ends each list of open classes with which a list begins
+pub open-part : (q : Query) (s : Set) (keys ks : Keys) (n : ℕ) → n < length keys → is_open q s (get_or keys n 0) ≡ false → are_open q s ks ≡ true → covers keys ks ≡ true → covers (take n keys) ks ≡ true
+open-part q s [] ks n lt no all h = absurd (omega (arith, lt))
+open-part q s (k ∷ keys) [] zero lt no all h = refl
+open-part q s (k ∷ keys) [] (suc n) lt no all h = refl
+open-part q s (k ∷ keys) (l ∷ ks) zero lt no all h =
+    let same : k ≡ l = eqb-true k l (and_parts (nat_eq k l) (covers keys ks) h).0 in
+    let yes = (and_parts (is_open q s l) (list_all (is_open q s) ks) all).0 in
+    absurd (true≢false (sym yes ∙ ap (is_open q s) (sym same) ∙ no))
+open-part q s (k ∷ keys) (l ∷ ks) (suc n) lt no all h =
+    let parts = and_parts (nat_eq k l) (covers keys ks) h in
+    let rest = and_parts (is_open q s l) (list_all (is_open q s) ks) all in
+    ap (λ b. b && covers (take n keys) ks) parts.0 ∙ open-part q s keys ks n (omega (arith, lt)) no rest.1 parts.1
+
+-- the shorter of two lists with which one begins is what the longer one begins with
+pub shorter-covered : (keys a ks : Keys) → covers keys a ≡ true → covers keys ks ≡ true → length ks ≤ length a → covers a ks ≡ true
+shorter-covered keys [] [] h k le = refl
+shorter-covered keys [] (l ∷ ks) h k le = absurd (omega (arith, le))
+shorter-covered keys (m ∷ a) [] h k le = refl
+shorter-covered [] (m ∷ a) (l ∷ ks) h k le = absurd (true≢false (sym h))
+shorter-covered (n ∷ keys) (m ∷ a) (l ∷ ks) h k le =
+    let x = and_parts (nat_eq n m) (covers keys a) h in
+    let y = and_parts (nat_eq n l) (covers keys ks) k in
+    let same : m ≡ n = sym (eqb-true n m x.0) in
+    ap (λ b. b && covers a ks) (ap (λ v. nat_eq v l) same ∙ y.0) ∙ shorter-covered keys a ks x.1 y.1 (omega (arith, le))
+
+pub covers-take : (n : ℕ) (keys : Keys) → covers keys (take n keys) ≡ true
+covers-take zero [] = refl
+covers-take zero (k ∷ keys) = refl
+covers-take (suc n) [] = refl
+covers-take (suc n) (k ∷ keys) = ap (λ b. b && covers keys (take n keys)) (eq-eqb k k refl) ∙ covers-take n keys
+
+pub covered-length : (keys ks : Keys) → covers keys ks ≡ true → length ks ≤ length keys
+covered-length keys [] h = omega arith
+covered-length [] (l ∷ ks) h = absurd (true≢false (sym h))
+covered-length (k ∷ keys) (l ∷ ks) h = let le = covered-length keys ks (and_parts (nat_eq k l) (covers keys ks) h).1 in omega (arith, le)
+
+pub take-length : (n : ℕ) (keys : Keys) → n ≤ length keys → length (take n keys) ≡ n
+take-length zero [] le = refl
+take-length zero (k ∷ keys) le = refl
+take-length (suc n) [] le = absurd (omega (arith, le))
+take-length (suc n) (k ∷ keys) le = let e = take-length n keys (omega (arith, le)) in omega (arith, e)
+
+-- some element passes where one is found
+pub some-found : (test : ColRef → Bool) (xs : List ColRef) → is_some (find test xs) ≡ list_any test xs
+some-found test [] = refl
+some-found test (x ∷ xs) = by (test x) (some-found test xs)
+  where
+    by : (b : Bool) → is_some (find test xs) ≡ list_any test xs → is_some (cond b (Some x) (find test xs)) ≡ (b || list_any test xs)
+    by true e = refl
+    by false e = e
+
+pairs-take : (n : ℕ) (xs : Keys) → AreDifferent xs → AreDifferent (take n xs)
+pairs-take zero xs h = λ i j d lt le. absurd (omega (arith, lt, le))
+pairs-take (suc n) [] h = λ i j d lt le. absurd (omega (arith, lt, le))
+pairs-take (suc n) (x ∷ xs) h =
+    AllPairs-cons (λ a b. a ≢ b) x (take n xs) (All-take (λ b. x ≢ b) n xs (λ k d lt. h 0 (suc k) d (omega arith) (omega (arith, lt))))
+    (pairs-take n xs (λ i j d lt le. h (suc i) (suc j) d (omega (arith, lt)) (omega (arith, le))))
+
+-- the first classes of a list are different
+pub first-different : (n : ℕ) (items : List ClassNo) (keys : Keys) → class_numbers items ≡ keys → AreDifferent keys → (firsts : Keys) → firsts ≡ take n keys → AreDifferent firsts
+first-different n items keys e h firsts f = subst AreDifferent (sym f) (pairs-take n keys h)
+
+module _ (q : Query) (asked : Asked) (s : Set) (keys : Keys) where
+  -- the whole list is such a part, and where every list counts the only one
+  pub whole-part : (part : Keys) → part ≡ keys → IsPartOfUse q asked s keys part
+  whole-part part e ks used h = subst (λ a. covers a ks ≡ true) (sym e) h
+
+  -- the first classes, as many as begin each list of open ones
+  module _ (less : asked.every_key ≡ false) (n : ℕ) (within : n ≤ length keys) (open : (ks : Keys) → are_open q s ks ≡ true → covers keys ks ≡ true → covers (take n keys) ks ≡ true) where
+    -- the order keys, where they are more
+    pub order-part : (part : Keys) → part ≡ order_keys q.classes q.order → n < length part → covers keys part ≡ true → IsPartOfUse q asked s keys part
+    order-part part e lt h ks (inl all) k = absurd (true≢false (sym all ∙ less))
+    order-part part e lt h ks (inr (inl free)) k =
+        let few = covered-length (take n keys) ks (open ks free k) in
+        let many = take-length n keys within in
+        shorter-covered keys part ks h k (omega (arith, few, many, lt))
+    order-part part e lt h ks (inr (inr order)) k = subst (λ a. covers part a ≡ true) (e ∙ sym order) (covers-refl part)
+
+    pub first-part : (part : Keys) → part ≡ take n keys → (covers keys (order_keys q.classes q.order) ≡ true → length (order_keys q.classes q.order) ≤ n) → IsPartOfUse q asked s keys part
+    first-part part e most ks (inl all) k = absurd (true≢false (sym all ∙ less))
+    first-part part e most ks (inr (inl free)) k = subst (λ a. covers a ks ≡ true) (sym e) (open ks free k)
+    first-part part e most ks (inr (inr order)) k =
+        let le = most (subst (λ a. covers keys a ≡ true) order k) in
+        let same = ap (λ (l : Keys). length l) order in
+        let many = take-length n keys within in
+        subst (λ a. covers a ks ≡ true) (sym e) (shorter-covered keys (take n keys) ks (covers-take n keys) k (omega (arith, le, same, many)))

@@ -3,9 +3,9 @@ pub mod SetLemmas
 pub mod PlanLemmas
 pub mod TestedLemmas
 pub mod KeyLemmas
-pub mod UseLemmas
 pub mod OfferLemmas
 pub mod ItemLemmas
+pub mod UseLemmas
 pub mod NestLemmas
 pub mod ListLemmas
 pub mod MergeLemmas

@@ -27,7 +27,7 @@ use Rattle.join_search.specs.Splits.{IsDivided}
 use Rattle.join_search.specs.Sufficing.{StaySufficient}
 use Rattle.join_search.specs.declared.useful.Asked.{Asked}
 use Rattle.join_search.specs.declared.table.Table.{Table}
-use Rattle.join_search.proofs.ItemLemmas.{not-contained}
+use Rattle.join_search.proofs.ItemLemmas.{not-contained, plan-of-none, side-of-none}
 use Rattle.join_search.proofs.MergeLemmas.{merges-later}
 use Rattle.join_search.proofs.NestLemmas.{nests-later}
 use Rattle.join_search.proofs.OfferLemmas.{joins-there, paths-there}
@@ -218,6 +218,13 @@ module _ (c : Contents) (q : Query) (asked : Asked) where
   joins-enough fronts old new a b still h = record {
     nests = λ p o i x y built below. still (nest o i) (h.nests p o i x y built below);
     merges = λ keys o i x y built below. still (merge keys o i) (h.merges keys o i x y built below);
+  }
+
+  -- where the outer side has no paths there are no joins
+  pub split-none : (fronts : Fronts) (front : List Path) (a b : RelSet) → fronts a none ≡ [] → AreJoinsServed c q asked fronts front a b
+  split-none fronts front a b e = record {
+    nests = λ p o i x y built below. absurd (plan-of-none (fronts a none) o e x);
+    merges = λ keys o i x y built below. absurd (side-of-none (fronts a none) o e x);
   }
 
   -- one more part of a set

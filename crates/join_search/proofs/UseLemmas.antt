@@ -4,31 +4,39 @@ use Rattle.std.specs.Prelude.{All, AllPairs, Option, Some, None, find, is_some}
 use Rattle.std.specs.List.{list_all, list_any}
 use Rattle.std.proofs.lemmas.Bool.{and_parts, eq-eqb, eqb-true, true≢false}
 use Rattle.std.proofs.lemmas.List.Elements.{All-cons, All-head, All-nil, All-tail, All-take}
+use Rattle.std.proofs.lemmas.List.{length-map}
 use Rattle.std.proofs.lemmas.List.Kept.{AllPairs-cons}
+use Rattle.pg_base.specs.Sets.{has}
+use Rattle.pg_base.specs.declared.rel_set.RelSet.{RelSet}
 use Rattle.pg_expr.specs.declared.operand.ColRef.{ColRef}
 use Rattle.eq_classes.specs.Clauses.{Set}
+use Rattle.eq_classes.specs.Listing.{class_at}
+use Rattle.eq_classes.specs.Parts.{has_in}
 use Rattle.eq_classes.specs.declared.classes.ClassNo.{ClassNo}
 use Rattle.pathkeys.specs.Finding.{class_numbers}
 use Rattle.pathkeys.specs.Keys.{AreDifferent, Keys, covers, order_keys}
-use Rattle.pathkeys.proofs.CoveringLemmas.{covers-refl}
 use Rattle.sql_query.specs.Queries.{Query}
-use Rattle.join_laws.specs.Useful.{are_open, is_open}
+use Rattle.plan_tree.specs.Space.{IsSameSet}
+use Rattle.plan_tree.proofs.FrontLemmas.{all-sources}
+use Rattle.join_laws.specs.Useful.{are_open, is_open, outside}
 use Rattle.join_search.specs.Sufficing.{IsPartOfUse}
 use Rattle.join_search.specs.declared.useful.Asked.{Asked}
+use Rattle.join_search.proofs.ItemLemmas.{all-at}
+use Rattle.join_search.proofs.PlanLemmas.{sets-same}
 
 -- a class that is not open ends each list of open classes with which a list begins
 pub open-part : (q : Query) (s : Set) (keys ks : Keys) (n : ℕ) → n < length keys → is_open q s (get_or keys n 0) ≡ false → are_open q s ks ≡ true → covers keys ks ≡ true → covers (take n keys) ks ≡ true
-open-part q s [] ks n lt no all h = absurd (omega (arith, lt))
-open-part q s (k ∷ keys) [] zero lt no all h = refl
-open-part q s (k ∷ keys) [] (suc n) lt no all h = refl
-open-part q s (k ∷ keys) (l ∷ ks) zero lt no all h =
+open-part q s [] ks n lt closed all h = absurd (omega (arith, lt))
+open-part q s (k ∷ keys) [] zero lt closed all h = refl
+open-part q s (k ∷ keys) [] (suc n) lt closed all h = refl
+open-part q s (k ∷ keys) (l ∷ ks) zero lt closed all h =
     let same : k ≡ l = eqb-true k l (and_parts (nat_eq k l) (covers keys ks) h).0 in
-    let yes = (and_parts (is_open q s l) (list_all (is_open q s) ks) all).0 in
-    absurd (true≢false (sym yes ∙ ap (is_open q s) (sym same) ∙ no))
-open-part q s (k ∷ keys) (l ∷ ks) (suc n) lt no all h =
+    let is = (and_parts (is_open q s l) (list_all (is_open q s) ks) all).0 in
+    absurd (true≢false (sym is ∙ ap (is_open q s) (sym same) ∙ closed))
+open-part q s (k ∷ keys) (l ∷ ks) (suc n) lt closed all h =
     let parts = and_parts (nat_eq k l) (covers keys ks) h in
     let rest = and_parts (is_open q s l) (list_all (is_open q s) ks) all in
-    ap (λ b. b && covers (take n keys) ks) parts.0 ∙ open-part q s keys ks n (omega (arith, lt)) no rest.1 parts.1
+    ap (λ b. b && covers (take n keys) ks) parts.0 ∙ open-part q s keys ks n (omega (arith, lt)) closed rest.1 parts.1
 
 -- the shorter of two lists with which one begins is what the longer one begins with
 pub shorter-covered : (keys a ks : Keys) → covers keys a ≡ true → covers keys ks ≡ true → length ks ≤ length a → covers a ks ≡ true
@@ -75,31 +83,55 @@ pairs-take (suc n) (x ∷ xs) h =
     AllPairs-cons (λ a b. a ≢ b) x (take n xs) (All-take (λ b. x ≢ b) n xs (λ k d lt. h 0 (suc k) d (omega arith) (omega (arith, lt))))
     (pairs-take n xs (λ i j d lt le. h (suc i) (suc j) d (omega (arith, lt)) (omega (arith, le))))
 
--- the first classes of a list are different
-pub first-different : (n : ℕ) (items : List ClassNo) (keys : Keys) → class_numbers items ≡ keys → AreDifferent keys → (firsts : Keys) → firsts ≡ take n keys → AreDifferent firsts
-first-different n items keys e h firsts f = subst AreDifferent (sym f) (pairs-take n keys h)
+-- the first classes of a list, by their numbers
+pub numbers-take : (n : ℕ) (items : List ClassNo) (keys : Keys) → class_numbers items ≡ keys → class_numbers (take n items) ≡ take n keys
+numbers-take n items keys e = first n items ∙ ap (take n) e
+  where
+    first : (m : ℕ) (xs : List ClassNo) → class_numbers (take m xs) ≡ take m (class_numbers xs)
+    first zero [] = refl
+    first zero (x ∷ xs) = refl
+    first (suc m) [] = refl
+    first (suc m) (x ∷ xs) = ap (λ l. x.0 ∷ l) (first m xs)
+
+pub first-different : (n : ℕ) (items : List ClassNo) (keys : Keys) → class_numbers items ≡ keys → AreDifferent keys → AreDifferent (class_numbers (take n items))
+first-different n items keys e h = subst AreDifferent (sym (numbers-take n items keys e)) (pairs-take n keys h)
+
+-- the class of an item
+pub item-class : (P : ℕ → Type 0) (xs : List ClassNo) (n : ℕ) (x : ClassNo) → n < length xs → x ≡ get_or xs n x → All P (class_numbers xs) → P x.0
+item-class P xs n x lt is h = all-at (λ (k : ClassNo). P k.0) xs n x lt is (all-sources (λ (k : ClassNo). k.0) P xs h)
+
+number-at : (xs : List ClassNo) (n : ℕ) (x : ClassNo) → n < length xs → x ≡ get_or xs n x → get_or (class_numbers xs) n 0 ≡ x.0
+number-at [] n x lt is = absurd (omega (arith, lt))
+number-at (y ∷ xs) zero x lt is = sym (ap (λ (k : ClassNo). k.0) is)
+number-at (y ∷ xs) (suc n) x lt is = number-at xs n x (omega (arith, lt)) is
+
+-- a list up to a class without a member outside begins with each list of open ones with which the whole begins
+pub part-before : (q : Query) (out : RelSet) (xs : List ClassNo) (n : ℕ) (x : ClassNo) → n < length xs → x ≡ get_or xs n x → has_in (class_at q.classes.classes x.0) (has out.0) ≡ false →
+    (s : Set) (ks : Keys) → IsSameSet (has out.0) (outside q s) → are_open q s ks ≡ true → covers (class_numbers xs) ks ≡ true → covers (take n (class_numbers xs)) ks ≡ true
+part-before q out xs n x lt is never s ks same all h =
+    open-part q s (class_numbers xs) ks n (omega (arith, lt, length-map xs (λ (k : ClassNo). k.0)))
+    (ap (is_open q s) (number-at xs n x lt is) ∙ ap (has_in (class_at q.classes.classes x.0)) (sym (sets-same (has out.0) (outside q s) same)) ∙ never) all h
 
 module _ (q : Query) (asked : Asked) (s : Set) (keys : Keys) where
   -- the whole list is such a part, and where every list counts the only one
   pub whole-part : (part : Keys) → part ≡ keys → IsPartOfUse q asked s keys part
   whole-part part e ks used h = subst (λ a. covers a ks ≡ true) (sym e) h
 
-  -- the first classes, as many as begin each list of open ones
-  module _ (less : asked.every_key ≡ false) (n : ℕ) (within : n ≤ length keys) (open : (ks : Keys) → are_open q s ks ≡ true → covers keys ks ≡ true → covers (take n keys) ks ≡ true) where
-    -- the order keys, where they are more
-    pub order-part : (part : Keys) → part ≡ order_keys q.classes q.order → n < length part → covers keys part ≡ true → IsPartOfUse q asked s keys part
-    order-part part e lt h ks (inl all) k = absurd (true≢false (sym all ∙ less))
-    order-part part e lt h ks (inr (inl free)) k =
-        let few = covered-length (take n keys) ks (open ks free k) in
-        let many = take-length n keys within in
-        shorter-covered keys part ks h k (omega (arith, few, many, lt))
-    order-part part e lt h ks (inr (inr order)) k = subst (λ a. covers part a ≡ true) (e ∙ sym order) (covers-refl part)
+  -- the first classes, at least as many as begin each list of open ones, and as the order keys where the list begins with them
+  pub first-part : (n used : ℕ) (part : Keys) → asked.every_key ≡ false → part ≡ take used keys → used ≤ length keys → n ≤ used → ((ks : Keys) → are_open q s ks ≡ true → covers keys ks ≡ true → covers (take n keys) ks ≡ true) →
+      (covers keys (order_keys q.classes q.order) ≡ true → length (order_keys q.classes q.order) ≤ used) → IsPartOfUse q asked s keys part
+  first-part n used part less e within more begins most ks of_use k = subst (λ a. covers a ks ≡ true) (sym e) (shorter-covered keys (take used keys) ks (covers-take used keys) k (by of_use))
+    where
+      many : length (take used keys) ≡ used
+      many = take-length used keys within
 
-    pub first-part : (part : Keys) → part ≡ take n keys → (covers keys (order_keys q.classes q.order) ≡ true → length (order_keys q.classes q.order) ≤ n) → IsPartOfUse q asked s keys part
-    first-part part e most ks (inl all) k = absurd (true≢false (sym all ∙ less))
-    first-part part e most ks (inr (inl free)) k = subst (λ a. covers a ks ≡ true) (sym e) (open ks free k)
-    first-part part e most ks (inr (inr order)) k =
-        let le = most (subst (λ a. covers keys a ≡ true) order k) in
-        let same = ap (λ (l : Keys). length l) order in
-        let many = take-length n keys within in
-        subst (λ a. covers a ks ≡ true) (sym e) (shorter-covered keys (take n keys) ks (covers-take n keys) k (omega (arith, le, same, many)))
+      first : length (take n keys) ≡ n
+      first = take-length n keys (omega (arith, more, within))
+
+      by : (asked.every_key ≡ true) ⊎ ((are_open q s ks ≡ true) ⊎ (ks ≡ order_keys q.classes q.order)) → length ks ≤ length (take used keys)
+      by (inl all) = absurd (true≢false (sym all ∙ less))
+      by (inr (inl free)) = let few = covered-length (take n keys) ks (begins ks free k) in omega (arith, few, first, more, many)
+      by (inr (inr order)) =
+          let le = most (subst (λ a. covers keys a ≡ true) order k) in
+          let same = ap (λ (l : Keys). length l) order in
+          omega (arith, le, same, many)

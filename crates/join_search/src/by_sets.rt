@@ -70,6 +70,9 @@ pub(crate) fn offer_part(
     ensures takes { TakesJoins cat.now q.now (paths_at table.now) set (map path front.old) (map path front.new) }
     ensures served { OnOk result ((b : sets.RelSet) → IsDivided set part b → AreJoinsServed cat.now q.now asked (paths_at table.now) (map path front.new) part b) }
 {
+    if table.has_none(part) {
+        return Ok(());
+    }
     if part.within(set) {
         let j = divide(cat, q, asked, set, rows, part, set.minus(part));
         offer_split(alloc, cat, q, table, j, front)?;

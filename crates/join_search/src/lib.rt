@@ -17,4 +17,4 @@ pub use by_sets::search;
 pub use likely::likely_plans;
 pub use splits::all_relations;
 pub use table::Table;
-pub use useful::Asked;
+pub use useful::{Asked, order_asked};

@@ -431,6 +431,9 @@ pub(crate) fn offer_merges(
     ensures takes { TakesJoins cat.now q.now (paths_at table.now) j.set (map path front.old) (map path front.new) }
     ensures served { OnOk result ((by : keys.Keys) → AreMergesServed cat.now q.now j.asked (map path front.new) (paths_at table.now j.outer none) (paths_at table.now j.inner none) by) }
 {
+    if table.has_none(j.inner) {
+        return Ok(());
+    }
     let lists = merge_lists(alloc, cat, q, j.outer, j.inner)?;
     for by in &lists {
         offer_merges_by(alloc, cat, q, table, j, by, front)?;

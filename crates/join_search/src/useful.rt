@@ -62,7 +62,7 @@ fn has_member(q: &Prepared, class: ClassNo, set: RelSet) -> bool
 fn open_classes(q: &Prepared, outside: RelSet, list: &[ClassNo]) -> usize
     requires { All (λ n. n < length q.now.classes.classes) (class_numbers list.now) }
     ensures within { result ≤ length list.now }
-    ensures open { (s : Set) (ks : keys.Keys) → IsSameSet (has outside.0) (uses.outside q.now s) → IsTrue (uses.are_open q.now s ks) → IsTrue (keys.covers (class_numbers list.now) ks) → IsTrue (keys.covers (take result (class_numbers list.now)) ks) }
+    ensures begins { (s : Set) (ks : keys.Keys) → IsSameSet (has outside.0) (uses.outside q.now s) → IsTrue (uses.are_open q.now s ks) → IsTrue (keys.covers (class_numbers list.now) ks) → IsTrue (keys.covers (take result (class_numbers list.now)) ks) }
 {
     for n in 0..list.len() {
         if !has_member(q, list[n], outside) {
@@ -72,12 +72,32 @@ fn open_classes(q: &Prepared, outside: RelSet, list: &[ClassNo]) -> usize
     list.len()
 }
 
+/// The greater number of classes: so many, or those of the order keys where a list begins with them.
+fn used_classes(free: usize, list: &Keys, order: &Keys) -> usize
+    requires { free ≤ length list.now }
+    ensures free { free ≤ result }
+    ensures order { IsTrue (keys.covers list.now order.now) → length order.now ≤ result }
+    ensures within { result ≤ length list.now }
+{
+    if !covers(list, order) {
+        return free;
+    }
+    free.max(order.items().len())
+}
+
 /// The first classes of a list. The error means want of memory.
 fn first_classes(alloc: Global, list: &Keys, n: usize) -> Result<Keys, Memory>
     requires { n ≤ length list.now }
     ensures { IfOk result (λ ks. ks ≡ take n list.now) }
 {
     Keys::from_slice(alloc, &list.items()[..n])
+}
+
+/// The order keys of a query. The error means want of memory.
+pub fn order_asked(alloc: Global, q: &Prepared) -> Result<Keys, Memory>
+    ensures { IfOk result (λ ks. ks ≡ keys.order_keys q.now.classes q.now.order) }
+{
+    order_keys(alloc, classes_of(q), q.order.items())
 }
 
 /// The part of the keys of a path of a set that can still be of use: classes that have a member outside of the set, so that
@@ -95,10 +115,8 @@ pub(crate) fn useful(
     if asked.every_key {
         return list.copy(alloc);
     }
-    let order = order_keys(alloc, classes_of(q), q.order.items())?;
-    let open = open_classes(q, outside, list.items());
-    if open < order.items().len() && covers(list, &order) {
-        return Ok(order);
-    }
-    first_classes(alloc, list, open)
+    let order = order_asked(alloc, q)?;
+    let free = open_classes(q, outside, list.items());
+    let used = used_classes(free, list, &order);
+    first_classes(alloc, list, used)
 }

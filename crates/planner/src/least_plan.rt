@@ -1,6 +1,6 @@
 //! The plan that a query is answered by.
 
-ghost use Rattle.std.specs.Prelude.{◌≡◌, ◌<◌, ◌≤◌, ℕ, IfErr, IfNone, IfOk, IfSome, map};
+ghost use Rattle.std.specs.Prelude.{◌≡◌, ◌<◌, ◌≤◌, ℕ, IfErr, IfNone, IfOk, IfSome, MatchOption, map};
 ghost use Rattle.cost_rules.specs.declared.parameters.TheConstants.{MOST_COST};
 ghost use Rattle.sql_query.specs.Queries.{width};
 ghost use Rattle.plan_tree.specs.Reads.{IsOverTables};
@@ -21,10 +21,10 @@ use crate::base::base_table;
 use crate::finishing::{finish, least_place};
 use catalog::Catalog;
 use cost_rules::MOST_COST;
-use join_search::{Asked, Table, all_relations, likely_plans, search};
-use pathkeys::{Keys, order_keys};
+use join_search::{Asked, Table, all_relations, likely_plans, order_asked, search};
+use pathkeys::Keys;
 use pg_base::{Memory, RelSet};
-use plan_tree::{Path, classes_of, range_of};
+use plan_tree::{Path, range_of};
 use sql_query::Prepared;
 use std::alloc::{AllocError, Global};
 
@@ -52,13 +52,6 @@ impl From<AllocError> for PlanFault {
     fn from(_: AllocError) -> PlanFault {
         PlanFault::Memory
     }
-}
-
-/// The order keys of a query. The error means want of memory.
-fn order_asked(alloc: Global, q: &Prepared) -> Result<Keys, Memory>
-    ensures { IfOk result (λ ks. ks ≡ keys.order_keys q.now.classes q.now.order) }
-{
-    order_keys(alloc, classes_of(q), q.order.items())
 }
 
 /// The paths of all relations, lent.
@@ -153,6 +146,16 @@ fn plan_below(
     least_of(alloc, cat, q, asked, whole_paths(&table, all), order)
 }
 
+/// What was found, or that each plan is past the limit of costs.
+fn planned_or_past(found: Option<Planned>) -> Result<Planned, PlanFault>
+    ensures { MatchOption found (result ≡ Err CostLimit) (λ planned. result ≡ Ok planned) }
+{
+    match found {
+        Some(planned) => Ok(planned),
+        None => Err(PlanFault::CostLimit),
+    }
+}
+
 /// A plan of least price: its path is of a finished plan below 10^18, and no other such plan of the whole plan space is of
 /// a lower price, whatever joins it is made of. The price is the total, or under a window what the rows asked for cost. A
 /// plan of all relations whose keys begin with the order keys is finished; any other is sorted. `CostLimit` comes exactly
@@ -173,8 +176,6 @@ pub fn plan(alloc: Global, cat: &Catalog, q: &Prepared) -> Result<Planned, PlanF
         return Ok(planned);
     }
     let base = base_table(alloc, cat, q)?;
-    match plan_below(alloc, cat, q, MOST_COST, base, &order)? {
-        Some(planned) => Ok(planned),
-        None => Err(PlanFault::CostLimit),
-    }
+    let found = plan_below(alloc, cat, q, MOST_COST, base, &order)?;
+    planned_or_past(found)
 }

@@ -8,8 +8,8 @@ use Rattle.join_search.proofs.FrontingLemmas.{made-beaten, offered-enough, offer
 use Rattle.join_search.proofs.KeyLemmas.{path-classes}
 use Rattle.join_search.proofs.by_sets.keep.Goals as goal
 
-pub useful-part-requires : goal.useful-part-requires
-useful-part-requires c = path-classes c.args.cat.now c.args.q.now c.args.set none (path c.args.made) c.requires.made
+pub useful-requires : goal.useful-requires
+useful-requires c = path-classes c.args.cat.now c.args.q.now c.args.set none (path c.args.made) c.requires.made
 
 pub returns-then-branch-clause-some : goal.returns-then-branch-clause-some
 returns-then-branch-clause-some c = keeps-itself c.args.kept.now c.args.made

@@ -14,18 +14,18 @@ use Rattle.join_search.proofs.MergeLemmas.{sides-beaten, sides-kept, sides-plan}
 use Rattle.join_search.proofs.OfferLemmas.{dominating-serves, joins-there, past-limit}
 use Rattle.join_search.proofs.merges.offer_merge.Goals as goal
 
-pub useful-part-requires : goal.useful-part-requires
-useful-part-requires c =
+pub useful-requires : goal.useful-requires
+useful-requires c =
     let contents = c.args.cat.now in
     let q = c.args.q.now in
     let j = c.args.j in
     subst (AreClasses q) (sym c.in_ok-keys.ensures)
     (side-classes contents q j.outer (has j.outer.0) (has j.inner.0) c.args.by.now (side_path c.args.outer) c.args.outer.sorted (there-at contents q (paths_at c.args.table.now) j.outer none (side_path c.args.outer) c.requires.placed c.requires.outer.is_there) c.requires.list)
 
-pub returns-else-is_below-clause-served : goal.returns-else-is_below-clause-served
-returns-else-is_below-clause-served c =
+pub returns-then-not-is_below-clause-served : goal.returns-then-not-is_below-clause-served
+returns-then-not-is_below-clause-served c =
     past-limit c.args.cat.now c.args.q.now c.args.j.asked (map path c.args.front.now) (merge c.args.by.now (side_plan c.args.by.now c.args.outer) (side_plan c.args.by.now c.args.inner)) c.merge_kept-cost.result c.merge_kept-cost.ensures
-    (c.is_below.ensures.no c.if-is_below.false)
+    (c.is_below.ensures.no c.if-not-is_below.true)
 
 pub returns-then-branch-clause-served : goal.returns-then-branch-clause-served
 returns-then-branch-clause-served c =

@@ -7,7 +7,7 @@ use Rattle.plan_tree.specs.Views.{path}
 use Rattle.join_search.specs.Offers.{AreMergesServed}
 use Rattle.join_search.specs.Tables.{none, paths_at}
 use Rattle.join_search.proofs.ItemLemmas.{all-at, all-more, all-taken}
-use Rattle.join_search.proofs.MergeLemmas.{merges-all, merges-later}
+use Rattle.join_search.proofs.MergeLemmas.{merges-all, merges-later, merges-none}
 use Rattle.join_search.proofs.OfferLemmas.{takes-none, takes-then}
 use Rattle.join_search.proofs.merges.offer_merges.Goals as goal
 
@@ -51,3 +51,11 @@ returns-clause-served c =
     merges-all c.args.cat.now c.args.q.now c.args.j.asked (map path c.loop-by.front) (fronts j.outer none) (fronts j.inner none) j.outer j.inner c.deref-by-items.result.now (c.requires.placed.paths j.outer none) (c.requires.placed.paths j.inner none)
     (λ keys is. subst (λ (ls : List Keys). Contains ls keys) (sym c.deref-by-items.ensures.value) (c.in_ok-lists.ensures.complete keys is))
     (all-taken (AreMergesServed c.args.cat.now c.args.q.now c.args.j.asked (map path c.loop-by.front) (fronts j.outer none) (fronts j.inner none)) c.deref-by-items.result.now c.loop-by.by-index c.loop-by-test.false c.loop-by.invariant.served)
+
+pub returns-then-has_none-clause-takes : goal.returns-then-has_none-clause-takes
+returns-then-has_none-clause-takes c = takes-none c.args.cat.now c.args.q.now (paths_at c.args.table.now) c.args.j.set (map path c.args.front.now) c.requires.joins
+
+pub returns-then-has_none-clause-served : goal.returns-then-has_none-clause-served
+returns-then-has_none-clause-served c =
+    let fronts = paths_at c.args.table.now in
+    λ by'. merges-none c.args.cat.now c.args.q.now c.args.j.asked (map path c.args.front.now) (fronts c.args.j.outer none) (fronts c.args.j.inner none) by' (c.has_none.ensures c.if-has_none.true)

@@ -14,13 +14,13 @@ use Rattle.join_search.proofs.NestLemmas.{nest-plan}
 use Rattle.join_search.proofs.OfferLemmas.{beaten-sufficient, dominating-serves, past-limit}
 use Rattle.join_search.proofs.nests.offer_nest.Goals as goal
 
-pub useful-part-requires : goal.useful-part-requires
-useful-part-requires c = path-classes c.args.cat.now c.args.q.now c.args.j.outer none (path c.args.outer.now) c.requires.outer
+pub useful-requires : goal.useful-requires
+useful-requires c = path-classes c.args.cat.now c.args.q.now c.args.j.outer none (path c.args.outer.now) c.requires.outer
 
-pub returns-else-is_below-clause-served : goal.returns-else-is_below-clause-served
-returns-else-is_below-clause-served c =
+pub returns-then-not-is_below-clause-served : goal.returns-then-not-is_below-clause-served
+returns-then-not-is_below-clause-served c =
     past-limit c.args.cat.now c.args.q.now c.args.j.asked (map path c.args.front.now) (nest (path c.args.outer.now).tree (path c.args.inner.now).tree) c.nest_kept-cost.result c.nest_kept-cost.ensures
-    (c.is_below.ensures.no c.if-is_below.false)
+    (c.is_below.ensures.no c.if-not-is_below.true)
 
 pub returns-then-branch-clause-served : goal.returns-then-branch-clause-served
 returns-then-branch-clause-served c =

@@ -17,11 +17,9 @@ use Rattle.pathkeys.specs.Finding.{class_numbers}
 use Rattle.pathkeys.specs.Keys.{AreDifferent, Keys, covers, order_keys}
 use Rattle.sql_query.specs.Queries.{Query}
 use Rattle.plan_tree.specs.Space.{IsSameSet}
-use Rattle.plan_tree.proofs.FrontLemmas.{all-sources}
 use Rattle.join_laws.specs.Useful.{are_open, is_open, outside}
 use Rattle.join_search.specs.Sufficing.{IsPartOfUse}
 use Rattle.join_search.specs.declared.useful.Asked.{Asked}
-use Rattle.join_search.proofs.ItemLemmas.{all-at}
 use Rattle.join_search.proofs.PlanLemmas.{sets-same}
 
 -- a class that is not open ends each list of open classes with which a list begins
@@ -97,20 +95,20 @@ pub first-different : (n : ℕ) (items : List ClassNo) (keys : Keys) → class_n
 first-different n items keys e h = subst AreDifferent (sym (numbers-take n items keys e)) (pairs-take n keys h)
 
 -- the class of an item
-pub item-class : (P : ℕ → Type 0) (xs : List ClassNo) (n : ℕ) (x : ClassNo) → n < length xs → x ≡ get_or xs n x → All P (class_numbers xs) → P x.0
-item-class P xs n x lt is h = all-at (λ (k : ClassNo). P k.0) xs n x lt is (all-sources (λ (k : ClassNo). k.0) P xs h)
+number-at : (xs : List ClassNo) (n : ℕ) (d : ClassNo) → n < length xs → get_or (class_numbers xs) n 0 ≡ (get_or xs n d).0
+number-at [] n d lt = absurd (omega (arith, lt))
+number-at (y ∷ xs) zero d lt = refl
+number-at (y ∷ xs) (suc n) d lt = number-at xs n d (omega (arith, lt))
 
-number-at : (xs : List ClassNo) (n : ℕ) (x : ClassNo) → n < length xs → x ≡ get_or xs n x → get_or (class_numbers xs) n 0 ≡ x.0
-number-at [] n x lt is = absurd (omega (arith, lt))
-number-at (y ∷ xs) zero x lt is = sym (ap (λ (k : ClassNo). k.0) is)
-number-at (y ∷ xs) (suc n) x lt is = number-at xs n x (omega (arith, lt)) is
+pub item-class : (P : ℕ → Type 0) (xs : List ClassNo) (n : ℕ) (d : ClassNo) → n < length xs → All P (class_numbers xs) → P (get_or xs n d).0
+item-class P xs n d lt h = subst P (number-at xs n d lt) (h n 0 (omega (arith, lt, length-map xs (λ (k : ClassNo). k.0))))
 
 -- a list up to a class without a member outside begins with each list of open ones with which the whole begins
-pub part-before : (q : Query) (out : RelSet) (xs : List ClassNo) (n : ℕ) (x : ClassNo) → n < length xs → x ≡ get_or xs n x → has_in (class_at q.classes.classes x.0) (has out.0) ≡ false →
+pub part-before : (q : Query) (out : RelSet) (xs : List ClassNo) (n : ℕ) (d : ClassNo) → n < length xs → has_in (class_at q.classes.classes (get_or xs n d).0) (has out.0) ≡ false →
     (s : Set) (ks : Keys) → IsSameSet (has out.0) (outside q s) → are_open q s ks ≡ true → covers (class_numbers xs) ks ≡ true → covers (take n (class_numbers xs)) ks ≡ true
-part-before q out xs n x lt is never s ks same all h =
+part-before q out xs n d lt never s ks same all h =
     open-part q s (class_numbers xs) ks n (omega (arith, lt, length-map xs (λ (k : ClassNo). k.0)))
-    (ap (is_open q s) (number-at xs n x lt is) ∙ ap (has_in (class_at q.classes.classes x.0)) (sym (sets-same (has out.0) (outside q s) same)) ∙ never) all h
+    (ap (is_open q s) (number-at xs n d lt) ∙ ap (has_in (class_at q.classes.classes (get_or xs n d).0)) (sym (sets-same (has out.0) (outside q s) same)) ∙ never) all h
 
 module _ (q : Query) (asked : Asked) (s : Set) (keys : Keys) where
   -- the whole list is such a part, and where every list counts the only one

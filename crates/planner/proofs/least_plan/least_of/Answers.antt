@@ -24,28 +24,28 @@ returns-then-least-ge-asked-clause-none c = λ whole.
 
 pub finish-requires-clause-whole : goal.finish-requires-clause-whole
 finish-requires-clause-whole c =
-    at-place (IsWhole c.args.cat.now c.args.q.now) c.args.paths.now c.in-Some.least.at c.index-paths.result c.in-Some.ensures.within c.index-paths.is c.requires.candidates.whole
+    at-place (IsWhole c.args.cat.now c.args.q.now) c.args.paths.now c.in-Some.least.at c.index-paths-least.result c.in-Some.ensures.within c.index-paths-least.is c.requires.candidates.whole
 
-pub returns-in_ok-best-clause-best : goal.returns-in_ok-best-clause-best
-returns-in_ok-best-clause-best c =
+pub returns-clause-best : goal.returns-clause-best
+returns-clause-best c =
     let contents = c.args.cat.now in
     let q = c.args.q.now in
-    let x = c.index-paths.result in
-    let whole = at-place (IsWhole contents q) c.args.paths.now c.in-Some.least.at x c.in-Some.ensures.within c.index-paths.is c.requires.candidates.whole in
+    let x = c.index-paths-least.result in
+    let whole = at-place (IsWhole contents q) c.args.paths.now c.in-Some.least.at x c.in-Some.ensures.within c.index-paths-least.is c.requires.candidates.whole in
     record {
       finished = subst (IsFinished contents q) (sym c.in_ok-best.ensures.tree) (is-finished contents q (path x).tree whole.plan);
       numbers = c.in_ok-best.ensures.numbers;
     }
 
-pub returns-in_ok-best-clause-least : goal.returns-in_ok-best-clause-least
-returns-in_ok-best-clause-least c =
+pub returns-clause-least : goal.returns-clause-least
+returns-clause-least c =
     let contents = c.args.cat.now in
     let q = c.args.q.now in
     let paths = c.args.paths.now in
-    let x = c.index-paths.result in
-    let whole = at-place (IsWhole contents q) paths c.in-Some.least.at x c.in-Some.ensures.within c.index-paths.is c.requires.candidates.whole in
-    let least = subst (λ (y : Path). IsLeastOf contents q (map path paths) (path y).tree) (sym c.index-paths.is) (c.in-Some.ensures.least x) in
-    let priced = subst (λ (y : Path). IsPriced contents q (path y) c.in-Some.least.price) (sym c.index-paths.is) (c.in-Some.ensures.priced x) in
+    let x = c.index-paths-least.result in
+    let whole = at-place (IsWhole contents q) paths c.in-Some.least.at x c.in-Some.ensures.within c.index-paths-least.is c.requires.candidates.whole in
+    let least = subst (λ (y : Path). IsLeastOf contents q (map path paths) (path y).tree) (sym c.index-paths-least.is) (c.in-Some.ensures.least x) in
+    let priced = subst (λ (y : Path). IsPriced contents q (path y) c.in-Some.least.price) (sym c.index-paths-least.is) (c.in-Some.ensures.priced x) in
     let price = priced.price in
     subst (IsBestPlan contents q) (sym c.in_ok-best.ensures.tree)
     (least-best contents q (lawful-rows contents q c.lawful.ensures) c.args.asked (map path paths) c.requires.candidates (path x).tree whole.plan least (omega (arith, price, c.if-least-ge-asked.false)))

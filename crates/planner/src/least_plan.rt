@@ -156,6 +156,25 @@ fn planned_or_past(found: Option<Planned>) -> Result<Planned, PlanFault>
     }
 }
 
+/// A plan of least price of a query over tables: first below the price of a likely one, then, where none is found so, below
+/// the limit of costs.
+fn plan_over(alloc: Global, cat: &Catalog, q: &Prepared) -> Result<Planned, PlanFault>
+    requires query { IsOverTables cat.now q.now }
+    ensures best { IfOk result (λ planned. IsFinishedPath cat.now q.now (path planned.best)) }
+    ensures least { IfOk result (λ planned. IsBestPlan cat.now q.now (path planned.best).tree) }
+    ensures limit { IfErr result (λ e. e ≡ CostLimit → (t : plans.Plan) → IsFinished cat.now q.now t → ¬ IsAdmissible cat.now q.now t) }
+{
+    let order = order_asked(alloc, q)?;
+    let limit = likely_limit(alloc, cat, q, &order)?;
+    let base = base_table(alloc, cat, q)?;
+    if let Some(planned) = plan_below(alloc, cat, q, limit, base, &order)? {
+        return Ok(planned);
+    }
+    let base = base_table(alloc, cat, q)?;
+    let found = plan_below(alloc, cat, q, MOST_COST, base, &order)?;
+    planned_or_past(found)
+}
+
 /// A plan of least price: its path is of a finished plan below 10^18, and no other such plan of the whole plan space is of
 /// a lower price, whatever joins it is made of. The price is the total, or under a window what the rows asked for cost. A
 /// plan of all relations whose keys begin with the order keys is finished; any other is sorted. `CostLimit` comes exactly
@@ -168,14 +187,5 @@ pub fn plan(alloc: Global, cat: &Catalog, q: &Prepared) -> Result<Planned, PlanF
     ensures least { IfOk result (λ planned. IsBestPlan cat.now q.now (path planned.best).tree) }
     ensures limit { IfErr result (λ e. e ≡ CostLimit → (t : plans.Plan) → IsFinished cat.now q.now t → ¬ IsAdmissible cat.now q.now t) }
 {
-    cat.lawful();
-    let order = order_asked(alloc, q)?;
-    let limit = likely_limit(alloc, cat, q, &order)?;
-    let base = base_table(alloc, cat, q)?;
-    if let Some(planned) = plan_below(alloc, cat, q, limit, base, &order)? {
-        return Ok(planned);
-    }
-    let base = base_table(alloc, cat, q)?;
-    let found = plan_below(alloc, cat, q, MOST_COST, base, &order)?;
-    planned_or_past(found)
+    plan_over(alloc, cat, q)
 }

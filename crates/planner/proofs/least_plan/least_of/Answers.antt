@@ -16,11 +16,11 @@ some-item (x ∷ xs) n lt = x
 pub returns-in-None-clause-none : goal.returns-in-None-clause-none
 returns-in-None-clause-none c = λ whole. none-finished c.args.cat.now c.args.q.now (lawful-rows c.args.cat.now c.args.q.now c.lawful.ensures) c.args.asked (map path c.args.paths.now) c.requires.candidates whole c.in-None.ensures.none
 
-pub returns-then-least-ge-asked-clause-none : goal.returns-then-least-ge-asked-clause-none
-returns-then-least-ge-asked-clause-none c = λ whole.
+pub returns-then-least-asked-clause-none : goal.returns-then-least-asked-clause-none
+returns-then-least-asked-clause-none c = λ whole.
     let d = some-item c.args.paths.now c.in-Some.least.at c.in-Some.ensures.within in
     let below = (c.in-Some.ensures.priced d).below in
-    absurd (omega (arith, whole, below, c.if-least-ge-asked.true))
+    absurd (omega (arith, whole, below, c.if-least-asked.true))
 
 pub finish-requires-clause-whole : goal.finish-requires-clause-whole
 finish-requires-clause-whole c =
@@ -48,4 +48,4 @@ returns-clause-least c =
     let priced = subst (λ (y : Path). IsPriced contents q (path y) c.in-Some.least.price) (sym c.index-paths-least.is) (c.in-Some.ensures.priced x) in
     let price = priced.price in
     subst (IsBestPlan contents q) (sym c.in_ok-best.ensures.tree)
-    (least-best contents q (lawful-rows contents q c.lawful.ensures) c.args.asked (map path paths) c.requires.candidates (path x).tree whole.plan least (omega (arith, price, c.if-least-ge-asked.false)))
+    (least-best contents q (lawful-rows contents q c.lawful.ensures) c.args.asked (map path paths) c.requires.candidates (path x).tree whole.plan least (omega (arith, price, c.if-least-asked.false)))

@@ -30,7 +30,7 @@ mod script;
 use bitmap_scan::bitmaps;
 use catalog::{Catalog, RangeTable};
 use eq_classes::{ClassNo, Classes, OrderItem};
-use join_search::{Table, search};
+use join_search::{Asked, Table, search};
 use pareto::Front;
 use pathkeys::{Keys, order_keys};
 use pg_base::{ColNo, IndexNo, RelNo, RelSet, TableNo};
@@ -172,7 +172,7 @@ fn show_fronts(rt: HostRuntime, cat: &Catalog, q: &Prepared) -> io::Result<()> {
             }
         }
     }
-    let table = search(alloc, cat, q, base)?;
+    let table = search(alloc, cat, q, Asked { every_key: true, limit: 1_000_000_000_000_000_000 }, base)?;
     for s in 1..1u16 << n {
         if s & (s - 1) != 0 {
             match table.front(RelSet(s), RelSet(0)) {

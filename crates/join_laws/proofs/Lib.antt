@@ -1,3 +1,4 @@
 pub mod InductionLemmas
+pub mod WithinLemmas
 pub mod UsefulLemmas
 pub mod LeastLemmas

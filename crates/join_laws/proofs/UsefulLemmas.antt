@@ -7,7 +7,7 @@ use Rattle.std.proofs.Math.Nat.{lt_of_le_of_lt}
 use Rattle.std.proofs.lemmas.Bool.{or_cases, and_parts, and_from, eqb-true}
 use Rattle.pg_expr.specs.declared.operand.ColRef.{ColRef}
 use Rattle.catalog.specs.Contents.{Contents}
-use Rattle.sql_query.specs.Queries.{Query}
+use Rattle.sql_query.specs.Queries.{Query, all_of_query}
 use Rattle.sql_query.specs.declared.window.Window.{Window}
 use Rattle.eq_classes.specs.Classes.{Class}
 use Rattle.eq_classes.specs.Clauses.{Set, has_constant}
@@ -15,16 +15,17 @@ use Rattle.eq_classes.specs.Parts.{has_in, is_joining, joining_from}
 use Rattle.eq_classes.specs.Listing.{class_at}
 use Rattle.eq_classes.specs.Holding.{AreApart, IsWithin}
 use Rattle.pathkeys.specs.Keys.{Keys, covers, order_keys}
-use Rattle.pathkeys.proofs.CoveringLemmas.{covers-refl}
+use Rattle.pathkeys.proofs.CoveringLemmas.{covers-refl, covers-trans}
 use Rattle.plan_tree.specs.Plans.{Plan, seq, index, index_only, bitmap, sort, nest, merge, is_sort, set_of}
 use Rattle.plan_tree.specs.Keys.{keys_of}
 use Rattle.plan_tree.specs.Costs.{cost, HaveRows}
 use Rattle.plan_tree.specs.Space.{IsLike, IsBuilt, IsNest, IsMerge, IsMergeList, HasKeys}
-use Rattle.plan_tree.specs.Least.{IsAdmissible, IsStartupAtMost}
+use Rattle.plan_tree.specs.Least.{Dominates, IsAdmissible, IsStartupAtMost}
 use Rattle.plan_tree.proofs.BoundLemmas.{merge-most, nest-most, sort-most, startup-most}
 use Rattle.plan_tree.proofs.LikeLemmas.{set-like}
 use Rattle.plan_tree.proofs.ReplacingLemmas.{nest-replaced, nest-totals, merge-replaced, merge-totals, sort-totals}
 use Rattle.join_laws.specs.Closed.{IsKeptSide}
+use Rattle.join_laws.proofs.WithinLemmas.{built-within}
 use Rattle.join_laws.specs.Useful.{outside, is_open, are_open, IsOfUse, Suffices, StandsIn, floor_by, IsBelow, HasEnough, IsClosedBelow}
 
 -- what is within a set is open to more
@@ -52,25 +53,28 @@ all-weaker f g h (n ∷ ns) e =
 in-weaker : (c : Class) (s t : Set) → IsWithin s t → has_in c s ≡ true → has_in c t ≡ true
 in-weaker c s t h e = any-weaker {A = ColRef} (λ x. s x.rel.0) (λ x. t x.rel.0) (λ x. h x.rel.0) c.members e
 
-outside-weaker : (s t : Set) → IsWithin s t → IsWithin (outside t) (outside s)
-outside-weaker s t h k e = not-within (s k) (t k) (h k) e
+outside-weaker : (q : Query) (s t : Set) → IsWithin s t → IsWithin (outside q t) (outside q s)
+outside-weaker q s t h k e =
+    let parts = and_parts (all_of_query q k) (not (t k)) e in
+    and_from (all_of_query q k) (not (s k)) parts.0 (not-within (s k) (t k) (h k) parts.1)
 
 -- a class that is joining is one of the list
 pub record IsJoiningAt (a b : Set) (m : ℕ) (cs : List Class) (n : ℕ) : Type 0 where
   pub at : ℕ
   pub is : n ≡ m + at
   pub joins : is_joining a b (class_at cs at) ≡ true
+  pub within : at < length cs
 
 joining-at : (a b : Set) (m : ℕ) (cs : List Class) (n : ℕ) → list_any (nat_eq n) (joining_from a b m cs) ≡ true → IsJoiningAt a b m cs n
 joining-at a b m [] n h = absurd (true≢false (sym h))
 joining-at a b m (c ∷ cs) n h = by (joining-at a b (suc m) cs n) (is_joining a b c) refl h
   where
     shift : IsJoiningAt a b (suc m) cs n → IsJoiningAt a b m (c ∷ cs) n
-    shift j = let same = j.is in record { at = suc j.at; is = omega (arith, same); joins = j.joins }
+    shift j = let same = j.is in record { at = suc j.at; is = omega (arith, same); joins = j.joins; within = omega (arith, j.within) }
 
     by : (list_any (nat_eq n) (joining_from a b (suc m) cs) ≡ true → IsJoiningAt a b (suc m) cs n) → (v : Bool) → is_joining a b c ≡ v → list_any (nat_eq n) (cond v (m ∷ joining_from a b (suc m) cs) (joining_from a b (suc m) cs)) ≡ true → IsJoiningAt a b m (c ∷ cs) n
     by later true e h = ⊎_elim
-        (λ (here : nat_eq n m ≡ true). let same : n ≡ m = eqb-true n m here in record { at = zero; is = omega (arith, same); joins = e })
+        (λ (here : nat_eq n m ≡ true). let same : n ≡ m = eqb-true n m here in record { at = zero; is = omega (arith, same); joins = e; within = omega arith })
         (λ (more : list_any (nat_eq n) (joining_from a b (suc m) cs) ≡ true). shift (later more))
         (or_cases (nat_eq n m) (list_any (nat_eq n) (joining_from a b (suc m) cs)) h)
     by later false e h = shift (later h)
@@ -90,24 +94,31 @@ joining-class a b cs n h =
     let same : j.at ≡ n = let is = j.is in omega (arith, is) in
     subst (λ k. is_joining a b (class_at cs k) ≡ true) same j.joins
 
-apart-outside : (a b : Set) → AreApart a b → IsWithin b (outside a)
-apart-outside a b h k e = by (a k) (h k) e
+-- and of the table
+pub joining-below : (a b : Set) (cs : List Class) (n : ℕ) → list_any (nat_eq n) (take 4 (joining_from a b 0 cs)) ≡ true → n < length cs
+joining-below a b cs n h =
+    let j = joining-at a b 0 cs n (any-taken (nat_eq n) 4 (joining_from a b 0 cs) h) in
+    let is = j.is in
+    omega (arith, is, j.within)
+
+apart-outside : (q : Query) (a b : Set) → IsWithin b (all_of_query q) → AreApart a b → IsWithin b (outside q a)
+apart-outside q a b within h k e = and_from (all_of_query q k) (not (a k)) (within k e) (by (a k) (h k) e)
   where
     by : (v : Bool) → (v ≡ true → b k ≡ false) → b k ≡ true → not v ≡ true
     by false f e = refl
     by true f e = absurd (true≢false (sym e ∙ f refl))
 
-outside-apart : (a b : Set) → AreApart a b → IsWithin a (outside b)
-outside-apart a b h k e = ap not (h k e)
+outside-apart : (q : Query) (a b : Set) → IsWithin a (all_of_query q) → AreApart a b → IsWithin a (outside q b)
+outside-apart q a b within h k e = and_from (all_of_query q k) (not (b k)) (within k e) (ap not (h k e))
 
 -- the classes of a merge are open on both sides
-list-free : (q : Query) (a b : Set) (keys : Keys) → AreApart a b → list_all (λ n. list_any (nat_eq n) (take 4 (joining_from a b 0 q.classes.classes))) keys ≡ true →
+pub list-free : (q : Query) (a b : Set) (keys : Keys) → IsWithin a (all_of_query q) → IsWithin b (all_of_query q) → AreApart a b → list_all (λ n. list_any (nat_eq n) (take 4 (joining_from a b 0 q.classes.classes))) keys ≡ true →
     (are_open q a keys ≡ true) × (are_open q b keys ≡ true)
-list-free q a b keys apart h = (
+list-free q a b keys wa wb apart h = (
   all-weaker (λ n. list_any (nat_eq n) (take 4 (joining_from a b 0 q.classes.classes))) (is_open q a)
-      (λ n e. in-weaker (class_at q.classes.classes n) b (outside a) (apart-outside a b apart) (both n e).1) keys h,
+      (λ n e. in-weaker (class_at q.classes.classes n) b (outside q a) (apart-outside q a b wb apart) (both n e).1) keys h,
   all-weaker (λ n. list_any (nat_eq n) (take 4 (joining_from a b 0 q.classes.classes))) (is_open q b)
-      (λ n e. in-weaker (class_at q.classes.classes n) a (outside b) (outside-apart a b apart) (both n e).0) keys h,
+      (λ n e. in-weaker (class_at q.classes.classes n) a (outside q b) (outside-apart q a b wa apart) (both n e).0) keys h,
 )
   where
     both : (n : ℕ) → list_any (nat_eq n) (take 4 (joining_from a b 0 q.classes.classes)) ≡ true → (has_in (class_at q.classes.classes n) a ≡ true) × (has_in (class_at q.classes.classes n) b ≡ true)
@@ -117,9 +128,11 @@ list-free q a b keys apart h = (
         and_parts (has_in k a) (has_in k b) parts.1
 
 -- a list of use at a set is of use within it
-use-shrinks : (q : Query) (s t : Set) (keys : Keys) → IsWithin s t → IsOfUse q t keys → IsOfUse q s keys
-use-shrinks q s t keys h (inl free) = inl (all-weaker (is_open q t) (is_open q s) (λ n e. in-weaker (class_at q.classes.classes n) (outside t) (outside s) (outside-weaker s t h) e) keys free)
-use-shrinks q s t keys h (inr order) = inr order
+use-shrinks : (q : Query) (every : Bool) (s t : Set) (keys : Keys) → IsWithin s t → IsOfUse q every t keys → IsOfUse q every s keys
+use-shrinks q every s t keys h (inl all) = inl all
+use-shrinks q every s t keys h (inr (inl free)) =
+    inr (inl (all-weaker (is_open q t) (is_open q s) (λ n e. in-weaker (class_at q.classes.classes n) (outside q t) (outside q s) (outside-weaker q s t h) e) keys free))
+use-shrinks q every s t keys h (inr (inr order)) = inr (inr order)
 
 first-within : (s t : Set) → IsWithin s (λ k. s k || t k)
 first-within s t k e = ap (λ v. v || t k) e
@@ -137,12 +150,25 @@ startup-from None m n h = tt
 startup-from (Some w) m n h = h
 
 module _ (c : Contents) (q : Query) where
-  pub suffices-trans : (a b d : Plan) → Suffices c q a b → Suffices c q b d → Suffices c q a d
+  -- domination is enough, and where every list counts no less is
+  pub dominates-suffices : (every : Bool) (p o : Plan) → Dominates c q p o → Suffices c q every p o
+  dominates-suffices every p o h = record {
+    like = h.like;
+    total = h.total;
+    startup = h.startup;
+    keys = λ ks used e. covers-trans (keys_of c q p) (keys_of c q o) ks h.keys e;
+  }
+
+  pub suffices-dominates : (p o : Plan) → Suffices c q true p o → Dominates c q p o
+  suffices-dominates p o h = record { like = h.like; total = h.total; startup = h.startup; keys = h.keys (keys_of c q o) (inl refl) (covers-refl (keys_of c q o)) }
+
+module _ (c : Contents) (q : Query) (every : Bool) where
+  pub suffices-trans : (a b d : Plan) → Suffices c q every a b → Suffices c q every b d → Suffices c q every a d
   suffices-trans a b d h k = record {
     like = record { set = λ n. h.like.set n ∙ k.like.set n; param = λ n. h.like.param n ∙ k.like.param n };
     total = le_trans h.total k.total;
     startup = startup-trans q.window (cost c q a).startup (cost c q b).startup (cost c q d).startup h.startup k.startup;
-    keys = λ ks used e. h.keys ks (subst (λ s. IsOfUse q s ks) (sym (set-like b d k.like)) used) (k.keys ks used e);
+    keys = λ ks used e. h.keys ks (subst (λ s. IsOfUse q every s ks) (sym (set-like b d k.like)) used) (k.keys ks used e);
   }
 
   has-plain : (p : Plan) (keys : Keys) → is_sort p ≡ false → HasKeys c q p keys ↔ (covers (keys_of c q p) keys ≡ true)
@@ -154,13 +180,13 @@ module _ (c : Contents) (q : Query) where
   has-plain (nest outer inner) keys e = (λ h. h, λ h. h)
   has-plain (merge ks outer inner) keys e = (λ h. h, λ h. h)
 
-  pub plain-stands : (p o : Plan) → is_sort p ≡ false → is_sort o ≡ false → Suffices c q p o → StandsIn c q p o
+  pub plain-stands : (p o : Plan) → is_sort p ≡ false → is_sort o ≡ false → Suffices c q every p o → StandsIn c q every p o
   plain-stands p o e f h = record {
     suffices = h;
-    has = λ ks free k. (has-plain p ks e).1 (h.keys ks (inl free) ((has-plain o ks f).0 k));
+    has = λ ks free k. (has-plain p ks e).1 (h.keys ks (inr (inl free)) ((has-plain o ks f).0 k));
   }
 
-  pub sort-stands : (ks : Keys) (p o : Plan) → Suffices c q p o → StandsIn c q (sort ks p) (sort ks o)
+  pub sort-stands : (ks : Keys) (p o : Plan) → Suffices c q every p o → StandsIn c q every (sort ks p) (sort ks o)
   sort-stands ks p o h = record {
     suffices = record {
       like = record { set = h.like.set; param = h.like.param };
@@ -187,21 +213,21 @@ module _ (c : Contents) (q : Query) where
   nest-startups None o p i j h k l m s t = tt
   nest-startups (Some w) o p i j h k l m s t = (nest-replaced c q p o j i h k (record { startup = s; total = l }) (record { startup = t; total = m })).startup
 
-  pub nest-suffices : (o p i j : Plan) → IsBuilt c q p → IsBuilt c q j → is_sort p ≡ false → is_sort j ≡ false → Suffices c q p o → Suffices c q j i → IsBuilt c q (nest o i) →
-      IsBuilt c q (nest p j) × Suffices c q (nest p j) (nest o i)
+  pub nest-suffices : (o p i j : Plan) → IsBuilt c q p → IsBuilt c q j → is_sort p ≡ false → is_sort j ≡ false → Suffices c q every p o → Suffices c q every j i → IsBuilt c q (nest o i) →
+      IsBuilt c q (nest p j) × Suffices c q every (nest p j) (nest o i)
   nest-suffices o p i j a b e f h k n = (
     (a, b, nest-stands o p i j h.like k.like e f n.2),
     record {
       like = record { set = λ x. ap₂ (λ s t. s || t) (h.like.set x) (k.like.set x); param = λ x. refl };
       total = nest-totals c q p o j i h.like k.like h.total k.total;
       startup = nest-startups q.window o p i j h.like k.like h.total k.total h.startup k.startup;
-      keys = λ ks used e. h.keys ks (use-shrinks q (set_of o) (set_of (nest o i)) ks (first-within (set_of o) (set_of i)) used) e;
+      keys = λ ks used e. h.keys ks (use-shrinks q every (set_of o) (set_of (nest o i)) ks (first-within (set_of o) (set_of i)) used) e;
     },
   )
 
-  merge-stands : (keys : Keys) (o p i j : Plan) → StandsIn c q p o → StandsIn c q j i → IsMerge c q keys o i → IsMerge c q keys p j
-  merge-stands keys o p i j h k n =
-      let free = list-free q (set_of o) (set_of i) keys n.sides.apart n.list.joining in record {
+  merge-stands : (keys : Keys) (o p i j : Plan) → IsBuilt c q o → IsBuilt c q i → StandsIn c q every p o → StandsIn c q every j i → IsMerge c q keys o i → IsMerge c q keys p j
+  merge-stands keys o p i j bo bi h k n =
+      let free = list-free q (set_of o) (set_of i) keys (built-within c q o bo) (built-within c q i bi) n.sides.apart n.list.joining in record {
         sides = record {
           apart = λ x e. k.suffices.like.set x ∙ n.sides.apart x (sym (h.suffices.like.set x) ∙ e);
           outer_whole = λ x. h.suffices.like.param x ∙ n.sides.outer_whole x;
@@ -217,15 +243,15 @@ module _ (c : Contents) (q : Query) where
   merge-startups None keys o p i j h k l m s t = tt
   merge-startups (Some w) keys o p i j h k l m s t = (merge-replaced c q keys p o j i h k (record { startup = s; total = l }) (record { startup = t; total = m })).startup
 
-  pub merge-suffices : (keys : Keys) (o p i j : Plan) → IsBuilt c q p → IsBuilt c q j → StandsIn c q p o → StandsIn c q j i → IsBuilt c q (merge keys o i) →
-      IsBuilt c q (merge keys p j) × Suffices c q (merge keys p j) (merge keys o i)
+  pub merge-suffices : (keys : Keys) (o p i j : Plan) → IsBuilt c q p → IsBuilt c q j → StandsIn c q every p o → StandsIn c q every j i → IsBuilt c q (merge keys o i) →
+      IsBuilt c q (merge keys p j) × Suffices c q every (merge keys p j) (merge keys o i)
   merge-suffices keys o p i j a b h k n = (
-    (a, b, merge-stands keys o p i j h k n.2),
+    (a, b, merge-stands keys o p i j n.0 n.1 h k n.2),
     record {
       like = record { set = λ x. ap₂ (λ s t. s || t) (h.suffices.like.set x) (k.suffices.like.set x); param = λ x. refl };
       total = merge-totals c q keys p o j i h.suffices.like k.suffices.like h.suffices.total k.suffices.total;
       startup = merge-startups q.window keys o p i j h.suffices.like k.suffices.like h.suffices.total k.suffices.total h.suffices.startup k.suffices.startup;
-      keys = λ ks used e. h.suffices.keys ks (use-shrinks q (set_of o) (set_of (merge keys o i)) ks (first-within (set_of o) (set_of i)) used) e;
+      keys = λ ks used e. h.suffices.keys ks (use-shrinks q every (set_of o) (set_of (merge keys o i)) ks (first-within (set_of o) (set_of i)) used) e;
     },
   )
 
@@ -234,7 +260,7 @@ module _ (c : Contents) (q : Query) where
   floors None p o limit h k e = lt_of_le_of_lt h e
   floors (Some w) p o limit h k e = lt_of_le_of_lt k e
 
-  below-from : (p o : Plan) (limit : ℕ) → Suffices c q p o → IsBelow c q limit o → IsBelow c q limit p
+  pub below-from : (p o : Plan) (limit : ℕ) → Suffices c q every p o → IsBelow c q limit o → IsBelow c q limit p
   below-from p o limit h b = record { admissible = lt_of_le_of_lt h.total b.admissible; floor = floors q.window p o limit h.total h.startup b.floor }
 
   first-part : (a b : ℕ) → a ≤ a + b
@@ -251,12 +277,12 @@ module _ (c : Contents) (q : Query) where
   pub child-below : (p o : Plan) (limit : ℕ) → (cost c q p).total ≤ (cost c q o).total → (cost c q p).startup ≤ (cost c q o).startup → IsBelow c q limit o → IsBelow c q limit p
   child-below p o limit h k b = record { admissible = lt_of_le_of_lt h b.admissible; floor = floor-from q.window p o limit h k b.floor }
 
-  module _ (Kept : Plan → Type 0) (limit : ℕ) (some : HaveRows c q) (closed : IsClosedBelow c q Kept limit) where
+  module _ (Kept : Plan → Type 0) (limit : ℕ) (some : HaveRows c q) (closed : IsClosedBelow c q every Kept limit) where
     pub record HasSide (t : Plan) : Type 0 where
       pub side : Plan
       pub is_kept : IsKeptSide c q Kept side
       pub built : IsBuilt c q side
-      pub stands : StandsIn c q side t
+      pub stands : StandsIn c q every side t
 
     side-plain : (t : Plan) → Kept t → IsKeptSide c q Kept t
     side-plain (seq r) h = h
@@ -267,7 +293,7 @@ module _ (c : Contents) (q : Query) where
     side-plain (nest outer inner) h = h
     side-plain (merge keys outer inner) h = h
 
-    enough-stands : (t : Plan) → is_sort t ≡ false → HasEnough c q Kept limit t → HasSide t
+    enough-stands : (t : Plan) → is_sort t ≡ false → HasEnough c q every Kept limit t → HasSide t
     enough-stands t e u = record {
       side = u.by';
       is_kept = side-plain u.by' u.is_kept;
@@ -275,7 +301,7 @@ module _ (c : Contents) (q : Query) where
       stands = plain-stands u.by' t (closed.plain u.by' u.is_kept) e u.suffices;
     }
 
-    sorted-stands : (keys : Keys) (t : Plan) → HasEnough c q Kept limit t → HasSide (sort keys t)
+    sorted-stands : (keys : Keys) (t : Plan) → HasEnough c q every Kept limit t → HasSide (sort keys t)
     sorted-stands keys t u = record {
       side = sort keys u.by';
       is_kept = u.is_kept;
@@ -283,23 +309,23 @@ module _ (c : Contents) (q : Query) where
       stands = sort-stands keys u.by' t u.suffices;
     }
 
-    nest-enough : (o i : Plan) → IsBuilt c q (nest o i) → IsBelow c q limit (nest o i) → HasEnough c q Kept limit o → HasEnough c q Kept limit i → HasEnough c q Kept limit (nest o i)
+    nest-enough : (o i : Plan) → IsBuilt c q (nest o i) → IsBelow c q limit (nest o i) → HasEnough c q every Kept limit o → HasEnough c q every Kept limit i → HasEnough c q every Kept limit (nest o i)
     nest-enough o i built below p j =
         let made = nest-suffices o p.by' i j.by' (closed.built p.by' p.is_kept) (closed.built j.by' j.is_kept) (closed.plain p.by' p.is_kept) (closed.plain j.by' j.is_kept) p.suffices j.suffices built in
         let found = closed.joins (nest p.by' j.by') (p.is_kept, j.is_kept) made.0 (below-from (nest p.by' j.by') (nest o i) limit made.1 below) in
         record { by' = found.by'; is_kept = found.is_kept; suffices = suffices-trans found.by' (nest p.by' j.by') (nest o i) found.suffices made.1 }
 
-    merge-enough : (keys : Keys) (o i : Plan) → IsBuilt c q (merge keys o i) → IsBelow c q limit (merge keys o i) → HasSide o → HasSide i → HasEnough c q Kept limit (merge keys o i)
+    merge-enough : (keys : Keys) (o i : Plan) → IsBuilt c q (merge keys o i) → IsBelow c q limit (merge keys o i) → HasSide o → HasSide i → HasEnough c q every Kept limit (merge keys o i)
     merge-enough keys o i built below p j =
         let made = merge-suffices keys o p.side i j.side p.built j.built p.stands j.stands built in
         let found = closed.joins (merge keys p.side j.side) (p.is_kept, j.is_kept) made.0 (below-from (merge keys p.side j.side) (merge keys o i) limit made.1 below) in
         record { by' = found.by'; is_kept = found.is_kept; suffices = suffices-trans found.by' (merge keys p.side j.side) (merge keys o i) found.suffices made.1 }
 
     abbrev HasInputEnough : Plan → Type 0
-    HasInputEnough (sort keys input) = HasEnough c q Kept limit input
-    HasInputEnough t = HasEnough c q Kept limit t
+    HasInputEnough (sort keys input) = HasEnough c q every Kept limit input
+    HasInputEnough t = HasEnough c q every Kept limit t
 
-    plain-enough : (t : Plan) → is_sort t ≡ false → HasInputEnough t → HasEnough c q Kept limit t
+    plain-enough : (t : Plan) → is_sort t ≡ false → HasInputEnough t → HasEnough c q every Kept limit t
     plain-enough (seq r) e h = h
     plain-enough (index r i backward p) e h = h
     plain-enough (index_only r i backward p) e h = h
@@ -339,5 +365,5 @@ module _ (c : Contents) (q : Query) where
         (side-of inner (input-enough inner built.1 (child-below inner (merge keys outer inner) limit most.1 (second-part (cost c q outer).startup (cost c q inner).startup) below)))
 
     -- each plan of the space below the limit that is no sort has a kept one that suffices for it
-    pub enough : (t : Plan) → IsBuilt c q t → is_sort t ≡ false → IsBelow c q limit t → HasEnough c q Kept limit t
+    pub enough : (t : Plan) → IsBuilt c q t → is_sort t ≡ false → IsBelow c q limit t → HasEnough c q every Kept limit t
     enough t built e below = plain-enough t e (input-enough t built below)

@@ -5,7 +5,7 @@ use Rattle.std.proofs.lemmas.List.Elements.{All-contains, All-map, All-more, All
 use Rattle.pg_base.specs.declared.rel_set.RelSet.{RelSet}
 use Rattle.catalog.specs.Contents.{Contents}
 use Rattle.sql_query.specs.Queries.{Query}
-use Rattle.plan_tree.specs.Fronts.{IsServed, StayDominated}
+use Rattle.plan_tree.specs.Fronts.{StayDominated}
 use Rattle.plan_tree.specs.Paths.{Path}
 use Rattle.plan_tree.specs.Plans.{Plan, seq, index, index_only, bitmap, sort, nest, merge}
 use Rattle.plan_tree.specs.Views.{path}
@@ -14,6 +14,8 @@ use Rattle.plan_tree.proofs.FrontLemmas.{contains-mapped}
 use Rattle.join_search.specs.Tables.{Fronts}
 use Rattle.join_search.specs.Joins.{ArePlaced, IsKept, IsPathAt, IsPlanIn, IsSideIn}
 use Rattle.join_search.specs.Offers.{IsCheapest}
+use Rattle.join_search.specs.Sufficing.{IsServed}
+use Rattle.join_search.specs.declared.useful.Asked.{Asked}
 use Rattle.join_search.proofs.OfferLemmas.{cheapest-of, served-later}
 
 -- an item read is one of the paths
@@ -30,19 +32,20 @@ module _ (c : Contents) (q : Query) where
   pub lent-at : (fronts : Fronts) (s p : RelSet) (items : List Costed) → ArePlaced c q fronts → map path items ≡ fronts s p → All (IsPathAt c q s p) (map path items)
   lent-at fronts s p items placed e = subst (All (IsPathAt c q s p)) (sym e) (placed.paths s p)
 
+module _ (c : Contents) (q : Query) (asked : Asked) where
   -- one more item is served
   pub served-more : (plan_with : Path → Plan) (items : List Costed) (n : ℕ) (x : Costed) (old new : List Path) → n < length items → x ≡ get_or items n x → StayDominated c q old new →
-      All (λ o. IsServed c q old (plan_with (path o))) (take n items) → IsServed c q new (plan_with (path x)) → All (λ o. IsServed c q new (plan_with (path o))) (take (n + 1) items)
+      All (λ o. IsServed c q asked old (plan_with (path o))) (take n items) → IsServed c q asked new (plan_with (path x)) → All (λ o. IsServed c q asked new (plan_with (path o))) (take (n + 1) items)
   served-more plan_with items n x old new lt is still before one =
-      All-more (λ (o : Costed). IsServed c q new (plan_with (path o))) items n x lt
-      (All-weaker (λ (o : Costed). IsServed c q old (plan_with (path o))) (λ (o : Costed). IsServed c q new (plan_with (path o))) (λ o h. served-later c q old new (plan_with (path o)) still h) (take n items) before)
-      (subst (λ (o : Costed). IsServed c q new (plan_with (path o))) is one)
+      All-more (λ (o : Costed). IsServed c q asked new (plan_with (path o))) items n x lt
+      (All-weaker (λ (o : Costed). IsServed c q asked old (plan_with (path o))) (λ (o : Costed). IsServed c q asked new (plan_with (path o))) (λ o h. served-later c q asked old new (plan_with (path o)) still h) (take n items) before)
+      (subst (λ (o : Costed). IsServed c q asked new (plan_with (path o))) is one)
 
   pub served-all : (plan_with : Path → Plan) (items : List Costed) (n : ℕ) (ps front : List Path) → map path items ≡ ps → length items ≤ n →
-      All (λ o. IsServed c q front (plan_with (path o))) (take n items) → All (λ o. IsServed c q front (plan_with o)) ps
+      All (λ o. IsServed c q asked front (plan_with (path o))) (take n items) → All (λ o. IsServed c q asked front (plan_with o)) ps
   served-all plan_with items n ps front e le h =
-      subst (All (λ (o : Path). IsServed c q front (plan_with o))) e
-      (All-map (λ (o : Path). IsServed c q front (plan_with o)) path items (subst (All (λ (o : Costed). IsServed c q front (plan_with (path o)))) (take_all n items le) h))
+      subst (All (λ (o : Path). IsServed c q asked front (plan_with o))) e
+      (All-map (λ (o : Path). IsServed c q asked front (plan_with o)) path items (subst (All (λ (o : Costed). IsServed c q asked front (plan_with (path o)))) (take_all n items le) h))
 
 -- the cheapest of the items
 pub cheapest-lent : (items : List Costed) (ps : List Path) (p : Costed) → map path items ≡ ps → Contains items p → All (λ o. p.cost ≤ o.cost) items → IsCheapest ps (path p)

@@ -2,9 +2,13 @@ pub mod TableLemmas
 pub mod SetLemmas
 pub mod PlanLemmas
 pub mod TestedLemmas
+pub mod KeyLemmas
 pub mod OfferLemmas
 pub mod ItemLemmas
+pub mod UseLemmas
 pub mod NestLemmas
 pub mod ListLemmas
 pub mod MergeLemmas
 pub mod SearchLemmas
+pub mod FrontingLemmas
+pub mod LikelyLemmas

@@ -17,14 +17,13 @@ use Rattle.pathkeys.specs.Keys.{Keys, covers}
 use Rattle.pathkeys.proofs.CoveringLemmas.{covers-refl}
 use Rattle.sql_query.specs.Queries.{Query}
 use Rattle.plan_tree.specs.Costs.{HaveRows, cost, estimate, merge_operators}
-use Rattle.plan_tree.specs.Fronts.{HasDominating, IsServed, StayDominated}
+use Rattle.plan_tree.specs.Fronts.{StayDominated}
 use Rattle.plan_tree.specs.Keys.{keys_of}
 use Rattle.plan_tree.specs.Least.{IsAdmissible, IsStartupAtMost}
 use Rattle.plan_tree.specs.Paths.{Path, kept_cost, startup_kept}
 use Rattle.plan_tree.specs.Plans.{Plan, seq, index, index_only, bitmap, sort, nest, merge, empty, is_sort, param_of, set_of}
 use Rattle.plan_tree.specs.Space.{HasKeys, IsBuilt, IsEmpty, IsLike, IsMergeList, IsPlanOf, IsSameSet}
 use Rattle.plan_tree.proofs.BoundLemmas.{merge-most, startup-most}
-use Rattle.plan_tree.proofs.DominationLemmas.{dominates-trans}
 use Rattle.plan_tree.specs.Views.{path}
 use Rattle.plan_tree.specs.declared.path.Path.{Path as Costed}
 use Rattle.plan_tree.proofs.FrontLemmas.{all-sources, contains-mapped}
@@ -38,9 +37,11 @@ use Rattle.join_search.specs.Joins.{ArePlaced, IsJoinOfKept, IsKept, IsPathAt, I
 use Rattle.join_search.specs.Merges.{AreEarlyServed, AreOutersServed, ArePlainEarlyServed, ArePlainServed, IsBestSide, IsCheapestBy, IsMergeWork, IsSideOf, cost_by, side_of}
 use Rattle.join_search.specs.Offers.{AreMergesServed, IsCheapest}
 use Rattle.join_search.specs.Splits.{IsSplit}
+use Rattle.join_search.specs.Sufficing.{HasSufficient, IsPartOfUse, IsServed}
+use Rattle.join_search.specs.declared.useful.Asked.{Asked}
 use Rattle.join_search.specs.declared.merges.MergeWork.{MergeWork}
 use Rattle.join_search.specs.declared.splits.Split.{Split}
-use Rattle.join_search.proofs.OfferLemmas.{beaten-dominated, cheapest-of, served-later}
+use Rattle.join_search.proofs.OfferLemmas.{beaten-sufficient, cheapest-of, served-by, served-later}
 use Rattle.join_search.proofs.ItemLemmas.{there-kept, plan-of-none, side-of-none}
 use Rattle.join_search.proofs.PlanLemmas.{at-none, at-set, sets-same, whole-rows}
 
@@ -209,83 +210,8 @@ module _ (c : Contents) (q : Query) where
       let r = plan-reads s paths t at k in
       record { set = λ n. sym (side-reads keys s p b is n) ∙ r.0 n; param = λ n. side-whole keys s p b is n ∙ sym (r.1 n) }
 
-  -- a join with sides of the same sets that cost no more, and keys that begin with the outer side's, serves another
-  pub replaced : (front : List Path) (keys : Keys) (o p i j : Plan) → IsLike p o → IsLike j i → (cost c q p).total ≤ (cost c q o).total → (cost c q j).total ≤ (cost c q i).total →
-      IsStartupAtMost q.window (cost c q p).startup (cost c q o).startup → IsStartupAtMost q.window (cost c q j).startup (cost c q i).startup → IsBuilt c q p → IsBuilt c q j →
-      HasKeys c q p keys → HasKeys c q j keys → covers (keys_of c q p) (keys_of c q o) ≡ true → IsServed c q front (merge keys p j) → IsServed c q front (merge keys o i)
-  replaced front keys o p i j lp lj tp tj sp sj bp bj hp hj kp served built admissible =
-      let most = merge-totals c q keys p o j i lp lj tp tj in
-      let n = built.2 in
-      let again : IsBuilt c q (merge keys p j) = (
-        bp,
-        bj,
-        record {
-          sides = record { apart = λ k e. lj.set k ∙ n.sides.apart k (sym (lp.set k) ∙ e); outer_whole = λ k. lp.param k ∙ n.sides.outer_whole k };
-          inner_whole = λ k. lj.param k ∙ n.inner_whole k;
-          list = subst₂ (λ a b. IsMergeList c q a b keys) (sym (set-like p o lp)) (sym (set-like j i lj)) n.list;
-          outer_keys = hp;
-          inner_keys = hj;
-        },
-      ) in
-      let found = served again (omega (arith, most, admissible)) in
-      record {
-        path = found.path;
-        is_there = found.is_there;
-        dominates = dominates-trans c q found.path.tree (merge keys p j) (merge keys o i) found.dominates (record {
-          like = record { set = λ k. ap₂ (λ x y. x || y) (lp.set k) (lj.set k); param = λ k. refl };
-          total = most;
-          startup = startup-both q.window (cost c q p).startup (cost c q o).startup (cost c q j).startup (cost c q i).startup sp sj;
-          keys = kp;
-        });
-      }
-
   startup-refl : (t : Plan) → IsStartupAtMost q.window (cost c q t).startup (cost c q t).startup
   startup-refl t = startup-from q.window (cost c q t).startup (cost c q t).startup (le_refl (cost c q t).startup)
-
-  -- where the merges of all outer sides with an inner side are served, so are those with one that costs no less
-  inner-replaced : (front outers inners : List Path) (keys : Keys) (b : RelSet) (p : Path) (sorted : Bool) (i : Plan) → All (IsPathAt c q b none) inners → IsSideOf keys inners p sorted → IsSideIn inners i → HasKeys c q i keys →
-      (cost c q (side_of keys p.tree sorted)).total ≤ (cost c q i).total → IsStartupAtMost q.window (cost c q (side_of keys p.tree sorted)).startup (cost c q i).startup →
-      AreOutersServed c q front outers keys (side_of keys p.tree sorted) → AreOutersServed c q front outers keys i
-  inner-replaced front outers inners keys b p sorted i at side si has total startup served o so built admissible =
-      let is = All-contains (IsPathAt c q b none) inners p at side.is_there in
-      let own : IsLike o o = record { set = λ k. refl; param = λ k. refl } in
-      replaced front keys o o i (side_of keys p.tree sorted) own (like is i (side-cases inners keys i si has)) (le_refl (cost c q o).total) total (startup-refl o) startup built.0
-      (side-built keys p.tree sorted is.is_path.plan.built is.is_path.plan.plain) built.2.outer_keys
-      (side-has keys p sorted is.is_path.plan.plain is.is_path.numbers.keys side.begins) (covers-refl (keys_of c q o)) (served o so) built admissible
-    where
-      like : IsPathAt c q b none p → (i : Plan) → ((x : Plan) × IsPlanIn inners x × (i ≡ sort keys x)) ⊎ (IsPlanIn inners i × (covers (keys_of c q i) keys ≡ true)) → IsLike (side_of keys p.tree sorted) i
-      like is i (inl (x, k, e)) = subst (IsLike (side_of keys p.tree sorted)) (sym e) (let l = path-like keys b inners p sorted x at is k in record { set = l.set; param = l.param })
-      like is i (inr (k, h)) = path-like keys b inners p sorted i at is k
-
-  -- where the merges of all outer sides with the best inner one are served, and those with each that starts earlier, those with
-  -- any inner side are
-  pub merges-served : HaveRows c q → (front outers inners : List Path) (keys : Keys) (b : RelSet) (p : Path) (sorted : Bool) (n : Pair) → All (IsPathAt c q b none) inners → IsBestSide c q keys inners p sorted →
-      n ≡ capped_pair (kept_cost q.window (cost c q (side_of keys p.tree sorted))) →
-      AreOutersServed c q front outers keys (side_of keys p.tree sorted) → AreEarlyServed c q front outers inners keys n.startup → AreMergesServed c q front outers inners keys
-  merges-served some front outers inners keys b p sorted n at best e served early o i so si built admissible = by (cases_lt (startup_kept q.window (cost c q i).startup) n.startup)
-    where
-      by : (startup_kept q.window (cost c q i).startup < n.startup) ⊎ (n.startup ≤ startup_kept q.window (cost c q i).startup) → HasDominating c q front (merge keys o i)
-      by (inl lt) = early i si built.2.inner_keys lt o so built admissible
-      by (inr le) =
-          let below = merge-most c q keys o i in
-          let most = startup-most c q some i in
-          let kept = kept-least q.window (cost c q i).startup in
-          let cut = ap (λ (x : Pair). x.startup) e in
-          let least = best.least i si built.1 built.2.inner_keys (omega (arith, below.1, admissible)) in
-          inner-replaced front outers inners keys b p sorted i at best.side si built.2.inner_keys least
-          (kept-most q.window (cost c q (side_of keys p.tree sorted)).startup (cost c q i).startup (omega (arith, cut, le, kept, most, below.1, admissible))) served o so built admissible
-
-  -- the outer sides: paths whose keys begin with the list, and sorts
-  pub outers-served : (front outers : List Path) (keys : Keys) (a : RelSet) (i : Plan) → All (IsPathAt c q a none) outers → ArePlainServed c q front keys i outers → ((o : Plan) → IsPlanIn outers o → IsServed c q front (merge keys (sort keys o) i)) → AreOutersServed c q front outers keys i
-  outers-served front outers keys a i at plain sorted o so built admissible = by (side-cases outers keys o so built.2.outer_keys) built admissible
-    where
-      by : ((x : Plan) × IsPlanIn outers x × (o ≡ sort keys x)) ⊎ (IsPlanIn outers o × (covers (keys_of c q o) keys ≡ true)) → IsServed c q front (merge keys o i)
-      by (inl (x, k, e)) = subst (λ t. IsServed c q front (merge keys t i)) (sym e) (sorted x k)
-      by (inr (k, h)) =
-          let is = All-contains (IsPathAt c q a none) outers k.path at k.is_there in
-          let begins : covers k.path.keys keys ≡ true = ap (λ ks. covers ks keys) (is.is_path.numbers.keys ∙ ap (keys_of c q) k.is_plan) ∙ h in
-          let one = All-contains (λ (x : Path). covers x.keys keys ≡ true → IsServed c q front (merge keys x.tree i)) outers k.path plain k.is_there begins in
-          subst (λ t. IsServed c q front (merge keys t i)) k.is_plan one
 
   -- a sort of the cheapest path costs no more than other sorts, neither before its first row nor in all
   sorts-most : (keys : Keys) (a : RelSet) (paths : List Path) (p : Path) (o : Plan) → All (IsPathAt c q a none) paths → IsCheapest paths p → IsPlanIn paths o → IsAtMost (cost c q (sort keys p.tree)) (cost c q (sort keys o))
@@ -295,50 +221,6 @@ module _ (c : Contents) (q : Query) where
       let least = All-contains (λ (e : Path). p.cost ≤ e.cost) paths k.path cheapest.least k.is_there in
       let total : (cost c q p.tree).total ≤ (cost c q o).total = subst₂ (λ m n. m ≤ n) is.is_path.numbers.cost (is'.is_path.numbers.cost ∙ ap (λ (t : Plan). (cost c q t).total) k.is_plan) least in
       sort-totals c q keys p.tree o (path-like keys a paths p false o at is k) total
-
-  -- the cheapest outer path sorted serves the others sorted
-  pub sorted-served : (front outers : List Path) (keys : Keys) (a : RelSet) (p : Path) (i : Plan) → All (IsPathAt c q a none) outers → IsCheapest outers p → IsServed c q front (merge keys (sort keys p.tree) i) →
-      (o : Plan) → IsPlanIn outers o → IsServed c q front (merge keys (sort keys o) i)
-  sorted-served front outers keys a p i at cheapest served o k built admissible =
-      let is = All-contains (IsPathAt c q a none) outers p at cheapest.is_there in
-      let like = path-like keys a outers p false o at is k in
-      let most = sorts-most keys a outers p o at cheapest k in
-      let own : IsLike i i = record { set = λ n. refl; param = λ n. refl } in
-      replaced front keys (sort keys o) (sort keys p.tree) i i (record { set = like.set; param = like.param }) own most.total (le_refl (cost c q i).total)
-      (startup-from q.window (cost c q (sort keys p.tree)).startup (cost c q (sort keys o)).startup most.startup) (startup-refl i) (is.is_path.plan.built, is.is_path.plan.plain) built.1
-      refl built.2.inner_keys (covers-refl keys) served built admissible
-
-  -- the inner sides that start before a cost: paths whose keys begin with the list, and sorts, of which that of the cheapest path is first
-  pub early-served : (front outers inners : List Path) (keys : Keys) (b : RelSet) (p : Path) (startup : ℕ) → All (IsPathAt c q b none) inners → IsCheapest inners p → ArePlainEarlyServed c q front outers keys startup inners →
-      (startup_kept q.window (cost c q (sort keys p.tree)).startup < startup → AreOutersServed c q front outers keys (sort keys p.tree)) → AreEarlyServed c q front outers inners keys startup
-  early-served front outers inners keys b p startup at cheapest plain sorted i si has lt = by (side-cases inners keys i si has)
-    where
-      by : ((x : Plan) × IsPlanIn inners x × (i ≡ sort keys x)) ⊎ (IsPlanIn inners i × (covers (keys_of c q i) keys ≡ true)) → AreOutersServed c q front outers keys i
-      by (inl (x, k, e)) =
-          let most = sorts-most keys b inners p x at cheapest k in
-          let same : cost c q (sort keys x) ≡ cost c q i = ap (cost c q) (sym e) in
-          let total = subst (λ (n : Pair). (cost c q (sort keys p.tree)).total ≤ n.total) same most.total in
-          let start = subst (λ (n : Pair). (cost c q (sort keys p.tree)).startup ≤ n.startup) same most.startup in
-          let rises = kept-rises q.window (cost c q (sort keys p.tree)).startup (cost c q i).startup start in
-          inner-replaced front outers inners keys b p true i at (record { is_there = cheapest.is_there; begins = λ f. absurd (true≢false f) }) si has total
-          (startup-from q.window (cost c q (sort keys p.tree)).startup (cost c q i).startup start) (sorted (omega (arith, rises, lt)))
-      by (inr (k, h)) =
-          let is = All-contains (IsPathAt c q b none) inners k.path at k.is_there in
-          let begins : covers k.path.keys keys ≡ true = ap (λ ks. covers ks keys) (is.is_path.numbers.keys ∙ ap (keys_of c q) k.is_plan) ∙ h in
-          let starts : k.path.startup ≡ startup_kept q.window (cost c q i).startup = is.is_path.numbers.startup ∙ ap (λ (t : Plan). startup_kept q.window (cost c q t).startup) k.is_plan in
-          let one = All-contains (λ (x : Path). covers x.keys keys ≡ true → x.startup < startup → AreOutersServed c q front outers keys x.tree) inners k.path plain k.is_there begins (omega (arith, starts, lt)) in
-          subst (AreOutersServed c q front outers keys) k.is_plan one
-
-  pub early-none : (front outers inners : List Path) (keys : Keys) (startup : ℕ) → inners ≡ [] → AreEarlyServed c q front outers inners keys startup
-  early-none front outers inners keys startup e i si has lt = absurd (side-of-none inners i e si)
-
-  pub outers-later : (old new outers : List Path) (keys : Keys) (i : Plan) → StayDominated c q old new → AreOutersServed c q old outers keys i → AreOutersServed c q new outers keys i
-  outers-later old new outers keys i still h o so = served-later c q old new (merge keys o i) still (h o so)
-
-  pub plain-early-later : (old new outers inners : List Path) (keys : Keys) (startup : ℕ) → StayDominated c q old new → ArePlainEarlyServed c q old outers keys startup inners → ArePlainEarlyServed c q new outers keys startup inners
-  plain-early-later old new outers inners keys startup still h =
-      All-weaker (λ (i : Path). covers i.keys keys ≡ true → i.startup < startup → AreOutersServed c q old outers keys i.tree) (λ (i : Path). covers i.keys keys ≡ true → i.startup < startup → AreOutersServed c q new outers keys i.tree)
-      (λ i k e lt. outers-later old new outers keys i.tree still (k e lt)) inners h
 
   -- the best of all sides
   module _ (keys : Keys) (b : RelSet) (paths : List Path) (at : All (IsPathAt c q b none) paths) (p : Path) (cheapest : IsCheapest paths p) where
@@ -428,36 +310,158 @@ module _ (c : Contents) (q : Query) where
     pub sides-kept : IsJoinOfKept fronts (merge keys (side_of keys o.tree bo) (side_of keys i.tree bi))
     sides-kept = (kept-side j.outer o bo outer.is_there outer-at.is_path.plan.plain, kept-side j.inner i bi inner.is_there inner-at.is_path.plan.plain)
 
-    pub sides-beaten : (front : List Path) (n : Pair) (ks : Keys) → All (IsPathAt c q j.set none) front → n ≡ capped_pair (kept_cost q.window (cost c q (merge keys (side_of keys o.tree bo) (side_of keys i.tree bi)))) → ks ≡ cond bo keys o.keys → IsBeaten front n ks → IsServed c q front (merge keys (side_of keys o.tree bo) (side_of keys i.tree bi))
-    sides-beaten front n ks paths e k beaten built admissible =
-        beaten-dominated c q j.set front (merge keys (side_of keys o.tree bo) (side_of keys i.tree bi)) n ks paths sides-plan e (k ∙ side-keys keys o bo outer-at.is_path.numbers.keys) beaten
-
     pub sides-keys : (ks : Keys) → ks ≡ cond bo keys o.keys → ks ≡ keys_of c q (merge keys (side_of keys o.tree bo) (side_of keys i.tree bi))
     sides-keys ks k = k ∙ side-keys keys o bo outer-at.is_path.numbers.keys
 
-  pub merges-none : (front outers inners : List Path) (keys : Keys) → inners ≡ [] → AreMergesServed c q front outers inners keys
+module _ (c : Contents) (q : Query) (asked : Asked) where
+  -- a join with sides of the same sets that cost no more, and keys that begin with the outer side's, serves another
+  pub replaced : (front : List Path) (keys : Keys) (o p i j : Plan) → IsLike p o → IsLike j i → (cost c q p).total ≤ (cost c q o).total → (cost c q j).total ≤ (cost c q i).total →
+      IsStartupAtMost q.window (cost c q p).startup (cost c q o).startup → IsStartupAtMost q.window (cost c q j).startup (cost c q i).startup → IsBuilt c q p → IsBuilt c q j →
+      HasKeys c q p keys → HasKeys c q j keys → covers (keys_of c q p) (keys_of c q o) ≡ true → IsServed c q asked front (merge keys p j) → IsServed c q asked front (merge keys o i)
+  replaced front keys o p i j lp lj tp tj sp sj bp bj hp hj kp served built below =
+      let most = merge-totals c q keys p o j i lp lj tp tj in
+      let n = built.2 in
+      let again : IsBuilt c q (merge keys p j) = (
+        bp,
+        bj,
+        record {
+          sides = record { apart = λ k e. lj.set k ∙ n.sides.apart k (sym (lp.set k) ∙ e); outer_whole = λ k. lp.param k ∙ n.sides.outer_whole k };
+          inner_whole = λ k. lj.param k ∙ n.inner_whole k;
+          list = subst₂ (λ a b. IsMergeList c q a b keys) (sym (set-like p o lp)) (sym (set-like j i lj)) n.list;
+          outer_keys = hp;
+          inner_keys = hj;
+        },
+      ) in
+      served-by c q asked front (merge keys p j) (merge keys o i) again
+      (record {
+        like = record { set = λ k. ap₂ (λ x y. x || y) (lp.set k) (lj.set k); param = λ k. refl };
+        total = most;
+        startup = startup-both q.window (cost c q p).startup (cost c q o).startup (cost c q j).startup (cost c q i).startup sp sj;
+        keys = kp;
+      }) served built below
+
+  -- where the merges of all outer sides with an inner side are served, so are those with one that costs no less
+  inner-replaced : (front outers inners : List Path) (keys : Keys) (b : RelSet) (p : Path) (sorted : Bool) (i : Plan) → All (IsPathAt c q b none) inners → IsSideOf keys inners p sorted → IsSideIn inners i → HasKeys c q i keys →
+      (cost c q (side_of keys p.tree sorted)).total ≤ (cost c q i).total → IsStartupAtMost q.window (cost c q (side_of keys p.tree sorted)).startup (cost c q i).startup →
+      AreOutersServed c q asked front outers keys (side_of keys p.tree sorted) → AreOutersServed c q asked front outers keys i
+  inner-replaced front outers inners keys b p sorted i at side si has total startup served o so built below =
+      let is = All-contains (IsPathAt c q b none) inners p at side.is_there in
+      let own : IsLike o o = record { set = λ k. refl; param = λ k. refl } in
+      replaced front keys o o i (side_of keys p.tree sorted) own (like is i (side-cases c q inners keys i si has)) (le_refl (cost c q o).total) total (startup-refl c q o) startup built.0
+      (side-built c q keys p.tree sorted is.is_path.plan.built is.is_path.plan.plain) built.2.outer_keys
+      (side-has c q keys p sorted is.is_path.plan.plain is.is_path.numbers.keys side.begins) (covers-refl (keys_of c q o)) (served o so) built below
+    where
+      like : IsPathAt c q b none p → (i : Plan) → ((x : Plan) × IsPlanIn inners x × (i ≡ sort keys x)) ⊎ (IsPlanIn inners i × (covers (keys_of c q i) keys ≡ true)) → IsLike (side_of keys p.tree sorted) i
+      like is i (inl (x, k, e)) = subst (IsLike (side_of keys p.tree sorted)) (sym e) (let l = path-like c q keys b inners p sorted x at is k in record { set = l.set; param = l.param })
+      like is i (inr (k, h)) = path-like c q keys b inners p sorted i at is k
+
+  -- where the merges of all outer sides with the best inner one are served, and those with each that starts earlier, those with
+  -- any inner side are
+  pub merges-served : HaveRows c q → (front outers inners : List Path) (keys : Keys) (b : RelSet) (p : Path) (sorted : Bool) (n : Pair) → All (IsPathAt c q b none) inners → IsBestSide c q keys inners p sorted →
+      n ≡ capped_pair (kept_cost q.window (cost c q (side_of keys p.tree sorted))) →
+      AreOutersServed c q asked front outers keys (side_of keys p.tree sorted) → AreEarlyServed c q asked front outers inners keys n.startup → AreMergesServed c q asked front outers inners keys
+  merges-served some front outers inners keys b p sorted n at best e served early o i so si built below = by (cases_lt (startup_kept q.window (cost c q i).startup) n.startup)
+    where
+      by : (startup_kept q.window (cost c q i).startup < n.startup) ⊎ (n.startup ≤ startup_kept q.window (cost c q i).startup) → HasSufficient c q asked front (merge keys o i)
+      by (inl lt) = early i si built.2.inner_keys lt o so built below
+      by (inr le) =
+          let sides = merge-most c q keys o i in
+          let admissible = below.admissible in
+          let most = startup-most c q some i in
+          let kept = kept-least q.window (cost c q i).startup in
+          let cut = ap (λ (x : Pair). x.startup) e in
+          let least = best.least i si built.1 built.2.inner_keys (omega (arith, sides.1, admissible)) in
+          inner-replaced front outers inners keys b p sorted i at best.side si built.2.inner_keys least
+          (kept-most q.window (cost c q (side_of keys p.tree sorted)).startup (cost c q i).startup (omega (arith, cut, le, kept, most, sides.1, admissible))) served o so built below
+
+  -- the outer sides: paths whose keys begin with the list, and sorts
+  pub outers-served : (front outers : List Path) (keys : Keys) (a : RelSet) (i : Plan) → All (IsPathAt c q a none) outers → ArePlainServed c q asked front keys i outers → ((o : Plan) → IsPlanIn outers o → IsServed c q asked front (merge keys (sort keys o) i)) → AreOutersServed c q asked front outers keys i
+  outers-served front outers keys a i at plain sorted o so built below = by (side-cases c q outers keys o so built.2.outer_keys) built below
+    where
+      by : ((x : Plan) × IsPlanIn outers x × (o ≡ sort keys x)) ⊎ (IsPlanIn outers o × (covers (keys_of c q o) keys ≡ true)) → IsServed c q asked front (merge keys o i)
+      by (inl (x, k, e)) = subst (λ t. IsServed c q asked front (merge keys t i)) (sym e) (sorted x k)
+      by (inr (k, h)) =
+          let is = All-contains (IsPathAt c q a none) outers k.path at k.is_there in
+          let begins : covers k.path.keys keys ≡ true = ap (λ ks. covers ks keys) (is.is_path.numbers.keys ∙ ap (keys_of c q) k.is_plan) ∙ h in
+          let one = All-contains (λ (x : Path). covers x.keys keys ≡ true → IsServed c q asked front (merge keys x.tree i)) outers k.path plain k.is_there begins in
+          subst (λ t. IsServed c q asked front (merge keys t i)) k.is_plan one
+
+  -- the cheapest outer path sorted serves the others sorted
+  pub sorted-served : (front outers : List Path) (keys : Keys) (a : RelSet) (p : Path) (i : Plan) → All (IsPathAt c q a none) outers → IsCheapest outers p → IsServed c q asked front (merge keys (sort keys p.tree) i) →
+      (o : Plan) → IsPlanIn outers o → IsServed c q asked front (merge keys (sort keys o) i)
+  sorted-served front outers keys a p i at cheapest served o k built below =
+      let is = All-contains (IsPathAt c q a none) outers p at cheapest.is_there in
+      let like = path-like c q keys a outers p false o at is k in
+      let most = sorts-most c q keys a outers p o at cheapest k in
+      let own : IsLike i i = record { set = λ n. refl; param = λ n. refl } in
+      replaced front keys (sort keys o) (sort keys p.tree) i i (record { set = like.set; param = like.param }) own most.total (le_refl (cost c q i).total)
+      (startup-from q.window (cost c q (sort keys p.tree)).startup (cost c q (sort keys o)).startup most.startup) (startup-refl c q i) (is.is_path.plan.built, is.is_path.plan.plain) built.1
+      refl built.2.inner_keys (covers-refl keys) served built below
+
+  -- the inner sides that start before a cost: paths whose keys begin with the list, and sorts, of which that of the cheapest path is first
+  pub early-served : (front outers inners : List Path) (keys : Keys) (b : RelSet) (p : Path) (startup : ℕ) → All (IsPathAt c q b none) inners → IsCheapest inners p → ArePlainEarlyServed c q asked front outers keys startup inners →
+      (startup_kept q.window (cost c q (sort keys p.tree)).startup < startup → AreOutersServed c q asked front outers keys (sort keys p.tree)) → AreEarlyServed c q asked front outers inners keys startup
+  early-served front outers inners keys b p startup at cheapest plain sorted i si has lt = by (side-cases c q inners keys i si has)
+    where
+      by : ((x : Plan) × IsPlanIn inners x × (i ≡ sort keys x)) ⊎ (IsPlanIn inners i × (covers (keys_of c q i) keys ≡ true)) → AreOutersServed c q asked front outers keys i
+      by (inl (x, k, e)) =
+          let most = sorts-most c q keys b inners p x at cheapest k in
+          let same : cost c q (sort keys x) ≡ cost c q i = ap (cost c q) (sym e) in
+          let total = subst (λ (n : Pair). (cost c q (sort keys p.tree)).total ≤ n.total) same most.total in
+          let start = subst (λ (n : Pair). (cost c q (sort keys p.tree)).startup ≤ n.startup) same most.startup in
+          let rises = kept-rises q.window (cost c q (sort keys p.tree)).startup (cost c q i).startup start in
+          inner-replaced front outers inners keys b p true i at (record { is_there = cheapest.is_there; begins = λ f. absurd (true≢false f) }) si has total
+          (startup-from q.window (cost c q (sort keys p.tree)).startup (cost c q i).startup start) (sorted (omega (arith, rises, lt)))
+      by (inr (k, h)) =
+          let is = All-contains (IsPathAt c q b none) inners k.path at k.is_there in
+          let begins : covers k.path.keys keys ≡ true = ap (λ ks. covers ks keys) (is.is_path.numbers.keys ∙ ap (keys_of c q) k.is_plan) ∙ h in
+          let starts : k.path.startup ≡ startup_kept q.window (cost c q i).startup = is.is_path.numbers.startup ∙ ap (λ (t : Plan). startup_kept q.window (cost c q t).startup) k.is_plan in
+          let one = All-contains (λ (x : Path). covers x.keys keys ≡ true → x.startup < startup → AreOutersServed c q asked front outers keys x.tree) inners k.path plain k.is_there begins (omega (arith, starts, lt)) in
+          subst (AreOutersServed c q asked front outers keys) k.is_plan one
+
+  pub early-none : (front outers inners : List Path) (keys : Keys) (startup : ℕ) → inners ≡ [] → AreEarlyServed c q asked front outers inners keys startup
+  early-none front outers inners keys startup e i si has lt = absurd (side-of-none inners i e si)
+
+  pub outers-later : (old new outers : List Path) (keys : Keys) (i : Plan) → StayDominated c q old new → AreOutersServed c q asked old outers keys i → AreOutersServed c q asked new outers keys i
+  outers-later old new outers keys i still h o so = served-later c q asked old new (merge keys o i) still (h o so)
+
+  pub plain-early-later : (old new outers inners : List Path) (keys : Keys) (startup : ℕ) → StayDominated c q old new → ArePlainEarlyServed c q asked old outers keys startup inners → ArePlainEarlyServed c q asked new outers keys startup inners
+  plain-early-later old new outers inners keys startup still h =
+      All-weaker (λ (i : Path). covers i.keys keys ≡ true → i.startup < startup → AreOutersServed c q asked old outers keys i.tree) (λ (i : Path). covers i.keys keys ≡ true → i.startup < startup → AreOutersServed c q asked new outers keys i.tree)
+      (λ i k e lt. outers-later old new outers keys i.tree still (k e lt)) inners h
+
+  pub merges-none : (front outers inners : List Path) (keys : Keys) → inners ≡ [] → AreMergesServed c q asked front outers inners keys
   merges-none front outers inners keys e o i so si = absurd (side-of-none inners i e si)
 
-  pub sorted-none : (front outers : List Path) (keys : Keys) (i : Plan) → outers ≡ [] → (o : Plan) → IsPlanIn outers o → IsServed c q front (merge keys (sort keys o) i)
+  pub sorted-none : (front outers : List Path) (keys : Keys) (i : Plan) → outers ≡ [] → (o : Plan) → IsPlanIn outers o → IsServed c q asked front (merge keys (sort keys o) i)
   sorted-none front outers keys i e o k = absurd (plan-of-none outers o e k)
 
-  pub merges-later : (old new outers inners : List Path) (keys : Keys) → StayDominated c q old new → AreMergesServed c q old outers inners keys → AreMergesServed c q new outers inners keys
-  merges-later old new outers inners keys still h o i so si = served-later c q old new (merge keys o i) still (h o i so si)
+  pub merges-later : (old new outers inners : List Path) (keys : Keys) → StayDominated c q old new → AreMergesServed c q asked old outers inners keys → AreMergesServed c q asked new outers inners keys
+  merges-later old new outers inners keys still h o i so si = served-later c q asked old new (merge keys o i) still (h o i so si)
 
-  pub plain-later : (old new outers : List Path) (keys : Keys) (i : Plan) → StayDominated c q old new → ArePlainServed c q old keys i outers → ArePlainServed c q new keys i outers
+  pub plain-later : (old new outers : List Path) (keys : Keys) (i : Plan) → StayDominated c q old new → ArePlainServed c q asked old keys i outers → ArePlainServed c q asked new keys i outers
   plain-later old new outers keys i still h =
-      All-weaker (λ (o : Path). covers o.keys keys ≡ true → IsServed c q old (merge keys o.tree i)) (λ (o : Path). covers o.keys keys ≡ true → IsServed c q new (merge keys o.tree i)) (λ o k e. served-later c q old new (merge keys o.tree i) still (k e)) outers h
+      All-weaker (λ (o : Path). covers o.keys keys ≡ true → IsServed c q asked old (merge keys o.tree i)) (λ (o : Path). covers o.keys keys ≡ true → IsServed c q asked new (merge keys o.tree i)) (λ o k e. served-later c q asked old new (merge keys o.tree i) still (k e)) outers h
 
   -- a list that is no merge list has no merge of the space
   pub merges-all : (front outers inners : List Path) (a b : RelSet) (lists : List Keys) → All (IsPathAt c q a none) outers → All (IsPathAt c q b none) inners → ((keys : Keys) → IsMergeList c q (has a.0) (has b.0) keys → Contains lists keys) →
-      All (AreMergesServed c q front outers inners) lists → (keys : Keys) → AreMergesServed c q front outers inners keys
-  merges-all front outers inners a b lists at at' all h keys o i so si built admissible =
+      All (AreMergesServed c q asked front outers inners) lists → (keys : Keys) → AreMergesServed c q asked front outers inners keys
+  merges-all front outers inners a b lists at at' all h keys o i so si built below =
       let n = built.2 in
-      let reads = reads-of a outers o at (side-cases outers keys o so n.outer_keys) in
-      let reads' = reads-of b inners i at' (side-cases inners keys i si n.inner_keys) in
+      let reads = reads-of a outers o at (side-cases c q outers keys o so n.outer_keys) in
+      let reads' = reads-of b inners i at' (side-cases c q inners keys i si n.inner_keys) in
       let list = subst₂ (λ x y. IsMergeList c q x y keys) (sym (sets-same (has a.0) (set_of o) reads)) (sym (sets-same (has b.0) (set_of i) reads')) n.list in
-      All-contains (AreMergesServed c q front outers inners) lists keys h (all keys list) o i so si built admissible
+      All-contains (AreMergesServed c q asked front outers inners) lists keys h (all keys list) o i so si built below
     where
       reads-of : (s : RelSet) (paths : List Path) (t : Plan) → All (IsPathAt c q s none) paths → ((x : Plan) × IsPlanIn paths x × (t ≡ sort keys x)) ⊎ (IsPlanIn paths t × (covers (keys_of c q t) keys ≡ true)) → IsSameSet (has s.0) (set_of t)
-      reads-of s paths t is (inl (x, k, e)) n = (plan-reads s paths x is k).0 n ∙ ap (λ (u : Plan). set_of u n) (sym e)
-      reads-of s paths t is (inr (k, h)) n = (plan-reads s paths t is k).0 n
+      reads-of s paths t is (inl (x, k, e)) n = (plan-reads c q s paths x is k).0 n ∙ ap (λ (u : Plan). set_of u n) (sym e)
+      reads-of s paths t is (inr (k, h)) n = (plan-reads c q s paths t is k).0 n
+
+  -- the merge of two sides, where a path of the front beats it
+  module _ (fronts : Fronts) (placed : ArePlaced c q fronts) (j : Split) (keys : Keys) (split : IsSplit c q j) (list : IsMergeList c q (has j.outer.0) (has j.inner.0) keys)
+      (o i : Path) (bo bi : Bool) (outer : IsSideOf keys (fronts j.outer none) o bo) (inner : IsSideOf keys (fronts j.inner none) i bi) where
+    pub sides-beaten : (front : List Path) (n : Pair) (ks part : Keys) → All (IsPathAt c q j.set none) front → n ≡ capped_pair (kept_cost q.window (cost c q (merge keys (side_of keys o.tree bo) (side_of keys i.tree bi)))) → ks ≡ cond bo keys o.keys →
+        IsPartOfUse q asked (has j.set.0) ks part → IsBeaten front n part → IsServed c q asked front (merge keys (side_of keys o.tree bo) (side_of keys i.tree bi))
+    sides-beaten front n ks part paths e k of_use beaten built below =
+        beaten-sufficient c q asked j.set front (merge keys (side_of keys o.tree bo) (side_of keys i.tree bi)) n part paths (sides-plan c q fronts placed j keys split list o i bo bi outer inner) e
+        (subst (λ (ls : Keys). IsPartOfUse q asked (has j.set.0) ls part) (sides-keys c q fronts placed j keys split list o i bo bi outer inner ks k) of_use) beaten

@@ -15,13 +15,12 @@ use Rattle.path_cost.specs.Estimates.{conditions_where}
 use Rattle.pathkeys.proofs.CoveringLemmas.{covers-refl}
 use Rattle.sql_query.specs.Queries.{Query}
 use Rattle.plan_tree.specs.Costs.{cost, estimate, join_operators}
-use Rattle.plan_tree.specs.Fronts.{IsServed, StayDominated}
+use Rattle.plan_tree.specs.Fronts.{StayDominated}
 use Rattle.plan_tree.specs.Keys.{keys_of}
 use Rattle.plan_tree.specs.Paths.{Path, kept_cost}
 use Rattle.plan_tree.specs.Plans.{Plan, empty, joins, nest, param_of, set_of}
 use Rattle.plan_tree.specs.Space.{IsBuilt, IsLike, IsPlanOf}
 use Rattle.plan_tree.specs.declared.path.Path.{Path as Costed}
-use Rattle.plan_tree.proofs.DominationLemmas.{dominates-trans}
 use Rattle.plan_tree.proofs.JoinLemmas.{nest_costs}
 use Rattle.plan_tree.proofs.ReplacingLemmas.{nest-totals}
 use Rattle.plan_tree.proofs.WindowLemmas.{kept-most, nest-kept, startup-both, startup-from}
@@ -30,10 +29,12 @@ use Rattle.join_search.specs.Joins.{ArePlaced, IsPathAt}
 use Rattle.join_search.specs.Nests.{IsInner, IsNestWork}
 use Rattle.join_search.specs.Offers.{AreEachServed, AreEarlyServed, AreNestsServed, IsCheapest}
 use Rattle.join_search.specs.Splits.{IsSplit}
+use Rattle.join_search.specs.Sufficing.{IsServed}
+use Rattle.join_search.specs.declared.useful.Asked.{Asked}
 use Rattle.join_search.specs.declared.nests.NestWork.{NestWork}
 use Rattle.join_search.specs.declared.splits.Split.{Split}
 use Rattle.join_search.specs.declared.table.Table.{Table}
-use Rattle.join_search.proofs.OfferLemmas.{served-later}
+use Rattle.join_search.proofs.OfferLemmas.{served-by, served-later}
 use Rattle.join_search.proofs.ItemLemmas.{plan-of-none}
 use Rattle.join_search.proofs.TableLemmas.{params-found}
 use Rattle.join_search.proofs.PlanLemmas.{at-none, at-param, at-set, sets-same, whole-rows}
@@ -76,17 +77,24 @@ module _ (c : Contents) (q : Query) where
       (kept_cost q.window a) (kept_cost q.window b) ex ey
       ∙ ap capped_pair (nest-kept q.window a b (estimate c q o.tree) (estimate c q i.tree) (join_operators q o.tree i.tree))
 
-  same-like : (s p : RelSet) (x y : Path) → IsPathAt c q s p x → IsPathAt c q s p y → IsLike x.tree y.tree
+  pub same-like : (s p : RelSet) (x y : Path) → IsPathAt c q s p x → IsPathAt c q s p y → IsLike x.tree y.tree
   same-like s p x y h k = record {
     set = λ n. sym (at-set c q s p x h n) ∙ at-set c q s p y k n;
     param = λ n. sym (at-param c q s p x h n) ∙ at-param c q s p y k n;
   }
 
+  pub given-inner : (j : Split) (p : RelSet) (x : Path) → IsPathAt c q j.inner p x → IsWithin (has p.0) (has j.outer.0) → IsInner c q j x
+  given-inner j p x h within = record {
+    stands = subst (λ (r : RelSet). IsPathAt c q j.inner r x) (sym h.param) h;
+    given = subst (λ (r : RelSet). IsWithin (has r.0) (has j.outer.0)) (sym h.param) within;
+  }
+
+module _ (c : Contents) (q : Query) (asked : Asked) where
   -- what a path of the same place serves as inner one that costs no more, another is served by
   module _ (front : List Path) (b p : RelSet) (i y : Path) (at : IsPathAt c q b p i) (at' : IsPathAt c q b p y) (least : i.cost ≤ y.cost) (first : i.startup ≤ y.startup) where
-    inner-replaced : (o : Plan) → IsServed c q front (nest o i.tree) → IsServed c q front (nest o y.tree)
-    inner-replaced o served built admissible =
-        let like = same-like b p i y at at' in
+    inner-replaced : (o : Plan) → IsServed c q asked front (nest o i.tree) → IsServed c q asked front (nest o y.tree)
+    inner-replaced o served built below =
+        let like = same-like c q b p i y at at' in
         let total : (cost c q i.tree).total ≤ (cost c q y.tree).total = subst₂ (λ m n. m ≤ n) at.is_path.numbers.cost at'.is_path.numbers.cost least in
         let startup = kept-most q.window (cost c q i.tree).startup (cost c q y.tree).startup (subst₂ (λ m n. m ≤ n) at.is_path.numbers.startup at'.is_path.numbers.startup first) in
         let own : IsLike o o = record { set = λ k. refl; param = λ k. refl } in
@@ -102,60 +110,50 @@ module _ (c : Contents) (q : Query) where
             inner_plain = at.is_path.plan.plain;
           },
         ) in
-        let found = served again (omega (arith, most, admissible)) in
-        record {
-          path = found.path;
-          is_there = found.is_there;
-          dominates = dominates-trans c q found.path.tree (nest o i.tree) (nest o y.tree) found.dominates (record {
-            like = record { set = λ k. ap (λ x. set_of o k || x) (like.set k); param = λ k. refl };
-            total = most;
-            startup = startup-both q.window (cost c q o).startup (cost c q o).startup (cost c q i.tree).startup (cost c q y.tree).startup (startup-from q.window _ _ (le_refl (cost c q o).startup)) startup;
-            keys = covers-refl (keys_of c q o);
-          });
-        }
+        served-by c q asked front (nest o i.tree) (nest o y.tree) again
+        (record {
+          like = record { set = λ k. ap (λ x. set_of o k || x) (like.set k); param = λ k. refl };
+          total = most;
+          startup = startup-both q.window (cost c q o).startup (cost c q o).startup (cost c q i.tree).startup (cost c q y.tree).startup (startup-from q.window _ _ (le_refl (cost c q o).startup)) startup;
+          keys = covers-refl (keys_of c q o);
+        }) served built below
 
   -- where the nested loops with the cheapest inner path are served, and those with each that starts earlier, all are
-  pub nests-served : (front outers inners : List Path) (b p : RelSet) (i : Path) → All (IsPathAt c q b p) inners → IsCheapest inners i → AreEachServed c q front outers i.tree → AreEarlyServed c q front outers i.startup inners → AreNestsServed c q front outers inners
+  pub nests-served : (front outers inners : List Path) (b p : RelSet) (i : Path) → All (IsPathAt c q b p) inners → IsCheapest inners i → AreEachServed c q asked front outers i.tree → AreEarlyServed c q asked front outers i.startup inners → AreNestsServed c q asked front outers inners
   nests-served front outers inners b p i at cheapest served early o y x z =
-      subst₂ (λ a d. IsServed c q front (nest a d)) x.is_plan z.is_plan (by (cases_lt z.path.startup i.startup))
+      subst₂ (λ a d. IsServed c q asked front (nest a d)) x.is_plan z.is_plan (by (cases_lt z.path.startup i.startup))
     where
-      by : (z.path.startup < i.startup) ⊎ (i.startup ≤ z.path.startup) → IsServed c q front (nest x.path.tree z.path.tree)
-      by (inl lt) = All-contains (λ (e : Path). IsServed c q front (nest e.tree z.path.tree)) outers x.path (All-contains (λ (e : Path). e.startup < i.startup → AreEachServed c q front outers e.tree) inners z.path early z.is_there lt) x.is_there
+      by : (z.path.startup < i.startup) ⊎ (i.startup ≤ z.path.startup) → IsServed c q asked front (nest x.path.tree z.path.tree)
+      by (inl lt) = All-contains (λ (e : Path). IsServed c q asked front (nest e.tree z.path.tree)) outers x.path (All-contains (λ (e : Path). e.startup < i.startup → AreEachServed c q asked front outers e.tree) inners z.path early z.is_there lt) x.is_there
       by (inr le) =
           let is = All-contains (IsPathAt c q b p) inners i at cheapest.is_there in
           let is' = All-contains (IsPathAt c q b p) inners z.path at z.is_there in
           let least = All-contains (λ (e : Path). i.cost ≤ e.cost) inners z.path cheapest.least z.is_there in
-          inner-replaced front b p i z.path is is' least le x.path.tree (All-contains (λ (e : Path). IsServed c q front (nest e.tree i.tree)) outers x.path served x.is_there)
+          inner-replaced front b p i z.path is is' least le x.path.tree (All-contains (λ (e : Path). IsServed c q asked front (nest e.tree i.tree)) outers x.path served x.is_there)
 
-  pub each-later : (old new outers : List Path) (i : Plan) → StayDominated c q old new → AreEachServed c q old outers i → AreEachServed c q new outers i
-  each-later old new outers i still h = All-weaker (λ (o : Path). IsServed c q old (nest o.tree i)) (λ (o : Path). IsServed c q new (nest o.tree i)) (λ o k. served-later c q old new (nest o.tree i) still k) outers h
+  pub each-later : (old new outers : List Path) (i : Plan) → StayDominated c q old new → AreEachServed c q asked old outers i → AreEachServed c q asked new outers i
+  each-later old new outers i still h = All-weaker (λ (o : Path). IsServed c q asked old (nest o.tree i)) (λ (o : Path). IsServed c q asked new (nest o.tree i)) (λ o k. served-later c q asked old new (nest o.tree i) still k) outers h
 
-  pub given-inner : (j : Split) (p : RelSet) (x : Path) → IsPathAt c q j.inner p x → IsWithin (has p.0) (has j.outer.0) → IsInner c q j x
-  given-inner j p x h within = record {
-    stands = subst (λ (r : RelSet). IsPathAt c q j.inner r x) (sym h.param) h;
-    given = subst (λ (r : RelSet). IsWithin (has r.0) (has j.outer.0)) (sym h.param) within;
-  }
-
-  pub nests-none : (front outers inners : List Path) → inners ≡ [] → AreNestsServed c q front outers inners
+  pub nests-none : (front outers inners : List Path) → inners ≡ [] → AreNestsServed c q asked front outers inners
   nests-none front outers inners e o i x y = absurd (plan-of-none inners i e y)
 
   -- no inner path may be given rows of others than the outer set
-  pub nests-apart : (fronts : Fronts) (front : List Path) (a b p : RelSet) → ArePlaced c q fronts → (IsWithin (has p.0) (has a.0) → ⊥) → AreNestsServed c q front (fronts a none) (fronts b p)
-  nests-apart fronts front a b p placed apart o i x y built admissible =
+  pub nests-apart : (fronts : Fronts) (front : List Path) (a b p : RelSet) → ArePlaced c q fronts → (IsWithin (has p.0) (has a.0) → ⊥) → AreNestsServed c q asked front (fronts a none) (fronts b p)
+  nests-apart fronts front a b p placed apart o i x y built below =
       let h = All-contains (IsPathAt c q a none) (fronts a none) x.path (placed.paths a none) x.is_there in
       let k = All-contains (IsPathAt c q b p) (fronts b p) y.path (placed.paths b p) y.is_there in
       absurd (apart (λ n is.
       at-set c q a none x.path h n ∙ ap (λ (t : Plan). set_of t n) x.is_plan
       ∙ built.2.given n (sym (ap (λ (t : Plan). param_of t n) y.is_plan) ∙ sym (at-param c q b p y.path k n) ∙ is)))
 
-  pub nests-later : (old new outers inners : List Path) → StayDominated c q old new → AreNestsServed c q old outers inners → AreNestsServed c q new outers inners
-  nests-later old new outers inners still h o i x y = served-later c q old new (nest o i) still (h o i x y)
+  pub nests-later : (old new outers inners : List Path) → StayDominated c q old new → AreNestsServed c q asked old outers inners → AreNestsServed c q asked new outers inners
+  nests-later old new outers inners still h o i x y = served-later c q asked old new (nest o i) still (h o i x y)
 
   -- those with the parameterisations at which the set has a front are all
   pub nests-all : (table : Table) (front : List Path) (a b : RelSet) (params : List RelSet) → params ≡ params_of b table.places.items →
-      All (λ p. AreNestsServed c q front (paths_at table a none) (paths_at table b p)) params → (p : RelSet) → AreNestsServed c q front (paths_at table a none) (paths_at table b p)
+      All (λ p. AreNestsServed c q asked front (paths_at table a none) (paths_at table b p)) params → (p : RelSet) → AreNestsServed c q asked front (paths_at table a none) (paths_at table b p)
   nests-all table front a b params same h p = by (front_at table b p) refl
     where
-      by : (o : Option (List Costed)) → front_at table b p ≡ o → AreNestsServed c q front (paths_at table a none) (paths_at table b p)
+      by : (o : Option (List Costed)) → front_at table b p ≡ o → AreNestsServed c q asked front (paths_at table a none) (paths_at table b p)
       by None e = nests-none front (paths_at table a none) (paths_at table b p) (ap paths_of e)
-      by (Some f) e = All-contains (λ (r : RelSet). AreNestsServed c q front (paths_at table a none) (paths_at table b r)) params p h (subst (λ (ps : List RelSet). Contains ps p) (sym same) (params-found b p f table.places.items e))
+      by (Some f) e = All-contains (λ (r : RelSet). AreNestsServed c q asked front (paths_at table a none) (paths_at table b r)) params p h (subst (λ (ps : List RelSet). Contains ps p) (sym same) (params-found b p f table.places.items e))

@@ -1,6 +1,6 @@
 -- The path of a join, and what an offer of it does to the front of its set.
 use Rattle.std.proofs.Common.{◌≡◌, ◌⊎◌, ◌<◌, ◌≤◌, ℕ, true, nat_le, List, map, inl, inr, refl, sym, ◌∙◌, ap, subst, subst₂, arith}
-use Rattle.std.specs.Prelude.{All, Contains}
+use Rattle.std.specs.Prelude.{All, Contains, Option, None, Some}
 use Rattle.std.proofs.lemmas.Grind.{common_steps}
 use Rattle.std.proofs.lemmas.List.Elements.{All-contains, All-map, All-weaker}
 use Rattle.pareto.specs.Front.{AreKeptOr, IsCovered}
@@ -13,23 +13,31 @@ use Rattle.cost_rules.specs.declared.pair.Pair.{Pair}
 use Rattle.cost_rules.specs.declared.parameters.TheConstants.{MOST_COST}
 use Rattle.path_cost.specs.Estimates.{set_rows}
 use Rattle.pathkeys.specs.Keys.{Keys, covers}
+use Rattle.pathkeys.proofs.CoveringLemmas.{covers-trans}
 use Rattle.sql_query.specs.Queries.{Query}
+use Rattle.sql_query.specs.declared.window.Window.{Window}
 use Rattle.plan_tree.specs.Costs.{HaveRows, cost}
-use Rattle.plan_tree.specs.Fronts.{ArePathsOf, HasDominating, IsServed, StayDominated}
+use Rattle.plan_tree.specs.Fronts.{ArePathsOf, HasDominating, StayDominated}
 use Rattle.plan_tree.specs.Keys.{keys_of}
 use Rattle.plan_tree.specs.Paths.{Path, kept_cost}
-use Rattle.plan_tree.specs.Plans.{Plan, empty}
-use Rattle.plan_tree.specs.Space.{IsPlanOf}
+use Rattle.plan_tree.specs.Least.{Dominates}
+use Rattle.plan_tree.specs.Plans.{Plan, empty, set_of}
+use Rattle.plan_tree.specs.Space.{IsBuilt, IsPlanOf}
 use Rattle.plan_tree.specs.Views.{is_path_at_most, path}
 use Rattle.plan_tree.specs.declared.path.Path.{Path as Costed}
 use Rattle.plan_tree.proofs.BoundLemmas.{startup-most}
+use Rattle.plan_tree.proofs.DominationLemmas.{dominates-refl}
 use Rattle.plan_tree.proofs.FrontLemmas.{contains-mapped, made-dominated, still-dominated}
 use Rattle.plan_tree.proofs.WindowLemmas.{kept-most, uncut-kept}
+use Rattle.join_laws.specs.Useful.{IsOfUse, Suffices, floor_by}
+use Rattle.join_laws.proofs.UsefulLemmas.{below-from, dominates-suffices, suffices-trans}
 use Rattle.kept_paths.specs.Bounds.{IsBeaten}
 use Rattle.join_search.specs.Tables.{Fronts, none}
 use Rattle.join_search.specs.Joins.{IsJoinOfKept, IsJoinPath, IsPathAt}
 use Rattle.join_search.specs.Offers.{IsCheapest, TakesJoins}
-use Rattle.join_search.proofs.PlanLemmas.{at-set, at-none, whole-rows}
+use Rattle.join_search.specs.Sufficing.{HasSufficient, IsPartOfUse, IsServed, StaySufficient, floor_in}
+use Rattle.join_search.specs.declared.useful.Asked.{Asked}
+use Rattle.join_search.proofs.PlanLemmas.{at-set, at-none, sets-same, whole-rows}
 
 most : (m n : ℕ) → nat_le m n ≡ true → m ≤ n
 most m n e = grind (arith, common_steps)
@@ -78,27 +86,6 @@ module _ (c : Contents) (q : Query) where
     pub join-served : All (IsPathAt c q s none) (map path old) → IsCovered is_path_at_most new made → HasDominating c q (map path new) t
     join-served before covered = made-dominated c q old new made kept (paths-there s (map path old) before) stands.is_path t same covered
 
-  -- a path of the front that costs no more, with keys that begin with a plan's, dominates it
-  pub beaten-dominated : (s : RelSet) (front : List Path) (t : Plan) (n : Pair) (keys : Keys) → All (IsPathAt c q s none) front → IsPlanOf c q (has s.0) empty t → n ≡ capped_pair (kept_cost q.window (cost c q t)) → keys ≡ keys_of c q t → IsBeaten front n keys → HasDominating c q front t
-  beaten-dominated s front t n keys paths of e k beaten =
-      let startup = ap (λ (x : Pair). x.startup) e in
-      let total = ap (λ (x : Pair). x.total) e in
-      let x = beaten.path in
-      let h = All-contains (IsPathAt c q s none) front x paths beaten.is_there in
-      record {
-        path = x;
-        is_there = beaten.is_there;
-        dominates = record {
-          like = record {
-            set = λ m. sym (at-set c q s none x h m) ∙ sym (of.set_is m);
-            param = λ m. at-none c q s x h m ∙ sym (of.param_is m);
-          };
-          total = omega (arith, h.is_path.numbers.cost, total, beaten.cheap);
-          startup = kept-most q.window (cost c q x.tree).startup (cost c q t).startup (omega (arith, h.is_path.numbers.startup, startup, beaten.early));
-          keys = subst₂ (λ a b. covers a b ≡ true) h.is_path.numbers.keys k beaten.covers;
-        };
-      }
-
   pub joins-there : (fronts : Fronts) (s : RelSet) (ps : List Path) → All (IsJoinPath c q fronts s none) ps → All (IsPathAt c q s none) ps
   joins-there fronts s ps h = All-weaker (IsJoinPath c q fronts s none) (IsPathAt c q s none) (λ x k. k.stands) ps h
 
@@ -108,9 +95,57 @@ module _ (c : Contents) (q : Query) where
   pub takes-then : (fronts : Fronts) (s : RelSet) (a b d : List Path) → TakesJoins c q fronts s a b → TakesJoins c q fronts s b d → TakesJoins c q fronts s a d
   takes-then fronts s a b d first second = record { paths = second.paths; still = λ t h. second.still t (first.still t h) }
 
-  pub served-later : (b d : List Path) (t : Plan) → StayDominated c q b d → IsServed c q b t → IsServed c q d t
-  served-later b d t still served built admissible = still t (served built admissible)
+module _ (c : Contents) (q : Query) (asked : Asked) where
+  pub sufficient-from : (front : List Path) (p t : Plan) → Suffices c q asked.every_key p t → HasSufficient c q asked front p → HasSufficient c q asked front t
+  sufficient-from front p t s h = record { path = h.path; is_there = h.is_there; suffices = suffices-trans c q asked.every_key h.path.tree p t h.suffices s }
 
-  -- a plan past the limit is not admissible
-  pub past-limit : (front : List Path) (t : Plan) (n : Pair) → n ≡ capped_pair (kept_cost q.window (cost c q t)) → MOST_COST ≤ n.total → IsServed c q front t
-  past-limit front t n e le built admissible = let total = ap (λ (x : Pair). x.total) e in absurd (omega (arith, total, le, admissible))
+  pub dominating-serves : (front : List Path) (t : Plan) → HasDominating c q front t → HasSufficient c q asked front t
+  dominating-serves front t h = record { path = h.path; is_there = h.is_there; suffices = dominates-suffices c q asked.every_key h.path.tree t h.dominates }
+
+  -- what serves a plan serves one that it dominates
+  pub served-by : (front : List Path) (p t : Plan) → IsBuilt c q p → Dominates c q p t → IsServed c q asked front p → IsServed c q asked front t
+  served-by front p t again d served built below =
+      let s = dominates-suffices c q asked.every_key p t d in
+      sufficient-from front p t s (served again (below-from c q asked.every_key p t asked.limit s below))
+
+  pub stay-sufficient : (b d : List Path) → StayDominated c q b d → StaySufficient c q asked b d
+  stay-sufficient b d still t h =
+      let found = still h.path.tree (record { path = h.path; is_there = h.is_there; dominates = dominates-refl c q h.path.tree }) in
+      sufficient-from d h.path.tree t h.suffices (dominating-serves d h.path.tree found)
+
+  pub served-later : (b d : List Path) (t : Plan) → StayDominated c q b d → IsServed c q asked b t → IsServed c q asked d t
+  served-later b d t still served built below = stay-sufficient b d still t (served built below)
+
+  -- a path of the front that costs no more, with keys that begin with the part of use of a plan's, suffices for it
+  pub beaten-sufficient : (s : RelSet) (front : List Path) (t : Plan) (n : Pair) (part : Keys) → All (IsPathAt c q s none) front → IsPlanOf c q (has s.0) empty t → n ≡ capped_pair (kept_cost q.window (cost c q t)) →
+      IsPartOfUse q asked (has s.0) (keys_of c q t) part → IsBeaten front n part → HasSufficient c q asked front t
+  beaten-sufficient s front t n part paths of e k beaten =
+      let startup = ap (λ (x : Pair). x.startup) e in
+      let total = ap (λ (x : Pair). x.total) e in
+      let x = beaten.path in
+      let h = All-contains (IsPathAt c q s none) front x paths beaten.is_there in
+      record {
+        path = x;
+        is_there = beaten.is_there;
+        suffices = record {
+          like = record {
+            set = λ m. sym (at-set c q s none x h m) ∙ sym (of.set_is m);
+            param = λ m. at-none c q s x h m ∙ sym (of.param_is m);
+          };
+          total = omega (arith, h.is_path.numbers.cost, total, beaten.cheap);
+          startup = kept-most q.window (cost c q x.tree).startup (cost c q t).startup (omega (arith, h.is_path.numbers.startup, startup, beaten.early));
+          keys = λ ks used begins. covers-trans (keys_of c q x.tree) part ks (subst (λ a. covers a part ≡ true) h.is_path.numbers.keys beaten.covers)
+              (k ks (subst (λ a. IsOfUse q asked.every_key a ks) (sets-same (set_of t) (has s.0) of.set_is) used) begins);
+        };
+      }
+
+  floor-least : (w : Option Window) (t : Plan) (n : Pair) → n ≡ capped_pair (kept_cost w (cost c q t)) → floor_in w n ≤ floor_by c q w t
+  floor-least None t n e = let total = ap (λ (x : Pair). x.total) e in omega (arith, total)
+  floor-least (Some w) t n e = let startup = ap (λ (x : Pair). x.startup) e in omega (arith, startup)
+
+  -- a plan past the limit is not below it
+  pub past-limit : (front : List Path) (t : Plan) (n : Pair) → n ≡ capped_pair (kept_cost q.window (cost c q t)) → (n.total < MOST_COST → floor_in q.window n < asked.limit → ⊥) → IsServed c q asked front t
+  past-limit front t n e past built below =
+      let total = ap (λ (x : Pair). x.total) e in
+      let least = floor-least q.window t n e in
+      absurd (past (omega (arith, total, below.admissible)) (omega (arith, least, below.floor)))

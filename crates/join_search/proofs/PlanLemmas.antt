@@ -20,6 +20,7 @@ use Rattle.join_search.specs.Tables.{Fronts, none}
 use Rattle.join_search.specs.Joins.{ArePlaced, IsCovered, IsKept, IsPathAt, IsPlanIn, IsSideIn, IsSideKept}
 use Rattle.join_search.specs.Offers.{AreJoinsServed}
 use Rattle.join_search.specs.Splits.{IsDivided}
+use Rattle.join_search.specs.declared.useful.Asked.{Asked}
 use Rattle.join_search.proofs.TableLemmas.{same-number}
 
 pub sets-same : (a b : Set) → IsSameSet a b → a ≡ b
@@ -112,21 +113,21 @@ module _ (c : Contents) (q : Query) where
   }
 
   -- where the joins of each division of a set are served, the joins of kept paths of the set are covered
-  pub all-covered : (fronts : Fronts) (s : RelSet) → ArePlaced c q fronts → ((a b : RelSet) → IsDivided s a b → AreJoinsServed c q fronts (fronts s none) a b) → IsCovered c q fronts s
-  all-covered fronts s placed served (nest o i) of admissible kept =
+  pub all-covered : (asked : Asked) (fronts : Fronts) (s : RelSet) → ArePlaced c q fronts → ((a b : RelSet) → IsDivided s a b → AreJoinsServed c q asked fronts (fronts s none) a b) → IsCovered c q asked fronts s
+  all-covered asked fronts s placed served (nest o i) of below kept =
       let x = stands fronts o placed kept.0 in
       let y = stands fronts i placed kept.1 in
       let n = of.built.2 in
       let d = sides-divide s x.set y.set o i of.set_is n.sides.apart x.reads y.reads in
-      (served x.set y.set d).nests y.param o i (whole-there fronts o x n.sides.outer_whole) y.is_there of.built admissible
-  all-covered fronts s placed served (merge keys o i) of admissible kept =
+      (served x.set y.set d).nests y.param o i (whole-there fronts o x n.sides.outer_whole) y.is_there of.built below
+  all-covered asked fronts s placed served (merge keys o i) of below kept =
       let n = of.built.2 in
       let x = aside fronts o placed kept.0 n.sides.outer_whole in
       let y = aside fronts i placed kept.1 n.inner_whole in
       let d = sides-divide s x.set y.set o i of.set_is n.sides.apart x.reads y.reads in
-      (served x.set y.set d).merges keys o i x.side y.side of.built admissible
-  all-covered fronts s placed served (seq r) of admissible kept = absurd kept
-  all-covered fronts s placed served (index r i backward p) of admissible kept = absurd kept
-  all-covered fronts s placed served (index_only r i backward p) of admissible kept = absurd kept
-  all-covered fronts s placed served (bitmap r p bits) of admissible kept = absurd kept
-  all-covered fronts s placed served (sort keys input) of admissible kept = absurd kept
+      (served x.set y.set d).merges keys o i x.side y.side of.built below
+  all-covered asked fronts s placed served (seq r) of below kept = absurd kept
+  all-covered asked fronts s placed served (index r i backward p) of below kept = absurd kept
+  all-covered asked fronts s placed served (index_only r i backward p) of below kept = absurd kept
+  all-covered asked fronts s placed served (bitmap r p bits) of below kept = absurd kept
+  all-covered asked fronts s placed served (sort keys input) of below kept = absurd kept

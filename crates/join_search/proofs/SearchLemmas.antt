@@ -24,14 +24,16 @@ use Rattle.join_search.specs.Joins.{AreUndominated, IsBase, IsCovered, IsJoinOfK
 use Rattle.join_search.specs.Offers.{AreJoinsServed, AreMergesServed, AreNestsServed}
 use Rattle.join_search.specs.Search.{IsDone}
 use Rattle.join_search.specs.Splits.{IsDivided}
+use Rattle.join_search.specs.Sufficing.{StaySufficient}
+use Rattle.join_search.specs.declared.useful.Asked.{Asked}
 use Rattle.join_search.specs.declared.table.Table.{Table}
-use Rattle.join_search.proofs.ItemLemmas.{not-contained}
+use Rattle.join_search.proofs.ItemLemmas.{not-contained, plan-of-none, side-of-none}
 use Rattle.join_search.proofs.MergeLemmas.{merges-later}
 use Rattle.join_search.proofs.NestLemmas.{nests-later}
 use Rattle.join_search.proofs.OfferLemmas.{joins-there, paths-there}
 use Rattle.join_search.proofs.PlanLemmas.{all-covered}
 use Rattle.join_search.proofs.SetLemmas.{divided-not-single, inner-less, outer-less, set-below}
-use Rattle.join_search.proofs.TestedLemmas.{read-below}
+use Rattle.join_laws.proofs.WithinLemmas.{read-below}
 use Rattle.join_search.proofs.TableLemmas.{same-number}
 
 both-or-not : (a b m n : ℕ) (x y : Bool) → nat_eq a m ≡ x → nat_eq b n ≡ y → ((a ≡ m) × (b ≡ n)) ⊎ (((a ≡ m) × (b ≡ n)) → ⊥)
@@ -68,10 +70,10 @@ module _ (F G : Fronts) (more : (s p : RelSet) (x : Path) → Contains (F s p) x
   paths-more : (c : Contents) (q : Query) (s p : RelSet) (ps : List Path) → All (IsJoinPath c q F s p) ps → All (IsJoinPath c q G s p) ps
   paths-more c q s p ps h = All-weaker (IsJoinPath c q F s p) (IsJoinPath c q G s p) (λ x k. record { stands = k.stands; sides = joins-more x.tree k.sides }) ps h
 
-module _ (c : Contents) (q : Query) (base before after : Table) (set : RelSet) (front : List Costed) (single : ¬ IsSingle set) (done : IsDone c q base before set.0)
+module _ (c : Contents) (q : Query) (asked : Asked) (base before after : Table) (set : RelSet) (front : List Costed) (single : ¬ IsSingle set) (done : IsDone c q asked base before set.0)
     (here : front_at after set none ≡ Some front) (others : (t o : RelSet) → ¬ IsSamePlace t o set none → front_at after t o ≡ front_at before t o)
     (joins : All (IsJoinPath c q (paths_at before) set none) (map path front))
-    (served : (a b : RelSet) → IsDivided set a b → AreJoinsServed c q (paths_at before) (map path front) a b)
+    (served : (a b : RelSet) → IsDivided set a b → AreJoinsServed c q asked (paths_at before) (map path front) a b)
     (undominated : AreUndominated c q (map path front)) where
   at-here : paths_at after set none ≡ map path front
   at-here = ap paths_of here
@@ -97,27 +99,27 @@ module _ (c : Contents) (q : Query) (base before after : Table) (set : RelSet) (
       by (inl e) = subst₂ (λ t o. P t o (paths_at after t o)) (sym (same-number s set e.0)) (sym (same-number p none e.1)) (subst (P set none) (sym at-here) new)
       by (inr never) = subst (P s p) (sym (elsewhere s p never)) (old s p never)
 
-  joins-moved : (s a b : RelSet) (ps : List Path) → a.0 < set.0 → b.0 < set.0 → AreJoinsServed c q (paths_at before) ps a b → AreJoinsServed c q (paths_at after) ps a b
+  joins-moved : (s a b : RelSet) (ps : List Path) → a.0 < set.0 → b.0 < set.0 → AreJoinsServed c q asked (paths_at before) ps a b → AreJoinsServed c q asked (paths_at after) ps a b
   joins-moved s a b ps la lb h = record {
-    nests = λ p. subst₂ (AreNestsServed c q ps) (sym (elsewhere a none (λ e. absurd (omega (arith, la, e.0))))) (sym (elsewhere b p (λ e. absurd (omega (arith, lb, e.0))))) (h.nests p);
-    merges = λ keys. subst₂ (λ (x y : List Path). AreMergesServed c q ps x y keys) (sym (elsewhere a none (λ e. absurd (omega (arith, la, e.0))))) (sym (elsewhere b none (λ e. absurd (omega (arith, lb, e.0))))) (h.merges keys);
+    nests = λ p. subst₂ (AreNestsServed c q asked ps) (sym (elsewhere a none (λ e. absurd (omega (arith, la, e.0))))) (sym (elsewhere b p (λ e. absurd (omega (arith, lb, e.0))))) (h.nests p);
+    merges = λ keys. subst₂ (λ (x y : List Path). AreMergesServed c q asked ps x y keys) (sym (elsewhere a none (λ e. absurd (omega (arith, la, e.0))))) (sym (elsewhere b none (λ e. absurd (omega (arith, lb, e.0))))) (h.merges keys);
   }
 
-  served-after : (s a b : RelSet) → s.0 < set.0 + 1 → IsDivided s a b → AreJoinsServed c q (paths_at after) (paths_at after s none) a b
+  served-after : (s a b : RelSet) → s.0 < set.0 + 1 → IsDivided s a b → AreJoinsServed c q asked (paths_at after) (paths_at after s none) a b
   served-after s a b lt d = by (same-or-not s none set none)
     where
-      by : IsSamePlace s none set none ⊎ ¬ IsSamePlace s none set none → AreJoinsServed c q (paths_at after) (paths_at after s none) a b
+      by : IsSamePlace s none set none ⊎ ¬ IsSamePlace s none set none → AreJoinsServed c q asked (paths_at after) (paths_at after s none) a b
       by (inl e) =
           let same = same-number s set e.0 in
           let d' = subst (λ t. IsDivided t a b) same d in
-          subst (λ t. AreJoinsServed c q (paths_at after) (paths_at after t none) a b) (sym same)
-          (subst (λ ps. AreJoinsServed c q (paths_at after) ps a b) (sym at-here) (joins-moved set a b (map path front) (outer-less set a b d') (inner-less set a b d') (served a b d')))
+          subst (λ t. AreJoinsServed c q asked (paths_at after) (paths_at after t none) a b) (sym same)
+          (subst (λ ps. AreJoinsServed c q asked (paths_at after) ps a b) (sym at-here) (joins-moved set a b (map path front) (outer-less set a b d') (inner-less set a b d') (served a b d')))
       by (inr never) =
           let less : s.0 < set.0 = grind (arith, lt, never) in
-          subst (λ ps. AreJoinsServed c q (paths_at after) ps a b) (sym (elsewhere s none never))
+          subst (λ ps. AreJoinsServed c q asked (paths_at after) ps a b) (sym (elsewhere s none never))
           (joins-moved s a b (paths_at before s none) (omega (arith, outer-less s a b d, less)) (omega (arith, inner-less s a b d, less)) (done.served s a b less d))
 
-  pub done-more : IsDone c q base after (set.0 + 1)
+  pub done-more : IsDone c q asked base after (set.0 + 1)
   done-more = record {
     handed = λ s p one. others s p (λ e. single (subst IsSingle (same-number s set e.0) one)) ∙ done.handed s p one;
     placed = record { paths = holds (λ s p ps. All (IsPathAt c q s p) ps) (All-weaker (IsJoinPath c q (paths_at before) set none) (IsPathAt c q set none) (λ x k. k.stands) (map path front) joins) (λ s p never. done.placed.paths s p) };
@@ -128,9 +130,9 @@ module _ (c : Contents) (q : Query) (base before after : Table) (set : RelSet) (
     later = λ s p le one. others s p (λ e. absurd (omega (arith, le, e.0))) ∙ done.later s p (omega (arith, le)) one;
   }
 
-module _ (c : Contents) (q : Query) (base t : Table) where
+module _ (c : Contents) (q : Query) (asked : Asked) (base t : Table) where
   -- a set of one relation is left as it is
-  pub done-single : (set : RelSet) → IsSingle set → IsDone c q base t set.0 → IsDone c q base t (set.0 + 1)
+  pub done-single : (set : RelSet) → IsSingle set → IsDone c q asked base t set.0 → IsDone c q asked base t (set.0 + 1)
   done-single set one done = record {
     handed = done.handed;
     placed = done.placed;
@@ -140,7 +142,7 @@ module _ (c : Contents) (q : Query) (base t : Table) where
     later = λ s p le one'. done.later s p (omega (arith, le)) one';
   }
     where
-      by : (s a b : RelSet) → s.0 < set.0 + 1 → IsDivided s a b → (x : Bool) → nat_eq s.0 set.0 ≡ x → AreJoinsServed c q (paths_at t) (paths_at t s none) a b
+      by : (s a b : RelSet) → s.0 < set.0 + 1 → IsDivided s a b → (x : Bool) → nat_eq s.0 set.0 ≡ x → AreJoinsServed c q asked (paths_at t) (paths_at t s none) a b
       by s a b lt d true e = absurd (divided-not-single s a b d (subst IsSingle (sym (same-number s set (eqb-true s.0 set.0 e))) one))
       by s a b lt d false e = done.served s a b (grind (arith, nat_tests, lt, e)) d
 
@@ -149,8 +151,8 @@ module _ (c : Contents) (q : Query) (base t : Table) where
   none-else (Some f) h = absurd (h f refl)
 
 -- before the first set
-pub done-first : (c : Contents) (q : Query) (base : Table) → IsBase c q base → IsDone c q base base 1
-done-first c q base is = record {
+pub done-first : (c : Contents) (q : Query) (asked : Asked) (base : Table) → IsBase c q base → IsDone c q asked base base 1
+done-first c q asked base is = record {
   handed = λ s p one. refl;
   placed = is.placed;
   served = λ s a b lt d. absurd (omega (arith, lt, outer-less s a b d));
@@ -160,7 +162,7 @@ done-first c q base is = record {
 }
   where
     absent : (s p : RelSet) → ¬ IsSingle s → front_at base s p ≡ None
-    absent s p one = none-else c q base base (front_at base s p) (λ f e. one (is.single s p f e))
+    absent s p one = none-else c q asked base base (front_at base s p) (λ f e. one (is.single s p f e))
 
     nothing : (s p : RelSet) → ¬ IsSingle s → paths_at base s p ≡ []
     nothing s p one = ap paths_of (absent s p one)
@@ -173,7 +175,7 @@ module _ (c : Contents) (q : Query) where
     λ d. true≢false (sym (dominates-at-most c q (path y) (path x) k.numbers h.numbers d) ∙ u.1),
   )
 
-  undominated-of : (xs : List Costed) → AllPairs (Unrelated is_path_at_most) xs → All (IsPathOf c q) (map path xs) → AreUndominated c q (map path xs)
+  pub undominated-of : (xs : List Costed) → AllPairs (Unrelated is_path_at_most) xs → All (IsPathOf c q) (map path xs) → AreUndominated c q (map path xs)
   undominated-of [] pairs h = λ i j d lt le. absurd (omega (arith, lt, le))
   undominated-of (x ∷ xs) pairs h =
       AllPairs-cons (λ a b. ¬ Dominates c q a.tree b.tree × ¬ Dominates c q b.tree a.tree) (path x) (map path xs)
@@ -189,42 +191,55 @@ module _ (c : Contents) (q : Query) where
   pub front-undominated : (fronts : Fronts) (s : RelSet) (xs : List Costed) → AllPairs (Unrelated is_path_at_most) xs → All (IsJoinPath c q fronts s none) (map path xs) → AreUndominated c q (map path xs)
   front-undominated fronts s xs pairs h = undominated-of xs pairs (All-weaker (IsJoinPath c q fronts s none) (IsPathOf c q) (λ x k. k.stands.is_path) (map path xs) h)
 
-  joins-later : (fronts : Fronts) (old new : List Path) (a b : RelSet) → StayDominated c q old new → AreJoinsServed c q fronts old a b → AreJoinsServed c q fronts new a b
-  joins-later fronts old new a b still h = record {
-    nests = λ p. nests-later c q old new (fronts a none) (fronts b p) still (h.nests p);
-    merges = λ keys. merges-later c q old new (fronts a none) (fronts b none) keys still (h.merges keys);
-  }
-
   -- a front of some of the kept paths that covers each of them
-  module _ (fronts : Fronts) (set : RelSet) (kept front : List Costed) (some : All (Contains kept) front) (covered : All (pareto.IsCovered is_path_at_most front) kept) (joins : All (IsJoinPath c q fronts set none) (map path kept)) where
-    pub front-joins : All (IsJoinPath c q fronts set none) (map path front)
-    front-joins =
-        All-map (IsJoinPath c q fronts set none) path front
-        (All-weaker (Contains kept) (λ x. IsJoinPath c q fronts set none (path x)) (λ x at. All-contains (IsJoinPath c q fronts set none) (map path kept) (path x) joins (contains-mapped path kept x at)) front some)
+  module _ (set : RelSet) (kept front : List Costed) (some : All (Contains kept) front) (covered : All (pareto.IsCovered is_path_at_most front) kept) (paths : All (IsPathAt c q set none) (map path kept)) where
+    pub front-paths : All (Contains (map path kept)) (map path front)
+    front-paths = All-map (Contains (map path kept)) path front (All-weaker (Contains kept) (λ x. Contains (map path kept) (path x)) (λ x at. contains-mapped path kept x at) front some)
 
-    front-still : StayDominated c q (map path kept) (map path front)
+    pub front-still : StayDominated c q (map path kept) (map path front)
     front-still t h =
         let found = contains-source path kept h.path h.is_there in
-        let of = All-contains (IsJoinPath c q fronts set none) (map path kept) h.path joins h.is_there in
+        let of = All-contains (IsPathAt c q set none) (map path kept) h.path paths h.is_there in
         still-dominated c q kept front found.0 (All-weaker (Contains kept) (λ x. Contains kept x ⊎ (x ≡ found.0)) (λ x at. inl at) front some)
-        (paths-there c q set (map path kept) (joins-there c q fronts set (map path kept) joins)) (subst (IsPathOf c q) (sym found.2) of.stands.is_path) covered t h
+        (paths-there c q set (map path kept) paths) (subst (IsPathOf c q) (sym found.2) of.is_path) covered t h
 
-    pub front-served : (a b : RelSet) → AreJoinsServed c q fronts (map path kept) a b → AreJoinsServed c q fronts (map path front) a b
-    front-served a b = joins-later fronts (map path kept) (map path front) a b front-still
+  pub some-joins : (fronts : Fronts) (set : RelSet) (kept front : List Path) → All (Contains kept) front → All (IsJoinPath c q fronts set none) kept → All (IsJoinPath c q fronts set none) front
+  some-joins fronts set kept front some joins = All-weaker (Contains kept) (IsJoinPath c q fronts set none) (λ x at. All-contains (IsJoinPath c q fronts set none) kept x joins at) front some
+
+module _ (c : Contents) (q : Query) (asked : Asked) where
+  pub joins-later : (fronts : Fronts) (old new : List Path) (a b : RelSet) → StayDominated c q old new → AreJoinsServed c q asked fronts old a b → AreJoinsServed c q asked fronts new a b
+  joins-later fronts old new a b still h = record {
+    nests = λ p. nests-later c q asked old new (fronts a none) (fronts b p) still (h.nests p);
+    merges = λ keys. merges-later c q asked old new (fronts a none) (fronts b none) keys still (h.merges keys);
+  }
+
+  -- what was served by some paths is by a front that has a sufficient path for each plan for which they have one
+  pub joins-enough : (fronts : Fronts) (old new : List Path) (a b : RelSet) → StaySufficient c q asked old new → AreJoinsServed c q asked fronts old a b → AreJoinsServed c q asked fronts new a b
+  joins-enough fronts old new a b still h = record {
+    nests = λ p o i x y built below. still (nest o i) (h.nests p o i x y built below);
+    merges = λ keys o i x y built below. still (merge keys o i) (h.merges keys o i x y built below);
+  }
+
+  -- where the outer side has no paths there are no joins
+  pub split-none : (fronts : Fronts) (front : List Path) (a b : RelSet) → fronts a none ≡ [] → AreJoinsServed c q asked fronts front a b
+  split-none fronts front a b e = record {
+    nests = λ p o i x y built below. absurd (plan-of-none (fronts a none) o e x);
+    merges = λ keys o i x y built below. absurd (side-of-none (fronts a none) o e x);
+  }
 
   -- one more part of a set
-  pub part-more : (fronts : Fronts) (set part : RelSet) (old new : List Path) → StayDominated c q old new → ((a b : RelSet) → a.0 < part.0 → IsDivided set a b → AreJoinsServed c q fronts old a b) →
-      ((b : RelSet) → IsDivided set part b → AreJoinsServed c q fronts new part b) → (a b : RelSet) → a.0 < part.0 + 1 → IsDivided set a b → AreJoinsServed c q fronts new a b
+  pub part-more : (fronts : Fronts) (set part : RelSet) (old new : List Path) → StayDominated c q old new → ((a b : RelSet) → a.0 < part.0 → IsDivided set a b → AreJoinsServed c q asked fronts old a b) →
+      ((b : RelSet) → IsDivided set part b → AreJoinsServed c q asked fronts new part b) → (a b : RelSet) → a.0 < part.0 + 1 → IsDivided set a b → AreJoinsServed c q asked fronts new a b
   part-more fronts set part old new still before one a b lt d = by (nat_eq a.0 part.0) refl
     where
-      by : (x : Bool) → nat_eq a.0 part.0 ≡ x → AreJoinsServed c q fronts new a b
+      by : (x : Bool) → nat_eq a.0 part.0 ≡ x → AreJoinsServed c q asked fronts new a b
       by true e =
           let same = same-number a part (eqb-true a.0 part.0 e) in
-          subst (λ t. AreJoinsServed c q fronts new t b) (sym same) (one b (subst (λ t. IsDivided set t b) same d))
+          subst (λ t. AreJoinsServed c q asked fronts new t b) (sym same) (one b (subst (λ t. IsDivided set t b) same d))
       by false e = joins-later fronts old new a b still (before a b (grind (arith, nat_tests, lt, e)) d)
 
   -- after the last set
-  pub done-covered : (base t : Table) (n : ℕ) → IsDone c q base t n → 2 ^ width q ≤ n → (s : RelSet) → IsCovered c q (paths_at t) s
-  done-covered base t n done le s plan of admissible kept =
-      let below : s.0 < 2 ^ width q = set-below s.0 (width q) (λ k is. read-below (width q) plan k (built-below c q plan of.built) (of.set_is k ∙ is)) in
-      all-covered c q (paths_at t) s done.placed (λ a b d. done.served s a b (omega (arith, below, le)) d) plan of admissible kept
+  pub done-covered : (base t : Table) (n : ℕ) → IsDone c q asked base t n → 2 ^ width q ≤ n → (s : RelSet) → IsCovered c q asked (paths_at t) s
+  done-covered base t n done le s plan of below kept =
+      let few : s.0 < 2 ^ width q = set-below s.0 (width q) (λ k is. read-below (width q) plan k (built-below c q plan of.built) (of.set_is k ∙ is)) in
+      all-covered c q asked (paths_at t) s done.placed (λ a b d. done.served s a b (omega (arith, few, le)) d) plan of below kept

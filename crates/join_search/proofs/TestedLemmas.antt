@@ -14,29 +14,13 @@ use Rattle.eq_classes.specs.Parts.{is_join, is_join_param}
 use Rattle.sql_query.specs.Queries.{Query, width}
 use Rattle.plan_tree.specs.Paths.{Path}
 use Rattle.plan_tree.specs.Plans.{Plan, seq, index, index_only, bitmap, sort, nest, merge, GivenScan, given_scan, is_empty, joins_with, param_in, param_of, set_of}
-use Rattle.plan_tree.specs.Reads.{IsOverTables, ReadsBelow}
+use Rattle.plan_tree.specs.Reads.{IsOverTables}
 use Rattle.plan_tree.specs.Space.{IsSameSet}
 use Rattle.plan_tree.proofs.PathLemmas.{built-below}
+use Rattle.join_laws.proofs.WithinLemmas.{read-below}
 use Rattle.join_search.specs.Nests.{AreTested, IsInner}
 use Rattle.join_search.specs.declared.splits.Split.{Split}
 use Rattle.join_search.proofs.PlanLemmas.{at-param, at-set, given-none, sets-same}
-
-either-below : (n k : ℕ) (a b : Bool) → (a ≡ true → k < n) → (b ≡ true → k < n) → a || b ≡ true → k < n
-either-below n k true b f g e = f refl
-either-below n k false b f g e = g e
-
-one-below : (n r k : ℕ) → r < n → nat_eq k r ≡ true → k < n
-one-below n r k lt e = let same : k ≡ r = eqb-true k r e in omega (arith, lt, same)
-
--- the relations of a plan that reads relations below a number
-pub read-below : (n : ℕ) (t : Plan) (k : ℕ) → ReadsBelow n t → set_of t k ≡ true → k < n
-read-below n (seq r) k h e = one-below n r.0 k h e
-read-below n (index r i backward p) k h e = one-below n r.0 k h e
-read-below n (index_only r i backward p) k h e = one-below n r.0 k h e
-read-below n (bitmap r p bits) k h e = one-below n r.0 k h e
-read-below n (sort keys input) k h e = read-below n input k h e
-read-below n (nest o i) k h e = either-below n k (set_of o k) (set_of i k) (read-below n o k h.0) (read-below n i k h.1) e
-read-below n (merge keys o i) k h e = either-below n k (set_of o k) (set_of i k) (read-below n o k h.0) (read-below n i k h.1) e
 
 -- a scan that is given rows is of one relation
 scan-one : (r : RelNo) (p : RelSet) (b : Bool) → IfSome (cond b None (Some (record { relation = r; param = p }))) (λ (s : GivenScan). IsSameSet (one r.0) (one s.relation.0))

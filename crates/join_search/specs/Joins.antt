@@ -10,10 +10,12 @@ use Rattle.plan_tree.specs.Plans.{Plan, sort, nest, merge, empty}
 use Rattle.plan_tree.specs.Space.{IsPlanOf, IsSameSet}
 use Rattle.plan_tree.specs.Least.{IsAdmissible, Dominates}
 use Rattle.plan_tree.specs.Paths.{Path, IsPathOf}
-use Rattle.plan_tree.specs.Fronts.{HasDominating}
+use Rattle.join_laws.specs.Useful.{IsBelow}
 use Rattle.plan_tree.specs.declared.path.Path.{Path as Costed}
 use Rattle.join_search.specs.Tables.{Fronts, front_at, paths_at}
+use Rattle.join_search.specs.Sufficing.{HasSufficient}
 use Rattle.join_search.specs.declared.table.Table.{Table}
+use Rattle.join_search.specs.declared.useful.Asked.{Asked}
 
 -- a set of one relation alone
 abbrev pub IsSingle : RelSet → Type 0
@@ -65,10 +67,6 @@ module _ (c : Contents) (q : Query) where
     pub single : (s p : RelSet) (front : List Costed) → front_at t s p ≡ Some front → IsSingle s
     pub placed : ArePlaced (paths_at t)
 
-  -- each admissible join of kept paths that is a plan of the set is dominated by a path of the set's front
-  abbrev pub IsCovered : Fronts → RelSet → Type 0
-  IsCovered fronts s = (t : Plan) → IsPlanOf c q (has s.0) empty t → IsAdmissible c q t → IsJoinOfKept fronts t → HasDominating c q (fronts s (record { 0 = 0 })) t
-
   -- a path of a front of joins
   pub record IsJoinPath (fronts : Fronts) (s p : RelSet) (x : Path) : Type 0 where
     pub stands : IsPathAt s p x
@@ -77,3 +75,7 @@ module _ (c : Contents) (q : Query) where
   -- no plan of the one path dominates that of the other
   abbrev pub AreUndominated : List Path → Type 0
   AreUndominated paths = AllPairs (λ a b. ¬ Dominates c q a.tree b.tree × ¬ Dominates c q b.tree a.tree) paths
+
+-- each join of kept paths below the limit that is a plan of the set has a path of the set's front that suffices for it
+abbrev pub IsCovered : Contents → Query → Asked → Fronts → RelSet → Type 0
+IsCovered c q asked fronts s = (t : Plan) → IsPlanOf c q (has s.0) empty t → IsBelow c q asked.limit t → IsJoinOfKept fronts t → HasSufficient c q asked (fronts s (record { 0 = 0 })) t

@@ -1,4 +1,5 @@
 pub mod Tables
+pub mod Sufficing
 pub mod Joins
 pub mod Splits
 pub mod Offers

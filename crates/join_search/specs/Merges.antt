@@ -10,7 +10,6 @@ use Rattle.path_cost.specs.Costs.{operators}
 use Rattle.path_cost.specs.Estimates.{conditions_where, is_pair_of, pairs}
 use Rattle.pathkeys.specs.Keys.{Keys, covers}
 use Rattle.sql_query.specs.Queries.{Query}
-use Rattle.plan_tree.specs.Fronts.{IsServed}
 use Rattle.plan_tree.specs.Costs.{cost}
 use Rattle.plan_tree.specs.Least.{IsAdmissible}
 use Rattle.plan_tree.specs.Paths.{Path, startup_kept}
@@ -21,7 +20,9 @@ use Rattle.plan_tree.specs.declared.path.Path.{Path as Costed}
 use Rattle.join_search.specs.declared.merges.MergeWork.{MergeWork}
 use Rattle.join_search.specs.declared.sides.Side.{Side}
 use Rattle.join_search.specs.declared.splits.Split.{Split}
+use Rattle.join_search.specs.declared.useful.Asked.{Asked}
 use Rattle.join_search.specs.Joins.{IsSideIn}
+use Rattle.join_search.specs.Sufficing.{IsServed}
 
 -- a list with one more class, each of some that it has not; the same of each of some lists
 abbrev pub longer : List ℕ → Keys → List Keys
@@ -80,9 +81,10 @@ module _ (c : Contents) (q : Query) where
     pub estimate : IsEstimate w.pairs
     pub ops : w.ops ≡ min (operators (conditions_where (λ k. is_join (has j.outer.0) (has j.inner.0) k && not (is_pair_of keys k)) q.classes.clauses)) (2 ^ 64 - 1)
 
+module _ (c : Contents) (q : Query) (asked : Asked) where
   -- the merges of each outer side with one inner side
   abbrev pub AreOutersServed : List Path → List Path → Keys → Plan → Type 0
-  AreOutersServed front outers keys i = (o : Plan) → IsSideIn outers o → IsServed c q front (merge keys o i)
+  AreOutersServed front outers keys i = (o : Plan) → IsSideIn outers o → IsServed c q asked front (merge keys o i)
 
   -- those with each inner side that starts before a cost
   abbrev pub AreEarlyServed : List Path → List Path → List Path → Keys → ℕ → Type 0
@@ -95,4 +97,4 @@ module _ (c : Contents) (q : Query) where
 
   -- those of the outer paths that are not sorted
   abbrev pub ArePlainServed : List Path → Keys → Plan → List Path → Type 0
-  ArePlainServed front keys i outers = All (λ o. covers o.keys keys ≡ true → IsServed c q front (merge keys o.tree i)) outers
+  ArePlainServed front keys i outers = All (λ o. covers o.keys keys ≡ true → IsServed c q asked front (merge keys o.tree i)) outers

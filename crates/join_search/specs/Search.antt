@@ -8,12 +8,13 @@ use Rattle.join_search.specs.Joins.{ArePlaced, AreUndominated, IsJoinPath, IsSin
 use Rattle.join_search.specs.Offers.{AreJoinsServed}
 use Rattle.join_search.specs.Splits.{IsDivided}
 use Rattle.join_search.specs.declared.table.Table.{Table}
+use Rattle.join_search.specs.declared.useful.Asked.{Asked}
 
 -- the sets below a number are done, over the fronts that were handed in
-pub record IsDone (c : Contents) (q : Query) (base t : Table) (n : ℕ) : Type 0 where
+pub record IsDone (c : Contents) (q : Query) (asked : Asked) (base t : Table) (n : ℕ) : Type 0 where
   pub handed : (s p : RelSet) → IsSingle s → front_at t s p ≡ front_at base s p
   pub placed : ArePlaced c q (paths_at t)
-  pub served : (s a b : RelSet) → s.0 < n → IsDivided s a b → AreJoinsServed c q (paths_at t) (paths_at t s none) a b
+  pub served : (s a b : RelSet) → s.0 < n → IsDivided s a b → AreJoinsServed c q asked (paths_at t) (paths_at t s none) a b
   pub kept : (s p : RelSet) → ¬ IsSingle s → All (IsJoinPath c q (paths_at t) s p) (paths_at t s p)
   pub undominated : (s p : RelSet) → ¬ IsSingle s → AreUndominated c q (paths_at t s p)
   pub later : (s p : RelSet) → n ≤ s.0 → ¬ IsSingle s → front_at t s p ≡ None

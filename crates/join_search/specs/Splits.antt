@@ -10,6 +10,7 @@ use Rattle.eq_classes.specs.Parts.{union}
 use Rattle.path_cost.specs.Estimates.{set_rows}
 use Rattle.plan_tree.specs.Space.{IsEmpty, IsSameSet}
 use Rattle.sql_query.specs.Queries.{Query}
+use Rattle.join_laws.specs.Useful.{outside}
 use Rattle.join_search.specs.declared.splits.Split.{Split}
 
 -- a set is not empty
@@ -23,7 +24,7 @@ pub record IsDivided (s a b : RelSet) : Type 0 where
   pub apart : AreApart (has a.0) (has b.0)
   pub all : IsSameSet (has s.0) (union (has a.0) (has b.0))
 
--- the same with the estimated rows of the set and of its parts
+-- the same with the estimated rows of the set and of its parts, and the relations that are in neither
 pub record IsSplit (c : Contents) (q : Query) (j : Split) : Type 0 where
   pub divided : IsDivided j.set j.outer j.inner
   pub rows : j.rows ≡ set_rows c q.range q.classes (has j.set.0)
@@ -31,3 +32,4 @@ pub record IsSplit (c : Contents) (q : Query) (j : Split) : Type 0 where
   pub inner_rows : j.inner_rows ≡ set_rows c q.range q.classes (has j.inner.0)
   pub outer_estimate : IsEstimate j.outer_rows
   pub inner_estimate : IsEstimate j.inner_rows
+  pub outside : IsSameSet (has j.outside.0) (outside q (has j.set.0))

@@ -3,6 +3,7 @@
 #![tactic(auto)]
 
 mod by_sets;
+mod likely;
 mod lists;
 mod merges;
 mod nests;
@@ -10,6 +11,10 @@ mod offers;
 mod sides;
 mod splits;
 mod table;
+mod useful;
 
 pub use by_sets::search;
+pub use likely::likely_plans;
+pub use splits::all_relations;
 pub use table::Table;
+pub use useful::{Asked, order_asked};

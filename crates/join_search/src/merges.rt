@@ -5,7 +5,7 @@ ghost use Rattle.std.specs.Prelude.{◌≡◌, ◌<◌, All, Contains, IfOk, OnO
 ghost use Rattle.pg_base.specs.Sets.{has};
 ghost use Rattle.cost_rules.specs.Costs.{capped_pair};
 ghost use Rattle.pathkeys.specs.Keys as keys;
-ghost use Rattle.plan_tree.specs.Fronts.{IsServed};
+ghost use Rattle.join_search.specs.Sufficing.{IsServed};
 ghost use Rattle.plan_tree.specs.Costs as costs;
 ghost use Rattle.plan_tree.specs.Paths.{kept_cost, startup_kept};
 ghost use Rattle.plan_tree.specs.Plans as plans;
@@ -23,8 +23,9 @@ use crate::offers::{cheapest, offer_join};
 use crate::sides::{Side, best_side, keys_of, plan_of, side_cost};
 use crate::splits::Split;
 use crate::table::Table;
+use crate::useful::{is_below, useful};
 use catalog::Catalog;
-use cost_rules::{MOST_COST, Pair, merge};
+use cost_rules::{Pair, merge};
 use eq_classes::ClauseSet;
 use kept_paths::KeptPaths;
 use path_cost::{key_pairs, operators_of, pairs};
@@ -122,14 +123,15 @@ fn offer_merge(
     requires work { IsMergeWork cat.now q.now j by.now work }
     requires joins { All (IsJoinPath cat.now q.now (paths_at table.now) j.set none) (map path front.old) }
     ensures takes { TakesJoins cat.now q.now (paths_at table.now) j.set (map path front.old) (map path front.new) }
-    ensures served { OnOk result (IsServed cat.now q.now (map path front.new) (plans.merge by.now (side_plan by.now outer.entry) (side_plan by.now inner.entry))) }
+    ensures served { OnOk result (IsServed cat.now q.now j.asked (map path front.new) (plans.merge by.now (side_plan by.now outer.entry) (side_plan by.now inner.entry))) }
 {
     let cost = merge_kept(cat, q, j, by, outer, inner, work);
-    if cost.total >= MOST_COST {
+    if !is_below(q, j.asked, cost) {
         return Ok(());
     }
     let keys = keys_of(alloc, outer, by)?;
-    if front.is_beaten(alloc, cost, &keys)? {
+    let part = useful(alloc, q, j.asked, j.outside, &keys)?;
+    if front.is_beaten(alloc, cost, &part)? {
         return Ok(());
     }
     let t = merge_of(alloc, by, outer, inner)?;
@@ -158,7 +160,7 @@ fn offer_in_order(
     requires work { IsMergeWork cat.now q.now j by.now work }
     requires joins { All (IsJoinPath cat.now q.now (paths_at table.now) j.set none) (map path front.old) }
     ensures takes { TakesJoins cat.now q.now (paths_at table.now) j.set (map path front.old) (map path front.new) }
-    ensures served { OnOk result (keys.covers outer.now.keys by.now ≡ true → IsServed cat.now q.now (map path front.new) (plans.merge by.now (path outer.now).tree (side_plan by.now inner.entry))) }
+    ensures served { OnOk result (keys.covers outer.now.keys by.now ≡ true → IsServed cat.now q.now j.asked (map path front.new) (plans.merge by.now (path outer.now).tree (side_plan by.now inner.entry))) }
 {
     if !covers(&outer.keys, by) {
         return Ok(());
@@ -190,7 +192,7 @@ fn offer_plain(
     requires work { IsMergeWork cat.now q.now j by.now work }
     requires joins { All (IsJoinPath cat.now q.now (paths_at table.now) j.set none) (map path front.old) }
     ensures takes { TakesJoins cat.now q.now (paths_at table.now) j.set (map path front.old) (map path front.new) }
-    ensures served { OnOk result (ArePlainServed cat.now q.now (map path front.new) by.now (side_plan by.now inner.entry) (paths_at table.now j.outer none)) }
+    ensures served { OnOk result (ArePlainServed cat.now q.now j.asked (map path front.new) by.now (side_plan by.now inner.entry) (paths_at table.now j.outer none)) }
 {
     for outer in table.paths(j.outer, RelSet(0)) {
         offer_in_order(alloc, cat, q, table, j, by, outer, inner, work, front)?;
@@ -217,7 +219,7 @@ fn offer_sorted(
     requires work { IsMergeWork cat.now q.now j by.now work }
     requires joins { All (IsJoinPath cat.now q.now (paths_at table.now) j.set none) (map path front.old) }
     ensures takes { TakesJoins cat.now q.now (paths_at table.now) j.set (map path front.old) (map path front.new) }
-    ensures served { OnOk result ((o : plans.Plan) → IsPlanIn (paths_at table.now j.outer none) o → IsServed cat.now q.now (map path front.new) (plans.merge by.now (plans.sort by.now o) (side_plan by.now inner.entry))) }
+    ensures served { OnOk result ((o : plans.Plan) → IsPlanIn (paths_at table.now j.outer none) o → IsServed cat.now q.now j.asked (map path front.new) (plans.merge by.now (plans.sort by.now o) (side_plan by.now inner.entry))) }
 {
     let outers = table.paths(j.outer, RelSet(0));
     match cheapest(outers) {
@@ -248,7 +250,7 @@ fn offer_side(
     requires work { IsMergeWork cat.now q.now j by.now work }
     requires joins { All (IsJoinPath cat.now q.now (paths_at table.now) j.set none) (map path front.old) }
     ensures takes { TakesJoins cat.now q.now (paths_at table.now) j.set (map path front.old) (map path front.new) }
-    ensures served { OnOk result (AreOutersServed cat.now q.now (map path front.new) (paths_at table.now j.outer none) by.now (side_plan by.now inner.entry)) }
+    ensures served { OnOk result (AreOutersServed cat.now q.now j.asked (map path front.new) (paths_at table.now j.outer none) by.now (side_plan by.now inner.entry)) }
 {
     offer_plain(alloc, cat, q, table, j, by, inner, work, front)?;
     offer_sorted(alloc, cat, q, table, j, by, inner, work, front)
@@ -275,7 +277,7 @@ fn offer_if_early(
     requires work { IsMergeWork cat.now q.now j by.now work }
     requires joins { All (IsJoinPath cat.now q.now (paths_at table.now) j.set none) (map path front.old) }
     ensures takes { TakesJoins cat.now q.now (paths_at table.now) j.set (map path front.old) (map path front.new) }
-    ensures served { OnOk result (keys.covers inner.now.keys by.now ≡ true → inner.now.startup < startup → AreOutersServed cat.now q.now (map path front.new) (paths_at table.now j.outer none) by.now (path inner.now).tree) }
+    ensures served { OnOk result (keys.covers inner.now.keys by.now ≡ true → inner.now.startup < startup → AreOutersServed cat.now q.now j.asked (map path front.new) (paths_at table.now j.outer none) by.now (path inner.now).tree) }
 {
     if inner.startup >= startup {
         return Ok(());
@@ -309,7 +311,7 @@ fn offer_early_plain(
     requires work { IsMergeWork cat.now q.now j by.now work }
     requires joins { All (IsJoinPath cat.now q.now (paths_at table.now) j.set none) (map path front.old) }
     ensures takes { TakesJoins cat.now q.now (paths_at table.now) j.set (map path front.old) (map path front.new) }
-    ensures served { OnOk result (ArePlainEarlyServed cat.now q.now (map path front.new) (paths_at table.now j.outer none) by.now startup (paths_at table.now j.inner none)) }
+    ensures served { OnOk result (ArePlainEarlyServed cat.now q.now j.asked (map path front.new) (paths_at table.now j.outer none) by.now startup (paths_at table.now j.inner none)) }
 {
     for inner in table.paths(j.inner, RelSet(0)) {
         offer_if_early(alloc, cat, q, table, j, by, inner, startup, work, front)?;
@@ -338,7 +340,7 @@ fn offer_sort_if_early(
     requires work { IsMergeWork cat.now q.now j by.now work }
     requires joins { All (IsJoinPath cat.now q.now (paths_at table.now) j.set none) (map path front.old) }
     ensures takes { TakesJoins cat.now q.now (paths_at table.now) j.set (map path front.old) (map path front.new) }
-    ensures served { OnOk result (startup_kept q.now.window (costs.cost cat.now q.now (plans.sort by.now (path inner.now).tree)).startup < startup → AreOutersServed cat.now q.now (map path front.new) (paths_at table.now j.outer none) by.now (plans.sort by.now (path inner.now).tree)) }
+    ensures served { OnOk result (startup_kept q.now.window (costs.cost cat.now q.now (plans.sort by.now (path inner.now).tree)).startup < startup → AreOutersServed cat.now q.now j.asked (map path front.new) (paths_at table.now j.outer none) by.now (plans.sort by.now (path inner.now).tree)) }
 {
     let side = Side {
         path: inner,
@@ -370,7 +372,7 @@ fn offer_early_sides(
     requires work { IsMergeWork cat.now q.now j by.now work }
     requires joins { All (IsJoinPath cat.now q.now (paths_at table.now) j.set none) (map path front.old) }
     ensures takes { TakesJoins cat.now q.now (paths_at table.now) j.set (map path front.old) (map path front.new) }
-    ensures served { OnOk result (AreEarlyServed cat.now q.now (map path front.new) (paths_at table.now j.outer none) (paths_at table.now j.inner none) by.now startup) }
+    ensures served { OnOk result (AreEarlyServed cat.now q.now j.asked (map path front.new) (paths_at table.now j.outer none) (paths_at table.now j.inner none) by.now startup) }
 {
     offer_early_plain(alloc, cat, q, table, j, by, startup, work, front)?;
     match cheapest(table.paths(j.inner, RelSet(0))) {
@@ -398,7 +400,7 @@ fn offer_merges_by(
     requires list { IsMergeList cat.now q.now (has j.outer.0) (has j.inner.0) by.now }
     requires joins { All (IsJoinPath cat.now q.now (paths_at table.now) j.set none) (map path front.old) }
     ensures takes { TakesJoins cat.now q.now (paths_at table.now) j.set (map path front.old) (map path front.new) }
-    ensures served { OnOk result (AreMergesServed cat.now q.now (map path front.new) (paths_at table.now j.outer none) (paths_at table.now j.inner none) by.now) }
+    ensures served { OnOk result (AreMergesServed cat.now q.now j.asked (map path front.new) (paths_at table.now j.outer none) (paths_at table.now j.inner none) by.now) }
 {
     cat.lawful();
     let inners = table.paths(j.inner, RelSet(0));
@@ -427,8 +429,11 @@ pub(crate) fn offer_merges(
     requires split { IsSplit cat.now q.now j }
     requires joins { All (IsJoinPath cat.now q.now (paths_at table.now) j.set none) (map path front.old) }
     ensures takes { TakesJoins cat.now q.now (paths_at table.now) j.set (map path front.old) (map path front.new) }
-    ensures served { OnOk result ((by : keys.Keys) → AreMergesServed cat.now q.now (map path front.new) (paths_at table.now j.outer none) (paths_at table.now j.inner none) by) }
+    ensures served { OnOk result ((by : keys.Keys) → AreMergesServed cat.now q.now j.asked (map path front.new) (paths_at table.now j.outer none) (paths_at table.now j.inner none) by) }
 {
+    if table.has_none(j.inner) {
+        return Ok(());
+    }
     let lists = merge_lists(alloc, cat, q, j.outer, j.inner)?;
     for by in &lists {
         offer_merges_by(alloc, cat, q, table, j, by, front)?;

@@ -4,7 +4,7 @@ ghost use Rattle.std.specs.Prelude.{◌≡◌, ◌<◌, All, Contains, IfOk, OnO
 ghost use Rattle.pg_base.specs.Sets.{has};
 ghost use Rattle.cost_rules.specs.Costs.{capped_pair};
 ghost use Rattle.eq_classes.specs.Holding.{IsWithin};
-ghost use Rattle.plan_tree.specs.Fronts.{IsServed};
+ghost use Rattle.join_search.specs.Sufficing.{IsServed};
 ghost use Rattle.plan_tree.specs.Costs as costs;
 ghost use Rattle.plan_tree.specs.Paths.{kept_cost};
 ghost use Rattle.plan_tree.specs.Plans as plans;
@@ -20,8 +20,9 @@ ghost use Rattle.pg_base.specs.declared.rel_set.RelSet as sets;
 use crate::offers::{cheapest, offer_join};
 use crate::splits::{Split, some_relation};
 use crate::table::Table;
+use crate::useful::{is_below, useful};
 use catalog::Catalog;
-use cost_rules::{MOST_COST, Pair, nest};
+use cost_rules::{Pair, nest};
 use eq_classes::ClauseSet;
 use kept_paths::KeptPaths;
 use path_cost::operators_of;
@@ -122,13 +123,14 @@ fn offer_nest(
     requires work { IsNestWork cat.now q.now j.outer (path inner.now).tree work }
     requires front { All (IsPathAt cat.now q.now j.set none) (map path front.old) }
     ensures takes { (kept : Fronts) → IsKept kept (path outer.now).tree → IsKept kept (path inner.now).tree → All (IsJoinPath cat.now q.now kept j.set none) (map path front.old) → TakesJoins cat.now q.now kept j.set (map path front.old) (map path front.new) }
-    ensures served { OnOk result (IsServed cat.now q.now (map path front.new) (plans.nest (path outer.now).tree (path inner.now).tree)) }
+    ensures served { OnOk result (IsServed cat.now q.now j.asked (map path front.new) (plans.nest (path outer.now).tree (path inner.now).tree)) }
 {
     let cost = nest_kept(cat, q, j, outer, inner, work);
-    if cost.total >= MOST_COST {
+    if !is_below(q, j.asked, cost) {
         return Ok(());
     }
-    if front.is_beaten(alloc, cost, &outer.keys)? {
+    let part = useful(alloc, q, j.asked, j.outside, &outer.keys)?;
+    if front.is_beaten(alloc, cost, &part)? {
         return Ok(());
     }
     let t = nest_of(alloc, &outer.plan, &inner.plan)?;
@@ -154,7 +156,7 @@ fn offer_each_nest(
     requires work { IsNestWork cat.now q.now j.outer (path inner.now).tree work }
     requires joins { All (IsJoinPath cat.now q.now (paths_at table.now) j.set none) (map path front.old) }
     ensures takes { TakesJoins cat.now q.now (paths_at table.now) j.set (map path front.old) (map path front.new) }
-    ensures served { OnOk result (AreEachServed cat.now q.now (map path front.new) (paths_at table.now j.outer none) (path inner.now).tree) }
+    ensures served { OnOk result (AreEachServed cat.now q.now j.asked (map path front.new) (paths_at table.now j.outer none) (path inner.now).tree) }
 {
     for outer in table.paths(j.outer, RelSet(0)) {
         offer_nest(alloc, cat, q, j, outer, inner, work, front)?;
@@ -181,7 +183,7 @@ fn offer_nests_of(
     requires inner { Contains (paths_at table.now j.inner p) (path inner.now) }
     requires joins { All (IsJoinPath cat.now q.now (paths_at table.now) j.set none) (map path front.old) }
     ensures takes { TakesJoins cat.now q.now (paths_at table.now) j.set (map path front.old) (map path front.new) }
-    ensures served { OnOk result (AreEachServed cat.now q.now (map path front.new) (paths_at table.now j.outer none) (path inner.now).tree) }
+    ensures served { OnOk result (AreEachServed cat.now q.now j.asked (map path front.new) (paths_at table.now j.outer none) (path inner.now).tree) }
 {
     let work = nest_work(cat, q, j, inner);
     offer_each_nest(alloc, cat, q, table, j, inner, work, front)
@@ -206,7 +208,7 @@ fn offer_if_early(
     requires inner { Contains (paths_at table.now j.inner p) (path inner.now) }
     requires joins { All (IsJoinPath cat.now q.now (paths_at table.now) j.set none) (map path front.old) }
     ensures takes { TakesJoins cat.now q.now (paths_at table.now) j.set (map path front.old) (map path front.new) }
-    ensures served { OnOk result (inner.now.startup < startup → AreEachServed cat.now q.now (map path front.new) (paths_at table.now j.outer none) (path inner.now).tree) }
+    ensures served { OnOk result (inner.now.startup < startup → AreEachServed cat.now q.now j.asked (map path front.new) (paths_at table.now j.outer none) (path inner.now).tree) }
 {
     if inner.startup >= startup {
         return Ok(());
@@ -232,7 +234,7 @@ fn offer_early(
     requires given { IsWithin (has p.0) (has j.outer.0) }
     requires joins { All (IsJoinPath cat.now q.now (paths_at table.now) j.set none) (map path front.old) }
     ensures takes { TakesJoins cat.now q.now (paths_at table.now) j.set (map path front.old) (map path front.new) }
-    ensures served { OnOk result (AreEarlyServed cat.now q.now (map path front.new) (paths_at table.now j.outer none) startup (paths_at table.now j.inner p)) }
+    ensures served { OnOk result (AreEarlyServed cat.now q.now j.asked (map path front.new) (paths_at table.now j.outer none) startup (paths_at table.now j.inner p)) }
 {
     for inner in table.paths(j.inner, p) {
         offer_if_early(alloc, cat, q, table, j, p, inner, startup, front)?;
@@ -258,7 +260,7 @@ fn offer_nests_given(
     requires given { IsWithin (has p.0) (has j.outer.0) }
     requires joins { All (IsJoinPath cat.now q.now (paths_at table.now) j.set none) (map path front.old) }
     ensures takes { TakesJoins cat.now q.now (paths_at table.now) j.set (map path front.old) (map path front.new) }
-    ensures served { OnOk result (AreNestsServed cat.now q.now (map path front.new) (paths_at table.now j.outer none) (paths_at table.now j.inner p)) }
+    ensures served { OnOk result (AreNestsServed cat.now q.now j.asked (map path front.new) (paths_at table.now j.outer none) (paths_at table.now j.inner p)) }
 {
     match cheapest(table.paths(j.inner, p)) {
         Some(least) => {
@@ -285,7 +287,7 @@ fn offer_nests_if(
     requires split { IsSplit cat.now q.now j }
     requires joins { All (IsJoinPath cat.now q.now (paths_at table.now) j.set none) (map path front.old) }
     ensures takes { TakesJoins cat.now q.now (paths_at table.now) j.set (map path front.old) (map path front.new) }
-    ensures served { OnOk result (AreNestsServed cat.now q.now (map path front.new) (paths_at table.now j.outer none) (paths_at table.now j.inner p)) }
+    ensures served { OnOk result (AreNestsServed cat.now q.now j.asked (map path front.new) (paths_at table.now j.outer none) (paths_at table.now j.inner p)) }
 {
     if p.within(j.outer) {
         offer_nests_given(alloc, cat, q, table, j, p, front)?;
@@ -308,7 +310,7 @@ pub(crate) fn offer_nests(
     requires split { IsSplit cat.now q.now j }
     requires joins { All (IsJoinPath cat.now q.now (paths_at table.now) j.set none) (map path front.old) }
     ensures takes { TakesJoins cat.now q.now (paths_at table.now) j.set (map path front.old) (map path front.new) }
-    ensures served { OnOk result ((p : sets.RelSet) → AreNestsServed cat.now q.now (map path front.new) (paths_at table.now j.outer none) (paths_at table.now j.inner p)) }
+    ensures served { OnOk result ((p : sets.RelSet) → AreNestsServed cat.now q.now j.asked (map path front.new) (paths_at table.now j.outer none) (paths_at table.now j.inner p)) }
 {
     let params = table.params(alloc, j.inner)?;
     for p in &params {

@@ -5,9 +5,12 @@ ghost use Rattle.pg_base.specs.Sets.{has};
 ghost use Rattle.cost_rules.specs.Costs.{IsEstimate};
 ghost use Rattle.path_cost.specs.Estimates as numbers;
 ghost use Rattle.plan_tree.specs.Reads.{IsOverTables};
+ghost use Rattle.plan_tree.specs.Space.{IsSameSet};
+ghost use Rattle.sql_query.specs.Queries.{all_of_query, width};
 ghost use Rattle.join_search.specs.Joins.{IsSingle};
 ghost use Rattle.join_search.specs.Splits.{HasSome, IsDivided, IsSplit};
 
+use crate::useful::Asked;
 use catalog::Catalog;
 use path_cost::rows;
 use pg_base::{RelNo, RelSet};
@@ -29,6 +32,22 @@ pub(crate) struct Split {
     pub(crate) outer_rows: u64,
     /// The rows of the inner side, where it is given none.
     pub(crate) inner_rows: u64,
+    /// The relations of the query that are in neither.
+    pub(crate) outside: RelSet,
+    /// What is asked of the search.
+    pub(crate) asked: Asked,
+}
+
+/// The set of all relations.
+pub fn all_relations(q: &Prepared) -> RelSet
+    requires few { width q.now ≤ 16 }
+    ensures { IsSameSet (has result.0) (all_of_query q.now) }
+{
+    let mut all = RelSet::empty();
+    for r in 0..range_of(q).items().len() {
+        all = all.union(RelSet::one(RelNo(r as u8)));
+    }
+    all
 }
 
 /// How many sets there are of the first relations, the empty one too.
@@ -73,6 +92,7 @@ pub(crate) fn set_rows(cat: &Catalog, q: &Prepared, s: RelSet) -> u64
 pub(crate) fn divide(
     cat: &Catalog,
     q: &Prepared,
+    asked: Asked,
     set: RelSet,
     rows: u64,
     outer: RelSet,
@@ -83,6 +103,7 @@ pub(crate) fn divide(
     requires rows { rows ≡ numbers.set_rows cat.now q.now.range q.now.classes (has set.0) }
     ensures split { IsSplit cat.now q.now result }
     ensures set { result.set ≡ set }
+    ensures asked { result.asked ≡ asked }
     ensures outer { result.outer ≡ outer }
     ensures inner { result.inner ≡ inner }
 {
@@ -93,5 +114,7 @@ pub(crate) fn divide(
         rows,
         outer_rows: set_rows(cat, q, outer),
         inner_rows: set_rows(cat, q, inner),
+        outside: all_relations(q).minus(set),
+        asked,
     }
 }

@@ -1,12 +1,12 @@
 //! Fronts of paths by set of relations and parameterisation (PostgreSQL, src/backend/optimizer/README, Optimizer Data
 //! Structures).
 
-ghost use Rattle.std.specs.Prelude.{◌≡◌, ◌<◌, Bool, IfErr, IfNone, IfOk, IfSome, IsTrue, List, None, OnOk, Some, get_or, length, map};
+ghost use Rattle.std.specs.Prelude.{◌≡◌, ◌<◌, Bool, IfErr, IfNone, IfOk, IfSome, IsTrue, List, None, OnOk, [], Some, get_or, length, map};
 ghost use Rattle.std.specs.Option.{option_map};
 ghost use Rattle.pg_base.specs.declared.rel_set.RelSet as sets;
 ghost use Rattle.plan_tree.specs.Views.{path};
 ghost use Rattle.plan_tree.specs.declared.path.Path as costed;
-ghost use Rattle.join_search.specs.Tables.{IsSamePlace, found_at, front_at, is_at, params_of, paths_at, with_front};
+ghost use Rattle.join_search.specs.Tables.{IsSamePlace, found_at, front_at, is_at, none, params_of, paths_at, with_front};
 
 use pareto::Front;
 use pg_base::{Memory, RelSet};
@@ -122,6 +122,13 @@ impl Table {
             Some(front) => front.items(),
             None => &[],
         }
+    }
+
+    /// Whether a set has no paths without a parameterisation.
+    pub(crate) fn has_none(&self, s: RelSet) -> bool
+        ensures { IsTrue result → paths_at self.now s none ≡ [] }
+    {
+        self.paths(s, RelSet(0)).is_empty()
     }
 
     /// The parameterisations at which the set has a front. The error means want of memory.

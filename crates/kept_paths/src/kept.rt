@@ -173,6 +173,13 @@ impl KeptPaths {
         keep(alloc, &mut self.paths, &mut self.bounds, made)
     }
 
+    /// The paths.
+    pub fn into_paths(self) -> Vec<Path>
+        ensures { result.items ≡ self }
+    {
+        self.paths
+    }
+
     /// The front of the paths: some of them, none at most another one, and each path has one that is at most it. The error
     /// means want of memory.
     pub fn into_front(self, alloc: Global) -> Result<Front<Path>, Memory>

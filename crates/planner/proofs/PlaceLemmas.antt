@@ -72,13 +72,13 @@ module _ (c : Contents) (q : Query) where
     whole : All (λ x. IsAdmissible c q (finished c q (path x).tree) → IsUnder best (finished_price c q (path x).tree)) xs
     whole = subst (All (λ x. IsAdmissible c q (finished c q (path x).tree) → IsUnder best (finished_price c q (path x).tree))) (take_all at xs all) so.under
 
-    pub none-admissible : best ≡ None → All (λ p. ¬ IsAdmissible c q (finished c q p.tree)) (map path xs)
+    none-admissible : best ≡ None → All (λ p. ¬ IsAdmissible c q (finished c q p.tree)) (map path xs)
     none-admissible e =
         All-map (λ p. ¬ IsAdmissible c q (finished c q p.tree)) path xs
         (All-weaker (λ x. IsAdmissible c q (finished c q (path x).tree) → IsUnder best (finished_price c q (path x).tree)) (λ x. ¬ IsAdmissible c q (finished c q (path x).tree))
         (λ x h a. subst (λ (o : Option Least). IsUnder o (finished_price c q (path x).tree)) e (h a)) xs whole)
 
-    pub least-found : (r : Least) → best ≡ Some r → (d : Costed) → IsLeastOf c q (map path xs) (path (get_or xs r.at d)).tree
+    least-found : (r : Least) → best ≡ Some r → (d : Costed) → IsLeastOf c q (map path xs) (path (get_or xs r.at d)).tree
     least-found r e d =
         let priced = subst (λ (o : Option Least). IfSome o (λ b. (d : Costed) → IsPriced c q (path (get_or xs b.at d)) b.price)) e so.priced d in
         let t = (path (get_or xs r.at d)).tree in
@@ -90,5 +90,16 @@ module _ (c : Contents) (q : Query) where
               (λ x h a. subst (λ n. n ≤ finished_price c q (path x).tree) priced.price (subst (λ (o : Option Least). IsUnder o (finished_price c q (path x).tree)) e (h a))) xs whole);
         }
 
-    pub place-within : (r : Least) → best ≡ Some r → r.at < length xs
-    place-within r e = subst (λ (o : Option Least). IfSome o (λ b. b.at < length xs)) e so.within
+    by-found : (P : Least → Type 0) → ((r : Least) → best ≡ Some r → P r) → (o : Option Least) → best ≡ o → IfSome o P
+    by-found P each None e = tt
+    by-found P each (Some r) e = each r e
+
+    pub place-least : IfSome best (λ r. (d : Costed) → IsLeastOf c q (map path xs) (path (get_or xs r.at d)).tree)
+    place-least = by-found (λ r. (d : Costed) → IsLeastOf c q (map path xs) (path (get_or xs r.at d)).tree) least-found best refl
+
+    pub place-none : IfNone best (All (λ p. ¬ IsAdmissible c q (finished c q p.tree)) (map path xs))
+    place-none = by best refl
+      where
+        by : (o : Option Least) → best ≡ o → IfNone o (All (λ p. ¬ IsAdmissible c q (finished c q p.tree)) (map path xs))
+        by None e = none-admissible e
+        by (Some r) e = tt

@@ -1,7 +1,7 @@
 -- Plans in the order asked for: they are finished, and none that is admissible is of a lower price than the least of them.
-use Rattle.std.proofs.Common.{◌≡◌, ◌≤◌, ◌+◌, ◌↔◌, Ok, Err, Result, ℕ, suc, Bool, true, false, cond, nat_lt, List, [], ◌∷◌, length, refl, sym, ap, subst, le_refl, le_trans, true≢false, arith}
+use Rattle.std.proofs.Common.{◌≡◌, ◌⊎◌, ◌<◌, ◌≤◌, ◌+◌, ℕ, inl, inr, suc, Bool, true, false, cond, nat_lt, List, [], ◌∷◌, length, refl, sym, ap, subst, le_refl, le_trans, true≢false, arith}
 use Rattle.std.specs.Prelude.{All, Contains, Option, None, Some}
-use Rattle.std.specs.Result.{IfErr, IsErrAnd}
+use Rattle.std.proofs.lemmas.Bool.{cases_lt}
 use Rattle.std.proofs.lemmas.Bool.Decides.{nat_tests}
 use Rattle.std.proofs.lemmas.List.Elements.{All-contains}
 use Rattle.catalog.specs.Contents.{Contents}
@@ -18,11 +18,12 @@ use Rattle.plan_tree.specs.Space.{IsFinished, IsPlanOf, MeetsOrder}
 use Rattle.plan_tree.specs.Least.{IsAdmissible, IsBestPlan, IsStartupAtMost}
 use Rattle.plan_tree.specs.Paths.{Path}
 use Rattle.plan_tree.proofs.BoundLemmas.{asked-most, some-rows, sort-most, startup-most}
-use Rattle.plan_tree.proofs.FinishLemmas.{finished-plain, sort-dominates}
 use Rattle.plan_tree.proofs.WindowLemmas.{startup-from}
-use Rattle.planner.specs.declared.least_plan.PlanFault.{PlanFault}
-use Rattle.planner.specs.declared.least_plan.PlanFault.TheVariants.{CostLimit, Memory}
-use Rattle.planner.specs.declared.least_plan.Planned.{Planned}
+use Rattle.cost_rules.specs.declared.parameters.TheConstants.{MOST_COST}
+use Rattle.join_laws.specs.Useful.{IsBelow, floor_by}
+use Rattle.join_laws.proofs.LeastLemmas.{finished-plain, floor-price}
+use Rattle.join_laws.proofs.UsefulLemmas.{child-below, sort-stands}
+use Rattle.join_search.specs.declared.useful.Asked.{Asked}
 use Rattle.planner.specs.Finishing.{AreCandidates, IsLeastOf, IsWhole, finished, finished_price}
 
 some-length : (n : ℕ) → nat_lt 0 (suc n) ≡ true
@@ -121,38 +122,38 @@ module _ (c : Contents) (q : Query) (some : HaveRows c q) where
     startup = startup-refl q.window (cost c q (sort (order_keys q.classes q.order) t)).startup;
   }
 
-  module _ (paths : List Path) (are : AreCandidates c q paths) where
+  module _ (asked : Asked) (paths : List Path) (are : AreCandidates c q asked paths) where
     -- some path's plan in the order asked for costs no more, before the first row and in all, than a plan
     pub record IsUndercut (o : Plan) : Type 0 where
       pub path : Path
       pub is_there : Contains paths path
       pub cheap : IsCheap (finished c q path.tree) o
 
-    plain-undercuts : (o : Plan) → is_sort o ≡ false → IsFinished c q o → IsAdmissible c q o → IsUndercut o
+    plain-undercuts : (o : Plan) → is_sort o ≡ false → IsFinished c q o → IsBelow c q asked.limit o → IsUndercut o
     plain-undercuts o e f a =
         let keys = order_keys q.classes q.order in
         let of : IsPlanOf c q (all_of_query q) empty o = record { built = f.built; plain = e; set_is = f.set_is; param_is = f.param_is } in
-        let found = are.dominated o of a refl in
+        let found = are.enough o of a in
         let p = found.path in
         let is = All-contains (IsWhole c q) paths p are.whole found.is_there in
-        let done = finished-plain c q p.tree o is.plan.built is.plan.plain e found.dominates f in
+        let done = finished-plain c q asked.every_key p.tree o is.plan.built is.plan.plain e found.suffices f in
         let covered = covered-finished c q p.tree (meets-plain c q p.tree keys is.plan.plain done.ordered) in
         record {
           path = p;
           is_there = found.is_there;
-          cheap = subst (λ t. IsCheap t o) (sym covered) (record { total = found.dominates.total; startup = found.dominates.startup });
+          cheap = subst (λ t. IsCheap t o) (sym covered) (record { total = found.suffices.total; startup = found.suffices.startup });
         }
 
-    -- so it is for each admissible finished plan
-    undercuts : (o : Plan) → IsFinished c q o → IsAdmissible c q o → IsUndercut o
+    -- so it is for each finished plan below the limit
+    undercuts : (o : Plan) → IsFinished c q o → IsBelow c q asked.limit o → IsUndercut o
     undercuts (sort ks input) f a =
         let keys = order_keys q.classes q.order in
-        let below = sort-most c q ks input in
+        let under = child-below c q asked.every_key input (sort ks input) asked.limit (sort-most c q ks input) (before-sort ks input) a in
         let of : IsPlanOf c q (all_of_query q) empty input = record { built = f.built.0; plain = f.built.1; set_is = f.set_is; param_is = f.param_is } in
-        let found = are.dominated input of (omega (arith, below, a)) refl in
+        let found = are.enough input of under in
         let t = found.path.tree in
         let one = below-sort t (covers (keys_of c q t) keys) in
-        let d = sort-dominates c q keys t input found.dominates in
+        let d = (sort-stands c q asked.every_key keys t input found.suffices).suffices in
         let two : IsCheap (sort keys t) (sort keys input) = record { total = d.total; startup = d.startup } in
         record {
           path = found.path;
@@ -166,31 +167,35 @@ module _ (c : Contents) (q : Query) (some : HaveRows c q) where
     undercuts (nest outer inner) f a = plain-undercuts (nest outer inner) refl f a
     undercuts (merge ks outer inner) f a = plain-undercuts (merge ks outer inner) refl f a
 
-    -- where none of them is admissible no finished plan is
-    pub none-finished : All (λ p. ¬ IsAdmissible c q (finished c q p.tree)) paths → (o : Plan) → IsFinished c q o → ¬ IsAdmissible c q o
-    none-finished none o f a =
-        let u = undercuts o f a in
+    floor-total : (w : Option Window) (o : Plan) → floor_by c q w o ≤ (cost c q o).total
+    floor-total None o = le_refl (cost c q o).total
+    floor-total (Some w) o = startup-most c q some o
+
+    -- where none of them is admissible no finished plan is, if the limit is no less than that of costs
+    pub none-finished : MOST_COST ≤ asked.limit → All (λ p. ¬ IsAdmissible c q (finished c q p.tree)) paths → (o : Plan) → IsFinished c q o → ¬ IsAdmissible c q o
+    none-finished whole none o f a =
+        let floor = floor-total q.window o in
+        let u = undercuts o f (record { admissible = a; floor = le_trans_lt floor a whole }) in
         let total = u.cheap.total in
         All-contains (λ p. ¬ IsAdmissible c q (finished c q p.tree)) paths u.path none u.is_there (omega (arith, a, total))
+      where
+        le_trans_lt : {x y l : ℕ} → x ≤ y → y < MOST_COST → MOST_COST ≤ l → x < l
+        le_trans_lt h k m = omega (arith, h, k, m)
 
-    -- and the least of them is undercut by no admissible finished plan
-    pub least-best : (t : Plan) → IsPlanOf c q (all_of_query q) empty t → IsLeastOf c q paths t → IsBestPlan c q (finished c q t)
-    least-best t of h = record {
+    -- and the least of them, where its price is below the limit, is undercut by no admissible finished plan
+    pub least-best : (t : Plan) → IsPlanOf c q (all_of_query q) empty t → IsLeastOf c q paths t → finished_price c q t < asked.limit → IsBestPlan c q (finished c q t)
+    least-best t of h below = record {
       finished = is-finished c q t of;
       admissible = h.admissible;
-      least = λ o f a.
-          let u = undercuts o f a in
-          let total = u.cheap.total in
-          let below : IsAdmissible c q (finished c q u.path.tree) = omega (arith, a, total) in
-          let least = All-contains (λ (p : Path). IsAdmissible c q (finished c q p.tree) → finished_price c q t ≤ finished_price c q p.tree) paths u.path h.least u.is_there in
-          le_trans (least below) (cheap-price (finished c q u.path.tree) o u.cheap);
+      least = λ o f a. by o f a (cases_lt (price c q o) (finished_price c q t));
     }
-
--- want of memory where some finished plan is admissible
-pub memory-fault : (c : Contents) (q : Query) (r : Result Planned PlanFault) (t : Plan) → IsFinished c q t → IsAdmissible c q t → IsErrAnd r (λ e. e ≡ Memory) →
-    IfErr r (λ e. (e ≡ CostLimit) ↔ ((o : Plan) → IsFinished c q o → ¬ IsAdmissible c q o))
-memory-fault c q (Ok x) t f a h = tt
-memory-fault c q (Err e) t f a h = (λ same. absurd (differ e same h), λ never. absurd (never t f a))
-  where
-    differ : (e : PlanFault) → e ≡ CostLimit → e ≡ Memory → ⊥
-    differ e limit memory = cc
+      where
+        by : (o : Plan) → IsFinished c q o → IsAdmissible c q o → (price c q o < finished_price c q t) ⊎ (finished_price c q t ≤ price c q o) → finished_price c q t ≤ price c q o
+        by o f a (inr le) = le
+        by o f a (inl lt) =
+            let floor = floor-price c q asked.every_key q.window o in
+            let u = undercuts o f (record { admissible = a; floor = omega (arith, floor, lt, below) }) in
+            let total = u.cheap.total in
+            let under : IsAdmissible c q (finished c q u.path.tree) = omega (arith, a, total) in
+            let least = All-contains (λ (p : Path). IsAdmissible c q (finished c q p.tree) → finished_price c q t ≤ finished_price c q p.tree) paths u.path h.least u.is_there in
+            le_trans (least under) (cheap-price (finished c q u.path.tree) o u.cheap)

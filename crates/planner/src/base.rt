@@ -16,7 +16,7 @@ ghost use Rattle.planner.specs.Bases.{AreAllOf, AreNamed, HaveScansOf, is_plan};
 
 use bitmap_scan::bitmaps;
 use catalog::Catalog;
-use join_search::Table;
+use join_search::{Table, all_relations};
 use pareto::Front;
 use pg_base::{Memory, RelNo, RelSet};
 use plan_tree::{Path, classes_of, others_named, range_of};
@@ -115,18 +115,6 @@ fn add_relation(
         add_paths(alloc, cat, q, r, s, RelSet(bits as u16), table)?;
     }
     Ok(())
-}
-
-/// The set of all relations.
-pub(crate) fn all_relations(q: &Prepared) -> RelSet
-    requires few { width q.now ≤ 16 }
-    ensures { IsSameSet (has result.0) (all_of_query q.now) }
-{
-    let mut all = RelSet::empty();
-    for r in 0..range_of(q).items().len() {
-        all = all.union(RelSet::one(RelNo(r as u8)));
-    }
-    all
 }
 
 /// The paths of each relation, at each parameterisation that its scans may have. The error means want of memory.

@@ -26,9 +26,9 @@ use std::alloc::Global;
 #[derive(Clone, Copy)]
 pub(crate) struct Least {
     /// Its place.
-    at: usize,
+    pub(crate) at: usize,
     /// Its price in the order asked for.
-    price: u64,
+    pub(crate) price: u64,
 }
 
 /// The cost of a sort of the path's plan, as a path keeps it, cut to at most 10^18.
@@ -94,29 +94,27 @@ fn least_with(best: Option<Least>, at: usize, price: Option<u64>) -> Option<Leas
     }
 }
 
-/// The place of a path whose plan, in the order asked for, is admissible and of the least price. None exactly where no
-/// plan of the paths is admissible then.
+/// A path whose plan, in the order asked for, is admissible and of the least price. None exactly where no plan of the paths
+/// is admissible then.
 pub(crate) fn least_place(
     cat: &Catalog,
     q: &Prepared,
     paths: &[Path],
     order: &Keys,
-) -> Option<usize>
+) -> Option<Least>
     requires whole { All (IsWhole cat.now q.now) (map path paths.now) }
     requires order { order.now ≡ keys.order_keys q.now.classes q.now.order }
-    ensures within { IfSome result (λ at. at < length paths.now) }
-    ensures least { IfSome result (λ at. (d : costed.Path) → IsLeastOf cat.now q.now (map path paths.now) (path (get_or paths.now at d)).tree) }
-    ensures none { result ≡ None → All (λ p. ¬ IsAdmissible cat.now q.now (finished cat.now q.now p.tree)) (map path paths.now) }
+    ensures within { IfSome result (λ l. l.at < length paths.now) }
+    ensures priced { IfSome result (λ l. (d : costed.Path) → IsPriced cat.now q.now (path (get_or paths.now l.at d)) l.price) }
+    ensures least { IfSome result (λ l. (d : costed.Path) → IsLeastOf cat.now q.now (map path paths.now) (path (get_or paths.now l.at d)).tree) }
+    ensures none { IfNone result (All (λ p. ¬ IsAdmissible cat.now q.now (finished cat.now q.now p.tree)) (map path paths.now)) }
 {
     let mut best = None;
     for at in 0..paths.len() {
         let price = finished_price(cat, q, &paths[at], order);
         best = least_with(best, at, price);
     }
-    match best {
-        Some(least) => Some(least.at),
-        None => None,
-    }
+    best
 }
 
 /// The path of a sort of the path's plan by the order keys, which is admissible. The error means want of memory.

@@ -1,6 +1,11 @@
 //! The plan that a query is answered by.
 
-ghost use Rattle.std.specs.Prelude.{◌≡◌, ◌↔◌, IfErr, IfOk, map};
+ghost use Rattle.std.specs.Prelude.{◌≡◌, ◌<◌, ◌≤◌, ℕ, IfErr, IfNone, IfOk, IfSome, MatchOption, map};
+ghost use Rattle.cost_rules.specs.declared.parameters.TheConstants.{MOST_COST};
+ghost use Rattle.sql_query.specs.Queries.{width};
+ghost use Rattle.plan_tree.specs.Reads.{IsOverTables};
+ghost use Rattle.join_search.specs.Joins.{IsBase};
+ghost use Rattle.planner.specs.Bases.{HaveScansOf};
 ghost use Rattle.pathkeys.specs.Keys as keys;
 ghost use Rattle.sql_query.specs.WellBound.{IsWellBound};
 ghost use Rattle.plan_tree.specs.Least.{IsAdmissible, IsBestPlan};
@@ -12,13 +17,14 @@ ghost use Rattle.join_search.specs.Tables.{none, paths_at};
 ghost use Rattle.planner.specs.Finishing.{AreCandidates};
 ghost use Rattle.planner.specs.declared.least_plan.PlanFault.TheVariants.{CostLimit};
 
-use crate::base::{all_relations, base_table};
+use crate::base::base_table;
 use crate::finishing::{finish, least_place};
 use catalog::Catalog;
-use join_search::{Table, search};
-use pathkeys::{Keys, order_keys};
+use cost_rules::MOST_COST;
+use join_search::{Asked, Table, all_relations, likely_plans, order_asked, search};
+use pathkeys::Keys;
 use pg_base::{Memory, RelSet};
-use plan_tree::{Path, classes_of};
+use plan_tree::{Path, range_of};
 use sql_query::Prepared;
 use std::alloc::{AllocError, Global};
 
@@ -48,13 +54,6 @@ impl From<AllocError> for PlanFault {
     }
 }
 
-/// The order keys of a query. The error means want of memory.
-fn order_asked(alloc: Global, q: &Prepared) -> Result<Keys, Memory>
-    ensures { IfOk result (λ ks. ks ≡ keys.order_keys q.now.classes q.now.order) }
-{
-    order_keys(alloc, classes_of(q), q.order.items())
-}
-
 /// The paths of all relations, lent.
 fn whole_paths(table: &Table, all: RelSet) -> &[Path]
     ensures { map path result.now ≡ paths_at table.now all none }
@@ -65,45 +64,128 @@ fn whole_paths(table: &Table, all: RelSet) -> &[Path]
     }
 }
 
-/// The least of some paths of all relations, in the order asked for. `CostLimit` comes exactly where no finished plan is
-/// below 10^18, and `Memory` means want of memory where one is.
+/// The least of some paths of all relations, in the order asked for. None only where none of them is admissible then, or the
+/// least price is not below the limit. The error means want of memory.
 fn least_of(
     alloc: Global,
     cat: &Catalog,
     q: &Prepared,
+    asked: Asked,
     paths: &[Path],
-    order: Keys,
-) -> Result<Planned, PlanFault>
-    requires candidates { AreCandidates cat.now q.now (map path paths.now) }
-    requires order { order ≡ keys.order_keys q.now.classes q.now.order }
-    ensures best { IfOk result (λ planned. IsFinishedPath cat.now q.now (path planned.best)) }
-    ensures least { IfOk result (λ planned. IsBestPlan cat.now q.now (path planned.best).tree) }
-    ensures limit { IfErr result (λ e. (e ≡ CostLimit) ↔ ((t : plans.Plan) → IsFinished cat.now q.now t → ¬ IsAdmissible cat.now q.now t)) }
+    order: &Keys,
+) -> Result<Option<Planned>, Memory>
+    requires candidates { AreCandidates cat.now q.now asked (map path paths.now) }
+    requires order { order.now ≡ keys.order_keys q.now.classes q.now.order }
+    ensures best { IfOk result (λ found. IfSome found (λ planned. IsFinishedPath cat.now q.now (path planned.best))) }
+    ensures least { IfOk result (λ found. IfSome found (λ planned. IsBestPlan cat.now q.now (path planned.best).tree)) }
+    ensures none { IfOk result (λ found. IfNone found (MOST_COST ≤ asked.limit → (t : plans.Plan) → IsFinished cat.now q.now t → ¬ IsAdmissible cat.now q.now t)) }
 {
     cat.lawful();
-    match least_place(cat, q, paths, &order) {
-        None => Err(PlanFault::CostLimit),
-        Some(at) => {
-            let best = finish(alloc, cat, q, &paths[at], order)?;
-            Ok(Planned { best })
-        }
+    let least = match least_place(cat, q, paths, order) {
+        Some(least) => least,
+        None => return Ok(None),
+    };
+    if least.price >= asked.limit {
+        return Ok(None);
     }
+    let order = order.copy(alloc)?;
+    let best = finish(alloc, cat, q, &paths[least.at], order)?;
+    Ok(Some(Planned { best }))
+}
+
+/// So many relations have some hundred pairs of sets, and a likely plan is worth its while.
+const FEWEST_FOR_A_LIMIT: usize = 4;
+
+/// What a plan may cost so that a likely one does, or the limit of costs where none is found. Any number will do. The error
+/// means want of memory.
+fn likely_limit(alloc: Global, cat: &Catalog, q: &Prepared, order: &Keys) -> Result<u64, Memory>
+    requires query { IsOverTables cat.now q.now }
+    requires order { order.now ≡ keys.order_keys q.now.classes q.now.order }
+{
+    if range_of(q).items().len() < FEWEST_FOR_A_LIMIT {
+        return Ok(MOST_COST);
+    }
+    let asked = Asked {
+        every_key: false,
+        limit: MOST_COST,
+    };
+    let base = base_table(alloc, cat, q)?;
+    let table = likely_plans(alloc, cat, q, asked, base)?;
+    let all = all_relations(q);
+    match least_place(cat, q, whole_paths(&table, all), order) {
+        Some(least) => Ok(least.price.saturating_add(1)),
+        None => Ok(MOST_COST),
+    }
+}
+
+/// A plan of least price over the paths of single relations, where its price is below a limit. None only where no finished
+/// plan is below it. The error means want of memory.
+fn plan_below(
+    alloc: Global,
+    cat: &Catalog,
+    q: &Prepared,
+    limit: u64,
+    base: Table,
+    order: &Keys,
+) -> Result<Option<Planned>, Memory>
+    requires query { IsOverTables cat.now q.now }
+    requires base { IsBase cat.now q.now base }
+    requires scans { (r : ℕ) → r < width q.now → HaveScansOf cat.now q.now (paths_at base) r }
+    requires order { order.now ≡ keys.order_keys q.now.classes q.now.order }
+    ensures best { IfOk result (λ found. IfSome found (λ planned. IsFinishedPath cat.now q.now (path planned.best))) }
+    ensures least { IfOk result (λ found. IfSome found (λ planned. IsBestPlan cat.now q.now (path planned.best).tree)) }
+    ensures none { IfOk result (λ found. IfNone found (MOST_COST ≤ limit → (t : plans.Plan) → IsFinished cat.now q.now t → ¬ IsAdmissible cat.now q.now t)) }
+{
+    cat.lawful();
+    let asked = Asked {
+        every_key: false,
+        limit,
+    };
+    let table = search(alloc, cat, q, asked, base)?;
+    let all = all_relations(q);
+    least_of(alloc, cat, q, asked, whole_paths(&table, all), order)
+}
+
+/// What was found, or that each plan is past the limit of costs.
+fn planned_or_past(found: Option<Planned>) -> Result<Planned, PlanFault>
+    ensures { MatchOption found (result ≡ Err CostLimit) (λ planned. result ≡ Ok planned) }
+{
+    match found {
+        Some(planned) => Ok(planned),
+        None => Err(PlanFault::CostLimit),
+    }
+}
+
+/// A plan of least price of a query over tables: first below the price of a likely one, then, where none is found so, below
+/// the limit of costs.
+fn plan_over(alloc: Global, cat: &Catalog, q: &Prepared) -> Result<Planned, PlanFault>
+    requires query { IsOverTables cat.now q.now }
+    ensures best { IfOk result (λ planned. IsFinishedPath cat.now q.now (path planned.best)) }
+    ensures least { IfOk result (λ planned. IsBestPlan cat.now q.now (path planned.best).tree) }
+    ensures limit { IfErr result (λ e. e ≡ CostLimit → (t : plans.Plan) → IsFinished cat.now q.now t → ¬ IsAdmissible cat.now q.now t) }
+{
+    let order = order_asked(alloc, q)?;
+    let limit = likely_limit(alloc, cat, q, &order)?;
+    let base = base_table(alloc, cat, q)?;
+    if let Some(planned) = plan_below(alloc, cat, q, limit, base, &order)? {
+        return Ok(planned);
+    }
+    let base = base_table(alloc, cat, q)?;
+    let found = plan_below(alloc, cat, q, MOST_COST, base, &order)?;
+    planned_or_past(found)
 }
 
 /// A plan of least price: its path is of a finished plan below 10^18, and no other such plan of the whole plan space is of
 /// a lower price, whatever joins it is made of. The price is the total, or under a window what the rows asked for cost. A
-/// plan of all relations whose keys begin with the order keys is finished; any other is sorted. `CostLimit` comes exactly where no finished plan is below 10^18, and `Memory` means want of memory.
-/// With n relations some 3^n pairs of sets are joined, each by what was kept of the two.
+/// plan of all relations whose keys begin with the order keys is finished; any other is sorted. `CostLimit` comes exactly
+/// where no finished plan is below 10^18, and `Memory` means want of memory. With n relations some 3^n pairs of sets are
+/// joined, each by what was kept of the two. What costs no less than a likely plan is left out, and is tried only where nothing
+/// is found without it.
 pub fn plan(alloc: Global, cat: &Catalog, q: &Prepared) -> Result<Planned, PlanFault>
     requires bound { IsWellBound cat.now q.now }
     ensures best { IfOk result (λ planned. IsFinishedPath cat.now q.now (path planned.best)) }
     ensures least { IfOk result (λ planned. IsBestPlan cat.now q.now (path planned.best).tree) }
     ensures limit { IfErr result (λ e. e ≡ CostLimit → (t : plans.Plan) → IsFinished cat.now q.now t → ¬ IsAdmissible cat.now q.now t) }
 {
-    cat.lawful();
-    let order = order_asked(alloc, q)?;
-    let base = base_table(alloc, cat, q)?;
-    let table = search(alloc, cat, q, base)?;
-    let all = all_relations(q);
-    least_of(alloc, cat, q, whole_paths(&table, all), order)
+    plan_over(alloc, cat, q)
 }

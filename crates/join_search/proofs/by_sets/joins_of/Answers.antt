@@ -1,10 +1,11 @@
 use Rattle.std.proofs.Common.{ap, map, sym, subst, arith}
 use Rattle.std.specs.Prelude.{All}
 use Rattle.std.proofs.lemmas.List.Elements.{All-nil}
+use Rattle.std.proofs.lemmas.Result.{IfOk-weaker}
 use Rattle.plan_tree.specs.Views.{path}
 use Rattle.join_search.specs.Joins.{IsJoinPath}
 use Rattle.join_search.specs.Tables.{none, paths_at}
-use Rattle.join_search.proofs.SearchLemmas.{front-joins, front-served, front-undominated, part-more}
+use Rattle.join_search.proofs.SearchLemmas.{joins-enough, part-more, some-joins}
 use Rattle.join_search.proofs.SetLemmas.{outer-less, outer-some}
 use Rattle.join_search.proofs.by_sets.joins_of.Goals as goal
 
@@ -20,20 +21,15 @@ pub loop-part-preserved : goal.loop-part-preserved
 loop-part-preserved c =
     record {
       joins = c.offer_part.ensures.takes.paths;
-      served = part-more c.args.cat.now c.args.q.now (paths_at c.args.table.now) c.args.set (record { 0 = c.loop-part.part }) (map path c.loop-part.kept) (map path c.offer_part.new.front)
+      served = part-more c.args.cat.now c.args.q.now c.args.asked (paths_at c.args.table.now) c.args.set (record { 0 = c.loop-part.part }) (map path c.loop-part.kept) (map path c.offer_part.new.front)
           c.offer_part.ensures.takes.still c.loop-part.invariant.served c.in_ok-offer_part.ensures.served;
     }
 
 pub returns-clause-joins : goal.returns-clause-joins
-returns-clause-joins c =
-    front-joins c.args.cat.now c.args.q.now (paths_at c.args.table.now) c.args.set c.loop-part.kept c.in_ok-front.front c.in_ok-front.ensures.some c.in_ok-front.ensures.covered c.loop-part.invariant.joins
+returns-clause-joins c = IfOk-weaker c.front_of.result _ _
+    (λ f some. some-joins c.args.cat.now c.args.q.now (paths_at c.args.table.now) c.args.set (map path c.loop-part.kept) (map path f) some c.loop-part.invariant.joins) c.front_of.ensures.some
 
 pub returns-clause-served : goal.returns-clause-served
-returns-clause-served c =
-    λ a b d. front-served c.args.cat.now c.args.q.now (paths_at c.args.table.now) c.args.set c.loop-part.kept c.in_ok-front.front c.in_ok-front.ensures.some c.in_ok-front.ensures.covered c.loop-part.invariant.joins a b
-    (c.loop-part.invariant.served a b (omega (arith, outer-less c.args.set a b d, c.loop-part-test.false)) d)
-
-pub returns-clause-undominated : goal.returns-clause-undominated
-returns-clause-undominated c =
-    front-undominated c.args.cat.now c.args.q.now (paths_at c.args.table.now) c.args.set c.in_ok-front.front c.items-paths.ensures.undominated
-    (front-joins c.args.cat.now c.args.q.now (paths_at c.args.table.now) c.args.set c.loop-part.kept c.in_ok-front.front c.in_ok-front.ensures.some c.in_ok-front.ensures.covered c.loop-part.invariant.joins)
+returns-clause-served c = IfOk-weaker c.front_of.result _ _
+    (λ f enough a b d. joins-enough c.args.cat.now c.args.q.now c.args.asked (paths_at c.args.table.now) (map path c.loop-part.kept) (map path f) a b enough
+    (c.loop-part.invariant.served a b (omega (arith, outer-less c.args.set a b d, c.loop-part-test.false)) d)) c.front_of.ensures.enough

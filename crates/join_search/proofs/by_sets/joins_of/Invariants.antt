@@ -12,5 +12,5 @@ use Rattle.join_search.proofs.by_sets.joins_of.Given as goal
 abbrev pub invariant-loop-part : goal.invariant-loop-part
 invariant-loop-part l = record {
   joins : All (IsJoinPath l.cat l.q (paths_at l.table) l.set none) (map path l.kept);
-  served : (a b : RelSet) → a.0 < l.part → IsDivided l.set a b → AreJoinsServed l.cat l.q (paths_at l.table) (map path l.kept) a b;
+  served : (a b : RelSet) → a.0 < l.part → IsDivided l.set a b → AreJoinsServed l.cat l.q l.asked (paths_at l.table) (map path l.kept) a b;
 }

@@ -16,7 +16,7 @@ returns-clause-served c =
     let fronts = paths_at c.args.table.now in
     on_ok_weaker c.offer_merges.result
     (λ merges. record {
-      nests = λ p. nests-later c.args.cat.now c.args.q.now (map path c.offer_nests.new.front) (map path c.offer_merges.new.front) (fronts j.outer none) (fronts j.inner p) c.offer_merges.ensures.takes.still (c.in_ok-offer_nests.ensures.served p);
+      nests = λ p. nests-later c.args.cat.now c.args.q.now c.args.j.asked (map path c.offer_nests.new.front) (map path c.offer_merges.new.front) (fronts j.outer none) (fronts j.inner p) c.offer_merges.ensures.takes.still (c.in_ok-offer_nests.ensures.served p);
       merges = merges;
     })
     c.offer_merges.ensures.served

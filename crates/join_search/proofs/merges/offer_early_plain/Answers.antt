@@ -28,8 +28,8 @@ loop-inner-preserved c =
     let taken = c.offer_if_early.ensures.takes in
     record {
       takes = takes-then contents q (paths_at c.args.table.now) c.args.j.set (map path c.args.front.now) before after c.loop-inner.invariant.takes taken;
-      served = items-more (λ i. covers i.keys by' ≡ true → i.startup < c.args.startup → AreOutersServed contents q before outers by' i.tree) (λ i. covers i.keys by' ≡ true → i.startup < c.args.startup → AreOutersServed contents q after outers by' i.tree)
-          (λ i h e lt. outers-later contents q before after outers by' i.tree taken.still (h e lt)) c.paths-inner-items.result.now c.loop-inner.inner-index c.inner-item.result c.loop-inner-test.true c.inner-item.is c.loop-inner.invariant.served c.in_ok-offer_if_early.ensures.served;
+      served = items-more (λ i. covers i.keys by' ≡ true → i.startup < c.args.startup → AreOutersServed contents q c.args.j.asked before outers by' i.tree) (λ i. covers i.keys by' ≡ true → i.startup < c.args.startup → AreOutersServed contents q c.args.j.asked after outers by' i.tree)
+          (λ i h e lt. outers-later contents q c.args.j.asked before after outers by' i.tree taken.still (h e lt)) c.paths-inner-items.result.now c.loop-inner.inner-index c.inner-item.result c.loop-inner-test.true c.inner-item.is c.loop-inner.invariant.served c.in_ok-offer_if_early.ensures.served;
     }
 
 pub returns-in_err-offer_if_early-clause-takes : goal.returns-in_err-offer_if_early-clause-takes
@@ -39,5 +39,5 @@ returns-in_err-offer_if_early-clause-takes c =
 pub returns-clause-served : goal.returns-clause-served
 returns-clause-served c =
     let by' = c.args.by.now in
-    items-all (λ i. covers i.keys by' ≡ true → i.startup < c.args.startup → AreOutersServed c.args.cat.now c.args.q.now (map path c.loop-inner.front) (paths_at c.args.table.now c.args.j.outer none) by' i.tree) c.paths-inner-items.result.now c.loop-inner.inner-index (paths_at c.args.table.now c.args.j.inner none)
+    items-all (λ i. covers i.keys by' ≡ true → i.startup < c.args.startup → AreOutersServed c.args.cat.now c.args.q.now c.args.j.asked (map path c.loop-inner.front) (paths_at c.args.table.now c.args.j.outer none) by' i.tree) c.paths-inner-items.result.now c.loop-inner.inner-index (paths_at c.args.table.now c.args.j.inner none)
     c.paths-inner-items.ensures c.loop-inner-test.false c.loop-inner.invariant.served

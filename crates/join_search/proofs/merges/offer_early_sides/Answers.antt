@@ -26,12 +26,12 @@ returns-in-Some-clause-served c =
     let middle = map path c.offer_early_plain.new.front in
     let after = map path c.offer_sort_if_early.new.front in
     on_ok_weaker c.offer_sort_if_early.result
-    (early-served contents q after outers inners by' j.inner (path p) c.args.startup (c.requires.placed.paths j.inner none)
+    (early-served contents q c.args.j.asked after outers inners by' j.inner (path p) c.args.startup (c.requires.placed.paths j.inner none)
     (cheapest-lent c.paths.result.now inners p c.paths.ensures c.in-Some.ensures.is_there c.in-Some.ensures.least)
-    (plain-early-later contents q middle after outers inners by' c.args.startup c.offer_sort_if_early.ensures.takes.still c.in_ok-offer_early_plain.ensures.served))
+    (plain-early-later contents q c.args.j.asked middle after outers inners by' c.args.startup c.offer_sort_if_early.ensures.takes.still c.in_ok-offer_early_plain.ensures.served))
     c.offer_sort_if_early.ensures.served
 
 pub returns-in-None-clause-served : goal.returns-in-None-clause-served
 returns-in-None-clause-served c =
     let inners = paths_at c.args.table.now c.args.j.inner none in
-    early-none c.args.cat.now c.args.q.now (map path c.offer_early_plain.new.front) (paths_at c.args.table.now c.args.j.outer none) inners c.args.by.now c.args.startup (none-lent c.paths.result.now inners c.paths.ensures c.in-None.ensures.none)
+    early-none c.args.cat.now c.args.q.now c.args.j.asked (map path c.offer_early_plain.new.front) (paths_at c.args.table.now c.args.j.outer none) inners c.args.by.now c.args.startup (none-lent c.paths.result.now inners c.paths.ensures c.in-None.ensures.none)

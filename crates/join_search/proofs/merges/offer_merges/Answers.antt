@@ -7,7 +7,7 @@ use Rattle.plan_tree.specs.Views.{path}
 use Rattle.join_search.specs.Offers.{AreMergesServed}
 use Rattle.join_search.specs.Tables.{none, paths_at}
 use Rattle.join_search.proofs.ItemLemmas.{all-at, all-more, all-taken}
-use Rattle.join_search.proofs.MergeLemmas.{merges-all, merges-later}
+use Rattle.join_search.proofs.MergeLemmas.{merges-all, merges-later, merges-none}
 use Rattle.join_search.proofs.OfferLemmas.{takes-none, takes-then}
 use Rattle.join_search.proofs.merges.offer_merges.Goals as goal
 
@@ -33,8 +33,8 @@ loop-by-preserved c =
     let taken = c.offer_merges_by.ensures.takes in
     record {
       takes = takes-then contents q fronts j.set (map path c.args.front.now) before after c.loop-by.invariant.takes taken;
-      served = all-more (AreMergesServed contents q before (fronts j.outer none) (fronts j.inner none)) (AreMergesServed contents q after (fronts j.outer none) (fronts j.inner none))
-          (λ keys h. merges-later contents q before after (fronts j.outer none) (fronts j.inner none) keys taken.still h) c.deref-by-items.result.now c.loop-by.by-index c.by-item.result c.loop-by-test.true c.by-item.is c.loop-by.invariant.served c.in_ok-offer_merges_by.ensures.served;
+      served = all-more (AreMergesServed contents q c.args.j.asked before (fronts j.outer none) (fronts j.inner none)) (AreMergesServed contents q c.args.j.asked after (fronts j.outer none) (fronts j.inner none))
+          (λ keys h. merges-later contents q c.args.j.asked before after (fronts j.outer none) (fronts j.inner none) keys taken.still h) c.deref-by-items.result.now c.loop-by.by-index c.by-item.result c.loop-by-test.true c.by-item.is c.loop-by.invariant.served c.in_ok-offer_merges_by.ensures.served;
     }
 
 pub returns-in_err-lists-clause-takes : goal.returns-in_err-lists-clause-takes
@@ -48,6 +48,14 @@ pub returns-clause-served : goal.returns-clause-served
 returns-clause-served c =
     let j = c.args.j in
     let fronts = paths_at c.args.table.now in
-    merges-all c.args.cat.now c.args.q.now (map path c.loop-by.front) (fronts j.outer none) (fronts j.inner none) j.outer j.inner c.deref-by-items.result.now (c.requires.placed.paths j.outer none) (c.requires.placed.paths j.inner none)
+    merges-all c.args.cat.now c.args.q.now c.args.j.asked (map path c.loop-by.front) (fronts j.outer none) (fronts j.inner none) j.outer j.inner c.deref-by-items.result.now (c.requires.placed.paths j.outer none) (c.requires.placed.paths j.inner none)
     (λ keys is. subst (λ (ls : List Keys). Contains ls keys) (sym c.deref-by-items.ensures.value) (c.in_ok-lists.ensures.complete keys is))
-    (all-taken (AreMergesServed c.args.cat.now c.args.q.now (map path c.loop-by.front) (fronts j.outer none) (fronts j.inner none)) c.deref-by-items.result.now c.loop-by.by-index c.loop-by-test.false c.loop-by.invariant.served)
+    (all-taken (AreMergesServed c.args.cat.now c.args.q.now c.args.j.asked (map path c.loop-by.front) (fronts j.outer none) (fronts j.inner none)) c.deref-by-items.result.now c.loop-by.by-index c.loop-by-test.false c.loop-by.invariant.served)
+
+pub returns-then-has_none-clause-takes : goal.returns-then-has_none-clause-takes
+returns-then-has_none-clause-takes c = takes-none c.args.cat.now c.args.q.now (paths_at c.args.table.now) c.args.j.set (map path c.args.front.now) c.requires.joins
+
+pub returns-then-has_none-clause-served : goal.returns-then-has_none-clause-served
+returns-then-has_none-clause-served c =
+    let fronts = paths_at c.args.table.now in
+    λ by'. merges-none c.args.cat.now c.args.q.now c.args.j.asked (map path c.args.front.now) (fronts c.args.j.outer none) (fronts c.args.j.inner none) by' (c.has_none.ensures c.if-has_none.true)

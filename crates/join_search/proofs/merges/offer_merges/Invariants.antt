@@ -9,5 +9,5 @@ use Rattle.join_search.proofs.merges.offer_merges.Given as goal
 abbrev pub invariant-loop-by : goal.invariant-loop-by
 invariant-loop-by l = record {
   takes : TakesJoins l.cat l.q (paths_at l.table) l.j.set (map path l.fn.front) (map path l.front);
-  served : All (λ by'. AreMergesServed l.cat l.q (map path l.front) (paths_at l.table l.j.outer none) (paths_at l.table l.j.inner none) by') (take l.by-index l.by-items);
+  served : All (λ by'. AreMergesServed l.cat l.q l.j.asked (map path l.front) (paths_at l.table l.j.outer none) (paths_at l.table l.j.inner none) by') (take l.by-index l.by-items);
 }

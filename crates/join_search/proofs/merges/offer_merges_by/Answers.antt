@@ -41,8 +41,8 @@ returns-in_ok-offer_side-in-Some-clause-served c =
     let after = map path c.offer_early_sides.new.front in
     let best = subst (λ (ps : List Path). IsBestSide contents q by' ps (side_path s) s.sorted) c.paths-inners.ensures c.in-Some.ensures.some in
     on_ok_weaker c.offer_early_sides.result
-    (merges-served contents q (lawful-rows contents q c.lawful.ensures) after (fronts j.outer none) (fronts j.inner none) by' j.inner (side_path s) s.sorted c.side_cost-cost.result (c.requires.placed.paths j.inner none) best (c.side_cost-cost.ensures.kept by')
-    (outers-later contents q middle after (fronts j.outer none) by' (side_plan by' s) c.offer_early_sides.ensures.takes.still c.in_ok-offer_side-in-Some.ensures.served))
+    (merges-served contents q c.args.j.asked (lawful-rows contents q c.lawful.ensures) after (fronts j.outer none) (fronts j.inner none) by' j.inner (side_path s) s.sorted c.side_cost-cost.result (c.requires.placed.paths j.inner none) best (c.side_cost-cost.ensures.kept by')
+    (outers-later contents q c.args.j.asked middle after (fronts j.outer none) by' (side_plan by' s) c.offer_early_sides.ensures.takes.still c.in_ok-offer_side-in-Some.ensures.served))
     c.offer_early_sides.ensures.served
 
 pub returns-in-None-clause-takes : goal.returns-in-None-clause-takes
@@ -51,4 +51,4 @@ returns-in-None-clause-takes c = takes-none c.args.cat.now c.args.q.now (paths_a
 pub returns-in-None-clause-served : goal.returns-in-None-clause-served
 returns-in-None-clause-served c =
     let fronts = paths_at c.args.table.now in
-    merges-none c.args.cat.now c.args.q.now (map path c.args.front.now) (fronts c.args.j.outer none) (fronts c.args.j.inner none) c.args.by.now (none-lent c.paths-inners.result.now (fronts c.args.j.inner none) c.paths-inners.ensures c.in-None.ensures.none)
+    merges-none c.args.cat.now c.args.q.now c.args.j.asked (map path c.args.front.now) (fronts c.args.j.outer none) (fronts c.args.j.inner none) c.args.by.now (none-lent c.paths-inners.result.now (fronts c.args.j.inner none) c.paths-inners.ensures c.in-None.ensures.none)

@@ -1,6 +1,6 @@
 use Rattle.std.proofs.Common.{◌≡◌, map, true, arith}
 use Rattle.pathkeys.specs.Keys.{covers}
-use Rattle.plan_tree.specs.Fronts.{IsServed}
+use Rattle.join_search.specs.Sufficing.{IsServed}
 use Rattle.plan_tree.specs.Plans.{merge}
 use Rattle.plan_tree.specs.Views.{path}
 use Rattle.join_search.specs.Merges.{side_plan}
@@ -29,8 +29,8 @@ loop-outer-preserved c =
     let taken = c.offer_in_order.ensures.takes in
     record {
       takes = takes-then contents q (paths_at c.args.table.now) c.args.j.set (map path c.args.front.now) before after c.loop-outer.invariant.takes taken;
-      served = items-more (λ o. covers o.keys by' ≡ true → IsServed contents q before (merge by' o.tree i)) (λ o. covers o.keys by' ≡ true → IsServed contents q after (merge by' o.tree i))
-          (λ o h e. served-later contents q before after (merge by' o.tree i) taken.still (h e)) c.paths-outer-items.result.now c.loop-outer.outer-index c.outer-item.result c.loop-outer-test.true c.outer-item.is c.loop-outer.invariant.served c.in_ok-offer_in_order.ensures.served;
+      served = items-more (λ o. covers o.keys by' ≡ true → IsServed contents q c.args.j.asked before (merge by' o.tree i)) (λ o. covers o.keys by' ≡ true → IsServed contents q c.args.j.asked after (merge by' o.tree i))
+          (λ o h e. served-later contents q c.args.j.asked before after (merge by' o.tree i) taken.still (h e)) c.paths-outer-items.result.now c.loop-outer.outer-index c.outer-item.result c.loop-outer-test.true c.outer-item.is c.loop-outer.invariant.served c.in_ok-offer_in_order.ensures.served;
     }
 
 pub returns-in_err-offer_in_order-clause-takes : goal.returns-in_err-offer_in_order-clause-takes
@@ -40,5 +40,5 @@ returns-in_err-offer_in_order-clause-takes c =
 pub returns-clause-served : goal.returns-clause-served
 returns-clause-served c =
     let by' = c.args.by.now in
-    items-all (λ o. covers o.keys by' ≡ true → IsServed c.args.cat.now c.args.q.now (map path c.loop-outer.front) (merge by' o.tree (side_plan by' c.args.inner))) c.paths-outer-items.result.now c.loop-outer.outer-index (paths_at c.args.table.now c.args.j.outer none)
+    items-all (λ o. covers o.keys by' ≡ true → IsServed c.args.cat.now c.args.q.now c.args.j.asked (map path c.loop-outer.front) (merge by' o.tree (side_plan by' c.args.inner))) c.paths-outer-items.result.now c.loop-outer.outer-index (paths_at c.args.table.now c.args.j.outer none)
     c.paths-outer-items.ensures c.loop-outer-test.false c.loop-outer.invariant.served

@@ -1,7 +1,7 @@
 use Rattle.std.proofs.Common.{◌≡◌, map, take, true}
 use Rattle.std.specs.Prelude.{All}
 use Rattle.pathkeys.specs.Keys.{covers}
-use Rattle.plan_tree.specs.Fronts.{IsServed}
+use Rattle.join_search.specs.Sufficing.{IsServed}
 use Rattle.plan_tree.specs.Plans.{merge}
 use Rattle.plan_tree.specs.Views.{path}
 use Rattle.join_search.specs.Merges.{side_plan}
@@ -13,5 +13,5 @@ use Rattle.join_search.proofs.merges.offer_plain.Given as goal
 abbrev pub invariant-loop-outer : goal.invariant-loop-outer
 invariant-loop-outer l = record {
   takes : TakesJoins l.cat l.q (paths_at l.table) l.j.set (map path l.fn.front) (map path l.front);
-  served : All (λ o. covers (path o).keys l.by ≡ true → IsServed l.cat l.q (map path l.front) (merge l.by (path o).tree (side_plan l.by l.inner))) (take l.outer-index l.outer-items);
+  served : All (λ o. covers (path o).keys l.by ≡ true → IsServed l.cat l.q l.j.asked (map path l.front) (merge l.by (path o).tree (side_plan l.by l.inner))) (take l.outer-index l.outer-items);
 }

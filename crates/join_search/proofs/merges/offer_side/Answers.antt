@@ -21,5 +21,5 @@ returns-clause-served c =
     let middle = map path c.offer_plain.new.front in
     let after = map path c.offer_sorted.new.front in
     on_ok_weaker c.offer_sorted.result
-    (outers-served contents q after outers by' c.args.j.outer i (c.requires.placed.paths c.args.j.outer none) (plain-later contents q middle after outers by' i c.offer_sorted.ensures.takes.still c.in_ok-offer_plain.ensures.served))
+    (outers-served contents q c.args.j.asked after outers by' c.args.j.outer i (c.requires.placed.paths c.args.j.outer none) (plain-later contents q c.args.j.asked middle after outers by' i c.offer_sorted.ensures.takes.still c.in_ok-offer_plain.ensures.served))
     c.offer_sorted.ensures.served

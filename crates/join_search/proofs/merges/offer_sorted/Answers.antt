@@ -21,7 +21,7 @@ returns-in-Some-clause-served c =
     let ps = paths_at c.args.table.now a none in
     let p = c.in-Some.path.now in
     on_ok_weaker c.offer_merge.result
-    (sorted-served c.args.cat.now c.args.q.now (map path c.offer_merge.new.front) ps c.args.by.now a (path p) (side_plan c.args.by.now c.args.inner) (c.requires.placed.paths a none)
+    (sorted-served c.args.cat.now c.args.q.now c.args.j.asked (map path c.offer_merge.new.front) ps c.args.by.now a (path p) (side_plan c.args.by.now c.args.inner) (c.requires.placed.paths a none)
     (cheapest-lent c.paths-outers.result.now ps p c.paths-outers.ensures c.in-Some.ensures.is_there c.in-Some.ensures.least))
     c.offer_merge.ensures.served
 
@@ -31,4 +31,4 @@ returns-in-None-clause-takes c = takes-none c.args.cat.now c.args.q.now (paths_a
 pub returns-in-None-clause-served : goal.returns-in-None-clause-served
 returns-in-None-clause-served c =
     let ps = paths_at c.args.table.now c.args.j.outer none in
-    sorted-none c.args.cat.now c.args.q.now (map path c.args.front.now) ps c.args.by.now (side_plan c.args.by.now c.args.inner) (none-lent c.paths-outers.result.now ps c.paths-outers.ensures c.in-None.ensures.none)
+    sorted-none c.args.cat.now c.args.q.now c.args.j.asked (map path c.args.front.now) ps c.args.by.now (side_plan c.args.by.now c.args.inner) (none-lent c.paths-outers.result.now ps c.paths-outers.ensures c.in-None.ensures.none)

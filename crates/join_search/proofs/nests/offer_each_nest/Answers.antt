@@ -36,7 +36,7 @@ loop-outer-preserved c =
     let taken = c.offer_nest.ensures.takes fronts (there-kept fronts j.outer none (path x) there) c.requires.kept c.loop-outer.invariant.takes.paths in
     record {
       takes = takes-then contents q fronts j.set (map path c.args.front.now) before after c.loop-outer.invariant.takes taken;
-      served = served-more contents q (λ o. nest o.tree i.tree) c.paths-outer-items.result.now c.loop-outer.outer-index x before after c.loop-outer-test.true c.outer-item.is taken.still c.loop-outer.invariant.served c.in_ok-offer_nest.ensures.served;
+      served = served-more contents q c.args.j.asked (λ o. nest o.tree i.tree) c.paths-outer-items.result.now c.loop-outer.outer-index x before after c.loop-outer-test.true c.outer-item.is taken.still c.loop-outer.invariant.served c.in_ok-offer_nest.ensures.served;
     }
 
 pub returns-in_err-offer_nest-clause-takes : goal.returns-in_err-offer_nest-clause-takes
@@ -51,4 +51,4 @@ returns-in_err-offer_nest-clause-takes c =
 pub returns-clause-served : goal.returns-clause-served
 returns-clause-served c =
     let i = path c.args.inner.now in
-    served-all c.args.cat.now c.args.q.now (λ o. nest o.tree i.tree) c.paths-outer-items.result.now c.loop-outer.outer-index (paths_at c.args.table.now c.args.j.outer none) (map path c.loop-outer.front) c.paths-outer-items.ensures c.loop-outer-test.false c.loop-outer.invariant.served
+    served-all c.args.cat.now c.args.q.now c.args.j.asked (λ o. nest o.tree i.tree) c.paths-outer-items.result.now c.loop-outer.outer-index (paths_at c.args.table.now c.args.j.outer none) (map path c.loop-outer.front) c.paths-outer-items.ensures c.loop-outer-test.false c.loop-outer.invariant.served

@@ -1,6 +1,6 @@
 use Rattle.std.proofs.Common.{map, take}
 use Rattle.std.specs.Prelude.{All}
-use Rattle.plan_tree.specs.Fronts.{IsServed}
+use Rattle.join_search.specs.Sufficing.{IsServed}
 use Rattle.plan_tree.specs.Plans.{nest}
 use Rattle.plan_tree.specs.Views.{path}
 use Rattle.join_search.specs.Offers.{TakesJoins}
@@ -11,5 +11,5 @@ use Rattle.join_search.proofs.nests.offer_each_nest.Given as goal
 abbrev pub invariant-loop-outer : goal.invariant-loop-outer
 invariant-loop-outer l = record {
   takes : TakesJoins l.cat l.q (paths_at l.table) l.j.set (map path l.fn.front) (map path l.front);
-  served : All (λ o. IsServed l.cat l.q (map path l.front) (nest (path o).tree (path l.inner).tree)) (take l.outer-index l.outer-items);
+  served : All (λ o. IsServed l.cat l.q l.j.asked (map path l.front) (nest (path o).tree (path l.inner).tree)) (take l.outer-index l.outer-items);
 }

@@ -26,8 +26,8 @@ loop-inner-preserved c =
     let taken = c.offer_if_early.ensures.takes in
     record {
       takes = takes-then contents q (paths_at c.args.table.now) c.args.j.set (map path c.args.front.now) before after c.loop-inner.invariant.takes taken;
-      served = items-more (λ i. i.startup < c.args.startup → AreEachServed contents q before outers i.tree) (λ i. i.startup < c.args.startup → AreEachServed contents q after outers i.tree)
-          (λ i h lt. each-later contents q before after outers i.tree taken.still (h lt)) c.paths-inner-items.result.now c.loop-inner.inner-index c.inner-item.result c.loop-inner-test.true c.inner-item.is c.loop-inner.invariant.served c.in_ok-offer_if_early.ensures.served;
+      served = items-more (λ i. i.startup < c.args.startup → AreEachServed contents q c.args.j.asked before outers i.tree) (λ i. i.startup < c.args.startup → AreEachServed contents q c.args.j.asked after outers i.tree)
+          (λ i h lt. each-later contents q c.args.j.asked before after outers i.tree taken.still (h lt)) c.paths-inner-items.result.now c.loop-inner.inner-index c.inner-item.result c.loop-inner-test.true c.inner-item.is c.loop-inner.invariant.served c.in_ok-offer_if_early.ensures.served;
     }
 
 pub returns-in_err-offer_if_early-clause-takes : goal.returns-in_err-offer_if_early-clause-takes
@@ -36,5 +36,5 @@ returns-in_err-offer_if_early-clause-takes c =
 
 pub returns-clause-served : goal.returns-clause-served
 returns-clause-served c =
-    items-all (λ i. i.startup < c.args.startup → AreEachServed c.args.cat.now c.args.q.now (map path c.loop-inner.front) (paths_at c.args.table.now c.args.j.outer none) i.tree) c.paths-inner-items.result.now c.loop-inner.inner-index (paths_at c.args.table.now c.args.j.inner c.args.p)
+    items-all (λ i. i.startup < c.args.startup → AreEachServed c.args.cat.now c.args.q.now c.args.j.asked (map path c.loop-inner.front) (paths_at c.args.table.now c.args.j.outer none) i.tree) c.paths-inner-items.result.now c.loop-inner.inner-index (paths_at c.args.table.now c.args.j.inner c.args.p)
     c.paths-inner-items.ensures c.loop-inner-test.false c.loop-inner.invariant.served

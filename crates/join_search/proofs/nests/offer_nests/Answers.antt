@@ -26,9 +26,9 @@ loop-p-preserved c =
     let taken = c.offer_nests_if.ensures.takes in
     record {
       takes = takes-then contents q fronts j.set (map path c.args.front.now) before after c.loop-p.invariant.takes taken;
-      served = All-more (λ (p : RelSet). AreNestsServed contents q after (fronts j.outer none) (fronts j.inner p)) c.deref-p-items.result.now c.loop-p.p-index _ c.loop-p-test.true
-          (All-weaker (λ (p : RelSet). AreNestsServed contents q before (fronts j.outer none) (fronts j.inner p)) (λ (p : RelSet). AreNestsServed contents q after (fronts j.outer none) (fronts j.inner p))
-          (λ p h. nests-later contents q before after (fronts j.outer none) (fronts j.inner p) taken.still h) _ c.loop-p.invariant.served) c.in_ok-offer_nests_if.ensures.served;
+      served = All-more (λ (p : RelSet). AreNestsServed contents q c.args.j.asked after (fronts j.outer none) (fronts j.inner p)) c.deref-p-items.result.now c.loop-p.p-index _ c.loop-p-test.true
+          (All-weaker (λ (p : RelSet). AreNestsServed contents q c.args.j.asked before (fronts j.outer none) (fronts j.inner p)) (λ (p : RelSet). AreNestsServed contents q c.args.j.asked after (fronts j.outer none) (fronts j.inner p))
+          (λ p h. nests-later contents q c.args.j.asked before after (fronts j.outer none) (fronts j.inner p) taken.still h) _ c.loop-p.invariant.served) c.in_ok-offer_nests_if.ensures.served;
     }
 
 pub returns-in_err-params-clause-takes : goal.returns-in_err-params-clause-takes
@@ -42,5 +42,5 @@ pub returns-clause-served : goal.returns-clause-served
 returns-clause-served c =
     let j = c.args.j in
     let fronts = paths_at c.args.table.now in
-    nests-all c.args.cat.now c.args.q.now c.args.table.now (map path c.loop-p.front) j.outer j.inner c.deref-p-items.result.now (c.deref-p-items.ensures.value ∙ c.in_ok-params.ensures)
-    (all-taken (λ (p : RelSet). AreNestsServed c.args.cat.now c.args.q.now (map path c.loop-p.front) (fronts j.outer none) (fronts j.inner p)) c.deref-p-items.result.now c.loop-p.p-index c.loop-p-test.false c.loop-p.invariant.served)
+    nests-all c.args.cat.now c.args.q.now c.args.j.asked c.args.table.now (map path c.loop-p.front) j.outer j.inner c.deref-p-items.result.now (c.deref-p-items.ensures.value ∙ c.in_ok-params.ensures)
+    (all-taken (λ (p : RelSet). AreNestsServed c.args.cat.now c.args.q.now c.args.j.asked (map path c.loop-p.front) (fronts j.outer none) (fronts j.inner p)) c.deref-p-items.result.now c.loop-p.p-index c.loop-p-test.false c.loop-p.invariant.served)

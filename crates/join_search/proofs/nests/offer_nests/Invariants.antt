@@ -9,5 +9,5 @@ use Rattle.join_search.proofs.nests.offer_nests.Given as goal
 abbrev pub invariant-loop-p : goal.invariant-loop-p
 invariant-loop-p l = record {
   takes : TakesJoins l.cat l.q (paths_at l.table) l.j.set (map path l.fn.front) (map path l.front);
-  served : All (λ p. AreNestsServed l.cat l.q (map path l.front) (paths_at l.table l.j.outer none) (paths_at l.table l.j.inner p)) (take l.p-index l.p-items);
+  served : All (λ p. AreNestsServed l.cat l.q l.j.asked (map path l.front) (paths_at l.table l.j.outer none) (paths_at l.table l.j.inner p)) (take l.p-index l.p-items);
 }

@@ -25,9 +25,9 @@ returns-in_ok-offer_nests_of-in-Some-clause-served c =
     let middle = map path c.offer_nests_of.new.front in
     let after = map path c.offer_early.new.front in
     on_ok_weaker c.offer_early.result
-    (nests-served contents q after (fronts j.outer none) (fronts j.inner c.args.p) j.inner c.args.p (path i) (c.requires.placed.paths j.inner c.args.p)
+    (nests-served contents q c.args.j.asked after (fronts j.outer none) (fronts j.inner c.args.p) j.inner c.args.p (path i) (c.requires.placed.paths j.inner c.args.p)
     (cheapest-lent c.paths.result.now (fronts j.inner c.args.p) i c.paths.ensures c.in-Some.ensures.is_there c.in-Some.ensures.least)
-    (each-later contents q middle after (fronts j.outer none) (path i).tree c.offer_early.ensures.takes.still c.in_ok-offer_nests_of-in-Some.ensures.served))
+    (each-later contents q c.args.j.asked middle after (fronts j.outer none) (path i).tree c.offer_early.ensures.takes.still c.in_ok-offer_nests_of-in-Some.ensures.served))
     c.offer_early.ensures.served
 
 pub returns-in-None-clause-takes : goal.returns-in-None-clause-takes
@@ -37,4 +37,4 @@ pub returns-in-None-clause-served : goal.returns-in-None-clause-served
 returns-in-None-clause-served c =
     let j = c.args.j in
     let fronts = paths_at c.args.table.now in
-    nests-none c.args.cat.now c.args.q.now (map path c.args.front.now) (fronts j.outer none) (fronts j.inner c.args.p) (none-lent c.paths.result.now (fronts j.inner c.args.p) c.paths.ensures c.in-None.ensures.none)
+    nests-none c.args.cat.now c.args.q.now c.args.j.asked (map path c.args.front.now) (fronts j.outer none) (fronts j.inner c.args.p) (none-lent c.paths.result.now (fronts j.inner c.args.p) c.paths.ensures c.in-None.ensures.none)

@@ -13,4 +13,4 @@ returns-else-within-clause-takes c = takes-none c.args.cat.now c.args.q.now (pat
 
 pub returns-else-within-clause-served : goal.returns-else-within-clause-served
 returns-else-within-clause-served c =
-    nests-apart c.args.cat.now c.args.q.now (paths_at c.args.table.now) (map path c.args.front.now) c.args.j.outer c.args.j.inner c.args.p c.requires.placed (λ within. true≢false (sym (c.within.ensures.1 within) ∙ c.if-within.false))
+    nests-apart c.args.cat.now c.args.q.now c.args.j.asked (paths_at c.args.table.now) (map path c.args.front.now) c.args.j.outer c.args.j.inner c.args.p c.requires.placed (λ within. true≢false (sym (c.within.ensures.1 within) ∙ c.if-within.false))

@@ -1,3 +1,4 @@
+use Rattle.std.proofs.Common.{arith}
 use Rattle.plan_tree.specs.Views.{path}
 use Rattle.plan_tree.proofs.BoundLemmas.{lawful-rows}
 use Rattle.planner.specs.Finishing.{finished}
@@ -19,4 +20,5 @@ returns-clause-priced c =
     record {
       admissible = exact.1;
       price = c.price_of.ensures.price contents (finished contents q p.tree) exact.0 (whole-query contents q p c.requires.whole);
+      below = omega (arith, c.price_of.ensures.most, c.if-cost-ge-MOST_COST.false);
     }

@@ -1,5 +1,5 @@
 use Rattle.planner.specs.Finishing.{IsWhole}
-use Rattle.planner.proofs.PlaceLemmas.{at-place, least-found, none-admissible, none-so-far, one-so-far, place-within}
+use Rattle.planner.proofs.PlaceLemmas.{at-place, none-so-far, one-so-far, place-least, place-none}
 use Rattle.planner.proofs.finishing.least_place.Goals as goal
 
 pub finished_price-price-requires-clause-whole : goal.finished_price-price-requires-clause-whole
@@ -15,11 +15,14 @@ loop-at-preserved c =
     one-so-far c.args.cat.now c.args.q.now c.args.paths.now c.loop-at.best c.least_with-best.result c.finished_price-price.result c.loop-at.at c.loop-at.invariant c.index-paths-at.result c.loop-at-test.true c.index-paths-at.is
     found.priced found.none with'.first with'.this with'.from
 
-pub returns-in-Some-clause-within : goal.returns-in-Some-clause-within
-returns-in-Some-clause-within c = place-within c.args.cat.now c.args.q.now c.args.paths.now c.loop-at.best c.loop-at.at c.loop-at.invariant c.loop-at-test.false c.in-Some.least c.in-Some.is
+pub returns-clause-within : goal.returns-clause-within
+returns-clause-within c = c.loop-at.invariant.within
 
-pub returns-in-Some-clause-least : goal.returns-in-Some-clause-least
-returns-in-Some-clause-least c = least-found c.args.cat.now c.args.q.now c.args.paths.now c.loop-at.best c.loop-at.at c.loop-at.invariant c.loop-at-test.false c.in-Some.least c.in-Some.is
+pub returns-clause-priced : goal.returns-clause-priced
+returns-clause-priced c = c.loop-at.invariant.priced
 
-pub returns-in-None-clause-none : goal.returns-in-None-clause-none
-returns-in-None-clause-none c = λ same. none-admissible c.args.cat.now c.args.q.now c.args.paths.now c.loop-at.best c.loop-at.at c.loop-at.invariant c.loop-at-test.false c.in-None.is
+pub returns-clause-least : goal.returns-clause-least
+returns-clause-least c = place-least c.args.cat.now c.args.q.now c.args.paths.now c.loop-at.best c.loop-at.at c.loop-at.invariant c.loop-at-test.false
+
+pub returns-clause-none : goal.returns-clause-none
+returns-clause-none c = place-none c.args.cat.now c.args.q.now c.args.paths.now c.loop-at.best c.loop-at.at c.loop-at.invariant c.loop-at-test.false

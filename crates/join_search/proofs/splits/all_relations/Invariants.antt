@@ -1,6 +1,6 @@
 use Rattle.std.proofs.Common.{◌≡◌, ℕ, nat_lt}
 use Rattle.pg_base.specs.Sets.{has}
-use Rattle.planner.proofs.base.all_relations.Given as goal
+use Rattle.join_search.proofs.splits.all_relations.Given as goal
 
 -- the relations so far
 abbrev pub invariant-loop-r : goal.invariant-loop-r

@@ -1,0 +1,12 @@
+use Rattle.std.proofs.Common.{◌≡◌, List, [], ◌∷◌, length, map, sym, ◌∙◌, ap, arith}
+use Rattle.std.proofs.lemmas.Bool.{eqb-true}
+use Rattle.plan_tree.specs.Views.{path}
+use Rattle.plan_tree.specs.declared.path.Path.{Path as Costed}
+use Rattle.join_search.proofs.table.Table.has_none.Goals as goal
+
+empty-of : (xs : List Costed) → length xs ≡ 0 → xs ≡ []
+empty-of [] e = cc
+empty-of (x ∷ xs) e = absurd (omega (arith, e))
+
+pub returns : goal.returns
+returns c = λ is. sym c.paths.ensures ∙ ap (map path) (empty-of c.paths.result.now (eqb-true (length c.paths.result.now) 0 (sym c.is_empty.ensures ∙ is)))

@@ -1,0 +1,38 @@
+-- Paths that suffice for plans, as far as is asked of a search (PostgreSQL, src/backend/optimizer/path/pathkeys.c,
+-- truncate_useless_pathkeys; the limit is own).
+use Rattle.std.specs.Prelude.{◌≡◌, ℕ, true, List, Option, None, Some, Contains}
+use Rattle.catalog.specs.Contents.{Contents}
+use Rattle.cost_rules.specs.declared.pair.Pair.{Pair}
+use Rattle.eq_classes.specs.Clauses.{Set}
+use Rattle.pathkeys.specs.Keys.{Keys, covers}
+use Rattle.sql_query.specs.Queries.{Query}
+use Rattle.sql_query.specs.declared.window.Window.{Window}
+use Rattle.plan_tree.specs.Paths.{Path}
+use Rattle.plan_tree.specs.Plans.{Plan}
+use Rattle.plan_tree.specs.Space.{IsBuilt}
+use Rattle.join_laws.specs.Useful.{IsBelow, IsOfUse, Suffices}
+use Rattle.join_search.specs.declared.useful.Asked.{Asked}
+
+-- what a plan of a cost costs at least in whatever is made of it: the total, or under a window the startup
+abbrev pub floor_in : Option Window → Pair → ℕ
+floor_in None cost = cost.total
+floor_in (Some w) cost = cost.startup
+
+-- a part of a key list begins with each list of use at a set with which the whole begins
+abbrev pub IsPartOfUse : Query → Asked → Set → Keys → Keys → Type 0
+IsPartOfUse q asked s keys part = (ks : Keys) → IsOfUse q asked.every_key s ks → covers keys ks ≡ true → covers part ks ≡ true
+
+module _ (c : Contents) (q : Query) (asked : Asked) where
+  -- the plan of some path of a list suffices for a plan
+  pub record HasSufficient (paths : List Path) (t : Plan) : Type 0 where
+    pub path : Path
+    pub is_there : Contains paths path
+    pub suffices : Suffices c q asked.every_key path.tree t
+
+  -- so for a plan, where it is of the space and below the limit
+  abbrev pub IsServed : List Path → Plan → Type 0
+  IsServed paths t = IsBuilt c q t → IsBelow c q asked.limit t → HasSufficient paths t
+
+  -- for each plan for which the one list has a sufficient path the other has one
+  abbrev pub StaySufficient : List Path → List Path → Type 0
+  StaySufficient old new = (t : Plan) → HasSufficient old t → HasSufficient new t

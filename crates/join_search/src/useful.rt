@@ -1,0 +1,122 @@
+//! What a search is asked for: which keys count, and below what cost plans are looked for (PostgreSQL,
+//! src/backend/optimizer/path/pathkeys.c, truncate_useless_pathkeys; the limit is own).
+
+ghost use Rattle.std.specs.Prelude.{◌≡◌, ◌<◌, ◌≤◌, ◌&&◌, All, IfOk, IsTrue, false, length, nat_lt, take};
+ghost use Rattle.pg_base.specs.Sets.{has};
+ghost use Rattle.cost_rules.specs.declared.parameters.TheConstants.{MOST_COST};
+ghost use Rattle.eq_classes.specs.Clauses.{Set};
+ghost use Rattle.eq_classes.specs.Listing.{class_at};
+ghost use Rattle.eq_classes.specs.Parts.{has_in};
+ghost use Rattle.pathkeys.specs.Finding.{class_numbers};
+ghost use Rattle.pathkeys.specs.Keys as keys;
+ghost use Rattle.plan_tree.specs.Space.{IsSameSet};
+ghost use Rattle.join_laws.specs.Useful as uses;
+ghost use Rattle.join_search.specs.Sufficing.{IsPartOfUse, floor_in};
+
+use cost_rules::{MOST_COST, Pair};
+use eq_classes::ClassNo;
+use pathkeys::{Keys, covers, order_keys};
+use pg_base::{Memory, RelSet};
+use plan_tree::classes_of;
+use sql_query::Prepared;
+use std::alloc::Global;
+
+/// What a search is asked for.
+#[derive(Clone, Copy)]
+pub struct Asked {
+    /// A path is kept for any keys that no cheaper one has; else only for those by which a later join or the order asked for
+    /// may still profit.
+    pub every_key: bool,
+    /// What costs so much is left out: in all, or before its first row where the query has a window.
+    pub limit: u64,
+}
+
+/// What a plan of a cost costs at least in whatever is made of it.
+fn floor_of(q: &Prepared, cost: Pair) -> u64
+    ensures { result ≡ floor_in q.now.window cost }
+{
+    match q.window {
+        None => cost.total,
+        Some(_) => cost.startup,
+    }
+}
+
+/// Whether a plan of a cost is admissible, and its floor below the limit.
+pub(crate) fn is_below(q: &Prepared, asked: Asked, cost: Pair) -> bool
+    ensures yes { IsTrue result → cost.total < MOST_COST }
+    ensures no { result ≡ false → cost.total < MOST_COST → floor_in q.now.window cost < asked.limit → ⊥ }
+{
+    let floor = floor_of(q, cost);
+    cost.total < MOST_COST && floor < asked.limit
+}
+
+/// Whether a class has a member in a set.
+fn has_member(q: &Prepared, class: ClassNo, set: RelSet) -> bool
+    requires { class.0 < length q.now.classes.classes }
+    ensures { result ≡ has_in (class_at q.now.classes.classes class.0) (has set.0) }
+{
+    classes_of(q).member(class, set).is_some()
+}
+
+/// How many classes a list begins with that have a member in a set.
+fn open_classes(q: &Prepared, outside: RelSet, list: &[ClassNo]) -> usize
+    requires { All (λ n. n < length q.now.classes.classes) (class_numbers list.now) }
+    ensures within { result ≤ length list.now }
+    ensures begins { (s : Set) (ks : keys.Keys) → IsSameSet (has outside.0) (uses.outside q.now s) → IsTrue (uses.are_open q.now s ks) → IsTrue (keys.covers (class_numbers list.now) ks) → IsTrue (keys.covers (take result (class_numbers list.now)) ks) }
+{
+    for n in 0..list.len() {
+        if !has_member(q, list[n], outside) {
+            return n;
+        }
+    }
+    list.len()
+}
+
+/// The greater number of classes: so many, or those of the order keys where a list begins with them.
+fn used_classes(free: usize, list: &Keys, order: &Keys) -> usize
+    requires { free ≤ length list.now }
+    ensures free { free ≤ result }
+    ensures order { IsTrue (keys.covers list.now order.now) → length order.now ≤ result }
+    ensures within { result ≤ length list.now }
+{
+    if !covers(list, order) {
+        return free;
+    }
+    free.max(order.items().len())
+}
+
+/// The first classes of a list. The error means want of memory.
+fn first_classes(alloc: Global, list: &Keys, n: usize) -> Result<Keys, Memory>
+    requires { n ≤ length list.now }
+    ensures { IfOk result (λ ks. ks ≡ take n list.now) }
+{
+    Keys::from_slice(alloc, &list.items()[..n])
+}
+
+/// The order keys of a query. The error means want of memory.
+pub fn order_asked(alloc: Global, q: &Prepared) -> Result<Keys, Memory>
+    ensures { IfOk result (λ ks. ks ≡ keys.order_keys q.now.classes q.now.order) }
+{
+    order_keys(alloc, classes_of(q), q.order.items())
+}
+
+/// The part of the keys of a path of a set that can still be of use: classes that have a member outside of the set, so that
+/// they may still join, or the order keys. The error means want of memory.
+pub(crate) fn useful(
+    alloc: Global,
+    q: &Prepared,
+    asked: Asked,
+    outside: RelSet,
+    list: &Keys,
+) -> Result<Keys, Memory>
+    requires { All (λ n. n < length q.now.classes.classes) list.now }
+    ensures { IfOk result (λ part. (s : Set) → IsSameSet (has outside.0) (uses.outside q.now s) → IsPartOfUse q.now asked s list.now part) }
+{
+    if asked.every_key {
+        return list.copy(alloc);
+    }
+    let order = order_asked(alloc, q)?;
+    let free = open_classes(q, outside, list.items());
+    let used = used_classes(free, list, &order);
+    first_classes(alloc, list, used)
+}

@@ -251,9 +251,8 @@ fn refuses_at_the_first_fault(rt: HostRuntime) {
 fn reads_a_table(rt: HostRuntime) {
     let cat = Catalog::new(rt.alloc());
     let text = b"Create TABLE T (A int4, b_2 Boolean NOT NULL, c bigint NULL);";
-    let Read { ddl, at, method } = read(rt.alloc(), &cat, text).expect(&rt, "a table");
+    let Read { ddl, at } = read(rt.alloc(), &cat, text).expect(&rt, "a table");
     assert_eq!(rt; at.as_slice(), [13, 16, 24, 46].as_slice());
-    assert_eq!(rt; method, 0);
     match ddl {
         Ddl::Table {
             name,
@@ -278,13 +277,11 @@ fn reads_the_head_of_data(rt: HostRuntime) {
             Read {
                 ddl: Ddl::Copy { table, start },
                 at,
-                method,
             },
         ) => {
             assert_eq!(rt; table, TableNo(0));
             assert_eq!(rt; start, 50);
             assert_eq!(rt; at.len(), 0);
-            assert_eq!(rt; method, 0);
         }
         _ => assert!(rt; false),
     }
@@ -294,7 +291,7 @@ fn reads_the_head_of_data(rt: HostRuntime) {
 fn reads_the_size_of_a_table(rt: HostRuntime) {
     let cat = one_table(rt.alloc()).expect(&rt, "a table");
     let text = b"Statistics A rows 99999999999999999999 PAGES 7;";
-    let Read { ddl, at, .. } = read(rt.alloc(), &cat, text).expect(&rt, "sizes");
+    let Read { ddl, at } = read(rt.alloc(), &cat, text).expect(&rt, "sizes");
     assert_eq!(rt; at.as_slice(), [18, 45].as_slice());
     match ddl {
         Ddl::Rows { table, rows, pages } => {
@@ -311,7 +308,7 @@ fn reads_what_is_known_of_a_column(rt: HostRuntime) {
     let cat = one_table(rt.alloc()).expect(&rt, "a table");
     let text =
         b"STATISTICS a.b DISTINCT 4 NULLS 4294967296 COMMON (-7 5, '8' 4294967295) HISTOGRAM (1, - 2);";
-    let Read { ddl, at, .. } = read(rt.alloc(), &cat, text).expect(&rt, "statistics");
+    let Read { ddl, at } = read(rt.alloc(), &cat, text).expect(&rt, "statistics");
     assert_eq!(rt; at.as_slice(), [24, 32, 51, 54, 57, 61, 84, 87].as_slice());
     match ddl {
         Ddl::Column { table, col, stats } => {

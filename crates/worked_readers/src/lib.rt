@@ -6,6 +6,8 @@ mod definitions;
 #[cfg(test)]
 mod indexes;
 #[cfg(test)]
+mod parts;
+#[cfg(test)]
 mod selects;
 #[cfg(test)]
 mod tables;

@@ -1,11 +1,8 @@
 //! Selects over two tables: what they are read as, and where they are refused. The places were found by a planner written
 //! apart from this one.
 
-ghost use Rattle.std.specs.Prelude.{◌≡◌, ◌≤◌, ◌^◌, ℕ, length, true};
+ghost use Rattle.std.specs.Prelude.{◌≡◌, ◌≤◌, ◌^◌, length, true};
 ghost use Rattle.pg_base.specs.Names.{begins_name};
-ghost use Rattle.sql_lex.specs.Words.{AreWords};
-ghost use Rattle.sql_grammar.specs.Faults.{terminals};
-ghost use Rattle.query_reader.specs.Select.{begins_query};
 
 use catalog::{Catalog, CatalogFault};
 use eq_classes::OrderItem;
@@ -13,10 +10,8 @@ use fixtures::{columns, name, names};
 use pg_base::{Code, Fault, Limit, Memory, Refusal, TableNo};
 use pg_expr::ColRef;
 use pg_value::{Bytes, SqlType};
-use query_reader::{explains, read_select, selects_are_no_other};
-use sql_cursor::Cursor;
-use sql_grammar::Word;
-use sql_lex::{Tokens, lex_statement};
+use query_reader::{explains, read_select};
+use sql_lex::lex_statement;
 use sql_query::Prepared;
 use std::alloc::Global;
 
@@ -462,27 +457,13 @@ pub(crate) fn two_tables(alloc: Global) -> Result<Catalog, CatalogFault> {
     Ok(catalog)
 }
 
-/// Whether SELECT or EXPLAIN is the first word.
-fn begins(text: &[u8], tokens: &Tokens) -> bool
-    requires short { length text.now ≤ 2 ^ 31 }
-    requires words { (from : ℕ) × AreWords text.now from tokens.now }
-    ensures { result ≡ true → begins_query (terminals text.now tokens.now) ≡ true }
-{
-    let mut from = Cursor::new(text, tokens, 0);
-    if from.takes(Word::Select) {
-        return true;
-    }
-    explains(text, tokens)
-}
-
 /// The SELECT at the text's beginning.
 pub(crate) fn reading(alloc: Global, catalog: &Catalog, text: &[u8]) -> Result<Prepared, Refusal>
     requires { length text.now ≤ 2 ^ 31 }
 {
     let tokens = lex_statement(alloc, text, 0)?;
-    selects_are_no_other();
     let first = if explains(text, &tokens) { 1 } else { 0 };
-    if !begins(text, &tokens) || tokens.items().len() < 2 {
+    if tokens.items().len() < 2 {
         return Err(Refusal::Memory);
     }
     read_select(alloc, catalog, text, &tokens, first)

@@ -14,14 +14,14 @@ use Rattle.index_candidates.specs.Candidates.{with_candidates}
 use Rattle.advise_reader.specs.declared.advising.Advising.{Advising}
 use Rattle.advise_reader.specs.declared.candidates.AllRead.{AllRead}
 use Rattle.advise_reader.specs.Candidates.{with_room}
-use Rattle.advise_reader.specs.Meaning.{Asked, CandidatesMean, QueriesMean}
+use Rattle.advise_reader.specs.Meaning.{Asked, CandidatesMean, QueriesMean, most_meant}
 use Rattle.advise_reader.specs.Parts.{candidates_of, name_token}
 use Rattle.advise_reader.specs.Queries.{QueryMeans}
 use Rattle.advise_reader.specs.Soundness.{IsSound}
 use Rattle.advise_reader.specs.Stages.{AreRead}
 use Rattle.advise_reader.specs.Statements.{IsMeaning, IsRefusal, PartsStand, TellsParts, asked}
 use Rattle.advise_reader.specs.Walk.{AreApart, ArePlannable, HaveRoom, QueryRow, Row, TellsCandidates, TellsQueries}
-use Rattle.advise_reader.proofs.StandLemmas.{ends-within}
+use Rattle.advise_reader.proofs.StandLemmas.{ends-within, some-token}
 use Rattle.advise_reader.proofs.StatementLemmas.{Advises, InTurn, Told, told}
 
 -- as many are read as are left
@@ -32,6 +32,10 @@ many-read A B Means earlier (x ∷ xs) r (inr (y, is, more)) =
     let many = many-read A B Means (earlier ++ y ∷ []) xs r more in
     let one = length-append earlier (y ∷ []) in
     omega (arith, many, one)
+
+-- a statement with a number has a first token
+pub first-there : (text : List ℕ) (tokens : List Token) (n : Said) (w : Row) (q : QueryRow) → PartsStand text tokens n w q → (start : Token) × (later : List Token) × (tokens ≡ start ∷ later)
+first-there text tokens n w q p = let lt = ends-within text tokens 1 [] _ _ p.number in some-token tokens (omega (arith, lt))
 
 -- what is told of the parts
 module _ (c : Contents) (start : Token) (text : List ℕ) (tokens : List Token) (n : Said) (w : Row) (q : QueryRow) where
@@ -45,9 +49,18 @@ module _ (c : Contents) (start : Token) (text : List ℕ) (tokens : List Token) 
   end-inside read is = let lt = ends-within text tokens read.end [] _ _ is.2 in omega (arith, lt)
 
   -- the room of those that are named
-  pub room-of : (read : AllRead) (names : List Token) (r : Result (List NamedIndex) Fault) → names ≡ read.names.items → TellsCandidates c start text tokens w (Ok read) → with_room c [] names read.candidates.items ≡ r →
-      with_room c [] (map name_token (candidates_of w.first w.more)) read.candidates.items ≡ r
-  room-of read names r same is room = ap (λ (l : List Token). with_room c [] l read.candidates.items) (sym (same ∙ is.1)) ∙ room
+  pub room-of : (read : AllRead) (names : List Token) (candidates : List NamedIndex) (r : Result (List NamedIndex) Fault) → names ≡ read.names.items → candidates ≡ read.candidates.items → TellsCandidates c start text tokens w (Ok read) →
+      with_room c [] names candidates ≡ r → with_room c [] (map name_token (candidates_of w.first w.more)) read.candidates.items ≡ r
+  room-of read names candidates r same-names same is room =
+      ap (λ (l : List Token). with_room c [] l read.candidates.items) (sym (same-names ∙ is.1)) ∙ (ap (λ (l : List NamedIndex). with_room c [] names l) (sym same) ∙ room)
+
+  pub all-room-of : (read : AllRead) (names : List Token) (candidates : List NamedIndex) → names ≡ read.names.items → candidates ≡ read.candidates.items → TellsCandidates c start text tokens w (Ok read) →
+      with_room c [] names candidates ≡ Ok candidates → with_room c [] (map name_token (candidates_of w.first w.more)) read.candidates.items ≡ Ok read.candidates.items
+  all-room-of read names candidates same-names same is room = room-of read names candidates (Ok candidates) same-names same is room ∙ ap (λ (l : List NamedIndex). Ok l) same
+
+  -- the fault of the number
+  pub number-fault : (f g : Fault) → refusal.Fault f ≡ refusal.Fault g → Err f ≡ most_meant n → Err g ≡ most_meant n
+  number-fault f g is told = let same : f ≡ g = cc (is) in sym (ap (λ (h : Fault). Err h) same) ∙ told
 
   -- the fault of the candidates, and of the SELECTs
   pub candidates-fault : (e : Refusal) (f : Fault) → e ≡ refusal.Fault f → TellsCandidates c start text tokens w (Err e) → CandidatesMean c start tokens (candidates_of w.first w.more) (Err f)

@@ -1,5 +1,5 @@
 -- From what is told of the parts of ADVISE to what is told of the whole.
-use Rattle.std.proofs.Common.{◌≡◌, ◌<◌, ◌≤◌, ◌+◌, ◌∙◌, ◌∷◌, ◌++◌, ℕ, List, [], length, map, drop, Result, Ok, Err, IfErr, IfOk, inl, inr, refl, sym, ap, subst, arith, length-append}
+use Rattle.std.proofs.Common.{◌≡◌, ◌<◌, ◌≤◌, ◌+◌, ◌∙◌, ◌∷◌, ◌++◌, ℕ, List, [], length, map, Result, Ok, Err, IfErr, IfOk, inl, inr, sym, ap, subst, arith, length-append}
 use Rattle.std.specs.Result.{IsErrAnd}
 use Rattle.pg_base.specs.declared.faults.Fault.{Fault}
 use Rattle.pg_base.specs.declared.faults.Refusal.{Refusal}
@@ -14,7 +14,7 @@ use Rattle.index_candidates.specs.Candidates.{with_candidates}
 use Rattle.advise_reader.specs.declared.advising.Advising.{Advising}
 use Rattle.advise_reader.specs.declared.candidates.AllRead.{AllRead}
 use Rattle.advise_reader.specs.Candidates.{with_room}
-use Rattle.advise_reader.specs.Meaning.{Asked, CandidatesMean, QueriesMean, most_meant}
+use Rattle.advise_reader.specs.Meaning.{CandidatesMean, QueriesMean, most_meant}
 use Rattle.advise_reader.specs.Parts.{candidates_of, name_token}
 use Rattle.advise_reader.specs.Queries.{QueryMeans}
 use Rattle.advise_reader.specs.Soundness.{IsSound}

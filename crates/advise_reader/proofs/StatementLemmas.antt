@@ -1,15 +1,14 @@
 -- The tokens of an ADVISE.
-use Rattle.std.proofs.Common.{◌≡◌, ◌<◌, ◌≤◌, ◌+◌, ℕ, Bool, true, false, List, [], ◌∷◌, ◌++◌, length, map, drop, max, Result, Ok, Err, inl, inr, refl, sym, ap, subst, ◌∙◌, arith, append_assoc}
+use Rattle.std.proofs.Common.{◌≡◌, ℕ, Bool, true, false, List, [], ◌∷◌, ◌++◌, map, drop, Result, Ok, Err, inl, inr, refl, sym, ap, subst, ◌∙◌, arith, append_assoc}
 use Rattle.std.proofs.lemmas.List.{drop-map}
 use Rattle.pg_base.specs.declared.faults.Fault.{Fault}
-use Rattle.pg_base.specs.declared.limits.TheConstants.{MOST_LEVELS}
 use Rattle.sql_lex.specs.declared.tokens.Token.{Token}
 use Rattle.sql_grammar.specs.declared.class.Free.TheVariants.{Advise as AdviseWord}
-use Rattle.sql_grammar.specs.declared.class.Symbol.TheVariants.{Close, Open}
+use Rattle.sql_grammar.specs.declared.class.Symbol.TheVariants.{Close}
 use Rattle.sql_grammar.specs.Reading.{terminal_of}
-use Rattle.sql_grammar.specs.Terminals.{Said, Terminal, free, t_mark, t_name, t_number}
+use Rattle.sql_grammar.specs.Terminals.{Said, Terminal, free, t_mark, t_name}
 use Rattle.sql_grammar.specs.Syntax.{select_from, semicolon, text_end, no_explain, explain, explain_table, ordered_select, index_on, Advise, advise_of, Statement, empty, create_table, create_index, query, copy, sizes, column_statistics, analyze, advise, check, use_plan}
-use Rattle.sql_grammar.specs.Words.{words_of, words_of_advise, words_of_cand, words_of_cands, words_of_advised, words_of_more_advised, words_of_ending, levels_of_cand, levels_of_cands, levels_of_advised, levels_of_more_advised}
+use Rattle.sql_grammar.specs.Words.{words_of, words_of_advise, words_of_advised, words_of_more_advised, words_of_ending}
 use Rattle.sql_grammar.specs.Faults.{IsWhole, terminals}
 use Rattle.sql_grammar.specs.Spelled.{IsSpelled}
 use Rattle.sql_grammar.specs.Unique.{token_in}

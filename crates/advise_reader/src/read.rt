@@ -50,12 +50,7 @@ fn most(text: &[u8], tokens: &Tokens) -> Result<u8, Fault>
 }
 
 /// What an ADVISE asks whose syntax has no fault.
-fn parts(
-    alloc: Global,
-    cat: &Catalog,
-    text: &[u8],
-    tokens: &Tokens,
-) -> Result<Advising, Refusal>
+fn parts(alloc: Global, cat: &Catalog, text: &[u8], tokens: &Tokens) -> Result<Advising, Refusal>
     requires short { length text.now ≤ 2 ^ 31 }
     requires words { (from : ℕ) × AreWords text.now from tokens.now }
     requires there { (n : Said) × (w : Row) × (q : QueryRow) × PartsStand text.now tokens.now n w q }

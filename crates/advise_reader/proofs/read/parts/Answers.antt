@@ -17,7 +17,7 @@ pub returns-in_err-candidates-clause-told : goal.returns-in_err-candidates-claus
 returns-in_err-candidates-clause-told c = λ n w q start later whole p.
     parts-stopped c.args.cat.now start c.args.text.now c.args.tokens.now n w q _ c.from_residual-in_err-candidates.result
     (λ f is. candidates-wrong c.args.cat.now start c.args.tokens.now n w q c.in_ok-most.most f (c.in_ok-most.ensures.told n p.behind-number p.number)
-        (candidates-fault c.args.cat.now start c.args.text.now c.args.tokens.now n w q _ f is (c.in_err-candidates.ensures.told w start later whole p.row)))
+    (candidates-fault c.args.cat.now start c.args.text.now c.args.tokens.now n w q _ f is (c.in_err-candidates.ensures.told w start later whole p.row)))
     c.from_residual-in_err-candidates.ensures.1
 
 pub returns-in-Some-clause-told : goal.returns-in-Some-clause-told
@@ -48,8 +48,8 @@ returns-in_err-queries-clause-told c = λ n w q start later whole p.
     let told = c.in_ok-candidates.ensures.told w start later whole p.row in
     parts-stopped c.args.cat.now start c.args.text.now c.args.tokens.now n w q _ c.from_residual-in_err-queries.result
     (λ f is. queries-wrong c.args.cat.now start c.args.tokens.now n w q c.in_ok-most.most read.candidates.items f (c.in_ok-most.ensures.told n p.behind-number p.number) told.0
-        (all-room-of c.args.cat.now start c.args.text.now c.args.tokens.now n w q read c.deref.result.now c.deref-2.result.now c.deref.ensures.value c.deref-2.ensures.value told c.in_default.ensures.told)
-        (queries-fault c.args.cat.now start c.args.text.now c.args.tokens.now n w q _ f is (c.in_err-queries.ensures.told q start later whole (p.queries read.end told.2))))
+    (all-room-of c.args.cat.now start c.args.text.now c.args.tokens.now n w q read c.deref.result.now c.deref-2.result.now c.deref.ensures.value c.deref-2.ensures.value told c.in_default.ensures.told)
+    (queries-fault c.args.cat.now start c.args.text.now c.args.tokens.now n w q _ f is (c.in_err-queries.ensures.told q start later whole (p.queries read.end told.2))))
     c.from_residual-in_err-queries.ensures.1
 
 pub returns-clause-told : goal.returns-clause-told

@@ -1,5 +1,5 @@
 -- The candidates of ADVISE, read from the left.
-use Rattle.std.proofs.Common.{◌≡◌, ◌<◌, ◌≤◌, ◌+◌, ◌∙◌, ◌++◌, ◌↔◌, IsTrue, inl, inr, ℕ, Bool, true, false, cond, nat_lt, max, List, [], ◌∷◌, length, map, drop, take, get_or, All, Result, Ok, Err, IsErrAnd, refl, sym, ap, subst, arith, append_assoc, append-nil, length-append, Contains}
+use Rattle.std.proofs.Common.{◌≡◌, ◌<◌, ◌≤◌, ◌+◌, ◌∙◌, ◌++◌, ◌↔◌, IsTrue, inl, inr, ℕ, Bool, true, false, cond, nat_lt, max, List, [], ◌∷◌, length, map, drop, take, get_or, Result, Ok, Err, IsErrAnd, refl, sym, ap, subst, arith, append_assoc, length-append, Contains}
 use Rattle.std.proofs.lemmas.Bool.Decides.{nat_tests}
 use Rattle.std.proofs.lemmas.List.{drop_more, get_or_default, map-append}
 use Rattle.std.proofs.lemmas.List.Elements.{All-nil, All-push, Contains-append_cases}
@@ -21,7 +21,7 @@ use Rattle.sql_grammar.proofs.ExprTrees.{tokens-are}
 use Rattle.sql_cursor.specs.Reading.{Begins, BeginsNot}
 use Rattle.catalog.specs.Contents.{Contents, NamedIndex, all_names, index_names, table_names}
 use Rattle.catalog.specs.Indexes.{IsFirstTwice, columns_of}
-use Rattle.catalog.specs.Tables.{Fits, IsUnused}
+use Rattle.catalog.specs.Tables.{Fits}
 use Rattle.catalog.proofs.NameLaws.{distinct-push, not_among}
 use Rattle.index_candidates.specs.Candidates.{IsCandidateIndex, names_of, with_candidates}
 use Rattle.index_reader.specs.Candidates.{IsCandAt}
@@ -33,7 +33,7 @@ use Rattle.advise_reader.specs.Candidates.{CandidateMeans, IsAllowed, IsNotAllow
 use Rattle.advise_reader.specs.Places.{word_fault}
 use Rattle.advise_reader.specs.Meaning.{CandidatesMean}
 use Rattle.advise_reader.specs.Parts.{candidates_of, name_token}
-use Rattle.advise_reader.specs.Stages.{AreRead, Then}
+use Rattle.advise_reader.specs.Stages.{AreRead}
 use Rattle.advise_reader.specs.Walk.{AreApart, Row, RowAt, Stands, TellsCandidate, TellsCandidates}
 use Rattle.advise_reader.proofs.NameLemmas.{by-candidate, by-index, by-table}
 use Rattle.advise_reader.proofs.StandLemmas.{behind, front, some-token, stands-within}

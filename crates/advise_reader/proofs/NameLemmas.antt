@@ -1,5 +1,5 @@
 -- Names that tables, indexes and candidates have.
-use Rattle.std.proofs.Common.{◌≡◌, ◌<◌, ◌↔◌, ◌||◌, ◌⊎◌, inl, inr, IsTrue, ℕ, zero, suc, Bool, true, false, List, [], ◌∷◌, ◌++◌, length, map, get_or, Contains, Option, Some, None, MatchOption, is_some, refl, sym, ap, subst, ◌∙◌, arith}
+use Rattle.std.proofs.Common.{◌≡◌, ◌<◌, ◌↔◌, ◌||◌, ◌⊎◌, inl, inr, IsTrue, ℕ, zero, suc, Bool, true, false, List, [], ◌∷◌, ◌++◌, length, get_or, Contains, Option, MatchOption, is_some, refl, sym, ap, subst, ◌∙◌, arith}
 use Rattle.std.specs.List.{list_any}
 use Rattle.std.specs.Str.{bytes_eq}
 use Rattle.std.proofs.lemmas.List.{map-append}
@@ -67,12 +67,12 @@ module _ (c : Contents) (xs : List NamedIndex) (q : List ℕ) where
   pub taken-by-candidate : (b : Bool) (t : Option TableNo) (i : Option IndexNo) → MatchOption t (IsFree c q) (HasTableName c q) → MatchOption i (IsFreeIndex c q) (HasIndexName c q) →
       is_some t ≡ false → is_some i ≡ false → b ≡ list_any (λ x. bytes_eq q x.name) xs → IsTrue b ↔ Contains (all_names (with_candidates c xs)) q
   taken-by-candidate b t i tm im no-table no-index is = (
-      λ h. by-candidate (among q xs (sym is ∙ h)),
-      λ h. elim (cases h) [
-        | inl k ↦ absurd (free c q t tm no-table k)
-        | inr k ↦ is ∙ by k
-      ],
-    )
+    λ h. by-candidate (among q xs (sym is ∙ h)),
+    λ h. elim (cases h) [
+      | inl k ↦ absurd (free c q t tm no-table k)
+      | inr k ↦ is ∙ by k
+    ],
+  )
     where
       by : Contains (index_names c) q ⊎ Contains (names_of xs) q → list_any (λ x. bytes_eq q x.name) xs ≡ true
       by (inl k) = absurd (none-index i im no-index k)

@@ -1,5 +1,5 @@
 -- The SELECTs of ADVISE, read from the left.
-use Rattle.std.proofs.Common.{◌≡◌, ◌<◌, ◌≤◌, ◌+◌, ◌∙◌, ◌++◌, inl, inr, ℕ, true, cond, nat_lt, max, List, [], ◌∷◌, length, map, drop, take, get_or, Result, Ok, Err, IsErrAnd, Vec, refl, sym, ap, subst, arith, append_assoc, append-nil, length-append}
+use Rattle.std.proofs.Common.{◌≡◌, ◌<◌, ◌≤◌, ◌+◌, ◌∙◌, ◌++◌, inl, inr, ℕ, true, cond, nat_lt, List, [], ◌∷◌, length, map, drop, take, get_or, Result, Ok, Err, IsErrAnd, Vec, refl, sym, ap, subst, arith, append_assoc, length-append}
 use Rattle.std.specs.declared.alloc.Global.{Global}
 use Rattle.std.proofs.lemmas.Bool.Decides.{nat_tests}
 use Rattle.std.proofs.lemmas.List.{drop_more}

@@ -1,5 +1,5 @@
 -- The indexes of a table with candidates.
-use Rattle.std.proofs.Common.{◌≡◌, ◌≢◌, ◌<◌, ◌≤◌, ◌+◌, ℕ, Bool, true, false, cond, nat_eq, nat_lt, List, [], ◌∷◌, ◌++◌, length, take, drop, get_or, All, Result, Ok, Err, refl, sym, ap, subst, ◌∙◌, arith, append_assoc, append-nil, length-append}
+use Rattle.std.proofs.Common.{◌≡◌, ◌≢◌, ◌<◌, ◌≤◌, ◌+◌, ℕ, Bool, true, false, cond, nat_eq, nat_lt, List, [], ◌∷◌, ◌++◌, length, take, drop, get_or, Result, Ok, Err, refl, sym, ap, subst, ◌∙◌, arith, append_assoc, append-nil, length-append}
 use Rattle.std.proofs.lemmas.Bool.Decides.{nat_tests}
 use Rattle.std.proofs.lemmas.List.{take_all, take_more, drop_more, drop_all}
 use Rattle.pg_base.specs.declared.faults.Code.TheVariants.{S15}
@@ -106,6 +106,7 @@ pub room-step : (c : Contents) (names : List Token) (xs : List NamedIndex) (n : 
 room-step c names xs n x t count lt many at on counted few so all =
     let there : t ≡ (get_or xs n x).index.table = on ∙ ap (λ (y : NamedIndex). y.index.table) at in
     let room : length (indexes_of (with_candidates c (take n xs)) (get_or xs n x).index.table) < MOST_INDEXES =
-        subst (λ (u : TableNo). length (indexes_of (with_candidates c (take n xs)) u) < MOST_INDEXES) there (omega (arith, counted, few)) in
-    (sym (finds-room c names xs n no_token x (omega (arith, lt, many)) lt room) ∙ so,
-    subst (λ (l : List NamedIndex). HaveRoom (with_candidates c l)) (sym (take_more xs n x lt)) (room-more c (take n xs) (get_or xs n x) room all))
+    subst (λ (u : TableNo). length (indexes_of (with_candidates c (take n xs)) u) < MOST_INDEXES) there (omega (arith, counted, few)) in (
+      sym (finds-room c names xs n no_token x (omega (arith, lt, many)) lt room) ∙ so,
+      subst (λ (l : List NamedIndex). HaveRoom (with_candidates c l)) (sym (take_more xs n x lt)) (room-more c (take n xs) (get_or xs n x) room all),
+    )

@@ -1,15 +1,14 @@
 -- The tokens of an ADVISE.
-use Rattle.std.proofs.Common.{◌≡◌, ◌<◌, ◌≤◌, ◌+◌, ℕ, Bool, true, false, List, [], ◌∷◌, ◌++◌, length, map, drop, max, Result, Ok, Err, inl, inr, refl, sym, ap, subst, ◌∙◌, arith, append_assoc}
+use Rattle.std.proofs.Common.{◌≡◌, ℕ, Bool, true, false, List, [], ◌∷◌, ◌++◌, map, drop, Result, Ok, Err, inl, inr, refl, sym, ap, subst, ◌∙◌, arith, append_assoc}
 use Rattle.std.proofs.lemmas.List.{drop-map}
 use Rattle.pg_base.specs.declared.faults.Fault.{Fault}
-use Rattle.pg_base.specs.declared.limits.TheConstants.{MOST_LEVELS}
 use Rattle.sql_lex.specs.declared.tokens.Token.{Token}
 use Rattle.sql_grammar.specs.declared.class.Free.TheVariants.{Advise as AdviseWord}
-use Rattle.sql_grammar.specs.declared.class.Symbol.TheVariants.{Close, Open}
+use Rattle.sql_grammar.specs.declared.class.Symbol.TheVariants.{Close}
 use Rattle.sql_grammar.specs.Reading.{terminal_of}
-use Rattle.sql_grammar.specs.Terminals.{Said, Terminal, free, t_mark, t_name, t_number}
+use Rattle.sql_grammar.specs.Terminals.{Said, Terminal, free, t_mark, t_name}
 use Rattle.sql_grammar.specs.Syntax.{select_from, semicolon, text_end, no_explain, explain, explain_table, ordered_select, index_on, Advise, advise_of, Statement, empty, create_table, create_index, query, copy, sizes, column_statistics, analyze, advise, check, use_plan}
-use Rattle.sql_grammar.specs.Words.{words_of, words_of_advise, words_of_cand, words_of_cands, words_of_advised, words_of_more_advised, words_of_ending, levels_of_cand, levels_of_cands, levels_of_advised, levels_of_more_advised}
+use Rattle.sql_grammar.specs.Words.{words_of, words_of_advise, words_of_advised, words_of_more_advised, words_of_ending}
 use Rattle.sql_grammar.specs.Faults.{IsWhole, terminals}
 use Rattle.sql_grammar.specs.Spelled.{IsSpelled}
 use Rattle.sql_grammar.specs.Unique.{token_in}
@@ -18,12 +17,11 @@ use Rattle.sql_cursor.specs.Reading.{Begins, BeginsNot}
 use Rattle.catalog.specs.Contents.{Contents, NamedIndex}
 use Rattle.sql_query.specs.Queries.{Query}
 use Rattle.advise_reader.specs.Candidates.{with_room}
-use Rattle.advise_reader.specs.Meaning.{Asked, CandidatesMean, Means, QueriesMean, most_meant}
+use Rattle.advise_reader.specs.Meaning.{Asked, CandidatesMean, Means, PartsMean, QueriesMean, most_meant}
 use Rattle.advise_reader.specs.Parts.{candidates_of, name_token}
-use Rattle.advise_reader.specs.Stages.{Then}
-use Rattle.advise_reader.specs.Walk.{QueryRow, QueryRowAt, Row, RowAt}
+use Rattle.advise_reader.specs.Walk.{QueryRow, Row}
 use Rattle.advise_reader.proofs.StandLemmas.{behind}
-use Rattle.advise_reader.specs.Statements.{begins_advise}
+use Rattle.advise_reader.specs.Statements.{PartsStand, begins_advise}
 
 -- a statement that begins with ADVISE is one
 is-advise : (x : Statement) (ts : List Terminal) → words_of x ≡ ts → begins_advise ts ≡ true → (y : Advise) × (x ≡ advise y)
@@ -65,12 +63,7 @@ advises text tokens whole opens =
 
 -- what its parts mean, in turn
 abbrev pub InTurn : Contents → Token → List Token → Said → Row → QueryRow → Result Asked Fault → Type 0
-InTurn c start tokens n w q =
-    Then ℕ Asked (λ r. r ≡ most_meant n) (λ most.
-    Then (List NamedIndex) Asked (CandidatesMean c start tokens (candidates_of w.first w.more)) (λ candidates.
-    Then (List NamedIndex) Asked (λ r. r ≡ with_room c [] (map name_token (candidates_of w.first w.more)) candidates) (λ all.
-    Then (List Query) Asked (QueriesMean c start q.queries) (λ queries r.
-    r ≡ Ok (record { most = most; candidates = all; queries = queries })))))
+InTurn c start tokens n w q = PartsMean c start tokens n (candidates_of w.first w.more) q.queries
 
 -- its parts, and where they stand
 pub record Told (text : List ℕ) (tokens : List Token) (y : Advise) : Type 0 where
@@ -78,13 +71,9 @@ pub record Told (text : List ℕ) (tokens : List Token) (y : Advise) : Type 0 wh
   pub later : List Token
   pub begins : tokens ≡ start ∷ later
   pub number : Said
-  pub behind-number : List Terminal
-  pub number-there : terminals text (drop 1 tokens) ≡ t_number number ∷ behind-number
   pub row : Row
-  pub row-there : RowAt text tokens 3 row
   pub queries : QueryRow
-  pub some : 0 < length queries.queries
-  pub queries-there : (end : ℕ) → terminals text (drop end tokens) ≡ t_mark Close row.close ∷ row.rest → QueryRowAt text tokens (end + 1) queries
+  pub stands : PartsStand text tokens number row queries
   pub means : (c : Contents) (r : Result Asked Fault) → InTurn c start tokens number row queries r → Means c tokens y r
 
 pub told : (text : List ℕ) (tokens : List Token) (y : Advise) → IsSpelled (advise y) text tokens → Told text tokens y
@@ -96,20 +85,22 @@ told text tokens (advise_of p k n o c cs m x xs e) s =
       later = map token_in (drop 1 ws);
       begins = sym (tokens-are ws text tokens s.words);
       number = n;
-      behind-number = drop 2 ws;
-      number-there = sym (drop-map (terminal_of text) 1 tokens) ∙ sym (ap (drop 1) s.words);
       row = record { first = c; more = cs; close = m; rest = words_of_advised x ++ (words_of_more_advised xs ++ words_of_ending e) };
-      row-there = record {
-        are = sym (drop-map (terminal_of text) 3 tokens) ∙ sym (ap (drop 3) s.words);
-        limits = s.limits;
-        levels = omega (arith, low);
-      };
       queries = record { queries = x ∷ xs; ending = e };
-      some = omega arith;
-      queries-there = λ end is. record {
-        are = behind text tokens end (t_mark Close m ∷ []) (words_of_advised x ++ (words_of_more_advised xs ++ words_of_ending e)) is ∙ sym (append_assoc (words_of_advised x) (words_of_more_advised xs) (words_of_ending e));
-        limits = s.limits;
-        levels = omega (arith, low);
+      stands = record {
+        behind-number = drop 2 ws;
+        number = sym (drop-map (terminal_of text) 1 tokens) ∙ sym (ap (drop 1) s.words);
+        row = record {
+          are = sym (drop-map (terminal_of text) 3 tokens) ∙ sym (ap (drop 3) s.words);
+          limits = s.limits;
+          levels = omega (arith, low);
+        };
+        some = omega arith;
+        queries = λ end is. record {
+          are = behind text tokens end (t_mark Close m ∷ []) (words_of_advised x ++ (words_of_more_advised xs ++ words_of_ending e)) is ∙ sym (append_assoc (words_of_advised x) (words_of_more_advised xs) (words_of_ending e));
+          limits = s.limits;
+          levels = omega (arith, low);
+        };
       };
       means = λ d r h. h;
     }

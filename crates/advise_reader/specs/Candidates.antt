@@ -29,9 +29,9 @@ pub record IsAllowed (c : Contents) (read : Reading) : Type 0 where
 pub data IsNotAllowed (c : Contents) (tokens : List Token) (read : Reading) (f : Fault) : Type 0 where
   taken : Contains (all_names c) read.name → f ≡ word_fault S5 tokens (slice_index_or read.at 0 0) → IsNotAllowed c tokens read f
   repeated : (place : ℕ) → IsUnused c read.name → IsFirstTwice (columns_of read.index) place →
-    f ≡ word_fault S6 tokens (slice_index_or read.at (place + 1) 0) → IsNotAllowed c tokens read f
+      f ≡ word_fault S6 tokens (slice_index_or read.at (place + 1) 0) → IsNotAllowed c tokens read f
   formless : IsUnused c read.name → AreDifferent (columns_of read.index) → has_form read.index ≡ false →
-    f ≡ word_fault S17 tokens read.method → IsNotAllowed c tokens read f
+      f ≡ word_fault S17 tokens read.method → IsNotAllowed c tokens read f
 
 -- the candidate, or why it may not be made
 abbrev pub MayBeMade : Contents → List Token → Reading → Result NamedIndex Fault → Type 0

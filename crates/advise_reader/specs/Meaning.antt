@@ -34,11 +34,15 @@ CandidatesMean c start tokens xs = AreRead Cand NamedIndex (CandidateMeans c sta
 abbrev pub QueriesMean : Contents → Token → List Advised → Result (List Query) Fault → Type 0
 QueriesMean c start qs = AreRead Advised Query (QueryMeans c start) [] qs
 
+-- what its number, its candidates and its SELECTs mean, in turn
+abbrev pub PartsMean : Contents → Token → List Token → Said → List Cand → List Advised → Result Asked Fault → Type 0
+PartsMean c start tokens n xs qs =
+    Then ℕ Asked (λ r. r ≡ most_meant n) (λ most.
+    Then (List NamedIndex) Asked (CandidatesMean c start tokens xs) (λ candidates.
+    Then (List NamedIndex) Asked (λ r. r ≡ with_room c [] (map name_token xs) candidates) (λ all.
+    Then (List Query) Asked (QueriesMean c start qs) (λ queries r.
+    r ≡ Ok (record { most = most; candidates = all; queries = queries })))))
+
 -- what ADVISE of these tokens means
 abbrev pub Means : Contents → List Token → Advise → Result Asked Fault → Type 0
-Means c tokens (advise_of _ start n _ x xs _ q qs _) =
-    Then ℕ Asked (λ r. r ≡ most_meant n) (λ most.
-    Then (List NamedIndex) Asked (CandidatesMean c start tokens (candidates_of x xs)) (λ candidates.
-    Then (List NamedIndex) Asked (λ r. r ≡ with_room c [] (map name_token (candidates_of x xs)) candidates) (λ all.
-    Then (List Query) Asked (QueriesMean c start (q ∷ qs)) (λ queries r.
-    r ≡ Ok (record { most = most; candidates = all; queries = queries })))))
+Means c tokens (advise_of _ start n _ x xs _ q qs _) = PartsMean c start tokens n (candidates_of x xs) (q ∷ qs)

@@ -1,17 +1,20 @@
 -- What the tokens of a statement for ADVISE mean (own).
-use Rattle.std.specs.Prelude.{◌≡◌, ◌⊎◌, ℕ, List, [], ◌∷◌, Bool, true, false, Result, Err}
+use Rattle.std.specs.Prelude.{◌≡◌, ◌⊎◌, ◌<◌, ◌+◌, ℕ, List, ◌∷◌, Bool, true, false, drop, length, Result, Ok, Err}
 use Rattle.pg_base.specs.declared.faults.Fault.{Fault}
 use Rattle.pg_base.specs.declared.faults.Refusal.{Refusal}
 use Rattle.pg_base.specs.declared.faults.Refusal.TheVariants as refusal
 use Rattle.sql_lex.specs.declared.tokens.Token.{Token}
 use Rattle.sql_grammar.specs.declared.class.Free.TheVariants.{Advise as AdviseWord}
-use Rattle.sql_grammar.specs.Terminals.{Terminal, free, t_name}
+use Rattle.sql_grammar.specs.declared.class.Symbol.TheVariants.{Close}
+use Rattle.sql_grammar.specs.Terminals.{Said, Terminal, free, t_mark, t_name, t_number}
 use Rattle.sql_grammar.specs.Syntax.{Advise, advise}
-use Rattle.sql_grammar.specs.Faults.{IsStatement, IsFirstFault}
+use Rattle.sql_grammar.specs.Faults.{IsStatement, IsFirstFault, terminals}
 use Rattle.sql_grammar.specs.Spelled.{IsSpelled}
 use Rattle.catalog.specs.Contents.{Contents}
 use Rattle.advise_reader.specs.declared.advising.Advising.{Advising}
-use Rattle.advise_reader.specs.Meaning.{Asked, Means}
+use Rattle.advise_reader.specs.Meaning.{Asked, Means, PartsMean}
+use Rattle.advise_reader.specs.Parts.{candidates_of}
+use Rattle.advise_reader.specs.Walk.{QueryRow, QueryRowAt, Row, RowAt}
 
 -- ADVISE is the first word
 abbrev pub begins_advise : List Terminal → Bool
@@ -36,3 +39,17 @@ AreAdvise text tokens = (x : Advise) × IsSpelled (advise x) text tokens
 abbrev pub IsRefusal : Contents → List ℕ → List Token → Refusal → Type 0
 IsRefusal c text tokens (refusal.Fault f) = IsFirstFault IsStatement text tokens f ⊎ IsMeaning c text tokens (Err f)
 IsRefusal c text tokens refusal.Memory = AreAdvise text tokens
+
+-- the number, the candidates and the SELECTs of an ADVISE stand where they are read
+pub record PartsStand (text : List ℕ) (tokens : List Token) (n : Said) (w : Row) (q : QueryRow) : Type 0 where
+  pub behind-number : List Terminal
+  pub number : terminals text (drop 1 tokens) ≡ t_number n ∷ behind-number
+  pub row : RowAt text tokens 3 w
+  pub some : 0 < length q.queries
+  pub queries : (end : ℕ) → terminals text (drop end tokens) ≡ t_mark Close w.close ∷ w.rest → QueryRowAt text tokens (end + 1) q
+
+-- what is told of them: what they mean, or their first fault, or there was no memory
+abbrev pub TellsParts : Contents → Token → List Token → Said → Row → QueryRow → Result Advising Refusal → Type 0
+TellsParts c start tokens n w q (Ok a) = PartsMean c start tokens n (candidates_of w.first w.more) q.queries (Ok (asked a))
+TellsParts c start tokens n w q (Err (refusal.Fault f)) = PartsMean c start tokens n (candidates_of w.first w.more) q.queries (Err f)
+TellsParts c start tokens n w q (Err refusal.Memory) = Unit {0}

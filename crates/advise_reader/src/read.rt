@@ -2,11 +2,13 @@
 
 ghost use Rattle.std.specs.Prelude.{◌≡◌, ◌^◌, ◌≤◌, ℕ, List, ◌∷◌, drop, length, true, IfOk, IfErr, Ok};
 ghost use Rattle.sql_lex.specs.Words.{AreWords};
+ghost use Rattle.sql_lex.specs.declared.tokens.Token.{Token};
 ghost use Rattle.sql_grammar.specs.Faults.{terminals};
 ghost use Rattle.sql_grammar.specs.Terminals.{Said, Terminal, t_number};
 ghost use Rattle.advise_reader.specs.Meaning.{most_meant};
 ghost use Rattle.advise_reader.specs.Soundness.{IsSound};
-ghost use Rattle.advise_reader.specs.Statements.{asked, begins_advise, IsMeaning, IsRefusal};
+ghost use Rattle.advise_reader.specs.Statements.{asked, begins_advise, IsMeaning, IsRefusal, PartsStand, TellsParts};
+ghost use Rattle.advise_reader.specs.Walk.{QueryRow, Row};
 
 use crate::advising::Advising;
 use crate::candidates::{AllRead, candidates};
@@ -47,6 +49,32 @@ fn most(text: &[u8], tokens: &Tokens) -> Result<u8, Fault>
     Ok(number.value as u8)
 }
 
+/// What an ADVISE asks whose syntax has no fault.
+fn parts(alloc: Global, cat: &Catalog, text: &[u8], tokens: &Tokens) -> Result<Advising, Refusal>
+    requires short { length text.now ≤ 2 ^ 31 }
+    requires words { (from : ℕ) × AreWords text.now from tokens.now }
+    requires there { (n : Said) × (w : Row) × (q : QueryRow) × PartsStand text.now tokens.now n w q }
+    ensures told { (n : Said) (w : Row) (q : QueryRow) (start : Token) (later : List Token) → tokens.now ≡ start ∷ later →
+        PartsStand text.now tokens.now n w q → TellsParts cat.now start tokens.now n w q result }
+    ensures sound { IfOk result (λ a. IsSound cat.now (asked a)) }
+{
+    let most = most(text, tokens)?;
+    let AllRead {
+        candidates,
+        names,
+        end,
+    } = candidates(alloc, cat, text, tokens, 3)?;
+    if let Some(fault) = room_fault(cat, &names, &candidates) {
+        return Err(Refusal::Fault(fault));
+    }
+    let queries = queries(alloc, cat, text, tokens, end + 1)?;
+    Ok(Advising {
+        most,
+        candidates,
+        queries,
+    })
+}
+
 /// Reads the ADVISE of these tokens: what it asks, bound to the catalogue, or its first fault.
 ///
 /// Faults of syntax come first (42601, 54000). Then comes a number past 10 (22023), at the number. Then the candidates are read
@@ -77,19 +105,5 @@ pub fn read_advise(
     if let Some(fault) = statement_fault(text, tokens, 0) {
         return Err(Refusal::Fault(fault));
     }
-    let most = most(text, tokens)?;
-    let AllRead {
-        candidates,
-        names,
-        end,
-    } = candidates(alloc, cat, text, tokens, 3)?;
-    if let Some(fault) = room_fault(cat, &names, &candidates) {
-        return Err(Refusal::Fault(fault));
-    }
-    let queries = queries(alloc, cat, text, tokens, end + 1)?;
-    Ok(Advising {
-        most,
-        candidates,
-        queries,
-    })
+    parts(alloc, cat, text, tokens)
 }

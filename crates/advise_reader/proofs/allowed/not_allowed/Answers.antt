@@ -1,4 +1,3 @@
-use Rattle.catalog.specs.Contents.{all_names}
 use Rattle.index_candidates.specs.Candidates.{with_candidates}
 use Rattle.index_reader.specs.Reads.{reading}
 use Rattle.advise_reader.proofs.CandidateLemmas.{repeated-by}

@@ -32,7 +32,7 @@ returns-in_err-candidate-clause-told c = λ w start later whole there.
     let (next, left, s, ends, low) = first-stands c.args.text.now c.args.tokens.now c.each.at g.left g.there in
     stopped c.args.cat.now start c.args.text.now c.args.tokens.now w _ c.from_residual.result
     (λ f is. goes-wrong c.args.cat.now start c.args.text.now c.args.tokens.now c.each.candidates.items c.each.names.items c.each.at w g f
-        (one-wrong c.args.cat.now start c.args.tokens.now c.deref.result.now c.each.candidates.items c.each.at g.left.first _ f c.deref.ensures.value is (c.in_err-candidate.ensures.told g.left.first next left start later whole s ends low)))
+    (one-wrong c.args.cat.now start c.args.tokens.now c.deref.result.now c.each.candidates.items c.each.at g.left.first _ f c.deref.ensures.value is (c.in_err-candidate.ensures.told g.left.first next left start later whole s ends low)))
     c.from_residual.ensures.1
 
 pub returns-then-not-takes_mark-clause-told : goal.returns-then-not-takes_mark-clause-told
@@ -40,7 +40,7 @@ returns-then-not-takes_mark-clause-told c = λ w start later whole there.
     let g = c.each.invariant.0 w start later whole there in
     let (next, left, s, ends, low) = first-stands c.args.text.now c.args.tokens.now c.each.at g.left g.there in
     let m = one-more c.args.cat.now start c.args.text.now c.args.tokens.now c.each.candidates.items c.each.names.items c.each.at w g c.deref.result.now c.in_ok-candidate.field-0 c.items.result.now _ c.push-in-each.new.self.items c.push.new.self.items c.deref.ensures.value c.items.ensures
-        (c.in_ok-candidate.ensures.told g.left.first next left start later whole s ends low) c.in_ok-push-2.ensures.items c.in_ok-push.ensures.items in
+    (c.in_ok-candidate.ensures.told g.left.first next left start later whole s ends low) c.in_ok-push-2.ensures.items c.in_ok-push.ensures.items in
     more-out c.args.cat.now start c.args.text.now c.args.tokens.now c.each.candidates.items c.each.names.items c.each.at w g c.in_ok-candidate.field-0.end c.push-in-each.new.self.items c.push.new.self.items m (subst (BeginsNot (t_mark Comma)) c.new-behind.ensures (c.if-not-takes_mark.ensures.other refl))
 
 pub returns-then-not-takes_mark-clause-as_many : goal.returns-then-not-takes_mark-clause-as_many
@@ -59,11 +59,11 @@ overflow_add-at c =
 pub each-preserved : goal.each-preserved
 each-preserved c = (
   λ w start later whole there.
-    let g = c.each.invariant.0 w start later whole there in
-    let (next, left, s, ends, low) = first-stands c.args.text.now c.args.tokens.now c.each.at g.left g.there in
-    let m = one-more c.args.cat.now start c.args.text.now c.args.tokens.now c.each.candidates.items c.each.names.items c.each.at w g c.deref.result.now c.in_ok-candidate.field-0 c.items.result.now _ c.push-in-each.new.self.items c.push.new.self.items c.deref.ensures.value c.items.ensures
-        (c.in_ok-candidate.ensures.told g.left.first next left start later whole s ends low) c.in_ok-push-2.ensures.items c.in_ok-push.ensures.items in
-    more-on c.args.cat.now start c.args.text.now c.args.tokens.now c.each.candidates.items c.each.names.items c.each.at w g c.in_ok-candidate.field-0.end c.push-in-each.new.self.items c.push.new.self.items c.takes_mark.new.self m (subst (λ (ts : List Terminal). Begins (t_mark Comma) ts c.takes_mark.new.self) c.new-behind.ensures (c.if-not-takes_mark.ensures.took refl)),
+      let g = c.each.invariant.0 w start later whole there in
+      let (next, left, s, ends, low) = first-stands c.args.text.now c.args.tokens.now c.each.at g.left g.there in
+      let m = one-more c.args.cat.now start c.args.text.now c.args.tokens.now c.each.candidates.items c.each.names.items c.each.at w g c.deref.result.now c.in_ok-candidate.field-0 c.items.result.now _ c.push-in-each.new.self.items c.push.new.self.items c.deref.ensures.value c.items.ensures
+      (c.in_ok-candidate.ensures.told g.left.first next left start later whole s ends low) c.in_ok-push-2.ensures.items c.in_ok-push.ensures.items in
+      more-on c.args.cat.now start c.args.text.now c.args.tokens.now c.each.candidates.items c.each.names.items c.each.at w g c.in_ok-candidate.field-0.end c.push-in-each.new.self.items c.push.new.self.items c.takes_mark.new.self m (subst (λ (ts : List Terminal). Begins (t_mark Comma) ts c.takes_mark.new.self) c.new-behind.ensures (c.if-not-takes_mark.ensures.took refl)),
   apart-then c.args.cat.now c.deref.result.now c.each.candidates.items c.push-in-each.new.self.items c.in_ok-candidate.field-0.candidate c.deref.ensures.value c.each.invariant.1 c.in_ok-candidate.ensures.room c.in_ok-candidate.ensures.sound c.in_ok-push-2.ensures.items,
   as-many c.each.candidates.items c.push-in-each.new.self.items c.each.names.items c.push.new.self.items _ _ c.each.invariant.2 c.in_ok-push-2.ensures.items c.in_ok-push.ensures.items,
 )

@@ -1,4 +1,3 @@
-use Rattle.std.proofs.Common.{sym, ◌∙◌, arith}
 use Rattle.sql_grammar.specs.Words.{words_of_windowed}
 use Rattle.advise_reader.proofs.StandLemmas.{err-no, limits-of, ok-same}
 use Rattle.advise_reader.proofs.ends.end_of_select.Goals as goal

@@ -59,9 +59,10 @@ pub returns-clause-told : goal.returns-clause-told
 returns-clause-told c = λ x next rest start later whole s low.
     let i = inner c.args.text.now c.args.tokens.now c.args.first x next rest s in
     let at = c.end_of_select-end.ensures (select_in x) (t_mark Close i.close) i.rest i.stands refl (low-inside x low) in
-    let part = part-at c.args.text.now c.args.tokens.now _ c.end_of_select-end.result (select_in x) (t_mark Close i.close) i.rest i.stands at in
-    (query-read c.args.cat.now start c.args.earlier.now x _ (omega (arith, c.requires.few, c.if-earlier-eq-MOST_QUERIES.false)) (c.in_ok-query.ensures.binding (select_in x) start later whole part),
-    query-ends c.args.text.now c.args.tokens.now c.args.first c.end_of_select-end.result x next rest s at)
+    let part = part-at c.args.text.now c.args.tokens.now _ c.end_of_select-end.result (select_in x) (t_mark Close i.close) i.rest i.stands at in (
+      query-read c.args.cat.now start c.args.earlier.now x _ (omega (arith, c.requires.few, c.if-earlier-eq-MOST_QUERIES.false)) (c.in_ok-query.ensures.binding (select_in x) start later whole part),
+      query-ends c.args.text.now c.args.tokens.now c.args.first c.end_of_select-end.result x next rest s at,
+    )
 
 pub returns-clause-ahead : goal.returns-clause-ahead
 returns-clause-ahead c =

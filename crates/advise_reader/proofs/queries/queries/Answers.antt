@@ -1,4 +1,4 @@
-use Rattle.std.proofs.Common.{◌∷◌, ◌++◌, [], List, refl, subst, sym, arith}
+use Rattle.std.proofs.Common.{List, refl, subst, sym, arith}
 use Rattle.sql_grammar.specs.Terminals.{Terminal, t_mark}
 use Rattle.sql_grammar.specs.declared.class.Symbol.TheVariants.{Open}
 use Rattle.sql_cursor.specs.Reading.{Begins, BeginsNot}
@@ -31,12 +31,13 @@ pub each-preserved : goal.each-preserved
 each-preserved c =
     let begins = subst (λ (ts : List Terminal). Begins (t_mark Open) ts c.takes_mark.new.self) c.new-from.ensures (c.if-not-takes_mark.ensures.took refl) in
     let ahead = c.in_ok-query.ensures.ahead in
-    let q = c.in_ok-query.field-0.query in
-    (λ w start later whole there.
-        let l = one-left c.args.cat.now start c.args.text.now c.args.tokens.now c.each.queries.items c.each.at w (c.each.invariant.0 w start later whole there) _ begins in
-        let told = c.in_ok-query.ensures.told l.query l.next l.rest start later whole l.stands l.low in
-        subst (λ (found : List Query). Going c.args.cat.now start c.args.text.now c.args.tokens.now found c.in_ok-query.field-0.end w) (sym c.in_ok-push.ensures.items)
-        (l.on q c.in_ok-query.field-0.end (one-meant c.args.cat.now start c.deref.result.now c.each.queries.items l.query q c.deref.ensures.value told.0) told.1),
-    subst (ArePlannable c.args.cat.now) (sym c.in_ok-push.ensures.items)
-        (plannable-more c.args.cat.now c.each.queries.items q c.each.invariant.1 (room-for c.deref.result.now c.each.queries.items c.deref.ensures.value c.in_ok-query.ensures.room) c.in_ok-query.ensures.well_bound c.in_ok-query.ensures.classes),
-    omega (arith, ahead.1))
+    let q = c.in_ok-query.field-0.query in (
+      λ w start later whole there.
+          let l = one-left c.args.cat.now start c.args.text.now c.args.tokens.now c.each.queries.items c.each.at w (c.each.invariant.0 w start later whole there) _ begins in
+          let told = c.in_ok-query.ensures.told l.query l.next l.rest start later whole l.stands l.low in
+          subst (λ (found : List Query). Going c.args.cat.now start c.args.text.now c.args.tokens.now found c.in_ok-query.field-0.end w) (sym c.in_ok-push.ensures.items)
+          (l.on q c.in_ok-query.field-0.end (one-meant c.args.cat.now start c.deref.result.now c.each.queries.items l.query q c.deref.ensures.value told.0) told.1),
+      subst (ArePlannable c.args.cat.now) (sym c.in_ok-push.ensures.items)
+          (plannable-more c.args.cat.now c.each.queries.items q c.each.invariant.1 (room-for c.deref.result.now c.each.queries.items c.deref.ensures.value c.in_ok-query.ensures.room) c.in_ok-query.ensures.well_bound c.in_ok-query.ensures.classes),
+      omega (arith, ahead.1),
+    )

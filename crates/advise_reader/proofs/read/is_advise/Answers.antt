@@ -1,4 +1,3 @@
-use Rattle.std.proofs.Common.{sym}
 use Rattle.advise_reader.proofs.StatementLemmas.{begins-by}
 use Rattle.advise_reader.proofs.read.is_advise.Goals as goal
 

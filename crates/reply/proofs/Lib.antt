@@ -4,3 +4,4 @@ pub mod PriceLemmas
 pub mod PuttingLemmas
 pub mod ReplyLemmas
 pub mod RowLemmas
+pub mod MeasureLemmas

@@ -57,10 +57,10 @@ module _ (w : World) (q : Query) (p : Plan) (best : IsBestPlan w.contents q p) (
   abbrev pub answer_bytes : List ℕ
   answer_bytes = explained_text w.contents q p ++ result_text w q (windowed q.window (tuples_of w q p))
 
-  abbrev answer_reply : Reply
+  abbrev pub answer_reply : Reply
   answer_reply = record { bytes = answer_bytes; fetched = answer_fetches w q p; looked = answer_looks w q p }
 
-  abbrev is_answer : IsAnswerTo w q answer_reply
+  abbrev pub is_answer : IsAnswerTo w q answer_reply
   is_answer = record { plan = p; answer = record { best = best; meant = meant; ordered = ordered; printed = refl }; fetched = refl; looked = refl }
 
   pub answered : (a b : Option (List ℕ)) (f f' l l' : ℕ) → Appends a b answer_bytes → HasRisen (answer_fetches w q p) f f' → l' ≤ l + answer_looks w q p

@@ -1,6 +1,7 @@
 pub mod Answers
 pub mod Drawing
 pub mod Effort
+pub mod Measures
 pub mod Replies
 pub mod Putting
 pub mod Settings

@@ -83,7 +83,7 @@ fn put_rows<C: Counters, K: Sink>(
 }
 
 /// One more, or want of memory where a u64 does not count so far.
-fn one_more(count: u64) -> Result<u64, Memory>
+pub(crate) fn one_more(count: u64) -> Result<u64, Memory>
     ensures { IfOk result (λ n. n ≡ count + 1) }
 {
     match count.checked_add(1) {

@@ -7,10 +7,11 @@ ghost use Rattle.plan_tree.specs.Paths.{IsFinishedPath};
 ghost use Rattle.plan_tree.specs.Views.{path};
 ghost use Rattle.sql_query.specs.WellBound.{IsWellBound};
 
+use crate::price::best_price;
 use catalog::Catalog;
 use explain::{limit_text, plan_text};
 use pg_base::Memory;
-use plan_tree::{Path, asked, cost_of, price_of};
+use plan_tree::{Path, asked};
 use sql_query::Prepared;
 use std::alloc::Global;
 
@@ -20,11 +21,10 @@ fn window_text(alloc: Global, cat: &Catalog, q: &Prepared, best: &Path) -> Resul
     requires admissible { IsAdmissible cat.now q.now (path best.now).tree }
     ensures { IfOk result (λ text. text.items ≡ window_line cat.now q.now (path best.now).tree) }
 {
-    cat.lawful();
     let Some(w) = q.window else {
         return Ok(Vec::new(alloc));
     };
-    let price = price_of(q, cost_of(cat, q, best), best.rows);
+    let price = best_price(cat, q, best);
     let line = limit_text(alloc, q, price, best.rows, asked(w, best.rows))?;
     Vec::from_slice(alloc, line.items())
 }

@@ -1,3 +1,2 @@
 mod ClauseLemmas
 mod ExampleLemmas
-mod FirstWordLemmas

@@ -1,9 +1,7 @@
 //! Definitions carried out on a catalogue, and queries read over it.
 
-ghost use Rattle.std.specs.Prelude.{◌≡◌, ◌≤◌, ◌<◌, ◌^◌, ℕ, IfOk, IsTrue, length};
+ghost use Rattle.std.specs.Prelude.{◌≤◌, ◌<◌, ◌^◌, ℕ, IfOk, length};
 ghost use Rattle.sql_lex.specs.Words.{AreWords};
-ghost use Rattle.sql_grammar.specs.Faults.{terminals};
-ghost use Rattle.query_reader.specs.Select.{AreNoOther, words_before};
 ghost use Rattle.sql_query.specs.Queries.{width};
 ghost use Rattle.sql_query.specs.WellBound.{IsWellBound};
 ghost use Rattle.plan_tree.specs.Reads.{IsOverTables};
@@ -98,8 +96,6 @@ pub fn define(alloc: Global, cat: &mut Catalog, text: &[u8]) -> Result<(), Stopp
 fn is_select(text: &[u8], tokens: &Tokens) -> bool
     requires short { length text.now ≤ 2 ^ 31 }
     requires words { (from : ℕ) × AreWords text.now from tokens.now }
-    ensures kind { IsTrue result → AreNoOther text.now tokens.now }
-    ensures first { IsTrue result → words_before (terminals text.now tokens.now) ≡ 0 }
 {
     let mut from = Cursor::new(text, tokens, 0);
     from.takes(Word::Select)

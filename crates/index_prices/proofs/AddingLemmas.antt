@@ -10,7 +10,8 @@ use Rattle.catalog.specs.Contents.{Contents, NamedIndex, indexes_of, numbers_fro
 use Rattle.catalog.specs.Tables.{Fits, IsAcceptableIndex, IsUnused}
 use Rattle.catalog.proofs.NameLaws.{fresh}
 use Rattle.index_laws.specs.Moved.{added_from, over}
-use Rattle.index_prices.specs.Candidates.{AreCandidateIndexes, IsCandidateIndex, names_of, with_added}
+use Rattle.index_candidates.specs.Candidates.{AreCandidateIndexes, IsCandidateIndex, names_of}
+use Rattle.index_prices.specs.Candidates.{with_added}
 
 -- how many of some indexes are on a table
 abbrev held : ℕ → List NamedIndex → ℕ

@@ -4,10 +4,8 @@
 
 mod adding;
 mod advising;
-mod candidate;
 mod pricer;
 mod pricing;
 mod text;
 
 pub use advising::{advice_for, recommend};
-pub use candidate::Candidate;

@@ -5,10 +5,10 @@ ghost use Rattle.index_laws.specs.Moved.{is_read};
 ghost use Rattle.index_prices.specs.Prices.{read_by};
 
 use crate::adding::with_added;
-use crate::candidate::Candidate;
 use crate::pricing::least_price;
 use advisor::Pricer;
 use catalog::Catalog;
+use index_candidates::Candidate;
 use pg_base::{MOST_CANDIDATES, Memory};
 use sql_query::Prepared;
 use std::alloc::Global;

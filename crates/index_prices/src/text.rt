@@ -6,8 +6,8 @@ ghost use Rattle.index_laws.specs.Moved.{added_from};
 ghost use Rattle.index_prices.specs.Replies.{advice_text, use_line, use_lines};
 
 use crate::adding::has_number;
-use crate::candidate::Candidate;
 use advisor::Advice;
+use index_candidates::Candidate;
 use pg_base::{MOST_CANDIDATES, Memory};
 use std::alloc::Global;
 

@@ -3,4 +3,7 @@
 
 mod laws;
 
-pub use laws::{admissible_plans_are_dominated, kept_plans_suffice, least_kept_plan_is_least, sufficing_by_every_list_is_domination};
+pub use laws::{
+    admissible_plans_are_dominated, kept_plans_suffice, least_kept_plan_is_least,
+    sufficing_by_every_list_is_domination,
+};

@@ -172,7 +172,17 @@ fn joins_of(
     let rows = set_rows(cat, q, set);
     let mut kept = KeptPaths::new(alloc);
     for part in 1..set.0 {
-        offer_part(alloc, cat, q, asked, table, set, rows, RelSet(part), &mut kept)?;
+        offer_part(
+            alloc,
+            cat,
+            q,
+            asked,
+            table,
+            set,
+            rows,
+            RelSet(part),
+            &mut kept,
+        )?;
     }
     front_of(alloc, cat, q, asked, set, kept)
 }

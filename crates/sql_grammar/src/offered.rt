@@ -4,7 +4,7 @@
 //! it: its first word is a syntax fault. Everything here is proved for both values.
 
 /// ADVISE: which of some indexes serve some SELECTs best.
-pub const READS_ADVISE: bool = false;
+pub const READS_ADVISE: bool = true;
 
 /// ANALYZE of a table.
 pub const READS_ANALYZE: bool = true;

@@ -2,7 +2,7 @@
 use Rattle.std.proofs.Common.{◌≡◌, ℕ, true, [], ◌∷◌, get_or, refl, sym, ap, ◌∙◌, nat_eq}
 use Rattle.std.proofs.lemmas.Bool.{eqb-true}
 use Rattle.sql_grammar.specs.declared.class.Free.{Free}
-use Rattle.sql_grammar.specs.declared.class.Free.TheVariants.{Analyze, By, Common, Copy, Csv, Distinct, Explain, First, Format, Histogram, Include, Index, Last, Nulls, Pages, Rows, Statistics, Stdin}
+use Rattle.sql_grammar.specs.declared.class.Free.TheVariants.{Advise, Analyze, By, Check, Common, Copy, Csv, Distinct, Explain, First, Format, Histogram, Include, Index, Last, Nulls, Pages, Plan, Rows, Statistics, Stdin, Use}
 use Rattle.sql_grammar.specs.declared.class.Word.{Word}
 use Rattle.sql_grammar.specs.declared.class.Word.TheVariants.{And, As, Asc, Create, Cross, Desc, False, From, Group, Inner, Is, Join, Limit, Not, Null, Offset, On, Or, Order, Select, Table, True, Using, Where, With}
 use Rattle.sql_grammar.specs.declared.class.Symbol.{Symbol}
@@ -57,11 +57,13 @@ pub same_sign : (v w : Symbol) → nat_eq (sign_code v) (sign_code w) ≡ true �
 same_sign v w e = sym (sign_back v) ∙ (ap sign_at (eqb-true (sign_code v) (sign_code w) e) ∙ sign_back w)
 
 abbrev free_at : ℕ → Free
-free_at n = get_or (Analyze ∷ By ∷ Common ∷ Copy ∷ Csv ∷ Distinct ∷ Explain ∷ First ∷ Format ∷ Histogram ∷ Include ∷ Index ∷ Last ∷ Nulls ∷ Pages ∷ Rows ∷ Statistics ∷ Stdin ∷ []) n Analyze
+free_at n = get_or (Advise ∷ Analyze ∷ By ∷ Check ∷ Common ∷ Copy ∷ Csv ∷ Distinct ∷ Explain ∷ First ∷ Format ∷ Histogram ∷ Include ∷ Index ∷ Last ∷ Nulls ∷ Pages ∷ Plan ∷ Rows ∷ Statistics ∷ Stdin ∷ Use ∷ []) n Advise
 
 free_back : (w : Free) → free_at (free_code w) ≡ w
+free_back Advise = refl
 free_back Analyze = refl
 free_back By = refl
+free_back Check = refl
 free_back Common = refl
 free_back Copy = refl
 free_back Csv = refl
@@ -75,9 +77,11 @@ free_back Index = refl
 free_back Last = refl
 free_back Nulls = refl
 free_back Pages = refl
+free_back Plan = refl
 free_back Rows = refl
 free_back Statistics = refl
 free_back Stdin = refl
+free_back Use = refl
 
 pub same_free : (v w : Free) → nat_eq (free_code v) (free_code w) ≡ true → v ≡ w
 same_free v w e = sym (free_back v) ∙ (ap free_at (eqb-true (free_code v) (free_code w) e) ∙ free_back w)

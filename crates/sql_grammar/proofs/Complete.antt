@@ -173,9 +173,10 @@ module _ (limit : ℕ) where
   alias (bare_alias n) s ts p = refl
   alias (as_alias k n) s ts p = refl
 
-  pub condition : (w : Where) (s : List Item) (ts : List Terminal) → levels_of_where w + depth_of s ≤ limit → EndsSelect ts → takes_all limit (words_of_where w ++ ts) (MaybeWhere ∷ s) ≡ takes_all limit ts s
-  condition no_where s ts low p = skip MaybeWhere s ts refl p.condition
-  condition (where_expr k e) s ts low p = expr e s ts low p.expr
+  pub condition : (w : Where) (s : List Item) (ts : List Terminal) → levels_of_where w + depth_of s ≤ limit → Passes MaybeWhere ts → EndsExpr ts →
+      takes_all limit (words_of_where w ++ ts) (MaybeWhere ∷ s) ≡ takes_all limit ts s
+  condition no_where s ts low p q = skip MaybeWhere s ts refl p
+  condition (where_expr k e) s ts low p q = expr e s ts low q
 
   lit : (l : Lit) (s : List Item) (ts : List Terminal) → takes_all limit (words_of_lit l ++ ts) (Literal ∷ s) ≡ takes_all limit ts s
   lit (number n) s ts = refl

@@ -3,15 +3,17 @@ use Rattle.std.proofs.Common.{◌≡◌, ℕ, ◌+◌, ◌≤◌, List, [], ◌�
 use Rattle.sql_lex.specs.declared.tokens.Token.{Token}
 use Rattle.sql_grammar.specs.Terminals.{Terminal, t_key, t_mark, t_name, t_number, t_quoted, t_semicolon, Ident, Said, free}
 use Rattle.sql_grammar.specs.declared.class.Word.TheVariants.{Create, Is}
-use Rattle.sql_grammar.specs.declared.class.Free.TheVariants.{Nulls as NullsWord, Statistics}
+use Rattle.sql_grammar.specs.declared.class.Free.TheVariants.{Explain, Nulls as NullsWord, Statistics}
 use Rattle.sql_grammar.specs.declared.class.Symbol.TheVariants.{Close, Dot}
 use Rattle.sql_grammar.specs.declared.table.Item.{Item}
-use Rattle.sql_grammar.specs.declared.table.Item.TheVariants.{Keyword, Sign, FreeWord, Label, Digits, QuotedText, Whole, Ends, Stop, Query, Nullness, MoreColumns, Result, MoreResults, AfterResult, StarOrLabel, MaybeAlias, MoreJoins, MoreGroups, MaybeWhere, Figures, MaybeCommon, MoreShares, MaybeHistogram, MoreBounds, Literal, Negation, MoreAnds, MoreOrs, Closes, NotEnds, AfterName, AfterColumn, AfterIs, AfterLiteral, AfterTruth, Side, AfterQualifier, MaybeOrder, MoreOrderings, MaybeLimit, MaybeOffset, MaybeDirection, MaybeNulls, FirstOrLast, AfterCreate, MaybeUsing, MaybeClass, MoreKeys, MaybeInclude, MoreNames}
+use Rattle.sql_grammar.specs.declared.table.Item.TheVariants.{Keyword, Sign, FreeWord, Label, Digits, QuotedText, Whole, Ends, Stop, Query, Nullness, MoreColumns, Result, MoreResults, AfterResult, StarOrLabel, MaybeAlias, MoreJoins, MoreGroups, MaybeWhere, Figures, MaybeCommon, MoreShares, MaybeHistogram, MoreBounds, Literal, Negation, MoreAnds, MoreOrs, Closes, NotEnds, AfterName, AfterColumn, AfterIs, AfterLiteral, AfterTruth, Side, AfterQualifier, MaybeOrder, MoreOrderings, MaybeLimit, MaybeOffset, MaybeDirection, MaybeNulls, FirstOrLast, AfterCreate, MaybeUsing, MaybeClass, MoreKeys, MaybeInclude, MoreNames, MaybeTable, Candidate, MoreCands, AdvisedSelect, MoreAdvised}
 use Rattle.sql_grammar.specs.Syntax.{Key, Mark, Col, Constant, Lit, constant, Operand, Ors, Ands, Neg, Atom, Nulls, ColDef, Output, Alias, Join, Group, Where, Select, Share, Common, Histogram, Ending, Statement}
 use Rattle.sql_grammar.specs.Words.{words_of, words_of_col, words_of_lit, words_of_operand, words_of_ors, words_of_ands, words_of_neg, words_of_atom, words_of_nulls, words_of_columns, words_of_output, words_of_outputs, words_of_alias, words_of_joins, words_of_groups, words_of_where, words_of_select, words_of_common, words_of_shares, words_of_histogram, words_of_bounds, words_of_ending, levels_of, levels_of_joins, levels_of_groups, levels_of_where, levels_of_select, levels_of_ors, levels_of_ands, levels_of_neg, levels_of_atom}
 use Rattle.sql_grammar.specs.Syntax.{Direction, NullsEnd, Ordering, OrderBy, Limit, Offset}
 use Rattle.sql_grammar.specs.Words.{words_of_direction, words_of_nulls_end, words_of_orderings, words_of_order, words_of_limit, words_of_offset}
 use Rattle.sql_grammar.specs.Syntax.{OpClass, IndexKey, Using, Include}
+use Rattle.sql_grammar.specs.Syntax.{Explaining, Cand, Advised}
+use Rattle.sql_grammar.specs.Words.{words_of_explaining, words_of_cand, words_of_cands, words_of_advised, words_of_more_advised, levels_of_cand, levels_of_cands, levels_of_advised, levels_of_more_advised}
 use Rattle.sql_grammar.specs.Words.{words_of_class, words_of_keys, words_of_using, words_of_names, words_of_include}
 use Rattle.sql_grammar.specs.Machine.{depth_of}
 
@@ -76,6 +78,11 @@ Part limit depth MaybeClass = OpClass
 Part limit depth MoreKeys = List (Mark × IndexKey) × Mark
 Part limit depth MaybeInclude = Include
 Part limit depth MoreNames = List (Mark × Ident) × Mark
+Part limit depth MaybeTable = (ts : List Terminal) × ((k : Token) → (x : Explaining) × (words_of_explaining x ≡ t_name (free Explain k) ∷ ts))
+Part limit depth Candidate = (x : Cand) × (levels_of_cand x + depth ≤ limit)
+Part limit depth MoreCands = (x : List (Mark × Cand)) × (levels_of_cands x + depth ≤ limit) × Mark
+Part limit depth AdvisedSelect = (x : Advised) × (levels_of_advised x + depth ≤ limit)
+Part limit depth MoreAdvised = (x : List Advised) × (levels_of_more_advised x + depth ≤ limit)
 
 -- its words
 abbrev pub words_of_part : (limit depth : ℕ) (i : Item) → Part limit depth i → List Terminal
@@ -130,6 +137,11 @@ words_of_part limit depth MaybeClass p = words_of_class p
 words_of_part limit depth MoreKeys p = words_of_keys p.0 ++ t_mark Close p.1 ∷ []
 words_of_part limit depth MaybeInclude p = words_of_include p
 words_of_part limit depth MoreNames p = words_of_names p.0 ++ t_mark Close p.1 ∷ []
+words_of_part limit depth MaybeTable p = p.0
+words_of_part limit depth Candidate p = words_of_cand p.0
+words_of_part limit depth MoreCands p = words_of_cands p.0 ++ t_mark Close p.2 ∷ []
+words_of_part limit depth AdvisedSelect p = words_of_advised p.0
+words_of_part limit depth MoreAdvised p = words_of_more_advised p.0
 
 -- what a stack stands for
 abbrev pub Parts : ℕ → List Item → Type 0

@@ -81,7 +81,7 @@ module _ (limit : ℕ) where
       (apart limit (words_of_group g) (words_of_groups gs ++ words_of_where w) ts (Label ∷ MaybeAlias ∷ MoreJoins ∷ MoreGroups ∷ MaybeWhere ∷ s) ∙
       (ap (λ l. takes_all limit (words_of_group g ++ l) (Label ∷ MaybeAlias ∷ MoreJoins ∷ MoreGroups ∷ MaybeWhere ∷ s)) (append_assoc (words_of_groups gs) (words_of_where w) ts) ∙
       (group g (MoreGroups ∷ MaybeWhere ∷ s) (words_of_groups gs ++ (words_of_where w ++ ts)) (omega (arith, low)) (after-groups gs (words_of_where w ++ ts) (after-from w ts p)) ∙
-      (groups gs (MaybeWhere ∷ s) (words_of_where w ++ ts) (omega (arith, low)) (after-from w ts p) ∙ condition limit w s ts (omega (arith, low)) p))))))
+      (groups gs (MaybeWhere ∷ s) (words_of_where w ++ ts) (omega (arith, low)) (after-from w ts p) ∙ condition limit w s ts (omega (arith, low)) p.condition p.expr))))))
 
   pub selected_alone : (q : Select) → levels_of_select q ≤ limit → takes_all limit (words_of_select q) (Query ∷ []) ≡ true
   selected_alone q low = ap (λ l. takes_all limit l (Query ∷ [])) (sym (append-nil (words_of_select q))) ∙

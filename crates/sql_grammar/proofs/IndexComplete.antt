@@ -1,19 +1,18 @@
 -- The walk takes every CREATE INDEX.
-use Rattle.std.proofs.Common.{◌≡◌, ℕ, ◌≤◌, true, List, [], ◌∷◌, ◌++◌, refl, ◌∙◌, arith}
+use Rattle.std.proofs.Common.{◌≡◌, ℕ, ◌+◌, ◌≤◌, true, List, [], ◌∷◌, ◌++◌, refl, sym, ap, ◌∙◌, arith, append_assoc, append-nil}
 use Rattle.sql_grammar.specs.Terminals.{Terminal, Ident, free, t_mark, t_name}
 use Rattle.sql_grammar.specs.declared.class.Free.TheVariants.{Nulls}
-use Rattle.sql_grammar.specs.declared.class.Word.TheVariants.{On}
 use Rattle.sql_grammar.specs.declared.class.Symbol.TheVariants.{Open, Close}
 use Rattle.sql_grammar.specs.declared.table.Item.{Item}
-use Rattle.sql_grammar.specs.declared.table.Item.TheVariants.{Keyword, Sign, Label, Ends, MaybeWhere, MaybeDirection, MaybeNulls, Whole, MaybeUsing, MaybeClass, MoreKeys, MaybeInclude, MoreNames}
+use Rattle.sql_grammar.specs.declared.table.Item.TheVariants.{Sign, Label, Ends, MaybeWhere, MaybeDirection, MaybeNulls, Whole, MaybeUsing, MaybeClass, MoreKeys, MaybeInclude, MoreNames, Candidate}
 use Rattle.sql_grammar.specs.Syntax.{Mark, Where, no_where, where_expr, Ending, semicolon, text_end}
 use Rattle.sql_grammar.specs.Words.{words_of_where, words_of_ending, levels_of_where}
 use Rattle.sql_grammar.specs.Syntax.{Direction, no_direction, ascending, descending, NullsEnd, no_nulls_end, nulls_first, nulls_last}
 use Rattle.sql_grammar.specs.Words.{words_of_direction, words_of_nulls_end}
 use Rattle.sql_grammar.specs.Syntax.{IsClassName, no_class, op_class, IndexKey, index_key, Using, no_using, using_method, Include, no_include, include_columns, CreateIndex, index_on, Cand, cand_on}
 use Rattle.sql_grammar.specs.Words.{words_of_key, words_of_keys, words_of_using, words_of_names, words_of_include, words_of_index, words_of_cand, levels_of_index, levels_of_cand}
-use Rattle.sql_grammar.specs.Machine.{takes_all}
-use Rattle.sql_grammar.proofs.Complete.{Passes, skip, apart, alone, condition, ending, after-query}
+use Rattle.sql_grammar.specs.Machine.{depth_of, takes_all}
+use Rattle.sql_grammar.proofs.Complete.{Passes, EndsExpr, skip, apart, condition, ending}
 use Rattle.sql_grammar.proofs.OrderComplete.{sorted}
 
 -- what follows a key
@@ -33,14 +32,23 @@ after-key : (ks : List (Mark × IndexKey)) (m : Mark) (ts : List Terminal) → E
 after-key [] m ts = record { op_class = refl; direction = refl; nulls = refl }
 after-key (k ∷ ks) m ts = record { op_class = refl; direction = refl; nulls = refl }
 
-after-include : (w : Where) (e : Ending) → Passes MaybeInclude (words_of_where w ++ words_of_ending e)
-after-include no_where (semicolon t) = refl
-after-include no_where (text_end t) = refl
-after-include (where_expr k c) e = refl
+after-include : (w : Where) (ts : List Terminal) → Passes MaybeInclude ts → Passes MaybeInclude (words_of_where w ++ ts)
+after-include no_where ts p = p
+after-include (where_expr k c) ts p = refl
 
-include-last : (w : Where) → Passes MaybeInclude (words_of_where w)
-include-last no_where = tt
-include-last (where_expr k e) = refl
+-- what follows a candidate for an index
+pub record EndsCand (ts : List Terminal) : Type 0 where
+  pub include : Passes MaybeInclude ts
+  pub condition : Passes MaybeWhere ts
+  pub expr : EndsExpr ts
+
+ending-cand : (e : Ending) → EndsCand (words_of_ending e)
+ending-cand (semicolon t) = record { include = refl; condition = refl; expr = record { conj = record { atom = refl; ands = refl }; ors = refl } }
+ending-cand (text_end t) = record { include = refl; condition = refl; expr = record { conj = record { atom = refl; ands = refl }; ors = refl } }
+
+-- the words of CREATE INDEX from its method on, and those behind them
+pub cand-words : (u k ks c w ts : List Terminal) (p m : Terminal) → (u ++ p ∷ (k ++ (ks ++ m ∷ (c ++ w)))) ++ ts ≡ u ++ p ∷ (k ++ (ks ++ m ∷ (c ++ (w ++ ts))))
+cand-words u k ks c w ts p m = simp append_assoc
 
 module _ (limit : ℕ) where
   named : (n : Ident) → IsClassName n → (s : List Item) (ts : List Terminal) → takes_all limit (t_name n ∷ ts) (MaybeClass ∷ s) ≡ takes_all limit ts s
@@ -74,22 +82,26 @@ module _ (limit : ℕ) where
   include no_include s ts p = skip limit MaybeInclude s ts refl p
   include (include_columns k o n ns m) s ts p = apart limit (words_of_names ns) (t_mark Close m ∷ []) ts (MoreNames ∷ s) ∙ names ns m s ts
 
+  -- from the method on
+  behind : (u : Using) (p : Mark) (x : IndexKey) (xs : List (Mark × IndexKey)) (m : Mark) (c : Include) (w : Where) (s : List Item) (ts : List Terminal) →
+      levels_of_where w + depth_of s ≤ limit → EndsCand ts →
+      takes_all limit (words_of_using u ++ t_mark Open p ∷ (words_of_key x ++ (words_of_keys xs ++ t_mark Close m ∷ (words_of_include c ++ (words_of_where w ++ ts)))))
+      (MaybeUsing ∷ Sign Open ∷ Label ∷ MaybeClass ∷ MaybeDirection ∷ MaybeNulls ∷ MoreKeys ∷ MaybeInclude ∷ MaybeWhere ∷ s) ≡ takes_all limit ts s
+  behind u p x xs m c w s ts low ends =
+      using u p (Label ∷ MaybeClass ∷ MaybeDirection ∷ MaybeNulls ∷ MoreKeys ∷ MaybeInclude ∷ MaybeWhere ∷ s)
+      (words_of_key x ++ (words_of_keys xs ++ t_mark Close m ∷ (words_of_include c ++ (words_of_where w ++ ts)))) ∙
+      (keys x xs m (MaybeInclude ∷ MaybeWhere ∷ s) (words_of_include c ++ (words_of_where w ++ ts)) ∙
+      (include c (MaybeWhere ∷ s) (words_of_where w ++ ts) (after-include w ts ends.include) ∙ condition limit w s ts low ends.condition ends.expr))
+
   pub index : (x : CreateIndex) → levels_of_index x ≤ limit → takes_all limit (words_of_index x) (Whole ∷ []) ≡ true
-  index (index_on k i n o t u p x xs m c w e) low =
-      using u p (Label ∷ MaybeClass ∷ MaybeDirection ∷ MaybeNulls ∷ MoreKeys ∷ MaybeInclude ∷ MaybeWhere ∷ Ends ∷ [])
-      (words_of_key x ++ (words_of_keys xs ++ t_mark Close m ∷ (words_of_include c ++ (words_of_where w ++ words_of_ending e)))) ∙
-      (keys x xs m (MaybeInclude ∷ MaybeWhere ∷ Ends ∷ []) (words_of_include c ++ (words_of_where w ++ words_of_ending e)) ∙
-      (include c (MaybeWhere ∷ Ends ∷ []) (words_of_where w ++ words_of_ending e) (after-include w e) ∙
-      (condition limit w (Ends ∷ []) (words_of_ending e) (omega (arith, low)) (after-query limit e) ∙ ending limit e)))
+  index (index_on k i n o t u p x xs m c w e) low = behind u p x xs m c w (Ends ∷ []) (words_of_ending e) (omega (arith, low)) (ending-cand e) ∙ ending limit e
 
-  condition-alone : (w : Where) → levels_of_where w ≤ limit → takes_all limit (words_of_where w) (MaybeWhere ∷ []) ≡ true
-  condition-alone no_where low = refl
-  condition-alone (where_expr k e) low = alone limit e low
+  pub candidate : (x : Cand) (s : List Item) (ts : List Terminal) → levels_of_cand x + depth_of s ≤ limit → EndsCand ts →
+      takes_all limit (words_of_cand x ++ ts) (Candidate ∷ s) ≡ takes_all limit ts s
+  candidate (cand_on n o t u p x xs m c w) s ts low ends =
+      ap (λ l. takes_all limit l (MaybeUsing ∷ Sign Open ∷ Label ∷ MaybeClass ∷ MaybeDirection ∷ MaybeNulls ∷ MoreKeys ∷ MaybeInclude ∷ MaybeWhere ∷ s))
+      (cand-words (words_of_using u) (words_of_key x) (words_of_keys xs) (words_of_include c) (words_of_where w) ts (t_mark Open p) (t_mark Close m)) ∙ behind u p x xs m c w s ts low ends
 
-  pub cand : (x : Cand) → levels_of_cand x ≤ limit →
-      takes_all limit (words_of_cand x) (Label ∷ Keyword On ∷ Label ∷ MaybeUsing ∷ Sign Open ∷ Label ∷ MaybeClass ∷ MaybeDirection ∷ MaybeNulls ∷ MoreKeys ∷ MaybeInclude ∷ MaybeWhere ∷ []) ≡ true
-  cand (cand_on n o t u p x xs m c w) low =
-      using u p (Label ∷ MaybeClass ∷ MaybeDirection ∷ MaybeNulls ∷ MoreKeys ∷ MaybeInclude ∷ MaybeWhere ∷ [])
-      (words_of_key x ++ (words_of_keys xs ++ t_mark Close m ∷ (words_of_include c ++ words_of_where w))) ∙
-      (keys x xs m (MaybeInclude ∷ MaybeWhere ∷ []) (words_of_include c ++ words_of_where w) ∙
-      (include c (MaybeWhere ∷ []) (words_of_where w) (include-last w) ∙ condition-alone w low))
+  pub cand : (x : Cand) → levels_of_cand x ≤ limit → takes_all limit (words_of_cand x) (Candidate ∷ []) ≡ true
+  cand x low = ap (λ l. takes_all limit l (Candidate ∷ [])) (sym (append-nil (words_of_cand x))) ∙
+      candidate x [] [] (omega (arith, low)) (record { include = tt; condition = tt; expr = record { conj = record { atom = tt; ands = tt }; ors = tt } })

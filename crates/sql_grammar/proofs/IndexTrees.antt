@@ -2,18 +2,21 @@
 use Rattle.std.proofs.Common.{◌≡◌, Bool, true, false, List, [], ◌∷◌, ◌++◌, drop, refl, sym, ap, ◌∙◌, subst}
 use Rattle.std.proofs.lemmas.List.{append_assoc}
 use Rattle.sql_grammar.specs.declared.class.Free.TheVariants.{Include as IncludeWord, Nulls}
-use Rattle.sql_grammar.specs.declared.class.Symbol.TheVariants.{Open, Close, Comma}
-use Rattle.sql_grammar.specs.Terminals.{Terminal, Ident, free, t_mark, t_name}
+use Rattle.sql_grammar.specs.declared.class.Word.TheVariants.{Where as WhereKey}
+use Rattle.sql_grammar.specs.declared.class.Symbol.TheVariants.{Open, Close, Comma, Dot}
+use Rattle.sql_grammar.specs.Terminals.{Terminal, Ident, free, t_key, t_mark, t_name, t_operator}
 use Rattle.sql_grammar.specs.Syntax.{Mark, Where, no_where, where_expr, Ending, semicolon, text_end}
 use Rattle.sql_grammar.specs.Syntax.{Direction, no_direction, ascending, descending, NullsEnd, no_nulls_end, nulls_first, nulls_last}
-use Rattle.sql_grammar.specs.Syntax.{IsClassName, OpClass, no_class, op_class, IndexKey, index_key, Using, no_using, using_method, Include, no_include, include_columns, CreateIndex, index_on}
+use Rattle.sql_grammar.specs.Syntax.{IsClassName, OpClass, no_class, op_class, IndexKey, index_key, Using, no_using, using_method, Include, no_include, include_columns, CreateIndex, index_on, Cand, cand_on}
 use Rattle.sql_grammar.specs.Words.{words_of_where, words_of_ending}
 use Rattle.sql_grammar.specs.Words.{words_of_direction, words_of_nulls_end}
-use Rattle.sql_grammar.specs.Words.{words_of_class, words_of_key, words_of_keys, words_of_using, words_of_names, words_of_include, words_of_index}
+use Rattle.sql_grammar.specs.Words.{words_of_class, words_of_key, words_of_keys, words_of_using, words_of_names, words_of_include, words_of_index, words_of_cand}
+use Rattle.sql_grammar.specs.Unique.{ends_expr, ends_cand}
 use Rattle.sql_grammar.proofs.ExprTrees.{tested}
 use Rattle.sql_grammar.proofs.ListLemmas.{one_list}
-use Rattle.sql_grammar.proofs.Trees.{ending-select, one_where, one_ending}
+use Rattle.sql_grammar.proofs.Trees.{whereless, one_condition, one_ending}
 use Rattle.sql_grammar.proofs.OrderTrees.{ends_sort, one_sort}
+use Rattle.sql_grammar.proofs.IndexComplete.{cand-words}
 
 -- no operator class is next: no other name than `nulls`
 abbrev ends_class : List Terminal → Bool
@@ -102,10 +105,24 @@ one_include (include_columns i o a ns m) (include_columns j p b us n) x y h k e 
     let (others, close, rest) = one_names ns us m n x y (ap (drop 3) whole) in
     (cc (word, mark, name, others, close), rest)
 
-include-ends : (w : Where) (e : Ending) → ends_include (words_of_where w ++ words_of_ending e) ≡ true
-include-ends no_where (semicolon t) = refl
-include-ends no_where (text_end t) = refl
-include-ends (where_expr k c) e = refl
+cand-include : (w : Where) (x : List Terminal) → ends_cand x ≡ true → ends_include (words_of_where w ++ x) ≡ true
+cand-include no_where (t_name (free IncludeWord _) ∷ _) h = absurd (cc)
+cand-include no_where _ h = refl
+cand-include (where_expr k c) x h = refl
+
+cand-where : (x : List Terminal) → ends_cand x ≡ true → whereless x ≡ true
+cand-where (t_key WhereKey _ ∷ _) h = absurd (cc)
+cand-where _ h = refl
+
+cand-expr : (x : List Terminal) → ends_cand x ≡ true → ends_expr x ≡ true
+cand-expr (t_mark Dot _ ∷ _) h = absurd (cc)
+cand-expr (t_operator _ ∷ _) h = absurd (cc)
+cand-expr (t_key _ _ ∷ _) h = absurd (cc)
+cand-expr _ h = refl
+
+ending-cand : (e : Ending) → ends_cand (words_of_ending e) ≡ true
+ending-cand (semicolon t) = refl
+ending-cand (text_end t) = refl
 
 one_using : (a b : Using) (o p : Mark) (x y : List Terminal) → words_of_using a ++ t_mark Open o ∷ x ≡ words_of_using b ++ t_mark Open p ∷ y → (a ≡ b) × (o ≡ p) × (x ≡ y)
 one_using no_using no_using o p x y e = (refl, cc (e), ap (drop 1) e)
@@ -117,14 +134,38 @@ one_using (using_method i n) (using_method j m) o p x y e =
     (cc (key, name), cc (e), ap (drop 3) e)
 
 -- what follows the keys
-abbrev behind : Include → Where → Ending → List Terminal
-behind c w e = words_of_include c ++ (words_of_where w ++ words_of_ending e)
+abbrev behind : Include → Where → List Terminal → List Terminal
+behind c w x = words_of_include c ++ (words_of_where w ++ x)
 
-one_behind : (a b : Include) (v w : Where) (e f : Ending) → behind a v e ≡ behind b w f → (a ≡ b) × (v ≡ w) × (e ≡ f)
-one_behind a b v w e f h =
-    let (include, more) = one_include a b (words_of_where v ++ words_of_ending e) (words_of_where w ++ words_of_ending f) (include-ends v e) (include-ends w f) h in
-    let (condition, last) = one_where v w (words_of_ending e) (words_of_ending f) (ending-select e) (ending-select f) more in
-    (include, condition, one_ending e f last)
+one_behind : (a b : Include) (v w : Where) (x y : List Terminal) → ends_cand x ≡ true → ends_cand y ≡ true → behind a v x ≡ behind b w y → (a ≡ b) × (v ≡ w) × (x ≡ y)
+one_behind a b v w x y h k e =
+    let (include, more) = one_include a b (words_of_where v ++ x) (words_of_where w ++ y) (cand-include v x h) (cand-include w y k) e in
+    let (condition, rest) = one_condition v w x y (cand-where x h) (cand-where y k) (cand-expr x h) (cand-expr y k) more in
+    (include, condition, rest)
+
+-- what follows a table's name, before other words
+abbrev listed : Using → Mark → IndexKey → List (Mark × IndexKey) → Mark → Include → Where → List Terminal → List Terminal
+listed u p a ks m c w x = words_of_using u ++ t_mark Open p ∷ (words_of_key a ++ closed ks m (behind c w x))
+
+-- two of these lists have the same parts
+record Alike (u z : Using) (p d : Mark) (a b : IndexKey) (ks bs : List (Mark × IndexKey)) (m n : Mark) (c g : Include) (v w : Where) (x y : List Terminal) : Type 0 where
+  using : u ≡ z
+  opens : p ≡ d
+  key : a ≡ b
+  keys : ks ≡ bs
+  closes : m ≡ n
+  include : c ≡ g
+  condition : v ≡ w
+  rest : x ≡ y
+
+one_listed : (u z : Using) (p d : Mark) (a b : IndexKey) (ks bs : List (Mark × IndexKey)) (m n : Mark) (c g : Include) (v w : Where) (x y : List Terminal) → ends_cand x ≡ true → ends_cand y ≡ true →
+    listed u p a ks m c v x ≡ listed z d b bs n g w y → Alike u z p d a b ks bs m n c g v w x y
+one_listed u z p d a b ks bs m n c g v w x y h k e =
+    let (using, opens, keys) = one_using u z p d (words_of_key a ++ closed ks m (behind c v x)) (words_of_key b ++ closed bs n (behind g w y)) e in
+    let (key, more) = one_key a b (closed ks m (behind c v x)) (closed bs n (behind g w y)) (closed-ends ks m (behind c v x)) (closed-ends bs n (behind g w y)) keys in
+    let (others, closes, last) = one_keys ks bs m n (behind c v x) (behind g w y) more in
+    let (include, condition, rest) = one_behind c g v w x y h k last in
+    record { using = using; opens = opens; key = key; keys = others; closes = closes; include = include; condition = condition; rest = rest }
 
 pub one_index : (x y : CreateIndex) → words_of_index x ≡ words_of_index y → x ≡ y
 one_index (index_on k i n o t u p a as' m c v e) (index_on l j r q s z d b bs w g x f) h =
@@ -133,8 +174,15 @@ one_index (index_on k i n o t u p a as' m c v e) (index_on l j r q s z d b bs w 
     let name : n ≡ r = cc (h) in
     let on : o ≡ q = cc (h) in
     let table : t ≡ s = cc (h) in
-    let (using, open', keys) = one_using u z p d (words_of_key a ++ closed as' m (behind c v e)) (words_of_key b ++ closed bs w (behind g x f)) (ap (drop 5) h) in
-    let (key, more) = one_key a b (closed as' m (behind c v e)) (closed bs w (behind g x f)) (closed-ends as' m (behind c v e)) (closed-ends bs w (behind g x f)) keys in
-    let (others, close, rest) = one_keys as' bs m w (behind c v e) (behind g x f) more in
-    let (include, condition, end) = one_behind c g v x e f rest in
-    cc (first, word, name, on, table, using, open', key, others, close, include, condition, end)
+    let same = one_listed u z p d a b as' bs m w c g v x (words_of_ending e) (words_of_ending f) (ending-cand e) (ending-cand f) (ap (drop 5) h) in
+    cc (first, word, name, on, table, same.using, same.opens, same.key, same.keys, same.closes, same.include, same.condition, one_ending e f same.rest)
+
+pub one_cand : (a b : Cand) (x y : List Terminal) → ends_cand x ≡ true → ends_cand y ≡ true → words_of_cand a ++ x ≡ words_of_cand b ++ y → (a ≡ b) × (x ≡ y)
+one_cand (cand_on n o t u p a as' m c v) (cand_on r q s z d b bs w g f) x y h k e =
+    let name : n ≡ r = cc (e) in
+    let on : o ≡ q = cc (e) in
+    let table : t ≡ s = cc (e) in
+    let same = one_listed u z p d a b as' bs m w c g v f x y h k
+    (sym (cand-words (words_of_using u) (words_of_key a) (words_of_keys as') (words_of_include c) (words_of_where v) x (t_mark Open p) (t_mark Close m)) ∙
+    (ap (drop 3) e ∙ cand-words (words_of_using z) (words_of_key b) (words_of_keys bs) (words_of_include g) (words_of_where f) y (t_mark Open d) (t_mark Close w))) in
+    (cc (name, on, table, same.using, same.opens, same.key, same.keys, same.closes, same.include, same.condition), same.rest)

@@ -4,6 +4,7 @@ pub mod FromRules
 pub mod OrderRules
 pub mod WindowRules
 pub mod IndexRules
+pub mod AdviseRules
 pub mod Rules
 pub mod Sound
 pub mod RoomTests
@@ -11,12 +12,14 @@ pub mod FromRoom
 pub mod OrderRoom
 pub mod WindowRoom
 pub mod IndexRoom
+pub mod AdviseRoom
 pub mod Room
 pub mod Complete
 pub mod FromComplete
 pub mod WindowComplete
 pub mod OrderComplete
 pub mod IndexComplete
+pub mod AdviseComplete
 pub mod StatementComplete
 pub mod Reach
 pub mod Endings
@@ -31,5 +34,7 @@ pub mod FromTrees
 pub mod WindowTrees
 pub mod OrderTrees
 pub mod IndexTrees
+pub mod AdviseTrees
+pub mod PartEnds
 pub mod StatementTrees
 pub mod ExprTrees

@@ -1,15 +1,20 @@
 -- The walk takes every SELECT with its order.
-use Rattle.std.proofs.Common.{◌≡◌, ℕ, ◌≤◌, true, List, [], ◌∷◌, ◌++◌, refl, ◌∙◌, arith}
-use Rattle.sql_grammar.specs.Terminals.{Terminal}
+use Rattle.std.proofs.Common.{◌≡◌, ℕ, ◌+◌, ◌≤◌, Bool, true, false, List, [], ◌∷◌, ◌++◌, Option, Some, None, refl, sym, ap, ◌∙◌, arith, append_assoc, append-nil, cond}
+use Rattle.sql_lex.specs.declared.tokens.Token.{Token}
+use Rattle.sql_grammar.specs.Terminals.{Terminal, t_key, t_mark}
+use Rattle.sql_grammar.specs.declared.class.Word.TheVariants.{Table}
+use Rattle.sql_grammar.specs.declared.class.Symbol.TheVariants.{Open, Close}
+use Rattle.sql_grammar.specs.declared.class.Class.TheVariants.{Mark as MarkClass}
+use Rattle.sql_grammar.specs.declared.offered.TheConstants.{READS_TABLE}
 use Rattle.sql_grammar.specs.declared.table.Item.{Item}
-use Rattle.sql_grammar.specs.declared.table.Item.TheVariants.{Label, Ends, Query, AfterQualifier, MaybeDirection, MaybeNulls, Whole, MaybeOrder, MoreOrderings, MaybeLimit, MaybeOffset}
-use Rattle.sql_grammar.specs.Syntax.{Mark, bare, qualified, Select, select_from, Ending, Window}
-use Rattle.sql_grammar.specs.Words.{words_of_select, words_of_window, words_of_ending}
-use Rattle.sql_grammar.specs.Syntax.{Direction, no_direction, ascending, descending, NullsEnd, no_nulls_end, nulls_first, nulls_last, Ordering, ordering, OrderBy, no_order, order_by, no_explain, explain, OrderedSelect, ordered_select}
-use Rattle.sql_grammar.specs.Words.{words_of_direction, words_of_nulls_end, words_of_ordering, words_of_orderings, words_of_order, words_of_ordered, levels_of_ordered}
-use Rattle.sql_grammar.specs.Machine.{takes_all}
+use Rattle.sql_grammar.specs.declared.table.Item.TheVariants.{Keyword, Sign, Label, Ends, Query, AfterQualifier, MaybeDirection, MaybeNulls, Whole, MaybeOrder, MoreOrderings, MaybeLimit, MaybeOffset, MaybeTable}
+use Rattle.sql_grammar.specs.Syntax.{IsOffered, Mark, bare, qualified, Select, select_from, Ending, Window}
+use Rattle.sql_grammar.specs.Words.{words_of_select, words_of_window, words_of_ending, levels_of_select}
+use Rattle.sql_grammar.specs.Syntax.{Direction, no_direction, ascending, descending, NullsEnd, no_nulls_end, nulls_first, nulls_last, Ordering, ordering, OrderBy, no_order, order_by, WindowedSelect, windowed_select, no_explain, explain, explain_table, OrderedSelect, ordered_select}
+use Rattle.sql_grammar.specs.Words.{words_of_direction, words_of_nulls_end, words_of_ordering, words_of_orderings, words_of_order, words_of_windowed, words_of_ordered, levels_of_windowed, levels_of_ordered}
+use Rattle.sql_grammar.specs.Machine.{depth_of, by_row, step_of, takes_then, takes_all}
 use Rattle.sql_grammar.proofs.Complete.{Passes, EndsSelect, skip, apart, ending}
-use Rattle.sql_grammar.proofs.WindowComplete.{EndsOrder, window-order, windowed}
+use Rattle.sql_grammar.proofs.WindowComplete.{EndsOrder, EndsWindow, window-order, ending-window, nothing-window, windowed}
 use Rattle.sql_grammar.proofs.FromComplete.{selected}
 
 -- what follows a column of an order
@@ -29,6 +34,10 @@ after-column no_direction (nulls_first n f) ts p = refl
 after-column no_direction (nulls_last n l) ts p = refl
 after-column (ascending k) z ts p = refl
 after-column (descending k) z ts p = refl
+
+-- the words of a SELECT with its order and its window, and those behind them
+pub windowed-words : (q y w ts : List Terminal) → (q ++ (y ++ w)) ++ ts ≡ q ++ (y ++ (w ++ ts))
+windowed-words q y w ts = append_assoc q (y ++ w) ts ∙ ap (λ l. q ++ l) (append_assoc y w ts)
 
 module _ (limit : ℕ) where
   direction : (d : Direction) (s : List Item) (ts : List Terminal) → Passes MaybeDirection ts → takes_all limit (words_of_direction d ++ ts) (MaybeDirection ∷ s) ≡ takes_all limit ts s
@@ -74,13 +83,46 @@ module _ (limit : ℕ) where
       takes_all limit (words_of_select q ++ ts) (Whole ∷ []) ≡ takes_all limit (words_of_select q ++ ts) (Query ∷ MaybeOrder ∷ MaybeLimit ∷ MaybeOffset ∷ Ends ∷ [])
   opened (select_from k o os f g gs w) ts = refl
 
-  rest : (q : Select) (y : OrderBy) (v : Window) (e : Ending) → levels_of_ordered (ordered_select no_explain q y v e) ≤ limit →
+  -- a SELECT with its order and its window, in parts
+  rest : (q : Select) (y : OrderBy) (v : Window) (s : List Item) (ts : List Terminal) → levels_of_select q + depth_of s ≤ limit → EndsWindow ts →
+      takes_all limit (words_of_select q ++ (words_of_order y ++ (words_of_window v ++ ts))) (Query ∷ MaybeOrder ∷ MaybeLimit ∷ MaybeOffset ∷ s) ≡ takes_all limit ts s
+  rest q y v s ts low ends =
+      let last : List Terminal = words_of_window v ++ ts in
+      selected limit q (MaybeOrder ∷ MaybeLimit ∷ MaybeOffset ∷ s) (words_of_order y ++ last) (omega (arith, low)) (after-select y last (window-order v ts ends)) ∙
+      (order y (MaybeLimit ∷ MaybeOffset ∷ s) last (window-order v ts ends) ∙ windowed limit v ts s ends)
+
+  pub windowed-select : (x : WindowedSelect) (s : List Item) (ts : List Terminal) → levels_of_windowed x + depth_of s ≤ limit → EndsWindow ts →
+      takes_all limit (words_of_windowed x ++ ts) (Query ∷ MaybeOrder ∷ MaybeLimit ∷ MaybeOffset ∷ s) ≡ takes_all limit ts s
+  windowed-select (windowed_select q y v) s ts low ends =
+      ap (λ l. takes_all limit l (Query ∷ MaybeOrder ∷ MaybeLimit ∷ MaybeOffset ∷ s)) (windowed-words (words_of_select q) (words_of_order y) (words_of_window v) ts) ∙ rest q y v s ts low ends
+
+  -- without a window
+  pub ordered-select : (q : Select) (y : OrderBy) (s : List Item) (ts : List Terminal) → levels_of_select q + depth_of s ≤ limit → EndsOrder ts →
+      takes_all limit (words_of_select q ++ (words_of_order y ++ ts)) (Query ∷ MaybeOrder ∷ s) ≡ takes_all limit ts s
+  ordered-select q y s ts low ends = selected limit q (MaybeOrder ∷ s) (words_of_order y ++ ts) (omega (arith, low)) (after-select y ts ends) ∙ order y s ts ends
+
+  pub windowed_alone : (x : WindowedSelect) → levels_of_windowed x ≤ limit → takes_all limit (words_of_windowed x) (Query ∷ MaybeOrder ∷ MaybeLimit ∷ MaybeOffset ∷ []) ≡ true
+  windowed_alone x low = ap (λ l. takes_all limit l (Query ∷ MaybeOrder ∷ MaybeLimit ∷ MaybeOffset ∷ [])) (sym (append-nil (words_of_windowed x))) ∙
+      windowed-select x [] [] (omega (arith, low)) nothing-window
+
+  -- up to a statement's end
+  ended : (q : Select) (y : OrderBy) (v : Window) (e : Ending) → levels_of_select q ≤ limit →
       takes_all limit (words_of_select q ++ (words_of_order y ++ (words_of_window v ++ words_of_ending e))) (Query ∷ MaybeOrder ∷ MaybeLimit ∷ MaybeOffset ∷ Ends ∷ []) ≡ true
-  rest q y v e low =
-      let last : List Terminal = words_of_window v ++ words_of_ending e in
-      selected limit q (MaybeOrder ∷ MaybeLimit ∷ MaybeOffset ∷ Ends ∷ []) (words_of_order y ++ last) (omega (arith, low)) (after-select y last (window-order v e)) ∙
-      (order y (MaybeLimit ∷ MaybeOffset ∷ Ends ∷ []) last (window-order v e) ∙ (windowed limit v e (Ends ∷ []) ∙ ending limit e))
+  ended q y v e low = rest q y v (Ends ∷ []) (words_of_ending e) (omega (arith, low)) (ending-window e) ∙ ending limit e
+
+  no-table : (q : Select) (ts : List Terminal) →
+      takes_all limit (words_of_select q ++ ts) (MaybeTable ∷ Query ∷ MaybeOrder ∷ MaybeLimit ∷ MaybeOffset ∷ Ends ∷ []) ≡ takes_all limit (words_of_select q ++ ts) (Query ∷ MaybeOrder ∷ MaybeLimit ∷ MaybeOffset ∷ Ends ∷ [])
+  no-table (select_from k o os f g gs w) ts = refl
+
+  -- (TABLE) before other words
+  tabled : (b : Bool) → IsOffered b → (t m : Token) (s : List Item) (ts : List Terminal) (below : Option (List Item)) →
+      takes_then (by_row limit (cond b (Some (Keyword Table ∷ Sign Close ∷ [])) None) true s below) (takes_all limit (t_key Table t ∷ t_mark Close m ∷ ts)) ≡ takes_all limit ts s
+  tabled true p t m s ts below = refl
+  tabled false p t m s ts below = absurd p
 
   pub ordered : (x : OrderedSelect) → levels_of_ordered x ≤ limit → takes_all limit (words_of_ordered x) (Whole ∷ []) ≡ true
-  ordered (ordered_select no_explain q y v e) low = opened q (words_of_order y ++ (words_of_window v ++ words_of_ending e)) ∙ rest q y v e low
-  ordered (ordered_select (explain k) q y v e) low = rest q y v e low
+  ordered (ordered_select no_explain q y v e) low = opened q (words_of_order y ++ (words_of_window v ++ words_of_ending e)) ∙ ended q y v e low
+  ordered (ordered_select (explain k) q y v e) low = no-table q (words_of_order y ++ (words_of_window v ++ words_of_ending e)) ∙ ended q y v e low
+  ordered (ordered_select (explain_table p k o t m) q y v e) low =
+      tabled READS_TABLE p t m (Query ∷ MaybeOrder ∷ MaybeLimit ∷ MaybeOffset ∷ Ends ∷ []) (words_of_select q ++ (words_of_order y ++ (words_of_window v ++ words_of_ending e)))
+      (step_of limit (MarkClass Open) (Query ∷ MaybeOrder ∷ MaybeLimit ∷ MaybeOffset ∷ Ends ∷ [])) ∙ ended q y v e low

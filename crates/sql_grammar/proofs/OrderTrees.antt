@@ -3,17 +3,19 @@ use Rattle.std.proofs.Common.{◌≡◌, Bool, true, false, List, [], ◌∷◌,
 use Rattle.std.proofs.lemmas.List.{append_assoc}
 use Rattle.sql_grammar.specs.declared.class.Word.TheVariants.{Asc, Desc, Order}
 use Rattle.sql_grammar.specs.declared.class.Free.TheVariants.{Nulls}
-use Rattle.sql_grammar.specs.declared.class.Symbol.TheVariants.{Comma, Dot}
-use Rattle.sql_grammar.specs.Terminals.{Terminal, free, t_key, t_mark, t_name}
+use Rattle.sql_grammar.specs.declared.class.Symbol.TheVariants.{Close, Comma, Dot}
+use Rattle.sql_grammar.specs.declared.offered.TheConstants.{READS_TABLE}
+use Rattle.sql_grammar.specs.Terminals.{Terminal, free, t_key, t_mark, t_name, t_semicolon, t_end}
 use Rattle.sql_grammar.specs.Syntax.{Mark, Col, column, Select, select_from, no_limit, most_rows, no_offset, skipped_rows, Window, window, Ending, semicolon, text_end}
-use Rattle.sql_grammar.specs.Syntax.{Direction, no_direction, ascending, descending, NullsEnd, no_nulls_end, nulls_first, nulls_last, Ordering, ordering, OrderBy, no_order, order_by, no_explain, explain, OrderedSelect, ordered_select}
-use Rattle.sql_grammar.specs.Unique.{ends_operand}
+use Rattle.sql_grammar.specs.Syntax.{Direction, no_direction, ascending, descending, NullsEnd, no_nulls_end, nulls_first, nulls_last, Ordering, ordering, OrderBy, no_order, order_by, WindowedSelect, windowed_select, no_explain, explain, explain_table, OrderedSelect, ordered_select}
+use Rattle.sql_grammar.specs.Unique.{ends_operand, ends_windowed}
 use Rattle.sql_grammar.specs.Words.{words_of_col, words_of_select, words_of_window, words_of_ending}
-use Rattle.sql_grammar.specs.Words.{words_of_direction, words_of_nulls_end, words_of_ordering, words_of_orderings, words_of_order, words_of_ordered}
+use Rattle.sql_grammar.specs.Words.{words_of_direction, words_of_nulls_end, words_of_ordering, words_of_orderings, words_of_order, words_of_windowed, words_of_ordered}
 use Rattle.sql_grammar.proofs.ExprTrees.{one_operand, tested}
-use Rattle.sql_grammar.proofs.Trees.{ends_select}
-use Rattle.sql_grammar.proofs.WindowTrees.{one_window}
+use Rattle.sql_grammar.proofs.Trees.{ends_select, one_ending}
+use Rattle.sql_grammar.proofs.WindowTrees.{one_offered, one_window}
 use Rattle.sql_grammar.proofs.FromTrees.{one_select}
+use Rattle.sql_grammar.proofs.OrderComplete.{windowed-words}
 
 -- neither ASC nor DESC is next
 abbrev ends_direction : List Terminal → Bool
@@ -144,16 +146,22 @@ orderless (t_key Order _ ∷ _) = false
 orderless _ = true
 
 -- what may stand behind an order
-record EndsOrder (x : List Terminal) : Type 0 where
-  order : ends_order x ≡ true
-  none : orderless x ≡ true
-  select : ends_select x ≡ true
+pub record EndsOrder (x : List Terminal) : Type 0 where
+  pub order : ends_order x ≡ true
+  pub none : orderless x ≡ true
+  pub select : ends_select x ≡ true
 
-window-ends : (w : Window) (e : Ending) → EndsOrder (words_of_window w ++ words_of_ending e)
-window-ends (window (most_rows p k n) o) e = record { order = refl; none = refl; select = refl }
-window-ends (window no_limit (skipped_rows p k n)) e = record { order = refl; none = refl; select = refl }
-window-ends (window no_limit no_offset) (semicolon t) = record { order = refl; none = refl; select = refl }
-window-ends (window no_limit no_offset) (text_end t) = record { order = refl; none = refl; select = refl }
+windowed-order : (x : List Terminal) → ends_windowed x ≡ true → EndsOrder x
+windowed-order [] h = record { order = refl; none = refl; select = refl }
+windowed-order (t_mark Close _ ∷ _) h = record { order = refl; none = refl; select = refl }
+windowed-order (t_semicolon _ ∷ _) h = record { order = refl; none = refl; select = refl }
+windowed-order (t_end _ ∷ _) h = record { order = refl; none = refl; select = refl }
+windowed-order _ h = absurd (cc)
+
+window-ends : (w : Window) (x : List Terminal) → ends_windowed x ≡ true → EndsOrder (words_of_window w ++ x)
+window-ends (window (most_rows p k n) o) x h = record { order = refl; none = refl; select = refl }
+window-ends (window no_limit (skipped_rows p k n)) x h = record { order = refl; none = refl; select = refl }
+window-ends (window no_limit no_offset) x h = windowed-order x h
 
 one_order : (a b : OrderBy) (x y : List Terminal) → EndsOrder x → EndsOrder y → words_of_order a ++ x ≡ words_of_order b ++ y → (a ≡ b) × (x ≡ y)
 one_order no_order no_order x y p q h = (refl, h)
@@ -171,23 +179,55 @@ order-select : (a : OrderBy) (x : List Terminal) → EndsOrder x → ends_select
 order-select no_order x p = p.select
 order-select (order_by k b o os) x p = refl
 
--- a window and an end
-abbrev behind : Window → Ending → List Terminal
-behind w e = words_of_window w ++ words_of_ending e
+-- a SELECT with its order
+pub one_sorted : (p q : Select) (a b : OrderBy) (x y : List Terminal) → EndsOrder x → EndsOrder y → words_of_select p ++ (words_of_order a ++ x) ≡ words_of_select q ++ (words_of_order b ++ y) →
+    (p ≡ q) × (a ≡ b) × (x ≡ y)
+one_sorted p q a b x y h k e =
+    let (first, more) = one_select p q (words_of_order a ++ x) (words_of_order b ++ y) (order-select a x h) (order-select b y k) e in
+    let (order, rest) = one_order a b x y h k more in
+    (first, order, rest)
 
-one_rest : (p q : Select) (a b : OrderBy) (v w : Window) (e f : Ending) → words_of_select p ++ (words_of_order a ++ behind v e) ≡ words_of_select q ++ (words_of_order b ++ behind w f) →
-    (p ≡ q) × (a ≡ b) × (v ≡ w) × (e ≡ f)
-one_rest p q a b v w e f h =
-    let (first, more) = one_select p q (words_of_order a ++ behind v e) (words_of_order b ++ behind w f) (order-select a (behind v e) (window-ends v e)) (order-select b (behind w f) (window-ends w f)) h in
-    let (order, rest) = one_order a b (behind v e) (behind w f) (window-ends v e) (window-ends w f) more in
-    let (rows, end) = one_window v w e f rest in
-    (first, order, rows, end)
+-- and with its window
+one_rest : (p q : Select) (a b : OrderBy) (v w : Window) (x y : List Terminal) → ends_windowed x ≡ true → ends_windowed y ≡ true →
+    words_of_select p ++ (words_of_order a ++ (words_of_window v ++ x)) ≡ words_of_select q ++ (words_of_order b ++ (words_of_window w ++ y)) → (p ≡ q) × (a ≡ b) × (v ≡ w) × (x ≡ y)
+one_rest p q a b v w x y h k e =
+    let (first, order, more) = one_sorted p q a b (words_of_window v ++ x) (words_of_window w ++ y) (window-ends v x h) (window-ends w y k) e in
+    let (rows, rest) = one_window v w x y h k more in
+    (first, order, rows, rest)
+
+pub one_windowed : (a b : WindowedSelect) (x y : List Terminal) → ends_windowed x ≡ true → ends_windowed y ≡ true → words_of_windowed a ++ x ≡ words_of_windowed b ++ y → (a ≡ b) × (x ≡ y)
+one_windowed (windowed_select p a v) (windowed_select q b w) x y h k e =
+    let (first, order, rows, rest) = one_rest p q a b v w x y h k
+    (sym (windowed-words (words_of_select p) (words_of_order a) (words_of_window v) x) ∙ (e ∙ windowed-words (words_of_select q) (words_of_order b) (words_of_window w) y)) in
+    (cc (first, order, rows), rest)
+
+ending-windowed : (e : Ending) → ends_windowed (words_of_ending e) ≡ true
+ending-windowed (semicolon t) = refl
+ending-windowed (text_end t) = refl
+
+one_ended : (p q : Select) (a b : OrderBy) (v w : Window) (e f : Ending) →
+    words_of_select p ++ (words_of_order a ++ (words_of_window v ++ words_of_ending e)) ≡ words_of_select q ++ (words_of_order b ++ (words_of_window w ++ words_of_ending f)) → (p ≡ q) × (a ≡ b) × (v ≡ w) × (e ≡ f)
+one_ended p q a b v w e f h =
+    let (first, order, rows, rest) = one_rest p q a b v w (words_of_ending e) (words_of_ending f) (ending-windowed e) (ending-windowed f) h in
+    (first, order, rows, one_ending e f rest)
 
 pub one_ordered : (x y : OrderedSelect) → words_of_ordered x ≡ words_of_ordered y → x ≡ y
-one_ordered (ordered_select no_explain p a v e) (ordered_select no_explain q b w f) h = let (first, order, rows, end) = one_rest p q a b v w e f h in cc (first, order, rows, end)
+one_ordered (ordered_select no_explain p a v e) (ordered_select no_explain q b w f) h = let (first, order, rows, end) = one_ended p q a b v w e f h in cc (first, order, rows, end)
 one_ordered (ordered_select no_explain (select_from k o os i g gs c) a v e) (ordered_select (explain j) q b w f) h = absurd (cc)
+one_ordered (ordered_select no_explain (select_from k o os i g gs c) a v e) (ordered_select (explain_table j l m n r) q b w f) h = absurd (cc)
 one_ordered (ordered_select (explain i) p a v e) (ordered_select no_explain (select_from k o os j g gs c) b w f) h = absurd (cc)
 one_ordered (ordered_select (explain i) p a v e) (ordered_select (explain j) q b w f) h =
     let word : i ≡ j = cc (h) in
-    let (first, order, rows, end) = one_rest p q a b v w e f (ap (drop 1) h) in
+    let (first, order, rows, end) = one_ended p q a b v w e f (ap (drop 1) h) in
     cc (word, first, order, rows, end)
+one_ordered (ordered_select (explain i) (select_from k o os j g gs c) a v e) (ordered_select (explain_table z l m n r) q b w f) h = absurd (cc)
+one_ordered (ordered_select (explain_table i l m n r) p a v e) (ordered_select no_explain (select_from k o os j g gs c) b w f) h = absurd (cc)
+one_ordered (ordered_select (explain_table z l m n r) p a v e) (ordered_select (explain i) (select_from k o os j g gs c) b w f) h = absurd (cc)
+one_ordered (ordered_select (explain_table i k o t m) p a v e) (ordered_select (explain_table j l u r n) q b w f) h =
+    let offered = one_offered READS_TABLE i j in
+    let word : k ≡ l = cc (h) in
+    let open' : o ≡ u = cc (h) in
+    let table : t ≡ r = cc (h) in
+    let close : m ≡ n = cc (h) in
+    let (first, order, rows, end) = one_ended p q a b v w e f (ap (drop 4) h) in
+    cc (offered, word, open', table, close, first, order, rows, end)

@@ -7,23 +7,22 @@ use Rattle.pg_base.specs.declared.faults.Limit.TheVariants.{Depth}
 use Rattle.pg_base.specs.declared.faults.Fault.{Fault}
 use Rattle.pg_base.specs.declared.limits.TheConstants.{MOST_LEVELS}
 use Rattle.sql_lex.specs.declared.tokens.Token.{Token}
-use Rattle.sql_grammar.specs.Terminals.{Terminal, t_key, t_mark, t_name, class_of}
+use Rattle.sql_grammar.specs.Terminals.{Terminal, class_of}
 use Rattle.sql_grammar.specs.Reading.{terminal_of}
 use Rattle.sql_grammar.specs.declared.class.Class.{Class}
-use Rattle.sql_grammar.specs.declared.class.Word.TheVariants.{On}
-use Rattle.sql_grammar.specs.declared.class.Symbol.TheVariants.{Open, Close}
 use Rattle.sql_grammar.specs.declared.table.Item.{Item}
-use Rattle.sql_grammar.specs.declared.table.Item.TheVariants.{Whole, Query, Negation, MoreAnds, MoreOrs, Keyword, Sign, Label, MaybeUsing, MaybeClass, MaybeDirection, MaybeNulls, MoreKeys, MaybeInclude, MaybeWhere}
+use Rattle.sql_grammar.specs.declared.table.Item.TheVariants.{Whole, Query, Negation, MoreAnds, MoreOrs, MaybeOrder, MaybeLimit, MaybeOffset, Candidate}
 use Rattle.sql_grammar.specs.Table.{Expansion, takes_of, is_optional}
 use Rattle.sql_grammar.specs.Machine.{depth_of, opens, by_row, step_of, and_then, run_of, may_end, takes_then, takes_all, is_closed}
-use Rattle.sql_grammar.specs.Syntax.{either_of, both_of, index_key, cand_on}
-use Rattle.sql_grammar.specs.Words.{words_of, words_of_select, words_of_neg, words_of_ands, words_of_ors, words_of_using, words_of_class, words_of_direction, words_of_nulls_end, words_of_keys, words_of_include, words_of_where}
-use Rattle.sql_grammar.specs.Faults.{Production, IsStatement, IsSelect, IsCand, IsExpr, IsPrefix, IsAtFault, IsFirstFault, EndsAt, IsPartEnd, IsWhole, terminals, AreWithinLimits}
+use Rattle.sql_grammar.specs.Syntax.{either_of, both_of, window, windowed_select}
+use Rattle.sql_grammar.specs.Words.{words_of, words_of_select, words_of_order, words_of_limit, words_of_offset, words_of_cand, words_of_neg, words_of_ands, words_of_ors}
+use Rattle.sql_grammar.specs.Faults.{Production, IsStatement, IsSelect, IsWindowed, IsCand, IsExpr, IsPrefix, IsAtFault, IsFirstFault, EndsAt, IsPartEnd, IsWhole, terminals, AreWithinLimits}
 use Rattle.sql_grammar.specs.Walk.{StopsBy, IsUnawaitedAt, WalkEnds, WalkStops, IsWalk}
 use Rattle.sql_grammar.proofs.Forest.{Parts, words_of_parts}
 use Rattle.sql_grammar.proofs.Sound.{begun, ended}
 use Rattle.sql_grammar.proofs.Complete.{alone}
 use Rattle.sql_grammar.proofs.FromComplete.{selected_alone}
+use Rattle.sql_grammar.proofs.OrderComplete.{windowed_alone}
 use Rattle.sql_grammar.proofs.IndexComplete.{cand}
 use Rattle.sql_grammar.proofs.StatementComplete.{statement}
 
@@ -176,23 +175,23 @@ selects = record {
   more = λ limit more ts le (q, low, is). (q, omega (arith, le, low), is);
 }
 
--- the words of CREATE INDEX from its table's words on, in parts
-cand-words : (u c d z ks inc w : List Terminal) (p n m : Terminal) →
-    u ++ p ∷ n ∷ ((c ++ (d ++ z)) ++ (ks ++ m ∷ (inc ++ w))) ≡ u ++ p ∷ n ∷ (c ++ (d ++ (z ++ ((ks ++ m ∷ []) ++ (inc ++ w)))))
-cand-words u c d z ks inc w p n m = simp append_assoc
+pub windowed : Begins (Query ∷ MaybeOrder ∷ MaybeLimit ∷ MaybeOffset ∷ []) IsWindowed
+windowed = record {
+  flat = refl;
+  whole = λ limit ts ((q, low), (y, (l, (o, _)))) is. (
+    windowed_select q y (window l o),
+    omega (arith, low),
+    ap (λ v. words_of_select q ++ (words_of_order y ++ (words_of_limit l ++ v))) (sym (append-nil (words_of_offset o))) ∙ is,
+  );
+  taken = λ limit ts (x, low, is). subst (λ l. takes_all limit l (Query ∷ MaybeOrder ∷ MaybeLimit ∷ MaybeOffset ∷ []) ≡ true) is (windowed_alone limit x low);
+  more = λ limit more ts le (x, low, is). (x, omega (arith, le, low), is);
+}
 
-pub cands : Begins (Label ∷ Keyword On ∷ Label ∷ MaybeUsing ∷ Sign Open ∷ Label ∷ MaybeClass ∷ MaybeDirection ∷ MaybeNulls ∷ MoreKeys ∷ MaybeInclude ∷ MaybeWhere ∷ []) IsCand
+pub cands : Begins (Candidate ∷ []) IsCand
 cands = record {
   flat = refl;
-  whole = λ limit ts (n, (o, (t, (u, (p, (x, (c, (d, (z, ((ks, m), (inc, ((w, low), _)))))))))))) is. (
-    cand_on n o t u p (index_key x c d z) ks m inc w,
-    omega (arith, low),
-    ap (λ l. t_name n ∷ t_key On o ∷ t_name t ∷ l)
-        (cand-words (words_of_using u) (words_of_class c) (words_of_direction d) (words_of_nulls_end z) (words_of_keys ks) (words_of_include inc) (words_of_where w) (t_mark Open p) (t_name x) (t_mark Close m) ∙
-        ap (λ v. words_of_using u ++ t_mark Open p ∷ t_name x ∷ (words_of_class c ++ (words_of_direction d ++ (words_of_nulls_end z ++ ((words_of_keys ks ++ t_mark Close m ∷ []) ++ (words_of_include inc ++ v))))))
-        (sym (append-nil (words_of_where w)))) ∙ is,
-  );
-  taken = λ limit ts (x, low, is). subst (λ l. takes_all limit l (Label ∷ Keyword On ∷ Label ∷ MaybeUsing ∷ Sign Open ∷ Label ∷ MaybeClass ∷ MaybeDirection ∷ MaybeNulls ∷ MoreKeys ∷ MaybeInclude ∷ MaybeWhere ∷ []) ≡ true) is (cand limit x low);
+  whole = λ limit ts ((x, low), _) is. (x, omega (arith, low), sym (append-nil (words_of_cand x)) ∙ is);
+  taken = λ limit ts (x, low, is). subst (λ l. takes_all limit l (Candidate ∷ []) ≡ true) is (cand limit x low);
   more = λ limit more ts le (x, low, is). (x, omega (arith, le, low), is);
 }
 

@@ -2,7 +2,7 @@
 use Rattle.std.proofs.Common.{◌≡◌, ℕ, ◌+◌, ◌*◌, ◌≤◌, ◌<◌, Bool, true, false, List, [], ◌∷◌, ◌++◌, length, Some, None, refl, sym, ap, ◌∙◌, subst, arith, length-append, cond, nat_eq}
 use Rattle.std.proofs.lemmas.Bool.{leb-true, le-leb, lt-leb, and_parts}
 use Rattle.pg_base.specs.declared.limits.TheConstants.{MOST_LEVELS}
-use Rattle.sql_grammar.specs.declared.class.Free.TheVariants.{Analyze, Common, Copy, Explain, Histogram, Rows, Statistics}
+use Rattle.sql_grammar.specs.declared.class.Free.TheVariants.{Common, Copy, Explain, Histogram, Rows, Statistics}
 use Rattle.sql_grammar.specs.declared.class.Free.{Free}
 use Rattle.sql_grammar.specs.declared.class.Word.{Word}
 use Rattle.sql_grammar.specs.declared.class.Word.TheVariants.{And, As, Create, Is, Not, Or, Select, Where}
@@ -11,7 +11,7 @@ use Rattle.sql_grammar.specs.declared.class.Symbol.TheVariants.{Open, Close, Com
 use Rattle.sql_grammar.specs.declared.class.Class.{Class}
 use Rattle.sql_grammar.specs.declared.class.Class.TheVariants.{Key, Mark, Name, Number, Quoted, Operator, Semicolon, End}
 use Rattle.sql_grammar.specs.declared.table.Item.{Item}
-use Rattle.sql_grammar.specs.declared.table.Item.TheVariants.{Keyword, Sign, FreeWord, Label, Digits, QuotedText, Whole, Ends, Stop, Query, Nullness, MoreColumns, Result, MoreResults, AfterResult, StarOrLabel, MaybeAlias, MoreJoins, MoreGroups, MaybeWhere, Figures, MaybeCommon, MoreShares, MaybeHistogram, MoreBounds, Literal, Negation, MoreAnds, MoreOrs, Closes, NotEnds, AfterName, AfterColumn, AfterIs, AfterLiteral, AfterTruth, Side, AfterQualifier, MaybeOrder, MoreOrderings, MaybeLimit, MaybeOffset, MaybeDirection, MaybeNulls, FirstOrLast, AfterCreate, MaybeUsing, MaybeClass, MoreKeys, MaybeInclude, MoreNames}
+use Rattle.sql_grammar.specs.declared.table.Item.TheVariants.{Keyword, Sign, FreeWord, Label, Digits, QuotedText, Whole, Ends, Stop, Query, Nullness, MoreColumns, Result, MoreResults, AfterResult, StarOrLabel, MaybeAlias, MoreJoins, MoreGroups, MaybeWhere, Figures, MaybeCommon, MoreShares, MaybeHistogram, MoreBounds, Literal, Negation, MoreAnds, MoreOrs, Closes, NotEnds, AfterName, AfterColumn, AfterIs, AfterLiteral, AfterTruth, Side, AfterQualifier, MaybeOrder, MoreOrderings, MaybeLimit, MaybeOffset, MaybeDirection, MaybeNulls, FirstOrLast, AfterCreate, MaybeUsing, MaybeClass, MoreKeys, MaybeInclude, MoreNames, MaybeTable, Candidate, MoreCands, AdvisedSelect, MoreAdvised}
 use Rattle.sql_grammar.specs.Table.{word_code, sign_code, free_code, takes_of, is_optional, room_of, statement_takes, ends_takes, stop_takes, query_takes, nullness_takes, columns_takes, output_takes, outputs_takes, after_output_takes, star_takes, alias_takes, where_takes, figures_takes, common_takes, shares_takes, histogram_takes, bounds_takes, lit_takes, negation_takes, ands_takes, ors_takes, literal_takes, column_takes, name_takes, side_takes, qualifier_takes, keyword_takes, sign_takes, free_takes, label_takes, digits_takes, quoted_takes}
 use Rattle.sql_grammar.specs.Machine.{depth_of, opens, pushed, by_row, step_of, Fits}
 use Rattle.sql_grammar.specs.Steps.{Taken}
@@ -20,6 +20,7 @@ use Rattle.sql_grammar.proofs.FromRoom.{joins-room, groups-room}
 use Rattle.sql_grammar.proofs.OrderRoom.{order-room, orderings-room, direction-room, nulls-room, nulls-end-room}
 use Rattle.sql_grammar.proofs.WindowRoom.{limit-room, offset-room}
 use Rattle.sql_grammar.proofs.IndexRoom.{create-room, using-room, class-room, keys-room, include-room, names-room}
+use Rattle.sql_grammar.proofs.AdviseRoom.{offered-room, table-room, candidate-room, cands-room, advised-room, more-advised-room}
 use Rattle.sql_grammar.proofs.Sound.{flat-depth}
 
 keyword-room : (w : Word) (t : Class) → row_test (Keyword w) t (keyword_takes w t) ≡ true
@@ -44,7 +45,7 @@ statement-room (Key Select) = refl
 statement-room (Name (Some Copy)) = refl
 statement-room (Name (Some Explain)) = refl
 statement-room (Name (Some Statistics)) = refl
-statement-room (Name (Some Analyze)) = refl
+statement-room (Name (Some w)) = offered-room w
 statement-room Semicolon = refl
 statement-room End = refl
 statement-room _ = refl
@@ -227,6 +228,11 @@ row-room MaybeClass t = class-room t
 row-room MoreKeys t = keys-room t
 row-room MaybeInclude t = include-room t
 row-room MoreNames t = names-room t
+row-room MaybeTable t = table-room t
+row-room Candidate t = candidate-room t
+row-room MoreCands t = cands-room t
+row-room AdvisedSelect t = advised-room t
+row-room MoreAdvised t = more-advised-room t
 
 room-some : (i : Item) → 1 ≤ room_of i
 room-some Whole = omega arith
@@ -276,6 +282,12 @@ pushes i t is s row fits shallow =
       depth = omega (arith, one, depth-append is s);
       length = omega (arith, one, depth-append is s, room-length 16 (is ++ s) all);
     }
+
+-- there are cells for a row's items
+pub room-for : (i : Item) (t : Class) (is s mid : List Item) → mid ≡ i ∷ s → takes_of i t ≡ Some is → Fits 16 mid → depth_of mid ≤ MOST_LEVELS → length is + length s ≤ 120
+room-for i t is s mid top row fits shallow =
+    let p = pushes i t is s row (subst (Fits 16) top fits) (subst (λ m. depth_of m ≤ MOST_LEVELS) top shallow) in
+    omega (arith, p.length, length-append is s)
 
 pushed-yes : (limit : ℕ) (is s : List Item) → depth_of (is ++ s) ≤ limit → pushed limit is s ≡ Some (is ++ s)
 pushed-yes limit is s low = rw (le-leb _ _ low) (elim (opens is) as (λ b. cond b (Some (is ++ s)) (Some (is ++ s)) ≡ Some (is ++ s)) [ true ↦ refl | false ↦ refl ])

@@ -1,21 +1,20 @@
 -- Each row of the table is a rule of the grammar: from parts for what stands for an item after a token, a part for the item.
-use Rattle.std.proofs.Common.{◌≡◌, ℕ, ◌≤◌, Bool, true, false, List, [], ◌∷◌, ◌++◌, Some, None, refl, sym, ap, subst, ◌∙◌, arith, append_assoc, append-nil, cond, nat_eq}
+use Rattle.std.proofs.Common.{◌≡◌, ℕ, ◌≤◌, Bool, true, false, List, [], ◌∷◌, ◌++◌, Some, None, refl, sym, ap, ◌∙◌, arith, append_assoc, append-nil, cond, nat_eq}
 use Rattle.sql_lex.specs.declared.tokens.Token.{Token}
 use Rattle.sql_lex.specs.declared.tokens.Kind.TheVariants.{End}
-use Rattle.sql_grammar.specs.declared.offered.TheConstants.{READS_ANALYZE}
 use Rattle.sql_grammar.specs.Terminals.{Terminal, Ident, Said, t_key, t_mark, t_name, t_number, t_quoted, t_operator, t_semicolon, t_end, free, other, class_of}
-use Rattle.sql_grammar.specs.declared.class.Free.TheVariants.{Analyze, Common, Copy, Distinct, Explain, Histogram, Last, Nulls, Pages, Rows, Statistics}
+use Rattle.sql_grammar.specs.declared.class.Free.TheVariants.{Common, Copy, Distinct, Explain, Histogram, Last, Nulls, Pages, Rows, Statistics}
 use Rattle.sql_grammar.specs.declared.class.Free.{Free as FreeT}
 use Rattle.sql_grammar.specs.declared.class.Word.{Word}
 use Rattle.sql_grammar.specs.declared.class.Word.TheVariants.{And, As, Create, False, From, Is, Not, Null, Or, Select, Table, True, Where}
 use Rattle.sql_grammar.specs.declared.class.Symbol.{Symbol}
 use Rattle.sql_grammar.specs.declared.class.Symbol.TheVariants.{Open, Close, Comma, Dot, Minus, Star}
 use Rattle.sql_grammar.specs.declared.table.Item.{Item}
-use Rattle.sql_grammar.specs.declared.table.Item.TheVariants.{Keyword, Sign, FreeWord, Label, Digits, QuotedText, Whole, Ends, Stop, Query, Nullness, MoreColumns, Result, MoreResults, AfterResult, StarOrLabel, MaybeAlias, MoreJoins, MoreGroups, MaybeWhere, Figures, MaybeCommon, MoreShares, MaybeHistogram, MoreBounds, Literal, Negation, MoreAnds, MoreOrs, Closes, NotEnds, AfterName, AfterColumn, AfterIs, AfterLiteral, AfterTruth, Side, AfterQualifier, MaybeOrder, MoreOrderings, MaybeLimit, MaybeOffset, MaybeDirection, MaybeNulls, FirstOrLast, AfterCreate, MaybeUsing, MaybeClass, MoreKeys, MaybeInclude, MoreNames}
-use Rattle.sql_grammar.specs.Syntax.{bare, qualified, yes, no, unknown, number, negative, quoted, constant, column, literal, either_of, no_or, or_conj, both_of, no_and, and_neg, negated, plain, parens, compare, is_null, is_not_null, column_alone, constant_alone, unwritten, not_null, nullable, coldef, every, every_of, one, no_alias, bare_alias, as_alias, relation, group_of, no_where, where_expr, select_from, share, no_common, common, no_histogram, histogram, semicolon, text_end, empty, create_table, query, copy, sizes, column_statistics, IsOffered, analyze}
+use Rattle.sql_grammar.specs.declared.table.Item.TheVariants.{Keyword, Sign, FreeWord, Label, Digits, QuotedText, Whole, Ends, Stop, Query, Nullness, MoreColumns, Result, MoreResults, AfterResult, StarOrLabel, MaybeAlias, MoreJoins, MoreGroups, MaybeWhere, Figures, MaybeCommon, MoreShares, MaybeHistogram, MoreBounds, Literal, Negation, MoreAnds, MoreOrs, Closes, NotEnds, AfterName, AfterColumn, AfterIs, AfterLiteral, AfterTruth, Side, AfterQualifier, MaybeOrder, MoreOrderings, MaybeLimit, MaybeOffset, MaybeDirection, MaybeNulls, FirstOrLast, AfterCreate, MaybeUsing, MaybeClass, MoreKeys, MaybeInclude, MoreNames, MaybeTable, Candidate, MoreCands, AdvisedSelect, MoreAdvised}
+use Rattle.sql_grammar.specs.Syntax.{bare, qualified, yes, no, unknown, number, negative, quoted, constant, column, literal, either_of, no_or, or_conj, both_of, no_and, and_neg, negated, plain, parens, compare, is_null, is_not_null, column_alone, constant_alone, unwritten, not_null, nullable, coldef, every, every_of, one, no_alias, bare_alias, as_alias, relation, group_of, no_where, where_expr, select_from, share, no_common, common, no_histogram, histogram, semicolon, text_end, empty, create_table, query, copy, sizes, column_statistics}
 use Rattle.sql_grammar.specs.Words.{words_of_operand, words_of_output, words_of_outputs, words_of_alias, words_of_joins, words_of_groups, words_of_where, words_of_select, words_of_order, words_of_limit, words_of_offset, words_of_ending, words_of_common, words_of_histogram}
-use Rattle.sql_grammar.specs.Syntax.{no_direction, no_nulls_end, nulls_last, no_order, no_limit, no_offset, window, no_explain, explain, ordered_select}
-use Rattle.sql_grammar.specs.Syntax.{no_class, no_using, no_include}
+use Rattle.sql_grammar.specs.Syntax.{no_direction, no_nulls_end, nulls_last, no_order, no_limit, no_offset, window, windowed_select, no_explain, explain, ordered_select}
+use Rattle.sql_grammar.specs.Syntax.{no_class, index_key, no_using, no_include, cand_on, advised}
 use Rattle.sql_grammar.proofs.Codes.{same_word, same_sign, same_free}
 use Rattle.sql_grammar.specs.Table.{word_code, sign_code, free_code, Expansion, takes_of, is_optional, statement_takes, ends_takes, stop_takes, query_takes, nullness_takes, columns_takes, output_takes, outputs_takes, after_output_takes, star_takes, alias_takes, where_takes, figures_takes, common_takes, shares_takes, histogram_takes, bounds_takes, lit_takes, negation_takes, ands_takes, ors_takes, literal_takes, column_takes, name_takes, side_takes, qualifier_takes, keyword_takes, sign_takes, free_takes, label_takes, digits_takes, quoted_takes}
 use Rattle.sql_grammar.specs.Machine.{depth_of}
@@ -24,6 +23,7 @@ use Rattle.sql_grammar.proofs.FromRules as froms
 use Rattle.sql_grammar.proofs.OrderRules as orders
 use Rattle.sql_grammar.proofs.WindowRules as windows
 use Rattle.sql_grammar.proofs.IndexRules as indexes
+use Rattle.sql_grammar.proofs.AdviseRules as offers
 
 -- where a word stands that is not there
 abbrev no_place : Token
@@ -40,10 +40,6 @@ module _ (limit : ℕ) (s : List Item) (shallow : depth_of s ≤ limit) where
   abbrev pub Rule : Item → Terminal → Expansion → Type 0
   Rule i t e = IsRule limit s i t e
 
-  analyze_rule : (b : Bool) (k : Token) → b ≡ READS_ANALYZE → Rule Whole (t_name (free Analyze k)) (cond b (Some (Label ∷ Ends ∷ [])) None)
-  analyze_rule true k is = λ (n, (e, f)). (((analyze (subst IsOffered is tt) k n e, omega arith), f), refl)
-  analyze_rule false k is = tt
-
   statement_rule : (t : Terminal) → Rule Whole t (statement_takes (class_of t))
   statement_rule (t_key Create k) = λ ((ts, after'), f). let (x, is, low) = after' k in (((x, low), f), ap (λ l. l ++ words_of_parts limit s f) is)
   statement_rule (t_key Select k) = λ (o, (os, (from, (n, (a, ((js, ejs), ((gs, egs), ((w, low), (y, (l, (u, (e, f)))))))))))). (
@@ -54,13 +50,18 @@ module _ (limit : ℕ) (s : List Item) (shallow : depth_of s ≤ limit) where
         ap (λ x. t_key Select k ∷ x) (froms.select-words (words_of_output o) (words_of_outputs os) (words_of_alias a) (words_of_joins js) (words_of_groups gs) (words_of_where w)
         (words_of_order y ++ (words_of_limit l ++ (words_of_offset u ++ (words_of_ending e ++ parts)))) (t_key From from) (t_name n))),
   )
-  statement_rule (t_name (free Explain k)) = λ ((q, low), (y, (l, (u, (e, f))))). (((query (ordered_select (explain k) q y (window l u) e), omega arith), f), simp append_assoc)
+  statement_rule (t_name (free Explain k)) = λ ((ts, after'), ((q, low), (y, (l, (u, (e, f)))))).
+      let (x, is) = after' k in (
+        ((query (ordered_select x q y (window l u) e), omega arith), f),
+        ap (λ v. (v ++ (words_of_select q ++ (words_of_order y ++ ((words_of_limit l ++ words_of_offset u) ++ words_of_ending e)))) ++ words_of_parts limit s f) is ∙
+            ap (λ v. t_name (free Explain k) ∷ v) (windows.explained-words ts (words_of_select q) (words_of_order y) (words_of_limit l) (words_of_offset u) (words_of_ending e) (words_of_parts limit s f)),
+      )
   statement_rule (t_name (free Copy k)) = λ (n, (from_at, (stdin, (with_at, (open_at, (format, (csv, (comma, (null, (text, (close_at, (stop, f)))))))))))).
       (((copy (record { copy = k; from_at = from_at; stdin = stdin; with_at = with_at; open_at = open_at; format = format; csv = csv; comma = comma; null = null; close_at = close_at; stop = stop }) n text, omega arith), f), refl)
   statement_rule (t_name (free Statistics k)) = λ (n, ((ts, after'), (e, f))).
       let (x, is, flat) = after' k n e in
       (((x, omega (arith, flat)), f), ap (λ l. l ++ words_of_parts limit s f) is ∙ ap (λ l. t_name (free Statistics k) ∷ t_name n ∷ l) (append_assoc ts (words_of_ending e) (words_of_parts limit s f)))
-  statement_rule (t_name (free Analyze k)) = analyze_rule READS_ANALYZE k refl
+  statement_rule (t_name (free w k)) = offers.offered_rule limit s shallow w k
   statement_rule (t_semicolon t) = λ f. (((empty (semicolon t), omega arith), f), refl)
   statement_rule (t_end t) = λ f. (((empty (text_end t), omega arith), f), refl)
   statement_rule _ = tt
@@ -320,6 +321,11 @@ module _ (limit : ℕ) (s : List Item) (shallow : depth_of s ≤ limit) where
   rule MoreKeys t = indexes.keys_rule limit s t
   rule MaybeInclude t = indexes.include_rule limit s t
   rule MoreNames t = indexes.names_rule limit s t
+  rule MaybeTable t = offers.table_rule limit s t
+  rule Candidate t = offers.candidate_rule limit s t
+  rule MoreCands t = offers.cands_rule limit s shallow t
+  rule AdvisedSelect t = offers.advised_rule limit s t
+  rule MoreAdvised t = offers.more_advised_rule limit s t
 
   -- an optional item stands for nothing
   pub nothing : (i : Item) → is_optional i ≡ true → (f : Parts limit s) → (g : Parts limit (i ∷ s)) × (words_of_parts limit (i ∷ s) g ≡ words_of_parts limit s f)
@@ -348,6 +354,8 @@ module _ (limit : ℕ) (s : List Item) (shallow : depth_of s ≤ limit) where
   nothing MaybeUsing o f = ((no_using, f), refl)
   nothing MaybeClass o f = ((no_class, f), refl)
   nothing MaybeInclude o f = ((no_include, f), refl)
+  nothing MaybeTable o f = ((([], λ k. (explain k, refl)), f), refl)
+  nothing MoreAdvised o f = ((([], omega arith), f), refl)
   nothing _ o f = absurd (cc)
 
   -- every item stands for something
@@ -409,3 +417,11 @@ module _ (limit : ℕ) (s : List Item) (shallow : depth_of s ≤ limit) where
   something MoreKeys = ([], no_place)
   something MaybeInclude = no_include
   something MoreNames = ([], no_place)
+  something MaybeTable = ([], λ k. (explain k, refl))
+  something Candidate = (cand_on a_name no_place a_name no_using no_place (index_key a_name no_class no_direction no_nulls_end) [] no_place no_include no_where, omega arith)
+  something MoreCands = ([], omega arith, no_place)
+  something AdvisedSelect = (
+    advised no_place (windowed_select (select_from no_place (every no_place) [] no_place (group_of (relation a_name no_alias) []) [] no_where) no_order (window no_limit no_offset)) no_place,
+    omega arith,
+  )
+  something MoreAdvised = ([], omega arith)

@@ -8,7 +8,7 @@ use Rattle.std.proofs.lemmas.Bool.{false_from_ne_true}
 use Rattle.sql_grammar.specs.declared.class.Word.{Word}
 use Rattle.sql_grammar.specs.declared.class.Word.TheVariants.{And, As, Asc, Create, Cross, Desc, False, From, Group, Inner, Is, Join, Limit, Not, Null, Offset, On, Or, Order, Select, Table, True, Using, Where, With}
 use Rattle.sql_grammar.specs.declared.class.Free.{Free}
-use Rattle.sql_grammar.specs.declared.class.Free.TheVariants.{Analyze, By, Common, Copy, Csv, Distinct, Explain, First, Format, Histogram, Include, Index, Last, Nulls, Pages, Rows, Statistics, Stdin}
+use Rattle.sql_grammar.specs.declared.class.Free.TheVariants.{Advise, Analyze, By, Check, Common, Copy, Csv, Distinct, Explain, First, Format, Histogram, Include, Index, Last, Nulls, Pages, Plan, Rows, Statistics, Stdin, Use}
 use Rattle.sql_grammar.specs.Reading.{spelling_of, free_spelling_of}
 
 -- the spellings are in small letters
@@ -40,8 +40,10 @@ small_words Where = refl
 small_words With = refl
 
 pub small_free_words : (w : Free) → map to_ascii_lowercase (free_spelling_of w) ≡ free_spelling_of w
+small_free_words Advise = refl
 small_free_words Analyze = refl
 small_free_words By = refl
+small_free_words Check = refl
 small_free_words Common = refl
 small_free_words Copy = refl
 small_free_words Csv = refl
@@ -55,9 +57,11 @@ small_free_words Index = refl
 small_free_words Last = refl
 small_free_words Nulls = refl
 small_free_words Pages = refl
+small_free_words Plan = refl
 small_free_words Rows = refl
 small_free_words Statistics = refl
 small_free_words Stdin = refl
+small_free_words Use = refl
 
 module _ (W : Type 0) (spelling : W → List ℕ) (words : List W) (small : (w : W) → map to_ascii_lowercase (spelling w) ≡ spelling w) (bytes : List ℕ) where
   abbrev test : W → Bool

@@ -1,21 +1,16 @@
 -- The walk takes every statement.
-use Rattle.std.proofs.Common.{◌≡◌, ℕ, ◌≤◌, Bool, true, false, [], ◌∷◌, ◌++◌, Some, None, refl, ◌∙◌, cond}
-use Rattle.sql_grammar.specs.declared.offered.TheConstants.{READS_ANALYZE}
-use Rattle.sql_grammar.specs.Terminals.{Ident, t_name}
-use Rattle.sql_grammar.specs.declared.table.Item.TheVariants.{Label, Whole, Ends, MaybeHistogram}
-use Rattle.sql_grammar.specs.Syntax.{Ending, semicolon, text_end, IsOffered, Statement, empty, create_table, create_index, query, copy, sizes, column_statistics, analyze}
+use Rattle.std.proofs.Common.{◌≡◌, ℕ, ◌≤◌, true, [], ◌∷◌, ◌++◌, refl, ◌∙◌, arith}
+use Rattle.sql_grammar.specs.declared.offered.TheConstants.{READS_ADVISE, READS_ANALYZE, READS_CHECK, READS_PLAN}
+use Rattle.sql_grammar.specs.declared.table.Item.TheVariants.{Whole, Ends, MaybeHistogram}
+use Rattle.sql_grammar.specs.Syntax.{semicolon, text_end, advise_of, Statement, empty, create_table, create_index, query, copy, sizes, column_statistics, analyze, advise, check, use_plan}
 use Rattle.sql_grammar.specs.Words.{words_of, words_of_histogram, words_of_ending, levels_of}
-use Rattle.sql_grammar.specs.Machine.{by_row, takes_then, takes_all}
+use Rattle.sql_grammar.specs.Machine.{takes_all}
 use Rattle.sql_grammar.proofs.Complete.{columns, common-values, histograms, after-common, after-histogram, ending}
 use Rattle.sql_grammar.proofs.OrderComplete.{ordered}
 use Rattle.sql_grammar.proofs.IndexComplete.{index}
+use Rattle.sql_grammar.proofs.AdviseComplete.{analyzed, advises, checks, plans}
 
 module _ (limit : ℕ) where
-  analyzed : (b : Bool) → IsOffered b → (n : Ident) (e : Ending) →
-      takes_then (by_row limit (cond b (Some (Label ∷ Ends ∷ [])) None) false [] None) (takes_all limit (t_name n ∷ words_of_ending e)) ≡ true
-  analyzed true p n e = ending limit e
-  analyzed false p n e = absurd p
-
   pub statement : (x : Statement) → levels_of x ≤ limit → takes_all limit (words_of x) (Whole ∷ []) ≡ true
   statement (empty (semicolon t)) low = refl
   statement (empty (text_end t)) low = refl
@@ -27,4 +22,7 @@ module _ (limit : ℕ) where
   statement (column_statistics k n c d z v h e) low =
       common-values limit v (MaybeHistogram ∷ Ends ∷ []) (words_of_histogram h ++ words_of_ending e) (after-common limit h e) ∙
       (histograms limit h (Ends ∷ []) (words_of_ending e) (after-histogram limit e) ∙ ending limit e)
-  statement (analyze p k n e) low = analyzed READS_ANALYZE p n e
+  statement (analyze p k n e) low = analyzed limit READS_ANALYZE p n e
+  statement (advise (advise_of p k n o c cs m x xs e)) low = advises limit READS_ADVISE p n o c cs m x xs e (omega (arith, low)) (omega (arith, low)) (omega (arith, low)) (omega (arith, low))
+  statement (check p k x t) low = checks limit READS_CHECK p x t low
+  statement (use_plan p u k q y t) low = plans limit READS_PLAN p k q y t low

@@ -1,16 +1,17 @@
 -- A list of words is spelled by one statement.
 use Rattle.std.proofs.Common.{◌≡◌, ℕ, true, List, ◌∷◌, ◌++◌, drop, refl, sym, ap, ◌∙◌, arith}
 use Rattle.sql_grammar.specs.declared.class.Word.TheVariants.{Create, Select}
-use Rattle.sql_grammar.specs.declared.class.Free.TheVariants.{Analyze, Copy, Explain, Statistics}
-use Rattle.sql_grammar.specs.declared.offered.TheConstants.{READS_ANALYZE}
+use Rattle.sql_grammar.specs.declared.class.Free.TheVariants.{Advise as AdviseWord, Analyze, Check, Copy, Explain, Statistics, Use}
+use Rattle.sql_grammar.specs.declared.offered.TheConstants.{READS_ANALYZE, READS_CHECK, READS_PLAN}
 use Rattle.sql_grammar.specs.Terminals.{Terminal, free, t_key, t_mark, t_name}
-use Rattle.sql_grammar.specs.Syntax.{CopyWords, SizesWords, ColumnWords, Histogram, no_histogram, histogram, select_from, Ending, semicolon, text_end, no_explain, explain, ordered_select, index_on, Statement, empty, create_table, create_index, query, copy, sizes, column_statistics, analyze}
+use Rattle.sql_grammar.specs.Syntax.{CopyWords, SizesWords, ColumnWords, Histogram, no_histogram, histogram, select_from, Ending, semicolon, text_end, no_explain, explain, explain_table, ordered_select, index_on, advise_of, Statement, empty, create_table, create_index, query, copy, sizes, column_statistics, analyze, advise, check, use_plan}
 use Rattle.sql_grammar.specs.Words.{words_of_histogram, words_of_ending, words_of}
 use Rattle.sql_grammar.proofs.StatisticsLemmas.{ends_common, ends_histogram, one_common, one_histogram}
 use Rattle.sql_grammar.proofs.Trees.{one_ending, one_table}
 use Rattle.sql_grammar.proofs.WindowTrees.{one_offered}
 use Rattle.sql_grammar.proofs.OrderTrees.{one_ordered}
 use Rattle.sql_grammar.proofs.IndexTrees.{one_index}
+use Rattle.sql_grammar.proofs.AdviseTrees.{one_advise, one_stopped, one_planned}
 
 -- the kind of a statement, by its first words
 abbrev kind_of : List Terminal → ℕ
@@ -22,6 +23,9 @@ kind_of (t_name (free Copy _) ∷ x) = 3
 kind_of (t_name (free Statistics _) ∷ _ ∷ t_mark _ _ ∷ x) = 5
 kind_of (t_name (free Statistics _) ∷ x) = 4
 kind_of (t_name (free Analyze _) ∷ x) = 7
+kind_of (t_name (free AdviseWord _) ∷ x) = 8
+kind_of (t_name (free Check _) ∷ x) = 9
+kind_of (t_name (free Use _) ∷ x) = 10
 kind_of _ = 0
 
 abbrev kind : Statement → ℕ
@@ -33,6 +37,9 @@ kind (copy k n null) = 3
 kind (sizes k n r p e) = 4
 kind (column_statistics k n c d z v h e) = 5
 kind (analyze p k n e) = 7
+kind (advise x) = 8
+kind (check p k x s) = 9
+kind (use_plan p u k q y s) = 10
 
 kind-is : (x : Statement) → kind_of (words_of x) ≡ kind x
 kind-is (empty (semicolon t)) = refl
@@ -44,7 +51,11 @@ kind-is (query (ordered_select (explain x) q y v e)) = refl
 kind-is (copy k n null) = refl
 kind-is (sizes k n r p e) = refl
 kind-is (column_statistics k n c d z v h e) = refl
+kind-is (query (ordered_select (explain_table p k o t m) q y v e)) = refl
 kind-is (analyze p k n e) = refl
+kind-is (advise (advise_of p k n o c cs m x xs e)) = refl
+kind-is (check p k x s) = refl
+kind-is (use_plan p u k q y s) = refl
 
 same_kind : (x y : Statement) → words_of x ≡ words_of y → kind x ≡ kind y
 same_kind x y e = sym (kind-is x) ∙ (ap kind_of e ∙ kind-is y)
@@ -95,6 +106,18 @@ one_of (analyze p i n e) (analyze q j m f) k h =
     let name : n ≡ m = cc (h) in
     let end = one_ending e f (ap (drop 2) h) in
     cc (offered, word, name, end)
+one_of (advise x) (advise y) k h = ap advise (one_advise x y h)
+one_of (check p i x s) (check q j y t) k h =
+    let offered = one_offered READS_CHECK p q in
+    let word : i ≡ j = cc (h) in
+    let (same, stop) = one_stopped x y s t (ap (drop 1) h) in
+    cc (offered, word, same, stop)
+one_of (use_plan p i l a o s) (use_plan q j m b u t) k h =
+    let offered = one_offered READS_PLAN p q in
+    let first : i ≡ j = cc (h) in
+    let second : l ≡ m = cc (h) in
+    let (same, order, stop) = one_planned a b o u s t (ap (drop 2) h) in
+    cc (offered, first, second, same, order, stop)
 one_of _ _ k h = absurd (omega (arith, k))
 
 -- a list of words, each with its token, is spelled by one statement

@@ -95,7 +95,7 @@ aliasless (t_key As _ ∷ x) = false
 aliasless _ = true
 
 -- no WHERE is next
-abbrev whereless : List Terminal → Bool
+abbrev pub whereless : List Terminal → Bool
 whereless (t_key WhereKey _ ∷ x) = false
 whereless _ = true
 
@@ -157,14 +157,19 @@ pub ending-select : (e : Ending) → ends_select (words_of_ending e) ≡ true
 ending-select (semicolon t) = refl
 ending-select (text_end t) = refl
 
-pub one_where : (a b : Where) (x y : List Terminal) → ends_select x ≡ true → ends_select y ≡ true → words_of_where a ++ x ≡ words_of_where b ++ y → (a ≡ b) × (x ≡ y)
-one_where no_where no_where x y h k e = (refl, e)
-one_where no_where (where_expr j d) x y h k e = absurd (tested whereless x (words_of_where (where_expr j d) ++ y) (select-where x h) refl e)
-one_where (where_expr i c) no_where x y h k e = absurd (tested whereless y (words_of_where (where_expr i c) ++ x) (select-where y k) refl (sym e))
-one_where (where_expr i c) (where_expr j d) x y h k e =
+-- a condition before words that neither begin nor go on one
+pub one_condition : (a b : Where) (x y : List Terminal) → whereless x ≡ true → whereless y ≡ true → ends_expr x ≡ true → ends_expr y ≡ true →
+    words_of_where a ++ x ≡ words_of_where b ++ y → (a ≡ b) × (x ≡ y)
+one_condition no_where no_where x y h k g f e = (refl, e)
+one_condition no_where (where_expr j d) x y h k g f e = absurd (tested whereless x (words_of_where (where_expr j d) ++ y) h refl e)
+one_condition (where_expr i c) no_where x y h k g f e = absurd (tested whereless y (words_of_where (where_expr i c) ++ x) k refl (sym e))
+one_condition (where_expr i c) (where_expr j d) x y h k g f e =
     let key : i ≡ j = cc in
-    let (condition, rest) = one_expr c d x y (select-expr x h) (select-expr y k) (ap (drop 1) e) in
+    let (condition, rest) = one_expr c d x y g f (ap (drop 1) e) in
     (cc (key, condition), rest)
+
+pub one_where : (a b : Where) (x y : List Terminal) → ends_select x ≡ true → ends_select y ≡ true → words_of_where a ++ x ≡ words_of_where b ++ y → (a ≡ b) × (x ≡ y)
+one_where a b x y h k e = one_condition a b x y (select-where x h) (select-where y k) (select-expr x h) (select-expr y k) e
 
 pub one_alias : (a b : Alias) (x y : List Terminal) → aliasless x ≡ true → aliasless y ≡ true → words_of_alias a ++ x ≡ words_of_alias b ++ y → (a ≡ b) × (x ≡ y)
 one_alias no_alias no_alias x y h k e = (refl, e)

@@ -1,12 +1,13 @@
 -- The walk takes every LIMIT and OFFSET.
 use Rattle.std.proofs.Common.{◌≡◌, ℕ, Bool, true, false, List, [], ◌∷◌, ◌++◌, Option, Some, None, refl, ◌∙◌, cond}
-use Rattle.sql_grammar.specs.Terminals.{Terminal, Said, t_number}
+use Rattle.sql_grammar.specs.Terminals.{Terminal, Said, t_mark, t_number}
 use Rattle.sql_grammar.specs.declared.class.Word.TheVariants.{Limit as LimitKey, Offset as OffsetKey}
+use Rattle.sql_grammar.specs.declared.class.Symbol.TheVariants.{Close}
 use Rattle.sql_grammar.specs.declared.class.Class.TheVariants.{Key}
 use Rattle.sql_grammar.specs.declared.offered.TheConstants.{READS_WINDOW}
 use Rattle.sql_grammar.specs.declared.table.Item.{Item}
 use Rattle.sql_grammar.specs.declared.table.Item.TheVariants.{Digits, AfterQualifier, MaybeDirection, MaybeNulls, MaybeLimit, MaybeOffset, MaybeOrder, MoreOrderings}
-use Rattle.sql_grammar.specs.Syntax.{IsOffered, Limit, no_limit, most_rows, Offset, no_offset, skipped_rows, Window, window, Ending, semicolon, text_end}
+use Rattle.sql_grammar.specs.Syntax.{Mark, IsOffered, Limit, no_limit, most_rows, Offset, no_offset, skipped_rows, Window, window, Ending, semicolon, text_end}
 use Rattle.sql_grammar.specs.Words.{words_of_limit, words_of_offset, words_of_window, words_of_ending}
 use Rattle.sql_grammar.specs.Machine.{by_row, step_of, takes_then, takes_all}
 use Rattle.sql_grammar.proofs.Complete.{Passes, EndsSelect, skip, apart, after-query}
@@ -20,8 +21,14 @@ pub record EndsOrder (ts : List Terminal) : Type 0 where
   pub none : Passes MaybeOrder ts
   pub select : EndsSelect ts
 
-pub window-order : (w : Window) (e : Ending) → EndsOrder (words_of_window w ++ words_of_ending e)
-window-order (window (most_rows p k n) o) e = record {
+-- what follows a window, or an order without one
+pub record EndsWindow (ts : List Terminal) : Type 0 where
+  pub order : EndsOrder ts
+  pub most : Passes MaybeLimit ts
+  pub skipped : Passes MaybeOffset ts
+
+pub window-order : (w : Window) (ts : List Terminal) → EndsWindow ts → EndsOrder (words_of_window w ++ ts)
+window-order (window (most_rows p k n) o) ts ends = record {
   qualifier = refl;
   direction = refl;
   nulls = refl;
@@ -29,7 +36,7 @@ window-order (window (most_rows p k n) o) e = record {
   none = refl;
   select = record { alias = refl; joins = refl; groups = refl; condition = refl; expr = record { conj = record { atom = refl; ands = refl }; ors = refl } };
 }
-window-order (window no_limit (skipped_rows p k n)) e = record {
+window-order (window no_limit (skipped_rows p k n)) ts ends = record {
   qualifier = refl;
   direction = refl;
   nulls = refl;
@@ -37,8 +44,47 @@ window-order (window no_limit (skipped_rows p k n)) e = record {
   none = refl;
   select = record { alias = refl; joins = refl; groups = refl; condition = refl; expr = record { conj = record { atom = refl; ands = refl }; ors = refl } };
 }
-window-order (window no_limit no_offset) (semicolon t) = record { qualifier = refl; direction = refl; nulls = refl; more = refl; none = refl; select = after-query 0 (semicolon t) }
-window-order (window no_limit no_offset) (text_end t) = record { qualifier = refl; direction = refl; nulls = refl; more = refl; none = refl; select = after-query 0 (text_end t) }
+window-order (window no_limit no_offset) ts ends = ends.order
+
+pub ending-window : (e : Ending) → EndsWindow (words_of_ending e)
+ending-window (semicolon t) = record {
+  order = record { qualifier = refl; direction = refl; nulls = refl; more = refl; none = refl; select = after-query 0 (semicolon t) };
+  most = refl;
+  skipped = refl;
+}
+ending-window (text_end t) = record {
+  order = record { qualifier = refl; direction = refl; nulls = refl; more = refl; none = refl; select = after-query 0 (text_end t) };
+  most = refl;
+  skipped = refl;
+}
+
+pub parenthesis-window : (m : Mark) (ts : List Terminal) → EndsWindow (t_mark Close m ∷ ts)
+parenthesis-window m ts = record {
+  order = record {
+    qualifier = refl;
+    direction = refl;
+    nulls = refl;
+    more = refl;
+    none = refl;
+    select = record { alias = refl; joins = refl; groups = refl; condition = refl; expr = record { conj = record { atom = refl; ands = refl }; ors = refl } };
+  };
+  most = refl;
+  skipped = refl;
+}
+
+pub nothing-window : EndsWindow []
+nothing-window = record {
+  order = record {
+    qualifier = tt;
+    direction = tt;
+    nulls = tt;
+    more = tt;
+    none = tt;
+    select = record { alias = tt; joins = tt; groups = tt; condition = tt; expr = record { conj = record { atom = tt; ands = tt }; ors = tt } };
+  };
+  most = tt;
+  skipped = tt;
+}
 
 module _ (limit : ℕ) where
   -- a number behind a word that is awaited
@@ -55,16 +101,11 @@ module _ (limit : ℕ) where
   skipped no_offset s ts p = skip limit MaybeOffset s ts refl p
   skipped (skipped_rows p k n) s ts q = numbered READS_WINDOW p n s ts (step_of limit (Key OffsetKey) s)
 
-  after-limit : (o : Offset) (e : Ending) → Passes MaybeLimit (words_of_offset o ++ words_of_ending e)
-  after-limit no_offset (semicolon t) = refl
-  after-limit no_offset (text_end t) = refl
-  after-limit (skipped_rows p k n) e = refl
+  after-limit : (o : Offset) (ts : List Terminal) → Passes MaybeLimit ts → Passes MaybeLimit (words_of_offset o ++ ts)
+  after-limit no_offset ts p = p
+  after-limit (skipped_rows p k n) ts q = refl
 
-  after-offset : (e : Ending) → Passes MaybeOffset (words_of_ending e)
-  after-offset (semicolon t) = refl
-  after-offset (text_end t) = refl
-
-  pub windowed : (w : Window) (e : Ending) (s : List Item) → takes_all limit (words_of_window w ++ words_of_ending e) (MaybeLimit ∷ MaybeOffset ∷ s) ≡ takes_all limit (words_of_ending e) s
-  windowed (window l o) e s =
-      apart limit (words_of_limit l) (words_of_offset o) (words_of_ending e) (MaybeLimit ∷ MaybeOffset ∷ s) ∙
-      (most l (MaybeOffset ∷ s) (words_of_offset o ++ words_of_ending e) (after-limit o e) ∙ skipped o s (words_of_ending e) (after-offset e))
+  pub windowed : (w : Window) (ts : List Terminal) (s : List Item) → EndsWindow ts → takes_all limit (words_of_window w ++ ts) (MaybeLimit ∷ MaybeOffset ∷ s) ≡ takes_all limit ts s
+  windowed (window l o) ts s ends =
+      apart limit (words_of_limit l) (words_of_offset o) ts (MaybeLimit ∷ MaybeOffset ∷ s) ∙
+      (most l (MaybeOffset ∷ s) (words_of_offset o ++ ts) (after-limit o ts ends.most) ∙ skipped o s ts ends.skipped)

@@ -4,10 +4,10 @@ use Rattle.std.proofs.lemmas.List.{append_assoc}
 use Rattle.sql_grammar.specs.declared.class.Word.TheVariants.{Limit as LimitKey, Offset as OffsetKey}
 use Rattle.sql_grammar.specs.declared.offered.TheConstants.{READS_WINDOW}
 use Rattle.sql_grammar.specs.Terminals.{Terminal, t_key}
-use Rattle.sql_grammar.specs.Syntax.{IsOffered, Limit, no_limit, most_rows, Offset, no_offset, skipped_rows, Window, window, Ending, semicolon, text_end}
-use Rattle.sql_grammar.specs.Words.{words_of_limit, words_of_offset, words_of_window, words_of_ending}
+use Rattle.sql_grammar.specs.Syntax.{IsOffered, Limit, no_limit, most_rows, Offset, no_offset, skipped_rows, Window, window}
+use Rattle.sql_grammar.specs.Words.{words_of_limit, words_of_offset, words_of_window}
+use Rattle.sql_grammar.specs.Unique.{ends_windowed}
 use Rattle.sql_grammar.proofs.ExprTrees.{tested}
-use Rattle.sql_grammar.proofs.Trees.{one_ending}
 
 -- a production is in the grammar in one way
 pub one_offered : (b : Bool) (p q : IsOffered b) → p ≡ q
@@ -43,18 +43,18 @@ one_offset (skipped_rows p i n) (skipped_rows q j m) x y h k e =
     let number : n ≡ m = cc (e) in
     (cc (offered, word, number), ap (drop 2) e)
 
-ends-offset : (e : Ending) → offsetless (words_of_ending e) ≡ true
-ends-offset (semicolon t) = refl
-ends-offset (text_end t) = refl
+windowed-offset : (x : List Terminal) → ends_windowed x ≡ true → offsetless x ≡ true
+windowed-offset (t_key OffsetKey _ ∷ _) h = absurd (cc)
+windowed-offset _ h = refl
 
-ends-limit : (o : Offset) (e : Ending) → limitless (words_of_offset o ++ words_of_ending e) ≡ true
-ends-limit no_offset (semicolon t) = refl
-ends-limit no_offset (text_end t) = refl
-ends-limit (skipped_rows p k n) e = refl
+windowed-limit : (o : Offset) (x : List Terminal) → ends_windowed x ≡ true → limitless (words_of_offset o ++ x) ≡ true
+windowed-limit no_offset (t_key LimitKey _ ∷ _) h = absurd (cc)
+windowed-limit no_offset _ h = refl
+windowed-limit (skipped_rows p k n) x h = refl
 
-pub one_window : (v w : Window) (e f : Ending) → words_of_window v ++ words_of_ending e ≡ words_of_window w ++ words_of_ending f → (v ≡ w) × (e ≡ f)
-one_window (window l o) (window m u) e f h =
-    let (most, more) = one_limit l m (words_of_offset o ++ words_of_ending e) (words_of_offset u ++ words_of_ending f) (ends-limit o e) (ends-limit u f)
-    (sym (append_assoc (words_of_limit l) (words_of_offset o) (words_of_ending e)) ∙ (h ∙ append_assoc (words_of_limit m) (words_of_offset u) (words_of_ending f))) in
-    let (skipped, last) = one_offset o u (words_of_ending e) (words_of_ending f) (ends-offset e) (ends-offset f) more in
-    (cc (most, skipped), one_ending e f last)
+pub one_window : (v w : Window) (x y : List Terminal) → ends_windowed x ≡ true → ends_windowed y ≡ true → words_of_window v ++ x ≡ words_of_window w ++ y → (v ≡ w) × (x ≡ y)
+one_window (window l o) (window m u) x y h k e =
+    let (most, more) = one_limit l m (words_of_offset o ++ x) (words_of_offset u ++ y) (windowed-limit o x h) (windowed-limit u y k)
+    (sym (append_assoc (words_of_limit l) (words_of_offset o) x) ∙ (e ∙ append_assoc (words_of_limit m) (words_of_offset u) y)) in
+    let (skipped, rest) = one_offset o u x y (windowed-offset x h) (windowed-offset y k) more in
+    (cc (most, skipped), rest)

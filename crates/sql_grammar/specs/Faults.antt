@@ -11,8 +11,8 @@ use Rattle.pg_base.specs.declared.limits.TheConstants.{MOST_LEVELS, MOST_NAME_BY
 use Rattle.sql_lex.specs.declared.tokens.Token.{Token}
 use Rattle.sql_grammar.specs.Terminals.{Ident, free, other, Terminal, t_name, t_quoted}
 use Rattle.sql_grammar.specs.Reading.{free_spelling_of, terminal_of}
-use Rattle.sql_grammar.specs.Syntax.{Statement, Select, Cand, Expr}
-use Rattle.sql_grammar.specs.Words.{words_of, words_of_select, words_of_cand, words_of_expr, levels_of, levels_of_select, levels_of_cand, levels_of_expr}
+use Rattle.sql_grammar.specs.Syntax.{Statement, Select, WindowedSelect, Cand, Expr}
+use Rattle.sql_grammar.specs.Words.{words_of, words_of_select, words_of_windowed, words_of_cand, words_of_expr, levels_of, levels_of_select, levels_of_windowed, levels_of_cand, levels_of_expr}
 
 -- lists of terminals, by the levels that their expressions may have
 abbrev pub Production : Type 1
@@ -25,6 +25,10 @@ IsStatement limit ts = (x : Statement) × (levels_of x ≤ limit) × (words_of x
 -- a SELECT
 abbrev pub IsSelect : Production
 IsSelect limit ts = (q : Select) × (levels_of_select q ≤ limit) × (words_of_select q ≡ ts)
+
+-- a SELECT with its order and its window, where they are written
+abbrev pub IsWindowed : Production
+IsWindowed limit ts = (x : WindowedSelect) × (levels_of_windowed x ≤ limit) × (words_of_windowed x ≡ ts)
 
 -- CREATE INDEX without its first two words and its end
 abbrev pub IsCand : Production

@@ -6,6 +6,7 @@ pub mod FromTable
 pub mod OrderTable
 pub mod WindowTable
 pub mod IndexTable
+pub mod AdviseTable
 pub mod Table
 pub mod Machine
 pub mod Steps

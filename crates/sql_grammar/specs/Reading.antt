@@ -9,7 +9,7 @@ use Rattle.sql_lex.specs.declared.tokens.Kind.TheVariants.{Word as WordKind, Num
 use Rattle.sql_grammar.specs.declared.class.Word.{Word}
 use Rattle.sql_grammar.specs.declared.class.Word.TheVariants.{And, As, Asc, Create, Cross, Desc, False, From, Group, Inner, Is, Join, Limit, Not, Null, Offset, On, Or, Order, Select, Table, True, Using, Where, With}
 use Rattle.sql_grammar.specs.declared.class.Free.{Free}
-use Rattle.sql_grammar.specs.declared.class.Free.TheVariants.{Analyze, By, Common, Copy, Csv, Distinct, Explain, First, Format, Histogram, Include, Index, Last, Nulls, Pages, Rows, Statistics, Stdin}
+use Rattle.sql_grammar.specs.declared.class.Free.TheVariants.{Advise, Analyze, By, Check, Common, Copy, Csv, Distinct, Explain, First, Format, Histogram, Include, Index, Last, Nulls, Pages, Plan, Rows, Statistics, Stdin, Use}
 use Rattle.sql_grammar.specs.declared.class.Symbol.TheVariants.{Open, Close, Comma, Dot, Minus, Star}
 use Rattle.sql_grammar.specs.Terminals.{Ident, free, other, Terminal, t_key, t_mark, t_name, t_number, t_quoted, t_operator, t_semicolon, t_end, class_of}
 use Rattle.sql_grammar.specs.Table.{is_ending}
@@ -44,8 +44,10 @@ spelling_of With = 119 ∷ 105 ∷ 116 ∷ 104 ∷ []
 
 -- the words with a place of their own that may be names, in small letters
 abbrev pub free_spelling_of : Free → List ℕ
+free_spelling_of Advise = 97 ∷ 100 ∷ 118 ∷ 105 ∷ 115 ∷ 101 ∷ []
 free_spelling_of Analyze = 97 ∷ 110 ∷ 97 ∷ 108 ∷ 121 ∷ 122 ∷ 101 ∷ []
 free_spelling_of By = 98 ∷ 121 ∷ []
+free_spelling_of Check = 99 ∷ 104 ∷ 101 ∷ 99 ∷ 107 ∷ []
 free_spelling_of Common = 99 ∷ 111 ∷ 109 ∷ 109 ∷ 111 ∷ 110 ∷ []
 free_spelling_of Copy = 99 ∷ 111 ∷ 112 ∷ 121 ∷ []
 free_spelling_of Csv = 99 ∷ 115 ∷ 118 ∷ []
@@ -59,9 +61,11 @@ free_spelling_of Index = 105 ∷ 110 ∷ 100 ∷ 101 ∷ 120 ∷ []
 free_spelling_of Last = 108 ∷ 97 ∷ 115 ∷ 116 ∷ []
 free_spelling_of Nulls = 110 ∷ 117 ∷ 108 ∷ 108 ∷ 115 ∷ []
 free_spelling_of Pages = 112 ∷ 97 ∷ 103 ∷ 101 ∷ 115 ∷ []
+free_spelling_of Plan = 112 ∷ 108 ∷ 97 ∷ 110 ∷ []
 free_spelling_of Rows = 114 ∷ 111 ∷ 119 ∷ 115 ∷ []
 free_spelling_of Statistics = 115 ∷ 116 ∷ 97 ∷ 116 ∷ 105 ∷ 115 ∷ 116 ∷ 105 ∷ 99 ∷ 115 ∷ []
 free_spelling_of Stdin = 115 ∷ 116 ∷ 100 ∷ 105 ∷ 110 ∷ []
+free_spelling_of Use = 117 ∷ 115 ∷ 101 ∷ []
 
 -- all reserved words
 abbrev pub reserved_words : List Word
@@ -69,7 +73,7 @@ reserved_words = And ∷ As ∷ Asc ∷ Create ∷ Cross ∷ Desc ∷ False ∷ 
 
 -- all words with a place of their own that may be names
 abbrev pub free_words : List Free
-free_words = Analyze ∷ By ∷ Common ∷ Copy ∷ Csv ∷ Distinct ∷ Explain ∷ First ∷ Format ∷ Histogram ∷ Include ∷ Index ∷ Last ∷ Nulls ∷ Pages ∷ Rows ∷ Statistics ∷ Stdin ∷ []
+free_words = Advise ∷ Analyze ∷ By ∷ Check ∷ Common ∷ Copy ∷ Csv ∷ Distinct ∷ Explain ∷ First ∷ Format ∷ Histogram ∷ Include ∷ Index ∷ Last ∷ Nulls ∷ Pages ∷ Plan ∷ Rows ∷ Statistics ∷ Stdin ∷ Use ∷ []
 
 -- the reserved word of this spelling
 abbrev pub reserved_of : List ℕ → Option Word

@@ -4,7 +4,7 @@
 use Rattle.std.specs.Prelude.{Bool, true, false, List}
 use Rattle.sql_lex.specs.declared.tokens.Token.{Token}
 use Rattle.sql_grammar.specs.declared.class.Free.TheVariants.{Nulls as NullsWord}
-use Rattle.sql_grammar.specs.declared.offered.TheConstants.{READS_ANALYZE, READS_WINDOW}
+use Rattle.sql_grammar.specs.declared.offered.TheConstants.{READS_ADVISE, READS_ANALYZE, READS_CHECK, READS_PLAN, READS_TABLE, READS_WINDOW}
 use Rattle.sql_grammar.specs.Terminals.{Ident, Said, free}
 
 -- the token of a reserved word, and that of a symbol
@@ -164,12 +164,17 @@ pub data Offset : Type 0 where
 pub data Window : Type 0 where
   window : Limit → Offset → Window
 
--- [EXPLAIN]
+-- select [ORDER BY ord { "," ord }] window
+pub data WindowedSelect : Type 0 where
+  windowed_select : Select → OrderBy → Window → WindowedSelect
+
+-- [EXPLAIN ["(" TABLE ")"]]
 pub data Explaining : Type 0 where
   no_explain : Explaining
   explain : Token → Explaining
+  explain_table : IsOffered READS_TABLE → Token → Mark → Key → Mark → Explaining
 
--- ordered = [EXPLAIN] select [ORDER BY ord { "," ord }] window end
+-- ordered = [EXPLAIN ["(" TABLE ")"]] select [ORDER BY ord { "," ord }] window end
 pub data OrderedSelect : Type 0 where
   ordered_select : Explaining → Select → OrderBy → Window → Ending → OrderedSelect
 
@@ -205,6 +210,14 @@ pub data CreateIndex : Type 0 where
 -- its first two words and its end
 pub data Cand : Type 0 where
   cand_on : Ident → Key → Ident → Using → Mark → IndexKey → List (Mark × IndexKey) → Mark → Include → Where → Cand
+
+-- advised = "(" select [ORDER BY ord { "," ord }] window ")"
+pub data Advised : Type 0 where
+  advised : Mark → WindowedSelect → Mark → Advised
+
+-- advise = ADVISE number "(" cand { "," cand } ")" advised { advised } end
+pub data Advise : Type 0 where
+  advise_of : IsOffered READS_ADVISE → Token → Said → Mark → Cand → List (Mark × Cand) → Mark → Advised → List Advised → Ending → Advise
 
 -- a common value and its share = lit number
 pub data Share : Type 0 where
@@ -252,7 +265,9 @@ pub record ColumnWords : Type 0 where
 --           | STATISTICS name ROWS number PAGES number end
 --           | STATISTICS name "." name DISTINCT number NULLS number [COMMON "(" lit number { "," lit number } ")"]
 --             [HISTOGRAM "(" lit { "," lit } ")"] end
---           | ANALYZE name end
+--           | ANALYZE name end | advise
+--           | CHECK select [ORDER BY ord { "," ord }] window ";"
+--           | USE PLAN select [ORDER BY ord { "," ord }] ";"
 pub data Statement : Type 0 where
   empty : Ending → Statement
   create_table : Key → Key → Ident → Mark → ColDef → List (Mark × ColDef) → Mark → Ending → Statement
@@ -262,3 +277,6 @@ pub data Statement : Type 0 where
   sizes : SizesWords → Ident → Said → Said → Ending → Statement
   column_statistics : ColumnWords → Ident → Ident → Said → Said → Common → Histogram → Ending → Statement
   analyze : IsOffered READS_ANALYZE → Token → Ident → Ending → Statement
+  advise : Advise → Statement
+  check : IsOffered READS_CHECK → Token → WindowedSelect → Token → Statement
+  use_plan : IsOffered READS_PLAN → Token → Token → Select → OrderBy → Token → Statement

@@ -1,8 +1,7 @@
 -- The table of the walk: the items that stand in an item's place after a token (own).
 use Rattle.std.specs.Prelude.{ℕ, Bool, true, false, List, [], ◌∷◌, Option, Some, None, cond, nat_eq}
-use Rattle.sql_grammar.specs.declared.class.Free.TheVariants.{Analyze, By, Common, Copy, Csv, Distinct, Explain, First, Format, Histogram, Include, Index, Last, Nulls, Pages, Rows, Statistics, Stdin}
+use Rattle.sql_grammar.specs.declared.class.Free.TheVariants.{Advise, Analyze, By, Check, Common, Copy, Csv, Distinct, Explain, First, Format, Histogram, Include, Index, Last, Nulls, Pages, Plan, Rows, Statistics, Stdin, Use}
 use Rattle.sql_grammar.specs.declared.class.Free.{Free}
-use Rattle.sql_grammar.specs.declared.offered.TheConstants.{READS_ANALYZE}
 use Rattle.sql_grammar.specs.declared.class.Word.{Word}
 use Rattle.sql_grammar.specs.declared.class.Word.TheVariants.{And, As, Asc, Create, Cross, Desc, False, From, Group, Inner, Is, Join, Limit, Not, Null, Offset, On, Or, Order, Select, Table, True, Using, Where, With}
 use Rattle.sql_grammar.specs.declared.class.Symbol.{Symbol}
@@ -10,11 +9,12 @@ use Rattle.sql_grammar.specs.declared.class.Symbol.TheVariants.{Open, Close, Com
 use Rattle.sql_grammar.specs.declared.class.Class.{Class}
 use Rattle.sql_grammar.specs.declared.class.Class.TheVariants.{Key, Mark, Name, Number, Quoted, Operator, Semicolon, End}
 use Rattle.sql_grammar.specs.declared.table.Item.{Item}
-use Rattle.sql_grammar.specs.declared.table.Item.TheVariants.{Keyword, Sign, FreeWord, Label, Digits, QuotedText, Whole, Ends, Stop, Query, Nullness, MoreColumns, Result, MoreResults, AfterResult, StarOrLabel, MaybeAlias, MoreJoins, MoreGroups, MaybeWhere, Figures, MaybeCommon, MoreShares, MaybeHistogram, MoreBounds, Literal, Negation, MoreAnds, MoreOrs, Closes, NotEnds, AfterName, AfterColumn, AfterIs, AfterLiteral, AfterTruth, Side, AfterQualifier, MaybeOrder, MoreOrderings, MaybeLimit, MaybeOffset, MaybeDirection, MaybeNulls, FirstOrLast, AfterCreate, MaybeUsing, MaybeClass, MoreKeys, MaybeInclude, MoreNames}
+use Rattle.sql_grammar.specs.declared.table.Item.TheVariants.{Keyword, Sign, FreeWord, Label, Digits, QuotedText, Whole, Ends, Stop, Query, Nullness, MoreColumns, Result, MoreResults, AfterResult, StarOrLabel, MaybeAlias, MoreJoins, MoreGroups, MaybeWhere, Figures, MaybeCommon, MoreShares, MaybeHistogram, MoreBounds, Literal, Negation, MoreAnds, MoreOrs, Closes, NotEnds, AfterName, AfterColumn, AfterIs, AfterLiteral, AfterTruth, Side, AfterQualifier, MaybeOrder, MoreOrderings, MaybeLimit, MaybeOffset, MaybeDirection, MaybeNulls, FirstOrLast, AfterCreate, MaybeUsing, MaybeClass, MoreKeys, MaybeInclude, MoreNames, MaybeTable, Candidate, MoreCands, AdvisedSelect, MoreAdvised}
 use Rattle.sql_grammar.specs.FromTable.{joins_takes, groups_takes}
 use Rattle.sql_grammar.specs.OrderTable.{order_takes, orderings_takes, direction_takes, nulls_takes, nulls_end_takes}
 use Rattle.sql_grammar.specs.WindowTable.{limit_takes, offset_takes}
 use Rattle.sql_grammar.specs.IndexTable.{create_takes, using_takes, class_takes, keys_takes, include_takes, names_takes}
+use Rattle.sql_grammar.specs.AdviseTable.{offered_takes, table_takes, candidate_takes, cands_takes, advised_takes, more_advised_takes}
 
 -- the items in an item's place; None where the token is not awaited
 abbrev pub Expansion : Type 0
@@ -59,33 +59,41 @@ sign_code Star = 5
 
 -- the number of a word with a place of its own
 abbrev pub free_code : Free → ℕ
-free_code Analyze = 0
-free_code By = 1
-free_code Common = 2
-free_code Copy = 3
-free_code Csv = 4
-free_code Distinct = 5
-free_code Explain = 6
-free_code First = 7
-free_code Format = 8
-free_code Histogram = 9
-free_code Include = 10
-free_code Index = 11
-free_code Last = 12
-free_code Nulls = 13
-free_code Pages = 14
-free_code Rows = 15
-free_code Statistics = 16
-free_code Stdin = 17
+free_code Advise = 0
+free_code Analyze = 1
+free_code By = 2
+free_code Check = 3
+free_code Common = 4
+free_code Copy = 5
+free_code Csv = 6
+free_code Distinct = 7
+free_code Explain = 8
+free_code First = 9
+free_code Format = 10
+free_code Histogram = 11
+free_code Include = 12
+free_code Index = 13
+free_code Last = 14
+free_code Nulls = 15
+free_code Pages = 16
+free_code Plan = 17
+free_code Rows = 18
+free_code Statistics = 19
+free_code Stdin = 20
+free_code Use = 21
 
--- a statement and its end: `CREATE`, `SELECT`, `EXPLAIN`, `COPY`, `STATISTICS`, `ANALYZE`, or nothing before the end
+-- a statement behind its first word, which is not reserved
+abbrev pub worded_takes : Free → Expansion
+worded_takes Explain = Some (MaybeTable ∷ Query ∷ MaybeOrder ∷ MaybeLimit ∷ MaybeOffset ∷ Ends ∷ [])
+worded_takes Copy = Some (Label ∷ Keyword From ∷ FreeWord Stdin ∷ Keyword With ∷ Sign Open ∷ FreeWord Format ∷ FreeWord Csv ∷ Sign Comma ∷ Keyword Null ∷ QuotedText ∷ Sign Close ∷ Stop ∷ [])
+worded_takes Statistics = Some (Label ∷ Figures ∷ Ends ∷ [])
+worded_takes w = offered_takes w
+
+-- a statement and its end: `CREATE`, `SELECT`, a word that is not reserved, or nothing before the end
 abbrev pub statement_takes : Class → Expansion
 statement_takes (Key Create) = Some (AfterCreate ∷ [])
 statement_takes (Key Select) = Some (Result ∷ MoreResults ∷ Keyword From ∷ Label ∷ MaybeAlias ∷ MoreJoins ∷ MoreGroups ∷ MaybeWhere ∷ MaybeOrder ∷ MaybeLimit ∷ MaybeOffset ∷ Ends ∷ [])
-statement_takes (Name (Some Explain)) = Some (Query ∷ MaybeOrder ∷ MaybeLimit ∷ MaybeOffset ∷ Ends ∷ [])
-statement_takes (Name (Some Copy)) = Some (Label ∷ Keyword From ∷ FreeWord Stdin ∷ Keyword With ∷ Sign Open ∷ FreeWord Format ∷ FreeWord Csv ∷ Sign Comma ∷ Keyword Null ∷ QuotedText ∷ Sign Close ∷ Stop ∷ [])
-statement_takes (Name (Some Statistics)) = Some (Label ∷ Figures ∷ Ends ∷ [])
-statement_takes (Name (Some Analyze)) = cond READS_ANALYZE (Some (Label ∷ Ends ∷ [])) None
+statement_takes (Name (Some w)) = worded_takes w
 statement_takes Semicolon = Some []
 statement_takes End = Some []
 statement_takes _ = None
@@ -329,6 +337,11 @@ takes_of MaybeClass t = class_takes t
 takes_of MoreKeys t = keys_takes t
 takes_of MaybeInclude t = include_takes t
 takes_of MoreNames t = names_takes t
+takes_of MaybeTable t = table_takes t
+takes_of Candidate t = candidate_takes t
+takes_of MoreCands t = cands_takes t
+takes_of AdvisedSelect t = advised_takes t
+takes_of MoreAdvised t = more_advised_takes t
 
 -- no token need come for it
 abbrev pub is_optional : Item → Bool
@@ -357,6 +370,8 @@ is_optional MaybeNulls = true
 is_optional MaybeUsing = true
 is_optional MaybeClass = true
 is_optional MaybeInclude = true
+is_optional MaybeTable = true
+is_optional MoreAdvised = true
 is_optional _ = false
 
 -- the levels of an expression that end with it
@@ -367,7 +382,7 @@ level_of _ = 0
 
 -- the most cells that it and what comes of it take within a level
 abbrev pub room_of : Item → ℕ
-room_of Whole = 14
+room_of Whole = 16
 room_of Query = 10
 room_of MoreColumns = 4
 room_of MoreResults = 2
@@ -389,6 +404,11 @@ room_of AfterCreate = 13
 room_of MoreKeys = 5
 room_of MaybeInclude = 3
 room_of MoreNames = 2
+room_of MaybeTable = 2
+room_of Candidate = 11
+room_of MoreCands = 12
+room_of AdvisedSelect = 14
+room_of MoreAdvised = 15
 room_of _ = 1
 
 -- it takes the word that ends a statement

@@ -1,8 +1,8 @@
 -- What the words of a tree tell of it (own).
-use Rattle.std.specs.Prelude.{Bool, true, false, List, ◌∷◌, ◌++◌}
+use Rattle.std.specs.Prelude.{Bool, true, false, List, [], ◌∷◌, ◌++◌}
 use Rattle.sql_lex.specs.declared.tokens.Token.{Token}
 use Rattle.sql_grammar.specs.declared.class.Word.TheVariants.{And, Is, Not, Null, Or}
-use Rattle.sql_grammar.specs.declared.class.Symbol.TheVariants.{Dot}
+use Rattle.sql_grammar.specs.declared.class.Symbol.TheVariants.{Close, Comma, Dot}
 use Rattle.sql_grammar.specs.Terminals.{Terminal, token_of, t_key, t_mark, t_name, t_number, t_quoted, t_operator, t_semicolon, t_end}
 use Rattle.sql_grammar.specs.Syntax.{unknown, constant, Operand, column, literal, Atom, parens, compare, is_null, is_not_null, column_alone, constant_alone}
 use Rattle.sql_grammar.specs.Words.{words_of_operand}
@@ -46,6 +46,23 @@ ends_expr (t_key Is _ ∷ _) = false
 ends_expr (t_key And _ ∷ _) = false
 ends_expr (t_key Or _ ∷ _) = false
 ends_expr _ = true
+
+-- `)`, a statement's end or nothing is next: no SELECT with its order and its window goes on so
+abbrev pub ends_windowed : List Terminal → Bool
+ends_windowed [] = true
+ends_windowed (t_mark Close _ ∷ _) = true
+ends_windowed (t_semicolon _ ∷ _) = true
+ends_windowed (t_end _ ∷ _) = true
+ends_windowed _ = false
+
+-- `,`, `)`, a statement's end or nothing is next: no candidate for an index goes on so
+abbrev pub ends_cand : List Terminal → Bool
+ends_cand [] = true
+ends_cand (t_mark Comma _ ∷ _) = true
+ends_cand (t_mark Close _ ∷ _) = true
+ends_cand (t_semicolon _ ∷ _) = true
+ends_cand (t_end _ ∷ _) = true
+ends_cand _ = false
 
 -- an atom is an expression in parentheses; any other one is an operand and what follows it
 abbrev pub is_parens : Atom → Bool

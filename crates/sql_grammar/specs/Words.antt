@@ -3,11 +3,11 @@
 use Rattle.std.specs.Prelude.{ℕ, ◌+◌, max, List, [], ◌∷◌, ◌++◌}
 use Rattle.sql_lex.specs.declared.tokens.Token.{Token}
 use Rattle.sql_grammar.specs.Terminals.{Terminal, Ident, t_key, t_mark, t_name, t_number, t_quoted, t_operator, t_semicolon, t_end, free}
-use Rattle.sql_grammar.specs.declared.class.Free.TheVariants.{Analyze, By, Common as CommonWord, Copy, Csv, Distinct, Explain, First, Format, Histogram as HistogramWord, Include as IncludeWord, Index as IndexWord, Last, Nulls as NullsWord, Pages, Rows, Statistics, Stdin}
+use Rattle.sql_grammar.specs.declared.class.Free.TheVariants.{Advise as AdviseWord, Analyze, By, Check as CheckWord, Common as CommonWord, Copy, Csv, Distinct, Explain, First, Format, Histogram as HistogramWord, Include as IncludeWord, Index as IndexWord, Last, Nulls as NullsWord, Pages, Plan, Rows, Statistics, Stdin, Use}
 use Rattle.sql_grammar.specs.declared.class.Word.{Word}
 use Rattle.sql_grammar.specs.declared.class.Word.TheVariants.{And, As, Asc, Create, Cross, Desc, False, From, Inner as InnerKey, Is, Join as JoinKey, Limit as LimitKey, Not, Null, Offset as OffsetKey, On, Or, Order, Select, Table, True, Using as UsingKey, Where as WhereKey, With}
 use Rattle.sql_grammar.specs.declared.class.Symbol.TheVariants.{Open, Close, Comma, Dot, Minus, Star}
-use Rattle.sql_grammar.specs.Syntax.{Col, bare, qualified, Constant, yes, no, unknown, Lit, number, negative, quoted, constant, Operand, column, literal, Expr, either_of, Ors, no_or, or_conj, Conj, both_of, Ands, no_and, and_neg, Neg, negated, plain, Atom, parens, compare, is_null, is_not_null, column_alone, constant_alone, Nulls, unwritten, not_null, nullable, ColDef, coldef, Output, every, every_of, one, Alias, no_alias, bare_alias, as_alias, Relation, relation, Inner, no_inner, inner, Join, join_on, cross_join, Group, group_of, Select as SelectTree, select_from, Where, no_where, where_expr, Share, share, Common, no_common, common, Histogram, no_histogram, histogram, Ending, semicolon, text_end, Direction, no_direction, ascending, descending, NullsEnd, no_nulls_end, nulls_first, nulls_last, Ordering, ordering, OrderBy, no_order, order_by, Limit, no_limit, most_rows, Offset, no_offset, skipped_rows, Window, window, Explaining, no_explain, explain, OrderedSelect, ordered_select, OpClass, no_class, op_class, IndexKey, index_key, Using, no_using, using_method, Include, no_include, include_columns, CreateIndex, index_on, Cand, cand_on, Statement, empty, create_table, create_index, query, copy, sizes, column_statistics, analyze}
+use Rattle.sql_grammar.specs.Syntax.{Col, bare, qualified, Constant, yes, no, unknown, Lit, number, negative, quoted, constant, Operand, column, literal, Expr, either_of, Ors, no_or, or_conj, Conj, both_of, Ands, no_and, and_neg, Neg, negated, plain, Atom, parens, compare, is_null, is_not_null, column_alone, constant_alone, Nulls, unwritten, not_null, nullable, ColDef, coldef, Output, every, every_of, one, Alias, no_alias, bare_alias, as_alias, Relation, relation, Inner, no_inner, inner, Join, join_on, cross_join, Group, group_of, Select as SelectTree, select_from, Where, no_where, where_expr, Share, share, Common, no_common, common, Histogram, no_histogram, histogram, Ending, semicolon, text_end, Direction, no_direction, ascending, descending, NullsEnd, no_nulls_end, nulls_first, nulls_last, Ordering, ordering, OrderBy, no_order, order_by, Limit, no_limit, most_rows, Offset, no_offset, skipped_rows, Window, window, WindowedSelect, windowed_select, Explaining, no_explain, explain, explain_table, OrderedSelect, ordered_select, OpClass, no_class, op_class, IndexKey, index_key, Using, no_using, using_method, Include, no_include, include_columns, CreateIndex, index_on, Cand, cand_on, Advised, advised, Advise, advise_of, Statement, empty, create_table, create_index, query, copy, sizes, column_statistics, analyze, advise, check, use_plan}
 
 -- a column, with its table's name and a dot before it where that is written
 abbrev pub words_of_col : Col → List Terminal
@@ -179,10 +179,15 @@ words_of_offset (skipped_rows _ k n) = t_key OffsetKey k ∷ t_number n ∷ []
 abbrev pub words_of_window : Window → List Terminal
 words_of_window (window l o) = words_of_limit l ++ words_of_offset o
 
--- EXPLAIN or nothing
+-- a SELECT with its order and its window
+abbrev pub words_of_windowed : WindowedSelect → List Terminal
+words_of_windowed (windowed_select q y w) = words_of_select q ++ (words_of_order y ++ words_of_window w)
+
+-- EXPLAIN, EXPLAIN (TABLE) or nothing
 abbrev pub words_of_explaining : Explaining → List Terminal
 words_of_explaining no_explain = []
 words_of_explaining (explain k) = t_name (free Explain k) ∷ []
+words_of_explaining (explain_table _ k o t m) = t_name (free Explain k) ∷ t_mark Open o ∷ t_key Table t ∷ t_mark Close m ∷ []
 
 -- a SELECT with its order, its window and its end
 abbrev pub words_of_ordered : OrderedSelect → List Terminal
@@ -229,6 +234,26 @@ words_of_cand (cand_on n o t u p x xs m c w) =
     t_name n ∷ t_key On o ∷ t_name t ∷
     (words_of_using u ++ t_mark Open p ∷ (words_of_key x ++ (words_of_keys xs ++ t_mark Close m ∷ (words_of_include c ++ words_of_where w))))
 
+-- further candidates, each after a comma
+abbrev pub words_of_cands : List (Token × Cand) → List Terminal
+words_of_cands [] = []
+words_of_cands ((m, c) ∷ cs) = t_mark Comma m ∷ (words_of_cand c ++ words_of_cands cs)
+
+-- a SELECT in parentheses
+abbrev pub words_of_advised : Advised → List Terminal
+words_of_advised (advised o x m) = t_mark Open o ∷ (words_of_windowed x ++ t_mark Close m ∷ [])
+
+-- further ones
+abbrev pub words_of_more_advised : List Advised → List Terminal
+words_of_more_advised [] = []
+words_of_more_advised (x ∷ xs) = words_of_advised x ++ words_of_more_advised xs
+
+-- ADVISE with its end
+abbrev pub words_of_advise : Advise → List Terminal
+words_of_advise (advise_of _ k n o c cs m x xs e) =
+    t_name (free AdviseWord k) ∷ t_number n ∷ t_mark Open o ∷
+    (words_of_cand c ++ (words_of_cands cs ++ t_mark Close m ∷ (words_of_advised x ++ (words_of_more_advised xs ++ words_of_ending e))))
+
 -- a common value and its share
 abbrev pub words_of_share : Share → List Terminal
 words_of_share (share l n) = words_of_lit l ++ t_number n ∷ []
@@ -269,6 +294,9 @@ words_of (column_statistics k n c d z m h e) =
     t_name (free Statistics k.statistics) ∷ t_name n ∷ t_mark Dot k.dot ∷ t_name c ∷ t_name (free Distinct k.distinct) ∷ t_number d ∷ t_name (free NullsWord k.nulls) ∷ t_number z ∷
     (words_of_common m ++ (words_of_histogram h ++ words_of_ending e))
 words_of (analyze _ k n e) = t_name (free Analyze k) ∷ t_name n ∷ words_of_ending e
+words_of (advise x) = words_of_advise x
+words_of (check _ k x s) = t_name (free CheckWord k) ∷ (words_of_windowed x ++ t_semicolon s ∷ [])
+words_of (use_plan _ u p q y s) = t_name (free Use u) ∷ t_name (free Plan p) ∷ (words_of_select q ++ (words_of_order y ++ t_semicolon s ∷ []))
 
 -- The levels of an expression: a `(` and a NOT open one each.
 
@@ -333,6 +361,10 @@ levels_of_groups ((_, g) ∷ gs) = max (levels_of_group g) (levels_of_groups gs)
 abbrev pub levels_of_select : SelectTree → ℕ
 levels_of_select (select_from _ _ _ _ g gs w) = max (levels_of_group g) (max (levels_of_groups gs) (levels_of_where w))
 
+-- those of a SELECT with its order and its window
+abbrev pub levels_of_windowed : WindowedSelect → ℕ
+levels_of_windowed (windowed_select q _ _) = levels_of_select q
+
 -- those of a SELECT with its order, and of CREATE INDEX
 abbrev pub levels_of_ordered : OrderedSelect → ℕ
 levels_of_ordered (ordered_select _ q _ _ _) = levels_of_select q
@@ -344,6 +376,24 @@ levels_of_index (index_on _ _ _ _ _ _ _ _ _ _ _ w _) = levels_of_where w
 abbrev pub levels_of_cand : Cand → ℕ
 levels_of_cand (cand_on _ _ _ _ _ _ _ _ _ w) = levels_of_where w
 
+-- the most of further candidates
+abbrev pub levels_of_cands : List (Token × Cand) → ℕ
+levels_of_cands [] = 0
+levels_of_cands ((_, c) ∷ cs) = max (levels_of_cand c) (levels_of_cands cs)
+
+-- those of a SELECT in parentheses, which open no level
+abbrev pub levels_of_advised : Advised → ℕ
+levels_of_advised (advised _ x _) = levels_of_windowed x
+
+-- the most of further ones
+abbrev pub levels_of_more_advised : List Advised → ℕ
+levels_of_more_advised [] = 0
+levels_of_more_advised (x ∷ xs) = max (levels_of_advised x) (levels_of_more_advised xs)
+
+-- those of ADVISE: the most of its candidates and of its SELECTs
+abbrev pub levels_of_advise : Advise → ℕ
+levels_of_advise (advise_of _ _ _ _ c cs _ x xs _) = max (levels_of_cand c) (max (levels_of_cands cs) (max (levels_of_advised x) (levels_of_more_advised xs)))
+
 -- those of a statement
 abbrev pub levels_of : Statement → ℕ
 levels_of (empty _) = 0
@@ -354,3 +404,6 @@ levels_of (copy _ _ _) = 0
 levels_of (sizes _ _ _ _ _) = 0
 levels_of (column_statistics _ _ _ _ _ _ _ _) = 0
 levels_of (analyze _ _ _ _) = 0
+levels_of (advise x) = levels_of_advise x
+levels_of (check _ _ x _) = levels_of_windowed x
+levels_of (use_plan _ _ _ q _ _) = levels_of_select q

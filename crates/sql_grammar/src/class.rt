@@ -33,8 +33,10 @@ pub enum Word {
 /// A word that has a place in the grammar and may be a name elsewhere.
 #[derive(Clone, Copy, Debug, PartialEq, Eq)]
 pub enum Free {
+    Advise,
     Analyze,
     By,
+    Check,
     Common,
     Copy,
     Csv,
@@ -48,9 +50,11 @@ pub enum Free {
     Last,
     Nulls,
     Pages,
+    Plan,
     Rows,
     Statistics,
     Stdin,
+    Use,
 }
 
 /// A symbol of one byte that is no operator, but for the `;` that ends a statement.

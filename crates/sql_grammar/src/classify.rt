@@ -39,9 +39,11 @@ const WORDS: [Word; 25] = [
 ];
 
 /// The words with a place of their own that may be names.
-const FREE_WORDS: [Free; 18] = [
+const FREE_WORDS: [Free; 22] = [
+    Free::Advise,
     Free::Analyze,
     Free::By,
+    Free::Check,
     Free::Common,
     Free::Copy,
     Free::Csv,
@@ -55,9 +57,11 @@ const FREE_WORDS: [Free; 18] = [
     Free::Last,
     Free::Nulls,
     Free::Pages,
+    Free::Plan,
     Free::Rows,
     Free::Statistics,
     Free::Stdin,
+    Free::Use,
 ];
 
 /// A reserved word in small letters.
@@ -98,8 +102,10 @@ fn free_spelling(word: Free) -> &'static [u8]
     ensures { result.now ≡ free_spelling_of word }
 {
     match word {
+        Free::Advise => b"advise",
         Free::Analyze => b"analyze",
         Free::By => b"by",
+        Free::Check => b"check",
         Free::Common => b"common",
         Free::Copy => b"copy",
         Free::Csv => b"csv",
@@ -113,9 +119,11 @@ fn free_spelling(word: Free) -> &'static [u8]
         Free::Last => b"last",
         Free::Nulls => b"nulls",
         Free::Pages => b"pages",
+        Free::Plan => b"plan",
         Free::Rows => b"rows",
         Free::Statistics => b"statistics",
         Free::Stdin => b"stdin",
+        Free::Use => b"use",
     }
 }
 

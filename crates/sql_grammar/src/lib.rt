@@ -12,6 +12,7 @@ mod laws;
 mod limits;
 mod offered;
 mod rows;
+mod rows_advise;
 mod rows_from;
 mod rows_index;
 mod rows_order;
@@ -24,7 +25,11 @@ pub use class::{Class, Free, Symbol, Word};
 pub use classify::class_of;
 pub use copy_line::data_start;
 pub use fault::fault_at;
-pub use laws::{one_expression, one_statement, words_are_tokens};
+pub use laws::{
+    one_candidate, one_expression, one_statement, one_windowed_select, words_are_tokens,
+};
 pub use limits::limit_passed;
-pub use offered::{READS_ANALYZE, READS_WINDOW};
-pub use walk::{cand_end, expr_end, select_end, statement_fault};
+pub use offered::{
+    READS_ADVISE, READS_ANALYZE, READS_CHECK, READS_PLAN, READS_TABLE, READS_WINDOW,
+};
+pub use walk::{cand_end, expr_end, select_end, statement_fault, windowed_select_end};

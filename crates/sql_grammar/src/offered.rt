@@ -3,8 +3,20 @@
 //! Each one stands in the grammar with its trees, its rows and their proofs. Where its constant is false, no statement has
 //! it: its first word is a syntax fault. Everything here is proved for both values.
 
+/// ADVISE: which of some indexes serve some SELECTs best.
+pub const READS_ADVISE: bool = false;
+
 /// ANALYZE of a table.
 pub const READS_ANALYZE: bool = true;
+
+/// CHECK of the certificate of a SELECT's plan.
+pub const READS_CHECK: bool = false;
+
+/// USE PLAN: a SELECT by a plan that is written out.
+pub const READS_PLAN: bool = false;
+
+/// EXPLAIN (TABLE) of a SELECT: its plan with its certificate.
+pub const READS_TABLE: bool = false;
 
 /// LIMIT and OFFSET behind a SELECT with its order.
 pub const READS_WINDOW: bool = true;

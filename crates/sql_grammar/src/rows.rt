@@ -1,16 +1,16 @@
 //! The rows of the table: for an item, the tokens that are awaited and the items that then stand in its place.
 
 ghost use Rattle.std.specs.Prelude.{◌≡◌, MatchOption};
-ghost use Rattle.sql_grammar.specs.Table.{statement_takes, ends_takes, stop_takes, query_takes, nullness_takes, columns_takes, output_takes, outputs_takes, after_output_takes, star_takes, alias_takes, where_takes, figures_takes, common_takes, shares_takes, histogram_takes, bounds_takes, lit_takes, negation_takes, ands_takes, ors_takes, literal_takes, column_takes, name_takes, side_takes, qualifier_takes, label_takes, digits_takes, quoted_takes, keyword_takes, sign_takes, free_takes};
+ghost use Rattle.sql_grammar.specs.Table.{statement_takes, worded_takes, ends_takes, stop_takes, query_takes, nullness_takes, columns_takes, output_takes, outputs_takes, after_output_takes, star_takes, alias_takes, where_takes, figures_takes, common_takes, shares_takes, histogram_takes, bounds_takes, lit_takes, negation_takes, ands_takes, ors_takes, literal_takes, column_takes, name_takes, side_takes, qualifier_takes, label_takes, digits_takes, quoted_takes, keyword_takes, sign_takes, free_takes};
 
 use crate::class::{Class, Free, Symbol, Word};
-use crate::offered::READS_ANALYZE;
+use crate::rows_advise;
 use crate::table::Item;
 
 /// The items that stand in an item's place; None where the token is not awaited.
 pub type Expansion = Option<&'static [Item]>;
 
-/// A statement and its end: `CREATE`, `SELECT`, `EXPLAIN`, `COPY`, `STATISTICS`, `ANALYZE`, or nothing before the end.
+/// A statement and its end: `CREATE`, `SELECT`, a word that is not reserved, or nothing before the end.
 pub fn statement(class: Class) -> Expansion
     ensures { MatchOption result (statement_takes class ≡ None) (λ r. statement_takes class ≡ Some r.now) }
 {
@@ -30,14 +30,27 @@ pub fn statement(class: Class) -> Expansion
             Item::MaybeOffset,
             Item::Ends,
         ]),
-        Class::Name(Some(Free::Explain)) => Some(&[
+        Class::Name(Some(word)) => worded(word),
+        Class::Semicolon | Class::End => Some(&[]),
+        _ => None,
+    }
+}
+
+/// A statement behind its first word, which is not reserved: `EXPLAIN`, `COPY`, `STATISTICS` or one that is in the grammar by
+/// a constant.
+fn worded(word: Free) -> Expansion
+    ensures { MatchOption result (worded_takes word ≡ None) (λ r. worded_takes word ≡ Some r.now) }
+{
+    match word {
+        Free::Explain => Some(&[
+            Item::MaybeTable,
             Item::Query,
             Item::MaybeOrder,
             Item::MaybeLimit,
             Item::MaybeOffset,
             Item::Ends,
         ]),
-        Class::Name(Some(Free::Copy)) => Some(&[
+        Free::Copy => Some(&[
             Item::Label,
             Item::Keyword(Word::From),
             Item::FreeWord(Free::Stdin),
@@ -51,10 +64,8 @@ pub fn statement(class: Class) -> Expansion
             Item::Sign(Symbol::Close),
             Item::Stop,
         ]),
-        Class::Name(Some(Free::Statistics)) => Some(&[Item::Label, Item::Figures, Item::Ends]),
-        Class::Name(Some(Free::Analyze)) if READS_ANALYZE => Some(&[Item::Label, Item::Ends]),
-        Class::Semicolon | Class::End => Some(&[]),
-        _ => None,
+        Free::Statistics => Some(&[Item::Label, Item::Figures, Item::Ends]),
+        _ => rows_advise::offered(word),
     }
 }
 

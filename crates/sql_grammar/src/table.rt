@@ -6,7 +6,7 @@ ghost use Rattle.std.specs.Prelude.{◌≡◌, ◌≤◌, MatchOption};
 ghost use Rattle.sql_grammar.specs.Table.{takes_of, is_optional, level_of};
 
 use crate::class::{Class, Free, Symbol, Word};
-use crate::{rows, rows_from, rows_index, rows_order, rows_window};
+use crate::{rows, rows_advise, rows_from, rows_index, rows_order, rows_window};
 
 /// What is awaited.
 #[derive(Clone, Copy)]
@@ -113,6 +113,16 @@ pub enum Item {
     MaybeInclude,
     /// Further columns of INCLUDE, and the closing parenthesis.
     MoreNames,
+    /// (TABLE) behind EXPLAIN, or nothing.
+    MaybeTable,
+    /// A candidate for an index.
+    Candidate,
+    /// Further candidates, and the closing parenthesis.
+    MoreCands,
+    /// A SELECT with its order and its window in parentheses.
+    AdvisedSelect,
+    /// Further ones.
+    MoreAdvised,
 }
 
 /// The items that are awaited in this one's place after the token; None where the token is not awaited.
@@ -169,6 +179,11 @@ pub fn takes(item: Item, class: Class) -> Option<&'static [Item]>
         Item::MoreKeys => rows_index::keys(class),
         Item::MaybeInclude => rows_index::include(class),
         Item::MoreNames => rows_index::names(class),
+        Item::MaybeTable => rows_advise::table(class),
+        Item::Candidate => rows_advise::candidate(class),
+        Item::MoreCands => rows_advise::candidates(class),
+        Item::AdvisedSelect => rows_advise::advised(class),
+        Item::MoreAdvised => rows_advise::more_advised(class),
     }
 }
 
@@ -203,6 +218,8 @@ pub fn may_be_empty(item: Item) -> bool
             | Item::MaybeUsing
             | Item::MaybeClass
             | Item::MaybeInclude
+            | Item::MaybeTable
+            | Item::MoreAdvised
     )
 }
 

@@ -6,11 +6,10 @@
 ghost use Rattle.std.specs.Prelude.{◌≡◌, ℕ, ◌^◌, ◌<◌, ◌≤◌, length, drop, true, MatchOption};
 ghost use Rattle.sql_lex.specs.Words.{AreWords};
 ghost use Rattle.sql_grammar.specs.Reading.{terminal_of, IsWithin, AreTokens};
-ghost use Rattle.sql_grammar.specs.Faults.{IsWhole, IsStatement, IsSelect, IsCand, IsExpr, IsFirstFault, IsPartEnd};
+ghost use Rattle.sql_grammar.specs.Faults.{IsWhole, IsStatement, IsSelect, IsWindowed, IsCand, IsExpr, IsFirstFault, IsPartEnd};
 ghost use Rattle.sql_grammar.specs.Machine.{depth_of, Fits, is_closed};
 ghost use Rattle.sql_grammar.specs.Walk.{IsTaken, IsWalk};
 
-use crate::class::{Symbol, Word};
 use crate::classify::class_of;
 use crate::fault::fault_at;
 use crate::limits::limit_passed;
@@ -99,6 +98,27 @@ pub fn select_end(text: &[u8], tokens: &Tokens, first: u32) -> Result<u32, Fault
     walk(text, tokens.items(), first, &[Item::Query])
 }
 
+/// The end of the SELECT with its ORDER BY, LIMIT and OFFSET that begins at token `first`, in the same way. Each of the three
+/// may be left out, and they stand in this order.
+pub fn windowed_select_end(text: &[u8], tokens: &Tokens, first: u32) -> Result<u32, Fault>
+    requires short { length text.now ≤ 2 ^ 31 }
+    requires words { (from : ℕ) × AreWords text.now from tokens.now }
+    requires first { first < length tokens.now }
+    ensures { IsPartEnd IsWindowed text.now tokens.now first result }
+{
+    walk(
+        text,
+        tokens.items(),
+        first,
+        &[
+            Item::Query,
+            Item::MaybeOrder,
+            Item::MaybeLimit,
+            Item::MaybeOffset,
+        ],
+    )
+}
+
 /// The end of the candidate for an index that begins at token `first`, in the same way: the text of CREATE INDEX behind its
 /// first two words, up to its last key, INCLUDE column or condition.
 pub fn cand_end(text: &[u8], tokens: &Tokens, first: u32) -> Result<u32, Fault>
@@ -107,25 +127,7 @@ pub fn cand_end(text: &[u8], tokens: &Tokens, first: u32) -> Result<u32, Fault>
     requires first { first < length tokens.now }
     ensures { IsPartEnd IsCand text.now tokens.now first result }
 {
-    walk(
-        text,
-        tokens.items(),
-        first,
-        &[
-            Item::Label,
-            Item::Keyword(Word::On),
-            Item::Label,
-            Item::MaybeUsing,
-            Item::Sign(Symbol::Open),
-            Item::Label,
-            Item::MaybeClass,
-            Item::MaybeDirection,
-            Item::MaybeNulls,
-            Item::MoreKeys,
-            Item::MaybeInclude,
-            Item::MaybeWhere,
-        ],
-    )
+    walk(text, tokens.items(), first, &[Item::Candidate])
 }
 
 /// The end of the expression that begins at token `first`, in the same way. The token that opens a level past

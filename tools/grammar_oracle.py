@@ -1,29 +1,34 @@
 #!/usr/bin/env python3
-"""Compares the first fault of random statements with a reference parser's.
+"""Compares the first fault of random statements, and the end of random parts of them, with a reference parser's.
 
-usage: tools/grammar_oracle.py FOLDER [COUNT [SEED [STAGE]]]
+usage: tools/grammar_oracle.py FOLDER [COUNT [SEED [CONSTANT ..]]]
 
 FOLDER holds the package `pgoracle` of the reference parser, written apart from
 this repository: `lexer.lex_statement(text, at)` gives the tokens of a statement
-and `grammar.Parser(tokens, STAGE).statement()` raises its first fault: stage 10,
-which is taken where none is given, has every statement that this grammar has. The crates sql_grammar, sql_lex and
-pg_base are copied to a folder of their own, with tests made of the statements
-and the faults that the reference parser finds, and `rt try --test` runs them
-there. Nothing in the repository changes.
+and `grammar.Parser(tokens, 19).statement()` raises its first fault, with every
+production that this grammar has. Those whose constant in offered.rt is false
+are taken out of it, but for the CONSTANTs that are named: these are true in
+the copy too. The crates sql_grammar, sql_lex and pg_base are copied to a
+folder of their own, with tests made of the texts and of what the reference
+parser finds, and `rt try --test` runs them there. Nothing in the repository
+changes.
 """
 
 import random
+import re
 import sys
 
-from trying import try_over
+from trying import ROOT, try_over
 
 RESERVED = ("and as asc create cross desc false from group inner is join limit not null offset "
             "on or order select table true using where with").split()
 NAMES = ("a b t rows first copy csv format stdin index statistics last _x x1 nulls pages distinct "
-         "common histogram by explain include").split()
+         "common histogram by explain include advise check plan use analyze").split()
 SYMBOLS = "( ) , . * - ; < <= = <> |<|".split()
 OPERATORS = "< <= = >= > <> != |<| |>=|".split()
 CHUNK = 100
+STAGE = 19
+OFFERED = "crates/sql_grammar/src/offered.rt"
 
 
 def name(r):
@@ -120,8 +125,8 @@ def key(r):
     return [name(r)] + ([name(r)] if r.random() < 0.3 else []) + direction(r)
 
 
-def index(r):
-    out = ["create", "index", name(r), "on", name(r)]
+def candidate(r):
+    out = [name(r), "on", name(r)]
     out += ["using", name(r)] if r.random() < 0.4 else []
     out += ["("] + joined(r, key) + [")"]
     out += ["include", "("] + joined(r, lambda r: [name(r)]) + [")"] if r.random() < 0.4 else []
@@ -145,21 +150,57 @@ def group(r):
     return out
 
 
+def selected(r):
+    where = ["where"] + condition(r) if r.random() < 0.6 else []
+    return ["select"] + joined(r, output) + ["from"] + joined(r, group) + where
+
+
+def sorted_select(r):
+    return selected(r) + (["order", "by"] + joined(r, ordering) if r.random() < 0.5 else [])
+
+
+def windowed(r):
+    out = sorted_select(r)
+    out += ["limit", "7"] if r.random() < 0.3 else []
+    return out + (["offset", "7"] if r.random() < 0.3 else [])
+
+
+def advice(r):
+    out = ["advise", "7", "("] + joined(r, candidate) + [")", "("] + windowed(r) + [")"]
+    while r.random() < 0.4:
+        out += ["("] + windowed(r) + [")"]
+    return out
+
+
+def asked(r):
+    """A statement of those that are in the grammar by a constant."""
+    return r.choice((
+        lambda: ["analyze", name(r)],
+        lambda: advice(r),
+        lambda: ["check"] + windowed(r),
+        lambda: ["use", "plan"] + sorted_select(r),
+        lambda: "explain ( table )".split() + windowed(r)))()
+
+
+def part(r, kind):
+    """The words of such a part, and now and then of what may stand behind it."""
+    out = {1: selected, 2: windowed, 3: candidate, 4: condition}[kind](r)
+    return out + r.choice(([], [")"], [","] + candidate(r), [")", "("], ["order", "by", "a"], ["limit", "7"]))
+
+
 def statement(r):
     """The words of a statement, without its end."""
-    kind = r.randrange(15)
+    kind = r.randrange(20)
     if kind == 0:
         return []
+    if kind > 14:
+        return asked(r)
     if kind > 11:
-        return index(r)
+        return ["create", "index"] + candidate(r)
     if kind < 3:
         return ["create", "table", name(r), "("] + joined(r, definition) + [")"]
     if kind < 8:
-        tables = joined(r, group)
-        where = ["where"] + condition(r) if kind > 4 else []
-        order = ["order", "by"] + joined(r, ordering) if r.random() < 0.5 else []
-        explained = ["explain"] if r.random() < 0.3 else []
-        return explained + ["select"] + joined(r, output) + ["from"] + tables + where + order
+        return (["explain"] if r.random() < 0.3 else []) + windowed(r)
     if kind < 11:
         return statistics(r)
     return ["copy", name(r)] + "from stdin with ( format csv , null".split() + [text(r), ")"]
@@ -192,39 +233,83 @@ def cased(r, word):
     return "".join(c.upper() if r.random() < 0.3 else c for c in word) if word[0] != "'" else word
 
 
-def sample(r):
-    words = statement(r)
+def sample(r, kind):
+    words = statement(r) if kind == 0 else part(r, kind)
     if r.random() < 0.7:
         words = changed(r, words)
     out = " ".join(cased(r, w) for w in words)
     return out + r.choice((";", " ;", ";", "", " "))
 
 
-def fault(parser, lexer, faults, line, stage):
-    """The kind (0 none, 1 syntax, 2 name, 3 text, 4 depth) and the place of the first fault."""
+def parser_of(grammar, offered):
+    """The reference parser without the productions that are not offered, and with the parts by themselves."""
+
+    class Parser(grammar.Parser):
+        ordered = True
+
+        def accept_word(self, word):
+            taken = self.ordered or word != "order"
+            return super().accept_word(word) if taken else None
+
+        def one(self, constant, word):
+            return getattr(super(), word)() if offered[constant] else self.fail()
+
+        def analyze(self):
+            return self.one("READS_ANALYZE", "analyze")
+
+        def advise(self):
+            return self.one("READS_ADVISE", "advise")
+
+        def check(self):
+            return self.one("READS_CHECK", "check")
+
+        def use(self):
+            return self.one("READS_PLAN", "use")
+
+        def explain(self):
+            if self.tokens[self.at + 1].text == "(" and not offered["READS_TABLE"]:
+                self.at += 1
+                self.fail()
+            return super().explain()
+
+        def read(self, kind):
+            if kind == 0:
+                self.statement()
+            elif kind == 1:
+                self.ordered = False
+                self.select_(limit=False, group=False)
+            elif kind == 2:
+                self.select_(limit=True, group=False)
+            elif kind == 3:
+                self.cand()
+            else:
+                self.expr(0)
+            return self.at
+
+    return Parser
+
+
+def fault(parser, lexer, faults, line, kind):
+    """The kind (0 none, 1 syntax, 2 name, 3 text, 4 depth) and the place of the first fault, or 5 and the end of a part."""
     tokens = lexer.lex_statement(line.encode(), 0)
-    if len(tokens) == 1:
+    if len(tokens) == 1 and kind == 0:
         return 0, 0
     try:
-        parser.Parser(tokens, stage).statement()
+        end = parser(tokens, STAGE).read(kind)
     except faults.Fault as f:
-        kind = 1 if f.args[0] == "S1" else {"name": 2, "text": 3, "depth": 4}[f.args[2]]
-        return kind, f.args[1]
-    return 0, 0
+        code = 1 if f.args[0] == "S1" else {"name": 2, "text": 3, "depth": 4}[f.args[2]]
+        return code, f.args[1]
+    return (0, 0) if kind == 0 else (5, end)
 
 
 TEST = '''
 #[test]
 fn part_%d(rt: HostRuntime) {
-    let lines: &[(&[u8], u32, u32)] = &[
+    let lines: &[(u32, &[u8], u32, u32)] = &[
 %s    ];
-    for (line, kind, at) in lines {
+    for (part, line, kind, at) in lines {
         let tokens = lex_statement(rt.alloc(), line, 0).expect(&rt, "tokens");
-        let found = match statement_fault(line, &tokens, 0) {
-            None => (0, 0),
-            Some(fault) => (kind_of(fault.code), fault.at),
-        };
-        assert_eq!(rt; found, (*kind, *at), "{line:?}");
+        assert_eq!(rt; found(*part, line, &tokens), (*kind, *at), "{part} {line:?}");
     }
 }
 '''
@@ -233,8 +318,8 @@ HEAD = '''//! Random statements.
 #![tactic(auto)]
 
 use pg_base::{Code, Limit};
-use sql_grammar::statement_fault;
-use sql_lex::lex_statement;
+use sql_grammar::{cand_end, expr_end, select_end, statement_fault, windowed_select_end};
+use sql_lex::{lex_statement, Tokens};
 
 fn kind_of(code: Code) -> u32 {
     match code {
@@ -245,6 +330,25 @@ fn kind_of(code: Code) -> u32 {
         _ => 9,
     }
 }
+
+fn found(part: u32, line: &[u8], tokens: &Tokens) -> (u32, u32) {
+    let end = match part {
+        0 => {
+            return match statement_fault(line, tokens, 0) {
+                None => (0, 0),
+                Some(fault) => (kind_of(fault.code), fault.at),
+            };
+        }
+        1 => select_end(line, tokens, 0),
+        2 => windowed_select_end(line, tokens, 0),
+        3 => cand_end(line, tokens, 0),
+        _ => expr_end(line, tokens, 0),
+    };
+    match end {
+        Ok(end) => (5, end),
+        Err(fault) => (kind_of(fault.code), fault.at),
+    }
+}
 '''
 
 
@@ -253,19 +357,25 @@ def main():
     from pgoracle import faults, grammar, lexer
     count = int(sys.argv[2]) if len(sys.argv) > 2 else 2000
     r = random.Random(int(sys.argv[3]) if len(sys.argv) > 3 else 1)
-    stage = int(sys.argv[4]) if len(sys.argv) > 4 else 10
-    tests, tally = HEAD, [0, 0, 0, 0, 0]
+    source = (ROOT / OFFERED).read_text()
+    offered = {k: v == "true" for k, v in re.findall(r"const (\w+): bool = (\w+);", source)}
+    for constant in sys.argv[4:]:
+        offered[constant] = True
+        source = source.replace(f"{constant}: bool = false", f"{constant}: bool = true")
+    parser = parser_of(grammar, offered)
+    tests, tally = HEAD, [0, 0, 0, 0, 0, 0]
     for part in range(0, count, CHUNK):
         rows = ""
         for _ in range(min(CHUNK, count - part)):
-            line = sample(r)
-            kind, at = fault(grammar, lexer, faults, line, stage)
+            part_kind = r.choice((0, 0, 0, 1, 2, 3, 4))
+            line = sample(r, part_kind)
+            kind, at = fault(parser, lexer, faults, line, part_kind)
             tally[kind] += 1
             literal = line.replace("\\", "\\\\")
-            rows += '        (b"%s", %d, %d),\n' % (literal, kind, at)
+            rows += '        (%d, b"%s", %d, %d),\n' % (part_kind, literal, kind, at)
         tests += TEST % (part // CHUNK, rows)
-    print("statements %d, syntax faults %d, names %d, texts %d, depths %d" % tuple(tally))
-    return try_over(["sql_grammar"], "lib.rt", tests, ["--test"]).returncode
+    print("statements %d, syntax faults %d, names %d, texts %d, depths %d, ends of parts %d" % tuple(tally))
+    return try_over(["sql_grammar"], "lib.rt", tests, ["--test"], changed={OFFERED: source}).returncode
 
 
 if __name__ == "__main__":

@@ -20,15 +20,17 @@ def below(names):
     return [line for line in lines if line.split(":")[0] in found]
 
 
-def try_over(names, file, source, words=(), files=(), **run):
-    """Runs a crate of one file, `main.rt` or `lib.rt`, over these crates, with these files of other crates beside it. The words
-    go to `rt try`."""
+def try_over(names, file, source, words=(), files=(), changed=None, **run):
+    """Runs a crate of one file, `main.rt` or `lib.rt`, over these crates, with these files of other crates beside it, and with
+    these texts in place of files of the repository. The words go to `rt try`."""
     listed = below(names)
     crates = [line.split(":")[0] for line in listed]
     with tempfile.TemporaryDirectory() as folder:
         copy = pathlib.Path(folder)
         for crate in crates:
             shutil.copytree(ROOT / "crates" / crate, copy / "crates" / crate, ignore=shutil.ignore_patterns("out", "must-fail"))
+        for path, text in (changed or {}).items():
+            (copy / path).write_text(text)
         inside = copy / "crates" / "tried" / "src"
         inside.mkdir(parents=True)
         (inside / file).write_text(source)

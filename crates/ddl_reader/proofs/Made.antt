@@ -24,6 +24,6 @@ module _ (A : Type 0) (f : Bound → A) (g : ColumnDef → A) (same : (d : Colum
 
 pub made-reading : (name : List ℕ) (token : Token) (ds : List ColumnDef) (names : List (List ℕ)) (columns : List Column) (at : List ℕ) →
     names ≡ map name_of ds → columns ≡ map column_of ds → at ≡ token.start ∷ map place_of ds →
-    record { definition = table name names columns; at = at; method = 0 } ≡ table_reading name token (map seen ds)
+    record { definition = table name names columns; at = at } ≡ table_reading name token (map seen ds)
 made-reading name token ds names columns at ns cs ps =
     rw (ns, cs, ps, all-seen _ (λ b. b.name) name_of (λ d. refl) ds, all-seen _ (λ b. b.column) column_of (λ d. refl) ds, all-seen _ (λ b. b.name_at.start) place_of (λ d. refl) ds) refl

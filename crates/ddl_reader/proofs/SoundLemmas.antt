@@ -12,7 +12,7 @@ use Rattle.pg_value.specs.declared.value.SqlType.{SqlType}
 use Rattle.sql_lex.specs.declared.tokens.Token.{Token}
 use Rattle.sql_lex.specs.Words.{AreWords}
 use Rattle.sql_grammar.specs.Terminals.{Terminal, Ident, token_of, t_name}
-use Rattle.sql_grammar.specs.Syntax.{Mark, Nulls, unwritten, not_null, nullable, ColDef, coldef, Statement, empty, create_table, create_index, query, copy, sizes, column_statistics, analyze}
+use Rattle.sql_grammar.specs.Syntax.{Mark, Nulls, unwritten, not_null, nullable, ColDef, coldef, Statement, empty, create_table, create_index, query, copy, sizes, column_statistics, analyze, advise, check, use_plan}
 use Rattle.sql_grammar.specs.Words.{words_of, words_of_nulls, words_of_coldef, words_of_columns, words_of_ending}
 use Rattle.sql_grammar.specs.Faults.{bytes_of}
 use Rattle.sql_grammar.specs.Unique.{token_in}
@@ -125,8 +125,8 @@ module _ (cat : Contents) (text : List ℕ) where
       limited-sound (table_reading name token bs) r bs (drop MOST_COLUMNS bs) refl (λ few. table-sound name token w ws bs named all (called (w ∷ ws) bs is) here low (put (w ∷ ws) bs is) few) means
 
   -- data that are meant
-  text-sound : (t : TableNo) (start : ℕ) (r : Reading) (f : Fault) (b : Bool) → IsTable cat t → start ≤ length text → Ok r ≡ cond b (Ok (record { definition = data_for t start; at = []; method = 0 })) (Err f) → IsSound cat text r
-  text-sound t start r f true there within is = let same : record { definition = data_for t start; at = []; method = 0 } ≡ r = cc (is) in subst (IsSound cat text) same (there, within)
+  text-sound : (t : TableNo) (start : ℕ) (r : Reading) (f : Fault) (b : Bool) → IsTable cat t → start ≤ length text → Ok r ≡ cond b (Ok (record { definition = data_for t start; at = [] })) (Err f) → IsSound cat text r
+  text-sound t start r f true there within is = let same : record { definition = data_for t start; at = [] } ≡ r = cc (is) in subst (IsSound cat text) same (there, within)
   text-sound t start r f false there within is = absurd (cc (is))
 
   of-sound : (name : List ℕ) (name_at null_at : Token) (null : List ℕ) (start : ℕ) (r : Reading) (o : Option TableNo) → table_named cat name ≡ o → start ≤ length text → Ok r ≡ data_of o name_at null null_at start → IsSound cat text r
@@ -145,6 +145,9 @@ module _ (cat : Contents) (text : List ℕ) where
   statement-sound r (empty e) lawful named placed low means = absurd means
   statement-sound r (create_index x) lawful named placed low means = absurd means
   statement-sound r (query x) lawful named placed low means = absurd means
+  statement-sound r (advise x) lawful named placed low means = absurd means
+  statement-sound r (check offered k x e) lawful named placed low means = absurd means
+  statement-sound r (use_plan offered u k x y e) lawful named placed low means = absurd means
   statement-sound r (copy k n null) lawful named placed low (start, begins, means) = data-sound (bytes_of n) _ _ null.value _ r start begins means
   statement-sound r (create_table k t n o c cs m e) lawful named placed low means =
       bound-sound (bytes_of n) (token_of n) (written c) (further cs) r _ (named.1.1.0 n refl) (columns-hold _ IsName (λ w. w.name) (λ i j nulls h. h) c cs _ named.1.1.1.1)

@@ -167,7 +167,6 @@ module _ (cat : Contents) (text : List ℕ) where
       (record {
         definition = statistics_for t col (record { distinct = number_of_64 d; nulls = number_of_32 z; common = values; histogram = limits });
         at = places_of d z ws ls;
-        method = 0;
       }))) → IsSound cat text r
   lists-sound t col d z ws ls r (Err f) bounds table column low are-commons are-bounds is = absurd (cc (is))
   lists-sound t col d z ws ls r (Ok cs) (Err f) table column low are-commons are-bounds is = absurd (cc (is))
@@ -179,7 +178,6 @@ module _ (cat : Contents) (text : List ℕ) where
       let same : record {
         definition = statistics_for t col (record { distinct = number_of_64 d; nulls = number_of_32 z; common = cs; histogram = vs });
         at = places_of d z ws ls;
-        method = 0;
       } ≡ r = cc (is) in
       subst (IsSound cat text) same (record {
         table = table;

@@ -27,7 +27,7 @@ table-told cat t title r is told = ap (λ (x : Spelled). known S2 x.token (table
 
 -- a table to be analyzed that is read, with no place
 abbrev placed-so : TableNo → List ℕ → Reading
-placed-so t at = record { definition = analysis_of t; at = at; method = 0 }
+placed-so t at = record { definition = analysis_of t; at = at }
 
 abbrev read-so : Reading → Result Reading Fault
 read-so r = Ok r

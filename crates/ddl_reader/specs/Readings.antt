@@ -8,7 +8,7 @@ use Rattle.sql_grammar.specs.Syntax.{Statement}
 use Rattle.sql_grammar.specs.Faults.{IsStatement, IsFirstFault}
 use Rattle.catalog.specs.Contents.{Contents}
 use Rattle.catalog.specs.Entries.{statistics}
-use Rattle.ddl_reader.specs.Statements.{Means, IsOtherWord}
+use Rattle.ddl_reader.specs.Statements.{HasNoLineFault, IsOtherWord, Means}
 use Rattle.ddl_reader.specs.declared.ddl.Ddl.{Ddl}
 use Rattle.ddl_reader.specs.declared.ddl.Ddl.TheVariants.{Table, Rows, Column, Copy, Analyze}
 use Rattle.ddl_reader.specs.declared.ddl.Read.{Read}
@@ -28,13 +28,13 @@ definition (Analyze t) = analysis_of t
 
 -- what is read
 abbrev pub reading : Read → Reading
-reading r = record { definition = definition r.ddl; at = r.at.items; method = r.method }
+reading r = record { definition = definition r.ddl; at = r.at.items }
 
--- what is read of the statement, or its fault, is what it means; or there was no memory
+-- what is read of the statement, or its fault, is what it means; or there was no memory, and the rest of its line has no fault
 abbrev pub ReadsAs : Contents → List ℕ → Statement → Result Read Refusal → Type 0
 ReadsAs cat text x (Ok v) = Means cat text x (Ok (reading v))
 ReadsAs cat text x (Err (refusal.Fault f)) = Means cat text x (Err f)
-ReadsAs cat text x (Err refusal.Memory) = Unit {0}
+ReadsAs cat text x (Err refusal.Memory) = HasNoLineFault text x
 
 -- why the syntax is refused, by whether the first word is CREATE, without INDEX behind it, COPY, STATISTICS or ANALYZE; that
 -- takes no memory
@@ -48,5 +48,4 @@ abbrev pub statistics_read : Counted → List CommonRead → List Placed → Rea
 statistics_read c commons bounds = record {
   definition = statistics_for c.table c.col (record { distinct = c.distinct.value; nulls = min c.nulls.value (2 ^ 32 - 1); common = map common_seen commons; histogram = map value_seen bounds });
   at = c.distinct.token.start ∷ c.nulls.token.start ∷ (flat_map starts_seen commons ++ map start_seen bounds);
-  method = 0;
 }

@@ -1,6 +1,6 @@
 -- What a statement that defines a table, gives or finds statistics, or loads data means, and its first fault (PostgreSQL manual,
 -- CREATE TABLE, COPY and ANALYZE; STATISTICS is own).
-use Rattle.std.specs.Prelude.{◌≡◌, ◌⊎◌, ℕ, Bool, true, false, not, ◌&&◌, List, [], ◌∷◌, Result, Err, Some}
+use Rattle.std.specs.Prelude.{◌≡◌, ◌⊎◌, ℕ, Bool, true, false, not, ◌&&◌, List, [], ◌∷◌, Result, Ok, Err, Some}
 use Rattle.pg_base.specs.declared.faults.Code.TheVariants.{S1}
 use Rattle.pg_base.specs.declared.faults.Fault.{Fault}
 use Rattle.pg_base.specs.declared.faults.Refusal.{Refusal}
@@ -11,7 +11,7 @@ use Rattle.sql_grammar.specs.declared.class.Free.TheVariants.{Analyze, Copy, Ind
 use Rattle.sql_grammar.specs.declared.class.Class.{Class}
 use Rattle.sql_grammar.specs.declared.class.Class.TheVariants.{Key, Name}
 use Rattle.sql_grammar.specs.Terminals.{Terminal, free, t_key, t_name, token_of, class_of}
-use Rattle.sql_grammar.specs.Syntax.{Statement, empty, create_table, create_index, query, copy, sizes, column_statistics, analyze}
+use Rattle.sql_grammar.specs.Syntax.{Statement, empty, create_table, create_index, query, copy, sizes, column_statistics, analyze, advise, check, use_plan}
 use Rattle.sql_grammar.specs.Faults.{bytes_of, terminals, IsStatement, IsFirstFault, fault_at}
 use Rattle.sql_grammar.specs.Spelled.{IsSpelled}
 use Rattle.sql_grammar.specs.CopyLine.{IsDataStart}
@@ -50,6 +50,9 @@ Means cat text (analyze offered k n e) r = r ≡ analysis cat n
 Means cat text (empty e) r = ⊥
 Means cat text (create_index x) r = ⊥
 Means cat text (query x) r = ⊥
+Means cat text (advise x) r = ⊥
+Means cat text (check offered k x e) r = ⊥
+Means cat text (use_plan offered u p x y e) r = ⊥
 
 -- the tokens spell a statement that means this
 pub record IsMeaning (cat : Contents) (text : List ℕ) (tokens : List Token) (r : Result Reading Fault) : Type 0 where
@@ -66,7 +69,18 @@ abbrev pub IsDdlFault : Contents → List ℕ → List Token → Fault → Bool 
 IsDdlFault cat text tokens f true = IsFirstFault IsStatement text tokens f ⊎ IsMeaning cat text tokens (Err f)
 IsDdlFault cat text tokens f false = IsOtherWord tokens f
 
--- why a statement is refused: want of memory, or its first fault
+-- of COPY the rest of its line has no fault, from the `;` on
+abbrev pub HasNoLineFault : List ℕ → Statement → Type 0
+HasNoLineFault text (copy k n null) = (start : ℕ) × IsDataStart text k.stop.end (Ok start)
+HasNoLineFault text _ = Unit {0}
+
+-- the tokens spell a statement, and of COPY the rest of its line has no fault
+pub record HaveNoSyntaxFault (text : List ℕ) (tokens : List Token) : Type 0 where
+  pub statement : Statement
+  pub spelled : IsSpelled statement text tokens
+  pub line : HasNoLineFault text statement
+
+-- why a statement is refused: its first fault, or want of memory for one that begins so and whose syntax has no fault
 abbrev pub IsDdlRefusal : Contents → List ℕ → List Token → Refusal → Type 0
 IsDdlRefusal cat text tokens (refusal.Fault f) = IsDdlFault cat text tokens f (begins_ddl (terminals text tokens))
-IsDdlRefusal cat text tokens refusal.Memory = Unit {0}
+IsDdlRefusal cat text tokens refusal.Memory = (begins_ddl (terminals text tokens) ≡ true) × HaveNoSyntaxFault text tokens

@@ -73,7 +73,7 @@ places_of distinct nulls commons bounds = start_of distinct ∷ start_of nulls �
 
 -- the rows and the pages of a table
 abbrev pub sizes_reading : Said → Said → TableNo → Reading
-sizes_reading rows pages t = record { definition = sizes_for t (number_of_64 rows) (number_of_64 pages); at = start_of rows ∷ start_of pages ∷ []; method = 0 }
+sizes_reading rows pages t = record { definition = sizes_for t (number_of_64 rows) (number_of_64 pages); at = start_of rows ∷ start_of pages ∷ [] }
 
 -- the table of this name
 abbrev pub table_of_name : Contents → Ident → Result TableNo Fault
@@ -90,7 +90,6 @@ statistics_of type t col distinct nulls commons bounds =
     next (bound_each (typed_value type) bounds) (λ limits. Ok (record {
       definition = statistics_for t col (record { distinct = number_of_64 distinct; nulls = number_of_32 nulls; common = values; histogram = limits });
       at = places_of distinct nulls commons bounds;
-      method = 0;
     })))
 
 -- STATISTICS of a table: its name is bound
@@ -105,7 +104,7 @@ column_statistics_of cat n c distinct nulls commons bounds =
 
 -- ANALYZE: its table's name is bound, and no refusal of the catalogue has a place
 abbrev pub analysis_reading : TableNo → Reading
-analysis_reading t = record { definition = analysis_of t; at = []; method = 0 }
+analysis_reading t = record { definition = analysis_of t; at = [] }
 
 abbrev pub analysis : Contents → Ident → Result Reading Fault
 analysis cat n = next (table_of_name cat n) (λ t. Ok (analysis_reading t))

@@ -27,14 +27,12 @@ pub data Definition : Type 0 where
 pub record Reading : Type 0 where
   pub definition : Definition
   pub at : List ℕ
-  pub method : ℕ
 
 -- the table of this name, whose token is given, with these columns
 abbrev pub table_reading : List ℕ → Token → List Bound → Reading
 table_reading name token bs = record {
   definition = table name (map (λ b. b.name) bs) (map (λ b. b.column) bs);
   at = token.start ∷ map (λ b. b.name_at.start) bs;
-  method = 0;
 }
 
 -- the first column past the limit is at fault, at its name
@@ -52,7 +50,7 @@ table_of name token (Ok bs) = limited (table_reading name token bs) (drop MOST_C
 abbrev pub data_of : Option TableNo → Token → List ℕ → Token → ℕ → Result Reading Fault
 data_of None name_at null null_at start = Err (fault_at S2 name_at)
 data_of (Some t) name_at null null_at start =
-    cond (bytes_eq null null_text) (Ok (record { definition = data_for t start; at = []; method = 0 })) (Err (fault_at S17 null_at))
+    cond (bytes_eq null null_text) (Ok (record { definition = data_for t start; at = [] })) (Err (fault_at S17 null_at))
 
 -- after the line on which the statement ends
 abbrev pub data_after : Option TableNo → Token → List ℕ → Token → Result ℕ Fault → Result Reading Fault

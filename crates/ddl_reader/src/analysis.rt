@@ -26,6 +26,5 @@ pub(crate) fn analysis(alloc: Global, cat: &Catalog, from: &mut Cursor) -> Resul
     Ok(Read {
         ddl: Ddl::Analyze { table },
         at: Vec::new(alloc),
-        method: 0,
     })
 }

@@ -38,7 +38,6 @@ fn bind(
     Ok(Read {
         ddl: Ddl::Copy { table, start },
         at: Vec::new(alloc),
-        method: 0,
     })
 }
 

@@ -45,6 +45,4 @@ pub struct Read {
     /// places that the catalogue counts: of the numbers of rows and of pages; or of the numbers of different values and of
     /// NULLs, then of each common value and its share, then of each bound of the histogram. A literal begins at its `-`.
     pub at: Vec<u32>,
-    /// The offset of the word after USING; 0, where there is none.
-    pub method: u32,
 }

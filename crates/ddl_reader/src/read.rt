@@ -1,18 +1,12 @@
 //! Reading a statement that defines a table, gives or finds statistics, or loads data.
 
-ghost use Rattle.std.specs.Prelude.{◌≡◌, ◌≤◌, ◌<◌, ◌^◌, ℕ, List, [], ◌∷◌, ◌++◌, length, true, IfOk, IfErr, Ok, Result, MatchResult};
-ghost use Rattle.pg_base.specs.declared.faults.Fault.{Fault};
+ghost use Rattle.std.specs.Prelude.{◌≡◌, ◌≤◌, ◌<◌, ◌^◌, ℕ, List, [], ◌∷◌, ◌++◌, length, true, IfOk, IfErr, Ok, MatchResult};
 ghost use Rattle.sql_lex.specs.declared.tokens.Token.{Token};
 ghost use Rattle.sql_lex.specs.Words.{AreWords};
 ghost use Rattle.sql_grammar.specs.Syntax.{CopyWords, Statement, copy as copy_tree};
 ghost use Rattle.sql_grammar.specs.Words.{words_of};
-ghost use Rattle.sql_grammar.specs.Faults.{bytes_of, terminals, IsWhole};
-ghost use Rattle.sql_grammar.specs.CopyLine.{IsDataStart};
-ghost use Rattle.sql_grammar.specs.Terminals.{Ident, Said, token_of};
-ghost use Rattle.catalog.specs.Tables.{table_named};
-ghost use Rattle.ddl_reader.specs.declared.ddl.Read.{Read};
-ghost use Rattle.ddl_reader.specs.AsMeant.{IsAsMeant};
-ghost use Rattle.ddl_reader.specs.Tables.{Reading, data_after};
+ghost use Rattle.sql_grammar.specs.Faults.{terminals, IsWhole};
+ghost use Rattle.sql_grammar.specs.Terminals.{Ident, Said};
 ghost use Rattle.ddl_reader.specs.Statements.{opens_ddl, begins_ddl, begins_index, IsMeaning, IsDdlRefusal};
 ghost use Rattle.ddl_reader.specs.Readings.{reading, ReadsAs, IsSyntaxRefusal};
 ghost use Rattle.ddl_reader.specs.Soundness.{IsSound};
@@ -51,8 +45,7 @@ fn data(
     requires words { (from : ℕ) × AreWords text.now from tokens.now }
     requires all { from.old ≡ terminals text.now tokens.now }
     requires copy { (k : CopyWords) × (n : Ident) × (null : Said) × (from.old ≡ words_of (copy_tree k n null)) }
-    ensures { (k : CopyWords) (n : Ident) (null : Said) → from.old ≡ words_of (copy_tree k n null) →
-        (start : Result ℕ Fault) × IsDataStart text.now k.stop.end start × IsAsMeant Read Reading reading result (data_after (table_named cat.now (bytes_of n)) (token_of n) null.value null.token start) }
+    ensures { (k : CopyWords) (n : Ident) (null : Said) → from.old ≡ words_of (copy_tree k n null) → ReadsAs cat.now text.now (copy_tree k n null) result }
 {
     let start = data_start(text, last_end(text, tokens))?;
     copy(alloc, cat, start, from)
@@ -150,7 +143,8 @@ fn check_syntax(text: &[u8], tokens: &Tokens) -> Result<(), Refusal>
 /// What the catalogue refuses is not asked here, but what is read may be handed to it: names are names, each of the 1 to 32
 /// columns has one; the table of COPY, STATISTICS and ANALYZE is there, and so is the column, and each value is of its type and is not
 /// NULL. `at` has an offset for each place that the catalogue counts, however many literals are given. The text has at most
-/// 2^31 bytes, and the tokens are the words of a statement from some offset of it.
+/// 2^31 bytes, and the tokens are the words of a statement from some offset of it. The refusal is `Memory` only of a statement
+/// that begins so and whose syntax has no fault, that of the rest of COPY's line included.
 pub fn read_ddl(alloc: Global, cat: &Catalog, text: &[u8], tokens: &Tokens) -> Result<Read, Refusal>
     requires short { length text.now ≤ 2 ^ 31 }
     requires words { (from : ℕ) × AreWords text.now from tokens.now }

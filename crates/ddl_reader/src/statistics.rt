@@ -144,7 +144,6 @@ fn made(
             stats,
         },
         at,
-        method: 0,
     })
 }
 
@@ -204,7 +203,6 @@ fn sizes(alloc: Global, table: TableNo, from: &mut Cursor) -> Result<Read, Refus
             pages: pages.value,
         },
         at,
-        method: 0,
     })
 }
 

@@ -49,7 +49,6 @@ fn made(alloc: Global, name: Spelled, defs: Vec<ColumnDef>) -> Result<Read, Refu
             columns: Columns::from_vec(columns),
         },
         at,
-        method: 0,
     })
 }
 

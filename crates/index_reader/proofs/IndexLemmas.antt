@@ -1,5 +1,5 @@
--- CREATE INDEX, from its first word on.
-use Rattle.std.proofs.Common.{◌≡◌, ℕ, Bool, true, false, List, [], ◌∷◌, ◌++◌, drop, Option, Result, Ok, Err, IfOk, IfErr, inr, cond, refl, sym, ap, ◌∙◌, subst}
+-- A new index, from its name on.
+use Rattle.std.proofs.Common.{◌≡◌, ℕ, Bool, true, false, List, [], ◌∷◌, ◌++◌, drop, Option, Result, Ok, Err, IfOk, IfErr, inr, cond, refl, sym, ap, ◌∙◌, subst, append-nil}
 use Rattle.pg_base.specs.declared.faults.Code.TheVariants.{S2, S15}
 use Rattle.pg_base.specs.declared.faults.Limit.TheVariants.{Atoms}
 use Rattle.pg_base.specs.declared.faults.Fault.{Fault}
@@ -9,11 +9,11 @@ use Rattle.pg_base.specs.declared.limits.TheConstants.{MOST_COLUMNS}
 use Rattle.pg_base.specs.declared.numbers.TableNo.{TableNo}
 use Rattle.pg_expr.specs.Cond.{Cond}
 use Rattle.sql_lex.specs.declared.tokens.Token.{Token}
-use Rattle.sql_grammar.specs.declared.class.Symbol.TheVariants.{Open}
+use Rattle.sql_grammar.specs.declared.class.Symbol.TheVariants.{Close, Open}
 use Rattle.sql_grammar.specs.declared.class.Word.TheVariants.{On}
 use Rattle.sql_grammar.specs.Terminals.{Terminal, Ident, t_key, t_mark, t_name}
-use Rattle.sql_grammar.specs.Syntax.{Key, Mark, Where, no_where, where_expr, Ending, semicolon, text_end, IndexKey as KeyTree, Using, Include, CreateIndex, index_on, Statement, empty, create_table, create_index, query, copy, sizes, column_statistics, analyze, no_explain, explain, ordered_select, select_from}
-use Rattle.sql_grammar.specs.Words.{words_of, words_of_where, words_of_ending, words_of_using, words_of_include, words_of_index}
+use Rattle.sql_grammar.specs.Syntax.{Key, Mark, Where, no_where, where_expr, semicolon, text_end, IndexKey as KeyTree, Using, Include, Cand, cand_on, CreateIndex, index_on, Statement, empty, create_table, create_index, query, copy, sizes, column_statistics, analyze, no_explain, explain, explain_table, ordered_select, select_from, advise, advise_of, check, use_plan}
+use Rattle.sql_grammar.specs.Words.{words_of, words_of_where, words_of_using, words_of_include, words_of_key, words_of_keys, words_of_cand}
 use Rattle.sql_grammar.specs.Faults.{fault_at, terminals, IsWhole}
 use Rattle.sql_grammar.specs.Spelled.{IsSpelled}
 use Rattle.sql_cursor.specs.declared.cursor.Spelled.{Spelled}
@@ -22,7 +22,6 @@ use Rattle.catalog.specs.Contents.{Contents}
 use Rattle.catalog.specs.Tables.{table_named}
 use Rattle.expr_reader.specs.Reads.{Reads}
 use Rattle.expr_reader.proofs.ReadsLemmas.{was-read}
-use Rattle.query_reader.specs.Ends.{ends_where}
 use Rattle.sql_cursor.specs.Lists.{bound_each}
 use Rattle.ddl_reader.specs.Statistics.{known, table_of_name}
 use Rattle.ddl_reader.proofs.Parts.{named}
@@ -31,38 +30,33 @@ use Rattle.index_reader.specs.declared.keys.KeyRead.{KeyRead}
 use Rattle.index_reader.specs.declared.names.NamedColumn.{NamedColumn}
 use Rattle.index_reader.specs.declared.methods.MethodRead.{MethodRead}
 use Rattle.index_reader.specs.Keys.{method_bound, key_bound, keys_of, name_bound, names_of}
-use Rattle.index_reader.specs.Meaning.{Reading, condition_bound, name_tokens, limited, has_many_atoms, index_reading, within_limits, meaning}
+use Rattle.index_reader.specs.Meaning.{Reading, condition_bound, name_tokens, limited, has_many_atoms, index_reading, within_limits, meaning, meaning_of_cand}
 use Rattle.index_reader.specs.Reads.{ends_include, words_of_keys_left, reading}
-use Rattle.index_reader.specs.Statements.{IsMeaning, IsRefusal}
+use Rattle.index_reader.specs.Statements.{IsCandRefusal, IsMeaning, IsRefusal}
 use Rattle.ddl_reader.specs.Statements.{begins_index}
 use Rattle.expr_reader.proofs.StepLemmas.{step, stop}
 use Rattle.index_reader.proofs.VisibleLemmas.{sight}
 
 -- the words behind the keys, and from the first key on
-abbrev pub behind : Include → Where → Ending → List Terminal
-behind c w e = words_of_include c ++ (words_of_where w ++ words_of_ending e)
+abbrev pub behind : Include → Where → List Terminal
+behind c w = words_of_include c ++ (words_of_where w ++ [])
 
-abbrev pub body : KeyTree → List (Mark × KeyTree) → Mark → Include → Where → Ending → List Terminal
-body x xs m c w e = words_of_keys_left x xs m (behind c w e)
+abbrev pub body : KeyTree → List (Mark × KeyTree) → Mark → Include → Where → List Terminal
+body x xs m c w = words_of_keys_left x xs m (behind c w)
 
-pub include-end : (w : Where) (e : Ending) → ends_include (words_of_where w ++ words_of_ending e) ≡ true
-include-end no_where (semicolon t) = refl
-include-end no_where (text_end t) = refl
-include-end (where_expr k c) e = refl
-
-pub where-end : (e : Ending) → ends_where (words_of_ending e) ≡ true
-where-end (semicolon t) = refl
-where-end (text_end t) = refl
+pub include-end : (w : Where) → ends_include (words_of_where w ++ []) ≡ true
+include-end no_where = refl
+include-end (where_expr k c) = refl
 
 -- the new name and the table's are taken
-pub opened : (k : Key) (i : Token) (n : Ident) (o : Key) (t : Ident) (u : Using) (p : Mark) (x : KeyTree) (xs : List (Mark × KeyTree)) (m : Mark) (c : Include) (w : Where) (e : Ending)
-    (old first second third last : List Terminal) (s q : Spelled) → old ≡ words_of_index (index_on k i n o t u p x xs m c w e) → first ≡ drop 2 old → BeginsName s first second → third ≡ drop 1 second → BeginsName q third last →
-    (s ≡ spelled n) × (q ≡ spelled t) × (last ≡ words_of_using u ++ t_mark Open p ∷ body x xs m c w e)
-opened k i n o t u p x xs m c w e old first second third last s q is skipped begins again follows =
-    let rest = words_of_using u ++ t_mark Open p ∷ body x xs m c w e in
-    let one = named n (t_key On o ∷ t_name t ∷ rest) s first second (skipped ∙ ap (drop 2) is) begins in
-    let two = named t rest q third last (again ∙ ap (drop 1) one.1) follows in
-    (one.0, two.0, two.1)
+pub opened : (n : Ident) (o : Key) (t : Ident) (u : Using) (p : Mark) (x : KeyTree) (xs : List (Mark × KeyTree)) (m : Mark) (c : Include) (w : Where) (first second third last : List Terminal) (s q : Spelled) →
+    first ≡ words_of_cand (cand_on n o t u p x xs m c w) → BeginsName s first second → third ≡ drop 1 second → BeginsName q third last →
+    (s ≡ spelled n) × (q ≡ spelled t) × (last ≡ words_of_using u ++ t_mark Open p ∷ body x xs m c w)
+opened n o t u p x xs m c w first second third last s q is begins again follows =
+    let from : List Terminal → List Terminal = λ ws. words_of_using u ++ t_mark Open p ∷ (words_of_key x ++ (words_of_keys xs ++ t_mark Close m ∷ (words_of_include c ++ ws))) in
+    let one = named n (t_key On o ∷ t_name t ∷ from (words_of_where w)) s first second is begins in
+    let two = named t (from (words_of_where w)) q third last (again ∙ ap (drop 1) one.1) follows in
+    (one.0, two.0, two.1 ∙ ap from (sym (append-nil (words_of_where w))))
 
 -- the table that is told
 pub table-told : (cat : Contents) (t : Ident) (s : Spelled) (r : Result TableNo Fault) → s ≡ spelled t → r ≡ known S2 s.token (table_named cat s.bytes) → table_of_name cat t ≡ r
@@ -102,9 +96,9 @@ module _ (start : Token) (n : Ident) (t : TableNo) (m : MethodRead) (keys : List
   all-within few is = limited-right (drop MOST_COLUMNS (name_tokens keys names)) _ few ∙ passed-right (has_many_atoms p) _ _ is
 
 -- what is bound so far
-module _ (cat : Contents) (k : Key) (i : Token) (n : Ident) (o : Key) (t : Ident) (u : Using) (p : Mark) (x : KeyTree) (xs : List (Mark × KeyTree)) (m : Mark) (c : Include) (w : Where) (e : Ending) where
+module _ (cat : Contents) (start : Token) (n : Ident) (o : Key) (t : Ident) (u : Using) (p : Mark) (x : KeyTree) (xs : List (Mark × KeyTree)) (m : Mark) (c : Include) (w : Where) where
   abbrev whole : Result Reading Fault
-  whole = meaning cat (index_on k i n o t u p x xs m c w e)
+  whole = meaning_of_cand cat start (cand_on n o t u p x xs m c w)
 
   module _ (table : TableNo) (found : table_of_name cat t ≡ Ok table) where
     pub method-wrong : (f : Fault) → method_bound u ≡ Err f → whole ≡ Err f
@@ -127,23 +121,22 @@ module _ (cat : Contents) (k : Key) (i : Token) (n : Ident) (o : Key) (t : Ident
               (step (bound_each (key_bound cat table method.method) (keys_of x xs)) _ keys keyed ∙
               (step (bound_each (name_bound cat table) (names_of c)) _ names included ∙ stop (condition_bound (sight cat table (spelled t).bytes) w) _ f wrong)))
 
-          pub all-bound : (q : Option Cond) → condition_bound (sight cat table (spelled t).bytes) w ≡ Ok q → whole ≡ within_limits k n table method keys names q
+          pub all-bound : (q : Option Cond) → condition_bound (sight cat table (spelled t).bytes) w ≡ Ok q → whole ≡ within_limits start n table method keys names q
           all-bound q condition =
               step (table_of_name cat t) _ table found ∙ (step (method_bound u) _ method using ∙
               (step (bound_each (key_bound cat table method.method) (keys_of x xs)) _ keys keyed ∙
               (step (bound_each (name_bound cat table) (names_of c)) _ names included ∙ step (condition_bound (sight cat table (spelled t).bytes) w) _ q condition)))
 
--- any CREATE INDEX by its words
-pub parts-of : (x : CreateIndex) (old : List Terminal) → old ≡ words_of_index x →
-    (k : Key) × (i : Token) × (n : Ident) × (o : Key) × (t : Ident) × (u : Using) × (p : Mark) × (x : KeyTree) × (xs : List (Mark × KeyTree)) × (m : Mark) × (c : Include) × (w : Where) × (e : Ending) ×
-    (old ≡ words_of_index (index_on k i n o t u p x xs m c w e))
-parts-of (index_on k i n o t u p x xs m c w e) old is = (k, i, n, o, t, u, p, x, xs, m, c, w, e, is)
+-- any candidate by its words
+pub parts-of : (y : Cand) (old : List Terminal) → old ≡ words_of_cand y →
+    (n : Ident) × (o : Key) × (t : Ident) × (u : Using) × (p : Mark) × (x : KeyTree) × (xs : List (Mark × KeyTree)) × (m : Mark) × (c : Include) × (w : Where) × (old ≡ words_of_cand (cand_on n o t u p x xs m c w))
+parts-of (cand_on n o t u p x xs m c w) old is = (n, o, t, u, p, x, xs, m, c, w, is)
 
-pub every-index : (cat : Contents) (old : List Terminal) (r : Result ReadIndex Refusal) →
-    ((k : Key) (i : Token) (n : Ident) (o : Key) (t : Ident) (u : Using) (p : Mark) (x : KeyTree) (xs : List (Mark × KeyTree)) (m : Mark) (c : Include) (w : Where) (e : Ending) →
-    old ≡ words_of_index (index_on k i n o t u p x xs m c w e) → Reads reading (meaning cat (index_on k i n o t u p x xs m c w e)) [] r []) →
-    (x : CreateIndex) → old ≡ words_of_index x → Reads reading (meaning cat x) [] r []
-every-index cat old r told (index_on k i n o t u p x xs m c w e) is = told k i n o t u p x xs m c w e is
+pub every-cand : (cat : Contents) (start : Token) (old : List Terminal) (r : Result ReadIndex Refusal) →
+    ((n : Ident) (o : Key) (t : Ident) (u : Using) (p : Mark) (x : KeyTree) (xs : List (Mark × KeyTree)) (m : Mark) (c : Include) (w : Where) →
+    old ≡ words_of_cand (cand_on n o t u p x xs m c w) → Reads reading (meaning_of_cand cat start (cand_on n o t u p x xs m c w)) [] r []) →
+    (y : Cand) → old ≡ words_of_cand y → Reads reading (meaning_of_cand cat start y) [] r []
+every-cand cat start old r told (cand_on n o t u p x xs m c w) is = told n o t u p x xs m c w is
 
 -- a statement that begins with CREATE INDEX is one
 pub is-index : (x : Statement) (ts : List Terminal) → words_of x ≡ ts → begins_index ts ≡ true → (y : CreateIndex) × (x ≡ create_index y)
@@ -153,6 +146,10 @@ is-index (empty (text_end t)) ts is opens = let wrong = ap begins_index is ∙ o
 is-index (create_table k t n o c cs m e) ts is opens = let wrong = ap begins_index is ∙ opens in absurd (cc (wrong))
 is-index (query (ordered_select no_explain (select_from k o os f n a w) y v e)) ts is opens = let wrong = ap begins_index is ∙ opens in absurd (cc (wrong))
 is-index (query (ordered_select (explain k) q y v e)) ts is opens = let wrong = ap begins_index is ∙ opens in absurd (cc (wrong))
+is-index (query (ordered_select (explain_table p k a t b) q y v e)) ts is opens = let wrong = ap begins_index is ∙ opens in absurd (cc (wrong))
+is-index (advise (advise_of p k n o c cs m x xs e)) ts is opens = let wrong = ap begins_index is ∙ opens in absurd (cc (wrong))
+is-index (check p k x e) ts is opens = let wrong = ap begins_index is ∙ opens in absurd (cc (wrong))
+is-index (use_plan p u k q y e) ts is opens = let wrong = ap begins_index is ∙ opens in absurd (cc (wrong))
 is-index (copy k n null) ts is opens = let wrong = ap begins_index is ∙ opens in absurd (cc (wrong))
 is-index (sizes k n rows pages e) ts is opens = let wrong = ap begins_index is ∙ opens in absurd (cc (wrong))
 is-index (column_statistics k n c d z m h e) ts is opens = let wrong = ap begins_index is ∙ opens in absurd (cc (wrong))
@@ -170,21 +167,26 @@ indexing text tokens given opens =
     record { tree = y; spelled = subst (λ z. IsSpelled z text tokens) is (record { words = words; limits = given.within; levels = low }) }
 
 -- an index that is read is meant
-pub meant-as : (cat : Contents) (text : List ℕ) (tokens : List Token) (r : Result ReadIndex Refusal) → Indexing text tokens →
-    ((x : CreateIndex) → words_of_index x ≡ terminals text tokens → Reads reading (meaning cat x) [] r []) → IfOk r (λ v. IsMeaning cat text tokens (Ok (reading v)))
-meant-as cat text tokens (Ok v) given told =
-    let x = given.tree in
-    record { statement = x; spelled = given.spelled; means = (was-read ReadIndex Reading reading (meaning cat x) v [] [] (told x given.spelled.words)).meant }
+pub meant-as : (cat : Contents) (text : List ℕ) (tokens : List Token) (r : Result ReadIndex Refusal) (given : Indexing text tokens) → Reads reading (meaning cat given.tree) [] r [] → IfOk r (λ v. IsMeaning cat text tokens (Ok (reading v)))
+meant-as cat text tokens (Ok v) given told = record { statement = given.tree; spelled = given.spelled; means = (was-read ReadIndex Reading reading (meaning cat given.tree) v [] [] told).meant }
 meant-as cat text tokens (Err e) given told = tt
 
-fault-by : (m : Result Reading Fault) (f : Fault) → Reads {T = ReadIndex} {A = Reading} reading m [] (Err (refusal.Fault f)) [] → m ≡ Err f
+pub fault-by : (m : Result Reading Fault) (f : Fault) → Reads {T = ReadIndex} {A = Reading} reading m [] (Err (refusal.Fault f)) [] → m ≡ Err f
 fault-by (Ok a) f told = absurd told
 fault-by (Err g) f told = ap Err (sym told)
 
 -- one that is refused after its syntax
-pub refused-as : (cat : Contents) (text : List ℕ) (tokens : List Token) (r : Result ReadIndex Refusal) → Indexing text tokens →
-    ((x : CreateIndex) → words_of_index x ≡ terminals text tokens → Reads reading (meaning cat x) [] r []) → IfErr r (IsRefusal cat text tokens)
+pub refused-as : (cat : Contents) (text : List ℕ) (tokens : List Token) (r : Result ReadIndex Refusal) (given : Indexing text tokens) → Reads reading (meaning cat given.tree) [] r [] → IfErr r (IsRefusal cat text tokens)
 refused-as cat text tokens (Ok v) given told = tt
-refused-as cat text tokens (Err refusal.Memory) given told = tt
-refused-as cat text tokens (Err (refusal.Fault f)) given told =
-    inr (record { statement = given.tree; spelled = given.spelled; means = fault-by (meaning cat given.tree) f (told given.tree given.spelled.words) })
+refused-as cat text tokens (Err refusal.Memory) given told = (given.tree, given.spelled)
+refused-as cat text tokens (Err (refusal.Fault f)) given told = inr (record { statement = given.tree; spelled = given.spelled; means = fault-by (meaning cat given.tree) f told })
+
+-- a candidate that is read, or refused
+pub cand-read : (m : Result Reading Fault) (r : Result ReadIndex Refusal) → Reads reading m [] r [] → IfOk r (λ v. m ≡ Ok (reading v))
+cand-read m (Ok v) told = (was-read ReadIndex Reading reading m v [] [] told).meant
+cand-read m (Err e) told = tt
+
+pub cand-refused : (m : Result Reading Fault) (r : Result ReadIndex Refusal) → Reads reading m [] r [] → IfErr r (IsCandRefusal m)
+cand-refused m (Ok v) told = tt
+cand-refused m (Err refusal.Memory) told = tt
+cand-refused m (Err (refusal.Fault f)) told = fault-by m f told

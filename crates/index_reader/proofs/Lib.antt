@@ -5,4 +5,5 @@ pub mod ListPartLemmas
 pub mod KeyLemmas
 pub mod IncludeLemmas
 pub mod IndexLemmas
+pub mod CandLemmas
 pub mod SoundLemmas

@@ -1,9 +1,9 @@
 -- What CREATE INDEX means is sound.
-use Rattle.std.proofs.Common.{◌≡◌, ℕ, ◌<◌, ◌≤◌, Bool, true, false, List, [], ◌∷◌, ◌++◌, length, map, drop, cond, All, refl, sym, ap, ◌∙◌, subst, arith, Option, Some, None, position, Result, Ok, Err, IfOk, length-append, length-drop, append_assoc}
+use Rattle.std.proofs.Common.{◌≡◌, ℕ, ◌<◌, ◌≤◌, Bool, true, false, List, [], ◌∷◌, ◌++◌, length, map, drop, take, cond, All, refl, sym, ap, ◌∙◌, subst, arith, Option, Some, None, position, Result, Ok, Err, IfOk, length-append, length-drop, append_assoc}
 use Rattle.std.specs.Option.{option_map}
 use Rattle.std.specs.Str.{bytes_eq}
 use Rattle.std.proofs.lemmas.List.{length-map}
-use Rattle.std.proofs.lemmas.List.Elements.{All-nil, All-cons, All-append}
+use Rattle.std.proofs.lemmas.List.Elements.{All-nil, All-cons, All-append, All-drop, All-take}
 use Rattle.std.proofs.lemmas.List.Quantifiers.{position-Some}
 use Rattle.pg_base.specs.declared.faults.Code.{Code}
 use Rattle.pg_base.specs.declared.faults.Fault.{Fault}
@@ -27,11 +27,12 @@ use Rattle.sql_lex.specs.declared.tokens.Token.{Token}
 use Rattle.sql_lex.specs.Words.{AreWords}
 use Rattle.sql_grammar.specs.declared.class.Symbol.TheVariants.{Close}
 use Rattle.sql_grammar.specs.Terminals.{Terminal, Ident, token_of, t_mark}
-use Rattle.sql_grammar.specs.Syntax.{Mark, Where, no_where, where_expr, OpClass as ClassTree, no_class, op_class, IndexKey as KeyTree, index_key, Using, no_using, using_method, Include, no_include, include_columns, CreateIndex, index_on}
-use Rattle.sql_grammar.specs.Words.{words_of_where, words_of_ending, words_of_key, words_of_keys, words_of_using, words_of_names, words_of_include, words_of_index}
+use Rattle.sql_grammar.specs.Syntax.{Mark, Where, no_where, where_expr, OpClass as ClassTree, no_class, op_class, IndexKey as KeyTree, index_key, Using, no_using, using_method, Include, no_include, include_columns, Cand, cand_on}
+use Rattle.sql_grammar.specs.Words.{words_of_where, words_of_key, words_of_keys, words_of_using, words_of_names, words_of_include, words_of_cand}
 use Rattle.sql_grammar.specs.Faults.{bytes_of}
 use Rattle.sql_grammar.proofs.ExprTrees.{tokens-are}
 use Rattle.sql_cursor.proofs.Named.{AreNamed, named-from}
+use Rattle.query_reader.proofs.ReadingLemmas.{named-between}
 use Rattle.catalog.specs.Contents.{Contents, IsTable, IsLawful, no_table, table_at}
 use Rattle.catalog.specs.Indexes.{IsKeyOf, IsPredicateOf, type_at}
 use Rattle.catalog.specs.Tables.{column_named, table_named}
@@ -50,11 +51,11 @@ use Rattle.index_reader.specs.declared.methods.MethodRead.{MethodRead}
 use Rattle.index_reader.specs.Visible.{Sight, visible_in, type_in}
 use Rattle.sql_cursor.specs.Sorts.{is_descending, has_nulls_first}
 use Rattle.index_reader.specs.Keys.{method_of_name, method_bound, class_has_method, class_known, given, class_bound, key_bound, keys_of, name_bound, names_of}
-use Rattle.index_reader.specs.Meaning.{Reading, condition_bound, name_tokens, limited, has_many_atoms, index_reading, meaning}
+use Rattle.index_reader.specs.Meaning.{Reading, condition_bound, name_tokens, limited, has_many_atoms, index_reading, meaning_of_cand}
 use Rattle.index_reader.specs.Reads.{reading}
 use Rattle.index_reader.proofs.VisibleLemmas.{all-map, is_column, visible-columns}
 use Rattle.index_reader.specs.Soundness.{IsSound}
-use Rattle.index_reader.specs.Statements.{IsMeaning}
+use Rattle.index_reader.specs.Candidates.{IsCandAt}
 
 known-some : {A : Type 0} (code : Code) (token : Token) (o : Option A) (a : A) → known code token o ≡ Ok a → o ≡ Some a
 known-some code token None a is = absurd (cc (is))
@@ -238,8 +239,8 @@ module _ (cat : Contents) (lawful : IsLawful cat) (t : TableNo) (there : IsTable
         }
 
 module _ (cat : Contents) (text : List ℕ) (lawful : IsLawful cat) where
-  statement-sound : (x : CreateIndex) (r : Reading) → AreNamed (words_of_index x) → AreWithin (length text) (words_of_index x) → meaning cat x ≡ Ok r → IsSound cat text r
-  statement-sound (index_on k i n o t u p x xs m c w e) r named low is =
+  cand-sound : (start : Token) (x : Cand) (r : Reading) → AreNamed (words_of_cand x) → AreWithin (length text) (words_of_cand x) → meaning_of_cand cat start x ≡ Ok r → IsSound cat text r
+  cand-sound start (cand_on n o t u p x xs m c w) r named low is =
       let table = next-done (table_of_name cat t) _ r is in
       let there = known-table cat text (bytes_of t) table.value _ refl (known-some _ (token_of t) (table_named cat (bytes_of t)) table.value table.first) in
       let method = next-done (method_bound u) _ r table.rest in
@@ -249,21 +250,19 @@ module _ (cat : Contents) (text : List ℕ) (lawful : IsLawful cat) where
       let (few, passed) = limited-ok (drop MOST_COLUMNS (name_tokens keys.value names.value)) _ r predicate.rest in
       let done = passed-ok (has_many_atoms predicate.value) _ _ r passed in
       let same : index_reading n table.value method.value keys.value names.value predicate.value ≡ r = cc (done) in
-      let (at, after-using) = using-within (length text) u _ method.value method.first low.1.1.1.1.1 in
+      let (at, after-using) = using-within (length text) u _ method.value method.first low.1.1.1 in
       let (keyed, after-keys) = keys-within (length text) x xs _ after-using.1 in
-      let included = include-within (length text) c (words_of_where w ++ words_of_ending e) after-keys.1 in
+      let included = include-within (length text) c (words_of_where w) after-keys.1 in
       subst (IsSound cat text) same
       (index-sound cat lawful table.value there text n method.value x xs c keys.value names.value predicate.value keys.first names.first
-      (named.1.1.0 n refl) low.1.1.0 at keyed included few (condition-fits cat lawful table.value there (bytes_of t) w predicate.value predicate.first))
+      (named.0 n refl) low.0 at keyed included few (condition-fits cat lawful table.value there (bytes_of t) w predicate.value predicate.first))
 
-  meaning-sound : (tokens : List Token) (from : ℕ) (r : Reading) → AreWords text from tokens → IsMeaning cat text tokens (Ok r) → IsSound cat text r
-  meaning-sound tokens from r w m =
-      let words = m.spelled.words in
-      let named = subst AreNamed (sym words) (named-from text from tokens 0 w m.spelled.limits) in
-      let placed = subst (All (λ u. u.start ≤ length text)) (sym (tokens-are (words_of_index m.statement) text tokens words)) (starts-within text from tokens w) in
-      statement-sound m.statement r named (within-all (length text) (words_of_index m.statement) placed) m.means
-
-  -- an index that is read
-  pub sound-as : (tokens : List Token) (from : ℕ) (r : Result ReadIndex Refusal) → AreWords text from tokens → IfOk r (λ v. IsMeaning cat text tokens (Ok (reading v))) → IfOk r (λ v. IsSound cat text (reading v))
-  sound-as tokens from (Ok v) w m = meaning-sound tokens from (reading v) w m
-  sound-as tokens from (Err e) w m = tt
+  -- an index that is read of the tokens between two numbers
+  pub sound-as : (tokens : List Token) (from first end : ℕ) (x : Cand) (start : Token) (r : Result ReadIndex Refusal) → AreWords text from tokens → IsCandAt text tokens first end x →
+      IfOk r (λ v. meaning_of_cand cat start x ≡ Ok (reading v)) → IfOk r (λ v. IsSound cat text (reading v))
+  sound-as tokens from first end x start (Ok v) w at m =
+      let named = subst AreNamed (sym at.words) (named-between text tokens first end (named-from text from tokens 0 w at.limits)) in
+      let low = All-drop (λ (u : Token). u.start ≤ length text) first (take end tokens) (All-take (λ (u : Token). u.start ≤ length text) end tokens (starts-within text from tokens w)) in
+      let placed = subst (All (λ (u : Token). u.start ≤ length text)) (sym (tokens-are (words_of_cand x) text (drop first (take end tokens)) at.words)) low in
+      cand-sound start x (reading v) named (within-all (length text) (words_of_cand x) placed) m
+  sound-as tokens from first end x start (Err e) w at m = tt

@@ -4,3 +4,4 @@ pub mod Meaning
 pub mod Reads
 pub mod Soundness
 pub mod Statements
+pub mod Candidates

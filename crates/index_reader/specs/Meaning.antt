@@ -11,7 +11,7 @@ use Rattle.pg_expr.specs.Cond.{Cond}
 use Rattle.pg_expr.specs.Pushed.{pushed}
 use Rattle.sql_lex.specs.declared.tokens.Token.{Token}
 use Rattle.sql_grammar.specs.Terminals.{Ident, token_of}
-use Rattle.sql_grammar.specs.Syntax.{Where, no_where, where_expr, CreateIndex, index_on}
+use Rattle.sql_grammar.specs.Syntax.{Where, no_where, where_expr, Cand, cand_on, CreateIndex, index_on}
 use Rattle.sql_grammar.specs.Faults.{bytes_of, fault_at}
 use Rattle.catalog.specs.Contents.{Contents}
 use Rattle.catalog.specs.Indexes.{Index}
@@ -65,12 +65,16 @@ within_limits start n t m keys names predicate =
     limited (drop MOST_COLUMNS (name_tokens keys names))
     (cond (has_many_atoms predicate) (Err (fault_at (S15 Atoms) start)) (Ok (index_reading n t m keys names predicate)))
 
--- what CREATE INDEX means
-abbrev pub meaning : Contents → CreateIndex → Result Reading Fault
-meaning cat (index_on start _ n _ of u _ x xs _ c w _) =
+-- what a candidate for an index means, in a statement that begins at this token
+abbrev pub meaning_of_cand : Contents → Token → Cand → Result Reading Fault
+meaning_of_cand cat start (cand_on n _ of u _ x xs _ c w) =
     next (table_of_name cat of) (λ t.
     next (method_bound u) (λ m.
     next (bound_each (key_bound cat t m.method) (keys_of x xs)) (λ keys.
     next (bound_each (name_bound cat t) (names_of c)) (λ names.
     next (condition_bound (record { contents = cat; table = t; alias = bytes_of of }) w) (λ predicate.
     within_limits start n t m keys names predicate)))))
+
+-- what CREATE INDEX means: what stands behind its first two words, in a statement that begins at its first one
+abbrev pub meaning : Contents → CreateIndex → Result Reading Fault
+meaning cat (index_on start _ n o of u p x xs m c w _) = meaning_of_cand cat start (cand_on n o of u p x xs m c w)

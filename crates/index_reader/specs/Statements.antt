@@ -16,7 +16,16 @@ pub record IsMeaning (cat : Contents) (text : List ℕ) (tokens : List Token) (r
   pub spelled : IsSpelled (create_index statement) text tokens
   pub means : meaning cat statement ≡ r
 
--- why it is refused: want of memory, or its first fault, of its syntax or after it
+-- the tokens are a CREATE INDEX
+abbrev pub AreIndex : List ℕ → List Token → Type 0
+AreIndex text tokens = (x : CreateIndex) × IsSpelled (create_index x) text tokens
+
+-- why it is refused: its first fault, of its syntax or after it, or want of memory for one whose syntax has no fault
 abbrev pub IsRefusal : Contents → List ℕ → List Token → Refusal → Type 0
 IsRefusal cat text tokens (refusal.Fault f) = IsFirstFault IsStatement text tokens f ⊎ IsMeaning cat text tokens (Err f)
-IsRefusal cat text tokens refusal.Memory = Unit {0}
+IsRefusal cat text tokens refusal.Memory = AreIndex text tokens
+
+-- why a candidate is refused that means this: its fault, or want of memory
+abbrev pub IsCandRefusal : Result Reading Fault → Refusal → Type 0
+IsCandRefusal meant (refusal.Fault f) = meant ≡ Err f
+IsCandRefusal meant refusal.Memory = Unit {0}

@@ -1,12 +1,12 @@
-//! CREATE INDEX from its first word on.
+//! A new index from its name on.
 
 ghost use Rattle.std.specs.Prelude.{◌≡◌, ◌≤◌, ◌++◌, List, ◌∷◌, [], map, option_map, true, IfOk, MatchResult};
 ghost use Rattle.pg_base.specs.declared.faults.Code.TheVariants.{S2};
 ghost use Rattle.pg_base.specs.declared.faults.Refusal.TheVariants as refusal;
 ghost use Rattle.pg_expr.specs.View.{cond};
 ghost use Rattle.sql_grammar.specs.Terminals.{Terminal, Ident};
-ghost use Rattle.sql_grammar.specs.Syntax.{Key, Mark, Where, Ending, IndexKey as KeyTree, Using, Include, index_on};
-ghost use Rattle.sql_grammar.specs.Words.{words_of_index};
+ghost use Rattle.sql_grammar.specs.Syntax.{Key, Mark, Where, IndexKey as KeyTree, Using, Include, cand_on};
+ghost use Rattle.sql_grammar.specs.Words.{words_of_cand};
 ghost use Rattle.sql_lex.specs.declared.tokens.Token.{Token};
 ghost use Rattle.sql_cursor.specs.Reading.{spelled};
 ghost use Rattle.catalog.specs.Contents.{IsTable, IsLawful};
@@ -14,7 +14,7 @@ ghost use Rattle.catalog.specs.Entries.{index_of};
 ghost use Rattle.catalog.specs.Tables.{table_named};
 ghost use Rattle.expr_reader.specs.Reads.{Reads};
 ghost use Rattle.ddl_reader.specs.Statistics.{known};
-ghost use Rattle.index_reader.specs.Meaning.{index_reading, meaning, name_tokens};
+ghost use Rattle.index_reader.specs.Meaning.{index_reading, meaning_of_cand, name_tokens};
 ghost use Rattle.index_reader.specs.Reads.{reading};
 
 use crate::keys::{KeyRead, keys};
@@ -135,15 +135,19 @@ fn made(
     })
 }
 
-/// CREATE INDEX. Names bind from the left, then the condition; then come the limits.
-pub fn index(alloc: Global, cat: &Catalog, from: &mut Cursor) -> Result<ReadIndex, Refusal>
-    requires { (k : Key) × (i : Token) × (n : Ident) × (o : Key) × (t : Ident) × (u : Using) × (p : Mark) × (x : KeyTree) × (xs : List (Mark × KeyTree)) × (m : Mark) × (c : Include) × (w : Where) × (e : Ending) ×
-        (from.old ≡ words_of_index (index_on k i n o t u p x xs m c w e)) }
-    ensures { (k : Key) (i : Token) (n : Ident) (o : Key) (t : Ident) (u : Using) (p : Mark) (x : KeyTree) (xs : List (Mark × KeyTree)) (m : Mark) (c : Include) (w : Where) (e : Ending) →
-        from.old ≡ words_of_index (index_on k i n o t u p x xs m c w e) → Reads reading (meaning cat.now (index_on k i n o t u p x xs m c w e)) [] result [] }
+/// A new index from its name on, in a statement that begins at this token. Names bind from the left, then the condition; then come
+/// the limits.
+pub fn index(
+    alloc: Global,
+    cat: &Catalog,
+    start: Token,
+    from: &mut Cursor,
+) -> Result<ReadIndex, Refusal>
+    requires { (n : Ident) × (o : Key) × (t : Ident) × (u : Using) × (p : Mark) × (x : KeyTree) × (xs : List (Mark × KeyTree)) × (m : Mark) × (c : Include) × (w : Where) ×
+        (from.old ≡ words_of_cand (cand_on n o t u p x xs m c w)) }
+    ensures { (n : Ident) (o : Key) (t : Ident) (u : Using) (p : Mark) (x : KeyTree) (xs : List (Mark × KeyTree)) (m : Mark) (c : Include) (w : Where) →
+        from.old ≡ words_of_cand (cand_on n o t u p x xs m c w) → Reads reading (meaning_of_cand cat.now start (cand_on n o t u p x xs m c w)) [] result [] }
 {
-    let start = from.token();
-    from.skip(2);
     let name = from.expect_name(alloc)?;
     from.skip(1);
     let of = from.expect_name(alloc)?;

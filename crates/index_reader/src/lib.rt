@@ -1,10 +1,11 @@
-//! Reading CREATE INDEX (PostgreSQL manual, CREATE INDEX): a definition bound to the catalogue, with the places at which the
-//! catalogue's refusals stand.
+//! Reading CREATE INDEX (PostgreSQL manual, CREATE INDEX), and a candidate for an index: a definition bound to the catalogue, with
+//! the places at which the catalogue's refusals stand.
 #![tactic(auto)]
 
 mod classes;
 mod index;
 mod keys;
+mod laws;
 mod limits;
 mod methods;
 mod names;
@@ -13,4 +14,5 @@ mod read;
 mod table_scope;
 
 pub use index::ReadIndex;
-pub use read::read_index;
+pub use laws::a_candidate_that_ends_is_one;
+pub use read::{read_cand, read_index};

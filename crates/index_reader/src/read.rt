@@ -1,39 +1,54 @@
 //! Reading a statement for CREATE INDEX.
 
-ghost use Rattle.std.specs.Prelude.{◌≡◌, ◌^◌, ◌≤◌, ℕ, [], length, true, IfOk, IfErr, Ok};
+ghost use Rattle.std.specs.Prelude.{◌≡◌, ◌^◌, ◌<◌, ◌≤◌, ℕ, List, [], ◌∷◌, length, true, IfOk, IfErr, Ok};
+ghost use Rattle.sql_lex.specs.Ends.{token_at};
 ghost use Rattle.sql_lex.specs.Words.{AreWords};
+ghost use Rattle.sql_lex.specs.declared.tokens.Token.{Token};
 ghost use Rattle.sql_grammar.specs.Faults.{terminals};
-ghost use Rattle.sql_grammar.specs.Syntax.{CreateIndex};
-ghost use Rattle.sql_grammar.specs.Words.{words_of_index};
+ghost use Rattle.sql_grammar.specs.Syntax.{Cand};
 ghost use Rattle.expr_reader.specs.Reads.{Reads};
 ghost use Rattle.ddl_reader.specs.Statements.{begins_index};
-ghost use Rattle.index_reader.specs.Meaning.{meaning};
+ghost use Rattle.index_reader.specs.Candidates.{HaveCand, IsCandAt};
+ghost use Rattle.index_reader.specs.Meaning.{meaning_of_cand};
 ghost use Rattle.index_reader.specs.Reads.{reading};
 ghost use Rattle.index_reader.specs.Soundness.{IsSound};
-ghost use Rattle.index_reader.specs.Statements.{IsMeaning, IsRefusal};
+ghost use Rattle.index_reader.specs.Statements.{IsCandRefusal, IsMeaning, IsRefusal};
 
 use crate::index::{ReadIndex, index};
 use catalog::Catalog;
 use pg_base::Refusal;
 use sql_cursor::Cursor;
 use sql_grammar::statement_fault;
-use sql_lex::Tokens;
+use sql_lex::{Token, Tokens};
 use std::alloc::Global;
 
-/// The statement of these tokens, whose syntax has no fault.
-fn statement(
+/// The statement's first token.
+fn first_token(tokens: &Tokens) -> Token
+    requires { 0 < length tokens.now }
+    ensures { result ≡ token_at tokens.now 0 }
+{
+    tokens.items()[0]
+}
+
+/// The candidate for an index between two tokens of a statement, told of whole.
+fn cand(
     alloc: Global,
     cat: &Catalog,
     text: &[u8],
     tokens: &Tokens,
+    first: u32,
+    end: u32,
 ) -> Result<ReadIndex, Refusal>
     requires short { length text.now ≤ 2 ^ 31 }
     requires words { (from : ℕ) × AreWords text.now from tokens.now }
-    requires tree { (x : CreateIndex) × (words_of_index x ≡ terminals text.now tokens.now) }
-    ensures { (x : CreateIndex) → words_of_index x ≡ terminals text.now tokens.now → Reads reading (meaning cat.now x) [] result [] }
+    requires part { HaveCand text.now tokens.now first end }
+    ensures meaning { (x : Cand) (start : Token) (later : List Token) → tokens.now ≡ start ∷ later →
+        IsCandAt text.now tokens.now first end x → Reads reading (meaning_of_cand cat.now start x) [] result [] }
+    ensures sound { IfOk result (λ r. IsSound cat.now text.now (reading r)) }
 {
-    let mut from = Cursor::new(text, tokens, 0);
-    index(alloc, cat, &mut from)
+    cat.lawful();
+    let mut from = Cursor::part(text, tokens, first, end);
+    index(alloc, cat, first_token(tokens), &mut from)
 }
 
 /// Reads the CREATE INDEX of these tokens: its value, bound to the catalogue, or its first fault.
@@ -49,7 +64,8 @@ fn statement(
 /// NULLs first, and otherwise they are last unless said. The condition is in pushed form, and its columns are those of
 /// relation 0. What the catalogue refuses is not asked here, but what is read may be handed to `Catalog::add_index`, and
 /// `at` has an offset for each place that it counts. The text has at most 2^31 bytes, and the tokens are the words of a
-/// statement from some offset of it, of which the first two are CREATE INDEX.
+/// statement from some offset of it, of which the first two are CREATE INDEX. The refusal is `Memory` only of one whose syntax has
+/// no fault.
 pub fn read_index(
     alloc: Global,
     cat: &Catalog,
@@ -63,9 +79,32 @@ pub fn read_index(
     ensures sound { IfOk result (λ r. IsSound cat.now text.now (reading r)) }
     ensures refused { IfErr result (IsRefusal cat.now text.now tokens.now) }
 {
-    cat.lawful();
     match statement_fault(text, tokens, 0) {
         Some(fault) => Err(Refusal::Fault(fault)),
-        None => statement(alloc, cat, text, tokens),
+        None => cand(alloc, cat, text, tokens, 2, tokens.items().len() as u32 - 1),
     }
+}
+
+/// Reads the candidate for an index that is the tokens from number `first` up to, but not including, number `end` of a statement
+/// without a fault of the grammar: the text of CREATE INDEX behind its first two words, without its end. It is bound as
+/// [`read_index`] binds one, with the same refusals but for those of the grammar. The limit of atoms stands at the first word of the
+/// whole statement.
+pub fn read_cand(
+    alloc: Global,
+    cat: &Catalog,
+    text: &[u8],
+    tokens: &Tokens,
+    first: u32,
+    end: u32,
+) -> Result<ReadIndex, Refusal>
+    requires short { length text.now ≤ 2 ^ 31 }
+    requires words { (from : ℕ) × AreWords text.now from tokens.now }
+    requires part { HaveCand text.now tokens.now first end }
+    ensures read { (x : Cand) (start : Token) (later : List Token) → tokens.now ≡ start ∷ later →
+        IsCandAt text.now tokens.now first end x → IfOk result (λ r. meaning_of_cand cat.now start x ≡ Ok (reading r)) }
+    ensures sound { IfOk result (λ r. IsSound cat.now text.now (reading r)) }
+    ensures refused { (x : Cand) (start : Token) (later : List Token) → tokens.now ≡ start ∷ later →
+        IsCandAt text.now tokens.now first end x → IfErr result (IsCandRefusal (meaning_of_cand cat.now start x)) }
+{
+    cand(alloc, cat, text, tokens, first, end)
 }

@@ -11,7 +11,7 @@ use Rattle.sql_lex.specs.declared.tokens.Token.{Token}
 use Rattle.sql_grammar.specs.declared.class.Free.TheVariants.{Explain}
 use Rattle.sql_grammar.specs.Terminals.{Terminal, free, t_name}
 use Rattle.sql_grammar.specs.Reading.{terminal_of}
-use Rattle.sql_grammar.specs.Syntax.{OrderedSelect, semicolon, text_end, index_on, Statement, empty, create_table, create_index, query, copy, sizes, column_statistics, analyze}
+use Rattle.sql_grammar.specs.Syntax.{OrderedSelect, semicolon, text_end, index_on, Statement, empty, create_table, create_index, query, copy, sizes, column_statistics, analyze, advise, advise_of, check, use_plan}
 use Rattle.sql_grammar.specs.Faults.{IsStatement, IsPrefix, IsAtFault, IsFirstFault, IsWhole, AreWithinLimits, terminals, limit_of}
 use Rattle.sql_grammar.specs.Spelled.{IsSpelled}
 use Rattle.sql_grammar.specs.Words.{words_of}
@@ -39,22 +39,24 @@ no-other (copy k n null) ts is begins = let wrong = ap begins_query is ∙ begin
 no-other (sizes k n r p e) ts is begins = let wrong = ap begins_query is ∙ begins in absurd (cc (wrong))
 no-other (column_statistics k n c d z m h e) ts is begins = let wrong = ap begins_query is ∙ begins in absurd (cc (wrong))
 no-other (analyze p k n e) ts is begins = let wrong = ap begins_query is ∙ begins in absurd (cc (wrong))
+no-other (advise (advise_of p k n o c cs m x xs e)) ts is begins = let wrong = ap begins_query is ∙ begins in absurd (cc (wrong))
+no-other (check p k x s) ts is begins = let wrong = ap begins_query is ∙ begins in absurd (cc (wrong))
+no-other (use_plan p u l q y s) ts is begins = let wrong = ap begins_query is ∙ begins in absurd (cc (wrong))
 
-query-by : (text : List ℕ) (tokens : List Token) (x : Statement) → is_query x ≡ true → IsSpelled x text tokens → AreSelect text tokens
-query-by text tokens (empty e) is s = absurd (cc (is))
-query-by text tokens (create_table k t n o c cs m e) is s = absurd (cc (is))
-query-by text tokens (create_index x) is s = absurd (cc (is))
-query-by text tokens (query x) is s = (x, s)
-query-by text tokens (copy k n null) is s = absurd (cc (is))
-query-by text tokens (sizes k n r p e) is s = absurd (cc (is))
-query-by text tokens (column_statistics k n c d z m h e) is s = absurd (cc (is))
-query-by text tokens (analyze p k n e) is s = absurd (cc (is))
+-- a statement that is a SELECT
+pub its-query : (x : Statement) → is_query x ≡ true → (q : OrderedSelect) × (x ≡ query q)
+its-query (query q) is = (q, refl)
+its-query _ is = absurd (cc (is))
+
+-- a whole statement is spelled
+pub spelled-whole : (text : List ℕ) (tokens : List Token) (whole : IsWhole text tokens) → IsSpelled whole.statement.0 text tokens
+spelled-whole text tokens whole = record { words = whole.statement.2; limits = whole.within; levels = whole.statement.1 }
 
 -- a whole statement that is no other one is a SELECT
 pub whole-query : (text : List ℕ) (tokens : List Token) → IsWhole text tokens → AreNoOther text tokens → AreSelect text tokens
 whole-query text tokens whole kind =
-    let (x, levels, words) = whole.statement in
-    query-by text tokens x (kind x words) (record { words = words; limits = whole.within; levels = levels })
+    let (q, same) = its-query whole.statement.0 (kind whole.statement.0 whole.statement.2) in
+    (q, subst (λ (x : Statement). IsSpelled x text tokens) same (spelled-whole text tokens whole))
 
 middle : (P : Terminal → Type 0) (xs : List Terminal) (x : Terminal) (ys : List Terminal) → All P (xs ++ x ∷ ys) → P x
 middle P [] x ys h = h 0 x (omega arith)
@@ -66,12 +68,12 @@ excluded-by before t (S15 Depth) goes within c = c.0 goes
 excluded-by before t (S15 _) goes within c = let past = c.1 in cc (within, past)
 excluded-by before t _ goes within c = c
 
--- a SELECT within the limits has no fault of the grammar
-pub excluded : (text : List ℕ) (tokens : List Token) (fault : Fault) (x : OrderedSelect) → IsFirstFault IsStatement text tokens fault → IsSpelled (query x) text tokens → ⊥
+-- a statement within the limits has no fault of the grammar
+pub excluded : (text : List ℕ) (tokens : List Token) (fault : Fault) (x : Statement) → IsFirstFault IsStatement text tokens fault → IsSpelled x text tokens → ⊥
 excluded text tokens fault x f w =
     let before = terminals text f.before in
     let t = terminal_of text f.token in
     let after = terminals text f.after in
     let parts : terminals text tokens ≡ before ++ t ∷ after = ap (terminals text) f.split ∙ map-append (terminal_of text) f.before (f.token ∷ f.after) in
-    excluded-by before t fault.code (after, (query x, w.levels, w.words ∙ (parts ∙ sym (append_assoc before (t ∷ []) after))))
+    excluded-by before t fault.code (after, (x, w.levels, w.words ∙ (parts ∙ sym (append_assoc before (t ∷ []) after))))
     (middle (λ t. limit_of t ≡ None) before t after (subst AreWithinLimits parts w.limits)) f.cause

@@ -23,6 +23,7 @@ relation-words (relation n a) rest old is = record { name = n; alias = a; is = r
 
 -- what stands behind a group goes on no alias and no expression
 group-alias : (rest : List Terminal) → ends_group rest ≡ true → ends_alias rest ≡ true
+group-alias [] ends = refl
 group-alias (t_mark Comma _ ∷ rest) ends = refl
 group-alias (t_key WhereKey _ ∷ rest) ends = refl
 group-alias (t_key Order _ ∷ rest) ends = refl
@@ -33,6 +34,7 @@ group-alias (t_end _ ∷ rest) ends = refl
 group-alias _ ends = absurd (cc (ends))
 
 group-expr : (rest : List Terminal) → ends_group rest ≡ true → ends_expr rest ≡ true
+group-expr [] ends = refl
 group-expr (t_mark Comma _ ∷ rest) ends = refl
 group-expr (t_key WhereKey _ ∷ rest) ends = refl
 group-expr (t_key Order _ ∷ rest) ends = refl
@@ -56,6 +58,7 @@ joins-expr (join_on (inner i) j r o e ∷ js) rest ends = refl
 joins-expr (cross_join c j r ∷ js) rest ends = refl
 
 pub from-group : (rest : List Terminal) → ends_from rest ≡ true → ends_group rest ≡ true
+from-group [] ends = refl
 from-group (t_key WhereKey _ ∷ rest) ends = refl
 from-group (t_key Order _ ∷ rest) ends = refl
 from-group (t_key LimitKey _ ∷ rest) ends = refl
@@ -69,6 +72,7 @@ groups-end [] rest ends = from-group rest ends
 groups-end ((m, g) ∷ gs) rest ends = refl
 
 order-from : (y : OrderBy) (rest : List Terminal) → ends_order rest ≡ true → ends_from (words_of_order y ++ rest) ≡ true
+order-from no_order [] ends = refl
 order-from no_order (t_key LimitKey _ ∷ rest) ends = refl
 order-from no_order (t_key OffsetKey _ ∷ rest) ends = refl
 order-from no_order (t_semicolon _ ∷ rest) ends = refl

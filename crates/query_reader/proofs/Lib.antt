@@ -2,6 +2,7 @@ pub mod PartLemmas
 pub mod ScopeLemmas
 pub mod GrammarLemmas
 pub mod ReadingLemmas
+pub mod PlaceLemmas
 pub mod RelationsLemmas
 pub mod AddLemmas
 pub mod BoundLemmas

@@ -35,6 +35,7 @@ use Rattle.query_reader.specs.Order.{shown_of_name, first_among, order_column, o
 
 -- what stands behind an item
 pub end-orders : (rest : List Terminal) → ends_order rest ≡ true → ends_ordering rest ≡ true
+end-orders [] ends = refl
 end-orders (t_key LimitKey t ∷ rest) ends = refl
 end-orders (t_key OffsetKey t ∷ rest) ends = refl
 end-orders (t_semicolon t ∷ rest) ends = refl

@@ -19,7 +19,7 @@ use Rattle.eq_classes.specs.declared.order.OrderItem.{OrderItem}
 use Rattle.sql_lex.specs.declared.tokens.Token.{Token}
 use Rattle.sql_grammar.specs.Faults.{fault_at}
 use Rattle.sql_grammar.specs.FromParts.{groups_after}
-use Rattle.sql_grammar.specs.Syntax.{Group, Where, no_where, where_expr, select_from, OrderBy, Window as WindowTree, OrderedSelect, ordered_select}
+use Rattle.sql_grammar.specs.Syntax.{Group, Where, no_where, where_expr, select_from, OrderBy, Window as WindowTree, WindowedSelect, windowed_select, OrderedSelect, ordered_select}
 use Rattle.expr_reader.specs.Conditions.{next, the_column}
 use Rattle.expr_reader.specs.Scope.{Scope, columns_of, look_up, under}
 use Rattle.sql_query.specs.Queries.{Query}
@@ -116,5 +116,9 @@ abbrev pub bound_from : Contents → Token → List Item → List Group → Wher
 bound_from c start items groups condition order rows = next (with_groups (nothing_joined c) groups) (bound_over start items condition order rows)
 
 -- what a SELECT with its order and its window means, in a statement that begins at this token
+abbrev pub bound_part : Contents → Token → WindowedSelect → Result Bound Fault
+bound_part c start (windowed_select (select_from _ o os _ g gs w) y v) = bound_from c start (item_of o ∷ items_of os) (g ∷ groups_after gs) w y v
+
+-- the same of one with its end, and behind EXPLAIN where that is written
 abbrev pub bound : Contents → Token → OrderedSelect → Result Bound Fault
-bound c start (ordered_select _ (select_from _ o os _ g gs w) y v _) = bound_from c start (item_of o ∷ items_of os) (g ∷ groups_after gs) w y v
+bound c start (ordered_select _ q y v _) = bound_part c start (windowed_select q y v)

@@ -1,5 +1,5 @@
 -- What stands behind a part of a SELECT: by these words its reading knows where it ends (own).
-use Rattle.std.specs.Prelude.{List, ◌∷◌, Bool, true, false, not, ◌&&◌}
+use Rattle.std.specs.Prelude.{List, [], ◌∷◌, Bool, true, false, not, ◌&&◌}
 use Rattle.sql_grammar.specs.Terminals.{Terminal, free, t_key, t_mark, t_name, t_semicolon, t_end}
 use Rattle.sql_grammar.specs.Unique.{ends_expr}
 use Rattle.sql_grammar.specs.declared.class.Word.TheVariants.{As, Asc, Desc, Limit, Offset, Order, Where}
@@ -17,8 +17,9 @@ ends_alias (t_key As _ ∷ _) = false
 ends_alias (t_name _ ∷ _) = false
 ends_alias _ = true
 
--- a word that stands behind all of FROM is next
+-- nothing is left, or a word that stands behind all of FROM is next
 abbrev pub ends_from : List Terminal → Bool
+ends_from [] = true
 ends_from (t_key Where _ ∷ _) = true
 ends_from (t_key Order _ ∷ _) = true
 ends_from (t_key Limit _ ∷ _) = true
@@ -27,7 +28,7 @@ ends_from (t_semicolon _ ∷ _) = true
 ends_from (t_end _ ∷ _) = true
 ends_from _ = false
 
--- a comma is, or such a word: nothing that goes on the group before it
+-- a comma is next, or nothing that goes on the group before it
 abbrev pub ends_group : List Terminal → Bool
 ends_group (t_mark Comma _ ∷ _) = true
 ends_group ts = ends_from ts
@@ -49,8 +50,9 @@ ends_ordering (t_key Desc _ ∷ _) = false
 ends_ordering (t_name (free Nulls _) ∷ _) = false
 ends_ordering _ = true
 
--- a word that stands behind an order is next: LIMIT, OFFSET, or the one that ends the statement
+-- nothing is left, or a word that stands behind an order is next: LIMIT, OFFSET, or the one that ends the statement
 abbrev pub ends_order : List Terminal → Bool
+ends_order [] = true
 ends_order (t_key Limit _ ∷ _) = true
 ends_order (t_key Offset _ ∷ _) = true
 ends_order (t_semicolon _ ∷ _) = true
@@ -62,8 +64,9 @@ abbrev pub ends_limit : List Terminal → Bool
 ends_limit (t_key Limit _ ∷ _) = false
 ends_limit _ = true
 
--- the word that ends the statement is next
+-- nothing is left, or the word that ends the statement is next
 abbrev pub ends_window : List Terminal → Bool
+ends_window [] = true
 ends_window (t_semicolon _ ∷ _) = true
 ends_window (t_end _ ∷ _) = true
 ends_window _ = false

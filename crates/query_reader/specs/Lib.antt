@@ -9,4 +9,5 @@ pub mod Order
 pub mod Windows
 pub mod Binding
 pub mod Adds
+pub mod Parts
 pub mod Select

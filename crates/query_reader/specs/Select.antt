@@ -1,15 +1,17 @@
--- What reading a SELECT gives: told of its syntax trees, of which a list of tokens has one at most.
-use Rattle.std.specs.Prelude.{◌≡◌, ◌⊎◌, ℕ, Bool, true, false, cond, List, ◌∷◌, Result, Ok, Err}
+-- What reading a SELECT gives: told of its syntax tree, of which tokens have one at most.
+use Rattle.std.specs.Prelude.{◌≡◌, ◌⊎◌, ℕ, Bool, true, false, List, ◌∷◌, drop, Result, Ok, Err}
+use Rattle.pg_base.specs.declared.faults.Code.TheVariants.{S1}
 use Rattle.pg_base.specs.declared.faults.Fault.{Fault}
 use Rattle.pg_base.specs.declared.faults.Refusal.{Refusal}
 use Rattle.pg_base.specs.declared.faults.Refusal.TheVariants as refusal
 use Rattle.sql_lex.specs.declared.tokens.Token.{Token}
-use Rattle.sql_grammar.specs.declared.class.Free.TheVariants.{Explain}
+use Rattle.sql_grammar.specs.declared.class.Free.TheVariants.{Check, Explain, Use}
+use Rattle.sql_grammar.specs.declared.class.Symbol.TheVariants.{Open}
 use Rattle.sql_grammar.specs.declared.class.Word.TheVariants.{Select as SelectKey}
-use Rattle.sql_grammar.specs.Terminals.{Terminal, free, t_key, t_name}
+use Rattle.sql_grammar.specs.Terminals.{Terminal, free, t_key, t_mark, t_name}
 use Rattle.sql_grammar.specs.Syntax.{OrderedSelect, Statement, query}
 use Rattle.sql_grammar.specs.Words.{words_of}
-use Rattle.sql_grammar.specs.Faults.{IsStatement, IsFirstFault, terminals}
+use Rattle.sql_grammar.specs.Faults.{IsStatement, IsFirstFault, IsWhole, fault_at, terminals}
 use Rattle.sql_grammar.specs.Spelled.{IsSpelled}
 use Rattle.catalog.specs.Contents.{Contents}
 use Rattle.eq_classes.specs.Holding.{IsClassTable}
@@ -17,15 +19,21 @@ use Rattle.sql_query.specs.Queries.{Query}
 use Rattle.sql_query.specs.WellBound.{IsWellBound, given_of}
 use Rattle.query_reader.specs.Binding.{Bound, query_with}
 use Rattle.query_reader.specs.Conveys.{Conveys}
+use Rattle.query_reader.specs.Parts.{HaveSelectAt}
 
 -- EXPLAIN is the first word
 abbrev pub is_explained : List Terminal → Bool
 is_explained (t_name (free Explain _) ∷ _) = true
 is_explained _ = false
 
--- the number of words before SELECT: 1 behind EXPLAIN, else 0
+-- the number of words before the SELECT that a statement's end ends: behind EXPLAIN (TABLE) 4, behind EXPLAIN or CHECK 1, behind
+-- USE PLAN 2, else 0
 abbrev pub words_before : List Terminal → ℕ
-words_before ts = cond (is_explained ts) 1 0
+words_before (t_name (free Explain _) ∷ t_mark Open _ ∷ _) = 4
+words_before (t_name (free Explain _) ∷ _) = 1
+words_before (t_name (free Check _) ∷ _) = 1
+words_before (t_name (free Use _) ∷ _) = 2
+words_before _ = 0
 
 -- the first word is SELECT or EXPLAIN
 abbrev pub begins_query : List Terminal → Bool
@@ -45,12 +53,34 @@ AreNoOther text tokens = (x : Statement) → words_of x ≡ terminals text token
 abbrev pub AreSelect : List ℕ → List Token → Type 0
 AreSelect text tokens = (x : OrderedSelect) × IsSpelled (query x) text tokens
 
--- what a reading says of the grammar: what is read is a SELECT, so is what there is no memory for, and a fault is the
--- statement's first one or that of a SELECT
-abbrev pub IsGrammatical : List ℕ → List Token → Result Query Refusal → Type 0
-IsGrammatical text tokens (Ok read) = AreSelect text tokens
-IsGrammatical text tokens (Err (refusal.Fault fault)) = IsFirstFault IsStatement text tokens fault ⊎ AreSelect text tokens
-IsGrammatical text tokens (Err refusal.Memory) = AreSelect text tokens
+-- SELECT is next
+abbrev pub begins_select : List Terminal → Bool
+begins_select (t_key SelectKey _ ∷ _) = true
+begins_select _ = false
+
+-- why some tokens are no SELECT with its end: another first word is at fault, or it is the first fault of a statement that begins
+-- with that word
+abbrev pub IsFaultBy : List ℕ → List Token → Fault → Bool → Type 0
+IsFaultBy text tokens f true = IsFirstFault IsStatement text tokens f
+IsFaultBy text tokens f false = (token : Token) × (later : List Token) × (tokens ≡ token ∷ later) × (f ≡ fault_at S1 token)
+
+-- no SELECT stands from number `first` on up to the end, for this fault
+pub record IsNoSelectAt (text : List ℕ) (tokens : List Token) (first : ℕ) (fault : Fault) : Type 0 where
+  pub none : ¬ HaveSelectAt text tokens first
+  pub cause : IsFaultBy text (drop first tokens) fault (begins_select (terminals text (drop first tokens)))
+
+-- the tokens are a statement, with such a SELECT
+pub record AreWithSelectAt (text : List ℕ) (tokens : List Token) (first : ℕ) : Type 0 where
+  pub whole : IsWhole text tokens
+  pub select : HaveSelectAt text tokens first
+
+-- what a reading says of the grammar: what is read is the SELECT at `first`, so is what there is no memory for, and a fault is the
+-- statement's first one, that no SELECT stands there in a statement without one, or a fault of that SELECT
+abbrev pub IsGrammatical : List ℕ → List Token → ℕ → Result Query Refusal → Type 0
+IsGrammatical text tokens first (Ok read) = AreWithSelectAt text tokens first
+IsGrammatical text tokens first (Err (refusal.Fault fault)) =
+    IsFirstFault IsStatement text tokens fault ⊎ ((IsWhole text tokens × IsNoSelectAt text tokens first fault) ⊎ AreWithSelectAt text tokens first)
+IsGrammatical text tokens first (Err refusal.Memory) = AreWithSelectAt text tokens first
 
 -- what is read where this is the meaning: the query of it with its own classes, its fault, or there was no memory
 abbrev pub IsBoundAs : Result Bound Fault → Result Query Refusal → Type 0

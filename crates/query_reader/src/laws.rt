@@ -1,11 +1,25 @@
-//! What the first word of a statement tells.
+//! What the first words of a statement tell, and where its SELECT stands.
 
-ghost use Rattle.std.specs.Prelude.{◌≡◌, ℕ, List, true};
+ghost use Rattle.std.specs.Prelude.{◌≡◌, ℕ, List, Some, true};
 ghost use Rattle.sql_lex.specs.declared.tokens.Token.{Token};
-ghost use Rattle.sql_grammar.specs.Faults.{terminals};
-ghost use Rattle.query_reader.specs.Select.{AreNoOther, begins_query};
+ghost use Rattle.sql_grammar.specs.Faults.{terminals, AreWithinLimits, EndsAt, IsWindowed};
+ghost use Rattle.sql_grammar.specs.Spelled.{IsSpelled};
+ghost use Rattle.sql_grammar.specs.Syntax.{Statement, WindowedSelect};
+ghost use Rattle.query_reader.specs.Parts.{HavePart, IsSelectAt, select_of};
+ghost use Rattle.query_reader.specs.Select.{AreNoOther, begins_query, words_before};
 
 /// A statement that begins with SELECT or EXPLAIN is of no other kind than a SELECT.
 pub fn selects_are_no_other()
     ensures { (text : List ℕ) (tokens : List Token) → begins_query (terminals text tokens) ≡ true → AreNoOther text tokens }
+{}
+
+/// The SELECT that a statement's end ends stands behind the words that tell the statement's kind.
+pub fn a_statement_has_its_select()
+    ensures { (s : Statement) (x : WindowedSelect) (text : List ℕ) (tokens : List Token) → select_of s ≡ Some x → IsSpelled s text tokens →
+        IsSelectAt text tokens (words_before (terminals text tokens)) x }
+{}
+
+/// What [`windowed_select_end`](sql_grammar::windowed_select_end) finds is a part of a statement within the limits.
+pub fn a_select_that_ends_is_a_part()
+    ensures { (text : List ℕ) (tokens : List Token) (first end : ℕ) → AreWithinLimits (terminals text tokens) → EndsAt IsWindowed text tokens first end → HavePart text tokens first end }
 {}

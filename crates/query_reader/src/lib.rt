@@ -13,5 +13,5 @@ mod sources;
 mod window;
 mod written;
 
-pub use laws::selects_are_no_other;
-pub use select::{explains, read_select};
+pub use laws::{a_select_that_ends_is_a_part, a_statement_has_its_select, selects_are_no_other};
+pub use select::{explains, read_part, read_select};

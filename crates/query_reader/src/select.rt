@@ -1,22 +1,22 @@
 //! Reading a SELECT.
 
-ghost use Rattle.std.specs.Prelude.{◌≡◌, ℕ, ◌^◌, ◌<◌, ◌≤◌, List, ◌∷◌, length, IfOk};
+ghost use Rattle.std.specs.Prelude.{◌≡◌, ℕ, ◌^◌, ◌<◌, ◌≤◌, List, ◌∷◌, length, IfOk, MatchOption};
 ghost use Rattle.sql_lex.specs.Words.{AreWords};
 ghost use Rattle.sql_lex.specs.declared.tokens.Token.{Token};
-ghost use Rattle.sql_grammar.specs.Faults.{terminals};
-ghost use Rattle.sql_grammar.specs.Spelled.{IsSpelled};
-ghost use Rattle.sql_grammar.specs.Syntax.{OrderedSelect, query as query_tree};
+ghost use Rattle.sql_grammar.specs.Faults.{terminals, IsWhole};
+ghost use Rattle.sql_grammar.specs.Syntax.{WindowedSelect};
 ghost use Rattle.eq_classes.specs.Holding.{IsClassTable};
 ghost use Rattle.sql_query.specs.WellBound.{IsWellBound, given_of};
-ghost use Rattle.query_reader.specs.Binding.{bound};
-ghost use Rattle.query_reader.specs.Select.{AreNoOther, IsBoundByItself, IsGrammatical, IsBoundAs, is_explained, words_before};
+ghost use Rattle.query_reader.specs.Binding.{bound_part};
+ghost use Rattle.query_reader.specs.Parts.{HavePart, HaveSelectAt, IsPartAt, IsSelectAt};
+ghost use Rattle.query_reader.specs.Select.{IsBoundByItself, IsGrammatical, IsBoundAs, IsNoSelectAt, is_explained};
 
 use crate::bind::bind;
 use crate::read::list;
 use catalog::Catalog;
-use pg_base::Refusal;
+use pg_base::{Code, Fault, Refusal};
 use sql_cursor::Cursor;
-use sql_grammar::{Free, statement_fault};
+use sql_grammar::{Free, Word, fault_at, statement_fault};
 use sql_lex::Tokens;
 use sql_query::Prepared;
 use std::alloc::Global;
@@ -31,7 +31,44 @@ pub fn explains(text: &[u8], tokens: &Tokens) -> bool
     from.takes_free(Free::Explain)
 }
 
-/// The same, where what is read is told of whole.
+/// Why no SELECT stands from token `first` on up to the statement's end: another word stands there (42601), or the first fault of
+/// these tokens; None where one stands there.
+fn select_fault(text: &[u8], tokens: &Tokens, first: u32) -> Option<Fault>
+    requires short { length text.now ≤ 2 ^ 31 }
+    requires words { (from : ℕ) × AreWords text.now from tokens.now }
+    requires within { first < length tokens.now }
+    ensures { MatchOption result (HaveSelectAt text.now tokens.now first) (IsNoSelectAt text.now tokens.now first) }
+{
+    let mut from = Cursor::new(text, tokens, first);
+    if !from.takes(Word::Select) {
+        return Some(fault_at(Code::S1, tokens.items()[first as usize]));
+    }
+    statement_fault(text, tokens, first)
+}
+
+/// The SELECT between two tokens of a statement, told of whole.
+fn part(
+    alloc: Global,
+    cat: &Catalog,
+    text: &[u8],
+    tokens: &Tokens,
+    first: u32,
+    end: u32,
+) -> Result<Prepared, Refusal>
+    requires short { length text.now ≤ 2 ^ 31 }
+    requires words { (from : ℕ) × AreWords text.now from tokens.now }
+    requires part { HavePart text.now tokens.now first end }
+    ensures binding { (x : WindowedSelect) (start : Token) (later : List Token) → tokens.now ≡ start ∷ later →
+        IsPartAt text.now tokens.now first end x → IsBoundAs (bound_part cat.now start x) result }
+    ensures itself { IfOk result (IsBoundByItself cat.now) }
+{
+    let mut from = Cursor::part(text, tokens, first, end);
+    from.skip(1);
+    let items = list(alloc, &mut from)?;
+    bind(alloc, cat, &items, tokens.items()[0], &mut from)
+}
+
+/// The SELECT from a token on, told of whole.
 fn read_whole(
     alloc: Global,
     cat: &Catalog,
@@ -41,28 +78,34 @@ fn read_whole(
 ) -> Result<Prepared, Refusal>
     requires short { length text.now ≤ 2 ^ 31 }
     requires words { (from : ℕ) × AreWords text.now from tokens.now }
-    requires kind { AreNoOther text.now tokens.now }
     requires within { first < length tokens.now }
-    requires first { first ≡ words_before (terminals text.now tokens.now) }
-    ensures grammar { IsGrammatical text.now tokens.now result }
-    ensures binding { (x : OrderedSelect) (start : Token) (later : List Token) → tokens.now ≡ start ∷ later →
-        IsSpelled (query_tree x) text.now tokens.now → IsBoundAs (bound cat.now start x) result }
+    ensures grammar { IsGrammatical text.now tokens.now first result }
+    ensures binding { (x : WindowedSelect) (start : Token) (later : List Token) → tokens.now ≡ start ∷ later →
+        IsWhole text.now tokens.now → IsSelectAt text.now tokens.now first x → IsBoundAs (bound_part cat.now start x) result }
     ensures itself { IfOk result (IsBoundByItself cat.now) }
 {
     if let Some(fault) = statement_fault(text, tokens, 0) {
         return Err(Refusal::Fault(fault));
     }
-    let mut from = Cursor::new(text, tokens, first);
-    from.skip(1);
-    let items = list(alloc, &mut from)?;
-    bind(alloc, cat, &items, tokens.items()[0], &mut from)
+    if let Some(fault) = select_fault(text, tokens, first) {
+        return Err(Refusal::Fault(fault));
+    }
+    part(
+        alloc,
+        cat,
+        text,
+        tokens,
+        first,
+        tokens.items().len() as u32 - 1,
+    )
 }
 
-/// The SELECT of these tokens with its order, behind EXPLAIN where that is written: the relations in the order of FROM, the
-/// columns shown in order, the items of ORDER BY, the conjuncts as written, which are those of the conditions of joins in the
-/// order of the text and then those of WHERE, the classes of these and of ORDER BY, and the columns named, which are those shown,
-/// then those of the conjuncts, then those of ORDER BY. Where LIMIT or OFFSET is written, it has a window: the number of LIMIT, if
-/// that is written, and that of OFFSET, or 0. `first` is the number of the word SELECT: 1 behind EXPLAIN, else 0.
+/// The SELECT that begins at token `first` and that the statement's last token ends, with its order: the relations in the order of
+/// FROM, the columns shown in order, the items of ORDER BY, the conjuncts as written, which are those of the conditions of joins
+/// in the order of the text and then those of WHERE, the classes of these and of ORDER BY, and the columns named, which are those
+/// shown, then those of the conjuncts, then those of ORDER BY. Where LIMIT or OFFSET is written, it has a window: the number of
+/// LIMIT, if that is written, and that of OFFSET, or 0. `first` is the number of a token; which SELECT the grammar allows there
+/// goes by the words before it.
 ///
 /// FROM is bound first, from the left, then WHERE, then the list from the left, then ORDER BY. Of a relation its number comes
 /// first (at most 10, over all groups), then its table, then its alias, and right behind it the condition of its join, which sees
@@ -73,13 +116,14 @@ fn read_whole(
 /// conjuncts in pushed form, of which a constant is one, then at most 256 atoms, of which a constant is none (PostgreSQL manual,
 /// chapters Queries and Type Conversion; the limits are own).
 ///
-/// The text has at most 2^31 bytes, and the tokens are the words of a statement from some offset of it, which is of no other
-/// kind. The refusal is the first fault: that of the statement's grammar (42601; 54000 for a name over 63 bytes, a text over
-/// 8,192 or an expression over 32 levels deep), else a relation too many (54000), an unknown table or qualifier (42P01), an alias
-/// that stands twice (42712), an unknown column (42703) or one that several visible relations have (42702), a literal out of
+/// The text has at most 2^31 bytes, and the tokens are the words of a statement from some offset of it. The refusal is the first
+/// fault: that of the statement's grammar (42601; 54000 for a name over 63 bytes, a text over 8,192 or an expression over 32 levels
+/// deep), or, in a statement without one, that no SELECT stands at `first` and goes on up to its end (42601, at that word or at
+/// the first one with which none goes on); else a relation too many (54000), an unknown table or qualifier (42P01), an alias that
+/// stands twice (42712), an unknown column (42703) or one that several visible relations have (42702), a literal out of
 /// range (22003) or not of its type (22P02), a missing operator (42883) or a column that is no condition (42804), with its word,
-/// else a number of LIMIT or OFFSET that is too great (22003), with its word, else a limit (54000). It is `Memory` only of a SELECT
-/// without a fault of the grammar.
+/// else a number of LIMIT or OFFSET that is too great (22003), with its word, else a limit (54000). It is `Memory` only of a
+/// statement without a fault of the grammar that has a SELECT there.
 pub fn read_select(
     alloc: Global,
     cat: &Catalog,
@@ -89,14 +133,34 @@ pub fn read_select(
 ) -> Result<Prepared, Refusal>
     requires short { length text.now ≤ 2 ^ 31 }
     requires words { (from : ℕ) × AreWords text.now from tokens.now }
-    requires kind { AreNoOther text.now tokens.now }
     requires within { first < length tokens.now }
-    requires first { first ≡ words_before (terminals text.now tokens.now) }
-    ensures grammar { IsGrammatical text.now tokens.now result }
-    ensures binding { (x : OrderedSelect) (start : Token) (later : List Token) → tokens.now ≡ start ∷ later →
-        IsSpelled (query_tree x) text.now tokens.now → IsBoundAs (bound cat.now start x) result }
+    ensures grammar { IsGrammatical text.now tokens.now first result }
+    ensures binding { (x : WindowedSelect) (start : Token) (later : List Token) → tokens.now ≡ start ∷ later →
+        IsWhole text.now tokens.now → IsSelectAt text.now tokens.now first x → IsBoundAs (bound_part cat.now start x) result }
     ensures well_bound { IfOk result (IsWellBound cat.now) }
     ensures classes { IfOk result (λ q. IsClassTable (given_of cat.now q) q.classes) }
 {
     read_whole(alloc, cat, text, tokens, first)
+}
+
+/// The SELECT with its order and its window that is the tokens from number `first` up to, but not including, number `end` of a
+/// statement without a fault of the grammar: bound as [`read_select`] binds one, with the same refusals but for those of the
+/// grammar. The limits stand at the first byte of the whole statement.
+pub fn read_part(
+    alloc: Global,
+    cat: &Catalog,
+    text: &[u8],
+    tokens: &Tokens,
+    first: u32,
+    end: u32,
+) -> Result<Prepared, Refusal>
+    requires short { length text.now ≤ 2 ^ 31 }
+    requires words { (from : ℕ) × AreWords text.now from tokens.now }
+    requires part { HavePart text.now tokens.now first end }
+    ensures binding { (x : WindowedSelect) (start : Token) (later : List Token) → tokens.now ≡ start ∷ later →
+        IsPartAt text.now tokens.now first end x → IsBoundAs (bound_part cat.now start x) result }
+    ensures well_bound { IfOk result (IsWellBound cat.now) }
+    ensures classes { IfOk result (λ q. IsClassTable (given_of cat.now q) q.classes) }
+{
+    part(alloc, cat, text, tokens, first, end)
 }

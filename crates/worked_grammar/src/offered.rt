@@ -2,7 +2,9 @@
 //! found by a parser written apart from this one.
 
 use crate::first::first_otherwise;
-use sql_grammar::{READS_ANALYZE, READS_WINDOW};
+use sql_grammar::{
+    READS_ADVISE, READS_ANALYZE, READS_CHECK, READS_PLAN, READS_TABLE, READS_WINDOW,
+};
 
 /// Statements for ANALYZE, and the place of their syntax fault, without it and with it.
 const ANALYSES: [(&[u8], Option<u32>, Option<u32>); 12] = [
@@ -62,6 +64,153 @@ const WINDOWS: [(&[u8], Option<u32>, Option<u32>); 18] = [
     ),
 ];
 
+/// Statements for ADVISE, and the place of their syntax fault, without it and with it.
+const ADVICE: [(&[u8], Option<u32>, Option<u32>); 17] = [
+    (b"ADVISE 1 (i ON t (a)) (SELECT a FROM t);", Some(0), None),
+    (
+        b"advise 3 (i on t (a, b desc) where a = 1, j on u using hash (c) include (d)) (select * from t order by a limit 1) (select b from u offset 2)",
+        Some(0),
+        None,
+    ),
+    (
+        b"ADVISE 1 (i ON t (a)) (SELECT a FROM t LIMIT 1 OFFSET 2) (SELECT a FROM t, u ORDER BY a) ( SELECT b FROM u);",
+        Some(0),
+        None,
+    ),
+    (b"ADVISE 1 (i ON t (a));", Some(0), Some(21)),
+    (b"ADVISE 1 (i ON t (a)) ();", Some(0), Some(23)),
+    (b"ADVISE 1 () (SELECT a FROM t);", Some(0), Some(10)),
+    (b"ADVISE (i ON t (a)) (SELECT a FROM t);", Some(0), Some(7)),
+    (
+        b"ADVISE 1 (i ON t (a) (SELECT a FROM t);",
+        Some(0),
+        Some(21),
+    ),
+    (
+        b"ADVISE 1 (i ON t (a), j) (SELECT a FROM t);",
+        Some(0),
+        Some(23),
+    ),
+    (
+        b"ADVISE 1 (i ON t (a)), (SELECT a FROM t);",
+        Some(0),
+        Some(21),
+    ),
+    (b"ADVISE 1 (i ON t (a)) SELECT a FROM t;", Some(0), Some(22)),
+    (
+        b"ADVISE 1 (i ON t (a)) (SELECT a FROM t OFFSET 1 LIMIT 2);",
+        Some(0),
+        Some(48),
+    ),
+    (
+        b"ADVISE 1 (i ON t (a)) (SELECT a FROM t GROUP BY a);",
+        Some(0),
+        Some(39),
+    ),
+    (
+        b"ADVISE 1 (i ON t (a)) (SELECT a FROM t), (SELECT b FROM t);",
+        Some(0),
+        Some(39),
+    ),
+    (
+        b"ADVISE 1 (i ON t (a)) (SELECT a FROM t;",
+        Some(0),
+        Some(38),
+    ),
+    (
+        b"ADVISE 1 (CREATE INDEX i ON t (a)) (SELECT a FROM t);",
+        Some(0),
+        Some(10),
+    ),
+    (
+        b"EXPLAIN ADVISE 1 (i ON t (a)) (SELECT a FROM t);",
+        Some(8),
+        Some(8),
+    ),
+];
+
+/// Statements for CHECK, and the place of their syntax fault, without it and with it.
+const CHECKS: [(&[u8], Option<u32>, Option<u32>); 11] = [
+    (b"CHECK SELECT a FROM t;", Some(0), None),
+    (
+        b"check select a from t where a = 1 order by b limit 1 offset 2;",
+        Some(0),
+        None,
+    ),
+    (b"CHECK SELECT a FROM t", Some(0), Some(21)),
+    (b"CHECK SELECT a FROM t LIMIT 1", Some(0), Some(29)),
+    (b"CHECK;", Some(0), Some(5)),
+    (
+        b"CHECK SELECT a FROM t OFFSET 1 LIMIT 1;",
+        Some(0),
+        Some(31),
+    ),
+    (b"CHECK SELECT a FROM t GROUP BY a;", Some(0), Some(22)),
+    (b"CHECK EXPLAIN SELECT a FROM t;", Some(0), Some(6)),
+    (b"CHECK (SELECT a FROM t);", Some(0), Some(6)),
+    (b"CHECK CHECK SELECT a FROM t;", Some(0), Some(6)),
+    (b"EXPLAIN CHECK SELECT a FROM t;", Some(8), Some(8)),
+];
+
+/// Statements for USE PLAN, and the place of their syntax fault, without it and with it.
+const PLANS: [(&[u8], Option<u32>, Option<u32>); 12] = [
+    (b"USE PLAN SELECT a FROM t;", Some(0), None),
+    (
+        b"use plan select plan from use order by a desc;",
+        Some(0),
+        None,
+    ),
+    (b"USE PLAN SELECT a FROM t", Some(0), Some(24)),
+    (b"USE PLAN SELECT a FROM t ORDER BY a", Some(0), Some(35)),
+    (b"USE PLAN SELECT a FROM t LIMIT 1;", Some(0), Some(25)),
+    (
+        b"USE PLAN SELECT a FROM t ORDER BY a OFFSET 1;",
+        Some(0),
+        Some(36),
+    ),
+    (b"USE PLAN SELECT a FROM t GROUP BY a;", Some(0), Some(25)),
+    (b"USE SELECT a FROM t;", Some(0), Some(4)),
+    (b"USE PLAN;", Some(0), Some(8)),
+    (b"USE;", Some(0), Some(3)),
+    (b"PLAN SELECT a FROM t;", Some(0), Some(0)),
+    (b"EXPLAIN USE PLAN SELECT a FROM t;", Some(8), Some(8)),
+];
+
+/// Statements for EXPLAIN (TABLE), and the place of their syntax fault, without it and with it.
+const TABLES: [(&[u8], Option<u32>, Option<u32>); 11] = [
+    (b"EXPLAIN (TABLE) SELECT a FROM t;", Some(8), None),
+    (
+        b"explain ( table ) select a from t order by a limit 1",
+        Some(8),
+        None,
+    ),
+    (
+        b"EXPLAIN (TABLE) SELECT a FROM t OFFSET 1 LIMIT 1;",
+        Some(8),
+        Some(41),
+    ),
+    (b"EXPLAIN (TABLE);", Some(8), Some(15)),
+    (b"EXPLAIN (TABLE SELECT a FROM t;", Some(8), Some(15)),
+    (b"EXPLAIN () SELECT a FROM t;", Some(8), Some(9)),
+    (b"EXPLAIN (a) SELECT a FROM t;", Some(8), Some(9)),
+    (b"EXPLAIN TABLE SELECT a FROM t;", Some(8), Some(8)),
+    (
+        b"EXPLAIN (TABLE) EXPLAIN SELECT a FROM t;",
+        Some(8),
+        Some(16),
+    ),
+    (
+        b"EXPLAIN (TABLE) (TABLE) SELECT a FROM t;",
+        Some(8),
+        Some(16),
+    ),
+    (
+        b"EXPLAIN (TABLE) SELECT a FROM t GROUP BY a;",
+        Some(8),
+        Some(32),
+    ),
+];
+
 #[test]
 fn finds_the_first_fault_of_analyze(rt: HostRuntime) {
     assert_eq!(rt;
@@ -76,4 +225,27 @@ fn finds_the_first_fault_of_a_window(rt: HostRuntime) {
         first_otherwise(rt.alloc(), &WINDOWS, READS_WINDOW),
         Ok(None)
     );
+}
+
+#[test]
+fn finds_the_first_fault_of_advice(rt: HostRuntime) {
+    assert_eq!(rt;
+        first_otherwise(rt.alloc(), &ADVICE, READS_ADVISE),
+        Ok(None)
+    );
+}
+
+#[test]
+fn finds_the_first_fault_of_a_check(rt: HostRuntime) {
+    assert_eq!(rt; first_otherwise(rt.alloc(), &CHECKS, READS_CHECK), Ok(None));
+}
+
+#[test]
+fn finds_the_first_fault_of_a_written_plan(rt: HostRuntime) {
+    assert_eq!(rt; first_otherwise(rt.alloc(), &PLANS, READS_PLAN), Ok(None));
+}
+
+#[test]
+fn finds_the_first_fault_of_an_explained_table(rt: HostRuntime) {
+    assert_eq!(rt; first_otherwise(rt.alloc(), &TABLES, READS_TABLE), Ok(None));
 }

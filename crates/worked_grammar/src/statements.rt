@@ -2,7 +2,7 @@
 
 use crate::first::{first_fault, first_wrong, limit_fault};
 use pg_base::{Code, Fault, Limit, Refusal};
-use sql_grammar::{cand_end, data_start, expr_end, select_end};
+use sql_grammar::{cand_end, data_start, expr_end, select_end, windowed_select_end};
 use sql_lex::lex_statement;
 use std::alloc::Global;
 
@@ -219,6 +219,27 @@ const SELECTS: [(&[u8], Result<u32, u32>); 9] = [
     (b"t;", Err(0)),
 ];
 
+/// Texts, and the end of the SELECT with its order and its window at their beginning, or the place of its syntax fault.
+const WINDOWED: [(&[u8], Result<u32, u32>); 14] = [
+    (b"SELECT a FROM t) (SELECT", Ok(4)),
+    (
+        b"SELECT a FROM t ORDER BY a, b DESC LIMIT 1 OFFSET 2) ;",
+        Ok(14),
+    ),
+    (b"SELECT a FROM t WHERE a = 1 LIMIT 7)", Ok(10)),
+    (b"SELECT a FROM t, u OFFSET 1, 2", Ok(8)),
+    (b"SELECT a FROM t LIMIT 1 LIMIT 2", Ok(6)),
+    (b"SELECT a FROM t OFFSET 1 LIMIT 2", Ok(6)),
+    (b"SELECT a FROM t LIMIT 1 ORDER BY a", Ok(6)),
+    (b"SELECT a FROM t LIMIT;", Err(21)),
+    (b"SELECT a FROM t LIMIT -1;", Err(22)),
+    (b"SELECT a FROM t ORDER a;", Err(22)),
+    (b"SELECT a FROM t ORDER BY a NULLS;", Err(32)),
+    (b"SELECT a FROM t GROUP BY a;", Ok(4)),
+    (b"(SELECT a FROM t);", Err(0)),
+    (b"EXPLAIN SELECT a FROM t;", Err(0)),
+];
+
 /// Texts, and the end of the expression at their beginning, or the place of its syntax fault.
 const EXPRESSIONS: [(&[u8], Result<u32, u32>); 8] = [
     (b"a = 1;", Ok(3)),
@@ -321,6 +342,19 @@ fn finds_the_end_of_a_part(rt: HostRuntime) {
         let tokens = lex_statement(rt.alloc(), text, 0).expect(&rt, "tokens");
         assert_eq!(rt;
             expr_end(text, &tokens, 0),
+            end.map_err(Fault::syntax),
+            "{text:?}"
+        );
+    }
+}
+
+#[test]
+fn finds_the_end_of_a_select_with_its_window(rt: HostRuntime) {
+    for (text, end) in WINDOWED {
+        assert!(rt; text.len() < 100);
+        let tokens = lex_statement(rt.alloc(), text, 0).expect(&rt, "tokens");
+        assert_eq!(rt;
+            windowed_select_end(text, &tokens, 0),
             end.map_err(Fault::syntax),
             "{text:?}"
         );

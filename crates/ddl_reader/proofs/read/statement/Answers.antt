@@ -6,7 +6,8 @@ use Rattle.sql_grammar.specs.Words.{words_of, words_of_ending}
 use Rattle.sql_grammar.specs.Faults.{terminals}
 use Rattle.sql_cursor.specs.Reading.{BeginsNot}
 use Rattle.ddl_reader.specs.Statements.{begins_ddl}
-use Rattle.ddl_reader.proofs.StatementLemmas.{creates, loads, describes, analyzes, table-as, statistics-as, analysis-as, data-as}
+use Rattle.ddl_reader.specs.Readings.{ReadsAs}
+use Rattle.ddl_reader.proofs.StatementLemmas.{creates, loads, describes, analyzes, table-as, statistics-as, analysis-as}
 use Rattle.ddl_reader.proofs.read.statement.Goals as goal
 
 pub table-requires : goal.table-requires
@@ -66,4 +67,4 @@ returns c = λ x is.
     let others = subst (BeginsNot (λ token. t_name (free Statistics token))) first (c.if-takes_free.ensures.other refl) in
     let none = subst (BeginsNot (λ token. t_name (free Analyze token))) second (c.if-takes_free-2.ensures.other refl) in
     let (k, n, null, copy) = loads x (terminals c.args.text.now c.args.tokens.now) is c.requires.opens (subst (BeginsNot (t_key Create)) c.new-from.ensures (c.if-takes.ensures.other refl)) others none in
-    data-as c.args.cat.now c.args.text.now x c.data.result k n null copy (c.data.ensures k n null (left ∙ (sym is ∙ ap words_of copy)))
+    subst (λ y. ReadsAs c.args.cat.now c.args.text.now y c.data.result) (sym copy) (c.data.ensures k n null (left ∙ (sym is ∙ ap words_of copy)))

@@ -1,0 +1,14 @@
+use Rattle.std.proofs.Common.{refl, subst}
+use Rattle.sql_grammar.specs.Terminals.{t_key}
+use Rattle.sql_grammar.specs.declared.class.Word.TheVariants.{Select}
+use Rattle.sql_cursor.specs.Reading.{Begins, BeginsNot}
+use Rattle.query_reader.proofs.PlaceLemmas.{by-fault, no-select}
+use Rattle.query_reader.proofs.select.select_fault.Goals as goal
+
+pub returns-then-not-takes : goal.returns-then-not-takes
+returns-then-not-takes c =
+    no-select c.args.text.now c.args.tokens.now c.args.first c.items.result.now _ _ c.requires.within (subst (BeginsNot (t_key Select)) c.new-from.ensures (c.if-not-takes.ensures.other refl)) c.items.ensures c.fault_at.ensures
+
+pub returns : goal.returns
+returns c =
+    by-fault c.args.text.now c.args.tokens.now c.args.first _ c.statement_fault.result (subst (λ ts. Begins (t_key Select) ts c.takes.new.self) c.new-from.ensures (c.if-not-takes.ensures.took refl)) c.statement_fault.ensures

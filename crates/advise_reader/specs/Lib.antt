@@ -1,0 +1,9 @@
+pub mod Parts
+pub mod Places
+pub mod Stages
+pub mod Candidates
+pub mod Queries
+pub mod Meaning
+pub mod Soundness
+pub mod Walk
+pub mod Statements

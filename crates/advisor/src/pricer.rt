@@ -1,0 +1,42 @@
+//! What queries cost.
+
+ghost use Rattle.std.specs.Prelude.{bit_and, ◌≡◌, ◌<◌, ◌≤◌, ◌^◌, ℕ, Option, IfOk, IfSome};
+
+use pg_base::{MOST_QUERIES, Memory};
+
+/// A list of queries, each with a cost by the set of candidates that is there. A set is a number whose bit j stands for
+/// candidate j.
+pub trait Pricer {
+    /// The number of queries.
+    ghost count: { Self → ℕ };
+
+    /// The candidates that may change what a query costs.
+    ghost concerns: { Self → ℕ → ℕ };
+
+    /// What a query costs with a set of candidates, or that it has no plan then.
+    ghost priced: { Self → ℕ → ℕ → Option ℕ → Type 0 };
+
+    /// The number of queries, at most `MOST_QUERIES`.
+    fn queries(&self) -> u8
+        ensures count { result ≡ count self.now }
+        ensures few { result ≤ MOST_QUERIES };
+
+    /// The candidates that may change what a query costs.
+    fn relevant(&self, q: u8) -> u16
+        requires { q < count self.now }
+        ensures { result ≡ concerns self.now q };
+
+    /// What a query costs with a set of candidates, below 10^18; None where it has no plan then. It leaves all that contracts
+    /// see as it was. The error means want of memory.
+    fn price(&mut self, q: u8, s: u16) -> Result<Option<u64>, Memory>
+        requires { q < count self.old }
+        ensures price { IfOk result (priced self.old q s) }
+        ensures below { IfOk result (λ o. IfSome o (λ n. n < 10 ^ 18)) }
+        ensures same { self.new ≡ self.old };
+
+    /// No query has two costs with one set.
+    ghost unique: { (p : Self) (q s : ℕ) (a b : Option ℕ) → priced p q s a → priced p q s b → a ≡ b };
+
+    /// A cost depends on the candidates that may change it alone.
+    ghost depends: { (p : Self) (q s : ℕ) (o : Option ℕ) → priced p q (bit_and s (concerns p q)) o → priced p q s o };
+}

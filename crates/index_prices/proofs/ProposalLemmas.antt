@@ -1,0 +1,26 @@
+-- Queries of a proposal, over its catalogue with candidates added.
+use Rattle.std.proofs.Common.{◌≡◌, ◌<◌, ◌++◌, ℕ, Bool, List, Option, Result, All, length, get_or, sym, subst}
+use Rattle.std.specs.Result.{IfOk}
+use Rattle.std.proofs.lemmas.Option.{slice_get-get_or}
+use Rattle.std.proofs.lemmas.Result.{IfOk-weaker}
+use Rattle.pg_base.specs.Sets.{has}
+use Rattle.catalog.specs.Contents.{Contents, NamedIndex}
+use Rattle.sql_query.specs.Queries.{Query}
+use Rattle.sql_query.specs.WellBound.{IsWellBound}
+use Rattle.index_laws.specs.Moved.{added_from}
+use Rattle.index_laws.proofs.BoundLemmas.{bound-over}
+use Rattle.index_prices.specs.Candidates.{with_added}
+use Rattle.index_prices.specs.Prices.{IsLeastPrice, prices_of}
+
+module _ (c : Contents) (xs : List NamedIndex) (qs : List Query) (q s : ℕ) (m : Contents) (x : Query) (lt : q < length qs) (made : m ≡ with_added c xs (has s)) where
+  -- each is well bound there
+  pub query-bound : All (IsWellBound c) qs → IsWellBound m (get_or qs q x)
+  query-bound h = subst (λ (d : Contents). IsWellBound d (get_or qs q x)) (sym made) (bound-over c.tables c.indexes (c.indexes ++ added_from 0 (has s) xs) (get_or qs q x) (h q x lt))
+
+  -- and its least price there is the one with these candidates
+  pub price-told : {E : Type 0} (r : Result (Option ℕ) E) → IfOk r (IsLeastPrice m (get_or qs q x)) → IfOk r (prices_of c xs qs q s)
+  price-told r = IfOk-weaker r (IsLeastPrice m (get_or qs q x)) (prices_of c xs qs q s) (λ o h. record {
+    query = get_or qs q x;
+    at = slice_get-get_or qs q x lt;
+    least = subst (λ (d : Contents). IsLeastPrice d (get_or qs q x) o) made h;
+  })

@@ -1,0 +1,34 @@
+-- Candidate indexes: which of them may be made together. Own; what an index is to be is that of CREATE INDEX (PostgreSQL
+-- manual).
+use Rattle.std.specs.Prelude.{◌≡◌, ◌≤◌, ◌++◌, ℕ, Bool, true, List, length, map, All}
+use Rattle.pg_base.specs.declared.limits.TheConstants.{MOST_CANDIDATES, MOST_INDEXES}
+use Rattle.pg_base.specs.declared.numbers.TableNo.{TableNo}
+use Rattle.pg_base.specs.Names.{AreDistinct, IsName}
+use Rattle.catalog.specs.Contents.{Contents, NamedIndex, indexes_of}
+use Rattle.catalog.specs.Indexes.{AreDifferent, columns_of, has_form}
+use Rattle.catalog.specs.Tables.{Fits, IsUnused}
+use Rattle.index_laws.specs.Moved.{added_from, over}
+
+-- the names of some indexes
+abbrev pub names_of : List NamedIndex → List (List ℕ)
+names_of xs = map (λ x. x.name) xs
+
+-- the catalogue with the candidates of a set added, in list order
+abbrev pub with_added : Contents → List NamedIndex → (ℕ → Bool) → Contents
+with_added c candidates set = over c.tables (c.indexes ++ added_from 0 set candidates)
+
+-- an index that CREATE INDEX would make, where its table has room
+pub record IsCandidateIndex (c : Contents) (x : NamedIndex) : Type 0 where
+  pub name : IsName x.name
+  pub fits : Fits c x.index
+  pub free : IsUnused c x.name
+  pub distinct : AreDifferent (columns_of x.index)
+  pub form : has_form x.index ≡ true
+
+-- candidates that may be made together: not too many, each one that may be made, no two of the same name, and with them no
+-- table has more indexes than it may have
+pub record AreCandidateIndexes (c : Contents) (candidates : List NamedIndex) : Type 0 where
+  pub few : length candidates ≤ MOST_CANDIDATES
+  pub each : All (IsCandidateIndex c) candidates
+  pub apart : AreDistinct (names_of candidates)
+  pub room : (t : TableNo) → length (indexes_of (over c.tables (c.indexes ++ candidates)) t) ≤ MOST_INDEXES

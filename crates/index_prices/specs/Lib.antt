@@ -1,0 +1,5 @@
+pub mod Candidates
+pub mod Prices
+pub mod PriceLaws
+pub mod Proposals
+pub mod Replies

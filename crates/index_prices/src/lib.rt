@@ -1,0 +1,13 @@
+//! Which of some candidate indexes to make so that some queries cost least: each set of candidates is added to a copy of the
+//! catalogue, and each query planned there. A cost unit is 1/400 of a sequential page.
+#![tactic(auto)]
+
+mod adding;
+mod advising;
+mod candidate;
+mod pricer;
+mod pricing;
+mod text;
+
+pub use advising::{advice_for, recommend};
+pub use candidate::Candidate;

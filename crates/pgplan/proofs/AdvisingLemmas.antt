@@ -1,5 +1,5 @@
 -- ADVISE: what it tells, or why it is refused.
-use Rattle.std.proofs.Common.{◌≡◌, ◌<◌, ◌+◌, ℕ, List, [], ◌∷◌, length, inl, inr, refl, sym, ap, subst, ◌∙◌, arith, Option, Some, None, Result, Ok, Err, IfOk, IfErr}
+use Rattle.std.proofs.Common.{◌≡◌, ◌<◌, ◌+◌, ℕ, List, [], ◌∷◌, length, inl, inr, refl, sym, ap, subst, ◌∙◌, arith, Option, Some, None, Result, Ok, Err, IfOk, IfErr, IsErrAnd}
 use Rattle.std.specs.Prelude.{MatchOption, OnOk, OnErr}
 use Rattle.std.specs.Io.KnownBytes.{Appends}
 use Rattle.pg_base.specs.Causes.{HasCause, Rose}
@@ -82,3 +82,8 @@ module _ (w : World) (text : List ℕ) (tokens : List Token) where
     -- or out failed
     pub advice-begun : AppendsPrefix held held' lines → StopsOver ends.Write w text tokens (traces held f l) (traces held' f l)
     advice-begun gained = (is.action, end_of tokens, is.read, record { reply = told lines; answers = is.reply; gained = gained; fetched = omega arith; looked = omega arith })
+
+-- where nothing was written, out has no fault to tell of
+pub no-cause-told : (r : Result ℕ End) (e : End) (n : ℕ) → (e ≡ ends.Write → ⊥) → IsErrAnd r (λ x. x ≡ e) → HasWriteCause ends.Write n n r
+no-cause-told (Ok next) e n other is = record { write = λ wrong. absurd (cc (wrong)); quiet = λ not. refl }
+no-cause-told (Err x) e n other is = record { write = λ wrong. absurd (let same : x ≡ ends.Write = cc (wrong) in other (sym is ∙ same)); quiet = λ not. refl }

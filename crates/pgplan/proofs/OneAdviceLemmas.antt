@@ -1,6 +1,7 @@
 -- ADVISE means one thing, but for the tables of classes of its queries, which are given.
 use Rattle.std.proofs.Common.{◌≡◌, ◌≤◌, ◌+◌, ℕ, Bool, true, false, cond, List, [], ◌∷◌, ◌++◌, length, map, inl, inr, refl, sym, ap, subst, ◌∙◌, arith, Option, Some, None, Result, Ok, Err}
 use Rattle.std.specs.Prelude.{slice_index_or}
+use Rattle.std.proofs.lemmas.Bool.{true≢false}
 use Rattle.std.proofs.lemmas.List.Elements.{All-pop}
 use Rattle.std.proofs.lemmas.List.{length-append}
 use Rattle.pg_base.specs.declared.faults.Code.TheVariants.{S6}
@@ -57,8 +58,7 @@ read-one A B M one earlier (x ∷ xs) =
     then-one B (List B) (M earlier x) (λ y. AreRead A B M (earlier ++ y ∷ []) xs) (one earlier x) (λ y. read-one A B M one (earlier ++ y ∷ []) xs)
 
 not-both : (b : Bool) → b ≡ true → b ≡ false → ⊥
-not-both true yes no' = cc
-not-both false yes no' = cc
+not-both b holds fails = true≢false (sym holds ∙ fails)
 
 module _ (c : Contents) (tokens : List Token) (read : Reading) where
   -- a candidate may not be made for one reason

@@ -18,8 +18,8 @@ returns-in_err-query-clause-stopped g c =
     let refused = c.in_err-query.field-0.0 in
     stops-by c.from_residual.result (end_of_refusal refused) w text tokens here here
     (reading-stops w text tokens here refused c.requires.some
-    (grammar-of text tokens c.requires.kind c.from-first.result c.a_statement_has_its_select.ensures (search rules) _ c.in_err-query.ensures.grammar)
-    (binds-of text tokens c.requires.kind c.from-first.result c.a_statement_has_its_select.ensures (search rules) w _ c.in_err-query.ensures.binding))
+    (grammar-of text tokens c.requires.kind c.from-first.result (λ s x is spelled. c.a_statement_has_its_select.ensures s x c.args.text.now c.args.tokens.now is spelled) (search rules) _ c.in_err-query.ensures.grammar)
+    (binds-of text tokens c.requires.kind c.from-first.result (λ s x is spelled. c.a_statement_has_its_select.ensures s x c.args.text.now c.args.tokens.now is spelled) (search rules) w _ c.in_err-query.ensures.binding))
     c.from_residual.ensures.1
 
 pub returns-in-Ok-clause-answered : goal.returns-in-Ok-clause-answered
@@ -30,8 +30,8 @@ returns-in-Ok-clause-answered g c =
     let text = c.args.text.now in
     let tokens = c.args.tokens.now in
     answered-over w text tokens (omega (arith, c.requires.some)) c.in_ok-query.query
-    (grammar-of text tokens c.requires.kind c.from-first.result c.a_statement_has_its_select.ensures (search rules) _ c.in_ok-query.ensures.grammar)
-    (binds-of text tokens c.requires.kind c.from-first.result c.a_statement_has_its_select.ensures (search rules) w _ c.in_ok-query.ensures.binding)
+    (grammar-of text tokens c.requires.kind c.from-first.result (λ s x is spelled. c.a_statement_has_its_select.ensures s x c.args.text.now c.args.tokens.now is spelled) (search rules) _ c.in_ok-query.ensures.grammar)
+    (binds-of text tokens c.requires.kind c.from-first.result (λ s x is spelled. c.a_statement_has_its_select.ensures s x c.args.text.now c.args.tokens.now is spelled) (search rules) w _ c.in_ok-query.ensures.binding)
     c.in_ok-query.ensures.classes c.explains-explained.result c.explains-explained.ensures old new c.end.result c.end.ensures c.in-Ok.ensures.replied
 
 pub returns-clause-stopped : goal.returns-clause-stopped
@@ -42,10 +42,10 @@ returns-clause-stopped g c =
     let w = world c.args.catalog.now c.args.store.now.stored in
     let text = c.args.text.now in
     let tokens = c.args.tokens.now in
-    let grammar = grammar-of text tokens c.requires.kind c.from-first.result c.a_statement_has_its_select.ensures first (Ok c.in_ok-query.query) c.in_ok-query.ensures.grammar in
+    let grammar = grammar-of text tokens c.requires.kind c.from-first.result (λ s x is spelled. c.a_statement_has_its_select.ensures s x c.args.text.now c.args.tokens.now is spelled) first (Ok c.in_ok-query.query) c.in_ok-query.ensures.grammar in
     printing-told w text tokens (omega (arith, c.requires.some)) c.in_ok-query.query
     grammar
-    (binds-of text tokens c.requires.kind c.from-first.result c.a_statement_has_its_select.ensures first w _ c.in_ok-query.ensures.binding)
+    (binds-of text tokens c.requires.kind c.from-first.result (λ s x is spelled. c.a_statement_has_its_select.ensures s x c.args.text.now c.args.tokens.now is spelled) first w _ c.in_ok-query.ensures.binding)
     c.in_ok-query.ensures.classes c.explains-explained.result c.explains-explained.ensures old new
     c.in-Err.stop c.token_at-select.result c.stopped_at.result c.stopped_at.ensures (c.token_at-select.ensures ∙ ap (λ (n : ℕ). token_at c.args.tokens.now n) (first ∙ sym (place-of-select text tokens grammar))) c.in-Err.ensures.stopped c.in-Err.ensures.no_plan
 

@@ -4,9 +4,9 @@
 usage: judge_scripts.py [--stage STAGE] JUDGE PROGRAM [COUNT [SEED [RELATIONS]]]
 
 COUNT right scripts and COUNT broken ones are made (500 each where it is not given). Queries have up to four relations, or with
-RELATIONS exactly so many, and are only explained then. STAGE tells which statements the judge knows (10+15+17+limits where it is not
-given: joins, LIMIT and OFFSET, ANALYZE, up to ten relations and 32 columns); without its 17 there is no ANALYZE in right scripts, and
-without its 15 no LIMIT. JUDGE is a program called as `JUDGE judge --stage STAGE --allow '' SCRIPT OUT ERRORS STATUS` that exits with 0
+RELATIONS exactly so many, and are only explained then. STAGE tells which statements the judge knows (10+15+17+18+limits where it is
+not given: joins, LIMIT and OFFSET, ANALYZE, ADVISE, up to ten relations and 32 columns); without its 17 there is no ANALYZE in right
+scripts, without its 15 no LIMIT, and without its 18 no ADVISE in any. JUDGE is a program called as `JUDGE judge --stage STAGE --allow '' SCRIPT OUT ERRORS STATUS` that exits with 0
 where the answer is allowed. A right script has to end with status 0, or with 54001 where no plan is below the limit of costs.
 """
 import argparse
@@ -46,7 +46,29 @@ def knows(stage, number):
 
 
 # Which statements right scripts have beside those that each judge knows, and how many relations a query has, 0 for up to four.
-Asked = collections.namedtuple("Asked", "analyzes windows relations")
+Asked = collections.namedtuple("Asked", "analyzes windows advises relations")
+
+
+def advised(rng, tables, names, asked):
+    """An ADVISE as words: some candidates, as many as their tables have room for, and some queries."""
+    candidates, new = [], []
+    for _ in range(rng.randint(1, 4)):
+        table = rng.choice(tables)
+        new.append(new_name(rng, names + new + [t.name for t in tables]))
+        made = table.indexes
+        words = index(rng, table, new[-1])[2:]
+        table.indexes = made
+        if made + len(candidates) < 8:
+            candidates.append(words)
+    if not candidates:
+        return [";"]
+    queries = []
+    for _ in range(rng.choice([1, 1, 1, 2, 3])):
+        words = joined_select(rng, tables, [1, 2, 2, 3]) if rng.random() < 0.6 else select(rng, rng.choice(tables))
+        words = words[1:] if words[0].lower() == "explain" else words
+        queries += ["(", *words, *(window(rng) if asked.windows and rng.random() < 0.3 else []), ")"]
+    listed = [word for words in candidates for word in [",", *words]][1:]
+    return [rng.choice(["ADVISE", "advise", "Advise"]), str(rng.choice([0, 1, 1, 2, 3, 10])), "(", *listed, ")", *queries]
 
 
 def statements(rng, asked):
@@ -76,7 +98,8 @@ def statements(rng, asked):
             given = sizes if rng.random() < 0.4 else column_statistics
             parts.append(spaced(rng, given(rng, rng.choice(tables))) + ";")
         elif kind < 9:
-            parts.append(spaced(rng, queried(rng, tables, asked)) + ";")
+            told = advised(rng, tables, names, asked) if asked.advises and rng.random() < 0.4 else queried(rng, tables, asked)
+            parts.append(spaced(rng, told) + ";")
         else:
             parts.append(rng.choice([";", " ;", "-- nothing\n;", "\n"]))
     return tables, parts
@@ -207,9 +230,37 @@ def broken_window(rng, table):
         f" LIMIT 1 ORDER BY {name}", f" LIMIT 1 WHERE {name} IS NULL", " FETCH FIRST ROW ONLY", " LIMIT (1)", " LIMIT 1x"]) + ";"
 
 
-def broken_statement(rng, tables):
+def broken_advice(rng, table):
+    """ADVISE at fault: its number, a candidate, a table's indexes, a SELECT, or its syntax."""
+    name, kind, _ = rng.choice(table.columns)
+    whole = {"text": "'x'", "bool": "TRUE"}.get(kind, "1")
+    on = f"fresh ON {table.name} ({name})"
+    asks = f"(SELECT * FROM {table.name})"
+    many = " AND ".join([f"{name} IS NULL"] * 33)
+    listed = lambda n, start=0: ", ".join(f"many{k} ON {table.name} ({name})" for k in range(start, start + n))
+    return rng.choice([
+        f"ADVISE {rng.choice([11, 12, 2**64, 10**30])} ({on}) {asks};", f"ADVISE 11 (fresh ON missing (a)) (SELECT);", f"ADVISE -1 ({on}) {asks};", f"ADVISE ({on}) {asks};",
+        f"ADVISE 1 () {asks};", f"ADVISE 1 ({on});", f"ADVISE 1 ({on}) ();", f"ADVISE 1 ({on}), {asks};", f"ADVISE 1 ({on}) {asks}, {asks};", f"ADVISE 1 ({on},) {asks};",
+        f"ADVISE 1 {on} {asks};", f"ADVISE 1 (CREATE INDEX {on}) {asks};", f"ADVISE 1 ({on}) SELECT * FROM {table.name};", f"ADVISE 1 ({on}) (EXPLAIN SELECT * FROM {table.name});",
+        f"ADVISE 1 ({on}) {asks} {asks}", f"ADVISE 1 ({on}) (({asks}));", f"EXPLAIN ADVISE 1 ({on}) {asks};", f"ADVISE '1' ({on}) {asks};",
+        f"ADVISE 1 (fresh ON missing ({name})) {asks};", f"ADVISE 1 (fresh ON {table.name} (missing)) (SELECT * FROM missing);", f"ADVISE 1 ({table.name} ON {table.name} ({name})) {asks};",
+        f"ADVISE 1 ({on}, {on}) {asks};", f"ADVISE 1 ({on}, fresh ON missing (a)) {asks};", f"ADVISE 1 ({on}, other ON {table.name} ({name}, {name})) {asks};",
+        f"CREATE INDEX fresh ON {table.name} ({name}); ADVISE 1 ({on}) {asks};", f"ADVISE 1 (fresh ON {table.name} USING hash ({name} DESC)) {asks};",
+        f"ADVISE 1 (fresh ON {table.name} USING gin ({name})) {asks};", f"ADVISE 1 (fresh ON {table.name} ({name}) WHERE missing = 1) {asks};",
+        f"ADVISE 1 (fresh ON {table.name} ({name}) WHERE {' OR '.join([name + ' IS NULL'] * 257)}) {asks};",
+        f"ADVISE 10 ({listed(9)}) {asks};", f"ADVISE 10 ({listed(10)}) {asks};", f"ADVISE 10 ({listed(11)}) {asks};", f"ADVISE 10 ({listed(10)}, fresh ON missing (a)) (SELECT * FROM missing);",
+        f"ADVISE 1 ({on}) (SELECT * FROM missing);", f"ADVISE 1 ({on}) (SELECT missing FROM {table.name}) (SELECT * FROM missing);", f"ADVISE 1 ({on}) {asks} (SELECT * FROM {table.name} WHERE {many});",
+        f"ADVISE 1 ({on}) (SELECT * FROM {table.name} WHERE {name} = 'x y');", f"ADVISE 1 ({on}) (SELECT * FROM {table.name} ORDER BY missing);", f"ADVISE 1 ({on}) (SELECT * FROM {table.name} WHERE missing = {whole}) (SELECT);",
+        f"ADVISE 1 ({on}) (SELECT * FROM {table.name} LIMIT {2**63});", f"ADVISE 1 ({on}) {asks * 16};", f"ADVISE 1 ({on}) {asks * 17};", f"ADVISE 1 ({on}) {asks * 16} (SELECT * FROM missing);",
+        f"ADVISE 1 ({on}) (SELECT * FROM {table.name} a, {table.name} a);", f"ADVISE 1 (missing ON missing (a), {on}, {on}) {asks};", f"ADVISE 1 ({'n' * 64} ON {table.name} ({name})) {asks};",
+        f"STATISTICS {table.name} ROWS 1000000000 PAGES 1000000000; ADVISE 1 ({on}) (SELECT * FROM {', '.join(table.name + ' r' + str(n) for n in range(6))});"])
+
+
+def broken_statement(rng, tables, asked):
     table = rng.choice(tables)
     names = [name for name, _, _ in table.columns]
+    if asked.advises and rng.random() < 0.3:
+        return broken_advice(rng, table)
     if rng.random() < 0.1:
         return broken_window(rng, table)
     if rng.random() < 0.35:
@@ -280,21 +331,21 @@ def broken_script(rng, asked):
         parts.append(spaced(rng, create(rng, tables[0])) + ";")
     if rng.random() < 0.3:
         return cut_up(rng, "\n".join(parts))
-    parts.append(broken_statement(rng, tables))
+    parts.append(broken_statement(rng, tables, asked))
     parts.append(spaced(rng, select(rng, tables[0])) + ";")
     return "\n".join(parts)
 
 
 def main():
     words = argparse.ArgumentParser()
-    words.add_argument("--stage", default="10+15+17+limits")
+    words.add_argument("--stage", default="10+15+17+18+limits")
     words.add_argument("judge")
     words.add_argument("program")
     words.add_argument("numbers", nargs="*", type=int)
     said = words.parse_args()
     judge, program, stage = said.judge, said.program, said.stage
     count, seed, relations = [*said.numbers, *[500, 1, 0][len(said.numbers):]]
-    asked = Asked(knows(stage, 17), knows(stage, 15), relations)
+    asked = Asked(knows(stage, 17), knows(stage, 15), knows(stage, 18), relations)
     rng = random.Random(seed)
     failed, statuses = 0, collections.Counter()
     with tempfile.TemporaryDirectory() as folder:

@@ -5,7 +5,7 @@ use Rattle.pg_base.specs.declared.numbers.TableNo.{TableNo}
 use Rattle.pg_value.specs.declared.columns.Column.{Column}
 use Rattle.analyze.specs.Analysis.{table_statistics}
 use Rattle.catalog.specs.Analysed.{with_analysis}
-use Rattle.catalog.specs.Contents.{new_table, with_index, with_table, with_loaded, with_sizes, with_stats}
+use Rattle.catalog.specs.Contents.{NamedIndex, new_table, with_index, with_table, with_loaded, with_sizes, with_stats}
 use Rattle.catalog.specs.Indexes.{Index}
 use Rattle.catalog.specs.Statistics.{Statistics}
 use Rattle.heap.specs.Stored.{Stored}
@@ -31,6 +31,8 @@ pub data Action : Type 0 where
   answer : Query → Action
   -- EXPLAIN of a SELECT
   explain : Query → Action
+  -- ADVISE: at most so many of these indexes, for these queries
+  advise : ℕ → List NamedIndex → List Query → Action
 
 -- the world after an accepted statement: one more table, one more index or other statistics beside the same rows, given or
 -- found, other rows of a table, or the same
@@ -47,3 +49,4 @@ after w (fill t s) = record { contents = with_loaded w.contents t (length s.rows
 after w (gather t) = world (with_analysis w.contents t (table_statistics (stored_at w t))) w.stored
 after w (answer q) = w
 after w (explain q) = w
+after w (advise most candidates queries) = w

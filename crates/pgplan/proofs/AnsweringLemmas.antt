@@ -8,7 +8,7 @@ use Rattle.sql_lex.specs.Ends.{end_of, token_at}
 use Rattle.sql_grammar.specs.Faults.{terminals}
 use Rattle.catalog.specs.Contents.{Contents}
 use Rattle.fault_line.specs.Tells.{IsFieldOf}
-use Rattle.query_reader.specs.Select.{AreSelect, IsGrammatical, is_explained, words_before}
+use Rattle.query_reader.specs.Select.{AreSelect, is_explained, words_before}
 use Rattle.sql_query.specs.Queries.{Query}
 use Rattle.eq_classes.specs.Holding.{IsClassTable}
 use Rattle.sql_query.specs.WellBound.{given_of}
@@ -26,13 +26,13 @@ use Rattle.pgplan.specs.Accepted.{asked}
 use Rattle.pgplan.specs.Faults.{no_plan}
 use Rattle.pgplan.specs.Replies.{IsReply}
 use Rattle.pgplan.specs.Steps.{IsAnsweredOver, StopsOver}
-use Rattle.pgplan.proofs.QueryLemmas.{Binds, query-fault, fault-plain, read-query, unplanned}
+use Rattle.pgplan.proofs.QueryLemmas.{Binds, Grammar, query-fault, fault-plain, read-query, unplanned}
 
 plain-field : (c : Contents) (f : Fault) → f.rec ≡ 0 → IsFieldOf c f
 plain-field c f none = λ field some. absurd (omega (arith, none, some))
 
 -- a query that is not read stops with the world and out as before
-pub reading-stops : (w : World) (text : List ℕ) (tokens : List Token) (here : Traces) (refused : Refusal) → 1 < length tokens → IsGrammatical text tokens (Err refused) → Binds w text tokens (Err refused) →
+pub reading-stops : (w : World) (text : List ℕ) (tokens : List Token) (here : Traces) (refused : Refusal) → 1 < length tokens → Grammar text tokens (Err refused) → Binds w text tokens (Err refused) →
     StopsOver (end_of_refusal refused) w text tokens here here
 reading-stops w text tokens here (refusal.Fault f) some grammar binds =
     let one : 0 < length tokens = omega (arith, some) in

@@ -17,7 +17,7 @@ use Rattle.catalog.specs.Tables.{table_named}
 use Rattle.sql_lex.specs.declared.tokens.Token.{Token}
 use Rattle.sql_grammar.specs.Terminals.{Said, token_of}
 use Rattle.sql_grammar.specs.Faults.{bytes_of, fault_at}
-use Rattle.sql_grammar.specs.Syntax.{Col, bare, qualified, Ordering, ordering, OrderBy, no_order, order_by, OrderedSelect, ordered_select, Expr, Join, join_on, cross_join, Group, group_of, select_from, Where, no_where, where_expr, Limit as LimitTree, no_limit, most_rows, Offset, no_offset, skipped_rows, Window as WindowTree, window}
+use Rattle.sql_grammar.specs.Syntax.{Col, bare, qualified, Ordering, ordering, OrderBy, no_order, order_by, OrderedSelect, ordered_select, Expr, Join, join_on, cross_join, Group, group_of, select_from, WindowedSelect, windowed_select, Where, no_where, where_expr, Limit as LimitTree, no_limit, most_rows, Offset, no_offset, skipped_rows, Window as WindowTree, window}
 use Rattle.sql_grammar.specs.FromParts.{groups_after}
 use Rattle.sql_cursor.specs.declared.cursor.Spelled.{Spelled}
 use Rattle.sql_cursor.specs.Lists.{before_all, bound_each, parts_of}
@@ -31,7 +31,7 @@ use Rattle.query_reader.specs.Order.{first_among, order_column, order_item, orde
 use Rattle.query_reader.specs.Scope.{scope_after, scope_of}
 use Rattle.query_reader.specs.From.{Joined, alias_or, conjuncts_of_expr, is_taken, nothing_joined, of_table, under_alias, with_condition, with_group, with_groups, with_join, with_joins, with_relation}
 use Rattle.query_reader.specs.Windows.{most_of, rows_of, skipped_of, window_of}
-use Rattle.query_reader.specs.Binding.{found_relation, item_columns, then_columns, list_columns, conjuncts_written, limited, past_limit, bound_over, bound_from, bound}
+use Rattle.query_reader.specs.Binding.{found_relation, item_columns, then_columns, list_columns, conjuncts_written, limited, past_limit, bound_over, bound_from, bound_part, bound}
 use Rattle.pgplan.proofs.PlainLemmas.{IsPlain, next-plain, found-plain, expr-plain}
 
 relation-plain : (scope : Scope) (qualifier : Token) → IsPlain (found_relation scope qualifier)
@@ -151,5 +151,8 @@ over-plain start items w order v j =
 from-plain : (c : Contents) (start : Token) (items : List Item) (gs : List Group) (w : Where) (order : OrderBy) (v : WindowTree) → IsPlain (bound_from c start items gs w order v)
 from-plain c start items gs w order v = next-plain (with_groups (nothing_joined c) gs) _ (groups-plain (nothing_joined c) gs) (over-plain start items w order v)
 
+pub part-plain : (c : Contents) (start : Token) (x : WindowedSelect) → IsPlain (bound_part c start x)
+part-plain c start (windowed_select (select_from k o os m g gs w) y v) = from-plain c start (item_of o ∷ items_of os) (g ∷ groups_after gs) w y v
+
 pub bound-plain : (c : Contents) (start : Token) (x : OrderedSelect) (f : Fault) → bound c start x ≡ Err f → f.rec ≡ 0
-bound-plain c start (ordered_select e (select_from k o os m g gs w) y v end) f is = subst IsPlain is (from-plain c start (item_of o ∷ items_of os) (g ∷ groups_after gs) w y v)
+bound-plain c start (ordered_select e q y v end) f is = subst IsPlain is (part-plain c start (windowed_select q y v))

@@ -13,7 +13,7 @@ use Rattle.pg_value.specs.declared.columns.Column.{Column}
 use Rattle.pg_value.specs.declared.value.SqlType.{SqlType}
 use Rattle.sql_lex.specs.declared.tokens.Token.{Token}
 use Rattle.sql_grammar.specs.Terminals.{Ident, Said, token_of}
-use Rattle.sql_grammar.specs.Syntax.{Lit, Statement, empty, create_table, create_index, query, copy, sizes, column_statistics, analyze}
+use Rattle.sql_grammar.specs.Syntax.{Lit, Statement, empty, create_table, create_index, query, copy, sizes, column_statistics, analyze, advise, check, use_plan}
 use Rattle.sql_grammar.specs.Faults.{terminals, bytes_of}
 use Rattle.sql_grammar.specs.CopyLine.{IsDataStart}
 use Rattle.catalog.specs.Contents.{Contents, IsTable, table_at}
@@ -126,6 +126,9 @@ means-plain : (cat : Contents) (text : List ℕ) (x : Statement) (r : Result Rea
 means-plain cat text (empty e) r means = absurd means
 means-plain cat text (create_index x) r means = absurd means
 means-plain cat text (query x) r means = absurd means
+means-plain cat text (advise x) r means = absurd means
+means-plain cat text (check p k x s) r means = absurd means
+means-plain cat text (use_plan p k l q y s) r means = absurd means
 means-plain cat text (create_table k t n o c cs m e) r means = subst IsPlain (sym means) (table-plain (bytes_of n) (token_of n) (bound_all (written c ∷ further cs)) (columns-plain (written c ∷ further cs)))
 means-plain cat text (sizes k n r p e) m means = subst IsPlain (sym means) (sizes-plain cat n r p)
 means-plain cat text (column_statistics k n c d nulls commons bounds e) r means = subst IsPlain (sym means) (statistics-plain cat n c d nulls (commons_of commons) (bounds_of bounds))
@@ -137,6 +140,9 @@ module _ (w : World) (text : List ℕ) (tokens : List Token) where
   names-fault (empty e) f means = absurd means
   names-fault (create_index x) f means = absurd means
   names-fault (query x) f means = absurd means
+  names-fault (advise x) f means = absurd means
+  names-fault (check p k x s) f means = absurd means
+  names-fault (use_plan p k l q y s) f means = absurd means
   names-fault (create_table k t n o c cs m e) f means = inl means
   names-fault (sizes k n r p e) f means = inl means
   names-fault (column_statistics k n c d nulls commons bounds e) f means = inl means
@@ -147,6 +153,9 @@ module _ (w : World) (text : List ℕ) (tokens : List Token) where
   carried-fault (empty e) r f means because = absurd means
   carried-fault (create_index x) r f means because = absurd means
   carried-fault (query x) r f means because = absurd means
+  carried-fault (advise x) r f means because = absurd means
+  carried-fault (check p k x s) r f means because = absurd means
+  carried-fault (use_plan p k l q y s) r f means because = absurd means
   carried-fault (create_table k t n o c cs m e) r f means because = inr (r, means, because)
   carried-fault (sizes k n m p e) r f means because = inr (r, means, because)
   carried-fault (column_statistics k n c d nulls commons bounds e) r f means because = inr (r, means, because)
@@ -157,6 +166,9 @@ module _ (w : World) (text : List ℕ) (tokens : List Token) where
   does (empty e) r action next means carries = absurd means
   does (create_index x) r action next means carries = absurd means
   does (query x) r action next means carries = absurd means
+  does (advise x) r action next means carries = absurd means
+  does (check p k x s) r action next means carries = absurd means
+  does (use_plan p k l q y s) r action next means carries = absurd means
   does (create_table k t n o c cs m e) r action next means carries = (r, means, carries)
   does (sizes k n m p e) r action next means carries = (r, means, carries)
   does (column_statistics k n c d nulls commons bounds e) r action next means carries = (r, means, carries)
@@ -197,8 +209,8 @@ table-refused ends.Write w text name names columns at h = h
 table-refused ends.Memory w text name names columns at h = tt
 
 -- a reading by its definition
-seen : (v : Read) (d : Ddl) → v.ddl ≡ d → reading v ≡ record { definition = definition d; at = v.at.items; method = v.method }
-seen v d is = ap (λ (x : Ddl). record { definition = definition x; at = v.at.items; method = v.method }) is
+seen : (v : Read) (d : Ddl) → v.ddl ≡ d → reading v ≡ record { definition = definition d; at = v.at.items }
+seen v d is = ap (λ (x : Ddl). record { definition = definition x; at = v.at.items }) is
 
 pub low-places : (text at places : List ℕ) → places ≡ at → length text ≤ MOST_SCRIPT_BYTES → All (λ a. a ≤ length text) at → All (λ a. a ≤ 2 ^ 31) places
 low-places text at places same short low k d lt =
@@ -213,7 +225,7 @@ module _ (w : World) (text : List ℕ) (tokens : List Token) (v : Read) (looked 
     sound-table sound = subst (IsSound w.contents text) (seen v (Table name names columns) is) sound
 
     module _ (m : IsMeaning w.contents text tokens (Ok (reading v))) where
-      table-means : IsMeaning w.contents text tokens (Ok (record { definition = table name names.items columns; at = v.at.items; method = v.method }))
+      table-means : IsMeaning w.contents text tokens (Ok (record { definition = table name names.items columns; at = v.at.items }))
       table-means = subst (λ (r : Reading). IsMeaning w.contents text tokens (Ok r)) (seen v (Table name names columns) is) m
 
       pub table-told : (at : List ℕ) → at ≡ v.at.items → (e : End) → RefusesDefinition e w [] (table name names.items columns) at → Refuses e w text tokens looked looked
@@ -230,7 +242,7 @@ module _ (w : World) (text : List ℕ) (tokens : List Token) (v : Read) (looked 
     sound-data sound = subst (IsSound w.contents text) (seen v (Copy t start) is) sound
 
     module _ (m : IsMeaning w.contents text tokens (Ok (reading v))) where
-      data-means : IsMeaning w.contents text tokens (Ok (record { definition = data_for t start; at = v.at.items; method = v.method }))
+      data-means : IsMeaning w.contents text tokens (Ok (record { definition = data_for t start; at = v.at.items }))
       data-means = subst (λ (r : Reading). IsMeaning w.contents text tokens (Ok r)) (seen v (Copy t start) is) m
 
       data-carrying : (looked' next end : ℕ) (s : Stored) → IsBlockEnd text start end next → loaded (stored_at w t) (records_of (slice_range text start end)) ≡ Ok s → looked' ≤ looked + load_looks w.contents t (stored_at w t) s →
@@ -253,7 +265,7 @@ module _ (w : World) (text : List ℕ) (tokens : List Token) (v : Read) (looked 
     sound-sizes sound = subst (IsSound w.contents text) (seen v (Rows t rows pages) is) sound
 
     module _ (m : IsMeaning w.contents text tokens (Ok (reading v))) where
-      sizes-means : IsMeaning w.contents text tokens (Ok (record { definition = sizes_for t rows pages; at = v.at.items; method = v.method }))
+      sizes-means : IsMeaning w.contents text tokens (Ok (record { definition = sizes_for t rows pages; at = v.at.items }))
       sizes-means = subst (λ (r : Reading). IsMeaning w.contents text tokens (Ok r)) (seen v (Rows t rows pages) is) m
 
       pub sizes-told : (at : List ℕ) → at ≡ v.at.items → (e : End) → RefusesDefinition e w text (sizes_for t rows pages) at → Refuses e w text tokens looked looked
@@ -268,7 +280,7 @@ module _ (w : World) (text : List ℕ) (tokens : List Token) (v : Read) (looked 
     sound-statistics sound = subst (IsSound w.contents text) (seen v (Column' t col stats) is) sound
 
     module _ (m : IsMeaning w.contents text tokens (Ok (reading v))) where
-      statistics-means : IsMeaning w.contents text tokens (Ok (record { definition = statistics_for t col (statistics stats); at = v.at.items; method = v.method }))
+      statistics-means : IsMeaning w.contents text tokens (Ok (record { definition = statistics_for t col (statistics stats); at = v.at.items }))
       statistics-means = subst (λ (r : Reading). IsMeaning w.contents text tokens (Ok r)) (seen v (Column' t col stats) is) m
 
       pub statistics-told : (at : List ℕ) → at ≡ v.at.items → (e : End) → RefusesDefinition e w text (statistics_for t col (statistics stats)) at → Refuses e w text tokens looked looked
@@ -283,7 +295,7 @@ module _ (w : World) (text : List ℕ) (tokens : List Token) (v : Read) (looked 
     sound-analysis sound = subst (IsSound w.contents text) (seen v (Analyze t) is) sound
 
     module _ (m : IsMeaning w.contents text tokens (Ok (reading v))) where
-      analysis-means : IsMeaning w.contents text tokens (Ok (record { definition = analysis_of t; at = v.at.items; method = v.method }))
+      analysis-means : IsMeaning w.contents text tokens (Ok (record { definition = analysis_of t; at = v.at.items }))
       analysis-means = subst (λ (r : Reading). IsMeaning w.contents text tokens (Ok r)) (seen v (Analyze t) is) m
 
       analysis-carrying : (looked' next : ℕ) → next ≡ end_of tokens → looked' ≤ looked + length (stored_at w t).rows → IsCarrying w text tokens (gather t) next looked looked'

@@ -16,7 +16,7 @@ use Rattle.opfamily.specs.Answers.{accepted, class_of_name}
 use Rattle.sql_lex.specs.declared.tokens.Token.{Token}
 use Rattle.sql_lex.specs.Ends.{end_of}
 use Rattle.sql_grammar.specs.Terminals.{Ident, token_of}
-use Rattle.sql_grammar.specs.Syntax.{Where, no_where, where_expr, OpClass as ClassTree, no_class, op_class, IndexKey as KeyTree, index_key, Using, no_using, using_method, CreateIndex, index_on, create_index}
+use Rattle.sql_grammar.specs.Syntax.{Where, no_where, where_expr, OpClass as ClassTree, no_class, op_class, IndexKey as KeyTree, index_key, Using, no_using, using_method, Cand, cand_on, CreateIndex, index_on, create_index}
 use Rattle.sql_grammar.specs.Faults.{bytes_of}
 use Rattle.sql_cursor.specs.Lists.{before_all, bound_each}
 use Rattle.catalog.specs.declared.fault.CatalogFault.{CatalogFault}
@@ -30,7 +30,7 @@ use Rattle.index_reader.specs.declared.keys.KeyRead.{KeyRead}
 use Rattle.index_reader.specs.declared.names.NamedColumn.{NamedColumn}
 use Rattle.index_reader.specs.declared.methods.MethodRead.{MethodRead}
 use Rattle.index_reader.specs.Keys.{class_bound, class_has_method, class_known, key_bound, keys_of, method_bound, method_of_name, name_bound, names_of}
-use Rattle.index_reader.specs.Meaning.{Reading, condition_bound, has_many_atoms, index_reading, limited, meaning, name_tokens, within_limits}
+use Rattle.index_reader.specs.Meaning.{Reading, condition_bound, has_many_atoms, index_reading, limited, meaning, meaning_of_cand, name_tokens, within_limits}
 use Rattle.index_reader.specs.Soundness.{IsSound}
 use Rattle.index_reader.specs.Statements.{IsMeaning, IsRefusal}
 use Rattle.index_reader.specs.Visible.{Sight, visible_in, type_in}
@@ -102,14 +102,17 @@ limits-plain : (start : Token) (n : Ident) (t : TableNo) (m : MethodRead) (keys 
 limits-plain start n t m keys names predicate =
     limited-plain (drop MOST_COLUMNS (name_tokens keys names)) _ (either-plain (has_many_atoms predicate) _ (index_reading n t m keys names predicate) refl)
 
-meaning-plain : (cat : Contents) (x : CreateIndex) → IsPlain (meaning cat x)
-meaning-plain cat (index_on start i n o of u p x xs m c w e) =
+pub cand-plain : (cat : Contents) (start : Token) (x : Cand) → IsPlain (meaning_of_cand cat start x)
+cand-plain cat start (cand_on n o of u p x xs m c w) =
     next-plain (table_of_name cat of) _ (known-plain S2 (token_of of) (table_named cat (bytes_of of))) (λ t.
     next-plain (method_bound u) _ (method-plain u) (λ by.
     next-plain (bound_each (key_bound cat t by.method) (keys_of x xs)) _ (each-plain (key_bound cat t by.method) (keys_of x xs) (key-plain cat t by.method)) (λ keys.
     next-plain (bound_each (name_bound cat t) (names_of c)) _ (each-plain (name_bound cat t) (names_of c) (include-plain cat t)) (λ names.
     next-plain (condition_bound (record { contents = cat; table = t; alias = bytes_of of }) w) _ (condition-plain (record { contents = cat; table = t; alias = bytes_of of }) w) (λ predicate.
     limits-plain start n t by keys names predicate)))))
+
+meaning-plain : (cat : Contents) (x : CreateIndex) → IsPlain (meaning cat x)
+meaning-plain cat (index_on start i n o of u p x xs m c w e) = cand-plain cat start (cand_on n o of u p x xs m c w)
 
 no-field : (c : Contents) (f : Fault) → f.rec ≡ 0 → IsFieldOf c f
 no-field c f none = λ field some. absurd (omega (arith, none, some))

@@ -19,3 +19,6 @@ pub mod OneIndexLemmas
 pub mod LoadingLemmas
 pub mod WordPlaceLemmas
 pub mod ReplyLemmas
+pub mod PlainAdviceLemmas
+pub mod OneAdviceLemmas
+pub mod AdvisingLemmas

@@ -23,7 +23,7 @@ other cs n x lt at h among =
     let before : among.0 < n = omega (arith, len, among.1) in
     h among.0 n x before lt (sym (get_or-take n cs among.0 x before) ∙ among.2 ∙ sym at)
 
-twice : (cs : List ColNo) (place : ℕ) → IsFirstTwice cs place → AreDifferent cs → ⊥
+pub twice : (cs : List ColNo) (place : ℕ) → IsFirstTwice cs place → AreDifferent cs → ⊥
 twice cs place p different = other cs place (get_or cs place first_column) p.within (get_or_default cs place (get_or cs place first_column) first_column p.within) different p.twice
 
 -- no first one stands before another
@@ -35,7 +35,7 @@ later cs p q h k lt =
     let some : Contains (take p (take q cs)) x = subst (λ l. Contains l x) (sym (take-take p q cs (omega (arith, lt)))) h.twice in
     other (take q cs) p x (omega (arith, len, h.within, k.within, lt)) at k.before some
 
-one_twice : (cs : List ColNo) (p q : ℕ) → IsFirstTwice cs p → IsFirstTwice cs q → p ≡ q
+pub one_twice : (cs : List ColNo) (p q : ℕ) → IsFirstTwice cs p → IsFirstTwice cs q → p ≡ q
 one_twice cs p q h k = elim (cases_lt p q) [
   | inl lt ↦ absurd (later cs p q h k lt)
   | inr le ↦ elim (cases_lt q p) [ inl lt ↦ absurd (later cs q p k h lt) | inr ge ↦ omega (arith, le, ge) ]

@@ -5,7 +5,7 @@ use Rattle.sql_lex.specs.declared.tokens.Token.{Token}
 use Rattle.pg_base.specs.Faults.{syntax_fault}
 use Rattle.sql_lex.proofs.UniqueLaws.{one_list, one_fault, no_fault}
 use Rattle.sql_grammar.specs.Terminals.{token_of}
-use Rattle.sql_grammar.specs.Syntax.{CreateIndex, OrderedSelect, Statement, empty, create_table, create_index, query, copy, sizes, column_statistics, analyze}
+use Rattle.sql_grammar.specs.Syntax.{Advise, CreateIndex, OrderedSelect, Statement, empty, create_table, create_index, query, copy, sizes, column_statistics, analyze, advise as advise_tree, check, use_plan}
 use Rattle.sql_grammar.specs.Faults.{bytes_of, IsStatement, terminals}
 use Rattle.catalog.specs.Contents.{Contents}
 use Rattle.catalog.specs.Tables.{IsIndexRefusal, table_named}
@@ -20,12 +20,15 @@ use Rattle.sql_query.specs.Queries.{Query}
 use Rattle.sql_query.specs.WellBound.{given_of}
 use Rattle.eq_classes.proofs.UniqueLemmas.{table_one}
 use Rattle.sql_query.specs.Worlds.{World, stored_at}
-use Rattle.definitions.specs.Actions.{Action, answer, build, explain, fill}
-use Rattle.pgplan.specs.Accepted.{Answers, Carries, Does, Indexes, IsReadOver, IsRead, asked}
-use Rattle.pgplan.specs.Faults.{index_fault, word_ends, rows_fault, IsRefused, IsDefinitionFault, IsIndexFault, IsQueryFault, IsMeaningFault, IsFaultOver, in_syntax, in_meaning, IsFault, in_words, after_words}
+use Rattle.definitions.specs.Actions.{Action, advise, answer, build, explain, fill}
+use Rattle.pgplan.specs.Accepted.{Advises, Answers, Carries, Does, Indexes, IsReadOver, IsRead, asked}
+use Rattle.pgplan.specs.Faults.{index_fault, word_ends, rows_fault, IsRefused, IsAdviseFault, IsDefinitionFault, IsIndexFault, IsQueryFault, IsMeaningFault, IsFaultOver, in_syntax, in_meaning, IsFault, in_words, after_words}
 use Rattle.reply.specs.Answers.{HasNoPlan}
 use Rattle.reply.specs.Replies.{Reply}
 use Rattle.pgplan.specs.Replies.{IsReply}
+use Rattle.advise_reader.specs.Meaning.{Asked}
+use Rattle.index_prices.specs.Replies.{HasNoAdviceFor}
+use Rattle.pgplan.proofs.OneAdviceLemmas.{no-advice-told, one-advice}
 use Rattle.pgplan.proofs.OneIndexLemmas.{one_index_refusal, no_index_refusal}
 use Rattle.sql_grammar.proofs.StatementTrees.{one_tree}
 use Rattle.pgplan.proofs.FirstFaultLemmas.{one_first, no_first}
@@ -36,6 +39,9 @@ one_meaning : (c : Contents) (text : List ℕ) (x : Statement) (r s : Result Rea
 one_meaning c text (empty e) r s h k = absurd h
 one_meaning c text (create_index x) r s h k = absurd h
 one_meaning c text (query x) r s h k = absurd h
+one_meaning c text (advise_tree x) r s h k = absurd h
+one_meaning c text (check p t x e) r s h k = absurd h
+one_meaning c text (use_plan p t u q y e) r s h k = absurd h
 one_meaning c text (create_table a t n o d ds m e) r s h k = h ∙ sym k
 one_meaning c text (sizes k n d p e) r s h l = h ∙ sym l
 one_meaning c text (column_statistics k n d i nulls commons bounds e) r s h l = h ∙ sym l
@@ -73,6 +79,11 @@ module _ (w : World) (text : List ℕ) (tokens : List Token) where
       let same : r ≡ s = cc in
       (i ∙ (ap (λ (y : IndexReading). build y.name y.index) same ∙ sym j), p ∙ sym q)
 
+  -- ADVISE tells one thing
+  one_advised : (x : Advise) (a b : Action) → Advises w tokens x a → Advises w tokens x b → a ≡ b
+  one_advised x a b (p, h, left, i) (q, k, right, j) =
+      i ∙ (ap (λ (y : Asked). advise y.most y.candidates y.queries) (one-advice w.contents tokens x (Ok p) (Ok q) h k left right) ∙ sym j)
+
   one_done : (x : Statement) (a b : Action) (m n : ℕ) → Does w text tokens x a m → Does w text tokens x b n → (a ≡ b) × (m ≡ n)
   one_done (empty e) a b m n h k = (h.0 ∙ sym k.0, h.1 ∙ sym k.1)
   one_done (create_index x) a b m n h k = one_index x a b m n h k
@@ -84,6 +95,9 @@ module _ (w : World) (text : List ℕ) (tokens : List Token) where
   one_done (column_statistics c i d p nulls commons bounds e) a b m n (r, h, u) (s, k, v) = one_defined (column_statistics c i d p nulls commons bounds e) a b m n r s h k u v
   one_done (create_table c t i o d ds z e) a b m n (r, h, p) (s, k, q) = one_defined (create_table c t i o d ds z e) a b m n r s h k p q
   one_done (analyze v c i e) a b m n (r, h, p) (s, k, q) = one_defined (analyze v c i e) a b m n r s h k p q
+  one_done (advise_tree x) a b m n (h, i) (k, j) = (one_advised x a b h k, i ∙ sym j)
+  one_done (check p c x e) a b m n h k = absurd h
+  one_done (use_plan p c d q y e) a b m n h k = absurd h
   one_done (copy c i null) a b m n (r, h, p) (s, k, q) = one_defined (copy c i null) a b m n r s h k p q
 
   one_over : (a b : Action) (m n : ℕ) → IsReadOver w text tokens a m → IsReadOver w text tokens b n → (a ≡ b) × (m ≡ n)
@@ -172,6 +186,21 @@ module _ (w : World) (text : List ℕ) (tokens : List Token) where
       let plans = subst (λ (z : Bound). HasNoPlan w.contents (query_with u z)) same none in
       has-plan (is_explained (terminals text tokens)) (query_with t p) r (subst (λ (z : Action). IsReply w z r) is reply) (subst (λ z. HasNoPlan w.contents (query_with z p)) one plans)
 
+  one_unadvised : (x : Advise) (f g : Fault) → IsAdviseFault w tokens x f → IsAdviseFault w tokens x g → f ≡ g
+  one_unadvised x f g (inl h) (inl k) = one-advice w.contents tokens x (Err f) (Err g) h k
+  one_unadvised x f g (inl h) (inr (q, k, unadvised)) = absurd (one-advice w.contents tokens x (Err f) (Ok q) h k)
+  one_unadvised x f g (inr (p, h, unadvised)) (inl k) = absurd (one-advice w.contents tokens x (Ok p) (Err g) h k)
+  one_unadvised x f g (inr (p, h, (left, none, at))) (inr (q, k, (right, none', at'))) = at ∙ sym at'
+
+  -- what is told is an advice
+  has-advice : (x : Advise) (a : Action) (n : ℕ) (r : Reply) (f : Fault) → Does w text tokens (advise_tree x) a n → IsReply w a r → IsAdviseFault w tokens x f → ⊥
+  has-advice x a n r f ((p, h, left, i), y) reply (inl k) = one-advice w.contents tokens x (Ok p) (Err f) h k
+  has-advice x a n r f ((p, h, left, i), y) reply (inr (q, k, (right, none, at))) =
+      let same : p ≡ q = one-advice w.contents tokens x (Ok p) (Ok q) h k left right in
+      let told : IsReply w (advise p.most p.candidates p.queries) r = subst (λ (z : Action). IsReply w z r) i reply in
+      let less : HasNoAdviceFor w.contents p.candidates p.queries p.most = subst (λ (z : Asked). HasNoAdviceFor w.contents z.candidates z.queries z.most) (sym same) none in
+      no-advice-told w.contents p.candidates p.queries p.most r.bytes told.0 less
+
   one_meant : (x : Statement) (f g : Fault) → IsMeaningFault w text tokens x f → IsMeaningFault w text tokens x g → f ≡ g
   one_meant (empty e) f g h k = absurd h
   one_meant (create_index x) f g h k = one_indexed x f g h k
@@ -180,6 +209,9 @@ module _ (w : World) (text : List ℕ) (tokens : List Token) where
   one_meant (sizes c n r p e) f g h k = one_definition (sizes c n r p e) f g h k
   one_meant (column_statistics c n d i nulls commons bounds e) f g h k = one_definition (column_statistics c n d i nulls commons bounds e) f g h k
   one_meant (analyze p c n e) f g h k = one_definition (analyze p c n e) f g h k
+  one_meant (advise_tree x) f g h k = one_unadvised x f g h k
+  one_meant (check p c x e) f g h k = absurd h
+  one_meant (use_plan p c d q y e) f g h k = absurd h
   one_meant (copy c n null) f g h k = one_definition (copy c n null) f g h k
 
   not_meant : (x : Statement) (a : Action) (n : ℕ) (r : Reply) (f : Fault) → Does w text tokens x a n → IsReply w a r → IsMeaningFault w text tokens x f → ⊥
@@ -190,6 +222,9 @@ module _ (w : World) (text : List ℕ) (tokens : List Token) where
   not_meant (sizes c i d p e) a n r f (s, h, u) reply k = no_definition (sizes c i d p e) a n s f h u k
   not_meant (column_statistics c i d p nulls commons bounds e) a n r f (s, h, u) reply k = no_definition (column_statistics c i d p nulls commons bounds e) a n s f h u k
   not_meant (analyze v c i e) a n r f (s, h, p) reply k = no_definition (analyze v c i e) a n s f h p k
+  not_meant (advise_tree x) a n r f h reply k = has-advice x a n r f h reply k
+  not_meant (check p c x e) a n r f h reply k = absurd k
+  not_meant (use_plan p c d q y e) a n r f h reply k = absurd k
   not_meant (copy c i null) a n r f (s, h, p) reply k = no_definition (copy c i null) a n s f h p k
 
   one_fault_over : (f g : Fault) → IsFaultOver w text tokens f → IsFaultOver w text tokens g → f ≡ g

@@ -20,7 +20,7 @@ use Rattle.sql_lex.specs.declared.tokens.Token.{Token}
 use Rattle.sql_lex.specs.Forms.{IsToken, symbols}
 use Rattle.sql_lex.specs.Words.{AreWords, IsNext, is_last}
 use Rattle.sql_grammar.specs.Terminals.{Ident, Said, token_of}
-use Rattle.sql_grammar.specs.Syntax.{CopyWords, Lit, Statement, empty, create_table, create_index, query, copy, sizes, column_statistics, analyze}
+use Rattle.sql_grammar.specs.Syntax.{CopyWords, Lit, Statement, empty, create_table, create_index, query, copy, sizes, column_statistics, analyze, advise, check, use_plan}
 use Rattle.sql_grammar.specs.Words.{words_of}
 use Rattle.sql_grammar.specs.Faults.{bytes_of, fault_at, terminals}
 use Rattle.sql_grammar.specs.CopyLine.{IsDataStart, after_blanks}
@@ -142,8 +142,8 @@ table-behind w text tokens action next name token (Ok bs) r e c =
     carried-table w text tokens r.definition action next name _ _ (is-table name token bs (drop MOST_COLUMNS bs) r e) c
 
 is-data : (t : Option TableNo) (name null_at : Token) (null : List ℕ) (same : Bool) (start : ℕ) (r : Reading) → (u : TableNo) →
-    Ok r ≡ cond same (Ok (record { definition = data_for u start; at = []; method = 0 })) (Err (fault_at S17 null_at)) → r.definition ≡ data_for u start
-is-data t name null_at null true start r u e = let is : r ≡ record { definition = data_for u start; at = []; method = 0 } = cc in ap (λ (x : Reading). x.definition) is
+    Ok r ≡ cond same (Ok (record { definition = data_for u start; at = [] })) (Err (fault_at S17 null_at)) → r.definition ≡ data_for u start
+is-data t name null_at null true start r u e = let is : r ≡ record { definition = data_for u start; at = [] } = cc in ap (λ (x : Reading). x.definition) is
 is-data t name null_at null false start r u e = cc
 
 data-behind : (w : World) (text : List ℕ) (tokens : List Token) (action : Action) (next from : ℕ) (t : Option TableNo) (name null_at : Token) (null : List ℕ) (start : Result ℕ Fault) (r : Reading) →
@@ -211,6 +211,9 @@ does-behind w text from tokens (column_statistics k n c d nulls commons bounds e
     (ends-behind text from tokens words)
 does-behind w text from tokens (analyze p k n e) action next words spelled does =
     at-end-of text from next (end_of tokens) (last-by w text tokens does.0 (analysis w.contents n) action next does.1 (analysis-last w text tokens w.contents n) does.2) (ends-behind text from tokens words)
+does-behind w text from tokens (advise x) action next words spelled does = at-end-of text from next (end_of tokens) does.1 (ends-behind text from tokens words)
+does-behind w text from tokens (check p k x s) action next words spelled does = absurd does
+does-behind w text from tokens (use_plan p k l q y s) action next words spelled does = absurd does
 does-behind w text from tokens (copy k n null) action next words spelled does =
     behind-data text from k.stop.end (end_of tokens) next (copy-end text tokens k n null spelled) (ends-behind text from tokens words)
     (data-behind w text tokens action next k.stop.end (table_named w.contents (bytes_of n)) (token_of n) null.token null.value does.1.0 does.0 does.1.1 does.1.2 does.2)

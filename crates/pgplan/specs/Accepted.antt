@@ -1,12 +1,14 @@
 -- Which statement begins at a place of a script, what it does, and where the next one begins (PostgreSQL manual, chapter SQL
 -- Commands).
-use Rattle.std.specs.Prelude.{◌≡◌, ℕ, true, cond, List, slice_range, Ok}
+use Rattle.std.specs.Prelude.{◌≡◌, ℕ, true, cond, All, List, slice_range, Ok}
 use Rattle.sql_lex.specs.declared.tokens.Token.{Token}
 use Rattle.sql_lex.specs.Ends.{token_at, end_of}
 use Rattle.sql_lex.specs.Words.{AreWords}
-use Rattle.sql_grammar.specs.Syntax.{CreateIndex, Statement, empty, create_table, create_index, query, copy, sizes, column_statistics, analyze}
+use Rattle.sql_grammar.specs.Syntax.{Advise, CreateIndex, Statement, empty, create_table, create_index, query, copy, sizes, column_statistics, analyze, advise as advise_tree, check, use_plan}
 use Rattle.sql_grammar.specs.Faults.{terminals}
 use Rattle.sql_grammar.specs.Spelled.{IsSpelled}
+use Rattle.advise_reader.specs.Meaning.{Asked, Means as AdviseMeans}
+use Rattle.catalog.specs.Contents.{Contents}
 use Rattle.catalog.specs.Statistics.{AreAllowed, is_count}
 use Rattle.catalog.specs.Tables.{IsAcceptable, IsAcceptableIndex}
 use Rattle.eq_classes.specs.Clauses.{Table}
@@ -22,7 +24,7 @@ use Rattle.query_reader.specs.Select.{is_explained}
 use Rattle.sql_query.specs.Queries.{Query}
 use Rattle.sql_query.specs.WellBound.{given_of}
 use Rattle.sql_query.specs.Worlds.{World, stored_at}
-use Rattle.definitions.specs.Actions.{Action, idle, make, build, size, describe, fill, gather, answer, explain}
+use Rattle.definitions.specs.Actions.{Action, idle, make, build, size, describe, fill, gather, answer, explain, advise}
 
 -- what a definition does, and the offset after it: a table is accepted by the catalogue; so are the sizes of a table and the
 -- statistics of a column; data go up to the line that ends them, and the table takes them; and the statistics of a table are
@@ -52,7 +54,15 @@ asked text tokens q = cond (is_explained (terminals text tokens)) (explain q) (a
 abbrev pub Answers : World → List ℕ → List Token → Bound → Action → Type 0
 Answers w text tokens b action = (t : Table) × IsClassTable (given_of w.contents (query_with t b)) t × (action ≡ asked text tokens (query_with t b))
 
--- what a statement of these tokens does, and the offset after it
+-- each query has the table of its classes
+abbrev pub HaveClasses : Contents → List Query → Type 0
+HaveClasses c queries = All (λ q. IsClassTable (given_of c q) q.classes) queries
+
+-- what ADVISE of these tokens does: it tells which of the candidates to make for the queries with their classes
+abbrev pub Advises : World → List Token → Advise → Action → Type 0
+Advises w tokens x action = (a : Asked) × AdviseMeans w.contents tokens x (Ok a) × HaveClasses w.contents a.queries × (action ≡ advise a.most a.candidates a.queries)
+
+-- what a statement of these tokens does, and the offset after it. Productions that are not offered do nothing
 abbrev pub Does : World → List ℕ → List Token → Statement → Action → ℕ → Type 0
 Does w text tokens (empty e) action next = (action ≡ idle) × (next ≡ end_of tokens)
 Does w text tokens (create_index x) action next = Indexes w tokens x action next
@@ -62,6 +72,9 @@ Does w text tokens (sizes k n r p e) action next = Defines w text tokens (sizes 
 Does w text tokens (column_statistics k n c d nulls commons bounds e) action next = Defines w text tokens (column_statistics k n c d nulls commons bounds e) action next
 Does w text tokens (copy k n null) action next = Defines w text tokens (copy k n null) action next
 Does w text tokens (analyze p k n e) action next = Defines w text tokens (analyze p k n e) action next
+Does w text tokens (advise_tree x) action next = Advises w tokens x action × (next ≡ end_of tokens)
+Does w text tokens (check p k x s) action next = ⊥
+Does w text tokens (use_plan p k l q y s) action next = ⊥
 
 -- the tokens are a statement that does this
 pub record IsReadOver (w : World) (text : List ℕ) (tokens : List Token) (action : Action) (next : ℕ) : Type 0 where

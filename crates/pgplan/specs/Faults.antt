@@ -10,9 +10,10 @@ use Rattle.pg_base.specs.declared.faults.Fault.{Fault}
 use Rattle.pg_base.specs.Faults.{data_fault, syntax_fault, words_fault}
 use Rattle.sql_lex.specs.declared.tokens.Token.{Token}
 use Rattle.sql_lex.specs.Words.{AreWords, IsWordFault}
-use Rattle.sql_grammar.specs.Syntax.{OrderedSelect, CreateIndex, Statement, empty, create_table, create_index, query, copy, sizes, column_statistics, analyze}
+use Rattle.sql_grammar.specs.Syntax.{Advise, OrderedSelect, CreateIndex, Statement, empty, create_table, create_index, query, copy, sizes, column_statistics, analyze, advise, check, use_plan}
 use Rattle.sql_grammar.specs.Faults.{IsStatement, IsFirstFault, fault_at, terminals}
 use Rattle.sql_grammar.specs.Spelled.{IsSpelled}
+use Rattle.advise_reader.specs.Meaning.{Asked, Means as AdviseMeans}
 use Rattle.catalog.specs.declared.fault.CatalogFault.{CatalogFault}
 use Rattle.catalog.specs.declared.fault.CatalogFault.TheVariants as refused
 use Rattle.catalog.specs.Tables.{IsRefusal, IsIndexRefusal, IsSizeRefusal, IsStatisticsRefusal}
@@ -24,6 +25,7 @@ use Rattle.ddl_reader.specs.Tables.{Definition, table, sizes_for, statistics_for
 use Rattle.heap.specs.declared.fault.CopyFault.{CopyFault}
 use Rattle.heap.specs.declared.fault.CopyFault.TheVariants as copying
 use Rattle.heap.specs.Loading.{records_of, loaded}
+use Rattle.index_prices.specs.Replies.{HasNoAdviceFor}
 use Rattle.index_reader.specs.Meaning.{Reading as IndexReading, meaning}
 use Rattle.query_reader.specs.Binding.{Bound, bound, query_with}
 use Rattle.query_reader.specs.Select.{words_before}
@@ -31,6 +33,7 @@ use Rattle.reply.specs.Answers.{HasNoPlan}
 use Rattle.sql_query.specs.WellBound.{given_of}
 use Rattle.sql_query.specs.Worlds.{World, stored_at}
 use Rattle.sql_lex.specs.Ends.{token_at}
+use Rattle.pgplan.specs.Accepted.{HaveClasses}
 
 -- where the words end that begin at these offsets
 abbrev pub word_ends : List ℕ → List (List ℕ) → List ℕ
@@ -121,7 +124,19 @@ abbrev pub IsQueryFault : World → List ℕ → List Token → OrderedSelect �
 IsQueryFault w text tokens x f =
     (bound w.contents (token_at tokens 0) x ≡ Err f) ⊎ ((b : Bound) × (bound w.contents (token_at tokens 0) x ≡ Ok b) × IsUnplanned w text tokens b f)
 
--- the first fault of a statement whose syntax has none
+-- that there is no advice is at fault at the word ADVISE
+abbrev pub no_advice : List Token → Fault
+no_advice tokens = fault_at S16 (token_at tokens 0)
+
+-- with no set of at most so many of the candidates each query, with its classes, has an admissible plan
+abbrev pub IsUnadvised : World → List Token → Asked → Fault → Type 0
+IsUnadvised w tokens a f = HaveClasses w.contents a.queries × HasNoAdviceFor w.contents a.candidates a.queries a.most × (f ≡ no_advice tokens)
+
+-- a fault of ADVISE: in its names and limits, or that there is no advice
+abbrev pub IsAdviseFault : World → List Token → Advise → Fault → Type 0
+IsAdviseFault w tokens x f = AdviseMeans w.contents tokens x (Err f) ⊎ ((a : Asked) × AdviseMeans w.contents tokens x (Ok a) × IsUnadvised w tokens a f)
+
+-- the first fault of a statement whose syntax has none. Productions that are not offered have none
 abbrev pub IsMeaningFault : World → List ℕ → List Token → Statement → Fault → Type 0
 IsMeaningFault w text tokens (empty e) f = ⊥
 IsMeaningFault w text tokens (create_index x) f = IsIndexFault w tokens x f
@@ -131,6 +146,9 @@ IsMeaningFault w text tokens (sizes k n r p e) f = IsDefinitionFault w text (siz
 IsMeaningFault w text tokens (column_statistics k n c d nulls commons bounds e) f = IsDefinitionFault w text (column_statistics k n c d nulls commons bounds e) f
 IsMeaningFault w text tokens (copy k n null) f = IsDefinitionFault w text (copy k n null) f
 IsMeaningFault w text tokens (analyze p k n e) f = IsDefinitionFault w text (analyze p k n e) f
+IsMeaningFault w text tokens (advise x) f = IsAdviseFault w tokens x f
+IsMeaningFault w text tokens (check p k x s) f = ⊥
+IsMeaningFault w text tokens (use_plan p k l q y s) f = ⊥
 
 -- the first fault of a statement whose words have none: of its syntax, or of what it means
 pub data IsFaultOver (w : World) (text : List ℕ) (tokens : List Token) (f : Fault) : Type 0 where

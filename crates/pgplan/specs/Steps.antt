@@ -2,6 +2,7 @@
 use Rattle.std.specs.Prelude.{ℕ, ◌≡◌, ◌⊎◌, ◌+◌, ◌≤◌, List, [], slice_range, Ok}
 use Rattle.pg_base.specs.declared.numbers.TableNo.{TableNo}
 use Rattle.sql_lex.specs.declared.tokens.Token.{Token}
+use Rattle.sql_lex.specs.Ends.{end_of}
 use Rattle.catalog.specs.Contents.{Contents}
 use Rattle.ddl_reader.specs.Block.{IsBlockEnd}
 use Rattle.ddl_reader.specs.Tables.{Definition, data_for}
@@ -16,7 +17,7 @@ use Rattle.pgplan.specs.declared.end.End.TheVariants as ends
 use Rattle.definitions.specs.Actions.{Action, after}
 use Rattle.pgplan.specs.Accepted.{IsRead, IsReadOver}
 use Rattle.pgplan.specs.Faults.{IsFault, IsFaultOver, IsRefused}
-use Rattle.pgplan.specs.Replies.{IsReply, silent}
+use Rattle.pgplan.specs.Replies.{IsReply, silent, told}
 
 -- the statement at this place was read and carried out, and out gained its reply
 pub record Advances (w w' : World) (text : List ℕ) (at next : ℕ) (old new : Traces) : Type 0 where
@@ -79,15 +80,22 @@ RefusesData (ends.Fault f) w text t start looked looked' = RefusesDefinition (en
 RefusesData ends.Write w text t start looked looked' = ⊥
 RefusesData ends.Memory w text t start looked looked' = (looked' ≡ looked) ⊎ AreLoaded w text t start looked looked'
 
--- the tokens are a query, whose reply out gained
+-- the tokens are a query or an ADVISE, whose reply out gained
 abbrev pub IsAnsweredOver : World → List ℕ → List Token → ℕ → Traces → Traces → Type 0
 IsAnsweredOver w text tokens next old new = (action : Action) × IsReadOver w text tokens action next × (w ≡ after w action) × HasReplied (IsReply w action) old new
 
--- the tokens are a query, and out gained some first bytes of its reply
+-- the tokens are a query or an ADVISE, and out gained some first bytes of its reply
 abbrev pub IsBegunOver : World → List ℕ → List Token → Traces → Traces → Type 0
 IsBegunOver w text tokens old new = (action : Action) × (next : ℕ) × IsReadOver w text tokens action next × HasBegun (IsReply w action) old new
 
--- why the query of these tokens was not answered whole
+-- the tokens are an ADVISE, and these lines are its reply
+pub record IsAdvised (w : World) (text : List ℕ) (tokens : List Token) (lines : List ℕ) : Type 0 where
+  pub action : Action
+  pub read : IsReadOver w text tokens action (end_of tokens)
+  pub still : w ≡ after w action
+  pub reply : IsReply w action (told lines)
+
+-- why the query or the ADVISE of these tokens was not answered whole
 abbrev pub StopsOver : End → World → List ℕ → List Token → Traces → Traces → Type 0
 StopsOver (ends.Fault f) w text tokens old new = IsFaultOver w text tokens f × IsFieldOf w.contents f × (new ≡ old)
 StopsOver ends.Write w text tokens old new = IsBegunOver w text tokens old new

@@ -1,6 +1,7 @@
-//! pgplan: reads a script, plans and runs its queries, and prints plans and rows.
+//! pgplan: reads a script, plans and runs its queries, and prints plans, rows and advice.
 #![tactic(auto)]
 
+mod advising;
 mod define;
 mod end;
 mod faults;

@@ -7,10 +7,12 @@ ghost use Rattle.reply.specs.Putting.{HasWriteCause};
 ghost use Rattle.reply.specs.Replies.{traces};
 ghost use Rattle.pgplan.specs.Steps.{Advances, Stops};
 
+use crate::advising::advise;
 use crate::define::define;
 use crate::end::End;
 use crate::index::create_index;
 use crate::query::answer_query;
+use advise_reader::is_advise;
 use catalog::Catalog;
 use ddl_reader::{is_ddl, is_index};
 use heap::Counters;
@@ -68,7 +70,8 @@ impl<C: Counters> Machine<C> {
     /// found that are looked at, and the rows that indexes are built over and that statistics are gathered from. The text has at most `MOST_SCRIPT_BYTES` bytes, and `at` is at most its length.
     ///
     /// The refusal is the statement's first fault, of its words, its syntax, its names, its limits, its data, of the
-    /// catalogue, or that it has no admissible plan; or a failed out, or want of memory. The machine is then as before, and with a fault nothing was written.
+    /// catalogue, that it has no admissible plan, or, of ADVISE, no advice; or a failed out, or want of memory. The machine is then
+    /// as before, and with a fault nothing was written.
     pub fn step<K: Sink>(
         &mut self,
         text: &[u8],
@@ -109,6 +112,9 @@ impl<C: Counters> Machine<C> {
                 &mut self.store,
                 reads,
             );
+        }
+        if is_advise(text, &tokens) {
+            return advise(self.alloc, text, &tokens, &self.catalog, out);
         }
         answer_query(
             self.alloc,

@@ -20,7 +20,7 @@ use crate::end::End;
 use catalog::Catalog;
 use heap::Counters;
 use pg_base::{Code, Sink, Steps};
-use query_reader::{explains, read_select};
+use query_reader::{a_statement_has_its_select, explains, read_select};
 use reply::{Stop, answer, explain_query};
 use sql_grammar::fault_at;
 use sql_lex::{Token, Tokens};
@@ -51,6 +51,7 @@ pub(crate) fn answer_query<C: Counters, K: Sink>(
 {
     let explained = explains(text, tokens);
     let first = u32::from(explained);
+    a_statement_has_its_select();
     let query = read_select(alloc, catalog, text, tokens, first)?;
     let select = token_at(tokens, first);
     match print(
@@ -87,7 +88,7 @@ fn print<C: Counters, K: Sink>(
 }
 
 /// The token of a number.
-fn token_at(tokens: &Tokens, n: u32) -> Token
+pub(crate) fn token_at(tokens: &Tokens, n: u32) -> Token
     requires { n < length tokens.now }
     ensures { result ≡ token_of_number tokens.now n }
 {

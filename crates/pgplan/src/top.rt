@@ -27,8 +27,10 @@ use std::sync::ledger::{Blank, Ledger};
 ///
 /// For every script read to its end, each SELECT prints a plan of the written plan space at its own costs that no admissible
 /// plan undercuts in price; the rows printed are, in order, the window of LIMIT and OFFSET of those that this plan gives, which
-/// as a bag, before the window, are the query's meaning in three-valued logic, in its ORDER BY. A statement is refused only for
-/// the fault that is named, which may be that no plan is admissible, or for want of memory.
+/// as a bag, before the window, are the query's meaning in three-valued logic, in its ORDER BY. ADVISE prints which of its
+/// candidate indexes, at most so many, to make so that the least prices of its queries come to the least sum, and that sum, and
+/// makes none. A statement is refused only for the fault that is named, which may be that no plan is admissible, or no advice to be
+/// had, or for want of memory.
 pub fn pgplan<S: Source, K: Sink, E: Sink>(
     alloc: Global,
     words: &[String],

@@ -1,11 +1,11 @@
-use Rattle.std.proofs.Common.{◌≡◌, length, arith, sym, subst, ap, ◌∙◌}
-use Rattle.std.proofs.lemmas.Result.{IfErr-weaker}
+use Rattle.std.proofs.Common.{◌≡◌, [], length, arith, sym, subst, ap, ◌∙◌}
+use Rattle.std.proofs.lemmas.Result.{IfErr-weaker, IfOk-weaker}
 use Rattle.sql_query.specs.Worlds.{world}
 use Rattle.reply.specs.Replies.{traces}
-use Rattle.pgplan.specs.Steps.{Refuses, StopsOver}
+use Rattle.pgplan.specs.Steps.{IsAnsweredOver, Refuses, StopsOver}
 use Rattle.pgplan.proofs.PlaceLemmas.{ends-behind}
 use Rattle.pgplan.proofs.QueryLemmas.{are-no-other}
-use Rattle.pgplan.proofs.SteppingLemmas.{done-idle, defined-ahead, defined-inside, answered-ahead, answered-inside, stopped-definition, stopped-query}
+use Rattle.pgplan.proofs.SteppingLemmas.{done-idle, done-query, defined-ahead, defined-inside, answered-ahead, answered-inside, stopped-definition, stopped-query}
 use Rattle.pgplan.proofs.machine.Machine.step.Goals as goal
 
 pub returns-then-items-eq1-clause-done : goal.returns-then-items-eq1-clause-done
@@ -52,3 +52,31 @@ returns-clause-stopped g c =
     let tokens = c.in_ok-tokens.tokens in
     IfErr-weaker c.answer_query.result _ _
     (λ e h. stopped-query e c.args.self.now text c.args.at tokens old new c.in_ok-tokens.ensures.words (subst (λ w. StopsOver e w text tokens old new) c.self.view_is h)) c.answer_query.ensures.stopped
+
+pub returns-then-is_advise-clause-done : goal.returns-then-is_advise-clause-done
+returns-then-is_advise-clause-done g c =
+    let old = traces (g.K.Sink.held c.args.out.now) c.args.fetches.now c.args.reads.now in
+    let new = traces (g.K.Sink.held c.advise.new.out) c.args.fetches.now c.args.reads.now in
+    let text = c.args.text.now in
+    let tokens = c.in_ok-tokens.tokens in
+    IfOk-weaker c.advise.result _ _
+    (λ next h. done-query c.args.self.now text c.args.at next tokens old new c.in_ok-tokens.ensures.words (subst (λ w. IsAnsweredOver w text tokens next old new) c.self.view_is h))
+    (c.advise.ensures.answered c.self.inside.store.stored c.args.fetches.now c.args.reads.now)
+
+pub returns-then-is_advise-clause-stopped : goal.returns-then-is_advise-clause-stopped
+returns-then-is_advise-clause-stopped g c =
+    let old = traces (g.K.Sink.held c.args.out.now) c.args.fetches.now c.args.reads.now in
+    let new = traces (g.K.Sink.held c.advise.new.out) c.args.fetches.now c.args.reads.now in
+    let text = c.args.text.now in
+    let tokens = c.in_ok-tokens.tokens in
+    IfErr-weaker c.advise.result _ _
+    (λ e h. stopped-query e c.args.self.now text c.args.at tokens old new c.in_ok-tokens.ensures.words (subst (λ w. StopsOver e w text tokens old new) c.self.view_is h))
+    (c.advise.ensures.stopped c.self.inside.store.stored c.args.fetches.now c.args.reads.now)
+
+pub returns-then-is_advise-clause-ahead : goal.returns-then-is_advise-clause-ahead
+returns-then-is_advise-clause-ahead g c =
+    answered-ahead _ c.args.text.now c.args.at c.in_ok-tokens.tokens _ _ c.advise.result c.in_ok-tokens.ensures.words (c.advise.ensures.answered [] 0 0)
+
+pub returns-then-is_advise-clause-inside : goal.returns-then-is_advise-clause-inside
+returns-then-is_advise-clause-inside g c =
+    answered-inside _ c.args.text.now c.args.at c.in_ok-tokens.tokens _ _ c.advise.result c.in_ok-tokens.ensures.words (c.advise.ensures.answered [] 0 0)

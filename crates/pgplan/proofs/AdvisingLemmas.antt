@@ -7,7 +7,7 @@ use Rattle.pg_base.specs.Writing.{AppendsPrefix}
 use Rattle.pg_base.specs.declared.faults.Fault.{Fault}
 use Rattle.pg_base.specs.declared.faults.Refusal.{Refusal}
 use Rattle.pg_base.specs.declared.faults.Refusal.TheVariants as refusal
-use Rattle.catalog.specs.Contents.{Contents}
+use Rattle.catalog.specs.Contents.{Contents, NamedIndex}
 use Rattle.fault_line.specs.Tells.{IsFieldOf}
 use Rattle.sql_lex.specs.declared.tokens.Token.{Token}
 use Rattle.sql_lex.specs.Ends.{end_of}
@@ -19,6 +19,7 @@ use Rattle.advise_reader.specs.Statements.{IsMeaning, IsRefusal}
 use Rattle.reply.specs.Effort.{HasRisen, exactly}
 use Rattle.reply.specs.Putting.{HasWriteCause}
 use Rattle.reply.specs.Replies.{HasBegun, HasReplied, traces}
+use Rattle.sql_query.specs.Queries.{Query}
 use Rattle.sql_query.specs.Worlds.{World}
 use Rattle.definitions.specs.Actions.{Action, advise, after}
 use Rattle.pgplan.specs.declared.end.End.{End}
@@ -57,6 +58,21 @@ module _ (w : World) (text : List ℕ) (tokens : List Token) where
     -- that there is none is its fault
     pub unadvised : HasNoAdviceFor w.contents a.candidates a.queries a.most → Refuses (ends.Fault (no_advice tokens)) w text tokens 0 0
     unadvised none = (in_meaning (advise_tree m.statement) m.spelled (inr (a, m.means, (classes, none, refl))), no-field w.contents (no_advice tokens) refl, refl)
+
+    -- what was found, for what the reader gave
+    pub found-advised : (candidates : List NamedIndex) (queries : List Query) (lines : List ℕ) → candidates ≡ a.candidates → queries ≡ a.queries → IsReplyTo w.contents candidates queries a.most lines → IsAdvised w text tokens lines
+    found-advised candidates queries lines cs qs is =
+        advised lines (subst (λ (xs : List NamedIndex). IsReplyTo w.contents xs a.queries a.most lines) cs (subst (λ (xs : List Query). IsReplyTo w.contents candidates xs a.most lines) qs is))
+
+    pub none-advised : (candidates : List NamedIndex) (queries : List Query) (f : Fault) → candidates ≡ a.candidates → queries ≡ a.queries → f ≡ no_advice tokens → HasNoAdviceFor w.contents candidates queries a.most → Refuses (ends.Fault f) w text tokens 0 0
+    none-advised candidates queries f cs qs same none =
+        subst (λ (g : Fault). Refuses (ends.Fault g) w text tokens 0 0) (sym same)
+        (unadvised (subst (λ (xs : List NamedIndex). HasNoAdviceFor w.contents xs a.queries a.most) cs (subst (λ (xs : List Query). HasNoAdviceFor w.contents candidates xs a.most) qs none)))
+
+  -- what a `?` hands on
+  pub refused-by : {A : Type 0} → (r : Result A End) (e : End) → Refuses e w text tokens 0 0 → IsErrAnd r (λ x. x ≡ e) → IfErr r (λ x. Refuses x w text tokens 0 0)
+  refused-by (Ok n) e is told = tt
+  refused-by (Err x) e is told = subst (λ (y : End). Refuses y w text tokens 0 0) (sym told) is
 
   -- lines that were not found
   pub refused-stops : (e : End) (held : Option (List ℕ)) (f l : ℕ) → Refuses e w text tokens 0 0 → StopsOver e w text tokens (traces held f l) (traces held f l)

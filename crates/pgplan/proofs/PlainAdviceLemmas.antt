@@ -76,8 +76,8 @@ advice-plain c tokens (advise_of p start n o x xs m q qs e) =
     then-plain ℕ Asked _ _ (plain-value (most_meant n) (most-plain n)) (λ most.
     then-plain (List NamedIndex) Asked _ _
     (read-plain Cand NamedIndex (CandidateMeans c start tokens)
-      (λ earlier y. then-plain Reading NamedIndex _ _ (plain-value (candidate_read c start (length earlier) y) (candidate-plain c start (length earlier) y)) (λ r. made-plain (with_candidates c earlier) tokens r))
-      [] (candidates_of x xs)) (λ candidates.
+    (λ earlier y. then-plain Reading NamedIndex _ _ (plain-value (candidate_read c start (length earlier) y) (candidate-plain c start (length earlier) y)) (λ r. made-plain (with_candidates c earlier) tokens r))
+    [] (candidates_of x xs)) (λ candidates.
     then-plain (List NamedIndex) Asked _ _ (plain-value (with_room c [] (map name_token (candidates_of x xs)) candidates) (room-plain c tokens [] (map name_token (candidates_of x xs)) candidates)) (λ all.
     then-plain (List Query) Asked _ _
     (read-plain Advised Query (QueryMeans c start) (λ earlier y. query-plain (query_bound c start (length earlier) y) (bound-plain c start (length earlier) y)) [] (q ∷ qs)) (λ queries.

@@ -1,4 +1,4 @@
-use Rattle.std.proofs.Common.{◌≡◌, ◌∙◌, ℕ, Ok, ap, arith, cond, rules, sym}
+use Rattle.std.proofs.Common.{◌≡◌, ◌∙◌, ℕ, Err, Ok, ap, arith, cond, rules, sym}
 use Rattle.sql_lex.specs.Ends.{token_at}
 use Rattle.sql_grammar.specs.Faults.{terminals}
 use Rattle.query_reader.specs.Select.{is_explained}
@@ -18,7 +18,7 @@ returns-in_err-query-clause-stopped g c =
     let refused = c.in_err-query.field-0.0 in
     stops-by c.from_residual.result (end_of_refusal refused) w text tokens here here
     (reading-stops w text tokens here refused c.requires.some
-    (grammar-of text tokens c.requires.kind c.from-first.result (λ s x is spelled. c.a_statement_has_its_select.ensures s x c.args.text.now c.args.tokens.now is spelled) (search rules) _ c.in_err-query.ensures.grammar)
+    (grammar-of text tokens c.requires.kind c.from-first.result (λ s x is spelled. c.a_statement_has_its_select.ensures s x c.args.text.now c.args.tokens.now is spelled) (search rules) (Err refused) c.in_err-query.ensures.grammar)
     (binds-of text tokens c.requires.kind c.from-first.result (λ s x is spelled. c.a_statement_has_its_select.ensures s x c.args.text.now c.args.tokens.now is spelled) (search rules) w _ c.in_err-query.ensures.binding))
     c.from_residual.ensures.1
 
@@ -30,7 +30,7 @@ returns-in-Ok-clause-answered g c =
     let text = c.args.text.now in
     let tokens = c.args.tokens.now in
     answered-over w text tokens (omega (arith, c.requires.some)) c.in_ok-query.query
-    (grammar-of text tokens c.requires.kind c.from-first.result (λ s x is spelled. c.a_statement_has_its_select.ensures s x c.args.text.now c.args.tokens.now is spelled) (search rules) _ c.in_ok-query.ensures.grammar)
+    (grammar-of text tokens c.requires.kind c.from-first.result (λ s x is spelled. c.a_statement_has_its_select.ensures s x c.args.text.now c.args.tokens.now is spelled) (search rules) (Ok c.in_ok-query.query) c.in_ok-query.ensures.grammar)
     (binds-of text tokens c.requires.kind c.from-first.result (λ s x is spelled. c.a_statement_has_its_select.ensures s x c.args.text.now c.args.tokens.now is spelled) (search rules) w _ c.in_ok-query.ensures.binding)
     c.in_ok-query.ensures.classes c.explains-explained.result c.explains-explained.ensures old new c.end.result c.end.ensures c.in-Ok.ensures.replied
 

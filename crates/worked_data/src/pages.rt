@@ -10,40 +10,28 @@ use std::alloc::{AllocError, Global};
 use std::marker::Brand;
 use std::sync::ledger::{Blank, Ledger};
 
-/// How numbers come to an index.
-#[derive(Clone, Copy)]
-enum Coming {
-    Rising,
-    Falling,
-    Scattered,
-}
-
-/// The number of a row. Rows have each another one where they rise or fall; scattered ones are below 65,536.
-fn number_of(coming: Coming, row: u32) -> i64 {
-    match coming {
-        Coming::Rising => i64::from(row),
-        Coming::Falling => -i64::from(row),
-        Coming::Scattered => i64::from(row.wrapping_mul(2_654_435_761) >> 16),
-    }
-}
-
-/// Adds the entries of so many rows one by one.
+/// Adds so many entries, the least number first or the greatest.
 fn put_numbers<L: Ledger>(
     alloc: Global,
     tree: &mut BTree<L>,
-    coming: Coming,
     count: u32,
+    falling: bool,
 ) -> Result<(), AllocError> {
     for row in 0..count {
-        put(alloc, tree, number_of(coming, row), row)?;
+        let number = if falling {
+            -i64::from(row)
+        } else {
+            i64::from(row)
+        };
+        put(alloc, tree, number, row)?;
     }
     Ok(())
 }
 
 /// How many leaves so many entries stand on.
-fn leaves_of<L: Ledger>(alloc: Global, coming: Coming, count: u32) -> Result<u32, AllocError> {
+fn leaves_of<L: Ledger>(alloc: Global, count: u32, falling: bool) -> Result<u32, AllocError> {
     let mut tree = of_numbers::<L>(alloc)?;
-    put_numbers(alloc, &mut tree, coming, count)?;
+    put_numbers(alloc, &mut tree, count, falling)?;
     Ok(tree.leaves())
 }
 
@@ -63,8 +51,8 @@ const LEAVES: [(u32, u32, u32); 8] = [
 /// The first row with other leaves.
 fn first_other<L: Ledger>(alloc: Global, rows: &[(u32, u32, u32)]) -> Option<u32> {
     for (count, rising, falling) in rows {
-        if leaves_of::<L>(alloc, Coming::Rising, *count) != Ok(*rising)
-            || leaves_of::<L>(alloc, Coming::Falling, *count) != Ok(*falling)
+        if leaves_of::<L>(alloc, *count, false) != Ok(*rising)
+            || leaves_of::<L>(alloc, *count, true) != Ok(*falling)
         {
             return Some(*count);
         }
@@ -77,64 +65,41 @@ fn full_leaves_are_split(rt: HostRuntime) {
     assert_eq!(rt; first_other::<Brand>(rt.alloc(), &LEAVES), None);
 }
 
-/// The rows of so many entries, each behind its number, in the order of numbers and then of rows.
-fn in_order(alloc: Global, coming: Coming, count: u32) -> Result<Vec<(i64, u32)>, AllocError> {
-    let mut rows = Vec::new(alloc);
-    for row in 0..count {
-        rows.push((number_of(coming, row), row))?;
-    }
-    rows.sort()?;
-    Ok(rows)
-}
-
-/// Whether a cursor gives these rows, or the same from the last on, and no other.
-fn gives_all<L: Ledger>(
-    tree: &BTree<L>,
-    rows: &[(i64, u32)],
-    backward: bool,
-    steps: &mut Steps<L>,
-) -> bool {
+/// Whether a cursor gives the rows from 0 up to a number, or the same from the last on, and no other.
+fn gives_all<L: Ledger>(tree: &BTree<L>, count: u32, backward: bool, steps: &mut Steps<L>) -> bool {
     let mut cursor = tree.seek(&[], backward);
-    for n in 0..rows.len() {
-        let place = if backward { rows.len() - 1 - n } else { n };
-        if next_row(&mut cursor, steps) != Some(rows[place].1) {
+    for n in 0..count {
+        let row = if backward { count - 1 - n } else { n };
+        if next_row(&mut cursor, steps) != Some(row) {
             return false;
         }
     }
     next_row(&mut cursor, steps).is_none()
 }
 
-/// Whether cursors both ways give so many entries in their order.
-fn gives_in_order(alloc: Global, coming: Coming, count: u32) -> Result<[bool; 2], AllocError> {
-    gives_in_order_with::<Brand>(alloc, Blank::new(1), coming, count)
+/// Whether cursors both ways give a thousand entries that were put in by rising numbers.
+fn gives_thousand(alloc: Global) -> Result<[bool; 2], AllocError> {
+    gives_thousand_with::<Brand>(alloc, Blank::new(1))
 }
 
-fn gives_in_order_with<L: Ledger>(
-    alloc: Global,
-    blank: Blank,
-    coming: Coming,
-    count: u32,
-) -> Result<[bool; 2], AllocError>
+fn gives_thousand_with<L: Ledger>(alloc: Global, blank: Blank) -> Result<[bool; 2], AllocError>
     requires name { blank.name ≡ L.name }
     requires parts { blank.parts ≡ L.parts }
     requires some { 0 < blank.parts }
 {
     let mut tree = of_numbers::<L>(alloc)?;
-    put_numbers(alloc, &mut tree, coming, count)?;
-    let rows = in_order(alloc, coming, count)?;
+    put_numbers(alloc, &mut tree, 1_000, false)?;
     let mut steps = Steps::<L>::new(blank);
     Ok([
-        gives_all(&tree, &rows, false, &mut steps),
-        gives_all(&tree, &rows, true, &mut steps),
+        gives_all(&tree, 1_000, false, &mut steps),
+        gives_all(&tree, 1_000, true, &mut steps),
     ])
 }
 
 #[test]
 fn cursors_go_over_leaves_both_ways(rt: HostRuntime) {
-    for coming in [Coming::Rising, Coming::Falling, Coming::Scattered] {
-        let given = gives_in_order(rt.alloc(), coming, 100_000).expect(&rt, "ample memory");
-        assert_eq!(rt; given, [true, true]);
-    }
+    let given = gives_thousand(rt.alloc()).expect(&rt, "ample memory");
+    assert_eq!(rt; given, [true, true]);
 }
 
 /// Three slots, each alone.

@@ -5,7 +5,7 @@ usage: tools/grammar_oracle.py FOLDER [COUNT [SEED [CONSTANT ..]]]
 
 FOLDER holds the package `pgoracle` of the reference parser, written apart from
 this repository: `lexer.lex_statement(text, at)` gives the tokens of a statement
-and `grammar.Parser(tokens, 19).statement()` raises its first fault, with every
+and `grammar.Parser(tokens, 20).statement()` raises its first fault, with every
 production that this grammar has. Those whose constant in offered.rt is false
 are taken out of it, but for the CONSTANTs that are named: these are true in
 the copy too. The crates sql_grammar, sql_lex and pg_base are copied to a
@@ -27,7 +27,6 @@ NAMES = ("a b t rows first copy csv format stdin index statistics last _x x1 nul
 SYMBOLS = "( ) , . * - ; < <= = <> |<|".split()
 OPERATORS = "< <= = >= > <> != |<| |>=|".split()
 CHUNK = 100
-STAGE = 19
 OFFERED = "crates/sql_grammar/src/offered.rt"
 
 
@@ -188,11 +187,28 @@ def part(r, kind):
     return out + r.choice(([], [")"], [","] + candidate(r), [")", "("], ["order", "by", "a"], ["limit", "7"]))
 
 
+def item(r):
+    if r.random() < 0.6:
+        return output(r)
+    return [name(r), "("] + (["*"] if r.random() < 0.4 else column(r)) + [")"]
+
+
+def grouped(r):
+    """A SELECT with calls or GROUP BY, now and then with neither."""
+    where = ["where"] + condition(r) if r.random() < 0.4 else []
+    groups = ["group", "by"] + joined(r, column) if r.random() < 0.7 else []
+    order = ["order", "by"] + joined(r, ordering) if r.random() < 0.4 else []
+    window = ["limit", "7"] if r.random() < 0.1 else []
+    return ["select"] + joined(r, item) + ["from"] + joined(r, group) + where + groups + order + window
+
+
 def statement(r):
     """The words of a statement, without its end."""
-    kind = r.randrange(20)
+    kind = r.randrange(25)
     if kind == 0:
         return []
+    if kind > 19:
+        return (["explain"] if r.random() < 0.3 else []) + grouped(r)
     if kind > 14:
         return asked(r)
     if kind > 11:
@@ -245,6 +261,8 @@ def parser_of(grammar, offered):
     """The reference parser without the productions that are not offered, and with the parts by themselves."""
 
     class Parser(grammar.Parser):
+        # the reference parser has GROUP BY from this stage on
+        STAGE = 20 if offered["READS_GROUPS"] else 19
         ordered = True
 
         def accept_word(self, word):
@@ -295,7 +313,7 @@ def fault(parser, lexer, faults, line, kind):
     if len(tokens) == 1 and kind == 0:
         return 0, 0
     try:
-        end = parser(tokens, STAGE).read(kind)
+        end = parser(tokens, parser.STAGE).read(kind)
     except faults.Fault as f:
         code = 1 if f.args[0] == "S1" else {"name": 2, "text": 3, "depth": 4}[f.args[2]]
         return code, f.args[1]

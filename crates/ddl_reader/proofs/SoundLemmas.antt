@@ -12,7 +12,7 @@ use Rattle.pg_value.specs.declared.value.SqlType.{SqlType}
 use Rattle.sql_lex.specs.declared.tokens.Token.{Token}
 use Rattle.sql_lex.specs.Words.{AreWords}
 use Rattle.sql_grammar.specs.Terminals.{Terminal, Ident, token_of, t_name}
-use Rattle.sql_grammar.specs.Syntax.{Mark, Nulls, unwritten, not_null, nullable, ColDef, coldef, Statement, empty, create_table, create_index, query, copy, sizes, column_statistics, analyze, advise, check, use_plan}
+use Rattle.sql_grammar.specs.Syntax.{Mark, Nulls, unwritten, not_null, nullable, ColDef, coldef, Statement, empty, create_table, create_index, query, copy, sizes, column_statistics, analyze, advise, check, use_plan, grouped}
 use Rattle.sql_grammar.specs.Words.{words_of, words_of_nulls, words_of_coldef, words_of_columns, words_of_ending}
 use Rattle.sql_grammar.specs.Faults.{bytes_of}
 use Rattle.sql_grammar.specs.Unique.{token_in}
@@ -148,6 +148,7 @@ module _ (cat : Contents) (text : List ℕ) where
   statement-sound r (advise x) lawful named placed low means = absurd means
   statement-sound r (check offered k x e) lawful named placed low means = absurd means
   statement-sound r (use_plan offered u k x y e) lawful named placed low means = absurd means
+  statement-sound r (grouped offered u k x) lawful named placed low means = absurd means
   statement-sound r (copy k n null) lawful named placed low (start, begins, means) = data-sound (bytes_of n) _ _ null.value _ r start begins means
   statement-sound r (create_table k t n o c cs m e) lawful named placed low means =
       bound-sound (bytes_of n) (token_of n) (written c) (further cs) r _ (named.1.1.0 n refl) (columns-hold _ IsName (λ w. w.name) (λ i j nulls h. h) c cs _ named.1.1.1.1)

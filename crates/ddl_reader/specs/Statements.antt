@@ -11,7 +11,7 @@ use Rattle.sql_grammar.specs.declared.class.Free.TheVariants.{Analyze, Copy, Ind
 use Rattle.sql_grammar.specs.declared.class.Class.{Class}
 use Rattle.sql_grammar.specs.declared.class.Class.TheVariants.{Key, Name}
 use Rattle.sql_grammar.specs.Terminals.{Terminal, free, t_key, t_name, token_of, class_of}
-use Rattle.sql_grammar.specs.Syntax.{Statement, empty, create_table, create_index, query, copy, sizes, column_statistics, analyze, advise, check, use_plan}
+use Rattle.sql_grammar.specs.Syntax.{Statement, empty, create_table, create_index, query, copy, sizes, column_statistics, analyze, advise, check, use_plan, grouped}
 use Rattle.sql_grammar.specs.Faults.{bytes_of, terminals, IsStatement, IsFirstFault, fault_at}
 use Rattle.sql_grammar.specs.Spelled.{IsSpelled}
 use Rattle.sql_grammar.specs.CopyLine.{IsDataStart}
@@ -53,6 +53,7 @@ Means cat text (query x) r = ⊥
 Means cat text (advise x) r = ⊥
 Means cat text (check offered k x e) r = ⊥
 Means cat text (use_plan offered u p x y e) r = ⊥
+Means cat text (grouped offered u p x) r = ⊥
 
 -- the tokens spell a statement that means this
 pub record IsMeaning (cat : Contents) (text : List ℕ) (tokens : List Token) (r : Result Reading Fault) : Type 0 where

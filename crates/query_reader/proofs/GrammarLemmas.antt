@@ -11,7 +11,7 @@ use Rattle.sql_lex.specs.declared.tokens.Token.{Token}
 use Rattle.sql_grammar.specs.declared.class.Free.TheVariants.{Explain}
 use Rattle.sql_grammar.specs.Terminals.{Terminal, free, t_name}
 use Rattle.sql_grammar.specs.Reading.{terminal_of}
-use Rattle.sql_grammar.specs.Syntax.{OrderedSelect, semicolon, text_end, index_on, Statement, empty, create_table, create_index, query, copy, sizes, column_statistics, analyze, advise, advise_of, check, use_plan}
+use Rattle.sql_grammar.specs.Syntax.{OrderedSelect, semicolon, text_end, index_on, Statement, empty, create_table, create_index, query, copy, sizes, column_statistics, analyze, advise, advise_of, check, use_plan, grouped}
 use Rattle.sql_grammar.specs.Faults.{IsStatement, IsPrefix, IsAtFault, IsFirstFault, IsWhole, AreWithinLimits, terminals, limit_of}
 use Rattle.sql_grammar.specs.Spelled.{IsSpelled}
 use Rattle.sql_grammar.specs.Words.{words_of}
@@ -42,6 +42,7 @@ no-other (analyze p k n e) ts is begins = let wrong = ap begins_query is ∙ beg
 no-other (advise (advise_of p k n o c cs m x xs e)) ts is begins = let wrong = ap begins_query is ∙ begins in absurd (cc (wrong))
 no-other (check p k x s) ts is begins = let wrong = ap begins_query is ∙ begins in absurd (cc (wrong))
 no-other (use_plan p u l q y s) ts is begins = let wrong = ap begins_query is ∙ begins in absurd (cc (wrong))
+no-other (grouped p u l q) ts is begins = absurd p
 
 -- a statement that is a SELECT
 pub its-query : (x : Statement) → is_query x ≡ true → (q : OrderedSelect) × (x ≡ query q)

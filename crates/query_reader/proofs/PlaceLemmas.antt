@@ -10,7 +10,7 @@ use Rattle.sql_lex.specs.declared.tokens.Token.{Token}
 use Rattle.sql_grammar.specs.declared.class.Word.TheVariants.{Select as SelectKey}
 use Rattle.sql_grammar.specs.Terminals.{Terminal, t_key}
 use Rattle.sql_grammar.specs.Reading.{terminal_of}
-use Rattle.sql_grammar.specs.Syntax.{no_limit, no_offset, window, select_from, WindowedSelect, windowed_select, Ending, semicolon, text_end, no_explain, explain, explain_table, OrderedSelect, ordered_select, Statement, empty, create_table, create_index, query, copy, sizes, column_statistics, analyze, advise, check, use_plan}
+use Rattle.sql_grammar.specs.Syntax.{no_limit, no_offset, window, select_from, WindowedSelect, windowed_select, Ending, semicolon, text_end, no_explain, explain, explain_table, OrderedSelect, ordered_select, Statement, empty, create_table, create_index, query, copy, sizes, column_statistics, analyze, advise, check, use_plan, grouped}
 use Rattle.sql_grammar.specs.Words.{levels_of, words_of, words_of_ending, words_of_order, words_of_ordered, words_of_select, words_of_window, words_of_windowed}
 use Rattle.sql_grammar.specs.Faults.{AreWithinLimits, EndsAt, IsFirstFault, IsStatement, IsWhole, IsWindowed, fault_at, limit_of, terminals}
 use Rattle.sql_grammar.specs.Spelled.{IsSpelled}
@@ -150,6 +150,7 @@ module _ (text : List ℕ) (tokens : List Token) (limits : AreWithinLimits (term
   its-select (column_statistics k n c d z m h e) x is words levels = absurd (cc (is))
   its-select (analyze p k n e) x is words levels = absurd (cc (is))
   its-select (advise y) x is words levels = absurd (cc (is))
+  its-select (grouped p u k q) x is words levels = absurd (cc (is))
 
 pub statement-select : (s : Statement) (x : WindowedSelect) (text : List ℕ) (tokens : List Token) → select_of s ≡ Some x → IsSpelled s text tokens → IsSelectAt text tokens (words_before (terminals text tokens)) x
 statement-select s x text tokens is w = subst (λ (ts : List Terminal). IsSelectAt text tokens (words_before ts) x) w.words (its-select text tokens w.limits s x is w.words w.levels)

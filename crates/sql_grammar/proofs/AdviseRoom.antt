@@ -2,13 +2,13 @@
 use Rattle.std.proofs.Common.{◌≡◌, Bool, true, false, [], ◌∷◌, Some, None, refl, cond}
 use Rattle.sql_grammar.specs.declared.class.Free.{Free}
 use Rattle.sql_grammar.specs.declared.class.Free.TheVariants.{Advise, Analyze, Check, Plan, Use}
-use Rattle.sql_grammar.specs.declared.class.Word.TheVariants.{Table}
+use Rattle.sql_grammar.specs.declared.class.Word.TheVariants.{Select, Table}
 use Rattle.sql_grammar.specs.declared.class.Symbol.TheVariants.{Open, Close, Comma}
 use Rattle.sql_grammar.specs.declared.class.Class.{Class}
-use Rattle.sql_grammar.specs.declared.class.Class.TheVariants.{Mark, Name}
+use Rattle.sql_grammar.specs.declared.class.Class.TheVariants.{Key, Mark, Name}
 use Rattle.sql_grammar.specs.declared.offered.TheConstants.{READS_ADVISE, READS_ANALYZE, READS_CHECK, READS_PLAN, READS_TABLE}
-use Rattle.sql_grammar.specs.declared.table.Item.TheVariants.{Keyword, Sign, FreeWord, Label, Digits, Whole, Ends, Stop, Query, MaybeOrder, MaybeLimit, MaybeOffset, MaybeTable, Candidate, MoreCands, AdvisedSelect, MoreAdvised}
-use Rattle.sql_grammar.specs.AdviseTable.{offered_takes, table_takes, candidate_takes, cands_takes, advised_takes, more_advised_takes}
+use Rattle.sql_grammar.specs.declared.table.Item.TheVariants.{Keyword, Sign, FreeWord, Label, Digits, Whole, Ends, Stop, Query, MaybeOrder, MaybeLimit, MaybeOffset, AfterExplain, Candidate, MoreCands, AdvisedSelect, MoreAdvised}
+use Rattle.sql_grammar.specs.AdviseTable.{offered_takes, explained_takes, candidate_takes, cands_takes, advised_takes, more_advised_takes}
 use Rattle.sql_grammar.proofs.RoomTests.{row_test}
 
 advise : (b : Bool) → row_test Whole (Name (Some Advise)) (cond b (Some (Digits ∷ Sign Open ∷ Candidate ∷ MoreCands ∷ AdvisedSelect ∷ MoreAdvised ∷ Ends ∷ [])) None) ≡ true
@@ -34,13 +34,14 @@ offered-room Check = check READS_CHECK
 offered-room Use = plan READS_PLAN
 offered-room _ = refl
 
-table : (b : Bool) → row_test MaybeTable (Mark Open) (cond b (Some (Keyword Table ∷ Sign Close ∷ [])) None) ≡ true
+table : (b : Bool) → row_test AfterExplain (Mark Open) (cond b (Some (Keyword Table ∷ Sign Close ∷ Query ∷ MaybeOrder ∷ MaybeLimit ∷ MaybeOffset ∷ Ends ∷ [])) None) ≡ true
 table true = refl
 table false = refl
 
-pub table-room : (t : Class) → row_test MaybeTable t (table_takes t) ≡ true
-table-room (Mark Open) = table READS_TABLE
-table-room _ = refl
+pub explained-room : (t : Class) → row_test AfterExplain t (explained_takes t) ≡ true
+explained-room (Key Select) = refl
+explained-room (Mark Open) = table READS_TABLE
+explained-room _ = refl
 
 pub candidate-room : (t : Class) → row_test Candidate t (candidate_takes t) ≡ true
 candidate-room (Name _) = refl

@@ -4,14 +4,14 @@ use Rattle.sql_lex.specs.declared.tokens.Token.{Token}
 use Rattle.sql_grammar.specs.Terminals.{Terminal, t_key, t_mark, t_name, t_number, t_semicolon, free, class_of}
 use Rattle.sql_grammar.specs.declared.class.Free.{Free as FreeT}
 use Rattle.sql_grammar.specs.declared.class.Free.TheVariants.{Advise as AdviseWord, Analyze, Check, Plan, Use}
-use Rattle.sql_grammar.specs.declared.class.Word.TheVariants.{Table}
+use Rattle.sql_grammar.specs.declared.class.Word.TheVariants.{Select, Table}
 use Rattle.sql_grammar.specs.declared.class.Symbol.TheVariants.{Open, Close, Comma}
 use Rattle.sql_grammar.specs.declared.offered.TheConstants.{READS_ADVISE, READS_ANALYZE, READS_CHECK, READS_PLAN, READS_TABLE}
 use Rattle.sql_grammar.specs.declared.table.Item.{Item}
-use Rattle.sql_grammar.specs.declared.table.Item.TheVariants.{Keyword, Sign, FreeWord, Label, Digits, Whole, Ends, Stop, Query, MaybeOrder, MaybeLimit, MaybeOffset, MaybeTable, Candidate, MoreCands, AdvisedSelect, MoreAdvised}
-use Rattle.sql_grammar.specs.Syntax.{IsOffered, window, windowed_select, explain_table, index_key, cand_on, advised, advise_of, analyze, advise, check, use_plan}
+use Rattle.sql_grammar.specs.declared.table.Item.TheVariants.{Keyword, Sign, FreeWord, Label, Digits, Whole, Ends, Stop, Query, MaybeOrder, MaybeLimit, MaybeOffset, AfterExplain, Candidate, MoreCands, AdvisedSelect, MoreAdvised}
+use Rattle.sql_grammar.specs.Syntax.{IsOffered, window, windowed_select, explained, explain_table, ordered_select, index_key, cand_on, advised, advise_of, query, analyze, advise, check, use_plan}
 use Rattle.sql_grammar.specs.Words.{words_of_select, words_of_order, words_of_limit, words_of_offset, words_of_cand, words_of_cands, words_of_advised, words_of_more_advised, words_of_ending}
-use Rattle.sql_grammar.specs.AdviseTable.{offered_takes, table_takes, candidate_takes, cands_takes, advised_takes, more_advised_takes}
+use Rattle.sql_grammar.specs.AdviseTable.{offered_takes, explained_takes, candidate_takes, cands_takes, advised_takes, more_advised_takes}
 use Rattle.sql_grammar.specs.Machine.{depth_of}
 use Rattle.sql_grammar.proofs.Forest.{words_of_parts, IsRule}
 
@@ -19,18 +19,34 @@ use Rattle.sql_grammar.proofs.Forest.{words_of_parts, IsRule}
 windowed-words : (q y l o e x : List Terminal) → ((q ++ (y ++ (l ++ o))) ++ e) ++ x ≡ q ++ (y ++ (l ++ (o ++ (e ++ x))))
 windowed-words q y l o e x = simp append_assoc
 
+-- those of one that ends a statement
+select-words : (q y l o e x : List Terminal) → (q ++ (y ++ ((l ++ o) ++ e))) ++ x ≡ q ++ (y ++ (l ++ (o ++ (e ++ x))))
+select-words q y l o e x = simp append_assoc
+
 -- those of ADVISE, from its first candidate on
 advise-words : (c cs x xs e w : List Terminal) (m : Terminal) → (c ++ (cs ++ m ∷ (x ++ (xs ++ e)))) ++ w ≡ c ++ ((cs ++ m ∷ []) ++ (x ++ (xs ++ (e ++ w))))
 advise-words c cs x xs e w m = simp append_assoc
 
 module _ (limit : ℕ) (s : List Item) where
-  table : (b : Bool) (o : Token) → b ≡ READS_TABLE → IsRule limit s MaybeTable (t_mark Open o) (cond b (Some (Keyword Table ∷ Sign Close ∷ [])) None)
-  table true o is = λ (t, (m, f)). (((t_mark Open o ∷ t_key Table t ∷ t_mark Close m ∷ [], λ k. (explain_table (subst IsOffered is tt) k o t m, refl)), f), refl)
+  table : (b : Bool) (o : Token) → b ≡ READS_TABLE →
+      IsRule limit s AfterExplain (t_mark Open o) (cond b (Some (Keyword Table ∷ Sign Close ∷ Query ∷ MaybeOrder ∷ MaybeLimit ∷ MaybeOffset ∷ Ends ∷ [])) None)
+  table true o is = λ (t, (m, ((q, low), (y, (l, (u, (e, f))))))). (
+    (
+      (
+        t_mark Open o ∷ t_key Table t ∷ t_mark Close m ∷ (words_of_select q ++ (words_of_order y ++ ((words_of_limit l ++ words_of_offset u) ++ words_of_ending e))),
+        λ k. (query (ordered_select (explain_table (subst IsOffered is tt) k o t m) q y (window l u) e), refl, omega arith),
+      ),
+      f,
+    ),
+    ap (λ v. t_mark Open o ∷ t_key Table t ∷ t_mark Close m ∷ v)
+        (select-words (words_of_select q) (words_of_order y) (words_of_limit l) (words_of_offset u) (words_of_ending e) (words_of_parts limit s f)),
+  )
   table false o is = tt
 
-  pub table_rule : (t : Terminal) → IsRule limit s MaybeTable t (table_takes (class_of t))
-  table_rule (t_mark Open o) = table READS_TABLE o refl
-  table_rule _ = tt
+  pub explained_rule : (t : Terminal) → IsRule limit s AfterExplain t (explained_takes (class_of t))
+  explained_rule (t_key Select k) = λ ((ts, after'), f). (((t_key Select k ∷ ts, λ j. after' (explained j) k []), f), refl)
+  explained_rule (t_mark Open o) = table READS_TABLE o refl
+  explained_rule _ = tt
 
   pub candidate_rule : (t : Terminal) → IsRule limit s Candidate t (candidate_takes (class_of t))
   candidate_rule (t_name n) = λ (o, (t, (u, (p, (x, (c, (d, (z, ((ks, m), (inc, ((w, low), f))))))))))). (((cand_on n o t u p (index_key x c d z) ks m inc w, omega arith), f), simp append_assoc)

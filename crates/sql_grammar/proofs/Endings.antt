@@ -3,7 +3,7 @@ use Rattle.std.proofs.Common.{◌≡◌, ℕ, Bool, true, false, ◌&&◌, not, 
 use Rattle.std.proofs.lemmas.Bool.{and_parts}
 use Rattle.sql_grammar.specs.declared.class.Class.{Class}
 use Rattle.sql_grammar.specs.declared.table.Item.{Item}
-use Rattle.sql_grammar.specs.declared.table.Item.TheVariants.{Whole, Ends, Stop, AfterCreate}
+use Rattle.sql_grammar.specs.declared.table.Item.TheVariants.{Whole, Ends, Stop, AfterCreate, AfterExplain, PlainItem, AfterPlain, PlainNext, PlainTail}
 use Rattle.sql_grammar.specs.Table.{Expansion, takes_of, is_optional, takes_end, is_ending}
 use Rattle.sql_grammar.specs.Machine.{depth_of, opens, by_row, step_of, may_end, is_empty, is_closed}
 use Rattle.sql_grammar.proofs.RoomTests.{row_test}
@@ -14,6 +14,11 @@ optional-inner Whole o = absurd (cc)
 optional-inner Ends o = absurd (cc)
 optional-inner Stop o = absurd (cc)
 optional-inner AfterCreate o = absurd (cc)
+optional-inner AfterExplain o = absurd (cc)
+optional-inner PlainItem o = absurd (cc)
+optional-inner AfterPlain o = absurd (cc)
+optional-inner PlainNext o = absurd (cc)
+optional-inner PlainTail o = absurd (cc)
 optional-inner _ o = refl
 
 -- without such an item in front the stack's end is what counts
@@ -84,6 +89,11 @@ last-needed Whole l = refl
 last-needed Ends l = refl
 last-needed Stop l = refl
 last-needed AfterCreate l = refl
+last-needed AfterExplain l = refl
+last-needed PlainItem l = refl
+last-needed AfterPlain l = refl
+last-needed PlainNext l = refl
+last-needed PlainTail l = refl
 last-needed _ l = absurd (cc)
 
 pub still-open : (s : List Item) → is_closed false true s ≡ true → may_end s ≡ false

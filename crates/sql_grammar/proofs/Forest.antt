@@ -2,18 +2,18 @@
 use Rattle.std.proofs.Common.{◌≡◌, ℕ, ◌+◌, ◌≤◌, List, [], ◌∷◌, ◌++◌, Option, Some, None}
 use Rattle.sql_lex.specs.declared.tokens.Token.{Token}
 use Rattle.sql_grammar.specs.Terminals.{Terminal, t_key, t_mark, t_name, t_number, t_quoted, t_semicolon, Ident, Said, free}
-use Rattle.sql_grammar.specs.declared.class.Word.TheVariants.{Create, Is}
+use Rattle.sql_grammar.specs.declared.class.Word.TheVariants.{Create, From, Is, Select as SelectKey}
 use Rattle.sql_grammar.specs.declared.class.Free.TheVariants.{Explain, Nulls as NullsWord, Statistics}
-use Rattle.sql_grammar.specs.declared.class.Symbol.TheVariants.{Close, Dot}
+use Rattle.sql_grammar.specs.declared.class.Symbol.TheVariants.{Close, Comma, Dot}
 use Rattle.sql_grammar.specs.declared.table.Item.{Item}
-use Rattle.sql_grammar.specs.declared.table.Item.TheVariants.{Keyword, Sign, FreeWord, Label, Digits, QuotedText, Whole, Ends, Stop, Query, Nullness, MoreColumns, Result, MoreResults, AfterResult, StarOrLabel, MaybeAlias, MoreJoins, MoreGroups, MaybeWhere, Figures, MaybeCommon, MoreShares, MaybeHistogram, MoreBounds, Literal, Negation, MoreAnds, MoreOrs, Closes, NotEnds, AfterName, AfterColumn, AfterIs, AfterLiteral, AfterTruth, Side, AfterQualifier, MaybeOrder, MoreOrderings, MaybeLimit, MaybeOffset, MaybeDirection, MaybeNulls, FirstOrLast, AfterCreate, MaybeUsing, MaybeClass, MoreKeys, MaybeInclude, MoreNames, MaybeTable, Candidate, MoreCands, AdvisedSelect, MoreAdvised}
+use Rattle.sql_grammar.specs.declared.table.Item.TheVariants.{Keyword, Sign, FreeWord, Label, Digits, QuotedText, Whole, Ends, Stop, Query, Nullness, MoreColumns, Result, MoreResults, AfterResult, StarOrLabel, MaybeAlias, MoreJoins, MoreGroups, MaybeWhere, Figures, MaybeCommon, MoreShares, MaybeHistogram, MoreBounds, Literal, Negation, MoreAnds, MoreOrs, Closes, NotEnds, AfterName, AfterColumn, AfterIs, AfterLiteral, AfterTruth, Side, AfterQualifier, MaybeOrder, MoreOrderings, MaybeLimit, MaybeOffset, MaybeDirection, MaybeNulls, FirstOrLast, AfterCreate, MaybeUsing, MaybeClass, MoreKeys, MaybeInclude, MoreNames, AfterExplain, Candidate, MoreCands, AdvisedSelect, MoreAdvised, PlainItem, AfterPlain, PlainNext, PlainTail, GroupedItem, AfterGroupedName, MoreGroupedItems, Argument, MaybeGroup, MoreGroupColumns}
 use Rattle.sql_grammar.specs.Syntax.{Key, Mark, Col, Constant, Lit, constant, Operand, Ors, Ands, Neg, Atom, Nulls, ColDef, Output, Alias, Join, Group, Where, Select, Share, Common, Histogram, Ending, Statement}
 use Rattle.sql_grammar.specs.Words.{words_of, words_of_col, words_of_lit, words_of_operand, words_of_ors, words_of_ands, words_of_neg, words_of_atom, words_of_nulls, words_of_columns, words_of_output, words_of_outputs, words_of_alias, words_of_joins, words_of_groups, words_of_where, words_of_select, words_of_common, words_of_shares, words_of_histogram, words_of_bounds, words_of_ending, levels_of, levels_of_joins, levels_of_groups, levels_of_where, levels_of_select, levels_of_ors, levels_of_ands, levels_of_neg, levels_of_atom}
 use Rattle.sql_grammar.specs.Syntax.{Direction, NullsEnd, Ordering, OrderBy, Limit, Offset}
 use Rattle.sql_grammar.specs.Words.{words_of_direction, words_of_nulls_end, words_of_orderings, words_of_order, words_of_limit, words_of_offset}
 use Rattle.sql_grammar.specs.Syntax.{OpClass, IndexKey, Using, Include}
-use Rattle.sql_grammar.specs.Syntax.{Explaining, Cand, Advised}
-use Rattle.sql_grammar.specs.Words.{words_of_explaining, words_of_cand, words_of_cands, words_of_advised, words_of_more_advised, levels_of_cand, levels_of_cands, levels_of_advised, levels_of_more_advised}
+use Rattle.sql_grammar.specs.Syntax.{Cand, Advised, MaybeExplain, Argument as ArgumentTree, GroupedItem as GroupedItemTree, GroupBy}
+use Rattle.sql_grammar.specs.Words.{words_of_maybe_explain, words_of_argument, words_of_grouped_item, words_of_grouped_items, words_of_group_by, words_of_group_columns, words_of_cand, words_of_cands, words_of_advised, words_of_more_advised, levels_of_cand, levels_of_cands, levels_of_advised, levels_of_more_advised}
 use Rattle.sql_grammar.specs.Words.{words_of_class, words_of_keys, words_of_using, words_of_names, words_of_include}
 use Rattle.sql_grammar.specs.Machine.{depth_of}
 
@@ -24,6 +24,19 @@ Atom_after front ts = (a : Atom) × (words_of_atom a ≡ front ++ ts) × (levels
 -- a STATISTICS that begins so after its table's name; it has no expression
 abbrev pub Statement_after : List Terminal → Type 0
 Statement_after ts = (k : Token) (n : Ident) (e : Ending) → (x : Statement) × (words_of x ≡ t_name (free Statistics k) ∷ t_name n ∷ (ts ++ words_of_ending e)) × (levels_of x ≡ 0)
+
+-- a statement of these words
+abbrev pub Statement_of : ℕ → ℕ → List Terminal → Type 0
+Statement_of limit depth ws = (x : Statement) × (words_of x ≡ ws) × (levels_of x + depth ≤ limit)
+
+-- items of a list that stand before another one, each with its comma
+abbrev pub words_of_led : List (Output × Mark) → List Terminal
+words_of_led [] = []
+words_of_led ((o, m) ∷ led) = words_of_output o ++ t_mark Comma m ∷ words_of_led led
+
+-- a SELECT up to an item of its list, and what follows
+abbrev pub begun : MaybeExplain → Key → List (Output × Mark) → List Terminal → List Terminal
+begun x k led ts = words_of_maybe_explain x ++ t_key SelectKey k ∷ (words_of_led led ++ ts)
 
 -- what an item below which `depth` levels are open stands for
 abbrev pub Part : ℕ → ℕ → Item → Type 0
@@ -78,11 +91,21 @@ Part limit depth MaybeClass = OpClass
 Part limit depth MoreKeys = List (Mark × IndexKey) × Mark
 Part limit depth MaybeInclude = Include
 Part limit depth MoreNames = List (Mark × Ident) × Mark
-Part limit depth MaybeTable = (ts : List Terminal) × ((k : Token) → (x : Explaining) × (words_of_explaining x ≡ t_name (free Explain k) ∷ ts))
+Part limit depth AfterExplain = (ts : List Terminal) × ((k : Token) → Statement_of limit depth (t_name (free Explain k) ∷ ts))
 Part limit depth Candidate = (x : Cand) × (levels_of_cand x + depth ≤ limit)
 Part limit depth MoreCands = (x : List (Mark × Cand)) × (levels_of_cands x + depth ≤ limit) × Mark
 Part limit depth AdvisedSelect = (x : Advised) × (levels_of_advised x + depth ≤ limit)
 Part limit depth MoreAdvised = (x : List Advised) × (levels_of_more_advised x + depth ≤ limit)
+Part limit depth PlainItem = (ts : List Terminal) × ((x : MaybeExplain) (k : Key) (led : List (Output × Mark)) → Statement_of limit depth (begun x k led ts))
+Part limit depth AfterPlain = (ts : List Terminal) × ((x : MaybeExplain) (k : Key) (led : List (Output × Mark)) (n : Ident) → Statement_of limit depth (begun x k led (t_name n ∷ ts)))
+Part limit depth PlainNext = (ts : List Terminal) × ((x : MaybeExplain) (k : Key) (led : List (Output × Mark)) (o : Output) → Statement_of limit depth (begun x k led (words_of_output o ++ ts)))
+Part limit depth PlainTail = (ts : List Terminal) × ((x : MaybeExplain) (q : Select) → levels_of_select q + depth ≤ limit → Statement_of limit depth (words_of_maybe_explain x ++ (words_of_select q ++ ts)))
+Part limit depth GroupedItem = GroupedItemTree
+Part limit depth AfterGroupedName = (ts : List Terminal) × ((n : Ident) → (i : GroupedItemTree) × (words_of_grouped_item i ≡ t_name n ∷ ts))
+Part limit depth MoreGroupedItems = List (Mark × GroupedItemTree) × Key
+Part limit depth Argument = ArgumentTree
+Part limit depth MaybeGroup = GroupBy
+Part limit depth MoreGroupColumns = List (Mark × Col)
 
 -- its words
 abbrev pub words_of_part : (limit depth : ℕ) (i : Item) → Part limit depth i → List Terminal
@@ -137,11 +160,21 @@ words_of_part limit depth MaybeClass p = words_of_class p
 words_of_part limit depth MoreKeys p = words_of_keys p.0 ++ t_mark Close p.1 ∷ []
 words_of_part limit depth MaybeInclude p = words_of_include p
 words_of_part limit depth MoreNames p = words_of_names p.0 ++ t_mark Close p.1 ∷ []
-words_of_part limit depth MaybeTable p = p.0
+words_of_part limit depth AfterExplain p = p.0
 words_of_part limit depth Candidate p = words_of_cand p.0
 words_of_part limit depth MoreCands p = words_of_cands p.0 ++ t_mark Close p.2 ∷ []
 words_of_part limit depth AdvisedSelect p = words_of_advised p.0
 words_of_part limit depth MoreAdvised p = words_of_more_advised p.0
+words_of_part limit depth PlainItem p = p.0
+words_of_part limit depth AfterPlain p = p.0
+words_of_part limit depth PlainNext p = p.0
+words_of_part limit depth PlainTail p = p.0
+words_of_part limit depth GroupedItem p = words_of_grouped_item p
+words_of_part limit depth AfterGroupedName p = p.0
+words_of_part limit depth MoreGroupedItems p = words_of_grouped_items p.0 ++ t_key From p.1 ∷ []
+words_of_part limit depth Argument p = words_of_argument p
+words_of_part limit depth MaybeGroup p = words_of_group_by p
+words_of_part limit depth MoreGroupColumns p = words_of_group_columns p
 
 -- what a stack stands for
 abbrev pub Parts : ℕ → List Item → Type 0

@@ -5,7 +5,7 @@ use Rattle.sql_grammar.specs.declared.class.Word.TheVariants.{From, On}
 use Rattle.sql_grammar.specs.declared.table.Item.{Item}
 use Rattle.sql_grammar.specs.declared.table.Item.TheVariants.{Keyword, Label, Query, Negation, MoreAnds, MoreOrs, Result, MoreResults, MaybeAlias, MoreJoins, MoreGroups, MaybeWhere}
 use Rattle.sql_grammar.specs.Syntax.{Mark, Relation, relation, no_inner, inner, Join, join_on, cross_join, Group, group_of, Where, no_where, where_expr, Select, select_from}
-use Rattle.sql_grammar.specs.Words.{words_of_expr, words_of_output, words_of_outputs, words_of_relation, words_of_join, words_of_joins, words_of_group, words_of_groups, words_of_where, words_of_select, levels_of_join, levels_of_joins, levels_of_group, levels_of_groups, levels_of_select}
+use Rattle.sql_grammar.specs.Words.{words_of_expr, words_of_output, words_of_outputs, words_of_relation, words_of_join, words_of_joins, words_of_group, words_of_groups, words_of_where, words_of_select, levels_of_join, levels_of_joins, levels_of_group, levels_of_groups, levels_of_where, levels_of_select}
 use Rattle.sql_grammar.specs.Machine.{depth_of, takes_all}
 use Rattle.sql_grammar.proofs.Complete.{Passes, EndsExpr, EndsSelect, skip, apart, expr, outputs, alias, condition}
 
@@ -71,6 +71,14 @@ module _ (limit : ℕ) where
       apart limit (words_of_group g) (words_of_groups gs) ts (Label ∷ MaybeAlias ∷ MoreJoins ∷ MoreGroups ∷ s) ∙
       (group g (MoreGroups ∷ s) (words_of_groups gs ++ ts) (omega (arith, low)) (after-groups gs ts p) ∙ groups gs s ts (omega (arith, low)) p)
 
+  -- a FROM list and a condition
+  pub tables : (g : Group) (gs : List (Mark × Group)) (w : Where) (s : List Item) (ts : List Terminal) →
+      levels_of_group g + depth_of s ≤ limit → levels_of_groups gs + depth_of s ≤ limit → levels_of_where w + depth_of s ≤ limit → EndsSelect ts →
+      takes_all limit (words_of_group g ++ (words_of_groups gs ++ (words_of_where w ++ ts))) (Label ∷ MaybeAlias ∷ MoreJoins ∷ MoreGroups ∷ MaybeWhere ∷ s) ≡ takes_all limit ts s
+  tables g gs w s ts first others low p =
+      group g (MoreGroups ∷ MaybeWhere ∷ s) (words_of_groups gs ++ (words_of_where w ++ ts)) (omega (arith, first)) (after-groups gs (words_of_where w ++ ts) (after-from w ts p)) ∙
+      (groups gs (MaybeWhere ∷ s) (words_of_where w ++ ts) (omega (arith, others)) (after-from w ts p) ∙ condition limit w s ts low p.condition p.expr)
+
   pub selected : (q : Select) (s : List Item) (ts : List Terminal) → levels_of_select q + depth_of s ≤ limit → EndsSelect ts → takes_all limit (words_of_select q ++ ts) (Query ∷ s) ≡ takes_all limit ts s
   selected (select_from k o os f g gs w) s ts low p =
       let rest : List Terminal = words_of_group g ++ (words_of_groups gs ++ words_of_where w) in
@@ -80,8 +88,7 @@ module _ (limit : ℕ) where
       (outputs limit o os (Keyword From ∷ Label ∷ MaybeAlias ∷ MoreJoins ∷ MoreGroups ∷ MaybeWhere ∷ s) _ refl refl ∙
       (apart limit (words_of_group g) (words_of_groups gs ++ words_of_where w) ts (Label ∷ MaybeAlias ∷ MoreJoins ∷ MoreGroups ∷ MaybeWhere ∷ s) ∙
       (ap (λ l. takes_all limit (words_of_group g ++ l) (Label ∷ MaybeAlias ∷ MoreJoins ∷ MoreGroups ∷ MaybeWhere ∷ s)) (append_assoc (words_of_groups gs) (words_of_where w) ts) ∙
-      (group g (MoreGroups ∷ MaybeWhere ∷ s) (words_of_groups gs ++ (words_of_where w ++ ts)) (omega (arith, low)) (after-groups gs (words_of_where w ++ ts) (after-from w ts p)) ∙
-      (groups gs (MaybeWhere ∷ s) (words_of_where w ++ ts) (omega (arith, low)) (after-from w ts p) ∙ condition limit w s ts (omega (arith, low)) p.condition p.expr))))))
+      tables g gs w s ts (omega (arith, low)) (omega (arith, low)) (omega (arith, low)) p))))
 
   pub selected_alone : (q : Select) → levels_of_select q ≤ limit → takes_all limit (words_of_select q) (Query ∷ []) ≡ true
   selected_alone q low = ap (λ l. takes_all limit l (Query ∷ [])) (sym (append-nil (words_of_select q))) ∙

@@ -94,10 +94,10 @@ where-from no_where x h = select-from x h
 where-from (where_expr k c) x h = refl
 
 -- what stands behind FROM, before other words
-abbrev behind : Group → List (Mark × Group) → Where → List Terminal → List Terminal
+abbrev pub behind : Group → List (Mark × Group) → Where → List Terminal → List Terminal
 behind g gs w x = words_of_group g ++ (words_of_groups gs ++ (words_of_where w ++ x))
 
-select_words : (k : Key) (o : Output) (os : List (Mark × Output)) (f : Key) (g : Group) (gs : List (Mark × Group)) (w : Where) (x : List Terminal) →
+pub select_words : (k : Key) (o : Output) (os : List (Mark × Output)) (f : Key) (g : Group) (gs : List (Mark × Group)) (w : Where) (x : List Terminal) →
     words_of_select (select_from k o os f g gs w) ++ x ≡ t_key Select k ∷ (words_of_output o ++ fronted os f (behind g gs w x))
 select_words k o os f g gs w x =
     ap (λ l. t_key Select k ∷ l)
@@ -107,7 +107,7 @@ select_words k o os f g gs w x =
     ∙ ap (λ l. fronted os f l)
     (append_assoc (words_of_group g) (words_of_groups gs ++ words_of_where w) x ∙ ap (λ l. words_of_group g ++ l) (append_assoc (words_of_groups gs) (words_of_where w) x))))
 
-one_behind : (g d : Group) (gs us : List (Mark × Group)) (v w : Where) (x y : List Terminal) → ends_select x ≡ true → ends_select y ≡ true → behind g gs v x ≡ behind d us w y →
+pub one_behind : (g d : Group) (gs us : List (Mark × Group)) (v w : Where) (x y : List Terminal) → ends_select x ≡ true → ends_select y ≡ true → behind g gs v x ≡ behind d us w y →
     (g ≡ d) × (gs ≡ us) × (v ≡ w) × (x ≡ y)
 one_behind g d gs us v w x y h k e =
     let (first, more) = one_group g d (words_of_groups gs ++ (words_of_where v ++ x)) (words_of_groups us ++ (words_of_where w ++ y))

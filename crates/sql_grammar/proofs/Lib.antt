@@ -5,6 +5,7 @@ pub mod OrderRules
 pub mod WindowRules
 pub mod IndexRules
 pub mod AdviseRules
+pub mod GroupRules
 pub mod Rules
 pub mod Sound
 pub mod RoomTests
@@ -13,6 +14,7 @@ pub mod OrderRoom
 pub mod WindowRoom
 pub mod IndexRoom
 pub mod AdviseRoom
+pub mod GroupRoom
 pub mod Room
 pub mod Complete
 pub mod FromComplete
@@ -20,6 +22,7 @@ pub mod WindowComplete
 pub mod OrderComplete
 pub mod IndexComplete
 pub mod AdviseComplete
+pub mod GroupComplete
 pub mod StatementComplete
 pub mod Reach
 pub mod Endings
@@ -35,6 +38,7 @@ pub mod WindowTrees
 pub mod OrderTrees
 pub mod IndexTrees
 pub mod AdviseTrees
+pub mod GroupTrees
 pub mod PartEnds
 pub mod StatementTrees
 pub mod ExprTrees

@@ -1,18 +1,13 @@
 -- The walk takes every SELECT with its order.
-use Rattle.std.proofs.Common.{◌≡◌, ℕ, ◌+◌, ◌≤◌, Bool, true, false, List, [], ◌∷◌, ◌++◌, Option, Some, None, refl, sym, ap, ◌∙◌, arith, append_assoc, append-nil, cond}
-use Rattle.sql_lex.specs.declared.tokens.Token.{Token}
-use Rattle.sql_grammar.specs.Terminals.{Terminal, t_key, t_mark}
-use Rattle.sql_grammar.specs.declared.class.Word.TheVariants.{Table}
-use Rattle.sql_grammar.specs.declared.class.Symbol.TheVariants.{Open, Close}
-use Rattle.sql_grammar.specs.declared.class.Class.TheVariants.{Mark as MarkClass}
-use Rattle.sql_grammar.specs.declared.offered.TheConstants.{READS_TABLE}
+use Rattle.std.proofs.Common.{◌≡◌, ℕ, ◌+◌, ◌≤◌, true, List, [], ◌∷◌, ◌++◌, refl, sym, ap, ◌∙◌, arith, append_assoc, append-nil}
+use Rattle.sql_grammar.specs.Terminals.{Terminal}
 use Rattle.sql_grammar.specs.declared.table.Item.{Item}
-use Rattle.sql_grammar.specs.declared.table.Item.TheVariants.{Keyword, Sign, Label, Ends, Query, AfterQualifier, MaybeDirection, MaybeNulls, Whole, MaybeOrder, MoreOrderings, MaybeLimit, MaybeOffset, MaybeTable}
-use Rattle.sql_grammar.specs.Syntax.{IsOffered, Mark, bare, qualified, Select, select_from, Ending, Window}
+use Rattle.sql_grammar.specs.declared.table.Item.TheVariants.{Label, Ends, Query, AfterQualifier, MaybeDirection, MaybeNulls, MaybeOrder, MoreOrderings, MaybeLimit, MaybeOffset}
+use Rattle.sql_grammar.specs.Syntax.{Mark, bare, qualified, Select, Ending, Window}
 use Rattle.sql_grammar.specs.Words.{words_of_select, words_of_window, words_of_ending, levels_of_select}
-use Rattle.sql_grammar.specs.Syntax.{Direction, no_direction, ascending, descending, NullsEnd, no_nulls_end, nulls_first, nulls_last, Ordering, ordering, OrderBy, no_order, order_by, WindowedSelect, windowed_select, no_explain, explain, explain_table, OrderedSelect, ordered_select}
-use Rattle.sql_grammar.specs.Words.{words_of_direction, words_of_nulls_end, words_of_ordering, words_of_orderings, words_of_order, words_of_windowed, words_of_ordered, levels_of_windowed, levels_of_ordered}
-use Rattle.sql_grammar.specs.Machine.{depth_of, by_row, step_of, takes_then, takes_all}
+use Rattle.sql_grammar.specs.Syntax.{Direction, no_direction, ascending, descending, NullsEnd, no_nulls_end, nulls_first, nulls_last, Ordering, ordering, OrderBy, no_order, order_by, WindowedSelect, windowed_select}
+use Rattle.sql_grammar.specs.Words.{words_of_direction, words_of_nulls_end, words_of_ordering, words_of_orderings, words_of_order, words_of_windowed, levels_of_windowed}
+use Rattle.sql_grammar.specs.Machine.{depth_of, takes_all}
 use Rattle.sql_grammar.proofs.Complete.{Passes, EndsSelect, skip, apart, ending}
 use Rattle.sql_grammar.proofs.WindowComplete.{EndsOrder, EndsWindow, window-order, ending-window, nothing-window, windowed}
 use Rattle.sql_grammar.proofs.FromComplete.{selected}
@@ -69,19 +64,15 @@ module _ (limit : ℕ) where
       one o (MoreOrderings ∷ s) (words_of_orderings ((m, u) ∷ os) ++ ts) (record { qualifier = refl; direction = refl; nulls = refl }) ∙
       (apart limit (words_of_ordering u) (words_of_orderings os) ts (Label ∷ AfterQualifier ∷ MaybeDirection ∷ MaybeNulls ∷ MoreOrderings ∷ s) ∙ all u os s ts p q)
 
-  order : (y : OrderBy) (s : List Item) (ts : List Terminal) → EndsOrder ts → takes_all limit (words_of_order y ++ ts) (MaybeOrder ∷ s) ≡ takes_all limit ts s
+  pub order : (y : OrderBy) (s : List Item) (ts : List Terminal) → EndsOrder ts → takes_all limit (words_of_order y ++ ts) (MaybeOrder ∷ s) ≡ takes_all limit ts s
   order no_order s ts p = skip limit MaybeOrder s ts refl p.none
   order (order_by k b o os) s ts p =
       apart limit (words_of_ordering o) (words_of_orderings os) ts (Label ∷ AfterQualifier ∷ MaybeDirection ∷ MaybeNulls ∷ MoreOrderings ∷ s) ∙
       all o os s ts (record { qualifier = p.qualifier; direction = p.direction; nulls = p.nulls }) p.more
 
-  after-select : (y : OrderBy) (ts : List Terminal) → EndsOrder ts → EndsSelect (words_of_order y ++ ts)
+  pub after-select : (y : OrderBy) (ts : List Terminal) → EndsOrder ts → EndsSelect (words_of_order y ++ ts)
   after-select no_order ts p = p.select
   after-select (order_by k b o os) ts p = record { alias = refl; joins = refl; groups = refl; condition = refl; expr = record { conj = record { atom = refl; ands = refl }; ors = refl } }
-
-  opened : (q : Select) (ts : List Terminal) →
-      takes_all limit (words_of_select q ++ ts) (Whole ∷ []) ≡ takes_all limit (words_of_select q ++ ts) (Query ∷ MaybeOrder ∷ MaybeLimit ∷ MaybeOffset ∷ Ends ∷ [])
-  opened (select_from k o os f g gs w) ts = refl
 
   -- a SELECT with its order and its window, in parts
   rest : (q : Select) (y : OrderBy) (v : Window) (s : List Item) (ts : List Terminal) → levels_of_select q + depth_of s ≤ limit → EndsWindow ts →
@@ -106,23 +97,6 @@ module _ (limit : ℕ) where
       windowed-select x [] [] (omega (arith, low)) nothing-window
 
   -- up to a statement's end
-  ended : (q : Select) (y : OrderBy) (v : Window) (e : Ending) → levels_of_select q ≤ limit →
+  pub ended : (q : Select) (y : OrderBy) (v : Window) (e : Ending) → levels_of_select q ≤ limit →
       takes_all limit (words_of_select q ++ (words_of_order y ++ (words_of_window v ++ words_of_ending e))) (Query ∷ MaybeOrder ∷ MaybeLimit ∷ MaybeOffset ∷ Ends ∷ []) ≡ true
   ended q y v e low = rest q y v (Ends ∷ []) (words_of_ending e) (omega (arith, low)) (ending-window e) ∙ ending limit e
-
-  no-table : (q : Select) (ts : List Terminal) →
-      takes_all limit (words_of_select q ++ ts) (MaybeTable ∷ Query ∷ MaybeOrder ∷ MaybeLimit ∷ MaybeOffset ∷ Ends ∷ []) ≡ takes_all limit (words_of_select q ++ ts) (Query ∷ MaybeOrder ∷ MaybeLimit ∷ MaybeOffset ∷ Ends ∷ [])
-  no-table (select_from k o os f g gs w) ts = refl
-
-  -- (TABLE) before other words
-  tabled : (b : Bool) → IsOffered b → (t m : Token) (s : List Item) (ts : List Terminal) (below : Option (List Item)) →
-      takes_then (by_row limit (cond b (Some (Keyword Table ∷ Sign Close ∷ [])) None) true s below) (takes_all limit (t_key Table t ∷ t_mark Close m ∷ ts)) ≡ takes_all limit ts s
-  tabled true p t m s ts below = refl
-  tabled false p t m s ts below = absurd p
-
-  pub ordered : (x : OrderedSelect) → levels_of_ordered x ≤ limit → takes_all limit (words_of_ordered x) (Whole ∷ []) ≡ true
-  ordered (ordered_select no_explain q y v e) low = opened q (words_of_order y ++ (words_of_window v ++ words_of_ending e)) ∙ ended q y v e low
-  ordered (ordered_select (explain k) q y v e) low = no-table q (words_of_order y ++ (words_of_window v ++ words_of_ending e)) ∙ ended q y v e low
-  ordered (ordered_select (explain_table p k o t m) q y v e) low =
-      tabled READS_TABLE p t m (Query ∷ MaybeOrder ∷ MaybeLimit ∷ MaybeOffset ∷ Ends ∷ []) (words_of_select q ++ (words_of_order y ++ (words_of_window v ++ words_of_ending e)))
-      (step_of limit (MarkClass Open) (Query ∷ MaybeOrder ∷ MaybeLimit ∷ MaybeOffset ∷ Ends ∷ [])) ∙ ended q y v e low

@@ -102,7 +102,7 @@ column-ends no_direction (nulls_last n l) x h = refl
 column-ends (ascending k) z x h = refl
 column-ends (descending k) z x h = refl
 
-one_col : (a b : Col) (x y : List Terminal) → ends_operand x ≡ true → ends_operand y ≡ true → words_of_col a ++ x ≡ words_of_col b ++ y → (a ≡ b) × (x ≡ y)
+pub one_col : (a b : Col) (x y : List Terminal) → ends_operand x ≡ true → ends_operand y ≡ true → words_of_col a ++ x ≡ words_of_col b ++ y → (a ≡ b) × (x ≡ y)
 one_col a b x y h k e = let (first, rest) = one_operand (column a) (column b) x y h k e in (cc (first), rest)
 
 one_ordering : (o u : Ordering) (x y : List Terminal) → ends_ordering x ≡ true → ends_ordering y ≡ true → words_of_ordering o ++ x ≡ words_of_ordering u ++ y → (o ≡ u) × (x ≡ y)
@@ -141,7 +141,7 @@ one_orderings ((m, o) ∷ os) ((n, u) ∷ us) x y h k e =
     (cc (comma, first, others), rest)
 
 -- no ORDER is next
-abbrev orderless : List Terminal → Bool
+abbrev pub orderless : List Terminal → Bool
 orderless (t_key Order _ ∷ _) = false
 orderless _ = true
 
@@ -151,19 +151,19 @@ pub record EndsOrder (x : List Terminal) : Type 0 where
   pub none : orderless x ≡ true
   pub select : ends_select x ≡ true
 
-windowed-order : (x : List Terminal) → ends_windowed x ≡ true → EndsOrder x
+pub windowed-order : (x : List Terminal) → ends_windowed x ≡ true → EndsOrder x
 windowed-order [] h = record { order = refl; none = refl; select = refl }
 windowed-order (t_mark Close _ ∷ _) h = record { order = refl; none = refl; select = refl }
 windowed-order (t_semicolon _ ∷ _) h = record { order = refl; none = refl; select = refl }
 windowed-order (t_end _ ∷ _) h = record { order = refl; none = refl; select = refl }
 windowed-order _ h = absurd (cc)
 
-window-ends : (w : Window) (x : List Terminal) → ends_windowed x ≡ true → EndsOrder (words_of_window w ++ x)
+pub window-ends : (w : Window) (x : List Terminal) → ends_windowed x ≡ true → EndsOrder (words_of_window w ++ x)
 window-ends (window (most_rows p k n) o) x h = record { order = refl; none = refl; select = refl }
 window-ends (window no_limit (skipped_rows p k n)) x h = record { order = refl; none = refl; select = refl }
 window-ends (window no_limit no_offset) x h = windowed-order x h
 
-one_order : (a b : OrderBy) (x y : List Terminal) → EndsOrder x → EndsOrder y → words_of_order a ++ x ≡ words_of_order b ++ y → (a ≡ b) × (x ≡ y)
+pub one_order : (a b : OrderBy) (x y : List Terminal) → EndsOrder x → EndsOrder y → words_of_order a ++ x ≡ words_of_order b ++ y → (a ≡ b) × (x ≡ y)
 one_order no_order no_order x y p q h = (refl, h)
 one_order no_order (order_by j b u us) x y p q h = absurd (tested orderless x (words_of_order (order_by j b u us) ++ y) p.none refl h)
 one_order (order_by i b o os) no_order x y p q h = absurd (tested orderless y (words_of_order (order_by i b o os) ++ x) q.none refl (sym h))
@@ -175,7 +175,7 @@ one_order (order_by i b o os) (order_by j c u us) x y p q h =
     let (others, last) = one_orderings os us x y p.order q.order more in
     (cc (key, word, first, others), last)
 
-order-select : (a : OrderBy) (x : List Terminal) → EndsOrder x → ends_select (words_of_order a ++ x) ≡ true
+pub order-select : (a : OrderBy) (x : List Terminal) → EndsOrder x → ends_select (words_of_order a ++ x) ≡ true
 order-select no_order x p = p.select
 order-select (order_by k b o os) x p = refl
 
@@ -201,7 +201,7 @@ one_windowed (windowed_select p a v) (windowed_select q b w) x y h k e =
     (sym (windowed-words (words_of_select p) (words_of_order a) (words_of_window v) x) ∙ (e ∙ windowed-words (words_of_select q) (words_of_order b) (words_of_window w) y)) in
     (cc (first, order, rows), rest)
 
-ending-windowed : (e : Ending) → ends_windowed (words_of_ending e) ≡ true
+pub ending-windowed : (e : Ending) → ends_windowed (words_of_ending e) ≡ true
 ending-windowed (semicolon t) = refl
 ending-windowed (text_end t) = refl
 

@@ -11,7 +11,7 @@ use Rattle.sql_grammar.specs.declared.class.Symbol.TheVariants.{Open, Close, Com
 use Rattle.sql_grammar.specs.declared.class.Class.{Class}
 use Rattle.sql_grammar.specs.declared.class.Class.TheVariants.{Key, Mark, Name, Number, Quoted, Operator, Semicolon, End}
 use Rattle.sql_grammar.specs.declared.table.Item.{Item}
-use Rattle.sql_grammar.specs.declared.table.Item.TheVariants.{Keyword, Sign, FreeWord, Label, Digits, QuotedText, Whole, Ends, Stop, Query, Nullness, MoreColumns, Result, MoreResults, AfterResult, StarOrLabel, MaybeAlias, MoreJoins, MoreGroups, MaybeWhere, Figures, MaybeCommon, MoreShares, MaybeHistogram, MoreBounds, Literal, Negation, MoreAnds, MoreOrs, Closes, NotEnds, AfterName, AfterColumn, AfterIs, AfterLiteral, AfterTruth, Side, AfterQualifier, MaybeOrder, MoreOrderings, MaybeLimit, MaybeOffset, MaybeDirection, MaybeNulls, FirstOrLast, AfterCreate, MaybeUsing, MaybeClass, MoreKeys, MaybeInclude, MoreNames, MaybeTable, Candidate, MoreCands, AdvisedSelect, MoreAdvised}
+use Rattle.sql_grammar.specs.declared.table.Item.TheVariants.{Keyword, Sign, FreeWord, Label, Digits, QuotedText, Whole, Ends, Stop, Query, Nullness, MoreColumns, Result, MoreResults, AfterResult, StarOrLabel, MaybeAlias, MoreJoins, MoreGroups, MaybeWhere, Figures, MaybeCommon, MoreShares, MaybeHistogram, MoreBounds, Literal, Negation, MoreAnds, MoreOrs, Closes, NotEnds, AfterName, AfterColumn, AfterIs, AfterLiteral, AfterTruth, Side, AfterQualifier, MaybeOrder, MoreOrderings, MaybeLimit, MaybeOffset, MaybeDirection, MaybeNulls, FirstOrLast, AfterCreate, MaybeUsing, MaybeClass, MoreKeys, MaybeInclude, MoreNames, AfterExplain, Candidate, MoreCands, AdvisedSelect, MoreAdvised, PlainItem, AfterPlain, PlainNext, PlainTail, GroupedItem, AfterGroupedName, MoreGroupedItems, Argument, MaybeGroup, MoreGroupColumns}
 use Rattle.sql_grammar.specs.Table.{word_code, sign_code, free_code, takes_of, is_optional, room_of, statement_takes, ends_takes, stop_takes, query_takes, nullness_takes, columns_takes, output_takes, outputs_takes, after_output_takes, star_takes, alias_takes, where_takes, figures_takes, common_takes, shares_takes, histogram_takes, bounds_takes, lit_takes, negation_takes, ands_takes, ors_takes, literal_takes, column_takes, name_takes, side_takes, qualifier_takes, keyword_takes, sign_takes, free_takes, label_takes, digits_takes, quoted_takes}
 use Rattle.sql_grammar.specs.Machine.{depth_of, opens, pushed, by_row, step_of, Fits}
 use Rattle.sql_grammar.specs.Steps.{Taken}
@@ -20,7 +20,8 @@ use Rattle.sql_grammar.proofs.FromRoom.{joins-room, groups-room}
 use Rattle.sql_grammar.proofs.OrderRoom.{order-room, orderings-room, direction-room, nulls-room, nulls-end-room}
 use Rattle.sql_grammar.proofs.WindowRoom.{limit-room, offset-room}
 use Rattle.sql_grammar.proofs.IndexRoom.{create-room, using-room, class-room, keys-room, include-room, names-room}
-use Rattle.sql_grammar.proofs.AdviseRoom.{offered-room, table-room, candidate-room, cands-room, advised-room, more-advised-room}
+use Rattle.sql_grammar.proofs.AdviseRoom.{offered-room, explained-room, candidate-room, cands-room, advised-room, more-advised-room}
+use Rattle.sql_grammar.proofs.GroupRoom.{plain-item-room, after-plain-room, plain-next-room, plain-tail-room, grouped-item-room, grouped-name-room, grouped-items-room, argument-room, group-by-room, group-columns-room}
 use Rattle.sql_grammar.proofs.Sound.{flat-depth}
 
 keyword-room : (w : Word) (t : Class) → row_test (Keyword w) t (keyword_takes w t) ≡ true
@@ -228,11 +229,21 @@ row-room MaybeClass t = class-room t
 row-room MoreKeys t = keys-room t
 row-room MaybeInclude t = include-room t
 row-room MoreNames t = names-room t
-row-room MaybeTable t = table-room t
+row-room AfterExplain t = explained-room t
 row-room Candidate t = candidate-room t
 row-room MoreCands t = cands-room t
 row-room AdvisedSelect t = advised-room t
 row-room MoreAdvised t = more-advised-room t
+row-room PlainItem t = plain-item-room t
+row-room AfterPlain t = after-plain-room t
+row-room PlainNext t = plain-next-room t
+row-room PlainTail t = plain-tail-room t
+row-room GroupedItem t = grouped-item-room t
+row-room AfterGroupedName t = grouped-name-room t
+row-room MoreGroupedItems t = grouped-items-room t
+row-room Argument t = argument-room t
+row-room MaybeGroup t = group-by-room t
+row-room MoreGroupColumns t = group-columns-room t
 
 room-some : (i : Item) → 1 ≤ room_of i
 room-some Whole = omega arith

@@ -6,14 +6,14 @@ use Rattle.sql_grammar.specs.Terminals.{Terminal, Ident, Said, t_key, t_mark, t_
 use Rattle.sql_grammar.specs.declared.class.Free.TheVariants.{Common, Copy, Distinct, Explain, Histogram, Last, Nulls, Pages, Rows, Statistics}
 use Rattle.sql_grammar.specs.declared.class.Free.{Free as FreeT}
 use Rattle.sql_grammar.specs.declared.class.Word.{Word}
-use Rattle.sql_grammar.specs.declared.class.Word.TheVariants.{And, As, Create, False, From, Is, Not, Null, Or, Select, Table, True, Where}
+use Rattle.sql_grammar.specs.declared.class.Word.TheVariants.{And, As, Create, False, Is, Not, Null, Or, Select, Table, True, Where}
 use Rattle.sql_grammar.specs.declared.class.Symbol.{Symbol}
 use Rattle.sql_grammar.specs.declared.class.Symbol.TheVariants.{Open, Close, Comma, Dot, Minus, Star}
 use Rattle.sql_grammar.specs.declared.table.Item.{Item}
-use Rattle.sql_grammar.specs.declared.table.Item.TheVariants.{Keyword, Sign, FreeWord, Label, Digits, QuotedText, Whole, Ends, Stop, Query, Nullness, MoreColumns, Result, MoreResults, AfterResult, StarOrLabel, MaybeAlias, MoreJoins, MoreGroups, MaybeWhere, Figures, MaybeCommon, MoreShares, MaybeHistogram, MoreBounds, Literal, Negation, MoreAnds, MoreOrs, Closes, NotEnds, AfterName, AfterColumn, AfterIs, AfterLiteral, AfterTruth, Side, AfterQualifier, MaybeOrder, MoreOrderings, MaybeLimit, MaybeOffset, MaybeDirection, MaybeNulls, FirstOrLast, AfterCreate, MaybeUsing, MaybeClass, MoreKeys, MaybeInclude, MoreNames, MaybeTable, Candidate, MoreCands, AdvisedSelect, MoreAdvised}
-use Rattle.sql_grammar.specs.Syntax.{bare, qualified, yes, no, unknown, number, negative, quoted, constant, column, literal, either_of, no_or, or_conj, both_of, no_and, and_neg, negated, plain, parens, compare, is_null, is_not_null, column_alone, constant_alone, unwritten, not_null, nullable, coldef, every, every_of, one, no_alias, bare_alias, as_alias, relation, group_of, no_where, where_expr, select_from, share, no_common, common, no_histogram, histogram, semicolon, text_end, empty, create_table, query, copy, sizes, column_statistics}
-use Rattle.sql_grammar.specs.Words.{words_of_operand, words_of_output, words_of_outputs, words_of_alias, words_of_joins, words_of_groups, words_of_where, words_of_select, words_of_order, words_of_limit, words_of_offset, words_of_ending, words_of_common, words_of_histogram}
-use Rattle.sql_grammar.specs.Syntax.{no_direction, no_nulls_end, nulls_last, no_order, no_limit, no_offset, window, windowed_select, no_explain, explain, ordered_select}
+use Rattle.sql_grammar.specs.declared.table.Item.TheVariants.{Keyword, Sign, FreeWord, Label, Digits, QuotedText, Whole, Ends, Stop, Query, Nullness, MoreColumns, Result, MoreResults, AfterResult, StarOrLabel, MaybeAlias, MoreJoins, MoreGroups, MaybeWhere, Figures, MaybeCommon, MoreShares, MaybeHistogram, MoreBounds, Literal, Negation, MoreAnds, MoreOrs, Closes, NotEnds, AfterName, AfterColumn, AfterIs, AfterLiteral, AfterTruth, Side, AfterQualifier, MaybeOrder, MoreOrderings, MaybeLimit, MaybeOffset, MaybeDirection, MaybeNulls, FirstOrLast, AfterCreate, MaybeUsing, MaybeClass, MoreKeys, MaybeInclude, MoreNames, AfterExplain, Candidate, MoreCands, AdvisedSelect, MoreAdvised, PlainItem, AfterPlain, PlainNext, PlainTail, GroupedItem, AfterGroupedName, MoreGroupedItems, Argument, MaybeGroup, MoreGroupColumns}
+use Rattle.sql_grammar.specs.Syntax.{bare, qualified, yes, no, unknown, number, negative, quoted, constant, column, literal, either_of, no_or, or_conj, both_of, no_and, and_neg, negated, plain, parens, compare, is_null, is_not_null, column_alone, constant_alone, unwritten, not_null, nullable, coldef, every, every_of, one, no_alias, bare_alias, as_alias, relation, group_of, no_where, where_expr, select_from, share, no_common, common, no_histogram, histogram, semicolon, text_end, empty, create_table, copy, sizes, column_statistics}
+use Rattle.sql_grammar.specs.Words.{words_of_operand, words_of_ending, words_of_common, words_of_histogram}
+use Rattle.sql_grammar.specs.Syntax.{no_direction, no_nulls_end, nulls_last, no_order, no_limit, no_offset, window, windowed_select, unexplained, explained, all_rows, plain_item, no_group_by}
 use Rattle.sql_grammar.specs.Syntax.{no_class, index_key, no_using, no_include, cand_on, advised}
 use Rattle.sql_grammar.proofs.Codes.{same_word, same_sign, same_free}
 use Rattle.sql_grammar.specs.Table.{word_code, sign_code, free_code, Expansion, takes_of, is_optional, statement_takes, ends_takes, stop_takes, query_takes, nullness_takes, columns_takes, output_takes, outputs_takes, after_output_takes, star_takes, alias_takes, where_takes, figures_takes, common_takes, shares_takes, histogram_takes, bounds_takes, lit_takes, negation_takes, ands_takes, ors_takes, literal_takes, column_takes, name_takes, side_takes, qualifier_takes, keyword_takes, sign_takes, free_takes, label_takes, digits_takes, quoted_takes}
@@ -24,6 +24,7 @@ use Rattle.sql_grammar.proofs.OrderRules as orders
 use Rattle.sql_grammar.proofs.WindowRules as windows
 use Rattle.sql_grammar.proofs.IndexRules as indexes
 use Rattle.sql_grammar.proofs.AdviseRules as offers
+use Rattle.sql_grammar.proofs.GroupRules as groupings
 
 -- where a word stands that is not there
 abbrev no_place : Token
@@ -42,20 +43,8 @@ module _ (limit : ℕ) (s : List Item) (shallow : depth_of s ≤ limit) where
 
   statement_rule : (t : Terminal) → Rule Whole t (statement_takes (class_of t))
   statement_rule (t_key Create k) = λ ((ts, after'), f). let (x, is, low) = after' k in (((x, low), f), ap (λ l. l ++ words_of_parts limit s f) is)
-  statement_rule (t_key Select k) = λ (o, (os, (from, (n, (a, ((js, ejs), ((gs, egs), ((w, low), (y, (l, (u, (e, f)))))))))))). (
-    ((query (ordered_select no_explain (select_from k o os from (group_of (relation n a) js) gs w) y (window l u) e), omega arith), f),
-    let parts : List Terminal = words_of_parts limit s f in
-        append_assoc (words_of_select (select_from k o os from (group_of (relation n a) js) gs w)) (words_of_order y ++ ((words_of_limit l ++ words_of_offset u) ++ words_of_ending e)) parts ∙
-        (ap (λ x. words_of_select (select_from k o os from (group_of (relation n a) js) gs w) ++ x) (windows.window-words (words_of_order y) (words_of_limit l) (words_of_offset u) (words_of_ending e) parts) ∙
-        ap (λ x. t_key Select k ∷ x) (froms.select-words (words_of_output o) (words_of_outputs os) (words_of_alias a) (words_of_joins js) (words_of_groups gs) (words_of_where w)
-        (words_of_order y ++ (words_of_limit l ++ (words_of_offset u ++ (words_of_ending e ++ parts)))) (t_key From from) (t_name n))),
-  )
-  statement_rule (t_name (free Explain k)) = λ ((ts, after'), ((q, low), (y, (l, (u, (e, f)))))).
-      let (x, is) = after' k in (
-        ((query (ordered_select x q y (window l u) e), omega arith), f),
-        ap (λ v. (v ++ (words_of_select q ++ (words_of_order y ++ ((words_of_limit l ++ words_of_offset u) ++ words_of_ending e)))) ++ words_of_parts limit s f) is ∙
-            ap (λ v. t_name (free Explain k) ∷ v) (windows.explained-words ts (words_of_select q) (words_of_order y) (words_of_limit l) (words_of_offset u) (words_of_ending e) (words_of_parts limit s f)),
-      )
+  statement_rule (t_key Select k) = λ ((ts, after'), f). let (x, is, low) = after' unexplained k [] in (((x, low), f), ap (λ l. l ++ words_of_parts limit s f) is)
+  statement_rule (t_name (free Explain k)) = λ ((ts, after'), f). let (x, is, low) = after' k in (((x, low), f), ap (λ l. l ++ words_of_parts limit s f) is)
   statement_rule (t_name (free Copy k)) = λ (n, (from_at, (stdin, (with_at, (open_at, (format, (csv, (comma, (null, (text, (close_at, (stop, f)))))))))))).
       (((copy (record { copy = k; from_at = from_at; stdin = stdin; with_at = with_at; open_at = open_at; format = format; csv = csv; comma = comma; null = null; close_at = close_at; stop = stop }) n text, omega arith), f), refl)
   statement_rule (t_name (free Statistics k)) = λ (n, ((ts, after'), (e, f))).
@@ -321,11 +310,21 @@ module _ (limit : ℕ) (s : List Item) (shallow : depth_of s ≤ limit) where
   rule MoreKeys t = indexes.keys_rule limit s t
   rule MaybeInclude t = indexes.include_rule limit s t
   rule MoreNames t = indexes.names_rule limit s t
-  rule MaybeTable t = offers.table_rule limit s t
+  rule AfterExplain t = offers.explained_rule limit s t
   rule Candidate t = offers.candidate_rule limit s t
   rule MoreCands t = offers.cands_rule limit s shallow t
   rule AdvisedSelect t = offers.advised_rule limit s t
   rule MoreAdvised t = offers.more_advised_rule limit s t
+  rule PlainItem t = groupings.plain_item_rule limit s t
+  rule AfterPlain t = groupings.after_plain_rule limit s t
+  rule PlainNext t = groupings.plain_next_rule limit s t
+  rule PlainTail t = groupings.plain_tail_rule limit s t
+  rule GroupedItem t = groupings.grouped_item_rule limit s t
+  rule AfterGroupedName t = groupings.grouped_name_rule limit s t
+  rule MoreGroupedItems t = groupings.grouped_items_rule limit s t
+  rule Argument t = groupings.argument_rule limit s t
+  rule MaybeGroup t = groupings.group_by_rule limit s t
+  rule MoreGroupColumns t = groupings.group_columns_rule limit s t
 
   -- an optional item stands for nothing
   pub nothing : (i : Item) → is_optional i ≡ true → (f : Parts limit s) → (g : Parts limit (i ∷ s)) × (words_of_parts limit (i ∷ s) g ≡ words_of_parts limit s f)
@@ -354,8 +353,10 @@ module _ (limit : ℕ) (s : List Item) (shallow : depth_of s ≤ limit) where
   nothing MaybeUsing o f = ((no_using, f), refl)
   nothing MaybeClass o f = ((no_class, f), refl)
   nothing MaybeInclude o f = ((no_include, f), refl)
-  nothing MaybeTable o f = ((([], λ k. (explain k, refl)), f), refl)
   nothing MoreAdvised o f = ((([], omega arith), f), refl)
+  nothing AfterGroupedName o f = ((([], λ n. (plain_item (one (bare n)), refl)), f), refl)
+  nothing MaybeGroup o f = ((no_group_by, f), refl)
+  nothing MoreGroupColumns o f = (([], f), refl)
   nothing _ o f = absurd (cc)
 
   -- every item stands for something
@@ -417,7 +418,7 @@ module _ (limit : ℕ) (s : List Item) (shallow : depth_of s ≤ limit) where
   something MoreKeys = ([], no_place)
   something MaybeInclude = no_include
   something MoreNames = ([], no_place)
-  something MaybeTable = ([], λ k. (explain k, refl))
+  something AfterExplain = let (ts, whole) = groupings.some-item limit (depth_of s) shallow a_name no_place in (t_key Select no_place ∷ ts, λ k. whole (explained k) no_place [])
   something Candidate = (cand_on a_name no_place a_name no_using no_place (index_key a_name no_class no_direction no_nulls_end) [] no_place no_include no_where, omega arith)
   something MoreCands = ([], omega arith, no_place)
   something AdvisedSelect = (
@@ -425,3 +426,13 @@ module _ (limit : ℕ) (s : List Item) (shallow : depth_of s ≤ limit) where
     omega arith,
   )
   something MoreAdvised = ([], omega arith)
+  something PlainItem = groupings.some-item limit (depth_of s) shallow a_name no_place
+  something AfterPlain = groupings.some-after limit (depth_of s) shallow a_name no_place
+  something PlainNext = groupings.some-next limit (depth_of s) shallow a_name no_place
+  something PlainTail = groupings.some-tail limit (depth_of s) no_place
+  something GroupedItem = plain_item (every no_place)
+  something AfterGroupedName = ([], λ n. (plain_item (one (bare n)), refl))
+  something MoreGroupedItems = ([], no_place)
+  something Argument = all_rows no_place
+  something MaybeGroup = no_group_by
+  something MoreGroupColumns = []

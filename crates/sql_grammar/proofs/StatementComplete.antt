@@ -2,11 +2,11 @@
 use Rattle.std.proofs.Common.{◌≡◌, ℕ, ◌≤◌, true, [], ◌∷◌, ◌++◌, refl, ◌∙◌, arith}
 use Rattle.sql_grammar.specs.declared.offered.TheConstants.{READS_ADVISE, READS_ANALYZE, READS_CHECK, READS_PLAN}
 use Rattle.sql_grammar.specs.declared.table.Item.TheVariants.{Whole, Ends, MaybeHistogram}
-use Rattle.sql_grammar.specs.Syntax.{semicolon, text_end, advise_of, Statement, empty, create_table, create_index, query, copy, sizes, column_statistics, analyze, advise, check, use_plan}
+use Rattle.sql_grammar.specs.Syntax.{semicolon, text_end, advise_of, Statement, empty, create_table, create_index, query, copy, sizes, column_statistics, analyze, advise, check, use_plan, unexplained, explained, grouped}
 use Rattle.sql_grammar.specs.Words.{words_of, words_of_histogram, words_of_ending, levels_of}
 use Rattle.sql_grammar.specs.Machine.{takes_all}
 use Rattle.sql_grammar.proofs.Complete.{columns, common-values, histograms, after-common, after-histogram, ending}
-use Rattle.sql_grammar.proofs.OrderComplete.{ordered}
+use Rattle.sql_grammar.proofs.GroupComplete.{ordered, grouped-select}
 use Rattle.sql_grammar.proofs.IndexComplete.{index}
 use Rattle.sql_grammar.proofs.AdviseComplete.{analyzed, advises, checks, plans}
 
@@ -26,3 +26,5 @@ module _ (limit : ℕ) where
   statement (advise (advise_of p k n o c cs m x xs e)) low = advises limit READS_ADVISE p n o c cs m x xs e (omega (arith, low)) (omega (arith, low)) (omega (arith, low)) (omega (arith, low))
   statement (check p k x t) low = checks limit READS_CHECK p x t low
   statement (use_plan p u k q y t) low = plans limit READS_PLAN p k q y t low
+  statement (grouped p unexplained k q) low = grouped-select limit p q low
+  statement (grouped p (explained j) k q) low = grouped-select limit p q low

@@ -2,15 +2,16 @@
 use Rattle.std.proofs.Common.{◌≡◌, ℕ, true, List, ◌∷◌, ◌++◌, drop, refl, sym, ap, ◌∙◌, arith}
 use Rattle.sql_grammar.specs.declared.class.Word.TheVariants.{Create, Select}
 use Rattle.sql_grammar.specs.declared.class.Free.TheVariants.{Advise as AdviseWord, Analyze, Check, Copy, Explain, Statistics, Use}
-use Rattle.sql_grammar.specs.declared.offered.TheConstants.{READS_ANALYZE, READS_CHECK, READS_PLAN}
+use Rattle.sql_grammar.specs.declared.offered.TheConstants.{READS_ANALYZE, READS_CHECK, READS_GROUPS, READS_PLAN}
 use Rattle.sql_grammar.specs.Terminals.{Terminal, free, t_key, t_mark, t_name}
-use Rattle.sql_grammar.specs.Syntax.{CopyWords, SizesWords, ColumnWords, Histogram, no_histogram, histogram, select_from, Ending, semicolon, text_end, no_explain, explain, explain_table, ordered_select, index_on, advise_of, Statement, empty, create_table, create_index, query, copy, sizes, column_statistics, analyze, advise, check, use_plan}
+use Rattle.sql_grammar.specs.Syntax.{CopyWords, SizesWords, ColumnWords, Histogram, no_histogram, histogram, select_from, Ending, semicolon, text_end, no_explain, explain, explain_table, ordered_select, index_on, advise_of, Statement, empty, create_table, create_index, query, copy, sizes, column_statistics, analyze, advise, check, use_plan, unexplained, explained, grouped}
 use Rattle.sql_grammar.specs.Words.{words_of_histogram, words_of_ending, words_of}
 use Rattle.sql_grammar.proofs.StatisticsLemmas.{ends_common, ends_histogram, one_common, one_histogram}
 use Rattle.sql_grammar.proofs.Trees.{one_ending, one_table}
 use Rattle.sql_grammar.proofs.WindowTrees.{one_offered}
 use Rattle.sql_grammar.proofs.OrderTrees.{one_ordered}
 use Rattle.sql_grammar.proofs.IndexTrees.{one_index}
+use Rattle.sql_grammar.proofs.GroupTrees.{one_begun, plain-apart}
 use Rattle.sql_grammar.proofs.AdviseTrees.{one_advise, one_stopped, one_planned}
 
 -- the kind of a statement, by its first words
@@ -40,6 +41,7 @@ kind (analyze p k n e) = 7
 kind (advise x) = 8
 kind (check p k x s) = 9
 kind (use_plan p u k q y s) = 10
+kind (grouped p x k q) = 2
 
 kind-is : (x : Statement) → kind_of (words_of x) ≡ kind x
 kind-is (empty (semicolon t)) = refl
@@ -56,6 +58,8 @@ kind-is (analyze p k n e) = refl
 kind-is (advise (advise_of p k n o c cs m x xs e)) = refl
 kind-is (check p k x s) = refl
 kind-is (use_plan p u k q y s) = refl
+kind-is (grouped p unexplained k q) = refl
+kind-is (grouped p (explained j) k q) = refl
 
 same_kind : (x y : Statement) → words_of x ≡ words_of y → kind x ≡ kind y
 same_kind x y e = sym (kind-is x) ∙ (ap kind_of e ∙ kind-is y)
@@ -118,6 +122,12 @@ one_of (use_plan p i l a o s) (use_plan q j m b u t) k h =
     let second : l ≡ m = cc (h) in
     let (same, order, stop) = one_planned a b o u s t (ap (drop 2) h) in
     cc (offered, first, second, same, order, stop)
+one_of (query x) (grouped q y j b) k h = absurd (plain-apart x y j b h)
+one_of (grouped p x i a) (query y) k h = absurd (plain-apart y x i a (sym h))
+one_of (grouped p x i a) (grouped q y j b) k h =
+    let offered = one_offered READS_GROUPS p q in
+    let (explaining, word, same) = one_begun x y i j a b h in
+    cc (offered, explaining, word, same)
 one_of _ _ k h = absurd (omega (arith, k))
 
 -- a list of words, each with its token, is spelled by one statement

@@ -97,7 +97,7 @@ module _ (limit : ℕ) where
   most no_limit s ts p = skip limit MaybeLimit s ts refl p
   most (most_rows p k n) s ts q = numbered READS_WINDOW p n s ts (step_of limit (Key LimitKey) s)
 
-  skipped : (o : Offset) (s : List Item) (ts : List Terminal) → Passes MaybeOffset ts → takes_all limit (words_of_offset o ++ ts) (MaybeOffset ∷ s) ≡ takes_all limit ts s
+  pub skipped : (o : Offset) (s : List Item) (ts : List Terminal) → Passes MaybeOffset ts → takes_all limit (words_of_offset o ++ ts) (MaybeOffset ∷ s) ≡ takes_all limit ts s
   skipped no_offset s ts p = skip limit MaybeOffset s ts refl p
   skipped (skipped_rows p k n) s ts q = numbered READS_WINDOW p n s ts (step_of limit (Key OffsetKey) s)
 

@@ -14,10 +14,6 @@ use Rattle.sql_grammar.proofs.Forest.{IsRule}
 pub window-words : (y l o e x : List Terminal) → (y ++ ((l ++ o) ++ e)) ++ x ≡ y ++ (l ++ (o ++ (e ++ x)))
 window-words y l o e x = simp append_assoc
 
--- those of a SELECT with them, and of what stands before it
-pub explained-words : (ts q y l o e x : List Terminal) → (ts ++ (q ++ (y ++ ((l ++ o) ++ e)))) ++ x ≡ ts ++ (q ++ (y ++ (l ++ (o ++ (e ++ x)))))
-explained-words ts q y l o e x = simp append_assoc
-
 module _ (limit : ℕ) (s : List Item) where
   most : (b : Bool) (k : Token) → b ≡ READS_WINDOW → IsRule limit s MaybeLimit (t_key Limit k) (cond b (Some (Digits ∷ [])) None)
   most true k is = λ (n, f). ((most_rows (subst IsOffered is tt) k n, f), refl)

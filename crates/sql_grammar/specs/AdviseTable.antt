@@ -2,13 +2,13 @@
 use Rattle.std.specs.Prelude.{List, [], ◌∷◌, Option, Some, None, cond}
 use Rattle.sql_grammar.specs.declared.class.Free.{Free}
 use Rattle.sql_grammar.specs.declared.class.Free.TheVariants.{Advise, Analyze, Check, Plan, Use}
-use Rattle.sql_grammar.specs.declared.class.Word.TheVariants.{On, Table}
+use Rattle.sql_grammar.specs.declared.class.Word.TheVariants.{On, Select, Table}
 use Rattle.sql_grammar.specs.declared.class.Symbol.TheVariants.{Open, Close, Comma}
 use Rattle.sql_grammar.specs.declared.class.Class.{Class}
-use Rattle.sql_grammar.specs.declared.class.Class.TheVariants.{Mark, Name}
+use Rattle.sql_grammar.specs.declared.class.Class.TheVariants.{Key, Mark, Name}
 use Rattle.sql_grammar.specs.declared.offered.TheConstants.{READS_ADVISE, READS_ANALYZE, READS_CHECK, READS_PLAN, READS_TABLE}
 use Rattle.sql_grammar.specs.declared.table.Item.{Item}
-use Rattle.sql_grammar.specs.declared.table.Item.TheVariants.{Keyword, Sign, FreeWord, Label, Digits, Ends, Stop, Query, MaybeWhere, MaybeOrder, MaybeLimit, MaybeOffset, MaybeDirection, MaybeNulls, MaybeUsing, MaybeClass, MoreKeys, MaybeInclude, Candidate, MoreCands, AdvisedSelect, MoreAdvised}
+use Rattle.sql_grammar.specs.declared.table.Item.TheVariants.{Keyword, Sign, FreeWord, Label, Digits, Ends, Stop, Query, MaybeWhere, MaybeOrder, MaybeLimit, MaybeOffset, MaybeDirection, MaybeNulls, MaybeUsing, MaybeClass, MoreKeys, MaybeInclude, Candidate, MoreCands, AdvisedSelect, MoreAdvised, PlainItem}
 
 -- such a statement behind its first word: `ADVISE`, `ANALYZE`, `CHECK` or `USE PLAN`
 abbrev pub offered_takes : Free → Option (List Item)
@@ -18,10 +18,11 @@ offered_takes Check = cond READS_CHECK (Some (Query ∷ MaybeOrder ∷ MaybeLimi
 offered_takes Use = cond READS_PLAN (Some (FreeWord Plan ∷ Query ∷ MaybeOrder ∷ Stop ∷ [])) None
 offered_takes _ = None
 
--- (TABLE) behind EXPLAIN
-abbrev pub table_takes : Class → Option (List Item)
-table_takes (Mark Open) = cond READS_TABLE (Some (Keyword Table ∷ Sign Close ∷ [])) None
-table_takes _ = None
+-- what follows EXPLAIN: a SELECT, or (TABLE) and one without groups
+abbrev pub explained_takes : Class → Option (List Item)
+explained_takes (Key Select) = Some (PlainItem ∷ [])
+explained_takes (Mark Open) = cond READS_TABLE (Some (Keyword Table ∷ Sign Close ∷ Query ∷ MaybeOrder ∷ MaybeLimit ∷ MaybeOffset ∷ Ends ∷ [])) None
+explained_takes _ = None
 
 -- a candidate for an index
 abbrev pub candidate_takes : Class → Option (List Item)

@@ -7,6 +7,7 @@ pub mod OrderTable
 pub mod WindowTable
 pub mod IndexTable
 pub mod AdviseTable
+pub mod GroupTable
 pub mod Table
 pub mod Machine
 pub mod Steps

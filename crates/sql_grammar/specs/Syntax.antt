@@ -1,10 +1,10 @@
 -- The statements, as they are written, each word with its token: a type for each production, a case for each spelling that
 -- it allows
 -- (PostgreSQL manual, chapters SQL Syntax and SQL Commands, cut down to this program's statements).
-use Rattle.std.specs.Prelude.{Bool, true, false, List}
+use Rattle.std.specs.Prelude.{Bool, true, false, ◌||◌, List, [], ◌∷◌}
 use Rattle.sql_lex.specs.declared.tokens.Token.{Token}
 use Rattle.sql_grammar.specs.declared.class.Free.TheVariants.{Nulls as NullsWord}
-use Rattle.sql_grammar.specs.declared.offered.TheConstants.{READS_ADVISE, READS_ANALYZE, READS_CHECK, READS_PLAN, READS_TABLE, READS_WINDOW}
+use Rattle.sql_grammar.specs.declared.offered.TheConstants.{READS_ADVISE, READS_ANALYZE, READS_CHECK, READS_GROUPS, READS_PLAN, READS_TABLE, READS_WINDOW}
 use Rattle.sql_grammar.specs.Terminals.{Ident, Said, free}
 
 -- the token of a reserved word, and that of a symbol
@@ -178,6 +178,55 @@ pub data Explaining : Type 0 where
 pub data OrderedSelect : Type 0 where
   ordered_select : Explaining → Select → OrderBy → Window → Ending → OrderedSelect
 
+-- [EXPLAIN]
+pub data MaybeExplain : Type 0 where
+  unexplained : MaybeExplain
+  explained : Token → MaybeExplain
+
+-- what a call is of: "*" | col
+pub data Argument : Type 0 where
+  all_rows : Mark → Argument
+  of_col : Col → Argument
+
+-- gitem = item | name "(" "*" ")" | name "(" col ")"
+pub data GroupedItem : Type 0 where
+  plain_item : Output → GroupedItem
+  call : Ident → Mark → Argument → Mark → GroupedItem
+
+-- [GROUP BY col { "," col }]
+pub data GroupBy : Type 0 where
+  no_group_by : GroupBy
+  group_by : Key → Token → Col → List (Mark × Col) → GroupBy
+
+-- the item is a call
+abbrev pub is_call : GroupedItem → Bool
+is_call (plain_item _) = false
+is_call (call _ _ _ _) = true
+
+-- one of these is
+abbrev pub has_call : List (Mark × GroupedItem) → Bool
+has_call [] = false
+has_call ((_, i) ∷ is) = is_call i || has_call is
+
+-- GROUP BY is written
+abbrev pub is_written : GroupBy → Bool
+is_written no_group_by = false
+is_written (group_by _ _ _ _) = true
+
+-- so it is
+abbrev pub Holds : Bool → Type 0
+Holds true = Unit {0}
+Holds false = ⊥
+
+-- GROUP BY is written, or an item is a call
+abbrev pub IsGrouped : GroupedItem → List (Mark × GroupedItem) → GroupBy → Type 0
+IsGrouped i is b = Holds (is_written b || (is_call i || has_call is))
+
+-- gselect = gitem { "," gitem } FROM group { "," group } [WHERE expr] [GROUP BY col { "," col }] [ORDER BY ord { "," ord }] end, with
+-- GROUP BY or a call
+pub data GroupedSelect : Type 0 where
+  grouped_select : (i : GroupedItem) (is : List (Mark × GroupedItem)) → Key → Group → List (Mark × Group) → Where → (b : GroupBy) → IsGrouped i is b → OrderBy → Ending → GroupedSelect
+
 -- the name is not `nulls`: behind a key's column that word begins NULLS FIRST or NULLS LAST
 abbrev pub IsClassName : Ident → Type 0
 IsClassName (free NullsWord _) = ⊥
@@ -268,6 +317,7 @@ pub record ColumnWords : Type 0 where
 --           | ANALYZE name end | advise
 --           | CHECK select [ORDER BY ord { "," ord }] window ";"
 --           | USE PLAN select [ORDER BY ord { "," ord }] ";"
+--           | [EXPLAIN] SELECT gselect
 pub data Statement : Type 0 where
   empty : Ending → Statement
   create_table : Key → Key → Ident → Mark → ColDef → List (Mark × ColDef) → Mark → Ending → Statement
@@ -280,3 +330,4 @@ pub data Statement : Type 0 where
   advise : Advise → Statement
   check : IsOffered READS_CHECK → Token → WindowedSelect → Token → Statement
   use_plan : IsOffered READS_PLAN → Token → Token → Select → OrderBy → Token → Statement
+  grouped : IsOffered READS_GROUPS → MaybeExplain → Key → GroupedSelect → Statement

@@ -9,12 +9,13 @@ use Rattle.sql_grammar.specs.declared.class.Symbol.TheVariants.{Open, Close, Com
 use Rattle.sql_grammar.specs.declared.class.Class.{Class}
 use Rattle.sql_grammar.specs.declared.class.Class.TheVariants.{Key, Mark, Name, Number, Quoted, Operator, Semicolon, End}
 use Rattle.sql_grammar.specs.declared.table.Item.{Item}
-use Rattle.sql_grammar.specs.declared.table.Item.TheVariants.{Keyword, Sign, FreeWord, Label, Digits, QuotedText, Whole, Ends, Stop, Query, Nullness, MoreColumns, Result, MoreResults, AfterResult, StarOrLabel, MaybeAlias, MoreJoins, MoreGroups, MaybeWhere, Figures, MaybeCommon, MoreShares, MaybeHistogram, MoreBounds, Literal, Negation, MoreAnds, MoreOrs, Closes, NotEnds, AfterName, AfterColumn, AfterIs, AfterLiteral, AfterTruth, Side, AfterQualifier, MaybeOrder, MoreOrderings, MaybeLimit, MaybeOffset, MaybeDirection, MaybeNulls, FirstOrLast, AfterCreate, MaybeUsing, MaybeClass, MoreKeys, MaybeInclude, MoreNames, MaybeTable, Candidate, MoreCands, AdvisedSelect, MoreAdvised}
+use Rattle.sql_grammar.specs.declared.table.Item.TheVariants.{Keyword, Sign, FreeWord, Label, Digits, QuotedText, Whole, Ends, Stop, Query, Nullness, MoreColumns, Result, MoreResults, AfterResult, StarOrLabel, MaybeAlias, MoreJoins, MoreGroups, MaybeWhere, Figures, MaybeCommon, MoreShares, MaybeHistogram, MoreBounds, Literal, Negation, MoreAnds, MoreOrs, Closes, NotEnds, AfterName, AfterColumn, AfterIs, AfterLiteral, AfterTruth, Side, AfterQualifier, MaybeOrder, MoreOrderings, MaybeLimit, MaybeOffset, MaybeDirection, MaybeNulls, FirstOrLast, AfterCreate, MaybeUsing, MaybeClass, MoreKeys, MaybeInclude, MoreNames, AfterExplain, Candidate, MoreCands, AdvisedSelect, MoreAdvised, PlainItem, AfterPlain, PlainNext, PlainTail, GroupedItem, AfterGroupedName, MoreGroupedItems, Argument, MaybeGroup, MoreGroupColumns}
 use Rattle.sql_grammar.specs.FromTable.{joins_takes, groups_takes}
 use Rattle.sql_grammar.specs.OrderTable.{order_takes, orderings_takes, direction_takes, nulls_takes, nulls_end_takes}
 use Rattle.sql_grammar.specs.WindowTable.{limit_takes, offset_takes}
 use Rattle.sql_grammar.specs.IndexTable.{create_takes, using_takes, class_takes, keys_takes, include_takes, names_takes}
-use Rattle.sql_grammar.specs.AdviseTable.{offered_takes, table_takes, candidate_takes, cands_takes, advised_takes, more_advised_takes}
+use Rattle.sql_grammar.specs.AdviseTable.{offered_takes, explained_takes, candidate_takes, cands_takes, advised_takes, more_advised_takes}
+use Rattle.sql_grammar.specs.GroupTable.{plain_item_takes, after_plain_takes, plain_next_takes, plain_tail_takes, grouped_item_takes, grouped_name_takes, grouped_items_takes, argument_takes, group_by_takes, group_columns_takes}
 
 -- the items in an item's place; None where the token is not awaited
 abbrev pub Expansion : Type 0
@@ -84,7 +85,7 @@ free_code Use = 21
 
 -- a statement behind its first word, which is not reserved
 abbrev pub worded_takes : Free → Expansion
-worded_takes Explain = Some (MaybeTable ∷ Query ∷ MaybeOrder ∷ MaybeLimit ∷ MaybeOffset ∷ Ends ∷ [])
+worded_takes Explain = Some (AfterExplain ∷ [])
 worded_takes Copy = Some (Label ∷ Keyword From ∷ FreeWord Stdin ∷ Keyword With ∷ Sign Open ∷ FreeWord Format ∷ FreeWord Csv ∷ Sign Comma ∷ Keyword Null ∷ QuotedText ∷ Sign Close ∷ Stop ∷ [])
 worded_takes Statistics = Some (Label ∷ Figures ∷ Ends ∷ [])
 worded_takes w = offered_takes w
@@ -92,7 +93,7 @@ worded_takes w = offered_takes w
 -- a statement and its end: `CREATE`, `SELECT`, a word that is not reserved, or nothing before the end
 abbrev pub statement_takes : Class → Expansion
 statement_takes (Key Create) = Some (AfterCreate ∷ [])
-statement_takes (Key Select) = Some (Result ∷ MoreResults ∷ Keyword From ∷ Label ∷ MaybeAlias ∷ MoreJoins ∷ MoreGroups ∷ MaybeWhere ∷ MaybeOrder ∷ MaybeLimit ∷ MaybeOffset ∷ Ends ∷ [])
+statement_takes (Key Select) = Some (PlainItem ∷ [])
 statement_takes (Name (Some w)) = worded_takes w
 statement_takes Semicolon = Some []
 statement_takes End = Some []
@@ -337,42 +338,58 @@ takes_of MaybeClass t = class_takes t
 takes_of MoreKeys t = keys_takes t
 takes_of MaybeInclude t = include_takes t
 takes_of MoreNames t = names_takes t
-takes_of MaybeTable t = table_takes t
+takes_of AfterExplain t = explained_takes t
 takes_of Candidate t = candidate_takes t
 takes_of MoreCands t = cands_takes t
 takes_of AdvisedSelect t = advised_takes t
 takes_of MoreAdvised t = more_advised_takes t
+takes_of PlainItem t = plain_item_takes t
+takes_of AfterPlain t = after_plain_takes t
+takes_of PlainNext t = plain_next_takes t
+takes_of PlainTail t = plain_tail_takes t
+takes_of GroupedItem t = grouped_item_takes t
+takes_of AfterGroupedName t = grouped_name_takes t
+takes_of MoreGroupedItems t = grouped_items_takes t
+takes_of Argument t = argument_takes t
+takes_of MaybeGroup t = group_by_takes t
+takes_of MoreGroupColumns t = group_columns_takes t
+
+-- no token need come for it, which does not stand in a SELECT with groups alone
+abbrev pub is_optional_elsewhere : Item → Bool
+is_optional_elsewhere Nullness = true
+is_optional_elsewhere MoreResults = true
+is_optional_elsewhere AfterResult = true
+is_optional_elsewhere MaybeAlias = true
+is_optional_elsewhere MoreJoins = true
+is_optional_elsewhere MoreGroups = true
+is_optional_elsewhere MaybeWhere = true
+is_optional_elsewhere MaybeCommon = true
+is_optional_elsewhere MaybeHistogram = true
+is_optional_elsewhere MoreAnds = true
+is_optional_elsewhere MoreOrs = true
+is_optional_elsewhere NotEnds = true
+is_optional_elsewhere AfterName = true
+is_optional_elsewhere AfterColumn = true
+is_optional_elsewhere AfterTruth = true
+is_optional_elsewhere AfterQualifier = true
+is_optional_elsewhere MaybeOrder = true
+is_optional_elsewhere MoreOrderings = true
+is_optional_elsewhere MaybeLimit = true
+is_optional_elsewhere MaybeOffset = true
+is_optional_elsewhere MaybeDirection = true
+is_optional_elsewhere MaybeNulls = true
+is_optional_elsewhere MaybeUsing = true
+is_optional_elsewhere MaybeClass = true
+is_optional_elsewhere MaybeInclude = true
+is_optional_elsewhere MoreAdvised = true
+is_optional_elsewhere _ = false
 
 -- no token need come for it
 abbrev pub is_optional : Item → Bool
-is_optional Nullness = true
-is_optional MoreResults = true
-is_optional AfterResult = true
-is_optional MaybeAlias = true
-is_optional MoreJoins = true
-is_optional MoreGroups = true
-is_optional MaybeWhere = true
-is_optional MaybeCommon = true
-is_optional MaybeHistogram = true
-is_optional MoreAnds = true
-is_optional MoreOrs = true
-is_optional NotEnds = true
-is_optional AfterName = true
-is_optional AfterColumn = true
-is_optional AfterTruth = true
-is_optional AfterQualifier = true
-is_optional MaybeOrder = true
-is_optional MoreOrderings = true
-is_optional MaybeLimit = true
-is_optional MaybeOffset = true
-is_optional MaybeDirection = true
-is_optional MaybeNulls = true
-is_optional MaybeUsing = true
-is_optional MaybeClass = true
-is_optional MaybeInclude = true
-is_optional MaybeTable = true
-is_optional MoreAdvised = true
-is_optional _ = false
+is_optional AfterGroupedName = true
+is_optional MaybeGroup = true
+is_optional MoreGroupColumns = true
+is_optional i = is_optional_elsewhere i
 
 -- the levels of an expression that end with it
 abbrev pub level_of : Item → ℕ
@@ -404,11 +421,20 @@ room_of AfterCreate = 13
 room_of MoreKeys = 5
 room_of MaybeInclude = 3
 room_of MoreNames = 2
-room_of MaybeTable = 2
+room_of AfterExplain = 16
 room_of Candidate = 11
 room_of MoreCands = 12
 room_of AdvisedSelect = 14
 room_of MoreAdvised = 15
+room_of PlainItem = 16
+room_of AfterPlain = 16
+room_of PlainNext = 16
+room_of PlainTail = 10
+room_of GroupedItem = 2
+room_of AfterGroupedName = 2
+room_of MoreGroupedItems = 3
+room_of MaybeGroup = 4
+room_of MoreGroupColumns = 3
 room_of _ = 1
 
 -- it takes the word that ends a statement
@@ -417,6 +443,11 @@ takes_end Whole = true
 takes_end Ends = true
 takes_end Stop = true
 takes_end AfterCreate = true
+takes_end AfterExplain = true
+takes_end PlainItem = true
+takes_end AfterPlain = true
+takes_end PlainNext = true
+takes_end PlainTail = true
 takes_end _ = false
 
 -- `;` or the text's end

@@ -5,9 +5,9 @@ use Rattle.sql_lex.specs.declared.tokens.Token.{Token}
 use Rattle.sql_grammar.specs.Terminals.{Terminal, Ident, t_key, t_mark, t_name, t_number, t_quoted, t_operator, t_semicolon, t_end, free}
 use Rattle.sql_grammar.specs.declared.class.Free.TheVariants.{Advise as AdviseWord, Analyze, By, Check as CheckWord, Common as CommonWord, Copy, Csv, Distinct, Explain, First, Format, Histogram as HistogramWord, Include as IncludeWord, Index as IndexWord, Last, Nulls as NullsWord, Pages, Plan, Rows, Statistics, Stdin, Use}
 use Rattle.sql_grammar.specs.declared.class.Word.{Word}
-use Rattle.sql_grammar.specs.declared.class.Word.TheVariants.{And, As, Asc, Create, Cross, Desc, False, From, Inner as InnerKey, Is, Join as JoinKey, Limit as LimitKey, Not, Null, Offset as OffsetKey, On, Or, Order, Select, Table, True, Using as UsingKey, Where as WhereKey, With}
+use Rattle.sql_grammar.specs.declared.class.Word.TheVariants.{And, As, Asc, Create, Cross, Desc, False, From, Group as GroupKey, Inner as InnerKey, Is, Join as JoinKey, Limit as LimitKey, Not, Null, Offset as OffsetKey, On, Or, Order, Select, Table, True, Using as UsingKey, Where as WhereKey, With}
 use Rattle.sql_grammar.specs.declared.class.Symbol.TheVariants.{Open, Close, Comma, Dot, Minus, Star}
-use Rattle.sql_grammar.specs.Syntax.{Col, bare, qualified, Constant, yes, no, unknown, Lit, number, negative, quoted, constant, Operand, column, literal, Expr, either_of, Ors, no_or, or_conj, Conj, both_of, Ands, no_and, and_neg, Neg, negated, plain, Atom, parens, compare, is_null, is_not_null, column_alone, constant_alone, Nulls, unwritten, not_null, nullable, ColDef, coldef, Output, every, every_of, one, Alias, no_alias, bare_alias, as_alias, Relation, relation, Inner, no_inner, inner, Join, join_on, cross_join, Group, group_of, Select as SelectTree, select_from, Where, no_where, where_expr, Share, share, Common, no_common, common, Histogram, no_histogram, histogram, Ending, semicolon, text_end, Direction, no_direction, ascending, descending, NullsEnd, no_nulls_end, nulls_first, nulls_last, Ordering, ordering, OrderBy, no_order, order_by, Limit, no_limit, most_rows, Offset, no_offset, skipped_rows, Window, window, WindowedSelect, windowed_select, Explaining, no_explain, explain, explain_table, OrderedSelect, ordered_select, OpClass, no_class, op_class, IndexKey, index_key, Using, no_using, using_method, Include, no_include, include_columns, CreateIndex, index_on, Cand, cand_on, Advised, advised, Advise, advise_of, Statement, empty, create_table, create_index, query, copy, sizes, column_statistics, analyze, advise, check, use_plan}
+use Rattle.sql_grammar.specs.Syntax.{Col, bare, qualified, Constant, yes, no, unknown, Lit, number, negative, quoted, constant, Operand, column, literal, Expr, either_of, Ors, no_or, or_conj, Conj, both_of, Ands, no_and, and_neg, Neg, negated, plain, Atom, parens, compare, is_null, is_not_null, column_alone, constant_alone, Nulls, unwritten, not_null, nullable, ColDef, coldef, Output, every, every_of, one, Alias, no_alias, bare_alias, as_alias, Relation, relation, Inner, no_inner, inner, Join, join_on, cross_join, Group, group_of, Select as SelectTree, select_from, Where, no_where, where_expr, Share, share, Common, no_common, common, Histogram, no_histogram, histogram, Ending, semicolon, text_end, Direction, no_direction, ascending, descending, NullsEnd, no_nulls_end, nulls_first, nulls_last, Ordering, ordering, OrderBy, no_order, order_by, Limit, no_limit, most_rows, Offset, no_offset, skipped_rows, Window, window, WindowedSelect, windowed_select, Explaining, no_explain, explain, explain_table, OrderedSelect, ordered_select, MaybeExplain, unexplained, explained, Argument, all_rows, of_col, GroupedItem, plain_item, call, GroupBy, no_group_by, group_by, GroupedSelect, grouped_select, OpClass, no_class, op_class, IndexKey, index_key, Using, no_using, using_method, Include, no_include, include_columns, CreateIndex, index_on, Cand, cand_on, Advised, advised, Advise, advise_of, Statement, empty, create_table, create_index, query, copy, sizes, column_statistics, analyze, advise, check, use_plan, grouped}
 
 -- a column, with its table's name and a dot before it where that is written
 abbrev pub words_of_col : Col → List Terminal
@@ -193,6 +193,42 @@ words_of_explaining (explain_table _ k o t m) = t_name (free Explain k) ∷ t_ma
 abbrev pub words_of_ordered : OrderedSelect → List Terminal
 words_of_ordered (ordered_select x q o w e) = words_of_explaining x ++ (words_of_select q ++ (words_of_order o ++ (words_of_window w ++ words_of_ending e)))
 
+-- EXPLAIN or nothing
+abbrev pub words_of_maybe_explain : MaybeExplain → List Terminal
+words_of_maybe_explain unexplained = []
+words_of_maybe_explain (explained k) = t_name (free Explain k) ∷ []
+
+-- `*` or a column
+abbrev pub words_of_argument : Argument → List Terminal
+words_of_argument (all_rows s) = t_mark Star s ∷ []
+words_of_argument (of_col c) = words_of_col c
+
+-- a column, a star or a call
+abbrev pub words_of_grouped_item : GroupedItem → List Terminal
+words_of_grouped_item (plain_item o) = words_of_output o
+words_of_grouped_item (call n o a m) = t_name n ∷ t_mark Open o ∷ (words_of_argument a ++ t_mark Close m ∷ [])
+
+-- further ones, each after a comma
+abbrev pub words_of_grouped_items : List (Token × GroupedItem) → List Terminal
+words_of_grouped_items [] = []
+words_of_grouped_items ((m, i) ∷ is) = t_mark Comma m ∷ (words_of_grouped_item i ++ words_of_grouped_items is)
+
+-- further columns, each after a comma
+abbrev pub words_of_group_columns : List (Token × Col) → List Terminal
+words_of_group_columns [] = []
+words_of_group_columns ((m, c) ∷ cs) = t_mark Comma m ∷ (words_of_col c ++ words_of_group_columns cs)
+
+-- GROUP BY and its columns, or nothing
+abbrev pub words_of_group_by : GroupBy → List Terminal
+words_of_group_by no_group_by = []
+words_of_group_by (group_by k b c cs) = t_key GroupKey k ∷ t_name (free By b) ∷ (words_of_col c ++ words_of_group_columns cs)
+
+-- a SELECT with calls or GROUP BY, behind its first word, with its order and its end
+abbrev pub words_of_grouped : GroupedSelect → List Terminal
+words_of_grouped (grouped_select i is f g gs w b _ y e) =
+    words_of_grouped_item i ++ (words_of_grouped_items is ++ t_key From f ∷
+    (words_of_group g ++ (words_of_groups gs ++ (words_of_where w ++ (words_of_group_by b ++ (words_of_order y ++ words_of_ending e))))))
+
 -- an operator class, or nothing
 abbrev pub words_of_class : OpClass → List Terminal
 words_of_class no_class = []
@@ -297,6 +333,7 @@ words_of (analyze _ k n e) = t_name (free Analyze k) ∷ t_name n ∷ words_of_e
 words_of (advise x) = words_of_advise x
 words_of (check _ k x s) = t_name (free CheckWord k) ∷ (words_of_windowed x ++ t_semicolon s ∷ [])
 words_of (use_plan _ u p q y s) = t_name (free Use u) ∷ t_name (free Plan p) ∷ (words_of_select q ++ (words_of_order y ++ t_semicolon s ∷ []))
+words_of (grouped _ x k q) = words_of_maybe_explain x ++ t_key Select k ∷ words_of_grouped q
 
 -- The levels of an expression: a `(` and a NOT open one each.
 
@@ -365,6 +402,10 @@ levels_of_select (select_from _ _ _ _ g gs w) = max (levels_of_group g) (max (le
 abbrev pub levels_of_windowed : WindowedSelect → ℕ
 levels_of_windowed (windowed_select q _ _) = levels_of_select q
 
+-- those of a SELECT with calls or GROUP BY
+abbrev pub levels_of_grouped : GroupedSelect → ℕ
+levels_of_grouped (grouped_select _ _ _ g gs w _ _ _ _) = max (levels_of_group g) (max (levels_of_groups gs) (levels_of_where w))
+
 -- those of a SELECT with its order, and of CREATE INDEX
 abbrev pub levels_of_ordered : OrderedSelect → ℕ
 levels_of_ordered (ordered_select _ q _ _ _) = levels_of_select q
@@ -407,3 +448,4 @@ levels_of (analyze _ _ _ _) = 0
 levels_of (advise x) = levels_of_advise x
 levels_of (check _ _ x _) = levels_of_windowed x
 levels_of (use_plan _ _ _ q _ _) = levels_of_select q
+levels_of (grouped _ _ _ q) = levels_of_grouped q

@@ -14,6 +14,7 @@ mod offered;
 mod rows;
 mod rows_advise;
 mod rows_from;
+mod rows_group;
 mod rows_index;
 mod rows_order;
 mod rows_window;
@@ -30,6 +31,6 @@ pub use laws::{
 };
 pub use limits::limit_passed;
 pub use offered::{
-    READS_ADVISE, READS_ANALYZE, READS_CHECK, READS_PLAN, READS_TABLE, READS_WINDOW,
+    READS_ADVISE, READS_ANALYZE, READS_CHECK, READS_GROUPS, READS_PLAN, READS_TABLE, READS_WINDOW,
 };
 pub use walk::{cand_end, expr_end, select_end, statement_fault, windowed_select_end};

@@ -12,6 +12,9 @@ pub const READS_ANALYZE: bool = true;
 /// CHECK of the certificate of a SELECT's plan.
 pub const READS_CHECK: bool = false;
 
+/// GROUP BY and the calls of a SELECT's list, as count(*).
+pub const READS_GROUPS: bool = false;
+
 /// USE PLAN: a SELECT by a plan that is written out.
 pub const READS_PLAN: bool = false;
 

@@ -16,20 +16,7 @@ pub fn statement(class: Class) -> Expansion
 {
     match class {
         Class::Key(Word::Create) => Some(&[Item::AfterCreate]),
-        Class::Key(Word::Select) => Some(&[
-            Item::Result,
-            Item::MoreResults,
-            Item::Keyword(Word::From),
-            Item::Label,
-            Item::MaybeAlias,
-            Item::MoreJoins,
-            Item::MoreGroups,
-            Item::MaybeWhere,
-            Item::MaybeOrder,
-            Item::MaybeLimit,
-            Item::MaybeOffset,
-            Item::Ends,
-        ]),
+        Class::Key(Word::Select) => Some(&[Item::PlainItem]),
         Class::Name(Some(word)) => worded(word),
         Class::Semicolon | Class::End => Some(&[]),
         _ => None,
@@ -42,14 +29,7 @@ fn worded(word: Free) -> Expansion
     ensures { MatchOption result (worded_takes word ≡ None) (λ r. worded_takes word ≡ Some r.now) }
 {
     match word {
-        Free::Explain => Some(&[
-            Item::MaybeTable,
-            Item::Query,
-            Item::MaybeOrder,
-            Item::MaybeLimit,
-            Item::MaybeOffset,
-            Item::Ends,
-        ]),
+        Free::Explain => Some(&[Item::AfterExplain]),
         Free::Copy => Some(&[
             Item::Label,
             Item::Keyword(Word::From),

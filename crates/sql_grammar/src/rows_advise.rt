@@ -1,7 +1,7 @@
 //! The rows of the statements that are in the grammar by a constant, and of the words behind EXPLAIN.
 
 ghost use Rattle.std.specs.Prelude.{◌≡◌, MatchOption};
-ghost use Rattle.sql_grammar.specs.AdviseTable.{offered_takes, table_takes, candidate_takes, cands_takes, advised_takes, more_advised_takes};
+ghost use Rattle.sql_grammar.specs.AdviseTable.{offered_takes, explained_takes, candidate_takes, cands_takes, advised_takes, more_advised_takes};
 
 use crate::class::{Class, Free, Symbol, Word};
 use crate::offered::{READS_ADVISE, READS_ANALYZE, READS_CHECK, READS_PLAN, READS_TABLE};
@@ -40,14 +40,20 @@ pub fn offered(word: Free) -> Expansion
     }
 }
 
-/// (TABLE) behind EXPLAIN.
-pub fn table(class: Class) -> Expansion
-    ensures { MatchOption result (table_takes class ≡ None) (λ r. table_takes class ≡ Some r.now) }
+/// What follows EXPLAIN: a SELECT, or (TABLE) and one without groups.
+pub fn explained(class: Class) -> Expansion
+    ensures { MatchOption result (explained_takes class ≡ None) (λ r. explained_takes class ≡ Some r.now) }
 {
     match class {
+        Class::Key(Word::Select) => Some(&[Item::PlainItem]),
         Class::Mark(Symbol::Open) if READS_TABLE => Some(&[
             Item::Keyword(Word::Table),
             Item::Sign(Symbol::Close),
+            Item::Query,
+            Item::MaybeOrder,
+            Item::MaybeLimit,
+            Item::MaybeOffset,
+            Item::Ends,
         ]),
         _ => None,
     }

@@ -3,10 +3,10 @@
 //! Each entry takes a token: nothing is put in an item's place before one has come.
 
 ghost use Rattle.std.specs.Prelude.{◌≡◌, ◌≤◌, MatchOption};
-ghost use Rattle.sql_grammar.specs.Table.{takes_of, is_optional, level_of};
+ghost use Rattle.sql_grammar.specs.Table.{takes_of, is_optional, is_optional_elsewhere, level_of};
 
 use crate::class::{Class, Free, Symbol, Word};
-use crate::{rows, rows_advise, rows_from, rows_index, rows_order, rows_window};
+use crate::{rows, rows_advise, rows_from, rows_group, rows_index, rows_order, rows_window};
 
 /// What is awaited.
 #[derive(Clone, Copy)]
@@ -113,8 +113,8 @@ pub enum Item {
     MaybeInclude,
     /// Further columns of INCLUDE, and the closing parenthesis.
     MoreNames,
-    /// (TABLE) behind EXPLAIN, or nothing.
-    MaybeTable,
+    /// What follows EXPLAIN, up to the statement's end.
+    AfterExplain,
     /// A candidate for an index.
     Candidate,
     /// Further candidates, and the closing parenthesis.
@@ -123,6 +123,26 @@ pub enum Item {
     AdvisedSelect,
     /// Further ones.
     MoreAdvised,
+    /// An item of a SELECT's list before which no call stands, and what follows it up to the statement's end.
+    PlainItem,
+    /// What follows a name there.
+    AfterPlain,
+    /// What follows such an item without a call.
+    PlainNext,
+    /// What follows FROM and WHERE of a SELECT without calls, up to the statement's end.
+    PlainTail,
+    /// An item of a SELECT's list behind a call.
+    GroupedItem,
+    /// What follows a name there.
+    AfterGroupedName,
+    /// Further items of it, and FROM.
+    MoreGroupedItems,
+    /// What a call is of.
+    Argument,
+    /// GROUP BY and its columns, or nothing.
+    MaybeGroup,
+    /// Further columns of it.
+    MoreGroupColumns,
 }
 
 /// The items that are awaited in this one's place after the token; None where the token is not awaited.
@@ -179,17 +199,37 @@ pub fn takes(item: Item, class: Class) -> Option<&'static [Item]>
         Item::MoreKeys => rows_index::keys(class),
         Item::MaybeInclude => rows_index::include(class),
         Item::MoreNames => rows_index::names(class),
-        Item::MaybeTable => rows_advise::table(class),
+        Item::AfterExplain => rows_advise::explained(class),
         Item::Candidate => rows_advise::candidate(class),
         Item::MoreCands => rows_advise::candidates(class),
         Item::AdvisedSelect => rows_advise::advised(class),
         Item::MoreAdvised => rows_advise::more_advised(class),
+        Item::PlainItem => rows_group::plain_item(class),
+        Item::AfterPlain => rows_group::after_plain(class),
+        Item::PlainNext => rows_group::plain_next(class),
+        Item::PlainTail => rows_group::plain_tail(class),
+        Item::GroupedItem => rows_group::grouped_item(class),
+        Item::AfterGroupedName => rows_group::after_grouped_name(class),
+        Item::MoreGroupedItems => rows_group::grouped_items(class),
+        Item::Argument => rows_group::argument(class),
+        Item::MaybeGroup => rows_group::group_by(class),
+        Item::MoreGroupColumns => rows_group::group_columns(class),
     }
 }
 
 /// Whether no token need come for the item.
 pub fn may_be_empty(item: Item) -> bool
     ensures { result ≡ is_optional item }
+{
+    match item {
+        Item::AfterGroupedName | Item::MaybeGroup | Item::MoreGroupColumns => true,
+        _ => may_be_empty_elsewhere(item),
+    }
+}
+
+/// The same of items that do not stand in a SELECT with groups alone.
+fn may_be_empty_elsewhere(item: Item) -> bool
+    ensures { result ≡ is_optional_elsewhere item }
 {
     matches!(
         item,
@@ -218,7 +258,6 @@ pub fn may_be_empty(item: Item) -> bool
             | Item::MaybeUsing
             | Item::MaybeClass
             | Item::MaybeInclude
-            | Item::MaybeTable
             | Item::MoreAdvised
     )
 }

@@ -50,7 +50,7 @@ const JOINS: [(&[u8], Option<u32>); 47] = [
     (b"SELECT a FROM t CROSS JOIN u CROSS JOIN;", Some(39)),
     (b"SELECT a FROM t join JOIN u ON a = 1;", Some(21)),
     (b"SELECT a FROM t AS cross;", Some(19)),
-    (b"SELECT a FROM t group;", Some(16)),
+    (b"SELECT a FROM t AS group;", Some(19)),
     (b"SELECT a FROM t, on;", Some(17)),
     (b"SELECT a FROM t JOIN u AS limit ON a = 1;", Some(26)),
     (b"SELECT a FROM t LEFT JOIN u ON a = 1;", None),

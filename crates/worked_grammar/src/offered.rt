@@ -3,7 +3,7 @@
 
 use crate::first::first_otherwise;
 use sql_grammar::{
-    READS_ADVISE, READS_ANALYZE, READS_CHECK, READS_PLAN, READS_TABLE, READS_WINDOW,
+    READS_ADVISE, READS_ANALYZE, READS_CHECK, READS_GROUPS, READS_PLAN, READS_TABLE, READS_WINDOW,
 };
 
 /// Statements for ANALYZE, and the place of their syntax fault, without it and with it.
@@ -211,6 +211,82 @@ const TABLES: [(&[u8], Option<u32>, Option<u32>); 11] = [
     ),
 ];
 
+/// Statements for GROUP BY and calls, and the place of their syntax fault, without them and with them.
+const GROUPS: [(&[u8], Option<u32>, Option<u32>); 40] = [
+    (b"SELECT count(*) FROM t;", Some(12), None),
+    (
+        b"SELECT a, count(*), count(b), max(t.b) FROM t GROUP BY a;",
+        Some(15),
+        None,
+    ),
+    (
+        b"explain select t.a, count ( t . b ) from t where a = 1 group by t.a, b order by a desc",
+        Some(26),
+        None,
+    ),
+    (b"SELECT a FROM t GROUP BY a;", Some(16), None),
+    (
+        b"SELECT * FROM t JOIN u ON a GROUP BY a, u.b",
+        Some(28),
+        None,
+    ),
+    (
+        b"SELECT t.*, rows(first), * FROM t, u ORDER BY count;",
+        Some(16),
+        None,
+    ),
+    (b"SELECT count(*), a FROM t LIMIT 1;", Some(12), Some(26)),
+    (b"SELECT a FROM t GROUP BY a LIMIT 1;", Some(16), Some(27)),
+    (b"SELECT a FROM t GROUP BY a OFFSET 1;", Some(16), Some(27)),
+    (
+        b"SELECT a FROM t GROUP BY a ORDER BY a LIMIT 1;",
+        Some(16),
+        Some(38),
+    ),
+    (
+        b"SELECT a FROM t ORDER BY a GROUP BY a;",
+        Some(27),
+        Some(27),
+    ),
+    (b"SELECT a FROM t GROUP;", Some(16), Some(21)),
+    (b"SELECT a FROM t GROUP a;", Some(16), Some(22)),
+    (b"SELECT a FROM t GROUP BY a,;", Some(16), Some(27)),
+    (b"SELECT a FROM t GROUP BY 1;", Some(16), Some(25)),
+    (b"SELECT a FROM t GROUP BY a DESC;", Some(16), Some(27)),
+    (b"SELECT a FROM t GROUP BY a HAVING a;", Some(16), Some(27)),
+    (b"SELECT a FROM t GROUP BY a WHERE a;", Some(16), Some(27)),
+    (b"SELECT count() FROM t;", Some(12), Some(13)),
+    (b"SELECT count(* FROM t;", Some(12), Some(15)),
+    (b"SELECT count(a, b) FROM t;", Some(12), Some(14)),
+    (b"SELECT count(1) FROM t;", Some(12), Some(13)),
+    (b"SELECT count(t.*) FROM t;", Some(12), Some(15)),
+    (b"SELECT count(distinct a) FROM t;", Some(12), Some(22)),
+    (b"SELECT count(count(a)) FROM t;", Some(12), Some(18)),
+    (b"SELECT t.count(a) FROM t;", Some(14), Some(14)),
+    (b"SELECT a, count(*) b FROM t;", Some(15), Some(19)),
+    (b"SELECT count(*), FROM t;", Some(12), Some(17)),
+    (
+        b"SELECT count(*), b.c FROM t GROUP BY a GROUP BY b;",
+        Some(12),
+        Some(39),
+    ),
+    (b"SELECT (a) FROM t;", Some(7), Some(7)),
+    (b"SELECT *(a) FROM t;", Some(8), Some(8)),
+    (b"SELECT group FROM t;", Some(7), Some(7)),
+    (b"SELECT a FROM t WHERE count(a) = 1;", Some(27), Some(27)),
+    (b"SELECT a FROM t GROUP BY count(a);", Some(16), Some(30)),
+    (b"SELECT a FROM t ORDER BY count(a);", Some(30), Some(30)),
+    (b"EXPLAIN (TABLE) SELECT count(*) FROM t;", Some(8), Some(8)),
+    (b"CHECK SELECT count(*) FROM t;", Some(0), Some(0)),
+    (b"USE PLAN SELECT count(*) FROM t;", Some(0), Some(0)),
+    (
+        b"ADVISE 1 (i ON t (a)) (SELECT count(*) FROM t);",
+        Some(35),
+        Some(35),
+    ),
+    (b"EXPLAIN EXPLAIN SELECT count(*) FROM t;", Some(8), Some(8)),
+];
+
 #[test]
 fn finds_the_first_fault_of_analyze(rt: HostRuntime) {
     assert_eq!(rt;
@@ -248,4 +324,12 @@ fn finds_the_first_fault_of_a_written_plan(rt: HostRuntime) {
 #[test]
 fn finds_the_first_fault_of_an_explained_table(rt: HostRuntime) {
     assert_eq!(rt; first_otherwise(rt.alloc(), &TABLES, READS_TABLE), Ok(None));
+}
+
+#[test]
+fn finds_the_first_fault_of_groups(rt: HostRuntime) {
+    assert_eq!(rt;
+        first_otherwise(rt.alloc(), &GROUPS, READS_GROUPS),
+        Ok(None)
+    );
 }

@@ -7,7 +7,8 @@ A script NAME.sql of examples/ and of scripts/ has NAME.out, NAME.err and NAME.s
 lists. faults.json has scripts that print nothing, each with the line of its fault. limits.json has scripts at a limit and one past
 it: `script` and `out` are lists of texts, each with how often it stands, and `{n}` in such a text is the number of the time, from 1
 on; where several plans cost the least, `begins` and `ends` stand in place of `out`; `line` is that of the fault, empty where there
-is none. best_plans.json has scripts that end with an EXPLAIN, each with how the first line of its output ends.
+is none. best_plans.json has scripts that end with an EXPLAIN, each with how the first line of its output ends. words.json has words
+of the command line, each with its output, its errors and its status; the others are run by the word `run`.
 
 Each script comes to the program whole, and a short one once more a byte at a time. Prints a line for each difference, and last
 the number of runs that passed and failed.
@@ -54,7 +55,7 @@ def listed(name):
 
 
 def cases():
-    """Each case: its name, its script, what its output has to be, its errors and its status."""
+    """Each case by the word `run`: its name, its script, what its output has to be, its errors and its status."""
     for folder in ("examples", "scripts"):
         for script in sorted((ROOT / folder).glob("*.sql")):
             yield stored(script)
@@ -67,9 +68,15 @@ def cases():
         yield f"plan {script!r}", script.encode(), headed(ends.encode()), *ended("")
 
 
-def answer(program, script, piece):
+def worded():
+    """Each case by other words: its words, and what its output has to be, its errors and its status."""
+    for words, out, err, status in listed("words.json"):
+        yield words, exactly(out.encode()), err.encode(), status
+
+
+def answer(program, words, script, piece):
     """Output, errors and status of a run whose input comes in pieces of so many bytes."""
-    run = subprocess.Popen([program, "run"], stdin=subprocess.PIPE, stdout=subprocess.PIPE, stderr=subprocess.PIPE, bufsize=0)
+    run = subprocess.Popen([program, *words], stdin=subprocess.PIPE, stdout=subprocess.PIPE, stderr=subprocess.PIPE, bufsize=0)
     last = max(0, len(script) - piece)
     try:
         for at in range(0, last, piece):
@@ -80,18 +87,26 @@ def answer(program, script, piece):
     return out, err, run.returncode
 
 
+def runs():
+    """Each run: its name, its words, its input, by how many bytes that comes, and what it has to give."""
+    for name, script, *wanted in cases():
+        whole = max(1, len(script))
+        for piece in (whole, 1) if 1 < whole <= SHORT else (whole,):
+            yield f"{name}, by {piece} bytes", ["run"], script, piece, *wanted
+    for words, *wanted in worded():
+        yield f"words {words}", words, b"no statement", 1, *wanted
+
+
 def main():
     program = pathlib.Path(sys.argv[1]).resolve()
     passed = failed = 0
-    for name, script, told, errors, status in cases():
-        whole = max(1, len(script))
-        for piece in (whole, 1) if 1 < whole <= SHORT else (whole,):
-            out, err, ran = answer(program, script, piece)
-            if told(out) and (err, ran) == (errors, status):
-                passed += 1
-                continue
-            failed += 1
-            print(f"examples: {name}, by {piece} bytes: status {ran}, errors {err!r}, output {out!r}"[:2000])
+    for name, words, script, piece, told, errors, status in runs():
+        out, err, ran = answer(program, words, script, piece)
+        if told(out) and (err, ran) == (errors, status):
+            passed += 1
+            continue
+        failed += 1
+        print(f"examples: {name}: status {ran}, errors {err!r}, output {out!r}"[:2000])
     print(f"examples: {passed} passed, {failed} failed")
     sys.exit(failed != 0 or not passed)
 

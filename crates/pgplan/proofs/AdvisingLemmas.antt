@@ -1,8 +1,6 @@
 -- ADVISE: what it tells, or why it is refused.
-use Rattle.std.proofs.Common.{◌≡◌, ◌<◌, ◌+◌, ℕ, List, [], ◌∷◌, length, inl, inr, refl, sym, ap, subst, ◌∙◌, arith, Option, Some, None, Result, Ok, Err, IfOk, IfErr, IsErrAnd}
-use Rattle.std.specs.Prelude.{MatchOption, OnOk, OnErr}
+use Rattle.std.proofs.Common.{◌≡◌, ◌<◌, ℕ, List, [], ◌∷◌, length, inl, inr, refl, sym, ap, subst, ◌∙◌, arith, Option, Result, Ok, Err, IfErr, IsErrAnd}
 use Rattle.std.specs.Io.KnownBytes.{Appends}
-use Rattle.pg_base.specs.Causes.{HasCause, Rose}
 use Rattle.pg_base.specs.Writing.{AppendsPrefix}
 use Rattle.pg_base.specs.declared.faults.Fault.{Fault}
 use Rattle.pg_base.specs.declared.faults.Refusal.{Refusal}
@@ -18,17 +16,17 @@ use Rattle.advise_reader.specs.Meaning.{Asked}
 use Rattle.advise_reader.specs.Statements.{IsMeaning, IsRefusal}
 use Rattle.reply.specs.Effort.{HasRisen, exactly}
 use Rattle.reply.specs.Putting.{HasWriteCause}
-use Rattle.reply.specs.Replies.{HasBegun, HasReplied, traces}
+use Rattle.reply.specs.Replies.{traces}
 use Rattle.sql_query.specs.Queries.{Query}
 use Rattle.sql_query.specs.Worlds.{World}
-use Rattle.definitions.specs.Actions.{Action, advise, after}
+use Rattle.definitions.specs.Actions.{advise}
 use Rattle.pgplan.specs.declared.end.End.{End}
 use Rattle.pgplan.specs.declared.end.End.TheVariants as ends
-use Rattle.pgplan.specs.Accepted.{HaveClasses, IsReadOver}
+use Rattle.pgplan.specs.Accepted.{HaveClasses}
 use Rattle.pgplan.specs.Ending.{end_of_refusal}
 use Rattle.pgplan.specs.Faults.{in_meaning, in_syntax, no_advice}
-use Rattle.pgplan.specs.Replies.{IsReply, told}
-use Rattle.pgplan.specs.Steps.{IsAdvised, IsAnsweredOver, IsBegunOver, Refuses, StopsOver}
+use Rattle.pgplan.specs.Replies.{told}
+use Rattle.pgplan.specs.Steps.{IsAdvised, IsAnsweredOver, Refuses, StopsOver}
 use Rattle.pgplan.proofs.PlainAdviceLemmas.{advice-fault-plain}
 
 no-field : (c : Contents) (f : Fault) → f.rec ≡ 0 → IsFieldOf c f
@@ -52,6 +50,7 @@ module _ (w : World) (text : List ℕ) (tokens : List Token) where
       action = advise a.most a.candidates a.queries;
       read = record { statement = advise_tree m.statement; spelled = m.spelled; does = ((a, m.means, classes, refl), refl) };
       still = refl;
+      quiet = refl;
       reply = (is, refl, refl);
     }
 

@@ -4,7 +4,7 @@ use Rattle.std.specs.Str.Parse.{digits_value}
 use Rattle.pg_base.specs.declared.faults.Fault.{Fault}
 use Rattle.pg_base.specs.declared.faults.Limit.{Limit}
 use Rattle.pg_base.specs.declared.faults.Limit.TheVariants.{Relations}
-use Rattle.pg_base.specs.declared.faults.Code.TheVariants.{S2, S7, S11, S15}
+use Rattle.pg_base.specs.declared.faults.Code.TheVariants.{S7, S11, S15}
 use Rattle.pg_base.specs.declared.limits.TheConstants.{MOST_RELATIONS}
 use Rattle.pg_base.specs.declared.numbers.TableNo.{TableNo}
 use Rattle.pg_value.specs.declared.value.SqlType.{SqlType}
@@ -12,7 +12,7 @@ use Rattle.pg_value.specs.declared.value.SqlType.TheVariants as types
 use Rattle.pg_value.specs.Types.{limit}
 use Rattle.pg_expr.specs.declared.operand.ColRef.{ColRef}
 use Rattle.catalog.specs.Contents.{Contents}
-use Rattle.catalog.specs.Range.{Range, type_in}
+use Rattle.catalog.specs.Range.{type_in}
 use Rattle.catalog.specs.Tables.{table_named}
 use Rattle.sql_lex.specs.declared.tokens.Token.{Token}
 use Rattle.sql_grammar.specs.Terminals.{Said, token_of}
@@ -21,7 +21,7 @@ use Rattle.sql_grammar.specs.Syntax.{Col, bare, qualified, Ordering, ordering, O
 use Rattle.sql_grammar.specs.FromParts.{groups_after}
 use Rattle.sql_cursor.specs.declared.cursor.Spelled.{Spelled}
 use Rattle.sql_cursor.specs.Lists.{before_all, bound_each, parts_of}
-use Rattle.expr_reader.specs.Conditions.{next, the_column, meaning_of_expr}
+use Rattle.expr_reader.specs.Conditions.{the_column, meaning_of_expr}
 use Rattle.expr_reader.specs.Scope.{Scope, under, look_up}
 use Rattle.query_reader.specs.declared.written.Item.{Item}
 use Rattle.query_reader.specs.declared.written.Item.TheVariants.{Every, EveryOf, Bare, Qualified}

@@ -1,5 +1,5 @@
 -- A definition that is read: what it does, or why it is refused.
-use Rattle.std.proofs.Common.{◌≡◌, ◌≤◌, ◌+◌, ◌^◌, ℕ, Bool, true, false, cond, List, [], ◌∷◌, Vec, Global, length, slice_range, drop, get_or, Option, Some, None, Result, Ok, Err, All, refl, sym, arith, ap, subst, ◌∙◌, inl, inr}
+use Rattle.std.proofs.Common.{◌≡◌, ◌≤◌, ◌+◌, ◌^◌, ℕ, Bool, true, false, cond, List, [], ◌∷◌, Vec, Global, length, slice_range, drop, get_or, Option, Some, None, Result, Ok, Err, All, refl, sym, arith, ap, subst, inl, inr}
 use Rattle.std.specs.Str.{bytes_eq}
 use Rattle.pg_base.specs.declared.numbers.ColNo.{ColNo}
 use Rattle.pg_base.specs.declared.numbers.TableNo.{TableNo}
@@ -13,7 +13,7 @@ use Rattle.pg_value.specs.declared.columns.Column.{Column}
 use Rattle.pg_value.specs.declared.value.SqlType.{SqlType}
 use Rattle.sql_lex.specs.declared.tokens.Token.{Token}
 use Rattle.sql_grammar.specs.Terminals.{Ident, Said, token_of}
-use Rattle.sql_grammar.specs.Syntax.{Lit, Statement, empty, create_table, create_index, query, copy, sizes, column_statistics, analyze, advise, check, use_plan}
+use Rattle.sql_grammar.specs.Syntax.{Lit, Statement, empty, create_table, create_index, query, copy, sizes, column_statistics, analyze, advise, check, use_plan, grouped}
 use Rattle.sql_grammar.specs.Faults.{terminals, bytes_of}
 use Rattle.sql_grammar.specs.CopyLine.{IsDataStart}
 use Rattle.catalog.specs.Contents.{Contents, IsTable, table_at}
@@ -129,6 +129,7 @@ means-plain cat text (query x) r means = absurd means
 means-plain cat text (advise x) r means = absurd means
 means-plain cat text (check p k x s) r means = absurd means
 means-plain cat text (use_plan p k l q y s) r means = absurd means
+means-plain cat text (grouped p k l q) r means = absurd means
 means-plain cat text (create_table k t n o c cs m e) r means = subst IsPlain (sym means) (table-plain (bytes_of n) (token_of n) (bound_all (written c ∷ further cs)) (columns-plain (written c ∷ further cs)))
 means-plain cat text (sizes k n r p e) m means = subst IsPlain (sym means) (sizes-plain cat n r p)
 means-plain cat text (column_statistics k n c d nulls commons bounds e) r means = subst IsPlain (sym means) (statistics-plain cat n c d nulls (commons_of commons) (bounds_of bounds))
@@ -143,6 +144,7 @@ module _ (w : World) (text : List ℕ) (tokens : List Token) where
   names-fault (advise x) f means = absurd means
   names-fault (check p k x s) f means = absurd means
   names-fault (use_plan p k l q y s) f means = absurd means
+  names-fault (grouped p k l q) f means = absurd means
   names-fault (create_table k t n o c cs m e) f means = inl means
   names-fault (sizes k n r p e) f means = inl means
   names-fault (column_statistics k n c d nulls commons bounds e) f means = inl means
@@ -156,6 +158,7 @@ module _ (w : World) (text : List ℕ) (tokens : List Token) where
   carried-fault (advise x) r f means because = absurd means
   carried-fault (check p k x s) r f means because = absurd means
   carried-fault (use_plan p k l q y s) r f means because = absurd means
+  carried-fault (grouped p k l q) r f means because = absurd means
   carried-fault (create_table k t n o c cs m e) r f means because = inr (r, means, because)
   carried-fault (sizes k n m p e) r f means because = inr (r, means, because)
   carried-fault (column_statistics k n c d nulls commons bounds e) r f means because = inr (r, means, because)
@@ -169,6 +172,7 @@ module _ (w : World) (text : List ℕ) (tokens : List Token) where
   does (advise x) r action next means carries = absurd means
   does (check p k x s) r action next means carries = absurd means
   does (use_plan p k l q y s) r action next means carries = absurd means
+  does (grouped p k l q) r action next means carries = absurd means
   does (create_table k t n o c cs m e) r action next means carries = (r, means, carries)
   does (sizes k n m p e) r action next means carries = (r, means, carries)
   does (column_statistics k n c d nulls commons bounds e) r action next means carries = (r, means, carries)

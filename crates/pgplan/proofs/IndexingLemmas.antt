@@ -1,6 +1,5 @@
 -- CREATE INDEX: what it does, or why it is refused.
-use Rattle.std.proofs.Common.{◌≡◌, ◌≢◌, ◌≤◌, ◌<◌, ◌+◌, ℕ, Bool, true, false, cond, List, [], ◌∷◌, length, drop, Option, Some, None, Result, Ok, Err, refl, sym, arith, ap, subst, ◌∙◌, inl, inr}
-use Rattle.pg_base.specs.declared.numbers.ColNo.{ColNo}
+use Rattle.std.proofs.Common.{◌≡◌, ◌≢◌, ◌≤◌, ◌+◌, ℕ, Bool, true, false, cond, List, [], ◌∷◌, length, drop, Option, Some, None, Result, Ok, Err, refl, sym, arith, ap, subst, ◌∙◌, inl, inr}
 use Rattle.pg_base.specs.declared.numbers.TableNo.{TableNo}
 use Rattle.pg_base.specs.declared.faults.Code.{Code}
 use Rattle.pg_base.specs.declared.faults.Code.TheVariants.{S2, S3, S8}
@@ -31,7 +30,6 @@ use Rattle.index_reader.specs.declared.names.NamedColumn.{NamedColumn}
 use Rattle.index_reader.specs.declared.methods.MethodRead.{MethodRead}
 use Rattle.index_reader.specs.Keys.{class_bound, class_has_method, class_known, key_bound, keys_of, method_bound, method_of_name, name_bound, names_of}
 use Rattle.index_reader.specs.Meaning.{Reading, condition_bound, has_many_atoms, index_reading, limited, meaning, meaning_of_cand, name_tokens, within_limits}
-use Rattle.index_reader.specs.Soundness.{IsSound}
 use Rattle.index_reader.specs.Statements.{IsMeaning, IsRefusal}
 use Rattle.index_reader.specs.Visible.{Sight, visible_in, type_in}
 use Rattle.fault_line.specs.Tells.{IsFieldOf}
@@ -40,7 +38,7 @@ use Rattle.pgplan.specs.declared.end.End.{End}
 use Rattle.pgplan.specs.declared.end.End.TheVariants as ends
 use Rattle.definitions.specs.Actions.{after, build}
 use Rattle.pgplan.specs.Ending.{IsPlaceAmong, end_by, end_of_refusal}
-use Rattle.pgplan.specs.Faults.{IsFaultOver, in_syntax, in_meaning, index_fault}
+use Rattle.pgplan.specs.Faults.{in_syntax, in_meaning, index_fault}
 use Rattle.pgplan.specs.Steps.{IsCarrying, IsDefined, Refuses}
 use Rattle.pgplan.proofs.PlainLemmas.{IsPlain, next-plain, expr-plain}
 

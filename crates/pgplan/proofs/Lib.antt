@@ -22,3 +22,7 @@ pub mod ReplyLemmas
 pub mod PlainAdviceLemmas
 pub mod OneAdviceLemmas
 pub mod AdvisingLemmas
+pub mod SummingLemmas
+pub mod SampleLemmas
+pub mod TallyLemmas
+pub mod CommandLemmas

@@ -1,5 +1,5 @@
 -- A new index is refused for one cause.
-use Rattle.std.proofs.Common.{◌≡◌, ℕ, ◌+◌, ◌<◌, inl, inr, true, false, List, length, take, get_or, Some, None, refl, sym, ap, ◌∙◌, arith, subst, Contains}
+use Rattle.std.proofs.Common.{◌≡◌, ℕ, ◌<◌, inl, inr, true, false, List, length, take, get_or, Some, sym, ◌∙◌, arith, subst, Contains}
 use Rattle.std.proofs.lemmas.Bool.{cases_lt}
 use Rattle.std.proofs.lemmas.List.{get_or-take, get_or_default, length-take, take-take}
 use Rattle.pg_base.specs.declared.numbers.ColNo.{ColNo}

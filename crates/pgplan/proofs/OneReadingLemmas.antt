@@ -5,7 +5,7 @@ use Rattle.sql_lex.specs.declared.tokens.Token.{Token}
 use Rattle.pg_base.specs.Faults.{syntax_fault}
 use Rattle.sql_lex.proofs.UniqueLaws.{one_list, one_fault, no_fault}
 use Rattle.sql_grammar.specs.Terminals.{token_of}
-use Rattle.sql_grammar.specs.Syntax.{Advise, CreateIndex, OrderedSelect, Statement, empty, create_table, create_index, query, copy, sizes, column_statistics, analyze, advise as advise_tree, check, use_plan}
+use Rattle.sql_grammar.specs.Syntax.{Advise, CreateIndex, OrderedSelect, Statement, empty, create_table, create_index, query, copy, sizes, column_statistics, analyze, advise as advise_tree, check, use_plan, grouped}
 use Rattle.sql_grammar.specs.Faults.{bytes_of, IsStatement, terminals}
 use Rattle.catalog.specs.Contents.{Contents}
 use Rattle.catalog.specs.Tables.{IsIndexRefusal, table_named}
@@ -42,6 +42,7 @@ one_meaning c text (query x) r s h k = absurd h
 one_meaning c text (advise_tree x) r s h k = absurd h
 one_meaning c text (check p t x e) r s h k = absurd h
 one_meaning c text (use_plan p t u q y e) r s h k = absurd h
+one_meaning c text (grouped p t u q) r s h k = absurd h
 one_meaning c text (create_table a t n o d ds m e) r s h k = h ∙ sym k
 one_meaning c text (sizes k n d p e) r s h l = h ∙ sym l
 one_meaning c text (column_statistics k n d i nulls commons bounds e) r s h l = h ∙ sym l
@@ -98,6 +99,7 @@ module _ (w : World) (text : List ℕ) (tokens : List Token) where
   one_done (advise_tree x) a b m n (h, i) (k, j) = (one_advised x a b h k, i ∙ sym j)
   one_done (check p c x e) a b m n h k = absurd h
   one_done (use_plan p c d q y e) a b m n h k = absurd h
+  one_done (grouped p c d q) a b m n h k = absurd h
   one_done (copy c i null) a b m n (r, h, p) (s, k, q) = one_defined (copy c i null) a b m n r s h k p q
 
   one_over : (a b : Action) (m n : ℕ) → IsReadOver w text tokens a m → IsReadOver w text tokens b n → (a ≡ b) × (m ≡ n)
@@ -212,6 +214,7 @@ module _ (w : World) (text : List ℕ) (tokens : List Token) where
   one_meant (advise_tree x) f g h k = one_unadvised x f g h k
   one_meant (check p c x e) f g h k = absurd h
   one_meant (use_plan p c d q y e) f g h k = absurd h
+  one_meant (grouped p c d q) f g h k = absurd h
   one_meant (copy c n null) f g h k = one_definition (copy c n null) f g h k
 
   not_meant : (x : Statement) (a : Action) (n : ℕ) (r : Reply) (f : Fault) → Does w text tokens x a n → IsReply w a r → IsMeaningFault w text tokens x f → ⊥
@@ -225,6 +228,7 @@ module _ (w : World) (text : List ℕ) (tokens : List Token) where
   not_meant (advise_tree x) a n r f h reply k = has-advice x a n r f h reply k
   not_meant (check p c x e) a n r f h reply k = absurd k
   not_meant (use_plan p c d q y e) a n r f h reply k = absurd k
+  not_meant (grouped p c d q) a n r f h reply k = absurd k
   not_meant (copy c i null) a n r f (s, h, p) reply k = no_definition (copy c i null) a n s f h p k
 
   one_fault_over : (f g : Fault) → IsFaultOver w text tokens f → IsFaultOver w text tokens g → f ≡ g

@@ -20,7 +20,7 @@ use Rattle.sql_lex.specs.declared.tokens.Token.{Token}
 use Rattle.sql_lex.specs.Forms.{IsToken, symbols}
 use Rattle.sql_lex.specs.Words.{AreWords, IsNext, is_last}
 use Rattle.sql_grammar.specs.Terminals.{Ident, Said, token_of}
-use Rattle.sql_grammar.specs.Syntax.{CopyWords, Lit, Statement, empty, create_table, create_index, query, copy, sizes, column_statistics, analyze, advise, check, use_plan}
+use Rattle.sql_grammar.specs.Syntax.{CopyWords, Lit, Statement, empty, create_table, create_index, query, copy, sizes, column_statistics, analyze, advise, check, use_plan, grouped}
 use Rattle.sql_grammar.specs.Words.{words_of}
 use Rattle.sql_grammar.specs.Faults.{bytes_of, fault_at, terminals}
 use Rattle.sql_grammar.specs.CopyLine.{IsDataStart, after_blanks}
@@ -214,6 +214,7 @@ does-behind w text from tokens (analyze p k n e) action next words spelled does 
 does-behind w text from tokens (advise x) action next words spelled does = at-end-of text from next (end_of tokens) does.1 (ends-behind text from tokens words)
 does-behind w text from tokens (check p k x s) action next words spelled does = absurd does
 does-behind w text from tokens (use_plan p k l q y s) action next words spelled does = absurd does
+does-behind w text from tokens (grouped p k l q) action next words spelled does = absurd does
 does-behind w text from tokens (copy k n null) action next words spelled does =
     behind-data text from k.stop.end (end_of tokens) next (copy-end text tokens k n null spelled) (ends-behind text from tokens words)
     (data-behind w text tokens action next k.stop.end (table_named w.contents (bytes_of n)) (token_of n) null.token null.value does.1.0 does.0 does.1.1 does.1.2 does.2)

@@ -1,5 +1,5 @@
 -- A fault of ADVISE is in no record of data.
-use Rattle.std.proofs.Common.{◌≡◌, ◌≤◌, ℕ, Bool, true, false, cond, List, [], ◌∷◌, ◌++◌, length, map, nat_lt, nat_le, inl, inr, refl, sym, ap, subst, ◌∙◌, Result, Ok, Err}
+use Rattle.std.proofs.Common.{◌≡◌, ℕ, Bool, true, false, cond, List, [], ◌∷◌, ◌++◌, length, map, nat_lt, nat_le, inl, inr, refl, sym, ap, subst, ◌∙◌, Result, Ok, Err}
 use Rattle.std.specs.Str.Parse.{digits_value}
 use Rattle.pg_base.specs.declared.faults.Fault.{Fault}
 use Rattle.pg_base.specs.declared.limits.TheConstants.{MOST_CANDIDATES, MOST_INDEXES, MOST_QUERIES}
@@ -12,7 +12,7 @@ use Rattle.index_reader.specs.Meaning.{Reading, meaning_of_cand}
 use Rattle.query_reader.specs.Binding.{Bound, bound_part}
 use Rattle.sql_query.specs.Queries.{Query}
 use Rattle.advise_reader.specs.Candidates.{CandidateMeans, IsNotAllowed, MayBeMade, candidate_read, formless, repeated, taken, with_room}
-use Rattle.advise_reader.specs.Meaning.{Asked, CandidatesMean, Means, QueriesMean, most_meant}
+use Rattle.advise_reader.specs.Meaning.{Asked, Means, most_meant}
 use Rattle.advise_reader.specs.Parts.{candidates_of, name_token, select_in}
 use Rattle.advise_reader.specs.Queries.{IsQueryOf, QueryMeans, query_bound}
 use Rattle.advise_reader.specs.Stages.{AreRead, Then}

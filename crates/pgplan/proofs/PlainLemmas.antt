@@ -1,11 +1,7 @@
 -- A fault of names, literals and limits is in no record of data.
-use Rattle.std.proofs.Common.{◌≡◌, ℕ, Bool, true, false, cond, List, [], ◌∷◌, Option, Some, None, Ok, Err, Result, refl, subst, ap}
-use Rattle.std.proofs.lemmas.Bool.{cases_Bool}
+use Rattle.std.proofs.Common.{◌≡◌, ℕ, Bool, true, false, cond, List, Option, Some, None, Ok, Err, Result, refl, ap}
 use Rattle.pg_base.specs.declared.faults.Code.{Code}
 use Rattle.pg_base.specs.declared.faults.Fault.{Fault}
-use Rattle.pg_base.specs.declared.faults.Limit.{Limit}
-use Rattle.pg_base.specs.declared.numbers.TableNo.{TableNo}
-use Rattle.pg_base.specs.declared.numbers.ColNo.{ColNo}
 use Rattle.pg_value.specs.declared.fields.FieldFault.{FieldFault}
 use Rattle.pg_value.specs.declared.fields.FieldFault.TheVariants as fields
 use Rattle.pg_value.specs.declared.operators.Op.{Op}
@@ -18,7 +14,7 @@ use Rattle.pg_expr.specs.declared.operand.ColRef.{ColRef}
 use Rattle.pg_expr.specs.declared.operand.Operand.{Operand as Bound}
 use Rattle.pg_expr.specs.Cond.{Cond, Conds, compare as compared}
 use Rattle.sql_lex.specs.declared.tokens.Token.{Token}
-use Rattle.sql_grammar.specs.Terminals.{Ident, Said, token_of}
+use Rattle.sql_grammar.specs.Terminals.{Said, token_of}
 use Rattle.sql_grammar.specs.Faults.{Production, IsFirstFault, bytes_of, fault_at}
 use Rattle.sql_grammar.specs.Syntax.{Col, bare, qualified, yes, no, unknown, Lit, number, negative, quoted, constant, Operand, column, literal, Expr, either_of, Ors, no_or, or_conj, Conj, both_of, Ands, no_and, and_neg, Neg, negated, plain, Atom, parens, compare, is_null, is_not_null, column_alone, constant_alone}
 use Rattle.sql_cursor.specs.Operators.{operator_of}
@@ -26,7 +22,7 @@ use Rattle.expr_reader.specs.declared.found.Found.{Found}
 use Rattle.expr_reader.specs.declared.found.Found.TheVariants.{One, NoTable, NoColumn, Many}
 use Rattle.expr_reader.specs.Scope.{Scope, look_up}
 use Rattle.expr_reader.specs.Literals.{literal_value, number_as, flag_as, typed_value, value_at, written}
-use Rattle.expr_reader.specs.Conditions.{next, the_column, column_of, place_of_col, Side, of_column, of_literal, own_type, type_beside, operand_of, operated, compare_as, compare_sides, flag_column, then_parts, or_of, and_of, side_of, comparison, meaning_of_expr, meaning_of_ors, meaning_of_conj, meaning_of_ands, meaning_of_neg, meaning_of_atom}
+use Rattle.expr_reader.specs.Conditions.{next, the_column, column_of, place_of_col, Side, of_column, of_literal, own_type, type_beside, operand_of, operated, compare_as, flag_column, then_parts, side_of, meaning_of_expr, meaning_of_ors, meaning_of_conj, meaning_of_ands, meaning_of_neg, meaning_of_atom}
 
 -- a fault is in no record
 abbrev pub IsPlain : {A : Type 0} → Result A Fault → Type 0

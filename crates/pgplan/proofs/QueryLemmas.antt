@@ -1,5 +1,5 @@
 -- What the reading of a SELECT says of a statement that is no definition and is not empty.
-use Rattle.std.proofs.Common.{◌≡◌, ◌⊎◌, Some, ℕ, ◌+◌, ◌<◌, ◌≤◌, Bool, true, false, cond, nat_eq, List, [], ◌∷◌, length, inl, inr, Ok, Err, Result, refl, sym, ap, subst, ◌∙◌, arith}
+use Rattle.std.proofs.Common.{◌≡◌, ◌⊎◌, Some, ℕ, ◌<◌, ◌≤◌, Bool, true, false, cond, nat_eq, List, [], ◌∷◌, length, inl, inr, Ok, Err, Result, refl, sym, ap, subst, ◌∙◌, arith}
 use Rattle.std.proofs.lemmas.Bool.Decides.{nat_tests}
 use Rattle.pg_base.specs.declared.limits.TheConstants.{MOST_SCRIPT_BYTES}
 use Rattle.pg_base.specs.declared.faults.Fault.{Fault}
@@ -10,8 +10,8 @@ use Rattle.sql_lex.specs.Words.{AreWords}
 use Rattle.sql_lex.specs.Ends.{end_of, token_at}
 use Rattle.sql_grammar.specs.Terminals.{Terminal, class_of}
 use Rattle.sql_grammar.specs.Table.{is_ending}
-use Rattle.sql_grammar.specs.Reading.{terminal_of, is_end, ends_once}
-use Rattle.sql_grammar.specs.Syntax.{OrderedSelect, ordered_select, WindowedSelect, windowed_select, no_explain, explain, explain_table, select_from, index_on, semicolon, text_end, Statement, empty, create_table, create_index, query, copy, sizes, column_statistics, analyze, advise, advise_of, check, use_plan}
+use Rattle.sql_grammar.specs.Reading.{is_end, ends_once}
+use Rattle.sql_grammar.specs.Syntax.{OrderedSelect, ordered_select, WindowedSelect, windowed_select, no_explain, explain, explain_table, select_from, index_on, semicolon, text_end, Statement, empty, create_table, create_index, query, copy, sizes, column_statistics, analyze, advise, advise_of, check, use_plan, grouped}
 use Rattle.sql_grammar.specs.Words.{words_of}
 use Rattle.sql_grammar.specs.Faults.{IsFirstFault, IsStatement, IsWhole, terminals}
 use Rattle.sql_grammar.specs.Spelled.{IsSpelled}
@@ -50,6 +50,7 @@ no-other (analyze p k n end) ts other index goes advice is = let e = ap begins_d
 no-other (advise (advise_of p t n o x xs m q qs e)) ts other index goes advice is = let e = ap begins_advise is ∙ advice in absurd (cc (e))
 no-other (check p k x s) ts other index goes advice is = absurd p
 no-other (use_plan p k l q y s) ts other index goes advice is = absurd p
+no-other (grouped p k l q) ts other index goes advice is = absurd p
 no-other (copy k n null) ts other index goes advice is = let e = ap begins_ddl is ∙ other in absurd (cc (e))
 
 -- where more words than one stand, the first is no end
@@ -122,6 +123,7 @@ module _ (text : List ℕ) (tokens : List Token) (kind : AreNoOther text tokens)
   a-select (advise x) is spelled = cc (is)
   a-select (check p k x e) is spelled = cc (is)
   a-select (use_plan p k l q y e) is spelled = cc (is)
+  a-select (grouped p k l q) is spelled = cc (is)
   a-select (copy k n null) is spelled = cc (is)
 
   -- a whole statement is one

@@ -1,5 +1,5 @@
 -- The reply to a query, by whether it is explained.
-use Rattle.std.proofs.Common.{◌≡◌, ℕ, ◌+◌, Bool, true, false, cond, inl, inr, Ok, Err, Result, OnOk, IfErr, ap, arith, sym, subst}
+use Rattle.std.proofs.Common.{◌≡◌, ℕ, Bool, true, false, cond, inl, inr, Ok, Err, Result, OnOk, IfErr, ap, arith, sym, subst}
 use Rattle.std.specs.declared.option.Option.{Option}
 use Rattle.std.specs.Prelude.{List}
 use Rattle.catalog.specs.Contents.{Contents}

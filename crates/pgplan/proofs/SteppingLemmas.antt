@@ -1,5 +1,5 @@
 -- A step of the machine, from what its parts did.
-use Rattle.std.proofs.Common.{◌≡◌, ℕ, ◌^◌, ◌<◌, ◌≤◌, inl, inr, Bool, true, false, List, [], ◌∷◌, length, refl, sym, ap, arith, Option, None, Result, Ok, Err, IfOk}
+use Rattle.std.proofs.Common.{◌≡◌, ℕ, ◌^◌, ◌<◌, ◌≤◌, inl, inr, Bool, true, false, List, [], ◌∷◌, length, refl, sym, ap, ap₂, ◌∙◌, arith, Option, None, Result, Ok, Err, IfOk}
 use Rattle.std.proofs.lemmas.List.Elements.{All-cons, All-nil}
 use Rattle.sql_lex.specs.declared.tokens.Token.{Token}
 use Rattle.sql_lex.specs.Words.{AreWords}
@@ -11,17 +11,23 @@ use Rattle.sql_grammar.specs.Faults.{limit_of}
 use Rattle.sql_grammar.proofs.StatementWords.{words-are-tokens}
 use Rattle.reply.specs.Effort.{HasRisen, exactly}
 use Rattle.reply.specs.Replies.{Traces, traces as traces_of}
-use Rattle.sql_query.specs.Worlds.{World}
+use Rattle.catalog.specs.Contents.{Contents}
+use Rattle.sql_query.specs.Worlds.{World, world}
+use Rattle.store.specs.Kept.{Kept}
 use Rattle.pgplan.specs.declared.end.End.{End}
 use Rattle.pgplan.specs.declared.end.End.TheVariants as ends
 use Rattle.definitions.specs.Actions.{idle}
 use Rattle.sql_lex.specs.Ends.{end_of}
 use Rattle.pgplan.specs.Accepted.{IsReadOver}
-use Rattle.pgplan.proofs.PlaceLemmas.{read-behind}
+use Rattle.pgplan.proofs.PlaceLemmas.{EndsBehind, read-behind}
 use Rattle.pgplan.specs.Faults.{after_words}
 use Rattle.pgplan.specs.Replies.{silent}
 use Rattle.pgplan.proofs.ScriptLemmas.{Appends-none}
 use Rattle.pgplan.specs.Steps.{Advances, IsBegun, Stops, IsDefined, Refuses, IsAnsweredOver, IsBegunOver, StopsOver}
+
+-- what is kept that was not changed
+pub same-world : (c c' : Contents) (k k' : Kept) (w : World) → c' ≡ c → k' ≡ k → world c k.stored ≡ w → world c' k'.stored ≡ w
+same-world c c' k k' w contents kept is = ap₂ (λ (x : Contents) (y : Kept). world x y.stored) contents kept ∙ is
 
 -- an end alone is the empty statement
 alone : (w : World) (text : List ℕ) (t : Token) (terminal : Terminal) → terminal_of text t ≡ terminal → is_ending (class_of terminal) ≡ true → IsReadOver w text (t ∷ []) idle (end_of (t ∷ []))
@@ -53,6 +59,9 @@ one-token-idle w text from (t ∷ []) short words one =
     alone w text t (terminal_of text t) refl (ends-alone text t (is_end text t) refl (words-are-tokens text from (t ∷ []) words short).last)
 one-token-idle w text from (t ∷ u ∷ ts) short words one = absurd (omega (arith, one))
 
+pub idle-defined : (w : World) (text : List ℕ) (at : ℕ) (tokens : List Token) (looked : ℕ) → length text ≤ 2 ^ 31 → AreWords text at tokens → length tokens ≡ 1 → IsDefined w w text tokens (end_of tokens) looked looked
+idle-defined w text at tokens looked short words one = (idle, record { read = one-token-idle w text at tokens short words one; looks = 0; reply = refl; within = omega arith }, refl)
+
 -- nothing is fetched
 none-fetched : (n : ℕ) → HasRisen (exactly 0) n n
 none-fetched n = record { within = omega arith; exact = omega arith }
@@ -66,12 +75,6 @@ done-quietly w w' text at next tokens held fetched looked looked' words (action,
   world = after;
   replied = record { reply = silent is.looks; answers = is.reply; gained = Appends-none held; fetched = none-fetched fetched; looked = is.within };
 }
-
-pub done-idle : (w : World) (text : List ℕ) (at : ℕ) (tokens : List Token) (held : Option (List ℕ)) (fetched looked : ℕ) → length text ≤ 2 ^ 31 → AreWords text at tokens → length tokens ≡ 1 →
-    Advances w w text at (end_of tokens) (traces_of held fetched looked) (traces_of held fetched looked)
-done-idle w text at tokens held fetched looked short words one =
-    done-quietly w w text at (end_of tokens) tokens held fetched looked looked words
-    (idle, record { read = one-token-idle w text at tokens short words one; looks = 0; reply = refl; within = omega arith }, refl)
 
 -- a query was answered
 pub done-query : (w : World) (text : List ℕ) (at next : ℕ) (tokens : List Token) (old new : Traces) → AreWords text at tokens → IsAnsweredOver w text tokens next old new → Advances w w text at next old new
@@ -101,13 +104,8 @@ stopped-definition ends.Memory w text at tokens held fetched looked looked' word
 })
 
 -- where the statement after a definition begins
-pub defined-ahead : (w w' : World) (text : List ℕ) (at : ℕ) (tokens : List Token) (looked looked' : ℕ) (r : Result ℕ End) → AreWords text at tokens → IfOk r (λ next. IsDefined w w' text tokens next looked looked') → IfOk r (λ next. at < length text → at < next)
-defined-ahead w w' text at tokens looked looked' (Ok next) words (action, is, after) = (read-behind w text at tokens action next words is.read).ahead
-defined-ahead w w' text at tokens looked looked' (Err e) words is = tt
-
-pub defined-inside : (w w' : World) (text : List ℕ) (at : ℕ) (tokens : List Token) (looked looked' : ℕ) (r : Result ℕ End) → AreWords text at tokens → IfOk r (λ next. IsDefined w w' text tokens next looked looked') → IfOk r (λ next. next ≤ length text)
-defined-inside w w' text at tokens looked looked' (Ok next) words (action, is, after) = (read-behind w text at tokens action next words is.read).inside
-defined-inside w w' text at tokens looked looked' (Err e) words is = tt
+pub defined-behind : (w w' : World) (text : List ℕ) (at next : ℕ) (tokens : List Token) (looked looked' : ℕ) → AreWords text at tokens → IsDefined w w' text tokens next looked looked' → EndsBehind text at next
+defined-behind w w' text at next tokens looked looked' words (action, is, after) = read-behind w text at tokens action next words is.read
 
 -- where the statement after a query begins
 pub answered-ahead : (w : World) (text : List ℕ) (at : ℕ) (tokens : List Token) (old new : Traces) (r : Result ℕ End) → AreWords text at tokens → IfOk r (λ next. IsAnsweredOver w text tokens next old new) → IfOk r (λ next. at < length text → at < next)

@@ -1,5 +1,5 @@
 -- What the top call tells of a run.
-use Rattle.std.proofs.Common.{◌≡◌, ◌⊎◌, ℕ, ◌+◌, ◌<◌, ◌≤◌, List, [], ◌∷◌, ◌++◌, length, map, get_or, refl, sym, ◌∙◌, ap, subst, arith, append-nil, inl, inr, Option, Some, None, Result, Ok, Err, OnOk, OnErr, IfErr}
+use Rattle.std.proofs.Common.{◌≡◌, ◌⊎◌, ℕ, ◌+◌, ◌<◌, ◌≤◌, List, [], ◌∷◌, ◌++◌, length, refl, sym, ◌∙◌, ap, subst, arith, append-nil, inl, inr, Option, Some, None, Result, Ok, Err, OnOk, OnErr, IfErr}
 use Rattle.std.proofs.lemmas.List.{take_all, length-append}
 use Rattle.std.specs.Io.KnownBytes.{Appends, Consumes, IsAtEnd}
 use Rattle.pg_base.specs.Causes.{HasCause}
@@ -19,12 +19,6 @@ use Rattle.pgplan.specs.Scripts.{Worked, AreWorked, world_after, place_after}
 use Rattle.pgplan.specs.Statuses.{IsTold, line_of_work, number_of, status_of_work}
 use Rattle.pgplan.specs.Runs.{Ends, IsAnswered, IsRunOver, HasStatusCause, HasNoFault, ReachesFault, IsCutShort}
 use Rattle.pgplan.proofs.OneReadingLemmas.{one_read, read_apart}
-
--- a list of one, mapped
-pub one_item : {A B : Type 0} (f : A → B) (xs : List A) (x : A) → 1 ≤ length xs → length xs < 2 → x ≡ get_or xs 0 x → map f xs ≡ f x ∷ []
-one_item f [] x some few e = absurd (omega (arith, some))
-one_item f (y ∷ []) x some few e = ap (λ z. f z ∷ []) (sym e)
-one_item f (y ∷ z ∷ zs) x some few e = absurd (omega (arith, few))
 
 -- a line that was written, or stopped by a fault
 told : {E : Type 0} (r : Result (Unit {0}) E) (old new : Option (List ℕ)) (before now : ℕ) (line : List ℕ) → OnOk r (Appends old new line) →
@@ -112,7 +106,7 @@ taken_short left (Some rest) taken text e took =
     omega (arith, long)
 
 -- where all statements can be worked, no fault is reached
-none_reached_from : (w : World) (text : List ℕ) (from : ℕ) (all first : List Worked) (f : Fault) → AreWorked w text from all → place_after from all ≡ length text → AreWorked w text from first →
+pub none_reached_from : (w : World) (text : List ℕ) (from : ℕ) (all first : List Worked) (f : Fault) → AreWorked w text from all → place_after from all ≡ length text → AreWorked w text from first →
     place_after from first < length text → IsFault (world_after w first) text (place_after from first) f → ⊥
 none_reached_from w text from [] [] f h ended k more fault = omega (arith, ended, more)
 none_reached_from w text from [] (s ∷ ss) f h ended k more fault = let open_at = k.0 in omega (arith, ended, open_at)

@@ -4,7 +4,7 @@ use Rattle.std.specs.Prelude.{◌≡◌, ℕ, true, cond, All, List, slice_range
 use Rattle.sql_lex.specs.declared.tokens.Token.{Token}
 use Rattle.sql_lex.specs.Ends.{token_at, end_of}
 use Rattle.sql_lex.specs.Words.{AreWords}
-use Rattle.sql_grammar.specs.Syntax.{Advise, CreateIndex, Statement, empty, create_table, create_index, query, copy, sizes, column_statistics, analyze, advise as advise_tree, check, use_plan}
+use Rattle.sql_grammar.specs.Syntax.{Advise, CreateIndex, Statement, empty, create_table, create_index, query, copy, sizes, column_statistics, analyze, advise as advise_tree, check, use_plan, grouped}
 use Rattle.sql_grammar.specs.Faults.{terminals}
 use Rattle.sql_grammar.specs.Spelled.{IsSpelled}
 use Rattle.advise_reader.specs.Meaning.{Asked, Means as AdviseMeans}
@@ -75,6 +75,7 @@ Does w text tokens (analyze p k n e) action next = Defines w text tokens (analyz
 Does w text tokens (advise_tree x) action next = Advises w tokens x action × (next ≡ end_of tokens)
 Does w text tokens (check p k x s) action next = ⊥
 Does w text tokens (use_plan p k l q y s) action next = ⊥
+Does w text tokens (grouped p k l q) action next = ⊥
 
 -- the tokens are a statement that does this
 pub record IsReadOver (w : World) (text : List ℕ) (tokens : List Token) (action : Action) (next : ℕ) : Type 0 where

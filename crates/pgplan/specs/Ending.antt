@@ -7,9 +7,6 @@ use Rattle.catalog.specs.declared.fault.CatalogFault.{CatalogFault}
 use Rattle.catalog.specs.declared.fault.CatalogFault.TheVariants as refused
 use Rattle.catalog.specs.Contents.{Contents}
 use Rattle.catalog.specs.Tables.{IsRefusal}
-use Rattle.pg_base.specs.declared.faults.Code.TheVariants.{S16}
-use Rattle.sql_grammar.specs.Faults.{fault_at}
-use Rattle.sql_lex.specs.declared.tokens.Token.{Token}
 use Rattle.reply.specs.declared.stop.Stop.{Stop}
 use Rattle.reply.specs.declared.stop.Stop.TheVariants as stop
 use Rattle.pgplan.specs.declared.end.End.{End}
@@ -19,11 +16,11 @@ abbrev pub end_of_refusal : Refusal → End
 end_of_refusal (refusal.Fault f) = Fault f
 end_of_refusal refusal.Memory = Memory
 
--- a reply that was not written whole: that there is no plan is a fault at the word SELECT
-abbrev pub end_of_stop : Stop → Token → End
-end_of_stop stop.NoPlan select = Fault (fault_at S16 select)
-end_of_stop stop.Write select = Write
-end_of_stop stop.Memory select = Memory
+-- a query that was not answered whole: that there is no plan is this fault
+abbrev pub end_of_stop : Stop → FaultType → End
+end_of_stop stop.NoPlan unplanned = Fault unplanned
+end_of_stop stop.Write unplanned = Write
+end_of_stop stop.Memory unplanned = Memory
 
 -- a fault, and want of memory where there is none
 abbrev pub end_by : Option FaultType → End

@@ -10,7 +10,7 @@ use Rattle.pg_base.specs.declared.faults.Fault.{Fault}
 use Rattle.pg_base.specs.Faults.{data_fault, syntax_fault, words_fault}
 use Rattle.sql_lex.specs.declared.tokens.Token.{Token}
 use Rattle.sql_lex.specs.Words.{AreWords, IsWordFault}
-use Rattle.sql_grammar.specs.Syntax.{Advise, OrderedSelect, CreateIndex, Statement, empty, create_table, create_index, query, copy, sizes, column_statistics, analyze, advise, check, use_plan}
+use Rattle.sql_grammar.specs.Syntax.{Advise, OrderedSelect, CreateIndex, Statement, empty, create_table, create_index, query, copy, sizes, column_statistics, analyze, advise, check, use_plan, grouped}
 use Rattle.sql_grammar.specs.Faults.{IsStatement, IsFirstFault, fault_at, terminals}
 use Rattle.sql_grammar.specs.Spelled.{IsSpelled}
 use Rattle.advise_reader.specs.Meaning.{Asked, Means as AdviseMeans}
@@ -149,6 +149,7 @@ IsMeaningFault w text tokens (analyze p k n e) f = IsDefinitionFault w text (ana
 IsMeaningFault w text tokens (advise x) f = IsAdviseFault w tokens x f
 IsMeaningFault w text tokens (check p k x s) f = ⊥
 IsMeaningFault w text tokens (use_plan p k l q y s) f = ⊥
+IsMeaningFault w text tokens (grouped p k l q) f = ⊥
 
 -- the first fault of a statement whose words have none: of its syntax, or of what it means
 pub data IsFaultOver (w : World) (text : List ℕ) (tokens : List Token) (f : Fault) : Type 0 where

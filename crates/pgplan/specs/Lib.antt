@@ -6,3 +6,5 @@ pub mod Scripts
 pub mod Steps
 pub mod Statuses
 pub mod Runs
+pub mod Askings
+pub mod Summaries

@@ -1,5 +1,5 @@
 -- What a run of the program did to its source and to its sinks. Own.
-use Rattle.std.specs.Prelude.{ℕ, ◌≡◌, ◌⊎◌, ◌+◌, ◌<◌, ◌≤◌, List, [], ◌∷◌, ◌++◌, length, take, codes}
+use Rattle.std.specs.Prelude.{ℕ, ◌≡◌, ◌⊎◌, ◌+◌, ◌<◌, ◌≤◌, List, ◌++◌, length, take}
 use Rattle.std.specs.declared.option.Option.{Option}
 use Rattle.std.specs.Io.KnownBytes.{Appends, Consumes, IsAtEnd}
 use Rattle.pg_base.specs.Causes.{Rose}
@@ -18,10 +18,6 @@ use Rattle.reply.specs.Replies.{Reply}
 use Rattle.pgplan.specs.Replies.{IsReply}
 use Rattle.pgplan.specs.Scripts.{Worked, AreFirst, AreAll, world_after, place_after, replies}
 use Rattle.pgplan.specs.Statuses.{IsTold, line_of}
-
--- the one word `run`
-abbrev pub IsRunCommand : List (List ℕ) → Type 0
-IsRunCommand words = words ≡ codes "run" ∷ []
 
 -- these bytes were taken, all that the source had
 pub record IsReadWhole (left left' : Option (List ℕ)) (text : List ℕ) : Type 0 where

@@ -1,21 +1,25 @@
 -- What a step of the script machine does. Own.
-use Rattle.std.specs.Prelude.{ℕ, ◌≡◌, ◌⊎◌, ◌+◌, ◌≤◌, List, [], slice_range, Ok}
+use Rattle.std.specs.Prelude.{ℕ, ◌≡◌, ◌⊎◌, ◌+◌, ◌≤◌, ◌<◌, false, length, List, [], slice_range, Option, None, Ok}
 use Rattle.pg_base.specs.declared.numbers.TableNo.{TableNo}
 use Rattle.sql_lex.specs.declared.tokens.Token.{Token}
 use Rattle.sql_lex.specs.Ends.{end_of}
+use Rattle.sql_grammar.specs.Faults.{terminals}
 use Rattle.catalog.specs.Contents.{Contents}
 use Rattle.ddl_reader.specs.Block.{IsBlockEnd}
+use Rattle.ddl_reader.specs.Statements.{begins_ddl, begins_index}
 use Rattle.ddl_reader.specs.Tables.{Definition, data_for}
 use Rattle.fault_line.specs.Tells.{IsFieldOf}
 use Rattle.heap.specs.Loading.{loaded, records_of}
 use Rattle.heap.specs.Stored.{Stored}
 use Rattle.reply.specs.Replies.{HasBegun, HasReplied, Traces}
+use Rattle.reply.specs.declared.measuring.Measured.{Measured}
 use Rattle.sql_query.specs.Worlds.{World, stored_at}
 use Rattle.store.specs.Kept.{load_looks}
 use Rattle.pgplan.specs.declared.end.End.{End}
 use Rattle.pgplan.specs.declared.end.End.TheVariants as ends
 use Rattle.definitions.specs.Actions.{Action, after}
 use Rattle.pgplan.specs.Accepted.{IsRead, IsReadOver}
+use Rattle.pgplan.specs.Askings.{IsTallied, asked_in}
 use Rattle.pgplan.specs.Faults.{IsFault, IsFaultOver, IsRefused}
 use Rattle.pgplan.specs.Replies.{IsReply, silent, told}
 
@@ -33,6 +37,13 @@ pub record IsBegun (w : World) (text : List ℕ) (at : ℕ) (old new : Traces) :
   pub read : IsRead w text at action next
   pub begun : HasBegun (IsReply w action) old new
 
+-- the statement at this place was read and carried out, and what it asks was measured
+pub record Tallies (w w' : World) (text : List ℕ) (at next : ℕ) (m : Option Measured) : Type 0 where
+  pub action : Action
+  pub read : IsRead w text at action next
+  pub world : w' ≡ after w action
+  pub tallied : IsTallied w action m
+
 -- where a field of COPY data is at fault, the catalogue has its table and column
 abbrev pub HasField : Contents → End → Type 0
 HasField c (ends.Fault f) = IsFieldOf c f
@@ -44,6 +55,12 @@ abbrev pub Stops : End → World → List ℕ → ℕ → Traces → Traces → 
 Stops (ends.Fault f) w text at old new = IsFault w text at f × IsFieldOf w.contents f × (new ≡ old)
 Stops ends.Write w text at old new = IsBegun w text at old new
 Stops ends.Memory w text at old new = (new ≡ old) ⊎ IsBegun w text at old new
+
+-- why the statement at this place was not tallied: its first fault, or want of memory
+abbrev pub StopsTally : End → World → List ℕ → ℕ → Type 0
+StopsTally (ends.Fault f) w text at = IsFault w text at f × IsFieldOf w.contents f
+StopsTally ends.Write w text at = ⊥
+StopsTally ends.Memory w text at = Unit {0}
 
 -- the tokens do this, print nothing, and took no more looks than that takes
 pub record IsCarrying (w : World) (text : List ℕ) (tokens : List Token) (action : Action) (next : ℕ) (looked looked' : ℕ) : Type 0 where
@@ -88,11 +105,25 @@ IsAnsweredOver w text tokens next old new = (action : Action) × IsReadOver w te
 abbrev pub IsBegunOver : World → List ℕ → List Token → Traces → Traces → Type 0
 IsBegunOver w text tokens old new = (action : Action) × (next : ℕ) × IsReadOver w text tokens action next × HasBegun (IsReply w action) old new
 
--- the tokens are an ADVISE, and these lines are its reply
+-- the tokens are neither an empty statement nor a definition
+pub record AreNoDefinition (text : List ℕ) (tokens : List Token) : Type 0 where
+  pub some : 1 < length tokens
+  pub no_ddl : begins_ddl (terminals text tokens) ≡ false
+  pub no_index : begins_index (terminals text tokens) ≡ false
+
+-- the tokens do this and leave the world as it is, and what they ask was measured
+pub record IsTalliedOver (w : World) (text : List ℕ) (tokens : List Token) (next : ℕ) (m : Option Measured) : Type 0 where
+  pub action : Action
+  pub read : IsReadOver w text tokens action next
+  pub still : w ≡ after w action
+  pub tallied : IsTallied w action m
+
+-- the tokens are an ADVISE, which asks no query, and these lines are its reply
 pub record IsAdvised (w : World) (text : List ℕ) (tokens : List Token) (lines : List ℕ) : Type 0 where
   pub action : Action
   pub read : IsReadOver w text tokens action (end_of tokens)
   pub still : w ≡ after w action
+  pub quiet : asked_in w action ≡ None
   pub reply : IsReply w action (told lines)
 
 -- why the query or the ADVISE of these tokens was not answered whole

@@ -2,6 +2,7 @@
 #![tactic(auto)]
 
 mod advising;
+mod carry;
 mod define;
 mod end;
 mod faults;
@@ -9,8 +10,11 @@ mod index;
 mod laws;
 mod machine;
 mod query;
+mod replying;
+mod sample;
 mod status;
 mod top;
+mod totals;
 mod work;
 
 pub use end::End;

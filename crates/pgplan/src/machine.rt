@@ -5,16 +5,12 @@ ghost use Rattle.pg_base.specs.declared.limits.TheConstants.{MOST_SCRIPT_BYTES};
 ghost use Rattle.sql_query.specs.Worlds.{empty_world};
 ghost use Rattle.reply.specs.Putting.{HasWriteCause};
 ghost use Rattle.reply.specs.Replies.{traces};
-ghost use Rattle.pgplan.specs.Steps.{Advances, Stops};
+ghost use Rattle.pgplan.specs.Steps.{Advances, Stops, StopsTally, Tallies};
 
-use crate::advising::advise;
-use crate::define::define;
+use crate::carry::carry_out;
 use crate::end::End;
-use crate::index::create_index;
-use crate::query::answer_query;
-use advise_reader::is_advise;
+use crate::replying::{Tallied, reply_to, tally_reply};
 use catalog::Catalog;
-use ddl_reader::{is_ddl, is_index};
 use heap::Counters;
 use pg_base::{Sink, Steps};
 use sql_lex::lex_statement;
@@ -90,41 +86,70 @@ impl<C: Counters> Machine<C> {
         ensures inside { IfOk result (λ next. next ≤ length text.now) }
     {
         let tokens = lex_statement(self.alloc, text, at)?;
-        if tokens.items().len() == 1 {
-            return Ok(tokens.end());
-        }
-        if is_ddl(text, &tokens) {
-            return define(
-                self.alloc,
-                text,
-                &tokens,
-                &mut self.catalog,
-                &mut self.store,
-                reads,
-            );
-        }
-        if is_index(text, &tokens) {
-            return create_index(
-                self.alloc,
-                text,
-                &tokens,
-                &mut self.catalog,
-                &mut self.store,
-                reads,
-            );
-        }
-        if is_advise(text, &tokens) {
-            return advise(self.alloc, text, &tokens, &self.catalog, out);
-        }
-        answer_query(
+        match carry_out(
             self.alloc,
             text,
             &tokens,
-            &self.catalog,
-            &self.store,
-            out,
-            fetches,
+            &mut self.catalog,
+            &mut self.store,
             reads,
-        )
+        ) {
+            Ok(None) => reply_to(
+                self.alloc,
+                text,
+                &tokens,
+                &self.catalog,
+                &self.store,
+                out,
+                fetches,
+                reads,
+            ),
+            Ok(Some(next)) => Ok(next),
+            Err(end) => Err(end),
+        }
+    }
+
+    /// Works the statement that begins at the byte offset `at` as `step` does, and prints nothing: gives the offset after it and,
+    /// of a query that is asked, the number of rows and the price of its answer in place of that answer. The refusal is the
+    /// statement's first fault or want of memory, and the machine is then as before.
+    pub(crate) fn tally(
+        &mut self,
+        text: &[u8],
+        at: u32,
+        fetches: &mut Steps<C::Fetches>,
+        reads: &mut Steps<C::Looks>,
+    ) -> Result<Tallied, End>
+        requires short { length text.now ≤ MOST_SCRIPT_BYTES }
+        requires within { at ≤ length text.now }
+        ensures done { IfOk result (λ t. Tallies self.old self.new text.now at t.next t.measured) }
+        ensures stopped { IfErr result (λ e. StopsTally e self.old text.now at) }
+        ensures unchanged { OnErr result (self.new ≡ self.old) }
+        ensures ahead { IfOk result (λ t. at < length text.now → at < t.next) }
+        ensures inside { IfOk result (λ t. t.next ≤ length text.now) }
+    {
+        let words = lex_statement(self.alloc, text, at)?;
+        match carry_out(
+            self.alloc,
+            text,
+            &words,
+            &mut self.catalog,
+            &mut self.store,
+            reads,
+        ) {
+            Ok(None) => tally_reply(
+                self.alloc,
+                text,
+                &words,
+                &self.catalog,
+                &self.store,
+                fetches,
+                reads,
+            ),
+            Ok(Some(next)) => Ok(Tallied {
+                next,
+                measured: None,
+            }),
+            Err(end) => Err(end),
+        }
     }
 }

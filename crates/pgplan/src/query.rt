@@ -1,32 +1,70 @@
-//! SELECT, answered, and EXPLAIN.
+//! SELECT, answered or measured, and EXPLAIN.
 
-ghost use Rattle.std.specs.Prelude.{◌≡◌, ◌≤◌, ◌<◌, ℕ, Bool, IfErr, IfOk, OnOk, cond, length};
+ghost use Rattle.std.specs.Prelude.{◌≡◌, ◌≤◌, ◌<◌, ℕ, Bool, List, IfErr, IfOk, None, OnOk, Some, cond, length};
 ghost use Rattle.pg_base.specs.declared.limits.TheConstants.{MOST_SCRIPT_BYTES};
-ghost use Rattle.sql_lex.specs.Ends.{token_at as token_of_number};
+ghost use Rattle.sql_lex.specs.Ends.{end_of, token_at as token_of_number};
 ghost use Rattle.sql_lex.specs.Words.{AreWords};
+ghost use Rattle.heap.specs.Stored.{Stored};
 ghost use Rattle.sql_query.specs.WellBound.{IsWellBound};
 ghost use Rattle.sql_query.specs.Worlds.{world};
 ghost use Rattle.store.specs.Kept.{IsStoreOf};
-ghost use Rattle.query_reader.specs.Select.{AreNoOther};
+ghost use Rattle.query_reader.specs.Select.{AreNoOther, AreSelect};
 ghost use Rattle.reply.specs.Answers.{HasNoPlan};
 ghost use Rattle.reply.specs.Putting.{HasWriteCause};
 ghost use Rattle.reply.specs.Replies.{HasReplied, Leaves, traces};
 ghost use Rattle.definitions.specs.Actions as actions;
+ghost use Rattle.pgplan.specs.Accepted.{IsReadOver, asked};
+ghost use Rattle.pgplan.specs.Faults.{IsFaultOver, no_plan};
 ghost use Rattle.pgplan.specs.Ending.{end_of_stop};
 ghost use Rattle.pgplan.specs.Replies.{IsReply};
-ghost use Rattle.pgplan.specs.Steps.{IsAnsweredOver, StopsOver};
+ghost use Rattle.pgplan.specs.Steps.{IsAnsweredOver, IsTalliedOver, Refuses, StopsOver};
 
 use crate::end::End;
 use catalog::Catalog;
 use heap::Counters;
-use pg_base::{Code, Sink, Steps};
+use pg_base::{Code, Fault, Sink, Steps};
 use query_reader::{a_statement_has_its_select, explains, read_select};
-use reply::{Stop, answer, explain_query};
+use reply::{Measured, Stop, answer, explain_query, measure};
 use sql_grammar::fault_at;
 use sql_lex::{Token, Tokens};
 use sql_query::Prepared;
 use std::alloc::Global;
 use store::Store;
+
+/// Reads the query of these tokens, which are no definition and no empty statement.
+fn read_query(
+    alloc: Global,
+    text: &[u8],
+    tokens: &Tokens,
+    catalog: &Catalog,
+) -> Result<Prepared, End>
+    requires short { length text.now ≤ MOST_SCRIPT_BYTES }
+    requires words { (from : ℕ) × AreWords text.now from tokens.now }
+    requires some { 1 < length tokens.now }
+    requires kind { AreNoOther text.now tokens.now }
+    ensures bound { IfOk result (IsWellBound catalog.now) }
+    ensures select { IfOk result (λ q. AreSelect text.now tokens.now) }
+    ensures read { (stored : List Stored) → IfOk result (λ q. IsReadOver (world catalog.now stored) text.now tokens.now (asked text.now tokens.now q) (end_of tokens.now)) }
+    ensures unplanned { (stored : List Stored) → IfOk result (λ q. HasNoPlan catalog.now q → IsFaultOver (world catalog.now stored) text.now tokens.now (no_plan text.now tokens.now)) }
+    ensures refused { (stored : List Stored) → IfErr result (λ e. Refuses e (world catalog.now stored) text.now tokens.now 0 0) }
+{
+    let first = u32::from(explains(text, tokens));
+    a_statement_has_its_select();
+    let query = read_select(alloc, catalog, text, tokens, first)?;
+    Ok(query)
+}
+
+/// The fault of a query that has no admissible plan, at the word SELECT.
+fn unplanned(text: &[u8], tokens: &Tokens) -> Fault
+    requires short { length text.now ≤ MOST_SCRIPT_BYTES }
+    requires words { (from : ℕ) × AreWords text.now from tokens.now }
+    requires some { 1 < length tokens.now }
+    requires select { AreSelect text.now tokens.now }
+    ensures { result ≡ no_plan text.now tokens.now }
+{
+    let first = u32::from(explains(text, tokens));
+    fault_at(Code::S16, token_at(tokens, first))
+}
 
 /// Answers the query of these tokens, or explains it, and gives the offset after it. It is no definition and no empty
 /// statement. That it has no admissible plan is a fault at the word SELECT.
@@ -49,17 +87,48 @@ pub(crate) fn answer_query<C: Counters, K: Sink>(
     ensures stopped { IfErr result (λ e. StopsOver e (world catalog.now store.now.stored) text.now tokens.now (traces (K.held out.old) fetches.old reads.old) (traces (K.held out.new) fetches.new reads.new)) }
     ensures cause { HasWriteCause End.Write (K.faults out.old) (K.faults out.new) result }
 {
+    let query = read_query(alloc, text, tokens, catalog)?;
     let explained = explains(text, tokens);
-    let first = u32::from(explained);
-    a_statement_has_its_select();
-    let query = read_select(alloc, catalog, text, tokens, first)?;
-    let select = token_at(tokens, first);
     match print(
         alloc, catalog, store, &query, explained, out, fetches, reads,
     ) {
         Ok(()) => Ok(tokens.end()),
-        Err(stop) => Err(stopped_at(stop, select)),
+        Err(stop) => Err(stopped_at(stop, unplanned(text, tokens))),
     }
+}
+
+/// Plans and runs the query of these tokens, prints nothing, and gives what its answer comes to; nothing is given of one that is
+/// explained. It is no definition and no empty statement. That it has no admissible plan is a fault at the word SELECT.
+pub(crate) fn measure_query<C: Counters>(
+    alloc: Global,
+    text: &[u8],
+    tokens: &Tokens,
+    catalog: &Catalog,
+    store: &Store<C>,
+    fetches: &mut Steps<C::Fetches>,
+    reads: &mut Steps<C::Looks>,
+) -> Result<Option<Measured>, End>
+    requires short { length text.now ≤ MOST_SCRIPT_BYTES }
+    requires words { (from : ℕ) × AreWords text.now from tokens.now }
+    requires some { 1 < length tokens.now }
+    requires kind { AreNoOther text.now tokens.now }
+    requires store { IsStoreOf catalog.now store.now }
+    ensures tallied { IfOk result (IsTalliedOver (world catalog.now store.now.stored) text.now tokens.now (end_of tokens.now)) }
+    ensures refused { IfErr result (λ e. Refuses e (world catalog.now store.now.stored) text.now tokens.now 0 0) }
+{
+    let query = read_query(alloc, text, tokens, catalog)?;
+    let explained = explains(text, tokens);
+    match measure(alloc, catalog, &query, store, fetches, reads) {
+        Ok(measured) => Ok(counted(explained, measured)),
+        Err(stop) => Err(stopped_at(stop, unplanned(text, tokens))),
+    }
+}
+
+/// What is given of a query that was measured: nothing where it is explained.
+fn counted(explained: bool, measured: Measured) -> Option<Measured>
+    ensures { result ≡ cond explained None (Some measured) }
+{
+    if explained { None } else { Some(measured) }
 }
 
 /// Prints the answer to a query, or the plan alone where it is explained.
@@ -95,12 +164,12 @@ pub(crate) fn token_at(tokens: &Tokens, n: u32) -> Token
     tokens.items()[n as usize]
 }
 
-/// How a reply that was not written whole ends its step, where `select` is the word SELECT.
-fn stopped_at(stop: Stop, select: Token) -> End
-    ensures { result ≡ end_of_stop stop select }
+/// How a query that was not answered whole ends its step, where `unplanned` is the fault of one that has no plan.
+fn stopped_at(stop: Stop, unplanned: Fault) -> End
+    ensures { result ≡ end_of_stop stop unplanned }
 {
     match stop {
-        Stop::NoPlan => End::Fault(fault_at(Code::S16, select)),
+        Stop::NoPlan => End::Fault(unplanned),
         Stop::Write => End::Write,
         Stop::Memory => End::Memory,
     }

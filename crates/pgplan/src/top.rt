@@ -5,15 +5,20 @@ ghost use Rattle.std.specs.String.{string_bytes};
 ghost use Rattle.pg_base.specs.Causes.{Rose};
 ghost use Rattle.pg_base.specs.Reading.{ConsumesUpTo};
 ghost use Rattle.pg_base.specs.declared.limits.TheConstants.{MOST_SCRIPT_BYTES};
-ghost use Rattle.pgplan.specs.Runs.{AnswersAll, CutsOff, HasNoFault, HasStatusCause, IsCutShort, IsRunCommand, IsRunOver, IsTooLong, ReachesFault, RunsOut, TellsFault};
+ghost use Rattle.command_line.specs.Commands.{AreNoCommand, IsRunCommand, IsSampleCommand};
+ghost use Rattle.sampling.specs.Script.{script};
+ghost use Rattle.pgplan.specs.Runs.{AnswersAll, CutsOff, HasNoFault, HasStatusCause, IsCutShort, IsRunOver, IsTooLong, ReachesFault, RunsOut, TellsFault};
 ghost use Rattle.pgplan.specs.Statuses.{IsTold, line_of, line_of_work, number_of, status_of_work};
 ghost use Rattle.pgplan.specs.Steps.{HasField};
+ghost use Rattle.pgplan.specs.Summaries.{IsSummedInPart, IsSummedUp, TellsFaultAlone};
 
 use crate::end::End;
 use crate::machine::Machine;
+use crate::sample::sample;
 use crate::status::Status;
 use crate::work::work;
 use catalog::Catalog;
+use command_line::{Command, read_command};
 use fault_line::write_fault;
 use heap::Counting;
 use pg_base::{MOST_SCRIPT_BYTES, Sink, Source, Steps, read_all, write_all};
@@ -25,12 +30,15 @@ use std::sync::ledger::{Blank, Ledger};
 /// words are no command; 2 where the source failed; 3 where a statement has a fault; 4 where out failed; 5 for want of
 /// memory; 6 where the source gave more bytes than a script may have. A status other than 0 writes its line to `errors`.
 ///
-/// For every script read to its end, each SELECT prints a plan of the written plan space at its own costs that no admissible
-/// plan undercuts in price; the rows printed are, in order, the window of LIMIT and OFFSET of those that this plan gives, which
-/// as a bag, before the window, are the query's meaning in three-valued logic, in its ORDER BY. ADVISE prints which of its
-/// candidate indexes, at most so many, to make so that the least prices of its queries come to the least sum, and that sum, and
+/// With the word `run`, for every script read to its end, each SELECT prints a plan of the written plan space at its own costs that
+/// no admissible plan undercuts in price; the rows printed are, in order, the window of LIMIT and OFFSET of those that this plan
+/// gives, which as a bag, before the window, are the query's meaning in three-valued logic, in its ORDER BY. ADVISE prints which of
+/// its candidate indexes, at most so many, to make so that the least prices of its queries come to the least sum, and that sum, and
 /// makes none. A statement is refused only for the fault that is named, which may be that no plan is admissible, or no advice to be
 /// had, or for want of memory.
+///
+/// With the word `sample` and a number nothing is read, and the script of that number is worked. One line is printed at the end: how
+/// many queries it asks, how many rows their answers have together, and what the least prices of their plans come to.
 pub fn pgplan<S: Source, K: Sink, E: Sink>(
     alloc: Global,
     words: &[String],
@@ -40,18 +48,26 @@ pub fn pgplan<S: Source, K: Sink, E: Sink>(
 ) -> u8
     ensures statuses { result ≤ 6 }
 
-    // What was read, what out gained, and of which statement's fault errors tells.
-    ensures answered { result ≡ 0 → AnswersAll (S.left source.old) (S.left source.new) (K.held out.old) (K.held out.new) }
-    ensures refused { result ≡ 3 → TellsFault (S.left source.old) (S.left source.new) (K.held out.old) (K.held out.new) (E.held errors.old) (E.held errors.new) (E.faults errors.old) (E.faults errors.new) }
-    ensures cut_off { result ≡ 4 → CutsOff (S.left source.old) (S.left source.new) (K.held out.old) (K.held out.new) }
-    ensures out_of_memory { result ≡ 5 → RunsOut (S.left source.old) (S.left source.new) (K.held out.old) (K.held out.new) }
+    // With the word `run`: what was read, what out gained, and of which statement's fault errors tells.
+    ensures answered { IsRunCommand (map string_bytes words.now) → result ≡ 0 → AnswersAll (S.left source.old) (S.left source.new) (K.held out.old) (K.held out.new) }
+    ensures refused { IsRunCommand (map string_bytes words.now) → result ≡ 3 → TellsFault (S.left source.old) (S.left source.new) (K.held out.old) (K.held out.new) (E.held errors.old) (E.held errors.new) (E.faults errors.old) (E.faults errors.new) }
+    ensures cut_off { IsRunCommand (map string_bytes words.now) → result ≡ 4 → CutsOff (S.left source.old) (S.left source.new) (K.held out.old) (K.held out.new) }
+    ensures out_of_memory { IsRunCommand (map string_bytes words.now) → result ≡ 5 → RunsOut (S.left source.old) (S.left source.new) (K.held out.old) (K.held out.new) }
     ensures read_in_part { result ≡ 2 → ConsumesUpTo (S.left source.old) (S.left source.new) MOST_SCRIPT_BYTES }
     ensures too_long { result ≡ 6 → IsTooLong (S.left source.old) (S.left source.new) }
     ensures unread { result ≡ 1 → S.left source.new ≡ S.left source.old }
     ensures unwritten { (result ≡ 1) ⊎ ((result ≡ 2) ⊎ (result ≡ 6)) → K.held out.new ≡ K.held out.old }
 
+    // With the word `sample` and a number: nothing is read; what out gained, and of which statement's fault errors tells.
+    ensures sample_statuses { (n : ℕ) → IsSampleCommand n (map string_bytes words.now) → (result ≡ 0) ⊎ ((result ≡ 3) ⊎ ((result ≡ 4) ⊎ (result ≡ 5))) }
+    ensures summed { (n : ℕ) → IsSampleCommand n (map string_bytes words.now) → result ≡ 0 → IsSummedUp (script n) (K.held out.old) (K.held out.new) }
+    ensures sample_refused { (n : ℕ) → IsSampleCommand n (map string_bytes words.now) → result ≡ 3 → TellsFaultAlone (script n) (K.held out.old) (K.held out.new) (E.held errors.old) (E.held errors.new) (E.faults errors.old) (E.faults errors.new) }
+    ensures sample_cut_off { (n : ℕ) → IsSampleCommand n (map string_bytes words.now) → result ≡ 4 → IsSummedInPart (script n) (K.held out.old) (K.held out.new) }
+    ensures sample_out_of_memory { (n : ℕ) → IsSampleCommand n (map string_bytes words.now) → result ≡ 5 → K.held out.new ≡ K.held out.old }
+    ensures sample_reads_nothing { (n : ℕ) → IsSampleCommand n (map string_bytes words.now) → S.left source.new ≡ S.left source.old }
+
     // The cause of each status, and that no fault of the outside is passed over.
-    ensures usage { (result ≡ 1) ↔ (IsRunCommand (map string_bytes words.now) → ⊥) }
+    ensures usage { (result ≡ 1) ↔ AreNoCommand (map string_bytes words.now) }
     ensures read_fault { result ≡ 2 → Rose (S.faults source.old) (S.faults source.new) }
     ensures write_fault { result ≡ 4 → Rose (K.faults out.old) (K.faults out.new) }
     ensures quiet_source { (result ≡ 2 → ⊥) → S.faults source.new ≡ S.faults source.old }
@@ -63,29 +79,52 @@ pub fn pgplan<S: Source, K: Sink, E: Sink>(
     ensures reached { (text : List ℕ) → IsRunCommand (map string_bytes words.now) → S.left source.old ≡ Some text → length text ≤ MOST_SCRIPT_BYTES → ReachesFault text → (result ≡ 3) ⊎ IsCutShort result }
     ensures longer { (text : List ℕ) → IsRunCommand (map string_bytes words.now) → S.left source.old ≡ Some text → MOST_SCRIPT_BYTES < length text → (result ≡ 6) ⊎ ((result ≡ 2) ⊎ (result ≡ 5)) }
 
+    // The script of a number decides between 0 and 3, unless out fails or memory runs out.
+    ensures sample_complete { (n : ℕ) → IsSampleCommand n (map string_bytes words.now) → HasNoFault (script n) → (result ≡ 0) ⊎ ((result ≡ 4) ⊎ (result ≡ 5)) }
+    ensures sample_reached { (n : ℕ) → IsSampleCommand n (map string_bytes words.now) → ReachesFault (script n) → (result ≡ 3) ⊎ (result ≡ 5) }
+
     // The status's line on errors, where no statement has a fault: a prefix of it, and all of it where errors did not fail.
     ensures line { result ≢ 3 → IsTold (E.held errors.old) (E.held errors.new) (E.faults errors.old) (E.faults errors.new) (line_of result) }
 {
-    if !is_run(words) {
-        return tell(errors, Status::Usage);
+    match read_command(words) {
+        None => tell(errors, Status::Usage),
+        Some(Command::Run) => run(alloc, source, out, errors),
+        Some(Command::Sample(n)) => sample(alloc, n, out, errors),
     }
+}
+
+/// Reads the source and answers its statements, and answers the status.
+fn run<S: Source, K: Sink, E: Sink>(
+    alloc: Global,
+    source: &mut S,
+    out: &mut K,
+    errors: &mut E,
+) -> u8
+    ensures statuses { (result ≡ 0) ⊎ ((2 ≤ result) × (result ≤ 6)) }
+    ensures answered { result ≡ 0 → AnswersAll (S.left source.old) (S.left source.new) (K.held out.old) (K.held out.new) }
+    ensures refused { result ≡ 3 → TellsFault (S.left source.old) (S.left source.new) (K.held out.old) (K.held out.new) (E.held errors.old) (E.held errors.new) (E.faults errors.old) (E.faults errors.new) }
+    ensures cut_off { result ≡ 4 → CutsOff (S.left source.old) (S.left source.new) (K.held out.old) (K.held out.new) }
+    ensures out_of_memory { result ≡ 5 → RunsOut (S.left source.old) (S.left source.new) (K.held out.old) (K.held out.new) }
+    ensures read_in_part { result ≡ 2 → ConsumesUpTo (S.left source.old) (S.left source.new) MOST_SCRIPT_BYTES }
+    ensures too_long { result ≡ 6 → IsTooLong (S.left source.old) (S.left source.new) }
+    ensures unwritten { (result ≡ 2) ⊎ (result ≡ 6) → K.held out.new ≡ K.held out.old }
+    ensures read_fault { result ≡ 2 → Rose (S.faults source.old) (S.faults source.new) }
+    ensures write_fault { result ≡ 4 → Rose (K.faults out.old) (K.faults out.new) }
+    ensures quiet_source { (result ≡ 2 → ⊥) → S.faults source.new ≡ S.faults source.old }
+    ensures quiet_out { (result ≡ 4 → ⊥) → K.faults out.new ≡ K.faults out.old }
+    ensures complete { (text : List ℕ) → S.left source.old ≡ Some text → length text ≤ MOST_SCRIPT_BYTES → HasNoFault text → (result ≡ 0) ⊎ IsCutShort result }
+    ensures reached { (text : List ℕ) → S.left source.old ≡ Some text → length text ≤ MOST_SCRIPT_BYTES → ReachesFault text → (result ≡ 3) ⊎ IsCutShort result }
+    ensures longer { (text : List ℕ) → S.left source.old ≡ Some text → MOST_SCRIPT_BYTES < length text → (result ≡ 6) ⊎ ((result ≡ 2) ⊎ (result ≡ 5)) }
+    ensures line { result ≢ 3 → IsTold (E.held errors.old) (E.held errors.new) (E.faults errors.old) (E.faults errors.new) (line_of result) }
+{
     match read_all(alloc, source, MOST_SCRIPT_BYTES) {
         Ok(text) => answer(alloc, &text, out, errors),
         Err(fault) => tell(errors, Status::of_reading(&fault)),
     }
 }
 
-fn is_run(words: &[String]) -> bool
-    ensures { IsTrue result ↔ IsRunCommand (map string_bytes words.now) }
-{
-    match words {
-        [word] => word.as_str() == "run",
-        _ => false,
-    }
-}
-
 /// Writes the status's line and answers its number.
-fn tell<E: Sink>(errors: &mut E, status: Status) -> u8
+pub(crate) fn tell<E: Sink>(errors: &mut E, status: Status) -> u8
     ensures number { result ≡ number_of status }
     ensures line { IsTold (E.held errors.old) (E.held errors.new) (E.faults errors.old) (E.faults errors.new) (line_of (number_of status)) }
 {
@@ -129,7 +168,12 @@ fn counted<L: Ledger, M: Ledger, K: Sink, E: Sink>(
 }
 
 /// Tells how the statements of the text ended, by the catalogue that is left, and answers the status.
-fn close<E: Sink>(catalog: &Catalog, text: &[u8], ended: &Result<(), End>, errors: &mut E) -> u8
+pub(crate) fn close<E: Sink>(
+    catalog: &Catalog,
+    text: &[u8],
+    ended: &Result<(), End>,
+    errors: &mut E,
+) -> u8
     requires field { IfErr ended.now (HasField catalog.now) }
     ensures number { result ≡ number_of (status_of_work ended.now) }
     ensures line { IsTold (E.held errors.old) (E.held errors.new) (E.faults errors.old) (E.faults errors.new) (line_of_work catalog.now text.now ended.now) }

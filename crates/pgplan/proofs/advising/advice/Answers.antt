@@ -1,4 +1,4 @@
-use Rattle.std.proofs.Common.{◌≡◌, ◌∙◌, ℕ, List, All, ap, subst, sym}
+use Rattle.std.proofs.Common.{◌∙◌, List, All, ap, subst, sym}
 use Rattle.pg_base.specs.declared.faults.Code.TheVariants.{S16}
 use Rattle.sql_lex.specs.declared.tokens.Token.{Token}
 use Rattle.sql_grammar.specs.Faults.{fault_at}

@@ -1,5 +1,4 @@
 use Rattle.sql_query.specs.Worlds.{world}
-use Rattle.reply.specs.Replies.{traces}
 use Rattle.pgplan.proofs.ReplyLemmas.{answered-replied, answered-stopped, explained-replied, explained-stopped}
 use Rattle.pgplan.proofs.query.print.Goals as goal
 

@@ -54,8 +54,8 @@ fn is_built(cat: &Catalog, q: &Prepared, p: &Plan) -> bool
     }
 }
 
-/// Whether a set has each relation of the query.
-fn has_all(q: &Prepared, set: RelSet) -> bool
+/// Whether a set has each relation of the query, which has at most 16.
+pub fn has_all(q: &Prepared, set: RelSet) -> bool
     requires few { width q.now ≤ 16 }
     ensures { IsTrue result ↔ ((k : ℕ) → k < width q.now → has set.0 k ≡ true) }
 {

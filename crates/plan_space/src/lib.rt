@@ -9,9 +9,10 @@ mod sorts;
 mod trees;
 mod validity;
 
-pub use finished::validate;
+pub use finished::{has_all, validate};
 pub use joins::{is_merge, is_merge_list, is_nest};
 pub use keys::{key_at, keys_begin_with};
+pub use order::order_begun;
 pub use sorts::has_keys;
 pub use trees::is_bitmap_scan;
 pub use validity::{is_index_only_scan, is_index_scan};

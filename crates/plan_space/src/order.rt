@@ -85,7 +85,7 @@ fn keys_begun(classes: &Classes, order: &[OrderItem], list: &[ClassNo]) -> Optio
 }
 
 /// How many keys the query's ORDER BY has, where a list begins with them. None where it does not.
-fn order_begun(q: &Prepared, list: &[ClassNo]) -> Option<usize>
+pub fn order_begun(q: &Prepared, list: &[ClassNo]) -> Option<usize>
     ensures some { IfSome result (λ n. lists.covers (class_numbers list.now) (lists.order_keys q.now.classes q.now.order) ≡ true) }
     ensures count { IfSome result (λ n. n ≡ length (lists.order_keys q.now.classes q.now.order)) }
     ensures none { IfNone result (lists.covers (class_numbers list.now) (lists.order_keys q.now.classes q.now.order) ≡ false) }

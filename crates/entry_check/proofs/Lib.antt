@@ -1,0 +1,9 @@
+pub mod PlaceLemmas
+pub mod BoundLemmas
+pub mod PartLemmas
+pub mod NestLemmas
+pub mod MergeLemmas
+pub mod ScanLemmas
+pub mod OwnLemmas
+pub mod JudgeLemmas
+pub mod BestLemmas

@@ -1,0 +1,20 @@
+use Rattle.std.proofs.Common.{ap, sym}
+use Rattle.std.specs.Prelude.{option_map}
+use Rattle.pg_base.specs.declared.numbers.RelNo.{RelNo}
+use Rattle.sql_query.specs.Queries.{width}
+use Rattle.plan_tree.specs.Plans.{Plan, index}
+use Rattle.certificates.specs.Certificates.{relation_in}
+use Rattle.certificates.specs.Views.{entry}
+use Rattle.entry_check.proofs.ScanLemmas.{made-by, made-none}
+use Rattle.entry_check.proofs.entries.index_own.Goals as goal
+
+pub returns-in-Some : goal.returns-in-Some
+returns-in-Some c =
+    let made : RelNo → Plan = λ r. index r c.args.i c.args.backward c.args.e.now.param in
+    made-by c.args.cat.now c.args.q.now (option_map made (relation_in (width c.args.q.now) c.args.e.now.set)) (made c.in-Some.rel) (entry c.args.e.now) c.own_index.result
+    (ap (option_map made) (sym c.in-Some.ensures.relation)) c.own_index.ensures
+
+pub returns-in-None : goal.returns-in-None
+returns-in-None c =
+    let made : RelNo → Plan = λ r. index r c.args.i c.args.backward c.args.e.now.param in
+    made-none c.args.cat.now c.args.q.now (option_map made (relation_in (width c.args.q.now) c.args.e.now.set)) (entry c.args.e.now) (ap (option_map made) (sym c.in-None.ensures.relation))

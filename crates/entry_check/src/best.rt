@@ -1,0 +1,106 @@
+//! The best plan of a certificate, and the first reason among the entries.
+
+ghost use Rattle.std.specs.Prelude.{◌≡◌, ◌≤◌, ◌↔◌, IfNone, IfSome, IsTrue, MatchOption, Some, length, nat_lt};
+ghost use Rattle.catalog.specs.Contents.{Contents};
+ghost use Rattle.pathkeys.specs.Keys as lists;
+ghost use Rattle.plan_tree.specs.Plans.{Plan, param_of, set_of};
+ghost use Rattle.plan_tree.specs.Reads.{IsOverTables};
+ghost use Rattle.plan_tree.specs.Space.{IsEmpty, IsFinished, IsSameSet, MeetsOrder};
+ghost use Rattle.sql_query.specs.Queries.{all_of_query, width};
+ghost use Rattle.certificates.specs.Certificates.{finish_at, sorted_if};
+ghost use Rattle.certificates.specs.Views.{certificate, entry, side};
+ghost use Rattle.plan_check.specs.Beating.{IsRight};
+ghost use Rattle.plan_check.specs.Reasons.{AllRight, AreUndominated, HasBest};
+ghost use Rattle.plan_check.specs.Verdicts.{AreWhole, IsReason};
+ghost use Rattle.entry_check.specs.Owning.{IsFinishedSide};
+
+use crate::entries::entry_before;
+use crate::judging::judge_entries;
+use catalog::Catalog;
+use certificates::{Certificate, Entry, Side};
+use pathkeys::order_key;
+use plan_check::{Reason, first_dominated};
+use plan_space::{has_all, order_begun};
+use plan_tree::classes_of;
+use sql_query::Prepared;
+
+/// Whether a right entry is of all relations of the query, and is given no rows.
+fn is_whole(q: &Prepared, e: &Entry) -> bool
+    requires few { width q.now ≤ 16 }
+    ensures { (c : Contents) (p : Plan) → IsRight c q.now (entry e.now) p → IsTrue result ↔ (IsSameSet (set_of p) (all_of_query q.now) × IsEmpty (param_of p)) }
+{
+    if !has_all(q, e.set) {
+        return false;
+    }
+    e.param.is_empty()
+}
+
+/// Whether the query's ORDER BY has a key.
+fn has_order(q: &Prepared) -> bool
+    ensures { result ≡ nat_lt 0 (length (lists.order_keys q.now.classes q.now.order)) }
+{
+    match order_key(classes_of(q), q.order.items(), 0) {
+        Some(_) => true,
+        None => false,
+    }
+}
+
+/// Whether a right entry, sorted into the order asked for or not, is in that order.
+fn is_ordered(q: &Prepared, e: &Entry, sort: bool) -> bool
+    ensures { (c : Contents) (p : Plan) → IsRight c q.now (entry e.now) p → IsTrue result ↔ MeetsOrder c q.now (sorted_if sort (lists.order_keys q.now.classes q.now.order) p) (lists.order_keys q.now.classes q.now.order) }
+{
+    if sort {
+        return has_order(q);
+    }
+    match order_begun(q, e.keys.items()) {
+        Some(_) => true,
+        None => false,
+    }
+}
+
+/// The entry of a side, where that is a finished plan. None exactly where it is none.
+pub(crate) fn finished_side<'a>(
+    cat: &Catalog,
+    q: &Prepared,
+    t: &'a Certificate,
+    s: Side,
+) -> Option<&'a Entry>
+    requires query { IsOverTables cat.now q.now }
+    requires right { AllRight cat.now q.now (certificate t.now) }
+    ensures some { IfSome result (λ e. IsFinishedSide cat.now q.now (certificate t.now) (side s) (entry e.now)) }
+    ensures none { IfNone result ((p : Plan) → finish_at q.now (certificate t.now) (side s) ≡ Some p → ¬ IsFinished cat.now q.now p) }
+{
+    match entry_before(cat, q, t, t.entries.items().len(), s.entry) {
+        Some(e) => {
+            if !is_whole(q, e) {
+                return None;
+            }
+            if !is_ordered(q, e, s.sort) {
+                return None;
+            }
+            Some(e)
+        }
+        None => None,
+    }
+}
+
+/// The first reason that is seen before any plan besides the entries is looked at: an entry that is not right, a best plan
+/// that is not finished, an entry that another dominates. None exactly where there is none of these. It takes no memory.
+pub fn judge_table(cat: &Catalog, q: &Prepared, t: &Certificate) -> Option<Reason>
+    requires query { IsOverTables cat.now q.now }
+    ensures { MatchOption result (AreWhole cat.now q.now (certificate t.now) × AreUndominated cat.now q.now (certificate t.now)) (λ r. IsReason cat.now q.now (certificate t.now) r) }
+{
+    match judge_entries(cat, q, t) {
+        Some(reason) => Some(reason),
+        None => match finished_side(cat, q, t, t.best) {
+            Some(_best) => match first_dominated(cat, q, t) {
+                Some(found) => Some(Reason::Dominated {
+                    entry: found.0,
+                    by: found.1,
+                }),
+                None => None,
+            },
+            None => Some(Reason::BadNode { entry: 0 }),
+        },
+    }
+}

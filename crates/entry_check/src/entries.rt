@@ -1,0 +1,186 @@
+//! Nodes of entries over the entries before them.
+
+ghost use Rattle.std.specs.Prelude.{◌≡◌, ◌≤◌, IfNone, IfSome, MatchOption, None, length, option_map};
+ghost use Rattle.sql_query.specs.Queries.{width};
+ghost use Rattle.plan_tree.specs.Plans as plans;
+ghost use Rattle.plan_tree.specs.Reads.{IsOverTables};
+ghost use Rattle.plan_tree.specs.Views.{bits};
+ghost use Rattle.certificates.specs.Certificates.{join_by, plan_at, plan_of, relation_in, side_at};
+ghost use Rattle.certificates.specs.Views.{certificate, entry};
+ghost use Rattle.certificates.specs.Views as views;
+ghost use Rattle.plan_check.specs.Reasons.{AreRight};
+ghost use Rattle.entry_check.specs.Owning.{HasNone, HasOwn, HasPlanAt, plans_before};
+
+use crate::joins::{own_merge, own_nest};
+use crate::numbers::Own;
+use crate::scans::{ByIndex, own_bitmap, own_index, own_seq, relation_of};
+use catalog::Catalog;
+use certificates::{Certificate, Entry, Node, Side};
+use pathkeys::Keys;
+use pg_base::IndexNo;
+use plan_tree::BitTree;
+use sql_query::Prepared;
+
+/// The entry of a number, where it stands before place `n`. None exactly where no entry before it has the number.
+pub(crate) fn entry_before<'a>(
+    cat: &Catalog,
+    q: &Prepared,
+    t: &'a Certificate,
+    n: usize,
+    number: u32,
+) -> Option<&'a Entry>
+    requires within { n ≤ length (certificate t.now).entries }
+    requires right { AreRight cat.now q.now (certificate t.now) n }
+    ensures some { IfSome result (λ e. HasPlanAt cat.now q.now (plans_before q.now (certificate t.now) n) number (entry e.now)) }
+    ensures none { IfNone result (plan_at (plans_before q.now (certificate t.now) n) number ≡ None) }
+{
+    let number = number as usize;
+    if number < 1 {
+        return None;
+    }
+    if number > n {
+        return None;
+    }
+    Some(&t.entries.items()[number - 1])
+}
+
+/// What an entry is as a sequential scan. None exactly where it is none, but for its numbers.
+fn seq_own(cat: &Catalog, q: &Prepared, e: &Entry) -> Option<Own>
+    requires query { IsOverTables cat.now q.now }
+    ensures { MatchOption result (HasNone cat.now q.now (option_map plans.seq (relation_in (width q.now) e.now.set)) (entry e.now)) (λ x. HasOwn cat.now q.now (option_map plans.seq (relation_in (width q.now) e.now.set)) (entry e.now) x) }
+{
+    match relation_of(q, e.set) {
+        Some(r) => own_seq(cat, q, e, r),
+        None => None,
+    }
+}
+
+/// What an entry is as a scan by an index. None exactly where it is none, but for its numbers.
+fn index_own(cat: &Catalog, q: &Prepared, e: &Entry, i: IndexNo, backward: bool) -> Option<Own>
+    requires query { IsOverTables cat.now q.now }
+    ensures { MatchOption result (HasNone cat.now q.now (option_map (λ r. plans.index r i backward e.now.param) (relation_in (width q.now) e.now.set)) (entry e.now)) (λ x. HasOwn cat.now q.now (option_map (λ r. plans.index r i backward e.now.param) (relation_in (width q.now) e.now.set)) (entry e.now) x) }
+{
+    match relation_of(q, e.set) {
+        Some(rel) => own_index(
+            cat,
+            q,
+            e,
+            ByIndex {
+                rel,
+                index: i,
+                backward,
+                param: e.param,
+                only: false,
+            },
+        ),
+        None => None,
+    }
+}
+
+/// What an entry is as an index-only scan. None exactly where it is none, but for its numbers.
+fn index_only_own(cat: &Catalog, q: &Prepared, e: &Entry, i: IndexNo, backward: bool) -> Option<Own>
+    requires query { IsOverTables cat.now q.now }
+    ensures { MatchOption result (HasNone cat.now q.now (option_map (λ r. plans.index_only r i backward e.now.param) (relation_in (width q.now) e.now.set)) (entry e.now)) (λ x. HasOwn cat.now q.now (option_map (λ r. plans.index_only r i backward e.now.param) (relation_in (width q.now) e.now.set)) (entry e.now) x) }
+{
+    match relation_of(q, e.set) {
+        Some(rel) => own_index(
+            cat,
+            q,
+            e,
+            ByIndex {
+                rel,
+                index: i,
+                backward,
+                param: e.param,
+                only: true,
+            },
+        ),
+        None => None,
+    }
+}
+
+/// What an entry is as a scan by a bitmap tree. None exactly where it is none, but for its numbers.
+fn bitmap_own(cat: &Catalog, q: &Prepared, e: &Entry, tree: &BitTree) -> Option<Own>
+    requires query { IsOverTables cat.now q.now }
+    ensures { MatchOption result (HasNone cat.now q.now (option_map (λ r. plans.bitmap r e.now.param (bits tree.now)) (relation_in (width q.now) e.now.set)) (entry e.now)) (λ x. HasOwn cat.now q.now (option_map (λ r. plans.bitmap r e.now.param (bits tree.now)) (relation_in (width q.now) e.now.set)) (entry e.now) x) }
+{
+    match relation_of(q, e.set) {
+        Some(r) => own_bitmap(cat, q, e, r, tree),
+        None => None,
+    }
+}
+
+/// What an entry at place `n` is as a nested loop of the entries of two numbers. None exactly where it is none, but for
+/// its numbers.
+fn nest_own(
+    cat: &Catalog,
+    q: &Prepared,
+    t: &Certificate,
+    n: usize,
+    e: &Entry,
+    outer: u32,
+    inner: u32,
+) -> Option<Own>
+    requires query { IsOverTables cat.now q.now }
+    requires within { n ≤ length (certificate t.now).entries }
+    requires right { AreRight cat.now q.now (certificate t.now) n }
+    ensures { MatchOption result (HasNone cat.now q.now (join_by plans.nest (plan_at (plans_before q.now (certificate t.now) n) outer) (plan_at (plans_before q.now (certificate t.now) n) inner)) (entry e.now)) (λ x. HasOwn cat.now q.now (join_by plans.nest (plan_at (plans_before q.now (certificate t.now) n) outer) (plan_at (plans_before q.now (certificate t.now) n) inner)) (entry e.now) x) }
+{
+    match entry_before(cat, q, t, n, outer) {
+        Some(a) => match entry_before(cat, q, t, n, inner) {
+            Some(b) => own_nest(cat, q, e, a, b),
+            None => None,
+        },
+        None => None,
+    }
+}
+
+/// What an entry at place `n` is as a merge by a list of the entries of two sides. None exactly where it is none, but for
+/// its numbers.
+fn merge_own(
+    cat: &Catalog,
+    q: &Prepared,
+    t: &Certificate,
+    n: usize,
+    e: &Entry,
+    list: &Keys,
+    outer: Side,
+    inner: Side,
+) -> Option<Own>
+    requires query { IsOverTables cat.now q.now }
+    requires within { n ≤ length (certificate t.now).entries }
+    requires right { AreRight cat.now q.now (certificate t.now) n }
+    ensures { MatchOption result (HasNone cat.now q.now (join_by (plans.merge list.now) (side_at (plans_before q.now (certificate t.now) n) list.now (views.side outer)) (side_at (plans_before q.now (certificate t.now) n) list.now (views.side inner))) (entry e.now)) (λ x. HasOwn cat.now q.now (join_by (plans.merge list.now) (side_at (plans_before q.now (certificate t.now) n) list.now (views.side outer)) (side_at (plans_before q.now (certificate t.now) n) list.now (views.side inner))) (entry e.now) x) }
+{
+    match entry_before(cat, q, t, n, outer.entry) {
+        Some(a) => match entry_before(cat, q, t, n, inner.entry) {
+            Some(b) => own_merge(cat, q, e, list, a, b, (outer.sort, inner.sort)),
+            None => None,
+        },
+        None => None,
+    }
+}
+
+/// The numbers of what an entry at place `n` is. None exactly where its node makes no plan over the entries before it
+/// that the entry is but for its numbers.
+pub(crate) fn own_at(
+    cat: &Catalog,
+    q: &Prepared,
+    t: &Certificate,
+    n: usize,
+    e: &Entry,
+) -> Option<Own>
+    requires query { IsOverTables cat.now q.now }
+    requires within { n ≤ length (certificate t.now).entries }
+    requires right { AreRight cat.now q.now (certificate t.now) n }
+    ensures { MatchOption result (HasNone cat.now q.now (plan_of (width q.now) (plans_before q.now (certificate t.now) n) (entry e.now)) (entry e.now)) (λ x. HasOwn cat.now q.now (plan_of (width q.now) (plans_before q.now (certificate t.now) n) (entry e.now)) (entry e.now) x) }
+{
+    match &e.node {
+        Node::Seq => seq_own(cat, q, e),
+        Node::Index(i, backward) => index_own(cat, q, e, *i, *backward),
+        Node::IndexOnly(i, backward) => index_only_own(cat, q, e, *i, *backward),
+        Node::Bitmap(tree) => bitmap_own(cat, q, e, tree),
+        Node::Nest(outer, inner) => nest_own(cat, q, t, n, e, *outer, *inner),
+        Node::Merge(list, outer, inner) => merge_own(cat, q, t, n, e, list, *outer, *inner),
+    }
+}

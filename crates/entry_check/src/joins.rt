@@ -1,0 +1,95 @@
+//! Joins that entries say they are.
+
+ghost use Rattle.std.specs.Prelude.{◌≡◌, ◌↔◌, IfNone, IfSome, IsTrue};
+ghost use Rattle.catalog.specs.Contents.{Contents};
+ghost use Rattle.sql_query.specs.Queries.{Query};
+ghost use Rattle.pathkeys.specs.Finding.{class_numbers};
+ghost use Rattle.plan_tree.specs.Plans.{Plan, merge, nest};
+ghost use Rattle.plan_tree.specs.Reads.{IsOverTables};
+ghost use Rattle.certificates.specs.Certificates.{sorted_if};
+ghost use Rattle.certificates.specs.Tables.{HasItsPlan};
+ghost use Rattle.certificates.specs.Views.{entry};
+ghost use Rattle.plan_check.specs.Beating.{IsRight, candidate};
+ghost use Rattle.entry_check.specs.Owning.{HasRight, IsOwn};
+
+use crate::merges::merge_of;
+use crate::nests::nest_of;
+use crate::numbers::Own;
+use catalog::Catalog;
+use certificates::Entry;
+use eq_classes::ClassNo;
+use pathkeys::Keys;
+use plan_check::Candidate;
+use plan_space::is_merge_list;
+use plan_tree::classes_of;
+use sql_query::Prepared;
+
+/// Whether two lists of classes are equal.
+fn are_equal(a: &[ClassNo], b: &[ClassNo]) -> bool
+    ensures { IsTrue result ↔ (class_numbers a.now ≡ class_numbers b.now) }
+{
+    a == b
+}
+
+/// The numbers of a candidate, where an entry has its set, its parameterisation and its keys. None exactly where it has
+/// not.
+fn own_of(e: &Entry, x: &Candidate) -> Option<Own>
+    ensures some { IfSome result (λ own. (c : Contents) (q : Query) (p : Plan) → IsRight c q (candidate x.now) p → IsOwn c q (entry e.now) p own) }
+    ensures none { IfNone result ((c : Contents) (q : Query) (p : Plan) → IsRight c q (candidate x.now) p → ¬ HasItsPlan c q (entry e.now) p) }
+{
+    if e.set.0 != x.set.0 {
+        return None;
+    }
+    if e.param.0 != x.param.0 {
+        return None;
+    }
+    if !are_equal(e.keys.items(), x.keys) {
+        return None;
+    }
+    Some(Own {
+        startup: x.startup,
+        cost: x.cost,
+        rows: x.rows,
+    })
+}
+
+/// The numbers of the nested loop of two right entries, where an entry is it but for its numbers. None exactly where it is
+/// not.
+pub(crate) fn own_nest(cat: &Catalog, q: &Prepared, e: &Entry, a: &Entry, b: &Entry) -> Option<Own>
+    requires query { IsOverTables cat.now q.now }
+    requires outer { HasRight cat.now q.now (entry a.now) }
+    requires inner { HasRight cat.now q.now (entry b.now) }
+    ensures some { IfSome result (λ own. (o i : Plan) → IsRight cat.now q.now (entry a.now) o → IsRight cat.now q.now (entry b.now) i → IsOwn cat.now q.now (entry e.now) (nest o i) own) }
+    ensures none { IfNone result ((o i : Plan) → IsRight cat.now q.now (entry a.now) o → IsRight cat.now q.now (entry b.now) i → ¬ HasItsPlan cat.now q.now (entry e.now) (nest o i)) }
+{
+    match nest_of(cat, q, a, b) {
+        Some(x) => own_of(e, &x),
+        None => None,
+    }
+}
+
+/// The numbers of the merge of two right entries by a list, each sorted by the list or not, where an entry is it but for
+/// its numbers. None exactly where it is not. The list may be any.
+pub(crate) fn own_merge(
+    cat: &Catalog,
+    q: &Prepared,
+    e: &Entry,
+    list: &Keys,
+    a: &Entry,
+    b: &Entry,
+    sorts: (bool, bool),
+) -> Option<Own>
+    requires query { IsOverTables cat.now q.now }
+    requires outer { HasRight cat.now q.now (entry a.now) }
+    requires inner { HasRight cat.now q.now (entry b.now) }
+    ensures some { IfSome result (λ own. (o i : Plan) → IsRight cat.now q.now (entry a.now) o → IsRight cat.now q.now (entry b.now) i → IsOwn cat.now q.now (entry e.now) (merge list.now (sorted_if sorts.0 list.now o) (sorted_if sorts.1 list.now i)) own) }
+    ensures none { IfNone result ((o i : Plan) → IsRight cat.now q.now (entry a.now) o → IsRight cat.now q.now (entry b.now) i → ¬ HasItsPlan cat.now q.now (entry e.now) (merge list.now (sorted_if sorts.0 list.now o) (sorted_if sorts.1 list.now i))) }
+{
+    if !is_merge_list(classes_of(q), a.set, b.set, list) {
+        return None;
+    }
+    match merge_of(cat, q, list.items(), a, b, sorts) {
+        Some(x) => own_of(e, &x),
+        None => None,
+    }
+}

@@ -1,0 +1,89 @@
+//! The reason for which an entry is not right.
+
+ghost use Rattle.std.specs.Prelude.{◌≡◌, ◌≢◌, ◌+◌, ◌<◌, IfNone, IfSome, MatchOption, Some, false, length, true};
+ghost use Rattle.catalog.specs.Contents.{Contents};
+ghost use Rattle.plan_tree.specs.Costs as costs;
+ghost use Rattle.plan_tree.specs.Plans.{Plan};
+ghost use Rattle.plan_tree.specs.Reads.{IsOverTables};
+ghost use Rattle.sql_query.specs.declared.window.Window.{Window as Asked};
+ghost use Rattle.certificates.specs.Tables.{HasItsNumbers, IsStartup};
+ghost use Rattle.certificates.specs.Views.{certificate, entry};
+ghost use Rattle.plan_check.specs.Reasons.{AllRight, AreRight, IsDifference};
+ghost use Rattle.plan_check.specs.Verdicts.{IsReason};
+ghost use Rattle.entry_check.specs.Owning.{AreNumbersOf};
+
+use crate::entries::own_at;
+use crate::numbers::Own;
+use catalog::Catalog;
+use certificates::{Certificate, Entry};
+use plan_check::{Number, Reason};
+use sql_query::Prepared;
+
+/// Whether two startups are equal, where the query has a window; where it has none, they are not compared.
+fn start_alike(q: &Prepared, a: u64, b: u64) -> bool
+    ensures yes { result ≡ true → IsStartup q.now.window a b }
+    ensures no { result ≡ false → (w : Asked) × (q.now.window ≡ Some w) × (a ≢ b) }
+{
+    match q.window {
+        None => true,
+        Some(_) => a == b,
+    }
+}
+
+/// The first number of an entry that is not its plan's, with what the entry has and what it is: the startup, where the
+/// query has a window, then the total, then the rows. None exactly where each is.
+fn difference(q: &Prepared, e: &Entry, own: Own) -> Option<(Number, u64, u64)>
+    ensures some { IfSome result (λ d. (c : Contents) (p : Plan) → AreNumbersOf c q.now p own → IsDifference q.now.window (entry e.now) (costs.cost c q.now p) (costs.estimate c q.now p) d.0 d.1 d.2) }
+    ensures none { IfNone result ((c : Contents) (p : Plan) → AreNumbersOf c q.now p own → HasItsNumbers c q.now (entry e.now) p) }
+{
+    if !start_alike(q, e.startup, own.startup) {
+        return Some((Number::Startup, e.startup, own.startup));
+    }
+    if e.cost != own.cost {
+        return Some((Number::Total, e.cost, own.cost));
+    }
+    if e.rows != own.rows {
+        return Some((Number::Rows, e.rows, own.rows));
+    }
+    None
+}
+
+/// The reason for which the entry at place `n`, from 0, is not right, where those before it are: it is none of the plan
+/// space or not as it says, else the first number that is not its own, with what the entry has and what it is. None
+/// exactly where it is right. It takes no memory.
+pub fn judge_entry(cat: &Catalog, q: &Prepared, t: &Certificate, n: usize) -> Option<Reason>
+    requires query { IsOverTables cat.now q.now }
+    requires within { n < length (certificate t.now).entries }
+    requires before { AreRight cat.now q.now (certificate t.now) n }
+    ensures reason { IfSome result (λ r. IsReason cat.now q.now (certificate t.now) r) }
+    ensures right { IfNone result (AreRight cat.now q.now (certificate t.now) (n + 1)) }
+{
+    let e = &t.entries.items()[n];
+    let number = n as u32 + 1;
+    match own_at(cat, q, t, n, e) {
+        Some(own) => match difference(q, e, own) {
+            Some(found) => Some(Reason::BadNumber {
+                entry: number,
+                what: found.0,
+                printed: found.1,
+                own: found.2,
+            }),
+            None => None,
+        },
+        None => Some(Reason::BadNode { entry: number }),
+    }
+}
+
+/// The first reason for which some entry is not right, by rising number. None exactly where each entry is right. It takes
+/// no memory.
+pub fn judge_entries(cat: &Catalog, q: &Prepared, t: &Certificate) -> Option<Reason>
+    requires query { IsOverTables cat.now q.now }
+    ensures { MatchOption result (AllRight cat.now q.now (certificate t.now)) (λ r. IsReason cat.now q.now (certificate t.now) r) }
+{
+    for n in 0..t.entries.items().len() {
+        if let Some(reason) = judge_entry(cat, q, t, n) {
+            return Some(reason);
+        }
+    }
+    None
+}

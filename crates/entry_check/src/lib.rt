@@ -1,0 +1,19 @@
+//! Entries of certificates judged one by one, over those before them: what a node is, in numbers, and the reason for which
+//! an entry is not right. Nothing is trusted of what stands in an entry.
+#![tactic(auto)]
+
+mod best;
+mod entries;
+mod joins;
+mod judging;
+mod merges;
+mod nests;
+mod numbers;
+mod parts;
+mod scans;
+
+pub use best::judge_table;
+pub use judging::{judge_entries, judge_entry};
+pub use merges::merge_of;
+pub use nests::nest_of;
+pub use numbers::Own;

@@ -1,0 +1,181 @@
+-- Joins of right entries that an entry dominates, and those that none does.
+use Rattle.std.proofs.Common.{Bool, true, false, true≢false, ◌≡◌, ◌<◌, ◌≤◌, ◌+◌, ℕ, List, map, suc, length, sym, ap, ap₂, subst, subst₂, refl, ◌∙◌, arith, ◌⊎◌, inl, inr}
+use Rattle.std.specs.Prelude.{MatchOption, Option, Some, None, slice_get}
+use Rattle.std.proofs.lemmas.Bool.{cases_lt}
+use Rattle.std.proofs.lemmas.Option.{slice_get_within}
+use Rattle.catalog.specs.Contents.{Contents}
+use Rattle.sql_query.specs.Queries.{Query}
+use Rattle.sql_query.specs.declared.window.Window.{Window}
+use Rattle.plan_tree.specs.Costs.{cost}
+use Rattle.plan_tree.specs.Least.{IsAdmissible}
+use Rattle.plan_tree.specs.Paths.{startup_kept}
+use Rattle.pathkeys.specs.Keys.{Keys}
+use Rattle.plan_tree.specs.Plans.{Plan, seq, index, index_only, bitmap, sort, nest, merge, is_sort}
+use Rattle.join_laws.specs.Closed.{IsKeptSide}
+use Rattle.plan_tree.specs.Space.{HasKeys, IsBuilt}
+use Rattle.certificates.specs.Certificates.{Certificate, Entry, join_by, sorted_if, unfold_at}
+use Rattle.certificates.specs.Tables.{IsEntryPlan}
+use Rattle.certificates.specs.Views.{entry}
+use Rattle.certificates.specs.declared.entry.Entry.{Entry as Entered}
+use Rattle.certificates.proofs.UnfoldLemmas.{numbered}
+use Rattle.plan_check.specs.Beating.{IsBeaten, IsRight, IsUnbeaten}
+use Rattle.plan_check.specs.Reasons.{AllRight}
+use Rattle.plan_check.specs.declared.verdict.Plain.{Plain}
+use Rattle.plan_check.specs.declared.verdict.Plain.TheVariants as plain
+use Rattle.plan_check.proofs.BeatingLemmas.{beaten-dominated, kept, unbeaten-none}
+use Rattle.entry_check.specs.Owning.{HasRight}
+use Rattle.join_cover.specs.Serving.{AreJoinsServed, AreMergesServed, AreNestsServed, IsMergeOpen, IsMergeServed, IsNestServed, IsOpen, IsPairServed, IsServed}
+use Rattle.join_cover.specs.declared.uncovered.Uncovered.{Uncovered}
+
+some-same : (x y : Plan) → Some x ≡ Some y → x ≡ y
+some-same x y e = cc
+
+module _ (c : Contents) (q : Query) (t : Certificate) (right : AllRight c q t) where
+  plain-kept : (p : Plan) → is_sort p ≡ false → IsEntryPlan q t p → IsKeptSide c q (IsEntryPlan q t) p
+  plain-kept (seq r) e h = h
+  plain-kept (index r i backward p) e h = h
+  plain-kept (index_only r i backward p) e h = h
+  plain-kept (bitmap r p bits) e h = h
+  plain-kept (sort ks input) e h = absurd (true≢false e)
+  plain-kept (nest o i) e h = h
+  plain-kept (merge ks o i) e h = h
+
+  side-kept : (s : Bool) (keys : Keys) (p : Plan) (n : ℕ) → is_sort p ≡ false → unfold_at q t (suc n) ≡ Some p → IsKeptSide c q (IsEntryPlan q t) (sorted_if s keys p)
+  side-kept true keys p n plain e = record { number = suc n; unfolds = e }
+  side-kept false keys p n plain e = plain-kept p plain (record { number = suc n; unfolds = e })
+
+  pub right-at : (k : ℕ) (e : Entry) (p : Plan) → slice_get t.entries k ≡ Some e → unfold_at q t (suc k) ≡ Some p → IsRight c q e p
+  right-at k e p at is = let h = right k e at in subst (IsRight c q e) (some-same h.plan p (sym h.unfolds ∙ is)) (record { has = h.has; numbers = h.numbers })
+
+  pub has-right-at : (k : ℕ) (e : Entry) → slice_get t.entries k ≡ Some e → HasRight c q e
+  has-right-at k e at = let h = right k e at in record { plan = h.plan; right = record { has = h.has; numbers = h.numbers } }
+
+  module _ (k l : ℕ) (a b : Entry) (at : slice_get t.entries k ≡ Some a) (at' : slice_get t.entries l ≡ Some b) where
+    -- the plan space has no admissible nested loop of theirs
+    pub nest-none : ((o i : Plan) → IsRight c q a o → IsRight c q b i → IsBuilt c q (nest o i) → ¬ IsAdmissible c q (nest o i)) → IsNestServed c q t k l
+    nest-none none o i eo ei built admissible = absurd (none o i (right-at k a o at eo) (right-at l b i at' ei) built admissible)
+
+    module _ (e : Entry) (says : (o i : Plan) → IsRight c q a o → IsRight c q b i → IsRight c q e (nest o i)) where
+      pub nest-beaten : IsBeaten q.window t.entries e → IsNestServed c q t k l
+      nest-beaten beaten o i eo ei built admissible = beaten-dominated c q t right e (nest o i) (says o i (right-at k a o at eo) (right-at l b i at' ei)) beaten
+
+      pub nest-open : (x : Uncovered) → IsUnbeaten q.window t.entries e → x.startup ≡ startup_kept q.window e.startup → x.cost ≡ e.cost → x.rows ≡ e.rows → IsOpen c q t (plain.Nest (suc k) (suc l)) x
+      nest-open x unbeaten s f g =
+          let outer = right k a at in
+          let inner = right l b at' in
+          let o = outer.plan in
+          let i = inner.plan in
+          let r = says o i (record { has = outer.has; numbers = outer.numbers }) (record { has = inner.has; numbers = inner.numbers }) in
+          record {
+            plan = nest o i;
+            stands = ap₂ (join_by nest) outer.unfolds inner.unfolds;
+            candidate = record {
+              built = r.has.plan.built;
+              admissible = r.has.admissible;
+              made = inr (record { number = suc k; unfolds = outer.unfolds }, record { number = suc l; unfolds = inner.unfolds });
+            };
+            none = unbeaten-none c q t right e (nest o i) r unbeaten;
+            startup_is = s ∙ kept q.window e.startup (cost c q (nest o i)).startup r.numbers.startup;
+            total_is = f ∙ r.numbers.total;
+            rows_is = g ∙ r.numbers.rows;
+          }
+
+    -- the same of merges by a list
+    module _ (keys : Keys) (sa sb : Bool) where
+      abbrev merged : Plan → Plan → Plan
+      merged o i = merge keys (sorted_if sa keys o) (sorted_if sb keys i)
+
+      pub merge-none : ((o i : Plan) → IsRight c q a o → IsRight c q b i → IsBuilt c q (merged o i) → ¬ IsAdmissible c q (merged o i)) → IsMergeServed c q t keys sa sb k l
+      merge-none none o i eo ei built admissible = absurd (none o i (right-at k a o at eo) (right-at l b i at' ei) built admissible)
+
+      module _ (e : Entry) (says : (o i : Plan) → IsRight c q a o → IsRight c q b i → IsRight c q e (merged o i)) where
+        pub merge-beaten : IsBeaten q.window t.entries e → IsMergeServed c q t keys sa sb k l
+        merge-beaten beaten o i eo ei built admissible = beaten-dominated c q t right e (merged o i) (says o i (right-at k a o at eo) (right-at l b i at' ei)) beaten
+
+        pub merge-open : (x : Uncovered) → IsUnbeaten q.window t.entries e → x.startup ≡ startup_kept q.window e.startup → x.cost ≡ e.cost → x.rows ≡ e.rows → IsMergeOpen c q t keys sa sb k l x
+        merge-open x unbeaten s f g node stands =
+            let outer = right k a at in
+            let inner = right l b at' in
+            let o = outer.plan in
+            let i = inner.plan in
+            let r = says o i (record { has = outer.has; numbers = outer.numbers }) (record { has = inner.has; numbers = inner.numbers }) in
+            record {
+              plan = merged o i;
+              stands = stands o i outer.unfolds inner.unfolds;
+              candidate = record {
+                built = r.has.plan.built;
+                admissible = r.has.admissible;
+                made = inr (side-kept sa keys o k outer.has.plan.plain outer.unfolds, side-kept sb keys i l inner.has.plan.plain inner.unfolds);
+              };
+              none = unbeaten-none c q t right e (merged o i) r unbeaten;
+              startup_is = s ∙ kept q.window e.startup (cost c q (merged o i)).startup r.numbers.startup;
+              total_is = f ∙ r.numbers.total;
+              rows_is = g ∙ r.numbers.rows;
+            }
+
+  -- all places are all entries
+  pub nests-served : ((k l : ℕ) → k < length t.entries → l < length t.entries → IsNestServed c q t k l) → AreNestsServed c q t
+  nests-served h o i ko ki =
+      let x = numbered q t ko.number o ko.unfolds in
+      let y = numbered q t ki.number i ki.unfolds in
+      h x.place y.place (slice_get_within t.entries x.place x.entry x.stands) (slice_get_within t.entries y.place y.entry y.stands) o i
+      (ap (unfold_at q t) (sym x.number) ∙ ko.unfolds) (ap (unfold_at q t) (sym y.number) ∙ ki.unfolds)
+
+  -- a side of a merge is an entry's plan, as it stands or sorted by the merge's list
+  record IsSideBy (keys : Keys) (p : Plan) : Type 0 where
+    sorted : Bool
+    input : Plan
+    kept : IsEntryPlan q t input
+    is : sorted_if sorted keys input ≡ p
+
+  as-stands : (keys : Keys) (p : Plan) → IsEntryPlan q t p → IsSideBy keys p
+  as-stands keys p h = record { sorted = false; input = p; kept = h; is = refl }
+
+  side-by : (keys : Keys) (p : Plan) → IsKeptSide c q (IsEntryPlan q t) p → HasKeys c q p keys → IsSideBy keys p
+  side-by keys (seq r) h has = as-stands keys _ h
+  side-by keys (index r i backward p) h has = as-stands keys _ h
+  side-by keys (index_only r i backward p) h has = as-stands keys _ h
+  side-by keys (bitmap r p bits) h has = as-stands keys _ h
+  side-by keys (sort ks input) h has = record { sorted = true; input = input; kept = h; is = ap (λ (x : Keys). sort x input) (sym has) }
+  side-by keys (nest o i) h has = as-stands keys _ h
+  side-by keys (merge ks o i) h has = as-stands keys _ h
+
+  pub merges-served : ((k l : ℕ) → k < length t.entries → l < length t.entries → IsPairServed c q t k l) → AreMergesServed c q t
+  merges-served h keys o i ko ki built =
+      let so = side-by keys o ko built.2.outer_keys in
+      let si = side-by keys i ki built.2.inner_keys in
+      let x = numbered q t so.kept.number so.input so.kept.unfolds in
+      let y = numbered q t si.kept.number si.input si.kept.unfolds in
+      let served : IsServed c q t (merge keys (sorted_if so.sorted keys so.input) (sorted_if si.sorted keys si.input)) =
+      h x.place y.place (slice_get_within t.entries x.place x.entry x.stands) (slice_get_within t.entries y.place y.entry y.stands) keys so.sorted si.sorted so.input si.input
+      (ap (unfold_at q t) (sym x.number) ∙ so.kept.unfolds) (ap (unfold_at q t) (sym y.number) ∙ si.kept.unfolds) in
+      subst₂ (λ (u v : Plan). IsServed c q t (merge keys u v)) so.is si.is served built
+
+  -- nested loops and merges are all joins
+  joined : AreNestsServed c q t → AreMergesServed c q t → AreJoinsServed c q t
+  joined nests merges (seq r) h = absurd h
+  joined nests merges (index r i backward p) h = absurd h
+  joined nests merges (index_only r i backward p) h = absurd h
+  joined nests merges (bitmap r p bits) h = absurd h
+  joined nests merges (sort ks input) h = absurd h
+  joined nests merges (nest o i) h = nests o i h.0 h.1
+  joined nests merges (merge ks o i) h = merges ks o i h.0 h.1
+
+  pub joins-served : AreNestsServed c q t → (r : Option (Plain × Uncovered)) → MatchOption r (AreMergesServed c q t) (λ x. IsOpen c q t x.0 x.1) → MatchOption r (AreJoinsServed c q t) (λ x. IsOpen c q t x.0 x.1)
+  joins-served nests None merges = joined nests merges
+  joins-served nests (Some x) h = h
+
+-- one place more
+pub below-next : (P : ℕ → Type 0) (n : ℕ) → ((k : ℕ) → k < n → P k) → P n → (k : ℕ) → k < n + 1 → P k
+below-next P n h here k lt = by (cases_lt k n)
+  where
+    by : (k < n) ⊎ (n ≤ k) → P k
+    by (inl less) = h k less
+    by (inr most) = let same : n ≡ k = omega (arith, most, lt) in subst P same here
+
+-- what is said of the entries as they were read
+pub beaten-read : (w : Option Window) (t : Certificate) (xs items : List Entered) (e : Entry) → t.entries ≡ map entry xs → items ≡ xs → IsBeaten w (map entry items) e → IsBeaten w t.entries e
+beaten-read w t xs items e es same h = subst (λ (ys : List Entry). IsBeaten w ys e) (ap (map entry) same ∙ sym es) h
+
+pub unbeaten-read : (w : Option Window) (t : Certificate) (xs items : List Entered) (e : Entry) → t.entries ≡ map entry xs → items ≡ xs → IsUnbeaten w (map entry items) e → IsUnbeaten w t.entries e
+unbeaten-read w t xs items e es same h = subst (λ (ys : List Entry). IsUnbeaten w ys e) (ap (map entry) same ∙ sym es) h

@@ -80,7 +80,7 @@ zip-made c r [] (j ∷ js) h = absurd h
 zip-made c r (a ∷ arms) [] h = tt
 zip-made c r (a ∷ arms) (j ∷ js) h = (h.0.made, zip-made c r arms js h.1)
 
-picked-is : (P : Element → Type 0) (e : Element) (xs ys : List Element) → ArePicked P xs ys → In e ys → P e
+pub picked-is : (P : Element → Type 0) (e : Element) (xs ys : List Element) → ArePicked P xs ys → In e ys → P e
 picked-is P e _ _ none_left h = absurd h
 picked-is P e _ _ (picked x xs ys is p) (inl same) = subst P same is
 picked-is P e _ _ (picked x xs ys is p) (inr h) = picked-is P e xs ys p h

@@ -38,7 +38,7 @@ and-within true b h = h refl
 and-within false b h = refl
 
 -- the number of a set is no greater than that of one that it is within
-within-most : (a b : ℕ) → ((k : ℕ) → has a k ≡ true → has b k ≡ true) → a ≤ b
+pub within-most : (a b : ℕ) → ((k : ℕ) → has a k ≡ true → has b k ≡ true) → a ≤ b
 within-most a b h =
     let same : bit_and a b ≡ a = same_set (bit_and a b) a (λ k. has-and a b k ∙ and-within (has a k) (has b k) (h k)) in
     subst (λ n. n ≤ b) same (and_le_r a b)

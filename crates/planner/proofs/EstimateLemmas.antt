@@ -23,15 +23,15 @@ use Rattle.plan_tree.proofs.LikeLemmas.{given-like}
 use Rattle.plan_tree.proofs.WindowLemmas.{sort-kept, uncut-kept}
 use Rattle.planner.specs.Finishing.{IsWhole, finished}
 
-most-clamped : (n : ℕ) → clamped n ≤ MOST_ESTIMATE
+pub most-clamped : (n : ℕ) → clamped n ≤ MOST_ESTIMATE
 most-clamped n = omega arith
 
-most-folded : {A : Type 0} (f : ℕ → A → ℕ) → ((m : ℕ) (a : A) → f m a ≤ MOST_ESTIMATE) → (n : ℕ) (xs : List A) → n ≤ MOST_ESTIMATE → fold f n xs ≤ MOST_ESTIMATE
+pub most-folded : {A : Type 0} (f : ℕ → A → ℕ) → ((m : ℕ) (a : A) → f m a ≤ MOST_ESTIMATE) → (n : ℕ) (xs : List A) → n ≤ MOST_ESTIMATE → fold f n xs ≤ MOST_ESTIMATE
 most-folded f most n [] h = h
 most-folded f most n (x ∷ xs) h = most-folded f most (f n x) xs (most n x)
 
 module _ (c : Contents) (q : Query) where
-  most-rows : (set : Set) → set_rows c q.range q.classes set ≤ MOST_ESTIMATE
+  pub most-rows : (set : Set) → set_rows c q.range q.classes set ≤ MOST_ESTIMATE
   most-rows set =
       most-folded {A = Cond} (λ m e. share_of_rows m (selectivity c q.range e)) (λ m e. most-clamped _) (product_rows c q.range (relations q.range set))
       (conditions_where (is_all set) q.classes.clauses)

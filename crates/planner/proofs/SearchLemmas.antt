@@ -129,7 +129,7 @@ module _ (c : Contents) (q : Query) (fronts : Fronts) (placed : ArePlaced c q fr
         scans-met (nest outer inner) e built below = absurd (true≢false (sym e))
         scans-met (merge keys outer inner) e built below = absurd (true≢false (sym e))
 
-        closed : IsClosedBelow c q asked.every_key (IsKept fronts) asked.limit
+        pub closed : IsClosedBelow c q asked.every_key (IsKept fronts) asked.limit
         closed = record {
           built = λ t k. (kept-plan t k).built;
           plain = λ t k. (kept-plan t k).plain;

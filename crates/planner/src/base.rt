@@ -118,7 +118,7 @@ fn add_relation(
 }
 
 /// The paths of each relation, at each parameterisation that its scans may have. The error means want of memory.
-pub(crate) fn base_table(alloc: Global, cat: &Catalog, q: &Prepared) -> Result<Table, Memory>
+pub fn base_table(alloc: Global, cat: &Catalog, q: &Prepared) -> Result<Table, Memory>
     requires query { IsOverTables cat.now q.now }
     ensures base { IfOk result (λ t. IsBase cat.now q.now t) }
     ensures scans { IfOk result (λ t. (r : ℕ) → r < width q.now → HaveScansOf cat.now q.now (paths_at t) r) }

@@ -24,11 +24,11 @@ use std::alloc::Global;
 
 /// A path of the least price of some.
 #[derive(Clone, Copy)]
-pub(crate) struct Least {
+pub struct Least {
     /// Its place.
-    pub(crate) at: usize,
+    pub at: usize,
     /// Its price in the order asked for.
-    pub(crate) price: u64,
+    pub price: u64,
 }
 
 /// The cost of a sort of the path's plan, as a path keeps it, cut to at most 10^18.
@@ -96,12 +96,7 @@ fn least_with(best: Option<Least>, at: usize, price: Option<u64>) -> Option<Leas
 
 /// A path whose plan, in the order asked for, is admissible and of the least price. None exactly where no plan of the paths
 /// is admissible then.
-pub(crate) fn least_place(
-    cat: &Catalog,
-    q: &Prepared,
-    paths: &[Path],
-    order: &Keys,
-) -> Option<Least>
+pub fn least_place(cat: &Catalog, q: &Prepared, paths: &[Path], order: &Keys) -> Option<Least>
     requires whole { All (IsWhole cat.now q.now) (map path paths.now) }
     requires order { order.now ≡ keys.order_keys q.now.classes q.now.order }
     ensures within { IfSome result (λ l. l.at < length paths.now) }
@@ -141,7 +136,7 @@ fn sorted(alloc: Global, cat: &Catalog, q: &Prepared, p: Path, order: Keys) -> R
 }
 
 /// The path of the path's plan in the order asked for, which is admissible. The error means want of memory.
-pub(crate) fn finish(
+pub fn finish(
     alloc: Global,
     cat: &Catalog,
     q: &Prepared,

@@ -54,8 +54,8 @@ impl From<AllocError> for PlanFault {
     }
 }
 
-/// The paths of all relations, lent.
-fn whole_paths(table: &Table, all: RelSet) -> &[Path]
+/// The paths of all relations without a parameterisation, lent.
+pub fn whole_paths(table: &Table, all: RelSet) -> &[Path]
     ensures { map path result.now ≡ paths_at table.now all none }
 {
     match table.front(all, RelSet(0)) {

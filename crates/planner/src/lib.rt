@@ -7,4 +7,6 @@ mod base;
 mod finishing;
 mod least_plan;
 
-pub use least_plan::{PlanFault, Planned, plan};
+pub use base::base_table;
+pub use finishing::{Least, finish, least_place};
+pub use least_plan::{PlanFault, Planned, plan, whole_paths};

@@ -1,0 +1,4 @@
+pub mod FrontsLemmas
+pub mod SizeLemmas
+pub mod TurnLemmas
+pub mod OrderLemmas

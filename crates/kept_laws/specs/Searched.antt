@@ -1,0 +1,32 @@
+-- The fronts that a search for every key and every cost leaves, and their paths in a list (PostgreSQL,
+-- src/backend/optimizer/README, Join Tree Construction; the list is own).
+use Rattle.std.specs.Prelude.{◌<◌, ℕ, true, List, All, AllPairs, Contains}
+use Rattle.pg_base.specs.declared.rel_set.RelSet.{RelSet}
+use Rattle.catalog.specs.Contents.{Contents}
+use Rattle.cost_rules.specs.declared.parameters.TheConstants.{MOST_COST}
+use Rattle.sql_query.specs.Queries.{Query, width}
+use Rattle.pareto.specs.Front.{Unrelated}
+use Rattle.plan_tree.specs.Paths.{Path, is_at_most}
+use Rattle.join_search.specs.Joins.{ArePlaced, IsCovered, IsJoinPath, IsSingle}
+use Rattle.join_search.specs.Tables.{Fronts}
+use Rattle.join_search.specs.declared.useful.Asked.{Asked}
+use Rattle.planner.specs.Bases.{HaveScansOf}
+
+-- every list of keys counts, and whatever is admissible
+abbrev pub all_asked : Asked
+all_asked = record { every_key = true; limit = MOST_COST }
+
+module _ (c : Contents) (q : Query) where
+  -- each path stands at its own place; admissible scans and admissible joins of kept paths are dominated; where there is more
+  -- than one relation there are joins of kept paths alone
+  pub record IsSearched (fronts : Fronts) : Type 0 where
+    pub placed : ArePlaced c q fronts
+    pub scans : (r : ℕ) → r < width q → HaveScansOf c q fronts r
+    pub covered : (s : RelSet) → IsCovered c q all_asked fronts s
+    pub kept : (s p : RelSet) → ¬ IsSingle s → All (IsJoinPath c q fronts s p) (fronts s p)
+
+-- the paths of some fronts: each stands in the list once, and no other does
+pub record AreOfFronts (fronts : Fronts) (paths : List Path) : Type 0 where
+  pub from : All (λ x. Contains (fronts x.set x.param) x) paths
+  pub all : (s p : RelSet) → All (Contains paths) (fronts s p)
+  pub apart : AllPairs (Unrelated is_at_most) paths

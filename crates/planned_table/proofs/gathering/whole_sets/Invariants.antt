@@ -1,0 +1,6 @@
+use Rattle.join_search.specs.Tables.{paths_at}
+use Rattle.planned_table.specs.Gathering.{AreGathered, IsWholeBelow, shown}
+use Rattle.planned_table.proofs.gathering.whole_sets.Given as goal
+
+abbrev pub invariant-loop-bits : goal.invariant-loop-bits
+invariant-loop-bits l = AreGathered (IsWholeBelow l.bits) (paths_at l.table) (shown l.listed.items)

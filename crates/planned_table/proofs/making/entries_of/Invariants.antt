@@ -1,0 +1,9 @@
+use Rattle.std.proofs.Common.{[], map, take}
+use Rattle.sql_query.specs.Queries.{width}
+use Rattle.certificates.specs.Views.{entry}
+use Rattle.certificate_laws.specs.Kept.{AreEntriesOf}
+use Rattle.planned_table.specs.Gathering.{shown}
+use Rattle.planned_table.proofs.making.entries_of.Given as goal
+
+abbrev pub invariant-loop-n : goal.invariant-loop-n
+invariant-loop-n l = AreEntriesOf (width l.q) [] (map entry l.entries.items) (shown (take l.n l.listed))

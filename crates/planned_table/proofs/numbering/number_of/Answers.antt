@@ -1,0 +1,7 @@
+use Rattle.plan_tree.specs.Views.{plan}
+use Rattle.planned_table.specs.Numbering.{trees}
+use Rattle.planned_table.proofs.NumberLemmas.{numbered}
+use Rattle.planned_table.proofs.numbering.number_of.Goals as goal
+
+pub returns : goal.returns
+returns c = numbered (trees c.args.listed.now) c.args.first c.place_of.result (plan c.args.tree.now) c.place_of.ensures.before c.place_of.ensures.found

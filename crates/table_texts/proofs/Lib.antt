@@ -1,0 +1,4 @@
+pub mod RowsLemmas
+pub mod KeysLemmas
+pub mod NodeLemmas
+pub mod EntryLemmas

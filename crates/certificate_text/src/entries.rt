@@ -82,6 +82,26 @@ fn put_numbers(
     text.extend_from_slice(b")")
 }
 
+/// Appends the line of the entry of a number, without its LF.
+fn put_line(
+    alloc: Global,
+    text: &mut Vec<u8>,
+    cat: &Catalog,
+    q: &Prepared,
+    n: u64,
+    e: &Entry,
+) -> Result<(), Memory>
+    requires bound { IsWellBound cat.now q.now }
+    requires few { width q.now ≤ 16 }
+    requires line { HasEntryLine cat.now q.now (entry e.now) }
+    ensures { OnOk result (text.new.items ≡ text.old.items ++ texts.entry_line cat.now q.now n (entry e.now)) }
+{
+    put_number(alloc, text, n)?;
+    text.extend_from_slice(b" ")?;
+    put_plan(alloc, text, cat, q, e)?;
+    put_numbers(alloc, text, cat, q, e)
+}
+
 /// Appends the line of the entry of a number, with its LF.
 fn put_entry(
     alloc: Global,
@@ -96,10 +116,7 @@ fn put_entry(
     requires line { HasEntryLine cat.now q.now (entry e.now) }
     ensures { OnOk result (text.new.items ≡ text.old.items ++ texts.ended (texts.entry_line cat.now q.now n (entry e.now))) }
 {
-    put_number(alloc, text, n)?;
-    text.extend_from_slice(b" ")?;
-    put_plan(alloc, text, cat, q, e)?;
-    put_numbers(alloc, text, cat, q, e)?;
+    put_line(alloc, text, cat, q, n, e)?;
     text.extend_from_slice(b"\n")
 }
 
@@ -123,13 +140,47 @@ fn put_entries(
     Ok(())
 }
 
-/// Appends the line of the best plan, with its LF.
+/// Appends the line of the best plan, without its LF.
 fn put_best(alloc: Global, text: &mut Vec<u8>, best: Side) -> Result<(), Memory>
-    ensures { OnOk result (text.new.items ≡ text.old.items ++ texts.ended (texts.best_line (side best))) }
+    ensures { OnOk result (text.new.items ≡ text.old.items ++ texts.best_line (side best)) }
 {
     text.extend_from_slice(b"best ")?;
-    put_side(alloc, text, best)?;
+    put_side(alloc, text, best)
+}
+
+/// Appends the line of the best plan, with its LF.
+fn put_last(alloc: Global, text: &mut Vec<u8>, best: Side) -> Result<(), Memory>
+    ensures { OnOk result (text.new.items ≡ text.old.items ++ texts.ended (texts.best_line (side best))) }
+{
+    put_best(alloc, text, best)?;
     text.extend_from_slice(b"\n")
+}
+
+/// The line of the entry of a number in the text of a certificate, without its LF. The condition is that the entry has a
+/// line. The error means want of memory.
+pub fn entry_line(
+    alloc: Global,
+    cat: &Catalog,
+    q: &Prepared,
+    n: u64,
+    e: &Entry,
+) -> Result<Bytes, Memory>
+    requires bound { IsWellBound cat.now q.now }
+    requires line { HasEntryLine cat.now q.now (entry e.now) }
+    ensures line { IfOk result (λ text. text ≡ texts.entry_line cat.now q.now n (entry e.now)) }
+{
+    let mut text = Vec::new(alloc);
+    put_line(alloc, &mut text, cat, q, n, e)?;
+    Ok(Bytes::from_vec(text))
+}
+
+/// The line of the best plan, without its LF. The error means want of memory.
+pub fn best_line(alloc: Global, best: Side) -> Result<Bytes, Memory>
+    ensures line { IfOk result (λ text. text ≡ texts.best_line (side best)) }
+{
+    let mut text = Vec::new(alloc);
+    put_best(alloc, &mut text, best)?;
+    Ok(Bytes::from_vec(text))
 }
 
 /// Appends the first line of a certificate of a query with a window.
@@ -159,6 +210,6 @@ pub fn certificate_text(
     let mut text = Vec::new(alloc);
     put_head(&mut text, q)?;
     put_entries(alloc, &mut text, cat, q, t.entries.items())?;
-    put_best(alloc, &mut text, t.best)?;
+    put_last(alloc, &mut text, t.best)?;
     Ok(Bytes::from_vec(text))
 }

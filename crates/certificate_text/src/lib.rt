@@ -7,4 +7,4 @@ mod keys;
 mod nodes;
 mod sets;
 
-pub use entries::certificate_text;
+pub use entries::{best_line, certificate_text, entry_line};

@@ -1,5 +1,5 @@
 -- How long the word is with which a text begins.
-use Rattle.std.proofs.Common.{◌≡◌, ◌<◌, ◌-◌, ℕ, zero, suc, Bool, true, false, not, cond, List, [], ◌∷◌, ◌++◌, length, drop, take, get_or, refl, sym, ap, ap₂, ◌∙◌, arith}
+use Rattle.std.proofs.Common.{◌≡◌, ◌<◌, ◌≤◌, ◌+◌, ◌-◌, ℕ, zero, suc, Bool, true, false, not, cond, List, [], ◌∷◌, ◌++◌, length, drop, take, get_or, refl, sym, ap, ap₂, ◌∙◌, arith}
 use Rattle.std.proofs.Math.Seq.{drop-append_seam, take-append_seam}
 use Rattle.std.proofs.lemmas.List.{length-append, length-drop, take-append-drop, take_all}
 use Rattle.std.specs.List.{list_all}
@@ -70,3 +70,7 @@ word-left text n e =
       ap (λ (m : ℕ). list_all is_in_name (take m text)) e ∙ word-of text,
       ap stops all ∙ (ap (λ (m : ℕ). stops (drop m text)) e ∙ stops-behind text),
     )
+
+-- what is left behind some bytes is no longer
+pub behind : (old w new : List ℕ) → old ≡ w ++ new → length new ≤ length old
+behind old w new e = let long : length old ≡ length w + length new = ap length e ∙ length-append w new in omega (arith, long)

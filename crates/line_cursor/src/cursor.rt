@@ -93,6 +93,8 @@ impl<'a> LineCursor<'a> {
         ensures took { (rest : List ℕ) → self.old ≡ wanted.now ++ rest → (result ≡ true) × (self.new ≡ rest) }
         ensures left { result ≡ false → self.new ≡ self.old }
         ensures is { result ≡ true → self.old ≡ wanted.now ++ self.new }
+        ensures shorter { length self.new ≤ length self.old }
+        ensures less { result ≡ true → length self.new + length wanted.now ≤ length self.old }
     {
         match self.left.strip_prefix(wanted) {
             Some(rest) => {
@@ -110,6 +112,7 @@ impl<'a> LineCursor<'a> {
         ensures stops { stops self.new ≡ true }
         ensures only { (w : List ℕ) (rest : List ℕ) → self.old ≡ w ++ rest → list_all is_in_name w ≡ true → stops rest ≡ true →
             (result.now ≡ w) × (self.new ≡ rest) }
+        ensures shorter { length self.new ≤ length self.old }
     {
         let left = self.left;
         let end = word_length(left);
@@ -123,6 +126,7 @@ impl<'a> LineCursor<'a> {
         ensures is { IfSome result (λ n. (n < 10 ^ 19) × (self.old ≡ decimal n ++ self.new)) }
         ensures only { (n : ℕ) (rest : List ℕ) → n < 10 ^ 19 → self.old ≡ decimal n ++ rest → stops rest ≡ true →
             (result ≡ Some n) × (self.new ≡ rest) }
+        ensures shorter { length self.new ≤ length self.old }
     {
         number_of(self.word())
     }

@@ -77,29 +77,66 @@ fn gives_all<L: Ledger>(tree: &BTree<L>, count: u32, backward: bool, steps: &mut
     next_row(&mut cursor, steps).is_none()
 }
 
-/// Whether cursors both ways give a thousand entries that were put in by rising numbers.
-fn gives_thousand(alloc: Global) -> Result<[bool; 2], AllocError> {
-    gives_thousand_with::<Brand>(alloc, Blank::new(1))
+/// The order in which entries are put in.
+#[derive(Clone, Copy, Debug)]
+enum Order {
+    Rising,
+    Falling,
+    Scattered,
 }
 
-fn gives_thousand_with<L: Ledger>(alloc: Global, blank: Blank) -> Result<[bool; 2], AllocError>
+/// How many entries are put in.
+const MANY: u32 = 100_000;
+
+/// The row that is put in as one of many. In each order every row comes once: 61,803 has no divisor in common with their number.
+fn row_at(order: Order, n: u32) -> u32
+    requires { n < 100000 }
+{
+    match order {
+        Order::Rising => n,
+        Order::Falling => MANY - 1 - n,
+        Order::Scattered => (u64::from(n) * 61_803 % 100_000) as u32,
+    }
+}
+
+/// Adds many entries in an order, ten rows to a number.
+fn put_many<L: Ledger>(alloc: Global, tree: &mut BTree<L>, order: Order) -> Result<(), AllocError> {
+    for n in 0..MANY {
+        let row = row_at(order, n);
+        put(alloc, tree, i64::from(row / 10), row)?;
+    }
+    Ok(())
+}
+
+/// Whether cursors both ways give many entries, put in by an order, as the sorted list of their rows.
+fn gives_many(alloc: Global, order: Order) -> Result<[bool; 2], AllocError> {
+    gives_many_with::<Brand>(alloc, order, Blank::new(1))
+}
+
+fn gives_many_with<L: Ledger>(
+    alloc: Global,
+    order: Order,
+    blank: Blank,
+) -> Result<[bool; 2], AllocError>
     requires name { blank.name ≡ L.name }
     requires parts { blank.parts ≡ L.parts }
     requires some { 0 < blank.parts }
 {
     let mut tree = of_numbers::<L>(alloc)?;
-    put_numbers(alloc, &mut tree, 1_000, false)?;
+    put_many(alloc, &mut tree, order)?;
     let mut steps = Steps::<L>::new(blank);
     Ok([
-        gives_all(&tree, 1_000, false, &mut steps),
-        gives_all(&tree, 1_000, true, &mut steps),
+        gives_all(&tree, MANY, false, &mut steps),
+        gives_all(&tree, MANY, true, &mut steps),
     ])
 }
 
 #[test]
 fn cursors_go_over_leaves_both_ways(rt: HostRuntime) {
-    let given = gives_thousand(rt.alloc()).expect(&rt, "ample memory");
-    assert_eq!(rt; given, [true, true]);
+    for order in [Order::Rising, Order::Falling, Order::Scattered] {
+        let given = gives_many(rt.alloc(), order).expect(&rt, "ample memory");
+        assert_eq!(rt; given, [true, true], "{order:?}");
+    }
 }
 
 /// Three slots, each alone.

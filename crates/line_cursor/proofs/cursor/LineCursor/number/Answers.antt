@@ -15,4 +15,5 @@ returns c = record {
   only = λ n rest lt e s.
       let w = c.word.ensures.only (decimal n) rest e (decimal-word n) s in
       (c.number_of.ensures ∙ ap number_written w.0 ∙ read-back n lt, w.1);
+  shorter = c.word.ensures.shorter;
 }

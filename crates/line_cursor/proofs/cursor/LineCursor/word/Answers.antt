@@ -1,6 +1,6 @@
-use Rattle.std.proofs.Common.{◌∙◌, ap, sym}
+use Rattle.std.proofs.Common.{◌∙◌, ◌-◌, ap, drop, length, sym, take}
 use Rattle.line_cursor.specs.Words.{word_end}
-use Rattle.line_cursor.proofs.WordLemmas.{parted, word-end, word-left}
+use Rattle.line_cursor.proofs.WordLemmas.{behind, parted, word-end, word-left}
 use Rattle.line_cursor.proofs.cursor.LineCursor.word.Goals as goal
 
 pub returns : goal.returns
@@ -15,4 +15,5 @@ returns c =
       only = λ w rest e h s.
           let same = c.self.view_is ∙ e in
           parted left w rest n same (c.word_length-end.ensures.word ∙ (ap word_end same ∙ word-end w rest h s));
+      shorter = behind c.args.self.now (take n left) (take (length left - n) (drop n left)) (sym c.self.view_is ∙ r.0);
     }

@@ -1,0 +1,5 @@
+pub mod ClauseLemmas
+pub mod ElementLemmas
+pub mod KindLemmas
+pub mod DifferentLemmas
+pub mod NodeLemmas

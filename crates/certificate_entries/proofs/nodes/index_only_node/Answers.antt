@@ -1,0 +1,16 @@
+use Rattle.std.proofs.Common.{Bool}
+use Rattle.pg_base.specs.declared.numbers.IndexNo.{IndexNo}
+use Rattle.certificates.specs.Certificates.{by_index_only}
+use Rattle.certificate_lines.proofs.NumberLemmas.{none-some}
+use Rattle.certificate_entries.proofs.NodeLemmas.{scan-as}
+use Rattle.certificate_entries.proofs.nodes.index_only_node.Goals as goal
+
+pub returns-in_err-index-clause-only : goal.returns-in_err-index-clause-only
+returns-in_err-index-clause-only c = λ i b rest has stop e.
+    let r = c.read_scan.ensures.only.only (i, b) rest has stop e in
+    absurd (none-some {A = IndexNo × Bool} c.read_scan.result (i, b) c.in_err-index.was r.0)
+
+pub returns-clause-only : goal.returns-clause-only
+returns-clause-only c = λ i b rest has stop e.
+    let r = c.read_scan.ensures.only.only (i, b) rest has stop e in
+    (scan-as (λ j d. by_index_only j d) c.read_scan.result c.in_ok-index.index i c.in_ok-index.backward b c.in_ok-index.was r.0, r.1)

@@ -1,0 +1,62 @@
+//! Bitmap trees.
+
+ghost use Rattle.std.specs.Prelude.{◌≡◌, ◌≤◌, ◌++◌, [], ℕ, List, IfOk, IfSome, Some, codes, length, option_map};
+ghost use Rattle.explain.specs.Texts.{with_commas};
+ghost use Rattle.plan_tree.specs.Plans as trees;
+ghost use Rattle.plan_tree.specs.Views.{bits};
+ghost use Rattle.sql_query.specs.WellBound.{IsWellBound};
+ghost use Rattle.certificate_text.specs.HasText.{HasBitsText};
+ghost use Rattle.certificate_text.specs.Texts.{tree_text, tree_texts};
+ghost use Rattle.certificate_lines.specs.Parts.{Reads};
+
+use crate::elements::{read_element, read_elements};
+use catalog::Catalog;
+use line_cursor::LineCursor;
+use pg_base::Memory;
+use plan_tree::{BitTree, BitTrees};
+use sql_query::Prepared;
+use std::alloc::Global;
+
+/// Several elements, behind their word and a parenthesis.
+fn read_and(
+    alloc: Global,
+    at: &mut LineCursor,
+    cat: &Catalog,
+    q: &Prepared,
+) -> Result<Option<BitTree>, Memory>
+    requires bound { IsWellBound cat.now q.now }
+    ensures has { IfOk result (λ o. IfSome o (λ b. HasBitsText cat.now q.now (bits b))) }
+    ensures only { IfOk result (λ o. (bs : trees.BitTrees) (rest : List ℕ) → HasBitsText cat.now q.now (trees.all_hold bs) →
+        at.old ≡ with_commas [] (tree_texts cat.now q.now bs) ++ (codes ")" ++ rest) → (option_map bits o ≡ Some (trees.all_hold bs)) × (at.new ≡ rest)) }
+{
+    let items = match read_elements(alloc, at, cat, q)? {
+        Some(items) => items,
+        None => return Ok(None),
+    };
+    if items.len() < 2 {
+        return Ok(None);
+    }
+    if at.eat(b")") {
+        Ok(Some(BitTree::And(BitTrees { items })))
+    } else {
+        Ok(None)
+    }
+}
+
+/// A bitmap tree: an element, or several in parentheses. None where none comes next. The error means want of memory.
+pub fn read_bits(
+    alloc: Global,
+    at: &mut LineCursor,
+    cat: &Catalog,
+    q: &Prepared,
+) -> Result<Option<BitTree>, Memory>
+    requires bound { IsWellBound cat.now q.now }
+    ensures has { IfOk result (λ o. IfSome o (λ b. HasBitsText cat.now q.now (bits b))) }
+    ensures only { IfOk result (λ o. Reads (HasBitsText cat.now q.now) (tree_text cat.now q.now) at.old at.new (option_map bits o)) }
+{
+    if at.eat(b"And(") {
+        read_and(alloc, at, cat, q)
+    } else {
+        read_element(alloc, at, cat, q)
+    }
+}

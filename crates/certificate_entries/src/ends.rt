@@ -1,0 +1,67 @@
+//! The sets that a line begins with, the keys that it ends with, and the line of the best plan.
+
+ghost use Rattle.std.specs.Prelude.{◌≡◌, ◌↔◌, ◌++◌, ◌==◌, ℕ, List, IfOk, IfSome, IsTrue, Some, codes, false, get_or, option_map, true};
+ghost use Rattle.std.specs.Fmt.{decimal};
+ghost use Rattle.pg_base.specs.Sets.{has};
+ghost use Rattle.pg_base.specs.declared.rel_set.RelSet as sets;
+ghost use Rattle.explain.specs.Texts.{keys_text};
+ghost use Rattle.sql_query.specs.WellBound.{IsWellBound};
+ghost use Rattle.certificates.specs.Views.{side};
+ghost use Rattle.certificate_text.specs.HasText.{HasKeysText, IsEntryNumber, IsSetOf};
+ghost use Rattle.certificate_text.specs.Texts as texts;
+ghost use Rattle.certificate_lines.specs.Parts.{HasSideText, IsSet, Reads};
+
+use crate::keys::read_key_list;
+use catalog::Catalog;
+use certificate_lines::{read_param, read_set, read_side};
+use certificate_text::best_line;
+use certificates::Side;
+use line_cursor::LineCursor;
+use pathkeys::Keys;
+use pg_base::{Memory, RelSet};
+use sql_query::Prepared;
+use std::alloc::Global;
+
+/// Passes over this number where it comes next.
+pub fn eat_number(alloc: Global, at: &mut LineCursor, n: u64) -> Result<bool, Memory>
+    ensures only { IfOk result (λ b. (rest : List ℕ) → at.old ≡ decimal n ++ rest → (b ≡ true) × (at.new ≡ rest)) }
+{
+    let digits = format!(in alloc; "{n}")?;
+    Ok(at.eat(digits.as_bytes()))
+}
+
+/// A set, a parameterisation and the space behind them.
+pub fn read_sets(at: &mut LineCursor, cat: &Catalog, q: &Prepared) -> Option<(RelSet, RelSet)>
+    requires bound { IsWellBound cat.now q.now }
+    ensures has { IfSome result (λ p. IsSetOf q.now (has p.0.0) × IsSetOf q.now (has p.1.0)) }
+    ensures only { (s p : sets.RelSet) (rest : List ℕ) → IsSet q.now s → IsSet q.now p → (get_or rest 0 0 == 102) ≡ false →
+        at.old ≡ texts.set_text q.now s ++ (texts.param_text q.now p ++ (codes " " ++ rest)) → (result ≡ Some (s, p)) × (at.new ≡ rest) }
+{
+    let set = read_set(at, cat, q)?;
+    let param = read_param(at, cat, q)?;
+    if at.eat(b" ") {
+        Some((set, param))
+    } else {
+        None
+    }
+}
+
+/// The side that the line of a best plan names. None where no such line comes next.
+pub fn read_best(at: &mut LineCursor) -> Option<Side>
+    ensures has { IfSome result (λ s. IsEntryNumber s.entry) }
+    ensures only { Reads HasSideText texts.best_line at.old at.new (option_map side result) }
+{
+    if at.eat(b"best ") {
+        read_side(at)
+    } else {
+        None
+    }
+}
+
+/// Whether this is the line of this best plan. The error means want of memory.
+pub fn is_best_line(alloc: Global, line: &[u8], s: Side) -> Result<bool, Memory>
+    ensures { IfOk result (λ b. IsTrue b ↔ (line.now ≡ texts.best_line (side s))) }
+{
+    let text = best_line(alloc, s)?;
+    Ok(line == text.items())
+}

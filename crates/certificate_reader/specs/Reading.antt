@@ -1,0 +1,64 @@
+-- What reading a block comes to. Own.
+use Rattle.std.specs.Prelude.{◌≡◌, ◌+◌, ℕ, suc, Bool, true, cond, ◌==◌, List, [], ◌∷◌, ◌++◌, length, All, Option, Some, None, Result, Ok, Err}
+use Rattle.catalog.specs.Contents.{Contents}
+use Rattle.sql_query.specs.Queries.{Query}
+use Rattle.sql_query.specs.declared.window.Window.{Window}
+use Rattle.certificates.specs.Certificates.{Certificate, Entry, Side}
+use Rattle.certificates.specs.Views.{certificate}
+use Rattle.certificates.specs.declared.certificate.Certificate.{Certificate as Certified}
+use Rattle.certificate_text.specs.HasText.{HasEntryLine, HasText}
+use Rattle.certificate_text.specs.Texts.{certificate_text, ended, entry_line, is_line}
+use Rattle.certificate_lines.specs.Reading.{IsBestRead}
+use Rattle.certificate_reader.specs.Faults.{IsFaultLine, IsText, joined}
+use Rattle.certificate_reader.specs.Passed.{Passed}
+use Rattle.certificate_reader.specs.declared.block.CertFault.{CertFault}
+use Rattle.certificate_reader.specs.declared.block.CertFault.TheVariants as faults
+
+-- how long the first line of a text is, without LF
+abbrev pub line_end : List ℕ → ℕ
+line_end [] = 0
+line_end (b ∷ bs) = cond (b == 10) 0 (suc (line_end bs))
+
+-- how many lines a certificate text has before those of its entries
+abbrev pub head_lines : Option Window → ℕ
+head_lines None = 0
+head_lines (Some w) = 1
+
+module _ (c : Contents) (q : Query) where
+  -- each of some entries is the only one with its line; the first has the number n
+  abbrev pub AreOnly : ℕ → List Entry → Type 0
+  AreOnly n [] = Unit {0}
+  AreOnly n (e ∷ es) = ((o : Entry) → HasEntryLine c q o → entry_line c q n e ≡ entry_line c q n o → o ≡ e) × AreOnly (n + 1) es
+
+  -- some lines of a block were read as entries, and the rest is left
+  pub record IsReadSoFar (block : List ℕ) (es : List Entry) (left : List ℕ) : Type 0 where
+    pub before : List (List ℕ)
+    pub lines : All (λ l. is_line l ≡ true) before
+    pub split : block ≡ joined before ++ left
+    pub count : length before ≡ head_lines q.window + length es
+    pub passed : Passed c q es (joined before)
+    pub only : AreOnly 1 es
+
+  -- behind the lines of some entries stands that of a best plan, and then the rest
+  pub record IsAtBest (block : List ℕ) (es : List Entry) (s : Side) (rest : List ℕ) : Type 0 where
+    pub left : List ℕ
+    pub so_far : IsReadSoFar block es left
+    pub line : List ℕ
+    pub split : left ≡ ended line ++ rest
+    pub whole : is_line line ≡ true
+    pub read : IsBestRead line s
+
+  -- the block is the text of a certificate, and of no other one
+  pub record IsBlockRead (block : List ℕ) (t : Certificate) : Type 0 where
+    pub has : HasText c q t
+    pub is : certificate_text c q t ≡ block
+    pub only : (o : Certificate) → HasText c q o → certificate_text c q o ≡ block → o ≡ t
+
+  -- a block is no text, and that is its line at fault; want of memory says nothing
+  abbrev pub IsFault : List ℕ → CertFault → Type 0
+  IsFault block (faults.C1 line) = IsFaultLine c q block line × ¬ IsText c q block
+  IsFault block faults.Memory = Unit {0}
+
+  abbrev pub IsBlock : List ℕ → Result Certified CertFault → Type 0
+  IsBlock block (Ok t) = IsBlockRead block (certificate t)
+  IsBlock block (Err fault) = IsFault block fault

@@ -7,3 +7,4 @@ pub mod AtomLemmas
 pub mod EndLemmas
 pub mod TypedLemmas
 pub mod StepLemmas
+pub mod PartedLemmas

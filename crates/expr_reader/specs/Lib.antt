@@ -3,3 +3,4 @@ pub mod Literals
 pub mod Conditions
 pub mod Reads
 pub mod Written
+pub mod Parted

@@ -14,7 +14,7 @@ mod value;
 mod written;
 
 pub use found::Found;
-pub use laws::meanings_are_bound;
+pub use laws::{meanings_are_bound, meanings_have_parts};
 pub use operand::{found_column, take_column};
 pub use read::{read_expr, take_expr};
 pub use scope::Scope;

@@ -16,3 +16,5 @@ pub mod WhereLemmas
 pub mod WindowLemmas
 pub mod QueryLemmas
 pub mod AliasLemmas
+pub mod WantedLemmas
+pub mod PartedLemmas

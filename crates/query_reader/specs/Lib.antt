@@ -11,3 +11,4 @@ pub mod Binding
 pub mod Adds
 pub mod Parts
 pub mod Select
+pub mod Wanted

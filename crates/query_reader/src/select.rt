@@ -1,11 +1,12 @@
 //! Reading a SELECT.
 
-ghost use Rattle.std.specs.Prelude.{◌≡◌, ℕ, ◌^◌, ◌<◌, ◌≤◌, List, ◌∷◌, length, IfOk, MatchOption};
+ghost use Rattle.std.specs.Prelude.{◌≡◌, ℕ, ◌^◌, ◌<◌, ◌≤◌, List, ◌∷◌, All, length, IfOk, MatchOption};
 ghost use Rattle.sql_lex.specs.Words.{AreWords};
 ghost use Rattle.sql_lex.specs.declared.tokens.Token.{Token};
 ghost use Rattle.sql_grammar.specs.Faults.{terminals, IsWhole};
 ghost use Rattle.sql_grammar.specs.Syntax.{WindowedSelect};
 ghost use Rattle.eq_classes.specs.Holding.{IsClassTable};
+ghost use Rattle.expr_reader.specs.Parted.{HasParts};
 ghost use Rattle.sql_query.specs.WellBound.{IsWellBound, given_of};
 ghost use Rattle.query_reader.specs.Binding.{bound_part};
 ghost use Rattle.query_reader.specs.Parts.{HavePart, HaveSelectAt, IsPartAt, IsSelectAt};
@@ -114,7 +115,7 @@ fn read_whole(
 /// first; DESC alone puts NULLs first, and otherwise they are last unless said. Names compare in small letters. Then come LIMIT
 /// and OFFSET, whose numbers are each at most 2^63 - 1, and then the limits, at the first byte of the whole statement: at most 32
 /// conjuncts in pushed form, of which a constant is one, then at most 256 atoms, of which a constant is none (PostgreSQL manual,
-/// chapters Queries and Type Conversion; the limits are own).
+/// chapters Queries and Type Conversion; the limits are own). Each AND and each OR of a conjunct has a part.
 ///
 /// The text has at most 2^31 bytes, and the tokens are the words of a statement from some offset of it. The refusal is the first
 /// fault: that of the statement's grammar (42601; 54000 for a name over 63 bytes, a text over 8,192 or an expression over 32 levels
@@ -139,6 +140,7 @@ pub fn read_select(
         IsWhole text.now tokens.now → IsSelectAt text.now tokens.now first x → IsBoundAs (bound_part cat.now start x) result }
     ensures well_bound { IfOk result (IsWellBound cat.now) }
     ensures classes { IfOk result (λ q. IsClassTable (given_of cat.now q) q.classes) }
+    ensures parts { IfOk result (λ q. All HasParts q.where_all) }
 {
     read_whole(alloc, cat, text, tokens, first)
 }

@@ -19,7 +19,7 @@ pub const READS_GROUPS: bool = false;
 pub const READS_PLAN: bool = false;
 
 /// EXPLAIN (TABLE) of a SELECT: its plan with its certificate.
-pub const READS_TABLE: bool = false;
+pub const READS_TABLE: bool = true;
 
 /// LIMIT and OFFSET behind a SELECT with its order.
 pub const READS_WINDOW: bool = true;

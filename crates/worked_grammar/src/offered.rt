@@ -177,7 +177,7 @@ const PLANS: [(&[u8], Option<u32>, Option<u32>); 12] = [
 ];
 
 /// Statements for EXPLAIN (TABLE), and the place of their syntax fault, without it and with it.
-const TABLES: [(&[u8], Option<u32>, Option<u32>); 11] = [
+const TABLES: [(&[u8], Option<u32>, Option<u32>); 12] = [
     (b"EXPLAIN (TABLE) SELECT a FROM t;", Some(8), None),
     (
         b"explain ( table ) select a from t order by a limit 1",
@@ -209,10 +209,15 @@ const TABLES: [(&[u8], Option<u32>, Option<u32>); 11] = [
         Some(8),
         Some(32),
     ),
+    (
+        b"EXPLAIN (TABLE) SELECT count(*) FROM t;",
+        Some(8),
+        Some(28),
+    ),
 ];
 
 /// Statements for GROUP BY and calls, and the place of their syntax fault, without them and with them.
-const GROUPS: [(&[u8], Option<u32>, Option<u32>); 40] = [
+const GROUPS: [(&[u8], Option<u32>, Option<u32>); 39] = [
     (b"SELECT count(*) FROM t;", Some(12), None),
     (
         b"SELECT a, count(*), count(b), max(t.b) FROM t GROUP BY a;",
@@ -276,7 +281,6 @@ const GROUPS: [(&[u8], Option<u32>, Option<u32>); 40] = [
     (b"SELECT a FROM t WHERE count(a) = 1;", Some(27), Some(27)),
     (b"SELECT a FROM t GROUP BY count(a);", Some(16), Some(30)),
     (b"SELECT a FROM t ORDER BY count(a);", Some(30), Some(30)),
-    (b"EXPLAIN (TABLE) SELECT count(*) FROM t;", Some(8), Some(8)),
     (b"CHECK SELECT count(*) FROM t;", Some(0), Some(0)),
     (b"USE PLAN SELECT count(*) FROM t;", Some(0), Some(0)),
     (

@@ -31,6 +31,8 @@ pub data Action : Type 0 where
   answer : Query → Action
   -- EXPLAIN of a SELECT
   explain : Query → Action
+  -- EXPLAIN (TABLE) of a SELECT
+  certify : Query → Action
   -- ADVISE: at most so many of these indexes, for these queries
   advise : ℕ → List NamedIndex → List Query → Action
 
@@ -49,4 +51,5 @@ after w (fill t s) = record { contents = with_loaded w.contents t (length s.rows
 after w (gather t) = world (with_analysis w.contents t (table_statistics (stored_at w t))) w.stored
 after w (answer q) = w
 after w (explain q) = w
+after w (certify q) = w
 after w (advise most candidates queries) = w

@@ -5,12 +5,12 @@ use Rattle.catalog.specs.Contents.{Contents}
 use Rattle.fault_line.specs.Lines.{fault_line}
 use Rattle.fault_line.specs.Tells.{IsFieldOf}
 use Rattle.sql_query.specs.Worlds.{World, empty_world}
-use Rattle.pgplan.specs.declared.end.End.{End}
-use Rattle.pgplan.specs.declared.end.End.TheVariants as ends
+use Rattle.statements.specs.declared.end.End.{End}
+use Rattle.statements.specs.declared.end.End.TheVariants as ends
 use Rattle.pgplan.specs.Runs.{HasNoFault, ReachesFault}
-use Rattle.pgplan.specs.Scripts.{world_after}
+use Rattle.statements.specs.Scripts.{world_after}
 use Rattle.pgplan.specs.Statuses.{IsTold, line_of, line_of_work, number_of, status_of_work}
-use Rattle.pgplan.specs.Steps.{HasField}
+use Rattle.statements.specs.Steps.{HasField}
 use Rattle.pgplan.specs.Summaries.{AreSummed, EndsTally, EndsUnsummed, IsSumOver, IsSummedUp}
 use Rattle.pgplan.proofs.TopLemmas.{none_reached_from}
 

@@ -4,14 +4,14 @@ use Rattle.std.proofs.lemmas.List.Concat.{flat_map-append}
 use Rattle.std.specs.Io.KnownBytes.{Appends}
 use Rattle.pg_base.proofs.Bytes.{Appends-more}
 use Rattle.sql_query.specs.Worlds.{World, empty_world}
-use Rattle.pgplan.specs.declared.end.End.{End}
-use Rattle.pgplan.specs.declared.end.End.TheVariants as ends
+use Rattle.statements.specs.declared.end.End.{End}
+use Rattle.statements.specs.declared.end.End.TheVariants as ends
 use Rattle.definitions.specs.Actions.{after}
-use Rattle.pgplan.specs.Accepted.{IsRead}
-use Rattle.pgplan.specs.Replies.{IsReply}
-use Rattle.pgplan.specs.Scripts.{Worked, AreWorked, AreFirst, world_after, place_after, replies}
+use Rattle.statements.specs.Accepted.{IsRead}
+use Rattle.statements.specs.Replies.{IsReply}
+use Rattle.statements.specs.Scripts.{Worked, AreWorked, AreFirst, world_after, place_after, replies}
 use Rattle.reply.specs.Replies.{Traces}
-use Rattle.pgplan.specs.Steps.{Advances, IsBegun, Stops}
+use Rattle.statements.specs.Steps.{Advances, IsBegun, Stops}
 use Rattle.pgplan.specs.Runs.{IsAnswered, IsCutOff, Ends}
 
 -- one more statement

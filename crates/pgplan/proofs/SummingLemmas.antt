@@ -7,11 +7,11 @@ use Rattle.definitions.specs.Actions.{after}
 use Rattle.reply.specs.Measures.{IsLeastPrice, rows_in}
 use Rattle.reply.specs.declared.measuring.Measured.{Measured}
 use Rattle.sql_query.specs.Worlds.{World, empty_world}
-use Rattle.pgplan.specs.declared.end.End.{End}
-use Rattle.pgplan.specs.declared.end.End.TheVariants as ends
-use Rattle.pgplan.specs.Askings.{Asking, IsMeasuredOf, asked_in, askings}
-use Rattle.pgplan.specs.Scripts.{AreFirst, Worked, place_after, world_after}
-use Rattle.pgplan.specs.Steps.{StopsTally, Tallies}
+use Rattle.statements.specs.declared.end.End.{End}
+use Rattle.statements.specs.declared.end.End.TheVariants as ends
+use Rattle.statements.specs.Askings.{Asking, IsMeasuredOf, asked_in, askings}
+use Rattle.statements.specs.Scripts.{AreFirst, Worked, place_after, world_after}
+use Rattle.statements.specs.Steps.{StopsTally, Tallies}
 use Rattle.pgplan.specs.Summaries.{AreLeastPrices, AreSummed, ComeTo, EndsTally, cost_in, number_in, rows_told}
 use Rattle.pgplan.proofs.ScriptLemmas.{AreWorked-more, place_after-more, world_after-more}
 

@@ -8,17 +8,17 @@ use Rattle.pg_base.specs.declared.faults.Fault.{Fault}
 use Rattle.fault_line.specs.Lines.{fault_line}
 use Rattle.catalog.specs.Contents.{Contents}
 use Rattle.sql_query.specs.Worlds.{World, empty_world}
-use Rattle.pgplan.specs.declared.end.End.{End}
-use Rattle.pgplan.specs.declared.end.End.TheVariants as ends
+use Rattle.statements.specs.declared.end.End.{End}
+use Rattle.statements.specs.declared.end.End.TheVariants as ends
 use Rattle.definitions.specs.Actions.{Action, after}
 use Rattle.reply.specs.Putting.{HasWriteCause}
-use Rattle.pgplan.specs.Faults.{IsFault}
+use Rattle.statements.specs.Faults.{IsFault}
 use Rattle.fault_line.specs.Tells.{IsFieldOf}
-use Rattle.pgplan.specs.Steps.{HasField}
-use Rattle.pgplan.specs.Scripts.{Worked, AreWorked, world_after, place_after}
+use Rattle.statements.specs.Steps.{HasField}
+use Rattle.statements.specs.Scripts.{Worked, AreWorked, world_after, place_after}
 use Rattle.pgplan.specs.Statuses.{IsTold, line_of_work, number_of, status_of_work}
 use Rattle.pgplan.specs.Runs.{Ends, IsAnswered, IsRunOver, HasStatusCause, HasNoFault, ReachesFault, IsCutShort}
-use Rattle.pgplan.proofs.OneReadingLemmas.{one_read, read_apart}
+use Rattle.statements.proofs.OneReadingLemmas.{one_read, read_apart}
 
 -- a line that was written, or stopped by a fault
 told : {E : Type 0} (r : Result (Unit {0}) E) (old new : Option (List ℕ)) (before now : ℕ) (line : List ℕ) → OnOk r (Appends old new line) →

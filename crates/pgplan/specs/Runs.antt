@@ -9,14 +9,14 @@ use Rattle.pg_base.specs.declared.limits.TheConstants.{MOST_SCRIPT_BYTES}
 use Rattle.fault_line.specs.Lines.{fault_line}
 use Rattle.fault_line.specs.Tells.{IsFieldOf}
 use Rattle.sql_query.specs.Worlds.{World, empty_world}
-use Rattle.pgplan.specs.declared.end.End.{End}
-use Rattle.pgplan.specs.declared.end.End.TheVariants as ends
+use Rattle.statements.specs.declared.end.End.{End}
+use Rattle.statements.specs.declared.end.End.TheVariants as ends
 use Rattle.definitions.specs.Actions.{Action}
-use Rattle.pgplan.specs.Accepted.{IsRead}
-use Rattle.pgplan.specs.Faults.{IsFault}
+use Rattle.statements.specs.Accepted.{IsRead}
+use Rattle.statements.specs.Faults.{IsFault}
 use Rattle.reply.specs.Replies.{Reply}
-use Rattle.pgplan.specs.Replies.{IsReply}
-use Rattle.pgplan.specs.Scripts.{Worked, AreFirst, AreAll, world_after, place_after, replies}
+use Rattle.statements.specs.Replies.{IsReply}
+use Rattle.statements.specs.Scripts.{Worked, AreFirst, AreAll, world_after, place_after, replies}
 use Rattle.pgplan.specs.Statuses.{IsTold, line_of}
 
 -- these bytes were taken, all that the source had

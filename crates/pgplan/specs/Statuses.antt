@@ -8,8 +8,8 @@ use Rattle.pg_base.specs.declared.reading.ReadFault.{ReadFault as ReadFaultType}
 use Rattle.pg_base.specs.declared.reading.ReadFault.TheVariants as reading
 use Rattle.catalog.specs.Contents.{Contents}
 use Rattle.fault_line.specs.Lines.{fault_line}
-use Rattle.pgplan.specs.declared.end.End.{End}
-use Rattle.pgplan.specs.declared.end.End.TheVariants as ends
+use Rattle.statements.specs.declared.end.End.{End}
+use Rattle.statements.specs.declared.end.End.TheVariants as ends
 use Rattle.pgplan.specs.declared.status.Status.{Status}
 use Rattle.pgplan.specs.declared.status.Status.TheVariants.{Done, Usage, ReadFault, Statement, WriteFault, Memory, TooLong}
 

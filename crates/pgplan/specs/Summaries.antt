@@ -9,11 +9,11 @@ use Rattle.fault_line.specs.Tells.{IsFieldOf}
 use Rattle.reply.specs.Measures.{IsLeastPrice, rows_in}
 use Rattle.reply.specs.declared.measuring.Measured.{Measured}
 use Rattle.sql_query.specs.Worlds.{World, empty_world}
-use Rattle.pgplan.specs.declared.end.End.{End}
-use Rattle.pgplan.specs.declared.end.End.TheVariants as ends
-use Rattle.pgplan.specs.Askings.{Asking, askings}
+use Rattle.statements.specs.declared.end.End.{End}
+use Rattle.statements.specs.declared.end.End.TheVariants as ends
+use Rattle.statements.specs.Askings.{Asking, askings}
 use Rattle.pgplan.specs.Runs.{ReachesFault}
-use Rattle.pgplan.specs.Scripts.{AreAll, Worked, world_after}
+use Rattle.statements.specs.Scripts.{AreAll, Worked, world_after}
 use Rattle.pgplan.specs.Statuses.{IsTold, line_of}
 
 -- the rows that the answers to queries have together: those of their meanings that OFFSET and LIMIT let through

@@ -5,15 +5,13 @@ ghost use Rattle.pg_base.specs.declared.limits.TheConstants.{MOST_SCRIPT_BYTES};
 ghost use Rattle.sql_query.specs.Worlds.{empty_world};
 ghost use Rattle.reply.specs.Putting.{HasWriteCause};
 ghost use Rattle.reply.specs.Replies.{traces};
-ghost use Rattle.pgplan.specs.Steps.{Advances, Stops, StopsTally, Tallies};
+ghost use Rattle.statements.specs.Steps.{Advances, Stops, StopsTally, Tallies};
 
-use crate::carry::carry_out;
-use crate::end::End;
-use crate::replying::{Tallied, reply_to, tally_reply};
 use catalog::Catalog;
 use heap::Counters;
 use pg_base::{Sink, Steps};
 use sql_lex::lex_statement;
+use statements::{End, Tallied, carry_out, reply_to, tally_reply};
 use std::alloc::Global;
 use std::marker::Model;
 use store::Store;

@@ -8,7 +8,6 @@ ghost use Rattle.sql_query.specs.Worlds.{empty_world};
 ghost use Rattle.pgplan.specs.Runs.{HasStatusCause};
 ghost use Rattle.pgplan.specs.Summaries.{EndsUnsummed, IsSumOver, IsSummedUp};
 
-use crate::end::End;
 use crate::machine::Machine;
 use crate::status::Status;
 use crate::top::{close, tell};
@@ -16,6 +15,7 @@ use crate::totals::{sum_up, summary_line};
 use heap::{Counters, Counting};
 use pg_base::{Sink, Steps, write_all};
 use sampling::sample_script;
+use statements::End;
 use std::alloc::Global;
 use std::marker::Brand;
 use std::sync::ledger::{Blank, Ledger};

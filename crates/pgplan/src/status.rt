@@ -3,8 +3,8 @@
 ghost use Rattle.std.specs.Prelude.{◌≡◌};
 ghost use Rattle.pgplan.specs.Statuses.{line_of, number_of, status_of_reading, status_of_work};
 
-use crate::end::End;
 use pg_base::ReadFault;
+use statements::End;
 
 /// How a run ends. Its number is the program's exit status.
 #[derive(Clone, Copy, Debug, PartialEq, Eq)]

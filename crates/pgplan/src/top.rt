@@ -9,10 +9,9 @@ ghost use Rattle.command_line.specs.Commands.{AreNoCommand, IsRunCommand, IsSamp
 ghost use Rattle.sampling.specs.Script.{script};
 ghost use Rattle.pgplan.specs.Runs.{AnswersAll, CutsOff, HasNoFault, HasStatusCause, IsCutShort, IsRunOver, IsTooLong, ReachesFault, RunsOut, TellsFault};
 ghost use Rattle.pgplan.specs.Statuses.{IsTold, line_of, line_of_work, number_of, status_of_work};
-ghost use Rattle.pgplan.specs.Steps.{HasField};
+ghost use Rattle.statements.specs.Steps.{HasField};
 ghost use Rattle.pgplan.specs.Summaries.{IsSummedInPart, IsSummedUp, TellsFaultAlone};
 
-use crate::end::End;
 use crate::machine::Machine;
 use crate::sample::sample;
 use crate::status::Status;
@@ -22,6 +21,7 @@ use command_line::{Command, read_command};
 use fault_line::write_fault;
 use heap::Counting;
 use pg_base::{MOST_SCRIPT_BYTES, Sink, Source, Steps, read_all, write_all};
+use statements::End;
 use std::alloc::Global;
 use std::marker::Brand;
 use std::sync::ledger::{Blank, Ledger};

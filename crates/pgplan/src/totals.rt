@@ -5,11 +5,11 @@ ghost use Rattle.pg_base.specs.declared.limits.TheConstants.{MOST_SCRIPT_BYTES};
 ghost use Rattle.sql_query.specs.Worlds.{empty_world};
 ghost use Rattle.pgplan.specs.Summaries.{AreSummed, EndsTally, cost_in, number_in, rows_told, summary_line};
 
-use crate::end::End;
 use crate::machine::Machine;
 use heap::Counters;
 use pg_base::{Memory, Steps};
 use reply::Measured;
+use statements::End;
 use std::alloc::Global;
 
 /// How many queries were asked, the rows that their answers have together, and what their least prices come to.

@@ -6,10 +6,10 @@ ghost use Rattle.sql_query.specs.Worlds.{empty_world};
 ghost use Rattle.reply.specs.Putting.{HasWriteCause};
 ghost use Rattle.pgplan.specs.Runs.{Ends, IsAnswered};
 
-use crate::end::End;
 use crate::machine::Machine;
 use heap::Counters;
 use pg_base::{Sink, Steps};
+use statements::End;
 
 /// Works all statements of the text, from its first byte on, by a machine without tables. Each reply is written before the
 /// next statement is read.

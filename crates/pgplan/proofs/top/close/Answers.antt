@@ -1,5 +1,5 @@
 use Rattle.std.proofs.Common.{◌≡◌, Err, rules}
-use Rattle.pgplan.specs.declared.end.End.TheVariants.{Fault}
+use Rattle.statements.specs.declared.end.End.TheVariants.{Fault}
 use Rattle.pgplan.proofs.TopLemmas.{told_fault}
 use Rattle.pgplan.proofs.top.close.Goals as goal
 

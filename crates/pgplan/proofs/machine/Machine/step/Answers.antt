@@ -2,8 +2,8 @@ use Rattle.std.proofs.Common.{ap, subst}
 use Rattle.std.proofs.lemmas.Result.{IfErr-weaker}
 use Rattle.reply.specs.Replies.{traces}
 use Rattle.sql_query.specs.Worlds.{World}
-use Rattle.pgplan.specs.Steps.{Refuses, StopsOver}
-use Rattle.pgplan.proofs.SteppingLemmas.{answered-ahead, answered-inside, defined-behind, same-world, stopped-definition, stopped-query}
+use Rattle.statements.specs.Steps.{Refuses, StopsOver}
+use Rattle.statements.proofs.SteppingLemmas.{answered-ahead, answered-inside, defined-behind, same-world, stopped-definition, stopped-query}
 use Rattle.pgplan.proofs.machine.Machine.step.Goals as goal
 
 pub returns-in-Ok-None-clause-stopped : goal.returns-in-Ok-None-clause-stopped

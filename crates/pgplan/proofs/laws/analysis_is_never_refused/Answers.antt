@@ -1,8 +1,0 @@
-use Rattle.pgplan.proofs.NeverRefusedLemmas.{analysis-fault, analysis-allowed}
-use Rattle.pgplan.proofs.laws.analysis_is_never_refused.Goals as goal
-
-pub returns-clause-fault : goal.returns-clause-fault
-returns-clause-fault c = analysis-fault
-
-pub returns-clause-allowed : goal.returns-clause-allowed
-returns-clause-allowed c = analysis-allowed

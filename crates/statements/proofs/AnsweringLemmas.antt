@@ -1,0 +1,135 @@
+-- How a query ends: answered, refused, or stopped on its way out.
+use Rattle.std.proofs.Common.{◌≡◌, ℕ, ◌<◌, ◌∙◌, Bool, true, false, cond, List, length, inl, inr, Option, Some, None, Ok, Err, Result, IfErr, IsErrAnd, refl, sym, ap, subst, arith}
+use Rattle.pg_base.specs.declared.faults.Fault.{Fault}
+use Rattle.pg_base.specs.declared.faults.Refusal.{Refusal}
+use Rattle.pg_base.specs.declared.faults.Refusal.TheVariants as refusal
+use Rattle.sql_lex.specs.declared.tokens.Token.{Token}
+use Rattle.sql_lex.specs.Ends.{end_of}
+use Rattle.sql_grammar.specs.Faults.{terminals}
+use Rattle.catalog.specs.Contents.{Contents}
+use Rattle.fault_line.specs.Tells.{IsFieldOf}
+use Rattle.query_reader.specs.Wanted.{wanted_by}
+use Rattle.query_reader.specs.declared.wanted.Wanted.{Wanted}
+use Rattle.query_reader.specs.declared.wanted.Wanted.TheVariants as wanted
+use Rattle.sql_query.specs.Queries.{Query}
+use Rattle.sql_query.specs.Worlds.{World}
+use Rattle.reply.specs.declared.stop.Stop.{Stop}
+use Rattle.reply.specs.declared.stop.Stop.TheVariants as stop
+use Rattle.reply.specs.Answers.{HasNoPlan}
+use Rattle.reply.specs.Effort.{exactly}
+use Rattle.reply.specs.Measures.{IsMeasured}
+use Rattle.reply.specs.Replies.{HasBegun, HasReplied, Leaves, Reply, Traces}
+use Rattle.reply.specs.declared.measuring.Measured.{Measured}
+use Rattle.explain.specs.Texts.{explained_text}
+use Rattle.plan_tree.specs.Plans.{Plan}
+use Rattle.reply.specs.Putting.{HasWriteCause}
+use Rattle.statements.specs.declared.end.End.{End}
+use Rattle.statements.specs.declared.end.End.TheVariants as ends
+use Rattle.definitions.specs.Actions.{after, answer, certify, explain}
+use Rattle.statements.specs.Ending.{end_of_refusal, end_of_stop}
+use Rattle.statements.specs.Accepted.{IsReadOver, asked, asked_as}
+use Rattle.statements.specs.Askings.{IsTallied}
+use Rattle.statements.specs.Faults.{IsFaultOver, no_plan}
+use Rattle.statements.specs.Replies.{IsReply}
+use Rattle.table_reply.specs.Tabled.{IsTabledText}
+use Rattle.statements.specs.Steps.{IsAnsweredOver, IsTalliedOver, Refuses, StopsOver}
+use Rattle.statements.proofs.QueryLemmas.{Binds, Grammar, query-fault, fault-plain}
+
+plain-field : (c : Contents) (f : Fault) → f.rec ≡ 0 → IsFieldOf c f
+plain-field c f none = λ field some. absurd (omega (arith, none, some))
+
+-- a query that is not read
+pub query-refused : (w : World) (text : List ℕ) (tokens : List Token) (refused : Refusal) → 1 < length tokens → Grammar text tokens (Err refused) → Binds w text tokens (Err refused) →
+    Refuses (end_of_refusal refused) w text tokens 0 0
+query-refused w text tokens (refusal.Fault f) some grammar binds =
+    let one : 0 < length tokens = omega (arith, some) in
+    (query-fault w text tokens one f grammar binds, plain-field w.contents f (fault-plain w text tokens one f grammar binds), refl)
+query-refused w text tokens refusal.Memory some grammar binds = inl refl
+
+-- a query leaves the world as it is
+still : (w : World) (x : Wanted) (q : Query) → w ≡ after w (asked_as x q)
+still w wanted.Rows q = refl
+still w wanted.Plan q = refl
+still w wanted.Table q = refl
+
+-- the text of a plan alone
+abbrev explanation : Contents → Query → Plan → Reply
+explanation c q p = record { bytes = explained_text c q p; fetched = exactly 0; looked = 0 }
+
+-- a query was measured: nothing is told of one that is explained, with its table or without
+pub rows-tallied : (w : World) (q : Query) (x : Wanted) (m : Measured) → x ≡ wanted.Rows → IsMeasured w q m.rows m.cost → IsTallied w (asked_as x q) (Some m)
+rows-tallied w q x m asks is = subst (λ (y : Wanted). IsTallied w (asked_as y q) (Some m)) (sym asks) (record { reply = is.reply; replies = is.answers; measured = is })
+
+pub plan-tallied : (w : World) (q : Query) (x : Wanted) (m : Measured) → x ≡ wanted.Plan → IsMeasured w q m.rows m.cost → IsTallied w (asked_as x q) None
+plan-tallied w q x m asks is =
+    subst (λ (y : Wanted). IsTallied w (asked_as y q) None) (sym asks)
+    (record { reply = explanation w.contents q is.priced.plan; replies = record { plan = is.priced.plan; explanation = record { best = is.priced.best; printed = refl }; fetched = refl; looked = refl }; measured = tt })
+
+pub table-tallied : (w : World) (q : Query) (x : Wanted) (bytes : List ℕ) → x ≡ wanted.Table → IsTabledText w.contents q bytes → IsTallied w (asked_as x q) None
+table-tallied w q x bytes asks text =
+    subst (λ (y : Wanted). IsTallied w (asked_as y q) None) (sym asks) (record { reply = record { bytes = bytes; fetched = exactly 0; looked = 0 }; replies = record { text = text; fetched = refl; looked = refl }; measured = tt })
+
+module _ (w : World) (text : List ℕ) (tokens : List Token) (q : Query) (read : IsReadOver w text tokens (asked text tokens q) (end_of tokens)) (unplanned : HasNoPlan w.contents q → IsFaultOver w text tokens (no_plan text tokens))
+    (asking : Wanted) (is : asking ≡ wanted_by (terminals text tokens)) where
+  module _ (old new : Traces) where
+    -- its reply was written whole
+    pub answered-over : (next : ℕ) → next ≡ end_of tokens → HasReplied (IsReply w (asked_as asking q)) old new → IsAnsweredOver w text tokens next old new
+    answered-over next at replied =
+        subst (λ n. IsAnsweredOver w text tokens n old new) (sym at)
+        (asked text tokens q, read, still w (wanted_by (terminals text tokens)) q, subst (λ (x : Wanted). HasReplied (IsReply w (asked_as x q)) old new) is replied)
+
+    begun-over : HasBegun (IsReply w (asked_as asking q)) old new → HasBegun (IsReply w (asked text tokens q)) old new
+    begun-over begun = subst (λ (x : Wanted). HasBegun (IsReply w (asked_as x q)) old new) is begun
+
+    -- or it was not
+    printing-stops : (e : Stop) → Leaves e (IsReply w (asked_as asking q)) old new → (e ≡ stop.NoPlan → HasNoPlan w.contents q) → StopsOver (end_of_stop e (no_plan text tokens)) w text tokens old new
+    printing-stops stop.NoPlan same none = (unplanned (none refl), plain-field w.contents (no_plan text tokens) refl, same)
+    printing-stops stop.Write begun none = (asked text tokens q, end_of tokens, read, begun-over begun)
+    printing-stops stop.Memory (inl same) none = inl same
+    printing-stops stop.Memory (inr begun) none = inr (asked text tokens q, end_of tokens, read, begun-over begun)
+
+    pub printing-told : (e : Stop) (f : Fault) (end : End) → end ≡ end_of_stop e f → f ≡ no_plan text tokens → Leaves e (IsReply w (asked_as asking q)) old new → (e ≡ stop.NoPlan → HasNoPlan w.contents q) →
+        StopsOver end w text tokens old new
+    printing-told e f end ends at leaves none =
+        subst (λ (x : End). StopsOver x w text tokens old new) (sym ends)
+        (subst (λ (g : Fault). StopsOver (end_of_stop e g) w text tokens old new) (sym at) (printing-stops e leaves none))
+
+  -- it was measured
+  pub measured-over : (m : Option Measured) → IsTallied w (asked_as asking q) m → IsTalliedOver w text tokens (end_of tokens) m
+  measured-over m tallied = record {
+    action = asked text tokens q;
+    read = read;
+    still = still w (wanted_by (terminals text tokens)) q;
+    tallied = subst (λ (x : Wanted). IsTallied w (asked_as x q) m) is tallied;
+  }
+
+  -- or it was not
+  measuring-stops : (e : Stop) → (e ≡ stop.NoPlan → HasNoPlan w.contents q) → (e ≡ stop.Write → ⊥) → Refuses (end_of_stop e (no_plan text tokens)) w text tokens 0 0
+  measuring-stops stop.NoPlan none wrote = (unplanned (none refl), plain-field w.contents (no_plan text tokens) refl, refl)
+  measuring-stops stop.Write none wrote = absurd (wrote refl)
+  measuring-stops stop.Memory none wrote = inl refl
+
+  pub measuring-told : (e : Stop) (f : Fault) (end : End) → end ≡ end_of_stop e f → f ≡ no_plan text tokens → (e ≡ stop.NoPlan → HasNoPlan w.contents q) → (e ≡ stop.Write → ⊥) → Refuses end w text tokens 0 0
+  measuring-told e f end ends at none wrote =
+      subst (λ (x : End). Refuses x w text tokens 0 0) (sym ends)
+      (subst (λ (g : Fault). Refuses (end_of_stop e g) w text tokens 0 0) (sym at) (measuring-stops e none wrote))
+
+-- what it told of out's faults
+abbrev ended : End → Result ℕ End
+ended e = Err e
+
+pub cause-by : (e : Stop) (word : Fault) (end : End) (before now : ℕ) → end ≡ end_of_stop e word → HasWriteCause {T = Unit {0}} stop.Write before now (Err e) → HasWriteCause {T = ℕ} ends.Write before now (Err end)
+cause-by stop.NoPlan word end before now is cause = record {
+  write = λ wrong. absurd (let bad : ended (end_of_stop stop.NoPlan word) ≡ ended ends.Write = ap ended (sym is) ∙ wrong in cc (bad));
+  quiet = λ not. cause.quiet (λ wrong. absurd (cc (wrong)));
+}
+cause-by stop.Write word end before now is cause = record { write = λ so. cause.write refl; quiet = λ not. absurd (not (ap ended is)) }
+cause-by stop.Memory word end before now is cause = record {
+  write = λ wrong. absurd (let bad : ended (end_of_stop stop.Memory word) ≡ ended ends.Write = ap ended (sym is) ∙ wrong in cc (bad));
+  quiet = λ not. cause.quiet (λ wrong. absurd (cc (wrong)));
+}
+
+-- what a `?` hands on
+pub stops-by : (r : Result ℕ End) (e : End) (w : World) (text : List ℕ) (tokens : List Token) (old new : Traces) → StopsOver e w text tokens old new → IsErrAnd r (λ x. x ≡ e) → IfErr r (λ x. StopsOver x w text tokens old new)
+stops-by (Ok n) e w text tokens old new stops is = tt
+stops-by (Err x) e w text tokens old new stops is = subst (λ x. StopsOver x w text tokens old new) (sym is) stops

@@ -1,0 +1,69 @@
+-- The reply to a query, by what is asked of it.
+use Rattle.std.proofs.Common.{◌≡◌, ℕ, inl, inr, Ok, Err, Result, OnOk, IfErr, ap, arith, sym, subst}
+use Rattle.std.specs.declared.option.Option.{Option}
+use Rattle.std.specs.Prelude.{List}
+use Rattle.sql_query.specs.Queries.{Query}
+use Rattle.sql_query.specs.Worlds.{World}
+use Rattle.query_reader.specs.declared.wanted.Wanted.{Wanted}
+use Rattle.query_reader.specs.declared.wanted.Wanted.TheVariants as wanted
+use Rattle.reply.specs.declared.stop.Stop.{Stop}
+use Rattle.reply.specs.declared.stop.Stop.TheVariants.{NoPlan, Write, Memory}
+use Rattle.reply.specs.Effort.{HasRisen, Rise, exactly}
+use Rattle.reply.specs.Replies.{HasBegun, HasReplied, IsAnswerTo, IsExplanationOf, Leaves, Reply, Traces, traces}
+use Rattle.table_reply.specs.Tabled.{IsTableOf}
+use Rattle.statements.specs.Accepted.{asked_as}
+use Rattle.statements.specs.Replies.{IsReply}
+
+-- a reply with nothing fetched and nothing looked at, whatever the counters stand at
+module _ (Is : Reply → Type 0) (quiet : (r : Reply) → Is r → r.fetched ≡ exactly 0) (held held' : Option (List ℕ)) (f l : ℕ) where
+  none-fetched : (rise : Rise) → rise ≡ exactly 0 → HasRisen rise f f
+  none-fetched rise is = subst (λ (r : Rise). HasRisen r f f) (sym is) (record { within = omega arith; exact = omega arith })
+
+  moved : HasReplied Is (traces held 0 0) (traces held' 0 0) → HasReplied Is (traces held f l) (traces held' f l)
+  moved is = record { reply = is.reply; answers = is.answers; gained = is.gained; fetched = none-fetched is.reply.fetched (quiet is.reply is.answers); looked = omega arith }
+
+  begun-moved : HasBegun Is (traces held 0 0) (traces held' 0 0) → HasBegun Is (traces held f l) (traces held' f l)
+  begun-moved is = record { reply = is.reply; answers = is.answers; gained = is.gained; fetched = omega arith; looked = omega arith }
+
+  still-moved : traces held' 0 0 ≡ traces held 0 0 → traces held' f l ≡ traces held f l
+  still-moved same = ap (λ (t : Traces). traces t.held f l) same
+
+  leaves-moved : (e : Stop) → Leaves e Is (traces held 0 0) (traces held' 0 0) → Leaves e Is (traces held f l) (traces held' f l)
+  leaves-moved NoPlan same = still-moved same
+  leaves-moved Write is = begun-moved is
+  leaves-moved Memory (inl same) = inl (still-moved same)
+  leaves-moved Memory (inr is) = inr (begun-moved is)
+
+  replied-moved : (r : Result (Unit {0}) Stop) → OnOk r (HasReplied Is (traces held 0 0) (traces held' 0 0)) → OnOk r (HasReplied Is (traces held f l) (traces held' f l))
+  replied-moved (Ok u) h = moved h
+  replied-moved (Err e) h = tt
+
+  stopped-moved : (r : Result (Unit {0}) Stop) → IfErr r (λ e. Leaves e Is (traces held 0 0) (traces held' 0 0)) → IfErr r (λ e. Leaves e Is (traces held f l) (traces held' f l))
+  stopped-moved (Ok u) h = tt
+  stopped-moved (Err e) h = leaves-moved e h
+
+module _ (w : World) (q : Query) (asking : Wanted) (r : Result (Unit {0}) Stop) where
+  abbrev Replied : Traces → Traces → Wanted → Type 0
+  Replied old new x = OnOk r (HasReplied (IsReply w (asked_as x q)) old new)
+
+  abbrev Stopped : Traces → Traces → Wanted → Type 0
+  Stopped old new x = IfErr r (λ e. Leaves e (IsReply w (asked_as x q)) old new)
+
+  pub answered-replied : asking ≡ wanted.Rows → (old new : Traces) → OnOk r (HasReplied (IsAnswerTo w q) old new) → OnOk r (HasReplied (IsReply w (asked_as asking q)) old new)
+  answered-replied is old new h = subst (Replied old new) (sym is) h
+
+  pub answered-stopped : asking ≡ wanted.Rows → (old new : Traces) → IfErr r (λ e. Leaves e (IsAnswerTo w q) old new) → IfErr r (λ e. Leaves e (IsReply w (asked_as asking q)) old new)
+  answered-stopped is old new h = subst (Stopped old new) (sym is) h
+
+  module _ (held held' : Option (List ℕ)) (f l : ℕ) where
+    pub explained-replied : asking ≡ wanted.Plan → OnOk r (HasReplied (IsExplanationOf w.contents q) (traces held 0 0) (traces held' 0 0)) → OnOk r (HasReplied (IsReply w (asked_as asking q)) (traces held f l) (traces held' f l))
+    explained-replied is h = subst (Replied (traces held f l) (traces held' f l)) (sym is) (replied-moved (IsExplanationOf w.contents q) (λ x e. e.fetched) held held' f l r h)
+
+    pub explained-stopped : asking ≡ wanted.Plan → IfErr r (λ e. Leaves e (IsExplanationOf w.contents q) (traces held 0 0) (traces held' 0 0)) → IfErr r (λ e. Leaves e (IsReply w (asked_as asking q)) (traces held f l) (traces held' f l))
+    explained-stopped is h = subst (Stopped (traces held f l) (traces held' f l)) (sym is) (stopped-moved (IsExplanationOf w.contents q) (λ x e. e.fetched) held held' f l r h)
+
+    pub tabled-replied : asking ≡ wanted.Table → OnOk r (HasReplied (IsTableOf w.contents q) (traces held 0 0) (traces held' 0 0)) → OnOk r (HasReplied (IsReply w (asked_as asking q)) (traces held f l) (traces held' f l))
+    tabled-replied is h = subst (Replied (traces held f l) (traces held' f l)) (sym is) (replied-moved (IsTableOf w.contents q) (λ x e. e.fetched) held held' f l r h)
+
+    pub tabled-stopped : asking ≡ wanted.Table → IfErr r (λ e. Leaves e (IsTableOf w.contents q) (traces held 0 0) (traces held' 0 0)) → IfErr r (λ e. Leaves e (IsReply w (asked_as asking q)) (traces held f l) (traces held' f l))
+    tabled-stopped is h = subst (Stopped (traces held f l) (traces held' f l)) (sym is) (stopped-moved (IsTableOf w.contents q) (λ x e. e.fetched) held held' f l r h)

@@ -1,0 +1,38 @@
+-- The queries that statements ask, and what is measured of them. Own.
+use Rattle.std.specs.Prelude.{List, [], ◌∷◌, Option, Some, None}
+use Rattle.std.specs.List.{cons_option}
+use Rattle.definitions.specs.Actions.{Action, after, answer}
+use Rattle.reply.specs.Measures.{IsMeasured}
+use Rattle.reply.specs.Replies.{Reply}
+use Rattle.reply.specs.declared.measuring.Measured.{Measured}
+use Rattle.sql_query.specs.Queries.{Query}
+use Rattle.sql_query.specs.Worlds.{World}
+use Rattle.statements.specs.Replies.{IsReply}
+use Rattle.statements.specs.Scripts.{Worked}
+
+-- a query, and the world in which it is asked
+pub record Asking : Type 0 where
+  pub world : World
+  pub query : Query
+
+-- what a statement asks: SELECT its query; EXPLAIN and all others nothing
+abbrev pub asked_in : World → Action → Option Asking
+asked_in w (answer q) = Some (record { world = w; query = q })
+asked_in w _ = None
+
+-- the queries that statements ask one after another, each in the world that the ones before it leave
+abbrev pub askings : World → List Worked → List Asking
+askings w [] = []
+askings w (s ∷ ss) = cons_option (asked_in w s.action) (askings (after w s.action) ss)
+
+-- the rows and the least price of a query that is asked were measured, and nothing where none is
+abbrev pub IsMeasuredOf : Option Asking → Option Measured → Type 0
+IsMeasuredOf None None = Unit {0}
+IsMeasuredOf (Some a) (Some m) = IsMeasured a.world a.query m.rows m.cost
+IsMeasuredOf _ _ = ⊥
+
+-- a statement has a reply, and what it asks was measured
+pub record IsTallied (w : World) (action : Action) (m : Option Measured) : Type 0 where
+  pub reply : Reply
+  pub replies : IsReply w action reply
+  pub measured : IsMeasuredOf (asked_in w action) m

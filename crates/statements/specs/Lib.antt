@@ -1,0 +1,7 @@
+pub mod Accepted
+pub mod Replies
+pub mod Scripts
+pub mod Askings
+pub mod Faults
+pub mod Ending
+pub mod Steps

@@ -1,0 +1,33 @@
+-- What an accepted statement prints, and what that costs. Own.
+use Rattle.std.specs.Prelude.{ℕ, ◌≡◌, List, [], length}
+use Rattle.sql_query.specs.Worlds.{World, stored_at}
+use Rattle.index_prices.specs.Replies.{IsReplyTo}
+use Rattle.reply.specs.Effort.{exactly}
+use Rattle.reply.specs.Replies.{Reply, IsAnswerTo, IsExplanationOf}
+use Rattle.store.specs.Kept.{load_looks}
+use Rattle.definitions.specs.Actions.{Action, idle, make, build, size, describe, fill, gather, answer, explain, certify, advise}
+use Rattle.table_reply.specs.Tabled.{IsTableOf}
+
+-- nothing printed and nothing fetched, with so many looks
+abbrev pub silent : ℕ → Reply
+silent looks = record { bytes = []; fetched = exactly 0; looked = looks }
+
+-- these bytes printed, with nothing fetched and nothing looked at
+abbrev pub told : List ℕ → Reply
+told bytes = record { bytes = bytes; fetched = exactly 0; looked = 0 }
+
+-- an accepted statement's reply: SELECT prints the answer by a best plan, its EXPLAIN that plan alone, and its EXPLAIN (TABLE)
+-- that plan with a table of it. ADVISE prints the
+-- advice, with nothing fetched and nothing looked at. The others print nothing: CREATE INDEX and ANALYZE look at each row of their table, and COPY at each new row for each index of the table
+abbrev pub IsReply : World → Action → Reply → Type 0
+IsReply w idle r = r ≡ silent 0
+IsReply w (make name names columns) r = r ≡ silent 0
+IsReply w (build name x) r = r ≡ silent (length (stored_at w x.table).rows)
+IsReply w (size t rows pages) r = r ≡ silent 0
+IsReply w (describe t column s) r = r ≡ silent 0
+IsReply w (fill t s) r = r ≡ silent (load_looks w.contents t (stored_at w t) s)
+IsReply w (gather t) r = r ≡ silent (length (stored_at w t).rows)
+IsReply w (answer q) r = IsAnswerTo w q r
+IsReply w (explain q) r = IsExplanationOf w.contents q r
+IsReply w (certify q) r = IsTableOf w.contents q r
+IsReply w (advise most candidates queries) r = IsReplyTo w.contents candidates queries most r.bytes × (r.fetched ≡ exactly 0) × (r.looked ≡ 0)

@@ -1,0 +1,7 @@
+-- A query with no plan below the limit of costs has no table.
+CREATE TABLE t (a int4);
+CREATE TABLE u (b int4);
+STATISTICS t ROWS 1000000000 PAGES 1000000000;
+STATISTICS u ROWS 1000000000 PAGES 1000000000;
+EXPLAIN (TABLE) SELECT * FROM t;
+EXPLAIN (TABLE) SELECT * FROM t, u WHERE t.a < u.b;

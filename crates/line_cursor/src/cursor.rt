@@ -10,6 +10,7 @@ use pg_value::read_digits;
 use std::marker::Model;
 
 /// A line, read from the left. Contracts see the bytes that are left.
+#[derive(Drop)]
 pub struct LineCursor<'a> {
     left: &'a [u8],
 }

@@ -59,7 +59,7 @@ fn is_ordered(q: &Prepared, e: &Entry, sort: bool) -> bool
 }
 
 /// The entry of a side, where that is a finished plan. None exactly where it is none.
-pub(crate) fn finished_side<'a>(
+pub fn finished_side<'a>(
     cat: &Catalog,
     q: &Prepared,
     t: &'a Certificate,

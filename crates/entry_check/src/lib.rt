@@ -12,8 +12,9 @@ mod numbers;
 mod parts;
 mod scans;
 
-pub use best::judge_table;
+pub use best::{finished_side, judge_table};
 pub use judging::{judge_entries, judge_entry};
 pub use merges::merge_of;
 pub use nests::nest_of;
-pub use numbers::Own;
+pub use numbers::{Own, numbers_of};
+pub use scans::{ByIndex, is_built, key_at, rows_given};

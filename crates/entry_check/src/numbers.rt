@@ -25,7 +25,7 @@ pub struct Own {
 }
 
 /// The numbers of a plan from its cost, cut to at most 10^18, and its rows. None exactly where it is not admissible.
-pub(crate) fn numbers_of(q: &Prepared, cost: Pair, rows: u64) -> Option<Own>
+pub fn numbers_of(q: &Prepared, cost: Pair, rows: u64) -> Option<Own>
     ensures some { IfSome result (λ x. (c : Contents) (p : Plan) → HaveRows c q.now → cost ≡ capped_pair (kept_cost q.now.window (costs.cost c q.now p)) → rows ≡ costs.estimate c q.now p → AreNumbersOf c q.now p x) }
     ensures none { IfNone result ((c : Contents) (p : Plan) → cost ≡ capped_pair (kept_cost q.now.window (costs.cost c q.now p)) → ¬ IsAdmissible c q.now p) }
 {

@@ -37,17 +37,17 @@ use sql_query::Prepared;
 
 /// A scan of a relation by an index.
 #[derive(Clone, Copy)]
-pub(crate) struct ByIndex {
+pub struct ByIndex {
     /// The relation.
-    pub(crate) rel: RelNo,
+    pub rel: RelNo,
     /// The index.
-    pub(crate) index: IndexNo,
+    pub index: IndexNo,
     /// From the last entry to the first.
-    pub(crate) backward: bool,
+    pub backward: bool,
     /// The relations whose rows it is given.
-    pub(crate) param: RelSet,
+    pub param: RelSet,
     /// With the columns taken from the index's entries.
-    pub(crate) only: bool,
+    pub only: bool,
 }
 
 /// The relation of a scan of a set: its first one. None exactly where the query has none of the set.
@@ -75,7 +75,7 @@ fn is_alone(set: RelSet, r: RelNo) -> bool
 }
 
 /// The rows of a scan of a relation where the rows of `p` are given.
-fn rows_given(cat: &Catalog, q: &Prepared, r: RelNo, p: RelSet) -> u64
+pub fn rows_given(cat: &Catalog, q: &Prepared, r: RelNo, p: RelSet) -> u64
     requires query { IsOverTables cat.now q.now }
     requires relation { r.0 < width q.now }
     ensures rows { result ≡ costs.rows_given cat.now q.now (one r.0) (plans.scan_given r p) }
@@ -87,8 +87,8 @@ fn rows_given(cat: &Catalog, q: &Prepared, r: RelNo, p: RelSet) -> u64
     }
 }
 
-/// The class at place `n`, from 0, of the keys of a scan by an index.
-fn key_at(cat: &Catalog, q: &Prepared, s: ByIndex, n: usize) -> Option<ClassNo>
+/// The class at place `n`, from 0, of the keys of a scan by an index. None exactly where they are not so many.
+pub fn key_at(cat: &Catalog, q: &Prepared, s: ByIndex, n: usize) -> Option<ClassNo>
     requires index { IsIndex cat.now s.index }
     requires few { n ≤ MOST_COLUMNS }
     ensures class { option_map (λ c. c.0) result ≡ slice_get (keys.scan_keys cat.now q.now s.rel s.index s.backward s.param) n }
@@ -139,7 +139,7 @@ fn keys_are(cat: &Catalog, q: &Prepared, s: ByIndex, list: &[ClassNo]) -> bool
 }
 
 /// Whether the plan space has a scan by an index. The numbers may be any.
-fn is_built(cat: &Catalog, q: &Prepared, s: ByIndex) -> bool
+pub fn is_built(cat: &Catalog, q: &Prepared, s: ByIndex) -> bool
     requires query { IsOverTables cat.now q.now }
     ensures { IsTrue result ↔ IsBuilt cat.now q.now (tree_of s) }
 {

@@ -1,0 +1,6 @@
+//! Laws of the atoms of OR clauses. No code that runs.
+#![tactic(auto)]
+
+mod laws;
+
+pub use laws::{arms_fit, few_atoms};

@@ -1,0 +1,13 @@
+use Rattle.std.proofs.Common.{arith}
+use Rattle.certificates.specs.Views.{certificate}
+use Rattle.scan_cover.proofs.WalkLemmas.{below-next}
+use Rattle.bitmap_cover.specs.Trees.{AreBitmapsServed}
+use Rattle.bitmap_cover.proofs.ServedLemmas.{relation-bitmaps}
+use Rattle.bitmap_cover.proofs.relations.open_relation.Goals as goal
+
+pub loop-bits-preserved : goal.loop-bits-preserved
+loop-bits-preserved c =
+    below-next (λ m. AreBitmapsServed c.args.cat.now c.args.q.now c.args.rel (record { 0 = m }) (certificate c.args.t.now)) c.loop-bits.bits c.loop-bits.invariant c.in_default.ensures
+
+pub returns : goal.returns
+returns c = relation-bitmaps c.args.cat.now c.args.q.now (certificate c.args.t.now) c.requires.query c.args.all c.requires.all c.args.rel c.loop-bits.bits (omega arith) c.loop-bits.invariant

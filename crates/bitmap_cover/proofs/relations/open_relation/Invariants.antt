@@ -1,0 +1,7 @@
+use Rattle.std.proofs.Common.{◌<◌, ℕ}
+use Rattle.certificates.specs.Views.{certificate}
+use Rattle.bitmap_cover.specs.Trees.{AreBitmapsServed}
+use Rattle.bitmap_cover.proofs.relations.open_relation.Given as goal
+
+abbrev pub invariant-loop-bits : goal.invariant-loop-bits
+invariant-loop-bits l = (m : ℕ) → m < l.bits → AreBitmapsServed l.cat l.q l.rel (record { 0 = m }) (certificate l.t)

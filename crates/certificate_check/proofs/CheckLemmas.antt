@@ -1,0 +1,64 @@
+-- What a certificate is that nothing was found against.
+use Rattle.std.proofs.Common.{◌≡◌, ◌≤◌, true, false, refl, sym, subst, ◌∙◌, inl, inr}
+use Rattle.std.specs.Prelude.{MatchOption, Option, Some, None}
+use Rattle.catalog.specs.Contents.{Contents}
+use Rattle.sql_query.specs.Queries.{Query}
+use Rattle.join_laws.specs.Closed.{is_scan}
+use Rattle.plan_tree.specs.Costs.{HaveRows, price}
+use Rattle.plan_tree.specs.Least.{IsAdmissible}
+use Rattle.plan_tree.specs.Plans.{Plan, seq, index, index_only, bitmap, sort, nest, merge, is_sort}
+use Rattle.plan_tree.specs.Space.{IsBuilt, IsFinished}
+use Rattle.certificates.specs.Certificates.{Certificate, finish_at}
+use Rattle.certificates.specs.Tables.{IsDominated, IsLeastAmong, IsOver, IsTable}
+use Rattle.certificate_laws.proofs.TableLemmas.{best-least, dominated}
+use Rattle.plan_check.specs.Reasons.{AreCovered, AreUndominated, HasBest}
+use Rattle.plan_check.specs.Verdicts.{AreWhole, IsVerdict}
+use Rattle.plan_check.specs.declared.verdict.Plain.{Plain}
+use Rattle.plan_check.specs.declared.verdict.Verdict.{Verdict}
+use Rattle.plan_check.specs.declared.verdict.Verdict.TheVariants as verdicts
+use Rattle.plan_check.proofs.ReasonLemmas.{table-from}
+use Rattle.bitmap_cover.specs.Trees.{AreAllBitmapsServed}
+use Rattle.join_cover.specs.Serving.{AreJoinsServed, IsOpen, IsServed}
+use Rattle.join_cover.specs.declared.uncovered.Uncovered.{Uncovered}
+use Rattle.scan_cover.specs.Scanning.{ArePlainScansServed}
+
+module _ (c : Contents) (q : Query) (t : Certificate) where
+  scans-served : ArePlainScansServed c q t → AreAllBitmapsServed c q t → (p : Plan) → is_scan p ≡ true → IsServed c q t p
+  scans-served plain bitmaps (seq r) e = plain (seq r) refl refl
+  scans-served plain bitmaps (index r i backward p) e = plain (index r i backward p) refl refl
+  scans-served plain bitmaps (index_only r i backward p) e = plain (index_only r i backward p) refl refl
+  scans-served plain bitmaps (bitmap r p bits) e = bitmaps r p bits
+  scans-served plain bitmaps (sort ks input) e = plain (sort ks input) e refl
+  scans-served plain bitmaps (nest o i) e = plain (nest o i) e refl
+  scans-served plain bitmaps (merge ks o i) e = plain (merge ks o i) e refl
+
+  all-covered : ArePlainScansServed c q t → AreAllBitmapsServed c q t → AreJoinsServed c q t → AreCovered c q t
+  all-covered plain bitmaps joins p k = elim k.made [
+    | inl scan ↦ scans-served plain bitmaps p scan k.built k.admissible
+    | inr sides ↦ joins p sides k.built k.admissible
+  ]
+
+  -- scans, those by a bitmap, and joins are all candidates
+  pub covered : ArePlainScansServed c q t → AreAllBitmapsServed c q t → (r : Option (Plain × Uncovered)) → MatchOption r (AreJoinsServed c q t) (λ x. IsOpen c q t x.0 x.1) → MatchOption r (AreCovered c q t) (λ x. IsOpen c q t x.0 x.1)
+  covered plain bitmaps None joins = all-covered plain bitmaps joins
+  covered plain bitmaps (Some x) h = h
+
+  -- where the best plan is the least, the certificate is a table
+  pub valid : AreWhole c q t → AreUndominated c q t → AreCovered c q t → ((best : HasBest c q t) → IsLeastAmong c q (IsOver c q t) best.plan) → IsTable c q t
+  valid whole apart covers least = table-from c q t whole.best whole.right apart covers (least whole.best)
+
+  -- what a verdict says where it is that
+  table-of : (v : Verdict) → v ≡ verdicts.Valid → IsVerdict c q t v → IsTable c q t
+  table-of v e h = subst (IsVerdict c q t) e h
+
+  pub valid-dominated : HaveRows c q → (v : Verdict) → IsVerdict c q t v → v ≡ verdicts.Valid → (p : Plan) → IsBuilt c q p → is_sort p ≡ false → IsAdmissible c q p → IsDominated c q t p
+  valid-dominated some v h e = dominated c q t (table-of v e h) some
+
+  pub valid-best : HaveRows c q → (v : Verdict) → IsVerdict c q t v → v ≡ verdicts.Valid → (best : Plan) → finish_at q t t.best ≡ Some best →
+      IsFinished c q best × ((p : Plan) → IsFinished c q p → IsAdmissible c q p → IsAdmissible c q best × (price c q best ≤ price c q p))
+  valid-best some v h e best is =
+      let table = table-of v e h in
+      (subst (IsFinished c q) (some-same table.best.plan best (sym table.best.is ∙ is)) table.best.finished, best-least c q t table some best is)
+    where
+      some-same : (x y : Plan) → Some x ≡ Some y → x ≡ y
+      some-same x y e = cc

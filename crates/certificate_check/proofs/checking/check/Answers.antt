@@ -1,0 +1,10 @@
+use Rattle.plan_tree.proofs.BoundLemmas.{lawful-rows}
+use Rattle.certificates.specs.Views.{certificate}
+use Rattle.certificate_check.proofs.CheckLemmas.{valid-best, valid-dominated}
+use Rattle.certificate_check.proofs.checking.check.Goals as goal
+
+pub returns-in-None-clause-dominated : goal.returns-in-None-clause-dominated
+returns-in-None-clause-dominated c = valid-dominated c.args.cat.now c.args.q.now (certificate c.args.t.now) (lawful-rows c.args.cat.now c.args.q.now c.lawful.ensures) c.judge_whole.result c.judge_whole.ensures
+
+pub returns-in-None-clause-best : goal.returns-in-None-clause-best
+returns-in-None-clause-best c = valid-best c.args.cat.now c.args.q.now (certificate c.args.t.now) (lawful-rows c.args.cat.now c.args.q.now c.lawful.ensures) c.judge_whole.result c.judge_whole.ensures

@@ -1,0 +1,67 @@
+//! Certificates checked.
+
+ghost use Rattle.std.specs.Prelude.{◌≡◌, ◌≤◌, ℕ, Some, false, slice_get, suc};
+ghost use Rattle.pg_base.specs.Sets.{has};
+ghost use Rattle.plan_tree.specs.Costs.{price};
+ghost use Rattle.plan_tree.specs.Least.{IsAdmissible};
+ghost use Rattle.plan_tree.specs.Plans.{Plan, is_sort};
+ghost use Rattle.plan_tree.specs.Reads.{IsOverTables};
+ghost use Rattle.plan_tree.specs.Space.{IsBuilt, IsFinished};
+ghost use Rattle.atom_laws.specs.Limits.{HasFewAtoms};
+ghost use Rattle.certificates.specs.Certificates.{finish_at};
+ghost use Rattle.certificates.specs.Tables.{IsDominated};
+ghost use Rattle.certificates.specs.Views.{certificate};
+ghost use Rattle.plan_check.specs.Reasons.{AreUndominated};
+ghost use Rattle.plan_check.specs.Verdicts.{AreWhole, IsVerdict};
+ghost use Rattle.plan_check.specs.declared.verdict.Verdict.TheVariants as verdicts;
+
+use crate::cover::open_candidate;
+use best_check::judge_best;
+use catalog::Catalog;
+use certificates::Certificate;
+use entry_check::judge_table;
+use plan_check::{Reason, Verdict};
+use sql_query::Prepared;
+
+/// What is said of a certificate whose entries are right, whose best plan is finished, and of which no entry dominates
+/// another.
+fn judge_whole(cat: &Catalog, q: &Prepared, t: &Certificate) -> Verdict
+    requires query { IsOverTables cat.now q.now }
+    requires atoms { HasFewAtoms q.now }
+    requires whole { AreWhole cat.now q.now (certificate t.now) }
+    requires undominated { AreUndominated cat.now q.now (certificate t.now) }
+    ensures { IsVerdict cat.now q.now (certificate t.now) result }
+{
+    if let Some((node, x)) = open_candidate(cat, q, t) {
+        return Verdict::No(Reason::Uncovered {
+            node,
+            startup: x.startup,
+            cost: x.cost,
+            rows: x.rows,
+        });
+    }
+    match judge_best(cat, q, t) {
+        Some((printed, own)) => Verdict::No(Reason::NotBest { printed, own }),
+        None => Verdict::Valid,
+    }
+}
+
+/// Checks a certificate, whoever made it: it is valid exactly where it is a table of the query; else the answer is the first
+/// reason for which it is none. In order: the first entry that is none of the plan space or not as it says, or the first
+/// number of it that is not its own; a best plan that is not finished; the first entry that another dominates, and the
+/// first that does; a plan that an entry must dominate and none does; a best plan that is not the least. Where it is valid,
+/// each admissible plan of the plan space that is no sort is dominated by an entry; where some finished plan is admissible
+/// the best plan is, and is of no greater price; where the best plan is not admissible, none is. It takes no memory.
+pub fn check(cat: &Catalog, q: &Prepared, t: &Certificate) -> Verdict
+    requires query { IsOverTables cat.now q.now }
+    requires atoms { HasFewAtoms q.now }
+    ensures verdict { IsVerdict cat.now q.now (certificate t.now) result }
+    ensures dominated { result ≡ verdicts.Valid → (p : Plan) → IsBuilt cat.now q.now p → is_sort p ≡ false → IsAdmissible cat.now q.now p → IsDominated cat.now q.now (certificate t.now) p }
+    ensures best { result ≡ verdicts.Valid → (best : Plan) → finish_at q.now (certificate t.now) (certificate t.now).best ≡ Some best → IsFinished cat.now q.now best × ((p : Plan) → IsFinished cat.now q.now p → IsAdmissible cat.now q.now p → IsAdmissible cat.now q.now best × (price cat.now q.now best ≤ price cat.now q.now p)) }
+{
+    cat.lawful();
+    match judge_table(cat, q, t) {
+        Some(reason) => Verdict::No(reason),
+        None => judge_whole(cat, q, t),
+    }
+}

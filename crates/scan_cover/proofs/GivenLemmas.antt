@@ -1,0 +1,69 @@
+-- The relations whose rows a scan is given are relations of the query.
+use Rattle.std.proofs.Common.{◌≡◌, ◌<◌, ◌≤◌, ◌+◌, ℕ, Bool, true, false, not, cond, ◌&&◌, bit_and, nat_eq, nat_lt, List, [], ◌∷◌, refl, sym, ◌∙◌, ap, subst, ⊎_elim}
+use Rattle.std.specs.Prelude.{All}
+use Rattle.std.specs.List.{list_any}
+use Rattle.std.proofs.lemmas.Bool.{and_parts, eqb-true, lt-ltb, ltb-true, or_cases, true≢false}
+use Rattle.std.proofs.lemmas.List.Elements.{All-head, All-tail}
+use Rattle.std.proofs.lemmas.Nat.{and_le_r}
+use Rattle.pg_base.specs.Sets.{has}
+use Rattle.pg_base.proofs.SetLaws.{has-and, same_set}
+use Rattle.pg_base.specs.declared.numbers.IndexNo.{IndexNo}
+use Rattle.pg_base.specs.declared.numbers.RelNo.{RelNo}
+use Rattle.pg_base.specs.declared.rel_set.RelSet.{RelSet}
+use Rattle.pg_expr.specs.Columns.{names_rel}
+use Rattle.pg_expr.specs.Cond.{Cond}
+use Rattle.catalog.specs.Contents.{Contents}
+use Rattle.eq_classes.specs.Clauses.{Clause}
+use Rattle.eq_classes.proofs.InsideLemmas.{column_both}
+use Rattle.index_match.specs.Conditions.{index_conditions}
+use Rattle.index_match.specs.Numbered.{has_number}
+use Rattle.path_cost.specs.Columns.{IsOver, is_column_in}
+use Rattle.path_cost.specs.Estimates.{conditions_from}
+use Rattle.sql_query.specs.Queries.{Query, all_of_query, width}
+use Rattle.plan_tree.specs.Bitmaps.{uses}
+use Rattle.plan_tree.specs.Plans.{BitTree}
+use Rattle.plan_tree.specs.Reads.{IsOverTables}
+use Rattle.plan_tree.specs.Space.{IsBitmapScan, IsIndexScan, IsSameSet, others_named}
+use Rattle.plan_tree.proofs.ConditionLemmas.{conditions-listed}
+
+-- the conditions of clauses over some relations name no others
+below : (c : Contents) (q : Query) (k : ℕ) (chosen : ℕ → Bool) (n : ℕ) (ks : List Clause) → All (λ (x : Clause). IsOver c q.range x.cond) ks → list_any (names_rel k) (conditions_from n chosen ks) ≡ true → k < width q
+below c q k chosen n [] over h = absurd (true≢false (sym h))
+below c q k chosen n (x ∷ ks) over h = by (below c q k chosen (n + 1) ks (All-tail (λ (y : Clause). IsOver c q.range y.cond) x ks over)) (chosen n) h
+  where
+    here : names_rel k x.cond ≡ true → k < width q
+    here g =
+        let first = All-head (λ (y : Clause). IsOver c q.range y.cond) x ks over in
+        let found = column_both (is_column_in c q.range) (λ y. nat_eq k y.rel.0) x.cond first.columns g in
+        let lt : (found.0).rel.0 < width q = ltb-true (found.0).rel.0 (width q) (and_parts (nat_lt (found.0).rel.0 (width q)) _ found.1).0 in
+        subst (λ m. m < width q) (sym (eqb-true k (found.0).rel.0 found.2)) lt
+
+    by : (list_any (names_rel k) (conditions_from (n + 1) chosen ks) ≡ true → k < width q) → (b : Bool) → list_any (names_rel k) (cond b (x.cond ∷ conditions_from (n + 1) chosen ks) (conditions_from (n + 1) chosen ks)) ≡ true → k < width q
+    by later true g = ⊎_elim here later (or_cases (names_rel k x.cond) (list_any (names_rel k) (conditions_from (n + 1) chosen ks)) g)
+    by later false g = later g
+
+and-within : (a b : Bool) → (a ≡ true → b ≡ true) → a && b ≡ a
+and-within true b h = h refl
+and-within false b h = refl
+
+-- the number of a set is no greater than that of one that it is within
+within-most : (a b : ℕ) → ((k : ℕ) → has a k ≡ true → has b k ≡ true) → a ≤ b
+within-most a b h =
+    let same : bit_and a b ≡ a = same_set (bit_and a b) a (λ k. has-and a b k ∙ and-within (has a k) (has b k) (h k)) in
+    subst (λ n. n ≤ b) same (and_le_r a b)
+
+module _ (c : Contents) (q : Query) (over : IsOverTables c q) (all : RelSet) (is_all : IsSameSet (has all.0) (all_of_query q)) where
+  named-below : (r : ℕ) (chosen : ℕ → Bool) (k : ℕ) → others_named r (conditions_from 0 chosen q.classes.clauses) k ≡ true → k < width q
+  named-below r chosen k h = below c q k chosen 0 q.classes.clauses over.clauses (and_parts (not (nat_eq k r)) (list_any (names_rel k) (conditions_from 0 chosen q.classes.clauses)) h).1
+
+  most : (p : RelSet) → ((k : ℕ) → has p.0 k ≡ true → k < width q) → p.0 ≤ all.0
+  most p h = within-most p.0 all.0 (λ k is. is_all k ∙ lt-ltb k (width q) (h k is))
+
+  -- so the number of their set is no greater than that of all
+  pub index-most : (r : RelNo) (i : IndexNo) (backward : Bool) (p : RelSet) → IsIndexScan c q r i backward p → p.0 ≤ all.0
+  index-most r i backward p scan = most p (λ k is.
+      named-below r.0 (has_number (index_conditions c q.classes i r.0 (has p.0))) k
+      (sym (ap (λ (es : List Cond). others_named r.0 es k) (conditions-listed c q.classes i r.0 (has p.0))) ∙ sym (scan.named k) ∙ is))
+
+  pub bitmap-most : (r : RelNo) (p : RelSet) (bits : BitTree) → IsBitmapScan c q r p bits → p.0 ≤ all.0
+  bitmap-most r p bits scan = most p (λ k is. named-below r.0 (uses c q r.0 (has p.0) bits) k (sym (scan.named k) ∙ is))

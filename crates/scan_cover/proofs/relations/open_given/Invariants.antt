@@ -1,0 +1,8 @@
+use Rattle.std.proofs.Common.{take}
+use Rattle.std.specs.Prelude.{All}
+use Rattle.certificates.specs.Views.{certificate}
+use Rattle.scan_cover.specs.Scanning.{IsIndexServed}
+use Rattle.scan_cover.proofs.relations.open_given.Given as goal
+
+abbrev pub invariant-loop-i : goal.invariant-loop-i
+invariant-loop-i l = All (IsIndexServed l.cat l.q (certificate l.t) l.r l.p) (take l.i-index l.indexes)

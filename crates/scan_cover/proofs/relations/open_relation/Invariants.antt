@@ -1,0 +1,8 @@
+use Rattle.std.proofs.Common.{◌<◌, ℕ}
+use Rattle.pg_base.specs.declared.numbers.IndexNo.{IndexNo}
+use Rattle.certificates.specs.Views.{certificate}
+use Rattle.scan_cover.specs.Scanning.{IsIndexServed}
+use Rattle.scan_cover.proofs.relations.open_relation.Given as goal
+
+abbrev pub invariant-loop-bits : goal.invariant-loop-bits
+invariant-loop-bits l = (m : ℕ) → m < l.bits → (i : IndexNo) → IsIndexServed l.cat l.q (certificate l.t) l.r (record { 0 = m }) i

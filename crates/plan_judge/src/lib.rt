@@ -1,0 +1,12 @@
+//! What is wrong with a plan that is written down with the numbers of its nodes (own).
+#![tactic(auto)]
+
+mod judged;
+mod lines;
+mod numbers;
+mod outside;
+mod own;
+
+pub use judged::{Judged, judge};
+pub use lines::{count_lines, count_nodes};
+pub use numbers::{Numbers, Written};

@@ -1,0 +1,18 @@
+-- The parts of a block of lines. Own.
+use Rattle.std.specs.Prelude.{◌≡◌, ◌≢◌, ◌<◌, ◌*◌, ◌+◌, ℕ, Bool, not, ◌==◌, List, [], ◌∷◌, ◌++◌, codes, get_or}
+use Rattle.std.specs.Fmt.{decimal}
+use Rattle.std.specs.List.{list_all}
+
+-- a byte does not stand in a text
+abbrev pub lacks : ℕ → List ℕ → Bool
+lacks b text = list_all (λ x. not (x == b)) text
+
+-- no line of a depth above d begins a text: a byte stands where the spaces of each such line do, and is none
+pub record IsShallow (d : ℕ) (x : List ℕ) : Type 0 where
+  pub place : ℕ
+  pub before : place < 6 * d + 2
+  pub byte : get_or x place 0 ≢ 32
+
+-- a cost and rows, behind a parenthesis, without the end of the line
+abbrev pub figures_behind : ℕ → ℕ → List ℕ
+figures_behind cost rows = codes "cost=" ++ (decimal cost ++ (codes " rows=" ++ (decimal rows ++ codes ")")))

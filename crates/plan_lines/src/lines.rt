@@ -1,0 +1,93 @@
+//! The lines of a block.
+
+ghost use Rattle.std.specs.Prelude.{◌≡◌, ◌<◌, ◌≤◌, ◌+◌, ◌++◌, ◌∷◌, ℕ, List, IfNone, IfSome, None, Some, length, option_map, replicate, take, true};
+ghost use Rattle.explain.specs.Texts.{lead};
+ghost use Rattle.plan_lines.specs.Parts.{IsShallow, lacks};
+
+use std::marker::Model;
+
+/// Where a byte stands first in a text; the text's length where it stands nowhere.
+fn find(text: &[u8], b: u8) -> usize
+    ensures within { result ≤ length text.now }
+    ensures only { (t rest : List ℕ) → lacks b t ≡ true → text.now ≡ t ++ (b ∷ rest) → result ≡ length t }
+{
+    for n in 0..text.len() {
+        if text[n] == b {
+            return n;
+        }
+    }
+    text.len()
+}
+
+/// The parts of a text before the first of a byte and behind it. None where it stands nowhere.
+pub fn cut(text: &[u8], b: u8) -> Option<(&[u8], &[u8])>
+    ensures only { (t rest : List ℕ) → lacks b t ≡ true → text.now ≡ t ++ (b ∷ rest) → option_map {U = List ℕ × List ℕ} (λ p. (p.0.now, p.1.now)) result ≡ Some (t, rest) }
+    ensures less { IfSome result (λ p. length p.1.now < length text.now) }
+{
+    let end = find(text, b);
+    if end < text.len() {
+        Some((&text[..end], &text[end + 1..]))
+    } else {
+        None
+    }
+}
+
+/// Whether a text begins with so many spaces.
+fn has_spaces(text: &[u8], count: usize) -> bool
+    ensures yes { result ≡ true → (count ≤ length text.now) × (take count text.now ≡ replicate count 32) }
+    ensures no { (x : List ℕ) → text.now ≡ replicate count 32 ++ x → result ≡ true }
+{
+    text.len() >= count && text[..count].iter().all(|b| *b == b' ')
+}
+
+/// What stands behind the lead of a line at a depth. None where it has no such lead.
+fn behind_lead(text: &[u8], depth: u8) -> Option<&[u8]>
+    ensures some { (x : List ℕ) → text.now ≡ lead depth ++ x → option_map (λ l. l.now) result ≡ Some x }
+    ensures is { IfSome result (λ l. text.now ≡ lead depth ++ l.now) }
+{
+    if depth == 0 {
+        return Some(text);
+    }
+    let spaces = 6 * depth as usize - 4;
+    if !has_spaces(text, spaces) {
+        return None;
+    }
+    text[spaces..].strip_prefix(b"->  ")
+}
+
+/// The lines of a block that are left. Contracts see their bytes.
+#[derive(Drop)]
+pub struct Lines<'a> {
+    left: &'a [u8],
+}
+
+impl<'a> Model for Lines<'a> {
+    ghost use Rattle.std.specs.Prelude.{List, ℕ};
+
+    ghost Value = { List ℕ };
+
+    ghost view = { λ l. l.left.now };
+}
+
+impl<'a> Lines<'a> {
+    /// All lines of a block.
+    pub fn new(block: &'a [u8]) -> Lines<'a>
+        ensures { result ≡ block.now }
+    {
+        Lines { left: block }
+    }
+
+    /// The next line, without its lead and its end, where it stands at a depth; it is passed over. None where none does, and
+    /// nothing is passed over.
+    pub fn next_at(&mut self, depth: u8) -> Option<&'a [u8]>
+        ensures only { (t rest : List ℕ) → lacks 10 t ≡ true → self.old ≡ lead depth ++ (t ++ (10 ∷ rest)) → (option_map (λ l. l.now) result ≡ Some t) × (self.new ≡ rest) }
+        ensures shallow { (d : ℕ) → depth ≡ d + 1 → IsShallow d self.old → result ≡ None }
+        ensures left { IfNone result (self.new ≡ self.old) }
+        ensures less { IfSome result (λ l. length self.new < length self.old) }
+    {
+        let text = behind_lead(self.left, depth)?;
+        let (line, rest) = cut(text, b'\n')?;
+        self.left = rest;
+        Some(line)
+    }
+}

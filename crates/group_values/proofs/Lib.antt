@@ -1,0 +1,5 @@
+pub mod GroupLemmas
+pub mod LeastLemmas
+pub mod CallLemmas
+pub mod SumLemmas
+pub mod OrderLemmas

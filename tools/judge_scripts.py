@@ -4,9 +4,10 @@
 usage: judge_scripts.py [--stage STAGE] JUDGE PROGRAM [COUNT [SEED [RELATIONS]]]
 
 COUNT right scripts and COUNT broken ones are made (500 each where it is not given). Queries have up to four relations, or with
-RELATIONS exactly so many, and are only explained then. STAGE tells which statements the judge knows (10+15+17+18+limits where it is
-not given: joins, LIMIT and OFFSET, ANALYZE, ADVISE, up to ten relations and 32 columns); without its 17 there is no ANALYZE in right
-scripts, without its 15 no LIMIT, and without its 18 no ADVISE in any. JUDGE is a program called as `JUDGE judge --stage STAGE --allow '' SCRIPT OUT ERRORS STATUS` that exits with 0
+RELATIONS exactly so many, and are only explained then. STAGE tells which statements the judge knows
+(10+11+15+16+17+18+limits where it is not given: joins, certificates, LIMIT and OFFSET, ANALYZE, ADVISE, up to ten relations and 32
+columns); without its 17 there is no ANALYZE in right scripts, without its 15 no LIMIT, without its 18 no ADVISE, and without its 11 and
+16 no EXPLAIN (TABLE). JUDGE is a program called as `JUDGE judge --stage STAGE --allow '' SCRIPT OUT ERRORS STATUS` that exits with 0
 where the answer is allowed. A right script has to end with status 0, or with 54001 where no plan is below the limit of costs.
 """
 import argparse
@@ -36,6 +37,8 @@ def queried(rng, tables, asked):
         words = words if words[0].lower() == "explain" else ["EXPLAIN", *words]
     else:
         words = joined_select(rng, tables) if rng.random() < 0.6 else select(rng, rng.choice(tables))
+    if asked.tables and words[0].lower() == "explain" and rng.random() < 0.4:
+        words = [words[0], "(", rng.choice(["TABLE", "table"]), ")", *words[1:]]
     return [*words, *window(rng)] if asked.windows and rng.random() < 0.4 else words
 
 
@@ -46,7 +49,7 @@ def knows(stage, number):
 
 
 # Which statements right scripts have beside those that each judge knows, and how many relations a query has, 0 for up to four.
-Asked = collections.namedtuple("Asked", "analyzes windows advises relations")
+Asked = collections.namedtuple("Asked", "analyzes windows advises tables relations")
 
 
 def advised(rng, tables, names, asked):
@@ -212,7 +215,8 @@ def broken_order(rng, table):
         f"SELECT * FROM {table.name} ORDER BY {name} NULLS;", f"SELECT * FROM {table.name} ORDER BY {name} NULLS FIRST DESC;",
         f"SELECT * FROM {table.name} ORDER BY {name},;", f"SELECT * FROM {table.name} ORDER BY {name} WHERE {name} IS NULL;",
         f"EXPLAIN SELECT * FROM {table.name} ORDER BY missing;", f"EXPLAIN SELECT * FROM {table.name} WHERE {' OR '.join([name + ' IS NULL'] * 257)};",
-        f"EXPLAIN COPY {table.name} FROM STDIN;", "EXPLAIN;", f"EXPLAIN EXPLAIN SELECT * FROM {table.name};", f"EXPLAIN (TABLE) SELECT * FROM {table.name};",
+        f"EXPLAIN COPY {table.name} FROM STDIN;", "EXPLAIN;", f"EXPLAIN EXPLAIN SELECT * FROM {table.name};", f"EXPLAIN (TABLE) EXPLAIN SELECT * FROM {table.name};",
+        f"EXPLAIN (TABLE) SELECT missing FROM {table.name};", "EXPLAIN (TABLE);", f"EXPLAIN (ANALYZE) SELECT * FROM {table.name};",
         f"EXPLAIN SELECT * FROM {table.name} LIMIT 1;", f"SELECT * FROM {table.name} GROUP BY {name};", f"EXPLAIN CREATE INDEX fresh ON {table.name} ({name});",
         f"SELECT * FROM {table.name} ORDER BY {table.name}.*;", f"SELECT {name} FROM {table.name} u ORDER BY {table.name}.{name};"])
 
@@ -338,14 +342,14 @@ def broken_script(rng, asked):
 
 def main():
     words = argparse.ArgumentParser()
-    words.add_argument("--stage", default="10+15+17+18+limits")
+    words.add_argument("--stage", default="10+11+15+16+17+18+limits")
     words.add_argument("judge")
     words.add_argument("program")
     words.add_argument("numbers", nargs="*", type=int)
     said = words.parse_args()
     judge, program, stage = said.judge, said.program, said.stage
     count, seed, relations = [*said.numbers, *[500, 1, 0][len(said.numbers):]]
-    asked = Asked(knows(stage, 17), knows(stage, 15), knows(stage, 18), relations)
+    asked = Asked(knows(stage, 17), knows(stage, 15), knows(stage, 18), knows(stage, 11) and knows(stage, 16), relations)
     rng = random.Random(seed)
     failed, statuses = 0, collections.Counter()
     with tempfile.TemporaryDirectory() as folder:

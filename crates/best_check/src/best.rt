@@ -15,9 +15,9 @@ ghost use Rattle.plan_prices.specs.declared.prices.Price.{Price as Priced};
 use crate::sides::price_of_side;
 use catalog::Catalog;
 use certificates::{Certificate, Side};
+use entry_check::all_relations;
 use join_work::set_rows;
 use plan_prices::{Price, better, is_no_worse};
-use scan_cover::all_relations;
 use sql_query::Prepared;
 
 /// The better one of a price and that of a side, where this is a finished plan.

@@ -13,6 +13,7 @@ ghost use Rattle.bitmap_scan.specs.ElementTrees.{IsMade};
 ghost use Rattle.certificates.specs.Certificates as forms;
 ghost use Rattle.certificates.specs.Views.{certificate};
 ghost use Rattle.plan_check.specs.Plains.{StandsForPlan, arms_in};
+ghost use Rattle.plan_check.specs.Placing.{ArePlaced};
 ghost use Rattle.plan_check.specs.Reasons.{AllRight};
 ghost use Rattle.plan_check.specs.declared.verdict.Plain.{Plain as Node};
 ghost use Rattle.join_cover.specs.Serving.{IsOpen};
@@ -25,12 +26,11 @@ use crate::filling::Arms;
 use crate::kept::Kept;
 use crate::marks::{parts_of, used_by};
 use catalog::Catalog;
-use certificates::Certificate;
 use entry_check::{numbers_of, rows_given};
 use join_cover::Uncovered;
 use path_cost::bitmap;
 use pg_base::{RelNo, RelSet};
-use plan_check::Plain;
+use plan_check::{Judged, Plain};
 use plan_tree::{Element, classes_of, kept_of, names_exactly, or_arms, range_of};
 use scan_cover::open_with;
 use sql_query::Prepared;
@@ -46,36 +46,30 @@ pub(crate) struct Given {
 
 /// The numbers of the scan over the elements that a number marks, each in a tree of least part, where it is an admissible
 /// one of the plan space that no entry dominates.
-fn open_mask(
-    cat: &Catalog,
-    q: &Prepared,
-    t: &Certificate,
-    at: Given,
-    kept: &[Kept],
-    mask: usize,
-) -> Option<Uncovered>
-    requires query { IsOverTables cat.now q.now }
-    requires right { AllRight cat.now q.now (certificate t.now) }
-    requires relation { at.rel.0 < width q.now }
+fn open_mask(j: &Judged, at: Given, kept: &[Kept], mask: usize) -> Option<Uncovered>
+    requires query { IsOverTables j.now.cat.now j.now.q.now }
+    requires right { AllRight j.now.cat.now j.now.q.now (certificate j.now.t.now) }
+    requires placed { ArePlaced (certificate j.now.t.now).entries j.now.places.now }
+    requires relation { at.rel.0 < width j.now.q.now }
     requires few { length kept.now ≤ 8 }
-    requires first { AreFirst cat.now q.now at.rel at.param kept.now }
-    ensures none { IfNone result (IsMarkServed cat.now q.now at.rel at.param (certificate t.now) kept.now mask) }
-    ensures some { IfSome result (λ x. (bs : List BitTree) (node : Node) → AllZip (IsKept cat.now q.now at.rel at.param) (marked mask kept.now) bs → StandsForPlan cat.now q.now (certificate t.now) node (bitmap_of at.rel at.param (combined bs)) → IsOpen cat.now q.now (certificate t.now) node x) }
+    requires first { AreFirst j.now.cat.now j.now.q.now at.rel at.param kept.now }
+    ensures none { IfNone result (IsMarkServed j.now.cat.now j.now.q.now at.rel at.param (certificate j.now.t.now) kept.now mask) }
+    ensures some { IfSome result (λ x. (bs : List BitTree) (node : Node) → AllZip (IsKept j.now.cat.now j.now.q.now at.rel at.param) (marked mask kept.now) bs → StandsForPlan j.now.cat.now j.now.q.now (certificate j.now.t.now) node (bitmap_of at.rel at.param (combined bs)) → IsOpen j.now.cat.now j.now.q.now (certificate j.now.t.now) node x) }
 {
-    cat.lawful();
+    j.cat.lawful();
     let parts = parts_of(kept, mask);
     if parts.1 == 0 {
         return None;
     }
-    let used = used_by(q, kept, mask);
-    if !names_exactly(cat, q, at.rel, at.param, &used) {
+    let used = used_by(j.q, kept, mask);
+    if !names_exactly(j.cat, j.q, at.rel, at.param, &used) {
         return None;
     }
-    let (range, classes) = (range_of(q), classes_of(q));
-    let cost = bitmap(cat, range, classes, at.rel, at.param, &used, parts.0);
-    let rows = rows_given(cat, q, at.rel, at.param);
-    match numbers_of(q, kept_of(q, cost), rows) {
-        Some(own) => open_with(q, t, RelSet::one(at.rel), at.param, &[], own),
+    let (range, classes) = (range_of(j.q), classes_of(j.q));
+    let cost = bitmap(j.cat, range, classes, at.rel, at.param, &used, parts.0);
+    let rows = rows_given(j.cat, j.q, at.rel, at.param);
+    match numbers_of(j.q, kept_of(j.q, cost), rows) {
+        Some(own) => open_with(j, RelSet::one(at.rel), at.param, &[], own),
         None => None,
     }
 }
@@ -169,25 +163,20 @@ fn sets_of(n: usize) -> usize
 
 /// A scan over some of the elements that is an admissible one of the plan space and that no entry dominates, and its
 /// numbers. None exactly where each such one, whatever indexes its arms have, is dominated.
-pub(crate) fn open_marks(
-    cat: &Catalog,
-    q: &Prepared,
-    t: &Certificate,
-    at: Given,
-    kept: &[Kept],
-) -> Option<(Plain, Uncovered)>
-    requires query { IsOverTables cat.now q.now }
-    requires atoms { HasFewAtoms q.now }
-    requires right { AllRight cat.now q.now (certificate t.now) }
-    requires relation { at.rel.0 < width q.now }
+pub(crate) fn open_marks(j: &Judged, at: Given, kept: &[Kept]) -> Option<(Plain, Uncovered)>
+    requires query { IsOverTables j.now.cat.now j.now.q.now }
+    requires atoms { HasFewAtoms j.now.q.now }
+    requires right { AllRight j.now.cat.now j.now.q.now (certificate j.now.t.now) }
+    requires placed { ArePlaced (certificate j.now.t.now).entries j.now.places.now }
+    requires relation { at.rel.0 < width j.now.q.now }
     requires few { length kept.now ≤ 8 }
-    requires first { AreFirst cat.now q.now at.rel at.param kept.now }
-    requires kept { AreKept cat.now q.now at.rel at.param kept.now }
-    ensures { MatchOption result (AreBitmapsServed cat.now q.now at.rel at.param (certificate t.now)) (λ x. IsOpen cat.now q.now (certificate t.now) x.0 x.1) }
+    requires first { AreFirst j.now.cat.now j.now.q.now at.rel at.param kept.now }
+    requires kept { AreKept j.now.cat.now j.now.q.now at.rel at.param kept.now }
+    ensures { MatchOption result (AreBitmapsServed j.now.cat.now j.now.q.now at.rel at.param (certificate j.now.t.now)) (λ x. IsOpen j.now.cat.now j.now.q.now (certificate j.now.t.now) x.0 x.1) }
 {
     for mask in 0..sets_of(kept.len()) {
-        if let Some(x) = open_mask(cat, q, t, at, kept, mask) {
-            return Some((node_of(cat, q, at, kept, mask), x));
+        if let Some(x) = open_mask(j, at, kept, mask) {
+            return Some((node_of(j.cat, j.q, at, kept, mask), x));
         }
     }
     None

@@ -1,5 +1,5 @@
 -- What a certificate is that nothing was found against.
-use Rattle.std.proofs.Common.{◌≡◌, ◌≤◌, true, false, refl, sym, subst, ◌∙◌, inl, inr}
+use Rattle.std.proofs.Common.{◌≡◌, ◌≤◌, true, false, List, map, refl, sym, ap, subst, ◌∙◌, inl, inr}
 use Rattle.std.specs.Prelude.{MatchOption, Option, Some, None}
 use Rattle.catalog.specs.Contents.{Contents}
 use Rattle.sql_query.specs.Queries.{Query}
@@ -8,11 +8,15 @@ use Rattle.plan_tree.specs.Costs.{HaveRows, price}
 use Rattle.plan_tree.specs.Least.{IsAdmissible}
 use Rattle.plan_tree.specs.Plans.{Plan, seq, index, index_only, bitmap, sort, nest, merge, is_sort}
 use Rattle.plan_tree.specs.Space.{IsBuilt, IsFinished}
-use Rattle.certificates.specs.Certificates.{Certificate, finish_at}
+use Rattle.certificates.specs.Certificates.{Certificate, Entry, finish_at}
 use Rattle.certificates.specs.Tables.{IsDominated, IsLeastAmong, IsOver, IsTable}
+use Rattle.certificates.specs.Views.{entry}
+use Rattle.certificates.specs.declared.entry.Entry.{Entry as Entered}
 use Rattle.certificate_laws.proofs.TableLemmas.{best-least, dominated}
+use Rattle.plan_check.specs.Placing.{ArePlaced}
 use Rattle.plan_check.specs.Reasons.{AreCovered, AreUndominated, HasBest}
 use Rattle.plan_check.specs.Verdicts.{AreWhole, IsVerdict}
+use Rattle.plan_check.specs.declared.places.SetPlaces.{SetPlaces}
 use Rattle.plan_check.specs.declared.verdict.Plain.{Plain}
 use Rattle.plan_check.specs.declared.verdict.Verdict.{Verdict}
 use Rattle.plan_check.specs.declared.verdict.Verdict.TheVariants as verdicts
@@ -62,3 +66,7 @@ module _ (c : Contents) (q : Query) (t : Certificate) where
     where
       some-same : (x y : Plan) → Some x ≡ Some y → x ≡ y
       some-same x y e = cc
+
+-- the places of the entries as they were read
+pub placed-there : (t : Certificate) (xs items : List Entered) (p : SetPlaces) → t.entries ≡ map entry xs → items ≡ xs → ArePlaced (map entry items) p → ArePlaced t.entries p
+placed-there t xs items p es same h = subst (λ (ys : List Entry). ArePlaced ys p) (ap (map entry) same ∙ sym es) h

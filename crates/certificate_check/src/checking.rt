@@ -11,6 +11,7 @@ ghost use Rattle.atom_laws.specs.Limits.{HasFewAtoms};
 ghost use Rattle.certificates.specs.Certificates.{finish_at};
 ghost use Rattle.certificates.specs.Tables.{IsDominated};
 ghost use Rattle.certificates.specs.Views.{certificate};
+ghost use Rattle.plan_check.specs.Placing.{ArePlaced};
 ghost use Rattle.plan_check.specs.Reasons.{AreUndominated};
 ghost use Rattle.plan_check.specs.Verdicts.{AreWhole, IsVerdict};
 ghost use Rattle.plan_check.specs.declared.verdict.Verdict.TheVariants as verdicts;
@@ -20,19 +21,20 @@ use best_check::judge_best;
 use catalog::Catalog;
 use certificates::Certificate;
 use entry_check::judge_table;
-use plan_check::{Reason, Verdict};
+use plan_check::{Judged, Reason, SetPlaces, Verdict};
 use sql_query::Prepared;
 
 /// What is said of a certificate whose entries are right, whose best plan is finished, and of which no entry dominates
 /// another.
-fn judge_whole(cat: &Catalog, q: &Prepared, t: &Certificate) -> Verdict
-    requires query { IsOverTables cat.now q.now }
-    requires atoms { HasFewAtoms q.now }
-    requires whole { AreWhole cat.now q.now (certificate t.now) }
-    requires undominated { AreUndominated cat.now q.now (certificate t.now) }
-    ensures { IsVerdict cat.now q.now (certificate t.now) result }
+fn judge_whole(j: &Judged) -> Verdict
+    requires query { IsOverTables j.now.cat.now j.now.q.now }
+    requires atoms { HasFewAtoms j.now.q.now }
+    requires placed { ArePlaced (certificate j.now.t.now).entries j.now.places.now }
+    requires whole { AreWhole j.now.cat.now j.now.q.now (certificate j.now.t.now) }
+    requires undominated { AreUndominated j.now.cat.now j.now.q.now (certificate j.now.t.now) }
+    ensures { IsVerdict j.now.cat.now j.now.q.now (certificate j.now.t.now) result }
 {
-    if let Some((node, x)) = open_candidate(cat, q, t) {
+    if let Some((node, x)) = open_candidate(j) {
         return Verdict::No(Reason::Uncovered {
             node,
             startup: x.startup,
@@ -40,7 +42,7 @@ fn judge_whole(cat: &Catalog, q: &Prepared, t: &Certificate) -> Verdict
             rows: x.rows,
         });
     }
-    match judge_best(cat, q, t) {
+    match judge_best(j.cat, j.q, j.t) {
         Some((printed, own)) => Verdict::No(Reason::NotBest { printed, own }),
         None => Verdict::Valid,
     }
@@ -60,8 +62,15 @@ pub fn check(cat: &Catalog, q: &Prepared, t: &Certificate) -> Verdict
     ensures best { result ≡ verdicts.Valid → (best : Plan) → finish_at q.now (certificate t.now) (certificate t.now).best ≡ Some best → IsFinished cat.now q.now best × ((p : Plan) → IsFinished cat.now q.now p → IsAdmissible cat.now q.now p → IsAdmissible cat.now q.now best × (price cat.now q.now best ≤ price cat.now q.now p)) }
 {
     cat.lawful();
-    match judge_table(cat, q, t) {
+    let places = SetPlaces::of(t.entries.items());
+    let j = Judged {
+        cat,
+        q,
+        t,
+        places: &places,
+    };
+    match judge_table(&j) {
         Some(reason) => Verdict::No(reason),
-        None => judge_whole(cat, q, t),
+        None => judge_whole(&j),
     }
 }

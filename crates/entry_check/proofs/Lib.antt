@@ -7,3 +7,4 @@ pub mod ScanLemmas
 pub mod OwnLemmas
 pub mod JudgeLemmas
 pub mod BestLemmas
+pub mod WorkLemmas

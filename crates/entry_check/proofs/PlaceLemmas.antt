@@ -10,19 +10,15 @@ use Rattle.certificates.specs.Certificates.{Certificate, Entry, plan_at, plan_of
 use Rattle.certificates.specs.Views.{entry}
 use Rattle.certificates.specs.declared.entry.Entry.{Entry as Entered}
 use Rattle.certificates.proofs.UnfoldLemmas.{at-lower, at-split, goes-on, made-at}
+use Rattle.plan_check.proofs.PlaceLemmas.{read-at}
 use Rattle.plan_check.specs.Reasons.{AreRight}
 use Rattle.entry_check.specs.Owning.{HasPlanAt, plans_before}
 
--- the entry that was read at a place
-pub stands : (xs : List Entered) (k : ℕ) (x : Entered) → k < length xs → x ≡ get_or xs k x → slice_get (map entry xs) k ≡ Some (entry x)
-stands [] k x lt e = absurd (omega (arith, lt))
-stands (y ∷ xs) zero x lt e = ap (λ (z : Entered). Some (entry z)) (sym e)
-stands (y ∷ xs) (suc k) x lt e = stands xs k x (omega (arith, lt)) e
-
+-- the entry that was read at a place, of a certificate
 pub read-there : (t : Certificate) (xs items : List Entered) (n : ℕ) (x : Entered) → t.entries ≡ map entry xs → items ≡ xs → n < length t.entries → x ≡ get_or items n x → slice_get t.entries n ≡ Some (entry x)
 read-there t xs items n x es e lt is =
     let count : length t.entries ≡ length xs = ap length es ∙ length-map xs entry in
-    ap (λ ys. slice_get ys n) es ∙ stands xs n x (omega (arith, lt, count)) (is ∙ ap (λ (ys : List Entered). get_or ys n x) e)
+    ap (λ ys. slice_get ys n) es ∙ read-at xs n x (omega (arith, lt, count)) (is ∙ ap (λ (ys : List Entered). get_or ys n x) e)
 
 module _ (q : Query) (t : Certificate) where
   -- the plan of an entry is made of those before it

@@ -10,6 +10,7 @@ ghost use Rattle.sql_query.specs.Queries.{all_of_query, width};
 ghost use Rattle.certificates.specs.Certificates.{finish_at, sorted_if};
 ghost use Rattle.certificates.specs.Views.{certificate, entry, side};
 ghost use Rattle.plan_check.specs.Beating.{IsRight};
+ghost use Rattle.plan_check.specs.Placing.{ArePlaced};
 ghost use Rattle.plan_check.specs.Reasons.{AllRight, AreUndominated, HasBest};
 ghost use Rattle.plan_check.specs.Verdicts.{AreWhole, IsReason};
 ghost use Rattle.entry_check.specs.Owning.{IsFinishedSide};
@@ -19,7 +20,7 @@ use crate::judging::judge_entries;
 use catalog::Catalog;
 use certificates::{Certificate, Entry, Side};
 use pathkeys::order_key;
-use plan_check::{Reason, first_dominated};
+use plan_check::{Judged, Reason, first_dominated};
 use plan_space::{has_all, order_begun};
 use plan_tree::classes_of;
 use sql_query::Prepared;
@@ -85,15 +86,17 @@ pub fn finished_side<'a>(
 }
 
 /// The first reason that is seen before any plan besides the entries is looked at: an entry that is not right, a best plan
-/// that is not finished, an entry that another dominates. None exactly where there is none of these. It takes no memory.
-pub fn judge_table(cat: &Catalog, q: &Prepared, t: &Certificate) -> Option<Reason>
-    requires query { IsOverTables cat.now q.now }
-    ensures { MatchOption result (AreWhole cat.now q.now (certificate t.now) × AreUndominated cat.now q.now (certificate t.now)) (λ r. IsReason cat.now q.now (certificate t.now) r) }
+/// that is not finished, an entry that another dominates. None exactly where there is none of these. The condition is that
+/// the places are those of the entries. It takes no memory.
+pub fn judge_table(j: &Judged) -> Option<Reason>
+    requires query { IsOverTables j.now.cat.now j.now.q.now }
+    requires placed { ArePlaced (certificate j.now.t.now).entries j.now.places.now }
+    ensures { MatchOption result (AreWhole j.now.cat.now j.now.q.now (certificate j.now.t.now) × AreUndominated j.now.cat.now j.now.q.now (certificate j.now.t.now)) (λ r. IsReason j.now.cat.now j.now.q.now (certificate j.now.t.now) r) }
 {
-    match judge_entries(cat, q, t) {
+    match judge_entries(j.cat, j.q, j.t) {
         Some(reason) => Some(reason),
-        None => match finished_side(cat, q, t, t.best) {
-            Some(_best) => match first_dominated(cat, q, t) {
+        None => match finished_side(j.cat, j.q, j.t, j.t.best) {
+            Some(_best) => match first_dominated(j) {
                 Some(found) => Some(Reason::Dominated {
                     entry: found.0,
                     by: found.1,

@@ -11,12 +11,11 @@ ghost use Rattle.certificates.specs.Views as views;
 ghost use Rattle.plan_check.specs.Reasons.{AreRight};
 ghost use Rattle.entry_check.specs.Owning.{HasNone, HasOwn, HasPlanAt, plans_before};
 
-use crate::joins::{own_merge, own_nest};
+use crate::joins::{Merging, own_merge, own_nest};
 use crate::numbers::Own;
 use crate::scans::{ByIndex, own_bitmap, own_index, own_seq, relation_of};
 use catalog::Catalog;
-use certificates::{Certificate, Entry, Node, Side};
-use pathkeys::Keys;
+use certificates::{Certificate, Entry, Node};
 use pg_base::IndexNo;
 use plan_tree::BitTree;
 use sql_query::Prepared;
@@ -118,16 +117,15 @@ fn nest_own(
     t: &Certificate,
     n: usize,
     e: &Entry,
-    outer: u32,
-    inner: u32,
+    sides: (u32, u32),
 ) -> Option<Own>
     requires query { IsOverTables cat.now q.now }
     requires within { n ≤ length (certificate t.now).entries }
     requires right { AreRight cat.now q.now (certificate t.now) n }
-    ensures { MatchOption result (HasNone cat.now q.now (join_by plans.nest (plan_at (plans_before q.now (certificate t.now) n) outer) (plan_at (plans_before q.now (certificate t.now) n) inner)) (entry e.now)) (λ x. HasOwn cat.now q.now (join_by plans.nest (plan_at (plans_before q.now (certificate t.now) n) outer) (plan_at (plans_before q.now (certificate t.now) n) inner)) (entry e.now) x) }
+    ensures { MatchOption result (HasNone cat.now q.now (join_by plans.nest (plan_at (plans_before q.now (certificate t.now) n) sides.0) (plan_at (plans_before q.now (certificate t.now) n) sides.1)) (entry e.now)) (λ x. HasOwn cat.now q.now (join_by plans.nest (plan_at (plans_before q.now (certificate t.now) n) sides.0) (plan_at (plans_before q.now (certificate t.now) n) sides.1)) (entry e.now) x) }
 {
-    match entry_before(cat, q, t, n, outer) {
-        Some(a) => match entry_before(cat, q, t, n, inner) {
+    match entry_before(cat, q, t, n, sides.0) {
+        Some(a) => match entry_before(cat, q, t, n, sides.1) {
             Some(b) => own_nest(cat, q, e, a, b),
             None => None,
         },
@@ -143,18 +141,16 @@ fn merge_own(
     t: &Certificate,
     n: usize,
     e: &Entry,
-    list: &Keys,
-    outer: Side,
-    inner: Side,
+    m: &Merging,
 ) -> Option<Own>
     requires query { IsOverTables cat.now q.now }
     requires within { n ≤ length (certificate t.now).entries }
     requires right { AreRight cat.now q.now (certificate t.now) n }
-    ensures { MatchOption result (HasNone cat.now q.now (join_by (plans.merge list.now) (side_at (plans_before q.now (certificate t.now) n) list.now (views.side outer)) (side_at (plans_before q.now (certificate t.now) n) list.now (views.side inner))) (entry e.now)) (λ x. HasOwn cat.now q.now (join_by (plans.merge list.now) (side_at (plans_before q.now (certificate t.now) n) list.now (views.side outer)) (side_at (plans_before q.now (certificate t.now) n) list.now (views.side inner))) (entry e.now) x) }
+    ensures { MatchOption result (HasNone cat.now q.now (join_by (plans.merge m.now.list.now) (side_at (plans_before q.now (certificate t.now) n) m.now.list.now (views.side m.now.outer)) (side_at (plans_before q.now (certificate t.now) n) m.now.list.now (views.side m.now.inner))) (entry e.now)) (λ x. HasOwn cat.now q.now (join_by (plans.merge m.now.list.now) (side_at (plans_before q.now (certificate t.now) n) m.now.list.now (views.side m.now.outer)) (side_at (plans_before q.now (certificate t.now) n) m.now.list.now (views.side m.now.inner))) (entry e.now) x) }
 {
-    match entry_before(cat, q, t, n, outer.entry) {
-        Some(a) => match entry_before(cat, q, t, n, inner.entry) {
-            Some(b) => own_merge(cat, q, e, list, a, b, (outer.sort, inner.sort)),
+    match entry_before(cat, q, t, n, m.outer.entry) {
+        Some(a) => match entry_before(cat, q, t, n, m.inner.entry) {
+            Some(b) => own_merge(cat, q, e, m, a, b),
             None => None,
         },
         None => None,
@@ -180,7 +176,14 @@ pub(crate) fn own_at(
         Node::Index(i, backward) => index_own(cat, q, e, *i, *backward),
         Node::IndexOnly(i, backward) => index_only_own(cat, q, e, *i, *backward),
         Node::Bitmap(tree) => bitmap_own(cat, q, e, tree),
-        Node::Nest(outer, inner) => nest_own(cat, q, t, n, e, *outer, *inner),
-        Node::Merge(list, outer, inner) => merge_own(cat, q, t, n, e, list, *outer, *inner),
+        Node::Nest(outer, inner) => nest_own(cat, q, t, n, e, (*outer, *inner)),
+        Node::Merge(list, outer, inner) => {
+            let m = Merging {
+                list,
+                outer: *outer,
+                inner: *inner,
+            };
+            merge_own(cat, q, t, n, e, &m)
+        }
     }
 }

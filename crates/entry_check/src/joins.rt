@@ -16,7 +16,7 @@ use crate::merges::merge_of;
 use crate::nests::nest_of;
 use crate::numbers::Own;
 use catalog::Catalog;
-use certificates::Entry;
+use certificates::{Entry, Side};
 use eq_classes::ClassNo;
 use pathkeys::Keys;
 use plan_check::Candidate;
@@ -68,27 +68,37 @@ pub(crate) fn own_nest(cat: &Catalog, q: &Prepared, e: &Entry, a: &Entry, b: &En
     }
 }
 
+/// A merge of two entries by their numbers.
+#[derive(Clone, Copy)]
+pub(crate) struct Merging<'a> {
+    /// The list by which it is.
+    pub(crate) list: &'a Keys,
+    /// The outer side.
+    pub(crate) outer: Side,
+    /// The inner side.
+    pub(crate) inner: Side,
+}
+
 /// The numbers of the merge of two right entries by a list, each sorted by the list or not, where an entry is it but for
 /// its numbers. None exactly where it is not. The list may be any.
 pub(crate) fn own_merge(
     cat: &Catalog,
     q: &Prepared,
     e: &Entry,
-    list: &Keys,
+    m: &Merging,
     a: &Entry,
     b: &Entry,
-    sorts: (bool, bool),
 ) -> Option<Own>
     requires query { IsOverTables cat.now q.now }
     requires outer { HasRight cat.now q.now (entry a.now) }
     requires inner { HasRight cat.now q.now (entry b.now) }
-    ensures some { IfSome result (λ own. (o i : Plan) → IsRight cat.now q.now (entry a.now) o → IsRight cat.now q.now (entry b.now) i → IsOwn cat.now q.now (entry e.now) (merge list.now (sorted_if sorts.0 list.now o) (sorted_if sorts.1 list.now i)) own) }
-    ensures none { IfNone result ((o i : Plan) → IsRight cat.now q.now (entry a.now) o → IsRight cat.now q.now (entry b.now) i → ¬ HasItsPlan cat.now q.now (entry e.now) (merge list.now (sorted_if sorts.0 list.now o) (sorted_if sorts.1 list.now i))) }
+    ensures some { IfSome result (λ own. (o i : Plan) → IsRight cat.now q.now (entry a.now) o → IsRight cat.now q.now (entry b.now) i → IsOwn cat.now q.now (entry e.now) (merge m.now.list.now (sorted_if m.now.outer.sort m.now.list.now o) (sorted_if m.now.inner.sort m.now.list.now i)) own) }
+    ensures none { IfNone result ((o i : Plan) → IsRight cat.now q.now (entry a.now) o → IsRight cat.now q.now (entry b.now) i → ¬ HasItsPlan cat.now q.now (entry e.now) (merge m.now.list.now (sorted_if m.now.outer.sort m.now.list.now o) (sorted_if m.now.inner.sort m.now.list.now i))) }
 {
-    if !is_merge_list(classes_of(q), a.set, b.set, list) {
+    if !is_merge_list(classes_of(q), a.set, b.set, m.list) {
         return None;
     }
-    match merge_of(cat, q, list.items(), a, b, sorts) {
+    match merge_of(cat, q, m.list.items(), a, b, (m.outer.sort, m.inner.sort)) {
         Some(x) => own_of(e, &x),
         None => None,
     }

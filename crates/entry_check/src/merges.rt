@@ -1,8 +1,12 @@
 //! Merges of right entries, as they stand or sorted, in numbers.
 
-ghost use Rattle.std.specs.Prelude.{◌≡◌, ◌↔◌, IfNone, IfSome, IsTrue, cond, false, true};
+ghost use Rattle.std.specs.Prelude.{◌≡◌, ◌≤◌, ◌↔◌, IfNone, IfSome, IsTrue, cond, false, length, true};
 ghost use Rattle.pg_base.specs.Sets.{has};
 ghost use Rattle.catalog.specs.Contents.{Contents};
+ghost use Rattle.cost_rules.specs.Costs.{IsEstimate, capped_pair};
+ghost use Rattle.join_work.specs.Parts.{IsPart, IsReckoned};
+ghost use Rattle.plan_tree.specs.Costs as costs;
+ghost use Rattle.plan_tree.specs.Paths.{kept_cost};
 ghost use Rattle.sql_query.specs.Queries.{Query};
 ghost use Rattle.pathkeys.specs.Finding.{class_numbers};
 ghost use Rattle.pathkeys.specs.Keys as lists;
@@ -15,19 +19,23 @@ ghost use Rattle.certificates.specs.Views.{entry};
 ghost use Rattle.plan_check.specs.Beating.{IsRight, candidate};
 ghost use Rattle.plan_check.specs.Joining.{MayMerge};
 ghost use Rattle.entry_check.specs.Owning.{HasRight};
+ghost use Rattle.entry_check.specs.Working.{IsMergeWork};
 
 use crate::numbers::numbers_of;
 use crate::parts::side_of;
 use catalog::Catalog;
 use certificates::Entry;
+use cost_rules::Pair;
 use eq_classes::ClassNo;
-use join_work::{merge_cost, set_rows};
+use join_work::{Part, merge_operators, set_rows};
+use path_cost::pairs;
 use pg_base::RelSet;
 use plan_check::{Candidate, begin_with};
+use plan_tree::{classes_of, range_of};
 use sql_query::Prepared;
 
 /// Whether an entry is sorted by a list, or has keys that begin with it.
-fn has_list(e: &Entry, list: &[ClassNo], sort: bool) -> bool
+pub fn has_list(e: &Entry, list: &[ClassNo], sort: bool) -> bool
     ensures { IsTrue result ↔ (sort ≡ false → lists.covers e.now.keys (class_numbers list.now) ≡ true) }
 {
     sort || begin_with(e.keys.items(), list)
@@ -51,6 +59,114 @@ fn keys_of<'a>(list: &'a [ClassNo], a: &'a Entry, sort: bool) -> &'a [ClassNo]
     if sort { list } else { a.keys.items() }
 }
 
+/// What all merges of two sets by a list have in common.
+#[derive(Clone, Copy)]
+pub struct MergeWork<'a> {
+    /// The list.
+    pub list: &'a [ClassNo],
+    /// The relations of the outer side.
+    pub outer: RelSet,
+    /// Those of the inner side.
+    pub inner: RelSet,
+    /// Those of both.
+    pub set: RelSet,
+    /// How many rows both are taken to give.
+    pub rows: u64,
+    /// The pairs of rows that are equal in the classes of the list.
+    pub equal: u64,
+    /// The operators that each of these goes through.
+    pub ops: u64,
+}
+
+/// What all merges of two sets by a list have in common.
+pub fn merge_work<'a>(
+    cat: &Catalog,
+    q: &Prepared,
+    list: &'a [ClassNo],
+    outer: RelSet,
+    inner: RelSet,
+) -> MergeWork<'a>
+    requires query { IsOverTables cat.now q.now }
+    ensures work { IsMergeWork cat.now q.now result }
+    ensures list { result.list.now ≡ list.now }
+    ensures outer { result.outer ≡ outer }
+    ensures inner { result.inner ≡ inner }
+{
+    let set = outer.union(inner);
+    let rows = set_rows(cat, q, set);
+    let equal = pairs(cat, range_of(q), classes_of(q), outer, inner, list);
+    let ops = merge_operators(q, list, outer, inner);
+    MergeWork {
+        list,
+        outer,
+        inner,
+        set,
+        rows,
+        equal,
+        ops,
+    }
+}
+
+/// The cost of a merge of the two sets by the list, as a path keeps it, cut to at most 10^18.
+fn merge_cost(q: &Prepared, work: &MergeWork, outer: Part, inner: Part) -> Pair
+    requires outer { IsReckoned outer }
+    requires inner { IsReckoned inner }
+    requires outer_set { outer.set.0 ≡ work.now.outer.0 }
+    requires inner_set { inner.set.0 ≡ work.now.inner.0 }
+    requires some_keys { 1 ≤ length work.now.list.now }
+    requires few_keys { length work.now.list.now ≤ 3 }
+    requires bounded { IsEstimate work.now.equal }
+    ensures { (c : Contents) (o i : Plan) → IsMergeWork c q.now work.now → IsPart c q.now outer o → IsPart c q.now inner i → result ≡ capped_pair (kept_cost q.now.window (costs.cost c q.now (merge (class_numbers work.now.list.now) o i))) }
+{
+    cost_rules::merge(
+        outer.cost,
+        inner.cost,
+        outer.rows,
+        inner.rows,
+        work.list.len() as u64,
+        work.equal,
+        work.ops,
+    )
+}
+
+/// What the merge of two right entries says, each sorted by the list or not, from what all those of their sets by the list
+/// have in common. None exactly where the plan space has none of their plans, or it is not admissible. The condition is
+/// that the list is one of a merge of their sets.
+pub fn merge_with<'a>(
+    cat: &Catalog,
+    q: &Prepared,
+    work: &MergeWork<'a>,
+    a: &'a Entry,
+    b: &Entry,
+    sorts: (bool, bool),
+) -> Option<Candidate<'a>>
+    requires query { IsOverTables cat.now q.now }
+    requires work { IsMergeWork cat.now q.now work.now }
+    requires outer_set { a.now.set.0 ≡ work.now.outer.0 }
+    requires inner_set { b.now.set.0 ≡ work.now.inner.0 }
+    requires outer { HasRight cat.now q.now (entry a.now) }
+    requires inner { HasRight cat.now q.now (entry b.now) }
+    requires list { IsMergeList cat.now q.now (has a.now.set.0) (has b.now.set.0) (class_numbers work.now.list.now) }
+    ensures some { IfSome result (λ x. (o i : Plan) → IsRight cat.now q.now (entry a.now) o → IsRight cat.now q.now (entry b.now) i → IsRight cat.now q.now (candidate x) (merge (class_numbers work.now.list.now) (sorted_if sorts.0 (class_numbers work.now.list.now) o) (sorted_if sorts.1 (class_numbers work.now.list.now) i))) }
+    ensures none { IfNone result ((o i : Plan) → IsRight cat.now q.now (entry a.now) o → IsRight cat.now q.now (entry b.now) i → IsBuilt cat.now q.now (merge (class_numbers work.now.list.now) (sorted_if sorts.0 (class_numbers work.now.list.now) o) (sorted_if sorts.1 (class_numbers work.now.list.now) i)) → ¬ IsAdmissible cat.now q.now (merge (class_numbers work.now.list.now) (sorted_if sorts.0 (class_numbers work.now.list.now) o) (sorted_if sorts.1 (class_numbers work.now.list.now) i))) }
+{
+    cat.lawful();
+    if !may_merge(work.list, a, b, sorts) {
+        return None;
+    }
+    let outer = side_of(cat, q, a, sorts.0);
+    let inner = side_of(cat, q, b, sorts.1);
+    let own = numbers_of(q, merge_cost(q, work, outer, inner), work.rows)?;
+    Some(Candidate {
+        set: work.set,
+        param: RelSet(0),
+        startup: own.startup,
+        cost: own.cost,
+        rows: own.rows,
+        keys: keys_of(work.list, a, sorts.0),
+    })
+}
+
 /// What the merge of two right entries by a list says, each sorted by the list or not. None exactly where the plan space
 /// has none of their plans, or it is not admissible. The condition is that the list is one of a merge of their sets.
 pub fn merge_of<'a>(
@@ -68,21 +184,6 @@ pub fn merge_of<'a>(
     ensures some { IfSome result (λ x. (o i : Plan) → IsRight cat.now q.now (entry a.now) o → IsRight cat.now q.now (entry b.now) i → IsRight cat.now q.now (candidate x) (merge (class_numbers list.now) (sorted_if sorts.0 (class_numbers list.now) o) (sorted_if sorts.1 (class_numbers list.now) i))) }
     ensures none { IfNone result ((o i : Plan) → IsRight cat.now q.now (entry a.now) o → IsRight cat.now q.now (entry b.now) i → IsBuilt cat.now q.now (merge (class_numbers list.now) (sorted_if sorts.0 (class_numbers list.now) o) (sorted_if sorts.1 (class_numbers list.now) i)) → ¬ IsAdmissible cat.now q.now (merge (class_numbers list.now) (sorted_if sorts.0 (class_numbers list.now) o) (sorted_if sorts.1 (class_numbers list.now) i))) }
 {
-    cat.lawful();
-    if !may_merge(list, a, b, sorts) {
-        return None;
-    }
-    let set = a.set.union(b.set);
-    let outer = side_of(cat, q, a, sorts.0);
-    let inner = side_of(cat, q, b, sorts.1);
-    let rows = set_rows(cat, q, set);
-    let own = numbers_of(q, merge_cost(cat, q, list, outer, inner), rows)?;
-    Some(Candidate {
-        set,
-        param: RelSet(0),
-        startup: own.startup,
-        cost: own.cost,
-        rows: own.rows,
-        keys: keys_of(list, a, sorts.0),
-    })
+    let work = merge_work(cat, q, list, a.set, b.set);
+    merge_with(cat, q, &work, a, b, sorts)
 }

@@ -57,6 +57,7 @@ pub(crate) fn part_of(cat: &Catalog, q: &Prepared, e: &Entry) -> Part
     requires right { HasRight cat.now q.now (entry e.now) }
     ensures part { (p : Plan) → IsRight cat.now q.now (entry e.now) p → IsPart cat.now q.now result p }
     ensures reckoned { IsReckoned result }
+    ensures set { result.set.0 ≡ e.now.set.0 }
 {
     cat.lawful();
     let rows = rows_of(cat, q, e);
@@ -78,6 +79,7 @@ pub(crate) fn side_of(cat: &Catalog, q: &Prepared, e: &Entry, sort: bool) -> Par
     requires whole { IsEmpty (has e.now.param.0) }
     ensures part { (keys : Keys) (p : Plan) → IsRight cat.now q.now (entry e.now) p → IsPart cat.now q.now result (sorted_if sort keys p) }
     ensures reckoned { IsReckoned result }
+    ensures set { result.set.0 ≡ e.now.set.0 }
 {
     let part = part_of(cat, q, e);
     if sort { sorted(q, part) } else { part }

@@ -1,10 +1,13 @@
 -- Joins of right entries that an entry dominates, and those that none does.
-use Rattle.std.proofs.Common.{Bool, true, false, true≢false, ◌≡◌, ◌<◌, ◌≤◌, ◌+◌, ℕ, List, map, suc, length, sym, ap, ap₂, subst, subst₂, refl, ◌∙◌, arith, ◌⊎◌, inl, inr}
+use Rattle.std.proofs.Common.{Bool, true, false, true≢false, ◌≡◌, ◌≢◌, ◌<◌, ◌≤◌, ◌+◌, ℕ, List, map, suc, length, sym, ap, ap₂, subst, subst₂, refl, ◌∙◌, arith, ◌⊎◌, inl, inr}
 use Rattle.std.specs.Prelude.{MatchOption, Option, Some, None, slice_get}
-use Rattle.std.proofs.lemmas.Bool.{cases_lt}
+use Rattle.std.proofs.lemmas.Bool.{cases_lt, lt-ltb}
 use Rattle.std.proofs.lemmas.Option.{slice_get_within}
+use Rattle.pg_base.specs.Sets.{Meets, has}
+use Rattle.pg_base.specs.declared.rel_set.RelSet.{RelSet}
 use Rattle.catalog.specs.Contents.{Contents}
-use Rattle.sql_query.specs.Queries.{Query}
+use Rattle.eq_classes.specs.Holding.{AreApart}
+use Rattle.sql_query.specs.Queries.{Query, all_of_query, width}
 use Rattle.sql_query.specs.declared.window.Window.{Window}
 use Rattle.plan_tree.specs.Costs.{cost}
 use Rattle.plan_tree.specs.Least.{IsAdmissible}
@@ -12,23 +15,33 @@ use Rattle.plan_tree.specs.Paths.{startup_kept}
 use Rattle.pathkeys.specs.Keys.{Keys}
 use Rattle.plan_tree.specs.Plans.{Plan, seq, index, index_only, bitmap, sort, nest, merge, is_sort}
 use Rattle.join_laws.specs.Closed.{IsKeptSide}
-use Rattle.plan_tree.specs.Space.{HasKeys, IsBuilt}
+use Rattle.plan_tree.specs.Space.{HasKeys, IsBuilt, IsSameSet}
 use Rattle.certificates.specs.Certificates.{Certificate, Entry, join_by, sorted_if, unfold_at}
 use Rattle.certificates.specs.Tables.{IsEntryPlan}
 use Rattle.certificates.specs.Views.{entry}
 use Rattle.certificates.specs.declared.entry.Entry.{Entry as Entered}
-use Rattle.certificates.proofs.UnfoldLemmas.{numbered}
+use Rattle.certificates.proofs.UnfoldLemmas.{entry-at, numbered}
 use Rattle.plan_check.specs.Beating.{IsBeaten, IsRight, IsUnbeaten}
+use Rattle.plan_check.specs.Joining.{MayMerge}
+use Rattle.plan_check.specs.Placing.{IsOf}
 use Rattle.plan_check.specs.Reasons.{AllRight}
 use Rattle.plan_check.specs.declared.verdict.Plain.{Plain}
 use Rattle.plan_check.specs.declared.verdict.Plain.TheVariants as plain
 use Rattle.plan_check.proofs.BeatingLemmas.{beaten-dominated, kept, unbeaten-none}
+use Rattle.plan_check.proofs.MergeLemmas.{built-merge}
+use Rattle.plan_check.proofs.NestLemmas.{built-nest}
 use Rattle.entry_check.specs.Owning.{HasRight}
-use Rattle.join_cover.specs.Serving.{AreJoinsServed, AreMergesServed, AreNestsServed, IsMergeOpen, IsMergeServed, IsNestServed, IsOpen, IsPairServed, IsServed}
+use Rattle.entry_check.proofs.NestLemmas.{apart-not}
+use Rattle.entry_check.proofs.PartLemmas.{relation-below}
+use Rattle.entry_check.proofs.WorkLemmas.{within-most}
+use Rattle.join_cover.specs.Serving.{AreJoinsOf, AreJoinsServed, AreMergesOf, AreMergesServed, AreNestsOf, AreNestsServed, IsListServed, IsMergeOpen, IsMergeServed, IsNestServed, IsOpen, IsServed}
 use Rattle.join_cover.specs.declared.uncovered.Uncovered.{Uncovered}
 
 some-same : (x y : Plan) → Some x ≡ Some y → x ≡ y
 some-same x y e = cc
+
+entry-same : (x y : Entry) → Some x ≡ Some y → x ≡ y
+entry-same x y e = cc
 
 module _ (c : Contents) (q : Query) (t : Certificate) (right : AllRight c q t) where
   plain-kept : (p : Plan) → is_sort p ≡ false → IsEntryPlan q t p → IsKeptSide c q (IsEntryPlan q t) p
@@ -114,7 +127,7 @@ module _ (c : Contents) (q : Query) (t : Certificate) (right : AllRight c q t) w
             }
 
   -- all places are all entries
-  pub nests-served : ((k l : ℕ) → k < length t.entries → l < length t.entries → IsNestServed c q t k l) → AreNestsServed c q t
+  nests-served : ((k l : ℕ) → k < length t.entries → l < length t.entries → IsNestServed c q t k l) → AreNestsServed c q t
   nests-served h o i ko ki =
       let x = numbered q t ko.number o ko.unfolds in
       let y = numbered q t ki.number i ki.unfolds in
@@ -140,7 +153,7 @@ module _ (c : Contents) (q : Query) (t : Certificate) (right : AllRight c q t) w
   side-by keys (nest o i) h has = as-stands keys _ h
   side-by keys (merge ks o i) h has = as-stands keys _ h
 
-  pub merges-served : ((k l : ℕ) → k < length t.entries → l < length t.entries → IsPairServed c q t k l) → AreMergesServed c q t
+  merges-served : ((k l : ℕ) → k < length t.entries → l < length t.entries → (keys : Keys) → IsListServed c q t keys k l) → AreMergesServed c q t
   merges-served h keys o i ko ki built =
       let so = side-by keys o ko built.2.outer_keys in
       let si = side-by keys i ki built.2.inner_keys in
@@ -161,9 +174,56 @@ module _ (c : Contents) (q : Query) (t : Certificate) (right : AllRight c q t) w
   joined nests merges (nest o i) h = nests o i h.0 h.1
   joined nests merges (merge ks o i) h = merges ks o i h.0 h.1
 
-  pub joins-served : AreNestsServed c q t → (r : Option (Plain × Uncovered)) → MatchOption r (AreMergesServed c q t) (λ x. IsOpen c q t x.0 x.1) → MatchOption r (AreJoinsServed c q t) (λ x. IsOpen c q t x.0 x.1)
-  joins-served nests None merges = joined nests merges
-  joins-served nests (Some x) h = h
+  module _ (all : RelSet) (is_all : IsSameSet (has all.0) (all_of_query q)) where
+    -- the relations of an entry are the query's
+    set-most : (k : ℕ) (e : Entry) → slice_get t.entries k ≡ Some e → e.set.0 ≤ all.0
+    set-most k e at =
+        let r = has-right-at k e at in
+        within-most e.set.0 all.0 (λ n is. is_all n ∙ lt-ltb n (width q) (relation-below c q e r.plan r.right n is))
+
+    -- the entries of all pairs of sets are all pairs of entries
+    module _ (each : (x y : ℕ) → x ≤ all.0 → y ≤ all.0 → AreJoinsOf c q t x y) where
+      of-sets : (k l : ℕ) (a b : Entry) → slice_get t.entries k ≡ Some a → slice_get t.entries l ≡ Some b → AreJoinsOf c q t a.set.0 b.set.0
+      of-sets k l a b at at' = each a.set.0 b.set.0 (set-most k a at) (set-most l b at')
+
+      pub joins-served : AreJoinsServed c q t
+      joins-served = joined
+          (nests-served (λ k l lt lt'.
+          let a = entry-at t.entries k lt in
+          let b = entry-at t.entries l lt' in
+          (of-sets k l a.0 b.0 a.1 b.1).nests k l (record { entry = a.0; stands = a.1; same = refl }) (record { entry = b.0; stands = b.1; same = refl })))
+          (merges-served (λ k l lt lt' keys.
+          let a = entry-at t.entries k lt in
+          let b = entry-at t.entries l lt' in
+          (of-sets k l a.0 b.0 a.1 b.1).merges keys k l (record { entry = a.0; stands = a.1; same = refl }) (record { entry = b.0; stands = b.1; same = refl })))
+
+  -- sets with a relation in common have no joins
+  pub none-meeting : (x y : ℕ) → Meets x y → AreJoinsOf c q t x y
+  none-meeting x y meets = record {
+    nests = λ k l a b o i eo ei built.
+        let may = built-nest c q a.entry b.entry o i (right-at k a.entry o a.stands eo) (right-at l b.entry i b.stands ei) built in
+        absurd (apart-not x y (subst₂ (λ (m n : ℕ). AreApart (has m) (has n)) a.same b.same may.apart) meets);
+    merges = λ keys k l a b sa sb o i eo ei built.
+        let may = built-merge c q keys a.entry b.entry sa sb o i (right-at k a.entry o a.stands eo) (right-at l b.entry i b.stands ei) built in
+        absurd (apart-not x y (subst₂ (λ (m n : ℕ). AreApart (has m) (has n)) a.same b.same may.apart) meets);
+  }
+
+  pub pair-served : (x y : ℕ) → AreNestsOf c q t x y → (r : Option (Plain × Uncovered)) → MatchOption r (AreMergesOf c q t x y) (λ u. IsOpen c q t u.0 u.1) → MatchOption r (AreJoinsOf c q t x y) (λ u. IsOpen c q t u.0 u.1)
+  pair-served x y nests None merges = record { nests = nests; merges = merges }
+  pair-served x y nests (Some u) h = h
+
+  -- the entry that was read is of no other set than its own
+  pub other-than : (x k : ℕ) (a : Entry) → slice_get t.entries k ≡ Some a → a.set.0 ≢ x → ¬ IsOf t.entries x k
+  other-than x k a at differ is = differ (ap (λ (e : Entry). e.set.0) (entry-same a is.entry (sym at ∙ is.stands)) ∙ is.same)
+
+  pub own-set : (x k : ℕ) (a : Entry) → slice_get t.entries k ≡ Some a → IsOf t.entries x k → a.set.0 ≡ x
+  own-set x k a at is = ap (λ (e : Entry). e.set.0) (entry-same a is.entry (sym at ∙ is.stands)) ∙ is.same
+
+  -- an entry that may be no outer side of a merge
+  pub none-led : (k : ℕ) (a : Entry) (keys : Keys) (sa : Bool) → slice_get t.entries k ≡ Some a → ((b : Entry) (sb : Bool) → ¬ MayMerge c q keys a b sa sb) → (l : ℕ) → IsMergeServed c q t keys sa false k l
+  none-led k a keys sa at none l o i eo ei built =
+      let y = numbered q t (suc l) i ei in
+      absurd (none y.entry false (built-merge c q keys a y.entry sa false o i (right-at k a o at eo) (right-at y.place y.entry i y.stands (ap (unfold_at q t) (sym y.number) ∙ ei)) built))
 
 -- one place more
 pub below-next : (P : ℕ → Type 0) (n : ℕ) → ((k : ℕ) → k < n → P k) → P n → (k : ℕ) → k < n + 1 → P k

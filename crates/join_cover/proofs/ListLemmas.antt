@@ -1,4 +1,4 @@
--- Lists by which two entries may be merged, and what is said of all of them.
+-- Lists by which the entries of two sets may be merged, and what is said of all of them.
 use Rattle.std.proofs.Common.{◌≡◌, ◌≢◌, ◌<◌, ◌≤◌, ℕ, Bool, true, false, ◌&&◌, nat_eq, List, [], ◌∷◌, length, map, take, get_or, zero, suc, refl, sym, ap, subst, subst₂, ◌∙◌, arith, true≢false}
 use Rattle.std.specs.Prelude.{Option, Some, None, MatchOption, option_map, slice_get}
 use Rattle.std.specs.List.{list_any}
@@ -6,7 +6,7 @@ use Rattle.std.proofs.lemmas.List.{length-map}
 use Rattle.std.proofs.lemmas.List.Quantifiers.{all_pairs_push}
 use Rattle.pg_base.specs.Sets.{has}
 use Rattle.catalog.specs.Contents.{Contents}
-use Rattle.eq_classes.specs.Clauses.{Table}
+use Rattle.eq_classes.specs.Clauses.{Set, Table}
 use Rattle.eq_classes.specs.Parts.{first_four, joining_from}
 use Rattle.eq_classes.specs.declared.classes.ClassNo.{ClassNo}
 use Rattle.sql_query.specs.Queries.{Query}
@@ -14,28 +14,14 @@ use Rattle.pathkeys.specs.Finding.{class_numbers}
 use Rattle.pathkeys.specs.Keys.{AreDifferent, Keys}
 use Rattle.plan_tree.specs.Space.{IsMergeList}
 use Rattle.plan_space.proofs.JoinLemmas.{found-four}
-use Rattle.certificates.specs.Certificates.{Certificate, Entry}
-use Rattle.plan_check.specs.Joining.{MayMerge}
+use Rattle.certificates.specs.Certificates.{Certificate}
 use Rattle.plan_check.specs.Reasons.{AllRight}
 use Rattle.plan_check.specs.declared.verdict.Plain.{Plain}
 use Rattle.plan_check.proofs.MergeLemmas.{built-merge}
-use Rattle.join_cover.specs.Serving.{AreListsAt, AreThirdsServed, IsFirstServed, IsListAt, IsListServed, IsMergeServed, IsOpen, IsPairServed, IsSecondServed}
+use Rattle.join_cover.specs.Serving.{AreListsOf, AreMergesBy, AreMergesOf, AreThirdsServed, IsFirstServed, IsOpen, IsSecondServed}
 use Rattle.join_cover.specs.declared.uncovered.Uncovered.{Uncovered}
 use Rattle.join_cover.proofs.CoverLemmas.{right-at}
 use Rattle.join_cover.proofs.WalkLemmas.{IsFound, any-found, found-any}
-
--- the entry at a place
-record Stands (xs : List Entry) (k : ℕ) : Type 0 where
-  entry : Entry
-  is : slice_get xs k ≡ Some entry
-
-stands-at : (xs : List Entry) (k : ℕ) → k < length xs → Stands xs k
-stands-at [] k lt = absurd (omega (arith, lt))
-stands-at (x ∷ xs) zero lt = record { entry = x; is = refl }
-stands-at (x ∷ xs) (suc k) lt = let r = stands-at xs k (omega (arith, lt)) in record { entry = r.entry; is = r.is }
-
-some-same : (x y : Entry) → Some x ≡ Some y → x ≡ y
-some-same x y e = cc
 
 -- lists of one, two and three classes
 different-one : (x : ℕ) → AreDifferent (x ∷ [])
@@ -72,95 +58,78 @@ other-part : (a b : Bool) → a && b ≡ true → b ≡ true
 other-part true b e = e
 other-part false b e = absurd (true≢false (sym e))
 
-module _ (c : Contents) (q : Query) (t : Certificate) (k l : ℕ) where
-  pub list-two : (x y : ℕ) → IsListAt c q t (x ∷ []) k l → IsListAt c q t (y ∷ []) k l → y ≢ x → IsListAt c q t (x ∷ y ∷ []) k l
-  list-two x y f g e a b at at' = record {
+module _ (c : Contents) (q : Query) (a b : Set) where
+  pub list-two : (x y : ℕ) → IsMergeList c q a b (x ∷ []) → IsMergeList c q a b (y ∷ []) → y ≢ x → IsMergeList c q a b (x ∷ y ∷ [])
+  list-two x y f g e = record {
     some = omega arith;
     few = omega arith;
     different = different-two x y e;
-    joining = both-two _ _ (f a b at at').joining (g a b at at').joining;
+    joining = both-two _ _ f.joining g.joining;
   }
 
-  pub list-three : (x y z : ℕ) → IsListAt c q t (x ∷ y ∷ []) k l → IsListAt c q t (z ∷ []) k l → z ≢ x → z ≢ y → IsListAt c q t (x ∷ y ∷ z ∷ []) k l
-  list-three x y z f g e e' a b at at' = record {
+  pub list-three : (x y z : ℕ) → IsMergeList c q a b (x ∷ y ∷ []) → IsMergeList c q a b (z ∷ []) → z ≢ x → z ≢ y → IsMergeList c q a b (x ∷ y ∷ z ∷ [])
+  list-three x y z f g e e' = record {
     some = omega arith;
     few = omega arith;
-    different = different-three x y z (f a b at at').different e e';
-    joining = both-three _ _ _ (f a b at at').joining (g a b at at').joining;
+    different = different-three x y z f.different e e';
+    joining = both-three _ _ _ f.joining g.joining;
   }
 
   -- a list of a merge has three classes at most
-  pub few-classes : (cs : List ClassNo) → k < length t.entries → l < length t.entries → IsListAt c q t (class_numbers cs) k l → length cs ≤ 3
-  few-classes cs lt lt' h =
-      let a = stands-at t.entries k lt in
-      let b = stands-at t.entries l lt' in
-      let few : length (class_numbers cs) ≤ 3 = (h a.entry b.entry a.is b.is).few in
+  pub few-classes : (cs : List ClassNo) → IsMergeList c q a b (class_numbers cs) → length cs ≤ 3
+  few-classes cs h =
+      let few : length (class_numbers cs) ≤ 3 = h.few in
       let long = length-map cs (λ (x : ClassNo). x.0) in
       omega (arith, few, long)
 
-  four-sorts : (keys : Keys) → IsMergeServed c q t keys false false k l → IsMergeServed c q t keys false true k l → IsMergeServed c q t keys true false k l → IsMergeServed c q t keys true true k l → IsListServed c q t keys k l
-  four-sorts keys ff ft tf tt false false = ff
-  four-sorts keys ff ft tf tt false true = ft
-  four-sorts keys ff ft tf tt true false = tf
-  four-sorts keys ff ft tf tt true true = tt
-
-  -- the last of the four ways
-  pub sorts-served : (keys : Keys) (r : Option (Plain × Uncovered)) → IsMergeServed c q t keys false false k l → IsMergeServed c q t keys false true k l → IsMergeServed c q t keys true false k l → MatchOption r (IsMergeServed c q t keys true true k l) (λ x. IsOpen c q t x.0 x.1) → MatchOption r (IsListServed c q t keys k l) (λ x. IsOpen c q t x.0 x.1)
-  sorts-served keys None ff ft tf tt = four-sorts keys ff ft tf tt
-  sorts-served keys (Some x) ff ft tf h = h
-
+module _ (c : Contents) (q : Query) (t : Certificate) (k l : ℕ) where
   module _ (found : List (Option ClassNo)) (r : Option (Plain × Uncovered)) where
     -- the lists that begin with two classes, and those that begin with one
-    pub second-served : (x y : ClassNo) → IsListServed c q t (x.0 ∷ y.0 ∷ []) k l → MatchOption r (AreThirdsServed c q t found x y k l) (λ u. IsOpen c q t u.0 u.1) → MatchOption r (IsSecondServed c q t found x y k l) (λ u. IsOpen c q t u.0 u.1)
+    pub second-served : (x y : ClassNo) → AreMergesBy c q t (x.0 ∷ y.0 ∷ []) k l → MatchOption r (AreThirdsServed c q t found x y k l) (λ u. IsOpen c q t u.0 u.1) → MatchOption r (IsSecondServed c q t found x y k l) (λ u. IsOpen c q t u.0 u.1)
     second-served x y list h = by r h
       where
         by : (s : Option (Plain × Uncovered)) → MatchOption s (AreThirdsServed c q t found x y k l) (λ u. IsOpen c q t u.0 u.1) → MatchOption s (IsSecondServed c q t found x y k l) (λ u. IsOpen c q t u.0 u.1)
         by None thirds = λ ne. (list, thirds)
         by (Some u) open' = open'
 
-    pub first-served : (x : ClassNo) → IsListServed c q t (x.0 ∷ []) k l → MatchOption r ((n : ℕ) (y : ClassNo) → slice_get found n ≡ Some (Some y) → IsSecondServed c q t found x y k l) (λ u. IsOpen c q t u.0 u.1) → MatchOption r (IsFirstServed c q t found x k l) (λ u. IsOpen c q t u.0 u.1)
+    pub first-served : (x : ClassNo) → AreMergesBy c q t (x.0 ∷ []) k l → MatchOption r ((n : ℕ) (y : ClassNo) → slice_get found n ≡ Some (Some y) → IsSecondServed c q t found x y k l) (λ u. IsOpen c q t u.0 u.1) → MatchOption r (IsFirstServed c q t found x k l) (λ u. IsOpen c q t u.0 u.1)
     first-served x list h = by r h
       where
         by : (s : Option (Plain × Uncovered)) → MatchOption s ((n : ℕ) (y : ClassNo) → slice_get found n ≡ Some (Some y) → IsSecondServed c q t found x y k l) (λ u. IsOpen c q t u.0 u.1) → MatchOption s (IsFirstServed c q t found x k l) (λ u. IsOpen c q t u.0 u.1)
         by None seconds = (list, seconds)
         by (Some u) open' = open'
 
-  -- the space has no merge of the two
-  pub pair-none : (a b : Entry) → slice_get t.entries k ≡ Some a → slice_get t.entries l ≡ Some b → AllRight c q t → ((keys : Keys) (sa sb : Bool) → ¬ MayMerge c q keys a b sa sb) → IsPairServed c q t k l
-  pair-none a b at at' right none keys sa sb o i eo ei built = absurd (none keys sa sb (built-merge c q keys a b sa sb o i (right-at c q t right k a o at eo) (right-at c q t right l b i at' ei) built))
+  module _ (found : List (Option ClassNo)) (classes : Table) (same : classes ≡ q.classes) (four : map (option_map (λ (n : ClassNo). n.0)) found ≡ first_four (joining_from (has k) (has l) 0 classes.classes)) where
+    first : map (option_map (λ (n : ClassNo). n.0)) found ≡ first_four (joining_from (has k) (has l) 0 q.classes.classes)
+    first = four ∙ ap (λ (x : Table). first_four (joining_from (has k) (has l) 0 x.classes)) same
 
-  module _ (found : List (Option ClassNo)) (a b : Entry) (at : slice_get t.entries k ≡ Some a) (at' : slice_get t.entries l ≡ Some b) (classes : Table) (same : classes ≡ q.classes) (four : map (option_map (λ (n : ClassNo). n.0)) found ≡ first_four (joining_from (has a.set.0) (has b.set.0) 0 classes.classes)) where
-    first : map (option_map (λ (n : ClassNo). n.0)) found ≡ first_four (joining_from (has a.set.0) (has b.set.0) 0 q.classes.classes)
-    first = four ∙ ap (λ (x : Table). first_four (joining_from (has a.set.0) (has b.set.0) 0 x.classes)) same
-
-    -- what was found are classes that join the two
-    pub lists-at : AreListsAt c q t found k l
-    lists-at n x is a' b' ia ib =
-        let js = joining_from (has a.set.0) (has b.set.0) 0 q.classes.classes in
+    -- what was found are classes that join the two sets
+    pub lists-of : AreListsOf c q found k l
+    lists-of n x is =
+        let js = joining_from (has k) (has l) 0 q.classes.classes in
         let any : list_any (nat_eq x.0) (take 4 js) ≡ true = sym (found-four x.0 js found first) ∙ found-any x.0 found n x is refl in
-        let one : IsMergeList c q (has a.set.0) (has b.set.0) (x.0 ∷ []) = record { some = omega arith; few = omega arith; different = different-one x.0; joining = ap (λ b. b && true) any } in
-        subst₂ (λ (u v : Entry). IsMergeList c q (has u.set.0) (has v.set.0) (x.0 ∷ [])) (some-same a a' (sym at ∙ ia)) (some-same b b' (sym at' ∙ ib)) one
+        record { some = omega arith; few = omega arith; different = different-one x.0; joining = ap (λ b. b && true) any }
 
-    among : (n : ℕ) → list_any (nat_eq n) (take 4 (joining_from (has a.set.0) (has b.set.0) 0 q.classes.classes)) ≡ true → IsFound found n
-    among n e = any-found n found (found-four n (joining_from (has a.set.0) (has b.set.0) 0 q.classes.classes) found first ∙ e)
+    among : (n : ℕ) → list_any (nat_eq n) (take 4 (joining_from (has k) (has l) 0 q.classes.classes)) ≡ true → IsFound found n
+    among n e = any-found n found (found-four n (joining_from (has k) (has l) 0 q.classes.classes) found first ∙ e)
 
     module _ (served : (n : ℕ) (x : ClassNo) → slice_get found n ≡ Some (Some x) → IsFirstServed c q t found x k l) where
-      by-one : (x : ℕ) → IsFound found x → IsListServed c q t (x ∷ []) k l
-      by-one x f = subst (λ n. IsListServed c q t (n ∷ []) k l) f.same (served f.place f.class f.is).0
+      by-one : (x : ℕ) → IsFound found x → AreMergesBy c q t (x ∷ []) k l
+      by-one x f = subst (λ n. AreMergesBy c q t (n ∷ []) k l) f.same (served f.place f.class f.is).0
 
-      by-two : (x y : ℕ) → IsFound found x → IsFound found y → y ≢ x → IsListServed c q t (x ∷ y ∷ []) k l
+      by-two : (x y : ℕ) → IsFound found x → IsFound found y → y ≢ x → AreMergesBy c q t (x ∷ y ∷ []) k l
       by-two x y f g e =
           let h = (served f.place f.class f.is).1 g.place g.class g.is in
-          subst₂ (λ m n. n ≢ m → IsListServed c q t (m ∷ n ∷ []) k l) f.same g.same (λ ne. (h ne).0) e
+          subst₂ (λ m n. n ≢ m → AreMergesBy c q t (m ∷ n ∷ []) k l) f.same g.same (λ ne. (h ne).0) e
 
-      by-three : (x y z : ℕ) → IsFound found x → IsFound found y → IsFound found z → y ≢ x → z ≢ x → z ≢ y → IsListServed c q t (x ∷ y ∷ z ∷ []) k l
+      by-three : (x y z : ℕ) → IsFound found x → IsFound found y → IsFound found z → y ≢ x → z ≢ x → z ≢ y → AreMergesBy c q t (x ∷ y ∷ z ∷ []) k l
       by-three x y z f g i e =
           let h = (served f.place f.class f.is).1 g.place g.class g.is in
-          let r : y ≢ x → i.class.0 ≢ x → i.class.0 ≢ y → IsListServed c q t (x ∷ y ∷ i.class.0 ∷ []) k l =
-          subst₂ (λ m n. n ≢ m → i.class.0 ≢ m → i.class.0 ≢ n → IsListServed c q t (m ∷ n ∷ i.class.0 ∷ []) k l) f.same g.same (λ ne. (h ne).1 i.place i.class i.is) in
-          subst (λ n. n ≢ x → n ≢ y → IsListServed c q t (x ∷ y ∷ n ∷ []) k l) i.same (r e)
+          let r : y ≢ x → i.class.0 ≢ x → i.class.0 ≢ y → AreMergesBy c q t (x ∷ y ∷ i.class.0 ∷ []) k l =
+          subst₂ (λ m n. n ≢ m → i.class.0 ≢ m → i.class.0 ≢ n → AreMergesBy c q t (m ∷ n ∷ i.class.0 ∷ []) k l) f.same g.same (λ ne. (h ne).1 i.place i.class i.is) in
+          subst (λ n. n ≢ x → n ≢ y → AreMergesBy c q t (x ∷ y ∷ n ∷ []) k l) i.same (r e)
 
-      by-list : (keys : Keys) → IsMergeList c q (has a.set.0) (has b.set.0) keys → IsListServed c q t keys k l
+      by-list : (keys : Keys) → IsMergeList c q (has k) (has l) keys → AreMergesBy c q t keys k l
       by-list [] m = let some : 1 ≤ 0 = m.some in absurd (omega (arith, some))
       by-list (x ∷ []) m = by-one x (among x (first-part _ _ m.joining))
       by-list (x ∷ y ∷ []) m =
@@ -181,11 +150,12 @@ module _ (c : Contents) (q : Query) (t : Certificate) (k l : ℕ) where
       by-list (x ∷ y ∷ z ∷ w ∷ keys) m = let few : length (x ∷ y ∷ z ∷ w ∷ keys) ≤ 3 = m.few in absurd (omega (arith, few))
 
       -- the merges by the lists of what was found are all merges of the two
-      pub pair-served : AllRight c q t → IsPairServed c q t k l
-      pair-served right keys sa sb o i eo ei built =
-          by-list keys (built-merge c q keys a b sa sb o i (right-at c q t right k a o at eo) (right-at c q t right l b i at' ei) built).list sa sb o i eo ei built
+      pub merges-of : AllRight c q t → AreMergesOf c q t k l
+      merges-of right keys m n is is' sa sb o i eo ei built =
+          let may = built-merge c q keys is.entry is'.entry sa sb o i (right-at c q t right m is.entry o is.stands eo) (right-at c q t right n is'.entry i is'.stands ei) built in
+          by-list keys (subst₂ (λ (x y : ℕ). IsMergeList c q (has x) (has y) keys) is.same is'.same may.list) m n is is' sa sb o i eo ei built
 
     -- so for what a walk over them says
-    pub walked : AllRight c q t → (r : Option (Plain × Uncovered)) → MatchOption r ((n : ℕ) (x : ClassNo) → slice_get found n ≡ Some (Some x) → IsFirstServed c q t found x k l) (λ x. IsOpen c q t x.0 x.1) → MatchOption r (IsPairServed c q t k l) (λ x. IsOpen c q t x.0 x.1)
-    walked right None h = pair-served h right
+    pub walked : AllRight c q t → (r : Option (Plain × Uncovered)) → MatchOption r ((n : ℕ) (x : ClassNo) → slice_get found n ≡ Some (Some x) → IsFirstServed c q t found x k l) (λ x. IsOpen c q t x.0 x.1) → MatchOption r (AreMergesOf c q t k l) (λ x. IsOpen c q t x.0 x.1)
+    walked right None h = merges-of h right
     walked right (Some x) h = h

@@ -1,5 +1,5 @@
 -- Which joins of the entries of a certificate are dominated by an entry. Own.
-use Rattle.std.specs.Prelude.{◌≡◌, ◌≢◌, ℕ, Bool, suc, List, [], ◌∷◌, Option, Some, slice_get}
+use Rattle.std.specs.Prelude.{◌≡◌, ◌≢◌, ◌<◌, ◌≤◌, ℕ, Bool, true, false, suc, List, [], ◌∷◌, Option, Some, slice_get}
 use Rattle.pg_base.specs.Sets.{has}
 use Rattle.catalog.specs.Contents.{Contents}
 use Rattle.eq_classes.specs.declared.classes.ClassNo.{ClassNo}
@@ -8,9 +8,10 @@ use Rattle.join_laws.specs.Closed.{AreKeptSides, IsKeptSide}
 use Rattle.plan_tree.specs.Least.{IsAdmissible}
 use Rattle.plan_tree.specs.Plans.{Plan, merge, nest}
 use Rattle.plan_tree.specs.Space.{IsBuilt, IsMergeList}
-use Rattle.certificates.specs.Certificates.{Certificate, Entry, sorted_if, unfold_at}
+use Rattle.certificates.specs.Certificates.{Certificate, sorted_if, unfold_at}
 use Rattle.certificates.specs.Tables.{IsDominated, IsEntryPlan}
 use Rattle.pathkeys.specs.Keys.{Keys}
+use Rattle.plan_check.specs.Placing.{IsOf}
 use Rattle.plan_check.specs.Plains.{StandsForPlan}
 use Rattle.plan_check.specs.Verdicts.{IsUncovered}
 use Rattle.plan_check.specs.declared.verdict.Plain.{Plain}
@@ -46,9 +47,29 @@ module _ (c : Contents) (q : Query) (t : Certificate) where
   abbrev pub IsListServed : Keys → ℕ → ℕ → Type 0
   IsListServed keys k l = (sa sb : Bool) → IsMergeServed keys sa sb k l
 
-  -- and by every list
-  abbrev pub IsPairServed : ℕ → ℕ → Type 0
-  IsPairServed k l = (keys : Keys) → IsListServed keys k l
+  -- the nested loops of the entries of two sets; so at some places of each
+  abbrev pub AreNestsOf : ℕ → ℕ → Type 0
+  AreNestsOf x y = (k l : ℕ) → IsOf t.entries x k → IsOf t.entries y l → IsNestServed k l
+
+  abbrev pub AreNestsBy : ℕ → ℕ → ℕ × ℕ → ℕ × ℕ → Type 0
+  AreNestsBy x y outer inner = (k l : ℕ) → outer.0 ≤ k → k < outer.1 → inner.0 ≤ l → l < inner.1 → IsOf t.entries x k → IsOf t.entries y l → IsNestServed k l
+
+  -- their merges by a list, each as it stands or sorted; and by every list
+  abbrev pub AreMergesBy : Keys → ℕ → ℕ → Type 0
+  AreMergesBy keys x y = (k l : ℕ) → IsOf t.entries x k → IsOf t.entries y l → IsListServed keys k l
+
+  abbrev pub AreMergesOf : ℕ → ℕ → Type 0
+  AreMergesOf x y = (keys : Keys) → AreMergesBy keys x y
+
+  -- those of one outer entry, sorted or not, with the inner ones as they stand, and with the one at a place sorted
+  pub record IsRowServed (keys : Keys) (x y k : ℕ) (sa : Bool) (least : ℕ) : Type 0 where
+    pub sorted : IsOf t.entries x k → IsOf t.entries y least → IsMergeServed keys sa true k least
+    pub plain : (l : ℕ) → IsOf t.entries x k → IsOf t.entries y l → IsMergeServed keys sa false k l
+
+  -- all joins of the entries of two sets
+  pub record AreJoinsOf (x y : ℕ) : Type 0 where
+    pub nests : AreNestsOf x y
+    pub merges : AreMergesOf x y
 
   -- and all merges of entries, as they stand or sorted
   abbrev pub AreMergesServed : Type 0
@@ -58,27 +79,23 @@ module _ (c : Contents) (q : Query) (t : Certificate) where
   abbrev pub AreJoinsServed : Type 0
   AreJoinsServed = (p : Plan) → AreKeptSides c q (IsEntryPlan q t) p → IsServed p
 
-  -- the list is one of a merge of the entries at two places
-  abbrev pub IsListAt : Keys → ℕ → ℕ → Type 0
-  IsListAt keys k l = (a b : Entry) → slice_get t.entries k ≡ Some a → slice_get t.entries l ≡ Some b → IsMergeList c q (has a.set.0) (has b.set.0) keys
-
-  -- the merges by a list of three classes, where the last is another than the first two
+  -- the merges of the entries of two sets by a list of three classes, where the last is another than the first two
   abbrev pub IsThirdServed : ClassNo → ClassNo → ℕ → ℕ → ClassNo → Type 0
-  IsThirdServed x y k l z = z.0 ≢ x.0 → z.0 ≢ y.0 → IsListServed (x.0 ∷ y.0 ∷ z.0 ∷ []) k l
+  IsThirdServed x y a b z = z.0 ≢ x.0 → z.0 ≢ y.0 → AreMergesBy (x.0 ∷ y.0 ∷ z.0 ∷ []) a b
 
   module _ (found : List (Option ClassNo)) where
-    -- each class that was found is such a list by itself
-    abbrev pub AreListsAt : ℕ → ℕ → Type 0
-    AreListsAt k l = (n : ℕ) (x : ClassNo) → slice_get found n ≡ Some (Some x) → IsListAt (x.0 ∷ []) k l
-
-    -- the merges by the lists of three that begin with two classes
+    -- those by the lists of three that begin with two classes
     abbrev pub AreThirdsServed : ClassNo → ClassNo → ℕ → ℕ → Type 0
-    AreThirdsServed x y k l = (n : ℕ) (z : ClassNo) → slice_get found n ≡ Some (Some z) → IsThirdServed x y k l z
+    AreThirdsServed x y a b = (n : ℕ) (z : ClassNo) → slice_get found n ≡ Some (Some z) → IsThirdServed x y a b z
 
     -- those by the lists that begin with two classes
     abbrev pub IsSecondServed : ClassNo → ClassNo → ℕ → ℕ → Type 0
-    IsSecondServed x y k l = y.0 ≢ x.0 → IsListServed (x.0 ∷ y.0 ∷ []) k l × AreThirdsServed x y k l
+    IsSecondServed x y a b = y.0 ≢ x.0 → AreMergesBy (x.0 ∷ y.0 ∷ []) a b × AreThirdsServed x y a b
 
     -- those by the lists that begin with one class
     abbrev pub IsFirstServed : ClassNo → ℕ → ℕ → Type 0
-    IsFirstServed x k l = IsListServed (x.0 ∷ []) k l × ((n : ℕ) (y : ClassNo) → slice_get found n ≡ Some (Some y) → IsSecondServed x y k l)
+    IsFirstServed x a b = AreMergesBy (x.0 ∷ []) a b × ((n : ℕ) (y : ClassNo) → slice_get found n ≡ Some (Some y) → IsSecondServed x y a b)
+
+-- each class that was found is by itself a list of a merge of two sets
+abbrev pub AreListsOf : Contents → Query → List (Option ClassNo) → ℕ → ℕ → Type 0
+AreListsOf c q found a b = (n : ℕ) (x : ClassNo) → slice_get found n ≡ Some (Some x) → IsMergeList c q (has a) (has b) (x.0 ∷ [])

@@ -1,16 +1,15 @@
-//! Joins of a certificate's entries that an entry must dominate: each is looked at, and the first that none dominates is
-//! told.
+//! Joins of a certificate's entries that an entry must dominate: each is looked at, by the pairs of their sets, and the first
+//! that none dominates is told.
 #![tactic(auto)]
 
 mod joins;
+mod least;
 mod lists;
 mod merges;
 mod nests;
-mod pairs;
 mod uncovered;
 
-pub use joins::open_join;
-pub use merges::open_merge;
-pub use nests::open_nest;
-pub use pairs::open_merges;
+pub use joins::{open_join, open_merges};
+pub use merges::open_work;
+pub use nests::open_nests;
 pub use uncovered::Uncovered;

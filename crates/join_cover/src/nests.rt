@@ -1,38 +1,47 @@
-//! Nested loops of entries.
+//! Nested loops of the entries of two sets.
 
-ghost use Rattle.std.specs.Prelude.{◌<◌, ℕ, MatchOption, length, suc};
+ghost use Rattle.std.specs.Prelude.{◌≡◌, ◌<◌, ◌≤◌, ℕ, MatchOption, length, suc};
 ghost use Rattle.plan_tree.specs.Reads.{IsOverTables};
 ghost use Rattle.certificates.specs.Views.{certificate};
+ghost use Rattle.entry_check.specs.Working.{IsNestWork};
+ghost use Rattle.plan_check.specs.Placing.{ArePlaced, IsOf};
 ghost use Rattle.plan_check.specs.Reasons.{AllRight};
 ghost use Rattle.plan_check.specs.declared.verdict.Plain.TheVariants as plain;
-ghost use Rattle.join_cover.specs.Serving.{AreNestsServed, IsNestServed, IsOpen};
+ghost use Rattle.join_cover.specs.Serving.{AreNestsBy, AreNestsOf, IsNestServed, IsOpen};
 
 use crate::uncovered::Uncovered;
-use catalog::Catalog;
-use certificates::Certificate;
-use entry_check::nest_of;
-use plan_check::{counted, is_covered};
-use sql_query::Prepared;
+use entry_check::{NestWork, nest_with, nest_work_given};
+use pg_base::RelSet;
+use plan_check::{Judged, counted, is_covered};
 
-/// The numbers of the nested loop of the entries at two places, where no entry dominates it and one must.
-fn open_at(cat: &Catalog, q: &Prepared, t: &Certificate, k: usize, l: usize) -> Option<Uncovered>
-    requires query { IsOverTables cat.now q.now }
-    requires right { AllRight cat.now q.now (certificate t.now) }
-    requires outer { k < length (certificate t.now).entries }
-    requires inner { l < length (certificate t.now).entries }
-    ensures { MatchOption result (IsNestServed cat.now q.now (certificate t.now) k l) (λ x. IsOpen cat.now q.now (certificate t.now) (plain.Nest (suc k) (suc l)) x) }
+/// The numbers of the nested loop of the entries at two places, where these are of the two sets, where no entry dominates it
+/// and one must.
+fn open_at(j: &Judged, work: &NestWork, k: usize, l: usize, noted: &mut usize) -> Option<Uncovered>
+    requires query { IsOverTables j.now.cat.now j.now.q.now }
+    requires right { AllRight j.now.cat.now j.now.q.now (certificate j.now.t.now) }
+    requires placed { ArePlaced (certificate j.now.t.now).entries j.now.places.now }
+    requires work { IsNestWork j.now.cat.now j.now.q.now work.now }
+    requires outer { k < length (certificate j.now.t.now).entries }
+    requires inner { l < length (certificate j.now.t.now).entries }
+    ensures { MatchOption result (IsOf (certificate j.now.t.now).entries work.now.outer.0 k → IsOf (certificate j.now.t.now).entries work.now.inner.0 l → IsNestServed j.now.cat.now j.now.q.now (certificate j.now.t.now) k l) (λ x. IsOpen j.now.cat.now j.now.q.now (certificate j.now.t.now) (plain.Nest (suc k) (suc l)) x) }
 {
-    let entries = t.entries.items();
+    let entries = j.t.entries.items();
     let a = &entries[k];
     let b = &entries[l];
-    match nest_of(cat, q, a, b) {
+    if a.set.0 != work.outer.0 {
+        return None;
+    }
+    if b.set.0 != work.inner.0 {
+        return None;
+    }
+    match nest_with(j.cat, j.q, work, a, b) {
         Some(x) => {
-            let covered = is_covered(q, entries, &x, k);
+            let covered = is_covered(j.q, entries, j.places, &x, noted);
             if covered {
                 return None;
             }
             Some(Uncovered {
-                startup: counted(q, x.startup),
+                startup: counted(j.q, x.startup),
                 cost: x.cost,
                 rows: x.rows,
             })
@@ -41,33 +50,66 @@ fn open_at(cat: &Catalog, q: &Prepared, t: &Certificate, k: usize, l: usize) -> 
     }
 }
 
-/// The place of an inner entry whose nested loop with an outer one no entry dominates, with its numbers.
-fn open_inner(cat: &Catalog, q: &Prepared, t: &Certificate, k: usize) -> Option<(usize, Uncovered)>
-    requires query { IsOverTables cat.now q.now }
-    requires right { AllRight cat.now q.now (certificate t.now) }
-    requires outer { k < length (certificate t.now).entries }
-    ensures { MatchOption result ((l : ℕ) → l < length (certificate t.now).entries → IsNestServed cat.now q.now (certificate t.now) k l) (λ r. (r.0 < length (certificate t.now).entries) × IsOpen cat.now q.now (certificate t.now) (plain.Nest (suc k) (suc r.0)) r.1) }
+/// The place of an inner entry, among some, whose nested loop with an outer one no entry dominates, with its numbers.
+fn open_inner(
+    j: &Judged,
+    work: &NestWork,
+    k: usize,
+    within: (usize, usize),
+) -> Option<(usize, Uncovered)>
+    requires query { IsOverTables j.now.cat.now j.now.q.now }
+    requires right { AllRight j.now.cat.now j.now.q.now (certificate j.now.t.now) }
+    requires placed { ArePlaced (certificate j.now.t.now).entries j.now.places.now }
+    requires work { IsNestWork j.now.cat.now j.now.q.now work.now }
+    requires outer { k < length (certificate j.now.t.now).entries }
+    requires inner { within.1 ≤ length (certificate j.now.t.now).entries }
+    ensures { MatchOption result ((l : ℕ) → within.0 ≤ l → l < within.1 → IsOf (certificate j.now.t.now).entries work.now.outer.0 k → IsOf (certificate j.now.t.now).entries work.now.inner.0 l → IsNestServed j.now.cat.now j.now.q.now (certificate j.now.t.now) k l) (λ r. (r.0 < length (certificate j.now.t.now).entries) × IsOpen j.now.cat.now j.now.q.now (certificate j.now.t.now) (plain.Nest (suc k) (suc r.0)) r.1) }
 {
-    for l in 0..t.entries.items().len() {
-        if let Some(x) = open_at(cat, q, t, k, l) {
+    let mut noted = k;
+    for l in within.0..within.1 {
+        if let Some(x) = open_at(j, work, k, l, &mut noted) {
             return Some((l, x));
         }
     }
     None
 }
 
-/// The numbers of two entries whose nested loop is an admissible one of the plan space that no entry dominates, and the
-/// loop's own numbers. None exactly where each such nested loop is dominated. The condition is that each entry is right.
-/// It takes no memory.
-pub fn open_nest(cat: &Catalog, q: &Prepared, t: &Certificate) -> Option<(u32, u32, Uncovered)>
-    requires query { IsOverTables cat.now q.now }
-    requires right { AllRight cat.now q.now (certificate t.now) }
-    ensures { MatchOption result (AreNestsServed cat.now q.now (certificate t.now)) (λ r. IsOpen cat.now q.now (certificate t.now) (plain.Nest r.0 r.1) r.2) }
+/// The same over some outer entries: the numbers of both.
+fn open_outer(
+    j: &Judged,
+    work: &NestWork,
+    outer: (usize, usize),
+    inner: (usize, usize),
+) -> Option<(u32, u32, Uncovered)>
+    requires query { IsOverTables j.now.cat.now j.now.q.now }
+    requires right { AllRight j.now.cat.now j.now.q.now (certificate j.now.t.now) }
+    requires placed { ArePlaced (certificate j.now.t.now).entries j.now.places.now }
+    requires work { IsNestWork j.now.cat.now j.now.q.now work.now }
+    requires outer { outer.1 ≤ length (certificate j.now.t.now).entries }
+    requires inner { inner.1 ≤ length (certificate j.now.t.now).entries }
+    ensures { MatchOption result (AreNestsBy j.now.cat.now j.now.q.now (certificate j.now.t.now) work.now.outer.0 work.now.inner.0 outer inner) (λ r. IsOpen j.now.cat.now j.now.q.now (certificate j.now.t.now) (plain.Nest r.0 r.1) r.2) }
 {
-    for k in 0..t.entries.items().len() {
-        if let Some((l, x)) = open_inner(cat, q, t, k) {
+    let _few = j.t.entries.items();
+    for k in outer.0..outer.1 {
+        if let Some((l, x)) = open_inner(j, work, k, inner) {
             return Some((k as u32 + 1, l as u32 + 1, x));
         }
     }
     None
+}
+
+/// The numbers of two entries, one of each of two sets, whose nested loop is an admissible one of the plan space that no entry
+/// dominates, and the loop's own numbers. None exactly where each such nested loop is dominated. The conditions are that each
+/// entry is right, and that the places are those of the entries. It takes no memory.
+pub fn open_nests(j: &Judged, outer: RelSet, inner: RelSet) -> Option<(u32, u32, Uncovered)>
+    requires query { IsOverTables j.now.cat.now j.now.q.now }
+    requires right { AllRight j.now.cat.now j.now.q.now (certificate j.now.t.now) }
+    requires placed { ArePlaced (certificate j.now.t.now).entries j.now.places.now }
+    ensures { MatchOption result (AreNestsOf j.now.cat.now j.now.q.now (certificate j.now.t.now) outer.0 inner.0) (λ r. IsOpen j.now.cat.now j.now.q.now (certificate j.now.t.now) (plain.Nest r.0 r.1) r.2) }
+{
+    let work = nest_work_given(j.cat, j.q, outer, inner);
+    let count = j.t.entries.items().len();
+    let outers = j.places.range(outer, count);
+    let inners = j.places.range(inner, count);
+    open_outer(j, &work, outers, inners)
 }

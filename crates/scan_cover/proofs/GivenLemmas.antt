@@ -1,12 +1,10 @@
 -- The relations whose rows a scan is given are relations of the query.
-use Rattle.std.proofs.Common.{◌≡◌, ◌<◌, ◌≤◌, ◌+◌, ℕ, Bool, true, false, not, cond, ◌&&◌, bit_and, nat_eq, nat_lt, List, [], ◌∷◌, refl, sym, ◌∙◌, ap, subst, ⊎_elim}
+use Rattle.std.proofs.Common.{◌≡◌, ◌<◌, ◌≤◌, ◌+◌, ℕ, Bool, true, false, not, cond, nat_eq, nat_lt, List, [], ◌∷◌, sym, ◌∙◌, ap, subst, ⊎_elim}
 use Rattle.std.specs.Prelude.{All}
 use Rattle.std.specs.List.{list_any}
 use Rattle.std.proofs.lemmas.Bool.{and_parts, eqb-true, lt-ltb, ltb-true, or_cases, true≢false}
 use Rattle.std.proofs.lemmas.List.Elements.{All-head, All-tail}
-use Rattle.std.proofs.lemmas.Nat.{and_le_r}
 use Rattle.pg_base.specs.Sets.{has}
-use Rattle.pg_base.proofs.SetLaws.{has-and, same_set}
 use Rattle.pg_base.specs.declared.numbers.IndexNo.{IndexNo}
 use Rattle.pg_base.specs.declared.numbers.RelNo.{RelNo}
 use Rattle.pg_base.specs.declared.rel_set.RelSet.{RelSet}
@@ -25,6 +23,7 @@ use Rattle.plan_tree.specs.Plans.{BitTree}
 use Rattle.plan_tree.specs.Reads.{IsOverTables}
 use Rattle.plan_tree.specs.Space.{IsBitmapScan, IsIndexScan, IsSameSet, others_named}
 use Rattle.plan_tree.proofs.ConditionLemmas.{conditions-listed}
+use Rattle.entry_check.proofs.WorkLemmas.{within-most}
 
 -- the conditions of clauses over some relations name no others
 below : (c : Contents) (q : Query) (k : ℕ) (chosen : ℕ → Bool) (n : ℕ) (ks : List Clause) → All (λ (x : Clause). IsOver c q.range x.cond) ks → list_any (names_rel k) (conditions_from n chosen ks) ≡ true → k < width q
@@ -41,16 +40,6 @@ below c q k chosen n (x ∷ ks) over h = by (below c q k chosen (n + 1) ks (All-
     by : (list_any (names_rel k) (conditions_from (n + 1) chosen ks) ≡ true → k < width q) → (b : Bool) → list_any (names_rel k) (cond b (x.cond ∷ conditions_from (n + 1) chosen ks) (conditions_from (n + 1) chosen ks)) ≡ true → k < width q
     by later true g = ⊎_elim here later (or_cases (names_rel k x.cond) (list_any (names_rel k) (conditions_from (n + 1) chosen ks)) g)
     by later false g = later g
-
-and-within : (a b : Bool) → (a ≡ true → b ≡ true) → a && b ≡ a
-and-within true b h = h refl
-and-within false b h = refl
-
--- the number of a set is no greater than that of one that it is within
-within-most : (a b : ℕ) → ((k : ℕ) → has a k ≡ true → has b k ≡ true) → a ≤ b
-within-most a b h =
-    let same : bit_and a b ≡ a = same_set (bit_and a b) a (λ k. has-and a b k ∙ and-within (has a k) (has b k) (h k)) in
-    subst (λ n. n ≤ b) same (and_le_r a b)
 
 module _ (c : Contents) (q : Query) (over : IsOverTables c q) (all : RelSet) (is_all : IsSameSet (has all.0) (all_of_query q)) where
   named-below : (r : ℕ) (chosen : ℕ → Bool) (k : ℕ) → others_named r (conditions_from 0 chosen q.classes.clauses) k ≡ true → k < width q

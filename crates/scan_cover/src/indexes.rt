@@ -9,6 +9,7 @@ ghost use Rattle.plan_tree.specs.Reads.{IsOverTables};
 ghost use Rattle.plan_tree.specs.Space.{IsBuilt};
 ghost use Rattle.sql_query.specs.Queries.{width};
 ghost use Rattle.certificates.specs.Views.{certificate};
+ghost use Rattle.plan_check.specs.Placing.{ArePlaced};
 ghost use Rattle.plan_check.specs.Reasons.{AllRight};
 ghost use Rattle.plan_check.specs.declared.verdict.Plain.TheVariants as plain;
 ghost use Rattle.entry_check.specs.Owning.{tree_of};
@@ -18,12 +19,11 @@ ghost use Rattle.scan_cover.specs.Scanning.{IsIndexServed};
 use crate::numbers::open_with;
 use arrayvec::ArrayVec;
 use catalog::Catalog;
-use certificates::Certificate;
 use entry_check::{ByIndex, is_built, key_at, numbers_of, rows_given};
 use eq_classes::ClassNo;
 use join_cover::Uncovered;
 use pg_base::{IndexNo, MOST_COLUMNS, RelNo, RelSet};
-use plan_check::Plain;
+use plan_check::{Judged, Plain};
 use plan_tree::{index_scan_cost, kept_of};
 use sql_query::Prepared;
 
@@ -44,33 +44,35 @@ fn keys_of(cat: &Catalog, q: &Prepared, s: ByIndex) -> ArrayVec<ClassNo, MOST_CO
 }
 
 /// The numbers of a scan by an index, where it is an admissible one of the plan space that no entry dominates.
-fn open_index(cat: &Catalog, q: &Prepared, t: &Certificate, s: ByIndex) -> Option<Uncovered>
-    requires query { IsOverTables cat.now q.now }
-    requires right { AllRight cat.now q.now (certificate t.now) }
-    requires relation { s.rel.0 < width q.now }
-    ensures { MatchOption result (IsServed cat.now q.now (certificate t.now) (tree_of s)) (λ x. IsOpen cat.now q.now (certificate t.now) (plain.Index s.rel s.index s.backward s.only s.param) x) }
+fn open_index(j: &Judged, s: ByIndex) -> Option<Uncovered>
+    requires query { IsOverTables j.now.cat.now j.now.q.now }
+    requires right { AllRight j.now.cat.now j.now.q.now (certificate j.now.t.now) }
+    requires placed { ArePlaced (certificate j.now.t.now).entries j.now.places.now }
+    requires relation { s.rel.0 < width j.now.q.now }
+    ensures { MatchOption result (IsServed j.now.cat.now j.now.q.now (certificate j.now.t.now) (tree_of s)) (λ x. IsOpen j.now.cat.now j.now.q.now (certificate j.now.t.now) (plain.Index s.rel s.index s.backward s.only s.param) x) }
 {
-    cat.lawful();
-    if !is_built(cat, q, s) {
+    j.cat.lawful();
+    if !is_built(j.cat, j.q, s) {
         return None;
     }
-    let keys = keys_of(cat, q, s);
-    let cost = index_scan_cost(cat, q, s.rel, s.index, s.param, s.only);
-    let rows = rows_given(cat, q, s.rel, s.param);
-    match numbers_of(q, kept_of(q, cost), rows) {
-        Some(own) => open_with(q, t, RelSet::one(s.rel), s.param, keys.as_slice(), own),
+    let keys = keys_of(j.cat, j.q, s);
+    let cost = index_scan_cost(j.cat, j.q, s.rel, s.index, s.param, s.only);
+    let rows = rows_given(j.cat, j.q, s.rel, s.param);
+    match numbers_of(j.q, kept_of(j.q, cost), rows) {
+        Some(own) => open_with(j, RelSet::one(s.rel), s.param, keys.as_slice(), own),
         None => None,
     }
 }
 
 /// The same with the scan itself.
-fn open_way(cat: &Catalog, q: &Prepared, t: &Certificate, s: ByIndex) -> Option<(Plain, Uncovered)>
-    requires query { IsOverTables cat.now q.now }
-    requires right { AllRight cat.now q.now (certificate t.now) }
-    requires relation { s.rel.0 < width q.now }
-    ensures { MatchOption result (IsServed cat.now q.now (certificate t.now) (tree_of s)) (λ r. IsOpen cat.now q.now (certificate t.now) r.0 r.1) }
+fn open_way(j: &Judged, s: ByIndex) -> Option<(Plain, Uncovered)>
+    requires query { IsOverTables j.now.cat.now j.now.q.now }
+    requires right { AllRight j.now.cat.now j.now.q.now (certificate j.now.t.now) }
+    requires placed { ArePlaced (certificate j.now.t.now).entries j.now.places.now }
+    requires relation { s.rel.0 < width j.now.q.now }
+    ensures { MatchOption result (IsServed j.now.cat.now j.now.q.now (certificate j.now.t.now) (tree_of s)) (λ r. IsOpen j.now.cat.now j.now.q.now (certificate j.now.t.now) r.0 r.1) }
 {
-    match open_index(cat, q, t, s) {
+    match open_index(j, s) {
         Some(x) => Some((
             Plain::Index {
                 rel: s.rel,
@@ -88,17 +90,16 @@ fn open_way(cat: &Catalog, q: &Prepared, t: &Certificate, s: ByIndex) -> Option<
 /// A scan by an index where the rows of `p` are given, index-only or not, forward or backward, that is an admissible one
 /// of the plan space and that no entry dominates, and its numbers. None exactly where each such one is dominated.
 pub(crate) fn open_by_index(
-    cat: &Catalog,
-    q: &Prepared,
-    t: &Certificate,
+    j: &Judged,
     r: RelNo,
     p: RelSet,
     i: IndexNo,
 ) -> Option<(Plain, Uncovered)>
-    requires query { IsOverTables cat.now q.now }
-    requires right { AllRight cat.now q.now (certificate t.now) }
-    requires relation { r.0 < width q.now }
-    ensures { MatchOption result (IsIndexServed cat.now q.now (certificate t.now) r p i) (λ x. IsOpen cat.now q.now (certificate t.now) x.0 x.1) }
+    requires query { IsOverTables j.now.cat.now j.now.q.now }
+    requires right { AllRight j.now.cat.now j.now.q.now (certificate j.now.t.now) }
+    requires placed { ArePlaced (certificate j.now.t.now).entries j.now.places.now }
+    requires relation { r.0 < width j.now.q.now }
+    ensures { MatchOption result (IsIndexServed j.now.cat.now j.now.q.now (certificate j.now.t.now) r p i) (λ x. IsOpen j.now.cat.now j.now.q.now (certificate j.now.t.now) x.0 x.1) }
 {
     let fetching = ByIndex {
         rel: r,
@@ -107,23 +108,23 @@ pub(crate) fn open_by_index(
         param: p,
         only: false,
     };
-    if let Some(x) = open_way(cat, q, t, fetching) {
+    if let Some(x) = open_way(j, fetching) {
         return Some(x);
     }
     let back = ByIndex {
         backward: true,
         ..fetching
     };
-    if let Some(x) = open_way(cat, q, t, back) {
+    if let Some(x) = open_way(j, back) {
         return Some(x);
     }
     let only = ByIndex {
         only: true,
         ..fetching
     };
-    if let Some(x) = open_way(cat, q, t, only) {
+    if let Some(x) = open_way(j, only) {
         return Some(x);
     }
     let only_back = ByIndex { only: true, ..back };
-    open_way(cat, q, t, only_back)
+    open_way(j, only_back)
 }

@@ -5,8 +5,6 @@
 mod indexes;
 mod numbers;
 mod relations;
-mod sets;
 
 pub use numbers::open_with;
 pub use relations::{indexes_of, open_plain_scan};
-pub use sets::all_relations;

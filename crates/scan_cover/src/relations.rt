@@ -10,6 +10,7 @@ ghost use Rattle.plan_tree.specs.Reads.{IsOverTables};
 ghost use Rattle.plan_tree.specs.Space.{IsSameSet};
 ghost use Rattle.sql_query.specs.Queries.{all_of_query, width};
 ghost use Rattle.certificates.specs.Views.{certificate};
+ghost use Rattle.plan_check.specs.Placing.{ArePlaced};
 ghost use Rattle.plan_check.specs.Reasons.{AllRight};
 ghost use Rattle.plan_check.specs.declared.verdict.Plain.TheVariants as plain;
 ghost use Rattle.join_cover.specs.Serving.{IsOpen, IsServed};
@@ -17,29 +18,28 @@ ghost use Rattle.scan_cover.specs.Scanning.{ArePlainScansServed, IsIndexServed, 
 
 use crate::indexes::open_by_index;
 use crate::numbers::open_with;
-use crate::sets::all_relations;
 use catalog::Catalog;
-use certificates::Certificate;
-use entry_check::numbers_of;
+use entry_check::{all_relations, numbers_of};
 use join_cover::Uncovered;
 use join_work::set_rows;
 use pg_base::{IndexNo, RelNo, RelSet};
-use plan_check::Plain;
+use plan_check::{Judged, Plain};
 use plan_tree::{kept_of, range_of, seq_scan_cost};
 use sql_query::Prepared;
 
 /// The numbers of the sequential scan of a relation, where it is an admissible one that no entry dominates.
-fn open_seq(cat: &Catalog, q: &Prepared, t: &Certificate, r: RelNo) -> Option<Uncovered>
-    requires query { IsOverTables cat.now q.now }
-    requires right { AllRight cat.now q.now (certificate t.now) }
-    requires relation { r.0 < width q.now }
-    ensures { MatchOption result (IsServed cat.now q.now (certificate t.now) (seq r)) (λ x. IsOpen cat.now q.now (certificate t.now) (plain.Seq r) x) }
+fn open_seq(j: &Judged, r: RelNo) -> Option<Uncovered>
+    requires query { IsOverTables j.now.cat.now j.now.q.now }
+    requires right { AllRight j.now.cat.now j.now.q.now (certificate j.now.t.now) }
+    requires placed { ArePlaced (certificate j.now.t.now).entries j.now.places.now }
+    requires relation { r.0 < width j.now.q.now }
+    ensures { MatchOption result (IsServed j.now.cat.now j.now.q.now (certificate j.now.t.now) (seq r)) (λ x. IsOpen j.now.cat.now j.now.q.now (certificate j.now.t.now) (plain.Seq r) x) }
 {
-    cat.lawful();
+    j.cat.lawful();
     let set = RelSet::one(r);
-    let cost = kept_of(q, seq_scan_cost(cat, q, r));
-    match numbers_of(q, cost, set_rows(cat, q, set)) {
-        Some(own) => open_with(q, t, set, RelSet(0), &[], own),
+    let cost = kept_of(j.q, seq_scan_cost(j.cat, j.q, r));
+    match numbers_of(j.q, cost, set_rows(j.cat, j.q, set)) {
+        Some(own) => open_with(j, set, RelSet(0), &[], own),
         None => None,
     }
 }
@@ -54,21 +54,16 @@ pub fn indexes_of<'a>(cat: &'a Catalog, q: &Prepared, r: RelNo) -> &'a [IndexNo]
 }
 
 /// A scan of a relation by some index, where the rows of `p` are given, that no entry dominates and one must.
-fn open_given(
-    cat: &Catalog,
-    q: &Prepared,
-    t: &Certificate,
-    r: RelNo,
-    p: RelSet,
-) -> Option<(Plain, Uncovered)>
-    requires query { IsOverTables cat.now q.now }
-    requires right { AllRight cat.now q.now (certificate t.now) }
-    requires relation { r.0 < width q.now }
-    ensures { MatchOption result ((i : Numbered) → IsIndexServed cat.now q.now (certificate t.now) r p i) (λ x. IsOpen cat.now q.now (certificate t.now) x.0 x.1) }
+fn open_given(j: &Judged, r: RelNo, p: RelSet) -> Option<(Plain, Uncovered)>
+    requires query { IsOverTables j.now.cat.now j.now.q.now }
+    requires right { AllRight j.now.cat.now j.now.q.now (certificate j.now.t.now) }
+    requires placed { ArePlaced (certificate j.now.t.now).entries j.now.places.now }
+    requires relation { r.0 < width j.now.q.now }
+    ensures { MatchOption result ((i : Numbered) → IsIndexServed j.now.cat.now j.now.q.now (certificate j.now.t.now) r p i) (λ x. IsOpen j.now.cat.now j.now.q.now (certificate j.now.t.now) x.0 x.1) }
 {
-    let indexes = indexes_of(cat, q, r);
+    let indexes = indexes_of(j.cat, j.q, r);
     for i in indexes {
-        if let Some(x) = open_by_index(cat, q, t, r, p, *i) {
+        if let Some(x) = open_by_index(j, r, p, *i) {
             return Some(x);
         }
     }
@@ -76,24 +71,19 @@ fn open_given(
 }
 
 /// So where the rows of any relations are given.
-fn open_relation(
-    cat: &Catalog,
-    q: &Prepared,
-    t: &Certificate,
-    r: RelNo,
-    all: RelSet,
-) -> Option<(Plain, Uncovered)>
-    requires query { IsOverTables cat.now q.now }
-    requires right { AllRight cat.now q.now (certificate t.now) }
-    requires relation { r.0 < width q.now }
-    requires all { IsSameSet (has all.0) (all_of_query q.now) }
-    ensures { MatchOption result (IsRelationServed cat.now q.now (certificate t.now) r) (λ x. IsOpen cat.now q.now (certificate t.now) x.0 x.1) }
+fn open_relation(j: &Judged, r: RelNo, all: RelSet) -> Option<(Plain, Uncovered)>
+    requires query { IsOverTables j.now.cat.now j.now.q.now }
+    requires right { AllRight j.now.cat.now j.now.q.now (certificate j.now.t.now) }
+    requires placed { ArePlaced (certificate j.now.t.now).entries j.now.places.now }
+    requires relation { r.0 < width j.now.q.now }
+    requires all { IsSameSet (has all.0) (all_of_query j.now.q.now) }
+    ensures { MatchOption result (IsRelationServed j.now.cat.now j.now.q.now (certificate j.now.t.now) r) (λ x. IsOpen j.now.cat.now j.now.q.now (certificate j.now.t.now) x.0 x.1) }
 {
-    if let Some(x) = open_seq(cat, q, t, r) {
+    if let Some(x) = open_seq(j, r) {
         return Some((Plain::Seq { rel: r }, x));
     }
     for bits in 0..all.0 as u32 + 1 {
-        if let Some(x) = open_given(cat, q, t, r, RelSet(bits as u16)) {
+        if let Some(x) = open_given(j, r, RelSet(bits as u16)) {
             return Some(x);
         }
     }
@@ -101,15 +91,17 @@ fn open_relation(
 }
 
 /// An admissible scan of the plan space, but none by a bitmap, that no entry dominates, and its numbers. None exactly where
-/// each such scan is dominated. The condition is that each entry is right. It takes no memory.
-pub fn open_plain_scan(cat: &Catalog, q: &Prepared, t: &Certificate) -> Option<(Plain, Uncovered)>
-    requires query { IsOverTables cat.now q.now }
-    requires right { AllRight cat.now q.now (certificate t.now) }
-    ensures { MatchOption result (ArePlainScansServed cat.now q.now (certificate t.now)) (λ x. IsOpen cat.now q.now (certificate t.now) x.0 x.1) }
+/// each such scan is dominated. The conditions are that each entry is right, and that the places are those of the entries. It
+/// takes no memory.
+pub fn open_plain_scan(j: &Judged) -> Option<(Plain, Uncovered)>
+    requires query { IsOverTables j.now.cat.now j.now.q.now }
+    requires right { AllRight j.now.cat.now j.now.q.now (certificate j.now.t.now) }
+    requires placed { ArePlaced (certificate j.now.t.now).entries j.now.places.now }
+    ensures { MatchOption result (ArePlainScansServed j.now.cat.now j.now.q.now (certificate j.now.t.now)) (λ x. IsOpen j.now.cat.now j.now.q.now (certificate j.now.t.now) x.0 x.1) }
 {
-    let all = all_relations(q);
-    for r in 0..range_of(q).items().len() {
-        if let Some(x) = open_relation(cat, q, t, RelNo(r as u8), all) {
+    let all = all_relations(j.q);
+    for r in 0..range_of(j.q).items().len() {
+        if let Some(x) = open_relation(j, RelNo(r as u8), all) {
             return Some(x);
         }
     }

@@ -6,12 +6,12 @@ use Rattle.bitmap_cover.proofs.ServedLemmas.{bitmaps-served}
 use Rattle.bitmap_cover.proofs.masks.open_marks.Goals as goal
 
 pub returns-in-Some : goal.returns-in-Some
-returns-in-Some c = let made = c.node_of.ensures in c.in-Some.ensures.some made.0 c.node_of.result made.1 (made.2 (certificate c.args.t.now))
+returns-in-Some c = let made = c.node_of.ensures in c.in-Some.ensures.some made.0 c.node_of.result made.1 (made.2 (certificate c.args.j.now.t.now))
 
 pub loop-mask-preserved : goal.loop-mask-preserved
-loop-mask-preserved c = below-next (IsMarkServed c.args.cat.now c.args.q.now c.args.at.rel c.args.at.param (certificate c.args.t.now) c.args.kept.now) c.loop-mask.mask c.loop-mask.invariant c.in_default.ensures.none
+loop-mask-preserved c = below-next (IsMarkServed c.args.j.now.cat.now c.args.j.now.q.now c.args.at.rel c.args.at.param (certificate c.args.j.now.t.now) c.args.kept.now) c.loop-mask.mask c.loop-mask.invariant c.in_default.ensures.none
 
 pub returns : goal.returns
 returns c =
     let end = c.sets_of-mask-end.ensures in
-    bitmaps-served c.args.cat.now c.args.q.now c.args.at.rel c.args.at.param (certificate c.args.t.now) c.args.kept.now c.loop-mask.mask c.requires.first c.requires.kept c.requires.few (omega (arith, end, c.loop-mask-test.false)) c.loop-mask.invariant
+    bitmaps-served c.args.j.now.cat.now c.args.j.now.q.now c.args.at.rel c.args.at.param (certificate c.args.j.now.t.now) c.args.kept.now c.loop-mask.mask c.requires.first c.requires.kept c.requires.few (omega (arith, end, c.loop-mask-test.false)) c.loop-mask.invariant

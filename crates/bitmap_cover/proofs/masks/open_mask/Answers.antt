@@ -17,17 +17,17 @@ use Rattle.bitmap_cover.proofs.masks.open_mask.Goals as goal
 
 pub returns-then-parts-eq0-clause-none : goal.returns-then-parts-eq0-clause-none
 returns-then-parts-eq0-clause-none c =
-    none-marked c.args.cat.now c.args.q.now c.args.at.rel c.args.at.param (certificate c.args.t.now) c.args.kept.now c.args.mask (sym c.parts_of-parts.ensures.count ∙ c.if-parts-eq0.true)
+    none-marked c.args.j.now.cat.now c.args.j.now.q.now c.args.at.rel c.args.at.param (certificate c.args.j.now.t.now) c.args.kept.now c.args.mask (sym c.parts_of-parts.ensures.count ∙ c.if-parts-eq0.true)
 
 pub returns-then-not-names_exactly-clause-none : goal.returns-then-not-names_exactly-clause-none
 returns-then-not-names_exactly-clause-none c = λ bs z built admissible.
-    let used = mark-used c.args.cat.now c.args.q.now c.args.at.rel c.args.at.param c.args.kept.now c.args.mask bs z (contains c.used_by-used.result) c.used_by-used.ensures in
-    absurd (true≢false (sym (c.names_exactly.ensures.1 (named-to c.args.cat.now c.args.q.now c.args.at.rel c.args.at.param (contains c.used_by-used.result) (combined bs) used built.named)) ∙ c.if-not-names_exactly.true))
+    let used = mark-used c.args.j.now.cat.now c.args.j.now.q.now c.args.at.rel c.args.at.param c.args.kept.now c.args.mask bs z (contains c.used_by-used.result) c.used_by-used.ensures in
+    absurd (true≢false (sym (c.names_exactly.ensures.1 (named-to c.args.j.now.cat.now c.args.j.now.q.now c.args.at.rel c.args.at.param (contains c.used_by-used.result) (combined bs) used built.named)) ∙ c.if-not-names_exactly.true))
 
 pub returns-in-None-clause-none : goal.returns-in-None-clause-none
 returns-in-None-clause-none c = λ bs z built admissible.
-    let contents = c.args.cat.now in
-    let q = c.args.q.now in
+    let contents = c.args.j.now.cat.now in
+    let q = c.args.j.now.q.now in
     let r = c.args.at.rel in
     let p = c.args.at.param in
     let rule = c.bitmap-cost.ensures.rule ∙ (λ i. capped_pair (bitmap_cost contents (c.range_of-range.ensures i) (c.classes_of-classes.ensures i) r.0 (has p.0) (contains c.used_by-used.result) c.parts_of-parts.result.0)) in
@@ -37,8 +37,8 @@ returns-in-None-clause-none c = λ bs z built admissible.
 
 pub returns-in-Some-clause-none : goal.returns-in-Some-clause-none
 returns-in-Some-clause-none c =
-    let contents = c.args.cat.now in
-    let q = c.args.q.now in
+    let contents = c.args.j.now.cat.now in
+    let q = c.args.j.now.q.now in
     let r = c.args.at.rel in
     let p = c.args.at.param in
     let ks = c.args.kept.now in
@@ -53,8 +53,8 @@ returns-in-Some-clause-none c =
 
 pub returns-in-Some-clause-some : goal.returns-in-Some-clause-some
 returns-in-Some-clause-some c =
-    let contents = c.args.cat.now in
-    let q = c.args.q.now in
+    let contents = c.args.j.now.cat.now in
+    let q = c.args.j.now.q.now in
     let r = c.args.at.rel in
     let p = c.args.at.param in
     let ks = c.args.kept.now in

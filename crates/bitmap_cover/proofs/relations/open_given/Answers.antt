@@ -8,7 +8,7 @@ use Rattle.bitmap_cover.proofs.relations.open_given.Goals as goal
 pub keep_all-kept-requires-clause-made : goal.keep_all-kept-requires-clause-made
 keep_all-kept-requires-clause-made c =
     let found = c.first_elements-elements.ensures.elements in
-    elements-made c.args.cat.now c.args.q.now c.args.at.rel c.args.at.param found.0 c.items.result.now found.1 (c.items.ensures.list ∙ found.2)
+    elements-made c.args.j.now.cat.now c.args.j.now.q.now c.args.at.rel c.args.at.param found.0 c.items.result.now found.1 (c.items.ensures.list ∙ found.2)
 
 pub open_marks-requires-clause-few : goal.open_marks-requires-clause-few
 open_marks-requires-clause-few c =
@@ -17,8 +17,8 @@ open_marks-requires-clause-few c =
 pub open_marks-requires-clause-first : goal.open_marks-requires-clause-first
 open_marks-requires-clause-first c =
     let found = c.first_elements-elements.ensures.elements in
-    subst (AreFirst c.args.cat.now c.args.q.now c.args.at.rel c.args.at.param) (sym c.as_slice.ensures.value)
-    (are-first c.args.cat.now c.args.q.now c.args.at.rel c.args.at.param c.items.result.now c.keep_all-kept.result.items found.0 found.1 c.keep_all-kept.ensures.elements (c.items.ensures.list ∙ found.2))
+    subst (AreFirst c.args.j.now.cat.now c.args.j.now.q.now c.args.at.rel c.args.at.param) (sym c.as_slice.ensures.value)
+    (are-first c.args.j.now.cat.now c.args.j.now.q.now c.args.at.rel c.args.at.param c.items.result.now c.keep_all-kept.result.items found.0 found.1 c.keep_all-kept.ensures.elements (c.items.ensures.list ∙ found.2))
 
 pub open_marks-requires-clause-kept : goal.open_marks-requires-clause-kept
-open_marks-requires-clause-kept c = subst (AreKept c.args.cat.now c.args.q.now c.args.at.rel c.args.at.param) (sym c.as_slice.ensures.value) c.keep_all-kept.ensures.kept
+open_marks-requires-clause-kept c = subst (AreKept c.args.j.now.cat.now c.args.j.now.q.now c.args.at.rel c.args.at.param) (sym c.as_slice.ensures.value) c.keep_all-kept.ensures.kept

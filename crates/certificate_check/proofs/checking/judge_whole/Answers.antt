@@ -18,4 +18,4 @@ pub returns-in-Some-judge_best : goal.returns-in-Some-judge_best
 returns-in-Some-judge_best c = (c.requires.whole.right, c.requires.undominated, c.in_default.ensures, c.in-Some-judge_best.ensures)
 
 pub returns-in-None : goal.returns-in-None
-returns-in-None c = valid c.args.cat.now c.args.q.now (certificate c.args.t.now) c.requires.whole c.requires.undominated c.in_default.ensures c.in-None.ensures
+returns-in-None c = valid c.args.j.now.cat.now c.args.j.now.q.now (certificate c.args.j.now.t.now) c.requires.whole c.requires.undominated c.in_default.ensures c.in-None.ensures

@@ -4,15 +4,15 @@ use Rattle.entry_check.proofs.best.judge_table.Goals as goal
 
 pub returns-in-Some-first_dominated : goal.returns-in-Some-first_dominated
 returns-in-Some-first_dominated c = (
-  whole-with c.args.cat.now c.args.q.now (certificate c.args.t.now) (entry c.in-Some-finished_side._best.now) c.in-None.ensures c.in-Some-finished_side.ensures.some,
+  whole-with c.args.j.now.cat.now c.args.j.now.q.now (certificate c.args.j.now.t.now) (entry c.in-Some-finished_side._best.now) c.in-None.ensures c.in-Some-finished_side.ensures.some,
   c.in-Some-first_dominated.ensures,
 )
 
 pub returns-in-None-first_dominated : goal.returns-in-None-first_dominated
 returns-in-None-first_dominated c = (
-  whole-with c.args.cat.now c.args.q.now (certificate c.args.t.now) (entry c.in-Some-finished_side._best.now) c.in-None.ensures c.in-Some-finished_side.ensures.some,
+  whole-with c.args.j.now.cat.now c.args.j.now.q.now (certificate c.args.j.now.t.now) (entry c.in-Some-finished_side._best.now) c.in-None.ensures c.in-Some-finished_side.ensures.some,
   c.in-None-first_dominated.ensures,
 )
 
 pub returns-in-None-finished_side : goal.returns-in-None-finished_side
-returns-in-None-finished_side c = bad-best c.args.cat.now c.args.q.now (certificate c.args.t.now) c.in-None.ensures c.in-None-finished_side.ensures.none
+returns-in-None-finished_side c = bad-best c.args.j.now.cat.now c.args.j.now.q.now (certificate c.args.j.now.t.now) c.in-None.ensures c.in-None-finished_side.ensures.none

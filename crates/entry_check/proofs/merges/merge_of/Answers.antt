@@ -1,47 +1,23 @@
-use Rattle.std.proofs.Common.{◌∙◌, refl, sym}
-use Rattle.std.proofs.lemmas.Bool.{false≢true}
+use Rattle.std.proofs.Common.{List, subst, sym}
+use Rattle.std.specs.Prelude.{IfNone, IfSome}
+use Rattle.pg_base.specs.Sets.{has}
+use Rattle.eq_classes.specs.declared.classes.ClassNo.{ClassNo}
 use Rattle.pathkeys.specs.Finding.{class_numbers}
-use Rattle.plan_tree.proofs.BoundLemmas.{lawful-rows}
-use Rattle.plan_tree.specs.Plans.{merge}
+use Rattle.plan_tree.specs.Least.{IsAdmissible}
+use Rattle.plan_tree.specs.Plans.{Plan, merge}
+use Rattle.plan_tree.specs.Space.{IsBuilt, IsMergeList}
 use Rattle.certificates.specs.Certificates.{sorted_if}
 use Rattle.certificates.specs.Views.{entry}
-use Rattle.join_work.proofs.CostLemmas.{whole-rows}
-use Rattle.plan_check.proofs.MergeLemmas.{built-merge}
-use Rattle.entry_check.proofs.MergeLemmas.{merge-right, merge-set}
-use Rattle.entry_check.proofs.PartLemmas.{if-none, set-estimate}
+use Rattle.plan_check.specs.Beating.{IsRight, candidate}
 use Rattle.entry_check.proofs.merges.merge_of.Goals as goal
 
-pub side_of-outer-requires-clause-whole : goal.side_of-outer-requires-clause-whole
-side_of-outer-requires-clause-whole c = ((c.may_merge.ensures c.args.cat.now c.args.q.now c.requires.list).0 c.if-not-may_merge.false).outer_whole
-
-pub side_of-inner-requires-clause-whole : goal.side_of-inner-requires-clause-whole
-side_of-inner-requires-clause-whole c = ((c.may_merge.ensures c.args.cat.now c.args.q.now c.requires.list).0 c.if-not-may_merge.false).inner_whole
-
-pub returns-then-not-may_merge-clause-none : goal.returns-then-not-may_merge-clause-none
-returns-then-not-may_merge-clause-none c = λ o i ra rb built admissible.
-    let may = c.may_merge.ensures c.args.cat.now c.args.q.now c.requires.list in
-    false≢true (sym c.if-not-may_merge.true ∙ may.1 (built-merge c.args.cat.now c.args.q.now (class_numbers c.args.list.now) (entry c.args.a.now) (entry c.args.b.now) c.args.sorts.0 c.args.sorts.1 o i ra rb built))
-
-pub returns-in_err-own-clause-none : goal.returns-in_err-own-clause-none
-returns-in_err-own-clause-none c =
-    let list = class_numbers c.args.list.now in
-    if-none c.from_residual.result _
-    (λ o i ra rb built.
-    c.in_err-own.ensures.none c.args.cat.now (merge list (sorted_if c.args.sorts.0 list o) (sorted_if c.args.sorts.1 list i))
-    (c.merge_cost.ensures.rule (sorted_if c.args.sorts.0 list o) (sorted_if c.args.sorts.1 list i) (c.side_of-outer.ensures.part list o ra) (c.side_of-inner.ensures.part list i rb)))
+pub merge_with-requires-clause-list : goal.merge_with-requires-clause-list
+merge_with-requires-clause-list c = subst (λ (xs : List ClassNo). IsMergeList c.args.cat.now c.args.q.now (has c.args.a.now.set.0) (has c.args.b.now.set.0) (class_numbers xs)) (sym c.merge_work-work.ensures.list) c.requires.list
 
 pub returns-clause-some : goal.returns-clause-some
-returns-clause-some c = λ o i ra rb.
-    let contents = c.args.cat.now in
-    let q = c.args.q.now in
-    let a = entry c.args.a.now in
-    let b = entry c.args.b.now in
-    let set = c.union-set.result in
-    let list = class_numbers c.args.list.now in
-    let sa = c.args.sorts.0 in
-    let sb = c.args.sorts.1 in
-    let p = merge list (sorted_if sa list o) (sorted_if sb list i) in
-    let cost = c.merge_cost.ensures.rule (sorted_if sa list o) (sorted_if sb list i) (c.side_of-outer.ensures.part list o ra) (c.side_of-inner.ensures.part list i rb) in
-    let rows = set-estimate contents q set p c.set_rows-rows.result (merge-set contents q list a b sa sb o i ra rb set c.union-set.ensures) (whole-rows contents q p (λ k. refl)) c.set_rows-rows.ensures.rows in
-    merge-right contents q list a b sa sb o i ra rb set c.union-set.ensures c.in_ok-own.own _ ((c.may_merge.ensures contents q c.requires.list).0 c.if-not-may_merge.false)
-    (c.in_ok-own.ensures.some contents p (lawful-rows contents q c.lawful.ensures) cost rows) c.keys_of.ensures
+returns-clause-some c = subst (λ (xs : List ClassNo). IfSome c.merge_with.result (λ x. (o i : Plan) → IsRight c.args.cat.now c.args.q.now (entry c.args.a.now) o → IsRight c.args.cat.now c.args.q.now (entry c.args.b.now) i → IsRight c.args.cat.now c.args.q.now (candidate x) (merge (class_numbers xs) (sorted_if c.args.sorts.0 (class_numbers xs) o) (sorted_if c.args.sorts.1 (class_numbers xs) i))))
+    c.merge_work-work.ensures.list c.merge_with.ensures.some
+
+pub returns-clause-none : goal.returns-clause-none
+returns-clause-none c = subst (λ (xs : List ClassNo). IfNone c.merge_with.result ((o i : Plan) → IsRight c.args.cat.now c.args.q.now (entry c.args.a.now) o → IsRight c.args.cat.now c.args.q.now (entry c.args.b.now) i → IsBuilt c.args.cat.now c.args.q.now (merge (class_numbers xs) (sorted_if c.args.sorts.0 (class_numbers xs) o) (sorted_if c.args.sorts.1 (class_numbers xs) i)) → ¬ IsAdmissible c.args.cat.now c.args.q.now (merge (class_numbers xs) (sorted_if c.args.sorts.0 (class_numbers xs) o) (sorted_if c.args.sorts.1 (class_numbers xs) i))))
+    c.merge_work-work.ensures.list c.merge_with.ensures.none

@@ -4,4 +4,4 @@ use Rattle.join_cover.proofs.WalkLemmas.{AreBefore}
 use Rattle.join_cover.proofs.lists.open_firsts.Given as goal
 
 abbrev pub invariant-loop-n : goal.invariant-loop-n
-invariant-loop-n l = AreBefore (λ x. IsFirstServed l.cat l.q (certificate l.t) l.found x l.at.0 l.at.1) l.found l.n
+invariant-loop-n l = AreBefore (λ x. IsFirstServed l.j.cat.now l.j.q.now (certificate l.j.t.now) l.found x l.sets.0.0 l.sets.1.0) l.found l.n

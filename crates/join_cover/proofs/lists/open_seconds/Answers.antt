@@ -9,7 +9,7 @@ use Rattle.join_cover.proofs.lists.open_seconds.Goals.{in-Some+in_default-open_t
 
 pub loop-n-preserved : goal.loop-n-preserved
 loop-n-preserved c =
-    let P : ClassNo → Type 0 = λ y. IsSecondServed c.args.cat.now c.args.q.now (certificate c.args.t.now) c.args.found.now c.args.first y c.args.at.0 c.args.at.1 in
+    let P : ClassNo → Type 0 = λ y. IsSecondServed c.args.j.now.cat.now c.args.j.now.q.now (certificate c.args.j.now.t.now) c.args.found.now c.args.first y c.args.sets.0.0 c.args.sets.1.0 in
     let here : (x : ClassNo) → slice_get c.args.found.now c.loop-n.n ≡ Some (Some x) → P x = elim c.match-found-n.branch [
       | in-Some+in_default-open_two w ↦ read-some c.args.found.now c.loop-n.n w.in-Some.y P w.in-Some.is w.in_default-open_two.ensures
       | in_default w ↦ read-none c.args.found.now c.loop-n.n P w.in_default.is
@@ -17,4 +17,4 @@ loop-n-preserved c =
     before-next P c.args.found.now c.loop-n.n c.loop-n.invariant here
 
 pub returns : goal.returns
-returns c = before-all (λ y. IsSecondServed c.args.cat.now c.args.q.now (certificate c.args.t.now) c.args.found.now c.args.first y c.args.at.0 c.args.at.1) c.args.found.now c.loop-n.n c.loop-n-test.false c.loop-n.invariant
+returns c = before-all (λ y. IsSecondServed c.args.j.now.cat.now c.args.j.now.q.now (certificate c.args.j.now.t.now) c.args.found.now c.args.first y c.args.sets.0.0 c.args.sets.1.0) c.args.found.now c.loop-n.n c.loop-n-test.false c.loop-n.invariant

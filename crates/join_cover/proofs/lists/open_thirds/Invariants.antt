@@ -4,4 +4,4 @@ use Rattle.join_cover.proofs.WalkLemmas.{AreBefore}
 use Rattle.join_cover.proofs.lists.open_thirds.Given as goal
 
 abbrev pub invariant-loop-n : goal.invariant-loop-n
-invariant-loop-n l = AreBefore (λ z. IsThirdServed l.cat l.q (certificate l.t) l.two.0 l.two.1 l.at.0 l.at.1 z) l.found l.n
+invariant-loop-n l = AreBefore (λ z. IsThirdServed l.j.cat.now l.j.q.now (certificate l.j.t.now) l.two.0 l.two.1 l.sets.0.0 l.sets.1.0 z) l.found l.n

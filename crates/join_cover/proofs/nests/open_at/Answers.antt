@@ -2,38 +2,66 @@ use Rattle.std.proofs.Common.{refl}
 use Rattle.certificates.specs.Views.{certificate, entry}
 use Rattle.plan_check.specs.Beating.{candidate}
 use Rattle.entry_check.proofs.PlaceLemmas.{read-there}
-use Rattle.join_cover.proofs.CoverLemmas.{beaten-read, has-right-at, nest-beaten, nest-none, nest-open, unbeaten-read}
+use Rattle.join_cover.proofs.CoverLemmas.{beaten-read, has-right-at, nest-beaten, nest-none, nest-open, other-than, unbeaten-read}
+use Rattle.join_cover.proofs.MergeLemmas.{placed-read}
 use Rattle.join_cover.proofs.nests.open_at.Goals as goal
 
-pub nest_of-requires-clause-outer : goal.nest_of-requires-clause-outer
-nest_of-requires-clause-outer c =
-    let t = certificate c.args.t.now in
-    has-right-at c.args.cat.now c.args.q.now t c.requires.right c.args.k (entry c.index-entries-k.result) (read-there t c.args.t.now.entries c.items-entries.result.now c.args.k c.index-entries-k.result refl c.items-entries.ensures.list c.requires.outer c.index-entries-k.is)
+pub nest_with-requires-clause-outer : goal.nest_with-requires-clause-outer
+nest_with-requires-clause-outer c =
+    let t = certificate c.args.j.now.t.now in
+    has-right-at c.args.j.now.cat.now c.args.j.now.q.now (certificate c.args.j.now.t.now) c.requires.right c.args.k (entry c.index-entries-k.result) (read-there t c.args.j.now.t.now.entries c.items-entries.result.now c.args.k c.index-entries-k.result refl c.items-entries.ensures.list c.requires.outer c.index-entries-k.is)
 
-pub nest_of-requires-clause-inner : goal.nest_of-requires-clause-inner
-nest_of-requires-clause-inner c =
-    let t = certificate c.args.t.now in
-    has-right-at c.args.cat.now c.args.q.now t c.requires.right c.args.l (entry c.index-entries-l.result) (read-there t c.args.t.now.entries c.items-entries.result.now c.args.l c.index-entries-l.result refl c.items-entries.ensures.list c.requires.inner c.index-entries-l.is)
+pub nest_with-requires-clause-inner : goal.nest_with-requires-clause-inner
+nest_with-requires-clause-inner c =
+    let t = certificate c.args.j.now.t.now in
+    has-right-at c.args.j.now.cat.now c.args.j.now.q.now (certificate c.args.j.now.t.now) c.requires.right c.args.l (entry c.index-entries-l.result) (read-there t c.args.j.now.t.now.entries c.items-entries.result.now c.args.l c.index-entries-l.result refl c.items-entries.ensures.list c.requires.inner c.index-entries-l.is)
+
+pub is_covered-covered-requires : goal.is_covered-covered-requires
+is_covered-covered-requires c = record { placed = placed-read (certificate c.args.j.now.t.now) c.args.j.now.t.now.entries c.items-entries.result.now c.args.j.now.places.now refl c.items-entries.ensures.list c.requires.placed }
+
+pub returns-then-a-work : goal.returns-then-a-work
+returns-then-a-work c =
+    let t = certificate c.args.j.now.t.now in
+    let a = entry c.index-entries-k.result in
+    let b = entry c.index-entries-l.result in
+    let at = read-there t c.args.j.now.t.now.entries c.items-entries.result.now c.args.k c.index-entries-k.result refl c.items-entries.ensures.list c.requires.outer c.index-entries-k.is in
+    let at' = read-there t c.args.j.now.t.now.entries c.items-entries.result.now c.args.l c.index-entries-l.result refl c.items-entries.ensures.list c.requires.inner c.index-entries-l.is in
+    λ is. absurd (other-than c.args.j.now.cat.now c.args.j.now.q.now (certificate c.args.j.now.t.now) c.requires.right c.args.work.now.outer.0 c.args.k a at c.if-a-work.true is)
+
+pub returns-then-b-work : goal.returns-then-b-work
+returns-then-b-work c =
+    let t = certificate c.args.j.now.t.now in
+    let a = entry c.index-entries-k.result in
+    let b = entry c.index-entries-l.result in
+    let at = read-there t c.args.j.now.t.now.entries c.items-entries.result.now c.args.k c.index-entries-k.result refl c.items-entries.ensures.list c.requires.outer c.index-entries-k.is in
+    let at' = read-there t c.args.j.now.t.now.entries c.items-entries.result.now c.args.l c.index-entries-l.result refl c.items-entries.ensures.list c.requires.inner c.index-entries-l.is in
+    λ is is'. absurd (other-than c.args.j.now.cat.now c.args.j.now.q.now (certificate c.args.j.now.t.now) c.requires.right c.args.work.now.inner.0 c.args.l b at' c.if-b-work.true is')
 
 pub returns-then-covered : goal.returns-then-covered
 returns-then-covered c =
-    let t = certificate c.args.t.now in
-    let at = read-there t c.args.t.now.entries c.items-entries.result.now c.args.k c.index-entries-k.result refl c.items-entries.ensures.list c.requires.outer c.index-entries-k.is in
-    let at' = read-there t c.args.t.now.entries c.items-entries.result.now c.args.l c.index-entries-l.result refl c.items-entries.ensures.list c.requires.inner c.index-entries-l.is in
-    nest-beaten c.args.cat.now c.args.q.now t c.requires.right c.args.k c.args.l (entry c.index-entries-k.result) (entry c.index-entries-l.result) at at' (candidate c.in-Some.x) c.in-Some.ensures.some
-    (beaten-read c.args.q.now.window t c.args.t.now.entries c.items-entries.result.now (candidate c.in-Some.x) refl c.items-entries.ensures.list (c.is_covered-covered.ensures.yes c.if-covered.true))
+    let t = certificate c.args.j.now.t.now in
+    let a = entry c.index-entries-k.result in
+    let b = entry c.index-entries-l.result in
+    let at = read-there t c.args.j.now.t.now.entries c.items-entries.result.now c.args.k c.index-entries-k.result refl c.items-entries.ensures.list c.requires.outer c.index-entries-k.is in
+    let at' = read-there t c.args.j.now.t.now.entries c.items-entries.result.now c.args.l c.index-entries-l.result refl c.items-entries.ensures.list c.requires.inner c.index-entries-l.is in
+    λ is is'. nest-beaten c.args.j.now.cat.now c.args.j.now.q.now (certificate c.args.j.now.t.now) c.requires.right c.args.k c.args.l a b at at' (candidate c.in-Some.x) c.in-Some.ensures.some
+    (beaten-read c.args.j.now.q.now.window t c.args.j.now.t.now.entries c.items-entries.result.now (candidate c.in-Some.x) refl c.items-entries.ensures.list (c.is_covered-covered.ensures.yes c.if-covered.true))
 
 pub returns-else-covered : goal.returns-else-covered
 returns-else-covered c =
-    let t = certificate c.args.t.now in
-    let at = read-there t c.args.t.now.entries c.items-entries.result.now c.args.k c.index-entries-k.result refl c.items-entries.ensures.list c.requires.outer c.index-entries-k.is in
-    let at' = read-there t c.args.t.now.entries c.items-entries.result.now c.args.l c.index-entries-l.result refl c.items-entries.ensures.list c.requires.inner c.index-entries-l.is in
-    nest-open c.args.cat.now c.args.q.now t c.requires.right c.args.k c.args.l (entry c.index-entries-k.result) (entry c.index-entries-l.result) at at' (candidate c.in-Some.x) c.in-Some.ensures.some _
-    (unbeaten-read c.args.q.now.window t c.args.t.now.entries c.items-entries.result.now (candidate c.in-Some.x) refl c.items-entries.ensures.list (c.is_covered-covered.ensures.no c.if-covered.false)) c.counted.ensures refl refl
+    let t = certificate c.args.j.now.t.now in
+    let a = entry c.index-entries-k.result in
+    let b = entry c.index-entries-l.result in
+    let at = read-there t c.args.j.now.t.now.entries c.items-entries.result.now c.args.k c.index-entries-k.result refl c.items-entries.ensures.list c.requires.outer c.index-entries-k.is in
+    let at' = read-there t c.args.j.now.t.now.entries c.items-entries.result.now c.args.l c.index-entries-l.result refl c.items-entries.ensures.list c.requires.inner c.index-entries-l.is in
+    nest-open c.args.j.now.cat.now c.args.j.now.q.now (certificate c.args.j.now.t.now) c.requires.right c.args.k c.args.l a b at at' (candidate c.in-Some.x) c.in-Some.ensures.some _
+    (unbeaten-read c.args.j.now.q.now.window t c.args.j.now.t.now.entries c.items-entries.result.now (candidate c.in-Some.x) refl c.items-entries.ensures.list (c.is_covered-covered.ensures.no c.if-covered.false)) c.counted.ensures refl refl
 
 pub returns-in-None : goal.returns-in-None
 returns-in-None c =
-    let t = certificate c.args.t.now in
-    let at = read-there t c.args.t.now.entries c.items-entries.result.now c.args.k c.index-entries-k.result refl c.items-entries.ensures.list c.requires.outer c.index-entries-k.is in
-    let at' = read-there t c.args.t.now.entries c.items-entries.result.now c.args.l c.index-entries-l.result refl c.items-entries.ensures.list c.requires.inner c.index-entries-l.is in
-    nest-none c.args.cat.now c.args.q.now t c.requires.right c.args.k c.args.l (entry c.index-entries-k.result) (entry c.index-entries-l.result) at at' c.in-None.ensures.none
+    let t = certificate c.args.j.now.t.now in
+    let a = entry c.index-entries-k.result in
+    let b = entry c.index-entries-l.result in
+    let at = read-there t c.args.j.now.t.now.entries c.items-entries.result.now c.args.k c.index-entries-k.result refl c.items-entries.ensures.list c.requires.outer c.index-entries-k.is in
+    let at' = read-there t c.args.j.now.t.now.entries c.items-entries.result.now c.args.l c.index-entries-l.result refl c.items-entries.ensures.list c.requires.inner c.index-entries-l.is in
+    λ is is'. nest-none c.args.j.now.cat.now c.args.j.now.q.now (certificate c.args.j.now.t.now) c.requires.right c.args.k c.args.l a b at at' c.in-None.ensures.none

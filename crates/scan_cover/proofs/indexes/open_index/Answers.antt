@@ -13,21 +13,21 @@ use Rattle.scan_cover.proofs.ToldLemmas.{if-none-weaker, if-some-weaker, index-w
 use Rattle.scan_cover.proofs.indexes.open_index.Goals as goal
 
 pub keys_of-keys-requires-clause-index : goal.keys_of-keys-requires-clause-index
-keys_of-keys-requires-clause-index c = tree-made c.args.cat.now c.args.q.now c.args.s (c.is_built.ensures.0 c.if-not-is_built.false)
+keys_of-keys-requires-clause-index c = tree-made c.args.j.now.cat.now c.args.j.now.q.now c.args.s (c.is_built.ensures.0 c.if-not-is_built.false)
 
 pub keys_of-keys-requires-clause-few : goal.keys_of-keys-requires-clause-few
-keys_of-keys-requires-clause-few c = tree-few c.args.cat.now c.args.q.now c.args.s c.lawful.ensures (c.is_built.ensures.0 c.if-not-is_built.false)
+keys_of-keys-requires-clause-few c = tree-few c.args.j.now.cat.now c.args.j.now.q.now c.args.s c.lawful.ensures (c.is_built.ensures.0 c.if-not-is_built.false)
 
 pub index_scan_cost-cost-requires-clause-index : goal.index_scan_cost-cost-requires-clause-index
-index_scan_cost-cost-requires-clause-index c = tree-made c.args.cat.now c.args.q.now c.args.s (c.is_built.ensures.0 c.if-not-is_built.false)
+index_scan_cost-cost-requires-clause-index c = tree-made c.args.j.now.cat.now c.args.j.now.q.now c.args.s (c.is_built.ensures.0 c.if-not-is_built.false)
 
 pub returns-then-not-is_built : goal.returns-then-not-is_built
 returns-then-not-is_built c = λ built. absurd (false≢true (sym c.if-not-is_built.true ∙ c.is_built.ensures.1 built))
 
 pub returns-in-Some : goal.returns-in-Some
 returns-in-Some c =
-    let contents = c.args.cat.now in
-    let q = c.args.q.now in
+    let contents = c.args.j.now.cat.now in
+    let q = c.args.j.now.q.now in
     let s = c.args.s in
     let built = c.is_built.ensures.0 c.if-not-is_built.false in
     let numbers = c.in-Some.ensures.some contents (tree_of s) (lawful-rows contents q c.lawful.ensures)
@@ -39,8 +39,8 @@ returns-in-Some c =
 
 pub returns-in-None : goal.returns-in-None
 returns-in-None c = λ built admissible.
-    let contents = c.args.cat.now in
-    let q = c.args.q.now in
+    let contents = c.args.j.now.cat.now in
+    let q = c.args.j.now.q.now in
     let s = c.args.s in
     absurd (c.in-None.ensures.none contents (tree_of s)
     (c.kept_of.ensures.kept ∙ ap (kept_cost q.window) c.index_scan_cost-cost.ensures.rule ∙ kept-cut q.window (scan_cost contents q s.rel s.index s.param s.only) ∙ ap (λ (x : Pair). capped_pair (kept_cost q.window x)) (tree-cost contents q s))

@@ -5,4 +5,4 @@ use Rattle.scan_cover.specs.Scanning.{IsIndexServed}
 use Rattle.scan_cover.proofs.relations.open_given.Given as goal
 
 abbrev pub invariant-loop-i : goal.invariant-loop-i
-invariant-loop-i l = All (IsIndexServed l.cat l.q (certificate l.t) l.r l.p) (take l.i-index l.indexes)
+invariant-loop-i l = All (IsIndexServed l.j.cat.now l.j.q.now (certificate l.j.t.now) l.r l.p) (take l.i-index l.indexes)

@@ -5,9 +5,9 @@ use Rattle.scan_cover.proofs.WalkLemmas.{below-next, plain-served}
 use Rattle.scan_cover.proofs.relations.open_plain_scan.Goals as goal
 
 pub loop-r-preserved : goal.loop-r-preserved
-loop-r-preserved c = below-next (λ r. IsRelationServed c.args.cat.now c.args.q.now (certificate c.args.t.now) (record { 0 = r })) c.loop-r.r c.loop-r.invariant c.in_default.ensures
+loop-r-preserved c = below-next (λ r. IsRelationServed c.args.j.now.cat.now c.args.j.now.q.now (certificate c.args.j.now.t.now) (record { 0 = r })) c.loop-r.r c.loop-r.invariant c.in_default.ensures
 
 pub returns : goal.returns
 returns c =
     let same = ap length (c.items-r-end.ensures ∙ c.range_of.ensures) in
-    plain-served c.args.cat.now c.args.q.now (certificate c.args.t.now) c.loop-r.r (omega (arith, same, c.loop-r-test.false)) c.loop-r.invariant
+    plain-served c.args.j.now.cat.now c.args.j.now.q.now (certificate c.args.j.now.t.now) c.loop-r.r (omega (arith, same, c.loop-r-test.false)) c.loop-r.invariant

@@ -4,4 +4,4 @@ use Rattle.scan_cover.specs.Scanning.{IsRelationServed}
 use Rattle.scan_cover.proofs.relations.open_plain_scan.Given as goal
 
 abbrev pub invariant-loop-r : goal.invariant-loop-r
-invariant-loop-r l = (r : ℕ) → r < l.r → IsRelationServed l.cat l.q (certificate l.t) (record { 0 = r })
+invariant-loop-r l = (r : ℕ) → r < l.r → IsRelationServed l.j.cat.now l.j.q.now (certificate l.j.t.now) (record { 0 = r })

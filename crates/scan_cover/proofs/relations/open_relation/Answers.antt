@@ -7,8 +7,8 @@ use Rattle.scan_cover.proofs.relations.open_relation.Goals as goal
 
 pub loop-bits-preserved : goal.loop-bits-preserved
 loop-bits-preserved c =
-    below-next (λ m. (i : IndexNo) → IsIndexServed c.args.cat.now c.args.q.now (certificate c.args.t.now) c.args.r (record { 0 = m }) i) c.loop-bits.bits c.loop-bits.invariant c.in_default-open_given.ensures
+    below-next (λ m. (i : IndexNo) → IsIndexServed c.args.j.now.cat.now c.args.j.now.q.now (certificate c.args.j.now.t.now) c.args.r (record { 0 = m }) i) c.loop-bits.bits c.loop-bits.invariant c.in_default-open_given.ensures
 
 pub returns : goal.returns
 returns c =
-    relation-served c.args.cat.now c.args.q.now (certificate c.args.t.now) c.requires.query c.args.all c.requires.all c.args.r c.loop-bits.bits (omega arith) c.in_default.ensures c.loop-bits.invariant
+    relation-served c.args.j.now.cat.now c.args.j.now.q.now (certificate c.args.j.now.t.now) c.requires.query c.args.all c.requires.all c.args.r c.loop-bits.bits (omega arith) c.in_default.ensures c.loop-bits.invariant

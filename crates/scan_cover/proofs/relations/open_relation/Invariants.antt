@@ -5,4 +5,4 @@ use Rattle.scan_cover.specs.Scanning.{IsIndexServed}
 use Rattle.scan_cover.proofs.relations.open_relation.Given as goal
 
 abbrev pub invariant-loop-bits : goal.invariant-loop-bits
-invariant-loop-bits l = (m : ℕ) → m < l.bits → (i : IndexNo) → IsIndexServed l.cat l.q (certificate l.t) l.r (record { 0 = m }) i
+invariant-loop-bits l = (m : ℕ) → m < l.bits → (i : IndexNo) → IsIndexServed l.j.cat.now l.j.q.now (certificate l.j.t.now) l.r (record { 0 = m }) i

@@ -11,8 +11,8 @@ use Rattle.scan_cover.proofs.relations.open_seq.Goals as goal
 
 pub returns-in-Some : goal.returns-in-Some
 returns-in-Some c =
-    let contents = c.args.cat.now in
-    let q = c.args.q.now in
+    let contents = c.args.j.now.cat.now in
+    let q = c.args.j.now.q.now in
     let r = c.args.r in
     let numbers = c.in-Some.ensures.some contents (seq r) (lawful-rows contents q c.lawful.ensures)
     (c.kept_of-cost.ensures.kept ∙ ap (kept_cost q.window) c.seq_scan_cost.ensures.rule ∙ kept-cut q.window _)
@@ -23,4 +23,4 @@ returns-in-Some c =
 
 pub returns-in-None : goal.returns-in-None
 returns-in-None c = λ built admissible.
-    absurd (c.in-None.ensures.none c.args.cat.now (seq c.args.r) (c.kept_of-cost.ensures.kept ∙ ap (kept_cost c.args.q.now.window) c.seq_scan_cost.ensures.rule ∙ kept-cut c.args.q.now.window _) admissible)
+    absurd (c.in-None.ensures.none c.args.j.now.cat.now (seq c.args.r) (c.kept_of-cost.ensures.kept ∙ ap (kept_cost c.args.j.now.q.now.window) c.seq_scan_cost.ensures.rule ∙ kept-cut c.args.j.now.q.now.window _) admissible)

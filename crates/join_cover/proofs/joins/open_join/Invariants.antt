@@ -1,0 +1,7 @@
+use Rattle.std.proofs.Common.{◌<◌, ◌≤◌, ℕ}
+use Rattle.certificates.specs.Views.{certificate}
+use Rattle.join_cover.specs.Serving.{AreJoinsOf}
+use Rattle.join_cover.proofs.joins.open_join.Given as goal
+
+abbrev pub invariant-loop-bits : goal.invariant-loop-bits
+invariant-loop-bits l = (x y : ℕ) → x < l.bits → y ≤ l.all.0 → AreJoinsOf l.j.cat.now l.j.q.now (certificate l.j.t.now) x y

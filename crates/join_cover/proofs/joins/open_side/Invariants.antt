@@ -1,0 +1,7 @@
+use Rattle.std.proofs.Common.{◌<◌, ℕ}
+use Rattle.certificates.specs.Views.{certificate}
+use Rattle.join_cover.specs.Serving.{AreJoinsOf}
+use Rattle.join_cover.proofs.joins.open_side.Given as goal
+
+abbrev pub invariant-loop-bits : goal.invariant-loop-bits
+invariant-loop-bits l = (y : ℕ) → y < l.bits → AreJoinsOf l.j.cat.now l.j.q.now (certificate l.j.t.now) l.outer.0 y

@@ -1,0 +1,7 @@
+use Rattle.std.proofs.Common.{map}
+use Rattle.certificates.specs.Views.{entry}
+use Rattle.join_cover.specs.Leasts.{IsLeastFrom}
+use Rattle.join_cover.proofs.least.least_in.Given as goal
+
+abbrev pub invariant-loop-n : goal.invariant-loop-n
+invariant-loop-n l = IsLeastFrom (map entry l.entries) l.set.0 l.fn.within.0 l.n l.least

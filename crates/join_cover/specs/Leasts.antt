@@ -1,0 +1,26 @@
+-- The least of the entries of a set that are given no rows. Own.
+use Rattle.std.specs.Prelude.{◌≡◌, ◌<◌, ◌≤◌, ℕ, List, MatchOption, Option, Some, slice_get}
+use Rattle.certificates.specs.Certificates.{Entry}
+
+module _ (es : List Entry) (s : ℕ) where
+  -- the entry at a place is of the set, and is given no rows
+  pub record IsWhole (k : ℕ) : Type 0 where
+    pub entry : Entry
+    pub stands : slice_get es k ≡ Some entry
+    pub same : entry.set.0 ≡ s
+    pub whole : entry.param.0 ≡ 0
+
+  -- of all of these none costs less in all
+  pub record IsLeastWhole (k : ℕ) : Type 0 where
+    pub is : IsWhole k
+    pub least : (l : ℕ) (other : IsWhole l) → is.entry.cost ≤ other.entry.cost
+
+  -- so of those from one place on and before another, with its cost
+  pub record IsLeastAt (from n : ℕ) (found : ℕ × ℕ) : Type 0 where
+    pub is : IsWhole found.0
+    pub cost_is : found.1 ≡ is.entry.cost
+    pub least : (l : ℕ) → from ≤ l → l < n → (other : IsWhole l) → found.1 ≤ other.entry.cost
+
+  -- where there is one
+  abbrev pub IsLeastFrom : ℕ → ℕ → Option (ℕ × ℕ) → Type 0
+  IsLeastFrom from n found = MatchOption found ((l : ℕ) → from ≤ l → l < n → ¬ IsWhole l) (λ x. IsLeastAt from n x)

@@ -1,0 +1,5 @@
+pub mod TreeLemmas
+pub mod ShapeLemmas
+pub mod TellLemmas
+pub mod LineLemmas
+pub mod TextLemmas

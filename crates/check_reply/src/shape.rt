@@ -1,0 +1,18 @@
+//! What an entry says beside its numbers.
+
+use certificates::Node;
+use pathkeys::Keys;
+use pg_base::RelSet;
+
+/// An entry without its numbers.
+#[derive(Drop)]
+pub(crate) struct Shape {
+    /// The relations that it reads.
+    pub(crate) set: RelSet,
+    /// The other relations whose rows it is given.
+    pub(crate) param: RelSet,
+    /// What it is.
+    pub(crate) node: Node,
+    /// The classes by which its rows are sorted.
+    pub(crate) keys: Keys,
+}

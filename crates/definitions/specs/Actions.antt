@@ -35,6 +35,8 @@ pub data Action : Type 0 where
   certify : Query → Action
   -- ADVISE: at most so many of these indexes, for these queries
   advise : ℕ → List NamedIndex → List Query → Action
+  -- CHECK of a SELECT: whether these bytes are a certificate of it
+  verify : Query → List ℕ → Action
 
 -- the world after an accepted statement: one more table, one more index or other statistics beside the same rows, given or
 -- found, other rows of a table, or the same
@@ -53,3 +55,4 @@ after w (answer q) = w
 after w (explain q) = w
 after w (certify q) = w
 after w (advise most candidates queries) = w
+after w (verify q block) = w

@@ -32,10 +32,11 @@ use std::sync::ledger::{Blank, Ledger};
 ///
 /// With the word `run`, for every script read to its end, each SELECT prints a plan of the written plan space at its own costs that
 /// no admissible plan undercuts in price; the rows printed are, in order, the window of LIMIT and OFFSET of those that this plan
-/// gives, which as a bag, before the window, are the query's meaning in three-valued logic, in its ORDER BY. ADVISE prints which of
-/// its candidate indexes, at most so many, to make so that the least prices of its queries come to the least sum, and that sum, and
-/// makes none. A statement is refused only for the fault that is named, which may be that no plan is admissible, or no advice to be
-/// had, or for want of memory.
+/// gives, which as a bag, before the window, are the query's meaning in three-valued logic, in its ORDER BY. EXPLAIN (TABLE) prints
+/// such a plan with a certificate of which it is the best one, and CHECK whether a certificate that is handed in, by whomever, is a
+/// table of its query, or the first reason for which it is none. ADVISE prints which of its candidate indexes, at most so many, to
+/// make so that the least prices of its queries come to the least sum, and that sum, and makes none. A statement is refused only for
+/// the fault that is named, which may be that no plan is admissible, or no advice to be had, or for want of memory.
 ///
 /// With the word `sample` and a number nothing is read, and the script of that number is worked. One line is printed at the end: how
 /// many queries it asks, how many rows their answers have together, and what the least prices of their plans come to.

@@ -10,7 +10,7 @@ pub const READS_ADVISE: bool = true;
 pub const READS_ANALYZE: bool = true;
 
 /// CHECK of the certificate of a SELECT's plan.
-pub const READS_CHECK: bool = false;
+pub const READS_CHECK: bool = true;
 
 /// GROUP BY and the calls of a SELECT's list, as count(*).
 pub const READS_GROUPS: bool = false;

@@ -1,5 +1,5 @@
 -- How a query ends: answered, refused, or stopped on its way out.
-use Rattle.std.proofs.Common.{◌≡◌, ℕ, ◌<◌, ◌∙◌, Bool, true, false, cond, List, length, inl, inr, Option, Some, None, Ok, Err, Result, IfErr, IsErrAnd, refl, sym, ap, subst, arith}
+use Rattle.std.proofs.Common.{◌≡◌, ℕ, ◌<◌, ◌∙◌, List, length, inl, inr, Option, Some, None, Ok, Err, Result, IfErr, IsErrAnd, refl, sym, ap, subst, arith}
 use Rattle.pg_base.specs.declared.faults.Fault.{Fault}
 use Rattle.pg_base.specs.declared.faults.Refusal.{Refusal}
 use Rattle.pg_base.specs.declared.faults.Refusal.TheVariants as refusal
@@ -25,7 +25,7 @@ use Rattle.plan_tree.specs.Plans.{Plan}
 use Rattle.reply.specs.Putting.{HasWriteCause}
 use Rattle.statements.specs.declared.end.End.{End}
 use Rattle.statements.specs.declared.end.End.TheVariants as ends
-use Rattle.definitions.specs.Actions.{after, answer, certify, explain}
+use Rattle.definitions.specs.Actions.{after}
 use Rattle.statements.specs.Ending.{end_of_refusal, end_of_stop}
 use Rattle.statements.specs.Accepted.{IsReadOver, asked, asked_as}
 use Rattle.statements.specs.Askings.{IsTallied}
@@ -35,7 +35,8 @@ use Rattle.table_reply.specs.Tabled.{IsTabledText}
 use Rattle.statements.specs.Steps.{IsAnsweredOver, IsTalliedOver, Refuses, StopsOver}
 use Rattle.statements.proofs.QueryLemmas.{Binds, Grammar, query-fault, fault-plain}
 
-plain-field : (c : Contents) (f : Fault) → f.rec ≡ 0 → IsFieldOf c f
+-- a fault in no record of data is in no field
+pub plain-field : (c : Contents) (f : Fault) → f.rec ≡ 0 → IsFieldOf c f
 plain-field c f none = λ field some. absurd (omega (arith, none, some))
 
 -- a query that is not read

@@ -1,10 +1,9 @@
 -- Each OR of a query whose conjuncts have parts has an arm: pushing NOT keeps the parts, and a clause of a class is no OR.
-use Rattle.std.proofs.Common.{◌≡◌, ℕ, suc, ◌≤◌, Bool, true, false, not, ◌&&◌, List, [], ◌∷◌, ◌++◌, length, map, filter, cond, is_some, All, Option, Some, None, sym, ap, subst, arith}
+use Rattle.std.proofs.Common.{◌≡◌, ℕ, suc, ◌≤◌, Bool, true, false, not, ◌&&◌, List, [], ◌∷◌, ◌++◌, length, map, filter, cond, is_some, All, Option, Some, None, sym, subst, arith}
 use Rattle.std.specs.List.{flat_map}
 use Rattle.std.proofs.lemmas.List.Elements.{All-append, All-cons, All-nil, All-tail}
 use Rattle.pg_value.specs.declared.operators.Op.{Op}
 use Rattle.pg_value.specs.declared.value.SqlType.{SqlType}
-use Rattle.pg_value.specs.declared.value.Value.{Value}
 use Rattle.pg_value.specs.Truths.{commutator_of, negator_of}
 use Rattle.pg_expr.specs.declared.operand.ColRef.{ColRef}
 use Rattle.pg_expr.specs.declared.operand.Operand.{Operand}
@@ -14,7 +13,7 @@ use Rattle.pg_expr.specs.Conjuncts.{conjuncts_of}
 use Rattle.pg_expr.specs.Pushed.{group_of, is_turned, parts_of, placed, placed_not, pushed, pushed_parts}
 use Rattle.catalog.specs.Contents.{Contents}
 use Rattle.eq_classes.specs.Classes.{Class, conjuncts_in, listed}
-use Rattle.eq_classes.specs.Clauses.{Clause, class_clauses, clause, clause_list, clauses_from, conjunct_clauses, constant_clauses, each_pair, equals, equals_constant, by_class, by_conjunct, first_in, has_constant, inner_clause, inner_clauses, is_first, one, pair_clause, pair_clauses}
+use Rattle.eq_classes.specs.Clauses.{Clause, class_clauses, clause, clauses_from, conjunct_clauses, constant_clauses, each_pair, equals, equals_constant, by_class, by_conjunct, first_in, has_constant, inner_clause, inner_clauses, is_first, one, pair_clause, pair_clauses}
 use Rattle.eq_classes.specs.Equality.{as_clause, equality_family, equality_in, is_column}
 use Rattle.eq_classes.specs.Holding.{IsClassTable}
 use Rattle.index_match.specs.Arms.{arms_of}

@@ -19,6 +19,8 @@ pub mod WordPlaceLemmas
 pub mod ReplyLemmas
 pub mod PlainAdviceLemmas
 pub mod OneAdviceLemmas
+pub mod TellingLemmas
 pub mod AdvisingLemmas
+pub mod CheckingLemmas
 pub mod TallyLemmas
 pub mod ArmsLemmas

@@ -1,15 +1,18 @@
 -- A statement has one reading from each place on.
-use Rattle.std.proofs.Common.{◌≡◌, ℕ, inl, inr, Bool, true, false, cond, List, ◌∷◌, sym, ap, ◌∙◌, subst, slice_range, Some, Result, Ok, Err}
+use Rattle.std.proofs.Common.{◌≡◌, ℕ, inl, inr, List, ◌∷◌, drop, sym, ap, ap₂, ◌∙◌, subst, slice_range, Some, Result, Ok, Err}
 use Rattle.pg_base.specs.declared.faults.Fault.{Fault}
 use Rattle.sql_lex.specs.declared.tokens.Token.{Token}
 use Rattle.pg_base.specs.Faults.{syntax_fault}
 use Rattle.sql_lex.proofs.UniqueLaws.{one_list, one_fault, no_fault}
 use Rattle.sql_grammar.specs.Terminals.{token_of}
-use Rattle.sql_grammar.specs.Syntax.{Advise, CreateIndex, OrderedSelect, Statement, empty, create_table, create_index, query, copy, sizes, column_statistics, analyze, advise as advise_tree, check, use_plan, grouped}
+use Rattle.sql_grammar.specs.CopyLine.{IsDataStart}
+use Rattle.sql_grammar.specs.Syntax.{Advise, CreateIndex, OrderedSelect, WindowedSelect, Statement, empty, create_table, create_index, query, copy, sizes, column_statistics, analyze, advise as advise_tree, check, use_plan, grouped}
 use Rattle.sql_grammar.specs.Faults.{bytes_of, IsStatement, terminals}
 use Rattle.catalog.specs.Contents.{Contents}
 use Rattle.catalog.specs.Tables.{IsIndexRefusal, table_named}
 use Rattle.eq_classes.specs.Holding.{IsClassTable}
+use Rattle.eq_classes.specs.Clauses.{Table}
+use Rattle.ddl_reader.specs.Block.{HaveNoMark, IsBlockEnd, lines_of}
 use Rattle.ddl_reader.specs.Statements.{Means}
 use Rattle.ddl_reader.specs.Tables.{Definition, table, sizes_for, statistics_for, data_for, analysis_of, Reading, data_after}
 use Rattle.heap.specs.Loading.{records_of, loaded}
@@ -22,9 +25,9 @@ use Rattle.sql_query.specs.Queries.{Query}
 use Rattle.sql_query.specs.WellBound.{given_of}
 use Rattle.eq_classes.proofs.UniqueLemmas.{table_one}
 use Rattle.sql_query.specs.Worlds.{World, stored_at}
-use Rattle.definitions.specs.Actions.{Action, advise, build, fill}
-use Rattle.statements.specs.Accepted.{Advises, Answers, Carries, Does, Indexes, IsReadOver, IsRead, asked, asked_as}
-use Rattle.statements.specs.Faults.{index_fault, word_ends, rows_fault, IsRefused, IsAdviseFault, IsDefinitionFault, IsIndexFault, IsQueryFault, IsMeaningFault, IsFaultOver, in_syntax, in_meaning, IsFault, in_words, after_words}
+use Rattle.definitions.specs.Actions.{Action, advise, build, fill, verify}
+use Rattle.statements.specs.Accepted.{Advises, Answers, Carries, Checks, Does, Indexes, IsReadOver, IsRead, asked, asked_as}
+use Rattle.statements.specs.Faults.{endless_fault, index_fault, word_ends, IsCheckFault, in_line, in_select, without_end, rows_fault, IsRefused, IsAdviseFault, IsDefinitionFault, IsIndexFault, IsQueryFault, IsMeaningFault, IsFaultOver, in_syntax, in_meaning, IsFault, in_words, after_words}
 use Rattle.reply.specs.Answers.{HasNoPlan}
 use Rattle.reply.specs.Replies.{Reply}
 use Rattle.statements.specs.Replies.{IsReply}
@@ -87,6 +90,26 @@ module _ (w : World) (text : List ℕ) (tokens : List Token) where
   one_advised x a b (p, h, left, i) (q, k, right, j) =
       i ∙ (ap (λ (y : Asked). advise y.most y.candidates y.queries) (one-advice w.contents tokens x (Ok p) (Ok q) h k left right) ∙ sym j)
 
+  -- the classes of a query are one table
+  one_query_of : (p q : Bound) (t u : Table) → q ≡ p → IsClassTable (given_of w.contents (query_with t p)) t → IsClassTable (given_of w.contents (query_with u q)) u → query_with t p ≡ query_with u q
+  one_query_of p q t u same left right =
+      let there : IsClassTable (given_of w.contents (query_with u p)) u = subst (λ (z : Bound). IsClassTable (given_of w.contents (query_with u z)) u) same right in
+      let one : t ≡ u = table_one (given_of w.contents (query_with t p)) t u left there in
+      ap (λ (z : Table). query_with z p) one ∙ ap (query_with u) (sym same)
+
+  started : (stop : Token) (s t : ℕ) → IsDataStart text stop.end (Ok s) → IsDataStart text stop.end (Ok t) → s ≡ t
+  started stop s t h k = let both : Ok s ≡ Ok t = one_start text stop.end (Ok s) (Ok t) h k in cc
+
+  one_check : (x : WindowedSelect) (stop : Token) (a b : Action) (m n : ℕ) → Checks w text tokens x stop a m → Checks w text tokens x stop b n → (a ≡ b) × (m ≡ n)
+  one_check x stop a b m n h k =
+      let start = started stop h.start k.start h.begins k.begins in
+      let (end, next) = one_end text h.start h.end m k.end n h.ends (subst (λ (s : ℕ). IsBlockEnd text s k.end n) (sym start) k.ends) in
+      let both : Ok h.meant ≡ Ok k.meant = sym h.means ∙ k.means in
+      let same : k.meant ≡ h.meant = cc in
+      let asked = one_query_of h.meant k.meant h.classes k.classes same h.own k.own in
+      let bytes : slice_range text h.start h.end ≡ slice_range text k.start k.end = ap₂ (slice_range text) start end in
+      (h.verifies ∙ (ap₂ verify asked bytes ∙ sym k.verifies), next)
+
   one_done : (x : Statement) (a b : Action) (m n : ℕ) → Does w text tokens x a m → Does w text tokens x b n → (a ≡ b) × (m ≡ n)
   one_done (empty e) a b m n h k = (h.0 ∙ sym k.0, h.1 ∙ sym k.1)
   one_done (create_index x) a b m n h k = one_index x a b m n h k
@@ -99,7 +122,7 @@ module _ (w : World) (text : List ℕ) (tokens : List Token) where
   one_done (create_table c t i o d ds z e) a b m n (r, h, p) (s, k, q) = one_defined (create_table c t i o d ds z e) a b m n r s h k p q
   one_done (analyze v c i e) a b m n (r, h, p) (s, k, q) = one_defined (analyze v c i e) a b m n r s h k p q
   one_done (advise_tree x) a b m n (h, i) (k, j) = (one_advised x a b h k, i ∙ sym j)
-  one_done (check p c x e) a b m n h k = absurd h
+  one_done (check p c x s) a b m n h k = one_check x s a b m n h k
   one_done (use_plan p c d q y e) a b m n h k = absurd h
   one_done (grouped p c d q) a b m n h k = absurd h
   one_done (copy c i null) a b m n (r, h, p) (s, k, q) = one_defined (copy c i null) a b m n r s h k p q
@@ -206,6 +229,23 @@ module _ (w : World) (text : List ℕ) (tokens : List Token) where
       let less : HasNoAdviceFor w.contents p.candidates p.queries p.most = subst (λ (z : Asked). HasNoAdviceFor w.contents z.candidates z.queries z.most) (sym same) none in
       no-advice-told w.contents p.candidates p.queries p.most r.bytes told.0 less
 
+  one_check_fault : (x : WindowedSelect) (stop : Token) (f g : Fault) → IsCheckFault w text tokens x stop f → IsCheckFault w text tokens x stop g → f ≡ g
+  one_check_fault x stop f g (in_line h) (in_line k) = let both : Err f ≡ Err g = one_start text stop.end (Err f) (Err g) h k in cc
+  one_check_fault x stop f g (in_line h) (in_select t k j) = let both : Err f ≡ Ok t = one_start text stop.end (Err f) (Ok t) h k in absurd (cc)
+  one_check_fault x stop f g (in_line h) (without_end t d k j none at) = let both : Err f ≡ Ok t = one_start text stop.end (Err f) (Ok t) h k in absurd (cc)
+  one_check_fault x stop f g (in_select s h i) (in_line k) = let both : Ok s ≡ Err g = one_start text stop.end (Ok s) (Err g) h k in absurd (cc)
+  one_check_fault x stop f g (in_select s h i) (in_select t k j) = let both : Err f ≡ Err g = sym i ∙ j in cc
+  one_check_fault x stop f g (in_select s h i) (without_end t d k j none at) = let both : Err f ≡ Ok d = sym i ∙ j in absurd (cc)
+  one_check_fault x stop f g (without_end s b h i none at) (in_line k) = let both : Ok s ≡ Err g = one_start text stop.end (Ok s) (Err g) h k in absurd (cc)
+  one_check_fault x stop f g (without_end s b h i none at) (in_select t k j) = let both : Ok b ≡ Err g = sym i ∙ j in absurd (cc)
+  one_check_fault x stop f g (without_end s b h i none at) (without_end t d k j none' at') = at ∙ (ap endless_fault (started stop s t h k) ∙ sym at')
+
+  not_checked : (x : WindowedSelect) (stop : Token) (a : Action) (n : ℕ) (f : Fault) → Checks w text tokens x stop a n → IsCheckFault w text tokens x stop f → ⊥
+  not_checked x stop a n f h (in_line k) = let both : Ok h.start ≡ Err f = one_start text stop.end (Ok h.start) (Err f) h.begins k in absurd (cc)
+  not_checked x stop a n f h (in_select t k j) = let both : Ok h.meant ≡ Err f = sym h.means ∙ j in absurd (cc)
+  not_checked x stop a n f h (without_end t d k j none at) =
+      no_end text h.start h.end n h.ends (subst (λ (s : ℕ). HaveNoMark (lines_of (drop s text))) (sym (started stop h.start t h.begins k)) none)
+
   one_meant : (x : Statement) (f g : Fault) → IsMeaningFault w text tokens x f → IsMeaningFault w text tokens x g → f ≡ g
   one_meant (empty e) f g h k = absurd h
   one_meant (create_index x) f g h k = one_indexed x f g h k
@@ -215,7 +255,7 @@ module _ (w : World) (text : List ℕ) (tokens : List Token) where
   one_meant (column_statistics c n d i nulls commons bounds e) f g h k = one_definition (column_statistics c n d i nulls commons bounds e) f g h k
   one_meant (analyze p c n e) f g h k = one_definition (analyze p c n e) f g h k
   one_meant (advise_tree x) f g h k = one_unadvised x f g h k
-  one_meant (check p c x e) f g h k = absurd h
+  one_meant (check p c x s) f g h k = one_check_fault x s f g h k
   one_meant (use_plan p c d q y e) f g h k = absurd h
   one_meant (grouped p c d q) f g h k = absurd h
   one_meant (copy c n null) f g h k = one_definition (copy c n null) f g h k
@@ -229,7 +269,7 @@ module _ (w : World) (text : List ℕ) (tokens : List Token) where
   not_meant (column_statistics c i d p nulls commons bounds e) a n r f (s, h, u) reply k = no_definition (column_statistics c i d p nulls commons bounds e) a n s f h u k
   not_meant (analyze v c i e) a n r f (s, h, p) reply k = no_definition (analyze v c i e) a n s f h p k
   not_meant (advise_tree x) a n r f h reply k = has-advice x a n r f h reply k
-  not_meant (check p c x e) a n r f h reply k = absurd k
+  not_meant (check p c x s) a n r f h reply k = not_checked x s a n f h k
   not_meant (use_plan p c d q y e) a n r f h reply k = absurd k
   not_meant (grouped p c d q) a n r f h reply k = absurd k
   not_meant (copy c i null) a n r f (s, h, p) reply k = no_definition (copy c i null) a n s f h p k

@@ -1,9 +1,9 @@
 -- Where statements end.
-use Rattle.std.proofs.Common.{◌≡◌, ℕ, ◌-◌, ◌<◌, ◌≤◌, inl, inr, Bool, true, false, List, [], ◌∷◌, length, drop, map, suc, refl, sym, ap, ◌∙◌, arith, subst, cond, Contains, MatchBool, slice_range, Some, None, Option, Result, Ok, Err}
+use Rattle.std.proofs.Common.{◌≡◌, ℕ, ◌-◌, ◌<◌, ◌≤◌, inl, inr, Bool, true, false, List, [], ◌∷◌, ◌++◌, length, drop, map, suc, refl, sym, ap, ◌∙◌, arith, subst, cond, Contains, MatchBool, slice_range, Some, None, Option, Result, Ok, Err}
 use Rattle.std.specs.List.{list_all}
 use Rattle.std.specs.Str.{bytes_eq}
 use Rattle.std.proofs.lemmas.Bool.{cases_lt}
-use Rattle.std.proofs.lemmas.List.{length-drop, length-take, nil_from_length}
+use Rattle.std.proofs.lemmas.List.{length-drop, length-take, map-append, nil_from_length}
 use Rattle.std.proofs.lemmas.Option.{slice_get_within}
 use Rattle.std.proofs.lemmas.List.Elements.{All-contains}
 use Rattle.std.proofs.lemmas.List.Sums.{AllPass-from_list_all}
@@ -19,9 +19,11 @@ use Rattle.sql_lex.specs.declared.tokens.Kind.TheVariants as kinds
 use Rattle.sql_lex.specs.declared.tokens.Token.{Token}
 use Rattle.sql_lex.specs.Forms.{IsToken, symbols}
 use Rattle.sql_lex.specs.Words.{AreWords, IsNext, is_last}
-use Rattle.sql_grammar.specs.Terminals.{Ident, Said, token_of}
-use Rattle.sql_grammar.specs.Syntax.{CopyWords, Lit, Statement, empty, create_table, create_index, query, copy, sizes, column_statistics, analyze, advise, check, use_plan, grouped}
-use Rattle.sql_grammar.specs.Words.{words_of}
+use Rattle.sql_grammar.specs.Terminals.{Ident, Said, t_semicolon, token_of}
+use Rattle.sql_grammar.specs.Syntax.{CopyWords, IsOffered, WindowedSelect, Lit, Statement, empty, create_table, create_index, query, copy, sizes, column_statistics, analyze, advise, check, use_plan, grouped}
+use Rattle.sql_grammar.specs.Unique.{token_in}
+use Rattle.sql_grammar.specs.Words.{words_of, words_of_windowed}
+use Rattle.sql_grammar.specs.declared.offered.TheConstants.{READS_CHECK}
 use Rattle.sql_grammar.specs.Faults.{bytes_of, fault_at, terminals}
 use Rattle.sql_grammar.specs.CopyLine.{IsDataStart, after_blanks}
 use Rattle.catalog.specs.Contents.{Contents, table_at}
@@ -39,7 +41,7 @@ use Rattle.sql_query.specs.Worlds.{World}
 use Rattle.definitions.specs.Actions.{Action}
 use Rattle.statements.proofs.BlockLemmas.{block-within}
 use Rattle.sql_lex.specs.Ends.{token_at, end_of}
-use Rattle.statements.specs.Accepted.{Carries, Does, IsReadOver}
+use Rattle.statements.specs.Accepted.{Carries, Checks, Does, IsReadOver}
 
 -- some byte, tested by whether the list is empty
 abbrev some : List ℕ → Bool
@@ -107,7 +109,7 @@ ends-behind text from [] w = absurd w
 ends-behind text from (t ∷ ts) w = ends-behind-by text from t ts (is_last text t) (λ f. ends-behind text f ts) w.0 w.1
 
 -- data begin behind the statement, inside the text
-start-behind : (text : List ℕ) (from start : ℕ) → IsDataStart text from (Ok start) → (from < start) × (start ≤ length text)
+pub start-behind : (text : List ℕ) (from start : ℕ) → IsDataStart text from (Ok start) → (from < start) × (start ≤ length text)
 start-behind text from start is = (omega (arith, is.1), omega (arith, is.1, slice_get_within text (after_blanks text from) 10 is.0))
 
 carried-table : (w : World) (text : List ℕ) (tokens : List Token) (d : Definition) (action : Action) (next : ℕ) (name : List ℕ) (names : List (List ℕ)) (columns : List Column) →
@@ -185,6 +187,25 @@ module _ (w : World) (text : List ℕ) (tokens : List Token) where
 copy-end : (text : List ℕ) (tokens : List Token) (k : CopyWords) (n : Ident) (null : Said) → words_of (copy k n null) ≡ terminals text tokens → k.stop.end ≡ end_of tokens
 copy-end text tokens k n null e = ap end_of (tokens-are (words_of (copy k n null)) text tokens e)
 
+-- the last of some tokens
+last-end : (ts : List Token) (t : Token) → end_of (ts ++ t ∷ []) ≡ t.end
+last-end [] t = refl
+last-end (u ∷ []) t = last-behind u t []
+last-end (u ∷ v ∷ ts) t = last-behind u v (ts ++ t ∷ []) ∙ last-end (v ∷ ts) t
+
+pub check-end : (text : List ℕ) (tokens : List Token) (p : IsOffered READS_CHECK) (k : Token) (x : WindowedSelect) (stop : Token) → words_of (check p k x stop) ≡ terminals text tokens → stop.end ≡ end_of tokens
+check-end text tokens p k x stop e =
+    let all = tokens-are (words_of (check p k x stop)) text tokens e in
+    let apart : map token_in (words_of_windowed x ++ t_semicolon stop ∷ []) ≡ map token_in (words_of_windowed x) ++ stop ∷ [] = map-append token_in (words_of_windowed x) (t_semicolon stop ∷ []) in
+    sym (last-end (k ∷ map token_in (words_of_windowed x)) stop) ∙ (ap (λ (l : List Token). end_of (k ∷ l)) (sym apart) ∙ ap end_of all)
+
+-- the lines of a certificate, and the one that ends them
+checks-behind : (w : World) (text : List ℕ) (tokens : List Token) (x : WindowedSelect) (stop : Token) (action : Action) (next : ℕ) → Checks w text tokens x stop action next → (stop.end < next) × (next ≤ length text)
+checks-behind w text tokens x stop action next is =
+    let begins = start-behind text stop.end is.start is.begins in
+    let lies = block-within text is.start is.end next begins.1 is.ends in
+    (omega (arith, begins.0, lies.order, lies.end_order), lies.within)
+
 at-end-of : (text : List ℕ) (from next end : ℕ) → next ≡ end → EndsBehind text from end → EndsBehind text from next
 at-end-of text from next end e is = let P : ℕ → Type 0 = λ n. EndsBehind text from n in subst P (sym e) is
 
@@ -212,7 +233,8 @@ does-behind w text from tokens (column_statistics k n c d nulls commons bounds e
 does-behind w text from tokens (analyze p k n e) action next words spelled does =
     at-end-of text from next (end_of tokens) (last-by w text tokens does.0 (analysis w.contents n) action next does.1 (analysis-last w text tokens w.contents n) does.2) (ends-behind text from tokens words)
 does-behind w text from tokens (advise x) action next words spelled does = at-end-of text from next (end_of tokens) does.1 (ends-behind text from tokens words)
-does-behind w text from tokens (check p k x s) action next words spelled does = absurd does
+does-behind w text from tokens (check p k x s) action next words spelled does =
+    behind-data text from s.end (end_of tokens) next (check-end text tokens p k x s spelled) (ends-behind text from tokens words) (checks-behind w text tokens x s action next does)
 does-behind w text from tokens (use_plan p k l q y s) action next words spelled does = absurd does
 does-behind w text from tokens (grouped p k l q) action next words spelled does = absurd does
 does-behind w text from tokens (copy k n null) action next words spelled does =

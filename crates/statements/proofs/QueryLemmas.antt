@@ -32,6 +32,7 @@ use Rattle.sql_query.specs.Worlds.{World}
 use Rattle.reply.specs.Answers.{HasNoPlan}
 use Rattle.statements.specs.Accepted.{IsReadOver, asked}
 use Rattle.statements.specs.Faults.{IsFaultOver, in_syntax, in_meaning, no_plan}
+use Rattle.statements.specs.Steps.{begins_check}
 use Rattle.statements.proofs.BindingLemmas.{bound-plain}
 use Rattle.statements.proofs.PlainLemmas.{first-plain}
 
@@ -40,21 +41,21 @@ abbrev begins_end : List Terminal → Bool
 begins_end [] = false
 begins_end (word ∷ _) = is_ending (class_of word)
 
--- a statement that begins with neither and is no definition is a SELECT
-no-other : (x : Statement) (ts : List Terminal) → begins_ddl ts ≡ false → begins_index ts ≡ false → begins_end ts ≡ false → begins_advise ts ≡ false → words_of x ≡ ts → is_query x ≡ true
-no-other (empty (semicolon t)) ts other index goes advice is = let e = ap begins_end is ∙ goes in absurd (cc (e))
-no-other (empty (text_end t)) ts other index goes advice is = let e = ap begins_end is ∙ goes in absurd (cc (e))
-no-other (create_table k t n o c cs m end) ts other index goes advice is = let e = ap begins_ddl is ∙ other in absurd (cc (e))
-no-other (create_index (index_on k i n o t u p x xs m c w e)) ts other index goes advice is = let h = ap begins_index is ∙ index in absurd (cc (h))
-no-other (query q) ts other index goes advice is = refl
-no-other (sizes k n r p end) ts other index goes advice is = let e = ap begins_ddl is ∙ other in absurd (cc (e))
-no-other (column_statistics k n c d nulls commons bounds end) ts other index goes advice is = let e = ap begins_ddl is ∙ other in absurd (cc (e))
-no-other (analyze p k n end) ts other index goes advice is = let e = ap begins_ddl is ∙ other in absurd (cc (e))
-no-other (advise (advise_of p t n o x xs m q qs e)) ts other index goes advice is = let e = ap begins_advise is ∙ advice in absurd (cc (e))
-no-other (check p k x s) ts other index goes advice is = absurd p
-no-other (use_plan p k l q y s) ts other index goes advice is = absurd p
-no-other (grouped p k l q) ts other index goes advice is = absurd p
-no-other (copy k n null) ts other index goes advice is = let e = ap begins_ddl is ∙ other in absurd (cc (e))
+-- a statement that begins with neither and is no definition, no ADVISE and no CHECK is a SELECT
+no-other : (x : Statement) (ts : List Terminal) → begins_ddl ts ≡ false → begins_index ts ≡ false → begins_end ts ≡ false → begins_advise ts ≡ false → begins_check ts ≡ false → words_of x ≡ ts → is_query x ≡ true
+no-other (empty (semicolon t)) ts other index goes advice judged is = let e = ap begins_end is ∙ goes in absurd (cc (e))
+no-other (empty (text_end t)) ts other index goes advice judged is = let e = ap begins_end is ∙ goes in absurd (cc (e))
+no-other (create_table k t n o c cs m end) ts other index goes advice judged is = let e = ap begins_ddl is ∙ other in absurd (cc (e))
+no-other (create_index (index_on k i n o t u p x xs m c w e)) ts other index goes advice judged is = let h = ap begins_index is ∙ index in absurd (cc (h))
+no-other (query q) ts other index goes advice judged is = refl
+no-other (sizes k n r p end) ts other index goes advice judged is = let e = ap begins_ddl is ∙ other in absurd (cc (e))
+no-other (column_statistics k n c d nulls commons bounds end) ts other index goes advice judged is = let e = ap begins_ddl is ∙ other in absurd (cc (e))
+no-other (analyze p k n end) ts other index goes advice judged is = let e = ap begins_ddl is ∙ other in absurd (cc (e))
+no-other (advise (advise_of p t n o x xs m q qs e)) ts other index goes advice judged is = let e = ap begins_advise is ∙ advice in absurd (cc (e))
+no-other (check p k x s) ts other index goes advice judged is = let e = ap begins_check is ∙ judged in absurd (cc (e))
+no-other (use_plan p k l q y s) ts other index goes advice judged is = absurd p
+no-other (grouped p k l q) ts other index goes advice judged is = absurd p
+no-other (copy k n null) ts other index goes advice judged is = let e = ap begins_ddl is ∙ other in absurd (cc (e))
 
 -- where more words than one stand, the first is no end
 goes-by : (b : Bool) (n : ℕ) (rest : Bool) → 0 < n → cond b (nat_eq n 0) rest ≡ true → b ≡ false
@@ -67,15 +68,15 @@ goes-on text from (t ∷ ts) words short some =
     goes-by (is_end text t) (length ts) (ends_once text ts) (omega (arith, some)) (words-are-tokens text from (t ∷ ts) words (omega (arith, short))).last
 
 pub are-no-other : (text : List ℕ) (from : ℕ) (tokens : List Token) → AreWords text from tokens → length text ≤ MOST_SCRIPT_BYTES → 1 < length tokens → begins_ddl (terminals text tokens) ≡ false → begins_index (terminals text tokens) ≡ false → begins_advise (terminals text tokens) ≡ false →
-    AreNoOther text tokens
-are-no-other text from tokens words short some other index advice = λ x is. no-other x (terminals text tokens) other index (goes-on text from tokens words short some) advice is
+    begins_check (terminals text tokens) ≡ false → AreNoOther text tokens
+are-no-other text from tokens words short some other index advice judged = λ x is. no-other x (terminals text tokens) other index (goes-on text from tokens words short some) advice judged is
 
 -- what is read where this is meant is the query of it with its own classes, and a fault that is told is its fault
-meant-ok : (r : Result Bound Fault) (read : Query) → IsBoundAs r (Ok read) → (b : Bound) × (r ≡ Ok b) × (read ≡ query_with read.classes b)
+pub meant-ok : (r : Result Bound Fault) (read : Query) → IsBoundAs r (Ok read) → (b : Bound) × (r ≡ Ok b) × (read ≡ query_with read.classes b)
 meant-ok (Ok b) read is = (b, refl, is)
 meant-ok (Err f) read is = absurd is
 
-meant-fault : (r : Result Bound Fault) (f : Fault) → IsBoundAs r (Err (refusal.Fault f)) → r ≡ Err f
+pub meant-fault : (r : Result Bound Fault) (f : Fault) → IsBoundAs r (Err (refusal.Fault f)) → r ≡ Err f
 meant-fault (Ok b) f is = absurd is
 meant-fault (Err told) f is = ap Err (sym is)
 
@@ -167,7 +168,7 @@ module _ (text : List ℕ) (tokens : List Token) (kind : AreNoOther text tokens)
     binds-of w r h = λ x start later split spelled. part-binds w.contents start x r (h (whole_of x) start later split (is-whole (x, spelled)) (at-first x spelled))
 
 -- the words of a statement begin with its first token
-first-token : (tokens : List Token) → 0 < length tokens → (later : List Token) × (tokens ≡ token_at tokens 0 ∷ later)
+pub first-token : (tokens : List Token) → 0 < length tokens → (later : List Token) × (tokens ≡ token_at tokens 0 ∷ later)
 first-token [] some = absurd (omega (arith, some))
 first-token (t ∷ ts) some = (ts, refl)
 

@@ -1,12 +1,11 @@
 -- A statement that is worked with nothing printed.
-use Rattle.std.proofs.Common.{◌≡◌, ◌<◌, ◌≤◌, ◌+◌, ◌==◌, ℕ, Bool, true, false, List, [], ◌++◌, length, codes, if◌then◌else◌, sym, ap, subst, ◌∙◌, arith, Option, None, Result, Ok, Err, IfOk}
+use Rattle.std.proofs.Common.{◌≡◌, ◌<◌, ◌≤◌, ◌+◌, ◌==◌, ℕ, Bool, true, false, List, [], ◌++◌, length, codes, if◌then◌else◌, ap, ◌∙◌, arith, Option, None, Result, Ok, Err, IfOk}
 use Rattle.std.specs.Fmt.{decimal}
 use Rattle.std.proofs.lemmas.List.{length-append}
 use Rattle.row_text.specs.Texts.{count_line}
 use Rattle.sql_lex.specs.declared.tokens.Token.{Token}
-use Rattle.sql_lex.specs.Ends.{end_of}
 use Rattle.sql_lex.specs.Words.{AreWords}
-use Rattle.definitions.specs.Actions.{Action, idle, make, build, size, describe, fill, gather, answer, explain, certify, advise}
+use Rattle.definitions.specs.Actions.{Action, idle, make, build, size, describe, fill, gather, answer, explain, certify, advise, verify}
 use Rattle.explain.specs.Texts.{explained_text}
 use Rattle.reply.specs.Answers.{tuples_of, tuples_text}
 use Rattle.sql_query.specs.Meaning.{windowed}
@@ -17,8 +16,8 @@ use Rattle.statements.specs.declared.end.End.TheVariants as ends
 use Rattle.statements.specs.declared.replying.Tallied.{Tallied}
 use Rattle.statements.specs.Askings.{IsMeasuredOf, asked_in}
 use Rattle.statements.specs.Faults.{after_words}
-use Rattle.statements.specs.Replies.{IsReply, silent, told}
-use Rattle.statements.specs.Steps.{IsAdvised, IsDefined, IsTalliedOver, Refuses, StopsTally, Tallies}
+use Rattle.statements.specs.Replies.{IsReply, silent}
+use Rattle.statements.specs.Steps.{IsDefined, IsTalliedOver, Refuses, StopsTally, Tallies}
 use Rattle.statements.proofs.PlaceLemmas.{read-behind}
 
 -- an answer ends with a line
@@ -47,6 +46,7 @@ unasked w (answer q) looks is =
 unasked w (explain q) looks is = tt
 unasked w (certify q) looks is = tt
 unasked w (advise most candidates queries) looks is = tt
+unasked w (verify q block) looks is = tt
 
 -- a definition was carried out
 pub tallied-definition : (w w' : World) (text : List ℕ) (at next : ℕ) (tokens : List Token) (looked looked' : ℕ) → AreWords text at tokens → IsDefined w w' text tokens next looked looked' → Tallies w w' text at next None
@@ -56,17 +56,6 @@ tallied-definition w w' text at next tokens looked looked' words (action, is, af
   world = after;
   tallied = record { reply = silent is.looks; replies = is.reply; measured = unasked w action is.looks is.reply };
 }
-
--- an advice was found
-pub tallied-advice : (w : World) (text : List ℕ) (tokens : List Token) (next : ℕ) (lines : List ℕ) → next ≡ end_of tokens → IsAdvised w text tokens lines → IsTalliedOver w text tokens next None
-tallied-advice w text tokens next lines at is =
-    subst (λ (n : ℕ). IsTalliedOver w text tokens n None) (sym at)
-    (record {
-      action = is.action;
-      read = is.read;
-      still = is.still;
-      tallied = record { reply = told lines; replies = is.reply; measured = subst (λ o. IsMeasuredOf o None) (sym is.quiet) tt };
-    })
 
 -- a query was measured
 pub tallied-query : (w : World) (text : List ℕ) (at next : ℕ) (tokens : List Token) (m : Option Measured) → AreWords text at tokens → IsTalliedOver w text tokens next m → Tallies w w text at next m

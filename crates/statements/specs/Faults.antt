@@ -10,7 +10,8 @@ use Rattle.pg_base.specs.declared.faults.Fault.{Fault}
 use Rattle.pg_base.specs.Faults.{data_fault, syntax_fault, words_fault}
 use Rattle.sql_lex.specs.declared.tokens.Token.{Token}
 use Rattle.sql_lex.specs.Words.{AreWords, IsWordFault}
-use Rattle.sql_grammar.specs.Syntax.{Advise, OrderedSelect, CreateIndex, Statement, empty, create_table, create_index, query, copy, sizes, column_statistics, analyze, advise, check, use_plan, grouped}
+use Rattle.sql_grammar.specs.CopyLine.{IsDataStart}
+use Rattle.sql_grammar.specs.Syntax.{Advise, OrderedSelect, WindowedSelect, CreateIndex, Statement, empty, create_table, create_index, query, copy, sizes, column_statistics, analyze, advise, check, use_plan, grouped}
 use Rattle.sql_grammar.specs.Faults.{IsStatement, IsFirstFault, fault_at, terminals}
 use Rattle.sql_grammar.specs.Spelled.{IsSpelled}
 use Rattle.advise_reader.specs.Meaning.{Asked, Means as AdviseMeans}
@@ -27,7 +28,7 @@ use Rattle.heap.specs.declared.fault.CopyFault.TheVariants as copying
 use Rattle.heap.specs.Loading.{records_of, loaded}
 use Rattle.index_prices.specs.Replies.{HasNoAdviceFor}
 use Rattle.index_reader.specs.Meaning.{Reading as IndexReading, meaning}
-use Rattle.query_reader.specs.Binding.{Bound, bound, query_with}
+use Rattle.query_reader.specs.Binding.{Bound, bound, bound_part, query_with}
 use Rattle.query_reader.specs.Select.{words_before}
 use Rattle.reply.specs.Answers.{HasNoPlan}
 use Rattle.sql_query.specs.WellBound.{given_of}
@@ -84,7 +85,7 @@ rows_fault (copying.TooLong rec col) t start = Some (data_fault (S15 Text) start
 rows_fault (copying.TooMany rec) t start = Some (data_fault (S15 Rows) start rec t 0)
 rows_fault copying.Memory t start = None
 
--- data without a line that ends them
+-- data, or a certificate, without a line that ends them
 abbrev pub endless_fault : ℕ → Fault
 endless_fault start = data_fault S13 start 0 (record { 0 = 0 }) 0
 
@@ -136,6 +137,13 @@ IsUnadvised w tokens a f = HaveClasses w.contents a.queries × HasNoAdviceFor w.
 abbrev pub IsAdviseFault : World → List Token → Advise → Fault → Type 0
 IsAdviseFault w tokens x f = AdviseMeans w.contents tokens x (Err f) ⊎ ((a : Asked) × AdviseMeans w.contents tokens x (Ok a) × IsUnadvised w tokens a f)
 
+-- a fault of CHECK of a SELECT, whose words end with this `;`: of the rest of its line; then in the names and limits of the SELECT;
+-- then that no line ends the certificate
+pub data IsCheckFault (w : World) (text : List ℕ) (tokens : List Token) (x : WindowedSelect) (stop : Token) (f : Fault) : Type 0 where
+  in_line : IsDataStart text stop.end (Err f) → IsCheckFault w text tokens x stop f
+  in_select : (start : ℕ) → IsDataStart text stop.end (Ok start) → bound_part w.contents (token_at tokens 0) x ≡ Err f → IsCheckFault w text tokens x stop f
+  without_end : (start : ℕ) (b : Bound) → IsDataStart text stop.end (Ok start) → bound_part w.contents (token_at tokens 0) x ≡ Ok b → HaveNoMark (lines_of (drop start text)) → f ≡ endless_fault start → IsCheckFault w text tokens x stop f
+
 -- the first fault of a statement whose syntax has none. Productions that are not offered have none
 abbrev pub IsMeaningFault : World → List ℕ → List Token → Statement → Fault → Type 0
 IsMeaningFault w text tokens (empty e) f = ⊥
@@ -147,7 +155,7 @@ IsMeaningFault w text tokens (column_statistics k n c d nulls commons bounds e) 
 IsMeaningFault w text tokens (copy k n null) f = IsDefinitionFault w text (copy k n null) f
 IsMeaningFault w text tokens (analyze p k n e) f = IsDefinitionFault w text (analyze p k n e) f
 IsMeaningFault w text tokens (advise x) f = IsAdviseFault w tokens x f
-IsMeaningFault w text tokens (check p k x s) f = ⊥
+IsMeaningFault w text tokens (check p k x s) f = IsCheckFault w text tokens x s f
 IsMeaningFault w text tokens (use_plan p k l q y s) f = ⊥
 IsMeaningFault w text tokens (grouped p k l q) f = ⊥
 

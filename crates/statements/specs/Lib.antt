@@ -1,4 +1,5 @@
 pub mod Accepted
+pub mod Questions
 pub mod Replies
 pub mod Scripts
 pub mod Askings

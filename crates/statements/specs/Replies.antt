@@ -5,8 +5,9 @@ use Rattle.index_prices.specs.Replies.{IsReplyTo}
 use Rattle.reply.specs.Effort.{exactly}
 use Rattle.reply.specs.Replies.{Reply, IsAnswerTo, IsExplanationOf}
 use Rattle.store.specs.Kept.{load_looks}
-use Rattle.definitions.specs.Actions.{Action, idle, make, build, size, describe, fill, gather, answer, explain, certify, advise}
+use Rattle.definitions.specs.Actions.{Action, idle, make, build, size, describe, fill, gather, answer, explain, certify, advise, verify}
 use Rattle.table_reply.specs.Tabled.{IsTableOf}
+use Rattle.check_reply.specs.Checked.{IsCheckedText}
 
 -- nothing printed and nothing fetched, with so many looks
 abbrev pub silent : ℕ → Reply
@@ -17,8 +18,8 @@ abbrev pub told : List ℕ → Reply
 told bytes = record { bytes = bytes; fetched = exactly 0; looked = 0 }
 
 -- an accepted statement's reply: SELECT prints the answer by a best plan, its EXPLAIN that plan alone, and its EXPLAIN (TABLE)
--- that plan with a table of it. ADVISE prints the
--- advice, with nothing fetched and nothing looked at. The others print nothing: CREATE INDEX and ANALYZE look at each row of their table, and COPY at each new row for each index of the table
+-- that plan with a table of it. ADVISE prints the advice, and CHECK a line that tells whether its lines are a certificate of the
+-- query, each with nothing fetched and nothing looked at. The others print nothing: CREATE INDEX and ANALYZE look at each row of their table, and COPY at each new row for each index of the table
 abbrev pub IsReply : World → Action → Reply → Type 0
 IsReply w idle r = r ≡ silent 0
 IsReply w (make name names columns) r = r ≡ silent 0
@@ -31,3 +32,4 @@ IsReply w (answer q) r = IsAnswerTo w q r
 IsReply w (explain q) r = IsExplanationOf w.contents q r
 IsReply w (certify q) r = IsTableOf w.contents q r
 IsReply w (advise most candidates queries) r = IsReplyTo w.contents candidates queries most r.bytes × (r.fetched ≡ exactly 0) × (r.looked ≡ 0)
+IsReply w (verify q block) r = IsCheckedText w.contents q block r.bytes × (r.fetched ≡ exactly 0) × (r.looked ≡ 0)

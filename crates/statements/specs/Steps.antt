@@ -1,9 +1,13 @@
 -- What a step of the script machine does. Own.
-use Rattle.std.specs.Prelude.{ℕ, ◌≡◌, ◌⊎◌, ◌+◌, ◌≤◌, ◌<◌, false, length, List, [], slice_range, Option, None, Ok}
+use Rattle.std.specs.Prelude.{ℕ, ◌≡◌, ◌⊎◌, ◌+◌, ◌≤◌, ◌<◌, Bool, false, true, length, List, [], ◌∷◌, slice_range, Option, None, Ok}
 use Rattle.pg_base.specs.declared.numbers.TableNo.{TableNo}
 use Rattle.sql_lex.specs.declared.tokens.Token.{Token}
-use Rattle.sql_lex.specs.Ends.{end_of}
 use Rattle.sql_grammar.specs.Faults.{terminals}
+use Rattle.sql_grammar.specs.Spelled.{IsSpelled}
+use Rattle.sql_grammar.specs.Syntax.{IsOffered, WindowedSelect, check}
+use Rattle.sql_grammar.specs.Terminals.{Terminal, free, t_name}
+use Rattle.sql_grammar.specs.declared.offered.TheConstants.{READS_CHECK}
+use Rattle.sql_grammar.specs.declared.class.Free.TheVariants.{Check as CheckWord}
 use Rattle.catalog.specs.Contents.{Contents}
 use Rattle.ddl_reader.specs.Block.{IsBlockEnd}
 use Rattle.ddl_reader.specs.Statements.{begins_ddl, begins_index}
@@ -97,11 +101,11 @@ RefusesData (ends.Fault f) w text t start looked looked' = RefusesDefinition (en
 RefusesData ends.Write w text t start looked looked' = ⊥
 RefusesData ends.Memory w text t start looked looked' = (looked' ≡ looked) ⊎ AreLoaded w text t start looked looked'
 
--- the tokens are a query or an ADVISE, whose reply out gained
+-- the tokens are a query, an ADVISE or a CHECK, whose reply out gained
 abbrev pub IsAnsweredOver : World → List ℕ → List Token → ℕ → Traces → Traces → Type 0
 IsAnsweredOver w text tokens next old new = (action : Action) × IsReadOver w text tokens action next × (w ≡ after w action) × HasReplied (IsReply w action) old new
 
--- the tokens are a query or an ADVISE, and out gained some first bytes of its reply
+-- the tokens are a query, an ADVISE or a CHECK, and out gained some first bytes of its reply
 abbrev pub IsBegunOver : World → List ℕ → List Token → Traces → Traces → Type 0
 IsBegunOver w text tokens old new = (action : Action) × (next : ℕ) × IsReadOver w text tokens action next × HasBegun (IsReply w action) old new
 
@@ -118,15 +122,28 @@ pub record IsTalliedOver (w : World) (text : List ℕ) (tokens : List Token) (ne
   pub still : w ≡ after w action
   pub tallied : IsTallied w action m
 
--- the tokens are an ADVISE, which asks no query, and these lines are its reply
-pub record IsAdvised (w : World) (text : List ℕ) (tokens : List Token) (lines : List ℕ) : Type 0 where
+-- CHECK is the first word
+abbrev pub begins_check : List Terminal → Bool
+begins_check (t_name (free CheckWord _) ∷ _) = true
+begins_check _ = false
+
+-- the tokens are a CHECK of a SELECT
+pub record AreCheck (text : List ℕ) (tokens : List Token) : Type 0 where
+  pub offered : IsOffered READS_CHECK
+  pub word : Token
+  pub select : WindowedSelect
+  pub stop : Token
+  pub spelled : IsSpelled (check offered word select stop) text tokens
+
+-- the tokens do this up to `next`, ask no query and leave the world as it is, and these bytes are their reply
+pub record IsTelling (w : World) (text : List ℕ) (tokens : List Token) (next : ℕ) (bytes : List ℕ) : Type 0 where
   pub action : Action
-  pub read : IsReadOver w text tokens action (end_of tokens)
+  pub read : IsReadOver w text tokens action next
   pub still : w ≡ after w action
   pub quiet : asked_in w action ≡ None
-  pub reply : IsReply w action (told lines)
+  pub reply : IsReply w action (told bytes)
 
--- why the query or the ADVISE of these tokens was not answered whole
+-- why the query, the ADVISE or the CHECK of these tokens was not answered whole
 abbrev pub StopsOver : End → World → List ℕ → List Token → Traces → Traces → Type 0
 StopsOver (ends.Fault f) w text tokens old new = IsFaultOver w text tokens f × IsFieldOf w.contents f × (new ≡ old)
 StopsOver ends.Write w text tokens old new = IsBegunOver w text tokens old new

@@ -3,13 +3,14 @@
 ghost use Rattle.std.specs.Prelude.{◌≡◌, ◌≢◌, ◌≤◌, ℕ, List, IfErr, IfOk, length, true};
 ghost use Rattle.heap.specs.Stored.{Stored};
 ghost use Rattle.pg_base.specs.declared.limits.TheConstants.{MOST_SCRIPT_BYTES};
+ghost use Rattle.sql_lex.specs.Ends.{end_of};
 ghost use Rattle.sql_lex.specs.Words.{AreWords};
 ghost use Rattle.sql_grammar.specs.Faults.{terminals};
 ghost use Rattle.advise_reader.specs.Statements.{begins_advise};
 ghost use Rattle.sql_query.specs.Worlds.{world};
 ghost use Rattle.reply.specs.Putting.{HasWriteCause};
 ghost use Rattle.reply.specs.Replies.{traces};
-ghost use Rattle.statements.specs.Steps.{IsAdvised, IsAnsweredOver, Refuses, StopsOver};
+ghost use Rattle.statements.specs.Steps.{IsAnsweredOver, IsTelling, Refuses, StopsOver};
 
 use crate::end::End;
 use crate::query::token_at;
@@ -54,7 +55,7 @@ pub(crate) fn advice(
     requires short { length text.now ≤ MOST_SCRIPT_BYTES }
     requires words { (from : ℕ) × AreWords text.now from tokens.now }
     requires opens { begins_advise (terminals text.now tokens.now) ≡ true }
-    ensures advised { (stored : List Stored) → IfOk result (λ lines. IsAdvised (world catalog.now stored) text.now tokens.now lines.items) }
+    ensures advised { (stored : List Stored) → IfOk result (λ lines. IsTelling (world catalog.now stored) text.now tokens.now (end_of tokens.now) lines.items) }
     ensures refused { (stored : List Stored) → IfErr result (λ e. Refuses e (world catalog.now stored) text.now tokens.now 0 0) }
 {
     let asked = read_advise(alloc, catalog, text, tokens)?;

@@ -3,6 +3,7 @@
 
 mod advising;
 mod carry;
+mod checking;
 mod define;
 mod end;
 mod faults;

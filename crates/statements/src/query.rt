@@ -14,10 +14,11 @@ ghost use Rattle.query_reader.specs.Select.{AreNoOther, AreSelect, words_before}
 ghost use Rattle.reply.specs.Answers.{HasNoPlan};
 ghost use Rattle.reply.specs.Putting.{HasWriteCause};
 ghost use Rattle.reply.specs.Replies.{HasReplied, Leaves, traces};
-ghost use Rattle.statements.specs.Accepted.{IsReadOver, asked, asked_as};
+ghost use Rattle.statements.specs.Accepted.{IsReadOver, asked};
 ghost use Rattle.statements.specs.Askings.{IsTallied};
 ghost use Rattle.statements.specs.Faults.{IsFaultOver, no_plan};
 ghost use Rattle.statements.specs.Ending.{end_of_stop};
+ghost use Rattle.statements.specs.Questions.{IsQuestion, action_of, world_of};
 ghost use Rattle.statements.specs.Replies.{IsReply};
 ghost use Rattle.statements.specs.Steps.{IsAnsweredOver, IsTalliedOver, Refuses, StopsOver};
 
@@ -33,6 +34,15 @@ use sql_query::Prepared;
 use std::alloc::Global;
 use store::Store;
 use table_reply::{explain_table, table_text};
+
+/// What is asked of a query over a store of its catalogue.
+#[derive(Drop)]
+struct Question<'a, C: Counters> {
+    catalog: &'a Catalog,
+    store: &'a Store<C>,
+    query: &'a Prepared,
+    wanted: Wanted,
+}
 
 /// The number of the token at which the SELECT of these tokens begins, where they are a SELECT, EXPLAIN or EXPLAIN (TABLE).
 fn select_at(text: &[u8], tokens: &Tokens) -> u32
@@ -86,8 +96,8 @@ fn unplanned(text: &[u8], tokens: &Tokens) -> Fault
     fault_at(Code::S16, token_at(tokens, first))
 }
 
-/// Answers the query of these tokens, or explains it, with its table or without, and gives the offset after it. It is no definition and no empty
-/// statement. That it has no admissible plan is a fault at the word SELECT.
+/// Answers the query of these tokens, or explains it, with its table or without, and gives the offset after it. It is no
+/// definition and no empty statement. That it has no admissible plan is a fault at the word SELECT.
 pub(crate) fn answer_query<C: Counters, K: Sink>(
     alloc: Global,
     text: &[u8],
@@ -108,8 +118,13 @@ pub(crate) fn answer_query<C: Counters, K: Sink>(
     ensures cause { HasWriteCause End.Write (K.faults out.old) (K.faults out.new) result }
 {
     let query = read_query(alloc, text, tokens, catalog)?;
-    let wanted = wants(text, tokens);
-    match print(alloc, catalog, store, &query, wanted, out, fetches, reads) {
+    let at = Question {
+        catalog,
+        store,
+        query: &query,
+        wanted: wants(text, tokens),
+    };
+    match print(alloc, &at, out, fetches, reads) {
         Ok(()) => Ok(tokens.end()),
         Err(stop) => Err(stopped_at(stop, unplanned(text, tokens))),
     }
@@ -135,8 +150,13 @@ pub(crate) fn measure_query<C: Counters>(
     ensures refused { IfErr result (λ e. Refuses e (world catalog.now store.now.stored) text.now tokens.now 0 0) }
 {
     let query = read_query(alloc, text, tokens, catalog)?;
-    let wanted = wants(text, tokens);
-    match count(alloc, catalog, store, &query, wanted, fetches, reads) {
+    let at = Question {
+        catalog,
+        store,
+        query: &query,
+        wanted: wants(text, tokens),
+    };
+    match count(alloc, &at, fetches, reads) {
         Ok(measured) => Ok(measured),
         Err(stop) => Err(stopped_at(stop, unplanned(text, tokens))),
     }
@@ -145,31 +165,26 @@ pub(crate) fn measure_query<C: Counters>(
 /// What the answer to a query comes to; nothing of one whose plan is asked for, alone or with its table.
 fn count<C: Counters>(
     alloc: Global,
-    catalog: &Catalog,
-    store: &Store<C>,
-    query: &Prepared,
-    wanted: Wanted,
+    at: &Question<C>,
     fetches: &mut Steps<C::Fetches>,
     reads: &mut Steps<C::Looks>,
 ) -> Result<Option<Measured>, Stop>
-    requires bound { IsWellBound catalog.now query.now }
-    requires arms { HasArmsInOrs query.now }
-    requires store { IsStoreOf catalog.now store.now }
-    ensures tallied { IfOk result (IsTallied (world catalog.now store.now.stored) (asked_as wanted query.now)) }
-    ensures no_plan { IfErr result (λ stop. stop ≡ Stop.NoPlan → HasNoPlan catalog.now query.now) }
+    requires question { IsQuestion at.now }
+    ensures tallied { IfOk result (IsTallied (world_of at.now) (action_of at.now)) }
+    ensures no_plan { IfErr result (λ stop. stop ≡ Stop.NoPlan → HasNoPlan at.now.catalog.now at.now.query.now) }
     ensures unwritten { IfErr result (λ stop. stop ≢ Stop.Write) }
 {
-    match wanted {
+    match at.wanted {
         Wanted::Rows => {
-            let measured = measure(alloc, catalog, query, store, fetches, reads)?;
+            let measured = measure(alloc, at.catalog, at.query, at.store, fetches, reads)?;
             Ok(Some(measured))
         }
         Wanted::Plan => {
-            measure(alloc, catalog, query, store, fetches, reads)?;
+            measure(alloc, at.catalog, at.query, at.store, fetches, reads)?;
             Ok(None)
         }
         Wanted::Table => {
-            table_text(alloc, catalog, query)?;
+            table_text(alloc, at.catalog, at.query)?;
             Ok(None)
         }
     }
@@ -178,26 +193,21 @@ fn count<C: Counters>(
 /// Prints the answer to a query, the plan alone where it is explained, or the plan with the table of it.
 fn print<C: Counters, K: Sink>(
     alloc: Global,
-    catalog: &Catalog,
-    store: &Store<C>,
-    query: &Prepared,
-    wanted: Wanted,
+    at: &Question<C>,
     out: &mut K,
     fetches: &mut Steps<C::Fetches>,
     reads: &mut Steps<C::Looks>,
 ) -> Result<(), Stop>
-    requires bound { IsWellBound catalog.now query.now }
-    requires arms { HasArmsInOrs query.now }
-    requires store { IsStoreOf catalog.now store.now }
-    ensures replied { OnOk result (HasReplied (IsReply (world catalog.now store.now.stored) (asked_as wanted query.now)) (traces (K.held out.old) fetches.old reads.old) (traces (K.held out.new) fetches.new reads.new)) }
-    ensures stopped { IfErr result (λ stop. Leaves stop (IsReply (world catalog.now store.now.stored) (asked_as wanted query.now)) (traces (K.held out.old) fetches.old reads.old) (traces (K.held out.new) fetches.new reads.new)) }
-    ensures no_plan { IfErr result (λ stop. stop ≡ Stop.NoPlan → HasNoPlan catalog.now query.now) }
+    requires question { IsQuestion at.now }
+    ensures replied { OnOk result (HasReplied (IsReply (world_of at.now) (action_of at.now)) (traces (K.held out.old) fetches.old reads.old) (traces (K.held out.new) fetches.new reads.new)) }
+    ensures stopped { IfErr result (λ stop. Leaves stop (IsReply (world_of at.now) (action_of at.now)) (traces (K.held out.old) fetches.old reads.old) (traces (K.held out.new) fetches.new reads.new)) }
+    ensures no_plan { IfErr result (λ stop. stop ≡ Stop.NoPlan → HasNoPlan at.now.catalog.now at.now.query.now) }
     ensures cause { HasWriteCause Stop.Write (K.faults out.old) (K.faults out.new) result }
 {
-    match wanted {
-        Wanted::Rows => answer(alloc, catalog, query, store, out, fetches, reads),
-        Wanted::Plan => explain_query(alloc, catalog, query, out),
-        Wanted::Table => explain_table(alloc, catalog, query, out),
+    match at.wanted {
+        Wanted::Rows => answer(alloc, at.catalog, at.query, at.store, out, fetches, reads),
+        Wanted::Plan => explain_query(alloc, at.catalog, at.query, out),
+        Wanted::Table => explain_table(alloc, at.catalog, at.query, out),
     }
 }
 

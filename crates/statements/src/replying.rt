@@ -1,6 +1,6 @@
-//! The statements that have a reply: SELECT, EXPLAIN and ADVISE.
+//! The statements that have a reply: SELECT, EXPLAIN, ADVISE and CHECK.
 
-ghost use Rattle.std.specs.Prelude.{◌≡◌, ◌≤◌, ℕ, List, IfErr, IfOk, length, true};
+ghost use Rattle.std.specs.Prelude.{◌≡◌, ◌≤◌, ◌<◌, ℕ, List, IfErr, IfOk, length, true};
 ghost use Rattle.pg_base.specs.declared.limits.TheConstants.{MOST_SCRIPT_BYTES};
 ghost use Rattle.sql_lex.specs.Words.{AreWords};
 ghost use Rattle.sql_grammar.specs.Faults.{terminals};
@@ -10,9 +10,10 @@ ghost use Rattle.sql_query.specs.Worlds.{world};
 ghost use Rattle.store.specs.Kept.{IsStoreOf};
 ghost use Rattle.reply.specs.Putting.{HasWriteCause};
 ghost use Rattle.reply.specs.Replies.{traces};
-ghost use Rattle.statements.specs.Steps.{AreNoDefinition, IsAnsweredOver, IsTalliedOver, Refuses, StopsOver};
+ghost use Rattle.statements.specs.Steps.{AreNoDefinition, IsAnsweredOver, IsTalliedOver, Refuses, StopsOver, begins_check};
 
 use crate::advising::{advice, advise};
+use crate::checking::{check, is_check, verdict_of};
 use crate::end::End;
 use crate::query::{answer_query, measure_query};
 use advise_reader::is_advise;
@@ -55,6 +56,9 @@ pub fn reply_to<C: Counters, K: Sink>(
     if is_advise(text, tokens) {
         return advise(alloc, text, tokens, catalog, out);
     }
+    if is_check(text, tokens) {
+        return check(alloc, text, tokens, catalog, out);
+    }
     answer_query(alloc, text, tokens, catalog, store, out, fetches, reads)
 }
 
@@ -77,6 +81,9 @@ pub fn tally_reply<C: Counters>(
 {
     if is_advise(text, tokens) {
         return tally_advice(alloc, text, tokens, catalog);
+    }
+    if is_check(text, tokens) {
+        return tally_check(alloc, text, tokens, catalog);
     }
     match measure_query(alloc, text, tokens, catalog, store, fetches, reads) {
         Ok(measured) => Ok(Tallied {
@@ -103,6 +110,27 @@ fn tally_advice(
     let _lines = advice(alloc, text, tokens, catalog)?;
     Ok(Tallied {
         next: tokens.end(),
+        measured: None,
+    })
+}
+
+/// Finds what is told of the certificate of the CHECK of these tokens, and prints nothing.
+fn tally_check(
+    alloc: Global,
+    text: &[u8],
+    tokens: &Tokens,
+    catalog: &Catalog,
+) -> Result<Tallied, End>
+    requires short { length text.now ≤ MOST_SCRIPT_BYTES }
+    requires words { (from : ℕ) × AreWords text.now from tokens.now }
+    requires some { 1 < length tokens.now }
+    requires opens { begins_check (terminals text.now tokens.now) ≡ true }
+    ensures tallied { (stored : List Stored) → IfOk result (λ t. IsTalliedOver (world catalog.now stored) text.now tokens.now t.next t.measured) }
+    ensures refused { (stored : List Stored) → IfErr result (λ e. Refuses e (world catalog.now stored) text.now tokens.now 0 0) }
+{
+    let verdict = verdict_of(alloc, text, tokens, catalog)?;
+    Ok(Tallied {
+        next: verdict.next,
         measured: None,
     })
 }

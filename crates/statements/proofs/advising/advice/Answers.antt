@@ -7,7 +7,8 @@ use Rattle.sql_query.specs.WellBound.{IsWellBound}
 use Rattle.sql_query.specs.Worlds.{world}
 use Rattle.advise_reader.specs.Statements.{asked}
 use Rattle.statements.specs.Ending.{end_of_refusal}
-use Rattle.statements.proofs.AdvisingLemmas.{found-advised, none-advised, reading-refused, refused-by}
+use Rattle.statements.proofs.AdvisingLemmas.{found-advised, none-advised, reading-refused}
+use Rattle.statements.proofs.TellingLemmas.{refused-by}
 use Rattle.statements.proofs.advising.advice.Goals as goal
 
 pub returns-in_err-asked-clause-refused : goal.returns-in_err-asked-clause-refused

@@ -1,9 +1,11 @@
-use Rattle.std.proofs.Common.{ℕ, List, [], subst}
+use Rattle.std.proofs.Common.{ℕ, List, [], subst, sym}
 use Rattle.std.specs.Io.KnownBytes.{Appends}
 use Rattle.pg_base.specs.Writing.{AppendsPrefix}
+use Rattle.sql_lex.specs.Ends.{end_of}
 use Rattle.sql_query.specs.Worlds.{world}
 use Rattle.reply.specs.Replies.{traces}
-use Rattle.statements.proofs.AdvisingLemmas.{advice-begun, advice-written, never-write, no-cause-told, refused-stops}
+use Rattle.statements.specs.Steps.{IsAnsweredOver}
+use Rattle.statements.proofs.TellingLemmas.{never-write, no-cause-told, refused-stops, telling-begun, telling-written}
 use Rattle.statements.proofs.AnsweringLemmas.{stops-by}
 use Rattle.statements.proofs.advising.advise.Goals as goal
 
@@ -27,12 +29,16 @@ pub returns-in-Ok-clause-answered : goal.returns-in-Ok-clause-answered
 returns-in-Ok-clause-answered g c = λ stored f l.
     let held = g.K.Sink.held c.args.out.now in
     let held' = g.K.Sink.held c.write_all.new.sink in
-    advice-written (world c.args.catalog.now stored) c.args.text.now c.args.tokens.now c.in_ok-lines.lines.items (c.in_ok-lines.ensures.advised stored) held held' f l
-    c.end.result c.end.ensures (subst (λ (bytes : List ℕ). Appends held held' bytes) c.deref.ensures.value c.in-Ok.ensures.ok)
+    let w = world c.args.catalog.now stored in
+    let text = c.args.text.now in
+    let tokens = c.args.tokens.now in
+    subst (λ (n : ℕ). IsAnsweredOver w text tokens n (traces held f l) (traces held' f l)) (sym c.end.ensures)
+    (telling-written w text tokens (end_of tokens) c.in_ok-lines.lines.items (c.in_ok-lines.ensures.advised stored) held held' f l
+    (subst (λ (bytes : List ℕ). Appends held held' bytes) c.deref.ensures.value c.in-Ok.ensures.ok))
 
 pub returns-clause-stopped : goal.returns-clause-stopped
 returns-clause-stopped g c = λ stored f l.
     let held = g.K.Sink.held c.args.out.now in
     let held' = g.K.Sink.held c.write_all.new.sink in
-    advice-begun (world c.args.catalog.now stored) c.args.text.now c.args.tokens.now c.in_ok-lines.lines.items (c.in_ok-lines.ensures.advised stored) held held' f l
+    telling-begun (world c.args.catalog.now stored) c.args.text.now c.args.tokens.now (end_of c.args.tokens.now) c.in_ok-lines.lines.items (c.in_ok-lines.ensures.advised stored) held held' f l
     (subst (λ (bytes : List ℕ). AppendsPrefix held held' bytes) c.deref.ensures.value c.in-Err.ensures.err)

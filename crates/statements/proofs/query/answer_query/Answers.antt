@@ -1,6 +1,6 @@
 use Rattle.sql_query.specs.Worlds.{world}
 use Rattle.reply.specs.Replies.{traces}
-use Rattle.statements.proofs.AdvisingLemmas.{never-write, no-cause-told, refused-stops}
+use Rattle.statements.proofs.TellingLemmas.{never-write, no-cause-told, refused-stops}
 use Rattle.statements.proofs.AnsweringLemmas.{answered-over, cause-by, printing-told, stops-by}
 use Rattle.statements.proofs.query.answer_query.Goals as goal
 
@@ -26,7 +26,7 @@ pub returns-in-Ok-clause-answered : goal.returns-in-Ok-clause-answered
 returns-in-Ok-clause-answered g c =
     let stored = c.args.store.now.stored in
     answered-over (world c.args.catalog.now stored) c.args.text.now c.args.tokens.now c.in_ok-query.query (c.in_ok-query.ensures.read stored) (c.in_ok-query.ensures.unplanned stored)
-    c.wants-wanted.result c.wants-wanted.ensures
+    c.wants.result c.wants.ensures
     (traces (g.K.Sink.held c.args.out.now) c.args.fetches.now c.args.reads.now) (traces (g.K.Sink.held c.print.new.out) c.print.new.fetches c.print.new.reads)
     c.end.result c.end.ensures c.in-Ok.ensures.replied
 
@@ -34,7 +34,7 @@ pub returns-clause-stopped : goal.returns-clause-stopped
 returns-clause-stopped g c =
     let stored = c.args.store.now.stored in
     printing-told (world c.args.catalog.now stored) c.args.text.now c.args.tokens.now c.in_ok-query.query (c.in_ok-query.ensures.read stored) (c.in_ok-query.ensures.unplanned stored)
-    c.wants-wanted.result c.wants-wanted.ensures
+    c.wants.result c.wants.ensures
     (traces (g.K.Sink.held c.args.out.now) c.args.fetches.now c.args.reads.now) (traces (g.K.Sink.held c.print.new.out) c.print.new.fetches c.print.new.reads)
     c.in-Err.stop c.unplanned.result c.stopped_at.result c.stopped_at.ensures c.unplanned.ensures c.in-Err.ensures.stopped c.in-Err.ensures.no_plan
 

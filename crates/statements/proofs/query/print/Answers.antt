@@ -1,27 +1,27 @@
-use Rattle.sql_query.specs.Worlds.{world}
+use Rattle.statements.specs.Questions.{world_of}
 use Rattle.statements.proofs.ReplyLemmas.{answered-replied, answered-stopped, explained-replied, explained-stopped, tabled-replied, tabled-stopped}
 use Rattle.statements.proofs.query.print.Goals as goal
 
 pub returns-in-Rows-clause-replied : goal.returns-in-Rows-clause-replied
 returns-in-Rows-clause-replied g c =
-    answered-replied (world c.args.catalog.now c.args.store.now.stored) c.args.query.now c.args.wanted c.answer.result c.in-Rows.is _ _ c.answer.ensures.answered
+    answered-replied (world_of c.args.at.now) c.args.at.now.query.now c.args.at.now.wanted c.answer.result c.in-Rows.is _ _ c.answer.ensures.answered
 
 pub returns-in-Rows-clause-stopped : goal.returns-in-Rows-clause-stopped
 returns-in-Rows-clause-stopped g c =
-    answered-stopped (world c.args.catalog.now c.args.store.now.stored) c.args.query.now c.args.wanted c.answer.result c.in-Rows.is _ _ c.answer.ensures.stopped
+    answered-stopped (world_of c.args.at.now) c.args.at.now.query.now c.args.at.now.wanted c.answer.result c.in-Rows.is _ _ c.answer.ensures.stopped
 
 pub returns-in-Plan-clause-replied : goal.returns-in-Plan-clause-replied
 returns-in-Plan-clause-replied g c =
-    explained-replied (world c.args.catalog.now c.args.store.now.stored) c.args.query.now c.args.wanted c.explain_query.result _ _ c.args.fetches.now c.args.reads.now c.in-Plan.is c.explain_query.ensures.explained
+    explained-replied (world_of c.args.at.now) c.args.at.now.query.now c.args.at.now.wanted c.explain_query.result _ _ c.args.fetches.now c.args.reads.now c.in-Plan.is c.explain_query.ensures.explained
 
 pub returns-in-Plan-clause-stopped : goal.returns-in-Plan-clause-stopped
 returns-in-Plan-clause-stopped g c =
-    explained-stopped (world c.args.catalog.now c.args.store.now.stored) c.args.query.now c.args.wanted c.explain_query.result _ _ c.args.fetches.now c.args.reads.now c.in-Plan.is c.explain_query.ensures.stopped
+    explained-stopped (world_of c.args.at.now) c.args.at.now.query.now c.args.at.now.wanted c.explain_query.result _ _ c.args.fetches.now c.args.reads.now c.in-Plan.is c.explain_query.ensures.stopped
 
 pub returns-in-Table-clause-replied : goal.returns-in-Table-clause-replied
 returns-in-Table-clause-replied g c =
-    tabled-replied (world c.args.catalog.now c.args.store.now.stored) c.args.query.now c.args.wanted c.explain_table.result _ _ c.args.fetches.now c.args.reads.now c.in-Table.is c.explain_table.ensures.tabled
+    tabled-replied (world_of c.args.at.now) c.args.at.now.query.now c.args.at.now.wanted c.explain_table.result _ _ c.args.fetches.now c.args.reads.now c.in-Table.is c.explain_table.ensures.tabled
 
 pub returns-in-Table-clause-stopped : goal.returns-in-Table-clause-stopped
 returns-in-Table-clause-stopped g c =
-    tabled-stopped (world c.args.catalog.now c.args.store.now.stored) c.args.query.now c.args.wanted c.explain_table.result _ _ c.args.fetches.now c.args.reads.now c.in-Table.is c.explain_table.ensures.stopped
+    tabled-stopped (world_of c.args.at.now) c.args.at.now.query.now c.args.at.now.wanted c.explain_table.result _ _ c.args.fetches.now c.args.reads.now c.in-Table.is c.explain_table.ensures.stopped

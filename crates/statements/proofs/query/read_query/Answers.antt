@@ -1,7 +1,7 @@
 use Rattle.std.proofs.Common.{Err, Ok, arith}
 use Rattle.sql_query.specs.Worlds.{world}
 use Rattle.statements.specs.Ending.{end_of_refusal}
-use Rattle.statements.proofs.AdvisingLemmas.{refused-by}
+use Rattle.statements.proofs.TellingLemmas.{refused-by}
 use Rattle.statements.proofs.AnsweringLemmas.{query-refused}
 use Rattle.statements.proofs.QueryLemmas.{binds-of, grammar-of, read-query, unplanned}
 use Rattle.statements.proofs.ArmsLemmas.{has-arms}

@@ -14,3 +14,4 @@ pub mod PartLemmas
 pub mod StartLemmas
 pub mod CurrentLemmas
 pub mod FoundLemmas
+pub mod OpenLemmas

@@ -1,5 +1,6 @@
 pub mod Numbers
 pub mod Drawn
+pub mod EState
 pub mod Probe
 pub mod Pairs
 pub mod Node

@@ -4,9 +4,6 @@ ghost use Rattle.std.specs.Prelude.{◌≡◌, ◌≤◌, ◌+◌, ◌∷◌, []
 ghost use Rattle.heap.specs.Tuples.{padded, rank};
 ghost use Rattle.sql_query.specs.Queries.{Query, width};
 ghost use Rattle.sql_query.specs.Tuples.{no_rows};
-ghost use Rattle.sql_query.specs.WellBound.{IsWellBound};
-ghost use Rattle.sql_query.specs.Worlds.{world};
-ghost use Rattle.store.specs.Kept.{IsStoreOf};
 ghost use Rattle.plan_tree.specs.Counts as counts;
 ghost use Rattle.plan_tree.specs.Counts.{looks};
 ghost use Rattle.plan_tree.specs.Plans.{set_of};
@@ -15,17 +12,16 @@ ghost use Rattle.plan_tree.specs.Views.{plan};
 ghost use Rattle.scan_exec.specs.Coming.{allowed, behind, coming, is_given, left, owed};
 ghost use Rattle.scan_exec.specs.Plans.{IsScan};
 ghost use Rattle.executor.specs.Drawn.{IsDrawable, is_scan};
+ghost use Rattle.executor.specs.EState.{IsOver, world_of};
 ghost use Rattle.executor.specs.Node.{IsScanning, scanning_left};
 
+use crate::estate::EState;
 use crate::tuple::Tuple;
-use catalog::Catalog;
 use heap::Counters;
 use pg_base::{Memory, Steps};
 use plan_tree::Plan;
 use scan_exec::ScanRows;
-use sql_query::Prepared;
 use std::alloc::Global;
-use store::Store;
 
 /// A plan that is one scan, and its rows.
 #[derive(Drop)]
@@ -36,27 +32,23 @@ pub(crate) struct Scanning<'a, C: Counters> {
 
 /// A scan that is given no rows, before its first one. The error means want of memory.
 pub(crate) fn start_scanning<'a, C: Counters>(
-    alloc: Global,
-    cat: &'a Catalog,
-    q: &'a Prepared,
+    at: &EState<'a, C>,
     p: &'a Plan,
-    store: &'a Store<C>,
     reads: &mut Steps<C::Looks>,
 ) -> Result<Scanning<'a, C>, Memory>
-    requires bound { IsWellBound cat.now q.now }
-    requires store { IsStoreOf cat.now store.now }
-    requires plan { IsDrawable (world cat.now store.now.stored) q.now (plan p.now) }
+    requires over { IsOver at.now }
+    requires plan { IsDrawable (world_of at.now) at.now.q.now (plan p.now) }
     requires scan { IsScan (plan p.now) }
     ensures good { IfOk result (λ s. IsScanning s) }
     ensures plan { IfOk result (λ s. s.plan.now ≡ p.now) }
     ensures one { is_scan (plan p.now) ≡ true }
-    ensures left { IfOk result (λ s. scanning_left q.now s ≡ run (world cat.now store.now.stored) q.now (plan p.now) (no_rows q.now)) }
-    ensures owed { IfOk result (λ s. owed s.rows ≡ counts.fetches (world cat.now store.now.stored) q.now (plan p.now) (no_rows q.now)) }
-    ensures coming { IfOk result (λ s. s.rows ≡ coming (world cat.now store.now.stored) q.now (plan p.now) (no_rows q.now)) }
-    ensures reads { IfOk result (λ s. reads.new + allowed s.rows ≤ reads.old + looks (world cat.now store.now.stored) q.now (plan p.now) (no_rows q.now)) }
-    ensures most { reads.new ≤ reads.old + looks (world cat.now store.now.stored) q.now (plan p.now) (no_rows q.now) }
+    ensures left { IfOk result (λ s. scanning_left at.now.q.now s ≡ run (world_of at.now) at.now.q.now (plan p.now) (no_rows at.now.q.now)) }
+    ensures owed { IfOk result (λ s. owed s.rows ≡ counts.fetches (world_of at.now) at.now.q.now (plan p.now) (no_rows at.now.q.now)) }
+    ensures coming { IfOk result (λ s. s.rows ≡ coming (world_of at.now) at.now.q.now (plan p.now) (no_rows at.now.q.now)) }
+    ensures reads { IfOk result (λ s. reads.new + allowed s.rows ≤ reads.old + looks (world_of at.now) at.now.q.now (plan p.now) (no_rows at.now.q.now)) }
+    ensures most { reads.new ≤ reads.old + looks (world_of at.now) at.now.q.now (plan p.now) (no_rows at.now.q.now) }
 {
-    let rows = ScanRows::start(alloc, cat, q, p, store, &[], reads)?;
+    let rows = ScanRows::start(at.alloc, at.cat, at.q, p, at.store, &[], reads)?;
     Ok(Scanning { plan: p, rows })
 }
 

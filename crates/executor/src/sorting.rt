@@ -8,22 +8,18 @@ ghost use Rattle.heap.specs.Tuples.{padded_tuples, rank};
 ghost use Rattle.pathkeys.specs.Sorted.{keys_order};
 ghost use Rattle.sql_query.specs.Queries.{all_of_query, width};
 ghost use Rattle.sql_query.specs.Tuples.{value_at};
-ghost use Rattle.sql_query.specs.WellBound.{IsWellBound};
-ghost use Rattle.sql_query.specs.Worlds.{world};
 ghost use Rattle.plan_tree.specs.Counts.{MOST_READS};
 ghost use Rattle.sort_rows.specs.Rows.{AllHaveRows};
-ghost use Rattle.store.specs.Kept.{IsStoreOf};
+ghost use Rattle.executor.specs.EState.{IsOver, world_of};
 ghost use Rattle.executor.specs.Node.{IsSorting, sorting_left};
 
+use crate::estate::EState;
 use crate::tuple::Tuple;
-use catalog::Catalog;
 use heap::{Counters, Tuples};
 use pathkeys::Keys;
 use pg_base::{Memory, Steps};
 use sort_rows::sort_rows;
-use sql_query::Prepared;
 use std::alloc::Global;
-use store::Store;
 
 /// Sorted tuples, of which those before a place were given.
 #[derive(Drop)]
@@ -34,25 +30,21 @@ pub(crate) struct Sorting {
 
 /// A sort of these tuples by the classes of a key list, before its first tuple. The error means want of memory.
 pub(crate) fn start_sorting<C: Counters>(
-    alloc: Global,
-    cat: &Catalog,
-    q: &Prepared,
-    store: &Store<C>,
+    at: &EState<C>,
     keys: &Keys,
     input: &Tuples,
     reads: &mut Steps<C::Looks>,
 ) -> Result<Sorting, Memory>
-    requires bound { IsWellBound cat.now q.now }
-    requires store { IsStoreOf cat.now store.now }
-    requires keys { All (λ n. n < length q.now.classes.classes) keys.now }
-    requires set { IsWithin (has input.now.set.0) (all_of_query q.now) }
-    requires rows { AllHaveRows (world cat.now store.now.stored) q.now input.now }
+    requires over { IsOver at.now }
+    requires keys { All (λ n. n < length at.now.q.now.classes.classes) keys.now }
+    requires set { IsWithin (has input.now.set.0) (all_of_query at.now.q.now) }
+    requires rows { AllHaveRows (world_of at.now) at.now.q.now input.now }
     ensures good { IfOk result (λ s. IsSorting s) }
     ensures set { IfOk result (λ s. s.kept.set ≡ input.now.set) }
-    ensures left { IfOk result (λ s. sorting_left q.now s ≡ in_order (keys_order (value_at (world cat.now store.now.stored) q.now) q.now.classes (has input.now.set.0) keys.now) (padded_tuples (width q.now) input.now)) }
+    ensures left { IfOk result (λ s. sorting_left at.now.q.now s ≡ in_order (keys_order (value_at (world_of at.now) at.now.q.now) at.now.q.now.classes (has input.now.set.0) keys.now) (padded_tuples (width at.now.q.now) input.now)) }
     ensures cost { reads.new ≤ reads.old + MOST_READS * length input.now.rows }
 {
-    let kept = sort_rows(alloc, cat, q, store.heaps(), keys, input, reads)?;
+    let kept = sort_rows(at.alloc, at.cat, at.q, at.store.heaps(), keys, input, reads)?;
     Ok(Sorting { kept, at: 0 })
 }
 

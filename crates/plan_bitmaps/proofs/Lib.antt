@@ -1,0 +1,4 @@
+pub mod ListLemmas
+pub mod CompareLemmas
+pub mod LineLemmas
+pub mod TreeLemmas

@@ -1,0 +1,173 @@
+//! Nodes, and what stands beneath them.
+
+ghost use Rattle.std.specs.Prelude.{◌≡◌, ◌<◌, ◌≤◌, ◌+◌, ◌++◌, ℕ, List, All, IfOk, IfSome, Some, length, option_map};
+ghost use Rattle.pg_base.specs.Sets.{has};
+ghost use Rattle.eq_classes.specs.Parts.{union};
+ghost use Rattle.plan_tree.specs.Plans as plans;
+ghost use Rattle.plan_tree.specs.Reads.{ReadsBelow};
+ghost use Rattle.plan_tree.specs.Views.{plan};
+ghost use Rattle.sql_query.specs.WellBound.{IsWellBound};
+ghost use Rattle.certificate_text.specs.HasText.{HasKeysText};
+ghost use Rattle.explain.specs.Texts.{keys_text};
+ghost use Rattle.plan_titles.specs.HasText.{IsText};
+ghost use Rattle.plan_reader.specs.Beneath.{AreRead, IsRead};
+ghost use Rattle.plan_reader.specs.Written.{StandsAt};
+
+use crate::lines::read_first;
+use crate::scans::{bitmap_of, index_of, index_only_of, seq_of};
+use catalog::Catalog;
+use pathkeys::Keys;
+use pg_base::{Memory, RelSet};
+use plan_lines::{Kind, Lines};
+use plan_titles::read_node_keys;
+use plan_tree::{Plan, set_of};
+use sql_query::Prepared;
+use std::alloc::Global;
+
+/// A sort of a plan, by the keys that stand behind its words.
+fn sort_of(
+    alloc: Global,
+    behind: &[u8],
+    cat: &Catalog,
+    q: &Prepared,
+    input: Plan,
+) -> Result<Option<Plan>, Memory>
+    requires bound { IsWellBound cat.now q.now }
+    requires input { IsText cat.now q.now (plan input) }
+    ensures has { IfOk result (λ o. IfSome o (λ p. IsText cat.now q.now (plan p))) }
+    ensures stands { (d : ℕ) → d ≤ 64 → StandsAt (d + 1) (plan input) → IfOk result (λ o. IfSome o (λ p. StandsAt d (plan p))) }
+    ensures only { IfOk result (λ o. (keys : List ℕ) → HasKeysText q.now (plans.set_of (plan input)) keys →
+        behind.now ≡ keys_text cat.now q.now (plans.set_of (plan input)) keys → option_map plan o ≡ Some (plans.sort keys (plan input))) }
+{
+    let set = set_of(&input);
+    match read_node_keys(alloc, behind, cat, q, set)? {
+        Some(keys) => {
+            let input = Box::new(alloc, input)?;
+            Ok(Some(Plan::Sort { keys, input }))
+        }
+        None => Ok(None),
+    }
+}
+
+/// A nested loop of two plans.
+fn nest_of(alloc: Global, outer: Plan, inner: Plan) -> Result<Option<Plan>, Memory>
+    ensures only { IfOk result (λ o. option_map plan o ≡ Some (plans.nest (plan outer) (plan inner))) }
+{
+    let outer = Box::new(alloc, outer)?;
+    let inner = Box::new(alloc, inner)?;
+    Ok(Some(Plan::Nest { outer, inner }))
+}
+
+/// A merge of two plans by keys.
+fn merged(alloc: Global, keys: Keys, outer: Plan, inner: Plan) -> Result<Plan, Memory>
+    ensures { IfOk result (λ p. plan p ≡ plans.merge keys (plan outer) (plan inner)) }
+{
+    let outer = Box::new(alloc, outer)?;
+    let inner = Box::new(alloc, inner)?;
+    Ok(Plan::Merge { keys, outer, inner })
+}
+
+/// The relations of two plans.
+fn both_sets(outer: &Plan, inner: &Plan) -> RelSet
+    requires outer { ReadsBelow 16 (plan outer.now) }
+    requires inner { ReadsBelow 16 (plan inner.now) }
+    ensures { (k : ℕ) → has result.0 k ≡ union (plans.set_of (plan outer.now)) (plans.set_of (plan inner.now)) k }
+{
+    set_of(outer).union(set_of(inner))
+}
+
+/// A merge of two plans, by the keys that stand behind its words.
+fn merge_of(
+    alloc: Global,
+    behind: &[u8],
+    cat: &Catalog,
+    q: &Prepared,
+    outer: Plan,
+    inner: Plan,
+) -> Result<Option<Plan>, Memory>
+    requires bound { IsWellBound cat.now q.now }
+    requires outer { IsText cat.now q.now (plan outer) }
+    requires inner { IsText cat.now q.now (plan inner) }
+    ensures has { IfOk result (λ o. IfSome o (λ p. IsText cat.now q.now (plan p))) }
+    ensures stands { (d : ℕ) → d ≤ 64 → StandsAt (d + 1) (plan outer) → StandsAt (d + 1) (plan inner) → IfOk result (λ o. IfSome o (λ p. StandsAt d (plan p))) }
+    ensures only { IfOk result (λ o. (keys : List ℕ) → HasKeysText q.now (union (plans.set_of (plan outer)) (plans.set_of (plan inner))) keys →
+        behind.now ≡ keys_text cat.now q.now (union (plans.set_of (plan outer)) (plans.set_of (plan inner))) keys →
+        option_map plan o ≡ Some (plans.merge keys (plan outer) (plan inner))) }
+{
+    let set = both_sets(&outer, &inner);
+    match read_node_keys(alloc, behind, cat, q, set)? {
+        Some(keys) => {
+            let made = merged(alloc, keys, outer, inner)?;
+            Ok(Some(made))
+        }
+        None => Ok(None),
+    }
+}
+
+/// The plan whose lines come next at a depth; its numbers are put behind others. None where those of none come next. The error
+/// means want of memory.
+#[cycle(read_node)]
+pub(crate) fn read_node(
+    alloc: Global,
+    at: &mut Lines,
+    cat: &Catalog,
+    q: &Prepared,
+    depth: u8,
+    numbers: &mut Vec<(u64, u64)>,
+) -> Result<Option<Plan>, Memory>
+    requires bound { IsWellBound cat.now q.now }
+    requires deep { depth ≤ 65 }
+    ensures has { IfOk result (λ o. IfSome o (λ p. IsText cat.now q.now (plan p) × StandsAt depth (plan p))) }
+    ensures only { IfOk result (λ o. IsRead cat.now q.now depth at.old at.new numbers.old.items numbers.new.items (option_map plan o)) }
+{
+    if depth > 64 {
+        return Ok(None);
+    }
+    let Some(line) = read_first(at, cat, q, depth) else {
+        return Ok(None);
+    };
+    numbers.push(line.numbers)?;
+    match line.kind {
+        Kind::Seq => Ok(seq_of(line.behind, cat, q)),
+        Kind::Index => Ok(index_of(line.behind, cat, q)),
+        Kind::IndexOnly => Ok(index_only_of(line.behind, cat, q)),
+        Kind::Bitmap => bitmap_of(alloc, at, cat, q, depth, line.behind),
+        Kind::Sort => match read_node(alloc, at, cat, q, depth + 1, numbers)? {
+            Some(input) => sort_of(alloc, line.behind, cat, q, input),
+            None => Ok(None),
+        },
+        Kind::Nest => match read_pair(alloc, at, cat, q, depth, numbers)? {
+            Some((outer, inner)) => nest_of(alloc, outer, inner),
+            None => Ok(None),
+        },
+        Kind::Merge => match read_pair(alloc, at, cat, q, depth, numbers)? {
+            Some((outer, inner)) => merge_of(alloc, line.behind, cat, q, outer, inner),
+            None => Ok(None),
+        },
+    }
+}
+
+/// The two plans whose lines come next one deeper than a depth.
+#[cycle(read_node)]
+fn read_pair(
+    alloc: Global,
+    at: &mut Lines,
+    cat: &Catalog,
+    q: &Prepared,
+    depth: u8,
+    numbers: &mut Vec<(u64, u64)>,
+) -> Result<Option<(Plan, Plan)>, Memory>
+    requires bound { IsWellBound cat.now q.now }
+    requires deep { depth ≤ 64 }
+    ensures has { IfOk result (λ o. IfSome o (λ s. (IsText cat.now q.now (plan s.0) × StandsAt (depth + 1) (plan s.0)) × (IsText cat.now q.now (plan s.1) × StandsAt (depth + 1) (plan s.1)))) }
+    ensures only { IfOk result (λ o. AreRead cat.now q.now depth at.old at.new numbers.old.items numbers.new.items (option_map {U = plans.Plan × plans.Plan} (λ s. (plan s.0, plan s.1)) o)) }
+{
+    let outer = match read_node(alloc, at, cat, q, depth + 1, numbers)? {
+        Some(outer) => outer,
+        None => return Ok(None),
+    };
+    match read_node(alloc, at, cat, q, depth + 1, numbers)? {
+        Some(inner) => Ok(Some((outer, inner))),
+        None => Ok(None),
+    }
+}

@@ -1,0 +1,4 @@
+pub mod GivenLemmas
+pub mod IndexLemmas
+pub mod KeyLemmas
+pub mod ScannedLemmas

@@ -1,0 +1,4 @@
+pub mod HasText
+pub mod Kinds
+pub mod Scans
+pub mod Words

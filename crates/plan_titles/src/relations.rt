@@ -1,0 +1,128 @@
+//! Relations, and those whose rows a scan is given.
+
+ghost use Rattle.std.specs.Prelude.{◌≡◌, ◌<◌, ◌≤◌, ◌++◌, ℕ, Bool, List, IfSome, IsSomeAnd, Some, codes, cond, option_map};
+ghost use Rattle.pg_base.specs.Sets.{has};
+ghost use Rattle.path_cost.specs.Columns.{AreTables};
+ghost use Rattle.sql_query.specs.Queries.{width};
+ghost use Rattle.explain.specs.Texts as texts;
+ghost use Rattle.explain.specs.Texts.{relation_text, with_alias, with_commas};
+
+use catalog::Catalog;
+use pg_base::{RelNo, RelSet};
+use plan_tree::range_of;
+use sql_query::Prepared;
+
+/// What stands behind some bytes. None where a text does not begin with them.
+pub fn behind<'a>(text: &'a [u8], bytes: &[u8]) -> Option<&'a [u8]>
+    ensures is { IfSome result (λ l. text.now ≡ bytes.now ++ l.now) }
+    ensures only { (rest : List ℕ) → text.now ≡ bytes.now ++ rest → option_map (λ l. l.now) result ≡ Some rest }
+{
+    text.strip_prefix(bytes)
+}
+
+/// What stands behind the name of a table and an alias.
+fn behind_both<'a>(text: &'a [u8], name: &[u8], alias: &[u8]) -> Option<&'a [u8]>
+    ensures is { IfSome result (λ l. text.now ≡ (name.now ++ (codes " " ++ alias.now)) ++ l.now) }
+    ensures only { (rest : List ℕ) → text.now ≡ (name.now ++ (codes " " ++ alias.now)) ++ rest → option_map (λ l. l.now) result ≡ Some rest }
+{
+    let left = behind(text, name)?;
+    behind(behind(left, b" ")?, alias)
+}
+
+/// What stands behind the name of a table, and behind its alias where that is another. None where a text does not begin so.
+fn behind_names<'a>(text: &'a [u8], name: &[u8], alias: &[u8]) -> Option<&'a [u8]>
+    ensures is { IfSome result (λ l. text.now ≡ relation_text name.now alias.now ++ l.now) }
+    ensures only { (rest : List ℕ) → text.now ≡ relation_text name.now alias.now ++ rest → option_map (λ l. l.now) result ≡ Some rest }
+{
+    if name == alias {
+        behind(text, name)
+    } else {
+        behind_both(text, name, alias)
+    }
+}
+
+/// What stands behind a relation. None where a text does not begin with it.
+pub(crate) fn behind_relation<'a>(
+    text: &'a [u8],
+    cat: &Catalog,
+    q: &Prepared,
+    r: RelNo,
+) -> Option<&'a [u8]>
+    requires tables { AreTables cat.now q.now.range }
+    requires relation { r.0 < width q.now }
+    ensures is { IfSome result (λ l. text.now ≡ texts.rel_text cat.now q.now r ++ l.now) }
+    ensures only { (rest : List ℕ) → text.now ≡ texts.rel_text cat.now q.now r ++ rest → option_map (λ l. l.now) result ≡ Some rest }
+{
+    let (table, alias) = &range_of(q).items()[r.0 as usize];
+    behind_names(text, cat.table_name(*table), alias.items())
+}
+
+/// What stands behind a comma and a space, or behind the word before the first of the relations that are given.
+fn behind_comma(text: &[u8], first: bool) -> Option<&[u8]>
+    ensures is { IfSome result (λ l. text.now ≡ cond first (codes " for ") (codes ", ") ++ l.now) }
+    ensures only { (rest : List ℕ) → text.now ≡ cond first (codes " for ") (codes ", ") ++ rest → option_map (λ l. l.now) result ≡ Some rest }
+{
+    if first {
+        behind(text, b" for ")
+    } else {
+        behind(text, b", ")
+    }
+}
+
+/// What stands behind an alias in a row.
+fn behind_item<'a>(text: &'a [u8], alias: &[u8], first: bool) -> Option<&'a [u8]>
+    ensures is { IfSome result (λ l. text.now ≡ (cond first (codes " for ") (codes ", ") ++ alias.now) ++ l.now) }
+    ensures only { (rest : List ℕ) → text.now ≡ (cond first (codes " for ") (codes ", ") ++ alias.now) ++ rest → option_map (λ l. l.now) result ≡ Some rest }
+{
+    behind(behind_comma(text, first)?, alias)
+}
+
+/// What stands behind an alias in a row, where its relation is given, and whether the next one is still the first.
+fn behind_alias<'a>(text: &'a [u8], alias: &[u8], is: bool, first: bool) -> Option<(&'a [u8], bool)>
+    ensures is { IfSome result (λ s. (xs : List (List ℕ)) (rest : List ℕ) → s.0.now ≡ with_commas (cond s.1 (codes " for ") (codes ", ")) xs ++ rest →
+        text.now ≡ with_commas (cond first (codes " for ") (codes ", ")) (with_alias is alias.now xs) ++ rest) }
+    ensures only { (xs : List (List ℕ)) (rest : List ℕ) → text.now ≡ with_commas (cond first (codes " for ") (codes ", ")) (with_alias is alias.now xs) ++ rest →
+        IsSomeAnd result (λ s. s.0.now ≡ with_commas (cond s.1 (codes " for ") (codes ", ")) xs ++ rest) }
+{
+    if !is {
+        return Some((text, first));
+    }
+    let left = behind_item(text, alias, first)?;
+    Some((left, false))
+}
+
+/// What stands behind the relations of a set, in FROM order, whose rows a scan is given.
+pub(crate) fn behind_given<'a>(text: &'a [u8], q: &Prepared, p: RelSet) -> Option<&'a [u8]>
+    requires few { width q.now ≤ 16 }
+    ensures is { IfSome result (λ l. text.now ≡ texts.given_text q.now.range p ++ l.now) }
+    ensures only { (rest : List ℕ) → text.now ≡ texts.given_text q.now.range p ++ rest → option_map (λ l. l.now) result ≡ Some rest }
+{
+    let relations = range_of(q).items();
+    let mut left = text;
+    let mut first = true;
+    for n in 0..relations.len() {
+        let is = p.has(RelNo(n as u8));
+        let next = behind_alias(left, relations[n].1.items(), is, first)?;
+        left = next.0;
+        first = next.1;
+    }
+    Some(left)
+}
+
+/// What stands behind the relation of a scan, and behind those whose rows it is given. None where a text does not begin so.
+pub(crate) fn behind_scanned<'a>(
+    text: &'a [u8],
+    cat: &Catalog,
+    q: &Prepared,
+    r: RelNo,
+    p: RelSet,
+) -> Option<&'a [u8]>
+    requires tables { AreTables cat.now q.now.range }
+    requires few { width q.now ≤ 16 }
+    requires relation { r.0 < width q.now }
+    ensures is { IfSome result (λ l. text.now ≡ texts.scanned_text cat.now q.now r p ++ l.now) }
+    ensures only { (rest : List ℕ) → text.now ≡ texts.scanned_text cat.now q.now r p ++ rest → option_map (λ l. l.now) result ≡ Some rest }
+{
+    let left = behind_relation(text, cat, q, r)?;
+    behind_given(left, q, p)
+}

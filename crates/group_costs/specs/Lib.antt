@@ -1,0 +1,2 @@
+pub mod GroupCosts
+pub mod Choice

@@ -1,0 +1,4 @@
+pub mod LeastLemmas
+pub mod CallLemmas
+pub mod KeyLemmas
+pub mod BagLemmas

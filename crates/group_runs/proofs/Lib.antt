@@ -1,0 +1,3 @@
+pub mod TieLemmas
+pub mod RunLemmas
+pub mod OrderLemmas

@@ -1,0 +1,38 @@
+-- The groups of what a finished plan gives.
+use Rattle.std.proofs.Common.{◌≡◌, List, length, map, ◌∙◌}
+use Rattle.std.specs.Prelude.{IsPermutation, Option}
+use Rattle.std.proofs.lemmas.List.{length-map}
+use Rattle.std.proofs.lemmas.List.Elements.{All-map}
+use Rattle.std.proofs.lemmas.List.Sorted.{IsPermutation-map}
+use Rattle.pg_expr.specs.declared.operand.ColRef.{ColRef}
+use Rattle.pg_value.specs.Sorting.{one_after_other}
+use Rattle.sql_query.specs.Meaning.{item_order, meaning}
+use Rattle.sql_query.specs.Queries.{Query}
+use Rattle.sql_query.specs.Tuples.{no_rows, value_at}
+use Rattle.sql_query.specs.WellBound.{IsWellBound, ordered_columns}
+use Rattle.sql_query.specs.Worlds.{World, IsWorld}
+use Rattle.plan_tree.specs.Plans.{Plan}
+use Rattle.plan_tree.specs.Run.{run}
+use Rattle.plan_tree.specs.Space.{IsFinished}
+use Rattle.plan_laws.proofs.FinishedLemmas.{finished_is_meaning}
+use Rattle.order_laws.proofs.FinishedOrderLemmas.{finished_is_ordered}
+use Rattle.group_values.specs.Groups.{Seen, lines}
+use Rattle.group_values.specs.Shapes.{GroupShape}
+use Rattle.group_tuples.specs.Neighbours.{AreTogether}
+use Rattle.group_tuples.proofs.SortedLemmas.{sorted-together}
+use Rattle.group_laws.proofs.BagLemmas.{bag-of-lines}
+use Rattle.group_runs.specs.Seen.{seen_of}
+use Rattle.group_runs.proofs.TieLemmas.{items-tie, items-total}
+
+module _ (w : World) (q : Query) (p : Plan) (world : IsWorld w) (bound : IsWellBound w.contents q) (finished : IsFinished w.contents q p) where
+  pub plan-lines : (shape : GroupShape) (keys : List ColRef) (args : List (Option ColRef)) → length keys ≡ shape.width
+      → IsPermutation (lines shape (map (seen_of w q keys args) (run w q p (no_rows q)))) (lines shape (map (seen_of w q keys args) (meaning w q)))
+  plan-lines shape keys args many =
+      bag-of-lines shape (map (seen_of w q keys args) (run w q p (no_rows q))) (map (seen_of w q keys args) (meaning w q))
+      (All-map (λ (s : Seen). length s.keys ≡ shape.width) (seen_of w q keys args) (run w q p (no_rows q)) (λ i d lt. length-map keys (value_at w q _) ∙ many))
+      (IsPermutation-map (seen_of w q keys args) (run w q p (no_rows q)) (meaning w q) (finished_is_meaning w q world bound p finished))
+
+  pub plan-neighbours : (args : List (Option ColRef)) → AreTogether (map (seen_of w q (ordered_columns q.order) args) (run w q p (no_rows q)))
+  plan-neighbours args =
+      sorted-together (one_after_other (map (item_order w q) q.order)) (items-total w q world q.order) (seen_of w q (ordered_columns q.order) args) (λ t. Unit {0}) (λ t u a b. items-tie w q world q.order t u)
+      (run w q p (no_rows q)) (λ i d lt. tt) (finished_is_ordered w q p world bound finished)

@@ -1,6 +1,6 @@
 //! The calls on a small catalogue, with ample memory. What is refused is told with its place.
 
-ghost use Rattle.std.specs.Prelude.{◌≡◌, ◌<◌, [], true, All, IfOk, length};
+ghost use Rattle.std.specs.Prelude.{◌≡◌, ◌<◌, true, All, IfOk, length};
 ghost use Rattle.pg_base.specs.Names.{begins_name};
 ghost use Rattle.pg_value.specs.declared.value.SqlType.TheVariants.{Text as TextType};
 ghost use Rattle.catalog.specs.Contents.{IsTable};
@@ -57,10 +57,10 @@ fn add(
 pub(crate) fn small(alloc: Global) -> Result<Catalog, CatalogFault>
     ensures { IfOk result HasTexts }
 {
-    let mut catalog = Catalog::new(alloc);
     let columns = columns(alloc, &[SqlType::Text, SqlType::Text])?;
     let named = name(alloc, b't')?;
     let names = names(alloc, b"ab")?;
+    let mut catalog = Catalog::new(alloc);
     catalog.add_table(named, names, columns)?;
     Ok(catalog)
 }
@@ -131,25 +131,32 @@ fn text(alloc: Global, letter: u8) -> Result<Value, Memory>
     Ok(Value::Text(bytes))
 }
 
-/// Texts with their shares.
-fn common_texts(alloc: Global, common: &[(u8, u32)]) -> Result<Vec<(Value, u32)>, Memory>
-    ensures { IfOk result (λ v. All (λ p. IsValueOf TextType p.0) v.items) }
+/// Adds texts with their shares.
+fn add_common(
+    texts: &mut Vec<(Value, u32)>,
+    alloc: Global,
+    common: &[(u8, u32)],
+) -> Result<(), Memory>
+    requires { All (λ p. IsValueOf TextType p.0) texts.old.items }
+    ensures { All (λ p. IsValueOf TextType p.0) texts.new.items }
 {
-    let mut texts = Vec::new(alloc);
     for (letter, share) in common {
-        texts.push((text(alloc, *letter)?, *share))?;
+        let named = text(alloc, *letter)?;
+        texts.push((named, *share))?;
     }
-    Ok(texts)
+    Ok(())
 }
 
-fn texts_of(alloc: Global, letters: &[u8]) -> Result<Vec<Value>, Memory>
-    ensures { IfOk result (λ v. All (IsValueOf TextType) v.items) }
+/// Adds texts.
+fn add_texts(texts: &mut Vec<Value>, alloc: Global, letters: &[u8]) -> Result<(), Memory>
+    requires { All (IsValueOf TextType) texts.old.items }
+    ensures { All (IsValueOf TextType) texts.new.items }
 {
-    let mut texts = Vec::new(alloc);
     for letter in letters {
-        texts.push(text(alloc, *letter)?)?;
+        let named = text(alloc, *letter)?;
+        texts.push(named)?;
     }
-    Ok(texts)
+    Ok(())
 }
 
 /// What is said of a text column: how many values it has and its share of NULL, its common values with their shares, and
@@ -159,8 +166,9 @@ pub(crate) type Said<'a> = (u64, u32, &'a [(u8, u32)], &'a [u8]);
 fn known(alloc: Global, said: Said) -> Result<ColumnStats, Memory>
     ensures { IfOk result (λ s. AreValuesOf TextType (statistics s)) }
 {
-    let common = common_texts(alloc, said.2)?;
-    let histogram = texts_of(alloc, said.3)?;
+    let (mut common, mut histogram) = (Vec::new(alloc), Vec::new(alloc));
+    add_common(&mut common, alloc, said.2)?;
+    add_texts(&mut histogram, alloc, said.3)?;
     Ok(ColumnStats {
         distinct: said.0,
         nulls: said.1,
@@ -227,22 +235,56 @@ fn first_size(catalog: &mut Catalog, t: TableNo, sizes: &[Sized]) -> Option<(u64
     None
 }
 
+/// Whether the column `a` of a table is its second one, of which nothing is said.
+fn has_column(catalog: &Catalog, t: TableNo) -> bool
+    requires { IsTable catalog.now t }
+{
+    match catalog.column(t, b"a") {
+        Some(column) => {
+            column == ColNo(1)
+                && *catalog.column_name(t, column) == *b"a".as_slice()
+                && catalog.stats(t, column).is_none()
+        }
+        None => false,
+    }
+}
+
+fn size(catalog: &Catalog, t: TableNo) -> (u64, u64)
+    requires { IsTable catalog.now t }
+{
+    (catalog.rows(t), catalog.pages(t))
+}
+
+/// Whether a table has the size of one without rows, then of 101 rows, and then the one that it is given.
+fn is_sized(catalog: &mut Catalog, t: TableNo) -> bool
+    requires { IsTable catalog.old t }
+    ensures { IsTable catalog.new t }
+{
+    let bare = size(catalog, t) == (1, 1);
+    catalog.set_loaded(t, 101);
+    let loaded = size(catalog, t) == (101, 2);
+    let given = first_size(catalog, t, &SIZES).is_none();
+    bare && loaded && given && size(catalog, t) == (7, 1_000_000_000)
+}
+
+/// Whether table `u` is the second one, and there is no table `a`.
+fn has_second(catalog: &mut Catalog) -> bool {
+    match catalog.table(b"u") {
+        Some(t) => {
+            t == TableNo(1)
+                && catalog.table(b"a").is_none()
+                && has_column(catalog, t)
+                && is_sized(catalog, t)
+        }
+        None => false,
+    }
+}
+
 #[test]
 fn tables(rt: HostRuntime) {
     let mut catalog = Catalog::new(rt.alloc());
     assert_eq!(rt; first_added(&mut catalog, rt.alloc(), &ADDED), None);
-    assert_eq!(rt; catalog.table(b"u"), Some(TableNo(1)));
-    assert_eq!(rt; catalog.table(b"a"), None);
-    let t = catalog.table(b"u").expect(&rt, "a table");
-    assert_eq!(rt; (catalog.rows(t), catalog.pages(t)), (1, 1));
-    let column = catalog.column(t, b"a").expect(&rt, "a column");
-    assert_eq!(rt; column, ColNo(1));
-    assert!(rt; *catalog.column_name(t, column) == *b"a".as_slice());
-    assert!(rt; catalog.stats(t, column).is_none());
-    catalog.set_loaded(t, 101);
-    assert_eq!(rt; (catalog.rows(t), catalog.pages(t)), (101, 2));
-    assert_eq!(rt; first_size(&mut catalog, t, &SIZES), None);
-    assert_eq!(rt; (catalog.rows(t), catalog.pages(t)), (7, 1_000_000_000));
+    assert!(rt; has_second(&mut catalog));
 }
 
 const INDEXED: [(Indexed, Result<IndexNo, CatalogFault>); 4] = [
@@ -279,19 +321,26 @@ fn first_indexed(
     None
 }
 
+/// Whether index `i` is the first one, of one key, and there is no index `t`.
+fn has_first(catalog: &Catalog) -> bool {
+    match catalog.index_named(b"i") {
+        Some(i) => {
+            i == IndexNo(0)
+                && catalog.index_named(b"t").is_none()
+                && *catalog.index_name(i) == *b"i".as_slice()
+                && catalog.index(i).keys.len() == 1
+        }
+        None => false,
+    }
+}
+
 #[test]
 fn indexes(rt: HostRuntime) {
     let mut catalog = small(rt.alloc()).expect(&rt, "ample memory");
     assert_eq!(rt; first_indexed(&mut catalog, rt.alloc(), &INDEXED), None);
-    assert_eq!(rt;
-        add(&mut catalog, rt.alloc(), Letter::I, Letter::A, Letter::B),
-        Err(CatalogFault::NameTaken)
-    );
-    assert_eq!(rt; catalog.index_named(b"i"), Some(IndexNo(0)));
-    assert_eq!(rt; catalog.index_named(b"t"), None);
-    let i = catalog.index_named(b"i").expect(&rt, "an index");
-    assert!(rt; *catalog.index_name(i) == *b"i".as_slice());
-    assert_eq!(rt; catalog.index(i).keys.len(), 1);
+    let taken = add(&mut catalog, rt.alloc(), Letter::I, Letter::A, Letter::B);
+    assert_eq!(rt; taken, Err(CatalogFault::NameTaken));
+    assert!(rt; has_first(&catalog));
 }
 
 /// Statistics that are kept or refused in turn.

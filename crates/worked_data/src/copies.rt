@@ -1,7 +1,7 @@
 //! Copies of definitions, and what a change of a copy leaves.
 
-ghost use Rattle.std.specs.Prelude.{◌<◌, IfOk, length};
 ghost use Rattle.catalog.specs.Contents.{IsTable};
+ghost use Rattle.catalog.specs.TextTables.{HasTexts};
 
 use crate::catalogues::{Letter, definition, index, keep, small};
 use catalog::{Catalog, CatalogFault, ColumnStats, IndexDef};
@@ -11,15 +11,14 @@ use pg_expr::{ColRef, Expr, is_same};
 use pg_value::Value;
 use std::alloc::Global;
 
-/// Table `t` with rows, an index, and what is said of its second column.
-fn described(alloc: Global) -> Result<Catalog, CatalogFault>
-    ensures { IfOk result (λ c. 0 < length c.tables) }
+/// Gives table `t` rows, an index, and what is said of its second column.
+fn describe(catalog: &mut Catalog, alloc: Global) -> Result<(), CatalogFault>
+    requires { HasTexts catalog.old }
 {
-    let mut catalog = small(alloc)?;
-    index(&mut catalog, alloc, (Letter::I, Method::Btree, true, 1))?;
-    keep(&mut catalog, alloc, (3, 1, &[(b'x', 999_999)], b"xyy"))?;
+    index(catalog, alloc, (Letter::I, Method::Btree, true, 1))?;
+    keep(catalog, alloc, (3, 1, &[(b'x', 999_999)], b"xyy"))?;
     catalog.set_loaded(TableNo(0), 101);
-    Ok(catalog)
+    Ok(())
 }
 
 fn is_same_text(a: &Value, b: &Value) -> bool {
@@ -52,24 +51,53 @@ fn are_same_stats(a: Option<&ColumnStats>, b: Option<&ColumnStats>) -> bool {
     }
 }
 
+/// A table of a catalogue.
+type Place<'a> = (&'a Catalog, TableNo);
+
 /// Whether a table has the same names, sizes and indexes in both.
-fn is_same_table(a: &Catalog, b: &Catalog, t: TableNo) -> bool
-    requires first { IsTable a.now t }
-    requires second { IsTable b.now t }
+fn is_same_table(a: Place, b: Place) -> bool
+    requires first { IsTable a.0.now a.1 }
+    requires second { IsTable b.0.now b.1 }
 {
-    a.table_name(t) == b.table_name(t)
-        && a.columns(t).items() == b.columns(t).items()
-        && (a.rows(t), a.pages(t)) == (b.rows(t), b.pages(t))
-        && a.indexes(t) == b.indexes(t)
+    let ((a, t), (b, u)) = (a, b);
+    a.table_name(t) == b.table_name(u)
+        && a.columns(t).items() == b.columns(u).items()
+        && (a.rows(t), a.pages(t)) == (b.rows(u), b.pages(u))
+        && a.indexes(t) == b.indexes(u)
 }
 
 /// Whether the same is known of a column in both.
-fn is_same_column(a: &Catalog, b: &Catalog, t: TableNo, name: &[u8]) -> bool
-    requires first { IsTable a.now t }
-    requires second { IsTable b.now t }
+fn is_same_column(a: Place, b: Place, name: &[u8]) -> bool
+    requires first { IsTable a.0.now a.1 }
+    requires second { IsTable b.0.now b.1 }
 {
-    match (a.column(t, name), b.column(t, name)) {
-        (Some(c), Some(d)) => c == d && are_same_stats(a.stats(t, c), b.stats(t, d)),
+    let ((a, t), (b, u)) = (a, b);
+    match (a.column(t, name), b.column(u, name)) {
+        (Some(c), Some(d)) => c == d && are_same_stats(a.stats(t, c), b.stats(u, d)),
+        _ => false,
+    }
+}
+
+/// Whether table `t` is the same in both.
+fn has_same_table(a: &Catalog, b: &Catalog) -> bool {
+    match (a.table(b"t"), b.table(b"t")) {
+        (Some(t), Some(u)) => {
+            t == u
+                && is_same_table((a, t), (b, u))
+                && is_same_column((a, t), (b, u), b"a")
+                && is_same_column((a, t), (b, u), b"b")
+        }
+        _ => false,
+    }
+}
+
+/// Whether table `t` of a copy takes another number of rows alone.
+fn is_apart(a: &Catalog, b: &mut Catalog) -> bool {
+    match (a.table(b"t"), b.table(b"t")) {
+        (Some(t), Some(u)) => {
+            b.set_loaded(u, 7);
+            (a.rows(t), b.rows(u)) == (101, 7)
+        }
         _ => false,
     }
 }
@@ -100,16 +128,12 @@ fn are_same_predicates(a: &Option<Expr>, b: &Option<Expr>) -> bool {
 
 #[test]
 fn a_copy_has_the_same_contents(rt: HostRuntime) {
-    let catalog = described(rt.alloc()).expect(&rt, "ample memory");
+    let mut catalog = small(rt.alloc()).expect(&rt, "ample memory");
+    describe(&mut catalog, rt.alloc()).expect(&rt, "ample memory");
     let mut copied = catalog.copy(rt.alloc()).expect(&rt, "ample memory");
-    let t = catalog.table(b"t").expect(&rt, "a table");
-    assert_eq!(rt; copied.table(b"t"), Some(t));
-    assert!(rt; is_same_table(&catalog, &copied, t));
-    assert!(rt; is_same_column(&catalog, &copied, t, b"a"));
-    assert!(rt; is_same_column(&catalog, &copied, t, b"b"));
+    assert!(rt; has_same_table(&catalog, &copied));
     assert!(rt; is_same_index(&catalog, &copied));
-    copied.set_loaded(t, 7);
-    assert_eq!(rt; (catalog.rows(t), copied.rows(t)), (101, 7));
+    assert!(rt; is_apart(&catalog, &mut copied));
 }
 
 /// An index of the rows whose second column is not NULL.

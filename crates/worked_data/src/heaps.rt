@@ -1,7 +1,6 @@
 //! COPY data against the behaviour that CSV readers and PostgreSQL document.
 
-ghost use Rattle.std.specs.Prelude.{◌≡◌, ◌<◌, ◌≤◌, ◌+◌, IfOk, OnErr, OnOk, length};
-ghost use Rattle.pg_value.specs.declared.columns.TheConstants.{MOST_COLUMNS};
+ghost use Rattle.std.specs.Prelude.{◌≡◌, ◌<◌, ◌+◌, IfOk, OnErr, length};
 ghost use Rattle.heap.specs.Tuples.{relation_count};
 
 use heap::{CopyFault, Counters, Counting, Heap, Heaps, Row, Tids, Tuples};
@@ -11,18 +10,87 @@ use std::alloc::{AllocError, Global};
 use std::marker::Brand;
 use std::sync::ledger::{Blank, Ledger};
 
-/// The rows of a heap of an int4 column that takes no NULL, a text and a bool column, filled by two blocks.
-fn read(alloc: Global, first: &[u8], second: &[u8]) -> Result<String, CopyFault> {
-    counted::<Brand, Brand>(alloc, Blank::new(1), Blank::new(1), first, second)
+/// A value of a row.
+#[derive(Clone, Copy)]
+enum Shown<'a> {
+    Null,
+    Int(i64),
+    Bool(bool),
+    Text(&'a [u8]),
+}
+
+type Line<'a> = [Shown<'a>; 3];
+
+fn is_value(value: &Value, shown: Shown) -> bool {
+    match (value, shown) {
+        (Value::Null, Shown::Null) => true,
+        (Value::Int(n), Shown::Int(m)) => *n == m,
+        (Value::Bool(a), Shown::Bool(b)) => *a == b,
+        (Value::Text(bytes), Shown::Text(text)) => bytes.items() == text,
+        _ => false,
+    }
+}
+
+/// Whether a row of three columns has these values.
+fn is_row(row: &Row, line: &Line) -> bool
+    requires { length row.now ≡ 3 }
+{
+    is_value(row.value(ColNo(0)), line[0])
+        && is_value(row.value(ColNo(1)), line[1])
+        && is_value(row.value(ColNo(2)), line[2])
+}
+
+/// Whether a heap of three columns has so many rows, these lines in turn. Each is fetched and then looked at.
+fn are_rows<C: Counters>(
+    heap: &Heap<C>,
+    count: usize,
+    lines: &[Line],
+    fetches: &mut Steps<C::Fetches>,
+    looks: &mut Steps<C::Looks>,
+) -> bool
+    requires width { length heap.now.columns ≡ 3 }
+    ensures fetches { fetches.new ≡ fetches.old + length heap.now.rows }
+    ensures looks { looks.new ≡ looks.old + length heap.now.rows }
+{
+    let mut same = heap.len() as usize == count;
+    for t in 0..heap.len() {
+        let _ = heap.fetch(Tid(t), fetches);
+        let row = heap.look(Tid(t), looks);
+        same = same && is_line(row, lines, t);
+    }
+    same
+}
+
+/// Whether a row is the one of these lines, in turn, that a place has.
+fn is_line(row: &Row, lines: &[Line], place: u32) -> bool
+    requires { length row.now ≡ 3 }
+{
+    let in_turn = (place as usize).checked_rem(lines.len()).unwrap_or(0);
+    match lines.get(in_turn) {
+        Some(line) => is_row(row, line),
+        None => false,
+    }
+}
+
+/// Whether the heap of an int4 column that takes no NULL, a text and a bool column has so many rows after two blocks, these
+/// lines in turn; or the fault of a block.
+fn read(
+    alloc: Global,
+    blocks: (&[u8], &[u8]),
+    count: usize,
+    lines: &[Line],
+) -> Result<bool, CopyFault> {
+    counted::<Brand, Brand>(alloc, Blank::new(1), Blank::new(1), blocks, count, lines)
 }
 
 fn counted<L: Ledger, M: Ledger>(
     alloc: Global,
     fetching: Blank,
     looking: Blank,
-    first: &[u8],
-    second: &[u8],
-) -> Result<String, CopyFault>
+    blocks: (&[u8], &[u8]),
+    count: usize,
+    lines: &[Line],
+) -> Result<bool, CopyFault>
     requires name { fetching.name ≡ L.name }
     requires parts { fetching.parts ≡ L.parts }
     requires some { 0 < fetching.parts }
@@ -30,76 +98,31 @@ fn counted<L: Ledger, M: Ledger>(
     requires other_parts { looking.parts ≡ M.parts }
     requires some_too { 0 < looking.parts }
 {
+    let columns = three_columns(alloc)?;
+    let mut heap = Heap::<Counting<L, M>>::new(alloc, columns);
     let mut fetches = Steps::<L>::new(fetching);
     let mut looks = Steps::<M>::new(looking);
-    let mut heap = Heap::<Counting<L, M>>::new(alloc, three_columns(alloc)?);
-    load_both(&mut heap, first, second)?;
-    shown(alloc, &heap, &mut fetches, &mut looks)
+    let loaded = load_both(&mut heap, blocks);
+    let same = are_rows(&heap, count, lines, &mut fetches, &mut looks);
+    match loaded {
+        None => Ok(same),
+        Some(fault) => Err(fault),
+    }
 }
 
-fn load_both<C: Counters>(
-    heap: &mut Heap<C>,
-    first: &[u8],
-    second: &[u8],
-) -> Result<u32, CopyFault> {
-    let before = heap.load(first)?;
-    let more = heap.load(second)?;
-    Ok(before.saturating_add(more))
-}
-
-/// The rows of a heap of three columns, each fetched and then looked at.
-fn shown<C: Counters>(
-    alloc: Global,
-    heap: &Heap<C>,
-    fetches: &mut Steps<C::Fetches>,
-    looks: &mut Steps<C::Looks>,
-) -> Result<String, CopyFault>
-    ensures fetches { OnOk result (fetches.new ≡ fetches.old + length heap.now.rows) }
-    ensures looks { OnOk result (looks.new ≡ looks.old + length heap.now.rows) }
+/// The first fault of two blocks.
+fn load_both<C: Counters>(heap: &mut Heap<C>, blocks: (&[u8], &[u8])) -> Option<CopyFault>
+    ensures { heap.new.columns ≡ heap.old.columns }
 {
-    let mut text = String::new(alloc);
-    for t in 0..heap.len() {
-        let _ = heap.fetch(Tid(t), fetches);
-        let row = heap.look(Tid(t), looks);
-        push_row(alloc, &mut text, row, heap.columns().items().len())?;
+    match heap.load(blocks.0) {
+        Ok(_) => heap.load(blocks.1).err(),
+        Err(fault) => Some(fault),
     }
-    Ok(text)
 }
 
-/// The values of a row, and LF.
-fn push_row(alloc: Global, text: &mut String, row: &Row, width: usize) -> Result<(), AllocError>
-    requires width { width ≡ length row.now }
-    requires few { width ≤ MOST_COLUMNS }
+fn three_columns(alloc: Global) -> Result<Columns, AllocError>
+    ensures { IfOk result (λ c. length c ≡ 3) }
 {
-    for c in 0..width {
-        push_value(alloc, text, row.value(ColNo(c as u8)))?;
-    }
-    text.push_str("\n")
-}
-
-fn push_value(alloc: Global, text: &mut String, value: &Value) -> Result<(), AllocError> {
-    match value {
-        Value::Null => text.push_str("<NULL>"),
-        Value::Int(n) => push_number(alloc, text, *n),
-        Value::Bool(b) => text.push_str(if *b { "<true>" } else { "<false>" }),
-        Value::Text(bytes) => push_bytes(text, bytes.items()),
-    }
-}
-
-fn push_number(alloc: Global, text: &mut String, n: i64) -> Result<(), AllocError> {
-    let shown = format!(in alloc; "<{n}>")?;
-    text.push_str(shown.as_str())
-}
-
-fn push_bytes(text: &mut String, bytes: &[u8]) -> Result<(), AllocError> {
-    text.push_str("<")?;
-    for byte in bytes {
-        text.push(char::from(*byte))?;
-    }
-    text.push_str(">")
-}
-
-fn three_columns(alloc: Global) -> Result<Columns, AllocError> {
     let columns = [
         column(SqlType::Int4, true),
         column(SqlType::Text, false),
@@ -113,39 +136,57 @@ fn column(typed: SqlType, not_null: bool) -> Column {
 }
 
 /// Two blocks, and the rows that are read from them.
-type Read<'a> = (&'a [u8], &'a [u8], &'a str);
+type Read<'a> = (&'a [u8], &'a [u8], &'a [Line<'a>]);
+
+const A: Line = [Shown::Int(1), Shown::Text(b"a"), Shown::Bool(true)];
+
+const B: Line = [Shown::Int(2), Shown::Text(b"b"), Shown::Bool(false)];
 
 const RECORDS: [Read; 12] = [
-    (b"", b"1,a,t\n2,b,f\n", "<1><a><true>\n<2><b><false>\n"),
-    (b"", b"", ""),
-    (b"", b"1,a,t", "<1><a><true>\n"),
+    (b"", b"1,a,t\n2,b,f\n", &[A, B]),
+    (b"", b"", &[]),
+    (b"", b"1,a,t", &[A]),
     (
         b"",
         b"1,a,t\r\n\r\n2,b,f\r3, c ,1",
-        "<1><a><true>\n<2><b><false>\n<3>< c ><true>\n",
+        &[
+            A,
+            B,
+            [Shown::Int(3), Shown::Text(b" c "), Shown::Bool(true)],
+        ],
     ),
-    (b"", b"\n\n1,a,t\n\n", "<1><a><true>\n"),
-    (b"", b"1,\"a,\"\"b\"\"\n\",t", "<1><a,\"b\"\n><true>\n"),
-    (b"", b"\"1\",\"a\"b,t", "<1><ab><true>\n"),
-    (b"", b"1,a,\"t", "<1><a><true>\n"),
-    (b"", b"\xEF\xBB\xBF1,a,t", "<1><a><true>\n"),
-    (b"", b"1,\\N,\"\\N\"", "<1><NULL><NULL>\n"),
-    (b"", b"1,\"\",t", "<1><><true>\n"),
-    (b"1,a,t", b"2,b,f", "<1><a><true>\n<2><b><false>\n"),
+    (b"", b"\n\n1,a,t\n\n", &[A]),
+    (
+        b"",
+        b"1,\"a,\"\"b\"\"\n\",t",
+        &[[Shown::Int(1), Shown::Text(b"a,\"b\"\n"), Shown::Bool(true)]],
+    ),
+    (
+        b"",
+        b"\"1\",\"a\"b,t",
+        &[[Shown::Int(1), Shown::Text(b"ab"), Shown::Bool(true)]],
+    ),
+    (b"", b"1,a,\"t", &[A]),
+    (b"", b"\xEF\xBB\xBF1,a,t", &[A]),
+    (
+        b"",
+        b"1,\\N,\"\\N\"",
+        &[[Shown::Int(1), Shown::Null, Shown::Null]],
+    ),
+    (
+        b"",
+        b"1,\"\",t",
+        &[[Shown::Int(1), Shown::Text(b""), Shown::Bool(true)]],
+    ),
+    (b"1,a,t", b"2,b,f", &[A, B]),
 ];
 
-fn is_read(alloc: Global, first: &[u8], second: &[u8], rows: &str) -> bool {
-    match read(alloc, first, second) {
-        Ok(found) => found.as_str() == rows,
-        Err(_) => false,
-    }
-}
-
-/// The first block whose rows are other ones.
-fn first_other<'a>(alloc: Global, rows: &[Read<'a>]) -> Option<&'a [u8]> {
-    for (first, second, rows) in rows {
-        if !is_read(alloc, first, second, rows) {
-            return Some(*second);
+/// The place of the first blocks whose rows are other ones.
+fn first_other(alloc: Global, rows: &[Read]) -> Option<usize> {
+    for n in 0..rows.len() {
+        let (first, second, lines) = rows[n];
+        if read(alloc, (first, second), lines.len(), lines) != Ok(true) {
+            return Some(n);
         }
     }
     None
@@ -187,10 +228,7 @@ const FAULTS: [Faulty; 5] = [
 
 /// The fault of two blocks, none where both are read.
 fn fault_of(alloc: Global, first: &[u8], second: &[u8]) -> Option<CopyFault> {
-    match read(alloc, first, second) {
-        Ok(_) => None,
-        Err(fault) => Some(fault),
-    }
+    read(alloc, (first, second), 0, &[]).err()
 }
 
 /// The first block with another fault.
@@ -208,37 +246,28 @@ fn first_faults(rt: HostRuntime) {
     assert_eq!(rt; first_of_fault(rt.alloc(), &FAULTS), None);
 }
 
-/// So many rows.
-fn rows_of(alloc: Global, count: u32) -> Result<Vec<u8>, AllocError> {
-    let mut rows = Vec::new(alloc);
+/// Adds so many rows.
+fn add_rows(rows: &mut Vec<u8>, count: u32) -> Result<(), AllocError> {
     for _ in 0..count {
         rows.extend_from_slice(b"1,a,t\n")?;
     }
-    Ok(rows)
+    Ok(())
 }
 
-/// A row with a text of so many letters, and what stands behind it.
-fn long_row(alloc: Global, letters: u32, end: &[u8]) -> Result<Vec<u8>, AllocError> {
-    let mut row = Vec::from_slice(alloc, b"1,")?;
+/// Adds a row with a text of so many letters, and what stands behind it.
+fn add_long(row: &mut Vec<u8>, letters: u32, end: &[u8]) -> Result<(), AllocError> {
+    row.extend_from_slice(b"1,")?;
     for _ in 0..letters {
         row.push(b'x')?;
     }
-    row.extend_from_slice(end)?;
-    Ok(row)
-}
-
-/// How long the text of a block's rows is, none where it has a fault.
-fn length_of(alloc: Global, block: &[u8]) -> Option<usize> {
-    match read(alloc, b"", block) {
-        Ok(text) => Some(text.len()),
-        Err(_) => None,
-    }
+    row.extend_from_slice(end)
 }
 
 #[test]
 fn most_rows(rt: HostRuntime) {
-    let rows = rows_of(rt.alloc(), 100_000).expect(&rt, "ample memory");
-    assert_eq!(rt; length_of(rt.alloc(), &rows), Some(1_300_000));
+    let mut rows = Vec::new(rt.alloc());
+    add_rows(&mut rows, 100_000).expect(&rt, "ample memory");
+    assert_eq!(rt; read(rt.alloc(), (b"", &rows), 100_000, &[A]), Ok(true));
     assert_eq!(rt;
         fault_of(rt.alloc(), &rows, b"1"),
         Some(CopyFault::TooMany { rec: 1 })
@@ -247,8 +276,9 @@ fn most_rows(rt: HostRuntime) {
 
 #[test]
 fn longest_text(rt: HostRuntime) {
-    let long = long_row(rt.alloc(), 8192, b"").expect(&rt, "ample memory");
-    let longer = long_row(rt.alloc(), 8192, b"x,t").expect(&rt, "ample memory");
+    let (mut long, mut longer) = (Vec::new(rt.alloc()), Vec::new(rt.alloc()));
+    add_long(&mut long, 8192, b"").expect(&rt, "ample memory");
+    add_long(&mut longer, 8192, b"x,t").expect(&rt, "ample memory");
     let too_long = CopyFault::TooLong {
         rec: 1,
         col: ColNo(1),
@@ -279,19 +309,25 @@ fn two_heaps<C: Counters>(alloc: Global) -> Result<Heaps<C>, Memory>
     Ok(heaps)
 }
 
-#[test]
-fn heaps_of_two_tables(rt: HostRuntime) {
-    let heaps = two_heaps::<Counting<Brand, Brand>>(rt.alloc());
-    let mut heaps = heaps.expect(&rt, "ample memory");
-    assert_eq!(rt; fill(&mut heaps, TableNo(1), b"1,a,t\n2,b,f\n3,c,f"), Ok(3));
-    assert!(rt; fill(&mut heaps, TableNo(1), b"4,d").is_err());
-    assert_eq!(rt; heaps.get(TableNo(0)).len(), 0);
-    assert_eq!(rt; heaps.get(TableNo(1)).len(), 3);
+/// Whether the second of two heaps takes a block of three rows, refuses another, and is cut to one row.
+fn is_filled<C: Counters>(heaps: &mut Heaps<C>) -> bool
+    requires { length heaps.old ≡ 2 }
+    ensures { length heaps.new ≡ 2 }
+{
+    let taken = fill(heaps, TableNo(1), b"1,a,t\n2,b,f\n3,c,f") == Ok(3);
+    let refused = fill(heaps, TableNo(1), b"4,d").is_err();
+    let (none, three) = (heaps.get(TableNo(0)).len(), heaps.get(TableNo(1)).len());
     let heap = heaps.get_mut(TableNo(1));
     if heap.len() == 3 {
         heap.cut(1);
     }
-    assert_eq!(rt; heaps.get(TableNo(1)).len(), 1);
+    taken && refused && (none, three, heaps.get(TableNo(1)).len()) == (0, 3, 1)
+}
+
+#[test]
+fn heaps_of_two_tables(rt: HostRuntime) {
+    let heaps = two_heaps::<Counting<Brand, Brand>>(rt.alloc());
+    assert!(rt; is_filled(&mut heaps.expect(&rt, "ample memory")));
 }
 
 /// Tuples of two relations with these row numbers.
@@ -358,17 +394,24 @@ fn are_members(tids: &Tids, members: &[u32]) -> bool {
     tids.from(from).is_none()
 }
 
+/// Whether the members of two sets are those that both have, and of two others those that either has.
+fn are_joined(both: &mut Tids, either: &mut Tids, other: &Tids) -> bool
+    requires both { both.old.bound ≡ other.now.bound }
+    requires either { either.old.bound ≡ other.now.bound }
+{
+    let before = are_members(both, &[0, 63, 64, 199]);
+    both.and(other);
+    either.or(other);
+    before && are_members(both, &[63, 199]) && are_members(either, &[0, 63, 64, 65, 199])
+}
+
 #[test]
 fn bitmaps(rt: HostRuntime) {
     let alloc = rt.alloc();
     let mut both = below_200(alloc, &[199, 64, 0, 63, 64]).expect(&rt, "ample memory");
     let other = below_200(alloc, &[63, 65, 199]).expect(&rt, "ample memory");
     let mut either = below_200(alloc, &[64, 0]).expect(&rt, "ample memory");
+    assert!(rt; are_joined(&mut both, &mut either, &other));
     let empty = below_200(alloc, &[]).expect(&rt, "ample memory");
-    assert!(rt; are_members(&both, &[0, 63, 64, 199]));
-    both.and(&other);
-    assert!(rt; are_members(&both, &[63, 199]));
-    either.or(&other);
-    assert!(rt; are_members(&either, &[0, 63, 64, 65, 199]));
     assert!(rt; are_members(&empty, &[]));
 }

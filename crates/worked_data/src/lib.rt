@@ -1,5 +1,5 @@
-//! Catalogues and their copies, heaps, indexes with their leaves and buckets, orders of worked data, and the lines that are
-//! printed.
+//! Catalogues and their copies, heaps, indexes with their leaves and buckets, orders of worked data, and lines that
+//! count rows.
 #![tactic(auto)]
 
 #[cfg(test)]
@@ -8,8 +8,6 @@ mod catalogues;
 mod copies;
 #[cfg(test)]
 mod entries;
-#[cfg(test)]
-mod faults;
 #[cfg(test)]
 mod hashed;
 #[cfg(test)]

@@ -1,7 +1,9 @@
 //! Statements and where they leave the grammar. The places were found by a parser written apart from this one.
 
+ghost use Rattle.std.specs.Prelude.{◌≤◌, ◌^◌, length};
+
 use crate::first::{first_fault, first_wrong, limit_fault};
-use pg_base::{Code, Fault, Limit, Refusal};
+use pg_base::{Code, Fault, Limit, Memory, Refusal};
 use sql_grammar::{cand_end, data_start, expr_end, select_end, windowed_select_end};
 use sql_lex::lex_statement;
 use std::alloc::Global;
@@ -296,20 +298,19 @@ const LINES: [(&[u8], Result<u32, u32>); 7] = [
     (b"\x0c\n", Err(0)),
 ];
 
-/// `front`, `count` times `middle`, and `back`.
-fn repeated(
-    alloc: Global,
+/// Adds `front`, `count` times `middle`, and `back`.
+fn add_repeated(
+    text: &mut Vec<u8>,
     front: &[u8],
     middle: &[u8],
     count: usize,
     back: &[u8],
-) -> Result<Vec<u8>, Refusal> {
-    let mut text = Vec::from_slice(alloc, front)?;
+) -> Result<(), Memory> {
+    text.extend_from_slice(front)?;
     for _ in 0..count {
         text.extend_from_slice(middle)?;
     }
-    text.extend_from_slice(back)?;
-    Ok(text)
+    text.extend_from_slice(back)
 }
 
 #[test]
@@ -317,89 +318,143 @@ fn finds_the_first_syntax_fault(rt: HostRuntime) {
     assert_eq!(rt; first_wrong(rt.alloc(), &STATEMENTS), Ok(None));
 }
 
+/// A front, repeated bytes with how often they stand, and a back.
+type Repeated<'a> = (&'a [u8], &'a [u8], usize, &'a [u8]);
+
+/// Whether a statement of at most 100,000 bytes passes this limit, or none.
+fn is_passing(alloc: Global, of: Repeated, passed: Option<(Limit, u32, u32)>) -> bool {
+    let mut text = Vec::new(alloc);
+    add_repeated(&mut text, of.0, of.1, of.2, of.3).is_ok()
+        && text.len() <= 100_000
+        && first_fault(alloc, &text) == Ok(limit_fault(passed))
+}
+
+/// The place of the first statement that passes another limit than told.
+fn first_long(
+    alloc: Global,
+    rows: &[(&[u8], &[u8], usize, &[u8], Option<(Limit, u32, u32)>)],
+) -> Option<usize> {
+    for n in 0..rows.len() {
+        let (front, middle, count, back, passed) = rows[n];
+        if !is_passing(alloc, (front, middle, count, back), passed) {
+            return Some(n);
+        }
+    }
+    None
+}
+
 #[test]
 fn keeps_the_limits_of_names_and_texts(rt: HostRuntime) {
-    for (front, middle, count, back, passed) in LONG {
-        let text = repeated(rt.alloc(), front, middle, count, back).expect(&rt, "text");
-        assert!(rt; text.len() < 100_000);
-        assert_eq!(rt; first_fault(rt.alloc(), &text), Ok(limit_fault(passed)));
+    assert_eq!(rt; first_long(rt.alloc(), &LONG), None);
+}
+
+/// A production whose end is sought.
+#[derive(Clone, Copy)]
+enum Part {
+    Select,
+    WindowedSelect,
+    Expression,
+    Candidate,
+}
+
+/// The end of a production at the text's beginning, or its fault.
+fn end_of(alloc: Global, part: Part, text: &[u8]) -> Result<u32, Refusal>
+    requires { length text.now ≤ 2 ^ 31 }
+{
+    let tokens = lex_statement(alloc, text, 0)?;
+    let end = match part {
+        Part::Select => select_end(text, &tokens, 0),
+        Part::WindowedSelect => windowed_select_end(text, &tokens, 0),
+        Part::Expression => expr_end(text, &tokens, 0),
+        Part::Candidate => cand_end(text, &tokens, 0),
+    };
+    end.map_err(Refusal::Fault)
+}
+
+/// The first of some texts that has more than 100 bytes, or whose production ends or fails elsewhere than told.
+fn first_end<'a>(
+    alloc: Global,
+    part: Part,
+    rows: &[(&'a [u8], Result<u32, u32>)],
+) -> Option<&'a [u8]> {
+    for (text, end) in rows {
+        if text.len() > 100 || end_of(alloc, part, text) != end.map_err(syntax) {
+            return Some(*text);
+        }
     }
+    None
+}
+
+fn syntax(at: u32) -> Refusal {
+    Refusal::Fault(Fault::syntax(at))
 }
 
 #[test]
 fn finds_the_end_of_a_part(rt: HostRuntime) {
-    for (text, end) in SELECTS {
-        assert!(rt; text.len() < 100);
-        let tokens = lex_statement(rt.alloc(), text, 0).expect(&rt, "tokens");
-        assert_eq!(rt;
-            select_end(text, &tokens, 0),
-            end.map_err(Fault::syntax),
-            "{text:?}"
-        );
-    }
-    for (text, end) in EXPRESSIONS {
-        assert!(rt; text.len() < 100);
-        let tokens = lex_statement(rt.alloc(), text, 0).expect(&rt, "tokens");
-        assert_eq!(rt;
-            expr_end(text, &tokens, 0),
-            end.map_err(Fault::syntax),
-            "{text:?}"
-        );
-    }
+    assert_eq!(rt; first_end(rt.alloc(), Part::Select, &SELECTS), None);
+    assert_eq!(rt; first_end(rt.alloc(), Part::Expression, &EXPRESSIONS), None);
 }
 
 #[test]
 fn finds_the_end_of_a_select_with_its_window(rt: HostRuntime) {
-    for (text, end) in WINDOWED {
-        assert!(rt; text.len() < 100);
-        let tokens = lex_statement(rt.alloc(), text, 0).expect(&rt, "tokens");
-        assert_eq!(rt;
-            windowed_select_end(text, &tokens, 0),
-            end.map_err(Fault::syntax),
-            "{text:?}"
-        );
-    }
+    assert_eq!(rt;
+        first_end(rt.alloc(), Part::WindowedSelect, &WINDOWED),
+        None
+    );
 }
 
 #[test]
 fn finds_the_end_of_a_candidate(rt: HostRuntime) {
-    for (text, end) in CANDIDATES {
-        assert!(rt; text.len() < 100);
-        let tokens = lex_statement(rt.alloc(), text, 0).expect(&rt, "tokens");
-        assert_eq!(rt;
-            cand_end(text, &tokens, 0),
-            end.map_err(Fault::syntax),
-            "{text:?}"
-        );
+    assert_eq!(rt; first_end(rt.alloc(), Part::Candidate, &CANDIDATES), None);
+}
+
+/// An expression's end, or from where to where the word stands that opens a level too many.
+type Deep = Result<u32, (u32, u32)>;
+
+/// Whether an expression of repeated bytes and a back ends so, and passes no other limit in a statement.
+fn is_deep(alloc: Global, middle: &[u8], count: usize, back: &[u8], end: Deep) -> bool {
+    let expected = match end {
+        Ok(at) => Ok(at),
+        Err((from, to)) => Err(Refusal::Fault(Fault::at_words(Code::S15(Limit::Depth), from, to))),
+    };
+    let moved = match end {
+        Ok(_) => None,
+        Err((from, to)) => Some((Limit::Depth, from.saturating_add(22), to.saturating_add(22))),
+    };
+    let mut text = Vec::new(alloc);
+    add_repeated(&mut text, b"", middle, count, back).is_ok()
+        && text.len() < 1_000
+        && end_of(alloc, Part::Expression, &text) == expected
+        && is_passing(alloc, (FRONT, middle, count, back), moved)
+}
+
+/// The place of the first expression that ends otherwise.
+fn first_deep(alloc: Global, rows: &[(&[u8], usize, &[u8], Deep)]) -> Option<usize> {
+    for n in 0..rows.len() {
+        let (middle, count, back, end) = rows[n];
+        if !is_deep(alloc, middle, count, back, end) {
+            return Some(n);
+        }
     }
+    None
 }
 
 #[test]
 fn keeps_the_limit_of_levels(rt: HostRuntime) {
-    for (middle, count, back, end) in DEEP {
-        let text = repeated(rt.alloc(), b"", middle, count, back).expect(&rt, "text");
-        assert!(rt; text.len() < 1_000);
-        let tokens = lex_statement(rt.alloc(), &text, 0).expect(&rt, "tokens");
-        let expected = end.map_err(|(from, to)| Fault::at_words(Code::S15(Limit::Depth), from, to));
-        assert_eq!(rt; expr_end(&text, &tokens, 0), expected);
-        let whole = repeated(rt.alloc(), FRONT, middle, count, back).expect(&rt, "statement");
-        assert!(rt; whole.len() < 1_000);
-        let moved = match end {
-            Ok(_) => None,
-            Err((from, to)) => Some((Limit::Depth, from + 22, to + 22)),
-        };
-        assert_eq!(rt; first_fault(rt.alloc(), &whole), Ok(limit_fault(moved)));
+    assert_eq!(rt; first_deep(rt.alloc(), &DEEP), None);
+}
+
+/// The first of some texts that has more than 100 bytes, or after whose line the data stand elsewhere than told.
+fn first_line<'a>(rows: &[(&'a [u8], Result<u32, u32>)]) -> Option<&'a [u8]> {
+    for (text, start) in rows {
+        if text.len() > 100 || data_start(text, 0) != start.map_err(Fault::syntax) {
+            return Some(*text);
+        }
     }
+    None
 }
 
 #[test]
 fn finds_the_data_after_a_line(rt: HostRuntime) {
-    for (text, start) in LINES {
-        assert!(rt; text.len() < 100);
-        assert_eq!(rt;
-            data_start(text, 0),
-            start.map_err(Fault::syntax),
-            "{text:?}"
-        );
-    }
+    assert_eq!(rt; first_line(&LINES), None);
 }

@@ -1,7 +1,10 @@
 //! Texts with their words or their fault, as PostgreSQL's lexical rules have them.
 
+ghost use Rattle.std.specs.Prelude.{◌≤◌, ◌^◌, length};
+
 use pg_base::{Code, Refusal};
 use sql_lex::{Kind, Tokens, lex_statement};
+use std::alloc::Global;
 
 /// A kind, the place of the first byte and the place past the last one.
 type Place = (Kind, u32, u32);
@@ -132,22 +135,51 @@ fn are(tokens: &Tokens, places: &[Place]) -> bool {
             .all(|(t, p)| t.kind == p.0 && t.start == p.1 && t.end == p.2)
 }
 
-#[test]
-fn words_and_faults(rt: HostRuntime) -> Result<(), Refusal> {
-    for (text, places) in &WORDS {
-        assert!(rt; text.len() < 100);
-        assert!(rt; are(&lex_statement(rt.alloc(), text, 0)?, places));
+/// Whether the tokens of the statement at a place are these.
+fn are_words(alloc: Global, text: &[u8], from: u32, places: &[Place]) -> bool
+    requires short { length text.now ≤ 2 ^ 31 }
+    requires within { from ≤ length text.now }
+{
+    match lex_statement(alloc, text, from) {
+        Ok(tokens) => are(&tokens, places),
+        Err(_) => false,
     }
-    for (text, place) in &FAULTS {
-        assert!(rt; text.len() < 100);
-        match lex_statement(rt.alloc(), text, 0) {
-            Err(Refusal::Fault(fault)) => {
-                assert_eq!(rt; (fault.code, fault.at), (Code::S1, *place));
-            }
-            _ => assert!(rt; false),
+}
+
+/// The first text that has more than 100 bytes, or other tokens than told.
+fn first_other<'a>(alloc: Global, rows: &[(&'a [u8], &[Place])]) -> Option<&'a [u8]> {
+    for (text, places) in rows {
+        if text.len() > 100 || !are_words(alloc, text, 0, places) {
+            return Some(*text);
         }
     }
-    let second = lex_statement(rt.alloc(), b"a;b ", 2)?;
-    assert!(rt; are(&second, &[(Kind::Word, 2, 3), (Kind::End, 4, 4)]));
-    Ok(())
+    None
+}
+
+/// The kind and the place of a text's fault.
+fn fault_of(alloc: Global, text: &[u8]) -> Option<(Code, u32)>
+    requires { length text.now ≤ 2 ^ 31 }
+{
+    match lex_statement(alloc, text, 0) {
+        Err(Refusal::Fault(fault)) => Some((fault.code, fault.at)),
+        _ => None,
+    }
+}
+
+/// The first text that has more than 100 bytes, or another fault than told.
+fn first_wrong<'a>(alloc: Global, rows: &[(&'a [u8], u32)]) -> Option<&'a [u8]> {
+    for (text, place) in rows {
+        if text.len() > 100 || fault_of(alloc, text) != Some((Code::S1, *place)) {
+            return Some(*text);
+        }
+    }
+    None
+}
+
+#[test]
+fn words_and_faults(rt: HostRuntime) {
+    assert_eq!(rt; first_other(rt.alloc(), &WORDS), None);
+    assert_eq!(rt; first_wrong(rt.alloc(), &FAULTS), None);
+    let second = [(Kind::Word, 2, 3), (Kind::End, 4, 4)];
+    assert!(rt; are_words(rt.alloc(), b"a;b ", 2, &second));
 }

@@ -21,7 +21,6 @@ use plan_space::validate;
 use plan_tree::{BitTree, BitTrees, Plan, classes_of};
 use sql_query::{ColList, OrderList, Prepared};
 use std::alloc::Global;
-use std::test::Fail;
 
 fn column(rel: u8, col: u8) -> ColRef
     ensures { result ≡ record { rel = record { 0 = rel }; col = record { 0 = col } } }
@@ -54,10 +53,19 @@ fn conjuncts(alloc: Global) -> Result<Exprs, Memory>
 fn relations(alloc: Global) -> Result<RangeTable, Memory>
     ensures { IfOk result (λ r. r ≡ twice) }
 {
+    let (first, second) = (name(alloc, b'a')?, name(alloc, b'b')?);
     let mut range = Vec::new(alloc);
-    range.push((TableNo(0), name(alloc, b'a')?))?;
-    range.push((TableNo(0), name(alloc, b'b')?))?;
+    range.push((TableNo(0), first))?;
+    range.push((TableNo(0), second))?;
     Ok(RangeTable::from_vec(range))
+}
+
+/// The classes of the condition and an order by a column of the first relation.
+fn classes(alloc: Global, item: OrderItem) -> Result<Classes, Memory>
+    requires { item.col.rel.0 ≡ 0 }
+{
+    let conjuncts = conjuncts(alloc)?;
+    Classes::build(alloc, conjuncts, &[item], &Texts { value: Value::Null })
 }
 
 /// The query: the first relation sorted by its first column; it names both columns of the first relation and the first
@@ -70,13 +78,10 @@ fn query(alloc: Global) -> Result<Prepared, Memory>
         descending: false,
         nulls_first: false,
     };
-    let texts = Texts { value: Value::Null };
-    let classes = Classes::build(alloc, conjuncts(alloc)?, &[item], &texts)?;
+    let order = Vec::from_slice(alloc, &[item])?;
+    let used = Vec::from_slice(alloc, &[column(0, 0), column(0, 1), column(1, 0)])?;
     let range = relations(alloc)?;
-    let mut order = Vec::new(alloc);
-    order.push(item)?;
-    let mut used = Vec::new(alloc);
-    used.extend_from_slice(&[column(0, 0), column(0, 1), column(1, 0)])?;
+    let classes = classes(alloc, item)?;
     Ok(Prepared {
         range,
         classes,
@@ -278,12 +283,10 @@ fn first_wrong(
 }
 
 #[test]
-fn trees_are_judged(rt: HostRuntime) -> Result<(), Fail> {
+fn trees_are_judged(rt: HostRuntime) {
     let alloc = rt.alloc();
-    let cat = indexed(alloc)?;
-    let q = query(alloc)?;
+    let cat = indexed(alloc).expect(&rt, "a catalogue");
+    let q = query(alloc).expect(&rt, "a query");
     assert!(rt; are_firsts(&q));
-    let wrong = first_wrong(alloc, &cat, &q, &TREES)?;
-    assert_eq!(rt; wrong, None);
-    Ok(())
+    assert_eq!(rt; first_wrong(alloc, &cat, &q, &TREES), Ok(None));
 }

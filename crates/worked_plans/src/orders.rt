@@ -8,7 +8,7 @@ ghost use Rattle.pg_expr.specs.declared.operand.Operand.TheVariants.{Col, Lit};
 ghost use Rattle.pg_value.specs.declared.operators.Op.TheVariants.{Eq};
 ghost use Rattle.pg_value.specs.declared.value.Value.TheVariants.{Int};
 
-use crate::script::{Stopped, define};
+use crate::script::define;
 use catalog::{Catalog, RangeTable};
 use eq_classes::{ClassNo, Classes, OrderItem};
 use pathkeys::{Keys, index_keys, order_keys};
@@ -25,7 +25,9 @@ const TWO: ClassNo = ClassNo(1);
 /// An index of a table of a and b; whether the query has `a = 5`, whose class is the first and has a constant; the column of its
 /// ORDER BY, whether that descends and whether NULL stands first in it; and the classes by which a forward scan, a backward scan
 /// and the ORDER BY are sorted.
-const SORTED: [(&[u8], bool, (u8, bool, bool), [&[ClassNo]; 3]); 11] = [
+type Sorted<'a> = (&'a [u8], bool, (u8, bool, bool), [&'a [ClassNo]; 3]);
+
+const SORTED: [Sorted; 11] = [
     (
         b"CREATE INDEX i ON t (a, b);",
         true,
@@ -143,20 +145,19 @@ fn first_is(alloc: Global, n: i64) -> Result<Exprs, Memory>
 fn classes(alloc: Global, fixed: bool, order: OrderItem) -> Result<Classes, Memory>
     requires { order.col.rel.0 ≡ 0 }
 {
-    let ints = Ints { value: Value::Null };
     if fixed {
-        Classes::build(alloc, first_is(alloc, 5)?, &[order], &ints)
+        fixed_classes(alloc, order)
     } else {
+        let ints = Ints { value: Value::Null };
         Classes::build(alloc, Exprs::from_vec(Vec::new(alloc)), &[order], &ints)
     }
 }
 
-/// A catalogue of the table and an index.
-fn indexed(alloc: Global, index: &[u8]) -> Result<Catalog, Stopped> {
-    let mut cat = Catalog::new(alloc);
-    define(alloc, &mut cat, b"CREATE TABLE t (a int4, b int4);")?;
-    define(alloc, &mut cat, index)?;
-    Ok(cat)
+fn fixed_classes(alloc: Global, order: OrderItem) -> Result<Classes, Memory>
+    requires { order.col.rel.0 ≡ 0 }
+{
+    let conjuncts = first_is(alloc, 5)?;
+    Classes::build(alloc, conjuncts, &[order], &Ints { value: Value::Null })
 }
 
 /// The one relation of a query of the table.
@@ -166,12 +167,41 @@ fn relation(alloc: Global) -> Result<RangeTable, Memory> {
     Ok(RangeTable::from_vec(relations))
 }
 
-/// The classes by which a scan by the index `i` is sorted.
-fn keys_by(alloc: Global, cat: &Catalog, t: &Classes, backward: bool) -> Result<Keys, Stopped> {
+/// The classes by which a scan by the index `i` is sorted; none where it is not there.
+fn keys_by(
+    alloc: Global,
+    cat: &Catalog,
+    t: &Classes,
+    backward: bool,
+) -> Result<Option<Keys>, Memory> {
     let range = relation(alloc)?;
     match cat.index_named(b"i") {
-        Some(i) => Ok(index_keys(alloc, cat, &range, t, i, RelNo(0), backward)?),
-        None => Err(Stopped::Missing),
+        Some(i) => Ok(Some(index_keys(alloc, cat, &range, t, i, RelNo(0), backward)?)),
+        None => Ok(None),
+    }
+}
+
+/// Whether a scan by the index `i` is sorted by these classes.
+fn is_sorted_by(
+    alloc: Global,
+    cat: &Catalog,
+    t: &Classes,
+    backward: bool,
+    wanted: &[ClassNo],
+) -> bool {
+    match keys_by(alloc, cat, t, backward) {
+        Ok(Some(keys)) => keys.items() == wanted,
+        _ => false,
+    }
+}
+
+/// Whether an ORDER BY sorts by these classes.
+fn is_ordered_by(alloc: Global, t: &Classes, order: OrderItem, wanted: &[ClassNo]) -> bool
+    requires { order.col.rel.0 ≡ 0 }
+{
+    match order_keys(alloc, t, &[order]) {
+        Ok(keys) => keys.items() == wanted,
+        Err(_) => false,
     }
 }
 
@@ -182,26 +212,47 @@ fn are_sorted_by(
     t: &Classes,
     order: OrderItem,
     wanted: [&[ClassNo]; 3],
-) -> Result<bool, Stopped> {
-    let forward = keys_by(alloc, cat, t, false)?;
-    let backward = keys_by(alloc, cat, t, true)?;
-    let asked = order_keys(alloc, t, &[order])?;
-    let found = [forward.items(), backward.items(), asked.items()];
-    Ok(found == wanted)
+) -> bool
+    requires { order.col.rel.0 ≡ 0 }
+{
+    is_sorted_by(alloc, cat, t, false, wanted[0])
+        && is_sorted_by(alloc, cat, t, true, wanted[1])
+        && is_ordered_by(alloc, t, order, wanted[2])
+}
+
+/// The same with the classes of a row.
+fn are_sorted(alloc: Global, cat: &Catalog, row: Sorted) -> bool {
+    let (_, fixed, (col, descending, nulls_first), wanted) = row;
+    let order = OrderItem {
+        col: column(col),
+        descending,
+        nulls_first,
+    };
+    match classes(alloc, fixed, order) {
+        Ok(t) => are_sorted_by(alloc, cat, &t, order, wanted),
+        Err(_) => false,
+    }
+}
+
+/// The same over the table with the index of a row.
+fn is_as_told(alloc: Global, row: Sorted) -> bool {
+    let mut cat = Catalog::new(alloc);
+    define(alloc, &mut cat, b"CREATE TABLE t (a int4, b int4);").is_ok()
+        && define(alloc, &mut cat, row.0).is_ok()
+        && are_sorted(alloc, &cat, row)
+}
+
+/// The place of the first row that is sorted otherwise.
+fn first_wrong(alloc: Global, rows: &[Sorted]) -> Option<usize> {
+    for n in 0..rows.len() {
+        if !is_as_told(alloc, rows[n]) {
+            return Some(n);
+        }
+    }
+    None
 }
 
 #[test]
 fn scans_by_an_index_are_sorted_as_worked_out(rt: HostRuntime) {
-    let alloc = rt.alloc();
-    for (index, fixed, (col, descending, nulls_first), wanted) in SORTED {
-        let order = OrderItem {
-            col: column(col),
-            descending,
-            nulls_first,
-        };
-        let cat = indexed(alloc, index).expect(&rt, "a catalogue");
-        let t = classes(alloc, fixed, order).expect(&rt, "classes");
-        let are = are_sorted_by(alloc, &cat, &t, order, wanted).expect(&rt, "keys");
-        assert!(rt; are, "{index:?}");
-    }
+    assert_eq!(rt; first_wrong(rt.alloc(), &SORTED), None);
 }

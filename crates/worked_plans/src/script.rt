@@ -31,8 +31,6 @@ pub enum Stopped {
     Refused(Refusal),
     /// The catalogue refused it.
     Catalog(CatalogFault),
-    /// It names no index that is there.
-    Missing,
     /// Want of memory.
     Memory,
 }

@@ -6,7 +6,6 @@ use pareto::Front;
 use pg_base::{Memory, RelSet};
 use plan_tree::Path;
 use std::alloc::Global;
-use std::test::Fail;
 
 /// A front of one scan of this cost.
 fn front_of(alloc: Global, cost: u64) -> Result<Front<Path>, Memory> {
@@ -39,23 +38,31 @@ fn cost_at(table: &Table, set: RelSet, param: RelSet) -> u64 {
     }
 }
 
-#[test]
-fn a_table_has_what_was_last_put(rt: HostRuntime) -> Result<(), Fail> {
-    let mut table = Table::new(rt.alloc());
-    let rounds = [
-        (RelSet(1), RelSet(0), 5),
-        (RelSet(2), RelSet(0), 6),
-        (RelSet(2), RelSet(1), 7),
-        (RelSet(1), RelSet(0), 8),
-    ];
-    for (set, param, cost) in rounds {
-        let is_put = put(rt.alloc(), &mut table, set, param, cost)?;
-        assert!(rt; is_put);
-        assert_eq!(rt; cost_at(&table, set, param), cost);
+/// Fronts that are put, each of a scan of this cost.
+const ROUNDS: [(RelSet, RelSet, u64); 4] = [
+    (RelSet(1), RelSet(0), 5),
+    (RelSet(2), RelSet(0), 6),
+    (RelSet(2), RelSet(1), 7),
+    (RelSet(1), RelSet(0), 8),
+];
+
+/// The place of the first front that is not put, or not found then.
+fn first_lost(alloc: Global, table: &mut Table, rows: &[(RelSet, RelSet, u64)]) -> Option<usize> {
+    for n in 0..rows.len() {
+        let (set, param, cost) = rows[n];
+        if put(alloc, table, set, param, cost) != Ok(true) || cost_at(table, set, param) != cost {
+            return Some(n);
+        }
     }
+    None
+}
+
+#[test]
+fn a_table_has_what_was_last_put(rt: HostRuntime) {
+    let mut table = Table::new(rt.alloc());
+    assert_eq!(rt; first_lost(rt.alloc(), &mut table, &ROUNDS), None);
     assert_eq!(rt; cost_at(&table, RelSet(1), RelSet(0)), 8);
     assert_eq!(rt; cost_at(&table, RelSet(2), RelSet(0)), 6);
     assert_eq!(rt; cost_at(&table, RelSet(2), RelSet(1)), 7);
     assert_eq!(rt; table.front(RelSet(3), RelSet(0)).is_none(), true);
-    Ok(())
 }

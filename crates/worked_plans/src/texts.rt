@@ -1,6 +1,7 @@
 //! A table of two text columns, with an index of each kind on its first column.
 
-ghost use Rattle.std.specs.Prelude.{◌≡◌, IfOk};
+ghost use Rattle.std.specs.Prelude.{◌≡◌, true, IfOk};
+ghost use Rattle.pg_base.specs.Names.{begins_name};
 ghost use Rattle.catalog.specs.Entries.{index_of};
 ghost use Rattle.catalog.specs.Indexes.{FitsColumns};
 ghost use Rattle.catalog.specs.TextTables.{HasTexts, texts};
@@ -42,13 +43,11 @@ impl Binding for Texts {
 fn small(alloc: Global) -> Result<Catalog, CatalogFault>
     ensures { IfOk result HasTexts }
 {
-    let mut cat = Catalog::new(alloc);
+    let named = name(alloc, b't')?;
     let names = names(alloc, b"ab")?;
-    cat.add_table(
-        name(alloc, b't')?,
-        names,
-        columns(alloc, &[SqlType::Text, SqlType::Text])?,
-    )?;
+    let columns = columns(alloc, &[SqlType::Text, SqlType::Text])?;
+    let mut cat = Catalog::new(alloc);
+    cat.add_table(named, names, columns)?;
     Ok(cat)
 }
 
@@ -73,12 +72,37 @@ fn definition(alloc: Global, method: Method) -> Result<IndexDef, Memory>
     })
 }
 
+/// Adds an index of table `t`.
+fn add_index(
+    cat: &mut Catalog,
+    alloc: Global,
+    letter: u8,
+    method: Method,
+) -> Result<(), CatalogFault>
+    requires table { HasTexts cat.old }
+    requires letter { begins_name letter ≡ true }
+    ensures { HasTexts cat.new }
+{
+    let def = definition(alloc, method)?;
+    let named = name(alloc, letter)?;
+    cat.add_index(named, def)?;
+    Ok(())
+}
+
+/// Adds a B-tree, of number 0, and a hash index, of number 1.
+fn add_both(cat: &mut Catalog, alloc: Global) -> Result<(), CatalogFault>
+    requires { HasTexts cat.old }
+    ensures { HasTexts cat.new }
+{
+    add_index(cat, alloc, b'i', Method::Btree)?;
+    add_index(cat, alloc, b'h', Method::Hash)
+}
+
 /// The table with a B-tree, of number 0, and a hash index, of number 1.
 pub(crate) fn indexed(alloc: Global) -> Result<Catalog, CatalogFault>
     ensures { IfOk result HasTexts }
 {
     let mut cat = small(alloc)?;
-    cat.add_index(name(alloc, b'i')?, definition(alloc, Method::Btree)?)?;
-    cat.add_index(name(alloc, b'h')?, definition(alloc, Method::Hash)?)?;
+    add_both(&mut cat, alloc)?;
     Ok(cat)
 }

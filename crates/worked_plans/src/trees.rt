@@ -3,30 +3,57 @@
 use crate::made::scan;
 use pareto::Ranked;
 use pg_base::{IndexNo, Memory, RelNo, RelSet};
-use plan_tree::{BitTree, Plan};
+use plan_tree::{BitTree, Path, Plan};
 use std::alloc::Global;
-use std::test::Fail;
+
+/// The numbers of a scan, and whether it is sorted.
+type Made = (u64, u64, bool);
+
+/// Two scans, and whether the first is at most the second.
+const COMPARED: [(Made, Made, bool); 6] = [
+    ((0, 9, false), (0, 9, false), true),
+    ((0, 8, false), (0, 9, false), true),
+    ((0, 9, false), (0, 8, false), false),
+    ((5, 8, false), (4, 9, false), false),
+    ((0, 9, true), (0, 9, false), true),
+    ((0, 9, false), (0, 9, true), false),
+];
+
+/// Whether a path is at most a scan of this parameterisation; none for want of memory.
+fn is_at_most(alloc: Global, one: &Path, other: Made, param: RelSet) -> Option<bool> {
+    match scan(alloc, other.0, other.1, other.2) {
+        Ok(mut path) => {
+            path.param = param;
+            Some(one.at_most(&path))
+        }
+        Err(_) => None,
+    }
+}
+
+/// Whether a scan is at most another one of this parameterisation.
+fn at_most(alloc: Global, one: Made, other: Made, param: RelSet) -> Option<bool> {
+    match scan(alloc, one.0, one.1, one.2) {
+        Ok(path) => is_at_most(alloc, &path, other, param),
+        Err(_) => None,
+    }
+}
+
+/// The place of the first two scans that compare otherwise.
+fn first_other(alloc: Global, rows: &[(Made, Made, bool)]) -> Option<usize> {
+    for n in 0..rows.len() {
+        let (one, other, is) = rows[n];
+        if at_most(alloc, one, other, RelSet(0)) != Some(is) {
+            return Some(n);
+        }
+    }
+    None
+}
 
 #[test]
-fn paths_compare_in_each_number_and_by_prefix(rt: HostRuntime) -> Result<(), Fail> {
-    let rows = [
-        ((0, 9, false), (0, 9, false), true),
-        ((0, 8, false), (0, 9, false), true),
-        ((0, 9, false), (0, 8, false), false),
-        ((5, 8, false), (4, 9, false), false),
-        ((0, 9, true), (0, 9, false), true),
-        ((0, 9, false), (0, 9, true), false),
-    ];
-    for ((startup, cost, sorted), (other_startup, other_cost, other_sorted), is) in rows {
-        let one = scan(rt.alloc(), startup, cost, sorted)?;
-        let other = scan(rt.alloc(), other_startup, other_cost, other_sorted)?;
-        assert_eq!(rt; one.at_most(&other), is);
-    }
-    let one = scan(rt.alloc(), 0, 1, false)?;
-    let mut other = scan(rt.alloc(), 0, 1, false)?;
-    other.param = RelSet(2);
-    assert_eq!(rt; one.at_most(&other), false);
-    Ok(())
+fn paths_compare_in_each_number_and_by_prefix(rt: HostRuntime) {
+    assert_eq!(rt; first_other(rt.alloc(), &COMPARED), None);
+    let parameterised = at_most(rt.alloc(), (0, 1, false), (0, 1, false), RelSet(2));
+    assert_eq!(rt; parameterised, Some(false));
 }
 
 /// A nested loop over a bitmap scan by an OR of two arms.
@@ -57,9 +84,8 @@ fn shown(p: &Plan) -> usize {
 }
 
 #[test]
-fn copies_have_the_same_tree(rt: HostRuntime) -> Result<(), Fail> {
-    let nest = nested(rt.alloc())?;
-    let copied = nest.copy(rt.alloc())?;
+fn copies_have_the_same_tree(rt: HostRuntime) {
+    let nest = nested(rt.alloc()).expect(&rt, "ample memory");
+    let copied = nest.copy(rt.alloc()).expect(&rt, "ample memory");
     assert_eq!(rt; shown(&copied), 4);
-    Ok(())
 }

@@ -2,16 +2,16 @@
 
 ghost use Rattle.std.specs.Prelude.{◌≤◌, ◌^◌, length};
 
-use crate::tables::one_table;
-use catalog::Catalog;
+use crate::cases::{Cases, Reader, Tables, Wrong, first_failing};
+use catalog::{Catalog, ColumnStats};
 use ddl_reader::{Ddl, Read, block_end, read_ddl};
-use pg_base::{Code, ColNo, Fault, Limit, Refusal, TableNo};
-use pg_value::{Column, SqlType, Value};
+use pg_base::{Code, ColNo, Limit, Refusal, TableNo};
+use pg_value::{Bytes, Column, SqlType, Value};
 use sql_lex::lex_statement;
 use std::alloc::Global;
 
 /// Statements, and their first fault: its kind, its place and where its words end.
-const WRONG: [(&[u8], Code, u32, u32); 48] = [
+const WRONG: [Wrong; 48] = [
     (b"CREATE TABLE t (a foo, b bar);", Code::S8, 18, 21),
     (
         b"CREATE TABLE t (a int4, b Bar NOT NULL);",
@@ -219,23 +219,123 @@ fn whole(value: &Value) -> i64 {
 }
 
 /// The statement at the text's beginning.
-fn read(alloc: Global, cat: &Catalog, text: &[u8]) -> Result<Read, Refusal>
+pub(crate) fn read(alloc: Global, cat: &Catalog, text: &[u8]) -> Result<Read, Refusal>
     requires { length text.now ≤ 2 ^ 31 }
 {
     let tokens = lex_statement(alloc, text, 0)?;
     read_ddl(alloc, cat, text, &tokens)
 }
 
-/// The first of some statements that has more than 1,000 bytes, or is refused elsewhere than told.
-fn first_wrong<'a>(
-    alloc: Global,
-    cat: &Catalog,
-    rows: &[(&'a [u8], Code, u32, u32)],
-) -> Option<&'a [u8]> {
-    for (text, code, at, to) in rows {
-        let fault = Refusal::Fault(Fault::at_words(*code, *at, *to));
-        if text.len() > 1_000 || read(alloc, cat, text).err() != Some(fault) {
-            return Some(text);
+/// What a statement has to be read as.
+#[derive(Clone, Copy)]
+pub(crate) enum Wanted<'a> {
+    /// A table `t` of three columns with these types, the second of a name.
+    Table(&'a [Column], &'a [u8]),
+    /// The head of data of the first table, which start at an offset.
+    Copy(u32),
+    /// Rows and pages of the first table.
+    Rows(u64, u64),
+    /// Different values, the share of NULL, common values with their shares and bounds, of the first column of the first table.
+    Column(u64, u32, &'a [(i64, u32)], &'a [i64]),
+}
+
+fn are_common(common: &[(Value, u32)], wanted: &[(i64, u32)]) -> bool {
+    common.len() == wanted.len()
+        && common.iter().zip(wanted).all(|(found, told)| whole(&found.0) == told.0
+            && found.1 == told.1)
+}
+
+fn are_bounds(bounds: &[Value], wanted: &[i64]) -> bool {
+    bounds.len() == wanted.len()
+        && bounds
+            .iter()
+            .zip(wanted)
+            .all(|(found, told)| whole(found) == *told)
+}
+
+fn is_known(stats: &ColumnStats, wanted: Wanted) -> bool {
+    match wanted {
+        Wanted::Column(distinct, nulls, common, bounds) => {
+            (stats.distinct, stats.nulls) == (distinct, nulls)
+                && are_common(&stats.common, common)
+                && are_bounds(&stats.histogram, bounds)
+        }
+        _ => false,
+    }
+}
+
+/// Whether these are the names of the wanted table, of its three columns, and their types.
+fn is_table(name: &[u8], names: &[Bytes], types: &[Column], wanted: Wanted) -> bool {
+    match (wanted, names) {
+        (Wanted::Table(columns, second), [_, named, _]) => {
+            name == b"t".as_slice() && types == columns && named.items() == second
+        }
+        _ => false,
+    }
+}
+
+fn is_meant(ddl: &Ddl, wanted: Wanted) -> bool {
+    match ddl {
+        Ddl::Table {
+            name,
+            names,
+            columns,
+        } => is_table(name.items(), names, columns.items(), wanted),
+        Ddl::Copy { table, start } => {
+            matches!(wanted, Wanted::Copy(at) if *table == TableNo(0) && *start == at)
+        }
+        Ddl::Rows { table, rows, pages } => {
+            matches!(wanted, Wanted::Rows(n, m) if (*table, *rows, *pages) == (TableNo(0), n, m))
+        }
+        Ddl::Column { table, col, stats } => {
+            (*table, *col) == (TableNo(0), ColNo(0)) && is_known(stats, wanted)
+        }
+        _ => false,
+    }
+}
+
+/// Whether a statement is read as this, with the places of its names or numbers.
+fn is_read(alloc: Global, cat: &Catalog, text: &[u8], wanted: Wanted, at: &[u32]) -> bool
+    requires { length text.now ≤ 2 ^ 31 }
+{
+    match read(alloc, cat, text) {
+        Ok(read) => is_meant(&read.ddl, wanted) && read.at.as_slice() == at,
+        Err(_) => false,
+    }
+}
+
+/// Statements, what they are read as, and the places of their names or numbers.
+pub(crate) type Right<'a> = (&'a [u8], Wanted<'a>, &'a [u32]);
+
+const RIGHT: [Right; 4] = [
+    (
+        b"Create TABLE T (A int4, b_2 Boolean NOT NULL, c bigint NULL);",
+        Wanted::Table(&COLUMNS, b"b_2"),
+        &[13, 16, 24, 46],
+    ),
+    (
+        b"copy A from stdin with (format csv, null '\\N'); \t\n1\n\\.\n",
+        Wanted::Copy(50),
+        &[],
+    ),
+    (
+        b"Statistics A rows 99999999999999999999 PAGES 7;",
+        Wanted::Rows(u64::MAX, 7),
+        &[18, 45],
+    ),
+    (
+        b"STATISTICS a.b DISTINCT 4 NULLS 4294967296 COMMON (-7 5, '8' 4294967295) HISTOGRAM (1, - 2);",
+        Wanted::Column(4, u32::MAX, &[(-7, 5), (8, u32::MAX)], &[1, -2]),
+        &[24, 32, 51, 54, 57, 61, 84, 87],
+    ),
+];
+
+/// The place of the first statement that has more than 100 bytes, or is read as something else.
+pub(crate) fn first_other(alloc: Global, cat: &Catalog, rows: &[Right]) -> Option<usize> {
+    for n in 0..rows.len() {
+        let (text, wanted, at) = rows[n];
+        if text.len() > 100 || !is_read(alloc, cat, text, wanted, at) {
+            return Some(n);
         }
     }
     None
@@ -243,96 +343,27 @@ fn first_wrong<'a>(
 
 #[test]
 fn refuses_at_the_first_fault(rt: HostRuntime) {
-    let cat = one_table(rt.alloc()).expect(&rt, "a table");
-    assert_eq!(rt; first_wrong(rt.alloc(), &cat, &WRONG), None);
+    let cases = Cases::Wrong(Reader::Definition, &WRONG);
+    assert_eq!(rt; first_failing(rt.alloc(), Tables::One, cases), None);
 }
 
 #[test]
-fn reads_a_table(rt: HostRuntime) {
-    let cat = Catalog::new(rt.alloc());
-    let text = b"Create TABLE T (A int4, b_2 Boolean NOT NULL, c bigint NULL);";
-    let Read { ddl, at } = read(rt.alloc(), &cat, text).expect(&rt, "a table");
-    assert_eq!(rt; at.as_slice(), [13, 16, 24, 46].as_slice());
-    match ddl {
-        Ddl::Table {
-            name,
-            names,
-            columns,
-        } => {
-            assert!(rt; name.items() == b"t".as_slice());
-            assert_eq!(rt; names.len(), 3);
-            assert!(rt; names[1].items() == b"b_2".as_slice());
-            assert_eq!(rt; columns.items(), COLUMNS.as_slice());
-        }
-        _ => assert!(rt; false),
-    }
+fn reads_definitions(rt: HostRuntime) {
+    let cases = Cases::Definitions(&RIGHT);
+    assert_eq!(rt; first_failing(rt.alloc(), Tables::One, cases), None);
 }
 
-#[test]
-fn reads_the_head_of_data(rt: HostRuntime) {
-    let cat = one_table(rt.alloc()).expect(&rt, "a table");
-    let text = b"copy A from stdin with (format csv, null '\\N'); \t\n1\n\\.\n";
-    match read(rt.alloc(), &cat, text) {
-        Ok(
-            Read {
-                ddl: Ddl::Copy { table, start },
-                at,
-            },
-        ) => {
-            assert_eq!(rt; table, TableNo(0));
-            assert_eq!(rt; start, 50);
-            assert_eq!(rt; at.len(), 0);
+/// The first text that has more than 100 bytes, or whose data end elsewhere than told.
+fn first_block<'a>(rows: &[(&'a [u8], Option<(u32, u32)>)]) -> Option<&'a [u8]> {
+    for (text, end) in rows {
+        if text.len() > 100 || block_end(text, 0) != *end {
+            return Some(*text);
         }
-        _ => assert!(rt; false),
     }
-}
-
-#[test]
-fn reads_the_size_of_a_table(rt: HostRuntime) {
-    let cat = one_table(rt.alloc()).expect(&rt, "a table");
-    let text = b"Statistics A rows 99999999999999999999 PAGES 7;";
-    let Read { ddl, at } = read(rt.alloc(), &cat, text).expect(&rt, "sizes");
-    assert_eq!(rt; at.as_slice(), [18, 45].as_slice());
-    match ddl {
-        Ddl::Rows { table, rows, pages } => {
-            assert_eq!(rt; table, TableNo(0));
-            assert_eq!(rt; rows, u64::MAX);
-            assert_eq!(rt; pages, 7);
-        }
-        _ => assert!(rt; false),
-    }
-}
-
-#[test]
-fn reads_what_is_known_of_a_column(rt: HostRuntime) {
-    let cat = one_table(rt.alloc()).expect(&rt, "a table");
-    let text =
-        b"STATISTICS a.b DISTINCT 4 NULLS 4294967296 COMMON (-7 5, '8' 4294967295) HISTOGRAM (1, - 2);";
-    let Read { ddl, at } = read(rt.alloc(), &cat, text).expect(&rt, "statistics");
-    assert_eq!(rt; at.as_slice(), [24, 32, 51, 54, 57, 61, 84, 87].as_slice());
-    match ddl {
-        Ddl::Column { table, col, stats } => {
-            assert_eq!(rt; table, TableNo(0));
-            assert_eq!(rt; col, ColNo(0));
-            assert_eq!(rt; stats.distinct, 4);
-            assert_eq!(rt; stats.nulls, u32::MAX);
-            assert_eq!(rt; stats.common.len(), 2);
-            assert_eq!(rt; whole(&stats.common[0].0), -7);
-            assert_eq!(rt; stats.common[0].1, 5);
-            assert_eq!(rt; whole(&stats.common[1].0), 8);
-            assert_eq!(rt; stats.common[1].1, u32::MAX);
-            assert_eq!(rt; stats.histogram.len(), 2);
-            assert_eq!(rt; whole(&stats.histogram[0]), 1);
-            assert_eq!(rt; whole(&stats.histogram[1]), -2);
-        }
-        _ => assert!(rt; false),
-    }
+    None
 }
 
 #[test]
 fn finds_the_end_of_the_data(rt: HostRuntime) {
-    for (text, end) in BLOCKS {
-        assert!(rt; text.len() < 100);
-        assert_eq!(rt; block_end(text, 0), end, "{text:?}");
-    }
+    assert_eq!(rt; first_block(&BLOCKS), None);
 }

@@ -4,19 +4,20 @@ ghost use Rattle.std.specs.Prelude.{◌≤◌, ◌^◌, length, IfOk};
 ghost use Rattle.index_reader.specs.Reads.{reading};
 ghost use Rattle.index_reader.specs.Soundness.{IsSound};
 
+use crate::cases::{Cases, Reader, Tables, Wrong, first_failing};
 use crate::tables::one_table;
-use catalog::Catalog;
+use catalog::{Catalog, IndexDef};
 use ddl_reader::is_index;
 use index_reader::{ReadIndex, read_index};
 use opfamily::{Method, OpClass};
-use pg_base::{Code, ColNo, Fault, IndexNo, Limit, Refusal, RelNo, TableNo};
+use pg_base::{Code, ColNo, IndexNo, Limit, Refusal, RelNo, TableNo};
 use pg_expr::{Expr, Operand};
 use pg_value::Op;
 use sql_lex::lex_statement;
 use std::alloc::Global;
 
 /// Statements, and their first fault: its kind, its place and where its words end.
-const WRONG: [(&[u8], Code, u32, u32); 17] = [
+const WRONG: [Wrong; 17] = [
     (b"CREATE INDEX i ON a (b;", Code::S1, 22, 22),
     (b"CREATE INDEX i ON c (z);", Code::S2, 18, 19),
     (b"CREATE INDEX i ON A USING gin (z);", Code::S8, 26, 29),
@@ -68,7 +69,9 @@ const WRONG: [(&[u8], Code, u32, u32); 17] = [
 
 /// Statements, and what is read: the access method and its place, the direction and the end of the NULLs of the first key, the
 /// class of it, and the places of the names.
-const RIGHT: [(&[u8], Method, u32, OpClass, bool, bool, &[u32]); 6] = [
+pub(crate) type Right<'a> = (&'a [u8], Method, u32, OpClass, bool, bool, &'a [u32]);
+
+const RIGHT: [Right; 6] = [
     (
         b"CREATE INDEX i ON a (b);",
         Method::Btree,
@@ -126,7 +129,7 @@ const RIGHT: [(&[u8], Method, u32, OpClass, bool, bool, &[u32]); 6] = [
 ];
 
 /// The CREATE INDEX at the text's beginning.
-fn read(alloc: Global, cat: &Catalog, text: &[u8]) -> Result<ReadIndex, Refusal>
+pub(crate) fn read(alloc: Global, cat: &Catalog, text: &[u8]) -> Result<ReadIndex, Refusal>
     requires { length text.now ≤ 2 ^ 31 }
     ensures { IfOk result (λ r. IsSound cat.now text.now (reading r)) }
 {
@@ -137,16 +140,49 @@ fn read(alloc: Global, cat: &Catalog, text: &[u8]) -> Result<ReadIndex, Refusal>
     read_index(alloc, cat, text, &tokens)
 }
 
-/// The first of some statements that has more than 1,000 bytes, or is refused elsewhere than told.
-fn first_wrong<'a>(
-    alloc: Global,
-    cat: &Catalog,
-    rows: &[(&'a [u8], Code, u32, u32)],
-) -> Option<&'a [u8]> {
-    for (text, code, from, to) in rows {
-        let fault = Refusal::Fault(Fault::at_words(*code, *from, *to));
-        if text.len() > 1_000 || read(alloc, cat, text).err() != Some(fault) {
-            return Some(text);
+/// Whether an index is of the first table and has one column for each place but the first, with no predicate and this first
+/// key.
+fn is_defined(def: &IndexDef, method: Method, key: (OpClass, bool, bool), places: usize) -> bool {
+    let found = match def.keys.first() {
+        Some(first) => Some((first.class, first.descending, first.nulls_first)),
+        None => None,
+    };
+    found == Some(key)
+        && (def.table, def.method) == (TableNo(0), method)
+        && def
+            .keys
+            .len()
+            .saturating_add(def.include.len())
+            .saturating_add(1)
+            == places
+        && def.predicate.is_none()
+}
+
+/// Whether a statement is read as this.
+fn is_read(alloc: Global, cat: &Catalog, row: Right) -> bool
+    requires { length row.0.now ≤ 2 ^ 31 }
+{
+    let (text, method, place, class, descending, nulls_first, at) = row;
+    match read(alloc, cat, text) {
+        Ok(read) => {
+            is_defined(
+                &read.def,
+                method,
+                (class, descending, nulls_first),
+                at.len(),
+            ) && read.name.items() == b"i".as_slice()
+                && read.method == place
+                && read.at.as_slice() == at
+        }
+        Err(_) => false,
+    }
+}
+
+/// The place of the first statement that has more than 100 bytes, or is read as something else.
+pub(crate) fn first_other(alloc: Global, cat: &Catalog, rows: &[Right]) -> Option<usize> {
+    for n in 0..rows.len() {
+        if rows[n].0.len() > 100 || !is_read(alloc, cat, rows[n]) {
+            return Some(n);
         }
     }
     None
@@ -154,31 +190,23 @@ fn first_wrong<'a>(
 
 #[test]
 fn refuses_at_the_first_fault(rt: HostRuntime) {
-    let cat = one_table(rt.alloc()).expect(&rt, "a table");
-    assert_eq!(rt; first_wrong(rt.alloc(), &cat, &WRONG), None);
+    let cases = Cases::Wrong(Reader::Index, &WRONG);
+    assert_eq!(rt; first_failing(rt.alloc(), Tables::One, cases), None);
 }
 
 #[test]
 fn reads_an_index(rt: HostRuntime) {
-    let cat = one_table(rt.alloc()).expect(&rt, "a table");
-    for (text, method, place, class, descending, nulls_first, at) in RIGHT {
-        assert!(rt; text.len() < 100);
-        let read = read(rt.alloc(), &cat, text).expect(&rt, "an index");
-        assert_eq!(rt; read.name.items(), b"i".as_slice());
-        assert_eq!(rt; read.def.table, TableNo(0));
-        assert_eq!(rt; read.def.method, method);
-        assert_eq!(rt; read.method, place);
-        assert_eq!(rt; read.at.as_slice(), at);
-        match read.def.keys.get(0) {
-            Some(key) => {
-                assert_eq!(rt; key.class, class);
-                assert_eq!(rt; key.descending, descending);
-                assert_eq!(rt; key.nulls_first, nulls_first);
-            }
-            None => assert!(rt; false),
+    let cases = Cases::Indexes(&RIGHT);
+    assert_eq!(rt; first_failing(rt.alloc(), Tables::One, cases), None);
+}
+
+/// Whether a predicate is that the first column is below something.
+fn is_below(predicate: &Option<Expr>) -> bool {
+    match predicate {
+        Some(Expr::Compare(Op::Lt, Operand::Col(column), _)) => {
+            (column.rel, column.col) == (RelNo(0), ColNo(0))
         }
-        assert_eq!(rt; read.def.keys.len() + read.def.include.len() + 1, at.len());
-        assert!(rt; read.def.predicate.is_none());
+        _ => false,
     }
 }
 
@@ -187,14 +215,7 @@ fn hands_an_index_to_the_catalogue(rt: HostRuntime) {
     let mut cat = one_table(rt.alloc()).expect(&rt, "a table");
     let text = b"CREATE INDEX i ON a (t) WHERE NOT (1 <= a.b);";
     let read = read(rt.alloc(), &cat, text).expect(&rt, "an index");
-    match &read.def.predicate {
-        Some(Expr::Compare(op, Operand::Col(column), _)) => {
-            assert_eq!(rt; *op, Op::Lt);
-            assert_eq!(rt; column.rel, RelNo(0));
-            assert_eq!(rt; column.col, ColNo(0));
-        }
-        _ => assert!(rt; false),
-    }
+    assert!(rt; is_below(&read.def.predicate));
     let number = cat.add_index(read.name, read.def).expect(&rt, "a number");
     assert_eq!(rt; number, IndexNo(0));
 }

@@ -1,15 +1,14 @@
 //! Selects over two tables: what they are read as, and where they are refused. The places were found by a planner written
 //! apart from this one.
 
-ghost use Rattle.std.specs.Prelude.{◌≡◌, ◌≤◌, ◌^◌, length, true};
-ghost use Rattle.pg_base.specs.Names.{begins_name};
+ghost use Rattle.std.specs.Prelude.{◌≤◌, ◌^◌, length};
 
-use catalog::{Catalog, CatalogFault};
+use crate::cases::{Cases, Reader, Tables, Wrong, first_failing, is_refused};
+use catalog::Catalog;
 use eq_classes::OrderItem;
-use fixtures::{columns, name, names};
-use pg_base::{Code, Fault, Limit, Memory, Refusal, TableNo};
+use pg_base::{Code, Fault, Limit, Refusal, TableNo};
 use pg_expr::ColRef;
-use pg_value::{Bytes, SqlType};
+use pg_value::Bytes;
 use query_reader::{explains, read_select};
 use sql_lex::lex_statement;
 use sql_query::Prepared;
@@ -17,7 +16,9 @@ use std::alloc::Global;
 
 /// Selects, their table, its alias, the columns that they show, those that they name, and how many conjuncts they have as
 /// written and how many clauses.
-const RIGHT: [(&[u8], u8, &[u8], &[u8], &[u8], usize, usize); 10] = [
+pub(crate) type Right<'a> = (&'a [u8], u8, &'a [u8], &'a [u8], &'a [u8], usize, usize);
+
+const RIGHT: [Right; 10] = [
     (
         b"SELECT b, T.A, * FROM T;",
         0,
@@ -103,7 +104,9 @@ const RIGHT: [(&[u8], u8, &[u8], &[u8], &[u8], usize, usize); 10] = [
 ];
 
 /// Ordered selects, the items of their order and the columns that they name.
-const ORDERED: [(&[u8], &[(u8, bool, bool)], &[u8]); 3] = [
+pub(crate) type Ordered<'a> = (&'a [u8], &'a [(u8, bool, bool)], &'a [u8]);
+
+const ORDERED: [Ordered; 3] = [
     (
         b"SELECT a FROM t ORDER BY b;",
         &[(1, false, false)],
@@ -122,7 +125,7 @@ const ORDERED: [(&[u8], &[(u8, bool, bool)], &[u8]); 3] = [
 ];
 
 /// Selects, the fault that refuses them and the place of its word.
-const WRONG: [(&[u8], Code, u32, u32); 35] = [
+const WRONG: [Wrong; 35] = [
     (b"SELECT a FROM t ORDER BY a, zz;", Code::S3, 28, 30),
     (b"SELECT a FROM t u ORDER BY t.a;", Code::S2, 27, 28),
     (b"SELECT zz FROM t ORDER BY yy;", Code::S3, 7, 9),
@@ -181,7 +184,9 @@ const WRONG: [(&[u8], Code, u32, u32); 35] = [
 ];
 
 /// Selects of so many parts, and the limit that they are past.
-const LONG: [(&[u8], &[u8], &[u8], usize, Option<Limit>); 9] = [
+pub(crate) type Long<'a> = (&'a [u8], &'a [u8], &'a [u8], usize, Option<Limit>);
+
+const LONG: [Long; 9] = [
     (
         b"EXPLAIN SELECT a FROM t WHERE a < 1",
         b" AND a < 1",
@@ -249,7 +254,9 @@ const LONG: [(&[u8], &[u8], &[u8], usize, Option<Limit>); 9] = [
 
 /// Selects of several relations, their tables, the columns that they show, those that they name, and how many conjuncts they
 /// have as written and how many clauses.
-const JOINS: [(&[u8], &[u8], &[u8], &[u8], usize, usize); 6] = [
+pub(crate) type Joined<'a> = (&'a [u8], &'a [u8], &'a [u8], &'a [u8], usize, usize);
+
+const JOINS: [Joined; 6] = [
     (
         b"SELECT * FROM t, s;",
         &[0, 1],
@@ -301,7 +308,9 @@ const JOINS: [(&[u8], &[u8], &[u8], &[u8], usize, usize); 6] = [
 ];
 
 /// Ordered selects of several relations, and the items of their order.
-const ORDERED_JOINS: [(&[u8], &[(u8, bool, bool)]); 3] = [
+pub(crate) type OrderedJoin<'a> = (&'a [u8], &'a [(u8, bool, bool)]);
+
+const ORDERED_JOINS: [OrderedJoin; 3] = [
     (
         b"SELECT x.a, x.a FROM t x, t y ORDER BY a;",
         &[(0, false, false)],
@@ -317,7 +326,7 @@ const ORDERED_JOINS: [(&[u8], &[(u8, bool, bool)]); 3] = [
 ];
 
 /// Selects of several relations, the fault that refuses them and the place of its word.
-const WRONG_JOINS: [(&[u8], Code, u32, u32); 35] = [
+const WRONG_JOINS: [Wrong; 35] = [
     (b"SELECT zz FROM t, nope;", Code::S2, 18, 22),
     (b"SELECT zz FROM nope, t x, s x;", Code::S2, 15, 19),
     (b"SELECT zz FROM t, t;", Code::S7, 18, 19),
@@ -430,33 +439,6 @@ const WRONG_JOINS: [(&[u8], Code, u32, u32); 35] = [
     ),
 ];
 
-fn add(
-    catalog: &mut Catalog,
-    alloc: Global,
-    table: u8,
-    first: u8,
-    second: u8,
-) -> Result<TableNo, CatalogFault>
-    requires table { begins_name table ≡ true }
-    requires first { begins_name first ≡ true }
-    requires second { begins_name second ≡ true }
-{
-    let names = names(alloc, &[first, second])?;
-    catalog.add_table(
-        name(alloc, table)?,
-        names,
-        columns(alloc, &[SqlType::Int4, SqlType::Int4])?,
-    )
-}
-
-/// The tables t, of a and b, and s, of c and d.
-pub(crate) fn two_tables(alloc: Global) -> Result<Catalog, CatalogFault> {
-    let mut catalog = Catalog::new(alloc);
-    add(&mut catalog, alloc, b't', b'a', b'b')?;
-    add(&mut catalog, alloc, b's', b'c', b'd')?;
-    Ok(catalog)
-}
-
 /// The SELECT at the text's beginning.
 pub(crate) fn reading(alloc: Global, catalog: &Catalog, text: &[u8]) -> Result<Prepared, Refusal>
     requires { length text.now ≤ 2 ^ 31 }
@@ -492,22 +474,6 @@ fn are_tables(range: &[(TableNo, Bytes)], tables: &[u8]) -> bool {
     same
 }
 
-/// The head, the part so many times, and the tail.
-pub(crate) fn repeated(
-    alloc: Global,
-    head: &[u8],
-    part: &[u8],
-    tail: &[u8],
-    count: usize,
-) -> Result<Vec<u8>, Memory> {
-    let mut text = Vec::from_slice(alloc, head)?;
-    for _ in 0..count {
-        text.extend_from_slice(part)?;
-    }
-    text.extend_from_slice(tail)?;
-    Ok(text)
-}
-
 /// Whether the relations have this alias.
 fn are_named(range: &[(TableNo, Bytes)], alias: &[u8]) -> bool {
     let mut same = true;
@@ -528,73 +494,149 @@ fn are_items(items: &[OrderItem], wanted: &[(u8, bool, bool)]) -> bool {
     same
 }
 
-/// Whether a SELECT is read with these tables, columns that it shows and names, and numbers of conjuncts and clauses.
-fn is_read(
+/// What a SELECT has to be read as.
+#[derive(Clone, Copy)]
+pub(crate) enum Wanted<'a> {
+    /// Its tables, the columns that it shows, those that it names, and how many conjuncts and clauses it has.
+    Read(&'a [u8], &'a [u8], &'a [u8], usize, usize),
+    /// No order, and one alias of all its relations.
+    Plain(&'a [u8]),
+    /// The items of its order.
+    Ordered(&'a [(u8, bool, bool)]),
+    /// The columns that it names.
+    Using(&'a [u8]),
+    /// The numbers of its window, where it has one.
+    Windowed(Option<(Option<u64>, u64)>),
+    /// How many columns it shows, items its order has, and conjuncts it has.
+    Counted(usize, usize, usize),
+}
+
+fn window_of(query: &Prepared) -> Option<(Option<u64>, u64)> {
+    match query.window {
+        None => None,
+        Some(window) => Some((window.limit, window.offset)),
+    }
+}
+
+/// Whether a query is as wanted.
+fn is_wanted(query: &Prepared, wanted: Wanted) -> bool {
+    match wanted {
+        Wanted::Read(tables, shown, used, conjuncts, clauses) => {
+            are_tables(query.range.items(), tables)
+                && are_columns(query.select.items(), shown)
+                && are_columns(query.used.items(), used)
+                && (query.where_all.items().len(), query.classes.count()) == (conjuncts, clauses)
+        }
+        Wanted::Plain(alias) => {
+            query.order.items().is_empty() && are_named(query.range.items(), alias)
+        }
+        Wanted::Ordered(items) => are_items(query.order.items(), items),
+        Wanted::Using(used) => are_columns(query.used.items(), used),
+        Wanted::Windowed(numbers) => window_of(query) == numbers,
+        Wanted::Counted(shown, items, conjuncts) => {
+            query.select.items().len() == shown
+                && query.order.items().len() == items
+                && query.where_all.items().len() == conjuncts
+        }
+    }
+}
+
+/// Whether what was read is a query of which each of these holds.
+pub(crate) fn is_query(read: Result<Prepared, Refusal>, wanted: &[Wanted]) -> bool {
+    match read {
+        Ok(query) => wanted.iter().all(|one| is_wanted(&query, *one)),
+        Err(_) => false,
+    }
+}
+
+/// Whether a SELECT is read so that each of these holds.
+pub(crate) fn is_read(alloc: Global, catalog: &Catalog, text: &[u8], wanted: &[Wanted]) -> bool {
+    text.len() <= 200 && is_query(reading(alloc, catalog, text), wanted)
+}
+
+/// The place of the first SELECT that is read as something else.
+pub(crate) fn first_other<'a>(
     alloc: Global,
     catalog: &Catalog,
-    text: &[u8],
-    tables: &[u8],
-    columns: (&[u8], &[u8]),
-    counts: (usize, usize),
-) -> Result<bool, Refusal>
-    requires { length text.now ≤ 2 ^ 31 }
-{
-    let query = reading(alloc, catalog, text)?;
-    Ok(
-        are_tables(query.range.items(), tables)
-            && are_columns(query.select.items(), columns.0)
-            && are_columns(query.used.items(), columns.1)
-            && query.where_all.items().len() == counts.0
-            && query.classes.count() == counts.1,
-    )
+    rows: &[Right<'a>],
+) -> Option<usize> {
+    for n in 0..rows.len() {
+        let (text, table, alias, shown, used, conjuncts, clauses) = rows[n];
+        let tables = [table];
+        let wanted = [
+            Wanted::Read(&tables, shown, used, conjuncts, clauses),
+            Wanted::Plain(alias),
+        ];
+        if !is_read(alloc, catalog, text, &wanted) {
+            return Some(n);
+        }
+    }
+    None
 }
 
-/// Whether a SELECT of relations with this alias is read without an order.
-fn is_plain(alloc: Global, catalog: &Catalog, text: &[u8], alias: &[u8]) -> Result<bool, Refusal>
-    requires { length text.now ≤ 2 ^ 31 }
-{
-    let query = reading(alloc, catalog, text)?;
-    Ok(query.order.items().len() == 0 && are_named(query.range.items(), alias))
-}
-
-/// Whether a SELECT is read with these items of its order.
-fn is_ordered(
+/// The place of the first ordered SELECT that is read as something else.
+pub(crate) fn first_order<'a>(
     alloc: Global,
     catalog: &Catalog,
-    text: &[u8],
-    items: &[(u8, bool, bool)],
-) -> Result<bool, Refusal>
-    requires { length text.now ≤ 2 ^ 31 }
-{
-    let query = reading(alloc, catalog, text)?;
-    Ok(are_items(query.order.items(), items))
+    rows: &[Ordered<'a>],
+) -> Option<usize> {
+    for n in 0..rows.len() {
+        let (text, items, used) = rows[n];
+        let wanted = [Wanted::Ordered(items), Wanted::Using(used)];
+        if !is_read(alloc, catalog, text, &wanted) {
+            return Some(n);
+        }
+    }
+    None
 }
 
-/// Whether a SELECT names these columns.
-fn is_using(alloc: Global, catalog: &Catalog, text: &[u8], used: &[u8]) -> Result<bool, Refusal>
-    requires { length text.now ≤ 2 ^ 31 }
-{
-    let query = reading(alloc, catalog, text)?;
-    Ok(are_columns(query.used.items(), used))
+/// The place of the first SELECT that passes another limit than told, at its first word.
+pub(crate) fn first_long(alloc: Global, catalog: &Catalog, rows: &[Long]) -> Option<usize> {
+    for n in 0..rows.len() {
+        let (head, part, tail, count, limit) = rows[n];
+        let end = if head.first() == Some(&b'E') { 7 } else { 6 };
+        let fault = match limit {
+            Some(limit) => Some(Fault::at_words(Code::S15(limit), 0, end)),
+            None => None,
+        };
+        if !is_refused(
+            alloc,
+            catalog,
+            Reader::Select,
+            (head, part, tail, count),
+            fault,
+        ) {
+            return Some(n);
+        }
+    }
+    None
 }
 
-/// The refusal of a SELECT, if any.
-pub(crate) fn refusal(alloc: Global, catalog: &Catalog, text: &[u8]) -> Option<Refusal>
-    requires { length text.now ≤ 2 ^ 31 }
-{
-    reading(alloc, catalog, text).err()
-}
-
-/// The first of some SELECTs that has more than 1,000 bytes, or is refused elsewhere than told.
-pub(crate) fn first_wrong<'a>(
+/// The place of the first SELECT with joins that is read as something else.
+pub(crate) fn first_join<'a>(
     alloc: Global,
     catalog: &Catalog,
-    rows: &[(&'a [u8], Code, u32, u32)],
-) -> Option<&'a [u8]> {
-    for (text, code, from, to) in rows {
-        let fault = Refusal::Fault(Fault::at_words(*code, *from, *to));
-        if text.len() > 1_000 || refusal(alloc, catalog, text) != Some(fault) {
-            return Some(text);
+    rows: &[Joined<'a>],
+) -> Option<usize> {
+    for n in 0..rows.len() {
+        let (text, tables, shown, used, conjuncts, clauses) = rows[n];
+        let wanted = [Wanted::Read(tables, shown, used, conjuncts, clauses)];
+        if !is_read(alloc, catalog, text, &wanted) {
+            return Some(n);
+        }
+    }
+    None
+}
+
+/// The place of the first ordered SELECT with joins that is read as something else.
+pub(crate) fn first_ordered_join(
+    alloc: Global,
+    catalog: &Catalog,
+    rows: &[OrderedJoin],
+) -> Option<usize> {
+    for n in 0..rows.len() {
+        if !is_read(alloc, catalog, rows[n].0, &[Wanted::Ordered(rows[n].1)]) {
+            return Some(n);
         }
     }
     None
@@ -602,85 +644,50 @@ pub(crate) fn first_wrong<'a>(
 
 #[test]
 fn reads_selects(rt: HostRuntime) {
-    let catalog = two_tables(rt.alloc()).expect(&rt, "tables");
-    for (text, table, alias, shown, used, conjuncts, clauses) in &RIGHT {
-        assert!(rt; text.len() < 100);
-        let (columns, counts) = ((*shown, *used), (*conjuncts, *clauses));
-        let read = is_read(rt.alloc(), &catalog, text, &[*table], columns, counts);
-        assert_eq!(rt; read, Ok(true), "{text:?}");
-        assert_eq!(rt;
-            is_plain(rt.alloc(), &catalog, text, alias),
-            Ok(true),
-            "{text:?}"
-        );
-    }
+    assert_eq!(rt;
+        first_failing(rt.alloc(), Tables::Two, Cases::Selects(&RIGHT)),
+        None
+    );
 }
 
 #[test]
 fn reads_orders(rt: HostRuntime) {
-    let catalog = two_tables(rt.alloc()).expect(&rt, "tables");
-    for (text, items, used) in &ORDERED {
-        assert!(rt; text.len() < 100);
-        assert_eq!(rt;
-            is_ordered(rt.alloc(), &catalog, text, items),
-            Ok(true),
-            "{text:?}"
-        );
-        assert_eq!(rt;
-            is_using(rt.alloc(), &catalog, text, used),
-            Ok(true),
-            "{text:?}"
-        );
-    }
+    assert_eq!(rt;
+        first_failing(rt.alloc(), Tables::Two, Cases::Orders(&ORDERED)),
+        None
+    );
 }
 
 #[test]
 fn refuses_at_the_first_fault(rt: HostRuntime) {
-    let catalog = two_tables(rt.alloc()).expect(&rt, "tables");
-    assert_eq!(rt; first_wrong(rt.alloc(), &catalog, &WRONG), None);
+    let cases = Cases::Wrong(Reader::Select, &WRONG);
+    assert_eq!(rt; first_failing(rt.alloc(), Tables::Two, cases), None);
 }
 
 #[test]
 fn limits_stand_at_the_first_word(rt: HostRuntime) {
-    let catalog = two_tables(rt.alloc()).expect(&rt, "tables");
-    for (head, part, tail, count, limit) in &LONG {
-        let text = repeated(rt.alloc(), head, part, tail, *count).expect(&rt, "a text");
-        assert!(rt; text.len() < 10_000);
-        let end = if head.first() == Some(&b'E') { 7 } else { 6 };
-        let expected = match limit {
-            Some(limit) => Some(Refusal::Fault(Fault::at_words(Code::S15(*limit), 0, end))),
-            None => None,
-        };
-        assert_eq!(rt; refusal(rt.alloc(), &catalog, &text), expected);
-    }
+    assert_eq!(rt;
+        first_failing(rt.alloc(), Tables::Two, Cases::Long(&LONG)),
+        None
+    );
 }
 
 #[test]
 fn reads_joins(rt: HostRuntime) {
-    let catalog = two_tables(rt.alloc()).expect(&rt, "tables");
-    for (text, tables, shown, used, conjuncts, clauses) in &JOINS {
-        assert!(rt; text.len() < 200);
-        let (columns, counts) = ((*shown, *used), (*conjuncts, *clauses));
-        let read = is_read(rt.alloc(), &catalog, text, tables, columns, counts);
-        assert_eq!(rt; read, Ok(true), "{text:?}");
-    }
+    assert_eq!(rt;
+        first_failing(rt.alloc(), Tables::Two, Cases::Joins(&JOINS)),
+        None
+    );
 }
 
 #[test]
 fn reads_orders_of_joins(rt: HostRuntime) {
-    let catalog = two_tables(rt.alloc()).expect(&rt, "tables");
-    for (text, items) in &ORDERED_JOINS {
-        assert!(rt; text.len() < 200);
-        assert_eq!(rt;
-            is_ordered(rt.alloc(), &catalog, text, items),
-            Ok(true),
-            "{text:?}"
-        );
-    }
+    let cases = Cases::OrderedJoins(&ORDERED_JOINS);
+    assert_eq!(rt; first_failing(rt.alloc(), Tables::Two, cases), None);
 }
 
 #[test]
 fn refuses_joins_at_the_first_fault(rt: HostRuntime) {
-    let catalog = two_tables(rt.alloc()).expect(&rt, "tables");
-    assert_eq!(rt; first_wrong(rt.alloc(), &catalog, &WRONG_JOINS), None);
+    let cases = Cases::Wrong(Reader::Select, &WRONG_JOINS);
+    assert_eq!(rt; first_failing(rt.alloc(), Tables::Two, cases), None);
 }

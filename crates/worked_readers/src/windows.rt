@@ -1,15 +1,16 @@
 //! Selects with LIMIT and OFFSET: the windows that they are read with, and where they are refused. The places were found by a
 //! planner written apart from this one.
 
-ghost use Rattle.std.specs.Prelude.{◌≤◌, ◌^◌, length};
-
-use crate::selects::{first_wrong, reading, refusal, repeated, two_tables};
+use crate::cases::{Cases, Reader, Repeated, Tables, Wrong, first_failing, is_refused};
+use crate::selects::{Wanted, is_read};
 use catalog::Catalog;
-use pg_base::{Code, Fault, Limit, Refusal};
+use pg_base::{Code, Fault, Limit};
 use std::alloc::Global;
 
 /// Selects, and the numbers of their window, where they have one.
-const WINDOWS: [(&[u8], Option<(Option<u64>, u64)>); 6] = [
+pub(crate) type Windowed<'a> = (&'a [u8], Option<(Option<u64>, u64)>);
+
+const WINDOWS: [Windowed; 6] = [
     (b"SELECT a FROM t ORDER BY a;", None),
     (b"SELECT a FROM t LIMIT 2;", Some((Some(2), 0))),
     (b"select a from t, s offset 5", Some((None, 5))),
@@ -28,7 +29,7 @@ const WINDOWS: [(&[u8], Option<(Option<u64>, u64)>); 6] = [
 ];
 
 /// Selects, the fault that refuses them and the place of its word.
-const WRONG: [(&[u8], Code, u32, u32); 14] = [
+const WRONG: [Wrong; 14] = [
     (
         b"SELECT a FROM t LIMIT 9223372036854775808;",
         Code::S11,
@@ -81,54 +82,53 @@ const WRONG: [(&[u8], Code, u32, u32); 14] = [
 ];
 
 /// Selects of 33 conjuncts, what stands behind these, and the fault that refuses them with the place of its word.
-const LONG: [(&[u8], Code, u32, u32); 3] = [
+const LONG: [Wrong; 3] = [
     (b" LIMIT 9223372036854775808;", Code::S11, 354, 373),
     (b" LIMIT 1 OFFSET 9223372036854775808;", Code::S11, 363, 382),
     (b" LIMIT 1 OFFSET 2;", Code::S15(Limit::Conjuncts), 0, 6),
 ];
 
-/// The numbers of the window of a SELECT.
-fn window(
-    alloc: Global,
-    catalog: &Catalog,
-    text: &[u8],
-) -> Result<Option<(Option<u64>, u64)>, Refusal>
-    requires { length text.now ≤ 2 ^ 31 }
-{
-    let query = reading(alloc, catalog, text)?;
-    match query.window {
-        None => Ok(None),
-        Some(window) => Ok(Some((window.limit, window.offset))),
+/// The place of the first SELECT that is read with another window.
+pub(crate) fn first_other(alloc: Global, catalog: &Catalog, rows: &[Windowed]) -> Option<usize> {
+    for n in 0..rows.len() {
+        if !is_read(alloc, catalog, rows[n].0, &[Wanted::Windowed(rows[n].1)]) {
+            return Some(n);
+        }
     }
+    None
+}
+
+/// The place of the first of such SELECTs of 33 conjuncts that is refused otherwise.
+pub(crate) fn first_long(alloc: Global, catalog: &Catalog, rows: &[Wrong]) -> Option<usize> {
+    for n in 0..rows.len() {
+        let (tail, code, from, to) = rows[n];
+        let fault = Some(Fault::at_words(code, from, to));
+        let of: Repeated = (b"SELECT a FROM t WHERE a < 1", b" AND a < 1", tail, 32);
+        if !is_refused(alloc, catalog, Reader::Select, of, fault) {
+            return Some(n);
+        }
+    }
+    None
 }
 
 #[test]
 fn reads_windows(rt: HostRuntime) {
-    let catalog = two_tables(rt.alloc()).expect(&rt, "tables");
-    for (text, numbers) in &WINDOWS {
-        assert!(rt; text.len() < 100);
-        assert_eq!(rt;
-            window(rt.alloc(), &catalog, text),
-            Ok(*numbers),
-            "{text:?}"
-        );
-    }
+    assert_eq!(rt;
+        first_failing(rt.alloc(), Tables::Two, Cases::Windows(&WINDOWS)),
+        None
+    );
 }
 
 #[test]
 fn refuses_windows_at_the_first_fault(rt: HostRuntime) {
-    let catalog = two_tables(rt.alloc()).expect(&rt, "tables");
-    assert_eq!(rt; first_wrong(rt.alloc(), &catalog, &WRONG), None);
+    let cases = Cases::Wrong(Reader::Select, &WRONG);
+    assert_eq!(rt; first_failing(rt.alloc(), Tables::Two, cases), None);
 }
 
 #[test]
 fn windows_are_bound_before_the_limits(rt: HostRuntime) {
-    let catalog = two_tables(rt.alloc()).expect(&rt, "tables");
-    let head = b"SELECT a FROM t WHERE a < 1";
-    for (tail, code, from, to) in &LONG {
-        let text = repeated(rt.alloc(), head, b" AND a < 1", tail, 32).expect(&rt, "a text");
-        assert!(rt; text.len() < 10_000);
-        let expected = Refusal::Fault(Fault::at_words(*code, *from, *to));
-        assert_eq!(rt; refusal(rt.alloc(), &catalog, &text), Some(expected));
-    }
+    assert_eq!(rt;
+        first_failing(rt.alloc(), Tables::Two, Cases::LongWindows(&LONG)),
+        None
+    );
 }

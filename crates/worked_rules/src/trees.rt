@@ -1,7 +1,10 @@
 //! Each call once, with ample memory.
 
-ghost use Rattle.std.specs.Prelude.{◌≡◌, IfOk};
+ghost use Rattle.std.specs.Prelude.{◌≡◌, true, IfOk, IsTrue};
+ghost use Rattle.pg_value.specs.declared.value.SqlType.TheVariants.{Bool as BoolType};
+ghost use Rattle.pg_expr.specs.Columns.{each_column};
 ghost use Rattle.pg_expr.specs.Cond.{cond_and, no_conds, negation};
+ghost use Rattle.pg_expr.specs.Typed.{IsTyped};
 ghost use Rattle.pg_expr.specs.View.{cond, conds};
 
 use pg_base::{ColNo, Memory, RelNo};
@@ -60,40 +63,34 @@ fn column(rel: u8, col: u8) -> ColRef
     }
 }
 
+/// The truth of an expression over bool columns, on rows whose columns are all NULL, and all of this value.
+fn truths(e: &Expr, value: bool) -> [Truth; 2]
+    requires typed { IsTyped (λ c. BoolType) (cond e.now) }
+    requires bound { IsTrue (each_column (λ c. true) (cond e.now)) }
+{
+    let null = Row { value: Value::Null };
+    let row = Row {
+        value: Value::Bool(value),
+    };
+    [eval(e, &null), eval(e, &row)]
+}
+
 #[test]
 fn truths_of_negations(rt: HostRuntime) {
     let a = column(0, 0);
     let holds = Expr::Compare(Op::Eq, Operand::Col(a), Operand::Lit(Value::Bool(true)));
     let both = pair(rt.alloc(), holds, Expr::IsNull(a)).expect(&rt, "ample memory");
     let e = not(rt.alloc(), Expr::And(both)).expect(&rt, "ample memory");
-    assert_eq!(rt; eval(&e, &Row { value: Value::Null }), Truth::Unknown);
-    assert_eq!(rt;
-        eval(
-            &e,
-            &Row {
-                value: Value::Bool(true)
-            }
-        ),
-        Truth::True
-    );
+    assert_eq!(rt; truths(&e, true), [Truth::Unknown, Truth::True]);
 }
 
 #[test]
 fn truths_of_alternatives(rt: HostRuntime) {
     let a = column(0, 0);
-    let either = Expr::Or(pair(rt.alloc(), Expr::BoolCol(a), Expr::IsNotNull(a)).expect(
-        &rt,
-        "ample memory",
-    ));
-    assert_eq!(rt; eval(&either, &Row { value: Value::Null }), Truth::Unknown);
+    let either = pair(rt.alloc(), Expr::BoolCol(a), Expr::IsNotNull(a)).expect(&rt, "ample memory");
     assert_eq!(rt;
-        eval(
-            &either,
-            &Row {
-                value: Value::Bool(false)
-            }
-        ),
-        Truth::True
+        truths(&Expr::Or(either), false),
+        [Truth::Unknown, Truth::True]
     );
     let row = Row { value: Value::Null };
     assert_eq!(rt; row.typed(a), SqlType::Bool);
@@ -130,16 +127,30 @@ fn alternatives(alloc: Global) -> Result<Expr, Memory> {
     Ok(Expr::Or(Exprs::from_vec(parts)))
 }
 
+/// Whether a copy of an expression is the same.
+fn is_copied(alloc: Global, e: &Expr) -> bool {
+    match e.copy(alloc) {
+        Ok(copied) => is_same(&copied, e),
+        Err(_) => false,
+    }
+}
+
+/// Whether an expression in pushed form is this one, and not that one.
+fn is_pushed(alloc: Global, e: Expr, expected: &Expr, other: &Expr) -> bool {
+    match push_not(alloc, e) {
+        Ok(pushed) => is_same(&pushed, expected) && !is_same(&pushed, other),
+        Err(_) => false,
+    }
+}
+
 #[test]
 fn pushed_forms(rt: HostRuntime) {
     let e = negated(rt.alloc()).expect(&rt, "ample memory");
     assert_eq!(rt; ops(&e), 3);
-    let copied = e.copy(rt.alloc()).expect(&rt, "ample memory");
-    assert!(rt; is_same(&copied, &e));
-    let pushed = push_not(rt.alloc(), e).expect(&rt, "ample memory");
+    assert!(rt; is_copied(rt.alloc(), &e));
+    let same = negated(rt.alloc()).expect(&rt, "ample memory");
     let expected = alternatives(rt.alloc()).expect(&rt, "ample memory");
-    assert!(rt; is_same(&pushed, &expected));
-    assert!(rt; !is_same(&pushed, &copied));
+    assert!(rt; is_pushed(rt.alloc(), e, &expected, &same));
 }
 
 #[test]

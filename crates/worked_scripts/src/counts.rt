@@ -8,14 +8,9 @@
 //! each row of each pair; elsewhere the first number is what has to be looked at (entries, keys of sorts, the outer row that a
 //! scan is given, rows shown), and the second one what may be: beside these each row of a pair that is compared or tested.
 
-ghost use Rattle.std.specs.Prelude.{◌≤◌, IfOk, length};
-ghost use Rattle.pg_base.specs.declared.limits.TheConstants.{MOST_SCRIPT_BYTES};
-
 use crate::pace::{Asked, drawn};
 use pg_base::MOST_SCRIPT_BYTES;
 use std::alloc::{AllocError, Global};
-use std::process::Abort;
-use std::test::Fail;
 
 /// What an `@` of the tables stands for. A row that shows it is written by itself.
 const WIDE: [u8; 1024] = [b'w'; 1024];
@@ -203,11 +198,8 @@ const PAIRS_QUERY: &[u8] = b"SELECT x.a FROM x, y WHERE x.a = y.a;";
 /// The sides cost as much either way.
 const PAIRS_PLAN: &[u8] = b"Merge Join by x.a  (cost=81000 rows=5000)\n  ->  Sort by ";
 
-/// Tables with the wide text in place of each `@`, and what is known of them.
-fn filled(alloc: Global, tables: &[u8], known: &[u8]) -> Result<Vec<u8>, AllocError>
-    ensures { IfOk result (λ text. length text.items ≤ MOST_SCRIPT_BYTES) }
-{
-    let mut text = Vec::new(alloc);
+/// Adds tables with the wide text in place of each `@`, and what is known of them.
+fn add_filled(text: &mut Vec<u8>, tables: &[u8], known: &[u8]) -> Result<(), AllocError> {
     for byte in tables {
         if *byte == b'@' {
             text.extend_from_slice(&WIDE)?;
@@ -215,14 +207,10 @@ fn filled(alloc: Global, tables: &[u8], known: &[u8]) -> Result<Vec<u8>, AllocEr
             text.push(*byte)?;
         }
     }
-    text.extend_from_slice(known)?;
-    if text.len() > MOST_SCRIPT_BYTES {
-        return Err(AllocError);
-    }
-    Ok(text)
+    text.extend_from_slice(known)
 }
 
-/// Puts a table of the numbers 1 to 1000 behind a script.
+/// Adds a table of the numbers 1 to 1000.
 fn add_thousand(text: &mut Vec<u8>, create: &[u8], copy: &[u8]) -> Result<(), AllocError> {
     text.extend_from_slice(create)?;
     text.extend_from_slice(copy)?;
@@ -236,32 +224,28 @@ fn add_thousand(text: &mut Vec<u8>, create: &[u8], copy: &[u8]) -> Result<(), Al
         ];
         text.extend_from_slice(&row)?;
     }
-    text.extend_from_slice(b"\\.\n")?;
-    Ok(())
+    text.extend_from_slice(b"\\.\n")
 }
 
-/// Two tables of the numbers 1 to 1000.
-fn thousand_pairs(alloc: Global) -> Result<Vec<u8>, AllocError> {
-    let mut text = Vec::new(alloc);
+/// Adds two tables of the numbers 1 to 1000.
+fn add_pairs(text: &mut Vec<u8>) -> Result<(), AllocError> {
     add_thousand(
-        &mut text,
+        text,
         b"CREATE TABLE x (a int4);\n",
         b"COPY x FROM STDIN WITH (FORMAT CSV, NULL '\\N');\n",
     )?;
     add_thousand(
-        &mut text,
+        text,
         b"CREATE TABLE y (a int4);\n",
         b"COPY y FROM STDIN WITH (FORMAT CSV, NULL '\\N');\n",
-    )?;
-    Ok(text)
+    )
 }
 
-/// Whether the reply of a case's query is as told and ends where out fails; and the rows fetched and looked at.
-fn counts(alloc: Global, case: Case) -> Result<(bool, u64, u64), AllocError> {
-    if case.query.len() > MOST_SCRIPT_BYTES {
-        return Err(AllocError);
+/// Whether a case is answered so over these tables.
+fn is_counted_over(alloc: Global, tables: &[u8], case: Case) -> bool {
+    if tables.len() > MOST_SCRIPT_BYTES || case.query.len() > MOST_SCRIPT_BYTES {
+        return false;
     }
-    let tables = filled(alloc, case.tables, case.known)?;
     let asked = Asked {
         query: case.query,
         begins: case.begins,
@@ -269,186 +253,203 @@ fn counts(alloc: Global, case: Case) -> Result<(bool, u64, u64), AllocError> {
         room: ROOM,
         fails: case.fails,
     };
-    let did = drawn(alloc, &tables, asked)?;
-    let ended = did.stopped == (case.fails > 0);
-    Ok((ended && did.as_told, did.fetches, did.looks))
+    match drawn(alloc, tables, asked) {
+        Ok(did) => {
+            (did.stopped, did.as_told, did.fetches) == (case.fails > 0, true, case.fetches)
+                && case.looks.0 <= did.looks
+                && did.looks <= case.looks.1
+        }
+        Err(_) => false,
+    }
 }
 
 /// Whether a case is answered so.
-pub(crate) fn check_counts<R: Abort + AllocGlobal>(rt: &R, case: Case) -> Result<(), Fail> {
-    let (as_told, fetched, looked) = counts(rt.alloc(), case)?;
-    let (least, most) = case.looks;
-    assert!(rt; as_told);
-    assert_eq!(rt; fetched, case.fetches);
-    assert!(rt; least <= looked);
-    assert!(rt; looked <= most);
-    Ok(())
+pub(crate) fn is_counted(alloc: Global, case: Case) -> bool {
+    let mut text = Vec::new(alloc);
+    add_filled(&mut text, case.tables, case.known).is_ok() && is_counted_over(alloc, &text, case)
 }
 
-#[test]
-fn joins_fetch_and_look_as_the_plan_says(rt: HostRuntime) -> Result<(), Fail> {
-    let pairs = thousand_pairs(rt.alloc())?;
-    let looping = Case {
-        tables: LOOP,
-        known: b"",
-        query: LOOP_QUERY,
-        begins: LOOP_PLAN,
-        ends: b"(10 rows)\n",
-        fails: 0,
-        fetches: 15,
-        looks: (120, 120),
-    };
-    let empty_outer = Case {
-        tables: EMPTY,
-        query: EMPTY_QUERY,
-        begins: EMPTY_OUTER,
-        ends: b"(0 rows)\n",
-        fetches: 7,
-        looks: (0, 0),
-        ..looping
-    };
-    let probing = Case {
-        tables: PROBED,
-        known: MANY_X,
-        query: BY_ENTRIES,
-        begins: BY_ENTRIES_PLAN,
-        ends: b"(8 rows)\n",
-        fails: 0,
-        fetches: 6,
-        looks: (30, 44),
-    };
-    let grouping = Case {
-        tables: GROUPS,
-        known: SORTED,
-        query: GROUPS_QUERY,
-        begins: SORTED_PLAN,
-        ends: b"(7 rows)\n",
-        fails: 0,
-        fetches: 13,
-        looks: (27, 89),
-    };
-    let cases = [
-        looping,
-        empty_outer,
-        Case {
-            known: MANY_E,
-            begins: EMPTY_INNER,
-            ..empty_outer
-        },
-        probing,
-        Case {
-            query: BY_ROWS,
-            begins: BY_ROWS_PLAN,
-            ends: b"(5 rows)\n",
-            fetches: 14,
-            looks: (24, 35),
-            ..probing
-        },
-        Case {
-            query: TWICE,
-            begins: TWICE_PLAN,
-            ends: b"(11 rows)\n",
-            fetches: 17,
-            looks: (119, 133),
-            ..probing
-        },
-        grouping,
-        Case {
-            known: IN_ORDER,
-            begins: IN_ORDER_PLAN,
-            ..grouping
-        },
-        Case {
-            tables: &pairs,
-            known: b"",
-            query: PAIRS_QUERY,
-            begins: PAIRS_PLAN,
-            ends: b"\n999\n1000\n(1000 rows)\n",
-            fails: 0,
-            fetches: 2000,
-            looks: (4000, 96_000),
-        },
-    ];
-    for case in cases {
-        check_counts(&rt, case)?;
+/// The place of the first case that is answered otherwise.
+fn first_miscounted(alloc: Global, cases: &[Case]) -> Option<usize> {
+    for n in 0..cases.len() {
+        if !is_counted(alloc, cases[n]) {
+            return Some(n);
+        }
     }
-    Ok(())
+    None
 }
+
+const LOOPING: Case = Case {
+    tables: LOOP,
+    known: b"",
+    query: LOOP_QUERY,
+    begins: LOOP_PLAN,
+    ends: b"(10 rows)\n",
+    fails: 0,
+    fetches: 15,
+    looks: (120, 120),
+};
+
+const OVER_EMPTY: Case = Case {
+    tables: EMPTY,
+    query: EMPTY_QUERY,
+    begins: EMPTY_OUTER,
+    ends: b"(0 rows)\n",
+    fetches: 7,
+    looks: (0, 0),
+    ..LOOPING
+};
+
+const PROBING: Case = Case {
+    tables: PROBED,
+    known: MANY_X,
+    query: BY_ENTRIES,
+    begins: BY_ENTRIES_PLAN,
+    ends: b"(8 rows)\n",
+    fails: 0,
+    fetches: 6,
+    looks: (30, 44),
+};
+
+const GROUPING: Case = Case {
+    tables: GROUPS,
+    known: SORTED,
+    query: GROUPS_QUERY,
+    begins: SORTED_PLAN,
+    ends: b"(7 rows)\n",
+    fails: 0,
+    fetches: 13,
+    looks: (27, 89),
+};
+
+const WHOLE: [Case; 8] = [
+    LOOPING,
+    OVER_EMPTY,
+    Case {
+        known: MANY_E,
+        begins: EMPTY_INNER,
+        ..OVER_EMPTY
+    },
+    PROBING,
+    Case {
+        query: BY_ROWS,
+        begins: BY_ROWS_PLAN,
+        ends: b"(5 rows)\n",
+        fetches: 14,
+        looks: (24, 35),
+        ..PROBING
+    },
+    Case {
+        query: TWICE,
+        begins: TWICE_PLAN,
+        ends: b"(11 rows)\n",
+        fetches: 17,
+        looks: (119, 133),
+        ..PROBING
+    },
+    GROUPING,
+    Case {
+        known: IN_ORDER,
+        begins: IN_ORDER_PLAN,
+        ..GROUPING
+    },
+];
+
+/// Over two tables of the numbers 1 to 1000.
+const PAIRED: Case = Case {
+    tables: b"",
+    known: b"",
+    query: PAIRS_QUERY,
+    begins: PAIRS_PLAN,
+    ends: b"\n999\n1000\n(1000 rows)\n",
+    fails: 0,
+    fetches: 2000,
+    looks: (4000, 96_000),
+};
+
+#[test]
+fn joins_fetch_and_look_as_the_plan_says(rt: HostRuntime) {
+    assert_eq!(rt; first_miscounted(rt.alloc(), &WHOLE), None);
+    let mut pairs = Vec::new(rt.alloc());
+    add_pairs(&mut pairs).expect(&rt, "ample memory");
+    assert!(rt; is_counted_over(rt.alloc(), &pairs, PAIRED));
+}
+
+const LOOP_STOPPED: Case = Case {
+    begins: b"",
+    ends: b"",
+    fails: 1,
+    fetches: 13,
+    looks: (46, 46),
+    ..LOOPING
+};
+
+const PROBE_STOPPED: Case = Case {
+    tables: PROBED,
+    known: MANY_X,
+    query: BY_ENTRIES,
+    fetches: 2,
+    looks: (5, 8),
+    ..LOOP_STOPPED
+};
+
+const BY_ROWS_STOPPED: Case = Case {
+    query: BY_ROWS,
+    fetches: 4,
+    looks: (6, 10),
+    ..PROBE_STOPPED
+};
+
+const GROUPS_STOPPED: Case = Case {
+    tables: GROUPS,
+    known: SORTED,
+    query: GROUPS_QUERY,
+    fetches: 13,
+    looks: (15, 31),
+    ..LOOP_STOPPED
+};
+
+const IN_ORDER_STOPPED: Case = Case {
+    known: IN_ORDER,
+    fetches: 9,
+    looks: (11, 27),
+    ..GROUPS_STOPPED
+};
+
+const STOPPED: [Case; 9] = [
+    LOOP_STOPPED,
+    Case {
+        fails: 10,
+        fetches: 14,
+        looks: (100, 100),
+        ..LOOP_STOPPED
+    },
+    PROBE_STOPPED,
+    BY_ROWS_STOPPED,
+    Case {
+        fails: 3,
+        fetches: 9,
+        looks: (15, 23),
+        ..BY_ROWS_STOPPED
+    },
+    Case {
+        query: TWICE,
+        fetches: 6,
+        looks: (12, 17),
+        ..PROBE_STOPPED
+    },
+    GROUPS_STOPPED,
+    IN_ORDER_STOPPED,
+    Case {
+        fails: 4,
+        fetches: 10,
+        looks: (18, 50),
+        ..IN_ORDER_STOPPED
+    },
+];
 
 /// A write that fails ends the reply at a row, with those after it not drawn.
 #[test]
-fn rows_of_joins_leave_as_they_are_drawn(rt: HostRuntime) -> Result<(), Fail> {
-    let looping = Case {
-        tables: LOOP,
-        known: b"",
-        query: LOOP_QUERY,
-        begins: b"",
-        ends: b"",
-        fails: 1,
-        fetches: 13,
-        looks: (46, 46),
-    };
-    let probing = Case {
-        tables: PROBED,
-        known: MANY_X,
-        query: BY_ENTRIES,
-        fetches: 2,
-        looks: (5, 8),
-        ..looping
-    };
-    let by_rows = Case {
-        query: BY_ROWS,
-        fetches: 4,
-        looks: (6, 10),
-        ..probing
-    };
-    let grouping = Case {
-        tables: GROUPS,
-        known: SORTED,
-        query: GROUPS_QUERY,
-        fetches: 13,
-        looks: (15, 31),
-        ..looping
-    };
-    let in_order = Case {
-        known: IN_ORDER,
-        fetches: 9,
-        looks: (11, 27),
-        ..grouping
-    };
-    let cases = [
-        looping,
-        Case {
-            fails: 10,
-            fetches: 14,
-            looks: (100, 100),
-            ..looping
-        },
-        probing,
-        by_rows,
-        Case {
-            fails: 3,
-            fetches: 9,
-            looks: (15, 23),
-            ..by_rows
-        },
-        Case {
-            query: TWICE,
-            fetches: 6,
-            looks: (12, 17),
-            ..probing
-        },
-        grouping,
-        in_order,
-        Case {
-            fails: 4,
-            fetches: 10,
-            looks: (18, 50),
-            ..in_order
-        },
-    ];
-    for case in cases {
-        check_counts(&rt, case)?;
-    }
-    Ok(())
+fn rows_of_joins_leave_as_they_are_drawn(rt: HostRuntime) {
+    assert_eq!(rt; first_miscounted(rt.alloc(), &STOPPED), None);
 }

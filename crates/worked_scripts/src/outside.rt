@@ -1,10 +1,9 @@
 //! Runs whose source comes in pieces or fails, whose out fails, and the longest script. Whole scripts with what they answer are
 //! data of `tools/check_examples.py`.
 
-use crate::runs::{CALM, Case, Outside, check};
-use pg_base::{MemSink, MemSource};
-use pgplan::pgplan;
-use std::test::Fail;
+use crate::runs::{CALM, Case, Outside, Told, first_other, is_answered, is_run};
+use pg_base::MemSource;
+use std::alloc::Global;
 
 const THREE: &[u8] =
     b"CREATE TABLE t (a int8);\nCOPY t FROM STDIN WITH (FORMAT CSV, NULL '\\N');\n1\n2\n3\n\\.\nSELECT * FROM t;\n";
@@ -139,118 +138,124 @@ Seq Scan on a  (cost=412 rows=3)
 
 const USAGE: &[u8] = b"usage: pgplan run | pgplan sample N\n";
 
+const SHORT: Case = Case {
+    word: "run",
+    script: THREE,
+    status: 0,
+    out: Told::Exactly(THREE_ROWS),
+    errors: b"",
+};
+
+const LONG: Case = Case {
+    script: THIRTY,
+    out: Told::Exactly(THIRTY_REPLIES),
+    ..SHORT
+};
+
 /// A script comes byte by byte, by seven, and whole.
-#[test]
-fn answers_whatever_the_pieces(rt: HostRuntime) -> Result<(), Fail> {
-    let runs = [
-        (THREE, THREE_ROWS, 1),
-        (THREE, THREE_ROWS, 65_536),
-        (THIRTY, THIRTY_REPLIES, 1),
-        (THIRTY, THIRTY_REPLIES, 7),
-        (THIRTY, THIRTY_REPLIES, 65_536),
-    ];
-    for (script, out, piece) in runs {
-        let case = Case {
-            word: "run",
-            script,
-            status: 0,
-            out,
-            errors: b"",
-        };
-        check(&rt, &case, Outside { piece, ..CALM })?;
-    }
-    Ok(())
-}
+const PIECES: [(Case, Outside); 5] = [
+    (SHORT, Outside { piece: 1, ..CALM }),
+    (SHORT, CALM),
+    (LONG, Outside { piece: 1, ..CALM }),
+    (LONG, Outside { piece: 7, ..CALM }),
+    (LONG, CALM),
+];
 
 #[test]
-fn hands_on_faults_of_the_outside(rt: HostRuntime) -> Result<(), Fail> {
-    let plan = Case {
-        word: "plan",
-        script: THREE,
-        status: 1,
-        out: b"",
-        errors: USAGE,
-    };
-    check(&rt, &plan, CALM)?;
-    let read = Case {
-        word: "run",
-        script: THREE,
-        status: 2,
-        out: b"",
-        errors: b"ERROR read failed\n",
-    };
-    check(
-        &rt,
-        &read,
+fn answers_whatever_the_pieces(rt: HostRuntime) {
+    assert_eq!(rt; first_other(rt.alloc(), &PIECES), None);
+}
+
+const FAULTS: [(Case, Outside); 3] = [
+    (
+        Case {
+            word: "plan",
+            status: 1,
+            out: Told::Exactly(b""),
+            errors: USAGE,
+            ..SHORT
+        },
+        CALM,
+    ),
+    (
+        Case {
+            status: 2,
+            out: Told::Exactly(b""),
+            errors: b"ERROR read failed\n",
+            ..SHORT
+        },
         Outside {
             read_fails: 2,
             ..CALM
         },
-    )?;
-    let write = Case {
-        word: "run",
-        script: THREE,
-        status: 4,
-        out: b"",
-        errors: b"ERROR write failed\n",
-    };
-    check(
-        &rt,
-        &write,
+    ),
+    (
+        Case {
+            status: 4,
+            out: Told::Exactly(b""),
+            errors: b"ERROR write failed\n",
+            ..SHORT
+        },
         Outside {
             write_fails: 1,
             ..CALM
         },
-    )
+    ),
+];
+
+#[test]
+fn hands_on_faults_of_the_outside(rt: HostRuntime) {
+    assert_eq!(rt; first_other(rt.alloc(), &FAULTS), None);
+}
+
+/// The first write of the long script that fails and leaves something else than the replies before it.
+fn first_write(alloc: Global) -> Option<u64> {
+    for call in 1..=17u64 {
+        let case = Case {
+            status: 4,
+            out: Told::Plans(THIRTY_REPLIES, call - 1),
+            errors: b"ERROR write failed\n",
+            ..LONG
+        };
+        let outside = Outside {
+            piece: 4096,
+            read_fails: 0,
+            write_fails: call,
+        };
+        if !is_answered(alloc, &case, outside) {
+            return Some(call);
+        }
+    }
+    None
 }
 
 /// Each reply is one write here: the nth that fails leaves the replies before it.
 #[test]
-fn leaves_the_replies_before_a_failed_write(rt: HostRuntime) -> Result<(), Fail> {
-    let alloc = rt.alloc();
-    for call in 1..=17u64 {
-        let bytes = Vec::from_slice(alloc, THIRTY)?;
-        let mut source = MemSource::new(bytes, 4096, Vec::new(alloc));
-        let mut out = MemSink::new(alloc, 4096, Vec::from_slice(alloc, &[call])?)?;
-        let mut errors = MemSink::new(alloc, 64, Vec::new(alloc))?;
-        let words = vec![in alloc; String::from_str(alloc, "run")?]?;
-        let status = pgplan(alloc, &words, &mut source, &mut out, &mut errors);
-        assert_eq!(rt; status, 4);
-        assert!(rt; THIRTY_REPLIES.starts_with(out.bytes()));
-        assert_eq!(rt; plans_in(out.bytes()).saturating_add(1), call);
-        assert_eq!(rt; errors.bytes(), b"ERROR write failed\n".as_slice());
-    }
-    Ok(())
+fn leaves_the_replies_before_a_failed_write(rt: HostRuntime) {
+    assert_eq!(rt; first_write(rt.alloc()), None);
 }
 
-/// How many plans stand in these replies.
-fn plans_in(replies: &[u8]) -> u64 {
-    let mut plans = 0u64;
-    for line in replies.split(|byte| *byte == b'\n') {
-        if line.starts_with(b"Seq Scan") {
-            plans = plans.saturating_add(1);
+/// Whether so many blanks are answered by a status, with nothing but an error line.
+fn are_answered(alloc: Global, count: usize, status: u8, errors: &[u8]) -> bool {
+    let case = Case {
+        word: "run",
+        script: b"",
+        status,
+        out: Told::Exactly(b""),
+        errors,
+    };
+    match vec![in alloc; b' '; count] {
+        Ok(blanks) => {
+            let mut source = MemSource::new(blanks, 65_536, Vec::new(alloc));
+            is_run(alloc, &mut source, 0, &case)
         }
+        Err(_) => false,
     }
-    plans
 }
 
 #[test]
-fn refuses_too_long_a_script(rt: HostRuntime) -> Result<(), Fail> {
-    let alloc = rt.alloc();
-    for (bytes, wanted) in [(16_777_216usize, 0u8), (16_777_217, 6)] {
-        let mut source = MemSource::new(vec![in alloc; b' '; bytes]?, 65_536, Vec::new(alloc));
-        let mut out = MemSink::new(alloc, 64, Vec::new(alloc))?;
-        let mut errors = MemSink::new(alloc, 64, Vec::new(alloc))?;
-        let words = vec![in alloc; String::from_str(alloc, "run")?]?;
-        let status = pgplan(alloc, &words, &mut source, &mut out, &mut errors);
-        assert_eq!(rt; status, wanted);
-        assert_eq!(rt; out.bytes(), b"".as_slice());
-        let line: &[u8] = if wanted == 0 {
-            b""
-        } else {
-            b"ERROR 54000 script longer than 16777216 bytes\n"
-        };
-        assert_eq!(rt; errors.bytes(), line);
-    }
-    Ok(())
+fn refuses_too_long_a_script(rt: HostRuntime) {
+    let line = b"ERROR 54000 script longer than 16777216 bytes\n";
+    assert!(rt; are_answered(rt.alloc(), 16_777_216, 0, b""));
+    assert!(rt; are_answered(rt.alloc(), 16_777_217, 6, line));
 }

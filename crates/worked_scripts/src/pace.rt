@@ -1,6 +1,6 @@
 //! How many rows a SELECT fetches and looks at, and that rows leave while others are still to be drawn.
 
-ghost use Rattle.std.specs.Prelude.{◌≡◌, ◌≤◌, ◌<◌, IfOk, length};
+ghost use Rattle.std.specs.Prelude.{◌≡◌, ◌≤◌, ◌<◌, length};
 ghost use Rattle.pg_base.specs.declared.limits.TheConstants.{MOST_SCRIPT_BYTES};
 
 use heap::{Counters, Counting};
@@ -8,9 +8,7 @@ use pg_base::{MOST_SCRIPT_BYTES, MemSink, Steps};
 use pgplan::{End, Machine};
 use std::alloc::{AllocError, Global};
 use std::marker::Brand;
-use std::process::Abort;
 use std::sync::ledger::{Blank, Ledger};
-use std::test::Fail;
 
 /// 1000 rows with 0 to 99 in turn come after these statements, and more statements after them.
 const INDEXED: &[u8] =
@@ -23,11 +21,9 @@ const BY_INDEX: &[u8] = b"SELECT * FROM t WHERE a = 5;";
 
 const IN_TURN: &[u8] = b"SELECT * FROM t WHERE b = 1;";
 
-/// The script of the table, with what is known of it.
-fn script(alloc: Global) -> Result<Vec<u8>, AllocError>
-    ensures { IfOk result (λ text. length text.items ≤ MOST_SCRIPT_BYTES) }
-{
-    let mut text = Vec::from_slice(alloc, INDEXED)?;
+/// Adds the script of the table, with what is known of it.
+fn add_script(text: &mut Vec<u8>) -> Result<(), AllocError> {
+    text.extend_from_slice(INDEXED)?;
     for n in 0..1000u32 {
         let row = [
             b'0' + (n % 100 / 10) as u8,
@@ -38,11 +34,7 @@ fn script(alloc: Global) -> Result<Vec<u8>, AllocError>
         ];
         text.extend_from_slice(&row)?;
     }
-    text.extend_from_slice(KNOWN)?;
-    if text.len() > MOST_SCRIPT_BYTES {
-        return Err(AllocError);
-    }
-    Ok(text)
+    text.extend_from_slice(KNOWN)
 }
 
 /// Works all statements of a script, of 16 at most.
@@ -109,56 +101,93 @@ fn counted<L: Ledger, M: Ledger>(
     requires short_tables { length tables.now ≤ MOST_SCRIPT_BYTES }
     requires short { length asked.query.now ≤ MOST_SCRIPT_BYTES }
 {
-    let mut machine = Machine::<Counting<L, M>>::new(alloc);
+    let mut out = sink(alloc, asked)?;
     let mut fetches = Steps::<L>::new(fetching);
     let mut reads = Steps::<M>::new(reading);
-    let mut out = MemSink::new(alloc, asked.room, Vec::from_slice(alloc, &[asked.fails])?)?;
+    let mut machine = Machine::<Counting<L, M>>::new(alloc);
     if worked(&mut machine, tables, &mut out, &mut fetches, &mut reads).is_err() {
         return Err(AllocError);
     }
+    Ok(answered(&mut machine, asked, &mut out, &mut fetches, &mut reads))
+}
+
+/// The out of a query.
+fn sink(alloc: Global, asked: Asked) -> Result<MemSink, AllocError> {
+    let fails = Vec::from_slice(alloc, &[asked.fails])?;
+    MemSink::new(alloc, asked.room, fails)
+}
+
+/// What a query does.
+fn answered<C: Counters>(
+    machine: &mut Machine<C>,
+    asked: Asked,
+    out: &mut MemSink,
+    fetches: &mut Steps<C::Fetches>,
+    reads: &mut Steps<C::Looks>,
+) -> Outcome
+    requires { length asked.query.now ≤ MOST_SCRIPT_BYTES }
+{
     let before = reads.shown();
-    let ended = machine.step(asked.query, 0, &mut out, &mut fetches, &mut reads);
-    Ok(Outcome {
+    let ended = machine.step(asked.query, 0, out, fetches, reads);
+    Outcome {
         stopped: matches!(ended, Err(End::Write)),
         as_told: out.bytes().starts_with(asked.begins) && out.bytes().ends_with(asked.ends),
         fetches: fetches.shown(),
         looks: reads.shown().saturating_sub(before),
-    })
+    }
 }
 
 /// What a query does over the table of 1000 rows.
-fn drawn_from_rows(alloc: Global, asked: Asked) -> Result<Outcome, AllocError>
-    requires { length asked.query.now ≤ MOST_SCRIPT_BYTES }
-{
-    let tables = script(alloc)?;
+fn drawn_from_rows(alloc: Global, asked: Asked) -> Result<Outcome, AllocError> {
+    let mut tables = Vec::new(alloc);
+    add_script(&mut tables)?;
+    if tables.len() > MOST_SCRIPT_BYTES || asked.query.len() > MOST_SCRIPT_BYTES {
+        return Err(AllocError);
+    }
     drawn(alloc, &tables, asked)
 }
 
-#[test]
-fn rows_are_fetched_as_the_plan_says(rt: HostRuntime) -> Result<(), Fail> {
-    let alloc = rt.alloc();
-    let cases: [(&[u8], usize, bool, u64, u64, u64); 3] = [
-        (BY_INDEX, 4096, false, 10, 10, 20),
-        (IN_TURN, 65_536, false, 1000, 1000, 1000),
-        (IN_TURN, 37, true, 1, 999, 999),
-    ];
-    for (query, room, full, least, most, looks) in cases {
-        if query.len() > MOST_SCRIPT_BYTES {
-            continue;
+/// A query, the room of its out, whether that stops it, the least and the most rows that it fetches, and how often it looks
+/// at most.
+type Paced<'a> = (&'a [u8], usize, bool, u64, u64, u64);
+
+const PACED: [Paced; 3] = [
+    (BY_INDEX, 4096, false, 10, 10, 20),
+    (IN_TURN, 65_536, false, 1000, 1000, 1000),
+    (IN_TURN, 37, true, 1, 999, 999),
+];
+
+/// Whether a query is stopped, fetches and looks so.
+fn is_paced(alloc: Global, case: Paced) -> bool {
+    let (query, room, full, least, most, looks) = case;
+    let asked = Asked {
+        query,
+        begins: b"",
+        ends: b"",
+        room,
+        fails: 0,
+    };
+    match drawn_from_rows(alloc, asked) {
+        Ok(did) => {
+            did.stopped == full && least <= did.fetches && did.fetches <= most && did.looks <= looks
         }
-        let asked = Asked {
-            query,
-            begins: b"",
-            ends: b"",
-            room,
-            fails: 0,
-        };
-        let did = drawn_from_rows(alloc, asked)?;
-        assert_eq!(rt; did.stopped, full);
-        assert!(rt; least <= did.fetches && did.fetches <= most);
-        assert!(rt; did.looks <= looks);
+        Err(_) => false,
     }
-    Ok(())
+}
+
+/// The place of the first query that does not.
+fn first_unpaced(alloc: Global, cases: &[Paced]) -> Option<usize> {
+    for n in 0..cases.len() {
+        if !is_paced(alloc, cases[n]) {
+            return Some(n);
+        }
+    }
+    None
+}
+
+#[test]
+fn rows_are_fetched_as_the_plan_says(rt: HostRuntime) {
+    assert_eq!(rt; first_unpaced(rt.alloc(), &PACED), None);
 }
 
 /// A query over the table of 1000 rows, the rows that it fetches, and how often it looks at most.
@@ -240,10 +269,7 @@ const WINDOWS: [Fetched; 13] = [
 ];
 
 /// Whether a query fetches and looks so.
-fn is_fetched(alloc: Global, case: Fetched) -> Result<bool, AllocError> {
-    if case.query.len() > MOST_SCRIPT_BYTES {
-        return Err(AllocError);
-    }
+fn is_fetched(alloc: Global, case: Fetched) -> bool {
     let asked = Asked {
         query: case.query,
         begins: b"Limit ",
@@ -251,23 +277,23 @@ fn is_fetched(alloc: Global, case: Fetched) -> Result<bool, AllocError> {
         room: 65_536,
         fails: 0,
     };
-    let did = drawn_from_rows(alloc, asked)?;
-    Ok(did.as_told && did.fetches == case.fetches && did.looks <= case.looks)
+    match drawn_from_rows(alloc, asked) {
+        Ok(did) => did.as_told && did.fetches == case.fetches && did.looks <= case.looks,
+        Err(_) => false,
+    }
 }
 
-/// The first query of a table that does not.
-fn first_wrong(alloc: Global, cases: &[Fetched]) -> Result<Option<usize>, AllocError> {
+/// The place of the first query that does not.
+fn first_wrong(alloc: Global, cases: &[Fetched]) -> Option<usize> {
     for n in 0..cases.len() {
-        if !is_fetched(alloc, cases[n])? {
-            return Ok(Some(n));
+        if !is_fetched(alloc, cases[n]) {
+            return Some(n);
         }
     }
-    Ok(None)
+    None
 }
 
 #[test]
-fn no_row_is_fetched_behind_the_last_one(rt: HostRuntime) -> Result<(), Fail> {
-    let wrong = first_wrong(rt.alloc(), &WINDOWS)?;
-    assert_eq!(rt; wrong, None);
-    Ok(())
+fn no_row_is_fetched_behind_the_last_one(rt: HostRuntime) {
+    assert_eq!(rt; first_wrong(rt.alloc(), &WINDOWS), None);
 }

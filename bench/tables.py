@@ -1,11 +1,11 @@
 #!/usr/bin/env python3
-"""Times EXPLAIN (TABLE) of chains, stars and cliques of 4, 6 and 8 relations beside EXPLAIN of the same, as a ratio of one run.
+"""Times EXPLAIN (TABLE) of chains, stars and cliques of 4, 6 and 8 relations, and CHECK of its lines, beside EXPLAIN of the same.
 
 usage: bench/tables.py PROGRAM [SIZE ..]
 
 PROGRAM is a built pgplan. Tables and queries are those of bench/joins.py: 1,000 rows each and an index on each column that joins.
-For each query it tells the entries of the certificate, its bytes, the wall time and the peak memory of EXPLAIN (TABLE), and the time
-of EXPLAIN alone. A clique of 8 takes minutes. Nothing is promised of it.
+For each query it tells the entries of the certificate, its bytes, the wall time of EXPLAIN (TABLE), of EXPLAIN alone and of CHECK, all
+with the tables' own statements, and the peak memory so far. CHECK has to print `valid`. Nothing is promised of a time.
 """
 import importlib.util
 import pathlib
@@ -51,9 +51,12 @@ def main():
             out, long = timed(program, script + f"EXPLAIN (TABLE) {query};\n")
             lines = out.split(b"\n")
             entries = [line for line in lines if line[:1].isdigit()]
+            block = b"".join(line + b"\n" for line in [*entries, *lines[-3:-1]])
+            verdict, checked = timed(program, script + f"CHECK {query};\n" + block.decode())
+            assert verdict == b"valid\n", verdict[:200]
             peak = resource.getrusage(resource.RUSAGE_CHILDREN).ru_maxrss // 1024
-            print(f"{shape:6} {count} relations: {len(entries):7} entries, {len(out) / 1024:9.1f} KiB, {1000 * long:9.1f} ms beside "
-                  f"{1000 * short:8.1f} ms, at most {peak} MB so far", flush=True)
+            print(f"{shape:6} {count} relations: {len(entries):7} entries, {len(out) / 1024:9.1f} KiB, table {1000 * long:9.1f} ms, plan alone "
+                  f"{1000 * short:8.1f} ms, check {1000 * checked:9.1f} ms, at most {peak} MB so far", flush=True)
 
 
 main()

@@ -1,0 +1,76 @@
+#!/usr/bin/env python3
+"""Counts what is meant to stay small in the crates' code, and names what is not.
+
+usage: tools/shape.py [CRATE ..]
+
+It tells the functions with more than six parameters, apart from public ones, those of more than 40 lines from the line of `fn` to
+their closing brace without contracts, the crates of more than 1,500 lines of code or 100 functions, and the clauses of more than 100
+columns. A method's `self` counts as a parameter.
+"""
+import collections
+import pathlib
+import re
+import sys
+
+ROOT = pathlib.Path(__file__).resolve().parent.parent
+MOST_PARAMETERS, MOST_LINES, MOST_CODE, MOST_FUNCTIONS, MOST_COLUMNS = 6, 40, 1500, 100, 100
+FUNCTION = re.compile(r"^([ \t]*)(pub(?:\([a-z]+\))? )?fn (\w+)", re.M)
+CLAUSE = re.compile(r"^\s*(requires|ensures)\b")
+
+
+def parameters(text, at):
+    """How many parameters stand in the parentheses that open behind a function's name."""
+    at = text.index("(", generic_end(text, at))
+    depth, count, empty = 0, 0, True
+    for sign in text[at:]:
+        depth += (sign in "(<[{") - (sign in ")>]}")
+        if depth == 0:
+            return count + (not empty)
+        if sign == "," and depth == 1:
+            count, empty = count + 1, True
+        elif not sign.isspace() and sign != "(":
+            empty = False
+    return count
+
+
+def generic_end(text, at):
+    """The place behind a function's parameters of types, if it has any."""
+    depth = 0
+    while text[at] == "<" or depth:
+        depth += (text[at] == "<") - (text[at] == ">")
+        at += 1
+    return at
+
+
+def length(text, found):
+    """The lines of a function but for its clauses."""
+    lines = text[found.start():].lstrip("\n").split("\n")
+    end = next((n for n, line in enumerate(lines) if line.startswith(found[1] + "}")), 0)
+    return sum(not CLAUSE.match(line) for line in lines[:end + 1])
+
+
+def main():
+    wide, long, large, clauses = [], [], [], collections.Counter()
+    folders = [ROOT / "crates" / name for name in sys.argv[1:]] or sorted((ROOT / "crates").iterdir())
+    for folder in folders:
+        lines, functions = 0, 0
+        for file in sorted(folder.glob("src/**/*.rt")):
+            text = file.read_text()
+            lines += text.count("\n")
+            clauses[folder.name] += sum(len(line) > MOST_COLUMNS for line in text.split("\n") if CLAUSE.match(line))
+            for found in FUNCTION.finditer(text):
+                functions += 1
+                name = f"{folder.name}::{found[3]}"
+                count, tall = parameters(text, found.end()), length(text, found)
+                if count > MOST_PARAMETERS and found[2] != "pub ":
+                    wide.append(f"{name} {count}")
+                if tall > MOST_LINES:
+                    long.append(f"{name} {tall}")
+        if lines > MOST_CODE or functions > MOST_FUNCTIONS:
+            large.append(f"{folder.name} {lines} lines, {functions} functions")
+    for title, found in (("more than six parameters", wide), ("more than 40 lines", long), ("large crates", large)):
+        print(f"{title}: {len(found)}", *found, sep="\n  ")
+    print(f"clauses of more than 100 columns: {sum(clauses.values())}", *(f"{name} {n}" for name, n in clauses.most_common(10)), sep="\n  ")
+
+
+main()

@@ -2,11 +2,12 @@
 #![tactic(auto)]
 
 mod bits;
+mod figures;
 mod keys;
 mod lead;
 mod nodes;
-mod numbers;
 mod relations;
 
-pub use nodes::plan_text;
-pub use numbers::limit_text;
+pub use figures::{limit_text, numbers};
+pub use keys::put_keys;
+pub use nodes::{plan_text, plan_text_at};

@@ -15,9 +15,9 @@ ghost use Rattle.explain.specs.Texts as texts;
 ghost use Rattle.explain.specs.Texts.{backward_text, first_depth, numbers_text, scan_name};
 
 use crate::bits::put_bits;
+use crate::figures::numbers;
 use crate::keys::put_keys;
 use crate::lead::Lead;
-use crate::numbers::numbers;
 use crate::relations::{put_relation, put_scanned};
 use catalog::Catalog;
 use pathkeys::Keys;
@@ -199,6 +199,38 @@ fn first_lead(alloc: Global, q: &Prepared) -> Result<Lead, Memory>
         None => Ok(top),
         Some(_) => top.deeper(alloc),
     }
+}
+
+/// The lead of a line that is so deep.
+fn lead_at(alloc: Global, depth: u8) -> Result<Lead, Memory>
+    ensures { IfOk result (λ lead. lead ≡ depth) }
+{
+    if depth == 0 {
+        return Ok(Lead::top(alloc));
+    }
+    let above = lead_at(alloc, depth - 1)?;
+    above.deeper(alloc)
+}
+
+/// The text of a plan whose first line stands so deep below other lines: else as `plan_text` gives it. The plan is one of the space
+/// for its set and parameterisation, or a finished one, and costs below 10^18. The error means want of memory.
+pub fn plan_text_at(
+    alloc: Global,
+    cat: &Catalog,
+    q: &Prepared,
+    p: &Path,
+    depth: u8,
+) -> Result<Bytes, Memory>
+    requires bound { IsWellBound cat.now q.now }
+    requires plan { IsShown cat.now q.now (path p.now).tree }
+    requires admissible { IsAdmissible cat.now q.now (path p.now).tree }
+    ensures text { IfOk result (λ text. text ≡ texts.text_at cat.now q.now depth (path p.now).tree) }
+{
+    cat.lawful();
+    let mut text = Vec::new(alloc);
+    let first = lead_at(alloc, depth)?;
+    put_plan(alloc, &mut text, cat, q, &first, &p.plan)?;
+    Ok(Bytes::from_vec(text))
 }
 
 /// The text of a plan: a line for each of its nodes, with what the node's plan costs in all, in 1/400 of a sequential

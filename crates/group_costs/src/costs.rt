@@ -71,8 +71,8 @@ fn work(rows: u64, tests: u128) -> u128
     u128::from(rows) * tests
 }
 
-/// What a plan costs that groups an input of this total, cut to at most 10^18.
-fn group_cost(form: Form, task: &GroupTask, input: u64) -> u64
+/// What a plan costs that groups an input of this total, without the sort of the groups on top, cut to at most 10^18.
+pub fn group_cost(form: Form, task: &GroupTask, input: u64) -> u64
     requires { IsTask task.now }
     ensures cost { result ≡ capped (group_cost form task.now input) }
     ensures most { result ≤ MOST_COST }

@@ -8,6 +8,6 @@ mod laws;
 mod task;
 
 pub use choice::choose;
-pub use costs::{group_total, groups};
+pub use costs::{group_cost, group_total, groups};
 pub use laws::group_costs_rise;
 pub use task::{GroupPlan, GroupTask};

@@ -21,3 +21,4 @@ pub use indexes::{arm_part, entries, index, index_part};
 pub use laws::{rows_of_equal_sets, scans_are_admissible, shares_of_rows};
 pub use scans::{bitmap, operators_of, seq};
 pub use shares::{ALL_ROWS, HALF, PER_SHARE, THIRD, UNKNOWN_NULLS};
+pub use tables::distinct;

@@ -70,6 +70,16 @@ pub(crate) fn known<'a>(cat: &'a Catalog, relations: Relations, x: ColRef) -> Kn
     }
 }
 
+/// How many different values, beside NULL, a column is taken to have: as its statistics say, else as many as the table's rows, 200 at
+/// most (PostgreSQL, src/include/utils/selfuncs.h, DEFAULT_NUM_DISTINCT).
+pub fn distinct(cat: &Catalog, range: &RangeTable, x: ColRef) -> u64
+    requires tables { AreTables cat.now range.now }
+    requires column { IsTrue (is_column_in cat.now range.now x) }
+    ensures value { result ≡ (stats_of cat.now range.now x).distinct }
+{
+    known(cat, Relations::Of(range), x).distinct
+}
+
 /// A column's statistics, lent.
 fn lent(typed: SqlType, s: &ColumnStats) -> Known
     ensures stats { statistics_of result ≡ statistics s.now }

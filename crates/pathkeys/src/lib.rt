@@ -9,4 +9,4 @@ mod query_order;
 pub use index_order::{index_key, index_keys};
 pub use keys::{Keys, covers};
 pub use laws::{covering_is_a_partial_order, keys_are_different_classes, prefixes_are_covered};
-pub use query_order::{order_key, order_keys};
+pub use query_order::{order_class, order_key, order_keys};

@@ -18,7 +18,7 @@ use smallvec::SmallVec;
 use std::alloc::Global;
 
 /// The class of a column in its default family: that of integers, of text or of booleans, of which a type has one.
-fn order_class(classes: &Classes, x: ColRef) -> Option<ClassNo>
+pub fn order_class(classes: &Classes, x: ColRef) -> Option<ClassNo>
     ensures class { option_map (λ c. c.0) result ≡ order_class classes.now x }
     ensures within { IfSome result (λ c. c.0 < length classes.now.classes) }
 {

@@ -4,14 +4,17 @@
 mod best;
 mod measuring;
 mod pass;
+mod pending;
 mod price;
 mod print;
-mod put;
 mod rows;
 mod setting;
 mod shown;
 mod stop;
 
 pub use measuring::{Measured, measure};
-pub use print::{answer, explain_query};
-pub use stop::Stop;
+pub use pending::{flush, put};
+pub use print::{answer, explain_query, put_result};
+pub use rows::rows_at;
+pub use setting::Setting;
+pub use stop::{Broken, Stop};

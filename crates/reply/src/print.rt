@@ -18,7 +18,7 @@ ghost use Rattle.reply.specs.Settings.{IsSetting, world_of};
 ghost use Rattle.executor.specs.Numbers.{IsTupleOf};
 
 use crate::best::best_path;
-use crate::put::{flush, put};
+use crate::pending::{flush, put};
 use crate::rows::put_window;
 use crate::setting::Setting;
 use crate::shown::shown_text;
@@ -117,8 +117,10 @@ fn answer_by<C: Counters, K: Sink>(
     put_result(at, &text, &mut rows, out, fetches, reads)
 }
 
-/// Prints a text, a line for each tuple that is to be drawn and that LIMIT and OFFSET let through, and the number of these.
-fn put_result<C: Counters, K: Sink>(
+/// Prints a text, a line for each tuple that is to be drawn and that LIMIT and OFFSET let through, with the values that it shows, and
+/// the number of these. Each line is written, or held to be, before the next tuple is drawn, and none is drawn behind the last one.
+/// Where out fails, or memory is wanted, out has a prefix of that.
+pub fn put_result<C: Counters, K: Sink>(
     at: &Setting<C>,
     text: &[u8],
     rows: &mut Rows<C>,

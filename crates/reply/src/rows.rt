@@ -15,7 +15,7 @@ ghost use Rattle.reply.specs.Showing.{HasColumn, cell_of, rows_at};
 ghost use Rattle.reply.specs.declared.stop.Broken.TheVariants.{Write};
 
 use crate::pass::{is_wanted, offset_of, pass_over};
-use crate::put::put;
+use crate::pending::put;
 use crate::setting::Setting;
 use crate::stop::Broken;
 use executor::Rows;
@@ -127,8 +127,8 @@ fn tuple_line<C: Counters>(
     shown_line(at.alloc, q.select.items(), &rows)
 }
 
-/// The rows of all relations at a tuple, each looked at once.
-fn rows_at<'a, C: Counters>(
+/// The rows of all relations at a tuple of row numbers, in FROM order, each looked at once. The error means want of memory.
+pub fn rows_at<'a, C: Counters>(
     at: &Setting<'a, C>,
     tuple: &[Tid],
     reads: &mut Steps<C::Looks>,

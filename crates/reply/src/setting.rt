@@ -8,9 +8,13 @@ use store::Store;
 
 /// A query over a store of its catalogue, and where memory comes from (PostgreSQL, src/include/nodes/execnodes.h, EState).
 #[derive(Drop)]
-pub(crate) struct Setting<'a, C: Counters> {
-    pub(crate) alloc: Global,
-    pub(crate) cat: &'a Catalog,
-    pub(crate) q: &'a Prepared,
-    pub(crate) store: &'a Store<C>,
+pub struct Setting<'a, C: Counters> {
+    /// Where memory comes from.
+    pub alloc: Global,
+    /// The catalogue.
+    pub cat: &'a Catalog,
+    /// The query, bound to the catalogue.
+    pub q: &'a Prepared,
+    /// The rows of the catalogue's tables, and their indexes.
+    pub store: &'a Store<C>,
 }

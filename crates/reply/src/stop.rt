@@ -25,7 +25,7 @@ impl From<std::alloc::AllocError> for Stop {
 
 /// Why a text on its way to out is not written whole.
 #[derive(Clone, Copy, Debug, PartialEq, Eq)]
-pub(crate) enum Broken {
+pub enum Broken {
     /// Out failed; its count of faults rose.
     Write,
     /// Want of memory.

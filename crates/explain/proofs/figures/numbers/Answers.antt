@@ -1,7 +1,7 @@
 use Rattle.std.proofs.Common.{◌∙◌}
 use Rattle.std.proofs.lemmas.Result.{IfOk-weaker}
 use Rattle.explain.proofs.NumberLemmas.{both-costs}
-use Rattle.explain.proofs.numbers.numbers.Goals as goal
+use Rattle.explain.proofs.figures.numbers.Goals as goal
 
 pub returns-in-Some : goal.returns-in-Some
 returns-in-Some c =

@@ -12,8 +12,9 @@ use pg_base::{Sink, write_all};
 /// So many bytes are written at once.
 const ENOUGH: usize = 1024;
 
-/// Puts these bytes behind the pending ones, and writes all that is pending once it is enough.
-pub(crate) fn put<K: Sink>(out: &mut K, pending: &mut Vec<u8>, bytes: &[u8]) -> Result<(), Broken>
+/// Puts these bytes behind the pending ones, and writes all that is pending once it is enough. Where out fails, or memory is wanted,
+/// out has a prefix of the pending bytes and these.
+pub fn put<K: Sink>(out: &mut K, pending: &mut Vec<u8>, bytes: &[u8]) -> Result<(), Broken>
     ensures puts { Puts (K.held out.old) (K.held out.new) pending.old.items pending.new.items result bytes.now }
     ensures cause { HasWriteCause Write (K.faults out.old) (K.faults out.new) result }
 {
@@ -25,8 +26,8 @@ pub(crate) fn put<K: Sink>(out: &mut K, pending: &mut Vec<u8>, bytes: &[u8]) -> 
     Ok(())
 }
 
-/// Writes all that is pending.
-pub(crate) fn flush<K: Sink>(out: &mut K, pending: &[u8]) -> Result<(), Broken>
+/// Writes all that is pending. Where out fails, it has a prefix of that.
+pub fn flush<K: Sink>(out: &mut K, pending: &[u8]) -> Result<(), Broken>
     ensures ok { OnOk result (Appends (K.held out.old) (K.held out.new) pending.now) }
     ensures err { OnErr result (AppendsPrefix (K.held out.old) (K.held out.new) pending.now) }
     ensures cause { HasWriteCause Write (K.faults out.old) (K.faults out.new) result }

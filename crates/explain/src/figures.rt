@@ -13,8 +13,9 @@ use pg_value::Bytes;
 use sql_query::{Prepared, Window};
 use std::alloc::Global;
 
-/// The cost and the rows of a node. Where there is a window, the cost is shown with what comes before the first row.
-pub(crate) fn numbers(
+/// What a node's line says of its cost, in 1/400 of a sequential page, and of its estimated rows, ended by LF. Where there is a window,
+/// the cost is shown with what comes before the first row. The error means want of memory.
+pub fn numbers(
     alloc: Global,
     window: Option<Window>,
     cost: Pair,

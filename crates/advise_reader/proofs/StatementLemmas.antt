@@ -7,7 +7,7 @@ use Rattle.sql_grammar.specs.declared.class.Free.TheVariants.{Advise as AdviseWo
 use Rattle.sql_grammar.specs.declared.class.Symbol.TheVariants.{Close}
 use Rattle.sql_grammar.specs.Reading.{terminal_of}
 use Rattle.sql_grammar.specs.Terminals.{Said, Terminal, free, t_mark, t_name}
-use Rattle.sql_grammar.specs.Syntax.{select_from, semicolon, text_end, no_explain, explain, explain_table, ordered_select, index_on, Advise, advise_of, Statement, empty, create_table, create_index, query, copy, sizes, column_statistics, analyze, advise, check, use_plan, grouped}
+use Rattle.sql_grammar.specs.Syntax.{select_from, semicolon, text_end, no_explain, explain, explain_table, ordered_select, index_on, Advise, advise_of, Statement, empty, create_table, create_index, query, copy, sizes, column_statistics, analyze, advise, check, use_plan, unexplained, explained, grouped}
 use Rattle.sql_grammar.specs.Words.{words_of, words_of_advise, words_of_advised, words_of_more_advised, words_of_ending}
 use Rattle.sql_grammar.specs.Faults.{IsWhole, terminals}
 use Rattle.sql_grammar.specs.Spelled.{IsSpelled}
@@ -35,7 +35,8 @@ is-advise (query (ordered_select (explain k) q y v e)) ts is opens = let wrong =
 is-advise (query (ordered_select (explain_table p k a t b) q y v e)) ts is opens = let wrong = ap begins_advise is ∙ opens in absurd (cc (wrong))
 is-advise (check p k x e) ts is opens = let wrong = ap begins_advise is ∙ opens in absurd (cc (wrong))
 is-advise (use_plan p u k q y e) ts is opens = let wrong = ap begins_advise is ∙ opens in absurd (cc (wrong))
-is-advise (grouped p u k q) ts is opens = absurd p
+is-advise (grouped p unexplained k q) ts is opens = let wrong = ap begins_advise is ∙ opens in absurd (cc (wrong))
+is-advise (grouped p (explained t) k q) ts is opens = let wrong = ap begins_advise is ∙ opens in absurd (cc (wrong))
 is-advise (copy k n null) ts is opens = let wrong = ap begins_advise is ∙ opens in absurd (cc (wrong))
 is-advise (sizes k n rows pages e) ts is opens = let wrong = ap begins_advise is ∙ opens in absurd (cc (wrong))
 is-advise (column_statistics k n c d z m h e) ts is opens = let wrong = ap begins_advise is ∙ opens in absurd (cc (wrong))

@@ -8,7 +8,7 @@ use Rattle.sql_grammar.specs.declared.class.Word.TheVariants.{Create}
 use Rattle.sql_grammar.specs.declared.class.Free.TheVariants.{Analyze, Distinct, Nulls as NullsWord, Pages, Rows, Statistics}
 use Rattle.sql_grammar.specs.declared.class.Symbol.TheVariants.{Dot, Open}
 use Rattle.sql_grammar.specs.Terminals.{Terminal, Ident, Said, free, token_of, t_key, t_mark, t_name}
-use Rattle.sql_grammar.specs.Syntax.{Key, Mark, ColDef, CopyWords, Common, Histogram, Ending, Statement, empty, create_table, create_index, query, copy, sizes, column_statistics, analyze, semicolon, text_end, index_on, no_explain, explain, explain_table, ordered_select, select_from, advise, advise_of, check, use_plan, grouped}
+use Rattle.sql_grammar.specs.Syntax.{Key, Mark, ColDef, CopyWords, Common, Histogram, Ending, Statement, empty, create_table, create_index, query, copy, sizes, column_statistics, analyze, semicolon, text_end, index_on, no_explain, explain, explain_table, ordered_select, select_from, advise, advise_of, check, use_plan, unexplained, explained, grouped}
 use Rattle.sql_grammar.specs.Words.{words_of, words_of_ending}
 use Rattle.sql_grammar.specs.Faults.{bytes_of, terminals, IsWhole}
 use Rattle.sql_grammar.specs.CopyLine.{IsDataStart}
@@ -49,7 +49,8 @@ creates (query (ordered_select (explain_table p k a t b) q y v e)) token left dd
 creates (advise (advise_of p k n o c cs m x xs e)) token left ddl is = absurd (cc (is))
 creates (check p k x e) token left ddl is = absurd (cc (is))
 creates (use_plan p u k q y e) token left ddl is = absurd (cc (is))
-creates (grouped p u k q) token left ddl is = absurd p
+creates (grouped p unexplained k q) token left ddl is = absurd (cc (is))
+creates (grouped p (explained t) k q) token left ddl is = absurd (cc (is))
 creates (copy k n null) token left ddl is = absurd (cc (is))
 creates (sizes k n rows pages e) token left ddl is = absurd (cc (is))
 creates (column_statistics k n c d z m h e) token left ddl is = absurd (cc (is))
@@ -71,7 +72,8 @@ loads (query (ordered_select (explain_table p k a t b) q y v e)) ts is ddl other
 loads (advise (advise_of p k n o c cs m x xs e)) ts is ddl other others none = let wrong = ap begins_ddl is ∙ ddl in absurd (cc (wrong))
 loads (check p k x e) ts is ddl other others none = let wrong = ap begins_ddl is ∙ ddl in absurd (cc (wrong))
 loads (use_plan p u k q y e) ts is ddl other others none = let wrong = ap begins_ddl is ∙ ddl in absurd (cc (wrong))
-loads (grouped p u k q) ts is ddl other others none = absurd p
+loads (grouped p unexplained k q) ts is ddl other others none = let wrong = ap begins_ddl is ∙ ddl in absurd (cc (wrong))
+loads (grouped p (explained t) k q) ts is ddl other others none = let wrong = ap begins_ddl is ∙ ddl in absurd (cc (wrong))
 loads (copy k n null) ts is ddl other others none = (k, n, null, refl)
 loads (sizes k n rows pages e) ts is ddl other others none = absurd (others _ (k.statistics, sym is))
 loads (column_statistics k n c d z m h e) ts is ddl other others none = absurd (others _ (k.statistics, sym is))
@@ -97,7 +99,8 @@ describes (query (ordered_select (explain_table p k a t b) q y v e)) token left 
 describes (advise (advise_of p k n o c cs m x xs e)) token left is = absurd (cc (is))
 describes (check p k x e) token left is = absurd (cc (is))
 describes (use_plan p u k q y e) token left is = absurd (cc (is))
-describes (grouped p u k q) token left is = absurd p
+describes (grouped p unexplained k q) token left is = absurd (cc (is))
+describes (grouped p (explained t) k q) token left is = absurd (cc (is))
 describes (copy k n null) token left is = absurd (cc (is))
 describes (analyze offered k n e) token left is = absurd (cc (is))
 
@@ -114,7 +117,8 @@ analyzes (query (ordered_select (explain_table p k a t b) q y v e)) token left i
 analyzes (advise (advise_of p k n o c cs m x xs e)) token left is = absurd (cc (is))
 analyzes (check p k x e) token left is = absurd (cc (is))
 analyzes (use_plan p u k q y e) token left is = absurd (cc (is))
-analyzes (grouped p u k q) token left is = absurd p
+analyzes (grouped p unexplained k q) token left is = absurd (cc (is))
+analyzes (grouped p (explained t) k q) token left is = absurd (cc (is))
 analyzes (copy k n null) token left is = absurd (cc (is))
 analyzes (sizes k n rows pages e) token left is = absurd (cc (is))
 analyzes (column_statistics k n c d z m h e) token left is = absurd (cc (is))
@@ -170,7 +174,8 @@ module _ (cat : Contents) (text : List ℕ) where
   statistics-as (advise (advise_of p k n o c cs m x xs e)) token left r is table column = absurd (cc (is))
   statistics-as (check p k x e) token left r is table column = absurd (cc (is))
   statistics-as (use_plan p u k q y e) token left r is table column = absurd (cc (is))
-  statistics-as (grouped p u k q) token left r is table column = absurd p
+  statistics-as (grouped p unexplained k q) token left r is table column = absurd (cc (is))
+  statistics-as (grouped p (explained t) k q) token left r is table column = absurd (cc (is))
   statistics-as (copy k n null) token left r is table column = absurd (cc (is))
   statistics-as (analyze offered k n e) token left r is table column = absurd (cc (is))
 
@@ -188,7 +193,8 @@ module _ (cat : Contents) (text : List ℕ) where
   analysis-as (advise (advise_of p k n o c cs m x xs e)) token left r is table = absurd (cc (is))
   analysis-as (check p k x e) token left r is table = absurd (cc (is))
   analysis-as (use_plan p u k q y e) token left r is table = absurd (cc (is))
-  analysis-as (grouped p u k q) token left r is table = absurd p
+  analysis-as (grouped p unexplained k q) token left r is table = absurd (cc (is))
+  analysis-as (grouped p (explained t) k q) token left r is table = absurd (cc (is))
   analysis-as (copy k n null) token left r is table = absurd (cc (is))
   analysis-as (sizes k n rows pages e) token left r is table = absurd (cc (is))
   analysis-as (column_statistics k n c d z m h e) token left r is table = absurd (cc (is))

@@ -48,7 +48,7 @@ behind-two (index_on k i n o t u p x xs m c w e) text tokens is = record {
 pub cand-behind : (y : CreateIndex) (text : List ℕ) (tokens : List Token) (end : ℕ) → IsSpelled (create_index y) text tokens → end ≡ length tokens - 1 → IsCandAt text tokens 2 end (cand_of y)
 cand-behind y text tokens end s at =
     let b = behind-two y text tokens s.words in
-    let (t, one) = one-end b.ending in
+    let (t, one, ends) = one-end b.ending in
     record {
       within = omega (arith, at);
       words = front-of (terminal_of text) tokens 2 end (words_of_cand (cand_of y)) t (ap (λ l. words_of_cand (cand_of y) ++ l) (sym one) ∙ (b.words ∙ (ap (drop 2) s.words ∙ drop-map (terminal_of text) 2 tokens))) at;

@@ -12,7 +12,7 @@ use Rattle.sql_lex.specs.declared.tokens.Token.{Token}
 use Rattle.sql_grammar.specs.declared.class.Symbol.TheVariants.{Close, Open}
 use Rattle.sql_grammar.specs.declared.class.Word.TheVariants.{On}
 use Rattle.sql_grammar.specs.Terminals.{Terminal, Ident, t_key, t_mark, t_name}
-use Rattle.sql_grammar.specs.Syntax.{Key, Mark, Where, no_where, where_expr, semicolon, text_end, IndexKey as KeyTree, Using, Include, Cand, cand_on, CreateIndex, index_on, Statement, empty, create_table, create_index, query, copy, sizes, column_statistics, analyze, no_explain, explain, explain_table, ordered_select, select_from, advise, advise_of, check, use_plan, grouped}
+use Rattle.sql_grammar.specs.Syntax.{Key, Mark, Where, no_where, where_expr, semicolon, text_end, IndexKey as KeyTree, Using, Include, Cand, cand_on, CreateIndex, index_on, Statement, empty, create_table, create_index, query, copy, sizes, column_statistics, analyze, no_explain, explain, explain_table, ordered_select, select_from, advise, advise_of, check, use_plan, unexplained, explained, grouped}
 use Rattle.sql_grammar.specs.Words.{words_of, words_of_where, words_of_using, words_of_include, words_of_key, words_of_keys, words_of_cand}
 use Rattle.sql_grammar.specs.Faults.{fault_at, terminals, IsWhole}
 use Rattle.sql_grammar.specs.Spelled.{IsSpelled}
@@ -150,7 +150,8 @@ is-index (query (ordered_select (explain_table p k a t b) q y v e)) ts is opens 
 is-index (advise (advise_of p k n o c cs m x xs e)) ts is opens = let wrong = ap begins_index is ∙ opens in absurd (cc (wrong))
 is-index (check p k x e) ts is opens = let wrong = ap begins_index is ∙ opens in absurd (cc (wrong))
 is-index (use_plan p u k q y e) ts is opens = let wrong = ap begins_index is ∙ opens in absurd (cc (wrong))
-is-index (grouped p u k q) ts is opens = absurd p
+is-index (grouped p unexplained k q) ts is opens = let wrong = ap begins_index is ∙ opens in absurd (cc (wrong))
+is-index (grouped p (explained t) k q) ts is opens = let wrong = ap begins_index is ∙ opens in absurd (cc (wrong))
 is-index (copy k n null) ts is opens = let wrong = ap begins_index is ∙ opens in absurd (cc (wrong))
 is-index (sizes k n rows pages e) ts is opens = let wrong = ap begins_index is ∙ opens in absurd (cc (wrong))
 is-index (column_statistics k n c d z m h e) ts is opens = let wrong = ap begins_index is ∙ opens in absurd (cc (wrong))

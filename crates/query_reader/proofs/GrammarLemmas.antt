@@ -1,5 +1,5 @@
 -- The tokens of a statement that is no other than a SELECT, and its first fault.
-use Rattle.std.proofs.Common.{◌≡◌, ℕ, Bool, List, [], ◌∷◌, ◌++◌, true, false, refl, None, All, sym, ap, subst, ◌∙◌, arith, append_assoc}
+use Rattle.std.proofs.Common.{◌≡◌, ◌⊎◌, inl, inr, ℕ, Bool, List, [], ◌∷◌, ◌++◌, true, false, refl, None, All, sym, ap, subst, ◌∙◌, arith, append_assoc}
 use Rattle.std.proofs.lemmas.List.{map-append}
 use Rattle.std.proofs.lemmas.List.Elements.{All-tail}
 use Rattle.pg_base.specs.declared.faults.Code.{Code}
@@ -11,11 +11,13 @@ use Rattle.sql_lex.specs.declared.tokens.Token.{Token}
 use Rattle.sql_grammar.specs.declared.class.Free.TheVariants.{Explain}
 use Rattle.sql_grammar.specs.Terminals.{Terminal, free, t_name}
 use Rattle.sql_grammar.specs.Reading.{terminal_of}
-use Rattle.sql_grammar.specs.Syntax.{OrderedSelect, semicolon, text_end, index_on, Statement, empty, create_table, create_index, query, copy, sizes, column_statistics, analyze, advise, advise_of, check, use_plan, grouped}
+use Rattle.sql_grammar.specs.declared.offered.TheConstants.{READS_GROUPS}
+use Rattle.sql_grammar.specs.Syntax.{GroupedSelect, IsOffered, MaybeExplain, OrderedSelect, semicolon, text_end, index_on, Statement, empty, create_table, create_index, query, copy, sizes, column_statistics, analyze, advise, advise_of, check, use_plan, grouped}
 use Rattle.sql_grammar.specs.Faults.{IsStatement, IsPrefix, IsAtFault, IsFirstFault, IsWhole, AreWithinLimits, terminals, limit_of}
 use Rattle.sql_grammar.specs.Spelled.{IsSpelled}
 use Rattle.sql_grammar.specs.Words.{words_of}
-use Rattle.query_reader.specs.Select.{AreNoOther, AreSelect, begins_query, is_explained, is_query}
+use Rattle.sql_grammar.proofs.StatementTrees.{one_tree}
+use Rattle.query_reader.specs.Select.{AreGrouped, AreNoOther, AreSelect, begins_query, is_explained, is_query}
 use Rattle.sql_cursor.specs.Reading.{Begins, BeginsNot}
 
 -- EXPLAIN is the first word, or it is not
@@ -42,22 +44,42 @@ no-other (analyze p k n e) ts is begins = let wrong = ap begins_query is ∙ beg
 no-other (advise (advise_of p k n o c cs m x xs e)) ts is begins = let wrong = ap begins_query is ∙ begins in absurd (cc (wrong))
 no-other (check p k x s) ts is begins = let wrong = ap begins_query is ∙ begins in absurd (cc (wrong))
 no-other (use_plan p u l q y s) ts is begins = let wrong = ap begins_query is ∙ begins in absurd (cc (wrong))
-no-other (grouped p u l q) ts is begins = absurd p
+no-other (grouped p u l q) ts is begins = refl
 
--- a statement that is a SELECT
-pub its-query : (x : Statement) → is_query x ≡ true → (q : OrderedSelect) × (x ≡ query q)
-its-query (query q) is = (q, refl)
+-- a statement that is a SELECT that groups
+pub record GroupsSo (x : Statement) : Type 0 where
+  pub offered : IsOffered READS_GROUPS
+  pub explaining : MaybeExplain
+  pub word : Token
+  pub select : GroupedSelect
+  pub is : x ≡ grouped offered explaining word select
+
+-- a statement that is a SELECT of either form
+pub its-query : (x : Statement) → is_query x ≡ true → ((q : OrderedSelect) × (x ≡ query q)) ⊎ GroupsSo x
+its-query (query q) is = inl (q, refl)
+its-query (grouped p e k q) is = inr (record { offered = p; explaining = e; word = k; select = q; is = refl })
 its-query _ is = absurd (cc (is))
 
 -- a whole statement is spelled
 pub spelled-whole : (text : List ℕ) (tokens : List Token) (whole : IsWhole text tokens) → IsSpelled whole.statement.0 text tokens
 spelled-whole text tokens whole = record { words = whole.statement.2; limits = whole.within; levels = whole.statement.1 }
 
--- a whole statement that is no other one is a SELECT
-pub whole-query : (text : List ℕ) (tokens : List Token) → IsWhole text tokens → AreNoOther text tokens → AreSelect text tokens
+-- tokens that are some statement are a SELECT of the form that it has
+form-of : (text : List ℕ) (tokens : List Token) (x : Statement) → IsSpelled x text tokens → ((q : OrderedSelect) × (x ≡ query q)) ⊎ GroupsSo x → AreSelect text tokens ⊎ AreGrouped text tokens
+form-of text tokens x spelled (inl (q, same)) = inl (q, subst (λ (s : Statement). IsSpelled s text tokens) same spelled)
+form-of text tokens x spelled (inr g) =
+    inr (record { offered = g.offered; explaining = g.explaining; word = g.word; select = g.select; spelled = subst (λ (s : Statement). IsSpelled s text tokens) g.is spelled })
+
+-- a whole statement that is no other one is a SELECT of either form
+pub whole-query : (text : List ℕ) (tokens : List Token) → IsWhole text tokens → AreNoOther text tokens → AreSelect text tokens ⊎ AreGrouped text tokens
 whole-query text tokens whole kind =
-    let (q, same) = its-query whole.statement.0 (kind whole.statement.0 whole.statement.2) in
-    (q, subst (λ (x : Statement). IsSpelled x text tokens) same (spelled-whole text tokens whole))
+    form-of text tokens whole.statement.0 (spelled-whole text tokens whole) (its-query whole.statement.0 (kind whole.statement.0 whole.statement.2))
+
+-- tokens have one form
+pub forms-apart : (text : List ℕ) (tokens : List Token) → AreSelect text tokens → AreGrouped text tokens → ⊥
+forms-apart text tokens (q, spelled) g =
+    let same = one_tree (query q) (grouped g.offered g.explaining g.word g.select) (spelled.words ∙ sym g.spelled.words) in
+    absurd (cc (same))
 
 middle : (P : Terminal → Type 0) (xs : List Terminal) (x : Terminal) (ys : List Terminal) → All P (xs ++ x ∷ ys) → P x
 middle P [] x ys h = h 0 x (omega arith)

@@ -2,7 +2,7 @@
 use Rattle.std.proofs.Common.{◌≡◌, ◌<◌, true, List, [], ◌∷◌, ◌++◌, length, drop, refl, sym, ap, ◌∙◌, append_assoc, length-append, arith}
 use Rattle.sql_lex.specs.declared.tokens.Token.{Token}
 use Rattle.sql_grammar.specs.Terminals.{Terminal, Ident, t_key, t_mark, t_name, t_semicolon, t_end}
-use Rattle.sql_grammar.specs.declared.class.Word.TheVariants.{Cross as CrossKey, Inner as InnerKey, Join as JoinKey, Limit as LimitKey, Offset as OffsetKey, On as OnKey, Where as WhereKey, Order}
+use Rattle.sql_grammar.specs.declared.class.Word.TheVariants.{Group as GroupKey, Cross as CrossKey, Inner as InnerKey, Join as JoinKey, Limit as LimitKey, Offset as OffsetKey, On as OnKey, Where as WhereKey, Order}
 use Rattle.sql_grammar.specs.declared.class.Symbol.TheVariants.{Comma}
 use Rattle.sql_grammar.specs.Syntax.{Mark, Alias, Relation, relation, no_inner, inner, Join, join_on, cross_join, Group, Where, no_where, where_expr, OrderBy, no_order, order_by}
 use Rattle.sql_grammar.specs.Unique.{ends_expr}
@@ -26,6 +26,7 @@ group-alias : (rest : List Terminal) → ends_group rest ≡ true → ends_alias
 group-alias [] ends = refl
 group-alias (t_mark Comma _ ∷ rest) ends = refl
 group-alias (t_key WhereKey _ ∷ rest) ends = refl
+group-alias (t_key GroupKey _ ∷ rest) ends = refl
 group-alias (t_key Order _ ∷ rest) ends = refl
 group-alias (t_key LimitKey _ ∷ rest) ends = refl
 group-alias (t_key OffsetKey _ ∷ rest) ends = refl
@@ -37,6 +38,7 @@ group-expr : (rest : List Terminal) → ends_group rest ≡ true → ends_expr r
 group-expr [] ends = refl
 group-expr (t_mark Comma _ ∷ rest) ends = refl
 group-expr (t_key WhereKey _ ∷ rest) ends = refl
+group-expr (t_key GroupKey _ ∷ rest) ends = refl
 group-expr (t_key Order _ ∷ rest) ends = refl
 group-expr (t_key LimitKey _ ∷ rest) ends = refl
 group-expr (t_key OffsetKey _ ∷ rest) ends = refl
@@ -60,6 +62,7 @@ joins-expr (cross_join c j r ∷ js) rest ends = refl
 pub from-group : (rest : List Terminal) → ends_from rest ≡ true → ends_group rest ≡ true
 from-group [] ends = refl
 from-group (t_key WhereKey _ ∷ rest) ends = refl
+from-group (t_key GroupKey _ ∷ rest) ends = refl
 from-group (t_key Order _ ∷ rest) ends = refl
 from-group (t_key LimitKey _ ∷ rest) ends = refl
 from-group (t_key OffsetKey _ ∷ rest) ends = refl

@@ -3,6 +3,7 @@ pub mod ScopeLemmas
 pub mod GrammarLemmas
 pub mod ReadingLemmas
 pub mod PlaceLemmas
+pub mod FormLemmas
 pub mod RelationsLemmas
 pub mod AddLemmas
 pub mod BoundLemmas

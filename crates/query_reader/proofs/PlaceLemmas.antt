@@ -1,5 +1,5 @@
 -- Where a SELECT stands among the tokens of a statement.
-use Rattle.std.proofs.Common.{◌≡◌, ◌<◌, ◌≤◌, ◌+◌, ◌-◌, ℕ, Bool, false, List, [], ◌∷◌, ◌++◌, length, map, drop, take, get_or, Option, Some, None, MatchOption, All, refl, sym, ap, subst, ◌∙◌, arith, append_assoc, length-append}
+use Rattle.std.proofs.Common.{◌≡◌, ◌<◌, ◌≤◌, ◌+◌, ◌-◌, ◌⊎◌, inl, inr, ℕ, Bool, true, false, List, [], ◌∷◌, ◌++◌, length, map, drop, take, get_or, Some, None, All, refl, sym, ap, subst, ◌∙◌, arith, append_assoc, length-append}
 use Rattle.std.proofs.lemmas.List.{drop-map, drop-take, drop_more, length-drop, length-map, length-take, take-map, take_at}
 use Rattle.std.proofs.lemmas.List.Elements.{All-drop}
 use Rattle.std.proofs.Math.Nat.{min-le_left}
@@ -14,15 +14,16 @@ use Rattle.sql_grammar.specs.Syntax.{no_limit, no_offset, window, select_from, W
 use Rattle.sql_grammar.specs.Words.{levels_of, words_of, words_of_ending, words_of_order, words_of_ordered, words_of_select, words_of_window, words_of_windowed}
 use Rattle.sql_grammar.specs.Faults.{AreWithinLimits, EndsAt, IsFirstFault, IsStatement, IsWhole, IsWindowed, fault_at, limit_of, terminals}
 use Rattle.sql_grammar.specs.Spelled.{IsSpelled}
+use Rattle.sql_grammar.specs.Unique.{ends_windowed}
 use Rattle.sql_cursor.specs.Reading.{Begins, BeginsNot}
 use Rattle.query_reader.specs.Parts.{IsPartAt, HavePart, as_statement, IsSelectAt, HaveSelectAt, select_of}
-use Rattle.query_reader.specs.Select.{IsFaultBy, IsNoSelectAt, begins_query, begins_select, words_before}
-use Rattle.query_reader.proofs.GrammarLemmas.{excluded, its-query, no-other, spelled-whole}
+use Rattle.query_reader.specs.Select.{AreGrouped, AreSelect, IsAtFirst, IsFaultBy, IsNoSelectAt, begins_query, begins_select, words_before}
+use Rattle.query_reader.proofs.GrammarLemmas.{excluded, forms-apart, no-other, whole-query}
 
--- one word ends a statement
-pub one-end : (e : Ending) → (t : Terminal) × (words_of_ending e ≡ t ∷ [])
-one-end (semicolon t) = (_, refl)
-one-end (text_end t) = (_, refl)
+-- one word ends a statement, and no SELECT goes on with it
+pub one-end : (e : Ending) → (t : Terminal) × (words_of_ending e ≡ t ∷ []) × (ends_windowed (t ∷ []) ≡ true)
+one-end (semicolon t) = (_, refl, refl)
+one-end (text_end t) = (_, refl, refl)
 
 -- all but the last of what is left from a number on stands up to the last one
 pub front-of : (h : Token → Terminal) (tokens : List Token) (first end : ℕ) (p : List Terminal) (t : Terminal) → p ++ t ∷ [] ≡ map h (drop first tokens) → end ≡ length tokens - 1 → p ≡ map h (drop first (take end tokens))
@@ -41,14 +42,14 @@ slice-is tokens before after token first end split place =
     )
 
 -- a SELECT with the word that ends the statement
-ended : (x : WindowedSelect) (e : Ending) → words_of_windowed x ++ words_of_ending e ≡ words_of (as_statement x e)
+pub ended : (x : WindowedSelect) (e : Ending) → words_of_windowed x ++ words_of_ending e ≡ words_of (as_statement x e)
 ended (windowed_select q y v) e =
     append_assoc (words_of_select q) (words_of_order y ++ words_of_window v) (words_of_ending e) ∙ ap (λ l. words_of_select q ++ l) (append_assoc (words_of_order y) (words_of_window v) (words_of_ending e))
 
 -- a SELECT up to the end is a part up to the last token
 pub part-to-end : (text : List ℕ) (tokens : List Token) (first end : ℕ) (x : WindowedSelect) → AreWithinLimits (terminals text tokens) → IsSelectAt text tokens first x → end ≡ length tokens - 1 → IsPartAt text tokens first end x
 part-to-end text tokens first end x within (e, w) at =
-    let (t, one) = one-end e in
+    let (t, one, ends) = one-end e in
     record {
       within = omega (arith, at);
       words = front-of (terminal_of text) tokens first end (words_of_windowed x) t (ap (λ l. words_of_windowed x ++ l) (sym one) ∙ (ended x e ∙ w.words)) at;
@@ -78,12 +79,32 @@ plain (ordered_select no_explain q y v e) k left is = (windowed_select q y v, e,
 plain (ordered_select (explain t) q y v e) k left is = absurd (cc (is))
 plain (ordered_select (explain_table p t o u m) q y v e) k left is = absurd (cc (is))
 
-select-there : (text : List ℕ) (tokens : List Token) (left : List Terminal) → IsWhole text tokens → Begins (t_key SelectKey) (terminals text tokens) left → HaveSelectAt text tokens 0
-select-there text tokens left whole (k, begins) =
-    let (q, same) = its-query whole.statement.0 (no-other whole.statement.0 (terminals text tokens) whole.statement.2 (ap begins_query begins)) in
-    let w : IsSpelled (query q) text tokens = subst (λ (s : Statement). IsSpelled s text tokens) same (spelled-whole text tokens whole) in
+select-is : (text : List ℕ) (tokens : List Token) (k : Token) (left : List Terminal) → terminals text tokens ≡ t_key SelectKey k ∷ left → AreSelect text tokens → HaveSelectAt text tokens 0
+select-is text tokens k left begins (q, w) =
     let (x, e, so) = plain q k left (w.words ∙ begins) in
     (x, (e, subst (λ (s : Statement). IsSpelled s text tokens) so w))
+
+either-is : (text : List ℕ) (tokens : List Token) (k : Token) (left : List Terminal) → terminals text tokens ≡ t_key SelectKey k ∷ left → AreSelect text tokens ⊎ AreGrouped text tokens →
+    HaveSelectAt text tokens 0 ⊎ AreGrouped text tokens
+either-is text tokens k left begins (inl select) = inl (select-is text tokens k left begins select)
+either-is text tokens k left begins (inr groups) = inr groups
+
+first-word : (ts : List Terminal) → begins_select ts ≡ true → (k : Token) × (left : List Terminal) × (ts ≡ t_key SelectKey k ∷ left)
+first-word (t_key SelectKey k ∷ left) is = (k, left, refl)
+first-word _ is = absurd (cc (is))
+
+-- a statement that begins with SELECT is a SELECT, or one that groups
+pub select-there : (text : List ℕ) (tokens : List Token) → IsWhole text tokens → begins_select (terminals text tokens) ≡ true → HaveSelectAt text tokens 0 ⊎ AreGrouped text tokens
+select-there text tokens whole is =
+    let (k, left, begins) = first-word (terminals text tokens) is in
+    either-is text tokens k left begins (whole-query text tokens whole (λ x words. no-other x (terminals text tokens) words (ap begins_query begins)))
+
+-- a SELECT is none that groups
+one-select : (text : List ℕ) (tokens : List Token) (x : WindowedSelect) (e : Ending) → IsSpelled (as_statement x e) text tokens → AreSelect text tokens
+one-select text tokens (windowed_select q y v) e w = (ordered_select no_explain q y v e, w)
+
+no-groups : (text : List ℕ) (tokens : List Token) (first : ℕ) → AreGrouped text (drop first tokens) → ¬ HaveSelectAt text tokens first
+no-groups text tokens first groups (x, (e, w)) = forms-apart text (drop first tokens) (one-select text (drop first tokens) x e w) groups
 
 -- another word stands there
 other-word : (text : List ℕ) (tokens : List Token) (x : WindowedSelect) (e : Ending) → words_of (as_statement x e) ≡ terminals text tokens → BeginsNot (t_key SelectKey) (terminals text tokens) → ⊥
@@ -97,21 +118,38 @@ not-begun (_ ∷ rest) other = refl
 by-false : (text : List ℕ) (tokens : List Token) (f : Fault) (b : Bool) → b ≡ false → IsFaultBy text tokens f false → IsFaultBy text tokens f b
 by-false text tokens f b is h = subst (λ c. IsFaultBy text tokens f c) (sym is) h
 
+-- the first of the tokens from a number on
+at-first : (tokens : List Token) (first : ℕ) (given : List Token) (d : Token) (f : Fault) → first < length tokens → given ≡ tokens → f ≡ fault_at S1 (get_or given first d) → IsAtFirst (drop first tokens) f
+at-first tokens first given d f within same is =
+    (get_or tokens first d, drop (first + 1) tokens, drop_more tokens first d within, is ∙ ap (λ (ts : List Token). fault_at S1 (get_or ts first d)) same)
+
 pub no-select : (text : List ℕ) (tokens : List Token) (first : ℕ) (given : List Token) (d : Token) (f : Fault) → first < length tokens → BeginsNot (t_key SelectKey) (terminals text (drop first tokens)) → given ≡ tokens → f ≡ fault_at S1 (get_or given first d) →
     IsNoSelectAt text tokens first f
 no-select text tokens first given d f within other same is = record {
   none = λ has. let (x, (e, w)) = has in other-word text (drop first tokens) x e w.words other;
-  cause = by-false text (drop first tokens) f (begins_select (terminals text (drop first tokens))) (not-begun (terminals text (drop first tokens)) other)
-      (get_or tokens first d, drop (first + 1) tokens, drop_more tokens first d within, is ∙ ap (λ (ts : List Token). fault_at S1 (get_or ts first d)) same);
+  cause = by-false text (drop first tokens) f (begins_select (terminals text (drop first tokens))) (not-begun (terminals text (drop first tokens)) other) (at-first tokens first given d f within same is);
 }
 
--- SELECT stands there, and the statement goes wrong behind it, or it does not
-pub by-fault : (text : List ℕ) (tokens : List Token) (first : ℕ) (left : List Terminal) (r : Option Fault) → Begins (t_key SelectKey) (terminals text (drop first tokens)) left →
-    MatchOption r (IsWhole text (drop first tokens)) (λ f. IsFirstFault IsStatement text (drop first tokens) f) → MatchOption r (HaveSelectAt text tokens first) (IsNoSelectAt text tokens first)
-by-fault text tokens first left None begins whole = select-there text (drop first tokens) left whole begins
-by-fault text tokens first left (Some f) (k, begins) fault = record {
+by-true : (text : List ℕ) (tokens : List Token) (f : Fault) (b : Bool) → b ≡ true → IsFaultBy text tokens f true → IsFaultBy text tokens f b
+by-true text tokens f b is h = subst (λ c. IsFaultBy text tokens f c) (sym is) h
+
+-- SELECT stands there
+pub begins-so : (ts left : List Terminal) → Begins (t_key SelectKey) ts left → begins_select ts ≡ true
+begins-so ts left (k, begins) = ap begins_select begins
+
+-- SELECT stands there, and the statement goes wrong behind it
+pub by-fault : (text : List ℕ) (tokens : List Token) (first : ℕ) (f : Fault) → begins_select (terminals text (drop first tokens)) ≡ true → IsFirstFault IsStatement text (drop first tokens) f → IsNoSelectAt text tokens first f
+by-fault text tokens first f begins fault = record {
   none = λ has. let (x, (e, w)) = has in excluded text (drop first tokens) f (as_statement x e) fault w;
-  cause = subst (λ (ts : List Terminal). IsFaultBy text (drop first tokens) f (begins_select ts)) (sym begins) fault;
+  cause = by-true text (drop first tokens) f (begins_select (terminals text (drop first tokens))) begins (inl fault);
+}
+
+-- a SELECT that groups stands there
+pub by-groups : (text : List ℕ) (tokens : List Token) (first : ℕ) (given : List Token) (d : Token) (f : Fault) → first < length tokens → begins_select (terminals text (drop first tokens)) ≡ true → AreGrouped text (drop first tokens) →
+    given ≡ tokens → f ≡ fault_at S1 (get_or given first d) → IsNoSelectAt text tokens first f
+by-groups text tokens first given d f within begins groups same is = record {
+  none = no-groups text tokens first groups;
+  cause = by-true text (drop first tokens) f (begins_select (terminals text (drop first tokens))) begins (inr (groups, at-first tokens first given d f within same is));
 }
 
 -- the SELECT of a statement, behind so many words

@@ -2,7 +2,7 @@
 use Rattle.std.specs.Prelude.{List, [], ◌∷◌, Bool, true, false, not, ◌&&◌}
 use Rattle.sql_grammar.specs.Terminals.{Terminal, free, t_key, t_mark, t_name, t_semicolon, t_end}
 use Rattle.sql_grammar.specs.Unique.{ends_expr}
-use Rattle.sql_grammar.specs.declared.class.Word.TheVariants.{As, Asc, Desc, Limit, Offset, Order, Where}
+use Rattle.sql_grammar.specs.declared.class.Word.TheVariants.{As, Asc, Desc, Group, Limit, Offset, Order, Where}
 use Rattle.sql_grammar.specs.declared.class.Free.TheVariants.{Nulls}
 use Rattle.sql_grammar.specs.declared.class.Symbol.TheVariants.{Comma, Dot}
 
@@ -21,6 +21,7 @@ ends_alias _ = true
 abbrev pub ends_from : List Terminal → Bool
 ends_from [] = true
 ends_from (t_key Where _ ∷ _) = true
+ends_from (t_key Group _ ∷ _) = true
 ends_from (t_key Order _ ∷ _) = true
 ends_from (t_key Limit _ ∷ _) = true
 ends_from (t_key Offset _ ∷ _) = true

@@ -8,8 +8,9 @@ use Rattle.sql_lex.specs.declared.tokens.Token.{Token}
 use Rattle.sql_grammar.specs.declared.class.Free.TheVariants.{Check, Explain, Use}
 use Rattle.sql_grammar.specs.declared.class.Symbol.TheVariants.{Open}
 use Rattle.sql_grammar.specs.declared.class.Word.TheVariants.{Select as SelectKey}
+use Rattle.sql_grammar.specs.declared.offered.TheConstants.{READS_GROUPS}
 use Rattle.sql_grammar.specs.Terminals.{Terminal, free, t_key, t_mark, t_name}
-use Rattle.sql_grammar.specs.Syntax.{OrderedSelect, Statement, query}
+use Rattle.sql_grammar.specs.Syntax.{GroupedSelect, IsOffered, MaybeExplain, OrderedSelect, Statement, grouped, query}
 use Rattle.sql_grammar.specs.Words.{words_of}
 use Rattle.sql_grammar.specs.Faults.{IsStatement, IsFirstFault, IsWhole, fault_at, terminals}
 use Rattle.sql_grammar.specs.Spelled.{IsSpelled}
@@ -40,29 +41,42 @@ abbrev pub begins_query : List Terminal → Bool
 begins_query (t_key SelectKey _ ∷ _) = true
 begins_query ts = is_explained ts
 
--- a SELECT
+-- a SELECT of either form: one that groups or another one
 abbrev pub is_query : Statement → Bool
 is_query (query _) = true
+is_query (grouped _ _ _ _) = true
 is_query _ = false
 
 -- the tokens are no statement of another kind
 abbrev pub AreNoOther : List ℕ → List Token → Type 0
 AreNoOther text tokens = (x : Statement) → words_of x ≡ terminals text tokens → is_query x ≡ true
 
--- the tokens are a SELECT
+-- the tokens are a SELECT that does not group, or its EXPLAIN
 abbrev pub AreSelect : List ℕ → List Token → Type 0
 AreSelect text tokens = (x : OrderedSelect) × IsSpelled (query x) text tokens
+
+-- the tokens are a SELECT that groups, or its EXPLAIN
+pub record AreGrouped (text : List ℕ) (tokens : List Token) : Type 0 where
+  pub offered : IsOffered READS_GROUPS
+  pub explaining : MaybeExplain
+  pub word : Token
+  pub select : GroupedSelect
+  pub spelled : IsSpelled (grouped offered explaining word select) text tokens
 
 -- SELECT is next
 abbrev pub begins_select : List Terminal → Bool
 begins_select (t_key SelectKey _ ∷ _) = true
 begins_select _ = false
 
--- why some tokens are no SELECT with its end: another first word is at fault, or it is the first fault of a statement that begins
--- with that word
+-- the first word is at fault
+abbrev pub IsAtFirst : List Token → Fault → Type 0
+IsAtFirst tokens f = (token : Token) × (later : List Token) × (tokens ≡ token ∷ later) × (f ≡ fault_at S1 token)
+
+-- why some tokens are no SELECT with its end that does not group: another first word is at fault, or it is the first fault of a
+-- statement that begins with that word, or that word is at fault before a SELECT that groups
 abbrev pub IsFaultBy : List ℕ → List Token → Fault → Bool → Type 0
-IsFaultBy text tokens f true = IsFirstFault IsStatement text tokens f
-IsFaultBy text tokens f false = (token : Token) × (later : List Token) × (tokens ≡ token ∷ later) × (f ≡ fault_at S1 token)
+IsFaultBy text tokens f true = IsFirstFault IsStatement text tokens f ⊎ (AreGrouped text tokens × IsAtFirst tokens f)
+IsFaultBy text tokens f false = IsAtFirst tokens f
 
 -- no SELECT stands from number `first` on up to the end, for this fault
 pub record IsNoSelectAt (text : List ℕ) (tokens : List Token) (first : ℕ) (fault : Fault) : Type 0 where

@@ -44,8 +44,9 @@ fn add_column(
     Ok(())
 }
 
-/// Adds the columns of an item.
-fn add_item(relations: &Relations, item: &Item, all: &mut Vec<ColRef>) -> Result<(), Refusal>
+/// Adds the columns of an item over the visible relations, or tells its first fault: an unknown qualifier (42P01), an unknown column
+/// (42703) or one that several have (42702), with its word.
+pub fn add_item(relations: &Relations, item: &Item, all: &mut Vec<ColRef>) -> Result<(), Refusal>
     ensures { Adds (item_columns (visible_in relations.now) item.now) all.old.items all.new.items result }
 {
     match item {
@@ -62,8 +63,12 @@ fn add_item(relations: &Relations, item: &Item, all: &mut Vec<ColRef>) -> Result
     }
 }
 
-/// Adds the columns of all items from the left, up to the first fault.
-fn add_items(relations: &Relations, items: &[Item], all: &mut Vec<ColRef>) -> Result<(), Refusal>
+/// Adds the columns of all items from the left, up to the first fault, as [`add_item`] tells it.
+pub fn add_items(
+    relations: &Relations,
+    items: &[Item],
+    all: &mut Vec<ColRef>,
+) -> Result<(), Refusal>
     ensures { AddsAll (list_columns (visible_in relations.now) items.now) all.old.items all.new.items result }
 {
     for item in items {

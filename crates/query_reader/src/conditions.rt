@@ -100,7 +100,7 @@ fn past_limit(written: &[Expr], pushed: &[Expr]) -> Option<Limit>
     None
 }
 
-/// The classes of conjuncts as written and of an order, or the limit that is passed, at the statement's first token.
+/// The classes of conjuncts as written and of an order, or the limit that is passed (54000, at the statement's first token).
 pub fn classes_within(
     alloc: Global,
     relations: &Relations,

@@ -1,16 +1,26 @@
 //! What the first words of a statement tell, and where its SELECT stands.
 
-ghost use Rattle.std.specs.Prelude.{◌≡◌, ℕ, List, Some, true};
+ghost use Rattle.std.specs.Prelude.{◌≡◌, ◌⊎◌, ℕ, List, Some, true};
 ghost use Rattle.sql_lex.specs.declared.tokens.Token.{Token};
-ghost use Rattle.sql_grammar.specs.Faults.{terminals, AreWithinLimits, EndsAt, IsWindowed};
+ghost use Rattle.sql_grammar.specs.Faults.{terminals, AreWithinLimits, EndsAt, IsWhole, IsWindowed};
 ghost use Rattle.sql_grammar.specs.Spelled.{IsSpelled};
 ghost use Rattle.sql_grammar.specs.Syntax.{Statement, WindowedSelect};
 ghost use Rattle.query_reader.specs.Parts.{HavePart, IsSelectAt, select_of};
-ghost use Rattle.query_reader.specs.Select.{AreNoOther, begins_query, words_before};
+ghost use Rattle.query_reader.specs.Select.{AreGrouped, AreNoOther, AreSelect, begins_query, words_before};
 
 /// A statement that begins with SELECT or EXPLAIN is of no other kind than a SELECT.
 pub fn selects_are_no_other()
     ensures { (text : List ℕ) (tokens : List Token) → begins_query (terminals text tokens) ≡ true → AreNoOther text tokens }
+{}
+
+/// A statement that is a SELECT has one of two forms: it groups, by GROUP BY or a call in its list, or it does not.
+pub fn a_whole_select_is_of_one_form()
+    ensures { (text : List ℕ) (tokens : List Token) → IsWhole text tokens → AreNoOther text tokens → AreSelect text tokens ⊎ AreGrouped text tokens }
+{}
+
+/// No tokens are a SELECT of both forms.
+pub fn forms_are_apart()
+    ensures { (text : List ℕ) (tokens : List Token) → AreSelect text tokens → AreGrouped text tokens → ⊥ }
 {}
 
 /// The SELECT that a statement's end ends stands behind the words that tell the statement's kind.

@@ -41,7 +41,7 @@ fn columns_in(alloc: Global, e: &Expr) -> Result<Vec<ColRef>, Memory>
     }
 }
 
-/// Those that conditions name, from the left.
+/// The columns that conditions name, from the left, each as often as it is named.
 #[cycle(named)]
 pub fn columns_in_all(alloc: Global, parts: &[Expr]) -> Result<Vec<ColRef>, Memory>
     ensures { IfOk result (λ xs. xs.items ≡ columns_in_all (conds parts.now)) }

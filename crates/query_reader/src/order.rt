@@ -87,7 +87,7 @@ fn order_items(
     Ok(all)
 }
 
-/// The items of ORDER BY, or its first fault; none where no ORDER is next.
+/// The items of ORDER BY where the list shows these columns, or its first fault; none where no ORDER is next.
 pub fn order_by(
     alloc: Global,
     relations: &Relations,

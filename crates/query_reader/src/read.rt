@@ -29,8 +29,8 @@ fn name(alloc: Global, from: &mut Cursor) -> Result<Spelled, Memory>
     Ok(found)
 }
 
-/// An item of the list.
-fn item(alloc: Global, from: &mut Cursor) -> Result<Item, Memory>
+/// The item of a SELECT's list that is next: a star, or a column. The refusal is want of memory alone.
+pub fn list_item(alloc: Global, from: &mut Cursor) -> Result<Item, Memory>
     requires { (o : Output) × (rest : List Terminal) × (ends_item rest ≡ true) × (from.old ≡ words_of_output o ++ rest) }
     ensures read { IfOk result (λ x. (o : Output) (rest : List Terminal) → ends_item rest ≡ true → from.old ≡ words_of_output o ++ rest → (x ≡ item_of o) × (from.new ≡ rest)) }
     ensures ahead { length from.new ≤ length from.old }
@@ -42,8 +42,8 @@ fn item(alloc: Global, from: &mut Cursor) -> Result<Item, Memory>
     after_name(alloc, from, first)
 }
 
-/// An item whose first name is taken.
-fn after_name(alloc: Global, from: &mut Cursor, first: Spelled) -> Result<Item, Memory>
+/// An item whose first name is taken: the rest of it is next. The refusal is want of memory alone.
+pub fn after_name(alloc: Global, from: &mut Cursor, first: Spelled) -> Result<Item, Memory>
     requires { (n : Ident) × (o : Output) × (rest : List Terminal) × (ends_item rest ≡ true) × (t_name n ∷ from.old ≡ words_of_output o ++ rest) }
     ensures read { IfOk result (λ x. (n : Ident) (o : Output) (rest : List Terminal) → ends_item rest ≡ true → first ≡ spelled n → t_name n ∷ from.old ≡ words_of_output o ++ rest →
         (x ≡ item_of o) × (from.new ≡ rest)) }
@@ -106,9 +106,9 @@ fn items(alloc: Global, from: &mut Cursor) -> Result<Vec<Item>, Memory>
         (v.items ≡ item_of o ∷ items_of os) × (from.new ≡ t_key From f ∷ rest)) }
 {
     let mut all = Vec::new(alloc);
-    all.push(item(alloc, from)?)?;
+    all.push(list_item(alloc, from)?)?;
     'more: while from.takes_mark(Symbol::Comma) {
-        all.push(item(alloc, from)?)?;
+        all.push(list_item(alloc, from)?)?;
     }
     Ok(all)
 }

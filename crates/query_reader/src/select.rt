@@ -1,6 +1,6 @@
 //! Reading a SELECT.
 
-ghost use Rattle.std.specs.Prelude.{◌≡◌, ℕ, ◌^◌, ◌<◌, ◌≤◌, List, ◌∷◌, All, length, IfOk, MatchOption};
+ghost use Rattle.std.specs.Prelude.{◌≡◌, ℕ, ◌^◌, ◌<◌, ◌≤◌, List, ◌∷◌, All, drop, length, true, false, IfOk, MatchOption};
 ghost use Rattle.sql_lex.specs.Words.{AreWords};
 ghost use Rattle.sql_lex.specs.declared.tokens.Token.{Token};
 ghost use Rattle.sql_grammar.specs.Faults.{terminals, IsWhole};
@@ -10,14 +10,14 @@ ghost use Rattle.expr_reader.specs.Parted.{HasParts};
 ghost use Rattle.sql_query.specs.WellBound.{IsWellBound, given_of};
 ghost use Rattle.query_reader.specs.Binding.{bound_part};
 ghost use Rattle.query_reader.specs.Parts.{HavePart, HaveSelectAt, IsPartAt, IsSelectAt};
-ghost use Rattle.query_reader.specs.Select.{IsBoundByItself, IsGrammatical, IsBoundAs, IsNoSelectAt, is_explained};
+ghost use Rattle.query_reader.specs.Select.{AreGrouped, IsBoundByItself, IsGrammatical, IsBoundAs, IsNoSelectAt, begins_select, is_explained};
 
 use crate::bind::bind;
 use crate::read::list;
 use catalog::Catalog;
 use pg_base::{Code, Fault, Refusal};
 use sql_cursor::Cursor;
-use sql_grammar::{Free, Word, fault_at, statement_fault};
+use sql_grammar::{Free, Word, fault_at, statement_fault, windowed_select_end};
 use sql_lex::Tokens;
 use sql_query::Prepared;
 use std::alloc::Global;
@@ -32,8 +32,25 @@ pub fn explains(text: &[u8], tokens: &Tokens) -> bool
     from.takes_free(Free::Explain)
 }
 
-/// Why no SELECT stands from token `first` on up to the statement's end: another word stands there (42601), or the first fault of
-/// these tokens; None where one stands there.
+/// Whether the SELECT that token `first` begins groups: it has GROUP BY, or a call in its list. The tokens from there on are a
+/// statement whole and without a fault of the grammar.
+pub fn groups(text: &[u8], tokens: &Tokens, first: u32) -> bool
+    requires short { length text.now ≤ 2 ^ 31 }
+    requires words { (from : ℕ) × AreWords text.now from tokens.now }
+    requires within { first < length tokens.now }
+    requires whole { IsWhole text.now (drop first tokens.now) }
+    requires begins { begins_select (terminals text.now (drop first tokens.now)) ≡ true }
+    ensures plain { result ≡ false → HaveSelectAt text.now tokens.now first }
+    ensures grouped { result ≡ true → AreGrouped text.now (drop first tokens.now) }
+{
+    match windowed_select_end(text, tokens, first) {
+        Ok(end) => end as usize + 1 != tokens.items().len(),
+        Err(_) => true,
+    }
+}
+
+/// Why no SELECT stands from token `first` on up to the statement's end: another word, or SELECT before one that groups (42601, at
+/// that word), or the first fault of these tokens; None where one stands there.
 fn select_fault(text: &[u8], tokens: &Tokens, first: u32) -> Option<Fault>
     requires short { length text.now ≤ 2 ^ 31 }
     requires words { (from : ℕ) × AreWords text.now from tokens.now }
@@ -44,7 +61,13 @@ fn select_fault(text: &[u8], tokens: &Tokens, first: u32) -> Option<Fault>
     if !from.takes(Word::Select) {
         return Some(fault_at(Code::S1, tokens.items()[first as usize]));
     }
-    statement_fault(text, tokens, first)
+    if let Some(fault) = statement_fault(text, tokens, first) {
+        return Some(fault);
+    }
+    if groups(text, tokens, first) {
+        return Some(fault_at(Code::S1, tokens.items()[first as usize]));
+    }
+    None
 }
 
 /// The SELECT between two tokens of a statement, told of whole.
@@ -91,14 +114,8 @@ fn read_whole(
     if let Some(fault) = select_fault(text, tokens, first) {
         return Err(Refusal::Fault(fault));
     }
-    part(
-        alloc,
-        cat,
-        text,
-        tokens,
-        first,
-        tokens.items().len() as u32 - 1,
-    )
+    let end = tokens.items().len() as u32 - 1;
+    part(alloc, cat, text, tokens, first, end)
 }
 
 /// The SELECT that begins at token `first` and that the statement's last token ends, with its order: the relations in the order of
@@ -120,11 +137,11 @@ fn read_whole(
 /// The text has at most 2^31 bytes, and the tokens are the words of a statement from some offset of it. The refusal is the first
 /// fault: that of the statement's grammar (42601; 54000 for a name over 63 bytes, a text over 8,192 or an expression over 32 levels
 /// deep), or, in a statement without one, that no SELECT stands at `first` and goes on up to its end (42601, at that word or at
-/// the first one with which none goes on); else a relation too many (54000), an unknown table or qualifier (42P01), an alias that
-/// stands twice (42712), an unknown column (42703) or one that several visible relations have (42702), a literal out of
-/// range (22003) or not of its type (22P02), a missing operator (42883) or a column that is no condition (42804), with its word,
-/// else a number of LIMIT or OFFSET that is too great (22003), with its word, else a limit (54000). It is `Memory` only of a
-/// statement without a fault of the grammar that has a SELECT there.
+/// the first one with which none goes on, or at that word before a SELECT that groups, which is none); else a relation too many
+/// (54000), an unknown table or qualifier (42P01), an alias that stands twice (42712), an unknown column (42703) or one that several
+/// visible relations have (42702), a literal out of range (22003) or not of its type (22P02), a missing operator (42883) or a column
+/// that is no condition (42804), with its word, else a number of LIMIT or OFFSET that is too great (22003), with its word, else a
+/// limit (54000). It is `Memory` only of a statement without a fault of the grammar that has a SELECT there.
 pub fn read_select(
     alloc: Global,
     cat: &Catalog,

@@ -38,12 +38,15 @@ use std::alloc::Global;
 use std::marker::Model;
 
 /// The relations that FROM has named so far, over a catalogue, and the conjuncts of the conditions of its joins as written, in
-/// the order of the text. Contracts see these and the catalogue's contents.
+/// the order of the text (PostgreSQL manual, chapter Queries, The FROM Clause). Contracts see these and the catalogue's contents.
 #[derive(Drop)]
 pub struct Sources<'a> {
-    pub(crate) cat: &'a Catalog,
-    pub(crate) relations: Vec<(TableNo, Bytes)>,
-    pub(crate) written: Vec<Expr>,
+    /// The catalogue in which tables are sought.
+    pub cat: &'a Catalog,
+    /// The relations from the left: each one's table, and its alias in small letters.
+    pub relations: Vec<(TableNo, Bytes)>,
+    /// The conjuncts of the conditions of the joins.
+    pub written: Vec<Expr>,
 }
 
 impl<'a> Model for Sources<'a> {
@@ -228,7 +231,7 @@ impl<'a> Sources<'a> {
         self.take_joins(alloc, first, from)
     }
 
-    /// The groups that are next: all of FROM.
+    /// The groups that are next, all of FROM, or its first fault (54000, 42P01, 42712, or that of a join's condition).
     pub fn take_groups(&mut self, alloc: Global, from: &mut Cursor) -> Result<(), Refusal>
         requires { (g : Group) × (gs : List (Mark × Group)) × (rest : List Terminal) × (ends_from rest ≡ true) × (from.old ≡ words_of_group g ++ (words_of_groups gs ++ rest)) }
         ensures { (g : Group) (gs : List (Mark × Group)) (rest : List Terminal) → ends_from rest ≡ true → from.old ≡ words_of_group g ++ (words_of_groups gs ++ rest) →

@@ -13,10 +13,10 @@ pub const READS_ANALYZE: bool = true;
 pub const READS_CHECK: bool = true;
 
 /// GROUP BY and the calls of a SELECT's list, as count(*).
-pub const READS_GROUPS: bool = false;
+pub const READS_GROUPS: bool = true;
 
 /// USE PLAN: a SELECT by a plan that is written out.
-pub const READS_PLAN: bool = false;
+pub const READS_PLAN: bool = true;
 
 /// EXPLAIN (TABLE) of a SELECT: its plan with its certificate.
 pub const READS_TABLE: bool = true;

@@ -282,7 +282,7 @@ const GROUPS: [(&[u8], Option<u32>, Option<u32>); 39] = [
     (b"SELECT a FROM t GROUP BY count(a);", Some(16), Some(30)),
     (b"SELECT a FROM t ORDER BY count(a);", Some(30), Some(30)),
     (b"CHECK SELECT count(*) FROM t;", Some(18), Some(18)),
-    (b"USE PLAN SELECT count(*) FROM t;", Some(0), Some(0)),
+    (b"USE PLAN SELECT count(*) FROM t;", Some(21), Some(21)),
     (
         b"ADVISE 1 (i ON t (a)) (SELECT count(*) FROM t);",
         Some(35),

@@ -8,8 +8,8 @@ use Rattle.query_reader.proofs.select.read_whole.Goals as goal
 pub returns-in-Some-clause-binding : goal.returns-in-Some-clause-binding
 returns-in-Some-clause-binding c = λ x start later split whole at. absurd (excluded c.args.text.now c.args.tokens.now c.in-Some.fault whole.statement.0 c.in-Some.ensures (spelled-whole c.args.text.now c.args.tokens.now whole))
 
-pub overflow_cast-items : goal.overflow_cast-items
-overflow_cast-items c =
+pub overflow_cast-end : goal.overflow_cast-end
+overflow_cast-end c =
     let few = (words-are-tokens c.args.text.now c.requires.words.0 c.args.tokens.now c.requires.words.1 c.requires.short).few in
     omega (arith, few, ap (λ (ts : List Token). length ts) c.items.ensures)
 

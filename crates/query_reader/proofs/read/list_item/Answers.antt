@@ -2,7 +2,7 @@ use Rattle.std.proofs.Common.{◌∷◌, refl, sym, ap, ◌∙◌}
 use Rattle.std.proofs.lemmas.Result.{IfOk-weaker}
 use Rattle.sql_grammar.specs.Terminals.{t_name}
 use Rattle.query_reader.proofs.PartLemmas.{begins-so}
-use Rattle.query_reader.proofs.read.item.Goals as goal
+use Rattle.query_reader.proofs.read.list_item.Goals as goal
 
 pub name-requires : goal.name-requires
 name-requires c =

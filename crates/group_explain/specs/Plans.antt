@@ -1,0 +1,59 @@
+-- The plan by which a grouped query is answered, and its EXPLAIN. Own.
+use Rattle.std.specs.Prelude.{◌≡◌, ℕ, List, None}
+use Rattle.catalog.specs.Contents.{Contents}
+use Rattle.sql_query.specs.Grouped.{GroupedQuery}
+use Rattle.sql_query.specs.Queries.{Query}
+use Rattle.sql_query.specs.WellBound.{IsWellBound}
+use Rattle.plan_tree.specs.Paths.{IsFinishedPath}
+use Rattle.plan_tree.specs.Plans.{Plan}
+use Rattle.plan_tree.specs.Views.{path}
+use Rattle.group_tuples.specs.declared.form.Form.{Form}
+use Rattle.group_costs.specs.GroupCosts.{IsTask}
+use Rattle.group_costs.specs.declared.task.GroupPlan.{GroupPlan}
+use Rattle.group_costs.specs.declared.task.GroupTask.{GroupTask}
+use Rattle.group_plans.specs.GroupPlans.{IsGroupPlan, IsLeastOf, IsTaskOf, input_query}
+use Rattle.reply.specs.Effort.{exactly}
+use Rattle.reply.specs.Replies.{Reply}
+use Rattle.group_explain.specs.Texts.{group_plan_text, group_query}
+use Rattle.group_explain.specs.declared.chosen.Chosen.{Chosen}
+
+-- the same grouped query over another base
+abbrev pub over_base : Query → GroupedQuery → GroupedQuery
+over_base q g = record { base = q; keys = g.keys; items = g.items; order = g.order }
+
+-- the base of a grouped query in the order that the input of a form is asked in
+abbrev pub input_base : Form → GroupedQuery → Query
+input_base form g = input_query form (group_query g)
+
+-- a plan that groups with its own cost, which no plan that groups undercuts, and the path of its input
+pub record IsChosen (c : Contents) (g : GroupedQuery) (x : Chosen) : Type 0 where
+  pub task : IsTaskOf c (group_query g) x.task
+  pub least : IsLeastOf c (group_query g) x.task x.plan
+  pub input : least.plan ≡ (path x.input).tree
+  pub finished : IsFinishedPath c (input_base x.plan.form g) (path x.input)
+
+-- a grouped query and the plan chosen for it, with the base in the order that the chosen input is asked in
+pub record IsReady (c : Contents) (g : GroupedQuery) (x : Chosen) : Type 0 where
+  pub bound : IsWellBound c g.base
+  pub whole : g.base.window ≡ None
+  pub asked : g.base ≡ input_base x.plan.form g
+  pub numbers : IsTask x.task
+  pub chosen : IsChosen c g x
+
+-- the text of a plan that groups, with its own cost, which no plan that groups undercuts
+pub record IsGroupExplanation (c : Contents) (g : GroupedQuery) (t : GroupTask) (chosen : GroupPlan) (bytes : List ℕ) : Type 0 where
+  pub task : IsTaskOf c (group_query g) t
+  pub least : IsLeastOf c (group_query g) t chosen
+  pub printed : bytes ≡ group_plan_text c g t chosen least.plan
+
+-- EXPLAIN of a grouped SELECT: that text, with nothing fetched and nothing looked at
+pub record IsGroupedExplanationOf (c : Contents) (g : GroupedQuery) (r : Reply) : Type 0 where
+  pub task : GroupTask
+  pub chosen : GroupPlan
+  pub explanation : IsGroupExplanation c g task chosen r.bytes
+  pub fetched : r.fetched ≡ exactly 0
+  pub looked : r.looked ≡ 0
+
+-- no plan that groups the tuples of the query costs less than 10^18
+abbrev pub HasNoGroupPlan : Contents → GroupedQuery → Type 0
+HasNoGroupPlan c g = (t : GroupTask) → IsTaskOf c (group_query g) t → (form : Form) (p : Plan) → ¬ IsGroupPlan c (group_query g) t form p

@@ -1,0 +1,15 @@
+//! The plan that is chosen for a grouped query.
+
+use group_costs::{GroupPlan, GroupTask};
+use plan_tree::Path;
+
+/// A plan that groups, by which a grouped query is answered.
+#[derive(Drop)]
+pub struct Chosen {
+    /// What its cost goes by.
+    pub task: GroupTask,
+    /// How it groups, with its cost in all and its groups.
+    pub plan: GroupPlan,
+    /// The path of the plan whose tuples it groups.
+    pub input: Path,
+}

@@ -1,0 +1,180 @@
+-- The class by which a column orders is the one that has it in its default family.
+use Rattle.std.proofs.Common.{◌≡◌, ℕ, ◌+◌, ◌<◌, Bool, true, false, cond, ◌||◌, List, [], ◌∷◌, length, suc, All, refl, sym, ap, ap₂, ◌∙◌, subst, arith}
+use Rattle.std.specs.Prelude.{Option, None, Some, find, option_map, slice_index_or}
+use Rattle.std.specs.List.{list_any, position_from}
+use Rattle.std.specs.Option.{option_or}
+use Rattle.std.proofs.lemmas.Bool.{and_parts, true≢false}
+use Rattle.pg_value.specs.declared.operators.Family.{Family}
+use Rattle.pg_value.specs.declared.operators.Family.TheVariants as families
+use Rattle.pg_value.specs.declared.value.SqlType.{SqlType}
+use Rattle.pg_value.specs.declared.value.SqlType.TheVariants.{Int2, Int4, Int8, Text as TextType, Bool as BoolType}
+use Rattle.pg_value.specs.Order.{IsOfFamily}
+use Rattle.pg_value.specs.Types.{IsOfType}
+use Rattle.opfamily.specs.Answers.{default_family_of}
+use Rattle.pg_expr.specs.declared.operand.ColRef.{ColRef}
+use Rattle.pg_expr.specs.Typed.{IsTyped, some_value}
+use Rattle.eq_classes.specs.declared.order.OrderItem.{OrderItem}
+use Rattle.eq_classes.specs.Classes.{Class, IsClass, Premises, direction_by, has_member, in_family, is_family, is_in, is_some_and, orders_by}
+use Rattle.eq_classes.specs.Clauses.{Table}
+use Rattle.eq_classes.specs.Holding.{IsClassTable}
+use Rattle.eq_classes.specs.Listing.{blank, class_at}
+use Rattle.eq_classes.proofs.EqualLemmas.{family_is}
+use Rattle.eq_classes.proofs.HoldLemmas.{in_map}
+use Rattle.eq_classes.proofs.ListLemmas.{IsIn, all_at, any_from, found_in, found_passes, in_at}
+use Rattle.eq_classes.proofs.SoundLemmas.{class_sound, member_in}
+use Rattle.eq_classes.proofs.UniqueLemmas.{meeting}
+use Rattle.pathkeys.specs.Keys.{class_of, order_class}
+use Rattle.group_query.specs.Grouping.{directed, group_items}
+
+-- each type has a value that is not NULL
+sample_fits : (t : SqlType) → IsOfType t (some_value t)
+sample_fits Int2 = refl
+sample_fits Int4 = refl
+sample_fits Int8 = refl
+sample_fits TextType = tt
+sample_fits BoolType = tt
+
+-- a type whose values a family orders has it as its default family, where the family is one of some type
+default_of : (t : SqlType) (f : Family) → IsOfFamily f (some_value t) → (f ≡ families.IntAbs → ⊥) → default_family_of t ≡ Some f
+default_of Int2 families.Integer h other = refl
+default_of Int4 families.Integer h other = refl
+default_of Int8 families.Integer h other = refl
+default_of TextType families.Integer h other = absurd h
+default_of BoolType families.Integer h other = absurd h
+default_of t families.IntAbs h other = absurd (other refl)
+default_of Int2 families.Text h other = absurd h
+default_of Int4 families.Text h other = absurd h
+default_of Int8 families.Text h other = absurd h
+default_of TextType families.Text h other = refl
+default_of BoolType families.Text h other = absurd h
+default_of Int2 families.Bool h other = absurd h
+default_of Int4 families.Bool h other = absurd h
+default_of Int8 families.Bool h other = absurd h
+default_of TextType families.Bool h other = absurd h
+default_of BoolType families.Bool h other = refl
+
+no_default_abs : (t : SqlType) → default_family_of t ≡ Some families.IntAbs → ⊥
+no_default_abs Int2 h = cc
+no_default_abs Int4 h = cc
+no_default_abs Int8 h = cc
+no_default_abs TextType h = cc
+no_default_abs BoolType h = cc
+
+same_family : (f g : Family) {o : Option Family} → o ≡ Some f → o ≡ Some g → f ≡ g
+same_family f g e h = cc
+
+found_none : {A : Type 0} (p : A → Bool) (i : ℕ) (xs : List A) → position_from p i xs ≡ None → list_any p xs ≡ true → ⊥
+found_none p i [] h g = true≢false (sym g)
+found_none {A} p i (x ∷ xs) h g = by (found_none p (i + 1) xs) (p x) h g
+  where
+    by : (position_from p (i + 1) xs ≡ None → list_any p xs ≡ true → ⊥) → (v : Bool) → cond v (Some i) (position_from p (i + 1) xs) ≡ None → v || list_any p xs ≡ true → ⊥
+    by later true e g = cc
+    by later false e g = later e g
+
+some_or : (o : Option ℕ) → option_or o None ≡ o
+some_or None = refl
+some_or (Some n) = refl
+
+found_at : {A : Type 0} (p : A → Bool) (i : ℕ) (xs : List A) (d : A) (n : ℕ) → position_from p i xs ≡ Some n → (k : ℕ) × (n ≡ i + k) × (k < length xs) × (p (slice_index_or xs k d) ≡ true)
+found_at p i [] d n h = absurd (nothing h)
+  where
+    nothing : None ≡ Some n → ⊥
+    nothing e = cc
+found_at {A} p i (x ∷ xs) d n h = by (found_at p (i + 1) xs d n) (p x) refl h
+  where
+    further : (k : ℕ) × (n ≡ i + 1 + k) × (k < length xs) × (p (slice_index_or xs k d) ≡ true) → (k : ℕ) × (n ≡ i + k) × (k < length (x ∷ xs)) × (p (slice_index_or (x ∷ xs) k d) ≡ true)
+    further f = (suc f.0, omega (arith, f.1), omega (arith, f.2), f.3)
+
+    by : (position_from p (i + 1) xs ≡ Some n → (k : ℕ) × (n ≡ i + 1 + k) × (k < length xs) × (p (slice_index_or xs k d) ≡ true)) → (v : Bool) → p x ≡ v → cond v (Some i) (position_from p (i + 1) xs) ≡ Some n
+        → (k : ℕ) × (n ≡ i + k) × (k < length (x ∷ xs)) × (p (slice_index_or (x ∷ xs) k d) ≡ true)
+    by later true is e = let same : i ≡ n = cc in (0, omega (arith, same), omega arith, is)
+    by later false is e = further (later e)
+
+-- the class of a number: it has a column in a family
+record ClassOf (t : Table) (x : ColRef) (f : Family) (n : ℕ) : Type 0 where
+  low : n < length t.classes
+  family : f ≡ (class_at t.classes n).family
+  member : has_member (class_at t.classes n) x ≡ true
+
+class_found : (t : Table) (x : ColRef) (f : Family) (n : ℕ) → class_of t x f ≡ Some n → ClassOf t x f n
+class_found t x f n h =
+    let at = found_at (λ c. is_in c (in_family x f)) 0 t.classes blank n h in
+    let same : at.0 ≡ n = omega (arith, at.1) in
+    let low : n < length t.classes = omega (arith, at.1, at.2) in
+    let passes : is_in (class_at t.classes n) (in_family x f) ≡ true = subst (λ (k : ℕ). is_in (class_at t.classes k) (in_family x f) ≡ true) same at.3 in
+    let parts = and_parts (is_family (class_at t.classes n).family f) (has_member (class_at t.classes n) x) passes in
+    record { low = low; family = sym (family_is (class_at t.classes n).family f parts.0); member = parts.1 }
+
+-- the items of GROUP BY are of its columns
+pub directed-col : (t : Table) (x : ColRef) (o : Option ℕ) → (directed t x o).col ≡ x
+directed-col t x None = refl
+directed-col t x (Some n) = refl
+
+module _ (g : Premises) (t : Table) (is : IsClassTable g t) (typed : All (IsTyped g.type_of) g.conjuncts) where
+  -- the class of a column in a family that is a default one is in the column's default family
+  member_default : (x : ColRef) (f : Family) (n : ℕ) → ClassOf t x f n → (f ≡ families.IntAbs → ⊥) → default_family_of (g.type_of x) ≡ Some f
+  member_default x f n of other =
+      let c : Class = class_at t.classes n in
+      let sound = class_sound g (λ y. some_value (g.type_of y)) typed (λ y. sample_fits (g.type_of y)) t.classes is.classes c (in_at t.classes n blank of.low) in
+      default_of (g.type_of x) f (subst (λ (h : Family). IsOfFamily h (some_value (g.type_of x))) (sym of.family) (sound.fits x (member_in c x of.member))) other
+
+  no_other : (x : ColRef) (f h : Family) → default_family_of (g.type_of x) ≡ Some f → (h ≡ families.IntAbs → ⊥) → (f ≡ h → ⊥) → class_of t x h ≡ None
+  no_other x f h at other differ = by (class_of t x h) refl
+    where
+      by : (o : Option ℕ) → class_of t x h ≡ o → o ≡ None
+      by None e = refl
+      by (Some n) e = absurd (differ (same_family f h at (member_default x h n (class_found t x h n e) other)))
+
+  -- the class by which a column orders is that of its default family
+  order_class_is : (x : ColRef) (f : Family) → default_family_of (g.type_of x) ≡ Some f → order_class t x ≡ class_of t x f
+  order_class_is x families.Integer at =
+      ap (option_or (class_of t x families.Integer))
+      (ap₂ option_or (no_other x families.Integer families.Text at (λ e. cc) (λ e. cc)) (no_other x families.Integer families.Bool at (λ e. cc) (λ e. cc)))
+      ∙ some_or (class_of t x families.Integer)
+  order_class_is x families.IntAbs at = absurd (no_default_abs (g.type_of x) at)
+  order_class_is x families.Text at =
+      ap₂ option_or (no_other x families.Text families.Integer at (λ e. cc) (λ e. cc))
+      (ap (option_or (class_of t x families.Text)) (no_other x families.Text families.Bool at (λ e. cc) (λ e. cc)))
+      ∙ some_or (class_of t x families.Text)
+  order_class_is x families.Bool at =
+      ap₂ (λ (a b : Option ℕ). option_or a (option_or b (class_of t x families.Bool))) (no_other x families.Bool families.Integer at (λ e. cc) (λ e. cc)) (no_other x families.Bool families.Text at (λ e. cc) (λ e. cc))
+
+  -- a class that has a column in its default family is the one by which the column orders
+  pub record OrderClass (x : ColRef) (k : Class) : Type 0 where
+    pub number : ℕ
+    pub found : order_class t x ≡ Some number
+    pub same : class_at t.classes number ≡ k
+
+  pub order-class : (x : ColRef) (f : Family) (k : Class) → default_family_of (g.type_of x) ≡ Some f → IsIn k t.classes → is_in k (in_family x f) ≡ true → OrderClass x k
+  order-class x f k at i has = by (class_of t x f) refl
+    where
+      by : (o : Option ℕ) → class_of t x f ≡ o → OrderClass x k
+      by None e = absurd (found_none (λ c. is_in c (in_family x f)) 0 t.classes e (any_from (λ c. is_in c (in_family x f)) t.classes k i has))
+      by (Some n) e =
+          let of = class_found t x f n e in
+          let d : Class = class_at t.classes n in
+          let parts = and_parts (is_family k.family f) (has_member k x) has in
+          record {
+            number = n;
+            found = order_class_is x f at ∙ e;
+            same = meeting g d k (all_at (IsClass g) t.classes is.classes.each d (in_at t.classes n blank of.low)) (all_at (IsClass g) t.classes is.classes.each k i) (sym of.family ∙ sym (family_is k.family f parts.0)) x of.member parts.1;
+          }
+
+  directed-as : (x : ColRef) (k : Class) → OrderClass x k → ◌≡◌ {A = Bool × Bool} (direction_by (Some (directed t x (order_class t x)))) (k.descending, k.nulls_first)
+  directed-as x k o =
+      let P : Class → Bool × Bool = λ d. (d.descending, d.nulls_first) in
+      ap (λ (m : Option ℕ). direction_by (Some (directed t x m))) o.found ∙ ap P o.same
+
+  by-default : (x : ColRef) (k : Class) (o : Option Family) → default_family_of (g.type_of x) ≡ o → IsIn k t.classes → is_some_and (is_in k) (option_map (in_family x) o) ≡ true →
+      ◌≡◌ {A = Bool × Bool} (direction_by (Some (directed t x (order_class t x)))) (k.descending, k.nulls_first)
+  by-default x k None at i has = absurd (true≢false (sym has))
+  by-default x k (Some f) at i has = directed-as x k (order-class x f k at i has)
+
+  -- the first GROUP BY column by a class has its direction
+  pub group-directed : (keys : List ColRef) (k : Class) → IsIn k t.classes → (item : OrderItem) → find (orders_by g.type_of k) (group_items t keys) ≡ Some item → ◌≡◌ {A = Bool × Bool} (direction_by (Some item)) (k.descending, k.nulls_first)
+  group-directed keys k i item found =
+      let (x, there, same) = in_map (λ y. directed t y (order_class t y)) keys item (found_in (orders_by g.type_of k) (group_items t keys) item found) in
+      let passes : orders_by g.type_of k (directed t x (order_class t x)) ≡ true = subst (λ (j : OrderItem). orders_by g.type_of k j ≡ true) same (found_passes (orders_by g.type_of k) (group_items t keys) item found) in
+      let by : is_some_and (is_in k) (option_map (in_family x) (default_family_of (g.type_of x))) ≡ true =
+      subst (λ (y : ColRef). is_some_and (is_in k) (option_map (in_family y) (default_family_of (g.type_of y))) ≡ true) (directed-col t x (order_class t x)) passes in
+      subst (λ (j : OrderItem). ◌≡◌ {A = Bool × Bool} (direction_by (Some j)) (k.descending, k.nulls_first)) (sym same) (by-default x k (default_family_of (g.type_of x)) refl i by)

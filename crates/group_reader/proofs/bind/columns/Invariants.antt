@@ -1,0 +1,11 @@
+use Rattle.std.proofs.Common.{◌≡◌, drop}
+use Rattle.sql_cursor.specs.Lists.{bound_each}
+use Rattle.query_reader.specs.Scope.{visible_in}
+use Rattle.group_reader.specs.Meaning.{column_meant}
+use Rattle.group_reader.proofs.AddLemmas.{onward}
+use Rattle.group_reader.proofs.bind.columns.Given as goal
+
+abbrev pub invariant-loop-one : goal.invariant-loop-one
+invariant-loop-one l =
+    let bind = column_meant (visible_in l.relations) in
+    onward bind l.all.items (bound_each bind (drop l.one-index l.written)) ≡ bound_each bind l.written

@@ -1,0 +1,10 @@
+use Rattle.std.proofs.Common.{[], arith}
+use Rattle.sql_cursor.proofs.SliceLemmas.{put-all, put-more}
+use Rattle.eq_classes.specs.declared.order.OrderItem.{OrderItem}
+use Rattle.group_reader.proofs.lists.order_columns.Goals as goal
+
+pub loop-item-preserved : goal.loop-item-preserved
+loop-item-preserved c = put-more (λ (i : OrderItem). i.col) c.loop-item.all.items _ [] c.args.order.now c.loop-item.item-index _ c.loop-item-test.true c.in_ok-push.ensures.items c.loop-item.invariant
+
+pub returns : goal.returns
+returns c = put-all (λ (i : OrderItem). i.col) c.loop-item.all.items [] c.args.order.now c.loop-item.item-index (omega arith) c.loop-item.invariant

@@ -1,0 +1,204 @@
+//! A SELECT that groups: its words read, and its names bound.
+
+ghost use Rattle.std.specs.Prelude.{◌≡◌, ◌<◌, ◌≤◌, ◌^◌, ◌++◌, ℕ, List, ◌∷◌, All, IfOk, length, map, true};
+ghost use Rattle.pg_base.specs.Names.{IsName};
+ghost use Rattle.pg_expr.specs.View.{cond};
+ghost use Rattle.catalog.specs.Range.{type_in};
+ghost use Rattle.path_cost.specs.Columns.{IsOver};
+ghost use Rattle.sql_lex.specs.Words.{AreWords};
+ghost use Rattle.sql_lex.specs.declared.tokens.Token.{Token};
+ghost use Rattle.sql_grammar.specs.FromParts.{groups_after};
+ghost use Rattle.sql_grammar.specs.Syntax.{Group, GroupBy, GroupedItem, GroupedSelect, Mark, OrderBy, Where};
+ghost use Rattle.sql_grammar.specs.Terminals.{Terminal};
+ghost use Rattle.sql_grammar.specs.Words.{words_of_group, words_of_group_by, words_of_groups, words_of_order, words_of_where};
+ghost use Rattle.expr_reader.specs.Conditions.{next};
+ghost use Rattle.query_reader.specs.Binding.{limited, past_limit};
+ghost use Rattle.query_reader.specs.Conveys.{Conveys};
+ghost use Rattle.query_reader.specs.Ends.{ends_window};
+ghost use Rattle.query_reader.specs.From.{AreRelations, nothing_joined, with_groups};
+ghost use Rattle.query_reader.specs.Scope.{visible_in};
+ghost use Rattle.group_reader.specs.Binding.{bound_groups, groups_over};
+ghost use Rattle.group_reader.specs.Meaning.{lists_said};
+ghost use Rattle.group_reader.specs.Seen.{IsReady, grouped_of};
+ghost use Rattle.group_reader.specs.Selected.{IsGroupedAs, IsGroupedAt, IsGroupedByItself};
+ghost use Rattle.group_reader.specs.Written.{columns_written, listed_of, sorts_written};
+
+use crate::lists::{Lists, bound_lists, class_items, items, used};
+use crate::read::{group_columns, list, sorts};
+use crate::written::{Listed, Words};
+use catalog::{Catalog, RangeTable};
+use eq_classes::Classes;
+use pg_base::{Memory, Refusal, TableNo};
+use pg_expr::{ColRef, Expr, Exprs};
+use pg_value::Bytes;
+use query_reader::{Relations, Sources, classes_within, written_conjuncts};
+use sql_cursor::Cursor;
+use sql_lex::{Token, Tokens};
+use sql_query::{ColList, Grouped, Item, ItemList, OrderList, Prepared};
+use std::alloc::Global;
+
+/// What a grouped query is made of beside its relations and its conjuncts.
+#[derive(Drop)]
+pub struct Ready {
+    /// Its lists.
+    pub lists: Lists,
+    /// The classes of its conjuncts, of ORDER BY and of the GROUP BY columns.
+    pub classes: Classes,
+    /// Every column that it names.
+    pub used: Vec<ColRef>,
+    /// What it shows.
+    pub items: Vec<Item>,
+}
+
+/// The lists bound over these relations and conjuncts, and what is made of them.
+fn make_ready(
+    alloc: Global,
+    relations: &Relations,
+    written: &[Expr],
+    words: &Words,
+    start: Token,
+) -> Result<Ready, Refusal>
+    requires over { All (IsOver relations.now.contents relations.now.range) (map cond written.now) }
+    requires are { AreRelations relations.now.contents relations.now.range }
+    requires all { relations.now.first ≡ 0 }
+    requires keys { length words.now.columns.items < 2 ^ 32 }
+    ensures { Conveys (IsReady relations.now (map cond written.now))
+        (next (lists_said (visible_in relations.now) (type_in relations.now.contents relations.now.range) words.now.listed.items words.now.columns.items words.now.sorts.items)
+        (limited start (past_limit (map cond written.now)))) result }
+{
+    let lists = bound_lists(alloc, relations, words)?;
+    let behind = class_items(alloc, &lists.order, &lists.keys)?;
+    let classes = classes_within(alloc, relations, written, &behind, start)?;
+    let used = used(alloc, &lists, written)?;
+    let items = items(alloc, &lists.keys, &lists.parts)?;
+    Ok(Ready {
+        lists,
+        classes,
+        used,
+        items,
+    })
+}
+
+/// The lists as they are written, of which the first is read: GROUP BY and ORDER BY are next.
+fn words(alloc: Global, listed: Vec<Listed>, from: &mut Cursor) -> Result<Words, Memory>
+    requires { (b : GroupBy) × (y : OrderBy) × (rest : List Terminal) × (ends_window rest ≡ true) × (from.old ≡ words_of_group_by b ++ (words_of_order y ++ rest)) }
+    ensures read { IfOk result (λ w. (b : GroupBy) (y : OrderBy) (rest : List Terminal) → ends_window rest ≡ true → from.old ≡ words_of_group_by b ++ (words_of_order y ++ rest) →
+        (w.columns.items ≡ columns_written b) × (w.sorts.items ≡ sorts_written y)) }
+    ensures listed { IfOk result (λ w. w.listed.items ≡ listed.items) }
+{
+    let columns = group_columns(alloc, from)?;
+    let sorts = sorts(alloc, from)?;
+    Ok(Words {
+        listed,
+        columns,
+        sorts,
+    })
+}
+
+/// The grouped query of these relations and conjuncts.
+fn finished(
+    alloc: Global,
+    relations: Vec<(TableNo, Bytes)>,
+    written: Vec<Expr>,
+    ready: Ready,
+) -> Grouped
+    ensures { result ≡ grouped_of relations.items (map cond written.items) ready }
+{
+    let Ready {
+        lists,
+        classes,
+        used,
+        items,
+    } = ready;
+    let Lists { order, keys, .. } = lists;
+    let base = Prepared {
+        range: RangeTable::from_vec(relations),
+        classes,
+        select: ColList::from_vec(Vec::new(alloc)),
+        order: OrderList::from_vec(Vec::new(alloc)),
+        used: ColList::from_vec(used),
+        where_all: Exprs::from_vec(written),
+        window: None,
+    };
+    Grouped {
+        base,
+        keys: ColList::from_vec(keys),
+        items: ItemList::from_vec(items),
+        order: OrderList::from_vec(order),
+    }
+}
+
+/// The grouped query over the relations of FROM with the conjuncts of its conditions: WHERE, then the lists, then the limits.
+fn over(
+    alloc: Global,
+    sources: Sources,
+    listed: Vec<Listed>,
+    start: Token,
+    from: &mut Cursor,
+) -> Result<Grouped, Refusal>
+    requires some { 0 < length sources.range }
+    requires few { length listed.items < 2 ^ 32 }
+    requires room { length from.old < 2 ^ 32 }
+    requires words { (w : Where) × (b : GroupBy) × (y : OrderBy) × (rest : List Terminal) × (ends_window rest ≡ true) ×
+        (from.old ≡ words_of_where w ++ (words_of_group_by b ++ (words_of_order y ++ rest))) }
+    ensures meaning { (is : List GroupedItem) (w : Where) (b : GroupBy) (y : OrderBy) (rest : List Terminal) → listed.items ≡ map listed_of is → ends_window rest ≡ true →
+        from.old ≡ words_of_where w ++ (words_of_group_by b ++ (words_of_order y ++ rest)) → IsGroupedAs (groups_over start is w b y sources.entry) result }
+    ensures itself { IfOk result (λ g. All (λ r. IsName r.1) g.base.range → IsGroupedByItself sources.entry.contents g) }
+{
+    let Sources {
+        cat,
+        relations,
+        mut written,
+    } = sources;
+    let range = Relations::new(cat, &relations, 0);
+    let mut more = written_conjuncts(alloc, &range, from)?;
+    written.append(&mut more.items)?;
+    let words = words(alloc, listed, from)?;
+    let ready = make_ready(alloc, &range, &written, &words, start)?;
+    drop(range);
+    Ok(finished(alloc, relations, written, ready))
+}
+
+/// The grouped query that a SELECT means, or its first fault of binding: this list, with its FROM, its WHERE, its GROUP BY and
+/// its ORDER BY next, in a statement that begins at this token.
+fn bind(
+    alloc: Global,
+    cat: &Catalog,
+    listed: Vec<Listed>,
+    start: Token,
+    from: &mut Cursor,
+) -> Result<Grouped, Refusal>
+    requires few { length listed.items < 2 ^ 32 }
+    requires room { length from.old < 2 ^ 32 }
+    requires words { (g : Group) × (gs : List (Mark × Group)) × (w : Where) × (b : GroupBy) × (y : OrderBy) × (rest : List Terminal) × (ends_window rest ≡ true) ×
+        (from.old ≡ words_of_group g ++ (words_of_groups gs ++ (words_of_where w ++ (words_of_group_by b ++ (words_of_order y ++ rest))))) }
+    ensures meaning { (is : List GroupedItem) (g : Group) (gs : List (Mark × Group)) (w : Where) (b : GroupBy) (y : OrderBy) (rest : List Terminal) → listed.items ≡ map listed_of is → ends_window rest ≡ true →
+        from.old ≡ words_of_group g ++ (words_of_groups gs ++ (words_of_where w ++ (words_of_group_by b ++ (words_of_order y ++ rest)))) →
+        IsGroupedAs (next (with_groups (nothing_joined cat.now) (g ∷ groups_after gs)) (groups_over start is w b y)) result }
+    ensures itself { IfOk result (λ q. All (λ r. IsName r.1) q.base.range → IsGroupedByItself cat.now q) }
+{
+    let mut sources = Sources::new(alloc, cat);
+    sources.take_groups(alloc, from)?;
+    over(alloc, sources, listed, start, from)
+}
+
+/// The SELECT that groups of a statement, told of whole; it begins at token `first`.
+pub fn read_grouped(
+    alloc: Global,
+    cat: &Catalog,
+    text: &[u8],
+    tokens: &Tokens,
+    first: u32,
+) -> Result<Grouped, Refusal>
+    requires short { length text.now ≤ 2 ^ 31 }
+    requires words { (from : ℕ) × AreWords text.now from tokens.now }
+    requires within { first < length tokens.now }
+    requires select { (x : GroupedSelect) × IsGroupedAt text.now tokens.now first x }
+    ensures meaning { (x : GroupedSelect) (start : Token) (later : List Token) → tokens.now ≡ start ∷ later → IsGroupedAt text.now tokens.now first x → IsGroupedAs (bound_groups cat.now start x) result }
+    ensures itself { IfOk result (IsGroupedByItself cat.now) }
+{
+    let mut from = Cursor::new(text, tokens, first);
+    from.skip(1);
+    let listed = list(alloc, &mut from)?;
+    bind(alloc, cat, listed, tokens.items()[0], &mut from)
+}

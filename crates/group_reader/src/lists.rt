@@ -1,0 +1,262 @@
+//! The lists of a grouped SELECT together: which columns are grouped, and what follows from them.
+
+ghost use Rattle.std.specs.Prelude.{◌≡◌, ◌<◌, ◌≤◌, ◌^◌, ◌++◌, IfOk, IfSome, length, map, filter_map, position};
+ghost use Rattle.catalog.specs.Range.{type_in};
+ghost use Rattle.eq_classes.specs.Equality.{is_column};
+ghost use Rattle.eq_classes.specs.declared.order.OrderItem.{OrderItem};
+ghost use Rattle.pg_expr.specs.View.{cond};
+ghost use Rattle.group_query.specs.Grouping.{plain_item};
+ghost use Rattle.group_query.specs.Shapes.{place_in};
+ghost use Rattle.query_reader.specs.Conveys.{Conveys};
+ghost use Rattle.query_reader.specs.Scope.{visible_in};
+ghost use Rattle.group_reader.specs.Binding.{column_by_call, column_of_part, is_grouped as is_grouped_in, item_in, named_in_lists, shown_column, shown_columns, ungrouped_items, ungrouped_part};
+ghost use Rattle.group_reader.specs.Meaning.{first_of, last_word, lists_said};
+ghost use Rattle.group_reader.specs.Seen.{lists_of, with_found};
+
+use crate::bind::{add_list, columns, sort_items};
+use crate::parts::Part;
+use crate::written::{Sorting, Words};
+use eq_classes::OrderItem;
+use pg_base::{Code, Memory, Refusal};
+use pg_expr::{ColRef, Expr};
+use query_reader::{Relations, columns_in_all};
+use sql_grammar::fault_at;
+use sql_lex::Token;
+use sql_query::Item;
+use std::alloc::Global;
+
+/// The lists of a grouped SELECT with their names bound.
+#[derive(Drop)]
+pub struct Lists {
+    /// What the list shows.
+    pub parts: Vec<Part>,
+    /// The items of ORDER BY.
+    pub order: Vec<OrderItem>,
+    /// The GROUP BY columns.
+    pub keys: Vec<ColRef>,
+}
+
+/// Adds what is found.
+fn add_found(found: Option<ColRef>, all: &mut Vec<ColRef>) -> Result<(), Memory>
+    ensures { IfOk result (λ _. all.new.items ≡ with_found all.old.items found) }
+{
+    if let Some(column) = found {
+        all.push(column)?;
+    }
+    Ok(())
+}
+
+/// The column that a part shows.
+fn shown(part: Part) -> Option<ColRef>
+    ensures { result ≡ shown_column part }
+{
+    match part {
+        Part::Shown(column, _) => Some(column),
+        Part::Called(_) => None,
+    }
+}
+
+/// The columns that are shown.
+fn shown_columns(alloc: Global, parts: &[Part]) -> Result<Vec<ColRef>, Memory>
+    ensures { IfOk result (λ v. v.items ≡ shown_columns parts.now) }
+{
+    let mut all = Vec::new(alloc);
+    for part in parts {
+        add_found(shown(*part), &mut all)?;
+    }
+    Ok(all)
+}
+
+/// Whether a column is one of these.
+fn is_grouped(keys: &[ColRef], column: ColRef) -> bool
+    ensures { result ≡ is_grouped_in keys.now column }
+{
+    keys.iter().any(|key| column == *key)
+}
+
+/// The word at which a part is at fault where it shows a column that is not grouped.
+fn ungrouped_part(keys: &[ColRef], part: Part) -> Option<Token>
+    ensures { result ≡ ungrouped_part keys.now part }
+{
+    match part {
+        Part::Shown(column, word) => {
+            if is_grouped(keys, column) {
+                None
+            } else {
+                Some(word)
+            }
+        }
+        Part::Called(_) => None,
+    }
+}
+
+/// The first such word of the list.
+fn first_part(keys: &[ColRef], parts: &[Part]) -> Option<Token>
+    ensures { result ≡ first_of (filter_map (ungrouped_part keys.now) parts.now) }
+{
+    for part in parts {
+        let word = ungrouped_part(keys, *part);
+        if word.is_some() {
+            return word;
+        }
+    }
+    None
+}
+
+/// The last word of the first item of ORDER BY whose column is not grouped; the items stand beside them as they are written.
+fn first_item(keys: &[ColRef], order: &[OrderItem], sorts: &[Sorting]) -> Option<Token>
+    ensures { result ≡ first_of (ungrouped_items keys.now order.now (map last_word sorts.now)) }
+{
+    let end = order.len().min(sorts.len());
+    for n in 0..end {
+        if !is_grouped(keys, order[n].col) {
+            return Some(sorts[n].column.name.token);
+        }
+    }
+    None
+}
+
+/// The word of the first column that is not grouped: in the list, then in ORDER BY.
+fn first_ungrouped(lists: &Lists, sorts: &[Sorting]) -> Option<Token>
+    ensures { result ≡ first_of (filter_map (ungrouped_part lists.now.keys.items) lists.now.parts.items ++ ungrouped_items lists.now.keys.items lists.now.order.items (map last_word sorts.now)) }
+{
+    let word = first_part(&lists.keys, &lists.parts);
+    if word.is_some() {
+        return word;
+    }
+    first_item(&lists.keys, &lists.order, sorts)
+}
+
+/// The lists with their names bound: the list first, then ORDER BY, then GROUP BY, then that what is shown and what orders is
+/// grouped.
+pub fn bound_lists(alloc: Global, relations: &Relations, words: &Words) -> Result<Lists, Refusal>
+    ensures { Conveys (λ m l. lists_of l ≡ m) (lists_said (visible_in relations.now) (type_in relations.now.contents relations.now.range) words.now.listed.items words.now.columns.items words.now.sorts.items) result }
+{
+    let mut parts = Vec::new(alloc);
+    add_list(alloc, relations, &words.listed, &mut parts)?;
+    let shown = shown_columns(alloc, &parts)?;
+    let order = sort_items(alloc, relations, &shown, &words.sorts)?;
+    let keys = columns(alloc, relations, &words.columns)?;
+    let lists = Lists { parts, order, keys };
+    match first_ungrouped(&lists, &words.sorts) {
+        Some(word) => Err(Refusal::Fault(fault_at(Code::S18, word))),
+        None => Ok(lists),
+    }
+}
+
+/// The items of which the classes are made: those of ORDER BY, and behind them the GROUP BY columns.
+pub fn class_items(
+    alloc: Global,
+    order: &[OrderItem],
+    keys: &[ColRef],
+) -> Result<Vec<OrderItem>, Memory>
+    ensures { IfOk result (λ v. v.items ≡ order.now ++ map plain_item keys.now) }
+{
+    let mut all = Vec::from_slice(alloc, order)?;
+    for key in keys {
+        all.push(OrderItem {
+            col: *key,
+            descending: false,
+            nulls_first: false,
+        })?;
+    }
+    Ok(all)
+}
+
+/// The column that a call is over.
+fn named_by(item: Item) -> Option<ColRef>
+    ensures { result ≡ column_by_call item }
+{
+    match item {
+        Item::Key(_) | Item::CountAll => None,
+        Item::Count(column) | Item::Min(column) | Item::Max(column) => Some(column),
+    }
+}
+
+/// The column that a part names.
+fn column_of(part: Part) -> Option<ColRef>
+    ensures { result ≡ column_of_part part }
+{
+    match part {
+        Part::Shown(column, _) => Some(column),
+        Part::Called(item) => named_by(item),
+    }
+}
+
+/// The columns that the list names.
+fn part_columns(alloc: Global, parts: &[Part]) -> Result<Vec<ColRef>, Memory>
+    ensures { IfOk result (λ v. v.items ≡ filter_map column_of_part parts.now) }
+{
+    let mut all = Vec::new(alloc);
+    for part in parts {
+        add_found(column_of(*part), &mut all)?;
+    }
+    Ok(all)
+}
+
+/// The columns of an order.
+fn order_columns(alloc: Global, order: &[OrderItem]) -> Result<Vec<ColRef>, Memory>
+    ensures { IfOk result (λ xs. xs.items ≡ map (λ (i : OrderItem). i.col) order.now) }
+{
+    let mut all = Vec::new(alloc);
+    for item in order {
+        all.push(item.col)?;
+    }
+    Ok(all)
+}
+
+/// Every column that is named.
+pub fn used(alloc: Global, lists: &Lists, written: &[Expr]) -> Result<Vec<ColRef>, Memory>
+    ensures { IfOk result (λ v. v.items ≡ named_in_lists (lists_of lists.now) (map cond written.now)) }
+{
+    let mut used = part_columns(alloc, &lists.parts)?;
+    let mut more = columns_in_all(alloc, written)?;
+    let mut sorted = order_columns(alloc, &lists.order)?;
+    let mut last = Vec::from_slice(alloc, &lists.keys)?;
+    sorted.append(&mut last)?;
+    more.append(&mut sorted)?;
+    used.append(&mut more)?;
+    Ok(used)
+}
+
+/// The place of a column among the GROUP BY columns, where it stands first.
+fn found_place(keys: &[ColRef], column: ColRef) -> Option<usize>
+    ensures is { result ≡ position (is_column column) keys.now }
+    ensures within { IfSome result (λ n. n < length keys.now) }
+{
+    keys.iter().position(|key| column == *key)
+}
+
+/// The same; 0 where it does not stand there.
+fn place(keys: &[ColRef], column: ColRef) -> u32
+    requires { length keys.now < 2 ^ 32 }
+    ensures { result ≡ place_in keys.now column }
+{
+    match found_place(keys, column) {
+        Some(place) => place as u32,
+        None => 0,
+    }
+}
+
+/// What a part shows.
+fn item(keys: &[ColRef], part: Part) -> Item
+    requires { length keys.now < 2 ^ 32 }
+    ensures { result ≡ item_in keys.now part }
+{
+    match part {
+        Part::Shown(column, _) => Item::Key(place(keys, column)),
+        Part::Called(item) => item,
+    }
+}
+
+/// What the parts show.
+pub fn items(alloc: Global, keys: &[ColRef], parts: &[Part]) -> Result<Vec<Item>, Memory>
+    requires { length keys.now < 2 ^ 32 }
+    ensures { IfOk result (λ v. v.items ≡ map (item_in keys.now) parts.now) }
+{
+    let mut all = Vec::new(alloc);
+    for part in parts {
+        all.push(item(keys, *part))?;
+    }
+    Ok(all)
+}

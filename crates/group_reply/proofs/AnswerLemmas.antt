@@ -1,0 +1,200 @@
+-- From the plan that is chosen for a grouped query to its answer.
+use Rattle.std.proofs.Common.{◌≡◌, ℕ, Bool, true, false, not, List, [], map, refl, sym, ap, ◌∙◌, subst, IsPermutation}
+use Rattle.std.proofs.Common.{Result, Ok, Err, IfErr, inr}
+use Rattle.std.specs.Result.{IsErrAnd}
+use Rattle.eq_classes.specs.declared.order.OrderItem.{OrderItem}
+use Rattle.pg_expr.specs.declared.operand.ColRef.{ColRef}
+use Rattle.pg_value.specs.declared.value.Value.{Value}
+use Rattle.pathkeys.specs.Keys.{covers, order_keys}
+use Rattle.sql_query.specs.Grouped.{GroupedQuery}
+use Rattle.sql_query.specs.Queries.{Query, in_order_of}
+use Rattle.sql_query.specs.Tuples.{no_rows}
+use Rattle.sql_query.specs.WellBound.{IsWellBound}
+use Rattle.sql_query.specs.Worlds.{World, IsWorld}
+use Rattle.plan_tree.specs.Plans.{Plan}
+use Rattle.plan_tree.specs.Run.{run}
+use Rattle.plan_tree.specs.Space.{IsFinished}
+use Rattle.plan_tree.specs.Views.{path}
+use Rattle.group_values.specs.Groups.{Seen, lines, sorted, summaries}
+use Rattle.group_tuples.specs.declared.form.Form.{Form}
+use Rattle.group_tuples.specs.declared.form.Form.TheVariants.{Sorted, Hashed}
+use Rattle.group_tuples.specs.Grouping.{final_shape}
+use Rattle.group_tuples.specs.Neighbours.{AreTogether}
+use Rattle.group_costs.specs.declared.task.GroupTask.{GroupTask}
+use Rattle.group_plans.specs.GroupPlans.{IsLeastOf, IsTaskOf}
+use Rattle.group_laws.proofs.BagLemmas.{groups-in-order}
+use Rattle.group_runs.specs.Seen.{seen_of}
+use Rattle.group_runs.proofs.OrderLemmas.{plan-needs-no-sort}
+use Rattle.group_runs.proofs.RunLemmas.{plan-lines, plan-neighbours}
+use Rattle.group_query.specs.Grouping.{IsWellGrouped, group_items}
+use Rattle.group_query.specs.Shapes.{args_of, shape_of}
+use Rattle.group_explain.specs.declared.chosen.Chosen.{Chosen}
+use Rattle.group_explain.specs.Plans.{IsChosen, IsGroupedExplanationOf, input_base, over_base}
+use Rattle.group_explain.specs.Texts.{group_plan_text, group_query}
+use Rattle.reply.specs.Effort.{exactly}
+use Rattle.reply.specs.Putting.{HasWriteCause}
+use Rattle.reply.specs.Replies.{HasBegun, HasReplied, Leaves, Reply, Traces}
+use Rattle.reply.specs.Stops.{stop_by}
+use Rattle.reply.specs.declared.stop.Broken.{Broken}
+use Rattle.reply.specs.declared.stop.Broken.TheVariants.{Write, Memory}
+use Rattle.reply.specs.declared.stop.Stop.{Stop}
+use Rattle.reply.specs.declared.stop.Stop.TheVariants as stops
+use Rattle.group_reply.specs.Drawing.{IsInputFor, drawn_reply}
+use Rattle.group_reply.specs.Replies.{AreOrderedLines, IsGroupedAnswerTo, meant_lines, seen_at}
+use Rattle.group_reply.proofs.ColumnLemmas.{args-there, columns-are, sorters-are}
+
+covered : (b : Bool) → false ≡ not b → b ≡ true
+covered true e = refl
+covered false e = e
+
+-- what is seen of a plan's tuples, of a query in an order
+abbrev pub ran : World → GroupedQuery → List OrderItem → Plan → List Seen
+ran w g o p = map (seen_at w g) (run w (in_order_of g.base o) p (no_rows g.base))
+
+module _ (w : World) (g : GroupedQuery) (world : IsWorld w) (bound : IsWellGrouped w.contents g) where
+  -- a query without an order is in none
+  plain-bound : IsWellBound w.contents (in_order_of g.base [])
+  plain-bound = let P : List OrderItem → Type 0 = λ o. IsWellBound w.contents (in_order_of g.base o) in subst P bound.plain bound.base
+
+  -- over a finished plan in an order
+  module _ (o : List OrderItem) (ordered : IsWellBound w.contents (in_order_of g.base o)) (p : Plan) (finished : IsFinished w.contents (in_order_of g.base o) p) where
+    lines-meant : IsPermutation (lines (shape_of g) (ran w g o p)) (meant_lines w g)
+    lines-meant = plan-lines w (in_order_of g.base o) p world ordered finished (shape_of g) g.keys (args_of g.items) refl
+
+    -- where the keys of ORDER BY are the first of the plan's, no sort of the groups changes their lines
+    lines-final : (after : Bool) → after ≡ not (covers (order_keys g.base.classes o) (order_keys g.base.classes g.order))
+        → lines (final_shape after (shape_of g)) (ran w g o p) ≡ lines (shape_of g) (ran w g o p)
+    lines-final true e = refl
+    lines-final false e =
+        plan-needs-no-sort w g.base p o g.order world ordered bound.by_lines finished (covered (covers (order_keys g.base.classes o) (order_keys g.base.classes g.order)) e) (shape_of g) g.keys (args_of g.items)
+        (sorters-are g.keys g.order bound.order)
+
+    lines-shown : (after : Bool) → after ≡ not (covers (order_keys g.base.classes o) (order_keys g.base.classes g.order))
+        → IsPermutation (lines (final_shape after (shape_of g)) (ran w g o p)) (meant_lines w g)
+    lines-shown after e = let P : List (List Value) → Type 0 = λ l. IsPermutation l (meant_lines w g) in subst P (sym (lines-final after e)) lines-meant
+
+  ordered-lines : (ss : List Seen) (shown : List (List Value)) → shown ≡ lines (shape_of g) ss → AreOrderedLines w g shown
+  ordered-lines ss shown are = record { groups = sorted (shape_of g).order (summaries (shape_of g) ss); are = are; ordered = groups-in-order (shape_of g) ss }
+
+  answer-by : (form : Form) (after : Bool) (cost rows : ℕ) (t : GroupTask) → IsTaskOf w.contents (group_query g) t
+      → (least : IsLeastOf w.contents (group_query g) t (record { form = form; sort_after = after; cost = cost; rows = rows }))
+      → IsGroupedAnswerTo w g (drawn_reply w (input_base form g) g t (record { form = form; sort_after = after; cost = cost; rows = rows }) least.plan)
+  answer-by Sorted after cost rows t task least =
+      let o : List OrderItem = group_items g.base.classes g.keys in
+      let same : lines (final_shape after (shape_of g)) (ran w g o least.plan) ≡ lines (shape_of g) (ran w g o least.plan) = lines-final o bound.by_groups least.plan least.is.input after least.sort_after in
+      record {
+        task = t;
+        chosen = record { form = Sorted; sort_after = after; cost = cost; rows = rows };
+        text = group_plan_text w.contents g t (record { form = Sorted; sort_after = after; cost = cost; rows = rows }) least.plan;
+        explanation = record { task = task; least = least; printed = refl };
+        shown = lines (final_shape after (shape_of g)) (ran w g o least.plan);
+        of_plan = same;
+        meant = lines-shown o bound.by_groups least.plan least.is.input after least.sort_after;
+        ordered = ordered-lines (ran w g o least.plan) (lines (final_shape after (shape_of g)) (ran w g o least.plan)) same;
+        printed = refl;
+        fetched = refl;
+        looked = refl;
+      }
+  answer-by Hashed after cost rows t task least =
+      let o : List OrderItem = [] in
+      let same : lines (final_shape after (shape_of g)) (ran w g o least.plan) ≡ lines (shape_of g) (ran w g o least.plan) = lines-final o plain-bound least.plan least.is.input after least.sort_after in
+      record {
+        task = t;
+        chosen = record { form = Hashed; sort_after = after; cost = cost; rows = rows };
+        text = group_plan_text w.contents g t (record { form = Hashed; sort_after = after; cost = cost; rows = rows }) least.plan;
+        explanation = record { task = task; least = least; printed = refl };
+        shown = lines (final_shape after (shape_of g)) (ran w g o least.plan);
+        of_plan = same;
+        meant = lines-shown o plain-bound least.plan least.is.input after least.sort_after;
+        ordered = ordered-lines (ran w g o least.plan) (lines (final_shape after (shape_of g)) (ran w g o least.plan)) same;
+        printed = refl;
+        fetched = refl;
+        looked = refl;
+      }
+
+  input-by : (form : Form) (p : Plan) → IsFinished w.contents (input_base form g) p → IsInputFor w (input_base form g) (over_base (input_base form g) g) form p
+  input-by Sorted p finished =
+      let q : Query = in_order_of g.base (group_items g.base.classes g.keys) in
+      let P : List ColRef → Type 0 = λ keys. AreTogether (map (seen_of w q keys (args_of g.items)) (run w q p (no_rows q))) in
+      record {
+        finished = finished;
+        seen = record { of_groups = bound.keys; of_calls = args-there w.contents g g.items bound.items };
+        together = λ is. subst P (columns-are g.base.classes g.keys) (plan-neighbours w q p world bound.by_groups finished (args_of g.items));
+        few_keys = bound.few_keys;
+        few_calls = bound.few_calls;
+      }
+  input-by Hashed p finished = record {
+    finished = finished;
+    seen = record { of_groups = bound.keys; of_calls = args-there w.contents g g.items bound.items };
+    together = λ is. absurd (cc is);
+    few_keys = bound.few_keys;
+    few_calls = bound.few_calls;
+  }
+
+  module _ (x : Chosen) (chosen : IsChosen w.contents g x) where
+    abbrev here : Query
+    here = input_base x.plan.form g
+
+    abbrev reply-of : Query → Reply
+    reply-of q = drawn_reply w q g x.task x.plan (path x.input).tree
+
+    pub answer-is : IsGroupedAnswerTo w g (reply-of here)
+    answer-is =
+        let P : Plan → Type 0 = λ p. IsGroupedAnswerTo w g (drawn_reply w here g x.task x.plan p) in
+        subst P chosen.input (answer-by x.plan.form x.plan.sort_after x.plan.cost x.plan.rows x.task chosen.task chosen.least)
+
+    pub input-is : (q : Query) (left : GroupedQuery) → q ≡ here → left ≡ over_base here g → IsInputFor w q left x.plan.form (path x.input).tree
+    input-is q left same over =
+        let P : Query → Type 0 = λ b. IsInputFor w b left x.plan.form (path x.input).tree in
+        let Q : GroupedQuery → Type 0 = λ h. IsInputFor w here h x.plan.form (path x.input).tree in
+        subst P (sym same) (subst Q (sym over) (input-by x.plan.form (path x.input).tree chosen.finished.finished))
+
+    -- what a call did that printed it, and one that printed a part
+    module _ (q : Query) (same : q ≡ here) where
+      answers : (r : Reply) → r ≡ reply-of q → IsGroupedAnswerTo w g r
+      answers r is = let P : Reply → Type 0 = λ s. IsGroupedAnswerTo w g s in subst P (sym (is ∙ ap reply-of same)) answer-is
+
+      pub answered : (a b : Traces) → HasReplied (λ r. r ≡ reply-of q) a b → HasReplied (IsGroupedAnswerTo w g) a b
+      answered a b h = record { reply = h.reply; answers = answers h.reply h.answers; gained = h.gained; fetched = h.fetched; looked = h.looked }
+
+      pub answering : (a b : Traces) → HasBegun (λ r. r ≡ reply-of q) a b → HasBegun (IsGroupedAnswerTo w g) a b
+      answering a b h = record { reply = h.reply; answers = answers h.reply h.answers; gained = h.gained; fetched = h.fetched; looked = h.looked }
+
+    pub has-answer : (r : Reply) × IsGroupedAnswerTo w g r
+    has-answer = (reply-of here, answer-is)
+
+    pub has-explanation : (r : Reply) × IsGroupedExplanationOf w.contents g r
+    has-explanation = (
+      record { bytes = group_plan_text w.contents g x.task x.plan chosen.least.plan; fetched = exactly 0; looked = 0 },
+      record { task = x.task; chosen = x.plan; explanation = record { task = chosen.task; least = chosen.least; printed = refl }; fetched = refl; looked = refl },
+    )
+
+-- what a text that is not written whole leaves
+pub stopped-by : (r : Result (Unit {0}) Stop) (b : Broken) (IsReply : Reply → Type 0) (old new : Traces) → IsErrAnd r (λ e. e ≡ stop_by b) → HasBegun IsReply old new
+    → IfErr r (λ stop. Leaves stop IsReply old new)
+stopped-by (Ok u) b IsReply old new is begun = tt
+stopped-by (Err e) b IsReply old new is begun = by b is
+  where
+    by : (b : Broken) → e ≡ stop_by b → Leaves e IsReply old new
+    by Write same = let P : Stop → Type 0 = λ s. Leaves s IsReply old new in subst P (sym same) begun
+    by Memory same = let P : Stop → Type 0 = λ s. Leaves s IsReply old new in subst P (sym same) (inr begun)
+
+pub broken-has-plan : (r : Result (Unit {0}) Stop) (b : Broken) (P : Type 0) → IsErrAnd r (λ e. e ≡ stop_by b) → IfErr r (λ e. e ≡ stops.NoPlan → P)
+broken-has-plan (Ok u) b P is = tt
+broken-has-plan (Err e) b P is = by b is
+  where
+    by : (b : Broken) → e ≡ stop_by b → e ≡ stops.NoPlan → P
+    by Write same none = absurd (cc (same, none))
+    by Memory same none = absurd (cc (same, none))
+
+-- and what that tells of out's faults
+abbrev stopped : Stop → Result (Unit {0}) Stop
+stopped s = Err s
+
+pub caused-by : (r : Result (Unit {0}) Stop) (b : Broken) (before now : ℕ) → IsErrAnd r (λ e. e ≡ stop_by b) → HasWriteCause {T = Unit {0}} Write before now (Err b) → HasWriteCause stops.Write before now r
+caused-by (Ok u) b before now is cause = absurd is
+caused-by (Err e) Write before now is cause = record { write = λ so. cause.write refl; quiet = λ other. absurd (other (ap stopped is)) }
+caused-by (Err e) Memory before now is cause = record {
+  write = λ wrong. absurd (let bad : stopped stops.Memory ≡ stopped stops.Write = ap stopped (sym is) ∙ wrong in cc (bad));
+  quiet = λ other. cause.quiet (λ wrong. absurd (cc (wrong)));
+}

@@ -1,0 +1,30 @@
+-- The columns that are seen of a tuple where it is grouped, and their values in rows of all relations. Own.
+use Rattle.std.specs.Prelude.{List, Option, None, Some, All}
+use Rattle.pg_value.specs.declared.value.Value.{Value}
+use Rattle.pg_value.specs.declared.value.Value.TheVariants.{Null}
+use Rattle.pg_expr.specs.declared.operand.ColRef.{ColRef}
+use Rattle.heap.specs.Stored.{Values}
+use Rattle.catalog.specs.Contents.{Contents}
+use Rattle.catalog.specs.Range.{Range}
+use Rattle.sql_query.specs.WellBound.{IsColumnOf}
+use Rattle.reply.specs.Showing.{HasColumn, cell_of}
+
+-- the column of a call, where it has one, is one of a relation
+abbrev pub IsArgOf : Contents → Range → Option ColRef → Type 0
+IsArgOf c range None = Unit {0}
+IsArgOf c range (Some x) = IsColumnOf c range x
+
+-- the GROUP BY columns and the columns of calls are there
+pub record AreSeenOf (c : Contents) (range : Range) (keys : List ColRef) (args : List (Option ColRef)) : Type 0 where
+  pub of_groups : All (IsColumnOf c range) keys
+  pub of_calls : All (IsArgOf c range) args
+
+-- the column of a call, where it has one, is one of these rows
+abbrev pub HasArg : List Values → Option ColRef → Type 0
+HasArg rows None = Unit {0}
+HasArg rows (Some x) = HasColumn rows x
+
+-- its value, NULL for `count(*)`, which has none
+abbrev pub arg_in : List Values → Option ColRef → Value
+arg_in rows None = Null
+arg_in rows (Some x) = cell_of rows x

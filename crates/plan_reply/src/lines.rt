@@ -1,0 +1,72 @@
+//! The lines of plans that are not run.
+
+ghost use Rattle.std.specs.Prelude.{◌≡◌, IfOk, MatchOption};
+ghost use Rattle.plan_reply.specs.Told as texts;
+ghost use Rattle.plan_reply.specs.Told.{IsFault};
+
+use cost_rules::MOST_COST;
+use pg_base::Memory;
+use plan_judge::Judged;
+use std::alloc::Global;
+
+/// That a plan is none of the plan space, and the line of the node at fault.
+fn outside_text(alloc: Global, line: u32) -> Result<Vec<u8>, Memory>
+    ensures { IfOk result (λ text. text.items ≡ texts.reason_text (Judged.Outside line)) }
+{
+    let text = format!(in alloc; "P2 line {line}")?;
+    Ok(text.into_bytes())
+}
+
+/// That a plan costs as much as the limit or more, and the limit.
+fn limit_text(alloc: Global) -> Result<Vec<u8>, Memory>
+    ensures { IfOk result (λ text. text.items ≡ texts.reason_text Judged.Limit) }
+{
+    let text = format!(in alloc; "P4 cost {}", MOST_COST)?;
+    Ok(text.into_bytes())
+}
+
+/// That a number of a node is not its own: its line, whether it is the cost, the number that is written and the node's own.
+fn number_text(
+    alloc: Global,
+    line: u32,
+    is_cost: bool,
+    printed: u64,
+    own: u64,
+) -> Result<Vec<u8>, Memory>
+    ensures { IfOk result (λ text. text.items ≡ texts.reason_text (Judged.Number line is_cost printed own)) }
+{
+    let text = if is_cost {
+        format!(in alloc; "P3 line {line} cost {printed} is {own}")?
+    } else {
+        format!(in alloc; "P3 line {line} rows {printed} is {own}")?
+    };
+    Ok(text.into_bytes())
+}
+
+/// Why a plan is not run. None of a good one.
+pub(crate) fn reason_text(alloc: Global, judged: Judged) -> Result<Option<Vec<u8>>, Memory>
+    ensures { IfOk result (λ o. MatchOption o (judged ≡ Judged.Good) (λ text. IsFault judged × (text.items ≡ texts.reason_text judged))) }
+{
+    let text = match judged {
+        Judged::Good => return Ok(None),
+        Judged::Outside { line } => outside_text(alloc, line)?,
+        Judged::Limit => limit_text(alloc)?,
+        Judged::Number {
+            line,
+            is_cost,
+            printed,
+            own,
+        } => number_text(alloc, line, is_cost, printed, own)?,
+    };
+    Ok(Some(text))
+}
+
+/// The line of a plan that is not run, for a reason.
+pub(crate) fn invalid_line(alloc: Global, reason: &[u8]) -> Result<Vec<u8>, Memory>
+    ensures { IfOk result (λ line. line.items ≡ texts.invalid_line reason.now) }
+{
+    let mut line = Vec::from_slice(alloc, b"invalid: ")?;
+    line.extend_from_slice(reason)?;
+    line.extend_from_slice(b"\n")?;
+    Ok(line)
+}

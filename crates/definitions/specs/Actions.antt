@@ -9,6 +9,7 @@ use Rattle.catalog.specs.Contents.{NamedIndex, new_table, with_index, with_table
 use Rattle.catalog.specs.Indexes.{Index}
 use Rattle.catalog.specs.Statistics.{Statistics}
 use Rattle.heap.specs.Stored.{Stored}
+use Rattle.sql_query.specs.Grouped.{GroupedQuery}
 use Rattle.sql_query.specs.Queries.{Query}
 use Rattle.sql_query.specs.Worlds.{World, stored_at, world}
 
@@ -37,6 +38,12 @@ pub data Action : Type 0 where
   advise : ℕ → List NamedIndex → List Query → Action
   -- CHECK of a SELECT: whether these bytes are a certificate of it
   verify : Query → List ℕ → Action
+  -- USE PLAN of a SELECT: by the plan that these bytes write out
+  follow : Query → List ℕ → Action
+  -- a SELECT that groups
+  answer_groups : GroupedQuery → Action
+  -- EXPLAIN of a SELECT that groups
+  explain_groups : GroupedQuery → Action
 
 -- the world after an accepted statement: one more table, one more index or other statistics beside the same rows, given or
 -- found, other rows of a table, or the same
@@ -56,3 +63,6 @@ after w (explain q) = w
 after w (certify q) = w
 after w (advise most candidates queries) = w
 after w (verify q block) = w
+after w (follow q block) = w
+after w (answer_groups g) = w
+after w (explain_groups g) = w

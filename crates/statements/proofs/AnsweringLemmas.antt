@@ -1,5 +1,5 @@
 -- How a query ends: answered, refused, or stopped on its way out.
-use Rattle.std.proofs.Common.{◌≡◌, ℕ, ◌<◌, ◌∙◌, List, length, inl, inr, Option, Some, None, Ok, Err, Result, IfErr, IsErrAnd, refl, sym, ap, subst, arith}
+use Rattle.std.proofs.Common.{◌≡◌, ℕ, ◌<◌, ◌∙◌, Bool, true, false, List, length, inl, inr, Option, Some, None, Ok, Err, Result, IfErr, IsErrAnd, refl, sym, ap, subst, arith}
 use Rattle.pg_base.specs.declared.faults.Fault.{Fault}
 use Rattle.pg_base.specs.declared.faults.Refusal.{Refusal}
 use Rattle.pg_base.specs.declared.faults.Refusal.TheVariants as refusal
@@ -8,17 +8,22 @@ use Rattle.sql_lex.specs.Ends.{end_of}
 use Rattle.sql_grammar.specs.Faults.{terminals}
 use Rattle.catalog.specs.Contents.{Contents}
 use Rattle.fault_line.specs.Tells.{IsFieldOf}
+use Rattle.query_reader.specs.Select.{AreNoOther, is_explained}
 use Rattle.query_reader.specs.Wanted.{wanted_by}
 use Rattle.query_reader.specs.declared.wanted.Wanted.{Wanted}
 use Rattle.query_reader.specs.declared.wanted.Wanted.TheVariants as wanted
+use Rattle.group_explain.specs.Plans.{IsGroupedExplanationOf}
+use Rattle.group_reader.specs.declared.selected.Selected.{Selected}
+use Rattle.group_reader.specs.declared.selected.Selected.TheVariants.{Plain, Grouped}
+use Rattle.group_reply.specs.Replies.{IsGroupedAnswerTo}
+use Rattle.sql_query.specs.Grouped.{GroupedQuery}
 use Rattle.sql_query.specs.Queries.{Query}
 use Rattle.sql_query.specs.Worlds.{World}
 use Rattle.reply.specs.declared.stop.Stop.{Stop}
 use Rattle.reply.specs.declared.stop.Stop.TheVariants as stop
-use Rattle.reply.specs.Answers.{HasNoPlan}
 use Rattle.reply.specs.Effort.{exactly}
 use Rattle.reply.specs.Measures.{IsMeasured}
-use Rattle.reply.specs.Replies.{HasBegun, HasReplied, Leaves, Reply, Traces}
+use Rattle.reply.specs.Replies.{HasReplied, Leaves, Reply, Traces}
 use Rattle.reply.specs.declared.measuring.Measured.{Measured}
 use Rattle.explain.specs.Texts.{explained_text}
 use Rattle.plan_tree.specs.Plans.{Plan}
@@ -27,31 +32,40 @@ use Rattle.statements.specs.declared.end.End.{End}
 use Rattle.statements.specs.declared.end.End.TheVariants as ends
 use Rattle.definitions.specs.Actions.{after}
 use Rattle.statements.specs.Ending.{end_of_refusal, end_of_stop}
-use Rattle.statements.specs.Accepted.{IsReadOver, asked, asked_as}
+use Rattle.statements.specs.Accepted.{IsReadOver, asked_as}
 use Rattle.statements.specs.Askings.{IsTallied}
 use Rattle.statements.specs.Faults.{IsFaultOver, no_plan}
+use Rattle.statements.specs.Questions.{HasNoneOf, asked_of, groups_asked}
 use Rattle.statements.specs.Replies.{IsReply}
 use Rattle.table_reply.specs.Tabled.{IsTabledText}
 use Rattle.statements.specs.Steps.{IsAnsweredOver, IsTalliedOver, Refuses, StopsOver}
-use Rattle.statements.proofs.QueryLemmas.{Binds, Grammar, query-fault, fault-plain}
+use Rattle.statements.proofs.QueryLemmas.{Reads, query-fault, fault-plain}
 
 -- a fault in no record of data is in no field
 pub plain-field : (c : Contents) (f : Fault) → f.rec ≡ 0 → IsFieldOf c f
 plain-field c f none = λ field some. absurd (omega (arith, none, some))
 
--- a query that is not read
-pub query-refused : (w : World) (text : List ℕ) (tokens : List Token) (refused : Refusal) → 1 < length tokens → Grammar text tokens (Err refused) → Binds w text tokens (Err refused) →
+-- a SELECT that is not read
+pub query-refused : (w : World) (text : List ℕ) (tokens : List Token) (refused : Refusal) → 1 < length tokens → AreNoOther text tokens → Reads w text tokens (Err refused) →
     Refuses (end_of_refusal refused) w text tokens 0 0
-query-refused w text tokens (refusal.Fault f) some grammar binds =
+query-refused w text tokens (refusal.Fault f) some kind reads =
     let one : 0 < length tokens = omega (arith, some) in
-    (query-fault w text tokens one f grammar binds, plain-field w.contents f (fault-plain w text tokens one f grammar binds), refl)
-query-refused w text tokens refusal.Memory some grammar binds = inl refl
+    (query-fault w text tokens one f reads kind, plain-field w.contents f (fault-plain w text tokens one f reads kind), refl)
+query-refused w text tokens refusal.Memory some kind reads = inl refl
 
--- a query leaves the world as it is
-still : (w : World) (x : Wanted) (q : Query) → w ≡ after w (asked_as x q)
-still w wanted.Rows q = refl
-still w wanted.Plan q = refl
-still w wanted.Table q = refl
+-- a SELECT leaves the world as it is
+rows-still : (w : World) (x : Wanted) (q : Query) → w ≡ after w (asked_as x q)
+rows-still w wanted.Rows q = refl
+rows-still w wanted.Plan q = refl
+rows-still w wanted.Table q = refl
+
+groups-still : (w : World) (explained : Bool) (g : GroupedQuery) → w ≡ after w (groups_asked explained g)
+groups-still w true g = refl
+groups-still w false g = refl
+
+still : (w : World) (text : List ℕ) (tokens : List Token) (s : Selected) → w ≡ after w (asked_of text tokens s)
+still w text tokens (Plain q) = rows-still w (wanted_by (terminals text tokens)) q
+still w text tokens (Grouped g) = groups-still w (is_explained (terminals text tokens)) g
 
 -- the text of a plan alone
 abbrev explanation : Contents → Query → Plan → Reply
@@ -70,47 +84,41 @@ pub table-tallied : (w : World) (q : Query) (x : Wanted) (bytes : List ℕ) → 
 table-tallied w q x bytes asks text =
     subst (λ (y : Wanted). IsTallied w (asked_as y q) None) (sym asks) (record { reply = record { bytes = bytes; fetched = exactly 0; looked = 0 }; replies = record { text = text; fetched = refl; looked = refl }; measured = tt })
 
-module _ (w : World) (text : List ℕ) (tokens : List Token) (q : Query) (read : IsReadOver w text tokens (asked text tokens q) (end_of tokens)) (unplanned : HasNoPlan w.contents q → IsFaultOver w text tokens (no_plan text tokens))
-    (asking : Wanted) (is : asking ≡ wanted_by (terminals text tokens)) where
+-- nothing is measured of a grouped query, which has a reply
+pub groups-tallied : (w : World) (g : GroupedQuery) (explained : Bool) → (r : Reply) × IsGroupedAnswerTo w g r → (r : Reply) × IsGroupedExplanationOf w.contents g r → IsTallied w (groups_asked explained g) None
+groups-tallied w g true answers explains = record { reply = explains.0; replies = explains.1; measured = tt }
+groups-tallied w g false answers explains = record { reply = answers.0; replies = answers.1; measured = tt }
+
+module _ (w : World) (text : List ℕ) (tokens : List Token) (s : Selected) (read : IsReadOver w text tokens (asked_of text tokens s) (end_of tokens)) (unplanned : HasNoneOf w.contents s → IsFaultOver w text tokens (no_plan text tokens)) where
   module _ (old new : Traces) where
     -- its reply was written whole
-    pub answered-over : (next : ℕ) → next ≡ end_of tokens → HasReplied (IsReply w (asked_as asking q)) old new → IsAnsweredOver w text tokens next old new
-    answered-over next at replied =
-        subst (λ n. IsAnsweredOver w text tokens n old new) (sym at)
-        (asked text tokens q, read, still w (wanted_by (terminals text tokens)) q, subst (λ (x : Wanted). HasReplied (IsReply w (asked_as x q)) old new) is replied)
-
-    begun-over : HasBegun (IsReply w (asked_as asking q)) old new → HasBegun (IsReply w (asked text tokens q)) old new
-    begun-over begun = subst (λ (x : Wanted). HasBegun (IsReply w (asked_as x q)) old new) is begun
+    pub answered-over : (next : ℕ) → next ≡ end_of tokens → HasReplied (IsReply w (asked_of text tokens s)) old new → IsAnsweredOver w text tokens next old new
+    answered-over next at replied = subst (λ n. IsAnsweredOver w text tokens n old new) (sym at) (asked_of text tokens s, read, still w text tokens s, replied)
 
     -- or it was not
-    printing-stops : (e : Stop) → Leaves e (IsReply w (asked_as asking q)) old new → (e ≡ stop.NoPlan → HasNoPlan w.contents q) → StopsOver (end_of_stop e (no_plan text tokens)) w text tokens old new
+    printing-stops : (e : Stop) → Leaves e (IsReply w (asked_of text tokens s)) old new → (e ≡ stop.NoPlan → HasNoneOf w.contents s) → StopsOver (end_of_stop e (no_plan text tokens)) w text tokens old new
     printing-stops stop.NoPlan same none = (unplanned (none refl), plain-field w.contents (no_plan text tokens) refl, same)
-    printing-stops stop.Write begun none = (asked text tokens q, end_of tokens, read, begun-over begun)
+    printing-stops stop.Write begun none = (asked_of text tokens s, end_of tokens, read, begun)
     printing-stops stop.Memory (inl same) none = inl same
-    printing-stops stop.Memory (inr begun) none = inr (asked text tokens q, end_of tokens, read, begun-over begun)
+    printing-stops stop.Memory (inr begun) none = inr (asked_of text tokens s, end_of tokens, read, begun)
 
-    pub printing-told : (e : Stop) (f : Fault) (end : End) → end ≡ end_of_stop e f → f ≡ no_plan text tokens → Leaves e (IsReply w (asked_as asking q)) old new → (e ≡ stop.NoPlan → HasNoPlan w.contents q) →
+    pub printing-told : (e : Stop) (f : Fault) (end : End) → end ≡ end_of_stop e f → f ≡ no_plan text tokens → Leaves e (IsReply w (asked_of text tokens s)) old new → (e ≡ stop.NoPlan → HasNoneOf w.contents s) →
         StopsOver end w text tokens old new
     printing-told e f end ends at leaves none =
         subst (λ (x : End). StopsOver x w text tokens old new) (sym ends)
         (subst (λ (g : Fault). StopsOver (end_of_stop e g) w text tokens old new) (sym at) (printing-stops e leaves none))
 
   -- it was measured
-  pub measured-over : (m : Option Measured) → IsTallied w (asked_as asking q) m → IsTalliedOver w text tokens (end_of tokens) m
-  measured-over m tallied = record {
-    action = asked text tokens q;
-    read = read;
-    still = still w (wanted_by (terminals text tokens)) q;
-    tallied = subst (λ (x : Wanted). IsTallied w (asked_as x q) m) is tallied;
-  }
+  pub measured-over : (m : Option Measured) → IsTallied w (asked_of text tokens s) m → IsTalliedOver w text tokens (end_of tokens) m
+  measured-over m tallied = record { action = asked_of text tokens s; read = read; still = still w text tokens s; tallied = tallied }
 
   -- or it was not
-  measuring-stops : (e : Stop) → (e ≡ stop.NoPlan → HasNoPlan w.contents q) → (e ≡ stop.Write → ⊥) → Refuses (end_of_stop e (no_plan text tokens)) w text tokens 0 0
+  measuring-stops : (e : Stop) → (e ≡ stop.NoPlan → HasNoneOf w.contents s) → (e ≡ stop.Write → ⊥) → Refuses (end_of_stop e (no_plan text tokens)) w text tokens 0 0
   measuring-stops stop.NoPlan none wrote = (unplanned (none refl), plain-field w.contents (no_plan text tokens) refl, refl)
   measuring-stops stop.Write none wrote = absurd (wrote refl)
   measuring-stops stop.Memory none wrote = inl refl
 
-  pub measuring-told : (e : Stop) (f : Fault) (end : End) → end ≡ end_of_stop e f → f ≡ no_plan text tokens → (e ≡ stop.NoPlan → HasNoPlan w.contents q) → (e ≡ stop.Write → ⊥) → Refuses end w text tokens 0 0
+  pub measuring-told : (e : Stop) (f : Fault) (end : End) → end ≡ end_of_stop e f → f ≡ no_plan text tokens → (e ≡ stop.NoPlan → HasNoneOf w.contents s) → (e ≡ stop.Write → ⊥) → Refuses end w text tokens 0 0
   measuring-told e f end ends at none wrote =
       subst (λ (x : End). Refuses x w text tokens 0 0) (sym ends)
       (subst (λ (g : Fault). Refuses (end_of_stop e g) w text tokens 0 0) (sym at) (measuring-stops e none wrote))

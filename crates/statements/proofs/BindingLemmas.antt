@@ -38,7 +38,7 @@ relation-plain : (scope : Scope) (qualifier : Token) → IsPlain (found_relation
 relation-plain [] qualifier = refl
 relation-plain (v ∷ scope) qualifier = tt
 
-item-plain : (scope : Scope) (item : Item) → IsPlain (item_columns scope item)
+pub item-plain : (scope : Scope) (item : Item) → IsPlain (item_columns scope item)
 item-plain scope Every = tt
 item-plain scope (EveryOf q) = relation-plain (under q.bytes scope) q.token
 item-plain scope (Bare n) = next-plain (the_column (look_up scope None n.bytes) n.token n.token) _ (found-plain (look_up scope None n.bytes) n.token n.token) (λ c. tt)
@@ -54,11 +54,11 @@ list-plain : (scope : Scope) (items : List Item) → IsPlain (list_columns scope
 list-plain scope [] = tt
 list-plain scope (item ∷ items) = then-plain (item_columns scope item) (list_columns scope items) (item-plain scope item) (list-plain scope items)
 
-where-plain : (scope : Scope) (type_of : ColRef → SqlType) (w : Where) → IsPlain (conjuncts_written scope type_of w)
+pub where-plain : (scope : Scope) (type_of : ColRef → SqlType) (w : Where) → IsPlain (conjuncts_written scope type_of w)
 where-plain scope type_of no_where = tt
 where-plain scope type_of (where_expr k e) = next-plain (meaning_of_expr scope type_of e) _ (expr-plain scope type_of e) (λ c. tt)
 
-limit-plain : {A : Type 0} (start : Token) (past : Option Limit) (x : A) → IsPlain (limited start past x)
+pub limit-plain : {A : Type 0} (start : Token) (past : Option Limit) (x : A) → IsPlain (limited start past x)
 limit-plain start None x = tt
 limit-plain start (Some l) x = refl
 
@@ -98,7 +98,7 @@ joins-plain first j (x ∷ xs) = next-plain (with_join first j x) _ (join-plain 
 group-plain : (j : Joined) (g : Group) → IsPlain (with_group j g)
 group-plain j (group_of r xs) = next-plain (with_relation j (source_of r)) _ (relation-added-plain j (source_of r)) (λ i. joins-plain (length j.range) i xs)
 
-groups-plain : (j : Joined) (gs : List Group) → IsPlain (with_groups j gs)
+pub groups-plain : (j : Joined) (gs : List Group) → IsPlain (with_groups j gs)
 groups-plain j [] = tt
 groups-plain j (g ∷ gs) = next-plain (with_group j g) _ (group-plain j g) (λ i. groups-plain i gs)
 
@@ -107,7 +107,7 @@ before-plain (Err f) rs one more = one
 before-plain (Ok b) (Err f) one more = more
 before-plain (Ok b) (Ok bs) one more = tt
 
-each-plain : {A B : Type 0} (bind : A → Result B Fault) (xs : List A) → ((x : A) → IsPlain (bind x)) → IsPlain (bound_each bind xs)
+pub each-plain : {A B : Type 0} (bind : A → Result B Fault) (xs : List A) → ((x : A) → IsPlain (bind x)) → IsPlain (bound_each bind xs)
 each-plain bind [] h = tt
 each-plain bind (x ∷ xs) h = before-plain (bind x) (bound_each bind xs) (h x) (each-plain bind xs h)
 
@@ -118,7 +118,7 @@ order-column-plain scope select (qualified q d n) = found-plain (look_up scope (
 order-item-plain : (scope : Scope) (select : List ColRef) (o : Ordering) → IsPlain (order_item scope select o)
 order-item-plain scope select (ordering x d z) = next-plain (order_column scope select x) _ (order-column-plain scope select x) (λ y. tt)
 
-order-plain : (scope : Scope) (select : List ColRef) (o : OrderBy) → IsPlain (order_items scope select o)
+pub order-plain : (scope : Scope) (select : List ColRef) (o : OrderBy) → IsPlain (order_items scope select o)
 order-plain scope select no_order = tt
 order-plain scope select (order_by k b o os) = each-plain (order_item scope select) (o ∷ parts_of (λ x. x) os) (order-item-plain scope select)
 

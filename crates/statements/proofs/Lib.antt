@@ -3,7 +3,9 @@ pub mod SteppingLemmas
 pub mod WordEndLemmas
 pub mod PlainLemmas
 pub mod BindingLemmas
+pub mod GroupPlainLemmas
 pub mod QueryLemmas
+pub mod FormLemmas
 pub mod AnsweringLemmas
 pub mod BlockLemmas
 pub mod RefusalLemmas
@@ -21,6 +23,8 @@ pub mod PlainAdviceLemmas
 pub mod OneAdviceLemmas
 pub mod TellingLemmas
 pub mod AdvisingLemmas
+pub mod ClaimLemmas
 pub mod CheckingLemmas
+pub mod UsingLemmas
 pub mod TallyLemmas
 pub mod ArmsLemmas

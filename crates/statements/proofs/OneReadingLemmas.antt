@@ -1,12 +1,13 @@
 -- A statement has one reading from each place on.
 use Rattle.std.proofs.Common.{◌≡◌, ℕ, inl, inr, List, ◌∷◌, drop, sym, ap, ap₂, ◌∙◌, subst, slice_range, Some, Result, Ok, Err}
 use Rattle.pg_base.specs.declared.faults.Fault.{Fault}
+use Rattle.sql_lex.specs.Ends.{token_at}
 use Rattle.sql_lex.specs.declared.tokens.Token.{Token}
 use Rattle.pg_base.specs.Faults.{syntax_fault}
 use Rattle.sql_lex.proofs.UniqueLaws.{one_list, one_fault, no_fault}
 use Rattle.sql_grammar.specs.Terminals.{token_of}
 use Rattle.sql_grammar.specs.CopyLine.{IsDataStart}
-use Rattle.sql_grammar.specs.Syntax.{Advise, CreateIndex, OrderedSelect, WindowedSelect, Statement, empty, create_table, create_index, query, copy, sizes, column_statistics, analyze, advise as advise_tree, check, use_plan, grouped}
+use Rattle.sql_grammar.specs.Syntax.{Advise, CreateIndex, GroupedSelect, MaybeExplain, unexplained, explained, OrderedSelect, WindowedSelect, windowed_select, no_limit, no_offset, window, Statement, empty, create_table, create_index, query, copy, sizes, column_statistics, analyze, advise as advise_tree, check, use_plan, grouped}
 use Rattle.sql_grammar.specs.Faults.{bytes_of, IsStatement, terminals}
 use Rattle.catalog.specs.Contents.{Contents}
 use Rattle.catalog.specs.Tables.{IsIndexRefusal, table_named}
@@ -21,13 +22,17 @@ use Rattle.query_reader.specs.Binding.{Bound, query_with}
 use Rattle.query_reader.specs.Wanted.{wanted_by}
 use Rattle.query_reader.specs.declared.wanted.Wanted.{Wanted}
 use Rattle.query_reader.specs.declared.wanted.Wanted.TheVariants as wanted
+use Rattle.group_explain.specs.Plans.{HasNoGroupPlan}
+use Rattle.group_query.specs.Grouping.{given_groups}
+use Rattle.group_reader.specs.Binding.{BoundGroups, bound_groups, grouped_with}
+use Rattle.sql_query.specs.Grouped.{GroupedQuery}
 use Rattle.sql_query.specs.Queries.{Query}
 use Rattle.sql_query.specs.WellBound.{given_of}
 use Rattle.eq_classes.proofs.UniqueLemmas.{table_one}
 use Rattle.sql_query.specs.Worlds.{World, stored_at}
-use Rattle.definitions.specs.Actions.{Action, advise, build, fill, verify}
-use Rattle.statements.specs.Accepted.{Advises, Answers, Carries, Checks, Does, Indexes, IsReadOver, IsRead, asked, asked_as}
-use Rattle.statements.specs.Faults.{endless_fault, index_fault, word_ends, IsCheckFault, in_line, in_select, without_end, rows_fault, IsRefused, IsAdviseFault, IsDefinitionFault, IsIndexFault, IsQueryFault, IsMeaningFault, IsFaultOver, in_syntax, in_meaning, IsFault, in_words, after_words}
+use Rattle.definitions.specs.Actions.{Action, advise, build, fill, follow, verify}
+use Rattle.statements.specs.Accepted.{Advises, Answers, Carries, Does, Groups, Indexes, IsReadOver, IsRead, Takes, asked, asked_as, asked_of_groups}
+use Rattle.statements.specs.Faults.{endless_fault, index_fault, word_ends, IsCheckFault, in_line, in_select, without_end, rows_fault, IsRefused, IsAdviseFault, IsDefinitionFault, IsGroupFault, IsIndexFault, IsQueryFault, IsMeaningFault, IsFaultOver, in_syntax, in_meaning, IsFault, in_words, after_words}
 use Rattle.reply.specs.Answers.{HasNoPlan}
 use Rattle.reply.specs.Replies.{Reply}
 use Rattle.statements.specs.Replies.{IsReply}
@@ -97,18 +102,29 @@ module _ (w : World) (text : List ℕ) (tokens : List Token) where
       let one : t ≡ u = table_one (given_of w.contents (query_with t p)) t u left there in
       ap (λ (z : Table). query_with z p) one ∙ ap (query_with u) (sym same)
 
+  -- and so are those of a grouped query
+  one_groups_of : (p q : BoundGroups) (t u : Table) → q ≡ p → IsClassTable (given_groups w.contents (grouped_with t p)) t → IsClassTable (given_groups w.contents (grouped_with u q)) u → grouped_with t p ≡ grouped_with u q
+  one_groups_of p q t u same left right =
+      let there : IsClassTable (given_groups w.contents (grouped_with u p)) u = subst (λ (z : BoundGroups). IsClassTable (given_groups w.contents (grouped_with u z)) u) same right in
+      let one : t ≡ u = table_one (given_groups w.contents (grouped_with t p)) t u left there in
+      ap (λ (z : Table). grouped_with z p) one ∙ ap (grouped_with u) (sym same)
+
+  one_grouping : (e : MaybeExplain) (p q : BoundGroups) (a b : Action) → q ≡ p → Groups w e p a → Groups w e q b → a ≡ b
+  one_grouping e p q a b same h k = h.asks ∙ (ap (asked_of_groups e) (one_groups_of p q h.classes k.classes same h.own k.own) ∙ sym k.asks)
+
   started : (stop : Token) (s t : ℕ) → IsDataStart text stop.end (Ok s) → IsDataStart text stop.end (Ok t) → s ≡ t
   started stop s t h k = let both : Ok s ≡ Ok t = one_start text stop.end (Ok s) (Ok t) h k in cc
 
-  one_check : (x : WindowedSelect) (stop : Token) (a b : Action) (m n : ℕ) → Checks w text tokens x stop a m → Checks w text tokens x stop b n → (a ≡ b) × (m ≡ n)
-  one_check x stop a b m n h k =
+  -- a SELECT and the lines behind it are taken as one thing
+  one_taken : (x : WindowedSelect) (stop : Token) (act : Query → List ℕ → Action) (a b : Action) (m n : ℕ) → Takes w text tokens x stop act a m → Takes w text tokens x stop act b n → (a ≡ b) × (m ≡ n)
+  one_taken x stop act a b m n h k =
       let start = started stop h.start k.start h.begins k.begins in
       let (end, next) = one_end text h.start h.end m k.end n h.ends (subst (λ (s : ℕ). IsBlockEnd text s k.end n) (sym start) k.ends) in
       let both : Ok h.meant ≡ Ok k.meant = sym h.means ∙ k.means in
       let same : k.meant ≡ h.meant = cc in
       let asked = one_query_of h.meant k.meant h.classes k.classes same h.own k.own in
       let bytes : slice_range text h.start h.end ≡ slice_range text k.start k.end = ap₂ (slice_range text) start end in
-      (h.verifies ∙ (ap₂ verify asked bytes ∙ sym k.verifies), next)
+      (h.acts ∙ (ap₂ act asked bytes ∙ sym k.acts), next)
 
   one_done : (x : Statement) (a b : Action) (m n : ℕ) → Does w text tokens x a m → Does w text tokens x b n → (a ≡ b) × (m ≡ n)
   one_done (empty e) a b m n h k = (h.0 ∙ sym k.0, h.1 ∙ sym k.1)
@@ -122,9 +138,12 @@ module _ (w : World) (text : List ℕ) (tokens : List Token) where
   one_done (create_table c t i o d ds z e) a b m n (r, h, p) (s, k, q) = one_defined (create_table c t i o d ds z e) a b m n r s h k p q
   one_done (analyze v c i e) a b m n (r, h, p) (s, k, q) = one_defined (analyze v c i e) a b m n r s h k p q
   one_done (advise_tree x) a b m n (h, i) (k, j) = (one_advised x a b h k, i ∙ sym j)
-  one_done (check p c x s) a b m n h k = one_check x s a b m n h k
-  one_done (use_plan p c d q y e) a b m n h k = absurd h
-  one_done (grouped p c d q) a b m n h k = absurd h
+  one_done (check p c x s) a b m n h k = one_taken x s verify a b m n h k
+  one_done (use_plan p c d q y s) a b m n h k = one_taken (windowed_select q y (window no_limit no_offset)) s follow a b m n h k
+  one_done (grouped p e c q) a b m n (r, h, i, x) (s, k, j, y) =
+      let both : Ok r ≡ Ok s = sym h ∙ k in
+      let same : s ≡ r = cc in
+      (one_grouping e r s a b same i j, x ∙ sym y)
   one_done (copy c i null) a b m n (r, h, p) (s, k, q) = one_defined (copy c i null) a b m n r s h k p q
 
   one_over : (a b : Action) (m n : ℕ) → IsReadOver w text tokens a m → IsReadOver w text tokens b n → (a ≡ b) × (m ≡ n)
@@ -214,6 +233,25 @@ module _ (w : World) (text : List ℕ) (tokens : List Token) where
       let plans = subst (λ (z : Bound). HasNoPlan w.contents (query_with u z)) same none in
       has-plan (wanted_by (terminals text tokens)) (query_with t p) r (subst (λ (z : Action). IsReply w z r) is reply) (subst (λ z. HasNoPlan w.contents (query_with z p)) one plans)
 
+  one_ungrouped : (x : GroupedSelect) (f g : Fault) → IsGroupFault w text tokens x f → IsGroupFault w text tokens x g → f ≡ g
+  one_ungrouped x f g (inl h) (inl k) = let both : Err f ≡ Err g = sym h ∙ k in cc
+  one_ungrouped x f g (inl h) (inr (b, k, none)) = let both : Err f ≡ Ok b = sym h ∙ k in absurd (cc)
+  one_ungrouped x f g (inr (b, h, none)) (inl k) = let both : Ok b ≡ Err g = sym h ∙ k in absurd (cc)
+  one_ungrouped x f g (inr (b, h, none)) (inr (d, k, none')) = none.is ∙ sym none'.is
+
+  -- a grouped query with a reply has a plan that groups
+  has-group-plan : (e : MaybeExplain) (g : GroupedQuery) (r : Reply) → IsReply w (asked_of_groups e g) r → HasNoGroupPlan w.contents g → ⊥
+  has-group-plan unexplained g r reply none = none reply.task reply.explanation.task reply.chosen.form reply.explanation.least.plan reply.explanation.least.is
+  has-group-plan (explained t) g r reply none = none reply.task reply.explanation.task reply.chosen.form reply.explanation.least.plan reply.explanation.least.is
+
+  not_grouped : (e : MaybeExplain) (x : GroupedSelect) (b : BoundGroups) (a : Action) (r : Reply) (f : Fault) → bound_groups w.contents (token_at tokens 0) x ≡ Ok b → Groups w e b a → IsReply w a r → IsGroupFault w text tokens x f → ⊥
+  not_grouped e x b a r f h is reply (inl k) = let both : Ok b ≡ Err f = sym h ∙ k in absurd (cc)
+  not_grouped e x b a r f h is reply (inr (d, k, un)) =
+      let both : Ok b ≡ Ok d = sym h ∙ k in
+      let same : d ≡ b = cc in
+      let one = one_groups_of b d is.classes un.classes same is.own un.own in
+      has-group-plan e (grouped_with is.classes b) r (subst (λ (z : Action). IsReply w z r) is.asks reply) (subst (HasNoGroupPlan w.contents) (sym one) un.none)
+
   one_unadvised : (x : Advise) (f g : Fault) → IsAdviseFault w tokens x f → IsAdviseFault w tokens x g → f ≡ g
   one_unadvised x f g (inl h) (inl k) = one-advice w.contents tokens x (Err f) (Err g) h k
   one_unadvised x f g (inl h) (inr (q, k, unadvised)) = absurd (one-advice w.contents tokens x (Err f) (Ok q) h k)
@@ -240,10 +278,10 @@ module _ (w : World) (text : List ℕ) (tokens : List Token) where
   one_check_fault x stop f g (without_end s b h i none at) (in_select t k j) = let both : Ok b ≡ Err g = sym i ∙ j in absurd (cc)
   one_check_fault x stop f g (without_end s b h i none at) (without_end t d k j none' at') = at ∙ (ap endless_fault (started stop s t h k) ∙ sym at')
 
-  not_checked : (x : WindowedSelect) (stop : Token) (a : Action) (n : ℕ) (f : Fault) → Checks w text tokens x stop a n → IsCheckFault w text tokens x stop f → ⊥
-  not_checked x stop a n f h (in_line k) = let both : Ok h.start ≡ Err f = one_start text stop.end (Ok h.start) (Err f) h.begins k in absurd (cc)
-  not_checked x stop a n f h (in_select t k j) = let both : Ok h.meant ≡ Err f = sym h.means ∙ j in absurd (cc)
-  not_checked x stop a n f h (without_end t d k j none at) =
+  not_taken : (x : WindowedSelect) (stop : Token) (act : Query → List ℕ → Action) (a : Action) (n : ℕ) (f : Fault) → Takes w text tokens x stop act a n → IsCheckFault w text tokens x stop f → ⊥
+  not_taken x stop act a n f h (in_line k) = let both : Ok h.start ≡ Err f = one_start text stop.end (Ok h.start) (Err f) h.begins k in absurd (cc)
+  not_taken x stop act a n f h (in_select t k j) = let both : Ok h.meant ≡ Err f = sym h.means ∙ j in absurd (cc)
+  not_taken x stop act a n f h (without_end t d k j none at) =
       no_end text h.start h.end n h.ends (subst (λ (s : ℕ). HaveNoMark (lines_of (drop s text))) (sym (started stop h.start t h.begins k)) none)
 
   one_meant : (x : Statement) (f g : Fault) → IsMeaningFault w text tokens x f → IsMeaningFault w text tokens x g → f ≡ g
@@ -256,8 +294,8 @@ module _ (w : World) (text : List ℕ) (tokens : List Token) where
   one_meant (analyze p c n e) f g h k = one_definition (analyze p c n e) f g h k
   one_meant (advise_tree x) f g h k = one_unadvised x f g h k
   one_meant (check p c x s) f g h k = one_check_fault x s f g h k
-  one_meant (use_plan p c d q y e) f g h k = absurd h
-  one_meant (grouped p c d q) f g h k = absurd h
+  one_meant (use_plan p c d q y s) f g h k = one_check_fault (windowed_select q y (window no_limit no_offset)) s f g h k
+  one_meant (grouped p c d q) f g h k = one_ungrouped q f g h k
   one_meant (copy c n null) f g h k = one_definition (copy c n null) f g h k
 
   not_meant : (x : Statement) (a : Action) (n : ℕ) (r : Reply) (f : Fault) → Does w text tokens x a n → IsReply w a r → IsMeaningFault w text tokens x f → ⊥
@@ -269,9 +307,9 @@ module _ (w : World) (text : List ℕ) (tokens : List Token) where
   not_meant (column_statistics c i d p nulls commons bounds e) a n r f (s, h, u) reply k = no_definition (column_statistics c i d p nulls commons bounds e) a n s f h u k
   not_meant (analyze v c i e) a n r f (s, h, p) reply k = no_definition (analyze v c i e) a n s f h p k
   not_meant (advise_tree x) a n r f h reply k = has-advice x a n r f h reply k
-  not_meant (check p c x s) a n r f h reply k = not_checked x s a n f h k
-  not_meant (use_plan p c d q y e) a n r f h reply k = absurd k
-  not_meant (grouped p c d q) a n r f h reply k = absurd k
+  not_meant (check p c x s) a n r f h reply k = not_taken x s verify a n f h k
+  not_meant (use_plan p c d q y s) a n r f h reply k = not_taken (windowed_select q y (window no_limit no_offset)) s follow a n f h k
+  not_meant (grouped p e c q) a n r f (b, h, is, y) reply k = not_grouped e q b a r f h is reply k
   not_meant (copy c i null) a n r f (s, h, p) reply k = no_definition (copy c i null) a n s f h p k
 
   one_fault_over : (f g : Fault) → IsFaultOver w text tokens f → IsFaultOver w text tokens g → f ≡ g

@@ -3,7 +3,7 @@ use Rattle.std.proofs.Common.{◌≡◌, ℕ, ◌-◌, ◌<◌, ◌≤◌, inl, 
 use Rattle.std.specs.List.{list_all}
 use Rattle.std.specs.Str.{bytes_eq}
 use Rattle.std.proofs.lemmas.Bool.{cases_lt}
-use Rattle.std.proofs.lemmas.List.{length-drop, length-take, map-append, nil_from_length}
+use Rattle.std.proofs.lemmas.List.{append_assoc, length-drop, length-take, map-append, nil_from_length}
 use Rattle.std.proofs.lemmas.Option.{slice_get_within}
 use Rattle.std.proofs.lemmas.List.Elements.{All-contains}
 use Rattle.std.proofs.lemmas.List.Sums.{AllPass-from_list_all}
@@ -19,11 +19,11 @@ use Rattle.sql_lex.specs.declared.tokens.Kind.TheVariants as kinds
 use Rattle.sql_lex.specs.declared.tokens.Token.{Token}
 use Rattle.sql_lex.specs.Forms.{IsToken, symbols}
 use Rattle.sql_lex.specs.Words.{AreWords, IsNext, is_last}
-use Rattle.sql_grammar.specs.Terminals.{Ident, Said, t_semicolon, token_of}
-use Rattle.sql_grammar.specs.Syntax.{CopyWords, IsOffered, WindowedSelect, Lit, Statement, empty, create_table, create_index, query, copy, sizes, column_statistics, analyze, advise, check, use_plan, grouped}
+use Rattle.sql_grammar.specs.Terminals.{Ident, Said, Terminal, t_semicolon, token_of}
+use Rattle.sql_grammar.specs.Syntax.{CopyWords, IsOffered, OrderBy, Select, WindowedSelect, windowed_select, no_limit, no_offset, window, Lit, Statement, empty, create_table, create_index, query, copy, sizes, column_statistics, analyze, advise, check, use_plan, grouped}
 use Rattle.sql_grammar.specs.Unique.{token_in}
-use Rattle.sql_grammar.specs.Words.{words_of, words_of_windowed}
-use Rattle.sql_grammar.specs.declared.offered.TheConstants.{READS_CHECK}
+use Rattle.sql_grammar.specs.Words.{words_of, words_of_order, words_of_select, words_of_windowed}
+use Rattle.sql_grammar.specs.declared.offered.TheConstants.{READS_CHECK, READS_PLAN}
 use Rattle.sql_grammar.specs.Faults.{bytes_of, fault_at, terminals}
 use Rattle.sql_grammar.specs.CopyLine.{IsDataStart, after_blanks}
 use Rattle.catalog.specs.Contents.{Contents, table_at}
@@ -37,11 +37,12 @@ use Rattle.sql_grammar.proofs.ExprTrees.{tokens-are}
 use Rattle.ddl_reader.specs.Columns.{Bound, bound_all, written, further}
 use Rattle.ddl_reader.specs.Tables.{Definition, table, sizes_for, statistics_for, data_for, analysis_of, Reading, data_after, limited, table_of, table_reading}
 use Rattle.pg_value.specs.Fields.{null_text}
+use Rattle.sql_query.specs.Queries.{Query}
 use Rattle.sql_query.specs.Worlds.{World}
-use Rattle.definitions.specs.Actions.{Action}
+use Rattle.definitions.specs.Actions.{Action, follow, verify}
 use Rattle.statements.proofs.BlockLemmas.{block-within}
 use Rattle.sql_lex.specs.Ends.{token_at, end_of}
-use Rattle.statements.specs.Accepted.{Carries, Checks, Does, IsReadOver}
+use Rattle.statements.specs.Accepted.{Carries, Does, IsReadOver, Takes}
 
 -- some byte, tested by whether the list is empty
 abbrev some : List ℕ → Bool
@@ -199,9 +200,17 @@ check-end text tokens p k x stop e =
     let apart : map token_in (words_of_windowed x ++ t_semicolon stop ∷ []) ≡ map token_in (words_of_windowed x) ++ stop ∷ [] = map-append token_in (words_of_windowed x) (t_semicolon stop ∷ []) in
     sym (last-end (k ∷ map token_in (words_of_windowed x)) stop) ∙ (ap (λ (l : List Token). end_of (k ∷ l)) (sym apart) ∙ ap end_of all)
 
--- the lines of a certificate, and the one that ends them
-checks-behind : (w : World) (text : List ℕ) (tokens : List Token) (x : WindowedSelect) (stop : Token) (action : Action) (next : ℕ) → Checks w text tokens x stop action next → (stop.end < next) × (next ≤ length text)
-checks-behind w text tokens x stop action next is =
+pub use-end : (text : List ℕ) (tokens : List Token) (p : IsOffered READS_PLAN) (u l : Token) (q : Select) (y : OrderBy) (stop : Token) → words_of (use_plan p u l q y stop) ≡ terminals text tokens → stop.end ≡ end_of tokens
+use-end text tokens p u l q y stop e =
+    let all = tokens-are (words_of (use_plan p u l q y stop)) text tokens e in
+    let end : List Terminal = t_semicolon stop ∷ [] in
+    let apart = map-append token_in (words_of_select q) (words_of_order y ++ end) ∙ (ap (λ (l : List Token). map token_in (words_of_select q) ++ l) (map-append token_in (words_of_order y) end) ∙
+    sym (append_assoc (map token_in (words_of_select q)) (map token_in (words_of_order y)) (stop ∷ []))) in
+    sym (last-end (u ∷ l ∷ (map token_in (words_of_select q) ++ map token_in (words_of_order y))) stop) ∙ (ap (λ (ts : List Token). end_of (u ∷ l ∷ ts)) (sym apart) ∙ ap end_of all)
+
+-- the lines behind a statement, and the one that ends them
+takes-behind : (w : World) (text : List ℕ) (tokens : List Token) (x : WindowedSelect) (stop : Token) (act : Query → List ℕ → Action) (action : Action) (next : ℕ) → Takes w text tokens x stop act action next → (stop.end < next) × (next ≤ length text)
+takes-behind w text tokens x stop act action next is =
     let begins = start-behind text stop.end is.start is.begins in
     let lies = block-within text is.start is.end next begins.1 is.ends in
     (omega (arith, begins.0, lies.order, lies.end_order), lies.within)
@@ -234,9 +243,11 @@ does-behind w text from tokens (analyze p k n e) action next words spelled does 
     at-end-of text from next (end_of tokens) (last-by w text tokens does.0 (analysis w.contents n) action next does.1 (analysis-last w text tokens w.contents n) does.2) (ends-behind text from tokens words)
 does-behind w text from tokens (advise x) action next words spelled does = at-end-of text from next (end_of tokens) does.1 (ends-behind text from tokens words)
 does-behind w text from tokens (check p k x s) action next words spelled does =
-    behind-data text from s.end (end_of tokens) next (check-end text tokens p k x s spelled) (ends-behind text from tokens words) (checks-behind w text tokens x s action next does)
-does-behind w text from tokens (use_plan p k l q y s) action next words spelled does = absurd does
-does-behind w text from tokens (grouped p k l q) action next words spelled does = absurd does
+    behind-data text from s.end (end_of tokens) next (check-end text tokens p k x s spelled) (ends-behind text from tokens words) (takes-behind w text tokens x s verify action next does)
+does-behind w text from tokens (use_plan p k l q y s) action next words spelled does =
+    behind-data text from s.end (end_of tokens) next (use-end text tokens p k l q y s spelled) (ends-behind text from tokens words)
+    (takes-behind w text tokens (windowed_select q y (window no_limit no_offset)) s follow action next does)
+does-behind w text from tokens (grouped p k l q) action next words spelled does = at-end-of text from next (end_of tokens) does.3 (ends-behind text from tokens words)
 does-behind w text from tokens (copy k n null) action next words spelled does =
     behind-data text from k.stop.end (end_of tokens) next (copy-end text tokens k n null spelled) (ends-behind text from tokens words)
     (data-behind w text tokens action next k.stop.end (table_named w.contents (bytes_of n)) (token_of n) null.token null.value does.1.0 does.0 does.1.1 does.1.2 does.2)

@@ -80,7 +80,7 @@ found-plain NoTable qualifier name = refl
 found-plain NoColumn qualifier name = refl
 found-plain Many qualifier name = refl
 
-column-plain : (scope : Scope) (c : Col) → IsPlain (column_of scope c)
+pub column-plain : (scope : Scope) (c : Col) → IsPlain (column_of scope c)
 column-plain scope (bare n) = found-plain (look_up scope None (bytes_of n)) (token_of n) (token_of n)
 column-plain scope (qualified q m n) = found-plain (look_up scope (Some (bytes_of q)) (bytes_of n)) (token_of q) (token_of n)
 

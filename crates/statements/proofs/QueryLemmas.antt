@@ -1,5 +1,5 @@
 -- What the reading of a SELECT says of a statement that is no definition and is not empty.
-use Rattle.std.proofs.Common.{◌≡◌, ◌⊎◌, Some, ℕ, ◌<◌, ◌≤◌, Bool, true, false, cond, nat_eq, List, [], ◌∷◌, length, inl, inr, Ok, Err, Result, refl, sym, ap, subst, ◌∙◌, arith}
+use Rattle.std.proofs.Common.{◌≡◌, ◌⊎◌, ℕ, ◌<◌, ◌≤◌, Bool, true, false, cond, nat_eq, List, [], ◌∷◌, length, inl, inr, Ok, Err, Result, IfOk, refl, sym, ap, subst, ◌∙◌, arith}
 use Rattle.std.proofs.lemmas.Bool.Decides.{nat_tests}
 use Rattle.std.proofs.lemmas.List.{length-map}
 use Rattle.pg_base.specs.declared.limits.TheConstants.{MOST_SCRIPT_BYTES}
@@ -11,29 +11,39 @@ use Rattle.sql_lex.specs.Words.{AreWords}
 use Rattle.sql_lex.specs.Ends.{end_of, token_at}
 use Rattle.sql_grammar.specs.Terminals.{Terminal, class_of}
 use Rattle.sql_grammar.specs.Table.{is_ending}
-use Rattle.sql_grammar.specs.Reading.{is_end, ends_once}
-use Rattle.sql_grammar.specs.Syntax.{OrderedSelect, ordered_select, WindowedSelect, windowed_select, no_explain, explain, explain_table, select_from, index_on, semicolon, text_end, Statement, empty, create_table, create_index, query, copy, sizes, column_statistics, analyze, advise, advise_of, check, use_plan, grouped}
+use Rattle.sql_grammar.specs.Reading.{is_end, ends_once, terminal_of}
+use Rattle.sql_grammar.specs.declared.offered.TheConstants.{READS_GROUPS}
+use Rattle.sql_grammar.specs.Syntax.{GroupedSelect, IsOffered, MaybeExplain, unexplained, explained, OrderedSelect, ordered_select, no_explain, explain, explain_table, select_from, index_on, semicolon, text_end, Statement, empty, create_table, create_index, query, copy, sizes, column_statistics, analyze, advise, advise_of, check, use_plan, grouped as grouped_tree}
 use Rattle.sql_grammar.specs.Words.{words_of}
 use Rattle.sql_grammar.specs.Faults.{IsFirstFault, IsStatement, IsWhole, terminals}
 use Rattle.sql_grammar.specs.Spelled.{IsSpelled}
 use Rattle.sql_grammar.proofs.StatementWords.{words-are-tokens}
 use Rattle.advise_reader.specs.Statements.{begins_advise}
 use Rattle.ddl_reader.specs.Statements.{begins_ddl, begins_index}
-use Rattle.query_reader.specs.Parts.{IsSelectAt, select_of}
-use Rattle.query_reader.specs.Select.{AreNoOther, AreSelect, IsGrammatical, IsBoundAs, IsNoSelectAt, is_query, words_before}
-use Rattle.query_reader.specs.Wanted.{wanted_by, words_by}
-use Rattle.sql_grammar.specs.Reading.{terminal_of}
-use Rattle.query_reader.specs.Binding.{Bound, bound, bound_part, query_with}
 use Rattle.catalog.specs.Contents.{Contents}
-use Rattle.sql_query.specs.Queries.{Query}
 use Rattle.eq_classes.specs.Holding.{IsClassTable}
+use Rattle.query_reader.specs.Select.{AreGrouped, AreNoOther, AreSelect, IsBoundAs, is_explained, is_query, words_before}
+use Rattle.query_reader.specs.Wanted.{wanted_by, words_by}
+use Rattle.query_reader.specs.Binding.{Bound, bound, query_with}
+use Rattle.group_query.specs.Grouping.{given_groups}
+use Rattle.group_reader.specs.Binding.{BoundGroups, bound_groups, grouped_with}
+use Rattle.group_reader.specs.Selected.{IsAnyGrammatical, IsReadGrouped, IsReadPlain, IsWellSelected}
+use Rattle.group_reader.specs.declared.selected.Selected.{Selected}
+use Rattle.group_reader.specs.declared.selected.Selected.TheVariants.{Plain, Grouped}
+use Rattle.group_explain.specs.Plans.{HasNoGroupPlan}
+use Rattle.sql_query.specs.Grouped.{GroupedQuery}
+use Rattle.sql_query.specs.Queries.{Query}
 use Rattle.sql_query.specs.WellBound.{given_of}
 use Rattle.sql_query.specs.Worlds.{World}
 use Rattle.reply.specs.Answers.{HasNoPlan}
-use Rattle.statements.specs.Accepted.{IsReadOver, asked}
+use Rattle.definitions.specs.Actions.{answer_groups, explain_groups}
+use Rattle.statements.specs.Accepted.{IsReadOver, asked, asked_of_groups}
 use Rattle.statements.specs.Faults.{IsFaultOver, in_syntax, in_meaning, no_plan}
-use Rattle.statements.specs.Steps.{begins_check}
+use Rattle.statements.specs.Questions.{HasNoneOf, IsBoundTo, asked_of, groups_asked}
+use Rattle.statements.specs.Steps.{begins_check, begins_use}
+use Rattle.statements.proofs.ArmsLemmas.{has-arms}
 use Rattle.statements.proofs.BindingLemmas.{bound-plain}
+use Rattle.statements.proofs.GroupPlainLemmas.{groups-bound-plain}
 use Rattle.statements.proofs.PlainLemmas.{first-plain}
 
 -- the first word is `;` or the text's end
@@ -41,21 +51,21 @@ abbrev begins_end : List Terminal → Bool
 begins_end [] = false
 begins_end (word ∷ _) = is_ending (class_of word)
 
--- a statement that begins with neither and is no definition, no ADVISE and no CHECK is a SELECT
-no-other : (x : Statement) (ts : List Terminal) → begins_ddl ts ≡ false → begins_index ts ≡ false → begins_end ts ≡ false → begins_advise ts ≡ false → begins_check ts ≡ false → words_of x ≡ ts → is_query x ≡ true
-no-other (empty (semicolon t)) ts other index goes advice judged is = let e = ap begins_end is ∙ goes in absurd (cc (e))
-no-other (empty (text_end t)) ts other index goes advice judged is = let e = ap begins_end is ∙ goes in absurd (cc (e))
-no-other (create_table k t n o c cs m end) ts other index goes advice judged is = let e = ap begins_ddl is ∙ other in absurd (cc (e))
-no-other (create_index (index_on k i n o t u p x xs m c w e)) ts other index goes advice judged is = let h = ap begins_index is ∙ index in absurd (cc (h))
-no-other (query q) ts other index goes advice judged is = refl
-no-other (sizes k n r p end) ts other index goes advice judged is = let e = ap begins_ddl is ∙ other in absurd (cc (e))
-no-other (column_statistics k n c d nulls commons bounds end) ts other index goes advice judged is = let e = ap begins_ddl is ∙ other in absurd (cc (e))
-no-other (analyze p k n end) ts other index goes advice judged is = let e = ap begins_ddl is ∙ other in absurd (cc (e))
-no-other (advise (advise_of p t n o x xs m q qs e)) ts other index goes advice judged is = let e = ap begins_advise is ∙ advice in absurd (cc (e))
-no-other (check p k x s) ts other index goes advice judged is = let e = ap begins_check is ∙ judged in absurd (cc (e))
-no-other (use_plan p k l q y s) ts other index goes advice judged is = absurd p
-no-other (grouped p k l q) ts other index goes advice judged is = absurd p
-no-other (copy k n null) ts other index goes advice judged is = let e = ap begins_ddl is ∙ other in absurd (cc (e))
+-- a statement that begins with neither and is no definition, no ADVISE, no CHECK and no USE PLAN is a SELECT
+no-other : (x : Statement) (ts : List Terminal) → begins_ddl ts ≡ false → begins_index ts ≡ false → begins_end ts ≡ false → begins_advise ts ≡ false → begins_check ts ≡ false → begins_use ts ≡ false → words_of x ≡ ts → is_query x ≡ true
+no-other (empty (semicolon t)) ts other index goes advice judged used is = let e = ap begins_end is ∙ goes in absurd (cc (e))
+no-other (empty (text_end t)) ts other index goes advice judged used is = let e = ap begins_end is ∙ goes in absurd (cc (e))
+no-other (create_table k t n o c cs m end) ts other index goes advice judged used is = let e = ap begins_ddl is ∙ other in absurd (cc (e))
+no-other (create_index (index_on k i n o t u p x xs m c w e)) ts other index goes advice judged used is = let h = ap begins_index is ∙ index in absurd (cc (h))
+no-other (query q) ts other index goes advice judged used is = refl
+no-other (sizes k n r p end) ts other index goes advice judged used is = let e = ap begins_ddl is ∙ other in absurd (cc (e))
+no-other (column_statistics k n c d nulls commons bounds end) ts other index goes advice judged used is = let e = ap begins_ddl is ∙ other in absurd (cc (e))
+no-other (analyze p k n end) ts other index goes advice judged used is = let e = ap begins_ddl is ∙ other in absurd (cc (e))
+no-other (advise (advise_of p t n o x xs m q qs e)) ts other index goes advice judged used is = let e = ap begins_advise is ∙ advice in absurd (cc (e))
+no-other (check p k x s) ts other index goes advice judged used is = let e = ap begins_check is ∙ judged in absurd (cc (e))
+no-other (use_plan p k l q y s) ts other index goes advice judged used is = let e = ap begins_use is ∙ used in absurd (cc (e))
+no-other (grouped_tree p k l q) ts other index goes advice judged used is = refl
+no-other (copy k n null) ts other index goes advice judged used is = let e = ap begins_ddl is ∙ other in absurd (cc (e))
 
 -- where more words than one stand, the first is no end
 goes-by : (b : Bool) (n : ℕ) (rest : Bool) → 0 < n → cond b (nat_eq n 0) rest ≡ true → b ≡ false
@@ -68,8 +78,8 @@ goes-on text from (t ∷ ts) words short some =
     goes-by (is_end text t) (length ts) (ends_once text ts) (omega (arith, some)) (words-are-tokens text from (t ∷ ts) words (omega (arith, short))).last
 
 pub are-no-other : (text : List ℕ) (from : ℕ) (tokens : List Token) → AreWords text from tokens → length text ≤ MOST_SCRIPT_BYTES → 1 < length tokens → begins_ddl (terminals text tokens) ≡ false → begins_index (terminals text tokens) ≡ false → begins_advise (terminals text tokens) ≡ false →
-    begins_check (terminals text tokens) ≡ false → AreNoOther text tokens
-are-no-other text from tokens words short some other index advice judged = λ x is. no-other x (terminals text tokens) other index (goes-on text from tokens words short some) advice judged is
+    begins_check (terminals text tokens) ≡ false → begins_use (terminals text tokens) ≡ false → AreNoOther text tokens
+are-no-other text from tokens words short some other index advice judged used = λ x is. no-other x (terminals text tokens) other index (goes-on text from tokens words short some) advice judged used is
 
 -- what is read where this is meant is the query of it with its own classes, and a fault that is told is its fault
 pub meant-ok : (r : Result Bound Fault) (read : Query) → IsBoundAs r (Ok read) → (b : Bound) × (r ≡ Ok b) × (read ≡ query_with read.classes b)
@@ -80,23 +90,30 @@ pub meant-fault : (r : Result Bound Fault) (f : Fault) → IsBoundAs r (Err (ref
 meant-fault (Ok b) f is = absurd is
 meant-fault (Err told) f is = ap Err (sym is)
 
--- what is read of a SELECT is what its statement means
-abbrev pub Binds : World → List ℕ → List Token → Result Query Refusal → Type 0
-Binds w text tokens r = (x : OrderedSelect) (start : Token) (later : List Token) → tokens ≡ start ∷ later → IsSpelled (query x) text tokens → IsBoundAs (bound w.contents start x) r
+-- the same of what is read of a SELECT of either form
+plain-ok : (r : Result Bound Fault) (q : Query) → IsReadPlain r (Ok (Plain q)) → (b : Bound) × (r ≡ Ok b) × (q ≡ query_with q.classes b)
+plain-ok (Ok b) q is = (b, refl, is)
+plain-ok (Err f) q is = absurd is
 
--- what a reading says of the grammar of a SELECT
-abbrev pub Grammar : List ℕ → List Token → Result Query Refusal → Type 0
-Grammar text tokens (Ok read) = AreSelect text tokens
-Grammar text tokens (Err (refusal.Fault fault)) = IsFirstFault IsStatement text tokens fault ⊎ AreSelect text tokens
-Grammar text tokens (Err refusal.Memory) = AreSelect text tokens
+plain-fault : (r : Result Bound Fault) (f : Fault) → IsReadPlain r (Err (refusal.Fault f)) → r ≡ Err f
+plain-fault (Ok b) f is = absurd is
+plain-fault (Err told) f is = ap Err (sym is)
 
--- a SELECT with its order and its window
-abbrev pub whole_of : OrderedSelect → WindowedSelect
-whole_of (ordered_select e q y v end) = windowed_select q y v
+groups-ok : (r : Result BoundGroups Fault) (g : GroupedQuery) → IsReadGrouped r (Ok (Grouped g)) → (b : BoundGroups) × (r ≡ Ok b) × (g ≡ grouped_with g.base.classes b)
+groups-ok (Ok b) g is = (b, refl, is)
+groups-ok (Err f) g is = absurd is
 
--- a SELECT is read where it stands
-abbrev pub StandsAt : List ℕ → List Token → Type 0
-StandsAt text tokens = (s : Statement) (x : WindowedSelect) → select_of s ≡ Some x → IsSpelled s text tokens → IsSelectAt text tokens (words_before (terminals text tokens)) x
+groups-fault : (r : Result BoundGroups Fault) (f : Fault) → IsReadGrouped r (Err (refusal.Fault f)) → r ≡ Err f
+groups-fault (Ok b) f is = absurd is
+groups-fault (Err told) f is = ap Err (sym is)
+
+-- what a reading of a SELECT of either form says: of the grammar, and of its meaning where it is of the one form or the other
+pub record Reads (w : World) (text : List ℕ) (tokens : List Token) (r : Result Selected Refusal) : Type 0 where
+  pub grammar : IsAnyGrammatical text tokens r
+  pub plain : (x : OrderedSelect) (start : Token) (later : List Token) → tokens ≡ start ∷ later → IsSpelled (query x) text tokens → IsReadPlain (bound w.contents start x) r
+  pub grouped : (offered : IsOffered READS_GROUPS) (e : MaybeExplain) (k : Token) (x : GroupedSelect) (start : Token) (later : List Token) → tokens ≡ start ∷ later →
+      IsSpelled (grouped_tree offered e k x) text tokens → IsReadGrouped (bound_groups w.contents start x) r
+  pub well : IfOk r (IsWellSelected w.contents)
 
 -- behind EXPLAIN one word stands before SELECT, behind EXPLAIN (TABLE) four, and else none; further words follow
 abbrev StandsBehind : List Terminal → Type 0
@@ -107,99 +124,148 @@ words-before (ordered_select no_explain (select_from k o os m g gs w) y v end) t
 words-before (ordered_select (explain t) (select_from k o os m g gs w) y v end) ts is = subst StandsBehind is (refl, omega arith)
 words-before (ordered_select (explain_table p t o u n) (select_from k z os m g gs w) y v end) ts is = subst StandsBehind is (refl, omega arith)
 
+groups-before : (p : IsOffered READS_GROUPS) (e : MaybeExplain) (k : Token) (x : GroupedSelect) (ts : List Terminal) → words_of (grouped_tree p e k x) ≡ ts → StandsBehind ts
+groups-before p unexplained k x ts is = subst StandsBehind is (refl, omega arith)
+groups-before p (explained t) k x ts is = subst StandsBehind is (refl, omega arith)
+
+stands-behind : (text : List ℕ) (tokens : List Token) → AreSelect text tokens ⊎ AreGrouped text tokens → StandsBehind (terminals text tokens)
+stands-behind text tokens (inl (x, spelled)) = words-before x (terminals text tokens) spelled.words
+stands-behind text tokens (inr s) = groups-before s.offered s.explaining s.word s.select (terminals text tokens) s.spelled.words
+
 -- a number that is that many words where they are fewer than all is the SELECT's
-pub place-of-select : (text : List ℕ) (tokens : List Token) (first : ℕ) → first ≡ words_by (wanted_by (terminals text tokens)) → AreSelect text tokens →
+pub place-of-select : (text : List ℕ) (tokens : List Token) (first : ℕ) → first ≡ words_by (wanted_by (terminals text tokens)) → AreSelect text tokens ⊎ AreGrouped text tokens →
     (first ≡ words_before (terminals text tokens)) × (first < length tokens)
-place-of-select text tokens first is (x, spelled) =
-    let stands = words-before x (terminals text tokens) spelled.words in
+place-of-select text tokens first is select =
+    let stands = stands-behind text tokens select in
     let place : first ≡ words_before (terminals text tokens) = is ∙ sym stands.0 in
     let few : words_before (terminals text tokens) < length (terminals text tokens) = stands.1 in
     let many : length (terminals text tokens) ≡ length tokens = length-map tokens (terminal_of text) in
     (place, omega (arith, place, few, many))
 
-module _ (text : List ℕ) (tokens : List Token) (kind : AreNoOther text tokens) where
-  a-select : (x : Statement) → is_query x ≡ true → IsSpelled x text tokens → AreSelect text tokens
-  a-select (query x) is spelled = (x, spelled)
-  a-select (empty e) is spelled = cc (is)
-  a-select (create_table k t n o c cs m e) is spelled = cc (is)
-  a-select (create_index x) is spelled = cc (is)
-  a-select (sizes k n r p e) is spelled = cc (is)
-  a-select (column_statistics k n c d nulls commons bounds e) is spelled = cc (is)
-  a-select (analyze p k n e) is spelled = cc (is)
-  a-select (advise x) is spelled = cc (is)
-  a-select (check p k x e) is spelled = cc (is)
-  a-select (use_plan p k l q y e) is spelled = cc (is)
-  a-select (grouped p k l q) is spelled = cc (is)
-  a-select (copy k n null) is spelled = cc (is)
+-- EXPLAIN of a SELECT that groups is told by its first word
+explains-by : (p : IsOffered READS_GROUPS) (e : MaybeExplain) (k : Token) (x : GroupedSelect) (g : GroupedQuery) (ts : List Terminal) → words_of (grouped_tree p e k x) ≡ ts →
+    groups_asked (is_explained ts) g ≡ asked_of_groups e g
+explains-by p unexplained k x g ts is = let P : List Terminal → Type 0 = λ us. groups_asked (is_explained us) g ≡ answer_groups g in subst P is refl
+explains-by p (explained t) k x g ts is = let P : List Terminal → Type 0 = λ us. groups_asked (is_explained us) g ≡ explain_groups g in subst P is refl
 
-  -- a whole statement is one
-  whole-select : IsWhole text tokens → AreSelect text tokens
-  whole-select whole =
-      let (x, levels, words) = whole.statement in
-      a-select x (kind x words) (record { words = words; limits = whole.within; levels = levels })
+-- a statement of no other kind is a SELECT of the one form or the other
+of-a-form : (text : List ℕ) (tokens : List Token) (x : Statement) → is_query x ≡ true → IsSpelled x text tokens → AreSelect text tokens ⊎ AreGrouped text tokens
+of-a-form text tokens (query x) is spelled = inl (x, spelled)
+of-a-form text tokens (grouped_tree p e k x) is spelled = inr (record { offered = p; explaining = e; word = k; select = x; spelled = spelled })
+of-a-form text tokens (empty e) is spelled = cc (is)
+of-a-form text tokens (create_table k t n o c cs m e) is spelled = cc (is)
+of-a-form text tokens (create_index x) is spelled = cc (is)
+of-a-form text tokens (sizes k n r p e) is spelled = cc (is)
+of-a-form text tokens (column_statistics k n c d nulls commons bounds e) is spelled = cc (is)
+of-a-form text tokens (analyze p k n e) is spelled = cc (is)
+of-a-form text tokens (advise x) is spelled = cc (is)
+of-a-form text tokens (check p k x e) is spelled = cc (is)
+of-a-form text tokens (use_plan p k l q y e) is spelled = cc (is)
+of-a-form text tokens (copy k n null) is spelled = cc (is)
 
-  is-whole : AreSelect text tokens → IsWhole text tokens
-  is-whole (x, spelled) = record { statement = (query x, spelled.levels, spelled.words); within = spelled.limits }
-
-  module _ (first : ℕ) (stands : StandsAt text tokens) (is : AreSelect text tokens → first ≡ words_before (terminals text tokens)) where
-    selected : (x : OrderedSelect) → select_of (query x) ≡ Some (whole_of x)
-    selected (ordered_select e q y v end) = refl
-
-    at-first : (x : OrderedSelect) → IsSpelled (query x) text tokens → IsSelectAt text tokens first (whole_of x)
-    at-first x spelled =
-        subst (λ (n : ℕ). IsSelectAt text tokens n (whole_of x)) (sym (is (x, spelled))) (stands (query x) (whole_of x) (selected x) spelled)
-
-    not-missing : (f : Fault) → IsWhole text tokens → IsNoSelectAt text tokens first f → ⊥
-    not-missing f whole missing = let (x, spelled) = whole-select whole in missing.none (whole_of x, at-first x spelled)
-
-    pub grammar-of : (r : Result Query Refusal) → IsGrammatical text tokens first r → Grammar text tokens r
-    grammar-of (Ok read) g = whole-select g.whole
-    grammar-of (Err (refusal.Fault f)) (inl fault) = inl fault
-    grammar-of (Err (refusal.Fault f)) (inr (inl (whole, missing))) = absurd (not-missing f whole missing)
-    grammar-of (Err (refusal.Fault f)) (inr (inr g)) = inr (whole-select g.whole)
-    grammar-of (Err refusal.Memory) g = whole-select g.whole
-
-    part-binds : (c : Contents) (start : Token) (x : OrderedSelect) (r : Result Query Refusal) → IsBoundAs (bound_part c start (whole_of x)) r → IsBoundAs (bound c start x) r
-    part-binds c start (ordered_select e q y v end) r h = h
-
-    pub binds-of : (w : World) (r : Result Query Refusal) →
-        ((x : WindowedSelect) (start : Token) (later : List Token) → tokens ≡ start ∷ later → IsWhole text tokens → IsSelectAt text tokens first x → IsBoundAs (bound_part w.contents start x) r) →
-        Binds w text tokens r
-    binds-of w r h = λ x start later split spelled. part-binds w.contents start x r (h (whole_of x) start later split (is-whole (x, spelled)) (at-first x spelled))
+whole-select : (text : List ℕ) (tokens : List Token) → AreNoOther text tokens → IsWhole text tokens → AreSelect text tokens ⊎ AreGrouped text tokens
+whole-select text tokens kind whole =
+    let (x, levels, words) = whole.statement in
+    of-a-form text tokens x (kind x words) (record { words = words; limits = whole.within; levels = levels })
 
 -- the words of a statement begin with its first token
 pub first-token : (tokens : List Token) → 0 < length tokens → (later : List Token) × (tokens ≡ token_at tokens 0 ∷ later)
 first-token [] some = absurd (omega (arith, some))
 first-token (t ∷ ts) some = (ts, refl)
 
+module _ (w : World) (text : List ℕ) (tokens : List Token) (some : 0 < length tokens) (r : Result Selected Refusal) (reads : Reads w text tokens r) where
+  plain-first : (x : OrderedSelect) → IsSpelled (query x) text tokens → IsReadPlain (bound w.contents (token_at tokens 0) x) r
+  plain-first x spelled = let (later, is) = first-token tokens some in reads.plain x (token_at tokens 0) later is spelled
+
+  groups-first : (s : AreGrouped text tokens) → IsReadGrouped (bound_groups w.contents (token_at tokens 0) s.select) r
+  groups-first s = let (later, is) = first-token tokens some in reads.grouped s.offered s.explaining s.word s.select (token_at tokens 0) later is s.spelled
+
 module _ (w : World) (text : List ℕ) (tokens : List Token) (some : 0 < length tokens) where
-  binds-first : (r : Result Query Refusal) (x : OrderedSelect) → Binds w text tokens r → IsSpelled (query x) text tokens → IsBoundAs (bound w.contents (token_at tokens 0) x) r
-  binds-first r x binds spelled = let (later, is) = first-token tokens some in binds x (token_at tokens 0) later is spelled
+  module _ (q : Query) (reads : Reads w text tokens (Ok (Plain q))) where
+    plain-meant : (b : Bound) × (bound w.contents (token_at tokens 0) reads.grammar.0 ≡ Ok b) × (q ≡ query_with q.classes b)
+    plain-meant = plain-ok (bound w.contents (token_at tokens 0) reads.grammar.0) q (plain-first w text tokens some (Ok (Plain q)) reads reads.grammar.0 reads.grammar.1)
 
-  module _ (p : Query) (select : AreSelect text tokens) (binds : Binds w text tokens (Ok p)) (own : IsClassTable (given_of w.contents p) p.classes) where
-    meant : (b : Bound) × (bound w.contents (token_at tokens 0) select.0 ≡ Ok b) × (p ≡ query_with p.classes b)
-    meant = meant-ok (bound w.contents (token_at tokens 0) select.0) p (binds-first (Ok p) select.0 binds select.1)
+    plain-table : (b : Bound) → q ≡ query_with q.classes b → IsClassTable (given_of w.contents (query_with q.classes b)) q.classes
+    plain-table b is = subst (λ (x : Query). IsClassTable (given_of w.contents x) q.classes) is reads.well.1
 
-    its-table : (b : Bound) → p ≡ query_with p.classes b → IsClassTable (given_of w.contents (query_with p.classes b)) p.classes
-    its-table b is = subst (λ (x : Query). IsClassTable (given_of w.contents x) p.classes) is own
-
-    pub read-query : IsReadOver w text tokens (asked text tokens p) (end_of tokens)
-    read-query =
-        let (b, means, is) = meant in
-        record { statement = query select.0; spelled = select.1; does = (b, means, (p.classes, its-table b is, ap (asked text tokens) is), refl) }
+    plain-read : IsReadOver w text tokens (asked_of text tokens (Plain q)) (end_of tokens)
+    plain-read =
+        let (b, means, is) = plain-meant in
+        record { statement = query reads.grammar.0; spelled = reads.grammar.1; does = (b, means, (q.classes, plain-table b is, ap (asked text tokens) is), refl) }
 
     -- that it has no plan is its fault
-    pub unplanned : HasNoPlan w.contents p → IsFaultOver w text tokens (no_plan text tokens)
-    unplanned none =
-        let (b, means, is) = meant in
-        in_meaning (query select.0) select.1 (inr (b, means, (p.classes, its-table b is, subst (HasNoPlan w.contents) is none, refl)))
+    plain-unplanned : HasNoPlan w.contents q → IsFaultOver w text tokens (no_plan text tokens)
+    plain-unplanned none =
+        let (b, means, is) = plain-meant in
+        in_meaning (query reads.grammar.0) reads.grammar.1 (inr (b, means, (q.classes, plain-table b is, subst (HasNoPlan w.contents) is none, refl)))
 
-  pub query-fault : (f : Fault) → Grammar text tokens (Err (refusal.Fault f)) → Binds w text tokens (Err (refusal.Fault f)) → IsFaultOver w text tokens f
-  query-fault f (inl g) binds = in_syntax g
-  query-fault f (inr (x, spelled)) binds =
-      in_meaning (query x) spelled (inl (meant-fault (bound w.contents (token_at tokens 0) x) f (binds-first (Err (refusal.Fault f)) x binds spelled)))
+  module _ (g : GroupedQuery) (reads : Reads w text tokens (Ok (Grouped g))) where
+    abbrev tree : Statement
+    tree = grouped_tree reads.grammar.offered reads.grammar.explaining reads.grammar.word reads.grammar.select
 
-  pub fault-plain : (f : Fault) → Grammar text tokens (Err (refusal.Fault f)) → Binds w text tokens (Err (refusal.Fault f)) → f.rec ≡ 0
-  fault-plain f (inl g) binds = first-plain IsStatement text tokens f g
-  fault-plain f (inr (x, spelled)) binds =
-      bound-plain w.contents (token_at tokens 0) x f (meant-fault (bound w.contents (token_at tokens 0) x) f (binds-first (Err (refusal.Fault f)) x binds spelled))
+    groups-meant : (b : BoundGroups) × (bound_groups w.contents (token_at tokens 0) reads.grammar.select ≡ Ok b) × (g ≡ grouped_with g.base.classes b)
+    groups-meant = groups-ok (bound_groups w.contents (token_at tokens 0) reads.grammar.select) g (groups-first w text tokens some (Ok (Grouped g)) reads reads.grammar)
+
+    groups-table : (b : BoundGroups) → g ≡ grouped_with g.base.classes b → IsClassTable (given_groups w.contents (grouped_with g.base.classes b)) g.base.classes
+    groups-table b is = subst (λ (x : GroupedQuery). IsClassTable (given_groups w.contents x) g.base.classes) is reads.well.1
+
+    groups-read : IsReadOver w text tokens (asked_of text tokens (Grouped g)) (end_of tokens)
+    groups-read =
+        let (b, means, is) = groups-meant in
+        let e = reads.grammar.explaining in
+        let asks : asked_of text tokens (Grouped g) ≡ asked_of_groups e (grouped_with g.base.classes b) =
+        explains-by reads.grammar.offered e reads.grammar.word reads.grammar.select g (terminals text tokens) reads.grammar.spelled.words ∙ ap (asked_of_groups e) is in
+        record { statement = tree; spelled = reads.grammar.spelled; does = (b, means, record { classes = g.base.classes; own = groups-table b is; asks = asks }, refl) }
+
+    -- that it has no plan that groups is its fault
+    groups-unplanned : HasNoGroupPlan w.contents g → IsFaultOver w text tokens (no_plan text tokens)
+    groups-unplanned none =
+        let (b, means, is) = groups-meant in
+        in_meaning tree reads.grammar.spelled (inr (b, means, record { classes = g.base.classes; own = groups-table b is; none = subst (HasNoGroupPlan w.contents) is none; is = refl }))
+
+  pub read-selected : (s : Selected) → Reads w text tokens (Ok s) → IsReadOver w text tokens (asked_of text tokens s) (end_of tokens)
+  read-selected (Plain q) reads = plain-read q reads
+  read-selected (Grouped g) reads = groups-read g reads
+
+  pub unplanned-selected : (s : Selected) → Reads w text tokens (Ok s) → HasNoneOf w.contents s → IsFaultOver w text tokens (no_plan text tokens)
+  unplanned-selected (Plain q) reads none = plain-unplanned q reads none
+  unplanned-selected (Grouped g) reads none = groups-unplanned g reads none
+
+  module _ (f : Fault) (reads : Reads w text tokens (Err (refusal.Fault f))) where
+    plain-told : (x : OrderedSelect) → IsSpelled (query x) text tokens → bound w.contents (token_at tokens 0) x ≡ Err f
+    plain-told x spelled = plain-fault (bound w.contents (token_at tokens 0) x) f (plain-first w text tokens some (Err (refusal.Fault f)) reads x spelled)
+
+    groups-told : (s : AreGrouped text tokens) → bound_groups w.contents (token_at tokens 0) s.select ≡ Err f
+    groups-told s = groups-fault (bound_groups w.contents (token_at tokens 0) s.select) f (groups-first w text tokens some (Err (refusal.Fault f)) reads s)
+
+    form-fault : AreSelect text tokens ⊎ AreGrouped text tokens → IsFaultOver w text tokens f
+    form-fault (inl (x, spelled)) = in_meaning (query x) spelled (inl (plain-told x spelled))
+    form-fault (inr s) = in_meaning (grouped_tree s.offered s.explaining s.word s.select) s.spelled (inl (groups-told s))
+
+    form-plain : AreSelect text tokens ⊎ AreGrouped text tokens → f.rec ≡ 0
+    form-plain (inl (x, spelled)) = bound-plain w.contents (token_at tokens 0) x f (plain-told x spelled)
+    form-plain (inr s) = groups-bound-plain w.contents (token_at tokens 0) s.select f (groups-told s)
+
+    fault-by : AreNoOther text tokens → IsFirstFault IsStatement text tokens f ⊎ IsWhole text tokens → IsFaultOver w text tokens f
+    fault-by kind (inl first) = in_syntax first
+    fault-by kind (inr whole) = form-fault (whole-select text tokens kind whole)
+
+    rec-by : AreNoOther text tokens → IsFirstFault IsStatement text tokens f ⊎ IsWhole text tokens → f.rec ≡ 0
+    rec-by kind (inl first) = first-plain IsStatement text tokens f first
+    rec-by kind (inr whole) = form-plain (whole-select text tokens kind whole)
+
+    pub query-fault : AreNoOther text tokens → IsFaultOver w text tokens f
+    query-fault kind = fault-by kind reads.grammar
+
+    pub fault-plain : AreNoOther text tokens → f.rec ≡ 0
+    fault-plain kind = rec-by kind reads.grammar
+
+-- what is read is a SELECT of the one form or the other
+pub selected-form : (w : World) (text : List ℕ) (tokens : List Token) (s : Selected) → Reads w text tokens (Ok s) → AreSelect text tokens ⊎ AreGrouped text tokens
+selected-form w text tokens (Plain q) reads = inl reads.grammar
+selected-form w text tokens (Grouped g) reads = inr reads.grammar
+
+-- bound to the catalogue
+pub selected-bound : (c : Contents) (s : Selected) → IsWellSelected c s → IsBoundTo c s
+selected-bound c (Plain q) well = (well.0, has-arms c q well.1 well.2)
+selected-bound c (Grouped g) well = well.0

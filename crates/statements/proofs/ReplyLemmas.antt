@@ -1,7 +1,10 @@
 -- The reply to a query, by what is asked of it.
-use Rattle.std.proofs.Common.{◌≡◌, ℕ, inl, inr, Ok, Err, Result, OnOk, IfErr, ap, arith, sym, subst}
+use Rattle.std.proofs.Common.{◌≡◌, ℕ, Bool, true, false, inl, inr, Ok, Err, Result, OnOk, IfErr, ap, arith, sym, subst}
 use Rattle.std.specs.declared.option.Option.{Option}
 use Rattle.std.specs.Prelude.{List}
+use Rattle.group_explain.specs.Plans.{IsGroupedExplanationOf}
+use Rattle.group_reply.specs.Replies.{IsGroupedAnswerTo}
+use Rattle.sql_query.specs.Grouped.{GroupedQuery}
 use Rattle.sql_query.specs.Queries.{Query}
 use Rattle.sql_query.specs.Worlds.{World}
 use Rattle.query_reader.specs.declared.wanted.Wanted.{Wanted}
@@ -12,6 +15,7 @@ use Rattle.reply.specs.Effort.{HasRisen, Rise, exactly}
 use Rattle.reply.specs.Replies.{HasBegun, HasReplied, IsAnswerTo, IsExplanationOf, Leaves, Reply, Traces, traces}
 use Rattle.table_reply.specs.Tabled.{IsTableOf}
 use Rattle.statements.specs.Accepted.{asked_as}
+use Rattle.statements.specs.Questions.{groups_asked}
 use Rattle.statements.specs.Replies.{IsReply}
 
 -- a reply with nothing fetched and nothing looked at, whatever the counters stand at
@@ -67,3 +71,24 @@ module _ (w : World) (q : Query) (asking : Wanted) (r : Result (Unit {0}) Stop) 
 
     pub tabled-stopped : asking ≡ wanted.Table → IfErr r (λ e. Leaves e (IsTableOf w.contents q) (traces held 0 0) (traces held' 0 0)) → IfErr r (λ e. Leaves e (IsReply w (asked_as asking q)) (traces held f l) (traces held' f l))
     tabled-stopped is h = subst (Stopped (traces held f l) (traces held' f l)) (sym is) (stopped-moved (IsTableOf w.contents q) (λ x e. e.fetched) held held' f l r h)
+
+-- the reply to a grouped query
+module _ (w : World) (g : GroupedQuery) (explains : Bool) (r : Result (Unit {0}) Stop) where
+  abbrev GroupsReplied : Traces → Traces → Bool → Type 0
+  GroupsReplied old new b = OnOk r (HasReplied (IsReply w (groups_asked b g)) old new)
+
+  abbrev GroupsStopped : Traces → Traces → Bool → Type 0
+  GroupsStopped old new b = IfErr r (λ e. Leaves e (IsReply w (groups_asked b g)) old new)
+
+  pub groups-replied : explains ≡ false → (old new : Traces) → OnOk r (HasReplied (IsGroupedAnswerTo w g) old new) → OnOk r (HasReplied (IsReply w (groups_asked explains g)) old new)
+  groups-replied is old new h = subst (GroupsReplied old new) (sym is) h
+
+  pub groups-stopped : explains ≡ false → (old new : Traces) → IfErr r (λ e. Leaves e (IsGroupedAnswerTo w g) old new) → IfErr r (λ e. Leaves e (IsReply w (groups_asked explains g)) old new)
+  groups-stopped is old new h = subst (GroupsStopped old new) (sym is) h
+
+  module _ (held held' : Option (List ℕ)) (f l : ℕ) where
+    pub plan-replied : explains ≡ true → OnOk r (HasReplied (IsGroupedExplanationOf w.contents g) (traces held 0 0) (traces held' 0 0)) → OnOk r (HasReplied (IsReply w (groups_asked explains g)) (traces held f l) (traces held' f l))
+    plan-replied is h = subst (GroupsReplied (traces held f l) (traces held' f l)) (sym is) (replied-moved (IsGroupedExplanationOf w.contents g) (λ x e. e.fetched) held held' f l r h)
+
+    pub plan-stopped : explains ≡ true → IfErr r (λ e. Leaves e (IsGroupedExplanationOf w.contents g) (traces held 0 0) (traces held' 0 0)) → IfErr r (λ e. Leaves e (IsReply w (groups_asked explains g)) (traces held f l) (traces held' f l))
+    plan-stopped is h = subst (GroupsStopped (traces held f l) (traces held' f l)) (sym is) (stopped-moved (IsGroupedExplanationOf w.contents g) (λ x e. e.fetched) held held' f l r h)

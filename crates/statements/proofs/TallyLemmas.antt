@@ -5,7 +5,7 @@ use Rattle.std.proofs.lemmas.List.{length-append}
 use Rattle.row_text.specs.Texts.{count_line}
 use Rattle.sql_lex.specs.declared.tokens.Token.{Token}
 use Rattle.sql_lex.specs.Words.{AreWords}
-use Rattle.definitions.specs.Actions.{Action, idle, make, build, size, describe, fill, gather, answer, explain, certify, advise, verify}
+use Rattle.definitions.specs.Actions.{Action, idle, make, build, size, describe, fill, gather, answer, explain, certify, advise, verify, follow, answer_groups, explain_groups}
 use Rattle.explain.specs.Texts.{explained_text}
 use Rattle.reply.specs.Answers.{tuples_of, tuples_text}
 use Rattle.sql_query.specs.Meaning.{windowed}
@@ -47,6 +47,9 @@ unasked w (explain q) looks is = tt
 unasked w (certify q) looks is = tt
 unasked w (advise most candidates queries) looks is = tt
 unasked w (verify q block) looks is = tt
+unasked w (follow q block) looks is = tt
+unasked w (answer_groups g) looks is = tt
+unasked w (explain_groups g) looks is = tt
 
 -- a definition was carried out
 pub tallied-definition : (w w' : World) (text : List ℕ) (at next : ℕ) (tokens : List Token) (looked looked' : ℕ) → AreWords text at tokens → IsDefined w w' text tokens next looked looked' → Tallies w w' text at next None

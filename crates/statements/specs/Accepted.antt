@@ -5,7 +5,7 @@ use Rattle.sql_lex.specs.declared.tokens.Token.{Token}
 use Rattle.sql_lex.specs.Ends.{token_at, end_of}
 use Rattle.sql_lex.specs.Words.{AreWords}
 use Rattle.sql_grammar.specs.CopyLine.{IsDataStart}
-use Rattle.sql_grammar.specs.Syntax.{Advise, CreateIndex, Statement, WindowedSelect, empty, create_table, create_index, query, copy, sizes, column_statistics, analyze, advise as advise_tree, check, use_plan, grouped}
+use Rattle.sql_grammar.specs.Syntax.{Advise, CreateIndex, GroupedSelect, MaybeExplain, unexplained, explained, no_limit, no_offset, window, Statement, WindowedSelect, windowed_select, empty, create_table, create_index, query, copy, sizes, column_statistics, analyze, advise as advise_tree, check, use_plan, grouped}
 use Rattle.sql_grammar.specs.Faults.{terminals}
 use Rattle.sql_grammar.specs.Spelled.{IsSpelled}
 use Rattle.advise_reader.specs.Meaning.{Asked, Means as AdviseMeans}
@@ -20,14 +20,17 @@ use Rattle.ddl_reader.specs.Tables.{Definition, table, sizes_for, statistics_for
 use Rattle.heap.specs.Loading.{records_of, loaded}
 use Rattle.heap.specs.Stored.{Stored}
 use Rattle.index_reader.specs.Meaning.{Reading as IndexReading, meaning}
+use Rattle.group_query.specs.Grouping.{given_groups}
+use Rattle.group_reader.specs.Binding.{BoundGroups, bound_groups, grouped_with}
 use Rattle.query_reader.specs.Binding.{Bound, bound, bound_part, query_with}
 use Rattle.query_reader.specs.Wanted.{wanted_by}
 use Rattle.query_reader.specs.declared.wanted.Wanted.{Wanted}
 use Rattle.query_reader.specs.declared.wanted.Wanted.TheVariants as wanted
+use Rattle.sql_query.specs.Grouped.{GroupedQuery}
 use Rattle.sql_query.specs.Queries.{Query}
 use Rattle.sql_query.specs.WellBound.{given_of}
 use Rattle.sql_query.specs.Worlds.{World, stored_at}
-use Rattle.definitions.specs.Actions.{Action, idle, make, build, size, describe, fill, gather, answer, explain, certify, advise, verify}
+use Rattle.definitions.specs.Actions.{Action, idle, make, build, size, describe, fill, gather, answer, explain, certify, advise, verify, follow, answer_groups, explain_groups}
 
 -- what a definition does, and the offset after it: a table is accepted by the catalogue; so are the sizes of a table and the
 -- statistics of a column; data go up to the line that ends them, and the table takes them; and the statistics of a table are
@@ -71,9 +74,9 @@ HaveClasses c queries = All (λ q. IsClassTable (given_of c q) q.classes) querie
 abbrev pub Advises : World → List Token → Advise → Action → Type 0
 Advises w tokens x action = (a : Asked) × AdviseMeans w.contents tokens x (Ok a) × HaveClasses w.contents a.queries × (action ≡ advise a.most a.candidates a.queries)
 
--- what CHECK of a SELECT does, whose words end with this `;`, and the offset after it: the bytes from the line behind its own up to
--- the first line `\.` are held against the query with its classes
-pub record Checks (w : World) (text : List ℕ) (tokens : List Token) (x : WindowedSelect) (stop : Token) (action : Action) (next : ℕ) : Type 0 where
+-- what CHECK or USE PLAN of a SELECT does, whose words end with this `;`, and the offset after it: so much with the query with its
+-- classes and the bytes from the line behind its own up to the first line `\.`
+pub record Takes (w : World) (text : List ℕ) (tokens : List Token) (x : WindowedSelect) (stop : Token) (act : Query → List ℕ → Action) (action : Action) (next : ℕ) : Type 0 where
   pub start : ℕ
   pub end : ℕ
   pub meant : Bound
@@ -82,9 +85,20 @@ pub record Checks (w : World) (text : List ℕ) (tokens : List Token) (x : Windo
   pub means : bound_part w.contents (token_at tokens 0) x ≡ Ok meant
   pub ends : IsBlockEnd text start end next
   pub own : IsClassTable (given_of w.contents (query_with classes meant)) classes
-  pub verifies : action ≡ verify (query_with classes meant) (slice_range text start end)
+  pub acts : action ≡ act (query_with classes meant) (slice_range text start end)
 
--- what a statement of these tokens does, and the offset after it. Productions that are not offered do nothing
+-- a grouped query is answered, or its plan explained
+abbrev pub asked_of_groups : MaybeExplain → GroupedQuery → Action
+asked_of_groups unexplained g = answer_groups g
+asked_of_groups (explained _) g = explain_groups g
+
+-- what a SELECT that groups and means this does: the grouped query with its classes is answered or explained
+pub record Groups (w : World) (e : MaybeExplain) (b : BoundGroups) (action : Action) : Type 0 where
+  pub classes : Table
+  pub own : IsClassTable (given_groups w.contents (grouped_with classes b)) classes
+  pub asks : action ≡ asked_of_groups e (grouped_with classes b)
+
+-- what a statement of these tokens does, and the offset after it
 abbrev pub Does : World → List ℕ → List Token → Statement → Action → ℕ → Type 0
 Does w text tokens (empty e) action next = (action ≡ idle) × (next ≡ end_of tokens)
 Does w text tokens (create_index x) action next = Indexes w tokens x action next
@@ -95,9 +109,9 @@ Does w text tokens (column_statistics k n c d nulls commons bounds e) action nex
 Does w text tokens (copy k n null) action next = Defines w text tokens (copy k n null) action next
 Does w text tokens (analyze p k n e) action next = Defines w text tokens (analyze p k n e) action next
 Does w text tokens (advise_tree x) action next = Advises w tokens x action × (next ≡ end_of tokens)
-Does w text tokens (check p k x s) action next = Checks w text tokens x s action next
-Does w text tokens (use_plan p k l q y s) action next = ⊥
-Does w text tokens (grouped p k l q) action next = ⊥
+Does w text tokens (check p k x s) action next = Takes w text tokens x s verify action next
+Does w text tokens (use_plan p k l q y s) action next = Takes w text tokens (windowed_select q y (window no_limit no_offset)) s follow action next
+Does w text tokens (grouped p e k q) action next = (b : BoundGroups) × (bound_groups w.contents (token_at tokens 0) q ≡ Ok b) × Groups w e b action × (next ≡ end_of tokens)
 
 -- the tokens are a statement that does this
 pub record IsReadOver (w : World) (text : List ℕ) (tokens : List Token) (action : Action) (next : ℕ) : Type 0 where

@@ -15,7 +15,7 @@ pub record Asking : Type 0 where
   pub world : World
   pub query : Query
 
--- what a statement asks: SELECT its query; EXPLAIN and all others nothing
+-- what a statement asks: SELECT its query, where it does not group; EXPLAIN and all others nothing
 abbrev pub asked_in : World → Action → Option Asking
 asked_in w (answer q) = Some (record { world = w; query = q })
 asked_in w _ = None

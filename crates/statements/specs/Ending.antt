@@ -7,6 +7,8 @@ use Rattle.catalog.specs.declared.fault.CatalogFault.{CatalogFault}
 use Rattle.catalog.specs.declared.fault.CatalogFault.TheVariants as refused
 use Rattle.catalog.specs.Contents.{Contents}
 use Rattle.catalog.specs.Tables.{IsRefusal}
+use Rattle.reply.specs.declared.stop.Broken.{Broken}
+use Rattle.reply.specs.declared.stop.Broken.TheVariants as broken
 use Rattle.reply.specs.declared.stop.Stop.{Stop}
 use Rattle.reply.specs.declared.stop.Stop.TheVariants as stop
 use Rattle.statements.specs.declared.end.End.{End}
@@ -21,6 +23,11 @@ abbrev pub end_of_stop : Stop → FaultType → End
 end_of_stop stop.NoPlan unplanned = Fault unplanned
 end_of_stop stop.Write unplanned = Write
 end_of_stop stop.Memory unplanned = Memory
+
+-- a reply that was broken off
+abbrev pub end_of_broken : Broken → End
+end_of_broken broken.Write = Write
+end_of_broken broken.Memory = Memory
 
 -- a fault, and want of memory where there is none
 abbrev pub end_by : Option FaultType → End

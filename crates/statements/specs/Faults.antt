@@ -11,7 +11,7 @@ use Rattle.pg_base.specs.Faults.{data_fault, syntax_fault, words_fault}
 use Rattle.sql_lex.specs.declared.tokens.Token.{Token}
 use Rattle.sql_lex.specs.Words.{AreWords, IsWordFault}
 use Rattle.sql_grammar.specs.CopyLine.{IsDataStart}
-use Rattle.sql_grammar.specs.Syntax.{Advise, OrderedSelect, WindowedSelect, CreateIndex, Statement, empty, create_table, create_index, query, copy, sizes, column_statistics, analyze, advise, check, use_plan, grouped}
+use Rattle.sql_grammar.specs.Syntax.{Advise, GroupedSelect, OrderedSelect, WindowedSelect, windowed_select, no_limit, no_offset, window, CreateIndex, Statement, empty, create_table, create_index, query, copy, sizes, column_statistics, analyze, advise, check, use_plan, grouped}
 use Rattle.sql_grammar.specs.Faults.{IsStatement, IsFirstFault, fault_at, terminals}
 use Rattle.sql_grammar.specs.Spelled.{IsSpelled}
 use Rattle.advise_reader.specs.Meaning.{Asked, Means as AdviseMeans}
@@ -28,6 +28,9 @@ use Rattle.heap.specs.declared.fault.CopyFault.TheVariants as copying
 use Rattle.heap.specs.Loading.{records_of, loaded}
 use Rattle.index_prices.specs.Replies.{HasNoAdviceFor}
 use Rattle.index_reader.specs.Meaning.{Reading as IndexReading, meaning}
+use Rattle.group_query.specs.Grouping.{given_groups}
+use Rattle.group_reader.specs.Binding.{BoundGroups, bound_groups, grouped_with}
+use Rattle.group_explain.specs.Plans.{HasNoGroupPlan}
 use Rattle.query_reader.specs.Binding.{Bound, bound, bound_part, query_with}
 use Rattle.query_reader.specs.Select.{words_before}
 use Rattle.reply.specs.Answers.{HasNoPlan}
@@ -85,7 +88,7 @@ rows_fault (copying.TooLong rec col) t start = Some (data_fault (S15 Text) start
 rows_fault (copying.TooMany rec) t start = Some (data_fault (S15 Rows) start rec t 0)
 rows_fault copying.Memory t start = None
 
--- data, or a certificate, without a line that ends them
+-- data, a certificate or a plan without a line that ends them
 abbrev pub endless_fault : ℕ → Fault
 endless_fault start = data_fault S13 start 0 (record { 0 = 0 }) 0
 
@@ -137,14 +140,26 @@ IsUnadvised w tokens a f = HaveClasses w.contents a.queries × HasNoAdviceFor w.
 abbrev pub IsAdviseFault : World → List Token → Advise → Fault → Type 0
 IsAdviseFault w tokens x f = AdviseMeans w.contents tokens x (Err f) ⊎ ((a : Asked) × AdviseMeans w.contents tokens x (Ok a) × IsUnadvised w tokens a f)
 
--- a fault of CHECK of a SELECT, whose words end with this `;`: of the rest of its line; then in the names and limits of the SELECT;
--- then that no line ends the certificate
+-- a fault of CHECK or USE PLAN of a SELECT, whose words end with this `;`: of the rest of its line; then in the names and limits of the
+-- SELECT; then that no line ends the lines behind it
 pub data IsCheckFault (w : World) (text : List ℕ) (tokens : List Token) (x : WindowedSelect) (stop : Token) (f : Fault) : Type 0 where
   in_line : IsDataStart text stop.end (Err f) → IsCheckFault w text tokens x stop f
   in_select : (start : ℕ) → IsDataStart text stop.end (Ok start) → bound_part w.contents (token_at tokens 0) x ≡ Err f → IsCheckFault w text tokens x stop f
   without_end : (start : ℕ) (b : Bound) → IsDataStart text stop.end (Ok start) → bound_part w.contents (token_at tokens 0) x ≡ Ok b → HaveNoMark (lines_of (drop start text)) → f ≡ endless_fault start → IsCheckFault w text tokens x stop f
 
--- the first fault of a statement whose syntax has none. Productions that are not offered have none
+-- the grouped query with its classes has no admissible plan that groups
+pub record IsUngroupable (w : World) (text : List ℕ) (tokens : List Token) (b : BoundGroups) (f : Fault) : Type 0 where
+  pub classes : Table
+  pub own : IsClassTable (given_groups w.contents (grouped_with classes b)) classes
+  pub none : HasNoGroupPlan w.contents (grouped_with classes b)
+  pub is : f ≡ no_plan text tokens
+
+-- a fault of a SELECT that groups: in its names, what is not grouped, and its limits, or that no plan that groups is admissible
+abbrev pub IsGroupFault : World → List ℕ → List Token → GroupedSelect → Fault → Type 0
+IsGroupFault w text tokens x f =
+    (bound_groups w.contents (token_at tokens 0) x ≡ Err f) ⊎ ((b : BoundGroups) × (bound_groups w.contents (token_at tokens 0) x ≡ Ok b) × IsUngroupable w text tokens b f)
+
+-- the first fault of a statement whose syntax has none
 abbrev pub IsMeaningFault : World → List ℕ → List Token → Statement → Fault → Type 0
 IsMeaningFault w text tokens (empty e) f = ⊥
 IsMeaningFault w text tokens (create_index x) f = IsIndexFault w tokens x f
@@ -156,8 +171,8 @@ IsMeaningFault w text tokens (copy k n null) f = IsDefinitionFault w text (copy 
 IsMeaningFault w text tokens (analyze p k n e) f = IsDefinitionFault w text (analyze p k n e) f
 IsMeaningFault w text tokens (advise x) f = IsAdviseFault w tokens x f
 IsMeaningFault w text tokens (check p k x s) f = IsCheckFault w text tokens x s f
-IsMeaningFault w text tokens (use_plan p k l q y s) f = ⊥
-IsMeaningFault w text tokens (grouped p k l q) f = ⊥
+IsMeaningFault w text tokens (use_plan p k l q y s) f = IsCheckFault w text tokens (windowed_select q y (window no_limit no_offset)) s f
+IsMeaningFault w text tokens (grouped p e k q) f = IsGroupFault w text tokens q f
 
 -- the first fault of a statement whose words have none: of its syntax, or of what it means
 pub data IsFaultOver (w : World) (text : List ℕ) (tokens : List Token) (f : Fault) : Type 0 where

@@ -6,3 +6,4 @@ pub mod Askings
 pub mod Faults
 pub mod Ending
 pub mod Steps
+pub mod Claims

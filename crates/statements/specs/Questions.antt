@@ -1,22 +1,58 @@
--- What is asked of a query over a store of its catalogue. Own.
+-- What a SELECT of either form asks over a store of its catalogue. Own.
+use Rattle.std.specs.Prelude.{ℕ, ◌≤◌, ◌<◌, Bool, true, false, List, length}
+use Rattle.pg_base.specs.declared.limits.TheConstants.{MOST_SCRIPT_BYTES}
+use Rattle.sql_lex.specs.declared.tokens.Token.{Token}
+use Rattle.sql_lex.specs.Words.{AreWords}
+use Rattle.sql_grammar.specs.Faults.{terminals}
+use Rattle.sql_grammar.specs.Terminals.{Terminal}
+use Rattle.catalog.specs.Contents.{Contents}
+use Rattle.sql_query.specs.Grouped.{GroupedQuery}
 use Rattle.sql_query.specs.WellBound.{IsWellBound}
-use Rattle.sql_query.specs.Worlds.{World, world}
 use Rattle.store.specs.Kept.{IsStoreOf}
 use Rattle.table_texts.specs.Arms.{HasArmsInOrs}
-use Rattle.definitions.specs.Actions.{Action}
-use Rattle.statements.specs.declared.query.Question.{Question}
+use Rattle.query_reader.specs.Select.{AreNoOther, is_explained}
+use Rattle.query_reader.specs.Wanted.{wanted_by}
+use Rattle.group_query.specs.Grouping.{IsWellGrouped}
+use Rattle.group_reader.specs.declared.selected.Selected.{Selected}
+use Rattle.group_reader.specs.declared.selected.Selected.TheVariants.{Plain, Grouped}
+use Rattle.group_explain.specs.Plans.{HasNoGroupPlan}
+use Rattle.reply.specs.Answers.{HasNoPlan}
+use Rattle.definitions.specs.Actions.{Action, answer_groups, explain_groups}
+use Rattle.statements.specs.declared.using.Place.{Place}
 use Rattle.statements.specs.Accepted.{asked_as}
 
--- where it is asked
-abbrev pub world_of : {C F L : Type 0} → Question C F L → World
-world_of at = world at.catalog.now at.store.now.stored
-
--- what is done of it
-abbrev pub action_of : {C F L : Type 0} → Question C F L → Action
-action_of at = asked_as at.wanted at.query.now
-
--- the query is bound to the catalogue, of which it is a store
-pub record IsQuestion {C F L : Type 0} (at : Question C F L) : Type 0 where
-  pub bound : IsWellBound at.catalog.now at.query.now
-  pub arms : HasArmsInOrs at.query.now
+-- the tokens are a statement of more than its end, and of no other kind than a SELECT; the store is one of the catalogue
+pub record IsQuestion {C F L : Type 0} (at : Place C F L) : Type 0 where
+  pub short : length at.text.now ≤ MOST_SCRIPT_BYTES
+  pub words : (from : ℕ) × AreWords at.text.now from at.tokens.now
+  pub some : 1 < length at.tokens.now
+  pub kind : AreNoOther at.text.now at.tokens.now
   pub store : IsStoreOf at.catalog.now at.store.now
+
+-- behind EXPLAIN the plan of a grouped query is asked for, else its rows
+abbrev pub groups_asked : Bool → GroupedQuery → Action
+groups_asked true g = explain_groups g
+groups_asked false g = answer_groups g
+
+-- what these words, the first of which tell what is wanted, do of what is read of them
+abbrev pub action_by : List Terminal → Selected → Action
+action_by words (Plain q) = asked_as (wanted_by words) q
+action_by words (Grouped g) = groups_asked (is_explained words) g
+
+-- what these tokens do of it
+abbrev pub asked_of : List ℕ → List Token → Selected → Action
+asked_of text tokens s = action_by (terminals text tokens) s
+
+-- what is asked of it
+abbrev pub action_of : {C F L : Type 0} → Place C F L → Selected → Action
+action_of at s = asked_of at.text.now at.tokens.now s
+
+-- what is read is bound to the catalogue
+abbrev pub IsBoundTo : Contents → Selected → Type 0
+IsBoundTo c (Plain q) = IsWellBound c q × HasArmsInOrs q
+IsBoundTo c (Grouped g) = IsWellGrouped c g
+
+-- no plan of it is admissible
+abbrev pub HasNoneOf : Contents → Selected → Type 0
+HasNoneOf c (Plain q) = HasNoPlan c q
+HasNoneOf c (Grouped g) = HasNoGroupPlan c g

@@ -5,9 +5,12 @@ use Rattle.index_prices.specs.Replies.{IsReplyTo}
 use Rattle.reply.specs.Effort.{exactly}
 use Rattle.reply.specs.Replies.{Reply, IsAnswerTo, IsExplanationOf}
 use Rattle.store.specs.Kept.{load_looks}
-use Rattle.definitions.specs.Actions.{Action, idle, make, build, size, describe, fill, gather, answer, explain, certify, advise, verify}
+use Rattle.definitions.specs.Actions.{Action, idle, make, build, size, describe, fill, gather, answer, explain, certify, advise, verify, follow, answer_groups, explain_groups}
 use Rattle.table_reply.specs.Tabled.{IsTableOf}
 use Rattle.check_reply.specs.Checked.{IsCheckedText}
+use Rattle.plan_reply.specs.Told.{IsPlanReplyTo}
+use Rattle.group_explain.specs.Plans.{IsGroupedExplanationOf}
+use Rattle.group_reply.specs.Replies.{IsGroupedAnswerTo}
 
 -- nothing printed and nothing fetched, with so many looks
 abbrev pub silent : ℕ → Reply
@@ -19,7 +22,9 @@ told bytes = record { bytes = bytes; fetched = exactly 0; looked = 0 }
 
 -- an accepted statement's reply: SELECT prints the answer by a best plan, its EXPLAIN that plan alone, and its EXPLAIN (TABLE)
 -- that plan with a table of it. ADVISE prints the advice, and CHECK a line that tells whether its lines are a certificate of the
--- query, each with nothing fetched and nothing looked at. The others print nothing: CREATE INDEX and ANALYZE look at each row of their table, and COPY at each new row for each index of the table
+-- query, each with nothing fetched and nothing looked at. USE PLAN prints the answer by the plan that is written out, or why it is not
+-- run. A SELECT that groups prints a line for each group behind the least plan that groups, its EXPLAIN that plan alone. The others print
+-- nothing: CREATE INDEX and ANALYZE look at each row of their table, and COPY at each new row for each index of the table
 abbrev pub IsReply : World → Action → Reply → Type 0
 IsReply w idle r = r ≡ silent 0
 IsReply w (make name names columns) r = r ≡ silent 0
@@ -33,3 +38,6 @@ IsReply w (explain q) r = IsExplanationOf w.contents q r
 IsReply w (certify q) r = IsTableOf w.contents q r
 IsReply w (advise most candidates queries) r = IsReplyTo w.contents candidates queries most r.bytes × (r.fetched ≡ exactly 0) × (r.looked ≡ 0)
 IsReply w (verify q block) r = IsCheckedText w.contents q block r.bytes × (r.fetched ≡ exactly 0) × (r.looked ≡ 0)
+IsReply w (follow q block) r = IsPlanReplyTo w q block r
+IsReply w (answer_groups g) r = IsGroupedAnswerTo w g r
+IsReply w (explain_groups g) r = IsGroupedExplanationOf w.contents g r

@@ -3,11 +3,8 @@ use Rattle.std.specs.Prelude.{ℕ, ◌≡◌, ◌⊎◌, ◌+◌, ◌≤◌, ◌
 use Rattle.pg_base.specs.declared.numbers.TableNo.{TableNo}
 use Rattle.sql_lex.specs.declared.tokens.Token.{Token}
 use Rattle.sql_grammar.specs.Faults.{terminals}
-use Rattle.sql_grammar.specs.Spelled.{IsSpelled}
-use Rattle.sql_grammar.specs.Syntax.{IsOffered, WindowedSelect, check}
 use Rattle.sql_grammar.specs.Terminals.{Terminal, free, t_name}
-use Rattle.sql_grammar.specs.declared.offered.TheConstants.{READS_CHECK}
-use Rattle.sql_grammar.specs.declared.class.Free.TheVariants.{Check as CheckWord}
+use Rattle.sql_grammar.specs.declared.class.Free.TheVariants.{Check as CheckWord, Use as UseWord}
 use Rattle.catalog.specs.Contents.{Contents}
 use Rattle.ddl_reader.specs.Block.{IsBlockEnd}
 use Rattle.ddl_reader.specs.Statements.{begins_ddl, begins_index}
@@ -101,11 +98,11 @@ RefusesData (ends.Fault f) w text t start looked looked' = RefusesDefinition (en
 RefusesData ends.Write w text t start looked looked' = ⊥
 RefusesData ends.Memory w text t start looked looked' = (looked' ≡ looked) ⊎ AreLoaded w text t start looked looked'
 
--- the tokens are a query, an ADVISE or a CHECK, whose reply out gained
+-- the tokens are a query, an ADVISE, a CHECK or a USE PLAN, whose reply out gained
 abbrev pub IsAnsweredOver : World → List ℕ → List Token → ℕ → Traces → Traces → Type 0
 IsAnsweredOver w text tokens next old new = (action : Action) × IsReadOver w text tokens action next × (w ≡ after w action) × HasReplied (IsReply w action) old new
 
--- the tokens are a query, an ADVISE or a CHECK, and out gained some first bytes of its reply
+-- the tokens are a query, an ADVISE, a CHECK or a USE PLAN, and out gained some first bytes of its reply
 abbrev pub IsBegunOver : World → List ℕ → List Token → Traces → Traces → Type 0
 IsBegunOver w text tokens old new = (action : Action) × (next : ℕ) × IsReadOver w text tokens action next × HasBegun (IsReply w action) old new
 
@@ -127,13 +124,10 @@ abbrev pub begins_check : List Terminal → Bool
 begins_check (t_name (free CheckWord _) ∷ _) = true
 begins_check _ = false
 
--- the tokens are a CHECK of a SELECT
-pub record AreCheck (text : List ℕ) (tokens : List Token) : Type 0 where
-  pub offered : IsOffered READS_CHECK
-  pub word : Token
-  pub select : WindowedSelect
-  pub stop : Token
-  pub spelled : IsSpelled (check offered word select stop) text tokens
+-- USE is the first word
+abbrev pub begins_use : List Terminal → Bool
+begins_use (t_name (free UseWord _) ∷ _) = true
+begins_use _ = false
 
 -- the tokens do this up to `next`, ask no query and leave the world as it is, and these bytes are their reply
 pub record IsTelling (w : World) (text : List ℕ) (tokens : List Token) (next : ℕ) (bytes : List ℕ) : Type 0 where
@@ -143,7 +137,7 @@ pub record IsTelling (w : World) (text : List ℕ) (tokens : List Token) (next :
   pub quiet : asked_in w action ≡ None
   pub reply : IsReply w action (told bytes)
 
--- why the query, the ADVISE or the CHECK of these tokens was not answered whole
+-- why the query, the ADVISE, the CHECK or the USE PLAN of these tokens was not answered whole
 abbrev pub StopsOver : End → World → List ℕ → List Token → Traces → Traces → Type 0
 StopsOver (ends.Fault f) w text tokens old new = IsFaultOver w text tokens f × IsFieldOf w.contents f × (new ≡ old)
 StopsOver ends.Write w text tokens old new = IsBegunOver w text tokens old new

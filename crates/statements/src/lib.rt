@@ -4,6 +4,7 @@
 mod advising;
 mod carry;
 mod checking;
+mod claims;
 mod define;
 mod end;
 mod faults;
@@ -11,6 +12,7 @@ mod index;
 mod laws;
 mod query;
 mod replying;
+mod using;
 
 pub use carry::carry_out;
 pub use end::End;

@@ -1,4 +1,4 @@
-//! The statements that have a reply: SELECT, EXPLAIN, ADVISE and CHECK.
+//! The statements that have a reply: SELECT, EXPLAIN, ADVISE, CHECK and USE PLAN.
 
 ghost use Rattle.std.specs.Prelude.{◌≡◌, ◌≤◌, ◌<◌, ℕ, List, IfErr, IfOk, length, true};
 ghost use Rattle.pg_base.specs.declared.limits.TheConstants.{MOST_SCRIPT_BYTES};
@@ -10,16 +10,19 @@ ghost use Rattle.sql_query.specs.Worlds.{world};
 ghost use Rattle.store.specs.Kept.{IsStoreOf};
 ghost use Rattle.reply.specs.Putting.{HasWriteCause};
 ghost use Rattle.reply.specs.Replies.{traces};
-ghost use Rattle.statements.specs.Steps.{AreNoDefinition, IsAnsweredOver, IsTalliedOver, Refuses, StopsOver, begins_check};
+ghost use Rattle.statements.specs.Steps.{AreNoDefinition, IsAnsweredOver, IsTalliedOver, Refuses, StopsOver, begins_check, begins_use};
 
 use crate::advising::{advice, advise};
-use crate::checking::{check, is_check, verdict_of};
+use crate::checking::{check, verdict_of};
+use crate::claims::{is_check, is_use};
 use crate::end::End;
 use crate::query::{answer_query, measure_query};
+use crate::using::{Place, follow, judged};
 use advise_reader::is_advise;
 use catalog::Catalog;
 use heap::Counters;
 use pg_base::{Sink, Steps};
+use plan_reply::told_blocks_have_replies;
 use reply::Measured;
 use sql_lex::Tokens;
 use std::alloc::Global;
@@ -59,10 +62,21 @@ pub fn reply_to<C: Counters, K: Sink>(
     if is_check(text, tokens) {
         return check(alloc, text, tokens, catalog, out);
     }
-    answer_query(alloc, text, tokens, catalog, store, out, fetches, reads)
+    let at = Place {
+        alloc,
+        text,
+        tokens,
+        catalog,
+        store,
+    };
+    if is_use(text, tokens) {
+        return follow(&at, out, fetches, reads);
+    }
+    answer_query(&at, out, fetches, reads)
 }
 
-/// Works the same statement and prints nothing: a query that is asked is measured in place of being answered.
+/// Works the same statement and prints nothing: a query that is asked is measured in place of being answered. One that groups is
+/// planned alone, and nothing is measured of it.
 pub fn tally_reply<C: Counters>(
     alloc: Global,
     text: &[u8],
@@ -85,7 +99,17 @@ pub fn tally_reply<C: Counters>(
     if is_check(text, tokens) {
         return tally_check(alloc, text, tokens, catalog);
     }
-    match measure_query(alloc, text, tokens, catalog, store, fetches, reads) {
+    if is_use(text, tokens) {
+        return tally_plan(alloc, text, tokens, catalog, store);
+    }
+    let at = Place {
+        alloc,
+        text,
+        tokens,
+        catalog,
+        store,
+    };
+    match measure_query(&at, fetches, reads) {
         Ok(measured) => Ok(Tallied {
             next: tokens.end(),
             measured,
@@ -123,7 +147,6 @@ fn tally_check(
 ) -> Result<Tallied, End>
     requires short { length text.now ≤ MOST_SCRIPT_BYTES }
     requires words { (from : ℕ) × AreWords text.now from tokens.now }
-    requires some { 1 < length tokens.now }
     requires opens { begins_check (terminals text.now tokens.now) ≡ true }
     ensures tallied { (stored : List Stored) → IfOk result (λ t. IsTalliedOver (world catalog.now stored) text.now tokens.now t.next t.measured) }
     ensures refused { (stored : List Stored) → IfErr result (λ e. Refuses e (world catalog.now stored) text.now tokens.now 0 0) }
@@ -131,6 +154,29 @@ fn tally_check(
     let verdict = verdict_of(alloc, text, tokens, catalog)?;
     Ok(Tallied {
         next: verdict.next,
+        measured: None,
+    })
+}
+
+/// Finds what is told of the plan behind the USE PLAN of these tokens, and prints nothing.
+fn tally_plan<C: Counters>(
+    alloc: Global,
+    text: &[u8],
+    tokens: &Tokens,
+    catalog: &Catalog,
+    store: &Store<C>,
+) -> Result<Tallied, End>
+    requires short { length text.now ≤ MOST_SCRIPT_BYTES }
+    requires words { (from : ℕ) × AreWords text.now from tokens.now }
+    requires opens { begins_use (terminals text.now tokens.now) ≡ true }
+    requires store { IsStoreOf catalog.now store.now }
+    ensures tallied { IfOk result (λ t. IsTalliedOver (world catalog.now store.now.stored) text.now tokens.now t.next t.measured) }
+    ensures refused { IfErr result (λ e. Refuses e (world catalog.now store.now.stored) text.now tokens.now 0 0) }
+{
+    let order = judged(alloc, text, tokens, catalog)?;
+    told_blocks_have_replies();
+    Ok(Tallied {
+        next: order.next,
         measured: None,
     })
 }

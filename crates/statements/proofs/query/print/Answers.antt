@@ -1,27 +1,25 @@
-use Rattle.statements.specs.Questions.{world_of}
-use Rattle.statements.proofs.ReplyLemmas.{answered-replied, answered-stopped, explained-replied, explained-stopped, tabled-replied, tabled-stopped}
+use Rattle.statements.specs.Claims.{world_at}
+use Rattle.statements.proofs.FormLemmas.{none-as, replied-as, stopped-as}
 use Rattle.statements.proofs.query.print.Goals as goal
 
-pub returns-in-Rows-clause-replied : goal.returns-in-Rows-clause-replied
-returns-in-Rows-clause-replied g c =
-    answered-replied (world_of c.args.at.now) c.args.at.now.query.now c.args.at.now.wanted c.answer.result c.in-Rows.is _ _ c.answer.ensures.answered
+pub returns-in-Plain-clause-replied : goal.returns-in-Plain-clause-replied
+returns-in-Plain-clause-replied g c =
+    replied-as (world_at c.args.at.now) c.args.at.now.text.now c.args.at.now.tokens.now _ _ c.in-Plain.is c.print_rows.result _ _ c.print_rows.ensures.replied
 
-pub returns-in-Rows-clause-stopped : goal.returns-in-Rows-clause-stopped
-returns-in-Rows-clause-stopped g c =
-    answered-stopped (world_of c.args.at.now) c.args.at.now.query.now c.args.at.now.wanted c.answer.result c.in-Rows.is _ _ c.answer.ensures.stopped
+pub returns-in-Plain-clause-stopped : goal.returns-in-Plain-clause-stopped
+returns-in-Plain-clause-stopped g c =
+    stopped-as (world_at c.args.at.now) c.args.at.now.text.now c.args.at.now.tokens.now _ _ c.in-Plain.is c.print_rows.result _ _ c.print_rows.ensures.stopped
 
-pub returns-in-Plan-clause-replied : goal.returns-in-Plan-clause-replied
-returns-in-Plan-clause-replied g c =
-    explained-replied (world_of c.args.at.now) c.args.at.now.query.now c.args.at.now.wanted c.explain_query.result _ _ c.args.fetches.now c.args.reads.now c.in-Plan.is c.explain_query.ensures.explained
+pub returns-in-Plain-clause-no_plan : goal.returns-in-Plain-clause-no_plan
+returns-in-Plain-clause-no_plan g c = none-as c.args.at.now.catalog.now _ _ c.print_rows.result c.in-Plain.is c.print_rows.ensures.no_plan
 
-pub returns-in-Plan-clause-stopped : goal.returns-in-Plan-clause-stopped
-returns-in-Plan-clause-stopped g c =
-    explained-stopped (world_of c.args.at.now) c.args.at.now.query.now c.args.at.now.wanted c.explain_query.result _ _ c.args.fetches.now c.args.reads.now c.in-Plan.is c.explain_query.ensures.stopped
+pub returns-in-Grouped-clause-replied : goal.returns-in-Grouped-clause-replied
+returns-in-Grouped-clause-replied g c =
+    replied-as (world_at c.args.at.now) c.args.at.now.text.now c.args.at.now.tokens.now _ _ c.in-Grouped.is c.print_groups.result _ _ c.print_groups.ensures.replied
 
-pub returns-in-Table-clause-replied : goal.returns-in-Table-clause-replied
-returns-in-Table-clause-replied g c =
-    tabled-replied (world_of c.args.at.now) c.args.at.now.query.now c.args.at.now.wanted c.explain_table.result _ _ c.args.fetches.now c.args.reads.now c.in-Table.is c.explain_table.ensures.tabled
+pub returns-in-Grouped-clause-stopped : goal.returns-in-Grouped-clause-stopped
+returns-in-Grouped-clause-stopped g c =
+    stopped-as (world_at c.args.at.now) c.args.at.now.text.now c.args.at.now.tokens.now _ _ c.in-Grouped.is c.print_groups.result _ _ c.print_groups.ensures.stopped
 
-pub returns-in-Table-clause-stopped : goal.returns-in-Table-clause-stopped
-returns-in-Table-clause-stopped g c =
-    tabled-stopped (world_of c.args.at.now) c.args.at.now.query.now c.args.at.now.wanted c.explain_table.result _ _ c.args.fetches.now c.args.reads.now c.in-Table.is c.explain_table.ensures.stopped
+pub returns-in-Grouped-clause-no_plan : goal.returns-in-Grouped-clause-no_plan
+returns-in-Grouped-clause-no_plan g c = none-as c.args.at.now.catalog.now _ _ c.print_groups.result c.in-Grouped.is c.print_groups.ensures.no_plan

@@ -1,0 +1,15 @@
+use Rattle.std.proofs.Common.{◌∙◌, sym}
+use Rattle.statements.proofs.QueryLemmas.{are-no-other}
+use Rattle.statements.proofs.replying.reply_to.Goals as goal
+
+pub answer_query-requires : goal.answer_query-requires
+answer_query-requires g c =
+    let kind = c.requires.kind in
+    record {
+      short = c.requires.short;
+      words = c.requires.words;
+      some = kind.some;
+      kind = are-no-other c.args.text.now c.requires.words.0 c.args.tokens.now c.requires.words.1 c.requires.short kind.some kind.no_ddl kind.no_index
+          (sym c.is_advise.ensures ∙ c.if-is_advise.false) (sym c.is_check.ensures ∙ c.if-is_check.false) (sym c.is_use.ensures ∙ c.if-is_use.false);
+      store = c.requires.store;
+    }

@@ -214,7 +214,7 @@ def forged(rng, head, entries, best):
 def definitions(rng):
     """Tables with data, statistics and indexes, as the statements of a right script without its queries."""
     while True:
-        tables, parts = statements(rng, Asked(False, False, False, False, 0))
+        tables, parts = statements(rng, Asked(False, False, False, False, False, 0))
         if tables:
             return tables, [part for part in parts if not part.lstrip().lower().startswith(("select", "explain"))]
 
@@ -253,7 +253,7 @@ def script_of(rng, judge, stage, room):
 
 def main():
     words = argparse.ArgumentParser()
-    words.add_argument("--stage", default="10+11+15+16+17+18+limits")
+    words.add_argument("--stage", default="20+limits")
     words.add_argument("judge")
     words.add_argument("program")
     words.add_argument("numbers", nargs="*", type=int)

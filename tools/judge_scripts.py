@@ -5,9 +5,9 @@ usage: judge_scripts.py [--stage STAGE] JUDGE PROGRAM [COUNT [SEED [RELATIONS]]]
 
 COUNT right scripts and COUNT broken ones are made (500 each where it is not given). Queries have up to four relations, or with
 RELATIONS exactly so many, and are only explained then. STAGE tells which statements the judge knows
-(10+11+15+16+17+18+limits where it is not given: joins, certificates, LIMIT and OFFSET, ANALYZE, ADVISE, up to ten relations and 32
-columns); without its 17 there is no ANALYZE in right scripts, without its 15 no LIMIT, without its 18 no ADVISE, and without its 11 and
-16 no EXPLAIN (TABLE). JUDGE is a program called as `JUDGE judge --stage STAGE --allow '' SCRIPT OUT ERRORS STATUS` that exits with 0
+(20+limits where it is not given: joins, certificates, LIMIT and OFFSET, ANALYZE, ADVISE, plans that are written out, GROUP BY, up to
+ten relations and 32 columns); without its 17 there is no ANALYZE in right scripts, without its 15 no LIMIT, without its 18 no ADVISE,
+without its 20 no GROUP BY, and without its 11 and 16 no EXPLAIN (TABLE). JUDGE is a program called as `JUDGE judge --stage STAGE --allow '' SCRIPT OUT ERRORS STATUS` that exits with 0
 where the answer is allowed. A right script has to end with status 0, or with 54001 where no plan is below the limit of costs.
 """
 import argparse
@@ -18,6 +18,7 @@ import subprocess
 import sys
 import tempfile
 
+from grouped_queries import broken_groups, grouped_select
 from joined_queries import broken_joins, joined_select
 from script_parts import (CLASSES, LIMITS, NO_NUMBERS, NO_TRUTHS, Scope, Table, column_statistics, condition, copy, create, field, gap,
                           index, new_name, new_table, record, select, sizes, spaced, values_of)
@@ -31,7 +32,9 @@ def window(rng):
 
 
 def queried(rng, tables, asked):
-    """A SELECT as words: of one table, of several, or of exactly so many relations and explained; now and then its first rows."""
+    """A SELECT as words: of one table, of several, or of exactly so many relations and explained; now and then its first rows, or groups."""
+    if asked.groups and rng.random() < 0.35:
+        return grouped_select(rng, tables, [asked.relations] if asked.relations else (1, 1, 1, 2, 2, 3))
     if asked.relations:
         words = joined_select(rng, tables, [asked.relations])
         words = words if words[0].lower() == "explain" else ["EXPLAIN", *words]
@@ -49,7 +52,7 @@ def knows(stage, number):
 
 
 # Which statements right scripts have beside those that each judge knows, and how many relations a query has, 0 for up to four.
-Asked = collections.namedtuple("Asked", "analyzes windows advises tables relations")
+Asked = collections.namedtuple("Asked", "analyzes windows advises tables groups relations")
 
 
 def advised(rng, tables, names, asked):
@@ -265,6 +268,8 @@ def broken_statement(rng, tables, asked):
     names = [name for name, _, _ in table.columns]
     if asked.advises and rng.random() < 0.3:
         return broken_advice(rng, table)
+    if asked.groups and rng.random() < 0.2:
+        return broken_groups(rng, tables)
     if rng.random() < 0.1:
         return broken_window(rng, table)
     if rng.random() < 0.35:
@@ -342,14 +347,14 @@ def broken_script(rng, asked):
 
 def main():
     words = argparse.ArgumentParser()
-    words.add_argument("--stage", default="10+11+15+16+17+18+limits")
+    words.add_argument("--stage", default="20+limits")
     words.add_argument("judge")
     words.add_argument("program")
     words.add_argument("numbers", nargs="*", type=int)
     said = words.parse_args()
     judge, program, stage = said.judge, said.program, said.stage
     count, seed, relations = [*said.numbers, *[500, 1, 0][len(said.numbers):]]
-    asked = Asked(knows(stage, 17), knows(stage, 15), knows(stage, 18), knows(stage, 11) and knows(stage, 16), relations)
+    asked = Asked(knows(stage, 17), knows(stage, 15), knows(stage, 18), knows(stage, 11) and knows(stage, 16), knows(stage, 20), relations)
     rng = random.Random(seed)
     failed, statuses = 0, collections.Counter()
     with tempfile.TemporaryDirectory() as folder:

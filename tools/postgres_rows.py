@@ -1,5 +1,5 @@
 #!/usr/bin/env python3
-"""Compares the rows of random queries of up to four relations, as bags, with those of a PostgreSQL server.
+"""Compares the rows of random queries of up to four relations, some of which group, as bags, with those of a PostgreSQL server.
 
 usage: tools/postgres_rows.py PROGRAM [COUNT [SEED]]
 
@@ -13,6 +13,7 @@ import random
 import subprocess
 import sys
 
+from grouped_queries import grouped_select
 from joined_queries import joined_select
 from script_parts import Table, column_statistics, create, index, select, sizes, spaced
 
@@ -56,7 +57,8 @@ def script(rng):
         mine += [spaced(rng, s(rng, table)) + ";\n" for s in rng.sample([sizes, column_statistics], rng.choice([0, 1, 2]))]
     queries = []
     while len(queries) < 5:
-        words = without_sizes(joined_select(rng, tables) if rng.random() < 0.8 else select(rng, rng.choice(tables)))
+        groups = rng.random() < 0.4
+        words = without_sizes(grouped_select(rng, tables) if groups else joined_select(rng, tables) if rng.random() < 0.8 else select(rng, rng.choice(tables)))
         if words and words[0].lower() != "explain":
             queries.append(" ".join(words))
     return "".join(mine), "".join(theirs), queries

@@ -43,7 +43,7 @@ SELECT sale.* , count(*) FROM sale GROUP BY card, paid, item, shop ORDER BY shop
 SELECT town, count(*), max(paid) FROM sale JOIN shop ON sale.shop = shop.id GROUP BY town ORDER BY town;
 SELECT id, shop, count(*) FROM sale, shop WHERE shop = id GROUP BY id, shop ORDER BY shop DESC;
 SELECT id, count(*), min(item) FROM sale, shop WHERE shop = id GROUP BY id;
-SELECT a.town, b.town, count(*) FROM shop a, shop b GROUP BY a.town, b.town ORDER BY b.town, a.town DESC NULLS LAST;
+SELECT a.town, b.item, count(*) FROM shop a, sale b GROUP BY a.town, b.item ORDER BY b.item, a.town DESC NULLS LAST;
 -- The plan alone.
 EXPLAIN SELECT town, count(*), max(paid) FROM sale JOIN shop ON sale.shop = shop.id GROUP BY town ORDER BY town DESC;
 EXPLAIN SELECT count(*) FROM sale, shop;

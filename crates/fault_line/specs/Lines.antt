@@ -11,7 +11,7 @@ use Rattle.catalog.specs.Contents.{Contents, name_at}
 use Rattle.fault_line.specs.declared.tells.Place.{Place}
 use Rattle.fault_line.specs.declared.tells.Place.TheVariants.{Nowhere, Record, Field}
 use Rattle.fault_line.specs.declared.tells.Naming.{Naming}
-use Rattle.fault_line.specs.declared.tells.Naming.TheVariants.{Nothing, Small, AsWritten}
+use Rattle.fault_line.specs.declared.tells.Naming.TheVariants.{Nothing, Small}
 use Rattle.fault_line.specs.Tells.{naming_of, data_place_of, column_at_fault}
 
 -- the SQLSTATE code
@@ -75,7 +75,6 @@ phrase S18 rec = codes "ungrouped column "
 abbrev pub naming_text : Naming → List ℕ → List ℕ
 naming_text Nothing word = []
 naming_text Small word = map to_ascii_lowercase word
-naming_text AsWritten word = word
 
 -- the words of the script at fault
 abbrev pub word_at : List ℕ → Fault → List ℕ

@@ -9,9 +9,9 @@ use Rattle.catalog.specs.Contents.{Contents, IsTable, IsColumn}
 use Rattle.fault_line.specs.declared.tells.Place.{Place}
 use Rattle.fault_line.specs.declared.tells.Place.TheVariants.{Nowhere, Record, Field}
 use Rattle.fault_line.specs.declared.tells.Naming.{Naming}
-use Rattle.fault_line.specs.declared.tells.Naming.TheVariants.{Nothing, Small, AsWritten}
+use Rattle.fault_line.specs.declared.tells.Naming.TheVariants.{Nothing, Small}
 
--- the word at fault ends the text: a name in small letters, an operator as written
+-- the word at fault ends the text in small letters, of which an operator has none
 abbrev pub naming_of : Code → Naming
 naming_of S2 = Small
 naming_of S3 = Small
@@ -20,7 +20,7 @@ naming_of S5 = Small
 naming_of S6 = Small
 naming_of S7 = Small
 naming_of S8 = Small
-naming_of S9 = AsWritten
+naming_of S9 = Small
 naming_of S18 = Small
 naming_of _ = Nothing
 

@@ -67,7 +67,6 @@ fn write_word<E: Sink>(errors: &mut E, text: &[u8], fault: &Fault) -> Result<(),
     match how_named(fault.code) {
         Naming::Nothing => write_all(errors, b""),
         Naming::Small => write_small(errors, word),
-        Naming::AsWritten => write_all(errors, word),
     }
 }
 

@@ -10,10 +10,8 @@ use pg_base::{Code, Limit};
 pub(crate) enum Naming {
     /// Not at all.
     Nothing,
-    /// In small letters.
+    /// In small letters; an operator has none.
     Small,
-    /// As it is written in the script.
-    AsWritten,
 }
 
 /// What a text names of the COPY data at fault.
@@ -32,10 +30,8 @@ pub(crate) fn how_named(code: Code) -> Naming
     ensures { result ≡ naming_of code }
 {
     match code {
-        Code::S2 | Code::S3 | Code::S4 | Code::S5 | Code::S6 | Code::S7 | Code::S8 | Code::S18 => {
-            Naming::Small
-        }
-        Code::S9 => Naming::AsWritten,
+        Code::S2 | Code::S3 | Code::S4 | Code::S5 | Code::S6 | Code::S7 => Naming::Small,
+        Code::S8 | Code::S9 | Code::S18 => Naming::Small,
         _ => Naming::Nothing,
     }
 }

@@ -380,25 +380,27 @@ fn class_direction<B: Binding>(
     (false, false)
 }
 
-/// The class of a column in a family.
-fn make_class<B: Binding>(
+/// What classes are made of: conjuncts, the groups of their equalities, and an ORDER BY.
+#[derive(Drop)]
+struct Source<'a, B: Binding> {
     alloc: Global,
-    groups: &[Group],
-    conjuncts: &[Expr],
-    order: &[OrderItem],
-    typed: &B,
-    f: Family,
-    x: ColRef,
-) -> Result<EqClass, Memory>
-    requires bound { IsTrue (each_column_of (B.binds typed.now) (view.conds conjuncts.now)) }
-    requires typed { AreTyped (B.type_of typed.now) (view.conds conjuncts.now) }
-    requires order { All (λ i. IsTrue (B.binds typed.now i.col)) order.now }
-    ensures { IfOk result (λ c. c ≡ class_with (given (B.type_of typed.now) conjuncts.now order.now) f (members_of groups.now f x)) }
+    groups: &'a [Group],
+    conjuncts: &'a [Expr],
+    order: &'a [OrderItem],
+    typed: &'a B,
+}
+
+/// The class of a column in a family.
+fn make_class<B: Binding>(from: &Source<B>, f: Family, x: ColRef) -> Result<EqClass, Memory>
+    requires bound { IsTrue (each_column_of (B.binds from.now.typed.now) (view.conds from.now.conjuncts.now)) }
+    requires typed { AreTyped (B.type_of from.now.typed.now) (view.conds from.now.conjuncts.now) }
+    requires order { All (λ i. IsTrue (B.binds from.now.typed.now i.col)) from.now.order.now }
+    ensures { IfOk result (λ c. c ≡ class_with (given (B.type_of from.now.typed.now) from.now.conjuncts.now from.now.order.now) f (members_of from.now.groups.now f x)) }
 {
-    let members = class_members(alloc, groups, f, x)?;
+    let members = class_members(from.alloc, from.groups, f, x)?;
     let rels = rels_of(&members);
-    let constants = class_constants(alloc, conjuncts, typed, f, &members)?;
-    let (descending, nulls_first) = class_direction(order, typed, f, &members);
+    let constants = class_constants(from.alloc, from.conjuncts, from.typed, f, &members)?;
+    let (descending, nulls_first) = class_direction(from.order, from.typed, f, &members);
     Ok(EqClass {
         family: f,
         members,
@@ -418,47 +420,39 @@ fn is_placed(classes: &[EqClass], f: Family, x: ColRef) -> bool
 
 /// Puts the class of a column in a family at the end, where none is there.
 fn note_mention<B: Binding>(
-    alloc: Global,
+    from: &Source<B>,
     classes: &mut Vec<EqClass>,
-    groups: &[Group],
-    conjuncts: &[Expr],
-    order: &[OrderItem],
-    typed: &B,
     f: Family,
     x: ColRef,
 ) -> Result<(), Memory>
-    requires bound { IsTrue (each_column_of (B.binds typed.now) (view.conds conjuncts.now)) }
-    requires typed { AreTyped (B.type_of typed.now) (view.conds conjuncts.now) }
-    requires order { All (λ i. IsTrue (B.binds typed.now i.col)) order.now }
-    ensures { OnOk result (classes.new.items ≡ with_mention (given (B.type_of typed.now) conjuncts.now order.now) groups.now (Some (in_family x f)) classes.old.items) }
+    requires bound { IsTrue (each_column_of (B.binds from.now.typed.now) (view.conds from.now.conjuncts.now)) }
+    requires typed { AreTyped (B.type_of from.now.typed.now) (view.conds from.now.conjuncts.now) }
+    requires order { All (λ i. IsTrue (B.binds from.now.typed.now i.col)) from.now.order.now }
+    ensures { OnOk result (classes.new.items ≡ with_mention (given (B.type_of from.now.typed.now) from.now.conjuncts.now from.now.order.now) from.now.groups.now (Some (in_family x f)) classes.old.items) }
 {
     if is_placed(classes, f, x) {
         return Ok(());
     }
-    classes.push(make_class(alloc, groups, conjuncts, order, typed, f, x)?)?;
+    classes.push(make_class(from, f, x)?)?;
     Ok(())
 }
 
 /// The same for the left column of an equality conjunct.
 #[tactic(auto, using(crate::proofs::SearchLemmas::helps))]
 fn note_conjunct<B: Binding>(
-    alloc: Global,
+    from: &Source<B>,
     classes: &mut Vec<EqClass>,
-    groups: &[Group],
-    conjuncts: &[Expr],
-    order: &[OrderItem],
-    typed: &B,
     k: &Expr,
 ) -> Result<(), Memory>
-    requires bound { IsTrue (each_column_of (B.binds typed.now) (view.conds conjuncts.now)) }
-    requires typed { AreTyped (B.type_of typed.now) (view.conds conjuncts.now) }
-    requires order { All (λ i. IsTrue (B.binds typed.now i.col)) order.now }
-    requires own_bound { IsTrue (each_column (B.binds typed.now) (view.cond k.now)) }
-    requires own_typed { IsTyped (B.type_of typed.now) (view.cond k.now) }
-    ensures { OnOk result (classes.new.items ≡ with_mention (given (B.type_of typed.now) conjuncts.now order.now) groups.now (mention_in (B.type_of typed.now) (view.cond k.now)) classes.old.items) }
+    requires bound { IsTrue (each_column_of (B.binds from.now.typed.now) (view.conds from.now.conjuncts.now)) }
+    requires typed { AreTyped (B.type_of from.now.typed.now) (view.conds from.now.conjuncts.now) }
+    requires order { All (λ i. IsTrue (B.binds from.now.typed.now i.col)) from.now.order.now }
+    requires own_bound { IsTrue (each_column (B.binds from.now.typed.now) (view.cond k.now)) }
+    requires own_typed { IsTyped (B.type_of from.now.typed.now) (view.cond k.now) }
+    ensures { OnOk result (classes.new.items ≡ with_mention (given (B.type_of from.now.typed.now) from.now.conjuncts.now from.now.order.now) from.now.groups.now (mention_in (B.type_of from.now.typed.now) (view.cond k.now)) classes.old.items) }
 {
-    match equality(k, typed) {
-        Some((f, l, _)) => note_mention(alloc, classes, groups, conjuncts, order, typed, f, l),
+    match equality(k, from.typed) {
+        Some((f, l, _)) => note_mention(from, classes, f, l),
         None => Ok(()),
     }
 }
@@ -466,60 +460,42 @@ fn note_conjunct<B: Binding>(
 /// The same for an item of ORDER BY.
 #[tactic(auto, using(crate::proofs::SearchLemmas::helps))]
 fn note_item<B: Binding>(
-    alloc: Global,
+    from: &Source<B>,
     classes: &mut Vec<EqClass>,
-    groups: &[Group],
-    conjuncts: &[Expr],
-    order: &[OrderItem],
-    typed: &B,
     item: OrderItem,
 ) -> Result<(), Memory>
-    requires bound { IsTrue (each_column_of (B.binds typed.now) (view.conds conjuncts.now)) }
-    requires typed { AreTyped (B.type_of typed.now) (view.conds conjuncts.now) }
-    requires order { All (λ i. IsTrue (B.binds typed.now i.col)) order.now }
-    requires own_bound { IsTrue (B.binds typed.now item.col) }
-    ensures noted { OnOk result (classes.new.items ≡ with_mention (given (B.type_of typed.now) conjuncts.now order.now) groups.now (ordered_by (B.type_of typed.now) item) classes.old.items) }
+    requires bound { IsTrue (each_column_of (B.binds from.now.typed.now) (view.conds from.now.conjuncts.now)) }
+    requires typed { AreTyped (B.type_of from.now.typed.now) (view.conds from.now.conjuncts.now) }
+    requires order { All (λ i. IsTrue (B.binds from.now.typed.now i.col)) from.now.order.now }
+    requires own_bound { IsTrue (B.binds from.now.typed.now item.col) }
+    ensures noted { OnOk result (classes.new.items ≡ with_mention (given (B.type_of from.now.typed.now) from.now.conjuncts.now from.now.order.now) from.now.groups.now (ordered_by (B.type_of from.now.typed.now) item) classes.old.items) }
     ensures narrow { item.col.col.0 < 256 }
 {
-    let f = default_family(typed.typed(item.col));
-    note_mention(alloc, classes, groups, conjuncts, order, typed, f, item.col)
+    let f = default_family(from.typed.typed(item.col));
+    note_mention(from, classes, f, item.col)
 }
 
-fn note_conjuncts<B: Binding>(
-    alloc: Global,
-    classes: &mut Vec<EqClass>,
-    groups: &[Group],
-    conjuncts: &[Expr],
-    order: &[OrderItem],
-    typed: &B,
-) -> Result<(), Memory>
-    requires bound { IsTrue (each_column_of (B.binds typed.now) (view.conds conjuncts.now)) }
-    requires typed { AreTyped (B.type_of typed.now) (view.conds conjuncts.now) }
-    requires order { All (λ i. IsTrue (B.binds typed.now i.col)) order.now }
-    ensures { OnOk result (classes.new.items ≡ by_conjuncts (given (B.type_of typed.now) conjuncts.now order.now) groups.now (map view.cond conjuncts.now) classes.old.items) }
+fn note_conjuncts<B: Binding>(from: &Source<B>, classes: &mut Vec<EqClass>) -> Result<(), Memory>
+    requires bound { IsTrue (each_column_of (B.binds from.now.typed.now) (view.conds from.now.conjuncts.now)) }
+    requires typed { AreTyped (B.type_of from.now.typed.now) (view.conds from.now.conjuncts.now) }
+    requires order { All (λ i. IsTrue (B.binds from.now.typed.now i.col)) from.now.order.now }
+    ensures { OnOk result (classes.new.items ≡ by_conjuncts (given (B.type_of from.now.typed.now) from.now.conjuncts.now from.now.order.now) from.now.groups.now (map view.cond from.now.conjuncts.now) classes.old.items) }
 {
-    for k in conjuncts {
-        note_conjunct(alloc, classes, groups, conjuncts, order, typed, k)?;
+    for k in from.conjuncts {
+        note_conjunct(from, classes, k)?;
     }
     Ok(())
 }
 
-fn note_items<B: Binding>(
-    alloc: Global,
-    classes: &mut Vec<EqClass>,
-    groups: &[Group],
-    conjuncts: &[Expr],
-    order: &[OrderItem],
-    typed: &B,
-) -> Result<(), Memory>
-    requires bound { IsTrue (each_column_of (B.binds typed.now) (view.conds conjuncts.now)) }
-    requires typed { AreTyped (B.type_of typed.now) (view.conds conjuncts.now) }
-    requires order { All (λ i. IsTrue (B.binds typed.now i.col)) order.now }
-    ensures noted { OnOk result (classes.new.items ≡ by_order (given (B.type_of typed.now) conjuncts.now order.now) groups.now order.now classes.old.items) }
-    ensures narrow { OnOk result (All (λ i. i.col.col.0 < 256) order.now) }
+fn note_items<B: Binding>(from: &Source<B>, classes: &mut Vec<EqClass>) -> Result<(), Memory>
+    requires bound { IsTrue (each_column_of (B.binds from.now.typed.now) (view.conds from.now.conjuncts.now)) }
+    requires typed { AreTyped (B.type_of from.now.typed.now) (view.conds from.now.conjuncts.now) }
+    requires order { All (λ i. IsTrue (B.binds from.now.typed.now i.col)) from.now.order.now }
+    ensures noted { OnOk result (classes.new.items ≡ by_order (given (B.type_of from.now.typed.now) from.now.conjuncts.now from.now.order.now) from.now.groups.now from.now.order.now classes.old.items) }
+    ensures narrow { OnOk result (All (λ i. i.col.col.0 < 256) from.now.order.now) }
 {
-    for item in order {
-        note_item(alloc, classes, groups, conjuncts, order, typed, *item)?;
+    for item in from.order {
+        note_item(from, classes, *item)?;
     }
     Ok(())
 }
@@ -539,7 +515,14 @@ pub fn make_classes<B: Binding>(
 {
     let groups = group_all(alloc, conjuncts, typed)?;
     let mut classes = Vec::new(alloc);
-    note_conjuncts(alloc, &mut classes, &groups, conjuncts, order, typed)?;
-    note_items(alloc, &mut classes, &groups, conjuncts, order, typed)?;
+    let from = Source {
+        alloc,
+        groups: &groups,
+        conjuncts,
+        order,
+        typed,
+    };
+    note_conjuncts(&from, &mut classes)?;
+    note_items(&from, &mut classes)?;
     Ok(classes)
 }

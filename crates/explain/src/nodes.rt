@@ -46,24 +46,20 @@ fn put_numbers(
     text.extend_from_slice(numbers.as_bytes())
 }
 
-/// Appends what a scan by an index is.
-#[allow(clippy::too_many_arguments)]
-fn put_index(
+/// Appends the index and the relation of a scan by an index.
+fn put_using(
     text: &mut Vec<u8>,
     cat: &Catalog,
     q: &Prepared,
-    only: bool,
     r: RelNo,
     i: IndexNo,
-    backward: bool,
     p: RelSet,
 ) -> Result<(), Memory>
     requires bound { IsWellBound cat.now q.now }
     requires relation { r.0 < width q.now }
     requires index { IsIndex cat.now i }
-    ensures { OnOk result (text.new.items ≡ text.old.items ++ texts.index_text cat.now q.now only r i backward p) }
+    ensures { OnOk result (text.new.items ≡ text.old.items ++ texts.using_text cat.now q.now r i p) }
 {
-    put_scan_name(text, only, backward)?;
     text.extend_from_slice(b" using ")?;
     text.extend_from_slice(cat.index_name(i))?;
     text.extend_from_slice(b" on ")?;
@@ -117,13 +113,19 @@ fn put_title(text: &mut Vec<u8>, cat: &Catalog, q: &Prepared, p: &Plan) -> Resul
             index,
             backward,
             param,
-        } => put_index(text, cat, q, false, *rel, *index, *backward, *param),
+        } => {
+            put_scan_name(text, false, *backward)?;
+            put_using(text, cat, q, *rel, *index, *param)
+        }
         Plan::IndexOnly {
             rel,
             index,
             backward,
             param,
-        } => put_index(text, cat, q, true, *rel, *index, *backward, *param),
+        } => {
+            put_scan_name(text, true, *backward)?;
+            put_using(text, cat, q, *rel, *index, *param)
+        }
         Plan::Bitmap { rel, param, .. } => {
             text.extend_from_slice(b"Bitmap Heap Scan on ")?;
             put_scanned(text, cat, q, *rel, *param)

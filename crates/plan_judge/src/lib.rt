@@ -8,5 +8,5 @@ mod outside;
 mod own;
 
 pub use judged::{Judged, judge};
-pub use lines::{count_lines, count_nodes};
+pub use lines::{MOST_LINES, count_lines, count_nodes};
 pub use numbers::{Numbers, Written};

@@ -4,6 +4,7 @@ ghost use Rattle.std.specs.Prelude.{◌≡◌, ◌≤◌};
 ghost use Rattle.plan_tree.specs.Views.{bits, bits_all, plan};
 ghost use Rattle.plan_judge.specs.Numbered as numbered;
 ghost use Rattle.plan_judge.specs.Numbered.{bit_lines, all_bit_lines, lines, nodes};
+ghost use Rattle.plan_judge.specs.declared.lines.TheConstants.{MOST_LINES};
 
 use plan_tree::{BitTree, Plan};
 
@@ -13,7 +14,7 @@ pub const MOST_LINES: u32 = 256;
 /// The lines of a bitmap tree.
 #[cycle(bits)]
 fn lines_of_bits(tree: &BitTree) -> u32
-    requires few { bit_lines (bits tree.now) ≤ 256 }
+    requires few { bit_lines (bits tree.now) ≤ MOST_LINES }
     ensures { result ≡ bit_lines (bits tree.now) }
 {
     match tree {
@@ -26,7 +27,7 @@ fn lines_of_bits(tree: &BitTree) -> u32
 /// The lines of some bitmap trees.
 #[cycle(bits)]
 fn lines_of_all(trees: &[BitTree]) -> u32
-    requires few { all_bit_lines (bits_all trees.now) ≤ 256 }
+    requires few { all_bit_lines (bits_all trees.now) ≤ MOST_LINES }
     ensures { result ≡ all_bit_lines (bits_all trees.now) }
 {
     let mut count = 0;
@@ -38,7 +39,7 @@ fn lines_of_all(trees: &[BitTree]) -> u32
 
 /// How many lines the printed form of a plan has: one for each node, also for those of bitmap trees. The plan has at most 256.
 pub fn count_lines(p: &Plan) -> u32
-    requires few { lines (plan p.now) ≤ 256 }
+    requires few { lines (plan p.now) ≤ MOST_LINES }
     ensures { result ≡ lines (plan p.now) }
 {
     match p {
@@ -54,7 +55,7 @@ pub fn count_lines(p: &Plan) -> u32
 
 /// How many nodes of a plan have numbers: all but those of bitmap trees. The plan has at most 256 lines.
 pub fn count_nodes(p: &Plan) -> usize
-    requires few { lines (plan p.now) ≤ 256 }
+    requires few { lines (plan p.now) ≤ MOST_LINES }
     ensures count { result ≡ nodes (plan p.now) }
     ensures few { result ≤ lines (plan p.now) }
 {

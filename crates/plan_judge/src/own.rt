@@ -10,6 +10,7 @@ ghost use Rattle.plan_tree.specs.Reads.{IsOverTables};
 ghost use Rattle.plan_tree.specs.Views.{plan};
 ghost use Rattle.plan_judge.specs.Parts.{IsPart};
 ghost use Rattle.plan_judge.specs.Numbered.{lines, lines_from, nodes, own_numbers, own_pair};
+ghost use Rattle.plan_judge.specs.declared.lines.TheConstants.{MOST_LINES};
 
 use crate::lines::{count_lines, count_nodes};
 use catalog::Catalog;
@@ -61,7 +62,7 @@ struct Part<'a> {
 
 /// The child of a plan in which the node of a place stands, where that is not the root; the root stands in line `at`.
 fn child_of(p: &Plan, at: u32, place: usize) -> Part<'_>
-    requires few { at + lines (plan p.now) ≤ 257 }
+    requires few { at + lines (plan p.now) ≤ MOST_LINES + 1 }
     requires below { place ≢ 0 }
     requires within { place < nodes (plan p.now) }
     ensures part { (c : Contents) (q : Query) → IsPart c q (plan p.now) at place (plan result.plan.now) result.at result.place }
@@ -118,7 +119,7 @@ pub(crate) fn node_at(cat: &Catalog, q: &Prepared, p: &Plan, place: usize) -> No
     requires rows { HaveRows cat.now q.now }
     requires costable { IsCostable cat.now q.now (plan p.now) }
     requires admissible { IsAdmissible cat.now q.now (plan p.now) }
-    requires few { lines (plan p.now) ≤ 256 }
+    requires few { lines (plan p.now) ≤ MOST_LINES }
     requires within { place < nodes (plan p.now) }
     ensures line { result.line ≡ get_or (lines_from 1 (plan p.now)) place 0 }
     ensures own { (result.cost, result.rows) ≡ get_or (own_numbers cat.now q.now (plan p.now)) place (0, 0) }

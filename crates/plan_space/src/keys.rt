@@ -17,21 +17,30 @@ use pg_base::{IndexNo, RelNo, RelSet};
 use plan_tree::{Plan, classes_of, range_of};
 use sql_query::Prepared;
 
-/// The class at place `n`, from 0, of the keys of a scan by an index.
-fn scan_key(
-    cat: &Catalog,
-    q: &Prepared,
-    r: RelNo,
-    i: IndexNo,
+/// A scan of a relation by an index, where rows of the relations of a set are given.
+#[derive(Drop)]
+struct IndexScan {
+    rel: RelNo,
+    index: IndexNo,
     backward: bool,
-    p: RelSet,
-    n: u8,
-) -> Option<ClassNo>
-    requires index { IsIndex cat.now i }
-    ensures class { option_map (λ c. c.0) result ≡ slice_get (keys.scan_keys cat.now q.now r i backward p) n }
+    param: RelSet,
+}
+
+/// The class at place `n`, from 0, of the keys of a scan by an index.
+fn scan_key(cat: &Catalog, q: &Prepared, s: &IndexScan, n: u8) -> Option<ClassNo>
+    requires index { IsIndex cat.now s.now.index }
+    ensures class { option_map (λ c. c.0) result ≡ slice_get (keys.scan_keys cat.now q.now s.now.rel s.now.index s.now.backward s.now.param) n }
 {
-    if p.0 == 0 {
-        index_key(cat, range_of(q), classes_of(q), i, r, backward, n)
+    if s.param.0 == 0 {
+        index_key(
+            cat,
+            range_of(q),
+            classes_of(q),
+            s.index,
+            s.rel,
+            s.backward,
+            n,
+        )
     } else {
         None
     }
@@ -57,13 +66,21 @@ pub fn key_at(cat: &Catalog, q: &Prepared, p: &Plan, n: u8) -> Option<ClassNo>
             index,
             backward,
             param,
-        } => scan_key(cat, q, *rel, *index, *backward, *param, n),
-        Plan::IndexOnly {
+        }
+        | Plan::IndexOnly {
             rel,
             index,
             backward,
             param,
-        } => scan_key(cat, q, *rel, *index, *backward, *param, n),
+        } => {
+            let scan = IndexScan {
+                rel: *rel,
+                index: *index,
+                backward: *backward,
+                param: *param,
+            };
+            scan_key(cat, q, &scan, n)
+        }
         Plan::Bitmap { .. } => None,
         Plan::Sort { keys, .. } => list_key(keys.items(), n),
         Plan::Nest { outer, .. } => key_at(cat, q, outer, n),

@@ -23,7 +23,7 @@ use Rattle.pg_expr.specs.Columns.{names_column}
 use Rattle.pg_expr.specs.Cond.{Cond, compare, is_null, is_not_null, bool_col, const, all_of, any_of, negation, Conds}
 use Rattle.pg_expr.specs.Truths.{value_of, truth_of_null, truth_of_flag, truth_at, truth_of_all, truth_of_any}
 use Rattle.pg_value.specs.Types.{IsOfType, in_range, limit}
-use Rattle.predicate_proof.specs.Atoms.{SameSide, SameAtom, has_number, typed_family, operator_family, IsFamilyValue, CellHolds, TableGives}
+use Rattle.predicate_proof.specs.Atoms.{SameSide, SameAtom, has_column_number, typed_family, operator_family, IsFamilyValue, CellHolds, TableGives}
 use Rattle.predicate_proof.specs.Derivation.{Implies, each_part, each_arm, arm_by_arm, atom_to_part, part_to_atom, all_to_part, part_to_any, same, not_null, by_table, ImpliesAll, no_part, part_and, ImpliesSome, this_part, later_part, AllImply, no_arm, arm_and, SomeImplies, this_clause, later_clause, EachImpliesSome, no_choice, choice_and}
 use Rattle.predicate_proof.specs.Rows.{at_row, FitsColumns}
 use Rattle.predicate_proof.proofs.Table.{cell-sound}
@@ -161,7 +161,7 @@ module _ (total : (f : Family) → IsTotalOrder (value_order f)) (columns : List
       let make : ℕ → ColNo = λ n. record { 0 = n } in
       ap make (eqb-true c.0 d.0 h)
 
-  column-named : (d : ColNo) (o : Operand) → names_column (has_number d) o ≡ true → opposite (truth_of_null (value_of (at_row row) o)) ≡ True → opposite (truth_of_null (row d)) ≡ True
+  column-named : (d : ColNo) (o : Operand) → names_column (has_column_number d) o ≡ true → opposite (truth_of_null (value_of (at_row row) o)) ≡ True → opposite (truth_of_null (row d)) ≡ True
   column-named d (Col c) h given = subst (λ n. opposite (truth_of_null (row n)) ≡ True) (col-same c.col d h) given
   column-named d (Lit v) h given = cc
 
@@ -169,9 +169,9 @@ module _ (total : (f : Family) → IsTotalOrder (value_order f)) (columns : List
   or-cases true b h = inl refl
   or-cases false b h = inr h
 
-  null-sound : (op : Op) (l r : Operand) (d : ColRef) → names_column (has_number d.col) l || names_column (has_number d.col) r ≡ true →
+  null-sound : (op : Op) (l r : Operand) (d : ColRef) → names_column (has_column_number d.col) l || names_column (has_column_number d.col) r ≡ true →
       truth_of_op op (value_of (at_row row) l) (value_of (at_row row) r) ≡ True → opposite (truth_of_null (row d.col)) ≡ True
-  null-sound op l r d names h = elim (or-cases (names_column (has_number d.col) l) _ names) [
+  null-sound op l r d names h = elim (or-cases (names_column (has_column_number d.col) l) _ names) [
     | inl left ↦ column-named d.col l left (left-given op _ _ h)
     | inr right ↦ column-named d.col r right (right-given op _ _ h)
   ]

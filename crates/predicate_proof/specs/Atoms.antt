@@ -18,6 +18,7 @@ use Rattle.pg_expr.specs.declared.operand.ColRef.{ColRef}
 use Rattle.pg_expr.specs.declared.operand.Operand.{Operand}
 use Rattle.pg_expr.specs.declared.operand.Operand.TheVariants.{Col, Lit}
 use Rattle.pg_expr.specs.Columns.{some_column}
+use Rattle.predicate_proof.specs.declared.atoms.Comparison.{Comparison}
 use Rattle.pg_expr.specs.Cond.{Cond, compare, is_null, is_not_null, bool_col, const, all_of, any_of, negation}
 
 -- a condition is an AND
@@ -53,8 +54,8 @@ SameAtom (negation c) (negation d) = SameAtom c d
 SameAtom _ _ = ⊥
 
 -- a column has this number
-abbrev pub has_number : ColNo → ColRef → Bool
-has_number d c = nat_eq c.col.0 d.0
+abbrev pub has_column_number : ColNo → ColRef → Bool
+has_column_number d c = nat_eq c.col.0 d.0
 
 -- the family of an operator over a type: int_abs_ops for one by absolute value, else the type's default family, to which `<>` counts
 abbrev pub typed_family : SqlType → Op → Option Family
@@ -113,8 +114,12 @@ CellHolds (Some f) op v other w = IsFamilyValue f v × IsFamilyValue f w × IsTr
 abbrev pub TableGives : List Column → Op → ColNo → Value → Op → ColNo → Value → Type 0
 TableGives columns op c v other d w = (c ≡ d) × (operator_family columns c op ≡ operator_family columns d other) × CellHolds (operator_family columns c op) op v other w
 
+-- the same of two comparisons of a column with a literal
+abbrev pub Gives : List Column → Comparison → Comparison → Type 0
+Gives columns given wanted = TableGives columns given.op given.col given.value.now wanted.op wanted.col wanted.value.now
+
 -- what a comparison implies beside its equals: IS NOT NULL of each column in it, and by the table comparisons of its column
 abbrev pub ComparisonGives : List Column → Cond → Cond → Type 0
-ComparisonGives columns (compare op l r) (is_not_null d) = IsTrue (some_column (has_number d.col) (compare op l r))
+ComparisonGives columns (compare op l r) (is_not_null d) = IsTrue (some_column (has_column_number d.col) (compare op l r))
 ComparisonGives columns (compare op (Col c) (Lit v)) (compare other (Col d) (Lit w)) = TableGives columns op c.col v other d.col w
 ComparisonGives columns _ _ = ⊥

@@ -8,7 +8,7 @@ use Rattle.pg_expr.specs.declared.operand.Operand.{Operand}
 use Rattle.pg_expr.specs.declared.operand.Operand.TheVariants.{Col, Lit}
 use Rattle.pg_expr.specs.Columns.{some_column}
 use Rattle.pg_expr.specs.Cond.{Cond, compare, is_not_null, all_of, any_of, Conds, no_conds, cond_and, conds_of}
-use Rattle.predicate_proof.specs.Atoms.{is_any, is_atom, has_number, SameAtom, TableGives}
+use Rattle.predicate_proof.specs.Atoms.{is_any, is_atom, has_column_number, SameAtom, TableGives}
 
 mutual
   -- the clause implies the predicate, over these columns
@@ -30,7 +30,7 @@ mutual
     -- equal atoms
     same : (c p : Cond) → SameAtom c p → Implies columns c p
     -- a comparison implies IS NOT NULL of each column in it
-    not_null : (op : Op) (l r : Operand) (d : ColRef) → IsTrue (some_column (has_number d.col) (compare op l r)) → Implies columns (compare op l r) (is_not_null d)
+    not_null : (op : Op) (l r : Operand) (d : ColRef) → IsTrue (some_column (has_column_number d.col) (compare op l r)) → Implies columns (compare op l r) (is_not_null d)
     -- the table of operators
     by_table : (op : Op) (c : ColRef) (v : Value) (other : Op) (d : ColRef) (w : Value) → TableGives columns op c.col v other d.col w → Implies columns (compare op (Col c) (Lit v)) (compare other (Col d) (Lit w))
 

@@ -3,7 +3,7 @@
 ghost use Rattle.std.specs.Prelude.{◌≡◌, ◌↔◌, IsTrue, Some};
 ghost use Rattle.pg_expr.specs.Columns.{names_column};
 ghost use Rattle.pg_expr.specs.View.{cond};
-ghost use Rattle.predicate_proof.specs.Atoms.{CellHolds, ComparisonGives, IsFamilyValue, SameAtom, SameSide, TableGives, cell, has_number, operator_family, plain, typed_family};
+ghost use Rattle.predicate_proof.specs.Atoms.{CellHolds, ComparisonGives, Gives, IsFamilyValue, SameAtom, SameSide, cell, has_column_number, operator_family, plain, typed_family};
 
 use opfamily::default_family;
 use pg_base::ColNo;
@@ -114,34 +114,34 @@ fn cell_holds(f: Family, op: Op, v: &Value, other: Op, w: &Value) -> bool
     }
 }
 
-/// Whether a comparison of a column with a literal implies another one by the table.
-fn table_gives(
-    columns: &[Column],
+/// A comparison of a column, by its number, with a literal.
+#[derive(Drop)]
+struct Comparison<'a> {
     op: Op,
-    c: ColNo,
-    v: &Value,
-    other: Op,
-    d: ColNo,
-    w: &Value,
-) -> bool
-    ensures { IsTrue result ↔ TableGives columns.now op c v.now other d w.now }
+    col: ColNo,
+    value: &'a Value,
+}
+
+/// Whether a comparison of a column with a literal implies another one by the table.
+fn table_gives(columns: &[Column], given: &Comparison, wanted: &Comparison) -> bool
+    ensures { IsTrue result ↔ Gives columns.now given.now wanted.now }
 {
-    if c != d {
+    if given.col != wanted.col {
         return false;
     }
-    let family = operator_family(columns, c, op);
-    if family != operator_family(columns, d, other) {
+    let family = operator_family(columns, given.col, given.op);
+    if family != operator_family(columns, wanted.col, wanted.op) {
         return false;
     }
     match family {
-        Some(f) => cell_holds(f, op, v, other, w),
+        Some(f) => cell_holds(f, given.op, given.value, wanted.op, wanted.value),
         None => false,
     }
 }
 
 /// Whether a side of a comparison is the column of this number.
-fn has_number(side: &Operand, d: ColNo) -> bool
-    ensures { result ≡ names_column (has_number d) side.now }
+fn has_column_number(side: &Operand, d: ColNo) -> bool
+    ensures { result ≡ names_column (has_column_number d) side.now }
 {
     match side {
         Operand::Col(c) => c.col == d,
@@ -154,12 +154,24 @@ pub fn comparison_gives(columns: &[Column], clause: &Expr, goal: &Expr) -> bool
     ensures { IsTrue result ↔ ComparisonGives columns.now (cond clause.now) (cond goal.now) }
 {
     match (clause, goal) {
-        (Expr::Compare(_, l, r), Expr::IsNotNull(d)) => has_number(l, d.col)
-            || has_number(r, d.col),
+        (Expr::Compare(_, l, r), Expr::IsNotNull(d)) => has_column_number(l, d.col)
+            || has_column_number(r, d.col),
         (
             Expr::Compare(op, Operand::Col(c), Operand::Lit(v)),
             Expr::Compare(other, Operand::Col(d), Operand::Lit(w)),
-        ) => table_gives(columns, *op, c.col, v, *other, d.col, w),
+        ) => {
+            let given = Comparison {
+                op: *op,
+                col: c.col,
+                value: v,
+            };
+            let wanted = Comparison {
+                op: *other,
+                col: d.col,
+                value: w,
+            };
+            table_gives(columns, &given, &wanted)
+        }
         _ => false,
     }
 }

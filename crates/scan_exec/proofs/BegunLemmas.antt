@@ -1,6 +1,5 @@
 -- Scans as they begin: the rows that they come to are those of their plan.
 use Rattle.std.proofs.Common.{◌≡◌, ◌-◌, ◌<◌, ℕ, Bool, true, false, not, cond, ◌&&◌, ◌||◌, nat_eq, List, [], ◌∷◌, ◌++◌, length, map, filter, reverse, refl, sym, ap, ap₂, ◌∙◌, subst, arith, inl, inr, ⊎_elim, All}
-use Rattle.std.specs.Prelude.{Contains}
 use Rattle.std.specs.List.{enumerate_from, list_all, list_any, range_with_len}
 use Rattle.std.proofs.lemmas.Bool.{and_parts}
 use Rattle.std.proofs.lemmas.List.{get_or_default, reverse-append}
@@ -27,7 +26,7 @@ use Rattle.eq_classes.specs.Clauses.{Clause, clause, by_conjunct}
 use Rattle.eq_classes.specs.Listing.{clause_at}
 use Rattle.eq_classes.proofs.ColumnLemmas.{clause_passes}
 use Rattle.eq_classes.proofs.HoldLemmas.{in_map}
-use Rattle.eq_classes.proofs.ListLemmas.{IsIn, all_at, all_from, in_filter, in_from_contains, in_left, in_parts}
+use Rattle.eq_classes.proofs.ListLemmas.{IsIn, all_at, all_from, in_filter, in_left, in_parts}
 use Rattle.eq_classes.proofs.WrittenLemmas.{in_columns}
 use Rattle.query_laws.proofs.OverLemmas.{conditions_pass, item_used}
 use Rattle.btree_index.specs.Tree.{in_direction}

@@ -5,6 +5,7 @@ ghost use Rattle.std.specs.List.{AllByRecursion, AllZip};
 ghost use Rattle.pg_base.specs.Sets.{has};
 ghost use Rattle.pg_expr.specs.View as view;
 ghost use Rattle.opfamily.specs.KeyOrder.{Entry};
+ghost use Rattle.opfamily.specs.declared.classes.Method.TheVariants.{Btree};
 ghost use Rattle.heap.specs.TidSets.{TidSet};
 ghost use Rattle.catalog.specs.Contents.{index_at};
 ghost use Rattle.catalog.specs.Entries.{index_of};
@@ -19,17 +20,17 @@ ghost use Rattle.plan_tree.specs.Plans as plans;
 ghost use Rattle.plan_tree.specs.Run.{at_which, met, some_holds, all_hold_row, holds, held as held_rows};
 ghost use Rattle.plan_tree.specs.Space.{IsBitmapScan};
 ghost use Rattle.plan_tree.specs.Views.{bits, bits_all};
-ghost use Rattle.store.specs.Kept.{built_of, hashed, sorted};
+ghost use Rattle.store.specs.Kept.{built_of, hashed};
 ghost use Rattle.scan_exec.specs.Coming.{coming};
 ghost use Rattle.scan_exec.specs.Held.{AreHeldTrees, IsHeldTree, IsMade, IsReadyMark, set_held, with_arms, with_rows};
 ghost use Rattle.scan_exec.specs.Kinds.{passes_entry};
 ghost use Rattle.scan_exec.specs.Scene.{AreUsed, IsNear, IsSceneOf, limits, tuple_of, world_of};
 
 use crate::hashed::rows_equal;
-use crate::index::seek;
+use crate::index::{seek, sorted_index};
 use crate::numbers::BitRows;
 use crate::scene::Scene;
-use btree_index::{BTree, Cursor};
+use btree_index::Cursor;
 use catalog::IndexDef;
 use hash_index::HashIndex;
 use heap::{Counters, Tids};
@@ -42,24 +43,36 @@ use std::alloc::Global;
 use std::slice;
 use store::BuiltIndex;
 
-/// Puts in the rows of the entries of a cursor at which conditions are True. Each entry is one look.
+/// What an entry of an index is tested by.
+#[derive(Drop)]
+struct Tests<'a> {
+    beside: &'a Beside<'a>,
+    given: &'a Given<'a>,
+    conditions: &'a [&'a Expr],
+    def: &'a IndexDef,
+}
+
+/// Puts in the rows of the entries of a cursor that pass the tests. Each entry is one look.
 fn mark_entries<C: Counters>(
-    beside: &Beside,
-    given: &Given,
-    conditions: &[&Expr],
-    def: &IndexDef,
+    tests: &Tests,
     cursor: Cursor<C::Looks>,
     held: &mut Tids,
     reads: &mut Steps<C::Looks>,
 )
     requires made { IsMade held.old }
-    requires ready { All (IsReadyMark beside.now.cat.now beside.now.range.now beside.now.rel.0 given.now (conditions_of conditions.now) (index_of def.now) held.old.bound) cursor }
-    ensures held { held.new ≡ with_rows held.old (map (λ (e : Entry). e.row) (filter (passes_entry beside.now.rel.0 given.now (conditions_of conditions.now) (index_of def.now)) cursor.entry)) }
+    requires ready { All (IsReadyMark tests.now.beside.now.cat.now tests.now.beside.now.range.now tests.now.beside.now.rel.0 tests.now.given.now (conditions_of tests.now.conditions.now) (index_of tests.now.def.now) held.old.bound) cursor }
+    ensures held { held.new ≡ with_rows held.old (map (λ (e : Entry). e.row) (filter (passes_entry tests.now.beside.now.rel.0 tests.now.given.now (conditions_of tests.now.conditions.now) (index_of tests.now.def.now)) cursor.entry)) }
     ensures looks { reads.new ≡ reads.old + length cursor.entry }
 {
     let mut left = cursor;
     while let Some(entry) = left.next(reads) {
-        if pass_entry(beside, given, conditions, def, &entry) {
+        if pass_entry(
+            tests.beside,
+            tests.given,
+            tests.conditions,
+            tests.def,
+            &entry,
+        ) {
             held.add(entry.tid());
         }
     }
@@ -79,34 +92,38 @@ fn mark_rows(tids: &[Tid], held: &mut Tids)
 /// Puts in the rows of the entries of a B-tree at which its conditions are True. Each entry within its bounds is one look. The
 /// error means want of memory.
 fn mark_sorted<C: Counters>(
-    alloc: Global,
     at: &Scene<C>,
     given: &Given,
     i: IndexNo,
-    tree: &BTree<C::Looks>,
     conditions: &[&Expr],
     held: &mut Tids,
     reads: &mut Steps<C::Looks>,
 ) -> Result<(), Memory>
     requires scene { IsSceneOf at.now given.now }
     requires index { IsIndexOn at.now.cat.now at.now.q.now at.now.rel.0 i }
-    requires tree { sorted tree.now ≡ built_of (index_at at.now.cat.now i) (rows_of_relation (world_of at.now) at.now.q.now at.now.rel) }
+    requires ordered { (index_at at.now.cat.now i).method ≡ Btree }
     requires used { AreUsed at.now.cat.now at.now.q.now at.now.rel at.now.param i (conditions_of conditions.now) }
     requires made { IsMade held.old }
     requires bound { held.old.bound ≡ length (rows_of_relation (world_of at.now) at.now.q.now at.now.rel) }
     ensures held { OnOk result (held.new ≡ with_rows held.old (at_which (world_of at.now) at.now.q.now at.now.rel (tuple_of at.now) (conditions_of conditions.now) (entry_rows (world_of at.now) i))) }
     ensures most { reads.new ≤ reads.old + entries_met (world_of at.now) at.now.q.now (index_at at.now.cat.now i).method at.now.rel i (tuple_of at.now) (limits (index_at at.now.cat.now i) at.now.rel.0 (conditions_of conditions.now)) }
 {
-    let cursor = seek(alloc, at, given, i, tree, conditions, false)?;
+    let tree = sorted_index(at, i);
+    let cursor = seek(at, given, i, tree, conditions, false)?;
     let beside = at.beside();
     let def = at.cat.index(i);
-    mark_entries::<C>(&beside, given, conditions, def, cursor, held, reads);
+    let tests = Tests {
+        beside: &beside,
+        given,
+        conditions,
+        def,
+    };
+    mark_entries::<C>(&tests, cursor, held, reads);
     Ok(())
 }
 
 /// Puts in the rows of a hash index at which its one condition is True. The error means want of memory.
 fn mark_hashed<C: Counters>(
-    alloc: Global,
     at: &Scene<C>,
     given: &Given,
     i: IndexNo,
@@ -123,7 +140,7 @@ fn mark_hashed<C: Counters>(
     requires bound { held.old.bound ≡ length (rows_of_relation (world_of at.now) at.now.q.now at.now.rel) }
     ensures held { OnOk result (held.new ≡ with_rows held.old (at_which (world_of at.now) at.now.q.now at.now.rel (tuple_of at.now) (conditions_of conditions.now) (entry_rows (world_of at.now) i))) }
 {
-    let tids = rows_equal(alloc, at, given, i, index, conditions[0])?;
+    let tids = rows_equal(at, given, i, index, conditions[0])?;
     mark_rows(tids, held);
     Ok(())
 }
@@ -131,7 +148,6 @@ fn mark_hashed<C: Counters>(
 /// Puts in the rows of the entries of an index at which its conditions are True. Each entry of a B-tree within its bounds is
 /// one look. The error means want of memory.
 fn mark<C: Counters>(
-    alloc: Global,
     at: &Scene<C>,
     given: &Given,
     i: IndexNo,
@@ -149,16 +165,13 @@ fn mark<C: Counters>(
     ensures most { reads.new ≤ reads.old + entries_met (world_of at.now) at.now.q.now (index_at at.now.cat.now i).method at.now.rel i (tuple_of at.now) (limits (index_at at.now.cat.now i) at.now.rel.0 (conditions_of conditions.now)) }
 {
     match at.store.index(i) {
-        BuiltIndex::Sorted(tree) => {
-            mark_sorted(alloc, at, given, i, tree, conditions, held, reads)
-        }
-        BuiltIndex::Hashed(index) => mark_hashed(alloc, at, given, i, index, conditions, held),
+        BuiltIndex::Sorted(_) => mark_sorted(at, given, i, conditions, held, reads),
+        BuiltIndex::Hashed(index) => mark_hashed(at, given, i, index, conditions, held),
     }
 }
 
 /// The rows of the entries of an index that meet its conditions. The error means want of memory.
 fn hold_index<C: Counters>(
-    alloc: Global,
     at: &Scene<C>,
     given: &Given,
     i: IndexNo,
@@ -169,10 +182,10 @@ fn hold_index<C: Counters>(
     ensures held { IfOk result (λ s. s ≡ set_held (world_of at.now) at.now.q.now at.now.rel at.now.param (plans.leaf i) (tuple_of at.now)) }
     ensures most { reads.new ≤ reads.old + index_looks (world_of at.now) at.now.q.now at.now.rel i at.now.param (tuple_of at.now) }
 {
-    let conditions = at.conditions(alloc, i)?;
+    let conditions = at.conditions(i)?;
     let rows = at.heap().len();
-    let mut held = Tids::empty(alloc, rows)?;
-    mark(alloc, at, given, i, &conditions, &mut held, reads)?;
+    let mut held = Tids::empty(at.alloc, rows)?;
+    mark(at, given, i, &conditions, &mut held, reads)?;
     Ok(held)
 }
 
@@ -201,7 +214,6 @@ fn parts_of(alloc: Global, arm: &Expr) -> Result<Vec<&Expr>, Memory>
 
 /// Puts in the rows that an arm holds by an index that matches it. The error means want of memory.
 fn mark_arm<C: Counters>(
-    alloc: Global,
     at: &Scene<C>,
     given: &Given,
     arm: &Expr,
@@ -217,13 +229,12 @@ fn mark_arm<C: Counters>(
     ensures held { OnOk result (held.new ≡ with_rows held.old (at_which (world_of at.now) at.now.q.now at.now.rel (tuple_of at.now) (arm_parts (view.cond arm.now)) (entry_rows (world_of at.now) i))) }
     ensures most { reads.new ≤ reads.old + entries_met (world_of at.now) at.now.q.now (index_at at.now.cat.now i).method at.now.rel i (tuple_of at.now) (limits (index_at at.now.cat.now i) at.now.rel.0 (arm_parts (view.cond arm.now))) }
 {
-    let parts = parts_of(alloc, arm)?;
-    mark(alloc, at, given, i, &parts, held, reads)
+    let parts = parts_of(at.alloc, arm)?;
+    mark(at, given, i, &parts, held, reads)
 }
 
 /// Puts in the rows that some of these arms holds, by an index for each. The error means want of memory.
 fn mark_arms<C: Counters>(
-    alloc: Global,
     at: &Scene<C>,
     given: &Given,
     arms: &[Expr],
@@ -240,14 +251,13 @@ fn mark_arms<C: Counters>(
     ensures most { reads.new ≤ reads.old + arm_looks (world_of at.now) at.now.q.now at.now.rel (tuple_of at.now) (map view.cond arms.now) indexes.now }
 {
     for n in 0..arms.len() {
-        mark_arm(alloc, at, given, &arms[n], indexes[n], held, reads)?;
+        mark_arm(at, given, &arms[n], indexes[n], held, reads)?;
     }
     Ok(())
 }
 
 /// The rows that some arm of an OR clause holds. The error means want of memory.
 fn hold_arms<C: Counters>(
-    alloc: Global,
     at: &Scene<C>,
     given: &Given,
     n: u16,
@@ -260,10 +270,10 @@ fn hold_arms<C: Counters>(
     ensures most { reads.new ≤ reads.old + tree_looks (world_of at.now) at.now.q.now at.now.rel at.now.param (tuple_of at.now) (plans.some_arm n indexes.now) }
 {
     let rows = at.heap().len();
-    let mut held = Tids::empty(alloc, rows)?;
+    let mut held = Tids::empty(at.alloc, rows)?;
     match arms_at(at.q, n) {
         Some(arms) => {
-            mark_arms(alloc, at, given, arms, indexes, &mut held, reads)?;
+            mark_arms(at, given, arms, indexes, &mut held, reads)?;
             Ok(held)
         }
         None => Ok(held),
@@ -273,7 +283,6 @@ fn hold_arms<C: Counters>(
 /// The rows that a bitmap tree holds. The error means want of memory.
 #[cycle(hold)]
 fn hold<C: Counters>(
-    alloc: Global,
     at: &Scene<C>,
     given: &Given,
     tree: &BitTree,
@@ -285,16 +294,15 @@ fn hold<C: Counters>(
     ensures most { reads.new ≤ reads.old + tree_looks (world_of at.now) at.now.q.now at.now.rel at.now.param (tuple_of at.now) (bits tree.now) }
 {
     match tree {
-        BitTree::Leaf(i) => hold_index(alloc, at, given, *i, reads),
-        BitTree::And(parts) => hold_all(alloc, at, given, &parts.items, reads),
-        BitTree::Or(n, indexes) => hold_arms(alloc, at, given, *n, indexes, reads),
+        BitTree::Leaf(i) => hold_index(at, given, *i, reads),
+        BitTree::And(parts) => hold_all(at, given, &parts.items, reads),
+        BitTree::Or(n, indexes) => hold_arms(at, given, *n, indexes, reads),
     }
 }
 
 /// The rows that each of some bitmap trees holds, of which there is one at least. The error means want of memory.
 #[cycle(hold)]
 fn hold_all<C: Counters>(
-    alloc: Global,
     at: &Scene<C>,
     given: &Given,
     trees: &[BitTree],
@@ -306,9 +314,9 @@ fn hold_all<C: Counters>(
     ensures held { IfOk result (λ s. s ≡ set_held (world_of at.now) at.now.q.now at.now.rel at.now.param (plans.all_hold (bits_all trees.now)) (tuple_of at.now)) }
     ensures most { reads.new ≤ reads.old + all_tree_looks (world_of at.now) at.now.q.now at.now.rel at.now.param (tuple_of at.now) (bits_all trees.now) }
 {
-    let mut held = hold(alloc, at, given, &trees[0], reads)?;
+    let mut held = hold(at, given, &trees[0], reads)?;
     for n in 1..trees.len() {
-        let other = hold(alloc, at, given, &trees[n], reads)?;
+        let other = hold(at, given, &trees[n], reads)?;
         held.and(&other);
     }
     Ok(held)
@@ -316,7 +324,6 @@ fn hold_all<C: Counters>(
 
 /// The scan of the rows that a bitmap tree holds. The tree's looks come first. The error means want of memory.
 pub(crate) fn bit_rows<'a, C: Counters>(
-    alloc: Global,
     at: &Scene<'a, '_, C>,
     given: Given<'a>,
     tree: &BitTree,
@@ -327,8 +334,8 @@ pub(crate) fn bit_rows<'a, C: Counters>(
     ensures coming { IfOk result (λ s. s ≡ coming (world_of at.now) at.now.q.now (plans.bitmap at.now.rel at.now.param (bits tree.now)) (tuple_of at.now)) }
     ensures most { reads.new ≤ reads.old + tree_looks (world_of at.now) at.now.q.now at.now.rel at.now.param (tuple_of at.now) (bits tree.now) }
 {
-    let held = hold(alloc, at, &given, tree, reads)?;
-    let clauses = at.clauses(alloc)?;
+    let held = hold(at, &given, tree, reads)?;
+    let clauses = at.clauses()?;
     let beside = at.beside();
     let heap = at.heap();
     Ok(BitRows::start(beside, given, clauses, heap, held))

@@ -20,11 +20,9 @@ use heap::Counters;
 use pg_base::{IndexNo, Memory, Tid};
 use pg_expr::Expr;
 use scan_probes::{Given, equal_value};
-use std::alloc::Global;
 
 /// The rows of a hash index at which a condition is True, rising. The error means want of memory.
 pub(crate) fn rows_equal<'a, C: Counters>(
-    alloc: Global,
     at: &Scene<'a, '_, C>,
     given: &Given,
     i: IndexNo,
@@ -38,13 +36,12 @@ pub(crate) fn rows_equal<'a, C: Counters>(
     ensures { IfOk result (λ tids. map (λ t. t.0) tids.now ≡ at_which (world_of at.now) at.now.q.now at.now.rel (tuple_of at.now) (cond condition.now ∷ []) (entry_rows (world_of at.now) i)) }
 {
     let def = at.cat.index(i);
-    let value = equal_value(alloc, at.rel, def.keys[0], given, condition)?;
+    let value = equal_value(at.alloc, at.rel, def.keys[0], given, condition)?;
     Ok(index.matches(&value))
 }
 
 /// The scan of a hash index, which has one condition. The error means want of memory.
 pub(crate) fn hash_rows<'a, C: Counters>(
-    alloc: Global,
     at: &Scene<'a, '_, C>,
     given: Given<'a>,
     i: IndexNo,
@@ -56,9 +53,9 @@ pub(crate) fn hash_rows<'a, C: Counters>(
     requires table { hashed index.now ≡ built_of (index_at at.now.cat.now i) (rows_of_relation (world_of at.now) at.now.q.now at.now.rel) }
     ensures { IfOk result (λ s. s ≡ map (fetched_row (world_of at.now) at.now.q.now at.now.rel (tuple_of at.now) (clauses_at (world_of at.now) at.now.q.now at.now.rel at.now.param)) (met (world_of at.now) at.now.q.now at.now.rel i at.now.param (tuple_of at.now))) }
 {
-    let conditions = at.conditions(alloc, i)?;
-    let tids = rows_equal(alloc, at, &given, i, index, conditions[0])?;
-    let clauses = at.clauses(alloc)?;
+    let conditions = at.conditions(i)?;
+    let tids = rows_equal(at, &given, i, index, conditions[0])?;
+    let clauses = at.clauses()?;
     let beside = at.beside();
     let heap = at.heap();
     Ok(HashRows::start(beside, given, clauses, heap, tids))

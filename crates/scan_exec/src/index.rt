@@ -23,13 +23,11 @@ use heap::Counters;
 use pg_base::{IndexNo, Memory};
 use pg_expr::Expr;
 use scan_probes::{Given, index_probes};
-use std::alloc::Global;
 use store::BuiltIndex;
 
 /// A cursor over the entries of an index that meet those of its conditions that bound a part of it. The error means want of
 /// memory.
 pub(crate) fn seek<'a, C: Counters>(
-    alloc: Global,
     at: &Scene<'a, '_, C>,
     given: &Given,
     i: IndexNo,
@@ -44,13 +42,12 @@ pub(crate) fn seek<'a, C: Counters>(
     ensures { IfOk result (λ cursor. cursor ≡ in_direction backward (filter (λ e. all_true (world_of at.now) at.now.q.now (beside at.now.q.now at.now.rel.0 e.row (tuple_of at.now)) (limits (index_at at.now.cat.now i) at.now.rel.0 (conditions_of conditions.now))) (entries (world_of at.now) i))) }
 {
     let def = at.cat.index(i);
-    let probes = index_probes(alloc, at.rel, &def.keys, given, conditions)?;
+    let probes = index_probes(at.alloc, at.rel, &def.keys, given, conditions)?;
     Ok(tree.seek(&probes, backward))
 }
 
 /// The scan of a B-tree. The error means want of memory.
 pub(crate) fn index_rows<'a, C: Counters>(
-    alloc: Global,
     at: &Scene<'a, '_, C>,
     given: Given<'a>,
     i: IndexNo,
@@ -62,9 +59,9 @@ pub(crate) fn index_rows<'a, C: Counters>(
     requires tree { sorted tree.now ≡ built_of (index_at at.now.cat.now i) (rows_of_relation (world_of at.now) at.now.q.now at.now.rel) }
     ensures { IfOk result (λ s. s ≡ map (entry_row (world_of at.now) at.now.q.now at.now.rel i false at.now.param (tuple_of at.now)) (directed (world_of at.now) at.now.q.now backward (bounded (world_of at.now) at.now.q.now at.now.rel i at.now.param (tuple_of at.now)))) }
 {
-    let conditions = at.conditions(alloc, i)?;
-    let cursor = seek(alloc, at, &given, i, tree, &conditions, backward)?;
-    let clauses = at.clauses(alloc)?;
+    let conditions = at.conditions(i)?;
+    let cursor = seek(at, &given, i, tree, &conditions, backward)?;
+    let clauses = at.clauses()?;
     let beside = at.beside();
     let def = at.cat.index(i);
     let heap = at.heap();
@@ -73,7 +70,6 @@ pub(crate) fn index_rows<'a, C: Counters>(
 
 /// The index-only scan of a B-tree. The error means want of memory.
 pub(crate) fn only_rows<'a, C: Counters>(
-    alloc: Global,
     at: &Scene<'a, '_, C>,
     given: Given<'a>,
     i: IndexNo,
@@ -84,16 +80,19 @@ pub(crate) fn only_rows<'a, C: Counters>(
     ensures { IfOk result (λ s. s ≡ map (entry_row (world_of at.now) at.now.q.now at.now.rel i true at.now.param (tuple_of at.now)) (directed (world_of at.now) at.now.q.now backward (bounded (world_of at.now) at.now.q.now at.now.rel i at.now.param (tuple_of at.now)))) }
 {
     let tree = sorted_index(at, i);
-    let conditions = at.conditions(alloc, i)?;
-    let cursor = seek(alloc, at, &given, i, tree, &conditions, backward)?;
-    let clauses = at.clauses(alloc)?;
+    let conditions = at.conditions(i)?;
+    let cursor = seek(at, &given, i, tree, &conditions, backward)?;
+    let clauses = at.clauses()?;
     let beside = at.beside();
     let def = at.cat.index(i);
     Ok(OnlyRows::start(beside, given, conditions, clauses, def, cursor))
 }
 
 /// The B-tree of an index.
-fn sorted_index<'a, C: Counters>(at: &Scene<'a, '_, C>, i: IndexNo) -> &'a BTree<C::Looks>
+pub(crate) fn sorted_index<'a, C: Counters>(
+    at: &Scene<'a, '_, C>,
+    i: IndexNo,
+) -> &'a BTree<C::Looks>
     requires scene { (given : Rows) × IsSceneOf at.now given }
     requires index { IsIndexOn at.now.cat.now at.now.q.now at.now.rel.0 i }
     requires ordered { (index_at at.now.cat.now i).method ≡ Btree }

@@ -91,7 +91,6 @@ fn param_of(p: &Plan) -> RelSet
 
 /// The scan of an index, by the kind of the index.
 fn by_index<'a, C: Counters>(
-    alloc: Global,
     at: &Scene<'a, '_, C>,
     given: Given<'a>,
     i: IndexNo,
@@ -103,11 +102,11 @@ fn by_index<'a, C: Counters>(
 {
     match at.store.index(i) {
         BuiltIndex::Sorted(tree) => {
-            let rows = index_rows(alloc, at, given, i, tree, backward)?;
+            let rows = index_rows(at, given, i, tree, backward)?;
             Ok(Kind::Index(rows))
         }
         BuiltIndex::Hashed(index) => {
-            let rows = hash_rows(alloc, at, given, i, index)?;
+            let rows = hash_rows(at, given, i, index)?;
             Ok(Kind::Hash(rows))
         }
     }
@@ -115,7 +114,6 @@ fn by_index<'a, C: Counters>(
 
 /// The scan of a plan, where its rows are given.
 fn by_plan<'a, C: Counters>(
-    alloc: Global,
     at: &Scene<'a, '_, C>,
     given: Given<'a>,
     p: &Plan,
@@ -132,24 +130,24 @@ fn by_plan<'a, C: Counters>(
 {
     match p {
         Plan::Seq { .. } => {
-            let rows = seq_rows(alloc, at, given)?;
+            let rows = seq_rows(at, given)?;
             Ok(Kind::Seq(rows))
         }
         Plan::Index {
             index,
             backward,
             ..
-        } => by_index(alloc, at, given, *index, *backward),
+        } => by_index(at, given, *index, *backward),
         Plan::IndexOnly {
             index,
             backward,
             ..
         } => {
-            let rows = only_rows(alloc, at, given, *index, *backward)?;
+            let rows = only_rows(at, given, *index, *backward)?;
             Ok(Kind::Only(rows))
         }
         Plan::Bitmap { bits, .. } => {
-            let rows = bit_rows(alloc, at, given, bits, reads)?;
+            let rows = bit_rows(at, given, bits, reads)?;
             Ok(Kind::Bits(rows))
         }
         _ => unreachable!(),
@@ -183,6 +181,7 @@ impl<'a, C: Counters> ScanRows<'a, C> {
         let heaps = store.heaps();
         let given = read_given(alloc, cat, q, heaps, param, outer, reads)?;
         let at = Scene {
+            alloc,
             cat,
             q,
             store,
@@ -190,7 +189,7 @@ impl<'a, C: Counters> ScanRows<'a, C> {
             param,
             outer,
         };
-        let kind = by_plan(alloc, &at, given, p, reads)?;
+        let kind = by_plan(&at, given, p, reads)?;
         Ok(ScanRows { kind })
     }
 

@@ -27,6 +27,7 @@ use store::Store;
 /// order.
 #[derive(Drop)]
 pub(crate) struct Scene<'a, 'o, C: Counters> {
+    pub(crate) alloc: Global,
     pub(crate) cat: &'a Catalog,
     pub(crate) q: &'a Prepared,
     pub(crate) store: &'a Store<C>,
@@ -64,17 +65,17 @@ impl<'a, 'o, C: Counters> Scene<'a, 'o, C> {
     }
 
     /// The conditions of the clauses over its relation. The error means want of memory.
-    pub(crate) fn base(&self, alloc: Global) -> Result<Vec<&'a Expr>, Memory>
+    pub(crate) fn base(&self) -> Result<Vec<&'a Expr>, Memory>
         requires { self.now.rel.0 < 16 }
         ensures { IfOk result (λ v. conditions_of v.items ≡ numbered.conditions_of (numbered.base self.now.q.now.classes self.now.rel.0)) }
     {
         let classes = classes_of(self.q);
         let base = classes.base_clauses(self.rel);
-        chosen(alloc, classes, &base)
+        chosen(self.alloc, classes, &base)
     }
 
     /// The conditions of these and of the clauses that are tested with the rows given. The error means want of memory.
-    pub(crate) fn clauses(&self, alloc: Global) -> Result<Vec<&'a Expr>, Memory>
+    pub(crate) fn clauses(&self) -> Result<Vec<&'a Expr>, Memory>
         requires { self.now.rel.0 < 16 }
         ensures { IfOk result (λ v. conditions_of v.items ≡ clauses_at (world_of self.now) self.now.q.now self.now.rel self.now.param) }
     {
@@ -82,17 +83,17 @@ impl<'a, 'o, C: Counters> Scene<'a, 'o, C> {
         let base = classes.base_clauses(self.rel);
         let param = classes.param_clauses(self.rel, self.param);
         let both = either(classes.count(), &base, &param);
-        chosen(alloc, classes, &both)
+        chosen(self.alloc, classes, &both)
     }
 
     /// The conditions of an index. The error means want of memory.
-    pub(crate) fn conditions(&self, alloc: Global, i: IndexNo) -> Result<Vec<&'a Expr>, Memory>
+    pub(crate) fn conditions(&self, i: IndexNo) -> Result<Vec<&'a Expr>, Memory>
         requires relation { self.now.rel.0 < 16 }
         requires index { IsIndexOn self.now.cat.now self.now.q.now self.now.rel.0 i }
         ensures { IfOk result (λ v. conditions_of v.items ≡ conditions_at (world_of self.now) self.now.q.now self.now.rel i self.now.param) }
     {
         let found = conditions_found(self.cat, self.q, self.rel, i, self.param);
-        chosen(alloc, classes_of(self.q), &found)
+        chosen(self.alloc, classes_of(self.q), &found)
     }
 }
 

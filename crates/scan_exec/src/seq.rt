@@ -13,7 +13,6 @@ use heap::{Counters, Heap};
 use pg_base::{Memory, Steps, Tid};
 use pg_expr::Expr;
 use scan_probes::{Beside, Given, pass_row};
-use std::alloc::Global;
 use std::marker::Model;
 
 /// A sequential scan: each row of the relation in order of loading is fetched, and given where the clauses are True. Contracts
@@ -81,14 +80,13 @@ impl<'a, C: Counters> SeqRows<'a, C> {
 
 /// The sequential scan of a relation.
 pub(crate) fn seq_rows<'a, C: Counters>(
-    alloc: Global,
     at: &Scene<'a, '_, C>,
     given: Given<'a>,
 ) -> Result<SeqRows<'a, C>, Memory>
     requires { IsSceneOf at.now given }
     ensures { IfOk result (λ s. s ≡ coming (world_of at.now) at.now.q.now (seq at.now.rel) (tuple_of at.now)) }
 {
-    let clauses = at.base(alloc)?;
+    let clauses = at.base()?;
     let beside = at.beside();
     let heap = at.heap();
     Ok(SeqRows::start(beside, given, clauses, heap))

@@ -50,47 +50,46 @@ fn bound(
     }))
 }
 
-/// A condition on a key column, with the column on the left. The error means want of memory.
-fn probe(
-    alloc: Global,
-    r: RelNo,
+/// A key column of an index on relation `rel`: its key, and its place among the keys.
+#[derive(Drop)]
+struct KeyColumn {
+    rel: RelNo,
     key: IndexKey,
-    column: u8,
-    given: &Given,
-    e: &Expr,
-) -> Result<Probe, Memory>
-    requires form { forms.has_form Btree r.0 key (cond e.now) ≡ true }
-    requires known { is_known r.0 given.now (cond e.now) ≡ true }
-    ensures { IfOk result (λ p. p ≡ probe_of r.0 key column given.now (cond e.now)) }
+    place: u8,
+}
+
+/// A condition on a key column, with the column on the left. The error means want of memory.
+fn probe(alloc: Global, at: &KeyColumn, given: &Given, e: &Expr) -> Result<Probe, Memory>
+    requires form { forms.has_form Btree at.now.rel.0 at.now.key (cond e.now) ≡ true }
+    requires known { is_known at.now.rel.0 given.now (cond e.now) ≡ true }
+    ensures { IfOk result (λ p. p ≡ probe_of at.now.rel.0 at.now.key at.now.place given.now (cond e.now)) }
 {
     match e {
         Expr::Compare(op, a, b) => {
-            if is_key_side(r, key, a) && is_outside(r, b) {
-                bound(alloc, column, *op, given, b)
+            if is_key_side(at.rel, at.key, a) && is_outside(at.rel, b) {
+                bound(alloc, at.place, *op, given, b)
             } else {
-                bound(alloc, column, commutator(*op), given, a)
+                bound(alloc, at.place, commutator(*op), given, a)
             }
         }
-        Expr::IsNull(_) => Ok(Probe::IsNull(column)),
-        _ => Ok(Probe::NotNull(column)),
+        Expr::IsNull(_) => Ok(Probe::IsNull(at.place)),
+        _ => Ok(Probe::NotNull(at.place)),
     }
 }
 
 /// The first condition that fixes a key column. None where no condition does. The error means want of memory.
 fn fixing_probe(
     alloc: Global,
-    r: RelNo,
-    key: IndexKey,
-    column: u8,
+    at: &KeyColumn,
     given: &Given,
     conditions: &[&Expr],
 ) -> Result<Option<Probe>, Memory>
-    requires { AreKnown r.0 given.now (map (λ e. cond e.now) conditions.now) }
-    ensures { IfOk result (λ p. p ≡ option_map (probe_of r.0 key column given.now) (find bounds.is_fixing (on_key r.0 key (map (λ e. cond e.now) conditions.now)))) }
+    requires { AreKnown at.now.rel.0 given.now (map (λ e. cond e.now) conditions.now) }
+    ensures { IfOk result (λ p. p ≡ option_map (probe_of at.now.rel.0 at.now.key at.now.place given.now) (find bounds.is_fixing (on_key at.now.rel.0 at.now.key (map (λ e. cond e.now) conditions.now)))) }
 {
     for condition in conditions {
-        if has_form(Method::Btree, r, key, condition) && is_fixing(condition) {
-            let fixing = probe(alloc, r, key, column, given, condition)?;
+        if has_form(Method::Btree, at.rel, at.key, condition) && is_fixing(condition) {
+            let fixing = probe(alloc, at, given, condition)?;
             return Ok(Some(fixing));
         }
     }
@@ -100,19 +99,17 @@ fn fixing_probe(
 /// Adds the conditions on a key column that no condition fixes. The error means want of memory.
 fn add_open(
     alloc: Global,
-    r: RelNo,
-    key: IndexKey,
-    column: u8,
+    at: &KeyColumn,
     given: &Given,
     conditions: &[&Expr],
     probes: &mut Vec<Probe>,
 ) -> Result<(), Memory>
-    requires { AreKnown r.0 given.now (map (λ e. cond e.now) conditions.now) }
-    ensures { OnOk result (probes.new.items ≡ probes.old.items ++ map (probe_of r.0 key column given.now) (on_key r.0 key (map (λ e. cond e.now) conditions.now))) }
+    requires { AreKnown at.now.rel.0 given.now (map (λ e. cond e.now) conditions.now) }
+    ensures { OnOk result (probes.new.items ≡ probes.old.items ++ map (probe_of at.now.rel.0 at.now.key at.now.place given.now) (on_key at.now.rel.0 at.now.key (map (λ e. cond e.now) conditions.now))) }
 {
     for condition in conditions {
-        if has_form(Method::Btree, r, key, condition) {
-            probes.push(probe(alloc, r, key, column, given, condition)?)?;
+        if has_form(Method::Btree, at.rel, at.key, condition) {
+            probes.push(probe(alloc, at, given, condition)?)?;
         }
     }
     Ok(())
@@ -158,11 +155,15 @@ pub fn index_probes(
 {
     let mut probes = Vec::new(alloc);
     for column in 0..keys.len() {
-        let key = keys[column];
-        match fixing_probe(alloc, r, key, column as u8, given, conditions)? {
+        let at = KeyColumn {
+            rel: r,
+            key: keys[column],
+            place: column as u8,
+        };
+        match fixing_probe(alloc, &at, given, conditions)? {
             Some(fixing) => probes.push(fixing)?,
             None => {
-                add_open(alloc, r, key, column as u8, given, conditions, &mut probes)?;
+                add_open(alloc, &at, given, conditions, &mut probes)?;
                 return Ok(probes);
             }
         }

@@ -101,17 +101,14 @@ impl<C: Counters> Store<C> {
     {
         let before = self.heaps.get(t).len();
         let count = self.heaps.get_mut(t).load(block)?;
-        if grow(
-            self.alloc,
+        let rows = NewRows {
+            alloc: self.alloc,
             cat,
-            t,
-            &self.heaps,
+            heaps: &self.heaps,
+            table: t,
             before,
-            &mut self.indexes,
-            looks,
-        )
-        .is_err()
-        {
+        };
+        if grow(&rows, &mut self.indexes, looks).is_err() {
             self.heaps.get_mut(t).cut(before);
             return Err(CopyFault::Memory);
         }
@@ -142,36 +139,44 @@ impl<C: Counters> Store<C> {
     }
 }
 
-/// Adds the rows of a table from number `before` on to each of its indexes, which lack them. For want of memory the
-/// indexes are as before.
-fn grow<C: Counters>(
+/// The rows of a table from number `before` on, which its indexes lack.
+#[derive(Drop)]
+struct NewRows<'a, C: Counters> {
     alloc: Global,
-    cat: &Catalog,
-    t: TableNo,
-    heaps: &Heaps<C>,
+    cat: &'a Catalog,
+    heaps: &'a Heaps<C>,
+    table: TableNo,
     before: u32,
+}
+
+/// Adds these rows to each index of their table, which lacks them. For want of memory the indexes are as before.
+fn grow<C: Counters>(
+    rows: &NewRows<C>,
     indexes: &mut Vec<BuiltIndex<C>>,
     looks: &mut Steps<C::Looks>,
 ) -> Result<(), Memory>
-    requires table { t.0 < length heaps.now }
-    requires columns { (slice_index_or heaps.now t.0 nothing_stored).columns ≡ (table_at cat.now t).columns }
-    requires before { before ≤ length (slice_index_or heaps.now t.0 nothing_stored).rows }
-    requires built { map built indexes.old.items ≡ map (built_over (first_rows before t heaps.now)) cat.now.indexes }
-    ensures built { OnOk result (map built indexes.new.items ≡ map (built_over heaps.now) cat.now.indexes) }
+    requires table { rows.now.table.0 < length rows.now.heaps.now }
+    requires columns { (slice_index_or rows.now.heaps.now rows.now.table.0 nothing_stored).columns ≡ (table_at rows.now.cat.now rows.now.table).columns }
+    requires before { rows.now.before ≤ length (slice_index_or rows.now.heaps.now rows.now.table.0 nothing_stored).rows }
+    requires built { map built indexes.old.items ≡ map (built_over (first_rows rows.now.before rows.now.table rows.now.heaps.now)) rows.now.cat.now.indexes }
+    ensures built { OnOk result (map built indexes.new.items ≡ map (built_over rows.now.heaps.now) rows.now.cat.now.indexes) }
     ensures refused { OnErr result (map built indexes.new.items ≡ map built indexes.old.items) }
-    ensures looks { OnOk result (looks.new ≡ looks.old + length (indexes_of cat.now t) * (length (slice_index_or heaps.now t.0 nothing_stored).rows - before)) }
-    ensures fewer { looks.new ≤ looks.old + length (indexes_of cat.now t) * (length (slice_index_or heaps.now t.0 nothing_stored).rows - before) }
+    ensures looks { OnOk result (looks.new ≡ looks.old + length (indexes_of rows.now.cat.now rows.now.table) * (length (slice_index_or rows.now.heaps.now rows.now.table.0 nothing_stored).rows - rows.now.before)) }
+    ensures fewer { looks.new ≤ looks.old + length (indexes_of rows.now.cat.now rows.now.table) * (length (slice_index_or rows.now.heaps.now rows.now.table.0 nothing_stored).rows - rows.now.before) }
 {
-    cat.lawful();
+    rows.cat.lawful();
     for n in 0..indexes.len() {
-        let def = cat.index(IndexNo(n as u16));
-        if def.table.0 != t.0 {
+        let def = rows.cat.index(IndexNo(n as u16));
+        if def.table.0 != rows.table.0 {
             continue;
         }
-        let heap = heaps.get(t);
+        let heap = rows.heaps.get(rows.table);
         let index = &mut indexes[n];
-        if index.add_rows(alloc, def, heap, before, looks).is_err() {
-            shrink(cat, t, before, indexes);
+        if index
+            .add_rows(rows.alloc, def, heap, rows.before, looks)
+            .is_err()
+        {
+            shrink(rows.cat, rows.table, rows.before, indexes);
             return Err(AllocError);
         }
     }

@@ -5,8 +5,14 @@ use Rattle.store.specs.View.{built}
 use Rattle.scan_exec.specs.Scene.{world_of}
 use Rattle.scan_exec.proofs.EqualLemmas.{is_hashed}
 use Rattle.scan_exec.proofs.MarkLemmas.{takes_one}
-use Rattle.scan_exec.proofs.SeekLemmas.{built_is}
+use Rattle.scan_exec.proofs.SeekLemmas.{built_is, is_btree}
 use Rattle.scan_exec.proofs.bitmap.mark.Goals as goal
+
+pub mark_sorted-requires-clause-ordered : goal.mark_sorted-requires-clause-ordered
+mark_sorted-requires-clause-ordered g c =
+    let s = c.args.at.now in
+    is_btree (index_at s.cat.now c.args.i) (rows_of_relation (world_of s) s.q.now s.rel) c.in-Sorted.field-0
+    (ap built (sym c.in-Sorted.is) ∙ built_is s.cat.now s.store.now s.q.now s.rel s.param s.outer.now c.args.given.now c.requires.scene c.args.i c.requires.index (built c.index.result.now) c.index.ensures)
 
 pub mark_hashed-requires-clause-table : goal.mark_hashed-requires-clause-table
 mark_hashed-requires-clause-table g c =

@@ -1,10 +1,6 @@
-use Rattle.catalog.specs.Contents.{index_at}
 use Rattle.catalog.specs.Entries.{index_of}
 use Rattle.scan_probes.specs.Filters.{conditions_of}
-use Rattle.sql_query.specs.Tuples.{rows_of_relation}
-use Rattle.scan_exec.specs.Scene.{world_of}
 use Rattle.scan_exec.proofs.MarkLemmas.{mark_looks, marked, marks_ready}
-use Rattle.scan_exec.proofs.SeekLemmas.{is_btree}
 use Rattle.scan_exec.proofs.bitmap.mark_sorted.Goals as goal
 
 pub mark_entries-requires-clause-ready : goal.mark_entries-requires-clause-ready
@@ -28,4 +24,4 @@ returns-clause-most g c =
     mark_looks s.cat.now s.store.now s.q.now s.rel s.param s.outer.now c.args.given.now c.requires.scene c.args.i c.requires.index c.index-def.ensures.lawful (conditions_of c.args.conditions.now) c.requires.used
     c.beside-beside.result.cat.now c.beside-beside.result.range.now c.beside-beside.result.rel (index_of c.index-def.result.now) c.beside-beside.ensures.cat c.beside-beside.ensures.range c.beside-beside.ensures.rel c.index-def.ensures.value
     c.in_ok-cursor.cursor c.in_ok-cursor.ensures c.args.held.now c.requires.bound
-    (is_btree (index_at s.cat.now c.args.i) (rows_of_relation (world_of s) s.q.now s.rel) c.args.tree.now c.requires.tree) c.args.reads.now c.mark_entries.new.reads c.mark_entries.ensures.looks
+    c.requires.ordered c.args.reads.now c.mark_entries.new.reads c.mark_entries.ensures.looks

@@ -6,6 +6,6 @@ use Rattle.scan_probes.proofs.probes.add_open.Given as goal
 abbrev pub invariant-loop-condition : goal.invariant-loop-condition
 invariant-loop-condition l =
     let rest = map (λ e. cond e.now) (drop l.condition-index l.conditions) in
-    (l.probes.items ++ map (probe_of l.r.0 l.key l.column l.given) (on_key l.r.0 l.key rest)
-    ≡ l.fn.probes.items ++ map (probe_of l.r.0 l.key l.column l.given) (on_key l.r.0 l.key (map (λ e. cond e.now) l.conditions)))
-    × AreKnown l.r.0 l.given rest
+    (l.probes.items ++ map (probe_of l.at.rel.0 l.at.key l.at.place l.given) (on_key l.at.rel.0 l.at.key rest)
+    ≡ l.fn.probes.items ++ map (probe_of l.at.rel.0 l.at.key l.at.place l.given) (on_key l.at.rel.0 l.at.key (map (λ e. cond e.now) l.conditions)))
+    × AreKnown l.at.rel.0 l.given rest

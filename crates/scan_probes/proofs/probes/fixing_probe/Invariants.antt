@@ -8,4 +8,4 @@ use Rattle.scan_probes.proofs.probes.fixing_probe.Given as goal
 abbrev pub invariant-loop-condition : goal.invariant-loop-condition
 invariant-loop-condition l =
     let rest = map (λ e. cond e.now) (drop l.condition-index l.conditions) in
-    (find is_fixing (on_key l.r.0 l.key rest) ≡ find is_fixing (on_key l.r.0 l.key (map (λ e. cond e.now) l.conditions))) × AreKnown l.r.0 l.given rest
+    (find is_fixing (on_key l.at.rel.0 l.at.key rest) ≡ find is_fixing (on_key l.at.rel.0 l.at.key (map (λ e. cond e.now) l.conditions))) × AreKnown l.at.rel.0 l.given rest

@@ -9,7 +9,7 @@ use Rattle.store.proofs.store.grow.Given as goal
 
 abbrev pub invariant-loop-n : goal.invariant-loop-n
 invariant-loop-n g l = record {
-  long : length l.indexes.items ≡ length l.cat.indexes;
-  built : map built l.indexes.items ≡ swapped (built_over l.heaps) (built_over (first_rows l.before l.t l.heaps)) l.cat.indexes l.n;
-  looks : l.looks ≡ l.fn.looks + length (numbers_from 0 (take l.n l.cat.indexes) l.t) * (length (slice_index_or l.heaps l.t.0 nothing_stored).rows - l.before);
+  long : length l.indexes.items ≡ length l.rows.cat.now.indexes;
+  built : map built l.indexes.items ≡ swapped (built_over l.rows.heaps.now) (built_over (first_rows l.rows.before l.rows.table l.rows.heaps.now)) l.rows.cat.now.indexes l.n;
+  looks : l.looks ≡ l.fn.looks + length (numbers_from 0 (take l.n l.rows.cat.now.indexes) l.rows.table) * (length (slice_index_or l.rows.heaps.now l.rows.table.0 nothing_stored).rows - l.rows.before);
 }

@@ -2,6 +2,7 @@
 //! Indexes, Index Types, B-Tree). The entries stand on leaves, which are one list; inner pages say where a search begins.
 #![tactic(auto)]
 
+mod adding;
 mod bounds;
 mod cursors;
 mod edges;

@@ -10,6 +10,7 @@ use crate::cursors::Cursor;
 use crate::edges::Edge;
 use crate::entries::Entry;
 use crate::pages::Pages;
+use crate::sorted::{above_both, above_row, above_rows};
 use opfamily::IndexKey;
 use pg_base::{ColNo, Tid};
 use pg_value::Value;
@@ -24,10 +25,13 @@ pub struct BTree<L: Ledger> {
     keys: Vec<IndexKey>,
     include: Vec<ColNo>,
     pages: Pages,
+    /// A number above those of all rows.
+    above: u64,
     ledger: PhantomData<L>,
 }
 
 impl<L: Ledger> Model for BTree<L> {
+    ghost use Rattle.std.specs.Prelude.{◌<◌, All};
     ghost use Rattle.btree_index.specs.Pages.{IsPaged, entries_of};
     ghost use Rattle.btree_index.specs.Tree.{Tree, IsLawful};
 
@@ -35,7 +39,7 @@ impl<L: Ledger> Model for BTree<L> {
 
     ghost view = { λ t. record { keys = t.keys.items; include = t.include.items; entries = entries_of t.pages } };
 
-    ghost invariant = { λ t. IsPaged t.pages × IsLawful (record { keys = t.keys.items; include = t.include.items; entries = entries_of t.pages }) };
+    ghost invariant = { λ t. IsPaged t.pages × IsLawful (record { keys = t.keys.items; include = t.include.items; entries = entries_of t.pages }) × All (λ e. e.row < t.above) (entries_of t.pages) };
 }
 
 impl<L: Ledger> BTree<L> {
@@ -51,6 +55,7 @@ impl<L: Ledger> BTree<L> {
             keys: Vec::from_slice(alloc, keys)?,
             include: Vec::from_slice(alloc, include)?,
             pages: Pages::new(alloc)?,
+            above: 0,
             ledger: PhantomData,
         })
     }
@@ -79,18 +84,20 @@ impl<L: Ledger> BTree<L> {
         ensures refused { OnErr result (self.new ≡ self.old) }
     {
         let entry = Entry::new(key, include, t);
-        let place = self.pages.find(&self.keys, &Edge::Behind(&entry));
-        self.pages.insert(&self.keys, place, entry)
+        self.above = above_row(t, self.above);
+        self.pages.add(&self.keys, entry)
     }
 
-    /// Adds many entries at once: they are sorted and merged with those that are there. For want of memory the index
-    /// is as before.
+    /// Adds many entries at once: they are sorted and merged with those that are there, or put among them one by one
+    /// where they are few. For want of memory the index is as before.
     pub fn insert_all(&mut self, added: Vec<Entry>) -> Result<(), AllocError>
         requires { All (IsEntryOf self.old.keys self.old.include) added.items }
         ensures inserted { OnOk result (self.new ≡ with_entries self.old added.items) }
         ensures refused { OnErr result (self.new ≡ self.old) }
     {
-        self.pages.merge(&self.keys, added)
+        let above = self.above;
+        self.above = above_rows(&added, above);
+        self.pages.add_all(&self.keys, added, above)
     }
 
     /// Keeps the entries of the rows whose numbers are below `rows`. It takes no memory, so it undoes what was added for
@@ -99,6 +106,7 @@ impl<L: Ledger> BTree<L> {
         ensures { self.new ≡ of_rows_below rows self.old }
     {
         self.pages.keep_rows(rows);
+        self.above = above_both(self.above, rows);
     }
 
     /// A cursor before the first entry, in its direction, of the part that meets the bounds.

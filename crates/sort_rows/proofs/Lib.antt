@@ -1,4 +1,5 @@
 pub mod ColumnLemmas
+pub mod LeadLemmas
 pub mod ListLemmas
 pub mod OrderLemmas
 pub mod RankLemmas

@@ -2,7 +2,7 @@
 use Rattle.std.proofs.Common.{◌≡◌, ℕ, ◌+◌, ◌<◌, List, [], ◌∷◌, length, drop, get_or, refl, sym, ap, ap₂, ◌∙◌, add-one, Ordering, Equal}
 use Rattle.std.specs.Cmp.{IsTotalOrder}
 use Rattle.std.specs.Ordering.{ordering_then}
-use Rattle.std.proofs.lemmas.Cmp.{on_total, then_total}
+use Rattle.std.proofs.lemmas.Cmp.{int_cmp_total, on_total, then_total}
 use Rattle.std.proofs.lemmas.List.{drop_more}
 use Rattle.pg_value.specs.declared.value.Value.{Value}
 use Rattle.pg_value.specs.declared.value.Value.TheVariants.{Null}
@@ -10,15 +10,16 @@ use Rattle.pg_value.proofs.ColumnOrderLemmas.{column_total}
 use Rattle.opfamily.specs.KeyOrder.{first_value, later_values}
 use Rattle.opfamily.proofs.KeyOrderLemmas.{first-drop, later-drop, then_other}
 use Rattle.sort_rows.specs.declared.columns.SortColumn.{SortColumn}
+use Rattle.sort_rows.specs.declared.sort.Keyed.{Keyed}
 use Rattle.sort_rows.specs.Columns.{values_order, columns_order}
-use Rattle.sort_rows.specs.Keyed.{values_of, keyed_order}
+use Rattle.sort_rows.specs.Keyed.{key_in, keyed_order}
 
 pub columns_total : (cs : List SortColumn) → IsTotalOrder (columns_order cs)
 columns_total [] = record { antisymm = λ x y. refl; trans = λ x y z p q. p; congr = λ x y z p. refl }
 columns_total (c ∷ cs) = then_total (on_total first_value (column_total c.family c.descending c.nulls_first)) (on_total later_values (columns_total cs))
 
-pub keyed_total : (cs : List SortColumn) → IsTotalOrder (keyed_order cs)
-keyed_total cs = on_total values_of (columns_total cs)
+pub keyed_total : (cs : List SortColumn) (keys : List Value) → IsTotalOrder (keyed_order cs keys)
+keyed_total cs keys = then_total (on_total (λ (k : Keyed). k.lead) int_cmp_total) (on_total (key_in cs keys) (columns_total cs))
 
 -- the columns from i on, by the one at i and those after it
 columns_order-drop : (cs : List SortColumn) (a b : List Value) (i : ℕ) (d : SortColumn) → i < length cs

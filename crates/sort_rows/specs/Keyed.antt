@@ -1,35 +1,34 @@
--- Tuples with their sort keys. Own.
-use Rattle.std.specs.Prelude.{◌≡◌, List, All, length, map}
-use Rattle.std.specs.Ordering.{on}
+-- Tuples, by their places in a list, with the leads of their keys, which stand in one list. Own.
+use Rattle.std.specs.Prelude.{◌≡◌, ◌*◌, ◌<◌, ℕ, List, [], All, drop, length, map, slice_index_or, take}
+use Rattle.std.specs.Ordering.{int_cmp, on, then_cmp}
 use Rattle.std.specs.declared.cmp.Ordering.{Ordering}
 use Rattle.pg_base.specs.declared.numbers.Tid.{Tid}
-use Rattle.pg_base.specs.declared.rel_set.RelSet.{RelSet}
 use Rattle.pg_value.specs.declared.value.Value.{Value}
-use Rattle.heap.specs.Tuples.{relation_count}
-use Rattle.sql_query.specs.Queries.{Query}
-use Rattle.sql_query.specs.Tuples.{value_at}
-use Rattle.sql_query.specs.Worlds.{World}
 use Rattle.sort_rows.specs.declared.columns.SortColumn.{SortColumn}
 use Rattle.sort_rows.specs.declared.sort.Keyed.{Keyed}
-use Rattle.sort_rows.specs.Columns.{columns_order, key_at}
-use Rattle.sort_rows.specs.Rows.{tuple_of}
+use Rattle.sort_rows.specs.Columns.{columns_order}
+use Rattle.sort_rows.specs.Leads.{key_lead}
 
--- the tuples alone
-abbrev pub rows_keyed : List Keyed → List (List Tid)
-rows_keyed ks = map (λ (k : Keyed). k.row.now) ks
+-- the key of so many values at a place of the list of all keys
+abbrev pub run_at : {A : Type 0} → List A → ℕ → ℕ → List A
+run_at xs width place = take width (drop (place * width) xs)
 
--- the values of a key
-abbrev pub values_of : Keyed → List Value
-values_of k = map (λ v. v.now) k.key.items
+-- the tuples themselves, of a list
+abbrev pub rows_keyed : List (List Tid) → List Keyed → List (List Tid)
+rows_keyed rows ks = map (λ (k : Keyed). slice_index_or rows k.place []) ks
 
--- by the keys alone
-abbrev pub keyed_order : List SortColumn → Keyed → Keyed → Ordering
-keyed_order cs = on values_of (columns_order cs)
+-- by the keys
+module _ (cs : List SortColumn) (keys : List Value) where
+  abbrev pub key_in : Keyed → List Value
+  key_in k = run_at keys (length cs) k.place
 
--- a tuple of a set, whose key has its values
-pub record IsKeyed (w : World) (q : Query) (set : RelSet) (cs : List SortColumn) (k : Keyed) : Type 0 where
-  pub width : length k.row.now ≡ relation_count set
-  pub values : values_of k ≡ key_at cs (value_at w q (tuple_of q set k.row.now))
+  abbrev pub keyed_order : Keyed → Keyed → Ordering
+  keyed_order = then_cmp (on (λ (k : Keyed). k.lead) int_cmp) (on key_in (columns_order cs))
 
-abbrev pub AreKeyed : World → Query → RelSet → List SortColumn → List Keyed → Type 0
-AreKeyed w q set cs ks = All (IsKeyed w q set cs) ks
+  -- a tuple of so many, with the lead of its key
+  pub record IsKeyed (count : ℕ) (k : Keyed) : Type 0 where
+    pub within : k.place < count
+    pub lead : k.lead ≡ key_lead cs (key_in k)
+
+  abbrev pub AreKeyed : ℕ → List Keyed → Type 0
+  AreKeyed count ks = All (IsKeyed count) ks

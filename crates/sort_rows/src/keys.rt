@@ -1,6 +1,6 @@
 //! Sort keys of tuples: their values, and how they compare.
 
-ghost use Rattle.std.specs.Prelude.{◌≡◌, ◌+◌, ◌≤◌, All, IfOk, length, map, slice_index_or};
+ghost use Rattle.std.specs.Prelude.{◌≡◌, ◌+◌, ◌++◌, ◌≤◌, All, IfOk, OnOk, length, map, slice_index_or};
 ghost use Rattle.pg_base.specs.Sets.{has};
 ghost use Rattle.pg_value.specs.declared.value.Value.TheVariants.{Null};
 ghost use Rattle.pg_value.specs.ColumnOrder.{column_order};
@@ -11,9 +11,12 @@ ghost use Rattle.sql_query.specs.Queries.{all_of_query};
 ghost use Rattle.sql_query.specs.Tuples.{value_at};
 ghost use Rattle.sql_query.specs.Worlds.{IsWorld, world};
 ghost use Rattle.sort_rows.specs.Columns.{columns_order, key_at, values_order, IsSortColumn};
+ghost use Rattle.sort_rows.specs.Keyed.{run_at};
+ghost use Rattle.sort_rows.specs.KeySource.{IsKeySource, key_of, world_of};
 ghost use Rattle.sort_rows.specs.Rows.{AreRowsAt, HasRows, tuple_of};
 
 use crate::columns::SortColumn;
+use crate::source::KeySource;
 use catalog::Catalog;
 use heap::{Counters, Heaps, Row};
 use pg_base::{Memory, RelNo, RelSet, Steps, Tid};
@@ -22,33 +25,51 @@ use sql_query::Prepared;
 use std::alloc::Global;
 use std::cmp::Ordering;
 
-/// The rows of a tuple of a set of relations, in FROM order. Each is one look. The error means want of memory.
+/// Puts the rows of a tuple, in FROM order, in the place of those of a list. Each is one look. The error means want of memory.
 fn tuple_rows<'a, C: Counters>(
-    alloc: Global,
-    cat: &Catalog,
-    q: &Prepared,
-    heaps: &'a Heaps<C>,
-    set: RelSet,
+    at: &KeySource<'a, '_, C>,
     tuple: &[Tid],
+    rows: &mut Vec<&'a Row>,
     reads: &mut Steps<C::Looks>,
-) -> Result<Vec<&'a Row>, Memory>
-    requires world { IsWorld (world cat.now heaps.now) }
-    requires tables { AreTables cat.now q.now.range }
-    requires set { IsWithin (has set.0) (all_of_query q.now) }
-    requires width { length tuple.now ≡ relation_count set }
-    requires rows { HasRows (world cat.now heaps.now) q.now (has set.0) tuple.now }
-    ensures rows { IfOk result (λ rows. AreRowsAt (world cat.now heaps.now) q.now set tuple.now (map (λ r. r.now) rows.items)) }
-    ensures cost { reads.new ≤ reads.old + relation_count set }
+) -> Result<(), Memory>
+    requires source { IsKeySource at.now }
+    requires width { length tuple.now ≡ relation_count at.now.set }
+    requires rows { HasRows (world_of at.now) at.now.q.now (has at.now.set.0) tuple.now }
+    ensures rows { OnOk result (AreRowsAt (world_of at.now) at.now.q.now at.now.set tuple.now (map (λ r. r.now) rows.new.items)) }
+    ensures cost { reads.new ≤ reads.old + relation_count at.now.set }
 {
-    let mut rows = Vec::new(alloc);
+    let q: &Prepared = at.q;
+    rows.clear();
     for r in 0..16 {
-        if set.has(RelNo(r)) {
+        if at.set.has(RelNo(r)) {
             let (table, _) = &q.range.items()[r as usize];
-            let row = heaps.get(*table).look(tuple[rows.len()], reads);
+            let row = at.heaps.get(*table).look(tuple[rows.len()], reads);
             rows.push(row)?;
         }
     }
-    Ok(rows)
+    Ok(())
+}
+
+/// Puts the key of a tuple at the end of a list. Each relation's row is read once, by one look; `rows` is room for these. The
+/// error means want of memory.
+pub(crate) fn add_key<'a, C: Counters>(
+    at: &KeySource<'a, '_, C>,
+    tuple: &[Tid],
+    rows: &mut Vec<&'a Row>,
+    keys: &mut Vec<&'a Value>,
+    reads: &mut Steps<C::Looks>,
+) -> Result<(), Memory>
+    requires source { IsKeySource at.now }
+    requires width { length tuple.now ≡ relation_count at.now.set }
+    requires rows { HasRows (world_of at.now) at.now.q.now (has at.now.set.0) tuple.now }
+    ensures key { OnOk result (map (λ v. v.now) keys.new.items ≡ map (λ v. v.now) keys.old.items ++ key_of at.now tuple.now) }
+    ensures cost { reads.new ≤ reads.old + relation_count at.now.set }
+{
+    tuple_rows(at, tuple, rows, reads)?;
+    for column in at.columns {
+        keys.push(rows[column.place].value(column.column.col))?;
+    }
+    Ok(())
 }
 
 /// The values of a tuple of a set of relations at columns of them. Each relation's row is read once, by one look. The
@@ -72,12 +93,30 @@ pub fn read_key<'a, C: Counters>(
     ensures key { IfOk result (λ key. map (λ v. v.now) key.items ≡ key_at columns.now (value_at (world cat.now heaps.now) q.now (tuple_of q.now set tuple.now))) }
     ensures cost { reads.new ≤ reads.old + relation_count set }
 {
-    let rows = tuple_rows(alloc, cat, q, heaps, set, tuple, reads)?;
+    let at = KeySource {
+        cat,
+        q,
+        heaps,
+        set,
+        columns,
+    };
+    let mut rows = Vec::new(alloc);
     let mut key = Vec::new(alloc);
-    for column in columns {
-        key.push(rows[column.place].value(column.column.col))?;
-    }
+    add_key(&at, tuple, &mut rows, &mut key, reads)?;
     Ok(key)
+}
+
+/// The key at a place of a list of keys of so many values each, or none past the end.
+pub(crate) fn key_at_place<'k, 'a>(
+    keys: &'k [&'a Value],
+    width: usize,
+    place: u32,
+) -> &'k [&'a Value]
+    ensures { result.now ≡ run_at keys.now width place }
+{
+    let start = (place as usize).saturating_mul(width).min(keys.len());
+    let end = start + width.min(keys.len() - start);
+    &keys[start..end]
 }
 
 /// How two keys stand to one another, by the first column that tells them apart. A value that a key lacks counts as
@@ -111,7 +150,7 @@ fn compare_at(column: SortColumn, a: &[&Value], b: &[&Value], place: usize) -> O
 }
 
 /// The value at a place of a key, or another one past its end.
-fn value_or<'a>(key: &'a [&Value], place: usize, past: &'a Value) -> &'a Value
+pub(crate) fn value_or<'a>(key: &'a [&Value], place: usize, past: &'a Value) -> &'a Value
     ensures { result.now ≡ slice_index_or (map (λ v. v.now) key.now) place past.now }
 {
     match key.get(place) {

@@ -1,35 +1,38 @@
 //! The sort of a list of tuples.
 
-ghost use Rattle.std.specs.Prelude.{◌≡◌, ◌+◌, ◌*◌, ◌<◌, ◌≤◌, All, IfOk, OnOk, length};
+ghost use Rattle.std.specs.Prelude.{◌≡◌, ◌+◌, ◌*◌, ◌<◌, ◌≤◌, All, IfOk, OnOk, length, map};
+ghost use Rattle.std.specs.List.{flat_map};
 ghost use Rattle.pg_base.specs.Sets.{has};
 ghost use Rattle.pg_value.specs.Sorting.{in_order};
 ghost use Rattle.eq_classes.specs.Holding.{IsWithin};
 ghost use Rattle.heap.specs.Tuples.{padded_tuples, relation_count};
-ghost use Rattle.path_cost.specs.Columns.{AreTables};
 ghost use Rattle.pathkeys.specs.Sorted.{keys_order};
 ghost use Rattle.sql_query.specs.Queries.{all_of_query, width};
 ghost use Rattle.sql_query.specs.Tuples.{value_at};
 ghost use Rattle.sql_query.specs.WellBound.{IsWellBound};
 ghost use Rattle.sql_query.specs.Worlds.{IsWorld, world};
-ghost use Rattle.sort_rows.specs.Columns.{IsSortColumn};
 ghost use Rattle.sort_rows.specs.Keyed.{AreKeyed, keyed_order, rows_keyed};
+ghost use Rattle.sort_rows.specs.KeySource.{IsKeySource, by_key, key_of, world_of};
 ghost use Rattle.sort_rows.specs.Rows.{AllHaveRows};
 
 use crate::columns::{SortColumn, sort_columns};
-use crate::keys::{compare_keys, read_key};
+use crate::keys::{add_key, compare_keys, key_at_place};
+use crate::leads::key_lead;
+use crate::source::KeySource;
 use catalog::Catalog;
 use heap::{Counters, Heaps, Tuples};
 use pathkeys::Keys;
-use pg_base::{Memory, RelSet, Steps, Tid};
+use pg_base::{Memory, Steps};
 use pg_value::Value;
 use sql_query::Prepared;
 use std::alloc::Global;
+use std::cmp::Ordering;
 
-/// A tuple with its sort key.
-#[derive(Drop)]
-struct Keyed<'a> {
-    key: Vec<&'a Value>,
-    row: &'a [Tid],
+/// A tuple by its place in the input, with the lead of its key.
+#[derive(Clone, Copy)]
+struct Keyed {
+    lead: i64,
+    place: u32,
 }
 
 /// The tuples sorted by the classes of the list, each by its first member inside their set; those that tie keep their
@@ -55,55 +58,105 @@ pub fn sort_rows<C: Counters>(
     ensures cost { reads.new ≤ reads.old + relation_count input.now.set * length input.now.rows }
 {
     let columns = sort_columns(alloc, &q.classes, input.set(), keys.items())?;
-    let mut items = read_keys(alloc, cat, q, heaps, &columns, input, reads)?;
-    sort_keyed(&columns, &mut items)?;
-    rows_of(alloc, input.set(), &items)
+    let at = KeySource {
+        cat,
+        q,
+        heaps,
+        set: input.set(),
+        columns: &columns,
+    };
+    sorted(alloc, &at, input, reads)
 }
 
-/// Each tuple with its sort key.
-fn read_keys<'a, C: Counters>(
+/// The tuples in the order of their keys. The error means want of memory.
+fn sorted<C: Counters>(
     alloc: Global,
-    cat: &Catalog,
-    q: &Prepared,
-    heaps: &'a Heaps<C>,
-    columns: &[SortColumn],
-    input: &'a Tuples,
+    at: &KeySource<'_, '_, C>,
+    input: &Tuples,
     reads: &mut Steps<C::Looks>,
-) -> Result<Vec<Keyed<'a>>, Memory>
-    requires world { IsWorld (world cat.now heaps.now) }
-    requires tables { AreTables cat.now q.now.range }
-    requires columns { All (IsSortColumn cat.now q.now (has input.now.set.0)) columns.now }
-    requires set { IsWithin (has input.now.set.0) (all_of_query q.now) }
-    requires rows { AllHaveRows (world cat.now heaps.now) q.now input.now }
-    ensures rows { IfOk result (λ items. rows_keyed items.items ≡ input.now.rows) }
-    ensures keys { IfOk result (λ items. AreKeyed (world cat.now heaps.now) q.now input.now.set columns.now items.items) }
+) -> Result<Tuples, Memory>
+    requires source { IsKeySource at.now }
+    requires set { at.now.set ≡ input.now.set }
+    requires rows { AllHaveRows (world_of at.now) at.now.q.now input.now }
+    ensures rows { IfOk result (λ r. r ≡ record { set = input.now.set; rows = in_order (by_key at.now) input.now.rows }) }
     ensures cost { reads.new ≤ reads.old + relation_count input.now.set * length input.now.rows }
 {
-    let mut items = Vec::new(alloc);
+    let keys = read_keys(alloc, at, input, reads)?;
+    let mut items = with_leads(alloc, at.columns, &keys, input)?;
+    sort_keyed(at.columns, &keys, &mut items)?;
+    rows_of(alloc, input, &items)
+}
+
+/// The keys of all tuples, one after another.
+fn read_keys<'a, C: Counters>(
+    alloc: Global,
+    at: &KeySource<'a, '_, C>,
+    input: &Tuples,
+    reads: &mut Steps<C::Looks>,
+) -> Result<Vec<&'a Value>, Memory>
+    requires source { IsKeySource at.now }
+    requires set { at.now.set ≡ input.now.set }
+    requires rows { AllHaveRows (world_of at.now) at.now.q.now input.now }
+    ensures keys { IfOk result (λ keys. map (λ v. v.now) keys.items ≡ flat_map (key_of at.now) input.now.rows) }
+    ensures cost { reads.new ≤ reads.old + relation_count input.now.set * length input.now.rows }
+{
+    let mut keys = Vec::new(alloc);
+    let mut rows = Vec::new(alloc);
     for n in 0..input.len() {
-        let row = input.get(n);
-        let key = read_key(alloc, cat, q, heaps, input.set(), columns, row, reads)?;
-        items.push(Keyed { key, row })?;
+        add_key(at, input.get(n), &mut rows, &mut keys, reads)?;
+    }
+    Ok(keys)
+}
+
+/// Each tuple with the lead of its key.
+fn with_leads(
+    alloc: Global,
+    columns: &[SortColumn],
+    keys: &[&Value],
+    input: &Tuples,
+) -> Result<Vec<Keyed>, Memory>
+    ensures rows { IfOk result (λ items. rows_keyed input.now.rows items.items ≡ input.now.rows) }
+    ensures keys { IfOk result (λ items. AreKeyed columns.now (map (λ v. v.now) keys.now) (length input.now.rows) items.items) }
+{
+    let mut items = Vec::new(alloc);
+    for place in 0..input.len() {
+        let lead = key_lead(columns, key_at_place(keys, columns.len(), place));
+        items.push(Keyed { lead, place })?;
     }
     Ok(items)
 }
 
-/// Sorts tuples by their keys. Those that tie keep their places. The error means want of memory.
-fn sort_keyed(columns: &[SortColumn], items: &mut Vec<Keyed<'_>>) -> Result<(), Memory>
-    ensures { OnOk result (items.new.items ≡ in_order (keyed_order columns.now) items.old.items) }
+/// How two tuples stand to one another by their keys.
+fn compare_keyed(columns: &[SortColumn], keys: &[&Value], a: Keyed, b: Keyed) -> Ordering
+    ensures { result ≡ keyed_order columns.now (map (λ v. v.now) keys.now) a b }
 {
-    items.sort_by(|a, b| compare_keys(columns, &a.key, &b.key))?;
+    match a.lead.cmp(&b.lead) {
+        Ordering::Equal => {
+            let width = columns.len();
+            let left = key_at_place(keys, width, a.place);
+            let right = key_at_place(keys, width, b.place);
+            compare_keys(columns, left, right)
+        }
+        unequal => unequal,
+    }
+}
+
+/// Sorts tuples by their keys. Those that tie keep their places. The error means want of memory.
+fn sort_keyed(columns: &[SortColumn], keys: &[&Value], items: &mut Vec<Keyed>) -> Result<(), Memory>
+    ensures { OnOk result (items.new.items ≡ in_order (keyed_order columns.now (map (λ v. v.now) keys.now)) items.old.items) }
+{
+    items.sort_by(|a, b| compare_keyed(columns, keys, *a, *b))?;
     Ok(())
 }
 
 /// The tuples alone.
-fn rows_of(alloc: Global, set: RelSet, items: &[Keyed<'_>]) -> Result<Tuples, Memory>
-    requires { All (λ k. length k.row.now ≡ relation_count set) items.now }
-    ensures { IfOk result (λ r. r ≡ record { set = set; rows = rows_keyed items.now }) }
+fn rows_of(alloc: Global, input: &Tuples, items: &[Keyed]) -> Result<Tuples, Memory>
+    requires { All (λ k. k.place < length input.now.rows) items.now }
+    ensures { IfOk result (λ r. r ≡ record { set = input.now.set; rows = rows_keyed input.now.rows items.now }) }
 {
-    let mut rows = Tuples::new(alloc, set);
+    let mut rows = Tuples::new(alloc, input.set());
     for item in items {
-        rows.add(item.row)?;
+        rows.add(input.get(item.place))?;
     }
     Ok(rows)
 }

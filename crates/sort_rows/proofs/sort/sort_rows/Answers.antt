@@ -1,20 +1,23 @@
-use Rattle.std.proofs.Common.{◌≡◌, ◌<◌, List, length, ap, ◌∙◌}
+use Rattle.std.proofs.Common.{◌≡◌, ◌<◌, List, All, length, map, sym, ap, ◌∙◌, subst, arith}
+use Rattle.std.specs.Ordering.{on}
 use Rattle.std.proofs.lemmas.Result.{IfOk-weaker}
 use Rattle.pg_base.specs.Sets.{has}
+use Rattle.pg_base.specs.declared.numbers.Tid.{Tid}
 use Rattle.pg_base.specs.declared.rel_set.RelSet.{RelSet}
 use Rattle.pg_value.specs.Sorting.{in_order}
+use Rattle.eq_classes.specs.Holding.{IsWithin}
 use Rattle.eq_classes.specs.declared.classes.ClassNo.{ClassNo}
 use Rattle.heap.specs.Tuples.{TupleList, padded_tuples}
 use Rattle.pathkeys.specs.Sorted.{keys_order}
-use Rattle.sql_query.specs.Queries.{Query, width}
+use Rattle.sql_query.specs.Queries.{Query, all_of_query, width}
 use Rattle.sql_query.specs.Tuples.{value_at}
 use Rattle.sql_query.specs.Worlds.{world}
-use Rattle.sort_rows.specs.declared.sort.Keyed.{Keyed}
-use Rattle.sort_rows.specs.Keyed.{rows_keyed}
-use Rattle.sort_rows.specs.Rows.{AllHaveRows}
+use Rattle.sort_rows.specs.declared.columns.SortColumn.{SortColumn}
+use Rattle.sort_rows.specs.Columns.{columns_order, key_at, IsSortColumn}
+use Rattle.sort_rows.specs.Rows.{tuple_of, AllHaveRows, HasRows}
 use Rattle.sort_rows.proofs.ColumnLemmas.{columns_are, columns_given}
 use Rattle.sort_rows.proofs.ListLemmas.{All-unmap}
-use Rattle.sort_rows.proofs.SortLemmas.{given_widths, given_tuples, given_rows}
+use Rattle.sort_rows.proofs.SortLemmas.{rows_kept, tuples_sorted}
 use Rattle.sort_rows.proofs.sort.sort_rows.Goals as goal
 
 pub sort_columns-requires : goal.sort_columns-requires
@@ -22,46 +25,50 @@ sort_columns-requires g c =
     let classes : c.q.inside.classes ≡ c.args.q.now.classes = ap (λ (x : Query). x.classes) c.q.view_is in
     rw classes (All-unmap (λ n. n < length c.args.q.now.classes.classes) (λ (x : ClassNo). x.0) c.items.result.now (rw c.items.ensures.list c.requires.keys))
 
-pub read_keys-requires-clause-columns : goal.read_keys-requires-clause-columns
-read_keys-requires-clause-columns g c =
-    let given = columns_given c.q.inside.classes c.args.q.now.classes c.set.result c.args.input.now.set _ c.args.keys.now c.deref.result.now c.in_ok-columns.columns.items c.deref.ensures.value c.in_ok-columns.ensures
+pub sorted-requires-clause-source : goal.sorted-requires-clause-source
+sorted-requires-clause-source g c =
+    let cat = c.args.cat.now in
+    let q = c.args.q.now in
+    let input = c.args.input.now in
+    let given = columns_given c.q.inside.classes q.classes c.set.result input.set _ c.args.keys.now c.deref.result.now c.in_ok-columns.columns.items c.deref.ensures.value c.in_ok-columns.ensures
     (ap (λ (x : Query). x.classes) c.q.view_is) c.set.ensures c.items.ensures.list in
-    rw given (columns_are c.args.cat.now c.args.q.now c.requires.bound (has c.args.input.now.set.0) c.args.keys.now c.requires.keys)
-
-pub rows_of-requires : goal.rows_of-requires
-rows_of-requires g c =
-    let w = world c.args.cat.now c.args.heaps.now in
-    let classes = ap (λ (x : Query). x.classes) c.q.view_is in
-    let given = columns_given c.q.inside.classes c.args.q.now.classes c.set.result c.args.input.now.set _ c.args.keys.now c.deref.result.now c.in_ok-columns.columns.items c.deref.ensures.value c.in_ok-columns.ensures classes c.set.ensures c.items.ensures.list in
-    let again = columns_given c.q.inside.classes c.args.q.now.classes c.set.result c.args.input.now.set _ c.args.keys.now c.deref-2.result.now c.in_ok-columns.columns.items c.deref-2.ensures.value c.in_ok-columns.ensures classes c.set.ensures c.items.ensures.list in
-    rw (c.set-2.ensures, c.deref-3.ensures.value)
-    (given_widths w c.args.q.now c.args.input.now c.args.keys.now c.deref.result.now c.deref-2.result.now c.in_ok-items.items.items c.sort_keyed.new.items.items given again c.in_ok-items.ensures.rows c.in_ok-items.ensures.keys c.in_ok-sort_keyed.ensures)
+    record {
+      world = c.requires.world;
+      tables = c.requires.bound.range.tables;
+      set = subst (λ (s : RelSet). IsWithin (has s.0) (all_of_query q)) (sym c.set-2.ensures) c.requires.set;
+      few = omega arith;
+      columns = subst (λ (s : RelSet). All (IsSortColumn cat q (has s.0)) c.deref.result.now) (sym c.set-2.ensures)
+          (subst (λ (l : List SortColumn). All (IsSortColumn cat q (has input.set.0)) l) (sym given) (columns_are cat q c.requires.bound (has input.set.0) c.args.keys.now c.requires.keys));
+    }
 
 pub returns-clause-sorted : goal.returns-clause-sorted
 returns-clause-sorted g c =
     let w = world c.args.cat.now c.args.heaps.now in
     let input = c.args.input.now in
     let q = c.args.q.now in
-    let classes = ap (λ (x : Query). x.classes) c.q.view_is in
-    let given = columns_given c.q.inside.classes q.classes c.set.result input.set _ c.args.keys.now c.deref.result.now c.in_ok-columns.columns.items c.deref.ensures.value c.in_ok-columns.ensures classes c.set.ensures c.items.ensures.list in
-    let again = columns_given c.q.inside.classes q.classes c.set.result input.set _ c.args.keys.now c.deref-2.result.now c.in_ok-columns.columns.items c.deref-2.ensures.value c.in_ok-columns.ensures classes c.set.ensures c.items.ensures.list in
-    let tuples = given_tuples w q input c.args.keys.now c.deref.result.now c.deref-2.result.now c.in_ok-items.items.items c.sort_keyed.new.items.items given again c.in_ok-items.ensures.rows c.in_ok-items.ensures.keys c.in_ok-sort_keyed.ensures in
-    IfOk-weaker c.rows_of.result (λ (r : TupleList). r ≡ record { set = c.set-2.result; rows = rows_keyed c.deref-3.result.now })
+    let cs = c.deref.result.now in
+    let given = columns_given c.q.inside.classes q.classes c.set.result input.set _ c.args.keys.now c.deref.result.now c.in_ok-columns.columns.items c.deref.ensures.value c.in_ok-columns.ensures
+    (ap (λ (x : Query). x.classes) c.q.view_is) c.set.ensures c.items.ensures.list in
+    IfOk-weaker c.sorted.result
+    (λ (r : TupleList). r ≡ record { set = input.set; rows = in_order (on (λ (row : List Tid). key_at cs (value_at w q (tuple_of q c.set-2.result row))) (columns_order cs)) input.rows })
     (λ (r : TupleList). padded_tuples (width q) r ≡ in_order (keys_order (value_at w q) q.classes (has input.set.0) c.args.keys.now) (padded_tuples (width q) input))
     (λ r is.
     ap (padded_tuples (width q)) is
-    ∙ ap (λ (s : RelSet). padded_tuples (width q) (record { set = s; rows = rows_keyed c.deref-3.result.now })) c.set-2.ensures
-    ∙ ap (λ (ks : List Keyed). padded_tuples (width q) (record { set = input.set; rows = rows_keyed ks })) c.deref-3.ensures.value
-    ∙ tuples) c.rows_of.ensures
+    ∙ ap (λ (s : RelSet). map (tuple_of q input.set) (in_order (on (λ (row : List Tid). key_at cs (value_at w q (tuple_of q s row))) (columns_order cs)) input.rows)) c.set-2.ensures
+    ∙ tuples_sorted w q input.set c.args.keys.now cs given input.rows) c.sorted.ensures.rows
 
 pub returns-clause-rows : goal.returns-clause-rows
 returns-clause-rows g c =
     let w = world c.args.cat.now c.args.heaps.now in
     let input = c.args.input.now in
     let q = c.args.q.now in
-    let classes = ap (λ (x : Query). x.classes) c.q.view_is in
-    let given = columns_given c.q.inside.classes q.classes c.set.result input.set _ c.args.keys.now c.deref.result.now c.in_ok-columns.columns.items c.deref.ensures.value c.in_ok-columns.ensures classes c.set.ensures c.items.ensures.list in
-    let again = columns_given c.q.inside.classes q.classes c.set.result input.set _ c.args.keys.now c.deref-2.result.now c.in_ok-columns.columns.items c.deref-2.ensures.value c.in_ok-columns.ensures classes c.set.ensures c.items.ensures.list in
-    let have = given_rows w q input c.args.keys.now c.deref.result.now c.deref-2.result.now c.in_ok-items.items.items c.sort_keyed.new.items.items given again c.in_ok-items.ensures.rows c.in_ok-items.ensures.keys c.in_ok-sort_keyed.ensures c.requires.rows in
-    IfOk-weaker c.rows_of.result (λ (r : TupleList). r ≡ record { set = c.set-2.result; rows = rows_keyed c.deref-3.result.now }) (λ (r : TupleList). AllHaveRows w q r)
-    (λ r is. rw (is, c.set-2.ensures, c.deref-3.ensures.value) have) c.rows_of.ensures
+    let cs = c.deref.result.now in
+    let given = columns_given c.q.inside.classes q.classes c.set.result input.set _ c.args.keys.now c.deref.result.now c.in_ok-columns.columns.items c.deref.ensures.value c.in_ok-columns.ensures
+    (ap (λ (x : Query). x.classes) c.q.view_is) c.set.ensures c.items.ensures.list in
+    let have : All (HasRows w q (has input.set.0)) (in_order (on (λ (row : List Tid). key_at cs (value_at w q (tuple_of q c.set-2.result row))) (columns_order cs)) input.rows) =
+    subst (λ (s : RelSet). All (HasRows w q (has input.set.0)) (in_order (on (λ (row : List Tid). key_at cs (value_at w q (tuple_of q s row))) (columns_order cs)) input.rows)) (sym c.set-2.ensures)
+    (rows_kept w q input.set c.args.keys.now cs given (HasRows w q (has input.set.0)) input.rows c.requires.rows) in
+    IfOk-weaker c.sorted.result
+    (λ (r : TupleList). r ≡ record { set = input.set; rows = in_order (on (λ (row : List Tid). key_at cs (value_at w q (tuple_of q c.set-2.result row))) (columns_order cs)) input.rows })
+    (λ (r : TupleList). AllHaveRows w q r)
+    (λ r is. subst (λ (t : TupleList). AllHaveRows w q t) (sym is) have) c.sorted.ensures.rows

@@ -13,7 +13,7 @@ use group_values::Values;
 use pg_base::{Memory, Sink};
 use pg_value::Value;
 use reply::{Broken, flush, put};
-use row_text::{count_line, row_line};
+use row_text::{Lines, count_line};
 use std::alloc::Global;
 
 /// Prints a text, a line for each list of values, and the number of these lines. Where out fails, or memory is wanted, out has a
@@ -45,8 +45,9 @@ fn put_lines<K: Sink>(
     ensures puts { Puts (K.held out.old) (K.held out.new) pending.old.items pending.new.items result (flat_map row_line lines.now) }
     ensures cause { HasWriteCause Write (K.faults out.old) (K.faults out.new) result }
 {
+    let mut written = Lines::new(alloc);
     for line in lines {
-        put_line(alloc, line.items(), out, pending)?;
+        put_line(alloc, line.items(), &mut written, out, pending)?;
     }
     Ok(())
 }
@@ -55,23 +56,28 @@ fn put_lines<K: Sink>(
 fn put_line<K: Sink>(
     alloc: Global,
     values: &[Value],
+    written: &mut Lines,
     out: &mut K,
     pending: &mut Vec<u8>,
 ) -> Result<(), Broken>
     ensures puts { Puts (K.held out.old) (K.held out.new) pending.old.items pending.new.items result (row_line values.now) }
     ensures cause { HasWriteCause Write (K.faults out.old) (K.faults out.new) result }
 {
-    let line = line_text(alloc, values)?;
-    put(out, pending, &line)
+    let line = line_text(alloc, values, written)?;
+    put(out, pending, line)
 }
 
 /// The line of a list of values. The error means want of memory.
-fn line_text(alloc: Global, values: &[Value]) -> Result<Vec<u8>, Memory>
-    ensures { IfOk result (λ line. line.items ≡ row_line values.now) }
+fn line_text<'a>(
+    alloc: Global,
+    values: &[Value],
+    written: &'a mut Lines,
+) -> Result<&'a [u8], Memory>
+    ensures { IfOk result (λ line. line.now ≡ row_line values.now) }
 {
     let mut lent = Vec::new(alloc);
     for value in values {
         lent.push(value)?;
     }
-    row_line(alloc, &lent)
+    written.line(&lent)
 }

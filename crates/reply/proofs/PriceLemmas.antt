@@ -5,7 +5,7 @@ use Rattle.catalog.specs.Contents.{Contents}
 use Rattle.cost_rules.specs.Costs.{IsEstimate, capped_pair}
 use Rattle.cost_rules.specs.Powers.{clamped}
 use Rattle.cost_rules.specs.declared.pair.Pair.{Pair}
-use Rattle.cost_rules.specs.declared.parameters.TheConstants.{MOST_COST, MOST_ESTIMATE}
+use Rattle.cost_rules.specs.declared.parameters.TheConstants.{MOST_ESTIMATE}
 use Rattle.eq_classes.specs.Clauses.{Set}
 use Rattle.eq_classes.specs.Parts.{is_all}
 use Rattle.path_cost.specs.Estimates.{conditions_where, product_rows, relations, set_rows, share_of_rows, table_rows}

@@ -1,5 +1,5 @@
 -- Replies, by a best plan.
-use Rattle.std.proofs.Common.{◌≡◌, ℕ, ◌+◌, ◌≤◌, Bool, List, ◌++◌, length, refl, arith, ap, ap₂, ◌∙◌, subst, Option, Result, Ok, Err, IfErr, OnOk, OnErr, IsPermutation, sym}
+use Rattle.std.proofs.Common.{◌≡◌, ℕ, ◌+◌, ◌≤◌, Bool, List, ◌++◌, length, refl, arith, ap₂, ◌∙◌, subst, Option, Result, Ok, Err, IfErr, OnOk, OnErr, IsPermutation}
 use Rattle.std.specs.Result.{IsErrAnd}
 use Rattle.std.specs.Io.KnownBytes.{Appends}
 use Rattle.pg_base.specs.Writing.{AppendsPrefix}

@@ -1,16 +1,38 @@
 //! Bytes put on their way to a sink, written some at a time.
 
-ghost use Rattle.std.specs.Prelude.{◌≡◌, ◌++◌, OnOk, OnErr};
+ghost use Rattle.std.specs.Prelude.{◌≡◌, ◌++◌, IfOk, OnOk, OnErr};
 ghost use Rattle.std.specs.Io.KnownBytes.{Appends};
 ghost use Rattle.pg_base.specs.Writing.{AppendsPrefix};
 ghost use Rattle.reply.specs.Putting.{Puts, HasWriteCause};
 ghost use Rattle.reply.specs.declared.stop.Broken.TheVariants.{Write};
 
 use crate::stop::Broken;
-use pg_base::{Sink, write_all};
+use pg_base::{Memory, Sink, write_all};
+use row_text::Lines;
+use std::alloc::Global;
 
 /// So many bytes are written at once.
 const ENOUGH: usize = 1024;
+
+/// What is printed for now: the bytes that are pending, and the lines of rows.
+#[derive(Drop)]
+pub(crate) struct Page {
+    pub(crate) pending: Vec<u8>,
+    pub(crate) lines: Lines,
+}
+
+impl Page {
+    /// These bytes are pending, and there is no line yet. The error means want of memory.
+    pub(crate) fn new(alloc: Global, bytes: &[u8]) -> Result<Page, Memory>
+        ensures { IfOk result (λ page. page.pending.items ≡ bytes.now) }
+    {
+        let pending = Vec::from_slice(alloc, bytes)?;
+        Ok(Page {
+            pending,
+            lines: Lines::new(alloc),
+        })
+    }
+}
 
 /// Puts these bytes behind the pending ones, and writes all that is pending once it is enough. Where out fails, or memory is wanted,
 /// out has a prefix of the pending bytes and these.

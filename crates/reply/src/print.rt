@@ -18,7 +18,7 @@ ghost use Rattle.reply.specs.Settings.{IsSetting, world_of};
 ghost use Rattle.executor.specs.Numbers.{IsTupleOf};
 
 use crate::best::best_path;
-use crate::pending::{flush, put};
+use crate::pending::{Page, flush, put};
 use crate::rows::put_window;
 use crate::setting::Setting;
 use crate::shown::shown_text;
@@ -137,11 +137,11 @@ pub fn put_result<C: Counters, K: Sink>(
     ensures fewer { fetches.new ≤ fetches.old + (fetched_by (last_in at.now.q.now.window) (length rows.old.left) rows.old.owed rows.old.one rows.old.coming).most }
     ensures reads { reads.new ≤ reads.old + looked_by (last_in at.now.q.now.window) rows.old.allowed (length (windowed at.now.q.now.window rows.old.left)) }
 {
-    let mut pending = Vec::from_slice(at.alloc, text)?;
-    let count = put_window(at, rows, out, &mut pending, fetches, reads)?;
+    let mut page = Page::new(at.alloc, text)?;
+    let count = put_window(at, rows, out, &mut page, fetches, reads)?;
     let line = count_line(at.alloc, count)?;
-    put(out, &mut pending, &line)?;
-    flush(out, &pending)
+    put(out, &mut page.pending, &line)?;
+    flush(out, &page.pending)
 }
 
 /// Prints the text of a best plan of a query.

@@ -15,14 +15,14 @@ ghost use Rattle.reply.specs.Showing.{HasColumn, cell_of, rows_at};
 ghost use Rattle.reply.specs.declared.stop.Broken.TheVariants.{Write};
 
 use crate::pass::{is_wanted, offset_of, pass_over};
-use crate::pending::put;
+use crate::pending::{Page, put};
 use crate::setting::Setting;
 use crate::stop::Broken;
 use executor::Rows;
 use heap::{Counters, Row};
 use pg_base::{Memory, Sink, Steps, Tid};
 use pg_expr::ColRef;
-use row_text::row_line;
+use row_text::Lines;
 use sql_query::{Prepared, selected_columns};
 use std::alloc::{AllocError, Global};
 
@@ -32,13 +32,13 @@ pub(crate) fn put_window<C: Counters, K: Sink>(
     at: &Setting<C>,
     rows: &mut Rows<C>,
     out: &mut K,
-    pending: &mut Vec<u8>,
+    page: &mut Page,
     fetches: &mut Steps<C::Fetches>,
     reads: &mut Steps<C::Looks>,
 ) -> Result<u64, Broken>
     requires setting { IsSetting at.now }
     requires tuples { All (IsTupleOf (world_of at.now) at.now.q.now) rows.old.left }
-    ensures puts { Puts (K.held out.old) (K.held out.new) pending.old.items pending.new.items result (tuples_text (world_of at.now) at.now.q.now (windowed at.now.q.now.window rows.old.left)) }
+    ensures puts { Puts (K.held out.old) (K.held out.new) page.old.pending.items page.new.pending.items result (tuples_text (world_of at.now) at.now.q.now (windowed at.now.q.now.window rows.old.left)) }
     ensures count { IfOk result (λ n. n ≡ length (windowed at.now.q.now.window rows.old.left)) }
     ensures cause { HasWriteCause Write (K.faults out.old) (K.faults out.new) result }
     ensures fetches { OnOk result (HasRisen (fetched_by (last_in at.now.q.now.window) (length rows.old.left) rows.old.owed rows.old.one rows.old.coming) fetches.old fetches.new) }
@@ -46,7 +46,7 @@ pub(crate) fn put_window<C: Counters, K: Sink>(
     ensures reads { reads.new ≤ reads.old + looked_by (last_in at.now.q.now.window) rows.old.allowed (length (windowed at.now.q.now.window rows.old.left)) }
 {
     pass_over(rows, offset_of(at.q), fetches, reads)?;
-    put_rows(at, rows, out, pending, fetches, reads)
+    put_rows(at, rows, out, page, fetches, reads)
 }
 
 /// Puts a line for each tuple that is still to be drawn, up to LIMIT, with the values that it shows, and gives their number.
@@ -55,13 +55,13 @@ fn put_rows<C: Counters, K: Sink>(
     at: &Setting<C>,
     rows: &mut Rows<C>,
     out: &mut K,
-    pending: &mut Vec<u8>,
+    page: &mut Page,
     fetches: &mut Steps<C::Fetches>,
     reads: &mut Steps<C::Looks>,
 ) -> Result<u64, Broken>
     requires setting { IsSetting at.now }
     requires tuples { All (IsTupleOf (world_of at.now) at.now.q.now) rows.old.left }
-    ensures puts { Puts (K.held out.old) (K.held out.new) pending.old.items pending.new.items result (tuples_text (world_of at.now) at.now.q.now (up_to (limit_in at.now.q.now.window) rows.old.left)) }
+    ensures puts { Puts (K.held out.old) (K.held out.new) page.old.pending.items page.new.pending.items result (tuples_text (world_of at.now) at.now.q.now (up_to (limit_in at.now.q.now.window) rows.old.left)) }
     ensures count { IfOk result (λ n. n ≡ length (up_to (limit_in at.now.q.now.window) rows.old.left)) }
     ensures cause { HasWriteCause Write (K.faults out.old) (K.faults out.new) result }
     ensures drawn { OnOk result (Draws (drawn_by (limit_in at.now.q.now.window) rows.old.left) rows.old rows.new fetches.old fetches.new) }
@@ -75,7 +75,7 @@ fn put_rows<C: Counters, K: Sink>(
             None => return Ok(count),
             Some(tuple) => {
                 count = one_more(count)?;
-                put_row(at, tuple.items(), out, pending, reads)?;
+                put_row(at, tuple.items(), out, page, reads)?;
             }
         }
     }
@@ -97,34 +97,35 @@ fn put_row<C: Counters, K: Sink>(
     at: &Setting<C>,
     tuple: &[Tid],
     out: &mut K,
-    pending: &mut Vec<u8>,
+    page: &mut Page,
     reads: &mut Steps<C::Looks>,
 ) -> Result<(), Broken>
     requires setting { IsSetting at.now }
     requires tuple { IsTupleOf (world_of at.now) at.now.q.now (numbers tuple.now) }
-    ensures puts { Puts (K.held out.old) (K.held out.new) pending.old.items pending.new.items result (row_line (shown (world_of at.now) at.now.q.now (numbers tuple.now))) }
+    ensures puts { Puts (K.held out.old) (K.held out.new) page.old.pending.items page.new.pending.items result (row_line (shown (world_of at.now) at.now.q.now (numbers tuple.now))) }
     ensures cause { HasWriteCause Write (K.faults out.old) (K.faults out.new) result }
     ensures reads { reads.new ≤ reads.old + MOST_READS }
 {
-    let line = tuple_line(at, tuple, reads)?;
-    put(out, pending, &line)
+    let line = tuple_line(at, tuple, &mut page.lines, reads)?;
+    put(out, &mut page.pending, line)
 }
 
 /// The line of the values that a tuple shows. Each relation's row is looked at once.
-fn tuple_line<C: Counters>(
+fn tuple_line<'a, C: Counters>(
     at: &Setting<C>,
     tuple: &[Tid],
+    lines: &'a mut Lines,
     reads: &mut Steps<C::Looks>,
-) -> Result<Vec<u8>, Memory>
+) -> Result<&'a [u8], Memory>
     requires setting { IsSetting at.now }
     requires tuple { IsTupleOf (world_of at.now) at.now.q.now (numbers tuple.now) }
-    ensures line { IfOk result (λ line. line.items ≡ row_line (shown (world_of at.now) at.now.q.now (numbers tuple.now))) }
+    ensures line { IfOk result (λ line. line.now ≡ row_line (shown (world_of at.now) at.now.q.now (numbers tuple.now))) }
     ensures reads { reads.new ≤ reads.old + MOST_READS }
 {
     selected_columns();
     let rows = rows_at(at, tuple, reads)?;
     let q: &Prepared = at.q;
-    shown_line(at.alloc, q.select.items(), &rows)
+    shown_line(at.alloc, q.select.items(), &rows, lines)
 }
 
 /// The rows of all relations at a tuple of row numbers, in FROM order, each looked at once. The error means want of memory.
@@ -149,14 +150,19 @@ pub fn rows_at<'a, C: Counters>(
 }
 
 /// The line of the values of these columns in rows of all relations.
-fn shown_line(alloc: Global, columns: &[ColRef], rows: &[&Row]) -> Result<Vec<u8>, Memory>
+fn shown_line<'a>(
+    alloc: Global,
+    columns: &[ColRef],
+    rows: &[&Row],
+    lines: &'a mut Lines,
+) -> Result<&'a [u8], Memory>
     requires { All (HasColumn (map (λ r. r.now) rows.now)) columns.now }
-    ensures { IfOk result (λ line. line.items ≡ row_line (map (cell_of (map (λ r. r.now) rows.now)) columns.now)) }
+    ensures { IfOk result (λ line. line.now ≡ row_line (map (cell_of (map (λ r. r.now) rows.now)) columns.now)) }
 {
     let mut values = Vec::new(alloc);
     for column in columns {
         let row = rows[column.rel.0 as usize];
         values.push(row.value(column.col))?;
     }
-    row_line(alloc, &values)
+    lines.line(&values)
 }

@@ -1,6 +1,8 @@
-//! The lines of a printed result: a row as comma-separated values, and the number of rows.
+//! The lines of a printed result: rows as comma-separated values, and the number of rows.
 #![tactic(auto)]
 
-mod line;
+mod count;
+mod lines;
 
-pub use line::{count_line, row_line};
+pub use count::count_line;
+pub use lines::Lines;

@@ -10,7 +10,7 @@ use Rattle.reply.proofs.rows.put_rows.Goals as goal
 
 pub drawn-init : goal.drawn-init
 drawn-init g c = record {
-  drawn = drawn_none (world_of c.args.at.now) c.args.at.now.q.now c.args.rows.now (g.K.Sink.held c.args.out.now) c.args.pending.now.items c.args.reads.now;
+  drawn = drawn_none (world_of c.args.at.now) c.args.at.now.q.now c.args.rows.now (g.K.Sink.held c.args.out.now) c.args.page.now.pending.items c.args.reads.now;
   draws = draws_none c.args.rows.now c.args.fetches.now;
   within = within_none (limit_in c.args.at.now.q.now.window);
   quiet = refl;

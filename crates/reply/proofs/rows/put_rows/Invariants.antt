@@ -8,7 +8,7 @@ use Rattle.reply.proofs.rows.put_rows.Given as goal
 
 abbrev pub invariant-drawn : goal.invariant-drawn
 invariant-drawn g l = record {
-  drawn : HasDrawn (world_of l.at) l.at.q.now l.fn.rows l.rows (g.K.Sink.held l.fn.out) (g.K.Sink.held l.out) l.fn.pending.items l.pending.items l.count l.fn.reads l.reads;
+  drawn : HasDrawn (world_of l.at) l.at.q.now l.fn.rows l.rows (g.K.Sink.held l.fn.out) (g.K.Sink.held l.out) l.fn.page.pending.items l.page.pending.items l.count l.fn.reads l.reads;
   draws : Draws l.count l.fn.rows l.rows l.fn.fetches l.fetches;
   within : IsWithin (limit_in l.at.q.now.window) l.count;
   quiet : g.K.Sink.faults l.out ≡ g.K.Sink.faults l.fn.out;

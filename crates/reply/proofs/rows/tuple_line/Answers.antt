@@ -14,7 +14,7 @@ shown_line-requires g c =
 
 pub returns-clause-line : goal.returns-clause-line
 returns-clause-line g c =
-    let P : List Value → Type 0 = λ vs. IfOk c.shown_line.result (λ line. line.items ≡ row_line vs) in
+    let P : List Value → Type 0 = λ vs. IfOk c.shown_line.result (λ line. line.now ≡ row_line vs) in
     subst P
     (shown_by c.args.at.now.cat.now c.args.at.now.store.now c.args.at.now.q.now (numbers c.args.tuple.now) c.requires.setting.bound c.requires.setting.store c.requires.tuple (map now c.deref.result.now) c.items.result.now
     (ap (map now) c.deref.ensures.value ∙ c.in_ok-rows.ensures.rows) (c.items.ensures ∙ ap (λ (x : Query). x.select) c.q.view_is)

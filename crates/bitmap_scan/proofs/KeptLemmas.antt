@@ -1,25 +1,31 @@
 -- What is kept of elements, and what some of them together use and cost.
-use Rattle.std.proofs.Common.{◌≡◌, ◌<◌, ◌≤◌, ℕ, suc, ◌+◌, ◌/◌, ◌%◌, Bool, true, false, cond, ◌&&◌, ◌||◌, nat_eq, nat_lt, List, [], ◌∷◌, ◌++◌, length, map, take, sum, get_or, refl, sym, ◌∙◌, ap, ap₂, subst, arith, true≢false}
+use Rattle.std.proofs.Common.{◌≡◌, ◌<◌, ◌≤◌, ℕ, suc, ◌+◌, ◌/◌, ◌%◌, Bool, true, false, not, cond, ◌&&◌, ◌||◌, nat_eq, nat_lt, List, [], ◌∷◌, ◌++◌, length, map, take, drop, sum, get_or, refl, sym, ◌∙◌, ap, ap₂, subst, arith, true≢false}
 use Rattle.std.specs.Prelude.{All}
 use Rattle.std.specs.List.{AllZip, list_any}
+use Rattle.std.proofs.Math.ListN.{drop_of_length-le}
 use Rattle.std.proofs.lemmas.Grind.{common_steps}
-use Rattle.std.proofs.lemmas.List.{take_more, map-append}
+use Rattle.std.proofs.lemmas.List.{drop_more, take_more, map-append}
 use Rattle.std.proofs.lemmas.List.Elements.{All-push, All-head, All-tail, All-cons, All-nil}
 use Rattle.pg_base.specs.Sets.{has}
 use Rattle.pg_base.specs.declared.numbers.RelNo.{RelNo}
 use Rattle.pg_base.specs.declared.rel_set.RelSet.{RelSet}
 use Rattle.pg_expr.specs.AtomSets.{contains}
+use Rattle.pg_expr.specs.Columns.{names_rel}
+use Rattle.pg_expr.specs.Cond.{Cond}
 use Rattle.catalog.specs.Contents.{Contents}
+use Rattle.eq_classes.specs.Clauses.{Clause}
+use Rattle.path_cost.specs.Estimates.{conditions_from}
 use Rattle.sql_query.specs.Queries.{Query}
 use Rattle.cost_rules.specs.Costs.{capped}
 use Rattle.plan_tree.specs.Plans.{BitTree, all_hold}
 use Rattle.plan_tree.specs.Bitmaps.{uses, some_uses}
 use Rattle.plan_tree.specs.Costs.{part_of, parts_of_all, together}
+use Rattle.plan_tree.specs.Space.{others_named}
 use Rattle.plan_tree.specs.Views.{element, trees_of}
 use Rattle.plan_tree.specs.declared.elements.Element.{Element}
 use Rattle.plan_tree.proofs.FrontLemmas.{all-sources}
 use Rattle.bitmap_scan.specs.Chosen.{combined, marked, IsLeastTree}
-use Rattle.bitmap_scan.specs.ElementTrees.{IsKept, tree_in}
+use Rattle.bitmap_scan.specs.ElementTrees.{IsKept, named_in, tree_in}
 use Rattle.bitmap_scan.specs.declared.element_tree.ElementTree.{ElementTree}
 use Rattle.bitmap_scan.proofs.ArmLemmas.{zip-push}
 use Rattle.bitmap_scan.proofs.LeastLemmas.{sum-cons}
@@ -29,6 +35,53 @@ capped-both a b m n e f = omega (arith, e, f)
 
 capped-child : (us vs : List ℕ) → length us ≡ length vs → capped (sum us) ≡ capped (sum vs) → capped (together us) ≡ capped (together vs)
 capped-child us vs e h = omega (arith, e, h)
+
+or-first : (f a b w : Bool) → w ≡ a || b → f || w ≡ (f || a) || (f || b)
+or-first true a b w e = refl
+or-first false a b w e = e
+
+or-left : (f a b w : Bool) → w ≡ a || b → f || w ≡ (f || a) || b
+or-left true a b w e = refl
+or-left false a b w e = e
+
+or-right : (f a b w : Bool) → w ≡ a || b → f || w ≡ a || (f || b)
+or-right true true b w e = refl
+or-right true false b w e = refl
+or-right false a b w e = e
+
+-- the conditions of the clauses of no set, and of those of two sets together
+any-none : (f : Cond → Bool) (n : ℕ) (ks : List Clause) → list_any f (conditions_from n (λ j. false) ks) ≡ false
+any-none f n [] = refl
+any-none f n (x ∷ ks) = any-none f (n + 1) ks
+
+any-either : (f : Cond → Bool) (g h : ℕ → Bool) (n : ℕ) (ks : List Clause) → list_any f (conditions_from n (λ j. g j || h j) ks) ≡ list_any f (conditions_from n g ks) || list_any f (conditions_from n h ks)
+any-either f g h n [] = refl
+any-either f g h n (x ∷ ks) = by (any-either f g h (n + 1) ks) (g n) (h n)
+  where
+    both : List Cond
+    both = conditions_from (n + 1) (λ j. g j || h j) ks
+
+    one : List Cond
+    one = conditions_from (n + 1) g ks
+
+    other : List Cond
+    other = conditions_from (n + 1) h ks
+
+    by : list_any f both ≡ list_any f one || list_any f other → (a b : Bool) →
+        list_any f (cond (a || b) (x.cond ∷ both) both) ≡ list_any f (cond a (x.cond ∷ one) one) || list_any f (cond b (x.cond ∷ other) other)
+    by later true true = or-first (f x.cond) (list_any f one) (list_any f other) (list_any f both) later
+    by later true false = or-left (f x.cond) (list_any f one) (list_any f other) (list_any f both) later
+    by later false true = or-right (f x.cond) (list_any f one) (list_any f other) (list_any f both) later
+    by later false false = later
+
+-- what the clauses of some elements name together
+others-either : (a e f w : Bool) → w ≡ e || f → a && w ≡ (a && e) || (a && f)
+others-either true e f w h = h
+others-either false e f w h = refl
+
+and-false : (a : Bool) → a && false ≡ false
+and-false true = refl
+and-false false = refl
 
 module _ (c : Contents) (q : Query) (r : RelNo) (p : RelSet) where
   -- what is kept of some elements
@@ -50,11 +103,13 @@ module _ (c : Contents) (q : Query) (r : RelNo) (p : RelSet) where
   }
 
   -- that a tree's part and clauses are what is kept
-  pub kept-of : (k : ElementTree) (t : BitTree) → tree_in k ≡ t → k.part ≡ capped (part_of c q r p t) → ((n : ℕ) → contains k.used n ≡ uses c q r.0 (has p.0) t n) → ((n : ℕ) → contains k.used n ≡ true → n < length q.classes.clauses) → IsKept c q r p k
-  kept-of k t same part used within = record {
+  pub kept-of : (k : ElementTree) (t : BitTree) → tree_in k ≡ t → k.part ≡ capped (part_of c q r p t) → ((n : ℕ) → contains k.used n ≡ uses c q r.0 (has p.0) t n) → ((n : ℕ) → contains k.used n ≡ true → n < length q.classes.clauses) →
+      ((n : ℕ) → has k.named.0 n ≡ others_named r.0 (conditions_from 0 (contains k.used) q.classes.clauses) n) → IsKept c q r p k
+  kept-of k t same part used within named = record {
     part = subst (λ (u : BitTree). k.part ≡ capped (part_of c q r p u)) (sym same) part;
     used = subst (λ (u : BitTree). (n : ℕ) → contains k.used n ≡ uses c q r.0 (has p.0) u n) (sym same) used;
     within = within;
+    named = named;
   }
 
   or-false : (b : Bool) → b || false ≡ b
@@ -119,6 +174,35 @@ module _ (c : Contents) (q : Query) (r : RelNo) (p : RelSet) where
     parts-together xs n h e =
         e ∙ capped-child (map (λ (x : X). (f x).part) xs) (parts_of_all c q r p (trees_of (map (λ (x : X). tree_in (f x)) xs))) (parts-many xs) (parts-of-all xs h) ∙ combined-part (map (λ (x : X). tree_in (f x)) xs)
 
+-- one element more of those that a number marks
+pub named-more : (ks : List ElementTree) (i left : ℕ) (d : ElementTree) (k : ℕ) (old new whole : Bool) → i < length ks → d ≡ get_or ks i d → new ≡ old || (nat_eq (left % 2) 1 && has d.named.0 k) →
+    old || named_in (marked left (drop i ks)) k ≡ whole → new || named_in (marked (left / 2) (drop (i + 1) ks)) k ≡ whole
+named-more ks i left d k old new whole lt same is before =
+    by (nat_eq (left % 2) 1) (subst (λ (e : ElementTree). new ≡ old || (nat_eq (left % 2) 1 && has e.named.0 k)) same is) (sym (ap (λ (es : List ElementTree). old || named_in (marked left es) k) (drop_more ks i d lt)) ∙ before)
+  where
+    rest : List ElementTree
+    rest = marked (left / 2) (drop (i + 1) ks)
+
+    three : (a b e : Bool) → (a || b) || e ≡ a || (b || e)
+    three true b e = refl
+    three false b e = refl
+
+    by : (b : Bool) → new ≡ old || (b && has (get_or ks i d).named.0 k) → old || named_in (cond b (get_or ks i d ∷ rest) rest) k ≡ whole → new || named_in rest k ≡ whole
+    by true e h = ap (λ a. a || named_in rest k) e ∙ three old (has (get_or ks i d).named.0 k) (named_in rest k) ∙ h
+    by false e h = ap (λ a. a || named_in rest k) (e ∙ or-nothing old) ∙ h
+      where
+        or-nothing : (a : Bool) → a || false ≡ a
+        or-nothing true = refl
+        or-nothing false = refl
+
+pub named-end : (ks : List ElementTree) (i left k : ℕ) (old whole : Bool) → length ks ≤ i → old || named_in (marked left (drop i ks)) k ≡ whole → old ≡ whole
+named-end ks i left k old whole le h =
+    sym (or-nothing old) ∙ sym (ap (λ (es : List ElementTree). old || named_in (marked left es) k) (drop_of_length-le ks le)) ∙ h
+  where
+    or-nothing : (a : Bool) → a || false ≡ a
+    or-nothing true = refl
+    or-nothing false = refl
+
 -- what holds of all holds of those that are marked
 pub all-marked : {X : Type 0} (P : X → Type 0) (n : ℕ) (xs : List X) → All P xs → All P (marked n xs)
 all-marked P n [] h = h
@@ -136,6 +220,26 @@ marked-map f n (x ∷ xs) = by (nat_eq (n % 2) 1) (marked-map f (n / 2) xs)
     by : (b : Bool) → map f (marked (n / 2) xs) ≡ marked (n / 2) (map f xs) → map f (cond b (x ∷ marked (n / 2) xs) (marked (n / 2) xs)) ≡ cond b (f x ∷ marked (n / 2) (map f xs)) (marked (n / 2) (map f xs))
     by true e = ap (λ ys. f x ∷ ys) e
     by false e = e
+
+-- the relations that the tree of some elements names are those that they name
+module _ (c : Contents) (q : Query) (r : RelNo) (p : RelSet) where
+  some-named : (es : List ElementTree) (k : ℕ) → All (IsKept c q r p) es → others_named r.0 (conditions_from 0 (λ n. list_any (λ (e : ElementTree). contains e.used n) es) q.classes.clauses) k ≡ named_in es k
+  some-named [] k h = ap (λ b. not (nat_eq k r.0) && b) (any-none (names_rel k) 0 q.classes.clauses) ∙ and-false (not (nat_eq k r.0))
+  some-named (e ∷ es) k h =
+      let ks = q.classes.clauses in
+      let one = list_any (names_rel k) (conditions_from 0 (contains e.used) ks) in
+      let rest = list_any (names_rel k) (conditions_from 0 (λ n. list_any (λ (x : ElementTree). contains x.used n) es) ks) in
+      others-either (not (nat_eq k r.0)) one rest _ (any-either (names_rel k) (contains e.used) (λ n. list_any (λ (x : ElementTree). contains x.used n) es) 0 ks)
+      ∙ ap₂ (λ (a b : Bool). a || b) (sym ((All-head (IsKept c q r p) e es h).named k)) (some-named es k (All-tail (IsKept c q r p) e es h))
+
+  pub named-together : (n : ℕ) (es : List ElementTree) (k : ℕ) → All (IsKept c q r p) es → others_named r.0 (conditions_from 0 (uses c q r.0 (has p.0) (combined (marked n (map tree_in es)))) q.classes.clauses) k ≡ named_in (marked n es) k
+  named-together n es k h =
+      (λ z. others_named r.0 (conditions_from 0 (λ j. used-are j z) q.classes.clauses) k) ∙ some-named (marked n es) k (all-marked (IsKept c q r p) n es h)
+    where
+      used-are : (j : ℕ) → uses c q r.0 (has p.0) (combined (marked n (map tree_in es))) j ≡ list_any (λ (e : ElementTree). contains e.used j) (marked n es)
+      used-are j =
+          ap (λ (ts : List BitTree). uses c q r.0 (has p.0) (combined ts) j) (sym (marked-map tree_in n es))
+          ∙ sym (used-by-all c q r p (λ (e : ElementTree). e) (marked n es) j (all-marked (IsKept c q r p) n es h) ∙ combined-uses c q r p (map tree_in (marked n es)) j)
 
 pub only-within : (k n len : ℕ) → nat_eq k n ≡ true → n < len → k < len
 only-within k n len e lt = grind (arith, common_steps, e, lt)

@@ -1,18 +1,20 @@
 //! Some of the elements together: what they use, their parts, and their tree.
 
-ghost use Rattle.std.specs.Prelude.{◌≡◌, ◌<◌, ◌≤◌, ◌&&◌, ℕ, IfOk, length, map, nat_lt};
+ghost use Rattle.std.specs.Prelude.{◌≡◌, ◌<◌, ◌≤◌, ◌&&◌, ◌||◌, ◌%◌, ◌↔◌, ℕ, IfOk, IsTrue, length, map, nat_eq, nat_lt};
 ghost use Rattle.std.specs.List.{list_any};
+ghost use Rattle.pg_base.specs.Sets.{has};
 ghost use Rattle.pg_expr.specs.AtomSets.{contains};
 ghost use Rattle.cost_rules.specs.Costs.{capped};
 ghost use Rattle.plan_tree.specs.Costs.{together};
 ghost use Rattle.plan_tree.specs.Views.{bits};
 ghost use Rattle.bitmap_scan.specs.Chosen.{combined, marked};
-ghost use Rattle.bitmap_scan.specs.ElementTrees.{tree_in};
+ghost use Rattle.plan_tree.specs.Space.{IsSameSet};
+ghost use Rattle.bitmap_scan.specs.ElementTrees.{named_in, tree_in};
 
 use crate::arms::with_part;
-use crate::element_tree::ElementTree;
+use crate::element_tree::{ElementTree, Marked};
 use eq_classes::{ClauseSet, note};
-use pg_base::Memory;
+use pg_base::{Memory, RelSet};
 use plan_tree::{BitTree, BitTrees, classes_of};
 use sql_query::Prepared;
 use std::alloc::Global;
@@ -35,6 +37,37 @@ pub(crate) fn chosen_by<'a>(
         left /= 2;
     }
     Ok(chosen)
+}
+
+/// The relations of a set, with those that an element names where the lowest digit of a number is 1.
+fn with_named(named: RelSet, e: &ElementTree, left: usize) -> RelSet
+    ensures { (k : ℕ) → has result.0 k ≡ has named.0 k || (nat_eq (left % 2) 1 && has e.now.named.0 k) }
+{
+    if left % 2 == 1 {
+        named.union(e.named)
+    } else {
+        named
+    }
+}
+
+/// The relations that the elements name which the binary digits of a number mark.
+fn named_by(kept: &[ElementTree], mask: usize) -> RelSet
+    ensures { (k : ℕ) → has result.0 k ≡ named_in (marked mask kept.now) k }
+{
+    let mut named = RelSet::empty();
+    let mut left = mask;
+    for e in kept {
+        named = with_named(named, e, left);
+        left /= 2;
+    }
+    named
+}
+
+/// Whether the relations that the marked elements name are exactly those of `p`.
+pub(crate) fn are_named(m: Marked, p: RelSet) -> bool
+    ensures { IsTrue result ↔ IsSameSet (has p.0) (named_in (marked m.entry.mask m.entry.kept.now)) }
+{
+    named_by(m.kept, m.mask) == p
 }
 
 /// Whether some element uses the clause of a number.

@@ -1,9 +1,11 @@
 //! The elements of bitmaps, each in its tree of least part.
 
 ghost use Rattle.std.specs.Prelude.{◌≡◌, ◌<◌, ℕ, All, IfOk, length, map, nat_eq};
+ghost use Rattle.pg_base.specs.Sets.{has};
 ghost use Rattle.pg_expr.specs.AtomSets.{contains};
 ghost use Rattle.std.specs.List.{AllZip};
 ghost use Rattle.catalog.specs.Contents.{IsIndex};
+ghost use Rattle.index_match.specs.Slots.{AreLocal};
 ghost use Rattle.sql_query.specs.Queries.{width};
 ghost use Rattle.plan_tree.specs.Bitmaps.{IsMatchedOr, by_clause, by_index, condition_at};
 ghost use Rattle.plan_tree.specs.Reads.{IsOverTables};
@@ -12,26 +14,30 @@ ghost use Rattle.bitmap_scan.specs.Chosen.{IsLeastTree};
 ghost use Rattle.bitmap_scan.specs.ElementTrees.{IsKept, IsMade, tree_in};
 
 use crate::arms::least_matches;
-use crate::element_tree::ElementTree;
+use crate::element_tree::{ElementTree, Place};
 use catalog::Catalog;
 use eq_classes::ClauseSet;
 use pg_base::{IndexNo, Memory, RelNo, RelSet};
-use plan_tree::{BitTree, Element, classes_of, conditions_found, index_part_of, or_arms};
+use plan_tree::{BitTree, Element, classes_of, index_served, or_arms, others_named};
 use sql_query::Prepared;
 use std::alloc::Global;
 
 /// An index that is an element.
-fn keep_index(cat: &Catalog, q: &Prepared, r: RelNo, p: RelSet, i: IndexNo) -> ElementTree
+fn keep_index(cat: &Catalog, q: &Prepared, at: Place, i: IndexNo) -> ElementTree
     requires query { IsOverTables cat.now q.now }
-    requires relation { r.0 < width q.now }
+    requires relation { at.rel.0 < width q.now }
+    requires local { AreLocal q.now.classes at.rel.0 (has at.param.0) (contains at.local.now) }
     requires index { IsIndex cat.now i }
-    ensures least { IsLeastTree cat.now q.now r p (by_index i) (tree_in result) }
-    ensures kept { IsKept cat.now q.now r p result }
+    ensures least { IsLeastTree cat.now q.now at.entry.rel at.entry.param (by_index i) (tree_in result) }
+    ensures kept { IsKept cat.now q.now at.entry.rel at.entry.param result }
 {
+    let found = index_served(cat, q, at.rel, at.param, i, at.local);
+    let named = others_named(cat, q, at.rel, &found.conditions);
     ElementTree {
         tree: BitTree::Leaf(i),
-        part: index_part_of(cat, q, r, p, i),
-        used: conditions_found(cat, q, r, i, p),
+        part: found.part,
+        used: found.conditions,
+        named,
     }
 }
 
@@ -67,10 +73,13 @@ fn keep_clause(
         None => unreachable!(),
     };
     let (indexes, part) = least_matches(alloc, cat, q, r, arms)?;
+    let used = only(q, n);
+    let named = others_named(cat, q, r, &used);
     Ok(ElementTree {
         tree: BitTree::Or(n, indexes),
         part,
-        used: only(q, n),
+        used,
+        named,
     })
 }
 
@@ -79,19 +88,19 @@ fn keep(
     alloc: Global,
     cat: &Catalog,
     q: &Prepared,
-    r: RelNo,
-    p: RelSet,
+    at: Place,
     e: Element,
 ) -> Result<ElementTree, Memory>
     requires query { IsOverTables cat.now q.now }
-    requires relation { r.0 < width q.now }
-    requires made { IsMade cat.now q.now r p (element e) }
-    ensures least { IfOk result (λ k. IsLeastTree cat.now q.now r p (element e) (tree_in k)) }
-    ensures kept { IfOk result (λ k. IsKept cat.now q.now r p k) }
+    requires relation { at.rel.0 < width q.now }
+    requires local { AreLocal q.now.classes at.rel.0 (has at.param.0) (contains at.local.now) }
+    requires made { IsMade cat.now q.now at.rel at.param (element e) }
+    ensures least { IfOk result (λ k. IsLeastTree cat.now q.now at.entry.rel at.entry.param (element e) (tree_in k)) }
+    ensures kept { IfOk result (λ k. IsKept cat.now q.now at.entry.rel at.entry.param k) }
 {
     match e {
-        Element::Index(i) => Ok(keep_index(cat, q, r, p, i)),
-        Element::Clause(n) => keep_clause(alloc, cat, q, r, p, n),
+        Element::Index(i) => Ok(keep_index(cat, q, at, i)),
+        Element::Clause(n) => keep_clause(alloc, cat, q, at.rel, at.param, n),
     }
 }
 
@@ -100,19 +109,19 @@ pub(crate) fn keep_all(
     alloc: Global,
     cat: &Catalog,
     q: &Prepared,
-    r: RelNo,
-    p: RelSet,
+    at: Place,
     elements: &[Element],
 ) -> Result<Vec<ElementTree>, Memory>
     requires query { IsOverTables cat.now q.now }
-    requires relation { r.0 < width q.now }
-    requires made { All (λ e. IsMade cat.now q.now r p (element e)) elements.now }
-    ensures least { IfOk result (λ v. AllZip (IsLeastTree cat.now q.now r p) (map element elements.now) (map tree_in v.items)) }
-    ensures kept { IfOk result (λ v. All (IsKept cat.now q.now r p) v.items) }
+    requires relation { at.rel.0 < width q.now }
+    requires local { AreLocal q.now.classes at.rel.0 (has at.param.0) (contains at.local.now) }
+    requires made { All (λ e. IsMade cat.now q.now at.rel at.param (element e)) elements.now }
+    ensures least { IfOk result (λ v. AllZip (IsLeastTree cat.now q.now at.entry.rel at.entry.param) (map element elements.now) (map tree_in v.items)) }
+    ensures kept { IfOk result (λ v. All (IsKept cat.now q.now at.entry.rel at.entry.param) v.items) }
 {
     let mut kept = Vec::new(alloc);
     for e in elements {
-        kept.push(keep(alloc, cat, q, r, p, *e)?)?;
+        kept.push(keep(alloc, cat, q, at, *e)?)?;
     }
     Ok(kept)
 }

@@ -10,18 +10,19 @@ ghost use Rattle.plan_tree.specs.Plans.{bitmap};
 ghost use Rattle.plan_tree.specs.Reads.{IsOverTables};
 ghost use Rattle.plan_tree.specs.Space.{IsPlanOf};
 ghost use Rattle.plan_tree.specs.Views.{path};
-ghost use Rattle.bitmap_scan.specs.Chosen.{AreChosen, combined};
+ghost use Rattle.bitmap_scan.specs.Chosen.{AreChosen, combined, marked};
 ghost use Rattle.bitmap_scan.specs.ElementTrees.{IsKept, tree_in};
 
-use crate::chosen::{chosen_by, combine, parts_together, used_by};
-use crate::element_tree::ElementTree;
+use crate::chosen::{are_named, chosen_by, combine, parts_together, used_by};
+use crate::element_tree::{ElementTree, Marked, Place};
 use crate::elements::keep_all;
 use catalog::Catalog;
+use index_match::local_clauses;
 use pareto::Front;
 use path_cost::bitmap;
 use pathkeys::Keys;
 use pg_base::{Memory, RelNo, RelSet};
-use plan_tree::{Path, Plan, classes_of, first_elements, names_exactly, offer_scan, range_of};
+use plan_tree::{Path, Plan, classes_of, elements_among, names_exactly, offer_scan, range_of};
 use sql_query::Prepared;
 use std::alloc::Global;
 
@@ -39,22 +40,22 @@ fn offer_chosen(
     alloc: Global,
     cat: &Catalog,
     q: &Prepared,
-    r: RelNo,
-    p: RelSet,
+    at: Place,
     chosen: &[&ElementTree],
     front: &mut Front<Path>,
 ) -> Result<(), Memory>
     requires query { IsOverTables cat.now q.now }
-    requires relation { r.0 < width q.now }
-    requires chosen { AreChosen cat.now q.now r p (map (λ k. tree_in k.now) chosen.now) }
-    requires kept { All (λ k. IsKept cat.now q.now r p k.now) chosen.now }
+    requires relation { at.rel.0 < width q.now }
+    requires chosen { AreChosen cat.now q.now at.rel at.param (map (λ k. tree_in k.now) chosen.now) }
+    requires kept { All (λ k. IsKept cat.now q.now at.rel at.param k.now) chosen.now }
     requires paths { ArePathsOf cat.now q.now (map path front.old) }
     ensures paths { ArePathsOf cat.now q.now (map path front.new) }
-    ensures kept { AreOldOrOffers cat.now q.now is_bitmap (one r.0) (has p.0) (map path front.old) (map path front.new) }
-    ensures dominated { let t = bitmap r p (combined (map (λ k. tree_in k.now) chosen.now)) in
-        OnOk result (IsPlanOf cat.now q.now (one r.0) (has p.0) t → IsAdmissible cat.now q.now t → HasDominating cat.now q.now (map path front.new) t) }
+    ensures kept { AreOldOrOffers cat.now q.now is_bitmap (one at.entry.rel.0) (has at.entry.param.0) (map path front.old) (map path front.new) }
+    ensures dominated { let t = bitmap at.entry.rel at.entry.param (combined (map (λ k. tree_in k.now) chosen.now)) in
+        OnOk result (IsPlanOf cat.now q.now (one at.entry.rel.0) (has at.entry.param.0) t → IsAdmissible cat.now q.now t → HasDominating cat.now q.now (map path front.new) t) }
     ensures still { StayDominated cat.now q.now (map path front.old) (map path front.new) }
 {
+    let (r, p) = (at.rel, at.param);
     if chosen.is_empty() {
         return Ok(());
     }
@@ -72,6 +73,34 @@ fn offer_chosen(
         bits,
     };
     offer_scan(cat, q, r, p, t, cost, keys, front)
+}
+
+/// Offers the bitmap scan over the tree of the marked elements, where the other relations that they name are those of the
+/// parameterisation. The error means want of memory.
+fn offer_marked(
+    alloc: Global,
+    cat: &Catalog,
+    q: &Prepared,
+    at: Place,
+    m: Marked,
+    front: &mut Front<Path>,
+) -> Result<(), Memory>
+    requires query { IsOverTables cat.now q.now }
+    requires relation { at.rel.0 < width q.now }
+    requires chosen { AreChosen cat.now q.now at.rel at.param (marked m.mask (map tree_in m.kept.now)) }
+    requires kept { All (IsKept cat.now q.now at.rel at.param) m.kept.now }
+    requires paths { ArePathsOf cat.now q.now (map path front.old) }
+    ensures paths { ArePathsOf cat.now q.now (map path front.new) }
+    ensures kept { AreOldOrOffers cat.now q.now is_bitmap (one at.entry.rel.0) (has at.entry.param.0) (map path front.old) (map path front.new) }
+    ensures dominated { let t = bitmap at.entry.rel at.entry.param (combined (marked m.entry.mask (map tree_in m.entry.kept.now))) in
+        OnOk result (IsPlanOf cat.now q.now (one at.entry.rel.0) (has at.entry.param.0) t → IsAdmissible cat.now q.now t → HasDominating cat.now q.now (map path front.new) t) }
+    ensures still { StayDominated cat.now q.now (map path front.old) (map path front.new) }
+{
+    if !are_named(m, at.param) {
+        return Ok(());
+    }
+    let chosen = chosen_by(alloc, m.kept, m.mask)?;
+    offer_chosen(alloc, cat, q, at, &chosen, front)
 }
 
 /// Offers a front the bitmap scans of relation `r` where the rows of `p` are given: for each set of the first elements
@@ -96,11 +125,17 @@ pub fn bitmaps(
     ensures dominated { OnOk result (AreDominated cat.now q.now is_bitmap (one r.0) (has p.0) (map path front.new)) }
     ensures still { StayDominated cat.now q.now (map path front.old) (map path front.new) }
 {
-    let elements = first_elements(cat, q, r, p);
-    let kept = keep_all(alloc, cat, q, r, p, elements.items())?;
+    let local = local_clauses(classes_of(q), r, p);
+    let elements = elements_among(cat, q, r, p, &local);
+    let at = Place {
+        rel: r,
+        param: p,
+        local: &local,
+    };
+    let kept = keep_all(alloc, cat, q, at, elements.items())?;
     for mask in 0..sets_of(kept.len()) {
-        let chosen = chosen_by(alloc, &kept, mask)?;
-        offer_chosen(alloc, cat, q, r, p, &chosen, front)?;
+        let m = Marked { kept: &kept, mask };
+        offer_marked(alloc, cat, q, at, m, front)?;
     }
     Ok(())
 }

@@ -1,5 +1,5 @@
 -- Numbered conditions as a list with a place for each number, where those that are left out have none. Own.
-use Rattle.std.specs.Prelude.{ℕ, ◌+◌, Bool, false, cond, ◌&&◌, ◌||◌, nat_eq, nat_lt, List, [], ◌∷◌, length, map, find, filter_map, slice_index_or, Option, Some, None}
+use Rattle.std.specs.Prelude.{◌≡◌, ℕ, ◌+◌, Bool, false, cond, ◌&&◌, ◌||◌, nat_eq, nat_lt, List, [], ◌∷◌, length, map, find, filter_map, slice_index_or, Option, Some, None}
 use Rattle.std.specs.List.{cons_option, position_from, range_with_len}
 use Rattle.std.specs.Option.{option_map}
 use Rattle.pg_expr.specs.AtomSets.{contains}
@@ -8,7 +8,8 @@ use Rattle.pg_expr.specs.View as view
 use Rattle.opfamily.specs.declared.classes.IndexKey.{IndexKey}
 use Rattle.opfamily.specs.declared.classes.Method.{Method}
 use Rattle.catalog.specs.Indexes.{Index}
-use Rattle.eq_classes.specs.Clauses.{Clause, Set}
+use Rattle.eq_classes.specs.Clauses.{Clause, Set, Table}
+use Rattle.eq_classes.specs.Listing.{clause_at}
 use Rattle.eq_classes.specs.Parts.{is_base, is_param}
 use Rattle.index_match.specs.declared.slots.Conditions.{Conditions}
 use Rattle.index_match.specs.declared.slots.Conditions.TheVariants.{Clauses, Parts}
@@ -56,6 +57,10 @@ is_fixing_on m r k = passes (λ e. has_form m r k e && is_fixing e)
 -- a clause over a relation and its parameterisation is a condition of the index
 abbrev pub is_local : ℕ → Set → Clause → Bool
 is_local r p k = is_base r k || is_param r p k
+
+-- a set has the numbers of the clauses over a relation and its parameterisation, and no others
+abbrev pub AreLocal : Table → ℕ → Set → (ℕ → Bool) → Type 0
+AreLocal t r p chosen = (n : ℕ) → chosen n ≡ nat_lt n (length t.clauses) && is_local r p (clause_at t.clauses n)
 
 abbrev pub is_found : Index → ℕ → Set → Clause → Bool
 is_found d r p k = is_local r p k && is_condition d r k.cond

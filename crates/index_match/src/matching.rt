@@ -6,11 +6,12 @@ ghost use Rattle.pg_expr.specs.AtomSets.{contains};
 ghost use Rattle.catalog.specs.Contents.{IsIndex};
 ghost use Rattle.catalog.specs.Entries.{index_of};
 ghost use Rattle.eq_classes.specs.Listing.{clause_at};
-ghost use Rattle.index_match.specs.Numbered.{has_number, local};
-ghost use Rattle.index_match.specs.Conditions.{conditions_among};
+ghost use Rattle.index_match.specs.Numbered as numbered;
+ghost use Rattle.index_match.specs.Numbered.{has_number};
+ghost use Rattle.index_match.specs.Conditions as conditions;
 ghost use Rattle.index_match.specs.Bounds.{index_bounds, index_tests};
 ghost use Rattle.index_match.specs.Slots as slots;
-ghost use Rattle.index_match.specs.Slots.{bound_at, chosen_from, is_found, is_number, numbered_from};
+ghost use Rattle.index_match.specs.Slots.{AreLocal, bound_at, chosen_from, is_found, is_number, numbered_from};
 
 use crate::bounds::{bounds, note};
 use crate::forms::is_condition;
@@ -29,18 +30,31 @@ pub struct Match {
     pub tests: ClauseSet,
 }
 
-/// The clauses of the relation and its parameterisation that the index may use on some key column.
+/// The clauses over a relation alone and those that it tests where the rows of `p` are given.
 #[tactic(auto, using(crate::proofs::FoundLemmas::finding))]
-fn all_found(def: &IndexDef, classes: &Classes, r: RelNo, p: RelSet) -> ClauseSet
+pub fn local_clauses(classes: &Classes, r: RelNo, p: RelSet) -> ClauseSet
     requires below { r.0 < 16 }
-    ensures { (j : ℕ) → contains result j ≡ nat_lt j (length classes.now.clauses) && is_found (index_of def.now) r.0 (has p.0) (clause_at classes.now.clauses j) }
+    ensures { AreLocal classes.now r.0 (has p.0) (contains result) }
 {
     let base = classes.base_clauses(r);
     let param = classes.param_clauses(r, p);
     let mut set = ClauseSet::empty();
     for n in 0..classes.count() {
-        let is_local = base.has(n as u16) || param.has(n as u16);
-        let is = is_local && is_condition(def, r, classes.clause(n as u16));
+        let is = base.has(n as u16) || param.has(n as u16);
+        note(&mut set, n as u16, is);
+    }
+    set
+}
+
+/// The clauses of the relation and its parameterisation that the index may use on some key column.
+#[tactic(auto, using(crate::proofs::FoundLemmas::finding))]
+fn all_found(def: &IndexDef, classes: &Classes, r: RelNo, p: RelSet, local: &ClauseSet) -> ClauseSet
+    requires local { AreLocal classes.now r.0 (has p.0) (contains local.now) }
+    ensures { (j : ℕ) → contains result j ≡ nat_lt j (length classes.now.clauses) && is_found (index_of def.now) r.0 (has p.0) (clause_at classes.now.clauses j) }
+{
+    let mut set = ClauseSet::empty();
+    for n in 0..classes.count() {
+        let is = local.has(n as u16) && is_condition(def, r, classes.clause(n as u16));
         note(&mut set, n as u16, is);
     }
     set
@@ -62,11 +76,11 @@ fn least(set: &ClauseSet, end: usize) -> ClauseSet
 }
 
 /// The conditions of the index: a hash index has the first one alone.
-fn found(def: &IndexDef, classes: &Classes, r: RelNo, p: RelSet) -> ClauseSet
-    requires below { r.0 < 16 }
-    ensures conditions { numbered_from 0 (chosen_from 0 (contains result) classes.now.clauses) ≡ conditions_among (index_of def.now) r.0 (local classes.now r.0 (has p.0)) }
+fn found(def: &IndexDef, classes: &Classes, r: RelNo, p: RelSet, local: &ClauseSet) -> ClauseSet
+    requires local { AreLocal classes.now r.0 (has p.0) (contains local.now) }
+    ensures conditions { numbered_from 0 (chosen_from 0 (contains result) classes.now.clauses) ≡ conditions.conditions_among (index_of def.now) r.0 (numbered.local classes.now r.0 (has p.0)) }
 {
-    let all = all_found(def, classes, r, p);
+    let all = all_found(def, classes, r, p, local);
     match def.method {
         Method::Btree => all,
         Method::Hash => least(&all, classes.count()),
@@ -96,6 +110,28 @@ fn bounding(def: &IndexDef, r: RelNo, classes: &Classes, set: &ClauseSet) -> Cla
     bounds(def, r, &Conditions::Clauses(chosen))
 }
 
+/// The conditions of index `i` among the clauses that are tested at relation `r` where the rows of `p` are given, of which
+/// this is the set: what `conditions` finds, for callers that ask of several indexes. It takes no memory.
+pub fn conditions_among(
+    cat: &Catalog,
+    classes: &Classes,
+    i: IndexNo,
+    r: RelNo,
+    p: RelSet,
+    local: &ClauseSet,
+) -> Match
+    requires index { IsIndex cat.now i }
+    requires local { AreLocal classes.now r.0 (has p.0) (contains local.now) }
+    ensures bounds { (n : ℕ) → contains result.bounds n ≡ has_number (index_bounds cat.now classes.now i r.0 (has p.0)) n }
+    ensures tests { (n : ℕ) → contains result.tests n ≡ has_number (index_tests cat.now classes.now i r.0 (has p.0)) n }
+{
+    let def = cat.index(i);
+    let found = found(def, classes, r, p, local);
+    let bounds = bounding(def, r, classes, &found);
+    let tests = without(&found, &bounds, classes.count());
+    Match { bounds, tests }
+}
+
 /// The conditions of index `i` for a scan of relation `r`, with `p` as its parameter: the clauses over `r` alone and
 /// those that the parameter lets it test, of the forms column op literal that is not NULL and column op column of another
 /// relation, either way round, on a key column with an operator of its class's family; for a B-tree IS NULL and IS NOT
@@ -116,9 +152,5 @@ pub fn conditions(
     ensures bounds { (n : ℕ) → contains result.bounds n ≡ has_number (index_bounds cat.now classes.now i r.0 (has p.0)) n }
     ensures tests { (n : ℕ) → contains result.tests n ≡ has_number (index_tests cat.now classes.now i r.0 (has p.0)) n }
 {
-    let def = cat.index(i);
-    let found = found(def, classes, r, p);
-    let bounds = bounding(def, r, classes, &found);
-    let tests = without(&found, &bounds, classes.count());
-    Match { bounds, tests }
+    conditions_among(cat, classes, i, r, p, &local_clauses(classes, r, p))
 }

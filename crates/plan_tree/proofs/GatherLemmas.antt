@@ -1,14 +1,12 @@
 -- Elements of bitmaps gathered one by one.
-use Rattle.std.proofs.Common.{◌≡◌, ◌<◌, ◌≤◌, ◌+◌, ℕ, Bool, true, false, cond, ◌||◌, ◌&&◌, nat_lt, List, [], ◌∷◌, ◌++◌, length, map, filter, take, drop, IsTrue, refl, sym, ap, ◌∙◌, subst, arith, append_assoc, ◌↔◌, true≢false, get_or}
+use Rattle.std.proofs.Common.{◌≡◌, ◌<◌, ◌≤◌, ◌+◌, ℕ, Bool, true, false, cond, List, [], ◌∷◌, ◌++◌, length, map, filter, take, drop, IsTrue, refl, sym, ap, ◌∙◌, subst, arith, append_assoc, ◌↔◌, true≢false, get_or}
 use Rattle.std.specs.List.{enumerate_from}
 use Prim.Native.Nat.{suc, zero}
 use Rattle.std.proofs.Math.ListN.{drop_of_length-le}
-use Rattle.std.proofs.lemmas.Grind.{common_steps}
 use Rattle.std.proofs.lemmas.List.{append-nil, drop_more}
 use Rattle.pg_base.specs.declared.numbers.IndexNo.{IndexNo}
 use Rattle.eq_classes.specs.Clauses.{Clause}
 use Rattle.index_match.specs.Numbered.{Numbered, numbered}
-use Rattle.eq_classes.specs.Listing.{clause_at}
 use Rattle.plan_tree.specs.Bitmaps.{Element, by_index, by_clause, ArePicked, none_left, picked, passed, MOST_ELEMENTS}
 use Rattle.plan_tree.specs.Gathering.{Gathered}
 
@@ -75,16 +73,3 @@ gather-none P all = record { found = []; first = refl; completes = λ more p. p 
 
 pub gathered-all : (P : Element → Type 0) (all kept : List Element) → Gathered P all [] kept → (es : List Element) × ArePicked P all es × (kept ≡ take MOST_ELEMENTS es)
 gathered-all P all kept h = (h.found, subst (ArePicked P all) (append-nil h.found) (h.completes [] none_left), h.first)
-
--- a clause is local where it is in one of two sets
-pub local-test : (ks found : List Clause) (one other : Clause → Bool) (n : ℕ) (local a b : Bool) → found ≡ ks → n < length found → local ≡ a || b → a ≡ nat_lt n (length found) && one (clause_at found n) → b ≡ nat_lt n (length found) && other (clause_at found n) →
-    local ≡ one (clause_at ks n) || other (clause_at ks n)
-local-test ks found one other n local a b same lt is-local is-a is-b =
-    let here : nat_lt n (length found) ≡ true = below n (length found) lt in
-    is-local
-    ∙ ap (λ x. x || b) (is-a ∙ ap (λ t. t && one (clause_at found n)) here)
-    ∙ ap (λ x. one (clause_at found n) || x) (is-b ∙ ap (λ t. t && other (clause_at found n)) here)
-    ∙ ap (λ (xs : List Clause). one (clause_at xs n) || other (clause_at xs n)) same
-  where
-    below : (m len : ℕ) → m < len → nat_lt m len ≡ true
-    below m len h = grind (arith, common_steps)

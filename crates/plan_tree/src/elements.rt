@@ -14,7 +14,8 @@ ghost use Rattle.pg_expr.specs.declared.expr.Expr.{Expr};
 ghost use Rattle.catalog.specs.Contents.{Contents, IsIndex, IsTable, indexes_of};
 ghost use Rattle.path_cost.specs.Columns.{IsOver};
 ghost use Rattle.index_match.specs.Conditions.{index_conditions};
-ghost use Rattle.index_match.specs.Numbered.{local};
+ghost use Rattle.index_match.specs.Numbered as numbered;
+ghost use Rattle.index_match.specs.Slots.{AreLocal};
 ghost use Rattle.sql_query.specs.Queries.{width};
 ghost use Rattle.plan_tree.specs.Bitmaps as bitmaps;
 ghost use Rattle.plan_tree.specs.Bitmaps.{AreElements, IsElement, IsIndexOn, IsMatchedOr, MatchesArm, by_clause, by_index, condition_at, table_of_relation};
@@ -27,7 +28,7 @@ use crate::scans::bounds_and_tests;
 use arrayvec::ArrayVec;
 use catalog::Catalog;
 use eq_classes::{Classes, ClauseSet};
-use index_match::{conditions, usable};
+use index_match::{conditions, conditions_among, local_clauses, usable};
 use pg_base::{IndexNo, RelNo, RelSet, TableNo};
 use pg_expr::Expr;
 use predicate_proof::or_parts;
@@ -95,30 +96,30 @@ impl Elements {
         }
     }
 
-    /// Puts in the indexes of the relation's table that are elements, in order of making.
-    fn add_indexes(&mut self, cat: &Catalog, q: &Prepared, r: RelNo, p: RelSet)
+    /// Puts in the indexes of the relation's table that are elements, in order of making. `local` has the clauses of the
+    /// relation and its parameterisation.
+    fn add_indexes(&mut self, cat: &Catalog, q: &Prepared, r: RelNo, p: RelSet, local: &ClauseSet)
         requires query { IsOverTables cat.now q.now }
         requires relation { r.0 < width q.now }
+        requires local { AreLocal q.now.classes r.0 (has p.0) (contains local.now) }
         ensures { (all rest : List bitmaps.Element) → Gathered (IsElement cat.now q.now r.0 (has p.0)) all (map by_index (indexes_of cat.now (table_of_relation q.now r.0)) ++ rest) self.old → Gathered (IsElement cat.now q.now r.0 (has p.0)) all rest self.new }
     {
         for i in cat.indexes(table_of(q, r)) {
-            let is = is_index_element(cat, q, r, p, *i);
+            let is = is_index_element(cat, q, r, p, *i, local);
             self.note(Element::Index(*i), is);
         }
     }
 
-    /// Puts in the OR clauses of the relation and its parameterisation that are elements, by number.
-    fn add_clauses(&mut self, cat: &Catalog, q: &Prepared, r: RelNo, p: RelSet)
+    /// Puts in the OR clauses of the relation and its parameterisation that are elements, by number. `local` has the clauses
+    /// of both.
+    fn add_clauses(&mut self, cat: &Catalog, q: &Prepared, r: RelNo, p: RelSet, local: &ClauseSet)
         requires query { IsOverTables cat.now q.now }
         requires relation { r.0 < width q.now }
-        ensures { (all : List bitmaps.Element) → Gathered (IsElement cat.now q.now r.0 (has p.0)) all (map (λ k. by_clause k.number) (local q.now.classes r.0 (has p.0))) self.old → Gathered (IsElement cat.now q.now r.0 (has p.0)) all [] self.new }
+        requires local { AreLocal q.now.classes r.0 (has p.0) (contains local.now) }
+        ensures { (all : List bitmaps.Element) → Gathered (IsElement cat.now q.now r.0 (has p.0)) all (map (λ k. by_clause k.number) (numbered.local q.now.classes r.0 (has p.0))) self.old → Gathered (IsElement cat.now q.now r.0 (has p.0)) all [] self.new }
     {
-        let classes = classes_of(q);
-        let base = classes.base_clauses(r);
-        let param = classes.param_clauses(r, p);
-        for n in 0..classes.count() {
-            let is_local = base.has(n as u16) || param.has(n as u16);
-            let is = is_clause_element(cat, q, r, n as u16, is_local);
+        for n in 0..classes_of(q).count() {
+            let is = is_clause_element(cat, q, r, n as u16, local.has(n as u16));
             self.note(Element::Clause(n as u16), is);
         }
     }
@@ -166,14 +167,41 @@ pub fn has_condition(cat: &Catalog, q: &Prepared, r: RelNo, p: RelSet, i: IndexN
     has_some(classes, &bounds_and_tests(classes, &found))
 }
 
-/// Whether an index is an element: it is usable and has a condition.
-fn is_index_element(cat: &Catalog, q: &Prepared, r: RelNo, p: RelSet, i: IndexNo) -> bool
+/// Whether an index has a condition among these clauses, which are those of a relation and of its parameterisation.
+fn has_condition_among(
+    cat: &Catalog,
+    q: &Prepared,
+    r: RelNo,
+    p: RelSet,
+    i: IndexNo,
+    local: &ClauseSet,
+) -> bool
+    requires index { IsIndex cat.now i }
+    requires local { AreLocal q.now.classes r.0 (has p.0) (contains local.now) }
+    ensures { result ≡ nat_lt 0 (length (index_conditions cat.now q.now.classes i r.0 (has p.0))) }
+{
+    let classes = classes_of(q);
+    let found = conditions_among(cat, classes, i, r, p, local);
+    has_some(classes, &bounds_and_tests(classes, &found))
+}
+
+/// Whether an index is an element: it is usable and has a condition among these clauses, which are those of the relation
+/// and of its parameterisation.
+fn is_index_element(
+    cat: &Catalog,
+    q: &Prepared,
+    r: RelNo,
+    p: RelSet,
+    i: IndexNo,
+    local: &ClauseSet,
+) -> bool
     requires few { width q.now ≤ 16 }
     requires relation { r.0 < width q.now }
     requires index { IsIndex cat.now i }
+    requires local { AreLocal q.now.classes r.0 (has p.0) (contains local.now) }
     ensures { IsTrue result ↔ IsElement cat.now q.now r.0 (has p.0) (by_index i) }
 {
-    usable(cat, range_of(q), classes_of(q), i, r) && has_condition(cat, q, r, p, i)
+    usable(cat, range_of(q), classes_of(q), i, r) && has_condition_among(cat, q, r, p, i, local)
 }
 
 /// Whether an index is a usable one of the relation's table that wholly matches an arm. The conditions are that the
@@ -254,6 +282,27 @@ fn is_clause_element(cat: &Catalog, q: &Prepared, r: RelNo, n: u16, is_local: bo
     is_local && is_matched_or(cat, q, r, n)
 }
 
+/// What `first_elements` finds, where `local` has the clauses of relation `r` and of its parameterisation.
+pub fn elements_among(
+    cat: &Catalog,
+    q: &Prepared,
+    r: RelNo,
+    p: RelSet,
+    local: &ClauseSet,
+) -> Elements
+    requires query { IsOverTables cat.now q.now }
+    requires relation { r.0 < width q.now }
+    requires local { AreLocal q.now.classes r.0 (has p.0) (contains local.now) }
+    ensures elements { (es : List bitmaps.Element) × AreElements cat.now q.now r.0 (has p.0) es × (result ≡ take bitmaps.MOST_ELEMENTS es) }
+{
+    let mut found = Elements {
+        kept: ArrayVec::new(),
+    };
+    found.add_indexes(cat, q, r, p, local);
+    found.add_clauses(cat, q, r, p, local);
+    found
+}
+
 /// The first 8 of what a bitmap may be made of for relation `r` where the rows of `p` are given: the usable indexes of
 /// its table with a condition, in order of making; then the OR clauses of the relation and its parameterisation, by
 /// number, each of whose arms some usable index wholly matches. It takes no memory.
@@ -262,10 +311,6 @@ pub fn first_elements(cat: &Catalog, q: &Prepared, r: RelNo, p: RelSet) -> Eleme
     requires relation { r.0 < width q.now }
     ensures elements { (es : List bitmaps.Element) × AreElements cat.now q.now r.0 (has p.0) es × (result ≡ take bitmaps.MOST_ELEMENTS es) }
 {
-    let mut found = Elements {
-        kept: ArrayVec::new(),
-    };
-    found.add_indexes(cat, q, r, p);
-    found.add_clauses(cat, q, r, p);
-    found
+    let local = local_clauses(classes_of(q), r, p);
+    elements_among(cat, q, r, p, &local)
 }

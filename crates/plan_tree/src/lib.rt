@@ -19,8 +19,8 @@ mod window;
 
 pub use bits::{BitTree, BitTrees};
 pub use elements::{
-    Element, Elements, MOST_ELEMENTS, first_elements, has_condition, is_index_on, matches_arm,
-    or_arms,
+    Element, Elements, MOST_ELEMENTS, elements_among, first_elements, has_condition, is_index_on,
+    matches_arm, or_arms,
 };
 pub use estimates::{classes_of, estimate, range_of};
 pub use index_scans::{is_index_only_scan, is_index_scan};
@@ -30,7 +30,7 @@ pub use laws::{
     dominating_finish, dominating_sides, domination, like_plans, replaced_children,
 };
 pub use make::{conditions_found, names_exactly, offer_scan, others_named, scan_path};
-pub use parts::{arm_part_of, index_part_of};
+pub use parts::{Served, arm_part_of, index_part_of, index_served};
 pub use path::Path;
 pub use plan::Plan;
 pub use pricing::{arms_at, bitmap_scan_cost, cost, use_tree};

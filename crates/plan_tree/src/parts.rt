@@ -1,6 +1,7 @@
 //! The parts of the indexes of bitmap trees. Each is cut to at most 10^18.
 
-ghost use Rattle.std.specs.Prelude.{◌≡◌, ◌<◌, ◌≤◌, All, map, true};
+ghost use Rattle.std.specs.Prelude.{◌≡◌, ◌<◌, ◌≤◌, ℕ, All, map, true};
+ghost use Rattle.pg_base.specs.Sets.{has};
 ghost use Rattle.pg_base.specs.declared.limits.TheConstants.{MOST_ATOMS};
 ghost use Rattle.pg_expr.specs.AtomSets.{contains};
 ghost use Rattle.pg_expr.specs.Columns.{atom_count};
@@ -9,7 +10,9 @@ ghost use Rattle.catalog.specs.Contents.{IsIndex, index_at};
 ghost use Rattle.cost_rules.specs.declared.parameters.TheConstants.{MOST_COST};
 ghost use Rattle.cost_rules.specs.Costs.{capped};
 ghost use Rattle.index_match.specs.Arms.{arm_bounds, arm_parts, is_matched};
+ghost use Rattle.index_match.specs.Conditions.{index_conditions};
 ghost use Rattle.index_match.specs.Numbered.{has_number};
+ghost use Rattle.index_match.specs.Slots.{AreLocal};
 ghost use Rattle.path_cost.specs.Columns.{IsOver};
 ghost use Rattle.path_cost.specs.Costs as paths;
 ghost use Rattle.sql_query.specs.Queries.{width};
@@ -20,7 +23,8 @@ ghost use Rattle.plan_tree.specs.Reads.{IsOverTables};
 use crate::estimates::{classes_of, range_of};
 use crate::scans::bounds_and_tests;
 use catalog::Catalog;
-use index_match::conditions;
+use eq_classes::ClauseSet;
+use index_match::{conditions, conditions_among};
 use path_cost::{arm_part, index_part};
 use pg_base::{IndexNo, RelNo, RelSet};
 use pg_expr::Expr;
@@ -40,6 +44,42 @@ pub fn index_part_of(cat: &Catalog, q: &Prepared, r: RelNo, p: RelSet, i: IndexN
     let found = conditions(cat, range, classes, i, r, p);
     let all = bounds_and_tests(classes, &found);
     index_part(cat, range, classes, i, r, &found.bounds, &all)
+}
+
+/// An index as it serves a relation where the rows of others are given.
+#[derive(Drop)]
+pub struct Served {
+    /// Its conditions, by clause numbers.
+    pub conditions: ClauseSet,
+    /// Its part in a bitmap.
+    pub part: u64,
+}
+
+/// The conditions of an index for relation `r` where the rows of `p` are given, and its part in a bitmap there, as
+/// `index_part_of` says it. `local` has the clauses of the relation and of its parameterisation.
+pub fn index_served(
+    cat: &Catalog,
+    q: &Prepared,
+    r: RelNo,
+    p: RelSet,
+    i: IndexNo,
+    local: &ClauseSet,
+) -> Served
+    requires query { IsOverTables cat.now q.now }
+    requires relation { r.0 < width q.now }
+    requires index { IsIndex cat.now i }
+    requires local { AreLocal q.now.classes r.0 (has p.0) (contains local.now) }
+    ensures conditions { (n : ℕ) → contains result.conditions n ≡ has_number (index_conditions cat.now q.now.classes i r.0 (has p.0)) n }
+    ensures part { result.part ≡ capped (costs.part_of cat.now q.now r p (leaf i)) }
+{
+    let classes = classes_of(q);
+    let found = conditions_among(cat, classes, i, r, p, local);
+    let all = bounds_and_tests(classes, &found);
+    let part = index_part(cat, range_of(q), classes, i, r, &found.bounds, &all);
+    Served {
+        conditions: all,
+        part,
+    }
 }
 
 /// The part of an index that serves an arm of an OR, over its bounds for the arm and with the arm's parts as its

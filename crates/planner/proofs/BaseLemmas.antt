@@ -86,7 +86,7 @@ module _ (c : Contents) (q : Query) (r : RelNo) (p : RelSet) where
         named-below (uses c q r.0 (has p.0) bits) k (sym (here.named k) ∙ is)
 
     -- a relation of the parameterisation of a scan is one of the query
-    scan-below : (t : Plan) → IsPlanOf c q (one r.0) (has p.0) t → (k : ℕ) → has p.0 k ≡ true → k < width q
+    pub scan-below : (t : Plan) → IsPlanOf c q (one r.0) (has p.0) t → (k : ℕ) → has p.0 k ≡ true → k < width q
     scan-below (seq s) of k is = absurd (true≢false (sym is ∙ sym (of.param_is k)))
     scan-below (index s i backward o) of k is = index-below s i backward o (same-relation r s of.set_is) (same-param s p o of.param_is) of.built k is
     scan-below (index_only s i backward o) of k is = index-below s i backward o (same-relation r s of.set_is) (same-param s p o of.param_is) of.built.scan k is

@@ -3,5 +3,6 @@ pub mod PriceLemmas
 pub mod PlaceLemmas
 pub mod GivenLemmas
 pub mod BaseLemmas
+pub mod NearLemmas
 pub mod SearchLemmas
 pub mod TableLemmas

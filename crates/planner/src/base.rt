@@ -12,15 +12,18 @@ ghost use Rattle.plan_tree.specs.Space.{IsPlanOf, IsSameSet};
 ghost use Rattle.plan_tree.specs.Views.{path};
 ghost use Rattle.join_search.specs.Joins.{IsBase};
 ghost use Rattle.join_search.specs.Tables.{IsSamePlace, front_at, paths_at};
+ghost use Rattle.scan_paths.specs.Reached.{AreReached};
 ghost use Rattle.planner.specs.Bases.{AreAllOf, AreNamed, HaveScansOf, is_plan};
+ghost use Rattle.planner.specs.Near.{IsNear};
 
+use crate::near::relations_near;
 use bitmap_scan::bitmaps;
 use catalog::Catalog;
 use join_search::{Table, all_relations};
 use pareto::Front;
 use pg_base::{Memory, RelNo, RelSet};
 use plan_tree::{Path, classes_of, others_named, range_of};
-use scan_paths::scans;
+use scan_paths::{Reached, indexes_reached, scans_by};
 use sql_query::Prepared;
 use std::alloc::{AllocError, Global};
 
@@ -37,22 +40,36 @@ fn may_be_given(cat: &Catalog, q: &Prepared, r: RelNo, p: RelSet) -> bool
     p.within(named)
 }
 
+/// A relation whose scans are put into a table.
+#[derive(Clone, Copy)]
+struct Scanned<'a> {
+    /// The relation.
+    rel: RelNo,
+    /// The set of it alone.
+    set: RelSet,
+    /// The relations whose rows some scan of it is given, and perhaps more.
+    near: RelSet,
+    /// The indexes of its table, each with the same of the scans by it.
+    indexes: &'a [Reached],
+}
+
 /// The paths of a relation where the rows of these others are given: its scans, those that no other one dominates. The
 /// error means want of memory.
 fn relation_paths(
     alloc: Global,
     cat: &Catalog,
     q: &Prepared,
-    r: RelNo,
+    at: Scanned,
     p: RelSet,
 ) -> Result<Front<Path>, Memory>
     requires query { IsOverTables cat.now q.now }
-    requires relation { r.0 < width q.now }
-    ensures { IfOk result (λ front. AreAllOf cat.now q.now (one r.0) (has p.0) (map path front)) }
+    requires relation { at.rel.0 < width q.now }
+    requires indexes { AreReached cat.now q.now at.rel at.indexes.now }
+    ensures { IfOk result (λ front. AreAllOf cat.now q.now (one at.entry.rel.0) (has p.0) (map path front)) }
 {
     let mut front = Front::new(alloc);
-    scans(alloc, cat, q, r, p, &mut front)?;
-    bitmaps(alloc, cat, q, r, p, &mut front)?;
+    scans_by(alloc, cat, q, (at.rel, p), at.indexes, &mut front)?;
+    bitmaps(alloc, cat, q, at.rel, p, &mut front)?;
     Ok(front)
 }
 
@@ -73,27 +90,57 @@ fn add_paths(
     alloc: Global,
     cat: &Catalog,
     q: &Prepared,
-    r: RelNo,
-    s: RelSet,
+    at: Scanned,
     p: RelSet,
     table: &mut Table,
 ) -> Result<(), Memory>
     requires query { IsOverTables cat.now q.now }
-    requires relation { r.0 < width q.now }
-    requires set { IsSameSet (has s.0) (one r.0) }
+    requires relation { at.rel.0 < width q.now }
+    requires set { IsSameSet (has at.set.0) (one at.rel.0) }
+    requires near { IsNear cat.now q.now at.rel.0 (has at.near.0) }
+    requires indexes { AreReached cat.now q.now at.rel at.indexes.now }
     requires base { IsBase cat.now q.now table.old }
     ensures base { OnOk result (IsBase cat.now q.now table.new) }
-    ensures dominated { OnOk result (AreDominated cat.now q.now is_plan (one r.0) (has p.0) (paths_at table.new s p)) }
-    ensures others { (t o : sets.RelSet) → ¬ IsSamePlace t o s p → front_at table.new t o ≡ front_at table.old t o }
+    ensures dominated { OnOk result (AreDominated cat.now q.now is_plan (one at.entry.rel.0) (has p.0) (paths_at table.new at.entry.set p)) }
+    ensures others { (t o : sets.RelSet) → ¬ IsSamePlace t o at.entry.set p → front_at table.new t o ≡ front_at table.old t o }
 {
-    if !may_be_given(cat, q, r, p) {
+    if !p.within(at.near) {
         return Ok(());
     }
-    let front = relation_paths(alloc, cat, q, r, p)?;
-    put(table, s, p, front)
+    if !may_be_given(cat, q, at.rel, p) {
+        return Ok(());
+    }
+    let front = relation_paths(alloc, cat, q, at, p)?;
+    put(table, at.set, p, front)
 }
 
 /// Puts the paths of a relation at each parameterisation into a table. The error means want of memory.
+fn add_each(
+    alloc: Global,
+    cat: &Catalog,
+    q: &Prepared,
+    at: Scanned,
+    all: RelSet,
+    table: &mut Table,
+) -> Result<(), Memory>
+    requires query { IsOverTables cat.now q.now }
+    requires relation { at.rel.0 < width q.now }
+    requires set { IsSameSet (has at.set.0) (one at.rel.0) }
+    requires near { IsNear cat.now q.now at.rel.0 (has at.near.0) }
+    requires indexes { AreReached cat.now q.now at.rel at.indexes.now }
+    requires all { IsSameSet (has all.0) (all_of_query q.now) }
+    requires base { IsBase cat.now q.now table.old }
+    ensures base { OnOk result (IsBase cat.now q.now table.new) }
+    ensures scans { OnOk result (HaveScansOf cat.now q.now (paths_at table.new) at.entry.rel.0) }
+    ensures others { (t o : sets.RelSet) → ¬ IsSameSet (has t.0) (one at.entry.rel.0) → front_at table.new t o ≡ front_at table.old t o }
+{
+    for bits in 0..all.0 as u32 + 1 {
+        add_paths(alloc, cat, q, at, RelSet(bits as u16), table)?;
+    }
+    Ok(())
+}
+
+/// The same of a relation by its number.
 fn add_relation(
     alloc: Global,
     cat: &Catalog,
@@ -110,11 +157,14 @@ fn add_relation(
     ensures scans { OnOk result (HaveScansOf cat.now q.now (paths_at table.new) r.0) }
     ensures others { (t o : sets.RelSet) → ¬ IsSameSet (has t.0) (one r.0) → front_at table.new t o ≡ front_at table.old t o }
 {
-    let s = RelSet::one(r);
-    for bits in 0..all.0 as u32 + 1 {
-        add_paths(alloc, cat, q, r, s, RelSet(bits as u16), table)?;
-    }
-    Ok(())
+    let indexes = indexes_reached(alloc, cat, q, r)?;
+    let at = Scanned {
+        rel: r,
+        set: RelSet::one(r),
+        near: relations_near(cat, q, r),
+        indexes: &indexes,
+    };
+    add_each(alloc, cat, q, at, all, table)
 }
 
 /// The paths of each relation, at each parameterisation that its scans may have. The error means want of memory.

@@ -6,6 +6,7 @@
 mod base;
 mod finishing;
 mod least_plan;
+mod near;
 
 pub use base::base_table;
 pub use finishing::{Least, finish, least_place};

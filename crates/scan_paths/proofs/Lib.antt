@@ -1,3 +1,4 @@
 pub mod TakingLemmas
 pub mod SpaceLemmas
 pub mod IndexLemmas
+pub mod ReachLemmas

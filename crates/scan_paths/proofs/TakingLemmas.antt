@@ -1,6 +1,6 @@
 -- Offers one after the other.
 use Rattle.std.proofs.Common.{◌⊎◌, Bool, true, false, List, inl, inr}
-use Rattle.std.specs.Prelude.{All, Contains}
+use Rattle.std.specs.Prelude.{Contains}
 use Rattle.std.proofs.lemmas.List.Elements.{All-contains, All-weaker}
 use Rattle.pg_base.specs.Sets.{has}
 use Rattle.pg_base.specs.declared.numbers.IndexNo.{IndexNo}
@@ -13,7 +13,8 @@ use Rattle.plan_tree.specs.Plans.{Plan}
 use Rattle.plan_tree.specs.Paths.{Path}
 use Rattle.plan_tree.specs.Fronts.{ArePathsOf, IsOffer, IsServed, StayDominated, is_no_bitmap}
 use Rattle.plan_tree.proofs.FrontLemmas.{old-stay}
-use Rattle.scan_paths.specs.Scans.{IsIndexServed, TakesScans}
+use Rattle.scan_paths.specs.Scans.{AreIndexesServed, IsIndexServed, TakesScans}
+use Rattle.scan_paths.specs.declared.reached.Reached.{Reached}
 
 pub either-way : (P : Bool → Type 0) → P false → P true → (b : Bool) → P b
 either-way P no-way way false = no-way
@@ -43,5 +44,5 @@ module _ (c : Contents) (q : Query) (r : RelNo) (p : RelSet) where
   pub index-served-later : (b d : List Path) (i : IndexNo) → StayDominated c q b d → IsIndexServed c q r p b i → IsIndexServed c q r p d i
   index-served-later b d i still served only backward built admissible = still _ (served only backward built admissible)
 
-  pub indexes-served-later : (b d : List Path) (is : List IndexNo) → StayDominated c q b d → All (IsIndexServed c q r p b) is → All (IsIndexServed c q r p d) is
-  indexes-served-later b d is still served = All-weaker (IsIndexServed c q r p b) (IsIndexServed c q r p d) (λ i h. index-served-later b d i still h) is served
+  pub entries-served-later : (b d : List Path) (xs : List Reached) → StayDominated c q b d → AreIndexesServed c q r p b xs → AreIndexesServed c q r p d xs
+  entries-served-later b d xs still served = All-weaker (λ (x : Reached). IsIndexServed c q r p b x.index) (λ (x : Reached). IsIndexServed c q r p d x.index) (λ x h. index-served-later b d x.index still h) xs served

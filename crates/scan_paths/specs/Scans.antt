@@ -1,5 +1,5 @@
 -- Scans of a relation by one index, and what an offer of scans does to a front. Own.
-use Rattle.std.specs.Prelude.{Bool, true, false, List}
+use Rattle.std.specs.Prelude.{Bool, true, false, List, All}
 use Rattle.pg_base.specs.Sets.{has}
 use Rattle.pg_base.specs.declared.numbers.IndexNo.{IndexNo}
 use Rattle.pg_base.specs.declared.numbers.RelNo.{RelNo}
@@ -11,6 +11,7 @@ use Rattle.plan_tree.specs.Plans.{Plan, index, index_only}
 use Rattle.plan_tree.specs.Paths.{Path}
 use Rattle.plan_tree.specs.Fronts.{AreOldOrOffers, ArePathsOf, IsServed, StayDominated, is_no_bitmap}
 use Rattle.scan_paths.specs.declared.index_scans.ByIndex.{ByIndex}
+use Rattle.scan_paths.specs.declared.reached.Reached.{Reached}
 
 -- a scan of a relation by an index, index-only or not
 abbrev pub tree_by : Bool → RelNo → IndexNo → Bool → RelSet → Plan
@@ -30,3 +31,7 @@ module _ (c : Contents) (q : Query) (r : RelNo) (p : RelSet) where
   -- each scan by an index that is of the space and admissible is dominated, index-only or not, either way
   abbrev pub IsIndexServed : List Path → IndexNo → Type 0
   IsIndexServed paths i = (only backward : Bool) → IsServed c q paths (tree_by only r i backward p)
+
+  -- by each of some indexes
+  abbrev pub AreIndexesServed : List Path → List Reached → Type 0
+  AreIndexesServed paths xs = All (λ (x : Reached). IsIndexServed paths x.index) xs

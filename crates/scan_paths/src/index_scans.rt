@@ -183,33 +183,26 @@ fn offer_kind(
 }
 
 /// Offers the scans of a relation by an index of its table, with a parameterisation, as far as the plan space has them:
-/// index scans and index-only ones, forward and backward. The error means want of memory.
+/// index scans, which `s` is, and index-only ones, forward and backward. The error means want of memory.
 pub(crate) fn offer_by_index(
     alloc: Global,
     cat: &Catalog,
     q: &Prepared,
-    r: RelNo,
-    i: IndexNo,
-    p: RelSet,
+    s: ByIndex,
     front: &mut Front<Path>,
 ) -> Result<(), Memory>
     requires query { IsOverTables cat.now q.now }
-    requires relation { r.0 < width q.now }
-    requires index { IsIndexOn cat.now q.now r.0 i }
+    requires relation { s.rel.0 < width q.now }
+    requires index { IsIndexOn cat.now q.now s.rel.0 s.index }
+    requires fetching { s.only ≡ false }
     requires paths { ArePathsOf cat.now q.now (map path front.old) }
-    ensures takes { TakesScans cat.now q.now r p (map path front.old) (map path front.new) }
-    ensures served { OnOk result (IsIndexServed cat.now q.now r p (map path front.new) i) }
+    ensures takes { TakesScans cat.now q.now s.rel s.param (map path front.old) (map path front.new) }
+    ensures served { OnOk result (IsIndexServed cat.now q.now s.rel s.param (map path front.new) s.index) }
 {
-    let fetching = ByIndex {
-        rel: r,
-        index: i,
-        param: p,
-        only: false,
-    };
-    offer_kind(alloc, cat, q, fetching, front)?;
-    let index_only = ByIndex {
-        only: true,
-        ..fetching
-    };
-    offer_kind(alloc, cat, q, index_only, front)
+    if !is_in_space(cat, q, s) {
+        return Ok(());
+    }
+    offer_ways(alloc, cat, q, s, front)?;
+    let only = ByIndex { only: true, ..s };
+    offer_kind(alloc, cat, q, only, front)
 }

@@ -3,6 +3,8 @@
 #![tactic(auto)]
 
 mod index_scans;
+mod reached;
 mod relation_scans;
 
-pub use relation_scans::scans;
+pub use reached::{Reached, indexes_reached};
+pub use relation_scans::{scans, scans_by};

@@ -10,13 +10,15 @@ ghost use Rattle.plan_tree.specs.Fronts.{AreDominated, AreOldOrOffers, ArePathsO
 ghost use Rattle.plan_tree.specs.Plans as plans;
 ghost use Rattle.plan_tree.specs.Reads.{IsOverTables};
 ghost use Rattle.plan_tree.specs.Views.{path};
-ghost use Rattle.scan_paths.specs.Scans.{IsIndexServed, TakesScans};
+ghost use Rattle.scan_paths.specs.Reached.{AreReached, IsReach, IsReached};
+ghost use Rattle.scan_paths.specs.Scans.{AreIndexesServed, IsIndexServed, TakesScans};
 
-use crate::index_scans::offer_by_index;
+use crate::index_scans::{ByIndex, offer_by_index};
+use crate::reached::{Reached, indexes_reached};
 use catalog::Catalog;
 use pareto::Front;
 use pathkeys::Keys;
-use pg_base::{IndexNo, Memory, RelNo, RelSet, TableNo};
+use pg_base::{Memory, RelNo, RelSet, TableNo};
 use plan_tree::{Path, Plan, offer_scan, range_of, seq_scan_cost};
 use sql_query::Prepared;
 use std::alloc::Global;
@@ -45,7 +47,7 @@ fn offer_seq(
 }
 
 /// The table of a relation.
-fn table_of(cat: &Catalog, q: &Prepared, r: RelNo) -> TableNo
+pub(crate) fn table_of(cat: &Catalog, q: &Prepared, r: RelNo) -> TableNo
     requires query { IsOverTables cat.now q.now }
     requires relation { r.0 < width q.now }
     ensures table { result ≡ table_of_relation q.now r.0 }
@@ -54,27 +56,86 @@ fn table_of(cat: &Catalog, q: &Prepared, r: RelNo) -> TableNo
     range_of(q).items()[r.0 as usize].0
 }
 
+/// Offers the scans by an index, where those rows may be given to one.
+fn offer_reached(
+    alloc: Global,
+    cat: &Catalog,
+    q: &Prepared,
+    s: ByIndex,
+    others: RelSet,
+    front: &mut Front<Path>,
+) -> Result<(), Memory>
+    requires query { IsOverTables cat.now q.now }
+    requires relation { s.rel.0 < width q.now }
+    requires index { IsIndexOn cat.now q.now s.rel.0 s.index }
+    requires reach { IsReach cat.now q.now s.rel s.index (has others.0) }
+    requires fetching { s.only ≡ false }
+    requires paths { ArePathsOf cat.now q.now (map path front.old) }
+    ensures takes { TakesScans cat.now q.now s.rel s.param (map path front.old) (map path front.new) }
+    ensures served { OnOk result (IsIndexServed cat.now q.now s.rel s.param (map path front.new) s.index) }
+{
+    if !s.param.within(others) {
+        return Ok(());
+    }
+    offer_by_index(alloc, cat, q, s, front)
+}
+
+/// A relation where the rows of others are given.
+#[derive(Clone, Copy)]
+struct Given {
+    rel: RelNo,
+    param: RelSet,
+}
+
 /// Offers the scans by each of some indexes of the relation's table.
 fn offer_by_each(
     alloc: Global,
     cat: &Catalog,
     q: &Prepared,
-    r: RelNo,
-    p: RelSet,
-    indexes: &[IndexNo],
+    at: Given,
+    indexes: &[Reached],
     front: &mut Front<Path>,
 ) -> Result<(), Memory>
     requires query { IsOverTables cat.now q.now }
-    requires relation { r.0 < width q.now }
-    requires indexes { All (IsIndexOn cat.now q.now r.0) indexes.now }
+    requires relation { at.rel.0 < width q.now }
+    requires indexes { All (IsReached cat.now q.now at.rel) indexes.now }
     requires paths { ArePathsOf cat.now q.now (map path front.old) }
-    ensures takes { TakesScans cat.now q.now r p (map path front.old) (map path front.new) }
-    ensures served { OnOk result (All (IsIndexServed cat.now q.now r p (map path front.new)) indexes.now) }
+    ensures takes { TakesScans cat.now q.now at.rel at.param (map path front.old) (map path front.new) }
+    ensures served { OnOk result (AreIndexesServed cat.now q.now at.rel at.param (map path front.new) indexes.now) }
 {
-    for i in indexes {
-        offer_by_index(alloc, cat, q, r, *i, p, front)?;
+    for x in indexes {
+        let s = ByIndex {
+            rel: at.rel,
+            index: x.index,
+            param: at.param,
+            only: false,
+        };
+        offer_reached(alloc, cat, q, s, x.others, front)?;
     }
     Ok(())
+}
+
+/// Offers to a front what `scans` offers, by the indexes of the relation's table as `indexes_reached` finds them.
+pub fn scans_by(
+    alloc: Global,
+    cat: &Catalog,
+    q: &Prepared,
+    at: (RelNo, RelSet),
+    indexes: &[Reached],
+    front: &mut Front<Path>,
+) -> Result<(), Memory>
+    requires query { IsOverTables cat.now q.now }
+    requires relation { at.0.0 < width q.now }
+    requires indexes { AreReached cat.now q.now at.0 indexes.now }
+    requires paths { ArePathsOf cat.now q.now (map path front.old) }
+    ensures paths { ArePathsOf cat.now q.now (map path front.new) }
+    ensures kept { AreOldOrOffers cat.now q.now is_no_bitmap (one at.0.0) (has at.1.0) (map path front.old) (map path front.new) }
+    ensures dominated { OnOk result (AreDominated cat.now q.now is_no_bitmap (one at.0.0) (has at.1.0) (map path front.new)) }
+    ensures still { StayDominated cat.now q.now (map path front.old) (map path front.new) }
+{
+    let (r, p) = at;
+    offer_seq(alloc, cat, q, r, p, front)?;
+    offer_by_each(alloc, cat, q, Given { rel: r, param: p }, indexes, front)
 }
 
 /// Offers to a front every admissible scan of relation `r` with the parameterisation `p`, but bitmap scans: without a
@@ -99,7 +160,6 @@ pub fn scans(
     ensures dominated { OnOk result (AreDominated cat.now q.now is_no_bitmap (one r.0) (has p.0) (map path front.new)) }
     ensures still { StayDominated cat.now q.now (map path front.old) (map path front.new) }
 {
-    offer_seq(alloc, cat, q, r, p, front)?;
-    let indexes = cat.indexes(table_of(cat, q, r));
-    offer_by_each(alloc, cat, q, r, p, indexes, front)
+    let indexes = indexes_reached(alloc, cat, q, r)?;
+    scans_by(alloc, cat, q, (r, p), &indexes, front)
 }

@@ -10,5 +10,5 @@ loop-e-preserved c =
     let kept = c.loop-e.kept.items in
     let made = c.in_ok-keep.field-0 in
     let pushed : c.push.new.self.items ≡ kept ++ made ∷ [] = c.in_ok-push.ensures.items in
-    subst (λ (ks : List ElementTree). AreKept c.args.cat.now c.args.q.now c.args.r c.args.p (take (n + 1) elements) ks) (sym pushed)
-    (one-kept c.args.cat.now c.args.q.now c.args.r c.args.p elements kept n _ made c.loop-e-test.true c.loop-e.invariant c.in_ok-keep.ensures.least c.in_ok-keep.ensures.kept)
+    subst (λ (ks : List ElementTree). AreKept c.args.cat.now c.args.q.now c.args.at.rel c.args.at.param (take (n + 1) elements) ks) (sym pushed)
+    (one-kept c.args.cat.now c.args.q.now c.args.at.rel c.args.at.param elements kept n _ made c.loop-e-test.true c.loop-e.invariant c.in_ok-keep.ensures.least c.in_ok-keep.ensures.kept)

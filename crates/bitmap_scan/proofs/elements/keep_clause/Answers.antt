@@ -41,5 +41,5 @@ returns-clause-kept c =
     let arms = map cond c.in-Some.arms.now in
     let is : bits (Or c.args.n c.in_ok-indexes.indexes) ≡ some_arm c.args.n c.in_ok-indexes.indexes.items = search (rules, the_lemmas, rolls-Or, fold-roll-BitTree, fold_out-BitTree, fold-roll-BitTrees, fold_out-BitTrees) in
     let part = clause-part c.args.cat.now c.args.q.now c.args.r c.args.p c.args.n arms c.in_ok-indexes.indexes.items c.in_ok-indexes.part (ap arms_of c.in-Some.ensures.arms ∙ listed_are arms) c.in_ok-indexes.ensures in
-    kept-of c.args.cat.now c.args.q.now c.args.r c.args.p _ (some_arm c.args.n c.in_ok-indexes.indexes.items) is part c.only.ensures
-    (λ k e. only-within k c.args.n _ (sym (c.only.ensures k) ∙ e) c.requires.clause)
+    kept-of c.args.cat.now c.args.q.now c.args.r c.args.p _ (some_arm c.args.n c.in_ok-indexes.indexes.items) is part c.only-used.ensures
+    (λ k e. only-within k c.args.n _ (sym (c.only-used.ensures k) ∙ e) c.requires.clause) c.others_named-named.ensures

@@ -13,5 +13,5 @@ use Rattle.bitmap_scan.proofs.elements.keep_index.Goals as goal
 pub returns-clause-kept : goal.returns-clause-kept
 returns-clause-kept c =
     let is : bits (Leaf c.args.i) ≡ leaf c.args.i = search (rules, the_lemmas, rolls-Leaf, fold-roll-BitTree, fold_out-BitTree, fold-roll-BitTrees, fold_out-BitTrees) in
-    kept-of c.args.cat.now c.args.q.now c.args.r c.args.p _ (leaf c.args.i) is c.index_part_of.ensures.part c.conditions_found.ensures
-    (λ n e. (conditions_local c.args.cat.now c.args.q.now.classes c.args.i c.args.r.0 (has c.args.p.0) n (sym (c.conditions_found.ensures n) ∙ e)).0)
+    kept-of c.args.cat.now c.args.q.now c.args.at.rel c.args.at.param _ (leaf c.args.i) is c.index_served-found.ensures.part c.index_served-found.ensures.conditions
+    (λ n e. (conditions_local c.args.cat.now c.args.q.now.classes c.args.i c.args.at.rel.0 (has c.args.at.param.0) n (sym (c.index_served-found.ensures.conditions n) ∙ e)).0) c.others_named-named.ensures

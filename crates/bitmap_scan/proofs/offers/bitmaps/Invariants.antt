@@ -5,4 +5,4 @@ use Rattle.plan_tree.specs.Views.{path}
 use Rattle.bitmap_scan.specs.ElementTrees.{tree_in}
 
 abbrev pub invariant-loop-mask : goal.invariant-loop-mask
-invariant-loop-mask l = AreOffered l.cat l.q l.r l.p (map tree_in l.kept.items) (map path l.initial.front) (map path l.front) l.mask
+invariant-loop-mask l = AreOffered l.cat l.q l.fn.r l.fn.p (map tree_in l.kept.items) (map path l.initial.front) (map path l.front) l.mask

@@ -14,7 +14,7 @@ pub returns : goal.returns
 returns c =
     let contents = c.args.cat.now in
     let q = c.args.q.now in
-    let offer = IsOffer contents q is_plan (one c.args.r.0) (has c.args.p.0) in
+    let offer = IsOffer contents q is_plan (one c.args.at.rel.0) (has c.args.p.0) in
     let start = subst (λ (xs : List Path). All offer (map path xs)) (sym c.new-front.ensures) (All-nil offer) in
-    all-paths contents q c.args.r c.args.p (map path c.new-front.result) (map path c.scans.new.front) (map path c.bitmaps.new.front) start
-    c.scans.ensures.kept c.in_ok-scans.ensures.dominated c.bitmaps.ensures.kept c.in_ok-bitmaps.ensures.dominated c.bitmaps.ensures.still
+    all-paths contents q c.args.at.rel c.args.p (map path c.new-front.result) (map path c.scans_by.new.front) (map path c.bitmaps.new.front) start
+    c.scans_by.ensures.kept c.in_ok-scans_by.ensures.dominated c.bitmaps.ensures.kept c.in_ok-bitmaps.ensures.dominated c.bitmaps.ensures.still

@@ -1,6 +1,6 @@
 use Rattle.planner.proofs.TableLemmas.{IsRelationSoFar}
-use Rattle.planner.proofs.base.add_relation.Given as goal
+use Rattle.planner.proofs.base.add_each.Given as goal
 
 -- the scans with the parameterisations so far
 abbrev pub invariant-loop-bits : goal.invariant-loop-bits
-invariant-loop-bits l = IsRelationSoFar l.cat l.q l.fn.table l.table l.r.0 l.s l.bits
+invariant-loop-bits l = IsRelationSoFar l.cat l.q l.fn.table l.table l.at.rel.0 l.at.set l.bits

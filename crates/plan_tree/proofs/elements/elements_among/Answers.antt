@@ -5,7 +5,7 @@ use Rattle.plan_tree.specs.Bitmaps.{IsElement, by_clause, candidates}
 use Rattle.plan_tree.specs.Gathering.{Gathered}
 use Rattle.plan_tree.specs.Views.{element}
 use Rattle.plan_tree.proofs.GatherLemmas.{gather-none, gathered-all}
-use Rattle.plan_tree.proofs.elements.first_elements.Goals as goal
+use Rattle.plan_tree.proofs.elements.elements_among.Goals as goal
 
 pub returns : goal.returns
 returns c =

@@ -1,28 +1,21 @@
-use Rattle.std.proofs.Common.{◌∙◌, ap, map, subst, sym}
+use Rattle.std.proofs.Common.{List, map, subst}
 use Rattle.std.specs.Prelude.{All}
 use Rattle.std.proofs.lemmas.Result.{on_ok_weaker}
-use Rattle.catalog.specs.Contents.{indexes_of}
-use Rattle.plan_tree.specs.Bitmaps.{IsIndexOn}
+use Rattle.pg_base.specs.declared.numbers.IndexNo.{IndexNo}
 use Rattle.plan_tree.specs.Plans.{seq}
 use Rattle.plan_tree.specs.Views.{path}
 use Rattle.scan_paths.specs.Scans.{IsIndexServed}
-use Rattle.scan_paths.proofs.IndexLemmas.{all-on}
+use Rattle.scan_paths.proofs.ReachLemmas.{each-index}
 use Rattle.scan_paths.proofs.SpaceLemmas.{all-dominated}
 use Rattle.scan_paths.proofs.TakingLemmas.{served-later, takes-then}
-use Rattle.scan_paths.proofs.relation_scans.scans.Goals as goal
-
-pub offer_by_each-requires-clause-indexes : goal.offer_by_each-requires-clause-indexes
-offer_by_each-requires-clause-indexes c =
-    let listed = c.indexes-indexes.ensures.value ∙ ap (indexes_of c.args.cat.now) c.table_of.ensures.table in
-    subst (All (IsIndexOn c.args.cat.now c.args.q.now c.args.r.0)) (sym listed) (all-on c.args.cat.now c.args.q.now c.args.r.0)
+use Rattle.scan_paths.proofs.relation_scans.scans_by.Goals as goal
 
 pub returns : goal.returns
 returns c =
     let contents = c.args.cat.now in
     let q = c.args.q.now in
-    let r = c.args.r in
-    let p = c.args.p in
-    let listed = c.indexes-indexes.ensures.value ∙ ap (indexes_of contents) c.table_of.ensures.table in
+    let r = c.args.at.0 in
+    let p = c.args.at.1 in
     let between = map path c.offer_seq.new.front in
     let after = map path c.offer_by_each.new.front in
     let taken = c.offer_by_each.ensures.takes in
@@ -33,7 +26,7 @@ returns c =
       dominated = on_ok_weaker c.offer_by_each.result
           (λ served. all-dominated contents q r p after
           (λ whole. served-later contents q between after (seq r) taken.still (c.in_ok-offer_seq.ensures.served whole))
-          (subst (All (IsIndexServed contents q r p after)) listed served))
+          (subst (λ (is : List IndexNo). All (IsIndexServed contents q r p after) is) c.requires.indexes.indexes (each-index (IsIndexServed contents q r p after) c.args.indexes.now served)))
           c.offer_by_each.ensures.served;
       still = all.still;
     }

@@ -3,7 +3,7 @@ use Rattle.pg_base.specs.Sets.{has}
 use Rattle.pg_expr.specs.AtomSets.{contains}
 use Rattle.catalog.specs.Entries.{index_of}
 use Rattle.index_match.proofs.FoundLemmas.{bounds_found, tests_found}
-use Rattle.index_match.proofs.matching.conditions.Goals as goal
+use Rattle.index_match.proofs.matching.conditions_among.Goals as goal
 
 pub returns-clause-bounds : goal.returns-clause-bounds
 returns-clause-bounds c =

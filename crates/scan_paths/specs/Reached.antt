@@ -1,0 +1,31 @@
+-- The relations whose rows the scans by an index may be given, whatever conditions they have. Own.
+use Rattle.std.specs.Prelude.{◌≡◌, ℕ, true, false, List, All, map}
+use Rattle.pg_base.specs.Sets.{has}
+use Rattle.pg_base.specs.declared.numbers.IndexNo.{IndexNo}
+use Rattle.pg_base.specs.declared.numbers.RelNo.{RelNo}
+use Rattle.pg_base.specs.declared.rel_set.RelSet.{RelSet}
+use Rattle.catalog.specs.Contents.{Contents, indexes_of}
+use Rattle.eq_classes.specs.Clauses.{Set}
+use Rattle.sql_query.specs.Queries.{Query}
+use Rattle.plan_tree.specs.Bitmaps.{IsIndexOn, table_of_relation}
+use Rattle.plan_tree.specs.Space.{IsIndexScan}
+use Rattle.scan_paths.specs.declared.reached.Reached.{Reached}
+
+module _ (c : Contents) (q : Query) (r : RelNo) where
+  -- a set has each relation whose rows a scan by an index is given
+  abbrev pub IsReach : IndexNo → Set → Type 0
+  IsReach i near = (p : RelSet) → IsIndexScan c q r i false p → (k : ℕ) → has p.0 k ≡ true → near k ≡ true
+
+  -- an index of the relation's table, with such a set
+  pub record IsReached (x : Reached) : Type 0 where
+    pub on : IsIndexOn c q r.0 x.index
+    pub others : IsReach x.index (has x.others.0)
+
+  -- such ones of some indexes, in their order
+  pub record AreReachedBy (is : List IndexNo) (xs : List Reached) : Type 0 where
+    pub indexes : map (λ (x : Reached). x.index) xs ≡ is
+    pub each : All IsReached xs
+
+  -- of the indexes of the relation's table
+  abbrev pub AreReached : List Reached → Type 0
+  AreReached xs = AreReachedBy (indexes_of c (table_of_relation q r.0)) xs

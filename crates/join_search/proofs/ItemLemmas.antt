@@ -1,6 +1,7 @@
 -- Paths of a table's fronts as they are lent, one by one.
-use Rattle.std.proofs.Common.{◌≡◌, ◌<◌, ◌≤◌, ℕ, ◌+◌, List, [], map, length, get_or, take, refl, sym, ◌∙◌, ap, subst, take_all, arith}
+use Rattle.std.proofs.Common.{◌≡◌, ◌<◌, ◌≤◌, ℕ, ◌+◌, nat_eq, true, List, [], ◌∷◌, map, length, get_or, take, refl, sym, ◌∙◌, ap, subst, take_all, arith}
 use Rattle.std.specs.Prelude.{All, Contains}
+use Rattle.std.proofs.lemmas.Bool.{eqb-true}
 use Rattle.std.proofs.lemmas.List.Elements.{All-contains, All-map, All-more, All-weaker}
 use Rattle.pg_base.specs.declared.rel_set.RelSet.{RelSet}
 use Rattle.catalog.specs.Contents.{Contents}
@@ -53,6 +54,13 @@ cheapest-lent items ps p e is_there least = subst (λ (l : List Path). IsCheapes
 
 pub none-lent : (items : List Costed) (ps : List Path) → map path items ≡ ps → items ≡ [] → ps ≡ []
 none-lent items ps e never = sym e ∙ ap (map path) never
+
+nothing : (items : List Costed) → length items ≡ 0 → items ≡ []
+nothing [] e = refl
+nothing (x ∷ items) e = absurd (omega (arith, e))
+
+pub empty-lent : (items : List Costed) (ps : List Path) → map path items ≡ ps → nat_eq (length items) 0 ≡ true → ps ≡ []
+empty-lent items ps e is = none-lent items ps e (nothing items (eqb-true (length items) 0 is))
 
 pub not-contained : (xs : List Path) (x : Path) → xs ≡ [] → Contains xs x → ⊥
 not-contained xs x e h = let none : length xs ≡ 0 = ap (λ (l : List Path). length l) e in absurd (omega (arith, none, h.1))

@@ -1,5 +1,5 @@
 -- The classes of the keys of plans are those of the query.
-use Rattle.std.proofs.Common.{◌≡◌, ◌<◌, ℕ, Bool, true, false, cond, nat_eq, List, [], ◌∷◌, length, take, refl, sym, subst, true≢false}
+use Rattle.std.proofs.Common.{◌≡◌, ◌<◌, Bool, true, false, cond, nat_eq, [], ◌∷◌, length, take, sym, subst, true≢false}
 use Rattle.std.specs.Prelude.{All}
 use Rattle.std.specs.List.{list_all, list_any}
 use Rattle.std.proofs.lemmas.Bool.{and_parts}
@@ -13,7 +13,7 @@ use Rattle.eq_classes.specs.Parts.{joining_from}
 use Rattle.pathkeys.specs.Keys.{Keys, index_keys}
 use Rattle.pathkeys.proofs.StepLemmas.{keys_by_are_keys}
 use Rattle.sql_query.specs.Queries.{Query}
-use Rattle.plan_tree.specs.Keys.{keys_of, scan_keys}
+use Rattle.plan_tree.specs.Keys.{keys_of}
 use Rattle.plan_tree.specs.Paths.{Path}
 use Rattle.plan_tree.specs.Plans.{Plan, seq, index, index_only, bitmap, sort, nest, merge, is_empty, is_sort}
 use Rattle.plan_tree.specs.Space.{HasKeys, IsBuilt, IsMergeList}

@@ -1,18 +1,23 @@
 -- Merge joins of two sets: in the plan space, with their cost, and dominated by those of the cheapest sides.
-use Rattle.std.proofs.Common.{◌≡◌, ◌⊎◌, ◌<◌, ◌≤◌, ℕ, ◌-◌, ◌^◌, true, false, not, ◌||◌, ◌&&◌, Bool, cond, List, [], length, map, min, inl, inr, refl, sym, ◌∙◌, ap, ap₂, subst, subst₂, le_refl, arith}
-use Rattle.std.specs.Prelude.{All, Contains}
+use Rattle.std.proofs.Common.{◌≡◌, ◌⊎◌, ◌<◌, ◌≤◌, ℕ, ◌+◌, ◌*◌, ◌-◌, ◌^◌, true, false, not, ◌||◌, ◌&&◌, Bool, cond, List, [], ◌∷◌, length, map, min, inl, inr, refl, sym, ◌∙◌, ap, ap₂, subst, subst₂, le_refl, arith}
+use Rattle.std.specs.Prelude.{All, Contains, fold}
+use Rattle.std.proofs.Math.Nat.{mul-le-mul}
 use Rattle.std.proofs.lemmas.Bool.{cases_lt, true≢false}
 use Rattle.std.proofs.lemmas.List.Elements.{All-contains, All-contains_itself, All-map, All-nil, All-weaker}
 use Rattle.pg_base.specs.Sets.{has}
 use Rattle.pg_base.specs.declared.rel_set.RelSet.{RelSet}
+use Rattle.pg_expr.specs.Cond.{Cond}
 use Rattle.catalog.specs.Contents.{Contents}
-use Rattle.cost_rules.specs.Costs.{IsAtMost, capped, capped_pair, merge_cost, sort_cost}
+use Rattle.cost_rules.specs.Costs.{IsAtMost, capped, capped_pair, merge_cost, row_cost, sort_cost}
 use Rattle.cost_rules.specs.declared.pair.Pair.{Pair}
-use Rattle.cost_rules.specs.declared.parameters.TheConstants.{MOST_COST}
+use Rattle.cost_rules.specs.Powers.{clamped}
+use Rattle.cost_rules.specs.declared.parameters.TheConstants.{MOST_COST, OPERATOR}
+use Rattle.cost_rules.proofs.CapLemmas.{capped-rises}
 use Rattle.eq_classes.specs.Clauses.{Set}
 use Rattle.eq_classes.specs.Parts.{is_join}
 use Rattle.path_cost.specs.Costs.{operators}
-use Rattle.path_cost.specs.Estimates.{conditions_where, is_pair_of, pairs, set_rows}
+use Rattle.path_cost.specs.Estimates.{conditions_where, is_pair_of, pairs, set_rows, share_of_rows}
+use Rattle.path_cost.specs.Selectivity.{selectivity}
 use Rattle.pathkeys.specs.Keys.{Keys, covers}
 use Rattle.pathkeys.proofs.CoveringLemmas.{covers-refl}
 use Rattle.sql_query.specs.Queries.{Query}
@@ -30,18 +35,18 @@ use Rattle.plan_tree.proofs.FrontLemmas.{all-sources, contains-mapped}
 use Rattle.plan_tree.proofs.JoinLemmas.{merge_costs}
 use Rattle.plan_tree.proofs.LikeLemmas.{set-like}
 use Rattle.plan_tree.proofs.ReplacingLemmas.{merge-totals, sort-totals}
-use Rattle.kept_paths.specs.Bounds.{IsBeaten}
 use Rattle.plan_tree.proofs.WindowLemmas.{kept-least, kept-most, kept-rises, merge-kept, sort-kept, startup-both, startup-from}
-use Rattle.join_search.specs.Tables.{Fronts, none}
+use Rattle.join_search.specs.Tables.{Fronts, none, paths_at}
 use Rattle.join_search.specs.Joins.{ArePlaced, IsJoinOfKept, IsKept, IsPathAt, IsPlanIn, IsSideIn, IsSideKept}
-use Rattle.join_search.specs.Merges.{AreEarlyServed, AreOutersServed, ArePlainEarlyServed, ArePlainServed, IsBestSide, IsCheapestBy, IsMergeWork, IsSideOf, cost_by, side_of}
+use Rattle.join_search.specs.Merges.{AreEarlyServed, AreOutersServed, ArePlainEarlyServed, ArePlainServed, IsBestSide, IsCheapestBy, IsMergeWork, IsSideOf, cost_by, merge_with, side_of, side_path}
 use Rattle.join_search.specs.Offers.{AreMergesServed, IsCheapest}
-use Rattle.join_search.specs.Splits.{IsSplit}
-use Rattle.join_search.specs.Sufficing.{HasSufficient, IsPartOfUse, IsServed}
+use Rattle.join_search.specs.Splits.{IsOver, IsSplit}
+use Rattle.join_search.specs.Sufficing.{HasSufficient, IsServed}
+use Rattle.join_search.specs.declared.sides.Side.{Side}
 use Rattle.join_search.specs.declared.useful.Asked.{Asked}
 use Rattle.join_search.specs.declared.merges.MergeWork.{MergeWork}
 use Rattle.join_search.specs.declared.splits.Split.{Split}
-use Rattle.join_search.proofs.OfferLemmas.{beaten-sufficient, cheapest-of, served-by, served-later}
+use Rattle.join_search.proofs.OfferLemmas.{cheapest-of, kept-at-most, served-by, served-later}
 use Rattle.join_search.proofs.ItemLemmas.{there-kept, plan-of-none, side-of-none}
 use Rattle.join_search.proofs.PlanLemmas.{at-none, at-set, sets-same, whole-rows}
 
@@ -165,29 +170,6 @@ module _ (c : Contents) (q : Query) where
         set_is = λ k. ap₂ (λ x y. x || y) (sym (reads k)) (sym (reads' k)) ∙ sym (split.divided.all k);
         param_is = λ k. refl;
       }
-
-  -- and costs as much
-  pub merge-cost : (j : Split) (keys : Keys) (o i : Path) (bo bi : Bool) (w : MergeWork) (x y : Pair) (len : ℕ) (result : Pair) → IsSplit c q j → IsPathAt c q j.outer none o → IsPathAt c q j.inner none i → IsMergeWork c q j keys w →
-      x ≡ capped_pair (kept_cost q.window (cost c q (side_of keys o.tree bo))) → y ≡ capped_pair (kept_cost q.window (cost c q (side_of keys i.tree bi))) → len ≡ length keys →
-      result ≡ capped_pair (merge_cost x y j.outer_rows j.inner_rows len w.pairs w.ops) → result ≡ capped_pair (kept_cost q.window (cost c q (merge keys (side_of keys o.tree bo) (side_of keys i.tree bi))))
-  merge-cost j keys o i bo bi w x y len result split outer inner work ex ey el e =
-      let t = side_of keys o.tree bo in
-      let u = side_of keys i.tree bi in
-      let reads = side-reads keys j.outer o bo outer in
-      let reads' = side-reads keys j.inner i bi inner in
-      let rows : j.outer_rows ≡ estimate c q t = split.outer_rows ∙ whole-rows c q j.outer t reads (side-whole keys j.outer o bo outer) in
-      let rows' : j.inner_rows ≡ estimate c q u = split.inner_rows ∙ whole-rows c q j.inner u reads' (side-whole keys j.inner i bi inner) in
-      let as-set : has j.outer.0 ≡ set_of t = sets-same (has j.outer.0) (set_of t) reads in
-      let as-set' : has j.inner.0 ≡ set_of u = sets-same (has j.inner.0) (set_of u) reads' in
-      let equal : w.pairs ≡ pairs c q.range q.classes (set_of t) (set_of u) keys = work.pairs ∙ (λ z. pairs c q.range q.classes (as-set z) (as-set' z) keys) in
-      let ops : w.ops ≡ min (merge_operators q keys t u) (2 ^ 64 - 1) =
-      work.ops ∙ (λ z. min (operators (conditions_where (λ k. is_join (as-set z) (as-set' z) k && not (is_pair_of keys k)) q.classes.clauses)) (2 ^ 64 - 1)) in
-      let a = cost c q t in
-      let b = cost c q u in
-      let equal-rows = pairs c q.range q.classes (set_of t) (set_of u) keys in
-      merge_costs result x y j.outer_rows j.inner_rows len w.pairs w.ops (estimate c q t) (estimate c q u) (length keys) equal-rows (merge_operators q keys t u)
-      e rows rows' el equal ops work.estimate.some (kept_cost q.window a) (kept_cost q.window b) ex ey
-      ∙ ap capped_pair (merge-kept q.window a b (estimate c q t) (estimate c q u) (length keys) equal-rows (merge_operators q keys t u))
 
   -- a side is a sort by the list of a path's plan, or a path's plan whose keys begin with the list
   side-cases : (paths : List Path) (keys : Keys) (t : Plan) → IsSideIn paths t → HasKeys c q t keys → ((x : Plan) × IsPlanIn paths x × (t ≡ sort keys x)) ⊎ (IsPlanIn paths t × (covers (keys_of c q t) keys ≡ true))
@@ -457,11 +439,72 @@ module _ (c : Contents) (q : Query) (asked : Asked) where
       reads-of s paths t is (inl (x, k, e)) n = (plan-reads c q s paths x is k).0 n ∙ ap (λ (u : Plan). set_of u n) (sym e)
       reads-of s paths t is (inr (k, h)) n = (plan-reads c q s paths t is k).0 n
 
-  -- the merge of two sides, where a path of the front beats it
-  module _ (fronts : Fronts) (placed : ArePlaced c q fronts) (j : Split) (keys : Keys) (split : IsSplit c q j) (list : IsMergeList c q (has j.outer.0) (has j.inner.0) keys)
-      (o i : Path) (bo bi : Bool) (outer : IsSideOf keys (fronts j.outer none) o bo) (inner : IsSideOf keys (fronts j.inner none) i bi) where
-    pub sides-beaten : (front : List Path) (n : Pair) (ks part : Keys) → All (IsPathAt c q j.set none) front → n ≡ capped_pair (kept_cost q.window (cost c q (merge keys (side_of keys o.tree bo) (side_of keys i.tree bi)))) → ks ≡ cond bo keys o.keys →
-        IsPartOfUse q asked (has j.set.0) ks part → IsBeaten front n part → IsServed c q asked front (merge keys (side_of keys o.tree bo) (side_of keys i.tree bi))
-    sides-beaten front n ks part paths e k of_use beaten built below =
-        beaten-sufficient c q asked j.set front (merge keys (side_of keys o.tree bo) (side_of keys i.tree bi)) n part paths (sides-plan c q fronts placed j keys split list o i bo bi outer inner) e
-        (subst (λ (ls : Keys). IsPartOfUse q asked (has j.set.0) ls part) (sides-keys c q fronts placed j keys split list o i bo bi outer inner ks k) of_use) beaten
+-- one pair of rows without operators costs no more than some
+work-rises : (a b : Pair) (ro ri k p n : ℕ) → 1 ≤ p → IsAtMost (merge_cost a b ro ri k 1 0) (merge_cost a b ro ri k p n)
+work-rises a b ro ri k p n some =
+    let ops : row_cost 0 ≤ row_cost n = omega arith in
+    let work : 1 * row_cost 0 ≤ p * row_cost n = mul-le-mul {n₁ = 1} {m₁ = row_cost 0} {n₂ = p} {m₂ = row_cost n} some ops in
+    record { startup = le_refl (a.startup + b.startup); total = sum (a.total + b.total + (ro + 2 * ri) * (k * OPERATOR)) (1 * row_cost 0) (p * row_cost n) work }
+  where
+    sum : (x y z : ℕ) → y ≤ z → x + y ≤ x + z
+    sum x y z h = omega (arith, h)
+
+some-folded : {A : Type 0} (f : ℕ → A → ℕ) → ((m : ℕ) (a : A) → 1 ≤ f m a) → (n : ℕ) (xs : List A) → 1 ≤ n → 1 ≤ fold f n xs
+some-folded f some n [] h = h
+some-folded f some n (x ∷ xs) h = some-folded f some (f n x) xs (some n x)
+
+some-clamped : (n : ℕ) → 1 ≤ clamped n
+some-clamped n = omega arith
+
+-- the pairs of two sides are some
+some-pairs : (c : Contents) (q : Query) (a b : Set) (keys : Keys) → 1 ≤ pairs c q.range q.classes a b keys
+some-pairs c q a b keys =
+    some-folded {A = Cond} (λ m e. share_of_rows m (selectivity c q.range e)) (λ m e. some-clamped _) (clamped (set_rows c q.range q.classes a * set_rows c q.range q.classes b))
+    (conditions_where (λ k. is_join a b k && is_pair_of keys k) q.classes.clauses) (some-clamped (set_rows c q.range q.classes a * set_rows c q.range q.classes b))
+
+-- a side of a split
+pub side-at : (j : Split) → IsOver j → (keys : Keys) (s : RelSet) (x : Side) → IsSideOf keys (paths_at j.table.now s none) (side_path x) x.sorted → IsPathAt j.cat.now j.q.now s none (side_path x)
+side-at j over keys s x side = All-contains (IsPathAt j.cat.now j.q.now s none) (paths_at j.table.now s none) (side_path x) (over.placed.paths s none) side.is_there
+
+module _ (j : Split) (keys : Keys) (o i : Path) (bo bi : Bool) where
+  abbrev c : Contents
+  c = j.cat.now
+
+  abbrev q : Query
+  q = j.q.now
+
+  abbrev t : Plan
+  t = side_of keys o.tree bo
+
+  abbrev u : Plan
+  u = side_of keys i.tree bi
+
+  -- what the merge of two sides costs with so many pairs and operators
+  pub merge-reckoned : (p m n : ℕ) (x y : Pair) (len : ℕ) (result : Pair) → IsSplit c q j → IsPathAt c q j.outer none o → IsPathAt c q j.inner none i → 1 ≤ p → m ≡ min n (2 ^ 64 - 1) →
+      x ≡ capped_pair (kept_cost q.window (cost c q t)) → y ≡ capped_pair (kept_cost q.window (cost c q u)) → len ≡ length keys →
+      result ≡ capped_pair (merge_cost x y j.outer_rows j.inner_rows len p m) → result ≡ merge_with j keys t u p n
+  merge-reckoned p m n x y len result split outer inner some cut ex ey el e =
+      let rows : j.outer_rows ≡ estimate c q t = split.outer_rows ∙ whole-rows c q j.outer t (side-reads c q keys j.outer o bo outer) (side-whole c q keys j.outer o bo outer) in
+      let rows' : j.inner_rows ≡ estimate c q u = split.inner_rows ∙ whole-rows c q j.inner u (side-reads c q keys j.inner i bi inner) (side-whole c q keys j.inner i bi inner) in
+      let a = cost c q t in
+      let b = cost c q u in
+      merge_costs result x y j.outer_rows j.inner_rows len p m (estimate c q t) (estimate c q u) (length keys) p n
+      e rows rows' el refl cut some (kept_cost q.window a) (kept_cost q.window b) ex ey
+      ∙ ap capped_pair (merge-kept q.window a b (estimate c q t) (estimate c q u) (length keys) p n)
+
+  -- with its own it costs what its plan does
+  pub merge-exact : (w : MergeWork) (result : Pair) → IsPathAt c q j.outer none o → IsPathAt c q j.inner none i → IsMergeWork c q j keys w → ((n : ℕ) → w.ops ≡ min n (2 ^ 64 - 1) → result ≡ merge_with j keys t u w.pairs n) →
+      result ≡ capped_pair (kept_cost q.window (cost c q (merge keys t u)))
+  merge-exact w result outer inner work h =
+      let as-set : has j.outer.0 ≡ set_of t = sets-same (has j.outer.0) (set_of t) (side-reads c q keys j.outer o bo outer) in
+      let as-set' : has j.inner.0 ≡ set_of u = sets-same (has j.inner.0) (set_of u) (side-reads c q keys j.inner i bi inner) in
+      let equal : w.pairs ≡ pairs c q.range q.classes (set_of t) (set_of u) keys = work.pairs ∙ (λ z. pairs c q.range q.classes (as-set z) (as-set' z) keys) in
+      let ops : w.ops ≡ min (merge_operators q keys t u) (2 ^ 64 - 1) =
+      work.ops ∙ (λ z. min (operators (conditions_where (λ k. is_join (as-set z) (as-set' z) k && not (is_pair_of keys k)) q.classes.clauses)) (2 ^ 64 - 1)) in
+      h (merge_operators q keys t u) ops ∙ ap (λ p. merge_with j keys t u p (merge_operators q keys t u)) equal
+
+  -- and with the least work no more
+  pub merge-least : (result : Pair) → ((n : ℕ) → 0 ≡ min n (2 ^ 64 - 1) → result ≡ merge_with j keys t u 1 n) → IsAtMost result (capped_pair (kept_cost q.window (cost c q (merge keys t u))))
+  merge-least result h =
+      subst (λ (m : Pair). IsAtMost m (capped_pair (kept_cost q.window (cost c q (merge keys t u))))) (sym (h 0 (omega arith)))
+      (capped-rises _ _ (kept-at-most q.window _ _ (work-rises (cost c q t) (cost c q u) (estimate c q t) (estimate c q u) (length keys) (pairs c q.range q.classes (set_of t) (set_of u) keys) (merge_operators q keys t u) (some-pairs c q (set_of t) (set_of u) keys))))

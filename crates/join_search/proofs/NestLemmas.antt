@@ -1,12 +1,14 @@
 -- Nested loops of two sets: in the plan space, with their cost, and dominated by those with the cheapest inner path.
-use Rattle.std.proofs.Common.{◌≡◌, ◌⊎◌, ◌<◌, ◌≤◌, ◌-◌, ◌^◌, ◌||◌, List, [], min, inl, inr, refl, sym, ◌∙◌, ap, ap₂, subst, subst₂, le_refl, arith}
+use Rattle.std.proofs.Common.{◌≡◌, ◌⊎◌, ◌<◌, ◌≤◌, ◌+◌, ◌*◌, ◌-◌, ◌^◌, ◌||◌, ℕ, List, [], min, inl, inr, refl, sym, ◌∙◌, ap, ap₂, subst, subst₂, le_refl, arith}
 use Rattle.std.specs.Prelude.{All, Contains, Option, None, Some}
+use Rattle.std.proofs.Math.Nat.{mul-le-mul_left}
 use Rattle.std.proofs.lemmas.Bool.{cases_lt}
 use Rattle.std.proofs.lemmas.List.Elements.{All-contains, All-weaker}
 use Rattle.pg_base.specs.Sets.{has}
 use Rattle.pg_base.specs.declared.rel_set.RelSet.{RelSet}
 use Rattle.catalog.specs.Contents.{Contents}
-use Rattle.cost_rules.specs.Costs.{capped_pair, nest_cost}
+use Rattle.cost_rules.specs.Costs.{IsAtMost, capped_pair, nest_cost, row_cost}
+use Rattle.cost_rules.proofs.CapLemmas.{capped-rises}
 use Rattle.cost_rules.specs.declared.pair.Pair.{Pair}
 use Rattle.eq_classes.specs.Clauses.{Set}
 use Rattle.eq_classes.specs.Holding.{IsWithin}
@@ -24,20 +26,29 @@ use Rattle.plan_tree.specs.declared.path.Path.{Path as Costed}
 use Rattle.plan_tree.proofs.JoinLemmas.{nest_costs}
 use Rattle.plan_tree.proofs.ReplacingLemmas.{nest-totals}
 use Rattle.plan_tree.proofs.WindowLemmas.{kept-most, nest-kept, startup-both, startup-from}
-use Rattle.join_search.specs.Tables.{Fronts, front_at, none, params_of, paths_at, paths_of}
+use Rattle.join_search.specs.Tables.{Fronts, front_at, none, params_of, paths_at, paths_of, places_at}
 use Rattle.join_search.specs.Joins.{ArePlaced, IsPathAt}
-use Rattle.join_search.specs.Nests.{IsInner, IsNestWork}
+use Rattle.join_search.specs.Nests.{IsInner, nest_operators, nest_with}
 use Rattle.join_search.specs.Offers.{AreEachServed, AreEarlyServed, AreNestsServed, IsCheapest}
 use Rattle.join_search.specs.Splits.{IsSplit}
 use Rattle.join_search.specs.Sufficing.{IsServed}
 use Rattle.join_search.specs.declared.useful.Asked.{Asked}
-use Rattle.join_search.specs.declared.nests.NestWork.{NestWork}
 use Rattle.join_search.specs.declared.splits.Split.{Split}
 use Rattle.join_search.specs.declared.table.Table.{Table}
-use Rattle.join_search.proofs.OfferLemmas.{served-by, served-later}
+use Rattle.join_search.proofs.OfferLemmas.{kept-at-most, served-by, served-later}
 use Rattle.join_search.proofs.ItemLemmas.{plan-of-none}
 use Rattle.join_search.proofs.TableLemmas.{params-found}
 use Rattle.join_search.proofs.PlanLemmas.{at-none, at-param, at-set, sets-same, whole-rows}
+
+-- no operators cost no more
+ops-rise : (a b : Pair) (ro ri n : ℕ) → IsAtMost (nest_cost a b ro ri 0) (nest_cost a b ro ri n)
+ops-rise a b ro ri n =
+    let ops : row_cost 0 ≤ row_cost n = omega arith in
+    let work : ro * ri * row_cost 0 ≤ ro * ri * row_cost n = mul-le-mul_left {m = row_cost 0} {n = row_cost n} (ro * ri) ops in
+    record { startup = le_refl (a.startup + b.startup); total = sum (a.total + ro * b.total) (ro * ri * row_cost 0) (ro * ri * row_cost n) work }
+  where
+    sum : (x y z : ℕ) → y ≤ z → x + y ≤ x + z
+    sum x y z h = omega (arith, h)
 
 module _ (c : Contents) (q : Query) where
   -- the nested loop of two paths is a plan of their sets
@@ -63,19 +74,26 @@ module _ (c : Contents) (q : Query) where
         param_is = λ k. refl;
       }
 
-  -- and costs as much
-  pub nest-cost : (j : Split) (o i : Path) (w : NestWork) (x y result : Pair) → IsSplit c q j → IsPathAt c q j.outer none o → IsInner c q j i → IsNestWork c q j.outer i.tree w →
-      x ≡ capped_pair (kept_cost q.window (cost c q o.tree)) → y ≡ capped_pair (kept_cost q.window (cost c q i.tree)) →
-      result ≡ capped_pair (nest_cost x y j.outer_rows w.inner_rows w.ops) → result ≡ capped_pair (kept_cost q.window (cost c q (nest o.tree i.tree)))
-  nest-cost j o i w x y result split outer inner work ex ey e =
+  -- what it costs with so many operators
+  pub nest-reckoned : (j : Split) (o i : Path) (rows m n : ℕ) (x y result : Pair) → IsSplit c q j → IsPathAt c q j.outer none o → rows ≡ estimate c q i.tree → 1 ≤ rows → m ≡ min n (2 ^ 64 - 1) →
+      x ≡ capped_pair (kept_cost q.window (cost c q o.tree)) → y ≡ capped_pair (kept_cost q.window (cost c q i.tree)) → result ≡ capped_pair (nest_cost x y j.outer_rows rows m) → result ≡ nest_with c q o.tree i.tree n
+  nest-reckoned j o i rows m n x y result split outer same some cut ex ey e =
       let a = cost c q o.tree in
       let b = cost c q i.tree in
-      let rows : j.outer_rows ≡ estimate c q o.tree = split.outer_rows ∙ whole-rows c q j.outer o.tree (at-set c q j.outer none o outer) (at-none c q j.outer o outer) in
-      let ops : w.ops ≡ min (join_operators q o.tree i.tree) (2 ^ 64 - 1) =
-      work.ops ∙ ap (λ (a : Set). min (operators (conditions_where (joins a i.tree) q.classes.clauses)) (2 ^ 64 - 1)) (sets-same (has j.outer.0) (set_of o.tree) (at-set c q j.outer none o outer)) in
-      nest_costs result x y j.outer_rows w.inner_rows w.ops (estimate c q o.tree) (estimate c q i.tree) (join_operators q o.tree i.tree) e rows work.inner_rows ops split.outer_estimate.some work.inner_estimate.some
-      (kept_cost q.window a) (kept_cost q.window b) ex ey
-      ∙ ap capped_pair (nest-kept q.window a b (estimate c q o.tree) (estimate c q i.tree) (join_operators q o.tree i.tree))
+      let outer_rows : j.outer_rows ≡ estimate c q o.tree = split.outer_rows ∙ whole-rows c q j.outer o.tree (at-set c q j.outer none o outer) (at-none c q j.outer o outer) in
+      nest_costs result x y j.outer_rows rows m (estimate c q o.tree) (estimate c q i.tree) n e outer_rows same cut split.outer_estimate.some some (kept_cost q.window a) (kept_cost q.window b) ex ey
+      ∙ ap capped_pair (nest-kept q.window a b (estimate c q o.tree) (estimate c q i.tree) n)
+
+  -- with its own it costs what its plan does
+  pub nest-exact : (j : Split) (o i : Path) (m : ℕ) (result : Pair) → IsPathAt c q j.outer none o → m ≡ nest_operators q j.outer i.tree → ((n : ℕ) → m ≡ min n (2 ^ 64 - 1) → result ≡ nest_with c q o.tree i.tree n) →
+      result ≡ capped_pair (kept_cost q.window (cost c q (nest o.tree i.tree)))
+  nest-exact j o i m result outer ops h =
+      h (join_operators q o.tree i.tree)
+      (ops ∙ ap (λ (a : Set). min (operators (conditions_where (joins a i.tree) q.classes.clauses)) (2 ^ 64 - 1)) (sets-same (has j.outer.0) (set_of o.tree) (at-set c q j.outer none o outer)))
+
+  -- and with none no more
+  pub nest-least : (o i : Plan) (result : Pair) → ((n : ℕ) → 0 ≡ min n (2 ^ 64 - 1) → result ≡ nest_with c q o i n) → IsAtMost result (capped_pair (kept_cost q.window (cost c q (nest o i))))
+  nest-least o i result h = subst (λ (m : Pair). IsAtMost m (capped_pair (kept_cost q.window (cost c q (nest o i))))) (sym (h 0 (omega arith))) (capped-rises _ _ (kept-at-most q.window _ _ (ops-rise (cost c q o) (cost c q i) (estimate c q o) (estimate c q i) (join_operators q o i))))
 
   pub same-like : (s p : RelSet) (x y : Path) → IsPathAt c q s p x → IsPathAt c q s p y → IsLike x.tree y.tree
   same-like s p x y h k = record {
@@ -150,10 +168,10 @@ module _ (c : Contents) (q : Query) (asked : Asked) where
   nests-later old new outers inners still h o i x y = served-later c q asked old new (nest o i) still (h o i x y)
 
   -- those with the parameterisations at which the set has a front are all
-  pub nests-all : (table : Table) (front : List Path) (a b : RelSet) (params : List RelSet) → params ≡ params_of b table.places.items →
+  pub nests-all : (table : Table) (front : List Path) (a b : RelSet) (params : List RelSet) → params ≡ params_of (places_at table b) →
       All (λ p. AreNestsServed c q asked front (paths_at table a none) (paths_at table b p)) params → (p : RelSet) → AreNestsServed c q asked front (paths_at table a none) (paths_at table b p)
   nests-all table front a b params same h p = by (front_at table b p) refl
     where
       by : (o : Option (List Costed)) → front_at table b p ≡ o → AreNestsServed c q asked front (paths_at table a none) (paths_at table b p)
       by None e = nests-none front (paths_at table a none) (paths_at table b p) (ap paths_of e)
-      by (Some f) e = All-contains (λ (r : RelSet). AreNestsServed c q asked front (paths_at table a none) (paths_at table b r)) params p h (subst (λ (ps : List RelSet). Contains ps p) (sym same) (params-found b p f table.places.items e))
+      by (Some f) e = All-contains (λ (r : RelSet). AreNestsServed c q asked front (paths_at table a none) (paths_at table b r)) params p h (subst (λ (ps : List RelSet). Contains ps p) (sym same) (params-found p f (places_at table b) e))

@@ -1,5 +1,5 @@
 -- The path of a join, and what an offer of it does to the front of its set.
-use Rattle.std.proofs.Common.{◌≡◌, ◌⊎◌, ◌<◌, ◌≤◌, ℕ, true, nat_le, List, map, inl, inr, refl, sym, ◌∙◌, ap, subst, subst₂, arith}
+use Rattle.std.proofs.Common.{◌≡◌, ◌⊎◌, ◌<◌, ◌≤◌, ℕ, true, nat_le, List, map, inl, inr, refl, sym, ◌∙◌, ap, subst, le_refl, le_trans, arith}
 use Rattle.std.specs.Prelude.{All, Contains, Option, None, Some}
 use Rattle.std.proofs.lemmas.Grind.{common_steps}
 use Rattle.std.proofs.lemmas.List.Elements.{All-contains, All-map, All-weaker}
@@ -8,7 +8,7 @@ use Rattle.pg_base.specs.Sets.{has}
 use Rattle.pg_base.proofs.SetLaws.{has-zero}
 use Rattle.pg_base.specs.declared.rel_set.RelSet.{RelSet}
 use Rattle.catalog.specs.Contents.{Contents}
-use Rattle.cost_rules.specs.Costs.{capped_pair}
+use Rattle.cost_rules.specs.Costs.{IsAtMost, capped_pair}
 use Rattle.cost_rules.specs.declared.pair.Pair.{Pair}
 use Rattle.cost_rules.specs.declared.parameters.TheConstants.{MOST_COST}
 use Rattle.path_cost.specs.Estimates.{set_rows}
@@ -28,7 +28,7 @@ use Rattle.plan_tree.specs.declared.path.Path.{Path as Costed}
 use Rattle.plan_tree.proofs.BoundLemmas.{startup-most}
 use Rattle.plan_tree.proofs.DominationLemmas.{dominates-refl}
 use Rattle.plan_tree.proofs.FrontLemmas.{contains-mapped, made-dominated, still-dominated}
-use Rattle.plan_tree.proofs.WindowLemmas.{kept-most, uncut-kept}
+use Rattle.plan_tree.proofs.WindowLemmas.{kept-most, kept-rises, uncut-kept}
 use Rattle.join_laws.specs.Useful.{IsOfUse, Suffices, floor_by}
 use Rattle.join_laws.proofs.UsefulLemmas.{below-from, dominates-suffices, suffices-trans}
 use Rattle.kept_paths.specs.Bounds.{IsBeaten}
@@ -41,6 +41,20 @@ use Rattle.join_search.proofs.PlanLemmas.{at-set, at-none, sets-same, whole-rows
 
 most : (m n : ℕ) → nat_le m n ≡ true → m ≤ n
 most m n e = grind (arith, common_steps)
+
+-- of two costs of which one is at most the other, what is kept of them
+pub kept-at-most : (w : Option Window) (a b : Pair) → IsAtMost a b → IsAtMost (kept_cost w a) (kept_cost w b)
+kept-at-most w a b h = record { startup = kept-rises w a.startup b.startup h.startup; total = h.total }
+
+pub at-most-same : (a b : Pair) → a ≡ b → IsAtMost a b
+at-most-same a b e = subst (IsAtMost a) e (record { startup = le_refl a.startup; total = le_refl a.total })
+
+floor-rises : (w : Option Window) (a b : Pair) → IsAtMost a b → floor_in w a ≤ floor_in w b
+floor-rises None a b h = h.total
+floor-rises (Some w) a b h = h.startup
+
+pub beaten-more : (front : List Path) (a b : Pair) (part : Keys) → IsAtMost a b → IsBeaten front a part → IsBeaten front b part
+beaten-more front a b part h k = record { path = k.path; is_there = k.is_there; early = le_trans k.early h.startup; cheap = le_trans k.cheap h.total; covers = k.covers }
 
 -- the cheapest of some paths
 pub cheapest-of : (paths : List Costed) (p : Costed) → Contains paths p → All (λ o. p.cost ≤ o.cost) paths → IsCheapest (map path paths) (path p)
@@ -149,3 +163,10 @@ module _ (c : Contents) (q : Query) (asked : Asked) where
       let total = ap (λ (x : Pair). x.total) e in
       let least = floor-least q.window t n e in
       absurd (past (omega (arith, total, below.admissible)) (omega (arith, least, below.floor)))
+
+  -- nor is one that costs no less than what is past it
+  pub past-more : (front : List Path) (t : Plan) (m n : Pair) → n ≡ capped_pair (kept_cost q.window (cost c q t)) → IsAtMost m n → (m.total < MOST_COST → floor_in q.window m < asked.limit → ⊥) → IsServed c q asked front t
+  past-more front t m n e h past =
+      let total = h.total in
+      let floor = floor-rises q.window m n h in
+      past-limit front t n e (λ lt below. past (omega (arith, total, lt)) (omega (arith, floor, below)))

@@ -30,7 +30,7 @@ use Rattle.join_search.specs.declared.table.Table.{Table}
 use Rattle.join_search.proofs.ItemLemmas.{not-contained, plan-of-none, side-of-none}
 use Rattle.join_search.proofs.MergeLemmas.{merges-later}
 use Rattle.join_search.proofs.NestLemmas.{nests-later}
-use Rattle.join_search.proofs.OfferLemmas.{joins-there, paths-there}
+use Rattle.join_search.proofs.OfferLemmas.{paths-there}
 use Rattle.join_search.proofs.PlanLemmas.{all-covered}
 use Rattle.join_search.proofs.SetLemmas.{divided-not-single, inner-less, outer-less, set-below}
 use Rattle.join_laws.proofs.WithinLemmas.{read-below}
@@ -225,6 +225,13 @@ module _ (c : Contents) (q : Query) (asked : Asked) where
   split-none fronts front a b e = record {
     nests = λ p o i x y built below. absurd (plan-of-none (fronts a none) o e x);
     merges = λ keys o i x y built below. absurd (side-of-none (fronts a none) o e x);
+  }
+
+  -- nor where the inner side has none
+  pub split-bare : (fronts : Fronts) (front : List Path) (a b : RelSet) → ((p : RelSet) → fronts b p ≡ []) → AreJoinsServed c q asked fronts front a b
+  split-bare fronts front a b e = record {
+    nests = λ p o i x y built below. absurd (plan-of-none (fronts b p) i (e p) y);
+    merges = λ keys o i x y built below. absurd (side-of-none (fronts b none) i (e none) y);
   }
 
   -- one more part of a set

@@ -158,7 +158,7 @@ set-below s w h =
 pub outer-within : (s a b : RelSet) → IsDivided s a b → (k : ℕ) → has a.0 k ≡ true → has s.0 k ≡ true
 outer-within s a b d k is = d.all k ∙ ap (λ x. x || has b.0 k) is
 
-sixteen : (w : ℕ) → w ≤ 16 → 2 ^ w ≤ 2 ^ 16
+pub sixteen : (w : ℕ) → w ≤ 16 → 2 ^ w ≤ 2 ^ 16
 sixteen w le = pow-le-pow_right {n = 2} (omega arith) {i = w} {j = 16} le
 
 -- a set of at most 16 relations is a word of 16 bits

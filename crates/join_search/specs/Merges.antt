@@ -1,20 +1,21 @@
 -- Merge joins of two sets: their lists of classes, their sides, and what they are reckoned from (PostgreSQL,
 -- src/backend/optimizer/path/joinpath.c, sort_inner_and_outer; that every list is tried is own).
-use Rattle.std.specs.Prelude.{◌≡◌, ◌≤◌, ◌<◌, ◌^◌, ◌-◌, ◌&&◌, ◌++◌, ℕ, Bool, true, false, not, cond, nat_eq, List, [], ◌∷◌, All, Contains, filter, map, min}
+use Rattle.std.specs.Prelude.{◌≡◌, ◌≤◌, ◌<◌, ◌^◌, ◌-◌, ◌&&◌, ◌++◌, ℕ, Bool, true, false, not, cond, nat_eq, List, [], ◌∷◌, All, Contains, filter, length, map, min}
 use Rattle.std.specs.List.{list_any, flat_map}
 use Rattle.pg_base.specs.Sets.{has}
 use Rattle.catalog.specs.Contents.{Contents}
-use Rattle.cost_rules.specs.Costs.{IsEstimate}
+use Rattle.cost_rules.specs.Costs.{IsEstimate, capped_pair, merge_cost}
+use Rattle.cost_rules.specs.declared.pair.Pair.{Pair}
 use Rattle.eq_classes.specs.Parts.{is_join}
 use Rattle.path_cost.specs.Costs.{operators}
 use Rattle.path_cost.specs.Estimates.{conditions_where, is_pair_of, pairs}
 use Rattle.pathkeys.specs.Keys.{Keys, covers}
 use Rattle.sql_query.specs.Queries.{Query}
-use Rattle.plan_tree.specs.Costs.{cost}
+use Rattle.plan_tree.specs.Costs.{cost, estimate}
 use Rattle.plan_tree.specs.Least.{IsAdmissible}
-use Rattle.plan_tree.specs.Paths.{Path, startup_kept}
+use Rattle.plan_tree.specs.Paths.{Path, kept_cost, startup_kept}
 use Rattle.plan_tree.specs.Plans.{Plan, sort, merge}
-use Rattle.plan_tree.specs.Space.{HasKeys, IsBuilt}
+use Rattle.plan_tree.specs.Space.{HasKeys, IsBuilt, IsMergeList}
 use Rattle.plan_tree.specs.Views.{path}
 use Rattle.plan_tree.specs.declared.path.Path.{Path as Costed}
 use Rattle.join_search.specs.declared.merges.MergeWork.{MergeWork}
@@ -22,6 +23,8 @@ use Rattle.join_search.specs.declared.sides.Side.{Side}
 use Rattle.join_search.specs.declared.splits.Split.{Split}
 use Rattle.join_search.specs.declared.useful.Asked.{Asked}
 use Rattle.join_search.specs.Joins.{IsSideIn}
+use Rattle.join_search.specs.Splits.{inners_of, outers_of}
+use Rattle.join_search.specs.Tables.{none}
 use Rattle.join_search.specs.Sufficing.{IsServed}
 
 -- a list with one more class, each of some that it has not; the same of each of some lists
@@ -98,3 +101,41 @@ module _ (c : Contents) (q : Query) (asked : Asked) where
   -- those of the outer paths that are not sorted
   abbrev pub ArePlainServed : List Path → Keys → Plan → List Path → Type 0
   ArePlainServed front keys i outers = All (λ o. covers o.keys keys ≡ true → IsServed c q asked front (merge keys o.tree i)) outers
+
+-- the same of a split
+abbrev pub ServesOuters : Split → List Path → Keys → Plan → Type 0
+ServesOuters j front keys i = AreOutersServed j.cat.now j.q.now j.asked front (outers_of j) keys i
+
+abbrev pub ServesEarlySides : Split → List Path → Keys → ℕ → Type 0
+ServesEarlySides j front keys startup =
+    AreEarlyServed j.cat.now j.q.now j.asked front (outers_of j) (inners_of j none) keys startup
+
+abbrev pub ServesEarlyPlain : Split → List Path → Keys → ℕ → Type 0
+ServesEarlyPlain j front keys startup =
+    ArePlainEarlyServed j.cat.now j.q.now j.asked front (outers_of j) keys startup (inners_of j none)
+
+abbrev pub ServesPlain : Split → List Path → Keys → Plan → Type 0
+ServesPlain j front keys i = ArePlainServed j.cat.now j.q.now j.asked front keys i (outers_of j)
+
+-- a list by which the sides of a split are merged, and a side of them
+abbrev pub IsListOf : Split → Keys → Type 0
+IsListOf j keys = IsMergeList j.cat.now j.q.now (has j.outer.0) (has j.inner.0) keys
+
+abbrev pub IsOuterSide : Split → Keys → Side → Type 0
+IsOuterSide j keys s = IsSideOf keys (outers_of j) (side_path s) s.sorted
+
+abbrev pub IsInnerSide : Split → Keys → Side → Type 0
+IsInnerSide j keys s = IsSideOf keys (inners_of j none) (side_path s) s.sorted
+
+-- the startup of the sort of a plan, as a path keeps it
+abbrev pub sort_startup : Split → Keys → Plan → ℕ
+sort_startup j keys t = startup_kept j.q.now.window (cost j.cat.now j.q.now (sort keys t)).startup
+
+-- the merge of two sides by a list
+abbrev pub merge_of : Keys → Side → Side → Plan
+merge_of keys outer inner = merge keys (side_plan keys outer) (side_plan keys inner)
+
+-- what the merge of two plans costs with so many pairs and operators, as a path keeps it, cut to at most 10^18
+abbrev pub merge_with : Split → Keys → Plan → Plan → ℕ → ℕ → Pair
+merge_with j keys o i pairs n = let c = j.cat.now in let q = j.q.now in
+    capped_pair (kept_cost q.window (merge_cost (cost c q o) (cost c q i) (estimate c q o) (estimate c q i) (length keys) pairs n))

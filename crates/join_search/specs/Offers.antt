@@ -1,15 +1,21 @@
 -- What an offer of joins does to the front of a set. Own.
-use Rattle.std.specs.Prelude.{◌≤◌, ◌<◌, ℕ, List, All, Contains}
+use Rattle.std.specs.Prelude.{◌≡◌, ◌≤◌, ◌<◌, ℕ, List, All, Contains}
 use Rattle.pg_base.specs.declared.rel_set.RelSet.{RelSet}
 use Rattle.catalog.specs.Contents.{Contents}
+use Rattle.cost_rules.specs.Costs.{IsAtMost}
+use Rattle.cost_rules.specs.declared.pair.Pair.{Pair}
 use Rattle.sql_query.specs.Queries.{Query}
 use Rattle.pathkeys.specs.Keys.{Keys}
+use Rattle.plan_tree.specs.Keys.{keys_of}
 use Rattle.plan_tree.specs.Plans.{Plan, nest, merge}
 use Rattle.plan_tree.specs.Paths.{Path}
 use Rattle.plan_tree.specs.Fronts.{StayDominated}
-use Rattle.join_search.specs.Tables.{Fronts, none}
+use Rattle.join_search.specs.Tables.{Fronts, none, paths_at}
 use Rattle.join_search.specs.Joins.{IsJoinPath, IsPlanIn, IsSideIn}
+use Rattle.join_search.specs.Splits.{IsJoinOf, inners_of, kept_of, outers_of}
 use Rattle.join_search.specs.Sufficing.{IsServed}
+use Rattle.join_search.specs.declared.splits.Split.{Split}
+use Rattle.join_search.specs.declared.splits.Target.{Target}
 use Rattle.join_search.specs.declared.useful.Asked.{Asked}
 
 -- a path of a list, and none costs less
@@ -43,3 +49,34 @@ module _ (c : Contents) (q : Query) (asked : Asked) where
   pub record AreJoinsServed (fronts : Fronts) (front : List Path) (a b : RelSet) : Type 0 where
     pub nests : (p : RelSet) → AreNestsServed front (fronts a none) (fronts b p)
     pub merges : (keys : Keys) → AreMergesServed front (fronts a none) (fronts b none) keys
+
+-- the same of a split
+abbrev pub Takes : Split → List Path → List Path → Type 0
+Takes j old new = TakesJoins j.cat.now j.q.now (paths_at j.table.now) j.set old new
+
+abbrev pub Serves : Split → List Path → Plan → Type 0
+Serves j front t = IsServed j.cat.now j.q.now j.asked front t
+
+abbrev pub ServesEach : Split → List Path → Plan → Type 0
+ServesEach j front i = AreEachServed j.cat.now j.q.now j.asked front (outers_of j) i
+
+abbrev pub ServesEarly : Split → List Path → ℕ → RelSet → Type 0
+ServesEarly j front startup p = AreEarlyServed j.cat.now j.q.now j.asked front (outers_of j) startup (inners_of j p)
+
+abbrev pub ServesNests : Split → List Path → RelSet → Type 0
+ServesNests j front p = AreNestsServed j.cat.now j.q.now j.asked front (outers_of j) (inners_of j p)
+
+abbrev pub ServesMerges : Split → List Path → Keys → Type 0
+ServesMerges j front keys = AreMergesServed j.cat.now j.q.now j.asked front (outers_of j) (inners_of j none) keys
+
+-- each plan of the set with these keys that costs no less is served
+abbrev pub ServesFrom : Split → List Path → Pair → Keys → Type 0
+ServesFrom j front least keys = (t : Plan) (n : Pair) → IsJoinOf j t → n ≡ kept_of j t → IsAtMost least n →
+    keys ≡ keys_of j.cat.now j.q.now t → Serves j front t
+
+-- joins offered to the front of a set, and those of two of its sides
+abbrev pub TargetTakes : Target → List Path → List Path → Type 0
+TargetTakes t old new = TakesJoins t.cat.now t.q.now (paths_at t.table.now) t.set old new
+
+abbrev pub AreTargetServed : Target → List Path → RelSet → RelSet → Type 0
+AreTargetServed t front a b = AreJoinsServed t.cat.now t.q.now t.asked (paths_at t.table.now) front a b

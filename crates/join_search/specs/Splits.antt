@@ -1,17 +1,28 @@
 -- A set of relations divided into the two sides of a join (PostgreSQL, src/backend/optimizer/README, Join Tree
 -- Construction; that every division is tried is own).
-use Rattle.std.specs.Prelude.{◌≡◌}
+use Rattle.std.specs.Prelude.{◌≡◌, List, All, map}
 use Rattle.pg_base.specs.Sets.{has}
 use Rattle.pg_base.specs.declared.rel_set.RelSet.{RelSet}
 use Rattle.catalog.specs.Contents.{Contents}
-use Rattle.cost_rules.specs.Costs.{IsEstimate}
+use Rattle.cost_rules.specs.Costs.{IsEstimate, capped_pair}
+use Rattle.cost_rules.specs.declared.pair.Pair.{Pair}
 use Rattle.eq_classes.specs.Holding.{AreApart}
 use Rattle.eq_classes.specs.Parts.{union}
 use Rattle.path_cost.specs.Estimates.{set_rows}
-use Rattle.plan_tree.specs.Space.{IsEmpty, IsSameSet}
+use Rattle.pathkeys.specs.Keys.{order_keys}
+use Rattle.plan_tree.specs.Costs.{cost}
+use Rattle.plan_tree.specs.Paths.{Path, kept_cost}
+use Rattle.plan_tree.specs.Plans.{Plan, empty}
+use Rattle.plan_tree.specs.Reads.{IsOverTables}
+use Rattle.plan_tree.specs.Space.{IsEmpty, IsPlanOf, IsSameSet}
+use Rattle.plan_tree.specs.Views.{path}
 use Rattle.sql_query.specs.Queries.{Query}
 use Rattle.join_laws.specs.Useful.{outside}
+use Rattle.join_search.specs.Joins.{ArePlaced, IsJoinPath, IsPathAt}
+use Rattle.join_search.specs.Tables.{none, paths_at}
 use Rattle.join_search.specs.declared.splits.Split.{Split}
+use Rattle.join_search.specs.declared.splits.Target.{Target}
+use Rattle.join_search.specs.declared.splits.Task.{Task}
 
 -- a set is not empty
 abbrev pub HasSome : RelSet → Type 0
@@ -33,3 +44,57 @@ pub record IsSplit (c : Contents) (q : Query) (j : Split) : Type 0 where
   pub outer_estimate : IsEstimate j.outer_rows
   pub inner_estimate : IsEstimate j.inner_rows
   pub outside : IsSameSet (has j.outside.0) (outside q (has j.set.0))
+
+-- what a search is over: a query over tables, with its order keys
+pub record IsTask (t : Task) : Type 0 where
+  pub query : IsOverTables t.cat.now t.q.now
+  pub order : t.order.now ≡ order_keys t.q.now.classes t.q.now.order
+
+-- the same with a set, its rows and the other relations, over fronts of which each path stands at its place
+pub record IsTarget (t : Target) : Type 0 where
+  pub query : IsOverTables t.cat.now t.q.now
+  pub order : t.order.now ≡ order_keys t.q.now.classes t.q.now.order
+  pub placed : ArePlaced t.cat.now t.q.now (paths_at t.table.now)
+  pub rows : t.rows ≡ set_rows t.cat.now t.q.now.range t.q.now.classes (has t.set.0)
+  pub outside : IsSameSet (has t.outside.0) (outside t.q.now (has t.set.0))
+
+-- the same of a division of a set, whose sides have the paths of the fronts
+pub record IsOver (j : Split) : Type 0 where
+  pub query : IsOverTables j.cat.now j.q.now
+  pub order : j.order.now ≡ order_keys j.q.now.classes j.q.now.order
+  pub placed : ArePlaced j.cat.now j.q.now (paths_at j.table.now)
+  pub split : IsSplit j.cat.now j.q.now j
+  pub outers : map path j.outers.now ≡ paths_at j.table.now j.outer none
+  pub inners : map path j.inners.now ≡ paths_at j.table.now j.inner none
+
+-- the paths of the outer side, and those of the inner one at a parameterisation
+abbrev pub outers_of : Split → List Path
+outers_of j = paths_at j.table.now j.outer none
+
+abbrev pub inners_of : Split → RelSet → List Path
+inners_of j p = paths_at j.table.now j.inner p
+
+-- paths of the set, and such that are joins of kept ones
+abbrev pub ArePathsOf : Split → List Path → Type 0
+ArePathsOf j paths = All (IsPathAt j.cat.now j.q.now j.set none) paths
+
+abbrev pub AreJoinsOf : Split → List Path → Type 0
+AreJoinsOf j paths = All (IsJoinPath j.cat.now j.q.now (paths_at j.table.now) j.set none) paths
+
+-- a plan of the set that is given no rows, and its cost as a path keeps it, cut to at most 10^18
+abbrev pub IsJoinOf : Split → Plan → Type 0
+IsJoinOf j t = IsPlanOf j.cat.now j.q.now (has j.set.0) empty t
+
+abbrev pub kept_of : Split → Plan → Pair
+kept_of j t = capped_pair (kept_cost j.q.now.window (cost j.cat.now j.q.now t))
+
+-- a path of the outer side
+abbrev pub IsOuterOf : Split → Path → Type 0
+IsOuterOf j x = IsPathAt j.cat.now j.q.now j.outer none x
+
+-- paths of a set whose joins are looked for, and such that are joins of kept ones
+abbrev pub AreTargetPaths : Target → List Path → Type 0
+AreTargetPaths t paths = All (IsPathAt t.cat.now t.q.now t.set none) paths
+
+abbrev pub AreTargetJoins : Target → List Path → Type 0
+AreTargetJoins t paths = All (IsJoinPath t.cat.now t.q.now (paths_at t.table.now) t.set none) paths

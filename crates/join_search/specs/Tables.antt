@@ -1,6 +1,7 @@
 -- A table of fronts, by the set of relations and the parameterisation that they are of (PostgreSQL,
 -- src/backend/optimizer/README, Optimizer Data Structures; the table is own).
-use Rattle.std.specs.Prelude.{◌≡◌, ℕ, zero, suc, Bool, ◌&&◌, cond, nat_eq, List, [], ◌∷◌, filter, map, Option, Some, None}
+use Rattle.std.specs.Prelude.{◌≡◌, ℕ, zero, suc, Bool, cond, nat_eq, List, [], ◌∷◌, map, Option, Some, None, Vec}
+use Rattle.std.specs.Global.{Global}
 use Rattle.pg_base.specs.declared.rel_set.RelSet.{RelSet}
 use Rattle.plan_tree.specs.Paths.{Path}
 use Rattle.plan_tree.specs.Views.{path}
@@ -11,14 +12,14 @@ use Rattle.join_search.specs.declared.table.Table.{Table}
 abbrev pub none : RelSet
 none = record { 0 = 0 }
 
--- a front stands at a set and a parameterisation
-abbrev pub is_at : RelSet → RelSet → Placed → Bool
-is_at s p f = nat_eq f.set.0 s.0 && nat_eq f.param.0 p.0
+-- a front of a set stands at a parameterisation
+abbrev pub is_at : RelSet → Placed → Bool
+is_at p f = nat_eq f.param.0 p.0
 
--- the first front that does
-abbrev pub found_at : RelSet → RelSet → List Placed → Option (List Costed)
-found_at s p [] = None
-found_at s p (f ∷ fs) = cond (is_at s p f) (Some f.front) (found_at s p fs)
+-- the first of some fronts of a set that does
+abbrev pub found_at : RelSet → List Placed → Option (List Costed)
+found_at p [] = None
+found_at p (f ∷ fs) = cond (is_at p f) (Some f.front) (found_at p fs)
 
 -- the front of a number replaced
 abbrev pub with_front : List Placed → ℕ → List Costed → List Placed
@@ -26,12 +27,22 @@ with_front [] n front = []
 with_front (f ∷ fs) zero front = record f { front = front } ∷ fs
 with_front (f ∷ fs) (suc n) front = f ∷ with_front fs n front
 
-abbrev pub front_at : Table → RelSet → RelSet → Option (List Costed)
-front_at t s p = found_at s p t.places.items
+-- the list of a number, where there is one
+abbrev pub list_at : List (Vec Placed Global) → ℕ → List Placed
+list_at [] n = []
+list_at (v ∷ vs) zero = v.items
+list_at (v ∷ vs) (suc n) = list_at vs n
 
--- the parameterisations of the fronts of a set
-abbrev pub params_of : RelSet → List Placed → List RelSet
-params_of s fs = map (λ (f : Placed). f.param) (filter (λ (f : Placed). nat_eq f.set.0 s.0) fs)
+-- the fronts of a set
+abbrev pub places_at : Table → RelSet → List Placed
+places_at t s = list_at t.sets.items s.0
+
+abbrev pub front_at : Table → RelSet → RelSet → Option (List Costed)
+front_at t s p = found_at p (places_at t s)
+
+-- the parameterisations of some fronts of a set
+abbrev pub params_of : List Placed → List RelSet
+params_of fs = map (λ (f : Placed). f.param) fs
 
 abbrev pub paths_of : Option (List Costed) → List Path
 paths_of None = []

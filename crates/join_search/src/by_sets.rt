@@ -1,7 +1,8 @@
 //! The search over all sets of relations, from small ones to great ones.
 
-ghost use Rattle.std.specs.Prelude.{◌≡◌, ◌<◌, ◌≤◌, ◌+◌, ℕ, All, Contains, IfOk, OnOk, map};
+ghost use Rattle.std.specs.Prelude.{◌≡◌, ◌<◌, ◌≤◌, ◌+◌, ◌^◌, ℕ, All, Contains, IfOk, OnOk, [], map};
 ghost use Rattle.pg_base.specs.declared.rel_set.RelSet as sets;
+ghost use Rattle.cost_rules.specs.Costs.{IsEstimate};
 ghost use Rattle.path_cost.specs.Estimates as numbers;
 ghost use Rattle.pg_base.specs.Sets.{has};
 ghost use Rattle.plan_tree.specs.Reads.{IsOverTables};
@@ -10,17 +11,18 @@ ghost use Rattle.pareto.specs.Front.{AreKeptOr};
 ghost use Rattle.plan_tree.specs.Fronts.{StayDominated};
 ghost use Rattle.join_search.specs.Joins.{ArePlaced, AreUndominated, IsBase, IsCovered, IsJoinPath, IsPathAt, IsSingle};
 ghost use Rattle.join_search.specs.Sufficing.{HasSufficient, StaySufficient};
-ghost use Rattle.join_search.specs.Offers.{AreJoinsServed, TakesJoins};
-ghost use Rattle.join_search.specs.Splits.{IsDivided, IsSplit};
+ghost use Rattle.join_search.specs.Offers.{AreJoinsServed, AreTargetServed, Takes, TargetTakes};
+ghost use Rattle.join_search.specs.Splits.{AreJoinsOf, AreTargetJoins, AreTargetPaths, IsDivided, IsOver, IsTarget, IsTask};
 ghost use Rattle.join_search.specs.declared.table.Table as tables;
 ghost use Rattle.join_search.specs.Tables.{front_at, none, paths_at};
 ghost use Rattle.join_search.specs.Search.{IsDone};
 
 use crate::merges::offer_merges;
 use crate::nests::offer_nests;
-use crate::splits::{Split, all_relations, divide, is_single, set_rows, sets_of};
+use crate::offers::cheapest;
+use crate::splits::{Split, Target, Task, all_relations, is_single, path_rows, set_rows, sets_of};
 use crate::table::Table;
-use crate::useful::{Asked, useful};
+use crate::useful::{Asked, order_asked, useful};
 use catalog::Catalog;
 use kept_paths::KeptPaths;
 use pareto::Front;
@@ -29,79 +31,111 @@ use plan_tree::{Path, cost_of, range_of};
 use sql_query::Prepared;
 use std::alloc::{AllocError, Global};
 
-/// Offers the joins of two sets to the front of both. The error means want of memory.
-fn offer_split(
-    alloc: Global,
-    cat: &Catalog,
-    q: &Prepared,
-    table: &Table,
-    j: Split,
-    front: &mut KeptPaths,
-) -> Result<(), Memory>
-    requires query { IsOverTables cat.now q.now }
-    requires placed { ArePlaced cat.now q.now (paths_at table.now) }
-    requires split { IsSplit cat.now q.now j }
-    requires joins { All (IsJoinPath cat.now q.now (paths_at table.now) j.set none) (map path front.old) }
-    ensures takes { TakesJoins cat.now q.now (paths_at table.now) j.set (map path front.old) (map path front.new) }
-    ensures served { OnOk result (AreJoinsServed cat.now q.now j.asked (paths_at table.now) (map path front.new) j.outer j.inner) }
+/// Offers the joins of two sides to the front of both. The error means want of memory.
+fn offer_split(alloc: Global, j: &Split, front: &mut KeptPaths) -> Result<(), Memory>
+    requires over { IsOver j.now }
+    requires joins { AreJoinsOf j.now (map path front.old) }
+    ensures takes { Takes j.now (map path front.old) (map path front.new) }
+    ensures served { OnOk result (AreJoinsServed j.now.cat.now j.now.q.now j.now.asked (paths_at j.now.table.now) (map path front.new) j.now.outer j.now.inner) }
 {
-    offer_nests(alloc, cat, q, table, j, front)?;
-    offer_merges(alloc, cat, q, table, j, front)
+    offer_nests(alloc, j, front)?;
+    offer_merges(alloc, j, front)
 }
 
-/// Offers the joins of a part of a set with the rest of it, where it is a part. The error means want of memory.
+/// The rows of a set that is given none, by one of its paths.
+fn rows_by(at: &Target, set: RelSet, paths: &[Path]) -> u64
+    requires at { IsTarget at.now }
+    requires paths { map path paths.now ≡ paths_at at.now.table.now set none }
+    ensures rows { result ≡ numbers.set_rows at.now.cat.now at.now.q.now.range at.now.q.now.classes (has set.0) }
+    ensures estimate { IsEstimate result }
+{
+    match cheapest(paths) {
+        Some(p) => path_rows(at.cat, at.q, p),
+        None => set_rows(at.cat, at.q, set),
+    }
+}
+
+/// Offers the joins of a part of a set, of which these are the paths, with the rest. The error means want of memory.
+fn offer_sides(
+    alloc: Global,
+    at: &Target,
+    outer: RelSet,
+    inner: RelSet,
+    outers: &[Path],
+    front: &mut KeptPaths,
+) -> Result<(), Memory>
+    requires at { IsTarget at.now }
+    requires divided { IsDivided at.now.set outer inner }
+    requires outers { map path outers.now ≡ paths_at at.now.table.now outer none }
+    requires joins { AreTargetJoins at.now (map path front.old) }
+    ensures takes { TargetTakes at.now (map path front.old) (map path front.new) }
+    ensures served { OnOk result (AreTargetServed at.now (map path front.new) outer inner) }
+{
+    let inners = at.table.paths(inner, RelSet(0));
+    let outer_rows = rows_by(at, outer, outers);
+    let inner_rows = rows_by(at, inner, inners);
+    let j = Split {
+        cat: at.cat,
+        q: at.q,
+        asked: at.asked,
+        order: at.order,
+        table: at.table,
+        set: at.set,
+        rows: at.rows,
+        outside: at.outside,
+        outer,
+        inner,
+        outer_rows,
+        inner_rows,
+        outers,
+        inners,
+    };
+    offer_split(alloc, &j, front)
+}
+
+/// Offers the joins of a part of a set with the rest of it, where it is a part and both have paths. The error means want of
+/// memory.
 pub(crate) fn offer_part(
     alloc: Global,
-    cat: &Catalog,
-    q: &Prepared,
-    asked: Asked,
-    table: &Table,
-    set: RelSet,
-    rows: u64,
+    at: &Target,
     part: RelSet,
     front: &mut KeptPaths,
 ) -> Result<(), Memory>
-    requires query { IsOverTables cat.now q.now }
-    requires placed { ArePlaced cat.now q.now (paths_at table.now) }
-    requires rows { rows ≡ numbers.set_rows cat.now q.now.range q.now.classes (has set.0) }
+    requires at { IsTarget at.now }
     requires some { 1 ≤ part.0 }
-    requires less { part.0 < set.0 }
-    requires joins { All (IsJoinPath cat.now q.now (paths_at table.now) set none) (map path front.old) }
-    ensures takes { TakesJoins cat.now q.now (paths_at table.now) set (map path front.old) (map path front.new) }
-    ensures served { OnOk result ((b : sets.RelSet) → IsDivided set part b → AreJoinsServed cat.now q.now asked (paths_at table.now) (map path front.new) part b) }
+    requires less { part.0 < at.now.set.0 }
+    requires joins { AreTargetJoins at.now (map path front.old) }
+    ensures takes { TargetTakes at.now (map path front.old) (map path front.new) }
+    ensures served { OnOk result ((b : sets.RelSet) → IsDivided at.now.set part b → AreTargetServed at.now (map path front.new) part b) }
 {
-    if table.has_none(part) {
+    if !part.within(at.set) {
         return Ok(());
     }
-    if part.within(set) {
-        let j = divide(cat, q, asked, set, rows, part, set.minus(part));
-        offer_split(alloc, cat, q, table, j, front)?;
+    let outers = at.table.paths(part, RelSet(0));
+    if outers.is_empty() {
+        return Ok(());
     }
-    Ok(())
+    let rest = at.set.minus(part);
+    if at.table.is_bare(rest) {
+        return Ok(());
+    }
+    offer_sides(alloc, at, part, rest, outers, front)
 }
 
 /// Keeps a path of a set unless one that is kept costs no more, with keys that begin with its part of use. The error means
 /// want of memory.
-fn keep(
-    alloc: Global,
-    cat: &Catalog,
-    q: &Prepared,
-    asked: Asked,
-    set: RelSet,
-    kept: &mut KeptPaths,
-    made: Path,
-) -> Result<(), Memory>
-    requires query { IsOverTables cat.now q.now }
-    requires paths { All (IsPathAt cat.now q.now set none) (map path kept.old) }
-    requires made { IsPathAt cat.now q.now set none (path made) }
+fn keep(alloc: Global, at: &Target, kept: &mut KeptPaths, made: Path) -> Result<(), Memory>
+    requires at { IsTarget at.now }
+    requires paths { AreTargetPaths at.now (map path kept.old) }
+    requires made { IsPathAt at.now.cat.now at.now.q.now at.now.set none (path made) }
     ensures some { AreKeptOr kept.old made kept.new }
-    ensures still { StayDominated cat.now q.now (map path kept.old) (map path kept.new) }
-    ensures enough { OnOk result (HasSufficient cat.now q.now asked (map path kept.new) (path made).tree) }
+    ensures still { StayDominated at.now.cat.now at.now.q.now (map path kept.old) (map path kept.new) }
+    ensures enough { OnOk result (HasSufficient at.now.cat.now at.now.q.now at.now.asked (map path kept.new) (path made).tree) }
 {
+    let cat: &Catalog = at.cat;
     cat.lawful();
-    let cost = cost_of(cat, q, &made);
-    let outside = all_relations(q).minus(set);
-    let part = useful(alloc, q, asked, outside, &made.keys)?;
+    let cost = cost_of(cat, at.q, &made);
+    let part = useful(alloc, at.q, at.asked, at.order, at.outside, &made.keys)?;
     if kept.is_beaten(alloc, cost, &part)? {
         return Ok(());
     }
@@ -110,23 +144,16 @@ fn keep(
 
 /// The front of some paths of a set: the first of them, and of the others those that have keys of use or cost less than each
 /// one before. The error means want of memory.
-fn front_among(
-    alloc: Global,
-    cat: &Catalog,
-    q: &Prepared,
-    asked: Asked,
-    set: RelSet,
-    paths: Vec<Path>,
-) -> Result<Front<Path>, Memory>
-    requires query { IsOverTables cat.now q.now }
-    requires paths { All (IsPathAt cat.now q.now set none) (map path paths.items) }
+fn front_among(alloc: Global, at: &Target, paths: Vec<Path>) -> Result<Front<Path>, Memory>
+    requires at { IsTarget at.now }
+    requires paths { AreTargetPaths at.now (map path paths.items) }
     ensures some { IfOk result (λ f. All (Contains (map path paths.items)) (map path f)) }
-    ensures enough { IfOk result (λ f. StaySufficient cat.now q.now asked (map path paths.items) (map path f)) }
-    ensures undominated { IfOk result (λ f. AreUndominated cat.now q.now (map path f)) }
+    ensures enough { IfOk result (λ f. StaySufficient at.now.cat.now at.now.q.now at.now.asked (map path paths.items) (map path f)) }
+    ensures undominated { IfOk result (λ f. AreUndominated at.now.cat.now at.now.q.now (map path f)) }
 {
     let mut kept = KeptPaths::new(alloc);
     for made in paths {
-        keep(alloc, cat, q, asked, set, &mut kept, made)?;
+        keep(alloc, at, &mut kept, made)?;
     }
     let front = kept.into_front(alloc)?;
     let _paths = front.items();
@@ -135,56 +162,30 @@ fn front_among(
 
 /// The front of the paths that are kept of a set, where of two whose keys are of equal use the cheaper one suffices. The error
 /// means want of memory.
-pub(crate) fn front_of(
-    alloc: Global,
-    cat: &Catalog,
-    q: &Prepared,
-    asked: Asked,
-    set: RelSet,
-    kept: KeptPaths,
-) -> Result<Front<Path>, Memory>
-    requires query { IsOverTables cat.now q.now }
-    requires paths { All (IsPathAt cat.now q.now set none) (map path kept) }
+pub(crate) fn front_of(alloc: Global, at: &Target, kept: KeptPaths) -> Result<Front<Path>, Memory>
+    requires at { IsTarget at.now }
+    requires paths { AreTargetPaths at.now (map path kept) }
     ensures some { IfOk result (λ f. All (Contains (map path kept)) (map path f)) }
-    ensures enough { IfOk result (λ f. StaySufficient cat.now q.now asked (map path kept) (map path f)) }
-    ensures undominated { IfOk result (λ f. AreUndominated cat.now q.now (map path f)) }
+    ensures enough { IfOk result (λ f. StaySufficient at.now.cat.now at.now.q.now at.now.asked (map path kept) (map path f)) }
+    ensures undominated { IfOk result (λ f. AreUndominated at.now.cat.now at.now.q.now (map path f)) }
 {
     let mut paths = kept.into_paths();
     paths.sort_by_key(|p| p.cost)?;
-    front_among(alloc, cat, q, asked, set, paths)
+    front_among(alloc, at, paths)
 }
 
 /// The front of a set: the joins of each of its parts with the rest. The error means want of memory.
-fn joins_of(
-    alloc: Global,
-    cat: &Catalog,
-    q: &Prepared,
-    asked: Asked,
-    table: &Table,
-    set: RelSet,
-) -> Result<Front<Path>, Memory>
-    requires query { IsOverTables cat.now q.now }
-    requires placed { ArePlaced cat.now q.now (paths_at table.now) }
-    ensures joins { IfOk result (λ f. All (IsJoinPath cat.now q.now (paths_at table.now) set none) (map path f)) }
-    ensures served { IfOk result (λ f. (a b : sets.RelSet) → IsDivided set a b → AreJoinsServed cat.now q.now asked (paths_at table.now) (map path f) a b) }
-    ensures undominated { IfOk result (λ f. AreUndominated cat.now q.now (map path f)) }
+fn joins_of(alloc: Global, at: &Target) -> Result<Front<Path>, Memory>
+    requires at { IsTarget at.now }
+    ensures joins { IfOk result (λ f. AreTargetJoins at.now (map path f)) }
+    ensures served { IfOk result (λ f. (a b : sets.RelSet) → IsDivided at.now.set a b → AreTargetServed at.now (map path f) a b) }
+    ensures undominated { IfOk result (λ f. AreUndominated at.now.cat.now at.now.q.now (map path f)) }
 {
-    let rows = set_rows(cat, q, set);
     let mut kept = KeptPaths::new(alloc);
-    for part in 1..set.0 {
-        offer_part(
-            alloc,
-            cat,
-            q,
-            asked,
-            table,
-            set,
-            rows,
-            RelSet(part),
-            &mut kept,
-        )?;
+    for part in 1..at.set.0 {
+        offer_part(alloc, at, RelSet(part), &mut kept)?;
     }
-    front_of(alloc, cat, q, asked, set, kept)
+    front_of(alloc, at, kept)
 }
 
 /// Lets go of a front that no memory was left for.
@@ -192,28 +193,59 @@ fn refused(_back: Front<Path>) -> Memory {
     AllocError
 }
 
+/// The front of the joins of a set over a table. The error means want of memory.
+fn front_over(alloc: Global, task: &Task, table: &Table, set: RelSet) -> Result<Front<Path>, Memory>
+    requires task { IsTask task.now }
+    requires placed { ArePlaced task.now.cat.now task.now.q.now (paths_at table.now) }
+    ensures joins { IfOk result (λ f. All (IsJoinPath task.now.cat.now task.now.q.now (paths_at table.now) set none) (map path f)) }
+    ensures served { IfOk result (λ f. (a b : sets.RelSet) → IsDivided set a b → AreJoinsServed task.now.cat.now task.now.q.now task.now.asked (paths_at table.now) (map path f) a b) }
+    ensures undominated { IfOk result (λ f. AreUndominated task.now.cat.now task.now.q.now (map path f)) }
+{
+    let rows = set_rows(task.cat, task.q, set);
+    let all = all_relations(task.q);
+    let outside = all.minus(set);
+    let at = Target {
+        cat: task.cat,
+        q: task.q,
+        asked: task.asked,
+        order: task.order,
+        table,
+        set,
+        rows,
+        outside,
+    };
+    joins_of(alloc, &at)
+}
+
 /// The table with the front of the next set, where it has more than one relation. The error means want of memory.
-fn add_set(
-    alloc: Global,
-    cat: &Catalog,
-    q: &Prepared,
-    asked: Asked,
-    before: Table,
-    set: RelSet,
-) -> Result<Table, Memory>
-    requires query { IsOverTables cat.now q.now }
-    requires placed { ArePlaced cat.now q.now (paths_at before) }
-    ensures { IfOk result (λ t. (base : tables.Table) → IsDone cat.now q.now asked base before set.0 → IsDone cat.now q.now asked base t (set.0 + 1)) }
+fn add_set(alloc: Global, task: &Task, before: Table, set: RelSet) -> Result<Table, Memory>
+    requires task { IsTask task.now }
+    requires placed { ArePlaced task.now.cat.now task.now.q.now (paths_at before) }
+    ensures { IfOk result (λ t. (base : tables.Table) → IsDone task.now.cat.now task.now.q.now task.now.asked base before set.0 → IsDone task.now.cat.now task.now.q.now task.now.asked base t (set.0 + 1)) }
 {
     if is_single(set) {
         return Ok(before);
     }
-    let front = joins_of(alloc, cat, q, asked, &before, set)?;
+    let front = front_over(alloc, task, &before, set)?;
     let mut table = before;
     match table.put(set, RelSet(0), front) {
         Ok(()) => Ok(table),
         Err(back) => Err(refused(back)),
     }
+}
+
+/// The fronts of all sets below a number, from those of single relations. The error means want of memory.
+fn sets_below(alloc: Global, task: &Task, base: Table, end: u32) -> Result<Table, Memory>
+    requires task { IsTask task.now }
+    requires base { IsBase task.now.cat.now task.now.q.now base }
+    requires few { end ≤ 2 ^ 16 }
+    ensures { IfOk result (λ t. (n : ℕ) × (end ≤ n) × IsDone task.now.cat.now task.now.q.now task.now.asked base t n) }
+{
+    let mut table = base;
+    for n in 1..end {
+        table = add_set(alloc, task, table, RelSet(n as u16))?;
+    }
+    Ok(table)
 }
 
 /// The fronts of all sets of a query's relations, from those of single relations, which are handed on as they are. Sets
@@ -238,9 +270,12 @@ pub fn search(
     ensures kept { IfOk result (λ t. (s p : sets.RelSet) → ¬ IsSingle s → All (IsJoinPath cat.now q.now (paths_at t) s p) (paths_at t s p)) }
     ensures undominated { IfOk result (λ t. (s p : sets.RelSet) → ¬ IsSingle s → AreUndominated cat.now q.now (paths_at t s p)) }
 {
-    let mut table = base;
-    for n in 1..sets_of(range_of(q).items().len()) {
-        table = add_set(alloc, cat, q, asked, table, RelSet(n as u16))?;
-    }
-    Ok(table)
+    let order = order_asked(alloc, q)?;
+    let task = Task {
+        cat,
+        q,
+        asked,
+        order: &order,
+    };
+    sets_below(alloc, &task, base, sets_of(range_of(q).items().len()))
 }

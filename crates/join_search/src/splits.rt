@@ -4,38 +4,87 @@ ghost use Rattle.std.specs.Prelude.{◌≡◌, ◌<◌, ◌≤◌, ◌^◌, ◌�
 ghost use Rattle.pg_base.specs.Sets.{has};
 ghost use Rattle.cost_rules.specs.Costs.{IsEstimate};
 ghost use Rattle.path_cost.specs.Estimates as numbers;
+ghost use Rattle.plan_tree.specs.Costs as costs;
+ghost use Rattle.plan_tree.specs.Paths.{IsPathOf};
 ghost use Rattle.plan_tree.specs.Reads.{IsOverTables};
 ghost use Rattle.plan_tree.specs.Space.{IsSameSet};
+ghost use Rattle.plan_tree.specs.Views.{path};
 ghost use Rattle.sql_query.specs.Queries.{all_of_query, width};
 ghost use Rattle.join_search.specs.Joins.{IsSingle};
-ghost use Rattle.join_search.specs.Splits.{HasSome, IsDivided, IsSplit};
+ghost use Rattle.join_search.specs.Splits.{HasSome};
 
+use crate::table::Table;
 use crate::useful::Asked;
 use catalog::Catalog;
+use cost_rules::MOST_ESTIMATE;
 use path_cost::rows;
+use pathkeys::Keys;
 use pg_base::{RelNo, RelSet};
-use plan_tree::{classes_of, range_of};
+use plan_tree::{Path, classes_of, estimate, range_of};
 use sql_query::Prepared;
 
-/// Two sets of relations that are joined, with the rows that they and their join are taken to give.
+/// What a search is over.
 #[derive(Clone, Copy)]
-pub(crate) struct Split {
-    /// The relations of both.
+pub(crate) struct Task<'a> {
+    pub(crate) cat: &'a Catalog,
+    /// The query.
+    pub(crate) q: &'a Prepared,
+    /// What is asked of the search.
+    pub(crate) asked: Asked,
+    /// The order keys of the query.
+    pub(crate) order: &'a Keys,
+}
+
+/// A set of relations whose joins are looked for, over the fronts of smaller ones.
+#[derive(Clone, Copy)]
+pub(crate) struct Target<'a> {
+    pub(crate) cat: &'a Catalog,
+    /// The query.
+    pub(crate) q: &'a Prepared,
+    /// What is asked of the search.
+    pub(crate) asked: Asked,
+    /// The order keys of the query.
+    pub(crate) order: &'a Keys,
+    /// The fronts.
+    pub(crate) table: &'a Table,
+    /// The set.
     pub(crate) set: RelSet,
-    /// The outer ones.
+    /// The rows of a join of all its relations.
+    pub(crate) rows: u64,
+    /// The relations of the query that are not of the set.
+    pub(crate) outside: RelSet,
+}
+
+/// A set of relations divided into the sides of its joins, with what all of these are reckoned from.
+#[derive(Clone, Copy)]
+pub(crate) struct Split<'a> {
+    pub(crate) cat: &'a Catalog,
+    /// The query.
+    pub(crate) q: &'a Prepared,
+    /// What is asked of the search.
+    pub(crate) asked: Asked,
+    /// The order keys of the query.
+    pub(crate) order: &'a Keys,
+    /// The fronts.
+    pub(crate) table: &'a Table,
+    /// The relations of both sides.
+    pub(crate) set: RelSet,
+    /// The rows of the join.
+    pub(crate) rows: u64,
+    /// The relations of the query that are in neither side.
+    pub(crate) outside: RelSet,
+    /// The outer relations.
     pub(crate) outer: RelSet,
     /// The inner ones.
     pub(crate) inner: RelSet,
-    /// The rows of the join.
-    pub(crate) rows: u64,
     /// The rows of the outer side.
     pub(crate) outer_rows: u64,
     /// The rows of the inner side, where it is given none.
     pub(crate) inner_rows: u64,
-    /// The relations of the query that are in neither.
-    pub(crate) outside: RelSet,
-    /// What is asked of the search.
-    pub(crate) asked: Asked,
+    /// The paths of the outer side.
+    pub(crate) outers: &'a [Path],
+    /// The paths of the inner side that are given no rows.
+    pub(crate) inners: &'a [Path],
 }
 
 /// The set of all relations.
@@ -88,33 +137,15 @@ pub(crate) fn set_rows(cat: &Catalog, q: &Prepared, s: RelSet) -> u64
     rows(cat, range_of(q), classes_of(q), s)
 }
 
-/// The division of a set whose rows are given.
-pub(crate) fn divide(
-    cat: &Catalog,
-    q: &Prepared,
-    asked: Asked,
-    set: RelSet,
-    rows: u64,
-    outer: RelSet,
-    inner: RelSet,
-) -> Split
+/// The rows that a path is taken to give: its own number, which is one that costs are reckoned from.
+pub(crate) fn path_rows(cat: &Catalog, q: &Prepared, p: &Path) -> u64
     requires query { IsOverTables cat.now q.now }
-    requires divided { IsDivided set outer inner }
-    requires rows { rows ≡ numbers.set_rows cat.now q.now.range q.now.classes (has set.0) }
-    ensures split { IsSplit cat.now q.now result }
-    ensures set { result.set ≡ set }
-    ensures asked { result.asked ≡ asked }
-    ensures outer { result.outer ≡ outer }
-    ensures inner { result.inner ≡ inner }
+    requires path { IsPathOf cat.now q.now (path p.now) }
+    ensures rows { result ≡ costs.estimate cat.now q.now (path p.now).tree }
+    ensures estimate { IsEstimate result }
 {
-    Split {
-        set,
-        outer,
-        inner,
-        rows,
-        outer_rows: set_rows(cat, q, outer),
-        inner_rows: set_rows(cat, q, inner),
-        outside: all_relations(q).minus(set),
-        asked,
+    if p.rows == 0 || p.rows > MOST_ESTIMATE {
+        return estimate(cat, q, &p.plan);
     }
+    p.rows
 }

@@ -1,22 +1,21 @@
 //! Fronts of paths by set of relations and parameterisation (PostgreSQL, src/backend/optimizer/README, Optimizer Data
 //! Structures).
 
-ghost use Rattle.std.specs.Prelude.{◌≡◌, ◌<◌, Bool, IfErr, IfNone, IfOk, IfSome, IsTrue, List, None, OnOk, [], Some, get_or, length, map};
+ghost use Rattle.std.specs.Prelude.{◌≡◌, ◌<◌, ℕ, Bool, IfErr, IfNone, IfOk, IfSome, IsTrue, List, None, OnOk, [], Some, get_or, length, map};
 ghost use Rattle.std.specs.Option.{option_map};
 ghost use Rattle.pg_base.specs.declared.rel_set.RelSet as sets;
 ghost use Rattle.plan_tree.specs.Views.{path};
 ghost use Rattle.plan_tree.specs.declared.path.Path as costed;
-ghost use Rattle.join_search.specs.Tables.{IsSamePlace, found_at, front_at, is_at, none, params_of, paths_at, with_front};
+ghost use Rattle.join_search.specs.Tables.{IsSamePlace, found_at, front_at, is_at, list_at, params_of, paths_at, paths_of, places_at, with_front};
 
 use pareto::Front;
 use pg_base::{Memory, RelSet};
 use plan_tree::Path;
 use std::alloc::Global;
 
-/// A front where it was put.
+/// A front of a set, by the parameterisation at which it was put.
 #[derive(Drop)]
 pub(crate) struct Placed {
-    set: RelSet,
     param: RelSet,
     front: Front<Path>,
 }
@@ -24,22 +23,24 @@ pub(crate) struct Placed {
 /// A front for each set of relations and parameterisation at which one was put. Contracts see what was last put there.
 #[derive(Drop)]
 pub struct Table {
-    places: Vec<Placed>,
+    /// The fronts of each set, by its number.
+    sets: Vec<Vec<Placed>>,
+    alloc: Global,
 }
 
-/// Whether a front stands at the set and the parameterisation.
-fn stands_at(f: &Placed, s: RelSet, p: RelSet) -> bool
-    ensures { result ≡ is_at s p f.now }
+/// Whether a front stands at the parameterisation.
+fn stands_at(f: &Placed, p: RelSet) -> bool
+    ensures { result ≡ is_at p f.now }
 {
-    f.set.0 == s.0 && f.param.0 == p.0
+    f.param.0 == p.0
 }
 
-/// The front at the set and the parameterisation.
-fn find<'a>(places: &'a [Placed], s: RelSet, p: RelSet) -> Option<&'a Front<Path>>
-    ensures { option_map (λ f. f.now) result ≡ found_at s p places.now }
+/// The front at the parameterisation.
+fn find<'a>(places: &'a [Placed], p: RelSet) -> Option<&'a Front<Path>>
+    ensures { option_map (λ f. f.now) result ≡ found_at p places.now }
 {
     for f in places {
-        if stands_at(f, s, p) {
+        if stands_at(f, p) {
             return Some(&f.front);
         }
     }
@@ -47,37 +48,91 @@ fn find<'a>(places: &'a [Placed], s: RelSet, p: RelSet) -> Option<&'a Front<Path
 }
 
 /// The number of the first front that stands there, from 0.
-fn place_of(places: &[Placed], s: RelSet, p: RelSet) -> Option<usize>
+fn place_of(places: &[Placed], p: RelSet) -> Option<usize>
     ensures within { IfSome result (λ n. n < length places.now) }
-    ensures put { IfSome result (λ n. (f : List costed.Path) → found_at s p (with_front places.now n f) ≡ Some f) }
-    ensures others { IfSome result (λ n. (f : List costed.Path) (t o : sets.RelSet) → ¬ IsSamePlace t o s p → found_at t o (with_front places.now n f) ≡ found_at t o places.now) }
-    ensures none { IfNone result (found_at s p places.now ≡ None) }
+    ensures put { IfSome result (λ n. (f : List costed.Path) → found_at p (with_front places.now n f) ≡ Some f) }
+    ensures others { IfSome result (λ n. (f : List costed.Path) (o : sets.RelSet) → ¬ (o.0 ≡ p.0) → found_at o (with_front places.now n f) ≡ found_at o places.now) }
+    ensures none { IfNone result (found_at p places.now ≡ None) }
 {
     for n in 0..places.len() {
-        if stands_at(&places[n], s, p) {
+        if stands_at(&places[n], p) {
             return Some(n);
         }
     }
     None
 }
 
-/// Puts a front behind the others, at a place where none stands. `Err` hands it back for want of memory, and changes
-/// nothing.
-fn add(places: &mut Vec<Placed>, s: RelSet, p: RelSet, f: Front<Path>) -> Result<(), Front<Path>>
-    requires new { found_at s p places.old.items ≡ None }
-    ensures here { OnOk result (found_at s p places.new.items ≡ Some f) }
-    ensures others { (t o : sets.RelSet) → ¬ IsSamePlace t o s p → found_at t o places.new.items ≡ found_at t o places.old.items }
+/// Puts a front behind the others, where none stands at its parameterisation. `Err` hands it back for want of memory, and
+/// changes nothing.
+fn add(places: &mut Vec<Placed>, p: RelSet, f: Front<Path>) -> Result<(), Front<Path>>
+    requires new { found_at p places.old.items ≡ None }
+    ensures here { OnOk result (found_at p places.new.items ≡ Some f) }
+    ensures others { (o : sets.RelSet) → ¬ (o.0 ≡ p.0) → found_at o places.new.items ≡ found_at o places.old.items }
     ensures err { IfErr result (λ back. (back ≡ f) × (places.new.items ≡ places.old.items)) }
 {
-    let placed = Placed {
-        set: s,
-        param: p,
-        front: f,
-    };
+    let placed = Placed { param: p, front: f };
     match places.push(placed) {
         Ok(()) => Ok(()),
         Err(failed) => Err(failed.value.front),
     }
+}
+
+/// Puts a front among those of a set, in the place of one that stands at its parameterisation. `Err` hands it back for want
+/// of memory, and changes nothing.
+fn put_in(places: &mut Vec<Placed>, p: RelSet, f: Front<Path>) -> Result<(), Front<Path>>
+    ensures here { OnOk result (found_at p places.new.items ≡ Some f) }
+    ensures others { (o : sets.RelSet) → ¬ (o.0 ≡ p.0) → found_at o places.new.items ≡ found_at o places.old.items }
+    ensures err { IfErr result (λ back. (back ≡ f) × (places.new.items ≡ places.old.items)) }
+{
+    match place_of(places, p) {
+        Some(n) => {
+            let place = &mut places[n];
+            place.front = f;
+            Ok(())
+        }
+        None => add(places, p, f),
+    }
+}
+
+/// Makes room for the fronts of a set. The error means want of memory.
+fn grow(alloc: Global, sets: &mut Vec<Vec<Placed>>, set: u16) -> Result<(), Memory>
+    ensures room { OnOk result (set < length sets.new.items) }
+    ensures same { (n : ℕ) → list_at sets.new.items n ≡ list_at sets.old.items n }
+{
+    for _n in sets.len()..set as usize + 1 {
+        sets.push(Vec::new(alloc))?;
+    }
+    Ok(())
+}
+
+/// Whether a front has no path.
+fn has_no_path(f: &Placed) -> bool
+    ensures { IsTrue result → f.now.front ≡ [] }
+{
+    f.front.items().is_empty()
+}
+
+/// Whether no front has a path.
+fn are_empty(places: &[Placed]) -> bool
+    ensures { IsTrue result → (p : sets.RelSet) → paths_of (found_at p places.now) ≡ [] }
+{
+    for f in places {
+        if !has_no_path(f) {
+            return false;
+        }
+    }
+    true
+}
+
+/// The parameterisations of some fronts of a set. The error means want of memory.
+fn params_in(alloc: Global, places: &[Placed]) -> Result<Vec<RelSet>, Memory>
+    ensures { IfOk result (λ v. v.items ≡ params_of places.now) }
+{
+    let mut params = Vec::new(alloc);
+    for f in places {
+        params.push(f.param)?;
+    }
+    Ok(params)
 }
 
 impl Table {
@@ -86,7 +141,18 @@ impl Table {
         ensures { (s p : sets.RelSet) → front_at result s p ≡ None }
     {
         Table {
-            places: Vec::new(alloc),
+            sets: Vec::new(alloc),
+            alloc,
+        }
+    }
+
+    /// The fronts of a set, lent.
+    fn places(&self, s: RelSet) -> &[Placed]
+        ensures { result.now ≡ places_at self.now s }
+    {
+        match self.sets.get(s.0 as usize) {
+            Some(places) => places.as_slice(),
+            None => &[],
         }
     }
 
@@ -94,7 +160,7 @@ impl Table {
     pub fn front(&self, s: RelSet, p: RelSet) -> Option<&Front<Path>>
         ensures { option_map (λ f. f.now) result ≡ front_at self.now s p }
     {
-        find(&self.places, s, p)
+        find(self.places(s), p)
     }
 
     /// Puts a front at a set and a parameterisation, in the place of one that stands there. `Err` hands it back for
@@ -104,13 +170,9 @@ impl Table {
         ensures others { (t o : sets.RelSet) → ¬ IsSamePlace t o s p → front_at self.new t o ≡ front_at self.old t o }
         ensures err { IfErr result (λ back. (back ≡ f) × (front_at self.new s p ≡ front_at self.old s p)) }
     {
-        match place_of(&self.places, s, p) {
-            Some(n) => {
-                let place = &mut self.places[n];
-                place.front = f;
-                Ok(())
-            }
-            None => add(&mut self.places, s, p, f),
+        match grow(self.alloc, &mut self.sets, s.0) {
+            Ok(()) => put_in(&mut self.sets[s.0 as usize], p, f),
+            Err(_) => Err(f),
         }
     }
 
@@ -124,21 +186,17 @@ impl Table {
         }
     }
 
-    /// Whether a set has no paths without a parameterisation.
-    pub(crate) fn has_none(&self, s: RelSet) -> bool
-        ensures { IsTrue result → paths_at self.now s none ≡ [] }
+    /// Whether a set has no paths, whatever they are given.
+    pub(crate) fn is_bare(&self, s: RelSet) -> bool
+        ensures { IsTrue result → (p : sets.RelSet) → paths_at self.now s p ≡ [] }
     {
-        self.paths(s, RelSet(0)).is_empty()
+        are_empty(self.places(s))
     }
 
     /// The parameterisations at which the set has a front. The error means want of memory.
     pub(crate) fn params(&self, alloc: Global, s: RelSet) -> Result<Vec<RelSet>, Memory>
-        ensures { IfOk result (λ v. v.items ≡ params_of s self.now.places.items) }
+        ensures { IfOk result (λ v. v.items ≡ params_of (places_at self.now s)) }
     {
-        self.places
-            .iter()
-            .filter(|f| f.set.0 == s.0)
-            .map(|f| f.param)
-            .collect(alloc)
+        params_in(alloc, self.places(s))
     }
 }

@@ -101,22 +101,23 @@ pub fn order_asked(alloc: Global, q: &Prepared) -> Result<Keys, Memory>
 }
 
 /// The part of the keys of a path of a set that can still be of use: classes that have a member outside of the set, so that
-/// they may still join, or the order keys. The error means want of memory.
+/// they may still join, or the order keys, which are lent. The error means want of memory.
 pub(crate) fn useful(
     alloc: Global,
     q: &Prepared,
     asked: Asked,
+    order: &Keys,
     outside: RelSet,
     list: &Keys,
 ) -> Result<Keys, Memory>
-    requires { All (λ n. n < length q.now.classes.classes) list.now }
+    requires order { order.now ≡ keys.order_keys q.now.classes q.now.order }
+    requires classes { All (λ n. n < length q.now.classes.classes) list.now }
     ensures { IfOk result (λ part. (s : Set) → IsSameSet (has outside.0) (uses.outside q.now s) → IsPartOfUse q.now asked s list.now part) }
 {
     if asked.every_key {
         return list.copy(alloc);
     }
-    let order = order_asked(alloc, q)?;
     let free = open_classes(q, outside, list.items());
-    let used = used_classes(free, list, &order);
+    let used = used_classes(free, list, order);
     first_classes(alloc, list, used)
 }

@@ -9,6 +9,6 @@ use Rattle.join_search.proofs.by_sets.front_among.Given as goal
 abbrev pub invariant-loop-made : goal.invariant-loop-made
 invariant-loop-made l = record {
   some : All (Contains (map path l.fn.paths.items)) (map path l.kept);
-  enough : All (λ x. HasSufficient l.cat l.q l.asked (map path l.kept) (path x).tree) l.yielded;
+  enough : All (λ x. HasSufficient l.at.cat.now l.at.q.now l.at.asked (map path l.kept) (path x).tree) l.yielded;
   whole : l.fn.paths.items ≡ l.yielded ++ into_iter_items l.made-iterator;
 }

@@ -11,6 +11,6 @@ use Rattle.join_search.proofs.by_sets.joins_of.Given as goal
 -- the joins of the parts below a number with the rest were offered
 abbrev pub invariant-loop-part : goal.invariant-loop-part
 invariant-loop-part l = record {
-  joins : All (IsJoinPath l.cat l.q (paths_at l.table) l.set none) (map path l.kept);
-  served : (a b : RelSet) → a.0 < l.part → IsDivided l.set a b → AreJoinsServed l.cat l.q l.asked (paths_at l.table) (map path l.kept) a b;
+  joins : All (IsJoinPath l.at.cat.now l.at.q.now (paths_at l.at.table.now) l.at.set none) (map path l.kept);
+  served : (a b : RelSet) → a.0 < l.part → IsDivided l.at.set a b → AreJoinsServed l.at.cat.now l.at.q.now l.at.asked (paths_at l.at.table.now) (map path l.kept) a b;
 }

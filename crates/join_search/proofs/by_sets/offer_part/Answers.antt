@@ -1,49 +1,55 @@
-use Rattle.std.proofs.Common.{◌∙◌, map, sym, subst, subst₂, true≢false}
-use Rattle.std.specs.Prelude.{All}
+use Rattle.std.proofs.Common.{◌∙◌, map, sym, subst, true≢false}
+use Rattle.std.proofs.lemmas.Result.{on_ok_weaker}
 use Rattle.plan_tree.specs.Views.{path}
-use Rattle.pg_base.specs.declared.rel_set.RelSet.{RelSet}
-use Rattle.join_search.specs.Joins.{IsJoinPath}
-use Rattle.join_search.specs.declared.useful.Asked.{Asked}
-use Rattle.join_search.specs.Offers.{AreJoinsServed, TakesJoins}
+use Rattle.join_search.specs.Offers.{AreTargetServed}
 use Rattle.join_search.specs.Tables.{none, paths_at}
+use Rattle.join_search.proofs.ItemLemmas.{empty-lent}
 use Rattle.join_search.proofs.OfferLemmas.{takes-none}
-use Rattle.join_search.proofs.SearchLemmas.{split-none}
+use Rattle.join_search.proofs.SearchLemmas.{split-bare, split-none}
 use Rattle.join_search.proofs.SetLemmas.{divided, inner-is, outer-within}
 use Rattle.join_search.proofs.TableLemmas.{same-number}
 use Rattle.join_search.proofs.by_sets.offer_part.Goals as goal
 
-pub divide-j-requires-clause-divided : goal.divide-j-requires-clause-divided
-divide-j-requires-clause-divided c = divided c.args.set c.args.part c.minus.result (c.within.ensures.0 c.if-within.true) c.minus.ensures c.requires.some c.requires.less
+pub returns-then-not-within-clause-takes : goal.returns-then-not-within-clause-takes
+returns-then-not-within-clause-takes c =
+    let t = c.args.at.now in
+    takes-none t.cat.now t.q.now (paths_at t.table.now) t.set (map path c.args.front.now) c.requires.joins
 
-pub offer_split-requires-clause-joins : goal.offer_split-requires-clause-joins
-offer_split-requires-clause-joins c =
-    subst (λ (s : RelSet). All (IsJoinPath c.args.cat.now c.args.q.now (paths_at c.args.table.now) s none) (map path c.args.front.now)) (sym c.divide-j.ensures.set) c.requires.joins
+pub returns-then-not-within-clause-served : goal.returns-then-not-within-clause-served
+returns-then-not-within-clause-served c =
+    λ b d. absurd (true≢false (sym (c.within.ensures.1 (outer-within c.args.at.now.set c.args.part b d)) ∙ c.if-not-within.true))
 
-pub returns-in_err-offer_split-clause-takes : goal.returns-in_err-offer_split-clause-takes
-returns-in_err-offer_split-clause-takes c =
-    subst (λ (s : RelSet). TakesJoins c.args.cat.now c.args.q.now (paths_at c.args.table.now) s (map path c.args.front.now) (map path c.offer_split.new.front)) c.divide-j.ensures.set c.offer_split.ensures.takes
+pub returns-then-is_empty-clause-takes : goal.returns-then-is_empty-clause-takes
+returns-then-is_empty-clause-takes c =
+    let t = c.args.at.now in
+    takes-none t.cat.now t.q.now (paths_at t.table.now) t.set (map path c.args.front.now) c.requires.joins
 
-pub returns-in_ok-offer_split-clause-takes : goal.returns-in_ok-offer_split-clause-takes
-returns-in_ok-offer_split-clause-takes c =
-    subst (λ (s : RelSet). TakesJoins c.args.cat.now c.args.q.now (paths_at c.args.table.now) s (map path c.args.front.now) (map path c.offer_split.new.front)) c.divide-j.ensures.set c.offer_split.ensures.takes
+pub returns-then-is_empty-clause-served : goal.returns-then-is_empty-clause-served
+returns-then-is_empty-clause-served c =
+    let t = c.args.at.now in
+    let fronts = paths_at t.table.now in
+    λ b d. split-none t.cat.now t.q.now t.asked fronts (map path c.args.front.now) c.args.part b
+    (empty-lent c.paths-outers.result.now (fronts c.args.part none) c.paths-outers.ensures (sym c.is_empty.ensures ∙ c.if-is_empty.true))
 
-pub returns-in_ok-offer_split-clause-served : goal.returns-in_ok-offer_split-clause-served
-returns-in_ok-offer_split-clause-served c =
-    λ b d. subst (λ (a : Asked). AreJoinsServed c.args.cat.now c.args.q.now a (paths_at c.args.table.now) (map path c.offer_split.new.front) c.args.part b) c.divide-j.ensures.asked
-    (subst₂ (λ (x y : RelSet). AreJoinsServed c.args.cat.now c.args.q.now c.divide-j.result.asked (paths_at c.args.table.now) (map path c.offer_split.new.front) x y) c.divide-j.ensures.outer
-    (c.divide-j.ensures.inner ∙ sym (same-number b c.minus.result (inner-is c.args.set c.args.part b c.minus.result d c.minus.ensures))) c.in_ok-offer_split.ensures.served)
+pub returns-then-is_bare-clause-takes : goal.returns-then-is_bare-clause-takes
+returns-then-is_bare-clause-takes c =
+    let t = c.args.at.now in
+    takes-none t.cat.now t.q.now (paths_at t.table.now) t.set (map path c.args.front.now) c.requires.joins
 
-pub returns-else-within-clause-takes : goal.returns-else-within-clause-takes
-returns-else-within-clause-takes c = takes-none c.args.cat.now c.args.q.now (paths_at c.args.table.now) c.args.set (map path c.args.front.now) c.requires.joins
+pub returns-then-is_bare-clause-served : goal.returns-then-is_bare-clause-served
+returns-then-is_bare-clause-served c =
+    let t = c.args.at.now in
+    let fronts = paths_at t.table.now in
+    let rest = c.minus-rest.result in
+    λ b d. subst (AreTargetServed t (map path c.args.front.now) c.args.part) (sym (same-number b rest (inner-is t.set c.args.part b rest d c.minus-rest.ensures)))
+    (split-bare t.cat.now t.q.now t.asked fronts (map path c.args.front.now) c.args.part rest (c.is_bare.ensures c.if-is_bare.true))
 
-pub returns-else-within-clause-served : goal.returns-else-within-clause-served
-returns-else-within-clause-served c =
-    λ b d. absurd (true≢false (sym (c.within.ensures.1 (outer-within c.args.set c.args.part b d)) ∙ c.if-within.false))
+pub offer_sides-requires-clause-divided : goal.offer_sides-requires-clause-divided
+offer_sides-requires-clause-divided c = divided c.args.at.now.set c.args.part c.minus-rest.result (c.within.ensures.0 c.if-not-within.false) c.minus-rest.ensures c.requires.some c.requires.less
 
-pub returns-then-has_none-clause-takes : goal.returns-then-has_none-clause-takes
-returns-then-has_none-clause-takes c = takes-none c.args.cat.now c.args.q.now (paths_at c.args.table.now) c.args.set (map path c.args.front.now) c.requires.joins
-
-pub returns-then-has_none-clause-served : goal.returns-then-has_none-clause-served
-returns-then-has_none-clause-served c =
-    let fronts = paths_at c.args.table.now in
-    λ b d. split-none c.args.cat.now c.args.q.now c.args.asked fronts (map path c.args.front.now) c.args.part b (c.has_none.ensures c.if-has_none.true)
+pub returns-clause-served : goal.returns-clause-served
+returns-clause-served c =
+    let t = c.args.at.now in
+    let rest = c.minus-rest.result in
+    on_ok_weaker c.offer_sides.result
+    (λ h b d. subst (AreTargetServed t (map path c.offer_sides.new.front) c.args.part) (sym (same-number b rest (inner-is t.set c.args.part b rest d c.minus-rest.ensures))) h) c.offer_sides.ensures.served

@@ -8,15 +8,16 @@ use Rattle.join_search.proofs.by_sets.offer_split.Goals as goal
 
 pub returns-clause-takes : goal.returns-clause-takes
 returns-clause-takes c =
-    takes-then c.args.cat.now c.args.q.now (paths_at c.args.table.now) c.args.j.set (map path c.args.front.now) (map path c.offer_nests.new.front) (map path c.offer_merges.new.front) c.offer_nests.ensures.takes c.offer_merges.ensures.takes
+    let j = c.args.j.now in
+    takes-then j.cat.now j.q.now (paths_at j.table.now) j.set (map path c.args.front.now) (map path c.offer_nests.new.front) (map path c.offer_merges.new.front) c.offer_nests.ensures.takes c.offer_merges.ensures.takes
 
 pub returns-clause-served : goal.returns-clause-served
 returns-clause-served c =
-    let j = c.args.j in
-    let fronts = paths_at c.args.table.now in
+    let j = c.args.j.now in
+    let fronts = paths_at j.table.now in
     on_ok_weaker c.offer_merges.result
     (λ merges. record {
-      nests = λ p. nests-later c.args.cat.now c.args.q.now c.args.j.asked (map path c.offer_nests.new.front) (map path c.offer_merges.new.front) (fronts j.outer none) (fronts j.inner p) c.offer_merges.ensures.takes.still (c.in_ok-offer_nests.ensures.served p);
+      nests = λ p. nests-later j.cat.now j.q.now j.asked (map path c.offer_nests.new.front) (map path c.offer_merges.new.front) (fronts j.outer none) (fronts j.inner p) c.offer_merges.ensures.takes.still (c.in_ok-offer_nests.ensures.served p);
       merges = merges;
     })
     c.offer_merges.ensures.served

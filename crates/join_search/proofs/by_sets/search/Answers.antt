@@ -1,20 +1,32 @@
 use Rattle.std.proofs.Common.{◌≡◌, ◌^◌, ◌∙◌, ap, length, arith}
+use Rattle.std.proofs.lemmas.Result.{IfOk-weaker}
 use Rattle.catalog.specs.Range.{Range}
 use Rattle.sql_query.specs.Queries.{width}
-use Rattle.join_search.proofs.SearchLemmas.{done-covered, done-first}
+use Rattle.join_search.proofs.SearchLemmas.{done-covered}
+use Rattle.join_search.proofs.SetLemmas.{sixteen}
 use Rattle.join_search.proofs.by_sets.search.Goals as goal
 
-pub loop-n-init : goal.loop-n-init
-loop-n-init c = done-first c.args.cat.now c.args.q.now c.args.asked c.args.base c.requires.base
+pub sets_below-requires-clause-few : goal.sets_below-requires-clause-few
+sets_below-requires-clause-few c =
+    let relations = c.items.ensures ∙ c.range_of.ensures in
+    let sets : c.sets_of.result ≡ 2 ^ width c.args.q.now = c.sets_of.ensures ∙ ap (λ (r : Range). 2 ^ length r) relations in
+    omega (arith, sets, sixteen (width c.args.q.now) c.requires.query.few)
 
-pub loop-n-preserved : goal.loop-n-preserved
-loop-n-preserved c = c.in_ok-table.ensures c.args.base c.loop-n.invariant
+pub returns-clause-handed : goal.returns-clause-handed
+returns-clause-handed c = IfOk-weaker c.sets_below.result _ _ (λ t h. h.2.handed) c.sets_below.ensures
 
-pub returns : goal.returns
-returns c =
-    let done = c.loop-n.invariant in
+pub returns-clause-placed : goal.returns-clause-placed
+returns-clause-placed c = IfOk-weaker c.sets_below.result _ _ (λ t h. h.2.placed) c.sets_below.ensures
+
+pub returns-clause-kept : goal.returns-clause-kept
+returns-clause-kept c = IfOk-weaker c.sets_below.result _ _ (λ t h. h.2.kept) c.sets_below.ensures
+
+pub returns-clause-undominated : goal.returns-clause-undominated
+returns-clause-undominated c = IfOk-weaker c.sets_below.result _ _ (λ t h. h.2.undominated) c.sets_below.ensures
+
+pub returns-clause-covered : goal.returns-clause-covered
+returns-clause-covered c =
     let q = c.args.q.now in
     let relations = c.items.ensures ∙ c.range_of.ensures in
-    let sets : c.sets_of-n-end.result ≡ 2 ^ width q = c.sets_of-n-end.ensures ∙ ap (λ (r : Range). 2 ^ length r) relations in
-    let past = c.loop-n-test.false in
-    record { handed = done.handed; placed = done.placed; covered = done-covered c.args.cat.now q c.args.asked c.args.base c.loop-n.table c.loop-n.n done (omega (arith, sets, past)); kept = done.kept; undominated = done.undominated }
+    let sets : c.sets_of.result ≡ 2 ^ width q = c.sets_of.ensures ∙ ap (λ (r : Range). 2 ^ length r) relations in
+    IfOk-weaker c.sets_below.result _ _ (λ t h. let past = h.1 in done-covered c.args.cat.now q c.args.asked c.args.base t h.0 h.2 (omega (arith, sets, past))) c.sets_below.ensures

@@ -1,23 +1,13 @@
-use Rattle.std.proofs.Common.{ap, map, sym, subst}
-use Rattle.std.specs.Prelude.{All}
-use Rattle.std.proofs.lemmas.List.Elements.{All-nil}
-use Rattle.std.proofs.lemmas.Result.{IfOk-weaker}
-use Rattle.plan_tree.specs.Views.{path}
-use Rattle.join_search.specs.Joins.{IsJoinPath, IsPathAt}
-use Rattle.join_search.specs.Tables.{none, paths_at}
-use Rattle.join_search.proofs.FrontingLemmas.{contained}
-use Rattle.join_search.proofs.OfferLemmas.{joins-there}
+use Rattle.join_search.proofs.FrontingLemmas.{outside-is}
 use Rattle.join_search.proofs.likely.joins_with.Goals as goal
 
-pub offer_side-requires-clause-joins : goal.offer_side-requires-clause-joins
-offer_side-requires-clause-joins c =
-    let P = IsJoinPath c.args.cat.now c.args.q.now (paths_at c.args.table.now) c.args.set none in
-    subst (All P) (ap (map path) (sym c.new-kept.ensures)) (All-nil P)
-
-pub front_of-requires-clause-paths : goal.front_of-requires-clause-paths
-front_of-requires-clause-paths c = joins-there c.args.cat.now c.args.q.now (paths_at c.args.table.now) c.args.set (map path c.offer_side-2.new.front) c.offer_side-2.ensures
-
-pub returns : goal.returns
-returns c =
-    let at = joins-there c.args.cat.now c.args.q.now (paths_at c.args.table.now) c.args.set (map path c.offer_side-2.new.front) c.offer_side-2.ensures in
-    IfOk-weaker c.front_of.result _ _ (λ f some. contained (map path c.offer_side-2.new.front) (map path f) (IsPathAt c.args.cat.now c.args.q.now c.args.set none) some at) c.front_of.ensures.some
+pub joins_either-requires : goal.joins_either-requires
+joins_either-requires c = record {
+  at = record {
+    query = c.requires.task.query;
+    order = c.requires.task.order;
+    placed = c.requires.placed;
+    rows = c.set_rows-rows.ensures.rows;
+    outside = outside-is c.args.task.now.q.now c.args.set c.all_relations-all.result c.minus-outside.result c.all_relations-all.ensures c.minus-outside.ensures;
+  };
+}

@@ -9,13 +9,13 @@ use Rattle.join_search.proofs.merges.merge_work.Goals as goal
 
 pub returns : goal.returns
 returns c =
-    let a = c.args.j.outer in
-    let b = c.args.j.inner in
+    let a = c.args.j.now.outer in
+    let b = c.args.j.now.inner in
     let list = c.items-list.ensures.list in
     let same = c.classes_of-classes.ensures in
     let range = c.range_of.ensures in
     record {
-      pairs = c.pairs-rows.ensures.rows ∙ (λ z. pairs c.args.cat.now (range z) (same z) (has a.0) (has b.0) (list z));
+      pairs = c.pairs-rows.ensures.rows ∙ (λ z. pairs c.args.j.now.cat.now (range z) (same z) (has a.0) (has b.0) (list z));
       estimate = c.pairs-rows.ensures.estimate;
       ops = c.operators_of-ops.ensures
           ∙ ap (λ n. min n (2 ^ 64 - 1)) (merge_operators_are c.classes_of-classes.result.now.clauses a b (has a.0) (has b.0) (class_numbers c.items-list.result.now) c.join_clauses-tested.result c.empty-none.result c.key_pairs-equal.result

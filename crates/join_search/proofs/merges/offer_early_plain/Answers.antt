@@ -10,34 +10,34 @@ use Rattle.join_search.proofs.merges.offer_early_plain.Goals as goal
 
 pub loop-inner-init : goal.loop-inner-init
 loop-inner-init c = record {
-  takes = takes-none c.args.cat.now c.args.q.now (paths_at c.args.table.now) c.args.j.set (map path c.args.front.now) c.requires.joins;
+  takes = takes-none c.args.j.now.cat.now c.args.j.now.q.now (paths_at c.args.j.now.table.now) c.args.j.now.set (map path c.args.front.now) c.requires.joins;
   served = λ k d lt. absurd (omega (arith, lt));
 }
 
 pub offer_if_early-requires-clause-inner : goal.offer_if_early-requires-clause-inner
-offer_if_early-requires-clause-inner c = item-there c.paths-inner-items.result.now (paths_at c.args.table.now c.args.j.inner none) c.loop-inner.inner-index c.inner-item.result c.paths-inner-items.ensures c.loop-inner-test.true c.inner-item.is
+offer_if_early-requires-clause-inner c = item-there c.args.inners.now (paths_at c.args.j.now.table.now c.args.j.now.inner none) c.loop-inner.inner-index c.inner-item.result c.requires.inners c.loop-inner-test.true c.inner-item.is
 
 pub loop-inner-preserved : goal.loop-inner-preserved
 loop-inner-preserved c =
-    let contents = c.args.cat.now in
-    let q = c.args.q.now in
+    let contents = c.args.j.now.cat.now in
+    let q = c.args.j.now.q.now in
     let by' = c.args.by.now in
-    let outers = paths_at c.args.table.now c.args.j.outer none in
+    let outers = paths_at c.args.j.now.table.now c.args.j.now.outer none in
     let before = map path c.loop-inner.front in
     let after = map path c.offer_if_early.new.front in
     let taken = c.offer_if_early.ensures.takes in
     record {
-      takes = takes-then contents q (paths_at c.args.table.now) c.args.j.set (map path c.args.front.now) before after c.loop-inner.invariant.takes taken;
-      served = items-more (λ i. covers i.keys by' ≡ true → i.startup < c.args.startup → AreOutersServed contents q c.args.j.asked before outers by' i.tree) (λ i. covers i.keys by' ≡ true → i.startup < c.args.startup → AreOutersServed contents q c.args.j.asked after outers by' i.tree)
-          (λ i h e lt. outers-later contents q c.args.j.asked before after outers by' i.tree taken.still (h e lt)) c.paths-inner-items.result.now c.loop-inner.inner-index c.inner-item.result c.loop-inner-test.true c.inner-item.is c.loop-inner.invariant.served c.in_ok-offer_if_early.ensures.served;
+      takes = takes-then contents q (paths_at c.args.j.now.table.now) c.args.j.now.set (map path c.args.front.now) before after c.loop-inner.invariant.takes taken;
+      served = items-more (λ i. covers i.keys by' ≡ true → i.startup < c.args.startup → AreOutersServed contents q c.args.j.now.asked before outers by' i.tree) (λ i. covers i.keys by' ≡ true → i.startup < c.args.startup → AreOutersServed contents q c.args.j.now.asked after outers by' i.tree)
+          (λ i h e lt. outers-later contents q c.args.j.now.asked before after outers by' i.tree taken.still (h e lt)) c.args.inners.now c.loop-inner.inner-index c.inner-item.result c.loop-inner-test.true c.inner-item.is c.loop-inner.invariant.served c.in_ok-offer_if_early.ensures.served;
     }
 
 pub returns-in_err-offer_if_early-clause-takes : goal.returns-in_err-offer_if_early-clause-takes
 returns-in_err-offer_if_early-clause-takes c =
-    takes-then c.args.cat.now c.args.q.now (paths_at c.args.table.now) c.args.j.set (map path c.args.front.now) (map path c.loop-inner.front) (map path c.offer_if_early.new.front) c.loop-inner.invariant.takes c.offer_if_early.ensures.takes
+    takes-then c.args.j.now.cat.now c.args.j.now.q.now (paths_at c.args.j.now.table.now) c.args.j.now.set (map path c.args.front.now) (map path c.loop-inner.front) (map path c.offer_if_early.new.front) c.loop-inner.invariant.takes c.offer_if_early.ensures.takes
 
 pub returns-clause-served : goal.returns-clause-served
 returns-clause-served c =
     let by' = c.args.by.now in
-    items-all (λ i. covers i.keys by' ≡ true → i.startup < c.args.startup → AreOutersServed c.args.cat.now c.args.q.now c.args.j.asked (map path c.loop-inner.front) (paths_at c.args.table.now c.args.j.outer none) by' i.tree) c.paths-inner-items.result.now c.loop-inner.inner-index (paths_at c.args.table.now c.args.j.inner none)
-    c.paths-inner-items.ensures c.loop-inner-test.false c.loop-inner.invariant.served
+    items-all (λ i. covers i.keys by' ≡ true → i.startup < c.args.startup → AreOutersServed c.args.j.now.cat.now c.args.j.now.q.now c.args.j.now.asked (map path c.loop-inner.front) (paths_at c.args.j.now.table.now c.args.j.now.outer none) by' i.tree) c.args.inners.now c.loop-inner.inner-index (paths_at c.args.j.now.table.now c.args.j.now.inner none)
+    c.requires.inners c.loop-inner-test.false c.loop-inner.invariant.served

@@ -12,6 +12,6 @@ use Rattle.join_search.proofs.merges.offer_plain.Given as goal
 -- the merges of the outer paths so far, where their keys begin with the list, were offered
 abbrev pub invariant-loop-outer : goal.invariant-loop-outer
 invariant-loop-outer l = record {
-  takes : TakesJoins l.cat l.q (paths_at l.table) l.j.set (map path l.fn.front) (map path l.front);
-  served : All (λ o. covers (path o).keys l.by ≡ true → IsServed l.cat l.q l.j.asked (map path l.front) (merge l.by (path o).tree (side_plan l.by l.inner))) (take l.outer-index l.outer-items);
+  takes : TakesJoins l.j.cat.now l.j.q.now (paths_at l.j.table.now) l.j.set (map path l.fn.front) (map path l.front);
+  served : All (λ o. covers (path o).keys l.by ≡ true → IsServed l.j.cat.now l.j.q.now l.j.asked (map path l.front) (merge l.by (path o).tree (side_plan l.by l.inner))) (take l.outer-index l.outers);
 }

@@ -8,7 +8,7 @@ use Rattle.join_search.proofs.ItemLemmas.{there-at}
 use Rattle.join_search.proofs.merges.offer_sort_if_early.Goals as goal
 
 pub side_cost-cost-requires-clause-at : goal.side_cost-cost-requires-clause-at
-side_cost-cost-requires-clause-at c = there-at c.args.cat.now c.args.q.now (paths_at c.args.table.now) c.args.j.inner none (path c.args.inner.now) c.requires.placed c.requires.inner
+side_cost-cost-requires-clause-at c = there-at c.args.j.now.cat.now c.args.j.now.q.now (paths_at c.args.j.now.table.now) c.args.j.now.inner none (path c.args.inner.now) c.requires.over.placed c.requires.inner
 
 pub returns-then-cost-startup-clause-served : goal.returns-then-cost-startup-clause-served
 returns-then-cost-startup-clause-served c = λ lt.

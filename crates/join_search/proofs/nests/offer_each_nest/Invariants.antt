@@ -10,6 +10,6 @@ use Rattle.join_search.proofs.nests.offer_each_nest.Given as goal
 -- the nested loops of the outer paths so far were offered
 abbrev pub invariant-loop-outer : goal.invariant-loop-outer
 invariant-loop-outer l = record {
-  takes : TakesJoins l.cat l.q (paths_at l.table) l.j.set (map path l.fn.front) (map path l.front);
-  served : All (λ o. IsServed l.cat l.q l.j.asked (map path l.front) (nest (path o).tree (path l.inner).tree)) (take l.outer-index l.outer-items);
+  takes : TakesJoins l.j.cat.now l.j.q.now (paths_at l.j.table.now) l.j.set (map path l.fn.front) (map path l.front);
+  served : All (λ o. IsServed l.j.cat.now l.j.q.now l.j.asked (map path l.front) (nest (path o).tree (path l.inner).tree)) (take l.outer-index l.outers);
 }

@@ -8,6 +8,6 @@ use Rattle.join_search.proofs.nests.offer_nests.Given as goal
 -- the nested loops with the inner paths of the parameterisations so far were offered
 abbrev pub invariant-loop-p : goal.invariant-loop-p
 invariant-loop-p l = record {
-  takes : TakesJoins l.cat l.q (paths_at l.table) l.j.set (map path l.fn.front) (map path l.front);
-  served : All (λ p. AreNestsServed l.cat l.q l.j.asked (map path l.front) (paths_at l.table l.j.outer none) (paths_at l.table l.j.inner p)) (take l.p-index l.p-items);
+  takes : TakesJoins l.j.cat.now l.j.q.now (paths_at l.j.table.now) l.j.set (map path l.fn.front) (map path l.front);
+  served : All (λ p. AreNestsServed l.j.cat.now l.j.q.now l.j.asked (map path l.front) (paths_at l.j.table.now l.j.outer none) (paths_at l.j.table.now l.j.inner p)) (take l.p-index l.p-items);
 }

@@ -9,8 +9,8 @@ pub offer_nests_given-requires-clause-given : goal.offer_nests_given-requires-cl
 offer_nests_given-requires-clause-given c = c.within.ensures.0 c.if-within.true
 
 pub returns-else-within-clause-takes : goal.returns-else-within-clause-takes
-returns-else-within-clause-takes c = takes-none c.args.cat.now c.args.q.now (paths_at c.args.table.now) c.args.j.set (map path c.args.front.now) c.requires.joins
+returns-else-within-clause-takes c = takes-none c.args.j.now.cat.now c.args.j.now.q.now (paths_at c.args.j.now.table.now) c.args.j.now.set (map path c.args.front.now) c.requires.joins
 
 pub returns-else-within-clause-served : goal.returns-else-within-clause-served
 returns-else-within-clause-served c =
-    nests-apart c.args.cat.now c.args.q.now c.args.j.asked (paths_at c.args.table.now) (map path c.args.front.now) c.args.j.outer c.args.j.inner c.args.p c.requires.placed (λ within. true≢false (sym (c.within.ensures.1 within) ∙ c.if-within.false))
+    nests-apart c.args.j.now.cat.now c.args.j.now.q.now c.args.j.now.asked (paths_at c.args.j.now.table.now) (map path c.args.front.now) c.args.j.now.outer c.args.j.now.inner c.args.p c.requires.over.placed (λ within. true≢false (sym (c.within.ensures.1 within) ∙ c.if-within.false))

@@ -4,15 +4,11 @@ use Rattle.join_search.proofs.ItemLemmas.{there-at, there-kept}
 use Rattle.join_search.proofs.NestLemmas.{given-inner}
 use Rattle.join_search.proofs.nests.offer_nests_of.Goals as goal
 
-pub nest_work-work-requires-clause-inner : goal.nest_work-work-requires-clause-inner
-nest_work-work-requires-clause-inner c =
-    let x = path c.args.inner.now in
-    given-inner c.args.cat.now c.args.q.now c.args.j c.args.p x (there-at c.args.cat.now c.args.q.now (paths_at c.args.table.now) c.args.j.inner c.args.p x c.requires.placed c.requires.inner) c.requires.given
-
 pub offer_each_nest-requires-clause-inner : goal.offer_each_nest-requires-clause-inner
 offer_each_nest-requires-clause-inner c =
+    let j = c.args.j.now in
     let x = path c.args.inner.now in
-    given-inner c.args.cat.now c.args.q.now c.args.j c.args.p x (there-at c.args.cat.now c.args.q.now (paths_at c.args.table.now) c.args.j.inner c.args.p x c.requires.placed c.requires.inner) c.requires.given
+    given-inner j.cat.now j.q.now j c.args.p x (there-at j.cat.now j.q.now (paths_at j.table.now) j.inner c.args.p x c.requires.over.placed c.requires.inner) c.requires.given
 
 pub offer_each_nest-requires-clause-kept : goal.offer_each_nest-requires-clause-kept
-offer_each_nest-requires-clause-kept c = there-kept (paths_at c.args.table.now) c.args.j.inner c.args.p (path c.args.inner.now) c.requires.inner
+offer_each_nest-requires-clause-kept c = there-kept (paths_at c.args.j.now.table.now) c.args.j.now.inner c.args.p (path c.args.inner.now) c.requires.inner

@@ -4,4 +4,4 @@ use Rattle.join_search.specs.Tables.{is_at}
 use Rattle.join_search.proofs.table.find.Given as goal
 
 abbrev pub invariant-loop-f : goal.invariant-loop-f
-invariant-loop-f l = All (λ x. is_at l.s l.p x ≡ false) (take l.f-index l.places)
+invariant-loop-f l = All (λ x. is_at l.p x ≡ false) (take l.f-index l.places)

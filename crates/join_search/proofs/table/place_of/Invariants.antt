@@ -4,4 +4,4 @@ use Rattle.join_search.specs.Tables.{is_at}
 use Rattle.join_search.proofs.table.place_of.Given as goal
 
 abbrev pub invariant-loop-n : goal.invariant-loop-n
-invariant-loop-n l = All (λ x. is_at l.s l.p x ≡ false) (take l.n l.places)
+invariant-loop-n l = All (λ x. is_at l.p x ≡ false) (take l.n l.places)

@@ -1,6 +1,0 @@
-use Rattle.join_search.specs.Search.{IsDone}
-use Rattle.join_search.proofs.by_sets.search.Given as goal
-
--- the sets below a number are done
-abbrev pub invariant-loop-n : goal.invariant-loop-n
-invariant-loop-n l = IsDone l.cat l.q l.asked l.fn.base l.table l.n

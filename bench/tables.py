@@ -7,25 +7,15 @@ PROGRAM is a built pgplan. Tables and queries are those of bench/joins.py: 1,000
 For each query it tells the entries of the certificate, its bytes, the wall time of EXPLAIN (TABLE), of EXPLAIN alone and of CHECK, all
 with the tables' own statements, and the peak memory so far. CHECK has to print `valid`. Nothing is promised of a time.
 """
-import importlib.util
-import pathlib
 import resource
 import subprocess
 import sys
 import time
 
-HERE = pathlib.Path(__file__).resolve().parent
+import joins
 
 
-def joining():
-    """The queries of bench/joins.py, without its run."""
-    text = (HERE / "joins.py").read_text().rpartition("\nmain()")[0]
-    made = importlib.util.module_from_spec(importlib.util.spec_from_loader("joins", loader=None))
-    exec(compile(text, "joins.py", "exec"), made.__dict__)
-    return made
-
-
-def script_of(joins, pairs, count):
+def script_of(pairs, count):
     script = "\n".join(joins.tables(pairs, count)) + "\n"
     for n in range(count):
         script += f"STATISTICS t{n} ROWS 1000 PAGES 10;\n"
@@ -42,11 +32,10 @@ def timed(program, text):
 
 def main():
     program, sizes = sys.argv[1], [int(size) for size in sys.argv[2:]] or [4, 6, 8]
-    joins = joining()
     for shape in ("chain", "star", "clique"):
         for count in sizes:
             pairs = joins.joins(shape, count)
-            script, query = script_of(joins, pairs, count), joins.query(pairs, count)
+            script, query = script_of(pairs, count), joins.query(pairs, count)
             plain, short = timed(program, script + f"EXPLAIN {query};\n")
             out, long = timed(program, script + f"EXPLAIN (TABLE) {query};\n")
             lines = out.split(b"\n")

@@ -209,10 +209,17 @@ def broken_index(rng, table):
         f"CREATE INDEX fresh {on} ({name}); CREATE TABLE fresh (a int4);", f"CREATE UNIQUE INDEX fresh {on} ({name});"])
 
 
-def broken_order(rng, table):
+def known(asked, texts):
+    """Of these statements at fault those whose fault is the same at the judge's stage: no word of a statement that it does not know."""
+    unknown = [word for word, has in [("LIMIT", asked.windows), ("(TABLE)", asked.tables), ("GROUP BY", asked.groups),
+                                      ("ANALYZE", asked.analyzes)] if not has]
+    return [text for text in texts if not any(word in text.upper() for word in unknown)]
+
+
+def broken_order(rng, table, asked):
     """A SELECT whose ORDER BY, or EXPLAIN, is at fault."""
     name = rng.choice(table.columns)[0]
-    return rng.choice([
+    return rng.choice(known(asked, [
         f"SELECT * FROM {table.name} ORDER BY missing;", f"SELECT {name} FROM {table.name} ORDER BY other.{name};", f"SELECT missing FROM {table.name} ORDER BY nothing;",
         f"SELECT * FROM {table.name} ORDER {name};", f"SELECT * FROM {table.name} ORDER BY;", f"SELECT * FROM {table.name} ORDER BY 1;",
         f"SELECT * FROM {table.name} ORDER BY {name} NULLS;", f"SELECT * FROM {table.name} ORDER BY {name} NULLS FIRST DESC;",
@@ -221,7 +228,7 @@ def broken_order(rng, table):
         f"EXPLAIN COPY {table.name} FROM STDIN;", "EXPLAIN;", f"EXPLAIN EXPLAIN SELECT * FROM {table.name};", f"EXPLAIN (TABLE) EXPLAIN SELECT * FROM {table.name};",
         f"EXPLAIN (TABLE) SELECT missing FROM {table.name};", "EXPLAIN (TABLE);", f"EXPLAIN (ANALYZE) SELECT * FROM {table.name};",
         f"EXPLAIN SELECT * FROM {table.name} LIMIT 1;", f"SELECT * FROM {table.name} GROUP BY {name};", f"EXPLAIN CREATE INDEX fresh ON {table.name} ({name});",
-        f"SELECT * FROM {table.name} ORDER BY {table.name}.*;", f"SELECT {name} FROM {table.name} u ORDER BY {table.name}.{name};"])
+        f"SELECT * FROM {table.name} ORDER BY {table.name}.*;", f"SELECT {name} FROM {table.name} u ORDER BY {table.name}.{name};"]))
 
 
 def broken_window(rng, table):
@@ -270,12 +277,12 @@ def broken_statement(rng, tables, asked):
         return broken_advice(rng, table)
     if asked.groups and rng.random() < 0.2:
         return broken_groups(rng, tables)
-    if rng.random() < 0.1:
+    if asked.windows and rng.random() < 0.1:
         return broken_window(rng, table)
     if rng.random() < 0.35:
         return broken_joins(rng, tables)
     if rng.random() < 0.35:
-        return broken_index(rng, table) if rng.random() < 0.7 else broken_order(rng, table)
+        return broken_index(rng, table) if rng.random() < 0.7 else broken_order(rng, table, asked)
     if rng.random() < 0.4:
         return broken_condition(rng, table)
     if rng.random() < 0.3:
@@ -312,20 +319,22 @@ def broken_statement(rng, tables, asked):
         return f"SELECT missing.* FROM {table.name};"
     if kind == 14:
         return "CREATE TABLE " + "n" * 64 + " (a int4);"
-    return rng.choice([
+    return rng.choice(known(asked, [
         f"SELECT * FROM {table.name} x y;", f"SELECT FROM {table.name};", "EXPLAIN;", "CREATE INDEX;", "SELECT * FROM;", "foo;",
         "CREATE TABLE (a int4);", "CREATE TABLE fresh ();", "CREATE TABLE fresh (a int4,);", "CREATE TABLE select (a int4);",
         "ANALYZE missing;", "ANALYZE;", f"ANALYZE {table.name}.{names[0]};", f"ANALYZE {table.name} ({names[0]});", f"EXPLAIN ANALYZE {table.name};",
         f"analyze {table.name}, {table.name};", "'open", "/* open", "1a;", "#;", "COPY t;", f"SELECT *, FROM {table.name};", f"SELECT * FROM {table.name} WHERE;",
-        f"SELECT a b FROM {table.name};", "CREATE TABLE fresh (a int4 NOT);", f"SELECT * FROM {table.name}, {table.name};"])
+        f"SELECT a b FROM {table.name};", "CREATE TABLE fresh (a int4 NOT);", f"SELECT * FROM {table.name}, {table.name};"]))
 
 
-def cut_up(rng, text):
+def cut_up(rng, text, asked):
+    """The text with a few bytes more or less; where the judge knows no calls, with no parenthesis more, which may begin one."""
+    more = " \n\r0a;\\.,-'\"()*/$" if asked.groups else " \n\r0a;\\.,-'\")*/$"
     for _ in range(rng.randint(1, 3)):
         at = rng.randrange(len(text) + 1)
         kind = rng.randrange(3)
         if kind == 0:
-            text = text[:at] + rng.choice(" \n\r0a;\\.,-'\"()*/$") + text[at:]
+            text = text[:at] + rng.choice(more) + text[at:]
         elif kind == 1:
             text = text[:at] + text[at + 1:]
         elif rng.random() < 0.3:
@@ -339,7 +348,7 @@ def broken_script(rng, asked):
         tables = [new_table(rng, [])]
         parts.append(spaced(rng, create(rng, tables[0])) + ";")
     if rng.random() < 0.3:
-        return cut_up(rng, "\n".join(parts))
+        return cut_up(rng, "\n".join(parts), asked)
     parts.append(broken_statement(rng, tables, asked))
     parts.append(spaced(rng, select(rng, tables[0])) + ";")
     return "\n".join(parts)

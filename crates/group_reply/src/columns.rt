@@ -5,7 +5,7 @@ ghost use Rattle.reply.specs.Showing.{HasColumn, cell_of};
 ghost use Rattle.group_reply.specs.Columns.{HasArg, arg_in};
 
 use group_values::Values;
-use heap::Row;
+use heap::{Row, value_in};
 use pg_base::Memory;
 use pg_expr::ColRef;
 use pg_value::Value;
@@ -21,7 +21,7 @@ pub(crate) struct Columns<'a> {
 }
 
 /// The values of columns in rows of all relations. The error means want of memory.
-pub(crate) fn keys_in(alloc: Global, columns: &[ColRef], rows: &[&Row]) -> Result<Values, Memory>
+pub(crate) fn keys_in(alloc: Global, columns: &[ColRef], rows: &[Row]) -> Result<Values, Memory>
     requires { All (HasColumn (map (λ r. r.now) rows.now)) columns.now }
     ensures { IfOk result (λ v. v ≡ map (cell_of (map (λ r. r.now) rows.now)) columns.now) }
 {
@@ -37,7 +37,7 @@ pub(crate) fn keys_in(alloc: Global, columns: &[ColRef], rows: &[&Row]) -> Resul
 pub(crate) fn args_in(
     alloc: Global,
     args: &[Option<ColRef>],
-    rows: &[&Row],
+    rows: &[Row],
 ) -> Result<Values, Memory>
     requires { All (HasArg (map (λ r. r.now) rows.now)) args.now }
     ensures { IfOk result (λ v. v ≡ map (arg_in (map (λ r. r.now) rows.now)) args.now) }
@@ -51,7 +51,7 @@ pub(crate) fn args_in(
 }
 
 /// The value of a call's column, NULL where it has none.
-fn arg_in(alloc: Global, arg: Option<ColRef>, rows: &[&Row]) -> Result<Value, Memory>
+fn arg_in(alloc: Global, arg: Option<ColRef>, rows: &[Row]) -> Result<Value, Memory>
     requires { HasArg (map (λ r. r.now) rows.now) arg }
     ensures { IfOk result (λ v. v ≡ arg_in (map (λ r. r.now) rows.now) arg) }
 {
@@ -62,10 +62,10 @@ fn arg_in(alloc: Global, arg: Option<ColRef>, rows: &[&Row]) -> Result<Value, Me
 }
 
 /// The value of a column.
-fn cell_in(alloc: Global, column: ColRef, rows: &[&Row]) -> Result<Value, Memory>
+fn cell_in(alloc: Global, column: ColRef, rows: &[Row]) -> Result<Value, Memory>
     requires { HasColumn (map (λ r. r.now) rows.now) column }
     ensures { IfOk result (λ v. v ≡ cell_of (map (λ r. r.now) rows.now) column) }
 {
     let row = rows[column.rel.0 as usize];
-    row.value(column.col).copy(alloc)
+    value_in(row, column.col).copy(alloc)
 }

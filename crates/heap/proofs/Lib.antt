@@ -1,3 +1,4 @@
+pub mod AppendedLemmas
 pub mod Fields
 pub mod MarkLemmas
 pub mod MemberLemmas
@@ -6,3 +7,4 @@ pub mod RankLemmas
 pub mod Records
 pub mod Rows
 pub mod RunLemmas
+pub mod StoredLemmas

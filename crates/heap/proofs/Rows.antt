@@ -87,7 +87,7 @@ joined_ok (Ok v) (Ok vs) xs h = (v, vs, refl, refl, cc)
 joined_ok (Ok v) (Err e) xs h = cc
 joined_ok (Err e) b xs h = cc
 
-prepended-none : {A : Type 0} (r : Result (List A) CopyFault) → r ≡ prepended [] r
+pub prepended-none : {A : Type 0} (r : Result (List A) CopyFault) → r ≡ prepended [] r
 prepended-none (Ok xs) = refl
 prepended-none (Err e) = refl
 

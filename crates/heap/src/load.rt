@@ -1,33 +1,40 @@
 //! Rows read from COPY data.
 
-ghost use Rattle.std.specs.Prelude.{◌≡◌, ◌≢◌, ◌+◌, ◌<◌, ◌≤◌, List, length, slice_get, true, Some, Ok, Err, IfOk, IfErr, IfSome, IfNone};
+ghost use Rattle.std.specs.Prelude.{◌≡◌, ◌≢◌, ◌+◌, ◌*◌, ◌<◌, ◌≤◌, List, length, slice_get, true, Some, Ok, Err, IfOk, IfErr, IfSome, IfNone, OnOk};
 ghost use Rattle.std.specs.List.{All};
 ghost use Rattle.csv.specs.Reading.{error_kind, stops_reader};
 ghost use Rattle.csv.specs.Records.{fields_of};
 ghost use Rattle.pg_base.specs.declared.limits.TheConstants.{MOST_COLUMNS, MOST_ROWS};
 ghost use Rattle.pg_value.specs.declared.columns.Column.{Column};
-ghost use Rattle.heap.specs.Loading.{NamesColumnOf, records_of, field, row, rows_from, is_long};
+ghost use Rattle.heap.specs.Loading.{BeginsWith, NamesColumnOf, appended, records_of, field, row, appended_rows, rows_from, is_long};
 ghost use Rattle.heap.specs.Stored.{IsRowOf, IsValueOf};
 
 use crate::fault::CopyFault;
-use crate::store::Row;
 use csv::{ByteRecord, Error as CsvError, ErrorKind, ReaderBuilder};
 use pg_base::{ColNo, MOST_TEXT_BYTES};
 use pg_value::{Column, FieldFault, SqlType, Value, read_value};
 use std::alloc::Global;
 
-/// A row for each record of a block, `room` of them at most, or the first fault.
+/// Puts a row for each record of a block at the end of a flat list, `room` of them at most, and says how many, or tells
+/// the first fault. What stood in the list stays.
 pub(crate) fn read_rows(
     alloc: Global,
     columns: &[Column],
     room: usize,
     block: &[u8],
-) -> Result<Vec<Row>, CopyFault>
+    values: &mut Vec<Value>,
+) -> Result<u32, CopyFault>
     requires room { room ≤ MOST_ROWS }
     requires columns { length columns.now ≤ MOST_COLUMNS }
-    ensures rows { IfOk result (λ rows. rows_from columns.now room 1 (records_of block.now) ≡ Ok rows.items) }
-    ensures few { IfOk result (λ rows. length rows.items ≤ room) }
-    ensures lawful { IfOk result (λ rows. All (IsRowOf columns.now) rows.items) }
+    ensures kept { BeginsWith values.old.items values.new.items }
+    ensures rows { IfOk result (λ n.
+        rows_from columns.now room 1 (records_of block.now) ≡
+        Ok (appended_rows columns.now n values.old.items values.new.items)) }
+    ensures few { IfOk result (λ n. n ≤ room) }
+    ensures count { IfOk result (λ n.
+        length values.new.items ≡ length values.old.items + n * length columns.now) }
+    ensures lawful { IfOk result (λ n.
+        All (IsRowOf columns.now) (appended_rows columns.now n values.old.items values.new.items)) }
     ensures fault { IfErr result (λ e. e ≢ CopyFault.Memory → rows_from columns.now room 1 (records_of block.now) ≡ Err e) }
     ensures field { IfErr result (NamesColumnOf columns.now) }
 {
@@ -35,16 +42,16 @@ pub(crate) fn read_rows(
         .has_headers(false)
         .flexible(true)
         .from_reader(alloc, block);
-    let mut rows = Vec::new(alloc);
+    let mut count = 0;
     for taken in rdr.into_byte_records() {
         let fields = match taken {
             Ok(fields) => fields,
             Err(error) => return Err(out_of_memory(&error)),
         };
-        let row = read_row(alloc, columns, room, rows.len(), &fields)?;
-        rows.push(row)?;
+        read_row(alloc, columns, room, count, &fields, values)?;
+        count += 1;
     }
-    Ok(rows)
+    Ok(count)
 }
 
 /// What stopped a reader: a slice does not fail, so memory ran out.
@@ -58,38 +65,41 @@ fn out_of_memory(error: &CsvError) -> CopyFault
     }
 }
 
-/// The row of the record that `before` others of its block stand before.
+/// Puts the row of the record that `before` others of its block stand before at the end of a flat list.
 fn read_row(
     alloc: Global,
     columns: &[Column],
     room: usize,
-    before: usize,
+    before: u32,
     fields: &ByteRecord,
-) -> Result<Row, CopyFault>
+    values: &mut Vec<Value>,
+) -> Result<(), CopyFault>
     requires before { before ≤ room }
     requires room { room ≤ MOST_ROWS }
     requires columns { length columns.now ≤ MOST_COLUMNS }
-    ensures row { IfOk result (λ r. row columns.now room (before + 1) (fields_of fields.now) ≡ Ok r) }
-    ensures few { IfOk result (λ r. before < room) }
-    ensures lawful { IfOk result (λ r. IsRowOf columns.now r) }
+    ensures kept { BeginsWith values.old.items values.new.items }
+    ensures row { OnOk result (
+        row columns.now room (before + 1) (fields_of fields.now) ≡
+        Ok (appended values.old.items values.new.items)) }
+    ensures few { OnOk result (before < room) }
+    ensures lawful { OnOk result (IsRowOf columns.now (appended values.old.items values.new.items)) }
     ensures fault { IfErr result (λ e. e ≢ CopyFault.Memory → row columns.now room (before + 1) (fields_of fields.now) ≡ Err e) }
     ensures field { IfErr result (NamesColumnOf columns.now) }
 {
-    let rec = before as u32 + 1;
-    if before == room {
+    let rec = before + 1;
+    if before as usize == room {
         return Err(CopyFault::TooMany { rec });
     }
     if fields.len() != columns.len() {
         return Err(CopyFault::Arity { rec });
     }
-    let mut values = Vec::with_capacity(alloc, columns.len())?;
     for col in 0..columns.len() {
         let column = columns[col];
         let text = text_at(fields, col);
         let value = read_field(alloc, rec, ColNo(col as u8), column, text)?;
         values.push(value)?;
     }
-    Ok(Row::from_vec(values))
+    Ok(())
 }
 
 fn text_at(fields: &ByteRecord, col: usize) -> &[u8]

@@ -1,66 +1,51 @@
 //! Rows in order of loading.
 
 ghost use Rattle.std.specs.Prelude.{◌≡◌, ◌≢◌, ◌+◌, ◌^◌, ◌<◌, ◌≤◌, List, [], length, take, slice_get, Some, Ok, Err, IfOk, IfErr, OnErr};
-ghost use Rattle.pg_base.specs.declared.limits.TheConstants.{MOST_ROWS};
+ghost use Rattle.pg_base.specs.declared.limits.TheConstants.{MOST_COLUMNS, MOST_ROWS};
 ghost use Rattle.heap.specs.Loading.{NamesColumnOf, records_of, loaded};
 ghost use Rattle.heap.specs.Stored.{IsLawful, IsRowOf};
 
 use crate::counters::Counters;
 use crate::fault::CopyFault;
 use crate::load::read_rows;
+use crate::runs::part;
 use pg_base::{ColNo, MOST_ROWS, Steps, Tid};
 use pg_value::{Columns, Value};
 use std::alloc::Global;
 use std::marker::{Model, PhantomData};
 
-/// A row: a value for each column, from the left. Contracts see the list.
-#[derive(Debug, Drop)]
-pub struct Row {
-    values: Vec<Value>,
+/// A row, lent: a value for each column, from the left.
+pub type Row<'a> = &'a [Value];
+
+/// The value of a column of a row.
+pub fn value_in<'a>(row: Row<'a>, c: ColNo) -> &'a Value
+    requires { c.0 < length row.now }
+    ensures { slice_get row.now c.0 ≡ Some result.now }
+{
+    &row[c.0 as usize]
 }
 
-impl Model for Row {
-    ghost use Rattle.heap.specs.Stored.{Values};
-
-    ghost Value = { Values };
-
-    ghost view = { λ r. r.values.items };
-}
-
-impl Row {
-    /// The row of these values.
-    pub(crate) fn from_vec(values: Vec<Value>) -> Row
-        ensures { result ≡ values.items }
-    {
-        Row { values }
-    }
-
-    /// The value of a column.
-    pub fn value(&self, c: ColNo) -> &Value
-        requires { c.0 < length self.now }
-        ensures { slice_get self.now c.0 ≡ Some result.now }
-    {
-        &self.values[c.0 as usize]
-    }
-}
-
-/// The rows of a table, read by `fetch` and `look` alone, each with its counter. Contracts see a `Stored`.
+/// The rows of a table, read by `fetch` and `look` alone, each with its counter. Their values stand one after another in
+/// one list. Contracts see a `Stored`.
 #[derive(Drop)]
 pub struct Heap<C: Counters> {
     alloc: Global,
     columns: Columns,
-    rows: Vec<Row>,
+    count: u32,
+    values: Vec<Value>,
     counters: PhantomData<C>,
 }
 
 impl<C: Counters> Model for Heap<C> {
-    ghost use Rattle.heap.specs.Stored.{Stored, IsLawful};
+    ghost use Rattle.heap.specs.Stored.{Stored, IsLawful, IsWhole, laid_out};
 
     ghost Value = { Stored };
 
-    ghost view = { λ h. record { columns = h.columns; rows = h.rows.items } };
+    ghost view = { λ h. laid_out h.columns h.count h.values.items };
 
-    ghost invariant = { λ h. IsLawful (record { columns = h.columns; rows = h.rows.items }) };
+    ghost invariant = { λ h.
+        IsLawful (laid_out h.columns h.count h.values.items) ×
+        IsWhole h.columns h.count h.values.items };
 }
 
 impl<C: Counters> Heap<C> {
@@ -71,7 +56,8 @@ impl<C: Counters> Heap<C> {
         Heap {
             alloc,
             columns,
-            rows: Vec::new(alloc),
+            count: 0,
+            values: Vec::new(alloc),
             counters: PhantomData,
         }
     }
@@ -81,7 +67,7 @@ impl<C: Counters> Heap<C> {
         ensures len { result ≡ length self.now.rows }
         ensures few { result ≤ MOST_ROWS }
     {
-        self.rows.len() as u32
+        self.count
     }
 
     /// The columns of the table.
@@ -104,11 +90,19 @@ impl<C: Counters> Heap<C> {
         ensures refused { OnErr result (self.new ≡ self.old) }
         ensures lawful { IsLawful self.new }
     {
-        let room = MOST_ROWS - self.rows.len();
-        let mut rows = read_rows(self.alloc, self.columns.items(), room, block)?;
-        let count = rows.len() as u32;
-        self.rows.append(&mut rows)?;
-        Ok(count)
+        let room = MOST_ROWS - self.count as usize;
+        let start = self.values.len();
+        let columns = self.columns.items();
+        match read_rows(self.alloc, columns, room, block, &mut self.values) {
+            Ok(count) => {
+                self.count += count;
+                Ok(count)
+            }
+            Err(fault) => {
+                self.values.truncate(start);
+                Err(fault)
+            }
+        }
     }
 
     /// Keeps the first `len` rows.
@@ -117,11 +111,13 @@ impl<C: Counters> Heap<C> {
         ensures kept { self.new ≡ record { columns = self.old.columns; rows = take len self.old.rows } }
         ensures lawful { IsLawful self.new }
     {
-        self.rows.truncate(len as usize);
+        let width = self.width();
+        self.values.truncate(len as usize * width);
+        self.count = len;
     }
 
     /// The row of this number, fetched. It counts one heap fetch.
-    pub fn fetch(&self, t: Tid, fetches: &mut Steps<C::Fetches>) -> &Row
+    pub fn fetch(&self, t: Tid, fetches: &mut Steps<C::Fetches>) -> Row<'_>
         requires { t.0 < length self.now.rows }
         ensures row { slice_get self.now.rows t.0 ≡ Some result.now }
         ensures width { length result.now ≡ length self.now.columns }
@@ -133,7 +129,7 @@ impl<C: Counters> Heap<C> {
     }
 
     /// The row of this number, which was found before. It counts one look.
-    pub fn look(&self, t: Tid, looks: &mut Steps<C::Looks>) -> &Row
+    pub fn look(&self, t: Tid, looks: &mut Steps<C::Looks>) -> Row<'_>
         requires { t.0 < length self.now.rows }
         ensures row { slice_get self.now.rows t.0 ≡ Some result.now }
         ensures width { length result.now ≡ length self.now.columns }
@@ -144,12 +140,21 @@ impl<C: Counters> Heap<C> {
         self.row(t)
     }
 
-    fn row(&self, t: Tid) -> &Row
+    fn row(&self, t: Tid) -> Row<'_>
         requires { t.0 < length self.now.rows }
         ensures row { slice_get self.now.rows t.0 ≡ Some result.now }
         ensures width { length result.now ≡ length self.now.columns }
         ensures lawful { IsRowOf self.now.columns result.now }
     {
-        &self.rows[t.0 as usize]
+        let width = self.width();
+        part(&self.values, t.0 as usize * width, width)
+    }
+
+    /// How many columns each row has.
+    fn width(&self) -> usize
+        ensures width { result ≡ length self.now.columns }
+        ensures few { result ≤ MOST_COLUMNS }
+    {
+        self.columns.items().len()
     }
 }

@@ -13,7 +13,7 @@ use Rattle.pg_expr.specs.declared.operand.ColRef.{ColRef}
 use Rattle.heap.specs.Stored.{IsRowOf, IsValueOf, Stored, Values}
 use Rattle.catalog.specs.Contents.{Contents, IsTable, no_table, table_at}
 use Rattle.catalog.specs.Range.{Range, relation_at}
-use Rattle.plan_laws.specs.Meant.{relation}
+use Rattle.sort_rows.specs.Rows.{relation}
 use Rattle.sql_query.specs.Meaning.{shown}
 use Rattle.sql_query.specs.Queries.{Query, width}
 use Rattle.sql_query.specs.Tuples.{Tuple, row_at, row_of, rows_of_relation, value_at}

@@ -8,7 +8,7 @@ use Rattle.heap.specs.Stored.{Values}
 use Rattle.sql_query.specs.Queries.{Query, width}
 use Rattle.sql_query.specs.Worlds.{World}
 use Rattle.sql_query.specs.Tuples.{Tuple, row_at}
-use Rattle.plan_laws.specs.Meant.{relation}
+use Rattle.sort_rows.specs.Rows.{relation}
 
 -- the rows of all relations at a tuple, in FROM order
 abbrev pub rows_at : World → Query → Tuple → List Values

@@ -19,7 +19,7 @@ use crate::pending::{Page, put};
 use crate::setting::Setting;
 use crate::stop::Broken;
 use executor::Rows;
-use heap::{Counters, Row};
+use heap::{Counters, Row, value_in};
 use pg_base::{Memory, Sink, Steps, Tid};
 use pg_expr::ColRef;
 use row_text::Lines;
@@ -133,7 +133,7 @@ pub fn rows_at<'a, C: Counters>(
     at: &Setting<'a, C>,
     tuple: &[Tid],
     reads: &mut Steps<C::Looks>,
-) -> Result<Vec<&'a Row>, Memory>
+) -> Result<Vec<Row<'a>>, Memory>
     requires setting { IsSetting at.now }
     requires tuple { IsTupleOf (world_of at.now) at.now.q.now (numbers tuple.now) }
     ensures rows { IfOk result (λ rows. map (λ r. r.now) rows.items ≡ rows_at (world_of at.now) at.now.q.now (numbers tuple.now)) }
@@ -153,7 +153,7 @@ pub fn rows_at<'a, C: Counters>(
 fn shown_line<'a>(
     alloc: Global,
     columns: &[ColRef],
-    rows: &[&Row],
+    rows: &[Row],
     lines: &'a mut Lines,
 ) -> Result<&'a [u8], Memory>
     requires { All (HasColumn (map (λ r. r.now) rows.now)) columns.now }
@@ -162,7 +162,7 @@ fn shown_line<'a>(
     let mut values = Vec::new(alloc);
     for column in columns {
         let row = rows[column.rel.0 as usize];
-        values.push(row.value(column.col))?;
+        values.push(value_in(row, column.col))?;
     }
     lines.line(&values)
 }

@@ -27,7 +27,7 @@ pub struct Beside<'a> {
 }
 
 /// Whether conditions are True at a row of the relation beside the rows given.
-pub fn pass_row(beside: &Beside, given: &Given, conditions: &[&Expr], row: &Row) -> bool
+pub fn pass_row(beside: &Beside, given: &Given, conditions: &[&Expr], row: Row) -> bool
     requires { AreReadyAtRow beside.now.cat.now beside.now.range.now beside.now.rel.0 given.now (conditions_of conditions.now) row.now }
     ensures { result ≡ are_true (value_beside beside.now.rel.0 (value_in row.now) given.now) (conditions_of conditions.now) }
 {

@@ -10,6 +10,7 @@ ghost use Rattle.scan_probes.specs.Probes.{AreKnown, compared_with, given_value,
 
 use crate::given::Given;
 use btree_index::{Bound, Probe};
+use heap::value_in;
 use index_match::{has_form, is_fixing, is_key_side, is_outside};
 use opfamily::{IndexKey, Method};
 use pg_base::{Memory, RelNo};
@@ -25,7 +26,7 @@ fn side_value(alloc: Global, given: &Given, o: &Operand) -> Result<Value, Memory
     match o {
         Operand::Lit(v) => v.copy(alloc),
         Operand::Col(x) => match given.row(x.rel) {
-            Some(row) => row.value(x.col).copy(alloc),
+            Some(row) => value_in(row, x.col).copy(alloc),
             None => unreachable!(),
         },
     }

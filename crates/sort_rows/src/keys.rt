@@ -18,7 +18,7 @@ ghost use Rattle.sort_rows.specs.Rows.{AreRowsAt, HasRows, tuple_of};
 use crate::columns::SortColumn;
 use crate::source::KeySource;
 use catalog::Catalog;
-use heap::{Counters, Heaps, Row};
+use heap::{Counters, Heaps, Row, value_in};
 use pg_base::{Memory, RelNo, RelSet, Steps, Tid};
 use pg_value::{Value, column_order};
 use sql_query::Prepared;
@@ -29,7 +29,7 @@ use std::cmp::Ordering;
 fn tuple_rows<'a, C: Counters>(
     at: &KeySource<'a, '_, C>,
     tuple: &[Tid],
-    rows: &mut Vec<&'a Row>,
+    rows: &mut Vec<Row<'a>>,
     reads: &mut Steps<C::Looks>,
 ) -> Result<(), Memory>
     requires source { IsKeySource at.now }
@@ -55,7 +55,7 @@ fn tuple_rows<'a, C: Counters>(
 pub(crate) fn add_key<'a, C: Counters>(
     at: &KeySource<'a, '_, C>,
     tuple: &[Tid],
-    rows: &mut Vec<&'a Row>,
+    rows: &mut Vec<Row<'a>>,
     keys: &mut Vec<&'a Value>,
     reads: &mut Steps<C::Looks>,
 ) -> Result<(), Memory>
@@ -67,7 +67,7 @@ pub(crate) fn add_key<'a, C: Counters>(
 {
     tuple_rows(at, tuple, rows, reads)?;
     for column in at.columns {
-        keys.push(rows[column.place].value(column.column.col))?;
+        keys.push(value_in(rows[column.place], column.column.col))?;
     }
     Ok(())
 }

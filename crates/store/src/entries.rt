@@ -13,7 +13,7 @@ use crate::rows::passes;
 use btree_index::Entry;
 use catalog::IndexDef;
 use hash_index::Row as HeldRow;
-use heap::{Counters, Heap, Row};
+use heap::{Counters, Heap, Row, value_in};
 use opfamily::IndexKey;
 use pg_base::{ColNo, Memory, Steps, Tid};
 use pg_value::Value;
@@ -72,32 +72,32 @@ pub(crate) fn hashed_from<C: Counters>(
         if !passes(&def.predicate, columns, row) {
             continue;
         }
-        let value = row.value(key).copy(alloc)?;
+        let value = value_in(row, key).copy(alloc)?;
         rows.push(HeldRow::new(value, Tid(n)))?;
     }
     Ok(rows)
 }
 
 /// The values of a row at the columns of the keys.
-fn key_values(alloc: Global, keys: &[IndexKey], row: &Row) -> Result<Vec<Value>, Memory>
+fn key_values(alloc: Global, keys: &[IndexKey], row: Row) -> Result<Vec<Value>, Memory>
     requires { All (λ k. k.col.0 < length row.now) keys.now }
     ensures { IfOk result (λ vs. vs.items ≡ map (λ k. cell row.now k.col) keys.now) }
 {
     let mut values = Vec::new(alloc);
     for key in keys {
-        values.push(row.value(key.col).copy(alloc)?)?;
+        values.push(value_in(row, key.col).copy(alloc)?)?;
     }
     Ok(values)
 }
 
 /// The values of a row at these columns.
-fn column_values(alloc: Global, columns: &[ColNo], row: &Row) -> Result<Vec<Value>, Memory>
+fn column_values(alloc: Global, columns: &[ColNo], row: Row) -> Result<Vec<Value>, Memory>
     requires { All (λ c. c.0 < length row.now) columns.now }
     ensures { IfOk result (λ vs. vs.items ≡ map (cell row.now) columns.now) }
 {
     let mut values = Vec::new(alloc);
     for column in columns {
-        values.push(row.value(*column).copy(alloc)?)?;
+        values.push(value_in(row, *column).copy(alloc)?)?;
     }
     Ok(values)
 }

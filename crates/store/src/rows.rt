@@ -7,7 +7,7 @@ ghost use Rattle.catalog.specs.Indexes.{IsPredicateOf};
 ghost use Rattle.heap.specs.Stored.{IsRowOf};
 ghost use Rattle.plan_tree.specs.Entries.{meets};
 
-use heap::Row;
+use heap::{Row, value_in};
 use pg_expr::{Binding, ColRef, Expr, eval};
 use pg_value::{Columns, SqlType, Truth, Value};
 
@@ -15,7 +15,7 @@ use pg_value::{Columns, SqlType, Truth, Value};
 #[derive(Clone, Copy)]
 struct Bound<'a> {
     columns: &'a Columns,
-    row: &'a Row,
+    row: Row<'a>,
 }
 
 impl<'a> Binding for Bound<'a> {
@@ -30,7 +30,7 @@ impl<'a> Binding for Bound<'a> {
     ghost type_of = { λ b x. type_at b.columns.now x.col };
 
     fn value(&self, c: ColRef) -> &Value {
-        self.row.value(c.col)
+        value_in(self.row, c.col)
     }
 
     fn typed(&self, c: ColRef) -> SqlType {
@@ -39,7 +39,7 @@ impl<'a> Binding for Bound<'a> {
 }
 
 /// Whether an index has a row: its predicate, if it has one, is True there. False and Unknown leave the row out.
-pub(crate) fn passes(predicate: &Option<Expr>, columns: &Columns, row: &Row) -> bool
+pub(crate) fn passes(predicate: &Option<Expr>, columns: &Columns, row: Row) -> bool
     requires predicate { IsPredicateOf columns.now (option_map cond predicate.now) }
     requires row { IsRowOf columns.now row.now }
     ensures { result ≡ meets (option_map cond predicate.now) row.now }

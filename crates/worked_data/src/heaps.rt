@@ -3,7 +3,7 @@
 ghost use Rattle.std.specs.Prelude.{◌≡◌, ◌<◌, ◌+◌, IfOk, OnErr, length};
 ghost use Rattle.heap.specs.Tuples.{relation_count};
 
-use heap::{CopyFault, Counters, Counting, Heap, Heaps, Row, Tids, Tuples};
+use heap::{CopyFault, Counters, Counting, Heap, Heaps, Row, Tids, Tuples, value_in};
 use pg_base::{ColNo, Memory, RelSet, Steps, TableNo, Tid};
 use pg_value::{Column, Columns, SqlType, Value};
 use std::alloc::{AllocError, Global};
@@ -32,12 +32,12 @@ fn is_value(value: &Value, shown: Shown) -> bool {
 }
 
 /// Whether a row of three columns has these values.
-fn is_row(row: &Row, line: &Line) -> bool
+fn is_row(row: Row, line: &Line) -> bool
     requires { length row.now ≡ 3 }
 {
-    is_value(row.value(ColNo(0)), line[0])
-        && is_value(row.value(ColNo(1)), line[1])
-        && is_value(row.value(ColNo(2)), line[2])
+    is_value(value_in(row, ColNo(0)), line[0])
+        && is_value(value_in(row, ColNo(1)), line[1])
+        && is_value(value_in(row, ColNo(2)), line[2])
 }
 
 /// Whether a heap of three columns has so many rows, these lines in turn. Each is fetched and then looked at.
@@ -62,7 +62,7 @@ fn are_rows<C: Counters>(
 }
 
 /// Whether a row is the one of these lines, in turn, that a place has.
-fn is_line(row: &Row, lines: &[Line], place: u32) -> bool
+fn is_line(row: Row, lines: &[Line], place: u32) -> bool
     requires { length row.now ≡ 3 }
 {
     let in_turn = (place as usize).checked_rem(lines.len()).unwrap_or(0);

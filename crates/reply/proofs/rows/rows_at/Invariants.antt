@@ -1,7 +1,7 @@
 use Rattle.std.proofs.Common.{◌≡◌, ◌+◌, map}
 use Rattle.std.specs.List.{range_with_len}
 use Rattle.executor.specs.Numbers.{numbers}
-use Rattle.plan_laws.specs.Meant.{relation}
+use Rattle.sort_rows.specs.Rows.{relation}
 use Rattle.sql_query.specs.Tuples.{row_at}
 use Rattle.reply.specs.Settings.{world_of}
 use Rattle.reply.proofs.rows.rows_at.Given as goal

@@ -23,7 +23,7 @@ loop-n-preserved g c = record {
       ∙ held-taken (index_of c.args.def.now) c.args.heap.now.rows c.args.from c.loop-n.n (omega arith) c.look-row.result.now c.look-row.ensures.row
       c.loop-n.rows.items c.new.result c.loop-n.invariant.entries c.passes.result c.passes.ensures c.if-not-passes.false
       (held-made (index_of c.args.def.now) c.look-row.result.now c.loop-n.n c.index.result.now c.index.ensures (omega arith) c.in_ok-value.value
-      (c.in_ok-value.ensures ∙ cell-at c.look-row.result.now c.index.result.now.col c.value.result.now c.value.ensures) c.new.result c.new.ensures);
+      (c.in_ok-value.ensures ∙ cell-at c.look-row.result.now c.index.result.now.col c.value_in.result.now c.value_in.ensures) c.new.result c.new.ensures);
   looks = omega arith;
 }
 

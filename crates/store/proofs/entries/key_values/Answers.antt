@@ -8,4 +8,4 @@ pub loop-key-preserved : goal.loop-key-preserved
 loop-key-preserved c =
     c.in_ok-push.ensures.items
     ∙ mapped-next (λ (k : IndexKey). cell c.args.row.now k.col) c.args.keys.now c.loop-key.key-index _ c.loop-key.values.items c.in_ok-copy.field-0 (omega arith) c.loop-key.invariant
-    (c.in_ok-copy.ensures ∙ cell-at c.args.row.now _ c.value.result.now c.value.ensures)
+    (c.in_ok-copy.ensures ∙ cell-at c.args.row.now _ c.value_in.result.now c.value_in.ensures)

@@ -1,6 +1,6 @@
 //! The index itself.
 
-ghost use Rattle.std.specs.Prelude.{◌≡◌, ◌∷◌, [], length, filter, All, IfOk, OnOk, OnErr};
+ghost use Rattle.std.specs.Prelude.{◌≡◌, ◌<◌, ◌∷◌, [], length, filter, All, IfOk, OnOk, OnErr};
 ghost use Rattle.opfamily.specs.KeyOrder.{AreKeyValues};
 ghost use Rattle.btree_index.specs.Bounds.{AreBounds, meets_all};
 ghost use Rattle.btree_index.specs.Tree.{IsEntryOf, IsLawful, of_rows_below, with_entries, in_direction};
@@ -121,8 +121,10 @@ impl<L: Ledger> BTree<L> {
         Cursor::over(&self.pages, start, end, backward)
     }
 
-    /// How many leaves there are, which tests ask.
-    pub fn leaves(&self) -> u32 {
+    /// How many leaves there are, which tests ask: at least one.
+    pub fn leaves(&self) -> u32
+        ensures { 0 < result }
+    {
         u32::try_from(self.pages.leaves.len()).unwrap_or(u32::MAX)
     }
 }

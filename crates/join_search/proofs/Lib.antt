@@ -12,3 +12,5 @@ pub mod MergeLemmas
 pub mod SearchLemmas
 pub mod FrontingLemmas
 pub mod LikelyLemmas
+pub mod FilledLemmas
+pub mod PastLemmas

@@ -49,7 +49,7 @@ kept-at-most w a b h = record { startup = kept-rises w a.startup b.startup h.sta
 pub at-most-same : (a b : Pair) → a ≡ b → IsAtMost a b
 at-most-same a b e = subst (IsAtMost a) e (record { startup = le_refl a.startup; total = le_refl a.total })
 
-floor-rises : (w : Option Window) (a b : Pair) → IsAtMost a b → floor_in w a ≤ floor_in w b
+pub floor-rises : (w : Option Window) (a b : Pair) → IsAtMost a b → floor_in w a ≤ floor_in w b
 floor-rises None a b h = h.total
 floor-rises (Some w) a b h = h.startup
 

@@ -1,14 +1,16 @@
 -- Sets of relations divided into two.
-use Rattle.std.proofs.Common.{◌≡◌, ◌<◌, ◌≤◌, ℕ, ◌-◌, ◌^◌, Bool, true, false, not, ◌&&◌, ◌||◌, nat_eq, refl, sym, ◌∙◌, ap, bit_and, arith, true≢false}
+use Rattle.std.proofs.Common.{◌≡◌, ◌<◌, ◌≤◌, ℕ, ◌-◌, ◌*◌, ◌%◌, ◌^◌, Bool, true, false, not, ◌&&◌, ◌||◌, nat_eq, refl, sym, ◌∙◌, ap, bit_and, w64, arith, true≢false}
 use Rattle.std.proofs.lemmas.Bool.{eq-eqb, eqb-true, false≢true}
 use Rattle.std.proofs.lemmas.Nat.{and_le_l, pow_pos}
 use Rattle.std.proofs.Math.Nat.{pow-le-pow_right}
-use Rattle.std.proofs.lemmas.Nat.Bits.{bit_at_ones}
+use Rattle.std.proofs.lemmas.Nat.Bits.{bit_at_ones, bit_at-trailing_zeros}
+use Rattle.std.specs.Int.{trailing_zeros}
 use Rattle.pg_base.specs.Sets.{has}
-use Rattle.pg_base.proofs.SetLaws.{has-and, has-zero, none-zero, same_set}
+use Rattle.pg_base.proofs.SetLaws.{has-and, has-one_wide, has-zero, none-zero, same_set}
 use Rattle.pg_base.specs.declared.rel_set.RelSet.{RelSet}
 use Rattle.join_search.specs.Joins.{IsSingle}
 use Rattle.join_search.specs.Splits.{IsDivided}
+use Rattle.join_search.specs.Tables.{set_numbered}
 
 rest-bool : (x a b : Bool) → x ≡ a || b → (a ≡ true → b ≡ false) → b ≡ x && not a
 rest-bool true true b e h = h refl
@@ -164,3 +166,17 @@ sixteen w le = pow-le-pow_right {n = 2} (omega arith) {i = w} {j = 16} le
 -- a set of at most 16 relations is a word of 16 bits
 pub few-sets : (w n m : ℕ) → w ≤ 16 → n < m → m ≡ 2 ^ w → n < 2 ^ 16
 few-sets w n m le lt e = omega (arith, sixteen w le, lt, e)
+
+first-wide : (n : ℕ) → 0 < n → n < 2 ^ 64 → has n (trailing_zeros w64 n) ≡ true
+unfolding has
+first-wide n some fit = ap (λ m. nat_eq m 1) (bit_at-trailing_zeros w64 n some fit).1
+
+-- a number is that of a set of one relation exactly where it is the power of two of its lowest bit
+pub power-single : (n : ℕ) → 0 < n → n < 2 ^ 64 → (nat_eq n (1 * 2 ^ trailing_zeros w64 n % 2 ^ 64) ≡ true → IsSingle (set_numbered n)) × (IsSingle (set_numbered n) → nat_eq n (1 * 2 ^ trailing_zeros w64 n % 2 ^ 64) ≡ true)
+power-single n some fit =
+    let k : ℕ = trailing_zeros w64 n in
+    let low = (bit_at-trailing_zeros w64 n some fit).0 in
+    let m : ℕ = 1 * 2 ^ k % 2 ^ 64 in (
+      λ is. (k, λ i. ap (λ x. has x i) (eqb-true n m is) ∙ has-one_wide 64 k i low),
+      λ single. eq-eqb n m (single-is (set_numbered n) k m single (first-wide n some fit) (λ i. has-one_wide 64 k i low)),
+    )

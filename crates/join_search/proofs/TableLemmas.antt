@@ -1,16 +1,18 @@
 -- Fronts found among those that were put somewhere.
-use Rattle.std.proofs.Common.{◌≡◌, ◌<◌, ◌≤◌, ℕ, zero, suc, ◌+◌, Bool, true, false, cond, nat_eq, List, [], ◌∷◌, ◌++◌, length, map, get_or, set, take, refl, sym, ◌∙◌, ap, subst, arith}
+use Rattle.std.proofs.Common.{◌≡◌, ◌⊎◌, ◌<◌, ◌≤◌, ℕ, zero, suc, ◌+◌, Bool, true, false, cond, nat_eq, List, [], ◌∷◌, ◌++◌, length, map, get_or, set, take, inl, inr, refl, sym, ◌∙◌, ap, subst, arith}
 use Rattle.std.specs.Prelude.{All, Contains, Option, Some, None, Vec}
 use Rattle.std.specs.Global.{Global}
 use Rattle.std.proofs.Math.Seq.{take-suc}
-use Rattle.std.proofs.lemmas.Bool.{eq-eqb, eqb-true, true≢false}
+use Rattle.std.proofs.lemmas.Bool.{cases_lt, eq-eqb, eqb-true, true≢false}
+use Rattle.std.proofs.lemmas.Bool.Decides.{nat_tests}
 use Rattle.std.proofs.lemmas.List.{length-append, map-append}
 use Rattle.std.proofs.lemmas.List.Elements.{All-head, All-tail, Contains-append_right}
 use Rattle.pg_base.specs.declared.rel_set.RelSet.{RelSet}
 use Rattle.plan_tree.specs.Views.{path}
 use Rattle.plan_tree.specs.declared.path.Path.{Path as Costed}
 use Rattle.join_search.specs.declared.table.Placed.{Placed}
-use Rattle.join_search.specs.Tables.{IsSamePlace, found_at, is_at, list_at, params_of, paths_of, with_front}
+use Rattle.join_search.specs.Joins.{IsSingle}
+use Rattle.join_search.specs.Tables.{IsSamePlace, found_at, is_at, list_at, set_numbered, params_of, paths_of, with_front}
 
 pub same-number : (a b : RelSet) → a.0 ≡ b.0 → a ≡ b
 same-number a b e = ap (λ (n : ℕ). let s : RelSet = record { 0 = n } in s) e
@@ -141,3 +143,31 @@ none-there p (y ∷ xs) h = by (is_at p y) (All-head (λ (x : Placed). x.front �
     by : (b : Bool) → y.front ≡ [] → paths_of (found_at p xs) ≡ [] → paths_of (cond b (Some y.front) (found_at p xs)) ≡ []
     by true e later = ap (map path) e
     by false e later = later
+
+-- so far no list but those of single relations has fronts
+pub forgot-more : (old new : List (Vec Placed Global)) (n : ℕ) → ((k : ℕ) → k < n → IsSingle (set_numbered k) ⊎ (list_at old k ≡ [])) → IsSingle (set_numbered n) ⊎ (list_at new n ≡ []) →
+    ((k : ℕ) → ¬ (k ≡ n) → list_at new k ≡ list_at old k) → (k : ℕ) → k < n + 1 → IsSingle (set_numbered k) ⊎ (list_at new k ≡ [])
+forgot-more old new n before here others k lt = by (nat_eq k n) refl
+  where
+    earlier : ¬ (k ≡ n) → IsSingle (set_numbered k) ⊎ (list_at old k ≡ []) → IsSingle (set_numbered k) ⊎ (list_at new k ≡ [])
+    earlier other (inl single) = inl single
+    earlier other (inr e) = inr (others k other ∙ e)
+
+    by : (b : Bool) → nat_eq k n ≡ b → IsSingle (set_numbered k) ⊎ (list_at new k ≡ [])
+    by true e = subst (λ m. IsSingle (set_numbered m) ⊎ (list_at new m ≡ [])) (sym (eqb-true k n e)) here
+    by false e = let other : ¬ (k ≡ n) = λ same. true≢false (sym (eq-eqb k n same) ∙ e) in earlier other (before k (grind (arith, nat_tests, lt, e)))
+
+pub forgot-all : (vs : List (Vec Placed Global)) (n : ℕ) → ((k : ℕ) → k < n → IsSingle (set_numbered k) ⊎ (list_at vs k ≡ [])) → length vs ≤ n → (k : ℕ) → IsSingle (set_numbered k) ⊎ (list_at vs k ≡ [])
+forgot-all vs n before le k = by (cases_lt k n)
+  where
+    by : (k < n) ⊎ (n ≤ k) → IsSingle (set_numbered k) ⊎ (list_at vs k ≡ [])
+    by (inl lt) = before k lt
+    by (inr past) = inr (list-none vs k (omega (arith, le, past)))
+
+-- what is found then is of a single relation
+pub found-single : (vs : List (Vec Placed Global)) (s p : RelSet) (f : List Costed) → IsSingle s ⊎ (list_at vs s.0 ≡ []) → found_at p (list_at vs s.0) ≡ Some f → IsSingle s
+found-single vs s p f (inl single) e = single
+found-single vs s p f (inr none) e = absurd (never (sym (ap (found_at p) none) ∙ e))
+  where
+    never : None ≡ Some f → ⊥
+    never wrong = cc

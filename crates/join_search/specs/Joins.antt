@@ -21,6 +21,10 @@ use Rattle.join_search.specs.declared.useful.Asked.{Asked}
 abbrev pub IsSingle : RelSet → Type 0
 IsSingle s = (r : ℕ) × IsSameSet (has s.0) (one r)
 
+-- the fronts of single relations are those of another table
+abbrev pub HaveSameScans : Table → Table → Type 0
+HaveSameScans t base = (s p : RelSet) → IsSingle s → front_at t s p ≡ front_at base s p
+
 -- the plan of one of some paths
 pub record IsPlanIn (paths : List Path) (t : Plan) : Type 0 where
   pub path : Path

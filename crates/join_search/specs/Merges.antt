@@ -1,11 +1,12 @@
 -- Merge joins of two sets: their lists of classes, their sides, and what they are reckoned from (PostgreSQL,
 -- src/backend/optimizer/path/joinpath.c, sort_inner_and_outer; that every list is tried is own).
-use Rattle.std.specs.Prelude.{◌≡◌, ◌≤◌, ◌<◌, ◌^◌, ◌-◌, ◌&&◌, ◌++◌, ℕ, Bool, true, false, not, cond, nat_eq, List, [], ◌∷◌, All, Contains, filter, length, map, min}
+use Rattle.std.specs.Prelude.{◌≡◌, ◌≤◌, ◌<◌, ◌+◌, ◌^◌, ◌-◌, ◌&&◌, ◌++◌, ℕ, Bool, true, false, not, cond, nat_eq, List, [], ◌∷◌, All, Contains, filter, length, map, min}
 use Rattle.std.specs.List.{list_any, flat_map}
 use Rattle.pg_base.specs.Sets.{has}
 use Rattle.catalog.specs.Contents.{Contents}
 use Rattle.cost_rules.specs.Costs.{IsEstimate, capped_pair, merge_cost}
 use Rattle.cost_rules.specs.declared.pair.Pair.{Pair}
+use Rattle.cost_rules.specs.declared.parameters.TheConstants.{MOST_COST}
 use Rattle.eq_classes.specs.Parts.{is_join}
 use Rattle.path_cost.specs.Costs.{operators}
 use Rattle.path_cost.specs.Estimates.{conditions_where, is_pair_of, pairs}
@@ -25,7 +26,7 @@ use Rattle.join_search.specs.declared.useful.Asked.{Asked}
 use Rattle.join_search.specs.Joins.{IsSideIn}
 use Rattle.join_search.specs.Splits.{inners_of, outers_of}
 use Rattle.join_search.specs.Tables.{none}
-use Rattle.join_search.specs.Sufficing.{IsServed}
+use Rattle.join_search.specs.Sufficing.{IsServed, floor_in}
 
 -- a list with one more class, each of some that it has not; the same of each of some lists
 abbrev pub longer : List ℕ → Keys → List Keys
@@ -71,6 +72,10 @@ pub record IsCheapestBy (keys : Keys) (paths : List Path) (p : Path) : Type 0 wh
   pub is_there : Contains paths p
   pub begins : covers p.keys keys ≡ true
   pub least : All (λ o. covers o.keys keys ≡ true → p.cost ≤ o.cost) paths
+
+-- a path costs no less, neither before its first row nor in all
+abbrev pub IsNoCheaper : Pair → Path → Type 0
+IsNoCheaper n p = (n.startup ≤ p.startup) × (n.total ≤ p.cost)
 
 module _ (c : Contents) (q : Query) where
   -- a side that costs no more in all than any other of an admissible merge
@@ -139,3 +144,7 @@ merge_of keys outer inner = merge keys (side_plan keys outer) (side_plan keys in
 abbrev pub merge_with : Split → Keys → Plan → Plan → ℕ → ℕ → Pair
 merge_with j keys o i pairs n = let c = j.cat.now in let q = j.q.now in
     capped_pair (kept_cost q.window (merge_cost (cost c q o) (cost c q i) (estimate c q o) (estimate c q i) (length keys) pairs n))
+
+-- what costs no less than two sides together is past the limit of a search
+abbrev pub ArePast : Split → Pair → Pair → Type 0
+ArePast j o i = (n : Pair) → o.startup + i.startup ≤ n.startup → o.total + i.total ≤ n.total → n.total < MOST_COST → floor_in j.q.now.window n < j.asked.limit → ⊥

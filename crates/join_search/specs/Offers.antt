@@ -12,7 +12,7 @@ use Rattle.plan_tree.specs.Paths.{Path}
 use Rattle.plan_tree.specs.Fronts.{StayDominated}
 use Rattle.join_search.specs.Tables.{Fronts, none, paths_at}
 use Rattle.join_search.specs.Joins.{IsJoinPath, IsPlanIn, IsSideIn}
-use Rattle.join_search.specs.Splits.{IsJoinOf, inners_of, kept_of, outers_of}
+use Rattle.join_search.specs.Splits.{IsDivided, IsJoinOf, inners_of, kept_of, outers_of}
 use Rattle.join_search.specs.Sufficing.{IsServed}
 use Rattle.join_search.specs.declared.splits.Split.{Split}
 use Rattle.join_search.specs.declared.splits.Target.{Target}
@@ -80,3 +80,7 @@ TargetTakes t old new = TakesJoins t.cat.now t.q.now (paths_at t.table.now) t.se
 
 abbrev pub AreTargetServed : Target → List Path → RelSet → RelSet → Type 0
 AreTargetServed t front a b = AreJoinsServed t.cat.now t.q.now t.asked (paths_at t.table.now) front a b
+
+-- and those of one part with the rest
+abbrev pub IsPartServed : Target → List Path → RelSet → Type 0
+IsPartServed t front a = (b : RelSet) → IsDivided t.set a b → AreTargetServed t front a b

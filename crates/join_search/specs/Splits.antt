@@ -1,6 +1,6 @@
 -- A set of relations divided into the two sides of a join (PostgreSQL, src/backend/optimizer/README, Join Tree
 -- Construction; that every division is tried is own).
-use Rattle.std.specs.Prelude.{◌≡◌, List, All, map}
+use Rattle.std.specs.Prelude.{◌≡◌, ◌<◌, ◌≤◌, ◌⊎◌, ℕ, List, [], All, Contains, map}
 use Rattle.pg_base.specs.Sets.{has}
 use Rattle.pg_base.specs.declared.rel_set.RelSet.{RelSet}
 use Rattle.catalog.specs.Contents.{Contents}
@@ -19,7 +19,7 @@ use Rattle.plan_tree.specs.Views.{path}
 use Rattle.sql_query.specs.Queries.{Query}
 use Rattle.join_laws.specs.Useful.{outside}
 use Rattle.join_search.specs.Joins.{ArePlaced, IsJoinPath, IsPathAt}
-use Rattle.join_search.specs.Tables.{none, paths_at}
+use Rattle.join_search.specs.Tables.{Fronts, none, paths_at}
 use Rattle.join_search.specs.declared.splits.Split.{Split}
 use Rattle.join_search.specs.declared.splits.Target.{Target}
 use Rattle.join_search.specs.declared.splits.Task.{Task}
@@ -98,3 +98,11 @@ AreTargetPaths t paths = All (IsPathAt t.cat.now t.q.now t.set none) paths
 
 abbrev pub AreTargetJoins : Target → List Path → Type 0
 AreTargetJoins t paths = All (IsJoinPath t.cat.now t.q.now (paths_at t.table.now) t.set none) paths
+
+-- of the sets below a number, each that has paths is one of some
+abbrev pub HasEachFilled : Fronts → ℕ → List RelSet → Type 0
+HasEachFilled fronts n sets = (s : RelSet) → 1 ≤ s.0 → s.0 < n → (fronts s none ≡ []) ⊎ Contains sets s
+
+-- where a part of a set is one side, the other one has no paths
+abbrev pub HasBareRest : Fronts → RelSet → RelSet → Type 0
+HasBareRest fronts set part = (b : RelSet) → IsDivided set part b → (p : RelSet) → fronts b p ≡ []

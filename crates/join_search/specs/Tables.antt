@@ -12,6 +12,10 @@ use Rattle.join_search.specs.declared.table.Table.{Table}
 abbrev pub none : RelSet
 none = record { 0 = 0 }
 
+-- the set of a number
+abbrev pub set_numbered : ℕ → RelSet
+set_numbered n = record { 0 = n }
+
 -- a front of a set stands at a parameterisation
 abbrev pub is_at : RelSet → Placed → Bool
 is_at p f = nat_eq f.param.0 p.0

@@ -1,6 +1,6 @@
 //! The search over all sets of relations, from small ones to great ones.
 
-ghost use Rattle.std.specs.Prelude.{◌≡◌, ◌<◌, ◌≤◌, ◌+◌, ◌^◌, ℕ, All, Contains, IfOk, OnOk, [], map};
+ghost use Rattle.std.specs.Prelude.{◌≡◌, ◌<◌, ◌≤◌, ◌⊎◌, ◌+◌, ◌^◌, ℕ, All, Contains, IfOk, IsTrue, OnOk, [], false, map};
 ghost use Rattle.pg_base.specs.declared.rel_set.RelSet as sets;
 ghost use Rattle.cost_rules.specs.Costs.{IsEstimate};
 ghost use Rattle.path_cost.specs.Estimates as numbers;
@@ -11,8 +11,8 @@ ghost use Rattle.pareto.specs.Front.{AreKeptOr};
 ghost use Rattle.plan_tree.specs.Fronts.{StayDominated};
 ghost use Rattle.join_search.specs.Joins.{ArePlaced, AreUndominated, IsBase, IsCovered, IsJoinPath, IsPathAt, IsSingle};
 ghost use Rattle.join_search.specs.Sufficing.{HasSufficient, StaySufficient};
-ghost use Rattle.join_search.specs.Offers.{AreJoinsServed, AreTargetServed, Takes, TargetTakes};
-ghost use Rattle.join_search.specs.Splits.{AreJoinsOf, AreTargetJoins, AreTargetPaths, IsDivided, IsOver, IsTarget, IsTask};
+ghost use Rattle.join_search.specs.Offers.{AreJoinsServed, AreTargetServed, IsPartServed, Takes, TargetTakes};
+ghost use Rattle.join_search.specs.Splits.{HasEachFilled, AreJoinsOf, AreTargetJoins, AreTargetPaths, HasBareRest, IsDivided, IsOver, IsTarget, IsTask};
 ghost use Rattle.join_search.specs.declared.table.Table as tables;
 ghost use Rattle.join_search.specs.Tables.{front_at, none, paths_at};
 ghost use Rattle.join_search.specs.Search.{IsDone};
@@ -93,20 +93,15 @@ fn offer_sides(
     offer_split(alloc, &j, front)
 }
 
-/// Offers the joins of a part of a set with the rest of it, where it is a part and both have paths. The error means want of
-/// memory.
-pub(crate) fn offer_part(
-    alloc: Global,
-    at: &Target,
-    part: RelSet,
-    front: &mut KeptPaths,
-) -> Result<(), Memory>
+/// Offers the joins of a set with the rest of a greater one, where it is a part of that one and both have paths. The error
+/// means want of memory.
+fn offer_part(alloc: Global, at: &Target, part: RelSet, front: &mut KeptPaths) -> Result<(), Memory>
     requires at { IsTarget at.now }
     requires some { 1 ≤ part.0 }
     requires less { part.0 < at.now.set.0 }
     requires joins { AreTargetJoins at.now (map path front.old) }
     ensures takes { TargetTakes at.now (map path front.old) (map path front.new) }
-    ensures served { OnOk result ((b : sets.RelSet) → IsDivided at.now.set part b → AreTargetServed at.now (map path front.new) part b) }
+    ensures served { OnOk result (IsPartServed at.now (map path front.new) part) }
 {
     if !part.within(at.set) {
         return Ok(());
@@ -120,6 +115,37 @@ pub(crate) fn offer_part(
         return Ok(());
     }
     offer_sides(alloc, at, part, rest, outers, front)
+}
+
+/// Whether a set may be a part of another one: it is not empty, and has the smaller number.
+fn may_be_part(set: RelSet, part: RelSet) -> bool
+    ensures some { IsTrue result → 1 ≤ part.0 }
+    ensures less { IsTrue result → part.0 < set.0 }
+    ensures no { result ≡ false → (b : sets.RelSet) → ¬ IsDivided set part b }
+{
+    if part.is_empty() {
+        return false;
+    }
+    part.0 < set.0
+}
+
+/// Offers the joins of a set with the rest of another one, where it is a part of that one and both have paths. The error means
+/// want of memory.
+pub(crate) fn offer_side(
+    alloc: Global,
+    at: &Target,
+    part: RelSet,
+    front: &mut KeptPaths,
+) -> Result<(), Memory>
+    requires at { IsTarget at.now }
+    requires joins { AreTargetJoins at.now (map path front.old) }
+    ensures takes { TargetTakes at.now (map path front.old) (map path front.new) }
+    ensures served { OnOk result (IsPartServed at.now (map path front.new) part) }
+{
+    if !may_be_part(at.set, part) {
+        return Ok(());
+    }
+    offer_part(alloc, at, part, front)
 }
 
 /// Keeps a path of a set unless one that is kept costs no more, with keys that begin with its part of use. The error means
@@ -174,16 +200,17 @@ pub(crate) fn front_of(alloc: Global, at: &Target, kept: KeptPaths) -> Result<Fr
     front_among(alloc, at, paths)
 }
 
-/// The front of a set: the joins of each of its parts with the rest. The error means want of memory.
-fn joins_of(alloc: Global, at: &Target) -> Result<Front<Path>, Memory>
+/// The front of a set: the joins of each of its parts that have paths with the rest. The error means want of memory.
+fn joins_of(alloc: Global, at: &Target, filled: &[RelSet]) -> Result<Front<Path>, Memory>
     requires at { IsTarget at.now }
+    requires filled { HasEachFilled (paths_at at.now.table.now) at.now.set.0 filled.now }
     ensures joins { IfOk result (λ f. AreTargetJoins at.now (map path f)) }
     ensures served { IfOk result (λ f. (a b : sets.RelSet) → IsDivided at.now.set a b → AreTargetServed at.now (map path f) a b) }
     ensures undominated { IfOk result (λ f. AreUndominated at.now.cat.now at.now.q.now (map path f)) }
 {
     let mut kept = KeptPaths::new(alloc);
-    for part in 1..at.set.0 {
-        offer_part(alloc, at, RelSet(part), &mut kept)?;
+    for part in filled {
+        offer_side(alloc, at, *part, &mut kept)?;
     }
     front_of(alloc, at, kept)
 }
@@ -193,14 +220,47 @@ fn refused(_back: Front<Path>) -> Memory {
     AllocError
 }
 
-/// The front of the joins of a set over a table. The error means want of memory.
-fn front_over(alloc: Global, task: &Task, table: &Table, set: RelSet) -> Result<Front<Path>, Memory>
+/// Whether a set may have joins of a part with the rest: it is a part, and the rest has paths.
+fn may_join(table: &Table, set: RelSet, part: RelSet) -> bool
+    ensures { result ≡ false → HasBareRest (paths_at table.now) set part }
+{
+    if !part.within(set) {
+        return false;
+    }
+    !table.is_bare(set.minus(part))
+}
+
+/// Whether a set may have joins of one of some parts with the rest.
+fn may_join_any(table: &Table, set: RelSet, parts: &[RelSet]) -> bool
+    ensures { result ≡ false → All (HasBareRest (paths_at table.now) set) parts.now }
+{
+    for part in parts {
+        if may_join(table, set, *part) {
+            return true;
+        }
+    }
+    false
+}
+
+/// The front of the joins of a set over a table, where the smaller sets that have paths are these. The error means want of
+/// memory.
+fn front_over(
+    alloc: Global,
+    task: &Task,
+    table: &Table,
+    filled: &[RelSet],
+    set: RelSet,
+) -> Result<Front<Path>, Memory>
     requires task { IsTask task.now }
     requires placed { ArePlaced task.now.cat.now task.now.q.now (paths_at table.now) }
+    requires filled { HasEachFilled (paths_at table.now) set.0 filled.now }
     ensures joins { IfOk result (λ f. All (IsJoinPath task.now.cat.now task.now.q.now (paths_at table.now) set none) (map path f)) }
     ensures served { IfOk result (λ f. (a b : sets.RelSet) → IsDivided set a b → AreJoinsServed task.now.cat.now task.now.q.now task.now.asked (paths_at table.now) (map path f) a b) }
     ensures undominated { IfOk result (λ f. AreUndominated task.now.cat.now task.now.q.now (map path f)) }
 {
+    if !may_join_any(table, set, filled) {
+        return Ok(Front::new(alloc));
+    }
     let rows = set_rows(task.cat, task.q, set);
     let all = all_relations(task.q);
     let outside = all.minus(set);
@@ -214,19 +274,50 @@ fn front_over(alloc: Global, task: &Task, table: &Table, set: RelSet) -> Result<
         rows,
         outside,
     };
-    joins_of(alloc, &at)
+    joins_of(alloc, &at, filled)
 }
 
-/// The table with the front of the next set, where it has more than one relation. The error means want of memory.
-fn add_set(alloc: Global, task: &Task, before: Table, set: RelSet) -> Result<Table, Memory>
+/// Puts a set behind others. The error means want of memory.
+fn note(filled: &mut Vec<RelSet>, set: RelSet) -> Result<(), Memory>
+    ensures noted { OnOk result (Contains filled.new.items set) }
+    ensures others { All (Contains filled.new.items) filled.old.items }
+{
+    filled.push(set)?;
+    Ok(())
+}
+
+/// Puts a set behind others, where its front has paths. The error means want of memory.
+fn note_if_filled(filled: &mut Vec<RelSet>, set: RelSet, front: &Front<Path>) -> Result<(), Memory>
+    ensures noted { OnOk result ((front.now ≡ []) ⊎ Contains filled.new.items set) }
+    ensures others { All (Contains filled.new.items) filled.old.items }
+{
+    if front.items().is_empty() {
+        return Ok(());
+    }
+    note(filled, set)
+}
+
+/// The table with the front of the next set, where it has more than one relation; the sets so far that have paths are noted.
+/// The error means want of memory.
+fn add_set(
+    alloc: Global,
+    task: &Task,
+    before: Table,
+    filled: &mut Vec<RelSet>,
+    set: RelSet,
+) -> Result<Table, Memory>
     requires task { IsTask task.now }
     requires placed { ArePlaced task.now.cat.now task.now.q.now (paths_at before) }
-    ensures { IfOk result (λ t. (base : tables.Table) → IsDone task.now.cat.now task.now.q.now task.now.asked base before set.0 → IsDone task.now.cat.now task.now.q.now task.now.asked base t (set.0 + 1)) }
+    requires filled { HasEachFilled (paths_at before) set.0 filled.old.items }
+    ensures done { IfOk result (λ t. (base : tables.Table) → IsDone task.now.cat.now task.now.q.now task.now.asked base before set.0 → IsDone task.now.cat.now task.now.q.now task.now.asked base t (set.0 + 1)) }
+    ensures filled { IfOk result (λ t. HasEachFilled (paths_at t) (set.0 + 1) filled.new.items) }
 {
     if is_single(set) {
+        note(filled, set)?;
         return Ok(before);
     }
-    let front = front_over(alloc, task, &before, set)?;
+    let front = front_over(alloc, task, &before, filled.as_slice(), set)?;
+    note_if_filled(filled, set, &front)?;
     let mut table = before;
     match table.put(set, RelSet(0), front) {
         Ok(()) => Ok(table),
@@ -242,8 +333,9 @@ fn sets_below(alloc: Global, task: &Task, base: Table, end: u32) -> Result<Table
     ensures { IfOk result (λ t. (n : ℕ) × (end ≤ n) × IsDone task.now.cat.now task.now.q.now task.now.asked base t n) }
 {
     let mut table = base;
+    let mut filled = Vec::new(alloc);
     for n in 1..end {
-        table = add_set(alloc, task, table, RelSet(n as u16))?;
+        table = add_set(alloc, task, table, &mut filled, RelSet(n as u16))?;
     }
     Ok(table)
 }

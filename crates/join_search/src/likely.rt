@@ -5,14 +5,14 @@ ghost use Rattle.std.specs.Prelude.{All, IfOk, map};
 ghost use Rattle.pg_base.specs.Sets.{has};
 ghost use Rattle.plan_tree.specs.Reads.{IsOverTables};
 ghost use Rattle.plan_tree.specs.Views.{path};
-ghost use Rattle.join_search.specs.Joins.{ArePlaced, IsJoinPath, IsPathAt};
-ghost use Rattle.join_search.specs.Splits.{AreTargetJoins, AreTargetPaths, IsTarget, IsTask};
+ghost use Rattle.join_search.specs.Joins.{ArePlaced, HaveSameScans, IsPathAt};
+ghost use Rattle.join_search.specs.Splits.{AreTargetPaths, IsTarget, IsTask};
 ghost use Rattle.join_search.specs.Tables.{none, paths_at};
 ghost use Rattle.std.specs.Prelude.{◌≡◌};
 
-use crate::by_sets::{front_of, offer_part};
-use crate::offers::cheapest;
-use crate::splits::{Target, Task, all_relations, set_rows};
+use crate::by_sets::{front_of, offer_side};
+use crate::offers::least_cost;
+use crate::splits::{Target, Task, all_relations, is_single, set_rows};
 use crate::table::Table;
 use crate::useful::{Asked, order_asked};
 use catalog::Catalog;
@@ -22,18 +22,6 @@ use pg_base::{Memory, RelNo, RelSet};
 use plan_tree::{Path, range_of};
 use sql_query::Prepared;
 use std::alloc::{AllocError, Global};
-
-/// Offers the joins of a part of a set with the rest of it, where it is a part. The error means want of memory.
-fn offer_side(alloc: Global, at: &Target, part: RelSet, front: &mut KeptPaths) -> Result<(), Memory>
-    requires at { IsTarget at.now }
-    requires joins { AreTargetJoins at.now (map path front.old) }
-    ensures { AreTargetJoins at.now (map path front.new) }
-{
-    if part.0 == 0 || part.0 >= at.set.0 {
-        return Ok(());
-    }
-    offer_part(alloc, at, part, front)
-}
 
 /// The joins of a part of a set with the rest of it, either way round. The error means want of memory.
 fn joins_either(alloc: Global, at: &Target, part: RelSet) -> Result<Front<Path>, Memory>
@@ -74,14 +62,6 @@ fn joins_with(
     joins_either(alloc, &at, part)
 }
 
-/// What the cheapest of some paths costs, or more than any path.
-fn least_cost(paths: &[Path]) -> u64 {
-    match cheapest(paths) {
-        Some(p) => p.cost,
-        None => u64::MAX,
-    }
-}
-
 /// A set with one more relation, the one whose joins with it cost least. The error means want of memory.
 fn nearest(alloc: Global, task: &Task, table: &Table, set: RelSet) -> Result<RelSet, Memory>
     requires task { IsTask task.now }
@@ -103,7 +83,8 @@ fn nearest(alloc: Global, task: &Task, table: &Table, set: RelSet) -> Result<Rel
     Ok(found)
 }
 
-/// A table with the joins of a part of a set with the rest. The error means want of memory.
+/// A table with the joins of a part of a set with the rest, where the set has more than one relation. The error means want of
+/// memory.
 fn add_joins(
     alloc: Global,
     task: &Task,
@@ -113,8 +94,12 @@ fn add_joins(
 ) -> Result<Table, Memory>
     requires task { IsTask task.now }
     requires placed { ArePlaced task.now.cat.now task.now.q.now (paths_at before) }
-    ensures { IfOk result (λ t. ArePlaced task.now.cat.now task.now.q.now (paths_at t)) }
+    ensures placed { IfOk result (λ t. ArePlaced task.now.cat.now task.now.q.now (paths_at t)) }
+    ensures scans { IfOk result (λ t. HaveSameScans t before) }
 {
+    if is_single(set) {
+        return Ok(before);
+    }
     let front = joins_with(alloc, task, &before, set, part)?;
     let mut table = before;
     match table.put(set, RelSet(0), front) {
@@ -127,7 +112,8 @@ fn add_joins(
 fn joined(alloc: Global, task: &Task, base: Table) -> Result<Table, Memory>
     requires task { IsTask task.now }
     requires placed { ArePlaced task.now.cat.now task.now.q.now (paths_at base) }
-    ensures { IfOk result (λ t. ArePlaced task.now.cat.now task.now.q.now (paths_at t)) }
+    ensures placed { IfOk result (λ t. ArePlaced task.now.cat.now task.now.q.now (paths_at t)) }
+    ensures scans { IfOk result (λ t. HaveSameScans t base) }
 {
     let mut set = RelSet(1);
     let mut table = base;
@@ -140,7 +126,8 @@ fn joined(alloc: Global, task: &Task, base: Table) -> Result<Table, Memory>
 }
 
 /// The paths of single relations with those of one plan or more of all relations, where such are found: to the first relation
-/// one is added after another, each time that whose joins then cost least. The error means want of memory.
+/// one is added after another, each time that whose joins then cost least. The fronts of single relations stay as they are.
+/// The error means want of memory.
 pub fn likely_plans(
     alloc: Global,
     cat: &Catalog,
@@ -150,7 +137,8 @@ pub fn likely_plans(
 ) -> Result<Table, Memory>
     requires query { IsOverTables cat.now q.now }
     requires placed { ArePlaced cat.now q.now (paths_at base) }
-    ensures { IfOk result (λ t. ArePlaced cat.now q.now (paths_at t)) }
+    ensures placed { IfOk result (λ t. ArePlaced cat.now q.now (paths_at t)) }
+    ensures scans { IfOk result (λ t. HaveSameScans t base) }
 {
     let order = order_asked(alloc, q)?;
     let task = Task {

@@ -1,22 +1,24 @@
 //! Merge joins of two sets (PostgreSQL, src/backend/optimizer/path/joinpath.c, sort_inner_and_outer and
 //! match_unsorted_outer).
 
-ghost use Rattle.std.specs.Prelude.{◌≡◌, ◌<◌, ◌^◌, ◌-◌, ℕ, Contains, IfOk, OnOk, map, min, true};
+ghost use Rattle.std.specs.Prelude.{◌≡◌, ◌<◌, ◌≤◌, ◌^◌, ◌-◌, ℕ, All, Contains, IfOk, IsTrue, List, OnOk, map, min, true};
 ghost use Rattle.cost_rules.specs.Costs.{IsEstimate};
 ghost use Rattle.pathkeys.specs.Keys as keys;
+ghost use Rattle.plan_tree.specs.Paths as kept;
 ghost use Rattle.plan_tree.specs.Plans as plans;
 ghost use Rattle.plan_tree.specs.Views.{path, plan};
 ghost use Rattle.join_search.specs.Joins.{IsPathAt, IsPlanIn};
-ghost use Rattle.join_search.specs.Merges.{IsInnerSide, IsListOf, IsMergeWork, IsOuterSide, ServesEarlyPlain, ServesEarlySides, ServesOuters, ServesPlain, merge_with, side_path, side_plan, sort_startup};
+ghost use Rattle.join_search.specs.Merges.{ArePast, IsNoCheaper, IsInnerSide, IsListOf, IsMergeWork, IsOuterSide, ServesEarlyPlain, ServesEarlySides, ServesOuters, ServesPlain, merge_with, side_path, side_plan, sort_startup};
 ghost use Rattle.join_search.specs.Merges as merges;
 ghost use Rattle.join_search.specs.Offers.{Serves, ServesMerges, Takes};
 ghost use Rattle.join_search.specs.Splits.{AreJoinsOf, IsOuterOf, IsOver, inners_of, outers_of};
 ghost use Rattle.join_search.specs.Tables.{none};
 
 use crate::lists::merge_lists;
-use crate::offers::{cheapest, is_passed_over, offer_join};
+use crate::offers::{cheapest, is_passed_over, least_cost, offer_join};
 use crate::sides::{Side, best_side, keys_of, plan_of, side_cost};
 use crate::splits::Split;
+use crate::useful::is_below;
 use catalog::Catalog;
 use cost_rules::{Pair, merge};
 use eq_classes::ClauseSet;
@@ -348,6 +350,48 @@ fn offer_merges_by(
     }
 }
 
+/// The least cost of some paths before the first row, or more than any where there are none.
+fn least_startup(paths: &[Path]) -> u64
+    ensures { All (λ p. result ≤ p.startup) paths.now }
+{
+    match paths.iter().min_by_key(|p| p.startup) {
+        Some(p) => p.startup,
+        None => u64::MAX,
+    }
+}
+
+/// A cost that no path of some is below, neither before its first row nor in all.
+fn least_of(paths: &[Path]) -> Pair
+    ensures { All (IsNoCheaper result) (map path paths.now) }
+{
+    Pair {
+        startup: least_startup(paths),
+        total: least_cost(paths),
+    }
+}
+
+/// Whether two sides that cost so much are together past the limit.
+fn are_past(j: &Split, outer: Pair, inner: Pair) -> bool
+    ensures { IsTrue result → ArePast j.now outer inner }
+{
+    let startup = outer.startup.saturating_add(inner.startup);
+    let total = outer.total.saturating_add(inner.total);
+    let both = Pair { startup, total };
+    !is_below(j.q, j.asked, both)
+}
+
+/// Whether all merges of two sets are past the limit, as what their sides cost at least tells.
+fn are_merges_past(j: &Split) -> bool
+    requires over { IsOver j.now }
+    ensures { IsTrue result → (front : List kept.Path) (by : keys.Keys) → ServesMerges j.now front by }
+{
+    let cat: &Catalog = j.cat;
+    cat.lawful();
+    let outer = least_of(j.outers);
+    let inner = least_of(j.inners);
+    are_past(j, outer, inner)
+}
+
 /// Offers the merges of two sets to the front of both, by each of their lists. The error means want of memory.
 pub(crate) fn offer_merges(alloc: Global, j: &Split, front: &mut KeptPaths) -> Result<(), Memory>
     requires over { IsOver j.now }
@@ -356,6 +400,9 @@ pub(crate) fn offer_merges(alloc: Global, j: &Split, front: &mut KeptPaths) -> R
     ensures served { OnOk result ((by : keys.Keys) → ServesMerges j.now (map path front.new) by) }
 {
     if j.inners.is_empty() {
+        return Ok(());
+    }
+    if are_merges_past(j) {
         return Ok(());
     }
     let lists = merge_lists(alloc, j.cat, j.q, j.outer, j.inner)?;

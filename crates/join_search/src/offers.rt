@@ -29,6 +29,16 @@ pub(crate) fn cheapest(paths: &[Path]) -> Option<&Path>
     paths.iter().min_by_key(|p| p.cost)
 }
 
+/// What the cheapest of some paths costs, or more than any path.
+pub(crate) fn least_cost(paths: &[Path]) -> u64
+    ensures { All (λ p. result ≤ p.cost) paths.now }
+{
+    match cheapest(paths) {
+        Some(p) => p.cost,
+        None => u64::MAX,
+    }
+}
+
 /// Whether all joins with these keys that cost no less may be left out: they are past the limit, or a kept path costs no
 /// more, with keys that begin with their part of use. The error means want of memory.
 pub(crate) fn is_passed_over(

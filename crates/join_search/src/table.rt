@@ -1,12 +1,13 @@
 //! Fronts of paths by set of relations and parameterisation (PostgreSQL, src/backend/optimizer/README, Optimizer Data
 //! Structures).
 
-ghost use Rattle.std.specs.Prelude.{◌≡◌, ◌<◌, ℕ, Bool, IfErr, IfNone, IfOk, IfSome, IsTrue, List, None, OnOk, [], Some, get_or, length, map};
+ghost use Rattle.std.specs.Prelude.{◌≡◌, ◌<◌, ◌↔◌, ◌⊎◌, ℕ, Bool, IfErr, IfNone, IfOk, IfSome, IsTrue, List, None, OnOk, [], Some, get_or, length, map};
 ghost use Rattle.std.specs.Option.{option_map};
 ghost use Rattle.pg_base.specs.declared.rel_set.RelSet as sets;
 ghost use Rattle.plan_tree.specs.Views.{path};
 ghost use Rattle.plan_tree.specs.declared.path.Path as costed;
-ghost use Rattle.join_search.specs.Tables.{IsSamePlace, found_at, front_at, is_at, list_at, params_of, paths_at, paths_of, places_at, with_front};
+ghost use Rattle.join_search.specs.Joins.{HaveSameScans, IsSingle};
+ghost use Rattle.join_search.specs.Tables.{IsSamePlace, found_at, front_at, is_at, list_at, set_numbered, params_of, paths_at, paths_of, places_at, with_front};
 
 use pareto::Front;
 use pg_base::{Memory, RelSet};
@@ -135,6 +136,40 @@ fn params_in(alloc: Global, places: &[Placed]) -> Result<Vec<RelSet>, Memory>
     Ok(params)
 }
 
+/// Whether a number is that of a set of one relation alone.
+fn is_one(n: usize) -> bool
+    ensures { IsTrue result ↔ IsSingle (set_numbered n) }
+{
+    if n == 0 {
+        return false;
+    }
+    n == 1 << n.trailing_zeros()
+}
+
+/// Lets go of the fronts of a set, unless it has one relation alone.
+fn forget_at(sets: &mut Vec<Vec<Placed>>, n: usize)
+    requires within { n < length sets.old.items }
+    ensures many { length sets.new.items ≡ length sets.old.items }
+    ensures here { IsSingle (set_numbered n) ⊎ (list_at sets.new.items n ≡ []) }
+    ensures single { (k : ℕ) → IsSingle (set_numbered k) → list_at sets.new.items k ≡ list_at sets.old.items k }
+    ensures others { (k : ℕ) → ¬ (k ≡ n) → list_at sets.new.items k ≡ list_at sets.old.items k }
+{
+    if is_one(n) {
+        return;
+    }
+    sets[n].clear();
+}
+
+/// Lets go of the fronts of sets of more than one relation.
+fn forget(sets: &mut Vec<Vec<Placed>>)
+    ensures single { (k : ℕ) → IsSingle (set_numbered k) → list_at sets.new.items k ≡ list_at sets.old.items k }
+    ensures others { (k : ℕ) → IsSingle (set_numbered k) ⊎ (list_at sets.new.items k ≡ []) }
+{
+    for n in 0..sets.len() {
+        forget_at(sets, n);
+    }
+}
+
 impl Table {
     /// The table without fronts. It takes no memory.
     pub fn new(alloc: Global) -> Table
@@ -174,6 +209,14 @@ impl Table {
             Ok(()) => put_in(&mut self.sets[s.0 as usize], p, f),
             Err(_) => Err(f),
         }
+    }
+
+    /// Lets go of the fronts of all sets but those of one relation alone.
+    pub fn forget_joins(&mut self)
+        ensures scans { HaveSameScans self.new self.old }
+        ensures single { (s p : sets.RelSet) (f : List costed.Path) → front_at self.new s p ≡ Some f → IsSingle s }
+    {
+        forget(&mut self.sets)
     }
 
     /// The paths of the front at a set and a parameterisation, lent. There are none where no front was put.

@@ -1,6 +1,6 @@
 -- What a table has after a front was put: the base of a search, and the scans of each relation so far.
 use Rattle.std.proofs.Common.{◌≡◌, ◌<◌, ◌≤◌, ◌+◌, ◌⊎◌, inl, inr, ℕ, Bool, true, false, nat_eq, List, map, refl, sym, ◌∙◌, ap, subst, subst₂, arith}
-use Rattle.std.specs.Prelude.{All, None, Some}
+use Rattle.std.specs.Prelude.{All, Option, None, Some}
 use Rattle.std.proofs.lemmas.Bool.{cases_lt, eq-eqb, eqb-true, true≢false}
 use Rattle.std.proofs.lemmas.List.Elements.{All-nil, All-weaker}
 use Rattle.pg_base.specs.Sets.{has}
@@ -16,7 +16,7 @@ use Rattle.plan_tree.specs.Fronts.{AreDominated, IsOffer}
 use Rattle.plan_tree.specs.Reads.{IsOverTables}
 use Rattle.plan_tree.specs.Views.{path}
 use Rattle.plan_tree.specs.declared.path.Path.{Path as Costed}
-use Rattle.join_search.specs.Joins.{IsBase, IsPathAt, IsSingle}
+use Rattle.join_search.specs.Joins.{ArePlaced, HaveSameScans, IsBase, IsPathAt, IsSingle}
 use Rattle.join_search.specs.Tables.{IsSamePlace, front_at, paths_at, paths_of}
 use Rattle.join_search.specs.declared.table.Table.{Table}
 use Rattle.planner.specs.Bases.{HaveScansOf, is_plan}
@@ -128,3 +128,11 @@ module _ (c : Contents) (q : Query) where
   scans-handed base found handed r h = record {
     dominated = λ s p alone. subst (λ f. AreDominated c q is_plan (one r) (has p.0) (paths_of f)) (sym (handed s p (r, alone))) (h.dominated s p alone);
   }
+
+  -- where only fronts of single relations are left, and these as they were, they are a base
+  pub base-forgotten : (old new : Table) → ArePlaced c q (paths_at old) → HaveSameScans new old → ((s p : RelSet) (f : List Costed) → front_at new s p ≡ Some f → IsSingle s) → IsBase c q new
+  base-forgotten old new placed same single = record { single = single; placed = record { paths = λ s p. by s p (front_at new s p) refl } }
+    where
+      by : (s p : RelSet) (o : Option (List Costed)) → front_at new s p ≡ o → All (IsPathAt c q s p) (paths_of o)
+      by s p None e = All-nil (IsPathAt c q s p)
+      by s p (Some f) e = subst (λ o. All (IsPathAt c q s p) (paths_of o)) (sym (same s p (single s p f e)) ∙ e) (placed.paths s p)

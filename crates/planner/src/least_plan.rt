@@ -1,10 +1,10 @@
 //! The plan that a query is answered by.
 
-ghost use Rattle.std.specs.Prelude.{◌≡◌, ◌<◌, ◌≤◌, ℕ, IfErr, IfNone, IfOk, IfSome, MatchOption, map};
+ghost use Rattle.std.specs.Prelude.{◌≡◌, ◌<◌, ◌≤◌, ℕ, All, IfErr, IfNone, IfOk, IfSome, MatchOption, map};
 ghost use Rattle.cost_rules.specs.declared.parameters.TheConstants.{MOST_COST};
 ghost use Rattle.sql_query.specs.Queries.{width};
 ghost use Rattle.plan_tree.specs.Reads.{IsOverTables};
-ghost use Rattle.join_search.specs.Joins.{IsBase};
+ghost use Rattle.join_search.specs.Joins.{HaveSameScans, IsBase};
 ghost use Rattle.planner.specs.Bases.{HaveScansOf};
 ghost use Rattle.pathkeys.specs.Keys as keys;
 ghost use Rattle.sql_query.specs.WellBound.{IsWellBound};
@@ -14,7 +14,7 @@ ghost use Rattle.plan_tree.specs.Plans as plans;
 ghost use Rattle.plan_tree.specs.Space.{IsFinished};
 ghost use Rattle.plan_tree.specs.Views.{path};
 ghost use Rattle.join_search.specs.Tables.{none, paths_at};
-ghost use Rattle.planner.specs.Finishing.{AreCandidates};
+ghost use Rattle.planner.specs.Finishing.{AreCandidates, IsWhole};
 ghost use Rattle.planner.specs.declared.least_plan.PlanFault.TheVariants.{CostLimit};
 
 use crate::base::base_table;
@@ -96,26 +96,55 @@ fn least_of(
 /// So many relations have some hundred pairs of sets, and a likely plan is worth its while.
 const FEWEST_FOR_A_LIMIT: usize = 4;
 
-/// What a plan may cost so that a likely one does, or the limit of costs where none is found. Any number will do. The error
-/// means want of memory.
-fn likely_limit(alloc: Global, cat: &Catalog, q: &Prepared, order: &Keys) -> Result<u64, Memory>
-    requires query { IsOverTables cat.now q.now }
+/// Fronts of single relations, and what a plan may cost over them so that a likely one does.
+#[derive(Drop)]
+struct Likely {
+    base: Table,
+    /// Any number will do.
+    limit: u64,
+}
+
+/// What a plan may cost so that the least of some does, or the limit of costs where there is none.
+fn limit_by(cat: &Catalog, q: &Prepared, paths: &[Path], order: &Keys) -> u64
+    requires whole { All (IsWhole cat.now q.now) (map path paths.now) }
     requires order { order.now ≡ keys.order_keys q.now.classes q.now.order }
 {
+    match least_place(cat, q, paths, order) {
+        Some(least) => least.price.saturating_add(1),
+        None => MOST_COST,
+    }
+}
+
+/// The paths of single relations, with what a plan may cost so that a likely one does, or the limit of costs where none is
+/// found. The error means want of memory.
+fn likely_limit(
+    alloc: Global,
+    cat: &Catalog,
+    q: &Prepared,
+    base: Table,
+    order: &Keys,
+) -> Result<Likely, Memory>
+    requires query { IsOverTables cat.now q.now }
+    requires base { IsBase cat.now q.now base }
+    requires order { order.now ≡ keys.order_keys q.now.classes q.now.order }
+    ensures base { IfOk result (λ l. IsBase cat.now q.now l.base) }
+    ensures scans { IfOk result (λ l. HaveSameScans l.base base) }
+{
     if range_of(q).items().len() < FEWEST_FOR_A_LIMIT {
-        return Ok(MOST_COST);
+        return Ok(Likely {
+            base,
+            limit: MOST_COST,
+        });
     }
     let asked = Asked {
         every_key: false,
         limit: MOST_COST,
     };
-    let base = base_table(alloc, cat, q)?;
-    let table = likely_plans(alloc, cat, q, asked, base)?;
+    let mut table = likely_plans(alloc, cat, q, asked, base)?;
     let all = all_relations(q);
-    match least_place(cat, q, whole_paths(&table, all), order) {
-        Some(least) => Ok(least.price.saturating_add(1)),
-        None => Ok(MOST_COST),
-    }
+    let limit = limit_by(cat, q, whole_paths(&table, all), order);
+    table.forget_joins();
+    Ok(Likely { base: table, limit })
 }
 
 /// A plan of least price over the paths of single relations, where its price is below a limit. None only where no finished
@@ -165,9 +194,9 @@ fn plan_over(alloc: Global, cat: &Catalog, q: &Prepared) -> Result<Planned, Plan
     ensures limit { IfErr result (λ e. e ≡ CostLimit → (t : plans.Plan) → IsFinished cat.now q.now t → ¬ IsAdmissible cat.now q.now t) }
 {
     let order = order_asked(alloc, q)?;
-    let limit = likely_limit(alloc, cat, q, &order)?;
     let base = base_table(alloc, cat, q)?;
-    if let Some(planned) = plan_below(alloc, cat, q, limit, base, &order)? {
+    let likely = likely_limit(alloc, cat, q, base, &order)?;
+    if let Some(planned) = plan_below(alloc, cat, q, likely.limit, likely.base, &order)? {
         return Ok(planned);
     }
     let base = base_table(alloc, cat, q)?;

@@ -1,12 +1,16 @@
 use Rattle.std.proofs.Common.{ap, map, sym, subst, arith}
 use Rattle.std.specs.Prelude.{All}
-use Rattle.std.proofs.lemmas.List.Elements.{All-nil}
+use Rattle.std.proofs.lemmas.List.Elements.{All-more, All-nil, All-weaker}
 use Rattle.std.proofs.lemmas.Result.{IfOk-weaker}
+use Rattle.pg_base.specs.declared.rel_set.RelSet.{RelSet}
 use Rattle.plan_tree.specs.Views.{path}
 use Rattle.join_search.specs.Joins.{IsJoinPath}
+use Rattle.join_search.specs.Offers.{AreJoinsServed}
+use Rattle.join_search.specs.Splits.{IsDivided}
 use Rattle.join_search.specs.Tables.{none, paths_at}
-use Rattle.join_search.proofs.SearchLemmas.{joins-enough, part-more, some-joins}
-use Rattle.join_search.proofs.SetLemmas.{outer-less, outer-some}
+use Rattle.join_search.proofs.FilledLemmas.{filled-served}
+use Rattle.join_search.proofs.ItemLemmas.{all-taken}
+use Rattle.join_search.proofs.SearchLemmas.{joins-enough, joins-later, some-joins}
 use Rattle.join_search.proofs.by_sets.joins_of.Goals as goal
 
 pub loop-part-init : goal.loop-part-init
@@ -14,15 +18,21 @@ loop-part-init c =
     let P = IsJoinPath c.args.at.now.cat.now c.args.at.now.q.now (paths_at c.args.at.now.table.now) c.args.at.now.set none in
     record {
       joins = subst (All P) (ap (map path) (sym c.new-kept.ensures)) (All-nil P);
-      served = λ a b lt d. absurd (omega (arith, lt, outer-some c.args.at.now.set a b d));
+      served = λ k d lt. absurd (omega (arith, lt));
     }
 
 pub loop-part-preserved : goal.loop-part-preserved
 loop-part-preserved c =
+    let t = c.args.at.now in
+    let fronts = paths_at t.table.now in
+    let before = map path c.loop-part.kept in
+    let after = map path c.offer_side.new.front in
+    let taken = c.offer_side.ensures.takes in
     record {
-      joins = c.offer_part.ensures.takes.paths;
-      served = part-more c.args.at.now.cat.now c.args.at.now.q.now c.args.at.now.asked (paths_at c.args.at.now.table.now) c.args.at.now.set (record { 0 = c.loop-part.part }) (map path c.loop-part.kept) (map path c.offer_part.new.front)
-          c.offer_part.ensures.takes.still c.loop-part.invariant.served c.in_ok-offer_part.ensures.served;
+      joins = taken.paths;
+      served = All-more (λ (a : RelSet). (b : RelSet) → IsDivided t.set a b → AreJoinsServed t.cat.now t.q.now t.asked fronts after a b) c.args.filled.now c.loop-part.part-index _ c.loop-part-test.true
+          (All-weaker (λ (a : RelSet). (b : RelSet) → IsDivided t.set a b → AreJoinsServed t.cat.now t.q.now t.asked fronts before a b) (λ (a : RelSet). (b : RelSet) → IsDivided t.set a b → AreJoinsServed t.cat.now t.q.now t.asked fronts after a b)
+          (λ a h b d. joins-later t.cat.now t.q.now t.asked fronts before after a b taken.still (h b d)) _ c.loop-part.invariant.served) c.in_ok-offer_side.ensures.served;
     }
 
 pub returns-clause-joins : goal.returns-clause-joins
@@ -30,6 +40,10 @@ returns-clause-joins c = IfOk-weaker c.front_of.result _ _
     (λ f some. some-joins c.args.at.now.cat.now c.args.at.now.q.now (paths_at c.args.at.now.table.now) c.args.at.now.set (map path c.loop-part.kept) (map path f) some c.loop-part.invariant.joins) c.front_of.ensures.some
 
 pub returns-clause-served : goal.returns-clause-served
-returns-clause-served c = IfOk-weaker c.front_of.result _ _
-    (λ f enough a b d. joins-enough c.args.at.now.cat.now c.args.at.now.q.now c.args.at.now.asked (paths_at c.args.at.now.table.now) (map path c.loop-part.kept) (map path f) a b enough
-    (c.loop-part.invariant.served a b (omega (arith, outer-less c.args.at.now.set a b d, c.loop-part-test.false)) d)) c.front_of.ensures.enough
+returns-clause-served c =
+    let t = c.args.at.now in
+    let fronts = paths_at t.table.now in
+    let kept = map path c.loop-part.kept in
+    let all = all-taken (λ (a : RelSet). (b : RelSet) → IsDivided t.set a b → AreJoinsServed t.cat.now t.q.now t.asked fronts kept a b) c.args.filled.now c.loop-part.part-index c.loop-part-test.false c.loop-part.invariant.served in
+    IfOk-weaker c.front_of.result _ _
+    (λ f enough a b d. joins-enough t.cat.now t.q.now t.asked fronts kept (map path f) a b enough (filled-served t.cat.now t.q.now t.asked fronts kept t.set c.args.filled.now c.requires.filled all a b d)) c.front_of.ensures.enough

@@ -1,16 +1,16 @@
-use Rattle.std.proofs.Common.{◌<◌, map}
+use Rattle.std.proofs.Common.{map, take}
 use Rattle.std.specs.Prelude.{All}
-use Rattle.pg_base.specs.declared.rel_set.RelSet.{RelSet}
 use Rattle.plan_tree.specs.Views.{path}
 use Rattle.join_search.specs.Joins.{IsJoinPath}
 use Rattle.join_search.specs.Offers.{AreJoinsServed}
 use Rattle.join_search.specs.Splits.{IsDivided}
 use Rattle.join_search.specs.Tables.{none, paths_at}
+use Rattle.pg_base.specs.declared.rel_set.RelSet.{RelSet}
 use Rattle.join_search.proofs.by_sets.joins_of.Given as goal
 
--- the joins of the parts below a number with the rest were offered
+-- the joins of the parts so far with the rest were offered
 abbrev pub invariant-loop-part : goal.invariant-loop-part
 invariant-loop-part l = record {
   joins : All (IsJoinPath l.at.cat.now l.at.q.now (paths_at l.at.table.now) l.at.set none) (map path l.kept);
-  served : (a b : RelSet) → a.0 < l.part → IsDivided l.at.set a b → AreJoinsServed l.at.cat.now l.at.q.now l.at.asked (paths_at l.at.table.now) (map path l.kept) a b;
+  served : All (λ (a : RelSet). (b : RelSet) → IsDivided l.at.set a b → AreJoinsServed l.at.cat.now l.at.q.now l.at.asked (paths_at l.at.table.now) (map path l.kept) a b) (take l.part-index l.filled);
 }

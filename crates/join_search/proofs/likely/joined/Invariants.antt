@@ -1,7 +1,10 @@
-use Rattle.join_search.specs.Joins.{ArePlaced}
+use Rattle.join_search.specs.Joins.{ArePlaced, HaveSameScans}
 use Rattle.join_search.specs.Tables.{paths_at}
 use Rattle.join_search.proofs.likely.joined.Given as goal
 
--- each path stands at its place
+-- each path stands at its place, and the fronts of single relations are as they were
 abbrev pub invariant-loop-n : goal.invariant-loop-n
-invariant-loop-n l = ArePlaced l.task.cat.now l.task.q.now (paths_at l.table)
+invariant-loop-n l = record {
+  placed : ArePlaced l.task.cat.now l.task.q.now (paths_at l.table);
+  scans : HaveSameScans l.table l.fn.base;
+}

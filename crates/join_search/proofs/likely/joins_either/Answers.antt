@@ -18,10 +18,10 @@ offer_side-requires-clause-joins c =
 pub front_of-requires-clause-paths : goal.front_of-requires-clause-paths
 front_of-requires-clause-paths c =
     let t = c.args.at.now in
-    joins-there t.cat.now t.q.now (paths_at t.table.now) t.set (map path c.offer_side-2.new.front) c.offer_side-2.ensures
+    joins-there t.cat.now t.q.now (paths_at t.table.now) t.set (map path c.offer_side-2.new.front) c.offer_side-2.ensures.takes.paths
 
 pub returns : goal.returns
 returns c =
     let t = c.args.at.now in
-    let at = joins-there t.cat.now t.q.now (paths_at t.table.now) t.set (map path c.offer_side-2.new.front) c.offer_side-2.ensures in
+    let at = joins-there t.cat.now t.q.now (paths_at t.table.now) t.set (map path c.offer_side-2.new.front) c.offer_side-2.ensures.takes.paths in
     IfOk-weaker c.front_of.result _ _ (λ f some. contained (map path c.offer_side-2.new.front) (map path f) (IsPathAt t.cat.now t.q.now t.set none) some at) c.front_of.ensures.some

@@ -63,3 +63,11 @@ returns-then-is_empty-clause-served c =
     let fronts = paths_at j.table.now in
     λ by'. merges-none j.cat.now j.q.now j.asked (map path c.args.front.now) (fronts j.outer none) (fronts j.inner none) by'
     (empty-lent j.inners.now (fronts j.inner none) c.requires.over.inners (sym c.is_empty.ensures ∙ c.if-is_empty.true))
+
+pub returns-then-are_merges_past-clause-takes : goal.returns-then-are_merges_past-clause-takes
+returns-then-are_merges_past-clause-takes c =
+    let j = c.args.j.now in
+    takes-none j.cat.now j.q.now (paths_at j.table.now) j.set (map path c.args.front.now) c.requires.joins
+
+pub returns-then-are_merges_past-clause-served : goal.returns-then-are_merges_past-clause-served
+returns-then-are_merges_past-clause-served c = c.are_merges_past.ensures c.if-are_merges_past.true (map path c.args.front.now)

@@ -1,0 +1,96 @@
+-- Merges whose sides cost so much together that they are past the limit.
+use Rattle.std.proofs.Common.{◌≡◌, ◌<◌, ◌≤◌, ℕ, ◌+◌, ◌*◌, Bool, true, false, not, List, length, map, refl, sym, ◌∙◌, ap, subst, le_trans, arith}
+use Rattle.std.specs.Prelude.{All, Contains, Option, Some, None}
+use Rattle.std.proofs.lemmas.Bool.{false≢true}
+use Rattle.std.proofs.lemmas.List.Elements.{All-contains, All-contains_itself, All-map, All-weaker}
+use Rattle.pg_base.specs.declared.rel_set.RelSet.{RelSet}
+use Rattle.catalog.specs.Contents.{Contents}
+use Rattle.cost_rules.specs.Costs.{row_cost, sort_cost, sort_work}
+use Rattle.cost_rules.specs.declared.pair.Pair.{Pair}
+use Rattle.cost_rules.specs.declared.parameters.TheConstants.{MOST_COST, OPERATOR}
+use Rattle.path_cost.specs.Estimates.{pairs, set_rows}
+use Rattle.pathkeys.specs.Keys.{Keys}
+use Rattle.sql_query.specs.Queries.{Query}
+use Rattle.sql_query.specs.declared.window.Window.{Window}
+use Rattle.plan_tree.specs.Costs.{HaveRows, cost, estimate, merge_operators}
+use Rattle.plan_tree.specs.Paths.{Path, startup_kept}
+use Rattle.plan_tree.specs.Plans.{Plan, seq, index, index_only, bitmap, sort, nest, merge, set_of}
+use Rattle.plan_tree.specs.Views.{path}
+use Rattle.plan_tree.specs.declared.path.Path.{Path as Costed}
+use Rattle.plan_tree.proofs.BoundLemmas.{sort-most, startup-most}
+use Rattle.plan_tree.proofs.WindowLemmas.{kept-least}
+use Rattle.join_laws.specs.Useful.{floor_by}
+use Rattle.join_search.specs.Tables.{none}
+use Rattle.join_search.specs.Joins.{IsPathAt, IsPlanIn, IsSideIn}
+use Rattle.join_search.specs.Merges.{IsNoCheaper}
+use Rattle.join_search.specs.Offers.{AreMergesServed}
+use Rattle.join_search.specs.Sufficing.{floor_in}
+use Rattle.join_search.specs.declared.useful.Asked.{Asked}
+
+pub not-true : (b : Bool) → not b ≡ true → b ≡ false
+not-true true e = absurd (false≢true e)
+not-true false e = refl
+
+-- paths cost no less than the least of their numbers
+pub least-from : (xs : List Costed) (n : Pair) → All (λ x. n.startup ≤ x.startup) xs → All (λ x. n.total ≤ x.cost) xs → All (IsNoCheaper n) (map path xs)
+least-from xs n early cheap = All-map (IsNoCheaper n) path xs (All-weaker (Contains xs) (λ (x : Costed). IsNoCheaper n (path x)) one xs (All-contains_itself xs))
+  where
+    one : (x : Costed) → Contains xs x → IsNoCheaper n (path x)
+    one x at = (All-contains (λ (y : Costed). n.startup ≤ y.startup) xs x early at, All-contains (λ (y : Costed). n.total ≤ y.cost) xs x cheap at)
+
+more : (m a b : ℕ) → m ≤ a → m ≤ a + b
+more m a b le = omega (arith, le)
+
+sorted-from : (x : Pair) (rows m : ℕ) → m ≤ x.total → m ≤ (sort_cost x rows).startup
+sorted-from x rows m le = more m x.total (sort_work rows) le
+
+both : (x y m n : ℕ) → m ≤ x → n ≤ y → m + n ≤ x + y
+both x y m n a b = omega (arith, a, b)
+
+both-more : (x y m n r s : ℕ) → m ≤ x → n ≤ y → m + n ≤ x + y + r + s
+both-more x y m n r s a b = omega (arith, a, b)
+
+module _ (c : Contents) (q : Query) where
+  -- a plan costs no less, neither before its first row nor in all
+  abbrev IsFromPlan : Pair → Plan → Type 0
+  IsFromPlan n t = (n.startup ≤ (cost c q t).startup) × (n.total ≤ (cost c q t).total)
+
+  floor-same : (w : Option Window) (t : Plan) → floor_by c q w t ≡ floor_in w (cost c q t)
+  floor-same None t = refl
+  floor-same (Some w) t = refl
+
+  module _ (some : HaveRows c q) (s : RelSet) (paths : List Path) (at : All (IsPathAt c q s none) paths) (n : Pair) (least : All (IsNoCheaper n) paths) where
+    plan-from : (t : Plan) → IsPlanIn paths t → IsFromPlan n t
+    plan-from t k =
+        let is = All-contains (IsPathAt c q s none) paths k.path at k.is_there in
+        let from = All-contains (IsNoCheaper n) paths k.path least k.is_there in
+        let early : n.startup ≤ k.path.startup = from.0 in
+        let cheap : n.total ≤ k.path.cost = from.1 in
+        let startup : k.path.startup ≡ startup_kept q.window (cost c q t).startup = is.is_path.numbers.startup ∙ ap (λ (u : Plan). startup_kept q.window (cost c q u).startup) k.is_plan in
+        let total : k.path.cost ≡ (cost c q t).total = is.is_path.numbers.cost ∙ ap (λ (u : Plan). (cost c q u).total) k.is_plan in
+        let most : startup_kept q.window (cost c q t).startup ≤ (cost c q t).startup = kept-least q.window (cost c q t).startup in
+        (omega (arith, early, startup, most), omega (arith, cheap, total))
+
+    sort-from : (keys : Keys) (t : Plan) → IsPlanIn paths t → IsFromPlan n (sort keys t)
+    sort-from keys t k =
+        let from = plan-from t k in
+        (sorted-from (cost c q t) (set_rows c q.range q.classes (set_of t)) n.startup (le_trans from.0 (startup-most c q some t)), le_trans from.1 (sort-most c q keys t))
+
+    side-from : (t : Plan) → IsSideIn paths t → IsFromPlan n t
+    side-from (sort keys input) k = sort-from keys input k
+    side-from (seq r) k = plan-from (seq r) k
+    side-from (index r i backward p) k = plan-from (index r i backward p) k
+    side-from (index_only r i backward p) k = plan-from (index_only r i backward p) k
+    side-from (bitmap r p bits) k = plan-from (bitmap r p bits) k
+    side-from (nest o i) k = plan-from (nest o i) k
+    side-from (merge keys o i) k = plan-from (merge keys o i) k
+
+  -- where what costs no less than the least of both sides together is past the limit, each merge of them is
+  pub merges-past : (asked : Asked) (some : HaveRows c q) (a b : RelSet) (outers inners : List Path) (m n : Pair) → All (IsPathAt c q a none) outers → All (IsPathAt c q b none) inners → All (IsNoCheaper m) outers → All (IsNoCheaper n) inners →
+      ((x : Pair) → m.startup + n.startup ≤ x.startup → m.total + n.total ≤ x.total → x.total < MOST_COST → floor_in q.window x < asked.limit → ⊥) → (front : List Path) (keys : Keys) → AreMergesServed c q asked front outers inners keys
+  merges-past asked some a b outers inners m n at at' least least' past front keys o i so si built below =
+      let x = side-from some a outers at m least o so in
+      let y = side-from some b inners at' n least' i si in
+      absurd (past (cost c q (merge keys o i)) (both (cost c q o).startup (cost c q i).startup m.startup n.startup x.0 y.0)
+      (both-more (cost c q o).total (cost c q i).total m.total n.total ((estimate c q o + 2 * estimate c q i) * (length keys * OPERATOR)) (pairs c q.range q.classes (set_of o) (set_of i) keys * row_cost (merge_operators q keys o i)) x.1 y.1)
+      below.admissible (subst (λ (k : ℕ). k < asked.limit) (floor-same q.window (merge keys o i)) below.floor))

@@ -49,28 +49,43 @@ def length(text, found):
     return sum(not CLAUSE.match(line) for line in lines[:end + 1])
 
 
-def main():
-    wide, long, large, clauses = [], [], [], collections.Counter()
-    folders = [ROOT / "crates" / name for name in sys.argv[1:]] or sorted((ROOT / "crates").iterdir())
+class Shape:
+    """What is past a measure, one row each."""
+
+    def __init__(self):
+        self.wide, self.long, self.large, self.clauses = [], [], [], []
+
+
+def measured(folders):
+    """What of the crates in these folders is past a measure."""
+    made = Shape()
     for folder in folders:
         lines, functions = 0, 0
         for file in sorted(folder.glob("src/**/*.rt")):
             text = file.read_text()
             lines += text.count("\n")
-            clauses[folder.name] += sum(len(line) > MOST_COLUMNS for line in text.split("\n") if CLAUSE.match(line))
+            made.clauses += [f"{folder.name} {file.stem}:{at}" for at, line in enumerate(text.split("\n"), 1)
+                             if len(line) > MOST_COLUMNS and CLAUSE.match(line)]
             for found in FUNCTION.finditer(text):
                 functions += 1
                 name = f"{folder.name}::{found[3]}"
                 count, tall = parameters(text, found.end()), length(text, found)
                 if count > MOST_PARAMETERS and found[2] != "pub ":
-                    wide.append(f"{name} {count}")
+                    made.wide.append(f"{name} {count}")
                 if tall > MOST_LINES:
-                    long.append(f"{name} {tall}")
+                    made.long.append(f"{name} {tall}")
         if lines > MOST_CODE or functions > MOST_FUNCTIONS:
-            large.append(f"{folder.name} {lines} lines, {functions} functions")
-    for title, found in (("more than six parameters", wide), ("more than 40 lines", long), ("large crates", large)):
+            made.large.append(f"{folder.name} {lines} lines, {functions} functions")
+    return made
+
+
+def main():
+    made = measured([ROOT / "crates" / name for name in sys.argv[1:]] or sorted((ROOT / "crates").iterdir()))
+    for title, found in (("more than six parameters", made.wide), ("more than 40 lines", made.long), ("large crates", made.large)):
         print(f"{title}: {len(found)}", *found, sep="\n  ")
-    print(f"clauses of more than 100 columns: {sum(clauses.values())}", *(f"{name} {n}" for name, n in clauses.most_common(10)), sep="\n  ")
+    clauses = collections.Counter(row.split()[0] for row in made.clauses)
+    print(f"clauses of more than 100 columns: {len(made.clauses)}", *(f"{name} {n}" for name, n in clauses.most_common(10)), sep="\n  ")
 
 
-main()
+if __name__ == "__main__":
+    main()

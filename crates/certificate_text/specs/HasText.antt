@@ -16,6 +16,7 @@ use Rattle.certificates.specs.Limit.{MOST_ENTRIES}
 abbrev pub IsWritable : ℕ → Type 0
 IsWritable n = n < 10 ^ 19
 
+-- a number that an entry may have
 abbrev pub IsEntryNumber : ℕ → Type 0
 IsEntryNumber n = n ≤ MOST_ENTRIES
 
@@ -41,10 +42,12 @@ module _ (c : Contents) (q : Query) where
   HasElementText (all_hold bs) = ⊥
   HasElementText (some_arm n is) = ¬ (conjunct_by (slice_get q.classes.clauses n) ≡ None) × All (IsIndex c) is × (1 ≤ length is)
 
+  -- each of some trees is such an element
   abbrev pub HaveElementTexts : BitTrees → Type 0
   HaveElementTexts no_trees = Unit {0}
   HaveElementTexts (tree_and b bs) = HasElementText b × HaveElementTexts bs
 
+  -- how many trees there are
   abbrev pub count : BitTrees → ℕ
   count no_trees = 0
   count (tree_and b bs) = suc (count bs)

@@ -23,10 +23,11 @@ with_bare_commas before (x ∷ xs) = before ++ (x ++ with_bare_commas (codes ","
 abbrev pub side_text : Side → List ℕ
 side_text s = cond s.sorted (codes "sort ") [] ++ decimal s.entry
 
--- the two sides of a nested loop, and those of a merge
+-- the two sides of a nested loop
 abbrev pub nest_text : ℕ → ℕ → List ℕ
 nest_text outer inner = codes "Nested Loop " ++ (decimal outer ++ (codes " " ++ decimal inner))
 
+-- the two sides of a merge
 abbrev pub sides_text : Side → Side → List ℕ
 sides_text outer inner = codes " " ++ (side_text outer ++ (codes " " ++ side_text inner))
 
@@ -57,10 +58,11 @@ module _ (q : Query) where
   param_text p = cond (is_empty p) [] (codes " for " ++ set_text p)
 
 module _ (c : Contents) where
-  -- a scan by an index, and what a bitmap tree has of one
+  -- a scan by an index
   abbrev pub by_index_text : Bool → IndexNo → Bool → List ℕ
   by_index_text only i backward = scan_name only ++ (backward_text backward ++ (codes " using " ++ index_name_at c i))
 
+  -- the entries of an index, in a bitmap tree
   abbrev pub leaf_text : IndexNo → List ℕ
   leaf_text i = codes "Index " ++ index_name_at c i
 

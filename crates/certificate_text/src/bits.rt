@@ -1,15 +1,16 @@
 //! Bitmap trees in one line.
 
-ghost use Rattle.std.specs.Prelude.{◌≡◌, ◌++◌, [], All, OnOk, codes, cond, map, slice_get};
+ghost use Rattle.std.specs.Prelude.{◌≡◌, ◌++◌, [], All, OnOk, codes, cond, map};
 ghost use Rattle.catalog.specs.Contents.{IsIndex};
-ghost use Rattle.explain.specs.Texts.{conjunct_by, number_text, with_commas};
+ghost use Rattle.explain.specs.Texts.{with_commas};
 ghost use Rattle.plan_tree.specs.Views.{bits, bits_all};
 ghost use Rattle.certificate_text.specs.HasText.{HasBitsText, HasElementText, HaveElementTexts};
 ghost use Rattle.certificate_text.specs.Texts as texts;
 
 use catalog::Catalog;
+use explain::{conjunct_of, put_conjunct};
 use pg_base::{IndexNo, Memory};
-use plan_tree::{BitTree, classes_of};
+use plan_tree::BitTree;
 use sql_query::Prepared;
 use std::alloc::Global;
 
@@ -45,31 +46,6 @@ fn put_leaves(text: &mut Vec<u8>, cat: &Catalog, indexes: &[IndexNo]) -> Result<
         first = false;
     }
     Ok(())
-}
-
-/// The number, from 1, of the conjunct that a clause is. None where there is no such clause, or a class makes it.
-fn conjunct_of(q: &Prepared, n: u16) -> Option<u16>
-    ensures { result ≡ conjunct_by (slice_get q.now.classes.clauses n) }
-{
-    let classes = classes_of(q);
-    if (n as usize) < classes.count() {
-        classes.conjunct(n)
-    } else {
-        None
-    }
-}
-
-/// Appends a number, where there is one.
-fn put_conjunct(alloc: Global, text: &mut Vec<u8>, number: Option<u16>) -> Result<(), Memory>
-    ensures { OnOk result (text.new.items ≡ text.old.items ++ number_text number) }
-{
-    match number {
-        Some(n) => {
-            let digits = format!(in alloc; "{n}")?;
-            text.extend_from_slice(digits.as_bytes())
-        }
-        None => Ok(()),
-    }
 }
 
 /// Appends an OR by the number of its conjunct, with an index for each arm.

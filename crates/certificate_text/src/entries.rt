@@ -12,11 +12,11 @@ ghost use Rattle.certificates.specs.Views.{certificate, entry, side};
 ghost use Rattle.certificate_text.specs.HasText.{HasEntryLine, HasText};
 ghost use Rattle.certificate_text.specs.Texts as texts;
 
-use crate::keys::put_keys;
 use crate::nodes::{put_node, put_number, put_side};
 use crate::sets::{put_param, put_set};
 use catalog::Catalog;
 use certificates::{Certificate, Entry, Side};
+use explain::put_keys;
 use pg_base::Memory;
 use pg_value::Bytes;
 use sql_query::Prepared;

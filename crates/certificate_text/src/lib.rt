@@ -3,7 +3,6 @@
 
 mod bits;
 mod entries;
-mod keys;
 mod nodes;
 mod sets;
 

@@ -5,16 +5,15 @@ ghost use Rattle.std.specs.Fmt.{decimal};
 ghost use Rattle.std.specs.String.{string_bytes};
 ghost use Rattle.pg_base.specs.Sets.{has};
 ghost use Rattle.catalog.specs.Contents.{IsIndex};
-ghost use Rattle.explain.specs.Texts.{backward_text, scan_name};
 ghost use Rattle.sql_query.specs.WellBound.{IsWellBound};
 ghost use Rattle.certificates.specs.Views as views;
 ghost use Rattle.certificate_text.specs.HasText.{HasNodeText};
 ghost use Rattle.certificate_text.specs.Texts as texts;
 
 use crate::bits::put_bits;
-use crate::keys::put_keys;
 use catalog::Catalog;
 use certificates::{Node, Side};
+use explain::{put_keys, put_scan_name};
 use pathkeys::Keys;
 use pg_base::{IndexNo, Memory, RelSet};
 use sql_query::Prepared;
@@ -44,21 +43,6 @@ pub(crate) fn put_side(alloc: Global, text: &mut Vec<u8>, s: Side) -> Result<(),
 {
     put_sort(text, s.sort)?;
     put_number(alloc, text, u64::from(s.entry))
-}
-
-/// Appends the kind of a scan by an index, and its direction.
-fn put_scan_name(text: &mut Vec<u8>, only: bool, backward: bool) -> Result<(), Memory>
-    ensures { OnOk result (text.new.items ≡ text.old.items ++ (scan_name only ++ backward_text backward)) }
-{
-    if only {
-        text.extend_from_slice(b"Index Only Scan")?;
-    } else {
-        text.extend_from_slice(b"Index Scan")?;
-    }
-    if backward {
-        text.extend_from_slice(b" Backward")?;
-    }
-    Ok(())
 }
 
 /// Appends a scan by an index.

@@ -51,8 +51,8 @@ fn put_leaves(
     Ok(())
 }
 
-/// The number, from 1, of the conjunct that a clause is. None where there is no such clause, or a class makes it.
-fn conjunct_of(q: &Prepared, n: u16) -> Option<u16>
+/// The number, from 1, of the conjunct that the clause of a number is. None where there is no such clause, or a class makes it.
+pub fn conjunct_of(q: &Prepared, n: u16) -> Option<u16>
     ensures { result ≡ conjunct_by (slice_get q.now.classes.clauses n) }
 {
     let classes = classes_of(q);
@@ -63,8 +63,8 @@ fn conjunct_of(q: &Prepared, n: u16) -> Option<u16>
     }
 }
 
-/// Appends a number, where there is one.
-fn put_number(alloc: Global, text: &mut Vec<u8>, number: Option<u16>) -> Result<(), Memory>
+/// Appends the number of a conjunct to a text, where there is one. The error means want of memory.
+pub fn put_conjunct(alloc: Global, text: &mut Vec<u8>, number: Option<u16>) -> Result<(), Memory>
     ensures { OnOk result (text.new.items ≡ text.old.items ++ number_text number) }
 {
     match number {
@@ -88,7 +88,7 @@ fn put_or(
 {
     lead.put(text)?;
     text.extend_from_slice(b"BitmapOr ")?;
-    put_number(alloc, text, conjunct_of(q, n))?;
+    put_conjunct(alloc, text, conjunct_of(q, n))?;
     text.extend_from_slice(b"\n")
 }
 

@@ -66,8 +66,8 @@ fn put_using(
     put_scanned(text, cat, q, r, p)
 }
 
-/// Appends the kind of a scan by an index, and its direction.
-fn put_scan_name(text: &mut Vec<u8>, only: bool, backward: bool) -> Result<(), Memory>
+/// Appends to a text the kind of a scan by an index, of that alone or not, and its direction. The error means want of memory.
+pub fn put_scan_name(text: &mut Vec<u8>, only: bool, backward: bool) -> Result<(), Memory>
     ensures { OnOk result (text.new.items ≡ text.old.items ++ (scan_name only ++ backward_text backward)) }
 {
     if only {

@@ -4,7 +4,7 @@ use Rattle.std.specs.Prelude.{◌≤◌, All}
 use Rattle.std.specs.List.{list_all}
 use Rattle.std.proofs.lemmas.Bool.{true≢false}
 use Rattle.std.proofs.lemmas.Bool.Decides.{nat_tests}
-use Rattle.std.proofs.lemmas.List.{append_cancel_left, drop_more, get_or-drop, get_or-map, length-append, length-drop, length-map}
+use Rattle.std.proofs.lemmas.List.{append_cancel_left, get_or-drop, get_or-map, length-append, length-drop, length-map}
 use Rattle.std.proofs.lemmas.List.Elements.{All-cons, All-head, All-tail}
 use Rattle.pg_base.specs.Names.{IsName, is_in_name}
 use Rattle.pg_base.specs.Sets.{has}
@@ -19,6 +19,7 @@ use Rattle.catalog.specs.Range.{Range, aliases}
 use Rattle.explain.specs.Texts.{aliases_in, given_text, with_alias, with_commas}
 use Rattle.certificate_text.specs.HasText.{IsSetOf}
 use Rattle.certificate_lines.proofs.NameLemmas.{name-word}
+use Rattle.plan_tree.proofs.ElementLemmas.{same-number}
 use Rattle.plan_titles.specs.Words.{IsWordRead}
 
 abbrev pub AreWords : List (List ℕ) → Type 0
@@ -104,9 +105,6 @@ below-itself n = grind (arith, nat_tests)
 below-one-more : (n : ℕ) → nat_lt n (n + 1) ≡ true
 below-one-more n = grind (arith, nat_tests)
 
-is-number : (k n : ℕ) → nat_eq k n ≡ true → k ≡ n
-is-number k n e = grind (arith, nat_tests, e)
-
 -- a set so far, with the members below a number
 abbrev pub IsBelow : (ℕ → Bool) → (ℕ → Bool) → ℕ → Type 0
 IsBelow made s n = (k : ℕ) → made k ≡ (nat_lt k n && s k)
@@ -117,7 +115,7 @@ none-below made s h k = h k ∙ sym (nothing-below k (s k))
 one-more-below : (made new s : ℕ → Bool) (n : ℕ) → IsBelow made s n → s n ≡ true → ((k : ℕ) → new k ≡ (made k || nat_eq k n)) → IsBelow new s (n + 1)
 one-more-below made new s n h is more k = more k ∙ (ap (λ (b : Bool). b || nat_eq k n) (h k) ∙ by (nat_eq k n) refl) where
   by : (b : Bool) → nat_eq k n ≡ b → ((nat_lt k n && s k) || b) ≡ (nat_lt k (n + 1) && s k)
-  by true e = or-true (nat_lt k n && s k) ∙ sym (ap (λ (m : ℕ). nat_lt m (n + 1) && s m) (is-number k n e) ∙ (ap (λ (t : Bool). t && s n) (below-one-more n) ∙ is))
+  by true e = or-true (nat_lt k n && s k) ∙ sym (ap (λ (m : ℕ). nat_lt m (n + 1) && s m) (same-number k n e) ∙ (ap (λ (t : Bool). t && s n) (below-one-more n) ∙ is))
     where
       or-true : (a : Bool) → (a || true) ≡ true
       or-true true = refl
@@ -133,7 +131,7 @@ no-more-below made s n h is k = h k ∙ by (nat_eq k n) refl where
   by : (b : Bool) → nat_eq k n ≡ b → (nat_lt k n && s k) ≡ (nat_lt k (n + 1) && s k)
   by true e =
       let here : (m : ℕ) → (nat_lt m n && s n) ≡ (nat_lt m (n + 1) && s n) = λ m. ap (λ (t : Bool). nat_lt m n && t) is ∙ (and-false (nat_lt m n) ∙ sym (ap (λ (t : Bool). nat_lt m (n + 1) && t) is ∙ and-false (nat_lt m (n + 1)))) in
-      ap (λ (m : ℕ). nat_lt k n && s m) (is-number k n e) ∙ (here k ∙ sym (ap (λ (m : ℕ). nat_lt k (n + 1) && s m) (is-number k n e)))
+      ap (λ (m : ℕ). nat_lt k n && s m) (same-number k n e) ∙ (here k ∙ sym (ap (λ (m : ℕ). nat_lt k (n + 1) && s m) (same-number k n e)))
     where
       and-false : (a : Bool) → (a && false) ≡ false
       and-false true = refl
@@ -198,7 +196,7 @@ module _ (c : Contents) (q : Query) (bound : IsWellBound c q) where
 
       below : (k : ℕ) → (has made.0 k ≡ true) ⊎ (nat_eq k n ≡ true) → k < n + 1
       below k (inl e) = let lt = h.within k e in omega (arith, lt)
-      below k (inr e) = let same = is-number k n e in omega (arith, same)
+      below k (inr e) = let same = same-number k n e in omega (arith, same)
 
     pub reading-passed : (old word left : List ℕ) (made : RelSet) → IsReading q old n made word left → word ≢ r.1 → IsReading q old (n + 1) made word left
     reading-passed old word left made h differs = record {
@@ -223,12 +221,6 @@ module _ (c : Contents) (q : Query) (bound : IsWellBound c q) where
           and-false : (a : Bool) → (a && false) ≡ false
           and-false true = refl
           and-false false = refl
-
--- an item of a list that a call gave, and what is left behind it
-pub split-at : (xs ys : Range) (n : ℕ) (r : TableNo × List ℕ) → xs ≡ ys → r ≡ get_or xs n r → n < length xs → (n < length ys) × (drop n ys ≡ r ∷ drop (n + 1) ys)
-split-at xs ys n r same is lt =
-    let low : n < length ys = subst (λ (l : Range). n < length l) same lt in
-    (low, drop_more ys n r low ∙ ap (λ (x : TableNo × List ℕ). x ∷ drop (n + 1) ys) (sym (is ∙ ap (λ (l : Range). get_or l n r) same)))
 
 pub moved : (q : Query) (old : List ℕ) (n : ℕ) (made new : RelSet) (word other left behind : List ℕ) → new ≡ made → other ≡ word → behind ≡ left → IsReading q old n made word left → IsReading q old n new other behind
 moved q old n made new word other left behind e f g h =

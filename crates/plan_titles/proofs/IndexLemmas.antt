@@ -8,11 +8,9 @@ use Rattle.catalog.specs.Tables.{HasIndexName, IsFreeIndex}
 use Rattle.sql_query.specs.Queries.{Query}
 use Rattle.line_cursor.specs.Words.{stops}
 use Rattle.certificate_lines.proofs.NameLemmas.{index-found, index-word}
+use Rattle.certificate_lines.proofs.NumberLemmas.{some-same}
 use Rattle.plan_titles.specs.HasText.{IsIndexOfQuery}
 use Rattle.plan_titles.proofs.GivenLemmas.{IsRun}
-
-some-same : {A : Type 0} (a b : A) → Some a ≡ Some b → a ≡ b
-some-same a b e = cc
 
 -- the word and the index of a name
 pub index-read : (c : Contents) (q : Query) → IsLawful c → (text old word new : List ℕ) (o : Option IndexNo) → old ≡ text → IsRun old word new → MatchOption o (IsFreeIndex c word) (HasIndexName c word) →

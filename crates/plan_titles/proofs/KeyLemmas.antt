@@ -1,10 +1,10 @@
 -- Key lists one by one, what stands behind some bytes, and indexes of the tables of a query.
 use Prim.Native.Nat.{suc}
 use Rattle.std.proofs.Common.{◌≡◌, ◌≢◌, ◌≤◌, ◌<◌, ◌+◌, ◌⊎◌, inl, inr, Bor, ℕ, Bool, true, false, cond, nat_eq, List, [], ◌∷◌, ◌++◌, codes, length, map, drop, get_or, refl, sym, ap, ◌∙◌, subst, append_assoc, length-append, arith, drop-cons}
-use Rattle.std.specs.Prelude.{All, Option, Some, None, option_map, IfSome, MatchOption}
+use Rattle.std.specs.Prelude.{Option, Some, None, option_map, IfSome, MatchOption}
 use Rattle.std.proofs.lemmas.Bool.{cases_lt, true≢false}
 use Rattle.std.proofs.lemmas.Bool.Decides.{Decides-eqb, nat_tests}
-use Rattle.std.proofs.lemmas.List.{append_cancel_left, get_or-map, get_or_default, length-map}
+use Rattle.std.proofs.lemmas.List.{append_cancel_left, get_or_default}
 use Rattle.std.proofs.lemmas.List.Elements.{All-head}
 use Rattle.pg_base.specs.declared.numbers.RelNo.{RelNo}
 use Rattle.pg_base.specs.declared.numbers.TableNo.{TableNo}
@@ -25,7 +25,7 @@ use Rattle.plan_laws.proofs.WellBoundLemmas.{bound-over}
 use Rattle.explain.specs.Texts.{column_text, direction_text, family_text, key_text, keys_text, member_text, title, with_commas}
 use Rattle.certificate_text.specs.HasText.{HasKeysText}
 use Rattle.plan_lines.specs.Kinds.{words}
-use Rattle.plan_titles.specs.HasText.{IsTableOf, IsText}
+use Rattle.plan_titles.specs.HasText.{IsTableOfQuery, IsText}
 use Rattle.plan_titles.specs.Kinds.{behind_words, kind_of}
 
 module _ (c : Contents) (q : Query) where
@@ -71,11 +71,6 @@ module _ (c : Contents) (q : Query) where
 
 comma-next : (n : ℕ) → nat_eq (n + 1) 0 ≡ false
 comma-next n = grind (arith, nat_tests)
-
-pub key-class : (ks : List ClassNo) (n most : ℕ) (d : ClassNo) → n < length ks → All (λ m. m < most) (class_numbers ks) → (get_or ks n d).0 < most
-key-class ks n most d lt all =
-    let P : ℕ → Type 0 = λ m. m < most in
-    subst P (get_or-map (λ (c : ClassNo). c.0) ks n d 0 lt) (all n 0 (let long = length-map ks (λ (c : ClassNo). c.0) in omega (arith, long, lt)))
 
 -- the key of a place, what stands before it, and the later keys
 module _ (c : Contents) (q : Query) (s : Set) (ks : List ClassNo) (n : ℕ) (d : ClassNo) (lt : n < length ks) where
@@ -144,7 +139,7 @@ module _ (c : Contents) (q : Query) where
 
 module _ (q : Query) where
   -- the table of a relation
-  pub table-found : (items : Range) (n : ℕ) (x : TableNo × List ℕ) (t : TableNo) → items ≡ q.range → n < length items → x ≡ get_or items n x → nat_eq x.0.0 t.0 ≡ true → IsTableOf q t
+  pub table-found : (items : Range) (n : ℕ) (x : TableNo × List ℕ) (t : TableNo) → items ≡ q.range → n < length items → x ≡ get_or items n x → nat_eq x.0.0 t.0 ≡ true → IsTableOfQuery q t
   table-found items n x t same lt at e =
       let here : n < length q.range = subst (λ (l : Range). n < length l) same lt in
       let found : x ≡ get_or q.range n x = at ∙ ap (λ (l : Range). get_or l n x) same in
@@ -181,7 +176,7 @@ module _ (q : Query) where
           let two : x.0 ≡ t = sym (f ∙ one) in
           true≢false (sym ((Decides-eqb x.0.0 t.0).1 (ap (λ (y : TableNo). y.0) two)) ∙ e)
 
-  pub none-before : (items : Range) (n : ℕ) (t : TableNo) → items ≡ q.range → length items ≤ n → IsBefore t n → IsTableOf q t → ⊥
+  pub none-before : (items : Range) (n : ℕ) (t : TableNo) → items ≡ q.range → length items ≤ n → IsBefore t n → IsTableOfQuery q t → ⊥
   none-before items n t same le before h =
       let long : length items ≡ length q.range = ap (λ (l : Range). length l) same in
       let low = h.within in

@@ -14,7 +14,7 @@ use Rattle.explain.specs.Texts.{conjunct_by}
 use Rattle.certificate_text.specs.HasText.{HasKeysText, IsSetOf}
 
 -- the table of some relation of a query
-pub record IsTableOf (q : Query) (t : TableNo) : Type 0 where
+pub record IsTableOfQuery (q : Query) (t : TableNo) : Type 0 where
   pub relation : RelNo
   pub within : relation.0 < width q
   pub is : t ≡ (relation_at q.range relation).0
@@ -23,12 +23,13 @@ module _ (c : Contents) (q : Query) where
   -- an index of such a table
   pub record IsIndexOfQuery (i : IndexNo) : Type 0 where
     pub index : IsIndex c i
-    pub table : IsTableOf q (index_at c i).table
+    pub table : IsTableOfQuery q (index_at c i).table
 
   -- the number of a clause that is a conjunct
   abbrev pub IsConjunct : ℕ → Type 0
   IsConjunct n = ¬ (conjunct_by (slice_get q.classes.clauses n) ≡ None)
 
+  -- the indexes of a bitmap tree are of the query's tables, and its ORs are conjuncts
   abbrev mutual
     pub HasBits : BitTree → Type 0
     HasBits (leaf i) = IsIndexOfQuery i

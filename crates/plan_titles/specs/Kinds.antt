@@ -8,6 +8,7 @@ use Rattle.plan_lines.specs.declared.kinds.Kind.{Kind}
 use Rattle.plan_lines.specs.declared.kinds.Kind.TheVariants as kinds
 use Rattle.plan_titles.specs.Scans.{indexed_text}
 
+-- the kind of a node
 abbrev pub kind_of : Plan → Kind
 kind_of (seq r) = kinds.Seq
 kind_of (index r i backward p) = kinds.Index

@@ -11,5 +11,6 @@ module _ (c : Contents) (q : Query) where
   abbrev pub IsIndexScan : IndexScan → Type 0
   IsIndexScan s = IsScanned c q s.rel s.param × IsIndexOfQuery c q s.index
 
+  -- its text: the direction, the index, and the relation with those whose rows the scan is given
   abbrev pub indexed_text : IndexScan → List ℕ
   indexed_text s = backward_text s.backward ++ (codes " using " ++ (index_name_at c s.index ++ (codes " on " ++ scanned_text c q s.rel s.param)))

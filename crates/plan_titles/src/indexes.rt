@@ -6,7 +6,7 @@ ghost use Rattle.catalog.specs.Contents.{IsIndex, index_name_at};
 ghost use Rattle.explain.specs.Texts.{backward_text};
 ghost use Rattle.line_cursor.specs.Words.{stops};
 ghost use Rattle.sql_query.specs.WellBound.{IsWellBound};
-ghost use Rattle.plan_titles.specs.HasText.{IsIndexOfQuery, IsTableOf};
+ghost use Rattle.plan_titles.specs.HasText.{IsIndexOfQuery, IsTableOfQuery};
 ghost use Rattle.plan_titles.specs.Scans.{IsIndexScan, indexed_text};
 ghost use Rattle.plan_titles.specs.declared.indexes.IndexScan as scans;
 
@@ -20,7 +20,7 @@ use sql_query::Prepared;
 
 /// Whether a table is that of some relation of the query.
 fn has_table(q: &Prepared, t: TableNo) -> bool
-    ensures { IsTrue result ↔ IsTableOf q.now t }
+    ensures { IsTrue result ↔ IsTableOfQuery q.now t }
 {
     for (table, _) in range_of(q).items() {
         if *table == t {

@@ -10,7 +10,7 @@ use Rattle.plan_tree.specs.Views.{plan}
 use Rattle.plan_tree.specs.declared.path.Path.{Path as Costed}
 use Rattle.certificates.specs.Certificates.{plan_at, side_at, sorted_if}
 use Rattle.kept_laws.specs.Made.{IsSideAmong}
-use Rattle.planned_table.specs.Numbering.{present, trees, unsorted}
+use Rattle.planned_table.specs.Numbering.{present, trees, without_sort}
 
 take-get : (ts : List Plan) (first n : ℕ) (t : Plan) → n < first → slice_get ts n ≡ Some t → slice_get (present (take first ts)) n ≡ Some (Some t)
 take-get ts zero n t lt e = absurd (omega (arith, lt))
@@ -48,7 +48,7 @@ pub other-tree : (o : Option Plan) (a t : Plan) → o ≡ Some a → ¬ (a ≡ t
 other-tree o a t e differ same = differ (cc)
 
 -- a side of a merge, without its sort
-pub side-unsorted : (ts : List Plan) (keys : Keys) (t : Plan) → IsSideAmong ts keys t → Contains ts (unsorted t)
+pub side-unsorted : (ts : List Plan) (keys : Keys) (t : Plan) → IsSideAmong ts keys t → Contains ts (without_sort t)
 side-unsorted ts keys (seq r) h = h
 side-unsorted ts keys (index r i backward p) h = h
 side-unsorted ts keys (index_only r i backward p) h = h

@@ -33,7 +33,7 @@ use Rattle.join_search.specs.Tables.{Fronts}
 use Rattle.planner.proofs.BaseLemmas.{scan-most, within-most}
 use Rattle.certificates.specs.Certificates.{Certificate, Entry, finish_at}
 use Rattle.certificates.specs.Limit.{MOST_ENTRIES}
-use Rattle.certificates.specs.Tables.{IsTable}
+use Rattle.certificates.specs.Tables.{IsPlanTable}
 use Rattle.certificate_laws.specs.Kept.{AreEntriesOf, AreOf}
 use Rattle.certificate_laws.proofs.KeptLemmas.{made-table}
 use Rattle.certificate_text.specs.HasText.{HasText}
@@ -143,7 +143,7 @@ moved-paths fronts xs ys moved h = record {
 
 -- what the certificate of the gathered paths is
 module _ (c : Contents) (q : Query) (lawful : IsLawful c) (bound : IsWellBound c q) (fronts : Fronts) (searched : IsSearched c q fronts) (xs : List (Bor Costed)) (are : AreOfFronts fronts (shown xs)) (t : Certificate) (of : AreOf q t (shown xs)) where
-  pub table-of : (best : Plan) → finish_at q t t.best ≡ Some best → IsBestPlan c q best → IsTable c q t
+  pub table-of : (best : Plan) → finish_at q t t.best ≡ Some best → IsBestPlan c q best → IsPlanTable c q t
   table-of best is b =
       made-table c q t (shown xs) (paths-kept c q fronts searched (shown xs) are (lawful-rows c q lawful)) of best is b.finished b.admissible b.least
 

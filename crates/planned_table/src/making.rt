@@ -1,6 +1,7 @@
 //! Entries for paths, and the certificate that they make.
 
-ghost use Rattle.std.specs.Prelude.{◌≡◌, ◌≤◌, [], All, Contains, IfOk, Some, length, map, not, take};
+ghost use Rattle.std.specs.Prelude.{◌≡◌, ◌≤◌, ℕ, [], All, Contains, IfOk, Some, length, map, not, take};
+ghost use Rattle.pg_base.specs.declared.rel_set.RelSet.{RelSet};
 ghost use Rattle.pathkeys.specs.Keys as keys;
 ghost use Rattle.sql_query.specs.Queries.{width};
 ghost use Rattle.plan_tree.specs.Reads.{ReadsBelow};
@@ -22,13 +23,11 @@ use plan_tree::{Path, Plan};
 use sql_query::Prepared;
 use std::alloc::{AllocError, Global};
 
-/// What the entry of a merge is. The error means want of memory.
+/// What the entry of a merge is, by the numbers of its sides among the first paths of a list. The error means want of memory.
 fn merge_of(
     alloc: Global,
-    q: &Prepared,
     listed: &[&Path],
     first: usize,
-    p: &Path,
     keys: &Keys,
     outer: &Plan,
     inner: &Plan,
@@ -38,7 +37,9 @@ fn merge_of(
     requires below { ReadsBelow 16 (plan outer.now) × ReadsBelow 16 (plan inner.now) }
     requires outer { IsSideAmong (take first (trees listed.now)) keys.now (plan outer.now) }
     requires inner { IsSideAmong (take first (trees listed.now)) keys.now (plan inner.now) }
-    ensures { IfOk result (λ n. plan_by (width q.now) (present (take first (trees listed.now))) p.now.set p.now.param (views.node n) ≡ Some (plans.merge keys.now (plan outer.now) (plan inner.now))) }
+    ensures { (w : ℕ) (set param : RelSet) → IfOk result (λ n.
+        plan_by w (present (take first (trees listed.now))) set param (views.node n)
+        ≡ Some (plans.merge keys.now (plan outer.now) (plan inner.now))) }
 {
     let outer = side_of(listed, first, outer);
     let inner = side_of(listed, first, inner);
@@ -83,9 +84,7 @@ fn node_of(
             let inner = number_of(listed, first, inner);
             Ok(Node::Nest(outer, inner))
         }
-        Plan::Merge { keys, outer, inner } => {
-            merge_of(alloc, q, listed, first, p, keys, outer, inner)
-        }
+        Plan::Merge { keys, outer, inner } => { merge_of(alloc, listed, first, keys, outer, inner) }
     }
 }
 

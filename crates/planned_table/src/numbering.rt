@@ -8,7 +8,7 @@ ghost use Rattle.certificates.specs.Certificates.{plan_at, side_at};
 ghost use Rattle.certificates.specs.Limit.{MOST_ENTRIES};
 ghost use Rattle.certificates.specs.Views.{side};
 ghost use Rattle.kept_laws.specs.Made.{IsSideAmong};
-ghost use Rattle.planned_table.specs.Numbering.{present, trees, unsorted};
+ghost use Rattle.planned_table.specs.Numbering.{present, trees, without_sort};
 
 use crate::printing::size;
 use certificates::{Side, is_same_plan};
@@ -85,7 +85,7 @@ pub(crate) fn side_of(listed: &[&Path], first: usize, tree: &Plan) -> Side
     requires few { length listed.now ≤ MOST_ENTRIES }
     requires within { first ≤ length listed.now }
     requires below { ReadsBelow 16 (plan tree.now) }
-    requires there { Contains (take first (trees listed.now)) (unsorted (plan tree.now)) }
+    requires there { Contains (take first (trees listed.now)) (without_sort (plan tree.now)) }
     ensures { (by : keys.Keys) → IsSideAmong (take first (trees listed.now)) by (plan tree.now) → side_at (present (take first (trees listed.now))) by (side result) ≡ Some (plan tree.now) }
 {
     match tree {

@@ -16,7 +16,7 @@ ghost use Rattle.plan_tree.specs.Views.{path};
 ghost use Rattle.pg_value.specs.Sorting.{IsInOrder};
 ghost use Rattle.planner.specs.declared.least_plan.PlanFault.TheVariants.{CostLimit};
 ghost use Rattle.certificates.specs.Certificates.{finish_at};
-ghost use Rattle.certificates.specs.Tables.{IsTable};
+ghost use Rattle.certificates.specs.Tables.{IsPlanTable};
 ghost use Rattle.certificates.specs.Views.{certificate};
 ghost use Rattle.certificate_text.specs.HasText.{HasText};
 ghost use Rattle.table_texts.specs.Arms.{HasArmsInOrs};
@@ -45,6 +45,18 @@ pub struct Tabled {
     pub best: Path,
     /// The kept paths as entries of a table, of which the best one stands for the same plan.
     pub table: Certificate,
+}
+
+/// The fronts of a search for the plans of a query.
+#[derive(Clone, Copy)]
+struct Searched<'a> {
+    cat: &'a Catalog,
+    /// The query.
+    q: &'a Prepared,
+    /// The fronts.
+    table: &'a Table,
+    /// All relations of the query.
+    all: RelSet,
 }
 
 /// The fronts of a search for every key and every cost. The error means want of memory.
@@ -82,30 +94,26 @@ fn listed_paths<'a>(
 
 /// The certificate of a table's paths, of which one of all relations in the order asked for is the best plan. The error
 /// means want of memory.
-fn certified(
-    alloc: Global,
-    cat: &Catalog,
-    q: &Prepared,
-    table: &Table,
-    all: RelSet,
-    best: &Path,
-    order: &Keys,
-) -> Result<Certificate, Memory>
-    requires bound { IsWellBound cat.now q.now }
-    requires query { IsOverTables cat.now q.now }
-    requires all { IsSameSet (has all.0) (all_of_query q.now) }
-    requires searched { IsSearched cat.now q.now (paths_at table.now) }
-    requires order { order.now ≡ keys.order_keys q.now.classes q.now.order }
-    requires best { Contains (paths_at table.now all none) (path best.now) }
-    requires least { IsBestPlan cat.now q.now (finished cat.now q.now (path best.now).tree) }
-    ensures table { IfOk result (λ t. IsTable cat.now q.now (certificate t)) }
-    ensures unfolds { IfOk result (λ t. finish_at q.now (certificate t) (certificate t).best ≡ Some (finished cat.now q.now (path best.now).tree)) }
+fn certified(alloc: Global, at: &Searched, best: &Path, order: &Keys) -> Result<Certificate, Memory>
+    requires bound { IsWellBound at.now.cat.now at.now.q.now }
+    requires query { IsOverTables at.now.cat.now at.now.q.now }
+    requires all { IsSameSet (has at.now.all.0) (all_of_query at.now.q.now) }
+    requires searched { IsSearched at.now.cat.now at.now.q.now (paths_at at.now.table.now) }
+    requires order { order.now ≡ keys.order_keys at.now.q.now.classes at.now.q.now.order }
+    requires best { Contains (paths_at at.now.table.now at.now.all none) (path best.now) }
+    requires least { IsBestPlan at.now.cat.now at.now.q.now (finished at.now.cat.now at.now.q.now (path best.now).tree) }
+    ensures table { IfOk result (λ t. IsPlanTable at.now.cat.now at.now.q.now (certificate t)) }
+    ensures unfolds { IfOk result (λ t.
+        finish_at at.now.q.now (certificate t) (certificate t).best
+        ≡ Some (finished at.now.cat.now at.now.q.now (path best.now).tree)) }
     ensures ordered { IfOk result (λ t. IsInOrder printing_order (certificate t).entries) }
-    ensures text { IfOk result (λ t. HasArmsInOrs q.now → HasText cat.now q.now (certificate t)) }
+    ensures text { IfOk result (λ t.
+        HasArmsInOrs at.now.q.now → HasText at.now.cat.now at.now.q.now (certificate t)) }
 {
+    let cat: &Catalog = at.cat;
     cat.lawful();
-    let listed = listed_paths(alloc, cat, q, table, all)?;
-    let made = certificate_of(alloc, q, &listed, best, order)?;
+    let listed = listed_paths(alloc, cat, at.q, at.table, at.all)?;
+    let made = certificate_of(alloc, at.q, &listed, best, order)?;
     Ok(made)
 }
 
@@ -151,7 +159,7 @@ fn tabled_of(
     ensures best { IfOk result (λ t. IsFinishedPath cat.now q.now (path t.best)) }
     ensures least { IfOk result (λ t. IsBestPlan cat.now q.now (path t.best).tree) }
     ensures limit { IfErr result (λ e. e ≡ CostLimit → (t : plans.Plan) → IsFinished cat.now q.now t → ¬ IsAdmissible cat.now q.now t) }
-    ensures table { IfOk result (λ t. IsTable cat.now q.now (certificate t.table)) }
+    ensures table { IfOk result (λ t. IsPlanTable cat.now q.now (certificate t.table)) }
     ensures unfolds { IfOk result (λ t. finish_at q.now (certificate t.table) (certificate t.table).best ≡ Some (path t.best).tree) }
     ensures ordered { IfOk result (λ t. IsInOrder printing_order (certificate t.table).entries) }
     ensures text { IfOk result (λ t. HasArmsInOrs q.now → HasText cat.now q.now (certificate t.table)) }
@@ -161,7 +169,8 @@ fn tabled_of(
         Some(least) => least,
         None => return Err(PlanFault::CostLimit),
     };
-    let made = certified(alloc, cat, q, table, all, least, &order)?;
+    let at = Searched { cat, q, table, all };
+    let made = certified(alloc, &at, least, &order)?;
     let best = finish(alloc, cat, q, least, order)?;
     Ok(Tabled { best, table: made })
 }
@@ -176,7 +185,7 @@ pub fn plan_with_table(alloc: Global, cat: &Catalog, q: &Prepared) -> Result<Tab
     ensures best { IfOk result (λ t. IsFinishedPath cat.now q.now (path t.best)) }
     ensures least { IfOk result (λ t. IsBestPlan cat.now q.now (path t.best).tree) }
     ensures limit { IfErr result (λ e. e ≡ CostLimit → (t : plans.Plan) → IsFinished cat.now q.now t → ¬ IsAdmissible cat.now q.now t) }
-    ensures table { IfOk result (λ t. IsTable cat.now q.now (certificate t.table)) }
+    ensures table { IfOk result (λ t. IsPlanTable cat.now q.now (certificate t.table)) }
     ensures unfolds { IfOk result (λ t. finish_at q.now (certificate t.table) (certificate t.table).best ≡ Some (path t.best).tree) }
     ensures ordered { IfOk result (λ t. IsInOrder printing_order (certificate t.table).entries) }
     ensures text { IfOk result (λ t. HasArmsInOrs q.now → HasText cat.now q.now (certificate t.table)) }

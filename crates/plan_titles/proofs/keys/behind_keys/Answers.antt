@@ -1,7 +1,8 @@
 use Rattle.std.proofs.Common.{ap}
 use Rattle.std.specs.Prelude.{option_map}
 use Rattle.pg_base.specs.Sets.{has}
-use Rattle.plan_titles.proofs.KeyLemmas.{key-class, key-is, key-only, no-key}
+use Rattle.explain.proofs.KeyLemmas.{key-class}
+use Rattle.plan_titles.proofs.KeyLemmas.{key-is, key-only, no-key}
 use Rattle.plan_titles.proofs.keys.behind_keys.Goals as goal
 
 pub behind_next-requires-clause-class : goal.behind_next-requires-clause-class

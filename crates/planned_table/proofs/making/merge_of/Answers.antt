@@ -13,6 +13,6 @@ pub side_of-inner-requires-clause-there : goal.side_of-inner-requires-clause-the
 side_of-inner-requires-clause-there c = side-unsorted (take c.args.first (trees c.args.listed.now)) c.args.keys.now (plan c.args.inner.now) c.requires.inner
 
 pub returns : goal.returns
-returns c =
+returns c = λ w set param.
     merge-plan (take c.args.first (trees c.args.listed.now)) c.in_ok-made.made c.args.keys.now (side c.side_of-outer.result) (side c.side_of-inner.result) (plan c.args.outer.now) (plan c.args.inner.now)
     c.in_ok-made.ensures.equal c.side_of-outer.ensures c.side_of-inner.ensures c.requires.outer c.requires.inner

@@ -1,7 +1,0 @@
-use Rattle.explain.proofs.KeyLemmas.{member-column}
-use Rattle.certificate_text.proofs.keys.put_member.Goals as goal
-
-pub put_column-requires-clause-column : goal.put_column-requires-clause-column
-put_column-requires-clause-column c =
-    member-column c.args.cat.now c.args.q.now c.requires.bound c.args.c.0 c.requires.class c.args.set c.in-Some.x
-    c.classes_of.result.now c.classes_of.ensures c.in-Some.ensures

@@ -9,7 +9,7 @@ use Rattle.plan_tree.specs.Least.{IsAdmissible}
 use Rattle.plan_tree.specs.Plans.{Plan, seq, index, index_only, bitmap, sort, nest, merge, is_sort}
 use Rattle.plan_tree.specs.Space.{IsBuilt, IsFinished}
 use Rattle.certificates.specs.Certificates.{Certificate, Entry, finish_at}
-use Rattle.certificates.specs.Tables.{IsDominated, IsLeastAmong, IsOver, IsTable}
+use Rattle.certificates.specs.Tables.{IsDominated, IsLeastAmong, IsOver, IsPlanTable}
 use Rattle.certificates.specs.Views.{entry}
 use Rattle.certificates.specs.declared.entry.Entry.{Entry as Entered}
 use Rattle.certificate_laws.proofs.TableLemmas.{best-least, dominated}
@@ -48,11 +48,11 @@ module _ (c : Contents) (q : Query) (t : Certificate) where
   covered plain bitmaps (Some x) h = h
 
   -- where the best plan is the least, the certificate is a table
-  pub valid : AreWhole c q t → AreUndominated c q t → AreCovered c q t → ((best : HasBest c q t) → IsLeastAmong c q (IsOver c q t) best.plan) → IsTable c q t
+  pub valid : AreWhole c q t → AreUndominated c q t → AreCovered c q t → ((best : HasBest c q t) → IsLeastAmong c q (IsOver c q t) best.plan) → IsPlanTable c q t
   valid whole apart covers least = table-from c q t whole.best whole.right apart covers (least whole.best)
 
   -- what a verdict says where it is that
-  table-of : (v : Verdict) → v ≡ verdicts.Valid → IsVerdict c q t v → IsTable c q t
+  table-of : (v : Verdict) → v ≡ verdicts.Valid → IsVerdict c q t v → IsPlanTable c q t
   table-of v e h = subst (IsVerdict c q t) e h
 
   pub valid-dominated : HaveRows c q → (v : Verdict) → IsVerdict c q t v → v ≡ verdicts.Valid → (p : Plan) → IsBuilt c q p → is_sort p ≡ false → IsAdmissible c q p → IsDominated c q t p

@@ -58,25 +58,25 @@ module _ (c : Contents) (q : Query) where
   elements-done old left new elements before other same = all-taken (HasElementText c q) (tree_text c q) (λ r. stops r ≡ true) comma old left new (map bits elements) before.list other same
 
   -- the trees of an AND as a list
-  abbrev pub listed : BitTrees → List BitTree
-  listed no_trees = []
-  listed (tree_and b bs) = b ∷ listed bs
+  abbrev pub in_list : BitTrees → List BitTree
+  in_list no_trees = []
+  in_list (tree_and b bs) = b ∷ in_list bs
 
-  pub listed-back : (bs : BitTrees) → trees_of (listed bs) ≡ bs
-  listed-back no_trees = refl
-  listed-back (tree_and b bs) = ap (tree_and b) (listed-back bs)
+  pub in_list-back : (bs : BitTrees) → trees_of (in_list bs) ≡ bs
+  in_list-back no_trees = refl
+  in_list-back (tree_and b bs) = ap (tree_and b) (in_list-back bs)
 
-  pub listed-long : (bs : BitTrees) → length (listed bs) ≡ count c q bs
-  listed-long no_trees = refl
-  listed-long (tree_and b bs) = ap suc (listed-long bs)
+  pub in_list-long : (bs : BitTrees) → length (in_list bs) ≡ count c q bs
+  in_list-long no_trees = refl
+  in_list-long (tree_and b bs) = ap suc (in_list-long bs)
 
-  pub listed-texts : (bs : BitTrees) → tree_texts c q bs ≡ map (tree_text c q) (listed bs)
-  listed-texts no_trees = refl
-  listed-texts (tree_and b bs) = ap (λ (l : List (List ℕ)). tree_text c q b ∷ l) (listed-texts bs)
+  pub in_list-texts : (bs : BitTrees) → tree_texts c q bs ≡ map (tree_text c q) (in_list bs)
+  in_list-texts no_trees = refl
+  in_list-texts (tree_and b bs) = ap (λ (l : List (List ℕ)). tree_text c q b ∷ l) (in_list-texts bs)
 
-  pub listed-has : (bs : BitTrees) → HaveElementTexts c q bs → All (HasElementText c q) (listed bs)
-  listed-has no_trees h = λ i d lt. absurd (omega (arith, lt))
-  listed-has (tree_and b bs) h = All-cons (HasElementText c q) b (listed bs) h.0 (listed-has bs h.1)
+  pub in_list-has : (bs : BitTrees) → HaveElementTexts c q bs → All (HasElementText c q) (in_list bs)
+  in_list-has no_trees h = λ i d lt. absurd (omega (arith, lt))
+  in_list-has (tree_and b bs) h = All-cons (HasElementText c q) b (in_list bs) h.0 (in_list-has bs h.1)
 
   -- and a list as those of an AND
   pub trees-has : (bs : List BitTree) → All (HasElementText c q) bs → HaveElementTexts c q (trees_of bs)

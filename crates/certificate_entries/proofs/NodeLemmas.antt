@@ -22,7 +22,7 @@ use Rattle.certificate_text.specs.HasText.{HasNodeText, IsEntryNumber}
 use Rattle.certificate_text.specs.Texts.{node_text, side_text, sides_text}
 use Rattle.certificate_lines.specs.Keys.{ends_key}
 use Rattle.certificate_lines.proofs.NumberLemmas.{number-begins, some-same}
-use Rattle.certificate_entries.specs.Kinds.{IsReadAs, behind_text, kind_of, words}
+use Rattle.certificate_entries.specs.Kinds.{IsReadBack, behind_text, kind_of, words}
 use Rattle.certificate_entries.specs.declared.kinds.Kind.{Kind}
 use Rattle.certificate_entries.specs.declared.kinds.Kind.TheVariants as kinds
 
@@ -101,13 +101,13 @@ of-bits c q s (Err e) h = tt
 module _ (c : Contents) (q : Query) (set : RelSet) (old mid new : List ℕ) where
   pub merge-behind : {E : Type 0} (r : Result (Option Noded) E) (kind : Kind) → kind ≡ kinds.Merge →
       IfOk r (λ o. (keys : List ℕ) (a b : Side) (rest : List ℕ) → HasNodeText c q (has set.0) (by_merge keys a b) → stops rest ≡ true → old ≡ keys_text c q (has set.0) keys ++ (sides_text a b ++ rest) → (option_map node o ≡ Some (by_merge keys a b)) × (new ≡ rest)) →
-      IfOk r (λ o. (x : Node) → kind_of x ≡ kind → IsReadAs c q set (behind_text c q set) old new (option_map node o) x)
-  merge-behind (Ok o) kind is h = λ x of. at-merge (λ y. IsReadAs c q set (behind_text c q set) old new (option_map node o) y)
+      IfOk r (λ o. (x : Node) → kind_of x ≡ kind → IsReadBack c q set (behind_text c q set) old new (option_map node o) x)
+  merge-behind (Ok o) kind is h = λ x of. at-merge (λ y. IsReadBack c q set (behind_text c q set) old new (option_map node o) y)
       (λ k a b rest given ends other e. h k a b rest given (ends-stop rest ends) (e ∙ append_assoc (keys_text c q (has set.0) k) (sides_text a b) rest)) x (of ∙ is)
   merge-behind (Err e) kind is h = tt
 
   pub node-behind : {E : Type 0} (r : Result (Option Noded) E) (kind : Kind) → ((k : Kind) (rest : List ℕ) → old ≡ words k ++ rest → (Some kind ≡ Some k) × (mid ≡ rest)) →
-      IfOk r (λ o. (x : Node) → kind_of x ≡ kind → IsReadAs c q set (behind_text c q set) mid new (option_map node o) x) → IfOk r (λ o. (x : Node) → IsReadAs c q set (node_text c q set) old new (option_map node o) x)
+      IfOk r (λ o. (x : Node) → kind_of x ≡ kind → IsReadBack c q set (behind_text c q set) mid new (option_map node o) x) → IfOk r (λ o. (x : Node) → IsReadBack c q set (node_text c q set) old new (option_map node o) x)
   node-behind (Ok o) kind only h = λ x rest given ends other e.
       let w = only (kind_of x) (behind_text c q set x ++ rest) (behind-words c q set x old rest e) in
       h x (sym (some-same kind (kind_of x) w.0)) rest given ends other w.1

@@ -44,5 +44,5 @@ module _ (c : Contents) (q : Query) (set : RelSet) where
 
   -- where what is left begins with a text, and nothing that goes on a key or a list follows, the thing is read and what
   -- follows is left
-  abbrev pub IsReadAs : (Node → List ℕ) → List ℕ → List ℕ → Option Node → Node → Type 0
-  IsReadAs text old new o x = (rest : List ℕ) → HasNodeText c q (has set.0) x → ends_key rest ≡ true → has_no_comma rest ≡ true → old ≡ text x ++ rest → (o ≡ Some x) × (new ≡ rest)
+  abbrev pub IsReadBack : (Node → List ℕ) → List ℕ → List ℕ → Option Node → Node → Type 0
+  IsReadBack text old new o x = (rest : List ℕ) → HasNodeText c q (has set.0) x → ends_key rest ≡ true → has_no_comma rest ≡ true → old ≡ text x ++ rest → (o ≡ Some x) × (new ≡ rest)

@@ -17,7 +17,7 @@ ghost use Rattle.certificates.specs.Views.{node, side};
 ghost use Rattle.certificate_text.specs.HasText.{HasBitsText, HasKeysText, HasNodeText, IsEntryNumber};
 ghost use Rattle.certificate_text.specs.Texts.{node_text, sides_text, tree_text};
 ghost use Rattle.certificate_lines.specs.Scans.{scan_text};
-ghost use Rattle.certificate_entries.specs.Kinds.{IsReadAs, behind_text, kind_of};
+ghost use Rattle.certificate_entries.specs.Kinds.{IsReadBack, behind_text, kind_of};
 
 use crate::bits::read_bits;
 use crate::figures::read_two;
@@ -130,7 +130,7 @@ fn read_behind(
 ) -> Result<Option<Node>, Memory>
     requires bound { IsWellBound cat.now q.now }
     ensures has { IfOk result (λ o. IfSome o (λ n. HasNodeText cat.now q.now (has set.0) (node n))) }
-    ensures only { IfOk result (λ o. (x : certs.Node) → kind_of x ≡ kind → IsReadAs cat.now q.now set (behind_text cat.now q.now set) at.old at.new (option_map node o) x) }
+    ensures only { IfOk result (λ o. (x : certs.Node) → kind_of x ≡ kind → IsReadBack cat.now q.now set (behind_text cat.now q.now set) at.old at.new (option_map node o) x) }
 {
     match kind {
         Kind::Seq => Ok(Some(Node::Seq)),
@@ -152,7 +152,7 @@ pub fn read_node(
 ) -> Result<Option<Node>, Memory>
     requires bound { IsWellBound cat.now q.now }
     ensures has { IfOk result (λ o. IfSome o (λ n. HasNodeText cat.now q.now (has set.0) (node n))) }
-    ensures only { IfOk result (λ o. (x : certs.Node) → IsReadAs cat.now q.now set (node_text cat.now q.now set) at.old at.new (option_map node o) x) }
+    ensures only { IfOk result (λ o. (x : certs.Node) → IsReadBack cat.now q.now set (node_text cat.now q.now set) at.old at.new (option_map node o) x) }
 {
     match read_kind(at) {
         Some(kind) => read_behind(alloc, at, cat, q, set, kind),

@@ -17,7 +17,7 @@ use Rattle.plan_tree.specs.Space.{IsFinished, IsPlanOf}
 use Rattle.plan_tree.specs.Least.{IsAdmissible, Dominates}
 use Rattle.join_laws.specs.Closed.{AreKeptSides, IsKeptSide, IsUndercut}
 use Rattle.certificates.specs.Certificates.{Certificate, Entry, finish_at, plan_at, unfold_at, unfolded}
-use Rattle.certificates.specs.Tables.{IsDominated, IsEntryAt, IsEntryPlan, IsStartup, IsTable}
+use Rattle.certificates.specs.Tables.{IsDominated, IsEntryAt, IsEntryPlan, IsStartup, IsPlanTable}
 use Rattle.certificate_laws.specs.Kept.{AreEntriesOf, AreKept, AreOf, IsKeptPath, IsPlanOfSome}
 
 none-is : {A : Type 0} (x : A) → None ≡ Some x → ⊥
@@ -168,7 +168,7 @@ module _ (c : Contents) (q : Query) (t : Certificate) (xs : List Path) (kept : A
       ]
 
   pub made-table : (best : Plan) → finish_at q t t.best ≡ Some best → IsFinished c q best → IsAdmissible c q best →
-      ((p : Plan) → IsFinished c q p → IsAdmissible c q p → price c q best ≤ price c q p) → IsTable c q t
+      ((p : Plan) → IsFinished c q p → IsAdmissible c q p → price c q best ≤ price c q p) → IsPlanTable c q t
   made-table best is finished admissible least = record {
     entries = entry-is;
     scans = λ p e built a. undercut-by-entry p (kept.scans p e built a);

@@ -69,7 +69,7 @@ module _ (c : Contents) (q : Query) where
   -- a certificate is a table of the query: each entry is one of the space, each admissible scan and each admissible join
   -- of entries, with sides as they stand or sorted, is dominated by an entry, no entry by another, and the best plan is
   -- the least
-  pub record IsTable (t : Certificate) : Type 0 where
+  pub record IsPlanTable (t : Certificate) : Type 0 where
     pub entries : (n : ℕ) (e : Entry) → slice_get t.entries n ≡ Some e → IsEntryAt t n e
     pub scans : (p : Plan) → is_scan p ≡ true → IsBuilt c q p → IsAdmissible c q p → IsDominated t p
     pub joins : (p : Plan) → AreKeptSides c q (IsEntryPlan q t) p → IsBuilt c q p → IsAdmissible c q p → IsDominated t p

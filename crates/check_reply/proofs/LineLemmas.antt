@@ -4,7 +4,7 @@ use Rattle.std.specs.Prelude.{codes}
 use Rattle.catalog.specs.Contents.{Contents}
 use Rattle.sql_query.specs.Queries.{Query}
 use Rattle.certificates.specs.Certificates.{Certificate}
-use Rattle.certificates.specs.Tables.{IsTable}
+use Rattle.certificates.specs.Tables.{IsPlanTable}
 use Rattle.plan_check.proofs.ReasonLemmas.{refuted}
 use Rattle.plan_check.specs.Verdicts.{IsVerdict}
 use Rattle.plan_check.specs.declared.verdict.Verdict.{Verdict}
@@ -16,7 +16,7 @@ apart : (reason rest : List ℕ) → invalid_line reason ≡ codes "valid" ++ re
 apart reason rest e = let first : 105 ≡ 118 = ap (λ (xs : List ℕ). get_or xs 0 0) e in omega (arith, first)
 
 module _ (c : Contents) (q : Query) where
-  table-said : (t : Certificate) (v : Verdict) (bytes rest : List ℕ) → IsVerdict c q t v → IsVerdictLine c q t v bytes → bytes ≡ codes "valid" ++ rest → IsTable c q t
+  table-said : (t : Certificate) (v : Verdict) (bytes rest : List ℕ) → IsVerdict c q t v → IsVerdictLine c q t v bytes → bytes ≡ codes "valid" ++ rest → IsPlanTable c q t
   table-said t verdicts.Valid bytes rest holds told e = holds
   table-said t (verdicts.No r) bytes rest holds told e = absurd (apart told.0 rest (sym told.2 ∙ e))
 
@@ -24,7 +24,7 @@ module _ (c : Contents) (q : Query) where
   valid-table block bytes rest (faulty f) e = absurd (apart (fault_text f.line) rest (sym f.told ∙ e))
   valid-table block bytes rest (judged j) e = record { certificate = j.certificate; read = j.read; table = table-said j.certificate j.verdict bytes rest j.holds j.told e }
 
-  said-of : (t : Certificate) (v : Verdict) (bytes : List ℕ) → IsTable c q t → IsVerdict c q t v → IsVerdictLine c q t v bytes → bytes ≡ valid_line
+  said-of : (t : Certificate) (v : Verdict) (bytes : List ℕ) → IsPlanTable c q t → IsVerdict c q t v → IsVerdictLine c q t v bytes → bytes ≡ valid_line
   said-of t verdicts.Valid bytes table holds told = told
   said-of t (verdicts.No r) bytes table holds told = absurd (refuted c q t r holds table)
 
@@ -32,4 +32,4 @@ module _ (c : Contents) (q : Query) where
   table-valid block bytes (faulty f) h = absurd (f.none (record { certificate = h.certificate; has = h.read.has; is = h.read.is }))
   table-valid block bytes (judged j) h =
       let same : h.certificate ≡ j.certificate = j.read.only h.certificate h.read.has h.read.is in
-      said-of j.certificate j.verdict bytes (subst (IsTable c q) same h.table) j.holds j.told
+      said-of j.certificate j.verdict bytes (subst (IsPlanTable c q) same h.table) j.holds j.told

@@ -4,7 +4,7 @@ use Rattle.std.specs.Fmt.{decimal}
 use Rattle.catalog.specs.Contents.{Contents}
 use Rattle.sql_query.specs.Queries.{Query}
 use Rattle.certificates.specs.Certificates.{Certificate, Entry}
-use Rattle.certificates.specs.Tables.{IsEntryAt, IsTable}
+use Rattle.certificates.specs.Tables.{IsEntryAt, IsPlanTable}
 use Rattle.certificate_text.specs.HasText.{HasEntryLine}
 use Rattle.certificate_text.specs.Texts.{ended, entry_text}
 use Rattle.certificate_reader.specs.Faults.{IsFaultLine, IsText}
@@ -118,4 +118,4 @@ module _ (c : Contents) (q : Query) where
   pub record IsTableText (block : List ℕ) : Type 0 where
     pub certificate : Certificate
     pub read : IsBlockRead c q block certificate
-    pub table : IsTable c q certificate
+    pub table : IsPlanTable c q certificate

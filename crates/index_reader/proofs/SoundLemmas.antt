@@ -53,7 +53,7 @@ use Rattle.sql_cursor.specs.Sorts.{is_descending, has_nulls_first}
 use Rattle.index_reader.specs.Keys.{method_of_name, method_bound, class_has_method, class_known, given, class_bound, key_bound, keys_of, name_bound, names_of}
 use Rattle.index_reader.specs.Meaning.{Reading, condition_bound, name_tokens, limited, has_many_atoms, index_reading, meaning_of_cand}
 use Rattle.index_reader.specs.Reads.{reading}
-use Rattle.index_reader.proofs.VisibleLemmas.{all-map, is_column, visible-columns}
+use Rattle.index_reader.proofs.VisibleLemmas.{all-map, is_first_column, visible-columns}
 use Rattle.index_reader.specs.Soundness.{IsSound}
 use Rattle.index_reader.specs.Candidates.{IsCandAt}
 
@@ -190,10 +190,10 @@ module _ (cat : Contents) (lawful : IsLawful cat) (t : TableNo) (there : IsTable
       let s : Sight = record { contents = cat; table = t; alias = alias } in
       let d = next-done (meaning_of_expr (visible_in s) (type_in s) e) _ p is in
       let width = (lawful.tables t.0 no_table there).width in
-      let good = expr-good (visible_in s) (type_in s) (is_column (length columns)) (visible-columns alias (length columns) 0 (table_at cat t).names (omega (arith, width))) e d.value d.first in
+      let good = expr-good (visible_in s) (type_in s) (is_first_column (length columns)) (visible-columns alias (length columns) 0 (table_at cat t).names (omega (arith, width))) e d.value d.first in
       let same : Some (pushed false d.value) ≡ p = cc (d.rest) in
       subst (IsPredicateOf columns) same (record {
-        within = pushed-each (is_column (length columns)) false d.value ∙ good.1;
+        within = pushed-each (is_first_column (length columns)) false d.value ∙ good.1;
         typed = pushed-typed (type_in s) false d.value good.0;
         pushed = pushed-form false d.value;
       })

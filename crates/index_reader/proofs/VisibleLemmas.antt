@@ -23,16 +23,16 @@ all-map P f [] h = All-nil P
 all-map P f (x ∷ xs) h = All-cons P (f x) (map f xs) (h 0 x (omega arith)) (all-map P f xs (All-tail (λ y. P (f y)) x xs h))
 
 -- a column of relation 0, among this many
-abbrev pub is_column : ℕ → ColRef → Bool
-is_column n x = nat_eq x.rel.0 0 && nat_lt x.col.0 n
+abbrev pub is_first_column : ℕ → ColRef → Bool
+is_first_column n x = nat_eq x.rel.0 0 && nat_lt x.col.0 n
 
 abbrev pub first_relation : RelNo
 first_relation = record { 0 = 0 }
 
-pub visible-columns : (alias : List ℕ) (n k : ℕ) (names : List (List ℕ)) → k + length names ≤ n → All (λ v. IsTrue (is_column n v.column)) (columns_from alias first_relation k names)
-visible-columns alias n k [] le = All-nil (λ v. IsTrue (is_column n v.column))
+pub visible-columns : (alias : List ℕ) (n k : ℕ) (names : List (List ℕ)) → k + length names ≤ n → All (λ v. IsTrue (is_first_column n v.column)) (columns_from alias first_relation k names)
+visible-columns alias n k [] le = All-nil (λ v. IsTrue (is_first_column n v.column))
 visible-columns alias n k (x ∷ xs) le =
-    All-cons (λ v. IsTrue (is_column n v.column)) _ (columns_from alias first_relation (k + 1) xs) (lt-ltb k n (omega (arith, le))) (visible-columns alias n (k + 1) xs (omega (arith, le)))
+    All-cons (λ v. IsTrue (is_first_column n v.column)) _ (columns_from alias first_relation (k + 1) xs) (lt-ltb k n (omega (arith, le))) (visible-columns alias n (k + 1) xs (omega (arith, le)))
 
 number-found : (o : Option ℕ) → found_at first_relation o ≡ found_number first_relation (option_map (λ n. record { 0 = n }) o)
 number-found (Some k) = refl
@@ -73,7 +73,7 @@ module _ (s : Sight) (c : Contents) (t : TableNo) (alias : List ℕ) (is : sight
   column-seen x among' =
       let n = length (table_at c t).columns in
       let all = visible-columns alias n 0 names (omega (arith, lawful.width)) in
-      let each = all-map (λ y. IsTrue (is_column n y)) (λ (v : Visible). v.column) (columns_from alias first_relation 0 names) all in
+      let each = all-map (λ y. IsTrue (is_first_column n y)) (λ (v : Visible). v.column) (columns_from alias first_relation 0 names) all in
       let (k, lt, at) = subst (λ (y : Sight). Contains (columns_of (visible_in y)) x) (sym is) among' in
-      let passed : is_column n x ≡ true = subst (λ y. is_column n y ≡ true) at (each k x lt) in
+      let passed : is_first_column n x ≡ true = subst (λ y. is_first_column n y ≡ true) at (each k x lt) in
       ltb-true x.col.0 n (and_parts (nat_eq x.rel.0 0) (nat_lt x.col.0 n) passed).1

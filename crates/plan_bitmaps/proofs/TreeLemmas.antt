@@ -37,14 +37,14 @@ none-some o a e f = cc
 abbrev pub IsNext : ℕ → List ℕ → Option (List ℕ) → List ℕ → Type 0
 IsNext d old o new = (t rest : List ℕ) → lacks 10 t ≡ true → old ≡ lead d ++ (t ++ (10 ∷ rest)) → (o ≡ Some t) × (new ≡ rest)
 
-pub listed : BitTrees → List BitTree
-listed no_trees = []
-listed (tree_and b bs) = b ∷ listed bs
+pub in_list : BitTrees → List BitTree
+in_list no_trees = []
+in_list (tree_and b bs) = b ∷ in_list bs
 
-pub listed-back : (bs : BitTrees) → trees_of (listed bs) ≡ bs
-unfolding listed
-listed-back no_trees = refl
-listed-back (tree_and b bs) = ap (tree_and b) (listed-back bs)
+pub in_list-back : (bs : BitTrees) → trees_of (in_list bs) ≡ bs
+unfolding in_list
+in_list-back no_trees = refl
+in_list-back (tree_and b bs) = ap (tree_and b) (in_list-back bs)
 
 module _ (c : Contents) (q : Query) where
   pub bits-is : (d : ℕ) (b : BitTree) (x : List ℕ) → bits_text c q d b ++ x ≡ lead d ++ (tree_title c q b ++ (10 ∷ (beneath c q d b ++ x)))
@@ -72,15 +72,15 @@ module _ (c : Contents) (q : Query) where
   abbrev pub HasLeaf : ℕ → IndexNo → Type 0
   HasLeaf d i = IsIndexOfQuery c q i × (d ≤ 64)
 
-  pub listed-text : (d : ℕ) (bs : BitTrees) → trees_text c q d bs ≡ flat_map (bits_text c q d) (listed bs)
-  unfolding listed
-  listed-text d no_trees = refl
-  listed-text d (tree_and b bs) = ap (λ (l : List ℕ). bits_text c q d b ++ l) (listed-text d bs)
+  pub in_list-text : (d : ℕ) (bs : BitTrees) → trees_text c q d bs ≡ flat_map (bits_text c q d) (in_list bs)
+  unfolding in_list
+  in_list-text d no_trees = refl
+  in_list-text d (tree_and b bs) = ap (λ (l : List ℕ). bits_text c q d b ++ l) (in_list-text d bs)
 
-  pub listed-has : (d : ℕ) (bs : BitTrees) → HaveBits c q bs → Stand d bs → All (HasTree d) (listed bs)
-  unfolding listed
-  listed-has d no_trees h s = λ k x lt. absurd (omega (arith, lt))
-  listed-has d (tree_and b bs) h s = All-cons (HasTree d) b (listed bs) (h.0, s.0) (listed-has d bs h.1 s.1)
+  pub in_list-has : (d : ℕ) (bs : BitTrees) → HaveBits c q bs → Stand d bs → All (HasTree d) (in_list bs)
+  unfolding in_list
+  in_list-has d no_trees h s = λ k x lt. absurd (omega (arith, lt))
+  in_list-has d (tree_and b bs) h s = All-cons (HasTree d) b (in_list bs) (h.0, s.0) (in_list-has d bs h.1 s.1)
 
   pub trees-have : (d : ℕ) (bs : List BitTree) → All (HasTree d) bs → HaveBits c q (trees_of bs) × Stand d (trees_of bs)
   trees-have d [] h = (tt, tt)

@@ -13,7 +13,7 @@ use Rattle.plan_tree.specs.Counts.{fetches, looks}
 use Rattle.plan_tree.specs.Plans.{Plan}
 use Rattle.plan_tree.specs.Views.{plan}
 use Rattle.scan_exec.specs.Coming.{Coming, coming}
-use Rattle.executor.specs.Drawn.{is_scan}
+use Rattle.join_laws.specs.Closed.{is_scan}
 use Rattle.executor.specs.Reading.{Reading}
 use Rattle.explain.specs.Texts.{plan_text}
 use Rattle.plan_laws.proofs.FinishedLemmas.{finished_is_meaning}

@@ -6,7 +6,7 @@ use Rattle.pg_value.specs.Sorting.{IsInOrder}
 use Rattle.plan_tree.specs.Least.{IsBestPlan}
 use Rattle.plan_tree.specs.Plans.{Plan}
 use Rattle.certificates.specs.Certificates.{Certificate, finish_at}
-use Rattle.certificates.specs.Tables.{IsTable}
+use Rattle.certificates.specs.Tables.{IsPlanTable}
 use Rattle.certificate_text.specs.HasText.{HasText}
 use Rattle.certificate_text.specs.Texts.{certificate_text}
 use Rattle.explain.specs.Texts.{explained_text}
@@ -18,7 +18,7 @@ use Rattle.reply.specs.Replies.{Reply}
 -- printing, and the table has a text
 pub record IsTabled (c : Contents) (q : Query) (p : Plan) (t : Certificate) : Type 0 where
   pub best : IsBestPlan c q p
-  pub table : IsTable c q t
+  pub table : IsPlanTable c q t
   pub unfolds : finish_at q t t.best ≡ Some p
   pub ordered : IsInOrder printing_order t.entries
   pub text : HasText c q t

@@ -24,7 +24,7 @@ use Rattle.plan_laws.proofs.WellBoundLemmas.{bound-over}
 use Rattle.explain_laws.proofs.ParamLemmas.{IsOfQuery, bitmap-param, index-param}
 use Rattle.certificates.specs.Certificates.{Certificate, Entry, plans_of}
 use Rattle.certificates.specs.Limit.{MOST_ENTRIES}
-use Rattle.certificates.specs.Tables.{IsEntryAt, IsStartup, IsTable}
+use Rattle.certificates.specs.Tables.{IsEntryAt, IsStartup, IsPlanTable}
 use Rattle.certificates.proofs.UnfoldLemmas.{goes-on}
 use Rattle.certificate_text.specs.HasText.{HasEntryLine, HasKeysText, HasStartup, HasText, IsSetOf}
 use Rattle.table_texts.specs.Arms.{HasArmsInOrs}
@@ -52,7 +52,7 @@ module _ (c : Contents) (q : Query) (bound : IsWellBound c q) where
       let few = (bound-over c q bound).few in
       set-below s.0 16 (λ k is. let lt = of k is in omega (arith, lt, few))
 
-  module _ (lawful : IsLawful c) (arms : HasArmsInOrs q) (t : Certificate) (table : IsTable c q t) (few : length t.entries ≤ MOST_ENTRIES) where
+  module _ (lawful : IsLawful c) (arms : HasArmsInOrs q) (t : Certificate) (table : IsPlanTable c q t) (few : length t.entries ≤ MOST_ENTRIES) where
     line-at : (n : ℕ) (e : Entry) → slice_get t.entries n ≡ Some e → (q.window ≡ None → e.startup ≡ 0) → HasEntryLine c q e
     line-at n e stands none =
         let at = table.entries n e stands in

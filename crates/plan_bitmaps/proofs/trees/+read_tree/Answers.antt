@@ -9,7 +9,7 @@ use Rattle.plan_titles.proofs.ScannedLemmas.{none-some}
 use Rattle.plan_titles.specs.HasText.{HasBits}
 use Rattle.plan_bitmaps.specs.Stands.{Stands}
 use Rattle.plan_bitmaps.proofs.ListLemmas.{broken, done}
-use Rattle.plan_bitmaps.proofs.TreeLemmas.{HasTree, held-has, listed, listed-back, listed-has, listed-text, no-tree, tree-begins, tree-item, trees-begun, trees-have, trees-next}
+use Rattle.plan_bitmaps.proofs.TreeLemmas.{HasTree, held-has, in_list, in_list-back, in_list-has, in_list-text, no-tree, tree-begins, tree-item, trees-begun, trees-have, trees-next}
 use Rattle.plan_bitmaps.proofs.trees.+read_tree.Goals as goal
 
 pub read_all-trees-init : goal.read_all-trees-init
@@ -32,8 +32,8 @@ read_all-returns-in-None-clause-only t c = λ bs rest has stands shallow e.
     (λ (s : IsShallow c.args.depth c.trees.at). none-some c.next_at.result c.in-Some.line (c.next_at.ensures.shallow c.args.depth refl s) c.in-Some.is)
     (tree-item c.args.cat.now c.args.q.now c.lawful.ensures c.args.depth c.trees.at c.next_at.new.self c.read_tree.new.at c.in-Some.line.now (option_map (λ l. l.now) c.next_at.result) (option_map bits c.in_ok-tree.field-0) c.next_at.ensures.only
     (ap (option_map (λ l. l.now)) c.in-Some.is) c.in_ok-tree.ensures.only)
-    (ap (option_map bits) c.in-None.is) (listed bs) rest (listed-has c.args.cat.now c.args.q.now (c.args.depth + 1) bs has stands.1) shallow
-    (e ∙ ap (λ (l : List ℕ). l ++ rest) (listed-text c.args.cat.now c.args.q.now (c.args.depth + 1) bs)))
+    (ap (option_map bits) c.in-None.is) (in_list bs) rest (in_list-has c.args.cat.now c.args.q.now (c.args.depth + 1) bs has stands.1) shallow
+    (e ∙ ap (λ (l : List ℕ). l ++ rest) (in_list-text c.args.cat.now c.args.q.now (c.args.depth + 1) bs)))
 
 pub read_all-returns-clause-has : goal.read_all-returns-clause-has
 read_all-returns-clause-has t c =
@@ -45,5 +45,5 @@ read_all-returns-clause-only t c = λ bs rest has stands shallow e.
     let r = done (HasTree c.args.cat.now c.args.q.now (c.args.depth + 1)) (bits_text c.args.cat.now c.args.q.now (c.args.depth + 1)) c.args.depth (tree-begins c.args.cat.now c.args.q.now c.args.depth) c.args.at.now c.trees.at c.next_at.new.self
     (map bits c.trees.items.items) c.trees.invariant.list
     (no-tree c.args.cat.now c.args.q.now c.lawful.ensures c.args.depth c.trees.at c.next_at.new.self (option_map (λ l. l.now) c.next_at.result) c.next_at.ensures.only (ap (option_map (λ l. l.now)) c.in_default.is)) c.in_default.ensures.left
-    (listed bs) rest (listed-has c.args.cat.now c.args.q.now (c.args.depth + 1) bs has stands.1) shallow (e ∙ ap (λ (l : List ℕ). l ++ rest) (listed-text c.args.cat.now c.args.q.now (c.args.depth + 1) bs)) in
-    (ap (λ (b : BitTree). Some b) (and-bits (record { items = c.trees.items }) ∙ ap all_hold (ap trees_of r.0 ∙ listed-back bs)), r.1)
+    (in_list bs) rest (in_list-has c.args.cat.now c.args.q.now (c.args.depth + 1) bs has stands.1) shallow (e ∙ ap (λ (l : List ℕ). l ++ rest) (in_list-text c.args.cat.now c.args.q.now (c.args.depth + 1) bs)) in
+    (ap (λ (b : BitTree). Some b) (and-bits (record { items = c.trees.items }) ∙ ap all_hold (ap trees_of r.0 ∙ in_list-back bs)), r.1)

@@ -1,14 +1,15 @@
 #!/usr/bin/env python3
 """Runs `rt` with what `rt ci` proved on this machine, and without working out again what it knows.
 
-usage: tools/quick_rt.py seed                 at the top: libraries alone
+usage: tools/quick_rt.py seed [CHECKOUT]      at the top: libraries alone
        tools/quick_rt.py check [FLAG ..]      in a crate's folder: any command of rt, as check, lib, tidy or must-fail
 
-`rt ci` keeps each library that it proved, by the sum of all that it was made from, and `rt check` builds its own. `seed` puts
-those that fit this checkout's text into the crates' out/rlib, with rt's stamp, so that a check in a high crate does not prove
-what is below; it says which are not kept yet. A later command of rt works out a crate's sum and the crates below it anew along
-every path, which takes minutes above fifty crates; here each is kept. No verdict of the gate rests on this: it is for the time
-between two runs of `rt ci`.
+`rt ci` leaves each library that it proved in its checkout, and some kits keep it on the machine too, by the sum of all that it was
+made from; `rt check` builds its own. `seed` puts those that fit this checkout's text into the crates' out/rlib, with rt's stamp, so
+that a check in a high crate does not prove what is below; it says which are not kept yet. They are taken from what the kit keeps,
+or from another CHECKOUT in which `rt ci` runs or has run: those of crates whose text, and that of all below, is the same in both.
+A later command of rt works out a crate's sum and the crates below it anew along every path, which takes minutes above fifty crates;
+here each is kept. No verdict of the gate rests on this: it is for the time between two runs of `rt ci`.
 """
 import hashlib
 import importlib.machinery
@@ -77,11 +78,46 @@ class Kept:
         return True
 
 
-def seed(rt):
+class Lent:
+    """What `rt ci` left in another checkout, of crates with the same text here and there."""
+
+    def __init__(self, checkout):
+        self.checkout, self.same = pathlib.Path(checkout), set()
+
+    def fits(self, crate):
+        """The folder of the crate's library in the other checkout, if all that it was made from is the same."""
+        at = self.checkout / "crates" / crate.name / "out" / "rlib"
+        here, there = (texts(pathlib.Path(folder)) for folder in (crate.folder, at.parent.parent))
+        if here != there or any(below.name not in self.same for below in crate.below()) or not (at / f"{crate.name}.rlib").exists():
+            return None
+        self.same.add(crate.name)
+        return at
+
+    def put(self, crate, at):
+        """Gives the crate this library, unless it has it."""
+        to = pathlib.Path(crate.folder, "out", "rlib")
+        if crate.is_built():
+            return False
+        shutil.rmtree(to, ignore_errors=True)
+        shutil.copytree(at, to)
+        (to / "stamp").write_text(crate.stamp())
+        return True
+
+
+def texts(folder):
+    """The files that a crate is made from, by their path in it."""
+    return {str(file.relative_to(folder)): file.read_bytes() for part in ("src", "specs", "proofs") for file in folder.glob(f"{part}/**/*.*")
+            if file.is_file()}
+
+
+def seed(rt, checkout):
     root = os.getcwd()
+    if not checkout and not hasattr(rt, "Kept"):
+        print("this kit keeps no libraries: name a checkout in which `rt ci` has run", file=sys.stderr)
+        return 2
     rt.Crate.allowed = rt.handles_of(root)
-    kept, given, lacking = Kept(rt), [], []
-    for crate in rt.crates_of(root):
+    kept, given, lacking = Lent(checkout) if checkout else Kept(rt), [], []
+    for crate in sorted(rt.rtlib.crates_below(root), key=lambda it: len(it.below())) if checkout else rt.crates_of(root):
         if crate.is_program:
             continue
         at = kept.fits(crate)
@@ -93,17 +129,24 @@ def seed(rt):
     return 0
 
 
-def main():
+def quick():
+    """The command rt as a module that works out what stands below a crate once."""
     sys.dont_write_bytecode = True
     rt = load()
     for kind in {rt.rtlib.Crate, rt.Crate}:
         keep(kind, "below")
         keep(kind, "stamp")
+    return rt
+
+
+def main():
+    rt = quick()
     words = sys.argv[1:]
     if not words:
         print(__doc__, end="", file=sys.stderr)
         return 2
-    return seed(rt) if words == ["seed"] else rt.main(words)
+    return seed(rt, *(words[1:] or [None])) if words[0] == "seed" and len(words) < 3 else rt.main(words)
 
 
-sys.exit(main())
+if __name__ == "__main__":
+    sys.exit(main())

@@ -4,8 +4,9 @@
 usage: tools/shape.py [CRATE ..]
 
 It tells the functions with more than six parameters, apart from public ones, those of more than 40 lines from the line of `fn` to
-their closing brace without contracts, the crates of more than 1,500 lines of code or 100 functions, and the clauses of more than 100
-columns. A method's `self` counts as a parameter.
+their closing brace without contracts, the crates of more than 1,500 lines of code or 100 functions, the clauses of more than 100
+columns, and the crates with most paths down to what they stand on, by crates.txt: `rt ci` reads a crate's text once along each. A
+method's `self` counts as a parameter.
 """
 import collections
 import pathlib
@@ -79,12 +80,24 @@ def measured(folders):
     return made
 
 
+def paths():
+    """How many paths begin at each crate and go down, the empty one among them."""
+    count = {}
+    for line in (ROOT / "crates.txt").read_text().splitlines():
+        name, _, below = line.partition(":")
+        if not line.startswith("#"):
+            count[name] = 1 + sum(count.get(it, 0) for it in below.split())
+    return count
+
+
 def main():
     made = measured([ROOT / "crates" / name for name in sys.argv[1:]] or sorted((ROOT / "crates").iterdir()))
     for title, found in (("more than six parameters", made.wide), ("more than 40 lines", made.long), ("large crates", made.large)):
         print(f"{title}: {len(found)}", *found, sep="\n  ")
     clauses = collections.Counter(row.split()[0] for row in made.clauses)
     print(f"clauses of more than 100 columns: {len(made.clauses)}", *(f"{name} {n}" for name, n in clauses.most_common(10)), sep="\n  ")
+    down = collections.Counter(paths())
+    print(f"paths: {sum(down.values())}", *(f"{name} {n}" for name, n in down.most_common(10)), sep="\n  ")
 
 
 if __name__ == "__main__":

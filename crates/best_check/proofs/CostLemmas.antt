@@ -1,6 +1,6 @@
 -- What finished plans over entries cost.
-use Rattle.std.proofs.Common.{◌≡◌, ◌≤◌, ◌+◌, ℕ, Bool, true, false, sym, ap, ap₂, ◌∙◌, le_refl, true≢false, arith}
-use Rattle.std.specs.Prelude.{Option, Some, None, option_map, nat_lt}
+use Rattle.std.proofs.Common.{◌≡◌, ◌≤◌, ◌+◌, ℕ, Bool, true, false, sym, ap, ap₂, ◌∙◌, true≢false, arith}
+use Rattle.std.specs.Prelude.{Option, option_map, nat_lt}
 use Rattle.std.proofs.lemmas.Bool.{ltb-true, lt-ltb}
 use Rattle.pg_base.specs.Sets.{has}
 use Rattle.pg_base.specs.declared.rel_set.RelSet.{RelSet}
@@ -17,19 +17,16 @@ use Rattle.plan_tree.specs.Paths.{kept_cost, startup_kept}
 use Rattle.plan_tree.specs.Plans.{Plan, set_of, sort}
 use Rattle.plan_tree.specs.Space.{IsFinished, IsSameSet}
 use Rattle.plan_tree.proofs.BoundLemmas.{startup-most}
+use Rattle.plan_tree.proofs.WindowLemmas.{kept-least}
 use Rattle.certificates.specs.Certificates.{Certificate, Entry, Side, sorted_if}
-use Rattle.plan_check.specs.Beating.{IsRight}
-use Rattle.plan_check.proofs.BeatingLemmas.{kept}
+use Rattle.entry_check.specs.plan_check_Beating.{IsRight}
+use Rattle.entry_check.specs.plan_check_BeatingLemmas.{kept}
 use Rattle.entry_check.specs.Owning.{IsFinishedSide}
 use Rattle.best_check.specs.Pricing.{HasPrice, IsFinishedEntry, IsPriced}
 use Rattle.plan_prices.specs.declared.prices.Price.{Price}
 
-kept-most : (w : Option Window) (n : ℕ) → startup_kept w n ≤ n
-kept-most None n = omega arith
-kept-most (Some w) n = le_refl n
-
 pub kept-under : (w : Option Window) (n m total : ℕ) → n ≡ startup_kept w m → m ≤ total → n ≤ total
-kept-under w n m total e le = let most = kept-most w m in omega (arith, e, le, most)
+kept-under w n m total e le = let most = kept-least w m in omega (arith, e, le, most)
 
 module _ (c : Contents) (q : Query) where
   abbrev order : Keys

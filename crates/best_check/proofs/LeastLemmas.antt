@@ -2,7 +2,7 @@
 use Rattle.std.proofs.Common.{◌≡◌, ◌<◌, ◌≤◌, ◌+◌, ℕ, suc, Bool, true, false, length, refl, sym, ap, ap₂, subst, ◌∙◌, true≢false, arith, ◌⊎◌, inl, inr}
 use Rattle.std.specs.Prelude.{Option, Some, None, nat_lt, option_map}
 use Rattle.std.proofs.lemmas.Bool.{cases_lt, lt-ltb, ltb-true}
-use Rattle.std.proofs.lemmas.Option.{slice_get_within}
+use Rattle.std.proofs.lemmas.Option.{slice_get_within, same_Some}
 use Rattle.catalog.specs.Contents.{Contents}
 use Rattle.cost_rules.specs.declared.parameters.TheConstants.{MOST_COST}
 use Rattle.sql_query.specs.Queries.{Query}
@@ -13,14 +13,11 @@ use Rattle.plan_tree.specs.Plans.{Plan}
 use Rattle.certificates.specs.Certificates.{Certificate, Side, sorted_if, unfold_at}
 use Rattle.certificates.specs.Tables.{IsLeastAmong, IsOver}
 use Rattle.certificates.proofs.UnfoldLemmas.{numbered}
-use Rattle.plan_check.specs.Reasons.{HasBest, IsNotBest}
+use Rattle.entry_check.specs.plan_check_Reasons.{HasBest, IsNotBest}
 use Rattle.best_check.specs.Pricing.{HasPrice, IsPriced, IsSomePrice}
 use Rattle.plan_prices.specs.Worse.{IsNoWorse}
 use Rattle.plan_prices.specs.declared.prices.Price.{Price}
 use Rattle.plan_prices.proofs.WorseLemmas.{no-worse-trans}
-
-some-same : (x y : Plan) → Some x ≡ Some y → x ≡ y
-some-same x y e = cc
 
 some-input : (f : Plan → Plan) (o : Option Plan) (p : Plan) → option_map f o ≡ Some p → (i : Plan) × (o ≡ Some i)
 some-input f None p e = absurd (none-some p e)
@@ -32,7 +29,7 @@ some-input f (Some i) p e = (i, refl)
 module _ (c : Contents) (q : Query) (t : Certificate) where
   -- the price of a side is one
   same-plan : (s : Side) (x y : Price) (a : IsPriced c q t s x) (b : IsPriced c q t s y) → a.plan ≡ b.plan
-  same-plan s x y a b = some-same a.plan b.plan (sym a.is ∙ b.is)
+  same-plan s x y a b = same_Some a.plan b.plan (sym a.is ∙ b.is)
 
   admissible-too : (p : Plan) (x y : Price) → HasPrice c q p x → HasPrice c q p y → x.admissible ≡ y.admissible
   admissible-too p x y a b = by x.admissible y.admissible refl refl
@@ -139,7 +136,7 @@ module _ (c : Contents) (q : Query) (t : Certificate) where
       none e = less (least.dearer (λ o over lt. p.has.no e (least.admissible o over lt).0) b.plan (priced-over r y b))
 
   best-plan : (x : Price) (p : IsPriced c q t t.best x) (best : HasBest c q t) → p.plan ≡ best.plan
-  best-plan x p best = some-same p.plan best.plan (sym p.is ∙ best.is)
+  best-plan x p best = same_Some p.plan best.plan (sym p.is ∙ best.is)
 
   pub best-least : (x least : Price) → IsPriced c q t t.best x → IsNoWorse x least → ((r : Side) (y : Price) → IsPriced c q t r y → IsNoWorse least y) → (best : HasBest c q t) → IsLeastAmong c q (IsOver c q t) best.plan
   best-least x least p h under best =

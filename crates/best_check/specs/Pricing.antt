@@ -8,7 +8,7 @@ use Rattle.plan_tree.specs.Least.{IsAdmissible}
 use Rattle.plan_tree.specs.Plans.{Plan}
 use Rattle.plan_tree.specs.Space.{IsFinished}
 use Rattle.certificates.specs.Certificates.{Certificate, Entry, Side, finish_at, sorted_if}
-use Rattle.plan_check.specs.Beating.{IsRight}
+use Rattle.entry_check.specs.plan_check_Beating.{IsRight}
 use Rattle.plan_prices.specs.declared.prices.Price.{Price}
 
 module _ (c : Contents) (q : Query) where

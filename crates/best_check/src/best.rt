@@ -7,7 +7,7 @@ ghost use Rattle.plan_tree.specs.Reads.{IsOverTables};
 ghost use Rattle.certificates.specs.Certificates.{Side as Sided};
 ghost use Rattle.certificates.specs.Tables.{IsLeastAmong, IsOver};
 ghost use Rattle.certificates.specs.Views.{certificate, side};
-ghost use Rattle.plan_check.specs.Reasons.{AllRight, HasBest, IsNotBest};
+ghost use Rattle.entry_check.specs.plan_check_Reasons.{AllRight, HasBest, IsNotBest};
 ghost use Rattle.best_check.specs.Pricing.{IsPriced, IsSomePrice};
 ghost use Rattle.plan_prices.specs.Worse.{IsNoWorse};
 ghost use Rattle.plan_prices.specs.declared.prices.Price.{Price as Priced};
@@ -16,7 +16,7 @@ use crate::sides::price_of_side;
 use catalog::Catalog;
 use certificates::{Certificate, Side};
 use entry_check::all_relations;
-use join_work::set_rows;
+use entry_check::join_work::set_rows;
 use plan_prices::{Price, better, is_no_worse};
 use sql_query::Prepared;
 

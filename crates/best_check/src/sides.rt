@@ -10,15 +10,15 @@ ghost use Rattle.plan_tree.specs.Reads.{IsOverTables};
 ghost use Rattle.plan_tree.specs.Space.{IsFinished};
 ghost use Rattle.certificates.specs.Certificates.{finish_at, sorted_if};
 ghost use Rattle.certificates.specs.Views.{certificate, entry, side};
-ghost use Rattle.plan_check.specs.Beating.{IsRight};
-ghost use Rattle.plan_check.specs.Reasons.{AllRight};
+ghost use Rattle.entry_check.specs.plan_check_Beating.{IsRight};
+ghost use Rattle.entry_check.specs.plan_check_Reasons.{AllRight};
 ghost use Rattle.best_check.specs.Pricing.{HasPrice, IsFinishedEntry, IsPriced};
 
 use catalog::Catalog;
 use certificates::{Certificate, Entry, Side};
 use cost_rules::{MOST_COST, Pair};
 use entry_check::finished_side;
-use plan_check::counted;
+use entry_check::plan_check::counted;
 use plan_prices::{Price, sort_total};
 use plan_tree::price_of;
 use sql_query::Prepared;

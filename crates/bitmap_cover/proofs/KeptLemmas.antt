@@ -33,7 +33,7 @@ use Rattle.bitmap_scan.proofs.ElementLemmas.{elements-made}
 use Rattle.bitmap_scan.proofs.MarkedLemmas.{zip-length}
 use Rattle.bitmap_scan.proofs.ScanLemmas.{chosen-scan, cost-cut, named-from}
 use Rattle.plan_check.specs.Plains.{arms_in}
-use Rattle.entry_check.proofs.ScanLemmas.{kept-cut}
+use Rattle.scan_cover.specs.entry_check_ScanLemmas.{kept-cut}
 use Rattle.atom_laws.specs.Limits.{HasFewAtoms, arms_of_all}
 use Rattle.atom_laws.proofs.ArmLemmas.{arms-fit}
 use Rattle.bitmap_cover.specs.Arms.{IsFilled}

@@ -28,9 +28,9 @@ use Rattle.certificates.specs.Certificates.{Certificate}
 use Rattle.certificates.specs.Tables.{IsDominated}
 use Rattle.plan_check.specs.Plains.{IsTreeOf, StandsForPlan, mask_of}
 use Rattle.plan_check.specs.declared.verdict.Plain.TheVariants as plain
-use Rattle.entry_check.specs.Owning.{AreNumbersOf}
-use Rattle.entry_check.specs.declared.numbers.Own.{Own}
-use Rattle.join_cover.specs.Serving.{IsServed}
+use Rattle.scan_cover.specs.entry_check_Owning.{AreNumbersOf}
+use Rattle.scan_cover.specs.entry_check_numbers_Own.{Own}
+use Rattle.scan_cover.specs.join_cover_Serving.{IsServed}
 use Rattle.scan_cover.specs.Scanning.{IsScanWith}
 use Rattle.scan_cover.proofs.GivenLemmas.{bitmap-most}
 use Rattle.bitmap_cover.specs.Trees.{AreAllBitmapsServed, AreBitmapsServed, AreFirst, AreKept, AreRelationBitmapsServed, IsKept, IsMarkServed, element_in}

@@ -14,7 +14,7 @@ use Rattle.plan_tree.specs.Plans.{BitTree, bitmap}
 use Rattle.plan_tree.specs.Views.{element}
 use Rattle.bitmap_scan.specs.Chosen.{IsLeastTree, combined, marked}
 use Rattle.certificates.specs.Certificates.{Certificate}
-use Rattle.join_cover.specs.Serving.{IsServed}
+use Rattle.scan_cover.specs.join_cover_Serving.{IsServed}
 use Rattle.bitmap_cover.specs.declared.kept.Kept.{Kept}
 
 -- the element of what is kept

@@ -11,3 +11,5 @@ mod masks;
 mod relations;
 
 pub use relations::open_bitmap_scan;
+pub use scan_cover;
+pub use scan_cover::{entry_check, join_cover};

@@ -8,17 +8,17 @@ ghost use Rattle.sql_query.specs.Queries.{all_of_query, width};
 ghost use Rattle.certificates.specs.Views.{certificate};
 ghost use Rattle.plan_check.specs.Placing.{ArePlaced};
 ghost use Rattle.plan_check.specs.Reasons.{AllRight};
-ghost use Rattle.join_cover.specs.Serving.{IsOpen};
+ghost use Rattle.scan_cover.specs.join_cover_Serving.{IsOpen};
 ghost use Rattle.atom_laws.specs.Limits.{HasFewAtoms};
 ghost use Rattle.bitmap_cover.specs.Trees.{AreAllBitmapsServed, AreBitmapsServed, AreRelationBitmapsServed};
 
 use crate::elements::keep_all;
 use crate::masks::{Given, open_marks};
-use entry_check::all_relations;
-use join_cover::Uncovered;
 use pg_base::{RelNo, RelSet};
 use plan_check::{Judged, Plain};
 use plan_tree::{first_elements, range_of};
+use scan_cover::entry_check::all_relations;
+use scan_cover::join_cover::Uncovered;
 
 /// A scan of a relation by a bitmap, where the rows of some others are given, that no entry dominates and one must.
 fn open_given(j: &Judged, at: Given) -> Option<(Plain, Uncovered)>

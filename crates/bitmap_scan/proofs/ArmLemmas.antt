@@ -5,6 +5,7 @@ use Rattle.std.specs.List.{AllZip}
 use Rattle.std.proofs.Math.ListN.{drop_of_length-le}
 use Rattle.std.proofs.lemmas.Grind.{common_steps}
 use Rattle.std.proofs.lemmas.List.{drop_more}
+use Rattle.std.proofs.lemmas.Bool.{leb-true, eqb-true}
 use Rattle.pg_base.specs.Sets.{has}
 use Rattle.pg_base.specs.declared.numbers.IndexNo.{IndexNo}
 use Rattle.pg_base.specs.declared.numbers.RelNo.{RelNo}
@@ -22,21 +23,15 @@ use Rattle.bitmap_scan.specs.Arms.{AreServed, IsLeastMatch, lesser, part_for}
 use Rattle.bitmap_scan.specs.Chosen.{IsLeastTree}
 use Rattle.bitmap_scan.proofs.LeastLemmas.{capped-cons, capped-together}
 
-below : (m n : ℕ) → nat_le m n ≡ true → m ≤ n
-below m n e = grind (arith, common_steps)
-
 above : (m n : ℕ) → nat_le m n ≡ false → n ≤ m
 above m n e = grind (arith, common_steps)
-
-same-number : (m n : ℕ) → nat_eq m n ≡ true → m ≡ n
-same-number m n e = grind (arith, common_steps)
 
 -- an index among some is the first of them or among the others
 first-or-later : (x j : IndexNo) (ys : List IndexNo) → is-listed j (x ∷ ys) ≡ true → (x ≡ j) ⊎ (is-listed j ys ≡ true)
 first-or-later x j ys h = by (nat_eq x.0 j.0) refl h
   where
     by : (b : Bool) → nat_eq x.0 j.0 ≡ b → b || is-listed j ys ≡ true → (x ≡ j) ⊎ (is-listed j ys ≡ true)
-    by true e g = inl (ap (λ (n : ℕ). let i : IndexNo = record { 0 = n } in i) (same-number x.0 j.0 e))
+    by true e g = inl (ap (λ (n : ℕ). let i : IndexNo = record { 0 = n } in i) (eqb-true x.0 j.0 e))
     by false e g = inr g
 
 module _ (P : IndexNo → Type 0) (f : IndexNo → ℕ) where
@@ -81,7 +76,7 @@ module _ (P : IndexNo → Type 0) (f : IndexNo → ℕ) where
   lesser-itself (Some b) x n e = by (nat_le b.1 n) refl
     where
       by : (t : Bool) → nat_le b.1 n ≡ t → IsBeaten x (cond t (Some b) (Some (x, n)))
-      by true g = let le = below b.1 n g in omega (arith, le, e)
+      by true g = let le = leb-true b.1 n g in omega (arith, le, e)
       by false g = omega (arith, e)
 
   taken-one : (x : IndexNo) (ys : List IndexNo) (best : Option (IndexNo × ℕ)) (n : ℕ) → P x → n ≡ f x → BestSoFar (x ∷ ys) best → BestSoFar ys (lesser best x n)

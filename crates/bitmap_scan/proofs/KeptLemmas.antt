@@ -6,6 +6,7 @@ use Rattle.std.proofs.Math.ListN.{drop_of_length-le}
 use Rattle.std.proofs.lemmas.Grind.{common_steps}
 use Rattle.std.proofs.lemmas.List.{drop_more, take_more, map-append}
 use Rattle.std.proofs.lemmas.List.Elements.{All-push, All-head, All-tail, All-cons, All-nil}
+use Rattle.std.proofs.Math.Bool.{and-false}
 use Rattle.pg_base.specs.Sets.{has}
 use Rattle.pg_base.specs.declared.numbers.RelNo.{RelNo}
 use Rattle.pg_base.specs.declared.rel_set.RelSet.{RelSet}
@@ -30,10 +31,10 @@ use Rattle.bitmap_scan.specs.declared.element_tree.ElementTree.{ElementTree}
 use Rattle.bitmap_scan.proofs.ArmLemmas.{zip-push}
 use Rattle.bitmap_scan.proofs.LeastLemmas.{sum-cons}
 
-capped-both : (a b m n : ℕ) → a ≡ capped b → capped m ≡ capped n → capped (a + m) ≡ capped (b + n)
+pub capped-both : (a b m n : ℕ) → a ≡ capped b → capped m ≡ capped n → capped (a + m) ≡ capped (b + n)
 capped-both a b m n e f = omega (arith, e, f)
 
-capped-child : (us vs : List ℕ) → length us ≡ length vs → capped (sum us) ≡ capped (sum vs) → capped (together us) ≡ capped (together vs)
+pub capped-child : (us vs : List ℕ) → length us ≡ length vs → capped (sum us) ≡ capped (sum vs) → capped (together us) ≡ capped (together vs)
 capped-child us vs e h = omega (arith, e, h)
 
 or-first : (f a b w : Bool) → w ≡ a || b → f || w ≡ (f || a) || (f || b)
@@ -78,10 +79,6 @@ any-either f g h n (x ∷ ks) = by (any-either f g h (n + 1) ks) (g n) (h n)
 others-either : (a e f w : Bool) → w ≡ e || f → a && w ≡ (a && e) || (a && f)
 others-either true e f w h = h
 others-either false e f w h = refl
-
-and-false : (a : Bool) → a && false ≡ false
-and-false true = refl
-and-false false = refl
 
 module _ (c : Contents) (q : Query) (r : RelNo) (p : RelSet) where
   -- what is kept of some elements

@@ -1,9 +1,9 @@
 -- Bitmap scans over trees of least part dominate those over any trees of the same elements.
-use Rattle.std.proofs.Common.{◌≡◌, ◌<◌, ◌≤◌, ◌^◌, ℕ, ◌+◌, ◌*◌, ◌⊎◌, Bool, true, false, cond, nat_eq, List, length, take, refl, sym, ◌∙◌, ap, ap₂, subst, arith, inl, inr, true≢false}
-use Rattle.std.specs.Prelude.{Contains, Option, Some, None}
+use Rattle.std.proofs.Common.{◌≡◌, ◌<◌, ◌≤◌, ◌^◌, ℕ, ◌+◌, ◌*◌, ◌⊎◌, Bool, true, false, cond, List, length, take, refl, sym, ◌∙◌, ap, ap₂, subst, arith, inl, inr, true≢false}
+use Rattle.std.specs.Prelude.{Contains, Some, None}
 use Rattle.std.specs.List.{AllZip, items_where_true}
-use Rattle.std.proofs.lemmas.Grind.{common_steps}
 use Rattle.std.proofs.lemmas.List.Elements.{All-contains, All-weaker}
+use Rattle.std.proofs.lemmas.Bool.{eqb-true, eq-eqb}
 use Rattle.pg_base.specs.Sets.{has}
 use Rattle.pg_base.proofs.SetLaws.{same_set, has-zero}
 use Rattle.pg_base.specs.declared.numbers.RelNo.{RelNo}
@@ -11,7 +11,6 @@ use Rattle.pg_base.specs.declared.rel_set.RelSet.{RelSet}
 use Rattle.catalog.specs.Contents.{Contents}
 use Rattle.eq_classes.specs.Clauses.{Set, one}
 use Rattle.sql_query.specs.Queries.{Query, width}
-use Rattle.sql_query.specs.declared.window.Window.{Window}
 use Rattle.cost_rules.specs.Costs.{IsAtMost, capped, capped_pair, pair, row_cost}
 use Rattle.cost_rules.specs.Scans.{bitmap_scan_cost, heap_pages_of, page_in_order}
 use Rattle.cost_rules.specs.declared.parameters.TheConstants.{MOST_COST}
@@ -21,10 +20,11 @@ use Rattle.plan_tree.specs.Plans.{Plan, seq, index, index_only, bitmap, sort, ne
 use Rattle.plan_tree.specs.Bitmaps.{Element, MOST_ELEMENTS, AreElements, IsElement, IsTreeOver, candidates, uses}
 use Rattle.plan_tree.specs.Costs.{cost, part_of}
 use Rattle.plan_tree.specs.Space.{IsBitmapScan, IsPlanOf, IsSameSet, conditions_used, others_named}
-use Rattle.plan_tree.specs.Least.{Dominates, IsAdmissible, IsStartupAtMost}
+use Rattle.plan_tree.specs.Least.{Dominates, IsAdmissible}
 use Rattle.plan_tree.specs.Paths.{Path}
 use Rattle.plan_tree.specs.Fronts.{AreDominated, AreOldOrOffers, HasDominating, IsOffer, is_bitmap}
 use Rattle.plan_tree.proofs.DominationLemmas.{dominates-trans}
+use Rattle.plan_tree.proofs.WindowLemmas.{startup-from}
 use Rattle.bitmap_scan.specs.Chosen.{AreChosen, IsLeastTree, combined, marked}
 use Rattle.bitmap_scan.proofs.MarkedLemmas.{marked-all, where-zip}
 use Rattle.bitmap_scan.proofs.PickedLemmas.{picked-once}
@@ -37,19 +37,9 @@ parts-rise m n a b h less = omega (arith, h, less)
 sums-rise : (m n a b : ℕ) → m ≤ n → m + a + b ≤ n + a + b
 sums-rise m n a b h = omega (arith, h)
 
-startup-less : (w : Option Window) (m n : ℕ) → m ≤ n → IsStartupAtMost w m n
-startup-less None m n h = tt
-startup-less (Some w) m n h = h
-
-same-number : (m n : ℕ) → nat_eq m n ≡ true → m ≡ n
-same-number m n e = grind (arith, common_steps)
-
-same-self : (n : ℕ) → nat_eq n n ≡ true
-same-self n = grind (arith, common_steps)
-
 -- the parameterisation of a scan is the set that it is given
 param-by : (r : RelNo) (p : RelSet) (b : Bool) → is_empty p ≡ b → (k : ℕ) → param_in (cond b None (Some (record { relation = r; param = p }))) k ≡ has p.0 k
-param-by r p true e k = sym (ap (λ (n : ℕ). has n k) (same-number p.0 0 e) ∙ has-zero k)
+param-by r p true e k = sym (ap (λ (n : ℕ). has n k) (eqb-true p.0 0 e) ∙ has-zero k)
 param-by r p false e k = refl
 
 pub param-is : (r : RelNo) (p : RelSet) (bits : BitTree) (k : ℕ) → param_of (bitmap r p bits) k ≡ has p.0 k
@@ -87,7 +77,7 @@ module _ (c : Contents) (q : Query) where
         record {
           like = record { set = λ k. refl; param = λ k. refl };
           total = most.total;
-          startup = startup-less q.window _ _ most.startup;
+          startup = startup-from q.window _ _ most.startup;
           keys = refl;
         }
 
@@ -126,7 +116,7 @@ module _ (c : Contents) (q : Query) where
 
     over-of : (s : RelNo) (o : RelSet) (bits : BitTree) → IsSameSet (one s.0) (one r.0) → IsSameSet (param_of (bitmap s o bits)) (has p.0) → IsOver (bitmap s o bits)
     over-of s o bits set param =
-        let rel : s.0 ≡ r.0 = same-number s.0 r.0 (sym (set s.0) ∙ same-self s.0) in
+        let rel : s.0 ≡ r.0 = eqb-true s.0 r.0 (sym (set s.0) ∙ eq-eqb s.0 s.0 refl) in
         let given : o.0 ≡ p.0 = same_set o.0 p.0 (λ k. sym (param-is s o bits k) ∙ param k) in
         record { bits = bits; is = ap₂ (λ (m n : ℕ). bitmap (record { 0 = m }) (record { 0 = n }) bits) rel given }
 

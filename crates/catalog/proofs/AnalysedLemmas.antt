@@ -4,8 +4,8 @@ use Rattle.std.specs.List.{AllZip, take-map}
 use Rattle.std.specs.Option.{option_map}
 use Rattle.std.proofs.lemmas.List.{length-map, length-set, take_all, take_more, get_or-map, map_push}
 use Rattle.std.proofs.lemmas.List.Elements.{All-push}
-use Rattle.pg_value.specs.declared.columns.Column.{Column}
-use Rattle.pg_value.specs.declared.value.SqlType.{SqlType}
+use Rattle.opfamily.specs.pg_value_columns_Column.{Column}
+use Rattle.opfamily.specs.pg_value_value_SqlType.{SqlType}
 use Rattle.catalog.specs.declared.statistics.ColumnStats.{ColumnStats}
 use Rattle.catalog.specs.Analysed.{FitColumns, IsColumnRefusal}
 use Rattle.catalog.specs.Contents.{IsKnown}

@@ -1,7 +1,8 @@
 -- The columns of an index, and the form of a hash index.
-use Rattle.std.proofs.Common.{◌≡◌, ◌<◌, ◌≤◌, ◌+◌, ◌&&◌, ◌∷◌, [], ◌∙◌, ℕ, Bool, true, false, List, length, take, get_or, Contains, refl, sym, ap, subst, arith}
+use Rattle.std.proofs.Common.{◌≡◌, ◌<◌, ◌≤◌, ◌+◌, ◌∷◌, [], ◌∙◌, ℕ, List, length, take, get_or, Contains, sym, ap, subst, arith}
 use Rattle.std.specs.List.{list_all}
 use Rattle.std.proofs.lemmas.List.{get_or_default, length-append, length-map, take_all}
+use Rattle.std.proofs.Math.Bool.{and-true}
 use Rattle.pg_base.specs.declared.numbers.ColNo.{ColNo}
 use Rattle.opfamily.specs.declared.classes.IndexKey.{IndexKey}
 use Rattle.opfamily.specs.declared.classes.Method.TheVariants.{Hash}
@@ -20,13 +21,9 @@ different-more cs n d lt h new = distinct-more cs n (get_or cs n d) lt (get_or_d
 pub different-all : (cs : List ColNo) (n : ℕ) → length cs ≤ n → AreDifferent (take n cs) → AreDifferent cs
 different-all cs n le h = subst AreDifferent (take_all n cs le) h
 
-and_true : (b : Bool) → b && true ≡ b
-and_true true = refl
-and_true false = refl
-
 plain-one : (ks : List IndexKey) (k : IndexKey) → length ks ≡ 1 → k ≡ get_or ks 0 k → list_all is_plain ks ≡ is_plain k
 plain-one [] k len at = absurd (omega (arith, len))
-plain-one (a ∷ []) k len at = and_true (is_plain a) ∙ ap is_plain (sym at)
+plain-one (a ∷ []) k len at = and-true (is_plain a) ∙ ap is_plain (sym at)
 plain-one (a ∷ b ∷ ks) k len at = absurd (omega (arith, len))
 
 -- a hash index of one key alone has its form where the key is plain

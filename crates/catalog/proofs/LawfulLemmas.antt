@@ -7,7 +7,7 @@ use Rattle.std.proofs.lemmas.List.Elements.{All-push, All-set, Contains-append_c
 use Rattle.pg_base.specs.declared.limits.TheConstants.{MOST_INDEXES, MOST_TABLES}
 use Rattle.pg_base.specs.declared.numbers.TableNo.{TableNo}
 use Rattle.pg_base.specs.Names.{AreDistinct}
-use Rattle.pg_value.specs.declared.columns.Column.{Column}
+use Rattle.opfamily.specs.pg_value_columns_Column.{Column}
 use Rattle.catalog.specs.Contents.{Contents, NamedIndex, TableDef, IsIndexOf, IsLawful, IsLawfulTable, IsTable, index_names, indexes_of, no_table, numbers_from, table_at, table_names, with_definition, with_index, with_table}
 use Rattle.catalog.specs.Indexes.{Index, IsLawfulIndex}
 use Rattle.catalog.specs.Tables.{IsUnused}

@@ -8,7 +8,7 @@ use Rattle.pg_base.specs.declared.limits.TheConstants.{MOST_COLUMNS}
 use Rattle.pg_base.specs.declared.numbers.ColNo.{ColNo}
 use Rattle.pg_base.specs.declared.numbers.IndexNo.{IndexNo}
 use Rattle.pg_base.specs.declared.numbers.TableNo.{TableNo}
-use Rattle.pg_value.specs.declared.columns.Column.{Column}
+use Rattle.opfamily.specs.pg_value_columns_Column.{Column}
 use Rattle.catalog.specs.Contents.{Contents, TableDef, IsColumn, IsKnown, IsLawful, IsLawfulTable, IsTable, stats_at, table_at, index_names, new_table, no_index, no_table, table_names, unknown}
 use Rattle.catalog.specs.Entries.{statistics}
 use Rattle.catalog.specs.Indexes.{no_column, type_at}

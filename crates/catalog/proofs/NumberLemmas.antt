@@ -2,15 +2,10 @@
 use Rattle.std.proofs.Common.{◌≡◌, ◌≢◌, ◌<◌, ◌≤◌, ◌+◌, ◌*◌, ◌++◌, ◌∷◌, [], ◌∙◌, ℕ, Bool, true, false, cond, nat_eq, nat_lt, List, length, zero, suc, get_or, All, refl, sym, ap, arith}
 use Rattle.std.proofs.lemmas.Bool.Decides.{nat_tests}
 use Rattle.std.proofs.lemmas.List.Elements.{All-head, All-tail}
+use Rattle.std.proofs.lemmas.Bool.{eq-eqb, ne_eqb}
 use Rattle.pg_base.specs.declared.numbers.IndexNo.{IndexNo}
 use Rattle.pg_base.specs.declared.numbers.TableNo.{TableNo}
 use Rattle.catalog.specs.Contents.{NamedIndex, numbers_from}
-
-same_table : (a b : ℕ) → a ≡ b → nat_eq a b ≡ true
-same_table a b e = grind (arith, nat_tests)
-
-other_table : (a b : ℕ) → a ≢ b → nat_eq a b ≡ false
-other_table a b ne = grind (arith, nat_tests)
 
 cond-append : (b : Bool) (p : IndexNo) (m q : List IndexNo) → cond b (p ∷ (m ++ q)) (m ++ q) ≡ cond b (p ∷ m) m ++ q
 cond-append true p m q = refl
@@ -20,7 +15,7 @@ cond-append false p m q = refl
 pub numbers-same : (k : ℕ) (xs : List NamedIndex) (x : NamedIndex) (t : TableNo) → x.index.table.0 ≡ t.0 → numbers_from k (xs ++ x ∷ []) t ≡ numbers_from k xs t ++ record { 0 = k + length xs } ∷ []
 numbers-same k [] x t e =
     let at : k ≡ k + 0 = omega arith in
-    ap (λ b. cond b (record { 0 = k } ∷ []) []) (same_table _ _ e) ∙ ap (λ n. record { 0 = n } ∷ []) at
+    ap (λ b. cond b (record { 0 = k } ∷ []) []) (eq-eqb _ _ e) ∙ ap (λ n. record { 0 = n } ∷ []) at
 numbers-same k (y ∷ xs) x t e =
     let at : (k + 1) + length xs ≡ k + length (y ∷ xs) = omega arith in
     let first : IndexNo = record { 0 = k } in
@@ -31,7 +26,7 @@ numbers-same k (y ∷ xs) x t e =
 
 -- one of another table changes nothing
 pub numbers-other : (k : ℕ) (xs : List NamedIndex) (x : NamedIndex) (t : TableNo) → x.index.table.0 ≢ t.0 → numbers_from k (xs ++ x ∷ []) t ≡ numbers_from k xs t
-numbers-other k [] x t ne = ap (λ b. cond b (record { 0 = k } ∷ []) []) (other_table _ _ ne)
+numbers-other k [] x t ne = ap (λ b. cond b (record { 0 = k } ∷ []) []) (ne_eqb _ _ ne)
 numbers-other k (y ∷ xs) x t ne = ap (λ l. cond (nat_eq y.index.table.0 t.0) (record { 0 = k } ∷ l) l) (numbers-other (k + 1) xs x t ne)
 
 cond-none : (b : Bool) (p : IndexNo) (m : List IndexNo) → cond b (p ∷ m) m ≡ [] → (b ≡ false) × (m ≡ [])
@@ -41,7 +36,7 @@ cond-none false p m e = (refl, e)
 -- a table without numbers has no index
 pub no_numbers : (k : ℕ) (xs : List NamedIndex) (t : TableNo) → numbers_from k xs t ≡ [] → (i : ℕ) (d : NamedIndex) → i < length xs → (get_or xs i d).index.table.0 ≢ t.0
 no_numbers k [] t e i d lt = absurd (omega (arith, lt))
-no_numbers k (x ∷ xs) t e zero d lt = λ same. let h = cond-none _ _ _ e in let both : true ≡ false = sym (same_table _ _ same) ∙ h.0 in absurd (cc)
+no_numbers k (x ∷ xs) t e zero d lt = λ same. let h = cond-none _ _ _ e in let both : true ≡ false = sym (eq-eqb _ _ same) ∙ h.0 in absurd (cc)
 no_numbers k (x ∷ xs) t e (suc i) d lt = let h = cond-none (nat_eq x.index.table.0 t.0) _ _ e in no_numbers (k + 1) xs t h.1 i d (omega (arith, lt))
 
 -- a table past those of the indexes has no numbers
@@ -50,7 +45,7 @@ numbers-past k [] t h = refl
 numbers-past k (x ∷ xs) t h =
     let head = All-head (λ (y : NamedIndex). y.index.table.0 < t.0) x xs h in
     let ne : x.index.table.0 ≢ t.0 = λ e. omega (arith, head, e) in
-    ap (λ b. cond b (record { 0 = k } ∷ numbers_from (k + 1) xs t) (numbers_from (k + 1) xs t)) (other_table _ _ ne)
+    ap (λ b. cond b (record { 0 = k } ∷ numbers_from (k + 1) xs t) (numbers_from (k + 1) xs t)) (ne_eqb _ _ ne)
     ∙ numbers-past (k + 1) xs t (All-tail (λ (y : NamedIndex). y.index.table.0 < t.0) x xs h)
 
 -- how many indexes are of tables below a number, and of one table

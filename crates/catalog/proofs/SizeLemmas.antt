@@ -1,6 +1,7 @@
 -- The sizes of a table of lawful contents are at most the greatest number that a statement may give.
-use Rattle.std.proofs.Common.{◌≡◌, ◌≤◌, ◌&&◌, ℕ, Bool, Option, None, Some, arith, true, false, nat_le}
+use Rattle.std.proofs.Common.{◌≡◌, ◌≤◌, ℕ, Option, None, Some, arith, true, nat_le}
 use Rattle.std.proofs.lemmas.Bool.Decides.{nat_tests}
+use Rattle.std.proofs.lemmas.Bool.{and_parts}
 use Rattle.pg_base.specs.declared.numbers.TableNo.{TableNo}
 use Rattle.catalog.specs.Contents.{Contents, AreSizes, IsLawful, IsTable, no_table, table_at}
 use Rattle.catalog.specs.Statistics.{is_count}
@@ -8,12 +9,8 @@ use Rattle.catalog.specs.Tables.{pages_by, pages_of, rows_by, rows_of}
 use Rattle.catalog.specs.declared.limits.TheConstants.{MOST_NUMBER}
 use Rattle.catalog.specs.declared.table.Sizes.{Sizes}
 
-last-holds : (a b : Bool) → a && b ≡ true → b ≡ true
-last-holds true b e = e
-last-holds false b e = cc e
-
 counted : (n : ℕ) → is_count n ≡ true → n ≤ MOST_NUMBER
-counted n h = let last = last-holds (nat_le 1 n) (nat_le n MOST_NUMBER) h in grind (arith, nat_tests)
+counted n h = let last = (and_parts (nat_le 1 n) (nat_le n MOST_NUMBER) h).1 in grind (arith, nat_tests)
 
 most-rows : (loaded : ℕ) (sizes : Option Sizes) → AreSizes sizes → loaded ≤ MOST_NUMBER → rows_by loaded sizes ≤ MOST_NUMBER
 most-rows loaded None h few = omega (arith, few)

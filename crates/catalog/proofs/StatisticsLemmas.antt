@@ -1,11 +1,11 @@
 -- Statistics of which nothing is refused are lawful, and the first places tell of all.
-use Rattle.std.proofs.Common.{◌≡◌, ◌≢◌, ◌<◌, ◌≤◌, ◌+◌, ◌-◌, ◌*◌, ◌%◌, ◌&&◌, ◌||◌, ◌∙◌, inl, inr, [], ◌∷◌, ℕ, Bool, true, false, not, nat_eq, nat_le, nat_lt, List, length, take, zero, suc, get_or, refl, sym, ap, arith, cond, min, get_or-take}
+use Rattle.std.proofs.Common.{◌≡◌, ◌≢◌, ◌<◌, ◌≤◌, ◌+◌, ◌-◌, ◌*◌, ◌%◌, ◌&&◌, ◌∙◌, inl, inr, [], ◌∷◌, ℕ, Bool, true, false, nat_eq, nat_le, nat_lt, List, length, take, zero, suc, get_or, refl, sym, ap, arith, cond, min, get_or-take}
 use Rattle.std.specs.List.{list_any}
-use Rattle.std.proofs.lemmas.Bool.{cases_lt}
+use Rattle.std.proofs.lemmas.Bool.{cases_lt, or_parts, and_parts, not-false, leb-false, ltb-false, or_from}
 use Rattle.std.proofs.lemmas.Bool.Decides.{nat_tests}
 use Rattle.std.proofs.lemmas.List.{get_or_default, length-take, take_all}
 use Rattle.std.proofs.lemmas.List.Sums.{sum_by-take-le}
-use Rattle.pg_value.specs.declared.value.SqlType.{SqlType}
+use Rattle.opfamily.specs.pg_value_value_SqlType.{SqlType}
 use Rattle.catalog.specs.Statistics.{AreAllowed, AreValuesOf, Common, IsLawfulStatistics, Statistics, bound_at, bound_of, common_at, is_below, is_bound_refused, is_common_refused, is_equal, is_refused, is_share_refused, no_common, pair_of, shares}
 use Rattle.catalog.specs.declared.limits.TheConstants.{MOST_BOUNDS, MOST_COMMON, WHOLE_SHARE}
 
@@ -37,24 +37,6 @@ at-bound s k place lt is =
     let within : nat_lt (bound_of s place) (length s.histogram) ≡ true = grind (arith, nat_tests) in
     rw (zeroth, first, past, within) (ap (is_bound_refused s) bound)
 
-or_false : (a b : Bool) → a || b ≡ false → (a ≡ false) × (b ≡ false)
-or_false true b e = cc e
-or_false false b e = (refl, e)
-
-and_parts : (a b : Bool) → a && b ≡ true → (a ≡ true) × (b ≡ true)
-and_parts true b e = (refl, e)
-and_parts false b e = cc e
-
-not_false : (b : Bool) → not b ≡ false → b ≡ true
-not_false true e = refl
-not_false false e = cc e
-
-at_most : (a b : ℕ) → nat_le a b ≡ false → b < a
-at_most a b e = grind (arith, nat_tests)
-
-not_past : (a b : ℕ) → nat_lt a b ≡ false → b ≤ a
-not_past a b e = grind (arith, nat_tests)
-
 positive : (n : ℕ) → nat_lt 0 (n + 1) ≡ true
 positive n = grind (arith, nat_tests)
 
@@ -62,8 +44,8 @@ positive n = grind (arith, nat_tests)
 none-of : {X : Type 0} (p : X → Bool) (xs : List X) (n i : ℕ) (d : X) → list_any p (take n xs) ≡ false → i < n → i < length xs → p (get_or xs i d) ≡ false
 none-of p xs zero i d e lt within = absurd (omega (arith, lt))
 none-of p [] (suc n) i d e lt within = absurd (omega (arith, within))
-none-of p (x ∷ xs) (suc n) zero d e lt within = (or_false _ _ e).0
-none-of p (x ∷ xs) (suc n) (suc i) d e lt within = none-of p xs n i d (or_false (p x) _ e).1 (omega (arith, lt)) (omega (arith, within))
+none-of p (x ∷ xs) (suc n) zero d e lt within = (or_parts _ _ e).0
+none-of p (x ∷ xs) (suc n) (suc i) d e lt within = none-of p xs n i d (or_parts (p x) _ e).1 (omega (arith, lt)) (omega (arith, within))
 
 any-by : {X : Type 0} (p : X → Bool) (xs : List X) (n i : ℕ) (d : X) (b : Bool) → list_any p (take n xs) ≡ b → i < n → i < length xs → p (get_or xs i d) ≡ true → b ≡ true
 any-by p xs n i d true e lt within h = refl
@@ -88,9 +70,9 @@ clean-more s place clean here n lt = elim (cases_lt n place) [
 module _ (s : Statistics) (most : ℕ) (clean : (n : ℕ) → n < most → is_refused s n ≡ false) (far : 140 ≤ most) where
   value-parts : (k : ℕ) → k < length s.common → k < 17 → (k < MOST_COMMON) × (k < s.distinct) × (list_any (λ (p : Common). is_equal p.0 (common_at s k).0) (take k s.common) ≡ false)
   value-parts k lt small =
-      let e = or_false _ _ (sym (at-value s k lt) ∙ clean (2 + 2 * k) (omega (arith, small, far))) in
-      let f = or_false (nat_le s.distinct k) _ e.1 in
-      (at_most _ _ e.0, at_most _ _ f.0, f.1)
+      let e = or_parts _ _ (sym (at-value s k lt) ∙ clean (2 + 2 * k) (omega (arith, small, far))) in
+      let f = or_parts (nat_le s.distinct k) _ e.1 in
+      (leb-false _ _ e.0, leb-false _ _ f.0, f.1)
 
   pub few-values : length s.common ≤ MOST_COMMON
   few-values = elim (cases_lt MOST_COMMON (length s.common)) [
@@ -101,9 +83,9 @@ module _ (s : Statistics) (most : ℕ) (clean : (n : ℕ) → n < most → is_re
   bound-parts : (k : ℕ) → k < length s.histogram → k < 102 → (k < MOST_BOUNDS) × (nat_eq (length s.histogram) 1 ≡ false) × (nat_lt 0 k && is_below (bound_at s k) (bound_at s (k - 1)) ≡ false)
   bound-parts k lt small =
       let few = few-values in
-      let e = or_false _ _ (sym (at-bound s k (2 + 2 * length s.common + k) lt refl) ∙ clean (2 + 2 * length s.common + k) (omega (arith, small, far, few))) in
-      let f = or_false (nat_eq (length s.histogram) 1) _ e.1 in
-      (at_most _ _ e.0, f.0, f.1)
+      let e = or_parts _ _ (sym (at-bound s k (2 + 2 * length s.common + k) lt refl) ∙ clean (2 + 2 * length s.common + k) (omega (arith, small, far, few))) in
+      let f = or_parts (nat_eq (length s.histogram) 1) _ e.1 in
+      (leb-false _ _ e.0, f.0, f.1)
 
   pub few-bounds : length s.histogram ≤ MOST_BOUNDS
   few-bounds = elim (cases_lt MOST_BOUNDS (length s.histogram)) [
@@ -130,22 +112,22 @@ module _ (t : SqlType) (s : Statistics) (values : AreValuesOf t s) (clean : AreA
   near n lt = clean n
 
   share-parts : (k : ℕ) → k < length s.common → (nat_eq (common_at s k).1 0 ≡ false) × (nat_lt WHOLE_SHARE (s.nulls + shares (take (k + 1) s.common)) ≡ false)
-  share-parts k lt = or_false _ _ (sym (at-share s k lt) ∙ clean (3 + 2 * k))
+  share-parts k lt = or_parts _ _ (sym (at-share s k lt) ∙ clean (3 + 2 * k))
 
   whole-by : (common : List Common) → common ≡ s.common → s.nulls + shares common ≤ WHOLE_SHARE
-  whole-by [] e = let none = not_past WHOLE_SHARE s.nulls (clean 1) in omega (arith, none)
+  whole-by [] e = let none = ltb-false WHOLE_SHARE s.nulls (clean 1) in omega (arith, none)
   whole-by (p ∷ ps) e =
       let len = ap length e in
       let h = share-parts (length ps) (omega (arith, len)) in
       let all : take (length ps + 1) s.common ≡ s.common = take_all (length ps + 1) s.common (omega (arith, len)) in
       let sum = ap shares (all ∙ sym e) in
-      let most = not_past _ _ h.1 in
+      let most = ltb-false _ _ h.1 in
       omega (arith, sum, most)
 
   -- allowed statistics are lawful
   pub allowed-lawful : IsLawfulStatistics t s
   allowed-lawful =
-      let count = and_parts (nat_le 1 s.distinct) _ (not_false _ (clean 0)) in
+      let count = and_parts (nat_le 1 s.distinct) _ (not-false _ (clean 0)) in
       let few = few-values s 255 near (omega arith) in
       let some = few-bounds s 255 near (omega arith) in
       record {
@@ -188,10 +170,6 @@ cond_false : (b c d : Bool) → (b ≡ true → c ≡ false) → (b ≡ false �
 cond_false true c d h g = h refl
 cond_false false c d h g = g refl
 
-or_both : (a b : Bool) → a ≡ false → b ≡ false → a || b ≡ false
-or_both true b e f = e
-or_both false b e f = f
-
 and_fails : (a b : Bool) → (a ≡ true → b ≡ false) → a && b ≡ false
 and_fails true b h = h refl
 and_fails false b h = refl
@@ -199,7 +177,7 @@ and_fails false b h = refl
 -- a test that fails at each element of a list fails at all
 any-none : {X : Type 0} (p : X → Bool) (xs : List X) → ((i : ℕ) (d : X) → i < length xs → p (get_or xs i d) ≡ false) → list_any p xs ≡ false
 any-none p [] h = refl
-any-none p (x ∷ xs) h = or_both (p x) _ (h 0 x (omega arith)) (any-none p xs (λ i d lt. h (suc i) d (omega (arith, lt))))
+any-none p (x ∷ xs) h = or_from (p x) _ (h 0 x (omega arith)) (any-none p xs (λ i d lt. h (suc i) d (omega (arith, lt))))
 
 -- lawful statistics are allowed
 module _ (t : SqlType) (s : Statistics) (h : IsLawfulStatistics t s) where
@@ -207,8 +185,8 @@ module _ (t : SqlType) (s : Statistics) (h : IsLawfulStatistics t s) where
   value-allowed k lt =
       let few = h.few in
       let within = h.within in
-      or_both (nat_le MOST_COMMON k) _ (grind (arith, nat_tests))
-      (or_both (nat_le s.distinct k) _ (grind (arith, nat_tests))
+      or_from (nat_le MOST_COMMON k) _ (grind (arith, nat_tests))
+      (or_from (nat_le s.distinct k) _ (grind (arith, nat_tests))
       (any-none (λ (p : Common). is_equal p.0 (common_at s k).0) (take k s.common) (λ i d low.
       let less : i < min k (length s.common) = rw length-take at low in
       ap (λ (p : Common). is_equal p.0 (common_at s k).0) (get_or-take k s.common i d (omega (arith, less)))
@@ -219,14 +197,14 @@ module _ (t : SqlType) (s : Statistics) (h : IsLawfulStatistics t s) where
   share-allowed k lt =
       let some = h.shared k no_common lt in
       let most = prefix-whole t s h (k + 1) in
-      or_both (nat_eq (common_at s k).1 0) _ (grind (arith, nat_tests)) (grind (arith, nat_tests))
+      or_from (nat_eq (common_at s k).1 0) _ (grind (arith, nat_tests)) (grind (arith, nat_tests))
 
   bound-allowed : (k : ℕ) → k < length s.histogram → is_bound_refused s k ≡ false
   bound-allowed k lt =
       let most = h.bounds in
       let two = h.two in
-      or_both (nat_le MOST_BOUNDS k) _ (grind (arith, nat_tests))
-      (or_both (nat_eq (length s.histogram) 1) _ (grind (arith, nat_tests))
+      or_from (nat_le MOST_BOUNDS k) _ (grind (arith, nat_tests))
+      (or_from (nat_eq (length s.histogram) 1) _ (grind (arith, nat_tests))
       (and_fails (nat_lt 0 k) _ (λ e.
       let some : 0 < k = grind (arith, nat_tests) in
       let back : k - 1 + 1 ≡ k = omega (arith, some) in

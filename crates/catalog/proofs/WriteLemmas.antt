@@ -6,6 +6,7 @@ use Rattle.std.specs.Str.{bytes_eq}
 use Rattle.std.proofs.Math.Seq.{get_or-append_seam, take-append_seam}
 use Rattle.std.proofs.lemmas.List.Elements.{Contains-append_left, Contains-append_right}
 use Rattle.std.proofs.lemmas.List.{length-append, length-map, map-append, set-get_or}
+use Rattle.std.proofs.Math.Nat.{zero-add}
 use Rattle.indexmap.specs.IndexMap.{insert_entry, set_value_at}
 use Rattle.pg_base.specs.declared.limits.TheConstants.{MOST_INDEXES, MOST_TABLES}
 use Rattle.pg_base.specs.declared.numbers.IndexNo.{IndexNo}
@@ -20,20 +21,17 @@ use Rattle.catalog.proofs.EntryLemmas.{def-of_value, defs-set, entries-added, ke
 use Rattle.catalog.proofs.LawfulLemmas.{lawful-defined, lawful-index, lawful-table, lawful-unindexed, lawful-untabled, none-past}
 use Rattle.catalog.proofs.NumberLemmas.{numbers-other, numbers-same}
 
-zero_more : (n : ℕ) → 0 + n ≡ n
-zero_more n = omega arith
-
 -- the list that the entry of a table has, and that its value has
 pub listed-entry : (xs : List NamedIndex) (es : List (Vec ℕ Global × Table)) (t : TableNo) (e : Vec ℕ Global × Table) → AreListed xs 0 es → slice_get es t.0 ≡ Some e → e.1.indexes.items ≡ numbers_from 0 xs t
-listed-entry xs es t e h at = listed-at xs 0 es t.0 e h at ∙ ap (λ k. numbers_from 0 xs (record { 0 = k })) (zero_more t.0)
+listed-entry xs es t e h at = listed-at xs 0 es t.0 e h at ∙ ap (λ k. numbers_from 0 xs (record { 0 = k })) (zero-add t.0)
 
 pub listed-old : (xs : List NamedIndex) (es : List (Vec ℕ Global × Table)) (t : TableNo) (old : Table) → AreListed xs 0 es → slice_get (values_of es) t.0 ≡ Some old → old.indexes.items ≡ numbers_from 0 xs t
-listed-old xs es t old h at = listed-value xs 0 es t.0 old h at ∙ ap (λ k. numbers_from 0 xs (record { 0 = k })) (zero_more t.0)
+listed-old xs es t old h at = listed-value xs 0 es t.0 old h at ∙ ap (λ k. numbers_from 0 xs (record { 0 = k })) (zero-add t.0)
 
 relisted : (xs ys : List NamedIndex) (es : List (Vec ℕ Global × Table)) (t : TableNo) (new : Table) → AreListed xs 0 es →
     ((u : TableNo) → u.0 ≢ t.0 → numbers_from 0 xs u ≡ numbers_from 0 ys u) → new.indexes.items ≡ numbers_from 0 ys t → AreListed ys 0 (set_value_at es t.0 new)
 relisted xs ys es t new h others here =
-    listed-set xs ys 0 es t.0 new h (λ u ne. others u (λ same. ne (same ∙ sym (zero_more t.0)))) (here ∙ ap (λ k. numbers_from 0 ys (record { 0 = k })) (sym (zero_more t.0)))
+    listed-set xs ys 0 es t.0 new h (λ u ne. others u (λ same. ne (same ∙ sym (zero-add t.0)))) (here ∙ ap (λ k. numbers_from 0 ys (record { 0 = k })) (sym (zero-add t.0)))
 
 module _ (es : List (Vec ℕ Global × Table)) (is : List (Vec ℕ Global × IndexDef)) (t : TableNo) (old new : Table) (at : slice_get (values_of es) t.0 ≡ Some old) (change : TableDef → TableDef) (same : (n : List ℕ) → keyed n new ≡ change (keyed n old)) where
   -- another value of a table is another definition
@@ -73,7 +71,7 @@ module _ (es more : List (Vec ℕ Global × Table)) (is : List (Vec ℕ Global �
       IsLawful (contents_of more is) × AreListed (map named_index is) 0 more
   table-kept lawful room none h =
       let len = length-map es table_def in
-      let past = ap (λ n. numbers_from 0 (map named_index is) (record { 0 = n })) (zero_more (length es) ∙ sym len) ∙ none-past (contents_of es is) h.0 in (
+      let past = ap (λ n. numbers_from 0 (map named_index is) (record { 0 = n })) (zero-add (length es) ∙ sym len) ∙ none-past (contents_of es is) h.0 in (
         subst IsLawful (sym table-added) (lawful-table (contents_of es is) (table_def (k, v)) lawful free room h.0),
         subst (AreListed (map named_index is) 0) (sym grown) (listed-added (map named_index is) 0 es k v h.1 none past),
       )
@@ -96,7 +94,7 @@ module _ (es : List (Vec ℕ Global × Table)) (is more : List (Vec ℕ Global �
         let xs = map named_index is in
         let x = named_index (k, d) in
         let number : IndexNo = record { 0 = length is } in
-        let next : 0 + length xs ≡ length is = zero_more (length xs) ∙ length-map is named_index in
+        let next : 0 + length xs ≡ length is = zero-add (length xs) ∙ length-map is named_index in
         let here = list ∙ ap (λ l. l ++ number ∷ []) (listed-old xs es d.table old h.1 at) ∙ ap (λ n. numbers_from 0 xs d.table ++ record { 0 = n } ∷ []) (sym next) ∙ sym (numbers-same 0 xs x d.table refl) in (
           subst IsLawful (sym index-added) (lawful-index (contents_of es is) k.items (index_of d) lawful free room h.0),
           subst (λ l. AreListed l 0 (set_value_at es d.table.0 new)) (sym grown-indexes)

@@ -2,7 +2,7 @@
 use Rattle.std.specs.Prelude.{◌≡◌, ◌<◌, ◌⊎◌, ℕ, true, List, length, map, take, All, slice_index_or, Some}
 use Rattle.std.specs.List.{AllZip}
 use Rattle.pg_base.specs.declared.numbers.TableNo.{TableNo}
-use Rattle.pg_value.specs.declared.columns.Column.{Column}
+use Rattle.opfamily.specs.pg_value_columns_Column.{Column}
 use Rattle.catalog.specs.declared.fault.CatalogFault.{CatalogFault}
 use Rattle.catalog.specs.declared.fault.CatalogFault.TheVariants.{BadNumber}
 use Rattle.catalog.specs.declared.statistics.TableStats.{TableStats}

@@ -5,7 +5,7 @@ use Rattle.pg_base.specs.declared.limits.TheConstants.{MOST_COLUMNS, MOST_INDEXE
 use Rattle.pg_base.specs.declared.numbers.TableNo.{TableNo}
 use Rattle.pg_base.specs.declared.numbers.ColNo.{ColNo}
 use Rattle.pg_base.specs.declared.numbers.IndexNo.{IndexNo}
-use Rattle.pg_value.specs.declared.columns.Column.{Column}
+use Rattle.opfamily.specs.pg_value_columns_Column.{Column}
 use Rattle.pg_base.specs.Names.{IsName, AreDistinct}
 use Rattle.opfamily.specs.declared.classes.Method.TheVariants.{Btree}
 use Rattle.catalog.specs.Indexes.{Index, IsLawfulIndex}
@@ -47,6 +47,7 @@ nothing = record { tables = []; indexes = [] }
 abbrev pub no_table : TableDef
 no_table = new_table [] [] []
 
+-- what stands where a number is none of an index: without a name and without keys
 abbrev pub no_index : NamedIndex
 no_index = record { name = []; index = record { table = record { 0 = 0 }; method = Btree; keys = []; include = []; predicate = None } }
 
@@ -78,6 +79,7 @@ IsIndex c i = i.0 < length c.indexes
 abbrev pub index_at : Contents → IndexNo → Index
 index_at c i = (slice_index_or c.indexes i.0 no_index).index
 
+-- the name that CREATE INDEX gave the index of a number
 abbrev pub index_name_at : Contents → IndexNo → List ℕ
 index_name_at c i = (slice_index_or c.indexes i.0 no_index).name
 
@@ -86,6 +88,7 @@ abbrev pub numbers_from : ℕ → List NamedIndex → TableNo → List IndexNo
 numbers_from n [] t = []
 numbers_from n (x ∷ xs) t = cond (nat_eq x.index.table.0 t.0) (record { 0 = n } ∷ numbers_from (n + 1) xs t) (numbers_from (n + 1) xs t)
 
+-- the indexes of a table by number, in order of making (pg_index, indrelid)
 abbrev pub indexes_of : Contents → TableNo → List IndexNo
 indexes_of c t = numbers_from 0 c.indexes t
 
@@ -93,9 +96,11 @@ indexes_of c t = numbers_from 0 c.indexes t
 abbrev pub table_names : Contents → List (List ℕ)
 table_names c = map (λ d. d.name) c.tables
 
+-- the names of all indexes, in order of making
 abbrev pub index_names : Contents → List (List ℕ)
 index_names c = map (λ x. x.name) c.indexes
 
+-- the names that are taken: those of tables and of indexes are of one name space (pg_class, relname)
 abbrev pub all_names : Contents → List (List ℕ)
 all_names c = table_names c ++ index_names c
 
@@ -127,6 +132,7 @@ with_stats c t column s = with_definition c t (record (table_at c t) { stats = s
 abbrev pub IsLastTable : Contents → TableNo → Type 0
 IsLastTable c t = t.0 + 1 ≡ length c.tables
 
+-- the number is that of the index made last
 abbrev pub IsLastIndex : Contents → IndexNo → Type 0
 IsLastIndex c i = i.0 + 1 ≡ length c.indexes
 
@@ -134,6 +140,7 @@ IsLastIndex c i = i.0 + 1 ≡ length c.indexes
 abbrev pub tables_before : Contents → TableNo → Contents
 tables_before c t = record c { tables = take t.0 c.tables }
 
+-- the catalogue without an index and those that were made after it
 abbrev pub indexes_before : Contents → IndexNo → Contents
 indexes_before c i = record c { indexes = take i.0 c.indexes }
 

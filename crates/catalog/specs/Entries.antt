@@ -33,6 +33,7 @@ table_def e = record {
   stats = map (option_map statistics) e.1.stats.items;
 }
 
+-- the definition and the name that an entry of the map of indexes stands for
 abbrev pub named_index : Vec ℕ Global × IndexDef → NamedIndex
 named_index e = record { name = e.0.items; index = index_of e.1 }
 

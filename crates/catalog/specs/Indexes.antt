@@ -4,9 +4,9 @@ use Rattle.std.specs.List.{list_all}
 use Rattle.pg_base.specs.declared.limits.TheConstants.{MOST_COLUMNS}
 use Rattle.pg_base.specs.declared.numbers.ColNo.{ColNo}
 use Rattle.pg_base.specs.declared.numbers.TableNo.{TableNo}
-use Rattle.pg_value.specs.declared.columns.Column.{Column}
-use Rattle.pg_value.specs.declared.value.SqlType.{SqlType}
-use Rattle.pg_value.specs.declared.value.SqlType.TheVariants.{Bool as BoolType}
+use Rattle.opfamily.specs.pg_value_columns_Column.{Column}
+use Rattle.opfamily.specs.pg_value_value_SqlType.{SqlType}
+use Rattle.opfamily.specs.pg_value_value_SqlType_TheVariants.{Bool as BoolType}
 use Rattle.opfamily.specs.declared.classes.IndexKey.{IndexKey}
 use Rattle.opfamily.specs.declared.classes.Method.{Method}
 use Rattle.opfamily.specs.declared.classes.Method.TheVariants.{Btree, Hash}
@@ -42,6 +42,7 @@ pub record IsFirstTwice (cs : List ColNo) (place : ℕ) : Type 0 where
 abbrev pub is_plain : IndexKey → Bool
 is_plain k = not k.descending && not k.nulls_first
 
+-- the form of a definition suits its method (CREATE INDEX: a hash index has one column, no order and no INCLUDE)
 abbrev pub has_form : Index → Bool
 has_form x = form x.method
   where
@@ -53,6 +54,7 @@ has_form x = form x.method
 abbrev pub no_column : Column
 no_column = record { typed = BoolType; not_null = false }
 
+-- the declared type of a column, by its number from 0
 abbrev pub type_at : List Column → ColNo → SqlType
 type_at columns c = (slice_index_or columns c.0 no_column).typed
 
@@ -67,6 +69,7 @@ pub record IsConditionOf (columns : List Column) (e : Cond) : Type 0 where
   pub typed : IsTyped (λ x. type_at columns x.col) e
   pub pushed : IsPushed e
 
+-- the predicate of a partial index, where there is one, is a condition over the columns of its table alone
 abbrev pub IsPredicateOf : List Column → Option Cond → Type 0
 IsPredicateOf columns None = Unit {0}
 IsPredicateOf columns (Some e) = IsConditionOf columns e

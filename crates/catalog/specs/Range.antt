@@ -4,8 +4,8 @@ use Rattle.pg_base.specs.declared.limits.TheConstants.{MOST_RELATIONS}
 use Rattle.pg_base.specs.declared.numbers.RelNo.{RelNo}
 use Rattle.pg_base.specs.declared.numbers.TableNo.{TableNo}
 use Rattle.pg_base.specs.Names.{IsName, AreDistinct}
-use Rattle.pg_value.specs.declared.columns.Column.{Column}
-use Rattle.pg_value.specs.declared.value.SqlType.{SqlType}
+use Rattle.opfamily.specs.pg_value_columns_Column.{Column}
+use Rattle.opfamily.specs.pg_value_value_SqlType.{SqlType}
 use Rattle.pg_expr.specs.declared.operand.ColRef.{ColRef}
 use Rattle.catalog.specs.Indexes.{no_column}
 use Rattle.catalog.specs.Contents.{Contents, IsTable, table_at}
@@ -22,9 +22,11 @@ relation_at range r = slice_index_or range r.0 (record { 0 = 0 }, [])
 abbrev pub table_of : Range → ColRef → TableNo
 table_of range x = (relation_at range x.rel).0
 
+-- what the column's table declares of it: its type, and whether it is NOT NULL (pg_attribute)
 abbrev pub column_at : Contents → Range → ColRef → Column
 column_at c range x = slice_index_or (table_at c (table_of range x)).columns x.col.0 no_column
 
+-- the declared type of a column of the query
 abbrev pub type_in : Contents → Range → ColRef → SqlType
 type_in c range x = (column_at c range x).typed
 

@@ -2,12 +2,12 @@
 use Rattle.std.specs.Prelude.{◌≡◌, ◌≢◌, ◌≤◌, ◌<◌, ◌+◌, ◌-◌, ◌*◌, ◌/◌, ◌%◌, ◌&&◌, ◌||◌, ℕ, Bool, true, false, not, cond, List, length, take, All, AllPairs, sum_by, nat_eq, nat_le, nat_lt, slice_index_or}
 use Rattle.std.specs.List.{list_any}
 use Rattle.std.specs.Ordering.{is_eq, is_lt}
-use Rattle.pg_value.specs.declared.value.SqlType.{SqlType}
-use Rattle.pg_value.specs.declared.value.Value.{Value}
-use Rattle.pg_value.specs.declared.value.Value.TheVariants.{Null}
-use Rattle.pg_value.specs.Order.{value_order}
-use Rattle.pg_value.specs.Truths.{kind_family}
-use Rattle.pg_value.specs.Types.{IsOfType}
+use Rattle.opfamily.specs.pg_value_value_SqlType.{SqlType}
+use Rattle.opfamily.specs.pg_value_value_Value.{Value}
+use Rattle.opfamily.specs.pg_value_value_Value_TheVariants.{Null}
+use Rattle.opfamily.specs.pg_value_Order.{value_order}
+use Rattle.opfamily.specs.pg_value_Truths.{kind_family}
+use Rattle.opfamily.specs.pg_value_Types.{IsOfType}
 use Rattle.catalog.specs.declared.table.Sizes.{Sizes}
 use Rattle.catalog.specs.declared.limits.TheConstants.{MOST_NUMBER, WHOLE_SHARE, MOST_COMMON, MOST_BOUNDS}
 
@@ -34,6 +34,7 @@ shares common = sum_by (λ (p : Common). p.1) common
 abbrev pub is_equal : Value → Value → Bool
 is_equal a b = is_eq (value_order (kind_family a) a b)
 
+-- a value is below another of its kind; no bound of a histogram may be below the one before it
 abbrev pub is_below : Value → Value → Bool
 is_below a b = is_lt (value_order (kind_family a) a b)
 
@@ -50,9 +51,11 @@ pub record AreValuesOf (t : SqlType) (s : Statistics) : Type 0 where
 abbrev pub no_common : Common
 no_common = (Null, 0)
 
+-- the common value of a number, from 0, with its share (pg_stats, most_common_vals and most_common_freqs)
 abbrev pub common_at : Statistics → ℕ → Common
 common_at s k = slice_index_or s.common k no_common
 
+-- the bound of a number, from 0 (pg_stats, histogram_bounds)
 abbrev pub bound_at : Statistics → ℕ → Value
 bound_at s k = slice_index_or s.histogram k Null
 
@@ -72,6 +75,7 @@ is_bound_refused s k = nat_le MOST_BOUNDS k || (nat_eq (length s.histogram) 1 ||
 abbrev pub pair_of : ℕ → ℕ
 pair_of place = place / 2 - 1
 
+-- the number of the bound that stands at a place, from 0; it is one where the place is behind those of all common values
 abbrev pub bound_of : Statistics → ℕ → ℕ
 bound_of s place = place - (2 + 2 * length s.common)
 

@@ -107,6 +107,7 @@ abbrev pub rows_by : ℕ → Option Sizes → ℕ
 rows_by loaded None = max 1 loaded
 rows_by loaded (Some s) = s.rows
 
+-- the rows that estimates take a table to have (pg_class, reltuples)
 abbrev pub rows_of : Contents → TableNo → ℕ
 rows_of c t = rows_by (table_at c t).loaded (table_at c t).sizes
 
@@ -115,5 +116,6 @@ abbrev pub pages_by : ℕ → Option Sizes → ℕ
 pages_by loaded None = (max 1 loaded + (ROWS_PER_PAGE - 1)) / ROWS_PER_PAGE
 pages_by loaded (Some s) = s.pages
 
+-- the heap pages that costs take a table to have (pg_class, relpages)
 abbrev pub pages_of : Contents → TableNo → ℕ
 pages_of c t = pages_by (table_at c t).loaded (table_at c t).sizes

@@ -13,8 +13,8 @@ use crate::index_def::IndexDef;
 use crate::names::first_repeat;
 use crate::table::Table;
 use indexmap::IndexMap;
+use opfamily::pg_value::{Bytes, Columns};
 use pg_base::{ColNo, MOST_TABLES, TableNo};
-use pg_value::{Bytes, Columns};
 use std::alloc::Global;
 use std::marker::Model;
 

@@ -14,9 +14,9 @@ use crate::statistics::ColumnStats;
 use crate::table::Table;
 use arrayvec::ArrayVec;
 use indexmap::IndexMap;
+use opfamily::pg_value::{Columns, Value};
 use pg_base::{IndexNo, MOST_INDEXES, Memory};
 use pg_expr::Expr;
-use pg_value::{Columns, Value};
 use std::alloc::Global;
 
 /// What has copies.

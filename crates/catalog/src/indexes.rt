@@ -12,8 +12,8 @@ use crate::contents::Catalog;
 use crate::entries::{put, take_last};
 use crate::fault::CatalogFault;
 use crate::index_def::{IndexDef, first_twice, is_of_form};
+use opfamily::pg_value::Bytes;
 use pg_base::{IndexNo, MOST_INDEXES, TableNo};
-use pg_value::Bytes;
 
 impl Catalog {
     /// Makes an index and gives its number, the next one. Its definition is of a table there, with a key, 1 to 32

@@ -4,7 +4,7 @@ ghost use Rattle.std.specs.Prelude.{◌≡◌, ◌≢◌, ◌≤◌, ◌+◌, �
 ghost use Rattle.pg_base.specs.declared.limits.TheConstants.{MOST_INDEXES, MOST_TABLES};
 ghost use Rattle.pg_base.specs.declared.numbers.ColNo.{ColNo};
 ghost use Rattle.pg_base.specs.declared.numbers.TableNo.{TableNo};
-ghost use Rattle.pg_value.specs.declared.value.SqlType.{SqlType};
+ghost use Rattle.opfamily.specs.pg_value_value_SqlType.{SqlType};
 ghost use Rattle.catalog.specs.Contents.{Contents, IsColumn, IsLawful, IsTable, stats_at, table_at, table_at, with_loaded, with_sizes, with_stats};
 ghost use Rattle.catalog.specs.Indexes.{type_at};
 ghost use Rattle.catalog.specs.Statistics.{AreAllowed, AreValuesOf, IsLawfulStatistics, Statistics, shares};

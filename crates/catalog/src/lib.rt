@@ -20,5 +20,8 @@ pub use fault::CatalogFault;
 pub use index_def::IndexDef;
 pub use laws::{index_laws, replacement_laws, size_laws, statistics_laws};
 pub use limits::{MOST_BOUNDS, MOST_COMMON, MOST_NUMBER, ROWS_PER_PAGE, WHOLE_SHARE};
+pub use opfamily;
+pub use opfamily::pg_value;
+pub use pg_expr;
 pub use range::RangeTable;
 pub use statistics::{ColumnList, ColumnStats, TableStats};

@@ -12,4 +12,4 @@ pub const MOST_COMMON: usize = 16;
 pub const MOST_BOUNDS: usize = 101;
 
 // The columns of a value's table and those of a table here have one limit.
-const _: () = prove!(pg_base::MOST_COLUMNS == pg_value::MOST_COLUMNS);
+const _: () = prove!(pg_base::MOST_COLUMNS == opfamily::pg_value::MOST_COLUMNS);

@@ -6,8 +6,8 @@ ghost use Rattle.pg_base.specs.declared.limits.TheConstants.{MOST_COLUMNS};
 ghost use Rattle.pg_base.specs.Names.{AreDistinct, IsFirstRepeat};
 
 use indexmap::IndexSet;
+use opfamily::pg_value::{Bytes, Columns};
 use pg_base::Memory;
-use pg_value::{Bytes, Columns};
 use std::alloc::Global;
 use std::marker::Model;
 

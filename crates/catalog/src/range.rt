@@ -2,8 +2,8 @@
 
 ghost use Rattle.std.specs.Prelude.{◌≡◌};
 
+use opfamily::pg_value::Bytes;
 use pg_base::TableNo;
-use pg_value::Bytes;
 use std::marker::Model;
 
 /// The relations of a query in FROM order: the table and the alias of each, which is the table's name where none is

@@ -5,7 +5,7 @@ ghost use Rattle.std.specs.Option.{option_map};
 ghost use Rattle.catalog.specs.Contents.{IsColumn, IsTable, stats_at, table_at, with_loaded, with_sizes, with_stats};
 ghost use Rattle.catalog.specs.Analysed.{FitColumns, IsAllowedTable, IsColumnRefusal, IsTableRefusal, with_analysis};
 ghost use Rattle.catalog.specs.Known.{statistics};
-ghost use Rattle.pg_value.specs.declared.columns.Column.{Column};
+ghost use Rattle.opfamily.specs.pg_value_columns_Column.{Column};
 ghost use Rattle.catalog.specs.Indexes.{type_at};
 ghost use Rattle.catalog.specs.Statistics.{AreAllowed, AreValuesOf, is_count as is_a_count};
 ghost use Rattle.catalog.specs.Tables.{IsSizeRefusal, IsStatisticsRefusal, pages_of, rows_of};

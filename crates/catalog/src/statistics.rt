@@ -2,12 +2,12 @@
 
 ghost use Rattle.std.specs.Prelude.{◌≡◌, ◌<◌, ◌≤◌, ◌+◌, ◌^◌, All, MatchOption, length, map, slice_index_or, take};
 ghost use Rattle.std.specs.List.{list_any};
-ghost use Rattle.pg_value.specs.declared.value.SqlType.{SqlType};
+ghost use Rattle.opfamily.specs.pg_value_value_SqlType.{SqlType};
 ghost use Rattle.catalog.specs.Known.{statistics};
 ghost use Rattle.catalog.specs.Statistics.{AreAllowed, AreValuesOf, Common, IsFirstRefused, IsValueOf, is_below, is_bound_refused, is_common_refused, is_count as is_a_count, is_equal, is_refused, is_share_refused, no_common, shares};
 
 use crate::limits::{MOST_BOUNDS, MOST_COMMON, MOST_NUMBER, WHOLE_SHARE};
-use pg_value::{Op, Truth, Value, apply};
+use opfamily::pg_value::{Op, Truth, Value, apply};
 use std::marker::Model;
 
 /// What is known of a column. Shares are in parts per million of the table's rows.

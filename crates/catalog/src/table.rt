@@ -10,8 +10,8 @@ ghost use Rattle.catalog.specs.Entries.{statistics, table_def};
 use crate::names::Names;
 use crate::statistics::ColumnStats;
 use arrayvec::ArrayVec;
+use opfamily::pg_value::{Bytes, Columns};
 use pg_base::{IndexNo, MOST_INDEXES, Memory};
-use pg_value::{Bytes, Columns};
 use std::alloc::Global;
 
 /// The rows and pages that a statement gave for a table.

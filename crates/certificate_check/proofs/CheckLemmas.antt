@@ -22,9 +22,9 @@ use Rattle.plan_check.specs.declared.verdict.Verdict.{Verdict}
 use Rattle.plan_check.specs.declared.verdict.Verdict.TheVariants as verdicts
 use Rattle.plan_check.proofs.ReasonLemmas.{table-from}
 use Rattle.bitmap_cover.specs.Trees.{AreAllBitmapsServed}
-use Rattle.join_cover.specs.Serving.{AreJoinsServed, IsOpen, IsServed}
-use Rattle.join_cover.specs.declared.uncovered.Uncovered.{Uncovered}
-use Rattle.scan_cover.specs.Scanning.{ArePlainScansServed}
+use Rattle.bitmap_cover.specs.join_cover_Serving.{AreJoinsServed, IsOpen, IsServed}
+use Rattle.bitmap_cover.specs.join_cover_uncovered_Uncovered.{Uncovered}
+use Rattle.bitmap_cover.specs.scan_cover_Scanning.{ArePlainScansServed}
 
 module _ (c : Contents) (q : Query) (t : Certificate) where
   scans-served : ArePlainScansServed c q t → AreAllBitmapsServed c q t → (p : Plan) → is_scan p ≡ true → IsServed c q t p

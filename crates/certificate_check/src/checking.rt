@@ -7,7 +7,7 @@ ghost use Rattle.plan_tree.specs.Least.{IsAdmissible};
 ghost use Rattle.plan_tree.specs.Plans.{Plan, is_sort};
 ghost use Rattle.plan_tree.specs.Reads.{IsOverTables};
 ghost use Rattle.plan_tree.specs.Space.{IsBuilt, IsFinished};
-ghost use Rattle.atom_laws.specs.Limits.{HasFewAtoms};
+ghost use Rattle.bitmap_cover.specs.atom_laws_Limits.{HasFewAtoms};
 ghost use Rattle.certificates.specs.Certificates.{finish_at};
 ghost use Rattle.certificates.specs.Tables.{IsDominated};
 ghost use Rattle.certificates.specs.Views.{certificate};
@@ -18,9 +18,9 @@ ghost use Rattle.plan_check.specs.declared.verdict.Verdict.TheVariants as verdic
 
 use crate::cover::open_candidate;
 use best_check::judge_best;
+use bitmap_cover::entry_check::judge_table;
 use catalog::Catalog;
 use certificates::Certificate;
-use entry_check::judge_table;
 use plan_check::{Judged, Reason, SetPlaces, Verdict};
 use sql_query::Prepared;
 

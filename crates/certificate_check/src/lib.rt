@@ -5,5 +5,6 @@
 mod checking;
 mod cover;
 
+pub use bitmap_cover::{entry_check, join_cover};
 pub use checking::check;
 pub use cover::open_candidate;

@@ -4,11 +4,11 @@ use Rattle.std.specs.Fmt.{decimal}
 use Rattle.pg_base.specs.Sets.{has}
 use Rattle.pg_base.specs.declared.rel_set.RelSet.{RelSet}
 use Rattle.catalog.specs.Contents.{Contents}
-use Rattle.explain.specs.Texts.{keys_text}
+use Rattle.certificate_lines.specs.explain_Texts.{keys_text}
 use Rattle.sql_query.specs.Queries.{Query}
-use Rattle.certificates.specs.Certificates.{Node, by_seq, by_index, by_index_only, by_bitmap, by_nest, by_merge}
-use Rattle.certificate_text.specs.HasText.{HasNodeText}
-use Rattle.certificate_text.specs.Texts.{sides_text, tree_text}
+use Rattle.certificate_lines.specs.certificates_Certificates.{Node, by_seq, by_index, by_index_only, by_bitmap, by_nest, by_merge}
+use Rattle.certificate_lines.specs.certificate_text_HasText.{HasNodeText}
+use Rattle.certificate_lines.specs.certificate_text_Texts.{sides_text, tree_text}
 use Rattle.certificate_lines.specs.Keys.{ends_key}
 use Rattle.certificate_lines.specs.Parts.{has_no_comma}
 use Rattle.certificate_lines.specs.Scans.{scan_text}
@@ -24,6 +24,7 @@ words kinds.Bitmap = codes "Bitmap Heap Scan "
 words kinds.Nest = codes "Nested Loop "
 words kinds.Merge = codes "Merge Join by "
 
+-- the kind of an entry: which scan or join it is
 abbrev pub kind_of : Node → Kind
 kind_of by_seq = kinds.Seq
 kind_of (by_index i backward) = kinds.Index

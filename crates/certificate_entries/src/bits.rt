@@ -1,12 +1,12 @@
 //! Bitmap trees.
 
 ghost use Rattle.std.specs.Prelude.{◌≡◌, ◌≤◌, ◌++◌, [], ℕ, List, IfOk, IfSome, Some, codes, length, option_map};
-ghost use Rattle.explain.specs.Texts.{with_commas};
+ghost use Rattle.certificate_lines.specs.explain_Texts.{with_commas};
 ghost use Rattle.plan_tree.specs.Plans as trees;
 ghost use Rattle.plan_tree.specs.Views.{bits};
 ghost use Rattle.sql_query.specs.WellBound.{IsWellBound};
-ghost use Rattle.certificate_text.specs.HasText.{HasBitsText};
-ghost use Rattle.certificate_text.specs.Texts.{tree_text, tree_texts};
+ghost use Rattle.certificate_lines.specs.certificate_text_HasText.{HasBitsText};
+ghost use Rattle.certificate_lines.specs.certificate_text_Texts.{tree_text, tree_texts};
 ghost use Rattle.certificate_lines.specs.Parts.{Reads};
 
 use crate::elements::{read_element, read_elements};

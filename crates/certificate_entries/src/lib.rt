@@ -11,6 +11,8 @@ mod kinds;
 mod nodes;
 
 pub use bits::read_bits;
+pub use certificate_lines;
+pub use certificate_lines::certificate_text;
 pub use clauses::find_clause;
 pub use ends::{eat_number, is_best_line, read_best, read_sets};
 pub use figures::read_figures;

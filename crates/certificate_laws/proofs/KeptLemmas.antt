@@ -4,7 +4,7 @@ use Rattle.std.specs.Prelude.{Option, Some, None, Contains, option_map, option_a
 use Rattle.std.proofs.lemmas.Bool.{cases_order}
 use Rattle.std.proofs.lemmas.List.{append_assoc, append-nil}
 use Rattle.std.proofs.lemmas.List.Elements.{All-contains}
-use Rattle.std.proofs.lemmas.Option.{get_or_from_slice_get, slice_get-map, slice_get_within, slice_get-get_or}
+use Rattle.std.proofs.lemmas.Option.{get_or_from_slice_get, slice_get-map, slice_get_within, slice_get-get_or, none-some, same_Some}
 use Rattle.pg_base.specs.declared.rel_set.RelSet.{RelSet}
 use Rattle.pg_base.specs.Sets.{has}
 use Rattle.catalog.specs.Contents.{Contents}
@@ -15,16 +15,10 @@ use Rattle.plan_tree.specs.Costs.{cost, price}
 use Rattle.plan_tree.specs.Paths.{Path, startup_kept}
 use Rattle.plan_tree.specs.Space.{IsFinished, IsPlanOf}
 use Rattle.plan_tree.specs.Least.{IsAdmissible, Dominates}
-use Rattle.join_laws.specs.Closed.{AreKeptSides, IsKeptSide, IsUndercut}
+use Rattle.certificates.specs.join_laws_Closed.{AreKeptSides, IsKeptSide, IsUndercut}
 use Rattle.certificates.specs.Certificates.{Certificate, Entry, finish_at, plan_at, unfold_at, unfolded}
 use Rattle.certificates.specs.Tables.{IsDominated, IsEntryAt, IsEntryPlan, IsStartup, IsPlanTable}
 use Rattle.certificate_laws.specs.Kept.{AreEntriesOf, AreKept, AreOf, IsKeptPath, IsPlanOfSome}
-
-none-is : {A : Type 0} (x : A) → None ≡ Some x → ⊥
-none-is x e = cc
-
-some-same : {A : Type 0} (x y : A) → Some x ≡ Some y → x ≡ y
-some-same x y e = cc
 
 abbrev tree_of : Path → Option Plan
 tree_of x = Some x.tree
@@ -53,10 +47,10 @@ pub record HasPath (xs : List Path) (k : ℕ) (e : Entry) : Type 0 where
   pub says : Says e path
 
 path-of : (n : ℕ) (before : List (Option Plan)) (es : List Entry) (xs : List Path) → AreEntriesOf n before es xs → (k : ℕ) (e : Entry) → slice_get es k ≡ Some e → HasPath xs k e
-path-of n before [] [] h k e is = absurd (none-is e is)
+path-of n before [] [] h k e is = absurd (none-some e is)
 path-of n before [] (x ∷ xs) h k e is = absurd h
 path-of n before (o ∷ es) [] h k e is = absurd h
-path-of n before (o ∷ es) (x ∷ xs) (h, hs) zero e is = subst (HasPath (x ∷ xs) 0) (some-same o e is)
+path-of n before (o ∷ es) (x ∷ xs) (h, hs) zero e is = subst (HasPath (x ∷ xs) 0) (same_Some o e is)
     (record { path = x; stands = refl; says = record { set = h.set; param = h.param; startup = h.startup; cost = h.cost; rows = h.rows; keys = h.keys } })
 path-of n before (o ∷ es) (x ∷ xs) (h, hs) (suc k) e is =
     let r = path-of n (before ++ Some x.tree ∷ []) es xs hs k e is in record { path = r.path; stands = r.stands; says = r.says }
@@ -105,11 +99,11 @@ module _ (c : Contents) (q : Query) (t : Certificate) (xs : List Path) (kept : A
     pub is_plan : path.tree ≡ p
 
   by-place : (k : ℕ) (p : Plan) (o : Option Path) → slice_get xs k ≡ o → option_and_then (λ (p : Option Plan). p) (option_map tree_of o) ≡ Some p → HasPathOf (suc k) p
-  by-place k p None e h = absurd (none-is p h)
-  by-place k p (Some x) e h = record { place = k; number = refl; path = x; stands = e; is_plan = some-same x.tree p h }
+  by-place k p None e h = absurd (none-some p h)
+  by-place k p (Some x) e h = record { place = k; number = refl; path = x; stands = e; is_plan = same_Some x.tree p h }
 
   path-at : (m : ℕ) (p : Plan) → unfold_at q t m ≡ Some p → HasPathOf m p
-  path-at zero p h = absurd (none-is p h)
+  path-at zero p h = absurd (none-some p h)
   path-at (suc k) p h = by-place k p (slice_get xs k) refl
       (ap (option_and_then (λ (p : Option Plan). p)) (sym (slice_get-map tree_of xs k)) ∙
       (ap (λ (ps : List (Option Plan)). plan_at ps (suc k)) (sym (unfolded-are (width q) [] t.entries xs of)) ∙ h))

@@ -3,6 +3,7 @@ use Rattle.std.proofs.Common.{◌≡◌, ◌<◌, ◌+◌, ℕ, zero, suc, Bool,
 use Rattle.std.specs.Prelude.{Option, Some, None}
 use Rattle.std.specs.List.{position_from}
 use Rattle.std.proofs.lemmas.Bool.{and_from, and_parts, true≢false}
+use Rattle.std.proofs.lemmas.Option.{same_Some, none-some}
 use Rattle.pg_value.specs.declared.operators.Family.{Family}
 use Rattle.pg_value.specs.declared.operators.Family.TheVariants as families
 use Rattle.pg_value.specs.declared.value.SqlType.{SqlType}
@@ -25,19 +26,13 @@ use Rattle.sql_query.specs.Queries.{Query}
 use Rattle.sql_query.specs.WellBound.{IsWellBound, given_with}
 use Rattle.certificate_lines.specs.Keys.{IsClassIn, IsClassOf, is_abs}
 
-none-some : (n : ℕ) → None ≡ Some n → ⊥
-none-some n e = cc
-
-some-number : (a b : ℕ) → Some a ≡ Some b → a ≡ b
-some-number a b e = cc
-
 -- the first class that passes a test
 found-at : (p : Class → Bool) (i : ℕ) (cs : List Class) (n : ℕ) → position_from p i cs ≡ Some n → (k : ℕ) × (n ≡ i + k) × (k < length cs) × (p (class_at cs k) ≡ true)
 found-at p i [] n h = absurd (none-some n h)
 found-at p i (x ∷ xs) n h = by (λ g. found-at p (i + 1) xs n g) (p x) refl h where
   by : (position_from p (i + 1) xs ≡ Some n → (k : ℕ) × (n ≡ i + 1 + k) × (k < length xs) × (p (class_at xs k) ≡ true)) → (v : Bool) → p x ≡ v → cond v (Some i) (position_from p (i + 1) xs) ≡ Some n →
       (k : ℕ) × (n ≡ i + k) × (k < length (x ∷ xs)) × (p (class_at (x ∷ xs) k) ≡ true)
-  by later true e g = let same = some-number i n g in (0, omega (arith, same), omega arith, e)
+  by later true e g = let same = same_Some i n g in (0, omega (arith, same), omega arith, e)
   by later false e g = let f = later g in (suc f.0, omega (arith, f.1), omega (arith, f.2), f.3)
 
 none-at : (p : Class → Bool) (i : ℕ) (cs : List Class) → position_from p i cs ≡ None → (k : ℕ) → k < length cs → p (class_at cs k) ≡ true → ⊥

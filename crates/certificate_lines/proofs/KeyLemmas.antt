@@ -18,9 +18,9 @@ use Rattle.eq_classes.specs.Listing.{blank, class_at}
 use Rattle.eq_classes.specs.declared.classes.ClassNo.{ClassNo}
 use Rattle.eq_classes.proofs.ListLemmas.{IsIn, found_in, in_at}
 use Rattle.eq_classes.proofs.SoundLemmas.{in_member}
-use Rattle.explain.specs.Texts.{column_text, direction_text, family_text, key_text, member_text}
+use Rattle.certificate_text.specs.explain_Texts.{column_text, direction_text, family_text, key_text, member_text}
 use Rattle.line_cursor.specs.Words.{stops}
-use Rattle.sort_rows.proofs.ColumnLemmas.{member_is}
+use Rattle.certificate_text.specs.sort_rows_ColumnLemmas.{member_is}
 use Rattle.sql_query.specs.Queries.{Query, width}
 use Rattle.sql_query.specs.WellBound.{IsColumnOf, IsWellBound}
 use Rattle.certificate_lines.specs.Keys.{AreWords, HasKeyText, IsClassOf, IsNamed, ends_key, family_if, is_abs}

@@ -6,7 +6,7 @@ use Rattle.std.proofs.lemmas.List.Elements.{All-cons, All-push}
 use Rattle.catalog.specs.Contents.{Contents}
 use Rattle.eq_classes.specs.Clauses.{Set}
 use Rattle.eq_classes.specs.declared.classes.ClassNo.{ClassNo}
-use Rattle.explain.specs.Texts.{key_text, keys_text}
+use Rattle.certificate_text.specs.explain_Texts.{key_text, keys_text}
 use Rattle.pathkeys.specs.Finding.{class_numbers}
 use Rattle.sql_query.specs.Queries.{Query}
 use Rattle.certificate_lines.specs.Keys.{HasKeyText, ends_key}

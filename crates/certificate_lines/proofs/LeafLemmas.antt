@@ -5,7 +5,7 @@ use Rattle.std.proofs.lemmas.List.{length-append}
 use Rattle.std.proofs.lemmas.List.Elements.{All-cons, All-push}
 use Rattle.pg_base.specs.declared.numbers.IndexNo.{IndexNo}
 use Rattle.catalog.specs.Contents.{Contents, IsIndex}
-use Rattle.explain.specs.Texts.{with_commas}
+use Rattle.certificate_text.specs.explain_Texts.{with_commas}
 use Rattle.line_cursor.specs.Words.{stops}
 use Rattle.certificate_text.specs.Texts.{leaf_text}
 use Rattle.certificate_lines.specs.Parts.{Reads, has_no_comma}

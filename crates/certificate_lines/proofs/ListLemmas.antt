@@ -4,7 +4,7 @@ use Rattle.std.specs.Prelude.{All, Option, Some, None}
 use Rattle.std.proofs.lemmas.Bool.{true≢false}
 use Rattle.std.proofs.lemmas.List.{append_assoc, append-nil}
 use Rattle.std.proofs.lemmas.List.Elements.{All-head, All-tail}
-use Rattle.explain.specs.Texts.{with_commas}
+use Rattle.certificate_text.specs.explain_Texts.{with_commas}
 use Rattle.certificate_lines.specs.Parts.{has_no_comma}
 
 -- things with texts, the texts before which one ends, and what comes before a comma among them

@@ -11,7 +11,7 @@ use Rattle.std.proofs.lemmas.List.{append_assoc}
 use Rattle.line_cursor.proofs.NumeralLemmas.{decimal-digits}
 use Rattle.certificate_text.specs.Texts.{side_text}
 use Rattle.certificate_text.specs.HasText.{IsEntryNumber}
-use Rattle.certificates.specs.Certificates.{Side}
+use Rattle.certificate_text.specs.certificates_Certificates.{Side}
 use Rattle.certificate_lines.specs.Parts.{as_entry}
 
 below : (n : ℕ) → IsEntryNumber n → nat_lt n (2 ^ 32) ≡ true

@@ -2,7 +2,7 @@
 use Rattle.std.proofs.Common.{◌≡◌, ◌≢◌, ◌<◌, ◌+◌, ℕ, zero, suc, Bool, true, false, cond, ◌&&◌, ◌||◌, nat_eq, nat_lt, ◌⊎◌, inl, inr, List, [], ◌∷◌, ◌++◌, codes, length, drop, get_or, refl, sym, ap, ◌∙◌, subst, arith}
 use Rattle.std.specs.Prelude.{All, Some}
 use Rattle.std.specs.List.{list_all}
-use Rattle.std.proofs.lemmas.Bool.{true≢false}
+use Rattle.std.proofs.lemmas.Bool.{true≢false, eqb-true, lt-ltb}
 use Rattle.std.proofs.lemmas.Bool.Decides.{nat_tests}
 use Rattle.std.proofs.lemmas.List.{append_assoc, drop_more, get_or-drop, get_or-map, length-drop, length-map}
 use Rattle.std.proofs.lemmas.List.Elements.{All-cons, All-head, All-tail}
@@ -16,8 +16,8 @@ use Rattle.sql_query.specs.Queries.{Query}
 use Rattle.sql_query.specs.WellBound.{IsWellBound}
 use Rattle.pg_base.specs.declared.numbers.TableNo.{TableNo}
 use Rattle.catalog.specs.Range.{Range, aliases}
-use Rattle.explain.specs.Texts.{aliases_in, with_alias}
-use Rattle.plan_tree.specs.Plans.{is_empty}
+use Rattle.certificate_text.specs.explain_Texts.{aliases_in, with_alias}
+use Rattle.certificate_text.specs.plan_tree_Plans.{is_empty}
 use Rattle.certificate_text.specs.Texts.{param_text, set_text, with_bare_commas}
 use Rattle.certificate_lines.proofs.NameLemmas.{name-word}
 use Rattle.certificate_lines.specs.Parts.{IsSet, IsWordRead, has_no_comma}
@@ -102,15 +102,6 @@ below-next k n h = by (nat_lt k n) (nat_lt k (n + 1)) refl refl where
   by true false e f = absurd (grind (arith, nat_tests, e, f))
   by false true e f = absurd (grind (arith, nat_tests, e, f, h))
 
-below-itself : (n : ℕ) → nat_lt n n ≡ false
-below-itself n = grind (arith, nat_tests)
-
-below-one-more : (n : ℕ) → nat_lt n (n + 1) ≡ true
-below-one-more n = grind (arith, nat_tests)
-
-is-number : (k n : ℕ) → nat_eq k n ≡ true → k ≡ n
-is-number k n e = grind (arith, nat_tests, e)
-
 -- a set so far, with the members below a number
 abbrev pub IsBelow : (ℕ → Bool) → (ℕ → Bool) → ℕ → Type 0
 IsBelow made s n = (k : ℕ) → made k ≡ (nat_lt k n && s k)
@@ -121,7 +112,7 @@ none-below made s h k = h k ∙ sym (nothing-below k (s k))
 one-more-below : (made new s : ℕ → Bool) (n : ℕ) → IsBelow made s n → s n ≡ true → ((k : ℕ) → new k ≡ (made k || nat_eq k n)) → IsBelow new s (n + 1)
 one-more-below made new s n h is more k = more k ∙ (ap (λ (b : Bool). b || nat_eq k n) (h k) ∙ by (nat_eq k n) refl) where
   by : (b : Bool) → nat_eq k n ≡ b → ((nat_lt k n && s k) || b) ≡ (nat_lt k (n + 1) && s k)
-  by true e = or-true (nat_lt k n && s k) ∙ sym (ap (λ (m : ℕ). nat_lt m (n + 1) && s m) (is-number k n e) ∙ (ap (λ (t : Bool). t && s n) (below-one-more n) ∙ is))
+  by true e = or-true (nat_lt k n && s k) ∙ sym (ap (λ (m : ℕ). nat_lt m (n + 1) && s m) (eqb-true k n e) ∙ (ap (λ (t : Bool). t && s n) (lt-ltb n (n + 1) (omega arith)) ∙ is))
     where
       or-true : (a : Bool) → (a || true) ≡ true
       or-true true = refl
@@ -137,7 +128,7 @@ no-more-below made s n h is k = h k ∙ by (nat_eq k n) refl where
   by : (b : Bool) → nat_eq k n ≡ b → (nat_lt k n && s k) ≡ (nat_lt k (n + 1) && s k)
   by true e =
       let here : (m : ℕ) → (nat_lt m n && s n) ≡ (nat_lt m (n + 1) && s n) = λ m. ap (λ (t : Bool). nat_lt m n && t) is ∙ (and-false (nat_lt m n) ∙ sym (ap (λ (t : Bool). nat_lt m (n + 1) && t) is ∙ and-false (nat_lt m (n + 1)))) in
-      ap (λ (m : ℕ). nat_lt k n && s m) (is-number k n e) ∙ (here k ∙ sym (ap (λ (m : ℕ). nat_lt k (n + 1) && s m) (is-number k n e)))
+      ap (λ (m : ℕ). nat_lt k n && s m) (eqb-true k n e) ∙ (here k ∙ sym (ap (λ (m : ℕ). nat_lt k (n + 1) && s m) (eqb-true k n e)))
     where
       and-false : (a : Bool) → (a && false) ≡ false
       and-false true = refl
@@ -206,7 +197,7 @@ module _ (c : Contents) (q : Query) (bound : IsWellBound c q) where
 
       below : (k : ℕ) → (has made.0 k ≡ true) ⊎ (nat_eq k n ≡ true) → k < n + 1
       below k (inl e) = let lt = h.within k e in omega (arith, lt)
-      below k (inr e) = let same = is-number k n e in omega (arith, same)
+      below k (inr e) = let same = eqb-true k n e in omega (arith, same)
 
     pub reading-passed : (old word left : List ℕ) (made : RelSet) → IsReading q old n made word left → word ≢ r.1 → IsReading q old (n + 1) made word left
     reading-passed old word left made h differs = record {
@@ -248,7 +239,7 @@ pub no-param : (q : Query) (s made : RelSet) (rest old : List ℕ) → ((k : ℕ
 no-param q s made rest old none other e = by (is_empty s) refl e where
   by : (b : Bool) → is_empty s ≡ b → old ≡ cond b [] (codes " for " ++ set_text q s) ++ rest → (Some made ≡ Some s) × (old ≡ rest)
   by true is f =
-      let zero : s.0 ≡ 0 = is-number s.0 0 is in
+      let zero : s.0 ≡ 0 = eqb-true s.0 0 is in
       let same : made.0 ≡ s.0 = none-zero made.0 none ∙ sym zero in
       (ap (λ (n : ℕ). Some (record { 0 = n })) same, f)
   by false is f = absurd (other (set_text q s ++ rest) (f ∙ append_assoc (codes " for ") (set_text q s) rest))

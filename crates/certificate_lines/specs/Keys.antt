@@ -49,6 +49,7 @@ pub record IsNamed (c : Contents) (q : Query) (first last : List ℕ) (x : ColRe
 abbrev pub family_if : Bool → List ℕ
 family_if abs = cond abs (codes " int_abs_ops") []
 
+-- what was read of a key is the alias, the column's name and whether its family is that of absolute values
 abbrev pub AreWords : Option KeyWords → List ℕ → List ℕ → Bool → Type 0
 AreWords None alias name abs = ⊥
 AreWords (Some w) alias name abs = (w.alias.now ≡ alias) × (w.name.now ≡ name) × (w.abs ≡ abs)

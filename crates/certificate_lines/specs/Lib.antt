@@ -2,3 +2,12 @@ pub mod Reading
 pub mod Parts
 pub mod Scans
 pub mod Keys
+-- What callers name of the crates below.
+pub use Rattle.certificate_text.specs.HasText as certificate_text_HasText
+pub use Rattle.certificate_text.specs.Texts as certificate_text_Texts
+pub use Rattle.certificate_text.specs.certificates_Certificates as certificates_Certificates
+pub use Rattle.certificate_text.specs.certificates_Views as certificates_Views
+pub use Rattle.certificate_text.specs.certificates_entry_Node as certificates_entry_Node
+pub use Rattle.certificate_text.specs.explain_KeyLemmas as explain_KeyLemmas
+pub use Rattle.certificate_text.specs.explain_Texts as explain_Texts
+pub use Rattle.certificate_text.specs.plan_laws_WellBoundLemmas as plan_laws_WellBoundLemmas

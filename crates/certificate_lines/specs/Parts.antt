@@ -4,7 +4,7 @@ use Rattle.pg_base.specs.Sets.{has}
 use Rattle.pg_base.specs.declared.rel_set.RelSet.{RelSet}
 use Rattle.line_cursor.specs.Words.{stops}
 use Rattle.sql_query.specs.Queries.{Query}
-use Rattle.certificates.specs.Certificates.{Side}
+use Rattle.certificate_text.specs.certificates_Certificates.{Side}
 use Rattle.certificate_text.specs.HasText.{IsEntryNumber, IsSetOf}
 use Rattle.certificate_text.specs.Texts.{with_bare_commas}
 

@@ -2,8 +2,8 @@
 use Rattle.std.specs.Prelude.{◌≡◌, ℕ, List, Result, Ok, Err}
 use Rattle.catalog.specs.Contents.{Contents}
 use Rattle.sql_query.specs.Queries.{Query}
-use Rattle.certificates.specs.Certificates.{Entry, Side}
-use Rattle.certificates.specs.Views.{entry, side}
+use Rattle.certificate_text.specs.certificates_Certificates.{Entry, Side}
+use Rattle.certificate_text.specs.certificates_Views.{entry, side}
 use Rattle.certificate_text.specs.HasText.{HasEntryLine, IsEntryNumber}
 use Rattle.certificate_text.specs.Texts.{best_line, entry_line}
 use Rattle.certificate_lines.specs.declared.line.Line.{Line}

@@ -3,7 +3,7 @@
 ghost use Rattle.std.specs.Prelude.{◌≡◌, ◌≤◌, ◌++◌, ℕ, List, All, IfOk, IfSome, Some, length, option_map, true};
 ghost use Rattle.pg_base.specs.Sets.{has};
 ghost use Rattle.pathkeys.specs.Finding.{class_numbers};
-ghost use Rattle.explain.specs.Texts.{keys_text};
+ghost use Rattle.certificate_text.specs.explain_Texts.{keys_text};
 ghost use Rattle.sql_query.specs.WellBound.{IsWellBound};
 ghost use Rattle.certificate_lines.specs.Keys.{HasKeyText, ends_key};
 ghost use Rattle.certificate_lines.specs.Parts.{has_no_comma};

@@ -9,18 +9,18 @@ ghost use Rattle.pg_expr.specs.declared.operand.ColRef as columns;
 ghost use Rattle.catalog.specs.Range.{relation_at};
 ghost use Rattle.eq_classes.specs.Clauses.{first_in};
 ghost use Rattle.eq_classes.specs.Listing.{class_at};
-ghost use Rattle.explain.specs.Texts.{direction_text, key_text};
+ghost use Rattle.certificate_text.specs.explain_Texts.{direction_text, key_text};
 ghost use Rattle.sql_query.specs.Queries.{width};
 ghost use Rattle.sql_query.specs.WellBound.{IsWellBound};
 ghost use Rattle.certificate_lines.specs.Keys.{AreWords, HasKeyText, IsClassIn, IsClassOf, IsNamed, ends_key, family_if, is_abs};
 
 use catalog::Catalog;
+use certificate_text::plan_tree::{classes_of, range_of};
 use eq_classes::ClassNo;
 use line_cursor::LineCursor;
 use pg_base::{RelNo, RelSet};
 use pg_expr::ColRef;
 use pg_value::Family;
-use plan_tree::{classes_of, range_of};
 use sql_query::Prepared;
 
 /// The relation that has this alias.

@@ -3,7 +3,7 @@
 ghost use Rattle.std.specs.Prelude.{[], ◌≡◌, ◌≤◌, ◌++◌, ℕ, List, All, IfOk, IfSome, Some, length, map, option_map, true};
 ghost use Rattle.pg_base.specs.declared.numbers.IndexNo as numbers;
 ghost use Rattle.catalog.specs.Contents.{IsIndex};
-ghost use Rattle.explain.specs.Texts.{with_commas};
+ghost use Rattle.certificate_text.specs.explain_Texts.{with_commas};
 ghost use Rattle.line_cursor.specs.Words.{stops};
 ghost use Rattle.certificate_text.specs.Texts.{leaf_text};
 ghost use Rattle.certificate_lines.specs.Parts.{has_no_comma};

@@ -9,6 +9,8 @@ mod line;
 mod numbers;
 mod sets;
 
+pub use certificate_text;
+pub use certificate_text::certificates;
 pub use indexes::{read_leaf, read_scan};
 pub use key_lists::read_keys;
 pub use keys::read_key;

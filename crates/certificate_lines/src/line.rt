@@ -4,7 +4,7 @@ ghost use Rattle.sql_query.specs.WellBound.{IsWellBound};
 ghost use Rattle.certificate_lines.specs.Reading.{IsRead};
 
 use catalog::Catalog;
-use certificates::{Entry, Side};
+use certificate_text::certificates::{Entry, Side};
 use sql_query::Prepared;
 use std::alloc::Global;
 

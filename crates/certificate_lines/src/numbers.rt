@@ -2,12 +2,12 @@
 
 ghost use Rattle.std.specs.Prelude.{◌≡◌, option_map};
 ghost use Rattle.std.specs.Fmt.{decimal};
-ghost use Rattle.certificates.specs.Views.{side};
+ghost use Rattle.certificate_text.specs.certificates_Views.{side};
 ghost use Rattle.certificate_text.specs.HasText.{IsEntryNumber};
 ghost use Rattle.certificate_text.specs.Texts.{side_text};
 ghost use Rattle.certificate_lines.specs.Parts.{HasSideText, Reads, as_entry};
 
-use certificates::Side;
+use certificate_text::certificates::Side;
 use line_cursor::LineCursor;
 
 /// A number as one of an entry. None where it is too large.

@@ -6,7 +6,7 @@ ghost use Rattle.pg_base.specs.Names.{is_in_name};
 ghost use Rattle.pg_base.specs.Sets.{has};
 ghost use Rattle.pg_base.specs.declared.rel_set.RelSet as sets;
 ghost use Rattle.catalog.specs.Range.{aliases};
-ghost use Rattle.explain.specs.Texts.{aliases_in};
+ghost use Rattle.certificate_text.specs.explain_Texts.{aliases_in};
 ghost use Rattle.line_cursor.specs.Words.{stops};
 ghost use Rattle.sql_query.specs.Queries.{width};
 ghost use Rattle.sql_query.specs.WellBound.{IsWellBound};
@@ -15,9 +15,9 @@ ghost use Rattle.certificate_text.specs.Texts.{param_text, set_text, with_bare_c
 ghost use Rattle.certificate_lines.specs.Parts.{IsSet, IsWordRead, Reads, has_no_comma};
 
 use catalog::Catalog;
+use certificate_text::plan_tree::range_of;
 use line_cursor::LineCursor;
 use pg_base::{RelNo, RelSet};
-use plan_tree::range_of;
 use sql_query::Prepared;
 
 /// The word behind a comma; an empty one where no comma comes next.

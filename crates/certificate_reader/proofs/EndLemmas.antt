@@ -1,9 +1,8 @@
 -- Where the first line of a text ends.
 use Rattle.std.proofs.Common.{◌≡◌, ◌<◌, ◌≤◌, ◌+◌, ◌-◌, ◌==◌, ℕ, zero, suc, Bool, true, false, not, cond, List, [], ◌∷◌, ◌++◌, length, drop, take, get_or, refl, sym, ap, subst, ◌∙◌, arith}
-use Rattle.std.proofs.lemmas.Bool.{and_from}
-use Rattle.std.proofs.lemmas.Bool.Decides.{nat_tests}
+use Rattle.std.proofs.lemmas.Bool.{and_from, eqb-true}
 use Rattle.std.proofs.lemmas.List.{length-drop, take_all}
-use Rattle.certificate_text.specs.Texts.{ended, is_line}
+use Rattle.certificate_lines.specs.certificate_text_Texts.{ended, is_line}
 use Rattle.certificate_reader.specs.Reading.{line_end}
 
 -- a text is its first line, the LF, and what follows
@@ -11,14 +10,11 @@ pub record IsCut (text : List ℕ) (n : ℕ) : Type 0 where
   pub is : text ≡ ended (take n text) ++ drop (suc n) text
   pub line : is_line (take n text) ≡ true
 
-is-lf : (b : ℕ) → (b == 10) ≡ true → b ≡ 10
-is-lf b e = grind (arith, nat_tests, e)
-
 pub cut : (text : List ℕ) → line_end text < length text → IsCut text (line_end text)
 cut [] lt = absurd (omega (arith, lt))
 cut (b ∷ bs) lt = by (b == 10) refl lt (λ less. cut bs less) where
   by : (t : Bool) → (b == 10) ≡ t → cond t 0 (suc (line_end bs)) < suc (length bs) → (line_end bs < length bs → IsCut bs (line_end bs)) → IsCut (b ∷ bs) (cond t 0 (suc (line_end bs)))
-  by true e lt more = record { is = ap (λ (x : ℕ). x ∷ bs) (is-lf b e); line = refl }
+  by true e lt more = record { is = ap (λ (x : ℕ). x ∷ bs) (eqb-true b 10 e); line = refl }
   by false e lt more =
       let r = more (omega (arith, lt)) in
       record { is = ap (λ (l : List ℕ). b ∷ l) r.is; line = and_from (not (b == 10)) (is_line (take (line_end bs) bs)) (ap not e) r.line }

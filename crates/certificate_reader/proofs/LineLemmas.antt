@@ -15,9 +15,9 @@ use Rattle.sql_query.specs.Queries.{Query}
 use Rattle.certificates.specs.Certificates.{Entry, Side}
 use Rattle.certificates.specs.Limit.{MOST_ENTRIES}
 use Rattle.certificate_reader.specs.Faults.{BeginsText, IsText}
-use Rattle.certificate_text.specs.HasText.{HasEntryLine, IsEntryNumber}
+use Rattle.certificate_lines.specs.certificate_text_HasText.{HasEntryLine, IsEntryNumber}
 use Rattle.certificate_reader.specs.Passed.{Passed}
-use Rattle.certificate_text.specs.Texts.{best_line, ended, entries_text, entry_line, entry_text, head_text, is_line}
+use Rattle.certificate_lines.specs.certificate_text_Texts.{best_line, ended, entries_text, entry_line, entry_text, head_text, is_line}
 
 not-lf : (b : ℕ) → not (b == 10) ≡ true → b ≡ 10 → ⊥
 not-lf b h e = true≢false (sym (subst (λ (n : ℕ). not (n == 10) ≡ true) e h))

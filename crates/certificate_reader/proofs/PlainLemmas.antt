@@ -3,8 +3,7 @@ use Rattle.std.proofs.Common.{◌≡◌, ◌<◌, ◌+◌, ◌==◌, ℕ, Bool, 
 use Rattle.std.specs.Prelude.{All, Option, Some, None, slice_get}
 use Rattle.std.specs.Fmt.{decimal}
 use Rattle.std.specs.List.{list_all}
-use Rattle.std.proofs.lemmas.Bool.{and_from, and_parts}
-use Rattle.std.proofs.lemmas.Bool.Decides.{nat_tests}
+use Rattle.std.proofs.lemmas.Bool.{and_from, and_parts, eqb-true}
 use Rattle.std.proofs.lemmas.List.{get_or_default}
 use Rattle.std.proofs.lemmas.List.Elements.{All-head, All-tail}
 use Rattle.pg_base.specs.Names.{IsName, begins_name, is_in_name}
@@ -30,10 +29,10 @@ use Rattle.cost_rules.specs.declared.pair.Pair.{Pair}
 use Rattle.sql_query.specs.WellBound.{IsColumnOf, IsWellBound}
 use Rattle.pathkeys.specs.Keys.{Keys}
 use Rattle.plan_tree.specs.Plans.{BitTree, leaf, all_hold, some_arm, BitTrees, no_trees, tree_and, is_empty}
-use Rattle.explain.specs.Texts.{aliases_in, backward_text, column_text, conjunct_by, cost_text, direction_text, family_text, key_text, keys_text, member_text, number_text, with_alias, with_commas}
+use Rattle.certificate_lines.specs.explain_Texts.{aliases_in, backward_text, column_text, conjunct_by, cost_text, direction_text, family_text, key_text, keys_text, member_text, number_text, with_alias, with_commas}
 use Rattle.certificates.specs.Certificates.{Entry, Node, Side, by_seq, by_index, by_index_only, by_bitmap, by_nest, by_merge}
-use Rattle.certificate_text.specs.HasText.{HasBitsText, HasElementText, HasEntryLine, HasNodeText, HaveElementTexts}
-use Rattle.certificate_text.specs.Texts.{entry_line, entry_text, is_line, leaf_text, measures_text, node_text, param_text, set_text, side_text, tree_text, tree_texts, with_bare_commas}
+use Rattle.certificate_lines.specs.certificate_text_HasText.{HasBitsText, HasElementText, HasEntryLine, HasNodeText, HaveElementTexts}
+use Rattle.certificate_lines.specs.certificate_text_Texts.{entry_line, entry_text, is_line, leaf_text, measures_text, node_text, param_text, set_text, side_text, tree_text, tree_texts, with_bare_commas}
 
 pub joined-line : (a b : List ℕ) → is_line a ≡ true → is_line b ≡ true → is_line (a ++ b) ≡ true
 joined-line [] b h k = k
@@ -41,14 +40,11 @@ joined-line (x ∷ a) b h k =
     let p = and_parts (not (x == 10)) (is_line a) h in
     and_from (not (x == 10)) (is_line (a ++ b)) p.0 (joined-line a b p.1 k)
 
-is-ten : (b : ℕ) → (b == 10) ≡ true → b ≡ 10
-is-ten b e = grind (arith, nat_tests, e)
-
 in-line : (b : ℕ) → is_in_name b ≡ true → not (b == 10) ≡ true
 in-line b h = by (b == 10) refl where
   by : (t : Bool) → (b == 10) ≡ t → not t ≡ true
   by false e = refl
-  by true e = absurd (true≢false (sym h ∙ ap is_in_name (is-ten b e)))
+  by true e = absurd (true≢false (sym h ∙ ap is_in_name (eqb-true b 10 e)))
 
 word-line : (w : List ℕ) → list_all is_in_name w ≡ true → is_line w ≡ true
 word-line [] h = refl
@@ -60,7 +56,7 @@ begins-line : (b : ℕ) → begins_name b ≡ true → not (b == 10) ≡ true
 begins-line b h = by (b == 10) refl where
   by : (t : Bool) → (b == 10) ≡ t → not t ≡ true
   by false e = refl
-  by true e = absurd (true≢false (sym h ∙ ap begins_name (is-ten b e)))
+  by true e = absurd (true≢false (sym h ∙ ap begins_name (eqb-true b 10 e)))
 
 pub name-line : (w : List ℕ) → IsName w → is_line w ≡ true
 name-line [] h = refl

@@ -6,8 +6,8 @@ use Rattle.sql_query.specs.declared.window.Window.{Window}
 use Rattle.certificates.specs.Certificates.{Certificate, Entry, Side}
 use Rattle.certificates.specs.Views.{certificate}
 use Rattle.certificates.specs.declared.certificate.Certificate.{Certificate as Certified}
-use Rattle.certificate_text.specs.HasText.{HasEntryLine, HasText}
-use Rattle.certificate_text.specs.Texts.{certificate_text, ended, entry_line, is_line}
+use Rattle.certificate_lines.specs.certificate_text_HasText.{HasEntryLine, HasText}
+use Rattle.certificate_lines.specs.certificate_text_Texts.{certificate_text, ended, entry_line, is_line}
 use Rattle.certificate_lines.specs.Reading.{IsBestRead}
 use Rattle.certificate_reader.specs.Faults.{IsFaultLine, IsText, joined}
 use Rattle.certificate_reader.specs.Passed.{Passed}
@@ -59,6 +59,7 @@ module _ (c : Contents) (q : Query) where
   IsFault block (faults.C1 line) = IsFaultLine c q block line × ¬ IsText c q block
   IsFault block faults.Memory = Unit {0}
 
+  -- what reading a block comes to: the only certificate of this text, or the line at fault
   abbrev pub IsBlock : List ℕ → Result Certified CertFault → Type 0
   IsBlock block (Ok t) = IsBlockRead block (certificate t)
   IsBlock block (Err fault) = IsFault block fault

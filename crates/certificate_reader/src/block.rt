@@ -4,8 +4,8 @@ ghost use Rattle.std.specs.Prelude.{◌≡◌, ◌<◌, ◌≤◌, ◌∷◌, �
 ghost use Rattle.sql_query.specs.WellBound.{IsWellBound};
 ghost use Rattle.certificates.specs.Certificates as certs;
 ghost use Rattle.certificates.specs.Views.{certificate, entry, side};
-ghost use Rattle.certificate_text.specs.HasText.{HasText};
-ghost use Rattle.certificate_text.specs.Texts.{certificate_text, ended, head_text, is_line};
+ghost use Rattle.certificate_lines.specs.certificate_text_HasText.{HasText};
+ghost use Rattle.certificate_lines.specs.certificate_text_Texts.{certificate_text, ended, head_text, is_line};
 ghost use Rattle.certificate_reader.specs.Reading.{IsAtBest, IsBlock, IsFault, head_lines, line_end};
 
 use catalog::Catalog;

@@ -6,4 +6,7 @@ mod entries;
 mod nodes;
 mod sets;
 
+pub use certificates;
 pub use entries::{best_line, certificate_text, entry_line};
+pub use explain;
+pub use plan_tree;

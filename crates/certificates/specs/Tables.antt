@@ -1,9 +1,9 @@
 -- When a certificate is a table of a query: no admissible plan is left out, and the best one is the least. Own.
 use Rattle.std.specs.Prelude.{◌≡◌, ◌≢◌, ◌≤◌, ℕ, suc, true, slice_get, Option, Some, None}
 use Rattle.pg_base.specs.Sets.{has}
-use Rattle.catalog.specs.Contents.{Contents}
-use Rattle.sql_query.specs.Queries.{Query}
-use Rattle.sql_query.specs.declared.window.Window.{Window}
+use Rattle.plan_tree.specs.catalog_Contents.{Contents}
+use Rattle.plan_tree.specs.sql_query_Queries.{Query}
+use Rattle.plan_tree.specs.sql_query_window_Window.{Window}
 use Rattle.plan_tree.specs.Plans.{Plan}
 use Rattle.plan_tree.specs.Keys.{keys_of}
 use Rattle.plan_tree.specs.Costs.{cost, estimate, price}

@@ -4,8 +4,8 @@ ghost use Rattle.std.specs.Prelude.{◌≡◌, ◌↔◌, IsTrue};
 ghost use Rattle.plan_tree.specs.Views.{plan};
 
 use crate::same_bits::is_same_tree;
-use pathkeys::Keys;
 use plan_tree::Plan;
+use plan_tree::pathkeys::Keys;
 
 /// Whether two key lists are equal.
 fn are_same_keys(a: &Keys, b: &Keys) -> bool

@@ -24,8 +24,8 @@ use Rattle.certificates.specs.Certificates.{Certificate, Entry, Side, by_bitmap,
 use Rattle.certificates.specs.Views.{side as seen}
 use Rattle.certificates.specs.declared.entry.Side.{Side as Sided}
 use Rattle.certificates.proofs.UnfoldLemmas.{numbered}
-use Rattle.entry_check.proofs.ScanLemmas.{relation-found}
-use Rattle.join_cover.proofs.CoverLemmas.{right-at}
+use Rattle.certificate_check.specs.entry_check_ScanLemmas.{relation-found}
+use Rattle.certificate_check.specs.join_cover_CoverLemmas.{right-at}
 use Rattle.plan_check.specs.Beating.{IsRight}
 use Rattle.plan_check.specs.Plains.{IsTreeOf, StandsForPlan, keys_in}
 use Rattle.plan_check.specs.declared.verdict.Plain.{Plain}

@@ -22,16 +22,16 @@ use Rattle.plan_tree.proofs.PathLemmas.{built-below}
 use Rattle.scan_paths.proofs.SpaceLemmas.{given-param}
 use Rattle.join_laws.specs.Closed.{AreKeptSides, is_scan}
 use Rattle.join_laws.proofs.WithinLemmas.{read-below}
-use Rattle.join_search.proofs.PlanLemmas.{reads-some}
-use Rattle.join_search.proofs.SetLemmas.{set-below}
-use Rattle.plan_laws.proofs.WellBoundLemmas.{bound-over}
-use Rattle.explain_laws.proofs.ParamLemmas.{IsOfQuery, bitmap-param, index-param}
+use Rattle.table_texts.specs.join_search_PlanLemmas.{reads-some}
+use Rattle.table_texts.specs.join_search_SetLemmas.{set-below}
+use Rattle.certificate_check.specs.plan_laws_WellBoundLemmas.{bound-over}
+use Rattle.table_texts.specs.explain_laws_ParamLemmas.{IsOfQuery, bitmap-param, index-param}
 use Rattle.certificates.specs.Certificates.{Certificate, Entry, Node, plan_of, plans_of, unfold_at, unfolded}
 use Rattle.certificates.specs.Limit.{MOST_ENTRIES}
 use Rattle.certificates.specs.Tables.{IsEntryPlan, IsStartup}
 use Rattle.certificates.proofs.UnfoldLemmas.{at-split}
-use Rattle.certificate_text.specs.HasText.{HasEntryLine, HasKeysText, HasStartup, IsSetOf}
-use Rattle.entry_check.proofs.PlaceLemmas.{long}
+use Rattle.table_texts.specs.certificate_text_HasText.{HasEntryLine, HasKeysText, HasStartup, IsSetOf}
+use Rattle.certificate_check.specs.entry_check_PlaceLemmas.{long}
 use Rattle.plan_check.specs.Verdicts.{IsUncovered}
 use Rattle.plan_check.specs.declared.verdict.Plain.{Plain}
 use Rattle.table_texts.specs.Arms.{HasArmsInOrs}

@@ -5,10 +5,10 @@ use Rattle.catalog.specs.Contents.{Contents}
 use Rattle.sql_query.specs.Queries.{Query}
 use Rattle.certificates.specs.Certificates.{Certificate, Entry}
 use Rattle.certificates.specs.Tables.{IsEntryAt, IsPlanTable}
-use Rattle.certificate_text.specs.HasText.{HasEntryLine}
-use Rattle.certificate_text.specs.Texts.{ended, entry_text}
-use Rattle.certificate_reader.specs.Faults.{IsFaultLine, IsText}
-use Rattle.certificate_reader.specs.Reading.{IsBlockRead}
+use Rattle.table_texts.specs.certificate_text_HasText.{HasEntryLine}
+use Rattle.table_texts.specs.certificate_text_Texts.{ended, entry_text}
+use Rattle.entry_reader.specs.certificate_reader_Faults.{IsFaultLine, IsText}
+use Rattle.entry_reader.specs.certificate_reader_Reading.{IsBlockRead}
 use Rattle.plan_check.specs.Verdicts.{IsUncovered, IsVerdict}
 use Rattle.plan_check.specs.declared.verdict.Number.{Number}
 use Rattle.plan_check.specs.declared.verdict.Number.TheVariants.{Startup, Total, Rows}
@@ -18,10 +18,11 @@ use Rattle.plan_check.specs.declared.verdict.Reason.TheVariants as reasons
 use Rattle.plan_check.specs.declared.verdict.Verdict.{Verdict}
 use Rattle.plan_check.specs.declared.verdict.Verdict.TheVariants as verdicts
 
--- the line of a certificate that is a table, and that of a block that is none, for a reason
+-- the line of a certificate that is a table
 abbrev pub valid_line : List ℕ
 valid_line = ended (codes "valid")
 
+-- the line of a block that is none: it ends in the first reason
 abbrev pub invalid_line : List ℕ → List ℕ
 invalid_line reason = ended (codes "invalid: " ++ reason)
 
@@ -33,6 +34,7 @@ fault_text line = codes "C1 line " ++ decimal line
 abbrev pub bad_node_text : ℕ → List ℕ
 bad_node_text n = cond (nat_eq n 0) (codes "C2 best") (codes "C2 entry " ++ decimal n)
 
+-- the word of a reason for a number of an entry: its cost before the first row, its cost in all, its rows
 abbrev pub number_name : Number → List ℕ
 number_name Startup = codes "startup"
 number_name Total = codes "cost"

@@ -1,7 +1,7 @@
 //! A certificate's text read and judged.
 
 ghost use Rattle.std.specs.Prelude.{◌≡◌, ◌≤◌, ◌^◌, ℕ, IfOk, length};
-ghost use Rattle.certificate_reader.specs.declared.block.CertFault.TheVariants as faults;
+ghost use Rattle.entry_reader.specs.certificate_reader_block_CertFault_TheVariants as faults;
 ghost use Rattle.certificates.specs.Views.{certificate};
 ghost use Rattle.check_reply.specs.Checked as texts;
 ghost use Rattle.check_reply.specs.Checked.{IsCheckedText, IsReasonText, IsVerdictLine};
@@ -16,10 +16,10 @@ use crate::lines::{
 use crate::told::uncovered_text;
 use catalog::Catalog;
 use certificate_check::check;
-use certificate_reader::CertFault;
+use certificate_check::join_cover::Uncovered;
 use certificates::Certificate;
+use entry_reader::certificate_reader::CertFault;
 use entry_reader::read_certificate;
-use join_cover::Uncovered;
 use pg_base::Memory;
 use plan_check::{Reason, Verdict};
 use sql_query::Prepared;

@@ -7,7 +7,7 @@ ghost use Rattle.plan_tree.specs.Space.{IsBuilt};
 ghost use Rattle.sql_query.specs.WellBound.{IsWellBound};
 ghost use Rattle.certificates.specs.Certificates as forms;
 ghost use Rattle.certificates.specs.Views.{certificate, entry, node as seen};
-ghost use Rattle.certificate_text.specs.HasText.{HasEntryLine, HasText};
+ghost use Rattle.table_texts.specs.certificate_text_HasText.{HasEntryLine, HasText};
 ghost use Rattle.check_reply.specs.Checked as texts;
 ghost use Rattle.check_reply.specs.Checked.{IsToldBy};
 ghost use Rattle.check_reply.specs.Telling.{IsShapeOf, entry_with};
@@ -19,14 +19,14 @@ ghost use Rattle.table_texts.specs.Arms.{HasArmsInOrs};
 use crate::shape::Shape;
 use crate::shapes::{bitmap_shape, index_shape, merge_shape, nest_shape, seq_shape};
 use catalog::Catalog;
-use certificate_text::entry_line;
+use certificate_check::entry_check::ByIndex;
+use certificate_check::join_cover::Uncovered;
 use certificates::{Certificate, Entry};
-use entry_check::ByIndex;
-use join_cover::Uncovered;
 use pg_base::Memory;
 use plan_check::Plain;
 use sql_query::Prepared;
 use std::alloc::Global;
+use table_texts::certificate_text::entry_line;
 
 /// The entry of a candidate over the entries of a certificate, without its numbers. The error means want of memory.
 fn shape_of(

@@ -1,7 +1,8 @@
 -- Equal values compare alike, and members of a class are equal where its clauses hold.
-use Rattle.std.proofs.Common.{◌≡◌, ℕ, Bool, true, false, ◌⊎◌, inl, inr, ⊎_elim, Option, Some, refl, sym, ap, ◌∙◌, Ordering, Less, Equal, Greater, is_eq}
+use Rattle.std.proofs.Common.{◌≡◌, ℕ, Bool, true, false, ◌⊎◌, inl, inr, ⊎_elim, Option, Some, refl, sym, ap, ◌∙◌, Equal}
 use Rattle.std.proofs.lemmas.Bool.{cases_Bool, true≢false}
 use Rattle.std.proofs.lemmas.Cmp.{alike_right}
+use Rattle.std.specs.Cmp.{Equal-is}
 use Rattle.pg_value.specs.declared.operators.Family.{Family}
 use Rattle.pg_value.specs.declared.value.Value.{Value}
 use Rattle.pg_value.specs.declared.value.Value.TheVariants.{Null, Int, Bool as Flag, Text as String}
@@ -16,26 +17,21 @@ use Rattle.eq_classes.proofs.EqualLemmas.{column_is, equal_sym, equal_trans}
 use Rattle.eq_classes.proofs.ClasswiseLemmas.{Says}
 use Rattle.eq_classes.proofs.WhereLemmas.{some_in}
 
-equal_is : (o : Ordering) → is_eq o ≡ true → o ≡ Equal
-equal_is Less e = absurd (true≢false (sym e))
-equal_is Equal e = refl
-equal_is Greater e = absurd (true≢false (sym e))
-
 module _ (f : Family) where
   order_equal : (v w : Value) → are_equal f v w ≡ true → value_order f v w ≡ Equal
   order_equal Null w e = absurd (true≢false (sym e))
   order_equal (Int a) Null e = absurd (true≢false (sym e))
-  order_equal (Int a) (Int b) e = equal_is (value_order f (Int a) (Int b)) e
-  order_equal (Int a) (Flag b) e = equal_is (value_order f (Int a) (Flag b)) e
-  order_equal (Int a) (String b) e = equal_is (value_order f (Int a) (String b)) e
+  order_equal (Int a) (Int b) e = (Equal-is (value_order f (Int a) (Int b))).0 e
+  order_equal (Int a) (Flag b) e = (Equal-is (value_order f (Int a) (Flag b))).0 e
+  order_equal (Int a) (String b) e = (Equal-is (value_order f (Int a) (String b))).0 e
   order_equal (Flag a) Null e = absurd (true≢false (sym e))
-  order_equal (Flag a) (Int b) e = equal_is (value_order f (Flag a) (Int b)) e
-  order_equal (Flag a) (Flag b) e = equal_is (value_order f (Flag a) (Flag b)) e
-  order_equal (Flag a) (String b) e = equal_is (value_order f (Flag a) (String b)) e
+  order_equal (Flag a) (Int b) e = (Equal-is (value_order f (Flag a) (Int b))).0 e
+  order_equal (Flag a) (Flag b) e = (Equal-is (value_order f (Flag a) (Flag b))).0 e
+  order_equal (Flag a) (String b) e = (Equal-is (value_order f (Flag a) (String b))).0 e
   order_equal (String a) Null e = absurd (true≢false (sym e))
-  order_equal (String a) (Int b) e = equal_is (value_order f (String a) (Int b)) e
-  order_equal (String a) (Flag b) e = equal_is (value_order f (String a) (Flag b)) e
-  order_equal (String a) (String b) e = equal_is (value_order f (String a) (String b)) e
+  order_equal (String a) (Int b) e = (Equal-is (value_order f (String a) (Int b))).0 e
+  order_equal (String a) (Flag b) e = (Equal-is (value_order f (String a) (Flag b))).0 e
+  order_equal (String a) (String b) e = (Equal-is (value_order f (String a) (String b))).0 e
 
   plain : (v v' w w' : Value) → are_equal f v w ≡ true → are_equal f v' w' ≡ true → compared f v v' ≡ Some (value_order f v v')
   plain Null v' w w' e e' = absurd (true≢false (sym e))

@@ -3,15 +3,9 @@ use Rattle.std.proofs.Common.{◌≡◌, ◌<◌, ◌≤◌, ℕ, zero, suc, ◌
 use Rattle.std.specs.Prelude.{nat_le}
 use Rattle.std.proofs.Common.{inl, inr, ◌⊎◌}
 use Rattle.std.proofs.Math.Nat.{pow-le-pow_left}
-use Rattle.std.proofs.lemmas.Bool.{cases_lt}
+use Rattle.std.proofs.lemmas.Bool.{cases_lt, leb-true, leb-false}
 use Rattle.std.proofs.lemmas.Grind.{common_steps}
 use Rattle.cost_rules.specs.Powers.{IsLeastPower, power_from, log_up}
-
-below-from : (n m : ℕ) → nat_le n m ≡ true → n ≤ m
-below-from n m e = grind (arith, common_steps)
-
-above-from : (n m : ℕ) → nat_le n m ≡ false → m < n
-above-from n m e = grind (arith, common_steps)
 
 more-below : (b n k : ℕ) → ((j : ℕ) → j < k → b ^ j < n) → b ^ k < n → (j : ℕ) → j < k + 1 → b ^ j < n
 more-below b n k h e j lt = elim (eq-or-below j k (omega (arith, lt))) [ inl same ↦ subst (λ i. b ^ i < n) (sym same) e | inr less ↦ h j less ]
@@ -24,8 +18,8 @@ least-from b n zero k h e = record { reached = subst (λ i. n ≤ b ^ i) (let sa
 least-from b n (suc left) k h e = by (nat_le n (b ^ k)) refl (λ f. least-from b n left (k + 1) (more-below b n k h f) (subst (λ i. n ≤ b ^ i) (let same : k + suc left ≡ k + 1 + left = omega arith in same) e))
   where
     by : (r : Bool) → nat_le n (b ^ k) ≡ r → (b ^ k < n → IsLeastPower b n (power_from b n left (k + 1))) → IsLeastPower b n (elim r as (λ x. ℕ) [ true ↦ k | false ↦ power_from b n left (k + 1) ])
-    by true f later = record { reached = below-from n (b ^ k) f; least = h }
-    by false f later = later (above-from n (b ^ k) f)
+    by true f later = record { reached = leb-true n (b ^ k) f; least = h }
+    by false f later = later (leb-false n (b ^ k) f)
 
 two-more : (x y : ℕ) → 1 ≤ x → x ≤ y → suc x ≤ 2 * y
 two-more x y h k = omega (arith, h, k)

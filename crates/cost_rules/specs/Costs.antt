@@ -6,6 +6,7 @@ use Rattle.cost_rules.specs.declared.pair.Pair.{Pair}
 use Rattle.cost_rules.specs.declared.parameters.TheConstants.{MOST_COST, MOST_ESTIMATE, OPERATOR, TUPLE}
 use Rattle.cost_rules.specs.Powers.{log_up}
 
+-- what is spent before the first row, and in all, in 1/400 of a sequential page
 abbrev pub pair : ℕ → ℕ → Pair
 pair startup total = record { startup = startup; total = total }
 
@@ -28,6 +29,7 @@ pub record IsEstimate (n : ℕ) : Type 0 where
 abbrev pub capped : ℕ → ℕ
 capped n = min n MOST_COST
 
+-- a cost of which both numbers are cut to at most 10^18
 abbrev pub capped_pair : Pair → Pair
 capped_pair p = pair (capped p.startup) (capped p.total)
 

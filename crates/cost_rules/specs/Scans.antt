@@ -11,6 +11,7 @@ use Rattle.cost_rules.specs.Powers.{log_up}
 abbrev pub pages_of_entries : ℕ → ℕ
 pages_of_entries n = max 1 (div_ceil n ENTRIES_PER_PAGE)
 
+-- the levels of a B-tree of so many entries above its leaves, with 200 children to a page
 abbrev pub height_of : ℕ → ℕ
 height_of n = log_up ENTRIES_PER_PAGE (pages_of_entries n)
 

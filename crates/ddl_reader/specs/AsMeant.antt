@@ -46,58 +46,66 @@ words_of_body c cs m rest = words_of_coldef c ++ (words_of_columns cs ++ t_mark 
 abbrev pub seen : ColumnDef → Bound
 seen d = record { name = d.name.bytes; name_at = d.name.token; column = d.column }
 
--- COMMON, or HISTOGRAM, is not next
+-- COMMON is not next: no common values follow
 abbrev pub ends_common : List Terminal → Bool
 ends_common (t_name (free CommonWord _) ∷ _) = false
 ends_common _ = true
 
+-- HISTOGRAM is not next: no bounds follow
 abbrev pub ends_histogram : List Terminal → Bool
 ends_histogram (t_name (free HistogramWord _) ∷ _) = false
 ends_histogram _ = true
 
--- common values with their shares, or bounds, up to `)`, and what follows
+-- common values with their shares up to `)`, and what follows
 abbrev pub words_of_shares_left : Share → List (Mark × Share) → Mark → List Terminal → List Terminal
 words_of_shares_left s ss m rest = words_of_share s ++ (words_of_shares ss ++ t_mark Close m ∷ rest)
 
+-- the bounds of a histogram up to `)`, and what follows
 abbrev pub words_of_bounds_left : Lit → List (Mark × Lit) → Mark → List Terminal → List Terminal
 words_of_bounds_left l ls m rest = words_of_lit l ++ (words_of_bounds ls ++ t_mark Close m ∷ rest)
 
--- a literal as a value of a column of this type, with its first token; and a common value with its share
+-- a literal as a value of a column of this type, with its first token
 abbrev pub placed : SqlType → Lit → Result Placed Fault
 placed t l = next (typed_value t l) (λ v. Ok (record { value = v; token = place_of_lit l }))
 
+-- a common value of a column of this type with its share as it is written: the literal alone can be at fault
 abbrev pub common_placed : SqlType → CommonWords → Result CommonRead Fault
 common_placed t w = next (placed t w.0) (λ p. Ok (record { literal = p; share = numbered w.1 }))
 
--- the words of STATISTICS of a table from ROWS on, and of a column from its name on, with its lists of literals; what follows
+-- the words of STATISTICS of a table from ROWS on, and what follows
 abbrev pub words_of_sizes : Ident → Said → Terminal → Said → List Terminal → List Terminal
 words_of_sizes r rows b pages rest = t_name r ∷ t_number rows ∷ b ∷ t_number pages ∷ rest
 
+-- the two lists of literals of a column, each of which may be left out, and what follows
 abbrev pub words_of_lists : Common → Histogram → List Terminal → List Terminal
 words_of_lists cs h rest = words_of_common cs ++ (words_of_histogram h ++ rest)
 
+-- the words of STATISTICS of a column from its name on, with its lists of literals, and what follows
 abbrev pub words_of_column : Ident → Terminal → Said → Terminal → Said → Common → Histogram → List Terminal → List Terminal
 words_of_column c a d b n cs h rest = t_name c ∷ a ∷ t_number d ∷ b ∷ t_number n ∷ words_of_lists cs h rest
 
--- the words of STATISTICS of a table, and of a column, from the table's name on
+-- the words of STATISTICS of a table, from its name on
 abbrev pub SpellsSizes : List Terminal → Type 0
 SpellsSizes ts = (t : Ident) × (r : Ident) × (rows : Said) × (b : Terminal) × (pages : Said) × (rest : List Terminal) × (ts ≡ t_name t ∷ words_of_sizes r rows b pages rest)
 
+-- the words of STATISTICS of a column, from the table's name on: no list of literals follows them
 abbrev pub SpellsColumn : List Terminal → Type 0
 SpellsColumn ts =
     (t : Ident) × (m : Mark) × (c : Ident) × (a : Terminal) × (d : Said) × (b : Terminal) × (n : Said) × (cs : Common) × (h : Histogram) × (rest : List Terminal) ×
     (ends_common rest ≡ true) × (ends_histogram rest ≡ true) × (ts ≡ t_name t ∷ t_mark Dot m ∷ words_of_column c a d b n cs h rest)
 
--- a common value that is read, with its share, and where they begin
+-- a common value that is read, with its share, which is cut to what its field holds
 abbrev pub common_seen : CommonRead → Value × ℕ
 common_seen c = (c.literal.value, min c.share.value (2 ^ 32 - 1))
 
+-- where it and its share begin: at one of these stands a refusal of the catalogue
 abbrev pub starts_seen : CommonRead → List ℕ
 starts_seen c = c.literal.token.start ∷ c.share.token.start ∷ []
 
--- a bound that is read, and where it begins
+-- a bound that is read
 abbrev pub value_seen : Placed → Value
 value_seen p = p.value
 
+-- where it begins
 abbrev pub start_seen : Placed → ℕ
 start_seen p = p.token.start

@@ -25,9 +25,11 @@ use Rattle.ddl_reader.specs.Tables.{Reading, sizes_for, statistics_for, analysis
 abbrev pub number_up_to : ℕ → Said → ℕ
 number_up_to greatest n = min (digits_value 10 n.value) greatest
 
+-- a number of rows, of pages or of different values, kept in 64 bits
 abbrev pub number_of_64 : Said → ℕ
 number_of_64 = number_up_to (2 ^ 64 - 1)
 
+-- a share, in parts per million, kept in 32 bits; the catalogue refuses one of more than 1000000
 abbrev pub number_of_32 : Said → ℕ
 number_of_32 = number_up_to (2 ^ 32 - 1)
 
@@ -40,14 +42,16 @@ known code token (Some x) = Ok x
 abbrev pub CommonWords : Type 0
 CommonWords = Lit × Said
 
--- the words of a common value, those of all of them, and the literals of a histogram
+-- the literal and the share of a common value
 abbrev pub common_words : Share → CommonWords
 common_words (share l n) = (l, n)
 
+-- the common values of COMMON from the left, none where it is left out
 abbrev pub commons_of : Common → List CommonWords
 commons_of no_common = []
 commons_of (common _ _ s ss _) = common_words s ∷ parts_of common_words ss
 
+-- the bounds of HISTOGRAM from the left, none where it is left out
 abbrev pub bounds_of : Histogram → List Lit
 bounds_of no_histogram = []
 bounds_of (histogram _ _ l ls _) = l ∷ parts_of (λ x. x) ls
@@ -56,10 +60,11 @@ bounds_of (histogram _ _ l ls _) = l ∷ parts_of (λ x. x) ls
 abbrev pub common_value : SqlType → CommonWords → Result (Value × ℕ) Fault
 common_value t w = next (typed_value t w.0) (λ v. Ok (v, number_of_32 w.1))
 
--- where a literal and a number begin
+-- where a literal begins: at its minus, where it has one
 abbrev pub start_of_lit : Lit → ℕ
 start_of_lit l = (place_of_lit l).start
 
+-- where a number begins
 abbrev pub start_of : Said → ℕ
 start_of n = n.token.start
 
@@ -102,9 +107,10 @@ column_statistics_of cat n c distinct nulls commons bounds =
     next (table_of_name cat n) (λ t.
     next (column_of_name cat t c) (λ col. statistics_of (type_at (table_at cat t).columns col) t col distinct nulls commons bounds))
 
--- ANALYZE: its table's name is bound, and no refusal of the catalogue has a place
+-- what is read of ANALYZE of a table: no refusal of the catalogue has a place
 abbrev pub analysis_reading : TableNo → Reading
 analysis_reading t = record { definition = analysis_of t; at = [] }
 
+-- ANALYZE: its table's name, the one that it has, is bound
 abbrev pub analysis : Contents → Ident → Result Reading Fault
 analysis cat n = next (table_of_name cat n) (λ t. Ok (analysis_reading t))

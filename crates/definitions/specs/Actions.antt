@@ -13,6 +13,7 @@ use Rattle.sql_query.specs.Grouped.{GroupedQuery}
 use Rattle.sql_query.specs.Queries.{Query}
 use Rattle.sql_query.specs.Worlds.{World, stored_at, world}
 
+-- what a statement comes to once it is read and bound: a change of the catalogue or of a table's rows, or an answer
 pub data Action : Type 0 where
   -- an empty statement
   idle : Action

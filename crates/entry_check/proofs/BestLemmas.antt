@@ -4,6 +4,7 @@ use Rattle.std.specs.Prelude.{Some, None, option_map, slice_get}
 use Rattle.std.proofs.Math.Seq.{take-length}
 use Rattle.std.proofs.lemmas.Bool.{lt-ltb, ltb-true}
 use Rattle.std.proofs.lemmas.List.{length-map}
+use Rattle.std.proofs.lemmas.Option.{same_Some, none-some}
 use Rattle.pg_base.specs.Sets.{has}
 use Rattle.catalog.specs.Contents.{Contents}
 use Rattle.sql_query.specs.Queries.{Query, all_of_query, width}
@@ -11,7 +12,7 @@ use Rattle.pathkeys.specs.Keys.{Keys, covers, order_keys}
 use Rattle.plan_tree.specs.Keys.{keys_of}
 use Rattle.plan_tree.specs.Plans.{Plan, seq, index, index_only, bitmap, sort, nest, merge, is_sort, param_of, set_of}
 use Rattle.plan_tree.specs.Space.{IsEmpty, IsFinished, IsSameSet, MeetsOrder}
-use Rattle.join_laws.proofs.WithinLemmas.{built-within}
+use Rattle.certificates.specs.join_laws_WithinLemmas.{built-within}
 use Rattle.certificates.specs.Certificates.{Certificate, Entry, Side, finish_at, plan_at, plans_of, sorted_if, unfold_at}
 use Rattle.certificates.specs.Views.{entry}
 use Rattle.certificates.specs.declared.entry.Entry.{Entry as Entered}
@@ -20,17 +21,7 @@ use Rattle.plan_check.specs.Reasons.{AllRight, AreRight, HasBest, IsBadBest}
 use Rattle.plan_check.specs.Verdicts.{AreWhole}
 use Rattle.entry_check.specs.Owning.{HasPlanAt, IsFinishedSide, plans_before}
 use Rattle.entry_check.proofs.PlaceLemmas.{long}
-
-some-same : (x y : Plan) → Some x ≡ Some y → x ≡ y
-some-same x y e = cc
-
-none-some : (x : Plan) → None ≡ Some x → ⊥
-none-some x e = cc
-
-same-tests : (x y : Bool) → (x ≡ true → y ≡ true) → (y ≡ true → x ≡ true) → x ≡ y
-same-tests true y f g = sym (f refl)
-same-tests false true f g = g refl
-same-tests false false f g = refl
+use Rattle.eq_classes.proofs.ClasswiseLemmas.{same_truth}
 
 pub before-all : (c : Contents) (q : Query) (t : Certificate) (n : ℕ) → AllRight c q t → AreRight c q t n
 before-all c q t n right k e lt at = right k e at
@@ -52,7 +43,7 @@ module _ (c : Contents) (q : Query) where
     -- all relations of the query
     pub whole-yes : ((k : ℕ) → k < width q → has e.set.0 k ≡ true) → IsEmpty (has e.param.0) → IsSameSet (set_of p) (all_of_query q) × IsEmpty (param_of p)
     whole-yes all none = (
-      λ k. same-tests (set_of p k) (all_of_query q k) (built-within c q p r.has.plan.built k) (λ h. r.has.plan.set_is k ∙ all k (ltb-true k (width q) h)),
+      λ k. same_truth (set_of p k) (all_of_query q k) (built-within c q p r.has.plan.built k) (λ h. r.has.plan.set_is k ∙ all k (ltb-true k (width q) h)),
       λ k. r.has.plan.param_is k ∙ none k,
     )
 
@@ -93,7 +84,7 @@ module _ (c : Contents) (q : Query) where
     unfolds-end n e same h = sym (at-end n same) ∙ h.is
 
     pub finish-is : (input p : Plan) → unfold_at q t s.entry ≡ Some input → finish_at q t s ≡ Some p → IsFinished c q p → IsFinished c q (sorted_if s.sorted order input)
-    finish-is input p e f h = subst (IsFinished c q) (some-same p (sorted_if s.sorted order input) (sym f ∙ ap (option_map (sorted_if s.sorted order)) e)) h
+    finish-is input p e f h = subst (IsFinished c q) (same_Some p (sorted_if s.sorted order input) (sym f ∙ ap (option_map (sorted_if s.sorted order)) e)) h
 
     pub side-best : (e : Entry) → IsFinishedSide c q t s e → s ≡ t.best → HasBest c q t
     side-best e h same = record {

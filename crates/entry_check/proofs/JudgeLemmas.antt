@@ -2,7 +2,7 @@
 use Rattle.std.proofs.Common.{◌≡◌, ◌≢◌, ◌<◌, ◌≤◌, ◌+◌, ℕ, List, suc, length, refl, sym, ap, ap₂, subst, ◌∙◌, arith, ◌⊎◌, inl, inr}
 use Rattle.std.specs.Prelude.{Option, Some, None, MatchOption, IfSome, IfNone, option_map, slice_get}
 use Rattle.std.proofs.lemmas.Bool.{cases_lt}
-use Rattle.std.proofs.lemmas.Option.{slice_get_within}
+use Rattle.std.proofs.lemmas.Option.{slice_get_within, same_Some, none-some}
 use Rattle.catalog.specs.Contents.{Contents}
 use Rattle.sql_query.specs.Queries.{Query, width}
 use Rattle.sql_query.specs.declared.window.Window.{Window}
@@ -19,12 +19,6 @@ use Rattle.plan_check.specs.declared.verdict.Number.TheVariants.{Startup, Total,
 use Rattle.entry_check.specs.Owning.{AreNumbersOf, HasNone, HasOwn, HasPlanAt, HasRight, IsOwn, plans_before}
 use Rattle.entry_check.specs.declared.numbers.Own.{Own}
 use Rattle.entry_check.proofs.PlaceLemmas.{unfolds}
-
-some-same : (x y : Plan) → Some x ≡ Some y → x ≡ y
-some-same x y e = cc
-
-none-some : (x : Plan) → None ≡ Some x → ⊥
-none-some x e = cc
 
 -- a join of which a side is missing
 pub join-none : (f : Plan → Plan → Plan) (a b : Option Plan) → (a ≡ None) ⊎ (b ≡ None) → join_by f a b ≡ None
@@ -46,7 +40,7 @@ module _ (c : Contents) (q : Query) where
   -- what a join of two plans is, is what the node that joins them is
   pub joined : (f : Plan → Plan → Plan) (a b : Option Plan) (o i : Plan) (e : Entry) (result : Option Own) → a ≡ Some o → b ≡ Some i →
       IfSome result (λ x. IsOwn c q e (f o i) x) → IfNone result (¬ HasItsPlan c q e (f o i)) → MatchOption result (HasNone c q (join_by f a b) e) (λ x. HasOwn c q (join_by f a b) e x)
-  joined f a b o i e None ea eb some none = λ p is own. none (subst (HasItsPlan c q e) (some-same p (f o i) (sym is ∙ ap₂ (join_by f) ea eb)) own)
+  joined f a b o i e None ea eb some none = λ p is own. none (subst (HasItsPlan c q e) (same_Some p (f o i) (sym is ∙ ap₂ (join_by f) ea eb)) own)
   joined f a b o i e (Some x) ea eb some none = record { plan = f o i; is = ap₂ (join_by f) ea eb; own = some }
 
   pub no-join : (made : Option Plan) (e : Entry) → made ≡ None → HasNone c q made e

@@ -1,6 +1,6 @@
 -- Right entries as sides of joins.
 use Rattle.std.proofs.Common.{◌≡◌, ◌≤◌, ◌<◌, ℕ, Bool, true, false, sym, ap, subst, ◌∙◌, arith}
-use Rattle.std.specs.Prelude.{IfNone, Option, Some, None}
+use Rattle.std.specs.Prelude.{Option, Some, None}
 use Rattle.std.proofs.lemmas.Bool.{false≢true}
 use Rattle.pg_base.specs.Sets.{has}
 use Rattle.pg_base.specs.declared.rel_set.RelSet.{RelSet}
@@ -20,7 +20,7 @@ use Rattle.plan_tree.specs.Space.{IsEmpty, IsSameSet}
 use Rattle.plan_tree.proofs.BoundLemmas.{startup-most}
 use Rattle.plan_tree.proofs.PathLemmas.{built-below}
 use Rattle.plan_tree.proofs.WindowLemmas.{path-cost, uncut-kept}
-use Rattle.join_laws.proofs.WithinLemmas.{read-below}
+use Rattle.certificates.specs.join_laws_WithinLemmas.{read-below}
 use Rattle.join_work.proofs.TestedLemmas.{reads-some}
 use Rattle.join_work.specs.Parts.{IsPart, IsReckoned}
 use Rattle.join_work.specs.declared.parts.Part.{Part}
@@ -31,10 +31,6 @@ use Rattle.plan_check.proofs.BeatingLemmas.{as_path, path-numbers}
 use Rattle.entry_check.specs.Owning.{AreNumbersOf}
 use Rattle.entry_check.specs.declared.numbers.Own.{Own}
 use Rattle.entry_check.proofs.BoundLemmas.{rows-estimate}
-
-pub if-none : {X : Type 0} (o : Option X) (P : Type 0) → P → IfNone o P
-if-none None P h = h
-if-none (Some x) P h = tt
 
 -- a startup that is kept is the startup, where it counts
 pub kept-start : (w : Option Window) (a b : ℕ) → a ≡ startup_kept w b → IsStartup w a b

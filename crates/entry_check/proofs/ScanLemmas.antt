@@ -3,7 +3,7 @@ use Prim.Native.Nat.{suc, zero}
 use Rattle.std.proofs.Common.{◌≡◌, ◌<◌, ◌≤◌, ◌+◌, ℕ, Bool, true, false, cond, List, [], ◌∷◌, length, nat_eq, refl, sym, ap, ap₂, subst, ◌∙◌, arith, ◌⊎◌, inl, inr}
 use Rattle.std.specs.Prelude.{Option, IfNone, IfSome, Some, None, MatchOption, find, option_map, slice_get}
 use Rattle.std.specs.List.{range_with_len}
-use Rattle.std.proofs.lemmas.Bool.{cases_lt}
+use Rattle.std.proofs.lemmas.Bool.{cases_lt, eq-eqb}
 use Rattle.std.proofs.lemmas.Grind.{common_steps}
 use Rattle.std.proofs.lemmas.List.{length-map}
 use Rattle.std.proofs.lemmas.Option.{slice_get_past}
@@ -61,9 +61,6 @@ relation-past n set r least le = sym (ap (option_map (λ (k : ℕ). let x : RelN
 pub relation-none : (n : ℕ) (set : RelSet) → ((k : ℕ) → has set.0 k ≡ false) → None ≡ relation_in n set
 relation-none n set none = sym (ap (option_map (λ (k : ℕ). let x : RelNo = record { 0 = k } in x)) (find-none (has set.0) 0 n (λ k lt. none k)))
 
-zero-test : (n : ℕ) → n ≡ 0 → nat_eq n 0 ≡ true
-zero-test n e = grind (arith, common_steps)
-
 some-test : (n : ℕ) → ¬ (n ≡ 0) → nat_eq n 0 ≡ false
 some-test n e = grind (arith, common_steps)
 
@@ -100,7 +97,7 @@ module _ (c : Contents) (q : Query) where
   pub rows-whole : (r : RelNo) (p : RelSet) (set n : ℕ) → p.0 ≡ 0 → ((k : ℕ) → has set k ≡ nat_eq k r.0) → n ≡ set_rows c q.range q.classes (has set) → n ≡ rows_given c q (one r.0) (scan_given r p)
   rows-whole r p set n none is e =
       let as-set : has set ≡ one r.0 = λ i k. is k i in
-      let test : true ≡ is_empty p = sym (zero-test p.0 none) in
+      let test : true ≡ is_empty p = sym (eq-eqb p.0 0 none) in
       e ∙ (λ z. rows_given c q (as-set z) (cond (test z) None (Some (record { relation = r; param = p }))))
 
   pub rows-param : (r : RelNo) (p : RelSet) (n : ℕ) → ¬ (p.0 ≡ 0) → n ≡ param_rows c q.range q.classes r.0 (has p.0) → n ≡ rows_given c q (one r.0) (scan_given r p)
@@ -111,7 +108,7 @@ module _ (c : Contents) (q : Query) where
   -- its keys
   pub keys-whole : (s : ByIndex) (o : Option ℕ) (n : ℕ) → s.param.0 ≡ 0 → o ≡ slice_get (index_keys c q.classes s.index s.rel.0 s.backward) n → o ≡ slice_get (scan_keys c q s.rel s.index s.backward s.param) n
   keys-whole s o n none e =
-      let test : true ≡ is_empty s.param = sym (zero-test s.param.0 none) in
+      let test : true ≡ is_empty s.param = sym (eq-eqb s.param.0 0 none) in
       e ∙ (λ z. slice_get (cond (test z) (index_keys c q.classes s.index s.rel.0 s.backward) []) n)
 
   pub keys-param : (s : ByIndex) (n : ℕ) → ¬ (s.param.0 ≡ 0) → None ≡ slice_get (scan_keys c q s.rel s.index s.backward s.param) n

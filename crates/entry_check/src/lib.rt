@@ -14,9 +14,11 @@ mod scans;
 mod sets;
 
 pub use best::{finished_side, judge_table};
+pub use join_work;
 pub use judging::{judge_entries, judge_entry};
 pub use merges::{MergeWork, has_list, merge_of, merge_with, merge_work};
 pub use nests::{NestWork, nest_of, nest_with, nest_work, nest_work_given};
 pub use numbers::{Own, numbers_of};
+pub use plan_check;
 pub use scans::{ByIndex, is_built, key_at, rows_given};
 pub use sets::all_relations;

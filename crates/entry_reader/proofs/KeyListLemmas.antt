@@ -9,13 +9,13 @@ use Rattle.pg_base.specs.Names.{is_in_name}
 use Rattle.catalog.specs.Contents.{Contents, IsLawful}
 use Rattle.eq_classes.specs.Clauses.{Set, first_in}
 use Rattle.eq_classes.specs.Listing.{class_at}
-use Rattle.explain.specs.Texts.{key_text, keys_text, with_commas}
+use Rattle.certificate_entries.specs.explain_Texts.{key_text, keys_text, with_commas}
 use Rattle.pathkeys.specs.Keys.{Keys}
 use Rattle.sql_query.specs.Queries.{Query}
 use Rattle.sql_query.specs.WellBound.{IsWellBound}
-use Rattle.certificate_text.specs.HasText.{HasKeysText}
-use Rattle.certificate_lines.specs.Keys.{HasKeyText, ends_key, family_if}
-use Rattle.certificate_lines.proofs.KeyLemmas.{words-read}
+use Rattle.certificate_entries.specs.certificate_text_HasText.{HasKeysText}
+use Rattle.certificate_entries.specs.certificate_lines_Keys.{HasKeyText, ends_key, family_if}
+use Rattle.certificate_entries.specs.certificate_lines_KeyLemmas.{words-read}
 
 -- a name before a point does not begin with a parenthesis
 no-parenthesis : (alias name tail rest : List ℕ) → list_all is_in_name alias ≡ true → 41 ∷ rest ≡ (alias ++ (codes "." ++ name)) ++ tail → ⊥

@@ -5,7 +5,7 @@ use Rattle.pg_base.specs.declared.rel_set.RelSet.{RelSet}
 use Rattle.eq_classes.specs.Clauses.{Set}
 use Rattle.sql_query.specs.Queries.{Query}
 use Rattle.certificates.specs.Certificates.{Entry, Node}
-use Rattle.certificate_text.specs.HasText.{HasKeysText, HasStartup, IsSetOf, IsWritable}
+use Rattle.certificate_entries.specs.certificate_text_HasText.{HasKeysText, HasStartup, IsSetOf, IsWritable}
 use Rattle.entry_reader.specs.declared.measures.Measures.{Measures}
 
 -- the numbers and the keys of an entry

@@ -4,8 +4,8 @@ ghost use Rattle.std.specs.Prelude.{◌≡◌, ◌≤◌, ◌^◌, IfErr, IfOk, 
 ghost use Rattle.sql_query.specs.WellBound.{IsWellBound};
 ghost use Rattle.certificates.specs.Certificates as certs;
 ghost use Rattle.certificates.specs.Views.{certificate};
-ghost use Rattle.certificate_text.specs.HasText.{HasText};
-ghost use Rattle.certificate_text.specs.Texts as texts;
+ghost use Rattle.certificate_entries.specs.certificate_text_HasText.{HasText};
+ghost use Rattle.certificate_entries.specs.certificate_text_Texts as texts;
 ghost use Rattle.certificate_reader.specs.Reading.{IsFault};
 
 use crate::line::LineReader;

@@ -7,14 +7,14 @@ ghost use Rattle.sql_query.specs.WellBound.{IsWellBound};
 ghost use Rattle.certificates.specs.Certificates as certs;
 ghost use Rattle.certificates.specs.Views as views;
 ghost use Rattle.certificates.specs.Views.{entry};
-ghost use Rattle.certificate_text.specs.HasText.{HasEntryLine};
-ghost use Rattle.certificate_text.specs.Texts as texts;
+ghost use Rattle.certificate_entries.specs.certificate_text_HasText.{HasEntryLine};
+ghost use Rattle.certificate_entries.specs.certificate_text_Texts as texts;
 ghost use Rattle.entry_reader.specs.Parts.{AreSets, entry_by};
 
 use crate::measures::{Measures, read_measures};
 use catalog::Catalog;
+use certificate_entries::certificate_text::entry_line;
 use certificate_entries::{eat_number, read_node, read_sets};
-use certificate_text::entry_line;
 use certificates::{Entry, Node};
 use line_cursor::LineCursor;
 use pg_base::{Memory, RelSet};

@@ -7,4 +7,5 @@ mod line;
 mod measures;
 
 pub use certificate::read_certificate;
+pub use certificate_reader;
 pub use line::LineReader;

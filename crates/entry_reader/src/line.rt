@@ -4,14 +4,14 @@ ghost use Rattle.std.specs.Prelude.{◌≡◌, IfNone, IfOk, IfSome};
 ghost use Rattle.sql_query.specs.WellBound.{IsWellBound};
 ghost use Rattle.certificates.specs.Certificates as certs;
 ghost use Rattle.certificates.specs.Views.{entry, side};
-ghost use Rattle.certificate_text.specs.HasText.{HasEntryLine, IsEntryNumber};
-ghost use Rattle.certificate_text.specs.Texts as texts;
-ghost use Rattle.certificate_lines.specs.Reading.{IsBestRead, IsEntryRead, IsRead};
+ghost use Rattle.certificate_entries.specs.certificate_text_HasText.{HasEntryLine, IsEntryNumber};
+ghost use Rattle.certificate_entries.specs.certificate_text_Texts as texts;
+ghost use Rattle.certificate_entries.specs.certificate_lines_Reading.{IsBestRead, IsEntryRead, IsRead};
 
 use crate::entry::{is_entry_line, read_entry};
 use catalog::Catalog;
+use certificate_entries::certificate_lines::{Line, LineFault, ReadLine};
 use certificate_entries::{is_best_line, read_best};
-use certificate_lines::{Line, LineFault, ReadLine};
 use certificates::{Entry, Side};
 use line_cursor::LineCursor;
 use pg_base::Memory;

@@ -2,11 +2,11 @@
 
 ghost use Rattle.std.specs.Prelude.{◌≡◌, ◌++◌, ℕ, List, [], IfOk, IfSome, Some, codes};
 ghost use Rattle.pg_base.specs.Sets.{has};
-ghost use Rattle.explain.specs.Texts.{keys_text};
+ghost use Rattle.certificate_entries.specs.explain_Texts.{keys_text};
 ghost use Rattle.sql_query.specs.WellBound.{IsWellBound};
 ghost use Rattle.certificates.specs.Certificates as certs;
-ghost use Rattle.certificate_text.specs.HasText.{HasEntryLine, HasKeysText};
-ghost use Rattle.certificate_text.specs.Texts.{measures_text};
+ghost use Rattle.certificate_entries.specs.certificate_text_HasText.{HasEntryLine, HasKeysText};
+ghost use Rattle.certificate_entries.specs.certificate_text_Texts.{measures_text};
 ghost use Rattle.entry_reader.specs.Parts.{HasMeasuresText, measures_of};
 
 use catalog::Catalog;

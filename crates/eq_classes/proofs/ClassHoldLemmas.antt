@@ -1,9 +1,9 @@
 -- When the clauses of one class hold.
 use Rattle.std.proofs.Common.{◌≡◌, ℕ, Bool, true, false, inl, ⊎_elim, [], ◌∷◌, map, filter, Option, Some, None, refl, sym, ap, ◌∙◌}
 use Rattle.std.proofs.lemmas.Bool.{cases_Bool, and_from, true≢false, eq-eqb}
-use Rattle.pg_value.specs.declared.value.Value.{Value}
-use Rattle.pg_value.specs.Order.{IsOfFamily}
-use Rattle.pg_value.specs.Truths.{is_true}
+use Rattle.opfamily.specs.pg_value_value_Value.{Value}
+use Rattle.opfamily.specs.pg_value_Order.{IsOfFamily}
+use Rattle.opfamily.specs.pg_value_Truths.{is_true}
 use Rattle.pg_expr.specs.declared.operand.ColRef.{ColRef}
 use Rattle.pg_expr.specs.Truths.{truth_at}
 use Rattle.eq_classes.specs.Equality.{are_equal, is_column}

@@ -2,7 +2,7 @@
 -- constants, each of its members there equals each constant; and how that splits over two sets.
 use Rattle.std.proofs.Common.{◌≡◌, ℕ, Bool, true, false, ◌&&◌, ◌⊎◌, ⊎_elim, Option, Some, None, refl, sym, ap, ◌∙◌, subst}
 use Rattle.std.proofs.lemmas.Bool.{cases_Bool, and_parts, and_from, or_cases, or_left, or_right, true≢false, eq-eqb, eqb-true}
-use Rattle.pg_value.specs.declared.value.Value.{Value}
+use Rattle.opfamily.specs.pg_value_value_Value.{Value}
 use Rattle.pg_expr.specs.declared.operand.ColRef.{ColRef}
 use Rattle.eq_classes.specs.Equality.{are_equal, is_column}
 use Rattle.eq_classes.specs.Classes.{Class}

@@ -2,7 +2,7 @@
 -- scan with a parameter tests itself are among these.
 use Rattle.std.proofs.Common.{◌≡◌, ℕ, Bool, true, false, not, ◌&&◌, ⊎_elim, ◌++◌, refl, sym, ap, ◌∙◌, subst}
 use Rattle.std.proofs.lemmas.Bool.{cases_Bool, and_parts, and_from, or_cases, or_left, or_right, true≢false, eqb-true}
-use Rattle.pg_value.specs.declared.value.Value.{Value}
+use Rattle.opfamily.specs.pg_value_value_Value.{Value}
 use Rattle.pg_expr.specs.declared.operand.ColRef.{ColRef}
 use Rattle.eq_classes.specs.Equality.{are_equal, is_column}
 use Rattle.eq_classes.specs.Classes.{Class}

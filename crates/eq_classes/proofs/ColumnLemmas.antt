@@ -1,10 +1,11 @@
 -- What holds of each clause of conjuncts and an ORDER BY: the columns that it names pass a test where theirs do.
 use Rattle.std.proofs.Common.{◌≡◌, ℕ, suc, ◌<◌, is_some, Bool, true, false, ◌&&◌, ◌⊎◌, inl, inr, ⊎_elim, List, [], ◌∷◌, ◌++◌, length, map, filter, filter_map, All, Option, Some, None, option_map, refl, sym, ap, ◌∙◌, subst}
 use Rattle.std.proofs.lemmas.Bool.{cases_Bool, and_parts, and_from, true≢false}
-use Rattle.pg_value.specs.declared.operators.Family.{Family}
-use Rattle.pg_value.specs.declared.operators.Op.{Op}
-use Rattle.pg_value.specs.declared.value.SqlType.{SqlType}
-use Rattle.pg_value.specs.declared.value.Value.{Value}
+use Rattle.std.proofs.lemmas.Option.{same_Some}
+use Rattle.opfamily.specs.pg_value_operators_Family.{Family}
+use Rattle.opfamily.specs.pg_value_operators_Op.{Op}
+use Rattle.opfamily.specs.pg_value_value_SqlType.{SqlType}
+use Rattle.opfamily.specs.pg_value_value_Value.{Value}
 use Rattle.opfamily.specs.Answers.{default_family_of}
 use Rattle.pg_expr.specs.declared.operand.ColRef.{ColRef}
 use Rattle.pg_expr.specs.declared.operand.Operand.{Operand}
@@ -108,9 +109,6 @@ as_clause_passes test type_of (all_of cs) h = h
 as_clause_passes test type_of (any_of cs) h = h
 as_clause_passes test type_of (negation c) h = h
 
-some_mention : (m n : Mention) → Some m ≡ Some n → m ≡ n
-some_mention m n h = cc
-
 module _ (test : ColRef → Bool) (g : Premises) (pass : (k : Cond) → IsIn k g.conjuncts → each_column test k ≡ true) (items : (i : OrderItem) → IsIn i g.order → test i.col ≡ true) where
   equality_passes : (k : Cond) (e : Equality) → IsIn k g.conjuncts → equality_in g.type_of k ≡ Some e → (test e.left ≡ true) × Passes test e.right
   equality_passes k e i h =
@@ -130,11 +128,11 @@ module _ (test : ColRef → Bool) (g : Premises) (pass : (k : Cond) → IsIn k g
 
   by_left : (m : Mention) (k : Cond) → IsIn k g.conjuncts → (o : Option Equality) → equality_in g.type_of k ≡ o → option_map left_of o ≡ Some m → test m.column ≡ true
   by_left m k i None e h = cc
-  by_left m k i (Some q) e h = let is : left_of q ≡ m = some_mention (left_of q) m h in subst (λ (n : Mention). test n.column ≡ true) is (equality_passes k q i e).0
+  by_left m k i (Some q) e h = let is : left_of q ≡ m = same_Some (left_of q) m h in subst (λ (n : Mention). test n.column ≡ true) is (equality_passes k q i e).0
 
   by_item : (m : Mention) (item : OrderItem) → IsIn item g.order → (o : Option Family) → option_map (in_family item.col) o ≡ Some m → test m.column ≡ true
   by_item m item i None h = cc
-  by_item m item i (Some f) h = let is : in_family item.col f ≡ m = some_mention (in_family item.col f) m h in subst (λ (n : Mention). test n.column ≡ true) is (items item i)
+  by_item m item i (Some f) h = let is : in_family item.col f ≡ m = same_Some (in_family item.col f) m h in subst (λ (n : Mention). test n.column ≡ true) is (items item i)
 
   mention_passes : (m : Mention) → IsIn m (mentions g) → test m.column ≡ true
   mention_passes m h = ⊎_elim

@@ -3,9 +3,9 @@ use Rattle.std.proofs.Common.{◌≡◌, ℕ, zero, suc, ◌+◌, ◌*◌, ◌<�
 use Rattle.std.specs.List.{list_any}
 use Rattle.std.proofs.lemmas.Bool.{cases_Bool, cases_lt, and_parts, and_from, or_cases, or_left, or_right, true≢false, eq-eqb, lt-ltb, ltb-true}
 use Rattle.std.proofs.lemmas.Nat.{mul-le}
-use Rattle.pg_value.specs.declared.operators.Family.{Family}
-use Rattle.pg_value.specs.declared.value.SqlType.{SqlType}
-use Rattle.pg_value.specs.declared.value.Value.{Value}
+use Rattle.opfamily.specs.pg_value_operators_Family.{Family}
+use Rattle.opfamily.specs.pg_value_value_SqlType.{SqlType}
+use Rattle.opfamily.specs.pg_value_value_Value.{Value}
 use Rattle.pg_expr.specs.declared.operand.ColRef.{ColRef}
 use Rattle.pg_expr.specs.declared.operand.Operand.{Operand}
 use Rattle.pg_expr.specs.declared.operand.Operand.TheVariants.{Col, Lit}
@@ -221,9 +221,6 @@ distinct_apart f (v ∷ vs) a b (inl h) e =
     true≢false (sym w.1 ∙ ap not (ap (λ (u : Value). are_equal f u b) (sym h.0) ∙ e))
 distinct_apart f (v ∷ vs) a b (inr h) e = distinct_apart f vs a b (before_filter (λ u. not (are_equal f v u)) (distinct f vs) a b h) e
 
-column_same : (x y : ColRef) → Col x ≡ Col y → x ≡ y
-column_same x y h = cc
-
 module _ (g : Premises) (classes : List Class) (are : AreClasses g classes) where
   class_is : (c : Class) → IsIn c classes → IsClass g c
   class_is c i = all_at (IsClass g) classes are.each c i
@@ -268,7 +265,8 @@ module _ (g : Premises) (classes : List Class) (are : AreClasses g classes) wher
     no_pair x y b =
         let hx = in_member c x (earlier_in x y c.members b) in
         let l = ((class_is c ic).joined x y hx).0 (in_member c y (later_in x y c.members b)) in
-        let same : y ≡ x = column_same y x ((alone g c.family x (none_has x hx) (Col x) (Col y) l).0 refl) in
+        let alike : Col y ≡ Col x = (alone g c.family x (none_has x hx) (Col x) (Col y) l).0 refl in
+        let same : y ≡ x = cc in
         differ c ic x y b (ap (is_column x) same ∙ column_self x)
 
     class_alone : length c.members + length c.constants ≤ 1

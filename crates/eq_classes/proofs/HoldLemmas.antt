@@ -1,8 +1,8 @@
 -- Lists of clauses that hold, clause by clause.
 use Rattle.std.proofs.Common.{◌≡◌, Bool, true, false, not, ◌&&◌, ◌||◌, inl, inr, ⊎_elim, List, [], ◌∷◌, ◌++◌, map, flat_map, refl, sym, ap, ◌∙◌, subst}
 use Rattle.std.proofs.lemmas.Bool.{and_parts, and_from, true≢false}
-use Rattle.pg_value.specs.declared.value.Value.{Value}
-use Rattle.pg_value.specs.Truths.{is_true}
+use Rattle.opfamily.specs.pg_value_value_Value.{Value}
+use Rattle.opfamily.specs.pg_value_Truths.{is_true}
 use Rattle.pg_expr.specs.declared.operand.ColRef.{ColRef}
 use Rattle.pg_expr.specs.Truths.{truth_at}
 use Rattle.eq_classes.specs.Clauses.{Clause, each_pair}

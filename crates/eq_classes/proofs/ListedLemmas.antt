@@ -1,7 +1,7 @@
 -- The entries that are made of conjuncts and an ORDER BY are few, and name relations below 16.
 use Rattle.std.proofs.Common.{◌≡◌, ℕ, ◌<◌, ◌≤◌, ◌^◌, Bool, true, ◌&&◌, inl, inr, ⊎_elim, List, [], ◌∷◌, ◌++◌, length, map, All, nat_lt, refl, sym, ap, ◌∙◌, subst, arith}
 use Rattle.std.proofs.lemmas.Bool.{and_parts, lt-ltb, ltb-true}
-use Rattle.pg_value.specs.declared.value.SqlType.{SqlType}
+use Rattle.opfamily.specs.pg_value_value_SqlType.{SqlType}
 use Rattle.pg_expr.specs.declared.operand.ColRef.{ColRef}
 use Rattle.pg_expr.specs.declared.expr.Expr.{Expr}
 use Rattle.pg_expr.specs.Cond.{Cond}

@@ -1,9 +1,9 @@
 -- Columns put in order, and values noted once.
 use Rattle.std.proofs.Common.{◌≡◌, ℕ, suc, ◌+◌, ◌<◌, ◌≤◌, Bool, true, false, not, cond, ◌&&◌, ◌||◌, ◌⊎◌, inl, inr, ⊎_elim, List, [], ◌∷◌, ◌++◌, filter, insert, AllPairs, nat_eq, nat_lt, refl, sym, ap, ◌∙◌, subst, arith, append_assoc, append-nil}
 use Rattle.std.specs.List.{list_any, prefix_len}
-use Rattle.std.proofs.lemmas.Bool.{cases_Bool, cases_lt, and_from, or_left, or_right, true≢false, eq-eqb, lt-ltb}
-use Rattle.pg_value.specs.declared.operators.Family.{Family}
-use Rattle.pg_value.specs.declared.value.Value.{Value}
+use Rattle.std.proofs.lemmas.Bool.{cases_Bool, cases_lt, and_from, or_left, or_right, true≢false, eq-eqb, lt-ltb, or_parts}
+use Rattle.opfamily.specs.pg_value_operators_Family.{Family}
+use Rattle.opfamily.specs.pg_value_value_Value.{Value}
 use Rattle.pg_expr.specs.declared.operand.ColRef.{ColRef}
 use Rattle.pg_expr.specs.Pushed.{is_lower}
 use Rattle.eq_classes.specs.Equality.{is_column, are_equal}
@@ -89,14 +89,10 @@ ins_in c (x ∷ xs) y h = ⊎_elim
 abbrev pub Rises : List ColRef → Type 0
 Rises xs = (x y : ColRef) → Before x y xs → is_lower x y ≡ true
 
-or_none : (a b : Bool) → a || b ≡ false → (a ≡ false) × (b ≡ false)
-or_none true b e = absurd (true≢false e)
-or_none false b e = (refl, e)
-
 ins_rises : (c : ColRef) (xs : List ColRef) → list_any (is_column c) xs ≡ false → Rises xs → Rises (ins c xs)
 ins_rises c [] fresh rises x y h = ⊎_elim (λ (w : (x ≡ c) × ⊥). absurd w.1) (λ (w : ⊥). absurd w) h
 ins_rises c (z ∷ zs) fresh rises x y h =
-    let parts = or_none (is_column c z) (list_any (is_column c) zs) fresh in
+    let parts = or_parts (is_column c z) (list_any (is_column c) zs) fresh in
     ⊎_elim
     (λ (t : is_lower z c ≡ true). ⊎_elim
     (λ (w : (x ≡ z) × IsIn y (ins c zs)). ⊎_elim

@@ -2,10 +2,10 @@
 use Rattle.std.proofs.Common.{◌≡◌, ◌↔◌, ℕ, zero, suc, ◌+◌, ◌<◌, ◌≤◌, ◌^◌, Bool, true, false, not, ◌&&◌, ◌||◌, ◌⊎◌, inl, inr, ⊎_elim, nat_eq, nat_lt, List, [], ◌∷◌, ◌++◌, length, drop, get_or, slice_index_or, AllPairs, IfSome, IfNone, Option, Some, None, refl, sym, ap, ◌∙◌, subst, arith}
 use Rattle.std.specs.List.{list_any}
 use Rattle.std.proofs.lemmas.Bool.{cases_Bool, cases_lt, and_parts, and_from, or_cases, or_left, or_right, true≢false, eq-eqb, eqb-true}
-use Rattle.pg_base.specs.Sets.{has, Meets}
-use Rattle.pg_base.specs.declared.rel_set.RelSet.{RelSet}
-use Rattle.pg_base.specs.declared.numbers.RelNo.{RelNo}
-use Rattle.pg_base.proofs.SetLaws.{has-below}
+use Rattle.opfamily.specs.pg_base_Sets.{has, Meets}
+use Rattle.opfamily.specs.pg_base_rel_set_RelSet.{RelSet}
+use Rattle.opfamily.specs.pg_base_numbers_RelNo.{RelNo}
+use Rattle.opfamily.specs.pg_base_SetLaws.{has-below}
 use Rattle.pg_expr.specs.declared.operand.ColRef.{ColRef}
 use Rattle.pg_expr.specs.declared.operand.Operand.{Operand}
 use Rattle.pg_expr.specs.declared.operand.Operand.TheVariants.{Col, Lit}

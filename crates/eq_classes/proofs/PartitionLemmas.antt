@@ -2,8 +2,10 @@
 use Rattle.std.proofs.Common.{◌≡◌, Bool, true, false, not, ◌||◌, ◌⊎◌, inl, inr, ⊎_elim, List, [], ◌∷◌, ◌++◌, filter, Option, Some, None, refl, sym, ap, ◌∙◌, subst, append_assoc, append-nil}
 use Rattle.std.specs.List.{list_any}
 use Rattle.std.proofs.lemmas.Bool.{cases_Bool, and_parts, and_from, or_cases, or_left, or_right, true≢false}
-use Rattle.pg_value.specs.declared.operators.Family.{Family}
-use Rattle.pg_value.specs.declared.value.Value.{Value}
+use Rattle.std.proofs.lemmas.Option.{same_Some}
+use Rattle.std.proofs.Math.Bool.{or_assoc}
+use Rattle.opfamily.specs.pg_value_operators_Family.{Family}
+use Rattle.opfamily.specs.pg_value_value_Value.{Value}
 use Rattle.pg_expr.specs.declared.operand.ColRef.{ColRef}
 use Rattle.pg_expr.specs.declared.operand.Operand.{Operand}
 use Rattle.pg_expr.specs.declared.operand.Operand.TheVariants.{Col, Lit}
@@ -21,13 +23,9 @@ abbrev pub unite : Part → List Part → Part
 unite j [] = j
 unite j (p ∷ ps) = unite (united j p) ps
 
-or_shift : (x y z : Bool) → x || (y || z) ≡ (x || y) || z
-or_shift true y z = refl
-or_shift false y z = refl
-
 pub any-append : {A : Type 0} → (test : A → Bool) (xs ys : List A) → list_any test (xs ++ ys) ≡ list_any test xs || list_any test ys
 any-append test [] ys = refl
-any-append test (z ∷ zs) ys = ap (λ (t : Bool). test z || t) (any-append test zs ys) ∙ or_shift (test z) (list_any test zs) (list_any test ys)
+any-append test (z ∷ zs) ys = ap (λ (t : Bool). test z || t) (any-append test zs ys) ∙ sym (or_assoc (test z) (list_any test zs) (list_any test ys))
 
 pub united_is : (p q : Part) (x : Operand) → p.family ≡ q.family → has_side (united p q) x ≡ has_side p x || has_side q x
 united_is p q (Col c) e = any-append (is_column c) p.columns q.columns
@@ -243,9 +241,6 @@ module _ (g : Premises) (k : Cond) (e : Equality) (ik : IsIn k g.conjuncts) (is 
       })
       (cases_Bool (touches f l r j.part)))
 
-same_equality : (e d : Equality) → Some e ≡ Some d → e ≡ d
-same_equality e d h = cc
-
 literal_moves : (p : Part) (f : Family) → p.family ≡ f → (v w : Value) → are_equal f v w ≡ true → has_side p (Lit v) ≡ true → has_side p (Lit w) ≡ true
 literal_moves p f fam v w e h =
     let u = any_at (are_equal p.family v) p.literals h in
@@ -264,7 +259,7 @@ module _ (g : Premises) where
 
   added_new : (k : Cond) (o : Option Equality) → IsIn k g.conjuncts → equality_in g.type_of k ≡ o → (ps : List Part) → IsPartition g ps → (d : Equality) → o ≡ Some d → IsJoined (added o ps) d
   added_new k None ik is ps old d h = cc
-  added_new k (Some e) ik is ps old d h = subst (λ (a : Equality). IsJoined (added (Some e) ps) a) (same_equality e d h) (step_new g k e ik is ps old)
+  added_new k (Some e) ik is ps old d h = subst (λ (a : Equality). IsJoined (added (Some e) ps) a) (same_Some e d h) (step_new g k e ik is ps old)
 
   pub grouped_partition : (ks : List Cond) → ((k : Cond) → IsIn k ks → IsIn k g.conjuncts) → (ps : List Part) → IsPartition g ps → IsPartition g (grouped g.type_of ks ps)
   grouped_partition [] inside ps old = old

@@ -1,10 +1,10 @@
 -- Small lemmas that the search is given.
 use Rattle.std.proofs.Common.{◌≡◌, Bool, true, false, ℕ, zero, suc, ◌+◌, ◌<◌, get_or, drop, flat_map, filter, arith, cond, ◌&&◌, List, [], ◌∷◌, ◌++◌, length, map, is_some, append_assoc, append-nil, Option, Some, None, option_map, refl, sym, ap, ◌∙◌, subst}
 use Rattle.std.specs.List.{cons_option}
-use Rattle.pg_value.specs.declared.operators.Family.{Family}
-use Rattle.pg_value.specs.declared.value.SqlType.{SqlType}
-use Rattle.pg_value.specs.declared.value.Value.{Value}
-use Rattle.pg_value.specs.Order.{IsOfFamily}
+use Rattle.opfamily.specs.pg_value_operators_Family.{Family}
+use Rattle.opfamily.specs.pg_value_value_SqlType.{SqlType}
+use Rattle.opfamily.specs.pg_value_value_Value.{Value}
+use Rattle.opfamily.specs.pg_value_Order.{IsOfFamily}
 use Rattle.pg_expr.specs.declared.operand.ColRef.{ColRef}
 use Rattle.eq_classes.specs.Classes.{Class, is_family, has_member, is_in, left_of, in_family, is_some_and}
 use Rattle.eq_classes.specs.Building.{noted, noted_option, left_by}

@@ -2,9 +2,10 @@
 use Rattle.std.proofs.Common.{◌≡◌, suc, ◌+◌, ◌<◌, Bool, true, false, not, ◌&&◌, ◌⊎◌, inl, inr, ⊎_elim, List, [], ◌∷◌, length, filter_map, nat_eq, nat_lt, All, AllPairs, Contains, Option, Some, None, option_map, refl, sym, ap, ◌∙◌, subst, arith}
 use Rattle.std.specs.List.{position_or_len}
 use Rattle.std.proofs.lemmas.Bool.{cases_Bool, and_parts, or_cases, ltb-true}
-use Rattle.pg_value.specs.declared.operators.Family.{Family}
-use Rattle.pg_value.specs.declared.value.Value.{Value}
-use Rattle.pg_value.specs.Order.{IsOfFamily}
+use Rattle.std.proofs.lemmas.Option.{same_Some}
+use Rattle.opfamily.specs.pg_value_operators_Family.{Family}
+use Rattle.opfamily.specs.pg_value_value_Value.{Value}
+use Rattle.opfamily.specs.pg_value_Order.{IsOfFamily}
 use Rattle.pg_expr.specs.declared.operand.ColRef.{ColRef}
 use Rattle.pg_expr.specs.declared.operand.Operand.{Operand}
 use Rattle.pg_expr.specs.declared.operand.Operand.TheVariants.{Col, Lit}
@@ -76,9 +77,6 @@ position_found p (z ∷ zs) lt = ⊎_elim
     (w.0, inr w.1, w.2))
     (cases_Bool (p z))
 
-some_mention : (m n : Mention) → Some m ≡ Some n → m ≡ n
-some_mention m n h = cc
-
 -- no column is below itself
 not_lower : (x : ColRef) → is_lower x x ≡ true → ⊥
 not_lower x h = ⊎_elim
@@ -117,13 +115,13 @@ module _ (g : Premises) (b : ColRef → Value) (typed : All (IsTyped g.type_of) 
   mention_of : (m : Mention) (k : Cond) → IsIn k g.conjuncts → (o : Option Equality) → equality_in g.type_of k ≡ o → option_map left_of o ≡ Some m → IsOfFamily m.family (b m.column)
   mention_of m k i None e h = cc
   mention_of m k i (Some q) e h =
-      let is : left_of q ≡ m = some_mention (left_of q) m h in
+      let is : left_of q ≡ m = same_Some (left_of q) m h in
       subst (λ (n : Mention). IsOfFamily n.family (b n.column)) is (left_fits g.type_of b fits k q e (all_at (IsTyped g.type_of) g.conjuncts typed k i))
 
   mention_by : (m : Mention) (item : OrderItem) (o : Option Family) → default_family_of (g.type_of item.col) ≡ o → option_map (in_family item.col) o ≡ Some m → IsOfFamily m.family (b m.column)
   mention_by m item None e h = cc
   mention_by m item (Some f) e h =
-      let is : in_family item.col f ≡ m = some_mention (in_family item.col f) m h in
+      let is : in_family item.col f ≡ m = same_Some (in_family item.col f) m h in
       subst (λ (n : Mention). IsOfFamily n.family (b n.column)) is (ordered_fits g.type_of b fits item.col f e)
 
   mention_fits : (m : Mention) → IsIn m (mentions g) → IsOfFamily m.family (b m.column)

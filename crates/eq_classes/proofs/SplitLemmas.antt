@@ -1,9 +1,10 @@
 -- The clauses of a table inside a union of two sets, and those that a scan with a parameter tests itself.
 use Rattle.std.proofs.Common.{◌≡◌, ℕ, suc, Bool, true, false, not, ◌&&◌, ◌||◌, inl, inr, ⊎_elim, List, [], ◌∷◌, ◌++◌, is_some, refl, sym, ap, ◌∙◌}
 use Rattle.std.proofs.lemmas.Bool.{cases_Bool, and_parts, or_cases, or_left, or_right, true≢false, eqb-true}
-use Rattle.pg_value.specs.declared.value.SqlType.{SqlType}
-use Rattle.pg_value.specs.declared.value.Value.{Value}
-use Rattle.pg_value.specs.Truths.{is_true}
+use Rattle.std.proofs.Math.Bool.{and-true}
+use Rattle.opfamily.specs.pg_value_value_SqlType.{SqlType}
+use Rattle.opfamily.specs.pg_value_value_Value.{Value}
+use Rattle.opfamily.specs.pg_value_Truths.{is_true}
 use Rattle.pg_expr.specs.declared.operand.ColRef.{ColRef}
 use Rattle.pg_expr.specs.Cond.{Cond}
 use Rattle.pg_expr.specs.Columns.{names_rel}
@@ -90,10 +91,6 @@ module _ (P : List Clause → Type 0) (none : P []) (append : (ks ls : List Clau
   of_classes n [] each = none
   of_classes n (c ∷ cs) each = append (class_clauses n c) (clauses_from (suc n) cs) (each n c (inl refl)) (of_classes (suc n) cs (λ m d i. each m d (inr i)))
 
-and_true : (x : Bool) → x && true ≡ x
-and_true true = refl
-and_true false = refl
-
 module _ (b : ColRef → Value) (type_of : ColRef → SqlType) (conjuncts : List Cond) (classes : List Class) (sound : (c : Class) → IsIn c classes → IsSound b c) where
   abbrev table : List Clause
   table = clause_list type_of conjuncts classes
@@ -104,7 +101,7 @@ module _ (b : ColRef → Value) (type_of : ColRef → SqlType) (conjuncts : List
       let append = splits-append b (is_all (union s t)) (is_all s) (is_all t) (is_join s t) in
       append (conjunct_clauses type_of 1 conjuncts) (clauses_from 0 classes)
       (of_conjuncts P refl append type_of 1 conjuncts (λ e n.
-      rw (and_true (not (is_inside (union s t) e) || is_true (truth_at b e)), and_true (not (is_inside s e) || is_true (truth_at b e)), and_true (not (is_inside t e) || is_true (truth_at b e)), and_true (not (is_join s t (clause e (by_conjunct n))) || is_true (truth_at b e)))
+      rw (and-true (not (is_inside (union s t) e) || is_true (truth_at b e)), and-true (not (is_inside s e) || is_true (truth_at b e)), and-true (not (is_inside t e) || is_true (truth_at b e)), and-true (not (is_join s t (clause e (by_conjunct n))) || is_true (truth_at b e)))
       (one_clause (is_inside s e) (is_inside t e) (is_inside (union s t) e) (is_true (truth_at b e)) (inside_more s (union s t) e (λ k is. or_left (s k) (t k) is)) (inside_more t (union s t) e (λ k is. or_right (s k) (t k) is)))))
       (of_classes P refl append 0 classes (λ m c i. class_splits b m c (sound c i) s t apart))
 
@@ -125,7 +122,7 @@ module _ (b : ColRef → Value) (type_of : ColRef → SqlType) (conjuncts : List
       let append = parts-append b (is_all s) (is_join s (one r)) (is_param r p) (is_join_param s r p) in
       append (conjunct_clauses type_of 1 conjuncts) (clauses_from 0 classes)
       (of_conjuncts P (λ none. refl) append type_of 1 conjuncts (λ e n holds.
-      rw (and_true (not (is_join s (one r) (clause e (by_conjunct n))) || is_true (truth_at b e)), and_true (not (is_param r p (clause e (by_conjunct n))) || is_true (truth_at b e)), and_true (not (is_join_param s r p (clause e (by_conjunct n))) || is_true (truth_at b e)))
+      rw (and-true (not (is_join s (one r) (clause e (by_conjunct n))) || is_true (truth_at b e)), and-true (not (is_param r p (clause e (by_conjunct n))) || is_true (truth_at b e)), and-true (not (is_join_param s r p (clause e (by_conjunct n))) || is_true (truth_at b e)))
       (one_param (is_param r p (clause e (by_conjunct n))) (is_join s (one r) (clause e (by_conjunct n))) (is_true (truth_at b e)) (param_joins s p r part out e n))))
       (of_classes P (λ none. refl) append 0 classes (λ m c i. class_params b m c (sound c i) s p r part out))
       h

@@ -1,16 +1,16 @@
 -- The clauses of conjuncts and an ORDER BY are well typed where the conjuncts are, and have few atoms.
 use Rattle.std.proofs.Common.{◌≡◌, ◌≤◌, ℕ, ◌&&◌, is_some, Bool, true, false, ⊎_elim, List, All, refl, arith}
 use Rattle.std.proofs.lemmas.Bool.{cases_Bool}
-use Rattle.pg_value.specs.declared.operators.Family.{Family}
-use Rattle.pg_value.specs.declared.operators.Family.TheVariants as families
-use Rattle.pg_value.specs.declared.operators.Op.{Op}
-use Rattle.pg_value.specs.declared.value.SqlType.{SqlType}
-use Rattle.pg_value.specs.declared.value.SqlType.TheVariants.{Int2, Int4, Int8, Text as TextType, Bool as BoolType}
-use Rattle.pg_value.specs.declared.value.Value.{Value}
-use Rattle.pg_value.specs.declared.value.Value.TheVariants.{Null, Int, Bool as Flag, Text as String}
-use Rattle.pg_value.specs.Order.{IsOfFamily}
-use Rattle.pg_value.specs.Truths.{AreComparable}
-use Rattle.pg_value.specs.Types.{IsOfType}
+use Rattle.opfamily.specs.pg_value_operators_Family.{Family}
+use Rattle.opfamily.specs.pg_value_operators_Family_TheVariants as families
+use Rattle.opfamily.specs.pg_value_operators_Op.{Op}
+use Rattle.opfamily.specs.pg_value_value_SqlType.{SqlType}
+use Rattle.opfamily.specs.pg_value_value_SqlType_TheVariants.{Int2, Int4, Int8, Text as TextType, Bool as BoolType}
+use Rattle.opfamily.specs.pg_value_value_Value.{Value}
+use Rattle.opfamily.specs.pg_value_value_Value_TheVariants.{Null, Int, Bool as Flag, Text as String}
+use Rattle.opfamily.specs.pg_value_Order.{IsOfFamily}
+use Rattle.opfamily.specs.pg_value_Truths.{AreComparable}
+use Rattle.opfamily.specs.pg_value_Types.{IsOfType}
 use Rattle.pg_expr.specs.declared.operand.ColRef.{ColRef}
 use Rattle.pg_expr.specs.declared.operand.Operand.{Operand}
 use Rattle.pg_expr.specs.declared.operand.Operand.TheVariants.{Col, Lit}

@@ -1,13 +1,13 @@
 -- The clauses of all relations hold exactly where every conjunct is true.
 use Rattle.std.proofs.Common.{◌≡◌, ℕ, suc, Bool, true, false, not, ◌||◌, ◌⊎◌, inl, inr, ⊎_elim, List, [], ◌∷◌, length, nat_lt, arith, filter_map, All, Option, Some, None, option_map, is_some, refl, sym, ap, ◌∙◌, subst}
 use Rattle.std.specs.List.{list_any}
-use Rattle.std.proofs.lemmas.Bool.{cases_Bool, and_parts, and_from, true≢false, lt-ltb}
-use Rattle.pg_value.specs.declared.operators.Family.{Family}
-use Rattle.pg_value.specs.declared.operators.Op.{Op}
-use Rattle.pg_value.specs.declared.value.SqlType.{SqlType}
-use Rattle.pg_value.specs.declared.value.Value.{Value}
-use Rattle.pg_value.specs.declared.value.Value.TheVariants.{Null, Int, Bool as Flag, Text as String}
-use Rattle.pg_value.specs.Truths.{is_true}
+use Rattle.std.proofs.lemmas.Bool.{cases_Bool, and_parts, and_from, true≢false, lt-ltb, or_right}
+use Rattle.opfamily.specs.pg_value_operators_Family.{Family}
+use Rattle.opfamily.specs.pg_value_operators_Op.{Op}
+use Rattle.opfamily.specs.pg_value_value_SqlType.{SqlType}
+use Rattle.opfamily.specs.pg_value_value_Value.{Value}
+use Rattle.opfamily.specs.pg_value_value_Value_TheVariants.{Null, Int, Bool as Flag, Text as String}
+use Rattle.opfamily.specs.pg_value_Truths.{is_true}
 use Rattle.pg_expr.specs.declared.operand.ColRef.{ColRef}
 use Rattle.pg_expr.specs.declared.operand.Operand.{Operand}
 use Rattle.pg_expr.specs.declared.operand.Operand.TheVariants.{Col, Lit}
@@ -58,13 +58,6 @@ has_some (z ∷ zs) v h = lt-ltb 0 (suc (length zs)) (omega arith)
 pub some_in : (vs : List Value) → nat_lt 0 (length vs) ≡ true → (v : Value) × IsIn v vs
 some_in [] h = absurd (true≢false (sym h))
 some_in (z ∷ zs) h = (z, inl refl)
-
-or_right' : (x y : Bool) → y ≡ true → x || y ≡ true
-or_right' true y e = refl
-or_right' false y e = e
-
-same_column : (x y : ColRef) → Col x ≡ Col y → x ≡ y
-same_column x y e = cc
 
 not_other : (c d : ColRef) → is_other c (Col d) ≡ true → is_column c d ≡ false
 not_other c d h = ⊎_elim (λ (t : is_column c d ≡ true). absurd (true≢false (sym h ∙ ap not t))) (λ (t : is_column c d ≡ false). t) (cases_Bool (is_column c d))
@@ -178,12 +171,12 @@ module _ (g : Premises) (classes : List Class) (are : AreClasses g classes) (b :
     conjuncts_hold m [] each = refl
     conjuncts_hold m (k ∷ ks) each = ⊎_elim
         (λ (t : is_some (equality_in g.type_of k) ≡ true). rw t (conjuncts_hold (suc m) ks (λ j i. each j (inr i))))
-        (λ (t : is_some (equality_in g.type_of k) ≡ false). rw t (and_from _ _ (or_right' (not (is_inside set (as_clause g.type_of k))) (is_true (truth_at b (as_clause g.type_of k))) (as_truth g.type_of b k ∙ each k (inl refl))) (conjuncts_hold (suc m) ks (λ j i. each j (inr i)))))
+        (λ (t : is_some (equality_in g.type_of k) ≡ false). rw t (and_from _ _ (or_right (not (is_inside set (as_clause g.type_of k))) (is_true (truth_at b (as_clause g.type_of k))) (as_truth g.type_of b k ∙ each k (inl refl))) (conjuncts_hold (suc m) ks (λ j i. each j (inr i)))))
         (cases_Bool (is_some (equality_in g.type_of k)))
 
     equal_members : (c : Class) (i : IsIn c classes) (x y : ColRef) → IsIn x c.members → IsIn y c.members → (x ≡ y) ⊎ (are_equal c.family (b x) (b y) ≡ true)
     equal_members c i x y ix iy = ⊎_elim
-        (λ (e : Col x ≡ Col y). inl (same_column x y e))
+        (λ (e : Col x ≡ Col y). inl (cc))
         (λ (e : are_equal c.family (b x) (b y) ≡ true). inr e)
         (linked_equal g b typed fits true_at c.family (Col x) (Col y) (((own c i).joined x y (in_member c x ix)).0 (in_member c y iy)))
 

@@ -2,7 +2,8 @@
 use Rattle.std.proofs.Common.{◌≡◌, ℕ, zero, suc, ◌+◌, ◌*◌, ◌<◌, ◌≤◌, Bool, true, false, not, cond, inl, inr, ⊎_elim, List, [], ◌∷◌, ◌++◌, length, filter, filter_map, slice_index_or, nat_lt, Option, Some, None, option_map, refl, sym, ap, ◌∙◌, subst, arith}
 use Rattle.std.specs.List.{position_or_len, cons_option}
 use Rattle.std.proofs.lemmas.Bool.{cases_Bool, cases_lt, and_parts, true≢false, lt-ltb, ltb-true}
-use Rattle.pg_value.specs.declared.operators.Family.{Family}
+use Rattle.std.proofs.lemmas.Option.{same_Some}
+use Rattle.opfamily.specs.pg_value_operators_Family.{Family}
 use Rattle.opfamily.specs.Answers.{default_family_of}
 use Rattle.pg_expr.specs.declared.operand.ColRef.{ColRef}
 use Rattle.pg_expr.specs.Cond.{Cond}
@@ -46,16 +47,10 @@ two_parts test (x ∷ xs) =
     (λ (t : test x ≡ false). rw t (omega (arith, e)))
     (cases_Bool (test x))
 
-some_mention : (m n : Mention) → Some m ≡ Some n → m ≡ n
-some_mention m n h = cc
-
-some_family : (f h : Family) → Some f ≡ Some h → f ≡ h
-some_family f h e = cc
-
 of_item : (x : ColRef) (o : Option Family) (m : Mention) → option_map (in_family x) o ≡ Some m → (m.column ≡ x) × (o ≡ Some m.family)
 of_item x None m h = cc
 of_item x (Some f) m h =
-    let e : in_family x f ≡ m = some_mention (in_family x f) m h in
+    let e : in_family x f ≡ m = same_Some (in_family x f) m h in
     (ap (λ (n : Mention). n.column) (sym e), ap (λ (n : Mention). Some n.family) e)
 
 module _ (g : Premises) (classes : List Class) (are : AreClasses g classes) (near : (i : OrderItem) → IsIn i g.order → i.col.rel.0 < 16) (narrow : (i : OrderItem) → IsIn i g.order → i.col.col.0 < 256) where
@@ -121,7 +116,7 @@ module _ (g : Premises) (classes : List Class) (are : AreClasses g classes) (nea
       let same : (mention_at c).column ≡ (mention_at d).column = same_code (mention_at c).column (mention_at d).column
       (subst (λ (x : ColRef). x.col.0 < 256) (sym v.2) (narrow v.0 v.1)) (subst (λ (x : ColRef). x.col.0 < 256) (sym w.2) (narrow w.0 w.1)) e in
       let item : (v.0).col ≡ (w.0).col = sym v.2 ∙ same ∙ w.2 in
-      let fam : (mention_at c).family ≡ (mention_at d).family = some_family (mention_at c).family (mention_at d).family (sym v.3 ∙ ap (λ (x : ColRef). default_family_of (g.type_of x)) item ∙ w.3) in
+      let fam : (mention_at c).family ≡ (mention_at d).family = same_Some (mention_at c).family (mention_at d).family (sym v.3 ∙ ap (λ (x : ColRef). default_family_of (g.type_of x)) item ∙ w.3) in
       let jc = (is_late c ic).0 in
       let jd = (is_late d id).0 in
       let pc = and_parts (is_family c.family (mention_at c).family) (has_member c (mention_at c).column) (in_own c jc) in

@@ -1,11 +1,11 @@
 -- The conjuncts of conditions as written have their truth, types, columns and atoms.
 use Rattle.std.proofs.Common.{◌≡◌, ◌≤◌, ℕ, Bool, true, false, ◌&&◌, inl, inr, ⊎_elim, List, [], ◌∷◌, All, refl, sym, ap, ◌∙◌, subst, arith}
 use Rattle.std.proofs.lemmas.Bool.{and_parts, and_from, or_right}
-use Rattle.pg_value.specs.declared.operators.Truth.{Truth}
-use Rattle.pg_value.specs.declared.operators.Truth.TheVariants.{True, False, Unknown}
-use Rattle.pg_value.specs.declared.value.SqlType.{SqlType}
-use Rattle.pg_value.specs.declared.value.Value.{Value}
-use Rattle.pg_value.specs.Truths.{is_true, both}
+use Rattle.opfamily.specs.pg_value_operators_Truth.{Truth}
+use Rattle.opfamily.specs.pg_value_operators_Truth_TheVariants.{True, False, Unknown}
+use Rattle.opfamily.specs.pg_value_value_SqlType.{SqlType}
+use Rattle.opfamily.specs.pg_value_value_Value.{Value}
+use Rattle.opfamily.specs.pg_value_Truths.{is_true, both}
 use Rattle.pg_expr.specs.declared.operand.ColRef.{ColRef}
 use Rattle.pg_expr.specs.declared.operand.Operand.{Operand}
 use Rattle.pg_expr.specs.declared.operand.Operand.TheVariants.{Col, Lit}

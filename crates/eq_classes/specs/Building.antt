@@ -1,10 +1,10 @@
 -- How the classes are made of the groups, mention by mention. Own.
 use Rattle.std.specs.Prelude.{◌≡◌, ◌<◌, ℕ, nat_eq, Bool, false, cond, ◌&&◌, List, [], ◌∷◌, ◌++◌, map, find, insert, Option, Some, None}
 use Rattle.std.specs.List.{list_any, prefix_len}
-use Rattle.pg_base.specs.Sets.{has}
-use Rattle.pg_value.specs.declared.operators.Family.{Family}
-use Rattle.pg_value.specs.declared.value.SqlType.{SqlType}
-use Rattle.pg_value.specs.declared.value.Value.{Value}
+use Rattle.opfamily.specs.pg_base_Sets.{has}
+use Rattle.opfamily.specs.pg_value_operators_Family.{Family}
+use Rattle.opfamily.specs.pg_value_value_SqlType.{SqlType}
+use Rattle.opfamily.specs.pg_value_value_Value.{Value}
 use Rattle.pg_expr.specs.declared.operand.ColRef.{ColRef}
 use Rattle.pg_expr.specs.declared.expr.Expr.{Expr}
 use Rattle.pg_expr.specs.Cond.{Cond}
@@ -23,6 +23,7 @@ given type_of es order = record { conjuncts = map view.cond es; order = order; t
 abbrev pub inserted : ColRef → List ColRef → List ColRef
 inserted c xs = cond (list_any (is_column c) xs) xs (insert xs (prefix_len (λ x. is_lower x c) xs) c)
 
+-- columns put in order of (relation, column) one by one, each once
 abbrev pub arranged : List ColRef → List ColRef → List ColRef
 arranged [] xs = xs
 arranged (c ∷ cs) xs = arranged cs (inserted c xs)
@@ -31,6 +32,7 @@ arranged (c ∷ cs) xs = arranged cs (inserted c xs)
 abbrev pub is_group_of : Family → ColRef → Part → Bool
 is_group_of f x p = is_family f p.family && list_any (is_column x) p.columns
 
+-- the columns of a group in order; without a group the column alone, as one that only ORDER BY names
 abbrev pub columns_by : ColRef → Option Part → List ColRef
 columns_by x None = x ∷ []
 columns_by x (Some p) = arranged p.columns []
@@ -48,10 +50,12 @@ abbrev pub noted : Family → List Value → List Value → List Value
 noted f [] known = known
 noted f (v ∷ vs) known = noted f vs (cond (list_any (are_equal f v) known) known (known ++ v ∷ []))
 
+-- one literal noted as a constant, where there is one and none equal to it in the family is
 abbrev pub noted_option : Family → Option Value → List Value → List Value
 noted_option f None known = known
 noted_option f (Some v) known = cond (list_any (are_equal f v) known) known (known ++ v ∷ [])
 
+-- the class of these members, with its constants in the order written and the direction that ORDER BY gives it
 abbrev pub class_with : Premises → Family → List ColRef → Class
 class_with g f members = record {
   family = f;
@@ -66,10 +70,12 @@ abbrev pub with_mention : Premises → List Part → Option Mention → List Cla
 with_mention g ps None cs = cs
 with_mention g ps (Some m) cs = cond (list_any (λ c. is_in c m) cs) cs (cs ++ class_with g m.family (members_of ps m.family m.column) ∷ [])
 
+-- the left column of an equality conjunct beside its family; none of any other conjunct
 abbrev pub left_by : Option Equality → Option Mention
 left_by None = None
 left_by (Some e) = Some (left_of e)
 
+-- the column and family by which a conjunct names its class; none where it is no equality
 abbrev pub mention_in : (ColRef → SqlType) → Cond → Option Mention
 mention_in type_of k = left_by (equality_in type_of k)
 
@@ -78,10 +84,12 @@ abbrev pub by_conjuncts : Premises → List Part → List Cond → List Class �
 by_conjuncts g ps [] cs = cs
 by_conjuncts g ps (k ∷ ks) cs = by_conjuncts g ps ks (with_mention g ps (mention_in g.type_of k) cs)
 
+-- then the classes of ORDER BY columns that are in none yet
 abbrev pub by_order : Premises → List Part → List OrderItem → List Class → List Class
 by_order g ps [] cs = cs
 by_order g ps (i ∷ is) cs = by_order g ps is (with_mention g ps (ordered_by g.type_of i) cs)
 
+-- all classes of the premises: numbered by their first conjunct, those that ORDER BY alone names behind them
 abbrev pub all_classes : Premises → List Class
 all_classes g =
     let ps = grouped g.type_of g.conjuncts [] in

@@ -2,9 +2,9 @@
 -- Source: PostgreSQL, src/backend/optimizer/README (EquivalenceClasses); numbers and orders are own.
 use Rattle.std.specs.Prelude.{◌≡◌, ◌↔◌, flat_map, ◌<◌, ℕ, Bool, true, false, not, cond, ◌&&◌, nat_eq, IsTrue, List, [], ◌∷◌, ◌++◌, length, filter, find, filter_map, All, AllPairs, Contains, Option, Some, None, option_map}
 use Rattle.std.specs.List.{list_any, position_or_len, position_from}
-use Rattle.pg_value.specs.declared.operators.Family.{Family}
-use Rattle.pg_value.specs.declared.value.SqlType.{SqlType}
-use Rattle.pg_value.specs.declared.value.Value.{Value}
+use Rattle.opfamily.specs.pg_value_operators_Family.{Family}
+use Rattle.opfamily.specs.pg_value_value_SqlType.{SqlType}
+use Rattle.opfamily.specs.pg_value_value_Value.{Value}
 use Rattle.opfamily.specs.Answers.{family_place, default_family_of}
 use Rattle.pg_expr.specs.declared.operand.ColRef.{ColRef}
 use Rattle.pg_expr.specs.declared.operand.Operand.{Operand}
@@ -38,9 +38,11 @@ pub record Class : Type 0 where
   pub descending : Bool
   pub nulls_first : Bool
 
+-- two families are one; classes of different families stay apart (README, EquivalenceClasses: ec_opfamilies)
 abbrev pub is_family : Family → Family → Bool
 is_family f g = nat_eq (family_place f) (family_place g)
 
+-- a column is one of the class's, whatever the family
 abbrev pub has_member : Class → ColRef → Bool
 has_member c x = list_any (is_column x) c.members
 
@@ -49,12 +51,15 @@ pub record Mention : Type 0 where
   pub family : Family
   pub column : ColRef
 
+-- a column beside a family is in a class: it is a member, and the class is of this family
 abbrev pub is_in : Class → Mention → Bool
 is_in c m = is_family c.family m.family && has_member c m.column
 
+-- the left column of an equality conjunct beside its family: by these its class is found
 abbrev pub left_of : Equality → Mention
 left_of e = record { family = e.family; column = e.left }
 
+-- a column beside the family in which its class is looked for
 abbrev pub in_family : ColRef → Family → Mention
 in_family x f = record { family = f; column = x }
 
@@ -74,6 +79,7 @@ mentions g = filter_map (λ k. option_map left_of (equality_in g.type_of k)) g.c
 abbrev pub first_mention : Premises → Class → ℕ
 first_mention g c = position_or_len (is_in c) (mentions g)
 
+-- the literal on the right of an equality; none where a column stands there
 abbrev pub literal_of : Operand → Option Value
 literal_of (Col d) = None
 literal_of (Lit v) = Some v
@@ -92,6 +98,7 @@ abbrev pub distinct : Family → List Value → List Value
 distinct f [] = []
 distinct f (v ∷ vs) = v ∷ filter (λ w. not (are_equal f v w)) (distinct f vs)
 
+-- there is a value, and it passes a test
 abbrev pub is_some_and : {A : Type 0} → (A → Bool) → Option A → Bool
 is_some_and test None = false
 is_some_and test (Some x) = test x

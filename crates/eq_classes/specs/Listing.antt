@@ -1,9 +1,9 @@
 -- What a `Classes` stands for: the clause of an entry, the relations that it names, and the table of them all. Own.
 use Rattle.std.specs.Prelude.{◌≡◌, Option, Some, None, ℕ, false, cond, is_some, List, [], ◌∷◌, map, slice_index_or}
-use Rattle.pg_value.specs.declared.operators.Family.TheVariants.{Integer}
+use Rattle.opfamily.specs.pg_value_operators_Family_TheVariants.{Integer}
 use Rattle.pg_expr.specs.declared.operand.ColRef.{ColRef}
-use Rattle.pg_value.specs.declared.value.SqlType.{SqlType}
-use Rattle.pg_value.specs.declared.operators.Truth.TheVariants.{True}
+use Rattle.opfamily.specs.pg_value_value_SqlType.{SqlType}
+use Rattle.opfamily.specs.pg_value_operators_Truth_TheVariants.{True}
 use Rattle.pg_expr.specs.Cond.{Cond, const}
 use Rattle.eq_classes.specs.Equality.{equality_in, as_clause}
 use Rattle.pg_expr.specs.View as view
@@ -11,11 +11,12 @@ use Rattle.eq_classes.specs.declared.clauses.Origin.{Origin}
 use Rattle.eq_classes.specs.declared.clauses.Origin.TheVariants.{Conjunct, Class as OfClass, Pair}
 use Rattle.eq_classes.specs.declared.clauses.Listed.{Listed}
 use Rattle.eq_classes.specs.Classes.{Class}
-use Rattle.pg_base.specs.declared.rel_set.RelSet.{RelSet}
-use Rattle.pg_base.specs.Sets.{has}
+use Rattle.opfamily.specs.pg_base_rel_set_RelSet.{RelSet}
+use Rattle.opfamily.specs.pg_base_Sets.{has}
 use Rattle.pg_expr.specs.Columns.{names_rel}
 use Rattle.eq_classes.specs.Clauses.{Source, by_conjunct, by_class, by_pair, Clause, clause, inner_clause, first_in, one, Table}
 
+-- a class of no columns: what stands where a number is none of a class
 abbrev pub blank : Class
 blank = record { family = Integer; members = []; constants = []; descending = false; nulls_first = false }
 
@@ -23,14 +24,17 @@ blank = record { family = Integer; members = []; constants = []; descending = fa
 abbrev pub class_at : List Class → ℕ → Class
 class_at cs n = slice_index_or cs n blank
 
+-- the source of an entry's clause, with the class that the entry has by number
 abbrev pub source_of : List Class → Origin → Source
 source_of cs (Conjunct n) = by_conjunct n
 source_of cs (OfClass n) = by_class n (class_at cs n)
 source_of cs (Pair n l h) = by_pair n (class_at cs n) l.0 h.0
 
+-- the clause that an entry stands for
 abbrev pub clause_of : List Class → Listed → Clause
 clause_of cs k = clause (view.cond k.expr) (source_of cs k.origin)
 
+-- the clauses of all entries, in the order of their numbers, from 0
 abbrev pub clauses_of : List Class → List Listed → List Clause
 clauses_of cs ks = map (clause_of cs) ks
 

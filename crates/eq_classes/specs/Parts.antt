@@ -2,13 +2,14 @@
 -- Source: PostgreSQL, src/backend/optimizer/README (restriction and join clauses, parameterized paths); the choice of pair clauses is own.
 use Rattle.std.specs.Prelude.{ℕ, suc, Bool, true, false, not, cond, ◌&&◌, ◌||◌, nat_eq, List, [], ◌∷◌, map, slice_get, Option, Some, None}
 use Rattle.std.specs.List.{list_any}
-use Rattle.pg_base.specs.declared.numbers.RelNo.{RelNo}
+use Rattle.opfamily.specs.pg_base_numbers_RelNo.{RelNo}
 use Rattle.pg_expr.specs.declared.operand.ColRef.{ColRef}
 use Rattle.pg_expr.specs.Cond.{Cond}
 use Rattle.pg_expr.specs.Columns.{some_column, each_column, names_rel}
 use Rattle.eq_classes.specs.Classes.{Class}
 use Rattle.eq_classes.specs.Clauses.{Set, one, Source, by_conjunct, by_class, by_pair, Clause, first_in, has_constant}
 
+-- the relations of either of two sets: those of a join of them
 abbrev pub union : Set → Set → Set
 union a b k = a k || b k
 
@@ -33,6 +34,7 @@ abbrev pub is_relation_of : Option ColRef → ℕ → Bool
 is_relation_of None r = false
 is_relation_of (Some x) r = nat_eq x.rel.0 r
 
+-- a relation is the lowest of a set in which a class has a member, so that its pair clause stands for the set
 abbrev pub is_lowest : Class → Set → ℕ → Bool
 is_lowest c set r = is_relation_of (first_in c set) r
 
@@ -56,6 +58,7 @@ is_param_from r p e (by_conjunct n) = is_inside (union (one r) p) e && (names_re
 is_param_from r p e (by_class n c) = false
 is_param_from r p e (by_pair n c l h) = are_lowest c (one r) p l h
 
+-- a clause of Param(r, P): it joins r with relations of P, and a scan of r that is given their rows tests it
 abbrev pub is_param : ℕ → Set → Clause → Bool
 is_param r p k = is_param_from r p k.cond k.source
 
@@ -66,6 +69,7 @@ is_join_from a b e (by_conjunct n) = is_inside (union a b) e && (not (is_inside 
 is_join_from a b e (by_class n c) = false
 is_join_from a b e (by_pair n c l h) = are_lowest c a b l h
 
+-- a clause of Join(A, B): a join of A with B tests it, and neither side has
 abbrev pub is_join : Set → Set → Clause → Bool
 is_join a b k = is_join_from a b k.cond k.source
 
@@ -75,6 +79,7 @@ is_left_out r p e (by_conjunct n) = is_param_from r p e (by_conjunct n)
 is_left_out r p e (by_class n c) = has_in c (one r) && has_in c p
 is_left_out r p e (by_pair n c l h) = has_in c (one r) && has_in c p
 
+-- a clause of Join(A, (r, P)): a join of A with a scan of r that is given rows of P tests it, and the scan has not
 abbrev pub is_join_param : Set → ℕ → Set → Clause → Bool
 is_join_param a r p k = is_join a (one r) k && not (is_left_out r p k.cond k.source)
 
@@ -85,6 +90,7 @@ is_all_from set e (by_conjunct n) = is_inside set e
 is_all_from set e (by_class n c) = is_inside set e
 is_all_from set e (by_pair n c l h) = is_lowest c set l && set h
 
+-- a clause of All(S): each one that the rows of S alone decide, with no pair clause that others of S imply
 abbrev pub is_all : Set → Clause → Bool
 is_all set k = is_all_from set k.cond k.source
 

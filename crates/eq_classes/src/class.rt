@@ -2,14 +2,14 @@
 
 ghost use Rattle.std.specs.Prelude.{◌≡◌, ◌<◌, ℕ, nat_eq, ◌||◌, AllPairs, filter, Some, ◌∷◌, [], ◌++◌, cond, find, insert, map, option_map, IfOk, OnOk, IsTrue, All, IfSome, length, ◌≤◌, ◌+◌, ◌&&◌};
 ghost use Rattle.std.specs.List.{list_any, prefix_len};
-ghost use Rattle.pg_value.specs.Order.{IsOfFamily};
+ghost use Rattle.opfamily.specs.pg_value_Order.{IsOfFamily};
 ghost use Rattle.pg_expr.specs.Columns.{each_column, each_column_of};
 ghost use Rattle.pg_expr.specs.Pushed.{is_lower};
 ghost use Rattle.pg_expr.specs.Typed.{IsTyped, AreTyped};
 ghost use Rattle.pg_expr.specs.View as view;
 ghost use Rattle.eq_classes.specs.Equality.{is_column, are_equal, equality_in};
 ghost use Rattle.eq_classes.specs.Classes.{is_family, has_member, is_in, in_family, ordered_by, orders_by, AreClasses, literals, literal_in, direction_of};
-ghost use Rattle.pg_base.specs.Sets.{has};
+ghost use Rattle.opfamily.specs.pg_base_Sets.{has};
 ghost use Rattle.eq_classes.specs.Clauses.{has_constant, first_in, one, is_first};
 ghost use Rattle.eq_classes.specs.Parts.{has_in, is_lowest, is_number};
 ghost use Rattle.eq_classes.specs.Building.{IsMasked, given, inserted, arranged, is_group_of, members_of, over, noted, noted_option, class_with, with_mention, mention_in, by_conjuncts, by_order, all_classes};
@@ -19,9 +19,9 @@ use crate::group::{Group, group_all};
 use crate::order::OrderItem;
 use crate::rel_sets::shared;
 use opfamily::default_family;
-use pg_base::{Memory, RelNo, RelSet};
+use opfamily::pg_base::{Memory, RelNo, RelSet};
+use opfamily::pg_value::{Family, Value};
 use pg_expr::{Binding, ColRef, Expr, Operand};
-use pg_value::{Family, Value};
 use std::alloc::Global;
 use std::marker::Model;
 

@@ -11,9 +11,9 @@ use crate::clause_set::{ClauseSet, note};
 use crate::clauses::{Listed, Origin, add_classes, add_conjuncts, class_of_number};
 use crate::order::OrderItem;
 use crate::rel_sets::{both, single};
-use pg_base::{Memory, RelNo, RelSet};
+use opfamily::pg_base::{Memory, RelNo, RelSet};
+use opfamily::pg_value::Family;
 use pg_expr::{Binding, ColRef, Expr, Exprs, rels};
-use pg_value::Family;
 use std::alloc::Global;
 use std::marker::Model;
 
@@ -48,16 +48,16 @@ impl Model for Classes {
 impl Classes {
     ghost use Rattle.std.specs.Prelude.{List, true, map, drop, ℕ, nat_lt, IfSome, IfNone, option_map};
     ghost use Rattle.std.specs.List.{cons_option};
-    ghost use Rattle.pg_base.specs.Sets.{has};
-    ghost use Rattle.pg_base.specs.declared.limits.TheConstants.{MOST_CONJUNCTS};
+    ghost use Rattle.opfamily.specs.pg_base_Sets.{has};
+    ghost use Rattle.opfamily.specs.pg_base_limits_TheConstants.{MOST_CONJUNCTS};
     ghost use Rattle.eq_classes.specs.Classes.{in_family, class_number, conjuncts_in};
     ghost use Rattle.eq_classes.specs.Clauses.{Set, one, first_in, has_constant};
     ghost use Rattle.eq_classes.specs.Parts as parts;
     ghost use Rattle.eq_classes.specs.Parts.{is_lowest, are_lowest, is_all, is_base, is_join, is_param, is_param_from, is_left_out, is_join_param, is_joining, joining_from, first_four};
     ghost use Rattle.pg_expr.specs.AtomSets.{contains};
     ghost use Rattle.eq_classes.specs.Listing.{class_at, clause_at, clause_of, conjunct_of, pair_class_of};
-    ghost use Rattle.pg_value.specs.declared.value.Value.{Value};
-    ghost use Rattle.pg_value.specs.Truths.{is_true};
+    ghost use Rattle.opfamily.specs.pg_value_value_Value.{Value};
+    ghost use Rattle.opfamily.specs.pg_value_Truths.{is_true};
     ghost use Rattle.pg_expr.specs.declared.operand.ColRef.{ColRef};
     ghost use Rattle.pg_expr.specs.Cond.{Cond, conds_of};
     ghost use Rattle.pg_expr.specs.Columns.{each_column, each_column_of, names_rel};

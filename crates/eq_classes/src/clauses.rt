@@ -11,7 +11,7 @@ ghost use Rattle.eq_classes.specs.Listing.{class_at, clauses_of, inner_at, conju
 
 use crate::class::EqClass;
 use crate::equality::{equality, equality_operator, family_of_equality, same_column};
-use pg_base::{Memory, RelNo};
+use opfamily::pg_base::{Memory, RelNo};
 use pg_expr::{Binding, ColRef, Expr, Operand};
 use std::alloc::Global;
 

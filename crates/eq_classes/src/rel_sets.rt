@@ -1,11 +1,11 @@
 //! Sets of relations as contracts name them.
 
 ghost use Rattle.std.specs.Prelude.{◌≡◌, ◌<◌, ℕ, ◌&&◌};
-ghost use Rattle.pg_base.specs.Sets.{has};
+ghost use Rattle.opfamily.specs.pg_base_Sets.{has};
 ghost use Rattle.eq_classes.specs.Clauses.{one};
 ghost use Rattle.eq_classes.specs.Parts as parts;
 
-use pg_base::{RelNo, RelSet};
+use opfamily::pg_base::{RelNo, RelSet};
 
 /// The set of one relation.
 pub fn single(r: RelNo) -> RelSet

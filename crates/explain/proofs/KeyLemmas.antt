@@ -15,7 +15,7 @@ use Rattle.eq_classes.proofs.ListLemmas.{IsIn, found_in, in_from_contains}
 use Rattle.pathkeys.specs.Finding.{class_numbers}
 use Rattle.sql_query.specs.Queries.{Query}
 use Rattle.sql_query.specs.WellBound.{IsColumnOf, IsWellBound}
-use Rattle.sort_rows.proofs.ColumnLemmas.{member_is}
+use Rattle.plan_laws.specs.sort_rows_ColumnLemmas.{member_is}
 use Rattle.explain.specs.Texts.{key_text, with_commas}
 
 pub member-column : (c : Contents) (q : Query) → IsWellBound c q → (n : ℕ) → n < length q.classes.classes → (set : RelSet) (x : ColRef) (t : Table) → t ≡ q.classes → Some x ≡ first_in (class_at t.classes n) (has set.0) → IsColumnOf c q.range x

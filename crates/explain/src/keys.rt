@@ -5,7 +5,7 @@ ghost use Rattle.std.specs.Prelude.{[]};
 ghost use Rattle.pg_base.specs.Sets.{has};
 ghost use Rattle.eq_classes.specs.Clauses.{first_in};
 ghost use Rattle.eq_classes.specs.Listing.{class_at};
-ghost use Rattle.path_cost.specs.Columns.{AreTables};
+ghost use Rattle.plan_laws.specs.path_cost_Columns.{AreTables};
 ghost use Rattle.pathkeys.specs.Finding.{class_numbers};
 ghost use Rattle.sql_query.specs.WellBound.{IsWellBound};
 ghost use Rattle.explain.specs.Texts as texts;

@@ -3,7 +3,7 @@
 ghost use Rattle.std.specs.Prelude.{◌≡◌, ◌<◌, ◌≤◌, ◌++◌, ℕ, Bool, List, IfOk, OnOk, codes, cond, map};
 ghost use Rattle.pg_base.specs.Sets.{has};
 ghost use Rattle.catalog.specs.Contents.{IsIndex, index_name_at};
-ghost use Rattle.path_cost.specs.Columns.{AreTables};
+ghost use Rattle.plan_laws.specs.path_cost_Columns.{AreTables};
 ghost use Rattle.sql_query.specs.Queries.{width};
 ghost use Rattle.sql_query.specs.WellBound.{IsColumnOf};
 ghost use Rattle.explain.specs.Texts as texts;

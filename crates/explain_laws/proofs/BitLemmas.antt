@@ -1,5 +1,4 @@
 -- The lines of a bitmap tree tell the tree.
-use Prim.Native.Nat.{suc}
 use Rattle.std.proofs.Common.{◌≡◌, ◌<◌, ◌≢◌, inl, inr, ℕ, ◌+◌, ◌-◌, ◌*◌, Bool, false, cond, nat_eq, List, [], ◌∷◌, ◌++◌, codes, drop, get_or, length, map, replicate, take, refl, sym, ◌∙◌, ap, ap₂, subst, append_assoc, arith}
 use Rattle.std.specs.Prelude.{Option, Some, slice_get}
 use Rattle.std.specs.Fmt.{decimal}
@@ -25,6 +24,7 @@ use Rattle.explain.specs.Texts.{bits_text, conjunct_by, lead, leaf_line, number_
 use Rattle.explain_laws.proofs.ConjunctLemmas.{HasConjunct, conjunct-same, or-conjunct}
 use Rattle.explain_laws.proofs.NameLemmas.{index-name, index-same}
 use Rattle.explain_laws.proofs.SplitLemmas.{decimal-word, split, word}
+use Rattle.order_laws.specs.sort_rows_ListLemmas.{zip_long}
 
 -- no line of a depth above d begins a text
 pub record IsShallow (d : ℕ) (x : List ℕ) : Type 0 where
@@ -67,12 +67,6 @@ line-shallow d z =
 
 line-is : (d : ℕ) (t x : List ℕ) → plain_line d t ++ x ≡ lead d ++ (t ++ 10 ∷ x)
 line-is d t x = append_assoc (lead d) (t ++ codes "\n") x ∙ ap (λ (l : List ℕ). lead d ++ l) (append_assoc t (codes "\n") x)
-
-zip-long : {A B : Type 0} (R : A → B → Type 0) (xs : List A) (ys : List B) → AllZip R xs ys → length ys ≡ length xs
-zip-long R [] [] h = refl
-zip-long R [] (y ∷ ys) h = absurd h
-zip-long R (x ∷ xs) [] h = absurd h
-zip-long R (x ∷ xs) (y ∷ ys) h = ap suc (zip-long R xs ys h.1)
 
 zip-made : (c : Contents) (r : ℕ) (arms : List Cond) (js : List IndexNo) → AllZip (IsMatchedBy c r) arms js → AllByRecursion (IsIndex c) js
 zip-made c r [] [] h = tt
@@ -244,7 +238,7 @@ module _ (c : Contents) (q : Query) where
         or-conjunct c q bound n lt (picked-is (IsElement c q r p) (by_clause n) (candidates c q r p) es are i).is_an_or
 
     arm-told : (n : ℕ) (js : List IndexNo) → In (by_clause n) es → AllZip (IsMatchedBy c r) (arms_of (condition_at q n)) js → IsTold (some_arm n js)
-    arm-told n js i zip = (clause-told n i, zip-made c r (arms_of (condition_at q n)) js zip, zip-long (IsMatchedBy c r) (arms_of (condition_at q n)) js zip)
+    arm-told n js i zip = (clause-told n i, zip-made c r (arms_of (condition_at q n)) js zip, zip_long (IsMatchedBy c r) (arms_of (condition_at q n)) js zip)
 
     child-told : (b : BitTree) (y : Element) → element_of c q r p b ≡ Some y → In y es → IsCostableTree c q r b → IsTold b
     child-told (leaf i) y e i-in ok = ok

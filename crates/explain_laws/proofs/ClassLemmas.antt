@@ -27,7 +27,7 @@ use Rattle.class_laws.proofs.PartLemmas.{apart_at}
 use Rattle.sql_query.specs.Queries.{Query, all_of_query, width}
 use Rattle.sql_query.specs.WellBound.{IsColumnOf, IsWellBound, given_with}
 use Rattle.pathkeys.specs.Keys.{Keys, class_of, is_constant, once, order_class, order_keys}
-use Rattle.sort_rows.proofs.ColumnLemmas.{member_is}
+use Rattle.order_laws.specs.sort_rows_ColumnLemmas.{member_is}
 use Rattle.order_laws.proofs.IndexOrderLemmas.{class_found}
 use Rattle.order_laws.proofs.ItemLemmas.{default_of, same_family, sample_fits}
 use Rattle.order_laws.proofs.KeyLemmas.{find_more}

@@ -4,6 +4,7 @@ use Rattle.std.proofs.Common.{◌≡◌, ◌<◌, ◌≤◌, ℕ, ◌+◌, ◌^�
 use Rattle.std.specs.Prelude.{Option, None, Some, filter, is_some, slice_get}
 use Rattle.std.specs.List.{AllByRecursion, flat_map}
 use Rattle.std.proofs.lemmas.Bool.{true≢false}
+use Rattle.std.proofs.lemmas.Option.{none-some, same_Some}
 use Rattle.pg_value.specs.declared.value.SqlType.{SqlType}
 use Rattle.pg_expr.specs.declared.operand.ColRef.{ColRef}
 use Rattle.pg_expr.specs.Cond.{Cond}
@@ -62,15 +63,9 @@ made-classes : (n : ℕ) (cs : List Class) → AreMade (clauses_from n cs)
 made-classes n [] = tt
 made-classes n (c ∷ cs) = made-append (class_clauses n c) (clauses_from (suc n) cs) (made-class n c) (made-classes (suc n) cs)
 
-some-none : {A : Type 0} (x : A) → None ≡ Some x → ⊥
-some-none x e = true≢false (sym (ap is_some e))
-
-some-is : {A : Type 0} (x y : A) → Some x ≡ Some y → x ≡ y
-some-is x y e = cc
-
 none-made : (ks : List Clause) → AreMade ks → (n k : ℕ) → conjunct_by (slice_get ks n) ≡ Some k → ⊥
-none-made [] h n k e = some-none k e
-none-made (x ∷ xs) h zero k e = some-none k (sym h.0.no_conjunct ∙ e)
+none-made [] h n k e = none-some k e
+none-made (x ∷ xs) h zero k e = none-some k (sym h.0.no_conjunct ∙ e)
 none-made (x ∷ xs) h (suc n) k e = none-made xs h.1 n k e
 
 module _ (type_of : ColRef → SqlType) (made : List Clause) (are : AreMade made) where
@@ -86,7 +81,7 @@ module _ (type_of : ColRef → SqlType) (made : List Clause) (are : AreMade made
     where
       by : (b : Bool) (m : ℕ) → ((i : ℕ) → conjunct_by (slice_get (all_from (suc j) es) i) ≡ Some k → suc j ≤ k) → conjunct_by (slice_get (either b j e es) m) ≡ Some k → j ≤ k
       by true m f g = let more = f m g in omega (arith, more)
-      by false zero f g = let same = some-is j k g in omega (arith, same)
+      by false zero f g = let same = same_Some j k g in omega (arith, same)
       by false (suc m) f g = let more = f m g in omega (arith, more)
 
   unique : (j : ℕ) (es : List Cond) (n m k : ℕ) → conjunct_by (slice_get (all_from j es) n) ≡ Some k → conjunct_by (slice_get (all_from j es) m) ≡ Some k → n ≡ m
@@ -98,8 +93,8 @@ module _ (type_of : ColRef → SqlType) (made : List Clause) (are : AreMade made
           conjunct_by (slice_get (either b j e es) x) ≡ Some k → conjunct_by (slice_get (either b j e es) y) ≡ Some k → x ≡ y
       by true x y f l p r = f x y p r
       by false zero zero f l p r = refl
-      by false zero (suc y) f l p r = let same = some-is j k p in let more = l y r in absurd (omega (arith, same, more))
-      by false (suc x) zero f l p r = let same = some-is j k r in let more = l x p in absurd (omega (arith, same, more))
+      by false zero (suc y) f l p r = let same = same_Some j k p in let more = l y r in absurd (omega (arith, same, more))
+      by false (suc x) zero f l p r = let same = same_Some j k r in let more = l x p in absurd (omega (arith, same, more))
       by false (suc x) (suc y) f l p r = ap suc (f x y p r)
 
   -- a clause that no class makes has a number
@@ -107,8 +102,8 @@ module _ (type_of : ColRef → SqlType) (made : List Clause) (are : AreMade made
   found j [] n x h o = absurd (none made are n h)
     where
       none : (ks : List Clause) → AreMade ks → (m : ℕ) → slice_get ks m ≡ Some x → ⊥
-      none [] g m e = some-none x e
-      none (y ∷ ys) g zero e = true≢false (sym o ∙ ap (λ (z : Clause). is_or z.cond) (sym (some-is y x e)) ∙ g.0.no_or)
+      none [] g m e = none-some x e
+      none (y ∷ ys) g zero e = true≢false (sym o ∙ ap (λ (z : Clause). is_or z.cond) (sym (same_Some y x e)) ∙ g.0.no_or)
       none (y ∷ ys) g (suc m) e = none ys g.1 m e
   found j (e ∷ es) n x h o = by (is_some (equality_in type_of e)) n (λ m g. found (suc j) es m x g o) h
     where
@@ -118,7 +113,7 @@ module _ (type_of : ColRef → SqlType) (made : List Clause) (are : AreMade made
       by : (b : Bool) (m : ℕ) → ((i : ℕ) → slice_get (all_from (suc j) es) i ≡ Some x → (k : ℕ) × (conjunct_of x.source ≡ Some k) × (k < suc j + length es)) → slice_get (either b j e es) m ≡ Some x →
           (k : ℕ) × (conjunct_of x.source ≡ Some k) × (k < j + length (e ∷ es))
       by true m f g = more (f m g)
-      by false zero f g = (j, ap (λ (z : Clause). conjunct_of z.source) (sym (some-is (clause (as_clause type_of e) (by_conjunct j)) x g)), omega arith)
+      by false zero f g = (j, ap (λ (z : Clause). conjunct_of z.source) (sym (same_Some (clause (as_clause type_of e) (by_conjunct j)) x g)), omega arith)
       by false (suc m) f g = more (f m g)
 
 -- the number of the conjunct that an OR clause is
@@ -139,7 +134,7 @@ module _ (c : Contents) (q : Query) (bound : IsWellBound c q) where
 
       past : (ks : List Clause) (m : ℕ) → m < length ks → slice_get ks m ≡ None → ⊥
       past [] m less e = omega (arith, less)
-      past (x ∷ xs) zero less e = some-none x (sym e)
+      past (x ∷ xs) zero less e = none-some x (sym e)
       past (x ∷ xs) (suc m) less e = past xs m (omega (arith, less)) e
 
       by : (k : Option Clause) → slice_get q.classes.clauses n ≡ k → is_or (condition_by k) ≡ true → HasConjunct q n

@@ -1,5 +1,6 @@
 -- What a condition means is well typed, and names visible columns alone.
 use Rattle.std.proofs.Common.{◌≡◌, ℕ, Bool, true, false, ◌&&◌, ◌||◌, Option, Some, None, Result, Ok, Err, All, refl, sym, ap, subst, ◌∙◌, cond, is_some}
+use Rattle.std.proofs.lemmas.Bool.{and_parts}
 use Rattle.pg_base.specs.declared.faults.Fault.{Fault}
 use Rattle.pg_value.specs.declared.operators.Family.{Family}
 use Rattle.pg_value.specs.declared.operators.Family.TheVariants as families
@@ -49,10 +50,6 @@ family_kind families.Integer = 0
 family_kind families.IntAbs = 0
 family_kind families.Text = 1
 family_kind families.Bool = 2
-
-both-hold : (a b : Bool) → a && b ≡ true → (a ≡ true) × (b ≡ true)
-both-hold true b is = (refl, is)
-both-hold false b is = absurd (cc (is))
 
 takes-kind : (f : Family) (t : SqlType) → takes f t ≡ true → kind t ≡ family_kind f
 takes-kind families.Integer types.Int2 is = refl
@@ -110,8 +107,8 @@ pub record AreOfOneKind (op : Op) (t u : SqlType) : Type 0 where
 
 family-kinds : (f : Family) (op : Op) (t u : SqlType) → family_has f op t u ≡ true → AreOfOneKind op t u
 family-kinds f op t u is =
-    let outer = both-hold (takes f t && takes f u) (is_some (number_in f Btree op)) is in
-    let inner = both-hold (takes f t) (takes f u) outer.0 in
+    let outer = and_parts (takes f t && takes f u) (is_some (number_in f Btree op)) is in
+    let inner = and_parts (takes f t) (takes f u) outer.0 in
     let left = takes-kind f t inner.0 in
     record { same = left ∙ sym (takes-kind f u inner.1); absolute = λ abs. left ∙ absolute-kind f op outer.1 abs }
 
@@ -310,12 +307,12 @@ module _ (scope : Scope) (type_of : ColRef → SqlType) (test : ColRef → Bool)
 
   or-good : (xs : Conds) → AreGood xs → IsGood (or_of xs)
   or-good no_conds good = good
-  or-good (cond_and c no_conds) good = (good.0.0, (both-hold (each_column test c) true good.1).0)
+  or-good (cond_and c no_conds) good = (good.0.0, (and_parts (each_column test c) true good.1).0)
   or-good (cond_and c (cond_and d ds)) good = good
 
   and-good : (xs : Conds) → AreGood xs → IsGood (and_of xs)
   and-good no_conds good = good
-  and-good (cond_and c no_conds) good = (good.0.0, (both-hold (each_column test c) true good.1).0)
+  and-good (cond_and c no_conds) good = (good.0.0, (and_parts (each_column test c) true good.1).0)
   and-good (cond_and c (cond_and d ds)) good = good
 
   parts-good : (m : Result Cond Fault) (ms : Result Conds Fault) (xs : Conds) → then_parts m ms ≡ Ok xs → ((x : Cond) → m ≡ Ok x → IsGood x) → ((ys : Conds) → ms ≡ Ok ys → AreGood ys) → AreGood xs

@@ -85,6 +85,7 @@ abbrev pub flag_column : SqlType → ColRef → Token → Result Cond Fault
 flag_column types.Bool c token = Ok (bool_col c)
 flag_column _ c token = Err (fault_at S10 token)
 
+-- the truth of a constant that is a condition by itself: NULL is unknown (PostgreSQL manual, chapter Data Types, Boolean Type)
 abbrev pub truth_of_constant : Constant → Truth
 truth_of_constant yes = truths.True
 truth_of_constant no = truths.False

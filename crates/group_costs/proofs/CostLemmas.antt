@@ -53,7 +53,7 @@ rise-by false n x y le = le
 pub total-rises : (f : Form) (t : GroupTask) (a b : ℕ) → a ≤ b → group_total f t a ≤ group_total f t b
 total-rises f t a b le = rise-by (sorts_after f t) (groups_of t) (group_cost f t a) (group_cost f t b) (omega arith)
 
-child-by : (b : Bool) (n x : ℕ) → x ≤ cond b (sort_cost (pair 0 x) n).total x
+pub child-by : (b : Bool) (n x : ℕ) → x ≤ cond b (sort_cost (pair 0 x) n).total x
 child-by true n x = sort-child (pair 0 x) n
 child-by false n x = omega arith
 

@@ -32,6 +32,7 @@ abbrev pub HasAtMost : Option GroupPlan → ℕ → Type 0
 HasAtMost None n = ⊥
 HasAtMost (Some p) n = p.cost ≤ n
 
+-- the plan of a form over an input of this total, whether it may be taken or not
 abbrev pub plan_of : Form → GroupTask → ℕ → GroupPlan
 plan_of f t input = record { form = f; sort_after = sorts_after f t; cost = group_total f t input; rows = groups_of t }
 

@@ -12,6 +12,7 @@ pub record IsTask (t : GroupTask) : Type 0 where
   pub rows : IsEstimate t.rows
   pub distinct : All (λ n. 1 ≤ n) t.distinct.items
 
+-- how many lists there are of one value of each column, where the columns have so many different ones
 abbrev pub product : List ℕ → ℕ
 product [] = 1
 product (n ∷ ns) = n * product ns

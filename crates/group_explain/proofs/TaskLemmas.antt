@@ -14,7 +14,7 @@ use Rattle.eq_classes.specs.declared.classes.ClassNo.{ClassNo}
 use Rattle.pathkeys.specs.Finding.{class_numbers}
 use Rattle.eq_classes.proofs.ListLemmas.{IsIn, found_in, in_from_contains}
 use Rattle.path_cost.specs.Columns.{AreTables, is_column_in, stats_of}
-use Rattle.plan_laws.proofs.WellBoundLemmas.{bound-over}
+use Rattle.reply.specs.plan_laws_WellBoundLemmas.{bound-over}
 use Rattle.plan_tree.specs.Space.{IsSameSet}
 use Rattle.sort_rows.proofs.ColumnLemmas.{member_is}
 use Rattle.sql_query.specs.Queries.{Query, all_of_query}

@@ -7,7 +7,7 @@ use Rattle.pg_expr.specs.declared.operand.ColRef.{ColRef}
 use Rattle.eq_classes.specs.Clauses.{Set, first_in}
 use Rattle.eq_classes.specs.Listing.{class_at}
 use Rattle.eq_classes.specs.declared.order.OrderItem.{OrderItem}
-use Rattle.explain.specs.Texts.{direction_text, family_text, figures_text, key_text, lead, member_text, text_at, with_commas}
+use Rattle.reply.specs.explain_Texts.{direction_text, family_text, figures_text, key_text, lead, member_text, text_at, with_commas}
 use Rattle.pathkeys.specs.Keys.{Keys}
 use Rattle.pathkeys.proofs.OnceLemmas.{order_keys_are_keys}
 use Rattle.plan_tree.specs.Costs.{cost}

@@ -2,7 +2,7 @@
 use Rattle.std.specs.Prelude.{ℕ, Bool, true, false, cond, List, [], ◌∷◌, ◌++◌, codes, length}
 use Rattle.std.specs.Fmt.{decimal}
 use Rattle.catalog.specs.Contents.{Contents}
-use Rattle.explain.specs.Texts.{figures_text, keys_text, lead, text_at}
+use Rattle.reply.specs.explain_Texts.{figures_text, keys_text, lead, text_at}
 use Rattle.pathkeys.specs.Keys.{Keys}
 use Rattle.plan_tree.specs.Costs.{cost}
 use Rattle.plan_tree.specs.Plans.{Plan}
@@ -21,6 +21,7 @@ use Rattle.group_plans.specs.GroupPlans.{GroupQuery, group_keys, input_query, li
 abbrev pub group_query : GroupedQuery → GroupQuery
 group_query g = record { base = g.base; groups = group_items g.base.classes g.keys; lines = g.order; calls = length (calls_of g.items) }
 
+-- the name of the node of a form, as PostgreSQL prints it, before its keys
 abbrev pub form_name : Form → List ℕ
 form_name Sorted = codes "GroupAggregate by "
 form_name Hashed = codes "HashAggregate by "

@@ -22,8 +22,8 @@ use group_plans::choose_plan;
 use group_tuples::Form;
 use pg_base::Memory;
 use plan_tree::Path;
-use planner::{PlanFault, plan};
 use reply::Stop;
+use reply::planner::{PlanFault, plan};
 use sql_query::{Grouped, OrderList, Prepared};
 use std::alloc::{AllocError, Global};
 

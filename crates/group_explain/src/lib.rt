@@ -11,4 +11,5 @@ mod text;
 pub use choice::choose_groups;
 pub use chosen::Chosen;
 pub use print::explain_groups;
+pub use reply;
 pub use text::group_text;

@@ -17,11 +17,11 @@ use eq_classes::ClassNo;
 use group_costs::GroupTask;
 use group_plans::{Asked, group_task};
 use group_query::number_of_calls;
-use join_search::all_relations;
 use path_cost::distinct;
 use pathkeys::Keys;
 use pg_base::{Memory, RelSet};
 use plan_tree::{classes_of, range_of};
+use reply::join_search::all_relations;
 use sql_query::{Grouped, Prepared};
 use std::alloc::Global;
 

@@ -2,7 +2,7 @@
 
 ghost use Rattle.std.specs.Prelude.{◌≡◌, ◌<◌, ◌++◌, All, IfOk, OnOk, length, true};
 ghost use Rattle.std.specs.Fmt.{decimal};
-ghost use Rattle.explain.specs.Texts.{figures_text};
+ghost use Rattle.reply.specs.explain_Texts.{figures_text};
 ghost use Rattle.plan_tree.specs.Views.{path};
 ghost use Rattle.sql_query.specs.Grouped.{GroupedQuery};
 ghost use Rattle.sql_query.specs.WellBound.{IsWellBound};
@@ -15,12 +15,12 @@ use crate::chosen::Chosen;
 use crate::keys::{group_keys, line_keys};
 use catalog::Catalog;
 use cost_rules::Pair;
-use explain::{numbers, plan_text_at, put_keys};
 use group_costs::group_cost;
 use group_tuples::Form;
-use join_search::all_relations;
 use pathkeys::Keys;
 use pg_base::Memory;
+use reply::explain::{numbers, plan_text_at, put_keys};
+use reply::join_search::all_relations;
 use sql_query::Grouped;
 use std::alloc::Global;
 

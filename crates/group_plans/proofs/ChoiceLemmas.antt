@@ -32,7 +32,7 @@ of-form : (form : Form) (plain sorted : Option Path) → input_of form (total_ke
 of-form Sorted plain sorted = refl
 of-form Hashed plain sorted = refl
 
-whole-query : (form : Form) (g : GroupQuery) → g.base.window ≡ None → (input_query form g).window ≡ None
+pub whole-query : (form : Form) (g : GroupQuery) → g.base.window ≡ None → (input_query form g).window ≡ None
 whole-query Sorted g e = e
 whole-query Hashed g e = e
 

@@ -30,10 +30,11 @@ pub record GroupQuery : Type 0 where
   pub lines : List OrderItem
   pub calls : ℕ
 
--- the classes by which groups are told apart, and those by which lines are sorted
+-- the classes by which groups are told apart: those of the GROUP BY columns
 abbrev pub group_keys : GroupQuery → Keys
 group_keys g = order_keys g.base.classes g.groups
 
+-- the classes by which lines are sorted: those of ORDER BY
 abbrev pub line_keys : GroupQuery → Keys
 line_keys g = order_keys g.base.classes g.lines
 

@@ -74,15 +74,16 @@ module _ (scope : Scope) (type_of : ColRef → SqlType) where
   list_parts [] = Ok []
   list_parts (i ∷ is) = next (item_parts i) (λ ps. next (list_parts is) (λ qs. Ok (ps ++ qs)))
 
--- the columns that are shown
+-- the column that an item of the list shows, none of a call
 abbrev pub shown_column : Part → Option ColRef
 shown_column (parts.Shown x t) = Some x
 shown_column (parts.Called i) = None
 
+-- the columns that the list shows, from the left
 abbrev pub shown_columns : List Part → List ColRef
 shown_columns ps = filter_map shown_column ps
 
--- the column that is named
+-- the column that a call is of
 abbrev pub column_by_call : Item → Option ColRef
 column_by_call (Key n) = None
 column_by_call CountAll = None
@@ -90,6 +91,7 @@ column_by_call (Count x) = Some x
 column_by_call (Min x) = Some x
 column_by_call (Max x) = Some x
 
+-- the column that an item of the list names, by itself or in a call
 abbrev pub column_of_part : Part → Option ColRef
 column_of_part (parts.Shown x t) = Some x
 column_of_part (parts.Called i) = column_by_call i
@@ -99,18 +101,20 @@ abbrev pub group_columns : Scope → GroupBy → Result (List ColRef) Fault
 group_columns scope no_group_by = Ok []
 group_columns scope (group_by _ _ c cs) = bound_each (column_of scope) (c ∷ parts_of (λ x. x) cs)
 
+-- a column is itself one of the GROUP BY columns: that a condition makes it equal to one is not enough
 abbrev pub is_grouped : List ColRef → ColRef → Bool
 is_grouped keys x = list_any (is_column x) keys
 
--- the words at which columns that are shown and not grouped are at fault
+-- the word at which a column that is shown and not grouped is at fault
 abbrev pub ungrouped_part : List ColRef → Part → Option Token
 ungrouped_part keys (parts.Shown x t) = cond (is_grouped keys x) None (Some t)
 ungrouped_part keys (parts.Called i) = None
 
--- the last words of the columns of ORDER BY
+-- the last word of a column of ORDER BY
 abbrev pub word_of_ordering : Ordering → Token
 word_of_ordering (ordering c d z) = word_of_col c
 
+-- for each column of ORDER BY the word at which it is at fault where it is not grouped
 abbrev pub order_words : OrderBy → List Token
 order_words no_order = []
 order_words (order_by _ _ o os) = map word_of_ordering (o ∷ parts_of (λ x. x) os)
@@ -120,11 +124,12 @@ abbrev pub ungrouped_items : List ColRef → List OrderItem → List Token → L
 ungrouped_items keys (i ∷ is) (t ∷ ts) = cond (is_grouped keys i.col) (ungrouped_items keys is ts) (t ∷ ungrouped_items keys is ts)
 ungrouped_items keys _ _ = []
 
--- the first column that is not grouped is at fault: in the list, then in ORDER BY
+-- the first of these words is at fault, where there is one
 abbrev pub none_of : {A : Type 0} → List Token → A → Result A Fault
 none_of [] x = Ok x
 none_of (t ∷ ts) x = Err (fault_at S18 t)
 
+-- the first column that is neither grouped nor in a call is at fault: in the list, then in ORDER BY
 abbrev pub all_grouped : {A : Type 0} → List ColRef → List Part → List OrderItem → List Token → A → Result A Fault
 all_grouped keys ps ordered words x = none_of (filter_map (ungrouped_part keys) ps ++ ungrouped_items keys ordered words) x
 

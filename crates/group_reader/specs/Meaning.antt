@@ -29,6 +29,7 @@ abbrev pub column_by : Scope → Option Spelled → Spelled → Result ColRef Fa
 column_by scope None n = the_column (look_up scope None n.bytes) n.token n.token
 column_by scope (Some q) n = the_column (look_up scope (Some q.bytes) n.bytes) q.token n.token
 
+-- what a column means as it is written in GROUP BY or in a call
 abbrev pub column_meant : Scope → Column → Result ColRef Fault
 column_meant scope c = column_by scope c.qualifier c.name
 
@@ -37,6 +38,7 @@ abbrev pub known : Token → Option Item → Result Part Fault
 known n None = Err (fault_at S9 n)
 known n (Some item) = Ok (parts.Called item)
 
+-- a column that is shown, with the word at which it is at fault where it is not grouped
 abbrev pub shown_at : Token → ColRef → Part
 shown_at word x = parts.Shown x word
 
@@ -74,6 +76,7 @@ abbrev pub sorting_by : Scope → List ColRef → Option Spelled → Spelled →
 sorting_by scope shown None n = the_column (first_among (shown_of_name scope shown n.bytes) (look_up scope None n.bytes)) n.token n.token
 sorting_by scope shown (Some q) n = column_by scope (Some q) n
 
+-- what a column means as it is written in ORDER BY, beside the columns that the list shows
 abbrev pub sorting_column : Scope → List ColRef → Column → Result ColRef Fault
 sorting_column scope shown c = sorting_by scope shown c.qualifier c.name
 

@@ -58,9 +58,10 @@ abbrev pub IsGroupedOf : BoundGroups → Selected → Type 0
 IsGroupedOf meant (Plain q) = ⊥
 IsGroupedOf meant (Grouped g) = g ≡ grouped_with g.base.classes meant
 
--- what is read where this is the meaning, of the one form or the other: the query, its fault, or there was no memory
+-- what is read where this is the meaning of a SELECT that does not group: the query, its fault, or there was no memory
 abbrev pub IsReadPlain : Result Bound Fault → Result Selected Refusal → Type 0
 IsReadPlain = Conveys IsPlainOf
 
+-- the same where this is the meaning of one that groups
 abbrev pub IsReadGrouped : Result BoundGroups Fault → Result Selected Refusal → Type 0
 IsReadGrouped = Conveys IsGroupedOf

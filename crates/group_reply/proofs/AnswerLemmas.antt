@@ -1,6 +1,6 @@
 -- From the plan that is chosen for a grouped query to its answer.
 use Rattle.std.proofs.Common.{◌≡◌, ℕ, Bool, true, false, not, List, [], map, refl, sym, ap, ◌∙◌, subst, IsPermutation}
-use Rattle.std.proofs.Common.{Result, Ok, Err, IfErr, inr}
+use Rattle.std.proofs.Common.{Result, Ok, Err}
 use Rattle.std.specs.Result.{IsErrAnd}
 use Rattle.eq_classes.specs.declared.order.OrderItem.{OrderItem}
 use Rattle.pg_expr.specs.declared.operand.ColRef.{ColRef}
@@ -21,8 +21,8 @@ use Rattle.group_tuples.specs.declared.form.Form.TheVariants.{Sorted, Hashed}
 use Rattle.group_tuples.specs.Grouping.{final_shape}
 use Rattle.group_tuples.specs.Neighbours.{AreTogether}
 use Rattle.group_costs.specs.declared.task.GroupTask.{GroupTask}
-use Rattle.group_plans.specs.GroupPlans.{IsLeastOf, IsTaskOf}
-use Rattle.group_laws.proofs.BagLemmas.{groups-in-order}
+use Rattle.group_explain.specs.group_plans_GroupPlans.{IsLeastOf, IsTaskOf}
+use Rattle.group_runs.specs.group_laws_BagLemmas.{groups-in-order}
 use Rattle.group_runs.specs.Seen.{seen_of}
 use Rattle.group_runs.proofs.OrderLemmas.{plan-needs-no-sort}
 use Rattle.group_runs.proofs.RunLemmas.{plan-lines, plan-neighbours}
@@ -31,14 +31,14 @@ use Rattle.group_query.specs.Shapes.{args_of, shape_of}
 use Rattle.group_explain.specs.declared.chosen.Chosen.{Chosen}
 use Rattle.group_explain.specs.Plans.{IsChosen, IsGroupedExplanationOf, input_base, over_base}
 use Rattle.group_explain.specs.Texts.{group_plan_text, group_query}
-use Rattle.reply.specs.Effort.{exactly}
-use Rattle.reply.specs.Putting.{HasWriteCause}
-use Rattle.reply.specs.Replies.{HasBegun, HasReplied, Leaves, Reply, Traces}
-use Rattle.reply.specs.Stops.{stop_by}
-use Rattle.reply.specs.declared.stop.Broken.{Broken}
-use Rattle.reply.specs.declared.stop.Broken.TheVariants.{Write, Memory}
-use Rattle.reply.specs.declared.stop.Stop.{Stop}
-use Rattle.reply.specs.declared.stop.Stop.TheVariants as stops
+use Rattle.group_explain.specs.reply_Effort.{exactly}
+use Rattle.group_explain.specs.reply_Putting.{HasWriteCause}
+use Rattle.group_explain.specs.reply_Replies.{HasBegun, HasReplied, Reply, Traces}
+use Rattle.group_explain.specs.reply_Stops.{stop_by}
+use Rattle.group_explain.specs.reply_stop_Broken.{Broken}
+use Rattle.group_explain.specs.reply_stop_Broken_TheVariants.{Write, Memory}
+use Rattle.group_explain.specs.reply_stop_Stop.{Stop}
+use Rattle.group_explain.specs.reply_stop_Stop_TheVariants as stops
 use Rattle.group_reply.specs.Drawing.{IsInputFor, drawn_reply}
 use Rattle.group_reply.specs.Replies.{AreOrderedLines, IsGroupedAnswerTo, meant_lines, seen_at}
 use Rattle.group_reply.proofs.ColumnLemmas.{args-there, columns-are, sorters-are}
@@ -168,24 +168,6 @@ module _ (w : World) (g : GroupedQuery) (world : IsWorld w) (bound : IsWellGroup
       record { bytes = group_plan_text w.contents g x.task x.plan chosen.least.plan; fetched = exactly 0; looked = 0 },
       record { task = x.task; chosen = x.plan; explanation = record { task = chosen.task; least = chosen.least; printed = refl }; fetched = refl; looked = refl },
     )
-
--- what a text that is not written whole leaves
-pub stopped-by : (r : Result (Unit {0}) Stop) (b : Broken) (IsReply : Reply → Type 0) (old new : Traces) → IsErrAnd r (λ e. e ≡ stop_by b) → HasBegun IsReply old new
-    → IfErr r (λ stop. Leaves stop IsReply old new)
-stopped-by (Ok u) b IsReply old new is begun = tt
-stopped-by (Err e) b IsReply old new is begun = by b is
-  where
-    by : (b : Broken) → e ≡ stop_by b → Leaves e IsReply old new
-    by Write same = let P : Stop → Type 0 = λ s. Leaves s IsReply old new in subst P (sym same) begun
-    by Memory same = let P : Stop → Type 0 = λ s. Leaves s IsReply old new in subst P (sym same) (inr begun)
-
-pub broken-has-plan : (r : Result (Unit {0}) Stop) (b : Broken) (P : Type 0) → IsErrAnd r (λ e. e ≡ stop_by b) → IfErr r (λ e. e ≡ stops.NoPlan → P)
-broken-has-plan (Ok u) b P is = tt
-broken-has-plan (Err e) b P is = by b is
-  where
-    by : (b : Broken) → e ≡ stop_by b → e ≡ stops.NoPlan → P
-    by Write same none = absurd (cc (same, none))
-    by Memory same none = absurd (cc (same, none))
 
 -- and what that tells of out's faults
 abbrev stopped : Stop → Result (Unit {0}) Stop

@@ -14,8 +14,8 @@ use Rattle.group_costs.specs.declared.task.GroupPlan.{GroupPlan}
 use Rattle.group_costs.specs.declared.task.GroupTask.{GroupTask}
 use Rattle.group_explain.specs.Plans.{over_base}
 use Rattle.group_explain.specs.Texts.{group_plan_text}
-use Rattle.reply.specs.Replies.{HasBegun, HasReplied, Reply, traces}
-use Rattle.reply.proofs.PuttingLemmas.{prefix-none}
+use Rattle.group_explain.specs.reply_Replies.{HasBegun, HasReplied, Reply, traces}
+use Rattle.group_explain.specs.reply_PuttingLemmas.{prefix-none}
 use Rattle.group_reply.specs.Drawing.{drawn, drawn_reply, final_lines, seen_all}
 use Rattle.group_reply.specs.Replies.{lines_text}
 

@@ -6,8 +6,8 @@ use Rattle.std.proofs.lemmas.List.Concat.{flat_map-append}
 use Rattle.pg_base.specs.Writing.{AppendsPrefix}
 use Rattle.pg_value.specs.declared.value.Value.{Value}
 use Rattle.row_text.specs.Texts.{row_line}
-use Rattle.reply.specs.Putting.{HasPut}
-use Rattle.reply.proofs.PuttingLemmas.{appends-none, line_cut, line_put, prefix-of}
+use Rattle.group_explain.specs.reply_Putting.{HasPut}
+use Rattle.group_explain.specs.reply_PuttingLemmas.{appends-none, line_cut, line_put, prefix-of}
 
 abbrev text_of : List (List Value) → List ℕ
 text_of ls = flat_map row_line ls

@@ -18,7 +18,7 @@ use Rattle.sql_query.specs.Worlds.{Holds, nothing_stored, stored_at, world}
 use Rattle.store.specs.Kept.{IsStoreOf, Kept}
 use Rattle.sort_rows.proofs.ListLemmas.{zip_at, zip_long}
 use Rattle.executor.specs.Numbers.{IsTupleOf}
-use Rattle.reply.specs.Showing.{HasColumn, cell_of, rows_at}
+use Rattle.group_explain.specs.reply_Showing.{HasColumn, cell_of, rows_at}
 use Rattle.group_values.specs.Groups.{Seen}
 use Rattle.group_runs.specs.Seen.{arg_at, seen_of}
 use Rattle.group_reply.specs.Columns.{AreSeenOf, HasArg, IsArgOf, arg_in}

@@ -7,7 +7,7 @@ use Rattle.heap.specs.Stored.{Values}
 use Rattle.catalog.specs.Contents.{Contents}
 use Rattle.catalog.specs.Range.{Range}
 use Rattle.sql_query.specs.WellBound.{IsColumnOf}
-use Rattle.reply.specs.Showing.{HasColumn, cell_of}
+use Rattle.group_explain.specs.reply_Showing.{HasColumn, cell_of}
 
 -- the column of a call, where it has one, is one of a relation
 abbrev pub IsArgOf : Contents → Range → Option ColRef → Type 0

@@ -19,8 +19,8 @@ use Rattle.group_costs.specs.declared.task.GroupTask.{GroupTask}
 use Rattle.group_runs.specs.Seen.{seen_of}
 use Rattle.group_query.specs.Shapes.{args_of, calls_of, shape_of}
 use Rattle.group_explain.specs.Texts.{group_plan_text}
-use Rattle.reply.specs.Effort.{exactly}
-use Rattle.reply.specs.Replies.{Reply}
+use Rattle.group_explain.specs.reply_Effort.{exactly}
+use Rattle.group_explain.specs.reply_Replies.{Reply}
 use Rattle.group_reply.specs.Columns.{AreSeenOf}
 use Rattle.group_reply.specs.Replies.{lines_text}
 

@@ -16,11 +16,11 @@ use Rattle.group_values.specs.Shapes.{Summary}
 use Rattle.group_tuples.specs.declared.form.Form.{Form}
 use Rattle.group_costs.specs.declared.task.GroupPlan.{GroupPlan}
 use Rattle.group_costs.specs.declared.task.GroupTask.{GroupTask}
-use Rattle.group_plans.specs.GroupPlans.{input_query}
+use Rattle.group_explain.specs.group_plans_GroupPlans.{input_query}
 use Rattle.group_runs.specs.Seen.{seen_of}
 use Rattle.group_query.specs.Shapes.{args_of, shape_of}
-use Rattle.reply.specs.Effort.{exactly}
-use Rattle.reply.specs.Replies.{Reply}
+use Rattle.group_explain.specs.reply_Effort.{exactly}
+use Rattle.group_explain.specs.reply_Replies.{Reply}
 use Rattle.group_explain.specs.Plans.{IsGroupExplanation}
 use Rattle.group_explain.specs.Texts.{group_query}
 

@@ -1,7 +1,7 @@
 //! The values that are seen of a tuple where it is grouped, copied.
 
 ghost use Rattle.std.specs.Prelude.{◌≡◌, All, IfOk, map};
-ghost use Rattle.reply.specs.Showing.{HasColumn, cell_of};
+ghost use Rattle.group_explain.specs.reply_Showing.{HasColumn, cell_of};
 ghost use Rattle.group_reply.specs.Columns.{HasArg, arg_in};
 
 use group_values::Values;

@@ -3,7 +3,7 @@
 ghost use Rattle.std.specs.Prelude.{◌≡◌, ◌+◌, ◌*◌, ◌≤◌, ◌<◌, ◌^◌, ◌++◌, ◌∷◌, [], List, All, IfOk, OnOk, length, map};
 ghost use Rattle.plan_tree.specs.Counts.{MOST_READS};
 ghost use Rattle.executor.specs.Numbers.{IsTupleOf, numbers};
-ghost use Rattle.reply.specs.Settings.{IsSetting, world_of};
+ghost use Rattle.group_explain.specs.reply_Settings.{IsSetting, world_of};
 ghost use Rattle.group_values.specs.Groups.{Seen, lines};
 ghost use Rattle.group_values.specs.Steps.{IsLastAlone};
 ghost use Rattle.group_tuples.specs.Grouping.{AreOf, final_shape, with_groups};
@@ -17,12 +17,12 @@ ghost use Rattle.group_reply.specs.Drawing.{final_lines, seen_all};
 use crate::columns::{Columns, args_in, keys_in};
 use executor::Rows;
 use group_costs::GroupPlan;
+use group_explain::reply::{Setting, rows_at};
 use group_query::{call_columns, shape_of};
 use group_tuples::{Groups, neighbours_are_of_the_last_group};
 use group_values::Lines;
 use heap::Counters;
 use pg_base::{Memory, Steps, Tid};
-use reply::{Setting, rows_at};
 use sql_query::Grouped;
 
 /// Draws all tuples that are still to come, and gives the lines of their groups. Each relation's row is looked at once for each tuple.

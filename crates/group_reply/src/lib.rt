@@ -8,3 +8,5 @@ mod drawing;
 mod lines;
 
 pub use answer::{answer_groups, plan_groups};
+pub use group_explain;
+pub use group_explain::reply;

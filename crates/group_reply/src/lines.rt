@@ -5,14 +5,14 @@ ghost use Rattle.std.specs.Io.KnownBytes.{Appends};
 ghost use Rattle.std.specs.List.{flat_map};
 ghost use Rattle.pg_base.specs.Writing.{AppendsPrefix};
 ghost use Rattle.row_text.specs.Texts.{row_line};
-ghost use Rattle.reply.specs.Putting.{HasWriteCause, Puts};
-ghost use Rattle.reply.specs.declared.stop.Broken.TheVariants.{Write};
+ghost use Rattle.group_explain.specs.reply_Putting.{HasWriteCause, Puts};
+ghost use Rattle.group_explain.specs.reply_stop_Broken_TheVariants.{Write};
 ghost use Rattle.group_reply.specs.Replies.{lines_text};
 
+use group_explain::reply::{Broken, flush, put};
 use group_values::Values;
 use pg_base::{Memory, Sink};
 use pg_value::Value;
-use reply::{Broken, flush, put};
 use row_text::{Lines, count_line};
 use std::alloc::Global;
 

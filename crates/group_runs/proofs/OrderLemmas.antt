@@ -24,9 +24,9 @@ use Rattle.sql_query.specs.Worlds.{World, IsWorld}
 use Rattle.plan_tree.specs.Plans.{Plan}
 use Rattle.plan_tree.specs.Run.{run}
 use Rattle.plan_tree.specs.Space.{IsFinished}
-use Rattle.plan_laws.proofs.EachLemmas.{each_weaker}
-use Rattle.plan_laws.proofs.GivingLemmas.{finished_means}
-use Rattle.plan_laws.proofs.JoinLemmas.{each_meant}
+use Rattle.order_laws.specs.plan_laws_EachLemmas.{each_weaker}
+use Rattle.order_laws.specs.plan_laws_GivingLemmas.{finished_means}
+use Rattle.order_laws.specs.plan_laws_JoinLemmas.{each_meant}
 use Rattle.order_laws.proofs.IndexKeyLemmas.{after_same}
 use Rattle.order_laws.proofs.ItemLemmas.{items_follow}
 use Rattle.order_laws.proofs.KeyLemmas.{by_keys}

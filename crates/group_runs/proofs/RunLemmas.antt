@@ -14,7 +14,7 @@ use Rattle.sql_query.specs.Worlds.{World, IsWorld}
 use Rattle.plan_tree.specs.Plans.{Plan}
 use Rattle.plan_tree.specs.Run.{run}
 use Rattle.plan_tree.specs.Space.{IsFinished}
-use Rattle.plan_laws.proofs.FinishedLemmas.{finished_is_meaning}
+use Rattle.order_laws.specs.plan_laws_FinishedLemmas.{finished_is_meaning}
 use Rattle.order_laws.proofs.FinishedOrderLemmas.{finished_is_ordered}
 use Rattle.group_values.specs.Groups.{Seen, lines}
 use Rattle.group_values.specs.Shapes.{GroupShape}

@@ -11,5 +11,6 @@ pub record IsSorterOf (keys : List ColRef) (item : OrderItem) (s : Sorter) : Typ
   pub descending : s.descending ≡ item.descending
   pub nulls_first : s.nulls_first ≡ item.nulls_first
 
+-- all items of ORDER BY, in turn: each names a GROUP BY column
 abbrev pub AreSortersOf : List ColRef → List OrderItem → List Sorter → Type 0
 AreSortersOf keys items sorters = AllZip (IsSorterOf keys) items sorters

@@ -1,7 +1,7 @@
 -- The way along a chain, and one more slot in the chain of its hash.
 use Rattle.std.proofs.Common.{◌≡◌, ◌≢◌, ℕ, ◌+◌, ◌%◌, ◌<◌, ◌≤◌, Bool, true, false, cond, ◌||◌, eqb, List, [], ◌∷◌, length, map, get_or, refl, sym, subst, ap, ◌∙◌, arith}
 use Rattle.std.specs.Prelude.{Option, Some, None, IfSome}
-use Rattle.std.proofs.lemmas.Bool.{true≢false, false≢true, eqb-true, eqb-false, eq-eqb, ne_eqb}
+use Rattle.std.proofs.lemmas.Bool.{true≢false, false≢true, eqb-true, eqb-false, eq-eqb, ne_eqb, or_right}
 use Rattle.std.proofs.lemmas.List.{get_or-map, get_or-set_other, length-map, length-set}
 use Rattle.std.proofs.lemmas.List.Elements.{All-weaker}
 use Rattle.std.proofs.lemmas.Nat.{mod_below}
@@ -20,10 +20,6 @@ use Rattle.group_tuples.specs.Chains.{AreChained, chain_from, first_for}
 below-more : (o : Option ℕ) (n m : ℕ) → n ≤ m → IfSome o (λ s. s < n) → IfSome o (λ s. s < m)
 below-more None n m le h = tt
 below-more (Some s) n m le h = omega arith
-
-wide : (a b : Bool) → b ≡ true → (a || b) ≡ true
-wide true b h = refl
-wide false b h = h
 
 keep : (a b c : Bool) → (b ≡ true → c ≡ true) → (a || b) ≡ true → (a || c) ≡ true
 keep true b c f g = refl
@@ -145,7 +141,7 @@ module _ (firsts : List (Option ℕ)) (hashes : List ℕ) (lists : List (List �
     put-last : has slot (chain_from put (Some f)) ≡ true
     put-last =
         let lt : f < slot = put-within f is in
-        wide (eqb slot f) (has slot (behind f (list_of put f)))
+        or_right (eqb slot f) (has slot (behind f (list_of put f)))
         (ap (λ l. has slot (behind f l)) (put-list f lt)
         ∙ ap (has slot) (put_parts f slot (list_of lists f) (others.lawful.stands f (omega (arith, lt, last, others.as_many)))).0
         ∙ ap (λ b. b || has slot (behind f (list_of lists f))) (eq-eqb slot slot refl))

@@ -4,6 +4,7 @@ use Rattle.std.specs.Prelude.{filter}
 use Rattle.std.specs.List.{AllByRecursion}
 use Rattle.std.specs.Ordering.{is_gt, ordering_then}
 use Rattle.std.proofs.lemmas.List.Elements.{recursion_from_All}
+use Rattle.std.proofs.lemmas.Simd.{map-map}
 use Rattle.pg_value.specs.declared.value.Value.TheVariants.{Null}
 use Rattle.pg_value.specs.Kinds.{directed_order}
 use Rattle.pg_value.specs.Sorting.{IsInOrder, in_order, one_after_other, put}
@@ -79,15 +80,11 @@ module _ (os : List Sorter) (F : Seen → Summary) where
   up-groups [] keys h = tt
   up-groups (f ∷ fs) keys h = (all-groups f fs keys.0 keys.1 h.0, up-groups fs keys.1 h.1)
 
-map-twice : {A B C : Type 0} (f : B → C) (g : A → B) (xs : List A) → map f (map g xs) ≡ map (λ x. f (g x)) xs
-map-twice f g [] = refl
-map-twice f g (x ∷ xs) = ap (λ l. f (g x) ∷ l) (map-twice f g xs)
-
 by-width : (w : ℕ) (calls : List Call) (os : List Sorter) (ss : List Seen) → IsInOrder (one_after_other (map tuple_order os)) ss → sorted os (map (summary calls) (groups w ss)) ≡ map (summary calls) (groups w ss)
 by-width zero calls os ss up = refl
 by-width (suc w) calls os ss up =
     let F = λ (s : Seen). summary calls (filter (alike s) ss) in
-    let is = map-twice (summary calls) (λ s. filter (alike s) ss) (firsts ss) in
+    let is = map-map (summary calls) (λ s. filter (alike s) ss) (firsts ss) in
     ap (sorted os) is
     ∙ up-fixed (one_after_other (map sorter_order os)) (map F (firsts ss)) (up-groups os F (firsts ss) (first-keys ss) (up-firsts (one_after_other (map tuple_order os)) ss (up-from (one_after_other (map tuple_order os)) ss up)))
     ∙ sym is

@@ -1,18 +1,13 @@
 -- Where those that tie are of one group, the tuples of a group stand side by side in a sorted list.
-use Rattle.std.proofs.Common.{◌≡◌, ℕ, ◌<◌, true, false, List, [], ◌∷◌, length, map, get_or, refl, sym, subst, ap, ap₂, ◌∙◌, arith, Ordering, Less, Equal, Greater}
+use Rattle.std.proofs.Common.{◌≡◌, ℕ, ◌<◌, false, List, [], ◌∷◌, length, map, get_or, refl, sym, subst, ap, ap₂, ◌∙◌, arith, Ordering, Less, Equal, Greater}
 use Rattle.std.specs.Prelude.{All}
-use Rattle.std.specs.Cmp.{IsTotalOrder}
+use Rattle.std.specs.Cmp.{IsTotalOrder, Equal-is}
 use Rattle.std.specs.Ordering.{is_eq, is_gt, ordering_reverse}
-use Rattle.std.proofs.lemmas.Bool.{false≢true, true≢false}
+use Rattle.std.proofs.lemmas.Bool.{true≢false}
 use Rattle.std.proofs.lemmas.List.{get_or-map, length-map}
 use Rattle.pg_value.specs.Sorting.{IsInOrder}
 use Rattle.group_values.specs.Groups.{Seen, alike}
 use Rattle.group_tuples.specs.Neighbours.{AreTogether, seen_at}
-
-is-equal : (o : Ordering) → is_eq o ≡ true → o ≡ Equal
-is-equal Less e = absurd (false≢true e)
-is-equal Equal e = refl
-is-equal Greater e = absurd (false≢true e)
 
 module _ {X : Type 0} (order : X → X → Ordering) (total : IsTotalOrder order) where
   -- one between two that tie ties with them
@@ -39,7 +34,7 @@ module _ {X : Type 0} (order : X → X → Ordering) (total : IsTotalOrder order
         let c : seen_at (map f (x ∷ xs)) k ≡ f (at k) = get_or-map f (x ∷ xs) k x blank last in
         let p = ps i x (omega (arith, last, ij, jk)) in
         let q = ps j x (omega (arith, last, jk)) in
-        let ends : order (at i) (at k) ≡ Equal = is-equal (order (at i) (at k)) (tied (at i) (at k) p (ps k x last) ∙ sym (ap₂ alike a c) ∙ like) in
+        let ends : order (at i) (at k) ≡ Equal = (Equal-is (order (at i) (at k))).0 (tied (at i) (at k) p (ps k x last) ∙ sym (ap₂ alike a c) ∙ like) in
         let mid : order (at i) (at j) ≡ Equal = between (at i) (at j) (at k) (order (at i) (at j)) (order (at j) (at k)) refl refl (up i j x ij (omega (arith, last, jk))) (up j k x jk last) ends in
         ap₂ alike a b ∙ sym (tied (at i) (at j) p q) ∙ ap is_eq mid
 

@@ -22,10 +22,11 @@ pub record AreChained (count : ℕ) (firsts : List (Option ℕ)) (hashes : List 
   pub firsts_are : All (λ first. IfSome first (λ slot. slot < count)) firsts
   pub stands : (slot : ℕ) → slot < count → has slot (chain_from lists (first_for firsts (slice_index hashes slot))) ≡ true
 
--- the chains of the slots below a number, and those of all slots
+-- the chains of the slots below a number: a slot that was just made stands in none
 abbrev pub IsChainedBelow : ℕ → Chains → Type 0
 IsChainedBelow count c = AreChained count c.firsts.items c.hashes.items c.links
 
+-- the chains of all slots
 abbrev pub IsChained : Chains → Type 0
 IsChained c = IsChainedBelow (length c.hashes.items) c
 

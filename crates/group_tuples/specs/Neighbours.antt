@@ -8,6 +8,7 @@ use Rattle.pg_value.specs.Kinds.{directed_order}
 use Rattle.group_values.specs.declared.shape.Sorter.{Sorter}
 use Rattle.group_values.specs.Groups.{Seen, alike}
 
+-- what is seen of the tuple at a place of the input
 abbrev pub seen_at : List Seen → ℕ → Seen
 seen_at ss n = slice_index_or ss n (record { keys = []; args = [] })
 

@@ -14,6 +14,7 @@ use Rattle.group_values.specs.declared.shape.Call.TheVariants.{CountAll, Count, 
 use Rattle.group_values.specs.Groups.{Seen, all_called, args_of, called, first_or_null, is_known, number}
 use Rattle.group_values.specs.Steps.{blank, can_rise, first_of, has_room, have_room, risen, with_args, with_one}
 use Rattle.group_values.proofs.LeastLemmas.{first-more}
+use Rattle.group_values.proofs.OrderLemmas.{both-true}
 
 abbrev arg : ℕ → Seen → Value
 arg n s = get_or s.args n Null
@@ -85,17 +86,13 @@ drop-head (suc n) [] ys w d e = absurd (no e)
     no e = cc
 drop-head (suc n) (x ∷ xs) ys w d e = drop-head n xs ys w d e
 
-both-room : (a b : Bool) → cond a b false ≡ true → (a ≡ true) × (b ≡ true)
-both-room true b e = (refl, e)
-both-room false b e = absurd (false≢true e)
-
 all-more : (calls : List Call) (n : ℕ) (ss : List Seen) (s : Seen) (ws : List Value) → ws ≡ drop n s.args → length ws ≡ length calls → have_room calls (all_called n calls ss) ≡ true
     → with_args calls (all_called n calls ss) ws ≡ all_called n calls (ss ++ s ∷ [])
 all-more [] n ss s ws e m h = refl
 all-more (c ∷ cs) n ss s [] e m h = absurd (omega (arith, m))
 all-more (c ∷ cs) n ss s (w ∷ ws) e m h =
     let at = drop-head n s.args ws w Null e in
-    let room = both-room (has_room c (called c n ss)) (have_room cs (all_called (suc n) cs ss)) h in
+    let room = both-true (has_room c (called c n ss)) (have_room cs (all_called (suc n) cs ss)) h in
     ap₂ (λ v vs. v ∷ vs) (ap (with_one c (called c n ss)) at.0 ∙ called-more c n ss s room.0) (all-more cs (suc n) ss s ws at.1 (omega (arith, m)) room.1)
 
 pub calls-more : (calls : List Call) (ss : List Seen) (s : Seen) → length s.args ≡ length calls → have_room calls (all_called 0 calls ss) ≡ true → with_args calls (all_called 0 calls ss) s.args ≡ all_called 0 calls (ss ++ s ∷ [])

@@ -3,12 +3,13 @@ use Rattle.std.proofs.Common.{◌≡◌, ℕ, zero, suc, ◌<◌, Bool, true, fa
 use Rattle.std.specs.Prelude.{filter}
 use Rattle.std.specs.Cmp.{IsEquivalence}
 use Rattle.std.specs.List.{AllByRecursion, list_any}
-use Rattle.std.proofs.lemmas.Bool.{false≢true, true≢false}
+use Rattle.std.proofs.lemmas.Bool.{false≢true, true≢false, not-true}
 use Rattle.std.proofs.lemmas.Cmp.{eq_by_cmp_equiv}
 use Rattle.std.proofs.lemmas.List.Elements.{filter-append}
 use Rattle.pg_value.specs.declared.value.Value.{Value}
 use Rattle.pg_value.proofs.KindLemmas.{kind_total}
 use Rattle.group_values.specs.Groups.{Seen, alike, firsts, keys_of, same_keys, same_value}
+use Rattle.group_values.proofs.OrderLemmas.{both-true}
 
 pub same_equiv : IsEquivalence same_value
 same_equiv = eq_by_cmp_equiv kind_total
@@ -23,10 +24,6 @@ keys-symm [] [] = refl
 keys-symm [] (l ∷ ls) = refl
 keys-symm (k ∷ ks) [] = refl
 keys-symm (k ∷ ks) (l ∷ ls) = ap₂ (λ a b. cond a b false) (same_equiv.symm k l) (keys-symm ks ls)
-
-both-true : (a b : Bool) → cond a b false ≡ true → (a ≡ true) × (b ≡ true)
-both-true true b e = (refl, e)
-both-true false b e = absurd (false≢true e)
 
 keys-congr : (ks ls ms : List Value) → same_keys ks ls ≡ true → same_keys ks ms ≡ same_keys ls ms
 keys-congr [] [] ms e = refl
@@ -75,10 +72,6 @@ abbrev pub AreUnlike : List Seen → Type 0
 AreUnlike [] = Unit {0}
 AreUnlike (f ∷ fs) = AllByRecursion (λ g. alike f g ≡ false) fs × AreUnlike fs
 
-not-false : (b : Bool) → not b ≡ true → b ≡ false
-not-false true e = absurd (false≢true e)
-not-false false e = refl
-
 all-kept : (P : Seen → Type 0) (test : Seen → Bool) (fs : List Seen) → AllByRecursion P fs → AllByRecursion (λ f. P f × (test f ≡ true)) (filter test fs)
 all-kept P test [] all = tt
 all-kept P test (f ∷ fs) all = by (test f) refl (all-kept P test fs all.1)
@@ -106,7 +99,7 @@ all-unit (f ∷ fs) = (tt, all-unit fs)
 pub firsts-unlike : (ss : List Seen) → AreUnlike (firsts ss)
 firsts-unlike [] = tt
 firsts-unlike (s ∷ ss) = (
-  all-weaker (λ f. Unit {0} × (not (alike s f) ≡ true)) (λ f. alike s f ≡ false) (filter (λ f. not (alike s f)) (firsts ss)) (λ f h. not-false (alike s f) h.1) (all-kept (λ f. Unit {0}) (λ f. not (alike s f)) (firsts ss) (all-unit (firsts ss))),
+  all-weaker (λ f. Unit {0} × (not (alike s f) ≡ true)) (λ f. alike s f ≡ false) (filter (λ f. not (alike s f)) (firsts ss)) (λ f h. not-true (alike s f) h.1) (all-kept (λ f. Unit {0}) (λ f. not (alike s f)) (firsts ss) (all-unit (firsts ss))),
   unlike-kept (λ f. not (alike s f)) (firsts ss) (firsts-unlike ss),
 )
 
@@ -116,7 +109,7 @@ first-keys [] = tt
 first-keys (s ∷ ss) = (
   ap (λ b. keys_of (cond b (s ∷ filter (alike s) ss) (filter (alike s) ss))) (alike_equiv.refl s),
   all-weaker (λ f. (keys_of (filter (alike f) ss) ≡ f.keys) × (not (alike s f) ≡ true)) (λ f. keys_of (filter (alike f) (s ∷ ss)) ≡ f.keys) (filter (λ f. not (alike s f)) (firsts ss))
-      (λ f h. ap (λ b. keys_of (cond b (s ∷ filter (alike f) ss) (filter (alike f) ss))) (alike_equiv.symm f s ∙ not-false (alike s f) h.1) ∙ h.0)
+      (λ f h. ap (λ b. keys_of (cond b (s ∷ filter (alike f) ss) (filter (alike f) ss))) (alike_equiv.symm f s ∙ not-true (alike s f) h.1) ∙ h.0)
       (all-kept (λ f. keys_of (filter (alike f) ss) ≡ f.keys) (λ f. not (alike s f)) (firsts ss) (first-keys ss)),
 )
 

@@ -1,7 +1,6 @@
 -- How lists of values and groups stand to one another.
-use Rattle.std.proofs.Common.{◌≡◌, ◌≢◌, suc, Bool, true, false, cond, List, [], ◌∷◌, length, map, refl, ap, ap₂, Ordering, Less, Equal, Greater}
-use Rattle.std.specs.Cmp.{IsTotalOrder}
-use Rattle.std.specs.Ordering.{is_eq}
+use Rattle.std.proofs.Common.{◌≡◌, ◌≢◌, suc, Bool, true, false, cond, List, [], ◌∷◌, length, map, refl, ap, ap₂}
+use Rattle.std.specs.Cmp.{IsTotalOrder, Equal-is}
 use Rattle.std.proofs.lemmas.Bool.{false≢true}
 use Rattle.std.proofs.lemmas.Cmp.{on_total, then_total}
 use Rattle.pg_value.specs.declared.value.Value.{Value}
@@ -11,12 +10,7 @@ use Rattle.pg_value.proofs.KindLemmas.{directed_total, tied-same}
 use Rattle.group_values.specs.declared.shape.Sorter.{Sorter}
 use Rattle.group_values.specs.Groups.{key_at, same_keys, same_value, sorter_order}
 
-equal-is : (o : Ordering) → is_eq o ≡ true → o ≡ Equal
-equal-is Less e = absurd (false≢true e)
-equal-is Equal e = refl
-equal-is Greater e = absurd (false≢true e)
-
-both-true : (a b : Bool) → cond a b false ≡ true → (a ≡ true) × (b ≡ true)
+pub both-true : (a b : Bool) → cond a b false ≡ true → (a ≡ true) × (b ≡ true)
 both-true true b e = (refl, e)
 both-true false b e = absurd (false≢true e)
 
@@ -27,7 +21,7 @@ same-is [] (w ∷ ws) e = absurd (false≢true e)
 same-is (v ∷ vs) [] e = absurd (false≢true e)
 same-is (v ∷ vs) (w ∷ ws) e =
     let h = both-true (same_value v w) (same_keys vs ws) e in
-    ap₂ (λ x xs. x ∷ xs) (tied-same v w (equal-is (kind_order v w) h.0)) (same-is vs ws h.1)
+    ap₂ (λ x xs. x ∷ xs) (tied-same v w ((Equal-is (kind_order v w)).0 h.0)) (same-is vs ws h.1)
 
 pub other-length : (vs ws : List Value) → length vs ≢ length ws → same_keys vs ws ≡ false
 other-length [] [] ne = absurd (ne refl)

@@ -3,7 +3,7 @@ use Rattle.std.proofs.Common.{◌≡◌, ℕ, zero, suc, ◌<◌, Bool, true, fa
 use Rattle.std.specs.Prelude.{All, filter}
 use Rattle.std.specs.List.{AllByRecursion}
 use Rattle.std.proofs.lemmas.Bool.{false≢true, true≢false}
-use Rattle.std.proofs.lemmas.List.{get_or-map, length-map, map-append, map-set}
+use Rattle.std.proofs.lemmas.List.{get_or-map, length-map, map-append, map-set, nil_from_length}
 use Rattle.std.proofs.lemmas.List.Elements.{All-push, All-head}
 use Rattle.pg_value.specs.declared.value.Value.{Value}
 use Rattle.group_values.specs.declared.shape.Call.{Call}
@@ -100,19 +100,15 @@ join-by (suc w) calls ss s gs n many is lt same room =
     join-keyed calls ss s many n
     (omega (arith, lt, ap (λ (l : List Summary). length l) is, length-map (map (members calls ss s many) (firsts ss)) (summary calls), length-map (firsts ss) (members calls ss s many))) gs is same room
 
-narrow : (ks : List Value) → length ks ≡ 0 → ks ≡ []
-narrow [] e = refl
-narrow (k ∷ ks) e = absurd (omega (arith, e))
-
-no-width : (ss : List Seen) → All (λ (s : Seen). length s.keys ≡ 0) ss → keys_of ss ≡ []
+pub no-width : (ss : List Seen) → All (λ (s : Seen). length s.keys ≡ 0) ss → keys_of ss ≡ []
 no-width [] all = refl
-no-width (s ∷ ss) all = narrow s.keys (All-head (λ (s : Seen). length s.keys ≡ 0) s ss all)
+no-width (s ∷ ss) all = nil_from_length s.keys (All-head (λ (s : Seen). length s.keys ≡ 0) s ss all)
 
 begin-by : (w : ℕ) (calls : List Call) (ss : List Seen) (s : Seen) (gs : List Summary) → All (λ (t : Seen). length t.keys ≡ w) ss → length s.keys ≡ w → length s.args ≡ length calls → gs ≡ map (summary calls) (groups w ss)
     → ((n : ℕ) → n < length gs → same_keys (group_at gs n).keys s.keys ≡ false) → gs ++ begun calls s.keys s.args ∷ [] ≡ map (summary calls) (groups w (ss ++ s ∷ []))
 begin-by zero calls ss s gs widths width many is other =
     absurd (true≢false (
-    ap₂ (λ (a b : List Value). same_keys a b) (sym (ap (λ l. (group_at l 0).keys) is ∙ no-width ss widths)) (sym (narrow s.keys width))
+    ap₂ (λ (a b : List Value). same_keys a b) (sym (ap (λ l. (group_at l 0).keys) is ∙ no-width ss widths)) (sym (nil_from_length s.keys width))
     ∙ other 0 (omega (arith, ap (λ (l : List Summary). length l) is))))
 begin-by (suc w) calls ss s gs widths width many is other = begin-keyed calls ss s many gs is other
 

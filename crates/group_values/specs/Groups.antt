@@ -53,10 +53,12 @@ is_known _ = true
 abbrev pub args_of : ℕ → List Seen → List Value
 args_of n ss = filter is_known (map (λ (s : Seen). slice_index_or s.args n Null) ss)
 
+-- what min and max give of the values in their order: NULL of none
 abbrev pub first_or_null : List Value → Value
 first_or_null [] = Null
 first_or_null (v ∷ vs) = v
 
+-- a number of tuples as a value, an int8
 abbrev pub number : ℕ → Value
 number n = Int (pos n)
 
@@ -78,25 +80,28 @@ abbrev pub keys_of : List Seen → List Value
 keys_of [] = []
 keys_of (s ∷ ss) = s.keys
 
--- what is known of a group, and of each group
+-- what is known of a group
 abbrev pub summary : List Call → List Seen → Summary
 summary calls ss = record { keys = keys_of ss; called = all_called 0 calls ss }
 
+-- what is known of each group of these tuples, in the order of the groups' first tuples
 abbrev pub summaries : GroupShape → List Seen → List Summary
 summaries shape ss = map (summary shape.calls) (groups shape.width ss)
 
--- what is shown of a group
+-- what an item of the list shows of a group
 abbrev pub cell : Summary → Shown → Value
 cell g (Key n) = slice_index_or g.keys n Null
 cell g (Called n) = slice_index_or g.called n Null
 
+-- the line of a group
 abbrev pub line : List Shown → Summary → List Value
 line items g = map (cell g) items
 
--- the order of groups by an item of ORDER BY, a GROUP BY column with its direction and its place for NULL
+-- a group's value of the GROUP BY column that an item of ORDER BY names
 abbrev pub key_at : Sorter → Summary → Value
 key_at o g = slice_index_or g.keys o.place Null
 
+-- the order of groups by an item of ORDER BY, with its direction and its place for NULL
 abbrev pub sorter_order : Sorter → Summary → Summary → Ordering
 sorter_order o = on (key_at o) (directed_order o.descending o.nulls_first)
 

@@ -53,6 +53,7 @@ has_room Count v = can_rise v
 has_room Min v = true
 has_room Max v = true
 
+-- one more tuple takes no count of a group past int8
 abbrev pub have_room : List Call → List Value → Bool
 have_room (c ∷ cs) (v ∷ vs) = cond (has_room c v) (have_room cs vs) false
 have_room _ _ = true
@@ -65,9 +66,11 @@ joined calls args g = record { keys = g.keys; called = with_args calls g.called 
 abbrev pub begun : List Call → List Value → List Value → Summary
 begun calls keys args = record { keys = keys; called = with_args calls (map blank calls) args }
 
+-- a group of which nothing is known, in place of one that is not there
 abbrev pub none : Summary
 none = record { keys = []; called = [] }
 
+-- what is known of the group at a place of a list
 abbrev pub group_at : List Summary → ℕ → Summary
 group_at gs n = slice_index_or gs n none
 

@@ -41,9 +41,11 @@ pub record AreChained (k : IndexKey) (heads : List ℕ) (gs : List RowsOf) (list
   pub chained : (s : ℕ) → IsKnown (value_at gs s) → stands_behind lists (head_for heads (value_at gs s)) s ≡ true
   pub apart : (s t : ℕ) → IsKnown (value_at gs s) → value_at gs s ≡ value_at gs t → s ≡ t
 
+-- the slots of an index agree: each stands in one chain, and the head of each bucket is a slot of NULL
 abbrev pub HasSlots : Chains → Type 0
 HasSlots c = AreSlots c.heads.items c.groups.items c.links
 
+-- the index of a key finds each value: it has one slot, in the chain of its bucket
 abbrev pub IsChained : IndexKey → Chains → Type 0
 IsChained k c = AreChained k c.heads.items c.groups.items c.links
 

@@ -14,6 +14,7 @@ pub record RowsOf : Type 0 where
   pub value : Value
   pub tids : List Tid
 
+-- row numbers, from 0, in rising order
 abbrev pub AreRising : List Tid → Type 0
 AreRising ts = IsInOrder (on (λ (t : Tid). t.0) nat_cmp) ts
 
@@ -33,6 +34,7 @@ below rows g = record { value = g.value; tids = filter (λ (t : Tid). nat_lt t.0
 abbrev pub blank : RowsOf
 blank = record { value = Null; tids = [] }
 
+-- the value at a slot with its rows
 abbrev pub group_at : List RowsOf → ℕ → RowsOf
 group_at gs slot = slice_index_or gs slot blank
 

@@ -1,5 +1,6 @@
 -- The records of a block, as a reader reaches them one by one.
 use Rattle.std.proofs.Common.{◌≡◌, ℕ, zero, suc, ◌<◌, ◌≤◌, ◌+◌, ◌-◌, Bool, true, false, List, [], ◌∷◌, ◌++◌, length, refl, sym, ap, subst, ◌∙◌, arith, Some, None, append-nil}
+use Rattle.std.proofs.lemmas.Option.{same_Some}
 use Rattle.std.specs.Prelude.{if◌then◌else◌, ◌==◌, ◌||◌}
 use Rattle.csv.specs.declared.parser.Terminator.TheVariants as term
 use Rattle.csv.specs.Machine.{after_end, in_field, start_field, start_record, Read, next_record, step, is_end, ends_at_end, fields_after, field_after}
@@ -73,9 +74,6 @@ pub record Shortens (xs : List ℕ) (p : Read) : Type 0 where
   pub shorter : length p.2 < length xs
   pub between : ends_at_end p.1 ≡ false
 
-from_some : {A : Type 0} (x y : A) → Some x ≡ Some y → x ≡ y
-from_some x y h = cc
-
 module _ (s : State) (fields : List (List ℕ)) (field : List ℕ) (c : ℕ) (xs : List ℕ) (p : Read) where
   abbrev next_state : State
   next_state = (step default_config s c).0
@@ -89,12 +87,12 @@ module _ (s : State) (fields : List (List ℕ)) (field : List ℕ) (c : ℕ) (xs
   by_end : (b : Bool) → is_end (step default_config s c).1 ≡ b → (next_record default_config next_state next_fields next_field xs ≡ Some p → Shortens (c ∷ xs) p)
       → (if b then Some (next_fields, next_state, xs) else next_record default_config next_state next_fields next_field xs) ≡ Some p → Shortens (c ∷ xs) p
   by_end true e rest h =
-      let same : (next_fields, next_state, xs) ≡ p = from_some (next_fields, next_state, xs) p h in
+      let same : (next_fields, next_state, xs) ≡ p = same_Some (next_fields, next_state, xs) p h in
       subst (λ (q : Read). Shortens (c ∷ xs) q) same (record { shorter = omega arith; between = step_between s c e })
   by_end false e rest h = rest h
 
   at_end : (b : Bool) → (if b then Some (next_fields ++ (next_field ∷ []), st.StartRecord, []) else None) ≡ Some p → Shortens (c ∷ xs) p
-  at_end true h = subst (λ (q : Read). Shortens (c ∷ xs) q) (from_some (next_fields ++ (next_field ∷ []), st.StartRecord, []) p h) (record { shorter = omega arith; between = refl })
+  at_end true h = subst (λ (q : Read). Shortens (c ∷ xs) q) (same_Some (next_fields ++ (next_field ∷ []), st.StartRecord, []) p h) (record { shorter = omega arith; between = refl })
   at_end false h = cc
 
 pub read_shortens : (s : State) (fields : List (List ℕ)) (field : List ℕ) (c : ℕ) (xs : List ℕ) (p : Read) → next_record default_config s fields field (c ∷ xs) ≡ Some p → Shortens (c ∷ xs) p

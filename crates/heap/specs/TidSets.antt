@@ -13,6 +13,7 @@ pub record IsTidSet (s : TidSet) : Type 0 where
   pub ordered : AllPairs ◌<◌ s.members
   pub within : All (λ n. n < s.bound) s.members
 
+-- a row number is in a set, by its members
 abbrev pub is_member : List ℕ → ℕ → Bool
 is_member ns n = list_any (nat_eq n) ns
 

@@ -1,10 +1,10 @@
 -- Well bound queries over other indexes, and the least price of a query.
-use Rattle.std.proofs.Common.{◌≡◌, ◌≤◌, ℕ, List, sym, ◌∙◌, arith}
+use Rattle.std.proofs.Common.{◌≡◌, ℕ, List, sym, ◌∙◌}
 use Rattle.std.proofs.lemmas.List.Elements.{All-weaker}
+use Rattle.std.proofs.Math.Nat.{le_antisymm}
 use Rattle.catalog.specs.Contents.{Contents, TableDef, NamedIndex}
 use Rattle.sql_query.specs.Queries.{Query}
 use Rattle.sql_query.specs.WellBound.{IsColumnOf, IsWellBound}
-use Rattle.plan_tree.specs.Costs.{price}
 use Rattle.index_laws.specs.Moved.{HasNoPlan, HasPrice, over}
 
 pub bound-over : (tables : List TableDef) (a b : List NamedIndex) (q : Query) → IsWellBound (over tables a) q → IsWellBound (over tables b) q
@@ -23,13 +23,10 @@ bound-over tables a b q h = record {
   directions = h.directions;
 }
 
-both-most : (a b : ℕ) → a ≤ b → b ≤ a → a ≡ b
-both-most a b h k = omega (arith, h, k)
-
 pub one-price : (c : Contents) (q : Query) (m n : ℕ) → HasPrice c q m → HasPrice c q n → m ≡ n
 one-price c q m n h k =
     sym h.is
-    ∙ both-most (price c q h.plan) (price c q k.plan) (h.best.least k.plan k.best.finished k.best.admissible) (k.best.least h.plan h.best.finished h.best.admissible)
+    ∙ le_antisymm (h.best.least k.plan k.best.finished k.best.admissible) (k.best.least h.plan h.best.finished h.best.admissible)
     ∙ k.is
 
 pub priced-plan : (c : Contents) (q : Query) (n : ℕ) → HasPrice c q n → ¬ HasNoPlan c q

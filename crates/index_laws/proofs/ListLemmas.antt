@@ -3,7 +3,7 @@ use Prim.Native.Nat.{suc, zero}
 use Rattle.std.proofs.Common.{◌≡◌, ◌≢◌, ◌<◌, ◌+◌, ℕ, Bool, true, false, cond, ◌||◌, nat_eq, List, [], ◌∷◌, length, map, refl, sym, ap, ◌∙◌, arith, true≢false}
 use Rattle.std.specs.Prelude.{filter, slice_index_or}
 use Rattle.std.specs.List.{list_any}
-use Rattle.std.proofs.lemmas.Grind.{common_steps}
+use Rattle.std.proofs.lemmas.Bool.{eq-eqb, ne_eqb}
 use Rattle.pg_base.specs.declared.numbers.IndexNo.{IndexNo}
 use Rattle.pg_base.specs.declared.numbers.TableNo.{TableNo}
 use Rattle.catalog.specs.Contents.{TableDef, NamedIndex, index_at, numbers_from}
@@ -31,16 +31,10 @@ before h n = suc (h n)
 abbrev next : IndexNo → IndexNo
 next i = record { 0 = suc i.0 }
 
-table-same : (m n : ℕ) → m ≡ n → nat_eq m n ≡ true
-table-same m n e = grind (arith, common_steps)
-
-table-other : (m n : ℕ) → m ≢ n → nat_eq m n ≡ false
-table-other m n ne = grind (arith, common_steps)
-
 -- an index that is not read is of no relation's table
 not-read : (range : Range) (m : ℕ) → list_any (λ rel. nat_eq m rel.0.0) range ≡ false → (r : ℕ) → r < length range → m ≢ (slice_index_or range r (record { 0 = 0 }, [])).0.0
 not-read [] m e r lt = absurd (omega (arith, lt))
-not-read (x ∷ xs) m e zero lt = λ same. true≢false (sym (ap (λ (b : Bool). b || list_any (λ rel. nat_eq m rel.0.0) xs) (table-same m x.0.0 same)) ∙ e)
+not-read (x ∷ xs) m e zero lt = λ same. true≢false (sym (ap (λ (b : Bool). b || list_any (λ rel. nat_eq m rel.0.0) xs) (eq-eqb m x.0.0 same)) ∙ e)
 not-read (x ∷ xs) m e (suc r) lt = not-read xs m (later (nat_eq m x.0.0) e) r (omega (arith, lt))
   where
     later : {c : Bool} (b : Bool) → b || c ≡ false → c ≡ false
@@ -87,7 +81,7 @@ both-listed h x ps bs t e = by (nat_eq x.index.table.0 t.0)
 
 -- an index of another table is not listed
 unlisted : (x : NamedIndex) (xs : List NamedIndex) (t : TableNo) → x.index.table.0 ≢ t.0 → numbers_from 0 (x ∷ xs) t ≡ map next (numbers_from 0 xs t)
-unlisted x xs t ne = ap (λ (b : Bool). cond b (record { 0 = 0 } ∷ numbers_from 1 xs t) (numbers_from 1 xs t)) (table-other x.index.table.0 t.0 ne) ∙ numbers-next 0 xs t
+unlisted x xs t ne = ap (λ (b : Bool). cond b (record { 0 = 0 } ∷ numbers_from 1 xs t) (numbers_from 1 xs t)) (ne_eqb x.index.table.0 t.0 ne) ∙ numbers-next 0 xs t
 
 module _ (tables : List TableDef) (q : Query) where
   -- an index of a number is one of a relation's table

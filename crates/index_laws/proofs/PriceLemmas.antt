@@ -1,5 +1,6 @@
 -- The least price of a query reads the indexes of its tables alone.
 use Rattle.std.proofs.Common.{◌≡◌, ◌<◌, ◌+◌, ℕ, Bool, true, false, cond, ◌&&◌, List, [], ◌∷◌, ◌++◌, length, refl, sym, ap, ◌∙◌, arith, subst, get_or}
+use Rattle.std.proofs.Math.Nat.{zero-add}
 use Prim.Native.Nat.{suc}
 use Rattle.std.specs.Prelude.{filter}
 use Rattle.pg_base.specs.declared.numbers.IndexNo.{IndexNo}
@@ -41,9 +42,6 @@ filter-joined test (x ∷ xs) ys = by (filter-joined test xs ys) (test x)
     by rest true = ap (λ (zs : List NamedIndex). x ∷ zs) rest
     by rest false = rest
 
-none-more : (k : ℕ) → 0 + k ≡ k
-none-more k = omega arith
-
 shifted : (m k : ℕ) → m + 1 + k ≡ m + suc k
 shifted m k = omega arith
 
@@ -66,5 +64,5 @@ added-read q n s t (x ∷ xs) h = by (added-read q (n + 1) s t xs (λ k lt. ap t
 pub added-same : (q : Query) (indexes candidates : List NamedIndex) (s t : ℕ → Bool) → ((k : ℕ) → k < length candidates → t k ≡ is_read q (get_or candidates k no_index)) → filter (is_read q) (indexes ++ added_from 0 s candidates) ≡ filter (is_read q) (indexes ++ added_from 0 (λ k. s k && t k) candidates)
 added-same q indexes candidates s t h =
     filter-joined (is_read q) indexes (added_from 0 s candidates)
-    ∙ ap (λ (zs : List NamedIndex). filter (is_read q) indexes ++ zs) (added-read q 0 s t candidates (λ k lt. ap t (none-more k) ∙ h k lt))
+    ∙ ap (λ (zs : List NamedIndex). filter (is_read q) indexes ++ zs) (added-read q 0 s t candidates (λ k lt. ap t (zero-add k) ∙ h k lt))
     ∙ sym (filter-joined (is_read q) indexes (added_from 0 (λ k. s k && t k) candidates))

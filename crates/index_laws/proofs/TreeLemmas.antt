@@ -5,6 +5,7 @@ use Rattle.std.specs.Prelude.{Option, Some}
 use Rattle.std.specs.Option.{option_map}
 use Rattle.std.specs.List.{AllZip, AllByRecursion, items_where_true}
 use Rattle.std.proofs.lemmas.List.{take-map}
+use Rattle.std.proofs.lemmas.Bool.{eq-eqb, or_right}
 use Rattle.pg_base.specs.Sets.{has}
 use Rattle.pg_base.specs.declared.numbers.IndexNo.{IndexNo}
 use Rattle.pg_base.specs.declared.numbers.RelNo.{RelNo}
@@ -19,7 +20,7 @@ use Rattle.sql_query.specs.Queries.{Query, width}
 use Rattle.plan_tree.specs.Plans.{BitTree, leaf, all_hold, some_arm, BitTrees, no_trees, tree_and}
 use Rattle.plan_tree.specs.Bitmaps.{Element, by_index, by_clause, ArePicked, none_left, picked, passed, MOST_ELEMENTS, IsIndexOn, MatchesArm, IsMatchedOr, IsBitTree, IsTreeOver, IsElement, HasArms, HaveArms, element_of, elements_of, condition_at, candidates, table_of_relation, uses, some_uses}
 use Rattle.plan_tree.specs.Costs.{part_of, parts_of_all, parts_of_arms, together}
-use Rattle.plan_tree.proofs.ElementLemmas.{is-listed, listed-on, equal-number}
+use Rattle.plan_tree.proofs.ElementLemmas.{is-listed, listed-on}
 use Rattle.plan_tree.proofs.CostableLemmas.{In, in-taken, in-contained, in-masked, in-picked, index-listed}
 use Rattle.plan_tree.proofs.FrontLemmas.{contains-mapped}
 use Rattle.index_laws.specs.Moved.{over, Moves, tree_moved, trees_moved, element_moved}
@@ -36,10 +37,6 @@ module _ (c : Contents) (q : Query) (r : ℕ) where
     pub AreOnTrees : BitTrees → Type 0
     AreOnTrees no_trees = Unit {0}
     AreOnTrees (tree_and t bs) = IsOnTree t × AreOnTrees bs
-
-or-later : (a b : Bool) → b ≡ true → a || b ≡ true
-or-later true b e = refl
-or-later false b e = e
 
 -- lists of elements, moved
 module _ (f : IndexNo → IndexNo) where
@@ -115,7 +112,7 @@ module _ (tables : List TableDef) (a b : List NamedIndex) (q : Query) (f : Index
   indexes-on : (is : List IndexNo) (cs : List Numbered) → ((i : IndexNo) → is-listed i is ≡ true → IsIndexOn (over tables a) q r i) → AllByRecursion IsOnElement (map by_index is ++ map (λ (k : Numbered). by_clause k.number) cs)
   indexes-on [] cs h = clauses-on cs
   indexes-on (i ∷ is) cs h =
-      (h i (ap (λ (x : Bool). x || is-listed i is) (equal-number i.0 i.0 refl)), indexes-on is cs (λ j g. h j (or-later (nat_eq i.0 j.0) (is-listed j is) g)))
+      (h i (ap (λ (x : Bool). x || is-listed i is) (eq-eqb i.0 i.0 refl)), indexes-on is cs (λ j g. h j (or_right (nat_eq i.0 j.0) (is-listed j is) g)))
 
   module _ (p : Set) where
     element-there : (x : Element) → IsOnElement x → IsElement (over tables a) q r p x → IsElement (over tables b) q r p (element_moved f x)

@@ -92,10 +92,6 @@ alone (negation e) h = refl
 
 pub ruleset parts = (and_arm, alone)
 
-both : (a b : Bool) → a && b ≡ true → b ≡ true
-both true b h = h
-both false b h = absurd (true≢false (sym h))
-
 module _ {A : Type 0} (d x : Index) (at : d ≡ x) (r : ℕ) (arm : Cond) (f : A → Cond) (parts : List A) (are : map f parts ≡ arm_parts arm) where
   abbrev part_test : Bool
   part_test = list_all (λ e. is_condition d r (f e)) parts
@@ -109,7 +105,7 @@ module _ {A : Type 0} (d x : Index) (at : d ≡ x) (r : ℕ) (arm : Cond) (f : A
   -- an arm with at most 256 atoms that is matched has at most 256 parts
   pub few_of_arm : (matched : Bool) → matched ≡ true → matched ≡ takes_parts d.method (length parts) && part_test → atom_count arm ≤ 256 → length parts ≤ 256
   few_of_arm matched passed is few =
-      let each : list_all (is_condition d r) (arm_parts arm) ≡ true = sym each_part ∙ both (takes_parts d.method (length parts)) part_test (sym is ∙ passed) in
+      let each : list_all (is_condition d r) (arm_parts arm) ≡ true = sym each_part ∙ (and_parts (takes_parts d.method (length parts)) part_test (sym is ∙ passed)).1 in
       let at_most : length (arm_parts arm) ≤ atom_count arm = parts_few d r arm each in
       let same : length parts ≡ length (arm_parts arm) = as_many in
       omega (arith, at_most, same, few)

@@ -1,9 +1,10 @@
 -- Bounds by the places of the conditions, and numbers in parts of a numbered list.
 use Rattle.std.proofs.Common.{◌≡◌, ◌<◌, ◌≤◌, ◌+◌, ℕ, zero, suc, Bool, true, false, cond, ◌&&◌, ◌||◌, nat_eq, nat_lt, List, [], ◌∷◌, length, filter, find, Option, Some, None, inl, inr, option_map, slice_index_or, refl, sym, ap, ap₂, ◌∙◌, arith}
 use Rattle.std.specs.List.{list_any, position_from}
-use Rattle.std.proofs.lemmas.Bool.{or_cases, true≢false, eq-eqb, eqb-true, ne_eqb, lt-ltb, ltb-true, cases_lt}
-use Rattle.opfamily.specs.declared.classes.IndexKey.{IndexKey}
-use Rattle.opfamily.specs.declared.classes.Method.{Method}
+use Rattle.std.proofs.lemmas.Bool.{or_cases, true≢false, eq-eqb, eqb-true, ne_eqb, lt-ltb, ltb-true, cases_lt, or_right, le-ltb}
+use Rattle.std.proofs.Math.Bool.{or-false}
+use Rattle.catalog.specs.opfamily_classes_IndexKey.{IndexKey}
+use Rattle.catalog.specs.opfamily_classes_Method.{Method}
 use Rattle.pg_expr.specs.Cond.{Cond}
 use Rattle.catalog.specs.Indexes.{Index}
 use Rattle.index_match.specs.Numbered.{Numbered, has_number}
@@ -19,23 +20,12 @@ and_false : (a b : Bool) → (a && false) || b ≡ b
 and_false true b = refl
 and_false false b = refl
 
-or_false : (b : Bool) → b || false ≡ b
-or_false true = refl
-or_false false = refl
-
-pub not_below : (k n : ℕ) → n ≤ k → nat_lt k n ≡ false
-not_below k n le = by (nat_lt k n) refl
-  where
-    by : (b : Bool) → nat_lt k n ≡ b → b ≡ false
-    by true e = let lt = ltb-true k n e in absurd (omega (arith, lt, le))
-    by false e = refl
-
 less_suc : (i n : ℕ) → nat_lt (suc i) (suc n) ≡ nat_lt i n
 less_suc i n = by (nat_lt i n) refl
   where
     by : (b : Bool) → nat_lt i n ≡ b → nat_lt (suc i) (suc n) ≡ b
     by true e = let lt = ltb-true i n e in lt-ltb (suc i) (suc n) (omega (arith, lt))
-    by false e = not_below (suc i) (suc n) (omega (arith, at_least))
+    by false e = le-ltb (suc i) (suc n) (omega (arith, at_least))
       where
         at_least : n ≤ i
         at_least = elim (cases_lt i n) [ inl lt ↦ absurd (true≢false (sym (lt-ltb i n lt) ∙ e)) | inr ge ↦ ge ]
@@ -61,10 +51,10 @@ slot_below test n (s ∷ ss) j lt =
     ap₂ (λ (a b : Bool). (a && passes test s) || b) (ne_eqb j n (λ same. omega (arith, lt, same))) (slot_below test (n + 1) ss j (omega (arith, lt)))
 
 slot_there : (test : Cond → Bool) (n : ℕ) (ss : List (Option Cond)) (i : ℕ) → slot_at test n ss (n + i) ≡ nat_lt i (length ss) && passes test (slice_index_or ss i None)
-slot_there test n [] i = sym (ap (λ (b : Bool). b && passes test (slice_index_or [] i None)) (not_below i 0 (omega arith)))
+slot_there test n [] i = sym (ap (λ (b : Bool). b && passes test (slice_index_or [] i None)) (le-ltb i 0 (omega arith)))
 slot_there test n (s ∷ ss) zero =
     ap₂ (λ (a b : Bool). (a && passes test s) || b) (eq-eqb (n + 0) n (omega arith)) (slot_below test (n + 1) ss (n + 0) (omega arith))
-    ∙ or_false (passes test s)
+    ∙ or-false (passes test s)
     ∙ sym (ap (λ (b : Bool). b && passes test s) (lt-ltb 0 (suc (length ss)) (omega arith)))
 slot_there test n (s ∷ ss) (suc i) =
     let next : n + suc i ≡ n + 1 + i = omega arith in
@@ -115,17 +105,13 @@ or_step : (b c d : Bool) → (c ≡ true → d ≡ true) → b || c ≡ true →
 or_step true c d f h = refl
 or_step false c d f h = f h
 
-or_later : (b c : Bool) → c ≡ true → b || c ≡ true
-or_later true c h = refl
-or_later false c h = h
-
 pub any_filter : {A : Type 0} (p q : A → Bool) (xs : List A) → list_any p (filter q xs) ≡ true → list_any p xs ≡ true
 any_filter p q [] h = h
 any_filter {A} p q (x ∷ xs) h = by (any_filter p q xs) (q x) h
   where
     by : (list_any p (filter q xs) ≡ true → list_any p xs ≡ true) → (a : Bool) → list_any p (cond a (x ∷ filter q xs) (filter q xs)) ≡ true → p x || list_any p xs ≡ true
     by later true h = or_step (p x) (list_any p (filter q xs)) (list_any p xs) later h
-    by later false h = or_later (p x) (list_any p xs) (later h)
+    by later false h = or_right (p x) (list_any p xs) (later h)
 
 found_any : {A : Type 0} (p t : A → Bool) (xs : List A) (x : A) → find p xs ≡ Some x → t x ≡ true → list_any t xs ≡ true
 found_any p t [] x e h = cc
@@ -133,7 +119,7 @@ found_any {A} p t (y ∷ ys) x e h = by (λ f. found_any p t ys x f h) (p y) e
   where
     by : (find p ys ≡ Some x → list_any t ys ≡ true) → (a : Bool) → cond a (Some y) (find p ys) ≡ Some x → t y || list_any t ys ≡ true
     by later true f = let same : y ≡ x = cc in ap (λ (b : Bool). b || list_any t ys) (ap t same ∙ h)
-    by later false f = or_later (t y) (list_any t ys) (later f)
+    by later false f = or_right (t y) (list_any t ys) (later f)
 
 -- bounds are among the conditions
 bounds_among_them : (m : Method) (r : ℕ) (ks : List IndexKey) (cs : List Numbered) (j : ℕ) → has_number (bounding m r ks cs) j ≡ true → has_number cs j ≡ true

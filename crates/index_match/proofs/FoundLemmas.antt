@@ -2,10 +2,10 @@
 use Rattle.std.proofs.Common.{◌≡◌, ◌<◌, ◌≤◌, ◌+◌, ℕ, zero, suc, Bool, true, false, not, cond, ◌&&◌, nat_lt, List, [], ◌∷◌, length, map, filter, find, take, Option, Some, None, inl, inr, option_map, slice_index_or, refl, sym, ap, ap₂, ◌∙◌, arith}
 use Rattle.std.specs.Prelude.{IfSome}
 use Rattle.std.specs.List.{cons_option, enumerate_from, range_with_len}
-use Rattle.std.proofs.lemmas.Bool.{eq-eqb, ne_eqb, lt-ltb, cases_lt}
+use Rattle.std.proofs.lemmas.Bool.{eq-eqb, ne_eqb, lt-ltb, cases_lt, le-ltb}
 use Rattle.std.proofs.lemmas.List.{get_or_default}
-use Rattle.opfamily.specs.declared.classes.Method.{Method}
-use Rattle.opfamily.specs.declared.classes.Method.TheVariants.{Btree, Hash}
+use Rattle.catalog.specs.opfamily_classes_Method.{Method}
+use Rattle.catalog.specs.opfamily_classes_Method_TheVariants.{Btree, Hash}
 use Rattle.pg_expr.specs.Cond.{Cond}
 use Rattle.pg_base.specs.declared.numbers.IndexNo.{IndexNo}
 use Rattle.catalog.specs.Contents.{Contents, index_at}
@@ -18,7 +18,7 @@ use Rattle.index_match.specs.Conditions.{is_condition, allowed, conditions_among
 use Rattle.index_match.specs.Bounds.{bounds_among, index_bounds, index_tests}
 use Rattle.index_match.specs.Slots.{chosen_from, placed, numbered_at, numbered_from, passes, is_found, is_local, is_number, least, bound_at}
 use Rattle.index_match.proofs.SlotLemmas.{chosen_length, chosen_at}
-use Rattle.index_match.proofs.BoundLemmas.{numbered_places, not_below, bounds_are, number_filter}
+use Rattle.index_match.proofs.BoundLemmas.{numbered_places, bounds_are, number_filter}
 
 pub ruleset finding = (grown)
 
@@ -123,7 +123,7 @@ chosen_numbers chosen ks j =
     ∙ ap (λ (n : ℕ). nat_lt j n && passes (λ e. true) (slice_index_or (chosen_from 0 chosen ks) j None)) (chosen_length 0 chosen ks)
     ∙ elim (cases_lt j (length ks)) [
       | inl lt ↦ ap (λ (s : Option Cond). nat_lt j (length ks) && passes (λ e. true) s) (chosen_at chosen ks j _ lt) ∙ ap (λ (b : Bool). nat_lt j (length ks) && b) (told (chosen j) (clause_at ks j).cond)
-      | inr ge ↦ beyond (nat_lt j (length ks)) (not_below j (length ks) ge)
+      | inr ge ↦ beyond (nat_lt j (length ks)) (le-ltb j (length ks) ge)
     ]
   where
     told : (b : Bool) (e : Cond) → passes (λ f. true) (cond b (Some e) None) ≡ b

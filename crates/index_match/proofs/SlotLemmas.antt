@@ -1,5 +1,6 @@
 -- Numbered conditions by their places.
 use Rattle.std.proofs.Common.{◌≡◌, ◌<◌, ◌≤◌, ◌+◌, ℕ, zero, suc, Bool, true, false, cond, ◌&&◌, ◌||◌, nat_eq, nat_lt, List, [], ◌∷◌, length, Option, Some, None, slice_index_or, slice_get, refl, sym, ap, ◌∙◌, subst, arith}
+use Rattle.std.proofs.Math.Bool.{or_assoc}
 use Rattle.pg_expr.specs.Cond.{Cond}
 use Rattle.eq_classes.specs.Clauses.{Clause}
 use Rattle.eq_classes.specs.Listing.{clause_at}
@@ -28,13 +29,9 @@ chosen_at chosen ks i d lt =
 
 pub ruleset chosen = (chosen_length, chosen_at)
 
-or_three : (o a b : Bool) → (o || a) || b ≡ o || (a || b)
-or_three true a b = refl
-or_three false a b = refl
-
 -- one number more, beside what was there
 pub grown_by : (o : Bool) (test : ℕ → Bool) (k n : ℕ) → (o || (nat_lt k n && test k)) || (nat_eq k n && test n) ≡ o || (nat_lt k (n + 1) && test k)
-grown_by o test k n = or_three o (nat_lt k n && test k) (nat_eq k n && test n) ∙ ap (λ (b : Bool). o || b) (grown test k n)
+grown_by o test k n = or_assoc o (nat_lt k n && test k) (nat_eq k n && test n) ∙ ap (λ (b : Bool). o || b) (grown test k n)
 
 pub ruleset growing = (grown_by)
 

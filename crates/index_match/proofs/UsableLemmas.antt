@@ -1,10 +1,11 @@
 -- Usable indexes, and the columns that an index holds.
 use Rattle.std.proofs.Common.{◌≡◌, ◌↔◌, ℕ, Bool, true, false, ◌||◌, nat_eq, IsTrue, List, [], ◌∷◌, ◌++◌, map, Option, Some, refl, sym, ap, ◌∙◌, subst}
+use Rattle.std.proofs.Math.Bool.{or_assoc}
 use Rattle.std.specs.List.{list_any}
 use Rattle.pg_base.specs.declared.numbers.ColNo.{ColNo}
 use Rattle.pg_base.specs.declared.numbers.IndexNo.{IndexNo}
-use Rattle.pg_value.specs.declared.columns.Column.{Column}
-use Rattle.opfamily.specs.declared.classes.IndexKey.{IndexKey}
+use Rattle.catalog.specs.pg_value_columns_Column.{Column}
+use Rattle.catalog.specs.opfamily_classes_IndexKey.{IndexKey}
 use Rattle.pg_expr.specs.Cond.{Cond}
 use Rattle.predicate_proof.specs.Derivation.{IsImplied}
 use Rattle.catalog.specs.Contents.{Contents, index_at, table_at}
@@ -13,16 +14,12 @@ use Rattle.eq_classes.specs.Clauses.{Table}
 use Rattle.index_match.specs.Numbered.{base, conditions_of}
 use Rattle.index_match.specs.Usable.{IsUsable, IsUsableBy}
 
-or_associates : (a b c : Bool) → a || (b || c) ≡ (a || b) || c
-or_associates true b c = refl
-or_associates false b c = refl
-
 pub held_columns : (c : ℕ) (ks : List IndexKey) (ns : List ColNo) →
     list_any (λ (n : ColNo). nat_eq c n.0) (map (λ (k : IndexKey). k.col) ks ++ ns) ≡ list_any (λ (k : IndexKey). nat_eq c k.col.0) ks || list_any (λ (n : ColNo). nat_eq c n.0) ns
 held_columns c [] ns = refl
 held_columns c (k ∷ ks) ns =
     ap (λ (b : Bool). nat_eq c k.col.0 || b) (held_columns c ks ns)
-    ∙ or_associates (nat_eq c k.col.0) (list_any (λ (j : IndexKey). nat_eq c j.col.0) ks) (list_any (λ (n : ColNo). nat_eq c n.0) ns)
+    ∙ sym (or_assoc (nat_eq c k.col.0) (list_any (λ (j : IndexKey). nat_eq c j.col.0) ks) (list_any (λ (n : ColNo). nat_eq c n.0) ns))
 
 module _ (c : ℕ) (ks : List IndexKey) (ns : List ColNo) where
   abbrev in_key : Bool

@@ -1,8 +1,8 @@
 -- The arms of an OR clause that an index matches. Source: PostgreSQL, src/backend/optimizer/path/indxpath.c (generate_bitmap_or_paths); whole arms alone are own.
 use Rattle.std.specs.Prelude.{ℕ, Bool, false, ◌&&◌, nat_lt, nat_eq, List, [], length}
 use Rattle.std.specs.List.{list_all}
-use Rattle.opfamily.specs.declared.classes.Method.{Method}
-use Rattle.opfamily.specs.declared.classes.Method.TheVariants.{Btree, Hash}
+use Rattle.catalog.specs.opfamily_classes_Method.{Method}
+use Rattle.catalog.specs.opfamily_classes_Method_TheVariants.{Btree, Hash}
 use Rattle.pg_expr.specs.Cond.{Cond, any_of}
 use Rattle.pg_expr.specs.Pushed.{parts_of}
 use Rattle.catalog.specs.Indexes.{Index}

@@ -1,9 +1,9 @@
 -- The bounds of an index: the conditions that bound one contiguous part of it. Source: PostgreSQL manual, Multicolumn Indexes; one fixing condition a column is own.
 use Rattle.std.specs.Prelude.{ℕ, Bool, true, false, List, [], ◌∷◌, filter, find, Some, None}
 use Rattle.pg_base.specs.declared.numbers.IndexNo.{IndexNo}
-use Rattle.pg_value.specs.declared.operators.Op.TheVariants.{Eq, AbsEq}
-use Rattle.opfamily.specs.declared.classes.IndexKey.{IndexKey}
-use Rattle.opfamily.specs.declared.classes.Method.{Method}
+use Rattle.catalog.specs.pg_value_operators_Op_TheVariants.{Eq, AbsEq}
+use Rattle.catalog.specs.opfamily_classes_IndexKey.{IndexKey}
+use Rattle.catalog.specs.opfamily_classes_Method.{Method}
 use Rattle.pg_expr.specs.Cond.{Cond, compare, is_null}
 use Rattle.catalog.specs.Contents.{Contents, index_at}
 use Rattle.catalog.specs.Indexes.{Index}
@@ -39,5 +39,6 @@ bounds_among d r cs = filter (is_among (bounding d.method r d.keys cs)) cs
 abbrev pub index_bounds : Contents → Table → IndexNo → ℕ → Set → List Numbered
 index_bounds c t i r p = bounds_among (index_at c i) r (index_conditions c t i r p)
 
+-- the conditions of an index that bound nothing: each entry within the bounds is tested by them
 abbrev pub index_tests : Contents → Table → IndexNo → ℕ → Set → List Numbered
 index_tests c t i r p = others (index_bounds c t i r p) (index_conditions c t i r p)

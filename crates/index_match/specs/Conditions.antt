@@ -2,13 +2,13 @@
 use Rattle.std.specs.Prelude.{ℕ, Bool, true, false, not, ◌&&◌, ◌||◌, nat_eq, List, filter, take, is_some}
 use Rattle.std.specs.List.{list_any}
 use Rattle.pg_base.specs.declared.numbers.IndexNo.{IndexNo}
-use Rattle.pg_value.specs.declared.operators.Op.{Op}
-use Rattle.pg_value.specs.declared.value.Value.TheVariants.{Null}
-use Rattle.opfamily.specs.Answers.{number_in}
-use Rattle.opfamily.specs.KeyOrder.{key_family}
-use Rattle.opfamily.specs.declared.classes.IndexKey.{IndexKey}
-use Rattle.opfamily.specs.declared.classes.Method.{Method}
-use Rattle.opfamily.specs.declared.classes.Method.TheVariants.{Btree, Hash}
+use Rattle.catalog.specs.pg_value_operators_Op.{Op}
+use Rattle.catalog.specs.pg_value_value_Value_TheVariants.{Null}
+use Rattle.catalog.specs.opfamily_Answers.{number_in}
+use Rattle.catalog.specs.opfamily_KeyOrder.{key_family}
+use Rattle.catalog.specs.opfamily_classes_IndexKey.{IndexKey}
+use Rattle.catalog.specs.opfamily_classes_Method.{Method}
+use Rattle.catalog.specs.opfamily_classes_Method_TheVariants.{Btree, Hash}
 use Rattle.pg_expr.specs.declared.operand.ColRef.{ColRef}
 use Rattle.pg_expr.specs.declared.operand.Operand.{Operand}
 use Rattle.pg_expr.specs.declared.operand.Operand.TheVariants.{Col, Lit}
@@ -18,6 +18,7 @@ use Rattle.catalog.specs.Indexes.{Index}
 use Rattle.eq_classes.specs.Clauses.{Set, Table}
 use Rattle.index_match.specs.Numbered.{Numbered, local}
 
+-- a hash index: it serves equality alone, in no order
 abbrev pub is_hash : Method → Bool
 is_hash Btree = false
 is_hash Hash = true
@@ -30,6 +31,7 @@ is_member m k op = is_some (number_in (key_family k) m op)
 abbrev pub is_key : ℕ → IndexKey → ColRef → Bool
 is_key r k x = nat_eq x.rel.0 r && nat_eq x.col.0 k.col.0
 
+-- a side of a comparison is the key's column
 abbrev pub is_key_side : ℕ → IndexKey → Operand → Bool
 is_key_side r k (Col x) = is_key r k x
 is_key_side r k (Lit v) = false

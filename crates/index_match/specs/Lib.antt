@@ -4,3 +4,8 @@ pub mod Bounds
 pub mod Arms
 pub mod Usable
 pub mod Slots
+-- What callers name of the crates below.
+pub use Rattle.predicate_proof.proofs.Sound as predicate_proof_Sound
+pub use Rattle.predicate_proof.specs.Atoms as predicate_proof_Atoms
+pub use Rattle.predicate_proof.specs.Derivation as predicate_proof_Derivation
+pub use Rattle.predicate_proof.specs.Rows as predicate_proof_Rows

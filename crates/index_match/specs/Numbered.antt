@@ -10,6 +10,7 @@ pub record Numbered : Type 0 where
   pub number : ℕ
   pub cond : Cond
 
+-- a condition with the number that stands before it in a pair
 abbrev pub numbered : ℕ × Cond → Numbered
 numbered p = record { number = p.0; cond = p.1 }
 
@@ -25,6 +26,7 @@ those t test = map (λ (p : ℕ × Clause). numbered (p.0, p.1.cond)) (filter (�
 abbrev pub has_number : List Numbered → ℕ → Bool
 has_number cs n = list_any (λ (c : Numbered). nat_eq n c.number) cs
 
+-- a condition is one of the chosen, by its number alone
 abbrev pub is_among : List Numbered → Numbered → Bool
 is_among chosen c = has_number chosen c.number
 
@@ -40,5 +42,6 @@ conditions_of cs = map (λ (c : Numbered). c.cond) cs
 abbrev pub base : Table → ℕ → List Numbered
 base t r = those t (is_base r)
 
+-- all clauses that a scan of a relation tests, where it is given rows of the relations of a set
 abbrev pub local : Table → ℕ → Set → List Numbered
 local t r p = those t (λ k. is_base r k || is_param r p k)

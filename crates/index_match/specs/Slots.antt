@@ -5,8 +5,8 @@ use Rattle.std.specs.Option.{option_map}
 use Rattle.pg_expr.specs.AtomSets.{contains}
 use Rattle.pg_expr.specs.Cond.{Cond}
 use Rattle.pg_expr.specs.View as view
-use Rattle.opfamily.specs.declared.classes.IndexKey.{IndexKey}
-use Rattle.opfamily.specs.declared.classes.Method.{Method}
+use Rattle.catalog.specs.opfamily_classes_IndexKey.{IndexKey}
+use Rattle.catalog.specs.opfamily_classes_Method.{Method}
 use Rattle.catalog.specs.Indexes.{Index}
 use Rattle.eq_classes.specs.Clauses.{Clause, Set, Table}
 use Rattle.eq_classes.specs.Listing.{clause_at}
@@ -27,6 +27,7 @@ chosen_from n chosen (k ∷ ks) = cond (chosen n) (Some k.cond) None ∷ chosen_
 abbrev pub chosen_slots : Chosen → List (Option Cond)
 chosen_slots c = chosen_from 0 (contains c.set.now) c.classes.now.clauses
 
+-- the places of conditions: one for each clause of the query, of which some are chosen, or one for each part of an arm
 abbrev pub slots_of : Conditions → List (Option Cond)
 slots_of (Clauses c) = chosen_slots c
 slots_of (Parts es) = map (λ e. Some (view.cond e)) es.now
@@ -35,9 +36,11 @@ slots_of (Parts es) = map (λ e. Some (view.cond e)) es.now
 abbrev pub placed : List (Option Cond) → List Cond
 placed slots = filter_map (λ slot. slot) slots
 
+-- a condition with the number of its place
 abbrev pub numbered_at : ℕ → Cond → Numbered
 numbered_at n e = record { number = n; cond = e }
 
+-- the conditions that have a place, each with its number; the first place of the list has the number given
 abbrev pub numbered_from : ℕ → List (Option Cond) → List Numbered
 numbered_from n [] = []
 numbered_from n (slot ∷ slots) = cons_option (option_map (numbered_at n) slot) (numbered_from (n + 1) slots)
@@ -51,6 +54,7 @@ passes test (Some e) = test e
 abbrev pub is_on_key : Method → ℕ → IndexKey → Option Cond → Bool
 is_on_key m r k = passes (has_form m r k)
 
+-- the condition at a place leaves the key column one value
 abbrev pub is_fixing_on : Method → ℕ → IndexKey → Option Cond → Bool
 is_fixing_on m r k = passes (λ e. has_form m r k e && is_fixing e)
 
@@ -62,6 +66,7 @@ is_local r p k = is_base r k || is_param r p k
 abbrev pub AreLocal : Table → ℕ → Set → (ℕ → Bool) → Type 0
 AreLocal t r p chosen = (n : ℕ) → chosen n ≡ nat_lt n (length t.clauses) && is_local r p (clause_at t.clauses n)
 
+-- a clause that an index uses inside itself, in a scan of a relation with this parameterisation
 abbrev pub is_found : Index → ℕ → Set → Clause → Bool
 is_found d r p k = is_local r p k && is_condition d r k.cond
 

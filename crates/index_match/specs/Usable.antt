@@ -16,6 +16,8 @@ abbrev pub IsUsableBy : Contents → Table → ℕ → Index → Option Cond →
 IsUsableBy c t r d None = Unit {0}
 IsUsableBy c t r d (Some predicate) = IsImplied (table_at c d.table).columns (conditions_of (base t r)) predicate
 
+-- an index may be used for a relation: it is known to have every row at which the relation's own clauses are True
+-- (PostgreSQL, predtest.c)
 abbrev pub IsUsable : Contents → Table → IndexNo → ℕ → Type 0
 IsUsable c t i r = IsUsableBy c t r (index_at c i) (index_at c i).predicate
 

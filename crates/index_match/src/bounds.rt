@@ -11,8 +11,8 @@ ghost use Rattle.index_match.specs.Slots.{bound_at, slots_of};
 use crate::forms::{has_form, is_fixing};
 use crate::slots::Conditions;
 use catalog::IndexDef;
+use catalog::opfamily::{IndexKey, Method};
 use eq_classes::ClauseSet;
-use opfamily::{IndexKey, Method};
 use pg_base::RelNo;
 use pg_expr::Expr;
 

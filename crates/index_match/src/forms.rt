@@ -1,17 +1,17 @@
 //! The forms of conditions that an index serves.
 
 ghost use Rattle.std.specs.Prelude.{◌≡◌, ◌&&◌, ◌||◌, true};
-ghost use Rattle.opfamily.specs.Answers.{takes};
+ghost use Rattle.catalog.specs.opfamily_Answers.{takes};
 ghost use Rattle.pg_expr.specs.View.{cond};
 ghost use Rattle.catalog.specs.Entries.{index_of};
 ghost use Rattle.index_match.specs.Bounds as bounds;
 ghost use Rattle.index_match.specs.Conditions as forms;
 
 use catalog::IndexDef;
-use opfamily::{IndexKey, Method, strategy};
+use catalog::opfamily::{IndexKey, Method, strategy};
+use catalog::pg_value::{Family, Op, SqlType, Value};
 use pg_base::RelNo;
 use pg_expr::{ColRef, Expr, Operand};
-use pg_value::{Family, Op, SqlType, Value};
 
 /// A type that the operators of the family take.
 fn type_of(f: Family) -> SqlType

@@ -14,4 +14,5 @@ pub use arms::arm;
 pub use forms::{has_form, is_fixing, is_key_side, is_outside};
 pub use laws::{bounds_and_tests_part_the_conditions, clauses_by_number, conditions_are_local};
 pub use matching::{Match, conditions, conditions_among, local_clauses};
+pub use predicate_proof;
 pub use usability::{covers_columns, usable};

@@ -16,9 +16,9 @@ ghost use Rattle.index_match.specs.Slots.{AreLocal, bound_at, chosen_from, is_fo
 use crate::bounds::{bounds, note};
 use crate::forms::is_condition;
 use crate::slots::{Chosen, Conditions};
+use catalog::opfamily::Method;
 use catalog::{Catalog, IndexDef, RangeTable};
 use eq_classes::{Classes, ClauseSet};
-use opfamily::Method;
 use pg_base::{IndexNo, RelNo, RelSet};
 
 /// The conditions of an index, by clause numbers.

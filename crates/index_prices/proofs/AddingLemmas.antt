@@ -1,9 +1,9 @@
 -- Candidates of a set, added one after another: each next one is acceptable.
 use Rattle.std.proofs.Common.{◌≡◌, ◌<◌, ◌≤◌, ◌+◌, ◌++◌, ℕ, zero, suc, Bool, true, false, cond, nat_eq, List, [], ◌∷◌, length, take, get_or, Contains, refl, sym, ap, ◌∙◌, subst, arith, inl, inr}
 use Rattle.std.specs.List.{take-map}
-use Rattle.std.proofs.lemmas.Bool.Decides.{nat_tests}
 use Rattle.std.proofs.lemmas.List.{get_or-map, length-map, map-append, take_all, take_more}
 use Rattle.std.proofs.lemmas.List.Elements.{Contains-append_cases, Contains-append_left, Contains-append_right}
+use Rattle.std.proofs.lemmas.Bool.{eq-eqb}
 use Rattle.pg_base.specs.declared.limits.TheConstants.{MOST_INDEXES}
 use Rattle.pg_base.specs.declared.numbers.TableNo.{TableNo}
 use Rattle.catalog.specs.Contents.{Contents, NamedIndex, indexes_of, numbers_from, table_names, with_index}
@@ -47,13 +47,10 @@ held-added t n s (x ∷ xs) = by (s n) (nat_eq x.index.table.0 t) refl (held-add
     by false true e h = omega (arith, h)
     by false false e h = h
 
-same-table : (m n : ℕ) → m ≡ n → nat_eq m n ≡ true
-same-table m n e = grind (arith, nat_tests)
-
 -- those before one on the table are fewer
 held-before : (t : ℕ) (xs : List NamedIndex) (j : ℕ) (d : NamedIndex) → j < length xs → (get_or xs j d).index.table.0 ≡ t → held t (take j xs) < held t xs
 held-before t [] j d lt e = absurd (omega (arith, lt))
-held-before t (x ∷ xs) zero d lt e = let here = ap (λ (b : Bool). cond b (suc (held t xs)) (held t xs)) (same-table x.index.table.0 t e) in omega (arith, here)
+held-before t (x ∷ xs) zero d lt e = let here = ap (λ (b : Bool). cond b (suc (held t xs)) (held t xs)) (eq-eqb x.index.table.0 t e) in omega (arith, here)
 held-before t (x ∷ xs) (suc j) d lt e = by (nat_eq x.index.table.0 t) (held-before t xs j d (omega (arith, lt)) e)
   where
     by : (b : Bool) → held t (take j xs) < held t xs → cond b (suc (held t (take j xs))) (held t (take j xs)) < cond b (suc (held t xs)) (held t xs)

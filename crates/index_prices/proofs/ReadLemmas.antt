@@ -3,7 +3,6 @@ use Rattle.std.proofs.Common.{◌≡◌, ◌<◌, ◌≤◌, ◌+◌, ◌*◌, �
 use Rattle.std.proofs.Math.Nat.{pow-suc}
 use Rattle.std.proofs.Math.Pow.{pow_mono}
 use Rattle.std.proofs.lemmas.List.{length-drop}
-use mir.Val.{bool_byte}
 use Rattle.catalog.specs.Contents.{NamedIndex}
 use Rattle.sql_query.specs.Queries.{Query}
 use Rattle.index_laws.specs.Moved.{is_read}
@@ -21,11 +20,6 @@ read-small q [] = omega arith
 read-small q (x ∷ xs) =
     let step = doubled (cond (is_read q x) 1 0) (read_by q xs) (2 ^ length xs) (bit-most (is_read q x)) (read-small q xs) in
     subst (λ (n : ℕ). read_by q (x ∷ xs) < n) (sym (pow-suc 2 (length xs))) step
-
--- a byte that a truth value gives
-pub byte-most : (b : Bool) → bool_byte b ≤ 1
-byte-most true = omega arith
-byte-most false = omega arith
 
 -- of at most ten candidates those from one on are a number of ten bits
 pub behind-small : (q : Query) (xs : List NamedIndex) (j set : ℕ) → length xs ≤ 10 → set ≡ read_by q (drop j xs) → set < 1024

@@ -1,7 +1,7 @@
 -- Lines of the candidates of a set, one after another.
-use Rattle.std.proofs.Common.{◌≡◌, ◌<◌, ◌≤◌, ◌+◌, ◌++◌, ℕ, Bool, true, false, List, [], ◌∷◌, length, take, get_or, refl, sym, ap, ◌∙◌}
+use Rattle.std.proofs.Common.{◌≡◌, ◌<◌, ◌≤◌, ◌+◌, ◌++◌, ℕ, Bool, true, false, List, [], ◌∷◌, length, take, get_or, sym, ap, ◌∙◌}
 use Rattle.std.proofs.lemmas.Grind.{flat_map-append}
-use Rattle.std.proofs.lemmas.List.{take_all}
+use Rattle.std.proofs.lemmas.List.{take_all, append-nil}
 use Rattle.catalog.specs.Contents.{NamedIndex}
 use Rattle.index_laws.specs.Moved.{added_from}
 use Rattle.index_prices.specs.Replies.{use_line, use_lines}
@@ -10,15 +10,11 @@ use Rattle.index_prices.proofs.AddingLemmas.{added-one, append-none}
 abbrev lines-before : (ℕ → Bool) → List NamedIndex → ℕ → List ℕ
 lines-before s xs j = use_lines (added_from 0 s (take j xs))
 
-bytes-none : (xs : List ℕ) → xs ++ [] ≡ xs
-bytes-none [] = refl
-bytes-none (x ∷ xs) = ap (λ (ys : List ℕ). x ∷ ys) (bytes-none xs)
-
 module _ (s : ℕ → Bool) (xs : List NamedIndex) (j : ℕ) (x : NamedIndex) (lt : j < length xs) (is : x ≡ get_or xs j x) where
   -- one more line
   pub line-more : s j ≡ true → lines-before s xs j ++ use_line x ≡ lines-before s xs (j + 1)
   line-more e =
-      ap (λ (ys : List ℕ). lines-before s xs j ++ ys) (sym (bytes-none (use_line x)))
+      ap (λ (ys : List ℕ). lines-before s xs j ++ ys) (sym (append-nil (use_line x)))
       ∙ sym (flat_map-append use_line (added_from 0 s (take j xs)) (x ∷ []))
       ∙ ap use_lines (sym (added-one xs s j x lt is true e))
 

@@ -22,6 +22,7 @@ HasNoAdviceFor c candidates queries most = HasNoAdvice (prices_of c candidates q
 abbrev pub use_line : NamedIndex → List ℕ
 use_line x = codes "use " ++ (x.name ++ codes "\n")
 
+-- candidates that are to be made, a line each
 abbrev pub use_lines : List NamedIndex → List ℕ
 use_lines xs = flat_map use_line xs
 

@@ -1,5 +1,5 @@
 -- CREATE INDEX behind its first two words.
-use Rattle.std.proofs.Common.{◌≡◌, ◌-◌, ◌<◌, ◌≤◌, ℕ, List, [], ◌∷◌, ◌++◌, length, drop, take, get_or, Result, sym, ap, ◌∙◌, subst, arith, append_assoc}
+use Rattle.std.proofs.Common.{◌≡◌, ◌-◌, ◌<◌, ◌≤◌, ℕ, List, [], ◌∷◌, ◌++◌, length, drop, take, get_or, Result, sym, ap, ◌∙◌, subst, arith}
 use Rattle.std.proofs.lemmas.List.{drop-map, length-drop, length-map, length-take}
 use Rattle.std.proofs.Math.Nat.{min-le_left}
 use Rattle.pg_base.specs.declared.faults.Fault.{Fault}
@@ -8,12 +8,13 @@ use Rattle.sql_lex.specs.declared.tokens.Token.{Token}
 use Rattle.sql_grammar.specs.declared.class.Symbol.TheVariants.{Close, Open}
 use Rattle.sql_grammar.specs.declared.class.Word.TheVariants.{On}
 use Rattle.sql_grammar.specs.Reading.{terminal_of}
-use Rattle.sql_grammar.specs.Terminals.{Terminal, t_key, t_mark, t_name}
+use Rattle.sql_grammar.specs.Terminals.{t_key, t_mark, t_name}
 use Rattle.sql_grammar.specs.Syntax.{Ending, Cand, cand_on, CreateIndex, index_on, create_index}
 use Rattle.sql_grammar.specs.Words.{words_of_cand, words_of_ending, words_of_include, words_of_index, words_of_key, words_of_keys, words_of_using, words_of_where}
 use Rattle.sql_grammar.specs.Faults.{AreWithinLimits, EndsAt, IsCand, terminals}
 use Rattle.sql_grammar.specs.Spelled.{IsSpelled}
 use Rattle.sql_grammar.proofs.ExprTrees.{tokens-are}
+use Rattle.sql_grammar.proofs.IndexComplete.{cand-words}
 use Rattle.catalog.specs.Contents.{Contents}
 use Rattle.expr_reader.specs.Reads.{Reads}
 use Rattle.query_reader.proofs.ReadingLemmas.{some-token}
@@ -22,11 +23,6 @@ use Rattle.index_reader.specs.Candidates.{cand_of, HaveCand, IsCandAt}
 use Rattle.index_reader.specs.declared.index.ReadIndex.{ReadIndex}
 use Rattle.index_reader.specs.Meaning.{Reading, meaning, meaning_of_cand}
 use Rattle.index_reader.specs.Reads.{reading}
-
-regroup : (a b c d f g : List Terminal) (o m : Terminal) → (a ++ o ∷ (b ++ (c ++ m ∷ (d ++ f)))) ++ g ≡ a ++ o ∷ (b ++ (c ++ m ∷ (d ++ (f ++ g))))
-regroup a b c d f g o m =
-    append_assoc a (o ∷ (b ++ (c ++ m ∷ (d ++ f)))) g ∙ ap (λ l. a ++ o ∷ l)
-    (append_assoc b (c ++ m ∷ (d ++ f)) g ∙ ap (λ l. b ++ l) (append_assoc c (m ∷ (d ++ f)) g ∙ ap (λ l. c ++ m ∷ l) (append_assoc d f g)))
 
 -- its words, with its end, and its first word
 pub record Behind (y : CreateIndex) (text : List ℕ) (tokens : List Token) : Type 0 where
@@ -37,7 +33,7 @@ pub record Behind (y : CreateIndex) (text : List ℕ) (tokens : List Token) : Ty
 pub behind-two : (y : CreateIndex) (text : List ℕ) (tokens : List Token) → words_of_index y ≡ terminals text tokens → Behind y text tokens
 behind-two (index_on k i n o t u p x xs m c w e) text tokens is = record {
   ending = e;
-  words = ap (λ l. t_name n ∷ t_key On o ∷ t_name t ∷ l) (regroup (words_of_using u) (words_of_key x) (words_of_keys xs) (words_of_include c) (words_of_where w) (words_of_ending e) (t_mark Open p) (t_mark Close m));
+  words = ap (λ l. t_name n ∷ t_key On o ∷ t_name t ∷ l) (cand-words (words_of_using u) (words_of_key x) (words_of_keys xs) (words_of_include c) (words_of_where w) (words_of_ending e) (t_mark Open p) (t_mark Close m));
   means = λ cat start later begins.
       let all = tokens-are (words_of_index (index_on k i n o t u p x xs m c w e)) text tokens is ∙ begins in
       let first : k ≡ start = ap (λ (ts : List Token). get_or ts 0 k) all in
@@ -70,7 +66,7 @@ cand-that-ends text tokens first end within at =
     (x, record { within = slice.1; words = words ∙ ap (terminals text) (sym slice.0); limits = within })
 
 -- it has a word at least
-some-words : (x : Cand) → 0 < length (words_of_cand x)
+pub some-words : (x : Cand) → 0 < length (words_of_cand x)
 some-words (cand_on n o t u p x xs m c w) = omega arith
 
 pub cand-goes-on : (text : List ℕ) (tokens : List Token) (first end : ℕ) → HaveCand text tokens first end → (first < end) × (end ≤ length tokens)

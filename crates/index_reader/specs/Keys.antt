@@ -29,6 +29,7 @@ use Rattle.index_reader.specs.declared.methods.MethodRead.{MethodRead}
 abbrev pub methods : List (List ℕ × Method)
 methods = (codes "btree", Btree) ∷ (codes "hash", Hash) ∷ []
 
+-- the access method of a name behind USING: none but these two is known
 abbrev pub method_of_name : List ℕ → Option Method
 method_of_name name = option_map (λ row. row.1) (find (λ row. bytes_eq row.0 name) methods)
 
@@ -52,6 +53,7 @@ abbrev pub given : Option OpClass → OpClass
 given None = TextOps
 given (Some c) = c
 
+-- the class of a key column of this type: the one that is named, else the default one
 abbrev pub class_bound : Method → SqlType → ClassTree → Result OpClass Fault
 class_bound m t no_class = Ok (given (default_class_of t m))
 class_bound m t (op_class n _) = class_known (token_of n) m t (class_of_name (bytes_of n))

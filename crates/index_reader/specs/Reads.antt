@@ -19,6 +19,7 @@ opens_class (Name (Some Nulls)) = false
 opens_class (Name _) = true
 opens_class _ = false
 
+-- an operator class is next: any name but the one that begins NULLS FIRST and NULLS LAST
 abbrev pub begins_class : List Terminal → Bool
 begins_class [] = false
 begins_class (w ∷ _) = opens_class (class_of w)
@@ -38,10 +39,11 @@ abbrev pub ends_include : List Terminal → Bool
 ends_include (t_name (free IncludeWord _) ∷ _) = false
 ends_include _ = true
 
--- keys, or names, up to `)`, and what follows
+-- keys up to `)`, and what follows
 abbrev pub words_of_keys_left : KeyTree → List (Mark × KeyTree) → Mark → List Terminal → List Terminal
 words_of_keys_left x xs m rest = words_of_key x ++ (words_of_keys xs ++ t_mark Close m ∷ rest)
 
+-- names of INCLUDE columns up to `)`, and what follows
 abbrev pub words_of_names_left : Ident → List (Mark × Ident) → Mark → List Terminal → List Terminal
 words_of_names_left n ns m rest = t_name n ∷ (words_of_names ns ++ t_mark Close m ∷ rest)
 

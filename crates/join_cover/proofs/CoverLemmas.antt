@@ -1,8 +1,8 @@
 -- Joins of right entries that an entry dominates, and those that none does.
-use Rattle.std.proofs.Common.{Bool, true, false, true≢false, ◌≡◌, ◌≢◌, ◌<◌, ◌≤◌, ◌+◌, ℕ, List, map, suc, length, sym, ap, ap₂, subst, subst₂, refl, ◌∙◌, arith, ◌⊎◌, inl, inr}
+use Rattle.std.proofs.Common.{Bool, true, false, true≢false, ◌≡◌, ◌≢◌, ◌<◌, ◌≤◌, ℕ, List, map, suc, length, sym, ap, ap₂, subst, subst₂, refl, ◌∙◌, inr}
 use Rattle.std.specs.Prelude.{MatchOption, Option, Some, None, slice_get}
-use Rattle.std.proofs.lemmas.Bool.{cases_lt, lt-ltb}
-use Rattle.std.proofs.lemmas.Option.{slice_get_within}
+use Rattle.std.proofs.lemmas.Bool.{lt-ltb}
+use Rattle.std.proofs.lemmas.Option.{slice_get_within, same_Some}
 use Rattle.pg_base.specs.Sets.{Meets, has}
 use Rattle.pg_base.specs.declared.rel_set.RelSet.{RelSet}
 use Rattle.catalog.specs.Contents.{Contents}
@@ -37,12 +37,6 @@ use Rattle.entry_check.proofs.WorkLemmas.{within-most}
 use Rattle.join_cover.specs.Serving.{AreJoinsOf, AreJoinsServed, AreMergesOf, AreMergesServed, AreNestsOf, AreNestsServed, IsListServed, IsMergeOpen, IsMergeServed, IsNestServed, IsOpen, IsServed}
 use Rattle.join_cover.specs.declared.uncovered.Uncovered.{Uncovered}
 
-some-same : (x y : Plan) → Some x ≡ Some y → x ≡ y
-some-same x y e = cc
-
-entry-same : (x y : Entry) → Some x ≡ Some y → x ≡ y
-entry-same x y e = cc
-
 module _ (c : Contents) (q : Query) (t : Certificate) (right : AllRight c q t) where
   plain-kept : (p : Plan) → is_sort p ≡ false → IsEntryPlan q t p → IsKeptSide c q (IsEntryPlan q t) p
   plain-kept (seq r) e h = h
@@ -58,7 +52,7 @@ module _ (c : Contents) (q : Query) (t : Certificate) (right : AllRight c q t) w
   side-kept false keys p n plain e = plain-kept p plain (record { number = suc n; unfolds = e })
 
   pub right-at : (k : ℕ) (e : Entry) (p : Plan) → slice_get t.entries k ≡ Some e → unfold_at q t (suc k) ≡ Some p → IsRight c q e p
-  right-at k e p at is = let h = right k e at in subst (IsRight c q e) (some-same h.plan p (sym h.unfolds ∙ is)) (record { has = h.has; numbers = h.numbers })
+  right-at k e p at is = let h = right k e at in subst (IsRight c q e) (same_Some h.plan p (sym h.unfolds ∙ is)) (record { has = h.has; numbers = h.numbers })
 
   pub has-right-at : (k : ℕ) (e : Entry) → slice_get t.entries k ≡ Some e → HasRight c q e
   has-right-at k e at = let h = right k e at in record { plan = h.plan; right = record { has = h.has; numbers = h.numbers } }
@@ -214,24 +208,16 @@ module _ (c : Contents) (q : Query) (t : Certificate) (right : AllRight c q t) w
 
   -- the entry that was read is of no other set than its own
   pub other-than : (x k : ℕ) (a : Entry) → slice_get t.entries k ≡ Some a → a.set.0 ≢ x → ¬ IsOf t.entries x k
-  other-than x k a at differ is = differ (ap (λ (e : Entry). e.set.0) (entry-same a is.entry (sym at ∙ is.stands)) ∙ is.same)
+  other-than x k a at differ is = differ (ap (λ (e : Entry). e.set.0) (same_Some a is.entry (sym at ∙ is.stands)) ∙ is.same)
 
   pub own-set : (x k : ℕ) (a : Entry) → slice_get t.entries k ≡ Some a → IsOf t.entries x k → a.set.0 ≡ x
-  own-set x k a at is = ap (λ (e : Entry). e.set.0) (entry-same a is.entry (sym at ∙ is.stands)) ∙ is.same
+  own-set x k a at is = ap (λ (e : Entry). e.set.0) (same_Some a is.entry (sym at ∙ is.stands)) ∙ is.same
 
   -- an entry that may be no outer side of a merge
   pub none-led : (k : ℕ) (a : Entry) (keys : Keys) (sa : Bool) → slice_get t.entries k ≡ Some a → ((b : Entry) (sb : Bool) → ¬ MayMerge c q keys a b sa sb) → (l : ℕ) → IsMergeServed c q t keys sa false k l
   none-led k a keys sa at none l o i eo ei built =
       let y = numbered q t (suc l) i ei in
       absurd (none y.entry false (built-merge c q keys a y.entry sa false o i (right-at k a o at eo) (right-at y.place y.entry i y.stands (ap (unfold_at q t) (sym y.number) ∙ ei)) built))
-
--- one place more
-pub below-next : (P : ℕ → Type 0) (n : ℕ) → ((k : ℕ) → k < n → P k) → P n → (k : ℕ) → k < n + 1 → P k
-below-next P n h here k lt = by (cases_lt k n)
-  where
-    by : (k < n) ⊎ (n ≤ k) → P k
-    by (inl less) = h k less
-    by (inr most) = let same : n ≡ k = omega (arith, most, lt) in subst P same here
 
 -- what is said of the entries as they were read
 pub beaten-read : (w : Option Window) (t : Certificate) (xs items : List Entered) (e : Entry) → t.entries ≡ map entry xs → items ≡ xs → IsBeaten w (map entry items) e → IsBeaten w t.entries e

@@ -2,18 +2,19 @@
 use Rattle.std.proofs.Common.{◌≡◌, ◌<◌, ◌≤◌, ◌+◌, ℕ, Bool, true, false, List, length, min, suc, refl, sym, ap, subst, subst₂, ◌∙◌, arith, le_refl, ◌⊎◌, inl, inr}
 use Rattle.std.specs.Prelude.{Option, Some, None, slice_get}
 use Rattle.std.proofs.lemmas.Bool.{cases_lt}
+use Rattle.std.proofs.lemmas.Option.{same_Some}
 use Rattle.pg_base.specs.Sets.{has}
 use Rattle.catalog.specs.Contents.{Contents}
 use Rattle.pathkeys.specs.Keys.{Keys}
 use Rattle.pathkeys.proofs.CoveringLemmas.{covers-refl}
 use Rattle.sql_query.specs.Queries.{Query}
-use Rattle.sql_query.specs.declared.window.Window.{Window}
 use Rattle.plan_tree.specs.Costs.{cost}
-use Rattle.plan_tree.specs.Least.{IsStartupAtMost, StandsFor}
+use Rattle.plan_tree.specs.Least.{StandsFor}
 use Rattle.plan_tree.specs.Plans.{Plan, merge, sort}
 use Rattle.plan_tree.specs.Space.{IsBuilt, IsEmpty, IsLike}
 use Rattle.plan_tree.proofs.DominationLemmas.{dominates-refl, dominates-trans, merge-dominates}
 use Rattle.plan_tree.proofs.ReplacingLemmas.{sort-totals}
+use Rattle.plan_tree.proofs.WindowLemmas.{startup-from}
 use Rattle.certificates.specs.Certificates.{Certificate, Entry, sorted_if, unfold_at}
 use Rattle.plan_check.specs.Beating.{IsRight}
 use Rattle.plan_check.specs.Joining.{MayMerge}
@@ -25,14 +26,12 @@ use Rattle.plan_check.proofs.PlacedLemmas.{each-of}
 use Rattle.pg_base.proofs.SetLaws.{none-zero}
 use Rattle.join_cover.specs.Leasts.{IsLeastFrom, IsLeastWhole, IsWhole}
 use Rattle.join_cover.specs.Serving.{AreMergesBy, IsMergeServed, IsRowServed, IsServed}
-use Rattle.join_cover.proofs.CoverLemmas.{below-next, right-at}
-
-entry-same : (x y : Entry) → Some x ≡ Some y → x ≡ y
-entry-same x y e = cc
+use Rattle.join_cover.proofs.CoverLemmas.{right-at}
+use Rattle.entry_check.specs.plan_space_KeyLemmas.{below-next}
 
 module _ (es : List Entry) (s from n : ℕ) where
   own-cost : (e : Entry) → slice_get es n ≡ Some e → (y : IsWhole es s n) → e.cost ≤ y.entry.cost
-  own-cost e at y = subst (λ (x : Entry). e.cost ≤ x.cost) (entry-same e y.entry (sym at ∙ y.stands)) (le_refl e.cost)
+  own-cost e at y = subst (λ (x : Entry). e.cost ≤ x.cost) (same_Some e y.entry (sym at ∙ y.stands)) (le_refl e.cost)
 
   -- one place more at which there is none
   pub least-skip : (found : Option (ℕ × ℕ)) → ¬ IsWhole es s n → IsLeastFrom es s from n found → IsLeastFrom es s from (n + 1) found
@@ -46,7 +45,7 @@ module _ (es : List Entry) (s from n : ℕ) where
   module _ (e : Entry) (at : slice_get es n ≡ Some e) where
     -- the entry there is of another set, or is given rows
     pub skip-other : (found : Option (ℕ × ℕ)) → ((e.set.0 ≡ s) → (e.param.0 ≡ 0) → ⊥) → IsLeastFrom es s from n found → IsLeastFrom es s from (n + 1) found
-    skip-other found other = least-skip found (λ y. let one = entry-same y.entry e (sym y.stands ∙ at) in other (subst (λ (x : Entry). x.set.0 ≡ s) one y.same) (subst (λ (x : Entry). x.param.0 ≡ 0) one y.whole))
+    skip-other found other = least-skip found (λ y. let one = same_Some y.entry e (sym y.stands ∙ at) in other (subst (λ (x : Entry). x.set.0 ≡ s) one y.same) (subst (λ (x : Entry). x.param.0 ≡ 0) one y.whole))
 
     module _ (same : e.set.0 ≡ s) (whole : e.param.0 ≡ 0) where
       -- the first one
@@ -102,10 +101,6 @@ module _ (es : List Entry) (s : ℕ) where
 
     pub least-never : IsLeastFrom es s from past None → (k : ℕ) → ¬ IsWhole es s k
     least-never h k y = each-of es p s count from past (λ m. IsWhole es s m → ⊥) placed long f g (λ m le lt z. h m le lt z) k (of-whole k y) y
-
-startup-from : (w : Option Window) (m n : ℕ) → m ≤ n → IsStartupAtMost w m n
-startup-from None m n h = tt
-startup-from (Some w) m n h = h
 
 module _ (c : Contents) (q : Query) where
   stands-self : (p : Plan) → StandsFor c q p p

@@ -1,9 +1,10 @@
 -- Lists by which the entries of two sets may be merged, and what is said of all of them.
-use Rattle.std.proofs.Common.{◌≡◌, ◌≢◌, ◌<◌, ◌≤◌, ℕ, Bool, true, false, ◌&&◌, nat_eq, List, [], ◌∷◌, length, map, take, get_or, zero, suc, refl, sym, ap, subst, subst₂, ◌∙◌, arith, true≢false}
+use Rattle.std.proofs.Common.{◌≡◌, ◌≢◌, ◌<◌, ◌≤◌, ℕ, Bool, true, false, ◌&&◌, nat_eq, List, [], ◌∷◌, length, map, take, get_or, zero, suc, refl, sym, ap, subst, subst₂, ◌∙◌, arith}
 use Rattle.std.specs.Prelude.{Option, Some, None, MatchOption, option_map, slice_get}
 use Rattle.std.specs.List.{list_any}
 use Rattle.std.proofs.lemmas.List.{length-map}
 use Rattle.std.proofs.lemmas.List.Quantifiers.{all_pairs_push}
+use Rattle.std.proofs.lemmas.Bool.{and_parts}
 use Rattle.pg_base.specs.Sets.{has}
 use Rattle.catalog.specs.Contents.{Contents}
 use Rattle.eq_classes.specs.Clauses.{Set, Table}
@@ -13,7 +14,7 @@ use Rattle.sql_query.specs.Queries.{Query}
 use Rattle.pathkeys.specs.Finding.{class_numbers}
 use Rattle.pathkeys.specs.Keys.{AreDifferent, Keys}
 use Rattle.plan_tree.specs.Space.{IsMergeList}
-use Rattle.plan_space.proofs.JoinLemmas.{found-four}
+use Rattle.entry_check.specs.plan_space_JoinLemmas.{found-four}
 use Rattle.certificates.specs.Certificates.{Certificate}
 use Rattle.plan_check.specs.Reasons.{AllRight}
 use Rattle.plan_check.specs.declared.verdict.Plain.{Plain}
@@ -53,10 +54,6 @@ both-three false b c e f = e
 first-part : (a b : Bool) → a && b ≡ true → a ≡ true
 first-part true b e = refl
 first-part false b e = e
-
-other-part : (a b : Bool) → a && b ≡ true → b ≡ true
-other-part true b e = e
-other-part false b e = absurd (true≢false (sym e))
 
 module _ (c : Contents) (q : Query) (a b : Set) where
   pub list-two : (x y : ℕ) → IsMergeList c q a b (x ∷ []) → IsMergeList c q a b (y ∷ []) → y ≢ x → IsMergeList c q a b (x ∷ y ∷ [])
@@ -135,7 +132,7 @@ module _ (c : Contents) (q : Query) (t : Certificate) (k l : ℕ) where
       by-list (x ∷ y ∷ []) m =
           let one : 0 < 1 = omega arith in
           let two : 1 < 2 = omega arith in
-          let rest = other-part _ _ m.joining in
+          let rest = (and_parts _ _ m.joining).1 in
           by-two x y (among x (first-part _ _ m.joining)) (among y (first-part _ _ rest)) (λ e. m.different 0 1 0 one two (sym e))
       by-list (x ∷ y ∷ z ∷ []) m =
           let one : 0 < 1 = omega arith in
@@ -143,8 +140,8 @@ module _ (c : Contents) (q : Query) (t : Certificate) (k l : ℕ) where
           let two : 1 < 3 = omega arith in
           let two' : 1 < 2 = omega arith in
           let three : 2 < 3 = omega arith in
-          let rest = other-part _ _ m.joining in
-          let last = other-part _ _ rest in
+          let rest = (and_parts _ _ m.joining).1 in
+          let last = (and_parts _ _ rest).1 in
           by-three x y z (among x (first-part _ _ m.joining)) (among y (first-part _ _ rest)) (among z (first-part _ _ last))
           (λ e. m.different 0 1 0 one two (sym e)) (λ e. m.different 0 2 0 one' three (sym e)) (λ e. m.different 1 2 0 two' three (sym e))
       by-list (x ∷ y ∷ z ∷ w ∷ keys) m = let few : length (x ∷ y ∷ z ∷ w ∷ keys) ≤ 3 = m.few in absurd (omega (arith, few))

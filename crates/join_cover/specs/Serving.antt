@@ -51,6 +51,8 @@ module _ (c : Contents) (q : Query) (t : Certificate) where
   abbrev pub AreNestsOf : ℕ → ℕ → Type 0
   AreNestsOf x y = (k l : ℕ) → IsOf t.entries x k → IsOf t.entries y l → IsNestServed k l
 
+  -- the nested loops of the entries of two sets, so far as these stand in a stretch of places on either side: from one on
+  -- and before another
   abbrev pub AreNestsBy : ℕ → ℕ → ℕ × ℕ → ℕ × ℕ → Type 0
   AreNestsBy x y outer inner = (k l : ℕ) → outer.0 ≤ k → k < outer.1 → inner.0 ≤ l → l < inner.1 → IsOf t.entries x k → IsOf t.entries y l → IsNestServed k l
 
@@ -58,6 +60,7 @@ module _ (c : Contents) (q : Query) (t : Certificate) where
   abbrev pub AreMergesBy : Keys → ℕ → ℕ → Type 0
   AreMergesBy keys x y = (k l : ℕ) → IsOf t.entries x k → IsOf t.entries y l → IsListServed keys k l
 
+  -- the merges of the entries of two sets by any list of classes
   abbrev pub AreMergesOf : ℕ → ℕ → Type 0
   AreMergesOf x y = (keys : Keys) → AreMergesBy keys x y
 

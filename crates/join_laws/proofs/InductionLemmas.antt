@@ -1,9 +1,9 @@
 -- By induction over trees: a plan whose children are dominated by kept plans is dominated by the same join of these.
 use Rattle.std.proofs.Common.{◌≡◌, false, refl, true≢false}
 use Rattle.std.proofs.Math.Nat.{lt_of_le_of_lt}
-use Rattle.catalog.specs.Contents.{Contents}
-use Rattle.sql_query.specs.Queries.{Query}
-use Rattle.pathkeys.specs.Keys.{Keys}
+use Rattle.plan_tree.specs.catalog_Contents.{Contents}
+use Rattle.plan_tree.specs.sql_query_Queries.{Query}
+use Rattle.plan_tree.specs.pathkeys_Keys.{Keys}
 use Rattle.plan_tree.specs.Plans.{Plan, seq, index, index_only, bitmap, sort, nest, merge, is_sort}
 use Rattle.plan_tree.specs.Costs.{HaveRows}
 use Rattle.plan_tree.specs.Space.{IsBuilt}

@@ -4,11 +4,11 @@ use Rattle.std.specs.Prelude.{Option, Some, None}
 use Rattle.std.specs.Int.{div_ceil}
 use Rattle.std.proofs.Math.Nat.{lt_of_le_of_lt}
 use Rattle.std.proofs.lemmas.Bool.{cases_lt}
-use Rattle.catalog.specs.Contents.{Contents}
+use Rattle.plan_tree.specs.catalog_Contents.{Contents}
 use Rattle.cost_rules.proofs.RisingLemmas.{price-rises}
-use Rattle.sql_query.specs.Queries.{Query, all_of_query}
-use Rattle.sql_query.specs.declared.window.Window.{Window}
-use Rattle.pathkeys.specs.Keys.{Keys, covers, order_keys}
+use Rattle.plan_tree.specs.sql_query_Queries.{Query, all_of_query}
+use Rattle.plan_tree.specs.sql_query_window_Window.{Window}
+use Rattle.plan_tree.specs.pathkeys_Keys.{Keys, covers, order_keys}
 use Rattle.plan_tree.specs.Plans.{Plan, seq, index, index_only, bitmap, sort, nest, merge, is_sort}
 use Rattle.plan_tree.specs.Keys.{keys_of}
 use Rattle.plan_tree.specs.Costs.{cost, price, price_by, asked, query_rows, HaveRows}

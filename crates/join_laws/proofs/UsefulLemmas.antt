@@ -6,16 +6,16 @@ use Rattle.std.specs.List.{list_all, list_any}
 use Rattle.std.proofs.Math.Nat.{lt_of_le_of_lt}
 use Rattle.std.proofs.lemmas.Bool.{or_cases, and_parts, and_from, eqb-true}
 use Rattle.pg_expr.specs.declared.operand.ColRef.{ColRef}
-use Rattle.catalog.specs.Contents.{Contents}
-use Rattle.sql_query.specs.Queries.{Query, all_of_query}
-use Rattle.sql_query.specs.declared.window.Window.{Window}
-use Rattle.eq_classes.specs.Classes.{Class}
-use Rattle.eq_classes.specs.Clauses.{Set, has_constant}
-use Rattle.eq_classes.specs.Parts.{has_in, is_joining, joining_from}
-use Rattle.eq_classes.specs.Listing.{class_at}
-use Rattle.eq_classes.specs.Holding.{AreApart, IsWithin}
-use Rattle.pathkeys.specs.Keys.{Keys, covers, order_keys}
-use Rattle.pathkeys.proofs.CoveringLemmas.{covers-refl, covers-trans}
+use Rattle.plan_tree.specs.catalog_Contents.{Contents}
+use Rattle.plan_tree.specs.sql_query_Queries.{Query, all_of_query}
+use Rattle.plan_tree.specs.sql_query_window_Window.{Window}
+use Rattle.plan_tree.specs.eq_classes_Classes.{Class}
+use Rattle.plan_tree.specs.eq_classes_Clauses.{Set, has_constant}
+use Rattle.plan_tree.specs.eq_classes_Parts.{has_in, is_joining, joining_from}
+use Rattle.plan_tree.specs.eq_classes_Listing.{class_at}
+use Rattle.plan_tree.specs.eq_classes_Holding.{AreApart, IsWithin}
+use Rattle.plan_tree.specs.pathkeys_Keys.{Keys, covers, order_keys}
+use Rattle.plan_tree.specs.pathkeys_CoveringLemmas.{covers-refl, covers-trans}
 use Rattle.plan_tree.specs.Plans.{Plan, seq, index, index_only, bitmap, sort, nest, merge, is_sort, set_of}
 use Rattle.plan_tree.specs.Keys.{keys_of}
 use Rattle.plan_tree.specs.Costs.{cost, HaveRows}
@@ -24,6 +24,7 @@ use Rattle.plan_tree.specs.Least.{Dominates, IsAdmissible, IsStartupAtMost}
 use Rattle.plan_tree.proofs.BoundLemmas.{merge-most, nest-most, sort-most, startup-most}
 use Rattle.plan_tree.proofs.LikeLemmas.{set-like}
 use Rattle.plan_tree.proofs.ReplacingLemmas.{nest-replaced, nest-totals, merge-replaced, merge-totals, sort-totals}
+use Rattle.plan_tree.proofs.WindowLemmas.{startup-from}
 use Rattle.join_laws.specs.Closed.{IsKeptSide}
 use Rattle.join_laws.proofs.WithinLemmas.{built-within}
 use Rattle.join_laws.specs.Useful.{outside, is_open, are_open, IsOfUse, Suffices, StandsIn, floor_by, IsBelow, HasEnough, IsClosedBelow}
@@ -144,10 +145,6 @@ startup-refl (Some w) n = le_refl n
 startup-trans : (w : Option Window) (l m n : ℕ) → IsStartupAtMost w l m → IsStartupAtMost w m n → IsStartupAtMost w l n
 startup-trans None l m n h k = tt
 startup-trans (Some w) l m n h k = le_trans h k
-
-startup-from : (w : Option Window) (m n : ℕ) → m ≤ n → IsStartupAtMost w m n
-startup-from None m n h = tt
-startup-from (Some w) m n h = h
 
 module _ (c : Contents) (q : Query) where
   -- domination is enough, and where every list counts no less is

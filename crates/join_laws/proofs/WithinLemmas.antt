@@ -1,10 +1,9 @@
 -- The relations that a plan reads are those of the query.
-use Rattle.std.proofs.Common.{◌≡◌, ◌<◌, ℕ, Bool, true, false, ◌||◌, nat_eq, nat_lt, refl, arith}
-use Rattle.std.proofs.lemmas.Bool.{eqb-true}
-use Rattle.std.proofs.lemmas.Bool.Decides.{nat_tests}
-use Rattle.catalog.specs.Contents.{Contents}
-use Rattle.eq_classes.specs.Holding.{IsWithin}
-use Rattle.sql_query.specs.Queries.{Query, all_of_query, width}
+use Rattle.std.proofs.Common.{◌≡◌, ◌<◌, ℕ, Bool, true, false, ◌||◌, nat_eq, refl, arith}
+use Rattle.std.proofs.lemmas.Bool.{eqb-true, lt-ltb}
+use Rattle.plan_tree.specs.catalog_Contents.{Contents}
+use Rattle.plan_tree.specs.eq_classes_Holding.{IsWithin}
+use Rattle.plan_tree.specs.sql_query_Queries.{Query, all_of_query, width}
 use Rattle.plan_tree.specs.Plans.{Plan, seq, index, index_only, bitmap, sort, nest, merge, set_of}
 use Rattle.plan_tree.specs.Reads.{ReadsBelow}
 use Rattle.plan_tree.specs.Space.{IsBuilt}
@@ -27,8 +26,5 @@ read-below n (sort keys input) k h e = read-below n input k h e
 read-below n (nest o i) k h e = either-below n k (set_of o k) (set_of i k) (read-below n o k h.0) (read-below n i k h.1) e
 read-below n (merge keys o i) k h e = either-below n k (set_of o k) (set_of i k) (read-below n o k h.0) (read-below n i k h.1) e
 
-as-test : (k n : ℕ) → k < n → nat_lt k n ≡ true
-as-test k n lt = grind (arith, nat_tests)
-
 pub built-within : (c : Contents) (q : Query) (t : Plan) → IsBuilt c q t → IsWithin (set_of t) (all_of_query q)
-built-within c q t built k e = as-test k (width q) (read-below (width q) t k (built-below c q t built) e)
+built-within c q t built k e = lt-ltb k (width q) (read-below (width q) t k (built-below c q t built) e)

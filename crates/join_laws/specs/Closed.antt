@@ -1,8 +1,8 @@
 -- Plans that are kept while joins are made of smaller ones, and when they suffice (PostgreSQL,
 -- src/backend/optimizer/README, Join Tree Construction: each larger plan is made of the plans that were kept).
 use Rattle.std.specs.Prelude.{◌≡◌, Bool, true, false}
-use Rattle.catalog.specs.Contents.{Contents}
-use Rattle.sql_query.specs.Queries.{Query}
+use Rattle.plan_tree.specs.catalog_Contents.{Contents}
+use Rattle.plan_tree.specs.sql_query_Queries.{Query}
 use Rattle.plan_tree.specs.Plans.{Plan, seq, index, index_only, bitmap, sort, nest, merge, is_sort}
 use Rattle.plan_tree.specs.Space.{IsBuilt}
 use Rattle.plan_tree.specs.Least.{IsAdmissible, Dominates}

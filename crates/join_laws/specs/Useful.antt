@@ -2,13 +2,13 @@
 -- src/backend/optimizer/path/pathkeys.c, truncate_useless_pathkeys).
 use Rattle.std.specs.Prelude.{◌≡◌, ◌<◌, ◌≤◌, ◌⊎◌, ◌&&◌, ℕ, Bool, true, false, not, Option, None, Some}
 use Rattle.std.specs.List.{list_all}
-use Rattle.catalog.specs.Contents.{Contents}
-use Rattle.sql_query.specs.Queries.{Query, all_of_query}
-use Rattle.sql_query.specs.declared.window.Window.{Window}
-use Rattle.eq_classes.specs.Clauses.{Set}
-use Rattle.eq_classes.specs.Parts.{has_in}
-use Rattle.eq_classes.specs.Listing.{class_at}
-use Rattle.pathkeys.specs.Keys.{Keys, covers, order_keys}
+use Rattle.plan_tree.specs.catalog_Contents.{Contents}
+use Rattle.plan_tree.specs.sql_query_Queries.{Query, all_of_query}
+use Rattle.plan_tree.specs.sql_query_window_Window.{Window}
+use Rattle.plan_tree.specs.eq_classes_Clauses.{Set}
+use Rattle.plan_tree.specs.eq_classes_Parts.{has_in}
+use Rattle.plan_tree.specs.eq_classes_Listing.{class_at}
+use Rattle.plan_tree.specs.pathkeys_Keys.{Keys, covers, order_keys}
 use Rattle.plan_tree.specs.Plans.{Plan, sort, set_of, is_sort}
 use Rattle.plan_tree.specs.Keys.{keys_of}
 use Rattle.plan_tree.specs.Costs.{cost, price}

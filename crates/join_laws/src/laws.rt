@@ -2,8 +2,8 @@
 //! src/backend/optimizer/README (Join Tree Construction).
 
 ghost use Rattle.std.specs.Prelude.{◌≡◌, ◌<◌, ◌↔◌, ℕ, Bool, true, false, List, Contains};
-ghost use Rattle.catalog.specs.Contents.{Contents};
-ghost use Rattle.sql_query.specs.Queries.{Query};
+ghost use Rattle.plan_tree.specs.catalog_Contents.{Contents};
+ghost use Rattle.plan_tree.specs.sql_query_Queries.{Query};
 ghost use Rattle.plan_tree.specs.Costs.{HaveRows, price};
 ghost use Rattle.plan_tree.specs.Least.{Dominates, IsAdmissible, IsLeast};
 ghost use Rattle.plan_tree.specs.Plans.{Plan, is_sort};

@@ -1,5 +1,5 @@
 -- Sets that have paths, noted while the sets are gone through.
-use Rattle.std.proofs.Common.{◌≡◌, ◌⊎◌, ◌<◌, ◌≤◌, ℕ, ◌+◌, Bool, true, false, not, nat_eq, List, [], map, inl, inr, refl, sym, ◌∙◌, ap, subst, arith}
+use Rattle.std.proofs.Common.{◌≡◌, ◌⊎◌, ◌+◌, Bool, true, false, not, nat_eq, List, [], map, inl, inr, refl, sym, ◌∙◌, ap, subst, arith}
 use Rattle.std.specs.Prelude.{All, Contains, Some}
 use Rattle.std.proofs.lemmas.Bool.{eq-eqb, eqb-true, true≢false}
 use Rattle.std.proofs.lemmas.Bool.Decides.{nat_tests}
@@ -11,7 +11,8 @@ use Rattle.plan_tree.specs.Paths.{Path}
 use Rattle.plan_tree.specs.Views.{path}
 use Rattle.plan_tree.specs.declared.path.Path.{Path as Costed}
 use Rattle.join_search.specs.Offers.{AreJoinsServed}
-use Rattle.join_search.specs.Splits.{HasEachFilled, HasBareRest, IsDivided}
+use Rattle.join_search.specs.Past.{HasNoJoins}
+use Rattle.join_search.specs.Splits.{HasEachFilled, IsDivided}
 use Rattle.join_search.specs.Tables.{Fronts, IsSamePlace, front_at, none, paths_at, paths_of}
 use Rattle.join_search.specs.declared.table.Table.{Table}
 use Rattle.join_search.specs.declared.useful.Asked.{Asked}
@@ -57,10 +58,14 @@ module _ (c : Contents) (q : Query) (asked : Asked) (fronts : Fronts) (front : L
       by (inl e) = split-none c q asked fronts front a b e
       by (inr at) = All-contains (λ (x : RelSet). (y : RelSet) → IsDivided set x y → AreJoinsServed c q asked fronts front x y) sets a all at b d
 
-  -- where the rest of each has no paths there are no joins
-  pub bare-served : All (HasBareRest fronts set) sets → (a b : RelSet) → IsDivided set a b → AreJoinsServed c q asked fronts front a b
+  -- where the rest of each has no paths, or no join with it is below the limit, there are no joins
+  pub bare-served : All (HasNoJoins c q asked fronts set) sets → (a b : RelSet) → IsDivided set a b → AreJoinsServed c q asked fronts front a b
   bare-served all a b d = by (filled a (outer-some set a b d) (outer-less set a b d))
     where
+      out : HasNoJoins c q asked fronts set a → AreJoinsServed c q asked fronts front a b
+      out (inl bare) = split-bare c q asked fronts front a b (bare b d)
+      out (inr past) = past front b d
+
       by : (fronts a none ≡ []) ⊎ Contains sets a → AreJoinsServed c q asked fronts front a b
       by (inl e) = split-none c q asked fronts front a b e
-      by (inr at) = split-bare c q asked fronts front a b (All-contains (HasBareRest fronts set) sets a all at b d)
+      by (inr at) = out (All-contains (HasNoJoins c q asked fronts set) sets a all at)

@@ -237,3 +237,8 @@ pub joining-more : (four : List (Option ClassNo)) (n : ℕ) (d : Option ClassNo)
 joining-more four n d found new lt e same =
     let f : Option ClassNo → Option ℕ = option_map (λ (c : ClassNo). c.0) in
     same ∙ ap (λ l. l ++ option_to_list (f (get_or four n d))) e ∙ sym (somes-push (map f (take n four)) (f (get_or four n d))) ∙ ap somes (sym (map-append f (take n four) (get_or four n d ∷ []))) ∙ ap (λ xs. somes (map f xs)) (sym (take_more four n d lt))
+
+-- no classes have no lists
+pub lists-none : (cs : List ClassNo) → nat_eq (length cs) 0 ≡ true → [] ≡ lists_of (class_numbers cs)
+lists-none [] e = refl
+lists-none (c ∷ cs) e = absurd (omega (arith, eqb-true (length (c ∷ cs)) 0 e))

@@ -28,20 +28,23 @@ use Rattle.join_search.specs.Splits.{inners_of, outers_of}
 use Rattle.join_search.specs.Tables.{none}
 use Rattle.join_search.specs.Sufficing.{IsServed, floor_in}
 
--- a list with one more class, each of some that it has not; the same of each of some lists
+-- a list with one more class, each of some that it has not
 abbrev pub longer : List ℕ → Keys → List Keys
 longer ns keys = map (λ n. keys ++ n ∷ []) (filter (λ n. not (list_any (nat_eq n) keys)) ns)
 
+-- the same of each of some lists
 abbrev pub all_longer : List ℕ → List Keys → List Keys
 all_longer ns lists = flat_map (longer ns) lists
 
--- the lists of one, two and three of some classes
+-- the lists of one of some classes
 abbrev pub ones : List ℕ → List Keys
 ones ns = all_longer ns ([] ∷ [])
 
+-- those of two different ones
 abbrev pub twos : List ℕ → List Keys
 twos ns = all_longer ns (ones ns)
 
+-- those of one, two and three different ones
 abbrev pub lists_of : List ℕ → List Keys
 lists_of ns = (ones ns ++ twos ns) ++ all_longer ns (twos ns)
 
@@ -49,12 +52,15 @@ lists_of ns = (ones ns ++ twos ns) ++ all_longer ns (twos ns)
 abbrev pub side_of : Keys → Plan → Bool → Plan
 side_of keys t sorted = cond sorted (sort keys t) t
 
+-- the path of a side
 abbrev pub side_path : Side → Path
 side_path s = path s.path.now
 
+-- the plan of a side of a merge by the list
 abbrev pub side_plan : Keys → Side → Plan
 side_plan keys s = side_of keys (side_path s).tree s.sorted
 
+-- the keys of that plan
 abbrev pub side_keys : Keys → Side → Keys
 side_keys keys s = cond s.sorted keys (side_path s).keys
 
@@ -107,28 +113,33 @@ module _ (c : Contents) (q : Query) (asked : Asked) where
   abbrev pub ArePlainServed : List Path → Keys → Plan → List Path → Type 0
   ArePlainServed front keys i outers = All (λ o. covers o.keys keys ≡ true → IsServed c q asked front (merge keys o.tree i)) outers
 
--- the same of a split
+-- the merges of each outer side of a split with one inner side
 abbrev pub ServesOuters : Split → List Path → Keys → Plan → Type 0
 ServesOuters j front keys i = AreOutersServed j.cat.now j.q.now j.asked front (outers_of j) keys i
 
+-- those with each inner side that starts before a cost
 abbrev pub ServesEarlySides : Split → List Path → Keys → ℕ → Type 0
 ServesEarlySides j front keys startup =
     AreEarlyServed j.cat.now j.q.now j.asked front (outers_of j) (inners_of j none) keys startup
 
+-- those with each inner path whose keys begin with the list, where it starts before a cost
 abbrev pub ServesEarlyPlain : Split → List Path → Keys → ℕ → Type 0
 ServesEarlyPlain j front keys startup =
     ArePlainEarlyServed j.cat.now j.q.now j.asked front (outers_of j) keys startup (inners_of j none)
 
+-- those of the outer paths that are not sorted with one inner side
 abbrev pub ServesPlain : Split → List Path → Keys → Plan → Type 0
 ServesPlain j front keys i = ArePlainServed j.cat.now j.q.now j.asked front keys i (outers_of j)
 
--- a list by which the sides of a split are merged, and a side of them
+-- a list by which the sides of a split are merged
 abbrev pub IsListOf : Split → Keys → Type 0
 IsListOf j keys = IsMergeList j.cat.now j.q.now (has j.outer.0) (has j.inner.0) keys
 
+-- an outer side of such merges
 abbrev pub IsOuterSide : Split → Keys → Side → Type 0
 IsOuterSide j keys s = IsSideOf keys (outers_of j) (side_path s) s.sorted
 
+-- an inner one
 abbrev pub IsInnerSide : Split → Keys → Side → Type 0
 IsInnerSide j keys s = IsSideOf keys (inners_of j none) (side_path s) s.sorted
 

@@ -30,10 +30,11 @@ module _ (c : Contents) (q : Query) where
     pub still : StayDominated c q old new
 
 module _ (c : Contents) (q : Query) (asked : Asked) where
-  -- the nested loops of some outer paths with an inner plan, and those with the inner paths that start before a cost
+  -- the nested loops of some outer paths with an inner plan
   abbrev pub AreEachServed : List Path → List Path → Plan → Type 0
   AreEachServed front outers i = All (λ o. IsServed c q asked front (nest o.tree i)) outers
 
+  -- those with the inner paths that start before a cost
   abbrev pub AreEarlyServed : List Path → List Path → ℕ → List Path → Type 0
   AreEarlyServed front outers startup inners = All (λ i. i.startup < startup → AreEachServed front outers i.tree) inners
 
@@ -50,22 +51,27 @@ module _ (c : Contents) (q : Query) (asked : Asked) where
     pub nests : (p : RelSet) → AreNestsServed front (fronts a none) (fronts b p)
     pub merges : (keys : Keys) → AreMergesServed front (fronts a none) (fronts b none) keys
 
--- the same of a split
+-- joins of a split were offered to the front of its set
 abbrev pub Takes : Split → List Path → List Path → Type 0
 Takes j old new = TakesJoins j.cat.now j.q.now (paths_at j.table.now) j.set old new
 
+-- a join of the sides of a split
 abbrev pub Serves : Split → List Path → Plan → Type 0
 Serves j front t = IsServed j.cat.now j.q.now j.asked front t
 
+-- the nested loops of each outer path of a split with one inner plan
 abbrev pub ServesEach : Split → List Path → Plan → Type 0
 ServesEach j front i = AreEachServed j.cat.now j.q.now j.asked front (outers_of j) i
 
+-- those with the inner paths of a parameterisation that start before a cost
 abbrev pub ServesEarly : Split → List Path → ℕ → RelSet → Type 0
 ServesEarly j front startup p = AreEarlyServed j.cat.now j.q.now j.asked front (outers_of j) startup (inners_of j p)
 
+-- those with each inner path of a parameterisation
 abbrev pub ServesNests : Split → List Path → RelSet → Type 0
 ServesNests j front p = AreNestsServed j.cat.now j.q.now j.asked front (outers_of j) (inners_of j p)
 
+-- the merges by a list of the sides of a split
 abbrev pub ServesMerges : Split → List Path → Keys → Type 0
 ServesMerges j front keys = AreMergesServed j.cat.now j.q.now j.asked front (outers_of j) (inners_of j none) keys
 
@@ -74,13 +80,14 @@ abbrev pub ServesFrom : Split → List Path → Pair → Keys → Type 0
 ServesFrom j front least keys = (t : Plan) (n : Pair) → IsJoinOf j t → n ≡ kept_of j t → IsAtMost least n →
     keys ≡ keys_of j.cat.now j.q.now t → Serves j front t
 
--- joins offered to the front of a set, and those of two of its sides
+-- joins were offered to the front of a set
 abbrev pub TargetTakes : Target → List Path → List Path → Type 0
 TargetTakes t old new = TakesJoins t.cat.now t.q.now (paths_at t.table.now) t.set old new
 
+-- all joins of two sides of it
 abbrev pub AreTargetServed : Target → List Path → RelSet → RelSet → Type 0
 AreTargetServed t front a b = AreJoinsServed t.cat.now t.q.now t.asked (paths_at t.table.now) front a b
 
--- and those of one part with the rest
+-- all joins of one part of it with the rest
 abbrev pub IsPartServed : Target → List Path → RelSet → Type 0
 IsPartServed t front a = (b : RelSet) → IsDivided t.set a b → AreTargetServed t front a b

@@ -67,24 +67,27 @@ pub record IsOver (j : Split) : Type 0 where
   pub outers : map path j.outers.now ≡ paths_at j.table.now j.outer none
   pub inners : map path j.inners.now ≡ paths_at j.table.now j.inner none
 
--- the paths of the outer side, and those of the inner one at a parameterisation
+-- the paths of the outer side
 abbrev pub outers_of : Split → List Path
 outers_of j = paths_at j.table.now j.outer none
 
+-- those of the inner side at a parameterisation
 abbrev pub inners_of : Split → RelSet → List Path
 inners_of j p = paths_at j.table.now j.inner p
 
--- paths of the set, and such that are joins of kept ones
+-- paths of the set
 abbrev pub ArePathsOf : Split → List Path → Type 0
 ArePathsOf j paths = All (IsPathAt j.cat.now j.q.now j.set none) paths
 
+-- paths of the set that are joins of kept ones
 abbrev pub AreJoinsOf : Split → List Path → Type 0
 AreJoinsOf j paths = All (IsJoinPath j.cat.now j.q.now (paths_at j.table.now) j.set none) paths
 
--- a plan of the set that is given no rows, and its cost as a path keeps it, cut to at most 10^18
+-- a plan of the set that is given no rows
 abbrev pub IsJoinOf : Split → Plan → Type 0
 IsJoinOf j t = IsPlanOf j.cat.now j.q.now (has j.set.0) empty t
 
+-- the cost of a plan as a path keeps it, cut to at most 10^18
 abbrev pub kept_of : Split → Plan → Pair
 kept_of j t = capped_pair (kept_cost j.q.now.window (cost j.cat.now j.q.now t))
 
@@ -92,10 +95,11 @@ kept_of j t = capped_pair (kept_cost j.q.now.window (cost j.cat.now j.q.now t))
 abbrev pub IsOuterOf : Split → Path → Type 0
 IsOuterOf j x = IsPathAt j.cat.now j.q.now j.outer none x
 
--- paths of a set whose joins are looked for, and such that are joins of kept ones
+-- paths of a set whose joins are looked for
 abbrev pub AreTargetPaths : Target → List Path → Type 0
 AreTargetPaths t paths = All (IsPathAt t.cat.now t.q.now t.set none) paths
 
+-- such paths that are joins of kept ones
 abbrev pub AreTargetJoins : Target → List Path → Type 0
 AreTargetJoins t paths = All (IsJoinPath t.cat.now t.q.now (paths_at t.table.now) t.set none) paths
 

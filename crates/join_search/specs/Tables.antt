@@ -9,6 +9,7 @@ use Rattle.plan_tree.specs.declared.path.Path.{Path as Costed}
 use Rattle.join_search.specs.declared.table.Placed.{Placed}
 use Rattle.join_search.specs.declared.table.Table.{Table}
 
+-- no relations: the parameterisation of a path that is given no rows
 abbrev pub none : RelSet
 none = record { 0 = 0 }
 
@@ -41,6 +42,7 @@ list_at (v ∷ vs) (suc n) = list_at vs n
 abbrev pub places_at : Table → RelSet → List Placed
 places_at t s = list_at t.sets.items s.0
 
+-- the front at a set and a parameterisation, where one was put
 abbrev pub front_at : Table → RelSet → RelSet → Option (List Costed)
 front_at t s p = found_at p (places_at t s)
 
@@ -48,6 +50,7 @@ front_at t s p = found_at p (places_at t s)
 abbrev pub params_of : List Placed → List RelSet
 params_of fs = map (λ (f : Placed). f.param) fs
 
+-- the paths of a front, none where there is no front
 abbrev pub paths_of : Option (List Costed) → List Path
 paths_of None = []
 paths_of (Some front) = map path front

@@ -12,7 +12,8 @@ ghost use Rattle.plan_tree.specs.Fronts.{StayDominated};
 ghost use Rattle.join_search.specs.Joins.{ArePlaced, AreUndominated, IsBase, IsCovered, IsJoinPath, IsPathAt, IsSingle};
 ghost use Rattle.join_search.specs.Sufficing.{HasSufficient, StaySufficient};
 ghost use Rattle.join_search.specs.Offers.{AreJoinsServed, AreTargetServed, IsPartServed, Takes, TargetTakes};
-ghost use Rattle.join_search.specs.Splits.{HasEachFilled, AreJoinsOf, AreTargetJoins, AreTargetPaths, HasBareRest, IsDivided, IsOver, IsTarget, IsTask};
+ghost use Rattle.join_search.specs.Past.{HasNoJoins};
+ghost use Rattle.join_search.specs.Splits.{HasEachFilled, AreJoinsOf, AreTargetJoins, AreTargetPaths, IsDivided, IsOver, IsTarget, IsTask};
 ghost use Rattle.join_search.specs.declared.table.Table as tables;
 ghost use Rattle.join_search.specs.Tables.{front_at, none, paths_at};
 ghost use Rattle.join_search.specs.Search.{IsDone};
@@ -20,6 +21,7 @@ ghost use Rattle.join_search.specs.Search.{IsDone};
 use crate::merges::offer_merges;
 use crate::nests::offer_nests;
 use crate::offers::cheapest;
+use crate::past::are_joins_past;
 use crate::splits::{Split, Target, Task, all_relations, is_single, path_rows, set_rows, sets_of};
 use crate::table::Table;
 use crate::useful::{Asked, order_asked, useful};
@@ -220,26 +222,48 @@ fn refused(_back: Front<Path>) -> Memory {
     AllocError
 }
 
-/// Whether a set may have joins of a part with the rest: it is a part, and the rest has paths.
-fn may_join(table: &Table, set: RelSet, part: RelSet) -> bool
-    ensures { result ≡ false → HasBareRest (paths_at table.now) set part }
+/// Whether a set may have joins of a part with the rest: it is a part, the rest has paths, and not all of their joins are past
+/// the limit. The error means want of memory.
+fn may_join(
+    alloc: Global,
+    task: &Task,
+    table: &Table,
+    set: RelSet,
+    part: RelSet,
+) -> Result<bool, Memory>
+    requires task { IsTask task.now }
+    requires placed { ArePlaced task.now.cat.now task.now.q.now (paths_at table.now) }
+    ensures { IfOk result (λ may. may ≡ false → HasNoJoins task.now.cat.now task.now.q.now task.now.asked (paths_at table.now) set part) }
 {
     if !part.within(set) {
-        return false;
+        return Ok(false);
     }
-    !table.is_bare(set.minus(part))
+    let rest = set.minus(part);
+    if table.is_bare(rest) {
+        return Ok(false);
+    }
+    let past = are_joins_past(alloc, task, table, part, rest)?;
+    Ok(!past)
 }
 
-/// Whether a set may have joins of one of some parts with the rest.
-fn may_join_any(table: &Table, set: RelSet, parts: &[RelSet]) -> bool
-    ensures { result ≡ false → All (HasBareRest (paths_at table.now) set) parts.now }
+/// Whether a set may have joins of one of some parts with the rest. The error means want of memory.
+fn may_join_any(
+    alloc: Global,
+    task: &Task,
+    table: &Table,
+    set: RelSet,
+    parts: &[RelSet],
+) -> Result<bool, Memory>
+    requires task { IsTask task.now }
+    requires placed { ArePlaced task.now.cat.now task.now.q.now (paths_at table.now) }
+    ensures { IfOk result (λ may. may ≡ false → All (HasNoJoins task.now.cat.now task.now.q.now task.now.asked (paths_at table.now) set) parts.now) }
 {
     for part in parts {
-        if may_join(table, set, *part) {
-            return true;
+        if may_join(alloc, task, table, set, *part)? {
+            return Ok(true);
         }
     }
-    false
+    Ok(false)
 }
 
 /// The front of the joins of a set over a table, where the smaller sets that have paths are these. The error means want of
@@ -258,7 +282,8 @@ fn front_over(
     ensures served { IfOk result (λ f. (a b : sets.RelSet) → IsDivided set a b → AreJoinsServed task.now.cat.now task.now.q.now task.now.asked (paths_at table.now) (map path f) a b) }
     ensures undominated { IfOk result (λ f. AreUndominated task.now.cat.now task.now.q.now (map path f)) }
 {
-    if !may_join_any(table, set, filled) {
+    let may = may_join_any(alloc, task, table, set, filled)?;
+    if !may {
         return Ok(Front::new(alloc));
     }
     let rows = set_rows(task.cat, task.q, set);

@@ -8,6 +8,7 @@ mod lists;
 mod merges;
 mod nests;
 mod offers;
+mod past;
 mod sides;
 mod splits;
 mod table;

@@ -1,7 +1,7 @@
 //! Likely plans, found by adding one relation after another (own, in the manner of PostgreSQL's search by left-deep trees,
 //! src/backend/optimizer/geqo/geqo_eval.c). They are a guess, and nothing else rests on them.
 
-ghost use Rattle.std.specs.Prelude.{All, IfOk, map};
+ghost use Rattle.std.specs.Prelude.{◌<◌, All, IfOk, map};
 ghost use Rattle.pg_base.specs.Sets.{has};
 ghost use Rattle.plan_tree.specs.Reads.{IsOverTables};
 ghost use Rattle.plan_tree.specs.Views.{path};
@@ -16,10 +16,12 @@ use crate::splits::{Target, Task, all_relations, is_single, set_rows};
 use crate::table::Table;
 use crate::useful::{Asked, order_asked};
 use catalog::Catalog;
+use eq_classes::ClauseSet;
 use kept_paths::KeptPaths;
 use pareto::Front;
+use path_cost::operators_of;
 use pg_base::{Memory, RelNo, RelSet};
-use plan_tree::{Path, range_of};
+use plan_tree::{Path, classes_of, range_of};
 use sql_query::Prepared;
 use std::alloc::{AllocError, Global};
 
@@ -62,8 +64,50 @@ fn joins_with(
     joins_either(alloc, &at, part)
 }
 
-/// A set with one more relation, the one whose joins with it cost least. The error means want of memory.
-fn nearest(alloc: Global, task: &Task, table: &Table, set: RelSet) -> Result<RelSet, Memory>
+/// The joins of a part of a set with the rest of it over a table, of those that cost less than a limit. The error means want of
+/// memory.
+fn joins_below(
+    alloc: Global,
+    task: &Task,
+    limit: u64,
+    table: &Table,
+    set: RelSet,
+    part: RelSet,
+) -> Result<Front<Path>, Memory>
+    requires task { IsTask task.now }
+    requires placed { ArePlaced task.now.cat.now task.now.q.now (paths_at table.now) }
+{
+    let below = Task {
+        cat: task.cat,
+        q: task.q,
+        asked: Asked {
+            every_key: task.asked.every_key,
+            limit,
+        },
+        order: task.order,
+    };
+    joins_with(alloc, &below, table, set, part)
+}
+
+/// Whether some clause joins a relation with a set.
+fn is_joined(q: &Prepared, set: RelSet, r: RelNo) -> bool
+    requires { r.0 < 16 }
+{
+    let classes = classes_of(q);
+    let none = ClauseSet::empty();
+    let joining = classes.join_clauses(set, RelSet::one(r));
+    operators_of(classes, &joining, &none, &none) > 0
+}
+
+/// A set with one more relation, the one whose joins with it cost least: of those that a clause joins with it, or of all. The
+/// set itself where there is none. The error means want of memory.
+fn nearest_of(
+    alloc: Global,
+    task: &Task,
+    table: &Table,
+    set: RelSet,
+    of_all: bool,
+) -> Result<RelSet, Memory>
     requires task { IsTask task.now }
     requires placed { ArePlaced task.now.cat.now task.now.q.now (paths_at table.now) }
 {
@@ -71,8 +115,8 @@ fn nearest(alloc: Global, task: &Task, table: &Table, set: RelSet) -> Result<Rel
     let mut found = set;
     for r in 0..range_of(task.q).items().len() {
         let more = set.union(RelSet::one(RelNo(r as u8)));
-        if more.0 != set.0 {
-            let front = joins_with(alloc, task, table, more, set)?;
+        if more.0 != set.0 && (of_all || is_joined(task.q, set, RelNo(r as u8))) {
+            let front = joins_below(alloc, task, least, table, more, set)?;
             let cost = least_cost(front.items());
             if cost < least {
                 least = cost;
@@ -81,6 +125,19 @@ fn nearest(alloc: Global, task: &Task, table: &Table, set: RelSet) -> Result<Rel
         }
     }
     Ok(found)
+}
+
+/// A set with one more relation that a clause joins with it, if there is one, else with any: the one whose joins with it cost
+/// least. The error means want of memory.
+fn nearest(alloc: Global, task: &Task, table: &Table, set: RelSet) -> Result<RelSet, Memory>
+    requires task { IsTask task.now }
+    requires placed { ArePlaced task.now.cat.now task.now.q.now (paths_at table.now) }
+{
+    let found = nearest_of(alloc, task, table, set, false)?;
+    if found.0 != set.0 {
+        return Ok(found);
+    }
+    nearest_of(alloc, task, table, set, true)
 }
 
 /// A table with the joins of a part of a set with the rest, where the set has more than one relation. The error means want of

@@ -135,16 +135,19 @@ fn no_classes(alloc: Global) -> Result<Vec<Keys>, Memory>
 fn lists_among(alloc: Global, classes: &[ClassNo]) -> Result<Vec<Keys>, Memory>
     ensures { IfOk result (λ v. v.items ≡ lists_of (class_numbers classes.now)) }
 {
+    if classes.is_empty() {
+        return Ok(Vec::new(alloc));
+    }
     let none = no_classes(alloc)?;
     let mut ones = Vec::new(alloc);
     add_all_longer(alloc, classes, &none, &mut ones)?;
     let mut twos = Vec::new(alloc);
     add_all_longer(alloc, classes, &ones, &mut twos)?;
-    let mut all = Vec::new(alloc);
-    add_all_longer(alloc, classes, &none, &mut all)?;
-    add_all_longer(alloc, classes, &ones, &mut all)?;
-    add_all_longer(alloc, classes, &twos, &mut all)?;
-    Ok(all)
+    let mut threes = Vec::new(alloc);
+    add_all_longer(alloc, classes, &twos, &mut threes)?;
+    ones.append(&mut twos)?;
+    ones.append(&mut threes)?;
+    Ok(ones)
 }
 
 /// The lists by which two sets may be merged: 1 to 3 different ones of their first four joining classes, in any order.

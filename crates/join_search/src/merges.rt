@@ -16,9 +16,9 @@ ghost use Rattle.join_search.specs.Tables.{none};
 
 use crate::lists::merge_lists;
 use crate::offers::{cheapest, is_passed_over, least_cost, offer_join};
+use crate::past::is_past;
 use crate::sides::{Side, best_side, keys_of, plan_of, side_cost};
 use crate::splits::Split;
-use crate::useful::is_below;
 use catalog::Catalog;
 use cost_rules::{Pair, merge};
 use eq_classes::ClauseSet;
@@ -361,7 +361,7 @@ fn least_startup(paths: &[Path]) -> u64
 }
 
 /// A cost that no path of some is below, neither before its first row nor in all.
-fn least_of(paths: &[Path]) -> Pair
+pub(crate) fn least_of(paths: &[Path]) -> Pair
     ensures { All (IsNoCheaper result) (map path paths.now) }
 {
     Pair {
@@ -371,13 +371,10 @@ fn least_of(paths: &[Path]) -> Pair
 }
 
 /// Whether two sides that cost so much are together past the limit.
-fn are_past(j: &Split, outer: Pair, inner: Pair) -> bool
+pub(crate) fn are_past(j: &Split, outer: Pair, inner: Pair) -> bool
     ensures { IsTrue result → ArePast j.now outer inner }
 {
-    let startup = outer.startup.saturating_add(inner.startup);
-    let total = outer.total.saturating_add(inner.total);
-    let both = Pair { startup, total };
-    !is_below(j.q, j.asked, both)
+    is_past(j.q, j.asked, outer, inner)
 }
 
 /// Whether all merges of two sets are past the limit, as what their sides cost at least tells.

@@ -1,8 +1,9 @@
 //! Nested loops of two sets (PostgreSQL, src/backend/optimizer/path/joinpath.c, match_unsorted_outer).
 
-ghost use Rattle.std.specs.Prelude.{◌≡◌, ◌<◌, ◌^◌, ◌-◌, ℕ, Contains, IfOk, OnOk, map, min};
+ghost use Rattle.std.specs.Prelude.{◌≡◌, ◌<◌, ◌^◌, ◌-◌, ℕ, Contains, IfOk, IsTrue, List, OnOk, map, min};
 ghost use Rattle.pg_base.specs.Sets.{has};
 ghost use Rattle.eq_classes.specs.Holding.{IsWithin};
+ghost use Rattle.plan_tree.specs.Paths as kept;
 ghost use Rattle.plan_tree.specs.Plans as plans;
 ghost use Rattle.plan_tree.specs.Views.{path, plan};
 ghost use Rattle.join_search.specs.Joins.{IsKept};
@@ -12,7 +13,9 @@ ghost use Rattle.join_search.specs.Splits.{AreJoinsOf, IsOuterOf, IsOver, inners
 ghost use Rattle.join_search.specs.Tables.{paths_at};
 ghost use Rattle.pg_base.specs.declared.rel_set.RelSet as sets;
 
+use crate::merges::{are_past, least_of};
 use crate::offers::{cheapest, is_passed_over, offer_join};
+use crate::past::repeated;
 use crate::splits::{Split, path_rows, some_relation};
 use cost_rules::{Pair, nest};
 use eq_classes::ClauseSet;
@@ -187,6 +190,19 @@ fn offer_early(
     Ok(())
 }
 
+/// Whether all nested loops of the outer set with the inner paths of a parameterisation are past the limit, as what their
+/// sides cost at least tells.
+fn are_nests_past(j: &Split, p: RelSet, inners: &[Path]) -> bool
+    requires over { IsOver j.now }
+    requires inners { map path inners.now ≡ inners_of j.now p }
+    ensures { IsTrue result → (front : List kept.Path) → ServesNests j.now front p }
+{
+    let outer = least_of(j.outers);
+    let inner = least_of(inners);
+    let each = repeated(inner, j.outer_rows);
+    are_past(j, outer, each)
+}
+
 /// Offers nested loops of the outer set with the inner paths of a parameterisation that is of the outer set: those with
 /// the cheapest of them, and with each that starts earlier. No other one costs less before its first row or in all. The
 /// error means want of memory.
@@ -204,6 +220,9 @@ fn offer_nests_given(
     ensures takes { Takes j.now (map path front.old) (map path front.new) }
     ensures served { OnOk result (ServesNests j.now (map path front.new) p) }
 {
+    if are_nests_past(j, p, inners) {
+        return Ok(());
+    }
     match cheapest(inners) {
         Some(least) => {
             offer_nests_of(alloc, j, p, least, front)?;

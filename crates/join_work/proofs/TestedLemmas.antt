@@ -2,6 +2,7 @@
 use Rattle.std.proofs.Common.{◌≡◌, ℕ, Bool, true, false, cond, ◌||◌, ◌&&◌, nat_lt, List, length, refl, sym, ◌∙◌, ap, ap₂}
 use Rattle.std.specs.Prelude.{Option, Some, None, IfSome}
 use Rattle.std.proofs.lemmas.Bool.{eq-eqb, eqb-true, false≢true}
+use Rattle.std.proofs.Math.Bool.{or_self}
 use Rattle.pg_base.specs.Sets.{has}
 use Rattle.pg_base.proofs.SetLaws.{has-zero, none-zero, same_set}
 use Rattle.pg_base.specs.declared.numbers.RelNo.{RelNo}
@@ -24,13 +25,9 @@ reads-some (sort keys input) = reads-some input
 reads-some (nest outer inner) = let h = reads-some outer in (h.0, ap (λ b. b || set_of inner h.0) h.1)
 reads-some (merge keys outer inner) = let h = reads-some outer in (h.0, ap (λ b. b || set_of inner h.0) h.1)
 
-or-self : (b : Bool) → b ≡ b || b
-or-self true = refl
-or-self false = refl
-
 -- a plan that is given no rows is no scan that is
 pub given-none : (t : Plan) → IsEmpty (param_of t) → given_scan t ≡ None
-given-none t none = given-like t (nest t t) (record { set = λ k. or-self (set_of t k); param = λ k. none k })
+given-none t none = given-like t (nest t t) (record { set = λ k. sym (or_self (set_of t k)); param = λ k. none k })
 
 -- a scan that is given rows is of one relation
 scan-one : (r : RelNo) (p : RelSet) (b : Bool) → IfSome (cond b None (Some (record { relation = r; param = p }))) (λ (s : GivenScan). IsSameSet (one r.0) (one s.relation.0))

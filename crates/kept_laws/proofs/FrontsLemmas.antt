@@ -16,8 +16,8 @@ use Rattle.plan_tree.proofs.BoundLemmas.{startup-most}
 use Rattle.join_laws.specs.Closed.{IsUndercut}
 use Rattle.join_laws.specs.Useful.{HasEnough, IsBelow, floor_by}
 use Rattle.join_laws.proofs.UsefulLemmas.{suffices-dominates}
-use Rattle.join_search.specs.Joins.{AreUndominated, IsKept, IsPathAt}
-use Rattle.join_search.specs.Tables.{Fronts}
+use Rattle.planner.specs.join_search_Joins.{AreUndominated, IsKept, IsPathAt}
+use Rattle.planner.specs.join_search_Tables.{Fronts}
 use Rattle.planner.proofs.SearchLemmas.{closed}
 use Rattle.certificate_laws.specs.Kept.{AreKept, IsKeptPath, IsPlanOfSome}
 use Rattle.certificate_laws.proofs.KeptLemmas.{sides-wider}

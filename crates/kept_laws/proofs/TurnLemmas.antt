@@ -9,6 +9,7 @@ use Rattle.std.proofs.lemmas.Bool.{cases_lt, eq-eqb, eqb-true}
 use Rattle.std.proofs.lemmas.Cmp.{ranked}
 use Rattle.std.proofs.lemmas.List.{get_or_default, get_or-take, length-take-le}
 use Rattle.std.proofs.lemmas.List.Elements.{All-contains, Contains-get_or}
+use Rattle.std.proofs.Math.Bool.{or-true}
 use Rattle.pg_base.specs.Sets.{has}
 use Rattle.pg_base.specs.declared.numbers.RelNo.{RelNo}
 use Rattle.pg_base.specs.declared.rel_set.RelSet.{RelSet}
@@ -24,11 +25,11 @@ use Rattle.plan_tree.specs.Reads.{IsOverTables}
 use Rattle.plan_tree.specs.Space.{AreSides, HasKeys, IsBuilt, IsPlanOf, IsSameSet}
 use Rattle.plan_tree.proofs.FrontLemmas.{contains-mapped}
 use Rattle.plan_tree.proofs.PathLemmas.{built-below}
-use Rattle.scan_paths.proofs.SpaceLemmas.{no-join, same-param}
+use Rattle.planner.specs.scan_paths_SpaceLemmas.{no-join, same-param}
 use Rattle.join_laws.proofs.WithinLemmas.{read-below}
-use Rattle.join_search.specs.Joins.{IsJoinOfKept, IsJoinPath, IsKept, IsSideKept, IsSingle}
-use Rattle.join_search.specs.Tables.{Fronts}
-use Rattle.join_search.proofs.PlanLemmas.{reads-some}
+use Rattle.planner.specs.join_search_Joins.{IsJoinOfKept, IsJoinPath, IsKept, IsSideKept, IsSingle}
+use Rattle.planner.specs.join_search_Tables.{Fronts}
+use Rattle.planner.specs.join_search_PlanLemmas.{reads-some}
 use Rattle.certificates.specs.Certificates.{relation_in}
 use Rattle.kept_laws.specs.Made.{AreMadeInTurn, IsMadeAmong, IsSideAmong, tree_of}
 use Rattle.kept_laws.specs.Printing.{path_order}
@@ -68,10 +69,6 @@ not-after m n k Greater h e = absurd (true≢false e)
 
 size-up : (x y : Path) → is_gt (path_order x y) ≡ false → relation_count x.set ≤ relation_count y.set
 size-up x y e = not-after (relation_count x.set) (relation_count y.set) _ (nat_cmp (relation_count x.set) (relation_count y.set)) refl e
-
-or_true : (a : Bool) → a || true ≡ true
-or_true true = refl
-or_true false = refl
 
 other-out : (a b : Bool) → (a ≡ true → b ≡ false) → b ≡ true → a ≡ false
 other-out true b h e = absurd (true≢false (sym e ∙ h refl))
@@ -141,7 +138,7 @@ module _ (c : Contents) (q : Query) (over : IsOverTables c q) (fronts : Fronts) 
       within-o n is = sym (set n) ∙ ap (λ b. b || set_of i n) is
 
       within-i : (n : ℕ) → set_of i n ≡ true → has here.set.0 n ≡ true
-      within-i n is = sym (set n) ∙ ap (λ b. set_of o n || b) is ∙ or_true (set_of o n)
+      within-i n is = sym (set n) ∙ ap (λ b. set_of o n || b) is ∙ or-true (set_of o n)
 
       out-o : set_of o some-i.0 ≡ false
       out-o = other-out (set_of o some-i.0) (set_of i some-i.0) (sides.apart some-i.0) some-i.1

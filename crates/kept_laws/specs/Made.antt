@@ -5,6 +5,7 @@ use Rattle.plan_tree.specs.Plans.{Plan, seq, index, index_only, bitmap, sort, ne
 use Rattle.plan_tree.specs.Paths.{Path}
 use Rattle.certificates.specs.Certificates.{relation_in}
 
+-- the plan of a path, without the numbers by which it is compared
 abbrev pub tree_of : Path → Plan
 tree_of x = x.tree
 

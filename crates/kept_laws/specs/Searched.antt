@@ -7,9 +7,9 @@ use Rattle.cost_rules.specs.declared.parameters.TheConstants.{MOST_COST}
 use Rattle.sql_query.specs.Queries.{Query, width}
 use Rattle.pareto.specs.Front.{Unrelated}
 use Rattle.plan_tree.specs.Paths.{Path, is_at_most}
-use Rattle.join_search.specs.Joins.{ArePlaced, IsCovered, IsJoinPath, IsSingle}
-use Rattle.join_search.specs.Tables.{Fronts}
-use Rattle.join_search.specs.declared.useful.Asked.{Asked}
+use Rattle.planner.specs.join_search_Joins.{ArePlaced, IsCovered, IsJoinPath, IsSingle}
+use Rattle.planner.specs.join_search_Tables.{Fronts}
+use Rattle.planner.specs.join_search_useful_Asked.{Asked}
 use Rattle.planner.specs.Bases.{HaveScansOf}
 
 -- every list of keys counts, and whatever is admissible

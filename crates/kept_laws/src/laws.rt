@@ -8,7 +8,7 @@ ghost use Rattle.sql_query.specs.Queries.{Query, width};
 ghost use Rattle.plan_tree.specs.Costs.{HaveRows};
 ghost use Rattle.plan_tree.specs.Paths.{Path};
 ghost use Rattle.plan_tree.specs.Reads.{IsOverTables};
-ghost use Rattle.join_search.specs.Tables.{Fronts};
+ghost use Rattle.planner.specs.join_search_Tables.{Fronts};
 ghost use Rattle.certificates.specs.Certificates.{Certificate};
 ghost use Rattle.certificate_laws.specs.Kept.{AreKept, AreOf};
 ghost use Rattle.kept_laws.specs.Made.{AreMadeInTurn};

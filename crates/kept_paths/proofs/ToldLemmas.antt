@@ -1,7 +1,7 @@
 -- What the paths that were offered cost, and what is told of them.
 use Rattle.std.proofs.Common.{◌≡◌, ◌≤◌, ◌⊎◌, ◌&&◌, ◌||◌, ℕ, Bool, true, false, nat_le, List, map, Option, None, Some, ⊎_elim, refl, sym, ◌∙◌, ap, subst, le_trans, arith}
 use Rattle.std.specs.Prelude.{All, Contains}
-use Rattle.std.proofs.lemmas.Bool.{and_from, and_parts, false≢true, or_cases}
+use Rattle.std.proofs.lemmas.Bool.{and_from, and_parts, false≢true, or_cases, leb-true, or_right}
 use Rattle.std.proofs.lemmas.Grind.{common_steps}
 use Rattle.std.proofs.lemmas.List.Elements.{All-contains, All-map, All-weaker}
 use Rattle.pareto.specs.Front.{AreKeptOr, IsCovered}
@@ -15,9 +15,6 @@ use Rattle.plan_tree.proofs.FrontLemmas.{contains-mapped, contains-source}
 use Rattle.cost_rules.specs.Costs.{pair}
 use Rattle.cost_rules.specs.declared.pair.Pair.{Pair}
 use Rattle.kept_paths.specs.Bounds.{AreTold, Bounds, IsBeaten, IsPreceded, beats, is_first, is_told, is_within, least_at, pair_of}
-
-most : (m n : ℕ) → nat_le m n ≡ true → m ≤ n
-most m n e = grind (arith, common_steps)
 
 no-more : (m n : ℕ) → m ≤ n → nat_le m n ≡ true
 no-more m n e = grind (arith, common_steps)
@@ -68,10 +65,6 @@ or-left : (a b : Bool) → a ≡ true → (a || b) ≡ true
 or-left true b e = refl
 or-left false b e = absurd cc
 
-or-right : (a b : Bool) → b ≡ true → (a || b) ≡ true
-or-right true b e = refl
-or-right false b e = e
-
 -- one more path was kept, and its cost noted of each list that its keys begin with
 pub told-kept : (old new : List Costed) (made : Costed) (m n : Bounds) → AreKeptOr old made new → All (IsCovered is_path_at_most new) old → Contains new made →
     ((ks : Keys) (c : Pair) → is_told n ks c ≡ (is_told m ks c || (covers made.keys ks && is_first (pair_of (path made)) c))) →
@@ -97,7 +90,7 @@ told-kept old new made m n kept covered there same h ks c = (preceded, told)
     from-made x is first e =
         let is-first : is_first (pair_of (path made)) c ≡ true = subst (λ (y : Costed). is_first (pair_of (path y)) c ≡ true) is first in
         let is-covered : covers made.keys ks ≡ true = subst (λ (y : Costed). covers y.keys ks ≡ true) is e in
-        same ks c ∙ or-right (is_told m ks c) now (and_from (covers made.keys ks) (is_first (pair_of (path made)) c) is-covered is-first)
+        same ks c ∙ or_right (is_told m ks c) now (and_from (covers made.keys ks) (is_first (pair_of (path made)) c) is-covered is-first)
 
     told : IsPreceded (map path new) c ks → is_told n ks c ≡ true
     told b =
@@ -134,8 +127,8 @@ module _ (ps : List Path) (m : Bounds) (h : AreTold ps m) (ks : Keys) where
       record {
         path = x.path;
         is_there = x.is_there;
-        early = le_trans x.early (most least.startup c.startup parts.0);
-        cheap = le_trans x.cheap (most least.total c.total parts.1);
+        early = le_trans x.early (leb-true least.startup c.startup parts.0);
+        cheap = le_trans x.cheap (leb-true least.total c.total parts.1);
         covers = x.covers;
       }
 

@@ -23,6 +23,7 @@ pub record IsBeaten (paths : List Path) (cost : Pair) (keys : Keys) : Type 0 whe
 abbrev pub is_first : Pair → Pair → Bool
 is_first a b = nat_lt a.total b.total || (nat_eq a.total b.total && nat_le a.startup b.startup)
 
+-- what a path says that it costs, before its first row and in all
 abbrev pub pair_of : Path → Pair
 pair_of p = pair p.startup p.cost
 
@@ -33,6 +34,7 @@ pub record IsPreceded (paths : List Path) (cost : Pair) (keys : Keys) : Type 0 w
   pub first : is_first (pair_of path) cost ≡ true
   pub covers : covers path.keys keys ≡ true
 
+-- for each list of classes that was met, the least cost that is known of paths whose keys begin with it
 abbrev pub Bounds : Type 0
 Bounds = BTreeMap (Vec ℕ Global) Known
 
@@ -40,6 +42,7 @@ Bounds = BTreeMap (Vec ℕ Global) Known
 abbrev pub known_at : Bounds → Keys → Option Known
 known_at bounds keys = get_by (λ k. slice_cmp nat_cmp keys k.items) bounds
 
+-- the least cost that is known of a list of classes; none where nothing is
 abbrev pub least_in : Option Known → Option Pair
 least_in None = None
 least_in (Some known) = known.least

@@ -7,10 +7,11 @@ use Rattle.std.specs.Char.{is_ascii_digit, is_ascii_lowercase}
 use Rattle.std.specs.Fmt.{decimal, digit_glyph, digits, digits_onto}
 use Rattle.std.specs.List.{list_all}
 use Rattle.std.specs.Str.Parse.{digits_value}
-use Rattle.std.proofs.lemmas.Bool.{and_from, and_parts, true≢false}
+use Rattle.std.proofs.lemmas.Bool.{and_from, and_parts, true≢false, lt-ltb}
 use Rattle.std.proofs.lemmas.Bool.Decides.{nat_tests}
 use Rattle.std.proofs.lemmas.Fmt.{decimal-digits_value, decimal_digit, decimal_is_IsNumeral, first_decimal}
 use Rattle.std.proofs.lemmas.Str.Parse.{IsDigitsTest, numerals_by_value}
+use Rattle.std.proofs.lemmas.Option.{same_Some, none-some}
 use Rattle.pg_base.specs.Names.{is_in_name}
 use Rattle.pg_value.specs.Fields.{is_numeral}
 use Rattle.line_cursor.specs.Words.{below_end, has_leading_zero, number_written}
@@ -75,17 +76,8 @@ digits-test = record {
 some-length : (n : ℕ) → nat_lt 0 n ≡ true → 0 < n
 some-length n h = grind (arith, nat_tests, h)
 
-some-digit : (n : ℕ) → 0 < n → nat_lt 0 n ≡ true
-some-digit n lt = grind (arith, nat_tests, lt)
-
 least : (n : ℕ) → n < 10 ^ 19 → min n (2 ^ 64 - 1) ≡ n
 least n lt = grind (arith, nat_tests, lt)
-
-some-same : (x y : ℕ) → Some x ≡ Some y → x ≡ y
-some-same x y e = cc
-
-none-some : (x : ℕ) → None ≡ Some x → ⊥
-none-some x e = cc
 
 -- what is below 10^19 is itself
 below-is : (n m : ℕ) → below_end (min m (2 ^ 64 - 1)) ≡ Some n → (n < 10 ^ 19) × (m ≡ n)
@@ -93,7 +85,7 @@ below-is n m h = by (nat_lt (min m (2 ^ 64 - 1)) (10 ^ 19)) refl h
   where
     by : (b : Bool) → nat_lt (min m (2 ^ 64 - 1)) (10 ^ 19) ≡ b → cond b (Some (min m (2 ^ 64 - 1))) None ≡ Some n → (n < 10 ^ 19) × (m ≡ n)
     by true e k =
-        let same : min m (2 ^ 64 - 1) ≡ n = some-same (min m (2 ^ 64 - 1)) n k in
+        let same : min m (2 ^ 64 - 1) ≡ n = same_Some (min m (2 ^ 64 - 1)) n k in
         let low : min m (2 ^ 64 - 1) < 10 ^ 19 = grind (arith, nat_tests, e) in
         let whole : m ≡ min m (2 ^ 64 - 1) = omega (arith, low) in
         (subst (λ (x : ℕ). x < 10 ^ 19) same low, whole ∙ same)
@@ -129,7 +121,7 @@ no-zero-first (suc n) lt = let first = first_decimal (suc n) (omega arith) (omeg
 pub read-back : (n : ℕ) → n < 10 ^ 19 → number_written (decimal n) ≡ Some n
 read-back n lt =
     let is = decimal_is_IsNumeral n (omega (arith, lt)) in
-    let numeral = and_from (nat_lt 0 (length (decimal n))) (list_all is_ascii_digit (decimal n)) (some-digit (length (decimal n)) is.0.0) (decimal-digits n) in
+    let numeral = and_from (nat_lt 0 (length (decimal n))) (list_all is_ascii_digit (decimal n)) (lt-ltb 0 (length (decimal n)) is.0.0) (decimal-digits n) in
     let low : nat_lt n (10 ^ 19) ≡ true = grind (arith, nat_tests, lt) in
     ap (λ (b : Bool). cond b None (option_and_then below_end (cond (is_numeral (decimal n)) (Some (min (digits_value 10 (decimal n)) (2 ^ 64 - 1))) None))) (no-zero-first n lt)
     ∙ ap (λ (b : Bool). option_and_then below_end (cond b (Some (min (digits_value 10 (decimal n)) (2 ^ 64 - 1))) None)) numeral

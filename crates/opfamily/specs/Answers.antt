@@ -20,6 +20,7 @@ family_place families.IntAbs = 1
 family_place families.Text = 2
 family_place families.Bool = 3
 
+-- the operators: five by value, `<>`, which is in no family, and five by absolute value
 abbrev pub op_place : Op → ℕ
 op_place Lt = 0
 op_place Le = 1
@@ -33,6 +34,7 @@ op_place AbsEq = 8
 op_place AbsGe = 9
 op_place AbsGt = 10
 
+-- the types of columns, each apart: int2, int4 and int8 are three
 abbrev pub type_place : SqlType → ℕ
 type_place types.Int2 = 0
 type_place types.Int4 = 1
@@ -40,6 +42,7 @@ type_place types.Int8 = 2
 type_place types.Text = 3
 type_place types.Bool = 4
 
+-- the operator classes: the default one of each type, then those by absolute value
 abbrev pub class_place : OpClass → ℕ
 class_place Int2Ops = 0
 class_place Int4Ops = 1
@@ -50,10 +53,12 @@ class_place Int2AbsOps = 5
 class_place Int4AbsOps = 6
 class_place Int8AbsOps = 7
 
+-- the access methods of indexes
 abbrev pub method_place : Method → ℕ
 method_place Btree = 0
 method_place Hash = 1
 
+-- two types are one; int2, int4 and int8 are three, though one family takes them all
 abbrev pub is_type : SqlType → SqlType → Bool
 is_type t u = nat_eq (type_place t) (type_place u)
 
@@ -66,9 +71,11 @@ abbrev pub members : Method → Row → List Member
 members Btree row = row.btree
 members Hash row = row.hash
 
+-- an operator among those of a family, with its strategy number (pg_amop)
 abbrev pub member_of : Op → List Member → Option Member
 member_of op listed = find (λ m. nat_eq (op_place m.op) (op_place op)) listed
 
+-- the operators of a row's family take values of the type, on either side
 abbrev pub row_takes : Row → SqlType → Bool
 row_takes row t = list_any (is_type t) row.types
 
@@ -80,6 +87,7 @@ takes f t = list_any (λ row. nat_eq (family_place row.family) (family_place f) 
 abbrev pub number_in : Family → Method → Op → Option ℕ
 number_in f m op = option_map (λ member. member.strategy) (option_and_then (λ row. member_of op (members m row)) (row_of f))
 
+-- a strategy number where a test holds, else none
 abbrev pub when : Bool → Option ℕ → Option ℕ
 when true o = o
 when false o = None
@@ -101,6 +109,7 @@ abbrev pub does_exist : Op → SqlType → SqlType → Bool
 does_exist Ne l r = some_family_has Eq l r
 does_exist op l r = some_family_has op l r
 
+-- the family of a row has the operator class (pg_opclass, opcfamily)
 abbrev pub has_class : Row → OpClass → Bool
 has_class row c = list_any (λ listed. nat_eq (class_place listed.class) (class_place c)) row.classes
 
@@ -112,9 +121,11 @@ classes = flat_map (λ row. row.classes) table
 abbrev pub class_of_name : List ℕ → Option OpClass
 class_of_name name = option_map (λ listed. listed.class) (find (λ listed. bytes_eq listed.name name) classes)
 
+-- what the table says of an operator class; each has one entry
 abbrev pub listed_class : OpClass → Option Class
 listed_class c = find (λ listed. nat_eq (class_place listed.class) (class_place c)) classes
 
+-- the type of the columns for which an operator class is (pg_opclass, opcintype)
 abbrev pub own_type_of : OpClass → Option SqlType
 own_type_of c = option_map (λ listed. listed.own_type) (listed_class c)
 
@@ -126,6 +137,7 @@ family_of c = option_map (λ row. row.family) (find (λ row. has_class row c) ta
 abbrev pub default_family_of : SqlType → Option Family
 default_family_of t = option_map (λ row. row.family) (find (λ row. row.is_default && row_takes row t) table)
 
+-- an operator class is there for the access method (pg_opclass, opcmethod)
 abbrev pub has_method : Class → Method → Bool
 has_method listed m = list_any (λ n. nat_eq (method_place n) (method_place m)) listed.methods
 
@@ -133,6 +145,7 @@ has_method listed m = list_any (λ n. nat_eq (method_place n) (method_place m)) 
 abbrev pub class_accepts : Class → Method → SqlType → Bool
 class_accepts listed m t = has_method listed m && is_type listed.own_type t
 
+-- an index of the method may name the operator class for a column of the type (CREATE INDEX)
 abbrev pub accepted : OpClass → Method → SqlType → Bool
 accepted c m t = list_any (λ listed. nat_eq (class_place listed.class) (class_place c) && class_accepts listed m t) classes
 

@@ -30,6 +30,7 @@ abbrev pub first_value : List Value → Value
 first_value [] = Null
 first_value (v ∷ vs) = v
 
+-- the values behind the first; none of an empty list
 abbrev pub later_values : List Value → List Value
 later_values [] = []
 later_values (v ∷ vs) = vs

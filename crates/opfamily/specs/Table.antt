@@ -32,9 +32,11 @@ pub record Row : Type 0 where
   pub hash : List Member
   pub classes : List Class
 
+-- an operator with its strategy number in a family
 abbrev pub member : Op → ℕ → Member
 member op strategy = record { op = op; strategy = strategy }
 
+-- an operator class with its name, its type and its access methods
 abbrev pub class : OpClass → List ℕ → SqlType → List Method → Class
 class c name own_type methods = record { class = c; name = name; own_type = own_type; methods = methods }
 
@@ -50,9 +52,11 @@ hash_operators = member Eq 1 ∷ []
 abbrev pub absolute_operators : List Member
 absolute_operators = member AbsLt 1 ∷ member AbsLe 2 ∷ member AbsEq 3 ∷ member AbsGe 4 ∷ member AbsGt 5 ∷ []
 
+-- the methods of the default classes
 abbrev pub both_methods : List Method
 both_methods = Btree ∷ Hash ∷ []
 
+-- PostgreSQL's integer_ops: whole numbers by value, of three widths and in any pairing of these
 abbrev pub integer_ops : Row
 integer_ops = record {
   family = families.Integer;
@@ -63,6 +67,7 @@ integer_ops = record {
   classes = class Int2Ops (codes "int2_ops") types.Int2 both_methods ∷ class Int4Ops (codes "int4_ops") types.Int4 both_methods ∷ class Int8Ops (codes "int8_ops") types.Int8 both_methods ∷ [];
 }
 
+-- PostgreSQL's text_ops, by bytes: as in the collation "C"
 abbrev pub text_ops : Row
 text_ops = record {
   family = families.Text;
@@ -73,6 +78,7 @@ text_ops = record {
   classes = class TextOps (codes "text_ops") types.Text both_methods ∷ [];
 }
 
+-- PostgreSQL's bool_ops: false before true
 abbrev pub bool_ops : Row
 bool_ops = record {
   family = families.Bool;
@@ -83,6 +89,7 @@ bool_ops = record {
   classes = class BoolOps (codes "bool_ops") types.Bool both_methods ∷ [];
 }
 
+-- whole numbers by absolute value: not the default of any type, and without operators for hash indexes (own)
 abbrev pub int_abs_ops : Row
 int_abs_ops = record {
   family = families.IntAbs;
@@ -93,5 +100,6 @@ int_abs_ops = record {
   classes = class Int2AbsOps (codes "int2_abs_ops") types.Int2 (Btree ∷ []) ∷ class Int4AbsOps (codes "int4_abs_ops") types.Int4 (Btree ∷ []) ∷ class Int8AbsOps (codes "int8_abs_ops") types.Int8 (Btree ∷ []) ∷ [];
 }
 
+-- all families; of those that take a type exactly one is its default
 abbrev pub table : List Row
 table = integer_ops ∷ text_ops ∷ bool_ops ∷ int_abs_ops ∷ []

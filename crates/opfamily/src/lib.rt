@@ -13,4 +13,6 @@ pub use classes::{
 };
 pub use laws::key_order_is_total;
 pub use ordering::keys_order;
+pub use pg_base;
+pub use pg_value;
 pub use strategies::{operator_exists, strategy};

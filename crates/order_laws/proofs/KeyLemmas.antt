@@ -1,11 +1,10 @@
 -- Keys: classes with members in a set, and the order of tuples by them.
-use Rattle.std.proofs.Common.{◌≡◌, Ordering, ℕ, zero, suc, ◌+◌, ◌<◌, Bool, true, false, not, cond, ◌&&◌, ◌||◌, List, [], ◌∷◌, length, refl, sym, ap, ◌∙◌, subst, arith, ⊎_elim}
-use Rattle.std.specs.Prelude.{None, Some, nat_eq, take, find, slice_index_or}
+use Rattle.std.proofs.Common.{◌≡◌, Ordering, ℕ, ◌<◌, Bool, true, false, not, cond, ◌&&◌, ◌||◌, List, [], ◌∷◌, length, refl, sym, ◌∙◌, subst, arith, ⊎_elim}
+use Rattle.std.specs.Prelude.{None, Some, nat_eq, take, find}
 use Rattle.std.specs.List.{AllByRecursion, list_all, list_any}
 use Rattle.std.specs.Ordering.{is_gt}
-use Rattle.std.proofs.lemmas.Bool.{or_cases, or_right, and_parts, true≢false, eqb-true}
+use Rattle.std.proofs.lemmas.Bool.{or_cases, and_parts, true≢false}
 use Rattle.pg_expr.specs.declared.operand.ColRef.{ColRef}
-use Rattle.eq_classes.specs.Classes.{Class}
 use Rattle.eq_classes.specs.Clauses.{Set, Table, first_in, has_constant}
 use Rattle.eq_classes.specs.Parts.{is_joining, has_in, joining_from}
 use Rattle.eq_classes.specs.Holding.{HasClass}
@@ -17,6 +16,7 @@ use Rattle.sql_query.specs.Worlds.{World}
 use Rattle.pathkeys.specs.Keys.{Keys}
 use Rattle.pathkeys.specs.Sorted.{keys_order}
 use Rattle.order_laws.proofs.TotalLemmas.{IsUp}
+use Rattle.class_laws.proofs.JoiningLemmas.{any_taken, joining_at}
 
 -- a larger set has a first member where a smaller one has a member
 pub find_more : (p r : ColRef → Bool) → ((x : ColRef) → p x ≡ true → r x ≡ true) → (xs : List ColRef) → list_any p xs ≡ true → (y : ColRef) × (find r xs ≡ Some y)
@@ -54,27 +54,6 @@ wider t a b f (n ∷ ns) h =
     (record { class = h.0.class; member = more.0; first = more.1 }, wider t a b f ns h.1)
 
 -- the joining classes of two sets have members in both
-joining_at : (a b : Set) (m : ℕ) (cs : List Class) (n : ℕ) → list_any (nat_eq n) (joining_from a b m cs) ≡ true → (k : ℕ) × (n ≡ m + k) × (k < length cs) × (is_joining a b (slice_index_or cs k blank) ≡ true)
-joining_at a b m [] n h = absurd (true≢false (sym h))
-joining_at a b m (c ∷ cs) n h = by (joining_at a b (suc m) cs n) (is_joining a b c) refl h
-  where
-    shift : (k : ℕ) × (n ≡ suc m + k) × (k < length cs) × (is_joining a b (slice_index_or cs k blank) ≡ true) → (k : ℕ) × (n ≡ m + k) × (k < length (c ∷ cs)) × (is_joining a b (slice_index_or (c ∷ cs) k blank) ≡ true)
-    shift f = (suc f.0, omega (arith, f.1), omega (arith, f.2), f.3)
-
-    by : (list_any (nat_eq n) (joining_from a b (suc m) cs) ≡ true → (k : ℕ) × (n ≡ suc m + k) × (k < length cs) × (is_joining a b (slice_index_or cs k blank) ≡ true))
-        → (v : Bool) → is_joining a b c ≡ v → list_any (nat_eq n) (cond v (m ∷ joining_from a b (suc m) cs) (joining_from a b (suc m) cs)) ≡ true
-        → (k : ℕ) × (n ≡ m + k) × (k < length (c ∷ cs)) × (is_joining a b (slice_index_or (c ∷ cs) k blank) ≡ true)
-    by later true e h = ⊎_elim
-        (λ (here : nat_eq n m ≡ true). let same : n ≡ m = eqb-true n m here in (0, omega arith, omega arith, e))
-        (λ (more : list_any (nat_eq n) (joining_from a b (suc m) cs) ≡ true). shift (later more))
-        (or_cases (nat_eq n m) (list_any (nat_eq n) (joining_from a b (suc m) cs)) h)
-    by later false e h = shift (later h)
-
-any_taken : (p : ℕ → Bool) (k : ℕ) (xs : List ℕ) → list_any p (take k xs) ≡ true → list_any p xs ≡ true
-any_taken p zero xs h = absurd (true≢false (sym h))
-any_taken p (suc k) [] h = absurd (true≢false (sym h))
-any_taken p (suc k) (x ∷ xs) h = ⊎_elim (λ (here : p x ≡ true). ap (λ (v : Bool). v || list_any p xs) here) (λ (more : list_any p (take k xs) ≡ true). or_right (p x) (list_any p xs) (any_taken p k xs more)) (or_cases (p x) (list_any p (take k xs)) h)
-
 pub list_keys : (t : Table) (a b : Set) (keys : Keys) → list_all (λ n. list_any (nat_eq n) (take 4 (joining_from a b 0 t.classes))) keys ≡ true → AreKeys t a keys × AreKeys t b keys
 list_keys t a b [] h = (tt, tt)
 list_keys t a b (n ∷ ns) h =

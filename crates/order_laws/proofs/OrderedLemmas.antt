@@ -3,7 +3,8 @@ use Rattle.std.proofs.Common.{◌≡◌, Ordering, Equal, ℕ, Bool, true, false
 use Rattle.std.specs.Prelude.{nat_eq, filter_map, Option, None, Some}
 use Rattle.std.specs.List.{AllByRecursion, list_any, cons_option}
 use Rattle.std.specs.Ordering.{is_gt, ordering_then}
-use Rattle.std.proofs.lemmas.Bool.{cases_Bool, or_cases, true≢false, eqb-true, eq-eqb}
+use Rattle.std.proofs.lemmas.Bool.{cases_Bool, or_cases, true≢false, eqb-true, eq-eqb, not-true}
+use Rattle.std.proofs.lemmas.Option.{none-some}
 use Rattle.eq_classes.specs.declared.order.OrderItem.{OrderItem}
 use Rattle.eq_classes.specs.Parts.{is_all}
 use Rattle.pathkeys.specs.Sorted.{class_order}
@@ -51,16 +52,9 @@ all_untaken (n ∷ ns) = ap (λ l. n ∷ l) (all_untaken ns)
 same_number : (n m : ℕ) {o : Option ℕ} → o ≡ Some n → o ≡ Some m → n ≡ m
 same_number n m e f = cc
 
-nothing : (n : ℕ) → None ≡ Some n → ⊥
-nothing n e = cc
-
-not_false : (a : Bool) → not a ≡ true → a ≡ false
-not_false true h = sym h
-not_false false h = refl
-
 other_than : (n : ℕ) (taken : Keys) → list_any (nat_eq n) taken ≡ true → (m : ℕ) → untaken taken m ≡ true → not (nat_eq n m) ≡ true
 other_than n taken h m free = ⊎_elim
-    (λ (e : nat_eq n m ≡ true). absurd (true≢false (sym h ∙ ap (λ (j : ℕ). list_any (nat_eq j) taken) (eqb-true n m e) ∙ not_false (list_any (nat_eq m) taken) free)))
+    (λ (e : nat_eq n m ≡ true). absurd (true≢false (sym h ∙ ap (λ (j : ℕ). list_any (nat_eq j) taken) (eqb-true n m e) ∙ not-true (list_any (nat_eq m) taken) free)))
     (λ (e : nat_eq n m ≡ false). ap not e)
     (cases_Bool (nat_eq n m))
 
@@ -140,7 +134,7 @@ module _ (w : World) (q : Query) where
             → is_gt (ordering_then (item_order w q item x y) (lex items)) ≡ false
         by_tests later n is true B a b h =
             passes_over (item_order w q item x y) (lex items) (facts.constant n is a)
-            (later taken ties (each_snoc (Seen taken) before item seen (λ m is' k. absurd (true≢false (sym (subst (λ (j : ℕ). is_constant q.classes j ≡ true) (same_number n m is is') a) ∙ not_false (is_constant q.classes m) k)))) h)
+            (later taken ties (each_snoc (Seen taken) before item seen (λ m is' k. absurd (true≢false (sym (subst (λ (j : ℕ). is_constant q.classes j ≡ true) (same_number n m is is') a) ∙ not-true (is_constant q.classes m) k)))) h)
         by_tests later n is false true a b h =
             passes_over (item_order w q item x y) (lex items) (facts.tied n is (among_ties Ties n taken ties b))
             (later taken ties (each_snoc (Seen taken) before item seen (λ m is' k. subst (λ (j : ℕ). list_any (nat_eq j) taken ≡ true) (same_number n m is is') b))
@@ -164,7 +158,7 @@ module _ (w : World) (q : Query) where
             → is_gt (ordering_then (item_order w q item x y) (lex items)) ≡ false
         by later None is h =
             passes_over (item_order w q item x y) (lex items) (facts.no_class is)
-            (later taken ties (each_snoc (Seen taken) before item seen (λ n is' k. absurd (nothing n (sym is ∙ is'))))
+            (later taken ties (each_snoc (Seen taken) before item seen (λ n is' k. absurd (none-some n (sym is ∙ is'))))
             (subst (λ (o : Option ℕ). Ups (filter (untaken taken) (once (filter kept (cons_option o (filter_map class_by items)))))) is h))
         by later (Some n) is h =
             by_tests later n is (is_constant q.classes n) (list_any (nat_eq n) taken) refl refl

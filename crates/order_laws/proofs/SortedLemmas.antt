@@ -20,7 +20,7 @@ use Rattle.sql_query.specs.Queries.{Query}
 use Rattle.sql_query.specs.Tuples.{Tuple, merged, value_at}
 use Rattle.sql_query.specs.WellBound.{IsWellBound}
 use Rattle.sql_query.specs.Worlds.{World, IsWorld}
-use Rattle.index_match.specs.Numbered.{those, conditions_of}
+use Rattle.plan_laws.specs.index_match_Numbered.{those, conditions_of}
 use Rattle.pathkeys.specs.Keys.{Keys}
 use Rattle.pathkeys.specs.Sorted.{class_order, order_at}
 use Rattle.plan_tree.specs.Keys.{keys_of, scan_keys}

@@ -4,3 +4,4 @@
 mod laws;
 
 pub use laws::{finished_plans_are_ordered, plans_are_sorted};
+pub use plan_laws;

@@ -1,5 +1,5 @@
 -- Operators past what a word holds make a cost that is cut.
-use Rattle.std.proofs.Common.{◌≡◌, ◌<◌, ◌≤◌, ◌∙◌, ℕ, suc, ◌+◌, ◌-◌, ◌*◌, ◌^◌, ◌&&◌, ◌||◌, min, nat_lt, not, Bool, true, false, List, [], ◌∷◌, zero, refl, sym, ap, subst, arith, length, drop, mul-le-mul_right, inl, inr}
+use Rattle.std.proofs.Common.{◌≡◌, ◌<◌, ◌≤◌, ◌∙◌, ℕ, suc, ◌+◌, ◌-◌, ◌*◌, ◌^◌, ◌&&◌, ◌||◌, min, nat_lt, not, Bool, true, false, List, [], ◌∷◌, zero, refl, sym, ap, subst, arith, length, drop, inl, inr}
 use Rattle.std.proofs.lemmas.Grind.{common_steps}
 use Rattle.std.proofs.lemmas.Bool.{cases_lt}
 use Rattle.pg_expr.specs.AtomSets.{contains}
@@ -10,12 +10,10 @@ use Rattle.pg_expr.specs.Columns.{atom_count}
 use Rattle.cost_rules.specs.Costs.{pair, capped, capped_pair, row_cost}
 use Rattle.cost_rules.specs.Scans.{bitmap_scan_cost, fetch_cost, index_scan_cost, heap_pages_of, page_in_order, seq_scan_cost}
 use Rattle.cost_rules.specs.declared.parameters.TheConstants.{MOST_COST, SEQUENTIAL_PAGE}
+use Rattle.cost_rules.proofs.RisingLemmas.{once-at_least}
 use Rattle.path_cost.specs.Costs.{operators}
 use Rattle.path_cost.specs.Estimates.{either, either_but, conditions_from, conditions_where, is_local}
 use Rattle.path_cost.proofs.KeptLemmas.{where_params, where-from, from-same, conditions-at}
-
-once : (r x : ℕ) → 1 ≤ r → x ≤ r * x
-once r x h = grind (arith, common_steps, mul-le-mul_right x h)
 
 -- rows with operators past what a word holds
 pub work-cut : (x r n : ℕ) → 1 ≤ r → capped (x + r * row_cost (min n (2 ^ 64 - 1))) ≡ capped (x + r * row_cost n)
@@ -28,7 +26,7 @@ work-cut x r n some = elim (cases_lt n (2 ^ 64)) [
     both a b h k = omega (arith, h, k)
 
     dear : (m : ℕ) → 2 ^ 64 - 1 ≤ m → MOST_COST ≤ r * row_cost m
-    dear m h = omega (arith, h, once r (row_cost m) some)
+    dear m h = omega (arith, h, once-at_least r (row_cost m) some)
 
 pub seq_cut : (pages rows n : ℕ) → 1 ≤ rows → capped_pair (seq_scan_cost pages rows (min n (2 ^ 64 - 1))) ≡ capped_pair (seq_scan_cost pages rows n)
 seq_cut pages rows n some = ap (pair (capped 0)) (work-cut (pages * SEQUENTIAL_PAGE) rows n some)

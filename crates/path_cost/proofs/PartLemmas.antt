@@ -43,14 +43,11 @@ parts_over c range es h = All-from_recursion (λ (e : Expr). IsOver c range (vie
 pub one_over : (c : Contents) (range : Range) (e : Expr) → IsOver c range (view.cond e) → All (λ (x : Expr). IsOver c range (view.cond x)) (e ∷ [])
 one_over c range e h = All-from_recursion (λ (x : Expr). IsOver c range (view.cond x)) (e ∷ []) (h, tt)
 
-by-test : (b d : Bool) (x : Cond) (xs : List Cond) → d ≡ b → cond d (x ∷ xs) xs ≡ cond b (x ∷ xs) xs
-by-test b d x xs e = cc
-
 part-at : (es : List Expr) (chosen : ℕ → Bool) (n : ℕ) (b : Bool) (x : Expr) → drop n es ≡ x ∷ drop (n + 1) es → chosen n ≡ b →
     picked_from n chosen (map view.cond (drop n es)) ≡ cond b (view.cond x ∷ picked_from (n + 1) chosen (map view.cond (drop (n + 1) es))) (picked_from (n + 1) chosen (map view.cond (drop (n + 1) es)))
 part-at es chosen n b x cut e =
     let rest = picked_from (n + 1) chosen (map view.cond (drop (n + 1) es)) in
-    ap (λ xs. picked_from n chosen (map view.cond xs)) cut ∙ by-test b (chosen n) (view.cond x) rest e
+    ap (λ xs. picked_from n chosen (map view.cond xs)) cut ∙ ap (λ (t : Bool). cond t (view.cond x ∷ rest) rest) e
 
 -- one part more
 pub part-yes : (c : Contents) (range : Range) (es : List Expr) (chosen : ℕ → Bool) (n left next : ℕ) (x : Expr) → n < length es → x ≡ slice_index_or es n x → chosen n ≡ true → next ≡ share_of_rows left (selectivity c range (view.cond x)) →

@@ -4,6 +4,7 @@ use Rattle.std.specs.Int.{div_ceil}
 use Rattle.std.proofs.lemmas.Grind.{common_steps, div_ceil_times}
 use Rattle.std.proofs.Math.Nat.{div-le_self}
 use Rattle.std.proofs.lemmas.List.Sums.{count_by-le-length}
+use Rattle.std.proofs.lemmas.Option.{same_Some}
 use Rattle.std.specs.Prelude.{find, Option, Some, None}
 use Rattle.std.specs.Option.{option_map}
 use Rattle.pg_value.specs.declared.columns.Column.{Column}
@@ -27,9 +28,6 @@ valued-most s = omega arith
 
 uncommon-most : (s : Statistics) → uncommon s ≤ 10 ^ 6
 uncommon-most s = omega arith
-
-some-same : {X : Type 0} (x p : X) → Some x ≡ Some p → x ≡ p
-some-same x p e = cc
 
 -- AND leaves no more
 pub and_most : (a b : ℕ) → a ≤ ALL_ROWS → b ≤ ALL_ROWS → and_share a b ≤ ALL_ROWS
@@ -63,7 +61,7 @@ share-most test [] n e = cc
 share-most test (x ∷ xs) n e = by (test x) e (share-most test xs n)
   where
     by : (b : Bool) → option_map (λ (p : Common). p.1) (cond b (Some x) (find test xs)) ≡ Some n → (option_map (λ (p : Common). p.1) (find test xs) ≡ Some n → n ≤ shares xs) → n ≤ shares (x ∷ xs)
-    by true f later = grind (arith, common_steps, some-same x.1 n f)
+    by true f later = grind (arith, common_steps, same_Some x.1 n f)
     by false f later = grind (arith, common_steps, later f)
 
 module _ (t : SqlType) (s : Statistics) (h : IsLawfulStatistics t s) where

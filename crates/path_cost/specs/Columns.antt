@@ -27,9 +27,12 @@ pub record IsOver (c : Contents) (range : Range) (e : Cond) : Type 0 where
 abbrev pub known : Contents → Range → ColRef → Option Statistics
 known c range x = stats_at c (table_of range x) x.col
 
+-- statistics, or what is taken in their place in a table of so many rows: 200 different values (DEFAULT_NUM_DISTINCT), or
+-- one for each row where there are fewer, and no NULLs
 abbrev pub stats_or : ℕ → Option Statistics → Statistics
 stats_or rows None = record { distinct = min UNKNOWN_DISTINCT rows; nulls = 0; common = []; histogram = [] }
 stats_or rows (Some s) = s
 
+-- what is taken to be known of a column of the query, by the statistics and the rows of its table
 abbrev pub stats_of : Contents → Range → ColRef → Statistics
 stats_of c range x = stats_or (rows_of c (table_of range x)) (known c range x)

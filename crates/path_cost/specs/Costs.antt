@@ -3,8 +3,8 @@
 -- are those of cost_rules.
 use Rattle.std.specs.Prelude.{ℕ, ◌+◌, ◌&&◌, min, not, Bool, List, [], ◌∷◌, length}
 use Rattle.pg_base.specs.declared.numbers.IndexNo.{IndexNo}
-use Rattle.opfamily.specs.declared.classes.Method.{Method}
-use Rattle.opfamily.specs.declared.classes.Method.TheVariants.{Btree, Hash}
+use Rattle.catalog.specs.opfamily_classes_Method.{Method}
+use Rattle.catalog.specs.opfamily_classes_Method_TheVariants.{Btree, Hash}
 use Rattle.pg_expr.specs.Cond.{Cond}
 use Rattle.pg_expr.specs.Columns.{atom_count}
 use Rattle.catalog.specs.Contents.{Contents, index_at}
@@ -27,6 +27,7 @@ abbrev pub descent_by : Method → ℕ → ℕ
 descent_by Btree n = descent_of n
 descent_by Hash n = HASH_DESCENT
 
+-- the way down an index of the catalogue, in 1/400 of a sequential page: what an index scan costs before its first row
 abbrev pub descent : Contents → IndexNo → ℕ
 descent c i = descent_by (index_at c i).method (entries c i)
 

@@ -39,6 +39,7 @@ abbrev pub is_pair_by : Option ℕ → List ℕ → Bool
 is_pair_by None keys = false
 is_pair_by (Some n) keys = list_any (nat_eq n) keys
 
+-- a clause is a pair clause of one of some classes: a merge by these finds the pairs that meet it
 abbrev pub is_pair_of : List ℕ → Clause → Bool
 is_pair_of keys k = is_pair_by (pair_class_of k.source) keys
 
@@ -54,6 +55,7 @@ either_but a b c n = either a b n && not (contains c n)
 abbrev pub relations_from : ℕ → ℕ → Set → List ℕ
 relations_from n len set = filter set (range_with_len n len)
 
+-- the numbers of a set's relations, in FROM order
 abbrev pub relations : Range → Set → List ℕ
 relations range set = relations_from 0 (length range) set
 
@@ -61,6 +63,7 @@ relations range set = relations_from 0 (length range) set
 abbrev pub table_rows : Contents → Range → ℕ → ℕ
 table_rows c range r = rows_of c (relation_at range (record { 0 = r })).0
 
+-- the heap pages of a relation's table: given, or one for each hundred rows
 abbrev pub table_pages : Contents → Range → ℕ → ℕ
 table_pages c range r = pages_of c (relation_at range (record { 0 = r })).0
 
@@ -77,6 +80,7 @@ module _ (c : Contents) (range : Range) where
   abbrev pub product_from : ℕ → List ℕ → ℕ
   product_from n rs = fold (λ m r. clamped (m * table_rows c range r)) n rs
 
+  -- the rows of the product of some relations, held from 1 to 10^12 at each step
   abbrev pub product_rows : List ℕ → ℕ
   product_rows rs = product_from 1 rs
 
@@ -98,5 +102,6 @@ abbrev pub entries_by : Contents → Index → Option Cond → ℕ
 entries_by c x None = rows_of c x.table
 entries_by c x (Some predicate) = kept c ((x.table, []) ∷ []) (rows_of c x.table) (predicate ∷ [])
 
+-- the entries that an index of the catalogue is taken to have (reltuples of the index in pg_class)
 abbrev pub entries : Contents → IndexNo → ℕ
 entries c i = entries_by c (index_at c i) (index_at c i).predicate

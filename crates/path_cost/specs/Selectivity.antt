@@ -27,6 +27,7 @@ holds op a b = is_true (truth_of_op op a b)
 abbrev pub valued : Statistics → ℕ
 valued s = WHOLE_SHARE - s.nulls
 
+-- rows whose value is neither NULL nor a common one, in parts per million
 abbrev pub uncommon : Statistics → ℕ
 uncommon s = WHOLE_SHARE - s.nulls - shares s.common
 
@@ -35,6 +36,7 @@ abbrev pub equal_by : Statistics → Option ℕ → ℕ
 equal_by s (Some share) = PER_SHARE * share
 equal_by s None = PER_SHARE * uncommon s / max 1 (s.distinct - length s.common)
 
+-- column = literal in parts per 10^9, the literal looked for among the common values (var_eq_const)
 abbrev pub equal_to : Statistics → Value → ℕ
 equal_to s v = equal_by s (option_map (λ (p : Common). p.1) (find (λ (p : Common). holds Eq p.0 v) s.common))
 
@@ -44,9 +46,11 @@ passing Lt = Lt
 passing Ge = Lt
 passing _ = Le
 
+-- at how many bounds of a histogram a comparison of the bound with the literal is True
 abbrev pub count_holding : Op → List Value → Value → ℕ
 count_holding op histogram v = count_by (λ b. holds op b v) histogram
 
+-- how many bounds of a histogram stand below a literal, or not above it, as its operator counts them
 abbrev pub bounds_passed : Op → List Value → Value → ℕ
 bounds_passed op histogram v = count_holding (passing op) histogram v
 
@@ -54,6 +58,8 @@ bounds_passed op histogram v = count_holding (passing op) histogram v
 abbrev pub half_steps : ℕ → ℕ → ℕ
 half_steps k j = cond (nat_eq j 0) 0 (cond (nat_eq j k) (2 * (k - 1)) (2 * j - 1))
 
+-- the half steps at which a comparison holds, of 2(k - 1) in all: those before the literal for < and <=, those behind it
+-- for > and >=
 abbrev pub half_steps_met : Op → ℕ → ℕ → ℕ
 half_steps_met Lt k j = half_steps k j
 half_steps_met Le k j = half_steps k j
@@ -84,6 +90,8 @@ column_literal op s v = THIRD
 abbrev pub equal_columns : Statistics → Statistics → ℕ
 equal_columns s t = ALL_ROWS * valued s * valued t / (WHOLE_SHARE * WHOLE_SHARE * max s.distinct t.distinct)
 
+-- a comparison of two columns: equality by the greater number of different values (eqjoinsel), `<>` the rest, an
+-- inequality a third
 abbrev pub two_columns : Op → Statistics → Statistics → ℕ
 two_columns Eq s t = equal_columns s t
 two_columns AbsEq s t = equal_columns s t
@@ -103,24 +111,30 @@ null_by column None = cond column.not_null 0 UNKNOWN_NULLS
 abbrev pub and_share : ℕ → ℕ → ℕ
 and_share a b = a * b / ALL_ROWS
 
+-- of two independent conditions the share at which one or the other is True
 abbrev pub or_share : ℕ → ℕ → ℕ
 or_share a b = a + b - a * b / ALL_ROWS
 
 module _ (c : Contents) (range : Range) where
+  -- a column of the query and a literal; a comparison with NULL is True at no row
   abbrev pub of_column_and : Op → ColRef → Value → ℕ
   of_column_and op x Null = 0
   of_column_and op x v = column_literal op (stats_of c range x) v
 
+  -- a comparison by its sides: a literal on the left is put on the right, and two literals are True at all rows or at none
   abbrev pub of_comparison : Op → Operand → Operand → ℕ
   of_comparison op (Col x) (Col y) = two_columns op (stats_of c range x) (stats_of c range y)
   of_comparison op (Col x) (Lit v) = of_column_and op x v
   of_comparison op (Lit v) (Col x) = of_column_and (commutator_of op) x v
   of_comparison op (Lit v) (Lit w) = all_or_none (holds op v w)
 
+  -- IS NULL of a column of the query, by its declaration and its statistics
   abbrev pub of_null : ColRef → ℕ
   of_null x = null_by (column_at c range x) (known c range x)
 
   abbrev mutual
+    -- the share of rows at which a condition is True, in parts per 10^9; conditions are taken as independent
+    -- (clauselist_selectivity), a boolean column as half
     pub selectivity : Cond → ℕ
     selectivity (compare op l r) = of_comparison op l r
     selectivity (is_null x) = of_null x

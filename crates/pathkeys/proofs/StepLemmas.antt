@@ -2,15 +2,15 @@
 use Rattle.std.proofs.Common.{◌≡◌, ◌≢◌, ◌<◌, ℕ, Bool, true, false, cond, ◌||◌, nat_eq, List, [], ◌∷◌, ◌++◌, length, All, Option, Some, None, refl, sym, ap, ◌∙◌, subst, arith}
 use Rattle.std.specs.Prelude.{IfSome, option_map, slice_get}
 use Rattle.std.specs.List.{list_any}
-use Rattle.std.proofs.lemmas.Bool.{true≢false, eqb-true, eqb-false, ne_eqb}
+use Rattle.std.proofs.lemmas.Bool.{true≢false, eqb-true, eqb-false, ne_eqb, or_parts}
 use Rattle.std.proofs.lemmas.List.Elements.{All-cons, All-nil, All-weaker}
 use Rattle.std.proofs.lemmas.List.Kept.{AllPairs-cons}
 use Rattle.std.proofs.lemmas.Option.{get_or_from_slice_get, slice_get_within}
 use Rattle.std.proofs.lemmas.List.Folds.{list_any-append}
-use Rattle.opfamily.specs.KeyOrder.{key_family}
-use Rattle.opfamily.specs.declared.classes.IndexKey.{IndexKey}
-use Rattle.opfamily.specs.declared.classes.Method.{Method}
-use Rattle.opfamily.specs.declared.classes.Method.TheVariants.{Btree, Hash}
+use Rattle.catalog.specs.opfamily_KeyOrder.{key_family}
+use Rattle.catalog.specs.opfamily_classes_IndexKey.{IndexKey}
+use Rattle.catalog.specs.opfamily_classes_Method.{Method}
+use Rattle.catalog.specs.opfamily_classes_Method_TheVariants.{Btree, Hash}
 use Rattle.eq_classes.specs.declared.classes.ClassNo.{ClassNo}
 use Rattle.eq_classes.specs.Clauses.{Table}
 use Rattle.eq_classes.specs.Listing.{class_at}
@@ -23,10 +23,6 @@ record IsFresh (t : Table) (taken keys : Keys) : Type 0 where
   list : IsKeyList t keys
   untaken : All (λ n. list_any (nat_eq n) taken ≡ false) keys
 
-or_false : (a b : Bool) → a || b ≡ false → (a ≡ false) × (b ≡ false)
-or_false true b h = absurd (true≢false h)
-or_false false b h = (refl, h)
-
 module _ (t : Table) (r : ℕ) (backward : Bool) where
   nothing_fresh : (taken : Keys) → IsFresh t taken []
   nothing_fresh taken = record {
@@ -38,13 +34,13 @@ module _ (t : Table) (r : ℕ) (backward : Bool) where
   one_fresh n taken keys within free new later = record {
     list = record {
       different = AllPairs-cons (λ a b. a ≢ b) n keys
-          (All-weaker (λ m. list_any (nat_eq m) (n ∷ taken) ≡ false) (λ m. n ≢ m) (λ m h same. eqb-false m n (or_false (nat_eq m n) (list_any (nat_eq m) taken) h).0 (sym same)) keys later.untaken)
+          (All-weaker (λ m. list_any (nat_eq m) (n ∷ taken) ≡ false) (λ m. n ≢ m) (λ m h same. eqb-false m n (or_parts (nat_eq m n) (list_any (nat_eq m) taken) h).0 (sym same)) keys later.untaken)
           later.list.different;
       classes = All-cons (λ m. m < length t.classes) n keys within later.list.classes;
       free = All-cons (λ m. is_constant t m ≡ false) n keys free later.list.free;
     };
     untaken = All-cons (λ m. list_any (nat_eq m) taken ≡ false) n keys new
-        (All-weaker (λ m. list_any (nat_eq m) (n ∷ taken) ≡ false) (λ m. list_any (nat_eq m) taken ≡ false) (λ m h. (or_false (nat_eq m n) (list_any (nat_eq m) taken) h).1) keys later.untaken);
+        (All-weaker (λ m. list_any (nat_eq m) (n ∷ taken) ≡ false) (λ m. list_any (nat_eq m) taken ≡ false) (λ m h. (or_parts (nat_eq m n) (list_any (nat_eq m) taken) h).1) keys later.untaken);
   }
 
   keys_fresh : (taken : Keys) (ks : List IndexKey) → IsFresh t taken (keys_from t r backward taken ks)

@@ -1,7 +1,7 @@
 -- How keys are found column by column, without a list of the classes that are taken: what stands before is asked again. Own.
 use Rattle.std.specs.Prelude.{ℕ, Bool, false, cond, ◌||◌, nat_eq, List, [], ◌∷◌, ◌++◌, map, Option, Some, None}
 use Rattle.std.specs.List.{list_any, cons_option}
-use Rattle.opfamily.specs.declared.classes.IndexKey.{IndexKey}
+use Rattle.catalog.specs.opfamily_classes_IndexKey.{IndexKey}
 use Rattle.eq_classes.specs.declared.classes.ClassNo.{ClassNo}
 use Rattle.eq_classes.specs.declared.order.OrderItem.{OrderItem}
 use Rattle.eq_classes.specs.Clauses.{Table}

@@ -3,13 +3,13 @@ use Rattle.std.specs.Prelude.{◌≡◌, ◌≢◌, ◌<◌, ℕ, Bool, true, fa
 use Rattle.std.specs.List.{list_any}
 use Rattle.std.specs.Option.{option_or}
 use Rattle.pg_base.specs.declared.numbers.IndexNo.{IndexNo}
-use Rattle.pg_value.specs.declared.operators.Family.{Family}
-use Rattle.pg_value.specs.declared.operators.Family.TheVariants as families
-use Rattle.opfamily.specs.KeyOrder.{key_family}
-use Rattle.opfamily.specs.declared.classes.IndexKey.{IndexKey}
-use Rattle.opfamily.specs.declared.classes.Method.{Method}
-use Rattle.opfamily.specs.declared.classes.Method.TheVariants.{Btree, Hash}
-use Rattle.pg_expr.specs.declared.operand.ColRef.{ColRef}
+use Rattle.catalog.specs.pg_value_operators_Family.{Family}
+use Rattle.catalog.specs.pg_value_operators_Family_TheVariants as families
+use Rattle.catalog.specs.opfamily_KeyOrder.{key_family}
+use Rattle.catalog.specs.opfamily_classes_IndexKey.{IndexKey}
+use Rattle.catalog.specs.opfamily_classes_Method.{Method}
+use Rattle.catalog.specs.opfamily_classes_Method_TheVariants.{Btree, Hash}
+use Rattle.catalog.specs.pg_expr_operand_ColRef.{ColRef}
 use Rattle.catalog.specs.Contents.{Contents, index_at}
 use Rattle.eq_classes.specs.declared.order.OrderItem.{OrderItem}
 use Rattle.eq_classes.specs.Classes.{Class, class_number, in_family}
@@ -24,6 +24,7 @@ Keys = List ℕ
 abbrev pub AreDifferent : Keys → Type 0
 AreDifferent keys = AllPairs (λ m n. m ≢ n) keys
 
+-- a class of a number has a constant: all rows are equal in it, and sorting by it orders nothing (README, PathKeys)
 abbrev pub is_constant : Table → ℕ → Bool
 is_constant t n = has_constant (class_at t.classes n)
 
@@ -60,6 +61,7 @@ pub data Step : Type 0 where
 abbrev pub turned : Bool → Bool → Bool
 turned backward b = cond backward (not b) b
 
+-- two directions, or two places of NULL, are the same
 abbrev pub is_equal : Bool → Bool → Bool
 is_equal a b = cond a b (not b)
 

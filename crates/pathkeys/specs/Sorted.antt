@@ -2,10 +2,10 @@
 use Rattle.std.specs.Prelude.{List, map, Option, Some, None}
 use Rattle.std.specs.declared.cmp.Ordering.{Ordering}
 use Rattle.std.specs.declared.cmp.Ordering.TheVariants.{Equal}
-use Rattle.pg_value.specs.declared.value.Value.{Value}
-use Rattle.pg_value.specs.ColumnOrder.{column_order}
-use Rattle.pg_value.specs.Sorting.{one_after_other, IsInOrder}
-use Rattle.pg_expr.specs.declared.operand.ColRef.{ColRef}
+use Rattle.catalog.specs.pg_value_value_Value.{Value}
+use Rattle.catalog.specs.pg_value_ColumnOrder.{column_order}
+use Rattle.catalog.specs.pg_value_Sorting.{one_after_other, IsInOrder}
+use Rattle.catalog.specs.pg_expr_operand_ColRef.{ColRef}
 use Rattle.eq_classes.specs.Classes.{Class}
 use Rattle.eq_classes.specs.Clauses.{Set, Table, first_in}
 use Rattle.eq_classes.specs.Listing.{class_at}

@@ -9,11 +9,11 @@ ghost use Rattle.pathkeys.specs.Keys.{class_of_key, has_direction, keys_from, tu
 ghost use Rattle.pathkeys.specs.Finding.{class_numbers, is_class, is_of_some, step_after, step_found};
 
 use crate::keys::{Keys, keys_of};
+use catalog::opfamily::{IndexKey, Method};
+use catalog::pg_expr::ColRef;
 use catalog::{Catalog, IndexDef, RangeTable};
 use eq_classes::{ClassNo, Classes};
-use opfamily::{IndexKey, Method};
 use pg_base::{IndexNo, Memory, RelNo};
-use pg_expr::ColRef;
 use smallvec::SmallVec;
 use std::alloc::Global;
 

@@ -10,10 +10,10 @@ ghost use Rattle.pathkeys.specs.Finding.{is_ordered_by};
 
 use crate::index_order::is_found;
 use crate::keys::{Keys, keys_of};
+use catalog::pg_expr::ColRef;
+use catalog::pg_value::Family;
 use eq_classes::{ClassNo, Classes, OrderItem};
 use pg_base::Memory;
-use pg_expr::ColRef;
-use pg_value::Family;
 use smallvec::SmallVec;
 use std::alloc::Global;
 

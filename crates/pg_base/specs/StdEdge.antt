@@ -7,6 +7,7 @@ use Rattle.pg_base.specs.declared.std_edge.StdSink.{StdSink}
 abbrev pub reader_of : {R : Type 0} → StdSource R → R
 reader_of s = s.inner
 
+-- how many reads of the source have failed
 abbrev pub read_faults : {R : Type 0} → StdSource R → ℕ
 read_faults s = s.faults
 
@@ -14,5 +15,6 @@ read_faults s = s.faults
 abbrev pub writer_of : {W : Type 0} → StdSink W → W
 writer_of s = s.inner
 
+-- how many writes to the sink have failed
 abbrev pub write_faults : {W : Type 0} → StdSink W → ℕ
 write_faults s = s.faults

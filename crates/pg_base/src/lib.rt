@@ -10,8 +10,6 @@ mod reading;
 mod rel_set;
 mod std_edge;
 mod steps;
-#[cfg(test)]
-mod tests;
 mod writing;
 
 pub use faults::{Code, Fault, Limit, Memory, Refusal};

@@ -1,6 +1,6 @@
 -- Tests of the columns that a condition names.
 use Rattle.std.proofs.Common.{◌≡◌, ℕ, refl, ap, ◌∙◌, Bool, true, false, ◌||◌, nat_eq, IsTrue}
-use Rattle.std.proofs.lemmas.Bool.{and_parts, and_from, eq-eqb}
+use Rattle.std.proofs.lemmas.Bool.{and_parts, and_from, eq-eqb, or_right}
 use Rattle.pg_value.specs.declared.operators.Truth.{Truth}
 use Rattle.pg_value.specs.declared.value.Value.{Value}
 use Rattle.pg_value.specs.Truths.{both, either, opposite, truth_of_op}
@@ -14,10 +14,6 @@ use Rattle.pg_expr.specs.Truths.{value_of, truth_of_null, truth_of_flag, truth_a
 or_left : (x y : Bool) → x ≡ true → x || y ≡ true
 or_left true y e = refl
 or_left false y e = cc
-
-or_right : (x y : Bool) → y ≡ true → x || y ≡ true
-or_right true y e = refl
-or_right false y e = e
 
 -- where each relation that a condition names passes, each of its columns does
 module _ (test : ℕ → Bool) where

@@ -1,6 +1,6 @@
 -- What the pushed form and the conjuncts of a condition keep: its types, its columns, its atoms.
 use Rattle.std.proofs.Common.{◌≡◌, ℕ, ◌+◌, refl, ap, sym, ◌∙◌, Bool, true, false, not, cond, ◌||◌, ◌&&◌, Option, None, Some, arith}
-use Rattle.std.proofs.Math.Bool.{or_comm, or-false}
+use Rattle.std.proofs.Math.Bool.{or_comm, or-false, or_assoc}
 use Rattle.pg_value.specs.declared.operators.Op.{Op}
 use Rattle.pg_value.specs.declared.value.Value.{Value}
 use Rattle.pg_value.specs.declared.value.SqlType.{SqlType}
@@ -16,10 +16,6 @@ use Rattle.pg_expr.specs.Typed.{some_value, IsTyped, AreTyped}
 use Rattle.pg_expr.specs.Pushed.{is_turned, placed, placed_not, group_of, parts_of, pushed, pushed_parts}
 use Rattle.pg_expr.proofs.TruthLaws.{negator-opposes, both-True, truth_of_all-joined}
 use Rattle.pg_expr.proofs.PushedLaws.{comparable-negator, comparable-commutator}
-
-or_assoc : (x y z : Bool) → (x || y) || z ≡ x || (y || z)
-or_assoc true y z = refl
-or_assoc false y z = refl
 
 -- the types of columns
 module _ (t : ColRef → SqlType) where

@@ -22,6 +22,8 @@ pub data BuildStep : Type 0 where
   w_none : BuildStep
   w_and : BuildStep
 
+-- the stack after a step, which puts a condition or a list in the place of its parts; a step that finds no such parts is
+-- passed over
 abbrev pub step : BuildStep → List (Cond ⊎ Conds) → List (Cond ⊎ Conds)
 step (w_compare op l r) s = inl (compare op l r) ∷ s
 step (w_null c) s = inl (is_null c) ∷ s
@@ -35,15 +37,18 @@ step w_none s = inr no_conds ∷ s
 step w_and (inr cs ∷ inl c ∷ s) = inr (cond_and c cs) ∷ s
 step _ s = s
 
+-- the stack after steps taken one after another
 abbrev pub build : List BuildStep → List (Cond ⊎ Conds) → List (Cond ⊎ Conds)
 build [] s = s
 build (t ∷ ts) s = build ts (step t s)
 
+-- the condition on top of the stack; Unknown where there is none
 abbrev pub top : List (Cond ⊎ Conds) → Cond
 top (inl c ∷ s) = c
 top _ = const Unknown
 
 abbrev mutual
+  -- the steps that build a condition, those of its parts before its own
   pub steps : Cond → List BuildStep
   steps (compare op l r) = w_compare op l r ∷ []
   steps (is_null c) = w_null c ∷ []
@@ -54,6 +59,7 @@ abbrev mutual
   steps (any_of cs) = steps_all cs ++ w_any ∷ []
   steps (negation c) = steps c ++ w_not ∷ []
 
+  -- the steps that build a list of conditions: those of the first, of the rest, and one that joins the two
   pub steps_all : Conds → List BuildStep
   steps_all no_conds = w_none ∷ []
   steps_all (cond_and c cs) = steps c ++ (steps_all cs ++ w_and ∷ [])
@@ -79,6 +85,7 @@ mutual
       build-append (steps c) _ s ∙ ap (build (steps_all cs ++ w_and ∷ [])) (build-steps c s)
       ∙ build-append (steps_all cs) _ (inl c ∷ s) ∙ ap (build (w_and ∷ [])) (build-steps_all cs (inl c ∷ s))
 
+-- a condition is found again by its steps, so that the code tells conditions apart
 pub built : (c : Cond) → top (build (steps c) []) ≡ c
 built c = ap top (build-steps c [])
 

@@ -5,7 +5,7 @@ use Rattle.std.specs.Char.{is_ascii_whitespace, is_ascii_digit, to_ascii_lowerca
 use Rattle.std.specs.List.{prefix_len, suffix_len, list_all}
 use Rattle.std.specs.Str.{bytes_eq}
 use Rattle.std.specs.Str.Parse.{digits_value}
-use Rattle.std.proofs.lemmas.Bool.{and_parts}
+use Rattle.std.proofs.lemmas.Bool.{and_parts, leb-true, not-true}
 use Rattle.std.proofs.lemmas.Bool.Decides.{nat_tests, Decides-eqb, Decides-ltb}
 use Rattle.std.proofs.lemmas.List.{length-map, take-append-drop, get_or-take, get_or-drop, get_or-reverse, get_or_append_left, get_or-append_right}
 use Rattle.std.proofs.lemmas.List.Folds.{list_all-map, length-prefix_len}
@@ -27,12 +27,8 @@ all_taken p zero xs all = refl
 all_taken p (suc n) [] all = refl
 all_taken p (suc n) (c ∷ cs) all = let parts = and_parts (p c) (list_all p cs) all in ap₂ ◌&&◌ parts.0 (all_taken p n cs parts.1)
 
-not_is : (b : Bool) → not b ≡ true → b ≡ false
-not_is true h = sym h
-not_is false h = refl
-
 solid_at : (word : List ℕ) → is_solid word ≡ true → (k : ℕ) → k < length word → is_ascii_whitespace (get_or word k 0) ≡ false
-solid_at word solid k lt = not_is _ (AllPass-from_list_all (λ c. not (is_ascii_whitespace c)) word solid k 0 lt)
+solid_at word solid k lt = not-true _ (AllPass-from_list_all (λ c. not (is_ascii_whitespace c)) word solid k 0 lt)
 
 blank_at : (xs : List ℕ) → list_all is_ascii_whitespace xs ≡ true → (k : ℕ) → k < length xs → is_ascii_whitespace (get_or xs k 0) ≡ true
 blank_at xs blank k lt = AllPass-from_list_all is_ascii_whitespace xs blank k 0 lt
@@ -163,14 +159,11 @@ number_law text n = (
 lower_solid : (c : ℕ) → not (is_ascii_whitespace (to_ascii_lowercase c)) ≡ true → not (is_ascii_whitespace c) ≡ true
 lower_solid c h = grind (arith, nat_tests)
 
-reaches : (a b : ℕ) → nat_le a b ≡ true → a ≤ b
-reaches a b h = grind (arith, nat_tests)
-
 start_solid : (least : ℕ) (full word : List ℕ) → 0 < least → is_solid full ≡ true → is_start least full word ≡ true → (0 < length word) × (is_solid word ≡ true)
 unfolding is_start
 start_solid least full word some solid h =
     let parts = and_parts (nat_le least (length word)) (bytes_eq (take (length word) full) word) h in
-    let low : least ≤ length word = reaches least (length word) parts.0 in
+    let low : least ≤ length word = leb-true least (length word) parts.0 in
     let same : take (length word) full ≡ word = (bytes_eq-Decides (take (length word) full) word).0 parts.1 in
     (omega arith, subst (λ (w : List ℕ). is_solid w ≡ true) same (all_taken (λ c. not (is_ascii_whitespace c)) (length word) full solid))
 

@@ -70,6 +70,7 @@ abbrev pub ranged : SqlType → Option ℤ → Result Value FieldFault
 ranged t None = Err Invalid
 ranged t (Some n) = cond (in_range t n) (Ok (Int n)) (Err Range)
 
+-- a truth value that a word spells, as a boolean; `Invalid` where it spells none
 abbrev pub flagged : Option Bool → Result Value FieldFault
 flagged None = Err Invalid
 flagged (Some b) = Ok (Flag b)

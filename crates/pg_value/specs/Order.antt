@@ -13,10 +13,12 @@ abbrev pub number : Value → ℤ
 number (Int n) = n
 number _ = pos 0
 
+-- a truth value; false of a value of another kind
 abbrev pub flag : Value → Bool
 flag (Flag b) = b
 flag _ = false
 
+-- the bytes of a text; none of a value of another kind
 abbrev pub bytes : Value → List ℕ
 bytes (String t) = t
 bytes _ = []

@@ -10,7 +10,7 @@ use Rattle.definitions.specs.Actions.{after}
 use Rattle.statements.specs.Accepted.{IsRead}
 use Rattle.statements.specs.Replies.{IsReply}
 use Rattle.statements.specs.Scripts.{Worked, AreWorked, AreFirst, world_after, place_after, replies}
-use Rattle.reply.specs.Replies.{Traces}
+use Rattle.statements.specs.reply_Replies.{Traces}
 use Rattle.statements.specs.Steps.{Advances, IsBegun, Stops}
 use Rattle.pgplan.specs.Runs.{IsAnswered, IsCutOff, Ends}
 

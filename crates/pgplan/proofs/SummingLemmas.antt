@@ -4,8 +4,8 @@ use Rattle.std.proofs.lemmas.List.{length-append}
 use Rattle.std.proofs.lemmas.List.Sums.{sum_by_push}
 use Rattle.std.specs.List.{cons_option}
 use Rattle.definitions.specs.Actions.{after}
-use Rattle.reply.specs.Measures.{IsLeastPrice, rows_in}
-use Rattle.reply.specs.declared.measuring.Measured.{Measured}
+use Rattle.statements.specs.reply_Measures.{IsLeastPrice, rows_in}
+use Rattle.statements.specs.reply_measuring_Measured.{Measured}
 use Rattle.sql_query.specs.Worlds.{World, empty_world}
 use Rattle.statements.specs.declared.end.End.{End}
 use Rattle.statements.specs.declared.end.End.TheVariants as ends

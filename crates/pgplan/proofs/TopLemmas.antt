@@ -11,7 +11,7 @@ use Rattle.sql_query.specs.Worlds.{World, empty_world}
 use Rattle.statements.specs.declared.end.End.{End}
 use Rattle.statements.specs.declared.end.End.TheVariants as ends
 use Rattle.definitions.specs.Actions.{Action, after}
-use Rattle.reply.specs.Putting.{HasWriteCause}
+use Rattle.statements.specs.reply_Putting.{HasWriteCause}
 use Rattle.statements.specs.Faults.{IsFault}
 use Rattle.fault_line.specs.Tells.{IsFieldOf}
 use Rattle.statements.specs.Steps.{HasField}

@@ -14,7 +14,7 @@ use Rattle.statements.specs.declared.end.End.TheVariants as ends
 use Rattle.definitions.specs.Actions.{Action}
 use Rattle.statements.specs.Accepted.{IsRead}
 use Rattle.statements.specs.Faults.{IsFault}
-use Rattle.reply.specs.Replies.{Reply}
+use Rattle.statements.specs.reply_Replies.{Reply}
 use Rattle.statements.specs.Replies.{IsReply}
 use Rattle.statements.specs.Scripts.{Worked, AreFirst, AreAll, world_after, place_after, replies}
 use Rattle.pgplan.specs.Statuses.{IsTold, line_of}

@@ -13,6 +13,7 @@ use Rattle.statements.specs.declared.end.End.TheVariants as ends
 use Rattle.pgplan.specs.declared.status.Status.{Status}
 use Rattle.pgplan.specs.declared.status.Status.TheVariants.{Done, Usage, ReadFault, Statement, WriteFault, Memory, TooLong}
 
+-- the number of a status, with which the process ends
 abbrev pub number_of : Status → ℕ
 number_of Done = 0
 number_of Usage = 1

@@ -6,8 +6,8 @@ use Rattle.std.specs.Io.KnownBytes.{Appends}
 use Rattle.pg_base.specs.Writing.{AppendsPrefix}
 use Rattle.fault_line.specs.Lines.{fault_line}
 use Rattle.fault_line.specs.Tells.{IsFieldOf}
-use Rattle.reply.specs.Measures.{IsLeastPrice, rows_in}
-use Rattle.reply.specs.declared.measuring.Measured.{Measured}
+use Rattle.statements.specs.reply_Measures.{IsLeastPrice, rows_in}
+use Rattle.statements.specs.reply_measuring_Measured.{Measured}
 use Rattle.sql_query.specs.Worlds.{World, empty_world}
 use Rattle.statements.specs.declared.end.End.{End}
 use Rattle.statements.specs.declared.end.End.TheVariants as ends
@@ -40,15 +40,17 @@ pub record AreSummed (text : List ℕ) (queries rows cost : ℕ) : Type 0 where
   pub all : AreAll text statements
   pub come : ComeTo (askings empty_world statements) queries rows cost
 
--- what is counted of a statement that was worked: its query, with its rows and its price, or nothing
+-- a statement that was worked counts as a query where it asks one
 abbrev pub number_in : Option Measured → ℕ
 number_in None = 0
 number_in (Some m) = 1
 
+-- the rows that the answer to its query has, 0 where it asks none
 abbrev pub rows_told : Option Measured → ℕ
 rows_told None = 0
 rows_told (Some m) = m.rows
 
+-- the least price of a plan of its query, 0 where it asks none
 abbrev pub cost_in : Option Measured → ℕ
 cost_in None = 0
 cost_in (Some m) = m.cost

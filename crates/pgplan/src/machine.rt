@@ -3,8 +3,8 @@
 ghost use Rattle.std.specs.Prelude.{◌≡◌, ◌≤◌, ◌^◌, ◌<◌, IfErr, IfOk, OnErr, length};
 ghost use Rattle.pg_base.specs.declared.limits.TheConstants.{MOST_SCRIPT_BYTES};
 ghost use Rattle.sql_query.specs.Worlds.{empty_world};
-ghost use Rattle.reply.specs.Putting.{HasWriteCause};
-ghost use Rattle.reply.specs.Replies.{traces};
+ghost use Rattle.statements.specs.reply_Putting.{HasWriteCause};
+ghost use Rattle.statements.specs.reply_Replies.{traces};
 ghost use Rattle.statements.specs.Steps.{Advances, Stops, StopsTally, Tallies};
 
 use catalog::Catalog;

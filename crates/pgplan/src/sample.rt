@@ -2,7 +2,7 @@
 
 ghost use Rattle.std.specs.Prelude.{◌≡◌, ◌≤◌, ◌<◌, IfErr, OnOk, length};
 ghost use Rattle.pg_base.specs.declared.limits.TheConstants.{MOST_SCRIPT_BYTES};
-ghost use Rattle.reply.specs.Putting.{HasWriteCause};
+ghost use Rattle.statements.specs.reply_Putting.{HasWriteCause};
 ghost use Rattle.sampling.specs.Script.{script};
 ghost use Rattle.sql_query.specs.Worlds.{empty_world};
 ghost use Rattle.pgplan.specs.Runs.{HasStatusCause};

@@ -8,8 +8,8 @@ ghost use Rattle.pgplan.specs.Summaries.{AreSummed, EndsTally, cost_in, number_i
 use crate::machine::Machine;
 use heap::Counters;
 use pg_base::{Memory, Steps};
-use reply::Measured;
 use statements::End;
+use statements::reply::Measured;
 use std::alloc::Global;
 
 /// How many queries were asked, the rows that their answers have together, and what their least prices come to.

@@ -4,17 +4,13 @@ use Rattle.std.specs.Prelude.{Option, Some, None, IfSome, option_map, slice_get}
 use Rattle.std.specs.Fmt.{decimal}
 use Rattle.std.specs.List.{flat_map}
 use Rattle.std.proofs.lemmas.List.{append_cancel_left}
+use Rattle.std.proofs.lemmas.Option.{same_Some}
 use Rattle.pg_base.specs.declared.numbers.IndexNo.{IndexNo}
 use Rattle.catalog.specs.Contents.{Contents}
 use Rattle.sql_query.specs.Queries.{Query}
 use Rattle.plan_tree.specs.Plans.{BitTree, leaf, all_hold, some_arm, BitTrees}
-use Rattle.explain.specs.Texts.{bits_text, conjunct_by, leaf_line, number_text, plain_line, trees_text}
-
-some-same : (a b : List ℕ) → Some a ≡ Some b → a ≡ b
-some-same a b e = cc
-
-none-some : {A : Type 0} (o : Option A) (a : A) → o ≡ None → o ≡ Some a → ⊥
-none-some o a e f = cc
+use Rattle.plan_titles.specs.explain_Texts.{bits_text, conjunct_by, leaf_line, number_text, plain_line, trees_text}
+use Rattle.plan_titles.specs.certificate_lines_NumberLemmas.{none-some}
 
 pub some-of : (o : Option ℕ) → ¬ (o ≡ None) → (m : ℕ) × (o ≡ Some m)
 some-of None h = absurd (h refl)
@@ -31,7 +27,7 @@ two-if text a left b (Some l) e f = two-is text a left b l.now e f
 pub two-only : (text a b left : List ℕ) (one two : Option (List ℕ)) → ((r : List ℕ) → text ≡ a ++ r → one ≡ Some r) → one ≡ Some left → ((r : List ℕ) → left ≡ b ++ r → two ≡ Some r) →
     (rest : List ℕ) → text ≡ (a ++ b) ++ rest → two ≡ Some rest
 two-only text a b left one two first found second rest e =
-    second rest (some-same left (b ++ rest) (sym found ∙ first (b ++ rest) (e ∙ append_assoc a b rest)))
+    second rest (same_Some left (b ++ rest) (sym found ∙ first (b ++ rest) (e ∙ append_assoc a b rest)))
 
 pub two-none : (text a b : List ℕ) (one : Option (List ℕ)) → ((r : List ℕ) → text ≡ a ++ r → one ≡ Some r) → one ≡ None → (rest : List ℕ) → text ≡ (a ++ b) ++ rest → ⊥
 two-none text a b one first none rest e = none-some one (b ++ rest) none (first (b ++ rest) (e ∙ append_assoc a b rest))

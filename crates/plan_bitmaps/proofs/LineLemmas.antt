@@ -1,20 +1,17 @@
 -- What begins at a depth is no line of a lesser one; names and titles have no LF and no parenthesis.
 use Prim.Native.Nat.{suc, zero}
-use Rattle.std.proofs.Common.{◌≡◌, ◌+◌, ◌-◌, ◌*◌, ◌==◌, ℕ, Bool, true, false, not, cond, ◌&&◌, nat_eq, List, [], ◌∷◌, ◌++◌, codes, get_or, replicate, refl, sym, ap, ◌∙◌, arith}
+use Rattle.std.proofs.Common.{◌≡◌, ◌+◌, ◌-◌, ◌*◌, ◌==◌, ℕ, Bool, true, false, not, cond, ◌&&◌, List, [], ◌∷◌, ◌++◌, codes, get_or, replicate, refl, sym, ap, ◌∙◌, arith}
 use Rattle.std.specs.List.{list_all}
-use Rattle.std.proofs.lemmas.Bool.{and_from, and_parts, true≢false}
+use Rattle.std.proofs.lemmas.Bool.{and_from, and_parts, true≢false, ne_eqb}
 use Rattle.std.proofs.lemmas.Bool.Decides.{nat_tests}
 use Rattle.std.proofs.lemmas.List.{append_assoc}
 use Rattle.pg_base.specs.Names.{is_in_name}
-use Rattle.explain.specs.Texts.{lead}
-use Rattle.plan_lines.specs.Parts.{IsShallow, lacks}
+use Rattle.plan_titles.specs.explain_Texts.{lead}
+use Rattle.plan_titles.specs.plan_lines_Parts.{IsShallow, lacks}
 
 get-behind : (n : ℕ) (z : List ℕ) (k : ℕ) → get_or (replicate n 32 ++ z) (n + k) 0 ≡ get_or z k 0
 get-behind zero z k = let e : 0 + k ≡ k = omega arith in ap (λ (m : ℕ). get_or z m 0) e
 get-behind (suc n) z k = let e : suc n + k ≡ suc (n + k) = omega arith in ap (λ (m : ℕ). get_or (32 ∷ (replicate n 32 ++ z)) m 0) e ∙ get-behind n z k
-
-lead-more : (d : ℕ) → nat_eq (d + 1) 0 ≡ false
-lead-more d = grind (arith, nat_tests)
 
 -- a line one deeper than d
 pub line-shallow : (d : ℕ) (z : List ℕ) → IsShallow (d + 1) (lead (d + 1) ++ z)
@@ -28,7 +25,7 @@ line-shallow d z = record {
 
   is : lead (d + 1) ++ z ≡ replicate (6 * d + 2) 32 ++ (codes "->  " ++ z)
   is =
-      ap (λ (b : Bool). cond b [] (replicate (6 * (d + 1) - 4) 32 ++ codes "->  ") ++ z) (lead-more d)
+      ap (λ (b : Bool). cond b [] (replicate (6 * (d + 1) - 4) 32 ++ codes "->  ") ++ z) (ne_eqb (d + 1) 0 (λ e. omega (arith, e)))
       ∙ (ap (λ (m : ℕ). (replicate m 32 ++ codes "->  ") ++ z) spaces ∙ append_assoc (replicate (6 * d + 2) 32) (codes "->  ") z)
 
   here : get_or (lead (d + 1) ++ z) (6 * d + 2) 0 ≡ 45

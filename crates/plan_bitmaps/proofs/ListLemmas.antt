@@ -4,8 +4,8 @@ use Rattle.std.specs.Prelude.{All, Option, Some, None}
 use Rattle.std.specs.List.{flat_map}
 use Rattle.std.proofs.lemmas.List.{append_assoc, append-nil}
 use Rattle.std.proofs.lemmas.List.Elements.{All-head, All-tail}
-use Rattle.explain.specs.Texts.{lead}
-use Rattle.plan_lines.specs.Parts.{IsShallow}
+use Rattle.plan_titles.specs.explain_Texts.{lead}
+use Rattle.plan_titles.specs.plan_lines_Parts.{IsShallow}
 use Rattle.plan_bitmaps.proofs.LineLemmas.{line-shallow, shallow-more}
 
 -- things with texts, each of which begins with a line one deeper than d

@@ -5,6 +5,7 @@ use Rattle.std.specs.Fmt.{decimal}
 use Rattle.std.specs.List.{flat_map}
 use Rattle.std.proofs.lemmas.List.{append_assoc, map-append}
 use Rattle.std.proofs.lemmas.List.Elements.{All-cons, All-head, All-push, All-tail}
+use Rattle.std.proofs.lemmas.Option.{same_Some}
 use Rattle.pg_base.specs.declared.numbers.IndexNo.{IndexNo}
 use Rattle.catalog.specs.Contents.{Contents, IsLawful, index_name_at}
 use Rattle.sql_query.specs.Queries.{Query}
@@ -14,10 +15,11 @@ use Rattle.plan_tree.specs.declared.bits.BitTree.{BitTree as Bits, Leaf}
 use Rattle.plan_tree.specs.declared.bits.BitTree.TheViews.{the_lemmas}
 use Rattle.plan_tree.specs.declared.bits.BitTree.TheVariants.{rolls-Leaf}
 use Rattle.plan_tree.specs.declared.bits.BitTree.TheFolds.{fold_out-BitTree}
-use Rattle.explain.specs.Texts.{bits_text, conjunct_by, lead, leaf_line, number_text, plain_line, trees_text}
+use Rattle.plan_titles.specs.explain_Texts.{bits_text, conjunct_by, lead, leaf_line, number_text, plain_line, trees_text}
 use Rattle.line_cursor.proofs.NumeralLemmas.{decimal-word}
-use Rattle.plan_lines.specs.Parts.{IsShallow, lacks}
-use Rattle.certificate_lines.proofs.NameLemmas.{index-word}
+use Rattle.plan_titles.specs.plan_lines_Parts.{IsShallow, lacks}
+use Rattle.plan_titles.specs.certificate_lines_NameLemmas.{index-word}
+use Rattle.plan_titles.specs.certificate_lines_NumberLemmas.{none-some}
 use Rattle.plan_titles.specs.HasText.{HasBits, HaveBits, IsConjunct, IsIndexOfQuery}
 use Rattle.plan_bitmaps.specs.Lines.{beneath, leaf_title, tree_title}
 use Rattle.plan_bitmaps.specs.Stands.{Stand, Stands}
@@ -26,12 +28,6 @@ use Rattle.plan_bitmaps.proofs.ListLemmas.{AreRead, IsItem, begun, one-more}
 
 line-is : (d : ℕ) (t x : List ℕ) → plain_line d t ++ x ≡ lead d ++ (t ++ 10 ∷ x)
 line-is d t x = append_assoc (lead d) (t ++ codes "\n") x ∙ ap (λ (l : List ℕ). lead d ++ l) (append_assoc t (codes "\n") x)
-
-some-same : {A : Type 0} (a b : A) → Some a ≡ Some b → a ≡ b
-some-same a b e = cc
-
-none-some : {A : Type 0} (o : Option A) (a : A) → o ≡ None → o ≡ Some a → ⊥
-none-some o a e f = cc
 
 -- what the clause of the next line says
 abbrev pub IsNext : ℕ → List ℕ → Option (List ℕ) → List ℕ → Type 0
@@ -103,7 +99,7 @@ module _ (c : Contents) (q : Query) where
         ((i : IndexNo) → IsIndexOfQuery c q i → d + 1 ≤ 64 → line ≡ leaf_title c i → o ≡ Some i) → IsItem (HasLeaf (d + 1)) (leaf_line c (d + 1)) d (leaf-begins d) left o mid
     leaf-item d left mid line next o step found reads = λ i z has shallow e.
         let s = step (leaf_title c i) z (lacks-ten (leaf_title c i) (leaf-plain i has.0)) (e ∙ line-is (d + 1) (leaf_title c i) z) in
-        (reads i has.0 has.1 (some-same line (leaf_title c i) (sym found ∙ s.0)), s.1)
+        (reads i has.0 has.1 (same_Some line (leaf_title c i) (sym found ∙ s.0)), s.1)
 
     -- a tree whose first line is the next one
     pub tree-item : (d : ℕ) (left mid new line : List ℕ) (next : Option (List ℕ)) (o : Option BitTree) → IsNext (d + 1) left next mid → next ≡ Some line →
@@ -111,7 +107,7 @@ module _ (c : Contents) (q : Query) where
         IsItem (HasTree (d + 1)) (bits_text c q (d + 1)) d (tree-begins d) left o new
     tree-item d left mid new line next o step found reads = λ b z has shallow e.
         let s = step (tree_title c q b) (beneath c q (d + 1) b ++ z) (lacks-ten (tree_title c q b) (title-plain b has.0)) (e ∙ bits-is (d + 1) b z) in
-        reads b z has.0 has.1 shallow (some-same line (tree_title c q b) (sym found ∙ s.0)) s.1
+        reads b z has.0 has.1 shallow (same_Some line (tree_title c q b) (sym found ∙ s.0)) s.1
 
     -- no line comes next
     pub no-leaf : (d : ℕ) (left mid : List ℕ) (next : Option (List ℕ)) → IsNext (d + 1) left next mid → next ≡ None → (i : IndexNo) (z : List ℕ) → HasLeaf (d + 1) i → left ≡ leaf_line c (d + 1) i ++ z → ⊥

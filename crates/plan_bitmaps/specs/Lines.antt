@@ -5,7 +5,7 @@ use Rattle.pg_base.specs.declared.numbers.IndexNo.{IndexNo}
 use Rattle.catalog.specs.Contents.{Contents, index_name_at}
 use Rattle.sql_query.specs.Queries.{Query}
 use Rattle.plan_tree.specs.Plans.{BitTree, leaf, all_hold, some_arm}
-use Rattle.explain.specs.Texts.{conjunct_by, leaf_line, number_text, trees_text}
+use Rattle.plan_titles.specs.explain_Texts.{conjunct_by, leaf_line, number_text, trees_text}
 use Rattle.plan_titles.specs.HasText.{IsConjunct, IsIndexOfQuery}
 use Rattle.plan_bitmaps.specs.declared.lines.TreeLine.{TreeLine}
 use Rattle.plan_bitmaps.specs.declared.lines.TreeLine.TheVariants.{Leaf, All, Arm}

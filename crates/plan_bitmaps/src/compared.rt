@@ -3,8 +3,8 @@
 ghost use Rattle.std.specs.Prelude.{◌≡◌, ◌↔◌, ◌≤◌, ◌+◌, ◌++◌, ℕ, List, All, IfSome, IsTrue, Some, codes, option_map, slice_get};
 ghost use Rattle.std.specs.List.{flat_map};
 ghost use Rattle.catalog.specs.Contents.{IsIndex, index_name_at};
-ghost use Rattle.explain.specs.Texts as texts;
-ghost use Rattle.explain.specs.Texts.{conjunct_by, leaf_line, number_text, plain_line};
+ghost use Rattle.plan_titles.specs.explain_Texts as texts;
+ghost use Rattle.plan_titles.specs.explain_Texts.{conjunct_by, leaf_line, number_text, plain_line};
 ghost use Rattle.plan_tree.specs.Views.{bits, bits_all};
 ghost use Rattle.sql_query.specs.WellBound.{IsWellBound};
 ghost use Rattle.plan_titles.specs.HasText.{HasBits, HaveBits, IsConjunct, IsIndexOfQuery};
@@ -14,9 +14,9 @@ ghost use Rattle.plan_bitmaps.specs.Stands.{Stand, Stands};
 use crate::leads::behind_lead;
 use crate::numbers::read_number;
 use catalog::Catalog;
-use certificate_entries::find_clause;
 use pg_base::IndexNo;
 use plan_titles::behind;
+use plan_titles::certificate_entries::find_clause;
 use plan_tree::BitTree;
 use sql_query::Prepared;
 

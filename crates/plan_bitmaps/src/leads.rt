@@ -1,7 +1,7 @@
 //! What stands before the title of a line.
 
 ghost use Rattle.std.specs.Prelude.{◌≡◌, ◌≤◌, ◌++◌, ℕ, List, IfSome, Some, length, option_map, replicate, take, true};
-ghost use Rattle.explain.specs.Texts.{lead};
+ghost use Rattle.plan_titles.specs.explain_Texts.{lead};
 
 /// Whether a text begins with so many spaces.
 fn has_spaces(text: &[u8], count: usize) -> bool

@@ -10,4 +10,6 @@ mod trees;
 pub use compared::behind_bits;
 pub use leads::behind_lead;
 pub use numbers::behind_number;
+pub use plan_titles;
+pub use plan_titles::plan_lines;
 pub use trees::read_tree;

@@ -2,7 +2,7 @@
 
 ghost use Rattle.std.specs.Prelude.{◌≡◌, ◌≤◌, ◌++◌, ℕ, List, IfSome, Some, codes, slice_get};
 ghost use Rattle.pg_base.specs.declared.numbers.IndexNo as numbers;
-ghost use Rattle.explain.specs.Texts.{conjunct_by, number_text};
+ghost use Rattle.plan_titles.specs.explain_Texts.{conjunct_by, number_text};
 ghost use Rattle.sql_query.specs.WellBound.{IsWellBound};
 ghost use Rattle.plan_titles.specs.HasText.{IsConjunct, IsIndexOfQuery};
 ghost use Rattle.plan_bitmaps.specs.Lines.{HasLine, leaf_title};
@@ -10,9 +10,9 @@ ghost use Rattle.plan_bitmaps.specs.declared.lines.TreeLine as lines;
 ghost use Rattle.plan_bitmaps.specs.declared.lines.TreeLine.TheVariants.{All as AllHold, Arm, Leaf};
 
 use catalog::Catalog;
-use certificate_entries::find_clause;
 use line_cursor::LineCursor;
 use pg_base::IndexNo;
+use plan_titles::certificate_entries::find_clause;
 use plan_titles::{behind, read_index_name};
 use sql_query::Prepared;
 

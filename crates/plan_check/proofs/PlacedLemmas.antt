@@ -3,10 +3,10 @@ use Rattle.std.proofs.Common.{◌≡◌, ◌<◌, ◌≤◌, ◌+◌, ◌&&◌, 
 use Rattle.std.specs.Prelude.{IfNone, IfSome, Option, Some, None, slice_get}
 use Rattle.std.proofs.lemmas.Bool.{cases_lt, eqb-true}
 use Rattle.std.proofs.lemmas.List.{length-map}
-use Rattle.std.proofs.lemmas.Option.{get_or_from_slice_get, slice_get_within}
+use Rattle.std.proofs.lemmas.Option.{get_or_from_slice_get, slice_get_within, same_Some}
 use Rattle.sql_query.specs.declared.window.Window.{Window}
 use Rattle.pathkeys.specs.Keys.{covers}
-use Rattle.plan_tree.specs.Paths.{startup_kept}
+use Rattle.certificates.specs.plan_tree_Paths.{startup_kept}
 use Rattle.certificates.specs.Certificates.{Entry}
 use Rattle.certificates.specs.Views.{entry}
 use Rattle.certificates.specs.declared.entry.Entry.{Entry as Entered}
@@ -14,9 +14,6 @@ use Rattle.certificates.proofs.UnfoldLemmas.{entry-at}
 use Rattle.plan_check.specs.Beating.{IsBeater, IsNoBeater, IsUnbeaten, beats}
 use Rattle.plan_check.specs.Placing.{ArePlaced, HasPut, IsAmong, IsOf, first_of, past_of}
 use Rattle.plan_check.specs.declared.places.SetPlaces.{SetPlaces}
-
-some-same : (x y : Entry) → Some x ≡ Some y → x ≡ y
-some-same x y e = cc
 
 -- one entry more
 pub placed-next : (es : List Entry) (k : ℕ) (p new : SetPlaces) (e : Entry) → slice_get es k ≡ Some e → ((j : ℕ) (d : Entry) → j < k → slice_get es j ≡ Some d → IsAmong p d.set.0 j) → HasPut p new e.set.0 k →
@@ -27,7 +24,7 @@ placed-next es k p new e there before put j d lt at = by (cases_lt j k)
     by (inl less) = put.kept d.set.0 j (omega (arith, less)) (before j d less at)
     by (inr most) =
         let same : k ≡ j = omega (arith, most, lt) in
-        let one : e ≡ d = some-same e d (sym there ∙ (ap (slice_get es) same ∙ at)) in
+        let one : e ≡ d = same_Some e d (sym there ∙ (ap (slice_get es) same ∙ at)) in
         subst (λ i. IsAmong new d.set.0 i) same (subst (λ (x : Entry). IsAmong new x.set.0 k) one put.here)
 
 -- and all of them

@@ -12,6 +12,7 @@ slot s = s % MOST_SETS
 abbrev pub first_of : SetPlaces → ℕ → ℕ
 first_of p s = get_or p.first (slot s) 0
 
+-- the place behind the last entry of a set
 abbrev pub past_of : SetPlaces → ℕ → ℕ
 past_of p s = get_or p.past (slot s) 0
 

@@ -18,10 +18,10 @@ use Rattle.eq_classes.specs.Clauses.{Clause}
 use Rattle.pg_base.specs.declared.numbers.TableNo.{TableNo}
 use Rattle.catalog.specs.Contents.{Contents, NamedIndex, IsIndex, index_at, indexes_of, no_index, numbers_from}
 use Rattle.sql_query.specs.Queries.{Query, width}
-use Rattle.index_match.specs.Numbered.{Numbered, numbered, conditions_of, local}
+use Rattle.plan_tree.specs.index_match_Numbered.{Numbered, numbered, conditions_of, local}
 use Rattle.eq_classes.specs.Classes.{listed}
-use Rattle.index_match.specs.Arms.{arms_of, arm_parts}
-use Rattle.index_match.specs.Usable.{IsUsable}
+use Rattle.plan_tree.specs.index_match_Arms.{arms_of, arm_parts}
+use Rattle.plan_tree.specs.index_match_Usable.{IsUsable}
 use Rattle.plan_tree.specs.Plans.{BitTree, leaf, all_hold, some_arm, BitTrees, no_trees, tree_and}
 use Rattle.plan_tree.specs.Bitmaps.{MOST_ELEMENTS, table_of_relation, ArePicked, none_left, picked, passed, Element, by_index, by_clause, IsIndexOn, MatchesArm, is_or, condition_by, condition_at, IsElement, candidates, AreElements, element_of, elements_of, HasArms, HaveArms, IsBitTree}
 use Rattle.sql_query.specs.Worlds.{World, IsWorld}

@@ -3,8 +3,8 @@ use Rattle.std.proofs.Common.{◌≡◌, ◌<◌, ℕ, true, false, length, sym,
 use Rattle.std.proofs.lemmas.Bool.{true≢false}
 use Rattle.catalog.specs.Contents.{Contents}
 use Rattle.sql_query.specs.Queries.{Query}
-use Rattle.pathkeys.specs.Keys.{Keys, order_keys}
-use Rattle.pathkeys.proofs.OnceLemmas.{order_keys_are_keys}
+use Rattle.plan_tree.specs.pathkeys_Keys.{Keys, order_keys}
+use Rattle.plan_tree.specs.pathkeys_OnceLemmas.{order_keys_are_keys}
 use Rattle.plan_tree.specs.Plans.{Plan, seq, index, index_only, bitmap, sort, nest, merge, is_sort}
 use Rattle.plan_tree.specs.Space.{HasKeys, MeetsOrder}
 

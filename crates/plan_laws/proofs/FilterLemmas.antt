@@ -9,7 +9,7 @@ use Rattle.pg_expr.specs.declared.operand.ColRef.{ColRef}
 use Rattle.pg_expr.specs.Truths.{truth_at}
 use Rattle.eq_classes.specs.Clauses.{Clause}
 use Rattle.eq_classes.specs.Holding.{hold}
-use Rattle.index_match.specs.Numbered.{numbered, those, conditions_of}
+use Rattle.plan_tree.specs.index_match_Numbered.{numbered, those, conditions_of}
 use Rattle.sql_query.specs.Queries.{Query}
 use Rattle.sql_query.specs.Worlds.{World}
 use Rattle.sql_query.specs.Tuples.{Tuple, value_at}

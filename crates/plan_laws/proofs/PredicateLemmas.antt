@@ -19,9 +19,9 @@ use Rattle.pg_expr.specs.Columns.{each_column}
 use Rattle.pg_expr.specs.Cond.{Cond, all_of, conds_of}
 use Rattle.pg_expr.specs.Truths.{truth_at, truth_of_all}
 use Rattle.pg_expr.proofs.ColumnLaws.{agree-truth}
-use Rattle.predicate_proof.specs.Derivation.{IsImplied}
-use Rattle.predicate_proof.specs.Rows.{at_row, FitsColumns}
-use Rattle.predicate_proof.proofs.Sound.{sound}
+use Rattle.plan_tree.specs.predicate_proof_Derivation.{IsImplied}
+use Rattle.plan_tree.specs.predicate_proof_Rows.{at_row, FitsColumns}
+use Rattle.plan_tree.specs.predicate_proof_Sound.{sound}
 use Rattle.catalog.specs.Contents.{index_at, table_at}
 use Rattle.catalog.specs.Indexes.{no_column}
 use Rattle.catalog.specs.Range.{relation_at}
@@ -33,8 +33,8 @@ use Rattle.sql_query.specs.Tuples.{Tuple, row_of, one_row, beside, value_at, row
 use Rattle.sql_query.specs.Worlds.{World, IsWorld}
 use Rattle.query_laws.proofs.FitsLemmas.{values_fit}
 use Rattle.query_laws.proofs.MeaningLemmas.{all_is_each}
-use Rattle.index_match.specs.Numbered.{numbered, conditions_of, base}
-use Rattle.index_match.specs.Usable.{IsUsable, IsUsableBy}
+use Rattle.plan_tree.specs.index_match_Numbered.{numbered, conditions_of, base}
+use Rattle.plan_tree.specs.index_match_Usable.{IsUsable, IsUsableBy}
 use Rattle.plan_tree.specs.Bitmaps.{IsIndexOn}
 use Rattle.plan_tree.specs.Entries.{cell, meets}
 use Rattle.plan_laws.specs.Meant.{holds_at}

@@ -5,6 +5,7 @@ use mathlib.Core.Path.{fun_ext}
 use Rattle.std.proofs.lemmas.List.{map-append}
 use Rattle.std.proofs.lemmas.List.Concat.{flat_map-append}
 use Rattle.std.proofs.lemmas.Bool.{cases_Bool, ne_eqb, eq-eqb, eqb-true, eqb-false}
+use Rattle.std.proofs.lemmas.Simd.{map-map}
 use Rattle.plan_laws.proofs.PermLemmas.{Perm, join}
 use Rattle.eq_classes.specs.Clauses.{Set, one}
 use Rattle.eq_classes.specs.Parts.{union}
@@ -41,10 +42,6 @@ flat_map_flat_map f g (x ∷ xs) = flat_map-append f (g x) (flat_map g xs) ∙ a
 pub map_flat_map : {A B C : Type 0} (f : B → C) (g : A → List B) (xs : List A) → map f (flat_map g xs) ≡ flat_map (λ x. map f (g x)) xs
 map_flat_map f g [] = refl
 map_flat_map f g (x ∷ xs) = map-append f (g x) (flat_map g xs) ∙ ap (λ l. map f (g x) ++ l) (map_flat_map f g xs)
-
-pub map_map : {A B C : Type 0} (f : B → C) (g : A → B) (xs : List A) → map f (map g xs) ≡ map (λ x. f (g x)) xs
-map_map f g [] = refl
-map_map f g (x ∷ xs) = ap (λ l. f (g x) ∷ l) (map_map f g xs)
 
 -- a row of the left side, or of the right side
 put_left : (set : Set) (k n : ℕ) (a b : Choice) → set k ≡ true → put k (both set a b) n ≡ both set (put k a n) b
@@ -93,7 +90,7 @@ grow_right rows a k is xs ys =
     flat_map_map (λ t. map (put k t) (rows k)) (both a s) ys
     ∙ ap (λ (f : Choice → List Choice). flat_map f ys) (fun_ext (λ u.
     ap (λ (f : ℕ → Choice). map f (rows k)) (fun_ext (λ n. put_right a k n s u is))
-    ∙ sym (map_map (both a s) (put k u) (rows k))))
+    ∙ sym (map-map (both a s) (put k u) (rows k))))
     ∙ sym (map_flat_map (both a s) (λ u. map (put k u) (rows k)) ys)))
 
 module _ (rows : ℕ → List ℕ) (a b : Set) (apart : AreApart a b) where

@@ -13,7 +13,7 @@ use Rattle.sql_query.specs.Queries.{Query, width}
 use Rattle.sql_query.specs.Tuples.{Tuple, row_of, one_row, beside, value_at, row_numbers}
 use Rattle.sql_query.specs.WellBound.{IsWellBound}
 use Rattle.sql_query.specs.Worlds.{World, IsWorld}
-use Rattle.index_match.specs.Numbered.{base, conditions_of}
+use Rattle.plan_tree.specs.index_match_Numbered.{base, conditions_of}
 use Rattle.plan_tree.specs.Entries.{entry_rows}
 use Rattle.plan_tree.specs.Plans.{Plan, seq, index, index_only, bitmap, sort, nest, merge, scan_given, param_in, param_of, is_empty}
 use Rattle.plan_tree.specs.Run.{directed, index_rows, joined, run, sorted}

@@ -7,6 +7,7 @@ use Rattle.std.proofs.lemmas.Bool.{and_parts, and_from, eqb-true}
 use Rattle.std.proofs.lemmas.List.{reverse-append}
 use Rattle.std.proofs.lemmas.List.Elements.{filter-append}
 use Rattle.std.proofs.lemmas.List.Sorted.{IsPermutation-reverse}
+use Rattle.std.proofs.Math.Bool.{or-false, and-false}
 use Rattle.pg_base.specs.Sets.{has}
 use Rattle.pg_base.proofs.SetLaws.{has-zero}
 use Rattle.pg_base.specs.declared.numbers.TableNo.{TableNo}
@@ -34,9 +35,9 @@ use Rattle.sql_query.specs.Queries.{Query, width}
 use Rattle.sql_query.specs.Tuples.{Tuple, row_of, one_row, beside, value_at, rows_of_relation, row_numbers}
 use Rattle.sql_query.specs.WellBound.{IsWellBound}
 use Rattle.sql_query.specs.Worlds.{World, IsWorld, stored_at}
-use Rattle.index_match.specs.Numbered.{Numbered, conditions_of, local}
-use Rattle.index_match.specs.Conditions.{allowed, is_condition}
-use Rattle.index_match.specs.Usable.{IsUsable}
+use Rattle.plan_tree.specs.index_match_Numbered.{Numbered, conditions_of, local}
+use Rattle.plan_tree.specs.index_match_Conditions.{allowed, is_condition}
+use Rattle.plan_tree.specs.index_match_Usable.{IsUsable}
 use Rattle.plan_tree.specs.Plans.{GivenScan, scan_given, is_empty, empty}
 use Rattle.plan_tree.specs.Bitmaps.{IsIndexOn}
 use Rattle.plan_tree.specs.Entries.{meets, entry, ordered, entries_over, entry_rows}
@@ -83,25 +84,17 @@ find_nothing : (xs : List ColRef) → find (λ x. false) xs ≡ None
 find_nothing [] = refl
 find_nothing (x ∷ xs) = find_nothing xs
 
-and_false : (a : Bool) → a && false ≡ false
-and_false true = refl
-and_false false = refl
-
 no_param_from : (r : ℕ) (e : Cond) (s : Source) → is_param_from r empty e s ≡ false
 no_param_from r e (by_conjunct n) =
     ap (λ (v : Bool). is_inside (union (one r) empty) e && (names_rel r e && v)) (names_none e)
-    ∙ ap (λ (v : Bool). is_inside (union (one r) empty) e && v) (and_false (names_rel r e))
-    ∙ and_false (is_inside (union (one r) empty) e)
+    ∙ ap (λ (v : Bool). is_inside (union (one r) empty) e && v) (and-false (names_rel r e))
+    ∙ and-false (is_inside (union (one r) empty) e)
 no_param_from r e (by_class n c) = refl
 no_param_from r e (by_pair n c l h) =
     ap₂ (λ (u v : Bool). (is_lowest c (one r) l && u) || (v && is_lowest c (one r) h))
     (ap (λ (x : Option ColRef). is_relation_of x h) (find_nothing c.members))
     (ap (λ (x : Option ColRef). is_relation_of x l) (find_nothing c.members))
-    ∙ ap (λ (v : Bool). v || false) (and_false (is_lowest c (one r) l))
-
-or_false : (a : Bool) → a || false ≡ a
-or_false true = refl
-or_false false = refl
+    ∙ ap (λ (v : Bool). v || false) (and-false (is_lowest c (one r) l))
 
 -- the conditions of an index are some of those that its scan tests
 all_filtered : (test : Cond → Bool) (p : Numbered → Bool) (ns : List Numbered) → list_all test (conditions_of ns) ≡ true → list_all test (conditions_of (filter p ns)) ≡ true
@@ -220,7 +213,7 @@ module _ (w : World) (q : Query) where
     whole_scan r p lt none o =
         ap (λ (s : Set). meant_scan w q r s o) none
         ∙ ap (λ (l : List ℕ). map (one_row q r) l) (filter_alike (λ row. holds_at w q (beside q r row o) (tested w q r empty)) (λ row. holds_at w q (beside q r row o) (is_base r)) (numbers_of w q r)
-        (λ row. hold_alike (value_at w q (beside q r row o)) (tested w q r empty) (is_base r) q.classes.clauses (λ k. ap (λ (v : Bool). is_base r k || v) (no_param_from r k.cond k.source) ∙ or_false (is_base r k))))
+        (λ row. hold_alike (value_at w q (beside q r row o)) (tested w q r empty) (is_base r) q.classes.clauses (λ k. ap (λ (v : Bool). is_base r k || v) (no_param_from r k.cond k.source) ∙ or-false (is_base r k))))
         ∙ base_means r lt o
 
     pub no_members : (p : RelSet) → is_empty p ≡ true → has p.0 ≡ empty

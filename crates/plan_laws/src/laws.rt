@@ -10,7 +10,7 @@ ghost use Rattle.sql_query.specs.Queries.{Query};
 ghost use Rattle.sql_query.specs.Tuples.{Tuple, no_rows};
 ghost use Rattle.sql_query.specs.WellBound.{IsWellBound};
 ghost use Rattle.sql_query.specs.Worlds.{World, IsWorld};
-ghost use Rattle.pathkeys.specs.Keys.{Keys};
+ghost use Rattle.plan_tree.specs.pathkeys_Keys.{Keys};
 ghost use Rattle.plan_tree.specs.Plans.{Plan, GivenScan, nest, merge, empty, set_of, given_scan, param_of};
 ghost use Rattle.plan_tree.specs.Run.{joined, run};
 ghost use Rattle.plan_tree.specs.Space.{IsBuilt, IsEmpty, IsFinished, IsPlanOf};

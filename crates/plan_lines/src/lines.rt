@@ -1,7 +1,7 @@
 //! The lines of a block.
 
 ghost use Rattle.std.specs.Prelude.{◌≡◌, ◌<◌, ◌≤◌, ◌+◌, ◌++◌, ◌∷◌, ℕ, List, IfNone, IfSome, None, Some, length, option_map, replicate, take, true};
-ghost use Rattle.explain.specs.Texts.{lead};
+ghost use Rattle.certificate_text.specs.explain_Texts.{lead};
 ghost use Rattle.plan_lines.specs.Parts.{IsShallow, lacks};
 
 use std::marker::Model;

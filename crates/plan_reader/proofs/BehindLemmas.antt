@@ -4,20 +4,18 @@ use Rattle.std.specs.Prelude.{All, Option, Some, None, IfSome}
 use Rattle.std.proofs.Math.Seq.{drop-append_seam, take-append_seam}
 use Rattle.std.proofs.lemmas.List.{length-drop, length-take-le, take-append-drop}
 use Rattle.std.proofs.lemmas.List.Elements.{All-append, All-cons, All-drop, All-head, All-tail, All-take}
+use Rattle.std.proofs.lemmas.Option.{same_Some}
 use Rattle.pg_base.specs.declared.numbers.RelNo.{RelNo}
 use Rattle.pg_base.specs.declared.rel_set.RelSet.{RelSet}
 use Rattle.catalog.specs.Contents.{Contents}
 use Rattle.pathkeys.specs.Keys.{Keys}
 use Rattle.sql_query.specs.Queries.{Query}
 use Rattle.plan_tree.specs.Plans.{Plan, bitmap, sort, nest, merge, BitTree}
-use Rattle.explain.specs.Texts.{bits_text}
+use Rattle.plan_bitmaps.specs.explain_Texts.{bits_text}
 use Rattle.plan_judge.specs.Numbered.{Pair, nodes}
 use Rattle.plan_reader.specs.Beneath.{IsBehind}
 use Rattle.plan_reader.specs.Written.{Fits, line_with, written_at, written_beneath}
 use Rattle.plan_reader.proofs.NodeLemmas.{nodes-some}
-
-some-same : {A : Type 0} (a b : A) → Some a ≡ Some b → a ≡ b
-some-same a b e = cc
 
 head-same : (x y : Pair) (xs ys : List Pair) → x ∷ xs ≡ y ∷ ys → x ≡ y
 head-same x y xs ys e = cc
@@ -135,7 +133,7 @@ module _ (c : Contents) (q : Query) (d : ℕ) where
             pairs = tail-same n m others (ms ++ more) (sym is ∙ pairs);
             count = let k = count in omega (arith, k);
             fits = All-tail Fits m ms fits;
-            spells = some-same left (written_beneath c q d p ms ++ rest) (sym found ∙ r);
+            spells = same_Some left (written_beneath c q d p ms ++ rest) (sym found ∙ r);
           }
 
   pub no-line : (p : Plan) (n : Pair) (text : List ℕ) (numbers others ns more : List Pair) (rest : List ℕ) (res : Option (List ℕ)) → numbers ≡ n ∷ others →
@@ -223,7 +221,7 @@ module _ (c : Contents) (q : Query) (d : ℕ) (p : Plan) (n : Pair) (text : List
   bits-same r s tree left last res two same is step found second ended ns more rest count fits pairs e =
       let b = begun c q d p n text left numbers others ns more rest res is step found (seen ns more rest count fits pairs e) in
       let at = bits-only c q d r s tree p others left more rest same b in
-      let end : last ≡ rest = some-same last rest (sym ended ∙ second rest at.0) in
+      let end : last ≡ rest = same_Some last rest (sym ended ∙ second rest at.0) in
       λ t. Some (end t, at.1 t)
 
   pub bits-none : (r : RelNo) (s : RelSet) (tree : BitTree) (left : List ℕ) (res two : Option (List ℕ)) → p ≡ bitmap r s tree → numbers ≡ n ∷ others → IsStep res → res ≡ Some left →
@@ -260,7 +258,7 @@ module _ (c : Contents) (q : Query) (d : ℕ) (p : Plan) (n : Pair) (text : List
       let b = begun c q d p n text left numbers others ns more rest res is step found (seen ns more rest count fits pairs e) in
       let at = outer-at c q d x y p others left more rest join.0 join.1 b in
       let r : one ≡ Some (written_at c q (d + 1) y (drop (nodes x) b.used) ++ rest, drop (nodes x) b.used ++ more) = first (take (nodes x) b.used) (drop (nodes x) b.used ++ more) (written_at c q (d + 1) y (drop (nodes x) b.used) ++ rest) at.count at.fits at.pairs at.spells in
-      let same = some-same {A = List ℕ × List Pair} (mid, later) (written_at c q (d + 1) y (drop (nodes x) b.used) ++ rest, drop (nodes x) b.used ++ more) (sym has ∙ r) in
+      let same = same_Some {A = List ℕ × List Pair} (mid, later) (written_at c q (d + 1) y (drop (nodes x) b.used) ++ rest, drop (nodes x) b.used ++ more) (sym has ∙ r) in
       let in-at = inner-at c q d x y p others left more rest join.0 join.1 b mid later (ap (λ (s : List ℕ × List Pair). s.0) same) (ap (λ (s : List ℕ × List Pair). s.1) same) in
       second (drop (nodes x) b.used) more rest in-at.count in-at.fits in-at.pairs in-at.spells
 

@@ -6,9 +6,9 @@ use Rattle.sql_query.specs.Queries.{Query}
 use Rattle.plan_tree.specs.Plans.{BitTree}
 use Rattle.plan_tree.specs.Views.{bits}
 use Rattle.plan_tree.specs.declared.bits.BitTree.{BitTree as Bits}
-use Rattle.explain.specs.Texts.{bits_text}
-use Rattle.plan_lines.specs.Parts.{IsShallow}
-use Rattle.plan_titles.specs.HasText.{HasBits}
+use Rattle.plan_bitmaps.specs.explain_Texts.{bits_text}
+use Rattle.plan_bitmaps.specs.plan_lines_Parts.{IsShallow}
+use Rattle.plan_bitmaps.specs.plan_titles_HasText.{HasBits}
 use Rattle.plan_bitmaps.specs.Lines.{beneath, tree_title}
 use Rattle.plan_bitmaps.specs.Stands.{Stands}
 use Rattle.plan_bitmaps.proofs.TreeLemmas.{IsNext, tree-item}

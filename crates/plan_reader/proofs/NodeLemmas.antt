@@ -3,6 +3,7 @@ use Rattle.std.proofs.Common.{◌≡◌, ◌≤◌, ◌<◌, ◌+◌, ℕ, Bool,
 use Rattle.std.specs.Prelude.{All, Option, Some, None, IfSome, IsSomeAnd}
 use Rattle.std.proofs.lemmas.List.{append-nil, length-drop, length-take-le, take-append-drop}
 use Rattle.std.proofs.lemmas.List.Elements.{All-drop, All-head, All-tail, All-take}
+use Rattle.std.proofs.lemmas.Option.{none-some, same_Some}
 use Rattle.pg_base.specs.declared.numbers.IndexNo.{IndexNo}
 use Rattle.pg_base.specs.declared.numbers.RelNo.{RelNo}
 use Rattle.pg_base.specs.declared.rel_set.RelSet.{RelSet}
@@ -12,17 +13,17 @@ use Rattle.eq_classes.specs.Parts.{union}
 use Rattle.pathkeys.specs.Keys.{Keys}
 use Rattle.sql_query.specs.Queries.{Query, width}
 use Rattle.plan_tree.specs.Plans.{Plan, seq, index, index_only, bitmap, sort, nest, merge, BitTree, set_of}
-use Rattle.explain.specs.Texts.{bits_text, figures_text, keys_text, lead, rel_text, scanned_text, title}
+use Rattle.plan_bitmaps.specs.explain_Texts.{bits_text, figures_text, keys_text, lead, rel_text, scanned_text, title}
 use Rattle.std.specs.Fmt.{decimal}
-use Rattle.certificate_text.specs.HasText.{HasKeysText}
+use Rattle.plan_bitmaps.specs.certificate_text_HasText.{HasKeysText}
 use Rattle.plan_judge.specs.Numbered.{Pair, nodes}
-use Rattle.plan_lines.specs.Parts.{IsShallow}
-use Rattle.plan_lines.specs.declared.kinds.Kind.{Kind}
-use Rattle.plan_lines.specs.declared.kinds.Kind.TheVariants as kinds
-use Rattle.plan_titles.specs.HasText.{HasBits, IsScanned, IsText}
-use Rattle.plan_titles.specs.Kinds.{behind_words, kind_of}
-use Rattle.plan_titles.specs.Scans.{IsIndexScan, indexed_text}
-use Rattle.plan_titles.specs.declared.indexes.IndexScan.{IndexScan}
+use Rattle.plan_bitmaps.specs.plan_lines_Parts.{IsShallow}
+use Rattle.plan_bitmaps.specs.plan_lines_kinds_Kind.{Kind}
+use Rattle.plan_bitmaps.specs.plan_lines_kinds_Kind_TheVariants as kinds
+use Rattle.plan_bitmaps.specs.plan_titles_HasText.{HasBits, IsScanned, IsText}
+use Rattle.plan_bitmaps.specs.plan_titles_Kinds.{behind_words, kind_of}
+use Rattle.plan_bitmaps.specs.plan_titles_Scans.{IsIndexScan, indexed_text}
+use Rattle.plan_bitmaps.specs.plan_titles_indexes_IndexScan.{IndexScan}
 use Rattle.plan_bitmaps.specs.Stands.{Stands}
 use Rattle.plan_bitmaps.proofs.LineLemmas.{line-shallow, shallow-more}
 use Rattle.plan_reader.specs.Beneath.{AreRead, IsLineOf, IsRead}
@@ -129,12 +130,6 @@ stands-low d (sort k x) h = h.0
 stands-low d (nest x y) h = h.0
 stands-low d (merge k x y) h = h.0
 
-none-some : {A : Type 0} (a : A) → None ≡ Some a → ⊥
-none-some a e = cc
-
-some-same : {A : Type 0} (a b : A) → Some a ≡ Some b → a ≡ b
-some-same a b e = cc
-
 no-pairs : (ns : List Pair) → length ns + 1 ≡ 1 → ns ≡ []
 no-pairs [] h = refl
 no-pairs (n ∷ ns) h = absurd (omega (arith, h))
@@ -209,7 +204,7 @@ module _ (c : Contents) (q : Query) where
       at-sort (IsBeneath d behind at new before after o)
       (λ ks x ns rest w text stands count fits shallow e.
       let r = read x ns rest text.0 stands.1 (let n = count in omega (arith, n)) fits (shallow-more d rest shallow) e in
-      let same : x ≡ input = some-same x input (sym r.0 ∙ found) in
+      let same : x ≡ input = same_Some x input (sym r.0 ∙ found) in
       let made : o ≡ Some (sort ks input) = reads ks (subst (λ (y : Plan). HasKeysText q (set_of y) ks) same text.1) (w ∙ ap (λ (y : Plan). keys_text c q (set_of y) ks) same) in
       (made ∙ ap (λ (y : Plan). Some (sort ks y)) (sym same), r.1, r.2)) p (k ∙ is)
 
@@ -227,7 +222,7 @@ module _ (c : Contents) (q : Query) where
       at-nest (IsBeneath d behind at new before after o)
       (λ x y ns rest w text stands count fits shallow e.
       let r = read x y ns rest text.0 text.1 stands.1 stands.2 (let n = count in omega (arith, n)) fits shallow e in
-      let same : (x, y) ≡ (outer, inner) = some-same {A = Plan × Plan} (x, y) (outer, inner) (sym r.0 ∙ found) in
+      let same : (x, y) ≡ (outer, inner) = same_Some {A = Plan × Plan} (x, y) (outer, inner) (sym r.0 ∙ found) in
       (made ∙ sym (ap (λ (s : Plan × Plan). Some (nest s.0 s.1)) same), r.1, r.2)) p (k ∙ is)
 
   pub nest-none : (d : ℕ) (kind : Kind) (behind at new : List ℕ) (before after : List Pair) (i : Option (Plan × Plan)) → kind ≡ kinds.Nest → AreRead c q d at new before after i → i ≡ None → AreBeneath d kind behind at new before after None
@@ -243,7 +238,7 @@ module _ (c : Contents) (q : Query) where
       at-merge (IsBeneath d behind at new before after o)
       (λ ks x y ns rest w text stands count fits shallow e.
       let r = read x y ns rest text.0 text.1 stands.1 stands.2 (let n = count in omega (arith, n)) fits shallow e in
-      let same : (x, y) ≡ (outer, inner) = some-same {A = Plan × Plan} (x, y) (outer, inner) (sym r.0 ∙ found) in
+      let same : (x, y) ≡ (outer, inner) = same_Some {A = Plan × Plan} (x, y) (outer, inner) (sym r.0 ∙ found) in
       let made : o ≡ Some (merge ks outer inner) =
       reads ks (subst (λ (s : Plan × Plan). HasKeysText q (union (set_of s.0) (set_of s.1)) ks) same text.2) (w ∙ ap (λ (s : Plan × Plan). keys_text c q (union (set_of s.0) (set_of s.1)) ks) same) in
       (made ∙ sym (ap (λ (s : Plan × Plan). Some (merge ks s.0 s.1)) same), r.1, r.2)) p (k ∙ is)
@@ -277,8 +272,8 @@ module _ (c : Contents) (q : Query) where
       let one = outer-read d old mid before middle a x y ns rest first tx sx count fits e in
       let long : length (drop (nodes x) ns) ≡ nodes y = let l = length-drop (nodes x) ns in omega (arith, l, count) in
       let two = second y (drop (nodes x) ns) rest ty sy long (All-drop Fits (nodes x) ns fits) (shallow-more d rest shallow) one.2 in
-      let left : outer ≡ x = some-same outer x (sym fa ∙ one.0) in
-      let right : inner ≡ y = some-same inner y (sym fb ∙ two.0) in
+      let left : outer ≡ x = same_Some outer x (sym fa ∙ one.0) in
+      let right : inner ≡ y = same_Some inner y (sym fb ∙ two.0) in
       (λ t. Some (left t, right t), two.1 ∙ (ap (λ (l : List Pair). l ++ drop (nodes x) ns) one.1 ∙ (append_assoc before (take (nodes x) ns) (drop (nodes x) ns) ∙ ap (λ (l : List Pair). before ++ l) (take-append-drop (nodes x) ns))), two.2)
 
   pub no-outer : (d : ℕ) (old mid : List ℕ) (before middle : List Pair) (a : Option Plan) → IsRead c q (d + 1) old mid before middle a → a ≡ None → AreRead c q d old mid before middle None
@@ -303,7 +298,7 @@ pub keys-read : (c : Contents) (q : Query) (set s : Set) (behind : List ℕ) (o 
 keys-read c q set s behind o same = let e : set ≡ s = λ t k. same k t in subst (λ (x : Set). ((keys : Keys) → HasKeysText q x keys → behind ≡ keys_text c q x keys → o ≡ Some keys)) e
 
 pub keys-same : (o : Option Keys) (j k : Keys) → o ≡ Some j → o ≡ Some k → j ≡ k
-keys-same o j k e f = some-same j k (sym e ∙ f)
+keys-same o j k e f = same_Some j k (sym e ∙ f)
 
 pub no-keys : (o : Option Keys) (k : Keys) → o ≡ None → o ≡ Some k → ⊥
 no-keys o k e f = none-some k (sym e ∙ f)

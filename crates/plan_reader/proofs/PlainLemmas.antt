@@ -26,18 +26,18 @@ use Rattle.sql_query.specs.Queries.{Query, width}
 use Rattle.sql_query.specs.WellBound.{IsColumnOf, IsWellBound}
 use Rattle.pathkeys.specs.Keys.{Keys}
 use Rattle.plan_tree.specs.Plans.{Plan, seq, index, index_only, bitmap, sort, nest, merge, set_of}
-use Rattle.explain.specs.Texts.{aliases_in, column_text, direction_text, family_text, figures_text, given_text, key_text, keys_text, lead, member_text, rel_text, relation_text, scanned_text, title, with_alias, with_commas}
-use Rattle.certificate_text.specs.HasText.{HasKeysText}
-use Rattle.certificate_lines.proofs.NameLemmas.{index-word, name-word}
+use Rattle.plan_bitmaps.specs.explain_Texts.{aliases_in, column_text, direction_text, family_text, figures_text, given_text, key_text, keys_text, lead, member_text, rel_text, relation_text, scanned_text, title, with_alias, with_commas}
+use Rattle.plan_bitmaps.specs.certificate_text_HasText.{HasKeysText}
+use Rattle.plan_bitmaps.specs.certificate_lines_NameLemmas.{index-word, name-word}
 use Rattle.plan_judge.specs.Numbered.{Pair}
-use Rattle.plan_lines.specs.Kinds.{words}
-use Rattle.plan_lines.specs.Parts.{figures_behind, lacks}
-use Rattle.plan_titles.proofs.KeyLemmas.{title-is}
-use Rattle.plan_titles.specs.HasText.{IsIndexOfQuery, IsScanned, IsText}
-use Rattle.plan_titles.specs.Scans.{indexed_text}
-use Rattle.plan_titles.specs.declared.indexes.IndexScan.{IndexScan}
+use Rattle.plan_bitmaps.specs.plan_lines_Kinds.{words}
+use Rattle.plan_bitmaps.specs.plan_lines_Parts.{figures_behind, lacks}
+use Rattle.plan_bitmaps.specs.plan_titles_KeyLemmas.{title-is}
+use Rattle.plan_bitmaps.specs.plan_titles_HasText.{IsIndexOfQuery, IsScanned, IsText}
+use Rattle.plan_bitmaps.specs.plan_titles_Scans.{indexed_text}
+use Rattle.plan_bitmaps.specs.plan_titles_indexes_IndexScan.{IndexScan}
 use Rattle.plan_bitmaps.proofs.LineLemmas.{lacks-forty, lacks-ten, plain, plain-both, word-plain}
-use Rattle.plan_titles.specs.Kinds.{behind_words, kind_of}
+use Rattle.plan_bitmaps.specs.plan_titles_Kinds.{behind_words, kind_of}
 use Rattle.plan_reader.specs.Written.{line_with}
 
 name-plain : (w : List ℕ) → IsName w → plain w ≡ true
@@ -190,6 +190,3 @@ module _ (c : Contents) (q : Query) (lawful : IsLawful c) (bound : IsWellBound c
       let parts : (spaced c q p ++ (40 ∷ figures_behind n.0 n.1)) ++ 10 ∷ rest ≡ t ++ (codes "  " ++ ((40 ∷ figures_behind n.0 n.1) ++ 10 ∷ rest)) =
       append_assoc (spaced c q p) (40 ∷ figures_behind n.0 n.1) (10 ∷ rest) ∙ append_assoc t (codes "  ") ((40 ∷ figures_behind n.0 n.1) ++ 10 ∷ rest) in
       whole ∙ ap (λ (l : List ℕ). lead d ++ l) (ap (λ (l : List ℕ). t ++ l) (figures-are n rest) ∙ sym parts)
-
-pub some-text : (a b : List ℕ) → Some a ≡ Some b → a ≡ b
-some-text a b e = cc

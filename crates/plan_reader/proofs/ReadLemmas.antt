@@ -2,6 +2,7 @@
 use Rattle.std.proofs.Common.{◌≡◌, ℕ, List, [], ◌++◌, Ok, Err, sym, subst, ◌∙◌}
 use Rattle.std.specs.Prelude.{Option, Some, None, Result, IfOk, IfErr}
 use Rattle.std.proofs.lemmas.List.{append-nil}
+use Rattle.std.proofs.lemmas.Option.{same_Some, none-some}
 use Rattle.catalog.specs.Contents.{Contents}
 use Rattle.sql_query.specs.Queries.{Query}
 use Rattle.plan_tree.specs.Plans.{Plan}
@@ -13,12 +14,6 @@ use Rattle.plan_reader.specs.Beneath.{IsRead}
 use Rattle.plan_reader.specs.Written.{IsWritten, written_text}
 use Rattle.plan_reader.specs.declared.reading.WrittenFault.{WrittenFault}
 use Rattle.plan_reader.specs.declared.reading.WrittenFault.TheVariants.{P1}
-
-some-same : (a b : Plan) → Some a ≡ Some b → a ≡ b
-some-same a b e = cc
-
-none-some : (a : Plan) → None ≡ Some a → ⊥
-none-some a e = cc
 
 module _ (c : Contents) (q : Query) (block : List ℕ) where
   whole : (old new : List ℕ) (before after : List Pair) (o : Option Plan) → old ≡ block → before ≡ [] → IsRead c q 0 old new before after o → (p : Plan) (ns : List Pair) → IsWritten c q block p ns → (o ≡ Some p) × (after ≡ ns)
@@ -32,7 +27,7 @@ module _ (c : Contents) (q : Query) (block : List ℕ) where
   pub one-read : (old new : List ℕ) (before after : List Pair) (o : Option Plan) (x : Plan) → old ≡ block → before ≡ [] → IsRead c q 0 old new before after o → o ≡ Some x → (p : Plan) (ns : List Pair) → IsWritten c q block p ns → (p ≡ x) × (ns ≡ after)
   one-read old new before after o x same none read found p ns w =
       let r = whole old new before after o same none read p ns w in
-      (some-same p x (sym r.0 ∙ found), sym r.1)
+      (same_Some p x (sym r.0 ∙ found), sym r.1)
 
   pub none-read : (old new : List ℕ) (before after : List Pair) (o : Option Plan) → old ≡ block → before ≡ [] → IsRead c q 0 old new before after o → o ≡ None → (p : Plan) (ns : List Pair) → IsWritten c q block p ns → ⊥
   none-read old new before after o same none read missing p ns w = none-some p (sym missing ∙ (whole old new before after o same none read p ns w).0)

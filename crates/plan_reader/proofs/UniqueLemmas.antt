@@ -24,23 +24,23 @@ use Rattle.pathkeys.specs.Keys.{Keys}
 use Rattle.sql_query.specs.Queries.{Query, width}
 use Rattle.sql_query.specs.WellBound.{IsWellBound}
 use Rattle.plan_tree.specs.Plans.{Plan, seq, index, index_only, bitmap, sort, nest, merge, BitTree, leaf, all_hold, some_arm, BitTrees, no_trees, tree_and, set_of}
-use Rattle.explain.specs.Texts.{bits_text, conjunct_by, direction_text, family_text, figures_text, key_text, member_text, with_commas, keys_text, lead, leaf_line, number_text, rel_text, scanned_text, title, trees_text}
-use Rattle.explain_laws.proofs.ClassLemmas.{AreShownKeys, IsShownKey, keys-split}
-use Rattle.explain_laws.proofs.ConjunctLemmas.{conjunct-same}
-use Rattle.explain_laws.proofs.NameLemmas.{alias-name, alias-same, index-name, index-same, relation-table, table-name}
-use Rattle.explain_laws.proofs.SplitLemmas.{decimal-word, no-space, relation-split, split, word}
-use Rattle.certificate_entries.proofs.ClauseLemmas.{conjunct-small}
-use Rattle.certificate_text.specs.HasText.{HasKeysText}
+use Rattle.plan_bitmaps.specs.explain_Texts.{bits_text, conjunct_by, direction_text, family_text, figures_text, key_text, member_text, with_commas, keys_text, lead, leaf_line, number_text, rel_text, scanned_text, title, trees_text}
+use Rattle.plan_bitmaps.specs.explain_laws_ClassLemmas.{AreShownKeys, IsShownKey, keys-split}
+use Rattle.plan_bitmaps.specs.explain_laws_ConjunctLemmas.{conjunct-same}
+use Rattle.plan_bitmaps.specs.explain_laws_NameLemmas.{alias-name, alias-same, index-name, index-same, relation-table, table-name}
+use Rattle.plan_bitmaps.specs.explain_laws_SplitLemmas.{decimal-word, no-space, relation-split, split, word}
+use Rattle.plan_bitmaps.specs.certificate_entries_ClauseLemmas.{conjunct-small}
+use Rattle.plan_bitmaps.specs.certificate_text_HasText.{HasKeysText}
 use Rattle.plan_judge.specs.Numbered.{Pair, nodes}
-use Rattle.plan_lines.specs.Kinds.{words}
-use Rattle.plan_lines.specs.Parts.{IsShallow}
-use Rattle.plan_lines.specs.declared.kinds.Kind.{Kind}
-use Rattle.plan_lines.specs.declared.kinds.Kind.TheVariants as kinds
-use Rattle.plan_titles.specs.HasText.{HasBits, HaveBits, IsIndexOfQuery, IsScanned, IsText}
-use Rattle.plan_titles.specs.Kinds.{behind_words, kind_of}
-use Rattle.plan_titles.specs.Scans.{indexed_text}
-use Rattle.plan_titles.proofs.KeyLemmas.{title-is}
-use Rattle.plan_titles.proofs.ScannedLemmas.{scanned-split}
+use Rattle.plan_bitmaps.specs.plan_lines_Kinds.{words}
+use Rattle.plan_bitmaps.specs.plan_lines_Parts.{IsShallow}
+use Rattle.plan_bitmaps.specs.plan_lines_kinds_Kind.{Kind}
+use Rattle.plan_bitmaps.specs.plan_lines_kinds_Kind_TheVariants as kinds
+use Rattle.plan_bitmaps.specs.plan_titles_HasText.{HasBits, HaveBits, IsIndexOfQuery, IsScanned, IsText}
+use Rattle.plan_bitmaps.specs.plan_titles_Kinds.{behind_words, kind_of}
+use Rattle.plan_bitmaps.specs.plan_titles_Scans.{indexed_text}
+use Rattle.plan_bitmaps.specs.plan_titles_KeyLemmas.{title-is}
+use Rattle.plan_bitmaps.specs.plan_titles_ScannedLemmas.{scanned-split}
 use Rattle.plan_bitmaps.specs.Lines.{beneath, leaf_title, tree_title}
 use Rattle.plan_bitmaps.proofs.CompareLemmas.{some-of}
 use Rattle.plan_bitmaps.proofs.LineLemmas.{line-shallow, shallow-end, shallow-more}

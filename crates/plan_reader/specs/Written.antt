@@ -4,16 +4,18 @@ use Rattle.std.specs.Fmt.{decimal}
 use Rattle.catalog.specs.Contents.{Contents}
 use Rattle.sql_query.specs.Queries.{Query}
 use Rattle.plan_tree.specs.Plans.{Plan, seq, index, index_only, bitmap, sort, nest, merge}
-use Rattle.explain.specs.Texts.{bits_text, figures_text, lead, title}
-use Rattle.certificate_text.specs.HasText.{IsWritable}
+use Rattle.plan_bitmaps.specs.explain_Texts.{bits_text, figures_text, lead, title}
+use Rattle.plan_bitmaps.specs.certificate_text_HasText.{IsWritable}
 use Rattle.plan_judge.specs.Numbered.{Pair, lines, nodes}
-use Rattle.plan_titles.specs.HasText.{IsText}
+use Rattle.plan_bitmaps.specs.plan_titles_HasText.{IsText}
 use Rattle.plan_bitmaps.specs.Stands.{MOST_DEPTH, Stands}
 
+-- the numbers of a plan's first line, which come before those of the lines beneath it
 abbrev pub first_pair : List Pair → Pair
 first_pair [] = (0, 0)
 first_pair (n ∷ ns) = n
 
+-- the numbers of the lines beneath the first
 abbrev pub later_pairs : List Pair → List Pair
 later_pairs [] = []
 later_pairs (n ∷ ns) = ns
@@ -42,6 +44,7 @@ module _ (c : Contents) (q : Query) where
   abbrev pub written_at : ℕ → Plan → List Pair → List ℕ
   written_at d p ns = line_with d p (first_pair ns) ++ written_beneath d p (later_pairs ns)
 
+  -- the text of a plan with these numbers: its first line stands at the margin
   abbrev pub written_text : Plan → List Pair → List ℕ
   written_text p ns = written_at 0 p ns
 
@@ -55,6 +58,7 @@ StandsAt d (sort keys input) = (d ≤ MOST_DEPTH) × StandsAt (d + 1) input
 StandsAt d (nest outer inner) = (d ≤ MOST_DEPTH) × StandsAt (d + 1) outer × StandsAt (d + 1) inner
 StandsAt d (merge keys outer inner) = (d ≤ MOST_DEPTH) × StandsAt (d + 1) outer × StandsAt (d + 1) inner
 
+-- the most lines of a plan that is read
 abbrev pub MOST_LINES : ℕ
 MOST_LINES = 256
 

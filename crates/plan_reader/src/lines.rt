@@ -2,19 +2,19 @@
 
 ghost use Rattle.std.specs.Prelude.{◌≡◌, ◌++◌, ◌∷◌, ℕ, List, IsSomeAnd, codes, true};
 ghost use Rattle.plan_judge.specs.Numbered.{Pair};
-ghost use Rattle.certificate_text.specs.HasText.{IsWritable};
-ghost use Rattle.plan_lines.specs.Kinds.{words};
-ghost use Rattle.plan_lines.specs.Parts.{figures_behind, lacks};
-ghost use Rattle.plan_lines.specs.declared.kinds.Kind as kinds;
+ghost use Rattle.plan_bitmaps.specs.certificate_text_HasText.{IsWritable};
+ghost use Rattle.plan_bitmaps.specs.plan_lines_Kinds.{words};
+ghost use Rattle.plan_bitmaps.specs.plan_lines_Parts.{figures_behind, lacks};
+ghost use Rattle.plan_bitmaps.specs.plan_lines_kinds_Kind as kinds;
 ghost use Rattle.plan_tree.specs.Plans as plans;
 ghost use Rattle.sql_query.specs.WellBound.{IsWellBound};
-ghost use Rattle.plan_titles.specs.HasText.{IsText};
-ghost use Rattle.plan_titles.specs.Kinds.{behind_words, kind_of};
+ghost use Rattle.plan_bitmaps.specs.plan_titles_HasText.{IsText};
+ghost use Rattle.plan_bitmaps.specs.plan_titles_Kinds.{behind_words, kind_of};
 ghost use Rattle.plan_reader.specs.Beneath.{IsLineOf};
 ghost use Rattle.plan_reader.specs.Written.{Fits, line_with};
 
 use catalog::Catalog;
-use plan_lines::{Kind, Lines, read_kind, read_line};
+use plan_bitmaps::plan_lines::{Kind, Lines, read_kind, read_line};
 use sql_query::Prepared;
 
 /// The first line of a node: what it says.

@@ -2,9 +2,9 @@
 use Rattle.std.specs.Prelude.{ℕ, ◌≡◌, ◌≤◌, Bool, cond, List, [], ◌++◌, codes, IsPermutation}
 use Rattle.std.specs.Fmt.{decimal}
 use Rattle.catalog.specs.Contents.{Contents}
-use Rattle.certificate_text.specs.Texts.{ended}
+use Rattle.plan_reader.specs.certificate_text_Texts.{ended}
 use Rattle.cost_rules.specs.declared.parameters.TheConstants.{MOST_COST}
-use Rattle.explain.specs.Texts.{plan_text}
+use Rattle.reply.specs.explain_Texts.{plan_text}
 use Rattle.sql_query.specs.Meaning.{IsOrdered, meaning}
 use Rattle.sql_query.specs.Queries.{Query}
 use Rattle.sql_query.specs.Worlds.{World}

@@ -19,8 +19,9 @@ use Rattle.path_cost.specs.Columns.{IsOver, is_column_in}
 use Rattle.catalog.specs.Contents.{Contents, index_at}
 use Rattle.eq_classes.specs.Clauses.{Clause, Set, Table}
 use Rattle.eq_classes.specs.Listing.{clause_at}
-use Rattle.index_match.specs.Conditions.{allowed, is_condition, index_conditions}
-use Rattle.index_match.specs.Numbered.{Numbered, numbered, conditions_of, has_number, local}
+use Rattle.eq_classes.proofs.ClasswiseLemmas.{same_truth}
+use Rattle.plan_tree.specs.index_match_Conditions.{allowed, is_condition, index_conditions}
+use Rattle.plan_tree.specs.index_match_Numbered.{Numbered, numbered, conditions_of, has_number, local}
 use Rattle.path_cost.specs.Estimates.{conditions_from}
 use Rattle.path_cost.proofs.KeptLemmas.{conditions-at}
 use Rattle.plan_tree.specs.Space.{IsSameSet, others_named}
@@ -73,11 +74,6 @@ pub conditions-of-table : (c : Contents) (t : Table) (i : IndexNo) (r : ℕ) (p 
 conditions-of-table c t i r p =
     let d = index_at c i in
     allowed-of t.clauses d.method (filter (λ (x : Numbered). is_condition d r x.cond) (local t r p)) (kept-of t.clauses (λ x. is_condition d r x.cond) (local t r p) (enumerated t.clauses _ 0 t.clauses refl))
-
-bools-same : (a b : Bool) → (a ≡ true → b ≡ true) → (b ≡ true → a ≡ true) → a ≡ b
-bools-same true b f g = sym (f refl)
-bools-same false true f g = g refl
-bools-same false false f g = refl
 
 -- a clause of a list that is found: its number, and that it passes
 record Found (ks : List Clause) (chosen : ℕ → Bool) (f : Cond → Bool) : Type 0 where
@@ -156,7 +152,7 @@ found-from ks chosen f m n (suc left) e lt c p =
 -- the conditions of an index name the relations that its clauses name
 pub named-same : (ks : List Clause) (cs : List Numbered) (chosen : ℕ → Bool) (f : Cond → Bool) → AllByRecursion (IsOfTable ks) cs → ((n : ℕ) → chosen n ≡ has_number cs n) → list_any f (conditions_of cs) ≡ list_any f (conditions_from 0 chosen ks)
 named-same ks cs chosen f of same =
-    bools-same (list_any f (conditions_of cs)) (list_any f (conditions_from 0 chosen ks))
+    same_truth (list_any f (conditions_of cs)) (list_any f (conditions_from 0 chosen ks))
     (λ e. let h = listed-found ks cs f of e in found-from ks chosen f h.number 0 h.number (omega arith) h.within (same h.number ∙ h.is_chosen) h.passes)
     (λ e. let h = from-found ks chosen f 0 (length ks) (omega arith) e in found-listed ks cs f h.number of (sym (same h.number) ∙ h.is_chosen) h.passes)
 

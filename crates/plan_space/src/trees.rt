@@ -10,7 +10,7 @@ ghost use Rattle.pg_expr.specs.View as view;
 ghost use Rattle.pg_expr.specs.declared.expr.Expr.{Expr};
 ghost use Rattle.catalog.specs.Contents.{Contents};
 ghost use Rattle.eq_classes.specs.Clauses.{Set};
-ghost use Rattle.index_match.specs.Arms.{arms_of};
+ghost use Rattle.plan_tree.specs.index_match_Arms.{arms_of};
 ghost use Rattle.sql_query.specs.Queries.{Query, width};
 ghost use Rattle.plan_tree.specs.Bitmaps as bitmaps;
 ghost use Rattle.plan_tree.specs.Bitmaps.{HasArms, HaveArms, IsBitTree, IsTreeOver, MatchesArm, condition_at, elements_of};

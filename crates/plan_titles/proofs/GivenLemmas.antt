@@ -2,7 +2,7 @@
 use Rattle.std.proofs.Common.{◌≡◌, ◌≢◌, ◌<◌, ◌+◌, ℕ, zero, suc, Bool, true, false, ◌&&◌, ◌||◌, nat_eq, nat_lt, ◌⊎◌, inl, inr, List, [], ◌∷◌, ◌++◌, codes, length, drop, get_or, refl, sym, ap, ◌∙◌, subst, arith}
 use Rattle.std.specs.Prelude.{◌≤◌, All}
 use Rattle.std.specs.List.{list_all}
-use Rattle.std.proofs.lemmas.Bool.{true≢false}
+use Rattle.std.proofs.lemmas.Bool.{true≢false, lt-ltb, le-ltb}
 use Rattle.std.proofs.lemmas.Bool.Decides.{nat_tests}
 use Rattle.std.proofs.lemmas.List.{append_cancel_left, get_or-drop, get_or-map, length-append, length-drop, length-map}
 use Rattle.std.proofs.lemmas.List.Elements.{All-cons, All-head, All-tail}
@@ -16,9 +16,9 @@ use Rattle.sql_query.specs.Queries.{Query}
 use Rattle.sql_query.specs.WellBound.{IsWellBound}
 use Rattle.pg_base.specs.declared.numbers.TableNo.{TableNo}
 use Rattle.catalog.specs.Range.{Range, aliases}
-use Rattle.explain.specs.Texts.{aliases_in, given_text, with_alias, with_commas}
-use Rattle.certificate_text.specs.HasText.{IsSetOf}
-use Rattle.certificate_lines.proofs.NameLemmas.{name-word}
+use Rattle.certificate_entries.specs.explain_Texts.{aliases_in, given_text, with_alias, with_commas}
+use Rattle.certificate_entries.specs.certificate_text_HasText.{IsSetOf}
+use Rattle.certificate_entries.specs.certificate_lines_NameLemmas.{name-word}
 use Rattle.plan_tree.proofs.ElementLemmas.{same-number}
 use Rattle.plan_titles.specs.Words.{IsWordRead}
 
@@ -88,9 +88,6 @@ module _ (s : ℕ → Bool) where
     by false e h = (e, h)
 
 -- bits below one more
-nothing-below : (k : ℕ) (b : Bool) → (nat_lt k 0 && b) ≡ false
-nothing-below k b = ap (λ (t : Bool). t && b) (let none : nat_lt k 0 ≡ false = grind (arith, nat_tests) in none)
-
 below-next : (k n : ℕ) → nat_eq k n ≡ false → nat_lt k (n + 1) ≡ nat_lt k n
 below-next k n h = by (nat_lt k n) (nat_lt k (n + 1)) refl refl where
   by : (a b : Bool) → nat_lt k n ≡ a → nat_lt k (n + 1) ≡ b → b ≡ a
@@ -99,23 +96,17 @@ below-next k n h = by (nat_lt k n) (nat_lt k (n + 1)) refl refl where
   by true false e f = absurd (grind (arith, nat_tests, e, f))
   by false true e f = absurd (grind (arith, nat_tests, e, f, h))
 
-below-itself : (n : ℕ) → nat_lt n n ≡ false
-below-itself n = grind (arith, nat_tests)
-
-below-one-more : (n : ℕ) → nat_lt n (n + 1) ≡ true
-below-one-more n = grind (arith, nat_tests)
-
 -- a set so far, with the members below a number
 abbrev pub IsBelow : (ℕ → Bool) → (ℕ → Bool) → ℕ → Type 0
 IsBelow made s n = (k : ℕ) → made k ≡ (nat_lt k n && s k)
 
 none-below : (made s : ℕ → Bool) → ((k : ℕ) → made k ≡ false) → IsBelow made s 0
-none-below made s h k = h k ∙ sym (nothing-below k (s k))
+none-below made s h k = h k ∙ sym (ap (λ (t : Bool). t && s k) (le-ltb k 0 (omega arith)))
 
 one-more-below : (made new s : ℕ → Bool) (n : ℕ) → IsBelow made s n → s n ≡ true → ((k : ℕ) → new k ≡ (made k || nat_eq k n)) → IsBelow new s (n + 1)
 one-more-below made new s n h is more k = more k ∙ (ap (λ (b : Bool). b || nat_eq k n) (h k) ∙ by (nat_eq k n) refl) where
   by : (b : Bool) → nat_eq k n ≡ b → ((nat_lt k n && s k) || b) ≡ (nat_lt k (n + 1) && s k)
-  by true e = or-true (nat_lt k n && s k) ∙ sym (ap (λ (m : ℕ). nat_lt m (n + 1) && s m) (same-number k n e) ∙ (ap (λ (t : Bool). t && s n) (below-one-more n) ∙ is))
+  by true e = or-true (nat_lt k n && s k) ∙ sym (ap (λ (m : ℕ). nat_lt m (n + 1) && s m) (same-number k n e) ∙ (ap (λ (t : Bool). t && s n) (lt-ltb n (n + 1) (omega arith)) ∙ is))
     where
       or-true : (a : Bool) → (a || true) ≡ true
       or-true true = refl

@@ -2,13 +2,13 @@
 use Rattle.std.proofs.Common.{◌≡◌, ℕ, true, List, ◌++◌, Bor, sym, ap, ◌∙◌}
 use Rattle.std.specs.Prelude.{Option, Some, MatchOption, option_map}
 use Rattle.std.proofs.lemmas.List.{append_cancel_left}
+use Rattle.std.proofs.lemmas.Option.{same_Some}
 use Rattle.pg_base.specs.declared.numbers.IndexNo.{IndexNo}
 use Rattle.catalog.specs.Contents.{Contents, IsLawful, index_name_at}
 use Rattle.catalog.specs.Tables.{HasIndexName, IsFreeIndex}
 use Rattle.sql_query.specs.Queries.{Query}
 use Rattle.line_cursor.specs.Words.{stops}
-use Rattle.certificate_lines.proofs.NameLemmas.{index-found, index-word}
-use Rattle.certificate_lines.proofs.NumberLemmas.{some-same}
+use Rattle.certificate_entries.specs.certificate_lines_NameLemmas.{index-found, index-word}
 use Rattle.plan_titles.specs.HasText.{IsIndexOfQuery}
 use Rattle.plan_titles.proofs.GivenLemmas.{IsRun}
 
@@ -20,7 +20,7 @@ index-read c q lawful text old word new o same run meaning i rest is stop e =
     (index-found c lawful i word o meaning is.index w.0, w.0)
 
 pub index-same : (o : Option IndexNo) (j i : IndexNo) → o ≡ Some j → o ≡ Some i → j ≡ i
-index-same o j i e f = some-same j i (sym e ∙ f)
+index-same o j i e f = same_Some j i (sym e ∙ f)
 
 pub index-left : (c : Contents) (i j : IndexNo) (text word left rest : List ℕ) → j ≡ i → word ≡ index_name_at c i → text ≡ word ++ left → text ≡ index_name_at c i ++ rest → ◌≡◌ {A = Option (IndexNo × List ℕ)} (Some (j, left)) (Some (i, rest))
 index-left c i j text word left rest same is e f =

@@ -2,7 +2,7 @@
 use Prim.Native.Nat.{suc}
 use Rattle.std.proofs.Common.{◌≡◌, ◌≢◌, ◌≤◌, ◌<◌, ◌+◌, ◌⊎◌, inl, inr, Bor, ℕ, Bool, true, false, cond, nat_eq, List, [], ◌∷◌, ◌++◌, codes, length, map, drop, get_or, refl, sym, ap, ◌∙◌, subst, append_assoc, length-append, arith, drop-cons}
 use Rattle.std.specs.Prelude.{Option, Some, None, option_map, IfSome, MatchOption}
-use Rattle.std.proofs.lemmas.Bool.{cases_lt, true≢false}
+use Rattle.std.proofs.lemmas.Bool.{cases_lt, true≢false, ne_eqb}
 use Rattle.std.proofs.lemmas.Bool.Decides.{Decides-eqb, nat_tests}
 use Rattle.std.proofs.lemmas.List.{append_cancel_left, get_or_default}
 use Rattle.std.proofs.lemmas.List.Elements.{All-head}
@@ -21,9 +21,9 @@ use Rattle.sql_query.specs.WellBound.{IsWellBound}
 use Rattle.plan_tree.specs.Plans.{Plan, seq, index, index_only, bitmap, sort, nest, merge}
 use Rattle.plan_tree.specs.Reads.{ReadsBelow}
 use Rattle.plan_tree.proofs.EstimateLemmas.{below-more}
-use Rattle.plan_laws.proofs.WellBoundLemmas.{bound-over}
-use Rattle.explain.specs.Texts.{column_text, direction_text, family_text, key_text, keys_text, member_text, title, with_commas}
-use Rattle.certificate_text.specs.HasText.{HasKeysText}
+use Rattle.certificate_entries.specs.plan_laws_WellBoundLemmas.{bound-over}
+use Rattle.certificate_entries.specs.explain_Texts.{column_text, direction_text, family_text, key_text, keys_text, member_text, title, with_commas}
+use Rattle.certificate_entries.specs.certificate_text_HasText.{HasKeysText}
 use Rattle.plan_lines.specs.Kinds.{words}
 use Rattle.plan_titles.specs.HasText.{IsTableOfQuery, IsText}
 use Rattle.plan_titles.specs.Kinds.{behind_words, kind_of}
@@ -69,9 +69,6 @@ module _ (c : Contents) (q : Query) where
   pub reads-few : (p : Plan) → IsWellBound c q → IsText c q p → ReadsBelow 16 p
   reads-few p bound h = below-more (width q) 16 p (bound-over c q bound).few (reads-below p h)
 
-comma-next : (n : ℕ) → nat_eq (n + 1) 0 ≡ false
-comma-next n = grind (arith, nat_tests)
-
 -- the key of a place, what stands before it, and the later keys
 module _ (c : Contents) (q : Query) (s : Set) (ks : List ClassNo) (n : ℕ) (d : ClassNo) (lt : n < length ks) where
   pub key-rest : with_commas (cond (nat_eq n 0) [] (codes ", ")) (map (key_text c q s) (class_numbers (drop n ks)))
@@ -82,7 +79,7 @@ module _ (c : Contents) (q : Query) (s : Set) (ks : List ClassNo) (n : ℕ) (d :
       let rest = map (key_text c q s) (class_numbers (drop (n + 1) ks)) in
       let same : drop n ks ≡ get_or ks n d ∷ drop (n + 1) ks = drop-cons ks n d lt ∙ ap (λ (m : ℕ). get_or ks n d ∷ drop m ks) (let e : suc n ≡ n + 1 = omega arith in e) in
       ap (λ (l : List ClassNo). with_commas before (map (key_text c q s) (class_numbers l))) same
-      ∙ (sym (append_assoc before key (with_commas (codes ", ") rest)) ∙ sym (ap (λ (b : Bool). (before ++ key) ++ with_commas (cond b [] (codes ", ")) rest) (comma-next n)))
+      ∙ (sym (append_assoc before key (with_commas (codes ", ") rest)) ∙ sym (ap (λ (b : Bool). (before ++ key) ++ with_commas (cond b [] (codes ", ")) rest) (ne_eqb (n + 1) 0 (λ e. omega (arith, e)))))
 
   -- where no such key comes next, no text of keys does
   pub no-key : (text left : List ℕ) (res : Option (List ℕ)) →

@@ -12,11 +12,11 @@ use Rattle.catalog.specs.Range.{Range, relation_at}
 use Rattle.eq_classes.specs.Clauses.{Set}
 use Rattle.sql_query.specs.Queries.{Query, width}
 use Rattle.sql_query.specs.WellBound.{IsWellBound}
-use Rattle.explain.specs.Texts.{aliases_in, given_text, rel_text, scanned_text, with_alias, with_commas}
+use Rattle.certificate_entries.specs.explain_Texts.{aliases_in, given_text, rel_text, scanned_text, with_alias, with_commas}
 use Rattle.explain_laws.proofs.NameLemmas.{alias-name, alias-same, aliases-names, relation-table, table-name}
 use Rattle.explain_laws.proofs.ParamLemmas.{IsOfQuery, params-same}
 use Rattle.explain_laws.proofs.SplitLemmas.{relation-split}
-use Rattle.certificate_text.specs.HasText.{IsSetOf}
+use Rattle.certificate_entries.specs.certificate_text_HasText.{IsSetOf}
 use Rattle.plan_titles.specs.HasText.{IsScanned}
 
 -- a set of relations of the query has no other one

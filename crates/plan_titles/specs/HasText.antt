@@ -10,8 +10,8 @@ use Rattle.catalog.specs.Contents.{Contents, IsIndex, index_at}
 use Rattle.catalog.specs.Range.{relation_at}
 use Rattle.sql_query.specs.Queries.{Query, width}
 use Rattle.plan_tree.specs.Plans.{Plan, seq, index, index_only, bitmap, sort, nest, merge, BitTree, leaf, all_hold, some_arm, BitTrees, no_trees, tree_and, set_of}
-use Rattle.explain.specs.Texts.{conjunct_by}
-use Rattle.certificate_text.specs.HasText.{HasKeysText, IsSetOf}
+use Rattle.certificate_entries.specs.explain_Texts.{conjunct_by}
+use Rattle.certificate_entries.specs.certificate_text_HasText.{HasKeysText, IsSetOf}
 
 -- the table of some relation of a query
 pub record IsTableOfQuery (q : Query) (t : TableNo) : Type 0 where

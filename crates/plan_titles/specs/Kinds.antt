@@ -3,7 +3,7 @@ use Rattle.std.specs.Prelude.{ℕ, List, []}
 use Rattle.catalog.specs.Contents.{Contents}
 use Rattle.sql_query.specs.Queries.{Query}
 use Rattle.plan_tree.specs.Plans.{Plan, seq, index, index_only, bitmap, sort, nest, merge, set_of}
-use Rattle.explain.specs.Texts.{keys_text, rel_text, scanned_text}
+use Rattle.certificate_entries.specs.explain_Texts.{keys_text, rel_text, scanned_text}
 use Rattle.plan_lines.specs.declared.kinds.Kind.{Kind}
 use Rattle.plan_lines.specs.declared.kinds.Kind.TheVariants as kinds
 use Rattle.plan_titles.specs.Scans.{indexed_text}

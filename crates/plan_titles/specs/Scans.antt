@@ -2,7 +2,7 @@
 use Rattle.std.specs.Prelude.{ℕ, List, ◌++◌, codes}
 use Rattle.catalog.specs.Contents.{Contents, index_name_at}
 use Rattle.sql_query.specs.Queries.{Query}
-use Rattle.explain.specs.Texts.{backward_text, scanned_text}
+use Rattle.certificate_entries.specs.explain_Texts.{backward_text, scanned_text}
 use Rattle.plan_titles.specs.HasText.{IsIndexOfQuery, IsScanned}
 use Rattle.plan_titles.specs.declared.indexes.IndexScan.{IndexScan}
 

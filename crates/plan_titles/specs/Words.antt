@@ -1,6 +1,6 @@
 -- What it is to read words of a list one by one. Own.
 use Rattle.std.specs.Prelude.{◌≡◌, ℕ, List, [], ◌∷◌, codes}
-use Rattle.explain.specs.Texts.{with_commas}
+use Rattle.certificate_entries.specs.explain_Texts.{with_commas}
 
 -- the first of some words was read, if there is one, and the others are left, each behind a comma and a space; nothing
 -- follows them

@@ -5,9 +5,9 @@ ghost use Rattle.std.specs.List.{list_all};
 ghost use Rattle.pg_base.specs.Names.{is_in_name};
 ghost use Rattle.pg_base.specs.Sets.{has};
 ghost use Rattle.pg_base.specs.declared.rel_set.RelSet as sets;
-ghost use Rattle.explain.specs.Texts.{given_text, with_commas};
+ghost use Rattle.certificate_entries.specs.explain_Texts.{given_text, with_commas};
 ghost use Rattle.sql_query.specs.WellBound.{IsWellBound};
-ghost use Rattle.certificate_text.specs.HasText.{IsSetOf};
+ghost use Rattle.certificate_entries.specs.certificate_text_HasText.{IsSetOf};
 ghost use Rattle.plan_titles.specs.Words.{IsWordRead};
 
 use catalog::Catalog;

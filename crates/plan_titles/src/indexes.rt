@@ -3,7 +3,7 @@
 ghost use Rattle.std.specs.Prelude.{◌≡◌, ◌↔◌, ◌++◌, ℕ, Bool, List, IfSome, IsTrue, Some, codes, option_map, true};
 ghost use Rattle.pg_base.specs.declared.numbers.IndexNo as numbers;
 ghost use Rattle.catalog.specs.Contents.{IsIndex, index_name_at};
-ghost use Rattle.explain.specs.Texts.{backward_text};
+ghost use Rattle.certificate_entries.specs.explain_Texts.{backward_text};
 ghost use Rattle.line_cursor.specs.Words.{stops};
 ghost use Rattle.sql_query.specs.WellBound.{IsWellBound};
 ghost use Rattle.plan_titles.specs.HasText.{IsIndexOfQuery, IsTableOfQuery};

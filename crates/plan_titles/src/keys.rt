@@ -7,9 +7,9 @@ ghost use Rattle.eq_classes.specs.Clauses.{first_in};
 ghost use Rattle.eq_classes.specs.Listing.{class_at};
 ghost use Rattle.pathkeys.specs.Finding.{class_numbers};
 ghost use Rattle.sql_query.specs.WellBound.{IsColumnOf, IsWellBound};
-ghost use Rattle.explain.specs.Texts as texts;
-ghost use Rattle.explain.specs.Texts.{direction_text, family_text};
-ghost use Rattle.certificate_text.specs.HasText.{HasKeysText};
+ghost use Rattle.certificate_entries.specs.explain_Texts as texts;
+ghost use Rattle.certificate_entries.specs.explain_Texts.{direction_text, family_text};
+ghost use Rattle.certificate_entries.specs.certificate_text_HasText.{HasKeysText};
 
 use crate::relations::behind;
 use catalog::Catalog;

@@ -4,8 +4,8 @@ ghost use Rattle.std.specs.Prelude.{◌≡◌, ◌<◌, ◌≤◌, ◌++◌, ℕ
 ghost use Rattle.pg_base.specs.Sets.{has};
 ghost use Rattle.path_cost.specs.Columns.{AreTables};
 ghost use Rattle.sql_query.specs.Queries.{width};
-ghost use Rattle.explain.specs.Texts as texts;
-ghost use Rattle.explain.specs.Texts.{relation_text, with_alias, with_commas};
+ghost use Rattle.certificate_entries.specs.explain_Texts as texts;
+ghost use Rattle.certificate_entries.specs.explain_Texts.{relation_text, with_alias, with_commas};
 
 use catalog::Catalog;
 use pg_base::{RelNo, RelSet};

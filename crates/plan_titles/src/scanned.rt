@@ -4,10 +4,10 @@ ghost use Rattle.std.specs.Prelude.{◌≡◌, ◌↔◌, ◌<◌, IfSome, IsTru
 ghost use Rattle.pg_base.specs.Sets.{has};
 ghost use Rattle.pg_base.specs.declared.numbers.RelNo as rels;
 ghost use Rattle.pg_base.specs.declared.rel_set.RelSet as sets;
-ghost use Rattle.explain.specs.Texts.{given_text, rel_text, scanned_text};
+ghost use Rattle.certificate_entries.specs.explain_Texts.{given_text, rel_text, scanned_text};
 ghost use Rattle.sql_query.specs.Queries.{width};
 ghost use Rattle.sql_query.specs.WellBound.{IsWellBound};
-ghost use Rattle.certificate_text.specs.HasText.{IsSetOf};
+ghost use Rattle.certificate_entries.specs.certificate_text_HasText.{IsSetOf};
 ghost use Rattle.plan_titles.specs.HasText.{IsScanned};
 
 use crate::given::read_given;

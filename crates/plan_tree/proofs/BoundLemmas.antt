@@ -6,14 +6,14 @@ use Rattle.std.proofs.lemmas.Bool.Decides.{nat_tests}
 use Rattle.std.proofs.lemmas.List.{get_or_past}
 use Rattle.std.specs.Prelude.{fold, Option, Some, None}
 use Rattle.pg_base.specs.declared.numbers.TableNo.{TableNo}
-use Rattle.catalog.specs.Statistics.{is_count}
-use Rattle.catalog.specs.Tables.{rows_by, rows_of}
-use Rattle.catalog.specs.declared.limits.TheConstants.{MOST_NUMBER}
-use Rattle.catalog.specs.declared.table.Sizes.{Sizes}
+use Rattle.sql_query.specs.catalog_Statistics.{is_count}
+use Rattle.sql_query.specs.catalog_Tables.{rows_by, rows_of}
+use Rattle.sql_query.specs.catalog_limits_TheConstants.{MOST_NUMBER}
+use Rattle.sql_query.specs.catalog_table_Sizes.{Sizes}
 use Rattle.pg_base.specs.Sets.{has}
 use Rattle.pg_expr.specs.Cond.{Cond}
-use Rattle.catalog.specs.Contents.{Contents, TableDef, AreSizes, IsLawful, no_table, table_at}
-use Rattle.catalog.specs.Range.{Range, relation_at}
+use Rattle.sql_query.specs.catalog_Contents.{Contents, TableDef, AreSizes, IsLawful, no_table, table_at}
+use Rattle.sql_query.specs.catalog_Range.{Range, relation_at}
 use Rattle.cost_rules.specs.Powers.{clamped}
 use Rattle.cost_rules.proofs.RisingLemmas.{sort-startup, nest-startup, merge-startup, sort-child, nest-children, merge-children}
 use Rattle.eq_classes.specs.Clauses.{Set, Table}

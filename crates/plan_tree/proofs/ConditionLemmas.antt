@@ -2,11 +2,11 @@
 use Rattle.std.proofs.Common.{◌≡◌, ◌<◌, ◌↔◌, ◌+◌, ℕ, suc, Bool, true, false, cond, ◌&&◌, ◌||◌, nat_lt, List, [], ◌∷◌, length, Some, None, option_map, refl, sym, ◌∙◌, ap, IsTrue, arith}
 use Rattle.std.specs.List.{cons_option}
 use Rattle.std.proofs.lemmas.Bool.{eq-eqb, lt-ltb, true≢false}
-use Rattle.opfamily.specs.declared.classes.Method.{Method}
-use Rattle.opfamily.specs.declared.classes.Method.TheVariants.{Btree, Hash}
+use Rattle.sql_query.specs.opfamily_classes_Method.{Method}
+use Rattle.sql_query.specs.opfamily_classes_Method_TheVariants.{Btree, Hash}
 use Rattle.pg_base.specs.declared.numbers.IndexNo.{IndexNo}
 use Rattle.pg_expr.specs.Cond.{Cond}
-use Rattle.catalog.specs.Contents.{Contents, index_at}
+use Rattle.sql_query.specs.catalog_Contents.{Contents, index_at}
 use Rattle.eq_classes.specs.Clauses.{Clause, Set, Table}
 use Rattle.eq_classes.specs.Listing.{clause_at}
 use Rattle.index_match.specs.Numbered.{Numbered, conditions_of, has_number}
@@ -15,6 +15,7 @@ use Rattle.index_match.specs.Slots.{chosen_from, is_found, is_number, least, num
 use Rattle.index_match.proofs.FoundLemmas.{btree_conditions, chosen_numbers, hash_conditions}
 use Rattle.index_match.proofs.PartLemmas.{conditions_local}
 use Rattle.path_cost.specs.Estimates.{conditions_from}
+use Rattle.path_cost.proofs.KeptLemmas.{from-same}
 
 -- the conditions of a chosen part
 numbered-conditions : (n : ℕ) (chosen : ℕ → Bool) (ks : List Clause) → conditions_of (numbered_from n (chosen_from n chosen ks)) ≡ conditions_from n chosen ks
@@ -26,15 +27,6 @@ numbered-conditions n chosen (k ∷ ks) = by (chosen n) (numbered-conditions (n 
     by true later = ap (λ (es : List Cond). k.cond ∷ es) later
     by false later = later
 
--- they depend on the numbers of the list alone
-conditions-agree : (n : ℕ) (f g : ℕ → Bool) (ks : List Clause) → ((i : ℕ) → i < length ks → f (n + i) ≡ g (n + i)) → conditions_from n f ks ≡ conditions_from n g ks
-conditions-agree n f g [] agree = refl
-conditions-agree n f g (k ∷ ks) agree =
-    let here : n ≡ n + 0 = omega arith in
-    ap (λ b. cond b (k.cond ∷ conditions_from (n + 1) f ks) (conditions_from (n + 1) f ks)) (ap f here ∙ agree 0 (omega arith) ∙ sym (ap g here))
-    ∙ ap (λ (es : List Cond). cond (g n) (k.cond ∷ es) es)
-    (conditions-agree (n + 1) f g ks (λ i lt. let next : n + 1 + i ≡ n + suc i = omega arith in ap f next ∙ agree (suc i) (omega (arith, lt)) ∙ sym (ap g next)))
-
 below-and : (n m : ℕ) (b : Bool) → n < m → nat_lt n m && b ≡ b
 below-and n m b lt = ap (λ a. a && b) (lt-ltb n m lt)
 
@@ -42,7 +34,7 @@ below-and n m b lt = ap (λ a. a && b) (lt-ltb n m lt)
 part-conditions : (cs : List Numbered) (chosen : ℕ → Bool) (ks : List Clause) → numbered_from 0 (chosen_from 0 chosen ks) ≡ cs → conditions_of cs ≡ conditions_from 0 (has_number cs) ks
 part-conditions cs chosen ks e =
     sym (ap conditions_of e) ∙ numbered-conditions 0 chosen ks
-    ∙ conditions-agree 0 chosen (has_number cs) ks (λ i lt.
+    ∙ from-same 0 chosen (has_number cs) ks (λ i lt.
     let at : 0 + i ≡ i = omega arith in
     ap chosen at ∙ sym (below-and i (length ks) (chosen i) lt) ∙ sym (chosen_numbers chosen ks i) ∙ ap (λ xs. has_number xs i) e ∙ sym (ap (has_number cs) at))
 

@@ -7,7 +7,7 @@ use Rattle.std.proofs.lemmas.Grind.{common_steps}
 use Rattle.pg_base.specs.Sets.{has}
 use Rattle.pg_base.specs.declared.numbers.IndexNo.{IndexNo}
 use Rattle.pg_expr.specs.Cond.{Cond}
-use Rattle.catalog.specs.Contents.{Contents, IsIndex, indexes_of}
+use Rattle.sql_query.specs.catalog_Contents.{Contents, IsIndex, indexes_of}
 use Rattle.eq_classes.specs.Clauses.{Set}
 use Rattle.index_match.specs.Arms.{arms_of}
 use Rattle.index_match.specs.Numbered.{Numbered, local}

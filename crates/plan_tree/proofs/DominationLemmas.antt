@@ -1,7 +1,7 @@
 -- Domination is a preorder, and a plan that dominates another may stand in its place.
 use Rattle.std.proofs.Common.{◌≡◌, ◌≤◌, ℕ, true, false, ◌||◌, refl, sym, ◌∙◌, ap₂, le_refl, le_trans, ◌↔◌, subst₂, true≢false}
 use Rattle.std.specs.Prelude.{Option, Some, None}
-use Rattle.catalog.specs.Contents.{Contents}
+use Rattle.sql_query.specs.catalog_Contents.{Contents}
 use Rattle.sql_query.specs.Queries.{Query}
 use Rattle.sql_query.specs.declared.window.Window.{Window}
 use Rattle.pathkeys.specs.Keys.{Keys, covers}
@@ -13,6 +13,7 @@ use Rattle.plan_tree.specs.Least.{Dominates, IsStartupAtMost, StandsFor}
 use Rattle.pathkeys.proofs.CoveringLemmas.{covers-refl, covers-trans}
 use Rattle.plan_tree.proofs.ReplacingLemmas.{nest-replaced, nest-totals, merge-replaced, merge-totals, sort-totals}
 use Rattle.plan_tree.proofs.LikeLemmas.{set-like}
+use Rattle.plan_tree.proofs.WindowLemmas.{startup-from}
 
 startup-refl : (w : Option Window) (n : ℕ) → IsStartupAtMost w n n
 startup-refl None n = tt
@@ -21,10 +22,6 @@ startup-refl (Some w) n = le_refl n
 startup-trans : (w : Option Window) (l m n : ℕ) → IsStartupAtMost w l m → IsStartupAtMost w m n → IsStartupAtMost w l n
 startup-trans None l m n h k = tt
 startup-trans (Some w) l m n h k = le_trans h k
-
-startup-from : (w : Option Window) (m n : ℕ) → m ≤ n → IsStartupAtMost w m n
-startup-from None m n h = tt
-startup-from (Some w) m n h = h
 
 module _ (c : Contents) (q : Query) where
   pub dominates-refl : (p : Plan) → Dominates c q p p

@@ -4,7 +4,7 @@ use Prim.Native.Nat.{suc, zero}
 use Rattle.std.specs.Prelude.{Option, Some, None, MatchOption, IfSome}
 use Rattle.std.specs.List.{AllByRecursion, list_any}
 use Rattle.std.proofs.Math.ListN.{drop_of_length-le}
-use Rattle.std.proofs.lemmas.Bool.{and_parts}
+use Rattle.std.proofs.lemmas.Bool.{and_parts, or_right}
 use Rattle.std.proofs.lemmas.Grind.{common_steps}
 use Rattle.std.proofs.lemmas.List.{take-append-le, drop_more}
 use Rattle.std.proofs.lemmas.List.Elements.{All-from_recursion}
@@ -15,11 +15,12 @@ use Rattle.pg_expr.specs.Columns.{atom_count, atom_count_of, each_column, each_c
 use Rattle.pg_expr.specs.Typed.{AreTyped}
 use Rattle.pg_expr.specs.View as view
 use Rattle.pg_expr.specs.declared.expr.Expr.{Expr}
-use Rattle.predicate_proof.specs.Atoms.{is_any}
-use Rattle.catalog.specs.Contents.{Contents, NamedIndex, no_index, numbers_from, indexes_of, IsIndex}
-use Rattle.catalog.specs.Range.{Range, type_in}
+use Rattle.index_match.specs.predicate_proof_Atoms.{is_any}
+use Rattle.sql_query.specs.catalog_Contents.{Contents, NamedIndex, no_index, numbers_from, indexes_of, IsIndex}
+use Rattle.sql_query.specs.catalog_Range.{Range, type_in}
 use Rattle.eq_classes.specs.Clauses.{Clause}
 use Rattle.eq_classes.specs.Listing.{clause_at}
+use Rattle.eq_classes.proofs.ClasswiseLemmas.{same_truth}
 use Rattle.path_cost.specs.Columns.{IsOver, is_column_in}
 use Rattle.pg_expr.specs.AtomSets.{contains}
 use Rattle.index_match.specs.Numbered.{Numbered, has_number}
@@ -121,10 +122,6 @@ listed-stands k (x ∷ xs) t i h = by (listed-stands (k + 1) xs t i) (nat_eq x.i
     by rest true e g = head rest (nat_eq k i.0) refl e g
     by rest false e g = later k x xs t i (rest g)
 
-or-right : (a b : Bool) → b ≡ true → a || b ≡ true
-or-right true b e = refl
-or-right false b e = e
-
 stands-listed : (k : ℕ) (xs : List NamedIndex) (t : TableNo) (i : IndexNo) (j : ℕ) → j < length xs → i.0 ≡ k + j → (get_or xs j no_index).index.table.0 ≡ t.0 → is-listed i (numbers_from k xs t) ≡ true
 stands-listed k [] t i j lt n at = elim lt [ ]
 stands-listed k (x ∷ xs) t i zero lt n at =
@@ -135,7 +132,7 @@ stands-listed k (x ∷ xs) t i (suc j) lt n at =
     by (nat_eq x.index.table.0 t.0) rest
   where
     by : (b : Bool) → is-listed i (numbers_from (k + 1) xs t) ≡ true → is-listed i (cond b (record { 0 = k } ∷ numbers_from (k + 1) xs t) (numbers_from (k + 1) xs t)) ≡ true
-    by true e = or-right (nat_eq k i.0) (is-listed i (numbers_from (k + 1) xs t)) e
+    by true e = or_right (nat_eq k i.0) (is-listed i (numbers_from (k + 1) xs t)) e
     by false e = e
 
 -- the indexes of a relation's table are those that are listed
@@ -154,7 +151,7 @@ listed-on c q r i = (there, λ h. stands-listed 0 c.indexes (table_of_relation q
 here-listed : (xs : List IndexNo) (k : ℕ) (d : IndexNo) → k < length xs → is-listed (get_or xs k d) xs ≡ true
 here-listed [] k d lt = elim lt [ ]
 here-listed (x ∷ xs) zero d lt = ap (λ (b : Bool). b || is-listed x xs) (equal-number x.0 x.0 refl)
-here-listed (x ∷ xs) (suc k) d lt = or-right (nat_eq x.0 (get_or xs k d).0) (is-listed (get_or xs k d) xs) (here-listed xs k d (omega (arith, lt)))
+here-listed (x ∷ xs) (suc k) d lt = or_right (nat_eq x.0 (get_or xs k d).0) (is-listed (get_or xs k d) xs) (here-listed xs k d (omega (arith, lt)))
 
 -- what is listed is an index of the catalogue
 pub index-within : (c : Contents) (q : Query) (r : ℕ) (xs : List IndexNo) (k : ℕ) (d : IndexNo) → xs ≡ indexes_of c (table_of_relation q r) → k < length xs → IsIndex c (get_or xs k d)
@@ -177,12 +174,6 @@ fewer-left P xs k d lt not-this h = record { each = λ i p. by (get_or xs k d) n
 pub none-left-has : (P : IndexNo → Type 0) (xs : List IndexNo) (k : ℕ) → length xs ≤ k → AreLeft P (drop k xs) → (i : IndexNo) → ¬ P i
 none-left-has P xs k le h i p = true≢false (sym (subst (λ ys. is-listed i ys ≡ true) (drop_of_length-le xs le) (h.each i p)))
 
--- an index has a condition where a number is found to be one's
-bools-same : (a b : Bool) → (a ≡ true → b ≡ true) → (b ≡ true → a ≡ true) → a ≡ b
-bools-same true b f g = sym (f refl)
-bools-same false true f g = g refl
-bools-same false false f g = refl
-
 some-number : (cs : List Numbered) (n : ℕ) → has_number cs n ≡ true → nat_lt 0 (length cs) ≡ true
 some-number [] n h = absurd (true≢false (sym h))
 some-number (x ∷ cs) n h = grind (arith, common_steps)
@@ -191,9 +182,10 @@ first-number : (cs : List Numbered) → nat_lt 0 (length cs) ≡ true → (n : �
 first-number [] h = absurd (true≢false (sym h))
 first-number (x ∷ cs) h = (x.number, ap (λ (b : Bool). b || has_number cs x.number) (equal-number x.number x.number refl))
 
+-- an index has a condition where a number is found to be one's
 pub condition-found : (found : Bool) (cs : List Numbered) (len : ℕ) (set : List ℕ) → (IsTrue found ↔ ((n : ℕ) × (n < len) × IsTrue (contains set n))) → ((n : ℕ) → contains set n ≡ has_number cs n) → ((n : ℕ) → has_number cs n ≡ true → n < len) → found ≡ nat_lt 0 (length cs)
 condition-found found cs len set h same below =
-    bools-same found (nat_lt 0 (length cs)) (λ e. some-number cs (h.0 e).0 (sym (same (h.0 e).0) ∙ (h.0 e).2)) (λ e. let n = first-number cs e in h.1 (n.0, below n.0 n.1, same n.0 ∙ n.1))
+    same_truth found (nat_lt 0 (length cs)) (λ e. some-number cs (h.0 e).0 (sym (same (h.0 e).0) ∙ (h.0 e).2)) (λ e. let n = first-number cs e in h.1 (n.0, below n.0 n.1, same n.0 ∙ n.1))
 
 -- what holds of each arm that is left holds of each arm
 pub record AllWhere {X : Type 0} (f : X → Cond) (P : Cond → Type 0) (whole left : List X) : Type 0 where

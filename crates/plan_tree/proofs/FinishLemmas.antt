@@ -1,7 +1,7 @@
 -- A finished plan stays one, at no greater price, where a plan that dominates it stands in its place.
 use Rattle.std.proofs.Common.{◌≡◌, ◌≤◌, true, false, ◌∙◌, ◌↔◌, true≢false}
 use Rattle.std.specs.Prelude.{Option, Some, None}
-use Rattle.catalog.specs.Contents.{Contents}
+use Rattle.sql_query.specs.catalog_Contents.{Contents}
 use Rattle.cost_rules.proofs.RisingLemmas.{price-rises}
 use Rattle.sql_query.specs.Queries.{Query, all_of_query}
 use Rattle.sql_query.specs.declared.window.Window.{Window}

@@ -1,13 +1,12 @@
 -- What a plan's set and parameterisation determine.
-use Rattle.std.proofs.Common.{◌≡◌, ℕ, Bool, true, false, cond, nat_eq, refl, sym, ◌∙◌, ap₂, arith}
-use Rattle.std.proofs.lemmas.Bool.{false≢true}
-use Rattle.std.proofs.lemmas.Grind.{common_steps}
+use Rattle.std.proofs.Common.{◌≡◌, ℕ, Bool, true, false, cond, nat_eq, refl, sym, ◌∙◌, ap₂}
+use Rattle.std.proofs.lemmas.Bool.{false≢true, eqb-true, eq-eqb}
 use Rattle.std.specs.Prelude.{Option, Some, None, IfSome}
 use Rattle.pg_base.specs.Sets.{has}
 use Rattle.pg_base.proofs.SetLaws.{none-zero, same_set}
 use Rattle.pg_base.specs.declared.numbers.RelNo.{RelNo}
 use Rattle.pg_base.specs.declared.rel_set.RelSet.{RelSet}
-use Rattle.catalog.specs.Contents.{Contents}
+use Rattle.sql_query.specs.catalog_Contents.{Contents}
 use Rattle.eq_classes.specs.Clauses.{Set, one}
 use Rattle.sql_query.specs.Queries.{Query}
 use Rattle.plan_tree.specs.Plans.{Plan, seq, index, index_only, bitmap, sort, nest, merge, set_of, GivenScan, given_scan, param_in, is_empty, joins, joins_with}
@@ -31,17 +30,8 @@ fits (sort keys input) = fits input
 fits (nest outer inner) = tt
 fits (merge keys outer inner) = tt
 
-same_number : (m n : ℕ) → nat_eq m n ≡ true → m ≡ n
-same_number m n e = grind (arith, common_steps)
-
-is_zero : (n : ℕ) → n ≡ 0 → nat_eq n 0 ≡ true
-is_zero n e = grind (arith, common_steps)
-
-same-self : (n : ℕ) → nat_eq n n ≡ true
-same-self n = grind (arith, common_steps)
-
 no-param : (s : GivenScan) → is_empty s.param ≡ false → ((k : ℕ) → has s.param.0 k ≡ false) → ⊥
-no-param s e none = false≢true (sym e ∙ is_zero s.param.0 (none-zero s.param.0 none))
+no-param s e none = false≢true (sym e ∙ eq-eqb s.param.0 0 (none-zero s.param.0 none))
 
 same-given : (g h : Option GivenScan) (a b : Set) → IfSome g (Fits a) → IfSome h (Fits b) → IsSameSet a b → IsSameSet (param_in g) (param_in h) → g ≡ h
 same-given None None a b f f' sets params = refl
@@ -50,7 +40,7 @@ same-given (Some s) None a b f f' sets params = absurd (no-param s f.0 params)
 same-given (Some s) (Some t) a b f f' sets params =
     let n = s.relation.0 in
     let at : nat_eq n n ≡ nat_eq n t.relation.0 = sym (f.1 n) ∙ sets n ∙ f'.1 n in
-    let rel : n ≡ t.relation.0 = same_number n t.relation.0 (sym at ∙ same-self n) in
+    let rel : n ≡ t.relation.0 = eqb-true n t.relation.0 (sym at ∙ eq-eqb n n refl) in
     let param : s.param.0 ≡ t.param.0 = same_set s.param.0 t.param.0 params in
     ap₂ (λ (r p : ℕ). Some (record { relation = record { 0 = r }; param = record { 0 = p } })) rel param
 

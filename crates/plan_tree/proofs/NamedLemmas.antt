@@ -1,12 +1,13 @@
 -- The relations that the clauses of a set name.
-use Rattle.std.proofs.Common.{◌≡◌, ◌<◌, ◌≤◌, ◌+◌, ℕ, Bool, true, false, ◌||◌, nat_lt, List, IsTrue, length, drop, refl, sym, ◌∙◌, ap, arith}
+use Rattle.std.proofs.Common.{◌≡◌, ◌<◌, ◌≤◌, ◌+◌, ℕ, Bool, true, false, ◌||◌, nat_lt, List, IsTrue, length, drop, sym, ◌∙◌, ap, arith}
 use Rattle.std.specs.List.{list_any}
 use Rattle.std.proofs.lemmas.Bool.{and_parts, lt-ltb, ltb-true}
 use Rattle.std.proofs.lemmas.List.Elements.{All-get_or}
+use Rattle.std.proofs.Math.Bool.{or-false, or_assoc}
 use Rattle.pg_expr.specs.Cond.{Cond}
 use Rattle.pg_expr.specs.Columns.{names_rel, rels_below}
 use Rattle.pg_expr.proofs.ColumnLaws.{weaker-each}
-use Rattle.catalog.specs.Contents.{Contents}
+use Rattle.sql_query.specs.catalog_Contents.{Contents}
 use Rattle.eq_classes.specs.Clauses.{Clause}
 use Rattle.eq_classes.specs.Listing.{clause_at}
 use Rattle.path_cost.specs.Columns.{IsOver, is_column_in}
@@ -24,14 +25,6 @@ few-relations c q n h lt =
     (λ x is. lt-ltb x.rel.0 16 (omega (arith, h.few, ltb-true x.rel.0 (length q.range) (and_parts (nat_lt x.rel.0 (length q.range)) _ is).0)))
     (clause_at q.classes.clauses n).cond over.columns
 
-or_three : (a b c : Bool) → a || (b || c) ≡ (a || b) || c
-or_three true b c = refl
-or_three false b c = refl
-
-or_none : (a : Bool) → a || false ≡ a
-or_none true = refl
-or_none false = refl
-
 abbrev some_names : ℕ → List Cond → Bool
 some_names k es = list_any (names_rel k) es
 
@@ -39,7 +32,7 @@ module _ (ks : List Clause) (chosen : ℕ → Bool) (n k : ℕ) (old next whole 
   pub named-yes : n < length ks → chosen n ≡ true → next ≡ old || names_rel k (clause_at ks n).cond → old || list_any (names_rel k) (conditions_from n chosen (drop n ks)) ≡ whole → next || list_any (names_rel k) (conditions_from (n + 1) chosen (drop (n + 1) ks)) ≡ whole
   named-yes lt e f h =
       ap (λ (b : Bool). b || some_names k (conditions_from (n + 1) chosen (drop (n + 1) ks))) f
-      ∙ sym (or_three old (names_rel k (clause_at ks n).cond) (some_names k (conditions_from (n + 1) chosen (drop (n + 1) ks))))
+      ∙ (or_assoc old (names_rel k (clause_at ks n).cond) (some_names k (conditions_from (n + 1) chosen (drop (n + 1) ks))))
       ∙ sym (ap (λ (es : List Cond). old || some_names k es) (conditions-at ks chosen n true lt e)) ∙ h
 
   pub named-no : n < length ks → chosen n ≡ false → next ≡ old → old || list_any (names_rel k) (conditions_from n chosen (drop n ks)) ≡ whole → next || list_any (names_rel k) (conditions_from (n + 1) chosen (drop (n + 1) ks)) ≡ whole
@@ -49,4 +42,4 @@ module _ (ks : List Clause) (chosen : ℕ → Bool) (n k : ℕ) (old next whole 
 
 pub named-all : (ks : List Clause) (chosen : ℕ → Bool) (n k : ℕ) (old whole : Bool) → length ks ≤ n → old || list_any (names_rel k) (conditions_from n chosen (drop n ks)) ≡ whole → old ≡ whole
 named-all ks chosen n k old whole past h =
-    sym (or_none old) ∙ sym (ap (λ (xs : List Clause). old || some_names k (conditions_from n chosen xs)) (none-left ks n past)) ∙ h
+    sym (or-false old) ∙ sym (ap (λ (xs : List Clause). old || some_names k (conditions_from n chosen xs)) (none-left ks n past)) ∙ h

@@ -1,6 +1,6 @@
 -- The path of a scan has the numbers of its plan.
 use Rattle.std.proofs.Common.{◌≡◌, ◌<◌, ℕ, arith}
-use Rattle.catalog.specs.Contents.{Contents}
+use Rattle.sql_query.specs.catalog_Contents.{Contents}
 use Rattle.cost_rules.specs.declared.parameters.TheConstants.{MOST_COST}
 use Rattle.cost_rules.specs.Costs.{capped}
 use Rattle.sql_query.specs.Queries.{Query, width}

@@ -13,10 +13,10 @@ use Rattle.pg_base.specs.Sets.{has}
 use Rattle.pg_expr.specs.Cond.{Cond, any_of}
 use Rattle.pg_expr.specs.View as view
 use Rattle.pg_expr.specs.declared.expr.Expr.{Expr}
-use Rattle.catalog.specs.Contents.{Contents, index_at}
+use Rattle.sql_query.specs.catalog_Contents.{Contents, index_at}
 use Rattle.cost_rules.specs.declared.parameters.TheConstants.{MOST_COST}
 use Rattle.cost_rules.specs.Costs.{capped, capped_pair, pair}
-use Rattle.catalog.specs.Range.{Range}
+use Rattle.sql_query.specs.catalog_Range.{Range}
 use Rattle.cost_rules.specs.Scans.{bitmap_scan_cost}
 use Rattle.eq_classes.specs.Clauses.{Clause, Set, Table}
 use Rattle.index_match.specs.Arms.{arms_of, arm_parts, arm_bounds}

@@ -1,6 +1,6 @@
 -- A child replaced by a like plan that costs no more.
 use Rattle.std.proofs.Common.{◌≡◌, ◌≤◌, le_refl, ℕ, not, ◌&&◌, length, ap, subst}
-use Rattle.catalog.specs.Contents.{Contents}
+use Rattle.sql_query.specs.catalog_Contents.{Contents}
 use Rattle.cost_rules.specs.declared.pair.Pair.{Pair}
 use Rattle.cost_rules.specs.Costs.{pair, IsAtMost, sort_cost, nest_cost, merge_cost}
 use Rattle.cost_rules.proofs.RisingLemmas.{sort-rises, nest-rises, merge-rises}

@@ -3,7 +3,7 @@ use Rattle.std.proofs.Common.{◌≡◌, ◌<◌, ℕ, ◌&&◌, ◌||◌, Bool,
 use Rattle.std.proofs.lemmas.Grind.{common_steps}
 use Rattle.pg_base.specs.declared.numbers.IndexNo.{IndexNo}
 use Rattle.pg_expr.specs.AtomSets.{contains}
-use Rattle.catalog.specs.Contents.{Contents}
+use Rattle.sql_query.specs.catalog_Contents.{Contents}
 use Rattle.eq_classes.specs.Clauses.{Set, Table}
 use Rattle.index_match.specs.Numbered.{has_number}
 use Rattle.index_match.specs.Conditions.{index_conditions}

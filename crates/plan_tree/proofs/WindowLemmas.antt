@@ -1,6 +1,6 @@
 -- What a path keeps of the costs of its plan, as the query has a window or not.
 use Rattle.std.proofs.Common.{◌≡◌, ◌<◌, ◌≤◌, ◌+◌, ℕ, None, Option, Some, refl, sym, ◌∙◌, ap, ap₂, le_refl, arith}
-use Rattle.catalog.specs.Contents.{Contents}
+use Rattle.sql_query.specs.catalog_Contents.{Contents}
 use Rattle.cost_rules.specs.Costs.{capped, capped_pair, merge_cost, nest_cost, pair, sort_cost, sort_work}
 use Rattle.cost_rules.specs.declared.pair.Pair.{Pair}
 use Rattle.cost_rules.specs.declared.parameters.TheConstants.{MOST_COST}

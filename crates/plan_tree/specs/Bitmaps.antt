@@ -5,8 +5,8 @@ use Rattle.std.specs.List.{AllZip, AllByRecursion, items_where_true}
 use Rattle.pg_base.specs.declared.numbers.IndexNo.{IndexNo}
 use Rattle.pg_base.specs.declared.numbers.TableNo.{TableNo}
 use Rattle.pg_expr.specs.Cond.{Cond, any_of, no_conds}
-use Rattle.catalog.specs.Contents.{Contents, IsIndex, index_at, indexes_of}
-use Rattle.catalog.specs.Range.{relation_at}
+use Rattle.sql_query.specs.catalog_Contents.{Contents, IsIndex, index_at, indexes_of}
+use Rattle.sql_query.specs.catalog_Range.{relation_at}
 use Rattle.eq_classes.specs.Clauses.{Set, Clause}
 use Rattle.index_match.specs.Numbered.{Numbered, has_number, local}
 use Rattle.sql_query.specs.Queries.{Query}
@@ -45,6 +45,7 @@ pub record MatchesArm (c : Contents) (q : Query) (r : ℕ) (arm : Cond) (i : Ind
   pub usable : IsUsable c q.classes i r
   pub matched : is_matched (index_at c i) r arm ≡ true
 
+-- a condition is an OR, which bitmaps of its arms may serve (generate_bitmap_or_paths)
 abbrev pub is_or : Cond → Bool
 is_or (any_of es) = true
 is_or _ = false
@@ -59,6 +60,7 @@ abbrev pub condition_by : Option Clause → Cond
 condition_by None = any_of no_conds
 condition_by (Some k) = k.cond
 
+-- the condition of the clause of a number, from 0, of the query
 abbrev pub condition_at : Query → ℕ → Cond
 condition_at q n = condition_by (slice_get q.classes.clauses n)
 
@@ -72,6 +74,7 @@ module _ (c : Contents) (q : Query) (r : ℕ) (p : Set) where
   abbrev pub candidates : List Element
   candidates = map by_index (indexes_of c (table_of_relation q r)) ++ map (λ (k : Numbered). by_clause k.number) (local q.classes r p)
 
+  -- a list has exactly those candidates that are elements, in their order
   abbrev pub AreElements : List Element → Type 0
   AreElements es = ArePicked IsElement candidates es
 
@@ -81,6 +84,7 @@ module _ (c : Contents) (q : Query) (r : ℕ) (p : Set) where
   element_of (all_hold bs) = None
   element_of (some_arm n is) = Some (by_clause n)
 
+  -- the element that each tree of a list is, in order; none where one is an AND
   abbrev pub elements_of : BitTrees → List (Option Element)
   elements_of no_trees = []
   elements_of (tree_and b bs) = element_of b ∷ elements_of bs
@@ -91,6 +95,7 @@ module _ (c : Contents) (q : Query) (r : ℕ) (p : Set) where
   HasArms (all_hold bs) = ⊥
   HasArms (some_arm n is) = AllZip (MatchesArm c q r) (arms_of (condition_at q n)) is
 
+  -- each part of an AND is an index, or an OR with a matching index for each arm; none is itself an AND
   abbrev pub HaveArms : BitTrees → Type 0
   HaveArms no_trees = Unit {0}
   HaveArms (tree_and b bs) = HasArms b × HaveArms bs

@@ -5,7 +5,7 @@ use Rattle.std.specs.List.{AllZip}
 use Rattle.pg_base.specs.declared.limits.TheConstants.{MOST_MERGE_KEYS}
 use Rattle.pg_base.specs.declared.numbers.IndexNo.{IndexNo}
 use Rattle.pg_expr.specs.Cond.{Cond}
-use Rattle.catalog.specs.Contents.{Contents, IsIndex, index_at}
+use Rattle.sql_query.specs.catalog_Contents.{Contents, IsIndex, index_at}
 use Rattle.index_match.specs.Arms.{arms_of, is_matched}
 use Rattle.sql_query.specs.Queries.{Query, width}
 use Rattle.plan_tree.specs.Plans.{Plan, seq, index, index_only, bitmap, sort, nest, merge, BitTree, leaf, all_hold, some_arm, BitTrees, no_trees, tree_and}

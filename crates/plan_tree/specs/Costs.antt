@@ -5,7 +5,7 @@ use Rattle.pg_base.specs.declared.numbers.IndexNo.{IndexNo}
 use Rattle.pg_base.specs.declared.numbers.RelNo.{RelNo}
 use Rattle.pg_base.specs.declared.rel_set.RelSet.{RelSet}
 use Rattle.pg_expr.specs.Cond.{Cond}
-use Rattle.catalog.specs.Contents.{Contents, index_at}
+use Rattle.sql_query.specs.catalog_Contents.{Contents, index_at}
 use Rattle.eq_classes.specs.Clauses.{Set}
 use Rattle.eq_classes.specs.Parts.{is_join}
 use Rattle.index_match.specs.Numbered.{has_number}
@@ -32,6 +32,8 @@ abbrev pub asked_by : Option ℕ → ℕ → ℕ → ℕ
 asked_by None offset n = n
 asked_by (Some limit) offset n = min n (limit + offset)
 
+-- the rows of n that LIMIT and OFFSET ask of a plan; those that OFFSET passes over are made too (PostgreSQL manual, LIMIT
+-- and OFFSET)
 abbrev pub asked : Window → ℕ → ℕ
 asked w n = asked_by w.limit w.offset n
 
@@ -39,6 +41,7 @@ asked w n = asked_by w.limit w.offset n
 abbrev pub merge_operators : Query → Keys → Plan → Plan → ℕ
 merge_operators q keys outer inner = operators (conditions_where (λ k. is_join (set_of outer) (set_of inner) k && not (is_pair_of keys k)) q.classes.clauses)
 
+-- a nested loop tests each clause that joins its sides at each pair of rows: the operators of these together
 abbrev pub join_operators : Query → Plan → Plan → ℕ
 join_operators q outer inner = operators (conditions_where (joins (set_of outer) inner) q.classes.clauses)
 
@@ -48,6 +51,8 @@ module _ (c : Contents) (q : Query) where
   rows_given set None = set_rows c q.range q.classes set
   rows_given set (Some s) = param_rows c q.range q.classes s.relation.0 (has s.param.0)
 
+  -- the estimated rows of a plan: of one run, so that a scan with a parameterisation counts those for one outer row
+  -- (ppi_rows)
   abbrev pub estimate : Plan → ℕ
   estimate p = rows_given (set_of p) (given_scan p)
 
@@ -67,6 +72,8 @@ module _ (c : Contents) (q : Query) where
     parts_of_all r p no_trees = []
     parts_of_all r p (tree_and b bs) = part_of r p b ∷ parts_of_all r p bs
 
+  -- the cost of an index scan or an index-only scan by the relation's clauses and the parameterisation, in 1/400 of a
+  -- sequential page
   abbrev pub scan_cost : RelNo → IndexNo → RelSet → Bool → Pair
   scan_cost r i p only = index_cost c q.range q.classes i r.0 (has p.0) (has_number (index_bounds c q.classes i r.0 (has p.0))) (has_number (index_conditions c q.classes i r.0 (has p.0))) only
 
@@ -93,5 +100,7 @@ module _ (c : Contents) (q : Query) where
   price_by None p = (cost p).total
   price_by (Some w) p = price_of (cost p) (asked w query_rows) query_rows
 
+  -- what finished plans are compared by: the total cost, or under LIMIT and OFFSET that of the rows asked for
+  -- (compare_fractional_path_costs)
   abbrev pub price : Plan → ℕ
   price p = price_by q.window p

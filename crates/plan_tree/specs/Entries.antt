@@ -3,20 +3,20 @@ use Rattle.std.specs.Prelude.{ℕ, Bool, true, List, [], length, map, filter, sl
 use Rattle.std.specs.List.{range_with_len}
 use Rattle.pg_base.specs.declared.numbers.ColNo.{ColNo}
 use Rattle.pg_base.specs.declared.numbers.IndexNo.{IndexNo}
-use Rattle.pg_value.specs.declared.value.Value.{Value}
-use Rattle.pg_value.specs.declared.value.Value.TheVariants.{Null}
-use Rattle.pg_value.specs.Sorting.{in_order}
-use Rattle.pg_value.specs.Truths.{is_true}
-use Rattle.opfamily.specs.KeyOrder.{Entry, entry_order}
-use Rattle.opfamily.specs.declared.classes.IndexKey.{IndexKey}
-use Rattle.opfamily.specs.declared.classes.Method.{Method}
-use Rattle.opfamily.specs.declared.classes.Method.TheVariants.{Btree, Hash}
+use Rattle.sql_query.specs.pg_value_value_Value.{Value}
+use Rattle.sql_query.specs.pg_value_value_Value_TheVariants.{Null}
+use Rattle.sql_query.specs.pg_value_Sorting.{in_order}
+use Rattle.sql_query.specs.pg_value_Truths.{is_true}
+use Rattle.sql_query.specs.opfamily_KeyOrder.{Entry, entry_order}
+use Rattle.sql_query.specs.opfamily_classes_IndexKey.{IndexKey}
+use Rattle.sql_query.specs.opfamily_classes_Method.{Method}
+use Rattle.sql_query.specs.opfamily_classes_Method_TheVariants.{Btree, Hash}
 use Rattle.pg_expr.specs.declared.operand.ColRef.{ColRef}
 use Rattle.pg_expr.specs.Cond.{Cond}
 use Rattle.pg_expr.specs.Truths.{truth_at}
-use Rattle.heap.specs.Stored.{Values}
-use Rattle.catalog.specs.Contents.{index_at}
-use Rattle.catalog.specs.Indexes.{Index}
+use Rattle.sql_query.specs.heap_Stored.{Values}
+use Rattle.sql_query.specs.catalog_Contents.{index_at}
+use Rattle.sql_query.specs.catalog_Indexes.{Index}
 use Rattle.sql_query.specs.Worlds.{World, stored_at}
 
 -- the value of a column in a row
@@ -45,6 +45,7 @@ ordered Hash ks es = es
 abbrev pub entries_over : Index → List Values → List Entry
 entries_over d rows = ordered d.method d.keys (map (entry d rows) (filter (λ n. meets d.predicate (slice_index_or rows n [])) (range_with_len 0 (length rows))))
 
+-- the entries of an index of the catalogue over the rows that are stored of its table
 abbrev pub entries : World → IndexNo → List Entry
 entries w i = entries_over (index_at w.contents i) (stored_at w (index_at w.contents i).table).rows
 

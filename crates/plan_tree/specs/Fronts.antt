@@ -1,6 +1,6 @@
 -- What a list of paths covers, and what is offered to it (PostgreSQL, src/backend/optimizer/util/pathnode.c, add_path).
 use Rattle.std.specs.Prelude.{◌≡◌, ◌⊎◌, Bool, true, false, not, List, All, Contains}
-use Rattle.catalog.specs.Contents.{Contents}
+use Rattle.sql_query.specs.catalog_Contents.{Contents}
 use Rattle.eq_classes.specs.Clauses.{Set}
 use Rattle.sql_query.specs.Queries.{Query}
 use Rattle.plan_tree.specs.Plans.{Plan, bitmap}
@@ -8,10 +8,12 @@ use Rattle.plan_tree.specs.Space.{IsBuilt, IsPlanOf}
 use Rattle.plan_tree.specs.Least.{IsAdmissible, Dominates}
 use Rattle.plan_tree.specs.Paths.{Path, IsPathOf}
 
+-- a plan is a bitmap scan of one relation, which gives rows in no order of keys
 abbrev pub is_bitmap : Plan → Bool
 is_bitmap (bitmap r p bits) = true
 is_bitmap _ = false
 
+-- any other plan: of a relation these are offered before its bitmap scans
 abbrev pub is_no_bitmap : Plan → Bool
 is_no_bitmap t = not (is_bitmap t)
 

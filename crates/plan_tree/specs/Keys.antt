@@ -3,7 +3,7 @@ use Rattle.std.specs.Prelude.{Bool, cond, []}
 use Rattle.pg_base.specs.declared.numbers.IndexNo.{IndexNo}
 use Rattle.pg_base.specs.declared.numbers.RelNo.{RelNo}
 use Rattle.pg_base.specs.declared.rel_set.RelSet.{RelSet}
-use Rattle.catalog.specs.Contents.{Contents}
+use Rattle.sql_query.specs.catalog_Contents.{Contents}
 use Rattle.sql_query.specs.Queries.{Query}
 use Rattle.pathkeys.specs.Keys.{Keys, index_keys}
 use Rattle.plan_tree.specs.Plans.{Plan, seq, index, index_only, bitmap, sort, nest, merge, is_empty}

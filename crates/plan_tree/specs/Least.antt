@@ -1,7 +1,7 @@
 -- Which plans are admissible, which one stands for another, and which are undercut (PostgreSQL,
 -- src/backend/optimizer/README; src/backend/optimizer/util/pathnode.c, add_path; the limit is own).
 use Rattle.std.specs.Prelude.{◌≡◌, ◌<◌, ◌≤◌, ℕ, true, Option, Some, None}
-use Rattle.catalog.specs.Contents.{Contents}
+use Rattle.sql_query.specs.catalog_Contents.{Contents}
 use Rattle.cost_rules.specs.declared.parameters.TheConstants.{MOST_COST}
 use Rattle.sql_query.specs.Queries.{Query}
 use Rattle.sql_query.specs.declared.window.Window.{Window}

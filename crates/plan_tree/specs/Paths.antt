@@ -3,7 +3,7 @@
 use Rattle.std.specs.Prelude.{◌≡◌, ℕ, Bool, ◌&&◌, nat_eq, nat_le, Option, Some, None}
 use Rattle.pg_base.specs.Sets.{has}
 use Rattle.pg_base.specs.declared.rel_set.RelSet.{RelSet}
-use Rattle.catalog.specs.Contents.{Contents}
+use Rattle.sql_query.specs.catalog_Contents.{Contents}
 use Rattle.cost_rules.specs.Costs.{pair}
 use Rattle.cost_rules.specs.declared.pair.Pair.{Pair}
 use Rattle.sql_query.specs.Queries.{Query}

@@ -32,6 +32,7 @@ pub data Plan : Type 0 where
   nest : Plan → Plan → Plan
   merge : Keys → Plan → Plan → Plan
 
+-- no relation: the parameterisation of a plan that needs no rows of others
 abbrev pub empty : Set
 empty k = false
 
@@ -45,6 +46,7 @@ set_of (sort keys input) = set_of input
 set_of (nest outer inner) = union (set_of outer) (set_of inner)
 set_of (merge keys outer inner) = union (set_of outer) (set_of inner)
 
+-- no bit of a set of relations is set: a scan with it as its parameterisation is given no rows
 abbrev pub is_empty : RelSet → Bool
 is_empty p = nat_eq p.0 0
 
@@ -53,6 +55,7 @@ pub record GivenScan : Type 0 where
   pub relation : RelNo
   pub param : RelSet
 
+-- a scan that is given rows, by its relation and its parameterisation; none where that is empty
 abbrev pub scan_given : RelNo → RelSet → Option GivenScan
 scan_given r p = cond (is_empty p) None (Some (record { relation = r; param = p }))
 
@@ -71,12 +74,15 @@ abbrev pub param_in : Option GivenScan → Set
 param_in None = empty
 param_in (Some s) = has s.param.0
 
+-- the relations whose rows a plan must be given (required_outer): a scan's, also under a sort; a join needs none
 abbrev pub param_of : Plan → Set
 param_of p = param_in (given_scan p)
 
+-- a plan must be given rows of other relations, so that a nested loop runs it for each outer row
 abbrev pub has_param : Plan → Bool
 has_param p = is_some (given_scan p)
 
+-- a plan sorts at its top
 abbrev pub is_sort : Plan → Bool
 is_sort (sort keys input) = true
 is_sort _ = false
@@ -86,5 +92,6 @@ abbrev pub joins_with : Set → Set → Option GivenScan → Clause → Bool
 joins_with a b None = is_join a b
 joins_with a b (Some s) = is_join_param a s.relation.0 (has s.param.0)
 
+-- the clauses that a join of an outer set with this inner plan tests, by what the inner plan was given
 abbrev pub joins : Set → Plan → Clause → Bool
 joins a p = joins_with a (set_of p) (given_scan p)

@@ -26,6 +26,8 @@ most m n e = grind (arith, common_steps)
 at-most : (m n : ℕ) → m ≤ n → nat_le m n ≡ true
 at-most m n e = grind (arith, common_steps)
 
+-- the test of paths says all five: equal set and parameterisation, no greater startup and cost, keys that begin with the
+-- other's
 pub parts-of : (a b : Path) → is_at_most a b ≡ true → AtMost a b
 parts-of a b e =
     let p = and_parts (nat_eq a.set.0 b.set.0) _ e in
@@ -40,6 +42,7 @@ parts-of a b e =
       keys = s.1;
     }
 
+-- the five together make the test of paths true
 pub from-parts : (a b : Path) → AtMost a b → is_at_most a b ≡ true
 from-parts a b p =
     and_from (nat_eq a.set.0 b.set.0) _ (equal a.set.0 b.set.0 p.set)
@@ -47,9 +50,11 @@ from-parts a b p =
     (and_from (nat_le a.startup b.startup) _ (at-most a.startup b.startup p.startup)
     (and_from (nat_le a.cost b.cost) _ (at-most a.cost b.cost p.cost) p.keys)))
 
+-- a path may take its own place
 pub at-most-refl : (a : Path) → is_at_most a a ≡ true
 at-most-refl a = from-parts a a (record { set = refl; param = refl; startup = omega arith; cost = omega arith; keys = covers-refl a.keys })
 
+-- what may take the place of a path may take that of each whose place this one may
 pub at-most-trans : (a b c : Path) → is_at_most a b ≡ true → is_at_most b c ≡ true → is_at_most a c ≡ true
 at-most-trans a b c e f =
     let p = parts-of a b e in

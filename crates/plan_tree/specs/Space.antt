@@ -9,7 +9,7 @@ use Rattle.pg_base.specs.declared.numbers.RelNo.{RelNo}
 use Rattle.pg_base.specs.declared.rel_set.RelSet.{RelSet}
 use Rattle.pg_expr.specs.Cond.{Cond}
 use Rattle.pg_expr.specs.Columns.{names_rel}
-use Rattle.catalog.specs.Contents.{Contents, index_at}
+use Rattle.sql_query.specs.catalog_Contents.{Contents, index_at}
 use Rattle.eq_classes.specs.Clauses.{Set}
 use Rattle.eq_classes.specs.Parts.{joining_from}
 use Rattle.eq_classes.specs.Holding.{AreApart, IsWithin}
@@ -31,6 +31,7 @@ others_named r es k = not (nat_eq k r) && list_any (names_rel k) es
 abbrev pub IsSameSet : Set → Set → Type 0
 IsSameSet a b = (k : ℕ) → a k ≡ b k
 
+-- a set has no relation; as a parameterisation it says that a plan needs no rows of others
 abbrev pub IsEmpty : Set → Type 0
 IsEmpty a = (k : ℕ) → a k ≡ false
 
@@ -56,6 +57,8 @@ abbrev pub may_go : Bool → Bool → RelSet → Bool
 may_go backward hash p = not backward || (not hash && is_empty p)
 
 module _ (c : Contents) (q : Query) where
+  -- the clauses that an index scan of the relation with this parameterisation uses inside its index, with their numbers
+  -- from 0
   abbrev pub conditions_at : RelNo → IndexNo → RelSet → List Numbered
   conditions_at r i p = index_conditions c q.classes i r.0 (has p.0)
 

@@ -11,6 +11,7 @@ use Rattle.plan_tree.specs.declared.path.Path.{Path as Costed}
 use Rattle.plan_tree.specs.declared.elements.Element.{Element as Chosen}
 use Rattle.plan_tree.specs.declared.elements.Element.TheVariants as chosen
 
+-- a list of bitmap trees as the parts of an AND
 abbrev pub trees_of : List BitTree → BitTrees
 trees_of [] = no_trees
 trees_of (b ∷ bs) = tree_and b (trees_of bs)
@@ -25,6 +26,7 @@ bits_step (Or n is) = some_arm n is.items
 abbrev pub bits : Bits → BitTree
 bits = fold-BitTree BitTree BitTrees bits_step (λ parts. trees_of parts.items.items)
 
+-- the trees of a list, in order, as the parts of an AND
 abbrev pub bits_all : List Bits → BitTrees
 bits_all bs = trees_of (map bits bs)
 

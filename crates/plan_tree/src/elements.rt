@@ -11,7 +11,7 @@ ghost use Rattle.pg_expr.specs.Columns.{atom_count};
 ghost use Rattle.pg_expr.specs.Cond.{any_of};
 ghost use Rattle.pg_expr.specs.View as view;
 ghost use Rattle.pg_expr.specs.declared.expr.Expr.{Expr};
-ghost use Rattle.catalog.specs.Contents.{Contents, IsIndex, IsTable, indexes_of};
+ghost use Rattle.sql_query.specs.catalog_Contents.{Contents, IsIndex, IsTable, indexes_of};
 ghost use Rattle.path_cost.specs.Columns.{IsOver};
 ghost use Rattle.index_match.specs.Conditions.{index_conditions};
 ghost use Rattle.index_match.specs.Numbered as numbered;
@@ -26,13 +26,13 @@ ghost use Rattle.plan_tree.specs.Views.{element};
 use crate::estimates::{classes_of, range_of};
 use crate::scans::bounds_and_tests;
 use arrayvec::ArrayVec;
-use catalog::Catalog;
 use eq_classes::{Classes, ClauseSet};
+use index_match::predicate_proof::or_parts;
 use index_match::{conditions, conditions_among, local_clauses, usable};
 use pg_base::{IndexNo, RelNo, RelSet, TableNo};
 use pg_expr::Expr;
-use predicate_proof::or_parts;
 use sql_query::Prepared;
+use sql_query::catalog::Catalog;
 use std::marker::Model;
 
 /// So many elements may be combined.

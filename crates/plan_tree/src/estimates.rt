@@ -11,11 +11,11 @@ ghost use Rattle.plan_tree.specs.Views.{plan};
 
 use crate::plan::Plan;
 use crate::sets::{given_scan, set_of};
-use catalog::{Catalog, RangeTable};
 use eq_classes::Classes;
 use path_cost::{rows, rows_param};
 use pg_base::RelSet;
 use sql_query::Prepared;
+use sql_query::catalog::{Catalog, RangeTable};
 
 /// The relations of a query, in FROM order.
 pub fn range_of(q: &Prepared) -> &RangeTable

@@ -3,7 +3,7 @@
 ghost use Rattle.std.specs.Prelude.{◌≡◌, ◌<◌, ◌↔◌, ◌||◌, ℕ, IsTrue, length, nat_lt, not};
 ghost use Rattle.pg_base.specs.Sets.{has};
 ghost use Rattle.pg_expr.specs.AtomSets.{contains};
-ghost use Rattle.catalog.specs.Contents.{IsIndex, index_at};
+ghost use Rattle.sql_query.specs.catalog_Contents.{IsIndex, index_at};
 ghost use Rattle.index_match.specs.Conditions as forms;
 ghost use Rattle.index_match.specs.Conditions.{index_conditions};
 ghost use Rattle.index_match.specs.Numbered.{has_number};
@@ -16,12 +16,12 @@ ghost use Rattle.plan_tree.specs.Space.{IsIndexScan, IsIndexOnlyScan};
 use crate::elements::has_some;
 use crate::estimates::{classes_of, range_of};
 use crate::make::{conditions_found, names_exactly};
-use catalog::Catalog;
 use eq_classes::ClauseSet;
 use index_match::{covers_columns, usable};
-use opfamily::Method;
 use pg_base::{IndexNo, RelNo, RelSet};
 use sql_query::Prepared;
+use sql_query::catalog::Catalog;
+use sql_query::opfamily::Method;
 
 /// Whether an index has a condition among the clauses of a relation and of its parameterisation, of which this is the
 /// set.

@@ -18,11 +18,11 @@ ghost use Rattle.plan_tree.specs.Views.{plan};
 use crate::estimates::{classes_of, estimate, range_of};
 use crate::plan::Plan;
 use crate::sets::{given_scan, set_of};
-use catalog::Catalog;
 use cost_rules::{Pair, merge, nest};
 use eq_classes::{ClassNo, Classes, ClauseSet};
 use path_cost::{key_pairs, operators_of, pairs};
 use sql_query::Prepared;
+use sql_query::catalog::Catalog;
 
 /// The clauses that a join of an outer plan with an inner one tests.
 fn joining(classes: &Classes, outer: &Plan, inner: &Plan) -> ClauseSet

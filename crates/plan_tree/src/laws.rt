@@ -2,7 +2,7 @@
 //! give when they run stand apart.
 
 ghost use Rattle.std.specs.Prelude.{◌≡◌, ◌≤◌, ◌↔◌, ℕ, false, IsTrue};
-ghost use Rattle.catalog.specs.Contents.{Contents, IsLawful};
+ghost use Rattle.sql_query.specs.catalog_Contents.{Contents, IsLawful};
 ghost use Rattle.sql_query.specs.Queries.{Query};
 ghost use Rattle.cost_rules.specs.Costs.{IsAtMost};
 ghost use Rattle.pathkeys.specs.Keys.{Keys};

@@ -32,6 +32,7 @@ pub use laws::{
 pub use make::{conditions_found, names_exactly, offer_scan, others_named, scan_path};
 pub use parts::{Served, arm_part_of, index_part_of, index_served};
 pub use path::Path;
+pub use pathkeys;
 pub use plan::Plan;
 pub use pricing::{arms_at, bitmap_scan_cost, cost, use_tree};
 pub use scans::{bounds_and_tests, index_scan_cost, seq_scan_cost};

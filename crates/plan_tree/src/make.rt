@@ -5,7 +5,7 @@ ghost use Rattle.std.specs.List.{list_any};
 ghost use Rattle.pg_base.specs.Sets.{has};
 ghost use Rattle.pg_expr.specs.AtomSets.{contains};
 ghost use Rattle.pg_expr.specs.Columns.{names_rel};
-ghost use Rattle.catalog.specs.Contents.{IsIndex};
+ghost use Rattle.sql_query.specs.catalog_Contents.{IsIndex};
 ghost use Rattle.cost_rules.specs.declared.parameters.TheConstants.{MOST_COST};
 ghost use Rattle.cost_rules.specs.Costs.{capped_pair};
 ghost use Rattle.eq_classes.specs.Clauses.{one};
@@ -31,7 +31,6 @@ use crate::path::Path;
 use crate::plan::Plan;
 use crate::scans::bounds_and_tests;
 use crate::window::startup_of;
-use catalog::Catalog;
 use cost_rules::{MOST_COST, Pair};
 use eq_classes::ClauseSet;
 use index_match::conditions;
@@ -40,6 +39,7 @@ use pathkeys::Keys;
 use pg_base::{IndexNo, Memory, RelNo, RelSet};
 use pg_expr::rels;
 use sql_query::Prepared;
+use sql_query::catalog::Catalog;
 use std::alloc::AllocError;
 
 /// The conditions of an index for a scan of a relation with a parameterisation: its bounds and its tests, by clause

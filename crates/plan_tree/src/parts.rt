@@ -6,7 +6,7 @@ ghost use Rattle.pg_base.specs.declared.limits.TheConstants.{MOST_ATOMS};
 ghost use Rattle.pg_expr.specs.AtomSets.{contains};
 ghost use Rattle.pg_expr.specs.Columns.{atom_count};
 ghost use Rattle.pg_expr.specs.View.{cond};
-ghost use Rattle.catalog.specs.Contents.{IsIndex, index_at};
+ghost use Rattle.sql_query.specs.catalog_Contents.{IsIndex, index_at};
 ghost use Rattle.cost_rules.specs.declared.parameters.TheConstants.{MOST_COST};
 ghost use Rattle.cost_rules.specs.Costs.{capped};
 ghost use Rattle.index_match.specs.Arms.{arm_bounds, arm_parts, is_matched};
@@ -22,13 +22,13 @@ ghost use Rattle.plan_tree.specs.Reads.{IsOverTables};
 
 use crate::estimates::{classes_of, range_of};
 use crate::scans::bounds_and_tests;
-use catalog::Catalog;
 use eq_classes::ClauseSet;
 use index_match::{conditions, conditions_among};
 use path_cost::{arm_part, index_part};
 use pg_base::{IndexNo, RelNo, RelSet};
 use pg_expr::Expr;
 use sql_query::Prepared;
+use sql_query::catalog::Catalog;
 
 /// The part of an index in a bitmap of a relation where the rows of `p` are given: the way down, the part of its pages
 /// that the entries within its bounds have, and each of these entries with its conditions. It is at most 10^18.

@@ -9,7 +9,7 @@ ghost use Rattle.pg_expr.specs.Columns.{atom_count};
 ghost use Rattle.pg_expr.specs.Cond.{any_of};
 ghost use Rattle.pg_expr.specs.View as view;
 ghost use Rattle.pg_expr.specs.declared.expr.Expr.{Expr};
-ghost use Rattle.catalog.specs.Contents.{Contents, IsIndex};
+ghost use Rattle.sql_query.specs.catalog_Contents.{Contents, IsIndex};
 ghost use Rattle.cost_rules.specs.declared.parameters.TheConstants.{BITMAP_CHILD, MOST_COST};
 ghost use Rattle.cost_rules.specs.Costs.{IsCost, capped, capped_pair};
 ghost use Rattle.index_match.specs.Arms.{arms_of};
@@ -33,7 +33,6 @@ use crate::parts::{arm_part_of, index_part_of};
 use crate::plan::Plan;
 use crate::scans::{bounds_and_tests, index_scan_cost, seq_scan_cost};
 use crate::sets::set_of;
-use catalog::Catalog;
 use cost_rules::{BITMAP_CHILD, MOST_COST, Pair, sort};
 use eq_classes::{ClauseSet, note};
 use index_match::conditions;
@@ -41,6 +40,7 @@ use path_cost::bitmap;
 use pg_base::{IndexNo, RelNo, RelSet};
 use pg_expr::Expr;
 use sql_query::Prepared;
+use sql_query::catalog::Catalog;
 
 /// So many parts of indexes, whose sum is given, together: each after the first is one more child.
 fn together(all: u64, count: usize) -> u64

@@ -3,7 +3,7 @@
 ghost use Rattle.std.specs.Prelude.{◌≡◌, ◌<◌, ◌&&◌, ◌||◌, ℕ, length, nat_lt};
 ghost use Rattle.pg_base.specs.Sets.{has};
 ghost use Rattle.pg_expr.specs.AtomSets.{contains};
-ghost use Rattle.catalog.specs.Contents.{IsIndex};
+ghost use Rattle.sql_query.specs.catalog_Contents.{IsIndex};
 ghost use Rattle.cost_rules.specs.Costs.{IsCost, capped_pair};
 ghost use Rattle.path_cost.specs.Costs as paths;
 ghost use Rattle.sql_query.specs.Queries.{width};
@@ -11,13 +11,13 @@ ghost use Rattle.plan_tree.specs.Costs as costs;
 ghost use Rattle.plan_tree.specs.Reads.{IsOverTables};
 
 use crate::estimates::{classes_of, range_of};
-use catalog::Catalog;
 use cost_rules::Pair;
 use eq_classes::{Classes, ClauseSet, note};
 use index_match::{Match, conditions};
 use path_cost::{index, seq};
 use pg_base::{IndexNo, RelNo, RelSet};
 use sql_query::Prepared;
+use sql_query::catalog::Catalog;
 
 /// The cost of a sequential scan of a relation.
 pub fn seq_scan_cost(cat: &Catalog, q: &Prepared, r: RelNo) -> Pair

@@ -1,7 +1,7 @@
 //! What a query's window asks of its plans.
 
 ghost use Rattle.std.specs.Prelude.{◌≡◌, ◌≤◌};
-ghost use Rattle.catalog.specs.Contents.{Contents};
+ghost use Rattle.sql_query.specs.catalog_Contents.{Contents};
 ghost use Rattle.cost_rules.specs.Costs.{IsCost, IsEstimate, capped_pair};
 ghost use Rattle.plan_tree.specs.Costs as costs;
 ghost use Rattle.plan_tree.specs.Least.{IsAdmissible};
@@ -10,8 +10,8 @@ ghost use Rattle.plan_tree.specs.Plans as plans;
 ghost use Rattle.plan_tree.specs.Views.{path};
 
 use crate::path::Path;
-use catalog::Catalog;
 use cost_rules::{Pair, price};
+use sql_query::catalog::Catalog;
 use sql_query::{Prepared, Window};
 
 /// What a path keeps of its startup: all of it where the query has a window, else 0.

@@ -3,7 +3,7 @@ use Rattle.std.proofs.Common.{◌≡◌, ◌<◌, ◌≤◌, inl, inr, ℕ, Bool
 use Rattle.std.specs.Prelude.{All, Contains, Option, None, Some}
 use Rattle.std.specs.List.{AllByRecursion}
 use Rattle.std.specs.List.Sorted.{IsPermutation}
-use Rattle.std.proofs.lemmas.Bool.{cases_lt}
+use Rattle.std.proofs.lemmas.Bool.{cases_lt, or_parts, or_from}
 use Rattle.std.proofs.lemmas.List.Elements.{All-contains, All-from_recursion, recursion_from_All, All-map, All-weaker, All-contains_itself}
 use Rattle.std.proofs.lemmas.List.Sorted.{All-permutation, Contains-permutation}
 use Rattle.std.proofs.lemmas.Map.Keys.{IsDistinct-IsPermutation, IsDistinct-from_apart, apart_from_distinct}
@@ -30,13 +30,13 @@ use Rattle.plan_tree.proofs.PathLemmas.{built-below}
 use Rattle.join_laws.proofs.WithinLemmas.{built-within}
 use Rattle.join_search.specs.Joins.{IsPathAt}
 use Rattle.join_search.specs.Tables.{Fronts}
-use Rattle.planner.proofs.BaseLemmas.{scan-most, within-most}
+use Rattle.table_texts.specs.planner_BaseLemmas.{scan-most, within-most}
 use Rattle.certificates.specs.Certificates.{Certificate, Entry, finish_at}
 use Rattle.certificates.specs.Limit.{MOST_ENTRIES}
 use Rattle.certificates.specs.Tables.{IsPlanTable}
-use Rattle.certificate_laws.specs.Kept.{AreEntriesOf, AreOf}
-use Rattle.certificate_laws.proofs.KeptLemmas.{made-table}
-use Rattle.certificate_text.specs.HasText.{HasText}
+use Rattle.kept_laws.specs.certificate_laws_Kept.{AreEntriesOf, AreOf}
+use Rattle.kept_laws.specs.certificate_laws_KeptLemmas.{made-table}
+use Rattle.table_texts.specs.certificate_text_HasText.{HasText}
 use Rattle.kept_laws.specs.Made.{tree_of}
 use Rattle.kept_laws.specs.Searched.{AreOfFronts, IsSearched}
 use Rattle.kept_laws.proofs.FrontsLemmas.{at-place, is-path, paths-kept}
@@ -119,18 +119,10 @@ either-turns x y = turns (is_at_most x y) (is_at_most y x)
     turns false true = refl
     turns false false = refl
 
-neither : (a b : Bool) → a ≡ false → b ≡ false → a || b ≡ false
-neither true b e f = absurd (true≢false e)
-neither false b e f = f
-
-both-false : (a b : Bool) → a || b ≡ false → (a ≡ false) × (b ≡ false)
-both-false true b e = absurd (true≢false e)
-both-false false b e = (refl, e)
-
 unrelated-moved : (xs ys : List Path) → IsPermutation xs ys → AreUnrelated xs → AreUnrelated ys
 unrelated-moved xs ys moved h i j d lt within =
-    let distinct = IsDistinct-from_apart either xs (λ k l x low high. let r = h k l x low high in neither (is_at_most (get_or xs k x) (get_or xs l x)) (is_at_most (get_or xs l x) (get_or xs k x)) r.0 r.1) in
-    both-false (is_at_most (get_or ys i d) (get_or ys j d)) (is_at_most (get_or ys j d) (get_or ys i d))
+    let distinct = IsDistinct-from_apart either xs (λ k l x low high. let r = h k l x low high in or_from (is_at_most (get_or xs k x) (get_or xs l x)) (is_at_most (get_or xs l x) (get_or xs k x)) r.0 r.1) in
+    or_parts (is_at_most (get_or ys i d) (get_or ys j d)) (is_at_most (get_or ys j d) (get_or ys i d))
     (apart_from_distinct either ys i j d (IsDistinct-IsPermutation either either-turns xs ys moved distinct) lt within)
 
 -- in another order they are the same paths

@@ -10,7 +10,7 @@ ghost use Rattle.plan_tree.specs.Plans as plans;
 ghost use Rattle.certificates.specs.Certificates.{plan_at, plan_by};
 ghost use Rattle.certificates.specs.Limit.{MOST_ENTRIES};
 ghost use Rattle.certificates.specs.Views as views;
-ghost use Rattle.certificate_laws.specs.Kept.{AreEntriesOf, AreOf, IsEntryOf};
+ghost use Rattle.kept_laws.specs.certificate_laws_Kept.{AreEntriesOf, AreOf, IsEntryOf};
 ghost use Rattle.kept_laws.specs.Made.{AreMadeInTurn, IsMadeAmong, IsSideAmong};
 ghost use Rattle.planned_table.specs.Gathering.{shown};
 ghost use Rattle.planned_table.specs.Numbering.{present, trees};

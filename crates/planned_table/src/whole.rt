@@ -11,14 +11,14 @@ ghost use Rattle.plan_tree.specs.Plans as plans;
 ghost use Rattle.plan_tree.specs.Space.{IsFinished, IsSameSet};
 ghost use Rattle.plan_tree.specs.Reads.{IsOverTables};
 ghost use Rattle.join_search.specs.Tables.{none, paths_at};
-ghost use Rattle.planner.specs.Finishing.{IsWhole, finished};
+ghost use Rattle.table_texts.specs.planner_Finishing.{IsWhole, finished};
 ghost use Rattle.plan_tree.specs.Views.{path};
 ghost use Rattle.pg_value.specs.Sorting.{IsInOrder};
-ghost use Rattle.planner.specs.declared.least_plan.PlanFault.TheVariants.{CostLimit};
+ghost use Rattle.table_texts.specs.planner_least_plan_PlanFault_TheVariants.{CostLimit};
 ghost use Rattle.certificates.specs.Certificates.{finish_at};
 ghost use Rattle.certificates.specs.Tables.{IsPlanTable};
 ghost use Rattle.certificates.specs.Views.{certificate};
-ghost use Rattle.certificate_text.specs.HasText.{HasText};
+ghost use Rattle.table_texts.specs.certificate_text_HasText.{HasText};
 ghost use Rattle.table_texts.specs.Arms.{HasArmsInOrs};
 ghost use Rattle.kept_laws.specs.Printing.{path_order, printing_order};
 ghost use Rattle.kept_laws.specs.Searched.{AreOfFronts, IsSearched};
@@ -34,9 +34,9 @@ use join_search::{Asked, Table, all_relations, order_asked, search};
 use pathkeys::Keys;
 use pg_base::{Memory, RelSet};
 use plan_tree::{Path, range_of};
-use planner::{PlanFault, base_table, finish, least_place, whole_paths};
 use sql_query::Prepared;
 use std::alloc::Global;
+use table_texts::planner::{PlanFault, base_table, finish, least_place, whole_paths};
 
 /// What a query is answered by, and why no other plan undercuts it.
 #[derive(Drop)]

@@ -2,7 +2,7 @@
 use Rattle.std.proofs.Common.{◌≡◌, ◌<◌, ◌+◌, ℕ, suc, Bool, true, false, not, cond, ◌&&◌, ◌||◌, nat_eq, nat_lt, List, [], ◌∷◌, length, map, take, refl, sym, ◌∙◌, ap, subst, arith, ⊎_elim}
 use Rattle.std.specs.Prelude.{All, Contains, Some}
 use Rattle.std.specs.List.{AllByRecursion, items_where_true, list_any}
-use Rattle.std.proofs.lemmas.Bool.{and_from, and_parts, eq-eqb, eqb-true, lt-ltb, ltb-true, or_cases, or_right, true≢false}
+use Rattle.std.proofs.lemmas.Bool.{and_from, and_parts, eq-eqb, eqb-true, lt-ltb, ltb-true, or_cases, or_right, true≢false, not-true}
 use Rattle.std.proofs.lemmas.List.Elements.{All-contains, All-from_recursion, All-head, All-tail, All-take}
 use Rattle.pg_base.specs.Sets.{has}
 use Rattle.pg_base.specs.declared.numbers.IndexNo.{IndexNo}
@@ -81,10 +81,6 @@ below c q k chosen n (x ∷ ks) over h = by (below c q k chosen (n + 1) ks (All-
     by : (list_any (names_rel k) (conditions_from (n + 1) chosen ks) ≡ true → k < width q) → (b : Bool) → list_any (names_rel k) (cond b (x.cond ∷ conditions_from (n + 1) chosen ks) (conditions_from (n + 1) chosen ks)) ≡ true → k < width q
     by later true g = ⊎_elim here later (or_cases (names_rel k x.cond) (list_any (names_rel k) (conditions_from (n + 1) chosen ks)) g)
     by later false g = later g
-
-not-same : (b : Bool) → not b ≡ true → b ≡ false
-not-same true h = absurd (true≢false (sym h))
-not-same false h = refl
 
 numbers-are : (P : ℕ → Type 0) (xs : List Numbered) → ((n : ℕ) → has_number xs n ≡ true → P n) → AllByRecursion (λ (x : Numbered). P x.number) xs
 numbers-are P [] given = tt
@@ -170,6 +166,6 @@ module _ (c : Contents) (q : Query) (r : RelNo) (p : RelSet) where
       passed other j is lt names =
           let x = clause_at q.classes.clauses j in
           subst (λ m. given m ≡ true) (sym (plus j)) (⊎_elim
-          (λ (own : is_base r.0 x ≡ true). absurd (true≢false (sym own ∙ names_inside (one r.0) k x.cond (not-same (nat_eq k r.0) other) names)))
+          (λ (own : is_base r.0 x ≡ true). absurd (true≢false (sym own ∙ names_inside (one r.0) k x.cond (not-true (nat_eq k r.0) other) names)))
           (λ (both : is_param r.0 (has p.0) x ≡ true). are j ∙ and_from (nat_lt j (length q.classes.clauses)) (is_param r.0 (has p.0) x) (lt-ltb j (length q.classes.clauses) lt) both)
           (or_cases (is_base r.0 x) (is_param r.0 (has p.0) x) (local j is).1))

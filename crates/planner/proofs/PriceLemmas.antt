@@ -1,8 +1,7 @@
 -- Plans in the order asked for: they are finished, and none that is admissible is of a lower price than the least of them.
 use Rattle.std.proofs.Common.{◌≡◌, ◌⊎◌, ◌<◌, ◌≤◌, ◌+◌, ℕ, inl, inr, suc, Bool, true, false, cond, nat_lt, List, [], ◌∷◌, length, refl, sym, ap, subst, le_refl, le_trans, true≢false, arith}
 use Rattle.std.specs.Prelude.{All, Contains, Option, None, Some}
-use Rattle.std.proofs.lemmas.Bool.{cases_lt}
-use Rattle.std.proofs.lemmas.Bool.Decides.{nat_tests}
+use Rattle.std.proofs.lemmas.Bool.{cases_lt, lt-ltb}
 use Rattle.std.proofs.lemmas.List.Elements.{All-contains}
 use Rattle.catalog.specs.Contents.{Contents}
 use Rattle.cost_rules.specs.Costs.{sort_work}
@@ -20,14 +19,11 @@ use Rattle.plan_tree.specs.Paths.{Path}
 use Rattle.plan_tree.proofs.BoundLemmas.{asked-most, some-rows, sort-most, startup-most}
 use Rattle.plan_tree.proofs.WindowLemmas.{startup-from}
 use Rattle.cost_rules.specs.declared.parameters.TheConstants.{MOST_COST}
-use Rattle.join_laws.specs.Useful.{IsBelow, floor_by}
-use Rattle.join_laws.proofs.LeastLemmas.{finished-plain, floor-price}
-use Rattle.join_laws.proofs.UsefulLemmas.{child-below, sort-stands}
+use Rattle.join_search.specs.join_laws_Useful.{IsBelow, floor_by}
+use Rattle.join_search.specs.join_laws_LeastLemmas.{finished-plain, floor-price}
+use Rattle.join_search.specs.join_laws_UsefulLemmas.{child-below, sort-stands}
 use Rattle.join_search.specs.declared.useful.Asked.{Asked}
 use Rattle.planner.specs.Finishing.{AreCandidates, IsLeastOf, IsWhole, finished, finished_price}
-
-some-length : (n : ℕ) → nat_lt 0 (suc n) ≡ true
-some-length n = grind (arith, nat_tests)
 
 startup-refl : (w : Option Window) (n : ℕ) → IsStartupAtMost w n n
 startup-refl None n = tt
@@ -59,7 +55,7 @@ module _ (c : Contents) (q : Query) where
   -- what is not covered is not empty
   not-empty : (a keys : Keys) → covers a keys ≡ false → nat_lt 0 (length keys) ≡ true
   not-empty a [] e = absurd (true≢false e)
-  not-empty a (k ∷ keys) e = some-length (length keys)
+  not-empty a (k ∷ keys) e = lt-ltb 0 (suc (length keys)) (omega arith)
 
   whole-finished : (t : Plan) → IsPlanOf c q (all_of_query q) empty t → (b : Bool) → covers (keys_of c q t) (order_keys q.classes q.order) ≡ b →
       IsFinished c q (cond b t (sort (order_keys q.classes q.order) t))

@@ -12,7 +12,7 @@ use Rattle.plan_tree.specs.Least.{IsAdmissible}
 use Rattle.plan_tree.specs.Paths.{Path, HasItsNumbers}
 use Rattle.plan_tree.specs.Plans.{Plan, empty, sort}
 use Rattle.plan_tree.specs.Space.{IsPlanOf}
-use Rattle.join_laws.specs.Useful.{IsBelow}
+use Rattle.join_search.specs.join_laws_Useful.{IsBelow}
 use Rattle.join_search.specs.Sufficing.{HasSufficient}
 use Rattle.join_search.specs.declared.useful.Asked.{Asked}
 
@@ -33,6 +33,7 @@ module _ (c : Contents) (q : Query) where
   abbrev pub finished : Plan → Plan
   finished t = cond (covers (keys_of c q t) (order_keys q.classes q.order)) t (sort (order_keys q.classes q.order) t)
 
+  -- the price of a plan in the order asked for, with its sort where it needs one
   abbrev pub finished_price : Plan → ℕ
   finished_price t = price c q (finished t)
 

@@ -10,4 +10,5 @@ mod near;
 
 pub use base::base_table;
 pub use finishing::{Least, finish, least_place};
+pub use join_search;
 pub use least_plan::{PlanFault, Planned, plan, whole_paths};

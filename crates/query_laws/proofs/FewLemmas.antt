@@ -5,7 +5,7 @@ use Rattle.pg_base.specs.declared.limits.TheConstants.{MOST_ATOMS}
 use Rattle.pg_expr.specs.declared.operand.ColRef.{ColRef}
 use Rattle.pg_expr.specs.Columns.{atom_count, atom_count_of, each_column}
 use Rattle.pg_expr.specs.Cond.{Cond, conds_of}
-use Rattle.catalog.specs.Contents.{Contents}
+use Rattle.sql_query.specs.catalog_Contents.{Contents}
 use Rattle.eq_classes.specs.declared.order.OrderItem.{OrderItem}
 use Rattle.eq_classes.specs.Classes.{Class}
 use Rattle.eq_classes.specs.Clauses.{Clause}

@@ -9,13 +9,13 @@ use Rattle.pg_value.specs.declared.value.SqlType.{SqlType}
 use Rattle.pg_value.specs.declared.value.Value.{Value}
 use Rattle.pg_value.specs.declared.value.Value.TheVariants.{Null, Int, Bool as Flag, Text as String}
 use Rattle.pg_value.specs.Types.{IsOfType}
-use Rattle.catalog.specs.Contents.{TableDef, no_table, table_at}
-use Rattle.catalog.specs.Range.{relation_at, type_in}
+use Rattle.sql_query.specs.catalog_Contents.{TableDef, no_table, table_at}
+use Rattle.sql_query.specs.catalog_Range.{relation_at, type_in}
 use Rattle.heap.specs.Stored.{Stored, Values, IsValueOf}
 use Rattle.eq_classes.specs.Holding.{Fits}
 use Rattle.sql_query.specs.Queries.{Query}
 use Rattle.sql_query.specs.Tuples.{Tuple, row_of, rows_of_relation, value_at}
-use Rattle.catalog.specs.Indexes.{no_column}
+use Rattle.sql_query.specs.catalog_Indexes.{no_column}
 use Rattle.sql_query.specs.Worlds.{World, Holds, IsWorld, nothing_stored, stored_at}
 
 null_fits : (t : SqlType) → IsOfType t Null

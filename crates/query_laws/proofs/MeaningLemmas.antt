@@ -1,6 +1,7 @@
 -- The clauses of a well bound query mean its conditions.
-use Rattle.std.proofs.Common.{◌≡◌, ℕ, Bool, true, ◌&&◌, nat_lt, nat_eq, ◌<◌, List, [], ◌∷◌, arith, refl, sym, ap, ◌∙◌}
+use Rattle.std.proofs.Common.{◌≡◌, ℕ, Bool, ◌&&◌, nat_lt, nat_eq, List, [], ◌∷◌, arith, refl, sym, ap, ◌∙◌}
 use Rattle.std.proofs.lemmas.Grind.{common_steps}
+use Rattle.std.proofs.lemmas.Bool.{lt-ltb}
 use Rattle.std.specs.List.{list_all}
 use Rattle.pg_value.specs.declared.operators.Truth.{Truth}
 use Rattle.pg_value.specs.declared.operators.Truth.TheVariants.{True, False, Unknown}
@@ -33,16 +34,13 @@ pub all_is_each : (b : ColRef → Value) (es : List Cond) → is_true (truth_of_
 all_is_each b [] = refl
 all_is_each b (e ∷ es) = is_true_both (truth_at b e) (truth_of_all b (conds_of es)) ∙ ap (λ (v : Bool). is_true (truth_at b e) && v) (all_is_each b es)
 
-some_inside : (n : ℕ) → 0 < n → nat_lt 0 n ≡ true
-some_inside n lt = grind (arith, common_steps)
-
 only_first : (n k : ℕ) → n ≡ 1 → nat_lt k n ≡ nat_eq k 0
 only_first n k one = grind (arith, common_steps)
 
 module _ (w : World) (q : Query) (t : Tuple) (world : IsWorld w) (is : IsWellBound w.contents q) where
   pub clauses_mean : hold (value_at w q t) (is_all (all_of_query q)) q.classes.clauses ≡ all_true w q t q.where_all
   clauses_mean =
-      where_at (given_with w.contents q is.items) q.classes is.classes q.where_all (value_at w q t) (all_of_query q) refl is.typed (values_fit w q t world) (some_inside (width q) is.range.some)
+      where_at (given_with w.contents q is.items) q.classes is.classes q.where_all (value_at w q t) (all_of_query q) refl is.typed (values_fit w q t world) (lt-ltb 0 (width q) is.range.some)
       (conditions_inside w.contents q is)
       ∙ all_is_each (value_at w q t) q.where_all
 

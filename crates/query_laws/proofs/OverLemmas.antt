@@ -1,11 +1,10 @@
 -- The conditions and clauses of a well bound query name columns of its relations, and are well typed.
-use Rattle.std.proofs.Common.{◌≡◌, ℕ, Bool, true, ◌<◌, nat_lt, All, Contains, arith, subst}
-use Rattle.std.proofs.lemmas.Bool.{and_from}
-use Rattle.std.proofs.lemmas.Grind.{common_steps}
+use Rattle.std.proofs.Common.{◌≡◌, Bool, true, All, Contains, subst}
+use Rattle.std.proofs.lemmas.Bool.{and_from, lt-ltb}
 use Rattle.pg_expr.specs.declared.operand.ColRef.{ColRef}
 use Rattle.pg_expr.specs.Columns.{each_column}
 use Rattle.pg_expr.specs.Cond.{Cond}
-use Rattle.catalog.specs.Contents.{Contents}
+use Rattle.sql_query.specs.catalog_Contents.{Contents}
 use Rattle.eq_classes.specs.declared.order.OrderItem.{OrderItem}
 use Rattle.eq_classes.specs.Clauses.{Clause}
 use Rattle.eq_classes.proofs.ColumnLemmas.{clause_passes}
@@ -16,14 +15,11 @@ use Rattle.path_cost.specs.Columns.{is_column_in, IsOver}
 use Rattle.sql_query.specs.Queries.{Query, all_of_query}
 use Rattle.sql_query.specs.WellBound.{given_with, IsColumnOf, IsWellBound, NamesOnly}
 
-below : (a b : ℕ) → a < b → nat_lt a b ≡ true
-below a b lt = grind (arith, common_steps)
-
 module _ (c : Contents) (q : Query) (is : IsWellBound c q) where
   pub used_is : (x : ColRef) → IsIn x q.used → is_column_in c q.range x ≡ true
   used_is x i =
       let of : IsColumnOf c q.range x = all_at (IsColumnOf c q.range) q.used is.used x i in
-      and_from _ _ (below _ _ of.relation) (below _ _ of.column)
+      and_from _ _ (lt-ltb _ _ of.relation) (lt-ltb _ _ of.column)
 
   -- a test that the columns of the relations pass, each condition's pass
   pub conditions_pass : (test : ColRef → Bool) → ((x : ColRef) → IsIn x q.used → test x ≡ true) → All (λ w. each_column test w ≡ true) q.where_all
@@ -32,7 +28,7 @@ module _ (c : Contents) (q : Query) (is : IsWellBound c q) where
       (λ w i. all_at (NamesOnly q.used) q.where_all is.conditions w i test (all_from (λ x. test x ≡ true) q.used pass))
 
   pub conditions_inside : All (λ w. each_column (λ x. all_of_query q x.rel.0) w ≡ true) q.where_all
-  conditions_inside = conditions_pass (λ x. all_of_query q x.rel.0) (λ x i. below _ _ (all_at (IsColumnOf c q.range) q.used is.used x i).relation)
+  conditions_inside = conditions_pass (λ x. all_of_query q x.rel.0) (λ x i. lt-ltb _ _ (all_at (IsColumnOf c q.range) q.used is.used x i).relation)
 
   -- the columns of the items of which its classes are made are named
   pub item_used : (i : OrderItem) → IsIn i is.items → IsIn i.col q.used

@@ -3,7 +3,7 @@
 ghost use Rattle.std.specs.Prelude.{◌≡◌, ◌≤◌, All, length};
 ghost use Rattle.pg_base.specs.declared.limits.TheConstants.{MOST_ATOMS};
 ghost use Rattle.pg_expr.specs.Columns.{atom_count};
-ghost use Rattle.catalog.specs.Contents.{Contents};
+ghost use Rattle.sql_query.specs.catalog_Contents.{Contents};
 ghost use Rattle.eq_classes.specs.Clauses.{Clause};
 ghost use Rattle.eq_classes.specs.Holding.{hold, Fits};
 ghost use Rattle.eq_classes.specs.Parts.{is_all, is_base};
@@ -12,7 +12,7 @@ ghost use Rattle.sql_query.specs.Meaning.{all_true};
 ghost use Rattle.sql_query.specs.Queries.{Query, all_of_query, width};
 ghost use Rattle.sql_query.specs.Tuples.{Tuple, value_at};
 ghost use Rattle.sql_query.specs.WellBound.{IsWellBound};
-ghost use Rattle.catalog.specs.Range.{type_in};
+ghost use Rattle.sql_query.specs.catalog_Range.{type_in};
 ghost use Rattle.sql_query.specs.Worlds.{World, IsWorld};
 
 /// At a tuple of a world each column has a value that is NULL or of its type.

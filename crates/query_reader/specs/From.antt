@@ -60,6 +60,7 @@ is_taken range alias = list_any (λ r. bytes_eq alias r.1) range
 abbrev pub under_alias : Joined → TableNo → Spelled → Result Joined Fault
 under_alias j table alias = cond (is_taken j.range alias.bytes) (Err (fault_at S7 alias.token)) (Ok (record j { range = j.range ++ (table, alias.bytes) ∷ [] }))
 
+-- one more relation, where its table's name was looked up; it is at fault at that name where there is no such table
 abbrev pub of_table : Joined → Option TableNo → Source → Result Joined Fault
 of_table j None source = Err (fault_at S2 source.table.token)
 of_table j (Some table) source = under_alias j table (alias_or source.alias source.table)
@@ -80,6 +81,7 @@ abbrev pub with_join : ℕ → Joined → Join → Result Joined Fault
 with_join first j (join_on _ _ r _ e) = next (with_relation j (source_of r)) (λ i. with_condition first i e)
 with_join first j (cross_join _ _ r) = with_relation j (source_of r)
 
+-- joins in that group from the left: a condition sees no relation that a later join adds
 abbrev pub with_joins : ℕ → Joined → List Join → Result Joined Fault
 with_joins first j [] = Ok j
 with_joins first j (x ∷ xs) = next (with_join first j x) (λ i. with_joins first i xs)

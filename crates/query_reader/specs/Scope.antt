@@ -34,6 +34,7 @@ pub record Sight : Type 0 where
   pub range : Range
   pub first : ℕ
 
+-- the columns that a name can mean: those of the relations that are visible
 abbrev pub visible_in : Sight → Scope
 visible_in s = scope_after s.contents s.first s.range
 

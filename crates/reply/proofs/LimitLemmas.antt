@@ -5,7 +5,7 @@ use Rattle.std.proofs.Math.Numerals.{add-one}
 use Rattle.std.proofs.lemmas.Bool.Decides.{nat_tests}
 use Rattle.std.proofs.lemmas.List.{drop-drop, length-drop}
 use Rattle.std.proofs.lemmas.List.Elements.{filter-append}
-use Rattle.scan_exec.specs.Coming.{Coming, behind, is_given, owed}
+use Rattle.executor.specs.scan_exec_Coming.{Coming, behind, is_given, owed}
 use Rattle.sql_query.specs.Meaning.{up_to, windowed}
 use Rattle.sql_query.specs.Tuples.{Tuple}
 use Rattle.sql_query.specs.declared.window.Window.{Window}

@@ -1,6 +1,6 @@
 -- The rows and the price of a finished path.
-use Rattle.std.proofs.Common.{◌≡◌, ◌≤◌, ◌*◌, ℕ, Bool, true, false, ◌||◌, List, [], ◌∷◌, refl, sym, ◌∙◌, ap, ap₂, subst, arith, Option, Some, None}
-use Rattle.std.specs.Prelude.{fold}
+use Rattle.std.proofs.Common.{◌≡◌, ◌≤◌, ◌*◌, ℕ, sym, ◌∙◌, ap, ap₂, subst, arith, Option, Some, None}
+use Rattle.std.proofs.Math.Bool.{or_self}
 use Rattle.catalog.specs.Contents.{Contents}
 use Rattle.cost_rules.specs.Costs.{IsEstimate, capped_pair}
 use Rattle.cost_rules.specs.Powers.{clamped}
@@ -21,17 +21,7 @@ use Rattle.plan_tree.specs.Plans.{given_scan, nest, set_of}
 use Rattle.plan_tree.proofs.BoundLemmas.{some-rows, startup-most}
 use Rattle.plan_tree.proofs.LikeLemmas.{given-like}
 use Rattle.plan_tree.proofs.WindowLemmas.{uncut-kept}
-
-most-clamped : (n : ℕ) → clamped n ≤ MOST_ESTIMATE
-most-clamped n = omega arith
-
-most-folded : {A : Type 0} (f : ℕ → A → ℕ) → ((m : ℕ) (a : A) → f m a ≤ MOST_ESTIMATE) → (n : ℕ) (xs : List A) → n ≤ MOST_ESTIMATE → fold f n xs ≤ MOST_ESTIMATE
-most-folded f most n [] h = h
-most-folded f most n (x ∷ xs) h = most-folded f most (f n x) xs (most n x)
-
-or-self : (b : Bool) → b ≡ b || b
-or-self true = refl
-or-self false = refl
+use Rattle.planner.proofs.EstimateLemmas.{most-clamped, most-folded}
 
 module _ (c : Contents) (q : Query) (p : Path) (h : IsFinishedPath c q p) where
   most-rows : (set : Set) → set_rows c q.range q.classes set ≤ MOST_ESTIMATE
@@ -42,7 +32,7 @@ module _ (c : Contents) (q : Query) (p : Path) (h : IsFinishedPath c q p) where
 
   -- it is no scan that is given rows
   given-none : given_scan p.tree ≡ None
-  given-none = given-like p.tree (nest p.tree p.tree) (record { set = λ k. or-self (set_of p.tree k); param = λ k. h.finished.param_is k })
+  given-none = given-like p.tree (nest p.tree p.tree) (record { set = λ k. sym (or_self (set_of p.tree k)); param = λ k. h.finished.param_is k })
 
   -- its rows are those of the query
   pub rows-are : p.rows ≡ query_rows c q

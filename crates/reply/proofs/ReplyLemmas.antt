@@ -11,8 +11,8 @@ use Rattle.sql_query.specs.Worlds.{World}
 use Rattle.plan_tree.specs.Counts.{fetches, looks}
 use Rattle.plan_tree.specs.Least.{IsBestPlan}
 use Rattle.plan_tree.specs.Plans.{Plan}
-use Rattle.scan_exec.specs.Coming.{Coming, coming}
-use Rattle.join_laws.specs.Closed.{is_scan}
+use Rattle.executor.specs.scan_exec_Coming.{Coming, coming}
+use Rattle.executor.specs.join_laws_Closed.{is_scan}
 use Rattle.executor.specs.Reading.{Reading}
 use Rattle.explain.specs.Texts.{explained_text}
 use Rattle.reply.specs.Answers.{result_text, tuples_of}

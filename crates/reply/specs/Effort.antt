@@ -8,8 +8,8 @@ use Rattle.sql_query.specs.Worlds.{World}
 use Rattle.sql_query.specs.declared.window.Window.{Window}
 use Rattle.plan_tree.specs.Counts.{MOST_READS, fetches, looks}
 use Rattle.plan_tree.specs.Plans.{Plan}
-use Rattle.scan_exec.specs.Coming.{Coming, coming, is_given, owed}
-use Rattle.join_laws.specs.Closed.{is_scan}
+use Rattle.executor.specs.scan_exec_Coming.{Coming, coming, is_given, owed}
+use Rattle.executor.specs.join_laws_Closed.{is_scan}
 use Rattle.reply.specs.Answers.{tuples_of}
 
 -- by how much a count rises: at most by so much, and by so much exactly once a reply is whole, where that is told
@@ -21,6 +21,7 @@ pub record Rise : Type 0 where
 abbrev pub exactly : ℕ → Rise
 exactly n = record { most = n; whole = Some n }
 
+-- a count rose by no more than that, and by just so much where that is told
 pub record HasRisen (rise : Rise) (old new : ℕ) : Type 0 where
   pub within : new ≤ old + rise.most
   pub exact : IfSome rise.whole (λ n. new ≡ old + n)
@@ -31,20 +32,22 @@ through test zero xs = []
 through test (suc n) [] = []
 through test (suc n) (x ∷ xs) = x ∷ through test (cond (test x) n (suc n)) xs
 
--- how many tuples are passed over, and how many are shown at most, where LIMIT is written
+-- how many tuples are passed over
 abbrev pub offset_in : Option Window → ℕ
 offset_in None = 0
 offset_in (Some w) = w.offset
 
+-- how many tuples are shown at most, where LIMIT is written
 abbrev pub limit_in : Option Window → Option ℕ
 limit_in None = None
 limit_in (Some w) = w.limit
 
--- the number of the last tuple that is drawn, where LIMIT is written
+-- the number of the last tuple that is drawn, by how many are passed over and shown at most; none without LIMIT
 abbrev pub last_by : ℕ → Option ℕ → Option ℕ
 last_by offset None = None
 last_by offset (Some limit) = Some (offset + limit)
 
+-- the same for the window of a query
 abbrev pub last_in : Option Window → Option ℕ
 last_in w = last_by (offset_in w) (limit_in w)
 
@@ -66,9 +69,10 @@ looked_by None all shown = all + MOST_READS * shown
 looked_by (Some n) all shown = cond (nat_eq n 0) 0 (all + MOST_READS * shown)
 
 module _ (w : World) (q : Query) (p : Plan) where
-  -- what the answer by a plan fetches, and how often it looks at most
+  -- what the answer by a plan fetches
   abbrev pub answer_fetches : Rise
   answer_fetches = fetched_by (last_in q.window) (length (tuples_of w q p)) (fetches w q p (no_rows q)) (is_scan p) (coming w q p (no_rows q))
 
+  -- how often it looks at most at an index entry or a row that was found already
   abbrev pub answer_looks : ℕ
   answer_looks = looked_by (last_in q.window) (looks w q p (no_rows q)) (length (windowed q.window (tuples_of w q p)))

@@ -1,7 +1,7 @@
 -- A query over a store of its catalogue, whose reply is written. Own.
 use Rattle.sql_query.specs.WellBound.{IsWellBound}
 use Rattle.sql_query.specs.Worlds.{World, world}
-use Rattle.store.specs.Kept.{IsStoreOf}
+use Rattle.executor.specs.store_Kept.{IsStoreOf}
 use Rattle.reply.specs.declared.setting.Setting.{Setting}
 
 -- what it stands for

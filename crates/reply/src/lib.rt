@@ -12,8 +12,11 @@ mod setting;
 mod shown;
 mod stop;
 
+pub use explain;
 pub use measuring::{Measured, measure};
 pub use pending::{flush, put};
+pub use planner;
+pub use planner::join_search;
 pub use print::{answer, explain_query, put_result};
 pub use rows::rows_at;
 pub use setting::Setting;

@@ -6,7 +6,7 @@ ghost use Rattle.pg_base.specs.Writing.{AppendsPrefix};
 ghost use Rattle.sql_query.specs.Meaning.{windowed};
 ghost use Rattle.sql_query.specs.WellBound.{IsWellBound};
 ghost use Rattle.sql_query.specs.Worlds.{world};
-ghost use Rattle.store.specs.Kept.{IsStoreOf};
+ghost use Rattle.executor.specs.store_Kept.{IsStoreOf};
 ghost use Rattle.plan_tree.specs.Least.{IsBestPlan};
 ghost use Rattle.plan_tree.specs.Paths.{IsFinishedPath};
 ghost use Rattle.plan_tree.specs.Views.{path};
@@ -24,16 +24,16 @@ use crate::setting::Setting;
 use crate::shown::shown_text;
 use crate::stop::{Broken, Stop};
 use catalog::Catalog;
+use executor::order_laws::finished_plans_are_ordered;
+use executor::plan_laws::plans_give_their_tuples;
+use executor::store::Store;
 use executor::{Rows, tuples_have_rows};
 use heap::Counters;
-use order_laws::finished_plans_are_ordered;
 use pg_base::{Sink, Steps};
-use plan_laws::plans_give_their_tuples;
 use plan_tree::Path;
 use row_text::count_line;
 use sql_query::Prepared;
 use std::alloc::Global;
-use store::Store;
 
 /// Prints the answer to a query: the text of a plan that no admissible one undercuts in price, a line for each row
 /// that the plan gives, in its order, which is that of ORDER BY, and the number of these rows. They are the query's meaning,

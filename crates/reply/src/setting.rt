@@ -1,10 +1,10 @@
 //! What a reply is made from.
 
 use catalog::Catalog;
+use executor::store::Store;
 use heap::Counters;
 use sql_query::Prepared;
 use std::alloc::Global;
-use store::Store;
 
 /// A query over a store of its catalogue, and where memory comes from (PostgreSQL, src/include/nodes/execnodes.h, EState).
 #[derive(Drop)]

@@ -53,23 +53,27 @@ data_of s = copied (codes "a") s 0 50 500 ++ copied (codes "b") (drawn s 1000) 1
 abbrev pub between : List ℕ → ℕ → List ℕ → List ℕ
 between before n behind = before ++ decimal n ++ behind
 
--- the rows of a group in order; pairs of rows below a value; rows of three tables from one row on; rows of one value or another;
--- pairs of rows of one value; and pairs of rows of one table from one row on
+-- the rows of one group, in an order that an index has
 abbrev pub group_query : ℕ → List ℕ
 group_query g = between (codes "SELECT * FROM a WHERE g = ") g (codes " ORDER BY v;\n")
 
+-- a join of two tables, with a range of values of one
 abbrev pub pair_query : ℕ → List ℕ
 pair_query v = between (codes "SELECT a.id, b.id FROM a, b WHERE a.id = b.a_id AND a.v < ") v (codes ";\n")
 
+-- a join of three tables in a chain, from one row of the first, sorted by a column of the last
 abbrev pub chain_query : ℕ → List ℕ
 chain_query id = between (codes "SELECT a.id, c.id FROM a, b, c WHERE a.id = b.a_id AND b.id = c.b_id AND a.id = ") id (codes " ORDER BY c.v;\n")
 
+-- rows of one table by an OR of two columns, each with an index
 abbrev pub either_query : ℕ → ℕ → List ℕ
 either_query id v = between (codes "SELECT id FROM c WHERE b_id = ") id (codes " OR v = ") ++ (decimal v ++ codes ";\n")
 
+-- a join of two tables, with one value of a column that has an index
 abbrev pub value_query : ℕ → List ℕ
 value_query v = between (codes "SELECT b.id FROM b, c WHERE b.id = c.b_id AND c.v = ") v (codes ";\n")
 
+-- a table joined with itself: the rows of one row's group, sorted
 abbrev pub self_query : ℕ → List ℕ
 self_query id = between (codes "SELECT x.id, y.id FROM a x, a y WHERE x.g = y.g AND x.id = ") id (codes " ORDER BY y.v;\n")
 

@@ -23,7 +23,7 @@ use Rattle.plan_tree.specs.Plans.{BitTree}
 use Rattle.plan_tree.specs.Reads.{IsOverTables}
 use Rattle.plan_tree.specs.Space.{IsBitmapScan, IsIndexScan, IsSameSet, others_named}
 use Rattle.plan_tree.proofs.ConditionLemmas.{conditions-listed}
-use Rattle.entry_check.proofs.WorkLemmas.{within-most}
+use Rattle.join_cover.specs.entry_check_WorkLemmas.{within-most}
 
 -- the conditions of clauses over some relations name no others
 below : (c : Contents) (q : Query) (k : ℕ) (chosen : ℕ → Bool) (n : ℕ) (ks : List Clause) → All (λ (x : Clause). IsOver c q.range x.cond) ks → list_any (names_rel k) (conditions_from n chosen ks) ≡ true → k < width q

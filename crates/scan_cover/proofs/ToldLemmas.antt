@@ -19,10 +19,10 @@ use Rattle.plan_check.specs.Plains.{StandsForPlan}
 use Rattle.plan_check.specs.Reasons.{AllRight}
 use Rattle.plan_check.specs.declared.verdict.Plain.{Plain}
 use Rattle.plan_check.proofs.BeatingLemmas.{beaten-dominated, kept, unbeaten-none}
-use Rattle.entry_check.specs.Owning.{AreNumbersOf, tree_of}
-use Rattle.entry_check.specs.declared.numbers.Own.{Own}
-use Rattle.entry_check.specs.declared.scans.ByIndex.{ByIndex}
-use Rattle.entry_check.proofs.ScanLemmas.{tree-param, tree-plain, tree-set}
+use Rattle.join_cover.specs.entry_check_Owning.{AreNumbersOf, tree_of}
+use Rattle.join_cover.specs.entry_check_numbers_Own.{Own}
+use Rattle.join_cover.specs.entry_check_scans_ByIndex.{ByIndex}
+use Rattle.join_cover.specs.entry_check_ScanLemmas.{tree-param, tree-plain, tree-set}
 use Rattle.join_cover.specs.Serving.{IsOpen, IsServed}
 use Rattle.join_cover.specs.declared.uncovered.Uncovered.{Uncovered}
 use Rattle.scan_cover.specs.Scanning.{IsLeftOpen, IsScanWith}

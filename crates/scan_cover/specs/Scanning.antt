@@ -14,8 +14,8 @@ use Rattle.plan_tree.specs.Plans.{Plan, seq, index, index_only}
 use Rattle.certificates.specs.Certificates.{Certificate, Entry}
 use Rattle.certificates.specs.Tables.{HasItsPlan}
 use Rattle.plan_check.specs.Beating.{IsUnbeaten, as_entry}
-use Rattle.entry_check.specs.Owning.{AreNumbersOf}
-use Rattle.entry_check.specs.declared.numbers.Own.{Own}
+use Rattle.join_cover.specs.entry_check_Owning.{AreNumbersOf}
+use Rattle.join_cover.specs.entry_check_numbers_Own.{Own}
 use Rattle.join_cover.specs.Serving.{IsServed}
 use Rattle.join_cover.specs.declared.uncovered.Uncovered.{Uncovered}
 

@@ -12,16 +12,16 @@ ghost use Rattle.certificates.specs.Views.{certificate};
 ghost use Rattle.plan_check.specs.Placing.{ArePlaced};
 ghost use Rattle.plan_check.specs.Reasons.{AllRight};
 ghost use Rattle.plan_check.specs.declared.verdict.Plain.TheVariants as plain;
-ghost use Rattle.entry_check.specs.Owning.{tree_of};
+ghost use Rattle.join_cover.specs.entry_check_Owning.{tree_of};
 ghost use Rattle.join_cover.specs.Serving.{IsOpen, IsServed};
 ghost use Rattle.scan_cover.specs.Scanning.{IsIndexServed};
 
 use crate::numbers::open_with;
 use arrayvec::ArrayVec;
 use catalog::Catalog;
-use entry_check::{ByIndex, is_built, key_at, numbers_of, rows_given};
 use eq_classes::ClassNo;
 use join_cover::Uncovered;
+use join_cover::entry_check::{ByIndex, is_built, key_at, numbers_of, rows_given};
 use pg_base::{IndexNo, MOST_COLUMNS, RelNo, RelSet};
 use plan_check::{Judged, Plain};
 use plan_tree::{index_scan_cost, kept_of};

@@ -6,5 +6,7 @@ mod indexes;
 mod numbers;
 mod relations;
 
+pub use join_cover;
+pub use join_cover::entry_check;
 pub use numbers::open_with;
 pub use relations::{indexes_of, open_plain_scan};

@@ -13,9 +13,9 @@ ghost use Rattle.plan_check.specs.declared.verdict.Plain.{Plain};
 ghost use Rattle.join_cover.specs.Serving.{IsOpen, IsServed};
 ghost use Rattle.scan_cover.specs.Scanning.{IsLeftOpen, IsScanWith};
 
-use entry_check::Own;
 use eq_classes::ClassNo;
 use join_cover::Uncovered;
+use join_cover::entry_check::Own;
 use pg_base::RelSet;
 use plan_check::{Candidate, Judged, counted, is_covered};
 

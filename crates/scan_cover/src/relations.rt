@@ -19,9 +19,9 @@ ghost use Rattle.scan_cover.specs.Scanning.{ArePlainScansServed, IsIndexServed, 
 use crate::indexes::open_by_index;
 use crate::numbers::open_with;
 use catalog::Catalog;
-use entry_check::{all_relations, numbers_of};
 use join_cover::Uncovered;
-use join_work::set_rows;
+use join_cover::entry_check::{all_relations, numbers_of};
+use join_cover::join_work::set_rows;
 use pg_base::{IndexNo, RelNo, RelSet};
 use plan_check::{Judged, Plain};
 use plan_tree::{kept_of, range_of, seq_scan_cost};

@@ -4,6 +4,7 @@ use Rattle.std.specs.List.{enumerate_from, list_all, list_any, range_with_len}
 use Rattle.std.proofs.lemmas.Bool.{and_parts}
 use Rattle.std.proofs.lemmas.List.{get_or_default, reverse-append}
 use Rattle.std.proofs.lemmas.List.Folds.{list_any-append}
+use Rattle.std.proofs.lemmas.Simd.{map-map}
 use Rattle.pg_base.specs.Sets.{has}
 use Rattle.pg_base.specs.declared.numbers.ColNo.{ColNo}
 use Rattle.pg_base.specs.declared.numbers.IndexNo.{IndexNo}
@@ -28,7 +29,7 @@ use Rattle.eq_classes.proofs.ColumnLemmas.{clause_passes}
 use Rattle.eq_classes.proofs.HoldLemmas.{in_map}
 use Rattle.eq_classes.proofs.ListLemmas.{IsIn, all_at, all_from, in_filter, in_left, in_parts}
 use Rattle.eq_classes.proofs.WrittenLemmas.{in_columns}
-use Rattle.query_laws.proofs.OverLemmas.{conditions_pass, item_used}
+use Rattle.scan_probes.specs.query_laws_OverLemmas.{conditions_pass, item_used}
 use Rattle.btree_index.specs.Tree.{in_direction}
 use Rattle.index_match.specs.Bounds.{index_bounds}
 use Rattle.index_match.specs.Conditions.{index_conditions, is_condition}
@@ -58,10 +59,6 @@ use Rattle.scan_exec.proofs.SeekLemmas.{at_entries, filter_in_same, lawful}
 pub map_in_same : {A B : Type 0} (f g : A → B) (xs : List A) → ((x : A) → IsIn x xs → f x ≡ g x) → map f xs ≡ map g xs
 map_in_same f g [] h = refl
 map_in_same f g (x ∷ xs) h = ap₂ (λ y l. y ∷ l) (h x (inl refl)) (map_in_same f g xs (λ y i. h y (inr i)))
-
-pub map_of_map : {A B D : Type 0} (g : B → D) (f : A → B) (xs : List A) → map g (map f xs) ≡ map (λ x. g (f x)) xs
-map_of_map g f [] = refl
-map_of_map g f (x ∷ xs) = ap (λ l. g (f x) ∷ l) (map_of_map g f xs)
 
 pub filter_of_map : {A B : Type 0} (test : B → Bool) (f : A → B) (xs : List A) → filter test (map f xs) ≡ map f (filter (λ x. test (f x)) xs)
 filter_of_map test f [] = refl
@@ -198,7 +195,7 @@ module _ (c : Contents) (k : Kept) (q : Query) (r : RelNo) (p : RelSet) (outer :
     pub index_are : (b : Bool) → map (entry_at r.0 given es (clauses_at w q r p) d rows) (part b) ≡ map (entry_row w q r i false p o) (directed w q b (bounded w q r i p o))
     index_are b =
         map_in_same (entry_at r.0 given es (clauses_at w q r p) d rows) (λ e. entry_row w q r i false p o e.row) (part b) (λ e j. entry_is e (in_part b e j))
-        ∙ sym (map_of_map (entry_row w q r i false p o) (λ (e : Entry). e.row) (part b))
+        ∙ sym (map-map (entry_row w q r i false p o) (λ (e : Entry). e.row) (part b))
         ∙ ap (map (entry_row w q r i false p o)) (sym (bounded_are b))
 
     -- as a call was handed it
@@ -260,7 +257,7 @@ module _ (c : Contents) (k : Kept) (q : Query) (r : RelNo) (p : RelSet) (outer :
       pub only_are : (b : Bool) → map (covered_at r.0 given es (clauses_at w q r p) d) (part b) ≡ map (entry_row w q r i true p o) (directed w q b (bounded w q r i p o))
       only_are b =
           map_in_same (covered_at r.0 given es (clauses_at w q r p) d) (λ e. entry_row w q r i true p o e.row) (part b) (λ e j. cover_is e (in_part b e j))
-          ∙ sym (map_of_map (entry_row w q r i true p o) (λ (e : Entry). e.row) (part b))
+          ∙ sym (map-map (entry_row w q r i true p o) (λ (e : Entry). e.row) (part b))
           ∙ ap (map (entry_row w q r i true p o)) (sym (bounded_are b))
 
       module _ (c' : Contents) (s' : Range) (r' : RelNo) (cls' ts' : List Cond) (d' : Index) (ce : c' ≡ c) (se : s' ≡ q.range) (re : r' ≡ r) (ee : cls' ≡ clauses_at w q r p) (te : ts' ≡ es) (de : d' ≡ d) (b : Bool) (cursor : List Entry) (ie : cursor ≡ part b) where

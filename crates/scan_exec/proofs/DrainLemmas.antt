@@ -4,6 +4,7 @@ use Rattle.std.specs.Prelude.{slice_index_or}
 use Rattle.std.specs.List.{range_with_len}
 use Rattle.std.proofs.lemmas.Bool.{eq-eqb, eqb-true, ne_eqb}
 use Rattle.std.proofs.lemmas.List.{map-append}
+use Rattle.std.proofs.lemmas.Option.{none-some}
 use Rattle.pg_base.specs.Sets.{has}
 use Rattle.pg_base.specs.declared.numbers.RelNo.{RelNo}
 use Rattle.pg_base.specs.declared.numbers.Tid.{Tid}
@@ -21,11 +22,8 @@ use Rattle.scan_exec.specs.Plans.{IsScan, relation_of}
 use Rattle.scan_exec.proofs.ComingLemmas.{fetched_rows, given_rows}
 
 -- the first that is given, and those behind
-no_some : {A : Type 0} (x : A) → None ≡ Some x → ⊥
-no_some x e = cc
-
 pub left_split : (cs : List Coming) (n : ℕ) → Some n ≡ option_map (λ (c : Coming). c.row) (find is_given cs) → left cs ≡ n ∷ left (behind is_given cs)
-left_split [] n e = absurd (no_some n (sym e))
+left_split [] n e = absurd (none-some n (sym e))
 left_split (c ∷ cs) n e = by c.given e (left_split cs n)
   where
     by : (b : Bool) → Some n ≡ option_map (λ (x : Coming). x.row) (cond b (Some c) (find is_given cs)) → (Some n ≡ option_map (λ (x : Coming). x.row) (find is_given cs) → left cs ≡ n ∷ left (behind is_given cs))
@@ -34,7 +32,7 @@ left_split (c ∷ cs) n e = by c.given e (left_split cs n)
     by false h later = later h
 
 pub behind_short : (cs : List Coming) (n : ℕ) → Some n ≡ option_map (λ (c : Coming). c.row) (find is_given cs) → length (behind is_given cs) < length cs
-behind_short [] n e = absurd (no_some n (sym e))
+behind_short [] n e = absurd (none-some n (sym e))
 behind_short (c ∷ cs) n e = by c.given e (behind_short cs n)
   where
     by : (b : Bool) → Some n ≡ option_map (λ (x : Coming). x.row) (cond b (Some c) (find is_given cs)) → (Some n ≡ option_map (λ (x : Coming). x.row) (find is_given cs) → length (behind is_given cs) < length cs)
@@ -48,7 +46,7 @@ left_none (c ∷ cs) e = by c.given e (left_none cs)
   where
     by : (b : Bool) → None ≡ option_map (λ (x : Coming). x.row) (cond b (Some c) (find is_given cs)) → (None ≡ option_map (λ (x : Coming). x.row) (find is_given cs) → left cs ≡ [])
         → map (λ (x : Coming). x.row) (cond b (c ∷ filter is_given cs) (filter is_given cs)) ≡ []
-    by true h later = absurd (no_some c.row h)
+    by true h later = absurd (none-some c.row h)
     by false h later = later h
 
 pub behind_none : (cs : List Coming) → None ≡ option_map (λ (c : Coming). c.row) (find is_given cs) → behind is_given cs ≡ []
@@ -57,7 +55,7 @@ behind_none (c ∷ cs) e = by c.given e (behind_none cs)
   where
     by : (b : Bool) → None ≡ option_map (λ (x : Coming). x.row) (cond b (Some c) (find is_given cs)) → (None ≡ option_map (λ (x : Coming). x.row) (find is_given cs) → behind is_given cs ≡ [])
         → cond b cs (behind is_given cs) ≡ []
-    by true h later = absurd (no_some c.row h)
+    by true h later = absurd (none-some c.row h)
     by false h later = later h
 
 -- the set of one relation

@@ -1,9 +1,11 @@
 -- A hash index of the scan's relation: its one key, its one condition, and the rows that it gives.
-use Rattle.std.proofs.Common.{◌≡◌, ◌+◌, ◌<◌, ◌≤◌, ℕ, Bool, true, false, ◌&&◌, ◌||◌, List, [], ◌∷◌, length, map, filter, refl, sym, ap, ap₂, ◌∙◌, subst, arith, inl, inr, All}
+use Rattle.std.proofs.Common.{◌≡◌, ◌+◌, ◌<◌, ◌≤◌, ℕ, Bool, true, false, ◌||◌, List, [], ◌∷◌, length, map, filter, refl, sym, ap, ap₂, ◌∙◌, subst, arith, inl, inr, All}
 use Rattle.std.specs.Prelude.{get_or, nat_eq, nat_lt, slice_index_or}
 use Rattle.std.specs.List.{list_any}
 use Rattle.std.proofs.lemmas.Bool.{and_parts, eqb-true, ltb-true, true≢false}
 use Rattle.std.proofs.lemmas.List.{length-map}
+use Rattle.std.proofs.Math.Bool.{and-true}
+use Rattle.std.proofs.lemmas.Simd.{map-map}
 use Rattle.pg_base.specs.Sets.{has}
 use Rattle.pg_base.specs.declared.numbers.ColNo.{ColNo}
 use Rattle.pg_base.specs.declared.numbers.IndexNo.{IndexNo}
@@ -58,7 +60,7 @@ use Rattle.scan_probes.proofs.ProbeLemmas.{key_fits}
 use Rattle.scan_exec.specs.Scene.{AreUsed, IsNear, IsScene, IsUsed}
 use Rattle.scan_exec.specs.Coming.{fetched_row}
 use Rattle.scan_exec.specs.Kinds.{IsReadyNumber, rows_of}
-use Rattle.scan_exec.proofs.BegunLemmas.{clauses_ready, fetched_are, filter_of_map, map_of_map}
+use Rattle.scan_exec.proofs.BegunLemmas.{clauses_ready, fetched_are, filter_of_map}
 use Rattle.scan_exec.proofs.MovedLemmas.{moved}
 use Rattle.scan_exec.proofs.HashLemmas.{entries_rise, equal_rows, equals_true, fits_key}
 use Rattle.scan_exec.proofs.IndexLemmas.{IsEntryAt}
@@ -99,10 +101,6 @@ first_is k (l ∷ ks) one is = is
 first_read : (row : Values) (ks : List IndexKey) → nat_eq (length ks) 1 ≡ true → first_value (map (λ (k : IndexKey). cell row k.col) ks) ≡ cell row (first_key ks).col
 first_read row [] one = absurd (true≢false (sym one))
 first_read row (k ∷ ks) one = refl
-
-and_true : (b : Bool) → b && true ≡ b
-and_true true = refl
-and_true false = refl
 
 -- a hash index has one condition
 one_at_most : (m : Method) → m ≡ Hash → (cs : List Numbered) → length (conditions_of (allowed m cs)) ≤ 1
@@ -259,14 +257,14 @@ module _ (c : Contents) (k : Kept) (q : Query) (r : RelNo) (p : RelSet) (outer :
     equal_at x is =
         let own = value_in (slice_index_or rows x.row []) in
         equals_true r.0 key given own (first_value x.keys) (value_of_entry x is) e form_first (defined_at own (own_fits c k q r p outer given at x.row))
-        ∙ sym (and_true (is_true (truth_at (value_beside r.0 own given) e)))
+        ∙ sym (and-true (is_true (truth_at (value_beside r.0 own given) e)))
         ∙ true_at c k q r p outer given at x.row is.within (e ∷ []) one_near
 
     pub rows_are : rows_equal value (table_of d rows).held ≡ at_which w q r o (e ∷ []) (entry_rows w i)
     rows_are =
         equal_rows key (key-hashes (type_in c q.range (column_of r.0 key.col)) key accepts) value value_fits (map held_of es) (entries_rise d rows hash) all_fit
         ∙ ap (map (λ (h : Held). h.row)) (filter_of_map (λ (h : Held). is_true (truth_of_op Eq h.value value)) held_of es)
-        ∙ map_of_map (λ (h : Held). h.row) held_of (filter (λ (x : Entry). is_true (truth_of_op Eq (held_of x).value value)) es)
+        ∙ map-map (λ (h : Held). h.row) held_of (filter (λ (x : Entry). is_true (truth_of_op Eq (held_of x).value value)) es)
         ∙ ap (map (λ (x : Entry). x.row)) (filter_in_same (λ (x : Entry). is_true (truth_of_op Eq (held_of x).value value)) (λ (x : Entry). all_true w q (beside q r.0 x.row o) (e ∷ [])) es (λ x j. equal_at x (here x j)))
         ∙ sym (filter_of_map (λ (n : ℕ). all_true w q (beside q r.0 n o) (e ∷ [])) (λ (x : Entry). x.row) es)
         ∙ ap (λ (l : List Entry). at_which w q r o (e ∷ []) (map (λ (x : Entry). x.row) l)) (sym (entries_are c k q r p outer given at i on))

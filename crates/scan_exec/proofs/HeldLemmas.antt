@@ -1,9 +1,10 @@
 -- Sets of rows put together for a bitmap.
-use Rattle.std.proofs.Common.{◌≡◌, ◌+◌, ◌<◌, ℕ, suc, Bool, true, false, cond, ◌&&◌, ◌||◌, nat_eq, List, [], ◌∷◌, length, map, filter, drop, refl, sym, ap, ap₂, ◌∙◌, subst, arith, inl, inr, All}
+use Rattle.std.proofs.Common.{◌≡◌, ◌+◌, ◌<◌, ℕ, suc, Bool, true, false, cond, ◌||◌, nat_eq, List, [], ◌∷◌, length, map, filter, drop, refl, sym, ap, ap₂, ◌∙◌, subst, arith, inl, inr, All}
 use Rattle.std.specs.Prelude.{get_or, slice_index_or}
 use Rattle.std.specs.List.{AllByRecursion, list_all, enumerate_from}
 use Rattle.std.proofs.lemmas.Bool.{and_from, and_parts, true≢false}
 use Rattle.std.proofs.lemmas.List.{drop_more, length-map}
+use Rattle.std.proofs.Math.Bool.{or-false}
 use Rattle.pg_base.specs.Sets.{has}
 use Rattle.pg_base.specs.declared.numbers.IndexNo.{IndexNo}
 use Rattle.pg_base.specs.declared.numbers.RelNo.{RelNo}
@@ -39,26 +40,10 @@ use Rattle.scan_exec.specs.Scene.{limits}
 use Rattle.scan_exec.proofs.BegunLemmas.{by_number, filter_of_map}
 use Rattle.scan_exec.proofs.LimitLemmas.{AreByNumber, in_limits, limits_are, numbered_are, places_number}
 
-or_none : (a : Bool) → a || false ≡ a
-or_none true = refl
-or_none false = refl
-
 turned : (a b d : Bool) → (a || b) || d ≡ b || (a || d)
 turned true true d = refl
 turned true false d = refl
 turned false b d = refl
-
-or_three : (a b d : Bool) → (a || b) || d ≡ a || (b || d)
-or_three true b d = refl
-or_three false b d = refl
-
-and_three : (a b d : Bool) → (a && b) && d ≡ a && (b && d)
-and_three true b d = refl
-and_three false b d = refl
-
-and_all : (a : Bool) → a && true ≡ a
-and_all true = refl
-and_all false = refl
 
 pub made_those : (b : ℕ) (f : ℕ → Bool) → IsMade (record { bound = b; members = those b f })
 made_those b f = those-same b (is_member (those b f)) f (λ n lt. member-those b f n lt)
@@ -70,7 +55,7 @@ abbrev pub set_by : ℕ → List ℕ → TidSet
 set_by b ms = record { bound = b; members = ms }
 
 pub with_none : (s : TidSet) → IsMade s → with_rows s [] ≡ s
-with_none s made = ap (set_by s.bound) (those-same s.bound (λ n. is_member s.members n || is_member [] n) (is_member s.members) (λ n lt. or_none (is_member s.members n)) ∙ made)
+with_none s made = ap (set_by s.bound) (those-same s.bound (λ n. is_member s.members n || is_member [] n) (is_member s.members) (λ n lt. or-false (is_member s.members n)) ∙ made)
 
 pub made_with : (s t : TidSet) (ns : List ℕ) → t ≡ with_rows s ns → IsMade t
 made_with s t ns is = subst IsMade (sym is) (made_those s.bound (λ n. is_member s.members n || is_member ns n))

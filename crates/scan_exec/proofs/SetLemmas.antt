@@ -3,6 +3,7 @@ use Rattle.std.proofs.Common.{drop_of_length-le, ◌≡◌, ◌+◌, ◌<◌, �
 use Rattle.std.specs.Prelude.{get_or}
 use Rattle.std.proofs.lemmas.Bool.{ltb-true}
 use Rattle.std.proofs.lemmas.List.{drop_more, length-map}
+use Rattle.std.proofs.Math.Bool.{or-false, and-true, or_assoc, and_assoc}
 use Rattle.std.specs.Borrow.{Bor}
 use Rattle.pg_base.specs.Sets.{has}
 use Rattle.pg_base.specs.declared.numbers.IndexNo.{IndexNo}
@@ -35,22 +36,6 @@ use Rattle.scan_exec.proofs.TreeLemmas.{takes_own}
 
 abbrev set_by : ℕ → List ℕ → TidSet
 set_by b ms = record { bound = b; members = ms }
-
-and_all : (a : Bool) → a && true ≡ a
-and_all true = refl
-and_all false = refl
-
-and_three : (a b d : Bool) → (a && b) && d ≡ a && (b && d)
-and_three true b d = refl
-and_three false b d = refl
-
-or_three : (a b d : Bool) → (a || b) || d ≡ a || (b || d)
-or_three true b d = refl
-or_three false b d = refl
-
-or_none : (a : Bool) → a || false ≡ a
-or_none true = refl
-or_none false = refl
 
 module _ (w : World) (q : Query) (r : RelNo) (p : RelSet) (o : Tuple) where
   abbrev all : ℕ
@@ -109,7 +94,7 @@ module _ (w : World) (q : Query) (r : RelNo) (p : RelSet) (o : Tuple) where
         ap (λ (s : TidSet). with_arms w q r o s more js) (ne ∙ ap (λ (l : List Cond). with_rows now (at_which w q r o l (entry_rows w i))) ee)
         ∙ ap (set_by now.bound) (those-same now.bound _ (λ n. is_member now.members n || some_holds w q r o n (arm ∷ more) (i ∷ js))
         (λ n lt. ap (λ (x : Bool). x || some_holds w q r o n more js) (member-those now.bound (λ m. is_member now.members m || is_member (at_which w q r o (arm_parts arm) (entry_rows w i)) m) n lt)
-        ∙ or_three (is_member now.members n) (is_member (at_which w q r o (arm_parts arm) (entry_rows w i)) n) (some_holds w q r o n more js)))
+        ∙ or_assoc (is_member now.members n) (is_member (at_which w q r o (arm_parts arm) (entry_rows w i)) n) (some_holds w q r o n more js)))
         ∙ so_far.same;
     looked =
         let e : entries_met w q (index_at w.contents i).method r i o (limits (index_at w.contents i) r.0 es) ≡ entries_met w q (index_at w.contents i).method r i o (conditions_of (arm_bounds (index_at w.contents i) r.0 arm)) =
@@ -120,7 +105,7 @@ module _ (w : World) (q : Query) (r : RelNo) (p : RelSet) (o : Tuple) where
 
   pub arms_end : (arms : List Cond) (is : List IndexNo) (js : List IndexNo) (old now : TidSet) (a b : ℕ) (more : List Cond) → more ≡ [] → IsMarkingArms arms is more js old now a b → now ≡ with_arms w q r o old arms is
   arms_end arms is js old now a b more none so_far =
-      sym (ap (set_by now.bound) (those-same now.bound (λ n. is_member now.members n || some_holds w q r o n more js) (is_member now.members) (λ n lt. ap (λ (l : List Cond). is_member now.members n || some_holds w q r o n l js) none ∙ ap (λ (x : Bool). is_member now.members n || x) (nothing n js) ∙ or_none (is_member now.members n)) ∙ so_far.made))
+      sym (ap (set_by now.bound) (those-same now.bound (λ n. is_member now.members n || some_holds w q r o n more js) (is_member now.members) (λ n lt. ap (λ (l : List Cond). is_member now.members n || some_holds w q r o n l js) none ∙ ap (λ (x : Bool). is_member now.members n || x) (nothing n js) ∙ or-false (is_member now.members n)) ∙ so_far.made))
       ∙ so_far.same
     where
       nothing : (x : ℕ) (is : List IndexNo) → some_holds w q r o x [] is ≡ false
@@ -178,7 +163,7 @@ module _ (w : World) (q : Query) (r : RelNo) (p : RelSet) (o : Tuple) where
             those-same all _ (λ m. is_member now.members m && all_hold_row w q r p o m (tree_and b bs))
             (λ m lt. ap (λ (x : Bool). x && all_hold_row w q r p o m bs) (ap (λ (s : TidSet). is_member s.members m) full ∙ member-those all (λ n. is_member now.members n && is_member other.members n) m lt
             ∙ ap (λ (x : Bool). is_member now.members m && x) (ap (λ (s : TidSet). is_member s.members m) is ∙ member-those all (λ n. holds w q r p o n b) m lt))
-            ∙ and_three (is_member now.members m) (holds w q r p o m b) (all_hold_row w q r p o m bs))
+            ∙ and_assoc (is_member now.members m) (holds w q r p o m b) (all_hold_row w q r p o m bs))
             ∙ so_far.same;
         looked = let before = so_far.looked in omega (arith, before, le);
       }
@@ -187,7 +172,7 @@ module _ (w : World) (q : Query) (r : RelNo) (p : RelSet) (o : Tuple) where
   meeting_ends trees rest now a d none so_far =
       ap₂ set_by so_far.bound
       (sym so_far.made ∙ ap (λ (n : ℕ). those n (is_member now.members)) so_far.bound
-      ∙ sym (those-same all (λ m. is_member now.members m && all_hold_row w q r p o m rest) (is_member now.members) (λ m lt. ap (λ (x : BitTrees). is_member now.members m && all_hold_row w q r p o m x) none ∙ and_all (is_member now.members m)))
+      ∙ sym (those-same all (λ m. is_member now.members m && all_hold_row w q r p o m rest) (is_member now.members) (λ m lt. ap (λ (x : BitTrees). is_member now.members m && all_hold_row w q r p o m x) none ∙ and-true (is_member now.members m)))
       ∙ so_far.same)
 
   pub meeting_looks : (trees rest : BitTrees) (now : TidSet) (a d : ℕ) → IsMeeting trees rest now a d → d ≤ a + all_tree_looks w q r p o trees

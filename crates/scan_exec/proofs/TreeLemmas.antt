@@ -105,12 +105,9 @@ holds_picked P e _ _ (picked x xs ys is rest) (inl same) = subst P same is
 holds_picked P e _ _ (picked x xs ys is rest) (inr h) = holds_picked P e xs ys rest h
 holds_picked P e _ _ (passed x xs ys is rest) h = holds_picked P e xs ys rest h
 
-same_number : (m n : ℕ) → by_clause m ≡ by_clause n → m ≡ n
-same_number m n e = cc
-
 in_numbers : (n : ℕ) (cs : List Numbered) → In (by_clause n) (map (λ (k : Numbered). by_clause k.number) cs) → (x : Numbered) × IsIn x cs × (x.number ≡ n)
 in_numbers n [] h = absurd h
-in_numbers n (x ∷ cs) (inl same) = (x, inl refl, same_number x.number n same)
+in_numbers n (x ∷ cs) (inl same) = (x, inl refl, cc)
 in_numbers n (x ∷ cs) (inr h) = let w = in_numbers n cs h in (w.0, inr w.1, w.2)
 
 past_indexes : (n : ℕ) (is : List IndexNo) (es : List Element) → In (by_clause n) (map by_index is ++ es) → In (by_clause n) es

@@ -26,6 +26,7 @@ pub record Coming : Type 0 where
   pub fetched : Bool
   pub given : Bool
 
+-- the scan gives the row: all that it tests is True there
 abbrev pub is_given : Coming → Bool
 is_given c = c.given
 
@@ -33,9 +34,11 @@ is_given c = c.given
 abbrev pub left : List Coming → List ℕ
 left cs = map (λ (c : Coming). c.row) (filter is_given cs)
 
+-- the row fetches that coming to all of them takes
 abbrev pub owed : List Coming → ℕ
 owed cs = length (filter (λ (c : Coming). c.fetched) cs)
 
+-- the looks that coming to all of them takes: one for each entry that a cursor gives
 abbrev pub allowed : List Coming → ℕ
 allowed cs = length (filter (λ (c : Coming). c.looked) cs)
 

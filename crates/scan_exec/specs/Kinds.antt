@@ -15,6 +15,7 @@ use Rattle.scan_exec.specs.Coming.{Coming}
 abbrev pub passes_row : ℕ → Given → List Cond → Values → Bool
 passes_row r given es row = are_true (value_beside r (value_in row) given) es
 
+-- conditions are True at an entry beside the rows given, by the values that the index holds
 abbrev pub passes_entry : ℕ → Given → List Cond → Index → Entry → Bool
 passes_entry r given es d e = are_true (value_beside r (value_in_entry d e) given) es
 
@@ -54,6 +55,7 @@ pub record IsReadyEntry (c : Contents) (range : Range) (r : ℕ) (given : Given)
   pub entry : AreReadyAtEntry c range r given tests d e
   pub row : AreReadyAtRow c range r given es (slice_index_or rows e.row [])
 
+-- the same for an index-only scan: tests and clauses can be tested at the entry, and no row is looked for
 pub record IsReadyCover (c : Contents) (range : Range) (r : ℕ) (given : Given) (tests es : List Cond) (d : Index) (e : Entry) : Type 0 where
   pub tested : AreReadyAtEntry c range r given tests d e
   pub clauses : AreReadyAtEntry c range r given es d e

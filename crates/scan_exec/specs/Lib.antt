@@ -4,3 +4,5 @@ pub mod Kinds
 pub mod Scene
 pub mod Rows
 pub mod Held
+-- What callers name of the crates below.
+pub use Rattle.store.specs.Kept as store_Kept

@@ -21,6 +21,7 @@ relation_of (index_only r i backward p) = r
 relation_of (bitmap r p bits) = r
 relation_of _ = record { 0 = 0 }
 
+-- the relations whose rows a scan is given, as bits: none of a sequential scan
 abbrev pub param_of : Plan → RelSet
 param_of (index r i backward p) = p
 param_of (index_only r i backward p) = p

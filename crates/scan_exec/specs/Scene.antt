@@ -46,6 +46,7 @@ pub record IsUsed (c : Contents) (q : Query) (r : ℕ) (p : Set) (i : IndexNo) (
   pub near : IsNear c q r p e
   pub form : is_condition (index_at c i) r e ≡ true
 
+-- the conditions of a list are ones that a scan of the relation may use inside its index
 abbrev pub AreUsed : Contents → Query → RelNo → RelSet → IndexNo → List Cond → Type 0
 AreUsed c q r p i es = All (IsUsed c q r.0 (has p.0) i) es
 
@@ -57,8 +58,10 @@ limits d r es = conditions_of (bounding d.method r d.keys (numbered_from_0 es))
 abbrev pub world_of : {C F L : Type 0} → Scene C F L → World
 world_of s = world s.cat.now s.store.now.stored
 
+-- the rows that the scan is given, as a tuple with a place for each relation of the query
 abbrev pub tuple_of : {C F L : Type 0} → Scene C F L → Tuple
 tuple_of s = padded (width s.q.now) (has s.param.0) s.outer.now
 
+-- the parts of a `Scene` agree, and these are the rows that the scan is given
 abbrev pub IsSceneOf : {C F L : Type 0} → Scene C F L → Given → Type 0
 IsSceneOf s given = IsScene s.cat.now s.store.now s.q.now s.rel s.param s.outer.now given

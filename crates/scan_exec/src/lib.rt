@@ -19,3 +19,4 @@ pub use numbers::{BitRows, HashRows};
 pub use rows::ScanRows;
 pub use seq::SeqRows;
 pub use sorted::{IndexRows, OnlyRows};
+pub use store;

@@ -3,6 +3,7 @@ use Rattle.std.proofs.Common.{◌≡◌, ℕ, Bool, true, false, cond, ◌||◌,
 use Rattle.std.specs.Prelude.{All, Some, None}
 use Rattle.std.proofs.lemmas.Bool.{eq-eqb, eqb-true, true≢false}
 use Rattle.std.proofs.lemmas.List.Elements.{All-contains}
+use Rattle.std.proofs.Math.Bool.{or-true}
 use Rattle.pg_base.specs.Sets.{has}
 use Rattle.pg_base.specs.declared.numbers.IndexNo.{IndexNo}
 use Rattle.pg_base.specs.declared.numbers.RelNo.{RelNo}
@@ -77,17 +78,13 @@ reads-some (sort keys input) = reads-some input
 reads-some (nest outer inner) = let h = reads-some outer in (h.0, ap (λ b. b || set_of inner h.0) h.1)
 reads-some (merge keys outer inner) = let h = reads-some outer in (h.0, ap (λ b. b || set_of inner h.0) h.1)
 
-or_true : (a : Bool) → a || true ≡ true
-or_true true = refl
-or_true false = refl
-
 -- so a join reads more than one relation
 pub no-join : (outer inner : Plan) (r : ℕ) → AreSides outer inner → IsSameSet (λ k. set_of outer k || set_of inner k) (one r) → ⊥
 no-join outer inner r sides same =
     let o = reads-some outer in
     let i = reads-some inner in
     let at-o : o.0 ≡ r = eqb-true o.0 r (sym (same o.0) ∙ ap (λ b. b || set_of inner o.0) o.1) in
-    let at-i : i.0 ≡ r = eqb-true i.0 r (sym (same i.0) ∙ ap (λ b. set_of outer i.0 || b) i.1 ∙ or_true (set_of outer i.0)) in
+    let at-i : i.0 ≡ r = eqb-true i.0 r (sym (same i.0) ∙ ap (λ b. set_of outer i.0 || b) i.1 ∙ or-true (set_of outer i.0)) in
     true≢false (sym (subst (λ k. set_of inner k ≡ true) (at-i ∙ sym at-o) i.1) ∙ sides.apart o.0 o.1)
 
 pub same-relation : (r s : RelNo) → IsSameSet (one s.0) (one r.0) → r ≡ s

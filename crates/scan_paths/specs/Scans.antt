@@ -18,6 +18,7 @@ abbrev pub tree_by : Bool → RelNo → IndexNo → Bool → RelSet → Plan
 tree_by false r i backward p = index r i backward p
 tree_by true r i backward p = index_only r i backward p
 
+-- the plan of a scan by an index, in a direction
 abbrev pub tree_of : ByIndex → Bool → Plan
 tree_of s backward = tree_by s.only s.rel s.index backward s.param
 

@@ -46,6 +46,7 @@ abbrev pub own_value : Own → ColNo → Value
 own_value (Row row) c = value_in row.now c
 own_value (InEntry d e) c = value_in_entry (index_of d.now) e.now c
 
+-- a column of the relation has a value there: a row has each column, an entry those that its index holds
 abbrev pub has_own_value : Own → ColNo → Bool
 has_own_value (Row row) c = is_within row.now c
 has_own_value (InEntry d e) c = has_entry_value (index_of d.now) e.now c
@@ -54,9 +55,11 @@ has_own_value (InEntry d e) c = has_entry_value (index_of d.now) e.now c
 abbrev pub values_at : Bound → ColRef → Value
 values_at b x = value_beside b.rel.0 (own_value b.own) b.given.now x
 
+-- a column of the query has a value there: one of the relation by a test, one of another relation in the rows given
 abbrev pub binds_at : Contents → Range → ℕ → (ColNo → Bool) → Given → ColRef → Bool
 binds_at c range r has given x = is_column_in c range x && (nat_lt (table_of range x).0 (length c.tables) && is_beside r has given x)
 
+-- a column of the query has a value where a scan stands, at a row or at an entry
 abbrev pub binds : Contents → Range → Bound → ColRef → Bool
 binds c range b = binds_at c range b.rel.0 (has_own_value b.own) b.given.now
 
@@ -71,8 +74,10 @@ pub record AreReady (c : Contents) (range : Range) (r : ℕ) (has : ColNo → Bo
   pub testable : AllByRecursion (IsTestable c range r has given) es
   pub values : FitsTypes (type_in c range) (binds_at c range r has given) (value_beside r own given)
 
+-- conditions can be tested at a row of the relation beside the rows given
 abbrev pub AreReadyAtRow : Contents → Range → ℕ → Given → List Cond → Values → Type 0
 AreReadyAtRow c range r given es row = AreReady c range r (is_within row) (value_in row) given es
 
+-- conditions can be tested at an entry without its row: the index holds each column of the relation that they name
 abbrev pub AreReadyAtEntry : Contents → Range → ℕ → Given → List Cond → Index → Entry → Type 0
 AreReadyAtEntry c range r given es d e = AreReady c range r (has_entry_value d e) (value_in_entry d e) given es

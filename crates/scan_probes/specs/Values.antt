@@ -29,10 +29,12 @@ given_of w q set o = map (λ k. cond (set k) (Some (row_at w q o (record { 0 = k
 abbrev pub value_in : Values → ColNo → Value
 value_in row c = slice_index_or row c.0 Null
 
+-- the value of a column in a row that may not be there; NULL where it is not
 abbrev pub value_or_null : Option Values → ColNo → Value
 value_or_null None c = Null
 value_or_null (Some row) c = value_in row c
 
+-- the row is there, and has the column
 abbrev pub has_value : Option Values → ColNo → Bool
 has_value None c = false
 has_value (Some row) c = nat_lt c.0 (length row)
@@ -47,9 +49,11 @@ value_among (n ∷ ns) (v ∷ vs) other c = cond (nat_eq c.0 n.0) v (value_among
 abbrev pub key_columns : Index → List ColNo
 key_columns d = map (λ (k : IndexKey). k.col) d.keys
 
+-- the value of a column in an entry: a key value before an included one; NULL where the index does not hold the column
 abbrev pub value_in_entry : Index → Entry → ColNo → Value
 value_in_entry d e c = value_among (key_columns d) e.keys (value_among d.include e.include Null c) c
 
+-- an index holds a column, so that an entry has its value (PostgreSQL manual, Index-Only Scans and Covering Indexes)
 abbrev pub is_held : Index → ColNo → Bool
 is_held d c = list_any (λ (n : ColNo). nat_eq c.0 n.0) (key_columns d) || list_any (λ (n : ColNo). nat_eq c.0 n.0) d.include
 
@@ -60,6 +64,7 @@ pub record HasEntryValue (d : Index) (e : Entry) (c : ColNo) : Type 0 where
   pub include : length e.include ≡ length d.include
   pub few : length d.keys + length d.include < 256
 
+-- the test of the same: the value of the column can be read from the entry
 abbrev pub has_entry_value : Index → Entry → ColNo → Bool
 has_entry_value d e c =
     is_held d c && (nat_eq (length e.keys) (length d.keys) && (nat_eq (length e.include) (length d.include) && nat_lt (length d.keys + length d.include) 256))
@@ -68,6 +73,7 @@ has_entry_value d e c =
 abbrev pub value_beside : ℕ → (ColNo → Value) → Given → ColRef → Value
 value_beside r own given x = cond (nat_eq x.rel.0 r) (own x.col) (value_or_null (slice_index_or given x.rel.0 None) x.col)
 
+-- a column has a value there: one of the relation where its own has, any other where the rows given have
 abbrev pub is_beside : ℕ → (ColNo → Bool) → Given → ColRef → Bool
 is_beside r has given x = cond (nat_eq x.rel.0 r) (has x.col) (has_value (slice_index_or given x.rel.0 None) x.col)
 

@@ -1,11 +1,10 @@
 -- The columns of a key list: each is one of a relation of the set, and tuples compare by their values there as by the
 -- classes.
-use Rattle.std.proofs.Common.{◌≡◌, ℕ, true, ◌<◌, ◌+◌, take, get_or, nat_lt, List, [], ◌∷◌, ◌++◌, All, Contains, Option, Some, None, option_map, refl, sym, ap, ◌∙◌, subst, arith, append-nil, Ordering}
+use Rattle.std.proofs.Common.{◌≡◌, ℕ, true, ◌<◌, ◌+◌, take, get_or, List, [], ◌∷◌, ◌++◌, All, Contains, Option, Some, None, option_map, refl, sym, ap, ◌∙◌, subst, append-nil, Ordering}
 use Rattle.std.specs.Prelude.{length}
 use Rattle.std.specs.List.{cons_option}
 use Rattle.std.specs.Ordering.{ordering_then}
-use Rattle.std.proofs.lemmas.Bool.{and_from, and_parts}
-use Rattle.std.proofs.lemmas.Grind.{common_steps}
+use Rattle.std.proofs.lemmas.Bool.{and_from, and_parts, lt-ltb, ltb-true}
 use Rattle.std.proofs.lemmas.List.{get_or_default, map-append, take_more}
 use Rattle.std.proofs.lemmas.List.Elements.{filter_map-append}
 use Rattle.pg_base.specs.Sets.{has}
@@ -14,7 +13,7 @@ use Rattle.pg_value.specs.declared.value.Value.{Value}
 use Rattle.pg_expr.specs.declared.operand.ColRef.{ColRef}
 use Rattle.pg_expr.specs.Columns.{each_column}
 use Rattle.pg_expr.specs.Cond.{Cond}
-use Rattle.catalog.specs.Contents.{Contents}
+use Rattle.sql_query.specs.catalog_Contents.{Contents}
 use Rattle.eq_classes.specs.declared.order.OrderItem.{OrderItem}
 use Rattle.eq_classes.specs.Classes.{Class}
 use Rattle.eq_classes.specs.Clauses.{Set, Table, first_in}
@@ -32,18 +31,12 @@ use Rattle.pathkeys.specs.Sorted.{keys_order, order_at}
 use Rattle.sort_rows.specs.declared.columns.SortColumn.{SortColumn}
 use Rattle.sort_rows.specs.Columns.{sorting_by, column_in, columns_of, columns_order, key_at, IsSortColumn}
 
-below : (a b : ℕ) → a < b → nat_lt a b ≡ true
-below a b lt = grind (arith, common_steps)
-
-from_below : (a b : ℕ) → nat_lt a b ≡ true → a < b
-from_below a b is = grind (arith, common_steps)
-
 -- each member of a class of a well bound query is a column of one of its relations
 module _ (c : Contents) (q : Query) (is : IsWellBound c q) where
   used_is : (x : ColRef) → IsIn x q.used → is_column_in c q.range x ≡ true
   used_is x i =
       let of : IsColumnOf c q.range x = all_at (IsColumnOf c q.range) q.used is.used x i in
-      and_from _ _ (below _ _ of.relation) (below _ _ of.column)
+      and_from _ _ (lt-ltb _ _ of.relation) (lt-ltb _ _ of.column)
 
   items_are : (i : OrderItem) → IsIn i is.items → is_column_in c q.range i.col ≡ true
   items_are i at = used_is i.col (in_from_contains q.used i.col (all_at (λ (o : OrderItem). Contains q.used o.col) is.items is.named i at))
@@ -59,7 +52,7 @@ module _ (c : Contents) (q : Query) (is : IsWellBound c q) where
       let passed : is_column_in c q.range x ≡ true =
       member_passes (is_column_in c q.range) (given_with c q is.items) (all_at (λ (e : Cond). each_column (is_column_in c q.range) e ≡ true) (given_with c q is.items).conjuncts conjuncts_are) items_are q.classes.classes is.classes.classes k ik x ix in
       let both = and_parts _ _ passed in
-      record { relation = from_below _ _ both.0; column = from_below _ _ both.1 }
+      record { relation = ltb-true _ _ both.0; column = ltb-true _ _ both.1 }
 
 class_in : (cs : List Class) (n : ℕ) → n < length cs → IsIn (class_at cs n) cs
 class_in cs n lt = in_from_contains cs (class_at cs n) (n, lt, get_or_default cs n (class_at cs n) blank lt)

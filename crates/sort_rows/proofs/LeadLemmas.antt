@@ -1,12 +1,11 @@
 -- Where the leads of two values of a column differ, the values stand to one another as they do.
-use Rattle.std.proofs.Common.{◌≡◌, ℕ, zero, suc, ◌+◌, ◌*◌, ◌^◌, ◌-◌, ◌<◌, ◌≤◌, min, nat_lt, cond, Bool, true, false, List, [], ◌∷◌, ℤ, pos, negsuc, refl, sym, ap, ap₂, ◌∙◌, ⊎_elim, arith, Ordering, Less, Equal, Greater}
+use Rattle.std.proofs.Common.{◌≡◌, ℕ, zero, suc, ◌+◌, ◌*◌, ◌^◌, ◌-◌, ◌<◌, ◌≤◌, min, cond, Bool, true, false, List, [], ◌∷◌, ℤ, pos, negsuc, refl, sym, ap, ap₂, ◌∙◌, ⊎_elim, arith, Ordering, Less, Equal, Greater}
 use Rattle.std.specs.Prelude.{◌<ℤ◌, ◌≤ℤ◌}
 use Rattle.std.specs.Cmp.{int_cmp_is, nat_cmp_is}
 use Rattle.std.specs.Cmp.Lexicographic.{slice_cmp}
 use Rattle.std.specs.Int.{w64, saturate_signed}
 use Rattle.std.specs.Ordering.{bool_cmp, int_cmp, nat_cmp, ordering_reverse, ordering_then}
-use Rattle.std.proofs.lemmas.Bool.{cases_lt}
-use Rattle.std.proofs.lemmas.Grind.{common_steps}
+use Rattle.std.proofs.lemmas.Bool.{cases_lt, lt-ltb, le-ltb}
 use Rattle.std.proofs.lemmas.Cmp.{int_cmp_total, int_ranked}
 use Rattle.std.proofs.lemmas.Int.{ints}
 use Rattle.pg_value.specs.declared.operators.Family.{Family}
@@ -21,12 +20,6 @@ use Rattle.opfamily.specs.KeyOrder.{first_value, later_values}
 use Rattle.sort_rows.specs.declared.columns.SortColumn.{SortColumn}
 use Rattle.sort_rows.specs.Columns.{columns_order, values_order}
 use Rattle.sort_rows.specs.Leads.{absent_lead, directed_lead, family_lead, flag_lead, key_lead, later, lead_of, leading, text_lead}
-
-lt_true : (a b : ℕ) → a < b → nat_lt a b ≡ true
-lt_true a b lt = grind (arith, common_steps)
-
-lt_false : (a b : ℕ) → b ≤ a → nat_lt a b ≡ false
-lt_false a b le = grind (arith, common_steps)
 
 below : (a b : ℤ) → int_cmp a b ≡ Less → a <ℤ b
 below a b is = int_ranked a b Less (sym is)
@@ -87,10 +80,10 @@ pub lead_fits : (s : List ℕ) → text_lead 7 0 s < 2 ^ 56
 lead_fits s = omega (arith, greater 7 0 1 s [] (omega arith), whole)
 
 later_low : (b : ℕ) (bs : List ℕ) → b < 255 → later (b ∷ bs) ≡ bs
-later_low b bs lt = ap (λ (c : Bool). cond c bs []) (lt_true b 255 lt)
+later_low b bs lt = ap (λ (c : Bool). cond c bs []) (lt-ltb b 255 lt)
 
 later_high : (b : ℕ) (bs : List ℕ) → 255 ≤ b → later (b ∷ bs) ≡ []
-later_high b bs le = ap (λ (c : Bool). cond c bs []) (lt_false b 255 le)
+later_high b bs le = ap (λ (c : Bool). cond c bs []) (le-ltb b 255 le)
 
 texts_less : (n m : ℕ) (s t : List ℕ) → text_lead n m s < text_lead n m t → slice_cmp nat_cmp s t ≡ Less
 unfolding text_lead

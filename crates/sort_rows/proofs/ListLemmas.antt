@@ -23,10 +23,6 @@ zip_long R (x ∷ xs) (y ∷ ys) all = ap suc (zip_long R xs ys all.1)
 pub All-unmap : {X Y : Type 0} (P : Y → Type 0) (f : X → Y) (xs : List X) → All P (map f xs) → All (λ x. P (f x)) xs
 All-unmap P f xs all = λ k d lt. subst P (get_or-map f xs k d) (all k (f d) (omega (arith, lt, length-map xs f)))
 
-pub map-map : {X Y Z : Type 0} (g : Y → Z) (f : X → Y) (xs : List X) → map g (map f xs) ≡ map (λ x. g (f x)) xs
-map-map g f [] = refl
-map-map g f (x ∷ xs) = ap (λ zs. g (f x) ∷ zs) (map-map g f xs)
-
 -- a list of pieces of one length, one after another
 module _ {A B : Type 0} (f : A → List B) (w : ℕ) (same : (x : A) → length (f x) ≡ w) where
   piece_first : (x : A) (rest : List B) → take w (f x ++ rest) ≡ f x

@@ -1,7 +1,6 @@
 -- The rows of a tuple, relation by relation, and the values of columns in them.
-use Rattle.std.proofs.Common.{◌≡◌, ℕ, ◌+◌, ◌<◌, ◌≤◌, ◌^◌, true, false, List, [], ◌∷◌, ◌++◌, length, map, take, get_or, slice_get, slice_index_or, nat_lt, All, Bor, Some, sym, ap, ap₂, ◌∙◌, arith, ⊎_elim, length-append}
-use Rattle.std.proofs.lemmas.Bool.{cases_lt, true≢false}
-use Rattle.std.proofs.lemmas.Grind.{common_steps}
+use Rattle.std.proofs.Common.{◌≡◌, ℕ, ◌+◌, ◌<◌, ◌≤◌, ◌^◌, true, false, List, [], ◌∷◌, ◌++◌, length, map, take, get_or, slice_get, slice_index_or, All, Bor, Some, sym, ap, ap₂, ◌∙◌, arith, ⊎_elim, length-append}
+use Rattle.std.proofs.lemmas.Bool.{cases_lt, true≢false, ltb-true}
 use Rattle.std.proofs.lemmas.List.{get_or_append_left, get_or_default, get_or-map, length-map, take_more, map-append}
 use Rattle.std.proofs.Math.Seq.{get_or-append_seam}
 use Rattle.std.proofs.lemmas.Option.{get_or_from_slice_get, slice_get-get_or, slice_get_within}
@@ -12,8 +11,8 @@ use Rattle.pg_base.proofs.SetLaws.{has-below}
 use Rattle.pg_value.specs.declared.value.Value.{Value}
 use Rattle.pg_value.specs.declared.value.Value.TheVariants.{Null}
 use Rattle.pg_expr.specs.declared.operand.ColRef.{ColRef}
-use Rattle.catalog.specs.Contents.{table_at, no_table}
-use Rattle.catalog.specs.Range.{Range, relation_at}
+use Rattle.sql_query.specs.catalog_Contents.{table_at, no_table}
+use Rattle.sql_query.specs.catalog_Range.{Range, relation_at}
 use Rattle.eq_classes.specs.Holding.{IsWithin}
 use Rattle.pg_base.specs.declared.numbers.TableNo.{TableNo}
 use Rattle.heap.specs.Stored.{Stored, Values}
@@ -115,15 +114,12 @@ module _ (w : World) (q : Query) (set : RelSet) (row : List Tid) where
   column_within rows s r are is at =
       omega (arith, is.column.column, ap length at, ap (λ n. length (slice_index_or rows n [])) is.place, are.widths s.column.rel.0 is.inside)
 
-below_from : (a b : ℕ) → nat_lt a b ≡ true → a < b
-below_from a b is = grind (arith, common_steps)
-
 -- the next relation of the set, whose heap was lent by the table that the query has for it
 module _ (w : World) (q : Query) (set : RelSet) (row : List Tid) (rows : List Values) (r n : ℕ) (range : Range) (x : TableNo × List ℕ) (heap : Stored)
     (below : AreRowsBelow w q set row rows r) (inside : has set.0 r ≡ true) (within : IsWithin (has set.0) (all_of_query q))
     (count : n ≡ length rows) (range_is : range ≡ q.range) (is : x ≡ get_or range r x) (lent : slice_get w.stored x.0.0 ≡ Some heap) where
   relation_within : r < width q
-  relation_within = below_from r (width q) (within r inside)
+  relation_within = ltb-true r (width q) (within r inside)
 
   relation_is : relation_at q.range (relation r) ≡ x
   relation_is = ap (λ (l : Range). relation_at l (relation r)) (sym range_is) ∙ get_or_default range r (record { 0 = 0 }, []) x (omega (arith, relation_within, ap length range_is)) ∙ sym is

@@ -9,7 +9,7 @@ use Rattle.pg_value.specs.declared.value.Value.{Value}
 use Rattle.pg_value.specs.ColumnOrder.{column_order}
 use Rattle.opfamily.specs.KeyOrder.{first_value, later_values}
 use Rattle.pg_expr.specs.declared.operand.ColRef.{ColRef}
-use Rattle.catalog.specs.Contents.{Contents}
+use Rattle.sql_query.specs.catalog_Contents.{Contents}
 use Rattle.eq_classes.specs.Classes.{Class}
 use Rattle.eq_classes.specs.Clauses.{Set, Table, first_in}
 use Rattle.eq_classes.specs.Listing.{class_at}
@@ -23,6 +23,7 @@ use Rattle.sort_rows.specs.declared.columns.SortColumn.{SortColumn}
 abbrev pub sorting_by : Class → Set → ColRef → SortColumn
 sorting_by c set x = record { column = x; place = rank set x.rel.0; family = c.family; descending = c.descending; nulls_first = c.nulls_first }
 
+-- the column that stands for a class where tuples of a set are sorted; none where the class has no member there
 abbrev pub column_in : Class → Set → Option SortColumn
 column_in c set = option_map (sorting_by c set) (first_in c set)
 

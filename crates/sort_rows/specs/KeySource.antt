@@ -23,6 +23,7 @@ module _ {C F L : Type 0} where
   abbrev pub key_of : KeySource C F L → List Tid → List Value
   key_of at row = key_at at.columns.now (value_at (world_of at) at.q.now (tuple_of at.q.now at.set row))
 
+  -- two tuples by the values that their rows have for the keys
   abbrev pub by_key : KeySource C F L → List Tid → List Tid → Ordering
   by_key at = on (key_of at) (columns_order at.columns.now)
 

@@ -19,9 +19,11 @@ rows_keyed rows ks = map (λ (k : Keyed). slice_index_or rows k.place []) ks
 
 -- by the keys
 module _ (cs : List SortColumn) (keys : List Value) where
+  -- the key of a tuple, from the list of all keys
   abbrev pub key_in : Keyed → List Value
   key_in k = run_at keys (length cs) k.place
 
+  -- two tuples by their leads, and where these are equal by their whole keys (tuplesort.c, abbreviated keys)
   abbrev pub keyed_order : Keyed → Keyed → Ordering
   keyed_order = then_cmp (on (λ (k : Keyed). k.lead) int_cmp) (on key_in (columns_order cs))
 
@@ -30,5 +32,6 @@ module _ (cs : List SortColumn) (keys : List Value) where
     pub within : k.place < count
     pub lead : k.lead ≡ key_lead cs (key_in k)
 
+  -- tuples to be sorted, each with the lead of its key
   abbrev pub AreKeyed : ℕ → List Keyed → Type 0
   AreKeyed count ks = All (IsKeyed count) ks

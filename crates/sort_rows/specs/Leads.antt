@@ -15,6 +15,7 @@ abbrev pub absent_lead : Bool → ℤ
 absent_lead true = negsuc (2 ^ 63 - 1)
 absent_lead false = pos (2 ^ 63 - 1)
 
+-- false before true
 abbrev pub flag_lead : Bool → ℤ
 flag_lead true = pos 1
 flag_lead false = pos 0
@@ -25,6 +26,7 @@ abbrev pub leading : List ℕ → ℕ
 leading [] = 0
 leading (b ∷ bs) = min b 255
 
+-- the bytes of a text that its lead reads behind the first
 abbrev pub later : List ℕ → List ℕ
 later [] = []
 later (b ∷ bs) = cond (nat_lt b 255) bs []
@@ -47,6 +49,7 @@ directed_lead false n = n
 directed_lead true (pos n) = negsuc n
 directed_lead true (negsuc n) = pos n
 
+-- the lead of a value in a column, by its direction and its place of NULL
 abbrev pub lead_of : SortColumn → Value → ℤ
 lead_of c Null = absent_lead c.nulls_first
 lead_of c v = directed_lead c.descending (family_lead c.family v)

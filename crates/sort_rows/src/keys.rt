@@ -17,11 +17,11 @@ ghost use Rattle.sort_rows.specs.Rows.{AreRowsAt, HasRows, tuple_of};
 
 use crate::columns::SortColumn;
 use crate::source::KeySource;
-use catalog::Catalog;
 use heap::{Counters, Heaps, Row, value_in};
 use pg_base::{Memory, RelNo, RelSet, Steps, Tid};
 use pg_value::{Value, column_order};
 use sql_query::Prepared;
+use sql_query::catalog::Catalog;
 use std::alloc::Global;
 use std::cmp::Ordering;
 

@@ -19,12 +19,12 @@ use crate::columns::{SortColumn, sort_columns};
 use crate::keys::{add_key, compare_keys, key_at_place};
 use crate::leads::key_lead;
 use crate::source::KeySource;
-use catalog::Catalog;
 use heap::{Counters, Heaps, Tuples};
 use pathkeys::Keys;
 use pg_base::{Memory, Steps};
 use pg_value::Value;
 use sql_query::Prepared;
+use sql_query::catalog::Catalog;
 use std::alloc::Global;
 use std::cmp::Ordering;
 

@@ -1,10 +1,10 @@
 //! What the keys of tuples are read from.
 
 use crate::columns::SortColumn;
-use catalog::Catalog;
 use heap::{Counters, Heaps};
 use pg_base::RelSet;
 use sql_query::Prepared;
+use sql_query::catalog::Catalog;
 
 /// A query over a catalogue and the heaps of its tables, a set of its relations, and the columns whose values make up the key of
 /// a tuple of that set.

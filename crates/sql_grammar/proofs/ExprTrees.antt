@@ -15,7 +15,7 @@ use Rattle.sql_grammar.specs.Syntax.{bare, qualified, yes, no, unknown, number, 
 use Rattle.sql_grammar.specs.Unique.{token_in, ends_operand, ends_atom, ends_conj, ends_expr, is_parens, front, tail}
 use Rattle.sql_grammar.specs.Words.{words_of_col, words_of_operand, words_of_expr, words_of_ors, words_of_conj, words_of_ands, words_of_neg, words_of_atom}
 
-named-token : (o : Option Free) (small : List ℕ) (t : Token) → token_of (ident_of o small t) ≡ t
+pub named-token : (o : Option Free) (small : List ℕ) (t : Token) → token_of (ident_of o small t) ≡ t
 named-token (Some w) small t = refl
 named-token None small t = refl
 

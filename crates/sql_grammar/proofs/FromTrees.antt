@@ -74,7 +74,7 @@ one_group (group_of p js) (group_of q us) x y h k e =
     let (others, rest) = one_joins js us x y h k more in
     (cc (first, others), rest)
 
-groups-end : (gs : List (Mark × Group)) (x : List Terminal) → ends_from x ≡ true → ends_group (words_of_groups gs ++ x) ≡ true
+pub groups-end : (gs : List (Mark × Group)) (x : List Terminal) → ends_from x ≡ true → ends_group (words_of_groups gs ++ x) ≡ true
 groups-end [] x h = from-group x h
 groups-end ((m, g) ∷ gs) x h = refl
 

@@ -75,7 +75,7 @@ short-word Using = refl
 short-word Where = refl
 short-word With = refl
 
-named-by : (o : Option Free) (small : List ℕ) (t : Token) → free_of small ≡ o → bytes_of (ident_of o small t) ≡ small
+pub named-by : (o : Option Free) (small : List ℕ) (t : Token) → free_of small ≡ o → bytes_of (ident_of o small t) ≡ small
 named-by (Some w) small t is = sym ((bytes_eq-Decides small (free_spelling_of w)).0 (found Free (λ v. bytes_eq small (free_spelling_of v)) free_words w is))
 named-by None small t is = refl
 

@@ -79,10 +79,10 @@ inside-by : (text : List ℕ) (t : Token) (ts : List Token) (b : Bool) → ((fro
 inside-by text t ts true more w = subst (All (IsWithin text)) (sym w) (All-nil (IsWithin text))
 inside-by text t ts false more w = more t.end w
 
-inside : (text : List ℕ) (from : ℕ) (tokens : List Token) → AreWords text from tokens → All (IsWithin text) tokens
-inside text from [] w = absurd w
-inside text from (t ∷ ts) w =
-    All-cons (IsWithin text) t ts (record { ordered = w.0.order; inside = w.0.within }) (inside-by text t ts (is_last text t) (λ f. inside text f ts) w.1)
+pub words-inside : (text : List ℕ) (from : ℕ) (tokens : List Token) → AreWords text from tokens → All (IsWithin text) tokens
+words-inside text from [] w = absurd w
+words-inside text from (t ∷ ts) w =
+    All-cons (IsWithin text) t ts (record { ordered = w.0.order; inside = w.0.within }) (inside-by text t ts (is_last text t) (λ f. words-inside text f ts) w.1)
 
 few-by : (text : List ℕ) (from : ℕ) (t : Token) (ts : List Token) (b : Bool) → IsNext text from t → is_last text t ≡ b → (AreWords text t.end ts → length ts + t.end ≤ length text + 1) →
     MatchBool b (ts ≡ []) (AreWords text t.end ts) → length (t ∷ ts) + from ≤ length text + 1
@@ -110,7 +110,7 @@ once text from (t ∷ ts) w =
 
 pub words-are-tokens : (text : List ℕ) (from : ℕ) (tokens : List Token) → AreWords text from tokens → length text ≤ 2 ^ 31 → AreTokens text tokens
 words-are-tokens text from tokens w short = record {
-  inside = inside text from tokens w;
+  inside = words-inside text from tokens w;
   few = omega (arith, few text from tokens w, short);
   last = once text from tokens w;
 }

@@ -22,18 +22,20 @@ abbrev pub conditions_of_joins : List Join → List Expr
 conditions_of_joins [] = []
 conditions_of_joins (j ∷ js) = conditions_of_join j ++ conditions_of_joins js
 
--- those of a group
+-- the relations of a group: its first one and those that joins add
 abbrev pub relations_of_group : Group → List Relation
 relations_of_group (group_of r js) = r ∷ relations_of_joins js
 
+-- the conditions of a group's joins
 abbrev pub conditions_of_group : Group → List Expr
 conditions_of_group (group_of _ js) = conditions_of_joins js
 
--- all groups of a SELECT: the first and the further ones
+-- the groups behind the first of FROM
 abbrev pub groups_after : List (Mark × Group) → List Group
 groups_after [] = []
 groups_after ((_, g) ∷ gs) = g ∷ groups_after gs
 
+-- all groups of a SELECT
 abbrev pub groups_of : Select → List Group
 groups_of (select_from _ _ _ _ g gs _) = g ∷ groups_after gs
 

@@ -7,10 +7,11 @@ use Rattle.sql_grammar.specs.declared.class.Free.TheVariants.{Nulls as NullsWord
 use Rattle.sql_grammar.specs.declared.offered.TheConstants.{READS_ADVISE, READS_ANALYZE, READS_CHECK, READS_GROUPS, READS_PLAN, READS_TABLE, READS_WINDOW}
 use Rattle.sql_grammar.specs.Terminals.{Ident, Said, free}
 
--- the token of a reserved word, and that of a symbol
+-- the token of a reserved word
 abbrev pub Key : Type 0
 Key = Token
 
+-- the token of a symbol: a parenthesis, a comma, a dot, a minus or a star
 abbrev pub Mark : Type 0
 Mark = Token
 

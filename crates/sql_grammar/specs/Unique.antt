@@ -69,6 +69,7 @@ abbrev pub is_parens : Atom → Bool
 is_parens (parens o e c) = true
 is_parens _ = false
 
+-- the operand with which an atom without parentheses begins; of one in parentheses it is never asked
 abbrev pub front : Atom → Operand
 front (parens o e c) = literal (constant unknown o)
 front (compare l op r) = l

@@ -406,10 +406,11 @@ levels_of_windowed (windowed_select q _ _) = levels_of_select q
 abbrev pub levels_of_grouped : GroupedSelect → ℕ
 levels_of_grouped (grouped_select _ _ _ g gs w _ _ _ _) = max (levels_of_group g) (max (levels_of_groups gs) (levels_of_where w))
 
--- those of a SELECT with its order, and of CREATE INDEX
+-- those of a SELECT with its order
 abbrev pub levels_of_ordered : OrderedSelect → ℕ
 levels_of_ordered (ordered_select _ q _ _ _) = levels_of_select q
 
+-- those of CREATE INDEX: those of its WHERE
 abbrev pub levels_of_index : CreateIndex → ℕ
 levels_of_index (index_on _ _ _ _ _ _ _ _ _ _ _ w _) = levels_of_where w
 

@@ -1,7 +1,7 @@
 -- A query whose names are bound to a catalogue (PostgreSQL manual, chapter Queries, and Data Types; the limits and the list of
 -- used columns are own).
 use Rattle.std.specs.Prelude.{◌≡◌, Bool, false, List, Some, ◌<◌, ◌≤◌, length, find, map, All, Contains, IsTrue}
-use Rattle.pg_base.specs.declared.limits.TheConstants.{MOST_ATOMS, MOST_CONJUNCTS}
+use Rattle.catalog.specs.pg_base_limits_TheConstants.{MOST_ATOMS, MOST_CONJUNCTS}
 use Rattle.pg_expr.specs.Columns.{each_column, atom_count_of}
 use Rattle.pg_expr.specs.Cond.{Cond, conds_of}
 use Rattle.pg_expr.specs.Typed.{IsTyped}

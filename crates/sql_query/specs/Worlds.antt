@@ -1,7 +1,7 @@
 -- What is stored: the definitions of the catalogue, and beside each table its rows. Own.
 use Rattle.std.specs.Prelude.{◌≡◌, List, [], length, slice_index_or}
 use Rattle.std.specs.List.{AllZip}
-use Rattle.pg_base.specs.declared.numbers.TableNo.{TableNo}
+use Rattle.catalog.specs.pg_base_numbers_TableNo.{TableNo}
 use Rattle.catalog.specs.Contents.{Contents, TableDef, nothing}
 use Rattle.heap.specs.Stored.{Stored, IsLawful}
 

@@ -8,7 +8,8 @@ mod order;
 mod prepared;
 mod window;
 
-pub use catalog::RangeTable;
+pub use catalog;
+pub use catalog::{RangeTable, opfamily};
 pub use columns::ColList;
 pub use grouped::{Grouped, Item, ItemList};
 pub use laws::{

@@ -18,7 +18,7 @@ use Rattle.statements.specs.Accepted.{HaveClasses}
 use Rattle.statements.specs.Ending.{end_of_refusal}
 use Rattle.statements.specs.Faults.{in_meaning, in_syntax, no_advice}
 use Rattle.statements.specs.Steps.{IsTelling, Refuses}
-use Rattle.statements.proofs.AnsweringLemmas.{plain-field}
+use Rattle.statements.proofs.PlainLemmas.{plain-field}
 use Rattle.statements.proofs.PlainAdviceLemmas.{advice-fault-plain}
 
 module _ (w : World) (text : List ℕ) (tokens : List Token) where

@@ -7,27 +7,26 @@ use Rattle.sql_lex.specs.declared.tokens.Token.{Token}
 use Rattle.sql_lex.specs.Ends.{end_of}
 use Rattle.sql_grammar.specs.Faults.{terminals}
 use Rattle.catalog.specs.Contents.{Contents}
-use Rattle.fault_line.specs.Tells.{IsFieldOf}
 use Rattle.query_reader.specs.Select.{AreNoOther, is_explained}
 use Rattle.query_reader.specs.Wanted.{wanted_by}
 use Rattle.query_reader.specs.declared.wanted.Wanted.{Wanted}
 use Rattle.query_reader.specs.declared.wanted.Wanted.TheVariants as wanted
-use Rattle.group_explain.specs.Plans.{IsGroupedExplanationOf}
+use Rattle.group_reply.specs.group_explain_Plans.{IsGroupedExplanationOf}
 use Rattle.group_reader.specs.declared.selected.Selected.{Selected}
 use Rattle.group_reader.specs.declared.selected.Selected.TheVariants.{Plain, Grouped}
 use Rattle.group_reply.specs.Replies.{IsGroupedAnswerTo}
 use Rattle.sql_query.specs.Grouped.{GroupedQuery}
 use Rattle.sql_query.specs.Queries.{Query}
 use Rattle.sql_query.specs.Worlds.{World}
-use Rattle.reply.specs.declared.stop.Stop.{Stop}
-use Rattle.reply.specs.declared.stop.Stop.TheVariants as stop
-use Rattle.reply.specs.Effort.{exactly}
-use Rattle.reply.specs.Measures.{IsMeasured}
-use Rattle.reply.specs.Replies.{HasReplied, Leaves, Reply, Traces}
-use Rattle.reply.specs.declared.measuring.Measured.{Measured}
-use Rattle.explain.specs.Texts.{explained_text}
+use Rattle.group_reply.specs.reply_stop_Stop.{Stop}
+use Rattle.group_reply.specs.reply_stop_Stop_TheVariants as stop
+use Rattle.group_reply.specs.reply_Effort.{exactly}
+use Rattle.group_reply.specs.reply_Measures.{IsMeasured}
+use Rattle.group_reply.specs.reply_Replies.{HasReplied, Leaves, Reply, Traces}
+use Rattle.group_reply.specs.reply_measuring_Measured.{Measured}
+use Rattle.group_reply.specs.explain_Texts.{explained_text}
 use Rattle.plan_tree.specs.Plans.{Plan}
-use Rattle.reply.specs.Putting.{HasWriteCause}
+use Rattle.group_reply.specs.reply_Putting.{HasWriteCause}
 use Rattle.statements.specs.declared.end.End.{End}
 use Rattle.statements.specs.declared.end.End.TheVariants as ends
 use Rattle.definitions.specs.Actions.{after}
@@ -39,11 +38,8 @@ use Rattle.statements.specs.Questions.{HasNoneOf, asked_of, groups_asked}
 use Rattle.statements.specs.Replies.{IsReply}
 use Rattle.table_reply.specs.Tabled.{IsTabledText}
 use Rattle.statements.specs.Steps.{IsAnsweredOver, IsTalliedOver, Refuses, StopsOver}
+use Rattle.statements.proofs.PlainLemmas.{plain-field}
 use Rattle.statements.proofs.QueryLemmas.{Reads, query-fault, fault-plain}
-
--- a fault in no record of data is in no field
-pub plain-field : (c : Contents) (f : Fault) → f.rec ≡ 0 → IsFieldOf c f
-plain-field c f none = λ field some. absurd (omega (arith, none, some))
 
 -- a SELECT that is not read
 pub query-refused : (w : World) (text : List ℕ) (tokens : List Token) (refused : Refusal) → 1 < length tokens → AreNoOther text tokens → Reads w text tokens (Err refused) →
@@ -124,7 +120,7 @@ module _ (w : World) (text : List ℕ) (tokens : List Token) (s : Selected) (rea
       (subst (λ (g : Fault). Refuses (end_of_stop e g) w text tokens 0 0) (sym at) (measuring-stops e none wrote))
 
 -- what it told of out's faults
-abbrev ended : End → Result ℕ End
+abbrev pub ended : End → Result ℕ End
 ended e = Err e
 
 pub cause-by : (e : Stop) (word : Fault) (end : End) (before now : ℕ) → end ≡ end_of_stop e word → HasWriteCause {T = Unit {0}} stop.Write before now (Err e) → HasWriteCause {T = ℕ} ends.Write before now (Err end)

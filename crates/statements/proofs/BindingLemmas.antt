@@ -20,7 +20,7 @@ use Rattle.sql_grammar.specs.Faults.{bytes_of, fault_at}
 use Rattle.sql_grammar.specs.Syntax.{Col, bare, qualified, Ordering, ordering, OrderBy, no_order, order_by, OrderedSelect, ordered_select, Expr, Join, join_on, cross_join, Group, group_of, select_from, WindowedSelect, windowed_select, Where, no_where, where_expr, Limit as LimitTree, no_limit, most_rows, Offset, no_offset, skipped_rows, Window as WindowTree, window}
 use Rattle.sql_grammar.specs.FromParts.{groups_after}
 use Rattle.sql_cursor.specs.declared.cursor.Spelled.{Spelled}
-use Rattle.sql_cursor.specs.Lists.{before_all, bound_each, parts_of}
+use Rattle.sql_cursor.specs.Lists.{parts_of}
 use Rattle.expr_reader.specs.Conditions.{the_column, meaning_of_expr}
 use Rattle.expr_reader.specs.Scope.{Scope, under, look_up}
 use Rattle.query_reader.specs.declared.written.Item.{Item}
@@ -32,7 +32,7 @@ use Rattle.query_reader.specs.Scope.{scope_after, scope_of}
 use Rattle.query_reader.specs.From.{Joined, alias_or, conjuncts_of_expr, is_taken, nothing_joined, of_table, under_alias, with_condition, with_group, with_groups, with_join, with_joins, with_relation}
 use Rattle.query_reader.specs.Windows.{most_of, rows_of, skipped_of, window_of}
 use Rattle.query_reader.specs.Binding.{found_relation, item_columns, then_columns, list_columns, conjuncts_written, limited, past_limit, bound_over, bound_from, bound_part, bound}
-use Rattle.statements.proofs.PlainLemmas.{IsPlain, next-plain, found-plain, expr-plain}
+use Rattle.statements.proofs.PlainLemmas.{IsPlain, each-plain, next-plain, found-plain, expr-plain}
 
 relation-plain : (scope : Scope) (qualifier : Token) → IsPlain (found_relation scope qualifier)
 relation-plain [] qualifier = refl
@@ -101,15 +101,6 @@ group-plain j (group_of r xs) = next-plain (with_relation j (source_of r)) _ (re
 pub groups-plain : (j : Joined) (gs : List Group) → IsPlain (with_groups j gs)
 groups-plain j [] = tt
 groups-plain j (g ∷ gs) = next-plain (with_group j g) _ (group-plain j g) (λ i. groups-plain i gs)
-
-before-plain : {B : Type 0} (r : Result B Fault) (rs : Result (List B) Fault) → IsPlain r → IsPlain rs → IsPlain (before_all r rs)
-before-plain (Err f) rs one more = one
-before-plain (Ok b) (Err f) one more = more
-before-plain (Ok b) (Ok bs) one more = tt
-
-pub each-plain : {A B : Type 0} (bind : A → Result B Fault) (xs : List A) → ((x : A) → IsPlain (bind x)) → IsPlain (bound_each bind xs)
-each-plain bind [] h = tt
-each-plain bind (x ∷ xs) h = before-plain (bind x) (bound_each bind xs) (h x) (each-plain bind xs h)
 
 order-column-plain : (scope : Scope) (select : List ColRef) (x : Col) → IsPlain (order_column scope select x)
 order-column-plain scope select (bare n) = found-plain (first_among (shown_of_name scope select (bytes_of n)) (look_up scope None (bytes_of n))) (token_of n) (token_of n)

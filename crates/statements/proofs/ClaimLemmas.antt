@@ -45,10 +45,9 @@ use Rattle.statements.specs.Claims.{IsWholeFor, action_for, begins_for, words_fo
 use Rattle.statements.specs.Ending.{end_of_refusal}
 use Rattle.statements.specs.Faults.{IsCheckFault, IsMeaningFault, endless_fault, in_line, in_meaning, in_select, in_syntax, without_end}
 use Rattle.statements.specs.Steps.{Refuses, begins_check, begins_use}
-use Rattle.statements.proofs.AnsweringLemmas.{plain-field}
 use Rattle.statements.proofs.BindingLemmas.{part-plain}
 use Rattle.statements.proofs.PlaceLemmas.{check-end, use-end}
-use Rattle.statements.proofs.PlainLemmas.{IsPlain, first-plain}
+use Rattle.statements.proofs.PlainLemmas.{IsPlain, first-plain, plain-field}
 use Rattle.statements.proofs.QueryLemmas.{first-token, meant-fault, meant-ok}
 
 -- a word is the first one, or it is not

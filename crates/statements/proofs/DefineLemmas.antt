@@ -3,8 +3,6 @@ use Rattle.std.proofs.Common.{◌≡◌, ◌≤◌, ◌+◌, ◌^◌, ℕ, Bool,
 use Rattle.std.specs.Str.{bytes_eq}
 use Rattle.pg_base.specs.declared.numbers.ColNo.{ColNo}
 use Rattle.pg_base.specs.declared.numbers.TableNo.{TableNo}
-use Rattle.pg_base.specs.declared.faults.Code.{Code}
-use Rattle.pg_base.specs.declared.faults.Code.TheVariants.{S2, S3}
 use Rattle.pg_base.specs.declared.faults.Fault.{Fault}
 use Rattle.pg_base.specs.declared.limits.TheConstants.{MOST_COLUMNS, MOST_SCRIPT_BYTES}
 use Rattle.pg_base.specs.declared.faults.Refusal.{Refusal}
@@ -17,7 +15,7 @@ use Rattle.sql_grammar.specs.Syntax.{Lit, Statement, empty, create_table, create
 use Rattle.sql_grammar.specs.Faults.{terminals, bytes_of}
 use Rattle.sql_grammar.specs.CopyLine.{IsDataStart}
 use Rattle.catalog.specs.Contents.{Contents, IsTable, table_at}
-use Rattle.catalog.specs.Tables.{IsAcceptable, column_named, table_named}
+use Rattle.catalog.specs.Tables.{IsAcceptable, table_named}
 use Rattle.catalog.specs.Entries.{statistics}
 use Rattle.catalog.specs.Indexes.{type_at}
 use Rattle.catalog.specs.Statistics.{AreAllowed, is_count}
@@ -28,8 +26,8 @@ use Rattle.ddl_reader.specs.declared.ddl.Read.{Read}
 use Rattle.ddl_reader.specs.Readings.{definition, reading}
 use Rattle.ddl_reader.specs.Types.{type_named}
 use Rattle.ddl_reader.specs.Columns.{Written, written, Bound, bound, bound_by, bound_all, further}
-use Rattle.sql_cursor.specs.Lists.{before_all, bound_each}
-use Rattle.ddl_reader.specs.Statistics.{CommonWords, common_value, known, table_of_name, column_of_name, table_statistics, statistics_of, column_statistics_of, commons_of, bounds_of, analysis}
+use Rattle.sql_cursor.specs.Lists.{bound_each}
+use Rattle.ddl_reader.specs.Statistics.{CommonWords, common_value, table_of_name, column_of_name, table_statistics, statistics_of, column_statistics_of, commons_of, bounds_of, analysis}
 use Rattle.expr_reader.specs.Literals.{typed_value}
 use Rattle.ddl_reader.specs.Tables.{table, sizes_for, statistics_for, data_for, analysis_of, Reading, table_reading, limited, table_of, data_of, data_after}
 use Rattle.pg_value.specs.Fields.{null_text}
@@ -50,24 +48,12 @@ use Rattle.statements.specs.Accepted.{Carries, Does}
 use Rattle.store.specs.Kept.{load_looks}
 use Rattle.statements.specs.Replies.{IsReply, silent}
 use Rattle.statements.specs.Steps.{IsCarrying, IsDefined, Refuses, RefusesData, RefusesDefinition}
-use Rattle.statements.proofs.PlainLemmas.{IsPlain, next-plain, typed-plain}
+use Rattle.statements.proofs.PlainLemmas.{IsPlain, column-name-plain, each-plain, next-plain, plain-field, table-name-plain, typed-plain}
 
 -- faults of words, of syntax and of names are in no record of data
-no-field : (c : Contents) (f : Fault) → f.rec ≡ 0 → IsFieldOf c f
-no-field c f none = λ field some. absurd (omega (arith, none, some))
-
 type-plain : (o : Option SqlType) (w : Written) → IsPlain (bound_by o w)
 type-plain None w = refl
 type-plain (Some t) w = tt
-
-before-plain : {B : Type 0} (r : Result B Fault) (rs : Result (List B) Fault) → IsPlain r → IsPlain rs → IsPlain (before_all r rs)
-before-plain (Err f) rs one more = one
-before-plain (Ok b) (Err f) one more = more
-before-plain (Ok b) (Ok bs) one more = tt
-
-each-plain : {A B : Type 0} (bind : A → Result B Fault) (xs : List A) → ((x : A) → IsPlain (bind x)) → IsPlain (bound_each bind xs)
-each-plain bind [] h = tt
-each-plain bind (x ∷ xs) h = before-plain (bind x) (bound_each bind xs) (h x) (each-plain bind xs h)
 
 columns-plain : (ws : List Written) → IsPlain (bound_all ws)
 columns-plain ws = each-plain bound ws (λ w. type-plain (type_named w.kind) w)
@@ -93,21 +79,11 @@ after-plain text end o name_at null_at null (Err f) begins = ap (λ (g : Fault).
 after-plain text end o name_at null_at null (Ok start) begins = data-plain o name_at null_at null start
 
 -- the names and literals of STATISTICS
-known-plain : {A : Type 0} (code : Code) (token : Token) (o : Option A) → IsPlain (known code token o)
-known-plain code token None = refl
-known-plain code token (Some x) = tt
-
-name-plain : (cat : Contents) (n : Ident) → IsPlain (table_of_name cat n)
-name-plain cat n = known-plain S2 (token_of n) (table_named cat (bytes_of n))
-
-column-name-plain : (cat : Contents) (t : TableNo) (n : Ident) → IsPlain (column_of_name cat t n)
-column-name-plain cat t n = known-plain S3 (token_of n) (column_named cat t (bytes_of n))
-
 sizes-plain : (cat : Contents) (n : Ident) (rows pages : Said) → IsPlain (table_statistics cat n rows pages)
-sizes-plain cat n rows pages = next-plain (table_of_name cat n) _ (name-plain cat n) (λ t. tt)
+sizes-plain cat n rows pages = next-plain (table_of_name cat n) _ (table-name-plain cat n) (λ t. tt)
 
 analysis-plain : (cat : Contents) (n : Ident) → IsPlain (analysis cat n)
-analysis-plain cat n = next-plain (table_of_name cat n) _ (name-plain cat n) (λ t. tt)
+analysis-plain cat n = next-plain (table_of_name cat n) _ (table-name-plain cat n) (λ t. tt)
 
 common-plain : (t : SqlType) (w : CommonWords) → IsPlain (common_value t w)
 common-plain t w = next-plain (typed_value t w.0) _ (typed-plain t w.0) (λ v. tt)
@@ -119,7 +95,7 @@ values-plain t of col distinct nulls commons bounds =
 
 statistics-plain : (cat : Contents) (n c : Ident) (distinct nulls : Said) (commons : List CommonWords) (bounds : List Lit) → IsPlain (column_statistics_of cat n c distinct nulls commons bounds)
 statistics-plain cat n c distinct nulls commons bounds =
-    next-plain (table_of_name cat n) _ (name-plain cat n)
+    next-plain (table_of_name cat n) _ (table-name-plain cat n)
     (λ t. next-plain (column_of_name cat t c) _ (column-name-plain cat t c) (λ col. values-plain (type_at (table_at cat t).columns col) t col distinct nulls commons bounds))
 
 means-plain : (cat : Contents) (text : List ℕ) (x : Statement) (r : Result Reading Fault) → Means cat text x r → IsPlain r
@@ -180,9 +156,9 @@ module _ (w : World) (text : List ℕ) (tokens : List Token) where
   does (analyze p k n e) r action next means carries = (r, means, carries)
 
   refused-by : (f : Fault) → IsDdlFault w.contents text tokens f true → IsFaultOver w text tokens f × IsFieldOf w.contents f
-  refused-by f (inl first) = (in_syntax first, no-field w.contents f (ap (λ (g : Fault). g.rec) first.place))
+  refused-by f (inl first) = (in_syntax first, plain-field w.contents f (ap (λ (g : Fault). g.rec) first.place))
   refused-by f (inr m) =
-      (in_meaning m.statement m.spelled (names-fault m.statement f m.means), no-field w.contents f (means-plain w.contents text m.statement (Err f) m.means))
+      (in_meaning m.statement m.spelled (names-fault m.statement f m.means), plain-field w.contents f (means-plain w.contents text m.statement (Err f) m.means))
 
   -- what the reader refuses
   pub read-refused : (looked : ℕ) (r : Refusal) → begins_ddl (terminals text tokens) ≡ true → IsDdlRefusal w.contents text tokens r → Refuses (end_of_refusal r) w text tokens looked looked

@@ -22,8 +22,8 @@ use Rattle.query_reader.specs.Scope.{scope_of}
 use Rattle.query_reader.specs.Written.{item_of}
 use Rattle.group_reader.specs.declared.parts.Part.{Part}
 use Rattle.group_reader.specs.Binding.{all_grouped, bound_groups, call_parts, group_columns, groups_over, item_parts, known_call, list_parts, lists_bound, none_of, order_words, over_column, over_rows, shown_columns, ungrouped_items, ungrouped_part}
-use Rattle.statements.proofs.BindingLemmas.{each-plain, groups-plain, item-plain, limit-plain, order-plain, where-plain}
-use Rattle.statements.proofs.PlainLemmas.{IsPlain, column-plain, next-plain}
+use Rattle.statements.proofs.BindingLemmas.{groups-plain, item-plain, limit-plain, order-plain, where-plain}
+use Rattle.statements.proofs.PlainLemmas.{IsPlain, column-plain, each-plain, next-plain}
 
 known-plain : (n : Ident) (o : Option Item) → IsPlain (known_call n o)
 known-plain n None = refl

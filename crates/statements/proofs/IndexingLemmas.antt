@@ -1,8 +1,7 @@
 -- CREATE INDEX: what it does, or why it is refused.
 use Rattle.std.proofs.Common.{◌≡◌, ◌≢◌, ◌≤◌, ◌+◌, ℕ, Bool, true, false, cond, List, [], ◌∷◌, length, drop, Option, Some, None, Result, Ok, Err, refl, sym, arith, ap, subst, ◌∙◌, inl, inr}
 use Rattle.pg_base.specs.declared.numbers.TableNo.{TableNo}
-use Rattle.pg_base.specs.declared.faults.Code.{Code}
-use Rattle.pg_base.specs.declared.faults.Code.TheVariants.{S2, S3, S8}
+use Rattle.pg_base.specs.declared.faults.Code.TheVariants.{S8}
 use Rattle.pg_base.specs.declared.faults.Fault.{Fault}
 use Rattle.pg_base.specs.declared.faults.Refusal.{Refusal}
 use Rattle.pg_base.specs.declared.faults.Refusal.TheVariants as refusal
@@ -17,12 +16,12 @@ use Rattle.sql_lex.specs.Ends.{end_of}
 use Rattle.sql_grammar.specs.Terminals.{Ident, token_of}
 use Rattle.sql_grammar.specs.Syntax.{Where, no_where, where_expr, OpClass as ClassTree, no_class, op_class, IndexKey as KeyTree, index_key, Using, no_using, using_method, Cand, cand_on, CreateIndex, index_on, create_index}
 use Rattle.sql_grammar.specs.Faults.{bytes_of}
-use Rattle.sql_cursor.specs.Lists.{before_all, bound_each}
+use Rattle.sql_cursor.specs.Lists.{bound_each}
 use Rattle.catalog.specs.declared.fault.CatalogFault.{CatalogFault}
 use Rattle.catalog.specs.declared.fault.CatalogFault.TheVariants as refused
 use Rattle.catalog.specs.Contents.{Contents, table_at}
 use Rattle.catalog.specs.Indexes.{Index, columns_of, type_at}
-use Rattle.catalog.specs.Tables.{IsAcceptableIndex, IsIndexRefusal, column_named, table_named}
+use Rattle.catalog.specs.Tables.{IsAcceptableIndex, IsIndexRefusal}
 use Rattle.expr_reader.specs.Conditions.{meaning_of_expr}
 use Rattle.ddl_reader.specs.Statistics.{known, table_of_name, column_of_name}
 use Rattle.index_reader.specs.declared.keys.KeyRead.{KeyRead}
@@ -32,7 +31,6 @@ use Rattle.index_reader.specs.Keys.{class_bound, class_has_method, class_known, 
 use Rattle.index_reader.specs.Meaning.{Reading, condition_bound, has_many_atoms, index_reading, limited, meaning, meaning_of_cand, name_tokens, within_limits}
 use Rattle.index_reader.specs.Statements.{IsMeaning, IsRefusal}
 use Rattle.index_reader.specs.Visible.{Sight, visible_in, type_in}
-use Rattle.fault_line.specs.Tells.{IsFieldOf}
 use Rattle.sql_query.specs.Worlds.{World, stored_at}
 use Rattle.statements.specs.declared.end.End.{End}
 use Rattle.statements.specs.declared.end.End.TheVariants as ends
@@ -40,22 +38,9 @@ use Rattle.definitions.specs.Actions.{after, build}
 use Rattle.statements.specs.Ending.{IsPlaceAmong, end_by, end_of_refusal}
 use Rattle.statements.specs.Faults.{in_syntax, in_meaning, index_fault}
 use Rattle.statements.specs.Steps.{IsCarrying, IsDefined, Refuses}
-use Rattle.statements.proofs.PlainLemmas.{IsPlain, next-plain, expr-plain}
+use Rattle.statements.proofs.PlainLemmas.{IsPlain, column-name-plain, each-plain, expr-plain, known-plain, next-plain, plain-field, table-name-plain}
 
 -- the faults of names, classes and limits are in no record of data
-known-plain : {A : Type 0} (code : Code) (token : Token) (o : Option A) → IsPlain (known code token o)
-known-plain code token None = refl
-known-plain code token (Some x) = tt
-
-before-plain : {B : Type 0} (r : Result B Fault) (rs : Result (List B) Fault) → IsPlain r → IsPlain rs → IsPlain (before_all r rs)
-before-plain (Err f) rs one more = one
-before-plain (Ok b) (Err f) one more = more
-before-plain (Ok b) (Ok bs) one more = tt
-
-each-plain : {A B : Type 0} (bind : A → Result B Fault) (xs : List A) → ((x : A) → IsPlain (bind x)) → IsPlain (bound_each bind xs)
-each-plain bind [] h = tt
-each-plain bind (x ∷ xs) h = before-plain (bind x) (bound_each bind xs) (h x) (each-plain bind xs h)
-
 accepted-plain : (has fits : Bool) (token : Token) (c : OpClass) (code other : Fault) → code.rec ≡ 0 → other.rec ≡ 0 → IsPlain (cond has (cond fits (Ok c) (Err code)) (Err other))
 accepted-plain true true token c code other p q = tt
 accepted-plain true false token c code other p q = p
@@ -73,16 +58,13 @@ method-plain : (u : Using) → IsPlain (method_bound u)
 method-plain no_using = tt
 method-plain (using_method k n) = next-plain (known S8 (token_of n) (method_of_name (bytes_of n))) _ (known-plain S8 (token_of n) (method_of_name (bytes_of n))) (λ m. tt)
 
-column-plain : (cat : Contents) (t : TableNo) (n : Ident) → IsPlain (column_of_name cat t n)
-column-plain cat t n = known-plain S3 (token_of n) (column_named cat t (bytes_of n))
-
 key-plain : (cat : Contents) (t : TableNo) (m : Method) (k : KeyTree) → IsPlain (key_bound cat t m k)
 key-plain cat t m (index_key n c d z) =
-    next-plain (column_of_name cat t n) _ (column-plain cat t n)
+    next-plain (column_of_name cat t n) _ (column-name-plain cat t n)
     (λ col. next-plain (class_bound m (type_at (table_at cat t).columns col) c) _ (class-bound-plain m (type_at (table_at cat t).columns col) c) (λ class. tt))
 
 include-plain : (cat : Contents) (t : TableNo) (n : Ident) → IsPlain (name_bound cat t n)
-include-plain cat t n = next-plain (column_of_name cat t n) _ (column-plain cat t n) (λ col. tt)
+include-plain cat t n = next-plain (column_of_name cat t n) _ (column-name-plain cat t n) (λ col. tt)
 
 condition-plain : (s : Sight) (w : Where) → IsPlain (condition_bound s w)
 condition-plain s no_where = tt
@@ -102,7 +84,7 @@ limits-plain start n t m keys names predicate =
 
 pub cand-plain : (cat : Contents) (start : Token) (x : Cand) → IsPlain (meaning_of_cand cat start x)
 cand-plain cat start (cand_on n o of u p x xs m c w) =
-    next-plain (table_of_name cat of) _ (known-plain S2 (token_of of) (table_named cat (bytes_of of))) (λ t.
+    next-plain (table_of_name cat of) _ (table-name-plain cat of) (λ t.
     next-plain (method_bound u) _ (method-plain u) (λ by.
     next-plain (bound_each (key_bound cat t by.method) (keys_of x xs)) _ (each-plain (key_bound cat t by.method) (keys_of x xs) (key-plain cat t by.method)) (λ keys.
     next-plain (bound_each (name_bound cat t) (names_of c)) _ (each-plain (name_bound cat t) (names_of c) (include-plain cat t)) (λ names.
@@ -111,9 +93,6 @@ cand-plain cat start (cand_on n o of u p x xs m c w) =
 
 meaning-plain : (cat : Contents) (x : CreateIndex) → IsPlain (meaning cat x)
 meaning-plain cat (index_on start i n o of u p x xs m c w e) = cand-plain cat start (cand_on n o of u p x xs m c w)
-
-no-field : (c : Contents) (f : Fault) → f.rec ≡ 0 → IsFieldOf c f
-no-field c f none = λ field some. absurd (omega (arith, none, some))
 
 fault-plain : (cat : Contents) (x : CreateIndex) (f : Fault) → meaning cat x ≡ Err f → f.rec ≡ 0
 fault-plain cat x f is = subst IsPlain is (meaning-plain cat x)
@@ -129,8 +108,8 @@ place-among cat name x refused.Memory count h many = tt
 module _ (w : World) (text : List ℕ) (tokens : List Token) where
   -- what the reader refuses
   pub read-refused : (looked : ℕ) (r : Refusal) → IsRefusal w.contents text tokens r → Refuses (end_of_refusal r) w text tokens looked looked
-  read-refused looked (refusal.Fault f) (inl first) = (in_syntax first, no-field w.contents f (ap (λ (g : Fault). g.rec) first.place), refl)
-  read-refused looked (refusal.Fault f) (inr m) = (in_meaning (create_index m.statement) m.spelled (inl m.means), no-field w.contents f (fault-plain w.contents m.statement f m.means), refl)
+  read-refused looked (refusal.Fault f) (inl first) = (in_syntax first, plain-field w.contents f (ap (λ (g : Fault). g.rec) first.place), refl)
+  read-refused looked (refusal.Fault f) (inr m) = (in_meaning (create_index m.statement) m.spelled (inl m.means), plain-field w.contents f (fault-plain w.contents m.statement f m.means), refl)
   read-refused looked refusal.Memory h = inl refl
 
   module _ (r : Reading) (m : IsMeaning w.contents text tokens (Ok r)) where
@@ -150,7 +129,7 @@ module _ (w : World) (text : List ℕ) (tokens : List Token) where
 
     -- what it refuses
     fault-by : (looked looked' : ℕ) (e : CatalogFault) (f : Fault) → IsIndexRefusal w.contents r.name r.index e → index_fault e r.at r.method tokens ≡ Some f → f.rec ≡ 0 → looked' ≡ looked → Refuses (ends.Fault f) w text tokens looked looked'
-    fault-by looked looked' e f h told none same = (in_meaning (create_index m.statement) m.spelled (inr (r, e, m.means, h, told)), no-field w.contents f none, same)
+    fault-by looked looked' e f h told none same = (in_meaning (create_index m.statement) m.spelled (inr (r, e, m.means, h, told)), plain-field w.contents f none, same)
 
     told : (looked looked' : ℕ) (e : CatalogFault) → IsIndexRefusal w.contents r.name r.index e → (e ≢ refused.Memory → looked' ≡ looked) → looked' ≤ looked + length (stored_at w r.index.table).rows →
         Refuses (end_by (index_fault e r.at r.method tokens)) w text tokens looked looked'

@@ -1,7 +1,7 @@
 -- ADVISE means one thing, but for the tables of classes of its queries, which are given.
-use Rattle.std.proofs.Common.{◌≡◌, ◌+◌, ℕ, Bool, true, false, List, [], ◌∷◌, ◌++◌, length, map, inl, inr, refl, sym, ap, subst, ◌∙◌, arith, Some, Result, Ok, Err}
+use Rattle.std.proofs.Common.{◌≡◌, ◌+◌, ℕ, List, [], ◌∷◌, ◌++◌, length, map, inl, inr, refl, sym, ap, subst, ◌∙◌, arith, Some, Result, Ok, Err}
 use Rattle.std.specs.Prelude.{slice_index_or}
-use Rattle.std.proofs.lemmas.Bool.{true≢false}
+use Rattle.std.proofs.lemmas.Bool.{both_ways}
 use Rattle.std.proofs.lemmas.List.Elements.{All-pop}
 use Rattle.std.proofs.lemmas.List.{length-append}
 use Rattle.pg_base.specs.declared.faults.Code.TheVariants.{S6}
@@ -57,9 +57,6 @@ read-one A B M one earlier [] = one-value (Ok earlier)
 read-one A B M one earlier (x ∷ xs) =
     then-one B (List B) (M earlier x) (λ y. AreRead A B M (earlier ++ y ∷ []) xs) (one earlier x) (λ y. read-one A B M one (earlier ++ y ∷ []) xs)
 
-not-both : (b : Bool) → b ≡ true → b ≡ false → ⊥
-not-both b holds fails = true≢false (sym holds ∙ fails)
-
 module _ (c : Contents) (tokens : List Token) (read : Reading) where
   -- a candidate may not be made for one reason
   one-cause : (f g : Fault) → IsNotAllowed c tokens read f → IsNotAllowed c tokens read g → f ≡ g
@@ -77,7 +74,7 @@ module _ (c : Contents) (tokens : List Token) (read : Reading) where
   no-cause : (f : Fault) → IsAllowed c read → IsNotAllowed c tokens read f → ⊥
   no-cause f a (taken h i) = a.free h
   no-cause f a (repeated p h m i) = twice (columns_of read.index) p m a.distinct
-  no-cause f a (formless h m n i) = not-both (has_form read.index) a.form n
+  no-cause f a (formless h m n i) = both_ways (has_form read.index) n a.form
 
   made-one : HasOne (MayBeMade c tokens read)
   made-one (Ok x) (Ok y) h k = ap Ok (h.1 ∙ sym k.1)

@@ -1,6 +1,6 @@
 -- Data end at one place, and a table and statistics are refused for one cause.
-use Rattle.std.proofs.Common.{◌≡◌, ℕ, ◌+◌, ◌<◌, inl, inr, Bool, List, [], ◌∷◌, ◌++◌, length, take, drop, get_or, true, false, refl, sym, ap, ◌∙◌, arith, subst, Contains, slice_index_or, Some, None, Result, Ok, Err}
-use Rattle.std.proofs.lemmas.Bool.{cases_lt}
+use Rattle.std.proofs.Common.{◌≡◌, ℕ, ◌+◌, ◌<◌, inl, inr, List, [], ◌∷◌, ◌++◌, length, take, drop, get_or, true, false, refl, sym, ap, ◌∙◌, arith, subst, Contains, slice_index_or, Some, None, Result, Ok, Err}
+use Rattle.std.proofs.lemmas.Bool.{both_ways, cases_lt}
 use Rattle.std.proofs.lemmas.List.{get_or-take, get_or_default, length-take, take-take}
 use Rattle.std.proofs.lemmas.List.Elements.{All-head, All-tail}
 use Rattle.pg_base.specs.declared.faults.Fault.{Fault}
@@ -107,22 +107,19 @@ no_refusal c name names at ends TooMany f a h i = omega (arith, h.2, a.room)
 no_refusal c name names at ends (BadNumber p) f a h i = absurd h
 no_refusal c name names at ends Memory f a h i = no-fault f i
 
-both_ways : (b : Bool) → b ≡ true → b ≡ false → ⊥
-both_ways b p q = let wrong : true ≡ false = sym p ∙ q in cc
-
 one_number : (at : List ℕ) (p q : ℕ) (f g : Fault) → p ≡ q → number_fault (BadNumber p) at ≡ Some f → number_fault (BadNumber q) at ≡ Some g → f ≡ g
 one_number at p q f g same i j = some-one f g (sym i ∙ (ap (λ n. number_fault (BadNumber n) at) same ∙ j))
 
 one_size : (rows pages p q : ℕ) → IsSizeRefusal rows pages (BadNumber p) → IsSizeRefusal rows pages (BadNumber q) → p ≡ q
 one_size rows pages p q (inl (a, x)) (inl (b, y)) = a ∙ sym b
-one_size rows pages p q (inl (a, x)) (inr (b, y, z)) = absurd (both_ways (is_count rows) y x)
-one_size rows pages p q (inr (a, x, z)) (inl (b, y)) = absurd (both_ways (is_count rows) x y)
+one_size rows pages p q (inl (a, x)) (inr (b, y, z)) = absurd (both_ways (is_count rows) x y)
+one_size rows pages p q (inr (a, x, z)) (inl (b, y)) = absurd (both_ways (is_count rows) y x)
 one_size rows pages p q (inr (a, x, z)) (inr (b, y, u)) = a ∙ sym b
 
 one_place : (s : Statistics) (p q : ℕ) → IsFirstRefused s p → IsFirstRefused s q → p ≡ q
 one_place s p q h k = elim (cases_lt p q) [
-  | inl lt ↦ absurd (both_ways (is_refused s p) h.refused (k.before p lt))
-  | inr le ↦ elim (cases_lt q p) [ inl lt ↦ absurd (both_ways (is_refused s q) k.refused (h.before q lt)) | inr ge ↦ omega (arith, le, ge) ]
+  | inl lt ↦ absurd (both_ways (is_refused s p) (k.before p lt) h.refused)
+  | inr le ↦ elim (cases_lt q p) [ inl lt ↦ absurd (both_ways (is_refused s q) (h.before q lt) k.refused) | inr ge ↦ omega (arith, le, ge) ]
 ]
 
 -- the numbers of a table's sizes are refused at one place
@@ -151,15 +148,15 @@ one_statistics_refusal s at Memory e f g h k i j = absurd h
 
 -- sizes and statistics that are taken are not refused
 pub no_size_refusal : (rows pages : ℕ) (e : CatalogFault) → is_count rows ≡ true → is_count pages ≡ true → IsSizeRefusal rows pages e → ⊥
-no_size_refusal rows pages (BadNumber p) some more (inl (at, bad)) = both_ways (is_count rows) some bad
-no_size_refusal rows pages (BadNumber p) some more (inr (at, good, bad)) = both_ways (is_count pages) more bad
+no_size_refusal rows pages (BadNumber p) some more (inl (at, bad)) = both_ways (is_count rows) bad some
+no_size_refusal rows pages (BadNumber p) some more (inr (at, good, bad)) = both_ways (is_count pages) bad more
 no_size_refusal rows pages NameTaken some more h = h
 no_size_refusal rows pages (ColumnTwice p) some more h = h
 no_size_refusal rows pages TooMany some more h = h
 no_size_refusal rows pages Memory some more h = h
 
 pub no_statistics_refusal : (s : Statistics) (e : CatalogFault) → AreAllowed s → IsStatisticsRefusal s e → ⊥
-no_statistics_refusal s (BadNumber p) allowed h = both_ways (is_refused s p) h.refused (allowed p)
+no_statistics_refusal s (BadNumber p) allowed h = both_ways (is_refused s p) (allowed p) h.refused
 no_statistics_refusal s NameTaken allowed h = h
 no_statistics_refusal s (ColumnTwice p) allowed h = h
 no_statistics_refusal s TooMany allowed h = h

@@ -22,7 +22,7 @@ use Rattle.query_reader.specs.Binding.{Bound, query_with}
 use Rattle.query_reader.specs.Wanted.{wanted_by}
 use Rattle.query_reader.specs.declared.wanted.Wanted.{Wanted}
 use Rattle.query_reader.specs.declared.wanted.Wanted.TheVariants as wanted
-use Rattle.group_explain.specs.Plans.{HasNoGroupPlan}
+use Rattle.group_reply.specs.group_explain_Plans.{HasNoGroupPlan}
 use Rattle.group_query.specs.Grouping.{given_groups}
 use Rattle.group_reader.specs.Binding.{BoundGroups, bound_groups, grouped_with}
 use Rattle.sql_query.specs.Grouped.{GroupedQuery}
@@ -33,8 +33,8 @@ use Rattle.sql_query.specs.Worlds.{World, stored_at}
 use Rattle.definitions.specs.Actions.{Action, advise, build, fill, follow, verify}
 use Rattle.statements.specs.Accepted.{Advises, Answers, Carries, Does, Groups, Indexes, IsReadOver, IsRead, Takes, asked, asked_as, asked_of_groups}
 use Rattle.statements.specs.Faults.{endless_fault, index_fault, word_ends, IsCheckFault, in_line, in_select, without_end, rows_fault, IsRefused, IsAdviseFault, IsDefinitionFault, IsGroupFault, IsIndexFault, IsQueryFault, IsMeaningFault, IsFaultOver, in_syntax, in_meaning, IsFault, in_words, after_words}
-use Rattle.reply.specs.Answers.{HasNoPlan}
-use Rattle.reply.specs.Replies.{Reply}
+use Rattle.group_reply.specs.reply_Answers.{HasNoPlan}
+use Rattle.group_reply.specs.reply_Replies.{Reply}
 use Rattle.statements.specs.Replies.{IsReply}
 use Rattle.advise_reader.specs.Meaning.{Asked}
 use Rattle.index_prices.specs.Replies.{HasNoAdviceFor}

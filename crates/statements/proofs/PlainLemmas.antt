@@ -1,7 +1,9 @@
 -- A fault of names, literals and limits is in no record of data.
-use Rattle.std.proofs.Common.{◌≡◌, ℕ, Bool, true, false, cond, List, Option, Some, None, Ok, Err, Result, refl, ap}
+use Rattle.std.proofs.Common.{◌≡◌, ℕ, Bool, true, false, cond, List, [], ◌∷◌, Option, Some, None, Ok, Err, Result, refl, ap, arith}
 use Rattle.pg_base.specs.declared.faults.Code.{Code}
+use Rattle.pg_base.specs.declared.faults.Code.TheVariants.{S2, S3}
 use Rattle.pg_base.specs.declared.faults.Fault.{Fault}
+use Rattle.pg_base.specs.declared.numbers.TableNo.{TableNo}
 use Rattle.pg_value.specs.declared.fields.FieldFault.{FieldFault}
 use Rattle.pg_value.specs.declared.fields.FieldFault.TheVariants as fields
 use Rattle.pg_value.specs.declared.operators.Op.{Op}
@@ -13,16 +15,21 @@ use Rattle.opfamily.specs.Answers.{does_exist}
 use Rattle.pg_expr.specs.declared.operand.ColRef.{ColRef}
 use Rattle.pg_expr.specs.declared.operand.Operand.{Operand as Bound}
 use Rattle.pg_expr.specs.Cond.{Cond, Conds, compare as compared}
+use Rattle.catalog.specs.Contents.{Contents}
+use Rattle.catalog.specs.Tables.{column_named, table_named}
 use Rattle.sql_lex.specs.declared.tokens.Token.{Token}
-use Rattle.sql_grammar.specs.Terminals.{Said, token_of}
+use Rattle.sql_grammar.specs.Terminals.{Ident, Said, token_of}
 use Rattle.sql_grammar.specs.Faults.{Production, IsFirstFault, bytes_of, fault_at}
 use Rattle.sql_grammar.specs.Syntax.{Col, bare, qualified, yes, no, unknown, Lit, number, negative, quoted, constant, Operand, column, literal, Expr, either_of, Ors, no_or, or_conj, Conj, both_of, Ands, no_and, and_neg, Neg, negated, plain, Atom, parens, compare, is_null, is_not_null, column_alone, constant_alone}
+use Rattle.sql_cursor.specs.Lists.{before_all, bound_each}
 use Rattle.sql_cursor.specs.Operators.{operator_of}
 use Rattle.expr_reader.specs.declared.found.Found.{Found}
 use Rattle.expr_reader.specs.declared.found.Found.TheVariants.{One, NoTable, NoColumn, Many}
 use Rattle.expr_reader.specs.Scope.{Scope, look_up}
 use Rattle.expr_reader.specs.Literals.{literal_value, number_as, flag_as, typed_value, value_at, written}
 use Rattle.expr_reader.specs.Conditions.{next, the_column, column_of, place_of_col, Side, of_column, of_literal, own_type, type_beside, operand_of, operated, compare_as, flag_column, then_parts, side_of, meaning_of_expr, meaning_of_ors, meaning_of_conj, meaning_of_ands, meaning_of_neg, meaning_of_atom}
+use Rattle.ddl_reader.specs.Statistics.{known, table_of_name, column_of_name}
+use Rattle.fault_line.specs.Tells.{IsFieldOf}
 
 -- a fault is in no record
 abbrev pub IsPlain : {A : Type 0} → Result A Fault → Type 0
@@ -35,6 +42,31 @@ next-plain (Err f) more h k = h
 
 pub first-plain : (Of : Production) (text : List ℕ) (tokens : List Token) (f : Fault) → IsFirstFault Of text tokens f → f.rec ≡ 0
 first-plain Of text tokens f first = ap (λ (x : Fault). x.rec) first.place
+
+-- such a fault is in no field
+pub plain-field : (c : Contents) (f : Fault) → f.rec ≡ 0 → IsFieldOf c f
+plain-field c f none = λ field some. absurd (omega (arith, none, some))
+
+-- parts that are bound from the left
+before-plain : {B : Type 0} (r : Result B Fault) (rs : Result (List B) Fault) → IsPlain r → IsPlain rs → IsPlain (before_all r rs)
+before-plain (Err f) rs one more = one
+before-plain (Ok b) (Err f) one more = more
+before-plain (Ok b) (Ok bs) one more = tt
+
+pub each-plain : {A B : Type 0} (bind : A → Result B Fault) (xs : List A) → ((x : A) → IsPlain (bind x)) → IsPlain (bound_each bind xs)
+each-plain bind [] h = tt
+each-plain bind (x ∷ xs) h = before-plain (bind x) (bound_each bind xs) (h x) (each-plain bind xs h)
+
+-- names of what the catalogue has
+pub known-plain : {A : Type 0} (code : Code) (token : Token) (o : Option A) → IsPlain (known code token o)
+known-plain code token None = refl
+known-plain code token (Some x) = tt
+
+pub table-name-plain : (cat : Contents) (n : Ident) → IsPlain (table_of_name cat n)
+table-name-plain cat n = known-plain S2 (token_of n) (table_named cat (bytes_of n))
+
+pub column-name-plain : (cat : Contents) (t : TableNo) (n : Ident) → IsPlain (column_of_name cat t n)
+column-name-plain cat t n = known-plain S3 (token_of n) (column_named cat t (bytes_of n))
 
 -- literals
 value-plain : (token : Token) (r : Result Value FieldFault) → IsPlain (value_at token r)

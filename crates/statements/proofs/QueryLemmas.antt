@@ -30,12 +30,12 @@ use Rattle.group_reader.specs.Binding.{BoundGroups, bound_groups, grouped_with}
 use Rattle.group_reader.specs.Selected.{IsAnyGrammatical, IsReadGrouped, IsReadPlain, IsWellSelected}
 use Rattle.group_reader.specs.declared.selected.Selected.{Selected}
 use Rattle.group_reader.specs.declared.selected.Selected.TheVariants.{Plain, Grouped}
-use Rattle.group_explain.specs.Plans.{HasNoGroupPlan}
+use Rattle.group_reply.specs.group_explain_Plans.{HasNoGroupPlan}
 use Rattle.sql_query.specs.Grouped.{GroupedQuery}
 use Rattle.sql_query.specs.Queries.{Query}
 use Rattle.sql_query.specs.WellBound.{given_of}
 use Rattle.sql_query.specs.Worlds.{World}
-use Rattle.reply.specs.Answers.{HasNoPlan}
+use Rattle.group_reply.specs.reply_Answers.{HasNoPlan}
 use Rattle.definitions.specs.Actions.{answer_groups, explain_groups}
 use Rattle.statements.specs.Accepted.{IsReadOver, asked, asked_of_groups}
 use Rattle.statements.specs.Faults.{IsFaultOver, in_syntax, in_meaning, no_plan}

@@ -2,17 +2,17 @@
 use Rattle.std.proofs.Common.{◌≡◌, ℕ, Bool, true, false, inl, inr, Ok, Err, Result, OnOk, IfErr, ap, arith, sym, subst}
 use Rattle.std.specs.declared.option.Option.{Option}
 use Rattle.std.specs.Prelude.{List}
-use Rattle.group_explain.specs.Plans.{IsGroupedExplanationOf}
+use Rattle.group_reply.specs.group_explain_Plans.{IsGroupedExplanationOf}
 use Rattle.group_reply.specs.Replies.{IsGroupedAnswerTo}
 use Rattle.sql_query.specs.Grouped.{GroupedQuery}
 use Rattle.sql_query.specs.Queries.{Query}
 use Rattle.sql_query.specs.Worlds.{World}
 use Rattle.query_reader.specs.declared.wanted.Wanted.{Wanted}
 use Rattle.query_reader.specs.declared.wanted.Wanted.TheVariants as wanted
-use Rattle.reply.specs.declared.stop.Stop.{Stop}
-use Rattle.reply.specs.declared.stop.Stop.TheVariants.{NoPlan, Write, Memory}
-use Rattle.reply.specs.Effort.{HasRisen, Rise, exactly}
-use Rattle.reply.specs.Replies.{HasBegun, HasReplied, IsAnswerTo, IsExplanationOf, Leaves, Reply, Traces, traces}
+use Rattle.group_reply.specs.reply_stop_Stop.{Stop}
+use Rattle.group_reply.specs.reply_stop_Stop_TheVariants.{NoPlan, Write, Memory}
+use Rattle.group_reply.specs.reply_Effort.{HasRisen, Rise, exactly}
+use Rattle.group_reply.specs.reply_Replies.{HasBegun, HasReplied, IsAnswerTo, IsExplanationOf, Leaves, Reply, Traces, traces}
 use Rattle.table_reply.specs.Tabled.{IsTableOf}
 use Rattle.statements.specs.Accepted.{asked_as}
 use Rattle.statements.specs.Questions.{groups_asked}

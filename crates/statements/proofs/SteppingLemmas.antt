@@ -9,8 +9,8 @@ use Rattle.sql_grammar.specs.Reading.{terminal_of, ends_once, is_end}
 use Rattle.sql_grammar.specs.Syntax.{empty, semicolon, text_end}
 use Rattle.sql_grammar.specs.Faults.{limit_of}
 use Rattle.sql_grammar.proofs.StatementWords.{words-are-tokens}
-use Rattle.reply.specs.Effort.{HasRisen, exactly}
-use Rattle.reply.specs.Replies.{Traces, traces as traces_of}
+use Rattle.group_reply.specs.reply_Effort.{HasRisen, exactly}
+use Rattle.group_reply.specs.reply_Replies.{Traces, traces as traces_of}
 use Rattle.catalog.specs.Contents.{Contents}
 use Rattle.sql_query.specs.Worlds.{World, world}
 use Rattle.store.specs.Kept.{Kept}
@@ -22,7 +22,7 @@ use Rattle.statements.specs.Accepted.{IsReadOver}
 use Rattle.statements.proofs.PlaceLemmas.{EndsBehind, read-behind}
 use Rattle.statements.specs.Faults.{after_words}
 use Rattle.statements.specs.Replies.{silent}
-use Rattle.reply.proofs.PuttingLemmas.{appends-none}
+use Rattle.group_reply.specs.reply_PuttingLemmas.{appends-none}
 use Rattle.statements.specs.Steps.{Advances, IsBegun, Stops, IsDefined, Refuses, IsAnsweredOver, IsBegunOver, StopsOver}
 
 -- what is kept that was not changed

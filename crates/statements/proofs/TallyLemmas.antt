@@ -6,10 +6,10 @@ use Rattle.row_text.specs.Texts.{count_line}
 use Rattle.sql_lex.specs.declared.tokens.Token.{Token}
 use Rattle.sql_lex.specs.Words.{AreWords}
 use Rattle.definitions.specs.Actions.{Action, idle, make, build, size, describe, fill, gather, answer, explain, certify, advise, verify, follow, answer_groups, explain_groups}
-use Rattle.explain.specs.Texts.{explained_text}
-use Rattle.reply.specs.Answers.{tuples_of, tuples_text}
+use Rattle.group_reply.specs.explain_Texts.{explained_text}
+use Rattle.group_reply.specs.reply_Answers.{tuples_of, tuples_text}
 use Rattle.sql_query.specs.Meaning.{windowed}
-use Rattle.reply.specs.declared.measuring.Measured.{Measured}
+use Rattle.group_reply.specs.reply_measuring_Measured.{Measured}
 use Rattle.sql_query.specs.Worlds.{World}
 use Rattle.statements.specs.declared.end.End.{End}
 use Rattle.statements.specs.declared.end.End.TheVariants as ends

@@ -1,22 +1,17 @@
 -- A statement whose reply is made before any of it is written: written, cut off, or refused.
-use Rattle.std.proofs.Common.{◌≡◌, ◌<◌, ℕ, List, ◌∷◌, [], length, inl, refl, sym, subst, ◌∙◌, arith, Option, None, Result, Ok, Err, IfErr, IsErrAnd}
+use Rattle.std.proofs.Common.{◌≡◌, ℕ, List, inl, refl, sym, subst, ◌∙◌, arith, Option, None, Result, Ok, Err, IfErr, IsErrAnd}
 use Rattle.std.specs.Io.KnownBytes.{Appends}
 use Rattle.pg_base.specs.Writing.{AppendsPrefix}
 use Rattle.sql_lex.specs.declared.tokens.Token.{Token}
-use Rattle.sql_lex.specs.Words.{AreWords}
-use Rattle.reply.specs.Effort.{HasRisen, exactly}
-use Rattle.reply.specs.Putting.{HasWriteCause}
-use Rattle.reply.specs.Replies.{traces}
+use Rattle.group_reply.specs.reply_Effort.{HasRisen, exactly}
+use Rattle.group_reply.specs.reply_Putting.{HasWriteCause}
+use Rattle.group_reply.specs.reply_Replies.{traces}
 use Rattle.sql_query.specs.Worlds.{World}
 use Rattle.statements.specs.declared.end.End.{End}
 use Rattle.statements.specs.declared.end.End.TheVariants as ends
 use Rattle.statements.specs.Askings.{IsMeasuredOf}
 use Rattle.statements.specs.Replies.{told}
 use Rattle.statements.specs.Steps.{IsAnsweredOver, IsTalliedOver, IsTelling, Refuses, StopsOver}
-
-pub some-words : (text : List ℕ) (from : ℕ) (tokens : List Token) → AreWords text from tokens → 0 < length tokens
-some-words text from [] words = absurd words
-some-words text from (t ∷ ts) words = omega arith
 
 module _ (w : World) (text : List ℕ) (tokens : List Token) where
   -- what a `?` hands on

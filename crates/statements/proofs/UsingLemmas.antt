@@ -1,11 +1,11 @@
 -- USE PLAN: answered, broken off, or worked with nothing printed.
-use Rattle.std.proofs.Common.{◌≡◌, ℕ, List, None, Result, Ok, Err, inr, refl, sym, ap, subst, ◌∙◌}
+use Rattle.std.proofs.Common.{◌≡◌, ℕ, List, None, Err, inr, refl, sym, ap, subst, ◌∙◌}
 use Rattle.sql_lex.specs.declared.tokens.Token.{Token}
 use Rattle.plan_reply.specs.Told.{IsPlanReplyTo}
-use Rattle.reply.specs.declared.stop.Broken.{Broken}
-use Rattle.reply.specs.declared.stop.Broken.TheVariants as broken
-use Rattle.reply.specs.Putting.{HasWriteCause}
-use Rattle.reply.specs.Replies.{HasBegun, HasReplied, Reply, Traces}
+use Rattle.group_reply.specs.reply_stop_Broken.{Broken}
+use Rattle.group_reply.specs.reply_stop_Broken_TheVariants as broken
+use Rattle.group_reply.specs.reply_Putting.{HasWriteCause}
+use Rattle.group_reply.specs.reply_Replies.{HasBegun, HasReplied, Reply, Traces}
 use Rattle.sql_query.specs.Queries.{Query}
 use Rattle.sql_query.specs.Worlds.{World}
 use Rattle.definitions.specs.Actions.{follow}
@@ -14,6 +14,7 @@ use Rattle.statements.specs.declared.end.End.TheVariants as ends
 use Rattle.statements.specs.Accepted.{IsReadOver}
 use Rattle.statements.specs.Ending.{end_of_broken}
 use Rattle.statements.specs.Steps.{IsAnsweredOver, IsTalliedOver, StopsOver}
+use Rattle.statements.proofs.AnsweringLemmas.{ended}
 
 module _ (w : World) (text : List ℕ) (tokens : List Token) (q : Query) (block : List ℕ) (next : ℕ) (read : IsReadOver w text tokens (follow q block) next) where
   -- its reply was written whole
@@ -33,9 +34,6 @@ module _ (w : World) (text : List ℕ) (tokens : List Token) (q : Query) (block 
   tallied-plan r is = record { action = follow q block; read = read; still = refl; tallied = record { reply = r; replies = is; measured = tt } }
 
 -- what it told of out's faults
-abbrev ended : End → Result ℕ End
-ended e = Err e
-
 pub broken-cause : (b : Broken) (e : End) (before now : ℕ) → e ≡ end_of_broken b → HasWriteCause {T = Unit {0}} broken.Write before now (Err b) → HasWriteCause {T = ℕ} ends.Write before now (Err e)
 broken-cause broken.Write e before now is cause = record { write = λ so. cause.write refl; quiet = λ not. absurd (not (ap ended is)) }
 broken-cause broken.Memory e before now is cause = record {

@@ -2,9 +2,9 @@
 use Rattle.std.specs.Prelude.{List, [], ◌∷◌, Option, Some, None}
 use Rattle.std.specs.List.{cons_option}
 use Rattle.definitions.specs.Actions.{Action, after, answer}
-use Rattle.reply.specs.Measures.{IsMeasured}
-use Rattle.reply.specs.Replies.{Reply}
-use Rattle.reply.specs.declared.measuring.Measured.{Measured}
+use Rattle.group_reply.specs.reply_Measures.{IsMeasured}
+use Rattle.group_reply.specs.reply_Replies.{Reply}
+use Rattle.group_reply.specs.reply_measuring_Measured.{Measured}
 use Rattle.sql_query.specs.Queries.{Query}
 use Rattle.sql_query.specs.Worlds.{World}
 use Rattle.statements.specs.Replies.{IsReply}

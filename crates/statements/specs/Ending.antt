@@ -7,13 +7,14 @@ use Rattle.catalog.specs.declared.fault.CatalogFault.{CatalogFault}
 use Rattle.catalog.specs.declared.fault.CatalogFault.TheVariants as refused
 use Rattle.catalog.specs.Contents.{Contents}
 use Rattle.catalog.specs.Tables.{IsRefusal}
-use Rattle.reply.specs.declared.stop.Broken.{Broken}
-use Rattle.reply.specs.declared.stop.Broken.TheVariants as broken
-use Rattle.reply.specs.declared.stop.Stop.{Stop}
-use Rattle.reply.specs.declared.stop.Stop.TheVariants as stop
+use Rattle.group_reply.specs.reply_stop_Broken.{Broken}
+use Rattle.group_reply.specs.reply_stop_Broken_TheVariants as broken
+use Rattle.group_reply.specs.reply_stop_Stop.{Stop}
+use Rattle.group_reply.specs.reply_stop_Stop_TheVariants as stop
 use Rattle.statements.specs.declared.end.End.{End}
 use Rattle.statements.specs.declared.end.End.TheVariants.{Fault, Write, Memory}
 
+-- a statement that was refused: its fault, or want of memory, ends the step
 abbrev pub end_of_refusal : Refusal → End
 end_of_refusal (refusal.Fault f) = Fault f
 end_of_refusal refusal.Memory = Memory

@@ -30,10 +30,10 @@ use Rattle.index_prices.specs.Replies.{HasNoAdviceFor}
 use Rattle.index_reader.specs.Meaning.{Reading as IndexReading, meaning}
 use Rattle.group_query.specs.Grouping.{given_groups}
 use Rattle.group_reader.specs.Binding.{BoundGroups, bound_groups, grouped_with}
-use Rattle.group_explain.specs.Plans.{HasNoGroupPlan}
+use Rattle.group_reply.specs.group_explain_Plans.{HasNoGroupPlan}
 use Rattle.query_reader.specs.Binding.{Bound, bound, bound_part, query_with}
 use Rattle.query_reader.specs.Select.{words_before}
-use Rattle.reply.specs.Answers.{HasNoPlan}
+use Rattle.group_reply.specs.reply_Answers.{HasNoPlan}
 use Rattle.sql_query.specs.WellBound.{given_of}
 use Rattle.sql_query.specs.Worlds.{World, stored_at}
 use Rattle.sql_lex.specs.Ends.{token_at}

@@ -2,14 +2,14 @@
 use Rattle.std.specs.Prelude.{ℕ, ◌≡◌, List, [], length}
 use Rattle.sql_query.specs.Worlds.{World, stored_at}
 use Rattle.index_prices.specs.Replies.{IsReplyTo}
-use Rattle.reply.specs.Effort.{exactly}
-use Rattle.reply.specs.Replies.{Reply, IsAnswerTo, IsExplanationOf}
+use Rattle.group_reply.specs.reply_Effort.{exactly}
+use Rattle.group_reply.specs.reply_Replies.{Reply, IsAnswerTo, IsExplanationOf}
 use Rattle.store.specs.Kept.{load_looks}
 use Rattle.definitions.specs.Actions.{Action, idle, make, build, size, describe, fill, gather, answer, explain, certify, advise, verify, follow, answer_groups, explain_groups}
 use Rattle.table_reply.specs.Tabled.{IsTableOf}
 use Rattle.check_reply.specs.Checked.{IsCheckedText}
 use Rattle.plan_reply.specs.Told.{IsPlanReplyTo}
-use Rattle.group_explain.specs.Plans.{IsGroupedExplanationOf}
+use Rattle.group_reply.specs.group_explain_Plans.{IsGroupedExplanationOf}
 use Rattle.group_reply.specs.Replies.{IsGroupedAnswerTo}
 
 -- nothing printed and nothing fetched, with so many looks

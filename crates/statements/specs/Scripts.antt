@@ -4,7 +4,7 @@ use Rattle.std.specs.List.{flat_map}
 use Rattle.sql_query.specs.Worlds.{World, empty_world}
 use Rattle.definitions.specs.Actions.{Action, after}
 use Rattle.statements.specs.Accepted.{IsRead}
-use Rattle.reply.specs.Replies.{Reply}
+use Rattle.group_reply.specs.reply_Replies.{Reply}
 use Rattle.statements.specs.Replies.{IsReply}
 
 -- a statement that was worked: what it did, where the next one begins, and its reply

@@ -12,8 +12,8 @@ use Rattle.ddl_reader.specs.Tables.{Definition, data_for}
 use Rattle.fault_line.specs.Tells.{IsFieldOf}
 use Rattle.heap.specs.Loading.{loaded, records_of}
 use Rattle.heap.specs.Stored.{Stored}
-use Rattle.reply.specs.Replies.{HasBegun, HasReplied, Traces}
-use Rattle.reply.specs.declared.measuring.Measured.{Measured}
+use Rattle.group_reply.specs.reply_Replies.{HasBegun, HasReplied, Traces}
+use Rattle.group_reply.specs.reply_measuring_Measured.{Measured}
 use Rattle.sql_query.specs.Worlds.{World, stored_at}
 use Rattle.store.specs.Kept.{load_looks}
 use Rattle.statements.specs.declared.end.End.{End}

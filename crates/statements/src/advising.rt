@@ -8,8 +8,8 @@ ghost use Rattle.sql_lex.specs.Words.{AreWords};
 ghost use Rattle.sql_grammar.specs.Faults.{terminals};
 ghost use Rattle.advise_reader.specs.Statements.{begins_advise};
 ghost use Rattle.sql_query.specs.Worlds.{world};
-ghost use Rattle.reply.specs.Putting.{HasWriteCause};
-ghost use Rattle.reply.specs.Replies.{traces};
+ghost use Rattle.group_reply.specs.reply_Putting.{HasWriteCause};
+ghost use Rattle.group_reply.specs.reply_Replies.{traces};
 ghost use Rattle.statements.specs.Steps.{IsAnsweredOver, IsTelling, Refuses, StopsOver};
 
 use crate::end::End;

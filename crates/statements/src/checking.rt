@@ -6,8 +6,8 @@ ghost use Rattle.sql_lex.specs.Words.{AreWords};
 ghost use Rattle.sql_grammar.specs.Faults.{terminals};
 ghost use Rattle.heap.specs.Stored.{Stored};
 ghost use Rattle.sql_query.specs.Worlds.{world};
-ghost use Rattle.reply.specs.Putting.{HasWriteCause};
-ghost use Rattle.reply.specs.Replies.{traces};
+ghost use Rattle.group_reply.specs.reply_Putting.{HasWriteCause};
+ghost use Rattle.group_reply.specs.reply_Replies.{traces};
 ghost use Rattle.statements.specs.Steps.{IsAnsweredOver, IsTelling, Refuses, StopsOver, begins_check};
 
 use crate::claims::{Claim, Given, read_claim};

@@ -7,7 +7,7 @@ ghost use Rattle.sql_grammar.specs.Faults.{terminals};
 ghost use Rattle.heap.specs.Stored.{Stored};
 ghost use Rattle.sql_query.specs.WellBound.{IsWellBound};
 ghost use Rattle.sql_query.specs.Worlds.{world};
-ghost use Rattle.table_texts.specs.Arms.{HasArmsInOrs};
+ghost use Rattle.table_reply.specs.table_texts_Arms.{HasArmsInOrs};
 ghost use Rattle.statements.specs.Accepted.{IsReadOver};
 ghost use Rattle.statements.specs.Claims.{IsWholeFor, action_for, begins_for, words_for};
 ghost use Rattle.statements.specs.Steps.{Refuses, begins_check, begins_use};

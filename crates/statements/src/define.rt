@@ -58,7 +58,12 @@ pub(crate) fn define<C: Counters>(
             names,
             columns,
         } => {
-            table(alloc, catalog, store, &at, name, names, columns)?;
+            let asked = NewTable {
+                name,
+                names,
+                columns,
+            };
+            table(alloc, catalog, store, &at, asked)?;
             Ok(tokens.end())
         }
         Ddl::Rows { table, rows, pages } => {
@@ -77,28 +82,39 @@ pub(crate) fn define<C: Counters>(
     }
 }
 
+/// What CREATE TABLE says of its table: the columns stand in the order of their names.
+#[derive(Drop)]
+struct NewTable {
+    name: Bytes,
+    names: Vec<Bytes>,
+    columns: Columns,
+}
+
 /// Makes the table whose name and columns' names stand at these offsets.
 fn table<C: Counters>(
     alloc: Global,
     catalog: &mut Catalog,
     store: &mut Store<C>,
     at: &[u32],
-    name: Bytes,
-    names: Vec<Bytes>,
-    columns: Columns,
+    asked: NewTable,
 ) -> Result<(), End>
     requires store { IsStoreOf catalog.old store.old }
-    requires width { length names.items ≡ length columns }
-    requires name { IsName name }
-    requires names { All IsName names.items }
-    requires places { length at.now ≡ length names.items + 1 }
+    requires width { length asked.names.items ≡ length asked.columns }
+    requires name { IsName asked.name }
+    requires names { All IsName asked.names.items }
+    requires places { length at.now ≡ length asked.names.items + 1 }
     requires within { All (λ a. a ≤ 2 ^ 31) at.now }
-    ensures accepted { OnOk result (IsAcceptable catalog.old name names.items) }
-    ensures made { OnOk result (world catalog.new store.new.stored ≡ actions.after (world catalog.old store.old.stored) (actions.make name names.items columns)) }
-    ensures refused { IfErr result (λ e. RefusesDefinition e (world catalog.old store.old.stored) [] (table_of name names.items columns) at.now) }
+    ensures accepted { OnOk result (IsAcceptable catalog.old asked.name asked.names.items) }
+    ensures made { OnOk result (world catalog.new store.new.stored ≡ actions.after (world catalog.old store.old.stored) (actions.make asked.name asked.names.items asked.columns)) }
+    ensures refused { IfErr result (λ e. RefusesDefinition e (world catalog.old store.old.stored) [] (table_of asked.name asked.names.items asked.columns) at.now) }
     ensures store { IsStoreOf catalog.new store.new }
     ensures unchanged { OnErr result ((catalog.new ≡ catalog.old) × (store.new ≡ store.old)) }
 {
+    let NewTable {
+        name,
+        names,
+        columns,
+    } = asked;
     let ends = word_ends(alloc, at, &name, &names)?;
     match make(alloc, catalog, store, name, names, columns) {
         Ok(()) => Ok(()),

@@ -16,7 +16,7 @@ ghost use Rattle.sql_query.specs.Worlds.{World};
 ghost use Rattle.definitions.specs.Actions.{Action};
 ghost use Rattle.statements.specs.Accepted.{IsRead};
 ghost use Rattle.statements.specs.Faults.{IsFault, IsMeaningFault};
-ghost use Rattle.reply.specs.Replies.{Reply};
+ghost use Rattle.group_reply.specs.reply_Replies.{Reply};
 ghost use Rattle.store.specs.Kept.{IsStoreOf, Kept, stored_of};
 ghost use Rattle.statements.specs.Replies.{IsReply};
 

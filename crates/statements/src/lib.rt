@@ -16,5 +16,6 @@ mod using;
 
 pub use carry::carry_out;
 pub use end::End;
+pub use group_reply::reply;
 pub use laws::{analysis_is_never_refused, one_reading, statements_go_on};
 pub use replying::{Tallied, reply_to, tally_reply};

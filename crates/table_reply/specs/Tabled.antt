@@ -7,10 +7,10 @@ use Rattle.plan_tree.specs.Least.{IsBestPlan}
 use Rattle.plan_tree.specs.Plans.{Plan}
 use Rattle.certificates.specs.Certificates.{Certificate, finish_at}
 use Rattle.certificates.specs.Tables.{IsPlanTable}
-use Rattle.certificate_text.specs.HasText.{HasText}
-use Rattle.certificate_text.specs.Texts.{certificate_text}
-use Rattle.explain.specs.Texts.{explained_text}
-use Rattle.kept_laws.specs.Printing.{printing_order}
+use Rattle.planned_table.specs.certificate_text_HasText.{HasText}
+use Rattle.planned_table.specs.certificate_text_Texts.{certificate_text}
+use Rattle.planned_table.specs.explain_Texts.{explained_text}
+use Rattle.planned_table.specs.kept_laws_Printing.{printing_order}
 use Rattle.reply.specs.Effort.{exactly}
 use Rattle.reply.specs.Replies.{Reply}
 

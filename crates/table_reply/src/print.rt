@@ -8,7 +8,7 @@ ghost use Rattle.reply.specs.Putting.{HasWriteCause};
 ghost use Rattle.reply.specs.Replies.{HasReplied, Leaves, traces};
 ghost use Rattle.sql_query.specs.WellBound.{IsWellBound};
 ghost use Rattle.table_reply.specs.Tabled.{IsTableOf};
-ghost use Rattle.table_texts.specs.Arms.{HasArmsInOrs};
+ghost use Rattle.planned_table.specs.table_texts_Arms.{HasArmsInOrs};
 
 use crate::text::table_text;
 use catalog::Catalog;

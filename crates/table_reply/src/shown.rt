@@ -1,7 +1,7 @@
 //! The text of a plan that a query is answered by.
 
 ghost use Rattle.std.specs.Prelude.{◌≡◌, IfOk};
-ghost use Rattle.explain.specs.Texts.{explained_text, window_line};
+ghost use Rattle.planned_table.specs.explain_Texts.{explained_text, window_line};
 ghost use Rattle.plan_tree.specs.Costs.{price};
 ghost use Rattle.plan_tree.specs.Least.{IsAdmissible};
 ghost use Rattle.plan_tree.specs.Paths.{IsFinishedPath};
@@ -9,9 +9,9 @@ ghost use Rattle.plan_tree.specs.Views.{path};
 ghost use Rattle.sql_query.specs.WellBound.{IsWellBound};
 
 use catalog::Catalog;
-use explain::{limit_text, plan_text};
 use pg_base::Memory;
 use plan_tree::{Path, asked, cost_of, price_of};
+use planned_table::explain::{limit_text, plan_text};
 use sql_query::Prepared;
 use std::alloc::Global;
 

@@ -2,23 +2,23 @@
 
 ghost use Rattle.std.specs.Prelude.{◌≡◌, ◌≢◌, IfErr, IfOk};
 ghost use Rattle.certificates.specs.Views.{certificate};
-ghost use Rattle.certificate_text.specs.HasText.{HasText};
+ghost use Rattle.planned_table.specs.certificate_text_HasText.{HasText};
 ghost use Rattle.plan_tree.specs.Least.{IsAdmissible};
 ghost use Rattle.plan_tree.specs.Paths.{IsFinishedPath};
 ghost use Rattle.plan_tree.specs.Views.{path};
 ghost use Rattle.reply.specs.Answers.{HasNoPlan};
 ghost use Rattle.sql_query.specs.WellBound.{IsWellBound};
 ghost use Rattle.table_reply.specs.Tabled.{IsTabledText, tabled_text};
-ghost use Rattle.table_texts.specs.Arms.{HasArmsInOrs};
+ghost use Rattle.planned_table.specs.table_texts_Arms.{HasArmsInOrs};
 
 use crate::shown::shown_text;
 use catalog::Catalog;
-use certificate_text::certificate_text;
 use certificates::Certificate;
 use pg_base::Memory;
 use plan_tree::Path;
+use planned_table::certificate_text::certificate_text;
 use planned_table::plan_with_table;
-use planner::PlanFault;
+use planned_table::planner::PlanFault;
 use reply::Stop;
 use sql_query::Prepared;
 use std::alloc::Global;

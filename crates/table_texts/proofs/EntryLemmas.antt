@@ -16,16 +16,16 @@ use Rattle.plan_tree.specs.Plans.{Plan, seq, index, index_only, bitmap, sort, ne
 use Rattle.plan_tree.specs.Space.{IsBuilt}
 use Rattle.plan_tree.proofs.BoundLemmas.{lawful-rows, startup-most}
 use Rattle.plan_tree.proofs.PathLemmas.{built-below}
-use Rattle.scan_paths.proofs.SpaceLemmas.{given-param}
-use Rattle.join_laws.proofs.WithinLemmas.{read-below}
-use Rattle.join_search.proofs.PlanLemmas.{reads-some}
-use Rattle.join_search.proofs.SetLemmas.{set-below}
-use Rattle.plan_laws.proofs.WellBoundLemmas.{bound-over}
+use Rattle.planner.specs.scan_paths_SpaceLemmas.{given-param}
+use Rattle.planner.specs.join_laws_WithinLemmas.{read-below}
+use Rattle.planner.specs.join_search_PlanLemmas.{reads-some}
+use Rattle.planner.specs.join_search_SetLemmas.{set-below}
+use Rattle.planner.specs.plan_laws_WellBoundLemmas.{bound-over}
 use Rattle.explain_laws.proofs.ParamLemmas.{IsOfQuery, bitmap-param, index-param}
-use Rattle.certificates.specs.Certificates.{Certificate, Entry, plans_of}
-use Rattle.certificates.specs.Limit.{MOST_ENTRIES}
-use Rattle.certificates.specs.Tables.{IsEntryAt, IsStartup, IsPlanTable}
-use Rattle.certificates.proofs.UnfoldLemmas.{goes-on}
+use Rattle.certificate_text.specs.certificates_Certificates.{Certificate, Entry, plans_of}
+use Rattle.certificate_text.specs.certificates_Limit.{MOST_ENTRIES}
+use Rattle.certificate_text.specs.certificates_Tables.{IsEntryAt, IsStartup, IsPlanTable}
+use Rattle.certificate_text.specs.certificates_UnfoldLemmas.{goes-on}
 use Rattle.certificate_text.specs.HasText.{HasEntryLine, HasKeysText, HasStartup, HasText, IsSetOf}
 use Rattle.table_texts.specs.Arms.{HasArmsInOrs}
 use Rattle.table_texts.proofs.KeysLemmas.{keys-wider, plan-text}
@@ -33,7 +33,7 @@ use Rattle.table_texts.proofs.NodeLemmas.{made-of, node-text, side-few}
 use Rattle.table_texts.proofs.RowsLemmas.{estimate-few}
 
 -- a set that has no relation past the query's has those of the query alone
-inside : (q : Query) (p : RelSet) → IsOfQuery q p → (k : ℕ) → has p.0 k ≡ true → k < width q
+pub inside : (q : Query) (p : RelSet) → IsOfQuery q p → (k : ℕ) → has p.0 k ≡ true → k < width q
 inside q p of k is = elim (cases_lt k (width q)) [ inl lt ↦ lt | inr le ↦ absurd (true≢false (sym is ∙ of k le)) ]
 
 module _ (c : Contents) (q : Query) (bound : IsWellBound c q) where

@@ -21,8 +21,8 @@ use Rattle.sql_query.specs.Queries.{Query}
 use Rattle.plan_tree.specs.Keys.{keys_of}
 use Rattle.plan_tree.specs.Plans.{Plan, seq, index, index_only, bitmap, sort, nest, merge, is_empty, is_sort, set_of}
 use Rattle.plan_tree.specs.Space.{HasKeys, IsBuilt, IsMergeList}
-use Rattle.order_laws.proofs.IndexOrderLemmas.{KeyClass, class_found, first_of}
-use Rattle.order_laws.proofs.KeyLemmas.{AreKeys, list_keys}
+use Rattle.explain_laws.specs.order_laws_IndexOrderLemmas.{KeyClass, class_found, first_of}
+use Rattle.explain_laws.specs.order_laws_KeyLemmas.{AreKeys, list_keys}
 use Rattle.certificate_text.specs.HasText.{HasKeysText}
 
 some-none : {A : Type 0} (x : A) (o : Option A) → o ≡ Some x → o ≡ None → ⊥

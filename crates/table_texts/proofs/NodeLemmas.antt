@@ -4,14 +4,14 @@ use Rattle.std.proofs.Common.{◌≡◌, ◌≤◌, inl, inr, ℕ, Bool, true, �
 use Rattle.std.specs.Prelude.{Option, None, Some, option_and_then, option_map, slice_get}
 use Rattle.std.specs.List.{items_where_true}
 use Rattle.std.proofs.lemmas.List.Elements.{All-from_recursion}
-use Rattle.std.proofs.lemmas.Option.{get_or_from_slice_get, slice_get_within}
+use Rattle.std.proofs.lemmas.Option.{get_or_from_slice_get, slice_get_within, none-some, same_Some}
 use Rattle.pg_base.specs.Sets.{has}
 use Rattle.pg_base.specs.declared.numbers.RelNo.{RelNo}
 use Rattle.pg_base.specs.declared.rel_set.RelSet.{RelSet}
 use Rattle.catalog.specs.Contents.{Contents, IsIndex}
 use Rattle.eq_classes.specs.Clauses.{Clause, Set}
 use Rattle.index_match.specs.Arms.{arms_of}
-use Rattle.explain.specs.Texts.{conjunct_by}
+use Rattle.certificate_text.specs.explain_Texts.{conjunct_by}
 use Rattle.explain_laws.proofs.BitLemmas.{AreTold, IsTold, IsTreeTold, picked-is, tree-told}
 use Rattle.pathkeys.specs.Keys.{Keys}
 use Rattle.sql_query.specs.Queries.{Query, width}
@@ -20,18 +20,12 @@ use Rattle.plan_tree.specs.Bitmaps.{ArePicked, Element, IsBitTree, IsElement, MO
 use Rattle.plan_tree.specs.Plans.{BitTree, leaf, all_hold, some_arm, BitTrees, no_trees, tree_and, Plan, index, index_only, bitmap, nest, merge, set_of}
 use Rattle.plan_tree.specs.Space.{IsBuilt}
 use Rattle.plan_tree.proofs.CostableLemmas.{In, built-costable, in-contained, in-masked, in-taken}
-use Rattle.certificates.specs.Certificates.{Certificate, Entry, Node, Side, by_bitmap, by_index, by_index_only, by_merge, by_nest, by_seq, join_by, plan_at, plan_by, plan_of, plans_of, relation_in, side_at, sorted_if, unfold_at}
-use Rattle.certificates.specs.Limit.{MOST_ENTRIES}
-use Rattle.certificates.proofs.UnfoldLemmas.{at-split, made-at}
+use Rattle.certificate_text.specs.certificates_Certificates.{Certificate, Entry, Node, Side, by_bitmap, by_index, by_index_only, by_merge, by_nest, by_seq, join_by, plan_at, plan_by, plan_of, plans_of, relation_in, side_at, sorted_if, unfold_at}
+use Rattle.certificate_text.specs.certificates_Limit.{MOST_ENTRIES}
+use Rattle.certificate_text.specs.certificates_UnfoldLemmas.{at-split, made-at}
 use Rattle.certificate_text.specs.HasText.{HasBitsText, HasElementText, HasNodeText, HaveElementTexts, count}
 use Rattle.table_texts.specs.Arms.{HasArmsInOrs}
 use Rattle.table_texts.proofs.KeysLemmas.{keys-wider, list-outer}
-
-none-some : {A : Type 0} (x : A) → None ≡ Some x → ⊥
-none-some x e = cc
-
-some-same : {A : Type 0} (x y : A) → Some x ≡ Some y → x ≡ y
-some-same x y e = cc
 
 -- a number that has a plan is at most that of the last
 number-few : (plans : List (Option Plan)) (m : ℕ) (p : Plan) → plan_at plans m ≡ Some p → m ≤ length plans
@@ -72,7 +66,7 @@ pub record HasParts (f : Plan → Plan → Plan) (a b : Option Plan) (p : Plan) 
 parts-of : (f : Plan → Plan → Plan) (a b : Option Plan) (p : Plan) → join_by f a b ≡ Some p → HasParts f a b p
 parts-of f None b p h = absurd (none-some p h)
 parts-of f (Some o) None p h = absurd (none-some p h)
-parts-of f (Some o) (Some i) p h = record { outer = o; inner = i; first = refl; second = refl; is = some-same (f o i) p h }
+parts-of f (Some o) (Some i) p h = record { outer = o; inner = i; first = refl; second = refl; is = same_Some (f o i) p h }
 
 pub side-few : (plans : List (Option Plan)) (keys : Keys) (s : Side) (p : Plan) → side_at plans keys s ≡ Some p → s.entry ≤ length plans
 side-few plans keys s p h = by (plan_at plans s.entry) refl h
@@ -162,7 +156,7 @@ module _ (c : Contents) (q : Query) (bound : IsWellBound c q) (arms : HasArmsInO
       where
         by : (o : Option RelNo) → option_map f o ≡ Some p → HasNodeText c q s node
         by None g = absurd (none-some p g)
-        by (Some r) g = each r (some-same (f r) p g)
+        by (Some r) g = each r (same_Some (f r) p g)
 
     pub node-text : (n : ℕ) (before : List (Option Plan)) (set param : RelSet) (node : Node) (p : Plan) → length before ≤ most → plan_by n before set param node ≡ Some p → IsBuilt c q p →
         ((k : ℕ) → set_of p k ≡ true → s k ≡ true) → HasNodeText c q s node

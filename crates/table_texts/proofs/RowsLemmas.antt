@@ -21,7 +21,7 @@ use Rattle.sql_query.specs.Queries.{Query}
 use Rattle.plan_tree.specs.Costs.{estimate, rows_given}
 use Rattle.plan_tree.specs.Plans.{Plan, seq, index, index_only, bitmap, sort, nest, merge, is_empty, is_sort}
 use Rattle.plan_tree.specs.Space.{IsBuilt, IsPlanOf}
-use Rattle.scan_paths.proofs.SpaceLemmas.{given-param}
+use Rattle.planner.specs.scan_paths_SpaceLemmas.{given-param}
 use Rattle.planner.proofs.BaseLemmas.{scan-named}
 use Rattle.planner.proofs.EstimateLemmas.{most-clamped, most-folded, most-rows}
 

@@ -4,9 +4,9 @@ ghost use Rattle.std.specs.Prelude.{◌≡◌, ◌≤◌, All, None, length};
 ghost use Rattle.catalog.specs.Contents.{Contents, IsLawful};
 ghost use Rattle.sql_query.specs.Queries.{Query};
 ghost use Rattle.sql_query.specs.WellBound.{IsWellBound};
-ghost use Rattle.certificates.specs.Certificates.{Certificate, Entry};
-ghost use Rattle.certificates.specs.Limit.{MOST_ENTRIES};
-ghost use Rattle.certificates.specs.Tables.{IsPlanTable};
+ghost use Rattle.certificate_text.specs.certificates_Certificates.{Certificate, Entry};
+ghost use Rattle.certificate_text.specs.certificates_Limit.{MOST_ENTRIES};
+ghost use Rattle.certificate_text.specs.certificates_Tables.{IsPlanTable};
 ghost use Rattle.certificate_text.specs.HasText.{HasText};
 ghost use Rattle.table_texts.specs.Arms.{HasArmsInOrs};
 

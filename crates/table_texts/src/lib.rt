@@ -3,4 +3,7 @@
 
 mod laws;
 
+pub use certificate_text;
+pub use certificate_text::explain;
 pub use laws::tables_have_text;
+pub use planner;

@@ -10,6 +10,7 @@ use Rattle.catalog.specs.Range.{Range}
 abbrev pub first_of_left : ColRef
 first_of_left = record { rel = record { 0 = 0 }; col = record { 0 = 0 } }
 
+-- the first column of the second relation
 abbrev pub first_of_right : ColRef
 first_of_right = record { rel = record { 0 = 1 }; col = record { 0 = 0 } }
 

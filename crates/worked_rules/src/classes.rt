@@ -7,6 +7,7 @@ ghost use Rattle.pg_expr.specs.Columns.{each_column, each_column_of};
 ghost use Rattle.pg_expr.specs.Typed.{IsTyped, AreTyped};
 ghost use Rattle.pg_expr.specs.View.{cond, conds};
 
+use crate::build::column;
 use eq_classes::{ClassNo, Classes, ClauseSet, OrderItem};
 use pg_base::{ColNo, Memory, RelNo, RelSet};
 use pg_expr::{Binding, ColRef, Expr, Exprs, Operand, is_same};
@@ -35,15 +36,6 @@ impl Binding for Wide {
 
     fn typed(&self, _c: ColRef) -> SqlType {
         SqlType::Int8
-    }
-}
-
-fn column(rel: u8, col: u8) -> ColRef
-    ensures { result ≡ record { rel = record { 0 = rel }; col = record { 0 = col } } }
-{
-    ColRef {
-        rel: RelNo(rel),
-        col: ColNo(col),
     }
 }
 
@@ -208,12 +200,18 @@ const CHAIN_CLAUSES: [Part; 4] = [
 fn chain_of(alloc: Global) -> Result<Classes, Memory> {
     let order = [
         OrderItem {
-            col: column(3, 1),
+            col: ColRef {
+                rel: RelNo(3),
+                col: ColNo(1),
+            },
             descending: false,
             nulls_first: true,
         },
         OrderItem {
-            col: column(2, 0),
+            col: ColRef {
+                rel: RelNo(2),
+                col: ColNo(0),
+            },
             descending: true,
             nulls_first: true,
         },
@@ -232,13 +230,6 @@ const CHAIN: [(Asked, &[u16]); 9] = [
     (Asked::JoinParam(0b011, 2, 0b010), &[0]),
     (Asked::JoinParam(0b011, 2, 0b011), &[]),
 ];
-
-#[test]
-fn chain(rt: HostRuntime) {
-    let t = chain_of(rt.alloc()).expect(&rt, "classes");
-    assert!(rt; has_clauses(rt.alloc(), &t, &CHAIN_CLAUSES, &[2, 0, 0, 0]));
-    assert!(rt; first_other(&t, &CHAIN).is_none());
-}
 
 /// Whether column `a` of relation 2 is of class 0, whose direction is that of the order, with a member in relation 1.
 fn has_first_class(t: &Classes) -> bool {
@@ -261,8 +252,10 @@ fn has_second_class(t: &Classes) -> bool {
 }
 
 #[test]
-fn classes_of_chain(rt: HostRuntime) {
+fn chain(rt: HostRuntime) {
     let t = chain_of(rt.alloc()).expect(&rt, "classes");
+    assert!(rt; has_clauses(rt.alloc(), &t, &CHAIN_CLAUSES, &[2, 0, 0, 0]));
+    assert!(rt; first_other(&t, &CHAIN).is_none());
     assert!(rt; t.joining(RelSet(0b011), RelSet(0b100)) == [Some(ClassNo(0)), None, None, None]);
     assert!(rt; t.joining(RelSet(0b100), RelSet(0b1000)) == [None, None, None, None]);
     assert!(rt; t.class_of(column(0, 0), Family::IntAbs).is_none());

@@ -21,71 +21,77 @@ fn is_estimate(n: u64) -> bool
     1 <= n && n <= MOST_ESTIMATE
 }
 
-/// A base, a number, and the least power of the base that reaches it.
-const LOGS: [(u64, u64, u64); 6] = [
-    (2, 1, 0),
-    (2, 2, 1),
-    (2, 3, 2),
-    (2, 1000, 10),
-    (200, 1, 0),
-    (200, 201, 2),
+/// A number worked by hand, as the last of those that a case has.
+#[derive(Clone, Copy)]
+enum Worked {
+    /// A base, a number, and the least power of the base that reaches it.
+    Log(u64, u64, u64),
+    /// Rows, pages, and how many of the pages the rows stand on.
+    Pages(u64, u64, u64),
+    /// Entries, and the cost of the way down to one.
+    Descent(u64, u64),
+    /// Startup and total cost, the rows asked for and all of them, and the price.
+    Price(u64, u64, u64, u64, u64),
+}
+
+const WORKED: [Worked; 19] = [
+    Worked::Log(2, 1, 0),
+    Worked::Log(2, 2, 1),
+    Worked::Log(2, 3, 2),
+    Worked::Log(2, 1000, 10),
+    Worked::Log(200, 1, 0),
+    Worked::Log(200, 201, 2),
+    Worked::Pages(10, 10, 7),
+    Worked::Pages(1, 1000, 1),
+    Worked::Pages(1_000_000_000, 10, 10),
+    Worked::Pages(20, 10, 10),
+    Worked::Descent(1, 51),
+    Worked::Descent(1000, 110),
+    Worked::Descent(334, 109),
+    Worked::Descent(100_000, 167),
+    Worked::Price(0, 412, 2, 3, 275),
+    Worked::Price(0, 9000, 1, 10, 900),
+    Worked::Price(1740, 7110, 1, 10, 2277),
+    Worked::Price(1740, 7110, 9, 10, 6573),
+    Worked::Price(0, 412, 3, 3, 412),
 ];
 
 fn is_log(base: u64, n: u64, power: u64) -> bool {
     2 <= base && base <= ENTRIES_PER_PAGE && is_estimate(n) && log_up(base, n) == power
 }
 
-fn first_log(rows: &[(u64, u64, u64)]) -> Option<(u64, u64)> {
-    for (base, n, power) in rows {
-        if !is_log(*base, *n, *power) {
-            return Some((*base, *n));
-        }
-    }
-    None
-}
-
-/// Rows, pages, and how many of the pages the rows stand on.
-const PAGES: [(u64, u64, u64); 4] = [
-    (10, 10, 7),
-    (1, 1000, 1),
-    (1_000_000_000, 10, 10),
-    (20, 10, 10),
-];
-
 fn are_pages(rows: u64, pages: u64, touched: u64) -> bool {
     is_estimate(rows) && is_estimate(pages) && heap_pages(rows, pages) == touched
 }
 
-fn first_pages(rows: &[(u64, u64, u64)]) -> Option<(u64, u64)> {
-    for (count, pages, touched) in rows {
-        if !are_pages(*count, *pages, *touched) {
-            return Some((*count, *pages));
+fn is_price(cost: Pair, asked: u64, rows: u64, wanted: u64) -> bool {
+    cost.startup <= cost.total
+        && asked <= rows
+        && is_estimate(rows)
+        && price(cost, asked, rows) == wanted
+}
+
+fn is_worked(row: Worked) -> bool {
+    match row {
+        Worked::Log(base, n, power) => is_log(base, n, power),
+        Worked::Pages(rows, pages, touched) => are_pages(rows, pages, touched),
+        Worked::Descent(entries, descent) => {
+            is_estimate(entries) && btree_descent(entries) == descent
+        }
+        Worked::Price(startup, total, asked, rows, wanted) => {
+            is_price(pair(startup, total), asked, rows, wanted)
+        }
+    }
+}
+
+/// The place of the first row with another number.
+fn first_other(rows: &[Worked]) -> Option<usize> {
+    for n in 0..rows.len() {
+        if !is_worked(rows[n]) {
+            return Some(n);
         }
     }
     None
-}
-
-/// Entries, and the cost of the way down to one.
-const DESCENTS: [(u64, u64); 4] = [(1, 51), (1000, 110), (334, 109), (100_000, 167)];
-
-fn first_descent(rows: &[(u64, u64)]) -> Option<u64> {
-    for (entries, descent) in rows {
-        if !is_estimate(*entries) || btree_descent(*entries) != *descent {
-            return Some(*entries);
-        }
-    }
-    None
-}
-
-#[test]
-fn powers_and_pages(rt: HostRuntime) {
-    let wrong = (
-        first_log(&LOGS),
-        first_pages(&PAGES),
-        first_descent(&DESCENTS),
-    );
-    assert!(rt; wrong == (None, None, None), "{wrong:?}");
-    assert!(rt; HASH_DESCENT == 50);
 }
 
 fn both(cost: Pair) -> (u64, u64) {
@@ -104,24 +110,6 @@ fn scan_costs() -> [(u64, u64); 6] {
     ]
 }
 
-#[test]
-fn scans(rt: HostRuntime) {
-    let wanted = [
-        (0, 9000),
-        (110, 12_980),
-        (110, 1780),
-        (1740, 7110),
-        (3580, 7700),
-        (0, MOST_COST),
-    ];
-    assert!(rt; scan_costs() == wanted);
-    let entries = [
-        index_entries(110, 10, 1000, 1),
-        index_entries(167, 100_000, 100_000, 0),
-    ];
-    assert!(rt; entries == [1740, 1_000_167]);
-}
-
 /// Costs of sorts, of nested loops both ways round and past the most, and of a merge.
 fn join_costs() -> [(u64, u64); 6] {
     let (x, y) = (pair(28_000, 29_000), pair(13_000, 13_500));
@@ -137,8 +125,24 @@ fn join_costs() -> [(u64, u64); 6] {
 }
 
 #[test]
-fn sorts_and_joins(rt: HostRuntime) {
-    let wanted = [
+fn costs_by_hand(rt: HostRuntime) {
+    assert_eq!(rt; first_other(&WORKED), None);
+    assert!(rt; HASH_DESCENT == 50);
+    let scans = [
+        (0, 9000),
+        (110, 12_980),
+        (110, 1780),
+        (1740, 7110),
+        (3580, 7700),
+        (0, MOST_COST),
+    ];
+    assert!(rt; scan_costs() == scans);
+    let entries = [
+        index_entries(110, 10, 1000, 1),
+        index_entries(167, 100_000, 100_000, 0),
+    ];
+    assert!(rt; entries == [1740, 1_000_167]);
+    let joins = [
         (28_000, 29_000),
         (13_000, 13_500),
         (0, 1256),
@@ -146,39 +150,5 @@ fn sorts_and_joins(rt: HostRuntime) {
         (41_000, 46_500),
         (0, MOST_COST),
     ];
-    assert!(rt; join_costs() == wanted);
-}
-
-/// Startup and total cost, the rows asked for and all of them, and the price.
-type Priced = (u64, u64, u64, u64, u64);
-
-const PRICES: [Priced; 5] = [
-    (0, 412, 2, 3, 275),
-    (0, 9000, 1, 10, 900),
-    (1740, 7110, 1, 10, 2277),
-    (1740, 7110, 9, 10, 6573),
-    (0, 412, 3, 3, 412),
-];
-
-fn is_price(row: Priced) -> bool {
-    let (startup, total, asked, rows, wanted) = row;
-    startup <= total
-        && asked <= rows
-        && is_estimate(rows)
-        && price(pair(startup, total), asked, rows) == wanted
-}
-
-/// The first row with another price.
-fn first_price(rows: &[Priced]) -> Option<Priced> {
-    for row in rows {
-        if !is_price(*row) {
-            return Some(*row);
-        }
-    }
-    None
-}
-
-#[test]
-fn prices(rt: HostRuntime) {
-    assert_eq!(rt; first_price(&PRICES), None);
+    assert!(rt; join_costs() == joins);
 }

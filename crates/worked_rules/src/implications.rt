@@ -1,10 +1,11 @@
 //! Pairs of conditions with the answer by hand.
 
-use pg_base::{ColNo, RelNo};
-use pg_expr::{ColRef, Expr, Exprs, Operand};
+use crate::build::{column, not, pair};
+use pg_base::Memory;
+use pg_expr::{Expr, Exprs, Operand};
 use pg_value::{Column, Columns, Op, SqlType, Truth, Value};
 use predicate_proof::{ClauseList, implies};
-use std::alloc::{AllocError, Global};
+use std::alloc::Global;
 
 /// No clause, one or two.
 #[derive(Drop)]
@@ -38,14 +39,6 @@ impl ClauseList for Clauses {
     }
 }
 
-/// A column of the relation of this number.
-fn column(rel: u8, col: u8) -> ColRef {
-    ColRef {
-        rel: RelNo(rel),
-        col: ColNo(col),
-    }
-}
-
 /// A column of a relation beside a number.
 fn compared(rel: u8, col: u8, op: Op, n: i64) -> Expr {
     Expr::Compare(
@@ -63,7 +56,7 @@ fn column_of(typed: SqlType) -> Column {
 }
 
 /// Three columns: int4, int8, bool.
-fn columns(alloc: Global) -> Result<Columns, AllocError> {
+fn columns(alloc: Global) -> Result<Columns, Memory> {
     let columns = [
         column_of(SqlType::Int4),
         column_of(SqlType::Int8),
@@ -104,36 +97,6 @@ const COMPARISONS: [Row; 26] = [
     (Op::AbsEq, 5, Op::Ne, 6, false),
 ];
 
-/// Whether clauses imply a comparison of a column of relation 0.
-fn do_imply(columns: &Columns, given: &Clauses, col: u8, op: Op, n: i64) -> bool {
-    let goal = compared(0, col, op, n);
-    implies(given, &goal, columns)
-}
-
-/// Whether a row has this answer, and its clause implies no comparison of another column.
-fn is_row(columns: &Columns, row: Row) -> bool {
-    let given = Clauses::One(compared(1, 0, row.0, row.1));
-    let own = do_imply(columns, &given, 0, row.2, row.3);
-    let other = do_imply(columns, &given, 1, row.2, row.3);
-    own == row.4 && !other
-}
-
-/// The first row with another answer.
-fn first_wrong(columns: &Columns, rows: &[Row]) -> Option<Row> {
-    for row in rows {
-        if !is_row(columns, *row) {
-            return Some(*row);
-        }
-    }
-    None
-}
-
-#[test]
-fn comparisons_with_numbers(rt: HostRuntime) {
-    let columns = columns(rt.alloc()).expect(&rt, "columns");
-    assert!(rt; first_wrong(&columns, &COMPARISONS).is_none());
-}
-
 /// A column beside a number.
 type Compared = (u8, Op, i64);
 
@@ -151,15 +114,13 @@ enum Part {
 }
 
 /// Two comparisons of a relation.
-fn both(alloc: Global, rel: u8, first: Compared, second: Compared) -> Result<Exprs, AllocError> {
-    let mut exprs = Vec::new(alloc);
-    exprs.push(compared(rel, first.0, first.1, first.2))?;
-    exprs.push(compared(rel, second.0, second.1, second.2))?;
-    Ok(Exprs::from_vec(exprs))
+fn both(alloc: Global, rel: u8, first: Compared, second: Compared) -> Result<Exprs, Memory> {
+    let one = compared(rel, first.0, first.1, first.2);
+    pair(alloc, one, compared(rel, second.0, second.1, second.2))
 }
 
 /// The condition of a relation.
-fn expr(alloc: Global, rel: u8, part: Part) -> Result<Expr, AllocError> {
+fn expr(alloc: Global, rel: u8, part: Part) -> Result<Expr, Memory> {
     match part {
         Part::Compare(col, op, n) => Ok(compared(rel, col, op, n)),
         Part::CompareNull(col, op) => {
@@ -169,70 +130,83 @@ fn expr(alloc: Global, rel: u8, part: Part) -> Result<Expr, AllocError> {
         Part::Given(col) => Ok(Expr::IsNotNull(column(rel, col))),
         Part::And(first, second) => Ok(Expr::And(both(alloc, rel, first, second)?)),
         Part::Or(first, second) => Ok(Expr::Or(both(alloc, rel, first, second)?)),
-        Part::NotFlag => Ok(Expr::Not(Box::new(alloc, Expr::BoolCol(column(rel, 2)))?)),
+        Part::NotFlag => not(alloc, Expr::BoolCol(column(rel, 2))),
         Part::True => Ok(Expr::Const(Truth::True)),
     }
 }
 
+/// No condition, one or two.
+#[derive(Clone, Copy)]
+enum Given {
+    Nothing,
+    One(Part),
+    Two(Part, Part),
+}
+
 /// The conditions of relation 1 as clauses.
-fn clauses_of(alloc: Global, parts: &[Part]) -> Result<Clauses, AllocError> {
-    match parts {
-        [] => Ok(Clauses::Nothing(Expr::Const(Truth::True))),
-        [one] => Ok(Clauses::One(expr(alloc, 1, *one)?)),
-        [first, second, ..] => {
-            let first = expr(alloc, 1, *first)?;
-            let second = expr(alloc, 1, *second)?;
+fn clauses_of(alloc: Global, given: Given) -> Result<Clauses, Memory> {
+    match given {
+        Given::Nothing => Ok(Clauses::Nothing(Expr::Const(Truth::True))),
+        Given::One(one) => Ok(Clauses::One(expr(alloc, 1, one)?)),
+        Given::Two(first, second) => {
+            let first = expr(alloc, 1, first)?;
+            let second = expr(alloc, 1, second)?;
             Ok(Clauses::Two(first, second))
         }
     }
 }
 
-/// At most two clauses, a goal, and whether the clauses imply it.
-type Implied<'a> = (&'a [Part], Part, bool);
+/// Clauses, a goal, and whether the clauses imply it.
+type Implied = (Given, Part, bool);
 
-const TENS: &[Part] = &[Part::Compare(0, Op::Gt, 10), Part::Compare(1, Op::Eq, 7)];
+const TENS: Given = Given::Two(Part::Compare(0, Op::Gt, 10), Part::Compare(1, Op::Eq, 7));
 
 const BOTH: Part = Part::And((0, Op::Gt, 5), (1, Op::Ne, 8));
 
-const ONE_OF: &[Part] = &[
+const ONE_OF: Given = Given::Two(
     Part::Compare(1, Op::Lt, 0),
     Part::Or((0, Op::Eq, 1), (0, Op::Eq, 2)),
-];
+);
 
 const IMPLIED: [Implied; 12] = [
     // each part of a goal
     (TENS, Part::Given(1), true),
     (TENS, Part::Given(2), false),
     (TENS, BOTH, true),
-    (&[Part::Compare(0, Op::Gt, 10)], BOTH, false),
+    (Given::One(Part::Compare(0, Op::Gt, 10)), BOTH, false),
     // each alternative of a clause
     (ONE_OF, Part::Compare(0, Op::Lt, 3), true),
     (ONE_OF, Part::Compare(0, Op::Lt, 2), false),
     (ONE_OF, Part::Or((0, Op::Eq, 2), (0, Op::Le, 1)), true),
     // NULL, and no clause
-    (&[Part::CompareNull(0, Op::Lt)], Part::Given(0), true),
     (
-        &[Part::CompareNull(0, Op::Lt)],
+        Given::One(Part::CompareNull(0, Op::Lt)),
+        Part::Given(0),
+        true,
+    ),
+    (
+        Given::One(Part::CompareNull(0, Op::Lt)),
         Part::Compare(0, Op::Le, 5),
         false,
     ),
-    (&[], Part::True, false),
+    (Given::Nothing, Part::True, false),
     // a negated flag is its own goal
-    (&[Part::NotFlag], Part::NotFlag, true),
-    (&[Part::NotFlag], Part::Given(2), false),
+    (Given::One(Part::NotFlag), Part::NotFlag, true),
+    (Given::One(Part::NotFlag), Part::Given(2), false),
 ];
 
-/// Whether clauses imply the condition of relation 0; none for want of memory.
-fn does_imply(alloc: Global, columns: &Columns, given: &Clauses, goal: Part) -> Option<bool> {
+/// Whether this is the answer of whether clauses imply the condition of relation 0.
+fn is_answer(alloc: Global, columns: &Columns, given: &Clauses, goal: Part, wanted: bool) -> bool {
     match expr(alloc, 0, goal) {
-        Ok(goal) => Some(implies(given, &goal, columns)),
-        Err(_) => None,
+        Ok(goal) => implies(given, &goal, columns) == wanted,
+        Err(_) => false,
     }
 }
 
 fn is_implied(alloc: Global, columns: &Columns, row: Implied) -> bool {
-    match clauses_of(alloc, row.0) {
-        Ok(given) => does_imply(alloc, columns, &given, row.1) == Some(row.2),
+    let (clauses, goal, wanted) = row;
+    match clauses_of(alloc, clauses) {
+        Ok(given) => is_answer(alloc, columns, &given, goal, wanted),
         Err(_) => false,
     }
 }
@@ -247,8 +221,27 @@ fn first_other(alloc: Global, columns: &Columns, rows: &[Implied]) -> Option<usi
     None
 }
 
+/// Whether a comparison of a column has this answer, and implies no comparison of another column.
+fn is_row(alloc: Global, columns: &Columns, row: Row) -> bool {
+    let (op, n, sign, m, wanted) = row;
+    let given = Given::One(Part::Compare(0, op, n));
+    is_implied(alloc, columns, (given, Part::Compare(0, sign, m), wanted))
+        && is_implied(alloc, columns, (given, Part::Compare(1, sign, m), false))
+}
+
+/// The place of the first comparison with another answer.
+fn first_wrong(alloc: Global, columns: &Columns, rows: &[Row]) -> Option<usize> {
+    for n in 0..rows.len() {
+        if !is_row(alloc, columns, rows[n]) {
+            return Some(n);
+        }
+    }
+    None
+}
+
 #[test]
-fn parts_of_goals_and_clauses(rt: HostRuntime) {
+fn implied_goals(rt: HostRuntime) {
     let columns = columns(rt.alloc()).expect(&rt, "columns");
+    assert_eq!(rt; first_wrong(rt.alloc(), &columns, &COMPARISONS), None);
     assert_eq!(rt; first_other(rt.alloc(), &columns, &IMPLIED), None);
 }

@@ -1,6 +1,6 @@
 use Rattle.std.proofs.Common.{◌∙◌, ap, sym}
 use Rattle.std.proofs.lemmas.Slice.Eq.{slice_eq-Decides}
-use Rattle.pathkeys.specs.Finding.{class_numbers}
+use Rattle.plan_tree.specs.pathkeys_Finding.{class_numbers}
 use Rattle.certificates.proofs.SameLemmas.{class-decides, same-classes}
 use Rattle.certificates.proofs.same_plans.are_same_keys.Goals as goal
 

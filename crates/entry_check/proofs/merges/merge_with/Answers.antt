@@ -8,8 +8,9 @@ use Rattle.certificates.specs.Views.{entry}
 use Rattle.join_work.proofs.CostLemmas.{whole-rows}
 use Rattle.plan_check.proofs.MergeLemmas.{built-merge}
 use Rattle.entry_check.proofs.MergeLemmas.{merge-right, merge-set}
-use Rattle.entry_check.proofs.PartLemmas.{if-none, set-estimate}
+use Rattle.entry_check.proofs.PartLemmas.{set-estimate}
 use Rattle.entry_check.proofs.WorkLemmas.{both-sets}
+use Rattle.plan_space.proofs.OrderLemmas.{if-none}
 use Rattle.entry_check.proofs.merges.merge_with.Goals as goal
 
 pub merge_cost-requires-clause-outer_set : goal.merge_cost-requires-clause-outer_set

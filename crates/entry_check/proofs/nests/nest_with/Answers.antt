@@ -6,8 +6,9 @@ use Rattle.certificates.specs.Views.{entry}
 use Rattle.join_work.proofs.CostLemmas.{whole-rows}
 use Rattle.plan_check.proofs.NestLemmas.{built-nest}
 use Rattle.entry_check.proofs.NestLemmas.{nest-right, nest-set}
-use Rattle.entry_check.proofs.PartLemmas.{if-none, set-estimate}
+use Rattle.entry_check.proofs.PartLemmas.{set-estimate}
 use Rattle.entry_check.proofs.WorkLemmas.{both-sets}
+use Rattle.plan_space.proofs.OrderLemmas.{if-none}
 use Rattle.entry_check.proofs.nests.nest_with.Goals as goal
 
 pub nest_cost-requires-clause-outer_set : goal.nest_cost-requires-clause-outer_set

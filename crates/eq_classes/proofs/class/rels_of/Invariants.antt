@@ -1,6 +1,6 @@
 use Rattle.std.proofs.Common.{◌≡◌, ℕ, ◌<◌, ◌||◌, nat_eq, drop}
 use Rattle.std.specs.List.{list_any}
-use Rattle.pg_base.specs.Sets.{has}
+use Rattle.opfamily.specs.pg_base_Sets.{has}
 use Rattle.eq_classes.proofs.class.rels_of.Given as goal
 
 abbrev pub invariant-loop-c : goal.invariant-loop-c

@@ -1,6 +1,6 @@
 use Rattle.std.proofs.Common.{◌≡◌, ℕ, length, arith, append-nil, ◌++◌, ◌∷◌, [], List, drop, sym, subst, append_assoc}
 use Rattle.std.proofs.Math.Seq.{drop-length}
-use Rattle.pg_base.specs.declared.rel_set.RelSet.{RelSet}
+use Rattle.opfamily.specs.pg_base_rel_set_RelSet.{RelSet}
 use Rattle.eq_classes.specs.declared.clauses.Listed.{Listed}
 use Rattle.eq_classes.specs.Listing.{AreNamed}
 use Rattle.eq_classes.proofs.NamedLemmas.{named_next}

@@ -1,5 +1,5 @@
 use Rattle.std.proofs.Common.{List, ◌++◌, drop}
-use Rattle.pg_base.specs.declared.rel_set.RelSet.{RelSet}
+use Rattle.opfamily.specs.pg_base_rel_set_RelSet.{RelSet}
 use Rattle.eq_classes.specs.Listing.{AreNamed}
 use Rattle.eq_classes.proofs.classes.relations.Given as goal
 

@@ -1,5 +1,5 @@
 use Rattle.std.proofs.Common.{ℕ, List, ◌++◌, ap, ◌∙◌}
-use Rattle.explain.specs.Texts.{text_at}
+use Rattle.reply.specs.explain_Texts.{text_at}
 use Rattle.plan_tree.specs.Views.{path}
 use Rattle.sql_query.specs.Grouped.{GroupedQuery}
 use Rattle.group_explain.specs.Texts.{lines_above}

@@ -6,8 +6,8 @@ use Rattle.executor.specs.Numbers.{IsTupleOf}
 use Rattle.group_tuples.specs.Neighbours.{AreTogether}
 use Rattle.group_tuples.specs.declared.form.Form.TheVariants.{Sorted}
 use Rattle.group_explain.specs.Plans.{input_base}
-use Rattle.reply.proofs.PuttingLemmas.{on_err}
-use Rattle.reply.specs.Settings.{world_of}
+use Rattle.group_explain.specs.reply_PuttingLemmas.{on_err}
+use Rattle.group_explain.specs.reply_Settings.{world_of}
 use Rattle.group_reply.specs.Drawing.{drawn_reply, seen_all}
 use Rattle.group_reply.proofs.DrawnLemmas.{begun-drawing, begun-drawn, begun-none, replied-drawn}
 use Rattle.group_reply.proofs.answer.answer_by.Goals as goal

@@ -1,5 +1,5 @@
 use Rattle.std.proofs.Common.{◌≡◌, map, take}
-use Rattle.reply.specs.Showing.{cell_of}
+use Rattle.group_explain.specs.reply_Showing.{cell_of}
 use Rattle.group_reply.proofs.columns.keys_in.Given as goal
 
 abbrev pub invariant-loop-column : goal.invariant-loop-column

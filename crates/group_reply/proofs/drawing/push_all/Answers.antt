@@ -1,6 +1,6 @@
 use Rattle.executor.specs.Numbers.{numbers}
-use Rattle.reply.specs.Settings.{world_of}
-use Rattle.reply.proofs.DrawingLemmas.{next_is, rest_are, some_left}
+use Rattle.group_explain.specs.reply_Settings.{world_of}
+use Rattle.group_explain.specs.reply_DrawingLemmas.{next_is, rest_are, some_left}
 use Rattle.group_runs.specs.Seen.{seen_of}
 use Rattle.group_reply.proofs.PushLemmas.{next-alone, pushed-more}
 use Rattle.group_reply.proofs.drawing.push_all.Goals as goal

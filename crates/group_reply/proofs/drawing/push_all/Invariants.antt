@@ -1,6 +1,6 @@
 use Rattle.std.proofs.Common.{All, length}
 use Rattle.executor.specs.Numbers.{IsTupleOf}
-use Rattle.reply.specs.Settings.{world_of}
+use Rattle.group_explain.specs.reply_Settings.{world_of}
 use Rattle.group_runs.specs.Seen.{seen_of}
 use Rattle.group_reply.proofs.PushLemmas.{HasPushed}
 use Rattle.group_reply.proofs.drawing.push_all.Given as goal

@@ -4,8 +4,8 @@ use Rattle.group_tuples.specs.declared.form.Form.TheVariants.{Sorted}
 use Rattle.group_tuples.specs.Grouping.{AreOf}
 use Rattle.group_values.specs.Steps.{IsLastAlone}
 use Rattle.executor.specs.Numbers.{numbers}
-use Rattle.reply.proofs.RowLemmas.{now}
-use Rattle.reply.specs.Settings.{world_of}
+use Rattle.group_explain.specs.reply_RowLemmas.{now}
+use Rattle.group_explain.specs.reply_Settings.{world_of}
 use Rattle.group_runs.specs.Seen.{seen_of}
 use Rattle.group_reply.specs.Columns.{arg_in}
 use Rattle.group_reply.proofs.SeenLemmas.{calls-there, keys-there, seen-is}

@@ -1,5 +1,6 @@
 use Rattle.std.proofs.Common.{arith}
-use Rattle.index_prices.proofs.ReadLemmas.{behind-small, byte-most}
+use Rattle.index_prices.proofs.ReadLemmas.{behind-small}
+use Rattle.advisor.proofs.PlaceLemmas.{one-most}
 use Rattle.index_prices.proofs.pricer.read_of.Goals as goal
 
 pub overflow_mul-set : goal.overflow_mul-set
@@ -8,5 +9,5 @@ overflow_mul-set c = let small = behind-small c.args.q.now c.args.candidates.now
 pub overflow_add-set : goal.overflow_add-set
 overflow_add-set c =
     let small = behind-small c.args.q.now c.args.candidates.now c.loop-j.j c.loop-j.set c.requires c.loop-j.invariant in
-    let most = byte-most c.is_of.result in
+    let most = one-most c.is_of.result in
     omega (arith, small, most, c.from.ensures)

@@ -1,7 +1,8 @@
 use Rattle.std.proofs.Common.{◌≤◌, ℕ, arith}
 use Rattle.certificates.specs.Views.{certificate}
 use Rattle.join_cover.specs.Serving.{AreJoinsOf}
-use Rattle.join_cover.proofs.CoverLemmas.{below-next, joins-served}
+use Rattle.join_cover.proofs.CoverLemmas.{joins-served}
+use Rattle.entry_check.specs.plan_space_KeyLemmas.{below-next}
 use Rattle.join_cover.proofs.joins.open_join.Goals as goal
 
 pub loop-bits-preserved : goal.loop-bits-preserved

@@ -1,4 +1,4 @@
-use Rattle.std.proofs.Common.{[], ap, map, sym, subst, arith}
+use Rattle.std.proofs.Common.{ap, map, sym, subst, arith}
 use Rattle.std.specs.Prelude.{All}
 use Rattle.std.proofs.lemmas.List.Elements.{All-nil}
 use Rattle.plan_tree.specs.Views.{path}
@@ -8,17 +8,17 @@ use Rattle.join_search.proofs.FilledLemmas.{bare-served}
 use Rattle.join_search.proofs.FrontingLemmas.{outside-is}
 use Rattle.join_search.proofs.by_sets.front_over.Goals as goal
 
-pub returns-then-not-may_join_any-clause-joins : goal.returns-then-not-may_join_any-clause-joins
-returns-then-not-may_join_any-clause-joins c =
+pub returns-then-not-may-clause-joins : goal.returns-then-not-may-clause-joins
+returns-then-not-may-clause-joins c =
     let P = IsJoinPath c.args.task.now.cat.now c.args.task.now.q.now (paths_at c.args.table.now) c.args.set none in
     subst (All P) (ap (map path) (sym c.new.ensures)) (All-nil P)
 
-pub returns-then-not-may_join_any-clause-served : goal.returns-then-not-may_join_any-clause-served
-returns-then-not-may_join_any-clause-served c =
-    bare-served c.args.task.now.cat.now c.args.task.now.q.now c.args.task.now.asked (paths_at c.args.table.now) (map path c.new.result) c.args.set c.args.filled.now c.requires.filled (c.may_join_any.ensures c.if-not-may_join_any.true)
+pub returns-then-not-may-clause-served : goal.returns-then-not-may-clause-served
+returns-then-not-may-clause-served c =
+    bare-served c.args.task.now.cat.now c.args.task.now.q.now c.args.task.now.asked (paths_at c.args.table.now) (map path c.new.result) c.args.set c.args.filled.now c.requires.filled (c.in_ok-may.ensures c.if-not-may.true)
 
-pub returns-then-not-may_join_any-clause-undominated : goal.returns-then-not-may_join_any-clause-undominated
-returns-then-not-may_join_any-clause-undominated c =
+pub returns-then-not-may-clause-undominated : goal.returns-then-not-may-clause-undominated
+returns-then-not-may-clause-undominated c =
     subst (AreUndominated c.args.task.now.cat.now c.args.task.now.q.now) (ap (map path) (sym c.new.ensures)) (λ i j d lt le. absurd (omega (arith, lt, le)))
 
 pub joins_of-requires-clause-at : goal.joins_of-requires-clause-at

@@ -1,7 +1,6 @@
-use Rattle.std.proofs.Common.{◌≡◌, sym, map, subst}
-use Rattle.std.specs.Prelude.{All, List}
+use Rattle.std.proofs.Common.{subst}
+use Rattle.std.specs.Prelude.{All}
 use Rattle.plan_tree.proofs.BoundLemmas.{lawful-rows}
-use Rattle.plan_tree.specs.Paths.{Path}
 use Rattle.join_search.specs.Merges.{IsNoCheaper}
 use Rattle.join_search.specs.Tables.{none, paths_at}
 use Rattle.join_search.proofs.PastLemmas.{merges-past}

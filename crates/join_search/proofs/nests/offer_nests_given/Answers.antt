@@ -38,3 +38,9 @@ returns-in-None-clause-served c =
     let j = c.args.j.now in
     let fronts = paths_at c.args.j.now.table.now in
     nests-none c.args.j.now.cat.now c.args.j.now.q.now c.args.j.now.asked (map path c.args.front.now) (fronts j.outer none) (fronts j.inner c.args.p) (none-lent c.args.inners.now (fronts j.inner c.args.p) c.requires.inners c.in-None.ensures.none)
+
+pub returns-then-are_nests_past-clause-takes : goal.returns-then-are_nests_past-clause-takes
+returns-then-are_nests_past-clause-takes c = takes-none c.args.j.now.cat.now c.args.j.now.q.now (paths_at c.args.j.now.table.now) c.args.j.now.set (map path c.args.front.now) c.requires.joins
+
+pub returns-then-are_nests_past-clause-served : goal.returns-then-are_nests_past-clause-served
+returns-then-are_nests_past-clause-served c = c.are_nests_past.ensures c.if-are_nests_past.true (map path c.args.front.now)

@@ -1,4 +1,4 @@
-use Rattle.std.proofs.Common.{◌≡◌, ◌<◌, ◌∙◌, refl, arith}
+use Rattle.std.proofs.Common.{◌∙◌, refl, arith}
 use Rattle.join_search.proofs.TableLemmas.{forgot-all, forgot-more}
 use Rattle.join_search.proofs.table.forget.Goals as goal
 

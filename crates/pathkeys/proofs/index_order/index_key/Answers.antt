@@ -1,4 +1,4 @@
-use Rattle.opfamily.specs.declared.classes.Method.TheVariants.{Btree}
+use Rattle.catalog.specs.opfamily_classes_Method_TheVariants.{Btree}
 use Rattle.pathkeys.specs.Keys.{keys_by}
 use Rattle.pathkeys.proofs.StepLemmas.{keys_by_are_keys, class_of_list}
 use Rattle.pathkeys.proofs.index_order.index_key.Goals as goal

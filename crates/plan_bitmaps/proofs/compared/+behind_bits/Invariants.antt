@@ -1,6 +1,6 @@
 use Rattle.std.proofs.Common.{◌≡◌, ◌++◌, ℕ, List, drop}
 use Rattle.plan_tree.specs.Views.{bits_all}
-use Rattle.explain.specs.Texts.{trees_text}
+use Rattle.plan_titles.specs.explain_Texts.{trees_text}
 use Rattle.plan_titles.specs.HasText.{HaveBits}
 use Rattle.plan_bitmaps.specs.Stands.{Stand}
 use Rattle.plan_bitmaps.proofs.compared.+behind_bits.Given as goal

@@ -1,7 +1,7 @@
 use Rattle.std.proofs.Common.{◌∙◌, ◌++◌, ℕ, List, ap, append_assoc, codes, refl, sym, true≢false}
 use Rattle.std.specs.Prelude.{Some, slice_get}
-use Rattle.explain.specs.Texts.{conjunct_by, number_text}
-use Rattle.certificate_entries.proofs.ClauseLemmas.{conjunct-small}
+use Rattle.plan_titles.specs.explain_Texts.{conjunct_by, number_text}
+use Rattle.plan_titles.specs.certificate_entries_ClauseLemmas.{conjunct-small}
 use Rattle.plan_titles.proofs.ScannedLemmas.{none-mapped}
 use Rattle.plan_bitmaps.proofs.CompareLemmas.{number-found, some-of}
 use Rattle.plan_bitmaps.proofs.compared.behind_conjunct.Goals as goal

@@ -1,6 +1,6 @@
 use Rattle.std.proofs.Common.{◌++◌, ap, codes}
 use Rattle.std.specs.Prelude.{option_map}
-use Rattle.explain.specs.Texts.{lead}
+use Rattle.plan_titles.specs.explain_Texts.{lead}
 use Rattle.plan_bitmaps.specs.Lines.{leaf_title}
 use Rattle.plan_bitmaps.proofs.CompareLemmas.{two-if, two-none, two-only}
 use Rattle.plan_bitmaps.proofs.compared.behind_leaf.Goals as goal

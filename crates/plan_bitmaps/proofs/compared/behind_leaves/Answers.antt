@@ -1,6 +1,6 @@
 use Rattle.std.proofs.Common.{ap}
 use Rattle.std.specs.Prelude.{option_map}
-use Rattle.explain.specs.Texts.{leaf_line}
+use Rattle.plan_titles.specs.explain_Texts.{leaf_line}
 use Rattle.plan_bitmaps.proofs.CompareLemmas.{no-item}
 use Rattle.plan_bitmaps.proofs.compared.behind_leaves.Goals as goal
 

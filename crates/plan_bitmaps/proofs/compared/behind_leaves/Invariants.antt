@@ -1,6 +1,6 @@
 use Rattle.std.proofs.Common.{◌≡◌, ◌++◌, ℕ, List, drop}
 use Rattle.std.specs.List.{flat_map}
-use Rattle.explain.specs.Texts.{leaf_line}
+use Rattle.plan_titles.specs.explain_Texts.{leaf_line}
 use Rattle.plan_bitmaps.proofs.compared.behind_leaves.Given as goal
 
 abbrev pub invariant-loop-i : goal.invariant-loop-i

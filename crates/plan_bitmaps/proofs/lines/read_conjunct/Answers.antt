@@ -1,10 +1,11 @@
 use Rattle.std.proofs.Common.{◌∙◌, [], ℕ, ap, refl, sym}
 use Rattle.std.specs.Prelude.{Some, slice_get}
 use Rattle.std.proofs.lemmas.List.{append-nil}
+use Rattle.std.proofs.lemmas.Option.{same_Some}
 use Rattle.std.specs.Fmt.{decimal}
-use Rattle.explain.specs.Texts.{conjunct_by, number_text}
-use Rattle.certificate_entries.proofs.ClauseLemmas.{conjunct-small}
-use Rattle.certificate_lines.proofs.NumberLemmas.{none-some, some-same}
+use Rattle.plan_titles.specs.explain_Texts.{conjunct_by, number_text}
+use Rattle.plan_titles.specs.certificate_entries_ClauseLemmas.{conjunct-small}
+use Rattle.plan_titles.specs.certificate_lines_NumberLemmas.{none-some}
 use Rattle.plan_bitmaps.proofs.CompareLemmas.{some-of}
 use Rattle.plan_bitmaps.proofs.lines.read_conjunct.Goals as goal
 
@@ -18,5 +19,5 @@ pub returns-clause-only : goal.returns-clause-only
 returns-clause-only c = λ n is e.
     let m = some-of (conjunct_by (slice_get c.args.q.now.classes.clauses n)) is in
     let r = c.number.ensures.only m.0 [] (conjunct-small c.args.cat.now c.args.q.now c.requires.bound n m.0 m.1) (c.new.ensures ∙ (e ∙ (ap number_text m.1 ∙ sym (append-nil (decimal m.0))))) refl in
-    let same = some-same m.0 c.in_ok-number.number (sym r.0 ∙ c.in_ok-number.was) in
+    let same = same_Some m.0 c.in_ok-number.number (sym r.0 ∙ c.in_ok-number.was) in
     c.find_clause.ensures.only n (m.1 ∙ ap (λ (k : ℕ). Some k) same)

@@ -1,7 +1,7 @@
 use Rattle.std.proofs.Common.{◌∙◌, [], ℕ, List, ap, length, refl, sym, true≢false}
 use Rattle.std.proofs.lemmas.List.{append-nil}
 use Rattle.std.specs.Fmt.{decimal}
-use Rattle.plan_titles.proofs.ScannedLemmas.{none-some}
+use Rattle.plan_titles.specs.certificate_lines_NumberLemmas.{none-some}
 use Rattle.plan_bitmaps.proofs.numbers.number_of.Goals as goal
 
 pub returns-in_err-number-clause-only : goal.returns-in_err-number-clause-only

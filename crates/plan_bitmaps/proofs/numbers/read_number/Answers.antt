@@ -1,8 +1,8 @@
 use Rattle.std.proofs.Common.{◌∙◌, ℕ}
 use Rattle.std.specs.Fmt.{decimal}
 use Rattle.line_cursor.proofs.NumeralLemmas.{decimal-word}
-use Rattle.plan_titles.proofs.ScannedLemmas.{none-some}
 use Rattle.plan_bitmaps.proofs.CompareLemmas.{number-left}
+use Rattle.plan_titles.specs.certificate_lines_NumberLemmas.{none-some}
 use Rattle.plan_bitmaps.proofs.numbers.read_number.Goals as goal
 
 pub returns-in_err-number-clause-only : goal.returns-in_err-number-clause-only

@@ -1,15 +1,15 @@
 use Rattle.std.proofs.Common.{◌+◌, ◌∙◌, ◌++◌, ℕ, List, ap, arith, map, refl, subst, sym}
 use Rattle.std.specs.Prelude.{Some, option_map}
-use Rattle.explain.specs.Texts.{bits_text}
+use Rattle.plan_titles.specs.explain_Texts.{bits_text}
 use Rattle.plan_tree.specs.Plans.{BitTree, all_hold}
 use Rattle.plan_tree.specs.Views.{bits, trees_of}
 use Rattle.plan_tree.proofs.PricingLemmas.{and-bits}
-use Rattle.plan_lines.specs.Parts.{IsShallow}
-use Rattle.plan_titles.proofs.ScannedLemmas.{none-some}
+use Rattle.plan_titles.specs.plan_lines_Parts.{IsShallow}
 use Rattle.plan_titles.specs.HasText.{HasBits}
 use Rattle.plan_bitmaps.specs.Stands.{Stands}
 use Rattle.plan_bitmaps.proofs.ListLemmas.{broken, done}
 use Rattle.plan_bitmaps.proofs.TreeLemmas.{HasTree, held-has, in_list, in_list-back, in_list-has, in_list-text, no-tree, tree-begins, tree-item, trees-begun, trees-have, trees-next}
+use Rattle.plan_titles.specs.certificate_lines_NumberLemmas.{none-some}
 use Rattle.plan_bitmaps.proofs.trees.+read_tree.Goals as goal
 
 pub read_all-trees-init : goal.read_all-trees-init

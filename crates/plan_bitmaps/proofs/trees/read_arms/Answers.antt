@@ -1,15 +1,15 @@
 use Rattle.std.proofs.Common.{◌+◌, ◌∙◌, List, ap, arith, refl, subst, sym}
 use Rattle.std.specs.Prelude.{Some, option_map}
-use Rattle.explain.specs.Texts.{leaf_line}
+use Rattle.plan_titles.specs.explain_Texts.{leaf_line}
 use Rattle.plan_tree.specs.Plans.{BitTree, some_arm}
 use Rattle.plan_tree.proofs.PricingLemmas.{or-bits}
 use Rattle.pg_base.specs.declared.numbers.IndexNo.{IndexNo}
-use Rattle.plan_lines.specs.Parts.{IsShallow}
-use Rattle.plan_titles.proofs.ScannedLemmas.{none-some}
+use Rattle.plan_titles.specs.plan_lines_Parts.{IsShallow}
 use Rattle.plan_titles.specs.HasText.{HasBits}
 use Rattle.plan_bitmaps.specs.Stands.{Stands}
 use Rattle.plan_bitmaps.proofs.ListLemmas.{broken, done}
 use Rattle.plan_bitmaps.proofs.TreeLemmas.{HasLeaf, arm-has, leaf-begins, leaf-item, leaves-begun, leaves-have, leaves-next, no-leaf}
+use Rattle.plan_titles.specs.certificate_lines_NumberLemmas.{none-some}
 use Rattle.plan_bitmaps.proofs.trees.read_arms.Goals as goal
 
 pub arms-init : goal.arms-init

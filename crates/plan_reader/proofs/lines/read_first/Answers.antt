@@ -1,9 +1,10 @@
 use Rattle.std.proofs.Common.{◌∙◌, ◌++◌, ◌∷◌, ap, sym}
+use Rattle.std.proofs.lemmas.Option.{same_Some}
 use Rattle.std.specs.Prelude.{option_map}
-use Rattle.plan_lines.specs.Parts.{figures_behind}
-use Rattle.plan_titles.proofs.ScannedLemmas.{none-mapped}
-use Rattle.plan_titles.specs.Kinds.{behind_words, kind_of}
-use Rattle.plan_reader.proofs.PlainLemmas.{line-lacks, line-parts, some-text, spaced, spaced-lacks}
+use Rattle.plan_bitmaps.specs.plan_lines_Parts.{figures_behind}
+use Rattle.plan_bitmaps.specs.plan_titles_ScannedLemmas.{none-mapped}
+use Rattle.plan_bitmaps.specs.plan_titles_Kinds.{behind_words, kind_of}
+use Rattle.plan_reader.proofs.PlainLemmas.{line-lacks, line-parts, spaced, spaced-lacks}
 use Rattle.plan_reader.proofs.lines.read_first.Goals as goal
 
 pub returns-in_err-line : goal.returns-in_err-line
@@ -24,7 +25,7 @@ returns c = record {
       let whole = spaced contents q p ++ (40 ∷ figures_behind n.0 n.1) in
       let r = c.next_at.ensures.only whole rest (line-lacks contents q c.lawful.ensures c.requires.bound p n text) (e ∙ line-parts contents q c.lawful.ensures c.requires.bound c.args.depth p n rest) in (
         c.parts_of.ensures.only (kind_of p) (behind_words contents q p) n.0 n.1 (spaced-lacks contents q c.lawful.ensures c.requires.bound p text) fits.0 fits.1
-            (some-text c.in_ok-line.line.now whole (sym (ap (option_map (λ l. l.now)) c.in_ok-line.was) ∙ r.0)),
+            (same_Some c.in_ok-line.line.now whole (sym (ap (option_map (λ l. l.now)) c.in_ok-line.was) ∙ r.0)),
         r.1,
       );
 }

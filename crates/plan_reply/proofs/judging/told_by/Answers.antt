@@ -1,4 +1,4 @@
-use Rattle.plan_laws.proofs.WellBoundLemmas.{bound-over}
+use Rattle.reply.specs.plan_laws_WellBoundLemmas.{bound-over}
 use Rattle.plan_reply.proofs.judging.told_by.Goals as goal
 
 pub judge-requires-clause-query : goal.judge-requires-clause-query

@@ -5,7 +5,7 @@ use Rattle.std.proofs.lemmas.Bool.{true≢false}
 use Rattle.pg_base.specs.Sets.{has}
 use Rattle.pg_base.specs.declared.numbers.TableNo.{TableNo}
 use Rattle.catalog.specs.Range.{Range}
-use Rattle.certificate_lines.proofs.SetLemmas.{split-at}
+use Rattle.certificate_entries.specs.certificate_lines_SetLemmas.{split-at}
 use Rattle.plan_titles.proofs.GivenLemmas.{IsReading, moved, reading-begun, reading-done, reading-passed, reading-taken}
 use Rattle.plan_titles.proofs.given.read_given.Goals as goal
 use Rattle.plan_titles.proofs.given.read_given.Goals.{then-eq, else-eq}

@@ -1,7 +1,7 @@
 use Rattle.std.proofs.Common.{ap}
 use Rattle.std.specs.Prelude.{option_map}
 use Rattle.pg_base.specs.Sets.{has}
-use Rattle.explain.proofs.KeyLemmas.{key-class}
+use Rattle.certificate_entries.specs.explain_KeyLemmas.{key-class}
 use Rattle.plan_titles.proofs.KeyLemmas.{key-is, key-only, no-key}
 use Rattle.plan_titles.proofs.keys.behind_keys.Goals as goal
 

@@ -1,7 +1,7 @@
 use Rattle.std.proofs.Common.{◌≡◌, ◌++◌, ℕ, List, codes, cond, nat_eq, [], map, drop}
 use Rattle.pg_base.specs.Sets.{has}
 use Rattle.pathkeys.specs.Finding.{class_numbers}
-use Rattle.explain.specs.Texts.{key_text, keys_text, with_commas}
+use Rattle.certificate_entries.specs.explain_Texts.{key_text, keys_text, with_commas}
 use Rattle.plan_titles.proofs.keys.behind_keys.Given as goal
 
 abbrev pub invariant-loop-n : goal.invariant-loop-n

@@ -1,4 +1,4 @@
-use Rattle.explain.proofs.KeyLemmas.{member-column}
+use Rattle.certificate_entries.specs.explain_KeyLemmas.{member-column}
 use Rattle.plan_titles.proofs.keys.behind_member.Goals as goal
 
 pub behind_column-requires-clause-column : goal.behind_column-requires-clause-column

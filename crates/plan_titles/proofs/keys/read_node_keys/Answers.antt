@@ -3,7 +3,7 @@ use Rattle.std.proofs.lemmas.List.{append-nil}
 use Rattle.std.specs.Prelude.{Some}
 use Rattle.pg_base.specs.Sets.{has}
 use Rattle.pathkeys.specs.Keys.{Keys}
-use Rattle.explain.specs.Texts.{keys_text}
+use Rattle.certificate_entries.specs.explain_Texts.{keys_text}
 use Rattle.plan_titles.proofs.KeyLemmas.{is-none, is-some, no-keys, some-keys}
 use Rattle.plan_titles.proofs.ScannedLemmas.{none-some}
 use Rattle.plan_titles.proofs.keys.read_node_keys.Goals as goal

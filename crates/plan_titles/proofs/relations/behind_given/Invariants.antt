@@ -1,6 +1,6 @@
 use Rattle.std.proofs.Common.{◌≡◌, ◌++◌, ℕ, List, codes, cond, drop}
 use Rattle.pg_base.specs.Sets.{has}
-use Rattle.explain.specs.Texts.{aliases_in, given_text, with_commas}
+use Rattle.certificate_entries.specs.explain_Texts.{aliases_in, given_text, with_commas}
 use Rattle.plan_titles.proofs.relations.behind_given.Given as goal
 
 abbrev pub invariant-loop-n : goal.invariant-loop-n

@@ -2,7 +2,7 @@ use Rattle.std.proofs.Common.{◌∙◌, [], sym}
 use Rattle.std.proofs.lemmas.Bool.{true≢false}
 use Rattle.std.proofs.lemmas.List.{append-nil}
 use Rattle.plan_titles.proofs.ScannedLemmas.{none-mapped}
-use Rattle.explain.specs.Texts.{given_text}
+use Rattle.certificate_entries.specs.explain_Texts.{given_text}
 use Rattle.plan_titles.proofs.scanned.is_given.Goals as goal
 
 pub returns-in-None : goal.returns-in-None

@@ -1,7 +1,7 @@
 use Rattle.std.proofs.Common.{◌≡◌, ◌≤◌}
 use Rattle.pg_base.specs.declared.numbers.RelNo.{RelNo}
 use Rattle.pg_base.specs.declared.rel_set.RelSet.{RelSet}
-use Rattle.explain.specs.Texts.{scanned_text}
+use Rattle.certificate_entries.specs.explain_Texts.{scanned_text}
 use Rattle.plan_titles.specs.HasText.{IsScanned}
 use Rattle.plan_titles.proofs.scanned.read_scanned.Given as goal
 

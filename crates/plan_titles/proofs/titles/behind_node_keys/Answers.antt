@@ -1,7 +1,7 @@
 use Rattle.std.proofs.Common.{◌≡◌, ◌∙◌, ◌++◌, ℕ, List, ap₂, sym}
 use Rattle.pg_base.specs.Sets.{has}
 use Rattle.eq_classes.specs.Clauses.{Set}
-use Rattle.explain.specs.Texts.{keys_text}
+use Rattle.certificate_entries.specs.explain_Texts.{keys_text}
 use Rattle.plan_tree.specs.Plans.{set_of}
 use Rattle.plan_tree.specs.Views.{plan}
 use Rattle.plan_titles.proofs.KeyLemmas.{reads-few}

@@ -1,5 +1,5 @@
 use Rattle.std.proofs.Common.{◌∙◌, ap, sym}
-use Rattle.catalog.specs.Contents.{indexes_of}
+use Rattle.sql_query.specs.catalog_Contents.{indexes_of}
 use Rattle.plan_tree.proofs.ElementLemmas.{is-listed, listed-on}
 use Rattle.plan_tree.proofs.elements.is_index_on.Goals as goal
 

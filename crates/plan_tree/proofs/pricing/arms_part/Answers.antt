@@ -1,7 +1,7 @@
 use Rattle.std.proofs.Common.{◌≡◌, ◌∙◌, ◌+◌, ap, sym, subst, true, map, drop, sum, arith, get_or}
 use Rattle.pg_expr.specs.declared.expr.Expr.{Expr}
 use Rattle.pg_expr.specs.View.{cond}
-use Rattle.catalog.specs.Contents.{index_at}
+use Rattle.sql_query.specs.catalog_Contents.{index_at}
 use Rattle.cost_rules.specs.Costs.{capped}
 use Rattle.index_match.specs.Arms.{is_matched}
 use Rattle.plan_tree.specs.Costable.{IsMatchedBy}

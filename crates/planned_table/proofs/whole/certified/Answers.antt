@@ -6,7 +6,7 @@ use Rattle.sql_query.specs.Queries.{width}
 use Rattle.plan_tree.specs.Views.{path}
 use Rattle.plan_tree.specs.declared.path.Path.{Path as Costed}
 use Rattle.join_search.specs.Tables.{none, paths_at}
-use Rattle.planner.specs.Finishing.{finished}
+use Rattle.table_texts.specs.planner_Finishing.{finished}
 use Rattle.certificates.specs.Views.{certificate, entry}
 use Rattle.kept_laws.specs.Printing.{path_order}
 use Rattle.kept_laws.specs.Searched.{AreOfFronts}

@@ -3,9 +3,9 @@ use Rattle.std.specs.Prelude.{slice_get}
 use Rattle.pathkeys.specs.Finding.{class_numbers}
 use Rattle.pathkeys.specs.Keys.{Keys}
 use Rattle.plan_tree.specs.Keys.{keys_of}
-use Rattle.plan_space.proofs.OrderLemmas.{keys-end, keys-more}
-use Rattle.entry_check.specs.Owning.{tree_of}
-use Rattle.entry_check.proofs.ScanLemmas.{tree-keys}
+use Rattle.join_cover.specs.plan_space_OrderLemmas.{keys-end, keys-more}
+use Rattle.join_cover.specs.entry_check_Owning.{tree_of}
+use Rattle.join_cover.specs.entry_check_ScanLemmas.{tree-keys}
 use Rattle.scan_cover.proofs.indexes.keys_of.Goals as goal
 
 pub loop-n-preserved : goal.loop-n-preserved

@@ -7,8 +7,8 @@ use Rattle.plan_tree.specs.Costs.{scan_cost}
 use Rattle.plan_tree.specs.Paths.{kept_cost}
 use Rattle.plan_tree.proofs.BoundLemmas.{lawful-rows}
 use Rattle.plan_check.specs.declared.verdict.Plain.TheVariants as plain
-use Rattle.entry_check.specs.Owning.{tree_of}
-use Rattle.entry_check.proofs.ScanLemmas.{kept-cut, tree-cost, tree-few, tree-made, tree-rows}
+use Rattle.join_cover.specs.entry_check_Owning.{tree_of}
+use Rattle.join_cover.specs.entry_check_ScanLemmas.{kept-cut, tree-cost, tree-few, tree-made, tree-rows}
 use Rattle.scan_cover.proofs.ToldLemmas.{if-none-weaker, if-some-weaker, index-with, match-both}
 use Rattle.scan_cover.proofs.indexes.open_index.Goals as goal
 

@@ -1,13 +1,10 @@
 use Rattle.std.proofs.Common.{◌≡◌, ◌≢◌, ℕ, ◌+◌, ◌<◌, ◌≤◌, false, List, length, get_or, Some, sym, ap, ◌∙◌, add-zero, drop_of_length-le}
 use Rattle.std.specs.List.{slice_get}
 use Rattle.std.proofs.lemmas.List.Sums.{prefix_len-drop_no}
-use Rattle.std.proofs.lemmas.Option.{slice_get-get_or, slice_get_past}
+use Rattle.std.proofs.lemmas.Option.{slice_get-get_or, slice_get_past, same_Some}
 use Rattle.pg_base.specs.Faults.{syntax_fault}
 use Rattle.sql_grammar.specs.CopyLine.{is_blank, after_blanks}
 use Rattle.sql_grammar.proofs.copy_line.data_start.Goals as goal
-
-some-same : (a b : ℕ) → Some a ≡ Some b → a ≡ b
-some-same a b e = cc
 
 -- a byte that is no blank is the first such one
 stays : (text : List ℕ) (at : ℕ) → at < length text → is_blank (get_or text at 0) ≡ false → after_blanks text at ≡ at
@@ -29,7 +26,7 @@ returns-then-not-is_blank c =
     let solid : is_blank (get_or c.args.text.now c.loop-at.at 0) ≡ false = sym c.if-not-is_blank.ensures in
     let here = sym (stays c.args.text.now c.loop-at.at c.loop-at-test.true solid) ∙ c.loop-at.invariant.same in
     let differs : get_or c.args.text.now c.loop-at.at 0 ≢ 10 = c.if-byte-eq10.false in (
-      λ e. differs (some-same _ _ (sym (slice_get-get_or c.args.text.now c.loop-at.at 0 c.loop-at-test.true) ∙ (ap (slice_get c.args.text.now) here ∙ e))),
+      λ e. differs (same_Some _ _ (sym (slice_get-get_or c.args.text.now c.loop-at.at 0 c.loop-at-test.true) ∙ (ap (slice_get c.args.text.now) here ∙ e))),
       c.syntax.ensures ∙ ap syntax_fault here,
     )
 

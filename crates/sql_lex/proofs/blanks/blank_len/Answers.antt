@@ -1,16 +1,12 @@
-use Rattle.std.proofs.Common.{◌≡◌, ◌<◌, length, drop, arith, sym, ap, ◌∙◌}
-use Rattle.std.specs.Prelude.{ℕ, List}
+use Rattle.std.proofs.Common.{◌≡◌, drop, arith, sym, ap, ◌∙◌}
 use Rattle.std.specs.List.{prefix_len}
 use Rattle.std.proofs.lemmas.Bool.{eqb-false}
 use Rattle.sql_lex.specs.Letters.{is_in_line}
 use Rattle.sql_lex.proofs.BlankLaws.{space_cut, line_cut, comment_cut}
 use Rattle.sql_lex.proofs.blanks.blank_len.Goals as goal
 
-some_byte : (bytes : List ℕ) → (length bytes ≡ 0 → ⊥) → 0 < length bytes
-some_byte bytes h = omega arith
-
 pub returns-then-is_space : goal.returns-then-is_space
-returns-then-is_space c = space_cut c.args.bytes.now (some_byte c.args.bytes.now (eqb-false _ _ (sym c.if-is_empty.ensures))) (sym c.if-is_space.ensures)
+returns-then-is_space c = space_cut c.args.bytes.now (omega (arith, eqb-false _ _ (sym c.if-is_empty.ensures))) (sym c.if-is_space.ensures)
 
 pub overflow_add-result : goal.overflow_add-result
 overflow_add-result c =

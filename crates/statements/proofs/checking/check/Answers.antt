@@ -2,7 +2,7 @@ use Rattle.std.proofs.Common.{ℕ, List, [], subst}
 use Rattle.std.specs.Io.KnownBytes.{Appends}
 use Rattle.pg_base.specs.Writing.{AppendsPrefix}
 use Rattle.sql_query.specs.Worlds.{world}
-use Rattle.reply.specs.Replies.{traces}
+use Rattle.group_reply.specs.reply_Replies.{traces}
 use Rattle.statements.proofs.AnsweringLemmas.{stops-by}
 use Rattle.statements.proofs.TellingLemmas.{never-write, no-cause-told, refused-stops, telling-begun, telling-written}
 use Rattle.statements.proofs.checking.check.Goals as goal

@@ -1,4 +1,4 @@
-use Rattle.reply.specs.Replies.{traces}
+use Rattle.group_reply.specs.reply_Replies.{traces}
 use Rattle.statements.specs.Claims.{world_at}
 use Rattle.statements.proofs.AnsweringLemmas.{stops-by}
 use Rattle.statements.proofs.TellingLemmas.{never-write, no-cause-told, refused-stops}

@@ -1,7 +1,7 @@
 use Rattle.std.proofs.Common.{◌∙◌, List, Option, Some, ap, arith, false, refl, set, subst, sym}
 use Rattle.std.specs.Option.{option_map}
 use Rattle.std.proofs.lemmas.List.{map-set}
-use Rattle.pg_value.specs.declared.value.SqlType.TheVariants.{Bool as BoolType}
+use Rattle.opfamily.specs.pg_value_value_SqlType_TheVariants.{Bool as BoolType}
 use Rattle.catalog.specs.Contents.{Contents, IsColumn, IsKnown, TableDef, no_table, table_at, with_stats}
 use Rattle.catalog.specs.Entries.{contents_of, statistics}
 use Rattle.catalog.specs.Indexes.{type_at}

@@ -1,5 +1,5 @@
 use Rattle.std.proofs.Common.{◌≡◌, ℕ, ◌&&◌, nat_lt}
-use Rattle.pg_base.specs.Sets.{has}
+use Rattle.opfamily.specs.pg_base_Sets.{has}
 use Rattle.pg_expr.specs.AtomSets.{contains}
 use Rattle.eq_classes.specs.Parts.{is_join}
 use Rattle.eq_classes.specs.Listing.{clause_at, clauses_of}

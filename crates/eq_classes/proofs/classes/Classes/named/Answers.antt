@@ -1,7 +1,7 @@
 use Rattle.std.proofs.Common.{◌≡◌, ◌<◌, ◌∙◌, ℕ, length, ap, sym, subst, arith}
 use Rattle.std.proofs.lemmas.List.{get_or_read}
-use Rattle.pg_base.specs.Sets.{has}
-use Rattle.pg_base.specs.declared.rel_set.RelSet.{RelSet}
+use Rattle.opfamily.specs.pg_base_Sets.{has}
+use Rattle.opfamily.specs.pg_base_rel_set_RelSet.{RelSet}
 use Rattle.pg_expr.specs.Columns.{names_rel}
 use Rattle.eq_classes.specs.Clauses.{Table}
 use Rattle.eq_classes.specs.Listing.{clause_at, clauses_of}

@@ -1,5 +1,5 @@
 use Rattle.std.proofs.Common.{◌≡◌, drop}
-use Rattle.pg_base.specs.Sets.{has}
+use Rattle.opfamily.specs.pg_base_Sets.{has}
 use Rattle.eq_classes.specs.Parts.{joining_from}
 use Rattle.eq_classes.proofs.classes.Classes.next_joining.Given as goal
 

@@ -1,6 +1,6 @@
 use Rattle.std.proofs.Common.{ap, subst}
 use Rattle.std.proofs.lemmas.Result.{IfErr-weaker}
-use Rattle.reply.specs.Replies.{traces}
+use Rattle.statements.specs.reply_Replies.{traces}
 use Rattle.sql_query.specs.Worlds.{World}
 use Rattle.statements.specs.Steps.{Refuses, StopsOver}
 use Rattle.statements.proofs.SteppingLemmas.{answered-ahead, answered-inside, defined-behind, same-world, stopped-definition, stopped-query}

@@ -1,7 +1,7 @@
 use Rattle.std.proofs.Common.{◌∙◌, ap, sym, subst, List, map, ◌++◌}
 use Rattle.pg_base.specs.Sets.{has}
 use Rattle.pg_base.specs.declared.numbers.IndexNo.{IndexNo}
-use Rattle.catalog.specs.Contents.{indexes_of}
+use Rattle.sql_query.specs.catalog_Contents.{indexes_of}
 use Rattle.plan_tree.specs.Bitmaps.{IsElement, by_index}
 use Rattle.plan_tree.specs.Gathering.{Gathered}
 use Rattle.plan_tree.proofs.ElementLemmas.{index-within}

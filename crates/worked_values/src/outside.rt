@@ -1,6 +1,6 @@
 //! The adapters over std, and the calls that take memory.
 
-use crate::{
+use pg_base::{
     Failed, MemSink, MemSource, ReadFault, Sink, Source, StdSink, StdSource, read_all, write_all,
 };
 use std::io::Write;

@@ -1,0 +1,2 @@
+pub mod Likings
+pub mod Offers

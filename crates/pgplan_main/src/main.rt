@@ -1,5 +1,17 @@
-//! The program `pgplan`: the top call over the words of the command line and the standard streams.
+//! The program `pgplan`: the top call over the words of the command line and the standard streams. Its tests run the top call over
+//! sources and outs that fail, and count what its machine fetches and looks at.
 #![tactic(auto)]
+
+#[cfg(test)]
+mod counts;
+#[cfg(test)]
+mod outside;
+#[cfg(test)]
+mod pace;
+#[cfg(test)]
+mod product;
+#[cfg(test)]
+mod runs;
 
 use pg_base::{StdSink, StdSource, write_all};
 use pgplan::pgplan;

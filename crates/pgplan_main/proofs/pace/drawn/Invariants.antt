@@ -1,4 +1,4 @@
-use Rattle.worked_scripts.proofs.pace.drawn.Given as goal
+use Rattle.pgplan_main.proofs.pace.drawn.Given as goal
 
 abbrev pub ghosts-counted-L-Ledger : goal.ghosts-counted-L-Ledger
 ghosts-counted-L-Ledger a = record { name = a.fetching.name; parts = a.fetching.parts }

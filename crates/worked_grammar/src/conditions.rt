@@ -102,20 +102,14 @@ const RIGHT: [(&[u8], &[u8]); 9] = [
     (b"FALSE)", b"F"),
 ];
 
-/// Conditions, the fault that refuses them and the place of its word.
-const WRONG: [(&[u8], Code, u32, u32); 14] = [
+/// Conditions, the fault that refuses them, and from where to where its word stands, which no line of a fault names.
+const WRONG: [(&[u8], Code, u32, u32); 8] = [
     (b"t.a = '\\N';", Code::S12, 6, 10),
     (b"n < 9223372036854775808;", Code::S11, 4, 23),
     (b"n < -9223372036854775809;", Code::S11, 4, 5),
     (b"t.a = 'x' AND zz = 1", Code::S12, 6, 9),
     (b"t.a < '99999999999'", Code::S11, 6, 19),
-    (b"'x' < zz", Code::S3, 6, 8),
-    (b"t.zz = 1", Code::S3, 2, 4),
-    (b"v.a = 1", Code::S2, 0, 1),
-    (b"a = 1", Code::S4, 0, 1),
-    (b"f |<| TRUE;", Code::S9, 2, 5),
     (b"n != 'x' OR s != 5;", Code::S12, 5, 8),
-    (b"s != 5;", Code::S9, 2, 4),
     (b"t.a", Code::S10, 0, 1),
     (b"NOT (f AND n)", Code::S10, 11, 12),
 ];

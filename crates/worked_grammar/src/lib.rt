@@ -4,14 +4,6 @@
 #[cfg(test)]
 mod conditions;
 #[cfg(test)]
-mod first;
-#[cfg(test)]
-mod joins;
-#[cfg(test)]
-mod kinds;
-#[cfg(test)]
-mod offered;
-#[cfg(test)]
 mod statements;
 #[cfg(test)]
 mod words;

@@ -1,132 +1,16 @@
-//! Statements and where they leave the grammar. The places were found by a parser written apart from this one.
+//! Statements at a limit, and where parts of statements end. The places were found by a parser written apart from this one.
 
 ghost use Rattle.std.specs.Prelude.{◌≤◌, ◌^◌, length};
 
-use crate::first::{first_fault, first_wrong, limit_fault};
 use pg_base::{Code, Fault, Limit, Memory, Refusal};
-use sql_grammar::{cand_end, data_start, expr_end, select_end, windowed_select_end};
+use sql_grammar::{
+    cand_end, data_start, expr_end, select_end, statement_fault, windowed_select_end,
+};
 use sql_lex::lex_statement;
 use std::alloc::Global;
 
-/// Statements, and the place of their syntax fault.
-const STATEMENTS: [(&[u8], Option<u32>); 80] = [
-    (b"", None),
-    (b" /* a /* b */ c */ ;", None),
-    (b"CREATE TABLE t (a int4);", None),
-    (
-        b"create table T ( a INT4 , b text not null,c bool NULL ) ;",
-        None,
-    ),
-    (b"CREATE TABLE t (a int4)", None),
-    (
-        b"CREATE TABLE rows (copy first, format csv NOT NULL, stdin index);",
-        None,
-    ),
-    (b"CREATE TABLE copy (copy copy);", None),
-    (b"CREATE;", Some(6)),
-    (b"CREATE t;", Some(7)),
-    (b"CREATE TABLE ;", Some(13)),
-    (b"CREATE TABLE select (a int4);", Some(13)),
-    (b"CREATE TABLE t ();", Some(16)),
-    (b"CREATE TABLE t (a);", Some(17)),
-    (b"CREATE TABLE t (a int4,);", Some(23)),
-    (b"CREATE TABLE t (a int4 b);", Some(23)),
-    (b"CREATE TABLE t (a int4 NOT);", Some(26)),
-    (b"CREATE TABLE t (a int4 NULL NULL);", Some(28)),
-    (b"CREATE TABLE t (a int4", Some(22)),
-    (b"CREATE TABLE t (a int4;", Some(22)),
-    (b"CREATE TABLE t (a int4)) ;", Some(23)),
-    (b"CREATE TABLE t (limit int4);", Some(16)),
-    (b"CREATE TABLE 1 (a int4);", Some(13)),
-    (b"CREATE TABLE t.u (a int4);", Some(14)),
-    (b"SELECT * FROM t;", None),
-    (b"SELECT *, t.*, a, t.a FROM t;", None),
-    (b"select rows, first.copy, with_x FROM last", None),
-    (b"SELECT a FROM t AS u;", None),
-    (b"SELECT a FROM t AS;", Some(18)),
-    (b"SELECT a FROM t AS u v;", Some(21)),
-    (b"SELECT * FROM t x y;", Some(18)),
-    (b"SELECT a b FROM t;", Some(9)),
-    (b"SELECT", Some(6)),
-    (b"SELECT a", Some(8)),
-    (b"SELECT a, FROM t;", Some(10)),
-    (b"SELECT a. FROM t;", Some(10)),
-    (b"SELECT a.b.c FROM t;", Some(10)),
-    (b"SELECT *.a FROM t;", Some(8)),
-    (b"SELECT a FROM;", Some(13)),
-    (b"SELECT a FROM t, u;", None),
-    (b"SELECT a FROM t WHERE a = 1;", None),
-    (b"SELECT a FROM t JOIN u ON a = b;", None),
-    (b"SELECT 1 FROM t;", Some(7)),
-    (b"SELECT a < b FROM t;", Some(9)),
-    (b"SELECT using FROM t;", Some(7)),
-    (b"SELECT (a) FROM t;", Some(7)),
-    (b"COPY t FROM STDIN WITH (FORMAT CSV, NULL '\\N');", None),
-    (b"copy copy from stdin with (format csv, null '');", None),
-    (b"COPY t FROM STDIN WITH (FORMAT CSV, NULL '\\N')", Some(46)),
-    (
-        b"COPY t (a) FROM STDIN WITH (FORMAT CSV, NULL 'x');",
-        Some(7),
-    ),
-    (b"COPY t FROM STDIN WITH FORMAT CSV;", Some(23)),
-    (b"COPY t FROM STDIN WITH (csv, NULL 'x');", Some(24)),
-    (b"COPY t FROM STDIN WITH (FORMAT text, NULL 'x');", Some(31)),
-    (b"COPY t FROM STDIN WITH (FORMAT CSV);", Some(34)),
-    (b"COPY t FROM STDIN WITH (FORMAT CSV, NULL x);", Some(41)),
-    (b"COPY t FROM STDIN WITH (FORMAT CSV, NULL NULL);", Some(41)),
-    (
-        b"COPY t FROM STDIN WITH (FORMAT CSV, NULL 'x') x;",
-        Some(46),
-    ),
-    (b"STATISTICS t ROWS 1 PAGES 1;", None),
-    (
-        b"SELECT a FROM t u WHERE a = 1 OR NOT (t.b IS NOT NULL AND -2 < b) AND c;",
-        None,
-    ),
-    (b"SELECT a FROM t WHERE;", Some(21)),
-    (b"SELECT a FROM t WHERE a = 1 b;", Some(28)),
-    (b"SELECT a FROM t WHERE a = 1 WHERE b;", Some(28)),
-    (b"SELECT a FROM t WHERE 1;", Some(23)),
-    (b"SELECT a FROM t WHERE (a = 1;", Some(28)),
-    (b"SELECT a FROM t AS WHERE a;", Some(19)),
-    (b"statistics statistics rows 0 pages 0", None),
-    (
-        b"STATISTICS rows.pages DISTINCT 2 NULLS 3 HISTOGRAM (false);",
-        None,
-    ),
-    (
-        b"STATISTICS t.a DISTINCT 0 NULLS 0 COMMON (-1 500, 2 300) HISTOGRAM (1, -2, 'x', NULL);",
-        None,
-    ),
-    (b"STATISTICS t;", Some(12)),
-    (b"STATISTICS t ROWS -1 PAGES 1;", Some(18)),
-    (b"STATISTICS t ROWS 1 PAGES 1 COMMON (1 1);", Some(28)),
-    (b"STATISTICS t.a ROWS 1 PAGES 1;", Some(15)),
-    (b"STATISTICS t.a DISTINCT 1 NULL 1;", Some(26)),
-    (b"STATISTICS t.a DISTINCT 1 NULLS 1 COMMON ();", Some(42)),
-    (
-        b"STATISTICS t.a DISTINCT 1 NULLS 1 COMMON (1, 2);",
-        Some(43),
-    ),
-    (
-        b"STATISTICS t.a DISTINCT 1 NULLS 1 COMMON (1 -1);",
-        Some(44),
-    ),
-    (b"STATISTICS t.a DISTINCT 1 NULLS 1 COMMON (a 1);", Some(42)),
-    (
-        b"STATISTICS t.a DISTINCT 1 NULLS 1 HISTOGRAM (1 1);",
-        Some(47),
-    ),
-    (
-        b"STATISTICS t.a DISTINCT 1 NULLS 1 HISTOGRAM (1) COMMON (1 1);",
-        Some(48),
-    ),
-    (b"EXPLAIN COPY t;", Some(8)),
-    (b"t;", Some(0)),
-];
-
 /// Statements of a front, repeated bytes and a back, and the limit that is passed from one place to another.
-const LONG: [(&[u8], &[u8], usize, &[u8], Option<(Limit, u32, u32)>); 13] = [
+const LONG: [(&[u8], &[u8], usize, &[u8], Option<(Limit, u32, u32)>); 22] = [
     (b"SELECT ", b"a", 63, b" FROM t;", None),
     (
         b"SELECT ",
@@ -205,6 +89,69 @@ const LONG: [(&[u8], &[u8], usize, &[u8], Option<(Limit, u32, u32)>); 13] = [
         8193,
         b"' a);",
         Some((Limit::Text, 42, 8237)),
+    ),
+    (
+        b"SELECT a FROM t JOIN u ON ((((((((((((((((((((((((((((((((a)))))))))))))))))))))))))))))))) JOIN v ON NOT NOT NOT NOT NOT NOT NOT NOT NOT NOT NOT NOT NOT NOT NOT NOT NOT NOT NOT NOT NOT NOT NOT NOT NOT NOT NOT NOT NOT NOT NOT NOT b;",
+        b"",
+        0,
+        b"",
+        None,
+    ),
+    (
+        b"SELECT a FROM t JOIN u ON (((((((((((((((((((((((((((((((((a)))))))))))))))))))))))))))))))));",
+        b"",
+        0,
+        b"",
+        Some((Limit::Depth, 58, 59)),
+    ),
+    (
+        b"SELECT a FROM t JOIN u ON ((((((((((((((((((((((((((((((((a)))))))))))))))))))))))))))))))) JOIN v ON NOT NOT NOT NOT NOT NOT NOT NOT NOT NOT NOT NOT NOT NOT NOT NOT NOT NOT NOT NOT NOT NOT NOT NOT NOT NOT NOT NOT NOT NOT NOT NOT NOT b;",
+        b"",
+        0,
+        b"",
+        Some((Limit::Depth, 230, 233)),
+    ),
+    (
+        b"SELECT a FROM t CROSS JOIN u, v INNER JOIN w ON NOT ((((((((((((((((((((((((((((((((a)))))))))))))))))))))))))))))))) WHERE a;",
+        b"",
+        0,
+        b"",
+        Some((Limit::Depth, 83, 84)),
+    ),
+    (
+        b"SELECT a FROM t JOIN u ON NOT NOT NOT NOT NOT NOT NOT NOT NOT NOT NOT NOT NOT NOT NOT NOT NOT NOT NOT NOT NOT NOT NOT NOT NOT NOT NOT NOT NOT NOT NOT NOT a WHERE (((((((((((((((((((((((((((((((((b)))))))))))))))))))))))))))))))));",
+        b"",
+        0,
+        b"",
+        Some((Limit::Depth, 194, 195)),
+    ),
+    (
+        b"SELECT a FROM t JOIN u aaaaaaaaaaaaaaaaaaaaaaaaaaaaaaaaaaaaaaaaaaaaaaaaaaaaaaaaaaaaaaa ON a;",
+        b"",
+        0,
+        b"",
+        None,
+    ),
+    (
+        b"SELECT a FROM t JOIN u aaaaaaaaaaaaaaaaaaaaaaaaaaaaaaaaaaaaaaaaaaaaaaaaaaaaaaaaaaaaaaaa ON a;",
+        b"",
+        0,
+        b"",
+        Some((Limit::Name, 23, 87)),
+    ),
+    (
+        b"SELECT a FROM t, aaaaaaaaaaaaaaaaaaaaaaaaaaaaaaaaaaaaaaaaaaaaaaaaaaaaaaaaaaaaaaaa CROSS u;",
+        b"",
+        0,
+        b"",
+        Some((Limit::Name, 17, 81)),
+    ),
+    (
+        b"CREATE INDEX i ON t (a aaaaaaaaaaaaaaaaaaaaaaaaaaaaaaaaaaaaaaaaaaaaaaaaaaaaaaaaaaaaaaaa a);",
+        b"",
+        0,
+        b"",
+        Some((Limit::Name, 23, 87)),
     ),
 ];
 
@@ -313,9 +260,20 @@ fn add_repeated(
     text.extend_from_slice(back)
 }
 
-#[test]
-fn finds_the_first_syntax_fault(rt: HostRuntime) {
-    assert_eq!(rt; first_wrong(rt.alloc(), &STATEMENTS), Ok(None));
+/// The first fault of the statement at the text's beginning.
+fn first_fault(alloc: Global, text: &[u8]) -> Result<Option<Fault>, Refusal>
+    requires { length text.now ≤ 2 ^ 31 }
+{
+    let tokens = lex_statement(alloc, text, 0)?;
+    Ok(statement_fault(text, &tokens, 0))
+}
+
+/// A passed limit and the place of its words, as a fault.
+fn limit_fault(passed: Option<(Limit, u32, u32)>) -> Option<Fault> {
+    match passed {
+        None => None,
+        Some((limit, from, to)) => Some(Fault::at_words(Code::S15(limit), from, to)),
+    }
 }
 
 /// A front, repeated bytes with how often they stand, and a back.
@@ -391,21 +349,13 @@ fn syntax(at: u32) -> Refusal {
 
 #[test]
 fn finds_the_end_of_a_part(rt: HostRuntime) {
-    assert_eq!(rt; first_end(rt.alloc(), Part::Select, &SELECTS), None);
-    assert_eq!(rt; first_end(rt.alloc(), Part::Expression, &EXPRESSIONS), None);
-}
-
-#[test]
-fn finds_the_end_of_a_select_with_its_window(rt: HostRuntime) {
-    assert_eq!(rt;
+    let wrong = [
+        first_end(rt.alloc(), Part::Select, &SELECTS),
         first_end(rt.alloc(), Part::WindowedSelect, &WINDOWED),
-        None
-    );
-}
-
-#[test]
-fn finds_the_end_of_a_candidate(rt: HostRuntime) {
-    assert_eq!(rt; first_end(rt.alloc(), Part::Candidate, &CANDIDATES), None);
+        first_end(rt.alloc(), Part::Expression, &EXPRESSIONS),
+        first_end(rt.alloc(), Part::Candidate, &CANDIDATES),
+    ];
+    assert_eq!(rt; wrong, [None, None, None, None]);
 }
 
 /// An expression's end, or from where to where the word stands that opens a level too many.

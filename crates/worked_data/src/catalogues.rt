@@ -1,9 +1,9 @@
 //! The calls on a small catalogue, with ample memory. What is refused is told with its place.
 
-ghost use Rattle.std.specs.Prelude.{◌≡◌, ◌<◌, true, All, IfOk, length};
+ghost use Rattle.std.specs.Prelude.{◌≡◌, ◌<◌, true, All, IfOk, OnOk, length};
 ghost use Rattle.pg_base.specs.Names.{begins_name};
 ghost use Rattle.pg_value.specs.declared.value.SqlType.TheVariants.{Text as TextType};
-ghost use Rattle.catalog.specs.Contents.{IsTable};
+ghost use Rattle.catalog.specs.Contents.{IsTable, nothing};
 ghost use Rattle.catalog.specs.Entries.{index_of};
 ghost use Rattle.catalog.specs.Indexes.{FitsColumns};
 ghost use Rattle.catalog.specs.Known.{statistics};
@@ -17,78 +17,49 @@ use pg_base::{ColNo, IndexNo, Memory, TableNo};
 use pg_value::{SqlType, Value};
 use std::alloc::Global;
 
-/// A letter that names a table, a column or an index.
-#[derive(Clone, Copy)]
-pub(crate) enum Letter {
-    A,
-    B,
-    I,
-    T,
-    U,
-}
-
-fn byte(letter: Letter) -> u8
-    ensures { begins_name result ≡ true }
-{
-    match letter {
-        Letter::A => b'a',
-        Letter::B => b'b',
-        Letter::I => b'i',
-        Letter::T => b't',
-        Letter::U => b'u',
-    }
-}
-
 /// Adds a table of two text columns.
 fn add(
     catalog: &mut Catalog,
     alloc: Global,
-    table: Letter,
-    first: Letter,
-    second: Letter,
-) -> Result<TableNo, CatalogFault> {
+    table: u8,
+    first: u8,
+    second: u8,
+) -> Result<TableNo, CatalogFault>
+    requires table { begins_name table ≡ true }
+    requires first { begins_name first ≡ true }
+    requires second { begins_name second ≡ true }
+{
     let columns = columns(alloc, &[SqlType::Text, SqlType::Text])?;
-    let named = name(alloc, byte(table))?;
-    let names = names(alloc, &[byte(first), byte(second)])?;
+    let named = name(alloc, table)?;
+    let names = names(alloc, &[first, second])?;
     catalog.add_table(named, names, columns)
 }
 
-/// A catalogue of one table `t` of two text columns.
-pub(crate) fn small(alloc: Global) -> Result<Catalog, CatalogFault>
-    ensures { IfOk result HasTexts }
+/// Adds a table `t` of two text columns, the first one.
+pub(crate) fn add_small(catalog: &mut Catalog, alloc: Global) -> Result<(), CatalogFault>
+    requires { catalog.old ≡ nothing }
+    ensures { OnOk result (HasTexts catalog.new) }
 {
     let columns = columns(alloc, &[SqlType::Text, SqlType::Text])?;
     let named = name(alloc, b't')?;
     let names = names(alloc, b"ab")?;
-    let mut catalog = Catalog::new(alloc);
     catalog.add_table(named, names, columns)?;
-    Ok(catalog)
+    Ok(())
 }
 
-/// The second column, so often.
-fn seconds(alloc: Global, count: u8) -> Result<Vec<ColNo>, Memory>
-    ensures columns { IfOk result (λ v. All (λ c. c.0 < 2) v.items) }
-    ensures count { IfOk result (λ v. length v.items ≡ count) }
-{
-    let mut columns = Vec::new(alloc);
-    for _ in 0..count {
-        columns.push(ColNo(1))?;
-    }
-    Ok(columns)
-}
-
-/// An index of table `t` over its first column, with its second in INCLUDE so often.
+/// An index of table `t` over its first column, with these in INCLUDE.
 pub(crate) fn definition(
     alloc: Global,
     method: Method,
     descending: bool,
-    others: u8,
+    others: &[ColNo],
 ) -> Result<IndexDef, Memory>
-    requires { others < 3 }
+    requires few { length others.now < 3 }
+    requires columns { All (λ c. c.0 < 2) others.now }
     ensures table { IfOk result (λ d. d.table.0 ≡ 0) }
     ensures fits { IfOk result (λ d. FitsColumns texts (index_of d)) }
 {
-    let include = seconds(alloc, others)?;
+    let include = Vec::from_slice(alloc, others)?;
     let mut keys = Vec::new(alloc);
     keys.push(IndexKey {
         col: ColNo(0),
@@ -105,21 +76,22 @@ pub(crate) fn definition(
     })
 }
 
-/// An index by its name, its method, whether its key descends, and how often the second column is in INCLUDE.
-pub(crate) type Indexed = (Letter, Method, bool, u8);
-
-/// Adds an index of table `t`. Columns in INCLUDE count below 3.
+/// Adds such an index. Its form is its method, and whether its key descends.
 pub(crate) fn index(
     catalog: &mut Catalog,
     alloc: Global,
-    of: Indexed,
+    letter: u8,
+    form: (Method, bool),
+    others: &[ColNo],
 ) -> Result<IndexNo, CatalogFault>
-    requires { HasTexts catalog.old }
+    requires texts { HasTexts catalog.old }
+    requires letter { begins_name letter ≡ true }
+    requires few { length others.now < 3 }
+    requires columns { All (λ c. c.0 < 2) others.now }
     ensures { HasTexts catalog.new }
 {
-    let (letter, method, descending, others) = of;
-    let def = definition(alloc, method, descending, others % 3)?;
-    let named = name(alloc, byte(letter))?;
+    let def = definition(alloc, form.0, form.1, others)?;
+    let named = name(alloc, letter)?;
     catalog.add_index(named, def)
 }
 
@@ -131,47 +103,99 @@ fn text(alloc: Global, letter: u8) -> Result<Value, Memory>
     Ok(Value::Text(bytes))
 }
 
-/// Adds texts with their shares.
+/// Adds a text with its share.
 fn add_common(
     texts: &mut Vec<(Value, u32)>,
     alloc: Global,
-    common: &[(u8, u32)],
+    letter: u8,
+    share: u32,
 ) -> Result<(), Memory>
     requires { All (λ p. IsValueOf TextType p.0) texts.old.items }
     ensures { All (λ p. IsValueOf TextType p.0) texts.new.items }
 {
-    for (letter, share) in common {
-        let named = text(alloc, *letter)?;
-        texts.push((named, *share))?;
-    }
+    let named = text(alloc, letter)?;
+    texts.push((named, share))?;
     Ok(())
 }
 
-/// Adds texts.
-fn add_texts(texts: &mut Vec<Value>, alloc: Global, letters: &[u8]) -> Result<(), Memory>
+/// Adds a text.
+fn add_text(texts: &mut Vec<Value>, alloc: Global, letter: u8) -> Result<(), Memory>
     requires { All (IsValueOf TextType) texts.old.items }
     ensures { All (IsValueOf TextType) texts.new.items }
 {
-    for letter in letters {
-        let named = text(alloc, *letter)?;
-        texts.push(named)?;
-    }
+    let named = text(alloc, letter)?;
+    texts.push(named)?;
     Ok(())
 }
 
-/// What is said of a text column: how many values it has and its share of NULL, its common values with their shares, and
-/// the bounds of its histogram, each text by its one letter.
-pub(crate) type Said<'a> = (u64, u32, &'a [(u8, u32)], &'a [u8]);
+/// Adds the texts `x`, `y` and `y`.
+fn add_texts(texts: &mut Vec<Value>, alloc: Global) -> Result<(), Memory>
+    requires { All (IsValueOf TextType) texts.old.items }
+    ensures { All (IsValueOf TextType) texts.new.items }
+{
+    add_text(texts, alloc, b'x')?;
+    add_text(texts, alloc, b'y')?;
+    add_text(texts, alloc, b'y')
+}
+
+/// Common values of a text column with their shares, and the bounds of its histogram.
+#[derive(Clone, Copy)]
+pub(crate) enum Lists {
+    /// None.
+    Bare,
+    /// `x` twice, in a part in a million each.
+    Twice,
+    /// `x` in all.
+    Whole,
+    /// `x` in a part in a million, and the bounds `x`, `y`, `y` and `x`.
+    Falling,
+    /// `x` in all but a part in a million, and the bounds `x`, `y` and `y`.
+    Rising,
+}
+
+/// Adds values with their shares, and bounds.
+fn add_lists(
+    common: &mut Vec<(Value, u32)>,
+    histogram: &mut Vec<Value>,
+    alloc: Global,
+    lists: Lists,
+) -> Result<(), Memory>
+    requires common { All (λ p. IsValueOf TextType p.0) common.old.items }
+    requires histogram { All (IsValueOf TextType) histogram.old.items }
+    ensures common { All (λ p. IsValueOf TextType p.0) common.new.items }
+    ensures histogram { All (IsValueOf TextType) histogram.new.items }
+{
+    match lists {
+        Lists::Bare => Ok(()),
+        Lists::Twice => {
+            add_common(common, alloc, b'x', 1)?;
+            add_common(common, alloc, b'x', 1)
+        }
+        Lists::Whole => add_common(common, alloc, b'x', 1_000_000),
+        Lists::Falling => {
+            add_common(common, alloc, b'x', 1)?;
+            add_texts(histogram, alloc)?;
+            add_text(histogram, alloc, b'x')
+        }
+        Lists::Rising => {
+            add_common(common, alloc, b'x', 999_999)?;
+            add_texts(histogram, alloc)
+        }
+    }
+}
+
+/// What is said of a text column: how many values it has and its share of NULL, its common values and its histogram.
+pub(crate) type Said = (u64, u32, Lists);
 
 fn known(alloc: Global, said: Said) -> Result<ColumnStats, Memory>
     ensures { IfOk result (λ s. AreValuesOf TextType (statistics s)) }
 {
+    let (distinct, nulls, lists) = said;
     let (mut common, mut histogram) = (Vec::new(alloc), Vec::new(alloc));
-    add_common(&mut common, alloc, said.2)?;
-    add_texts(&mut histogram, alloc, said.3)?;
+    add_lists(&mut common, &mut histogram, alloc, lists)?;
     Ok(ColumnStats {
-        distinct: said.0,
-        nulls: said.1,
+        distinct,
+        nulls,
         common,
         histogram,
     })
@@ -184,55 +208,6 @@ pub(crate) fn keep(catalog: &mut Catalog, alloc: Global, said: Said) -> Result<(
 {
     let s = known(alloc, said)?;
     catalog.set_column(TableNo(0), ColNo(1), s)
-}
-
-/// A table by its name and those of its columns, and its number or why it is refused.
-type Added = ([Letter; 3], Result<TableNo, CatalogFault>);
-
-const ADDED: [Added; 4] = [
-    ([Letter::T, Letter::A, Letter::B], Ok(TableNo(0))),
-    (
-        [Letter::T, Letter::B, Letter::B],
-        Err(CatalogFault::NameTaken),
-    ),
-    (
-        [Letter::U, Letter::B, Letter::B],
-        Err(CatalogFault::ColumnTwice(1)),
-    ),
-    ([Letter::U, Letter::B, Letter::A], Ok(TableNo(1))),
-];
-
-/// The place of the first table with another number or fault.
-fn first_added(catalog: &mut Catalog, alloc: Global, tables: &[Added]) -> Option<usize> {
-    for n in 0..tables.len() {
-        let (names, wanted) = &tables[n];
-        if add(catalog, alloc, names[0], names[1], names[2]) != *wanted {
-            return Some(n);
-        }
-    }
-    None
-}
-
-/// Rows and pages that a statement gives, and why it is refused.
-type Sized = (u64, u64, Option<CatalogFault>);
-
-const SIZES: [Sized; 3] = [
-    (0, 0, Some(CatalogFault::BadNumber(0))),
-    (1, 1_000_000_001, Some(CatalogFault::BadNumber(1))),
-    (7, 1_000_000_000, None),
-];
-
-/// The first rows and pages with another fault.
-fn first_size(catalog: &mut Catalog, t: TableNo, sizes: &[Sized]) -> Option<(u64, u64)>
-    requires { IsTable catalog.old t }
-    ensures { IsTable catalog.new t }
-{
-    for (rows, pages, refused) in sizes {
-        if catalog.set_rows(t, *rows, *pages).err() != *refused {
-            return Some((*rows, *pages));
-        }
-    }
-    None
 }
 
 /// Whether the column `a` of a table is its second one, of which nothing is said.
@@ -255,15 +230,32 @@ fn size(catalog: &Catalog, t: TableNo) -> (u64, u64)
     (catalog.rows(t), catalog.pages(t))
 }
 
+/// Gives a table rows and pages. Why they are refused.
+fn size_fault(catalog: &mut Catalog, t: TableNo, rows: u64, pages: u64) -> Option<CatalogFault>
+    requires { IsTable catalog.old t }
+    ensures { IsTable catalog.new t }
+{
+    catalog.set_rows(t, rows, pages).err()
+}
+
+/// Whether 0 rows are refused, then more pages than there may be, and most pages are taken after that.
+fn are_sizes_judged(catalog: &mut Catalog, t: TableNo) -> bool
+    requires { IsTable catalog.old t }
+    ensures { IsTable catalog.new t }
+{
+    let none = size_fault(catalog, t, 0, 0) == Some(CatalogFault::BadNumber(0));
+    let over = size_fault(catalog, t, 1, 1_000_000_001) == Some(CatalogFault::BadNumber(1));
+    none && over && size_fault(catalog, t, 7, 1_000_000_000).is_none()
+}
+
 /// Whether a table has the size of one without rows, then of 101 rows, and then the one that it is given.
 fn is_sized(catalog: &mut Catalog, t: TableNo) -> bool
     requires { IsTable catalog.old t }
-    ensures { IsTable catalog.new t }
 {
     let bare = size(catalog, t) == (1, 1);
     catalog.set_loaded(t, 101);
     let loaded = size(catalog, t) == (101, 2);
-    let given = first_size(catalog, t, &SIZES).is_none();
+    let given = are_sizes_judged(catalog, t);
     bare && loaded && given && size(catalog, t) == (7, 1_000_000_000)
 }
 
@@ -280,45 +272,26 @@ fn has_second(catalog: &mut Catalog) -> bool {
     }
 }
 
-#[test]
-fn tables(rt: HostRuntime) {
-    let mut catalog = Catalog::new(rt.alloc());
-    assert_eq!(rt; first_added(&mut catalog, rt.alloc(), &ADDED), None);
-    assert!(rt; has_second(&mut catalog));
+/// Whether a table is added by a number.
+fn is_added(added: Result<TableNo, CatalogFault>, number: u8) -> bool {
+    match added {
+        Ok(t) => t == TableNo(number),
+        Err(_) => false,
+    }
 }
 
-const INDEXED: [(Indexed, Result<IndexNo, CatalogFault>); 4] = [
-    (
-        (Letter::T, Method::Btree, false, 0),
-        Err(CatalogFault::NameTaken),
-    ),
-    (
-        (Letter::I, Method::Btree, false, 2),
-        Err(CatalogFault::ColumnTwice(2)),
-    ),
-    (
-        (Letter::I, Method::Hash, true, 0),
-        Err(CatalogFault::BadNumber(0)),
-    ),
-    ((Letter::I, Method::Btree, true, 1), Ok(IndexNo(0))),
-];
+/// Whether a second table `t` is refused, and one whose columns have one name.
+fn are_refused(catalog: &mut Catalog, alloc: Global) -> bool {
+    add(catalog, alloc, b't', b'b', b'b') == Err(CatalogFault::NameTaken)
+        && add(catalog, alloc, b'u', b'b', b'b') == Err(CatalogFault::ColumnTwice(1))
+}
 
-/// The place of the first index with another number or fault.
-fn first_indexed(
-    catalog: &mut Catalog,
-    alloc: Global,
-    indexes: &[(Indexed, Result<IndexNo, CatalogFault>)],
-) -> Option<usize>
-    requires { HasTexts catalog.old }
-    ensures { HasTexts catalog.new }
-{
-    for n in 0..indexes.len() {
-        let (of, wanted) = &indexes[n];
-        if index(catalog, alloc, *of) != *wanted {
-            return Some(n);
-        }
-    }
-    None
+/// Whether a catalogue takes tables `t` and `u`, the first and the second one, and what it then tells of `u`.
+fn has_tables(catalog: &mut Catalog, alloc: Global) -> bool {
+    is_added(add(catalog, alloc, b't', b'a', b'b'), 0)
+        && are_refused(catalog, alloc)
+        && is_added(add(catalog, alloc, b'u', b'b', b'a'), 1)
+        && has_second(catalog)
 }
 
 /// Whether index `i` is the first one, of one key, and there is no index `t`.
@@ -334,52 +307,106 @@ fn has_first(catalog: &Catalog) -> bool {
     }
 }
 
-#[test]
-fn indexes(rt: HostRuntime) {
-    let mut catalog = small(rt.alloc()).expect(&rt, "ample memory");
-    assert_eq!(rt; first_indexed(&mut catalog, rt.alloc(), &INDEXED), None);
-    let taken = add(&mut catalog, rt.alloc(), Letter::I, Letter::A, Letter::B);
-    assert_eq!(rt; taken, Err(CatalogFault::NameTaken));
-    assert!(rt; has_first(&catalog));
+/// Whether indexes are refused: one with the name of table `t`, one with a column twice, and a hash index that descends.
+fn are_indexes_refused(catalog: &mut Catalog, alloc: Global) -> bool
+    requires { HasTexts catalog.old }
+    ensures { HasTexts catalog.new }
+{
+    let rising = (Method::Btree, false);
+    let named = index(catalog, alloc, b't', rising, &[]);
+    let twice = index(catalog, alloc, b'i', rising, &[ColNo(1), ColNo(1)]);
+    let falling = index(catalog, alloc, b'i', (Method::Hash, true), &[]);
+    named == Err(CatalogFault::NameTaken)
+        && twice == Err(CatalogFault::ColumnTwice(2))
+        && falling == Err(CatalogFault::BadNumber(0))
 }
 
-/// Statistics that are kept or refused in turn.
-const SAID: [(Said, Option<CatalogFault>); 5] = [
-    ((0, 0, &[], b""), Some(CatalogFault::BadNumber(0))),
-    (
-        (3, 0, &[(b'x', 1), (b'x', 1)], b""),
-        Some(CatalogFault::BadNumber(4)),
-    ),
-    (
-        (3, 1, &[(b'x', 1_000_000)], b""),
-        Some(CatalogFault::BadNumber(3)),
-    ),
-    (
-        (3, 0, &[(b'x', 1)], b"xyyx"),
-        Some(CatalogFault::BadNumber(7)),
-    ),
-    ((3, 1, &[(b'x', 999_999)], b"xyy"), None),
-];
+/// Adds index `i`, which descends and has the second column in INCLUDE.
+pub(crate) fn add_first(catalog: &mut Catalog, alloc: Global) -> Result<IndexNo, CatalogFault>
+    requires { HasTexts catalog.old }
+    ensures { HasTexts catalog.new }
+{
+    index(catalog, alloc, b'i', (Method::Btree, true), &[ColNo(1)])
+}
 
-/// The place of the first statistics with another fault.
-fn first_said(
-    catalog: &mut Catalog,
-    alloc: Global,
-    rows: &[(Said, Option<CatalogFault>)],
-) -> Option<usize>
+/// Whether index `i` is added as the first one after others were refused, and no table has its name then.
+fn is_indexed(catalog: &mut Catalog, alloc: Global) -> bool
     requires { HasTexts catalog.old }
 {
-    for n in 0..rows.len() {
-        let (said, refused) = &rows[n];
-        if keep(catalog, alloc, *said).err() != *refused {
-            return Some(n);
-        }
+    let refused = are_indexes_refused(catalog, alloc);
+    let added = add_first(catalog, alloc) == Ok(IndexNo(0));
+    refused
+        && added
+        && add(catalog, alloc, b'i', b'a', b'b') == Err(CatalogFault::NameTaken)
+        && has_first(catalog)
+}
+
+/// Why what is said of the second column is refused.
+fn said_fault(catalog: &mut Catalog, alloc: Global, said: Said) -> Option<CatalogFault>
+    requires { HasTexts catalog.old }
+    ensures { HasTexts catalog.new }
+{
+    keep(catalog, alloc, said).err()
+}
+
+/// Whether statistics are refused: no values, a common value twice, shares past the whole, and bounds that fall.
+fn are_said_refused(catalog: &mut Catalog, alloc: Global) -> bool
+    requires { HasTexts catalog.old }
+    ensures { HasTexts catalog.new }
+{
+    let none = said_fault(catalog, alloc, (0, 0, Lists::Bare));
+    let twice = said_fault(catalog, alloc, (3, 0, Lists::Twice));
+    let over = said_fault(catalog, alloc, (3, 1, Lists::Whole));
+    let falling = said_fault(catalog, alloc, (3, 0, Lists::Falling));
+    none == Some(CatalogFault::BadNumber(0))
+        && twice == Some(CatalogFault::BadNumber(4))
+        && over == Some(CatalogFault::BadNumber(3))
+        && falling == Some(CatalogFault::BadNumber(7))
+}
+
+/// Whether statistics are refused, and lawful ones taken after that.
+fn is_known(catalog: &mut Catalog, alloc: Global) -> bool
+    requires { HasTexts catalog.old }
+{
+    are_said_refused(catalog, alloc) && said_fault(catalog, alloc, (3, 1, Lists::Rising)).is_none()
+}
+
+/// What is tried of a catalogue.
+#[derive(Clone, Copy)]
+enum Trial {
+    Tables,
+    Indexes,
+    Statistics,
+}
+
+/// Whether it holds of a catalogue without tables, which is given table `t` first for indexes and for statistics.
+fn holds(catalog: &mut Catalog, alloc: Global, trial: Trial) -> bool
+    requires { catalog.old ≡ nothing }
+{
+    match trial {
+        Trial::Tables => has_tables(catalog, alloc),
+        Trial::Indexes => add_small(catalog, alloc).is_ok() && is_indexed(catalog, alloc),
+        Trial::Statistics => add_small(catalog, alloc).is_ok() && is_known(catalog, alloc),
     }
-    None
+}
+
+/// Whether it holds of a catalogue of its own.
+fn is_tried(alloc: Global, trial: Trial) -> bool {
+    let mut catalog = Catalog::new(alloc);
+    holds(&mut catalog, alloc, trial)
+}
+
+#[test]
+fn tables(rt: HostRuntime) {
+    assert!(rt; is_tried(rt.alloc(), Trial::Tables));
+}
+
+#[test]
+fn indexes(rt: HostRuntime) {
+    assert!(rt; is_tried(rt.alloc(), Trial::Indexes));
 }
 
 #[test]
 fn statistics_of_columns(rt: HostRuntime) {
-    let mut catalog = small(rt.alloc()).expect(&rt, "ample memory");
-    assert_eq!(rt; first_said(&mut catalog, rt.alloc(), &SAID), None);
+    assert!(rt; is_tried(rt.alloc(), Trial::Statistics));
 }

@@ -1,9 +1,10 @@
 //! Copies of definitions, and what a change of a copy leaves.
 
-ghost use Rattle.catalog.specs.Contents.{IsTable};
+ghost use Rattle.std.specs.Prelude.{◌≡◌};
+ghost use Rattle.catalog.specs.Contents.{IsTable, nothing};
 ghost use Rattle.catalog.specs.TextTables.{HasTexts};
 
-use crate::catalogues::{Letter, definition, index, keep, small};
+use crate::catalogues::{Lists, add_first, add_small, definition, keep};
 use catalog::{Catalog, CatalogFault, ColumnStats, IndexDef};
 use opfamily::Method;
 use pg_base::{ColNo, Memory, RelNo, TableNo};
@@ -15,8 +16,8 @@ use std::alloc::Global;
 fn describe(catalog: &mut Catalog, alloc: Global) -> Result<(), CatalogFault>
     requires { HasTexts catalog.old }
 {
-    index(catalog, alloc, (Letter::I, Method::Btree, true, 1))?;
-    keep(catalog, alloc, (3, 1, &[(b'x', 999_999)], b"xyy"))?;
+    add_first(catalog, alloc)?;
+    keep(catalog, alloc, (3, 1, Lists::Rising))?;
     catalog.set_loaded(TableNo(0), 101);
     Ok(())
 }
@@ -126,19 +127,37 @@ fn are_same_predicates(a: &Option<Expr>, b: &Option<Expr>) -> bool {
     }
 }
 
+/// Whether a copy has the same contents, and other ones after a change of it alone.
+fn is_copy(a: &Catalog, b: &mut Catalog) -> bool {
+    has_same_table(a, b) && is_same_index(a, b) && is_apart(a, b)
+}
+
+fn has_copy(catalog: &Catalog, alloc: Global) -> bool {
+    match catalog.copy(alloc) {
+        Ok(mut copied) => is_copy(catalog, &mut copied),
+        Err(_) => false,
+    }
+}
+
+/// Describes table `t`, the only one. Whether a copy is then as it should be.
+fn is_copied(catalog: &mut Catalog, alloc: Global) -> bool
+    requires { catalog.old ≡ nothing }
+{
+    match add_small(catalog, alloc) {
+        Ok(()) => describe(catalog, alloc).is_ok() && has_copy(catalog, alloc),
+        Err(_) => false,
+    }
+}
+
 #[test]
 fn a_copy_has_the_same_contents(rt: HostRuntime) {
-    let mut catalog = small(rt.alloc()).expect(&rt, "ample memory");
-    describe(&mut catalog, rt.alloc()).expect(&rt, "ample memory");
-    let mut copied = catalog.copy(rt.alloc()).expect(&rt, "ample memory");
-    assert!(rt; has_same_table(&catalog, &copied));
-    assert!(rt; is_same_index(&catalog, &copied));
-    assert!(rt; is_apart(&catalog, &mut copied));
+    let mut catalog = Catalog::new(rt.alloc());
+    assert!(rt; is_copied(&mut catalog, rt.alloc()));
 }
 
 /// An index of the rows whose second column is not NULL.
 fn partial(alloc: Global) -> Result<IndexDef, Memory> {
-    let mut def = definition(alloc, Method::Btree, true, 1)?;
+    let mut def = definition(alloc, Method::Btree, true, &[ColNo(1)])?;
     def.predicate = Some(Expr::IsNotNull(ColRef {
         rel: RelNo(0),
         col: ColNo(1),
@@ -150,6 +169,5 @@ fn partial(alloc: Global) -> Result<IndexDef, Memory> {
 fn a_copy_of_a_definition_is_the_same(rt: HostRuntime) {
     let def = partial(rt.alloc()).expect(&rt, "ample memory");
     let copied = def.copy(rt.alloc()).expect(&rt, "ample memory");
-    assert!(rt; is_same_definition(&def, &copied));
-    assert!(rt; copied.predicate.is_some());
+    assert!(rt; is_same_definition(&def, &copied) && copied.predicate.is_some());
 }

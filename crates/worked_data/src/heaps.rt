@@ -263,31 +263,41 @@ fn add_long(row: &mut Vec<u8>, letters: u32, end: &[u8]) -> Result<(), AllocErro
     row.extend_from_slice(end)
 }
 
+/// Whether a heap takes a hundred thousand rows and refuses one more.
+fn takes_most(rows: &mut Vec<u8>, alloc: Global) -> bool {
+    add_rows(rows, 100_000).is_ok()
+        && read(alloc, (b"", rows), 100_000, &[A]) == Ok(true)
+        && fault_of(alloc, rows, b"1") == Some(CopyFault::TooMany { rec: 1 })
+}
+
 #[test]
 fn most_rows(rt: HostRuntime) {
     let mut rows = Vec::new(rt.alloc());
-    add_rows(&mut rows, 100_000).expect(&rt, "ample memory");
-    assert_eq!(rt; read(rt.alloc(), (b"", &rows), 100_000, &[A]), Ok(true));
-    assert_eq!(rt;
-        fault_of(rt.alloc(), &rows, b"1"),
-        Some(CopyFault::TooMany { rec: 1 })
-    );
+    assert!(rt; takes_most(&mut rows, rt.alloc()));
+}
+
+/// Makes a row with a text of 8192 letters and what stands behind it. Its fault.
+fn fault_behind(row: &mut Vec<u8>, alloc: Global, end: &[u8]) -> Option<CopyFault> {
+    match add_long(row, 8192, end) {
+        Ok(()) => fault_of(alloc, b"", row),
+        Err(_) => None,
+    }
+}
+
+/// Whether the longest text is taken and a longer one refused.
+fn takes_longest(long: &mut Vec<u8>, longer: &mut Vec<u8>, alloc: Global) -> bool {
+    let too_long = CopyFault::TooLong {
+        rec: 1,
+        col: ColNo(1),
+    };
+    fault_behind(long, alloc, b"") == Some(CopyFault::Arity { rec: 1 })
+        && fault_behind(longer, alloc, b"x,t") == Some(too_long)
 }
 
 #[test]
 fn longest_text(rt: HostRuntime) {
     let (mut long, mut longer) = (Vec::new(rt.alloc()), Vec::new(rt.alloc()));
-    add_long(&mut long, 8192, b"").expect(&rt, "ample memory");
-    add_long(&mut longer, 8192, b"x,t").expect(&rt, "ample memory");
-    let too_long = CopyFault::TooLong {
-        rec: 1,
-        col: ColNo(1),
-    };
-    assert_eq!(rt;
-        fault_of(rt.alloc(), b"", &long),
-        Some(CopyFault::Arity { rec: 1 })
-    );
-    assert_eq!(rt; fault_of(rt.alloc(), b"", &longer), Some(too_long));
+    assert!(rt; takes_longest(&mut long, &mut longer, rt.alloc()));
 }
 
 /// Loads a block into the heap of a table.
@@ -358,15 +368,25 @@ fn first_tuple(tuples: &Tuples, wanted: &[[Tid; 2]]) -> Option<u32> {
     None
 }
 
+/// Whether these are the three tuples.
+fn are_three(three: &Tuples) -> bool {
+    let wanted = [[Tid(7), Tid(1)], [Tid(0), Tid(2)], [Tid(7), Tid(1)]];
+    (three.set(), three.len()) == (RelSet(5), 3) && first_tuple(three, &wanted).is_none()
+}
+
+/// Whether three tuples stand as they are added.
+fn keeps_three(alloc: Global) -> bool {
+    let three = pairs(alloc, RelSet(5), &[(7, 1), (0, 2), (7, 1)]);
+    match three {
+        Ok(three) => are_three(&three),
+        Err(_) => false,
+    }
+}
+
 #[test]
 fn tuples(rt: HostRuntime) {
-    let none = Tuples::new(rt.alloc(), RelSet(5));
-    assert_eq!(rt; none.len(), 0);
-    let three = pairs(rt.alloc(), RelSet(5), &[(7, 1), (0, 2), (7, 1)]);
-    let three = three.expect(&rt, "ample memory");
-    assert_eq!(rt; (three.set(), three.len()), (RelSet(5), 3));
-    let wanted = [[Tid(7), Tid(1)], [Tid(0), Tid(2)], [Tid(7), Tid(1)]];
-    assert_eq!(rt; first_tuple(&three, &wanted), None);
+    let none = Tuples::new(rt.alloc(), RelSet(5)).len();
+    assert!(rt; none == 0 && keeps_three(rt.alloc()));
 }
 
 /// The set of these row numbers below 200.
@@ -405,13 +425,43 @@ fn are_joined(both: &mut Tids, either: &mut Tids, other: &Tids) -> bool
     before && are_members(both, &[63, 199]) && are_members(either, &[0, 63, 64, 65, 199])
 }
 
+/// The same with a set of its own that both are joined with.
+fn are_joined_with_own(both: &mut Tids, either: &mut Tids, alloc: Global) -> bool
+    requires both { both.old.bound ≡ 200 }
+    requires either { either.old.bound ≡ 200 }
+{
+    match below_200(alloc, &[63, 65, 199]) {
+        Ok(other) => are_joined(both, either, &other),
+        Err(_) => false,
+    }
+}
+
+/// The same with a set of its own for either.
+fn is_joined(both: &mut Tids, alloc: Global) -> bool
+    requires { both.old.bound ≡ 200 }
+{
+    match below_200(alloc, &[64, 0]) {
+        Ok(mut either) => are_joined_with_own(both, &mut either, alloc),
+        Err(_) => false,
+    }
+}
+
+/// The same with a set of its own for both.
+fn is_own_joined(alloc: Global) -> bool {
+    match below_200(alloc, &[199, 64, 0, 63, 64]) {
+        Ok(mut both) => is_joined(&mut both, alloc),
+        Err(_) => false,
+    }
+}
+
+fn has_empty(alloc: Global) -> bool {
+    match below_200(alloc, &[]) {
+        Ok(empty) => are_members(&empty, &[]),
+        Err(_) => false,
+    }
+}
+
 #[test]
 fn bitmaps(rt: HostRuntime) {
-    let alloc = rt.alloc();
-    let mut both = below_200(alloc, &[199, 64, 0, 63, 64]).expect(&rt, "ample memory");
-    let other = below_200(alloc, &[63, 65, 199]).expect(&rt, "ample memory");
-    let mut either = below_200(alloc, &[64, 0]).expect(&rt, "ample memory");
-    assert!(rt; are_joined(&mut both, &mut either, &other));
-    let empty = below_200(alloc, &[]).expect(&rt, "ample memory");
-    assert!(rt; are_members(&empty, &[]));
+    assert!(rt; is_own_joined(rt.alloc()) && has_empty(rt.alloc()));
 }

@@ -187,26 +187,22 @@ fn three_slots(alloc: Global) -> Result<Links, AllocError>
     Ok(links)
 }
 
+/// Whether three slots, each alone, are linked behind the first one and taken out again.
+fn are_linked(links: &mut Links) -> bool
+    requires { links.old ≡ (0 ∷ []) ∷ (1 ∷ []) ∷ (2 ∷ []) ∷ [] }
+{
+    links.insert_after(0, 1);
+    links.insert_after(0, 2);
+    let next = [links.next(0), links.next(2), links.next(1)] == [Some(2), Some(1), None];
+    let prev = [links.prev(0), links.prev(2), links.prev(1)] == [None, Some(0), Some(2)];
+    links.unlink(2);
+    next && prev
+        && [links.next(0), links.next(1), links.next(2)] == [Some(1), None, None]
+        && [links.prev(0), links.prev(1), links.prev(2)] == [None, Some(0), None]
+}
+
 #[test]
 fn slots_are_linked_both_ways(rt: HostRuntime) {
     let mut links = three_slots(rt.alloc()).expect(&rt, "ample memory");
-    links.insert_after(0, 1);
-    links.insert_after(0, 2);
-    assert_eq!(rt;
-        [links.next(0), links.next(2), links.next(1)],
-        [Some(2), Some(1), None]
-    );
-    assert_eq!(rt;
-        [links.prev(0), links.prev(2), links.prev(1)],
-        [None, Some(0), Some(2)]
-    );
-    links.unlink(2);
-    assert_eq!(rt;
-        [links.next(0), links.next(1), links.next(2)],
-        [Some(1), None, None]
-    );
-    assert_eq!(rt;
-        [links.prev(0), links.prev(1), links.prev(2)],
-        [None, Some(0), None]
-    );
+    assert!(rt; are_linked(&mut links));
 }

@@ -1,6 +1,8 @@
 //! The catalogue: tables and their columns, indexes and statistics, by name and by number.
+//! Indexes that may be made, apart from a catalogue.
 #![tactic(auto)]
 
+mod candidate;
 mod contents;
 mod copies;
 mod entries;
@@ -15,6 +17,7 @@ mod sizes;
 mod statistics;
 mod table;
 
+pub use candidate::Candidate;
 pub use contents::Catalog;
 pub use fault::CatalogFault;
 pub use index_def::IndexDef;

@@ -3,15 +3,15 @@ use Rattle.std.proofs.Common.{◌≡◌, ◌≤◌, true, false, List, map, refl
 use Rattle.std.specs.Prelude.{MatchOption, Option, Some, None}
 use Rattle.catalog.specs.Contents.{Contents}
 use Rattle.sql_query.specs.Queries.{Query}
-use Rattle.join_laws.specs.Closed.{is_scan}
+use Rattle.plan_laws.specs.Closed.{is_scan}
 use Rattle.plan_tree.specs.Costs.{HaveRows, price}
 use Rattle.plan_tree.specs.Least.{IsAdmissible}
 use Rattle.plan_tree.specs.Plans.{Plan, seq, index, index_only, bitmap, sort, nest, merge, is_sort}
 use Rattle.plan_tree.specs.Space.{IsBuilt, IsFinished}
-use Rattle.certificates.specs.Certificates.{Certificate, Entry, finish_at}
-use Rattle.certificates.specs.Tables.{IsDominated, IsLeastAmong, IsOver, IsPlanTable}
-use Rattle.certificates.specs.Views.{entry}
-use Rattle.certificates.specs.declared.entry.Entry.{Entry as Entered}
+use Rattle.plan_check.specs.Certificates.{Certificate, Entry, finish_at}
+use Rattle.plan_check.specs.Tables.{IsDominated, IsLeastAmong, IsOver, IsPlanTable}
+use Rattle.plan_check.specs.Views.{entry}
+use Rattle.plan_check.specs.declared.entry.Entry.{Entry as Entered}
 use Rattle.certificate_laws.proofs.TableLemmas.{best-least, dominated}
 use Rattle.plan_check.specs.Placing.{ArePlaced}
 use Rattle.plan_check.specs.Reasons.{AreCovered, AreUndominated, HasBest}
@@ -21,10 +21,10 @@ use Rattle.plan_check.specs.declared.verdict.Plain.{Plain}
 use Rattle.plan_check.specs.declared.verdict.Verdict.{Verdict}
 use Rattle.plan_check.specs.declared.verdict.Verdict.TheVariants as verdicts
 use Rattle.plan_check.proofs.ReasonLemmas.{table-from}
-use Rattle.bitmap_cover.specs.Trees.{AreAllBitmapsServed}
-use Rattle.bitmap_cover.specs.join_cover_Serving.{AreJoinsServed, IsOpen, IsServed}
-use Rattle.bitmap_cover.specs.join_cover_uncovered_Uncovered.{Uncovered}
-use Rattle.bitmap_cover.specs.scan_cover_Scanning.{ArePlainScansServed}
+use Rattle.scan_cover.specs.Trees.{AreAllBitmapsServed}
+use Rattle.scan_cover.specs.join_cover_Serving.{AreJoinsServed, IsOpen, IsServed}
+use Rattle.scan_cover.specs.join_cover_uncovered_Uncovered.{Uncovered}
+use Rattle.scan_cover.specs.Scanning.{ArePlainScansServed}
 
 module _ (c : Contents) (q : Query) (t : Certificate) where
   scans-served : ArePlainScansServed c q t → AreAllBitmapsServed c q t → (p : Plan) → is_scan p ≡ true → IsServed c q t p

@@ -7,21 +7,20 @@ ghost use Rattle.plan_tree.specs.Least.{IsAdmissible};
 ghost use Rattle.plan_tree.specs.Plans.{Plan, is_sort};
 ghost use Rattle.plan_tree.specs.Reads.{IsOverTables};
 ghost use Rattle.plan_tree.specs.Space.{IsBuilt, IsFinished};
-ghost use Rattle.bitmap_cover.specs.atom_laws_Limits.{HasFewAtoms};
-ghost use Rattle.certificates.specs.Certificates.{finish_at};
-ghost use Rattle.certificates.specs.Tables.{IsDominated};
-ghost use Rattle.certificates.specs.Views.{certificate};
+ghost use Rattle.scan_cover.specs.Limits.{HasFewAtoms};
+ghost use Rattle.plan_check.specs.Certificates.{finish_at};
+ghost use Rattle.plan_check.specs.Tables.{IsDominated};
+ghost use Rattle.plan_check.specs.Views.{certificate};
 ghost use Rattle.plan_check.specs.Placing.{ArePlaced};
 ghost use Rattle.plan_check.specs.Reasons.{AreUndominated};
 ghost use Rattle.plan_check.specs.Verdicts.{AreWhole, IsVerdict};
 ghost use Rattle.plan_check.specs.declared.verdict.Verdict.TheVariants as verdicts;
 
 use crate::cover::open_candidate;
-use best_check::judge_best;
-use bitmap_cover::entry_check::judge_table;
+use crate::judge_best;
 use catalog::Catalog;
-use certificates::Certificate;
-use plan_check::{Judged, Reason, SetPlaces, Verdict};
+use plan_check::{Certificate, Judged, Reason, SetPlaces, Verdict};
+use scan_cover::entry_check::judge_table;
 use sql_query::Prepared;
 
 /// What is said of a certificate whose entries are right, whose best plan is finished, and of which no entry dominates

@@ -2,16 +2,15 @@
 
 ghost use Rattle.std.specs.Prelude.{MatchOption};
 ghost use Rattle.plan_tree.specs.Reads.{IsOverTables};
-ghost use Rattle.certificates.specs.Views.{certificate};
-ghost use Rattle.bitmap_cover.specs.atom_laws_Limits.{HasFewAtoms};
+ghost use Rattle.plan_check.specs.Views.{certificate};
+ghost use Rattle.scan_cover.specs.Limits.{HasFewAtoms};
 ghost use Rattle.plan_check.specs.Placing.{ArePlaced};
 ghost use Rattle.plan_check.specs.Reasons.{AllRight, AreCovered};
-ghost use Rattle.bitmap_cover.specs.join_cover_Serving.{IsOpen};
+ghost use Rattle.scan_cover.specs.join_cover_Serving.{IsOpen};
 
-use bitmap_cover::join_cover::{Uncovered, open_join};
-use bitmap_cover::open_bitmap_scan;
-use bitmap_cover::scan_cover::open_plain_scan;
 use plan_check::{Judged, Plain};
+use scan_cover::join_cover::{Uncovered, open_join};
+use scan_cover::{open_bitmap_scan, open_plain_scan};
 
 /// A plan that an entry must dominate and none does, and its numbers: an admissible scan of the plan space, or an
 /// admissible join of entries, under a merge as they stand or sorted. Scans come first, those by a bitmap behind the

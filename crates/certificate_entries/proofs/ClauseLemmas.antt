@@ -10,7 +10,7 @@ use Rattle.eq_classes.specs.Classes.{Class}
 use Rattle.eq_classes.specs.Clauses.{Clause, by_class, by_conjunct, class_clauses, clause, clauses_from, conjunct_clauses, constant_clauses, each_pair, equals, equals_constant, first_in, has_constant, inner_clause, inner_clauses, is_first, one, pair_clause, pair_clauses}
 use Rattle.eq_classes.specs.Equality.{as_clause, equality_in, is_column}
 use Rattle.eq_classes.specs.Listing.{conjunct_of}
-use Rattle.certificate_lines.specs.explain_Texts.{conjunct_by}
+use Rattle.certificate_text.specs.explain_Texts.{conjunct_by}
 use Rattle.sql_query.specs.Queries.{Query}
 use Rattle.sql_query.specs.WellBound.{IsWellBound, given_with}
 

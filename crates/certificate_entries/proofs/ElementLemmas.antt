@@ -4,17 +4,17 @@ use Rattle.std.specs.Prelude.{All, IfSome, Option, Some, None, option_map}
 use Rattle.std.proofs.lemmas.List.{length-map, map-append}
 use Rattle.std.proofs.lemmas.List.Elements.{All-cons, All-head, All-push, All-tail}
 use Rattle.catalog.specs.Contents.{Contents}
-use Rattle.certificate_lines.specs.explain_Texts.{with_commas}
-use Rattle.line_cursor.specs.Words.{stops}
+use Rattle.certificate_text.specs.explain_Texts.{with_commas}
+use Rattle.certificate_text.specs.Words.{stops}
 use Rattle.plan_tree.specs.Plans.{BitTree, BitTrees, no_trees, tree_and}
 use Rattle.plan_tree.specs.Views.{bits, bits_all, trees_of}
 use Rattle.plan_tree.specs.declared.bits.BitTree.{BitTree as Bits}
 use Rattle.sql_query.specs.Queries.{Query}
-use Rattle.certificate_lines.specs.certificate_text_HasText.{HasElementText, HaveElementTexts, count}
-use Rattle.certificate_lines.specs.certificate_text_Texts.{tree_text, tree_texts}
-use Rattle.certificate_lines.specs.Parts.{Reads, has_no_comma}
-use Rattle.certificate_lines.proofs.NumberLemmas.{none-some, some-same}
-use Rattle.certificate_lines.proofs.ListLemmas.{IsListLeft, all-taken, first-none, first-taken, next-none, next-taken}
+use Rattle.certificate_text.specs.HasText.{HasElementText, HaveElementTexts, count}
+use Rattle.certificate_text.specs.Texts.{tree_text, tree_texts}
+use Rattle.certificate_entries.specs.Parts.{Reads, has_no_comma}
+use Rattle.certificate_entries.proofs.NumberLemmas.{none-some, some-same}
+use Rattle.certificate_entries.proofs.ListLemmas.{IsListLeft, all-taken, first-none, first-taken, next-none, next-taken}
 
 module _ (c : Contents) (q : Query) where
   pub comma : (l : List ℕ) → stops (44 ∷ l) ≡ true

@@ -3,3 +3,11 @@ pub mod ElementLemmas
 pub mod KindLemmas
 pub mod DifferentLemmas
 pub mod NodeLemmas
+pub mod NameLemmas
+pub mod NumberLemmas
+pub mod SetLemmas
+pub mod ClassLemmas
+pub mod KeyLemmas
+pub mod ListLemmas
+pub mod KeyListLemmas
+pub mod LeafLemmas

@@ -4,14 +4,14 @@ use Rattle.std.specs.Fmt.{decimal}
 use Rattle.pg_base.specs.Sets.{has}
 use Rattle.pg_base.specs.declared.rel_set.RelSet.{RelSet}
 use Rattle.catalog.specs.Contents.{Contents}
-use Rattle.certificate_lines.specs.explain_Texts.{keys_text}
+use Rattle.certificate_text.specs.explain_Texts.{keys_text}
 use Rattle.sql_query.specs.Queries.{Query}
-use Rattle.certificate_lines.specs.certificates_Certificates.{Node, by_seq, by_index, by_index_only, by_bitmap, by_nest, by_merge}
-use Rattle.certificate_lines.specs.certificate_text_HasText.{HasNodeText}
-use Rattle.certificate_lines.specs.certificate_text_Texts.{sides_text, tree_text}
-use Rattle.certificate_lines.specs.Keys.{ends_key}
-use Rattle.certificate_lines.specs.Parts.{has_no_comma}
-use Rattle.certificate_lines.specs.Scans.{scan_text}
+use Rattle.certificate_text.specs.plan_check_Certificates.{Node, by_seq, by_index, by_index_only, by_bitmap, by_nest, by_merge}
+use Rattle.certificate_text.specs.HasText.{HasNodeText}
+use Rattle.certificate_text.specs.Texts.{sides_text, tree_text}
+use Rattle.certificate_entries.specs.Keys.{ends_key}
+use Rattle.certificate_entries.specs.Parts.{has_no_comma}
+use Rattle.certificate_entries.specs.Scans.{scan_text}
 use Rattle.certificate_entries.specs.declared.kinds.Kind.{Kind}
 use Rattle.certificate_entries.specs.declared.kinds.Kind.TheVariants as kinds
 

@@ -1,17 +1,17 @@
 //! Bitmap trees.
 
 ghost use Rattle.std.specs.Prelude.{◌≡◌, ◌≤◌, ◌++◌, [], ℕ, List, IfOk, IfSome, Some, codes, length, option_map};
-ghost use Rattle.certificate_lines.specs.explain_Texts.{with_commas};
+ghost use Rattle.certificate_text.specs.explain_Texts.{with_commas};
 ghost use Rattle.plan_tree.specs.Plans as trees;
 ghost use Rattle.plan_tree.specs.Views.{bits};
 ghost use Rattle.sql_query.specs.WellBound.{IsWellBound};
-ghost use Rattle.certificate_lines.specs.certificate_text_HasText.{HasBitsText};
-ghost use Rattle.certificate_lines.specs.certificate_text_Texts.{tree_text, tree_texts};
-ghost use Rattle.certificate_lines.specs.Parts.{Reads};
+ghost use Rattle.certificate_text.specs.HasText.{HasBitsText};
+ghost use Rattle.certificate_text.specs.Texts.{tree_text, tree_texts};
+ghost use Rattle.certificate_entries.specs.Parts.{Reads};
 
 use crate::elements::{read_element, read_elements};
 use catalog::Catalog;
-use line_cursor::LineCursor;
+use certificate_text::LineCursor;
 use pg_base::Memory;
 use plan_tree::{BitTree, BitTrees};
 use sql_query::Prepared;

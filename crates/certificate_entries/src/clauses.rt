@@ -1,7 +1,7 @@
 //! Clauses by the numbers of their conjuncts.
 
 ghost use Rattle.std.specs.Prelude.{◌≡◌, ◌↔◌, ℕ, IfSome, IsTrue, Some, slice_get};
-ghost use Rattle.certificate_lines.specs.explain_Texts.{conjunct_by};
+ghost use Rattle.certificate_text.specs.explain_Texts.{conjunct_by};
 ghost use Rattle.sql_query.specs.WellBound.{IsWellBound};
 
 use catalog::Catalog;

@@ -3,19 +3,19 @@
 ghost use Rattle.std.specs.Prelude.{[], ◌≡◌, ◌≤◌, ◌++◌, ℕ, List, All, IfOk, IfSome, None, Some, codes, length, map, option_map, slice_get, true};
 ghost use Rattle.std.specs.Fmt.{decimal};
 ghost use Rattle.pg_base.specs.declared.numbers.IndexNo as numbers;
-ghost use Rattle.certificate_lines.specs.explain_Texts.{conjunct_by, with_commas};
-ghost use Rattle.line_cursor.specs.Words.{stops};
+ghost use Rattle.certificate_text.specs.explain_Texts.{conjunct_by, with_commas};
+ghost use Rattle.certificate_text.specs.Words.{stops};
 ghost use Rattle.plan_tree.specs.Plans as trees;
 ghost use Rattle.plan_tree.specs.Views.{bits};
 ghost use Rattle.sql_query.specs.WellBound.{IsWellBound};
-ghost use Rattle.certificate_lines.specs.certificate_text_HasText.{HasElementText};
-ghost use Rattle.certificate_lines.specs.certificate_text_Texts.{or_text, tree_text};
-ghost use Rattle.certificate_lines.specs.Parts.{Reads, has_no_comma};
+ghost use Rattle.certificate_text.specs.HasText.{HasElementText};
+ghost use Rattle.certificate_text.specs.Texts.{or_text, tree_text};
+ghost use Rattle.certificate_entries.specs.Parts.{Reads, has_no_comma};
 
 use crate::clauses::find_clause;
+use crate::{read_leaf, read_leaves};
 use catalog::Catalog;
-use certificate_lines::{read_leaf, read_leaves};
-use line_cursor::LineCursor;
+use certificate_text::LineCursor;
 use pg_base::Memory;
 use plan_tree::BitTree;
 use sql_query::Prepared;

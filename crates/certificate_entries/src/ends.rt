@@ -4,19 +4,19 @@ ghost use Rattle.std.specs.Prelude.{◌≡◌, ◌↔◌, ◌++◌, ◌==◌, �
 ghost use Rattle.std.specs.Fmt.{decimal};
 ghost use Rattle.pg_base.specs.Sets.{has};
 ghost use Rattle.pg_base.specs.declared.rel_set.RelSet as sets;
-ghost use Rattle.certificate_lines.specs.explain_Texts.{keys_text};
+ghost use Rattle.certificate_text.specs.explain_Texts.{keys_text};
 ghost use Rattle.sql_query.specs.WellBound.{IsWellBound};
-ghost use Rattle.certificate_lines.specs.certificates_Views.{side};
-ghost use Rattle.certificate_lines.specs.certificate_text_HasText.{HasKeysText, IsEntryNumber, IsSetOf};
-ghost use Rattle.certificate_lines.specs.certificate_text_Texts as texts;
-ghost use Rattle.certificate_lines.specs.Parts.{HasSideText, IsSet, Reads};
+ghost use Rattle.certificate_text.specs.plan_check_Views.{side};
+ghost use Rattle.certificate_text.specs.HasText.{HasKeysText, IsEntryNumber, IsSetOf};
+ghost use Rattle.certificate_text.specs.Texts as texts;
+ghost use Rattle.certificate_entries.specs.Parts.{HasSideText, IsSet, Reads};
 
+use crate::certificate_text::best_line;
 use crate::keys::read_key_list;
+use crate::plan_check::Side;
+use crate::{read_param, read_set, read_side};
 use catalog::Catalog;
-use certificate_lines::certificate_text::best_line;
-use certificate_lines::certificates::Side;
-use certificate_lines::{read_param, read_set, read_side};
-use line_cursor::LineCursor;
+use certificate_text::LineCursor;
 use pathkeys::Keys;
 use pg_base::{Memory, RelSet};
 use sql_query::Prepared;

@@ -3,12 +3,12 @@
 ghost use Rattle.std.specs.Prelude.{◌≡◌, ◌++◌, ◌≤◌, ℕ, List, IfSome, Some, codes, length, option_map, true};
 ghost use Rattle.std.specs.Fmt.{decimal};
 ghost use Rattle.cost_rules.specs.Costs.{pair};
-ghost use Rattle.certificate_lines.specs.explain_Texts.{cost_text};
-ghost use Rattle.line_cursor.specs.Words.{stops};
-ghost use Rattle.certificate_lines.specs.certificate_text_HasText.{HasStartup, IsEntryNumber, IsWritable};
+ghost use Rattle.certificate_text.specs.explain_Texts.{cost_text};
+ghost use Rattle.certificate_text.specs.Words.{stops};
+ghost use Rattle.certificate_text.specs.HasText.{HasStartup, IsEntryNumber, IsWritable};
 
-use certificate_lines::read_entry_number;
-use line_cursor::LineCursor;
+use crate::read_entry_number;
+use certificate_text::LineCursor;
 use sql_query::Prepared;
 
 /// Two costs with two points between them.

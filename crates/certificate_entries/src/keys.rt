@@ -4,16 +4,16 @@ ghost use Rattle.std.specs.Prelude.{◌≡◌, ◌≢◌, ◌<◌, ◌↔◌, �
 ghost use Rattle.pg_base.specs.Sets.{has};
 ghost use Rattle.pathkeys.specs.Finding.{class_numbers};
 ghost use Rattle.pathkeys.specs.Keys.{AreDifferent};
-ghost use Rattle.certificate_lines.specs.explain_Texts.{keys_text};
+ghost use Rattle.certificate_text.specs.explain_Texts.{keys_text};
 ghost use Rattle.sql_query.specs.WellBound.{IsWellBound};
-ghost use Rattle.certificate_lines.specs.certificate_text_HasText.{HasKeysText};
-ghost use Rattle.certificate_lines.specs.Keys.{ends_key};
-ghost use Rattle.certificate_lines.specs.Parts.{has_no_comma};
+ghost use Rattle.certificate_text.specs.HasText.{HasKeysText};
+ghost use Rattle.certificate_entries.specs.Keys.{ends_key};
+ghost use Rattle.certificate_entries.specs.Parts.{has_no_comma};
 
+use crate::read_keys;
 use catalog::Catalog;
-use certificate_lines::read_keys;
+use certificate_text::LineCursor;
 use eq_classes::ClassNo;
-use line_cursor::LineCursor;
 use pathkeys::Keys;
 use pg_base::{Memory, RelSet};
 use sql_query::Prepared;

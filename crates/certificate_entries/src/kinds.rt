@@ -4,7 +4,7 @@ ghost use Rattle.std.specs.Prelude.{◌≡◌, ◌++◌, ℕ, List, Some};
 ghost use Rattle.certificate_entries.specs.Kinds.{words};
 ghost use Rattle.certificate_entries.specs.declared.kinds.Kind as kinds;
 
-use line_cursor::LineCursor;
+use certificate_text::LineCursor;
 
 /// What an entry is.
 #[derive(Clone, Copy)]

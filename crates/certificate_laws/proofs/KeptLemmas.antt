@@ -15,9 +15,9 @@ use Rattle.plan_tree.specs.Costs.{cost, price}
 use Rattle.plan_tree.specs.Paths.{Path, startup_kept}
 use Rattle.plan_tree.specs.Space.{IsFinished, IsPlanOf}
 use Rattle.plan_tree.specs.Least.{IsAdmissible, Dominates}
-use Rattle.certificates.specs.join_laws_Closed.{AreKeptSides, IsKeptSide, IsUndercut}
-use Rattle.certificates.specs.Certificates.{Certificate, Entry, finish_at, plan_at, unfold_at, unfolded}
-use Rattle.certificates.specs.Tables.{IsDominated, IsEntryAt, IsEntryPlan, IsStartup, IsPlanTable}
+use Rattle.plan_check.specs.plan_laws_Closed.{AreKeptSides, IsKeptSide, IsUndercut}
+use Rattle.plan_check.specs.Certificates.{Certificate, Entry, finish_at, plan_at, unfold_at, unfolded}
+use Rattle.plan_check.specs.Tables.{IsDominated, IsEntryAt, IsEntryPlan, IsStartup, IsPlanTable}
 use Rattle.certificate_laws.specs.Kept.{AreEntriesOf, AreKept, AreOf, IsKeptPath, IsPlanOfSome}
 
 abbrev tree_of : Path → Option Plan

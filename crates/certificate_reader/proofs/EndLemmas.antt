@@ -2,7 +2,7 @@
 use Rattle.std.proofs.Common.{◌≡◌, ◌<◌, ◌≤◌, ◌+◌, ◌-◌, ◌==◌, ℕ, zero, suc, Bool, true, false, not, cond, List, [], ◌∷◌, ◌++◌, length, drop, take, get_or, refl, sym, ap, subst, ◌∙◌, arith}
 use Rattle.std.proofs.lemmas.Bool.{and_from, eqb-true}
 use Rattle.std.proofs.lemmas.List.{length-drop, take_all}
-use Rattle.certificate_lines.specs.certificate_text_Texts.{ended, is_line}
+use Rattle.certificate_entries.specs.certificate_text_Texts.{ended, is_line}
 use Rattle.certificate_reader.specs.Reading.{line_end}
 
 -- a text is its first line, the LF, and what follows

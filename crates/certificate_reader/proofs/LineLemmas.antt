@@ -10,14 +10,14 @@ use Rattle.std.proofs.lemmas.Fmt.{decimal_is_IsNumeral}
 use Rattle.std.proofs.lemmas.List.Elements.{All-head, All-tail, All-push}
 use Rattle.std.proofs.lemmas.List.{append_assoc, append-nil, append_cancel_left, length-append}
 use Rattle.catalog.specs.Contents.{Contents}
-use Rattle.line_cursor.proofs.NumeralLemmas.{decimal-digits}
+use Rattle.certificate_text.proofs.NumeralLemmas.{decimal-digits}
 use Rattle.sql_query.specs.Queries.{Query}
-use Rattle.certificates.specs.Certificates.{Entry, Side}
-use Rattle.certificates.specs.Limit.{MOST_ENTRIES}
+use Rattle.plan_check.specs.Certificates.{Entry, Side}
+use Rattle.plan_check.specs.Limit.{MOST_ENTRIES}
 use Rattle.certificate_reader.specs.Faults.{BeginsText, IsText}
-use Rattle.certificate_lines.specs.certificate_text_HasText.{HasEntryLine, IsEntryNumber}
+use Rattle.certificate_entries.specs.certificate_text_HasText.{HasEntryLine, IsEntryNumber}
 use Rattle.certificate_reader.specs.Passed.{Passed}
-use Rattle.certificate_lines.specs.certificate_text_Texts.{best_line, ended, entries_text, entry_line, entry_text, head_text, is_line}
+use Rattle.certificate_entries.specs.certificate_text_Texts.{best_line, ended, entries_text, entry_line, entry_text, head_text, is_line}
 
 not-lf : (b : ℕ) → not (b == 10) ≡ true → b ≡ 10 → ⊥
 not-lf b h e = true≢false (sym (subst (λ (n : ℕ). not (n == 10) ≡ true) e h))

@@ -20,7 +20,7 @@ use Rattle.eq_classes.specs.Classes.{Class}
 use Rattle.eq_classes.specs.Clauses.{Set, first_in}
 use Rattle.eq_classes.specs.Listing.{blank, class_at}
 use Rattle.eq_classes.proofs.ListLemmas.{IsIn, found_in, in_from_contains}
-use Rattle.line_cursor.proofs.NumeralLemmas.{decimal-word}
+use Rattle.certificate_text.proofs.NumeralLemmas.{decimal-word}
 use Rattle.sort_rows.proofs.ColumnLemmas.{member_is}
 use Rattle.sql_query.specs.Queries.{Query}
 use Rattle.sql_query.specs.declared.window.Window.{Window}
@@ -29,10 +29,10 @@ use Rattle.cost_rules.specs.declared.pair.Pair.{Pair}
 use Rattle.sql_query.specs.WellBound.{IsColumnOf, IsWellBound}
 use Rattle.pathkeys.specs.Keys.{Keys}
 use Rattle.plan_tree.specs.Plans.{BitTree, leaf, all_hold, some_arm, BitTrees, no_trees, tree_and, is_empty}
-use Rattle.certificate_lines.specs.explain_Texts.{aliases_in, backward_text, column_text, conjunct_by, cost_text, direction_text, family_text, key_text, keys_text, member_text, number_text, with_alias, with_commas}
-use Rattle.certificates.specs.Certificates.{Entry, Node, Side, by_seq, by_index, by_index_only, by_bitmap, by_nest, by_merge}
-use Rattle.certificate_lines.specs.certificate_text_HasText.{HasBitsText, HasElementText, HasEntryLine, HasNodeText, HaveElementTexts}
-use Rattle.certificate_lines.specs.certificate_text_Texts.{entry_line, entry_text, is_line, leaf_text, measures_text, node_text, param_text, set_text, side_text, tree_text, tree_texts, with_bare_commas}
+use Rattle.certificate_entries.specs.explain_Texts.{aliases_in, backward_text, column_text, conjunct_by, cost_text, direction_text, family_text, key_text, keys_text, member_text, number_text, with_alias, with_commas}
+use Rattle.plan_check.specs.Certificates.{Entry, Node, Side, by_seq, by_index, by_index_only, by_bitmap, by_nest, by_merge}
+use Rattle.certificate_entries.specs.certificate_text_HasText.{HasBitsText, HasElementText, HasEntryLine, HasNodeText, HaveElementTexts}
+use Rattle.certificate_entries.specs.certificate_text_Texts.{entry_line, entry_text, is_line, leaf_text, measures_text, node_text, param_text, set_text, side_text, tree_text, tree_texts, with_bare_commas}
 
 pub joined-line : (a b : List ℕ) → is_line a ≡ true → is_line b ≡ true → is_line (a ++ b) ≡ true
 joined-line [] b h k = k

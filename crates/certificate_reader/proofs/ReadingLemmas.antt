@@ -7,14 +7,14 @@ use Rattle.std.proofs.lemmas.List.{append_assoc, append_cancel_left, append-nil,
 use Rattle.catalog.specs.Contents.{Contents}
 use Rattle.sql_query.specs.Queries.{Query}
 use Rattle.sql_query.specs.declared.window.Window.{Window}
-use Rattle.certificates.specs.Certificates.{Entry, Side}
-use Rattle.certificates.specs.Limit.{MOST_ENTRIES}
+use Rattle.plan_check.specs.Certificates.{Entry, Side}
+use Rattle.plan_check.specs.Limit.{MOST_ENTRIES}
 use Rattle.certificate_reader.specs.Faults.{BeginsText, IsFaultLine, IsText, Stops, at_line, at_end, joined}
-use Rattle.certificate_lines.specs.certificate_text_HasText.{HasEntryLine}
+use Rattle.certificate_entries.specs.certificate_text_HasText.{HasEntryLine}
 use Rattle.certificate_reader.specs.Passed.{Passed}
 use Rattle.certificate_reader.specs.Reading.{AreOnly, IsAtBest, IsBlockRead, IsReadSoFar, head_lines, line_end}
-use Rattle.certificate_lines.specs.certificate_text_Texts.{best_line, certificate_text, ended, entries_text, entry_line, head_text, is_line}
-use Rattle.certificate_lines.specs.Reading.{IsBad, IsBestRead, IsEntryRead}
+use Rattle.certificate_entries.specs.certificate_text_Texts.{best_line, certificate_text, ended, entries_text, entry_line, head_text, is_line}
+use Rattle.certificate_entries.specs.Reading.{IsBad, IsBestRead, IsEntryRead}
 use Rattle.certificate_reader.proofs.EndLemmas.{cut, whole-line}
 use Rattle.certificate_reader.proofs.LineLemmas.{after, best-line, best-stops, entry-passed, line-stops, other-line, part-begins, part-ends, parted, piece-stops}
 

@@ -1,3 +1,4 @@
 pub mod Faults
 pub mod Passed
 pub mod Reading
+pub mod Parts

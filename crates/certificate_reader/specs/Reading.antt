@@ -3,12 +3,12 @@ use Rattle.std.specs.Prelude.{◌≡◌, ◌+◌, ℕ, suc, Bool, true, cond, �
 use Rattle.catalog.specs.Contents.{Contents}
 use Rattle.sql_query.specs.Queries.{Query}
 use Rattle.sql_query.specs.declared.window.Window.{Window}
-use Rattle.certificates.specs.Certificates.{Certificate, Entry, Side}
-use Rattle.certificates.specs.Views.{certificate}
-use Rattle.certificates.specs.declared.certificate.Certificate.{Certificate as Certified}
-use Rattle.certificate_lines.specs.certificate_text_HasText.{HasEntryLine, HasText}
-use Rattle.certificate_lines.specs.certificate_text_Texts.{certificate_text, ended, entry_line, is_line}
-use Rattle.certificate_lines.specs.Reading.{IsBestRead}
+use Rattle.plan_check.specs.Certificates.{Certificate, Entry, Side}
+use Rattle.plan_check.specs.Views.{certificate}
+use Rattle.plan_check.specs.declared.certificate.Certificate.{Certificate as Certified}
+use Rattle.certificate_entries.specs.certificate_text_HasText.{HasEntryLine, HasText}
+use Rattle.certificate_entries.specs.certificate_text_Texts.{certificate_text, ended, entry_line, is_line}
+use Rattle.certificate_entries.specs.Reading.{IsBestRead}
 use Rattle.certificate_reader.specs.Faults.{IsFaultLine, IsText, joined}
 use Rattle.certificate_reader.specs.Passed.{Passed}
 use Rattle.certificate_reader.specs.declared.block.CertFault.{CertFault}

@@ -2,16 +2,16 @@
 
 ghost use Rattle.std.specs.Prelude.{◌≡◌, ◌<◌, ◌≤◌, ◌∷◌, ◌+◌, ◌++◌, ◌^◌, ℕ, List, [], IfErr, IfNone, IfOk, IfSome, OnOk, length, map, true};
 ghost use Rattle.sql_query.specs.WellBound.{IsWellBound};
-ghost use Rattle.certificates.specs.Certificates as certs;
-ghost use Rattle.certificates.specs.Views.{certificate, entry, side};
-ghost use Rattle.certificate_lines.specs.certificate_text_HasText.{HasText};
-ghost use Rattle.certificate_lines.specs.certificate_text_Texts.{certificate_text, ended, head_text, is_line};
+ghost use Rattle.plan_check.specs.Certificates as certs;
+ghost use Rattle.plan_check.specs.Views.{certificate, entry, side};
+ghost use Rattle.certificate_entries.specs.certificate_text_HasText.{HasText};
+ghost use Rattle.certificate_entries.specs.certificate_text_Texts.{certificate_text, ended, head_text, is_line};
 ghost use Rattle.certificate_reader.specs.Reading.{IsAtBest, IsBlock, IsFault, head_lines, line_end};
 
 use catalog::Catalog;
-use certificate_lines::{Line, LineFault, ReadLine};
-use certificates::{Certificate, Entries, Entry, Side};
+use certificate_entries::{Line, LineFault, ReadLine};
 use pg_base::Memory;
+use plan_check::{Certificate, Entries, Entry, Side};
 use sql_query::Prepared;
 use std::alloc::{AllocError, Global};
 

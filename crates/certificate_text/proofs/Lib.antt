@@ -1,2 +1,4 @@
 pub mod EntryLemmas
 pub mod NodeLemmas
+pub mod WordLemmas
+pub mod NumeralLemmas

@@ -6,10 +6,10 @@ use Rattle.catalog.specs.Contents.{Contents}
 use Rattle.explain.specs.Texts.{keys_text}
 use Rattle.pathkeys.specs.Keys.{Keys}
 use Rattle.sql_query.specs.Queries.{Query}
-use Rattle.certificates.specs.Views as views
-use Rattle.certificates.specs.declared.entry.Node.{Node as Noded}
-use Rattle.certificates.specs.declared.entry.Node.TheVariants as nodes
-use Rattle.certificates.specs.declared.entry.Side.{Side as Sided}
+use Rattle.plan_check.specs.Views as views
+use Rattle.plan_check.specs.declared.entry.Node.{Node as Noded}
+use Rattle.plan_check.specs.declared.entry.Node.TheVariants as nodes
+use Rattle.plan_check.specs.declared.entry.Side.{Side as Sided}
 use Rattle.certificate_text.specs.Texts.{node_text, sides_text}
 
 pub merge-text : (c : Contents) (q : Query) (set : RelSet) (node : Noded) (keys ks : Keys) (a b : Sided) (old one two new : List ℕ) → node ≡ nodes.Merge keys a b → ks ≡ keys →

@@ -9,8 +9,8 @@ use Rattle.sql_query.specs.declared.window.Window.{Window}
 use Rattle.pathkeys.specs.Keys.{Keys, AreDifferent}
 use Rattle.plan_tree.specs.Plans.{BitTree, leaf, all_hold, some_arm, BitTrees, no_trees, tree_and}
 use Rattle.explain.specs.Texts.{conjunct_by}
-use Rattle.certificates.specs.Certificates.{Node, by_seq, by_index, by_index_only, by_bitmap, by_nest, by_merge, Entry, Certificate}
-use Rattle.certificates.specs.Limit.{MOST_ENTRIES}
+use Rattle.plan_check.specs.Certificates.{Node, by_seq, by_index, by_index_only, by_bitmap, by_nest, by_merge, Entry, Certificate}
+use Rattle.plan_check.specs.Limit.{MOST_ENTRIES}
 
 -- a number of at most 19 digits
 abbrev pub IsWritable : ℕ → Type 0

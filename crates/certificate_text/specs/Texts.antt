@@ -12,7 +12,7 @@ use Rattle.sql_query.specs.Queries.{Query}
 use Rattle.sql_query.specs.declared.window.Window.{Window}
 use Rattle.plan_tree.specs.Plans.{BitTree, leaf, all_hold, some_arm, BitTrees, no_trees, tree_and, is_empty}
 use Rattle.explain.specs.Texts.{aliases_in, backward_text, conjunct_by, cost_text, keys_text, number_text, scan_name, with_commas}
-use Rattle.certificates.specs.Certificates.{Side, Node, by_seq, by_index, by_index_only, by_bitmap, by_nest, by_merge, Entry, Certificate}
+use Rattle.plan_check.specs.Certificates.{Side, Node, by_seq, by_index, by_index_only, by_bitmap, by_nest, by_merge, Entry, Certificate}
 
 -- texts in a row: the first behind a text of its own, each other one behind a comma alone
 abbrev pub with_bare_commas : List ℕ → List (List ℕ) → List ℕ

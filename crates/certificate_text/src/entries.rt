@@ -7,18 +7,18 @@ ghost use Rattle.cost_rules.specs.Costs.{pair};
 ghost use Rattle.explain.specs.Texts.{cost_text};
 ghost use Rattle.sql_query.specs.Queries.{width};
 ghost use Rattle.sql_query.specs.WellBound.{IsWellBound};
-ghost use Rattle.certificates.specs.Limit.{MOST_ENTRIES};
-ghost use Rattle.certificates.specs.Views.{certificate, entry, side};
+ghost use Rattle.plan_check.specs.Limit.{MOST_ENTRIES};
+ghost use Rattle.plan_check.specs.Views.{certificate, entry, side};
 ghost use Rattle.certificate_text.specs.HasText.{HasEntryLine, HasText};
 ghost use Rattle.certificate_text.specs.Texts as texts;
 
 use crate::nodes::{put_node, put_number, put_side};
 use crate::sets::{put_param, put_set};
 use catalog::Catalog;
-use certificates::{Certificate, Entry, Side};
 use explain::put_keys;
 use pg_base::Memory;
 use pg_value::Bytes;
+use plan_check::{Certificate, Entry, Side};
 use sql_query::Prepared;
 use std::alloc::Global;
 

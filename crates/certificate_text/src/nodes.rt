@@ -6,16 +6,16 @@ ghost use Rattle.std.specs.String.{string_bytes};
 ghost use Rattle.pg_base.specs.Sets.{has};
 ghost use Rattle.catalog.specs.Contents.{IsIndex};
 ghost use Rattle.sql_query.specs.WellBound.{IsWellBound};
-ghost use Rattle.certificates.specs.Views as views;
+ghost use Rattle.plan_check.specs.Views as views;
 ghost use Rattle.certificate_text.specs.HasText.{HasNodeText};
 ghost use Rattle.certificate_text.specs.Texts as texts;
 
 use crate::bits::put_bits;
 use catalog::Catalog;
-use certificates::{Node, Side};
 use explain::{put_keys, put_scan_name};
 use pathkeys::Keys;
 use pg_base::{IndexNo, Memory, RelSet};
+use plan_check::{Node, Side};
 use sql_query::Prepared;
 use std::alloc::Global;
 

@@ -3,8 +3,8 @@ use Rattle.std.proofs.Common.{◌≡◌, ℕ, List, ◌++◌, get_or, arith, ap,
 use Rattle.std.specs.Prelude.{codes}
 use Rattle.catalog.specs.Contents.{Contents}
 use Rattle.sql_query.specs.Queries.{Query}
-use Rattle.certificates.specs.Certificates.{Certificate}
-use Rattle.certificates.specs.Tables.{IsPlanTable}
+use Rattle.plan_check.specs.Certificates.{Certificate}
+use Rattle.plan_check.specs.Tables.{IsPlanTable}
 use Rattle.plan_check.proofs.ReasonLemmas.{refuted}
 use Rattle.plan_check.specs.Verdicts.{IsVerdict}
 use Rattle.plan_check.specs.declared.verdict.Verdict.{Verdict}

@@ -20,10 +20,10 @@ use Rattle.plan_tree.specs.Plans.{BitTree, Plan, seq, index, index_only, bitmap,
 use Rattle.plan_tree.specs.Space.{IsBuilt}
 use Rattle.scan_paths.proofs.SpaceLemmas.{given-param}
 use Rattle.bitmap_scan.specs.Chosen.{combined}
-use Rattle.certificates.specs.Certificates.{Certificate, Entry, Side, by_bitmap, by_index, by_index_only, by_merge, by_nest, by_seq, join_by, plan_at, plans_of, relation_in, side_at, sorted_if, unfold_at}
-use Rattle.certificates.specs.Views.{side as seen}
-use Rattle.certificates.specs.declared.entry.Side.{Side as Sided}
-use Rattle.certificates.proofs.UnfoldLemmas.{numbered}
+use Rattle.plan_check.specs.Certificates.{Certificate, Entry, Side, by_bitmap, by_index, by_index_only, by_merge, by_nest, by_seq, join_by, plan_at, plans_of, relation_in, side_at, sorted_if, unfold_at}
+use Rattle.plan_check.specs.Views.{side as seen}
+use Rattle.plan_check.specs.declared.entry.Side.{Side as Sided}
+use Rattle.plan_check.proofs.UnfoldLemmas.{numbered}
 use Rattle.certificate_check.specs.entry_check_ScanLemmas.{relation-found}
 use Rattle.certificate_check.specs.join_cover_CoverLemmas.{right-at}
 use Rattle.plan_check.specs.Beating.{IsRight}

@@ -20,24 +20,24 @@ use Rattle.plan_tree.specs.Space.{IsBuilt}
 use Rattle.plan_tree.proofs.BoundLemmas.{lawful-rows, startup-most}
 use Rattle.plan_tree.proofs.PathLemmas.{built-below}
 use Rattle.scan_paths.proofs.SpaceLemmas.{given-param}
-use Rattle.join_laws.specs.Closed.{AreKeptSides, is_scan}
-use Rattle.join_laws.proofs.WithinLemmas.{read-below}
-use Rattle.table_texts.specs.join_search_PlanLemmas.{reads-some}
-use Rattle.table_texts.specs.join_search_SetLemmas.{set-below}
+use Rattle.plan_laws.specs.Closed.{AreKeptSides, is_scan}
+use Rattle.plan_laws.proofs.WithinLemmas.{read-below}
+use Rattle.certificate_laws.specs.join_search_PlanLemmas.{reads-some}
+use Rattle.certificate_laws.specs.join_search_SetLemmas.{set-below}
 use Rattle.certificate_check.specs.plan_laws_WellBoundLemmas.{bound-over}
-use Rattle.table_texts.specs.explain_laws_ParamLemmas.{IsOfQuery, bitmap-param, index-param}
-use Rattle.certificates.specs.Certificates.{Certificate, Entry, Node, plan_of, plans_of, unfold_at, unfolded}
-use Rattle.certificates.specs.Limit.{MOST_ENTRIES}
-use Rattle.certificates.specs.Tables.{IsEntryPlan, IsStartup}
-use Rattle.certificates.proofs.UnfoldLemmas.{at-split}
-use Rattle.table_texts.specs.certificate_text_HasText.{HasEntryLine, HasKeysText, HasStartup, IsSetOf}
+use Rattle.certificate_laws.specs.explain_laws_ParamLemmas.{IsOfQuery, bitmap-param, index-param}
+use Rattle.plan_check.specs.Certificates.{Certificate, Entry, Node, plan_of, plans_of, unfold_at, unfolded}
+use Rattle.plan_check.specs.Limit.{MOST_ENTRIES}
+use Rattle.plan_check.specs.Tables.{IsEntryPlan, IsStartup}
+use Rattle.plan_check.proofs.UnfoldLemmas.{at-split}
+use Rattle.certificate_laws.specs.certificate_text_HasText.{HasEntryLine, HasKeysText, HasStartup, IsSetOf}
 use Rattle.certificate_check.specs.entry_check_PlaceLemmas.{long}
 use Rattle.plan_check.specs.Verdicts.{IsUncovered}
 use Rattle.plan_check.specs.declared.verdict.Plain.{Plain}
-use Rattle.table_texts.specs.Arms.{HasArmsInOrs}
-use Rattle.table_texts.proofs.KeysLemmas.{keys-wider, plan-text}
-use Rattle.table_texts.proofs.NodeLemmas.{node-text}
-use Rattle.table_texts.proofs.RowsLemmas.{estimate-few}
+use Rattle.certificate_laws.specs.Arms.{HasArmsInOrs}
+use Rattle.certificate_laws.proofs.KeysLemmas.{keys-wider, plan-text}
+use Rattle.certificate_laws.proofs.NodeLemmas.{node-text}
+use Rattle.certificate_laws.proofs.RowsLemmas.{estimate-few}
 use Rattle.check_reply.specs.Checked.{IsToldBy, with_entry}
 use Rattle.check_reply.specs.Telling.{Tells, entry_with}
 

@@ -22,7 +22,7 @@ use Rattle.plan_space.proofs.TreeLemmas.{picked-once}
 use Rattle.bitmap_scan.specs.Chosen.{combined, marked}
 use Rattle.bitmap_scan.proofs.KeptLemmas.{combined-many}
 use Rattle.bitmap_scan.proofs.MarkedLemmas.{zip-length}
-use Rattle.certificate_check.specs.bitmap_cover_MarkLemmas.{mask-marks}
+use Rattle.certificate_check.specs.scan_cover_MarkLemmas.{mask-marks}
 use Rattle.plan_check.specs.Plains.{IsTreeOf, arms_in, arms_in_all, elements_in}
 use Rattle.check_reply.specs.Telling.{arms_taken, tree_by, trees_by}
 

@@ -3,12 +3,12 @@ use Rattle.std.specs.Prelude.{ℕ, ◌≡◌, ◌<◌, ◌^◌, Bool, true, fals
 use Rattle.std.specs.Fmt.{decimal}
 use Rattle.catalog.specs.Contents.{Contents}
 use Rattle.sql_query.specs.Queries.{Query}
-use Rattle.certificates.specs.Certificates.{Certificate, Entry}
-use Rattle.certificates.specs.Tables.{IsEntryAt, IsPlanTable}
-use Rattle.table_texts.specs.certificate_text_HasText.{HasEntryLine}
-use Rattle.table_texts.specs.certificate_text_Texts.{ended, entry_text}
-use Rattle.entry_reader.specs.certificate_reader_Faults.{IsFaultLine, IsText}
-use Rattle.entry_reader.specs.certificate_reader_Reading.{IsBlockRead}
+use Rattle.plan_check.specs.Certificates.{Certificate, Entry}
+use Rattle.plan_check.specs.Tables.{IsEntryAt, IsPlanTable}
+use Rattle.certificate_laws.specs.certificate_text_HasText.{HasEntryLine}
+use Rattle.certificate_laws.specs.certificate_text_Texts.{ended, entry_text}
+use Rattle.certificate_reader.specs.Faults.{IsFaultLine, IsText}
+use Rattle.certificate_reader.specs.Reading.{IsBlockRead}
 use Rattle.plan_check.specs.Verdicts.{IsUncovered, IsVerdict}
 use Rattle.plan_check.specs.declared.verdict.Number.{Number}
 use Rattle.plan_check.specs.declared.verdict.Number.TheVariants.{Startup, Total, Rows}

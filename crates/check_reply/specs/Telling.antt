@@ -11,8 +11,8 @@ use Rattle.plan_tree.specs.Bitmaps.{Element, by_clause, by_index, condition_at}
 use Rattle.plan_tree.specs.Keys.{keys_of}
 use Rattle.plan_tree.specs.Plans.{BitTree, Plan, leaf, param_of, set_of, some_arm}
 use Rattle.plan_tree.specs.Space.{IsBuilt, IsSameSet}
-use Rattle.certificates.specs.Certificates.{Certificate, Entry, Node, plan_by, plans_of}
-use Rattle.certificates.specs.Views.{node as seen}
+use Rattle.plan_check.specs.Certificates.{Certificate, Entry, Node, plan_by, plans_of}
+use Rattle.plan_check.specs.Views.{node as seen}
 use Rattle.plan_check.specs.Plains.{StandsForPlan}
 use Rattle.plan_check.specs.declared.verdict.Plain.{Plain}
 use Rattle.check_reply.specs.declared.shape.Shape.{Shape}

@@ -1,14 +1,14 @@
 //! A certificate's text read and judged.
 
 ghost use Rattle.std.specs.Prelude.{◌≡◌, ◌≤◌, ◌^◌, ℕ, IfOk, length};
-ghost use Rattle.entry_reader.specs.certificate_reader_block_CertFault_TheVariants as faults;
-ghost use Rattle.certificates.specs.Views.{certificate};
+ghost use Rattle.certificate_reader.specs.declared.block.CertFault.TheVariants as faults;
+ghost use Rattle.plan_check.specs.Views.{certificate};
 ghost use Rattle.check_reply.specs.Checked as texts;
 ghost use Rattle.check_reply.specs.Checked.{IsCheckedText, IsReasonText, IsVerdictLine};
 ghost use Rattle.plan_check.specs.Verdicts.{IsReason, IsVerdict};
 ghost use Rattle.plan_check.specs.declared.verdict.Verdict.{Verdict as Said};
 ghost use Rattle.sql_query.specs.WellBound.{IsWellBound};
-ghost use Rattle.table_texts.specs.Arms.{HasArmsInOrs};
+ghost use Rattle.certificate_laws.specs.Arms.{HasArmsInOrs};
 
 use crate::lines::{
     bad_node_text, bad_number_text, dominated_text, fault_text, invalid_line, not_best_text,
@@ -17,11 +17,9 @@ use crate::told::uncovered_text;
 use catalog::Catalog;
 use certificate_check::check;
 use certificate_check::join_cover::Uncovered;
-use certificates::Certificate;
-use entry_reader::certificate_reader::CertFault;
-use entry_reader::read_certificate;
+use certificate_reader::{CertFault, read_certificate};
 use pg_base::Memory;
-use plan_check::{Reason, Verdict};
+use plan_check::{Certificate, Reason, Verdict};
 use sql_query::Prepared;
 use std::alloc::{AllocError, Global};
 

@@ -3,7 +3,7 @@
 ghost use Rattle.std.specs.Prelude.{◌≡◌, ◌<◌, ◌^◌, ◌++◌, ℕ, List, codes, false};
 ghost use Rattle.catalog.specs.Contents.{Contents};
 ghost use Rattle.sql_query.specs.Queries.{Query};
-ghost use Rattle.certificates.specs.Certificates.{Certificate};
+ghost use Rattle.plan_check.specs.Certificates.{Certificate};
 ghost use Rattle.check_reply.specs.Checked.{HasWords, IsCheckedText, IsReasonText, IsTableText, fault_text, is_uncovered, valid_line};
 ghost use Rattle.plan_check.specs.declared.verdict.Reason.{Reason};
 

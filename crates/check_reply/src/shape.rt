@@ -1,8 +1,8 @@
 //! What an entry says beside its numbers.
 
-use certificates::Node;
 use pathkeys::Keys;
 use pg_base::RelSet;
+use plan_check::Node;
 
 /// An entry without its numbers.
 #[derive(Drop)]

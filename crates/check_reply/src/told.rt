@@ -5,28 +5,27 @@ ghost use Rattle.std.specs.Fmt.{decimal};
 ghost use Rattle.plan_tree.specs.Plans.{Plan};
 ghost use Rattle.plan_tree.specs.Space.{IsBuilt};
 ghost use Rattle.sql_query.specs.WellBound.{IsWellBound};
-ghost use Rattle.certificates.specs.Certificates as forms;
-ghost use Rattle.certificates.specs.Views.{certificate, entry, node as seen};
-ghost use Rattle.table_texts.specs.certificate_text_HasText.{HasEntryLine, HasText};
+ghost use Rattle.plan_check.specs.Certificates as forms;
+ghost use Rattle.plan_check.specs.Views.{certificate, entry, node as seen};
+ghost use Rattle.certificate_laws.specs.certificate_text_HasText.{HasEntryLine, HasText};
 ghost use Rattle.check_reply.specs.Checked as texts;
 ghost use Rattle.check_reply.specs.Checked.{IsToldBy};
 ghost use Rattle.check_reply.specs.Telling.{IsShapeOf, entry_with};
 ghost use Rattle.plan_check.specs.Plains.{StandsForPlan};
 ghost use Rattle.plan_check.specs.Reasons.{AllRight};
 ghost use Rattle.plan_check.specs.Verdicts.{IsUncovered};
-ghost use Rattle.table_texts.specs.Arms.{HasArmsInOrs};
+ghost use Rattle.certificate_laws.specs.Arms.{HasArmsInOrs};
 
 use crate::shape::Shape;
 use crate::shapes::{bitmap_shape, index_shape, merge_shape, nest_shape, seq_shape};
 use catalog::Catalog;
 use certificate_check::entry_check::ByIndex;
 use certificate_check::join_cover::Uncovered;
-use certificates::{Certificate, Entry};
+use certificate_laws::certificate_text::entry_line;
 use pg_base::Memory;
-use plan_check::Plain;
+use plan_check::{Certificate, Entry, Plain};
 use sql_query::Prepared;
 use std::alloc::Global;
-use table_texts::certificate_text::entry_line;
 
 /// The entry of a candidate over the entries of a certificate, without its numbers. The error means want of memory.
 fn shape_of(

@@ -1,3 +1,4 @@
 pub mod PowerLemmas
 pub mod RisingLemmas
 pub mod CapLemmas
+pub mod WorseLemmas

@@ -1,5 +1,6 @@
 //! The rules of costs as arithmetic on numbers: rows, pages, entries and operators go in, costs come out. A cost unit
 //! is 1/400 of a sequential page.
+//! Prices of finished plans, and which is the better one. No number is cut.
 #![tactic(auto)]
 
 mod joins;
@@ -7,7 +8,9 @@ mod laws;
 mod pair;
 mod parameters;
 mod powers;
+mod prices;
 mod scans;
+mod sorts;
 
 pub use joins::{merge, nest, price, sort};
 pub use laws::{capped_children, least_powers, rising_costs};
@@ -17,6 +20,8 @@ pub use parameters::{
     OPERATOR, RANDOM_PAGE, SEQUENTIAL_PAGE, TUPLE,
 };
 pub use powers::log_up;
+pub use prices::{Price, better, is_no_worse};
 pub use scans::{
     bitmap_scan, btree_descent, heap_pages, index_entries, index_pages, index_scan, seq_scan,
 };
+pub use sorts::sort_total;

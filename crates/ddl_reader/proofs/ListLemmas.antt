@@ -5,9 +5,9 @@ use Rattle.sql_lex.specs.declared.tokens.Token.{Token}
 use Rattle.sql_grammar.specs.declared.class.Symbol.TheVariants.{Close, Comma}
 use Rattle.sql_grammar.specs.Terminals.{Terminal, t_mark}
 use Rattle.sql_grammar.specs.Syntax.{Mark}
-use Rattle.sql_cursor.specs.Reading.{BeginsNot}
-use Rattle.sql_cursor.specs.Lists.{parts_of, before_all, bound_each}
-use Rattle.sql_cursor.proofs.EachLemmas.{bound-err, bound-ok}
+use Rattle.expr_reader.specs.Reading.{BeginsNot}
+use Rattle.expr_reader.specs.Lists.{parts_of, before_all, bound_each}
+use Rattle.expr_reader.proofs.EachLemmas.{bound-err, bound-ok}
 
 -- a kind of list: each part of the syntax with its words and what is bound of it, and the words of further parts
 pub record Parts (T A B : Type 0) : Type 0 where

@@ -12,8 +12,8 @@ use Rattle.sql_grammar.specs.declared.class.Symbol.TheVariants.{Open}
 use Rattle.sql_grammar.specs.Terminals.{Terminal, Ident, token_of, t_mark, t_name}
 use Rattle.sql_grammar.specs.Syntax.{Mark}
 use Rattle.sql_grammar.specs.Faults.{bytes_of, fault_at}
-use Rattle.sql_cursor.specs.declared.cursor.Spelled.{Spelled}
-use Rattle.sql_cursor.specs.Reading.{BeginsName, spelled}
+use Rattle.expr_reader.specs.declared.cursor.Spelled.{Spelled}
+use Rattle.expr_reader.specs.Reading.{BeginsName, spelled}
 use Rattle.ddl_reader.specs.declared.ddl.Read.{Read}
 use Rattle.ddl_reader.specs.declared.columns.ColumnDef.{ColumnDef}
 use Rattle.ddl_reader.specs.Columns.{Bound}

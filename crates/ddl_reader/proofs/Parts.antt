@@ -5,8 +5,8 @@ use Rattle.sql_grammar.specs.declared.class.Word.TheVariants.{Not, Null}
 use Rattle.sql_grammar.specs.Terminals.{Terminal, Ident, t_key, t_name}
 use Rattle.sql_grammar.specs.Syntax.{Nulls, unwritten, not_null, nullable}
 use Rattle.sql_grammar.specs.Words.{words_of_nulls}
-use Rattle.sql_cursor.specs.declared.cursor.Spelled.{Spelled}
-use Rattle.sql_cursor.specs.Reading.{BeginsNot, BeginsName, spelled}
+use Rattle.expr_reader.specs.declared.cursor.Spelled.{Spelled}
+use Rattle.expr_reader.specs.Reading.{BeginsNot, BeginsName, spelled}
 use Rattle.ddl_reader.specs.Columns.{refuses_null}
 use Rattle.ddl_reader.specs.AsMeant.{ends_nulls}
 

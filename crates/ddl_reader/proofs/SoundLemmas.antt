@@ -33,7 +33,7 @@ use Rattle.ddl_reader.specs.Soundness.{IsSound}
 use Rattle.ddl_reader.proofs.TokenLaws.{starts-within}
 use Rattle.ddl_reader.proofs.ListLemmas.{each-same}
 use Rattle.ddl_reader.proofs.SoundStatisticsLemmas.{AreWithin, within-all, known-table, sizes-sound, column-sound, analysis-sound, places-within}
-use Rattle.sql_cursor.proofs.Named.{AreNamed, named-from}
+use Rattle.expr_reader.proofs.Named.{AreNamed, named-from}
 
 -- what bound columns have of those that are written
 module _ {A : Type 0} (ours : Bound → A) (theirs : Written → A)

@@ -26,12 +26,12 @@ use Rattle.catalog.specs.Contents.{Contents, IsTable, IsColumn, IsLawful, no_tab
 use Rattle.catalog.specs.Indexes.{type_at}
 use Rattle.catalog.specs.Statistics.{IsValueOf}
 use Rattle.catalog.specs.Tables.{table_named, column_named}
-use Rattle.sql_cursor.specs.Lists.{parts_of, bound_each}
+use Rattle.expr_reader.specs.Lists.{parts_of, bound_each}
 use Rattle.ddl_reader.specs.Statistics.{CommonWords, common_words, commons_of, bounds_of, common_value, known, number_of_32, number_of_64, start_of, start_of_lit, starts_of_common, places_of, sizes_reading, statistics_of, column_of_name, table_statistics, column_statistics_of, analysis, analysis_reading}
 use Rattle.ddl_reader.specs.Tables.{Reading, statistics_for}
 use Rattle.ddl_reader.specs.Soundness.{IsSound}
 use Rattle.ddl_reader.proofs.ListLemmas.{each-same}
-use Rattle.sql_cursor.proofs.EachLemmas.{each-holds}
+use Rattle.expr_reader.proofs.EachLemmas.{each-holds}
 use Rattle.ddl_reader.proofs.ValueLemmas.{typed-is}
 
 -- each of some words begins at `most` at last

@@ -5,8 +5,8 @@ use Rattle.pg_base.specs.declared.faults.Fault.{Fault}
 use Rattle.pg_base.specs.declared.numbers.TableNo.{TableNo}
 use Rattle.sql_grammar.specs.declared.class.Symbol.TheVariants.{Dot}
 use Rattle.sql_grammar.specs.Terminals.{Terminal, Ident, Said, t_mark}
-use Rattle.sql_cursor.specs.declared.cursor.Spelled.{Spelled}
-use Rattle.sql_cursor.specs.Reading.{BeginsName, BeginsNot, spelled}
+use Rattle.expr_reader.specs.declared.cursor.Spelled.{Spelled}
+use Rattle.expr_reader.specs.Reading.{BeginsName, BeginsNot, spelled}
 use Rattle.expr_reader.specs.Conditions.{next}
 use Rattle.catalog.specs.Contents.{Contents}
 use Rattle.catalog.specs.Tables.{table_named}

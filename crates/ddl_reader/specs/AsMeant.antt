@@ -11,7 +11,7 @@ use Rattle.sql_grammar.specs.Words.{words_of_coldef, words_of_columns, words_of_
 use Rattle.sql_grammar.specs.declared.class.Free.TheVariants.{Common as CommonWord, Histogram as HistogramWord}
 use Rattle.pg_value.specs.declared.value.SqlType.{SqlType}
 use Rattle.pg_value.specs.declared.value.Value.{Value}
-use Rattle.sql_cursor.specs.Reading.{numbered}
+use Rattle.expr_reader.specs.Reading.{numbered}
 use Rattle.expr_reader.specs.declared.value.Placed.{Placed}
 use Rattle.expr_reader.specs.Literals.{typed_value, place_of_lit}
 use Rattle.expr_reader.specs.Conditions.{next}

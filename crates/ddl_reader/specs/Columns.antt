@@ -10,7 +10,7 @@ use Rattle.sql_grammar.specs.Terminals.{token_of}
 use Rattle.sql_grammar.specs.Syntax.{Mark, Nulls, unwritten, not_null, nullable, ColDef, coldef}
 use Rattle.sql_grammar.specs.Faults.{bytes_of, fault_at}
 use Rattle.ddl_reader.specs.Types.{type_named}
-use Rattle.sql_cursor.specs.Lists.{parts_of, bound_each}
+use Rattle.expr_reader.specs.Lists.{parts_of, bound_each}
 
 -- a column as it is written: its name and its type's name, in small letters, each with its token, and whether NOT NULL stands
 pub record Written : Type 0 where

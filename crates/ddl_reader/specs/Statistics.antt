@@ -18,7 +18,7 @@ use Rattle.expr_reader.specs.Conditions.{next}
 use Rattle.catalog.specs.Contents.{Contents, table_at}
 use Rattle.catalog.specs.Indexes.{type_at}
 use Rattle.catalog.specs.Tables.{table_named, column_named}
-use Rattle.sql_cursor.specs.Lists.{parts_of, bound_each}
+use Rattle.expr_reader.specs.Lists.{parts_of, bound_each}
 use Rattle.ddl_reader.specs.Tables.{Reading, sizes_for, statistics_for, analysis_of}
 
 -- the number that a word writes, or the greatest of its field where it is more

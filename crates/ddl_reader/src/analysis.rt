@@ -12,8 +12,8 @@ use crate::ddl::{Ddl, Read};
 use crate::statistics::table_of;
 use crate::words::name;
 use catalog::Catalog;
+use expr_reader::Cursor;
 use pg_base::Refusal;
-use sql_cursor::Cursor;
 use std::alloc::Global;
 
 /// ANALYZE from the table's name on. An unknown table is refused (42P01) at its name.

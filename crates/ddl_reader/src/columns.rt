@@ -11,9 +11,9 @@ ghost use Rattle.ddl_reader.specs.AsMeant.{ends_nulls, words_of_body, IsAsMeant,
 
 use crate::types::type_named;
 use crate::words::{name, word_fault};
+use expr_reader::{Cursor, Spelled};
 use pg_base::{Code, Refusal};
 use pg_value::Column;
-use sql_cursor::{Cursor, Spelled};
 use sql_grammar::{Symbol, Word};
 use std::alloc::Global;
 

@@ -14,8 +14,8 @@ ghost use Rattle.ddl_reader.specs.Readings.{reading};
 use crate::ddl::{Ddl, Read};
 use crate::words::{name, quoted, word_fault};
 use catalog::Catalog;
+use expr_reader::{Cursor, Spelled};
 use pg_base::{Code, Refusal};
-use sql_cursor::{Cursor, Spelled};
 use std::alloc::Global;
 
 /// Data for the table of this name, which begin at the byte offset `start`. An unknown table is refused (42P01) at its name, and

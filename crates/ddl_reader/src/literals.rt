@@ -8,15 +8,14 @@ ghost use Rattle.sql_grammar.specs.Syntax.{Lit, Mark, Share, Common, Histogram};
 ghost use Rattle.sql_grammar.specs.Words.{words_of_lit, words_of_share, words_of_common, words_of_histogram};
 ghost use Rattle.expr_reader.specs.declared.value.Placed.{Placed};
 ghost use Rattle.ddl_reader.specs.declared.literals.CommonRead.{CommonRead};
-ghost use Rattle.sql_cursor.specs.Lists.{parts_of, bound_each};
+ghost use Rattle.expr_reader.specs.Lists.{parts_of, bound_each};
 ghost use Rattle.ddl_reader.specs.Statistics.{common_words, commons_of, bounds_of};
 ghost use Rattle.ddl_reader.specs.AsMeant.{IsAsMeant, ends_common, ends_histogram, words_of_shares_left, words_of_bounds_left, placed, common_placed};
 
 use crate::words::number;
-use expr_reader::{Placed, read_literal};
+use expr_reader::{Cursor, Number, Placed, read_literal};
 use pg_base::Refusal;
 use pg_value::SqlType;
-use sql_cursor::{Cursor, Number};
 use sql_grammar::{Free, Symbol};
 use std::alloc::Global;
 

@@ -19,9 +19,9 @@ ghost use Rattle.ddl_reader.specs.Readings.{reading};
 use crate::columns::{ColumnDef, columns};
 use crate::ddl::{Ddl, Read};
 use crate::words::{name, word_fault};
+use expr_reader::{Cursor, Spelled};
 use pg_base::{Code, Limit, MOST_COLUMNS, Refusal};
 use pg_value::Columns;
-use sql_cursor::{Cursor, Spelled};
 use std::alloc::Global;
 
 /// The table of this name with these columns.

@@ -12,10 +12,10 @@ use Rattle.pathkeys.specs.Keys.{Keys, covers, order_keys}
 use Rattle.plan_tree.specs.Keys.{keys_of}
 use Rattle.plan_tree.specs.Plans.{Plan, seq, index, index_only, bitmap, sort, nest, merge, is_sort, param_of, set_of}
 use Rattle.plan_tree.specs.Space.{IsEmpty, IsFinished, IsSameSet, MeetsOrder}
-use Rattle.certificates.specs.join_laws_WithinLemmas.{built-within}
-use Rattle.certificates.specs.Certificates.{Certificate, Entry, Side, finish_at, plan_at, plans_of, sorted_if, unfold_at}
-use Rattle.certificates.specs.Views.{entry}
-use Rattle.certificates.specs.declared.entry.Entry.{Entry as Entered}
+use Rattle.plan_check.specs.plan_laws_WithinLemmas.{built-within}
+use Rattle.plan_check.specs.Certificates.{Certificate, Entry, Side, finish_at, plan_at, plans_of, sorted_if, unfold_at}
+use Rattle.plan_check.specs.Views.{entry}
+use Rattle.plan_check.specs.declared.entry.Entry.{Entry as Entered}
 use Rattle.plan_check.specs.Beating.{IsRight}
 use Rattle.plan_check.specs.Reasons.{AllRight, AreRight, HasBest, IsBadBest}
 use Rattle.plan_check.specs.Verdicts.{AreWhole}

@@ -9,8 +9,8 @@ use Rattle.sql_query.specs.declared.window.Window.{Window}
 use Rattle.pathkeys.specs.Keys.{Keys}
 use Rattle.plan_tree.specs.Costs.{cost, estimate}
 use Rattle.plan_tree.specs.Plans.{Plan}
-use Rattle.certificates.specs.Certificates.{Certificate, Entry, Side, join_by, plan_at, plan_of, side_at, sorted_if}
-use Rattle.certificates.specs.Tables.{HasItsNumbers, HasItsPlan, IsEntryAt, IsStartup}
+use Rattle.plan_check.specs.Certificates.{Certificate, Entry, Side, join_by, plan_at, plan_of, side_at, sorted_if}
+use Rattle.plan_check.specs.Tables.{HasItsNumbers, HasItsPlan, IsEntryAt, IsStartup}
 use Rattle.plan_check.specs.Reasons.{AllRight, AreRight, IsBadNode, IsBadNumber, IsDifference, in_rows, in_startup, in_total}
 use Rattle.plan_check.specs.Verdicts.{IsReason}
 use Rattle.plan_check.specs.declared.verdict.Number.{Number}

@@ -8,3 +8,5 @@ pub mod OwnLemmas
 pub mod JudgeLemmas
 pub mod BestLemmas
 pub mod WorkLemmas
+pub mod TestedLemmas
+pub mod CostLemmas

@@ -9,7 +9,7 @@ use Rattle.pathkeys.specs.Keys.{Keys}
 use Rattle.plan_tree.specs.Keys.{keys_of}
 use Rattle.plan_tree.specs.Plans.{Plan, merge, set_of}
 use Rattle.plan_tree.specs.Space.{IsSameSet}
-use Rattle.certificates.specs.Certificates.{Entry, sorted_if}
+use Rattle.plan_check.specs.Certificates.{Entry, sorted_if}
 use Rattle.plan_check.specs.Beating.{IsRight, as_entry}
 use Rattle.plan_check.specs.Joining.{MayMerge}
 use Rattle.plan_check.proofs.MergeLemmas.{merge-built, side-set}

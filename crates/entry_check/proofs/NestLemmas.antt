@@ -10,7 +10,7 @@ use Rattle.sql_query.specs.Queries.{Query}
 use Rattle.pathkeys.specs.Keys.{Keys}
 use Rattle.plan_tree.specs.Plans.{Plan, nest, set_of}
 use Rattle.plan_tree.specs.Space.{IsSameSet}
-use Rattle.certificates.specs.Certificates.{Entry}
+use Rattle.plan_check.specs.Certificates.{Entry}
 use Rattle.plan_check.specs.Beating.{IsRight, as_entry}
 use Rattle.plan_check.specs.Joining.{MayNest}
 use Rattle.plan_check.proofs.NestLemmas.{nest-built}

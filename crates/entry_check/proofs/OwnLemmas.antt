@@ -11,8 +11,8 @@ use Rattle.plan_tree.specs.Plans.{Plan, merge}
 use Rattle.plan_tree.specs.Least.{IsAdmissible}
 use Rattle.plan_tree.specs.Space.{IsBuilt, IsMergeList}
 use Rattle.pathkeys.specs.Keys.{Keys}
-use Rattle.certificates.specs.Certificates.{Entry, sorted_if}
-use Rattle.certificates.specs.Tables.{HasItsPlan, IsStartup}
+use Rattle.plan_check.specs.Certificates.{Entry, sorted_if}
+use Rattle.plan_check.specs.Tables.{HasItsPlan, IsStartup}
 use Rattle.plan_check.specs.Beating.{IsRight}
 use Rattle.plan_check.proofs.MergeLemmas.{built-merge}
 use Rattle.entry_check.specs.Owning.{IsOwn}

@@ -20,12 +20,12 @@ use Rattle.plan_tree.specs.Space.{IsEmpty, IsSameSet}
 use Rattle.plan_tree.proofs.BoundLemmas.{startup-most}
 use Rattle.plan_tree.proofs.PathLemmas.{built-below}
 use Rattle.plan_tree.proofs.WindowLemmas.{path-cost, uncut-kept}
-use Rattle.certificates.specs.join_laws_WithinLemmas.{read-below}
-use Rattle.join_work.proofs.TestedLemmas.{reads-some}
-use Rattle.join_work.specs.Parts.{IsPart, IsReckoned}
-use Rattle.join_work.specs.declared.parts.Part.{Part}
-use Rattle.certificates.specs.Certificates.{Entry, sorted_if}
-use Rattle.certificates.specs.Tables.{IsStartup}
+use Rattle.plan_check.specs.plan_laws_WithinLemmas.{read-below}
+use Rattle.entry_check.proofs.TestedLemmas.{reads-some}
+use Rattle.entry_check.specs.Parts.{IsPart, IsReckoned}
+use Rattle.entry_check.specs.declared.work_parts.Part.{Part}
+use Rattle.plan_check.specs.Certificates.{Entry, sorted_if}
+use Rattle.plan_check.specs.Tables.{IsStartup}
 use Rattle.plan_check.specs.Beating.{IsRight}
 use Rattle.plan_check.proofs.BeatingLemmas.{as_path, path-numbers}
 use Rattle.entry_check.specs.Owning.{AreNumbersOf}

@@ -6,10 +6,10 @@ use Rattle.std.proofs.lemmas.List.{length-map, length-take, length-take-le, take
 use Rattle.std.proofs.lemmas.Option.{slice_get_past}
 use Rattle.catalog.specs.Contents.{Contents}
 use Rattle.sql_query.specs.Queries.{Query, width}
-use Rattle.certificates.specs.Certificates.{Certificate, Entry, plan_at, plan_of, plans_of, unfold_at}
-use Rattle.certificates.specs.Views.{entry}
-use Rattle.certificates.specs.declared.entry.Entry.{Entry as Entered}
-use Rattle.certificates.proofs.UnfoldLemmas.{at-lower, at-split, goes-on, made-at}
+use Rattle.plan_check.specs.Certificates.{Certificate, Entry, plan_at, plan_of, plans_of, unfold_at}
+use Rattle.plan_check.specs.Views.{entry}
+use Rattle.plan_check.specs.declared.entry.Entry.{Entry as Entered}
+use Rattle.plan_check.proofs.UnfoldLemmas.{at-lower, at-split, goes-on, made-at}
 use Rattle.plan_check.proofs.PlaceLemmas.{read-at}
 use Rattle.plan_check.specs.Reasons.{AreRight}
 use Rattle.entry_check.specs.Owning.{HasPlanAt, plans_before}

@@ -30,8 +30,8 @@ use Rattle.plan_tree.specs.Plans.{Plan, index, index_only, is_empty, is_sort, pa
 use Rattle.plan_tree.specs.Space.{IsBuilt, IsSameSet}
 use Rattle.plan_space.specs.Sorts.{sort_list}
 use Rattle.plan_space.proofs.SortLemmas.{few-plain}
-use Rattle.certificates.specs.Certificates.{Entry, relation_in}
-use Rattle.certificates.specs.Tables.{HasItsPlan}
+use Rattle.plan_check.specs.Certificates.{Entry, relation_in}
+use Rattle.plan_check.specs.Tables.{HasItsPlan}
 use Rattle.entry_check.specs.Owning.{AreNumbersOf, HasNone, HasOwn, IsOwn, tree_of}
 use Rattle.entry_check.specs.declared.numbers.Own.{Own}
 use Rattle.entry_check.specs.declared.scans.ByIndex.{ByIndex}

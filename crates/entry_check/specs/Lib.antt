@@ -1,7 +1,7 @@
 pub mod Owning
 pub mod Working
+pub mod Parts
 -- What callers name of the crates below.
-pub use Rattle.join_work.proofs.CostLemmas as join_work_CostLemmas
 pub use Rattle.plan_check.proofs.BeatingLemmas as plan_check_BeatingLemmas
 pub use Rattle.plan_check.specs.Beating as plan_check_Beating
 pub use Rattle.plan_check.specs.Reasons as plan_check_Reasons

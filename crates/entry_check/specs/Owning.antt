@@ -7,8 +7,8 @@ use Rattle.plan_tree.specs.Least.{IsAdmissible}
 use Rattle.plan_tree.specs.Plans.{Plan, index, index_only}
 use Rattle.plan_tree.specs.Space.{IsFinished}
 use Rattle.pathkeys.specs.Keys.{order_keys}
-use Rattle.certificates.specs.Certificates.{Certificate, Entry, Side, plan_at, plans_of, sorted_if, unfold_at}
-use Rattle.certificates.specs.Tables.{HasItsPlan, IsStartup}
+use Rattle.plan_check.specs.Certificates.{Certificate, Entry, Side, plan_at, plans_of, sorted_if, unfold_at}
+use Rattle.plan_check.specs.Tables.{HasItsPlan, IsStartup}
 use Rattle.plan_check.specs.Beating.{IsRight}
 use Rattle.entry_check.specs.declared.numbers.Own.{Own}
 use Rattle.entry_check.specs.declared.scans.ByIndex.{ByIndex}

@@ -5,9 +5,9 @@ ghost use Rattle.sql_query.specs.Queries.{width};
 ghost use Rattle.plan_tree.specs.Plans as plans;
 ghost use Rattle.plan_tree.specs.Reads.{IsOverTables};
 ghost use Rattle.plan_tree.specs.Views.{bits};
-ghost use Rattle.certificates.specs.Certificates.{join_by, plan_at, plan_of, relation_in, side_at};
-ghost use Rattle.certificates.specs.Views.{certificate, entry};
-ghost use Rattle.certificates.specs.Views as views;
+ghost use Rattle.plan_check.specs.Certificates.{join_by, plan_at, plan_of, relation_in, side_at};
+ghost use Rattle.plan_check.specs.Views.{certificate, entry};
+ghost use Rattle.plan_check.specs.Views as views;
 ghost use Rattle.plan_check.specs.Reasons.{AreRight};
 ghost use Rattle.entry_check.specs.Owning.{HasNone, HasOwn, HasPlanAt, plans_before};
 
@@ -15,8 +15,8 @@ use crate::joins::{Merging, own_merge, own_nest};
 use crate::numbers::Own;
 use crate::scans::{ByIndex, own_bitmap, own_index, own_seq, relation_of};
 use catalog::Catalog;
-use certificates::{Certificate, Entry, Node};
 use pg_base::IndexNo;
+use plan_check::{Certificate, Entry, Node};
 use plan_tree::BitTree;
 use sql_query::Prepared;
 

@@ -6,8 +6,8 @@ ghost use Rattle.plan_tree.specs.Costs as costs;
 ghost use Rattle.plan_tree.specs.Plans.{Plan};
 ghost use Rattle.plan_tree.specs.Reads.{IsOverTables};
 ghost use Rattle.sql_query.specs.declared.window.Window.{Window as Asked};
-ghost use Rattle.certificates.specs.Tables.{HasItsNumbers, IsStartup};
-ghost use Rattle.certificates.specs.Views.{certificate, entry};
+ghost use Rattle.plan_check.specs.Tables.{HasItsNumbers, IsStartup};
+ghost use Rattle.plan_check.specs.Views.{certificate, entry};
 ghost use Rattle.plan_check.specs.Reasons.{AllRight, AreRight, IsDifference};
 ghost use Rattle.plan_check.specs.Verdicts.{IsReason};
 ghost use Rattle.entry_check.specs.Owning.{AreNumbersOf};
@@ -15,8 +15,7 @@ ghost use Rattle.entry_check.specs.Owning.{AreNumbersOf};
 use crate::entries::own_at;
 use crate::numbers::Own;
 use catalog::Catalog;
-use certificates::{Certificate, Entry};
-use plan_check::{Number, Reason};
+use plan_check::{Certificate, Entry, Number, Reason};
 use sql_query::Prepared;
 
 /// Whether two startups are equal, where the query has a window; where it has none, they are not compared.

@@ -4,7 +4,7 @@ ghost use Rattle.std.specs.Prelude.{◌≡◌, ◌≤◌, ◌↔◌, IfNone, IfS
 ghost use Rattle.pg_base.specs.Sets.{has};
 ghost use Rattle.catalog.specs.Contents.{Contents};
 ghost use Rattle.cost_rules.specs.Costs.{IsEstimate, capped_pair};
-ghost use Rattle.join_work.specs.Parts.{IsPart, IsReckoned};
+ghost use Rattle.entry_check.specs.Parts.{IsPart, IsReckoned};
 ghost use Rattle.plan_tree.specs.Costs as costs;
 ghost use Rattle.plan_tree.specs.Paths.{kept_cost};
 ghost use Rattle.sql_query.specs.Queries.{Query};
@@ -14,8 +14,8 @@ ghost use Rattle.plan_tree.specs.Least.{IsAdmissible};
 ghost use Rattle.plan_tree.specs.Plans.{Plan, merge};
 ghost use Rattle.plan_tree.specs.Reads.{IsOverTables};
 ghost use Rattle.plan_tree.specs.Space.{IsBuilt, IsMergeList};
-ghost use Rattle.certificates.specs.Certificates.{sorted_if};
-ghost use Rattle.certificates.specs.Views.{entry};
+ghost use Rattle.plan_check.specs.Certificates.{sorted_if};
+ghost use Rattle.plan_check.specs.Views.{entry};
 ghost use Rattle.plan_check.specs.Beating.{IsRight, candidate};
 ghost use Rattle.plan_check.specs.Joining.{MayMerge};
 ghost use Rattle.entry_check.specs.Owning.{HasRight};
@@ -23,14 +23,13 @@ ghost use Rattle.entry_check.specs.Working.{IsMergeWork};
 
 use crate::numbers::numbers_of;
 use crate::parts::side_of;
+use crate::{Part, merge_operators, set_rows};
 use catalog::Catalog;
-use certificates::Entry;
 use cost_rules::Pair;
 use eq_classes::ClassNo;
-use join_work::{Part, merge_operators, set_rows};
 use path_cost::pairs;
 use pg_base::RelSet;
-use plan_check::{Candidate, begin_with};
+use plan_check::{Candidate, Entry, begin_with};
 use plan_tree::{classes_of, range_of};
 use sql_query::Prepared;
 

@@ -3,14 +3,14 @@
 ghost use Rattle.std.specs.Prelude.{◌≡◌, ◌<◌, ◌↔◌, IfNone, IfSome, IsTrue, Some, slice_get};
 ghost use Rattle.catalog.specs.Contents.{Contents};
 ghost use Rattle.cost_rules.specs.Costs.{capped_pair};
-ghost use Rattle.join_work.specs.Parts.{IsPart, IsReckoned};
+ghost use Rattle.entry_check.specs.Parts.{IsPart, IsReckoned};
 ghost use Rattle.plan_tree.specs.Costs as costs;
 ghost use Rattle.plan_tree.specs.Least.{IsAdmissible};
 ghost use Rattle.plan_tree.specs.Paths.{kept_cost};
 ghost use Rattle.plan_tree.specs.Plans.{Plan, nest};
 ghost use Rattle.plan_tree.specs.Reads.{IsOverTables};
 ghost use Rattle.plan_tree.specs.Space.{IsBuilt};
-ghost use Rattle.certificates.specs.Views.{entry};
+ghost use Rattle.plan_check.specs.Views.{entry};
 ghost use Rattle.plan_check.specs.Beating.{IsRight, candidate};
 ghost use Rattle.plan_check.specs.Joining.{MayNest};
 ghost use Rattle.entry_check.specs.Owning.{HasRight};
@@ -18,12 +18,11 @@ ghost use Rattle.entry_check.specs.Working.{AreGiven, AreNestOperators, IsNestWo
 
 use crate::numbers::numbers_of;
 use crate::parts::part_of;
+use crate::{Part, nest_operators, set_rows};
 use catalog::Catalog;
-use certificates::Entry;
 use cost_rules::Pair;
-use join_work::{Part, nest_operators, set_rows};
 use pg_base::RelSet;
-use plan_check::{Candidate, MOST_SETS};
+use plan_check::{Candidate, Entry, MOST_SETS};
 use sql_query::Prepared;
 
 /// Whether two entries may be the sides of a nested loop.

@@ -9,18 +9,17 @@ ghost use Rattle.plan_tree.specs.Plans.{Plan};
 ghost use Rattle.plan_tree.specs.Reads.{IsOverTables};
 ghost use Rattle.plan_tree.specs.Space.{IsEmpty};
 ghost use Rattle.sql_query.specs.Queries.{width};
-ghost use Rattle.join_work.specs.Parts.{IsPart, IsReckoned};
-ghost use Rattle.certificates.specs.Certificates.{sorted_if};
-ghost use Rattle.certificates.specs.Views.{entry};
+ghost use Rattle.entry_check.specs.Parts.{IsPart, IsReckoned};
+ghost use Rattle.plan_check.specs.Certificates.{sorted_if};
+ghost use Rattle.plan_check.specs.Views.{entry};
 ghost use Rattle.plan_check.specs.Beating.{IsRight};
 ghost use Rattle.entry_check.specs.Owning.{HasRight};
 
+use crate::{Part, sorted};
 use catalog::Catalog;
-use certificates::Entry;
 use cost_rules::Pair;
-use join_work::{Part, sorted};
 use pg_base::RelNo;
-use plan_check::counted;
+use plan_check::{Entry, counted};
 use plan_tree::range_of;
 use sql_query::Prepared;
 

@@ -16,19 +16,19 @@ ghost use Rattle.plan_tree.specs.Reads.{IsOverTables};
 ghost use Rattle.plan_tree.specs.Space.{IsBuilt, IsSameSet};
 ghost use Rattle.plan_tree.specs.Views.{bits};
 ghost use Rattle.sql_query.specs.Queries.{width};
-ghost use Rattle.certificates.specs.Certificates.{relation_in};
-ghost use Rattle.certificates.specs.Tables.{HasItsPlan};
-ghost use Rattle.certificates.specs.Views.{entry};
+ghost use Rattle.plan_check.specs.Certificates.{relation_in};
+ghost use Rattle.plan_check.specs.Tables.{HasItsPlan};
+ghost use Rattle.plan_check.specs.Views.{entry};
 ghost use Rattle.entry_check.specs.Owning.{IsOwn, tree_of};
 
 use crate::numbers::{Own, numbers_of};
+use crate::set_rows;
 use catalog::Catalog;
-use certificates::Entry;
 use eq_classes::ClassNo;
-use join_work::set_rows;
 use path_cost::rows_param;
 use pathkeys::index_key;
 use pg_base::{IndexNo, MOST_COLUMNS, RelNo, RelSet};
+use plan_check::Entry;
 use plan_space::{is_bitmap_scan, is_index_only_scan, is_index_scan};
 use plan_tree::{
     BitTree, bitmap_scan_cost, classes_of, index_scan_cost, kept_of, range_of, seq_scan_cost,

@@ -7,9 +7,9 @@ pub mod Node
 pub mod Good
 pub mod Reading
 -- What callers name of the crates below.
-pub use Rattle.join_laws.specs.Closed as join_laws_Closed
-pub use Rattle.order_laws.proofs.FinishedOrderLemmas as order_laws_FinishedOrderLemmas
-pub use Rattle.order_laws.specs.plan_laws_FinishedLemmas as plan_laws_FinishedLemmas
-pub use Rattle.order_laws.specs.plan_laws_WellBoundLemmas as plan_laws_WellBoundLemmas
+pub use Rattle.plan_laws.specs.Closed as plan_laws_Closed
+pub use Rattle.plan_laws.proofs.FinishedOrderLemmas as plan_laws_FinishedOrderLemmas
+pub use Rattle.plan_laws.proofs.FinishedLemmas as plan_laws_FinishedLemmas
+pub use Rattle.plan_laws.proofs.WellBoundLemmas as plan_laws_WellBoundLemmas
 pub use Rattle.scan_exec.specs.Coming as scan_exec_Coming
 pub use Rattle.scan_exec.specs.store_Kept as store_Kept

@@ -15,8 +15,7 @@ mod source;
 mod tuple;
 
 pub use laws::tuples_have_rows;
-pub use order_laws;
-pub use order_laws::plan_laws;
+pub use plan_laws;
 pub use rows::Rows;
 pub use running::execute;
 pub use scan_exec::store;

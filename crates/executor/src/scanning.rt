@@ -12,7 +12,7 @@ ghost use Rattle.plan_tree.specs.Views.{plan};
 ghost use Rattle.scan_exec.specs.Coming.{allowed, behind, coming, is_given, left, owed};
 ghost use Rattle.scan_exec.specs.Plans.{IsScan};
 ghost use Rattle.executor.specs.Drawn.{IsDrawable};
-ghost use Rattle.join_laws.specs.Closed.{is_scan};
+ghost use Rattle.plan_laws.specs.Closed.{is_scan};
 ghost use Rattle.executor.specs.EState.{IsOver, world_of};
 ghost use Rattle.executor.specs.Node.{IsScanning, scanning_left};
 

@@ -17,7 +17,7 @@ use Rattle.plan_tree.specs.Least.{IsAdmissible}
 use Rattle.plan_tree.specs.Space.{IsBuilt}
 use Rattle.plan_tree.proofs.BoundLemmas.{merge-most, nest-most, sort-most}
 use Rattle.plan_tree.proofs.CostableLemmas.{built-costable}
-use Rattle.plan_laws.specs.class_laws_JoiningLemmas.{joining_classes}
+use Rattle.plan_laws.proofs.JoiningLemmas.{joining_classes}
 use Rattle.plan_laws.proofs.ByClassesLemmas.{IsByClasses, plain_by_classes, side_by_classes, top_by_classes}
 use Rattle.explain.specs.Lines.{HasIndexes, HasLine, HasLines, HaveIndexes, IsShown}
 use Rattle.explain.specs.Texts.{bits_text, node_line, text_at}

@@ -23,14 +23,14 @@ use Rattle.eq_classes.proofs.EqualLemmas.{family_self}
 use Rattle.eq_classes.proofs.ListLemmas.{IsIn, all_at, any_from, found_in, in_filter_map, in_from_contains}
 use Rattle.eq_classes.proofs.SoundLemmas.{class_sound, in_member, member_in}
 use Rattle.eq_classes.proofs.WrittenLemmas.{in_typed}
-use Rattle.class_laws.proofs.PartLemmas.{apart_at}
+use Rattle.plan_laws.proofs.PartLemmas.{apart_at}
 use Rattle.sql_query.specs.Queries.{Query, all_of_query, width}
 use Rattle.sql_query.specs.WellBound.{IsColumnOf, IsWellBound, given_with}
 use Rattle.pathkeys.specs.Keys.{Keys, class_of, is_constant, once, order_class, order_keys}
-use Rattle.order_laws.specs.sort_rows_ColumnLemmas.{member_is}
-use Rattle.order_laws.proofs.IndexOrderLemmas.{class_found}
-use Rattle.order_laws.proofs.ItemLemmas.{default_of, same_family, sample_fits}
-use Rattle.order_laws.proofs.KeyLemmas.{find_more}
+use Rattle.plan_laws.specs.sort_rows_ColumnLemmas.{member_is}
+use Rattle.plan_laws.proofs.IndexOrderLemmas.{class_found}
+use Rattle.plan_laws.proofs.ItemLemmas.{default_of, same_family, sample_fits}
+use Rattle.plan_laws.proofs.KeyLemmas.{find_more}
 use Rattle.explain.specs.Texts.{column_text, direction_text, family_text, key_text, keys_text, with_commas, member_text}
 use Rattle.explain_laws.proofs.NameLemmas.{alias-name, alias-same, column-name, column-same, relation-table}
 use Rattle.explain_laws.proofs.SplitLemmas.{split, stops, word}

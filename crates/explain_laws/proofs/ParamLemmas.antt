@@ -23,7 +23,7 @@ use Rattle.index_match.specs.Conditions.{index_conditions}
 use Rattle.index_match.specs.Numbered.{has_number}
 use Rattle.sql_query.specs.Queries.{Query, all_of_query, width}
 use Rattle.sql_query.specs.WellBound.{IsWellBound}
-use Rattle.order_laws.specs.query_laws_OverLemmas.{clauses_over}
+use Rattle.plan_laws.proofs.OverLemmas.{clauses_over}
 use Rattle.plan_tree.specs.Bitmaps.{uses}
 use Rattle.plan_tree.specs.Plans.{BitTree}
 use Rattle.plan_tree.specs.Space.{IsBitmapScan, IsIndexScan}

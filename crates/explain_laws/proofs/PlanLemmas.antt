@@ -22,9 +22,9 @@ use Rattle.plan_tree.specs.Costs.{asked, cost, estimate, price, query_rows}
 use Rattle.plan_tree.specs.Plans.{Plan, seq, index, index_only, bitmap, sort, nest, merge, is_sort, set_of}
 use Rattle.plan_tree.specs.Space.{HasKeys, IsBuilt, IsSameSet, MeetsOrder}
 use Rattle.plan_tree.proofs.CostableLemmas.{built-costable}
-use Rattle.order_laws.proofs.KeyLemmas.{AreKeys, list_keys, wider}
+use Rattle.plan_laws.proofs.KeyLemmas.{AreKeys, list_keys, wider}
 use Rattle.explain.specs.Lines.{IsShown}
-use Rattle.class_laws.proofs.JoiningLemmas.{joining_classes}
+use Rattle.plan_laws.proofs.JoiningLemmas.{joining_classes}
 use Rattle.explain.specs.Texts.{aliases_in, bits_text, explained_text, first_depth, lead, line_by, numbers_text, plan_text, rows_behind, scanned_text, text_at, title, window_text}
 use Rattle.explain_laws.proofs.BitLemmas.{IsShallow, IsTreeTold, bits-split, line-shallow, shallow-end, shallow-more, tree-told}
 use Rattle.explain_laws.proofs.ClassLemmas.{AreShownKeys, keys-split, order-shown}

@@ -1,3 +1,3 @@
 -- What callers name of the crates below.
-pub use Rattle.order_laws.proofs.IndexOrderLemmas as order_laws_IndexOrderLemmas
-pub use Rattle.order_laws.proofs.KeyLemmas as order_laws_KeyLemmas
+pub use Rattle.plan_laws.proofs.IndexOrderLemmas as plan_laws_IndexOrderLemmas
+pub use Rattle.plan_laws.proofs.KeyLemmas as plan_laws_KeyLemmas

@@ -15,8 +15,8 @@ use Rattle.sql_grammar.specs.Syntax.{Expr as ExprTree, Neg, negated, plain, Col,
 use Rattle.sql_grammar.specs.Unique.{ends_atom, is_parens, front, tail}
 use Rattle.sql_grammar.specs.Words.{words_of_expr, words_of_neg, words_of_atom, words_of_operand, words_of_col}
 use Rattle.sql_grammar.proofs.ExprTrees.{tested}
-use Rattle.sql_cursor.specs.declared.cursor.Operator.{Operator}
-use Rattle.sql_cursor.specs.Reading.{BeginsNot, BeginsOperator, BeginsNoOperator, operator_said}
+use Rattle.expr_reader.specs.declared.cursor.Operator.{Operator}
+use Rattle.expr_reader.specs.Reading.{BeginsNot, BeginsOperator, BeginsNoOperator, operator_said}
 use Rattle.expr_reader.specs.declared.written.Literal.{Literal}
 use Rattle.expr_reader.specs.declared.written.Literal.TheVariants.{Constant as ConstantOf}
 use Rattle.expr_reader.specs.declared.written.Side.TheVariants.{Column, Literal as LiteralSide}

@@ -8,3 +8,10 @@ pub mod EndLemmas
 pub mod TypedLemmas
 pub mod StepLemmas
 pub mod PartedLemmas
+pub mod Names
+pub mod Next
+pub mod Named
+pub mod Tokens
+pub mod SortLemmas
+pub mod EachLemmas
+pub mod SliceLemmas

@@ -10,8 +10,8 @@ use Rattle.sql_grammar.specs.Terminals.{Terminal, Ident, t_mark, t_name, token_o
 use Rattle.sql_grammar.specs.Syntax.{Col, bare, qualified, Operand, column}
 use Rattle.sql_grammar.specs.Unique.{token_in}
 use Rattle.sql_grammar.specs.Words.{words_of_col}
-use Rattle.sql_cursor.specs.declared.cursor.Spelled.{Spelled}
-use Rattle.sql_cursor.specs.Reading.{BeginsName, BeginsNot, spelled}
+use Rattle.expr_reader.specs.declared.cursor.Spelled.{Spelled}
+use Rattle.expr_reader.specs.Reading.{BeginsName, BeginsNot, spelled}
 use Rattle.expr_reader.specs.declared.found.Found.{Found}
 use Rattle.expr_reader.specs.declared.found.Found.TheVariants.{One, NoTable, NoColumn, Many}
 use Rattle.expr_reader.specs.declared.written.Side.{Side}

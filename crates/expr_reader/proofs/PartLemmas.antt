@@ -20,7 +20,7 @@ use Rattle.sql_grammar.specs.Syntax.{Expr, either_of, Ors, no_or, or_conj, Conj,
 use Rattle.sql_grammar.specs.Unique.{ends_atom, ends_conj, ends_expr}
 use Rattle.sql_grammar.specs.Words.{words_of_expr, words_of_ors, words_of_conj, words_of_ands, words_of_neg}
 use Rattle.sql_grammar.proofs.ExprTrees.{ands-end, ors-end, tested}
-use Rattle.sql_cursor.specs.Reading.{BeginsNot}
+use Rattle.expr_reader.specs.Reading.{BeginsNot}
 use Rattle.expr_reader.specs.Conditions.{next, then_parts, or_of, and_of, meaning_of_expr, meaning_of_ors, meaning_of_conj, meaning_of_ands, meaning_of_neg}
 use Rattle.expr_reader.specs.Scope.{Scope}
 

@@ -13,7 +13,7 @@ use Rattle.sql_lex.specs.declared.tokens.Token.{Token}
 use Rattle.sql_grammar.specs.Terminals.{Said}
 use Rattle.sql_grammar.specs.Faults.{fault_at}
 use Rattle.sql_grammar.specs.Syntax.{Expr, either_of, Ors, no_or, or_conj, Conj, both_of, Ands, no_and, and_neg, Neg, negated, plain, Atom, parens, compare, is_null, is_not_null, column_alone, constant_alone}
-use Rattle.sql_cursor.specs.Operators.{operator_of}
+use Rattle.expr_reader.specs.Operators.{operator_of}
 use Rattle.expr_reader.specs.Parted.{HasParts, HaveParts}
 use Rattle.expr_reader.specs.Scope.{Scope}
 use Rattle.expr_reader.specs.Conditions.{next, column_of, place_of_col, Side, own_type, type_beside, operand_of, operated, compare_as, compare_sides, flag_column, then_parts, or_of, and_of, side_of, meaning_of_expr, meaning_of_ors, meaning_of_conj, meaning_of_ands, meaning_of_neg, meaning_of_atom}

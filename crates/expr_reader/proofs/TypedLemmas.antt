@@ -28,7 +28,7 @@ use Rattle.sql_lex.specs.declared.tokens.Token.{Token}
 use Rattle.sql_grammar.specs.Terminals.{Said, token_of}
 use Rattle.sql_grammar.specs.Faults.{bytes_of, fault_at}
 use Rattle.sql_grammar.specs.Syntax.{Col, bare, qualified, yes, no, unknown, Lit, number, negative, quoted, constant, Operand as OperandTree, column, literal, Expr, either_of, Ors, no_or, or_conj, Conj, both_of, Ands, no_and, and_neg, Neg, negated, plain, Atom, parens, compare as compareTree, is_null, is_not_null, column_alone, constant_alone}
-use Rattle.sql_cursor.specs.Operators.{operator_of}
+use Rattle.expr_reader.specs.Operators.{operator_of}
 use Rattle.expr_reader.specs.declared.found.Found.{Found}
 use Rattle.expr_reader.specs.declared.found.Found.TheVariants.{One, NoTable, NoColumn, Many}
 use Rattle.expr_reader.specs.Scope.{Scope, look_up}

@@ -4,3 +4,7 @@ pub mod Conditions
 pub mod Reads
 pub mod Written
 pub mod Parted
+pub mod Reading
+pub mod Operators
+pub mod Lists
+pub mod Sorts

@@ -7,7 +7,7 @@ use Rattle.sql_lex.specs.declared.tokens.Token.{Token}
 use Rattle.sql_grammar.specs.declared.class.Word.TheVariants.{Not, Null}
 use Rattle.sql_grammar.specs.Terminals.{Terminal, Said, t_key}
 use Rattle.sql_grammar.specs.Syntax.{Lit, number, negative, quoted, constant, Operand}
-use Rattle.sql_cursor.specs.Reading.{numbered}
+use Rattle.expr_reader.specs.Reading.{numbered}
 use Rattle.expr_reader.specs.declared.written.Literal.{Literal}
 use Rattle.expr_reader.specs.declared.written.Literal.TheVariants.{Whole, Quoted, Constant as ConstantOf}
 use Rattle.expr_reader.specs.declared.written.Side.{Side as SideRead}

@@ -3,19 +3,19 @@
 ghost use Rattle.std.specs.Prelude.{◌≡◌, Option};
 ghost use Rattle.pg_expr.specs.View.{cond};
 ghost use Rattle.sql_grammar.specs.Terminals.{Said};
-ghost use Rattle.sql_cursor.specs.Reading.{operator_said};
+ghost use Rattle.expr_reader.specs.Reading.{operator_said};
 ghost use Rattle.expr_reader.specs.Conditions.{Side as SideTree, own_type as own_type_of, type_beside as type_beside_of, operand_of as operand_of_side, operated as operated_of, compare_sides};
 ghost use Rattle.expr_reader.specs.Literals.{type_of_lit};
 ghost use Rattle.expr_reader.specs.Reads.{seen_as};
 ghost use Rattle.expr_reader.specs.Written.{side_read};
 
+use crate::Operator;
 use crate::value::literal_value;
 use crate::written::{Literal, Side};
 use opfamily::operator_exists;
 use pg_base::{Code, Fault};
 use pg_expr::{Expr, Operand};
 use pg_value::{SqlType, Truth};
-use sql_cursor::Operator;
 use sql_grammar::fault_at;
 use std::alloc::Global;
 

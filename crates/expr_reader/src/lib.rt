@@ -1,8 +1,11 @@
 //! Reading conditions: the value of an expression of a statement over the visible columns, or its first fault (PostgreSQL
 //! manual, chapters Value Expressions and Type Conversion).
+//! A cursor over the words of a statement: the words that are left, with their places, read from the left.
 #![tactic(auto)]
 
 mod comparison;
+mod cursor;
+mod cursor_laws;
 mod expr;
 mod found;
 mod laws;
@@ -10,12 +13,17 @@ mod literal;
 mod operand;
 mod read;
 mod scope;
+mod sort;
 mod value;
+mod values;
 mod written;
 
+pub use cursor::{Cursor, Number, Operator, Spelled};
+pub use cursor_laws::names_among_words;
 pub use found::Found;
 pub use laws::{meanings_are_bound, meanings_have_parts};
 pub use operand::{found_column, take_column};
 pub use read::{read_expr, take_expr};
 pub use scope::Scope;
+pub use sort::{descending, nulls_first};
 pub use value::{Placed, read_literal};

@@ -7,10 +7,10 @@ ghost use Rattle.sql_grammar.specs.Words.{words_of_lit, constant_word};
 ghost use Rattle.expr_reader.specs.Conditions.{truth_of_constant};
 ghost use Rattle.expr_reader.specs.Written.{literal_of, whole as whole_literal};
 
+use crate::Cursor;
 use crate::written::Literal;
 use pg_base::Memory;
 use pg_value::Truth;
-use sql_cursor::Cursor;
 use sql_grammar::{Symbol, Word};
 use sql_lex::Token;
 use std::alloc::Global;

@@ -10,13 +10,13 @@ ghost use Rattle.expr_reader.specs.Reads.{Reads};
 ghost use Rattle.expr_reader.specs.Scope.{columns_of};
 ghost use Rattle.expr_reader.specs.Written.{side_meant};
 
+use crate::Cursor;
 use crate::found::Found;
 use crate::literal::literal;
 use crate::scope::Scope;
 use crate::written::Side;
 use pg_base::{Code, Fault, Refusal};
 use pg_expr::ColRef;
-use sql_cursor::Cursor;
 use sql_grammar::{Class, Symbol, fault_at};
 use sql_lex::Token;
 use std::alloc::Global;

@@ -14,11 +14,11 @@ ghost use Rattle.sql_grammar.specs.Words.{words_of_expr};
 ghost use Rattle.expr_reader.specs.Conditions.{meaning_of_expr};
 ghost use Rattle.expr_reader.specs.Reads.{Reads, IsReadAs};
 
+use crate::Cursor;
 use crate::expr::disjunction;
 use crate::scope::Scope;
 use pg_base::Refusal;
 use pg_expr::Expr;
-use sql_cursor::Cursor;
 use sql_lex::Tokens;
 use std::alloc::Global;
 

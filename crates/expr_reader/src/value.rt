@@ -14,9 +14,9 @@ ghost use Rattle.expr_reader.specs.Written.{literal_of};
 
 use crate::literal::literal;
 use crate::written::Literal;
+use crate::{Cursor, Spelled};
 use pg_base::{Code, Fault, Refusal};
 use pg_value::{FieldFault, SqlType, Truth, Value, read_value, signed_value};
-use sql_cursor::{Cursor, Spelled};
 use sql_grammar::fault_at;
 use sql_lex::Token;
 use std::alloc::Global;

@@ -1,8 +1,8 @@
 //! Parts of a comparison as they are read.
 
+use crate::Spelled;
 use pg_expr::ColRef;
 use pg_value::{SqlType, Truth};
-use sql_cursor::Spelled;
 use sql_lex::Token;
 
 /// A literal.

@@ -8,12 +8,12 @@ use Rattle.plan_tree.specs.Paths.{Path}
 use Rattle.plan_tree.specs.Views.{path}
 use Rattle.sql_query.specs.Grouped.{GroupedQuery}
 use Rattle.sql_query.specs.WellBound.{IsWellBound}
-use Rattle.group_tuples.specs.declared.form.Form.{Form}
-use Rattle.group_tuples.specs.declared.form.Form.TheVariants.{Sorted, Hashed}
-use Rattle.group_costs.specs.Choice.{input_of}
-use Rattle.group_costs.specs.declared.task.GroupPlan.{GroupPlan}
-use Rattle.group_costs.specs.declared.task.GroupTask.{GroupTask}
-use Rattle.group_plans.specs.GroupPlans.{AreInputs, GroupQuery, IsBestOf, IsLeastGroupPlan, IsTaskOf}
+use Rattle.group_values.specs.declared.form.Form.{Form}
+use Rattle.group_values.specs.declared.form.Form.TheVariants.{Sorted, Hashed}
+use Rattle.group_values.specs.Choice.{input_of}
+use Rattle.group_values.specs.declared.task.GroupPlan.{GroupPlan}
+use Rattle.group_values.specs.declared.task.GroupTask.{GroupTask}
+use Rattle.group_explain.specs.GroupPlans.{AreInputs, GroupQuery, IsBestOf, IsLeastGroupPlan, IsTaskOf}
 use Rattle.group_query.specs.Grouping.{IsWellGrouped, group_items}
 use Rattle.group_explain.specs.Plans.{HasNoGroupPlan, IsChosen, input_base, over_base}
 use Rattle.group_explain.specs.Texts.{group_query}

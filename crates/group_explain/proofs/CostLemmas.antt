@@ -10,11 +10,11 @@ use Rattle.plan_tree.specs.Least.{IsAdmissible}
 use Rattle.plan_tree.specs.Paths.{IsFinishedPath}
 use Rattle.plan_tree.specs.Plans.{Plan}
 use Rattle.plan_tree.specs.Views.{path}
-use Rattle.group_tuples.specs.declared.form.Form.{Form}
-use Rattle.group_costs.specs.GroupCosts.{group_cost, group_total, groups_of, sorts_after}
-use Rattle.group_costs.specs.declared.task.GroupTask.{GroupTask}
-use Rattle.group_costs.proofs.CostLemmas.{total-input}
-use Rattle.group_plans.specs.GroupPlans.{plan_total}
+use Rattle.group_values.specs.declared.form.Form.{Form}
+use Rattle.group_values.specs.GroupCosts.{group_cost, group_total, groups_of, sorts_after}
+use Rattle.group_values.specs.declared.task.GroupTask.{GroupTask}
+use Rattle.group_values.proofs.CostLemmas.{total-input}
+use Rattle.group_explain.specs.GroupPlans.{plan_total}
 use Rattle.group_explain.specs.Plans.{IsReady, input_base}
 use Rattle.group_explain.specs.Texts.{group_query, input_total}
 use Rattle.group_explain.specs.declared.chosen.Chosen.{Chosen}

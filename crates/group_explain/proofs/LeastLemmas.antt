@@ -10,13 +10,13 @@ use Rattle.plan_tree.specs.Paths.{IsFinishedPath, Path}
 use Rattle.plan_tree.specs.Plans.{Plan}
 use Rattle.plan_tree.specs.Space.{IsFinished}
 use Rattle.plan_tree.specs.Views.{path}
-use Rattle.group_tuples.specs.declared.form.Form.{Form}
-use Rattle.group_tuples.specs.declared.form.Form.TheVariants.{Sorted, Hashed}
-use Rattle.group_costs.specs.Choice.{input_of}
-use Rattle.group_costs.specs.declared.task.GroupPlan.{GroupPlan}
-use Rattle.group_costs.specs.declared.task.GroupTask.{GroupTask}
-use Rattle.group_costs.proofs.CostLemmas.{total-input, total-rises}
-use Rattle.group_plans.specs.GroupPlans.{AreInputs, GroupQuery, IsBestOf, IsGroupPlan, IsLeastOf, IsTaskOf, input_query, plan_total}
+use Rattle.group_values.specs.declared.form.Form.{Form}
+use Rattle.group_values.specs.declared.form.Form.TheVariants.{Sorted, Hashed}
+use Rattle.group_values.specs.Choice.{input_of}
+use Rattle.group_values.specs.declared.task.GroupPlan.{GroupPlan}
+use Rattle.group_values.specs.declared.task.GroupTask.{GroupTask}
+use Rattle.group_values.proofs.CostLemmas.{total-input, total-rises}
+use Rattle.group_explain.specs.GroupPlans.{AreInputs, GroupQuery, IsBestOf, IsGroupPlan, IsLeastOf, IsTaskOf, input_query, plan_total}
 use Rattle.group_query.specs.Grouping.{IsWellGrouped, group_items}
 use Rattle.group_explain.specs.Plans.{IsChosen}
 use Rattle.group_explain.specs.Texts.{group_query}

@@ -6,3 +6,6 @@ pub mod CostLemmas
 pub mod TextLemmas
 pub mod TaskLemmas
 pub mod ReplyLemmas
+pub mod GroupedPlanLemmas
+pub mod PlanTaskLemmas
+pub mod DistinctLemmas

@@ -6,11 +6,11 @@ use Rattle.cost_rules.specs.Costs.{pair, sort_cost}
 use Rattle.cost_rules.specs.declared.parameters.TheConstants.{MOST_COST, OPERATOR, TUPLE}
 use Rattle.plan_tree.specs.Costs.{cost}
 use Rattle.plan_tree.specs.Plans.{Plan}
-use Rattle.group_tuples.specs.declared.form.Form.{Form}
-use Rattle.group_tuples.specs.declared.form.Form.TheVariants.{Sorted, Hashed}
-use Rattle.group_costs.specs.GroupCosts.{group_total, is_offered, product, row_tests, sorts_after}
-use Rattle.group_costs.specs.declared.task.GroupTask.{GroupTask}
-use Rattle.group_plans.specs.GroupPlans.{GroupQuery, IsGroupPlan, IsTaskOf, input_query}
+use Rattle.group_values.specs.declared.form.Form.{Form}
+use Rattle.group_values.specs.declared.form.Form.TheVariants.{Sorted, Hashed}
+use Rattle.group_values.specs.GroupCosts.{group_total, is_offered, product, row_tests, sorts_after}
+use Rattle.group_values.specs.declared.task.GroupTask.{GroupTask}
+use Rattle.group_explain.specs.GroupPlans.{GroupQuery, IsGroupPlan, IsTaskOf, input_query}
 use Rattle.sql_query.specs.Grouped.{GroupedQuery}
 use Rattle.group_explain.specs.Plans.{HasNoGroupPlan}
 use Rattle.group_explain.specs.Texts.{group_query}

@@ -19,7 +19,7 @@ use Rattle.plan_tree.specs.Space.{IsSameSet}
 use Rattle.sort_rows.proofs.ColumnLemmas.{member_is}
 use Rattle.sql_query.specs.Queries.{Query, all_of_query}
 use Rattle.sql_query.specs.WellBound.{IsColumnOf, IsWellBound}
-use Rattle.group_plans.specs.GroupPlans.{distinct_in, distinct_of}
+use Rattle.group_explain.specs.GroupPlans.{distinct_in, distinct_of}
 
 -- a key is a class
 pub key-class : (ks : List ClassNo) (n most : ℕ) (d : ClassNo) → n < length ks → All (λ m. m < most) (class_numbers ks) → (get_or ks n d).0 < most

@@ -15,11 +15,11 @@ use Rattle.plan_tree.specs.Plans.{Plan}
 use Rattle.plan_tree.specs.Views.{path}
 use Rattle.sql_query.specs.Grouped.{GroupedQuery}
 use Rattle.sql_query.specs.Queries.{all_of_query, in_order_of}
-use Rattle.group_tuples.specs.declared.form.Form.{Form}
-use Rattle.group_costs.specs.GroupCosts.{group_cost}
-use Rattle.group_costs.specs.declared.task.GroupPlan.{GroupPlan}
-use Rattle.group_costs.specs.declared.task.GroupTask.{GroupTask}
-use Rattle.group_plans.specs.GroupPlans.{group_keys, line_keys}
+use Rattle.group_values.specs.declared.form.Form.{Form}
+use Rattle.group_values.specs.GroupCosts.{group_cost}
+use Rattle.group_values.specs.declared.task.GroupPlan.{GroupPlan}
+use Rattle.group_values.specs.declared.task.GroupTask.{GroupTask}
+use Rattle.group_explain.specs.GroupPlans.{group_keys, line_keys}
 use Rattle.group_explain.specs.Plans.{IsReady, input_base, over_base}
 use Rattle.group_explain.specs.Texts.{all_keys_text, form_name, group_plan_text, group_query, group_title, input_depth, input_total, lines_above, sort_line, title_by}
 use Rattle.group_explain.specs.declared.chosen.Chosen.{Chosen}

@@ -1,8 +1,7 @@
 pub mod Texts
 pub mod Plans
+pub mod GroupPlans
 -- What callers name of the crates below.
-pub use Rattle.reply.specs.explain_Texts as explain_Texts
-pub use Rattle.group_plans.specs.GroupPlans as group_plans_GroupPlans
 pub use Rattle.reply.proofs.DrawingLemmas as reply_DrawingLemmas
 pub use Rattle.reply.proofs.PuttingLemmas as reply_PuttingLemmas
 pub use Rattle.reply.proofs.ReplyLemmas as reply_ReplyLemmas
@@ -20,3 +19,4 @@ pub use Rattle.reply.specs.declared.stop.Broken as reply_stop_Broken
 pub use Rattle.reply.specs.declared.stop.Broken.TheVariants as reply_stop_Broken_TheVariants
 pub use Rattle.reply.specs.declared.stop.Stop as reply_stop_Stop
 pub use Rattle.reply.specs.declared.stop.Stop.TheVariants as reply_stop_Stop_TheVariants
+pub use Rattle.reply.specs.explain_Texts as explain_Texts

@@ -7,11 +7,11 @@ use Rattle.sql_query.specs.WellBound.{IsWellBound}
 use Rattle.plan_tree.specs.Paths.{IsFinishedPath}
 use Rattle.plan_tree.specs.Plans.{Plan}
 use Rattle.plan_tree.specs.Views.{path}
-use Rattle.group_tuples.specs.declared.form.Form.{Form}
-use Rattle.group_costs.specs.GroupCosts.{IsTask}
-use Rattle.group_costs.specs.declared.task.GroupPlan.{GroupPlan}
-use Rattle.group_costs.specs.declared.task.GroupTask.{GroupTask}
-use Rattle.group_plans.specs.GroupPlans.{IsGroupPlan, IsLeastOf, IsTaskOf, input_query}
+use Rattle.group_values.specs.declared.form.Form.{Form}
+use Rattle.group_values.specs.GroupCosts.{IsTask}
+use Rattle.group_values.specs.declared.task.GroupPlan.{GroupPlan}
+use Rattle.group_values.specs.declared.task.GroupTask.{GroupTask}
+use Rattle.group_explain.specs.GroupPlans.{IsGroupPlan, IsLeastOf, IsTaskOf, input_query}
 use Rattle.reply.specs.Effort.{exactly}
 use Rattle.reply.specs.Replies.{Reply}
 use Rattle.group_explain.specs.Texts.{group_plan_text, group_query}

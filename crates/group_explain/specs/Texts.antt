@@ -10,12 +10,12 @@ use Rattle.sql_query.specs.Grouped.{GroupedQuery}
 use Rattle.sql_query.specs.Queries.{all_of_query}
 use Rattle.group_query.specs.Grouping.{group_items}
 use Rattle.group_query.specs.Shapes.{calls_of}
-use Rattle.group_tuples.specs.declared.form.Form.{Form}
-use Rattle.group_tuples.specs.declared.form.Form.TheVariants.{Sorted, Hashed}
-use Rattle.group_costs.specs.declared.task.GroupPlan.{GroupPlan}
-use Rattle.group_costs.specs.declared.task.GroupTask.{GroupTask}
-use Rattle.group_costs.specs.GroupCosts.{group_cost}
-use Rattle.group_plans.specs.GroupPlans.{GroupQuery, group_keys, input_query, line_keys}
+use Rattle.group_values.specs.declared.form.Form.{Form}
+use Rattle.group_values.specs.declared.form.Form.TheVariants.{Sorted, Hashed}
+use Rattle.group_values.specs.declared.task.GroupPlan.{GroupPlan}
+use Rattle.group_values.specs.declared.task.GroupTask.{GroupTask}
+use Rattle.group_values.specs.GroupCosts.{group_cost}
+use Rattle.group_explain.specs.GroupPlans.{GroupQuery, group_keys, input_query, line_keys}
 
 -- what is grouped, as plans that group see it
 abbrev pub group_query : GroupedQuery → GroupQuery

@@ -1,6 +1,6 @@
 //! The plan that is chosen for a grouped query.
 
-use group_costs::{GroupPlan, GroupTask};
+use group_values::{GroupPlan, GroupTask};
 use plan_tree::Path;
 
 /// A plan that groups, by which a grouped query is answered.

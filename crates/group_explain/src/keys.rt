@@ -1,7 +1,7 @@
 //! The keys of a grouped query.
 
 ghost use Rattle.std.specs.Prelude.{◌≡◌, IfOk};
-ghost use Rattle.group_plans.specs.GroupPlans as plans;
+ghost use Rattle.group_explain.specs.GroupPlans as plans;
 ghost use Rattle.group_query.specs.Grouping as grouping;
 ghost use Rattle.group_explain.specs.Texts.{group_query};
 

@@ -6,7 +6,7 @@ use Rattle.pg_base.specs.declared.faults.Refusal.{Refusal}
 use Rattle.pg_base.specs.declared.faults.Refusal.TheVariants as refusal
 use Rattle.pg_value.specs.declared.value.SqlType.{SqlType}
 use Rattle.pg_expr.specs.declared.operand.ColRef.{ColRef}
-use Rattle.sql_cursor.specs.Lists.{before_all, bound_each}
+use Rattle.expr_reader.specs.Lists.{before_all, bound_each}
 use Rattle.expr_reader.specs.Conditions.{next}
 use Rattle.expr_reader.specs.Scope.{Scope}
 use Rattle.query_reader.specs.Adds.{Adds}

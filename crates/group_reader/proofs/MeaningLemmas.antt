@@ -8,8 +8,8 @@ use Rattle.sql_lex.specs.declared.tokens.Token.{Token}
 use Rattle.sql_grammar.specs.Faults.{bytes_of}
 use Rattle.sql_grammar.specs.Terminals.{Ident, token_of}
 use Rattle.sql_grammar.specs.Syntax.{Mark, Col, bare, qualified, all_rows, of_col, GroupedItem, plain_item, call, GroupBy, no_group_by, group_by, Ordering, ordering, OrderBy, no_order, order_by}
-use Rattle.sql_cursor.specs.declared.cursor.Spelled.{Spelled}
-use Rattle.sql_cursor.specs.Lists.{before_all, bound_each, parts_of}
+use Rattle.expr_reader.specs.declared.cursor.Spelled.{Spelled}
+use Rattle.expr_reader.specs.Lists.{before_all, bound_each, parts_of}
 use Rattle.expr_reader.specs.Conditions.{next, column_of}
 use Rattle.expr_reader.specs.Scope.{Scope, columns_of, look_up}
 use Rattle.expr_reader.proofs.OperandLemmas.{is-found}

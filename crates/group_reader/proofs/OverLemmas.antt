@@ -22,8 +22,8 @@ use Rattle.sql_grammar.specs.Syntax.{Mark, Col, Group, GroupBy, no_group_by, gro
 use Rattle.sql_grammar.specs.Terminals.{Terminal, t_key, t_semicolon, t_end}
 use Rattle.sql_grammar.specs.declared.class.Word.TheVariants.{From}
 use Rattle.sql_grammar.specs.Words.{words_of_col, words_of_ending, words_of_group, words_of_group_by, words_of_group_columns, words_of_grouped, words_of_grouped_item, words_of_grouped_items, words_of_groups, words_of_order, words_of_where}
-use Rattle.sql_cursor.specs.Lists.{parts_of}
-use Rattle.sql_cursor.proofs.Named.{AreNamed, named-from}
+use Rattle.expr_reader.specs.Lists.{parts_of}
+use Rattle.expr_reader.proofs.Named.{AreNamed, named-from}
 use Rattle.expr_reader.specs.Conditions.{next}
 use Rattle.expr_reader.proofs.StepLemmas.{step, stop}
 use Rattle.sql_query.specs.Grouped.{GroupedQuery}

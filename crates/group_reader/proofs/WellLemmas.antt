@@ -27,9 +27,9 @@ use Rattle.eq_classes.proofs.ListLemmas.{IsIn, all_at, all_from, any_at, contain
 use Rattle.eq_classes.proofs.WrittenLemmas.{in_typed}
 use Rattle.path_cost.specs.Columns.{IsOver, is_column_in}
 use Rattle.sql_lex.specs.declared.tokens.Token.{Token}
-use Rattle.sql_cursor.specs.declared.cursor.Spelled.{Spelled}
-use Rattle.sql_cursor.specs.Lists.{before_all, bound_each}
-use Rattle.sql_cursor.proofs.EachLemmas.{each-holds}
+use Rattle.expr_reader.specs.declared.cursor.Spelled.{Spelled}
+use Rattle.expr_reader.specs.Lists.{before_all, bound_each}
+use Rattle.expr_reader.proofs.EachLemmas.{each-holds}
 use Rattle.expr_reader.specs.Conditions.{next}
 use Rattle.expr_reader.specs.Scope.{Scope}
 use Rattle.pathkeys.specs.Keys.{order_class}

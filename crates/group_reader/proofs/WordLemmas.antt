@@ -7,9 +7,9 @@ use Rattle.sql_grammar.specs.Words.{words_of_argument, words_of_col, words_of_gr
 use Rattle.sql_grammar.specs.declared.class.Word.TheVariants.{From, Group as GroupKey, Order}
 use Rattle.sql_grammar.specs.declared.class.Symbol.TheVariants.{Close, Comma, Dot, Open, Star}
 use Rattle.sql_grammar.specs.Unique.{ends_operand}
-use Rattle.sql_cursor.specs.Lists.{parts_of}
-use Rattle.sql_cursor.specs.Reading.{BeginsName, BeginsNot, spelled}
-use Rattle.sql_cursor.specs.declared.cursor.Spelled.{Spelled}
+use Rattle.expr_reader.specs.Lists.{parts_of}
+use Rattle.expr_reader.specs.Reading.{BeginsName, BeginsNot, spelled}
+use Rattle.expr_reader.specs.declared.cursor.Spelled.{Spelled}
 use Rattle.query_reader.specs.declared.written.Item.TheVariants.{Bare, Every, EveryOf, Qualified}
 use Rattle.query_reader.specs.Ends.{ends_item, ends_order}
 use Rattle.group_reader.specs.declared.written.Column.{Column}

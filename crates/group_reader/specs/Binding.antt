@@ -20,7 +20,7 @@ use Rattle.sql_grammar.specs.Faults.{bytes_of, fault_at}
 use Rattle.sql_grammar.specs.FromParts.{groups_after}
 use Rattle.sql_grammar.specs.Syntax.{Argument, all_rows, of_col, GroupedItem, plain_item, call, GroupBy, no_group_by, group_by, Where, OrderBy, no_order, order_by, Ordering, ordering, GroupedSelect, grouped_select}
 use Rattle.sql_grammar.specs.Terminals.{Ident, token_of}
-use Rattle.sql_cursor.specs.Lists.{parts_of, bound_each}
+use Rattle.expr_reader.specs.Lists.{parts_of, bound_each}
 use Rattle.expr_reader.specs.Conditions.{next, column_of}
 use Rattle.expr_reader.specs.Scope.{Scope}
 use Rattle.sql_query.specs.Queries.{Query}

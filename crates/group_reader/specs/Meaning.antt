@@ -8,8 +8,8 @@ use Rattle.pg_expr.specs.declared.operand.ColRef.{ColRef}
 use Rattle.eq_classes.specs.declared.order.OrderItem.{OrderItem}
 use Rattle.sql_lex.specs.declared.tokens.Token.{Token}
 use Rattle.sql_grammar.specs.Faults.{fault_at}
-use Rattle.sql_cursor.specs.declared.cursor.Spelled.{Spelled}
-use Rattle.sql_cursor.specs.Lists.{bound_each}
+use Rattle.expr_reader.specs.declared.cursor.Spelled.{Spelled}
+use Rattle.expr_reader.specs.Lists.{bound_each}
 use Rattle.expr_reader.specs.Conditions.{next, the_column}
 use Rattle.expr_reader.specs.Scope.{Scope, look_up}
 use Rattle.sql_query.specs.declared.grouped.Item.{Item}

@@ -3,10 +3,10 @@ use Rattle.std.specs.Prelude.{List, [], ◌∷◌, Some, None}
 use Rattle.sql_lex.specs.declared.tokens.Token.{Token}
 use Rattle.sql_grammar.specs.Syntax.{Col, bare, qualified, Output, every, every_of, one, Argument, all_rows, of_col, GroupedItem, plain_item, call, GroupBy, no_group_by, group_by, Ordering, ordering, OrderBy, no_order, order_by}
 use Rattle.sql_grammar.specs.Terminals.{token_of}
-use Rattle.sql_cursor.specs.declared.cursor.Spelled.{Spelled}
-use Rattle.sql_cursor.specs.Lists.{parts_of}
-use Rattle.sql_cursor.specs.Reading.{spelled}
-use Rattle.sql_cursor.specs.Sorts.{is_descending, has_nulls_first}
+use Rattle.expr_reader.specs.declared.cursor.Spelled.{Spelled}
+use Rattle.expr_reader.specs.Lists.{parts_of}
+use Rattle.expr_reader.specs.Reading.{spelled}
+use Rattle.expr_reader.specs.Sorts.{is_descending, has_nulls_first}
 use Rattle.query_reader.specs.Written.{item_of}
 use Rattle.group_reader.specs.declared.written.Column.{Column}
 use Rattle.group_reader.specs.declared.written.Listed.{Listed}

@@ -2,7 +2,7 @@
 
 ghost use Rattle.std.specs.Prelude.{◌≡◌, Ok, map};
 ghost use Rattle.catalog.specs.Range.{type_in};
-ghost use Rattle.sql_cursor.specs.Lists.{bound_each};
+ghost use Rattle.expr_reader.specs.Lists.{bound_each};
 ghost use Rattle.query_reader.specs.Conveys.{Conveys};
 ghost use Rattle.query_reader.specs.Scope.{visible_in};
 ghost use Rattle.group_reader.specs.Adds.{AddsParts};
@@ -12,12 +12,11 @@ ghost use Rattle.group_reader.specs.Meaning.{column_call, column_meant, columns_
 use crate::parts::Part;
 use crate::written::{Column, Listed, Sorting};
 use eq_classes::OrderItem;
-use expr_reader::{Scope, found_column};
+use expr_reader::{Scope, Spelled, found_column};
 use pg_base::{Code, Fault, Refusal};
 use pg_expr::ColRef;
 use pg_value::SqlType;
 use query_reader::{Item, Relations, add_item};
-use sql_cursor::Spelled;
 use sql_grammar::fault_at;
 use sql_lex::Token;
 use sql_query::Item as Shown;

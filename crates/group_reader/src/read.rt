@@ -8,16 +8,16 @@ ghost use Rattle.sql_grammar.specs.Unique.{ends_operand};
 ghost use Rattle.sql_grammar.specs.Words.{words_of_argument, words_of_col, words_of_group_by, words_of_group_columns, words_of_grouped_item, words_of_grouped_items, words_of_order, words_of_ordering, words_of_orderings, words_of_output};
 ghost use Rattle.sql_grammar.specs.declared.class.Symbol.TheVariants.{Close};
 ghost use Rattle.sql_grammar.specs.declared.class.Word.TheVariants.{From};
-ghost use Rattle.sql_cursor.specs.Lists.{parts_of};
-ghost use Rattle.sql_cursor.specs.Reading.{spelled};
+ghost use Rattle.expr_reader.specs.Lists.{parts_of};
+ghost use Rattle.expr_reader.specs.Reading.{spelled};
 ghost use Rattle.query_reader.specs.Ends.{ends_item, ends_order, ends_ordering};
 ghost use Rattle.group_reader.specs.Ends.{ends_columns, ends_listed};
 ghost use Rattle.group_reader.specs.Written.{called_over, column_written, columns_listed, columns_written, listed_of, sorting_of, sorts_written};
 
 use crate::written::{Column, Listed, Sorting};
+use expr_reader::{Cursor, Spelled, descending, nulls_first};
 use pg_base::Memory;
 use query_reader::Item;
-use sql_cursor::{Cursor, Spelled, descending, nulls_first};
 use sql_grammar::{Symbol, Word};
 use std::alloc::Global;
 

@@ -1,7 +1,7 @@
 //! Parts of a grouped SELECT as they are written: each name in small letters, with its token.
 
+use expr_reader::Spelled;
 use query_reader::Item;
-use sql_cursor::Spelled;
 use sql_lex::Token;
 
 /// A column: its name, with its relation's alias where one is given.

@@ -16,13 +16,13 @@ use Rattle.plan_tree.specs.Run.{run}
 use Rattle.plan_tree.specs.Space.{IsFinished}
 use Rattle.plan_tree.specs.Views.{path}
 use Rattle.group_values.specs.Groups.{Seen, lines, sorted, summaries}
-use Rattle.group_tuples.specs.declared.form.Form.{Form}
-use Rattle.group_tuples.specs.declared.form.Form.TheVariants.{Sorted, Hashed}
-use Rattle.group_tuples.specs.Grouping.{final_shape}
-use Rattle.group_tuples.specs.Neighbours.{AreTogether}
-use Rattle.group_costs.specs.declared.task.GroupTask.{GroupTask}
-use Rattle.group_explain.specs.group_plans_GroupPlans.{IsLeastOf, IsTaskOf}
-use Rattle.group_runs.specs.group_laws_BagLemmas.{groups-in-order}
+use Rattle.group_values.specs.declared.form.Form.{Form}
+use Rattle.group_values.specs.declared.form.Form.TheVariants.{Sorted, Hashed}
+use Rattle.group_values.specs.Grouping.{final_shape}
+use Rattle.group_values.specs.Neighbours.{AreTogether}
+use Rattle.group_values.specs.declared.task.GroupTask.{GroupTask}
+use Rattle.group_explain.specs.GroupPlans.{IsLeastOf, IsTaskOf}
+use Rattle.group_runs.proofs.BagLemmas.{groups-in-order}
 use Rattle.group_runs.specs.Seen.{seen_of}
 use Rattle.group_runs.proofs.OrderLemmas.{plan-needs-no-sort}
 use Rattle.group_runs.proofs.RunLemmas.{plan-lines, plan-neighbours}

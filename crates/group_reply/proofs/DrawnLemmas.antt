@@ -10,8 +10,8 @@ use Rattle.sql_query.specs.Worlds.{World}
 use Rattle.plan_tree.specs.Counts.{MOST_READS, fetches, looks}
 use Rattle.plan_tree.specs.Plans.{Plan}
 use Rattle.executor.specs.Reading.{Reading}
-use Rattle.group_costs.specs.declared.task.GroupPlan.{GroupPlan}
-use Rattle.group_costs.specs.declared.task.GroupTask.{GroupTask}
+use Rattle.group_values.specs.declared.task.GroupPlan.{GroupPlan}
+use Rattle.group_values.specs.declared.task.GroupTask.{GroupTask}
 use Rattle.group_explain.specs.Plans.{over_base}
 use Rattle.group_explain.specs.Texts.{group_plan_text}
 use Rattle.group_explain.specs.reply_Replies.{HasBegun, HasReplied, Reply, traces}

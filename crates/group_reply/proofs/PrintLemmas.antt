@@ -5,7 +5,7 @@ use Rattle.std.proofs.lemmas.List.{take-append-drop, take_all, take_more}
 use Rattle.std.proofs.lemmas.List.Concat.{flat_map-append}
 use Rattle.pg_base.specs.Writing.{AppendsPrefix}
 use Rattle.pg_value.specs.declared.value.Value.{Value}
-use Rattle.row_text.specs.Texts.{row_line}
+use Rattle.reply_text.specs.Texts.{row_line}
 use Rattle.group_explain.specs.reply_Putting.{HasPut}
 use Rattle.group_explain.specs.reply_PuttingLemmas.{appends-none, line_cut, line_put, prefix-of}
 

@@ -6,10 +6,10 @@ use Rattle.plan_tree.specs.Counts.{MOST_READS}
 use Rattle.executor.specs.Reading.{Reading}
 use Rattle.group_values.specs.Groups.{Seen}
 use Rattle.group_values.specs.Steps.{IsLastAlone}
-use Rattle.group_tuples.specs.Grouping.{AreOf, Grouping, with_groups}
-use Rattle.group_tuples.specs.Neighbours.{AreTogether}
-use Rattle.group_tuples.specs.declared.form.Form.TheVariants.{Sorted}
-use Rattle.group_tuples.proofs.NeighbourLemmas.{last-alone}
+use Rattle.group_values.specs.Grouping.{AreOf, Grouping, with_groups}
+use Rattle.group_values.specs.Neighbours.{AreTogether}
+use Rattle.group_values.specs.declared.form.Form.TheVariants.{Sorted}
+use Rattle.group_values.proofs.NeighbourLemmas.{last-alone}
 
 -- from one reading to a later one these tuples were drawn and joined the groups of none
 pub record HasPushed (seen : Tuple → Seen) (first now : Reading) (before after : Grouping) (f f' l l' : ℕ) : Type 0 where

@@ -10,12 +10,12 @@ use Rattle.plan_tree.specs.Plans.{Plan}
 use Rattle.plan_tree.specs.Run.{run}
 use Rattle.plan_tree.specs.Space.{IsFinished}
 use Rattle.group_values.specs.Groups.{Seen, lines}
-use Rattle.group_tuples.specs.declared.form.Form.{Form}
-use Rattle.group_tuples.specs.declared.form.Form.TheVariants.{Sorted}
-use Rattle.group_tuples.specs.Grouping.{final_shape}
-use Rattle.group_tuples.specs.Neighbours.{AreTogether}
-use Rattle.group_costs.specs.declared.task.GroupPlan.{GroupPlan}
-use Rattle.group_costs.specs.declared.task.GroupTask.{GroupTask}
+use Rattle.group_values.specs.declared.form.Form.{Form}
+use Rattle.group_values.specs.declared.form.Form.TheVariants.{Sorted}
+use Rattle.group_values.specs.Grouping.{final_shape}
+use Rattle.group_values.specs.Neighbours.{AreTogether}
+use Rattle.group_values.specs.declared.task.GroupPlan.{GroupPlan}
+use Rattle.group_values.specs.declared.task.GroupTask.{GroupTask}
 use Rattle.group_runs.specs.Seen.{seen_of}
 use Rattle.group_query.specs.Shapes.{args_of, calls_of, shape_of}
 use Rattle.group_explain.specs.Texts.{group_plan_text}

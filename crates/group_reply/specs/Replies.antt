@@ -3,7 +3,7 @@ use Rattle.std.specs.Prelude.{ℕ, ◌≡◌, ◌+◌, ◌*◌, List, ◌++◌, 
 use Rattle.std.specs.List.{flat_map}
 use Rattle.pg_value.specs.Sorting.{IsInOrder, one_after_other}
 use Rattle.pg_value.specs.declared.value.Value.{Value}
-use Rattle.row_text.specs.Texts.{count_line, row_line}
+use Rattle.reply_text.specs.Texts.{count_line, row_line}
 use Rattle.sql_query.specs.Grouped.{GroupedQuery}
 use Rattle.sql_query.specs.Meaning.{meaning}
 use Rattle.sql_query.specs.Tuples.{Tuple, no_rows}
@@ -13,10 +13,10 @@ use Rattle.plan_tree.specs.Plans.{Plan}
 use Rattle.plan_tree.specs.Run.{run}
 use Rattle.group_values.specs.Groups.{Seen, line, lines, sorter_order}
 use Rattle.group_values.specs.Shapes.{Summary}
-use Rattle.group_tuples.specs.declared.form.Form.{Form}
-use Rattle.group_costs.specs.declared.task.GroupPlan.{GroupPlan}
-use Rattle.group_costs.specs.declared.task.GroupTask.{GroupTask}
-use Rattle.group_explain.specs.group_plans_GroupPlans.{input_query}
+use Rattle.group_values.specs.declared.form.Form.{Form}
+use Rattle.group_values.specs.declared.task.GroupPlan.{GroupPlan}
+use Rattle.group_values.specs.declared.task.GroupTask.{GroupTask}
+use Rattle.group_explain.specs.GroupPlans.{input_query}
 use Rattle.group_runs.specs.Seen.{seen_of}
 use Rattle.group_query.specs.Shapes.{args_of, shape_of}
 use Rattle.group_explain.specs.reply_Effort.{exactly}

@@ -4,7 +4,7 @@ ghost use Rattle.std.specs.Prelude.{◌≡◌, ◌++◌, IfOk, OnErr, OnOk};
 ghost use Rattle.std.specs.Io.KnownBytes.{Appends};
 ghost use Rattle.std.specs.List.{flat_map};
 ghost use Rattle.pg_base.specs.Writing.{AppendsPrefix};
-ghost use Rattle.row_text.specs.Texts.{row_line};
+ghost use Rattle.reply_text.specs.Texts.{row_line};
 ghost use Rattle.group_explain.specs.reply_Putting.{HasWriteCause, Puts};
 ghost use Rattle.group_explain.specs.reply_stop_Broken_TheVariants.{Write};
 ghost use Rattle.group_reply.specs.Replies.{lines_text};
@@ -13,7 +13,7 @@ use group_explain::reply::{Broken, flush, put};
 use group_values::Values;
 use pg_base::{Memory, Sink};
 use pg_value::Value;
-use row_text::{Lines, count_line};
+use reply_text::{Lines, count_line};
 use std::alloc::Global;
 
 /// Prints a text, a line for each list of values, and the number of these lines. Where out fails, or memory is wanted, out has a

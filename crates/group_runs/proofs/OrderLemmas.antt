@@ -15,7 +15,7 @@ use Rattle.eq_classes.specs.Clauses.{Set}
 use Rattle.eq_classes.specs.Listing.{class_at}
 use Rattle.pathkeys.specs.Keys.{Keys, covers, order_keys}
 use Rattle.pathkeys.specs.Sorted.{class_order}
-use Rattle.query_laws.proofs.FitsLemmas.{values_fit}
+use Rattle.plan_laws.proofs.FitsLemmas.{values_fit}
 use Rattle.sql_query.specs.Meaning.{IsOrdered, item_order, item_order_in}
 use Rattle.sql_query.specs.Queries.{Query, all_of_query, in_order_of}
 use Rattle.sql_query.specs.Tuples.{Tuple, no_rows, value_at}
@@ -24,22 +24,22 @@ use Rattle.sql_query.specs.Worlds.{World, IsWorld}
 use Rattle.plan_tree.specs.Plans.{Plan}
 use Rattle.plan_tree.specs.Run.{run}
 use Rattle.plan_tree.specs.Space.{IsFinished}
-use Rattle.order_laws.specs.plan_laws_EachLemmas.{each_weaker}
-use Rattle.order_laws.specs.plan_laws_GivingLemmas.{finished_means}
-use Rattle.order_laws.specs.plan_laws_JoinLemmas.{each_meant}
-use Rattle.order_laws.proofs.IndexKeyLemmas.{after_same}
-use Rattle.order_laws.proofs.ItemLemmas.{items_follow}
-use Rattle.order_laws.proofs.KeyLemmas.{by_keys}
-use Rattle.order_laws.proofs.OrderedLemmas.{each_pair_up}
-use Rattle.order_laws.proofs.PrefixLemmas.{finished_up}
-use Rattle.order_laws.proofs.SortedLemmas.{up_by_keys}
-use Rattle.order_laws.proofs.TotalLemmas.{IsUp}
+use Rattle.plan_laws.proofs.EachLemmas.{each_weaker}
+use Rattle.plan_laws.proofs.GivingLemmas.{finished_means}
+use Rattle.plan_laws.proofs.JoinLemmas.{each_meant}
+use Rattle.plan_laws.proofs.IndexKeyLemmas.{after_same}
+use Rattle.plan_laws.proofs.ItemLemmas.{items_follow}
+use Rattle.plan_laws.proofs.KeyLemmas.{by_keys}
+use Rattle.plan_laws.proofs.OrderedLemmas.{each_pair_up}
+use Rattle.plan_laws.proofs.PrefixLemmas.{finished_up}
+use Rattle.plan_laws.proofs.SortedLemmas.{up_by_keys}
+use Rattle.plan_laws.proofs.TotalLemmas.{IsUp}
 use Rattle.group_values.specs.declared.shape.Sorter.{Sorter}
 use Rattle.group_values.specs.Groups.{lines}
 use Rattle.group_values.specs.Shapes.{GroupShape}
-use Rattle.group_tuples.specs.Grouping.{final_shape}
-use Rattle.group_tuples.specs.Neighbours.{tuple_order}
-use Rattle.group_tuples.proofs.OrderedLemmas.{no-sort}
+use Rattle.group_values.specs.Grouping.{final_shape}
+use Rattle.group_values.specs.Neighbours.{tuple_order}
+use Rattle.group_values.proofs.OrderedLemmas.{no-sort}
 use Rattle.group_runs.specs.Seen.{seen_of}
 use Rattle.group_runs.specs.Sorters.{AreSortersOf, IsSorterOf}
 use Rattle.group_runs.proofs.TieLemmas.{default-is, family, not-by-magnitude, of-family}

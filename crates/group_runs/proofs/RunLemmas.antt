@@ -14,13 +14,13 @@ use Rattle.sql_query.specs.Worlds.{World, IsWorld}
 use Rattle.plan_tree.specs.Plans.{Plan}
 use Rattle.plan_tree.specs.Run.{run}
 use Rattle.plan_tree.specs.Space.{IsFinished}
-use Rattle.order_laws.specs.plan_laws_FinishedLemmas.{finished_is_meaning}
-use Rattle.order_laws.proofs.FinishedOrderLemmas.{finished_is_ordered}
+use Rattle.plan_laws.proofs.FinishedLemmas.{finished_is_meaning}
+use Rattle.plan_laws.proofs.FinishedOrderLemmas.{finished_is_ordered}
 use Rattle.group_values.specs.Groups.{Seen, lines}
 use Rattle.group_values.specs.Shapes.{GroupShape}
-use Rattle.group_tuples.specs.Neighbours.{AreTogether}
-use Rattle.group_tuples.proofs.SortedLemmas.{sorted-together}
-use Rattle.group_laws.proofs.BagLemmas.{bag-of-lines}
+use Rattle.group_values.specs.Neighbours.{AreTogether}
+use Rattle.group_values.proofs.SortedLemmas.{sorted-together}
+use Rattle.group_runs.proofs.BagLemmas.{bag-of-lines}
 use Rattle.group_runs.specs.Seen.{seen_of}
 use Rattle.group_runs.proofs.TieLemmas.{items-tie, items-total}
 

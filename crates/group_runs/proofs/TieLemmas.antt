@@ -21,7 +21,7 @@ use Rattle.pg_value.proofs.KindLemmas.{as-columns}
 use Rattle.opfamily.specs.Answers.{default_family_of}
 use Rattle.catalog.specs.Range.{type_in}
 use Rattle.eq_classes.specs.declared.order.OrderItem.{OrderItem}
-use Rattle.query_laws.proofs.FitsLemmas.{values_fit}
+use Rattle.plan_laws.proofs.FitsLemmas.{values_fit}
 use Rattle.sql_query.specs.Meaning.{item_order, item_order_in}
 use Rattle.sql_query.specs.Queries.{Query}
 use Rattle.sql_query.specs.Tuples.{Tuple, value_at}

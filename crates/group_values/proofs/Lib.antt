@@ -3,3 +3,12 @@ pub mod LeastLemmas
 pub mod CallLemmas
 pub mod SumLemmas
 pub mod OrderLemmas
+pub mod ChainLemmas
+pub mod ListingLemmas
+pub mod PushLemmas
+pub mod FinalLemmas
+pub mod NeighbourLemmas
+pub mod SortedLemmas
+pub mod OrderedLemmas
+pub mod CostLemmas
+pub mod ChoiceLemmas

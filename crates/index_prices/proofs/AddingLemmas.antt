@@ -9,8 +9,8 @@ use Rattle.pg_base.specs.declared.numbers.TableNo.{TableNo}
 use Rattle.catalog.specs.Contents.{Contents, NamedIndex, indexes_of, numbers_from, table_names, with_index}
 use Rattle.catalog.specs.Tables.{Fits, IsAcceptableIndex, IsUnused}
 use Rattle.catalog.proofs.NameLaws.{fresh}
-use Rattle.index_laws.specs.Moved.{added_from, over}
-use Rattle.index_candidates.specs.Candidates.{AreCandidateIndexes, IsCandidateIndex, names_of}
+use Rattle.plan_laws.specs.Moved.{added_from, over}
+use Rattle.catalog.specs.Candidates.{AreCandidateIndexes, IsCandidateIndex, names_of}
 use Rattle.index_prices.specs.Candidates.{with_added}
 
 -- how many of some indexes are on a table

@@ -10,7 +10,7 @@ use Rattle.path_cost.specs.Columns.{IsOver}
 use Rattle.path_cost.specs.Estimates.{set_rows}
 use Rattle.sql_query.specs.Queries.{Query, all_of_query}
 use Rattle.sql_query.specs.WellBound.{IsWellBound}
-use Rattle.query_laws.proofs.OverLemmas.{clauses_over}
+use Rattle.plan_laws.proofs.OverLemmas.{clauses_over}
 use Rattle.plan_tree.specs.Costs.{HaveRows, cost, query_rows}
 use Rattle.plan_tree.specs.Least.{IsAdmissible}
 use Rattle.plan_tree.specs.Paths.{IsFinishedPath, Path, kept_cost}

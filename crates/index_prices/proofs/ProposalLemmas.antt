@@ -7,8 +7,8 @@ use Rattle.pg_base.specs.Sets.{has}
 use Rattle.catalog.specs.Contents.{Contents, NamedIndex}
 use Rattle.sql_query.specs.Queries.{Query}
 use Rattle.sql_query.specs.WellBound.{IsWellBound}
-use Rattle.index_laws.specs.Moved.{added_from}
-use Rattle.index_laws.proofs.BoundLemmas.{bound-over}
+use Rattle.plan_laws.specs.Moved.{added_from}
+use Rattle.plan_laws.proofs.BoundLemmas.{bound-over}
 use Rattle.index_prices.specs.Candidates.{with_added}
 use Rattle.index_prices.specs.Prices.{IsLeastPrice, prices_of}
 

@@ -5,7 +5,7 @@ use Rattle.std.proofs.Math.Pow.{pow_mono}
 use Rattle.std.proofs.lemmas.List.{length-drop}
 use Rattle.catalog.specs.Contents.{NamedIndex}
 use Rattle.sql_query.specs.Queries.{Query}
-use Rattle.index_laws.specs.Moved.{is_read}
+use Rattle.plan_laws.specs.Moved.{is_read}
 use Rattle.index_prices.specs.Prices.{read_by}
 
 bit-most : (b : Bool) → cond b 1 0 ≤ 1

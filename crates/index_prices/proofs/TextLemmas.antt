@@ -3,7 +3,7 @@ use Rattle.std.proofs.Common.{◌≡◌, ◌<◌, ◌≤◌, ◌+◌, ◌++◌, 
 use Rattle.std.proofs.lemmas.Grind.{flat_map-append}
 use Rattle.std.proofs.lemmas.List.{take_all, append-nil}
 use Rattle.catalog.specs.Contents.{NamedIndex}
-use Rattle.index_laws.specs.Moved.{added_from}
+use Rattle.plan_laws.specs.Moved.{added_from}
 use Rattle.index_prices.specs.Replies.{use_line, use_lines}
 use Rattle.index_prices.proofs.AddingLemmas.{added-one, append-none}
 

@@ -1,7 +1,7 @@
 -- The catalogue with some of the candidate indexes made. Own.
 use Rattle.std.specs.Prelude.{ℕ, Bool, List, ◌++◌}
 use Rattle.catalog.specs.Contents.{Contents, NamedIndex}
-use Rattle.index_laws.specs.Moved.{added_from, over}
+use Rattle.plan_laws.specs.Moved.{added_from, over}
 
 -- the catalogue with the candidates of a set added, in list order
 abbrev pub with_added : Contents → List NamedIndex → (ℕ → Bool) → Contents

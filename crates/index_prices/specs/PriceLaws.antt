@@ -7,9 +7,9 @@ use Rattle.pg_base.specs.Sets.{has}
 use Rattle.pg_base.proofs.SetLaws.{has-and}
 use Rattle.catalog.specs.Contents.{Contents, NamedIndex, no_index}
 use Rattle.sql_query.specs.Queries.{Query}
-use Rattle.index_laws.specs.Moved.{added_from, is_read}
-use Rattle.index_laws.proofs.BoundLemmas.{one-price, priced-plan}
-use Rattle.index_laws.proofs.PriceLemmas.{added-same, none-reads, price-reads}
+use Rattle.plan_laws.specs.Moved.{added_from, is_read}
+use Rattle.plan_laws.proofs.BoundLemmas.{one-price, priced-plan}
+use Rattle.plan_laws.proofs.PriceLemmas.{added-same, none-reads, price-reads}
 use Rattle.index_prices.specs.Candidates.{with_added}
 use Rattle.index_prices.specs.Prices.{IsLeastPrice, IsPriceWith, concerns_of, read_by}
 

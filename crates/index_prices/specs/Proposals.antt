@@ -4,7 +4,7 @@ use Rattle.pg_base.specs.declared.limits.TheConstants.{MOST_QUERIES}
 use Rattle.catalog.specs.Contents.{Contents, NamedIndex}
 use Rattle.sql_query.specs.Queries.{Query}
 use Rattle.sql_query.specs.WellBound.{IsWellBound}
-use Rattle.index_candidates.specs.Candidates.{AreCandidateIndexes}
+use Rattle.catalog.specs.Candidates.{AreCandidateIndexes}
 
 -- a catalogue, indexes that may be added to it, and queries over it
 pub record Proposal : Type 0 where

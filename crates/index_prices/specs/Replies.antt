@@ -6,7 +6,7 @@ use Rattle.pg_base.specs.Sets.{has}
 use Rattle.catalog.specs.Contents.{Contents, NamedIndex}
 use Rattle.sql_query.specs.Queries.{Query}
 use Rattle.advisor.specs.Choices.{HasNoAdvice, IsAdvice, Priced}
-use Rattle.index_laws.specs.Moved.{added_from}
+use Rattle.plan_laws.specs.Moved.{added_from}
 use Rattle.index_prices.specs.Prices.{prices_of}
 
 -- the advice for at most so many of the candidates: over every set of at most so many the least sum of the queries' least

@@ -5,11 +5,10 @@ ghost use Rattle.pg_base.specs.Sets.{has};
 ghost use Rattle.pg_base.specs.Names.{IsName};
 ghost use Rattle.catalog.specs.Contents.{with_index};
 ghost use Rattle.catalog.specs.Tables.{Fits, IsAcceptableIndex};
-ghost use Rattle.index_candidates.specs.Candidates.{AreCandidateIndexes};
+ghost use Rattle.catalog.specs.Candidates.{AreCandidateIndexes};
 ghost use Rattle.index_prices.specs.Candidates.{with_added};
 
-use catalog::{Catalog, CatalogFault};
-use index_candidates::Candidate;
+use catalog::{Candidate, Catalog, CatalogFault};
 use pg_base::{Memory, RelNo, RelSet};
 use std::alloc::{AllocError, Global};
 

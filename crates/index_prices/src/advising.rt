@@ -3,14 +3,13 @@
 ghost use Rattle.std.specs.Prelude.{◌≤◌, length, All, IfOk, MatchOption};
 ghost use Rattle.sql_query.specs.WellBound.{IsWellBound};
 ghost use Rattle.advisor.specs.Advices.{priced};
-ghost use Rattle.index_candidates.specs.Candidates.{AreCandidateIndexes};
+ghost use Rattle.catalog.specs.Candidates.{AreCandidateIndexes};
 ghost use Rattle.index_prices.specs.Replies.{IsAdviceFor, IsReplyTo, HasNoAdviceFor};
 
 use crate::pricer::PlanPricer;
 use crate::text::advice_text;
 use advisor::{Advice, advise};
-use catalog::Catalog;
-use index_candidates::Candidate;
+use catalog::{Candidate, Catalog};
 use pg_base::{MOST_CANDIDATES, MOST_QUERIES, Memory};
 use sql_query::Prepared;
 use std::alloc::Global;

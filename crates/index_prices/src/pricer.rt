@@ -1,14 +1,13 @@
 //! What queries cost with candidate indexes, by plans.
 
 ghost use Rattle.std.specs.Prelude.{◌≡◌, ◌≤◌, length};
-ghost use Rattle.index_laws.specs.Moved.{is_read};
+ghost use Rattle.plan_laws.specs.Moved.{is_read};
 ghost use Rattle.index_prices.specs.Prices.{read_by};
 
 use crate::adding::with_added;
 use crate::pricing::least_price;
 use advisor::Pricer;
-use catalog::Catalog;
-use index_candidates::Candidate;
+use catalog::{Candidate, Catalog};
 use pg_base::{MOST_CANDIDATES, Memory};
 use sql_query::Prepared;
 use std::alloc::Global;

@@ -2,12 +2,12 @@
 
 ghost use Rattle.std.specs.Prelude.{◌≡◌, ◌≤◌, ◌++◌, length, IfOk, OnOk};
 ghost use Rattle.pg_base.specs.Sets.{has};
-ghost use Rattle.index_laws.specs.Moved.{added_from};
+ghost use Rattle.plan_laws.specs.Moved.{added_from};
 ghost use Rattle.index_prices.specs.Replies.{advice_text, use_line, use_lines};
 
 use crate::adding::has_number;
 use advisor::Advice;
-use index_candidates::Candidate;
+use catalog::Candidate;
 use pg_base::{MOST_CANDIDATES, Memory};
 use std::alloc::Global;
 

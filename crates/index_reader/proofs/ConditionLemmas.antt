@@ -11,7 +11,7 @@ use Rattle.sql_grammar.specs.declared.class.Word.TheVariants.{Where as WhereKey}
 use Rattle.sql_grammar.specs.Syntax.{Expr, Where, no_where, where_expr}
 use Rattle.sql_grammar.specs.Unique.{ends_expr}
 use Rattle.sql_grammar.specs.Words.{words_of_expr, words_of_where}
-use Rattle.sql_cursor.specs.Reading.{BeginsNot}
+use Rattle.expr_reader.specs.Reading.{BeginsNot}
 use Rattle.expr_reader.specs.Conditions.{meaning_of_expr}
 use Rattle.expr_reader.specs.Reads.{Reads}
 use Rattle.expr_reader.proofs.ReadsLemmas.{read-ok, read-refused, was-read}

@@ -8,10 +8,10 @@ use Rattle.sql_grammar.specs.declared.class.Symbol.TheVariants.{Close}
 use Rattle.sql_grammar.specs.Terminals.{Terminal, Ident, free, t_mark, t_name}
 use Rattle.sql_grammar.specs.Syntax.{Mark, Include, no_include, include_columns}
 use Rattle.sql_grammar.specs.Words.{words_of_include, words_of_names}
-use Rattle.sql_cursor.specs.Reading.{BeginsNot}
+use Rattle.expr_reader.specs.Reading.{BeginsNot}
 use Rattle.catalog.specs.Contents.{Contents}
 use Rattle.expr_reader.specs.Reads.{Reads}
-use Rattle.sql_cursor.specs.Lists.{bound_each}
+use Rattle.expr_reader.specs.Lists.{bound_each}
 use Rattle.index_reader.specs.declared.names.NamedColumn.{NamedColumn}
 use Rattle.index_reader.specs.Keys.{name_bound, names_of}
 use Rattle.index_reader.specs.Reads.{ends_include, words_of_names_left}

@@ -16,13 +16,13 @@ use Rattle.sql_grammar.specs.Syntax.{Key, Mark, Where, no_where, where_expr, sem
 use Rattle.sql_grammar.specs.Words.{words_of, words_of_where, words_of_using, words_of_include, words_of_key, words_of_keys, words_of_cand}
 use Rattle.sql_grammar.specs.Faults.{fault_at, terminals, IsWhole}
 use Rattle.sql_grammar.specs.Spelled.{IsSpelled}
-use Rattle.sql_cursor.specs.declared.cursor.Spelled.{Spelled}
-use Rattle.sql_cursor.specs.Reading.{BeginsName, spelled}
+use Rattle.expr_reader.specs.declared.cursor.Spelled.{Spelled}
+use Rattle.expr_reader.specs.Reading.{BeginsName, spelled}
 use Rattle.catalog.specs.Contents.{Contents}
 use Rattle.catalog.specs.Tables.{table_named}
 use Rattle.expr_reader.specs.Reads.{Reads}
 use Rattle.expr_reader.proofs.ReadsLemmas.{was-read}
-use Rattle.sql_cursor.specs.Lists.{bound_each}
+use Rattle.expr_reader.specs.Lists.{bound_each}
 use Rattle.ddl_reader.specs.Statistics.{known, table_of_name}
 use Rattle.ddl_reader.proofs.Parts.{named}
 use Rattle.index_reader.specs.declared.index.ReadIndex.{ReadIndex}

@@ -13,8 +13,8 @@ use Rattle.sql_lex.specs.declared.tokens.Token.{Token}
 use Rattle.sql_grammar.specs.Terminals.{Terminal, Ident, token_of, t_mark}
 use Rattle.sql_grammar.specs.Syntax.{Direction, no_direction, ascending, descending, NullsEnd, no_nulls_end, nulls_first, nulls_last, OpClass as ClassTree, index_key}
 use Rattle.sql_grammar.specs.Words.{words_of_direction, words_of_nulls_end}
-use Rattle.sql_cursor.specs.declared.cursor.Spelled.{Spelled}
-use Rattle.sql_cursor.specs.Reading.{spelled}
+use Rattle.expr_reader.specs.declared.cursor.Spelled.{Spelled}
+use Rattle.expr_reader.specs.Reading.{spelled}
 use Rattle.catalog.specs.Contents.{Contents, table_at}
 use Rattle.catalog.specs.Indexes.{type_at}
 use Rattle.catalog.specs.Tables.{column_named}
@@ -23,7 +23,7 @@ use Rattle.expr_reader.proofs.ReadsLemmas.{read-memory}
 use Rattle.ddl_reader.specs.Statistics.{known, column_of_name}
 use Rattle.index_reader.specs.declared.keys.KeyRead.{KeyRead}
 use Rattle.index_reader.specs.Keys.{class_bound, key_bound}
-use Rattle.sql_cursor.specs.Sorts.{is_descending, has_nulls_first, ends_direction, ends_nulls_end}
+use Rattle.expr_reader.specs.Sorts.{is_descending, has_nulls_first, ends_direction, ends_nulls_end}
 use Rattle.index_reader.specs.Reads.{begins_class, ends_key}
 use Rattle.expr_reader.proofs.StepLemmas.{step, stop}
 

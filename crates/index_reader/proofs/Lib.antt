@@ -7,3 +7,10 @@ pub mod IncludeLemmas
 pub mod IndexLemmas
 pub mod CandLemmas
 pub mod SoundLemmas
+pub mod StandLemmas
+pub mod NameLemmas
+pub mod RoomLemmas
+pub mod CandidateLemmas
+pub mod QueryLemmas
+pub mod StatementLemmas
+pub mod ReadLemmas

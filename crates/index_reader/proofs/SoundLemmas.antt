@@ -31,17 +31,17 @@ use Rattle.sql_grammar.specs.Syntax.{Mark, Where, no_where, where_expr, OpClass 
 use Rattle.sql_grammar.specs.Words.{words_of_where, words_of_key, words_of_keys, words_of_using, words_of_names, words_of_include, words_of_cand}
 use Rattle.sql_grammar.specs.Faults.{bytes_of}
 use Rattle.sql_grammar.proofs.ExprTrees.{tokens-are}
-use Rattle.sql_cursor.proofs.Named.{AreNamed, named-from}
+use Rattle.expr_reader.proofs.Named.{AreNamed, named-from}
 use Rattle.query_reader.proofs.ReadingLemmas.{named-between}
 use Rattle.catalog.specs.Contents.{Contents, IsTable, IsLawful, no_table, table_at}
 use Rattle.catalog.specs.Indexes.{IsKeyOf, IsPredicateOf, type_at}
 use Rattle.catalog.specs.Tables.{column_named, table_named}
 use Rattle.expr_reader.specs.Conditions.{meaning_of_expr}
 use Rattle.expr_reader.proofs.TypedLemmas.{next-done, expr-good}
-use Rattle.sql_cursor.specs.Lists.{parts_of, before_all, bound_each}
+use Rattle.expr_reader.specs.Lists.{parts_of, before_all, bound_each}
 use Rattle.ddl_reader.specs.Statistics.{known, column_of_name, table_of_name}
 use Rattle.ddl_reader.proofs.ListLemmas.{each-same}
-use Rattle.sql_cursor.proofs.EachLemmas.{each-holds}
+use Rattle.expr_reader.proofs.EachLemmas.{each-holds}
 use Rattle.ddl_reader.proofs.SoundStatisticsLemmas.{AreWithin, within-all, known-table}
 use Rattle.ddl_reader.proofs.TokenLaws.{starts-within}
 use Rattle.index_reader.specs.declared.index.ReadIndex.{ReadIndex}
@@ -49,7 +49,7 @@ use Rattle.index_reader.specs.declared.keys.KeyRead.{KeyRead}
 use Rattle.index_reader.specs.declared.names.NamedColumn.{NamedColumn}
 use Rattle.index_reader.specs.declared.methods.MethodRead.{MethodRead}
 use Rattle.index_reader.specs.Visible.{Sight, visible_in, type_in}
-use Rattle.sql_cursor.specs.Sorts.{is_descending, has_nulls_first}
+use Rattle.expr_reader.specs.Sorts.{is_descending, has_nulls_first}
 use Rattle.index_reader.specs.Keys.{method_of_name, method_bound, class_has_method, class_known, given, class_bound, key_bound, keys_of, name_bound, names_of}
 use Rattle.index_reader.specs.Meaning.{Reading, condition_bound, name_tokens, limited, has_many_atoms, index_reading, meaning_of_cand}
 use Rattle.index_reader.specs.Reads.{reading}

@@ -18,8 +18,8 @@ use Rattle.sql_grammar.specs.Syntax.{Mark, OpClass as ClassTree, no_class, op_cl
 use Rattle.catalog.specs.Contents.{Contents, table_at}
 use Rattle.catalog.specs.Indexes.{type_at}
 use Rattle.expr_reader.specs.Conditions.{next}
-use Rattle.sql_cursor.specs.Lists.{parts_of}
-use Rattle.sql_cursor.specs.Sorts.{is_descending, has_nulls_first}
+use Rattle.expr_reader.specs.Lists.{parts_of}
+use Rattle.expr_reader.specs.Sorts.{is_descending, has_nulls_first}
 use Rattle.ddl_reader.specs.Statistics.{known, column_of_name}
 use Rattle.index_reader.specs.declared.keys.KeyRead.{KeyRead}
 use Rattle.index_reader.specs.declared.names.NamedColumn.{NamedColumn}

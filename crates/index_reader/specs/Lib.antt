@@ -5,3 +5,12 @@ pub mod Reads
 pub mod Soundness
 pub mod Statements
 pub mod Candidates
+pub mod Parts
+pub mod Places
+pub mod Stages
+pub mod AdviseCandidates
+pub mod Queries
+pub mod AdviseMeaning
+pub mod AdviseSoundness
+pub mod Walk
+pub mod AdviseStatements

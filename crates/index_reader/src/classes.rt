@@ -9,10 +9,10 @@ ghost use Rattle.expr_reader.specs.Reads.{Reads};
 ghost use Rattle.index_reader.specs.Keys.{class_has_method, class_known, class_bound};
 ghost use Rattle.index_reader.specs.Reads.{opens_class, begins_class};
 
+use expr_reader::{Cursor, Spelled};
 use opfamily::{Method, OpClass, accepts, class_named, default_class, family};
 use pg_base::{Code, Fault, Refusal};
 use pg_value::{Family, SqlType};
-use sql_cursor::{Cursor, Spelled};
 use sql_grammar::{Class, Free, fault_at};
 use std::alloc::Global;
 

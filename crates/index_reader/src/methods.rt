@@ -8,9 +8,9 @@ ghost use Rattle.expr_reader.specs.Reads.{Reads};
 ghost use Rattle.index_reader.specs.Keys.{method_of_name, method_bound};
 ghost use Rattle.index_reader.specs.Reads.{ends_using};
 
+use expr_reader::Cursor;
 use opfamily::Method;
 use pg_base::{Code, Refusal};
-use sql_cursor::Cursor;
 use sql_grammar::{Word, fault_at};
 use std::alloc::Global;
 

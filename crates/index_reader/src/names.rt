@@ -9,15 +9,15 @@ ghost use Rattle.sql_grammar.specs.Words.{words_of_include};
 ghost use Rattle.catalog.specs.Contents.{IsTable, IsColumn};
 ghost use Rattle.catalog.specs.Tables.{column_named};
 ghost use Rattle.expr_reader.specs.Reads.{Reads};
-ghost use Rattle.sql_cursor.specs.Lists.{parts_of, bound_each};
+ghost use Rattle.expr_reader.specs.Lists.{parts_of, bound_each};
 ghost use Rattle.ddl_reader.specs.Statistics.{known};
 ghost use Rattle.index_reader.specs.Keys.{name_bound, names_of};
 ghost use Rattle.index_reader.specs.Reads.{ends_include, words_of_names_left};
 ghost use Rattle.index_reader.specs.declared.names.NamedColumn.{NamedColumn};
 
 use catalog::Catalog;
+use expr_reader::{Cursor, Spelled};
 use pg_base::{Code, ColNo, Fault, Refusal, TableNo};
-use sql_cursor::{Cursor, Spelled};
 use sql_grammar::{Free, Symbol, fault_at};
 use sql_lex::Token;
 use std::alloc::Global;

@@ -12,10 +12,9 @@ ghost use Rattle.query_reader.specs.Ends.{ends_where};
 ghost use Rattle.index_reader.specs.Meaning.{condition_bound};
 
 use crate::table_scope::TableScope;
-use expr_reader::take_expr;
+use expr_reader::{Cursor, take_expr};
 use pg_base::Refusal;
 use pg_expr::{Expr, push_not};
-use sql_cursor::Cursor;
 use sql_grammar::Word;
 use std::alloc::Global;
 

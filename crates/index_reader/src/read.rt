@@ -16,8 +16,8 @@ ghost use Rattle.index_reader.specs.Statements.{IsCandRefusal, IsMeaning, IsRefu
 
 use crate::index::{ReadIndex, index};
 use catalog::Catalog;
+use expr_reader::Cursor;
 use pg_base::Refusal;
-use sql_cursor::Cursor;
 use sql_grammar::statement_fault;
 use sql_lex::{Token, Tokens};
 use std::alloc::Global;

@@ -14,13 +14,13 @@ use Rattle.plan_tree.specs.Least.{IsAdmissible}
 use Rattle.plan_tree.specs.Paths.{startup_kept}
 use Rattle.pathkeys.specs.Keys.{Keys}
 use Rattle.plan_tree.specs.Plans.{Plan, seq, index, index_only, bitmap, sort, nest, merge, is_sort}
-use Rattle.join_laws.specs.Closed.{IsKeptSide}
+use Rattle.plan_laws.specs.Closed.{IsKeptSide}
 use Rattle.plan_tree.specs.Space.{HasKeys, IsBuilt, IsSameSet}
-use Rattle.certificates.specs.Certificates.{Certificate, Entry, join_by, sorted_if, unfold_at}
-use Rattle.certificates.specs.Tables.{IsEntryPlan}
-use Rattle.certificates.specs.Views.{entry}
-use Rattle.certificates.specs.declared.entry.Entry.{Entry as Entered}
-use Rattle.certificates.proofs.UnfoldLemmas.{entry-at, numbered}
+use Rattle.plan_check.specs.Certificates.{Certificate, Entry, join_by, sorted_if, unfold_at}
+use Rattle.plan_check.specs.Tables.{IsEntryPlan}
+use Rattle.plan_check.specs.Views.{entry}
+use Rattle.plan_check.specs.declared.entry.Entry.{Entry as Entered}
+use Rattle.plan_check.proofs.UnfoldLemmas.{entry-at, numbered}
 use Rattle.plan_check.specs.Beating.{IsBeaten, IsRight, IsUnbeaten}
 use Rattle.plan_check.specs.Joining.{MayMerge}
 use Rattle.plan_check.specs.Placing.{IsOf}

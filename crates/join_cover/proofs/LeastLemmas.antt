@@ -15,7 +15,7 @@ use Rattle.plan_tree.specs.Space.{IsBuilt, IsEmpty, IsLike}
 use Rattle.plan_tree.proofs.DominationLemmas.{dominates-refl, dominates-trans, merge-dominates}
 use Rattle.plan_tree.proofs.ReplacingLemmas.{sort-totals}
 use Rattle.plan_tree.proofs.WindowLemmas.{startup-from}
-use Rattle.certificates.specs.Certificates.{Certificate, Entry, sorted_if, unfold_at}
+use Rattle.plan_check.specs.Certificates.{Certificate, Entry, sorted_if, unfold_at}
 use Rattle.plan_check.specs.Beating.{IsRight}
 use Rattle.plan_check.specs.Joining.{MayMerge}
 use Rattle.plan_check.specs.Placing.{ArePlaced, IsOf, first_of, past_of}

@@ -15,7 +15,7 @@ use Rattle.pathkeys.specs.Finding.{class_numbers}
 use Rattle.pathkeys.specs.Keys.{AreDifferent, Keys}
 use Rattle.plan_tree.specs.Space.{IsMergeList}
 use Rattle.entry_check.specs.plan_space_JoinLemmas.{found-four}
-use Rattle.certificates.specs.Certificates.{Certificate}
+use Rattle.plan_check.specs.Certificates.{Certificate}
 use Rattle.plan_check.specs.Reasons.{AllRight}
 use Rattle.plan_check.specs.declared.verdict.Plain.{Plain}
 use Rattle.plan_check.proofs.MergeLemmas.{built-merge}

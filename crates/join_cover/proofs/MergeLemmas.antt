@@ -8,9 +8,9 @@ use Rattle.eq_classes.specs.declared.classes.ClassNo.{ClassNo}
 use Rattle.sql_query.specs.Queries.{Query}
 use Rattle.pathkeys.specs.Finding.{class_numbers}
 use Rattle.plan_tree.specs.Space.{IsMergeList}
-use Rattle.certificates.specs.Certificates.{Certificate, Entry}
-use Rattle.certificates.specs.Views.{entry}
-use Rattle.certificates.specs.declared.entry.Entry.{Entry as Entered}
+use Rattle.plan_check.specs.Certificates.{Certificate, Entry}
+use Rattle.plan_check.specs.Views.{entry}
+use Rattle.plan_check.specs.declared.entry.Entry.{Entry as Entered}
 use Rattle.entry_check.specs.declared.merges.MergeWork.{MergeWork}
 use Rattle.entry_check.specs.declared.nests.NestWork.{NestWork}
 use Rattle.entry_check.proofs.BestLemmas.{read-count}

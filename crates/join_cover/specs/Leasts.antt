@@ -1,6 +1,6 @@
 -- The least of the entries of a set that are given no rows. Own.
 use Rattle.std.specs.Prelude.{◌≡◌, ◌<◌, ◌≤◌, ℕ, List, MatchOption, Option, Some, slice_get}
-use Rattle.certificates.specs.Certificates.{Entry}
+use Rattle.plan_check.specs.Certificates.{Entry}
 
 module _ (es : List Entry) (s : ℕ) where
   -- the entry at a place is of the set, and is given no rows

@@ -8,5 +8,5 @@ pub use Rattle.entry_check.proofs.WorkLemmas as entry_check_WorkLemmas
 pub use Rattle.entry_check.specs.Owning as entry_check_Owning
 pub use Rattle.entry_check.specs.declared.numbers.Own as entry_check_numbers_Own
 pub use Rattle.entry_check.specs.declared.scans.ByIndex as entry_check_scans_ByIndex
-pub use Rattle.entry_check.specs.join_work_CostLemmas as join_work_CostLemmas
+pub use Rattle.entry_check.proofs.CostLemmas as entry_check_CostLemmas
 pub use Rattle.entry_check.specs.plan_space_OrderLemmas as plan_space_OrderLemmas

@@ -4,12 +4,12 @@ use Rattle.pg_base.specs.Sets.{has}
 use Rattle.catalog.specs.Contents.{Contents}
 use Rattle.eq_classes.specs.declared.classes.ClassNo.{ClassNo}
 use Rattle.sql_query.specs.Queries.{Query}
-use Rattle.join_laws.specs.Closed.{AreKeptSides, IsKeptSide}
+use Rattle.plan_laws.specs.Closed.{AreKeptSides, IsKeptSide}
 use Rattle.plan_tree.specs.Least.{IsAdmissible}
 use Rattle.plan_tree.specs.Plans.{Plan, merge, nest}
 use Rattle.plan_tree.specs.Space.{IsBuilt, IsMergeList}
-use Rattle.certificates.specs.Certificates.{Certificate, sorted_if, unfold_at}
-use Rattle.certificates.specs.Tables.{IsDominated, IsEntryPlan}
+use Rattle.plan_check.specs.Certificates.{Certificate, sorted_if, unfold_at}
+use Rattle.plan_check.specs.Tables.{IsDominated, IsEntryPlan}
 use Rattle.pathkeys.specs.Keys.{Keys}
 use Rattle.plan_check.specs.Placing.{IsOf}
 use Rattle.plan_check.specs.Plains.{StandsForPlan}

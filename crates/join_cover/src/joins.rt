@@ -4,7 +4,7 @@ ghost use Rattle.std.specs.Prelude.{◌≤◌, ℕ, MatchOption};
 ghost use Rattle.pg_base.specs.Sets.{has};
 ghost use Rattle.plan_tree.specs.Reads.{IsOverTables};
 ghost use Rattle.plan_tree.specs.Space.{IsSameSet};
-ghost use Rattle.certificates.specs.Views.{certificate};
+ghost use Rattle.plan_check.specs.Views.{certificate};
 ghost use Rattle.plan_check.specs.Placing.{ArePlaced};
 ghost use Rattle.plan_check.specs.Reasons.{AllRight};
 ghost use Rattle.sql_query.specs.Queries.{all_of_query};

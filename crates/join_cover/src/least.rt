@@ -1,13 +1,12 @@
 //! The least entries of a set.
 
 ghost use Rattle.std.specs.Prelude.{◌≡◌, ◌+◌, ◌<◌, ◌≤◌, ℕ, IfNone, IfSome, length, map};
-ghost use Rattle.certificates.specs.Views.{certificate, entry};
+ghost use Rattle.plan_check.specs.Views.{certificate, entry};
 ghost use Rattle.plan_check.specs.Placing.{ArePlaced};
 ghost use Rattle.join_cover.specs.Leasts.{IsLeastFrom, IsLeastWhole, IsWhole};
 
-use certificates::Entry;
 use pg_base::RelSet;
-use plan_check::Judged;
+use plan_check::{Entry, Judged};
 
 /// The lesser of two costs with their places; the first where they tie.
 fn lesser_of(other: (usize, u64), this: (usize, u64)) -> (usize, u64)

@@ -10,7 +10,6 @@ mod nests;
 mod uncovered;
 
 pub use entry_check;
-pub use entry_check::join_work;
 pub use joins::{open_join, open_merges};
 pub use merges::open_work;
 pub use nests::open_nests;

@@ -5,7 +5,7 @@ ghost use Rattle.pg_base.specs.Sets.{has};
 ghost use Rattle.pathkeys.specs.Finding.{class_numbers};
 ghost use Rattle.plan_tree.specs.Reads.{IsOverTables};
 ghost use Rattle.plan_tree.specs.Space.{IsMergeList};
-ghost use Rattle.certificates.specs.Views.{certificate};
+ghost use Rattle.plan_check.specs.Views.{certificate};
 ghost use Rattle.plan_check.specs.Placing.{ArePlaced};
 ghost use Rattle.plan_check.specs.Reasons.{AllRight};
 ghost use Rattle.join_cover.specs.Serving.{AreListsOf, AreMergesBy, AreThirdsServed, IsFirstServed, IsOpen, IsSecondServed};

@@ -8,9 +8,9 @@ ghost use Rattle.pathkeys.specs.Finding.{class_numbers};
 ghost use Rattle.plan_tree.specs.Plans as plans;
 ghost use Rattle.plan_tree.specs.Reads.{IsOverTables};
 ghost use Rattle.plan_tree.specs.Space.{IsMergeList};
-ghost use Rattle.certificates.specs.Certificates as forms;
-ghost use Rattle.certificates.specs.Certificates.{sorted_if, unfold_at};
-ghost use Rattle.certificates.specs.Views.{certificate};
+ghost use Rattle.plan_check.specs.Certificates as forms;
+ghost use Rattle.plan_check.specs.Certificates.{sorted_if, unfold_at};
+ghost use Rattle.plan_check.specs.Views.{certificate};
 ghost use Rattle.entry_check.specs.Working.{IsMergeWork};
 ghost use Rattle.plan_check.specs.Placing.{ArePlaced, IsOf};
 ghost use Rattle.plan_check.specs.Plains.{StandsForPlan};
@@ -20,10 +20,9 @@ ghost use Rattle.join_cover.specs.Serving.{AreMergesBy, IsMergeOpen, IsMergeServ
 
 use crate::least::least_whole;
 use crate::uncovered::Uncovered;
-use certificates::Side;
 use entry_check::{MergeWork, has_list, merge_with};
 use eq_classes::ClassNo;
-use plan_check::{Judged, Plain, counted, is_covered};
+use plan_check::{Judged, Plain, Side, counted, is_covered};
 
 /// The merge of the entries at two places by a list of at most three classes, each sorted by it or not.
 fn merge_node(list: &[ClassNo], at: (usize, usize), sorts: (bool, bool)) -> Plain

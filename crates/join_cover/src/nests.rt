@@ -2,7 +2,7 @@
 
 ghost use Rattle.std.specs.Prelude.{◌≡◌, ◌<◌, ◌≤◌, ℕ, MatchOption, length, suc};
 ghost use Rattle.plan_tree.specs.Reads.{IsOverTables};
-ghost use Rattle.certificates.specs.Views.{certificate};
+ghost use Rattle.plan_check.specs.Views.{certificate};
 ghost use Rattle.entry_check.specs.Working.{IsNestWork};
 ghost use Rattle.plan_check.specs.Placing.{ArePlaced, IsOf};
 ghost use Rattle.plan_check.specs.Reasons.{AllRight};

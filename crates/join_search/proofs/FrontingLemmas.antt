@@ -22,7 +22,7 @@ use Rattle.plan_tree.specs.declared.path.Path.{Path as Costed}
 use Rattle.plan_tree.proofs.FrontLemmas.{contains-mapped, contains-source, made-dominated, still-dominated}
 use Rattle.kept_paths.specs.Bounds.{IsBeaten}
 use Rattle.kept_paths.proofs.PlaceLemmas.{covers-there}
-use Rattle.join_laws.specs.Useful.{Suffices, outside}
+use Rattle.plan_laws.specs.Useful.{Suffices, outside}
 use Rattle.join_search.specs.Tables.{none}
 use Rattle.join_search.specs.Joins.{AreUndominated, IsPathAt}
 use Rattle.join_search.specs.Sufficing.{HasSufficient, IsPartOfUse, StaySufficient}

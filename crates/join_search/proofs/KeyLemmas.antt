@@ -17,7 +17,7 @@ use Rattle.plan_tree.specs.Keys.{keys_of}
 use Rattle.plan_tree.specs.Paths.{Path}
 use Rattle.plan_tree.specs.Plans.{Plan, seq, index, index_only, bitmap, sort, nest, merge, is_empty, is_sort}
 use Rattle.plan_tree.specs.Space.{HasKeys, IsBuilt, IsMergeList}
-use Rattle.join_laws.proofs.UsefulLemmas.{joining-below}
+use Rattle.plan_laws.proofs.UsefulLemmas.{joining-below}
 use Rattle.join_search.specs.Joins.{IsPathAt}
 use Rattle.join_search.specs.Tables.{none}
 

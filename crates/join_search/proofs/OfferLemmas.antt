@@ -29,8 +29,8 @@ use Rattle.plan_tree.proofs.BoundLemmas.{startup-most}
 use Rattle.plan_tree.proofs.DominationLemmas.{dominates-refl}
 use Rattle.plan_tree.proofs.FrontLemmas.{contains-mapped, made-dominated, still-dominated}
 use Rattle.plan_tree.proofs.WindowLemmas.{kept-most, kept-rises, uncut-kept}
-use Rattle.join_laws.specs.Useful.{IsOfUse, Suffices, floor_by}
-use Rattle.join_laws.proofs.UsefulLemmas.{below-from, dominates-suffices, suffices-trans}
+use Rattle.plan_laws.specs.Useful.{IsOfUse, Suffices, floor_by}
+use Rattle.plan_laws.proofs.UsefulLemmas.{below-from, dominates-suffices, suffices-trans}
 use Rattle.kept_paths.specs.Bounds.{IsBeaten}
 use Rattle.join_search.specs.Tables.{Fronts, none}
 use Rattle.join_search.specs.Joins.{IsJoinOfKept, IsJoinPath, IsPathAt}

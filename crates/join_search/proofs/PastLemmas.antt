@@ -21,7 +21,7 @@ use Rattle.plan_tree.specs.Views.{path}
 use Rattle.plan_tree.specs.declared.path.Path.{Path as Costed}
 use Rattle.plan_tree.proofs.BoundLemmas.{sort-most, startup-most}
 use Rattle.plan_tree.proofs.WindowLemmas.{kept-least}
-use Rattle.join_laws.specs.Useful.{floor_by}
+use Rattle.plan_laws.specs.Useful.{floor_by}
 use Rattle.join_search.specs.Tables.{none}
 use Rattle.join_search.specs.Joins.{IsPathAt, IsPlanIn, IsSideIn}
 use Rattle.join_search.specs.Merges.{IsNoCheaper}

@@ -17,7 +17,7 @@ use Rattle.plan_tree.specs.Plans.{Plan, seq, index, index_only, bitmap, sort, ne
 use Rattle.plan_tree.specs.Reads.{IsOverTables}
 use Rattle.plan_tree.specs.Space.{IsSameSet}
 use Rattle.plan_tree.proofs.PathLemmas.{built-below}
-use Rattle.join_laws.proofs.WithinLemmas.{read-below}
+use Rattle.plan_laws.proofs.WithinLemmas.{read-below}
 use Rattle.join_search.specs.Nests.{AreTested, IsInner}
 use Rattle.join_search.specs.declared.splits.Split.{Split}
 use Rattle.join_search.proofs.PlanLemmas.{at-param, at-set, given-none, sets-same}

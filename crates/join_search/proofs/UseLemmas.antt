@@ -17,7 +17,7 @@ use Rattle.pathkeys.specs.Finding.{class_numbers}
 use Rattle.pathkeys.specs.Keys.{AreDifferent, Keys, covers, order_keys}
 use Rattle.sql_query.specs.Queries.{Query}
 use Rattle.plan_tree.specs.Space.{IsSameSet}
-use Rattle.join_laws.specs.Useful.{are_open, is_open, outside}
+use Rattle.plan_laws.specs.Useful.{are_open, is_open, outside}
 use Rattle.join_search.specs.Sufficing.{IsPartOfUse}
 use Rattle.join_search.specs.declared.useful.Asked.{Asked}
 use Rattle.join_search.proofs.PlanLemmas.{sets-same}

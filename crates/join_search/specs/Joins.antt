@@ -10,7 +10,7 @@ use Rattle.plan_tree.specs.Plans.{Plan, sort, nest, merge, empty}
 use Rattle.plan_tree.specs.Space.{IsPlanOf, IsSameSet}
 use Rattle.plan_tree.specs.Least.{IsAdmissible, Dominates}
 use Rattle.plan_tree.specs.Paths.{Path, IsPathOf}
-use Rattle.join_laws.specs.Useful.{IsBelow}
+use Rattle.plan_laws.specs.Useful.{IsBelow}
 use Rattle.plan_tree.specs.declared.path.Path.{Path as Costed}
 use Rattle.join_search.specs.Tables.{Fronts, front_at, paths_at}
 use Rattle.join_search.specs.Sufficing.{HasSufficient}

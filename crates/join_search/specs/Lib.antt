@@ -8,8 +8,8 @@ pub mod Merges
 pub mod Search
 pub mod Past
 -- What callers name of the crates below.
-pub use Rattle.join_laws.proofs.LeastLemmas as join_laws_LeastLemmas
-pub use Rattle.join_laws.proofs.UsefulLemmas as join_laws_UsefulLemmas
-pub use Rattle.join_laws.proofs.WithinLemmas as join_laws_WithinLemmas
-pub use Rattle.join_laws.specs.Closed as join_laws_Closed
-pub use Rattle.join_laws.specs.Useful as join_laws_Useful
+pub use Rattle.plan_laws.proofs.LeastLemmas as plan_laws_LeastLemmas
+pub use Rattle.plan_laws.proofs.UsefulLemmas as plan_laws_UsefulLemmas
+pub use Rattle.plan_laws.proofs.WithinLemmas as plan_laws_WithinLemmas
+pub use Rattle.plan_laws.specs.Closed as plan_laws_Closed
+pub use Rattle.plan_laws.specs.Useful as plan_laws_Useful

@@ -17,7 +17,7 @@ use Rattle.plan_tree.specs.Reads.{IsOverTables}
 use Rattle.plan_tree.specs.Space.{IsEmpty, IsPlanOf, IsSameSet}
 use Rattle.plan_tree.specs.Views.{path}
 use Rattle.sql_query.specs.Queries.{Query}
-use Rattle.join_laws.specs.Useful.{outside}
+use Rattle.plan_laws.specs.Useful.{outside}
 use Rattle.join_search.specs.Joins.{ArePlaced, IsJoinPath, IsPathAt}
 use Rattle.join_search.specs.Tables.{Fronts, none, paths_at}
 use Rattle.join_search.specs.declared.splits.Split.{Split}

@@ -10,7 +10,7 @@ use Rattle.sql_query.specs.declared.window.Window.{Window}
 use Rattle.plan_tree.specs.Paths.{Path}
 use Rattle.plan_tree.specs.Plans.{Plan}
 use Rattle.plan_tree.specs.Space.{IsBuilt}
-use Rattle.join_laws.specs.Useful.{IsBelow, IsOfUse, Suffices}
+use Rattle.plan_laws.specs.Useful.{IsBelow, IsOfUse, Suffices}
 use Rattle.join_search.specs.declared.useful.Asked.{Asked}
 
 -- what a plan of a cost costs at least in whatever is made of it: the total, or under a window the startup

@@ -10,7 +10,7 @@ ghost use Rattle.eq_classes.specs.Parts.{has_in};
 ghost use Rattle.pathkeys.specs.Finding.{class_numbers};
 ghost use Rattle.pathkeys.specs.Keys as keys;
 ghost use Rattle.plan_tree.specs.Space.{IsSameSet};
-ghost use Rattle.join_laws.specs.Useful as uses;
+ghost use Rattle.plan_laws.specs.Useful as uses;
 ghost use Rattle.join_search.specs.Sufficing.{IsPartOfUse, floor_in};
 
 use cost_rules::{MOST_COST, Pair};

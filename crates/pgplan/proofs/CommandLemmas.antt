@@ -1,8 +1,8 @@
 -- Words that are one command are no other one.
 use Rattle.std.proofs.Common.{◌≡◌, ◌↔◌, ℕ, List, Option, Some, sym, ◌∙◌}
-use Rattle.command_line.specs.declared.command.Command.{Command}
-use Rattle.command_line.specs.declared.command.Command.TheVariants.{Run, Sample}
-use Rattle.command_line.specs.Commands.{IsRunCommand, IsSampleCommand}
+use Rattle.pgplan.specs.declared.command.Command.{Command}
+use Rattle.pgplan.specs.declared.command.Command.TheVariants.{Run, Sample}
+use Rattle.pgplan.specs.Commands.{IsRunCommand, IsSampleCommand}
 
 module _ (r : Option Command) (words : List (List ℕ)) where
   pub run-is-no-sample : r ≡ Some Run → ((n : ℕ) → (r ≡ Some (Sample n)) ↔ IsSampleCommand n words) → (n : ℕ) → IsSampleCommand n words → ⊥

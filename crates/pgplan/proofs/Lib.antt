@@ -3,3 +3,7 @@ pub mod TopLemmas
 pub mod SummingLemmas
 pub mod SampleLemmas
 pub mod CommandLemmas
+pub mod DrawLemmas
+pub mod TextLemmas
+pub mod LengthLemmas
+pub mod WordLemmas

@@ -2,8 +2,8 @@
 use Rattle.std.proofs.Common.{◌≡◌, ◌⊎◌, ℕ, List, refl, sym, ◌∙◌, ap, subst, arith, inl, inr, Option, Result, Ok, Err, OnOk, IfErr, IsErrAnd}
 use Rattle.pg_base.specs.declared.faults.Fault.{Fault}
 use Rattle.catalog.specs.Contents.{Contents}
-use Rattle.fault_line.specs.Lines.{fault_line}
-use Rattle.fault_line.specs.Tells.{IsFieldOf}
+use Rattle.reply_text.specs.Lines.{fault_line}
+use Rattle.reply_text.specs.Tells.{IsFieldOf}
 use Rattle.sql_query.specs.Worlds.{World, empty_world}
 use Rattle.statements.specs.declared.end.End.{End}
 use Rattle.statements.specs.declared.end.End.TheVariants as ends

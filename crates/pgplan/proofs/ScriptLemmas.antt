@@ -6,7 +6,7 @@ use Rattle.pg_base.proofs.Bytes.{Appends-more}
 use Rattle.sql_query.specs.Worlds.{World, empty_world}
 use Rattle.statements.specs.declared.end.End.{End}
 use Rattle.statements.specs.declared.end.End.TheVariants as ends
-use Rattle.definitions.specs.Actions.{after}
+use Rattle.store.specs.Actions.{after}
 use Rattle.statements.specs.Accepted.{IsRead}
 use Rattle.statements.specs.Replies.{IsReply}
 use Rattle.statements.specs.Scripts.{Worked, AreWorked, AreFirst, world_after, place_after, replies}

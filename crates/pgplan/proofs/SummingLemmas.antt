@@ -3,7 +3,7 @@ use Rattle.std.proofs.Common.{◌≡◌, ◌<◌, ◌+◌, ℕ, List, [], ◌∷
 use Rattle.std.proofs.lemmas.List.{length-append}
 use Rattle.std.proofs.lemmas.List.Sums.{sum_by_push}
 use Rattle.std.specs.List.{cons_option}
-use Rattle.definitions.specs.Actions.{after}
+use Rattle.store.specs.Actions.{after}
 use Rattle.statements.specs.reply_Measures.{IsLeastPrice, rows_in}
 use Rattle.statements.specs.reply_measuring_Measured.{Measured}
 use Rattle.sql_query.specs.Worlds.{World, empty_world}

@@ -5,15 +5,15 @@ use Rattle.std.specs.Io.KnownBytes.{Appends, Consumes, IsAtEnd}
 use Rattle.pg_base.specs.Causes.{HasCause}
 use Rattle.pg_base.specs.Writing.{AppendsPrefix}
 use Rattle.pg_base.specs.declared.faults.Fault.{Fault}
-use Rattle.fault_line.specs.Lines.{fault_line}
+use Rattle.reply_text.specs.Lines.{fault_line}
 use Rattle.catalog.specs.Contents.{Contents}
 use Rattle.sql_query.specs.Worlds.{World, empty_world}
 use Rattle.statements.specs.declared.end.End.{End}
 use Rattle.statements.specs.declared.end.End.TheVariants as ends
-use Rattle.definitions.specs.Actions.{Action, after}
+use Rattle.store.specs.Actions.{Action, after}
 use Rattle.statements.specs.reply_Putting.{HasWriteCause}
 use Rattle.statements.specs.Faults.{IsFault}
-use Rattle.fault_line.specs.Tells.{IsFieldOf}
+use Rattle.reply_text.specs.Tells.{IsFieldOf}
 use Rattle.statements.specs.Steps.{HasField}
 use Rattle.statements.specs.Scripts.{Worked, AreWorked, world_after, place_after}
 use Rattle.pgplan.specs.Statuses.{IsTold, line_of_work, number_of, status_of_work}

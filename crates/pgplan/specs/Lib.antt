@@ -1,3 +1,5 @@
 pub mod Statuses
 pub mod Runs
 pub mod Summaries
+pub mod Script
+pub mod Commands

@@ -6,12 +6,12 @@ use Rattle.pg_base.specs.Causes.{Rose}
 use Rattle.pg_base.specs.Reading.{ConsumesUpTo}
 use Rattle.pg_base.specs.declared.faults.Fault.{Fault}
 use Rattle.pg_base.specs.declared.limits.TheConstants.{MOST_SCRIPT_BYTES}
-use Rattle.fault_line.specs.Lines.{fault_line}
-use Rattle.fault_line.specs.Tells.{IsFieldOf}
+use Rattle.reply_text.specs.Lines.{fault_line}
+use Rattle.reply_text.specs.Tells.{IsFieldOf}
 use Rattle.sql_query.specs.Worlds.{World, empty_world}
 use Rattle.statements.specs.declared.end.End.{End}
 use Rattle.statements.specs.declared.end.End.TheVariants as ends
-use Rattle.definitions.specs.Actions.{Action}
+use Rattle.store.specs.Actions.{Action}
 use Rattle.statements.specs.Accepted.{IsRead}
 use Rattle.statements.specs.Faults.{IsFault}
 use Rattle.statements.specs.reply_Replies.{Reply}

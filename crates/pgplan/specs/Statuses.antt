@@ -7,7 +7,7 @@ use Rattle.pg_base.specs.Writing.{AppendsPrefix}
 use Rattle.pg_base.specs.declared.reading.ReadFault.{ReadFault as ReadFaultType}
 use Rattle.pg_base.specs.declared.reading.ReadFault.TheVariants as reading
 use Rattle.catalog.specs.Contents.{Contents}
-use Rattle.fault_line.specs.Lines.{fault_line}
+use Rattle.reply_text.specs.Lines.{fault_line}
 use Rattle.statements.specs.declared.end.End.{End}
 use Rattle.statements.specs.declared.end.End.TheVariants as ends
 use Rattle.pgplan.specs.declared.status.Status.{Status}

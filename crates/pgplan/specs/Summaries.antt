@@ -4,8 +4,8 @@ use Rattle.std.specs.Fmt.{decimal}
 use Rattle.std.specs.List.{sum, sum_by}
 use Rattle.std.specs.Io.KnownBytes.{Appends}
 use Rattle.pg_base.specs.Writing.{AppendsPrefix}
-use Rattle.fault_line.specs.Lines.{fault_line}
-use Rattle.fault_line.specs.Tells.{IsFieldOf}
+use Rattle.reply_text.specs.Lines.{fault_line}
+use Rattle.reply_text.specs.Tells.{IsFieldOf}
 use Rattle.statements.specs.reply_Measures.{IsLeastPrice, rows_in}
 use Rattle.statements.specs.reply_measuring_Measured.{Measured}
 use Rattle.sql_query.specs.Worlds.{World, empty_world}

@@ -1,13 +1,20 @@
 //! pgplan: reads a script, plans and runs its queries, and prints plans, rows and advice.
+//! A script made from a number: tables, drawn rows, indexes and queries.
+//! The words of the command line.
 #![tactic(auto)]
 
+mod command;
+mod draws;
 mod machine;
 mod sample;
+mod script;
 mod status;
 mod top;
 mod totals;
 mod work;
 
+pub use command::{Command, read_command};
 pub use machine::Machine;
+pub use script::sample_script;
 pub use statements::{End, analysis_is_never_refused, one_reading, statements_go_on};
 pub use top::pgplan;

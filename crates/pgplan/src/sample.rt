@@ -3,18 +3,18 @@
 ghost use Rattle.std.specs.Prelude.{◌≡◌, ◌≤◌, ◌<◌, IfErr, OnOk, length};
 ghost use Rattle.pg_base.specs.declared.limits.TheConstants.{MOST_SCRIPT_BYTES};
 ghost use Rattle.statements.specs.reply_Putting.{HasWriteCause};
-ghost use Rattle.sampling.specs.Script.{script};
+ghost use Rattle.pgplan.specs.Script.{script};
 ghost use Rattle.sql_query.specs.Worlds.{empty_world};
 ghost use Rattle.pgplan.specs.Runs.{HasStatusCause};
 ghost use Rattle.pgplan.specs.Summaries.{EndsUnsummed, IsSumOver, IsSummedUp};
 
 use crate::machine::Machine;
+use crate::sample_script;
 use crate::status::Status;
 use crate::top::{close, tell};
 use crate::totals::{sum_up, summary_line};
 use heap::{Counters, Counting};
 use pg_base::{Sink, Steps, write_all};
-use sampling::sample_script;
 use statements::End;
 use std::alloc::Global;
 use std::marker::Brand;

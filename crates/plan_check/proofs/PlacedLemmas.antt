@@ -6,11 +6,11 @@ use Rattle.std.proofs.lemmas.List.{length-map}
 use Rattle.std.proofs.lemmas.Option.{get_or_from_slice_get, slice_get_within, same_Some}
 use Rattle.sql_query.specs.declared.window.Window.{Window}
 use Rattle.pathkeys.specs.Keys.{covers}
-use Rattle.certificates.specs.plan_tree_Paths.{startup_kept}
-use Rattle.certificates.specs.Certificates.{Entry}
-use Rattle.certificates.specs.Views.{entry}
-use Rattle.certificates.specs.declared.entry.Entry.{Entry as Entered}
-use Rattle.certificates.proofs.UnfoldLemmas.{entry-at}
+use Rattle.plan_tree.specs.Paths.{startup_kept}
+use Rattle.plan_check.specs.Certificates.{Entry}
+use Rattle.plan_check.specs.Views.{entry}
+use Rattle.plan_check.specs.declared.entry.Entry.{Entry as Entered}
+use Rattle.plan_check.proofs.UnfoldLemmas.{entry-at}
 use Rattle.plan_check.specs.Beating.{IsBeater, IsNoBeater, IsUnbeaten, beats}
 use Rattle.plan_check.specs.Placing.{ArePlaced, HasPut, IsAmong, IsOf, first_of, past_of}
 use Rattle.plan_check.specs.declared.places.SetPlaces.{SetPlaces}

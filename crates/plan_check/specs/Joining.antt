@@ -5,8 +5,8 @@ use Rattle.catalog.specs.Contents.{Contents}
 use Rattle.eq_classes.specs.Holding.{AreApart, IsWithin}
 use Rattle.sql_query.specs.Queries.{Query}
 use Rattle.pathkeys.specs.Keys.{Keys, covers}
-use Rattle.certificates.specs.plan_tree_Space.{IsEmpty, IsMergeList}
-use Rattle.certificates.specs.Certificates.{Entry}
+use Rattle.plan_tree.specs.Space.{IsEmpty, IsMergeList}
+use Rattle.plan_check.specs.Certificates.{Entry}
 
 -- the sets have no relation in common, the outer entry has no parameterisation, and the inner one's is within the outer set
 pub record MayNest (a b : Entry) : Type 0 where

@@ -1,6 +1,6 @@
 -- Where the entries of each set stand. Own.
 use Rattle.std.specs.Prelude.{◌≡◌, ◌<◌, ◌≤◌, ◌%◌, ℕ, List, get_or, slice_get, Some}
-use Rattle.certificates.specs.Certificates.{Entry}
+use Rattle.plan_check.specs.Certificates.{Entry}
 use Rattle.plan_check.specs.declared.places.TheConstants.{MOST_SETS}
 use Rattle.plan_check.specs.declared.places.SetPlaces.{SetPlaces}
 

@@ -1,8 +1,8 @@
 //! What is judged.
 
+use crate::Certificate;
 use crate::places::SetPlaces;
 use catalog::Catalog;
-use certificates::Certificate;
 use sql_query::Prepared;
 
 /// A certificate of a query over a catalogue, with the places of its entries.

@@ -1,11 +1,11 @@
 //! Where the entries of each set stand.
 
 ghost use Rattle.std.specs.Prelude.{◌≡◌, ◌<◌, ◌≤◌, length, map, min};
-ghost use Rattle.certificates.specs.Limit.{MOST_ENTRIES};
-ghost use Rattle.certificates.specs.Views.{entry};
+ghost use Rattle.plan_check.specs.Limit.{MOST_ENTRIES};
+ghost use Rattle.plan_check.specs.Views.{entry};
 ghost use Rattle.plan_check.specs.Placing.{ArePlaced, HasPut, first_of, past_of, slot};
 
-use certificates::Entry;
+use crate::Entry;
 use pg_base::RelSet;
 
 /// Sets of relations are told apart by so many numbers, as many as there are sets of the relations that a query may have.

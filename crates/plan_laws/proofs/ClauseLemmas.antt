@@ -8,13 +8,13 @@ use Rattle.eq_classes.specs.Clauses.{Set, one}
 use Rattle.eq_classes.specs.Parts.{union, is_all, is_base, is_join, is_param, is_join_param}
 use Rattle.eq_classes.specs.Holding.{AgreeOn, AreApart, Fits, IsWithin}
 use Rattle.eq_classes.proofs.WrittenLemmas.{in_typed}
-use Rattle.query_laws.specs.class_laws_LocalLemmas.{all_reads, base_reads, param_reads}
-use Rattle.query_laws.specs.class_laws_PartLemmas.{base_at, local_at, params_at, split_at}
+use Rattle.plan_laws.proofs.LocalLemmas.{all_reads, base_reads, param_reads}
+use Rattle.plan_laws.proofs.PartLemmas.{base_at, local_at, params_at, split_at}
 use Rattle.sql_query.specs.Queries.{Query, width}
 use Rattle.sql_query.specs.Tuples.{Tuple, row_of, merged, rows_of_relation, value_at}
 use Rattle.sql_query.specs.WellBound.{given_with, IsWellBound}
 use Rattle.sql_query.specs.Worlds.{World, IsWorld}
-use Rattle.query_laws.proofs.FitsLemmas.{values_fit}
+use Rattle.plan_laws.proofs.FitsLemmas.{values_fit}
 use Rattle.plan_tree.specs.Entries.{cell}
 use Rattle.plan_laws.specs.Meant.{HaveSameRows, holds_at}
 use Rattle.plan_laws.proofs.TupleLemmas.{row_at}

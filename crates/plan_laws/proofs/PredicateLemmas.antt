@@ -31,8 +31,8 @@ use Rattle.eq_classes.specs.Holding.{hold}
 use Rattle.sql_query.specs.Queries.{Query, width}
 use Rattle.sql_query.specs.Tuples.{Tuple, row_of, one_row, beside, value_at, rows_of_relation}
 use Rattle.sql_query.specs.Worlds.{World, IsWorld}
-use Rattle.query_laws.proofs.FitsLemmas.{values_fit}
-use Rattle.query_laws.proofs.MeaningLemmas.{all_is_each}
+use Rattle.plan_laws.proofs.FitsLemmas.{values_fit}
+use Rattle.plan_laws.proofs.MeaningLemmas.{all_is_each}
 use Rattle.plan_tree.specs.index_match_Numbered.{numbered, conditions_of, base}
 use Rattle.plan_tree.specs.index_match_Usable.{IsUsable, IsUsableBy}
 use Rattle.plan_tree.specs.Bitmaps.{IsIndexOn}

@@ -3,8 +3,8 @@ use Rattle.std.proofs.Common.{arith}
 use Rattle.catalog.specs.Contents.{Contents}
 use Rattle.sql_query.specs.Queries.{Query}
 use Rattle.sql_query.specs.WellBound.{IsWellBound}
-use Rattle.query_laws.proofs.FewLemmas.{atoms_few}
-use Rattle.query_laws.proofs.OverLemmas.{clauses_over}
+use Rattle.plan_laws.proofs.FewLemmas.{atoms_few}
+use Rattle.plan_laws.proofs.OverLemmas.{clauses_over}
 use Rattle.plan_tree.specs.Reads.{IsOverTables}
 
 pub bound-over : (c : Contents) (q : Query) → IsWellBound c q → IsOverTables c q

@@ -1,1 +1,9 @@
 pub mod ByteLemmas
+pub mod GivenLemmas
+pub mod IndexLemmas
+pub mod KeyLemmas
+pub mod ScannedLemmas
+pub mod ListLemmas
+pub mod CompareLemmas
+pub mod LineLemmas
+pub mod TreeLemmas

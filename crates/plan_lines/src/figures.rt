@@ -6,7 +6,7 @@ ghost use Rattle.certificate_text.specs.HasText.{IsWritable};
 ghost use Rattle.plan_lines.specs.Parts.{figures_behind, lacks};
 
 use crate::lines::cut;
-use line_cursor::LineCursor;
+use certificate_text::LineCursor;
 
 /// The cost and the rows behind a parenthesis.
 fn read_figures(text: &[u8]) -> Option<(u64, u64)>

@@ -6,12 +6,12 @@ use Rattle.sql_query.specs.Queries.{Query}
 use Rattle.plan_tree.specs.Plans.{BitTree}
 use Rattle.plan_tree.specs.Views.{bits}
 use Rattle.plan_tree.specs.declared.bits.BitTree.{BitTree as Bits}
-use Rattle.plan_bitmaps.specs.explain_Texts.{bits_text}
-use Rattle.plan_bitmaps.specs.plan_lines_Parts.{IsShallow}
-use Rattle.plan_bitmaps.specs.plan_titles_HasText.{HasBits}
-use Rattle.plan_bitmaps.specs.Lines.{beneath, tree_title}
-use Rattle.plan_bitmaps.specs.Stands.{Stands}
-use Rattle.plan_bitmaps.proofs.TreeLemmas.{IsNext, tree-item}
+use Rattle.plan_lines.specs.explain_Texts.{bits_text}
+use Rattle.plan_lines.specs.Parts.{IsShallow}
+use Rattle.plan_lines.specs.HasText.{HasBits}
+use Rattle.plan_lines.specs.Lines.{beneath, tree_title}
+use Rattle.plan_lines.specs.Stands.{Stands}
+use Rattle.plan_lines.proofs.TreeLemmas.{IsNext, tree-item}
 
 pub bits-read : {E : Type 0} (c : Contents) (q : Query) (lawful : IsLawful c) (d : ℕ) (left mid new line : List ℕ) (next : Option (List ℕ)) (r : Result (Option Bits) E) → IsNext (d + 1) left next mid → next ≡ Some line →
     IfOk r (λ o. (b : BitTree) (rest : List ℕ) → HasBits c q b → Stands (d + 1) b → IsShallow (d + 1) rest → line ≡ tree_title c q b → mid ≡ beneath c q (d + 1) b ++ rest → (option_map bits o ≡ Some b) × (new ≡ rest)) →

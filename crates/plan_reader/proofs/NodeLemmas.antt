@@ -13,19 +13,19 @@ use Rattle.eq_classes.specs.Parts.{union}
 use Rattle.pathkeys.specs.Keys.{Keys}
 use Rattle.sql_query.specs.Queries.{Query, width}
 use Rattle.plan_tree.specs.Plans.{Plan, seq, index, index_only, bitmap, sort, nest, merge, BitTree, set_of}
-use Rattle.plan_bitmaps.specs.explain_Texts.{bits_text, figures_text, keys_text, lead, rel_text, scanned_text, title}
+use Rattle.plan_lines.specs.explain_Texts.{bits_text, figures_text, keys_text, lead, rel_text, scanned_text, title}
 use Rattle.std.specs.Fmt.{decimal}
-use Rattle.plan_bitmaps.specs.certificate_text_HasText.{HasKeysText}
-use Rattle.plan_judge.specs.Numbered.{Pair, nodes}
-use Rattle.plan_bitmaps.specs.plan_lines_Parts.{IsShallow}
-use Rattle.plan_bitmaps.specs.plan_lines_kinds_Kind.{Kind}
-use Rattle.plan_bitmaps.specs.plan_lines_kinds_Kind_TheVariants as kinds
-use Rattle.plan_bitmaps.specs.plan_titles_HasText.{HasBits, IsScanned, IsText}
-use Rattle.plan_bitmaps.specs.plan_titles_Kinds.{behind_words, kind_of}
-use Rattle.plan_bitmaps.specs.plan_titles_Scans.{IsIndexScan, indexed_text}
-use Rattle.plan_bitmaps.specs.plan_titles_indexes_IndexScan.{IndexScan}
-use Rattle.plan_bitmaps.specs.Stands.{Stands}
-use Rattle.plan_bitmaps.proofs.LineLemmas.{line-shallow, shallow-more}
+use Rattle.plan_lines.specs.certificate_text_HasText.{HasKeysText}
+use Rattle.plan_space.specs.Numbered.{Pair, nodes}
+use Rattle.plan_lines.specs.Parts.{IsShallow}
+use Rattle.plan_lines.specs.declared.kinds.Kind.{Kind}
+use Rattle.plan_lines.specs.declared.kinds.Kind.TheVariants as kinds
+use Rattle.plan_lines.specs.HasText.{HasBits, IsScanned, IsText}
+use Rattle.plan_lines.specs.TitleKinds.{behind_words, kind_of}
+use Rattle.plan_lines.specs.Scans.{IsIndexScan, indexed_text}
+use Rattle.plan_lines.specs.declared.indexes.IndexScan.{IndexScan}
+use Rattle.plan_lines.specs.Stands.{Stands}
+use Rattle.plan_lines.proofs.LineLemmas.{line-shallow, shallow-more}
 use Rattle.plan_reader.specs.Beneath.{AreRead, IsLineOf, IsRead}
 use Rattle.plan_reader.specs.Written.{Fits, StandsAt, first_pair, later_pairs, line_with, written_at, written_beneath}
 use Rattle.plan_reader.specs.declared.lines.NodeLine.{NodeLine}

@@ -8,9 +8,9 @@ use Rattle.sql_query.specs.Queries.{Query}
 use Rattle.sql_query.specs.declared.window.Window.{Window}
 use Rattle.plan_tree.specs.Costs.{cost, estimate}
 use Rattle.plan_tree.specs.Plans.{Plan, seq, index, index_only, bitmap, sort, nest, merge}
-use Rattle.plan_bitmaps.specs.explain_Texts.{bits_text, first_depth, lead, node_line, numbers_text, plan_text, text_at, title}
-use Rattle.plan_judge.proofs.PartLemmas.{own-count}
-use Rattle.plan_judge.specs.Numbered.{nodes, own_numbers, own_pair}
+use Rattle.plan_lines.specs.explain_Texts.{bits_text, first_depth, lead, node_line, numbers_text, plan_text, text_at, title}
+use Rattle.plan_space.proofs.PartLemmas.{own-count}
+use Rattle.plan_space.specs.Numbered.{nodes, own_numbers, own_pair}
 use Rattle.plan_reader.specs.Written.{line_with, written_at, written_text}
 
 module _ (c : Contents) (q : Query) where

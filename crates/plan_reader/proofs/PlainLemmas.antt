@@ -20,24 +20,24 @@ use Rattle.eq_classes.specs.Classes.{Class}
 use Rattle.eq_classes.specs.Clauses.{Set, first_in}
 use Rattle.eq_classes.specs.Listing.{blank, class_at}
 use Rattle.eq_classes.proofs.ListLemmas.{IsIn, found_in, in_from_contains}
-use Rattle.line_cursor.proofs.NumeralLemmas.{decimal-word}
+use Rattle.certificate_text.proofs.NumeralLemmas.{decimal-word}
 use Rattle.sort_rows.proofs.ColumnLemmas.{member_is}
 use Rattle.sql_query.specs.Queries.{Query, width}
 use Rattle.sql_query.specs.WellBound.{IsColumnOf, IsWellBound}
 use Rattle.pathkeys.specs.Keys.{Keys}
 use Rattle.plan_tree.specs.Plans.{Plan, seq, index, index_only, bitmap, sort, nest, merge, set_of}
-use Rattle.plan_bitmaps.specs.explain_Texts.{aliases_in, column_text, direction_text, family_text, figures_text, given_text, key_text, keys_text, lead, member_text, rel_text, relation_text, scanned_text, title, with_alias, with_commas}
-use Rattle.plan_bitmaps.specs.certificate_text_HasText.{HasKeysText}
-use Rattle.plan_bitmaps.specs.certificate_lines_NameLemmas.{index-word, name-word}
-use Rattle.plan_judge.specs.Numbered.{Pair}
-use Rattle.plan_bitmaps.specs.plan_lines_Kinds.{words}
-use Rattle.plan_bitmaps.specs.plan_lines_Parts.{figures_behind, lacks}
-use Rattle.plan_bitmaps.specs.plan_titles_KeyLemmas.{title-is}
-use Rattle.plan_bitmaps.specs.plan_titles_HasText.{IsIndexOfQuery, IsScanned, IsText}
-use Rattle.plan_bitmaps.specs.plan_titles_Scans.{indexed_text}
-use Rattle.plan_bitmaps.specs.plan_titles_indexes_IndexScan.{IndexScan}
-use Rattle.plan_bitmaps.proofs.LineLemmas.{lacks-forty, lacks-ten, plain, plain-both, word-plain}
-use Rattle.plan_bitmaps.specs.plan_titles_Kinds.{behind_words, kind_of}
+use Rattle.plan_lines.specs.explain_Texts.{aliases_in, column_text, direction_text, family_text, figures_text, given_text, key_text, keys_text, lead, member_text, rel_text, relation_text, scanned_text, title, with_alias, with_commas}
+use Rattle.plan_lines.specs.certificate_text_HasText.{HasKeysText}
+use Rattle.plan_lines.specs.certificate_entries_NameLemmas.{index-word, name-word}
+use Rattle.plan_space.specs.Numbered.{Pair}
+use Rattle.plan_lines.specs.Kinds.{words}
+use Rattle.plan_lines.specs.Parts.{figures_behind, lacks}
+use Rattle.plan_lines.proofs.KeyLemmas.{title-is}
+use Rattle.plan_lines.specs.HasText.{IsIndexOfQuery, IsScanned, IsText}
+use Rattle.plan_lines.specs.Scans.{indexed_text}
+use Rattle.plan_lines.specs.declared.indexes.IndexScan.{IndexScan}
+use Rattle.plan_lines.proofs.LineLemmas.{lacks-forty, lacks-ten, plain, plain-both, word-plain}
+use Rattle.plan_lines.specs.TitleKinds.{behind_words, kind_of}
 use Rattle.plan_reader.specs.Written.{line_with}
 
 name-plain : (w : List ℕ) → IsName w → plain w ≡ true

@@ -7,9 +7,9 @@ use Rattle.catalog.specs.Contents.{Contents}
 use Rattle.sql_query.specs.Queries.{Query}
 use Rattle.plan_tree.specs.Plans.{Plan}
 use Rattle.plan_tree.specs.Views.{plan}
-use Rattle.plan_judge.specs.Numbered.{Pair}
-use Rattle.plan_judge.specs.declared.numbers.Written.{Written}
-use Rattle.plan_bitmaps.proofs.LineLemmas.{shallow-end}
+use Rattle.plan_space.specs.Numbered.{Pair}
+use Rattle.plan_space.specs.declared.numbers.Written.{Written}
+use Rattle.plan_lines.proofs.LineLemmas.{shallow-end}
 use Rattle.plan_reader.specs.Beneath.{IsRead}
 use Rattle.plan_reader.specs.Written.{IsWritten, written_text}
 use Rattle.plan_reader.specs.declared.reading.WrittenFault.{WrittenFault}

@@ -24,27 +24,27 @@ use Rattle.pathkeys.specs.Keys.{Keys}
 use Rattle.sql_query.specs.Queries.{Query, width}
 use Rattle.sql_query.specs.WellBound.{IsWellBound}
 use Rattle.plan_tree.specs.Plans.{Plan, seq, index, index_only, bitmap, sort, nest, merge, BitTree, leaf, all_hold, some_arm, BitTrees, no_trees, tree_and, set_of}
-use Rattle.plan_bitmaps.specs.explain_Texts.{bits_text, conjunct_by, direction_text, family_text, figures_text, key_text, member_text, with_commas, keys_text, lead, leaf_line, number_text, rel_text, scanned_text, title, trees_text}
-use Rattle.plan_bitmaps.specs.explain_laws_ClassLemmas.{AreShownKeys, IsShownKey, keys-split}
-use Rattle.plan_bitmaps.specs.explain_laws_ConjunctLemmas.{conjunct-same}
-use Rattle.plan_bitmaps.specs.explain_laws_NameLemmas.{alias-name, alias-same, index-name, index-same, relation-table, table-name}
-use Rattle.plan_bitmaps.specs.explain_laws_SplitLemmas.{decimal-word, no-space, relation-split, split, word}
-use Rattle.plan_bitmaps.specs.certificate_entries_ClauseLemmas.{conjunct-small}
-use Rattle.plan_bitmaps.specs.certificate_text_HasText.{HasKeysText}
-use Rattle.plan_judge.specs.Numbered.{Pair, nodes}
-use Rattle.plan_bitmaps.specs.plan_lines_Kinds.{words}
-use Rattle.plan_bitmaps.specs.plan_lines_Parts.{IsShallow}
-use Rattle.plan_bitmaps.specs.plan_lines_kinds_Kind.{Kind}
-use Rattle.plan_bitmaps.specs.plan_lines_kinds_Kind_TheVariants as kinds
-use Rattle.plan_bitmaps.specs.plan_titles_HasText.{HasBits, HaveBits, IsIndexOfQuery, IsScanned, IsText}
-use Rattle.plan_bitmaps.specs.plan_titles_Kinds.{behind_words, kind_of}
-use Rattle.plan_bitmaps.specs.plan_titles_Scans.{indexed_text}
-use Rattle.plan_bitmaps.specs.plan_titles_KeyLemmas.{title-is}
-use Rattle.plan_bitmaps.specs.plan_titles_ScannedLemmas.{scanned-split}
-use Rattle.plan_bitmaps.specs.Lines.{beneath, leaf_title, tree_title}
-use Rattle.plan_bitmaps.proofs.CompareLemmas.{some-of}
-use Rattle.plan_bitmaps.proofs.LineLemmas.{line-shallow, shallow-end, shallow-more}
-use Rattle.plan_bitmaps.proofs.TreeLemmas.{bits-is}
+use Rattle.plan_lines.specs.explain_Texts.{bits_text, conjunct_by, direction_text, family_text, figures_text, key_text, member_text, with_commas, keys_text, lead, leaf_line, number_text, rel_text, scanned_text, title, trees_text}
+use Rattle.plan_lines.specs.explain_laws_ClassLemmas.{AreShownKeys, IsShownKey, keys-split}
+use Rattle.plan_lines.specs.explain_laws_ConjunctLemmas.{conjunct-same}
+use Rattle.plan_lines.specs.explain_laws_NameLemmas.{alias-name, alias-same, index-name, index-same, relation-table, table-name}
+use Rattle.plan_lines.specs.explain_laws_SplitLemmas.{decimal-word, no-space, relation-split, split, word}
+use Rattle.plan_lines.specs.certificate_entries_ClauseLemmas.{conjunct-small}
+use Rattle.plan_lines.specs.certificate_text_HasText.{HasKeysText}
+use Rattle.plan_space.specs.Numbered.{Pair, nodes}
+use Rattle.plan_lines.specs.Kinds.{words}
+use Rattle.plan_lines.specs.Parts.{IsShallow}
+use Rattle.plan_lines.specs.declared.kinds.Kind.{Kind}
+use Rattle.plan_lines.specs.declared.kinds.Kind.TheVariants as kinds
+use Rattle.plan_lines.specs.HasText.{HasBits, HaveBits, IsIndexOfQuery, IsScanned, IsText}
+use Rattle.plan_lines.specs.TitleKinds.{behind_words, kind_of}
+use Rattle.plan_lines.specs.Scans.{indexed_text}
+use Rattle.plan_lines.proofs.KeyLemmas.{title-is}
+use Rattle.plan_lines.proofs.ScannedLemmas.{scanned-split}
+use Rattle.plan_lines.specs.Lines.{beneath, leaf_title, tree_title}
+use Rattle.plan_lines.proofs.CompareLemmas.{some-of}
+use Rattle.plan_lines.proofs.LineLemmas.{line-shallow, shallow-end, shallow-more}
+use Rattle.plan_lines.proofs.TreeLemmas.{bits-is}
 use Rattle.plan_reader.specs.Written.{Fits, IsWritten, first_pair, later_pairs, line_with, written_at, written_beneath, written_text}
 use Rattle.plan_reader.proofs.NodeLemmas.{at-bitmap, at-index, at-index-only, at-merge, at-nest, at-seq, at-sort, nodes-some}
 

@@ -3,10 +3,10 @@ use Rattle.std.specs.Prelude.{◌≡◌, ◌+◌, ℕ, List, ◌++◌, All, leng
 use Rattle.catalog.specs.Contents.{Contents}
 use Rattle.sql_query.specs.Queries.{Query}
 use Rattle.plan_tree.specs.Plans.{Plan, nest}
-use Rattle.plan_judge.specs.Numbered.{Pair, nodes}
-use Rattle.plan_bitmaps.specs.plan_lines_Parts.{IsShallow}
-use Rattle.plan_bitmaps.specs.plan_lines_kinds_Kind.{Kind}
-use Rattle.plan_bitmaps.specs.plan_titles_HasText.{IsText}
+use Rattle.plan_space.specs.Numbered.{Pair, nodes}
+use Rattle.plan_lines.specs.Parts.{IsShallow}
+use Rattle.plan_lines.specs.declared.kinds.Kind.{Kind}
+use Rattle.plan_lines.specs.HasText.{IsText}
 use Rattle.plan_reader.specs.declared.lines.NodeLine.{NodeLine}
 use Rattle.plan_reader.specs.Written.{Fits, StandsAt, written_at, written_beneath}
 

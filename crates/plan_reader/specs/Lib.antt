@@ -1,4 +1,4 @@
 pub mod Beneath
 pub mod Written
 -- What callers name of the crates below.
-pub use Rattle.plan_bitmaps.specs.certificate_text_Texts as certificate_text_Texts
+pub use Rattle.plan_lines.specs.certificate_text_Texts as certificate_text_Texts

@@ -4,11 +4,11 @@ use Rattle.std.specs.Fmt.{decimal}
 use Rattle.catalog.specs.Contents.{Contents}
 use Rattle.sql_query.specs.Queries.{Query}
 use Rattle.plan_tree.specs.Plans.{Plan, seq, index, index_only, bitmap, sort, nest, merge}
-use Rattle.plan_bitmaps.specs.explain_Texts.{bits_text, figures_text, lead, title}
-use Rattle.plan_bitmaps.specs.certificate_text_HasText.{IsWritable}
-use Rattle.plan_judge.specs.Numbered.{Pair, lines, nodes}
-use Rattle.plan_bitmaps.specs.plan_titles_HasText.{IsText}
-use Rattle.plan_bitmaps.specs.Stands.{MOST_DEPTH, Stands}
+use Rattle.plan_lines.specs.explain_Texts.{bits_text, figures_text, lead, title}
+use Rattle.plan_lines.specs.certificate_text_HasText.{IsWritable}
+use Rattle.plan_space.specs.Numbered.{Pair, lines, nodes}
+use Rattle.plan_lines.specs.HasText.{IsText}
+use Rattle.plan_lines.specs.Stands.{MOST_DEPTH, Stands}
 
 -- the numbers of a plan's first line, which come before those of the lines beneath it
 abbrev pub first_pair : List Pair → Pair

@@ -2,17 +2,16 @@
 
 ghost use Rattle.std.specs.Prelude.{◌≡◌, ◌≤◌, ◌++◌, ℕ, List, All, IfSome, Some, length, option_map};
 ghost use Rattle.std.specs.Fmt.{decimal};
-ghost use Rattle.plan_bitmaps.specs.explain_Texts.{figures_text};
-ghost use Rattle.plan_judge.specs.Numbered.{Pair, nodes};
+ghost use Rattle.plan_lines.specs.explain_Texts.{figures_text};
+ghost use Rattle.plan_space.specs.Numbered.{Pair, nodes};
 ghost use Rattle.plan_tree.specs.Views.{plan};
 ghost use Rattle.sql_query.specs.WellBound.{IsWellBound};
-ghost use Rattle.plan_bitmaps.specs.plan_titles_HasText.{IsText};
+ghost use Rattle.plan_lines.specs.HasText.{IsText};
 ghost use Rattle.plan_reader.specs.Beneath.{IsBehind};
 ghost use Rattle.plan_reader.specs.Written.{Fits, StandsAt, line_with, written_at};
 
 use catalog::Catalog;
-use plan_bitmaps::plan_titles::{behind, behind_title};
-use plan_bitmaps::{behind_bits, behind_lead, behind_number};
+use plan_lines::{behind, behind_bits, behind_lead, behind_number, behind_title};
 use plan_tree::Plan;
 use sql_query::Prepared;
 

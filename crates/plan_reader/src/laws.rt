@@ -5,8 +5,8 @@ ghost use Rattle.catalog.specs.Contents.{Contents, IsLawful};
 ghost use Rattle.sql_query.specs.Queries.{Query};
 ghost use Rattle.sql_query.specs.WellBound.{IsWellBound};
 ghost use Rattle.plan_tree.specs.Plans.{Plan};
-ghost use Rattle.plan_bitmaps.specs.explain_Texts.{plan_text};
-ghost use Rattle.plan_judge.specs.Numbered.{Pair, nodes, own_numbers};
+ghost use Rattle.plan_lines.specs.explain_Texts.{plan_text};
+ghost use Rattle.plan_space.specs.Numbered.{Pair, nodes, own_numbers};
 ghost use Rattle.plan_reader.specs.Written.{IsWritten, written_text};
 
 /// The text of a plan of a query without a window is the one that is written with the plan's own numbers, a pair for each node.

@@ -1,20 +1,20 @@
 //! The first line of a node.
 
 ghost use Rattle.std.specs.Prelude.{◌≡◌, ◌++◌, ◌∷◌, ℕ, List, IsSomeAnd, codes, true};
-ghost use Rattle.plan_judge.specs.Numbered.{Pair};
-ghost use Rattle.plan_bitmaps.specs.certificate_text_HasText.{IsWritable};
-ghost use Rattle.plan_bitmaps.specs.plan_lines_Kinds.{words};
-ghost use Rattle.plan_bitmaps.specs.plan_lines_Parts.{figures_behind, lacks};
-ghost use Rattle.plan_bitmaps.specs.plan_lines_kinds_Kind as kinds;
+ghost use Rattle.plan_space.specs.Numbered.{Pair};
+ghost use Rattle.plan_lines.specs.certificate_text_HasText.{IsWritable};
+ghost use Rattle.plan_lines.specs.Kinds.{words};
+ghost use Rattle.plan_lines.specs.Parts.{figures_behind, lacks};
+ghost use Rattle.plan_lines.specs.declared.kinds.Kind as kinds;
 ghost use Rattle.plan_tree.specs.Plans as plans;
 ghost use Rattle.sql_query.specs.WellBound.{IsWellBound};
-ghost use Rattle.plan_bitmaps.specs.plan_titles_HasText.{IsText};
-ghost use Rattle.plan_bitmaps.specs.plan_titles_Kinds.{behind_words, kind_of};
+ghost use Rattle.plan_lines.specs.HasText.{IsText};
+ghost use Rattle.plan_lines.specs.TitleKinds.{behind_words, kind_of};
 ghost use Rattle.plan_reader.specs.Beneath.{IsLineOf};
 ghost use Rattle.plan_reader.specs.Written.{Fits, line_with};
 
 use catalog::Catalog;
-use plan_bitmaps::plan_lines::{Kind, Lines, read_kind, read_line};
+use plan_lines::{Kind, Lines, read_kind, read_line};
 use sql_query::Prepared;
 
 /// The first line of a node: what it says.

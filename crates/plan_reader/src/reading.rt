@@ -1,11 +1,11 @@
 //! The whole text of a plan.
 
 ghost use Rattle.std.specs.Prelude.{◌≡◌, ◌↔◌, ℕ, List, IfErr, IfOk, IsTrue};
-ghost use Rattle.plan_judge.specs.Numbered.{Pair};
+ghost use Rattle.plan_space.specs.Numbered.{Pair};
 ghost use Rattle.plan_tree.specs.Plans as plans;
 ghost use Rattle.plan_tree.specs.Views.{plan};
 ghost use Rattle.sql_query.specs.WellBound.{IsWellBound};
-ghost use Rattle.plan_bitmaps.specs.plan_titles_HasText.{IsText};
+ghost use Rattle.plan_lines.specs.HasText.{IsText};
 ghost use Rattle.plan_reader.specs.Written.{IsWritten, StandsAt};
 ghost use Rattle.plan_reader.specs.declared.reading.WrittenFault.TheVariants.{P1};
 
@@ -13,8 +13,8 @@ use crate::compared::behind_plan;
 use crate::nodes::read_node;
 use crate::sizes::count_up;
 use catalog::Catalog;
-use plan_bitmaps::plan_lines::Lines;
-use plan_judge::{Numbers, Written};
+use plan_lines::Lines;
+use plan_space::{Numbers, Written};
 use plan_tree::Plan;
 use sql_query::Prepared;
 use std::alloc::{AllocError, Global};

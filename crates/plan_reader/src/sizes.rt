@@ -1,7 +1,7 @@
 //! How many lines a plan has.
 
 ghost use Rattle.std.specs.Prelude.{◌≡◌, ◌≤◌, ◌+◌, min};
-ghost use Rattle.plan_judge.specs.Numbered.{all_bit_lines, bit_lines, lines};
+ghost use Rattle.plan_space.specs.Numbered.{all_bit_lines, bit_lines, lines};
 ghost use Rattle.plan_tree.specs.Views.{bits, bits_all, plan};
 
 use plan_tree::{BitTree, Plan};

@@ -8,10 +8,10 @@ use Rattle.sql_query.specs.WellBound.{IsWellBound}
 use Rattle.plan_tree.specs.Plans.{Plan, seq, index, index_only, bitmap, sort, nest, merge}
 use Rattle.plan_tree.specs.Views.{plan}
 use Rattle.plan_tree.specs.Space.{IsBuilt, IsFinished}
-use Rattle.plan_judge.specs.Judging.{IsBadJoin, IsJudged, IsOutside, IsUnfinished, IsWrongNumber, IsWrongPair, unsorted}
-use Rattle.plan_judge.specs.Numbered.{Pair, lines, lines_from, own_numbers}
-use Rattle.plan_judge.specs.declared.judged.Judged.{Judged}
-use Rattle.plan_judge.specs.declared.judged.Judged.TheVariants.{Good, Outside, Limit, Number}
+use Rattle.plan_space.specs.Judging.{IsBadJoin, IsJudged, IsOutside, IsUnfinished, IsWrongNumber, IsWrongPair, unsorted}
+use Rattle.plan_space.specs.Numbered.{Pair, lines, lines_from, own_numbers}
+use Rattle.plan_space.specs.declared.judged.Judged.{Judged}
+use Rattle.plan_space.specs.declared.judged.Judged.TheVariants.{Good, Outside, Limit, Number}
 use Rattle.plan_reader.specs.Written.{IsWritten}
 use Rattle.plan_reader.proofs.UniqueLemmas.{one-plan}
 use Rattle.plan_reply.specs.Told.{IsFault, IsFaulted, IsGoodPlan, IsRefusedPlan, IsSameTold, IsTold, faulted, invalid_line, reason_text, unread}

@@ -13,12 +13,12 @@ use Rattle.plan_tree.specs.Counts.{fetches, looks}
 use Rattle.plan_tree.specs.Plans.{Plan}
 use Rattle.plan_tree.specs.Views.{plan}
 use Rattle.reply.specs.scan_exec_Coming.{Coming, coming}
-use Rattle.join_laws.specs.Closed.{is_scan}
+use Rattle.plan_laws.specs.Closed.{is_scan}
 use Rattle.executor.specs.Reading.{Reading}
 use Rattle.reply.specs.explain_Texts.{plan_text}
 use Rattle.reply.specs.plan_laws_FinishedLemmas.{finished_is_meaning}
-use Rattle.reply.specs.order_laws_FinishedOrderLemmas.{finished_is_ordered}
-use Rattle.plan_judge.specs.Numbered.{Pair}
+use Rattle.reply.specs.plan_laws_FinishedOrderLemmas.{finished_is_ordered}
+use Rattle.plan_space.specs.Numbered.{Pair}
 use Rattle.plan_reader.specs.Written.{written_text}
 use Rattle.plan_reader.proofs.OwnLemmas.{own-plan}
 use Rattle.reply.specs.Answers.{result_text, tuples_of}

@@ -1,1 +1,4 @@
 pub mod Told
+pub mod Tabled
+-- What callers name of the crates below.
+pub use Rattle.planned_table.specs.certificate_laws_Arms as certificate_laws_Arms

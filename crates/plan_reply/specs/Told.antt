@@ -13,10 +13,10 @@ use Rattle.plan_tree.specs.Least.{IsBestPlan}
 use Rattle.plan_tree.specs.Plans.{Plan}
 use Rattle.plan_tree.specs.Space.{IsFinished}
 use Rattle.plan_tree.specs.Views.{plan}
-use Rattle.plan_judge.specs.Judging.{IsGood, IsJudged}
-use Rattle.plan_judge.specs.Numbered.{Pair}
-use Rattle.plan_judge.specs.declared.judged.Judged.{Judged}
-use Rattle.plan_judge.specs.declared.judged.Judged.TheVariants.{Good, Outside, Limit, Number}
+use Rattle.plan_space.specs.Judging.{IsGood, IsJudged}
+use Rattle.plan_space.specs.Numbered.{Pair}
+use Rattle.plan_space.specs.declared.judged.Judged.{Judged}
+use Rattle.plan_space.specs.declared.judged.Judged.TheVariants.{Good, Outside, Limit, Number}
 use Rattle.plan_reader.specs.Written.{IsWritten}
 use Rattle.reply.specs.Answers.{result_text, tuples_of}
 use Rattle.reply.specs.Effort.{answer_fetches, answer_looks, exactly}

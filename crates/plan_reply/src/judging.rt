@@ -1,7 +1,7 @@
 //! A plan's text read and judged.
 
 ghost use Rattle.std.specs.Prelude.{◌≡◌, ◌≤◌, ℕ, IfOk, List, codes, length};
-ghost use Rattle.plan_judge.specs.Numbered.{lines, nodes};
+ghost use Rattle.plan_space.specs.Numbered.{lines, nodes};
 ghost use Rattle.plan_reader.specs.Written.{IsWritten};
 ghost use Rattle.plan_reader.specs.declared.reading.WrittenFault.TheVariants.{P1};
 ghost use Rattle.plan_reply.specs.Told as texts;
@@ -13,8 +13,8 @@ use crate::lines::{invalid_line, reason_text};
 use crate::told::Told;
 use catalog::Catalog;
 use pg_base::Memory;
-use plan_judge::{Written, judge};
 use plan_reader::{WrittenFault, read_plan};
+use plan_space::{Written, judge};
 use sql_query::Prepared;
 use std::alloc::{AllocError, Global};
 

@@ -1,13 +1,19 @@
 //! The reply to USE PLAN of a SELECT: the plan that is written out, run, or the first reason for which it is not.
+//! The reply to EXPLAIN (TABLE): a plan's text, and the certificate of the table that shows that no other plan undercuts it.
 #![tactic(auto)]
 
 mod answer;
 mod judging;
 mod laws;
 mod lines;
+mod print;
+mod shown;
+mod text;
 mod told;
 
 pub use answer::answer_told;
 pub use judging::judge_text;
 pub use laws::{a_block_tells_one_thing, told_blocks_have_replies};
+pub use print::explain_table;
+pub use text::table_text;
 pub use told::Told;

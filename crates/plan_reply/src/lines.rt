@@ -6,7 +6,7 @@ ghost use Rattle.plan_reply.specs.Told.{IsFault};
 
 use cost_rules::MOST_COST;
 use pg_base::Memory;
-use plan_judge::Judged;
+use plan_space::Judged;
 use std::alloc::Global;
 
 /// That a plan is none of the plan space, and the line of the node at fault.

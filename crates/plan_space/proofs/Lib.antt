@@ -4,3 +4,6 @@ pub mod NamedLemmas
 pub mod OrderLemmas
 pub mod SortLemmas
 pub mod TreeLemmas
+pub mod JudgeLemmas
+pub mod OutsideLemmas
+pub mod PartLemmas

@@ -16,13 +16,13 @@ use Rattle.plan_tree.specs.Views.{path, plan}
 use Rattle.plan_tree.specs.declared.path.Path.{Path as Costed}
 use Rattle.plan_tree.proofs.FrontLemmas.{contains-mapped}
 use Rattle.std.proofs.lemmas.List.Elements.{All-contains}
-use Rattle.table_texts.specs.planner_Finishing.{finished}
-use Rattle.certificates.specs.Certificates.{Certificate, Entry, Side, finish_at, join_by, plan_at, plans_of, side_at, sorted_if}
-use Rattle.certificates.specs.Views.{entry}
-use Rattle.certificates.specs.declared.entry.Entry.{Entry as Entered}
-use Rattle.kept_laws.specs.certificate_laws_Kept.{AreEntriesOf, AreOf, IsEntryOf}
-use Rattle.kept_laws.specs.certificate_laws_KeptLemmas.{unfolded-are}
-use Rattle.kept_laws.specs.Made.{AreMadeInTurn, IsMadeAmong, IsSideAmong, tree_of}
+use Rattle.certificate_laws.specs.planner_Finishing.{finished}
+use Rattle.plan_check.specs.Certificates.{Certificate, Entry, Side, finish_at, join_by, plan_at, plans_of, side_at, sorted_if}
+use Rattle.plan_check.specs.Views.{entry}
+use Rattle.plan_check.specs.declared.entry.Entry.{Entry as Entered}
+use Rattle.certificate_laws.specs.Kept.{AreEntriesOf, AreOf, IsEntryOf}
+use Rattle.certificate_laws.proofs.KeptLemmas.{unfolded-are}
+use Rattle.certificate_laws.specs.Made.{AreMadeInTurn, IsMadeAmong, IsSideAmong, tree_of}
 use Rattle.planned_table.specs.Gathering.{shown}
 use Rattle.planned_table.specs.Numbering.{present, trees}
 

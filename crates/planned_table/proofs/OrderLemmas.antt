@@ -12,8 +12,8 @@ use Rattle.heap.specs.Tuples.{relation_count}
 use Rattle.pathkeys.specs.Finding.{class_numbers}
 use Rattle.pg_value.specs.Sorting.{IsInOrder}
 use Rattle.plan_tree.specs.Paths.{Path}
-use Rattle.certificates.specs.Certificates.{Entry}
-use Rattle.kept_laws.specs.Printing.{path_order, printing_order, said}
+use Rattle.plan_check.specs.Certificates.{Entry}
+use Rattle.certificate_laws.specs.Printing.{path_order, printing_order, said}
 
 all-tie : IsTotalOrder {K = Entry} (λ x y. Equal)
 all-tie = record { antisymm = λ x y. refl; trans = λ x y z p q. p; congr = λ x y z p. refl }

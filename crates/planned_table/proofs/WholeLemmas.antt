@@ -27,21 +27,21 @@ use Rattle.plan_tree.proofs.BoundLemmas.{lawful-rows}
 use Rattle.plan_tree.proofs.EstimateLemmas.{below-more}
 use Rattle.plan_tree.proofs.FrontLemmas.{contains-mapped}
 use Rattle.plan_tree.proofs.PathLemmas.{built-below}
-use Rattle.join_laws.proofs.WithinLemmas.{built-within}
+use Rattle.plan_laws.proofs.WithinLemmas.{built-within}
 use Rattle.join_search.specs.Joins.{IsPathAt}
 use Rattle.join_search.specs.Tables.{Fronts}
-use Rattle.table_texts.specs.planner_BaseLemmas.{scan-most, within-most}
-use Rattle.certificates.specs.Certificates.{Certificate, Entry, finish_at}
-use Rattle.certificates.specs.Limit.{MOST_ENTRIES}
-use Rattle.certificates.specs.Tables.{IsPlanTable}
-use Rattle.kept_laws.specs.certificate_laws_Kept.{AreEntriesOf, AreOf}
-use Rattle.kept_laws.specs.certificate_laws_KeptLemmas.{made-table}
-use Rattle.table_texts.specs.certificate_text_HasText.{HasText}
-use Rattle.kept_laws.specs.Made.{tree_of}
-use Rattle.kept_laws.specs.Searched.{AreOfFronts, IsSearched}
-use Rattle.kept_laws.proofs.FrontsLemmas.{at-place, is-path, paths-kept}
-use Rattle.table_texts.specs.Arms.{HasArmsInOrs}
-use Rattle.table_texts.proofs.EntryLemmas.{has-text}
+use Rattle.certificate_laws.specs.planner_BaseLemmas.{scan-most, within-most}
+use Rattle.plan_check.specs.Certificates.{Certificate, Entry, finish_at}
+use Rattle.plan_check.specs.Limit.{MOST_ENTRIES}
+use Rattle.plan_check.specs.Tables.{IsPlanTable}
+use Rattle.certificate_laws.specs.Kept.{AreEntriesOf, AreOf}
+use Rattle.certificate_laws.proofs.KeptLemmas.{made-table}
+use Rattle.certificate_laws.specs.certificate_text_HasText.{HasText}
+use Rattle.certificate_laws.specs.Made.{tree_of}
+use Rattle.certificate_laws.specs.Searched.{AreOfFronts, IsSearched}
+use Rattle.certificate_laws.proofs.FrontsLemmas.{at-place, is-path, paths-kept}
+use Rattle.certificate_laws.specs.Arms.{HasArmsInOrs}
+use Rattle.certificate_laws.proofs.EntryLemmas.{has-text}
 use Rattle.planned_table.specs.Gathering.{AreGathered, AreUnrelated, IsBelow, StandAtTheirs, shown}
 use Rattle.planned_table.specs.Numbering.{trees}
 use Rattle.planned_table.proofs.MakeLemmas.{one as seen, trees-are}

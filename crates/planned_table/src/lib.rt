@@ -7,5 +7,5 @@ mod numbering;
 mod printing;
 mod whole;
 
-pub use table_texts::{certificate_text, explain, planner};
+pub use certificate_laws::{certificate_text, explain, planner};
 pub use whole::{Tabled, plan_with_table};

@@ -4,15 +4,15 @@ ghost use Rattle.std.specs.Prelude.{◌≡◌, ◌≢◌, ◌<◌, ◌≤◌, �
 ghost use Rattle.pathkeys.specs.Keys as keys;
 ghost use Rattle.plan_tree.specs.Reads.{ReadsBelow};
 ghost use Rattle.plan_tree.specs.Views.{plan};
-ghost use Rattle.certificates.specs.Certificates.{plan_at, side_at};
-ghost use Rattle.certificates.specs.Limit.{MOST_ENTRIES};
-ghost use Rattle.certificates.specs.Views.{side};
-ghost use Rattle.kept_laws.specs.Made.{IsSideAmong};
+ghost use Rattle.plan_check.specs.Certificates.{plan_at, side_at};
+ghost use Rattle.plan_check.specs.Limit.{MOST_ENTRIES};
+ghost use Rattle.plan_check.specs.Views.{side};
+ghost use Rattle.certificate_laws.specs.Made.{IsSideAmong};
 ghost use Rattle.planned_table.specs.Numbering.{present, trees, without_sort};
 
 use crate::printing::size;
-use certificates::{Side, is_same_plan};
 use pg_base::RelSet;
+use plan_check::{Side, is_same_plan};
 use plan_tree::{Path, Plan, set_of};
 
 /// The first place in a range at which a path of the plan stands, from 0.

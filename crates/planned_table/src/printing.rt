@@ -8,7 +8,7 @@ ghost use Rattle.heap.specs.Tuples.{relation_count};
 ghost use Rattle.pathkeys.specs.Finding.{class_numbers};
 ghost use Rattle.pg_value.specs.Sorting.{IsInOrder};
 ghost use Rattle.plan_tree.specs.Views.{path};
-ghost use Rattle.kept_laws.specs.Printing.{path_order};
+ghost use Rattle.certificate_laws.specs.Printing.{path_order};
 ghost use Rattle.planned_table.specs.Gathering.{shown};
 
 use eq_classes::ClassNo;

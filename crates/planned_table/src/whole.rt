@@ -11,32 +11,32 @@ ghost use Rattle.plan_tree.specs.Plans as plans;
 ghost use Rattle.plan_tree.specs.Space.{IsFinished, IsSameSet};
 ghost use Rattle.plan_tree.specs.Reads.{IsOverTables};
 ghost use Rattle.join_search.specs.Tables.{none, paths_at};
-ghost use Rattle.table_texts.specs.planner_Finishing.{IsWhole, finished};
+ghost use Rattle.certificate_laws.specs.planner_Finishing.{IsWhole, finished};
 ghost use Rattle.plan_tree.specs.Views.{path};
 ghost use Rattle.pg_value.specs.Sorting.{IsInOrder};
-ghost use Rattle.table_texts.specs.planner_least_plan_PlanFault_TheVariants.{CostLimit};
-ghost use Rattle.certificates.specs.Certificates.{finish_at};
-ghost use Rattle.certificates.specs.Tables.{IsPlanTable};
-ghost use Rattle.certificates.specs.Views.{certificate};
-ghost use Rattle.table_texts.specs.certificate_text_HasText.{HasText};
-ghost use Rattle.table_texts.specs.Arms.{HasArmsInOrs};
-ghost use Rattle.kept_laws.specs.Printing.{path_order, printing_order};
-ghost use Rattle.kept_laws.specs.Searched.{AreOfFronts, IsSearched};
+ghost use Rattle.certificate_laws.specs.planner_least_plan_PlanFault_TheVariants.{CostLimit};
+ghost use Rattle.plan_check.specs.Certificates.{finish_at};
+ghost use Rattle.plan_check.specs.Tables.{IsPlanTable};
+ghost use Rattle.plan_check.specs.Views.{certificate};
+ghost use Rattle.certificate_laws.specs.certificate_text_HasText.{HasText};
+ghost use Rattle.certificate_laws.specs.Arms.{HasArmsInOrs};
+ghost use Rattle.certificate_laws.specs.Printing.{path_order, printing_order};
+ghost use Rattle.certificate_laws.specs.Searched.{AreOfFronts, IsSearched};
 ghost use Rattle.planned_table.specs.Gathering.{shown};
 
 use crate::gathering::gathered;
 use crate::making::certificate_of;
 use crate::printing::sort_paths;
 use catalog::Catalog;
-use certificates::Certificate;
+use certificate_laws::planner::{PlanFault, base_table, finish, least_place, whole_paths};
 use cost_rules::MOST_COST;
 use join_search::{Asked, Table, all_relations, order_asked, search};
 use pathkeys::Keys;
 use pg_base::{Memory, RelSet};
+use plan_check::Certificate;
 use plan_tree::{Path, range_of};
 use sql_query::Prepared;
 use std::alloc::Global;
-use table_texts::planner::{PlanFault, base_table, finish, least_place, whole_paths};
 
 /// What a query is answered by, and why no other plan undercuts it.
 #[derive(Drop)]

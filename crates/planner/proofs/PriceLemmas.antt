@@ -19,9 +19,9 @@ use Rattle.plan_tree.specs.Paths.{Path}
 use Rattle.plan_tree.proofs.BoundLemmas.{asked-most, some-rows, sort-most, startup-most}
 use Rattle.plan_tree.proofs.WindowLemmas.{startup-from}
 use Rattle.cost_rules.specs.declared.parameters.TheConstants.{MOST_COST}
-use Rattle.join_search.specs.join_laws_Useful.{IsBelow, floor_by}
-use Rattle.join_search.specs.join_laws_LeastLemmas.{finished-plain, floor-price}
-use Rattle.join_search.specs.join_laws_UsefulLemmas.{child-below, sort-stands}
+use Rattle.join_search.specs.plan_laws_Useful.{IsBelow, floor_by}
+use Rattle.join_search.specs.plan_laws_LeastLemmas.{finished-plain, floor-price}
+use Rattle.join_search.specs.plan_laws_UsefulLemmas.{child-below, sort-stands}
 use Rattle.join_search.specs.declared.useful.Asked.{Asked}
 use Rattle.planner.specs.Finishing.{AreCandidates, IsLeastOf, IsWhole, finished, finished_price}
 

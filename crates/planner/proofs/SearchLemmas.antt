@@ -14,9 +14,9 @@ use Rattle.plan_tree.specs.Plans.{Plan, seq, index, index_only, bitmap, sort, ne
 use Rattle.plan_tree.specs.Space.{IsBuilt, IsPlanOf, IsSameSet}
 use Rattle.plan_tree.specs.Paths.{Path}
 use Rattle.scan_paths.proofs.SpaceLemmas.{given-param}
-use Rattle.join_search.specs.join_laws_Closed.{AreKeptSides, IsKeptSide, is_scan}
-use Rattle.join_search.specs.join_laws_Useful.{HasEnough, IsBelow, IsClosedBelow, Suffices}
-use Rattle.join_search.specs.join_laws_UsefulLemmas.{enough}
+use Rattle.join_search.specs.plan_laws_Closed.{AreKeptSides, IsKeptSide, is_scan}
+use Rattle.join_search.specs.plan_laws_Useful.{HasEnough, IsBelow, IsClosedBelow, Suffices}
+use Rattle.join_search.specs.plan_laws_UsefulLemmas.{enough}
 use Rattle.join_search.specs.Joins.{ArePlaced, IsCovered, IsKept, IsPathAt, IsSideKept}
 use Rattle.join_search.specs.Sufficing.{HasSufficient}
 use Rattle.join_search.specs.Tables.{Fronts, none}

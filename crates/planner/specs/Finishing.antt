@@ -12,7 +12,7 @@ use Rattle.plan_tree.specs.Least.{IsAdmissible}
 use Rattle.plan_tree.specs.Paths.{Path, HasItsNumbers}
 use Rattle.plan_tree.specs.Plans.{Plan, empty, sort}
 use Rattle.plan_tree.specs.Space.{IsPlanOf}
-use Rattle.join_search.specs.join_laws_Useful.{IsBelow}
+use Rattle.join_search.specs.plan_laws_Useful.{IsBelow}
 use Rattle.join_search.specs.Sufficing.{HasSufficient}
 use Rattle.join_search.specs.declared.useful.Asked.{Asked}
 

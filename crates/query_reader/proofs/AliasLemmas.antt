@@ -11,8 +11,8 @@ use Rattle.sql_grammar.specs.FromParts.{groups_after}
 use Rattle.sql_grammar.specs.Terminals.{Terminal}
 use Rattle.sql_grammar.specs.Syntax.{Mark, Where, OrderBy, Window, no_alias, bare_alias, as_alias, Expr, Relation, relation, no_inner, inner, Join, join_on, cross_join, Group, group_of}
 use Rattle.sql_grammar.specs.Words.{words_of_group, words_of_groups, words_of_join, words_of_joins, words_of_relation}
-use Rattle.sql_cursor.specs.declared.cursor.Spelled.{Spelled}
-use Rattle.sql_cursor.proofs.Named.{AreNamed}
+use Rattle.expr_reader.specs.declared.cursor.Spelled.{Spelled}
+use Rattle.expr_reader.proofs.Named.{AreNamed}
 use Rattle.expr_reader.specs.Conditions.{next}
 use Rattle.query_reader.specs.declared.written.Source.{Source}
 use Rattle.std.specs.Result.{IfOk}

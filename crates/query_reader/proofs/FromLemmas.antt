@@ -12,7 +12,7 @@ use Rattle.sql_grammar.specs.declared.class.Symbol.TheVariants.{Comma}
 use Rattle.sql_grammar.specs.FromParts.{groups_after}
 use Rattle.sql_grammar.specs.Syntax.{Key, Mark, Expr, Relation, Join, join_on, cross_join, Group, group_of}
 use Rattle.sql_grammar.specs.Words.{words_of_expr, words_of_group, words_of_groups, words_of_joins, words_of_relation}
-use Rattle.sql_cursor.specs.Reading.{BeginsNot}
+use Rattle.expr_reader.specs.Reading.{BeginsNot}
 use Rattle.expr_reader.specs.Conditions.{next}
 use Rattle.query_reader.specs.declared.written.Joining.{Joining}
 use Rattle.query_reader.specs.declared.written.Joining.TheVariants.{On, Cross}

@@ -18,7 +18,7 @@ use Rattle.sql_grammar.specs.Spelled.{IsSpelled}
 use Rattle.sql_grammar.specs.Words.{words_of}
 use Rattle.sql_grammar.proofs.StatementTrees.{one_tree}
 use Rattle.query_reader.specs.Select.{AreGrouped, AreNoOther, AreSelect, begins_query, is_explained, is_query}
-use Rattle.sql_cursor.specs.Reading.{Begins, BeginsNot}
+use Rattle.expr_reader.specs.Reading.{Begins, BeginsNot}
 
 -- EXPLAIN is the first word, or it is not
 unexplained : (ts : List Terminal) → BeginsNot (λ token. t_name (free Explain token)) ts → false ≡ is_explained ts

@@ -17,11 +17,11 @@ use Rattle.sql_grammar.specs.Terminals.{Terminal, Ident, free, token_of, t_key, 
 use Rattle.sql_grammar.specs.Syntax.{Mark, Col, bare, qualified, Direction, no_direction, ascending, descending, NullsEnd, no_nulls_end, nulls_first, nulls_last, Ordering, ordering, OrderBy, no_order, order_by}
 use Rattle.sql_grammar.specs.Unique.{ends_operand}
 use Rattle.sql_grammar.specs.Words.{words_of_col, words_of_direction, words_of_nulls_end, words_of_ordering, words_of_orderings, words_of_order}
-use Rattle.sql_cursor.specs.Lists.{parts_of, bound_each}
-use Rattle.sql_cursor.specs.declared.cursor.Spelled.{Spelled}
-use Rattle.sql_cursor.specs.Reading.{BeginsName, BeginsNot, spelled}
-use Rattle.sql_cursor.specs.Sorts.{is_descending, has_nulls_first, ends_direction, ends_nulls_end}
-use Rattle.sql_cursor.proofs.EachLemmas.{bound-err, bound-ok, each-holds}
+use Rattle.expr_reader.specs.Lists.{parts_of, bound_each}
+use Rattle.expr_reader.specs.declared.cursor.Spelled.{Spelled}
+use Rattle.expr_reader.specs.Reading.{BeginsName, BeginsNot, spelled}
+use Rattle.expr_reader.specs.Sorts.{is_descending, has_nulls_first, ends_direction, ends_nulls_end}
+use Rattle.expr_reader.proofs.EachLemmas.{bound-err, bound-ok, each-holds}
 use Rattle.expr_reader.specs.declared.found.Found.{Found}
 use Rattle.expr_reader.specs.declared.found.Found.TheVariants.{One}
 use Rattle.expr_reader.specs.Conditions.{next, the_column}

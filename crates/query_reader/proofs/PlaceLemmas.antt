@@ -15,7 +15,7 @@ use Rattle.sql_grammar.specs.Words.{levels_of, words_of, words_of_ending, words_
 use Rattle.sql_grammar.specs.Faults.{AreWithinLimits, EndsAt, IsFirstFault, IsStatement, IsWhole, IsWindowed, fault_at, limit_of, terminals}
 use Rattle.sql_grammar.specs.Spelled.{IsSpelled}
 use Rattle.sql_grammar.specs.Unique.{ends_windowed}
-use Rattle.sql_cursor.specs.Reading.{Begins, BeginsNot}
+use Rattle.expr_reader.specs.Reading.{Begins, BeginsNot}
 use Rattle.query_reader.specs.Parts.{IsPartAt, HavePart, as_statement, IsSelectAt, HaveSelectAt, select_of}
 use Rattle.query_reader.specs.Select.{AreGrouped, AreSelect, IsAtFirst, IsFaultBy, IsNoSelectAt, begins_query, begins_select, words_before}
 use Rattle.query_reader.proofs.GrammarLemmas.{excluded, forms-apart, no-other, whole-query}

@@ -11,7 +11,7 @@ use Rattle.sql_grammar.specs.Syntax.{Key, Mark, Output, Group, Where, select_fro
 use Rattle.sql_grammar.specs.Words.{words_of_output, words_of_outputs, words_of_group, words_of_groups, words_of_where, words_of_order, words_of_window, words_of_windowed}
 use Rattle.sql_grammar.specs.Reading.{terminal_of}
 use Rattle.sql_grammar.specs.Faults.{terminals}
-use Rattle.sql_cursor.proofs.Named.{AreNamed}
+use Rattle.expr_reader.proofs.Named.{AreNamed}
 use Rattle.catalog.specs.Contents.{Contents}
 use Rattle.sql_query.specs.Queries.{Query}
 use Rattle.sql_grammar.specs.FromParts.{groups_after}

@@ -7,7 +7,7 @@ use Rattle.sql_grammar.specs.declared.offered.TheConstants.{READS_WINDOW}
 use Rattle.sql_grammar.specs.Terminals.{Terminal, Said, t_key, t_number}
 use Rattle.sql_grammar.specs.Syntax.{IsOffered, Limit, no_limit, most_rows, Offset, no_offset, skipped_rows}
 use Rattle.sql_grammar.specs.Words.{words_of_limit, words_of_offset}
-use Rattle.sql_cursor.specs.Reading.{BeginsNot}
+use Rattle.expr_reader.specs.Reading.{BeginsNot}
 use Rattle.expr_reader.specs.Conditions.{next}
 use Rattle.expr_reader.proofs.StepLemmas.{stop}
 use Rattle.query_reader.specs.Ends.{ends_limit, ends_window}

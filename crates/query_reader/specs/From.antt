@@ -19,7 +19,7 @@ use Rattle.catalog.specs.Tables.{table_named}
 use Rattle.eq_classes.specs.Classes.{listed}
 use Rattle.sql_grammar.specs.Faults.{fault_at}
 use Rattle.sql_grammar.specs.Syntax.{Expr, Join, join_on, cross_join, Group, group_of}
-use Rattle.sql_cursor.specs.declared.cursor.Spelled.{Spelled}
+use Rattle.expr_reader.specs.declared.cursor.Spelled.{Spelled}
 use Rattle.expr_reader.specs.Conditions.{meaning_of_expr, next}
 use Rattle.expr_reader.specs.Scope.{Scope}
 use Rattle.query_reader.specs.declared.written.Source.{Source}

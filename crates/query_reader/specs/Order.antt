@@ -9,8 +9,8 @@ use Rattle.eq_classes.specs.declared.order.OrderItem.{OrderItem}
 use Rattle.sql_grammar.specs.Terminals.{token_of}
 use Rattle.sql_grammar.specs.Faults.{bytes_of}
 use Rattle.sql_grammar.specs.Syntax.{Col, bare, qualified, Ordering, ordering, OrderBy, no_order, order_by}
-use Rattle.sql_cursor.specs.Lists.{parts_of, bound_each}
-use Rattle.sql_cursor.specs.Sorts.{is_descending, has_nulls_first}
+use Rattle.expr_reader.specs.Lists.{parts_of, bound_each}
+use Rattle.expr_reader.specs.Sorts.{is_descending, has_nulls_first}
 use Rattle.expr_reader.specs.declared.found.Found.{Found}
 use Rattle.expr_reader.specs.Conditions.{next, the_column, column_of}
 use Rattle.expr_reader.specs.Scope.{Scope, of_name, the_one, look_up}

@@ -20,10 +20,9 @@ ghost use Rattle.query_reader.specs.Conveys.{Conveys};
 
 use crate::relations::Relations;
 use eq_classes::{Classes, OrderItem};
-use expr_reader::take_expr;
+use expr_reader::{Cursor, take_expr};
 use pg_base::{Code, Limit, MOST_ATOMS, MOST_CONJUNCTS, Memory, Refusal};
 use pg_expr::{Expr, Exprs, conjuncts, ops, push_not};
-use sql_cursor::Cursor;
 use sql_grammar::{Word, fault_at};
 use sql_lex::Token;
 use std::alloc::Global;

@@ -7,7 +7,7 @@ ghost use Rattle.sql_grammar.specs.Syntax.{Col, Mark, Ordering, OrderBy};
 ghost use Rattle.sql_grammar.specs.Terminals.{Terminal};
 ghost use Rattle.sql_grammar.specs.Words.{words_of_col, words_of_ordering, words_of_orderings, words_of_order};
 ghost use Rattle.sql_grammar.specs.Unique.{ends_operand};
-ghost use Rattle.sql_cursor.specs.Lists.{parts_of, bound_each};
+ghost use Rattle.expr_reader.specs.Lists.{parts_of, bound_each};
 ghost use Rattle.expr_reader.specs.Reads.{Reads};
 ghost use Rattle.query_reader.specs.Ends.{ends_order, ends_ordering};
 ghost use Rattle.query_reader.specs.Order.{order_column as column_meant, order_item as item_meant, order_items as items_meant};
@@ -15,10 +15,9 @@ ghost use Rattle.query_reader.specs.Scope.{visible_in};
 
 use crate::relations::Relations;
 use eq_classes::OrderItem;
-use expr_reader::{Scope, found_column};
+use expr_reader::{Cursor, Scope, descending, found_column, nulls_first};
 use pg_base::Refusal;
 use pg_expr::ColRef;
-use sql_cursor::{Cursor, descending, nulls_first};
 use sql_grammar::{Symbol, Word};
 use std::alloc::Global;
 

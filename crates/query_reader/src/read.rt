@@ -6,14 +6,14 @@ ghost use Rattle.sql_grammar.specs.Terminals.{Terminal, Ident, t_key, t_name};
 ghost use Rattle.sql_grammar.specs.Syntax.{Key, Mark, Output, Alias, Join, Relation};
 ghost use Rattle.sql_grammar.specs.Words.{words_of_output, words_of_outputs, words_of_alias, words_of_joins, words_of_relation};
 ghost use Rattle.sql_grammar.specs.declared.class.Word.TheVariants.{From};
-ghost use Rattle.sql_cursor.specs.Reading.{spelled};
+ghost use Rattle.expr_reader.specs.Reading.{spelled};
 ghost use Rattle.query_reader.specs.Written.{item_of, items_of, alias_of as alias_value, source_of};
 ghost use Rattle.query_reader.specs.Ends.{ends_item, ends_alias, ends_group};
 ghost use Rattle.query_reader.specs.Joins.{IsNext};
 
 use crate::written::{Item, Joining, Source};
+use expr_reader::{Cursor, Spelled};
 use pg_base::Memory;
-use sql_cursor::{Cursor, Spelled};
 use sql_grammar::{Symbol, Word};
 use std::alloc::Global;
 

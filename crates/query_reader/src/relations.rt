@@ -13,11 +13,10 @@ ghost use Rattle.query_reader.specs.Order.{first_among, shown_of_name};
 ghost use Rattle.query_reader.specs.Scope.{also as also_meant, columns_from, own_columns, visible_in};
 
 use catalog::Catalog;
-use expr_reader::{Found, Scope};
+use expr_reader::{Found, Scope, Spelled};
 use pg_base::{Code, ColNo, Refusal, RelNo, TableNo};
 use pg_expr::{Binding, ColRef};
 use pg_value::{Bytes, SqlType, Value};
-use sql_cursor::Spelled;
 use sql_grammar::fault_at;
 use std::marker::Model;
 

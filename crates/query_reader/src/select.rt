@@ -15,8 +15,8 @@ ghost use Rattle.query_reader.specs.Select.{AreGrouped, IsBoundByItself, IsGramm
 use crate::bind::bind;
 use crate::read::list;
 use catalog::Catalog;
+use expr_reader::Cursor;
 use pg_base::{Code, Fault, Refusal};
-use sql_cursor::Cursor;
 use sql_grammar::{Free, Word, fault_at, statement_fault, windowed_select_end};
 use sql_lex::Tokens;
 use sql_query::Prepared;

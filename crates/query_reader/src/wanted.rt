@@ -5,7 +5,7 @@ ghost use Rattle.sql_lex.specs.Words.{AreWords};
 ghost use Rattle.sql_grammar.specs.Faults.{terminals};
 ghost use Rattle.query_reader.specs.Wanted as asked;
 
-use sql_cursor::Cursor;
+use expr_reader::Cursor;
 use sql_grammar::{Free, Symbol};
 use sql_lex::Tokens;
 

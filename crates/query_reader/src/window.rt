@@ -7,8 +7,8 @@ ghost use Rattle.sql_grammar.specs.Words.{words_of_limit, words_of_offset, words
 ghost use Rattle.query_reader.specs.Ends.{ends_limit, ends_window};
 ghost use Rattle.query_reader.specs.Windows.{most_of, rows_of, skipped_of, window_by, window_of};
 
+use expr_reader::Cursor;
 use pg_base::{Code, Fault};
-use sql_cursor::Cursor;
 use sql_grammar::{Word, fault_at};
 use sql_query::Window;
 

@@ -1,6 +1,6 @@
 //! Parts of a SELECT as they are written: each name in small letters, with its token.
 
-use sql_cursor::Spelled;
+use expr_reader::Spelled;
 
 /// An item of the list that SELECT shows.
 #[derive(Debug, Drop)]

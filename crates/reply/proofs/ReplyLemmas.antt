@@ -12,7 +12,7 @@ use Rattle.plan_tree.specs.Counts.{fetches, looks}
 use Rattle.plan_tree.specs.Least.{IsBestPlan}
 use Rattle.plan_tree.specs.Plans.{Plan}
 use Rattle.executor.specs.scan_exec_Coming.{Coming, coming}
-use Rattle.executor.specs.join_laws_Closed.{is_scan}
+use Rattle.executor.specs.plan_laws_Closed.{is_scan}
 use Rattle.executor.specs.Reading.{Reading}
 use Rattle.explain.specs.Texts.{explained_text}
 use Rattle.reply.specs.Answers.{result_text, tuples_of}

@@ -2,7 +2,7 @@
 use Rattle.std.specs.Prelude.{ℕ, ◌≡◌, List, ◌++◌, length, IsPermutation}
 use Rattle.std.specs.List.{flat_map}
 use Rattle.catalog.specs.Contents.{Contents}
-use Rattle.row_text.specs.Texts.{row_line, count_line}
+use Rattle.reply_text.specs.Texts.{row_line, count_line}
 use Rattle.sql_query.specs.Queries.{Query}
 use Rattle.sql_query.specs.Worlds.{World}
 use Rattle.sql_query.specs.Tuples.{Tuple, no_rows}

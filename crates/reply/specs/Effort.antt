@@ -9,7 +9,7 @@ use Rattle.sql_query.specs.declared.window.Window.{Window}
 use Rattle.plan_tree.specs.Counts.{MOST_READS, fetches, looks}
 use Rattle.plan_tree.specs.Plans.{Plan}
 use Rattle.executor.specs.scan_exec_Coming.{Coming, coming, is_given, owed}
-use Rattle.executor.specs.join_laws_Closed.{is_scan}
+use Rattle.executor.specs.plan_laws_Closed.{is_scan}
 use Rattle.reply.specs.Answers.{tuples_of}
 
 -- by how much a count rises: at most by so much, and by so much exactly once a reply is whole, where that is told

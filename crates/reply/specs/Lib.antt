@@ -9,7 +9,7 @@ pub mod Showing
 pub mod Stops
 -- What callers name of the crates below.
 pub use Rattle.explain.specs.Texts as explain_Texts
-pub use Rattle.executor.specs.order_laws_FinishedOrderLemmas as order_laws_FinishedOrderLemmas
+pub use Rattle.executor.specs.plan_laws_FinishedOrderLemmas as plan_laws_FinishedOrderLemmas
 pub use Rattle.executor.specs.plan_laws_FinishedLemmas as plan_laws_FinishedLemmas
 pub use Rattle.executor.specs.plan_laws_WellBoundLemmas as plan_laws_WellBoundLemmas
 pub use Rattle.executor.specs.scan_exec_Coming as scan_exec_Coming

@@ -8,7 +8,7 @@ ghost use Rattle.reply.specs.declared.stop.Broken.TheVariants.{Write};
 
 use crate::stop::Broken;
 use pg_base::{Memory, Sink, write_all};
-use row_text::Lines;
+use reply_text::Lines;
 use std::alloc::Global;
 
 /// So many bytes are written at once.

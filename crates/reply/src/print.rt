@@ -24,14 +24,13 @@ use crate::setting::Setting;
 use crate::shown::shown_text;
 use crate::stop::{Broken, Stop};
 use catalog::Catalog;
-use executor::order_laws::finished_plans_are_ordered;
-use executor::plan_laws::plans_give_their_tuples;
+use executor::plan_laws::{finished_plans_are_ordered, plans_give_their_tuples};
 use executor::store::Store;
 use executor::{Rows, tuples_have_rows};
 use heap::Counters;
 use pg_base::{Sink, Steps};
 use plan_tree::Path;
-use row_text::count_line;
+use reply_text::count_line;
 use sql_query::Prepared;
 use std::alloc::Global;
 

@@ -1,7 +1,7 @@
 //! The rows of an answer, printed as they are drawn.
 
 ghost use Rattle.std.specs.Prelude.{◌≡◌, ◌+◌, ◌*◌, ◌≤◌, All, IfOk, OnOk, Some, length, map};
-ghost use Rattle.row_text.specs.Texts.{row_line};
+ghost use Rattle.reply_text.specs.Texts.{row_line};
 ghost use Rattle.sql_query.specs.Meaning.{shown, up_to, windowed};
 ghost use Rattle.sql_query.specs.Queries.{width};
 ghost use Rattle.plan_tree.specs.Counts.{MOST_READS};
@@ -22,7 +22,7 @@ use executor::Rows;
 use heap::{Counters, Row, value_in};
 use pg_base::{Memory, Sink, Steps, Tid};
 use pg_expr::ColRef;
-use row_text::Lines;
+use reply_text::Lines;
 use sql_query::{Prepared, selected_columns};
 use std::alloc::{AllocError, Global};
 

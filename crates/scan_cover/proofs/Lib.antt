@@ -1,3 +1,11 @@
 pub mod ToldLemmas
 pub mod GivenLemmas
 pub mod WalkLemmas
+pub mod AtomLemmas
+pub mod ArmAtomLemmas
+pub mod ArmLemmas
+pub mod FillLemmas
+pub mod MarkLemmas
+pub mod TreeLemmas
+pub mod ServedLemmas
+pub mod KeptLemmas

@@ -7,13 +7,13 @@ use Rattle.pg_base.specs.declared.numbers.RelNo.{RelNo}
 use Rattle.pg_base.specs.declared.rel_set.RelSet.{RelSet}
 use Rattle.catalog.specs.Contents.{Contents}
 use Rattle.sql_query.specs.Queries.{Query, width}
-use Rattle.join_laws.specs.Closed.{is_scan}
+use Rattle.plan_laws.specs.Closed.{is_scan}
 use Rattle.pathkeys.specs.Keys.{Keys}
 use Rattle.plan_tree.specs.Costs.{cost}
 use Rattle.plan_tree.specs.Keys.{keys_of}
 use Rattle.plan_tree.specs.Plans.{Plan, index, index_only, seq}
 use Rattle.plan_tree.specs.Space.{IsBuilt}
-use Rattle.certificates.specs.Certificates.{Certificate}
+use Rattle.plan_check.specs.Certificates.{Certificate}
 use Rattle.plan_check.specs.Beating.{IsBeaten, IsRight, as_entry}
 use Rattle.plan_check.specs.Plains.{StandsForPlan}
 use Rattle.plan_check.specs.Reasons.{AllRight}

@@ -14,7 +14,7 @@ use Rattle.plan_tree.specs.Plans.{seq, index, index_only, bitmap, sort, nest, me
 use Rattle.plan_tree.specs.Reads.{IsOverTables}
 use Rattle.plan_tree.specs.Space.{IsBuilt, IsSameSet}
 use Rattle.plan_tree.proofs.ElementLemmas.{is-listed, listed-on}
-use Rattle.certificates.specs.Certificates.{Certificate}
+use Rattle.plan_check.specs.Certificates.{Certificate}
 use Rattle.plan_check.specs.declared.verdict.Plain.{Plain}
 use Rattle.join_cover.specs.Serving.{IsOpen, IsServed}
 use Rattle.join_cover.specs.declared.uncovered.Uncovered.{Uncovered}

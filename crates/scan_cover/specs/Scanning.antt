@@ -6,13 +6,13 @@ use Rattle.pg_base.specs.declared.rel_set.RelSet.{RelSet}
 use Rattle.catalog.specs.Contents.{Contents}
 use Rattle.sql_query.specs.Queries.{Query}
 use Rattle.sql_query.specs.declared.window.Window.{Window}
-use Rattle.join_laws.specs.Closed.{is_scan}
+use Rattle.plan_laws.specs.Closed.{is_scan}
 use Rattle.pathkeys.specs.Keys.{Keys}
 use Rattle.plan_tree.specs.Fronts.{is_no_bitmap}
 use Rattle.plan_tree.specs.Paths.{startup_kept}
 use Rattle.plan_tree.specs.Plans.{Plan, seq, index, index_only}
-use Rattle.certificates.specs.Certificates.{Certificate, Entry}
-use Rattle.certificates.specs.Tables.{HasItsPlan}
+use Rattle.plan_check.specs.Certificates.{Certificate, Entry}
+use Rattle.plan_check.specs.Tables.{HasItsPlan}
 use Rattle.plan_check.specs.Beating.{IsUnbeaten, as_entry}
 use Rattle.join_cover.specs.entry_check_Owning.{AreNumbersOf}
 use Rattle.join_cover.specs.entry_check_numbers_Own.{Own}

@@ -8,7 +8,7 @@ ghost use Rattle.plan_tree.specs.Keys.{keys_of as list_of};
 ghost use Rattle.plan_tree.specs.Reads.{IsOverTables};
 ghost use Rattle.plan_tree.specs.Space.{IsBuilt};
 ghost use Rattle.sql_query.specs.Queries.{width};
-ghost use Rattle.certificates.specs.Views.{certificate};
+ghost use Rattle.plan_check.specs.Views.{certificate};
 ghost use Rattle.plan_check.specs.Placing.{ArePlaced};
 ghost use Rattle.plan_check.specs.Reasons.{AllRight};
 ghost use Rattle.plan_check.specs.declared.verdict.Plain.TheVariants as plain;

@@ -1,11 +1,24 @@
 //! Scans that an entry of a certificate must dominate: each is looked at, but those by a bitmap, and the first that none
 //! dominates is told.
+//! Laws of the atoms of OR clauses. No code that runs.
+//! Scans by a bitmap that an entry of a certificate must dominate: over each set of the first elements, each arm of an OR by
+//! its index of least part.
 #![tactic(auto)]
 
+mod arms;
+mod atoms;
+mod bitmap_relations;
+mod elements;
+mod filling;
 mod indexes;
+mod kept;
+mod marks;
+mod masks;
 mod numbers;
 mod relations;
 
+pub use atoms::{arms_fit, few_atoms};
+pub use bitmap_relations::open_bitmap_scan;
 pub use join_cover;
 pub use join_cover::entry_check;
 pub use numbers::open_with;

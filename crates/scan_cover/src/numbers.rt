@@ -4,7 +4,7 @@ ghost use Rattle.std.specs.Prelude.{IfNone, IfSome};
 ghost use Rattle.catalog.specs.Contents.{Contents};
 ghost use Rattle.pathkeys.specs.Finding.{class_numbers};
 ghost use Rattle.plan_tree.specs.Plans.{Plan};
-ghost use Rattle.certificates.specs.Views.{certificate};
+ghost use Rattle.plan_check.specs.Views.{certificate};
 ghost use Rattle.plan_check.specs.Beating.{IsBeaten, candidate};
 ghost use Rattle.plan_check.specs.Placing.{ArePlaced};
 ghost use Rattle.plan_check.specs.Plains.{StandsForPlan};

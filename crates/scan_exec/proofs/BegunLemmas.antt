@@ -29,7 +29,7 @@ use Rattle.eq_classes.proofs.ColumnLemmas.{clause_passes}
 use Rattle.eq_classes.proofs.HoldLemmas.{in_map}
 use Rattle.eq_classes.proofs.ListLemmas.{IsIn, all_at, all_from, in_filter, in_left, in_parts}
 use Rattle.eq_classes.proofs.WrittenLemmas.{in_columns}
-use Rattle.scan_probes.specs.query_laws_OverLemmas.{conditions_pass, item_used}
+use Rattle.scan_probes.specs.plan_laws_OverLemmas.{conditions_pass, item_used}
 use Rattle.btree_index.specs.Tree.{in_direction}
 use Rattle.index_match.specs.Bounds.{index_bounds}
 use Rattle.index_match.specs.Conditions.{index_conditions, is_condition}

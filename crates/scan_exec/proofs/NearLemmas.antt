@@ -27,8 +27,8 @@ use Rattle.eq_classes.specs.Parts.{has_column, is_base, is_inside, is_param, uni
 use Rattle.eq_classes.proofs.HoldLemmas.{in_map}
 use Rattle.eq_classes.proofs.InsideLemmas.{inside_more}
 use Rattle.eq_classes.proofs.ListLemmas.{IsIn, all_at, all_from, in_filter}
-use Rattle.class_laws.proofs.LocalLemmas.{param_reads}
-use Rattle.scan_probes.specs.query_laws_OverLemmas.{clauses_over}
+use Rattle.plan_laws.proofs.LocalLemmas.{param_reads}
+use Rattle.scan_probes.specs.plan_laws_OverLemmas.{clauses_over}
 use Rattle.index_match.specs.Conditions.{allowed, index_conditions, is_condition}
 use Rattle.index_match.specs.Numbered.{Numbered, base, conditions_of, local, those}
 use Rattle.index_match.specs.Slots.{is_local}

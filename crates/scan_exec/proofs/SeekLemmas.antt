@@ -32,7 +32,7 @@ use Rattle.catalog.specs.Contents.{Contents, IsLawful, index_at, table_at}
 use Rattle.catalog.specs.Indexes.{Index, IsKeyOf, IsLawfulIndex}
 use Rattle.catalog.specs.Range.{relation_at, type_in}
 use Rattle.eq_classes.proofs.ListLemmas.{IsIn, all_at, all_from}
-use Rattle.scan_probes.specs.query_laws_FitsLemmas.{values_fit}
+use Rattle.scan_probes.specs.plan_laws_FitsLemmas.{values_fit}
 use Rattle.btree_index.specs.Bounds.{AreBounds, meets_all, value_at}
 use Rattle.btree_index.specs.Tree.{Tree, in_direction}
 use Rattle.btree_index.specs.declared.bounds.Probe.{Probe}

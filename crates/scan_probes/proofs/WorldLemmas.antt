@@ -19,7 +19,7 @@ use Rattle.pg_expr.proofs.ColumnLaws.{agree-truth}
 use Rattle.catalog.specs.Range.{table_of, type_in}
 use Rattle.heap.specs.Stored.{Values}
 use Rattle.path_cost.specs.Columns.{is_column_in}
-use Rattle.query_laws.proofs.FitsLemmas.{values_fit}
+use Rattle.plan_laws.proofs.FitsLemmas.{values_fit}
 use Rattle.sql_query.specs.Meaning.{all_true}
 use Rattle.sql_query.specs.Queries.{Query, width}
 use Rattle.sql_query.specs.Tuples.{Tuple, beside, row_at, row_of, rows_of_relation, value_at}

@@ -8,11 +8,11 @@ use Rattle.sql_lex.specs.declared.tokens.Token.{Token}
 use Rattle.sql_lex.specs.Ends.{end_of}
 use Rattle.sql_grammar.specs.Syntax.{advise as advise_tree}
 use Rattle.index_prices.specs.Replies.{HasNoAdviceFor, IsReplyTo}
-use Rattle.advise_reader.specs.Meaning.{Asked}
-use Rattle.advise_reader.specs.Statements.{IsMeaning, IsRefusal}
+use Rattle.index_reader.specs.AdviseMeaning.{Asked}
+use Rattle.index_reader.specs.AdviseStatements.{IsMeaning, IsRefusal}
 use Rattle.sql_query.specs.Queries.{Query}
 use Rattle.sql_query.specs.Worlds.{World}
-use Rattle.definitions.specs.Actions.{advise}
+use Rattle.store.specs.Actions.{advise}
 use Rattle.statements.specs.declared.end.End.TheVariants as ends
 use Rattle.statements.specs.Accepted.{HaveClasses}
 use Rattle.statements.specs.Ending.{end_of_refusal}

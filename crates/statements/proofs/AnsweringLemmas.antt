@@ -29,14 +29,14 @@ use Rattle.plan_tree.specs.Plans.{Plan}
 use Rattle.group_reply.specs.reply_Putting.{HasWriteCause}
 use Rattle.statements.specs.declared.end.End.{End}
 use Rattle.statements.specs.declared.end.End.TheVariants as ends
-use Rattle.definitions.specs.Actions.{after}
+use Rattle.store.specs.Actions.{after}
 use Rattle.statements.specs.Ending.{end_of_refusal, end_of_stop}
 use Rattle.statements.specs.Accepted.{IsReadOver, asked_as}
 use Rattle.statements.specs.Askings.{IsTallied}
 use Rattle.statements.specs.Faults.{IsFaultOver, no_plan}
 use Rattle.statements.specs.Questions.{HasNoneOf, asked_of, groups_asked}
 use Rattle.statements.specs.Replies.{IsReply}
-use Rattle.table_reply.specs.Tabled.{IsTabledText}
+use Rattle.plan_reply.specs.Tabled.{IsTabledText}
 use Rattle.statements.specs.Steps.{IsAnsweredOver, IsTalliedOver, Refuses, StopsOver}
 use Rattle.statements.proofs.PlainLemmas.{plain-field}
 use Rattle.statements.proofs.QueryLemmas.{Reads, query-fault, fault-plain}

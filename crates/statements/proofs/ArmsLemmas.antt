@@ -20,7 +20,7 @@ use Rattle.index_match.specs.Arms.{arms_of}
 use Rattle.plan_tree.specs.Bitmaps.{is_or}
 use Rattle.sql_query.specs.Queries.{Query}
 use Rattle.sql_query.specs.WellBound.{given_of}
-use Rattle.table_reply.specs.table_texts_Arms.{HasArmsInOrs}
+use Rattle.plan_reply.specs.certificate_laws_Arms.{HasArmsInOrs}
 use Rattle.expr_reader.specs.Parted.{HasParts, HaveParts, IsSome}
 use Rattle.query_reader.proofs.PartedLemmas.{conjuncts-parted, listed-parted}
 

@@ -19,8 +19,8 @@ use Rattle.sql_grammar.specs.Terminals.{Said, token_of}
 use Rattle.sql_grammar.specs.Faults.{bytes_of, fault_at}
 use Rattle.sql_grammar.specs.Syntax.{Col, bare, qualified, Ordering, ordering, OrderBy, no_order, order_by, OrderedSelect, ordered_select, Expr, Join, join_on, cross_join, Group, group_of, select_from, WindowedSelect, windowed_select, Where, no_where, where_expr, Limit as LimitTree, no_limit, most_rows, Offset, no_offset, skipped_rows, Window as WindowTree, window}
 use Rattle.sql_grammar.specs.FromParts.{groups_after}
-use Rattle.sql_cursor.specs.declared.cursor.Spelled.{Spelled}
-use Rattle.sql_cursor.specs.Lists.{parts_of}
+use Rattle.expr_reader.specs.declared.cursor.Spelled.{Spelled}
+use Rattle.expr_reader.specs.Lists.{parts_of}
 use Rattle.expr_reader.specs.Conditions.{the_column, meaning_of_expr}
 use Rattle.expr_reader.specs.Scope.{Scope, under, look_up}
 use Rattle.query_reader.specs.declared.written.Item.{Item}

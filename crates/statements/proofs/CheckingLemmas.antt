@@ -4,7 +4,7 @@ use Rattle.sql_lex.specs.declared.tokens.Token.{Token}
 use Rattle.sql_query.specs.Queries.{Query}
 use Rattle.sql_query.specs.Worlds.{World}
 use Rattle.check_reply.specs.Checked.{IsCheckedText}
-use Rattle.definitions.specs.Actions.{verify}
+use Rattle.store.specs.Actions.{verify}
 use Rattle.statements.specs.Accepted.{IsReadOver}
 use Rattle.statements.specs.Steps.{IsTelling}
 

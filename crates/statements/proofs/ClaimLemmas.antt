@@ -10,7 +10,7 @@ use Rattle.eq_classes.specs.Clauses.{Table}
 use Rattle.eq_classes.specs.Holding.{IsClassTable}
 use Rattle.sql_lex.specs.declared.tokens.Token.{Token}
 use Rattle.sql_lex.specs.Ends.{end_of, token_at}
-use Rattle.sql_cursor.specs.Reading.{Begins, BeginsNot}
+use Rattle.expr_reader.specs.Reading.{Begins, BeginsNot}
 use Rattle.sql_grammar.specs.CopyLine.{IsDataStart}
 use Rattle.sql_grammar.specs.FromParts.{groups_after}
 use Rattle.sql_grammar.specs.Reading.{terminal_of}

@@ -26,7 +26,7 @@ use Rattle.ddl_reader.specs.declared.ddl.Read.{Read}
 use Rattle.ddl_reader.specs.Readings.{definition, reading}
 use Rattle.ddl_reader.specs.Types.{type_named}
 use Rattle.ddl_reader.specs.Columns.{Written, written, Bound, bound, bound_by, bound_all, further}
-use Rattle.sql_cursor.specs.Lists.{bound_each}
+use Rattle.expr_reader.specs.Lists.{bound_each}
 use Rattle.ddl_reader.specs.Statistics.{CommonWords, common_value, table_of_name, column_of_name, table_statistics, statistics_of, column_statistics_of, commons_of, bounds_of, analysis}
 use Rattle.expr_reader.specs.Literals.{typed_value}
 use Rattle.ddl_reader.specs.Tables.{table, sizes_for, statistics_for, data_for, analysis_of, Reading, table_reading, limited, table_of, data_of, data_after}
@@ -34,13 +34,13 @@ use Rattle.pg_value.specs.Fields.{null_text}
 use Rattle.ddl_reader.specs.Soundness.{AreSoundSizes, AreSoundStatistics, IsSound, IsSoundTable}
 use Rattle.ddl_reader.specs.Block.{IsBlockEnd}
 use Rattle.ddl_reader.specs.Statements.{begins_ddl, Means, IsMeaning, IsDdlFault, IsDdlRefusal}
-use Rattle.fault_line.specs.Tells.{IsFieldOf}
+use Rattle.reply_text.specs.Tells.{IsFieldOf}
 use Rattle.heap.specs.Loading.{loaded, records_of}
 use Rattle.heap.specs.Stored.{Stored}
 use Rattle.sql_query.specs.Worlds.{World, stored_at}
 use Rattle.statements.specs.declared.end.End.{End}
 use Rattle.statements.specs.declared.end.End.TheVariants as ends
-use Rattle.definitions.specs.Actions.{Action, after, make, size, describe, fill, gather}
+use Rattle.store.specs.Actions.{Action, after, make, size, describe, fill, gather}
 use Rattle.statements.specs.Ending.{end_of_refusal}
 use Rattle.statements.specs.Faults.{IsRefused, IsMeaningFault, IsFaultOver, in_syntax, in_meaning}
 use Rattle.sql_lex.specs.Ends.{end_of}

@@ -11,7 +11,7 @@ use Rattle.sql_grammar.specs.Syntax.{Argument, all_rows, of_col, GroupBy, no_gro
 use Rattle.sql_grammar.specs.Faults.{bytes_of}
 use Rattle.sql_grammar.specs.Terminals.{Ident}
 use Rattle.eq_classes.specs.declared.order.OrderItem.{OrderItem}
-use Rattle.sql_cursor.specs.Lists.{parts_of}
+use Rattle.expr_reader.specs.Lists.{parts_of}
 use Rattle.sql_query.specs.declared.grouped.Item.{Item}
 use Rattle.expr_reader.specs.Conditions.{column_of}
 use Rattle.expr_reader.specs.Scope.{Scope}

@@ -16,7 +16,7 @@ use Rattle.sql_lex.specs.Ends.{end_of}
 use Rattle.sql_grammar.specs.Terminals.{Ident, token_of}
 use Rattle.sql_grammar.specs.Syntax.{Where, no_where, where_expr, OpClass as ClassTree, no_class, op_class, IndexKey as KeyTree, index_key, Using, no_using, using_method, Cand, cand_on, CreateIndex, index_on, create_index}
 use Rattle.sql_grammar.specs.Faults.{bytes_of}
-use Rattle.sql_cursor.specs.Lists.{bound_each}
+use Rattle.expr_reader.specs.Lists.{bound_each}
 use Rattle.catalog.specs.declared.fault.CatalogFault.{CatalogFault}
 use Rattle.catalog.specs.declared.fault.CatalogFault.TheVariants as refused
 use Rattle.catalog.specs.Contents.{Contents, table_at}
@@ -34,7 +34,7 @@ use Rattle.index_reader.specs.Visible.{Sight, visible_in, type_in}
 use Rattle.sql_query.specs.Worlds.{World, stored_at}
 use Rattle.statements.specs.declared.end.End.{End}
 use Rattle.statements.specs.declared.end.End.TheVariants as ends
-use Rattle.definitions.specs.Actions.{after, build}
+use Rattle.store.specs.Actions.{after, build}
 use Rattle.statements.specs.Ending.{IsPlaceAmong, end_by, end_of_refusal}
 use Rattle.statements.specs.Faults.{in_syntax, in_meaning, index_fault}
 use Rattle.statements.specs.Steps.{IsCarrying, IsDefined, Refuses}

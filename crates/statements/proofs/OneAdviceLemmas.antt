@@ -13,18 +13,18 @@ use Rattle.catalog.specs.Indexes.{columns_of, has_form}
 use Rattle.eq_classes.specs.Clauses.{Table}
 use Rattle.eq_classes.specs.Holding.{IsClassTable}
 use Rattle.eq_classes.proofs.UniqueLemmas.{table_one}
-use Rattle.index_candidates.specs.Candidates.{with_candidates}
+use Rattle.catalog.specs.Candidates.{with_candidates}
 use Rattle.index_prices.specs.Replies.{HasNoAdviceFor, IsReplyTo}
 use Rattle.index_reader.specs.Meaning.{Reading}
 use Rattle.query_reader.specs.Binding.{Bound, query_with}
 use Rattle.sql_query.specs.Queries.{Query}
 use Rattle.sql_query.specs.WellBound.{given_of}
-use Rattle.advise_reader.specs.Candidates.{CandidateMeans, IsAllowed, IsNotAllowed, MayBeMade, candidate_read, formless, repeated, taken, with_room}
-use Rattle.advise_reader.specs.Meaning.{Asked, CandidatesMean, Means, QueriesMean, most_meant}
-use Rattle.advise_reader.specs.Parts.{candidates_of, name_token}
-use Rattle.advise_reader.specs.Places.{word_fault}
-use Rattle.advise_reader.specs.Queries.{IsQueryOf, QueryMeans, query_bound}
-use Rattle.advise_reader.specs.Stages.{AreRead, Then}
+use Rattle.index_reader.specs.AdviseCandidates.{CandidateMeans, IsAllowed, IsNotAllowed, MayBeMade, candidate_read, formless, repeated, taken, with_room}
+use Rattle.index_reader.specs.AdviseMeaning.{Asked, CandidatesMean, Means, QueriesMean, most_meant}
+use Rattle.index_reader.specs.Parts.{candidates_of, name_token}
+use Rattle.index_reader.specs.Places.{word_fault}
+use Rattle.index_reader.specs.Queries.{IsQueryOf, QueryMeans, query_bound}
+use Rattle.index_reader.specs.Stages.{AreRead, Then}
 use Rattle.statements.specs.Accepted.{HaveClasses}
 use Rattle.statements.proofs.OneIndexLemmas.{one_twice, twice}
 

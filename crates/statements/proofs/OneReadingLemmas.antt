@@ -30,13 +30,13 @@ use Rattle.sql_query.specs.Queries.{Query}
 use Rattle.sql_query.specs.WellBound.{given_of}
 use Rattle.eq_classes.proofs.UniqueLemmas.{table_one}
 use Rattle.sql_query.specs.Worlds.{World, stored_at}
-use Rattle.definitions.specs.Actions.{Action, advise, build, fill, follow, verify}
+use Rattle.store.specs.Actions.{Action, advise, build, fill, follow, verify}
 use Rattle.statements.specs.Accepted.{Advises, Answers, Carries, Does, Groups, Indexes, IsReadOver, IsRead, Takes, asked, asked_as, asked_of_groups}
 use Rattle.statements.specs.Faults.{endless_fault, index_fault, word_ends, IsCheckFault, in_line, in_select, without_end, rows_fault, IsRefused, IsAdviseFault, IsDefinitionFault, IsGroupFault, IsIndexFault, IsQueryFault, IsMeaningFault, IsFaultOver, in_syntax, in_meaning, IsFault, in_words, after_words}
 use Rattle.group_reply.specs.reply_Answers.{HasNoPlan}
 use Rattle.group_reply.specs.reply_Replies.{Reply}
 use Rattle.statements.specs.Replies.{IsReply}
-use Rattle.advise_reader.specs.Meaning.{Asked}
+use Rattle.index_reader.specs.AdviseMeaning.{Asked}
 use Rattle.index_prices.specs.Replies.{HasNoAdviceFor}
 use Rattle.statements.proofs.OneAdviceLemmas.{no-advice-told, one-advice}
 use Rattle.statements.proofs.OneIndexLemmas.{one_index_refusal, no_index_refusal}

@@ -31,7 +31,7 @@ use Rattle.catalog.specs.Indexes.{type_at}
 use Rattle.catalog.specs.Tables.{table_named}
 use Rattle.expr_reader.specs.Conditions.{next as following}
 use Rattle.expr_reader.specs.Literals.{typed_value}
-use Rattle.sql_cursor.specs.Lists.{bound_each}
+use Rattle.expr_reader.specs.Lists.{bound_each}
 use Rattle.ddl_reader.specs.Statistics.{CommonWords, common_value, table_of_name, column_of_name, table_statistics, statistics_of, column_statistics_of, commons_of, bounds_of, analysis}
 use Rattle.sql_grammar.proofs.ExprTrees.{tokens-are}
 use Rattle.ddl_reader.specs.Columns.{Bound, bound_all, written, further}
@@ -39,7 +39,7 @@ use Rattle.ddl_reader.specs.Tables.{Definition, table, sizes_for, statistics_for
 use Rattle.pg_value.specs.Fields.{null_text}
 use Rattle.sql_query.specs.Queries.{Query}
 use Rattle.sql_query.specs.Worlds.{World}
-use Rattle.definitions.specs.Actions.{Action, follow, verify}
+use Rattle.store.specs.Actions.{Action, follow, verify}
 use Rattle.statements.proofs.BlockLemmas.{block-within}
 use Rattle.sql_lex.specs.Ends.{token_at, end_of}
 use Rattle.statements.specs.Accepted.{Carries, Does, IsReadOver, Takes}

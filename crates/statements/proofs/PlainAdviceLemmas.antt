@@ -7,15 +7,15 @@ use Rattle.sql_lex.specs.declared.tokens.Token.{Token}
 use Rattle.sql_grammar.specs.Terminals.{Said}
 use Rattle.sql_grammar.specs.Syntax.{Cand, Advised, Advise, advise_of}
 use Rattle.catalog.specs.Contents.{Contents, NamedIndex, indexes_of}
-use Rattle.index_candidates.specs.Candidates.{with_candidates}
+use Rattle.catalog.specs.Candidates.{with_candidates}
 use Rattle.index_reader.specs.Meaning.{Reading, meaning_of_cand}
 use Rattle.query_reader.specs.Binding.{Bound, bound_part}
 use Rattle.sql_query.specs.Queries.{Query}
-use Rattle.advise_reader.specs.Candidates.{CandidateMeans, IsNotAllowed, MayBeMade, candidate_read, formless, repeated, taken, with_room}
-use Rattle.advise_reader.specs.Meaning.{Asked, Means, most_meant}
-use Rattle.advise_reader.specs.Parts.{candidates_of, name_token, select_in}
-use Rattle.advise_reader.specs.Queries.{IsQueryOf, QueryMeans, query_bound}
-use Rattle.advise_reader.specs.Stages.{AreRead, Then}
+use Rattle.index_reader.specs.AdviseCandidates.{CandidateMeans, IsNotAllowed, MayBeMade, candidate_read, formless, repeated, taken, with_room}
+use Rattle.index_reader.specs.AdviseMeaning.{Asked, Means, most_meant}
+use Rattle.index_reader.specs.Parts.{candidates_of, name_token, select_in}
+use Rattle.index_reader.specs.Queries.{IsQueryOf, QueryMeans, query_bound}
+use Rattle.index_reader.specs.Stages.{AreRead, Then}
 use Rattle.statements.proofs.BindingLemmas.{part-plain}
 use Rattle.statements.proofs.IndexingLemmas.{cand-plain}
 use Rattle.statements.proofs.PlainLemmas.{IsPlain}

@@ -21,15 +21,15 @@ use Rattle.sql_lex.specs.declared.tokens.Token.{Token}
 use Rattle.sql_grammar.specs.Terminals.{Ident, Said, token_of}
 use Rattle.sql_grammar.specs.Faults.{Production, IsFirstFault, bytes_of, fault_at}
 use Rattle.sql_grammar.specs.Syntax.{Col, bare, qualified, yes, no, unknown, Lit, number, negative, quoted, constant, Operand, column, literal, Expr, either_of, Ors, no_or, or_conj, Conj, both_of, Ands, no_and, and_neg, Neg, negated, plain, Atom, parens, compare, is_null, is_not_null, column_alone, constant_alone}
-use Rattle.sql_cursor.specs.Lists.{before_all, bound_each}
-use Rattle.sql_cursor.specs.Operators.{operator_of}
+use Rattle.expr_reader.specs.Lists.{before_all, bound_each}
+use Rattle.expr_reader.specs.Operators.{operator_of}
 use Rattle.expr_reader.specs.declared.found.Found.{Found}
 use Rattle.expr_reader.specs.declared.found.Found.TheVariants.{One, NoTable, NoColumn, Many}
 use Rattle.expr_reader.specs.Scope.{Scope, look_up}
 use Rattle.expr_reader.specs.Literals.{literal_value, number_as, flag_as, typed_value, value_at, written}
 use Rattle.expr_reader.specs.Conditions.{next, the_column, column_of, place_of_col, Side, of_column, of_literal, own_type, type_beside, operand_of, operated, compare_as, flag_column, then_parts, side_of, meaning_of_expr, meaning_of_ors, meaning_of_conj, meaning_of_ands, meaning_of_neg, meaning_of_atom}
 use Rattle.ddl_reader.specs.Statistics.{known, table_of_name, column_of_name}
-use Rattle.fault_line.specs.Tells.{IsFieldOf}
+use Rattle.reply_text.specs.Tells.{IsFieldOf}
 
 -- a fault is in no record
 abbrev pub IsPlain : {A : Type 0} → Result A Fault → Type 0

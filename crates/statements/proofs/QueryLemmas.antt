@@ -18,7 +18,7 @@ use Rattle.sql_grammar.specs.Words.{words_of}
 use Rattle.sql_grammar.specs.Faults.{IsFirstFault, IsStatement, IsWhole, terminals}
 use Rattle.sql_grammar.specs.Spelled.{IsSpelled}
 use Rattle.sql_grammar.proofs.StatementWords.{words-are-tokens}
-use Rattle.advise_reader.specs.Statements.{begins_advise}
+use Rattle.index_reader.specs.AdviseStatements.{begins_advise}
 use Rattle.ddl_reader.specs.Statements.{begins_ddl, begins_index}
 use Rattle.catalog.specs.Contents.{Contents}
 use Rattle.eq_classes.specs.Holding.{IsClassTable}
@@ -36,7 +36,7 @@ use Rattle.sql_query.specs.Queries.{Query}
 use Rattle.sql_query.specs.WellBound.{given_of}
 use Rattle.sql_query.specs.Worlds.{World}
 use Rattle.group_reply.specs.reply_Answers.{HasNoPlan}
-use Rattle.definitions.specs.Actions.{answer_groups, explain_groups}
+use Rattle.store.specs.Actions.{answer_groups, explain_groups}
 use Rattle.statements.specs.Accepted.{IsReadOver, asked, asked_of_groups}
 use Rattle.statements.specs.Faults.{IsFaultOver, in_syntax, in_meaning, no_plan}
 use Rattle.statements.specs.Questions.{HasNoneOf, IsBoundTo, asked_of, groups_asked}

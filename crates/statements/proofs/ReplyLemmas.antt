@@ -13,7 +13,7 @@ use Rattle.group_reply.specs.reply_stop_Stop.{Stop}
 use Rattle.group_reply.specs.reply_stop_Stop_TheVariants.{NoPlan, Write, Memory}
 use Rattle.group_reply.specs.reply_Effort.{HasRisen, Rise, exactly}
 use Rattle.group_reply.specs.reply_Replies.{HasBegun, HasReplied, IsAnswerTo, IsExplanationOf, Leaves, Reply, Traces, traces}
-use Rattle.table_reply.specs.Tabled.{IsTableOf}
+use Rattle.plan_reply.specs.Tabled.{IsTableOf}
 use Rattle.statements.specs.Accepted.{asked_as}
 use Rattle.statements.specs.Questions.{groups_asked}
 use Rattle.statements.specs.Replies.{IsReply}

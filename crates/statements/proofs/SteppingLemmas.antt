@@ -16,7 +16,7 @@ use Rattle.sql_query.specs.Worlds.{World, world}
 use Rattle.store.specs.Kept.{Kept}
 use Rattle.statements.specs.declared.end.End.{End}
 use Rattle.statements.specs.declared.end.End.TheVariants as ends
-use Rattle.definitions.specs.Actions.{idle}
+use Rattle.store.specs.Actions.{idle}
 use Rattle.sql_lex.specs.Ends.{end_of}
 use Rattle.statements.specs.Accepted.{IsReadOver}
 use Rattle.statements.proofs.PlaceLemmas.{EndsBehind, read-behind}

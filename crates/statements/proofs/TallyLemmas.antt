@@ -2,10 +2,10 @@
 use Rattle.std.proofs.Common.{◌≡◌, ◌<◌, ◌≤◌, ◌+◌, ◌==◌, ℕ, Bool, true, false, List, [], ◌++◌, length, codes, if◌then◌else◌, ap, ◌∙◌, arith, Option, None, Result, Ok, Err, IfOk}
 use Rattle.std.specs.Fmt.{decimal}
 use Rattle.std.proofs.lemmas.List.{length-append}
-use Rattle.row_text.specs.Texts.{count_line}
+use Rattle.reply_text.specs.Texts.{count_line}
 use Rattle.sql_lex.specs.declared.tokens.Token.{Token}
 use Rattle.sql_lex.specs.Words.{AreWords}
-use Rattle.definitions.specs.Actions.{Action, idle, make, build, size, describe, fill, gather, answer, explain, certify, advise, verify, follow, answer_groups, explain_groups}
+use Rattle.store.specs.Actions.{Action, idle, make, build, size, describe, fill, gather, answer, explain, certify, advise, verify, follow, answer_groups, explain_groups}
 use Rattle.group_reply.specs.explain_Texts.{explained_text}
 use Rattle.group_reply.specs.reply_Answers.{tuples_of, tuples_text}
 use Rattle.sql_query.specs.Meaning.{windowed}

@@ -8,7 +8,7 @@ use Rattle.group_reply.specs.reply_Putting.{HasWriteCause}
 use Rattle.group_reply.specs.reply_Replies.{HasBegun, HasReplied, Reply, Traces}
 use Rattle.sql_query.specs.Queries.{Query}
 use Rattle.sql_query.specs.Worlds.{World}
-use Rattle.definitions.specs.Actions.{follow}
+use Rattle.store.specs.Actions.{follow}
 use Rattle.statements.specs.declared.end.End.{End}
 use Rattle.statements.specs.declared.end.End.TheVariants as ends
 use Rattle.statements.specs.Accepted.{IsReadOver}

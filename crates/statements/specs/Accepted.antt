@@ -8,7 +8,7 @@ use Rattle.sql_grammar.specs.CopyLine.{IsDataStart}
 use Rattle.sql_grammar.specs.Syntax.{Advise, CreateIndex, GroupedSelect, MaybeExplain, unexplained, explained, no_limit, no_offset, window, Statement, WindowedSelect, windowed_select, empty, create_table, create_index, query, copy, sizes, column_statistics, analyze, advise as advise_tree, check, use_plan, grouped}
 use Rattle.sql_grammar.specs.Faults.{terminals}
 use Rattle.sql_grammar.specs.Spelled.{IsSpelled}
-use Rattle.advise_reader.specs.Meaning.{Asked, Means as AdviseMeans}
+use Rattle.index_reader.specs.AdviseMeaning.{Asked, Means as AdviseMeans}
 use Rattle.catalog.specs.Contents.{Contents}
 use Rattle.catalog.specs.Statistics.{AreAllowed, is_count}
 use Rattle.catalog.specs.Tables.{IsAcceptable, IsAcceptableIndex}
@@ -30,7 +30,7 @@ use Rattle.sql_query.specs.Grouped.{GroupedQuery}
 use Rattle.sql_query.specs.Queries.{Query}
 use Rattle.sql_query.specs.WellBound.{given_of}
 use Rattle.sql_query.specs.Worlds.{World, stored_at}
-use Rattle.definitions.specs.Actions.{Action, idle, make, build, size, describe, fill, gather, answer, explain, certify, advise, verify, follow, answer_groups, explain_groups}
+use Rattle.store.specs.Actions.{Action, idle, make, build, size, describe, fill, gather, answer, explain, certify, advise, verify, follow, answer_groups, explain_groups}
 
 -- what a definition does, and the offset after it: a table is accepted by the catalogue; so are the sizes of a table and the
 -- statistics of a column; data go up to the line that ends them, and the table takes them; and the statistics of a table are

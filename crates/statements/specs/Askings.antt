@@ -1,7 +1,7 @@
 -- The queries that statements ask, and what is measured of them. Own.
 use Rattle.std.specs.Prelude.{List, [], ◌∷◌, Option, Some, None}
 use Rattle.std.specs.List.{cons_option}
-use Rattle.definitions.specs.Actions.{Action, after, answer}
+use Rattle.store.specs.Actions.{Action, after, answer}
 use Rattle.group_reply.specs.reply_Measures.{IsMeasured}
 use Rattle.group_reply.specs.reply_Replies.{Reply}
 use Rattle.group_reply.specs.reply_measuring_Measured.{Measured}

@@ -8,7 +8,7 @@ use Rattle.sql_query.specs.Queries.{Query}
 use Rattle.sql_query.specs.WellBound.{IsWellBound}
 use Rattle.sql_query.specs.Worlds.{World, world}
 use Rattle.store.specs.Kept.{IsStoreOf}
-use Rattle.definitions.specs.Actions.{Action, verify, follow}
+use Rattle.store.specs.Actions.{Action, verify, follow}
 use Rattle.plan_reply.specs.Told.{IsTold}
 use Rattle.statements.specs.declared.claims.Given.{Given}
 use Rattle.statements.specs.declared.claims.Given.TheVariants.{Certificate, Plan}

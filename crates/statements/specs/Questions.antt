@@ -9,7 +9,7 @@ use Rattle.catalog.specs.Contents.{Contents}
 use Rattle.sql_query.specs.Grouped.{GroupedQuery}
 use Rattle.sql_query.specs.WellBound.{IsWellBound}
 use Rattle.store.specs.Kept.{IsStoreOf}
-use Rattle.table_reply.specs.table_texts_Arms.{HasArmsInOrs}
+use Rattle.plan_reply.specs.certificate_laws_Arms.{HasArmsInOrs}
 use Rattle.query_reader.specs.Select.{AreNoOther, is_explained}
 use Rattle.query_reader.specs.Wanted.{wanted_by}
 use Rattle.group_query.specs.Grouping.{IsWellGrouped}
@@ -17,7 +17,7 @@ use Rattle.group_reader.specs.declared.selected.Selected.{Selected}
 use Rattle.group_reader.specs.declared.selected.Selected.TheVariants.{Plain, Grouped}
 use Rattle.group_reply.specs.group_explain_Plans.{HasNoGroupPlan}
 use Rattle.group_reply.specs.reply_Answers.{HasNoPlan}
-use Rattle.definitions.specs.Actions.{Action, answer_groups, explain_groups}
+use Rattle.store.specs.Actions.{Action, answer_groups, explain_groups}
 use Rattle.statements.specs.declared.using.Place.{Place}
 use Rattle.statements.specs.Accepted.{asked_as}
 

@@ -5,8 +5,8 @@ use Rattle.index_prices.specs.Replies.{IsReplyTo}
 use Rattle.group_reply.specs.reply_Effort.{exactly}
 use Rattle.group_reply.specs.reply_Replies.{Reply, IsAnswerTo, IsExplanationOf}
 use Rattle.store.specs.Kept.{load_looks}
-use Rattle.definitions.specs.Actions.{Action, idle, make, build, size, describe, fill, gather, answer, explain, certify, advise, verify, follow, answer_groups, explain_groups}
-use Rattle.table_reply.specs.Tabled.{IsTableOf}
+use Rattle.store.specs.Actions.{Action, idle, make, build, size, describe, fill, gather, answer, explain, certify, advise, verify, follow, answer_groups, explain_groups}
+use Rattle.plan_reply.specs.Tabled.{IsTableOf}
 use Rattle.check_reply.specs.Checked.{IsCheckedText}
 use Rattle.plan_reply.specs.Told.{IsPlanReplyTo}
 use Rattle.group_reply.specs.group_explain_Plans.{IsGroupedExplanationOf}

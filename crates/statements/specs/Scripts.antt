@@ -2,7 +2,7 @@
 use Rattle.std.specs.Prelude.{ℕ, ◌≡◌, ◌<◌, List, [], ◌∷◌, length}
 use Rattle.std.specs.List.{flat_map}
 use Rattle.sql_query.specs.Worlds.{World, empty_world}
-use Rattle.definitions.specs.Actions.{Action, after}
+use Rattle.store.specs.Actions.{Action, after}
 use Rattle.statements.specs.Accepted.{IsRead}
 use Rattle.group_reply.specs.reply_Replies.{Reply}
 use Rattle.statements.specs.Replies.{IsReply}

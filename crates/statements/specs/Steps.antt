@@ -9,7 +9,7 @@ use Rattle.catalog.specs.Contents.{Contents}
 use Rattle.ddl_reader.specs.Block.{IsBlockEnd}
 use Rattle.ddl_reader.specs.Statements.{begins_ddl, begins_index}
 use Rattle.ddl_reader.specs.Tables.{Definition, data_for}
-use Rattle.fault_line.specs.Tells.{IsFieldOf}
+use Rattle.reply_text.specs.Tells.{IsFieldOf}
 use Rattle.heap.specs.Loading.{loaded, records_of}
 use Rattle.heap.specs.Stored.{Stored}
 use Rattle.group_reply.specs.reply_Replies.{HasBegun, HasReplied, Traces}
@@ -18,7 +18,7 @@ use Rattle.sql_query.specs.Worlds.{World, stored_at}
 use Rattle.store.specs.Kept.{load_looks}
 use Rattle.statements.specs.declared.end.End.{End}
 use Rattle.statements.specs.declared.end.End.TheVariants as ends
-use Rattle.definitions.specs.Actions.{Action, after}
+use Rattle.store.specs.Actions.{Action, after}
 use Rattle.statements.specs.Accepted.{IsRead, IsReadOver}
 use Rattle.statements.specs.Askings.{IsTallied, asked_in}
 use Rattle.statements.specs.Faults.{IsFault, IsFaultOver, IsRefused}

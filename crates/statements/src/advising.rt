@@ -6,7 +6,7 @@ ghost use Rattle.pg_base.specs.declared.limits.TheConstants.{MOST_SCRIPT_BYTES};
 ghost use Rattle.sql_lex.specs.Ends.{end_of};
 ghost use Rattle.sql_lex.specs.Words.{AreWords};
 ghost use Rattle.sql_grammar.specs.Faults.{terminals};
-ghost use Rattle.advise_reader.specs.Statements.{begins_advise};
+ghost use Rattle.index_reader.specs.AdviseStatements.{begins_advise};
 ghost use Rattle.sql_query.specs.Worlds.{world};
 ghost use Rattle.group_reply.specs.reply_Putting.{HasWriteCause};
 ghost use Rattle.group_reply.specs.reply_Replies.{traces};
@@ -14,9 +14,9 @@ ghost use Rattle.statements.specs.Steps.{IsAnsweredOver, IsTelling, Refuses, Sto
 
 use crate::end::End;
 use crate::query::token_at;
-use advise_reader::read_advise;
 use catalog::Catalog;
 use index_prices::advice_for;
+use index_reader::read_advise;
 use pg_base::{Code, Sink, write_all};
 use sql_grammar::fault_at;
 use sql_lex::Tokens;

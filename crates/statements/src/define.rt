@@ -16,7 +16,7 @@ ghost use Rattle.ddl_reader.specs.Tables.{data_for, sizes_for, statistics_for, t
 ghost use Rattle.heap.specs.Loading.{loaded, records_of};
 ghost use Rattle.heap.specs.Stored.{Stored};
 ghost use Rattle.sql_query.specs.Worlds.{stored_at, world};
-ghost use Rattle.definitions.specs.Actions as actions;
+ghost use Rattle.store.specs.Actions as actions;
 ghost use Rattle.store.specs.Kept.{IsStoreOf, Kept, load_looks, stored_of};
 ghost use Rattle.statements.specs.Steps.{IsDefined, Refuses, RefusesData, RefusesDefinition};
 
@@ -24,13 +24,12 @@ use crate::end::End;
 use crate::faults::{endless, refused_data, refused_statistics, refused_table, word_ends};
 use catalog::{Catalog, ColumnStats};
 use ddl_reader::{Ddl, Read, block_end, read_ddl};
-use definitions::{fill, gather, make};
 use heap::Counters;
 use pg_base::{ColNo, Steps, TableNo};
 use pg_value::{Bytes, Columns};
 use sql_lex::Tokens;
 use std::alloc::Global;
-use store::Store;
+use store::{Store, fill, gather, make};
 
 /// Carries out the definition of these tokens and gives the offset after it. A refused one changes nothing.
 pub(crate) fn define<C: Counters>(

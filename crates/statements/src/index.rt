@@ -12,13 +12,12 @@ ghost use Rattle.statements.specs.Steps.{IsDefined, Refuses};
 use crate::end::End;
 use crate::faults::refused_index;
 use catalog::Catalog;
-use definitions::build;
 use heap::Counters;
 use index_reader::{ReadIndex, read_index};
 use pg_base::Steps;
 use sql_lex::Tokens;
 use std::alloc::Global;
-use store::Store;
+use store::{Store, build};
 
 /// Makes the index of these tokens, built over the rows of its table, and gives the offset after it. A refused one changes
 /// nothing, and `reads` counts the rows that are looked at.

@@ -13,7 +13,7 @@ ghost use Rattle.catalog.specs.Analysed.{IsAllowedTable};
 ghost use Rattle.catalog.specs.Contents.{Contents, IsTable};
 ghost use Rattle.pg_base.specs.declared.faults.Fault.{Fault};
 ghost use Rattle.sql_query.specs.Worlds.{World};
-ghost use Rattle.definitions.specs.Actions.{Action};
+ghost use Rattle.store.specs.Actions.{Action};
 ghost use Rattle.statements.specs.Accepted.{IsRead};
 ghost use Rattle.statements.specs.Faults.{IsFault, IsMeaningFault};
 ghost use Rattle.group_reply.specs.reply_Replies.{Reply};

@@ -8,7 +8,7 @@ ghost use Rattle.sql_grammar.specs.Faults.{terminals};
 ghost use Rattle.heap.specs.Stored.{Stored};
 ghost use Rattle.sql_query.specs.WellBound.{IsWellBound};
 ghost use Rattle.sql_query.specs.Worlds.{world};
-ghost use Rattle.table_reply.specs.table_texts_Arms.{HasArmsInOrs};
+ghost use Rattle.plan_reply.specs.certificate_laws_Arms.{HasArmsInOrs};
 ghost use Rattle.query_reader.specs.Select.{AreGrouped, AreNoOther, AreSelect, is_explained, words_before};
 ghost use Rattle.group_query.specs.Grouping.{IsWellGrouped};
 ghost use Rattle.group_reply.specs.group_explain_Plans.{HasNoGroupPlan};
@@ -33,13 +33,13 @@ use group_reply::reply::{Measured, Stop, answer, explain_query, measure};
 use group_reply::{answer_groups, plan_groups};
 use heap::Counters;
 use pg_base::{Code, Fault, Sink, Steps};
+use plan_reply::{explain_table, table_text};
 use query_reader::{Wanted, explains, wants, words_by};
 use sql_grammar::fault_at;
 use sql_lex::{Token, Tokens};
 use sql_query::{Grouped, Prepared};
 use std::alloc::Global;
 use store::Store;
-use table_reply::{explain_table, table_text};
 
 /// The number of the token at which the SELECT of these tokens begins, where they are a SELECT of either form, EXPLAIN or EXPLAIN
 /// (TABLE).

@@ -6,3 +6,5 @@ pub mod LawLemmas
 pub mod OrderLemmas
 pub mod StoreLemmas
 pub mod SwapLemmas
+pub mod TableLemmas
+pub mod GatherLemmas

@@ -6,10 +6,10 @@ ghost use Rattle.sql_query.specs.WellBound.{IsWellBound};
 
 use catalog::{Catalog, CatalogFault};
 use ddl_reader::{Ddl, Read, is_index, read_ddl};
+use expr_reader::Cursor;
 use index_reader::{ReadIndex, read_index};
 use pg_base::Refusal;
 use query_reader::read_select;
-use sql_cursor::Cursor;
 use sql_grammar::Word;
 use sql_lex::{Tokens, lex_statement};
 use sql_query::Prepared;

@@ -6,8 +6,7 @@ ghost use Rattle.sql_query.specs.WellBound.{IsWellBound};
 
 use crate::script::{Stopped, define, query};
 use catalog::Catalog;
-use entry_reader::certificate_reader::CertFault;
-use entry_reader::read_certificate;
+use certificate_reader::{CertFault, read_certificate};
 use sql_query::Prepared;
 use std::alloc::Global;
 

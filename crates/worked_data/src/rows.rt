@@ -1,6 +1,6 @@
 //! Lines that count rows, byte by byte. Lines of rows are data of `tools/check_examples.py`.
 
-use row_text::count_line;
+use reply_text::count_line;
 use std::alloc::Global;
 
 const COUNTS: [(u64, &[u8]); 4] = [

@@ -1,6 +1,6 @@
 use Rattle.std.proofs.Common.{refl}
 use Rattle.plan_tree.proofs.BoundLemmas.{lawful-rows}
-use Rattle.certificates.specs.Views.{certificate}
+use Rattle.plan_check.specs.Views.{certificate}
 use Rattle.certificate_check.proofs.CheckLemmas.{placed-there, valid-best, valid-dominated}
 use Rattle.certificate_check.proofs.checking.check.Goals as goal
 

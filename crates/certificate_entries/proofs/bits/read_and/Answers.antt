@@ -2,11 +2,11 @@ use Rattle.std.proofs.Common.{◌∙◌, ℕ, List, [], ◌∷◌, ◌++◌, len
 use Rattle.std.proofs.lemmas.Bool.{true≢false}
 use Rattle.std.proofs.lemmas.List.{length-map}
 use Rattle.std.specs.Prelude.{All, Some}
-use Rattle.certificate_lines.specs.explain_Texts.{with_commas}
+use Rattle.certificate_text.specs.explain_Texts.{with_commas}
 use Rattle.plan_tree.specs.Plans.{BitTree, all_hold}
 use Rattle.plan_tree.specs.Views.{bits, trees_of}
 use Rattle.plan_tree.proofs.PricingLemmas.{and-bits}
-use Rattle.certificate_lines.specs.certificate_text_HasText.{HasBitsText, HasElementText}
+use Rattle.certificate_text.specs.HasText.{HasBitsText, HasElementText}
 use Rattle.certificate_entries.proofs.ElementLemmas.{and-has, held-has, held-is, held-none, in_list, in_list-back, in_list-has, in_list-long, in_list-texts}
 use Rattle.certificate_entries.proofs.bits.read_and.Goals as goal
 

@@ -1,5 +1,5 @@
 use Rattle.std.proofs.Common.{◌≡◌, ◌<◌, ℕ, Some, slice_get}
-use Rattle.certificate_lines.specs.explain_Texts.{conjunct_by}
+use Rattle.certificate_text.specs.explain_Texts.{conjunct_by}
 use Rattle.certificate_entries.proofs.clauses.find_clause.Given as goal
 
 abbrev pub invariant-loop-n : goal.invariant-loop-n

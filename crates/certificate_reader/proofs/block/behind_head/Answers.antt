@@ -4,7 +4,7 @@ use Rattle.std.proofs.lemmas.Bool.Decides.{Decides-eqb}
 use Rattle.std.proofs.lemmas.Slice.Eq.{strip_prefix_is}
 use Rattle.sql_query.specs.Queries.{Query}
 use Rattle.sql_query.specs.declared.window.Window.{Window}
-use Rattle.certificate_lines.specs.certificate_text_Texts.{head_text}
+use Rattle.certificate_entries.specs.certificate_text_Texts.{head_text}
 use Rattle.certificate_reader.proofs.block.behind_head.Goals as goal
 
 behind : (w : Option Window) (f : Window) (block wanted : List ℕ) (o : Option (Bor (List ℕ))) → w ≡ Some f → wanted ≡ codes "certificate 2\n" → MatchOption o ((rest : List ℕ) → block ≢ wanted ++ rest) (λ x. block ≡ wanted ++ x.now) →

@@ -3,8 +3,8 @@ use Rattle.std.specs.Prelude.{Option, None, Some}
 use Rattle.std.proofs.lemmas.Bool.Decides.{nat_tests}
 use Rattle.std.proofs.lemmas.List.{length-map}
 use Rattle.sql_query.specs.declared.window.Window.{Window}
-use Rattle.certificates.specs.Certificates.{Entry}
-use Rattle.certificates.specs.Views.{entry, side}
+use Rattle.plan_check.specs.Certificates.{Entry}
+use Rattle.plan_check.specs.Views.{entry, side}
 use Rattle.certificate_reader.specs.Faults.{IsFaultLine, IsText}
 use Rattle.certificate_reader.specs.Reading.{IsBlockRead, head_lines}
 use Rattle.certificate_reader.proofs.PlainLemmas.{plain-line}

@@ -1,7 +1,7 @@
 use Rattle.std.proofs.Common.{◌≡◌, ◌≤◌, ◌+◌, ℕ, List, [], length, map, sym, ap, subst, ◌∙◌, arith, Ok, Err}
 use Rattle.std.proofs.lemmas.List.{length-map}
-use Rattle.certificates.specs.Views.{entry}
-use Rattle.certificate_lines.specs.Reading.{IsBad, IsEntryRead, IsRead}
+use Rattle.plan_check.specs.Views.{entry}
+use Rattle.certificate_entries.specs.Reading.{IsBad, IsEntryRead, IsRead}
 use Rattle.certificate_reader.specs.Faults.{IsFaultLine}
 use Rattle.certificate_reader.specs.Reading.{IsReadSoFar, head_lines}
 use Rattle.certificate_reader.proofs.PlainLemmas.{plain-line}

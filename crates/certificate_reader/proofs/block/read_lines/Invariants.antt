@@ -1,5 +1,5 @@
 use Rattle.std.proofs.Common.{length, map}
-use Rattle.certificates.specs.Views.{entry}
+use Rattle.plan_check.specs.Views.{entry}
 use Rattle.certificate_reader.specs.Reading.{IsReadSoFar}
 use Rattle.certificate_reader.proofs.block.read_lines.Given as goal
 

@@ -1,6 +1,6 @@
 use Rattle.std.proofs.Common.{subst, sym}
-use Rattle.certificates.specs.Views.{entry}
-use Rattle.certificates.specs.declared.entry.Entry.{Entry as Entered}
+use Rattle.plan_check.specs.Views.{entry}
+use Rattle.plan_check.specs.declared.entry.Entry.{Entry as Entered}
 use Rattle.certificate_text.specs.HasText.{HasEntryLine}
 use Rattle.certificate_text.proofs.EntryLemmas.{line-at}
 use Rattle.certificate_text.proofs.entries.put_entries.Goals as goal

@@ -1,5 +1,5 @@
 use Rattle.certificate_check.specs.plan_laws_WellBoundLemmas.{bound-over}
-use Rattle.certificate_check.specs.atom_laws_AtomLemmas.{atoms-few}
+use Rattle.certificate_check.specs.scan_cover_AtomLemmas.{atoms-few}
 use Rattle.check_reply.proofs.checked.judged_line.Goals as goal
 
 pub check-verdict-requires-clause-query : goal.check-verdict-requires-clause-query

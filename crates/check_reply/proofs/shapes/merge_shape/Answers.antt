@@ -1,6 +1,6 @@
 use Rattle.std.proofs.Common.{◌≡◌, ◌∙◌, ap, cond, subst, sym}
-use Rattle.certificates.specs.Certificates.{by_merge}
-use Rattle.certificates.specs.Views.{certificate, entry, side}
+use Rattle.plan_check.specs.Certificates.{by_merge}
+use Rattle.plan_check.specs.Views.{certificate, entry, side}
 use Rattle.pathkeys.specs.Finding.{class_numbers}
 use Rattle.pathkeys.specs.Keys.{Keys}
 use Rattle.plan_check.specs.Plains.{keys_in}

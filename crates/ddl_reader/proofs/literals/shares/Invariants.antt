@@ -1,7 +1,7 @@
 use Rattle.std.proofs.Common.{◌≡◌, List, ◌∷◌, length}
 use Rattle.sql_grammar.specs.Terminals.{Terminal}
 use Rattle.sql_grammar.specs.Syntax.{Mark, Share}
-use Rattle.sql_cursor.specs.Lists.{parts_of}
+use Rattle.expr_reader.specs.Lists.{parts_of}
 use Rattle.ddl_reader.specs.Statistics.{common_words}
 use Rattle.ddl_reader.specs.AsMeant.{words_of_shares_left}
 use Rattle.ddl_reader.proofs.ListLemmas.{So}

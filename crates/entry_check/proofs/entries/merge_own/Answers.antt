@@ -1,7 +1,7 @@
 use Rattle.std.proofs.Common.{inl, inr}
 use Rattle.plan_tree.specs.Plans.{merge}
-use Rattle.certificates.specs.Certificates.{side_at, sorted_if}
-use Rattle.certificates.specs.Views.{certificate, entry, side}
+use Rattle.plan_check.specs.Certificates.{side_at, sorted_if}
+use Rattle.plan_check.specs.Views.{certificate, entry, side}
 use Rattle.entry_check.specs.Owning.{plans_before}
 use Rattle.entry_check.proofs.JudgeLemmas.{has-right, join-none, joined, no-join, side-none, side-some}
 use Rattle.entry_check.proofs.OwnLemmas.{if-none-then, if-some}

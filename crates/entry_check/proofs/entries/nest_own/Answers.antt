@@ -1,7 +1,7 @@
 use Rattle.std.proofs.Common.{inl, inr}
 use Rattle.plan_tree.specs.Plans.{nest}
-use Rattle.certificates.specs.Certificates.{plan_at}
-use Rattle.certificates.specs.Views.{certificate, entry}
+use Rattle.plan_check.specs.Certificates.{plan_at}
+use Rattle.plan_check.specs.Views.{certificate, entry}
 use Rattle.entry_check.specs.Owning.{plans_before}
 use Rattle.entry_check.proofs.JudgeLemmas.{has-right, join-none, joined, no-join}
 use Rattle.entry_check.proofs.OwnLemmas.{if-none-then, if-some}

@@ -1,5 +1,5 @@
 use Rattle.std.proofs.Common.{refl}
-use Rattle.certificates.specs.Views.{certificate, entry}
+use Rattle.plan_check.specs.Views.{certificate, entry}
 use Rattle.entry_check.proofs.JudgeLemmas.{reason-node, reason-number, right-too}
 use Rattle.entry_check.proofs.PlaceLemmas.{read-there}
 use Rattle.entry_check.proofs.judging.judge_entry.Goals as goal

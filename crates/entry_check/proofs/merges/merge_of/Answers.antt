@@ -6,8 +6,8 @@ use Rattle.pathkeys.specs.Finding.{class_numbers}
 use Rattle.plan_tree.specs.Least.{IsAdmissible}
 use Rattle.plan_tree.specs.Plans.{Plan, merge}
 use Rattle.plan_tree.specs.Space.{IsBuilt, IsMergeList}
-use Rattle.certificates.specs.Certificates.{sorted_if}
-use Rattle.certificates.specs.Views.{entry}
+use Rattle.plan_check.specs.Certificates.{sorted_if}
+use Rattle.plan_check.specs.Views.{entry}
 use Rattle.plan_check.specs.Beating.{IsRight, candidate}
 use Rattle.entry_check.proofs.merges.merge_of.Goals as goal
 

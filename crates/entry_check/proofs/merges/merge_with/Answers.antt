@@ -3,9 +3,9 @@ use Rattle.std.proofs.lemmas.Bool.{false≢true}
 use Rattle.pathkeys.specs.Finding.{class_numbers}
 use Rattle.plan_tree.proofs.BoundLemmas.{lawful-rows}
 use Rattle.plan_tree.specs.Plans.{merge}
-use Rattle.certificates.specs.Certificates.{sorted_if}
-use Rattle.certificates.specs.Views.{entry}
-use Rattle.join_work.proofs.CostLemmas.{whole-rows}
+use Rattle.plan_check.specs.Certificates.{sorted_if}
+use Rattle.plan_check.specs.Views.{entry}
+use Rattle.entry_check.proofs.CostLemmas.{whole-rows}
 use Rattle.plan_check.proofs.MergeLemmas.{built-merge}
 use Rattle.entry_check.proofs.MergeLemmas.{merge-right, merge-set}
 use Rattle.entry_check.proofs.PartLemmas.{set-estimate}

@@ -2,7 +2,7 @@ use Rattle.std.proofs.Common.{ℕ, subst}
 use Rattle.pg_base.specs.Sets.{has}
 use Rattle.plan_tree.specs.Plans.{set_of}
 use Rattle.plan_tree.specs.Space.{IsSameSet}
-use Rattle.join_work.proofs.CostLemmas.{nest-rule}
+use Rattle.entry_check.proofs.CostLemmas.{nest-rule}
 use Rattle.entry_check.proofs.nests.nest_cost.Goals as goal
 
 pub returns : goal.returns

@@ -2,8 +2,8 @@ use Rattle.std.proofs.Common.{◌∙◌, refl, sym}
 use Rattle.std.proofs.lemmas.Bool.{false≢true}
 use Rattle.plan_tree.proofs.BoundLemmas.{lawful-rows}
 use Rattle.plan_tree.specs.Plans.{nest}
-use Rattle.certificates.specs.Views.{entry}
-use Rattle.join_work.proofs.CostLemmas.{whole-rows}
+use Rattle.plan_check.specs.Views.{entry}
+use Rattle.entry_check.proofs.CostLemmas.{whole-rows}
 use Rattle.plan_check.proofs.NestLemmas.{built-nest}
 use Rattle.entry_check.proofs.NestLemmas.{nest-right, nest-set}
 use Rattle.entry_check.proofs.PartLemmas.{set-estimate}

@@ -7,7 +7,7 @@ use Rattle.plan_tree.specs.Plans.{bitmap}
 use Rattle.plan_tree.specs.Views.{bits}
 use Rattle.plan_tree.proofs.BoundLemmas.{lawful-rows}
 use Rattle.plan_tree.proofs.CostableLemmas.{tree-made}
-use Rattle.certificates.specs.Views.{entry}
+use Rattle.plan_check.specs.Views.{entry}
 use Rattle.entry_check.proofs.ScanLemmas.{kept-cut, no-keys, param-given, scan-judged, some-keys}
 use Rattle.entry_check.proofs.scans.own_bitmap.Goals as goal
 

@@ -7,7 +7,7 @@ use Rattle.plan_tree.specs.Paths.{kept_cost}
 use Rattle.plan_tree.proofs.BoundLemmas.{lawful-rows}
 use Rattle.cost_rules.specs.Costs.{capped_pair}
 use Rattle.cost_rules.specs.declared.pair.Pair.{Pair}
-use Rattle.certificates.specs.Views.{entry}
+use Rattle.plan_check.specs.Views.{entry}
 use Rattle.entry_check.specs.Owning.{tree_of}
 use Rattle.entry_check.proofs.ScanLemmas.{kept-cut, scan-judged, tree-cost, tree-made, tree-param, tree-plain, tree-rows, tree-set}
 use Rattle.entry_check.proofs.scans.own_index.Goals as goal

@@ -5,8 +5,8 @@ use Rattle.pg_base.proofs.SetLaws.{has-zero, none-zero}
 use Rattle.plan_tree.specs.Paths.{kept_cost}
 use Rattle.plan_tree.specs.Plans.{seq}
 use Rattle.plan_tree.proofs.BoundLemmas.{lawful-rows}
-use Rattle.certificates.specs.Views.{entry}
-use Rattle.join_work.proofs.CostLemmas.{whole-rows}
+use Rattle.plan_check.specs.Views.{entry}
+use Rattle.entry_check.proofs.CostLemmas.{whole-rows}
 use Rattle.entry_check.proofs.PartLemmas.{set-estimate}
 use Rattle.entry_check.proofs.ScanLemmas.{kept-cut, no-keys, scan-judged, some-keys}
 use Rattle.entry_check.proofs.scans.own_seq.Goals as goal

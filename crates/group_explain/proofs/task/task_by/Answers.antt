@@ -2,7 +2,7 @@ use Rattle.std.proofs.Common.{◌<◌, length, sym, subst, ap, ◌∙◌}
 use Rattle.std.specs.Prelude.{All}
 use Rattle.pathkeys.specs.Finding.{class_numbers}
 use Rattle.sql_query.specs.Grouped.{GroupedQuery}
-use Rattle.group_plans.specs.GroupPlans.{group_keys}
+use Rattle.group_explain.specs.GroupPlans.{group_keys}
 use Rattle.group_explain.specs.Texts.{group_query}
 use Rattle.group_explain.proofs.TaskLemmas.{all-within}
 use Rattle.group_explain.proofs.TextLemmas.{groups-within}

@@ -1,5 +1,5 @@
 use Rattle.std.proofs.Common.{length}
-use Rattle.group_plans.specs.GroupPlans.{line_keys}
+use Rattle.group_explain.specs.GroupPlans.{line_keys}
 use Rattle.group_explain.specs.Texts.{group_query}
 use Rattle.group_explain.proofs.TaskLemmas.{all-within}
 use Rattle.group_explain.proofs.TextLemmas.{lines-within}

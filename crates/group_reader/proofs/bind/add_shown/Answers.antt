@@ -1,5 +1,5 @@
 use Rattle.std.proofs.Common.{arith}
-use Rattle.sql_cursor.proofs.SliceLemmas.{put-all, put-more}
+use Rattle.expr_reader.proofs.SliceLemmas.{put-all, put-more}
 use Rattle.group_reader.specs.Meaning.{shown_at}
 use Rattle.group_reader.proofs.bind.add_shown.Goals as goal
 

@@ -1,5 +1,5 @@
 use Rattle.std.proofs.Common.{◌≡◌, drop}
-use Rattle.sql_cursor.specs.Lists.{bound_each}
+use Rattle.expr_reader.specs.Lists.{bound_each}
 use Rattle.query_reader.specs.Scope.{visible_in}
 use Rattle.group_reader.specs.Meaning.{sorting_said}
 use Rattle.group_reader.proofs.AddLemmas.{onward}

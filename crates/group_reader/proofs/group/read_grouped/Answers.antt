@@ -8,8 +8,8 @@ use Rattle.sql_grammar.specs.Terminals.{t_key}
 use Rattle.sql_grammar.specs.declared.class.Word.TheVariants.{From}
 use Rattle.sql_grammar.specs.Words.{words_of_ending, words_of_group, words_of_group_by, words_of_grouped_item, words_of_grouped_items, words_of_groups, words_of_order, words_of_where}
 use Rattle.sql_grammar.proofs.StatementWords.{words-are-tokens}
-use Rattle.sql_cursor.specs.Lists.{parts_of}
-use Rattle.sql_cursor.proofs.Named.{AreNamed}
+use Rattle.expr_reader.specs.Lists.{parts_of}
+use Rattle.expr_reader.proofs.Named.{AreNamed}
 use Rattle.expr_reader.specs.Conditions.{next}
 use Rattle.query_reader.specs.From.{nothing_joined, with_groups}
 use Rattle.query_reader.proofs.AliasLemmas.{after-words}

@@ -1,5 +1,5 @@
 use Rattle.std.proofs.Common.{[], ◌∷◌, ◌++◌, ap, ◌∙◌, arith}
-use Rattle.sql_cursor.proofs.SliceLemmas.{put-all, put-more}
+use Rattle.expr_reader.proofs.SliceLemmas.{put-all, put-more}
 use Rattle.group_reader.specs.Binding.{item_in}
 use Rattle.group_reader.proofs.lists.items.Goals as goal
 

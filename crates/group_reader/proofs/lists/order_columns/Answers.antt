@@ -1,5 +1,5 @@
 use Rattle.std.proofs.Common.{[], arith}
-use Rattle.sql_cursor.proofs.SliceLemmas.{put-all, put-more}
+use Rattle.expr_reader.proofs.SliceLemmas.{put-all, put-more}
 use Rattle.eq_classes.specs.declared.order.OrderItem.{OrderItem}
 use Rattle.group_reader.proofs.lists.order_columns.Goals as goal
 

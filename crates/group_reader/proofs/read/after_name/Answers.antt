@@ -2,8 +2,8 @@ use Rattle.std.proofs.Common.{◌∷◌, refl, sym, ap, ◌∙◌}
 use Rattle.sql_lex.specs.declared.tokens.Token.{Token}
 use Rattle.sql_grammar.specs.Terminals.{t_mark, t_name}
 use Rattle.sql_grammar.specs.declared.class.Symbol.TheVariants.{Dot, Star}
-use Rattle.sql_cursor.specs.Reading.{spelled}
-use Rattle.sql_cursor.specs.declared.cursor.Spelled.{Spelled}
+use Rattle.expr_reader.specs.Reading.{spelled}
+use Rattle.expr_reader.specs.declared.cursor.Spelled.{Spelled}
 use Rattle.query_reader.specs.declared.written.Item.TheVariants.{Qualified}
 use Rattle.query_reader.proofs.OrderLemmas.{second-name}
 use Rattle.group_reader.specs.declared.written.Listed.TheVariants.{Columns}

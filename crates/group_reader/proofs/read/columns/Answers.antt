@@ -1,6 +1,6 @@
 use Rattle.std.proofs.Common.{[], ◌∷◌, ◌++◌, refl, sym, ap, ◌∙◌, append-nil}
 use Rattle.sql_grammar.specs.Words.{words_of_col, words_of_group_columns}
-use Rattle.sql_cursor.specs.Lists.{parts_of}
+use Rattle.expr_reader.specs.Lists.{parts_of}
 use Rattle.group_reader.specs.Written.{column_written}
 use Rattle.group_reader.proofs.WordLemmas.{columns-comma, columns-operand, next-part, no-part, pushed}
 use Rattle.group_reader.proofs.read.columns.Goals as goal

@@ -2,7 +2,7 @@ use Rattle.std.proofs.Common.{◌≡◌, true, List, ◌∷◌, ◌++◌, length
 use Rattle.sql_grammar.specs.Terminals.{Terminal}
 use Rattle.sql_grammar.specs.Syntax.{Mark, Col}
 use Rattle.sql_grammar.specs.Words.{words_of_col, words_of_group_columns}
-use Rattle.sql_cursor.specs.Lists.{parts_of}
+use Rattle.expr_reader.specs.Lists.{parts_of}
 use Rattle.group_reader.specs.Ends.{ends_columns}
 use Rattle.group_reader.specs.Written.{column_written}
 use Rattle.group_reader.proofs.read.columns.Given as goal

@@ -3,7 +3,7 @@ use Rattle.sql_grammar.specs.Terminals.{Terminal, t_key}
 use Rattle.sql_grammar.specs.declared.class.Word.TheVariants.{From}
 use Rattle.sql_grammar.specs.Syntax.{Key, Mark, GroupedItem}
 use Rattle.sql_grammar.specs.Words.{words_of_grouped_item, words_of_grouped_items}
-use Rattle.sql_cursor.specs.Lists.{parts_of}
+use Rattle.expr_reader.specs.Lists.{parts_of}
 use Rattle.group_reader.specs.Written.{listed_of}
 use Rattle.group_reader.proofs.read.items.Given as goal
 

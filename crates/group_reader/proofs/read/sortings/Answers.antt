@@ -1,6 +1,6 @@
 use Rattle.std.proofs.Common.{[], ◌∷◌, ◌++◌, refl, sym, ap, ◌∙◌, append-nil}
 use Rattle.sql_grammar.specs.Words.{words_of_ordering, words_of_orderings}
-use Rattle.sql_cursor.specs.Lists.{parts_of}
+use Rattle.expr_reader.specs.Lists.{parts_of}
 use Rattle.query_reader.proofs.OrderLemmas.{more-orders}
 use Rattle.group_reader.specs.Written.{sorting_of}
 use Rattle.group_reader.proofs.WordLemmas.{order-comma, next-part, no-part, pushed}

@@ -3,8 +3,8 @@ use Rattle.std.proofs.lemmas.Result.{on_err_weaker, on_ok_weaker}
 use Rattle.sql_query.specs.Tuples.{Tuple}
 use Rattle.plan_tree.specs.Views.{path}
 use Rattle.executor.specs.Numbers.{IsTupleOf}
-use Rattle.group_tuples.specs.Neighbours.{AreTogether}
-use Rattle.group_tuples.specs.declared.form.Form.TheVariants.{Sorted}
+use Rattle.group_values.specs.Neighbours.{AreTogether}
+use Rattle.group_values.specs.declared.form.Form.TheVariants.{Sorted}
 use Rattle.group_explain.specs.Plans.{input_base}
 use Rattle.group_explain.specs.reply_PuttingLemmas.{on_err}
 use Rattle.group_explain.specs.reply_Settings.{world_of}

@@ -1,7 +1,7 @@
 use Rattle.std.proofs.Common.{◌≡◌, ◌++◌, ◌∷◌, [], List, ◌∙◌, ap, map, subst, sym, OnOk}
 use Rattle.group_values.specs.Groups.{Seen}
-use Rattle.group_tuples.specs.declared.form.Form.TheVariants.{Sorted}
-use Rattle.group_tuples.specs.Grouping.{AreOf}
+use Rattle.group_values.specs.declared.form.Form.TheVariants.{Sorted}
+use Rattle.group_values.specs.Grouping.{AreOf}
 use Rattle.group_values.specs.Steps.{IsLastAlone}
 use Rattle.executor.specs.Numbers.{numbers}
 use Rattle.group_explain.specs.reply_RowLemmas.{now}

@@ -1,5 +1,5 @@
 use Rattle.std.proofs.Common.{◌∙◌, ap, rules}
-use Rattle.row_text.specs.Texts.{row_line}
+use Rattle.reply_text.specs.Texts.{row_line}
 use Rattle.group_explain.specs.reply_PuttingLemmas.{puts-stopped}
 use Rattle.group_reply.proofs.PrintLemmas.{put-cut, put-more}
 use Rattle.group_reply.proofs.lines.put_lines.Goals as goal

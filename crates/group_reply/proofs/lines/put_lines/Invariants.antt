@@ -1,6 +1,6 @@
 use Rattle.std.proofs.Common.{◌≡◌, take}
 use Rattle.std.specs.List.{flat_map}
-use Rattle.row_text.specs.Texts.{row_line}
+use Rattle.reply_text.specs.Texts.{row_line}
 use Rattle.group_explain.specs.reply_Putting.{HasPut}
 use Rattle.group_reply.proofs.lines.put_lines.Given as goal
 

@@ -1,6 +1,6 @@
 use Rattle.std.proofs.Common.{◌≡◌, take}
 use Rattle.pg_base.specs.Sets.{has}
-use Rattle.index_laws.specs.Moved.{added_from}
+use Rattle.plan_laws.specs.Moved.{added_from}
 use Rattle.index_prices.specs.Replies.{use_lines}
 use Rattle.index_prices.proofs.text.use_lines.Given as goal
 

@@ -1,6 +1,6 @@
 use Rattle.std.proofs.Common.{[], arith}
 use Rattle.index_reader.specs.declared.names.NamedColumn.{NamedColumn}
-use Rattle.sql_cursor.proofs.SliceLemmas.{put-more, put-all}
+use Rattle.expr_reader.proofs.SliceLemmas.{put-more, put-all}
 use Rattle.index_reader.proofs.index.columns.Goals as goal
 
 pub loop-name-preserved : goal.loop-name-preserved

@@ -8,7 +8,7 @@ use Rattle.pg_expr.specs.View.{cond}
 use Rattle.sql_grammar.specs.declared.class.Symbol.TheVariants.{Open}
 use Rattle.sql_grammar.specs.Terminals.{t_mark}
 use Rattle.sql_grammar.specs.Words.{words_of_where}
-use Rattle.sql_cursor.specs.declared.cursor.Spelled.{Spelled}
+use Rattle.expr_reader.specs.declared.cursor.Spelled.{Spelled}
 use Rattle.catalog.specs.Contents.{no_table}
 use Rattle.expr_reader.proofs.ReadsLemmas.{read-ok, read-fault, read-refused, was-read}
 use Rattle.index_reader.specs.declared.index.ReadIndex.{ReadIndex}

@@ -1,6 +1,6 @@
 use Rattle.std.proofs.Common.{[], arith}
 use Rattle.index_reader.specs.declared.keys.KeyRead.{KeyRead}
-use Rattle.sql_cursor.proofs.SliceLemmas.{put-more, put-all}
+use Rattle.expr_reader.proofs.SliceLemmas.{put-more, put-all}
 use Rattle.index_reader.proofs.index.index_keys.Goals as goal
 
 pub loop-key-preserved : goal.loop-key-preserved

@@ -1,6 +1,6 @@
 use Rattle.std.proofs.Common.{[], ◌∷◌, arith}
 use Rattle.sql_lex.specs.declared.tokens.Token.{Token}
-use Rattle.sql_cursor.proofs.SliceLemmas.{put-more, put-all}
+use Rattle.expr_reader.proofs.SliceLemmas.{put-more, put-all}
 use Rattle.index_reader.proofs.index.places.Goals as goal
 
 pub loop-name-preserved : goal.loop-name-preserved

@@ -1,7 +1,7 @@
 use Rattle.std.proofs.Common.{◌++◌, ◌∙◌, ap, append_assoc}
 use Rattle.opfamily.specs.declared.classes.OpClass.{OpClass}
 use Rattle.sql_grammar.specs.Words.{words_of_class, words_of_direction, words_of_nulls_end}
-use Rattle.sql_cursor.specs.declared.cursor.Spelled.{Spelled}
+use Rattle.expr_reader.specs.declared.cursor.Spelled.{Spelled}
 use Rattle.expr_reader.proofs.ReadsLemmas.{read-ok, read-refused, was-read}
 use Rattle.ddl_reader.proofs.Parts.{named}
 use Rattle.index_reader.specs.declared.keys.KeyRead.{KeyRead}

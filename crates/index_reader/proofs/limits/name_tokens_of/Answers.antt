@@ -1,7 +1,7 @@
 use Rattle.std.proofs.Common.{[], ◌++◌, map, ap, arith}
 use Rattle.index_reader.specs.declared.keys.KeyRead.{KeyRead}
 use Rattle.index_reader.specs.declared.names.NamedColumn.{NamedColumn}
-use Rattle.sql_cursor.proofs.SliceLemmas.{put-more, put-all}
+use Rattle.expr_reader.proofs.SliceLemmas.{put-more, put-all}
 use Rattle.index_reader.proofs.limits.name_tokens_of.Goals as goal
 
 pub loop-key-preserved : goal.loop-key-preserved

@@ -2,7 +2,7 @@ use Rattle.std.proofs.Common.{Vec, refl, sym, ◌∙◌, subst}
 use Rattle.std.specs.declared.alloc.Global.{Global}
 use Rattle.sql_grammar.specs.Syntax.{Include}
 use Rattle.expr_reader.specs.Reads.{Reads}
-use Rattle.sql_cursor.specs.Lists.{bound_each}
+use Rattle.expr_reader.specs.Lists.{bound_each}
 use Rattle.index_reader.specs.declared.names.NamedColumn.{NamedColumn}
 use Rattle.index_reader.specs.Keys.{name_bound, names_of}
 use Rattle.index_reader.proofs.IncludeLemmas.{no-include, included}

@@ -1,7 +1,7 @@
 use Rattle.std.proofs.Common.{◌≡◌, List, ◌∷◌, length}
 use Rattle.sql_grammar.specs.Terminals.{Terminal, Ident}
 use Rattle.sql_grammar.specs.Syntax.{Mark}
-use Rattle.sql_cursor.specs.Lists.{parts_of}
+use Rattle.expr_reader.specs.Lists.{parts_of}
 use Rattle.ddl_reader.proofs.ListLemmas.{So}
 use Rattle.index_reader.specs.Reads.{words_of_names_left}
 use Rattle.index_reader.proofs.ListPartLemmas.{name_parts}

@@ -1,5 +1,5 @@
 use Rattle.std.proofs.Common.{◌≤◌, ℕ, arith}
-use Rattle.certificates.specs.Views.{certificate}
+use Rattle.plan_check.specs.Views.{certificate}
 use Rattle.join_cover.specs.Serving.{AreJoinsOf}
 use Rattle.join_cover.proofs.CoverLemmas.{joins-served}
 use Rattle.entry_check.specs.plan_space_KeyLemmas.{below-next}

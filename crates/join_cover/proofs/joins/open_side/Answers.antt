@@ -1,5 +1,5 @@
 use Rattle.std.proofs.Common.{arith}
-use Rattle.certificates.specs.Views.{certificate}
+use Rattle.plan_check.specs.Views.{certificate}
 use Rattle.join_cover.specs.Serving.{AreJoinsOf}
 use Rattle.entry_check.specs.plan_space_KeyLemmas.{below-next}
 use Rattle.join_cover.proofs.joins.open_side.Goals as goal

@@ -1,5 +1,5 @@
 use Rattle.std.proofs.Common.{◌<◌, ℕ}
-use Rattle.certificates.specs.Views.{certificate}
+use Rattle.plan_check.specs.Views.{certificate}
 use Rattle.join_cover.specs.Serving.{AreJoinsOf}
 use Rattle.join_cover.proofs.joins.open_side.Given as goal
 

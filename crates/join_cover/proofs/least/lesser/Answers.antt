@@ -1,5 +1,5 @@
 use Rattle.std.proofs.Common.{map, subst}
-use Rattle.certificates.specs.Views.{entry}
+use Rattle.plan_check.specs.Views.{entry}
 use Rattle.plan_check.proofs.PlaceLemmas.{read-at}
 use Rattle.join_cover.specs.Leasts.{IsLeastFrom}
 use Rattle.join_cover.proofs.LeastLemmas.{least-first, least-more, skip-other}

@@ -1,6 +1,6 @@
 use Rattle.std.proofs.Common.{refl}
 use Rattle.pathkeys.specs.Finding.{class_numbers}
-use Rattle.certificates.specs.Views.{certificate, entry}
+use Rattle.plan_check.specs.Views.{certificate, entry}
 use Rattle.plan_check.specs.Beating.{candidate}
 use Rattle.entry_check.proofs.PlaceLemmas.{read-there}
 use Rattle.entry_check.proofs.WorkLemmas.{list-of}

@@ -1,6 +1,6 @@
 use Rattle.std.proofs.Common.{◌<◌, ◌≤◌, ℕ, false}
 use Rattle.pathkeys.specs.Finding.{class_numbers}
-use Rattle.certificates.specs.Views.{certificate}
+use Rattle.plan_check.specs.Views.{certificate}
 use Rattle.plan_check.specs.Placing.{IsOf}
 use Rattle.join_cover.specs.Serving.{IsMergeServed}
 use Rattle.join_cover.proofs.merges.open_plain.Given as goal

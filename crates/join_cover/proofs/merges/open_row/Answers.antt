@@ -1,6 +1,6 @@
 use Rattle.std.proofs.Common.{refl}
 use Rattle.pathkeys.specs.Finding.{class_numbers}
-use Rattle.certificates.specs.Views.{certificate}
+use Rattle.plan_check.specs.Views.{certificate}
 use Rattle.entry_check.proofs.BestLemmas.{read-count}
 use Rattle.join_cover.proofs.LeastLemmas.{row-served}
 use Rattle.join_cover.proofs.MergeLemmas.{past-within, weaker}

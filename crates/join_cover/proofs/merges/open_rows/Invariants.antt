@@ -1,6 +1,6 @@
 use Rattle.std.proofs.Common.{◌<◌, ◌≤◌, ℕ, false}
 use Rattle.pathkeys.specs.Finding.{class_numbers}
-use Rattle.certificates.specs.Views.{certificate}
+use Rattle.plan_check.specs.Views.{certificate}
 use Rattle.join_cover.specs.Serving.{IsRowServed}
 use Rattle.join_cover.proofs.merges.open_rows.Given as goal
 

@@ -1,5 +1,5 @@
 use Rattle.std.proofs.Common.{refl}
-use Rattle.certificates.specs.Views.{certificate, entry}
+use Rattle.plan_check.specs.Views.{certificate, entry}
 use Rattle.plan_check.specs.Beating.{candidate}
 use Rattle.entry_check.proofs.PlaceLemmas.{read-there}
 use Rattle.join_cover.proofs.CoverLemmas.{beaten-read, has-right-at, nest-beaten, nest-none, nest-open, other-than, unbeaten-read}

@@ -1,5 +1,5 @@
 use Rattle.std.proofs.Common.{arith}
-use Rattle.certificates.specs.Views.{certificate}
+use Rattle.plan_check.specs.Views.{certificate}
 use Rattle.plan_check.specs.Placing.{IsOf}
 use Rattle.join_cover.specs.Serving.{IsNestServed}
 use Rattle.join_cover.proofs.MergeLemmas.{below-from}

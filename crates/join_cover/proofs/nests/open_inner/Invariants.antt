@@ -1,5 +1,5 @@
 use Rattle.std.proofs.Common.{◌<◌, ◌≤◌, ℕ}
-use Rattle.certificates.specs.Views.{certificate}
+use Rattle.plan_check.specs.Views.{certificate}
 use Rattle.plan_check.specs.Placing.{IsOf}
 use Rattle.join_cover.specs.Serving.{IsNestServed}
 use Rattle.join_cover.proofs.nests.open_inner.Given as goal

@@ -1,5 +1,5 @@
 use Rattle.std.proofs.Common.{refl}
-use Rattle.certificates.specs.Views.{certificate}
+use Rattle.plan_check.specs.Views.{certificate}
 use Rattle.entry_check.proofs.BestLemmas.{read-count}
 use Rattle.join_cover.proofs.MergeLemmas.{nests-of, past-within}
 use Rattle.join_cover.proofs.nests.open_nests.Goals as goal

@@ -1,5 +1,5 @@
 use Rattle.std.proofs.Common.{◌≡◌, ◌<◌, ◌≤◌, ◌+◌, ℕ, arith, suc, subst₂}
-use Rattle.certificates.specs.Views.{certificate}
+use Rattle.plan_check.specs.Views.{certificate}
 use Rattle.plan_check.specs.Placing.{IsOf}
 use Rattle.plan_check.specs.declared.verdict.Plain.TheVariants as plain
 use Rattle.join_cover.specs.Serving.{IsNestServed, IsOpen}

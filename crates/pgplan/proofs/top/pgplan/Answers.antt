@@ -1,5 +1,5 @@
 use Rattle.std.proofs.Common.{◌∙◌, ℕ, Some, ap, subst, sym}
-use Rattle.sampling.specs.Script.{script}
+use Rattle.pgplan.specs.Script.{script}
 use Rattle.pgplan.specs.Runs.{HasNoFault, ReachesFault}
 use Rattle.pgplan.specs.Summaries.{IsSummedInPart, IsSummedUp, TellsFaultAlone}
 use Rattle.pgplan.proofs.CommandLemmas.{same-number}

@@ -1,4 +1,4 @@
-use Rattle.certificates.specs.Views.{entry}
+use Rattle.plan_check.specs.Views.{entry}
 use Rattle.plan_check.proofs.PlaceLemmas.{read-at}
 use Rattle.plan_check.proofs.PlacedLemmas.{first-none, first-some}
 use Rattle.plan_check.proofs.beaten.first_beater.Goals as goal

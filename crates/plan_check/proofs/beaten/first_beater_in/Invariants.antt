@@ -1,5 +1,5 @@
 use Rattle.std.proofs.Common.{◌<◌, ◌≤◌, ℕ, map}
-use Rattle.certificates.specs.Views.{entry}
+use Rattle.plan_check.specs.Views.{entry}
 use Rattle.plan_check.specs.Beating.{IsNoBeater}
 use Rattle.plan_check.proofs.beaten.first_beater_in.Given as goal
 

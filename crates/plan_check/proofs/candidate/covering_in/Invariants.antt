@@ -1,6 +1,6 @@
 use Rattle.std.proofs.Common.{◌≡◌, ◌<◌, ◌≤◌, ℕ, false, get_or, map}
-use Rattle.certificates.specs.Certificates.{Entry}
-use Rattle.certificates.specs.Views.{entry}
+use Rattle.plan_check.specs.Certificates.{Entry}
+use Rattle.plan_check.specs.Views.{entry}
 use Rattle.plan_check.specs.Beating.{beats, candidate}
 use Rattle.plan_check.proofs.candidate.covering_in.Given as goal
 

@@ -1,6 +1,6 @@
 use Rattle.std.proofs.Common.{◌+◌, ◌∙◌, ℕ, List, [], ap, ap₂, sym}
 use Rattle.std.specs.Prelude.{option_map}
-use Rattle.plan_judge.specs.Numbered.{Pair, nodes}
+use Rattle.plan_space.specs.Numbered.{Pair, nodes}
 use Rattle.plan_reader.specs.Beneath.{IsBehind}
 use Rattle.plan_reader.specs.Written.{written_beneath}
 use Rattle.plan_tree.specs.Plans.{merge, nest, sort}

@@ -1,4 +1,4 @@
-use Rattle.plan_judge.proofs.PartLemmas.{own-count}
+use Rattle.plan_space.proofs.PartLemmas.{own-count}
 use Rattle.plan_reader.proofs.OwnLemmas.{own-plan}
 use Rattle.plan_reader.proofs.laws.own_texts_are_written.Goals as goal
 

@@ -1,6 +1,6 @@
 use Rattle.std.proofs.Common.{ap}
 use Rattle.std.specs.Prelude.{option_map}
-use Rattle.plan_bitmaps.proofs.TreeLemmas.{no-tree}
+use Rattle.plan_lines.proofs.TreeLemmas.{no-tree}
 use Rattle.plan_reader.proofs.BitsLemmas.{bits-read}
 use Rattle.plan_reader.proofs.scans.read_bits.Goals as goal
 

@@ -1,5 +1,5 @@
 use Rattle.std.proofs.Common.{◌≡◌, ◌≤◌, ◌+◌, min, drop}
-use Rattle.plan_judge.specs.Numbered.{all_bit_lines}
+use Rattle.plan_space.specs.Numbered.{all_bit_lines}
 use Rattle.plan_tree.specs.Views.{bits_all}
 use Rattle.plan_reader.proofs.sizes.+bits.Given as goal
 

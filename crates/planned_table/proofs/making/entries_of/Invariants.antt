@@ -1,7 +1,7 @@
 use Rattle.std.proofs.Common.{[], map, take}
 use Rattle.sql_query.specs.Queries.{width}
-use Rattle.certificates.specs.Views.{entry}
-use Rattle.kept_laws.specs.certificate_laws_Kept.{AreEntriesOf}
+use Rattle.plan_check.specs.Views.{entry}
+use Rattle.certificate_laws.specs.Kept.{AreEntriesOf}
 use Rattle.planned_table.specs.Gathering.{shown}
 use Rattle.planned_table.proofs.making.entries_of.Given as goal
 

@@ -1,6 +1,6 @@
 use Rattle.std.proofs.Common.{take}
 use Rattle.plan_tree.specs.Views.{plan}
-use Rattle.certificates.specs.Views.{side}
+use Rattle.plan_check.specs.Views.{side}
 use Rattle.planned_table.specs.Numbering.{trees}
 use Rattle.planned_table.proofs.MakeLemmas.{merge-plan}
 use Rattle.planned_table.proofs.NumberLemmas.{side-unsorted}

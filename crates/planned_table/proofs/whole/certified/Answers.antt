@@ -6,13 +6,13 @@ use Rattle.sql_query.specs.Queries.{width}
 use Rattle.plan_tree.specs.Views.{path}
 use Rattle.plan_tree.specs.declared.path.Path.{Path as Costed}
 use Rattle.join_search.specs.Tables.{none, paths_at}
-use Rattle.table_texts.specs.planner_Finishing.{finished}
-use Rattle.certificates.specs.Views.{certificate, entry}
-use Rattle.kept_laws.specs.Printing.{path_order}
-use Rattle.kept_laws.specs.Searched.{AreOfFronts}
-use Rattle.kept_laws.proofs.FrontsLemmas.{at-place}
-use Rattle.kept_laws.proofs.OrderLemmas.{ordered-entries}
-use Rattle.kept_laws.proofs.TurnLemmas.{made-in-turn}
+use Rattle.certificate_laws.specs.planner_Finishing.{finished}
+use Rattle.plan_check.specs.Views.{certificate, entry}
+use Rattle.certificate_laws.specs.Printing.{path_order}
+use Rattle.certificate_laws.specs.Searched.{AreOfFronts}
+use Rattle.certificate_laws.proofs.FrontsLemmas.{at-place}
+use Rattle.certificate_laws.proofs.OrderLemmas.{ordered-entries}
+use Rattle.certificate_laws.proofs.TurnLemmas.{made-in-turn}
 use Rattle.planned_table.specs.Gathering.{shown}
 use Rattle.planned_table.proofs.MakeLemmas.{best-unfolds}
 use Rattle.planned_table.proofs.WholeLemmas.{below-listed, table-of, text-of, tree-there}

@@ -7,11 +7,11 @@ use Rattle.plan_tree.specs.declared.path.Path.{Path as Costed}
 use Rattle.plan_tree.proofs.BoundLemmas.{lawful-rows}
 use Rattle.plan_tree.proofs.FrontLemmas.{contains-mapped}
 use Rattle.join_search.specs.Tables.{paths_at}
-use Rattle.table_texts.specs.planner_Finishing.{AreCandidates, IsLeastOf, IsPriced, IsWhole}
-use Rattle.table_texts.specs.planner_PlaceLemmas.{at-place}
-use Rattle.table_texts.specs.planner_PriceLemmas.{least-best, none-finished}
-use Rattle.table_texts.specs.planner_SearchLemmas.{candidates, whole-paths}
-use Rattle.kept_laws.specs.Searched.{all_asked}
+use Rattle.certificate_laws.specs.planner_Finishing.{AreCandidates, IsLeastOf, IsPriced, IsWhole}
+use Rattle.certificate_laws.specs.planner_PlaceLemmas.{at-place}
+use Rattle.certificate_laws.specs.planner_PriceLemmas.{least-best, none-finished}
+use Rattle.certificate_laws.specs.planner_SearchLemmas.{candidates, whole-paths}
+use Rattle.certificate_laws.specs.Searched.{all_asked}
 use Rattle.planned_table.proofs.whole.least_path.Goals as goal
 
 pub least_place-requires-clause-whole : goal.least_place-requires-clause-whole

@@ -1,4 +1,4 @@
-use Rattle.table_texts.specs.plan_laws_WellBoundLemmas.{bound-over}
+use Rattle.certificate_laws.specs.plan_laws_WellBoundLemmas.{bound-over}
 use Rattle.planned_table.proofs.whole.plan_with_table.Goals as goal
 
 pub whole_table-requires : goal.whole_table-requires

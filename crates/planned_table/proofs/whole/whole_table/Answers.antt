@@ -1,4 +1,4 @@
-use Rattle.table_texts.specs.planner_TableLemmas.{scans-handed}
+use Rattle.certificate_laws.specs.planner_TableLemmas.{scans-handed}
 use Rattle.planned_table.proofs.whole.whole_table.Goals as goal
 
 pub returns : goal.returns

@@ -1,6 +1,6 @@
 use Rattle.std.proofs.Common.{[], arith}
 use Rattle.eq_classes.specs.declared.order.OrderItem.{OrderItem}
-use Rattle.sql_cursor.proofs.SliceLemmas.{put-more, put-all}
+use Rattle.expr_reader.proofs.SliceLemmas.{put-more, put-all}
 use Rattle.query_reader.proofs.bind.order_columns.Goals as goal
 
 pub loop-item-preserved : goal.loop-item-preserved

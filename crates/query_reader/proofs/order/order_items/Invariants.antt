@@ -2,7 +2,7 @@ use Rattle.std.proofs.Common.{◌≡◌, true, List, ◌∷◌, ◌++◌, length
 use Rattle.sql_grammar.specs.Terminals.{Terminal}
 use Rattle.sql_grammar.specs.Syntax.{Mark, Ordering}
 use Rattle.sql_grammar.specs.Words.{words_of_ordering, words_of_orderings}
-use Rattle.sql_cursor.specs.Lists.{parts_of}
+use Rattle.expr_reader.specs.Lists.{parts_of}
 use Rattle.query_reader.specs.Ends.{ends_order}
 use Rattle.query_reader.specs.Order.{order_item}
 use Rattle.query_reader.specs.Scope.{visible_in}

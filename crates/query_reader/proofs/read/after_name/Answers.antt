@@ -1,7 +1,7 @@
 use Rattle.std.proofs.Common.{◌∷◌, refl, sym, ap, ◌∙◌}
 use Rattle.query_reader.specs.declared.written.Item.TheVariants.{Bare, Qualified}
 use Rattle.sql_grammar.specs.Terminals.{t_name}
-use Rattle.sql_cursor.specs.Reading.{spelled}
+use Rattle.expr_reader.specs.Reading.{spelled}
 use Rattle.query_reader.proofs.PartLemmas.{bare-only, after-dot}
 use Rattle.query_reader.proofs.read.after_name.Goals as goal
 

@@ -2,7 +2,7 @@ use Rattle.std.proofs.Common.{◌≡◌, ◌++◌, sym, ap, ◌∙◌}
 use Rattle.sql_grammar.specs.Words.{words_of_alias}
 use Rattle.query_reader.specs.declared.written.Source.{Source}
 use Rattle.query_reader.specs.Written.{alias_of, source_of}
-use Rattle.sql_cursor.specs.Reading.{spelled}
+use Rattle.expr_reader.specs.Reading.{spelled}
 use Rattle.query_reader.proofs.JoinLemmas.{relation-words}
 use Rattle.query_reader.proofs.read.source.Goals as goal
 

@@ -2,7 +2,7 @@ use Rattle.std.proofs.Common.{◌∷◌, ◌++◌, [], arith, List, ◌∙◌, r
 use Rattle.sql_lex.specs.declared.tokens.Token.{Token}
 use Rattle.sql_grammar.specs.FromParts.{groups_after}
 use Rattle.sql_grammar.specs.Words.{words_of_group, words_of_groups, words_of_output, words_of_outputs}
-use Rattle.sql_cursor.proofs.Named.{AreNamed, named-from}
+use Rattle.expr_reader.proofs.Named.{AreNamed, named-from}
 use Rattle.query_reader.specs.declared.written.Item.{Item}
 use Rattle.query_reader.specs.Binding.{bound_from}
 use Rattle.query_reader.specs.Select.{IsBoundByItself, IsBoundAs}

@@ -2,7 +2,7 @@ use Rattle.std.proofs.Common.{List, ℕ, ◌++◌, ◌∙◌, ap, subst}
 use Rattle.std.proofs.lemmas.Result.{on_ok_weaker, on_err_weaker}
 use Rattle.std.specs.Io.KnownBytes.{Appends}
 use Rattle.pg_base.specs.Writing.{AppendsPrefix}
-use Rattle.row_text.specs.Texts.{count_line}
+use Rattle.reply_text.specs.Texts.{count_line}
 use Rattle.sql_query.specs.Meaning.{windowed}
 use Rattle.reply.specs.Answers.{result_text, tuples_text}
 use Rattle.reply.specs.Settings.{world_of}

@@ -1,5 +1,5 @@
 use Rattle.std.proofs.Common.{◌∙◌, ap, ◌≡◌, map, List, IfOk, subst}
-use Rattle.row_text.specs.Texts.{row_line}
+use Rattle.reply_text.specs.Texts.{row_line}
 use Rattle.pg_value.specs.declared.value.Value.{Value}
 use Rattle.sql_query.specs.Queries.{Query}
 use Rattle.executor.specs.Numbers.{numbers}

@@ -1,7 +1,7 @@
 use Rattle.std.proofs.Common.{subst, take_all}
 use Rattle.std.specs.Prelude.{All}
 use Rattle.std.proofs.lemmas.List.Elements.{All-more}
-use Rattle.certificates.specs.Views.{certificate}
+use Rattle.plan_check.specs.Views.{certificate}
 use Rattle.scan_cover.specs.Scanning.{IsIndexServed}
 use Rattle.scan_cover.proofs.WalkLemmas.{all-indexes}
 use Rattle.scan_cover.proofs.relations.open_given.Goals as goal

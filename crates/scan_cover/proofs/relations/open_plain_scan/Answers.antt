@@ -1,5 +1,5 @@
 use Rattle.std.proofs.Common.{◌∙◌, ap, arith, length}
-use Rattle.certificates.specs.Views.{certificate}
+use Rattle.plan_check.specs.Views.{certificate}
 use Rattle.scan_cover.specs.Scanning.{IsRelationServed}
 use Rattle.scan_cover.proofs.WalkLemmas.{below-next, plain-served}
 use Rattle.scan_cover.proofs.relations.open_plain_scan.Goals as goal

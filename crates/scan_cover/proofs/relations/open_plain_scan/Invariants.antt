@@ -1,5 +1,5 @@
 use Rattle.std.proofs.Common.{◌<◌, ℕ}
-use Rattle.certificates.specs.Views.{certificate}
+use Rattle.plan_check.specs.Views.{certificate}
 use Rattle.scan_cover.specs.Scanning.{IsRelationServed}
 use Rattle.scan_cover.proofs.relations.open_plain_scan.Given as goal
 

@@ -1,6 +1,6 @@
 use Rattle.std.proofs.Common.{arith}
 use Rattle.pg_base.specs.declared.numbers.IndexNo.{IndexNo}
-use Rattle.certificates.specs.Views.{certificate}
+use Rattle.plan_check.specs.Views.{certificate}
 use Rattle.scan_cover.specs.Scanning.{IsIndexServed}
 use Rattle.scan_cover.proofs.WalkLemmas.{below-next, relation-served}
 use Rattle.scan_cover.proofs.relations.open_relation.Goals as goal

@@ -3,7 +3,7 @@ use Rattle.plan_tree.specs.Paths.{kept_cost}
 use Rattle.plan_tree.specs.Plans.{seq}
 use Rattle.plan_tree.proofs.BoundLemmas.{lawful-rows}
 use Rattle.plan_check.specs.declared.verdict.Plain.TheVariants as plain
-use Rattle.join_cover.specs.join_work_CostLemmas.{whole-rows}
+use Rattle.join_cover.specs.entry_check_CostLemmas.{whole-rows}
 use Rattle.join_cover.specs.entry_check_PartLemmas.{set-estimate}
 use Rattle.join_cover.specs.entry_check_ScanLemmas.{kept-cut}
 use Rattle.scan_cover.proofs.ToldLemmas.{if-none-weaker, if-some-weaker, match-both, seq-with}

@@ -5,7 +5,7 @@ use Rattle.sql_grammar.specs.Faults.{fault_at}
 use Rattle.sql_query.specs.Queries.{Query}
 use Rattle.sql_query.specs.WellBound.{IsWellBound}
 use Rattle.sql_query.specs.Worlds.{world}
-use Rattle.advise_reader.specs.Statements.{asked}
+use Rattle.index_reader.specs.AdviseStatements.{asked}
 use Rattle.statements.specs.Ending.{end_of_refusal}
 use Rattle.statements.proofs.AdvisingLemmas.{found-advised, none-advised, reading-refused}
 use Rattle.statements.proofs.TellingLemmas.{refused-by}

@@ -1,4 +1,4 @@
-use Rattle.certificates.specs.Views.{entry}
+use Rattle.plan_check.specs.Views.{entry}
 use Rattle.plan_check.proofs.PlacedLemmas.{placed-all, placed-next}
 use Rattle.plan_check.proofs.PlaceLemmas.{read-at}
 use Rattle.plan_check.proofs.places.SetPlaces.of.Goals as goal

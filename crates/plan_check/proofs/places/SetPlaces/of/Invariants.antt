@@ -1,7 +1,7 @@
 use Rattle.std.proofs.Common.{◌≡◌, ◌<◌, ℕ, map}
 use Rattle.std.specs.Prelude.{Some, slice_get}
-use Rattle.certificates.specs.Certificates.{Entry}
-use Rattle.certificates.specs.Views.{entry}
+use Rattle.plan_check.specs.Certificates.{Entry}
+use Rattle.plan_check.specs.Views.{entry}
 use Rattle.plan_check.specs.Placing.{IsAmong}
 use Rattle.plan_check.proofs.places.SetPlaces.of.Given as goal
 

@@ -1,6 +1,0 @@
-use Rattle.std.proofs.Common.{◌≡◌, drop}
-use Rattle.advise_reader.specs.Places.{end_of_word as end_of_word_at}
-use Rattle.advise_reader.proofs.allowed.end_of_word.Given as goal
-
-abbrev pub invariant-loop-token : goal.invariant-loop-token
-invariant-loop-token l = end_of_word_at (drop l.token-index l.tokens) l.at ≡ end_of_word_at l.tokens l.at

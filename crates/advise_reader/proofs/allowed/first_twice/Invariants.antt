@@ -1,7 +1,0 @@
-use Rattle.std.proofs.Common.{take}
-use Rattle.catalog.specs.Entries.{index_of}
-use Rattle.catalog.specs.Indexes.{AreDifferent, columns_of}
-use Rattle.advise_reader.proofs.allowed.first_twice.Given as goal
-
-abbrev pub invariant-loop-n : goal.invariant-loop-n
-invariant-loop-n l = AreDifferent (take l.n (columns_of (index_of l.def)))

@@ -1,2 +1,0 @@
-pub mod AtomLemmas
-pub mod ArmLemmas

@@ -1,8 +1,0 @@
-use Rattle.std.proofs.Common.{List, map, take}
-use Rattle.pg_base.specs.declared.numbers.IndexNo.{IndexNo}
-use Rattle.pg_expr.specs.View.{cond}
-use Rattle.bitmap_scan.specs.Arms.{AreServed}
-use Rattle.bitmap_cover.proofs.arms.arms_part.Given as goal
-
-abbrev pub invariant-loop-n : goal.invariant-loop-n
-invariant-loop-n l = (is : List IndexNo) × AreServed l.cat l.q l.r (map cond (take l.n l.arms)) is l.sum

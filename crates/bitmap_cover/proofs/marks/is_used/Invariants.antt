@@ -1,9 +1,0 @@
-use Rattle.std.proofs.Common.{◌≡◌, List}
-use Rattle.std.specs.List.{list_any}
-use Rattle.pg_expr.specs.AtomSets.{contains}
-use Rattle.bitmap_cover.specs.declared.kept.Kept.{Kept}
-use Rattle.bitmap_cover.proofs.MarkLemmas.{IsSplit}
-use Rattle.bitmap_cover.proofs.marks.is_used.Given as goal
-
-abbrev pub invariant-loop-k : goal.invariant-loop-k
-invariant-loop-k l = (seen : List Kept) × IsSplit l.fn.mask l.kept l.left l.k seen × (l.found ≡ list_any (λ x. contains x.used l.n) seen)

@@ -1,7 +1,0 @@
-use Rattle.std.proofs.Common.{◌<◌, ℕ}
-use Rattle.certificates.specs.Views.{certificate}
-use Rattle.bitmap_cover.specs.Trees.{IsMarkServed}
-use Rattle.bitmap_cover.proofs.masks.open_marks.Given as goal
-
-abbrev pub invariant-loop-mask : goal.invariant-loop-mask
-invariant-loop-mask l = (m : ℕ) → m < l.mask → IsMarkServed l.j.cat.now l.j.q.now l.at.rel l.at.param (certificate l.j.t.now) l.kept m

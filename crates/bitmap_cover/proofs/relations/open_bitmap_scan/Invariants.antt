@@ -1,7 +1,0 @@
-use Rattle.std.proofs.Common.{◌<◌, ℕ}
-use Rattle.certificates.specs.Views.{certificate}
-use Rattle.bitmap_cover.specs.Trees.{AreRelationBitmapsServed}
-use Rattle.bitmap_cover.proofs.relations.open_bitmap_scan.Given as goal
-
-abbrev pub invariant-loop-r : goal.invariant-loop-r
-invariant-loop-r l = (r : ℕ) → r < l.r → AreRelationBitmapsServed l.j.cat.now l.j.q.now (certificate l.j.t.now) (record { 0 = r })

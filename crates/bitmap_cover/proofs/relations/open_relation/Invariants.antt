@@ -1,7 +1,0 @@
-use Rattle.std.proofs.Common.{◌<◌, ℕ}
-use Rattle.certificates.specs.Views.{certificate}
-use Rattle.bitmap_cover.specs.Trees.{AreBitmapsServed}
-use Rattle.bitmap_cover.proofs.relations.open_relation.Given as goal
-
-abbrev pub invariant-loop-bits : goal.invariant-loop-bits
-invariant-loop-bits l = (m : ℕ) → m < l.bits → AreBitmapsServed l.j.cat.now l.j.q.now l.rel (record { 0 = m }) (certificate l.j.t.now)

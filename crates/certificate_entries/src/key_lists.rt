@@ -1,0 +1,47 @@
+//! Key lists.
+
+ghost use Rattle.std.specs.Prelude.{◌≡◌, ◌≤◌, ◌++◌, ℕ, List, All, IfOk, IfSome, Some, length, option_map, true};
+ghost use Rattle.pg_base.specs.Sets.{has};
+ghost use Rattle.pathkeys.specs.Finding.{class_numbers};
+ghost use Rattle.certificate_text.specs.explain_Texts.{keys_text};
+ghost use Rattle.sql_query.specs.WellBound.{IsWellBound};
+ghost use Rattle.certificate_entries.specs.Keys.{HasKeyText, ends_key};
+ghost use Rattle.certificate_entries.specs.Parts.{has_no_comma};
+
+use crate::line_keys::read_key;
+use catalog::Catalog;
+use certificate_text::LineCursor;
+use eq_classes::ClassNo;
+use pg_base::{Memory, RelSet};
+use sql_query::Prepared;
+use std::alloc::Global;
+
+/// Keys, one or more, each behind a comma and a space but the first. None where no such list comes next. The error means
+/// want of memory.
+pub fn read_keys(
+    alloc: Global,
+    at: &mut LineCursor,
+    cat: &Catalog,
+    q: &Prepared,
+    set: RelSet,
+) -> Result<Option<Vec<ClassNo>>, Memory>
+    requires bound { IsWellBound cat.now q.now }
+    ensures has { IfOk result (λ o. IfSome o (λ ks. All (HasKeyText q.now (has set.0)) (class_numbers ks.items))) }
+    ensures some { IfOk result (λ o. IfSome o (λ ks. 1 ≤ length ks.items)) }
+    ensures only { IfOk result (λ o. (keys : List ℕ) (rest : List ℕ) → All (HasKeyText q.now (has set.0)) keys → 1 ≤ length keys →
+        ends_key rest ≡ true → has_no_comma rest ≡ true → at.old ≡ keys_text cat.now q.now (has set.0) keys ++ rest →
+        (option_map (λ ks. class_numbers ks.items) o ≡ Some keys) × (at.new ≡ rest)) }
+{
+    let mut keys = Vec::new(alloc);
+    match read_key(at, cat, q, set) {
+        Some(key) => keys.push(key)?,
+        None => return Ok(None),
+    }
+    while at.eat(b", ") {
+        match read_key(at, cat, q, set) {
+            Some(key) => keys.push(key)?,
+            None => return Ok(None),
+        }
+    }
+    Ok(Some(keys))
+}

@@ -1,0 +1,156 @@
+//! Keys by their columns.
+
+ghost use Rattle.std.specs.Prelude.{◌≡◌, ◌<◌, ◌≤◌, ◌++◌, ℕ, Bool, List, IfNone, IfSome, Some, codes, false, length, option_map, true};
+ghost use Rattle.std.specs.List.{list_all};
+ghost use Rattle.pg_base.specs.Names.{is_in_name};
+ghost use Rattle.pg_base.specs.Sets.{has};
+ghost use Rattle.pg_base.specs.declared.numbers.RelNo as rels;
+ghost use Rattle.pg_expr.specs.declared.operand.ColRef as columns;
+ghost use Rattle.catalog.specs.Range.{relation_at};
+ghost use Rattle.eq_classes.specs.Clauses.{first_in};
+ghost use Rattle.eq_classes.specs.Listing.{class_at};
+ghost use Rattle.certificate_text.specs.explain_Texts.{direction_text, key_text};
+ghost use Rattle.sql_query.specs.Queries.{width};
+ghost use Rattle.sql_query.specs.WellBound.{IsWellBound};
+ghost use Rattle.certificate_entries.specs.Keys.{AreWords, HasKeyText, IsClassIn, IsClassOf, IsNamed, ends_key, family_if, is_abs};
+
+use catalog::Catalog;
+use certificate_text::LineCursor;
+use certificate_text::plan_tree::{classes_of, range_of};
+use eq_classes::ClassNo;
+use pg_base::{RelNo, RelSet};
+use pg_expr::ColRef;
+use pg_value::Family;
+use sql_query::Prepared;
+
+/// The relation that has this alias.
+fn find_relation(cat: &Catalog, q: &Prepared, alias: &[u8]) -> Option<RelNo>
+    requires bound { IsWellBound cat.now q.now }
+    ensures found { IfSome result (λ r. (r.0 < width q.now) × ((relation_at q.now.range r).1 ≡ alias.now)) }
+    ensures only { (r : rels.RelNo) → r.0 < width q.now → (relation_at q.now.range r).1 ≡ alias.now → result ≡ Some r }
+{
+    let relations = range_of(q).items();
+    for n in 0..relations.len() {
+        if relations[n].1.items() == alias {
+            return Some(RelNo(n as u8));
+        }
+    }
+    None
+}
+
+/// The column that has this name, of the relation that has this alias.
+fn find_column(cat: &Catalog, q: &Prepared, alias: &[u8], name: &[u8]) -> Option<ColRef>
+    requires bound { IsWellBound cat.now q.now }
+    ensures found { IfSome result (IsNamed cat.now q.now alias.now name.now) }
+    ensures only { (x : columns.ColRef) → IsNamed cat.now q.now alias.now name.now x → result ≡ Some x }
+{
+    cat.lawful();
+    let rel = find_relation(cat, q, alias)?;
+    let (table, _) = &range_of(q).items()[rel.0 as usize];
+    let col = cat.column(*table, name)?;
+    Some(ColRef { rel, col })
+}
+
+/// The class of a column in a family.
+fn class_in(q: &Prepared, x: ColRef, f: Family) -> Option<ClassNo>
+    ensures found { IfSome result (λ n. IsClassIn q.now x f n.0) }
+    ensures none { IfNone result ((n : ℕ) → ¬ IsClassIn q.now x f n) }
+{
+    classes_of(q).class_of(x, f)
+}
+
+/// The class of a column in a family but that of absolute values.
+fn plain_class(q: &Prepared, x: ColRef) -> Option<ClassNo>
+    ensures found { IfSome result (λ n. IsClassOf q.now x false n.0) }
+    ensures none { IfNone result ((n : ℕ) → ¬ IsClassOf q.now x false n) }
+{
+    let first = class_in(q, x, Family::Integer);
+    if first.is_some() {
+        return first;
+    }
+    let next = class_in(q, x, Family::Text);
+    if next.is_some() {
+        return next;
+    }
+    class_in(q, x, Family::Bool)
+}
+
+/// The class of a column, in the family of absolute values or in another.
+fn find_class(q: &Prepared, x: ColRef, abs: bool) -> Option<ClassNo>
+    ensures found { IfSome result (λ n. IsClassOf q.now x abs n.0) }
+    ensures none { IfNone result ((n : ℕ) → ¬ IsClassOf q.now x abs n) }
+{
+    if abs {
+        class_in(q, x, Family::IntAbs)
+    } else {
+        plain_class(q, x)
+    }
+}
+
+/// How the direction of a class is written.
+fn direction_bytes(direction: (bool, bool)) -> &'static [u8]
+    ensures { result.now ≡ direction_text direction.0 direction.1 }
+{
+    match direction {
+        (true, true) => b" DESC",
+        (true, false) => b" DESC NULLS LAST",
+        (false, true) => b" NULLS FIRST",
+        (false, false) => b"",
+    }
+}
+
+/// What is written of a key before its direction: the alias of its relation, the name of its column, and whether its
+/// family is that of absolute values.
+#[derive(Clone, Copy)]
+struct KeyWords<'a> {
+    alias: &'a [u8],
+    name: &'a [u8],
+    abs: bool,
+}
+
+/// The words of a key.
+fn read_words<'a>(at: &mut LineCursor<'a>) -> Option<KeyWords<'a>>
+    ensures only { (alias name rest : List ℕ) (abs : Bool) → list_all is_in_name alias ≡ true → list_all is_in_name name ≡ true → ends_key rest ≡ true →
+        at.old ≡ (alias ++ (codes "." ++ name)) ++ (family_if abs ++ rest) → AreWords result alias name abs × (at.new ≡ rest) }
+    ensures shorter { length at.new ≤ length at.old }
+{
+    let alias = at.word();
+    if !at.eat(b".") {
+        return None;
+    }
+    let name = at.word();
+    let abs = at.eat(b" int_abs_ops");
+    Some(KeyWords { alias, name, abs })
+}
+
+/// The class with a member inside the set that has these words by its first member there.
+fn class_by(cat: &Catalog, q: &Prepared, set: RelSet, words: &KeyWords) -> Option<ClassNo>
+    requires bound { IsWellBound cat.now q.now }
+    ensures has { IfSome result (λ n. HasKeyText q.now (has set.0) n.0) }
+    ensures only { (n : ℕ) (x : columns.ColRef) → HasKeyText q.now (has set.0) n →
+        first_in (class_at q.now.classes.classes n) (has set.0) ≡ Some x → IsNamed cat.now q.now words.now.alias.now words.now.name.now x →
+        is_abs (class_at q.now.classes.classes n).family ≡ words.now.abs → option_map (λ c. c.0) result ≡ Some n }
+{
+    let column = find_column(cat, q, words.alias, words.name)?;
+    let class = find_class(q, column, words.abs)?;
+    classes_of(q).member(class, set)?;
+    Some(class)
+}
+
+/// A key: a class with a member inside the set, by that member, its family and its direction.
+pub fn read_key(at: &mut LineCursor, cat: &Catalog, q: &Prepared, set: RelSet) -> Option<ClassNo>
+    requires bound { IsWellBound cat.now q.now }
+    ensures has { IfSome result (λ n. HasKeyText q.now (has set.0) n.0) }
+    ensures only { (n : ℕ) (rest : List ℕ) → HasKeyText q.now (has set.0) n → ends_key rest ≡ true →
+        at.old ≡ key_text cat.now q.now (has set.0) n ++ rest → (option_map (λ c. c.0) result ≡ Some n) × (at.new ≡ rest) }
+    ensures shorter { length at.new ≤ length at.old }
+{
+    cat.lawful();
+    let words = read_words(at)?;
+    let class = class_by(cat, q, set, &words)?;
+    if at.eat(direction_bytes(classes_of(q).direction(class))) {
+        Some(class)
+    } else {
+        None
+    }
+}

@@ -1,0 +1,36 @@
+-- The order in which the entries of a table are printed. Own.
+use Rattle.std.specs.Prelude.{ℕ, [], ◌∷◌}
+use Rattle.std.specs.Cmp.Lexicographic.{slice_cmp}
+use Rattle.std.specs.Ordering.{nat_cmp}
+use Rattle.std.specs.declared.cmp.Ordering.{Ordering}
+use Rattle.heap.specs.Tuples.{relation_count}
+use Rattle.pg_value.specs.Sorting.{one_after_other}
+use Rattle.plan_tree.specs.Paths.{Path}
+use Rattle.plan_check.specs.Certificates.{Entry, by_seq}
+
+-- one entry against another by a number of each
+abbrev pub by_number : (Entry → ℕ) → Entry → Entry → Ordering
+by_number number a b = nat_cmp (number a) (number b)
+
+-- by the numbers of their classes, place by place; a list stands before each longer one that begins with it
+abbrev pub by_keys : Entry → Entry → Ordering
+by_keys a b = slice_cmp nat_cmp a.keys b.keys
+
+-- by the size of the set, then by the set, the parameterisation and the cost, each as a number, by the startup, which is 0
+-- without a window, and at last by the keys
+abbrev pub printing_order : Entry → Entry → Ordering
+printing_order = one_after_other
+    (by_number (λ e. relation_count e.set) ∷
+    by_number (λ e. e.set.0) ∷
+    by_number (λ e. e.param.0) ∷
+    by_number (λ e. e.cost) ∷
+    by_number (λ e. e.startup) ∷
+    by_keys ∷ [])
+
+-- what a path says of itself, as an entry without what it is made of
+abbrev pub said : Path → Entry
+said x = record { set = x.set; param = x.param; node = by_seq; startup = x.startup; cost = x.cost; rows = x.rows; keys = x.keys }
+
+-- the same order of paths
+abbrev pub path_order : Path → Path → Ordering
+path_order x y = printing_order (said x) (said y)

@@ -1,5 +1,0 @@
-use Rattle.certificate_lines.proofs.SetLemmas.{IsReading}
-use Rattle.certificate_lines.proofs.sets.read_aliases.Given as goal
-
-abbrev pub invariant-loop-n : goal.invariant-loop-n
-invariant-loop-n l = IsReading l.q l.fn.at l.n l.set l.word l.at

@@ -1,0 +1,120 @@
+//! Entries from the parts of their lines.
+
+ghost use Rattle.std.specs.Prelude.{◌≡◌, ◌++◌, ◌==◌, ℕ, List, IfNone, IfOk, IfSome, IsTrue, Some, ◌↔◌, codes, false, get_or, option_map};
+ghost use Rattle.std.specs.Fmt.{decimal};
+ghost use Rattle.pg_base.specs.declared.rel_set.RelSet as sets;
+ghost use Rattle.sql_query.specs.WellBound.{IsWellBound};
+ghost use Rattle.plan_check.specs.Certificates as certs;
+ghost use Rattle.plan_check.specs.Views as views;
+ghost use Rattle.plan_check.specs.Views.{entry};
+ghost use Rattle.certificate_entries.specs.certificate_text_HasText.{HasEntryLine};
+ghost use Rattle.certificate_entries.specs.certificate_text_Texts as texts;
+ghost use Rattle.certificate_reader.specs.Parts.{AreSets, entry_by};
+
+use crate::measures::{Measures, read_measures};
+use catalog::Catalog;
+use certificate_entries::certificate_text::entry_line;
+use certificate_entries::{eat_number, read_node, read_sets};
+use certificate_text::LineCursor;
+use pg_base::{Memory, RelSet};
+use plan_check::{Entry, Node};
+use sql_query::Prepared;
+use std::alloc::Global;
+
+/// A set of one relation or more, a parameterisation and the space behind them. None where no such sets come next.
+fn read_some(at: &mut LineCursor, cat: &Catalog, q: &Prepared) -> Option<(RelSet, RelSet)>
+    requires bound { IsWellBound cat.now q.now }
+    ensures has { IfSome result (λ p. AreSets q.now p.0 p.1) }
+    ensures only { (s p : sets.RelSet) (rest : List ℕ) → AreSets q.now s p → (get_or rest 0 0 == 102) ≡ false →
+        at.old ≡ texts.set_text q.now s ++ (texts.param_text q.now p ++ (codes " " ++ rest)) → (result ≡ Some (s, p)) × (at.new ≡ rest) }
+{
+    let (set, param) = read_sets(at, cat, q)?;
+    set.first()?;
+    Some((set, param))
+}
+
+/// The number of an entry, its set and its parameterisation, each with the space behind it. None where this number does not
+/// come next, or no sets behind it. The error means want of memory.
+fn read_head(
+    alloc: Global,
+    at: &mut LineCursor,
+    cat: &Catalog,
+    q: &Prepared,
+    n: u64,
+) -> Result<Option<(RelSet, RelSet)>, Memory>
+    requires bound { IsWellBound cat.now q.now }
+    ensures has { IfOk result (λ o. IfSome o (λ p. AreSets q.now p.0 p.1)) }
+    ensures only { IfOk result (λ o. (s p : sets.RelSet) (rest : List ℕ) → AreSets q.now s p → (get_or rest 0 0 == 102) ≡ false →
+        at.old ≡ decimal n ++ (codes " " ++ (texts.set_text q.now s ++ (texts.param_text q.now p ++ (codes " " ++ rest)))) →
+        (o ≡ Some (s, p)) × (at.new ≡ rest)) }
+{
+    if !eat_number(alloc, at, n)? {
+        return Ok(None);
+    }
+    if at.eat(b" ") {
+        Ok(read_some(at, cat, q))
+    } else {
+        Ok(None)
+    }
+}
+
+/// The entry of these parts.
+fn entry_of(set: RelSet, param: RelSet, node: Node, measures: Measures) -> Entry
+    ensures { entry result ≡ entry_by set param (views.node node) measures }
+{
+    Entry {
+        set,
+        param,
+        node,
+        startup: measures.startup,
+        cost: measures.cost,
+        rows: measures.rows,
+        keys: measures.keys,
+    }
+}
+
+/// The entry of a number, from its line without LF. None where no entry has this line; what is read of another line may be
+/// any entry that has one. The error means want of memory.
+pub(crate) fn read_entry(
+    alloc: Global,
+    at: &mut LineCursor,
+    cat: &Catalog,
+    q: &Prepared,
+    n: u64,
+) -> Result<Option<Entry>, Memory>
+    requires bound { IsWellBound cat.now q.now }
+    ensures has { IfOk result (λ o. IfSome o (λ e. HasEntryLine cat.now q.now (entry e))) }
+    ensures only { IfOk result (λ o. (e : certs.Entry) → HasEntryLine cat.now q.now e → at.old ≡ texts.entry_line cat.now q.now n e →
+        option_map entry o ≡ Some e) }
+{
+    let (set, param) = match read_head(alloc, at, cat, q, n)? {
+        Some(sets) => sets,
+        None => return Ok(None),
+    };
+    let node = match read_node(alloc, at, cat, q, set)? {
+        Some(node) => node,
+        None => return Ok(None),
+    };
+    match read_measures(alloc, at, cat, q, set)? {
+        Some(measures) => Ok(Some(entry_of(set, param, node, measures))),
+        None => Ok(None),
+    }
+}
+
+/// Whether this is the line of the entry of a number. The condition is that the entry has a line. The error means want of
+/// memory.
+pub(crate) fn is_entry_line(
+    alloc: Global,
+    cat: &Catalog,
+    q: &Prepared,
+    n: u64,
+    line: &[u8],
+    e: &Entry,
+) -> Result<bool, Memory>
+    requires bound { IsWellBound cat.now q.now }
+    requires has { HasEntryLine cat.now q.now (entry e.now) }
+    ensures { IfOk result (λ b. IsTrue b ↔ (line.now ≡ texts.entry_line cat.now q.now n (entry e.now))) }
+{
+    let text = entry_line(alloc, cat, q, n, e)?;
+    Ok(line == text.items())
+}

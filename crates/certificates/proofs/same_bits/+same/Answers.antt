@@ -1,6 +1,0 @@
-use Rattle.std.proofs.Common.{true≢false, sym}
-use Rattle.certificates.proofs.SameLemmas.{same-length}
-use Rattle.certificates.proofs.same_bits.+same.Goals as goal
-
-pub are_same_trees-returns-then-a-b : goal.are_same_trees-returns-then-a-b
-are_same_trees-returns-then-a-b t c = (λ no'. absurd (true≢false (sym no')), λ e. absurd (c.if-a-b.true (same-length c.args.a.now c.args.b.now e)))

@@ -1,5 +1,0 @@
-use Rattle.certificates.proofs.SameLemmas.{AreAlike}
-use Rattle.certificates.proofs.same_bits.+same.Given as goal
-
-abbrev pub invariant-are_same_trees-loop-n : goal.invariant-are_same_trees-loop-n
-invariant-are_same_trees-loop-n l = AreAlike l.a l.b l.n

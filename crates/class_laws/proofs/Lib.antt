@@ -1,4 +1,0 @@
-pub mod AlikeLemmas
-pub mod LocalLemmas
-pub mod PartLemmas
-pub mod JoiningLemmas

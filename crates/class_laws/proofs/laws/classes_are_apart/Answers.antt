@@ -1,5 +1,0 @@
-use Rattle.class_laws.proofs.PartLemmas.{apart_at}
-use Rattle.class_laws.proofs.laws.classes_are_apart.Goals as goal
-
-pub returns : goal.returns
-returns c = λ g t m k l is. apart_at g t is m k l

@@ -1,5 +1,0 @@
-use Rattle.class_laws.proofs.PartLemmas.{alike_at}
-use Rattle.class_laws.proofs.laws.classes_compare_alike.Goals as goal
-
-pub returns : goal.returns
-returns c = λ g t b d part set k x y is. alike_at g t is b d part set k x y

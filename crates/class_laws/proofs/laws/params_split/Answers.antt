@@ -1,5 +1,0 @@
-use Rattle.class_laws.proofs.PartLemmas.{params_at}
-use Rattle.class_laws.proofs.laws.params_split.Goals as goal
-
-pub returns : goal.returns
-returns c = λ g t b s p r is typed fits. params_at g t is b typed fits s p r

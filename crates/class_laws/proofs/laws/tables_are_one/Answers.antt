@@ -1,5 +1,0 @@
-use Rattle.eq_classes.proofs.UniqueLemmas.{table_one}
-use Rattle.class_laws.proofs.laws.tables_are_one.Goals as goal
-
-pub returns : goal.returns
-returns c = table_one

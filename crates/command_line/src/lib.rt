@@ -1,6 +1,0 @@
-//! The words of the command line.
-#![tactic(auto)]
-
-mod command;
-
-pub use command::{Command, read_command};

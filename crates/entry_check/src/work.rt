@@ -1,0 +1,73 @@
+//! What joins and sorts cost.
+
+ghost use Rattle.std.specs.Prelude.{◌≡◌, ◌≤◌, length};
+ghost use Rattle.catalog.specs.Contents.{Contents};
+ghost use Rattle.cost_rules.specs.Costs.{IsCost, capped_pair};
+ghost use Rattle.pathkeys.specs.Finding.{class_numbers};
+ghost use Rattle.pathkeys.specs.Keys.{Keys};
+ghost use Rattle.plan_tree.specs.Costs as costs;
+ghost use Rattle.plan_tree.specs.Paths.{kept_cost};
+ghost use Rattle.plan_tree.specs.Plans.{Plan, merge, nest, param_of, sort};
+ghost use Rattle.plan_tree.specs.Reads.{IsOverTables};
+ghost use Rattle.plan_tree.specs.Space.{IsEmpty};
+ghost use Rattle.entry_check.specs.Parts.{IsPart, IsReckoned};
+
+use crate::operators::{merge_operators, nest_operators};
+use crate::work_parts::Part;
+use catalog::Catalog;
+use cost_rules::Pair;
+use eq_classes::ClassNo;
+use path_cost::pairs;
+use plan_tree::{classes_of, kept_of, range_of};
+use sql_query::Prepared;
+
+/// The cost of a nested loop of two plans, as a path keeps it, cut to at most 10^18.
+pub fn nest_cost(q: &Prepared, outer: Part, inner: Part) -> Pair
+    requires outer { IsReckoned outer }
+    requires inner { IsReckoned inner }
+    ensures rule { (c : Contents) (o i : Plan) → IsPart c q.now outer o → IsPart c q.now inner i → result ≡ capped_pair (kept_cost q.now.window (costs.cost c q.now (nest o i))) }
+    ensures cost { IsCost result }
+{
+    let ops = nest_operators(q, outer.set, inner.set, inner.param);
+    cost_rules::nest(outer.cost, inner.cost, outer.rows, inner.rows, ops)
+}
+
+/// The cost of a merge of two plans by 1 to 3 classes, as a path keeps it, cut to at most 10^18.
+pub fn merge_cost(cat: &Catalog, q: &Prepared, keys: &[ClassNo], outer: Part, inner: Part) -> Pair
+    requires query { IsOverTables cat.now q.now }
+    requires some_keys { 1 ≤ length keys.now }
+    requires few_keys { length keys.now ≤ 3 }
+    requires outer { IsReckoned outer }
+    requires inner { IsReckoned inner }
+    ensures rule { (o i : Plan) → IsPart cat.now q.now outer o → IsPart cat.now q.now inner i → result ≡ capped_pair (kept_cost q.now.window (costs.cost cat.now q.now (merge (class_numbers keys.now) o i))) }
+    ensures cost { IsCost result }
+{
+    let equal = pairs(cat, range_of(q), classes_of(q), outer.set, inner.set, keys);
+    let ops = merge_operators(q, keys, outer.set, inner.set);
+    cost_rules::merge(
+        outer.cost,
+        inner.cost,
+        outer.rows,
+        inner.rows,
+        keys.len() as u64,
+        equal,
+        ops,
+    )
+}
+
+/// What the sort of a plan that is given no rows is reckoned by, whatever the classes.
+pub fn sorted(q: &Prepared, x: Part) -> Part
+    requires reckoned { IsReckoned x }
+    ensures sorted { (c : Contents) (keys : Keys) (p : Plan) → IsPart c q.now x p → IsEmpty (param_of p) → IsPart c q.now result (sort keys p) }
+    ensures reckoned { IsReckoned result }
+    ensures set { result.set ≡ x.set }
+    ensures param { result.param ≡ x.param }
+{
+    let cost = kept_of(q, cost_rules::sort(x.cost, x.rows));
+    Part {
+        set: x.set,
+        param: x.param,
+        cost,
+        rows: x.rows,
+    }
+}

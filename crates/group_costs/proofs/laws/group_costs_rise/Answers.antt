@@ -1,8 +1,0 @@
-use Rattle.group_costs.proofs.CostLemmas.{total-input, total-rises}
-use Rattle.group_costs.proofs.laws.group_costs_rise.Goals as goal
-
-pub returns-clause-input : goal.returns-clause-input
-returns-clause-input c = total-input
-
-pub returns-clause-rises : goal.returns-clause-rises
-returns-clause-rises c = total-rises

@@ -1,2 +1,0 @@
-pub mod GroupCosts
-pub mod Choice

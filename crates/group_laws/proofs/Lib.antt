@@ -1,4 +1,0 @@
-pub mod LeastLemmas
-pub mod CallLemmas
-pub mod KeyLemmas
-pub mod BagLemmas

@@ -1,3 +1,0 @@
-pub mod ChoiceLemmas
-pub mod TaskLemmas
-pub mod DistinctLemmas

@@ -1,0 +1,89 @@
+-- The different keys of tuples, each once, and the tuples that have one of them.
+use Rattle.std.proofs.Common.{◌≡◌, Bool, true, false, not, cond, List, [], ◌∷◌, length, map, refl, sym, subst, ap, ◌∙◌, arith}
+use Rattle.std.specs.Prelude.{filter}
+use Rattle.std.specs.List.{AllByRecursion}
+use Rattle.pg_value.specs.declared.value.Value.{Value}
+use Rattle.plan_laws.proofs.PermLemmas.{Perm, none, keep, turn, join, Perm-filter, Perm-refl, Perm-same}
+use Rattle.group_values.specs.Groups.{Seen, firsts, keys_of, same_keys}
+use Rattle.group_values.proofs.GroupLemmas.{alike_equiv}
+use Rattle.group_values.proofs.OrderLemmas.{same-is}
+use Rattle.group_runs.proofs.LeastLemmas.{Perm-length}
+
+abbrev pub Keys : Type 0
+Keys = List Value
+
+abbrev pub other_than : Keys → Keys → Bool
+other_than k l = not (same_keys k l)
+
+-- each once, in order
+abbrev pub once : List Keys → List Keys
+once [] = []
+once (k ∷ ks) = k ∷ filter (other_than k) (once ks)
+
+map-filter : {A B : Type 0} (f : A → B) (p : B → Bool) (xs : List A) → map f (filter (λ x. p (f x)) xs) ≡ filter p (map f xs)
+map-filter f p [] = refl
+map-filter f p (x ∷ xs) = by (p (f x)) (map-filter f p xs)
+  where
+    by : (b : Bool) → map f (filter (λ x. p (f x)) xs) ≡ filter p (map f xs) → map f (cond b (x ∷ filter (λ x. p (f x)) xs) (filter (λ x. p (f x)) xs)) ≡ cond b (f x ∷ filter p (map f xs)) (filter p (map f xs))
+    by true more = ap (λ l. f x ∷ l) more
+    by false more = more
+
+-- those of the firsts are these
+pub keys-of-firsts : (ss : List Seen) → map (λ (s : Seen). s.keys) (firsts ss) ≡ once (map (λ (s : Seen). s.keys) ss)
+keys-of-firsts [] = refl
+keys-of-firsts (s ∷ ss) = ap (λ l. s.keys ∷ l) (map-filter (λ (t : Seen). t.keys) (other_than s.keys) (firsts ss) ∙ ap (filter (other_than s.keys)) (keys-of-firsts ss))
+
+filters-swapped : {A : Type 0} (p q : A → Bool) (xs : List A) → filter p (filter q xs) ≡ filter q (filter p xs)
+filters-swapped p q [] = refl
+filters-swapped p q (x ∷ xs) = by (p x) refl (q x) refl (filters-swapped p q xs)
+  where
+    by : (b : Bool) → p x ≡ b → (c : Bool) → q x ≡ c → filter p (filter q xs) ≡ filter q (filter p xs) → filter p (cond c (x ∷ filter q xs) (filter q xs)) ≡ filter q (cond b (x ∷ filter p xs) (filter p xs))
+    by true e true f more = ap (λ b. cond b (x ∷ filter p (filter q xs)) (filter p (filter q xs))) e ∙ ap (λ l. x ∷ l) more ∙ sym (ap (λ b. cond b (x ∷ filter q (filter p xs)) (filter q (filter p xs))) f)
+    by true e false f more = more ∙ sym (ap (λ b. cond b (x ∷ filter q (filter p xs)) (filter q (filter p xs))) f)
+    by false e true f more = ap (λ b. cond b (x ∷ filter p (filter q xs)) (filter p (filter q xs))) e ∙ more
+    by false e false f more = more
+
+same-back : (k l : Keys) → same_keys k l ≡ same_keys l k
+same-back k l = alike_equiv.symm (record { keys = k; args = [] }) (record { keys = l; args = [] })
+
+turned : (k l : Keys) (ks : List Keys) (b : Bool) → same_keys k l ≡ b → Perm (once (k ∷ l ∷ ks)) (once (l ∷ k ∷ ks))
+turned k l ks true e = subst (λ m. Perm (once (k ∷ m ∷ ks)) (once (m ∷ k ∷ ks))) (same-is k l e) (Perm-refl (once (k ∷ k ∷ ks)))
+turned k l ks false e =
+    let d = once ks in
+    let here : once (k ∷ l ∷ ks) ≡ k ∷ l ∷ filter (other_than k) (filter (other_than l) d) =
+    ap (λ b. k ∷ cond (not b) (l ∷ filter (other_than k) (filter (other_than l) d)) (filter (other_than k) (filter (other_than l) d))) e in
+    let there : once (l ∷ k ∷ ks) ≡ l ∷ k ∷ filter (other_than k) (filter (other_than l) d) =
+    ap (λ b. l ∷ cond (not b) (k ∷ filter (other_than l) (filter (other_than k) d)) (filter (other_than l) (filter (other_than k) d))) (same-back l k ∙ e)
+    ∙ ap (λ r. l ∷ k ∷ r) (filters-swapped (other_than l) (other_than k) d) in
+    let r = filter (other_than k) (filter (other_than l) d) in
+    join (once (k ∷ l ∷ ks)) (k ∷ l ∷ r) (once (l ∷ k ∷ ks)) (Perm-same (once (k ∷ l ∷ ks)) (k ∷ l ∷ r) here)
+    (join (k ∷ l ∷ r) (l ∷ k ∷ r) (once (l ∷ k ∷ ks)) (turn k l r) (Perm-same (l ∷ k ∷ r) (once (l ∷ k ∷ ks)) (sym there)))
+
+pub once-moved : (ks ls : List Keys) → Perm ks ls → Perm (once ks) (once ls)
+once-moved _ _ none = none
+once-moved _ _ (keep k ks ls p) = keep k (filter (other_than k) (once ks)) (filter (other_than k) (once ls)) (Perm-filter (other_than k) (once ks) (once ls) (once-moved ks ls p))
+once-moved _ _ (turn k l ks) = turned k l ks (same_keys k l) refl
+once-moved _ _ (join ks ls ms p q) = join (once ks) (once ls) (once ms) (once-moved ks ls p) (once-moved ls ms q)
+
+-- the tuples with some keys, all of them the same
+abbrev pub with_keys : Keys → List Seen → List Seen
+with_keys k ss = filter (λ (t : Seen). same_keys k t.keys) ss
+
+all-have : (k : Keys) (ss : List Seen) → AllByRecursion (λ (t : Seen). t.keys ≡ k) (with_keys k ss)
+all-have k [] = tt
+all-have k (s ∷ ss) = by (same_keys k s.keys) refl (all-have k ss)
+  where
+    by : (b : Bool) → same_keys k s.keys ≡ b → AllByRecursion (λ (t : Seen). t.keys ≡ k) (with_keys k ss) → AllByRecursion (λ (t : Seen). t.keys ≡ k) (cond b (s ∷ with_keys k ss) (with_keys k ss))
+    by true e more = (sym (same-is k s.keys e), more)
+    by false e more = more
+
+-- lists of as many tuples with the same keys
+same-first : (k : Keys) (ss ts : List Seen) → AllByRecursion (λ (t : Seen). t.keys ≡ k) ss → AllByRecursion (λ (t : Seen). t.keys ≡ k) ts → length ss ≡ length ts → keys_of ss ≡ keys_of ts
+same-first k [] [] p q e = refl
+same-first k [] (t ∷ ts) p q e = absurd (omega (arith, e))
+same-first k (s ∷ ss) [] p q e = absurd (omega (arith, e))
+same-first k (s ∷ ss) (t ∷ ts) p q e = p.0 ∙ sym q.0
+
+pub keys-moved : (k : Keys) (ss ts : List Seen) → Perm ss ts → keys_of (with_keys k ss) ≡ keys_of (with_keys k ts)
+keys-moved k ss ts p =
+    same-first k (with_keys k ss) (with_keys k ts) (all-have k ss) (all-have k ts) (Perm-length (with_keys k ss) (with_keys k ts) (Perm-filter (λ (t : Seen). same_keys k t.keys) ss ts p))

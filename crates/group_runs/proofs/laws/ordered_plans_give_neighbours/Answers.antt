@@ -1,5 +1,0 @@
-use Rattle.group_runs.proofs.RunLemmas.{plan-neighbours}
-use Rattle.group_runs.proofs.laws.ordered_plans_give_neighbours.Goals as goal
-
-pub returns : goal.returns
-returns c w q p args world bound finished = plan-neighbours w q p world bound finished args

@@ -1,5 +1,0 @@
-use Rattle.group_tuples.proofs.NeighbourLemmas.{last-alone}
-use Rattle.group_tuples.proofs.laws.neighbours_are_of_the_last_group.Goals as goal
-
-pub returns : goal.returns
-returns c = last-alone

@@ -1,5 +1,0 @@
-use Rattle.group_tuples.proofs.OrderedLemmas.{no-sort}
-use Rattle.group_tuples.proofs.laws.sorted_tuples_give_sorted_lines.Goals as goal
-
-pub returns : goal.returns
-returns c = no-sort

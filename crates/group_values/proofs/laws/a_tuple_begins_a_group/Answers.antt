@@ -1,5 +1,0 @@
-use Rattle.group_values.proofs.SumLemmas.{begins}
-use Rattle.group_values.proofs.laws.a_tuple_begins_a_group.Goals as goal
-
-pub returns : goal.returns
-returns c shape ss keys args gs sums width many other = begins shape ss keys args gs sums width many other

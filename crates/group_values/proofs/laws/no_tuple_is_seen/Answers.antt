@@ -1,5 +1,0 @@
-use Rattle.group_values.proofs.SumLemmas.{first-sum}
-use Rattle.group_values.proofs.laws.no_tuple_is_seen.Goals as goal
-
-pub returns : goal.returns
-returns c = first-sum

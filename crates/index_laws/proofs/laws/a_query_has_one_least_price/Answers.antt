@@ -1,5 +1,0 @@
-use Rattle.index_laws.proofs.BoundLemmas.{one-price, priced-plan}
-use Rattle.index_laws.proofs.laws.a_query_has_one_least_price.Goals as goal
-
-pub returns : goal.returns
-returns z = record { one = one-price; none = priced-plan }

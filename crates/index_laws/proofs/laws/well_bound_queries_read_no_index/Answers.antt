@@ -1,5 +1,0 @@
-use Rattle.index_laws.proofs.BoundLemmas.{bound-over}
-use Rattle.index_laws.proofs.laws.well_bound_queries_read_no_index.Goals as goal
-
-pub returns : goal.returns
-returns z = bound-over

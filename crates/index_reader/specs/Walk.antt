@@ -1,0 +1,98 @@
+-- What is left of an ADVISE at a token, and what reading it from there on gives (own).
+use Rattle.std.specs.Prelude.{◌≡◌, ◌≤◌, ℕ, ◌+◌, max, map, List, ◌∷◌, ◌++◌, drop, length, All, Result, Ok, Err, Vec}
+use Rattle.std.specs.declared.alloc.Global.{Global}
+use Rattle.pg_base.specs.declared.faults.Refusal.{Refusal}
+use Rattle.pg_base.specs.declared.faults.Refusal.TheVariants as refusal
+use Rattle.pg_base.specs.declared.limits.TheConstants.{MOST_CANDIDATES, MOST_INDEXES, MOST_LEVELS, MOST_QUERIES}
+use Rattle.pg_base.specs.declared.numbers.TableNo.{TableNo}
+use Rattle.pg_base.specs.Names.{AreDistinct}
+use Rattle.sql_lex.specs.declared.tokens.Token.{Token}
+use Rattle.sql_grammar.specs.declared.class.Symbol.TheVariants.{Close}
+use Rattle.sql_grammar.specs.Terminals.{Terminal, t_mark}
+use Rattle.sql_grammar.specs.Syntax.{Mark, Cand, Advised, Ending}
+use Rattle.sql_grammar.specs.Words.{words_of_cand, words_of_cands, words_of_advised, words_of_more_advised, words_of_ending, levels_of_cand, levels_of_cands, levels_of_more_advised}
+use Rattle.sql_grammar.specs.Faults.{AreWithinLimits, terminals}
+use Rattle.catalog.specs.Contents.{Contents, NamedIndex, indexes_of}
+use Rattle.eq_classes.specs.Holding.{IsClassTable}
+use Rattle.sql_query.specs.Queries.{Query}
+use Rattle.sql_query.specs.WellBound.{IsWellBound, given_of}
+use Rattle.catalog.specs.Candidates.{IsCandidateIndex, names_of}
+use Rattle.index_reader.specs.declared.candidates.AllRead.{AllRead}
+use Rattle.index_reader.specs.declared.candidates.OneRead.{OneRead}
+use Rattle.index_reader.specs.declared.queries.OneQuery.{OneQuery}
+use Rattle.index_reader.specs.AdviseCandidates.{CandidateMeans}
+use Rattle.index_reader.specs.AdviseMeaning.{CandidatesMean, QueriesMean}
+use Rattle.index_reader.specs.Parts.{candidates_of, name_token}
+use Rattle.index_reader.specs.Queries.{QueryMeans}
+
+-- the tokens from number `first` on are these words and then `next` and others, in a statement within the limits
+pub record Stands (text : List ℕ) (tokens : List Token) (first : ℕ) (words : List Terminal) (next : Terminal) (rest : List Terminal) : Type 0 where
+  pub are : terminals text (drop first tokens) ≡ words ++ next ∷ rest
+  pub limits : AreWithinLimits (terminals text tokens)
+
+-- candidates that are left, with the `)` and what stands behind it
+pub record Row : Type 0 where
+  pub first : Cand
+  pub more : List (Mark × Cand)
+  pub close : Mark
+  pub rest : List Terminal
+
+-- they stand from token number `first` on
+pub record RowAt (text : List ℕ) (tokens : List Token) (first : ℕ) (w : Row) : Type 0 where
+  pub are : terminals text (drop first tokens) ≡ words_of_cand w.first ++ (words_of_cands w.more ++ t_mark Close w.close ∷ w.rest)
+  pub limits : AreWithinLimits (terminals text tokens)
+  pub levels : max (levels_of_cand w.first) (levels_of_cands w.more) ≤ MOST_LEVELS
+
+-- SELECTs in parentheses that are left, with the statement's end
+pub record QueryRow : Type 0 where
+  pub queries : List Advised
+  pub ending : Ending
+
+-- they stand from token number `first` on
+pub record QueryRowAt (text : List ℕ) (tokens : List Token) (first : ℕ) (w : QueryRow) : Type 0 where
+  pub are : terminals text (drop first tokens) ≡ words_of_more_advised w.queries ++ words_of_ending w.ending
+  pub limits : AreWithinLimits (terminals text tokens)
+  pub levels : levels_of_more_advised w.queries ≤ MOST_LEVELS
+
+-- candidates that may be made together, where their tables have room
+pub record AreApart (c : Contents) (xs : List NamedIndex) : Type 0 where
+  pub few : length xs ≤ MOST_CANDIDATES
+  pub each : All (IsCandidateIndex c) xs
+  pub apart : AreDistinct (names_of xs)
+
+-- no table has more indexes than it may have
+abbrev pub HaveRoom : Contents → Type 0
+HaveRoom c = (t : TableNo) → length (indexes_of c t) ≤ MOST_INDEXES
+
+-- queries that may be planned, with the classes of their own conditions and order
+pub record ArePlannable (c : Contents) (qs : List Query) : Type 0 where
+  pub few : length qs ≤ MOST_QUERIES
+  pub bound : All (IsWellBound c) qs
+  pub classes : All (λ q. IsClassTable (given_of c q) q.classes) qs
+
+-- what is told of a candidate at token number `first` behind earlier ones: what it means and where it ends, or its first fault, or
+-- there was no memory
+abbrev pub TellsCandidate : Contents → Token → List Token → List NamedIndex → ℕ → Cand → Result OneRead Refusal → Type 0
+TellsCandidate c start tokens earlier first x (Ok r) = CandidateMeans c start tokens earlier x (Ok r.candidate) × (r.end ≡ first + length (words_of_cand x))
+TellsCandidate c start tokens earlier first x (Err (refusal.Fault f)) = CandidateMeans c start tokens earlier x (Err f)
+TellsCandidate c start tokens earlier first x (Err refusal.Memory) = Unit {0}
+
+-- the same of all that are left
+abbrev pub TellsCandidates : Contents → Token → List ℕ → List Token → Row → Result AllRead Refusal → Type 0
+TellsCandidates c start text tokens w (Ok r) =
+    CandidatesMean c start tokens (candidates_of w.first w.more) (Ok r.candidates.items) × (r.names.items ≡ map name_token (candidates_of w.first w.more)) ×
+    (terminals text (drop r.end tokens) ≡ t_mark Close w.close ∷ w.rest)
+TellsCandidates c start text tokens w (Err (refusal.Fault f)) = CandidatesMean c start tokens (candidates_of w.first w.more) (Err f)
+TellsCandidates c start text tokens w (Err refusal.Memory) = Unit {0}
+
+-- what is told of a SELECT whose `(` is token number `first`, behind earlier ones
+abbrev pub TellsQuery : Contents → Token → List Query → ℕ → Advised → Result OneQuery Refusal → Type 0
+TellsQuery c start earlier first x (Ok r) = QueryMeans c start earlier x (Ok r.query) × (r.end ≡ first + length (words_of_advised x))
+TellsQuery c start earlier first x (Err (refusal.Fault f)) = QueryMeans c start earlier x (Err f)
+TellsQuery c start earlier first x (Err refusal.Memory) = Unit {0}
+
+-- the same of all that are left
+abbrev pub TellsQueries : Contents → Token → QueryRow → Result (Vec Query Global) Refusal → Type 0
+TellsQueries c start w (Ok v) = QueriesMean c start w.queries (Ok v.items)
+TellsQueries c start w (Err (refusal.Fault f)) = QueriesMean c start w.queries (Err f)
+TellsQueries c start w (Err refusal.Memory) = Unit {0}

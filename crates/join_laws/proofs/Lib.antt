@@ -1,4 +1,0 @@
-pub mod InductionLemmas
-pub mod WithinLemmas
-pub mod UsefulLemmas
-pub mod LeastLemmas

@@ -1,6 +1,0 @@
-use Rattle.std.specs.Prelude.{Contains}
-use Rattle.join_laws.proofs.InductionLemmas.{undercut}
-use Rattle.join_laws.proofs.laws.admissible_plans_are_dominated.Goals as goal
-
-pub returns : goal.returns
-returns z = λ c q kept some closed. undercut c q (Contains kept) some closed

@@ -1,6 +1,0 @@
-use Rattle.std.specs.Prelude.{Contains}
-use Rattle.join_laws.proofs.UsefulLemmas.{enough}
-use Rattle.join_laws.proofs.laws.kept_plans_suffice.Goals as goal
-
-pub returns : goal.returns
-returns z = λ c q every kept limit some closed. enough c q every (Contains kept) limit some closed

@@ -1,2 +1,0 @@
-pub mod TestedLemmas
-pub mod CostLemmas

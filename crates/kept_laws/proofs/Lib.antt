@@ -1,4 +1,0 @@
-pub mod FrontsLemmas
-pub mod SizeLemmas
-pub mod TurnLemmas
-pub mod OrderLemmas

@@ -1,5 +1,0 @@
-use Rattle.kept_laws.proofs.FrontsLemmas.{paths-kept}
-use Rattle.kept_laws.proofs.laws.searched_paths_are_kept.Goals as goal
-
-pub returns : goal.returns
-returns z = λ c q fronts paths some searched are. paths-kept c q fronts searched paths are some

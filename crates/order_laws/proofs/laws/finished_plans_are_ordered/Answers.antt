@@ -1,5 +1,0 @@
-use Rattle.order_laws.proofs.FinishedOrderLemmas.{finished_is_ordered}
-use Rattle.order_laws.proofs.laws.finished_plans_are_ordered.Goals as goal
-
-pub returns : goal.returns
-returns c = finished_is_ordered

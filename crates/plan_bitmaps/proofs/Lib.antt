@@ -1,4 +1,0 @@
-pub mod ListLemmas
-pub mod CompareLemmas
-pub mod LineLemmas
-pub mod TreeLemmas

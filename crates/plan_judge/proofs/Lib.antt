@@ -1,3 +1,0 @@
-pub mod JudgeLemmas
-pub mod OutsideLemmas
-pub mod PartLemmas

@@ -1,0 +1,278 @@
+-- The class of an ORDER BY item, and how the item orders tuples beside it.
+use Rattle.std.proofs.Common.{◌≡◌, Equal, ℕ, ◌+◌, ◌<◌, Bool, true, false, cond, ◌||◌, List, [], ◌∷◌, ◌++◌, length, inl, refl, sym, ap, ap₂, ◌∙◌, subst, ⊎_elim}
+use Rattle.std.specs.Prelude.{Option, None, Some, IsTrue, find, filter_map, option_map, Contains}
+use Rattle.std.specs.List.{AllByRecursion, list_any, position_from}
+use Rattle.std.specs.Option.{option_or}
+use Rattle.std.proofs.lemmas.Bool.{cases_Bool, and_from, true≢false, lt-ltb}
+use Rattle.pg_value.specs.declared.operators.Family.{Family}
+use Rattle.pg_value.specs.declared.operators.Family.TheVariants as families
+use Rattle.pg_value.specs.declared.value.SqlType.{SqlType}
+use Rattle.pg_value.specs.declared.value.SqlType.TheVariants.{Int2, Int4, Int8, Text as TextType, Bool as BoolType}
+use Rattle.pg_value.specs.ColumnOrder.{column_order}
+use Rattle.pg_value.specs.Order.{IsOfFamily}
+use Rattle.pg_value.specs.Types.{IsOfType}
+use Rattle.opfamily.specs.Answers.{default_family_of}
+use Rattle.pg_expr.specs.declared.operand.ColRef.{ColRef}
+use Rattle.pg_expr.specs.Typed.{some_value}
+use Rattle.catalog.specs.Range.{type_in}
+use Rattle.eq_classes.specs.declared.order.OrderItem.{OrderItem}
+use Rattle.eq_classes.specs.Equality.{equality_in}
+use Rattle.eq_classes.specs.Classes.{Class, Mention, is_family, has_member, is_in, in_family, left_of, mentions, ordered_by, orders_by, is_some_and, direction_by, IsClass}
+use Rattle.eq_classes.specs.Listing.{class_at}
+use Rattle.eq_classes.specs.Parts.{is_all}
+use Rattle.eq_classes.proofs.EqualLemmas.{family_self}
+use Rattle.eq_classes.proofs.HoldLemmas.{in_map}
+use Rattle.eq_classes.proofs.ListLemmas.{IsIn, all_at, any_from, filter_map_in, found_in, found_passes, in_at, in_from_contains, in_right}
+use Rattle.eq_classes.proofs.SoundLemmas.{class_sound, in_member, member_in}
+use Rattle.plan_laws.proofs.PartLemmas.{apart_at}
+use Rattle.sql_query.specs.Meaning.{item_order, item_order_in}
+use Rattle.sql_query.specs.Queries.{Query, all_of_query, width}
+use Rattle.sql_query.specs.Tuples.{Tuple, value_at}
+use Rattle.sql_query.specs.WellBound.{given_with, IsColumnOf, IsDirected, IsWellBound, ordered_columns}
+use Rattle.sql_query.specs.Worlds.{World, IsWorld}
+use Rattle.pathkeys.specs.Keys.{class_of, order_class, is_constant}
+use Rattle.pathkeys.specs.Sorted.{class_order, order_at}
+use Rattle.plan_laws.specs.Meant.{holds_at}
+use Rattle.plan_laws.proofs.ClauseLemmas.{typed}
+use Rattle.plan_laws.proofs.IndexOrderLemmas.{ClassOf, class_found}
+use Rattle.plan_laws.proofs.KeyLemmas.{find_more}
+use Rattle.plan_laws.proofs.OrderedLemmas.{ItemsFollow}
+use Rattle.plan_laws.proofs.TieLemmas.{tie_in_all, members_alike, constants_tie}
+
+-- each type has a value that is not NULL
+pub sample_fits : (t : SqlType) → IsOfType t (some_value t)
+sample_fits Int2 = refl
+sample_fits Int4 = refl
+sample_fits Int8 = refl
+sample_fits TextType = tt
+sample_fits BoolType = tt
+
+-- a type whose values a family orders has it as its default family, where the family is one of some type
+pub default_of : (t : SqlType) (f : Family) → IsOfFamily f (some_value t) → (f ≡ families.IntAbs → ⊥) → default_family_of t ≡ Some f
+default_of Int2 families.Integer h other = refl
+default_of Int4 families.Integer h other = refl
+default_of Int8 families.Integer h other = refl
+default_of TextType families.Integer h other = absurd h
+default_of BoolType families.Integer h other = absurd h
+default_of t families.IntAbs h other = absurd (other refl)
+default_of Int2 families.Text h other = absurd h
+default_of Int4 families.Text h other = absurd h
+default_of Int8 families.Text h other = absurd h
+default_of TextType families.Text h other = refl
+default_of BoolType families.Text h other = absurd h
+default_of Int2 families.Bool h other = absurd h
+default_of Int4 families.Bool h other = absurd h
+default_of Int8 families.Bool h other = absurd h
+default_of TextType families.Bool h other = absurd h
+default_of BoolType families.Bool h other = refl
+
+no_default_abs : (t : SqlType) → default_family_of t ≡ Some families.IntAbs → ⊥
+no_default_abs Int2 h = cc
+no_default_abs Int4 h = cc
+no_default_abs Int8 h = cc
+no_default_abs TextType h = cc
+no_default_abs BoolType h = cc
+
+pub same_family : (f g : Family) {o : Option Family} → o ≡ Some f → o ≡ Some g → f ≡ g
+same_family f g e h = cc
+
+found_none : {A : Type 0} (p : A → Bool) (i : ℕ) (xs : List A) → position_from p i xs ≡ None → list_any p xs ≡ true → ⊥
+found_none p i [] h g = true≢false (sym g)
+found_none {A} p i (x ∷ xs) h g = by (found_none p (i + 1) xs) (p x) h g
+  where
+    by : (position_from p (i + 1) xs ≡ None → list_any p xs ≡ true → ⊥) → (v : Bool) → cond v (Some i) (position_from p (i + 1) xs) ≡ None → v || list_any p xs ≡ true → ⊥
+    by later true e g = cc
+    by later false e g = later e g
+
+-- what is found first where nothing before it passes
+first_passing : {A : Type 0} (p : A → Bool) (before : List A) (x : A) (after : List A) → AllByRecursion (λ y. p y ≡ false) before → p x ≡ true → find p (before ++ x ∷ after) ≡ Some x
+first_passing p [] x after h e = ap (λ (v : Bool). cond v (Some x) (find p after)) e
+first_passing p (y ∷ ys) x after h e = ap (λ (v : Bool). cond v (Some y) (find p (ys ++ x ∷ after))) h.0 ∙ first_passing p ys x after h.1 e
+
+some_or : (o : Option ℕ) → option_or o None ≡ o
+some_or None = refl
+some_or (Some n) = refl
+
+module _ (w : World) (q : Query) (world : IsWorld w) (bound : IsWellBound w.contents q) where
+  abbrev type_of : ColRef → SqlType
+  type_of = type_in w.contents q.range
+
+  -- the class of a column in a family that is a default one is in the column's default family
+  member_default : (x : ColRef) (f : Family) (n : ℕ) → ClassOf q.classes x f n → (f ≡ families.IntAbs → ⊥) → default_family_of (type_of x) ≡ Some f
+  member_default x f n of other =
+      let c : Class = class_at q.classes.classes n in
+      let sound = class_sound (given_with w.contents q bound.items) (λ y. some_value (type_of y)) (typed w q world bound) (λ y. sample_fits (type_of y)) q.classes.classes bound.classes.classes c (in_from_contains q.classes.classes c of.class) in
+      default_of (type_of x) f (subst (λ (h : Family). IsOfFamily h (some_value (type_of x))) (sym of.family) (sound.fits x (member_in c x of.member))) other
+
+  no_other : (x : ColRef) (f g : Family) → default_family_of (type_of x) ≡ Some f → (g ≡ families.IntAbs → ⊥) → (f ≡ g → ⊥) → class_of q.classes x g ≡ None
+  no_other x f g is other differ = by (class_of q.classes x g) refl
+    where
+      by : (o : Option ℕ) → class_of q.classes x g ≡ o → o ≡ None
+      by None e = refl
+      by (Some n) e = absurd (differ (same_family f g is (member_default x g n (class_found q.classes x g n e) other)))
+
+  -- the class by which a column orders is that of its default family
+  order_class_is : (x : ColRef) (f : Family) → default_family_of (type_of x) ≡ Some f → order_class q.classes x ≡ class_of q.classes x f
+  order_class_is x families.Integer is =
+      ap (option_or (class_of q.classes x families.Integer))
+      (ap₂ option_or (no_other x families.Integer families.Text is (λ e. cc) (λ e. cc)) (no_other x families.Integer families.Bool is (λ e. cc) (λ e. cc)))
+      ∙ some_or (class_of q.classes x families.Integer)
+  order_class_is x families.IntAbs is = absurd (no_default_abs (type_of x) is)
+  order_class_is x families.Text is =
+      ap₂ option_or (no_other x families.Text families.Integer is (λ e. cc) (λ e. cc))
+      (ap (option_or (class_of q.classes x families.Text)) (no_other x families.Text families.Bool is (λ e. cc) (λ e. cc)))
+      ∙ some_or (class_of q.classes x families.Text)
+  order_class_is x families.Bool is =
+      ap₂ (λ (a b : Option ℕ). option_or a (option_or b (class_of q.classes x families.Bool))) (no_other x families.Bool families.Integer is (λ e. cc) (λ e. cc)) (no_other x families.Bool families.Text is (λ e. cc) (λ e. cc))
+
+  -- the class of an item, by its column's default family
+  pub record ItemClass (x : ColRef) (n : ℕ) : Type 0 where
+    pub in_default : Family
+    pub default : default_family_of (type_of x) ≡ Some in_default
+    pub class : ClassOf q.classes x in_default n
+
+  class_by_default : (x : ColRef) (n : ℕ) → order_class q.classes x ≡ Some n → ItemClass x n
+  class_by_default x n h = by_integer (class_of q.classes x families.Integer) refl h
+    where
+      of_family : (f : Family) → (f ≡ families.IntAbs → ⊥) → (m : ℕ) → class_of q.classes x f ≡ Some m → Some m ≡ Some n → ItemClass x n
+      of_family f other m e g =
+          let of = class_found q.classes x f n (e ∙ g) in
+          record { in_default = f; default = member_default x f n of other; class = of }
+
+      by_bool : (o : Option ℕ) → class_of q.classes x families.Bool ≡ o → o ≡ Some n → ItemClass x n
+      by_bool None e g = absurd (nothing g)
+        where
+          nothing : None ≡ Some n → ⊥
+          nothing d = cc
+      by_bool (Some m) e g = of_family families.Bool (λ d. cc) m e g
+
+      by_text : (o : Option ℕ) → class_of q.classes x families.Text ≡ o → option_or o (class_of q.classes x families.Bool) ≡ Some n → ItemClass x n
+      by_text None e g = by_bool (class_of q.classes x families.Bool) refl g
+      by_text (Some m) e g = of_family families.Text (λ d. cc) m e g
+
+      by_integer : (o : Option ℕ) → class_of q.classes x families.Integer ≡ o → option_or o (option_or (class_of q.classes x families.Text) (class_of q.classes x families.Bool)) ≡ Some n → ItemClass x n
+      by_integer None e g = by_text (class_of q.classes x families.Text) refl g
+      by_integer (Some m) e g = of_family families.Integer (λ d. cc) m e g
+
+  -- a class that has an item's column in its default family is the item's
+  class_is : (item : OrderItem) (n : ℕ) → n < length q.classes.classes → orders_by type_of (class_at q.classes.classes n) item ≡ true → order_class q.classes item.col ≡ Some n
+  class_is item n low h = by_family (default_family_of (type_of item.col)) refl h
+    where
+      by_number : (f : Family) → is_in (class_at q.classes.classes n) (in_family item.col f) ≡ true → (o : Option ℕ) → class_of q.classes item.col f ≡ o → o ≡ Some n
+      by_number f here None e = absurd (found_none (λ c. is_in c (in_family item.col f)) 0 q.classes.classes e (any_from (λ c. is_in c (in_family item.col f)) q.classes.classes (class_at q.classes.classes n) (in_at q.classes.classes n _ low) here))
+      by_number f here (Some m) e =
+          let of = class_found q.classes item.col f m e in
+          let there : is_in (class_at q.classes.classes m) (in_family item.col f) ≡ true =
+          and_from (is_family (class_at q.classes.classes m).family f) (has_member (class_at q.classes.classes m) item.col) (ap (λ (g : Family). is_family g f) (sym of.family) ∙ family_self f) of.member in
+          ap Some (apart_at (given_with w.contents q bound.items) q.classes bound.classes (in_family item.col f) m n of.low low there here)
+
+      by_family : (o : Option Family) → default_family_of (type_of item.col) ≡ o → is_some_and (is_in (class_at q.classes.classes n)) (option_map (in_family item.col) o) ≡ true → order_class q.classes item.col ≡ Some n
+      by_family None e g = absurd (true≢false (sym g))
+      by_family (Some f) e g = order_class_is item.col f e ∙ by_number f g (class_of q.classes item.col f) refl
+
+  item_in : (before : List OrderItem) (item : OrderItem) (after : List OrderItem) → q.order ≡ before ++ item ∷ after → IsIn item q.order
+  item_in before item after e = subst (IsIn item) (sym e) (in_right item before (item ∷ after) (inl refl))
+
+  -- an item's column is of a relation of the query
+  column_inside : (item : OrderItem) → IsIn item q.order → all_of_query q item.col.rel.0 ≡ true
+  column_inside item i =
+      lt-ltb item.col.rel.0 (width q)
+      (all_at (IsColumnOf w.contents q.range) q.used bound.used item.col (in_from_contains q.used item.col (all_at (λ (o : OrderItem). Contains q.used o.col) q.order bound.order item i))).relation
+
+  -- its column is that of an item of which the classes are made
+  stood_item : (item : OrderItem) → IsIn item q.order → (j : OrderItem) × IsIn j bound.items × (item.col ≡ j.col)
+  stood_item item i =
+      in_map (λ (o : OrderItem). o.col) bound.items item.col
+      (in_from_contains (ordered_columns bound.items) item.col (all_at (λ (o : OrderItem). Contains (ordered_columns bound.items) o.col) q.order bound.stands item i))
+
+  module _ (x y : Tuple) (holds_x : holds_at w q x (is_all (all_of_query q)) ≡ true) (holds_y : holds_at w q y (is_all (all_of_query q)) ≡ true) where
+    -- an item with a default family orders as that family does
+    in_family_order : (item : OrderItem) (f : Family) → default_family_of (type_of item.col) ≡ Some f
+        → item_order w q item x y ≡ column_order f item.descending item.nulls_first (value_at w q x item.col) (value_at w q y item.col)
+    in_family_order item f e = ap (λ (o : Option Family). item_order_in w q item o x y) e
+
+    item_by_class : (item : OrderItem) (n : ℕ) → ItemClass item.col n
+        → item_order w q item x y ≡ column_order (class_at q.classes.classes n).family item.descending item.nulls_first (value_at w q x item.col) (value_at w q y item.col)
+    item_by_class item n of =
+        in_family_order item of.in_default of.default
+        ∙ ap (λ (f : Family). column_order f item.descending item.nulls_first (value_at w q x item.col) (value_at w q y item.col)) of.class.family
+
+    -- a column of a class orders as the class does
+    class_alike : (item : OrderItem) → IsIn item q.order → (n : ℕ) → ItemClass item.col n
+        → column_order (class_at q.classes.classes n).family (class_at q.classes.classes n).descending (class_at q.classes.classes n).nulls_first (value_at w q x item.col) (value_at w q y item.col)
+        ≡ class_order (class_at q.classes.classes n) (all_of_query q) (value_at w q x) (value_at w q y)
+    class_alike item i n of =
+        let c = class_at q.classes.classes n in
+        let all = all_of_query q in
+        let inside = column_inside item i in
+        let first = find_more (λ m. all m.rel.0) (λ m. all m.rel.0) (λ m is. is) c.members (any_from (λ m. all m.rel.0) c.members item.col (member_in c item.col of.class.member) inside) in
+        members_alike w q world bound all c of.class.class x y holds_x holds_y item.col first.0 of.class.member (in_member c first.0 (found_in (λ m. all m.rel.0) c.members first.0 first.1))
+        inside (found_passes (λ m. all m.rel.0) c.members first.0 first.1) c.descending c.nulls_first
+        ∙ ap (λ (o : Option ColRef). order_at c o (value_at w q x) (value_at w q y)) (sym first.1)
+
+    no_class_ties : (item : OrderItem) → IsIn item q.order → order_class q.classes item.col ≡ None → item_order w q item x y ≡ Equal
+    no_class_ties item i h = by (default_family_of (type_of item.col)) refl
+      where
+        by : (o : Option Family) → default_family_of (type_of item.col) ≡ o → item_order_in w q item o x y ≡ Equal
+        by None e = refl
+        by (Some f) e =
+            let m : Mention = in_family item.col f in
+            let named = stood_item item i in
+            let orders : ordered_by type_of named.0 ≡ Some m =
+            subst (λ (x : ColRef). option_map (in_family x) (default_family_of (type_of x)) ≡ Some m) named.2 (ap (option_map (in_family item.col)) e) in
+            let mentioned : IsIn m (mentions (given_with w.contents q bound.items)) =
+            in_right m (filter_map (λ k. option_map left_of (equality_in type_of k)) (given_with w.contents q bound.items).conjuncts) (filter_map (ordered_by type_of) bound.items)
+            (filter_map_in (ordered_by type_of) bound.items named.0 m named.1 orders) in
+            absurd (found_none (λ c. is_in c m) 0 q.classes.classes (sym (order_class_is item.col f e) ∙ h)
+            (all_at (λ n. IsTrue (list_any (λ c. is_in c n) q.classes.classes)) (mentions (given_with w.contents q bound.items)) bound.classes.classes.every m mentioned))
+
+    constant_ties : (item : OrderItem) → IsIn item q.order → (n : ℕ) → ItemClass item.col n → is_constant q.classes n ≡ true → item_order w q item x y ≡ Equal
+    constant_ties item i n of h =
+        item_by_class item n of
+        ∙ constants_tie w q world bound (all_of_query q) (class_at q.classes.classes n) of.class.class x y holds_x holds_y item.col h of.class.member (column_inside item i) item.descending item.nulls_first
+
+    class_ties : (item : OrderItem) → IsIn item q.order → (n : ℕ) → ItemClass item.col n → class_order (class_at q.classes.classes n) (all_of_query q) (value_at w q x) (value_at w q y) ≡ Equal → item_order w q item x y ≡ Equal
+    class_ties item i n of h =
+        let c = class_at q.classes.classes n in
+        item_by_class item n of
+        ∙ tie_in_all c.family c.descending c.nulls_first item.descending item.nulls_first (value_at w q x item.col) (value_at w q y item.col) (class_alike item i n of ∙ h)
+
+    -- the first item by a class without a constant has its direction
+    direction_is : (before : List OrderItem) (item : OrderItem) (after : List OrderItem) → q.order ≡ before ++ item ∷ after → (n : ℕ) → ItemClass item.col n → is_constant q.classes n ≡ false → AllByRecursion (λ j. order_class q.classes j.col ≡ Some n → ⊥) before
+        → ◌≡◌ {A = Bool × Bool} ((class_at q.classes.classes n).descending, (class_at q.classes.classes n).nulls_first) (item.descending, item.nulls_first)
+    direction_is before item after e n of free none =
+        let c : Class = class_at q.classes.classes n in
+        let directed = all_at (IsDirected w.contents q) q.classes.classes bound.directions c (in_from_contains q.classes.classes c of.class.class) in
+        let here : orders_by type_of c item ≡ true =
+        ap (λ (o : Option Family). is_some_and (is_in c) (option_map (in_family item.col) o)) of.default
+        ∙ and_from (is_family c.family of.in_default) (has_member c item.col) (ap (λ (g : Family). is_family g of.in_default) (sym of.class.family) ∙ family_self of.in_default) of.class.member in
+        sym (directed free item (ap (find (orders_by type_of c)) e ∙ first_passing (orders_by type_of c) before item after (passed before none) here))
+      where
+        passed : (js : List OrderItem) → AllByRecursion (λ j. order_class q.classes j.col ≡ Some n → ⊥) js → AllByRecursion (λ j. orders_by type_of (class_at q.classes.classes n) j ≡ false) js
+        passed [] h = tt
+        passed (j ∷ js) h = (
+          ⊎_elim
+              (λ (yes : orders_by type_of (class_at q.classes.classes n) j ≡ true). absurd (h.0 (class_is j n of.class.low yes)))
+              (λ (no : orders_by type_of (class_at q.classes.classes n) j ≡ false). no)
+              (cases_Bool (orders_by type_of (class_at q.classes.classes n) j)),
+          passed js h.1,
+        )
+
+    first_orders : (before : List OrderItem) (item : OrderItem) (after : List OrderItem) → q.order ≡ before ++ item ∷ after → (n : ℕ) → ItemClass item.col n → is_constant q.classes n ≡ false → AllByRecursion (λ j. order_class q.classes j.col ≡ Some n → ⊥) before
+        → item_order w q item x y ≡ class_order (class_at q.classes.classes n) (all_of_query q) (value_at w q x) (value_at w q y)
+    first_orders before item after e n of free none =
+        let same = direction_is before item after e n of free none in
+        item_by_class item n of
+        ∙ ap (λ (d : Bool × Bool). column_order (class_at q.classes.classes n).family d.0 d.1 (value_at w q x item.col) (value_at w q y item.col)) (sym same)
+        ∙ class_alike item (item_in before item after e) n of
+
+  -- each item stands to its class so
+  pub items_follow : ItemsFollow w q
+  items_follow x y holds_x holds_y before item after e =
+      let i = item_in before item after e in
+      record {
+        no_class = λ none. no_class_ties x y holds_x holds_y item i none;
+        constant = λ n is h. constant_ties x y holds_x holds_y item i n (class_by_default item.col n is) h;
+        tied = λ n is h. class_ties x y holds_x holds_y item i n (class_by_default item.col n is) h;
+        first = λ n is free none. first_orders x y holds_x holds_y before item after e n (class_by_default item.col n is) free none;
+      }

@@ -1,0 +1,105 @@
+//! Indexes by their names, and scans by them.
+
+ghost use Rattle.std.specs.Prelude.{◌≡◌, ◌↔◌, ◌++◌, ℕ, Bool, List, IfSome, IsTrue, Some, codes, option_map, true};
+ghost use Rattle.pg_base.specs.declared.numbers.IndexNo as numbers;
+ghost use Rattle.catalog.specs.Contents.{IsIndex, index_name_at};
+ghost use Rattle.certificate_entries.specs.explain_Texts.{backward_text};
+ghost use Rattle.certificate_text.specs.Words.{stops};
+ghost use Rattle.sql_query.specs.WellBound.{IsWellBound};
+ghost use Rattle.plan_lines.specs.HasText.{IsIndexOfQuery, IsTableOfQuery};
+ghost use Rattle.plan_lines.specs.Scans.{IsIndexScan, indexed_text};
+ghost use Rattle.plan_lines.specs.declared.indexes.IndexScan as scans;
+
+use crate::relations::behind;
+use crate::scanned::read_scanned;
+use catalog::Catalog;
+use certificate_text::LineCursor;
+use pg_base::{IndexNo, RelNo, RelSet, TableNo};
+use plan_tree::range_of;
+use sql_query::Prepared;
+
+/// Whether a table is that of some relation of the query.
+fn has_table(q: &Prepared, t: TableNo) -> bool
+    ensures { IsTrue result ↔ IsTableOfQuery q.now t }
+{
+    for (table, _) in range_of(q).items() {
+        if *table == t {
+            return true;
+        }
+    }
+    false
+}
+
+/// Whether an index is one of the table of some relation of the query.
+fn is_of_query(cat: &Catalog, q: &Prepared, i: IndexNo) -> bool
+    requires index { IsIndex cat.now i }
+    ensures { IsTrue result ↔ IsIndexOfQuery cat.now q.now i }
+{
+    has_table(q, cat.index(i).table)
+}
+
+/// The index of a table of the query by its name, with which a text begins, and what stands behind it. None where it begins
+/// with the name of none.
+fn read_index<'a>(text: &'a [u8], cat: &Catalog, q: &Prepared) -> Option<(IndexNo, &'a [u8])>
+    ensures has { IfSome result (λ r. IsIndexOfQuery cat.now q.now r.0) }
+    ensures only { (i : numbers.IndexNo) (rest : List ℕ) → IsIndexOfQuery cat.now q.now i → stops rest ≡ true → text.now ≡ index_name_at cat.now i ++ rest →
+        option_map {U = numbers.IndexNo × List ℕ} (λ r. (r.0, r.1.now)) result ≡ Some (i, rest) }
+{
+    cat.lawful();
+    let name = LineCursor::new(text).word();
+    let index = cat.index_named(name)?;
+    if !is_of_query(cat, q, index) {
+        return None;
+    }
+    let left = behind(text, name)?;
+    Some((index, left))
+}
+
+/// The index of a table of the query whose name a text is.
+pub fn read_index_name(text: &[u8], cat: &Catalog, q: &Prepared) -> Option<IndexNo>
+    ensures has { IfSome result (IsIndexOfQuery cat.now q.now) }
+    ensures only { (i : numbers.IndexNo) → IsIndexOfQuery cat.now q.now i → text.now ≡ index_name_at cat.now i → result ≡ Some i }
+{
+    let (index, _) = read_index(text, cat, q)?;
+    Some(index)
+}
+
+/// Whether a text says that a scan goes backward, and what stands behind that.
+fn read_direction(text: &[u8]) -> (bool, &[u8])
+    ensures { (b : Bool) (rest : List ℕ) → text.now ≡ backward_text b ++ (codes " using " ++ rest) → (result.0 ≡ b) × (result.1.now ≡ codes " using " ++ rest) }
+{
+    match behind(text, b" Backward") {
+        Some(left) => (true, left),
+        None => (false, text),
+    }
+}
+
+/// A scan by an index, behind the name of its kind.
+#[derive(Clone, Copy)]
+pub struct IndexScan {
+    /// The relation.
+    pub rel: RelNo,
+    /// The index.
+    pub index: IndexNo,
+    /// Whether it goes from the last entry to the first.
+    pub backward: bool,
+    /// The relations whose rows it is given.
+    pub param: RelSet,
+}
+
+/// A scan by an index, where a text is what stands behind the name of its kind. None where it is that of none.
+pub fn read_index_scan(text: &[u8], cat: &Catalog, q: &Prepared) -> Option<IndexScan>
+    requires bound { IsWellBound cat.now q.now }
+    ensures has { IfSome result (IsIndexScan cat.now q.now) }
+    ensures only { (s : scans.IndexScan) → IsIndexScan cat.now q.now s → text.now ≡ indexed_text cat.now q.now s → result ≡ Some s }
+{
+    let (backward, left) = read_direction(text);
+    let (index, left) = read_index(behind(left, b" using ")?, cat, q)?;
+    let (rel, param) = read_scanned(behind(left, b" on ")?, cat, q)?;
+    Some(IndexScan {
+        rel,
+        index,
+        backward,
+        param,
+    })
+}

@@ -1,0 +1,19 @@
+-- A node of a plan, found in a plan within it. Own.
+use Rattle.std.specs.Prelude.{◌≡◌, ◌<◌, ◌≤◌, ◌+◌, ℕ, get_or}
+use Rattle.catalog.specs.Contents.{Contents}
+use Rattle.sql_query.specs.Queries.{Query}
+use Rattle.plan_tree.specs.Plans.{Plan}
+use Rattle.plan_tree.specs.Costable.{IsCostable}
+use Rattle.plan_tree.specs.Costs.{HaveRows}
+use Rattle.plan_tree.specs.Least.{IsAdmissible}
+use Rattle.plan_space.specs.Numbered.{lines, lines_from, nodes, own_numbers}
+
+-- the node at a place of one plan, whose first line has a number, is that at a place of another; what the one needs to have
+-- costs, the other has too
+pub record IsPart (c : Contents) (q : Query) (p : Plan) (at place : ℕ) (x : Plan) (from n : ℕ) : Type 0 where
+  pub within : n < nodes x
+  pub few : from + lines x ≤ at + lines p
+  pub line : get_or (lines_from from x) n 0 ≡ get_or (lines_from at p) place 0
+  pub own : get_or (own_numbers c q x) n (0, 0) ≡ get_or (own_numbers c q p) place (0, 0)
+  pub costable : IsCostable c q p → IsCostable c q x
+  pub admissible : HaveRows c q → IsAdmissible c q p → IsAdmissible c q x

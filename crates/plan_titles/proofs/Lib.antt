@@ -1,4 +1,0 @@
-pub mod GivenLemmas
-pub mod IndexLemmas
-pub mod KeyLemmas
-pub mod ScannedLemmas

@@ -1,5 +1,0 @@
-use Rattle.plan_titles.proofs.KeyLemmas.{IsBefore}
-use Rattle.plan_titles.proofs.indexes.has_table.Given as goal
-
-abbrev pub invariant-loop-table : goal.invariant-loop-table
-invariant-loop-table l = IsBefore l.q l.t l.table-index

@@ -1,4 +1,0 @@
-pub mod FitsLemmas
-pub mod OverLemmas
-pub mod MeaningLemmas
-pub mod FewLemmas

@@ -1,5 +1,0 @@
-use Rattle.query_laws.proofs.OverLemmas.{clauses_over}
-use Rattle.query_laws.proofs.laws.clauses_are_over_the_relations.Goals as goal
-
-pub returns : goal.returns
-returns c = clauses_over

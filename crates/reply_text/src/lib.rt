@@ -1,0 +1,14 @@
+//! The lines of a printed result: rows as comma-separated values, and the number of rows.
+//! The line that a refused statement writes to the errors sink.
+#![tactic(auto)]
+
+mod count;
+mod line;
+mod lines;
+mod pieces;
+mod tells;
+mod texts;
+
+pub use count::count_line;
+pub use line::write_fault;
+pub use lines::Lines;

@@ -1,3 +1,0 @@
-pub mod DrawLemmas
-pub mod TextLemmas
-pub mod LengthLemmas

@@ -1,0 +1,14 @@
+use Rattle.std.proofs.Common.{◌∙◌, ap, arith, length}
+use Rattle.plan_check.specs.Views.{certificate}
+use Rattle.scan_cover.proofs.WalkLemmas.{below-next}
+use Rattle.scan_cover.specs.Trees.{AreRelationBitmapsServed}
+use Rattle.scan_cover.proofs.ServedLemmas.{all-bitmaps}
+use Rattle.scan_cover.proofs.bitmap_relations.open_bitmap_scan.Goals as goal
+
+pub loop-r-preserved : goal.loop-r-preserved
+loop-r-preserved c = below-next (λ r. AreRelationBitmapsServed c.args.j.now.cat.now c.args.j.now.q.now (certificate c.args.j.now.t.now) (record { 0 = r })) c.loop-r.r c.loop-r.invariant c.in_default.ensures
+
+pub returns : goal.returns
+returns c =
+    let same = ap length (c.items-r-end.ensures ∙ c.range_of.ensures) in
+    all-bitmaps c.args.j.now.cat.now c.args.j.now.q.now (certificate c.args.j.now.t.now) c.loop-r.r (omega (arith, same, c.loop-r-test.false)) c.loop-r.invariant

@@ -1,0 +1,7 @@
+use Rattle.std.proofs.Common.{◌<◌, ℕ}
+use Rattle.plan_check.specs.Views.{certificate}
+use Rattle.scan_cover.specs.Trees.{AreRelationBitmapsServed}
+use Rattle.scan_cover.proofs.bitmap_relations.open_bitmap_scan.Given as goal
+
+abbrev pub invariant-loop-r : goal.invariant-loop-r
+invariant-loop-r l = (r : ℕ) → r < l.r → AreRelationBitmapsServed l.j.cat.now l.j.q.now (certificate l.j.t.now) (record { 0 = r })

@@ -1,5 +1,0 @@
-use Rattle.sql_cursor.proofs.Tokens.{words-inside, words-digits}
-use Rattle.sql_cursor.proofs.cursor.Cursor.new.Goals as goal
-
-pub invariant_of-result : goal.invariant_of-result
-invariant_of-result c = rw c.items.ensures (c.requires.first, words-inside c.args.text.now c.requires.words.0 c.args.tokens.now c.requires.words.1, words-digits c.args.text.now c.requires.words.0 c.args.tokens.now c.requires.words.1)

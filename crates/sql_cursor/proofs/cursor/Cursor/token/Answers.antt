@@ -1,6 +1,0 @@
-use Rattle.sql_cursor.proofs.Next.{token-next}
-use Rattle.sql_cursor.proofs.cursor.Cursor.token.Goals as goal
-
-pub returns : goal.returns
-returns c = λ word left is.
-    token-next c.self.inside.text.now c.self.inside.tokens.now c.self.inside.at _ c.args.self.now left word c.self.view_is is

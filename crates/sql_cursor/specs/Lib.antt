@@ -1,4 +1,0 @@
-pub mod Reading
-pub mod Operators
-pub mod Lists
-pub mod Sorts

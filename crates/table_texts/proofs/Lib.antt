@@ -1,4 +1,0 @@
-pub mod RowsLemmas
-pub mod KeysLemmas
-pub mod NodeLemmas
-pub mod EntryLemmas

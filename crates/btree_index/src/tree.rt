@@ -20,7 +20,6 @@ use std::sync::ledger::Ledger;
 
 /// Entries in the order of their keys, equal ones in that of their rows, which cursors alone give, with a counter of
 /// the index's ledger. Contracts see a `Tree`.
-#[derive(Drop)]
 pub struct BTree<L: Ledger> {
     keys: Vec<IndexKey>,
     include: Vec<ColNo>,
@@ -28,6 +27,12 @@ pub struct BTree<L: Ledger> {
     /// A number above those of all rows.
     above: u64,
     ledger: PhantomData<L>,
+}
+
+impl<L: Ledger> Drop for BTree<L> {
+    fn drop(self) {
+        let BTree { keys: _, include: _, pages: _, above: _, ledger: _ } = self;
+    }
 }
 
 impl<L: Ledger> Model for BTree<L> {

@@ -7,12 +7,17 @@ use pg_value::Bytes;
 use std::marker::Model;
 
 /// An index that may be made, by its definition, under a name. Contracts see a `NamedIndex`.
-#[derive(Drop)]
 pub struct Candidate {
     /// Its name.
     pub name: Bytes,
     /// Its definition.
     pub def: IndexDef,
+}
+
+impl Drop for Candidate {
+    fn drop(self) {
+        let Candidate { name: _, def: _ } = self;
+    }
 }
 
 impl Model for Candidate {

@@ -20,11 +20,16 @@ use std::marker::Model;
 
 /// The accepted definitions, and the last accepted statistics. Contracts see `Contents`: tables and indexes, each in
 /// order of making. Contents are lawful.
-#[derive(Drop)]
 pub struct Catalog {
     pub(crate) alloc: Global,
     pub(crate) tables: IndexMap<Vec<u8>, Table>,
     pub(crate) indexes: IndexMap<Vec<u8>, IndexDef>,
+}
+
+impl Drop for Catalog {
+    fn drop(self) {
+        let Catalog { alloc: _, tables: _, indexes: _ } = self;
+    }
 }
 
 impl Model for Catalog {

@@ -10,7 +10,6 @@ use pg_base::{ColNo, TableNo};
 use pg_expr::Expr;
 
 /// The definition of an index.
-#[derive(Drop)]
 pub struct IndexDef {
     /// Its table.
     pub table: TableNo,
@@ -22,6 +21,12 @@ pub struct IndexDef {
     pub include: Vec<ColNo>,
     /// The condition of the rows that it has, of all rows where there is none. Its columns are those of relation 0.
     pub predicate: Option<Expr>,
+}
+
+impl Drop for IndexDef {
+    fn drop(self) {
+        let IndexDef { table: _, method: _, keys: _, include: _, predicate: _ } = self;
+    }
 }
 
 /// The place, from 0, of the first of the key columns and then of those of INCLUDE that stands before already. None

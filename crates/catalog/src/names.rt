@@ -12,9 +12,14 @@ use std::alloc::Global;
 use std::marker::Model;
 
 /// Different names in order. Contracts see the list.
-#[derive(Drop)]
 pub struct Names {
     set: IndexSet<Vec<u8>>,
+}
+
+impl Drop for Names {
+    fn drop(self) {
+        let Names { set: _ } = self;
+    }
 }
 
 impl Model for Names {

@@ -8,9 +8,15 @@ use std::marker::Model;
 
 /// The relations of a query in FROM order: the table and the alias of each, which is the table's name where none is
 /// given. Contracts see the list.
-#[derive(Debug, Drop)]
+#[derive(Debug)]
 pub struct RangeTable {
     relations: Vec<(TableNo, Bytes)>,
+}
+
+impl Drop for RangeTable {
+    fn drop(self) {
+        let RangeTable { relations: _ } = self;
+    }
 }
 
 impl Model for RangeTable {

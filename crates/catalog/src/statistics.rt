@@ -11,7 +11,7 @@ use opfamily::pg_value::{Op, Truth, Value, apply};
 use std::marker::Model;
 
 /// What is known of a column. Shares are in parts per million of the table's rows.
-#[derive(Debug, Drop)]
+#[derive(Debug)]
 pub struct ColumnStats {
     /// How many different values it has, NULL not counted.
     pub distinct: u64,
@@ -24,10 +24,22 @@ pub struct ColumnStats {
     pub histogram: Vec<Value>,
 }
 
+impl Drop for ColumnStats {
+    fn drop(self) {
+        let ColumnStats { distinct: _, nulls: _, common: _, histogram: _ } = self;
+    }
+}
+
 /// What is known of some columns, from the left. Contracts see the list.
-#[derive(Debug, Drop)]
+#[derive(Debug)]
 pub struct ColumnList {
     columns: Vec<ColumnStats>,
+}
+
+impl Drop for ColumnList {
+    fn drop(self) {
+        let ColumnList { columns: _ } = self;
+    }
 }
 
 impl Model for ColumnList {
@@ -52,7 +64,8 @@ impl ColumnList {
     pub(crate) fn into_vec(self) -> Vec<ColumnStats>
         ensures { map statistics result.items ≡ self }
     {
-        self.columns
+        let ColumnList { columns } = self;
+        columns
     }
 
     /// What is known of each, lent.

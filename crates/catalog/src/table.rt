@@ -24,7 +24,6 @@ pub struct Sizes {
 }
 
 /// What is kept of a table: its columns, and the numbers of its indexes in order of making.
-#[derive(Drop)]
 pub(crate) struct Table {
     pub(crate) names: Names,
     pub(crate) columns: Columns,
@@ -32,6 +31,12 @@ pub(crate) struct Table {
     pub(crate) sizes: Option<Sizes>,
     pub(crate) stats: Vec<Option<ColumnStats>>,
     pub(crate) indexes: ArrayVec<IndexNo, MOST_INDEXES>,
+}
+
+impl Drop for Table {
+    fn drop(self) {
+        let Table { names: _, columns: _, loaded: _, sizes: _, stats: _, indexes: _ } = self;
+    }
 }
 
 impl Table {

@@ -26,7 +26,6 @@ use std::alloc::Global;
 use std::marker::Model;
 
 /// A class of columns and constants that equality joins.
-#[derive(Drop)]
 pub struct EqClass {
     family: Family,
     members: Vec<ColRef>,
@@ -34,6 +33,12 @@ pub struct EqClass {
     descending: bool,
     nulls_first: bool,
     rels: RelSet,
+}
+
+impl Drop for EqClass {
+    fn drop(self) {
+        let EqClass { family: _, members: _, constants: _, descending: _, nulls_first: _, rels: _ } = self;
+    }
 }
 
 impl Model for EqClass {

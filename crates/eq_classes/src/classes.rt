@@ -22,11 +22,16 @@ use std::marker::Model;
 pub struct ClassNo(pub u16);
 
 /// The classes of a query with its numbered clause list. Contracts see the table of both.
-#[derive(Drop)]
 pub struct Classes {
     clauses: Vec<Listed>,
     named: Vec<RelSet>,
     classes: Vec<EqClass>,
+}
+
+impl Drop for Classes {
+    fn drop(self) {
+        let Classes { clauses: _, named: _, classes: _ } = self;
+    }
 }
 
 impl Model for Classes {

@@ -27,12 +27,17 @@ pub enum Origin {
 }
 
 /// A clause with what it comes from.
-#[derive(Drop)]
 pub struct Listed {
     /// The condition.
     pub expr: Expr,
     /// What it comes from.
     pub origin: Origin,
+}
+
+impl Drop for Listed {
+    fn drop(self) {
+        let Listed { expr: _, origin: _ } = self;
+    }
 }
 
 /// The class of a number.

@@ -16,12 +16,17 @@ use std::alloc::Global;
 use std::marker::Model;
 
 /// The groups of the tuples so far, and what each call gives of them. Tuples are not kept. Contracts see a `Grouping`.
-#[derive(Drop)]
 pub struct Groups {
     alloc: Global,
     shape: Shape,
     sort_after: bool,
     listing: Listing,
+}
+
+impl Drop for Groups {
+    fn drop(self) {
+        let Groups { alloc: _, shape: _, sort_after: _, listing: _ } = self;
+    }
 }
 
 impl Model for Groups {

@@ -15,10 +15,15 @@ use std::marker::Model;
 use std::mem;
 
 /// The values of the GROUP BY columns of a group, and what each call gives so far. Contracts see a `Summary`.
-#[derive(Drop)]
 pub struct Kept {
     keys: Values,
     called: Vec<Value>,
+}
+
+impl Drop for Kept {
+    fn drop(self) {
+        let Kept { keys: _, called: _ } = self;
+    }
 }
 
 impl Model for Kept {

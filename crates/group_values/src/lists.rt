@@ -6,9 +6,14 @@ use pg_value::Value;
 use std::marker::Model;
 
 /// A list of values. Contracts see the list.
-#[derive(Drop)]
 pub struct Values {
     pub(crate) values: Vec<Value>,
+}
+
+impl Drop for Values {
+    fn drop(self) {
+        let Values { values: _ } = self;
+    }
 }
 
 impl Model for Values {
@@ -37,9 +42,14 @@ impl Values {
 }
 
 /// A list of lines, each a list of values. Contracts see the list.
-#[derive(Drop)]
 pub struct Lines {
     lines: Vec<Values>,
+}
+
+impl Drop for Lines {
+    fn drop(self) {
+        let Lines { lines: _ } = self;
+    }
 }
 
 impl Model for Lines {

@@ -20,11 +20,16 @@ use std::alloc::{AllocError, Global};
 use std::marker::Model;
 
 /// The rows of each value of one key. Contracts see a `Table`.
-#[derive(Drop)]
 pub struct HashIndex {
     alloc: Global,
     key: IndexKey,
     chains: Chains,
+}
+
+impl Drop for HashIndex {
+    fn drop(self) {
+        let HashIndex { alloc: _, key: _, chains: _ } = self;
+    }
 }
 
 impl Model for HashIndex {

@@ -11,9 +11,14 @@ use std::alloc::{AllocError, Global};
 use std::marker::Model;
 
 /// A heap for each table, in order of making. Contracts see the list of what they store.
-#[derive(Drop)]
 pub struct Heaps<C: Counters> {
     heaps: Vec<Heap<C>>,
+}
+
+impl<C: Counters> Drop for Heaps<C> {
+    fn drop(self) {
+        let Heaps { heaps: _ } = self;
+    }
 }
 
 impl<C: Counters> Model for Heaps<C> {

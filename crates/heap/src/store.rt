@@ -27,13 +27,18 @@ pub fn value_in<'a>(row: Row<'a>, c: ColNo) -> &'a Value
 
 /// The rows of a table, read by `fetch` and `look` alone, each with its counter. Their values stand one after another in
 /// one list. Contracts see a `Stored`.
-#[derive(Drop)]
 pub struct Heap<C: Counters> {
     alloc: Global,
     columns: Columns,
     count: u32,
     values: Vec<Value>,
     counters: PhantomData<C>,
+}
+
+impl<C: Counters> Drop for Heap<C> {
+    fn drop(self) {
+        let Heap { alloc: _, columns: _, count: _, values: _, counters: _ } = self;
+    }
 }
 
 impl<C: Counters> Model for Heap<C> {

@@ -9,10 +9,15 @@ use std::alloc::Global;
 use std::marker::Model;
 
 /// A set of row numbers below a bound, with a bit for each. Contracts see its members in order.
-#[derive(Drop)]
 pub struct Tids {
     len: u32,
     words: Vec<u64>,
+}
+
+impl Drop for Tids {
+    fn drop(self) {
+        let Tids { len: _, words: _ } = self;
+    }
 }
 
 impl Model for Tids {

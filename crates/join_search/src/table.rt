@@ -22,11 +22,16 @@ pub(crate) struct Placed {
 }
 
 /// A front for each set of relations and parameterisation at which one was put. Contracts see what was last put there.
-#[derive(Drop)]
 pub struct Table {
     /// The fronts of each set, by its number.
     sets: Vec<Vec<Placed>>,
     alloc: Global,
+}
+
+impl Drop for Table {
+    fn drop(self) {
+        let Table { sets: _, alloc: _ } = self;
+    }
 }
 
 /// Whether a front stands at the parameterisation.

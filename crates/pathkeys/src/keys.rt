@@ -12,9 +12,14 @@ use std::marker::Model;
 
 /// A list of classes by their numbers, none of them twice; rows are sorted by the first one, where it ties by the next,
 /// and so on. Contracts see the numbers.
-#[derive(Drop)]
 pub struct Keys {
     items: SmallVec<ClassNo, 4>,
+}
+
+impl Drop for Keys {
+    fn drop(self) {
+        let Keys { items: _ } = self;
+    }
 }
 
 impl Model for Keys {

@@ -20,9 +20,15 @@ pub struct Column {
 }
 
 /// A list of 1 to `MOST_COLUMNS` columns. Contracts see the list.
-#[derive(Debug, Drop)]
+#[derive(Debug)]
 pub struct Columns {
     columns: Vec<Column>,
+}
+
+impl Drop for Columns {
+    fn drop(self) {
+        let Columns { columns: _ } = self;
+    }
 }
 
 impl Model for Columns {

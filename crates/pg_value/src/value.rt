@@ -18,7 +18,7 @@ pub enum SqlType {
 }
 
 /// A value of a column or a literal.
-#[derive(Debug, Drop)]
+#[derive(Debug)]
 pub enum Value {
     /// No value.
     Null,
@@ -28,4 +28,15 @@ pub enum Value {
     Bool(bool),
     /// A text.
     Text(Bytes),
+}
+
+impl Drop for Value {
+    fn drop(self) {
+        match self {
+            Value::Null => {},
+            Value::Int(_) => {},
+            Value::Bool(_) => {},
+            Value::Text(_) => {},
+        }
+    }
 }

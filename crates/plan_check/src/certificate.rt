@@ -7,9 +7,14 @@ use crate::entry::{Entry, Side};
 use std::marker::Model;
 
 /// A list of at most 2^32 - 1 entries, which are numbered from 1. Contracts see the list.
-#[derive(Drop)]
 pub struct Entries {
     listed: Vec<Entry>,
+}
+
+impl Drop for Entries {
+    fn drop(self) {
+        let Entries { listed: _ } = self;
+    }
 }
 
 impl Model for Entries {
@@ -48,10 +53,15 @@ impl Entries {
 
 /// Entries, numbered from 1, and which of them is the best plan of a query, as it stands or sorted into the order asked
 /// for.
-#[derive(Drop)]
 pub struct Certificate {
     /// The entries in order.
     pub entries: Entries,
     /// The best plan.
     pub best: Side,
+}
+
+impl Drop for Certificate {
+    fn drop(self) {
+        let Certificate { entries: _, best: _ } = self;
+    }
 }

@@ -54,9 +54,14 @@ impl Default for Element {
 }
 
 /// At most 8 elements in their order. Contracts see the list.
-#[derive(Drop)]
 pub struct Elements {
     kept: ArrayVec<Element, MOST_ELEMENTS>,
+}
+
+impl Drop for Elements {
+    fn drop(self) {
+        let Elements { kept: _ } = self;
+    }
 }
 
 impl Model for Elements {

@@ -39,12 +39,17 @@ use sql_query::Prepared;
 use std::alloc::Global;
 
 /// What a query is answered by, and why no other plan undercuts it.
-#[derive(Drop)]
 pub struct Tabled {
     /// A path of a finished plan: one of all relations, in the order asked for.
     pub best: Path,
     /// The kept paths as entries of a table, of which the best one stands for the same plan.
     pub table: Certificate,
+}
+
+impl Drop for Tabled {
+    fn drop(self) {
+        let Tabled { best: _, table: _ } = self;
+    }
 }
 
 /// The fronts of a search for the plans of a query.

@@ -19,10 +19,15 @@ const MOST: usize = 65536;
 
 /// The lines of rows, one after another. One writer of csv writes them to a list of bytes, which it keeps until it has written
 /// some 64 KiB.
-#[derive(Drop)]
 pub struct Lines {
     alloc: Global,
     writer: Writer<Vec<u8>>,
+}
+
+impl Drop for Lines {
+    fn drop(self) {
+        let Lines { alloc: _, writer: _ } = self;
+    }
 }
 
 impl Model for Lines {

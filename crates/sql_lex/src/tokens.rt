@@ -32,9 +32,15 @@ pub struct Token {
 }
 
 /// A list of tokens, numbered from 0. Contracts see the list.
-#[derive(Debug, Drop)]
+#[derive(Debug)]
 pub struct Tokens {
     tokens: Vec<Token>,
+}
+
+impl Drop for Tokens {
+    fn drop(self) {
+        let Tokens { tokens: _ } = self;
+    }
 }
 
 impl Model for Tokens {

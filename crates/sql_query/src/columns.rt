@@ -6,9 +6,15 @@ use pg_expr::ColRef;
 use std::marker::Model;
 
 /// A list of columns. Contracts see the list.
-#[derive(Debug, Drop)]
+#[derive(Debug)]
 pub struct ColList {
     columns: Vec<ColRef>,
+}
+
+impl Drop for ColList {
+    fn drop(self) {
+        let ColList { columns: _ } = self;
+    }
 }
 
 impl Model for ColList {

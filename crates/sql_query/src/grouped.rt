@@ -24,9 +24,15 @@ pub enum Item {
 }
 
 /// The items that a grouped SELECT shows, from the left. Contracts see the list.
-#[derive(Debug, Drop)]
+#[derive(Debug)]
 pub struct ItemList {
     items: Vec<Item>,
+}
+
+impl Drop for ItemList {
+    fn drop(self) {
+        let ItemList { items: _ } = self;
+    }
 }
 
 impl Model for ItemList {
@@ -56,7 +62,6 @@ impl ItemList {
 
 /// A grouped SELECT over a catalogue: one with GROUP BY, or one that shows a call alone (PostgreSQL manual, chapter Queries, GROUP
 /// BY). Contracts see a `GroupedQuery`.
-#[derive(Drop)]
 pub struct Grouped {
     /// The query whose tuples are grouped. Its classes are made of the items of ORDER BY and then of the GROUP BY columns,
     /// ascending with NULLs last, and it shows no column and has no window.
@@ -67,6 +72,12 @@ pub struct Grouped {
     pub items: ItemList,
     /// The items of ORDER BY from the left, each by a GROUP BY column.
     pub order: OrderList,
+}
+
+impl Drop for Grouped {
+    fn drop(self) {
+        let Grouped { base: _, keys: _, items: _, order: _ } = self;
+    }
 }
 
 impl Model for Grouped {

@@ -6,9 +6,15 @@ use eq_classes::OrderItem;
 use std::marker::Model;
 
 /// The items of an ORDER BY, from the left. Contracts see the list.
-#[derive(Debug, Drop)]
+#[derive(Debug)]
 pub struct OrderList {
     order: Vec<OrderItem>,
+}
+
+impl Drop for OrderList {
+    fn drop(self) {
+        let OrderList { order: _ } = self;
+    }
 }
 
 impl Model for OrderList {

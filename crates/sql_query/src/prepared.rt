@@ -14,7 +14,6 @@ use std::marker::Model;
 /// pushed form and of a list of order items over columns of `used`, in which each column of `order` stands. An item of `order`
 /// whose class has no constant and belongs to no earlier item of `order` has its class's direction. For a query that is read
 /// this list is `order` itself; of a grouped one the GROUP BY columns stand behind it. Contracts see a `Query`.
-#[derive(Drop)]
 pub struct Prepared {
     /// The relations, in FROM order.
     pub range: RangeTable,
@@ -30,6 +29,12 @@ pub struct Prepared {
     pub where_all: Exprs,
     /// The window, where LIMIT or OFFSET is written.
     pub window: Option<Window>,
+}
+
+impl Drop for Prepared {
+    fn drop(self) {
+        let Prepared { range: _, classes: _, select: _, order: _, used: _, where_all: _, window: _ } = self;
+    }
 }
 
 impl Model for Prepared {

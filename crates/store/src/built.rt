@@ -17,12 +17,20 @@ use pg_base::{Memory, Steps};
 use std::alloc::Global;
 
 /// An index as it is built, by its access method. Contracts see a `Built`.
-#[derive(Drop)]
 pub enum BuiltIndex<C: Counters> {
     /// `btree`: the entries in the order of their keys, equal ones by row.
     Sorted(BTree<C::Looks>),
     /// `hash`: the rows by the value of the one key.
     Hashed(HashIndex),
+}
+
+impl<C: Counters> Drop for BuiltIndex<C> {
+    fn drop(self) {
+        match self {
+            BuiltIndex::Sorted(_) => {},
+            BuiltIndex::Hashed(_) => {},
+        }
+    }
 }
 
 impl<C: Counters> BuiltIndex<C> {

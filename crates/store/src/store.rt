@@ -17,11 +17,16 @@ use std::marker::Model;
 
 /// The rows of each table, and each index built over those of its table, in order of making. Contracts see a `Kept`, and
 /// say by `IsStoreOf` of which catalogue it is. Rows are looked at only while indexes are built and kept.
-#[derive(Drop)]
 pub struct Store<C: Counters> {
     alloc: Global,
     heaps: Heaps<C>,
     indexes: Vec<BuiltIndex<C>>,
+}
+
+impl<C: Counters> Drop for Store<C> {
+    fn drop(self) {
+        let Store { alloc: _, heaps: _, indexes: _ } = self;
+    }
 }
 
 impl<C: Counters> Model for Store<C> {

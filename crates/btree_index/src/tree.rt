@@ -31,7 +31,13 @@ pub struct BTree<L: Ledger> {
 
 impl<L: Ledger> Drop for BTree<L> {
     fn drop(self) {
-        let BTree { keys: _, include: _, pages: _, above: _, ledger: _ } = self;
+        let BTree {
+            keys: _,
+            include: _,
+            pages: _,
+            above: _,
+            ledger: _,
+        } = self;
     }
 }
 

@@ -28,7 +28,11 @@ pub struct Catalog {
 
 impl Drop for Catalog {
     fn drop(self) {
-        let Catalog { alloc: _, tables: _, indexes: _ } = self;
+        let Catalog {
+            alloc: _,
+            tables: _,
+            indexes: _,
+        } = self;
     }
 }
 

@@ -25,7 +25,13 @@ pub struct IndexDef {
 
 impl Drop for IndexDef {
     fn drop(self) {
-        let IndexDef { table: _, method: _, keys: _, include: _, predicate: _ } = self;
+        let IndexDef {
+            table: _,
+            method: _,
+            keys: _,
+            include: _,
+            predicate: _,
+        } = self;
     }
 }
 

@@ -26,7 +26,12 @@ pub struct ColumnStats {
 
 impl Drop for ColumnStats {
     fn drop(self) {
-        let ColumnStats { distinct: _, nulls: _, common: _, histogram: _ } = self;
+        let ColumnStats {
+            distinct: _,
+            nulls: _,
+            common: _,
+            histogram: _,
+        } = self;
     }
 }
 

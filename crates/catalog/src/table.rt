@@ -35,7 +35,14 @@ pub(crate) struct Table {
 
 impl Drop for Table {
     fn drop(self) {
-        let Table { names: _, columns: _, loaded: _, sizes: _, stats: _, indexes: _ } = self;
+        let Table {
+            names: _,
+            columns: _,
+            loaded: _,
+            sizes: _,
+            stats: _,
+            indexes: _,
+        } = self;
     }
 }
 

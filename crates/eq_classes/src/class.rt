@@ -37,7 +37,14 @@ pub struct EqClass {
 
 impl Drop for EqClass {
     fn drop(self) {
-        let EqClass { family: _, members: _, constants: _, descending: _, nulls_first: _, rels: _ } = self;
+        let EqClass {
+            family: _,
+            members: _,
+            constants: _,
+            descending: _,
+            nulls_first: _,
+            rels: _,
+        } = self;
     }
 }
 

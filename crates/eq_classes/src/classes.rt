@@ -30,7 +30,11 @@ pub struct Classes {
 
 impl Drop for Classes {
     fn drop(self) {
-        let Classes { clauses: _, named: _, classes: _ } = self;
+        let Classes {
+            clauses: _,
+            named: _,
+            classes: _,
+        } = self;
     }
 }
 

@@ -25,7 +25,12 @@ pub struct Groups {
 
 impl Drop for Groups {
     fn drop(self) {
-        let Groups { alloc: _, shape: _, sort_after: _, listing: _ } = self;
+        let Groups {
+            alloc: _,
+            shape: _,
+            sort_after: _,
+            listing: _,
+        } = self;
     }
 }
 

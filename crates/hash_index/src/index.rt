@@ -28,7 +28,11 @@ pub struct HashIndex {
 
 impl Drop for HashIndex {
     fn drop(self) {
-        let HashIndex { alloc: _, key: _, chains: _ } = self;
+        let HashIndex {
+            alloc: _,
+            key: _,
+            chains: _,
+        } = self;
     }
 }
 

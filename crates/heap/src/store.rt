@@ -37,7 +37,13 @@ pub struct Heap<C: Counters> {
 
 impl<C: Counters> Drop for Heap<C> {
     fn drop(self) {
-        let Heap { alloc: _, columns: _, count: _, values: _, counters: _ } = self;
+        let Heap {
+            alloc: _,
+            columns: _,
+            count: _,
+            values: _,
+            counters: _,
+        } = self;
     }
 }
 

@@ -62,6 +62,9 @@ pub struct Certificate {
 
 impl Drop for Certificate {
     fn drop(self) {
-        let Certificate { entries: _, best: _ } = self;
+        let Certificate {
+            entries: _,
+            best: _,
+        } = self;
     }
 }

@@ -26,7 +26,10 @@ pub struct Lines {
 
 impl Drop for Lines {
     fn drop(self) {
-        let Lines { alloc: _, writer: _ } = self;
+        let Lines {
+            alloc: _,
+            writer: _,
+        } = self;
     }
 }
 

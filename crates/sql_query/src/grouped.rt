@@ -76,7 +76,12 @@ pub struct Grouped {
 
 impl Drop for Grouped {
     fn drop(self) {
-        let Grouped { base: _, keys: _, items: _, order: _ } = self;
+        let Grouped {
+            base: _,
+            keys: _,
+            items: _,
+            order: _,
+        } = self;
     }
 }
 

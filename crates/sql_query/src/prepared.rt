@@ -33,7 +33,15 @@ pub struct Prepared {
 
 impl Drop for Prepared {
     fn drop(self) {
-        let Prepared { range: _, classes: _, select: _, order: _, used: _, where_all: _, window: _ } = self;
+        let Prepared {
+            range: _,
+            classes: _,
+            select: _,
+            order: _,
+            used: _,
+            where_all: _,
+            window: _,
+        } = self;
     }
 }
 

@@ -25,7 +25,11 @@ pub struct Store<C: Counters> {
 
 impl<C: Counters> Drop for Store<C> {
     fn drop(self) {
-        let Store { alloc: _, heaps: _, indexes: _ } = self;
+        let Store {
+            alloc: _,
+            heaps: _,
+            indexes: _,
+        } = self;
     }
 }
 

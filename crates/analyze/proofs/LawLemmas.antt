@@ -30,10 +30,12 @@ use Rattle.catalog.specs.Analysed.{FitColumns, IsAllowedTable}
 use Rattle.catalog.specs.Statistics.{AreAllowed, AreValuesOf, Common, IsLawfulStatistics, IsValueOf, Statistics, is_below, is_count, is_equal, shares}
 use Rattle.catalog.proofs.StatisticsLemmas.{lawful-allowed}
 use Rattle.analyze.specs.Analysis.{Counted, ascending, bound_count, bound_in, bounds, commoner, commonest, counted, different, found, is_among, is_null, occurrences, others, rising, share, statistics_in, statistics_of, table_statistics, values_of}
-use Rattle.analyze.proofs.ListLemmas.{each-filter, each-weaker}
+use Rattle.analyze.proofs.ListLemmas.{each-weaker}
+use Rattle.pg_base.proofs.ListLemmas.{all-filter as each-filter}
 use Rattle.analyze.proofs.OrderLemmas.{ascending_total, not-after}
 use Rattle.analyze.proofs.GroupLemmas.{each-different}
-use Rattle.analyze.proofs.PairLemmas.{Pairs, each-in_order, each-map, pairs-all, pairs-map}
+use Rattle.analyze.proofs.PairLemmas.{Pairs, each-in_order, pairs-all, pairs-map}
+use Rattle.pg_base.proofs.ListLemmas.{each-map}
 use Rattle.analyze.proofs.CommonLemmas.{AreApart, commonest-pairs, counts, each-commonest, few-commonest, few-counts, few-different, share-most, share-some, shared, shares-most}
 use Rattle.analyze.proofs.FoundLemmas.{null-count, rising-few, rising-up}
 use Rattle.analyze.proofs.KindLemmas.{below-is, equal-is}

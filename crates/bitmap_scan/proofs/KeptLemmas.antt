@@ -29,7 +29,7 @@ use Rattle.bitmap_scan.specs.Chosen.{combined, marked, IsLeastTree}
 use Rattle.bitmap_scan.specs.ElementTrees.{IsKept, named_in, tree_in}
 use Rattle.bitmap_scan.specs.declared.element_tree.ElementTree.{ElementTree}
 use Rattle.bitmap_scan.proofs.ArmLemmas.{zip-push}
-use Rattle.bitmap_scan.proofs.LeastLemmas.{sum-cons}
+use Rattle.pg_base.proofs.ListLemmas.{sum-cons}
 
 pub capped-both : (a b m n : ℕ) → a ≡ capped b → capped m ≡ capped n → capped (a + m) ≡ capped (b + n)
 capped-both a b m n e f = omega (arith, e, f)

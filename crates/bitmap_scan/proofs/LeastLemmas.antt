@@ -17,10 +17,9 @@ use Rattle.plan_tree.specs.Bitmaps.{Element, by_index, by_clause, HasArms, HaveA
 use Rattle.plan_tree.specs.Costs.{part_of, parts_of_all, together}
 use Rattle.plan_tree.specs.Views.{trees_of}
 use Rattle.bitmap_scan.specs.Chosen.{combined, IsLeastTree}
-use Rattle.bitmap_scan.proofs.MarkedLemmas.{choice-of-one, chosen-is-there, where-zip, zip-length}
-
-pub sum-cons : (n : ℕ) (ns : List ℕ) → sum (n ∷ ns) ≡ n + sum ns
-sum-cons n ns = sum_by-cons (λ (m : ℕ). m) n ns
+use Rattle.bitmap_scan.proofs.MarkedLemmas.{choice-of-one, chosen-is-there, where-zip}
+use Rattle.pg_base.proofs.ListLemmas.{zip-length}
+use Rattle.pg_base.proofs.ListLemmas.{sum-cons}
 
 -- cut numbers add up in order
 pub capped-sum : (a b c d : ℕ) → capped a ≤ capped c → capped b ≤ capped d → capped (a + b) ≤ capped (c + d)

@@ -69,12 +69,6 @@ where-zip R (b ∷ m) (x ∷ xs) [] z = absurd z
 where-zip R (true ∷ m) (x ∷ xs) (y ∷ ys) z = (z.0, where-zip R m xs ys z.1)
 where-zip R (false ∷ m) (x ∷ xs) (y ∷ ys) z = where-zip R m xs ys z.1
 
-pub zip-length : {A B : Type 0} (R : A → B → Type 0) (xs : List A) (ys : List B) → AllZip R xs ys → length xs ≡ length ys
-zip-length R [] [] z = refl
-zip-length R [] (y ∷ ys) z = absurd z
-zip-length R (x ∷ xs) [] z = absurd z
-zip-length R (x ∷ xs) (y ∷ ys) z = ap suc (zip-length R xs ys z.1)
-
 -- a member alone is chosen by some mask, and what is chosen is a member
 choice-at : {A : Type 0} (e : A) (xs : List A) (k : ℕ) → k < length xs → get_or xs k e ≡ e → (m : List Bool) × (items_where_true m xs ≡ e ∷ [])
 choice-at e [] k lt is = absurd (omega arith)

@@ -16,7 +16,8 @@ use Rattle.catalog.specs.Statistics.{IsLawfulStatistics, Statistics}
 use Rattle.catalog.specs.Tables.{HasIndexName, HasTableName, IsFree, IsFreeIndex}
 use Rattle.catalog.specs.declared.statistics.ColumnStats.{ColumnStats}
 use Rattle.catalog.proofs.EntryLemmas.{name-among}
-use Rattle.catalog.proofs.ReplacementLemmas.{as_many}
+use Rattle.pg_base.proofs.ListLemmas.{zip-length as as_many}
+use Rattle.pg_base.proofs.ListLemmas.{zip-at}
 
 module _ (c : Contents) (name : List ℕ) where
   -- a name that a table has is among the names
@@ -64,12 +65,6 @@ none-known (c ∷ columns) = (tt, none-known columns)
 -- a table as it is made is lawful
 pub new-lawful : (name : List ℕ) (names : List (List ℕ)) (columns : List Column) → IsName name → All IsName names → AreDistinct names → length names ≡ length columns → 0 < length columns → length columns ≤ MOST_COLUMNS → IsLawfulTable (new_table name names columns)
 new-lawful name names columns word words distinct width some few = record { name = word; names = words; distinct = distinct; width = width; some = some; few = few; sizes = tt; stats = none-known columns }
-
-zip-at : {A B : Type 0} (R : A → B → Type 0) (xs : List A) (ys : List B) (i : ℕ) (d : A) (e : B) → AllZip R xs ys → i < length xs → R (get_or xs i d) (get_or ys i e)
-zip-at R [] ys i d e h lt = absurd (omega (arith, lt))
-zip-at R (x ∷ xs) [] i d e h lt = absurd h
-zip-at R (x ∷ xs) (y ∷ ys) zero d e h lt = h.0
-zip-at R (x ∷ xs) (y ∷ ys) (suc i) d e h lt = zip-at R xs ys i d e h.1 (omega (arith, lt))
 
 -- what lawful contents know of a column is lawful
 pub known-lawful : (c : Contents) (t : TableNo) (x : ColNo) (s : Statistics) → IsLawful c → IsTable c t → IsColumn c t x → stats_at c t x ≡ Some s → IsLawfulStatistics (type_at (table_at c t).columns x) s

@@ -6,18 +6,12 @@ use Rattle.pg_base.specs.declared.numbers.ColNo.{ColNo}
 use Rattle.pg_base.specs.declared.numbers.TableNo.{TableNo}
 use Rattle.catalog.specs.Contents.{Contents, TableDef, IsColumn, IsKnown, IsLawful, IsTable, no_table, stats_at, table_at, with_definition, with_sizes, with_stats}
 use Rattle.catalog.specs.Statistics.{Statistics}
+use Rattle.pg_base.proofs.ListLemmas.{zip-length as as_many}
 
 set-twice : {X : Type 0} (xs : List X) (i : ℕ) (a b : X) → set (set xs i a) i b ≡ set xs i b
 set-twice [] i a b = refl
 set-twice (x ∷ xs) zero a b = refl
 set-twice (x ∷ xs) (suc i) a b = ap (λ l. x ∷ l) (set-twice xs i a b)
-
--- one entry of known things for each column
-pub as_many : {A B : Type 0} (R : A → B → Type 0) (xs : List A) (ys : List B) → AllZip R xs ys → length xs ≡ length ys
-as_many R [] [] h = refl
-as_many R [] (y ∷ ys) h = absurd h
-as_many R (x ∷ xs) [] h = absurd h
-as_many R (x ∷ xs) (y ∷ ys) h = ap suc (as_many R xs ys h.1)
 
 -- another thing known of a column
 pub known-set : {A B : Type 0} (R : A → B → Type 0) (xs : List A) (ys : List B) (i : ℕ) (d : A) (y : B) → AllZip R xs ys → R (get_or xs i d) y → AllZip R xs (set ys i y)

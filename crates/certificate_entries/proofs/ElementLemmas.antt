@@ -13,7 +13,8 @@ use Rattle.sql_query.specs.Queries.{Query}
 use Rattle.certificate_text.specs.HasText.{HasElementText, HaveElementTexts, count}
 use Rattle.certificate_text.specs.Texts.{tree_text, tree_texts}
 use Rattle.certificate_entries.specs.Parts.{Reads, has_no_comma}
-use Rattle.certificate_entries.proofs.NumberLemmas.{none-some, some-same}
+use Rattle.pg_base.proofs.OptionLemmas.{none-some-too as none-some}
+use Rattle.pg_base.proofs.OptionLemmas.{some-same}
 use Rattle.certificate_entries.proofs.ListLemmas.{IsListLeft, all-taken, first-none, first-taken, next-none, next-taken}
 
 module _ (c : Contents) (q : Query) where

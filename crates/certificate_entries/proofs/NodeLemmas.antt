@@ -21,7 +21,8 @@ use Rattle.certificate_text.specs.plan_check_entry_Node.{Node as Noded}
 use Rattle.certificate_text.specs.HasText.{HasNodeText, IsEntryNumber}
 use Rattle.certificate_text.specs.Texts.{node_text, side_text, sides_text}
 use Rattle.certificate_entries.specs.Keys.{ends_key}
-use Rattle.certificate_entries.proofs.NumberLemmas.{number-begins, some-same}
+use Rattle.certificate_entries.proofs.NumberLemmas.{number-begins}
+use Rattle.pg_base.proofs.OptionLemmas.{some-same}
 use Rattle.certificate_entries.specs.Kinds.{IsReadBack, behind_text, kind_of, words}
 use Rattle.certificate_entries.specs.declared.kinds.Kind.{Kind}
 use Rattle.certificate_entries.specs.declared.kinds.Kind.TheVariants as kinds

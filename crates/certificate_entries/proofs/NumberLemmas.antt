@@ -13,16 +13,13 @@ use Rattle.certificate_text.specs.Texts.{side_text}
 use Rattle.certificate_text.specs.HasText.{IsEntryNumber}
 use Rattle.certificate_text.specs.plan_check_Certificates.{Side}
 use Rattle.certificate_entries.specs.Parts.{as_entry}
+use Rattle.pg_base.proofs.ListLemmas.{digit-first}
 
 below : (n : ℕ) → IsEntryNumber n → nat_lt n (2 ^ 32) ≡ true
 below n h = grind (arith, nat_tests, h)
 
 pub entry-is : (n : ℕ) → IsEntryNumber n → as_entry (Some n) ≡ Some n
 entry-is n h = ap (λ (b : Bool). cond b (Some n) None) (below n h)
-
-digit-first : (ds : List ℕ) (rest : List ℕ) → 0 < length ds → list_all is_ascii_digit ds ≡ true → is_ascii_digit (get_or (ds ++ rest) 0 0) ≡ true
-digit-first [] rest lt h = absurd (omega (arith, lt))
-digit-first (d ∷ ds) rest lt h = (and_parts (is_ascii_digit d) (list_all is_ascii_digit ds) h).0
 
 -- a number begins with a digit
 pub number-begins : (n : ℕ) (rest : List ℕ) → IsEntryNumber n → is_ascii_digit (get_or (decimal n ++ rest) 0 0) ≡ true
@@ -36,10 +33,3 @@ sort-read s sort old mid rest h took left is e = by s.sorted sort refl refl e wh
   by true b st sb f = let r = took (decimal s.entry ++ rest) (f ∙ append_assoc (codes "sort ") (decimal s.entry) rest) in (r.0 ∙ sym st, r.1)
   by false true st sb f = absurd (true≢false (sym (number-begins s.entry rest h) ∙ ap (λ (l : List ℕ). is_ascii_digit (get_or l 0 0)) (sym f ∙ is sb)))
   by false false st sb f = (sb ∙ sym st, left sb ∙ f)
-
--- what an option holds
-pub none-some : {A : Type 0} (o : Option A) (x : A) → o ≡ None → o ≡ Some x → ⊥
-none-some o x e f = cc
-
-pub some-same : {A : Type 0} (a b : A) → Some a ≡ Some b → a ≡ b
-some-same a b e = cc

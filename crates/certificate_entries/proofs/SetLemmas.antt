@@ -21,6 +21,7 @@ use Rattle.certificate_text.specs.plan_tree_Plans.{is_empty}
 use Rattle.certificate_text.specs.Texts.{param_text, set_text, with_bare_commas}
 use Rattle.certificate_entries.proofs.NameLemmas.{name-word}
 use Rattle.certificate_entries.specs.Parts.{IsSet, IsWordRead, has_no_comma}
+use Rattle.pg_base.proofs.NumberLemmas.{below-next}
 
 abbrev pub AreWords : List (List ℕ) → Type 0
 AreWords xs = All (λ x. list_all is_in_name x ≡ true) xs
@@ -93,14 +94,6 @@ module _ (s : ℕ → Bool) (tail : List ℕ) where
 -- bits below one more
 nothing-below : (k : ℕ) (b : Bool) → (nat_lt k 0 && b) ≡ false
 nothing-below k b = ap (λ (t : Bool). t && b) (let none : nat_lt k 0 ≡ false = grind (arith, nat_tests) in none)
-
-below-next : (k n : ℕ) → nat_eq k n ≡ false → nat_lt k (n + 1) ≡ nat_lt k n
-below-next k n h = by (nat_lt k n) (nat_lt k (n + 1)) refl refl where
-  by : (a b : Bool) → nat_lt k n ≡ a → nat_lt k (n + 1) ≡ b → b ≡ a
-  by true true e f = refl
-  by false false e f = refl
-  by true false e f = absurd (grind (arith, nat_tests, e, f))
-  by false true e f = absurd (grind (arith, nat_tests, e, f, h))
 
 -- a set so far, with the members below a number
 abbrev pub IsBelow : (ℕ → Bool) → (ℕ → Bool) → ℕ → Type 0

@@ -18,6 +18,7 @@ use Rattle.certificate_reader.specs.Faults.{BeginsText, IsText}
 use Rattle.certificate_entries.specs.certificate_text_HasText.{HasEntryLine, IsEntryNumber}
 use Rattle.certificate_reader.specs.Passed.{Passed}
 use Rattle.certificate_entries.specs.certificate_text_Texts.{best_line, ended, entries_text, entry_line, entry_text, head_text, is_line}
+use Rattle.pg_base.proofs.ListLemmas.{digit-first}
 
 not-lf : (b : ℕ) → not (b == 10) ≡ true → b ≡ 10 → ⊥
 not-lf b h e = true≢false (sym (subst (λ (n : ℕ). not (n == 10) ≡ true) e h))
@@ -41,10 +42,6 @@ no-end [] [] x h e = true≢false (sym (ap has_some e))
 no-end [] (b ∷ bs) x h e = true≢false (sym (ap has_some e))
 no-end (a ∷ us) [] x h e = not-lf a (and_parts (not (a == 10)) (is_line us) h).0 (ap (λ (l : List ℕ). get_or l 0 0) e)
 no-end (a ∷ us) (b ∷ bs) x h e = no-end us bs x (and_parts (not (a == 10)) (is_line us) h).1 (ap (λ (l : List ℕ). drop 1 l) e)
-
-digit-first : (ds : List ℕ) (rest : List ℕ) → 0 < length ds → list_all is_ascii_digit ds ≡ true → is_ascii_digit (get_or (ds ++ rest) 0 0) ≡ true
-digit-first [] rest lt h = absurd (omega (arith, lt))
-digit-first (d ∷ ds) rest lt h = (and_parts (is_ascii_digit d) (list_all is_ascii_digit ds) h).0
 
 digit-line : (d : ℕ) → is_ascii_digit d ≡ true → not (d == 10) ≡ true
 digit-line d h = grind (arith, nat_tests, h)

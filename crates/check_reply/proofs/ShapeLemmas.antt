@@ -33,12 +33,8 @@ use Rattle.plan_check.specs.declared.verdict.Plain.TheVariants as plain
 use Rattle.plan_check.specs.Reasons.{AllRight}
 use Rattle.check_reply.specs.Telling.{Tells, trees_by}
 use Rattle.check_reply.proofs.TreeLemmas.{tree-told}
-
-none-some : {A : Type 0} (x : A) → None ≡ Some x → ⊥
-none-some x e = cc
-
-some-same : {A : Type 0} (x y : A) → Some x ≡ Some y → x ≡ y
-some-same x y e = cc
+use Rattle.pg_base.proofs.OptionLemmas.{some-same}
+use Rattle.pg_base.proofs.OptionLemmas.{none-some}
 
 -- the parts of a join
 pub record HasParts (f : Plan → Plan → Plan) (a b : Option Plan) (p : Plan) : Type 0 where

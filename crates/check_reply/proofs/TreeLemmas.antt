@@ -21,7 +21,7 @@ use Rattle.plan_tree.specs.declared.elements.Element.{Element as Chosen}
 use Rattle.plan_space.proofs.TreeLemmas.{picked-once}
 use Rattle.bitmap_scan.specs.Chosen.{combined, marked}
 use Rattle.bitmap_scan.proofs.KeptLemmas.{combined-many}
-use Rattle.bitmap_scan.proofs.MarkedLemmas.{zip-length}
+use Rattle.pg_base.proofs.ListLemmas.{zip-length}
 use Rattle.certificate_check.specs.scan_cover_MarkLemmas.{mask-marks}
 use Rattle.plan_check.specs.Plains.{IsTreeOf, arms_in, arms_in_all, elements_in}
 use Rattle.check_reply.specs.Telling.{arms_taken, tree_by, trees_by}

@@ -9,6 +9,7 @@ use Rattle.catalog.specs.Contents.{Contents}
 use Rattle.sql_query.specs.Queries.{Query}
 use Rattle.pathkeys.specs.Keys.{Keys}
 use Rattle.plan_tree.specs.Space.{IsMergeList}
+use Rattle.pg_base.proofs.BoolLemmas.{and-within}
 
 -- the members of both, by the sets of the entries
 pub both-sets : (u a b x y : ℕ) → a ≡ x → b ≡ y → ((k : ℕ) → has u k ≡ has x k || has y k) → (k : ℕ) → has u k ≡ has a k || has b k
@@ -17,10 +18,6 @@ both-sets u a b x y e f h k = h k ∙ ap₂ (λ (m n : ℕ). has m k || has n k)
 -- a list of a merge of two sets
 pub list-of : (c : Contents) (q : Query) (keys : Keys) (a b x y : ℕ) → a ≡ x → b ≡ y → IsMergeList c q (has x) (has y) keys → IsMergeList c q (has a) (has b) keys
 list-of c q keys a b x y e f h = subst₂ (λ (m n : ℕ). IsMergeList c q (has m) (has n) keys) (sym e) (sym f) h
-
-and-within : (a b : Bool) → (a ≡ true → b ≡ true) → a && b ≡ a
-and-within true b h = h refl
-and-within false b h = refl
 
 -- the number of a set is no greater than that of one that it is within
 pub within-most : (a b : ℕ) → ((k : ℕ) → has a k ≡ true → has b k ≡ true) → a ≤ b

@@ -25,6 +25,9 @@ use Rattle.eq_classes.proofs.SoundLemmas.{class_sound, member_in}
 use Rattle.eq_classes.proofs.UniqueLemmas.{meeting}
 use Rattle.pathkeys.specs.Keys.{class_of, order_class}
 use Rattle.group_query.specs.Grouping.{directed, group_items}
+use Rattle.pg_base.proofs.ListLemmas.{found-at as found_at}
+use Rattle.pg_base.proofs.OptionLemmas.{some-or as some_or}
+use Rattle.pg_base.proofs.OptionLemmas.{found-none as found_none}
 
 -- each type has a value that is not NULL
 sample_fits : (t : SqlType) → IsOfType t (some_value t)
@@ -62,33 +65,6 @@ no_default_abs BoolType h = cc
 
 same_family : (f g : Family) {o : Option Family} → o ≡ Some f → o ≡ Some g → f ≡ g
 same_family f g e h = cc
-
-found_none : {A : Type 0} (p : A → Bool) (i : ℕ) (xs : List A) → position_from p i xs ≡ None → list_any p xs ≡ true → ⊥
-found_none p i [] h g = true≢false (sym g)
-found_none {A} p i (x ∷ xs) h g = by (found_none p (i + 1) xs) (p x) h g
-  where
-    by : (position_from p (i + 1) xs ≡ None → list_any p xs ≡ true → ⊥) → (v : Bool) → cond v (Some i) (position_from p (i + 1) xs) ≡ None → v || list_any p xs ≡ true → ⊥
-    by later true e g = cc
-    by later false e g = later e g
-
-some_or : (o : Option ℕ) → option_or o None ≡ o
-some_or None = refl
-some_or (Some n) = refl
-
-found_at : {A : Type 0} (p : A → Bool) (i : ℕ) (xs : List A) (d : A) (n : ℕ) → position_from p i xs ≡ Some n → (k : ℕ) × (n ≡ i + k) × (k < length xs) × (p (slice_index_or xs k d) ≡ true)
-found_at p i [] d n h = absurd (nothing h)
-  where
-    nothing : None ≡ Some n → ⊥
-    nothing e = cc
-found_at {A} p i (x ∷ xs) d n h = by (found_at p (i + 1) xs d n) (p x) refl h
-  where
-    further : (k : ℕ) × (n ≡ i + 1 + k) × (k < length xs) × (p (slice_index_or xs k d) ≡ true) → (k : ℕ) × (n ≡ i + k) × (k < length (x ∷ xs)) × (p (slice_index_or (x ∷ xs) k d) ≡ true)
-    further f = (suc f.0, omega (arith, f.1), omega (arith, f.2), f.3)
-
-    by : (position_from p (i + 1) xs ≡ Some n → (k : ℕ) × (n ≡ i + 1 + k) × (k < length xs) × (p (slice_index_or xs k d) ≡ true)) → (v : Bool) → p x ≡ v → cond v (Some i) (position_from p (i + 1) xs) ≡ Some n
-        → (k : ℕ) × (n ≡ i + k) × (k < length (x ∷ xs)) × (p (slice_index_or (x ∷ xs) k d) ≡ true)
-    by later true is e = let same : i ≡ n = cc in (0, omega (arith, same), omega arith, is)
-    by later false is e = further (later e)
 
 -- the class of a number: it has a column in a family
 record ClassOf (t : Table) (x : ColRef) (f : Family) (n : ℕ) : Type 0 where

@@ -16,7 +16,8 @@ use Rattle.sql_query.specs.Tuples.{Tuple, row_at, row_of, value_at}
 use Rattle.sql_query.specs.WellBound.{IsColumnOf, IsWellBound}
 use Rattle.sql_query.specs.Worlds.{Holds, nothing_stored, stored_at, world}
 use Rattle.store.specs.Kept.{IsStoreOf, Kept}
-use Rattle.sort_rows.proofs.ListLemmas.{zip_at, zip_long}
+use Rattle.pg_base.proofs.ListLemmas.{zip-long as zip_long}
+use Rattle.pg_base.proofs.ListLemmas.{zip-at as zip_at}
 use Rattle.executor.specs.Numbers.{IsTupleOf}
 use Rattle.group_explain.specs.reply_Showing.{HasColumn, cell_of, rows_at}
 use Rattle.group_values.specs.Groups.{Seen}

@@ -16,6 +16,7 @@ use Rattle.group_values.proofs.GroupLemmas.{first-keys}
 use Rattle.group_values.specs.Grouping.{final_shape}
 use Rattle.group_values.specs.Neighbours.{tuple_order}
 use Rattle.group_values.proofs.FinalLemmas.{unsorted}
+use Rattle.pg_base.proofs.ListLemmas.{all-filter}
 
 -- no element is after a later one
 abbrev IsUp : {X : Type 0} → (X → X → Ordering) → List X → Type 0
@@ -36,14 +37,6 @@ put-front order x (y ∷ ys) h = ap (λ b. cond b (y ∷ put order x ys) (x ∷ 
 up-fixed : {X : Type 0} (order : X → X → Ordering) (xs : List X) → IsUp order xs → in_order order xs ≡ xs
 up-fixed order [] h = refl
 up-fixed order (x ∷ xs) h = ap (put order x) (up-fixed order xs h.1) ∙ put-front order x xs h.0
-
-all-filter : {X : Type 0} (P : X → Type 0) (p : X → Bool) (xs : List X) → AllByRecursion P xs → AllByRecursion P (filter p xs)
-all-filter P p [] h = tt
-all-filter P p (x ∷ xs) h = by (p x) (all-filter P p xs h.1)
-  where
-    by : (b : Bool) → AllByRecursion P (filter p xs) → AllByRecursion P (cond b (x ∷ filter p xs) (filter p xs))
-    by true more = (h.0, more)
-    by false more = more
 
 up-filter : {X : Type 0} (order : X → X → Ordering) (p : X → Bool) (xs : List X) → IsUp order xs → IsUp order (filter p xs)
 up-filter order p [] h = tt

@@ -10,6 +10,8 @@ use Rattle.std.proofs.lemmas.Bool.Decides.{nat_tests}
 use Rattle.pg_base.specs.Sets.{has}
 use Rattle.pg_base.proofs.SetLaws.{has-or, has-and, has-zero, has-one_wide}
 use Rattle.heap.specs.TidSets.{is_marked}
+use Rattle.pg_base.proofs.NumberLemmas.{same-place as one_place}
+use Rattle.pg_base.proofs.NumberLemmas.{other-place as other_place}
 
 pub has-set_bit : (word bit k : ℕ) → bit < 64 → has (bit_or (1 * 2 ^ bit % 2 ^ 64) word) k ≡ nat_eq k bit || has word k
 has-set_bit word bit k lt = has-or (1 * 2 ^ bit % 2 ^ 64) word k ∙ ap (λ (b : Bool). b || has word k) (has-one_wide 64 bit k lt)
@@ -50,15 +52,6 @@ module _ (word from : ℕ) (fit : word < 2 ^ 64) (some : 0 < word / 2 ^ from) wh
 -- the place of a number: its word and its bit
 pub of_word : (n place bit : ℕ) → bit < 64 → n ≡ place * 64 + bit → (n / 64 ≡ place) × (n % 64 ≡ bit)
 of_word n place bit lt is = (omega arith, omega arith)
-
-one_place : (n t : ℕ) → n / 64 ≡ t / 64 → nat_eq (n % 64) (t % 64) ≡ nat_eq n t
-one_place n t same = grind (arith, nat_tests, div-add-mod n 64, div-add-mod t 64)
-
-other_place : (n t : ℕ) → (n / 64 ≡ t / 64 → ⊥) → nat_eq n t ≡ false
-other_place n t other = elim (cases_lt n t) [
-  | inl below ↦ grind (arith, nat_tests)
-  | inr least ↦ elim (cases_lt t n) [ inl above ↦ grind (arith, nat_tests) | inr most ↦ absurd (other (ap (λ (k : ℕ). k / 64) (omega arith))) ]
-]
 
 module _ (words : List ℕ) (t w : ℕ) (inside : t / 64 < length words) (bits : (k : ℕ) → has w k ≡ nat_eq k (t % 64) || has (slice_index_or words (t / 64) 0) k) where
   marked-same : (n : ℕ) → n / 64 ≡ t / 64 → is_marked (slice_set words (t / 64) w) n ≡ nat_eq n t || is_marked words n

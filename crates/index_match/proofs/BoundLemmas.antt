@@ -11,6 +11,7 @@ use Rattle.index_match.specs.Numbered.{Numbered, has_number}
 use Rattle.index_match.specs.Conditions.{has_form}
 use Rattle.index_match.specs.Bounds.{is_fixing, on_key, bounding, bounds_among}
 use Rattle.index_match.specs.Slots.{numbered_at, numbered_from, passes, is_on_key, is_fixing_on, bound_at}
+use Rattle.pg_base.proofs.BoolLemmas.{either as or_step}
 
 and_true : (a b : Bool) → (a && true) || b ≡ a || b
 and_true true b = refl
@@ -100,10 +101,6 @@ module _ (m : Method) (r : ℕ) where
       by later (Some c) (Some n) e = let same : c.number ≡ n = cc in ap₂ (λ (x : ℕ) (b : Bool). nat_eq j x || b) same later
       by later None (Some n) e = cc
       by later (Some c) None e = cc
-
-or_step : (b c d : Bool) → (c ≡ true → d ≡ true) → b || c ≡ true → b || d ≡ true
-or_step true c d f h = refl
-or_step false c d f h = f h
 
 pub any_filter : {A : Type 0} (p q : A → Bool) (xs : List A) → list_any p (filter q xs) ≡ true → list_any p xs ≡ true
 any_filter p q [] h = h

@@ -15,6 +15,7 @@ use Rattle.index_match.specs.Bounds.{bounding, index_bounds, index_tests}
 use Rattle.index_match.specs.Slots.{is_local}
 use Rattle.index_match.proofs.BoundLemmas.{any_filter, number_filter}
 use Rattle.index_match.proofs.FoundLemmas.{those_are, chosen_numbers}
+use Rattle.pg_base.proofs.ListLemmas.{any-take as any_take}
 
 pub clauses_by_number : (test : Clause → Bool) (n : ℕ) (ks : List Clause) →
     conditions_of (map (λ (p : ℕ × Clause). numbered (p.0, p.1.cond)) (filter (λ (p : ℕ × Clause). test p.1) (enumerate_from n ks))) ≡ map (λ (k : Clause). k.cond) (filter test ks)
@@ -36,14 +37,6 @@ those_numbers t test n =
     again : (a b : Bool) → a && (a && b) ≡ a && b
     again true b = refl
     again false b = refl
-
-any_take : {A : Type 0} (p : A → Bool) (xs : List A) → list_any p (take 1 xs) ≡ true → list_any p xs ≡ true
-any_take p [] h = h
-any_take p (x ∷ xs) h = by (p x) h
-  where
-    by : (b : Bool) → b || false ≡ true → b || list_any p xs ≡ true
-    by true h = refl
-    by false h = absurd (true≢false (sym h))
 
 any_allowed : (m : Method) (cs : List Numbered) (n : ℕ) → has_number (allowed m cs) n ≡ true → has_number cs n ≡ true
 any_allowed Btree cs n h = h

@@ -49,6 +49,7 @@ use Rattle.join_search.specs.declared.splits.Split.{Split}
 use Rattle.join_search.proofs.OfferLemmas.{cheapest-of, kept-at-most, served-by, served-later}
 use Rattle.join_search.proofs.ItemLemmas.{there-kept, plan-of-none, side-of-none}
 use Rattle.join_search.proofs.PlanLemmas.{at-none, at-set, sets-same, whole-rows}
+use Rattle.pg_base.proofs.ListLemmas.{some-folded}
 
 by-true : (keys : Keys) (o : Costed) → covers o.keys keys ≡ true → cost_by keys o ≡ o.cost
 by-true keys o e = ap (λ b. cond b o.cost (2 ^ 64 - 1)) e
@@ -448,10 +449,6 @@ work-rises a b ro ri k p n some =
   where
     sum : (x y z : ℕ) → y ≤ z → x + y ≤ x + z
     sum x y z h = omega (arith, h)
-
-some-folded : {A : Type 0} (f : ℕ → A → ℕ) → ((m : ℕ) (a : A) → 1 ≤ f m a) → (n : ℕ) (xs : List A) → 1 ≤ n → 1 ≤ fold f n xs
-some-folded f some n [] h = h
-some-folded f some n (x ∷ xs) h = some-folded f some (f n x) xs (some n x)
 
 some-clamped : (n : ℕ) → 1 ≤ clamped n
 some-clamped n = omega arith

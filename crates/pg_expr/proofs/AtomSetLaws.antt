@@ -7,6 +7,8 @@ use Rattle.std.proofs.lemmas.Bool.Decides.{nat_tests}
 use Rattle.pg_base.specs.Sets.{has}
 use Rattle.pg_expr.specs.AtomSets.{contains}
 use Rattle.pg_base.proofs.SetLaws.{has-zero, has-or, has-shr, has-one_wide}
+use Rattle.pg_base.proofs.NumberLemmas.{same-place as same_place}
+use Rattle.pg_base.proofs.NumberLemmas.{other-place as other_place}
 
 pub contains-shr : (words : List ℕ) (n w : ℕ) → w ≡ get_or words (n / 64) 0 → nat_eq (bit_and (w / 2 ^ (n % 64)) 1) 1 ≡ contains words n
 unfolding contains
@@ -18,12 +20,6 @@ zeros i = elim (cases_lt i 4) [ inl below ↦ get_or-replicate 4 i 0 0 below | i
 pub contains-zeros : (k : ℕ) → contains (replicate 4 0) k ≡ false
 unfolding contains
 contains-zeros k = ap (λ x. has x (k % 64)) (zeros (k / 64)) ∙ has-zero (k % 64)
-
-same_place : (k n : ℕ) → k / 64 ≡ n / 64 → nat_eq (k % 64) (n % 64) ≡ nat_eq k n
-same_place k n e = grind (arith, nat_tests)
-
-other_place : (k n : ℕ) → (k / 64 ≡ n / 64 → ⊥) → nat_eq k n ≡ false
-other_place k n ne = grind (arith, nat_tests)
 
 or_false : (b c : Bool) → c ≡ false → b ≡ b || c
 or_false true c e = refl

@@ -13,6 +13,7 @@ use Rattle.statements.specs.Scripts.{Worked, AreWorked, AreFirst, world_after, p
 use Rattle.statements.specs.reply_Replies.{Traces}
 use Rattle.statements.specs.Steps.{Advances, IsBegun, Stops}
 use Rattle.pgplan.specs.Runs.{IsAnswered, IsCutOff, Ends}
+use Rattle.pg_base.proofs.OptionLemmas.{appends-none as Appends-none}
 
 -- one more statement
 pub AreWorked-more : (w : World) (text : List ℕ) (from : ℕ) (ss : List Worked) (s : Worked) → AreWorked w text from ss → place_after from ss < length text →
@@ -39,11 +40,6 @@ pub record IsUnderWay (text : List ℕ) (at : ℕ) (w : World) (held held' : Opt
   pub place : place_after 0 statements ≡ at
   pub world : world_after empty_world statements ≡ w
   pub gained : Appends held held' (replies statements)
-
--- nothing was appended
-pub Appends-none : (held : Option (List ℕ)) → Appends held held []
-Appends-none None = tt
-Appends-none (Some bytes) = sym (append-nil bytes)
 
 -- before the first statement
 pub is_under_way : (text : List ℕ) (w : World) (held : Option (List ℕ)) → w ≡ empty_world → IsUnderWay text 0 w held held

@@ -29,6 +29,7 @@ use Rattle.plan_tree.specs.Entries.{cell}
 use Rattle.plan_laws.proofs.EachLemmas.{each_snoc, each_weaker}
 use Rattle.plan_laws.proofs.TotalLemmas.{IsUp, up_append}
 use Rattle.plan_laws.proofs.KeyLemmas.{find_more}
+use Rattle.pg_base.proofs.ListLemmas.{found-at as found_at}
 
 -- both ways round
 abbrev pub way : {X : Type 0} → Bool → (X → X → Ordering) → X → X → Ordering
@@ -121,21 +122,6 @@ pub record ClassOf (t : Table) (x : ColRef) (f : Family) (n : ℕ) : Type 0 wher
   pub family : f ≡ (class_at t.classes n).family
   pub class : HasClass t (class_at t.classes n)
   pub member : has_member (class_at t.classes n) x ≡ true
-
-found_at : {A : Type 0} (p : A → Bool) (i : ℕ) (xs : List A) (d : A) (n : ℕ) → position_from p i xs ≡ Some n → (k : ℕ) × (n ≡ i + k) × (k < length xs) × (p (slice_index_or xs k d) ≡ true)
-found_at p i [] d n h = absurd (nothing h)
-  where
-    nothing : None ≡ Some n → ⊥
-    nothing e = cc
-found_at {A} p i (x ∷ xs) d n h = by (found_at p (i + 1) xs d n) (p x) refl h
-  where
-    further : (k : ℕ) × (n ≡ i + 1 + k) × (k < length xs) × (p (slice_index_or xs k d) ≡ true) → (k : ℕ) × (n ≡ i + k) × (k < length (x ∷ xs)) × (p (slice_index_or (x ∷ xs) k d) ≡ true)
-    further f = (suc f.0, omega (arith, f.1), omega (arith, f.2), f.3)
-
-    by : (position_from p (i + 1) xs ≡ Some n → (k : ℕ) × (n ≡ i + 1 + k) × (k < length xs) × (p (slice_index_or xs k d) ≡ true))
-        → (v : Bool) → p x ≡ v → cond v (Some i) (position_from p (i + 1) xs) ≡ Some n → (k : ℕ) × (n ≡ i + k) × (k < length (x ∷ xs)) × (p (slice_index_or (x ∷ xs) k d) ≡ true)
-    by later true e g = let same : i ≡ n = cc in (0, omega (arith, same), omega arith, e)
-    by later false e g = further (later g)
 
 pub class_found : (t : Table) (x : ColRef) (f : Family) (n : ℕ) → class_of t x f ≡ Some n → ClassOf t x f n
 class_found t x f n h =

@@ -38,6 +38,8 @@ use Rattle.plan_laws.proofs.IndexOrderLemmas.{ClassOf, class_found}
 use Rattle.plan_laws.proofs.KeyLemmas.{find_more}
 use Rattle.plan_laws.proofs.OrderedLemmas.{ItemsFollow}
 use Rattle.plan_laws.proofs.TieLemmas.{tie_in_all, members_alike, constants_tie}
+use Rattle.pg_base.proofs.OptionLemmas.{some-or as some_or}
+use Rattle.pg_base.proofs.OptionLemmas.{found-none as found_none}
 
 -- each type has a value that is not NULL
 pub sample_fits : (t : SqlType) → IsOfType t (some_value t)
@@ -76,22 +78,10 @@ no_default_abs BoolType h = cc
 pub same_family : (f g : Family) {o : Option Family} → o ≡ Some f → o ≡ Some g → f ≡ g
 same_family f g e h = cc
 
-found_none : {A : Type 0} (p : A → Bool) (i : ℕ) (xs : List A) → position_from p i xs ≡ None → list_any p xs ≡ true → ⊥
-found_none p i [] h g = true≢false (sym g)
-found_none {A} p i (x ∷ xs) h g = by (found_none p (i + 1) xs) (p x) h g
-  where
-    by : (position_from p (i + 1) xs ≡ None → list_any p xs ≡ true → ⊥) → (v : Bool) → cond v (Some i) (position_from p (i + 1) xs) ≡ None → v || list_any p xs ≡ true → ⊥
-    by later true e g = cc
-    by later false e g = later e g
-
 -- what is found first where nothing before it passes
 first_passing : {A : Type 0} (p : A → Bool) (before : List A) (x : A) (after : List A) → AllByRecursion (λ y. p y ≡ false) before → p x ≡ true → find p (before ++ x ∷ after) ≡ Some x
 first_passing p [] x after h e = ap (λ (v : Bool). cond v (Some x) (find p after)) e
 first_passing p (y ∷ ys) x after h e = ap (λ (v : Bool). cond v (Some y) (find p (ys ++ x ∷ after))) h.0 ∙ first_passing p ys x after h.1 e
-
-some_or : (o : Option ℕ) → option_or o None ≡ o
-some_or None = refl
-some_or (Some n) = refl
 
 module _ (w : World) (q : Query) (world : IsWorld w) (bound : IsWellBound w.contents q) where
   abbrev type_of : ColRef → SqlType

@@ -8,6 +8,7 @@ use Rattle.eq_classes.specs.Clauses.{Set}
 use Rattle.eq_classes.specs.Listing.{blank}
 use Rattle.eq_classes.specs.Parts.{is_joining, joining_from}
 use Rattle.eq_classes.proofs.ListLemmas.{IsIn, all_from}
+use Rattle.pg_base.proofs.ListLemmas.{any-taken as any_taken}
 
 -- the class of a number in a list of joining ones
 pub joining_at : (a b : Set) (m : ℕ) (cs : List Class) (n : ℕ) → list_any (nat_eq n) (joining_from a b m cs) ≡ true → (k : ℕ) × (n ≡ m + k) × (k < length cs) × (is_joining a b (slice_index_or cs k blank) ≡ true)
@@ -25,14 +26,6 @@ joining_at a b m (c ∷ cs) n h = by (joining_at a b (suc m) cs n) (is_joining a
         (λ (more : list_any (nat_eq n) (joining_from a b (suc m) cs) ≡ true). shift (later more))
         (or_cases (nat_eq n m) (list_any (nat_eq n) (joining_from a b (suc m) cs)) h)
     by later false e h = shift (later h)
-
-pub any_taken : (p : ℕ → Bool) (k : ℕ) (xs : List ℕ) → list_any p (take k xs) ≡ true → list_any p xs ≡ true
-any_taken p zero xs h = absurd (true≢false (sym h))
-any_taken p (suc k) [] h = absurd (true≢false (sym h))
-any_taken p (suc k) (x ∷ xs) h = ⊎_elim
-    (λ (here : p x ≡ true). ap (λ (v : Bool). v || list_any p xs) here)
-    (λ (more : list_any p (take k xs) ≡ true). or_right (p x) (list_any p xs) (any_taken p k xs more))
-    (or_cases (p x) (list_any p (take k xs)) h)
 
 module _ (a b : Set) (cs : List Class) where
   abbrev joins : ℕ → Bool

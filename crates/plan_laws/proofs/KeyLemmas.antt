@@ -16,7 +16,8 @@ use Rattle.sql_query.specs.Worlds.{World}
 use Rattle.pathkeys.specs.Keys.{Keys}
 use Rattle.pathkeys.specs.Sorted.{keys_order}
 use Rattle.plan_laws.proofs.TotalLemmas.{IsUp}
-use Rattle.plan_laws.proofs.JoiningLemmas.{any_taken, joining_at}
+use Rattle.plan_laws.proofs.JoiningLemmas.{joining_at}
+use Rattle.pg_base.proofs.ListLemmas.{any-taken as any_taken}
 
 -- a larger set has a first member where a smaller one has a member
 pub find_more : (p r : ColRef → Bool) → ((x : ColRef) → p x ≡ true → r x ≡ true) → (xs : List ColRef) → list_any p xs ≡ true → (y : ColRef) × (find r xs ≡ Some y)

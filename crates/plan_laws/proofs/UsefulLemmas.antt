@@ -28,6 +28,7 @@ use Rattle.plan_tree.proofs.WindowLemmas.{startup-from}
 use Rattle.plan_laws.specs.Closed.{IsKeptSide}
 use Rattle.plan_laws.proofs.WithinLemmas.{built-within}
 use Rattle.plan_laws.specs.Useful.{outside, is_open, are_open, IsOfUse, Suffices, StandsIn, floor_by, IsBelow, HasEnough, IsClosedBelow}
+use Rattle.pg_base.proofs.ListLemmas.{any-taken}
 
 -- what is within a set is open to more
 not-within : (a b : Bool) → (a ≡ true → b ≡ true) → not b ≡ true → not a ≡ true
@@ -79,15 +80,6 @@ joining-at a b m (c ∷ cs) n h = by (joining-at a b (suc m) cs n) (is_joining a
         (λ (more : list_any (nat_eq n) (joining_from a b (suc m) cs) ≡ true). shift (later more))
         (or_cases (nat_eq n m) (list_any (nat_eq n) (joining_from a b (suc m) cs)) h)
     by later false e h = shift (later h)
-
-either : (a b c : Bool) → (b ≡ true → c ≡ true) → a || b ≡ true → a || c ≡ true
-either true b c f h = refl
-either false b c f h = f h
-
-any-taken : (p : ℕ → Bool) (k : ℕ) (xs : List ℕ) → list_any p (take k xs) ≡ true → list_any p xs ≡ true
-any-taken p zero xs h = absurd (true≢false (sym h))
-any-taken p (suc k) [] h = absurd (true≢false (sym h))
-any-taken p (suc k) (x ∷ xs) h = either (p x) (list_any p (take k xs)) (list_any p xs) (any-taken p k xs) h
 
 joining-class : (a b : Set) (cs : List Class) (n : ℕ) → list_any (nat_eq n) (take 4 (joining_from a b 0 cs)) ≡ true → is_joining a b (class_at cs n) ≡ true
 joining-class a b cs n h =

@@ -10,15 +10,12 @@ use Rattle.catalog.specs.Contents.{Contents}
 use Rattle.sql_query.specs.Queries.{Query}
 use Rattle.plan_tree.specs.Plans.{BitTree, leaf, all_hold, some_arm, BitTrees}
 use Rattle.certificate_entries.specs.explain_Texts.{bits_text, conjunct_by, leaf_line, number_text, plain_line, trees_text}
-use Rattle.certificate_entries.proofs.NumberLemmas.{none-some}
+use Rattle.pg_base.proofs.OptionLemmas.{none-some-too as none-some}
+use Rattle.pg_base.proofs.ListLemmas.{joined-parts as two-is}
 
 pub some-of : (o : Option ℕ) → ¬ (o ≡ None) → (m : ℕ) × (o ≡ Some m)
 some-of None h = absurd (h refl)
 some-of (Some m) h = (m, refl)
-
--- two parts, one behind the other
-pub two-is : (text a left b l : List ℕ) → text ≡ a ++ left → left ≡ b ++ l → text ≡ (a ++ b) ++ l
-two-is text a left b l e f = e ∙ (ap (λ (x : List ℕ). a ++ x) f ∙ sym (append_assoc a b l))
 
 pub two-if : (text a left b : List ℕ) (r : Option (Bor (List ℕ))) → text ≡ a ++ left → IfSome r (λ l. left ≡ b ++ l.now) → IfSome r (λ l. text ≡ (a ++ b) ++ l.now)
 two-if text a left b None e f = tt

@@ -21,6 +21,7 @@ use Rattle.certificate_entries.specs.certificate_text_HasText.{IsSetOf}
 use Rattle.certificate_entries.proofs.NameLemmas.{name-word}
 use Rattle.plan_tree.proofs.ElementLemmas.{same-number}
 use Rattle.plan_lines.specs.Words.{IsWordRead}
+use Rattle.pg_base.proofs.NumberLemmas.{below-next}
 
 abbrev pub AreWords : List (List ℕ) → Type 0
 AreWords xs = All (λ x. list_all is_in_name x ≡ true) xs
@@ -86,15 +87,6 @@ module _ (s : ℕ → Bool) where
     by : (b : Bool) → s n ≡ b → IsWordRead (with_alias b r.1 (aliases_in (n + 1) s rs)) word left → (s n ≡ false) × IsWordRead (aliases_in (n + 1) s rs) word left
     by true e h = absurd (other h.0)
     by false e h = (e, h)
-
--- bits below one more
-below-next : (k n : ℕ) → nat_eq k n ≡ false → nat_lt k (n + 1) ≡ nat_lt k n
-below-next k n h = by (nat_lt k n) (nat_lt k (n + 1)) refl refl where
-  by : (a b : Bool) → nat_lt k n ≡ a → nat_lt k (n + 1) ≡ b → b ≡ a
-  by true true e f = refl
-  by false false e f = refl
-  by true false e f = absurd (grind (arith, nat_tests, e, f))
-  by false true e f = absurd (grind (arith, nat_tests, e, f, h))
 
 -- a set so far, with the members below a number
 abbrev pub IsBelow : (ℕ → Bool) → (ℕ → Bool) → ℕ → Type 0

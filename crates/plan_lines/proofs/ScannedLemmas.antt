@@ -18,6 +18,7 @@ use Rattle.explain_laws.proofs.ParamLemmas.{IsOfQuery, params-same}
 use Rattle.explain_laws.proofs.SplitLemmas.{relation-split}
 use Rattle.certificate_entries.specs.certificate_text_HasText.{IsSetOf}
 use Rattle.plan_lines.specs.HasText.{IsScanned}
+use Rattle.pg_base.proofs.OptionLemmas.{none-some-too as none-some}
 
 -- a set of relations of the query has no other one
 of-query : (q : Query) (p : RelSet) → IsSetOf q (has p.0) → IsOfQuery q p
@@ -60,9 +61,6 @@ none-mapped f o b none e = none-some b (sym (ap (option_map f) none) ∙ e)
   where
     none-some : {X : Type 0} (x : X) → None ≡ Some x → ⊥
     none-some x e = cc
-
-pub none-some : {A : Type 0} (o : Option A) (a : A) → o ≡ None → o ≡ Some a → ⊥
-none-some o a e f = cc
 
 module _ (c : Contents) (q : Query) where
   -- a scan that is given no rows

@@ -19,7 +19,7 @@ use Rattle.certificate_entries.specs.explain_Texts.{bits_text, conjunct_by, lead
 use Rattle.certificate_text.proofs.NumeralLemmas.{decimal-word}
 use Rattle.plan_lines.specs.Parts.{IsShallow, lacks}
 use Rattle.certificate_entries.proofs.NameLemmas.{index-word}
-use Rattle.certificate_entries.proofs.NumberLemmas.{none-some}
+use Rattle.pg_base.proofs.OptionLemmas.{none-some-too as none-some}
 use Rattle.plan_lines.specs.HasText.{HasBits, HaveBits, IsConjunct, IsIndexOfQuery}
 use Rattle.plan_lines.specs.Lines.{beneath, leaf_title, tree_title}
 use Rattle.plan_lines.specs.Stands.{Stand, Stands}

@@ -30,16 +30,6 @@ number-at [] k d lt = absurd (omega (arith, lt))
 number-at (c ∷ cs) zero d lt = refl
 number-at (c ∷ cs) (suc k) d lt = number-at cs k d (omega (arith, lt))
 
-pub below-next : (P : ℕ → Type 0) (n : ℕ) → ((k : ℕ) → k < n → P k) → P n → (k : ℕ) → k < n + 1 → P k
-below-next P n h here k lt = by (nat_lt k n) refl
-  where
-    by : (b : Bool) → nat_lt k n ≡ b → P k
-    by true e = h k (let less : k < n = grind (arith, nat_tests, e) in less)
-    by false e = let no : n ≤ k = grind (arith, nat_tests, e) in let same : n ≡ k = omega (arith, no, lt) in at same
-      where
-        at : n ≡ k → P k
-        at s = subst P s here
-
 pub class-at : (n : ℕ) (o : Option ℕ) → is_class n o ≡ true → o ≡ Some n
 class-at n None e = absurd (true≢false (sym e))
 class-at n (Some m) e = ap Some (sym (eqb-true n m e))

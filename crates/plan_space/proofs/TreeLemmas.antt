@@ -47,12 +47,6 @@ module _ {A B C : Type 0} (R : B → C → Type 0) (f : A → B) where
   pub zip-end : (xs : List A) (ys : List C) (n : ℕ) → length ys ≡ length xs → length xs ≤ n → AllZip R (map f (drop n xs)) (drop n ys)
   zip-end xs ys n long le = subst₂ (λ us vs. AllZip R (map f us) vs) (sym (drop_of_length-le xs le)) (sym (drop_of_length-le ys (omega (arith, long, le)))) tt
 
-pub zip-long : {B C : Type 0} (R : B → C → Type 0) (xs : List B) (ys : List C) → AllZip R xs ys → length ys ≡ length xs
-zip-long R [] [] h = refl
-zip-long R [] (y ∷ ys) h = absurd h
-zip-long R (x ∷ xs) [] h = absurd h
-zip-long R (x ∷ xs) (y ∷ ys) h = ap suc (zip-long R xs ys h.1)
-
 -- what is picked is one list
 pub picked-once : {X : Type 0} (P : X → Type 0) (xs ys zs : List X) → ArePicked P xs ys → ArePicked P xs zs → ys ≡ zs
 picked-once P _ _ _ none_left none_left = refl

@@ -25,13 +25,10 @@ use Rattle.path_cost.specs.Selectivity.{selectivity}
 use Rattle.pathkeys.specs.Keys.{Keys}
 use Rattle.plan_tree.specs.Plans.{Plan, seq, index, index_only, bitmap, sort, nest, merge, set_of, GivenScan, given_scan}
 use Rattle.plan_tree.specs.Costs.{cost, estimate, rows_given, join_operators, merge_operators, asked, asked_by, HaveRows}
+use Rattle.pg_base.proofs.ListLemmas.{some-folded}
 
 some-clamped : (n : ℕ) → 1 ≤ clamped n
 some-clamped n = omega arith
-
-some-folded : {A : Type 0} (f : ℕ → A → ℕ) → ((m : ℕ) (a : A) → 1 ≤ f m a) → (n : ℕ) (xs : List A) → 1 ≤ n → 1 ≤ fold f n xs
-some-folded f some n [] h = h
-some-folded f some n (x ∷ xs) h = some-folded f some (f n x) xs (some n x)
 
 some-kept : (c : Contents) (range : Range) (n : ℕ) (es : List Cond) → 1 ≤ n → 1 ≤ kept c range n es
 some-kept c range n es h = some-folded {A = Cond} (λ m e. share_of_rows m (selectivity c range e)) (λ m e. some-clamped _) n es h

@@ -36,6 +36,7 @@ use Rattle.plan_tree.specs.declared.bits.BitTree.{Or}
 use Rattle.plan_tree.specs.declared.bits.BitTree.TheViews.{And, the_lemmas}
 use Rattle.plan_tree.specs.declared.bits.BitTree.TheVariants.{rolls-And, rolls-Or}
 use Rattle.plan_tree.specs.declared.bits.BitTree.TheFolds.{fold-roll-BitTree, fold_out-BitTree, fold-roll-BitTrees, fold_out-BitTrees}
+use Rattle.pg_base.proofs.ListLemmas.{sum-cons}
 
 -- a sum that is cut as it grows
 pub cut-more : (done part exact rest total : ℕ) → part ≡ capped exact → capped (done + (exact + rest)) ≡ total → capped (capped (done + part) + rest) ≡ total
@@ -53,9 +54,6 @@ together-of all count parts e f = go (sum parts) (length parts) e f
 sum-from : (a b : ℕ) (xs : List ℕ) → fold (λ m n. m + n) (a + b) xs ≡ a + fold (λ m n. m + n) b xs
 sum-from a b [] = refl
 sum-from a b (x ∷ xs) = ap (λ n. fold (λ m k. m + k) n xs) (let same : a + b + x ≡ a + (b + x) = omega arith in same) ∙ sum-from a (b + x) xs
-
-sum-cons : (x : ℕ) (xs : List ℕ) → sum (x ∷ xs) ≡ x + sum xs
-sum-cons x xs = ap (λ n. fold (λ m k. m + k) n xs) (let same : 0 + x ≡ x + 0 = omega arith in same) ∙ sum-from x 0 xs
 
 -- one more part of a sum
 pub cut-part : (done part exact : ℕ) (rest : List ℕ) (total : ℕ) → part ≡ capped exact → capped (done + sum (exact ∷ rest)) ≡ total → capped (capped (done + part) + sum rest) ≡ total

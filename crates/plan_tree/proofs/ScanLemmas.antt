@@ -9,10 +9,7 @@ use Rattle.index_match.specs.Numbered.{has_number}
 use Rattle.index_match.specs.Conditions.{index_conditions}
 use Rattle.index_match.specs.Bounds.{index_bounds, index_tests}
 use Rattle.index_match.proofs.PartLemmas.{conditions_local, in_either}
-
-inside : (n m : ℕ) (b : Bool) → (b ≡ true → n < m) → nat_lt n m && b ≡ b
-inside n m true h = let lt = h refl in grind (arith, common_steps, lt)
-inside n m false h = grind (arith, common_steps)
+use Rattle.pg_base.proofs.NumberLemmas.{test-below as inside}
 
 -- what is a bound or a test is a condition
 pub all-found : (c : Contents) (t : Table) (i : IndexNo) (r : ℕ) (p : Set) (bounds tests all : List ℕ) → ((n : ℕ) → contains bounds n ≡ has_number (index_bounds c t i r p) n) → ((n : ℕ) → contains tests n ≡ has_number (index_tests c t i r p) n) →

@@ -32,10 +32,7 @@ use Rattle.plan_tree.proofs.ConditionLemmas.{conditions-listed}
 use Rattle.scan_paths.proofs.SpaceLemmas.{no-join, same-param, same-relation}
 use Rattle.planner.specs.Bases.{AreAllOf, is_plan}
 use Rattle.planner.proofs.GivenLemmas.{below, named-given, used-local}
-
-and-within : (a b : Bool) → (a ≡ true → b ≡ true) → a && b ≡ a
-and-within true b h = h refl
-and-within false b h = refl
+use Rattle.pg_base.proofs.BoolLemmas.{and-within}
 
 -- the number of a set is no greater than that of one that it is within
 pub within-most : (a b : ℕ) → ((k : ℕ) → has a k ≡ true → has b k ≡ true) → a ≤ b

@@ -28,6 +28,7 @@ use Rattle.path_cost.specs.Columns.{IsOver, is_column_in}
 use Rattle.sql_query.specs.WellBound.{IsColumnOf, IsWithinLimits, NamesOnly}
 use Rattle.query_reader.specs.Binding.{past_limit}
 use Rattle.query_reader.specs.Named.{column_in, columns_in, columns_in_all}
+use Rattle.pg_base.proofs.NumberLemmas.{below}
 
 pub listed-conds : (cs : List Cond) → listed (conds_of cs) ≡ cs
 listed-conds [] = refl
@@ -172,9 +173,6 @@ pub is-column-of : (c : Contents) (range : Range) (x : ColRef) → is_column_in 
 is-column-of c range x h =
     let parts = and_parts (nat_lt x.rel.0 (length range)) (nat_lt x.col.0 (length (table_at c (table_of range x)).columns)) h in
     record { relation = ltb-true _ _ parts.0; column = ltb-true _ _ parts.1 }
-
-below : (a b : ℕ) → a < b → nat_lt a b ≡ true
-below a b lt = grind (arith, common_steps)
 
 pub all-passing : (c : Contents) (range : Range) (xs : List ColRef) → All (IsColumnOf c range) xs → All (λ x. is_column_in c range x ≡ true) xs
 all-passing c range xs h = all-weaker xs h where

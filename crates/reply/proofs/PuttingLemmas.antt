@@ -6,6 +6,7 @@ use Rattle.std.specs.Io.KnownBytes.{Appends}
 use Rattle.pg_base.specs.Writing.{AppendsPrefix}
 use Rattle.pg_base.proofs.Bytes.{Appends-more}
 use Rattle.reply.specs.Putting.{HasPut, Puts}
+use Rattle.pg_base.proofs.OptionLemmas.{appends-none}
 
 together : (w v p q r xs ys : List ℕ) → w ++ q ≡ p ++ xs → v ++ r ≡ q ++ ys → (w ++ v) ++ r ≡ p ++ (xs ++ ys)
 together w v p q r xs ys first second =
@@ -28,10 +29,6 @@ prefix-then a b c p q xs ys first (n, within, some) =
 
 pub prefix-longer : (a b : Option (List ℕ)) (xs ys : List ℕ) → AppendsPrefix a b xs → AppendsPrefix a b (xs ++ ys)
 prefix-longer a b xs ys (n, within, some) = (n, omega (arith, length-append xs ys), rw (take-append-le n xs ys within) some)
-
-pub appends-none : (a : Option (List ℕ)) → Appends a a []
-appends-none None = tt
-appends-none (Some xs) = sym (append-nil xs)
 
 pub prefix-none : (a : Option (List ℕ)) (bytes : List ℕ) → AppendsPrefix a a bytes
 prefix-none a bytes = (0, omega arith, appends-none a)
@@ -73,8 +70,3 @@ pub line_cut : (a b c : Option (List ℕ)) (p q xs ys line : List ℕ) → line 
 line_cut a b c p q xs ys line is put some =
     let P : List ℕ → Type 0 = λ l. AppendsPrefix a c (p ++ (xs ++ l)) in
     subst P is (prefix-then a b c p q xs line put some)
-
--- what holds holds at an error
-pub on_err : {E : Type 0} (r : Result (Unit {0}) E) (P : Type 0) → P → OnErr r P
-on_err (Ok u) P holds = tt
-on_err (Err e) P holds = holds

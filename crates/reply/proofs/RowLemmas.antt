@@ -20,7 +20,8 @@ use Rattle.sql_query.specs.Tuples.{Tuple, row_at, row_of, rows_of_relation, valu
 use Rattle.sql_query.specs.WellBound.{IsColumnOf, IsWellBound}
 use Rattle.sql_query.specs.Worlds.{Holds, stored_at, nothing_stored, world}
 use Rattle.executor.specs.store_Kept.{IsStoreOf, Kept}
-use Rattle.sort_rows.proofs.ListLemmas.{zip_at, zip_long}
+use Rattle.pg_base.proofs.ListLemmas.{zip-long as zip_long}
+use Rattle.pg_base.proofs.ListLemmas.{zip-at as zip_at}
 use Rattle.executor.specs.Numbers.{IsTupleOf, numbers}
 use Rattle.reply.specs.Showing.{HasColumn, cell_of, rows_at}
 

@@ -28,10 +28,6 @@ next-stopped a b c xs ys rest zs first (n, within, some) e =
     let both : AppendsPrefix a c (xs ++ ys) = (length xs + n, omega (arith, length-append xs ys), Appends-more a b c xs (take n ys) _ first some (take-append-add xs ys n)) in
     prefix-longer a c (xs ++ ys) rest zs both e
 
-pub on_err : {E : Type 0} (r : Result (Unit {0}) E) (P : Type 0) → P → OnErr r P
-on_err (Ok u) P holds = tt
-on_err (Err e) P holds = holds
-
 -- the pieces before one, the piece, and the pieces behind it
 pub pieces_at : {X : Type 0} (f : X → List ℕ) (xs : List X) (i : ℕ) (d : X) → i < length xs → (flat_map f (take i xs) ++ f (get_or xs i d)) ++ flat_map f (drop (suc i) xs) ≡ flat_map f xs
 pieces_at f [] i d lt = absurd (omega (arith, lt))

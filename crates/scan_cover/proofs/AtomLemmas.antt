@@ -21,7 +21,7 @@ use Rattle.eq_classes.proofs.ListLemmas.{IsIn}
 use Rattle.sql_query.specs.Queries.{Query}
 use Rattle.sql_query.specs.WellBound.{IsWellBound, given_with}
 use Rattle.plan_tree.specs.Bitmaps.{is_or}
-use Rattle.bitmap_scan.proofs.LeastLemmas.{sum-cons}
+use Rattle.pg_base.proofs.ListLemmas.{sum-cons}
 use Rattle.scan_cover.specs.Limits.{HasFewAtoms, or_atoms}
 
 sum-joined : (xs ys : List Clause) → sum (map or_atoms (xs ++ ys)) ≡ sum (map or_atoms xs) + sum (map or_atoms ys)

@@ -30,7 +30,7 @@ use Rattle.bitmap_scan.specs.Chosen.{IsLeastTree, combined, marked}
 use Rattle.bitmap_scan.specs.ElementTrees.{IsMade}
 use Rattle.bitmap_scan.proofs.ArmLemmas.{clause-least}
 use Rattle.bitmap_scan.proofs.ElementLemmas.{elements-made}
-use Rattle.bitmap_scan.proofs.MarkedLemmas.{zip-length}
+use Rattle.pg_base.proofs.ListLemmas.{zip-length}
 use Rattle.bitmap_scan.proofs.ScanLemmas.{chosen-scan, cost-cut, named-from}
 use Rattle.plan_check.specs.Plains.{arms_in}
 use Rattle.join_cover.specs.entry_check_ScanLemmas.{kept-cut}

@@ -21,7 +21,8 @@ use Rattle.plan_tree.specs.Space.{IsBitmapScan, IsPlanOf, IsSameSet, conditions_
 use Rattle.plan_tree.proofs.DominationLemmas.{dominates-trans}
 use Rattle.bitmap_scan.specs.Chosen.{AreChosen, IsLeastTree, combined, marked}
 use Rattle.bitmap_scan.proofs.LeastLemmas.{IsUnder, chosen-under}
-use Rattle.bitmap_scan.proofs.MarkedLemmas.{marked-all, where-zip, zip-length}
+use Rattle.bitmap_scan.proofs.MarkedLemmas.{marked-all, where-zip}
+use Rattle.pg_base.proofs.ListLemmas.{zip-length}
 use Rattle.bitmap_scan.proofs.PickedLemmas.{picked-once}
 use Rattle.bitmap_scan.proofs.ScanLemmas.{chosen-scan, under-dominates}
 use Rattle.plan_check.specs.Certificates.{Certificate}

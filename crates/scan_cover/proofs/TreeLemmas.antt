@@ -23,19 +23,16 @@ use Rattle.plan_tree.specs.Views.{trees_of}
 use Rattle.bitmap_scan.specs.Arms.{AreServed}
 use Rattle.bitmap_scan.specs.Chosen.{IsLeastTree, combined}
 use Rattle.bitmap_scan.proofs.ArmLemmas.{clause-least, clause-part}
-use Rattle.bitmap_scan.proofs.LeastLemmas.{sum-cons}
+use Rattle.pg_base.proofs.ListLemmas.{sum-cons}
 use Rattle.plan_check.specs.Plains.{arms_in, arms_in_all, elements_in}
 use Rattle.scan_cover.specs.Trees.{IsKept, element_in}
 use Rattle.scan_cover.specs.Limits.{arms_of_all}
 use Rattle.scan_cover.specs.declared.kept.Kept.{Kept}
+use Rattle.pg_base.proofs.NumberLemmas.{test-below as inside}
 
 or-false : (b : Bool) → b || false ≡ b
 or-false true = refl
 or-false false = refl
-
-inside : (n m : ℕ) (b : Bool) → (b ≡ true → n < m) → nat_lt n m && b ≡ b
-inside n m true h = let lt = h refl in grind (arith, common_steps, lt)
-inside n m false h = grind (arith, common_steps)
 
 both-ways : (m n : ℕ) → m ≤ n → n ≤ m → m ≡ n
 both-ways m n h k = omega (arith, h, k)

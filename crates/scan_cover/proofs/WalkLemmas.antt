@@ -21,14 +21,6 @@ use Rattle.join_cover.specs.declared.uncovered.Uncovered.{Uncovered}
 use Rattle.scan_cover.specs.Scanning.{ArePlainScansServed, IsIndexServed, IsRelationServed, scan_by}
 use Rattle.scan_cover.proofs.GivenLemmas.{index-most}
 
--- one number more
-pub below-next : (P : ℕ → Type 0) (n : ℕ) → ((k : ℕ) → k < n → P k) → P n → (k : ℕ) → k < n + 1 → P k
-below-next P n h here k lt = by (cases_lt k n)
-  where
-    by : (k < n) ⊎ (n ≤ k) → P k
-    by (inl less) = h k less
-    by (inr most) = let same : n ≡ k = omega (arith, most, lt) in subst P same here
-
 -- what all of a list have, each that is listed has
 listed-has : (P : IndexNo → Type 0) (i : IndexNo) (xs : List IndexNo) → All P xs → is-listed i xs ≡ true → P i
 listed-has P i [] all h = absurd (true≢false (sym h))

@@ -55,18 +55,11 @@ use Rattle.scan_exec.proofs.LimitLemmas.{AreByNumber, limits_are, places_number}
 use Rattle.scan_exec.proofs.MovedLemmas.{moved_index}
 use Rattle.scan_exec.proofs.NearLemmas.{base_near, clauses_near, in_allowed, of_clause, ready_at, true_at, used}
 use Rattle.scan_exec.proofs.SeekLemmas.{at_entries, filter_in_same, lawful}
+use Rattle.pg_base.proofs.ListLemmas.{filter-map-is as filter_of_map}
 
 pub map_in_same : {A B : Type 0} (f g : A → B) (xs : List A) → ((x : A) → IsIn x xs → f x ≡ g x) → map f xs ≡ map g xs
 map_in_same f g [] h = refl
 map_in_same f g (x ∷ xs) h = ap₂ (λ y l. y ∷ l) (h x (inl refl)) (map_in_same f g xs (λ y i. h y (inr i)))
-
-pub filter_of_map : {A B : Type 0} (test : B → Bool) (f : A → B) (xs : List A) → filter test (map f xs) ≡ map f (filter (λ x. test (f x)) xs)
-filter_of_map test f [] = refl
-filter_of_map test f (x ∷ xs) = by (test (f x)) (filter_of_map test f xs)
-  where
-    by : (b : Bool) → filter test (map f xs) ≡ map f (filter (λ x. test (f x)) xs) → cond b (f x ∷ filter test (map f xs)) (filter test (map f xs)) ≡ map f (cond b (x ∷ filter (λ x. test (f x)) xs) (filter (λ x. test (f x)) xs))
-    by true later = ap (λ l. f x ∷ l) later
-    by false later = later
 
 map_of_append : {A B : Type 0} (f : A → B) (xs ys : List A) → map f (xs ++ ys) ≡ map f xs ++ map f ys
 map_of_append f [] ys = refl

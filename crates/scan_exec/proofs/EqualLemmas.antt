@@ -60,7 +60,8 @@ use Rattle.scan_probes.proofs.ProbeLemmas.{key_fits}
 use Rattle.scan_exec.specs.Scene.{AreUsed, IsNear, IsScene, IsUsed}
 use Rattle.scan_exec.specs.Coming.{fetched_row}
 use Rattle.scan_exec.specs.Kinds.{IsReadyNumber, rows_of}
-use Rattle.scan_exec.proofs.BegunLemmas.{clauses_ready, fetched_are, filter_of_map}
+use Rattle.scan_exec.proofs.BegunLemmas.{clauses_ready, fetched_are}
+use Rattle.pg_base.proofs.ListLemmas.{filter-map-is as filter_of_map}
 use Rattle.scan_exec.proofs.MovedLemmas.{moved}
 use Rattle.scan_exec.proofs.HashLemmas.{entries_rise, equal_rows, equals_true, fits_key}
 use Rattle.scan_exec.proofs.IndexLemmas.{IsEntryAt}

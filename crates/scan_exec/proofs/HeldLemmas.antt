@@ -37,7 +37,8 @@ use Rattle.scan_probes.specs.Values.{Given}
 use Rattle.scan_exec.specs.Held.{IsMade, IsReadyMark, with_rows}
 use Rattle.scan_exec.specs.Kinds.{passes_entry}
 use Rattle.scan_exec.specs.Scene.{limits}
-use Rattle.scan_exec.proofs.BegunLemmas.{by_number, filter_of_map}
+use Rattle.scan_exec.proofs.BegunLemmas.{by_number}
+use Rattle.pg_base.proofs.ListLemmas.{filter-map-is as filter_of_map}
 use Rattle.scan_exec.proofs.LimitLemmas.{AreByNumber, in_limits, limits_are, numbered_are, places_number}
 
 turned : (a b d : Bool) → (a || b) || d ≡ b || (a || d)

@@ -27,15 +27,7 @@ use Rattle.scan_paths.specs.Reached.{AreReachedBy, IsReach, IsReached}
 use Rattle.scan_paths.specs.Scans.{IsIndexServed}
 use Rattle.scan_paths.specs.declared.reached.Reached.{Reached}
 use Rattle.scan_paths.proofs.SpaceLemmas.{forward-built}
-
--- a condition among those of a list that some test passes
-any-first : {A : Type 0} (f : A → Bool) (xs : List A) → list_any f (take 1 xs) ≡ true → list_any f xs ≡ true
-any-first f [] h = h
-any-first f (x ∷ xs) h = by (f x) h
-  where
-    by : (b : Bool) → b || false ≡ true → b || list_any f xs ≡ true
-    by true g = refl
-    by false g = absurd (true≢false (sym g))
+use Rattle.pg_base.proofs.ListLemmas.{any-take as any-first}
 
 any-allowed : (f : Numbered → Bool) (m : Method) (cs : List Numbered) → list_any f (allowed m cs) ≡ true → list_any f cs ≡ true
 any-allowed f Btree cs h = h

@@ -25,7 +25,8 @@ use Rattle.sql_query.specs.Worlds.{World, IsWorld, Holds, stored_at, nothing_sto
 use Rattle.sort_rows.specs.declared.columns.SortColumn.{SortColumn}
 use Rattle.sort_rows.specs.Columns.{key_at, IsSortColumn}
 use Rattle.sort_rows.specs.Rows.{relation, tuple_of, AreRowsAt, HasRows}
-use Rattle.sort_rows.proofs.ListLemmas.{zip_at, zip_long}
+use Rattle.pg_base.proofs.ListLemmas.{zip-long as zip_long}
+use Rattle.pg_base.proofs.ListLemmas.{zip-at as zip_at}
 use Rattle.sort_rows.proofs.RankLemmas.{rank-below}
 
 abbrev pub now : Bor Values → Values

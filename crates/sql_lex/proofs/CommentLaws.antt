@@ -6,6 +6,7 @@ use Rattle.std.specs.List.{starts_with}
 use Rattle.std.proofs.lemmas.Bool.{and_parts, or_parts, or_from, eqb-true}
 use Rattle.sql_lex.specs.Cuts.{CutsComment, IsNotClosed}
 use Rattle.sql_lex.specs.Blanks.{ClosesComment, close, byte, nested}
+use Rattle.pg_base.proofs.ListLemmas.{joined-parts as joined}
 
 abbrev pub opens : List ℕ → Bool
 opens bs = starts_with nat_eq bs (47 ∷ 42 ∷ [])
@@ -73,9 +74,6 @@ closes_is b c bs h =
     let first = and_parts (nat_eq 42 b) (nat_eq 47 c && true) h in
     let second = and_parts (nat_eq 47 c) true first.1 in
     (sym (eqb-true 42 b first.0), sym (eqb-true 47 c second.0))
-
-joined : (z x y x' y' : List ℕ) → z ≡ x ++ y → y ≡ x' ++ y' → z ≡ (x ++ x') ++ y'
-joined z x y x' y' e e' = rw append_assoc (e ∙ ap (λ (l : List ℕ). x ++ l) e')
 
 two_closed : (n : ℕ) (bs rest z x y x' y' : List ℕ) → bs ≡ z ++ rest → z ≡ x ++ y → ClosesComment x → y ≡ x' ++ y' → ClosesComment x' → CloseAll n y' → Closed (suc n) (47 ∷ 42 ∷ bs) rest
 two_closed n bs rest z x y x' y' cut e first e' second others = record {

@@ -40,6 +40,7 @@ use Rattle.hash_index.specs.Held.{Held}
 use Rattle.plan_tree.specs.Entries.{cell, entry, meets}
 use Rattle.store.specs.Kept.{first_key, found, held_of}
 use Rattle.store.proofs.FoundLemmas.{among, among-suc}
+use Rattle.pg_base.proofs.ListLemmas.{each-map as each-mapped}
 
 -- a row's values by place
 value_fits : (c : Column) (v : Value) → IsValueOf c v → IsOfType c.typed v
@@ -143,10 +144,6 @@ each-among P d rows a zero h = tt
 each-among P d rows a (suc n) h =
     subst (AllByRecursion P) (sym (among-suc d rows a n))
     (each-cond P (meets d.predicate (get_or rows a [])) (entry d rows a) (among d rows (a + 1) n) (h a (omega arith)) (each-among P d rows (a + 1) n (λ k lt. h k (omega arith))))
-
-each-mapped : {A B : Type 0} (P : B → Type 0) (f : A → B) (l : List A) → AllByRecursion (λ x. P (f x)) l → AllByRecursion P (map f l)
-each-mapped P f [] h = tt
-each-mapped P f (x ∷ l) h = (h.0, each-mapped P f l h.1)
 
 module _ (columns : List Column) (d : Index) (lawful : IsLawfulIndex columns d) (rows : List Values) (each : All (IsRowOf columns) rows) (from : ℕ) (le : from ≤ length rows) where
   pub found-fits : All (IsEntryOf d.keys d.include) (found d rows from)

@@ -8,7 +8,8 @@ use Rattle.std.specs.Prelude.{All}
 use Rattle.bitmap_scan.specs.Chosen.{IsLeastTree, marked}
 use Rattle.bitmap_scan.specs.declared.element_tree.ElementTree.{ElementTree}
 use Rattle.bitmap_scan.specs.ElementTrees.{IsKept, tree_in}
-use Rattle.bitmap_scan.proofs.MarkedLemmas.{marked-zip, zip-length}
+use Rattle.bitmap_scan.proofs.MarkedLemmas.{marked-zip}
+use Rattle.pg_base.proofs.ListLemmas.{zip-length}
 use Rattle.bitmap_scan.proofs.OfferLemmas.{one-offered}
 use Rattle.bitmap_scan.proofs.ScanLemmas.{all-covered}
 use Rattle.bitmap_scan.proofs.ElementLemmas.{elements-made}

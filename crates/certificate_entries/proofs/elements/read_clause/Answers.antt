@@ -1,6 +1,7 @@
 use Rattle.std.proofs.Common.{◌≡◌, ◌++◌, ◌∙◌, ℕ, Some, ap, codes, refl, sym}
 use Rattle.std.proofs.lemmas.Bool.{true≢false}
-use Rattle.certificate_entries.proofs.NumberLemmas.{none-some, some-same}
+use Rattle.pg_base.proofs.OptionLemmas.{none-some-too as none-some}
+use Rattle.pg_base.proofs.OptionLemmas.{some-same}
 use Rattle.certificate_entries.proofs.ClauseLemmas.{conjunct-small}
 use Rattle.certificate_entries.proofs.elements.read_clause.Goals as goal
 

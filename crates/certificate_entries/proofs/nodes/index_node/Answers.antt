@@ -1,7 +1,7 @@
 use Rattle.std.proofs.Common.{Bool}
 use Rattle.pg_base.specs.declared.numbers.IndexNo.{IndexNo}
 use Rattle.certificate_text.specs.plan_check_Certificates.{by_index}
-use Rattle.certificate_entries.proofs.NumberLemmas.{none-some}
+use Rattle.pg_base.proofs.OptionLemmas.{none-some-too as none-some}
 use Rattle.certificate_entries.proofs.NodeLemmas.{scan-as}
 use Rattle.certificate_entries.proofs.nodes.index_node.Goals as goal
 

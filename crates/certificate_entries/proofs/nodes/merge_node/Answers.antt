@@ -1,7 +1,8 @@
 use Rattle.std.proofs.Common.{◌∙◌, ◌++◌, refl, sym}
 use Rattle.certificate_text.specs.plan_check_Views.{side}
 use Rattle.certificate_text.specs.Texts.{sides_text}
-use Rattle.certificate_entries.proofs.NumberLemmas.{none-some, some-same}
+use Rattle.pg_base.proofs.OptionLemmas.{none-some-too as none-some}
+use Rattle.pg_base.proofs.OptionLemmas.{some-same}
 use Rattle.certificate_entries.proofs.NodeLemmas.{ends-sides, merge-as, no-sides}
 use Rattle.certificate_entries.proofs.nodes.merge_node.Goals as goal
 

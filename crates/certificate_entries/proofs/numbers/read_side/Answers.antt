@@ -1,6 +1,8 @@
 use Rattle.std.proofs.Common.{◌∙◌, ap₂, sym, Bool, ℕ}
 use Rattle.std.specs.Prelude.{Some}
-use Rattle.certificate_entries.proofs.NumberLemmas.{none-some, some-same, sort-read}
+use Rattle.certificate_entries.proofs.NumberLemmas.{sort-read}
+use Rattle.pg_base.proofs.OptionLemmas.{none-some-too as none-some}
+use Rattle.pg_base.proofs.OptionLemmas.{some-same}
 use Rattle.certificate_entries.proofs.numbers.read_side.Goals as goal
 
 pub returns-in_err-entry : goal.returns-in_err-entry

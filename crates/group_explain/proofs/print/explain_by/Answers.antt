@@ -2,7 +2,8 @@ use Rattle.std.proofs.Common.{List, ℕ, subst, ◌∙◌}
 use Rattle.std.proofs.lemmas.Result.{on_ok_weaker, on_err_weaker}
 use Rattle.std.specs.Io.KnownBytes.{Appends}
 use Rattle.pg_base.specs.Writing.{AppendsPrefix}
-use Rattle.reply.proofs.PuttingLemmas.{on_err, prefix-none}
+use Rattle.reply.proofs.PuttingLemmas.{prefix-none}
+use Rattle.pg_base.proofs.OptionLemmas.{on-err as on_err}
 use Rattle.group_explain.proofs.ReplyLemmas.{explained, explaining, text_of}
 use Rattle.group_explain.proofs.print.explain_by.Goals as goal
 

@@ -5,7 +5,7 @@ use Rattle.std.proofs.lemmas.Option.{same_Some}
 use Rattle.std.specs.Fmt.{decimal}
 use Rattle.certificate_entries.specs.explain_Texts.{conjunct_by, number_text}
 use Rattle.certificate_entries.proofs.ClauseLemmas.{conjunct-small}
-use Rattle.certificate_entries.proofs.NumberLemmas.{none-some}
+use Rattle.pg_base.proofs.OptionLemmas.{none-some-too as none-some}
 use Rattle.plan_lines.proofs.CompareLemmas.{some-of}
 use Rattle.plan_lines.proofs.bitmap_lines.read_conjunct.Goals as goal
 

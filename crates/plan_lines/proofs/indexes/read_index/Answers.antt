@@ -2,7 +2,7 @@ use Rattle.std.proofs.Common.{◌∙◌, subst, sym, true≢false}
 use Rattle.pg_base.specs.declared.numbers.IndexNo.{IndexNo}
 use Rattle.plan_lines.specs.HasText.{IsIndexOfQuery}
 use Rattle.plan_lines.proofs.IndexLemmas.{index-left, index-read, index-same}
-use Rattle.plan_lines.proofs.ScannedLemmas.{none-some}
+use Rattle.pg_base.proofs.OptionLemmas.{none-some-too as none-some}
 use Rattle.plan_lines.proofs.indexes.read_index.Goals as goal
 
 pub returns-in_err-index-clause-only : goal.returns-in_err-index-clause-only

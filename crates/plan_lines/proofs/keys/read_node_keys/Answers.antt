@@ -5,7 +5,7 @@ use Rattle.pg_base.specs.Sets.{has}
 use Rattle.pathkeys.specs.Keys.{Keys}
 use Rattle.certificate_entries.specs.explain_Texts.{keys_text}
 use Rattle.plan_lines.proofs.KeyLemmas.{is-none, is-some, no-keys, some-keys}
-use Rattle.plan_lines.proofs.ScannedLemmas.{none-some}
+use Rattle.pg_base.proofs.OptionLemmas.{none-some-too as none-some}
 use Rattle.plan_lines.proofs.keys.read_node_keys.Goals as goal
 
 pub returns-then-is_empty-clause-only : goal.returns-then-is_empty-clause-only

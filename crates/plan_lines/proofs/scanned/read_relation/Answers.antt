@@ -1,5 +1,6 @@
 use Rattle.std.proofs.Common.{◌∙◌}
-use Rattle.plan_lines.proofs.ScannedLemmas.{bare, first-same, none-some}
+use Rattle.plan_lines.proofs.ScannedLemmas.{bare, first-same}
+use Rattle.pg_base.proofs.OptionLemmas.{none-some-too as none-some}
 use Rattle.pg_base.specs.declared.numbers.RelNo.{RelNo}
 use Rattle.pg_base.specs.declared.rel_set.RelSet.{RelSet}
 use Rattle.plan_lines.proofs.scanned.read_relation.Goals as goal

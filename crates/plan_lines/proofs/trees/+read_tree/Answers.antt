@@ -9,7 +9,7 @@ use Rattle.plan_lines.specs.HasText.{HasBits}
 use Rattle.plan_lines.specs.Stands.{Stands}
 use Rattle.plan_lines.proofs.ListLemmas.{broken, done}
 use Rattle.plan_lines.proofs.TreeLemmas.{HasTree, held-has, in_list, in_list-back, in_list-has, in_list-text, no-tree, tree-begins, tree-item, trees-begun, trees-have, trees-next}
-use Rattle.certificate_entries.proofs.NumberLemmas.{none-some}
+use Rattle.pg_base.proofs.OptionLemmas.{none-some-too as none-some}
 use Rattle.plan_lines.proofs.trees.+read_tree.Goals as goal
 
 pub read_all-trees-init : goal.read_all-trees-init

@@ -9,7 +9,7 @@ use Rattle.plan_lines.specs.HasText.{HasBits}
 use Rattle.plan_lines.specs.Stands.{Stands}
 use Rattle.plan_lines.proofs.ListLemmas.{broken, done}
 use Rattle.plan_lines.proofs.TreeLemmas.{HasLeaf, arm-has, leaf-begins, leaf-item, leaves-begun, leaves-have, leaves-next, no-leaf}
-use Rattle.certificate_entries.proofs.NumberLemmas.{none-some}
+use Rattle.pg_base.proofs.OptionLemmas.{none-some-too as none-some}
 use Rattle.plan_lines.proofs.trees.read_arms.Goals as goal
 
 pub arms-init : goal.arms-init

@@ -1,6 +1,7 @@
 use Rattle.plan_tree.specs.Views.{plan}
 use Rattle.reply.specs.Settings.{world_of}
-use Rattle.reply.proofs.PuttingLemmas.{on_err, prefix-none}
+use Rattle.reply.proofs.PuttingLemmas.{prefix-none}
+use Rattle.pg_base.proofs.OptionLemmas.{on-err as on_err}
 use Rattle.plan_reply.proofs.ReplyLemmas.{begun-none, begun-on, replied-on}
 use Rattle.plan_reply.proofs.answer.answer_by.Goals as goal
 

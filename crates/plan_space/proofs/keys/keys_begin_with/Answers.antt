@@ -5,7 +5,8 @@ use Rattle.eq_classes.specs.declared.classes.ClassNo.{ClassNo}
 use Rattle.pathkeys.specs.Finding.{class_numbers}
 use Rattle.plan_tree.specs.Keys.{keys_of}
 use Rattle.plan_tree.specs.Views.{plan}
-use Rattle.plan_space.proofs.KeyLemmas.{below-next, class-at, covers-at, covers-from, number-at, other-class}
+use Rattle.plan_space.proofs.KeyLemmas.{class-at, covers-at, covers-from, number-at, other-class}
+use Rattle.pg_base.proofs.NumberLemmas.{each-below as below-next}
 use Rattle.plan_space.proofs.keys.keys_begin_with.Goals as goal
 
 pub returns-then-not-is_at : goal.returns-then-not-is_at

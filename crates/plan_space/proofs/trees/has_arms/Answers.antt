@@ -6,7 +6,7 @@ use Rattle.plan_tree.specs.index_match_Arms.{arms_of}
 use Rattle.plan_tree.specs.Bitmaps.{MatchesArm, condition_at}
 use Rattle.plan_tree.proofs.ElementLemmas.{same-number}
 use Rattle.plan_tree.proofs.PricingLemmas.{arms-found}
-use Rattle.plan_space.proofs.TreeLemmas.{zip-long}
+use Rattle.pg_base.proofs.ListLemmas.{zip-long}
 use Rattle.plan_space.proofs.trees.has_arms.Goals as goal
 
 pub all_match-requires-clause-few : goal.all_match-requires-clause-few

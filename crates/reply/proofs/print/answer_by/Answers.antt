@@ -1,7 +1,8 @@
 use Rattle.std.proofs.Common.{◌∙◌, arith}
 use Rattle.plan_tree.specs.Views.{path}
 use Rattle.reply.specs.Settings.{world_of}
-use Rattle.reply.proofs.PuttingLemmas.{on_err, prefix-none}
+use Rattle.reply.proofs.PuttingLemmas.{prefix-none}
+use Rattle.pg_base.proofs.OptionLemmas.{on-err as on_err}
 use Rattle.reply.proofs.ReplyLemmas.{answered_on, answering, answering_on}
 use Rattle.reply.proofs.print.answer_by.Goals as goal
 

@@ -4,7 +4,8 @@ use Rattle.std.specs.Io.KnownBytes.{Appends}
 use Rattle.pg_base.specs.Writing.{AppendsPrefix}
 use Rattle.explain.specs.Texts.{explained_text}
 use Rattle.plan_tree.specs.Views.{path}
-use Rattle.reply.proofs.PuttingLemmas.{on_err, prefix-none}
+use Rattle.reply.proofs.PuttingLemmas.{prefix-none}
+use Rattle.pg_base.proofs.OptionLemmas.{on-err as on_err}
 use Rattle.reply.proofs.ReplyLemmas.{explained, explaining}
 use Rattle.reply.proofs.print.explain_by.Goals as goal
 

@@ -1,4 +1,5 @@
-use Rattle.reply_text.proofs.PieceLaws.{err_weaker, on_err}
+use Rattle.reply_text.proofs.PieceLaws.{err_weaker}
+use Rattle.pg_base.proofs.OptionLemmas.{on-err as on_err}
 use Rattle.reply_text.proofs.LineLaws.{head_stopped, word_stopped, end_stopped}
 use Rattle.reply_text.proofs.line.write_fault.Goals as goal
 

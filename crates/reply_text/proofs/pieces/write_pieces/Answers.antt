@@ -1,5 +1,6 @@
 use Rattle.std.proofs.Common.{List, ℕ, Bor}
-use Rattle.reply_text.proofs.PieceLaws.{on_err, next-stopped, pieces_at}
+use Rattle.reply_text.proofs.PieceLaws.{next-stopped, pieces_at}
+use Rattle.pg_base.proofs.OptionLemmas.{on-err as on_err}
 use Rattle.reply_text.proofs.pieces.write_pieces.Goals as goal
 
 pub returns-in_err-write_all-clause-err : goal.returns-in_err-write_all-clause-err

@@ -1,5 +1,6 @@
 use Rattle.std.specs.Char.{to_ascii_lowercase}
-use Rattle.reply_text.proofs.PieceLaws.{on_err, next-stopped, bytes_at}
+use Rattle.reply_text.proofs.PieceLaws.{next-stopped, bytes_at}
+use Rattle.pg_base.proofs.OptionLemmas.{on-err as on_err}
 use Rattle.reply_text.proofs.pieces.write_small.Goals as goal
 
 pub returns-in_err-write_all-clause-err : goal.returns-in_err-write_all-clause-err

@@ -1,7 +1,8 @@
 use Rattle.std.proofs.Common.{◌∙◌, ap, arith, length}
 use Rattle.plan_check.specs.Views.{certificate}
 use Rattle.scan_cover.specs.Scanning.{IsRelationServed}
-use Rattle.scan_cover.proofs.WalkLemmas.{below-next, plain-served}
+use Rattle.scan_cover.proofs.WalkLemmas.{plain-served}
+use Rattle.pg_base.proofs.NumberLemmas.{each-below as below-next}
 use Rattle.scan_cover.proofs.relations.open_plain_scan.Goals as goal
 
 pub loop-r-preserved : goal.loop-r-preserved

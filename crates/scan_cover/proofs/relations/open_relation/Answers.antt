@@ -2,7 +2,8 @@ use Rattle.std.proofs.Common.{arith}
 use Rattle.pg_base.specs.declared.numbers.IndexNo.{IndexNo}
 use Rattle.plan_check.specs.Views.{certificate}
 use Rattle.scan_cover.specs.Scanning.{IsIndexServed}
-use Rattle.scan_cover.proofs.WalkLemmas.{below-next, relation-served}
+use Rattle.scan_cover.proofs.WalkLemmas.{relation-served}
+use Rattle.pg_base.proofs.NumberLemmas.{each-below as below-next}
 use Rattle.scan_cover.proofs.relations.open_relation.Goals as goal
 
 pub loop-bits-preserved : goal.loop-bits-preserved

@@ -1,7 +1,7 @@
 use Rattle.std.proofs.Common.{◌≡◌, ◌∙◌, sym}
 use Rattle.eq_classes.specs.Listing.{clause_at}
 use Rattle.worked_plans.specs.Examples.{firsts_equal}
-use Rattle.plan_space.proofs.KeyLemmas.{below-next}
+use Rattle.pg_base.proofs.NumberLemmas.{each-below as below-next}
 use Rattle.worked_plans.proofs.judged.are_all.Goals as goal
 
 pub loop-n-preserved : goal.loop-n-preserved

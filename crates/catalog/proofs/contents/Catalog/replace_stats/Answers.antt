@@ -8,7 +8,7 @@ use Rattle.catalog.specs.Known.{statistics}
 use Rattle.catalog.proofs.AnalysedLemmas.{known-each, one-each}
 use Rattle.catalog.proofs.ChangedLemmas.{changed}
 use Rattle.catalog.proofs.EntryLemmas.{def-of_value}
-use Rattle.catalog.proofs.ReplacementLemmas.{as_many}
+use Rattle.pg_base.proofs.ListLemmas.{zip-length as as_many}
 use Rattle.catalog.proofs.WriteLemmas.{is_table, kept, written}
 use Rattle.catalog.specs.Contents.{IsKnown}
 use Rattle.catalog.proofs.contents.Catalog.replace_stats.Goals as goal

@@ -6,3 +6,4 @@ pub use Rattle.scan_cover.proofs.MarkLemmas as scan_cover_MarkLemmas
 pub use Rattle.scan_cover.specs.entry_check_PlaceLemmas as entry_check_PlaceLemmas
 pub use Rattle.scan_cover.specs.entry_check_ScanLemmas as entry_check_ScanLemmas
 pub use Rattle.scan_cover.specs.join_cover_CoverLemmas as join_cover_CoverLemmas
+pub use Rattle.entry_check.proofs.PartLemmas as entry_check_PartLemmas

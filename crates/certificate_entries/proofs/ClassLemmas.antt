@@ -25,6 +25,7 @@ use Rattle.plan_laws.proofs.PartLemmas.{apart_at}
 use Rattle.sql_query.specs.Queries.{Query}
 use Rattle.sql_query.specs.WellBound.{IsWellBound, given_with}
 use Rattle.certificate_entries.specs.Keys.{IsClassIn, IsClassOf, is_abs}
+use Rattle.eq_classes.proofs.TypedLemmas.{is_some_value as sample-fits}
 
 -- the first class that passes a test
 found-at : (p : Class → Bool) (i : ℕ) (cs : List Class) (n : ℕ) → position_from p i cs ≡ Some n → (k : ℕ) × (n ≡ i + k) × (k < length cs) × (p (class_at cs k) ≡ true)
@@ -85,13 +86,6 @@ plain-of BoolType families.Bool h other = refl
 
 same-family : (f g : Family) (o : Option Family) → o ≡ Some f → o ≡ Some g → f ≡ g
 same-family f g o e h = cc
-
-sample-fits : (t : SqlType) → IsOfType t (some_value t)
-sample-fits Int2 = refl
-sample-fits Int4 = refl
-sample-fits Int8 = refl
-sample-fits TextType = tt
-sample-fits BoolType = tt
 
 -- a class of a column in a family but that of absolute values, where the class's is one
 pub of-family : (q : Query) (x : ColRef) (abs : Bool) (f : Family) (n : ℕ) → is_abs f ≡ abs → IsClassIn q x f n → IsClassOf q x abs n

@@ -40,6 +40,8 @@ use Rattle.certificate_laws.proofs.NodeLemmas.{node-text}
 use Rattle.certificate_laws.proofs.RowsLemmas.{estimate-few}
 use Rattle.check_reply.specs.Checked.{IsToldBy, with_entry}
 use Rattle.check_reply.specs.Telling.{Tells, entry_with}
+use Rattle.certificate_check.specs.entry_check_PartLemmas.{kept-start as started}
+use Rattle.certificate_laws.proofs.EntryLemmas.{inside}
 
 -- the number of an entry's line, taken off
 pub number-off : (text : List ℕ) → drop 2 (decimal 1 ++ (codes " " ++ text)) ≡ text
@@ -66,10 +68,6 @@ last-at q t e p h =
     ∙ ap (option_and_then (λ (o : Option Plan). o)) (at-split ps x [])
     ∙ h
 
-started : (w : Option Window) (a b : ℕ) → a ≡ startup_kept w b → IsStartup w a b
-started None a b e = tt
-started (Some w) a b e = e
-
 has-startup : (w : Option Window) (a b n : ℕ) → a ≡ startup_kept w b → b ≤ n → n < 10 ^ 18 → HasStartup w a
 has-startup None a b n e most low = e
 has-startup (Some w) a b n e most low = omega (arith, e, most, low)
@@ -84,10 +82,6 @@ no-sort c q K (sort keys input) (inl e) = absurd (false≢true e)
 no-sort c q K (sort keys input) (inr h) = absurd h
 no-sort c q K (nest outer inner) h = refl
 no-sort c q K (merge keys outer inner) h = refl
-
--- a set that has no relation past the query's has those of the query alone
-inside : (q : Query) (p : RelSet) → IsOfQuery q p → (k : ℕ) → has p.0 k ≡ true → k < width q
-inside q p of k is = elim (cases_lt k (width q)) [ inl lt ↦ lt | inr le ↦ absurd (true≢false (sym is ∙ of k le)) ]
 
 module _ (c : Contents) (q : Query) (t : Certificate) (node : Plain) (startup total rows : ℕ) (u : IsUncovered c q t node startup total rows) where
   module _ (set param : RelSet) (n : Node) (keys : Keys) (h : Tells c q t set param n keys u.plan) where

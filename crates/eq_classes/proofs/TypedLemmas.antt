@@ -30,7 +30,7 @@ use Rattle.eq_classes.proofs.SoundLemmas.{class_sound}
 abbrev sample : (ColRef → SqlType) → ColRef → Value
 sample type_of x = some_value (type_of x)
 
-is_some_value : (t : SqlType) → IsOfType t (some_value t)
+pub is_some_value : (t : SqlType) → IsOfType t (some_value t)
 is_some_value Int2 = refl
 is_some_value Int4 = refl
 is_some_value Int8 = refl

@@ -25,7 +25,7 @@ use Rattle.eq_classes.proofs.ListLemmas.{IsIn, all_at, all_from}
 use Rattle.eq_classes.proofs.HoldLemmas.{in_flat_map, flat_map_in}
 use Rattle.eq_classes.proofs.ClasswiseLemmas.{same_truth}
 
-is_true-both : (s t : Truth) → is_true (both s t) ≡ is_true s && is_true t
+pub is_true-both : (s t : Truth) → is_true (both s t) ≡ is_true s && is_true t
 is_true-both True t = refl
 is_true-both False t = refl
 is_true-both Unknown True = refl

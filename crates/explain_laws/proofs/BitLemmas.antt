@@ -65,7 +65,7 @@ line-shallow d z =
     let dash : get_or (lead (d + 1) ++ z) (length spaces + 0) 0 ≡ 45 = ap (λ (l : List ℕ). get_or l (length spaces + 0) 0) (lead-flat d z) ∙ get_or-append-add spaces (codes "->  " ++ z) 0 0 in
     record { place = length spaces + 0; before = omega (arith, long); byte = λ e. (omega (arith, dash, e)) }
 
-line-is : (d : ℕ) (t x : List ℕ) → plain_line d t ++ x ≡ lead d ++ (t ++ 10 ∷ x)
+pub line-is : (d : ℕ) (t x : List ℕ) → plain_line d t ++ x ≡ lead d ++ (t ++ 10 ∷ x)
 line-is d t x = append_assoc (lead d) (t ++ codes "\n") x ∙ ap (λ (l : List ℕ). lead d ++ l) (append_assoc t (codes "\n") x)
 
 zip-made : (c : Contents) (r : ℕ) (arms : List Cond) (js : List IndexNo) → AllZip (IsMatchedBy c r) arms js → AllByRecursion (IsIndex c) js

@@ -29,7 +29,8 @@ use Rattle.sql_query.specs.WellBound.{IsColumnOf, IsWellBound, given_with}
 use Rattle.pathkeys.specs.Keys.{Keys, class_of, is_constant, once, order_class, order_keys}
 use Rattle.plan_laws.specs.sort_rows_ColumnLemmas.{member_is}
 use Rattle.plan_laws.proofs.IndexOrderLemmas.{class_found}
-use Rattle.plan_laws.proofs.ItemLemmas.{default_of, same_family, sample_fits}
+use Rattle.plan_laws.proofs.ItemLemmas.{default_of, same_family}
+use Rattle.eq_classes.proofs.TypedLemmas.{is_some_value as sample_fits}
 use Rattle.plan_laws.proofs.KeyLemmas.{find_more}
 use Rattle.explain.specs.Texts.{column_text, direction_text, family_text, key_text, keys_text, with_commas, member_text}
 use Rattle.explain_laws.proofs.NameLemmas.{alias-name, alias-same, column-name, column-same, relation-table}

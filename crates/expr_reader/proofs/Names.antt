@@ -14,6 +14,8 @@ use Rattle.sql_grammar.specs.declared.class.Class.TheVariants.{Name, Operator, Q
 use Rattle.sql_grammar.specs.Terminals.{Terminal, Ident, token_of, t_name, t_operator, t_quoted, class_of}
 use Rattle.sql_grammar.specs.Reading.{free_spelling_of, free_words, reserved_of, free_of, ident_of, word_terminal, symbol_terminal, mark_of, terminal_by, value_of_quoted}
 use Rattle.sql_grammar.specs.Faults.{bytes_of}
+use Rattle.sql_grammar.proofs.LimitLaws.{named-by}
+use Rattle.sql_grammar.proofs.ExprTrees.{named-token as placed-by}
 
 module _ (W : Type 0) (p : W → Bool) where
   found-by : (b : Bool) (x y : W) (rest : Option W) → p y ≡ b → (rest ≡ Some x → p x ≡ true) → cond b (Some y) rest ≡ Some x → p x ≡ true
@@ -23,14 +25,6 @@ module _ (W : Type 0) (p : W → Bool) where
   found : (ws : List W) (x : W) → find p ws ≡ Some x → p x ≡ true
   found [] x e = absurd (cc)
   found (y ∷ ws) x e = found-by (p y) x y (find p ws) refl (found ws x) e
-
-named-by : (o : Option Free) (small : List ℕ) (t : Token) → free_of small ≡ o → bytes_of (ident_of o small t) ≡ small
-named-by (Some w) small t is = sym ((bytes_eq-Decides small (free_spelling_of w)).0 (found Free (λ v. bytes_eq small (free_spelling_of v)) free_words w is))
-named-by None small t is = refl
-
-placed-by : (o : Option Free) (small : List ℕ) (t : Token) → token_of (ident_of o small t) ≡ t
-placed-by (Some w) small t = refl
-placed-by None small t = refl
 
 -- a terminal that is a name, its bytes and its token
 abbrev pub IsNameOf : Terminal → List ℕ → Token → Type 0

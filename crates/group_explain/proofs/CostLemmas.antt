@@ -18,10 +18,7 @@ use Rattle.group_explain.specs.GroupPlans.{plan_total}
 use Rattle.group_explain.specs.Plans.{IsReady, input_base}
 use Rattle.group_explain.specs.Texts.{group_query, input_total}
 use Rattle.group_explain.specs.declared.chosen.Chosen.{Chosen}
-
-child-by : (b : Bool) (n x : ℕ) → x ≤ cond b (sort_cost (pair 0 x) n).total x
-child-by true n x = sort-child (pair 0 x) n
-child-by false n x = omega arith
+use Rattle.group_values.proofs.CostLemmas.{child-by}
 
 -- a sort of the groups on top costs no less
 without-sort : (f : Form) (t : GroupTask) (a : ℕ) → group_cost f t a ≤ group_total f t a

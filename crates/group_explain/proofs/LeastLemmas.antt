@@ -22,10 +22,7 @@ use Rattle.group_explain.specs.Plans.{IsChosen}
 use Rattle.group_explain.specs.Texts.{group_query}
 use Rattle.group_explain.specs.declared.chosen.Chosen.{Chosen}
 use Rattle.group_explain.proofs.OrderLemmas.{no-order}
-
-whole-query : (f : Form) (g : GroupQuery) → g.base.window ≡ None → (input_query f g).window ≡ None
-whole-query Sorted g e = e
-whole-query Hashed g e = e
+use Rattle.group_explain.proofs.GroupedPlanLemmas.{whole-query}
 
 price-whole : (c : Contents) (q : Query) → q.window ≡ None → (p : Plan) → price c q p ≡ (cost c q p).total
 price-whole c q whole p = ap (λ w. price_by c q w p) whole

@@ -21,12 +21,6 @@ use Rattle.sql_query.specs.Queries.{Query, all_of_query}
 use Rattle.sql_query.specs.WellBound.{IsColumnOf, IsWellBound}
 use Rattle.group_explain.specs.GroupPlans.{distinct_in, distinct_of}
 
--- a key is a class
-pub key-class : (ks : List ClassNo) (n most : ℕ) (d : ClassNo) → n < length ks → All (λ m. m < most) (class_numbers ks) → (get_or ks n d).0 < most
-key-class ks n most d lt all =
-    let P : ℕ → Type 0 = λ m. m < most in
-    subst P (get_or-map (λ (c : ClassNo). c.0) ks n d 0 lt) (all n 0 (let long = length-map ks (λ (c : ClassNo). c.0) in omega (arith, long, lt)))
-
 -- one key more
 pub values-more : (f : ℕ → ℕ) (ks : List ClassNo) (n : ℕ) (d : ClassNo) (before new : List ℕ) → n < length ks → new ≡ before ++ f (get_or ks n d).0 ∷ []
     → before ++ map f (class_numbers (drop n ks)) ≡ map f (class_numbers ks) → new ++ map f (class_numbers (drop (n + 1) ks)) ≡ map f (class_numbers ks)

@@ -25,6 +25,7 @@ use Rattle.group_reader.specs.declared.selected.Selected.TheVariants.{Plain, Gro
 use Rattle.group_reader.specs.Binding.{BoundGroups, grouped_with}
 use Rattle.group_reader.specs.Selected.{IsAnyGrammatical, IsGroupedAs, IsGroupedAt, IsGroupedOf, IsPlainOf, IsReadGrouped, IsReadPlain}
 use Rattle.group_reader.proofs.AddLemmas.{conveys-refused}
+use Rattle.query_reader.proofs.PlaceLemmas.{one-select as there-select}
 
 -- a SELECT that groups stands behind its EXPLAIN
 pub grouped-at : (text : List ℕ) (tokens : List Token) (first : ℕ) (p : IsOffered READS_GROUPS) (e : MaybeExplain) (k : Token) (x : GroupedSelect) → IsSpelled (grouped p e k x) text tokens → first ≡ words_before (terminals text tokens) →
@@ -68,10 +69,6 @@ whole-there text tokens first (inr g) place =
       record { statement = (grouped at.offered unexplained at.word g.select, at.spelled.levels, at.spelled.words); within = at.spelled.limits },
       sym (ap begins_select at.spelled.words),
     )
-
--- a SELECT of the one form there is one of that form from the start
-there-select : (text : List ℕ) (tokens : List Token) (x : WindowedSelect) (e : Ending) → IsSpelled (as_statement x e) text tokens → AreSelect text tokens
-there-select text tokens (windowed_select q y v) e w = (ordered_select no_explain q y v e, w)
 
 there-grouped : (text : List ℕ) (tokens : List Token) (x : GroupedSelect) (first : ℕ) → IsGroupedAt text tokens first x → AreGrouped text (drop first tokens)
 there-grouped text tokens x first at = record { offered = at.offered; explaining = unexplained; word = at.word; select = x; spelled = at.spelled }

@@ -83,10 +83,6 @@ limited-ok {A} (Ok l) start None F x is = let same : l ≡ x = cc (is) in ap (λ
 limited-ok (Ok l) start (Some k) F x is = absurd (cc (is))
 limited-ok (Err e) start o F x is = absurd (cc (is))
 
-pub limited-any : {A B : Type 0} (start : Token) (o : Option Limit) (x : A) (z : B) (f : Fault) → limited start o x ≡ Err f → limited start o z ≡ Err f
-limited-any start None x z f is = absurd (cc (is))
-limited-any start (Some k) x z f is = let same : fault_at (S15 k) start ≡ f = cc (is) in ap Err same
-
 -- the same over the relations of FROM
 module _ (c : Contents) (range : Range) (joined : List Cond) (start : Token) (is : List GroupedItem) (w : Where) (b : GroupBy) (y : OrderBy) where
   abbrev pub over_these : Joined

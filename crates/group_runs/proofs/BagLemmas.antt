@@ -14,6 +14,7 @@ use Rattle.group_values.specs.Shapes.{GroupShape, Summary}
 use Rattle.group_values.proofs.OrderLemmas.{sorters_total}
 use Rattle.group_runs.proofs.CallLemmas.{calls-moved}
 use Rattle.group_runs.proofs.KeyLemmas.{Keys, keys-moved, keys-of-firsts, once, once-moved, with_keys}
+use Rattle.group_values.proofs.SumLemmas.{no-width as no-keys}
 
 summary-as : (calls : List Call) (ss ts : List Seen) → Perm ss ts → keys_of ss ≡ keys_of ts → summary calls ss ≡ summary calls ts
 summary-as calls ss ts p e = ap₂ (λ (ks vs : List Value). let r : Summary = record { keys = ks; called = vs } in r) e (calls-moved calls 0 ss ts p)
@@ -52,10 +53,6 @@ keyed-moved calls ss ts p =
 narrow : (ks : List Value) → length ks ≡ 0 → ks ≡ []
 narrow [] e = refl
 narrow (k ∷ ks) e = absurd (omega (arith, e))
-
-no-keys : (ss : List Seen) → All (λ (s : Seen). length s.keys ≡ 0) ss → keys_of ss ≡ []
-no-keys [] all = refl
-no-keys (s ∷ ss) all = narrow s.keys (All-head (λ (s : Seen). length s.keys ≡ 0) s ss all)
 
 by-width : (w : ℕ) (calls : List Call) (ss ts : List Seen) → All (λ (s : Seen). length s.keys ≡ w) ss → IsPermutation ss ts → Perm (map (summary calls) (groups w ss)) (map (summary calls) (groups w ts))
 by-width zero calls ss ts widths p =

@@ -36,7 +36,9 @@ use Rattle.index_reader.specs.Parts.{candidates_of, name_token}
 use Rattle.index_reader.specs.Stages.{AreRead}
 use Rattle.index_reader.specs.Walk.{AreApart, Row, RowAt, Stands, TellsCandidate, TellsCandidates}
 use Rattle.index_reader.proofs.NameLemmas.{by-candidate, by-index, by-table}
-use Rattle.index_reader.proofs.StandLemmas.{behind, front, some-token, stands-within}
+use Rattle.index_reader.proofs.StandLemmas.{behind, front, stands-within}
+use Rattle.query_reader.proofs.ReadingLemmas.{some-token}
+use Rattle.index_reader.proofs.CandLemmas.{some-words}
 
 -- One candidate.
 
@@ -48,10 +50,6 @@ cand-at text tokens first end x next rest s at = record {
   words = subst (λ (n : ℕ). words_of_cand x ≡ terminals text (drop first (take n tokens))) (sym at) (front text tokens first (words_of_cand x) (next ∷ rest) s.are);
   limits = s.limits;
 }
-
--- it has a word at least
-some-words : (x : Cand) → 0 < length (words_of_cand x)
-some-words (cand_on n o t u p x xs m c w) = omega arith
 
 pub cand-ahead : (text : List ℕ) (tokens : List Token) (first end : ℕ) (x : Cand) (next : Terminal) (rest : List Terminal) → Stands text tokens first (words_of_cand x) next rest → end ≡ first + length (words_of_cand x) →
     (first < end) × (end < length tokens)

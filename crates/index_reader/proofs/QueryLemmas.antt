@@ -32,7 +32,8 @@ use Rattle.index_reader.specs.Parts.{open_token, select_in}
 use Rattle.index_reader.specs.Queries.{IsQueryOf, QueryMeans, query_bound}
 use Rattle.index_reader.specs.Stages.{AreRead}
 use Rattle.index_reader.specs.Walk.{ArePlannable, QueryRow, QueryRowAt, Stands, TellsQueries, TellsQuery}
-use Rattle.index_reader.proofs.StandLemmas.{behind, ends-within, front, some-token, stands-within}
+use Rattle.index_reader.proofs.StandLemmas.{behind, ends-within, front, stands-within}
+use Rattle.query_reader.proofs.ReadingLemmas.{some-token}
 
 -- One SELECT.
 

@@ -21,7 +21,8 @@ use Rattle.index_reader.specs.AdviseSoundness.{IsSound}
 use Rattle.index_reader.specs.Stages.{AreRead}
 use Rattle.index_reader.specs.AdviseStatements.{IsMeaning, IsRefusal, PartsStand, TellsParts, asked}
 use Rattle.index_reader.specs.Walk.{AreApart, ArePlannable, HaveRoom, QueryRow, Row, TellsCandidates, TellsQueries}
-use Rattle.index_reader.proofs.StandLemmas.{ends-within, some-token}
+use Rattle.index_reader.proofs.StandLemmas.{ends-within}
+use Rattle.query_reader.proofs.ReadingLemmas.{some-token}
 use Rattle.index_reader.proofs.StatementLemmas.{Advises, InTurn, Told, told}
 
 -- as many are read as are left

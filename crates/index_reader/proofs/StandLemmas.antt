@@ -51,11 +51,6 @@ err-no f n is = cc (is)
 pub ok-same : (m n : ℕ) → ok m ≡ ok n → m ≡ n
 ok-same m n is = cc (is)
 
--- a statement has a first token
-pub some-token : (tokens : List Token) → 0 < length tokens → (start : Token) × (later : List Token) × (tokens ≡ start ∷ later)
-some-token [] lt = absurd (omega (arith, lt))
-some-token (t ∷ ts) lt = (t, ts, refl)
-
 -- the tokens of a text can be counted
 pub few-tokens : (text : List ℕ) (tokens : List Token) → ((from : ℕ) × AreWords text from tokens) → length text ≤ 2 ^ 31 → length tokens < 2 ^ 32
 few-tokens text tokens (from, words) short = let t = words-are-tokens text from tokens words short in t.few

@@ -55,7 +55,7 @@ cheapest-lent items ps p e is_there least = subst (λ (l : List Path). IsCheapes
 pub none-lent : (items : List Costed) (ps : List Path) → map path items ≡ ps → items ≡ [] → ps ≡ []
 none-lent items ps e never = sym e ∙ ap (map path) never
 
-nothing : (items : List Costed) → length items ≡ 0 → items ≡ []
+pub nothing : (items : List Costed) → length items ≡ 0 → items ≡ []
 nothing [] e = refl
 nothing (x ∷ items) e = absurd (omega (arith, e))
 

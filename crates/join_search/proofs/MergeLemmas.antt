@@ -50,6 +50,7 @@ use Rattle.join_search.proofs.OfferLemmas.{cheapest-of, kept-at-most, served-by,
 use Rattle.join_search.proofs.ItemLemmas.{there-kept, plan-of-none, side-of-none}
 use Rattle.join_search.proofs.PlanLemmas.{at-none, at-set, sets-same, whole-rows}
 use Rattle.pg_base.proofs.ListLemmas.{some-folded}
+use Rattle.plan_tree.proofs.BoundLemmas.{some-clamped}
 
 by-true : (keys : Keys) (o : Costed) → covers o.keys keys ≡ true → cost_by keys o ≡ o.cost
 by-true keys o e = ap (λ b. cond b o.cost (2 ^ 64 - 1)) e
@@ -449,9 +450,6 @@ work-rises a b ro ri k p n some =
   where
     sum : (x y z : ℕ) → y ≤ z → x + y ≤ x + z
     sum x y z h = omega (arith, h)
-
-some-clamped : (n : ℕ) → 1 ≤ clamped n
-some-clamped n = omega arith
 
 -- the pairs of two sides are some
 some-pairs : (c : Contents) (q : Query) (a b : Set) (keys : Keys) → 1 ≤ pairs c q.range q.classes a b keys

@@ -30,7 +30,7 @@ listed_conds (e ∷ es) = ap (λ xs. e ∷ xs) (listed_conds es)
 pub and-is : (parts : Exprs) → view.cond (And parts) ≡ all_of (view.conds parts.items.items)
 and-is parts = search (rules, the_lemmas, rolls-And, fold-roll-Expr, fold_out-Expr, fold-roll-Exprs, fold_out-Exprs)
 
-over-each : (c : Contents) (range : Range) (es : List Expr) → IsTrue (each_column_of (is_column_in c range) (view.conds es)) → AreTyped (type_in c range) (view.conds es) → AllByRecursion (λ (e : Expr). IsOver c range (view.cond e)) es
+pub over-each : (c : Contents) (range : Range) (es : List Expr) → IsTrue (each_column_of (is_column_in c range) (view.conds es)) → AreTyped (type_in c range) (view.conds es) → AllByRecursion (λ (e : Expr). IsOver c range (view.cond e)) es
 over-each c range [] h t = tt
 over-each c range (e ∷ es) h t =
     let parts = and_parts (each_column (is_column_in c range) (view.cond e)) (each_column_of (is_column_in c range) (view.conds es)) h in

@@ -32,7 +32,7 @@ like_itself (Int x) = tt
 like_itself (Flag x) = tt
 like_itself (String x) = tt
 
-no_number : (t : SqlType) (n : ℤ) → limit t ≡ 0 → in_range t n ≡ true → ⊥
+pub no_number : (t : SqlType) (n : ℤ) → limit t ≡ 0 → in_range t n ≡ true → ⊥
 no_number t (pos n) none h = omega (arith, ltb-true n (limit t) h)
 no_number t (negsuc m) none h = omega (arith, ltb-true m (limit t) h)
 

@@ -13,6 +13,7 @@ use Rattle.pg_expr.specs.Cond.{Cond, compare, is_null, is_not_null, bool_col, co
 use Rattle.pg_expr.specs.Truths.{value_of, truth_at, truth_of_all, truth_of_any, truth_of_null}
 use Rattle.pg_expr.specs.Pushed.{is_turned, placed, placed_not, parts_of, pushed, pushed_parts}
 use Rattle.pg_expr.proofs.TruthLaws.{opposite-both, opposite-either, opposite_twice, both-True, either-False, truth_of_all-joined, truth_of_any-joined, Opposes, negator-opposes}
+use Rattle.pg_value.proofs.OrderLaws.{absolute_alike as absolute-commutator}
 
 -- the sides of each comparison may stand at its operator under the binding
 abbrev mutual
@@ -57,19 +58,6 @@ kinds_turned (String x) Null h = tt
 kinds_turned (String x) (Int y) h = h
 kinds_turned (String x) (Flag y) h = h
 kinds_turned (String x) (String y) h = tt
-
-absolute-commutator : (op : Op) → is_absolute (commutator_of op) ≡ is_absolute op
-absolute-commutator Lt = refl
-absolute-commutator Le = refl
-absolute-commutator Eq = refl
-absolute-commutator Ge = refl
-absolute-commutator Gt = refl
-absolute-commutator Ne = refl
-absolute-commutator AbsLt = refl
-absolute-commutator AbsLe = refl
-absolute-commutator AbsEq = refl
-absolute-commutator AbsGe = refl
-absolute-commutator AbsGt = refl
 
 pub comparable-commutator : (op : Op) (a b : Value) → AreComparable op a b → AreComparable (commutator_of op) b a
 comparable-commutator op a b h = (same_kinds _ op b (absolute-commutator op) h.1, same_kinds _ op a (absolute-commutator op) h.0, kinds_turned a b h.2)

@@ -62,7 +62,7 @@ accepts_reversed AbsEq = reversed is_eq is_eq refl refl refl
 accepts_reversed AbsGe = reversed is_le is_ge refl refl refl
 accepts_reversed AbsGt = reversed is_lt is_gt refl refl refl
 
-absolute_alike : (op : Op) → is_absolute (commutator_of op) ≡ is_absolute op
+pub absolute_alike : (op : Op) → is_absolute (commutator_of op) ≡ is_absolute op
 absolute_alike Lt = refl
 absolute_alike Le = refl
 absolute_alike Eq = refl

@@ -7,11 +7,11 @@ use Rattle.std.proofs.lemmas.List.{length-take, take-append-drop}
 use Rattle.std.proofs.lemmas.List.Elements.{filter-append}
 
 -- a list of which the elements between two places pass a test
-filter_none : {A : Type 0} (p : A → Bool) (xs : List A) → ((k : ℕ) (d : A) → k < length xs → p (get_or xs k d) ≡ false) → filter p xs ≡ []
+pub filter_none : {A : Type 0} (p : A → Bool) (xs : List A) → ((k : ℕ) (d : A) → k < length xs → p (get_or xs k d) ≡ false) → filter p xs ≡ []
 filter_none p [] h = refl
 filter_none p (x ∷ xs) h = ap₂ (λ b l. cond b (x ∷ l) l) (h 0 x (omega arith)) (filter_none p xs (λ k d lt. h (suc k) d (omega arith)))
 
-filter_every : {A : Type 0} (p : A → Bool) (xs : List A) → ((k : ℕ) (d : A) → k < length xs → p (get_or xs k d) ≡ true) → filter p xs ≡ xs
+pub filter_every : {A : Type 0} (p : A → Bool) (xs : List A) → ((k : ℕ) (d : A) → k < length xs → p (get_or xs k d) ≡ true) → filter p xs ≡ xs
 filter_every p [] h = refl
 filter_every p (x ∷ xs) h = ap₂ (λ b l. cond b (x ∷ l) l) (h 0 x (omega arith)) (filter_every p xs (λ k d lt. h (suc k) d (omega arith)))
 

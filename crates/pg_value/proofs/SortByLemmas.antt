@@ -10,7 +10,7 @@ use Rattle.std.proofs.lemmas.Fn.{always_returns_same}
 use Rattle.pg_value.specs.Sorting.{in_order}
 use Rattle.pg_value.proofs.SortingLemmas.{lesser, weak, in_order_only}
 
-at_ok : {T E : Type 0} (P : Type 0) (r : Result T E) → is_err r ≡ false → OnOk r P → P
+pub at_ok : {T E : Type 0} (P : Type 0) (r : Result T E) → is_err r ≡ false → OnOk r P → P
 at_ok P (Ok x) e h = h
 at_ok P (Err x) e h = absurd (true≢false e)
 

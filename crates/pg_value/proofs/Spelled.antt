@@ -18,7 +18,7 @@ use Rattle.pg_value.specs.Fields.{IsAmidBlanks, from_word, word_of, is_numeral, 
 abbrev is_solid : List ℕ → Bool
 is_solid word = list_all (λ c. not (is_ascii_whitespace c)) word
 
-all_weaker : (p q : ℕ → Bool) → ((c : ℕ) → p c ≡ true → q c ≡ true) → (xs : List ℕ) → list_all p xs ≡ true → list_all q xs ≡ true
+pub all_weaker : (p q : ℕ → Bool) → ((c : ℕ) → p c ≡ true → q c ≡ true) → (xs : List ℕ) → list_all p xs ≡ true → list_all q xs ≡ true
 all_weaker p q h [] all = refl
 all_weaker p q h (c ∷ cs) all = let parts = and_parts (p c) (list_all p cs) all in ap₂ ◌&&◌ (h c parts.0) (all_weaker p q h cs parts.1)
 

@@ -40,14 +40,7 @@ use Rattle.plan_laws.proofs.OrderedLemmas.{ItemsFollow}
 use Rattle.plan_laws.proofs.TieLemmas.{tie_in_all, members_alike, constants_tie}
 use Rattle.pg_base.proofs.OptionLemmas.{some-or as some_or}
 use Rattle.pg_base.proofs.OptionLemmas.{found-none as found_none}
-
--- each type has a value that is not NULL
-pub sample_fits : (t : SqlType) → IsOfType t (some_value t)
-sample_fits Int2 = refl
-sample_fits Int4 = refl
-sample_fits Int8 = refl
-sample_fits TextType = tt
-sample_fits BoolType = tt
+use Rattle.eq_classes.proofs.TypedLemmas.{is_some_value as sample_fits}
 
 -- a type whose values a family orders has it as its default family, where the family is one of some type
 pub default_of : (t : SqlType) (f : Family) → IsOfFamily f (some_value t) → (f ≡ families.IntAbs → ⊥) → default_family_of t ≡ Some f

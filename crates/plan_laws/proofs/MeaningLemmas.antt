@@ -22,13 +22,7 @@ use Rattle.sql_query.specs.WellBound.{given_with, IsWellBound}
 use Rattle.sql_query.specs.Worlds.{World, IsWorld}
 use Rattle.plan_laws.proofs.FitsLemmas.{values_fit}
 use Rattle.plan_laws.proofs.OverLemmas.{conditions_inside}
-
-is_true_both : (s t : Truth) → is_true (both s t) ≡ is_true s && is_true t
-is_true_both True t = refl
-is_true_both False t = refl
-is_true_both Unknown True = refl
-is_true_both Unknown False = refl
-is_true_both Unknown Unknown = refl
+use Rattle.eq_classes.proofs.WrittenLemmas.{is_true-both as is_true_both}
 
 pub all_is_each : (b : ColRef → Value) (es : List Cond) → is_true (truth_of_all b (conds_of es)) ≡ list_all (λ e. is_true (truth_at b e)) es
 all_is_each b [] = refl

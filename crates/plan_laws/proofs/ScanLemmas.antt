@@ -97,7 +97,7 @@ no_param_from r e (by_pair n c l h) =
     ∙ ap (λ (v : Bool). v || false) (and-false (is_lowest c (one r) l))
 
 -- the conditions of an index are some of those that its scan tests
-all_filtered : (test : Cond → Bool) (p : Numbered → Bool) (ns : List Numbered) → list_all test (conditions_of ns) ≡ true → list_all test (conditions_of (filter p ns)) ≡ true
+pub all_filtered : (test : Cond → Bool) (p : Numbered → Bool) (ns : List Numbered) → list_all test (conditions_of ns) ≡ true → list_all test (conditions_of (filter p ns)) ≡ true
 all_filtered test p [] h = refl
 all_filtered test p (n ∷ ns) h =
     let parts : (test n.cond ≡ true) × (list_all test (conditions_of ns) ≡ true) = and_parts (test n.cond) (list_all test (conditions_of ns)) h in

@@ -68,7 +68,7 @@ null_differs : (n : Bool) → place_of_null n ≡ Equal → ⊥
 null_differs true h = cc
 null_differs false h = cc
 
-null_differs_back : (n : Bool) → ordering_reverse (place_of_null n) ≡ Equal → ⊥
+pub null_differs_back : (n : Bool) → ordering_reverse (place_of_null n) ≡ Equal → ⊥
 null_differs_back true h = cc
 null_differs_back false h = cc
 

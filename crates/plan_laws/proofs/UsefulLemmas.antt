@@ -29,6 +29,8 @@ use Rattle.plan_laws.specs.Closed.{IsKeptSide}
 use Rattle.plan_laws.proofs.WithinLemmas.{built-within}
 use Rattle.plan_laws.specs.Useful.{outside, is_open, are_open, IsOfUse, Suffices, StandsIn, floor_by, IsBelow, HasEnough, IsClosedBelow}
 use Rattle.pg_base.proofs.ListLemmas.{any-taken}
+use Rattle.plan_tree.proofs.DominationLemmas.{startup-trans}
+use Rattle.pg_value.proofs.Spelled.{all_weaker as all-weaker}
 
 -- what is within a set is open to more
 not-within : (a b : Bool) → (a ≡ true → b ≡ true) → not b ≡ true → not a ≡ true
@@ -45,12 +47,6 @@ or-weaker false b false e h k w = k w
 any-weaker : {A : Type 0} (f g : A → Bool) → ((x : A) → f x ≡ true → g x ≡ true) → (xs : List A) → list_any f xs ≡ true → list_any g xs ≡ true
 any-weaker f g h [] e = e
 any-weaker f g h (x ∷ xs) e = or-weaker (f x) (list_any f xs) (g x) (list_any g xs) (h x) (any-weaker f g h xs) e
-
-all-weaker : (f g : ℕ → Bool) → ((n : ℕ) → f n ≡ true → g n ≡ true) → (ns : List ℕ) → list_all f ns ≡ true → list_all g ns ≡ true
-all-weaker f g h [] e = e
-all-weaker f g h (n ∷ ns) e =
-    let parts = and_parts (f n) (list_all f ns) e in
-    and_from (g n) (list_all g ns) (h n parts.0) (all-weaker f g h ns parts.1)
 
 in-weaker : (c : Class) (s t : Set) → IsWithin s t → has_in c s ≡ true → has_in c t ≡ true
 in-weaker c s t h e = any-weaker {A = ColRef} (λ x. s x.rel.0) (λ x. t x.rel.0) (λ x. h x.rel.0) c.members e
@@ -129,14 +125,6 @@ use-shrinks q every s t keys h (inr (inr order)) = inr (inr order)
 
 first-within : (s t : Set) → IsWithin s (λ k. s k || t k)
 first-within s t k e = ap (λ v. v || t k) e
-
-startup-refl : (w : Option Window) (n : ℕ) → IsStartupAtMost w n n
-startup-refl None n = tt
-startup-refl (Some w) n = le_refl n
-
-startup-trans : (w : Option Window) (l m n : ℕ) → IsStartupAtMost w l m → IsStartupAtMost w m n → IsStartupAtMost w l n
-startup-trans None l m n h k = tt
-startup-trans (Some w) l m n h k = le_trans h k
 
 module _ (c : Contents) (q : Query) where
   -- domination is enough, and where every list counts no less is

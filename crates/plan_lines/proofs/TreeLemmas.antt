@@ -25,9 +25,7 @@ use Rattle.plan_lines.specs.Lines.{beneath, leaf_title, tree_title}
 use Rattle.plan_lines.specs.Stands.{Stand, Stands}
 use Rattle.plan_lines.proofs.LineLemmas.{lacks-ten, plain, plain-both, word-plain}
 use Rattle.plan_lines.proofs.ListLemmas.{AreRead, IsItem, begun, one-more}
-
-line-is : (d : ℕ) (t x : List ℕ) → plain_line d t ++ x ≡ lead d ++ (t ++ 10 ∷ x)
-line-is d t x = append_assoc (lead d) (t ++ codes "\n") x ∙ ap (λ (l : List ℕ). lead d ++ l) (append_assoc t (codes "\n") x)
+use Rattle.explain_laws.proofs.BitLemmas.{line-is}
 
 -- what the clause of the next line says
 abbrev pub IsNext : ℕ → List ℕ → Option (List ℕ) → List ℕ → Type 0

@@ -27,7 +27,7 @@ use Rattle.plan_tree.specs.Plans.{Plan, seq, index, index_only, bitmap, sort, ne
 use Rattle.plan_tree.specs.Costs.{cost, estimate, rows_given, join_operators, merge_operators, asked, asked_by, HaveRows}
 use Rattle.pg_base.proofs.ListLemmas.{some-folded}
 
-some-clamped : (n : ℕ) → 1 ≤ clamped n
+pub some-clamped : (n : ℕ) → 1 ≤ clamped n
 some-clamped n = omega arith
 
 some-kept : (c : Contents) (range : Range) (n : ℕ) (es : List Cond) → 1 ≤ n → 1 ≤ kept c range n es

@@ -15,11 +15,11 @@ use Rattle.plan_tree.proofs.ReplacingLemmas.{nest-replaced, nest-totals, merge-r
 use Rattle.plan_tree.proofs.LikeLemmas.{set-like}
 use Rattle.plan_tree.proofs.WindowLemmas.{startup-from}
 
-startup-refl : (w : Option Window) (n : ℕ) → IsStartupAtMost w n n
+pub startup-refl : (w : Option Window) (n : ℕ) → IsStartupAtMost w n n
 startup-refl None n = tt
 startup-refl (Some w) n = le_refl n
 
-startup-trans : (w : Option Window) (l m n : ℕ) → IsStartupAtMost w l m → IsStartupAtMost w m n → IsStartupAtMost w l n
+pub startup-trans : (w : Option Window) (l m n : ℕ) → IsStartupAtMost w l m → IsStartupAtMost w m n → IsStartupAtMost w l n
 startup-trans None l m n h k = tt
 startup-trans (Some w) l m n h k = le_trans h k
 

@@ -28,6 +28,7 @@ use Rattle.sql_query.specs.Queries.{Query}
 use Rattle.index_match.specs.Arms.{arms_of}
 use Rattle.index_match.proofs.ArmLemmas.{listed_are}
 use Rattle.plan_tree.specs.Bitmaps.{IsIndexOn, IsMatchedOr, MatchesArm, table_of_relation, condition_by, is_or}
+use Rattle.path_cost.proofs.PartLemmas.{over-each}
 
 -- a list of 8 has no room for one more
 pub full-kept : {X : Type 0} (xs : List X) (x : X) → length xs ≡ 8 → take 8 (xs ++ x ∷ []) ≡ xs
@@ -51,12 +52,6 @@ or-any (const x) = refl
 or-any (all_of es) = refl
 or-any (any_of es) = refl
 or-any (negation e) = refl
-
-over-each : (c : Contents) (range : Range) (es : List Expr) → IsTrue (each_column_of (is_column_in c range) (view.conds es)) → AreTyped (type_in c range) (view.conds es) → AllByRecursion (λ (e : Expr). IsOver c range (view.cond e)) es
-over-each c range [] h t = tt
-over-each c range (e ∷ es) h t =
-    let parts = and_parts (each_column (is_column_in c range) (view.cond e)) (each_column_of (is_column_in c range) (view.conds es)) h in
-    (record { columns = parts.0; typed = t.0 }, over-each c range es parts.1 t.1)
 
 -- the arms of an OR are over what it is over, and have no more atoms
 pub arms-over : (c : Contents) (range : Range) (es : List Expr) → IsOver c range (any_of (view.conds es)) → All (λ (e : Expr). IsOver c range (view.cond e)) es

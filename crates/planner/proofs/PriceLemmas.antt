@@ -24,14 +24,8 @@ use Rattle.join_search.specs.plan_laws_LeastLemmas.{finished-plain, floor-price}
 use Rattle.join_search.specs.plan_laws_UsefulLemmas.{child-below, sort-stands}
 use Rattle.join_search.specs.declared.useful.Asked.{Asked}
 use Rattle.planner.specs.Finishing.{AreCandidates, IsLeastOf, IsWhole, finished, finished_price}
-
-startup-refl : (w : Option Window) (n : ℕ) → IsStartupAtMost w n n
-startup-refl None n = tt
-startup-refl (Some w) n = le_refl n
-
-startup-trans : (w : Option Window) (l m n : ℕ) → IsStartupAtMost w l m → IsStartupAtMost w m n → IsStartupAtMost w l n
-startup-trans None l m n h k = tt
-startup-trans (Some w) l m n h k = le_trans h k
+use Rattle.plan_tree.proofs.DominationLemmas.{startup-trans}
+use Rattle.plan_tree.proofs.DominationLemmas.{startup-refl}
 
 module _ (c : Contents) (q : Query) where
   plain-meets : (t : Plan) (keys : Keys) → is_sort t ≡ false → covers (keys_of c q t) keys ≡ true → MeetsOrder c q t keys

@@ -24,9 +24,7 @@ use Rattle.join_search.specs.declared.useful.Asked.{Asked}
 use Rattle.join_search.proofs.OfferLemmas.{dominating-serves}
 use Rattle.planner.specs.Bases.{HaveScansOf}
 use Rattle.planner.specs.Finishing.{AreCandidates, IsWhole}
-
-pub same_number : (s t : RelSet) → s.0 ≡ t.0 → s ≡ t
-same_number s t e = ap (λ (n : ℕ). let x : RelSet = record { 0 = n } in x) e
+use Rattle.join_search.proofs.TableLemmas.{same-number as same_number}
 
 module _ (c : Contents) (q : Query) (fronts : Fronts) (placed : ArePlaced c q fronts) where
   whole-path : (all : RelSet) → IsSameSet (has all.0) (all_of_query q) → (x : Path) → IsPathAt c q all none x → IsWhole c q x

@@ -21,7 +21,7 @@ use Rattle.join_search.specs.Tables.{IsSamePlace, front_at, paths_at, paths_of}
 use Rattle.join_search.specs.declared.table.Table.{Table}
 use Rattle.planner.specs.Bases.{HaveScansOf, is_plan}
 use Rattle.planner.proofs.BaseLemmas.{scan-most}
-use Rattle.planner.proofs.SearchLemmas.{same_number}
+use Rattle.join_search.proofs.TableLemmas.{same-number as same_number}
 
 -- what holds at a place, and at each other one
 pub at-each : (P : RelSet → RelSet → Type 0) (s p t o : RelSet) → P s p → (¬ IsSamePlace t o s p → P t o) → P t o

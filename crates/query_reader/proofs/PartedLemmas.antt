@@ -36,7 +36,7 @@ use Rattle.query_reader.specs.Windows.{window_of}
 use Rattle.query_reader.specs.Written.{item_of, items_of, source_of}
 use Rattle.std.specs.Prelude.{nat_lt}
 
-joined-parted : (cs ds : Conds) → HaveParts cs → HaveParts ds → HaveParts (joined cs ds)
+pub joined-parted : (cs ds : Conds) → HaveParts cs → HaveParts ds → HaveParts (joined cs ds)
 joined-parted no_conds ds h g = g
 joined-parted (cond_and c cs) ds h g = (h.0, joined-parted cs ds h.1 g)
 

@@ -100,7 +100,7 @@ select-there text tokens whole is =
     either-is text tokens k left begins (whole-query text tokens whole (λ x words. no-other x (terminals text tokens) words (ap begins_query begins)))
 
 -- a SELECT is none that groups
-one-select : (text : List ℕ) (tokens : List Token) (x : WindowedSelect) (e : Ending) → IsSpelled (as_statement x e) text tokens → AreSelect text tokens
+pub one-select : (text : List ℕ) (tokens : List Token) (x : WindowedSelect) (e : Ending) → IsSpelled (as_statement x e) text tokens → AreSelect text tokens
 one-select text tokens (windowed_select q y v) e w = (ordered_select no_explain q y v e, w)
 
 no-groups : (text : List ℕ) (tokens : List Token) (first : ℕ) → AreGrouped text (drop first tokens) → ¬ HaveSelectAt text tokens first

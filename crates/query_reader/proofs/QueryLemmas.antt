@@ -60,7 +60,7 @@ same-query range other classes select columns used order items ws all window r s
     sym (ap (λ a. P a select order used ws) r ∙ ap (λ b. P other b order used ws) s ∙ ap (λ d. P other columns d used ws) o ∙ ap (λ e. P other columns items e ws) u ∙ ap (λ g. P other columns items (named_in columns all items) g) w)
 
 -- a limit that is passed is told of whatever is within it
-limited-any : {A B : Type 0} (start : Token) (o : Option Limit) (x : A) (z : B) (f : Fault) → limited start o x ≡ Err f → limited start o z ≡ Err f
+pub limited-any : {A B : Type 0} (start : Token) (o : Option Limit) (x : A) (z : B) (f : Fault) → limited start o x ≡ Err f → limited start o z ≡ Err f
 limited-any start None x z f is = absurd (cc (is))
 limited-any start (Some l) x z f is = let same : fault_at (S15 l) start ≡ f = cc (is) in ap Err same
 

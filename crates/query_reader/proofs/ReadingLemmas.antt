@@ -20,6 +20,7 @@ use Rattle.query_reader.specs.Binding.{Bound, bound_from, bound_part}
 use Rattle.query_reader.specs.Ends.{ends_where, ends_order, ends_window}
 use Rattle.query_reader.specs.Select.{AreWithSelectAt, IsBoundAs, IsGrammatical}
 use Rattle.query_reader.specs.Parts.{IsPartAt}
+use Rattle.sql_grammar.proofs.GroupRules.{list-words as regroup}
 
 -- the names among what is left of some words
 left-named : (n : ℕ) (ts : List Terminal) → AreNamed ts → AreNamed (drop n ts)
@@ -48,11 +49,6 @@ pub record Parted (x : WindowedSelect) (left : List Terminal) : Type 0 where
   pub window : Window
   pub split : left ≡ words_of_output first ++ (words_of_outputs more ++ t_key From from_at ∷ (words_of_group group ++ (words_of_groups groups ++ behind condition order window)))
   pub means : (c : Contents) (start : Token) → bound_from c start (item_of first ∷ items_of more) (group ∷ groups_after groups) condition order window ≡ bound_part c start x
-
-regroup : (x y z c d e : List Terminal) (f : Terminal) → (x ++ (y ++ f ∷ (z ++ (c ++ d)))) ++ e ≡ x ++ (y ++ f ∷ (z ++ (c ++ (d ++ e))))
-regroup x y z c d e f =
-    append_assoc x (y ++ f ∷ (z ++ (c ++ d))) e ∙ (ap (λ l. x ++ l) (append_assoc y (f ∷ (z ++ (c ++ d))) e) ∙
-    (ap (λ l. x ++ (y ++ f ∷ l)) (append_assoc z (c ++ d) e) ∙ ap (λ l. x ++ (y ++ f ∷ (z ++ l))) (append_assoc c d e)))
 
 parted : (x : WindowedSelect) (ts : List Terminal) → words_of_windowed x ≡ ts → Parted x (drop 1 ts)
 parted (windowed_select (select_from k o os f g gs w) y v) ts is = record {

@@ -7,6 +7,7 @@ use Rattle.pg_base.specs.Writing.{AppendsPrefix}
 use Rattle.pg_base.proofs.Bytes.{Appends-more}
 use Rattle.reply.specs.Putting.{HasPut, Puts}
 use Rattle.pg_base.proofs.OptionLemmas.{appends-none}
+use Rattle.reply_text.proofs.PieceLaws.{prefix-longer as prefix-of}
 
 together : (w v p q r xs ys : List ℕ) → w ++ q ≡ p ++ xs → v ++ r ≡ q ++ ys → (w ++ v) ++ r ≡ p ++ (xs ++ ys)
 together w v p q r xs ys first second =
@@ -32,10 +33,6 @@ prefix-longer a b xs ys (n, within, some) = (n, omega (arith, length-append xs y
 
 pub prefix-none : (a : Option (List ℕ)) (bytes : List ℕ) → AppendsPrefix a a bytes
 prefix-none a bytes = (0, omega arith, appends-none a)
-
--- the prefix of a part is a prefix of the whole
-pub prefix-of : (a b : Option (List ℕ)) (xs ys zs : List ℕ) → AppendsPrefix a b xs → xs ++ ys ≡ zs → AppendsPrefix a b zs
-prefix-of a b xs ys zs some e = let P : List ℕ → Type 0 = λ l. AppendsPrefix a b l in subst P e (prefix-longer a b xs ys some)
 
 -- a call that stopped
 pub puts-stopped : {T E : Type 0} (a b : Option (List ℕ)) (p q : List ℕ) (r : Result T E) (bytes : List ℕ) → IsErr r → AppendsPrefix a b (p ++ bytes) → Puts a b p q r bytes

@@ -13,3 +13,4 @@ pub use Rattle.executor.specs.plan_laws_FinishedOrderLemmas as plan_laws_Finishe
 pub use Rattle.executor.specs.plan_laws_FinishedLemmas as plan_laws_FinishedLemmas
 pub use Rattle.executor.specs.plan_laws_WellBoundLemmas as plan_laws_WellBoundLemmas
 pub use Rattle.executor.specs.scan_exec_Coming as scan_exec_Coming
+pub use Rattle.explain.proofs.KeyLemmas as explain_KeyLemmas

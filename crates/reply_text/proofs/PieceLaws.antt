@@ -12,7 +12,7 @@ use Rattle.pg_base.proofs.Bytes.{Appends-more}
 pub piece-then : (a b c : Option (List ℕ)) (xs ys zs : List ℕ) → Appends a b xs → Appends b c ys → xs ++ ys ≡ zs → Appends a c zs
 piece-then a b c xs ys zs first second e = Appends-more a b c xs ys zs first second (sym e)
 
-prefix-longer : (a b : Option (List ℕ)) (xs ys zs : List ℕ) → AppendsPrefix a b xs → xs ++ ys ≡ zs → AppendsPrefix a b zs
+pub prefix-longer : (a b : Option (List ℕ)) (xs ys zs : List ℕ) → AppendsPrefix a b xs → xs ++ ys ≡ zs → AppendsPrefix a b zs
 prefix-longer a b xs ys zs (n, within, some) e =
     let P : List ℕ → Type 0 = λ l. AppendsPrefix a b l in
     let longer : AppendsPrefix a b (xs ++ ys) = (n, omega (arith, length-append xs ys), rw (take-append-le n xs ys within) some) in

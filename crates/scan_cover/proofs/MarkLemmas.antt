@@ -58,14 +58,6 @@ module _ {X : Type 0} where
   pub mask-marks : (n : ℕ) (xs : List X) → length xs ≤ 8 → items_where_true (mask_of n) xs ≡ marked n xs
   mask-marks n xs le = let one : n / 2 ^ 0 ≡ n = omega arith in digits-from n 0 8 xs le ∙ ap (λ (m : ℕ). marked m xs) one
 
-pub map-marked : {A B : Type 0} (f : A → B) (n : ℕ) (xs : List A) → map f (marked n xs) ≡ marked n (map f xs)
-map-marked f n [] = refl
-map-marked {A} {B} f n (x ∷ xs) = by (nat_eq (n % 2) 1) (map-marked f (n / 2) xs)
-  where
-    by : (b : Bool) → map f (marked (n / 2) xs) ≡ marked (n / 2) (map f xs) → map f (cond b (x ∷ marked (n / 2) xs) (marked (n / 2) xs)) ≡ cond b (f x ∷ marked (n / 2) (map f xs)) (marked (n / 2) (map f xs))
-    by true e = ap (λ (ys : List B). f x ∷ ys) e
-    by false e = e
-
 -- pairs of lists that agree agree where they are marked
 pub zip-marked : {A B : Type 0} (R : A → B → Type 0) (n : ℕ) (xs : List A) (ys : List B) → AllZip R xs ys → AllZip R (marked n xs) (marked n ys)
 zip-marked R n [] [] z = tt

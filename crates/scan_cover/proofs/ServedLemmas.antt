@@ -37,7 +37,8 @@ use Rattle.scan_cover.proofs.GivenLemmas.{bitmap-most}
 use Rattle.scan_cover.specs.Trees.{AreAllBitmapsServed, AreBitmapsServed, AreFirst, AreKept, AreRelationBitmapsServed, IsKept, IsMarkServed, element_in}
 use Rattle.scan_cover.specs.Limits.{arms_of_all}
 use Rattle.scan_cover.specs.declared.kept.Kept.{Kept}
-use Rattle.scan_cover.proofs.MarkLemmas.{map-marked, mask-marks, zip-marked}
+use Rattle.scan_cover.proofs.MarkLemmas.{mask-marks, zip-marked}
+use Rattle.bitmap_scan.proofs.KeptLemmas.{marked-map as map-marked}
 use Rattle.scan_cover.proofs.TreeLemmas.{combined-arms, combined-elements, zip-least}
 
 module _ (c : Contents) (q : Query) (r : RelNo) (p : RelSet) where

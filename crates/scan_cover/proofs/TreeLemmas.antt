@@ -29,6 +29,8 @@ use Rattle.scan_cover.specs.Trees.{IsKept, element_in}
 use Rattle.scan_cover.specs.Limits.{arms_of_all}
 use Rattle.scan_cover.specs.declared.kept.Kept.{Kept}
 use Rattle.pg_base.proofs.NumberLemmas.{test-below as inside}
+use Rattle.bitmap_scan.proofs.KeptLemmas.{capped-both}
+use Rattle.bitmap_scan.proofs.KeptLemmas.{capped-child}
 
 or-false : (b : Bool) → b || false ≡ b
 or-false true = refl
@@ -36,12 +38,6 @@ or-false false = refl
 
 both-ways : (m n : ℕ) → m ≤ n → n ≤ m → m ≡ n
 both-ways m n h k = omega (arith, h, k)
-
-capped-both : (a b m n : ℕ) → a ≡ capped b → capped m ≡ capped n → capped (a + m) ≡ capped (b + n)
-capped-both a b m n e f = omega (arith, e, f)
-
-capped-child : (us vs : List ℕ) → length us ≡ length vs → capped (sum us) ≡ capped (sum vs) → capped (together us) ≡ capped (together vs)
-capped-child us vs e h = omega (arith, e, h)
 
 one-part : (n : ℕ) → capped (together (n ∷ [])) ≡ capped n
 one-part n = let e = sum-cons n [] in omega (arith, e)

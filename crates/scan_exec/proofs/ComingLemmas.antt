@@ -25,6 +25,7 @@ use Rattle.plan_tree.specs.Run.{at_which, clauses_at, conditions, directed, held
 use Rattle.plan_tree.specs.Space.{IsBuilt}
 use Rattle.scan_exec.specs.Coming.{Coming, allowed, bounded, coming, entry_row, fetched_row, index_coming, left, owed}
 use Rattle.scan_exec.specs.Plans.{IsScan, param_of, relation_of}
+use Rattle.plan_laws.proofs.ScanLemmas.{all_filtered as part_true}
 
 -- rows by a test of each
 module _ {A : Type 0} (f : A → Coming) where
@@ -84,17 +85,6 @@ filter_both p k (x ∷ xs) = by (p x) (filter_both p k xs)
   where
     by : (a : Bool) → filter (λ n. p n && k n) xs ≡ filter k (filter p xs) → cond (a && k x) (x ∷ filter (λ n. p n && k n) xs) (filter (λ n. p n && k n) xs) ≡ filter k (cond a (x ∷ filter p xs) (filter p xs))
     by true later = ap (λ (l : List ℕ). cond (k x) (x ∷ l) l) later
-    by false later = later
-
--- what all conditions of a list are, those of a part are
-part_true : (test : Cond → Bool) (keep : Numbered → Bool) (cs : List Numbered) → list_all test (conditions_of cs) ≡ true → list_all test (conditions_of (filter keep cs)) ≡ true
-part_true test keep [] h = refl
-part_true test keep (c ∷ cs) h =
-    let parts = and_parts (test c.cond) (list_all test (conditions_of cs)) h in
-    by (keep c) (part_true test keep cs parts.1)
-  where
-    by : (b : Bool) → list_all test (conditions_of (filter keep cs)) ≡ true → list_all test (conditions_of (cond b (c ∷ filter keep cs) (filter keep cs))) ≡ true
-    by true later = and_from _ _ (and_parts (test c.cond) (list_all test (conditions_of cs)) h).0 later
     by false later = later
 
 filter-reverse : (p : ℕ → Bool) (xs : List ℕ) → filter p (reverse xs) ≡ reverse (filter p xs)

@@ -55,7 +55,8 @@ use Rattle.store.proofs.StoreLemmas.{holds}
 use Rattle.scan_probes.specs.Probes.{FitOwn, column_of, compared_with, is_known}
 use Rattle.scan_probes.specs.Filters as refs
 use Rattle.scan_probes.specs.Values.{Given, value_beside, value_in}
-use Rattle.scan_probes.proofs.LawLemmas.{defined_beside, is_some as some_fits}
+use Rattle.scan_probes.proofs.LawLemmas.{defined_beside}
+use Rattle.eq_classes.proofs.TypedLemmas.{is_some_value as some_fits}
 use Rattle.scan_probes.proofs.ProbeLemmas.{key_fits}
 use Rattle.scan_exec.specs.Scene.{AreUsed, IsNear, IsScene, IsUsed}
 use Rattle.scan_exec.specs.Coming.{fetched_row}

@@ -40,6 +40,7 @@ use Rattle.scan_exec.specs.Scene.{limits}
 use Rattle.scan_exec.proofs.BegunLemmas.{by_number}
 use Rattle.pg_base.proofs.ListLemmas.{filter-map-is as filter_of_map}
 use Rattle.scan_exec.proofs.LimitLemmas.{AreByNumber, in_limits, limits_are, numbered_are, places_number}
+use Rattle.scan_exec.proofs.SeekLemmas.{filter_in_same as filter_agree}
 
 turned : (a b d : Bool) → (a || b) || d ≡ b || (a || d)
 turned true true d = refl
@@ -160,10 +161,6 @@ filter_narrow narrow wide within (x ∷ xs) = by (wide x) (narrow x) refl refl (
     by true b e d later = ap₂ (λ t l. cond t (x ∷ l) l) d later
     by false true e d later = absurd (true≢false (sym (within x d) ∙ e))
     by false false e d later = later
-
-pub filter_agree : {A : Type 0} (p k : A → Bool) (xs : List A) → ((x : A) → IsIn x xs → p x ≡ k x) → filter p xs ≡ filter k xs
-filter_agree p k [] h = refl
-filter_agree p k (x ∷ xs) h = ap₂ (λ b l. cond b (x ∷ l) l) (h x (inl refl)) (filter_agree p k xs (λ y i. h y (inr i)))
 
 each_true : (test : Cond → Bool) (es : List Cond) → list_all test es ≡ true → (e : Cond) → IsIn e es → test e ≡ true
 each_true test [] h e i = absurd i

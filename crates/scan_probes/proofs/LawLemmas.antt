@@ -25,6 +25,7 @@ use Rattle.scan_probes.specs.Values.{Given, are_true, value_beside}
 use Rattle.scan_probes.specs.Probes.{AreOf, FitGiven, FitOwn, IsKeyTyped, column_of, given_value, probes_from}
 use Rattle.scan_probes.proofs.ProbeLemmas.{key_fits}
 use Rattle.scan_probes.proofs.BoundsLemmas.{IsKeySampled, in_conditions, probes_bound, probes_meet}
+use Rattle.eq_classes.proofs.TypedLemmas.{is_some_value as is_some}
 
 abbrev pub any : ColRef → Bool
 any x = true
@@ -47,13 +48,6 @@ mutual
   each_any_of : (es : Conds) → each_column_of any es ≡ true
   each_any_of no_conds = refl
   each_any_of (cond_and e es) = and_from _ _ (each_any e) (each_any_of es)
-
-pub is_some : (t : SqlType) → IsOfType t (some_value t)
-is_some Int2 = refl
-is_some Int4 = refl
-is_some Int8 = refl
-is_some TextType = tt
-is_some BoolType = tt
 
 module _ (type_of : ColRef → SqlType) (r : ℕ) (given : Given) (fit : FitGiven type_of given) where
   -- values beside the rows given are of their types

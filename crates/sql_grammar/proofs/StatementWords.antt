@@ -75,7 +75,7 @@ first-byte text t le some =
 ends-alike : (text : List ℕ) (from : ℕ) (t : Token) → IsNext text from t → is_last text t ≡ is_end text t
 ends-alike text from t next = same-end t t.kind (bytes_of_token text t) (drop t.end text) (nat_eq (slice_index text t.start) 59) next.form (first-byte text t next.within)
 
-inside-by : (text : List ℕ) (t : Token) (ts : List Token) (b : Bool) → ((from : ℕ) → AreWords text from ts → All (IsWithin text) ts) → MatchBool b (ts ≡ []) (AreWords text t.end ts) → All (IsWithin text) ts
+pub inside-by : (text : List ℕ) (t : Token) (ts : List Token) (b : Bool) → ((from : ℕ) → AreWords text from ts → All (IsWithin text) ts) → MatchBool b (ts ≡ []) (AreWords text t.end ts) → All (IsWithin text) ts
 inside-by text t ts true more w = subst (All (IsWithin text)) (sym w) (All-nil (IsWithin text))
 inside-by text t ts false more w = more t.end w
 

@@ -23,6 +23,7 @@ use Rattle.sql_query.specs.WellBound.{given_of}
 use Rattle.plan_reply.specs.certificate_laws_Arms.{HasArmsInOrs}
 use Rattle.expr_reader.specs.Parted.{HasParts, HaveParts, IsSome}
 use Rattle.query_reader.proofs.PartedLemmas.{conjuncts-parted, listed-parted}
+use Rattle.query_reader.proofs.PartedLemmas.{joined-parted}
 
 -- pushing NOT
 placed-by : (turned : Bool) (op : Op) (l r : Operand) → HasParts (cond turned (compare (commutator_of op) r l) (compare op l r))
@@ -39,10 +40,6 @@ not-parted None op l r = placed-parted op l r
 group-parted : (any : Bool) (cs : Conds) → IsSome cs → HaveParts cs → HasParts (group_of any cs)
 group-parted false cs some parts = (some, parts)
 group-parted true cs some parts = (some, parts)
-
-joined-parted : (cs ds : Conds) → HaveParts cs → HaveParts ds → HaveParts (joined cs ds)
-joined-parted no_conds ds h g = g
-joined-parted (cond_and c cs) ds h g = (h.0, joined-parted cs ds h.1 g)
 
 joined-some : (cs ds : Conds) → IsSome cs → IsSome (joined cs ds)
 joined-some no_conds ds some = absurd some

@@ -154,7 +154,3 @@ lawful-index c h n t d lt is same columns of =
 pub at_err : {T E : Type 0} (P : Type 0) (r : Result T E) → is_err r ≡ true → OnErr r P → P
 at_err P (Ok x) e h = absurd (false≢true e)
 at_err P (Err x) e h = h
-
-pub at_ok : {T E : Type 0} (P : Type 0) (r : Result T E) → is_err r ≡ false → OnOk r P → P
-at_ok P (Ok x) e h = h
-at_ok P (Err x) e h = absurd (true≢false e)

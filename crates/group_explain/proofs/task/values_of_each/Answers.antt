@@ -1,4 +1,4 @@
-use Rattle.group_explain.proofs.TaskLemmas.{key-class}
+use Rattle.reply.specs.explain_KeyLemmas.{key-class}
 use Rattle.group_explain.proofs.task.values_of_each.Goals as goal
 
 pub values_of-requires-clause-class : goal.values_of-requires-clause-class

@@ -2,10 +2,7 @@ use Rattle.std.proofs.Common.{◌≡◌, ◌∙◌, List, [], ◌∷◌, length,
 use Rattle.std.proofs.lemmas.Bool.{eqb-true}
 use Rattle.plan_tree.specs.declared.path.Path.{Path as Costed}
 use Rattle.join_search.proofs.table.has_no_path.Goals as goal
-
-empty-of : (xs : List Costed) → length xs ≡ 0 → xs ≡ []
-empty-of [] e = cc
-empty-of (x ∷ xs) e = absurd (omega (arith, e))
+use Rattle.join_search.proofs.ItemLemmas.{nothing as empty-of}
 
 pub returns : goal.returns
 returns c = λ is. sym c.items.ensures.items ∙ empty-of c.items.result.now (eqb-true (length c.items.result.now) 0 (sym c.is_empty.ensures ∙ is))

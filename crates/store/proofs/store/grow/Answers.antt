@@ -8,7 +8,8 @@ use Rattle.catalog.proofs.LawfulLemmas.{few_indexes}
 use Rattle.sql_query.specs.Worlds.{nothing_stored}
 use Rattle.store.specs.Kept.{built_over, first_rows}
 use Rattle.store.specs.View.{built}
-use Rattle.store.proofs.GrowthLemmas.{at_err, at_ok, count-other, count-own, counts-within, cut-all, index-before, lawful-index, looks-more, looks-within, mapped-long, next-other, next-own, not-grown, of-other, of-table}
+use Rattle.store.proofs.GrowthLemmas.{at_err, count-other, count-own, counts-within, cut-all, index-before, lawful-index, looks-more, looks-within, mapped-long, next-other, next-own, not-grown, of-other, of-table}
+use Rattle.pg_value.proofs.SortByLemmas.{at_ok}
 use Rattle.store.proofs.store.grow.Goals as goal
 
 pub overflow_cast-n : goal.overflow_cast-n

@@ -1,4 +1,5 @@
-use Rattle.expr_reader.proofs.Tokens.{words-inside, words-digits}
+use Rattle.expr_reader.proofs.Tokens.{words-digits}
+use Rattle.sql_grammar.proofs.StatementWords.{words-inside}
 use Rattle.expr_reader.proofs.cursor.Cursor.new.Goals as goal
 
 pub invariant_of-result : goal.invariant_of-result

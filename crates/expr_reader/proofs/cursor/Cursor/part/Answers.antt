@@ -3,7 +3,8 @@ use Rattle.std.proofs.lemmas.List.{length-take-le}
 use Rattle.std.proofs.lemmas.List.Elements.{All-take}
 use Rattle.sql_grammar.specs.Reading.{IsWithin}
 use Rattle.expr_reader.specs.Reading.{HasDigits}
-use Rattle.expr_reader.proofs.Tokens.{words-inside, words-digits}
+use Rattle.expr_reader.proofs.Tokens.{words-digits}
+use Rattle.sql_grammar.proofs.StatementWords.{words-inside}
 use Rattle.expr_reader.proofs.cursor.Cursor.part.Goals as goal
 
 pub invariant_of-result : goal.invariant_of-result

@@ -7,7 +7,8 @@ use Rattle.catalog.specs.Contents.{indexes_of}
 use Rattle.sql_query.specs.Worlds.{nothing_stored}
 use Rattle.store.specs.Kept.{IsStoreOf, stored_of}
 use Rattle.store.specs.View.{built}
-use Rattle.store.proofs.GrowthLemmas.{at_err, at_ok}
+use Rattle.store.proofs.GrowthLemmas.{at_err}
+use Rattle.pg_value.proofs.SortByLemmas.{at_ok}
 use Rattle.store.proofs.StoreLemmas.{built-before, heap-is, inside, no-fewer, not-loaded, on-err, others-kept, put-back, same-columns, still-inside, store-after, taken-back, there, what-is-there}
 use Rattle.store.proofs.store.Store.load.Goals as goal
 

@@ -1,5 +1,5 @@
-//! The catalogue: tables and their columns, indexes and statistics, by name and by number.
-//! Indexes that may be made, apart from a catalogue.
+//! The catalogue: tables and their columns, indexes and statistics, by name and by number; and candidates for indexes,
+//! which stand in no catalogue.
 #![tactic(auto)]
 
 mod candidate;

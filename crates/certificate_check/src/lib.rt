@@ -1,6 +1,5 @@
-//! Certificates checked. Nothing is trusted of whoever made one: each of its numbers is reckoned anew, and every plan that an
-//! entry must dominate is looked at.
-//! Whether the best plan of a certificate is the least of the finished plans over its entries. No number is cut.
+//! Certificates checked. Nothing is trusted of whoever made one: each of its numbers is reckoned anew, every plan that an
+//! entry must dominate is looked at, and its best plan is compared with the finished plans over its entries.
 #![tactic(auto)]
 
 mod best;

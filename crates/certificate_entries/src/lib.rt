@@ -1,5 +1,5 @@
-//! What a line of a certificate's text says of an entry, read from the left. The reader of a whole line goes on from here.
-//! One line of a certificate text: what it says, and its parts read from the left.
+//! One line of a certificate's text: what it says of an entry, and its parts read from the left. The reader of a whole line
+//! goes on from here.
 #![tactic(auto)]
 
 mod bits;

@@ -1,4 +1,3 @@
-//! The text of a certificate, read back.
 //! The text of a certificate read back: entries from the parts of their lines, and the whole text from its lines.
 #![tactic(auto)]
 

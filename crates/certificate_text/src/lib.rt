@@ -1,5 +1,5 @@
-//! The text of a certificate: a line for each entry, and one for the best plan.
-//! A line of a text read from the left: literal bytes, words and numbers.
+//! The text of a certificate: a line for each entry, and one for the best plan. A line is read from the left: literal bytes,
+//! words and numbers.
 #![tactic(auto)]
 
 mod bits;

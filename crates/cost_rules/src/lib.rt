@@ -1,6 +1,5 @@
-//! The rules of costs as arithmetic on numbers: rows, pages, entries and operators go in, costs come out. A cost unit
-//! is 1/400 of a sequential page.
-//! Prices of finished plans, and which is the better one. No number is cut.
+//! The rules of costs as arithmetic on numbers: rows, pages, entries and operators go in, costs come out, and of finished
+//! plans' prices the lower one is told. A cost unit is 1/400 of a sequential page.
 #![tactic(auto)]
 
 mod joins;

@@ -1,7 +1,6 @@
 //! Entries of certificates judged one by one, over those before them: what a node is, in numbers, and the reason for which
-//! an entry is not right. Nothing is trusted of what stands in an entry.
-//! What joins and sorts of plans cost, from what their sides are reckoned by: their sets, their parameterisations, their
-//! costs and their rows. No plan is looked at. A cost unit is 1/400 of a sequential page.
+//! an entry is not right. Joins and sorts are reckoned from what their sides say of themselves, and nothing is trusted of what stands in
+//! an entry. A cost unit is 1/400 of a sequential page.
 #![tactic(auto)]
 
 mod best;

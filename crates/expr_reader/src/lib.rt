@@ -1,6 +1,6 @@
 //! Reading conditions: the value of an expression of a statement over the visible columns, or its first fault (PostgreSQL
-//! manual, chapters Value Expressions and Type Conversion).
-//! A cursor over the words of a statement: the words that are left, with their places, read from the left.
+//! manual, chapters Value Expressions and Type Conversion). A cursor over the words of a statement reads them from the left, with their
+//! places.
 #![tactic(auto)]
 
 mod comparison;

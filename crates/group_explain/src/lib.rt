@@ -1,6 +1,5 @@
-//! The plan by which a grouped query is answered, and its text.
-//! Plans that group the tuples of a query, and the least of all of them (PostgreSQL, src/backend/optimizer/plan/planner.c,
-//! create_ordinary_grouping_paths). A cost unit is 1/400 of a sequential page.
+//! The plan by which a grouped query is answered, the least of all that group its tuples, and its text (PostgreSQL,
+//! src/backend/optimizer/plan/planner.c, create_ordinary_grouping_paths). A cost unit is 1/400 of a sequential page.
 #![tactic(auto)]
 
 mod choice;

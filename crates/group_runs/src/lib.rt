@@ -1,6 +1,5 @@
-//! The groups of what plans give: as a bag the lines of what the query means, and under a plan in the order of the GROUP BY columns
-//! the tuples of a group side by side.
-//! Laws of groups: their lines do not depend, as a bag, on the order in which tuples come.
+//! The groups of what plans give: as a bag the lines of what the query means, whatever the order in which tuples come, and
+//! under a plan in the order of the GROUP BY columns the tuples of a group side by side.
 #![tactic(auto)]
 
 mod groups;

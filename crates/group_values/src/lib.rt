@@ -1,9 +1,7 @@
-//! Groups of tuples by the values of columns, and what `count`, `min` and `max` give of them (PostgreSQL manual, chapter Queries,
-//! GROUP BY; Aggregate Functions). It knows values alone: neither columns, nor tables, nor plans.
-//! The groups of tuples that come one by one, and the lines that they give at the end (PostgreSQL manual, chapter Queries, GROUP BY;
-//! src/backend/executor/nodeAgg.c). A group is found as the last one, or by the hash of its keys.
-//! The costs of plans that group, as arithmetic on numbers, and the least one (PostgreSQL, src/backend/optimizer/path/costsize.c,
-//! cost_agg). A cost unit is 1/400 of a sequential page.
+//! Groups of tuples by the values of columns, what `count`, `min` and `max` give of them, and what grouping costs (PostgreSQL
+//! manual, chapter Queries, GROUP BY; Aggregate Functions; src/backend/executor/nodeAgg.c; src/backend/optimizer/path/costsize.c,
+//! cost_agg). It knows values and numbers alone: neither columns, nor tables, nor plans. Tuples come one by one, and a group is found as
+//! the last one or by the hash of its keys. A cost unit is 1/400 of a sequential page.
 #![tactic(auto)]
 
 mod chains;

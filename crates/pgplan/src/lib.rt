@@ -1,6 +1,5 @@
-//! pgplan: reads a script, plans and runs its queries, and prints plans, rows and advice.
-//! A script made from a number: tables, drawn rows, indexes and queries.
-//! The words of the command line.
+//! pgplan: reads a script, plans and runs its queries, and prints plans, rows and advice. The words of its command line,
+//! and the sample script that is made from a number: tables, drawn rows, indexes and queries.
 #![tactic(auto)]
 
 mod command;

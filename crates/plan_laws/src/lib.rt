@@ -1,9 +1,6 @@
-//! What plans give when they run: the tuples that their relations and clauses mean.
-//! Laws of equivalence classes and of the parts of the clause list, over bindings of columns to values.
-//! Laws of well bound queries: what their clauses are over, and what they mean.
-//! Joins made of kept plans: where each join of kept plans is dominated, each plan of the space is.
-//! What is the same in two catalogues that differ in indexes alone, of which a query reads those on its tables.
-//! The orders of what plans give when they run.
+//! Laws of queries and plans; no code runs. What the clauses of classes and of well bound queries mean; that a plan gives
+//! the tuples that its relations and clauses mean, in the order of its keys; that the joins of kept plans are enough; and what is the
+//! same in two catalogues that differ in indexes alone.
 #![tactic(auto)]
 
 mod classes;

@@ -1,6 +1,5 @@
-//! The lines of printed plans: where they stand, and what each is about (own).
-//! What the lines of printed plans say, as it is read and as it is compared (own).
-//! The lines of printed bitmap trees, as they are read and as they are compared; with them the leads of lines and numbers (own).
+//! The lines of printed plans and of bitmap trees, as they are read and as they are compared: their leads, their titles and
+//! their numbers (own).
 #![tactic(auto)]
 
 mod bitmap_lines;

@@ -1,5 +1,5 @@
-//! The reply to USE PLAN of a SELECT: the plan that is written out, run, or the first reason for which it is not.
-//! The reply to EXPLAIN (TABLE): a plan's text, and the certificate of the table that shows that no other plan undercuts it.
+//! Replies that show or take a whole plan: to USE PLAN the plan that is written out, run, or the first reason for which it is
+//! not; to EXPLAIN (TABLE) a plan's text, and the certificate that shows that no other plan undercuts it.
 #![tactic(auto)]
 
 mod answer;

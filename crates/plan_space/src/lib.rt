@@ -1,5 +1,5 @@
-//! Which plans are in the plan space of a query. Nothing is asked of what stands inside a plan.
-//! What is wrong with a plan that is written down with the numbers of its nodes (own).
+//! Which plans are in the plan space of a query, and what is wrong with one that is written down with the numbers of its nodes
+//! (own). Nothing is asked of what stands inside a plan.
 #![tactic(auto)]
 
 mod finished;

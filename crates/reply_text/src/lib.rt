@@ -1,5 +1,5 @@
-//! The lines of a printed result: rows as comma-separated values, and the number of rows.
-//! The line that a refused statement writes to the errors sink.
+//! The lines of replies: rows as comma-separated values, the number of rows, and the line that a refused statement writes to
+//! the errors sink.
 #![tactic(auto)]
 
 mod count;

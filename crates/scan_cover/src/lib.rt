@@ -1,8 +1,5 @@
-//! Scans that an entry of a certificate must dominate: each is looked at, but those by a bitmap, and the first that none
-//! dominates is told.
-//! Laws of the atoms of OR clauses. No code that runs.
-//! Scans by a bitmap that an entry of a certificate must dominate: over each set of the first elements, each arm of an OR by
-//! its index of least part.
+//! Scans that an entry of a certificate must dominate, and the first that none dominates. Plain scans are each looked at;
+//! of scans by a bitmap, each set of the first elements with each arm of an OR by its index of least part.
 #![tactic(auto)]
 
 mod arms;

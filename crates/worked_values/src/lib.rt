@@ -1,6 +1,5 @@
-//! Worked values: texts that are read, comparisons and orders, fronts of offers, sets that are advised, and the adapters over
-//! std with the calls that take memory.
-//! Worked groups: the lines of some tuples, and what plans that group them cost.
+//! Worked values: texts that are read, comparisons and orders, fronts of offers, sets that are advised, the adapters over
+//! std with the calls that take memory, and the lines of groups and what plans that group cost.
 #![tactic(auto)]
 
 #[cfg(test)]

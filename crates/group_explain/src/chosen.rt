@@ -4,7 +4,6 @@ use group_values::{GroupPlan, GroupTask};
 use plan_tree::Path;
 
 /// A plan that groups, by which a grouped query is answered.
-#[derive(Drop)]
 pub struct Chosen {
     /// What its cost goes by.
     pub task: GroupTask,
@@ -12,4 +11,14 @@ pub struct Chosen {
     pub plan: GroupPlan,
     /// The path of the plan whose tuples it groups.
     pub input: Path,
+}
+
+impl Drop for Chosen {
+    fn drop(self) {
+        let Chosen {
+            task: _,
+            plan: _,
+            input: _,
+        } = self;
+    }
 }

@@ -13,12 +13,17 @@ pub const MOST_SETS: usize = 1_024;
 
 /// From which place on and before which one the entries of each set stand, from 0. Where entries stand in the order in
 /// which they are printed, no other entry stands between; in another order more do. It has a fixed size.
-#[derive(Drop)]
 pub struct SetPlaces {
     /// By the set's number, the first place.
     first: [u32; MOST_SETS],
     /// By the set's number, the place past the last.
     past: [u32; MOST_SETS],
+}
+
+impl Drop for SetPlaces {
+    fn drop(self) {
+        let SetPlaces { first: _, past: _ } = self;
+    }
 }
 
 /// The number by which a set is told apart.

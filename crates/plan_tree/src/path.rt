@@ -11,7 +11,6 @@ use std::alloc::Global;
 
 /// A plan with what it is compared by. It is a path of a catalogue and a query where its plan is of the query's plan
 /// space for its set and parameterisation and each number and the keys are the plan's.
-#[derive(Drop)]
 pub struct Path {
     /// The plan.
     pub plan: Plan,
@@ -29,7 +28,37 @@ pub struct Path {
     pub keys: Keys,
 }
 
+impl Drop for Path {
+    fn drop(self) {
+        let Path {
+            plan: _,
+            set: _,
+            param: _,
+            startup: _,
+            cost: _,
+            rows: _,
+            keys: _,
+        } = self;
+    }
+}
+
 impl Path {
+    /// The path's plan, itself.
+    pub fn into_plan(self) -> Plan
+        ensures { result ≡ self.plan }
+    {
+        let Path {
+            plan,
+            set: _,
+            param: _,
+            startup: _,
+            cost: _,
+            rows: _,
+            keys: _,
+        } = self;
+        plan
+    }
+
     /// A path of the same plan, numbers and keys. The error means want of memory.
     pub fn copy(&self, alloc: Global) -> Result<Path, Memory>
         ensures { IfOk result (λ p. path p ≡ path self.now) }

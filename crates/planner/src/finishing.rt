@@ -123,7 +123,7 @@ fn sorted(alloc: Global, cat: &Catalog, q: &Prepared, p: Path, order: Keys) -> R
     let cost = sorted_cost(cat, q, &p);
     let keys = order.copy(alloc)?;
     let (set, param, rows) = (p.set, p.param, p.rows);
-    let input = Box::new(alloc, p.plan)?;
+    let input = Box::new(alloc, p.into_plan())?;
     Ok(Path {
         plan: Plan::Sort { keys: order, input },
         set,

@@ -16,13 +16,24 @@ use std::marker::Model;
 
 /// A scan of the rows of a list of numbers, as a hash index has it for a value: each is fetched, and given where the clauses
 /// are True. Contracts see the rows that it has still to come to.
-#[derive(Drop)]
 pub struct HashRows<'a, C: Counters> {
     beside: Beside<'a>,
     given: Given<'a>,
     clauses: Vec<&'a Expr>,
     heap: &'a Heap<C>,
     tids: &'a [Tid],
+}
+
+impl<'a, C: Counters> Drop for HashRows<'a, C> {
+    fn drop(self) {
+        let HashRows {
+            beside: _,
+            given: _,
+            clauses: _,
+            heap: _,
+            tids: _,
+        } = self;
+    }
 }
 
 impl<'a, C: Counters> Model for HashRows<'a, C> {
@@ -79,7 +90,6 @@ impl<'a, C: Counters> HashRows<'a, C> {
 
 /// A scan of the rows that a bitmap holds, in order of loading: each is fetched, and given where the clauses are True.
 /// Contracts see the rows that it has still to come to.
-#[derive(Drop)]
 pub struct BitRows<'a, C: Counters> {
     beside: Beside<'a>,
     given: Given<'a>,
@@ -87,6 +97,19 @@ pub struct BitRows<'a, C: Counters> {
     heap: &'a Heap<C>,
     held: Tids,
     at: u32,
+}
+
+impl<'a, C: Counters> Drop for BitRows<'a, C> {
+    fn drop(self) {
+        let BitRows {
+            beside: _,
+            given: _,
+            clauses: _,
+            heap: _,
+            held: _,
+            at: _,
+        } = self;
+    }
 }
 
 impl<'a, C: Counters> Model for BitRows<'a, C> {

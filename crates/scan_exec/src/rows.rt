@@ -46,9 +46,14 @@ pub(crate) enum Kind<'a, C: Counters> {
 }
 
 /// A scan of a plan, drawn from row by row. Contracts see the rows that it has still to come to.
-#[derive(Drop)]
 pub struct ScanRows<'a, C: Counters> {
     kind: Kind<'a, C>,
+}
+
+impl<'a, C: Counters> Drop for ScanRows<'a, C> {
+    fn drop(self) {
+        let ScanRows { kind: _ } = self;
+    }
 }
 
 impl<'a, C: Counters> Model for ScanRows<'a, C> {

@@ -17,13 +17,24 @@ use std::marker::Model;
 
 /// A sequential scan: each row of the relation in order of loading is fetched, and given where the clauses are True. Contracts
 /// see the rows that it has still to come to.
-#[derive(Drop)]
 pub struct SeqRows<'a, C: Counters> {
     beside: Beside<'a>,
     given: Given<'a>,
     clauses: Vec<&'a Expr>,
     heap: &'a Heap<C>,
     at: u32,
+}
+
+impl<'a, C: Counters> Drop for SeqRows<'a, C> {
+    fn drop(self) {
+        let SeqRows {
+            beside: _,
+            given: _,
+            clauses: _,
+            heap: _,
+            at: _,
+        } = self;
+    }
 }
 
 impl<'a, C: Counters> Model for SeqRows<'a, C> {

@@ -16,7 +16,6 @@ use std::marker::Model;
 
 /// A scan of a B-tree: each entry that its cursor gives is tested, where it passes its row is fetched, and that is given where
 /// the clauses are True. Contracts see the rows that it has still to come to.
-#[derive(Drop)]
 pub struct IndexRows<'a, C: Counters> {
     beside: Beside<'a>,
     given: Given<'a>,
@@ -25,6 +24,20 @@ pub struct IndexRows<'a, C: Counters> {
     def: &'a IndexDef,
     cursor: Cursor<'a, C::Looks>,
     heap: &'a Heap<C>,
+}
+
+impl<'a, C: Counters> Drop for IndexRows<'a, C> {
+    fn drop(self) {
+        let IndexRows {
+            beside: _,
+            given: _,
+            tests: _,
+            clauses: _,
+            def: _,
+            cursor: _,
+            heap: _,
+        } = self;
+    }
 }
 
 impl<'a, C: Counters> Model for IndexRows<'a, C> {
@@ -93,7 +106,6 @@ impl<'a, C: Counters> IndexRows<'a, C> {
 
 /// A scan of a B-tree that takes all columns from the entries, so that no row is fetched: each entry that its cursor gives is
 /// tested, and its row given where the clauses are True there too. Contracts see the rows that it has still to come to.
-#[derive(Drop)]
 pub struct OnlyRows<'a, C: Counters> {
     beside: Beside<'a>,
     given: Given<'a>,
@@ -101,6 +113,19 @@ pub struct OnlyRows<'a, C: Counters> {
     clauses: Vec<&'a Expr>,
     def: &'a IndexDef,
     cursor: Cursor<'a, C::Looks>,
+}
+
+impl<'a, C: Counters> Drop for OnlyRows<'a, C> {
+    fn drop(self) {
+        let OnlyRows {
+            beside: _,
+            given: _,
+            tests: _,
+            clauses: _,
+            def: _,
+            cursor: _,
+        } = self;
+    }
 }
 
 impl<'a, C: Counters> Model for OnlyRows<'a, C> {

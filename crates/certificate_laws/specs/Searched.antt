@@ -7,7 +7,7 @@ use Rattle.cost_rules.specs.declared.parameters.TheConstants.{MOST_COST}
 use Rattle.sql_query.specs.Queries.{Query, width}
 use Rattle.pareto.specs.Front.{Unrelated}
 use Rattle.plan_tree.specs.Paths.{Path, is_at_most}
-use Rattle.planner.specs.join_search_Joins.{ArePlaced, IsCovered, IsJoinPath, IsSingle}
+use Rattle.planner.specs.join_search_Joins.{ArePlaced, AreJoinsCovered, IsJoinPath, IsSingle}
 use Rattle.planner.specs.join_search_Tables.{Fronts}
 use Rattle.planner.specs.join_search_useful_Asked.{Asked}
 use Rattle.planner.specs.Bases.{HaveScansOf}
@@ -22,7 +22,7 @@ module _ (c : Contents) (q : Query) where
   pub record IsSearched (fronts : Fronts) : Type 0 where
     pub placed : ArePlaced c q fronts
     pub scans : (r : ℕ) → r < width q → HaveScansOf c q fronts r
-    pub covered : (s : RelSet) → IsCovered c q all_asked fronts s
+    pub covered : (s : RelSet) → AreJoinsCovered c q all_asked fronts s
     pub kept : (s p : RelSet) → ¬ IsSingle s → All (IsJoinPath c q fronts s p) (fronts s p)
 
 -- the paths of some fronts: each stands in the list once, and no other does

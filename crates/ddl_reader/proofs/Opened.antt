@@ -18,7 +18,7 @@ use Rattle.ddl_reader.specs.declared.ddl.Read.{Read}
 use Rattle.ddl_reader.specs.declared.columns.ColumnDef.{ColumnDef}
 use Rattle.ddl_reader.specs.Columns.{Bound}
 use Rattle.ddl_reader.specs.AsMeant.{IsAsMeant, seen}
-use Rattle.ddl_reader.specs.Tables.{Reading, table_reading, limited, table_of}
+use Rattle.ddl_reader.specs.Tables.{Reading, table_reading, limited_columns, bound_table}
 use Rattle.ddl_reader.specs.Readings.{reading}
 use Rattle.ddl_reader.proofs.Parts.{named}
 
@@ -27,17 +27,17 @@ pub opened : (n : Ident) (o : Mark) (body old mid new : List Terminal) (s : Spel
 opened n o body old mid new s is begins skipped = let one = named n (t_mark Open o ∷ body) s old mid is begins in (one.0, skipped ∙ ap (drop 1) one.1)
 
 module _ (n : Ident) (ds : List ColumnDef) (m : Result (List Bound) Fault) (meant : m ≡ Ok (map seen ds)) where
-  pub past : (d : ColumnDef) → slice_get ds MOST_COLUMNS ≡ Some d → table_of (bytes_of n) (token_of n) m ≡ Err (fault_at (S15 Columns) d.name.token)
+  pub past : (d : ColumnDef) → slice_get ds MOST_COLUMNS ≡ Some d → bound_table (bytes_of n) (token_of n) m ≡ Err (fault_at (S15 Columns) d.name.token)
   past d is =
       let lt = slice_get_within ds MOST_COLUMNS d is in
       let at = get_or_from_slice_get ds MOST_COLUMNS d d is in
       let later = drop-map seen MOST_COLUMNS ds ∙ (ap (map seen) (drop-cons ds MOST_COLUMNS d lt) ∙ ap (λ y. seen y ∷ map seen (drop (suc MOST_COLUMNS) ds)) at) in
-      rw meant (ap (limited (table_reading (bytes_of n) (token_of n) (map seen ds))) later)
+      rw meant (ap (limited_columns (table_reading (bytes_of n) (token_of n) (map seen ds))) later)
 
-  pub within : (s : Spelled) → s ≡ spelled n → length ds ≤ MOST_COLUMNS → table_of (bytes_of n) (token_of n) m ≡ Ok (table_reading s.bytes s.token (map seen ds))
+  pub within : (s : Spelled) → s ≡ spelled n → length ds ≤ MOST_COLUMNS → bound_table (bytes_of n) (token_of n) m ≡ Ok (table_reading s.bytes s.token (map seen ds))
   within s is le =
       let none = drop-map seen MOST_COLUMNS ds ∙ ap (map seen) (drop_all MOST_COLUMNS ds le) in
-      rw (meant, is) (ap (limited (table_reading (bytes_of n) (token_of n) (map seen ds))) none)
+      rw (meant, is) (ap (limited_columns (table_reading (bytes_of n) (token_of n) (map seen ds))) none)
 
 -- what is made is read
 pub made-reads : (r : Result Read Refusal) (v : Reading) (m : Result Reading Fault) → MatchResult r (λ x. reading x ≡ v) (λ e. e ≡ refusal.Memory) → m ≡ Ok v → IsAsMeant Read Reading reading r m

@@ -23,9 +23,9 @@ use Rattle.catalog.specs.Contents.{Contents, IsTable, IsLawful}
 use Rattle.catalog.specs.Tables.{table_named}
 use Rattle.ddl_reader.specs.declared.ddl.Read.{Read}
 use Rattle.ddl_reader.specs.Types.{type_named}
-use Rattle.ddl_reader.specs.Columns.{Written, Bound, written, further, bound, bound_by, bound_all}
+use Rattle.ddl_reader.specs.Columns.{Written, Bound, defined_column, further, bound, bound_by, bound_all}
 use Rattle.ddl_reader.specs.Statistics.{commons_of, bounds_of}
-use Rattle.ddl_reader.specs.Tables.{Reading, data_for, table_reading, limited, table_of, data_of, data_after}
+use Rattle.ddl_reader.specs.Tables.{Reading, data_for, table_reading, limited_columns, bound_table, data_of, data_after}
 use Rattle.pg_value.specs.Fields.{null_text}
 use Rattle.ddl_reader.specs.Statements.{Means, IsMeaning}
 use Rattle.ddl_reader.specs.Readings.{reading}
@@ -35,7 +35,7 @@ use Rattle.ddl_reader.proofs.ListLemmas.{each-same}
 use Rattle.ddl_reader.proofs.SoundStatisticsLemmas.{AreWithin, within-all, known-table, sizes-sound, column-sound, analysis-sound, places-within}
 use Rattle.expr_reader.proofs.Named.{AreNamed, named-from}
 
--- what bound columns have of those that are written
+-- what bound columns have of those that are defined_column
 module _ {A : Type 0} (ours : Bound → A) (theirs : Written → A)
     (alike : (w : Written) (t : SqlType) → ours (record { name = w.name; name_at = w.name_at; column = record { typed = t; not_null = w.not_null } }) ≡ theirs w) where
   bound-alike : (w : Written) (b : Bound) (o : Option SqlType) → bound_by o w ≡ Ok b → ours b ≡ theirs w
@@ -47,7 +47,7 @@ module _ {A : Type 0} (ours : Bound → A) (theirs : Written → A)
   all-alike : (ws : List Written) (bs : List Bound) → bound_all ws ≡ Ok bs → map ours bs ≡ map theirs ws
   all-alike ws bs is = sym (each-same bound theirs ours (λ w b e. sym (bound-alike w b (type_named w.kind) e)) ws bs is)
 
--- the names of bound columns and their places are those that are written
+-- the names of bound columns and their places are those that are defined_column
 abbrev AreCalled : List Written → List Bound → Type 0
 AreCalled ws bs = map (λ b. b.name) bs ≡ map (λ w. w.name) ws
 
@@ -76,19 +76,19 @@ holds-placed most (w ∷ ws) h = (
   holds-placed most ws (All-tail (λ u. u.start ≤ most) (token_in w) (map token_in ws) h),
 )
 
--- holds of the columns that are written
+-- holds of the columns that are defined_column
 module _ (Q : Ident → Type 0) where
   after-nulls : (nulls : Nulls) (rest : List Terminal) → Holds Q (words_of_nulls nulls ++ rest) → Holds Q rest
   after-nulls unwritten rest h = h
   after-nulls (not_null a b) rest h = h.1.1
   after-nulls (nullable a) rest h = h.1
 
-  columns-hold : {A : Type 0} (P : A → Type 0) (f : Written → A) → ((n k : Ident) (nulls : Nulls) → Q n → P (f (written (coldef n k nulls)))) → (c : ColDef) (cs : List (Mark × ColDef)) (rest : List Terminal) →
-      Holds Q (words_of_coldef c ++ (words_of_columns cs ++ rest)) → All P (map f (written c ∷ further cs))
-  columns-hold P f is (coldef n k nulls) [] rest h = All-cons P (f (written (coldef n k nulls))) [] (is n k nulls (h.0 n refl)) (All-nil P)
+  columns-hold : {A : Type 0} (P : A → Type 0) (f : Written → A) → ((n k : Ident) (nulls : Nulls) → Q n → P (f (defined_column (coldef n k nulls)))) → (c : ColDef) (cs : List (Mark × ColDef)) (rest : List Terminal) →
+      Holds Q (words_of_coldef c ++ (words_of_columns cs ++ rest)) → All P (map f (defined_column c ∷ further cs))
+  columns-hold P f is (coldef n k nulls) [] rest h = All-cons P (f (defined_column (coldef n k nulls))) [] (is n k nulls (h.0 n refl)) (All-nil P)
   columns-hold P f is (coldef n k nulls) ((m, d) ∷ ds) rest h =
       let later = after-nulls nulls _ h.1.1 in
-      All-cons P (f (written (coldef n k nulls))) (map f (written d ∷ further ds)) (is n k nulls (h.0 n refl))
+      All-cons P (f (defined_column (coldef n k nulls))) (map f (defined_column d ∷ further ds)) (is n k nulls (h.0 n refl))
       (columns-hold P f is d ds rest (subst (Holds Q) (append_assoc (words_of_coldef d) (words_of_columns ds) rest) later.1))
 
 -- a table that is meant
@@ -114,12 +114,12 @@ module _ (cat : Contents) (text : List ℕ) where
         few = omega (arith, columns, few);
       }
 
-  limited-sound : (m r : Reading) (bs left : List Bound) → drop MOST_COLUMNS bs ≡ left → (length bs ≤ MOST_COLUMNS → IsSound cat text m) → Ok r ≡ limited m left → IsSound cat text r
+  limited-sound : (m r : Reading) (bs left : List Bound) → drop MOST_COLUMNS bs ≡ left → (length bs ≤ MOST_COLUMNS → IsSound cat text m) → Ok r ≡ limited_columns m left → IsSound cat text r
   limited-sound m r bs [] few sound is = let same : m ≡ r = cc in subst (IsSound cat text) same (sound (few-by bs [] few refl))
   limited-sound m r bs (b ∷ left) few sound is = absurd (cc (is))
 
   bound-sound : (name : List ℕ) (token : Token) (w : Written) (ws : List Written) (r : Reading) (m : Result (List Bound) Fault) → IsName name → All IsName (map (λ v. v.name) (w ∷ ws)) → token.start ≤ length text →
-      All (λ a. a ≤ length text) (map (λ v. v.name_at.start) (w ∷ ws)) → bound_all (w ∷ ws) ≡ m → Ok r ≡ table_of name token m → IsSound cat text r
+      All (λ a. a ≤ length text) (map (λ v. v.name_at.start) (w ∷ ws)) → bound_all (w ∷ ws) ≡ m → Ok r ≡ bound_table name token m → IsSound cat text r
   bound-sound name token w ws r (Err f) named all here low is means = absurd (cc (means))
   bound-sound name token w ws r (Ok bs) named all here low is means =
       limited-sound (table_reading name token bs) r bs (drop MOST_COLUMNS bs) refl (λ few. table-sound name token w ws bs named all (called (w ∷ ws) bs is) here low (put (w ∷ ws) bs is) few) means
@@ -151,7 +151,7 @@ module _ (cat : Contents) (text : List ℕ) where
   statement-sound r (grouped offered u k x) lawful named placed low means = absurd means
   statement-sound r (copy k n null) lawful named placed low (start, begins, means) = data-sound (bytes_of n) _ _ null.value _ r start begins means
   statement-sound r (create_table k t n o c cs m e) lawful named placed low means =
-      bound-sound (bytes_of n) (token_of n) (written c) (further cs) r _ (named.1.1.0 n refl) (columns-hold _ IsName (λ w. w.name) (λ i j nulls h. h) c cs _ named.1.1.1.1)
+      bound-sound (bytes_of n) (token_of n) (defined_column c) (further cs) r _ (named.1.1.0 n refl) (columns-hold _ IsName (λ w. w.name) (λ i j nulls h. h) c cs _ named.1.1.1.1)
       (placed.1.1.0 n refl) (columns-hold _ (λ a. a ≤ length text) (λ w. w.name_at.start) (λ i j nulls h. h) c cs _ placed.1.1.1.1) refl means
   statement-sound r (analyze offered k n e) lawful named placed low means = analysis-sound cat text n r means
   statement-sound r (sizes k n rows pages e) lawful named placed low means = sizes-sound cat text n rows pages r low.1.1.1.0 low.1.1.1.1.1.0 means

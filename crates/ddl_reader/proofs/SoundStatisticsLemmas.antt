@@ -27,7 +27,7 @@ use Rattle.catalog.specs.Indexes.{type_at}
 use Rattle.catalog.specs.Statistics.{IsValueOf}
 use Rattle.catalog.specs.Tables.{table_named, column_named}
 use Rattle.expr_reader.specs.Lists.{parts_of, bound_each}
-use Rattle.ddl_reader.specs.Statistics.{CommonWords, common_words, commons_of, bounds_of, common_value, known, number_of_32, number_of_64, start_of, start_of_lit, starts_of_common, places_of, sizes_reading, statistics_of, column_of_name, table_statistics, column_statistics_of, analysis, analysis_reading}
+use Rattle.ddl_reader.specs.Statistics.{CommonWords, common_words, commons_of, bounds_of, common_value, known, number_of_32, number_of_64, start_of, start_of_lit, starts_of_common, places_of, sizes_reading, statistics_of, column_of_name, stated_rows, column_statistics_of, analysis, analysis_reading}
 use Rattle.ddl_reader.specs.Tables.{Reading, statistics_for}
 use Rattle.ddl_reader.specs.Soundness.{IsSound}
 use Rattle.ddl_reader.proofs.ListLemmas.{each-same}
@@ -141,7 +141,7 @@ module _ (cat : Contents) (text : List ℕ) where
       subst (IsColumn cat t) same here
 
   -- the size of a table
-  pub sizes-sound : (n : Ident) (rows pages : Said) (r : Reading) → rows.token.start ≤ length text → pages.token.start ≤ length text → Ok r ≡ table_statistics cat n rows pages → IsSound cat text r
+  pub sizes-sound : (n : Ident) (rows pages : Said) (r : Reading) → rows.token.start ≤ length text → pages.token.start ≤ length text → Ok r ≡ stated_rows cat n rows pages → IsSound cat text r
   sizes-sound n rows pages r first second is =
       let (t, named, e) = known-is S2 (token_of n) (table_named cat (bytes_of n)) (λ t. Ok (sizes_reading rows pages t)) r is in
       let same : sizes_reading rows pages t ≡ r = cc (e) in

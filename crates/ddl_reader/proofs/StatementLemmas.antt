@@ -17,10 +17,10 @@ use Rattle.expr_reader.specs.Reading.{BeginsNot}
 use Rattle.catalog.specs.Contents.{Contents}
 use Rattle.catalog.specs.Tables.{table_named}
 use Rattle.ddl_reader.specs.declared.ddl.Read.{Read}
-use Rattle.ddl_reader.specs.Columns.{written, further, bound_all}
+use Rattle.ddl_reader.specs.Columns.{defined_column, further, bound_all}
 use Rattle.ddl_reader.specs.AsMeant.{words_of_body, IsAsMeant, SpellsSizes, SpellsColumn, ends_common, ends_histogram, words_of_sizes, words_of_column}
-use Rattle.ddl_reader.specs.Statistics.{table_statistics, column_statistics_of, commons_of, bounds_of, analysis}
-use Rattle.ddl_reader.specs.Tables.{Reading, table_of, data_after}
+use Rattle.ddl_reader.specs.Statistics.{stated_rows, column_statistics_of, commons_of, bounds_of, analysis}
+use Rattle.ddl_reader.specs.Tables.{Reading, bound_table, data_after}
 use Rattle.ddl_reader.specs.Statements.{begins_ddl, HasNoLineFault, Means, IsMeaning, IsDdlFault, IsDdlRefusal}
 use Rattle.ddl_reader.specs.Readings.{reading, ReadsAs, IsSyntaxRefusal}
 
@@ -149,13 +149,13 @@ module _ (cat : Contents) (text : List ℕ) where
   means-by x m (Err refusal.Memory) on line reads = line
 
   -- a table that is read
-  pub table-as : (x : Statement) (left : List Terminal) (r : Result Read Refusal) (t : CreatesTable x left) → IsAsMeant Read Reading reading r (table_of (bytes_of t.name) (token_of t.name) (bound_all (written t.column ∷ further t.columns))) →
+  pub table-as : (x : Statement) (left : List Terminal) (r : Result Read Refusal) (t : CreatesTable x left) → IsAsMeant Read Reading reading r (bound_table (bytes_of t.name) (token_of t.name) (bound_all (defined_column t.column ∷ further t.columns))) →
       ReadsAs cat text x r
   table-as x left r t reads = subst (λ y. ReadsAs cat text y r) (sym t.is) (means-by (create_table t.create t.table t.name t.opening t.column t.columns t.closing t.ending) _ r (λ v same. same) tt reads)
 
   -- statistics that are read
   pub statistics-as : (x : Statement) (token : Token) (left : List Terminal) (r : Result Read Refusal) → words_of x ≡ t_name (free Statistics token) ∷ left →
-      ((t k : Ident) (rows : Said) (b : Terminal) (pages : Said) (rest : List Terminal) → left ≡ t_name t ∷ words_of_sizes k rows b pages rest → IsAsMeant Read Reading reading r (table_statistics cat t rows pages)) →
+      ((t k : Ident) (rows : Said) (b : Terminal) (pages : Said) (rest : List Terminal) → left ≡ t_name t ∷ words_of_sizes k rows b pages rest → IsAsMeant Read Reading reading r (stated_rows cat t rows pages)) →
       ((t : Ident) (m : Mark) (c : Ident) (a : Terminal) (d : Said) (b : Terminal) (n : Said) (cs : Common) (h : Histogram) (rest : List Terminal) → ends_common rest ≡ true → ends_histogram rest ≡ true →
       left ≡ t_name t ∷ t_mark Dot m ∷ words_of_column c a d b n cs h rest → IsAsMeant Read Reading reading r (column_statistics_of cat t c d n (commons_of cs) (bounds_of h))) →
       ReadsAs cat text x r

@@ -1,4 +1,4 @@
--- The columns of CREATE TABLE: as they are written, and bound from the left (PostgreSQL manual, CREATE
+-- The columns of CREATE TABLE: as they are defined_column, and bound from the left (PostgreSQL manual, CREATE
 -- TABLE; code 42704 of the appendix Error Codes).
 use Rattle.std.specs.Prelude.{ℕ, Bool, true, false, List, Option, Some, None, Result, Ok, Err}
 use Rattle.pg_base.specs.declared.faults.Code.TheVariants.{S8}
@@ -12,7 +12,7 @@ use Rattle.sql_grammar.specs.Faults.{bytes_of, fault_at}
 use Rattle.ddl_reader.specs.Types.{type_named}
 use Rattle.expr_reader.specs.Lists.{parts_of, bound_each}
 
--- a column as it is written: its name and its type's name, in small letters, each with its token, and whether NOT NULL stands
+-- a column as it is defined_column: its name and its type's name, in small letters, each with its token, and whether NOT NULL stands
 pub record Written : Type 0 where
   pub name : List ℕ
   pub name_at : Token
@@ -26,19 +26,19 @@ pub record Bound : Type 0 where
   pub name_at : Token
   pub column : Column
 
--- NOT NULL is written
+-- NOT NULL is defined_column
 abbrev pub refuses_null : Nulls → Bool
 refuses_null unwritten = false
 refuses_null (not_null _ _) = true
 refuses_null (nullable _) = false
 
 -- a column
-abbrev pub written : ColDef → Written
-written (coldef name kind nulls) = record { name = bytes_of name; name_at = token_of name; kind = bytes_of kind; kind_at = token_of kind; not_null = refuses_null nulls }
+abbrev pub defined_column : ColDef → Written
+defined_column (coldef name kind nulls) = record { name = bytes_of name; name_at = token_of name; kind = bytes_of kind; kind_at = token_of kind; not_null = refuses_null nulls }
 
 -- further columns
 abbrev pub further : List (Mark × ColDef) → List Written
-further = parts_of written
+further = parts_of defined_column
 
 -- with its type, where there is one of the name; else the type's name is at fault
 abbrev pub bound_by : Option SqlType → Written → Result Bound Fault

@@ -17,9 +17,9 @@ use Rattle.sql_grammar.specs.Spelled.{IsSpelled}
 use Rattle.sql_grammar.specs.CopyLine.{IsDataStart}
 use Rattle.catalog.specs.Contents.{Contents}
 use Rattle.catalog.specs.Tables.{table_named}
-use Rattle.ddl_reader.specs.Columns.{written, further, bound_all}
-use Rattle.ddl_reader.specs.Tables.{Reading, table_of, data_after}
-use Rattle.ddl_reader.specs.Statistics.{table_statistics, column_statistics_of, commons_of, bounds_of, analysis}
+use Rattle.ddl_reader.specs.Columns.{defined_column, further, bound_all}
+use Rattle.ddl_reader.specs.Tables.{Reading, bound_table, data_after}
+use Rattle.ddl_reader.specs.Statistics.{stated_rows, column_statistics_of, commons_of, bounds_of, analysis}
 
 -- CREATE INDEX
 abbrev pub begins_index : List Terminal → Bool
@@ -41,10 +41,10 @@ begins_ddl (word ∷ words) = not (begins_index (word ∷ words)) && opens_ddl (
 
 -- what a statement means, or its first fault after its syntax: of COPY the rest of its line comes first, from the `;` on
 abbrev pub Means : Contents → List ℕ → Statement → Result Reading Fault → Type 0
-Means cat text (create_table _ _ n _ c cs _ _) r = r ≡ table_of (bytes_of n) (token_of n) (bound_all (written c ∷ further cs))
+Means cat text (create_table _ _ n _ c cs _ _) r = r ≡ bound_table (bytes_of n) (token_of n) (bound_all (defined_column c ∷ further cs))
 Means cat text (copy k n null) r =
     (start : Result ℕ Fault) × IsDataStart text k.stop.end start × (r ≡ data_after (table_named cat (bytes_of n)) (token_of n) null.value null.token start)
-Means cat text (sizes k n rows pages e) r = r ≡ table_statistics cat n rows pages
+Means cat text (sizes k n rows pages e) r = r ≡ stated_rows cat n rows pages
 Means cat text (column_statistics k n c distinct nulls commons bounds e) r = r ≡ column_statistics_of cat n c distinct nulls (commons_of commons) (bounds_of bounds)
 Means cat text (analyze offered k n e) r = r ≡ analysis cat n
 Means cat text (empty e) r = ⊥

@@ -98,8 +98,8 @@ statistics_of type t col distinct nulls commons bounds =
     })))
 
 -- STATISTICS of a table: its name is bound
-abbrev pub table_statistics : Contents → Ident → Said → Said → Result Reading Fault
-table_statistics cat n rows pages = next (table_of_name cat n) (λ t. Ok (sizes_reading rows pages t))
+abbrev pub stated_rows : Contents → Ident → Said → Said → Result Reading Fault
+stated_rows cat n rows pages = next (table_of_name cat n) (λ t. Ok (sizes_reading rows pages t))
 
 -- STATISTICS of a column: the table's name is bound, then the column's, then the literals
 abbrev pub column_statistics_of : Contents → Ident → Ident → Said → Said → List CommonWords → List Lit → Result Reading Fault

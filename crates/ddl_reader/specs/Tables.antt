@@ -36,14 +36,14 @@ table_reading name token bs = record {
 }
 
 -- the first column past the limit is at fault, at its name
-abbrev pub limited : Reading → List Bound → Result Reading Fault
-limited reading [] = Ok reading
-limited reading (b ∷ _) = Err (fault_at (S15 Columns) b.name_at)
+abbrev pub limited_columns : Reading → List Bound → Result Reading Fault
+limited_columns reading [] = Ok reading
+limited_columns reading (b ∷ _) = Err (fault_at (S15 Columns) b.name_at)
 
 -- after all columns are bound comes their limit
-abbrev pub table_of : List ℕ → Token → Result (List Bound) Fault → Result Reading Fault
-table_of name token (Err f) = Err f
-table_of name token (Ok bs) = limited (table_reading name token bs) (drop MOST_COLUMNS bs)
+abbrev pub bound_table : List ℕ → Token → Result (List Bound) Fault → Result Reading Fault
+bound_table name token (Err f) = Err f
+bound_table name token (Ok bs) = limited_columns (table_reading name token bs) (drop MOST_COLUMNS bs)
 
 -- data for a table: of this number where its name is known, from this offset on, with this text for NULL; each of the two
 -- words with its token

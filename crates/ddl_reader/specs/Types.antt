@@ -6,13 +6,13 @@ use Rattle.pg_value.specs.declared.value.SqlType.{SqlType}
 use Rattle.pg_value.specs.declared.value.SqlType.TheVariants.{Int2, Int4, Int8, Text, Bool}
 
 -- the names of a type, in small letters
-abbrev pub names_of : SqlType → List (List ℕ)
-names_of Int2 = codes "int2" ∷ codes "smallint" ∷ []
-names_of Int4 = codes "int4" ∷ codes "int" ∷ codes "integer" ∷ []
-names_of Int8 = codes "int8" ∷ codes "bigint" ∷ []
-names_of Text = codes "text" ∷ []
-names_of Bool = codes "bool" ∷ codes "boolean" ∷ []
+abbrev pub type_names : SqlType → List (List ℕ)
+type_names Int2 = codes "int2" ∷ codes "smallint" ∷ []
+type_names Int4 = codes "int4" ∷ codes "int" ∷ codes "integer" ∷ []
+type_names Int8 = codes "int8" ∷ codes "bigint" ∷ []
+type_names Text = codes "text" ∷ []
+type_names Bool = codes "bool" ∷ codes "boolean" ∷ []
 
 -- the type of a name
 abbrev pub type_named : List ℕ → Option SqlType
-type_named name = find (λ t. list_any (bytes_eq name) (names_of t)) (Int2 ∷ Int4 ∷ Int8 ∷ Text ∷ Bool ∷ [])
+type_named name = find (λ t. list_any (bytes_eq name) (type_names t)) (Int2 ∷ Int4 ∷ Int8 ∷ Text ∷ Bool ∷ [])

@@ -6,7 +6,7 @@ ghost use Rattle.sql_grammar.specs.Terminals.{Terminal};
 ghost use Rattle.sql_grammar.specs.Syntax.{Mark, Nulls, ColDef};
 ghost use Rattle.sql_grammar.specs.Words.{words_of_nulls, words_of_coldef};
 ghost use Rattle.ddl_reader.specs.declared.columns.ColumnDef.{ColumnDef};
-ghost use Rattle.ddl_reader.specs.Columns.{refuses_null, written, further, Bound, bound, bound_all};
+ghost use Rattle.ddl_reader.specs.Columns.{refuses_null, defined_column, further, Bound, bound, bound_all};
 ghost use Rattle.ddl_reader.specs.AsMeant.{ends_nulls, words_of_body, IsAsMeant, Tells, seen};
 
 use crate::types::type_named;
@@ -57,7 +57,7 @@ fn bind(name: Spelled, kind: &Spelled, not_null: bool) -> Result<ColumnDef, Refu
 /// The next column.
 fn one_column(alloc: Global, from: &mut Cursor) -> Result<ColumnDef, Refusal>
     requires { (x : ColDef) × (rest : List Terminal) × (from.old ≡ words_of_coldef x ++ rest) }
-    ensures read { (x : ColDef) (rest : List Terminal) → ends_nulls rest ≡ true → from.old ≡ words_of_coldef x ++ rest → IsAsMeant ColumnDef Bound seen result (bound (written x)) }
+    ensures read { (x : ColDef) (rest : List Terminal) → ends_nulls rest ≡ true → from.old ≡ words_of_coldef x ++ rest → IsAsMeant ColumnDef Bound seen result (bound (defined_column x)) }
     ensures left { OnOk result ((x : ColDef) (rest : List Terminal) → ends_nulls rest ≡ true → from.old ≡ words_of_coldef x ++ rest → from.new ≡ rest) }
     ensures ahead { OnOk result (length from.new ≤ length from.old) }
 {
@@ -72,7 +72,7 @@ pub fn columns(alloc: Global, from: &mut Cursor) -> Result<Vec<ColumnDef>, Refus
     requires { (x : ColDef) × (xs : List (Mark × ColDef)) × (m : Mark) × (rest : List Terminal) × (from.old ≡ words_of_body x xs m rest) }
     ensures some { IfOk result (λ v. 0 < length v.items) }
     ensures read { (x : ColDef) (xs : List (Mark × ColDef)) (m : Mark) (rest : List Terminal) → from.old ≡ words_of_body x xs m rest →
-        IsAsMeant (Vec ColumnDef Global) (List Bound) (λ v. map seen v.items) result (bound_all (written x ∷ further xs)) }
+        IsAsMeant (Vec ColumnDef Global) (List Bound) (λ v. map seen v.items) result (bound_all (defined_column x ∷ further xs)) }
 {
     let mut all = Vec::new(alloc);
     let first = one_column(alloc, from)?;

@@ -16,7 +16,7 @@ ghost use Rattle.catalog.specs.Contents.{IsTable, IsColumn, table_at};
 ghost use Rattle.catalog.specs.Indexes.{type_at};
 ghost use Rattle.catalog.specs.Tables.{table_named, column_named};
 ghost use Rattle.ddl_reader.specs.declared.ddl.Read.{Read};
-ghost use Rattle.ddl_reader.specs.Statistics.{known, sizes_reading, statistics_of, column_of_name, table_statistics, column_statistics_of, commons_of, bounds_of};
+ghost use Rattle.ddl_reader.specs.Statistics.{known, sizes_reading, statistics_of, column_of_name, stated_rows, column_statistics_of, commons_of, bounds_of};
 ghost use Rattle.ddl_reader.specs.AsMeant.{IsAsMeant, Tells, SpellsSizes, SpellsColumn, ends_common, ends_histogram, words_of_sizes, words_of_column, words_of_lists, common_seen, starts_seen, value_seen, start_seen};
 ghost use Rattle.ddl_reader.specs.Tables.{Reading};
 ghost use Rattle.ddl_reader.specs.Readings.{reading, statistics_read};
@@ -209,7 +209,7 @@ fn sizes(alloc: Global, table: TableNo, from: &mut Cursor) -> Result<Read, Refus
 pub fn statistics(alloc: Global, cat: &Catalog, from: &mut Cursor) -> Result<Read, Refusal>
     requires { SpellsSizes from.old ⊎ SpellsColumn from.old }
     ensures sizes { (t r : Ident) (rows : Said) (b : Terminal) (pages : Said) (rest : List Terminal) →
-        from.old ≡ t_name t ∷ words_of_sizes r rows b pages rest → IsAsMeant Read Reading reading result (table_statistics cat.now t rows pages) }
+        from.old ≡ t_name t ∷ words_of_sizes r rows b pages rest → IsAsMeant Read Reading reading result (stated_rows cat.now t rows pages) }
     ensures column { (t : Ident) (m : Mark) (c : Ident) (a : Terminal) (d : Said) (b : Terminal) (n : Said) (cs : Common) (h : Histogram) (rest : List Terminal) →
         ends_common rest ≡ true → ends_histogram rest ≡ true → from.old ≡ t_name t ∷ t_mark Dot m ∷ words_of_column c a d b n cs h rest →
         IsAsMeant Read Reading reading result (column_statistics_of cat.now t c d n (commons_of cs) (bounds_of h)) }

@@ -11,9 +11,9 @@ ghost use Rattle.sql_grammar.specs.Syntax.{Mark, ColDef};
 ghost use Rattle.sql_grammar.specs.Faults.{bytes_of, fault_at};
 ghost use Rattle.ddl_reader.specs.declared.columns.ColumnDef.{ColumnDef};
 ghost use Rattle.ddl_reader.specs.declared.ddl.Read.{Read};
-ghost use Rattle.ddl_reader.specs.Columns.{written, further, bound_all};
+ghost use Rattle.ddl_reader.specs.Columns.{defined_column, further, bound_all};
 ghost use Rattle.ddl_reader.specs.AsMeant.{words_of_body, IsAsMeant, seen};
-ghost use Rattle.ddl_reader.specs.Tables.{Reading, table_of, table_reading};
+ghost use Rattle.ddl_reader.specs.Tables.{Reading, bound_table, table_reading};
 ghost use Rattle.ddl_reader.specs.Readings.{reading};
 
 use crate::columns::{ColumnDef, columns};
@@ -68,7 +68,7 @@ fn limit(defs: &[ColumnDef]) -> Result<(), Refusal>
 pub fn table(alloc: Global, from: &mut Cursor) -> Result<Read, Refusal>
     requires { (n : Ident) × (o : Mark) × (x : ColDef) × (xs : List (Mark × ColDef)) × (m : Mark) × (rest : List Terminal) × (from.old ≡ t_name n ∷ t_mark Open o ∷ words_of_body x xs m rest) }
     ensures { (n : Ident) (o : Mark) (x : ColDef) (xs : List (Mark × ColDef)) (m : Mark) (rest : List Terminal) → from.old ≡ t_name n ∷ t_mark Open o ∷ words_of_body x xs m rest →
-        IsAsMeant Read Reading reading result (table_of (bytes_of n) (token_of n) (bound_all (written x ∷ further xs))) }
+        IsAsMeant Read Reading reading result (bound_table (bytes_of n) (token_of n) (bound_all (defined_column x ∷ further xs))) }
 {
     let title = name(alloc, from)?;
     from.skip(1);

@@ -10,7 +10,7 @@ use Rattle.pathkeys.specs.Keys.{Keys}
 use Rattle.plan_tree.specs.Costs.{cost, estimate}
 use Rattle.plan_tree.specs.Plans.{Plan}
 use Rattle.plan_check.specs.Certificates.{Certificate, Entry, Side, join_by, plan_at, plan_of, side_at, sorted_if}
-use Rattle.plan_check.specs.Tables.{HasItsNumbers, HasItsPlan, IsEntryAt, IsStartup}
+use Rattle.plan_check.specs.Tables.{HasPlanNumbers, HasItsPlan, IsEntryAt, IsStartup}
 use Rattle.plan_check.specs.Reasons.{AllRight, AreRight, IsBadNode, IsBadNumber, IsDifference, in_rows, in_startup, in_total}
 use Rattle.plan_check.specs.Verdicts.{IsReason}
 use Rattle.plan_check.specs.declared.verdict.Number.{Number}
@@ -64,7 +64,7 @@ module _ (c : Contents) (q : Query) where
   rows-differ e p x n start total differ =
       subst (λ k. IsDifference q.window e (cost c q p) (estimate c q p) Rows e.rows k) (sym n.rows) (in_rows (started q.window e.startup x.startup (cost c q p).startup start n.startup) (total ∙ n.total) (λ f. differ (f ∙ sym n.rows)))
 
-  pub none-differs : (e : Entry) (p : Plan) (x : Own) → AreNumbersOf c q p x → IsStartup q.window e.startup x.startup → e.cost ≡ x.cost → e.rows ≡ x.rows → HasItsNumbers c q e p
+  pub none-differs : (e : Entry) (p : Plan) (x : Own) → AreNumbersOf c q p x → IsStartup q.window e.startup x.startup → e.cost ≡ x.cost → e.rows ≡ x.rows → HasPlanNumbers c q e p
   none-differs e p x n start total rows = record { startup = started q.window e.startup x.startup (cost c q p).startup start n.startup; total = total ∙ n.total; rows = rows ∙ n.rows }
 
   module _ (t : Certificate) (n : ℕ) (right : AreRight c q t n) (e : Entry) (there : slice_get t.entries n ≡ Some e) where
@@ -85,7 +85,7 @@ module _ (c : Contents) (q : Query) where
       differs = differs;
     }
 
-    pub right-too : (x : Own) (h : HasOwn c q made e x) → HasItsNumbers c q e h.plan → AreRight c q t (n + 1)
+    pub right-too : (x : Own) (h : HasOwn c q made e x) → HasPlanNumbers c q e h.plan → AreRight c q t (n + 1)
     right-too x h numbers k d lt at = by (cases_lt k n)
       where
         by : (k < n) ⊎ (n ≤ k) → IsEntryAt c q t k d

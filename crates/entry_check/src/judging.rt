@@ -6,7 +6,7 @@ ghost use Rattle.plan_tree.specs.Costs as costs;
 ghost use Rattle.plan_tree.specs.Plans.{Plan};
 ghost use Rattle.plan_tree.specs.Reads.{IsOverTables};
 ghost use Rattle.sql_query.specs.declared.window.Window.{Window as Asked};
-ghost use Rattle.plan_check.specs.Tables.{HasItsNumbers, IsStartup};
+ghost use Rattle.plan_check.specs.Tables.{HasPlanNumbers, IsStartup};
 ghost use Rattle.plan_check.specs.Views.{certificate, entry};
 ghost use Rattle.plan_check.specs.Reasons.{AllRight, AreRight, IsDifference};
 ghost use Rattle.plan_check.specs.Verdicts.{IsReason};
@@ -33,7 +33,7 @@ fn start_alike(q: &Prepared, a: u64, b: u64) -> bool
 /// query has a window, then the total, then the rows. None exactly where each is.
 fn difference(q: &Prepared, e: &Entry, own: Own) -> Option<(Number, u64, u64)>
     ensures some { IfSome result (λ d. (c : Contents) (p : Plan) → AreNumbersOf c q.now p own → IsDifference q.now.window (entry e.now) (costs.cost c q.now p) (costs.estimate c q.now p) d.0 d.1 d.2) }
-    ensures none { IfNone result ((c : Contents) (p : Plan) → AreNumbersOf c q.now p own → HasItsNumbers c q.now (entry e.now) p) }
+    ensures none { IfNone result ((c : Contents) (p : Plan) → AreNumbersOf c q.now p own → HasPlanNumbers c q.now (entry e.now) p) }
 {
     if !start_alike(q, e.startup, own.startup) {
         return Some((Number::Startup, e.startup, own.startup));

@@ -24,7 +24,7 @@ use Rattle.explain.specs.Texts.{bits_text, conjunct_by, lead, leaf_line, number_
 use Rattle.explain_laws.proofs.ConjunctLemmas.{HasConjunct, conjunct-same, or-conjunct}
 use Rattle.explain_laws.proofs.NameLemmas.{index-name, index-same}
 use Rattle.explain_laws.proofs.SplitLemmas.{decimal-word, split, word}
-use Rattle.plan_laws.specs.sort_rows_ListLemmas.{zip_long}
+use Rattle.pg_base.proofs.ListLemmas.{zip-long as zip_long}
 
 -- no line of a depth above d begins a text
 pub record IsShallow (d : ℕ) (x : List ℕ) : Type 0 where

@@ -24,7 +24,7 @@ use Rattle.eq_classes.proofs.ListLemmas.{IsIn, all_at, any_from, found_in, found
 use Rattle.eq_classes.proofs.SoundLemmas.{class_sound, member_in}
 use Rattle.eq_classes.proofs.UniqueLemmas.{meeting}
 use Rattle.pathkeys.specs.Keys.{class_of, order_class}
-use Rattle.group_query.specs.Grouping.{directed, group_items}
+use Rattle.group_query.specs.Grouping.{directed_item, group_items}
 use Rattle.pg_base.proofs.ListLemmas.{found-at as found_at}
 use Rattle.pg_base.proofs.OptionLemmas.{some-or as some_or}
 use Rattle.pg_base.proofs.OptionLemmas.{found-none as found_none}
@@ -75,7 +75,7 @@ class_found t x f n h =
     record { low = low; family = sym (family_is (class_at t.classes n).family f parts.0); member = parts.1 }
 
 -- the items of GROUP BY are of its columns
-pub directed-col : (t : Table) (x : ColRef) (o : Option ℕ) → (directed t x o).col ≡ x
+pub directed-col : (t : Table) (x : ColRef) (o : Option ℕ) → (directed_item t x o).col ≡ x
 directed-col t x None = refl
 directed-col t x (Some n) = refl
 
@@ -129,21 +129,21 @@ module _ (g : Premises) (t : Table) (is : IsClassTable g t) (typed : All (IsType
             same = meeting g d k (all_at (IsClass g) t.classes is.classes.each d (in_at t.classes n blank of.low)) (all_at (IsClass g) t.classes is.classes.each k i) (sym of.family ∙ sym (family_is k.family f parts.0)) x of.member parts.1;
           }
 
-  directed-as : (x : ColRef) (k : Class) → OrderClass x k → ◌≡◌ {A = Bool × Bool} (direction_by (Some (directed t x (order_class t x)))) (k.descending, k.nulls_first)
+  directed-as : (x : ColRef) (k : Class) → OrderClass x k → ◌≡◌ {A = Bool × Bool} (direction_by (Some (directed_item t x (order_class t x)))) (k.descending, k.nulls_first)
   directed-as x k o =
       let P : Class → Bool × Bool = λ d. (d.descending, d.nulls_first) in
-      ap (λ (m : Option ℕ). direction_by (Some (directed t x m))) o.found ∙ ap P o.same
+      ap (λ (m : Option ℕ). direction_by (Some (directed_item t x m))) o.found ∙ ap P o.same
 
   by-default : (x : ColRef) (k : Class) (o : Option Family) → default_family_of (g.type_of x) ≡ o → IsIn k t.classes → is_some_and (is_in k) (option_map (in_family x) o) ≡ true →
-      ◌≡◌ {A = Bool × Bool} (direction_by (Some (directed t x (order_class t x)))) (k.descending, k.nulls_first)
+      ◌≡◌ {A = Bool × Bool} (direction_by (Some (directed_item t x (order_class t x)))) (k.descending, k.nulls_first)
   by-default x k None at i has = absurd (true≢false (sym has))
   by-default x k (Some f) at i has = directed-as x k (order-class x f k at i has)
 
   -- the first GROUP BY column by a class has its direction
   pub group-directed : (keys : List ColRef) (k : Class) → IsIn k t.classes → (item : OrderItem) → find (orders_by g.type_of k) (group_items t keys) ≡ Some item → ◌≡◌ {A = Bool × Bool} (direction_by (Some item)) (k.descending, k.nulls_first)
   group-directed keys k i item found =
-      let (x, there, same) = in_map (λ y. directed t y (order_class t y)) keys item (found_in (orders_by g.type_of k) (group_items t keys) item found) in
-      let passes : orders_by g.type_of k (directed t x (order_class t x)) ≡ true = subst (λ (j : OrderItem). orders_by g.type_of k j ≡ true) same (found_passes (orders_by g.type_of k) (group_items t keys) item found) in
+      let (x, there, same) = in_map (λ y. directed_item t y (order_class t y)) keys item (found_in (orders_by g.type_of k) (group_items t keys) item found) in
+      let passes : orders_by g.type_of k (directed_item t x (order_class t x)) ≡ true = subst (λ (j : OrderItem). orders_by g.type_of k j ≡ true) same (found_passes (orders_by g.type_of k) (group_items t keys) item found) in
       let by : is_some_and (is_in k) (option_map (in_family x) (default_family_of (g.type_of x))) ≡ true =
       subst (λ (y : ColRef). is_some_and (is_in k) (option_map (in_family y) (default_family_of (g.type_of y))) ≡ true) (directed-col t x (order_class t x)) passes in
       subst (λ (j : OrderItem). ◌≡◌ {A = Bool × Bool} (direction_by (Some j)) (k.descending, k.nulls_first)) (sym same) (by-default x k (default_family_of (g.type_of x)) refl i by)

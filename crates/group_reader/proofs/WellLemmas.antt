@@ -37,7 +37,7 @@ use Rattle.sql_query.specs.declared.grouped.Item.{Item}
 use Rattle.sql_query.specs.declared.grouped.Item.TheVariants.{Key, CountAll, Count, Min, Max}
 use Rattle.sql_query.specs.Queries.{Query, in_order_of}
 use Rattle.sql_query.specs.WellBound.{IsColumnOf, IsDirected, IsWellBound, ordered_columns}
-use Rattle.group_query.specs.Grouping.{IsItemOf, IsWellGrouped, directed, group_items, plain_item}
+use Rattle.group_query.specs.Grouping.{IsItemOf, IsWellGrouped, directed_item, group_items, plain_item}
 use Rattle.group_query.specs.Shapes.{calls_of, place_in, place_or}
 use Rattle.query_reader.specs.declared.written.Item.TheVariants.{Bare, Qualified}
 use Rattle.query_reader.specs.Binding.{alone, item_columns, past_limit, then_columns}
@@ -391,7 +391,7 @@ module _ (c : Contents) (range : Range) (are : AreRelations c range) (some : 0 <
 
     -- it is well bound in each order by GROUP BY columns that have the directions of their classes
     well-in : (order : List OrderItem) → ((i : OrderItem) → IsIn i order → IsIn i.col l.keys) → All (IsDirected c (in_order_of base order)) classes.classes → IsWellBound c (in_order_of base order)
-    well-in order by_keys directed = record {
+    well-in order by_keys directed_item = record {
       range = record { some = some; few = are.few; tables = are.tables; names = names; distinct = are.distinct };
       used = all_from (IsColumnOf c range) all_named named-there;
       select = All-nil _;
@@ -403,7 +403,7 @@ module _ (c : Contents) (range : Range) (are : AreRelations c range) (some : 0 <
       named = all_from (λ (i : OrderItem). Contains all_named i.col) items item-named;
       classes = is;
       stands = all_from (λ (i : OrderItem). Contains (ordered_columns items) i.col) order (λ i at. key-stands i.col (by_keys i at));
-      directions = directed;
+      directions = directed_item;
     }
 
     typed : All (IsTyped premises.type_of) premises.conjuncts
@@ -424,7 +424,7 @@ module _ (c : Contents) (range : Range) (are : AreRelations c range) (some : 0 <
 
     group-key : (i : OrderItem) → IsIn i (group_items classes l.keys) → IsIn i.col l.keys
     group-key i at =
-        let (x, j, same) = in_map (λ (y : ColRef). directed classes y (order_class classes y)) l.keys i at in
+        let (x, j, same) = in_map (λ (y : ColRef). directed_item classes y (order_class classes y)) l.keys i at in
         subst (λ (y : ColRef). IsIn y l.keys) (sym (ap (λ (o : OrderItem). o.col) same ∙ directed-col classes x (order_class classes x))) j
 
     item-there : (p : Part) → IsIn p l.parts → IsItemOf c (grouped_with classes (record { range = range; where_all = ws; lists = l })) (item_in l.keys p)

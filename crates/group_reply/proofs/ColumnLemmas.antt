@@ -21,7 +21,7 @@ use Rattle.sql_query.specs.WellBound.{ordered_columns}
 use Rattle.sql_query.specs.declared.grouped.Item.{Item}
 use Rattle.sql_query.specs.declared.grouped.Item.TheVariants.{Key, CountAll, Count, Min, Max}
 use Rattle.group_runs.specs.Sorters.{AreSortersOf}
-use Rattle.group_query.specs.Grouping.{IsItemOf, directed, group_items}
+use Rattle.group_query.specs.Grouping.{IsItemOf, directed_item, group_items}
 use Rattle.group_query.specs.Shapes.{args_of, place_in, place_or, sorter_in}
 use Rattle.group_reply.specs.Columns.{IsArgOf}
 
@@ -46,7 +46,7 @@ sorters-are keys (i ∷ is) all = (
   sorters-are keys is (All-tail (λ (i : OrderItem). Contains keys i.col) i is all),
 )
 
-directed-column : (t : Table) (x : ColRef) (o : Option ℕ) → (directed t x o).col ≡ x
+directed-column : (t : Table) (x : ColRef) (o : Option ℕ) → (directed_item t x o).col ≡ x
 directed-column t x None = refl
 directed-column t x (Some n) = refl
 

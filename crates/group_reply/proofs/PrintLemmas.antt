@@ -7,7 +7,9 @@ use Rattle.pg_base.specs.Writing.{AppendsPrefix}
 use Rattle.pg_value.specs.declared.value.Value.{Value}
 use Rattle.reply_text.specs.Texts.{row_line}
 use Rattle.group_explain.specs.reply_Putting.{HasPut}
-use Rattle.group_explain.specs.reply_PuttingLemmas.{appends-none, line_cut, line_put, prefix-of}
+use Rattle.group_explain.specs.reply_PuttingLemmas.{line_cut, line_put}
+use Rattle.pg_base.proofs.OptionLemmas.{appends-none}
+use Rattle.reply_text.proofs.PieceLaws.{prefix-longer as prefix-of}
 
 abbrev text_of : List (List Value) → List ℕ
 text_of ls = flat_map row_line ls

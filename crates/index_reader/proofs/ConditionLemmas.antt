@@ -16,7 +16,7 @@ use Rattle.expr_reader.specs.Conditions.{meaning_of_expr}
 use Rattle.expr_reader.specs.Reads.{Reads}
 use Rattle.expr_reader.proofs.ReadsLemmas.{read-ok, read-refused, was-read}
 use Rattle.query_reader.proofs.WhereLemmas.{There}
-use Rattle.index_reader.specs.Visible.{Sight, visible_in, type_in}
+use Rattle.index_reader.specs.Visible.{Sight, visible_in, sight_type}
 use Rattle.index_reader.specs.Meaning.{condition_bound}
 use Rattle.expr_reader.proofs.StepLemmas.{step, stop}
 
@@ -27,19 +27,19 @@ module _ (s : Sight) where
 
   -- its expression is refused
   pub condition-stopped : (w : Where) (rest left new : List Terminal) (f : Refusal) (r : Result (Option ExprRead) Refusal) → There w rest left →
-      ((e : Expr) (rest : List Terminal) → ends_expr rest ≡ true → left ≡ words_of_expr e ++ rest → Reads cond (meaning_of_expr (visible_in s) (type_in s) e) rest (Err f) new) → IsErrAnd r (λ g. g ≡ f) →
+      ((e : Expr) (rest : List Terminal) → ends_expr rest ≡ true → left ≡ words_of_expr e ++ rest → Reads cond (meaning_of_expr (visible_in s) (sight_type s) e) rest (Err f) new) → IsErrAnd r (λ g. g ≡ f) →
       Reads (option_map cond) (condition_bound s w) rest r new
   condition-stopped w rest left new f r at told stopped =
       subst (λ (v : Where). Reads (option_map cond) (condition_bound s v) rest r new) (sym at.is)
-      (read-refused ExprRead (Option ExprRead) Cond (Option Cond) cond (option_map cond) (meaning_of_expr (visible_in s) (type_in s) at.condition) (condition_bound s (where_expr at.key at.condition)) f r rest rest new new
-      (told at.condition rest at.ends at.words) (λ g wrong. stop (meaning_of_expr (visible_in s) (type_in s) at.condition) (λ c. Ok (Some (pushed false c))) g wrong) stopped)
+      (read-refused ExprRead (Option ExprRead) Cond (Option Cond) cond (option_map cond) (meaning_of_expr (visible_in s) (sight_type s) at.condition) (condition_bound s (where_expr at.key at.condition)) f r rest rest new new
+      (told at.condition rest at.ends at.words) (λ g wrong. stop (meaning_of_expr (visible_in s) (sight_type s) at.condition) (λ c. Ok (Some (pushed false c))) g wrong) stopped)
 
   -- its expression is read, and put in pushed form
   pub condition-read : (w : Where) (rest left new : List Terminal) (x p : ExprRead) → There w rest left →
-      ((e : Expr) (rest : List Terminal) → ends_expr rest ≡ true → left ≡ words_of_expr e ++ rest → Reads cond (meaning_of_expr (visible_in s) (type_in s) e) rest (Ok x) new) → cond p ≡ pushed false (cond x) →
+      ((e : Expr) (rest : List Terminal) → ends_expr rest ≡ true → left ≡ words_of_expr e ++ rest → Reads cond (meaning_of_expr (visible_in s) (sight_type s) e) rest (Ok x) new) → cond p ≡ pushed false (cond x) →
       Reads (option_map cond) (condition_bound s w) rest (Ok (Some p)) new
   condition-read w rest left new x p at told form =
-      let m = meaning_of_expr (visible_in s) (type_in s) at.condition in
+      let m = meaning_of_expr (visible_in s) (sight_type s) at.condition in
       let was = was-read ExprRead Cond cond m x rest new (told at.condition rest at.ends at.words) in
       let meant = step m (λ c. Ok (Some (pushed false c))) (cond x) was.meant in
       subst (λ (v : Where). Reads (option_map cond) (condition_bound s v) rest (Ok (Some p)) new) (sym at.is)

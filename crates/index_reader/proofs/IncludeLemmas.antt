@@ -13,11 +13,11 @@ use Rattle.catalog.specs.Contents.{Contents}
 use Rattle.expr_reader.specs.Reads.{Reads}
 use Rattle.expr_reader.specs.Lists.{bound_each}
 use Rattle.index_reader.specs.declared.names.NamedColumn.{NamedColumn}
-use Rattle.index_reader.specs.Keys.{name_bound, names_of}
+use Rattle.index_reader.specs.Keys.{name_bound, include_names}
 use Rattle.index_reader.specs.Reads.{ends_include, words_of_names_left}
 
 pub no-include : (cat : Contents) (t : TableNo) (c : Include) (rest old new : List Terminal) (v : Vec NamedColumn Global) → v.items ≡ [] → new ≡ old → BeginsNot (λ token. t_name (free IncludeWord token)) old → old ≡ words_of_include c ++ rest →
-    Reads (λ (v : Vec NamedColumn Global). v.items) (bound_each (name_bound cat t) (names_of c)) rest (Ok v) new
+    Reads (λ (v : Vec NamedColumn Global). v.items) (bound_each (name_bound cat t) (include_names c)) rest (Ok v) new
 no-include cat t no_include rest old new v none same other e = (none, same ∙ e)
 no-include cat t (include_columns k o n ns m) rest old new v none same other e = absurd (other _ (k, e))
 

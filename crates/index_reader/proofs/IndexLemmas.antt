@@ -29,8 +29,8 @@ use Rattle.index_reader.specs.declared.index.ReadIndex.{ReadIndex}
 use Rattle.index_reader.specs.declared.keys.KeyRead.{KeyRead}
 use Rattle.index_reader.specs.declared.names.NamedColumn.{NamedColumn}
 use Rattle.index_reader.specs.declared.methods.MethodRead.{MethodRead}
-use Rattle.index_reader.specs.Keys.{method_bound, key_bound, keys_of, name_bound, names_of}
-use Rattle.index_reader.specs.Meaning.{Reading, condition_bound, name_tokens, limited, has_many_atoms, index_reading, within_limits, meaning, meaning_of_cand}
+use Rattle.index_reader.specs.Keys.{method_bound, key_bound, keys_of, name_bound, include_names}
+use Rattle.index_reader.specs.Meaning.{Reading, condition_bound, name_tokens, limited_names, has_many_atoms, index_reading, within_limits, meaning, meaning_of_cand}
 use Rattle.index_reader.specs.Reads.{ends_include, words_of_keys_left, reading}
 use Rattle.index_reader.specs.Statements.{IsCandRefusal, IsMeaning, IsRefusal}
 use Rattle.ddl_reader.specs.Statements.{begins_index}
@@ -63,11 +63,11 @@ pub table-told : (cat : Contents) (t : Ident) (s : Spelled) (r : Result TableNo 
 table-told cat t s r is told = ap (λ (x : Spelled). known S2 x.token (table_named cat x.bytes)) (sym is) ∙ sym told
 
 -- the limits
-limited-wrong : {A : Type 0} (ts : List Token) (r : Result A Fault) (f : Fault) → limited {A = Unit {0}} ts (Ok tt) ≡ Err f → limited ts r ≡ Err f
+limited-wrong : {A : Type 0} (ts : List Token) (r : Result A Fault) (f : Fault) → limited_names {A = Unit {0}} ts (Ok tt) ≡ Err f → limited_names ts r ≡ Err f
 limited-wrong [] r f is = absurd (cc (is))
 limited-wrong (t ∷ ts) r f is = let same : fault_at _ t ≡ f = cc (is) in ap Err same
 
-limited-right : {A : Type 0} (ts : List Token) (r : Result A Fault) → limited {A = Unit {0}} ts (Ok tt) ≡ Ok tt → limited ts r ≡ r
+limited-right : {A : Type 0} (ts : List Token) (r : Result A Fault) → limited_names {A = Unit {0}} ts (Ok tt) ≡ Ok tt → limited_names ts r ≡ r
 limited-right [] r is = refl
 limited-right (t ∷ ts) r is = absurd (cc (is))
 
@@ -81,7 +81,7 @@ passed-right false g r is = refl
 
 module _ (start : Token) (n : Ident) (t : TableNo) (m : MethodRead) (keys : List KeyRead) (names : List NamedColumn) (p : Option Cond) where
   abbrev Columns : Result (Unit {0}) Fault → Type 0
-  Columns r = limited (drop MOST_COLUMNS (name_tokens keys names)) (Ok tt) ≡ r
+  Columns r = limited_names (drop MOST_COLUMNS (name_tokens keys names)) (Ok tt) ≡ r
 
   abbrev AtomsAre : Result (Unit {0}) Fault → Type 0
   AtomsAre r = cond (has_many_atoms p) (Err (fault_at (S15 Atoms) start)) (Ok tt) ≡ r
@@ -109,23 +109,23 @@ module _ (cat : Contents) (start : Token) (n : Ident) (o : Key) (t : Ident) (u :
       keys-wrong f wrong = step (table_of_name cat t) _ table found ∙ (step (method_bound u) _ method using ∙ stop (bound_each (key_bound cat table method.method) (keys_of x xs)) _ f wrong)
 
       module _ (keys : List KeyRead) (keyed : bound_each (key_bound cat table method.method) (keys_of x xs) ≡ Ok keys) where
-        pub names-wrong : (f : Fault) → bound_each (name_bound cat table) (names_of c) ≡ Err f → whole ≡ Err f
+        pub names-wrong : (f : Fault) → bound_each (name_bound cat table) (include_names c) ≡ Err f → whole ≡ Err f
         names-wrong f wrong =
             step (table_of_name cat t) _ table found ∙ (step (method_bound u) _ method using ∙
-            (step (bound_each (key_bound cat table method.method) (keys_of x xs)) _ keys keyed ∙ stop (bound_each (name_bound cat table) (names_of c)) _ f wrong))
+            (step (bound_each (key_bound cat table method.method) (keys_of x xs)) _ keys keyed ∙ stop (bound_each (name_bound cat table) (include_names c)) _ f wrong))
 
-        module _ (names : List NamedColumn) (included : bound_each (name_bound cat table) (names_of c) ≡ Ok names) where
+        module _ (names : List NamedColumn) (included : bound_each (name_bound cat table) (include_names c) ≡ Ok names) where
           pub condition-wrong : (f : Fault) → condition_bound (sight cat table (spelled t).bytes) w ≡ Err f → whole ≡ Err f
           condition-wrong f wrong =
               step (table_of_name cat t) _ table found ∙ (step (method_bound u) _ method using ∙
               (step (bound_each (key_bound cat table method.method) (keys_of x xs)) _ keys keyed ∙
-              (step (bound_each (name_bound cat table) (names_of c)) _ names included ∙ stop (condition_bound (sight cat table (spelled t).bytes) w) _ f wrong)))
+              (step (bound_each (name_bound cat table) (include_names c)) _ names included ∙ stop (condition_bound (sight cat table (spelled t).bytes) w) _ f wrong)))
 
           pub all-bound : (q : Option Cond) → condition_bound (sight cat table (spelled t).bytes) w ≡ Ok q → whole ≡ within_limits start n table method keys names q
           all-bound q condition =
               step (table_of_name cat t) _ table found ∙ (step (method_bound u) _ method using ∙
               (step (bound_each (key_bound cat table method.method) (keys_of x xs)) _ keys keyed ∙
-              (step (bound_each (name_bound cat table) (names_of c)) _ names included ∙ step (condition_bound (sight cat table (spelled t).bytes) w) _ q condition)))
+              (step (bound_each (name_bound cat table) (include_names c)) _ names included ∙ step (condition_bound (sight cat table (spelled t).bytes) w) _ q condition)))
 
 -- any candidate by its words
 pub parts-of : (y : Cand) (old : List Terminal) → old ≡ words_of_cand y →

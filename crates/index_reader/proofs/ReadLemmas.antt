@@ -19,7 +19,7 @@ use Rattle.index_reader.specs.Parts.{candidates_of, name_token}
 use Rattle.index_reader.specs.Queries.{QueryMeans}
 use Rattle.index_reader.specs.AdviseSoundness.{IsSound}
 use Rattle.index_reader.specs.Stages.{AreRead}
-use Rattle.index_reader.specs.AdviseStatements.{IsMeaning, IsRefusal, PartsStand, TellsParts, asked}
+use Rattle.index_reader.specs.AdviseStatements.{IsAdviseMeaning, IsAdviseRefusal, PartsStand, TellsParts, advice_asked}
 use Rattle.index_reader.specs.Walk.{AreApart, ArePlannable, HaveRoom, QueryRow, Row, TellsCandidates, TellsQueries}
 use Rattle.index_reader.proofs.StandLemmas.{ends-within}
 use Rattle.query_reader.proofs.ReadingLemmas.{some-token}
@@ -87,11 +87,11 @@ module _ (c : Contents) (text : List ℕ) (tokens : List Token) (t : Advises tex
   abbrev pub its : Told text tokens t.tree
   its = told text tokens t.tree t.spelled
 
-  pub read-as : (r : Result Advising Refusal) → TellsParts c its.start tokens its.number its.row its.queries r → IfOk r (λ a. IsMeaning c text tokens (Ok (asked a)))
-  read-as (Ok a) is = record { statement = t.tree; spelled = t.spelled; means = its.means c (Ok (asked a)) is }
+  pub read-as : (r : Result Advising Refusal) → TellsParts c its.start tokens its.number its.row its.queries r → IfOk r (λ a. IsAdviseMeaning c text tokens (Ok (advice_asked a)))
+  read-as (Ok a) is = record { statement = t.tree; spelled = t.spelled; means = its.means c (Ok (advice_asked a)) is }
   read-as (Err e) is = tt
 
-  pub refused-as : (r : Result Advising Refusal) → TellsParts c its.start tokens its.number its.row its.queries r → IfErr r (IsRefusal c text tokens)
+  pub refused-as : (r : Result Advising Refusal) → TellsParts c its.start tokens its.number its.row its.queries r → IfErr r (IsAdviseRefusal c text tokens)
   refused-as (Ok a) is = tt
   refused-as (Err (refusal.Fault f)) is = inr (record { statement = t.tree; spelled = t.spelled; means = its.means c (Err f) is })
   refused-as (Err refusal.Memory) is = (t.tree, t.spelled)

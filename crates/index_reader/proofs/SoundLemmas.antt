@@ -48,10 +48,10 @@ use Rattle.index_reader.specs.declared.index.ReadIndex.{ReadIndex}
 use Rattle.index_reader.specs.declared.keys.KeyRead.{KeyRead}
 use Rattle.index_reader.specs.declared.names.NamedColumn.{NamedColumn}
 use Rattle.index_reader.specs.declared.methods.MethodRead.{MethodRead}
-use Rattle.index_reader.specs.Visible.{Sight, visible_in, type_in}
+use Rattle.index_reader.specs.Visible.{Sight, visible_in, sight_type}
 use Rattle.expr_reader.specs.Sorts.{is_descending, has_nulls_first}
-use Rattle.index_reader.specs.Keys.{method_of_name, method_bound, class_has_method, class_known, given, class_bound, key_bound, keys_of, name_bound, names_of}
-use Rattle.index_reader.specs.Meaning.{Reading, condition_bound, name_tokens, limited, has_many_atoms, index_reading, meaning_of_cand}
+use Rattle.index_reader.specs.Keys.{method_of_name, method_bound, class_has_method, class_known, given, class_bound, key_bound, keys_of, name_bound, include_names}
+use Rattle.index_reader.specs.Meaning.{Reading, condition_bound, name_tokens, limited_names, has_many_atoms, index_reading, meaning_of_cand}
 use Rattle.index_reader.specs.Reads.{reading}
 use Rattle.index_reader.proofs.VisibleLemmas.{all-map, is_first_column, visible-columns}
 use Rattle.index_reader.specs.Soundness.{IsSound}
@@ -96,7 +96,7 @@ first-bound (Ok b) (Err f) bs is = absurd (cc (is))
 first-bound (Ok b) (Ok cs) bs is = let same : b ∷ cs ≡ bs = cc (is) in subst (λ (l : List _). 0 < length l) same (omega arith)
 
 -- the limits
-limited-ok : {A : Type 0} (ts : List Token) (r : Result A Fault) (x : A) → limited ts r ≡ Ok x → (ts ≡ []) × (r ≡ Ok x)
+limited-ok : {A : Type 0} (ts : List Token) (r : Result A Fault) (x : A) → limited_names ts r ≡ Ok x → (ts ≡ []) × (r ≡ Ok x)
 limited-ok [] r x is = (refl, is)
 limited-ok (t ∷ ts) r x is = absurd (cc (is))
 
@@ -136,7 +136,7 @@ module _ (most : ℕ) where
   names-within [] rest h = All-nil (λ u. u.start ≤ most)
   names-within ((m, n) ∷ ns) rest h = All-cons (λ u. u.start ≤ most) (token_of n) (map token_of (parts_of (λ x. x) ns)) h.1.0 (names-within ns rest h.1.1)
 
-  include-within : (c : Include) (rest : List Terminal) → AreWithin most (words_of_include c ++ rest) → Low (map token_of (names_of c))
+  include-within : (c : Include) (rest : List Terminal) → AreWithin most (words_of_include c ++ rest) → Low (map token_of (include_names c))
   include-within no_include rest h = All-nil (λ u. u.start ≤ most)
   include-within (include_columns k o n ns m) rest h =
       All-cons (λ u. u.start ≤ most) (token_of n) (map token_of (parts_of (λ x. x) ns)) h.1.1.0
@@ -188,25 +188,25 @@ module _ (cat : Contents) (lawful : IsLawful cat) (t : TableNo) (there : IsTable
   condition-fits alias no_where p is = let same : None ≡ p = cc (is) in subst (IsPredicateOf columns) same tt
   condition-fits alias (where_expr k e) p is =
       let s : Sight = record { contents = cat; table = t; alias = alias } in
-      let d = next-done (meaning_of_expr (visible_in s) (type_in s) e) _ p is in
+      let d = next-done (meaning_of_expr (visible_in s) (sight_type s) e) _ p is in
       let width = (lawful.tables t.0 no_table there).width in
-      let good = expr-good (visible_in s) (type_in s) (is_first_column (length columns)) (visible-columns alias (length columns) 0 (table_at cat t).names (omega (arith, width))) e d.value d.first in
+      let good = expr-good (visible_in s) (sight_type s) (is_first_column (length columns)) (visible-columns alias (length columns) 0 (table_at cat t).names (omega (arith, width))) e d.value d.first in
       let same : Some (pushed false d.value) ≡ p = cc (d.rest) in
       subst (IsPredicateOf columns) same (record {
         within = pushed-each (is_first_column (length columns)) false d.value ∙ good.1;
-        typed = pushed-typed (type_in s) false d.value good.0;
+        typed = pushed-typed (sight_type s) false d.value good.0;
         pushed = pushed-form false d.value;
       })
 
   module _ (text : List ℕ) (n : Ident) (m : MethodRead) (x : KeyTree) (xs : List (Mark × KeyTree)) (c : Include) (keys : List KeyRead) (names : List NamedColumn) (p : Option Cond)
-      (are-keys : bound_each (key_bound cat t m.method) (keys_of x xs) ≡ Ok keys) (are-names : bound_each (name_bound cat t) (names_of c) ≡ Ok names) where
-    places-low : All (λ u. u.start ≤ length text) (map key_token (keys_of x xs)) → All (λ u. u.start ≤ length text) (map token_of (names_of c)) → All (λ u. u.start ≤ length text) (name_tokens keys names)
+      (are-keys : bound_each (key_bound cat t m.method) (keys_of x xs) ≡ Ok keys) (are-names : bound_each (name_bound cat t) (include_names c) ≡ Ok names) where
+    places-low : All (λ u. u.start ≤ length text) (map key_token (keys_of x xs)) → All (λ u. u.start ≤ length text) (map token_of (include_names c)) → All (λ u. u.start ≤ length text) (name_tokens keys names)
     places-low low more =
         let keyed = each-same (key_bound cat t m.method) key_token (λ k. k.token) (key-placed m.method) (keys_of x xs) keys are-keys in
-        let named = each-same (name_bound cat t) token_of (λ k. k.token) (λ i b is. (name-done i b is).1) (names_of c) names are-names in
+        let named = each-same (name_bound cat t) token_of (λ k. k.token) (λ i b is. (name-done i b is).1) (include_names c) names are-names in
         All-append (λ u. u.start ≤ length text) (map (λ k. k.token) keys) (map (λ k. k.token) names) (subst (All (λ u. u.start ≤ length text)) keyed low) (subst (All (λ u. u.start ≤ length text)) named more)
 
-    pub index-sound : IsName (bytes_of n) → (token_of n).start ≤ length text → m.at ≤ length text → All (λ u. u.start ≤ length text) (map key_token (keys_of x xs)) → All (λ u. u.start ≤ length text) (map token_of (names_of c)) →
+    pub index-sound : IsName (bytes_of n) → (token_of n).start ≤ length text → m.at ≤ length text → All (λ u. u.start ≤ length text) (map key_token (keys_of x xs)) → All (λ u. u.start ≤ length text) (map token_of (include_names c)) →
         drop MOST_COLUMNS (name_tokens keys names) ≡ [] → IsPredicateOf columns p → IsSound cat text (index_reading n t m keys names p)
     index-sound name start method low more few predicate =
         let tokens = name_tokens keys names in
@@ -229,7 +229,7 @@ module _ (cat : Contents) (lawful : IsLawful cat) (t : TableNo) (there : IsTable
               few = omega (arith, none, dropped, count, key-count, name-count, bare-keys, bare-names);
               keys = all-map (IsKeyOf columns m.method) (λ (k : KeyRead). k.key) keys (each-holds (key_bound cat t m.method) (λ k. IsKeyOf columns m.method k.key) (key-fits m.method) (keys_of x xs) keys are-keys);
               include = all-map (λ (c : ColNo). c.0 < length columns) (λ (k : NamedColumn). k.col) names
-                  (each-holds (name_bound cat t) (λ k. k.col.0 < length columns) (λ i b is. (name-done i b is).0) (names_of c) names are-names);
+                  (each-holds (name_bound cat t) (λ k. k.col.0 < length columns) (λ i b is. (name-done i b is).0) (include_names c) names are-names);
               predicate = predicate;
             };
           };
@@ -245,7 +245,7 @@ module _ (cat : Contents) (text : List ℕ) (lawful : IsLawful cat) where
       let there = known-table cat text (bytes_of t) table.value _ refl (known-some _ (token_of t) (table_named cat (bytes_of t)) table.value table.first) in
       let method = next-done (method_bound u) _ r table.rest in
       let keys = next-done (bound_each (key_bound cat table.value method.value.method) (keys_of x xs)) _ r method.rest in
-      let names = next-done (bound_each (name_bound cat table.value) (names_of c)) _ r keys.rest in
+      let names = next-done (bound_each (name_bound cat table.value) (include_names c)) _ r keys.rest in
       let predicate = next-done (condition_bound (record { contents = cat; table = table.value; alias = bytes_of t }) w) _ r names.rest in
       let (few, passed) = limited-ok (drop MOST_COLUMNS (name_tokens keys.value names.value)) _ r predicate.rest in
       let done = passed-ok (has_many_atoms predicate.value) _ _ r passed in

@@ -17,7 +17,7 @@ use Rattle.expr_reader.specs.Reading.{Begins, BeginsNot}
 use Rattle.catalog.specs.Contents.{Contents, NamedIndex}
 use Rattle.sql_query.specs.Queries.{Query}
 use Rattle.index_reader.specs.AdviseCandidates.{with_room}
-use Rattle.index_reader.specs.AdviseMeaning.{Asked, CandidatesMean, Means, PartsMean, QueriesMean, most_meant}
+use Rattle.index_reader.specs.AdviseMeaning.{Asked, CandidatesMean, AdviseMeans, PartsMean, QueriesMean, most_meant}
 use Rattle.index_reader.specs.Parts.{candidates_of, name_token}
 use Rattle.index_reader.specs.Walk.{QueryRow, Row}
 use Rattle.index_reader.proofs.StandLemmas.{behind}
@@ -76,7 +76,7 @@ pub record Told (text : List ℕ) (tokens : List Token) (y : Advise) : Type 0 wh
   pub row : Row
   pub queries : QueryRow
   pub stands : PartsStand text tokens number row queries
-  pub means : (c : Contents) (r : Result Asked Fault) → InTurn c start tokens number row queries r → Means c tokens y r
+  pub means : (c : Contents) (r : Result Asked Fault) → InTurn c start tokens number row queries r → AdviseMeans c tokens y r
 
 pub told : (text : List ℕ) (tokens : List Token) (y : Advise) → IsSpelled (advise y) text tokens → Told text tokens y
 told text tokens (advise_of p k n o c cs m x xs e) s =

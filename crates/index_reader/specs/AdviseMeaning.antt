@@ -44,5 +44,5 @@ PartsMean c start tokens n xs qs =
     r ≡ Ok (record { most = most; candidates = all; queries = queries })))))
 
 -- what ADVISE of these tokens means
-abbrev pub Means : Contents → List Token → Advise → Result Asked Fault → Type 0
-Means c tokens (advise_of _ start n _ x xs _ q qs _) = PartsMean c start tokens n (candidates_of x xs) (q ∷ qs)
+abbrev pub AdviseMeans : Contents → List Token → Advise → Result Asked Fault → Type 0
+AdviseMeans c tokens (advise_of _ start n _ x xs _ q qs _) = PartsMean c start tokens n (candidates_of x xs) (q ∷ qs)

@@ -12,7 +12,7 @@ use Rattle.sql_grammar.specs.Faults.{IsStatement, IsFirstFault, terminals}
 use Rattle.sql_grammar.specs.Spelled.{IsSpelled}
 use Rattle.catalog.specs.Contents.{Contents}
 use Rattle.index_reader.specs.declared.advising.Advising.{Advising}
-use Rattle.index_reader.specs.AdviseMeaning.{Asked, Means, PartsMean}
+use Rattle.index_reader.specs.AdviseMeaning.{Asked, AdviseMeans, PartsMean}
 use Rattle.index_reader.specs.Parts.{candidates_of}
 use Rattle.index_reader.specs.Walk.{QueryRow, QueryRowAt, Row, RowAt}
 
@@ -22,23 +22,23 @@ begins_advise (t_name (free AdviseWord _) ∷ _) = true
 begins_advise _ = false
 
 -- what is read
-abbrev pub asked : Advising → Asked
-asked a = record { most = a.most; candidates = a.candidates.items; queries = a.queries.items }
+abbrev pub advice_asked : Advising → Asked
+advice_asked a = record { most = a.most; candidates = a.candidates.items; queries = a.queries.items }
 
 -- the tokens spell an ADVISE that means this
-pub record IsMeaning (c : Contents) (text : List ℕ) (tokens : List Token) (r : Result Asked Fault) : Type 0 where
+pub record IsAdviseMeaning (c : Contents) (text : List ℕ) (tokens : List Token) (r : Result Asked Fault) : Type 0 where
   pub statement : Advise
   pub spelled : IsSpelled (advise statement) text tokens
-  pub means : Means c tokens statement r
+  pub means : AdviseMeans c tokens statement r
 
 -- the tokens are an ADVISE
 abbrev pub AreAdvise : List ℕ → List Token → Type 0
 AreAdvise text tokens = (x : Advise) × IsSpelled (advise x) text tokens
 
 -- why it is refused: its first fault, of its syntax or after it, or want of memory for one whose syntax has no fault
-abbrev pub IsRefusal : Contents → List ℕ → List Token → Refusal → Type 0
-IsRefusal c text tokens (refusal.Fault f) = IsFirstFault IsStatement text tokens f ⊎ IsMeaning c text tokens (Err f)
-IsRefusal c text tokens refusal.Memory = AreAdvise text tokens
+abbrev pub IsAdviseRefusal : Contents → List ℕ → List Token → Refusal → Type 0
+IsAdviseRefusal c text tokens (refusal.Fault f) = IsFirstFault IsStatement text tokens f ⊎ IsAdviseMeaning c text tokens (Err f)
+IsAdviseRefusal c text tokens refusal.Memory = AreAdvise text tokens
 
 -- the number, the candidates and the SELECTs of an ADVISE stand where they are read
 pub record PartsStand (text : List ℕ) (tokens : List Token) (n : Said) (w : Row) (q : QueryRow) : Type 0 where
@@ -50,6 +50,6 @@ pub record PartsStand (text : List ℕ) (tokens : List Token) (n : Said) (w : Ro
 
 -- what is told of them: what they mean, or their first fault, or there was no memory
 abbrev pub TellsParts : Contents → Token → List Token → Said → Row → QueryRow → Result Advising Refusal → Type 0
-TellsParts c start tokens n w q (Ok a) = PartsMean c start tokens n (candidates_of w.first w.more) q.queries (Ok (asked a))
+TellsParts c start tokens n w q (Ok a) = PartsMean c start tokens n (candidates_of w.first w.more) q.queries (Ok (advice_asked a))
 TellsParts c start tokens n w q (Err (refusal.Fault f)) = PartsMean c start tokens n (candidates_of w.first w.more) q.queries (Err f)
 TellsParts c start tokens n w q (Err refusal.Memory) = Unit {0}

@@ -76,6 +76,6 @@ abbrev pub name_bound : Contents → TableNo → Ident → Result NamedColumn Fa
 name_bound cat t n = next (column_of_name cat t n) (λ col. Ok (record { col = col; token = token_of n }))
 
 -- all INCLUDE columns
-abbrev pub names_of : Include → List Ident
-names_of no_include = []
-names_of (include_columns _ _ n ns _) = n ∷ parts_of (λ x. x) ns
+abbrev pub include_names : Include → List Ident
+include_names no_include = []
+include_names (include_columns _ _ n ns _) = n ∷ parts_of (λ x. x) ns

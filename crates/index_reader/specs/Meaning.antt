@@ -21,8 +21,8 @@ use Rattle.ddl_reader.specs.Statistics.{table_of_name}
 use Rattle.index_reader.specs.declared.keys.KeyRead.{KeyRead}
 use Rattle.index_reader.specs.declared.names.NamedColumn.{NamedColumn}
 use Rattle.index_reader.specs.declared.methods.MethodRead.{MethodRead}
-use Rattle.index_reader.specs.Keys.{method_bound, key_bound, keys_of, name_bound, names_of}
-use Rattle.index_reader.specs.Visible.{Sight, visible_in, type_in}
+use Rattle.index_reader.specs.Keys.{method_bound, key_bound, keys_of, name_bound, include_names}
+use Rattle.index_reader.specs.Visible.{Sight, visible_in, sight_type}
 
 -- a new index by its name, with the offsets of the words at which the catalogue's refusals stand
 pub record Reading : Type 0 where
@@ -34,16 +34,16 @@ pub record Reading : Type 0 where
 -- the condition, in pushed form, over the columns of the table alone
 abbrev pub condition_bound : Sight → Where → Result (Option Cond) Fault
 condition_bound s no_where = Ok None
-condition_bound s (where_expr _ e) = next (meaning_of_expr (visible_in s) (type_in s) e) (λ c. Ok (Some (pushed false c)))
+condition_bound s (where_expr _ e) = next (meaning_of_expr (visible_in s) (sight_type s) e) (λ c. Ok (Some (pushed false c)))
 
 -- the tokens of the key columns' names, and then of those of INCLUDE
 abbrev pub name_tokens : List KeyRead → List NamedColumn → List Token
 name_tokens keys names = map (λ k. k.token) keys ++ map (λ n. n.token) names
 
 -- the first name too many is at fault
-abbrev pub limited : {A : Type 0} → List Token → Result A Fault → Result A Fault
-limited [] r = r
-limited (token ∷ _) r = Err (fault_at (S15 Columns) token)
+abbrev pub limited_names : {A : Type 0} → List Token → Result A Fault → Result A Fault
+limited_names [] r = r
+limited_names (token ∷ _) r = Err (fault_at (S15 Columns) token)
 
 -- the condition has more atoms than a statement may have
 abbrev pub has_many_atoms : Option Cond → Bool
@@ -62,7 +62,7 @@ index_reading n t m keys names predicate = record {
 -- within the limits: of columns, at the first name too many, then of atoms, at the statement's first token
 abbrev pub within_limits : Token → Ident → TableNo → MethodRead → List KeyRead → List NamedColumn → Option Cond → Result Reading Fault
 within_limits start n t m keys names predicate =
-    limited (drop MOST_COLUMNS (name_tokens keys names))
+    limited_names (drop MOST_COLUMNS (name_tokens keys names))
     (cond (has_many_atoms predicate) (Err (fault_at (S15 Atoms) start)) (Ok (index_reading n t m keys names predicate)))
 
 -- what a candidate for an index means, in a statement that begins at this token
@@ -71,7 +71,7 @@ meaning_of_cand cat start (cand_on n _ of u _ x xs _ c w) =
     next (table_of_name cat of) (λ t.
     next (method_bound u) (λ m.
     next (bound_each (key_bound cat t m.method) (keys_of x xs)) (λ keys.
-    next (bound_each (name_bound cat t) (names_of c)) (λ names.
+    next (bound_each (name_bound cat t) (include_names c)) (λ names.
     next (condition_bound (record { contents = cat; table = t; alias = bytes_of of }) w) (λ predicate.
     within_limits start n t m keys names predicate)))))
 

@@ -20,5 +20,5 @@ abbrev pub visible_in : Sight → Scope
 visible_in s = columns_from s.alias (record { 0 = 0 }) 0 (table_at s.contents s.table).names
 
 -- the type of a column
-abbrev pub type_in : Sight → ColRef → SqlType
-type_in s x = type_at (table_at s.contents s.table).columns x.col
+abbrev pub sight_type : Sight → ColRef → SqlType
+sight_type s x = type_at (table_at s.contents s.table).columns x.col

@@ -7,7 +7,7 @@ ghost use Rattle.sql_grammar.specs.Faults.{terminals};
 ghost use Rattle.sql_grammar.specs.Terminals.{Said, Terminal, t_number};
 ghost use Rattle.index_reader.specs.AdviseMeaning.{most_meant};
 ghost use Rattle.index_reader.specs.AdviseSoundness.{IsSound};
-ghost use Rattle.index_reader.specs.AdviseStatements.{asked, begins_advise, IsMeaning, IsRefusal, PartsStand, TellsParts};
+ghost use Rattle.index_reader.specs.AdviseStatements.{advice_asked, begins_advise, IsAdviseMeaning, IsAdviseRefusal, PartsStand, TellsParts};
 ghost use Rattle.index_reader.specs.Walk.{QueryRow, Row};
 
 use crate::advising::Advising;
@@ -56,7 +56,7 @@ fn parts(alloc: Global, cat: &Catalog, text: &[u8], tokens: &Tokens) -> Result<A
     requires there { (n : Said) × (w : Row) × (q : QueryRow) × PartsStand text.now tokens.now n w q }
     ensures told { (n : Said) (w : Row) (q : QueryRow) (start : Token) (later : List Token) → tokens.now ≡ start ∷ later →
         PartsStand text.now tokens.now n w q → TellsParts cat.now start tokens.now n w q result }
-    ensures sound { IfOk result (λ a. IsSound cat.now (asked a)) }
+    ensures sound { IfOk result (λ a. IsSound cat.now (advice_asked a)) }
 {
     let most = most(text, tokens)?;
     let AllRead {
@@ -98,9 +98,9 @@ pub fn read_advise(
     requires short { length text.now ≤ 2 ^ 31 }
     requires words { (from : ℕ) × AreWords text.now from tokens.now }
     requires opens { begins_advise (terminals text.now tokens.now) ≡ true }
-    ensures read { IfOk result (λ a. IsMeaning cat.now text.now tokens.now (Ok (asked a))) }
-    ensures sound { IfOk result (λ a. IsSound cat.now (asked a)) }
-    ensures refused { IfErr result (IsRefusal cat.now text.now tokens.now) }
+    ensures read { IfOk result (λ a. IsAdviseMeaning cat.now text.now tokens.now (Ok (advice_asked a))) }
+    ensures sound { IfOk result (λ a. IsSound cat.now (advice_asked a)) }
+    ensures refused { IfErr result (IsAdviseRefusal cat.now text.now tokens.now) }
 {
     if let Some(fault) = statement_fault(text, tokens, 0) {
         return Err(Refusal::Fault(fault));

@@ -6,7 +6,7 @@ ghost use Rattle.pg_base.specs.declared.faults.Limit.TheVariants.{Atoms};
 ghost use Rattle.pg_base.specs.declared.limits.TheConstants.{MOST_COLUMNS};
 ghost use Rattle.pg_expr.specs.View.{cond};
 ghost use Rattle.sql_grammar.specs.Faults.{fault_at as fault_at_token};
-ghost use Rattle.index_reader.specs.Meaning.{has_many_atoms, limited, name_tokens};
+ghost use Rattle.index_reader.specs.Meaning.{has_many_atoms, limited_names, name_tokens};
 
 use crate::keys::KeyRead;
 use crate::names::NamedColumn;
@@ -36,7 +36,7 @@ pub fn name_tokens_of(
 
 /// The limit of columns (54000): the first name too many is at fault.
 pub fn check_columns(names: &[Token]) -> Result<(), Fault>
-    ensures { result ≡ limited (drop MOST_COLUMNS names.now) (Ok tt) }
+    ensures { result ≡ limited_names (drop MOST_COLUMNS names.now) (Ok tt) }
 {
     if names.len() > MOST_COLUMNS {
         return Err(fault_at(Code::S15(Limit::Columns), names[MOST_COLUMNS]));

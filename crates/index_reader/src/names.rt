@@ -11,7 +11,7 @@ ghost use Rattle.catalog.specs.Tables.{column_named};
 ghost use Rattle.expr_reader.specs.Reads.{Reads};
 ghost use Rattle.expr_reader.specs.Lists.{parts_of, bound_each};
 ghost use Rattle.ddl_reader.specs.Statistics.{known};
-ghost use Rattle.index_reader.specs.Keys.{name_bound, names_of};
+ghost use Rattle.index_reader.specs.Keys.{name_bound, include_names};
 ghost use Rattle.index_reader.specs.Reads.{ends_include, words_of_names_left};
 ghost use Rattle.index_reader.specs.declared.names.NamedColumn.{NamedColumn};
 
@@ -96,7 +96,7 @@ pub fn include(
     requires there { IsTable cat.now table }
     requires words { (c : Include) × (rest : List Terminal) × (ends_include rest ≡ true) × (from.old ≡ words_of_include c ++ rest) }
     ensures { (c : Include) (rest : List Terminal) → ends_include rest ≡ true → from.old ≡ words_of_include c ++ rest →
-        Reads (λ (v : Vec NamedColumn Global). v.items) (bound_each (name_bound cat.now table) (names_of c)) rest result from.new }
+        Reads (λ (v : Vec NamedColumn Global). v.items) (bound_each (name_bound cat.now table) (include_names c)) rest result from.new }
 {
     if !from.takes_free(Free::Include) {
         return Ok(Vec::new(alloc));

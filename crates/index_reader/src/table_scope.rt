@@ -37,11 +37,11 @@ impl<'a> Model for TableScope<'a> {
 }
 
 impl<'a> Scope for TableScope<'a> {
-    ghost use Rattle.index_reader.specs.Visible.{visible_in, type_in};
+    ghost use Rattle.index_reader.specs.Visible.{visible_in, sight_type};
 
     ghost visible = { λ s. visible_in s };
 
-    ghost type_of = { λ s x. type_in s x };
+    ghost type_of = { λ s x. sight_type s x };
 
     fn column(&self, qualifier: Option<&[u8]>, name: &[u8]) -> Found {
         match qualifier {

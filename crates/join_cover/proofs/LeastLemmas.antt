@@ -27,7 +27,7 @@ use Rattle.pg_base.proofs.SetLaws.{none-zero}
 use Rattle.join_cover.specs.Leasts.{IsLeastFrom, IsLeastWhole, IsWhole}
 use Rattle.join_cover.specs.Serving.{AreMergesBy, IsMergeServed, IsRowServed, IsServed}
 use Rattle.join_cover.proofs.CoverLemmas.{right-at}
-use Rattle.entry_check.specs.plan_space_KeyLemmas.{below-next}
+use Rattle.pg_base.proofs.NumberLemmas.{each-below as below-next}
 
 module _ (es : List Entry) (s from n : ℕ) where
   own-cost : (e : Entry) → slice_get es n ≡ Some e → (y : IsWhole es s n) → e.cost ≤ y.entry.cost

@@ -22,7 +22,7 @@ use Rattle.plan_check.proofs.PlacedLemmas.{each-of}
 use Rattle.join_cover.specs.Leasts.{IsLeastFrom}
 use Rattle.join_cover.specs.Serving.{AreMergesBy, AreNestsBy, AreNestsOf, IsNestServed, IsOpen}
 use Rattle.join_cover.specs.declared.uncovered.Uncovered.{Uncovered}
-use Rattle.entry_check.specs.plan_space_KeyLemmas.{below-next}
+use Rattle.pg_base.proofs.NumberLemmas.{each-below as below-next}
 
 -- the places of the entries as they were read
 pub placed-read : (t : Certificate) (xs items : List Entered) (p : SetPlaces) → t.entries ≡ map entry xs → items ≡ xs → ArePlaced t.entries p → ArePlaced (map entry items) p

@@ -17,7 +17,7 @@ use Rattle.plan_tree.specs.Paths.{Path}
 use Rattle.plan_tree.specs.Space.{IsEmpty, IsSameSet}
 use Rattle.plan_tree.proofs.LikeLemmas.{given-like}
 use Rattle.join_search.specs.Tables.{Fronts, none}
-use Rattle.join_search.specs.Joins.{ArePlaced, IsCovered, IsKept, IsPathAt, IsPlanIn, IsSideIn, IsSideKept}
+use Rattle.join_search.specs.Joins.{ArePlaced, AreJoinsCovered, IsKept, IsPathAt, IsPlanIn, IsSideIn, IsSideKept}
 use Rattle.join_search.specs.Offers.{AreJoinsServed}
 use Rattle.join_search.specs.Splits.{IsDivided}
 use Rattle.join_search.specs.declared.useful.Asked.{Asked}
@@ -113,7 +113,7 @@ module _ (c : Contents) (q : Query) where
   }
 
   -- where the joins of each division of a set are served, the joins of kept paths of the set are covered
-  pub all-covered : (asked : Asked) (fronts : Fronts) (s : RelSet) → ArePlaced c q fronts → ((a b : RelSet) → IsDivided s a b → AreJoinsServed c q asked fronts (fronts s none) a b) → IsCovered c q asked fronts s
+  pub all-covered : (asked : Asked) (fronts : Fronts) (s : RelSet) → ArePlaced c q fronts → ((a b : RelSet) → IsDivided s a b → AreJoinsServed c q asked fronts (fronts s none) a b) → AreJoinsCovered c q asked fronts s
   all-covered asked fronts s placed served (nest o i) of below kept =
       let x = stands fronts o placed kept.0 in
       let y = stands fronts i placed kept.1 in

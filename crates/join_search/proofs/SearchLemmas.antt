@@ -20,7 +20,7 @@ use Rattle.plan_tree.proofs.AtMostLemmas.{dominates-at-most}
 use Rattle.plan_tree.proofs.FrontLemmas.{contains-mapped, contains-source, still-dominated}
 use Rattle.plan_tree.proofs.PathLemmas.{built-below}
 use Rattle.join_search.specs.Tables.{Fronts, IsSamePlace, front_at, none, paths_at, paths_of}
-use Rattle.join_search.specs.Joins.{AreUndominated, IsBase, IsCovered, IsJoinOfKept, IsJoinPath, IsKept, IsPathAt, IsSideKept, IsSingle}
+use Rattle.join_search.specs.Joins.{AreUndominated, IsBase, AreJoinsCovered, IsJoinOfKept, IsJoinPath, IsKept, IsPathAt, IsSideKept, IsSingle}
 use Rattle.join_search.specs.Offers.{AreJoinsServed, AreMergesServed, AreNestsServed}
 use Rattle.join_search.specs.Search.{IsDone}
 use Rattle.join_search.specs.Splits.{IsDivided}
@@ -246,7 +246,7 @@ module _ (c : Contents) (q : Query) (asked : Asked) where
       by false e = joins-later fronts old new a b still (before a b (grind (arith, nat_tests, lt, e)) d)
 
   -- after the last set
-  pub done-covered : (base t : Table) (n : ℕ) → IsDone c q asked base t n → 2 ^ width q ≤ n → (s : RelSet) → IsCovered c q asked (paths_at t) s
+  pub done-covered : (base t : Table) (n : ℕ) → IsDone c q asked base t n → 2 ^ width q ≤ n → (s : RelSet) → AreJoinsCovered c q asked (paths_at t) s
   done-covered base t n done le s plan of below kept =
       let few : s.0 < 2 ^ width q = set-below s.0 (width q) (λ k is. read-below (width q) plan k (built-below c q plan of.built) (of.set_is k ∙ is)) in
       all-covered c q asked (paths_at t) s done.placed (λ a b d. done.served s a b (omega (arith, few, le)) d) plan of below kept

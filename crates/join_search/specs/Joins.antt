@@ -81,5 +81,5 @@ module _ (c : Contents) (q : Query) where
   AreUndominated paths = AllPairs (λ a b. ¬ Dominates c q a.tree b.tree × ¬ Dominates c q b.tree a.tree) paths
 
 -- each join of kept paths below the limit that is a plan of the set has a path of the set's front that suffices for it
-abbrev pub IsCovered : Contents → Query → Asked → Fronts → RelSet → Type 0
-IsCovered c q asked fronts s = (t : Plan) → IsPlanOf c q (has s.0) empty t → IsBelow c q asked.limit t → IsJoinOfKept fronts t → HasSufficient c q asked (fronts s (record { 0 = 0 })) t
+abbrev pub AreJoinsCovered : Contents → Query → Asked → Fronts → RelSet → Type 0
+AreJoinsCovered c q asked fronts s = (t : Plan) → IsPlanOf c q (has s.0) empty t → IsBelow c q asked.limit t → IsJoinOfKept fronts t → HasSufficient c q asked (fronts s (record { 0 = 0 })) t

@@ -76,8 +76,8 @@ abbrev pub inners_of : Split → RelSet → List Path
 inners_of j p = paths_at j.table.now j.inner p
 
 -- paths of the set
-abbrev pub ArePathsOf : Split → List Path → Type 0
-ArePathsOf j paths = All (IsPathAt j.cat.now j.q.now j.set none) paths
+abbrev pub ArePathsOfSet : Split → List Path → Type 0
+ArePathsOfSet j paths = All (IsPathAt j.cat.now j.q.now j.set none) paths
 
 -- paths of the set that are joins of kept ones
 abbrev pub AreJoinsOf : Split → List Path → Type 0

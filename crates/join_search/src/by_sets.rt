@@ -9,7 +9,7 @@ ghost use Rattle.plan_tree.specs.Reads.{IsOverTables};
 ghost use Rattle.plan_tree.specs.Views.{path};
 ghost use Rattle.pareto.specs.Front.{AreKeptOr};
 ghost use Rattle.plan_tree.specs.Fronts.{StayDominated};
-ghost use Rattle.join_search.specs.Joins.{ArePlaced, AreUndominated, IsBase, IsCovered, IsJoinPath, IsPathAt, IsSingle};
+ghost use Rattle.join_search.specs.Joins.{ArePlaced, AreUndominated, IsBase, AreJoinsCovered, IsJoinPath, IsPathAt, IsSingle};
 ghost use Rattle.join_search.specs.Sufficing.{HasSufficient, StaySufficient};
 ghost use Rattle.join_search.specs.Offers.{AreJoinsServed, AreTargetServed, IsPartServed, Takes, TargetTakes};
 ghost use Rattle.join_search.specs.Past.{HasNoJoins};
@@ -383,7 +383,7 @@ pub fn search(
     requires base { IsBase cat.now q.now base }
     ensures handed { IfOk result (λ t. (s p : sets.RelSet) → IsSingle s → front_at t s p ≡ front_at base s p) }
     ensures placed { IfOk result (λ t. ArePlaced cat.now q.now (paths_at t)) }
-    ensures covered { IfOk result (λ t. (s : sets.RelSet) → IsCovered cat.now q.now asked (paths_at t) s) }
+    ensures covered { IfOk result (λ t. (s : sets.RelSet) → AreJoinsCovered cat.now q.now asked (paths_at t) s) }
     ensures kept { IfOk result (λ t. (s p : sets.RelSet) → ¬ IsSingle s → All (IsJoinPath cat.now q.now (paths_at t) s p) (paths_at t s p)) }
     ensures undominated { IfOk result (λ t. (s p : sets.RelSet) → ¬ IsSingle s → AreUndominated cat.now q.now (paths_at t s p)) }
 {

@@ -7,7 +7,7 @@ ghost use Rattle.plan_tree.specs.Keys.{keys_of};
 ghost use Rattle.plan_tree.specs.Views.{path, plan};
 ghost use Rattle.join_search.specs.Joins.{IsJoinOfKept, IsJoinPath, IsPathAt};
 ghost use Rattle.join_search.specs.Offers.{ServesFrom, TakesJoins};
-ghost use Rattle.join_search.specs.Splits.{ArePathsOf, IsJoinOf, IsOver, kept_of};
+ghost use Rattle.join_search.specs.Splits.{ArePathsOfSet, IsJoinOf, IsOver, kept_of};
 ghost use Rattle.join_search.specs.Tables.{Fronts, none};
 
 use crate::splits::Split;
@@ -50,7 +50,7 @@ pub(crate) fn is_passed_over(
 ) -> Result<bool, Memory>
     requires over { IsOver j.now }
     requires classes { All (λ n. n < length j.now.q.now.classes.classes) keys.now }
-    requires front { ArePathsOf j.now (map path front.now) }
+    requires front { ArePathsOfSet j.now (map path front.now) }
     ensures served { IfOk result (λ b. IsTrue b → ServesFrom j.now (map path front.now) least keys.now) }
     ensures below { IfOk result (λ b. b ≡ false → least.total < MOST_COST) }
 {
@@ -98,7 +98,7 @@ pub(crate) fn offer_join(
     requires cost { cost ≡ kept_of j.now (plan t) }
     requires below { cost.total < MOST_COST }
     requires keys { keys ≡ keys_of j.now.cat.now j.now.q.now (plan t) }
-    requires front { ArePathsOf j.now (map path front.old) }
+    requires front { ArePathsOfSet j.now (map path front.old) }
     ensures takes { (kept : Fronts) → IsJoinOfKept kept (plan t) → All (IsJoinPath j.now.cat.now j.now.q.now kept j.now.set none) (map path front.old) → TakesJoins j.now.cat.now j.now.q.now kept j.now.set (map path front.old) (map path front.new) }
     ensures served { OnOk result (HasDominating j.now.cat.now j.now.q.now (map path front.new) (plan t)) }
 {

@@ -31,7 +31,7 @@ module _ (c : Contents) (q : Query) where
     pub keys : e.keys ≡ keys_of c q p
 
   -- its numbers are the plan's
-  pub record HasItsNumbers (e : Entry) (p : Plan) : Type 0 where
+  pub record HasPlanNumbers (e : Entry) (p : Plan) : Type 0 where
     pub startup : IsStartup q.window e.startup (cost c q p).startup
     pub total : e.cost ≡ (cost c q p).total
     pub rows : e.rows ≡ estimate c q p
@@ -41,7 +41,7 @@ module _ (c : Contents) (q : Query) where
     pub plan : Plan
     pub unfolds : unfold_at q t (suc n) ≡ Some plan
     pub has : HasItsPlan e plan
-    pub numbers : HasItsNumbers e plan
+    pub numbers : HasPlanNumbers e plan
 
   -- an entry dominates a plan
   abbrev pub IsDominated : Certificate → Plan → Type 0

@@ -15,7 +15,7 @@ use Rattle.plan_tree.specs.Paths.{Path, is_at_most}
 use Rattle.plan_tree.specs.Space.{IsSameSet}
 use Rattle.plan_tree.specs.declared.path.Path.{Path as Costed}
 use Rattle.join_search.specs.Tables.{Fronts, IsSamePlace}
-use Rattle.certificate_laws.specs.planner_SearchLemmas.{same_number}
+use Rattle.join_search.proofs.TableLemmas.{same-number as same_number}
 use Rattle.planned_table.specs.Gathering.{AreGathered, AreUnrelated, IsBelow, IsBelowOr, IsWholeBelow, Places, StandAtTheirs}
 
 pairs-append : (R : Path → Path → Type 0) (xs ys : List Path) → AllPairs R xs → AllPairs R ys → All (λ x. All (R x) ys) xs → AllPairs R (xs ++ ys)

@@ -17,7 +17,7 @@ use Rattle.scan_paths.proofs.SpaceLemmas.{given-param}
 use Rattle.join_search.specs.plan_laws_Closed.{AreKeptSides, IsKeptSide, is_scan}
 use Rattle.join_search.specs.plan_laws_Useful.{HasEnough, IsBelow, IsClosedBelow, Suffices}
 use Rattle.join_search.specs.plan_laws_UsefulLemmas.{enough}
-use Rattle.join_search.specs.Joins.{ArePlaced, IsCovered, IsKept, IsPathAt, IsSideKept}
+use Rattle.join_search.specs.Joins.{ArePlaced, AreJoinsCovered, IsKept, IsPathAt, IsSideKept}
 use Rattle.join_search.specs.Sufficing.{HasSufficient}
 use Rattle.join_search.specs.Tables.{Fronts, none}
 use Rattle.join_search.specs.declared.useful.Asked.{Asked}
@@ -93,7 +93,7 @@ module _ (c : Contents) (q : Query) (fronts : Fronts) (placed : ArePlaced c q fr
       suffices = h.suffices;
     }
 
-    module _ (covered : (s : RelSet) → IsCovered c q asked fronts s) where
+    module _ (covered : (s : RelSet) → AreJoinsCovered c q asked fronts s) where
       joins-met : (t : Plan) → AreKeptSides c q (IsKept fronts) t → IsBuilt c q t → IsBelow c q asked.limit t → IsMet t
       joins-met (nest o i) sides built below =
           let s = both o i (kept-set o sides.0) (kept-set i sides.1) in

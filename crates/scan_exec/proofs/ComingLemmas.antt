@@ -24,7 +24,7 @@ use Rattle.plan_tree.specs.Plans.{Plan, seq, index, index_only, bitmap, sort, ne
 use Rattle.plan_tree.specs.Run.{at_which, clauses_at, conditions, directed, held, met, run}
 use Rattle.plan_tree.specs.Space.{IsBuilt}
 use Rattle.scan_exec.specs.Coming.{Coming, allowed, bounded, coming, entry_row, fetched_row, index_coming, left, owed}
-use Rattle.scan_exec.specs.Plans.{IsScan, param_of, relation_of}
+use Rattle.scan_exec.specs.Plans.{IsScan, param_set, relation_of}
 use Rattle.plan_laws.proofs.ScanLemmas.{all_filtered as part_true}
 
 -- rows by a test of each
@@ -189,7 +189,7 @@ module _ (w : World) (q : Query) where
   is_tree Btree h = refl
   is_tree Hash h = absurd (true≢false h)
 
-  pub looked_rows : (p : Plan) (o : Tuple) → IsScan p → IsBuilt w.contents q p → allowed (coming w q p o) + given_looks w q (param_of p) ≤ looks w q p o
+  pub looked_rows : (p : Plan) (o : Tuple) → IsScan p → IsBuilt w.contents q p → allowed (coming w q p o) + given_looks w q (param_set p) ≤ looks w q p o
   looked_rows (seq r) o is built = let none = fetched_allowed r (conditions_of (base q.classes r.0)) o (row_numbers w q r) in omega (arith, none)
   looked_rows (index r i b p) o is built = let e = index_allowed r i b p o (index_at w.contents i).method in omega (arith, e)
   looked_rows (index_only r i b p) o is built =

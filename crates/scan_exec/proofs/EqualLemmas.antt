@@ -49,7 +49,7 @@ use Rattle.plan_tree.specs.Bitmaps.{IsIndexOn}
 use Rattle.plan_tree.specs.Entries.{cell, entries, entries_over, entry_rows}
 use Rattle.plan_tree.specs.Run.{at_which, clauses_at, conditions, met}
 use Rattle.plan_tree.specs.Space.{may_go}
-use Rattle.store.specs.Kept.{Kept, built_by, built_of, first_key, hashed, held_of, table_of}
+use Rattle.store.specs.Kept.{Kept, built_by, built_of, first_key, hashed, held_of, hash_table}
 use Rattle.store.proofs.FitLemmas.{key-fits, key-hashes}
 use Rattle.store.proofs.StoreLemmas.{holds}
 use Rattle.scan_probes.specs.Probes.{FitOwn, column_of, compared_with, is_known}
@@ -77,10 +77,10 @@ is_hashed d rows t e = by d.method refl e
     by Btree is e = cc
     by Hash is e = is
 
-pub table_is : (d : Index) (rows : List Values) (t : Table) → hashed t ≡ built_of d rows → t ≡ table_of d rows
+pub table_is : (d : Index) (rows : List Values) (t : Table) → hashed t ≡ built_of d rows → t ≡ hash_table d rows
 table_is d rows t e = by d.method e
   where
-    by : (m : Method) → hashed t ≡ built_by m d rows → t ≡ table_of d rows
+    by : (m : Method) → hashed t ≡ built_by m d rows → t ≡ hash_table d rows
     by Btree e = cc
     by Hash e = cc
 
@@ -262,7 +262,7 @@ module _ (c : Contents) (k : Kept) (q : Query) (r : RelNo) (p : RelSet) (outer :
         ∙ sym (and-true (is_true (truth_at (value_beside r.0 own given) e)))
         ∙ true_at c k q r p outer given at x.row is.within (e ∷ []) one_near
 
-    pub rows_are : rows_equal value (table_of d rows).held ≡ at_which w q r o (e ∷ []) (entry_rows w i)
+    pub rows_are : rows_equal value (hash_table d rows).held ≡ at_which w q r o (e ∷ []) (entry_rows w i)
     rows_are =
         equal_rows key (key-hashes (type_in c q.range (column_of r.0 key.col)) key accepts) value value_fits (map held_of es) (entries_rise d rows hash) all_fit
         ∙ ap (map (λ (h : Held). h.row)) (filter_of_map (λ (h : Held). is_true (truth_of_op Eq h.value value)) held_of es)

@@ -26,9 +26,9 @@ use Rattle.plan_tree.specs.Views.{bits, plan}
 use Rattle.scan_exec.specs.Coming.{Coming, allowed, bounded, coming, entry_row, index_coming}
 use Rattle.store.specs.Kept.{IsStoreOf, Kept}
 use Rattle.scan_probes.specs.Scenes.{AreRowsOf, IsOverWorld}
-use Rattle.scan_probes.specs.Values.{Given, given_of}
+use Rattle.scan_probes.specs.Values.{Given, tuple_given}
 use Rattle.scan_exec.specs.Scene.{IsScene}
-use Rattle.scan_exec.specs.Plans.{IsScan, param_of, relation_of}
+use Rattle.scan_exec.specs.Plans.{IsScan, param_set, relation_of}
 use Rattle.scan_exec.proofs.ComingLemmas.{fetched_allowed, looked_rows}
 
 -- the reads of the rows given are within those that a plan allows for them
@@ -50,12 +50,12 @@ given_most w q s = ⊎_elim
     omega (arith, most, all))
     (cases_Bool (nat_eq s.0 0))
 
-module _ (w : World) (q : Query) (o : Tuple) (p : Planned) (r : RelNo) (s : RelSet) (re : r ≡ relation_of (plan p)) (pe : s ≡ param_of (plan p)) where
+module _ (w : World) (q : Query) (o : Tuple) (p : Planned) (r : RelNo) (s : RelSet) (re : r ≡ relation_of (plan p)) (pe : s ≡ param_set (plan p)) where
   rel_is : (x : Planned) → p ≡ x → r ≡ relation_of (plan x)
   rel_is x is = re ∙ ap (λ (y : Planned). relation_of (plan y)) is
 
-  param_is : (x : Planned) → p ≡ x → s ≡ param_of (plan x)
-  param_is x is = pe ∙ ap (λ (y : Planned). param_of (plan y)) is
+  param_is : (x : Planned) → p ≡ x → s ≡ param_set (plan x)
+  param_is x is = pe ∙ ap (λ (y : Planned). param_set (plan y)) is
 
   coming_is : (x : Planned) → p ≡ x → coming w q (plan p) o ≡ coming w q (plan x) o
   coming_is x is = ap (λ (y : Planned). coming w q (plan y) o) is
@@ -97,13 +97,13 @@ module _ (w : World) (q : Query) (o : Tuple) (p : Planned) (r : RelNo) (s : RelS
     looks_left kind is a =
         let most = looked_rows w q (plan p) o scan built in
         let e : allowed kind ≡ allowed (coming w q (plan p) o) = ap allowed is in
-        let f : given_looks w q s ≡ given_looks w q (param_of (plan p)) = ap (given_looks w q) pe in
+        let f : given_looks w q s ≡ given_looks w q (param_set (plan p)) = ap (given_looks w q) pe in
         omega (arith, most, e, f)
 
     pub given_first : (a : ℕ) → a + given_looks w q s ≤ a + looks w q (plan p) o
     given_first a =
         let most = looked_rows w q (plan p) o scan built in
-        let f : given_looks w q s ≡ given_looks w q (param_of (plan p)) = ap (given_looks w q) pe in
+        let f : given_looks w q s ≡ given_looks w q (param_set (plan p)) = ap (given_looks w q) pe in
         omega (arith, most, f)
 
   -- and where it looks at the entries of a bitmap's tree
@@ -123,7 +123,7 @@ module _ (w : World) (q : Query) (o : Tuple) (p : Planned) (r : RelNo) (s : RelS
         omega (arith, most, e, none)
 
 -- a start hands these on
-module _ (c : Contents) (k : Kept) (q : Query) (p : Plan) (r : RelNo) (s : RelSet) (outer : List Tid) (heaps : List Stored) (re : r ≡ relation_of p) (pe : s ≡ param_of p) (he : heaps ≡ k.stored) where
+module _ (c : Contents) (k : Kept) (q : Query) (p : Plan) (r : RelNo) (s : RelSet) (outer : List Tid) (heaps : List Stored) (re : r ≡ relation_of p) (pe : s ≡ param_set p) (he : heaps ≡ k.stored) where
   abbrev w : World
   w = world c k.stored
 
@@ -133,7 +133,7 @@ module _ (c : Contents) (k : Kept) (q : Query) (p : Plan) (r : RelNo) (s : RelSe
   pub over_heaps : IsWellBound c q → IsStoreOf c k → IsOverWorld (world c heaps) q
   over_heaps bound store = record { bound = bound; holds = subst (λ (l : List Stored). IsWorld (world c l)) (sym he) store.world }
 
-  pub rows_in_heaps : AreRowsOf w q (param_of p) outer → AreRowsOf (world c heaps) q s outer
+  pub rows_in_heaps : AreRowsOf w q (param_set p) outer → AreRowsOf (world c heaps) q s outer
   rows_in_heaps rows =
       subst (λ (l : List Stored). AreRowsOf (world c l) q s outer) (sym he) (subst (λ (x : RelSet). AreRowsOf w q x outer) (sym pe) rows)
 
@@ -146,37 +146,37 @@ module _ (c : Contents) (k : Kept) (q : Query) (p : Plan) (r : RelNo) (s : RelSe
   relation_below (nest a b) is built = absurd is
   relation_below (merge keys a b) is built = absurd is
 
-  pub scene_is : IsWellBound c q → IsStoreOf c k → IsScan p → IsBuilt c q p → AreRowsOf w q (param_of p) outer → (g : Given) → g ≡ given_of (world c heaps) q (has s.0) (tuple s) → IsScene c k q r s outer g
+  pub scene_is : IsWellBound c q → IsStoreOf c k → IsScan p → IsBuilt c q p → AreRowsOf w q (param_set p) outer → (g : Given) → g ≡ tuple_given (world c heaps) q (has s.0) (tuple s) → IsScene c k q r s outer g
   scene_is bound store scan built rows g is = record {
     bound = bound;
     store = store;
     relation = subst (λ (x : RelNo). x.0 < width q) (sym re) (relation_below p scan built);
     outer = subst (λ (x : RelSet). AreRowsOf w q x outer) (sym pe) rows;
-    given = is ∙ ap (λ (l : List Stored). given_of (world c l) q (has s.0) (tuple s)) he;
+    given = is ∙ ap (λ (l : List Stored). tuple_given (world c l) q (has s.0) (tuple s)) he;
   }
 
-  pub comes_at : (kind : List Coming) → kind ≡ coming w q p (tuple s) → kind ≡ coming w q p (tuple (param_of p))
+  pub comes_at : (kind : List Coming) → kind ≡ coming w q p (tuple s) → kind ≡ coming w q p (tuple (param_set p))
   comes_at kind is = is ∙ ap (λ (x : RelSet). coming w q p (tuple x)) pe
 
-  looks_at : looks w q p (tuple s) ≡ looks w q p (tuple (param_of p))
+  looks_at : looks w q p (tuple s) ≡ looks w q p (tuple (param_set p))
   looks_at = ap (λ (x : RelSet). looks w q p (tuple x)) pe
 
-  pub looks_within : (a b d n : ℕ) → b ≤ a + relation_count s → d + (n + given_looks w q s) ≤ b + looks w q p (tuple s) → d + n ≤ a + looks w q p (tuple (param_of p))
+  pub looks_within : (a b d n : ℕ) → b ≤ a + relation_count s → d + (n + given_looks w q s) ≤ b + looks w q p (tuple s) → d + n ≤ a + looks w q p (tuple (param_set p))
   looks_within a b d n reads most =
       let e = looks_at in
       let few = given_most w q s in
       omega (arith, reads, most, e, few)
 
-  pub most_within : (a b d : ℕ) → b ≤ a + relation_count s → d + given_looks w q s ≤ b + looks w q p (tuple s) → d ≤ a + looks w q p (tuple (param_of p))
+  pub most_within : (a b d : ℕ) → b ≤ a + relation_count s → d + given_looks w q s ≤ b + looks w q p (tuple s) → d ≤ a + looks w q p (tuple (param_set p))
   most_within a b d reads most =
       let e = looks_at in
       let few = given_most w q s in
       omega (arith, reads, most, e, few)
 
   -- where the rows given alone are read
-  pub reads_within : IsScan p → IsBuilt c q p → (a b : ℕ) → b ≤ a + relation_count s → b ≤ a + looks w q p (tuple (param_of p))
+  pub reads_within : IsScan p → IsBuilt c q p → (a b : ℕ) → b ≤ a + relation_count s → b ≤ a + looks w q p (tuple (param_set p))
   reads_within scan built a b reads =
-      let most = looked_rows w q p (tuple (param_of p)) scan built in
+      let most = looked_rows w q p (tuple (param_set p)) scan built in
       let few = given_most w q s in
-      let f : given_looks w q s ≡ given_looks w q (param_of p) = ap (given_looks w q) pe in
+      let f : given_looks w q s ≡ given_looks w q (param_set p) = ap (given_looks w q) pe in
       omega (arith, reads, most, few, f)

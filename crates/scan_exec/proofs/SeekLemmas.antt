@@ -50,7 +50,7 @@ use Rattle.store.proofs.StoreLemmas.{built-at}
 use Rattle.scan_probes.specs.Probes.{AreKnown, AreOf, FitGiven, FitOwn, IsKeyTyped, is_known, probes_from}
 use Rattle.scan_probes.specs.Scenes.{binds_at}
 use Rattle.scan_probes.specs.Values as values
-use Rattle.scan_probes.specs.Values.{Given, are_true, is_beside, value_beside, value_in, value_or_null}
+use Rattle.scan_probes.specs.Values.{Given, are_true, is_beside, value_beside, value_in, row_value}
 use Rattle.scan_probes.proofs.LawLemmas.{conditions_bound, conditions_met, each_any}
 use Rattle.scan_probes.proofs.WorldLemmas.{row_beside, slot}
 use Rattle.scan_exec.specs.Scene.{AreUsed, IsNear, IsScene, IsUsed, limits}
@@ -108,12 +108,12 @@ module _ (c : Contents) (k : Kept) (q : Query) (r : RelNo) (p : RelSet) (outer :
   pub given_fits : FitGiven type_of given
   given_fits = subst (FitGiven type_of) (sym at.given) (λ x. ⊎_elim
       (λ (lt : x.rel.0 < width q).
-      subst (λ (v : Option Values). IsOfType (type_of x) (value_or_null v x.col)) (sym (slot w q (over c k q r p outer given at) r (has p.0) o x.rel.0 lt)) (by x (has p.0 x.rel.0)))
+      subst (λ (v : Option Values). IsOfType (type_of x) (row_value v x.col)) (sym (slot w q (over c k q r p outer given at) r (has p.0) o x.rel.0 lt)) (by x (has p.0 x.rel.0)))
       (λ le.
-      subst (λ (v : Option Values). IsOfType (type_of x) (value_or_null v x.col)) (sym (past_end g x.rel.0 (let long : length g ≡ width q = length-map-range_with_len (λ j. cond (has p.0 j) (Some (row_at w q o (record { 0 = j }))) None) 0 (width q) in omega (arith, long, le)))) tt)
+      subst (λ (v : Option Values). IsOfType (type_of x) (row_value v x.col)) (sym (past_end g x.rel.0 (let long : length g ≡ width q = length-map-range_with_len (λ j. cond (has p.0 j) (Some (row_at w q o (record { 0 = j }))) None) 0 (width q) in omega (arith, long, le)))) tt)
       (cases_lt x.rel.0 (width q)))
     where
-      by : (x : ColRef) (b : Bool) → IsOfType (type_of x) (value_or_null (cond b (Some (row_at w q o x.rel)) None) x.col)
+      by : (x : ColRef) (b : Bool) → IsOfType (type_of x) (row_value (cond b (Some (row_at w q o x.rel)) None) x.col)
       by x true = values_fit w q o at.store.world x
       by x false = tt
 

@@ -22,8 +22,8 @@ relation_of (bitmap r p bits) = r
 relation_of _ = record { 0 = 0 }
 
 -- the relations whose rows a scan is given, as bits: none of a sequential scan
-abbrev pub param_of : Plan → RelSet
-param_of (index r i backward p) = p
-param_of (index_only r i backward p) = p
-param_of (bitmap r p bits) = p
-param_of _ = record { 0 = 0 }
+abbrev pub param_set : Plan → RelSet
+param_set (index r i backward p) = p
+param_set (index_only r i backward p) = p
+param_set (bitmap r p bits) = p
+param_set _ = record { 0 = 0 }

@@ -24,7 +24,7 @@ use Rattle.sql_query.specs.Tuples.{Tuple}
 use Rattle.sql_query.specs.WellBound.{IsWellBound}
 use Rattle.sql_query.specs.Worlds.{World, world}
 use Rattle.scan_probes.specs.Scenes.{AreRowsOf}
-use Rattle.scan_probes.specs.Values.{Given, given_of}
+use Rattle.scan_probes.specs.Values.{Given, tuple_given}
 use Rattle.store.specs.Kept.{IsStoreOf, Kept}
 use Rattle.scan_exec.specs.declared.scene.Scene.{Scene}
 
@@ -34,7 +34,7 @@ pub record IsScene (c : Contents) (k : Kept) (q : Query) (r : RelNo) (p : RelSet
   pub store : IsStoreOf c k
   pub relation : r.0 < width q
   pub outer : AreRowsOf (world c k.stored) q p rows
-  pub given : g ≡ given_of (world c k.stored) q (has p.0) (padded (width q) (has p.0) rows)
+  pub given : g ≡ tuple_given (world c k.stored) q (has p.0) (padded (width q) (has p.0) rows)
 
 -- a condition is over the columns of a relation and of those of a set, and well typed
 pub record IsNear (c : Contents) (q : Query) (r : ℕ) (p : Set) (e : Cond) : Type 0 where

@@ -11,7 +11,7 @@ ghost use Rattle.catalog.specs.Contents.{index_at};
 ghost use Rattle.catalog.specs.Entries.{index_of};
 ghost use Rattle.index_match.specs.Arms.{arm_parts, takes_parts};
 ghost use Rattle.index_match.specs.Conditions.{index_conditions};
-ghost use Rattle.scan_probes.specs.Filters.{conditions_of};
+ghost use Rattle.scan_probes.specs.Filters.{lent_conditions};
 ghost use Rattle.sql_query.specs.Tuples.{rows_of_relation};
 ghost use Rattle.plan_tree.specs.Bitmaps.{IsIndexOn, MatchesArm};
 ghost use Rattle.plan_tree.specs.Counts.{arm_looks, entries_met, index_looks, tree_looks, all_tree_looks};
@@ -60,8 +60,8 @@ fn mark_entries<C: Counters>(
     reads: &mut Steps<C::Looks>,
 )
     requires made { IsMade held.old }
-    requires ready { All (IsReadyMark tests.now.beside.now.cat.now tests.now.beside.now.range.now tests.now.beside.now.rel.0 tests.now.given.now (conditions_of tests.now.conditions.now) (index_of tests.now.def.now) held.old.bound) cursor }
-    ensures held { held.new ≡ with_rows held.old (map (λ (e : Entry). e.row) (filter (passes_entry tests.now.beside.now.rel.0 tests.now.given.now (conditions_of tests.now.conditions.now) (index_of tests.now.def.now)) cursor.entry)) }
+    requires ready { All (IsReadyMark tests.now.beside.now.cat.now tests.now.beside.now.range.now tests.now.beside.now.rel.0 tests.now.given.now (lent_conditions tests.now.conditions.now) (index_of tests.now.def.now) held.old.bound) cursor }
+    ensures held { held.new ≡ with_rows held.old (map (λ (e : Entry). e.row) (filter (passes_entry tests.now.beside.now.rel.0 tests.now.given.now (lent_conditions tests.now.conditions.now) (index_of tests.now.def.now)) cursor.entry)) }
     ensures looks { reads.new ≡ reads.old + length cursor.entry }
 {
     let mut left = cursor;
@@ -102,11 +102,11 @@ fn mark_sorted<C: Counters>(
     requires scene { IsSceneOf at.now given.now }
     requires index { IsIndexOn at.now.cat.now at.now.q.now at.now.rel.0 i }
     requires ordered { (index_at at.now.cat.now i).method ≡ Btree }
-    requires used { AreUsed at.now.cat.now at.now.q.now at.now.rel at.now.param i (conditions_of conditions.now) }
+    requires used { AreUsed at.now.cat.now at.now.q.now at.now.rel at.now.param i (lent_conditions conditions.now) }
     requires made { IsMade held.old }
     requires bound { held.old.bound ≡ length (rows_of_relation (world_of at.now) at.now.q.now at.now.rel) }
-    ensures held { OnOk result (held.new ≡ with_rows held.old (at_which (world_of at.now) at.now.q.now at.now.rel (tuple_of at.now) (conditions_of conditions.now) (entry_rows (world_of at.now) i))) }
-    ensures most { reads.new ≤ reads.old + entries_met (world_of at.now) at.now.q.now (index_at at.now.cat.now i).method at.now.rel i (tuple_of at.now) (limits (index_at at.now.cat.now i) at.now.rel.0 (conditions_of conditions.now)) }
+    ensures held { OnOk result (held.new ≡ with_rows held.old (at_which (world_of at.now) at.now.q.now at.now.rel (tuple_of at.now) (lent_conditions conditions.now) (entry_rows (world_of at.now) i))) }
+    ensures most { reads.new ≤ reads.old + entries_met (world_of at.now) at.now.q.now (index_at at.now.cat.now i).method at.now.rel i (tuple_of at.now) (limits (index_at at.now.cat.now i) at.now.rel.0 (lent_conditions conditions.now)) }
 {
     let tree = sorted_index(at, i);
     let cursor = seek(at, given, i, tree, conditions, false)?;
@@ -135,10 +135,10 @@ fn mark_hashed<C: Counters>(
     requires index { IsIndexOn at.now.cat.now at.now.q.now at.now.rel.0 i }
     requires table { hashed index.now ≡ built_of (index_at at.now.cat.now i) (rows_of_relation (world_of at.now) at.now.q.now at.now.rel) }
     requires one { length conditions.now ≡ 1 }
-    requires used { AreUsed at.now.cat.now at.now.q.now at.now.rel at.now.param i (conditions_of conditions.now) }
+    requires used { AreUsed at.now.cat.now at.now.q.now at.now.rel at.now.param i (lent_conditions conditions.now) }
     requires made { IsMade held.old }
     requires bound { held.old.bound ≡ length (rows_of_relation (world_of at.now) at.now.q.now at.now.rel) }
-    ensures held { OnOk result (held.new ≡ with_rows held.old (at_which (world_of at.now) at.now.q.now at.now.rel (tuple_of at.now) (conditions_of conditions.now) (entry_rows (world_of at.now) i))) }
+    ensures held { OnOk result (held.new ≡ with_rows held.old (at_which (world_of at.now) at.now.q.now at.now.rel (tuple_of at.now) (lent_conditions conditions.now) (entry_rows (world_of at.now) i))) }
 {
     let tids = rows_equal(at, given, i, index, conditions[0])?;
     mark_rows(tids, held);
@@ -158,11 +158,11 @@ fn mark<C: Counters>(
     requires scene { IsSceneOf at.now given.now }
     requires index { IsIndexOn at.now.cat.now at.now.q.now at.now.rel.0 i }
     requires takes { takes_parts (index_at at.now.cat.now i).method (length conditions.now) ≡ true }
-    requires used { AreUsed at.now.cat.now at.now.q.now at.now.rel at.now.param i (conditions_of conditions.now) }
+    requires used { AreUsed at.now.cat.now at.now.q.now at.now.rel at.now.param i (lent_conditions conditions.now) }
     requires made { IsMade held.old }
     requires bound { held.old.bound ≡ length (rows_of_relation (world_of at.now) at.now.q.now at.now.rel) }
-    ensures held { OnOk result (held.new ≡ with_rows held.old (at_which (world_of at.now) at.now.q.now at.now.rel (tuple_of at.now) (conditions_of conditions.now) (entry_rows (world_of at.now) i))) }
-    ensures most { reads.new ≤ reads.old + entries_met (world_of at.now) at.now.q.now (index_at at.now.cat.now i).method at.now.rel i (tuple_of at.now) (limits (index_at at.now.cat.now i) at.now.rel.0 (conditions_of conditions.now)) }
+    ensures held { OnOk result (held.new ≡ with_rows held.old (at_which (world_of at.now) at.now.q.now at.now.rel (tuple_of at.now) (lent_conditions conditions.now) (entry_rows (world_of at.now) i))) }
+    ensures most { reads.new ≤ reads.old + entries_met (world_of at.now) at.now.q.now (index_at at.now.cat.now i).method at.now.rel i (tuple_of at.now) (limits (index_at at.now.cat.now i) at.now.rel.0 (lent_conditions conditions.now)) }
 {
     match at.store.index(i) {
         BuiltIndex::Sorted(_) => mark_sorted(at, given, i, conditions, held, reads),
@@ -202,7 +202,7 @@ fn arm_list(arm: &Expr) -> &[Expr]
 
 /// These parts, each lent. The error means want of memory.
 fn parts_of(alloc: Global, arm: &Expr) -> Result<Vec<&Expr>, Memory>
-    ensures { IfOk result (λ v. conditions_of v.items ≡ arm_parts (view.cond arm.now)) }
+    ensures { IfOk result (λ v. lent_conditions v.items ≡ arm_parts (view.cond arm.now)) }
 {
     let listed = arm_list(arm);
     let mut parts = Vec::new(alloc);

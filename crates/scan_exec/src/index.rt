@@ -4,7 +4,7 @@ ghost use Rattle.std.specs.Prelude.{◌≡◌, IfOk, false, filter, map, true};
 ghost use Rattle.opfamily.specs.declared.classes.Method.TheVariants.{Btree};
 ghost use Rattle.btree_index.specs.Tree.{in_direction};
 ghost use Rattle.catalog.specs.Contents.{index_at};
-ghost use Rattle.scan_probes.specs.Filters.{conditions_of};
+ghost use Rattle.scan_probes.specs.Filters.{lent_conditions};
 ghost use Rattle.sql_query.specs.Meaning.{all_true};
 ghost use Rattle.sql_query.specs.Tuples.{beside, rows_of_relation};
 ghost use Rattle.plan_tree.specs.Bitmaps.{IsIndexOn};
@@ -38,8 +38,8 @@ pub(crate) fn seek<'a, C: Counters>(
     requires scene { IsSceneOf at.now given.now }
     requires index { IsIndexOn at.now.cat.now at.now.q.now at.now.rel.0 i }
     requires tree { sorted tree.now ≡ built_of (index_at at.now.cat.now i) (rows_of_relation (world_of at.now) at.now.q.now at.now.rel) }
-    requires conditions { AreUsed at.now.cat.now at.now.q.now at.now.rel at.now.param i (conditions_of conditions.now) }
-    ensures { IfOk result (λ cursor. cursor ≡ in_direction backward (filter (λ e. all_true (world_of at.now) at.now.q.now (beside at.now.q.now at.now.rel.0 e.row (tuple_of at.now)) (limits (index_at at.now.cat.now i) at.now.rel.0 (conditions_of conditions.now))) (entries (world_of at.now) i))) }
+    requires conditions { AreUsed at.now.cat.now at.now.q.now at.now.rel at.now.param i (lent_conditions conditions.now) }
+    ensures { IfOk result (λ cursor. cursor ≡ in_direction backward (filter (λ e. all_true (world_of at.now) at.now.q.now (beside at.now.q.now at.now.rel.0 e.row (tuple_of at.now)) (limits (index_at at.now.cat.now i) at.now.rel.0 (lent_conditions conditions.now))) (entries (world_of at.now) i))) }
 {
     let def = at.cat.index(i);
     let probes = index_probes(at.alloc, at.rel, &def.keys, given, conditions)?;

@@ -3,7 +3,7 @@
 ghost use Rattle.std.specs.Prelude.{◌≡◌, ◌+◌, ◌≤◌, All, find, length, map, option_map};
 ghost use Rattle.pg_base.specs.declared.limits.TheConstants.{MOST_ROWS};
 ghost use Rattle.heap.specs.TidSets.{not_below};
-ghost use Rattle.scan_probes.specs.Filters.{conditions_of};
+ghost use Rattle.scan_probes.specs.Filters.{lent_conditions};
 ghost use Rattle.scan_probes.specs.Scenes.{AreReadyAtRow};
 ghost use Rattle.scan_exec.specs.Coming.{allowed, behind, is_given, owed};
 ghost use Rattle.scan_exec.specs.Kinds.{IsReadyNumber, rows_of};
@@ -38,15 +38,15 @@ impl<'a, C: Counters> Drop for HashRows<'a, C> {
 
 impl<'a, C: Counters> Model for HashRows<'a, C> {
     ghost use Rattle.std.specs.Prelude.{List, All, map};
-    ghost use Rattle.scan_probes.specs.Filters.{conditions_of};
+    ghost use Rattle.scan_probes.specs.Filters.{lent_conditions};
     ghost use Rattle.scan_exec.specs.Coming.{Coming};
     ghost use Rattle.scan_exec.specs.Kinds.{IsReadyNumber, rows_of};
 
     ghost Value = { List Coming };
 
-    ghost view = { λ s. rows_of s.beside.rel.0 s.given (conditions_of s.clauses.items) s.heap.now.rows (map (λ t. t.0) s.tids.now) };
+    ghost view = { λ s. rows_of s.beside.rel.0 s.given (lent_conditions s.clauses.items) s.heap.now.rows (map (λ t. t.0) s.tids.now) };
 
-    ghost invariant = { λ s. All (IsReadyNumber s.beside.cat.now s.beside.range.now s.beside.rel.0 s.given (conditions_of s.clauses.items) s.heap.now.rows) (map (λ t. t.0) s.tids.now) };
+    ghost invariant = { λ s. All (IsReadyNumber s.beside.cat.now s.beside.range.now s.beside.rel.0 s.given (lent_conditions s.clauses.items) s.heap.now.rows) (map (λ t. t.0) s.tids.now) };
 }
 
 impl<'a, C: Counters> HashRows<'a, C> {
@@ -58,8 +58,8 @@ impl<'a, C: Counters> HashRows<'a, C> {
         heap: &'a Heap<C>,
         tids: &'a [Tid],
     ) -> HashRows<'a, C>
-        requires { All (IsReadyNumber beside.cat.now beside.range.now beside.rel.0 given (conditions_of clauses.items) heap.now.rows) (map (λ t. t.0) tids.now) }
-        ensures { result ≡ rows_of beside.entry.rel.0 given.entry (conditions_of clauses.entry.items) heap.now.rows (map (λ t. t.0) tids.now) }
+        requires { All (IsReadyNumber beside.cat.now beside.range.now beside.rel.0 given (lent_conditions clauses.items) heap.now.rows) (map (λ t. t.0) tids.now) }
+        ensures { result ≡ rows_of beside.entry.rel.0 given.entry (lent_conditions clauses.entry.items) heap.now.rows (map (λ t. t.0) tids.now) }
     {
         HashRows {
             beside,
@@ -116,16 +116,16 @@ impl<'a, C: Counters> Model for BitRows<'a, C> {
     ghost use Rattle.std.specs.Prelude.{List, All, ◌≡◌, ◌≤◌, length};
     ghost use Rattle.pg_base.specs.declared.limits.TheConstants.{MOST_ROWS};
     ghost use Rattle.heap.specs.TidSets.{not_below};
-    ghost use Rattle.scan_probes.specs.Filters.{conditions_of};
+    ghost use Rattle.scan_probes.specs.Filters.{lent_conditions};
     ghost use Rattle.scan_probes.specs.Scenes.{AreReadyAtRow};
     ghost use Rattle.scan_exec.specs.Coming.{Coming};
     ghost use Rattle.scan_exec.specs.Kinds.{rows_of};
 
     ghost Value = { List Coming };
 
-    ghost view = { λ s. rows_of s.beside.rel.0 s.given (conditions_of s.clauses.items) s.heap.now.rows (not_below s.at s.held.members) };
+    ghost view = { λ s. rows_of s.beside.rel.0 s.given (lent_conditions s.clauses.items) s.heap.now.rows (not_below s.at s.held.members) };
 
-    ghost invariant = { λ s. (s.held.bound ≡ length s.heap.now.rows) × (length s.heap.now.rows ≤ MOST_ROWS) × All (AreReadyAtRow s.beside.cat.now s.beside.range.now s.beside.rel.0 s.given (conditions_of s.clauses.items)) s.heap.now.rows };
+    ghost invariant = { λ s. (s.held.bound ≡ length s.heap.now.rows) × (length s.heap.now.rows ≤ MOST_ROWS) × All (AreReadyAtRow s.beside.cat.now s.beside.range.now s.beside.rel.0 s.given (lent_conditions s.clauses.items)) s.heap.now.rows };
 }
 
 impl<'a, C: Counters> BitRows<'a, C> {
@@ -139,8 +139,8 @@ impl<'a, C: Counters> BitRows<'a, C> {
     ) -> BitRows<'a, C>
         requires bound { held.bound ≡ length heap.now.rows }
         requires few { length heap.now.rows ≤ MOST_ROWS }
-        requires ready { All (AreReadyAtRow beside.cat.now beside.range.now beside.rel.0 given (conditions_of clauses.items)) heap.now.rows }
-        ensures { result ≡ rows_of beside.entry.rel.0 given.entry (conditions_of clauses.entry.items) heap.now.rows (not_below 0 held.members) }
+        requires ready { All (AreReadyAtRow beside.cat.now beside.range.now beside.rel.0 given (lent_conditions clauses.items)) heap.now.rows }
+        ensures { result ≡ rows_of beside.entry.rel.0 given.entry (lent_conditions clauses.entry.items) heap.now.rows (not_below 0 held.members) }
     {
         BitRows {
             beside,

@@ -5,7 +5,7 @@ ghost use Rattle.pg_base.specs.declared.limits.TheConstants.{MOST_ROWS};
 ghost use Rattle.pg_expr.specs.AtomSets.{contains};
 ghost use Rattle.index_match.specs.Numbered as numbered;
 ghost use Rattle.plan_tree.specs.Run.{clauses_at, conditions as conditions_at};
-ghost use Rattle.scan_probes.specs.Filters.{conditions_of};
+ghost use Rattle.scan_probes.specs.Filters.{lent_conditions};
 ghost use Rattle.sql_query.specs.Tuples.{rows_of_relation};
 ghost use Rattle.sql_query.specs.Queries.{width};
 ghost use Rattle.plan_tree.specs.Bitmaps.{IsIndexOn};
@@ -67,7 +67,7 @@ impl<'a, 'o, C: Counters> Scene<'a, 'o, C> {
     /// The conditions of the clauses over its relation. The error means want of memory.
     pub(crate) fn base(&self) -> Result<Vec<&'a Expr>, Memory>
         requires { self.now.rel.0 < 16 }
-        ensures { IfOk result (λ v. conditions_of v.items ≡ numbered.conditions_of (numbered.base self.now.q.now.classes self.now.rel.0)) }
+        ensures { IfOk result (λ v. lent_conditions v.items ≡ numbered.conditions_of (numbered.base self.now.q.now.classes self.now.rel.0)) }
     {
         let classes = classes_of(self.q);
         let base = classes.base_clauses(self.rel);
@@ -77,7 +77,7 @@ impl<'a, 'o, C: Counters> Scene<'a, 'o, C> {
     /// The conditions of these and of the clauses that are tested with the rows given. The error means want of memory.
     pub(crate) fn clauses(&self) -> Result<Vec<&'a Expr>, Memory>
         requires { self.now.rel.0 < 16 }
-        ensures { IfOk result (λ v. conditions_of v.items ≡ clauses_at (world_of self.now) self.now.q.now self.now.rel self.now.param) }
+        ensures { IfOk result (λ v. lent_conditions v.items ≡ clauses_at (world_of self.now) self.now.q.now self.now.rel self.now.param) }
     {
         let classes = classes_of(self.q);
         let base = classes.base_clauses(self.rel);
@@ -90,7 +90,7 @@ impl<'a, 'o, C: Counters> Scene<'a, 'o, C> {
     pub(crate) fn conditions(&self, i: IndexNo) -> Result<Vec<&'a Expr>, Memory>
         requires relation { self.now.rel.0 < 16 }
         requires index { IsIndexOn self.now.cat.now self.now.q.now self.now.rel.0 i }
-        ensures { IfOk result (λ v. conditions_of v.items ≡ conditions_at (world_of self.now) self.now.q.now self.now.rel i self.now.param) }
+        ensures { IfOk result (λ v. lent_conditions v.items ≡ conditions_at (world_of self.now) self.now.q.now self.now.rel i self.now.param) }
     {
         let found = conditions_found(self.cat, self.q, self.rel, i, self.param);
         chosen(self.alloc, classes_of(self.q), &found)

@@ -1,7 +1,7 @@
 //! Sequential scans.
 
 ghost use Rattle.std.specs.Prelude.{◌≡◌, ◌+◌, All, IfOk, find, option_map};
-ghost use Rattle.scan_probes.specs.Filters.{conditions_of};
+ghost use Rattle.scan_probes.specs.Filters.{lent_conditions};
 ghost use Rattle.scan_probes.specs.Scenes.{AreReadyAtRow};
 ghost use Rattle.plan_tree.specs.Plans.{seq};
 ghost use Rattle.scan_exec.specs.Coming.{allowed, behind, coming, is_given, owed};
@@ -39,16 +39,16 @@ impl<'a, C: Counters> Drop for SeqRows<'a, C> {
 
 impl<'a, C: Counters> Model for SeqRows<'a, C> {
     ghost use Rattle.std.specs.Prelude.{List, All, ◌≤◌, length};
-    ghost use Rattle.scan_probes.specs.Filters.{conditions_of};
+    ghost use Rattle.scan_probes.specs.Filters.{lent_conditions};
     ghost use Rattle.scan_probes.specs.Scenes.{AreReadyAtRow};
     ghost use Rattle.scan_exec.specs.Coming.{Coming};
     ghost use Rattle.scan_exec.specs.Kinds.{rows_from};
 
     ghost Value = { List Coming };
 
-    ghost view = { λ s. rows_from s.beside.rel.0 s.given (conditions_of s.clauses.items) s.heap.now.rows s.at };
+    ghost view = { λ s. rows_from s.beside.rel.0 s.given (lent_conditions s.clauses.items) s.heap.now.rows s.at };
 
-    ghost invariant = { λ s. (s.at ≤ length s.heap.now.rows) × All (AreReadyAtRow s.beside.cat.now s.beside.range.now s.beside.rel.0 s.given (conditions_of s.clauses.items)) s.heap.now.rows };
+    ghost invariant = { λ s. (s.at ≤ length s.heap.now.rows) × All (AreReadyAtRow s.beside.cat.now s.beside.range.now s.beside.rel.0 s.given (lent_conditions s.clauses.items)) s.heap.now.rows };
 }
 
 impl<'a, C: Counters> SeqRows<'a, C> {
@@ -59,8 +59,8 @@ impl<'a, C: Counters> SeqRows<'a, C> {
         clauses: Vec<&'a Expr>,
         heap: &'a Heap<C>,
     ) -> SeqRows<'a, C>
-        requires { All (AreReadyAtRow beside.cat.now beside.range.now beside.rel.0 given (conditions_of clauses.items)) heap.now.rows }
-        ensures { result ≡ rows_from beside.entry.rel.0 given.entry (conditions_of clauses.entry.items) heap.now.rows 0 }
+        requires { All (AreReadyAtRow beside.cat.now beside.range.now beside.rel.0 given (lent_conditions clauses.items)) heap.now.rows }
+        ensures { result ≡ rows_from beside.entry.rel.0 given.entry (lent_conditions clauses.entry.items) heap.now.rows 0 }
     {
         SeqRows {
             beside,

@@ -2,7 +2,7 @@
 
 ghost use Rattle.std.specs.Prelude.{◌≡◌, ◌+◌, All, find, map, option_map};
 ghost use Rattle.catalog.specs.Entries.{index_of};
-ghost use Rattle.scan_probes.specs.Filters.{conditions_of};
+ghost use Rattle.scan_probes.specs.Filters.{lent_conditions};
 ghost use Rattle.scan_exec.specs.Coming.{allowed, behind, is_given, owed};
 ghost use Rattle.scan_exec.specs.Kinds.{IsReadyCover, IsReadyEntry, covered_at, entry_at};
 
@@ -43,15 +43,15 @@ impl<'a, C: Counters> Drop for IndexRows<'a, C> {
 impl<'a, C: Counters> Model for IndexRows<'a, C> {
     ghost use Rattle.std.specs.Prelude.{List, All, map};
     ghost use Rattle.catalog.specs.Entries.{index_of};
-    ghost use Rattle.scan_probes.specs.Filters.{conditions_of};
+    ghost use Rattle.scan_probes.specs.Filters.{lent_conditions};
     ghost use Rattle.scan_exec.specs.Coming.{Coming};
     ghost use Rattle.scan_exec.specs.Kinds.{IsReadyEntry, entry_at};
 
     ghost Value = { List Coming };
 
-    ghost view = { λ s. map (entry_at s.beside.rel.0 s.given (conditions_of s.tests.items) (conditions_of s.clauses.items) (index_of s.def.now) s.heap.now.rows) s.cursor };
+    ghost view = { λ s. map (entry_at s.beside.rel.0 s.given (lent_conditions s.tests.items) (lent_conditions s.clauses.items) (index_of s.def.now) s.heap.now.rows) s.cursor };
 
-    ghost invariant = { λ s. All (IsReadyEntry s.beside.cat.now s.beside.range.now s.beside.rel.0 s.given (conditions_of s.tests.items) (conditions_of s.clauses.items) (index_of s.def.now) s.heap.now.rows) s.cursor };
+    ghost invariant = { λ s. All (IsReadyEntry s.beside.cat.now s.beside.range.now s.beside.rel.0 s.given (lent_conditions s.tests.items) (lent_conditions s.clauses.items) (index_of s.def.now) s.heap.now.rows) s.cursor };
 }
 
 impl<'a, C: Counters> IndexRows<'a, C> {
@@ -65,8 +65,8 @@ impl<'a, C: Counters> IndexRows<'a, C> {
         cursor: Cursor<'a, C::Looks>,
         heap: &'a Heap<C>,
     ) -> IndexRows<'a, C>
-        requires { All (IsReadyEntry beside.cat.now beside.range.now beside.rel.0 given (conditions_of tests.items) (conditions_of clauses.items) (index_of def.now) heap.now.rows) cursor }
-        ensures { result ≡ map (entry_at beside.entry.rel.0 given.entry (conditions_of tests.entry.items) (conditions_of clauses.entry.items) (index_of def.now) heap.now.rows) cursor.entry }
+        requires { All (IsReadyEntry beside.cat.now beside.range.now beside.rel.0 given (lent_conditions tests.items) (lent_conditions clauses.items) (index_of def.now) heap.now.rows) cursor }
+        ensures { result ≡ map (entry_at beside.entry.rel.0 given.entry (lent_conditions tests.entry.items) (lent_conditions clauses.entry.items) (index_of def.now) heap.now.rows) cursor.entry }
     {
         IndexRows {
             beside,
@@ -131,15 +131,15 @@ impl<'a, C: Counters> Drop for OnlyRows<'a, C> {
 impl<'a, C: Counters> Model for OnlyRows<'a, C> {
     ghost use Rattle.std.specs.Prelude.{List, All, map};
     ghost use Rattle.catalog.specs.Entries.{index_of};
-    ghost use Rattle.scan_probes.specs.Filters.{conditions_of};
+    ghost use Rattle.scan_probes.specs.Filters.{lent_conditions};
     ghost use Rattle.scan_exec.specs.Coming.{Coming};
     ghost use Rattle.scan_exec.specs.Kinds.{IsReadyCover, covered_at};
 
     ghost Value = { List Coming };
 
-    ghost view = { λ s. map (covered_at s.beside.rel.0 s.given (conditions_of s.tests.items) (conditions_of s.clauses.items) (index_of s.def.now)) s.cursor };
+    ghost view = { λ s. map (covered_at s.beside.rel.0 s.given (lent_conditions s.tests.items) (lent_conditions s.clauses.items) (index_of s.def.now)) s.cursor };
 
-    ghost invariant = { λ s. All (IsReadyCover s.beside.cat.now s.beside.range.now s.beside.rel.0 s.given (conditions_of s.tests.items) (conditions_of s.clauses.items) (index_of s.def.now)) s.cursor };
+    ghost invariant = { λ s. All (IsReadyCover s.beside.cat.now s.beside.range.now s.beside.rel.0 s.given (lent_conditions s.tests.items) (lent_conditions s.clauses.items) (index_of s.def.now)) s.cursor };
 }
 
 impl<'a, C: Counters> OnlyRows<'a, C> {
@@ -152,8 +152,8 @@ impl<'a, C: Counters> OnlyRows<'a, C> {
         def: &'a IndexDef,
         cursor: Cursor<'a, C::Looks>,
     ) -> OnlyRows<'a, C>
-        requires { All (IsReadyCover beside.cat.now beside.range.now beside.rel.0 given (conditions_of tests.items) (conditions_of clauses.items) (index_of def.now)) cursor }
-        ensures { result ≡ map (covered_at beside.entry.rel.0 given.entry (conditions_of tests.entry.items) (conditions_of clauses.entry.items) (index_of def.now)) cursor.entry }
+        requires { All (IsReadyCover beside.cat.now beside.range.now beside.rel.0 given (lent_conditions tests.items) (lent_conditions clauses.items) (index_of def.now)) cursor }
+        ensures { result ≡ map (covered_at beside.entry.rel.0 given.entry (lent_conditions tests.entry.items) (lent_conditions clauses.entry.items) (index_of def.now)) cursor.entry }
     {
         OnlyRows {
             beside,

@@ -25,7 +25,7 @@ use Rattle.sql_query.specs.Queries.{Query, width}
 use Rattle.sql_query.specs.Tuples.{Tuple, beside, row_at, row_of, rows_of_relation, value_at}
 use Rattle.sql_query.specs.Worlds.{World}
 use Rattle.scan_probes.specs.Scenes.{IsOverWorld, IsTestable, binds_at}
-use Rattle.scan_probes.specs.Values.{Given, are_true, given_of, has_value, value_beside, value_in, value_or_null}
+use Rattle.scan_probes.specs.Values.{Given, are_true, tuple_given, has_value, value_beside, value_in, row_value}
 
 -- columns that pass two tests pass both
 module _ (a b : ColRef → Bool) where
@@ -56,7 +56,7 @@ module _ (a b : ColRef → Bool) where
 
 module _ (w : World) (q : Query) (over : IsOverWorld w q) (r : RelNo) (p : ℕ → Bool) (o : Tuple) where
   abbrev pub given : Given
-  given = given_of w q p o
+  given = tuple_given w q p o
 
   abbrev row : ℕ → Values
   row n = slice_index_or (rows_of_relation w q r) n []
@@ -77,17 +77,17 @@ module _ (w : World) (q : Query) (over : IsOverWorld w q) (r : RelNo) (p : ℕ �
       (λ (t : nat_eq x.rel.0 r.0 ≡ true).
       let same : x.rel.0 ≡ r.0 = eqb-true x.rel.0 r.0 t in
       let known : has x.col ≡ true = sym (ap (λ (b : Bool). cond b (has x.col) (has_value (slice_index_or given x.rel.0 None) x.col)) t) ∙ there in
-      ap (λ (b : Bool). cond b (own x.col) (value_or_null (slice_index_or given x.rel.0 None) x.col)) t
+      ap (λ (b : Bool). cond b (own x.col) (row_value (slice_index_or given x.rel.0 None) x.col)) t
       ∙ own_is x.col known
       ∙ ap₂ (λ (k m : ℕ). slice_index_or (slice_index_or (rows_of_relation w q (record { 0 = k })) m []) x.col.0 Null) (sym same) (sym (row_beside n x.rel.0 lt ∙ ap (λ (b : Bool). cond b n (row_of o x.rel.0)) t)))
       (λ (f : nat_eq x.rel.0 r.0 ≡ false).
       let known : has_value (slice_index_or given x.rel.0 None) x.col ≡ true = sym (ap (λ (b : Bool). cond b (has x.col) (has_value (slice_index_or given x.rel.0 None) x.col)) f) ∙ there in
-      ap (λ (b : Bool). cond b (own x.col) (value_or_null (slice_index_or given x.rel.0 None) x.col)) f
-      ∙ ap (λ (v : Option Values). value_or_null v x.col) (slot x.rel.0 lt) ∙ from_given x (p x.rel.0) (sym (ap (λ (v : Option Values). has_value v x.col) (slot x.rel.0 lt)) ∙ known)
+      ap (λ (b : Bool). cond b (own x.col) (row_value (slice_index_or given x.rel.0 None) x.col)) f
+      ∙ ap (λ (v : Option Values). row_value v x.col) (slot x.rel.0 lt) ∙ from_given x (p x.rel.0) (sym (ap (λ (v : Option Values). has_value v x.col) (slot x.rel.0 lt)) ∙ known)
       ∙ ap (λ (m : ℕ). slice_index_or (slice_index_or (rows_of_relation w q x.rel) m []) x.col.0 Null) (sym (row_beside n x.rel.0 lt ∙ ap (λ (b : Bool). cond b n (row_of o x.rel.0)) f)))
       (cases_Bool (nat_eq x.rel.0 r.0))
     where
-      from_given : (x : ColRef) (b : Bool) → has_value (cond b (Some (row_at w q o x.rel)) None) x.col ≡ true → value_or_null (cond b (Some (row_at w q o x.rel)) None) x.col ≡ value_in (row_at w q o x.rel) x.col
+      from_given : (x : ColRef) (b : Bool) → has_value (cond b (Some (row_at w q o x.rel)) None) x.col ≡ true → row_value (cond b (Some (row_at w q o x.rel)) None) x.col ≡ value_in (row_at w q o x.rel) x.col
       from_given x true h = refl
       from_given x false h = absurd (true≢false (sym h))
 

@@ -6,5 +6,5 @@ use Rattle.pg_expr.specs.Cond.{Cond}
 use Rattle.pg_expr.specs.View.{cond}
 
 -- the conditions that a list of references to expressions stands for
-abbrev pub conditions_of : List (Bor Expr) → List Cond
-conditions_of es = map (λ e. cond e.now) es
+abbrev pub lent_conditions : List (Bor Expr) → List Cond
+lent_conditions es = map (λ e. cond e.now) es

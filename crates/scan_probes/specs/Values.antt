@@ -22,17 +22,17 @@ abbrev pub Given : Type 0
 Given = List (Option Values)
 
 -- the rows that a tuple has of the relations of a set
-abbrev pub given_of : World → Query → Set → Tuple → Given
-given_of w q set o = map (λ k. cond (set k) (Some (row_at w q o (record { 0 = k }))) None) (range_with_len 0 (width q))
+abbrev pub tuple_given : World → Query → Set → Tuple → Given
+tuple_given w q set o = map (λ k. cond (set k) (Some (row_at w q o (record { 0 = k }))) None) (range_with_len 0 (width q))
 
 -- the value of a column in a row; NULL where there is none
 abbrev pub value_in : Values → ColNo → Value
 value_in row c = slice_index_or row c.0 Null
 
 -- the value of a column in a row that may not be there; NULL where it is not
-abbrev pub value_or_null : Option Values → ColNo → Value
-value_or_null None c = Null
-value_or_null (Some row) c = value_in row c
+abbrev pub row_value : Option Values → ColNo → Value
+row_value None c = Null
+row_value (Some row) c = value_in row c
 
 -- the row is there, and has the column
 abbrev pub has_value : Option Values → ColNo → Bool
@@ -71,7 +71,7 @@ has_entry_value d e c =
 
 -- a column of the relation has the values of its own, any other column those of the rows given
 abbrev pub value_beside : ℕ → (ColNo → Value) → Given → ColRef → Value
-value_beside r own given x = cond (nat_eq x.rel.0 r) (own x.col) (value_or_null (slice_index_or given x.rel.0 None) x.col)
+value_beside r own given x = cond (nat_eq x.rel.0 r) (own x.col) (row_value (slice_index_or given x.rel.0 None) x.col)
 
 -- a column has a value there: one of the relation where its own has, any other where the rows given have
 abbrev pub is_beside : ℕ → (ColNo → Bool) → Given → ColRef → Bool

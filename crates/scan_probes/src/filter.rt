@@ -2,7 +2,7 @@
 
 ghost use Rattle.std.specs.Prelude.{◌≡◌};
 ghost use Rattle.catalog.specs.Entries.{index_of};
-ghost use Rattle.scan_probes.specs.Filters.{conditions_of};
+ghost use Rattle.scan_probes.specs.Filters.{lent_conditions};
 ghost use Rattle.scan_probes.specs.Scenes.{AreReadyAtEntry, AreReadyAtRow};
 ghost use Rattle.scan_probes.specs.Values.{are_true, value_beside, value_in, value_in_entry};
 
@@ -28,8 +28,8 @@ pub struct Beside<'a> {
 
 /// Whether conditions are True at a row of the relation beside the rows given.
 pub fn pass_row(beside: &Beside, given: &Given, conditions: &[&Expr], row: Row) -> bool
-    requires { AreReadyAtRow beside.now.cat.now beside.now.range.now beside.now.rel.0 given.now (conditions_of conditions.now) row.now }
-    ensures { result ≡ are_true (value_beside beside.now.rel.0 (value_in row.now) given.now) (conditions_of conditions.now) }
+    requires { AreReadyAtRow beside.now.cat.now beside.now.range.now beside.now.rel.0 given.now (lent_conditions conditions.now) row.now }
+    ensures { result ≡ are_true (value_beside beside.now.rel.0 (value_in row.now) given.now) (lent_conditions conditions.now) }
 {
     let bound = Bound {
         cat: beside.cat,
@@ -49,8 +49,8 @@ pub fn pass_entry(
     def: &IndexDef,
     entry: &EntryRef,
 ) -> bool
-    requires { AreReadyAtEntry beside.now.cat.now beside.now.range.now beside.now.rel.0 given.now (conditions_of conditions.now) (index_of def.now) entry.now }
-    ensures { result ≡ are_true (value_beside beside.now.rel.0 (value_in_entry (index_of def.now) entry.now) given.now) (conditions_of conditions.now) }
+    requires { AreReadyAtEntry beside.now.cat.now beside.now.range.now beside.now.rel.0 given.now (lent_conditions conditions.now) (index_of def.now) entry.now }
+    ensures { result ≡ are_true (value_beside beside.now.rel.0 (value_in_entry (index_of def.now) entry.now) given.now) (lent_conditions conditions.now) }
 {
     let bound = Bound {
         cat: beside.cat,

@@ -20,7 +20,7 @@ ghost use Rattle.sql_query.specs.Tuples.{Tuple, beside, rows_of_relation};
 ghost use Rattle.sql_query.specs.Worlds.{World};
 ghost use Rattle.scan_probes.specs.Scenes.{AreReady, IsOverWorld, IsTestable};
 ghost use Rattle.scan_probes.specs.Probes.{AreOf, FitGiven, FitOwn, IsKeyTyped, probes_from};
-ghost use Rattle.scan_probes.specs.Values.{Given, are_true, given_of, value_beside, value_in};
+ghost use Rattle.scan_probes.specs.Values.{Given, are_true, tuple_given, value_beside, value_in};
 
 /// The conditions of a B-tree on a relation, where rows of other relations are given, are bounds of its keys. Key values meet
 /// them exactly where the conditions that bound the index are True at a row with these values: a NULL among the rows given
@@ -40,10 +40,10 @@ pub fn conditions_bound_an_index()
 pub fn conditions_are_tested_at_a_tuple()
     ensures ready { (w : World) (q : Query) (r : RelNo) (p : ℕ → Bool) (o : Tuple) (n : ℕ) (has : ColNo → Bool) (own : ColNo → Value) (es : List Cond) →
         IsOverWorld w q → ((c : ColNo) → has c ≡ true → own c ≡ value_in (slice_index_or (rows_of_relation w q r) n []) c) →
-        AllByRecursion (IsTestable w.contents q.range r.0 has (given_of w q p o)) es →
-        AreReady w.contents q.range r.0 has own (given_of w q p o) es }
+        AllByRecursion (IsTestable w.contents q.range r.0 has (tuple_given w q p o)) es →
+        AreReady w.contents q.range r.0 has own (tuple_given w q p o) es }
     ensures truth { (w : World) (q : Query) (r : RelNo) (p : ℕ → Bool) (o : Tuple) (n : ℕ) (has : ColNo → Bool) (own : ColNo → Value) (es : List Cond) →
         IsOverWorld w q → ((c : ColNo) → has c ≡ true → own c ≡ value_in (slice_index_or (rows_of_relation w q r) n []) c) →
-        AllByRecursion (IsTestable w.contents q.range r.0 has (given_of w q p o)) es →
-        are_true (value_beside r.0 own (given_of w q p o)) es ≡ all_true w q (beside q r.0 n o) es }
+        AllByRecursion (IsTestable w.contents q.range r.0 has (tuple_given w q p o)) es →
+        are_true (value_beside r.0 own (tuple_given w q p o)) es ≡ all_true w q (beside q r.0 n o) es }
 {}

@@ -29,7 +29,7 @@ use Rattle.pathkeys.specs.Finding.{class_numbers}
 use Rattle.pathkeys.specs.Keys.{Keys}
 use Rattle.pathkeys.specs.Sorted.{keys_order, order_at}
 use Rattle.sort_rows.specs.declared.columns.SortColumn.{SortColumn}
-use Rattle.sort_rows.specs.Columns.{sorting_by, column_in, columns_of, columns_order, key_at, IsSortColumn}
+use Rattle.sort_rows.specs.Columns.{sorting_by, column_in, sorted_columns, columns_order, key_at, IsSortColumn}
 
 -- each member of a class of a well bound query is a column of one of its relations
 module _ (c : Contents) (q : Query) (is : IsWellBound c q) where
@@ -65,8 +65,8 @@ module _ (c : Contents) (q : Query) (is : IsWellBound c q) (set : Set) (keys : K
     some_is : (a b : SortColumn) → Some a ≡ Some b → a ≡ b
     some_is a b h = cc
 
-  pub columns_are : All (IsSortColumn c q set) (columns_of q.classes set keys)
-  columns_are = all_from (IsSortColumn c q set) (columns_of q.classes set keys) each where
+  pub columns_are : All (IsSortColumn c q set) (sorted_columns q.classes set keys)
+  columns_are = all_from (IsSortColumn c q set) (sorted_columns q.classes set keys) each where
     of_class : (n : ℕ) → n < length q.classes.classes → (s : SortColumn) → column_in (class_at q.classes.classes n) set ≡ Some s → IsSortColumn c q set s
     of_class n lt s found =
         let k = class_at q.classes.classes n in
@@ -78,7 +78,7 @@ module _ (c : Contents) (q : Query) (is : IsWellBound c q) (set : Set) (keys : K
         } in
         subst (IsSortColumn c q set) w.2 one
 
-    each : (s : SortColumn) → IsIn s (columns_of q.classes set keys) → IsSortColumn c q set s
+    each : (s : SortColumn) → IsIn s (sorted_columns q.classes set keys) → IsSortColumn c q set s
     each s i =
         let w = in_filter_map (λ n. column_in (class_at q.classes.classes n) set) keys s i in
         of_class w.0 (all_at (λ n. n < length q.classes.classes) keys within w.0 w.1) s w.2
@@ -91,36 +91,36 @@ module _ {X : Type 0} (value : X → ColRef → Value) (t : Table) (set : Set) (
   by_class k None cs rest same = same
   by_class k (Some m) cs rest same = ap (ordering_then (order_at k (Some m) (value x) (value y))) same
 
-  pub columns_compare : (keys : Keys) → columns_order (columns_of t set keys) (key_at (columns_of t set keys) (value x)) (key_at (columns_of t set keys) (value y)) ≡ keys_order value t set keys x y
+  pub columns_compare : (keys : Keys) → columns_order (sorted_columns t set keys) (key_at (sorted_columns t set keys) (value x)) (key_at (sorted_columns t set keys) (value y)) ≡ keys_order value t set keys x y
   columns_compare [] = refl
-  columns_compare (n ∷ ns) = by_class (class_at t.classes n) (first_in (class_at t.classes n) set) (columns_of t set ns) (keys_order value t set ns x y) (columns_compare ns)
+  columns_compare (n ∷ ns) = by_class (class_at t.classes n) (first_in (class_at t.classes n) set) (sorted_columns t set ns) (keys_order value t set ns x y) (columns_compare ns)
 
 -- one class more
 columns_more : (t : Table) (set : Set) (ks : List ClassNo) (i : ℕ) (d : ClassNo) → i < length ks
-    → columns_of t set (class_numbers (take (i + 1) ks)) ≡ columns_of t set (class_numbers (take i ks)) ++ cons_option (column_in (class_at t.classes (get_or ks i d).0) set) []
+    → sorted_columns t set (class_numbers (take (i + 1) ks)) ≡ sorted_columns t set (class_numbers (take i ks)) ++ cons_option (column_in (class_at t.classes (get_or ks i d).0) set) []
 columns_more t set ks i d lt =
-    ap (λ (l : List ClassNo). columns_of t set (class_numbers l)) (take_more ks i d lt)
-    ∙ ap (columns_of t set) (map-append (λ (c : ClassNo). c.0) (take i ks) (get_or ks i d ∷ []))
+    ap (λ (l : List ClassNo). sorted_columns t set (class_numbers l)) (take_more ks i d lt)
+    ∙ ap (sorted_columns t set) (map-append (λ (c : ClassNo). c.0) (take i ks) (get_or ks i d ∷ []))
     ∙ filter_map-append (λ n. column_in (class_at t.classes n) set) (class_numbers (take i ks)) ((get_or ks i d).0 ∷ [])
 
-module _ (t : Table) (set : Set) (ks : List ClassNo) (i : ℕ) (d : ClassNo) (lt : i < length ks) (columns : List SortColumn) (before : columns ≡ columns_of t set (class_numbers (take i ks))) where
-  pub columns_pushed : (s : SortColumn) → Some s ≡ column_in (class_at t.classes (get_or ks i d).0) set → columns ++ s ∷ [] ≡ columns_of t set (class_numbers (take (i + 1) ks))
+module _ (t : Table) (set : Set) (ks : List ClassNo) (i : ℕ) (d : ClassNo) (lt : i < length ks) (columns : List SortColumn) (before : columns ≡ sorted_columns t set (class_numbers (take i ks))) where
+  pub columns_pushed : (s : SortColumn) → Some s ≡ column_in (class_at t.classes (get_or ks i d).0) set → columns ++ s ∷ [] ≡ sorted_columns t set (class_numbers (take (i + 1) ks))
   columns_pushed s is =
       ap (λ (l : List SortColumn). l ++ s ∷ []) before
-      ∙ ap (λ (o : Option SortColumn). columns_of t set (class_numbers (take i ks)) ++ cons_option o []) is
+      ∙ ap (λ (o : Option SortColumn). sorted_columns t set (class_numbers (take i ks)) ++ cons_option o []) is
       ∙ sym (columns_more t set ks i d lt)
 
-  pub columns_passed : None ≡ column_in (class_at t.classes (get_or ks i d).0) set → columns ≡ columns_of t set (class_numbers (take (i + 1) ks))
+  pub columns_passed : None ≡ column_in (class_at t.classes (get_or ks i d).0) set → columns ≡ sorted_columns t set (class_numbers (take (i + 1) ks))
   columns_passed is =
       before
-      ∙ sym (append-nil (columns_of t set (class_numbers (take i ks))))
-      ∙ ap (λ (o : Option SortColumn). columns_of t set (class_numbers (take i ks)) ++ cons_option o []) is
+      ∙ sym (append-nil (sorted_columns t set (class_numbers (take i ks))))
+      ∙ ap (λ (o : Option SortColumn). sorted_columns t set (class_numbers (take i ks)) ++ cons_option o []) is
       ∙ sym (columns_more t set ks i d lt)
 
 -- the columns that a call gave
-pub columns_given : (t u : Table) (r s : RelSet) (ks ls : Keys) (lent columns : List SortColumn) → lent ≡ columns → columns ≡ columns_of t (has r.0) ks → t ≡ u → r ≡ s → ks ≡ ls → lent ≡ columns_of u (has s.0) ls
+pub columns_given : (t u : Table) (r s : RelSet) (ks ls : Keys) (lent columns : List SortColumn) → lent ≡ columns → columns ≡ sorted_columns t (has r.0) ks → t ≡ u → r ≡ s → ks ≡ ls → lent ≡ sorted_columns u (has s.0) ls
 columns_given t u r s ks ls lent columns same given t_is r_is ks_is =
     same ∙ given
-    ∙ ap (λ (x : Table). columns_of x (has r.0) ks) t_is
-    ∙ ap (λ (x : RelSet). columns_of u (has x.0) ks) r_is
-    ∙ ap (columns_of u (has s.0)) ks_is
+    ∙ ap (λ (x : Table). sorted_columns x (has r.0) ks) t_is
+    ∙ ap (λ (x : RelSet). sorted_columns u (has x.0) ks) r_is
+    ∙ ap (sorted_columns u (has s.0)) ks_is

@@ -20,7 +20,7 @@ use Rattle.sql_query.specs.Tuples.{value_at}
 use Rattle.sql_query.specs.Worlds.{World}
 use Rattle.sort_rows.specs.declared.columns.SortColumn.{SortColumn}
 use Rattle.sort_rows.specs.declared.sort.Keyed.{Keyed}
-use Rattle.sort_rows.specs.Columns.{columns_of, columns_order, key_at}
+use Rattle.sort_rows.specs.Columns.{sorted_columns, columns_order, key_at}
 use Rattle.sort_rows.specs.Keyed.{key_in, keyed_order, rows_keyed, run_at, AreKeyed, IsKeyed}
 use Rattle.sort_rows.specs.Rows.{tuple_of}
 use Rattle.sort_rows.proofs.ColumnLemmas.{columns_compare}
@@ -74,7 +74,7 @@ module _ (cs : List SortColumn) (key : List Tid → List Value) (wide : (row : L
         ∙ ap (in_order (on key (columns_order cs))) all
 
 -- tuples sorted by their keys are sorted by the classes
-module _ (w : World) (q : Query) (set : RelSet) (keys : Keys) (cs : List SortColumn) (cs_are : cs ≡ columns_of q.classes (has set.0) keys) where
+module _ (w : World) (q : Query) (set : RelSet) (keys : Keys) (cs : List SortColumn) (cs_are : cs ≡ sorted_columns q.classes (has set.0) keys) where
   abbrev key : List Tid → List Value
   key row = key_at cs (value_at w q (tuple_of q set row))
 

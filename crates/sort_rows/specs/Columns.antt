@@ -28,8 +28,8 @@ abbrev pub column_in : Class → Set → Option SortColumn
 column_in c set = option_map (sorting_by c set) (first_in c set)
 
 -- those of a key list
-abbrev pub columns_of : Table → Set → Keys → List SortColumn
-columns_of t set keys = filter_map (λ n. column_in (class_at t.classes n) set) keys
+abbrev pub sorted_columns : Table → Set → Keys → List SortColumn
+sorted_columns t set keys = filter_map (λ n. column_in (class_at t.classes n) set) keys
 
 -- two values of a column
 abbrev pub values_order : SortColumn → Value → Value → Ordering

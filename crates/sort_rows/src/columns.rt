@@ -5,7 +5,7 @@ ghost use Rattle.pg_base.specs.Sets.{has};
 ghost use Rattle.eq_classes.specs.Listing.{class_at};
 ghost use Rattle.heap.specs.Tuples.{rank};
 ghost use Rattle.pathkeys.specs.Finding.{class_numbers};
-ghost use Rattle.sort_rows.specs.Columns.{column_in, columns_of};
+ghost use Rattle.sort_rows.specs.Columns.{column_in, sorted_columns};
 
 use eq_classes::{ClassNo, Classes};
 use pg_base::{Memory, RelNo, RelSet};
@@ -38,7 +38,7 @@ pub fn sort_columns(
     keys: &[ClassNo],
 ) -> Result<Vec<SortColumn>, Memory>
     requires { All (λ c. c.0 < length classes.now.classes) keys.now }
-    ensures { IfOk result (λ cs. cs.items ≡ columns_of classes.now (has set.0) (class_numbers keys.now)) }
+    ensures { IfOk result (λ cs. cs.items ≡ sorted_columns classes.now (has set.0) (class_numbers keys.now)) }
 {
     let mut columns = Vec::new(alloc);
     for key in keys {

@@ -9,7 +9,7 @@ use Rattle.sql_lex.specs.Ends.{end_of}
 use Rattle.sql_grammar.specs.Syntax.{advise as advise_tree}
 use Rattle.index_prices.specs.Replies.{HasNoAdviceFor, IsReplyTo}
 use Rattle.index_reader.specs.AdviseMeaning.{Asked}
-use Rattle.index_reader.specs.AdviseStatements.{IsMeaning, IsRefusal}
+use Rattle.index_reader.specs.AdviseStatements.{IsAdviseMeaning, IsAdviseRefusal}
 use Rattle.sql_query.specs.Queries.{Query}
 use Rattle.sql_query.specs.Worlds.{World}
 use Rattle.store.specs.Actions.{advise}
@@ -23,12 +23,12 @@ use Rattle.statements.proofs.PlainAdviceLemmas.{advice-fault-plain}
 
 module _ (w : World) (text : List ℕ) (tokens : List Token) where
   -- what the reader refuses
-  pub reading-refused : (r : Refusal) → IsRefusal w.contents text tokens r → Refuses (end_of_refusal r) w text tokens 0 0
+  pub reading-refused : (r : Refusal) → IsAdviseRefusal w.contents text tokens r → Refuses (end_of_refusal r) w text tokens 0 0
   reading-refused (refusal.Fault f) (inl first) = (in_syntax first, plain-field w.contents f (ap (λ (g : Fault). g.rec) first.place), refl)
   reading-refused (refusal.Fault f) (inr m) = (in_meaning (advise_tree m.statement) m.spelled (inl m.means), plain-field w.contents f (advice-fault-plain w.contents tokens m.statement f m.means), refl)
   reading-refused refusal.Memory h = inl refl
 
-  module _ (a : Asked) (m : IsMeaning w.contents text tokens (Ok a)) (classes : HaveClasses w.contents a.queries) where
+  module _ (a : Asked) (m : IsAdviseMeaning w.contents text tokens (Ok a)) (classes : HaveClasses w.contents a.queries) where
     -- an advice is its reply
     pub advised : (lines : List ℕ) → IsReplyTo w.contents a.candidates a.queries a.most lines → IsTelling w text tokens (end_of tokens) lines
     advised lines is = record {

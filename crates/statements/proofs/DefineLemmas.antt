@@ -25,11 +25,11 @@ use Rattle.ddl_reader.specs.declared.ddl.Ddl.TheVariants.{Table, Rows, Column as
 use Rattle.ddl_reader.specs.declared.ddl.Read.{Read}
 use Rattle.ddl_reader.specs.Readings.{definition, reading}
 use Rattle.ddl_reader.specs.Types.{type_named}
-use Rattle.ddl_reader.specs.Columns.{Written, written, Bound, bound, bound_by, bound_all, further}
+use Rattle.ddl_reader.specs.Columns.{Written, defined_column, Bound, bound, bound_by, bound_all, further}
 use Rattle.expr_reader.specs.Lists.{bound_each}
-use Rattle.ddl_reader.specs.Statistics.{CommonWords, common_value, table_of_name, column_of_name, table_statistics, statistics_of, column_statistics_of, commons_of, bounds_of, analysis}
+use Rattle.ddl_reader.specs.Statistics.{CommonWords, common_value, table_of_name, column_of_name, stated_rows, statistics_of, column_statistics_of, commons_of, bounds_of, analysis}
 use Rattle.expr_reader.specs.Literals.{typed_value}
-use Rattle.ddl_reader.specs.Tables.{table, sizes_for, statistics_for, data_for, analysis_of, Reading, table_reading, limited, table_of, data_of, data_after}
+use Rattle.ddl_reader.specs.Tables.{table, sizes_for, statistics_for, data_for, analysis_of, Reading, table_reading, limited_columns, bound_table, data_of, data_after}
 use Rattle.pg_value.specs.Fields.{null_text}
 use Rattle.ddl_reader.specs.Soundness.{AreSoundSizes, AreSoundStatistics, IsSound, IsSoundTable}
 use Rattle.ddl_reader.specs.Block.{IsBlockEnd}
@@ -58,11 +58,11 @@ type-plain (Some t) w = tt
 columns-plain : (ws : List Written) → IsPlain (bound_all ws)
 columns-plain ws = each-plain bound ws (λ w. type-plain (type_named w.kind) w)
 
-limited-plain : (m : Reading) (left : List Bound) → IsPlain (limited m left)
+limited-plain : (m : Reading) (left : List Bound) → IsPlain (limited_columns m left)
 limited-plain m [] = tt
 limited-plain m (b ∷ left) = refl
 
-table-plain : (name : List ℕ) (token : Token) (m : Result (List Bound) Fault) → IsPlain m → IsPlain (table_of name token m)
+table-plain : (name : List ℕ) (token : Token) (m : Result (List Bound) Fault) → IsPlain m → IsPlain (bound_table name token m)
 table-plain name token (Err f) none = none
 table-plain name token (Ok bs) none = limited-plain (table_reading name token bs) (drop MOST_COLUMNS bs)
 
@@ -79,7 +79,7 @@ after-plain text end o name_at null_at null (Err f) begins = ap (λ (g : Fault).
 after-plain text end o name_at null_at null (Ok start) begins = data-plain o name_at null_at null start
 
 -- the names and literals of STATISTICS
-sizes-plain : (cat : Contents) (n : Ident) (rows pages : Said) → IsPlain (table_statistics cat n rows pages)
+sizes-plain : (cat : Contents) (n : Ident) (rows pages : Said) → IsPlain (stated_rows cat n rows pages)
 sizes-plain cat n rows pages = next-plain (table_of_name cat n) _ (table-name-plain cat n) (λ t. tt)
 
 analysis-plain : (cat : Contents) (n : Ident) → IsPlain (analysis cat n)
@@ -106,7 +106,7 @@ means-plain cat text (advise x) r means = absurd means
 means-plain cat text (check p k x s) r means = absurd means
 means-plain cat text (use_plan p k l q y s) r means = absurd means
 means-plain cat text (grouped p k l q) r means = absurd means
-means-plain cat text (create_table k t n o c cs m e) r means = subst IsPlain (sym means) (table-plain (bytes_of n) (token_of n) (bound_all (written c ∷ further cs)) (columns-plain (written c ∷ further cs)))
+means-plain cat text (create_table k t n o c cs m e) r means = subst IsPlain (sym means) (table-plain (bytes_of n) (token_of n) (bound_all (defined_column c ∷ further cs)) (columns-plain (defined_column c ∷ further cs)))
 means-plain cat text (sizes k n r p e) m means = subst IsPlain (sym means) (sizes-plain cat n r p)
 means-plain cat text (column_statistics k n c d nulls commons bounds e) r means = subst IsPlain (sym means) (statistics-plain cat n c d nulls (commons_of commons) (bounds_of bounds))
 means-plain cat text (analyze p k n e) r means = subst IsPlain (sym means) (analysis-plain cat n)

@@ -27,10 +27,10 @@ use Rattle.ddl_reader.specs.Statistics.{known, table_of_name, column_of_name}
 use Rattle.index_reader.specs.declared.keys.KeyRead.{KeyRead}
 use Rattle.index_reader.specs.declared.names.NamedColumn.{NamedColumn}
 use Rattle.index_reader.specs.declared.methods.MethodRead.{MethodRead}
-use Rattle.index_reader.specs.Keys.{class_bound, class_has_method, class_known, key_bound, keys_of, method_bound, method_of_name, name_bound, names_of}
-use Rattle.index_reader.specs.Meaning.{Reading, condition_bound, has_many_atoms, index_reading, limited, meaning, meaning_of_cand, name_tokens, within_limits}
+use Rattle.index_reader.specs.Keys.{class_bound, class_has_method, class_known, key_bound, keys_of, method_bound, method_of_name, name_bound, include_names}
+use Rattle.index_reader.specs.Meaning.{Reading, condition_bound, has_many_atoms, index_reading, limited_names, meaning, meaning_of_cand, name_tokens, within_limits}
 use Rattle.index_reader.specs.Statements.{IsMeaning, IsRefusal}
-use Rattle.index_reader.specs.Visible.{Sight, visible_in, type_in}
+use Rattle.index_reader.specs.Visible.{Sight, visible_in, sight_type}
 use Rattle.sql_query.specs.Worlds.{World, stored_at}
 use Rattle.statements.specs.declared.end.End.{End}
 use Rattle.statements.specs.declared.end.End.TheVariants as ends
@@ -68,13 +68,13 @@ include-plain cat t n = next-plain (column_of_name cat t n) _ (column-name-plain
 
 condition-plain : (s : Sight) (w : Where) → IsPlain (condition_bound s w)
 condition-plain s no_where = tt
-condition-plain s (where_expr k e) = next-plain (meaning_of_expr (visible_in s) (type_in s) e) _ (expr-plain (visible_in s) (type_in s) e) (λ c. tt)
+condition-plain s (where_expr k e) = next-plain (meaning_of_expr (visible_in s) (sight_type s) e) _ (expr-plain (visible_in s) (sight_type s) e) (λ c. tt)
 
 either-plain : {A : Type 0} (b : Bool) (f : Fault) (x : A) → f.rec ≡ 0 → IsPlain (cond b (Err f) (Ok x))
 either-plain true f x none = none
 either-plain false f x none = tt
 
-limited-plain : {A : Type 0} (ts : List Token) (r : Result A Fault) → IsPlain r → IsPlain (limited ts r)
+limited-plain : {A : Type 0} (ts : List Token) (r : Result A Fault) → IsPlain r → IsPlain (limited_names ts r)
 limited-plain [] r h = h
 limited-plain (t ∷ ts) r h = refl
 
@@ -87,7 +87,7 @@ cand-plain cat start (cand_on n o of u p x xs m c w) =
     next-plain (table_of_name cat of) _ (table-name-plain cat of) (λ t.
     next-plain (method_bound u) _ (method-plain u) (λ by.
     next-plain (bound_each (key_bound cat t by.method) (keys_of x xs)) _ (each-plain (key_bound cat t by.method) (keys_of x xs) (key-plain cat t by.method)) (λ keys.
-    next-plain (bound_each (name_bound cat t) (names_of c)) _ (each-plain (name_bound cat t) (names_of c) (include-plain cat t)) (λ names.
+    next-plain (bound_each (name_bound cat t) (include_names c)) _ (each-plain (name_bound cat t) (include_names c) (include-plain cat t)) (λ names.
     next-plain (condition_bound (record { contents = cat; table = t; alias = bytes_of of }) w) _ (condition-plain (record { contents = cat; table = t; alias = bytes_of of }) w) (λ predicate.
     limits-plain start n t by keys names predicate)))))
 

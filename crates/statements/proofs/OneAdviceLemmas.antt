@@ -20,7 +20,7 @@ use Rattle.query_reader.specs.Binding.{Bound, query_with}
 use Rattle.sql_query.specs.Queries.{Query}
 use Rattle.sql_query.specs.WellBound.{given_of}
 use Rattle.index_reader.specs.AdviseCandidates.{CandidateMeans, IsAllowed, IsNotAllowed, MayBeMade, candidate_read, formless, repeated, taken, with_room}
-use Rattle.index_reader.specs.AdviseMeaning.{Asked, CandidatesMean, Means, QueriesMean, most_meant}
+use Rattle.index_reader.specs.AdviseMeaning.{Asked, CandidatesMean, AdviseMeans, QueriesMean, most_meant}
 use Rattle.index_reader.specs.Parts.{candidates_of, name_token}
 use Rattle.index_reader.specs.Places.{word_fault}
 use Rattle.index_reader.specs.Queries.{IsQueryOf, QueryMeans, query_bound}
@@ -169,7 +169,7 @@ module _ (c : Contents) (start : Token) (most : ℕ) (candidates : List NamedInd
       (asked-alike c most candidates x y (queries-alike c start xs [] [] (Ok x) (Ok y) refl (λ p q. refl) h k)))
 
 -- what ADVISE means
-pub one-advice : (c : Contents) (tokens : List Token) (x : Advise) (r s : Result Asked Fault) → Means c tokens x r → Means c tokens x s → AskedAlike c r s
+pub one-advice : (c : Contents) (tokens : List Token) (x : Advise) (r s : Result Asked Fault) → AdviseMeans c tokens x r → AdviseMeans c tokens x s → AskedAlike c r s
 one-advice c tokens (advise_of p start n o x xs m q qs e) =
     then-alike c ℕ _ _ (one-value (most_meant n)) (λ most.
     then-alike c (List NamedIndex) _ _ (candidates-one c start tokens (candidates_of x xs)) (λ candidates.

@@ -31,7 +31,7 @@ use Rattle.sql_query.specs.WellBound.{given_of}
 use Rattle.eq_classes.proofs.UniqueLemmas.{table_one}
 use Rattle.sql_query.specs.Worlds.{World, stored_at}
 use Rattle.store.specs.Actions.{Action, advise, build, fill, follow, verify}
-use Rattle.statements.specs.Accepted.{Advises, Answers, Carries, Does, Groups, Indexes, IsReadOver, IsRead, Takes, asked, asked_as, asked_of_groups}
+use Rattle.statements.specs.Accepted.{Advises, Answers, Carries, Does, Groups, Indexes, IsReadOver, IsRead, Takes, action_asked, asked_as, asked_of_groups}
 use Rattle.statements.specs.Faults.{endless_fault, index_fault, word_ends, IsCheckFault, in_line, in_select, without_end, rows_fault, IsRefused, IsAdviseFault, IsDefinitionFault, IsGroupFault, IsIndexFault, IsQueryFault, IsMeaningFault, IsFaultOver, in_syntax, in_meaning, IsFault, in_words, after_words}
 use Rattle.group_reply.specs.reply_Answers.{HasNoPlan}
 use Rattle.group_reply.specs.reply_Replies.{Reply}
@@ -82,7 +82,7 @@ module _ (w : World) (text : List ℕ) (tokens : List Token) where
   -- a query has one table of classes
   one_answer : (p : Bound) (a b : Action) → Answers w text tokens p a → Answers w text tokens p b → a ≡ b
   one_answer p a b (t, h, i) (u, k, j) =
-      i ∙ (ap (λ z. asked text tokens (query_with z p)) (table_one (given_of w.contents (query_with t p)) t u h k) ∙ sym j)
+      i ∙ (ap (λ z. action_asked text tokens (query_with z p)) (table_one (given_of w.contents (query_with t p)) t u h k) ∙ sym j)
 
   one_index : (x : CreateIndex) (a b : Action) (m n : ℕ) → Indexes w tokens x a m → Indexes w tokens x b n → (a ≡ b) × (m ≡ n)
   one_index x a b m n (r, h, accepted, i, p) (s, k, accepted', j, q) =
@@ -122,9 +122,9 @@ module _ (w : World) (text : List ℕ) (tokens : List Token) where
       let (end, next) = one_end text h.start h.end m k.end n h.ends (subst (λ (s : ℕ). IsBlockEnd text s k.end n) (sym start) k.ends) in
       let both : Ok h.meant ≡ Ok k.meant = sym h.means ∙ k.means in
       let same : k.meant ≡ h.meant = cc in
-      let asked = one_query_of h.meant k.meant h.classes k.classes same h.own k.own in
+      let action_asked = one_query_of h.meant k.meant h.classes k.classes same h.own k.own in
       let bytes : slice_range text h.start h.end ≡ slice_range text k.start k.end = ap₂ (slice_range text) start end in
-      (h.acts ∙ (ap₂ act asked bytes ∙ sym k.acts), next)
+      (h.acts ∙ (ap₂ act action_asked bytes ∙ sym k.acts), next)
 
   one_done : (x : Statement) (a b : Action) (m n : ℕ) → Does w text tokens x a m → Does w text tokens x b n → (a ≡ b) × (m ≡ n)
   one_done (empty e) a b m n h k = (h.0 ∙ sym k.0, h.1 ∙ sym k.1)

@@ -32,10 +32,10 @@ use Rattle.catalog.specs.Tables.{table_named}
 use Rattle.expr_reader.specs.Conditions.{next as following}
 use Rattle.expr_reader.specs.Literals.{typed_value}
 use Rattle.expr_reader.specs.Lists.{bound_each}
-use Rattle.ddl_reader.specs.Statistics.{CommonWords, common_value, table_of_name, column_of_name, table_statistics, statistics_of, column_statistics_of, commons_of, bounds_of, analysis}
+use Rattle.ddl_reader.specs.Statistics.{CommonWords, common_value, table_of_name, column_of_name, stated_rows, statistics_of, column_statistics_of, commons_of, bounds_of, analysis}
 use Rattle.sql_grammar.proofs.ExprTrees.{tokens-are}
-use Rattle.ddl_reader.specs.Columns.{Bound, bound_all, written, further}
-use Rattle.ddl_reader.specs.Tables.{Definition, table, sizes_for, statistics_for, data_for, analysis_of, Reading, data_after, limited, table_of, table_reading}
+use Rattle.ddl_reader.specs.Columns.{Bound, bound_all, defined_column, further}
+use Rattle.ddl_reader.specs.Tables.{Definition, table, sizes_for, statistics_for, data_for, analysis_of, Reading, data_after, limited_columns, bound_table, table_reading}
 use Rattle.pg_value.specs.Fields.{null_text}
 use Rattle.sql_query.specs.Queries.{Query}
 use Rattle.sql_query.specs.Worlds.{World}
@@ -133,13 +133,13 @@ carried-data w text tokens (data_for u from) action next t start e within c =
     let lies = block-within text from c.0 next (omega (arith, same, within)) c.2 in
     subst P same (omega (arith, lies.order, lies.end_order), lies.within)
 
-is-table : (name : List ℕ) (token : Token) (bs : List Bound) (more : List Bound) (r : Reading) → Ok r ≡ limited (table_reading name token bs) more →
+is-table : (name : List ℕ) (token : Token) (bs : List Bound) (more : List Bound) (r : Reading) → Ok r ≡ limited_columns (table_reading name token bs) more →
     r.definition ≡ table name (map (λ b. b.name) bs) (map (λ b. b.column) bs)
 is-table name token bs [] r e = let same : r ≡ table_reading name token bs = cc in ap (λ (x : Reading). x.definition) same
 is-table name token bs (b ∷ more) r e = cc
 
 table-behind : (w : World) (text : List ℕ) (tokens : List Token) (action : Action) (next : ℕ) (name : List ℕ) (token : Token) (bound : Result (List Bound) Fault) (r : Reading) →
-    Ok r ≡ table_of name token bound → Carries w text tokens r.definition action next → next ≡ end_of tokens
+    Ok r ≡ bound_table name token bound → Carries w text tokens r.definition action next → next ≡ end_of tokens
 table-behind w text tokens action next name token (Err f) r e c = cc
 table-behind w text tokens action next name token (Ok bs) r e c =
     carried-table w text tokens r.definition action next name _ _ (is-table name token bs (drop MOST_COLUMNS bs) r e) c
@@ -168,7 +168,7 @@ module _ (w : World) (text : List ℕ) (tokens : List Token) where
   next-last (Ok x) more h = h x
   next-last (Err f) more h = tt
 
-  sizes-last : (c : Contents) (n : Ident) (rows pages : Said) → EndsLast w text tokens (table_statistics c n rows pages)
+  sizes-last : (c : Contents) (n : Ident) (rows pages : Said) → EndsLast w text tokens (stated_rows c n rows pages)
   sizes-last c n rows pages = next-last (table_of_name c n) _ (λ t action next carried. carried.3)
 
   analysis-last : (c : Contents) (n : Ident) → EndsLast w text tokens (analysis c n)
@@ -231,9 +231,9 @@ does-behind w text from tokens (empty e) action next words spelled does = at-end
 does-behind w text from tokens (create_index x) action next words spelled does = at-end-of text from next (end_of tokens) does.4 (ends-behind text from tokens words)
 does-behind w text from tokens (query x) action next words spelled does = at-end-of text from next (end_of tokens) does.3 (ends-behind text from tokens words)
 does-behind w text from tokens (create_table k t n o c cs m e) action next words spelled does =
-    at-end-of text from next (end_of tokens) (table-behind w text tokens action next (bytes_of n) (token_of n) (bound_all (written c ∷ further cs)) does.0 does.1 does.2) (ends-behind text from tokens words)
+    at-end-of text from next (end_of tokens) (table-behind w text tokens action next (bytes_of n) (token_of n) (bound_all (defined_column c ∷ further cs)) does.0 does.1 does.2) (ends-behind text from tokens words)
 does-behind w text from tokens (sizes k n r p e) action next words spelled does =
-    at-end-of text from next (end_of tokens) (last-by w text tokens does.0 (table_statistics w.contents n r p) action next does.1 (sizes-last w text tokens w.contents n r p) does.2) (ends-behind text from tokens words)
+    at-end-of text from next (end_of tokens) (last-by w text tokens does.0 (stated_rows w.contents n r p) action next does.1 (sizes-last w text tokens w.contents n r p) does.2) (ends-behind text from tokens words)
 does-behind w text from tokens (column_statistics k n c d nulls commons bounds e) action next words spelled does =
     at-end-of text from next (end_of tokens)
     (last-by w text tokens does.0 (column_statistics_of w.contents n c d nulls (commons_of commons) (bounds_of bounds)) action next does.1

@@ -12,7 +12,7 @@ use Rattle.index_reader.specs.Meaning.{Reading, meaning_of_cand}
 use Rattle.query_reader.specs.Binding.{Bound, bound_part}
 use Rattle.sql_query.specs.Queries.{Query}
 use Rattle.index_reader.specs.AdviseCandidates.{CandidateMeans, IsNotAllowed, MayBeMade, candidate_read, formless, repeated, taken, with_room}
-use Rattle.index_reader.specs.AdviseMeaning.{Asked, Means, most_meant}
+use Rattle.index_reader.specs.AdviseMeaning.{Asked, AdviseMeans, most_meant}
 use Rattle.index_reader.specs.Parts.{candidates_of, name_token, select_in}
 use Rattle.index_reader.specs.Queries.{IsQueryOf, QueryMeans, query_bound}
 use Rattle.index_reader.specs.Stages.{AreRead, Then}
@@ -71,7 +71,7 @@ candidate-plain c start earlier x = either-plain (nat_lt earlier MOST_CANDIDATES
 bound-plain : (c : Contents) (start : Token) (earlier : ℕ) (x : Advised) → IsPlain (query_bound c start earlier x)
 bound-plain c start earlier x = either-plain (nat_lt earlier MOST_QUERIES) (bound_part c start (select_in x)) _ (part-plain c start (select_in x)) refl
 
-advice-plain : (c : Contents) (tokens : List Token) (x : Advise) → ArePlain (Means c tokens x)
+advice-plain : (c : Contents) (tokens : List Token) (x : Advise) → ArePlain (AdviseMeans c tokens x)
 advice-plain c tokens (advise_of p start n o x xs m q qs e) =
     then-plain ℕ Asked _ _ (plain-value (most_meant n) (most-plain n)) (λ most.
     then-plain (List NamedIndex) Asked _ _
@@ -83,5 +83,5 @@ advice-plain c tokens (advise_of p start n o x xs m q qs e) =
     (read-plain Advised Query (QueryMeans c start) (λ earlier y. query-plain (query_bound c start (length earlier) y) (bound-plain c start (length earlier) y)) [] (q ∷ qs)) (λ queries.
     plain-value (Ok (record { most = most; candidates = all; queries = queries })) tt))))
 
-pub advice-fault-plain : (c : Contents) (tokens : List Token) (x : Advise) (f : Fault) → Means c tokens x (Err f) → f.rec ≡ 0
+pub advice-fault-plain : (c : Contents) (tokens : List Token) (x : Advise) (f : Fault) → AdviseMeans c tokens x (Err f) → f.rec ≡ 0
 advice-fault-plain c tokens x f means = advice-plain c tokens x (Err f) means

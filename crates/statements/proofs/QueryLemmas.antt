@@ -37,7 +37,7 @@ use Rattle.sql_query.specs.WellBound.{given_of}
 use Rattle.sql_query.specs.Worlds.{World}
 use Rattle.group_reply.specs.reply_Answers.{HasNoPlan}
 use Rattle.store.specs.Actions.{answer_groups, explain_groups}
-use Rattle.statements.specs.Accepted.{IsReadOver, asked, asked_of_groups}
+use Rattle.statements.specs.Accepted.{IsReadOver, action_asked, asked_of_groups}
 use Rattle.statements.specs.Faults.{IsFaultOver, in_syntax, in_meaning, no_plan}
 use Rattle.statements.specs.Questions.{HasNoneOf, IsBoundTo, asked_of, groups_asked}
 use Rattle.statements.specs.Steps.{begins_check, begins_use}
@@ -191,7 +191,7 @@ module _ (w : World) (text : List ℕ) (tokens : List Token) (some : 0 < length 
     plain-read : IsReadOver w text tokens (asked_of text tokens (Plain q)) (end_of tokens)
     plain-read =
         let (b, means, is) = plain-meant in
-        record { statement = query reads.grammar.0; spelled = reads.grammar.1; does = (b, means, (q.classes, plain-table b is, ap (asked text tokens) is), refl) }
+        record { statement = query reads.grammar.0; spelled = reads.grammar.1; does = (b, means, (q.classes, plain-table b is, ap (action_asked text tokens) is), refl) }
 
     -- that it has no plan is its fault
     plain-unplanned : HasNoPlan w.contents q → IsFaultOver w text tokens (no_plan text tokens)

@@ -22,7 +22,7 @@ use Rattle.statements.specs.Accepted.{IsReadOver}
 use Rattle.statements.proofs.PlaceLemmas.{EndsBehind, read-behind}
 use Rattle.statements.specs.Faults.{after_words}
 use Rattle.statements.specs.Replies.{silent}
-use Rattle.group_reply.specs.reply_PuttingLemmas.{appends-none}
+use Rattle.pg_base.proofs.OptionLemmas.{appends-none}
 use Rattle.statements.specs.Steps.{Advances, IsBegun, Stops, IsDefined, Refuses, IsAnsweredOver, IsBegunOver, StopsOver}
 
 -- what is kept that was not changed

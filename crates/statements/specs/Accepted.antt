@@ -8,7 +8,7 @@ use Rattle.sql_grammar.specs.CopyLine.{IsDataStart}
 use Rattle.sql_grammar.specs.Syntax.{Advise, CreateIndex, GroupedSelect, MaybeExplain, unexplained, explained, no_limit, no_offset, window, Statement, WindowedSelect, windowed_select, empty, create_table, create_index, query, copy, sizes, column_statistics, analyze, advise as advise_tree, check, use_plan, grouped}
 use Rattle.sql_grammar.specs.Faults.{terminals}
 use Rattle.sql_grammar.specs.Spelled.{IsSpelled}
-use Rattle.index_reader.specs.AdviseMeaning.{Asked, Means as AdviseMeans}
+use Rattle.index_reader.specs.AdviseMeaning.{Asked, AdviseMeans}
 use Rattle.catalog.specs.Contents.{Contents}
 use Rattle.catalog.specs.Statistics.{AreAllowed, is_count}
 use Rattle.catalog.specs.Tables.{IsAcceptable, IsAcceptableIndex}
@@ -59,12 +59,12 @@ asked_as wanted.Plan q = explain q
 asked_as wanted.Table q = certify q
 
 -- as the first words ask: EXPLAIN asks for the plan, EXPLAIN (TABLE) for its table too
-abbrev pub asked : List ℕ → List Token → Query → Action
-asked text tokens q = asked_as (wanted_by (terminals text tokens)) q
+abbrev pub action_asked : List ℕ → List Token → Query → Action
+action_asked text tokens q = asked_as (wanted_by (terminals text tokens)) q
 
 -- what a SELECT that means this does: it answers or explains the query with its classes
 abbrev pub Answers : World → List ℕ → List Token → Bound → Action → Type 0
-Answers w text tokens b action = (t : Table) × IsClassTable (given_of w.contents (query_with t b)) t × (action ≡ asked text tokens (query_with t b))
+Answers w text tokens b action = (t : Table) × IsClassTable (given_of w.contents (query_with t b)) t × (action ≡ action_asked text tokens (query_with t b))
 
 -- each query has the table of its classes
 abbrev pub HaveClasses : Contents → List Query → Type 0

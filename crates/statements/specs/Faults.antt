@@ -14,7 +14,7 @@ use Rattle.sql_grammar.specs.CopyLine.{IsDataStart}
 use Rattle.sql_grammar.specs.Syntax.{Advise, GroupedSelect, OrderedSelect, WindowedSelect, windowed_select, no_limit, no_offset, window, CreateIndex, Statement, empty, create_table, create_index, query, copy, sizes, column_statistics, analyze, advise, check, use_plan, grouped}
 use Rattle.sql_grammar.specs.Faults.{IsStatement, IsFirstFault, fault_at, terminals}
 use Rattle.sql_grammar.specs.Spelled.{IsSpelled}
-use Rattle.index_reader.specs.AdviseMeaning.{Asked, Means as AdviseMeans}
+use Rattle.index_reader.specs.AdviseMeaning.{Asked, AdviseMeans}
 use Rattle.catalog.specs.declared.fault.CatalogFault.{CatalogFault}
 use Rattle.catalog.specs.declared.fault.CatalogFault.TheVariants as refused
 use Rattle.catalog.specs.Tables.{IsRefusal, IsIndexRefusal, IsSizeRefusal, IsStatisticsRefusal}

@@ -15,7 +15,7 @@ ghost use Rattle.group_reply.specs.group_explain_Plans.{HasNoGroupPlan};
 ghost use Rattle.group_reply.specs.reply_Answers.{HasNoPlan};
 ghost use Rattle.group_reply.specs.reply_Putting.{HasWriteCause};
 ghost use Rattle.group_reply.specs.reply_Replies.{HasReplied, Leaves, traces};
-ghost use Rattle.statements.specs.Accepted.{IsReadOver, asked};
+ghost use Rattle.statements.specs.Accepted.{IsReadOver, action_asked};
 ghost use Rattle.statements.specs.Askings.{IsTallied};
 ghost use Rattle.statements.specs.Faults.{IsFaultOver, no_plan};
 ghost use Rattle.statements.specs.Claims.{world_at};
@@ -162,7 +162,7 @@ fn count_rows<C: Counters>(
     requires question { IsQuestion at.now }
     requires bound { IsWellBound at.now.catalog.now query.now }
     requires arms { HasArmsInOrs query.now }
-    ensures tallied { IfOk result (IsTallied (world_at at.now) (asked at.now.text.now at.now.tokens.now query.now)) }
+    ensures tallied { IfOk result (IsTallied (world_at at.now) (action_asked at.now.text.now at.now.tokens.now query.now)) }
     ensures no_plan { IfErr result (λ stop. stop ≡ Stop.NoPlan → HasNoPlan at.now.catalog.now query.now) }
     ensures unwritten { IfErr result (λ stop. stop ≢ Stop.Write) }
 {
@@ -214,8 +214,8 @@ fn print_rows<C: Counters, K: Sink>(
     requires question { IsQuestion at.now }
     requires bound { IsWellBound at.now.catalog.now query.now }
     requires arms { HasArmsInOrs query.now }
-    ensures replied { OnOk result (HasReplied (IsReply (world_at at.now) (asked at.now.text.now at.now.tokens.now query.now)) (traces (K.held out.old) fetches.old reads.old) (traces (K.held out.new) fetches.new reads.new)) }
-    ensures stopped { IfErr result (λ stop. Leaves stop (IsReply (world_at at.now) (asked at.now.text.now at.now.tokens.now query.now)) (traces (K.held out.old) fetches.old reads.old) (traces (K.held out.new) fetches.new reads.new)) }
+    ensures replied { OnOk result (HasReplied (IsReply (world_at at.now) (action_asked at.now.text.now at.now.tokens.now query.now)) (traces (K.held out.old) fetches.old reads.old) (traces (K.held out.new) fetches.new reads.new)) }
+    ensures stopped { IfErr result (λ stop. Leaves stop (IsReply (world_at at.now) (action_asked at.now.text.now at.now.tokens.now query.now)) (traces (K.held out.old) fetches.old reads.old) (traces (K.held out.new) fetches.new reads.new)) }
     ensures no_plan { IfErr result (λ stop. stop ≡ Stop.NoPlan → HasNoPlan at.now.catalog.now query.now) }
     ensures cause { HasWriteCause Stop.Write (K.faults out.old) (K.faults out.new) result }
 {

@@ -18,7 +18,7 @@ use Rattle.btree_index.specs.Tree.{IsEntryOf, Tree, with_entries}
 use Rattle.hash_index.specs.Held.{Held, Table, held_order, with_held}
 use Rattle.hash_index.proofs.HeldLemmas.{held_total}
 use Rattle.catalog.specs.Indexes.{Index}
-use Rattle.store.specs.Kept.{sorted, hashed, below, built_by, built_of, first_key, found, held_of, table_of, tree_of}
+use Rattle.store.specs.Kept.{sorted, hashed, below, built_by, built_of, first_key, found, held_of, hash_table, tree_of}
 use Rattle.store.proofs.FoundLemmas.{whole, whole-cut, whole-grown}
 use Rattle.store.proofs.OrderLemmas.{filter-in_order}
 
@@ -53,7 +53,7 @@ module _ (table : TableNo) (keys : List IndexKey) (include : List ColNo) (predic
         (in_order_again (entry_order keys) (entries_total keys) (whole (def Btree) (take from rows)) (found (def Btree) rows from)
         ∙ ap (in_order (entry_order keys)) (sym (whole-grown (def Btree) rows from le)))
 
-    table-grown : with_held (table_of (def Hash) (take from rows)) (map held_of (found (def Hash) rows from)) ≡ table_of (def Hash) rows
+    table-grown : with_held (hash_table (def Hash) (take from rows)) (map held_of (found (def Hash) rows from)) ≡ hash_table (def Hash) rows
     table-grown =
         let order = held_order (first_key keys) in
         ap (λ (hs : List Held). record { key = first_key keys; held = hs })

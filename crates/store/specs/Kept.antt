@@ -60,13 +60,13 @@ abbrev pub tree_of : Index → List Values → Tree
 tree_of d rows = record { keys = d.keys; include = d.include; entries = entries_over d rows }
 
 -- a hash index with exactly its entries over the rows of its table
-abbrev pub table_of : Index → List Values → Table
-table_of d rows = record { key = first_key d.keys; held = in_order (held_order (first_key d.keys)) (map held_of (entries_over d rows)) }
+abbrev pub hash_table : Index → List Values → Table
+hash_table d rows = record { key = first_key d.keys; held = in_order (held_order (first_key d.keys)) (map held_of (entries_over d rows)) }
 
 -- an index of a method with its entries over rows
 abbrev pub built_by : Method → Index → List Values → Built
 built_by Btree d rows = sorted (tree_of d rows)
-built_by Hash d rows = hashed (table_of d rows)
+built_by Hash d rows = hashed (hash_table d rows)
 
 -- an index as its definition has it, with its entries over the rows of its table
 abbrev pub built_of : Index → List Values → Built

@@ -6,7 +6,7 @@ use Rattle.executor.specs.Numbers.{IsTupleOf}
 use Rattle.group_values.specs.Neighbours.{AreTogether}
 use Rattle.group_values.specs.declared.form.Form.TheVariants.{Sorted}
 use Rattle.group_explain.specs.Plans.{input_base}
-use Rattle.group_explain.specs.reply_PuttingLemmas.{on_err}
+use Rattle.pg_base.proofs.OptionLemmas.{on-err as on_err}
 use Rattle.group_explain.specs.reply_Settings.{world_of}
 use Rattle.group_reply.specs.Drawing.{drawn_reply, seen_all}
 use Rattle.group_reply.proofs.DrawnLemmas.{begun-drawing, begun-drawn, begun-none, replied-drawn}

@@ -2,7 +2,8 @@ use Rattle.std.proofs.Common.{List, ℕ, ◌++◌, ◌∙◌, subst}
 use Rattle.std.proofs.lemmas.Result.{on_ok_weaker, on_err_weaker}
 use Rattle.std.specs.Io.KnownBytes.{Appends}
 use Rattle.pg_base.specs.Writing.{AppendsPrefix}
-use Rattle.group_explain.specs.reply_PuttingLemmas.{on_err, put_prefix, line_put, line_cut, flushed, flush_stopped}
+use Rattle.group_explain.specs.reply_PuttingLemmas.{put_prefix, line_put, line_cut, flushed, flush_stopped}
+use Rattle.pg_base.proofs.OptionLemmas.{on-err as on_err}
 use Rattle.group_reply.specs.Replies.{lines_text}
 use Rattle.group_reply.proofs.lines.put_answer.Goals as goal
 

@@ -15,7 +15,7 @@ use Rattle.index_reader.specs.declared.index.ReadIndex.{ReadIndex}
 use Rattle.index_reader.specs.declared.keys.KeyRead.{KeyRead}
 use Rattle.index_reader.specs.declared.names.NamedColumn.{NamedColumn}
 use Rattle.index_reader.specs.declared.methods.MethodRead.{MethodRead}
-use Rattle.index_reader.specs.Meaning.{Reading, condition_bound, limited, name_tokens}
+use Rattle.index_reader.specs.Meaning.{Reading, condition_bound, limited_names, name_tokens}
 use Rattle.index_reader.specs.Reads.{reading}
 use Rattle.index_reader.proofs.KeyLemmas.{reads-memory}
 use Rattle.index_reader.proofs.VisibleLemmas.{sight}
@@ -107,7 +107,7 @@ returns-in_err-check_columns c = λ n o t u p x xs m tree w is.
     let whole = all-bound c.args.cat.now c.args.start n o t u p x xs m tree w c.in_ok-table.table found c.in_ok-method.method method.meant c.in_ok-keys.keys.items keys.meant c.in_ok-names.names.items names.meant (option_map cond c.in_ok-predicate.predicate) bound in
     let tokens : c.in_ok-tokens.tokens.items ≡ name_tokens c.in_ok-keys.keys.items c.in_ok-names.names.items = c.in_ok-tokens.ensures ∙ (ap (λ l. name_tokens l c.deref-2.result.now) c.deref.ensures.value ∙ ap (name_tokens c.in_ok-keys.keys.items) c.deref-2.ensures.value) in
     let listed = c.deref-3.ensures.value ∙ tokens in
-    let wrong = ap (λ ts. limited {A = Unit {0}} (drop MOST_COLUMNS ts) (Ok tt)) (sym listed) ∙ sym c.in_err-check_columns.ensures in
+    let wrong = ap (λ ts. limited_names {A = Unit {0}} (drop MOST_COLUMNS ts) (Ok tt)) (sym listed) ∙ sym c.in_err-check_columns.ensures in
     read-fault ReadIndex Reading reading _ _ c.in_err-check_columns.field-0.0 [] []
     (whole ∙ columns-wrong c.args.start n c.in_ok-table.table c.in_ok-method.method c.in_ok-keys.keys.items c.in_ok-names.names.items (option_map cond c.in_ok-predicate.predicate) c.in_err-check_columns.field-0.0 wrong)
     c.from_residual-in_err-check_columns.ensures.1
@@ -126,7 +126,7 @@ returns-in_err-check_atoms c = λ n o t u p x xs m tree w is.
     let whole = all-bound c.args.cat.now c.args.start n o t u p x xs m tree w c.in_ok-table.table found c.in_ok-method.method method.meant c.in_ok-keys.keys.items keys.meant c.in_ok-names.names.items names.meant (option_map cond c.in_ok-predicate.predicate) bound in
     let tokens : c.in_ok-tokens.tokens.items ≡ name_tokens c.in_ok-keys.keys.items c.in_ok-names.names.items = c.in_ok-tokens.ensures ∙ (ap (λ l. name_tokens l c.deref-2.result.now) c.deref.ensures.value ∙ ap (name_tokens c.in_ok-keys.keys.items) c.deref-2.ensures.value) in
     let listed = c.deref-3.ensures.value ∙ tokens in
-    let few = ap (λ ts. limited {A = Unit {0}} (drop MOST_COLUMNS ts) (Ok tt)) (sym listed) ∙ sym c.in_ok-check_columns.ensures in
+    let few = ap (λ ts. limited_names {A = Unit {0}} (drop MOST_COLUMNS ts) (Ok tt)) (sym listed) ∙ sym c.in_ok-check_columns.ensures in
     let wrong = sym c.in_err-check_atoms.ensures in
     read-fault ReadIndex Reading reading _ _ c.in_err-check_atoms.field-0.0 [] []
     (whole ∙ atoms-wrong c.args.start n c.in_ok-table.table c.in_ok-method.method c.in_ok-keys.keys.items c.in_ok-names.names.items (option_map cond c.in_ok-predicate.predicate) c.in_err-check_atoms.field-0.0 few wrong)
@@ -146,7 +146,7 @@ returns c = λ n o t u p x xs m tree w is.
     let whole = all-bound c.args.cat.now c.args.start n o t u p x xs m tree w c.in_ok-table.table found c.in_ok-method.method method.meant c.in_ok-keys.keys.items keys.meant c.in_ok-names.names.items names.meant (option_map cond c.in_ok-predicate.predicate) bound in
     let tokens : c.in_ok-tokens.tokens.items ≡ name_tokens c.in_ok-keys.keys.items c.in_ok-names.names.items = c.in_ok-tokens.ensures ∙ (ap (λ l. name_tokens l c.deref-2.result.now) c.deref.ensures.value ∙ ap (name_tokens c.in_ok-keys.keys.items) c.deref-2.ensures.value) in
     let listed = c.deref-3.ensures.value ∙ tokens in
-    let few = ap (λ ts. limited {A = Unit {0}} (drop MOST_COLUMNS ts) (Ok tt)) (sym listed) ∙ sym c.in_ok-check_columns.ensures in
+    let few = ap (λ ts. limited_names {A = Unit {0}} (drop MOST_COLUMNS ts) (Ok tt)) (sym listed) ∙ sym c.in_ok-check_columns.ensures in
     let passed = sym c.in_ok-check_atoms.ensures in
     read-ok ReadIndex Reading reading _ c.in_ok-made.field-0 [] []
     (ap (λ (r : Reading). Ok r) (c.in_ok-made.ensures n one) ∙

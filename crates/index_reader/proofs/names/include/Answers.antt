@@ -4,7 +4,7 @@ use Rattle.sql_grammar.specs.Syntax.{Include}
 use Rattle.expr_reader.specs.Reads.{Reads}
 use Rattle.expr_reader.specs.Lists.{bound_each}
 use Rattle.index_reader.specs.declared.names.NamedColumn.{NamedColumn}
-use Rattle.index_reader.specs.Keys.{name_bound, names_of}
+use Rattle.index_reader.specs.Keys.{name_bound, include_names}
 use Rattle.index_reader.proofs.IncludeLemmas.{no-include, included}
 use Rattle.index_reader.proofs.names.include.Goals as goal
 
@@ -23,5 +23,5 @@ pub returns : goal.returns
 returns c = λ tree rest ends is.
     let (token, took) = c.if-not-takes_free.ensures.took refl in
     let i = included tree rest c.takes_free.new.self token ends (sym took ∙ is) in
-    subst (λ (x : Include). Reads (λ (v : Vec NamedColumn Global). v.items) (bound_each (name_bound c.args.cat.now c.args.table) (names_of x)) rest c.names.result c.names.new.from) (sym i.is)
+    subst (λ (x : Include). Reads (λ (v : Vec NamedColumn Global). v.items) (bound_each (name_bound c.args.cat.now c.args.table) (include_names x)) rest c.names.result c.names.new.from) (sym i.is)
     (c.names.ensures i.name i.names i.close rest (c.skip.ensures ∙ i.words))

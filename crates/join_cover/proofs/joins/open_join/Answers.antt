@@ -2,7 +2,7 @@ use Rattle.std.proofs.Common.{◌≤◌, ℕ, arith}
 use Rattle.plan_check.specs.Views.{certificate}
 use Rattle.join_cover.specs.Serving.{AreJoinsOf}
 use Rattle.join_cover.proofs.CoverLemmas.{joins-served}
-use Rattle.entry_check.specs.plan_space_KeyLemmas.{below-next}
+use Rattle.pg_base.proofs.NumberLemmas.{each-below as below-next}
 use Rattle.join_cover.proofs.joins.open_join.Goals as goal
 
 pub loop-bits-preserved : goal.loop-bits-preserved

@@ -1,7 +1,7 @@
 use Rattle.std.proofs.Common.{arith}
 use Rattle.plan_check.specs.Views.{certificate}
 use Rattle.join_cover.specs.Serving.{AreJoinsOf}
-use Rattle.entry_check.specs.plan_space_KeyLemmas.{below-next}
+use Rattle.pg_base.proofs.NumberLemmas.{each-below as below-next}
 use Rattle.join_cover.proofs.joins.open_side.Goals as goal
 
 pub loop-bits-preserved : goal.loop-bits-preserved

@@ -1,7 +1,7 @@
 use Rattle.std.proofs.Common.{◌≡◌, ◌++◌, drop, map}
 use Rattle.pg_expr.specs.View.{cond}
-use Rattle.scan_probes.specs.Filters.{conditions_of}
+use Rattle.scan_probes.specs.Filters.{lent_conditions}
 use Rattle.scan_exec.proofs.bitmap.parts_of.Given as goal
 
 abbrev pub invariant-loop-part : goal.invariant-loop-part
-invariant-loop-part l = conditions_of l.parts.items ++ map cond (drop l.part-index l.listed) ≡ map cond l.listed
+invariant-loop-part l = lent_conditions l.parts.items ++ map cond (drop l.part-index l.listed) ≡ map cond l.listed

@@ -3,7 +3,7 @@ use Rattle.btree_index.specs.Tree.{in_direction}
 use Rattle.catalog.specs.Contents.{index_at}
 use Rattle.catalog.specs.Entries.{index_of}
 use Rattle.pg_expr.specs.Cond.{Cond}
-use Rattle.scan_probes.specs.Filters.{conditions_of}
+use Rattle.scan_probes.specs.Filters.{lent_conditions}
 use Rattle.sql_query.specs.Meaning.{all_true}
 use Rattle.sql_query.specs.Tuples.{beside}
 use Rattle.plan_tree.specs.Entries.{entries}
@@ -15,24 +15,24 @@ use Rattle.scan_exec.proofs.index.index_rows.Goals as goal
 pub seek-requires-clause-conditions : goal.seek-requires-clause-conditions
 seek-requires-clause-conditions g c =
     let s = c.args.at.now in
-    subst (AreUsed s.cat.now s.q.now s.rel s.param c.args.i) (sym (ap conditions_of c.deref.ensures.value ∙ c.in_ok-conditions.ensures))
+    subst (AreUsed s.cat.now s.q.now s.rel s.param c.args.i) (sym (ap lent_conditions c.deref.ensures.value ∙ c.in_ok-conditions.ensures))
     (all_used s.cat.now s.store.now s.q.now s.rel s.param s.outer.now c.args.given c.requires.scene c.args.i)
 
 pub start-requires : goal.start-requires
 start-requires g c =
     let s = c.args.at.now in
     index_begins s.cat.now s.store.now s.q.now s.rel s.param s.outer.now c.args.given c.requires.scene c.args.i c.requires.scan.index c.index-def.ensures.lawful
-    c.beside-beside.result.cat.now c.beside-beside.result.range.now c.beside-beside.result.rel (conditions_of c.in_ok-clauses.clauses.items) c.heap-heap.result.now.rows (conditions_of c.in_ok-conditions.conditions.items) (index_of c.index-def.result.now)
+    c.beside-beside.result.cat.now c.beside-beside.result.range.now c.beside-beside.result.rel (lent_conditions c.in_ok-clauses.clauses.items) c.heap-heap.result.now.rows (lent_conditions c.in_ok-conditions.conditions.items) (index_of c.index-def.result.now)
     c.beside-beside.ensures.cat c.beside-beside.ensures.range c.beside-beside.ensures.rel c.in_ok-clauses.ensures c.heap-heap.ensures.rows c.in_ok-conditions.ensures c.index-def.ensures.value
     c.args.backward c.in_ok-cursor.cursor
-    (c.in_ok-cursor.ensures ∙ ap (λ (l : List Cond). in_direction c.args.backward (filter (λ e. all_true (world_of s) s.q.now (beside s.q.now s.rel.0 e.row (tuple_of s)) (limits (index_at s.cat.now c.args.i) s.rel.0 l)) (entries (world_of s) c.args.i))) (ap conditions_of c.deref.ensures.value ∙ c.in_ok-conditions.ensures))
+    (c.in_ok-cursor.ensures ∙ ap (λ (l : List Cond). in_direction c.args.backward (filter (λ e. all_true (world_of s) s.q.now (beside s.q.now s.rel.0 e.row (tuple_of s)) (limits (index_at s.cat.now c.args.i) s.rel.0 l)) (entries (world_of s) c.args.i))) (ap lent_conditions c.deref.ensures.value ∙ c.in_ok-conditions.ensures))
 
 pub returns : goal.returns
 returns g c =
     let s = c.args.at.now in
     c.start.ensures
     ∙ index_begun s.cat.now s.store.now s.q.now s.rel s.param s.outer.now c.args.given c.requires.scene c.args.i c.requires.scan.index c.index-def.ensures.lawful
-    c.beside-beside.result.cat.now c.beside-beside.result.range.now c.beside-beside.result.rel (conditions_of c.in_ok-clauses.clauses.items) c.heap-heap.result.now.rows (conditions_of c.in_ok-conditions.conditions.items) (index_of c.index-def.result.now)
+    c.beside-beside.result.cat.now c.beside-beside.result.range.now c.beside-beside.result.rel (lent_conditions c.in_ok-clauses.clauses.items) c.heap-heap.result.now.rows (lent_conditions c.in_ok-conditions.conditions.items) (index_of c.index-def.result.now)
     c.beside-beside.ensures.cat c.beside-beside.ensures.range c.beside-beside.ensures.rel c.in_ok-clauses.ensures c.heap-heap.ensures.rows c.in_ok-conditions.ensures c.index-def.ensures.value
     c.args.backward c.in_ok-cursor.cursor
-    (c.in_ok-cursor.ensures ∙ ap (λ (l : List Cond). in_direction c.args.backward (filter (λ e. all_true (world_of s) s.q.now (beside s.q.now s.rel.0 e.row (tuple_of s)) (limits (index_at s.cat.now c.args.i) s.rel.0 l)) (entries (world_of s) c.args.i))) (ap conditions_of c.deref.ensures.value ∙ c.in_ok-conditions.ensures))
+    (c.in_ok-cursor.ensures ∙ ap (λ (l : List Cond). in_direction c.args.backward (filter (λ e. all_true (world_of s) s.q.now (beside s.q.now s.rel.0 e.row (tuple_of s)) (limits (index_at s.cat.now c.args.i) s.rel.0 l)) (entries (world_of s) c.args.i))) (ap lent_conditions c.deref.ensures.value ∙ c.in_ok-conditions.ensures))

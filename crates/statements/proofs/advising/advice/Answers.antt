@@ -5,7 +5,7 @@ use Rattle.sql_grammar.specs.Faults.{fault_at}
 use Rattle.sql_query.specs.Queries.{Query}
 use Rattle.sql_query.specs.WellBound.{IsWellBound}
 use Rattle.sql_query.specs.Worlds.{world}
-use Rattle.index_reader.specs.AdviseStatements.{asked}
+use Rattle.index_reader.specs.AdviseStatements.{advice_asked}
 use Rattle.statements.specs.Ending.{end_of_refusal}
 use Rattle.statements.proofs.AdvisingLemmas.{found-advised, none-advised, reading-refused}
 use Rattle.statements.proofs.TellingLemmas.{refused-by}
@@ -24,13 +24,13 @@ advice_for-requires-clause-bound c =
 
 pub returns-in-Some-clause-advised : goal.returns-in-Some-clause-advised
 returns-in-Some-clause-advised c = λ stored.
-    found-advised (world c.args.catalog.now stored) c.args.text.now c.args.tokens.now (asked c.in_ok-asked.asked) c.in_ok-asked.ensures.read c.in_ok-asked.ensures.sound.classes
+    found-advised (world c.args.catalog.now stored) c.args.text.now c.args.tokens.now (advice_asked c.in_ok-asked.asked) c.in_ok-asked.ensures.read c.in_ok-asked.ensures.sound.classes
     c.deref.result.now c.deref-2.result.now c.in-Some.lines.items c.deref.ensures.value c.deref-2.ensures.value
     (rw c.in-Some.is at c.in_ok-found.ensures)
 
 pub returns-clause-refused : goal.returns-clause-refused
 returns-clause-refused c = λ stored.
-    none-advised (world c.args.catalog.now stored) c.args.text.now c.args.tokens.now (asked c.in_ok-asked.asked) c.in_ok-asked.ensures.read c.in_ok-asked.ensures.sound.classes
+    none-advised (world c.args.catalog.now stored) c.args.text.now c.args.tokens.now (advice_asked c.in_ok-asked.asked) c.in_ok-asked.ensures.read c.in_ok-asked.ensures.sound.classes
     c.deref.result.now c.deref-2.result.now c.fault_at.result c.deref.ensures.value c.deref-2.ensures.value
     (c.fault_at.ensures ∙ ap (λ (t : Token). fault_at S16 t) c.token_at.ensures)
     (rw c.in-None.is at c.in_ok-found.ensures)

@@ -6,9 +6,6 @@ use Rattle.eq_classes.specs.declared.classes.ClassNo.{ClassNo}
 use Rattle.pathkeys.specs.Finding.{class_numbers}
 use Rattle.pathkeys.specs.Keys.{AreDifferent}
 
-pub number-at : (keys : List ClassNo) (i : ℕ) (d : ClassNo) → i < length keys → get_or (class_numbers keys) i 0 ≡ (get_or keys i d).0
-number-at keys i d lt = get_or-map (λ (c : ClassNo). c.0) keys i d 0 lt
-
 -- a place none before which has its number
 pub one-more : (ks : List ℕ) (n i : ℕ) → ((j : ℕ) → j < i → get_or ks j 0 ≢ get_or ks n 0) → (get_or ks i 0 ≢ get_or ks n 0) → (j : ℕ) → j < i + 1 → get_or ks j 0 ≢ get_or ks n 0
 one-more ks n i before other j lt = by (cases_lt j i) where

@@ -18,7 +18,7 @@ use Rattle.plan_tree.proofs.BoundLemmas.{lawful-rows, startup-most}
 use Rattle.plan_tree.proofs.PathLemmas.{built-below}
 use Rattle.planner.specs.scan_paths_SpaceLemmas.{given-param}
 use Rattle.planner.specs.plan_laws_WithinLemmas.{read-below}
-use Rattle.planner.specs.join_search_PlanLemmas.{reads-some}
+use Rattle.plan_tree.proofs.SetLemmas.{reads-some}
 use Rattle.planner.specs.join_search_SetLemmas.{set-below}
 use Rattle.planner.specs.plan_laws_WellBoundLemmas.{bound-over}
 use Rattle.explain_laws.proofs.ParamLemmas.{IsOfQuery, bitmap-param, index-param}

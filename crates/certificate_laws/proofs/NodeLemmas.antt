@@ -12,7 +12,8 @@ use Rattle.catalog.specs.Contents.{Contents, IsIndex}
 use Rattle.eq_classes.specs.Clauses.{Clause, Set}
 use Rattle.index_match.specs.Arms.{arms_of}
 use Rattle.certificate_text.specs.explain_Texts.{conjunct_by}
-use Rattle.explain_laws.proofs.BitLemmas.{AreTold, IsTold, IsTreeTold, picked-is, tree-told}
+use Rattle.explain_laws.proofs.BitLemmas.{AreTold, IsTold, IsTreeTold, tree-told}
+use Rattle.plan_tree.proofs.PickedLemmas.{holds-picked as picked-is}
 use Rattle.pathkeys.specs.Keys.{Keys}
 use Rattle.sql_query.specs.Queries.{Query, width}
 use Rattle.sql_query.specs.WellBound.{IsWellBound}

@@ -23,7 +23,9 @@ use Rattle.plan_tree.specs.Plans.{Plan, seq, index, index_only, bitmap, sort, ne
 use Rattle.plan_tree.specs.Space.{IsBuilt, IsPlanOf}
 use Rattle.planner.specs.scan_paths_SpaceLemmas.{given-param}
 use Rattle.planner.proofs.BaseLemmas.{scan-named}
-use Rattle.planner.proofs.EstimateLemmas.{most-clamped, most-folded, most-rows}
+use Rattle.planner.proofs.EstimateLemmas.{most-rows}
+use Rattle.plan_tree.proofs.MostLemmas.{most-folded}
+use Rattle.plan_tree.proofs.MostLemmas.{most-clamped}
 
 -- some condition of a set of numbers passes a test, so one of the numbers is in the set
 picked-some : (test : Cond → Bool) (chosen : ℕ → Bool) (ks : List Clause) (a : ℕ) → list_any test (conditions_from a chosen ks) ≡ true → (n : ℕ) × (n < length ks) × (chosen (a + n) ≡ true)

@@ -29,7 +29,7 @@ use Rattle.planner.specs.scan_paths_SpaceLemmas.{no-join, same-param}
 use Rattle.plan_laws.proofs.WithinLemmas.{read-below}
 use Rattle.planner.specs.join_search_Joins.{IsJoinOfKept, IsJoinPath, IsKept, IsSideKept, IsSingle}
 use Rattle.planner.specs.join_search_Tables.{Fronts}
-use Rattle.planner.specs.join_search_PlanLemmas.{reads-some}
+use Rattle.plan_tree.proofs.SetLemmas.{reads-some}
 use Rattle.plan_check.specs.Certificates.{relation_in}
 use Rattle.certificate_laws.specs.Made.{AreMadeInTurn, IsMadeAmong, IsSideAmong, tree_of}
 use Rattle.certificate_laws.specs.Printing.{path_order}

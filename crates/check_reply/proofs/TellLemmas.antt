@@ -22,7 +22,7 @@ use Rattle.plan_tree.proofs.PathLemmas.{built-below}
 use Rattle.scan_paths.proofs.SpaceLemmas.{given-param}
 use Rattle.plan_laws.specs.Closed.{AreKeptSides, is_scan}
 use Rattle.plan_laws.proofs.WithinLemmas.{read-below}
-use Rattle.certificate_laws.specs.join_search_PlanLemmas.{reads-some}
+use Rattle.plan_tree.proofs.SetLemmas.{reads-some}
 use Rattle.certificate_laws.specs.join_search_SetLemmas.{set-below}
 use Rattle.certificate_check.specs.plan_laws_WellBoundLemmas.{bound-over}
 use Rattle.certificate_laws.specs.explain_laws_ParamLemmas.{IsOfQuery, bitmap-param, index-param}

@@ -18,13 +18,8 @@ use Rattle.plan_tree.specs.Plans.{Plan, GivenScan, given_scan, set_of}
 use Rattle.plan_tree.specs.Space.{IsSameSet}
 use Rattle.plan_tree.proofs.BoundLemmas.{some-estimated}
 use Rattle.entry_check.proofs.TestedLemmas.{given-one}
-
-most-clamped : (n : ℕ) → clamped n ≤ MOST_ESTIMATE
-most-clamped n = omega arith
-
-most-folded : {A : Type 0} (f : ℕ → A → ℕ) → ((m : ℕ) (a : A) → f m a ≤ MOST_ESTIMATE) → (n : ℕ) (xs : List A) → n ≤ MOST_ESTIMATE → fold f n xs ≤ MOST_ESTIMATE
-most-folded f most n [] h = h
-most-folded f most n (x ∷ xs) h = most-folded f most (f n x) xs (most n x)
+use Rattle.plan_tree.proofs.MostLemmas.{most-clamped}
+use Rattle.plan_tree.proofs.MostLemmas.{most-folded}
 
 module _ (c : Contents) (q : Query) where
   most-kept : (n : ℕ) (es : List Cond) → n ≤ MOST_ESTIMATE → kept c q.range n es ≤ MOST_ESTIMATE

@@ -21,10 +21,8 @@ use Rattle.plan_tree.proofs.JoinLemmas.{join_operators_are, merge_costs, merge_o
 use Rattle.plan_tree.proofs.WindowLemmas.{merge-kept, nest-kept, sort-kept}
 use Rattle.entry_check.specs.Parts.{IsPart, IsReckoned}
 use Rattle.entry_check.specs.declared.work_parts.Part.{Part}
-use Rattle.entry_check.proofs.TestedLemmas.{given-none}
-
-pub sets-same : (a b : Set) → IsSameSet a b → a ≡ b
-sets-same a b h = λ i k. h k i
+use Rattle.plan_tree.proofs.GivenLemmas.{given-none}
+use Rattle.plan_tree.proofs.SetLemmas.{sets-same}
 
 -- the operators of the clauses found, which are those of a nested loop of plans of these sets
 pub nest-operators-are : (q : Query) (t : Table) (tested none : List ℕ) (a : RelSet) (o i : Plan) (n : ℕ) → t ≡ q.classes → IsSameSet (set_of o) (has a.0) →

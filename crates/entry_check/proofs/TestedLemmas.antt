@@ -14,25 +14,9 @@ use Rattle.eq_classes.specs.Parts.{is_join, is_join_param}
 use Rattle.plan_tree.specs.Plans.{Plan, seq, index, index_only, bitmap, sort, nest, merge, GivenScan, given_scan, is_empty, joins, joins_with, param_in, param_of, set_of}
 use Rattle.plan_tree.specs.Space.{IsEmpty, IsSameSet}
 use Rattle.plan_tree.proofs.LikeLemmas.{given-like}
-
--- a plan reads some relation
-pub reads-some : (t : Plan) → (k : ℕ) × (set_of t k ≡ true)
-reads-some (seq r) = (r.0, eq-eqb r.0 r.0 refl)
-reads-some (index r i backward p) = (r.0, eq-eqb r.0 r.0 refl)
-reads-some (index_only r i backward p) = (r.0, eq-eqb r.0 r.0 refl)
-reads-some (bitmap r p bits) = (r.0, eq-eqb r.0 r.0 refl)
-reads-some (sort keys input) = reads-some input
-reads-some (nest outer inner) = let h = reads-some outer in (h.0, ap (λ b. b || set_of inner h.0) h.1)
-reads-some (merge keys outer inner) = let h = reads-some outer in (h.0, ap (λ b. b || set_of inner h.0) h.1)
-
--- a plan that is given no rows is no scan that is
-pub given-none : (t : Plan) → IsEmpty (param_of t) → given_scan t ≡ None
-given-none t none = given-like t (nest t t) (record { set = λ k. sym (or_self (set_of t k)); param = λ k. none k })
-
--- a scan that is given rows is of one relation
-scan-one : (r : RelNo) (p : RelSet) (b : Bool) → IfSome (cond b None (Some (record { relation = r; param = p }))) (λ (s : GivenScan). IsSameSet (one r.0) (one s.relation.0))
-scan-one r p true = tt
-scan-one r p false = λ k. refl
+use Rattle.plan_tree.proofs.SetLemmas.{reads-some}
+use Rattle.plan_tree.proofs.GivenLemmas.{given-none}
+use Rattle.plan_tree.proofs.GivenLemmas.{scan-one}
 
 pub given-one : (t : Plan) → IfSome (given_scan t) (λ (s : GivenScan). IsSameSet (set_of t) (one s.relation.0))
 given-one (seq r) = tt

@@ -19,12 +19,6 @@ both-sets u a b x y e f h k = h k ∙ ap₂ (λ (m n : ℕ). has m k || has n k)
 pub list-of : (c : Contents) (q : Query) (keys : Keys) (a b x y : ℕ) → a ≡ x → b ≡ y → IsMergeList c q (has x) (has y) keys → IsMergeList c q (has a) (has b) keys
 list-of c q keys a b x y e f h = subst₂ (λ (m n : ℕ). IsMergeList c q (has m) (has n) keys) (sym e) (sym f) h
 
--- the number of a set is no greater than that of one that it is within
-pub within-most : (a b : ℕ) → ((k : ℕ) → has a k ≡ true → has b k ≡ true) → a ≤ b
-within-most a b h =
-    let same : bit_and a b ≡ a = same_set (bit_and a b) a (λ k. has-and a b k ∙ and-within (has a k) (has b k) (h k)) in
-    subst (λ n. n ≤ b) same (and_le_r a b)
-
 -- none is worked out in an array of nothing
 pub none-given : (count p n : ℕ) → slice_get (replicate count None) p ≡ Some (Some n) → ⊥
 none-given zero p n e = let lt = slice_get_within {A = Option ℕ} [] p (Some n) e in absurd (omega (arith, lt))

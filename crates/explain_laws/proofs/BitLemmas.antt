@@ -25,6 +25,7 @@ use Rattle.explain_laws.proofs.ConjunctLemmas.{HasConjunct, conjunct-same, or-co
 use Rattle.explain_laws.proofs.NameLemmas.{index-name, index-same}
 use Rattle.explain_laws.proofs.SplitLemmas.{decimal-word, split, word}
 use Rattle.pg_base.proofs.ListLemmas.{zip-long as zip_long}
+use Rattle.plan_tree.proofs.PickedLemmas.{holds-picked as picked-is}
 
 -- no line of a depth above d begins a text
 pub record IsShallow (d : ℕ) (x : List ℕ) : Type 0 where
@@ -73,12 +74,6 @@ zip-made c r [] [] h = tt
 zip-made c r [] (j ∷ js) h = absurd h
 zip-made c r (a ∷ arms) [] h = tt
 zip-made c r (a ∷ arms) (j ∷ js) h = (h.0.made, zip-made c r arms js h.1)
-
-pub picked-is : (P : Element → Type 0) (e : Element) (xs ys : List Element) → ArePicked P xs ys → In e ys → P e
-picked-is P e _ _ none_left h = absurd h
-picked-is P e _ _ (picked x xs ys is p) (inl same) = subst P same is
-picked-is P e _ _ (picked x xs ys is p) (inr h) = picked-is P e xs ys p h
-picked-is P e _ _ (passed x xs ys is p) h = picked-is P e xs ys p h
 
 number_of : Element → ℕ
 number_of (by_index i) = 0

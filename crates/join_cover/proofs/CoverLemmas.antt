@@ -33,7 +33,7 @@ use Rattle.plan_check.proofs.NestLemmas.{built-nest}
 use Rattle.entry_check.specs.Owning.{HasRight}
 use Rattle.entry_check.proofs.NestLemmas.{apart-not}
 use Rattle.entry_check.proofs.PartLemmas.{relation-below}
-use Rattle.entry_check.proofs.WorkLemmas.{within-most}
+use Rattle.plan_tree.proofs.SetLemmas.{within-most}
 use Rattle.join_cover.specs.Serving.{AreJoinsOf, AreJoinsServed, AreMergesOf, AreMergesServed, AreNestsOf, AreNestsServed, IsListServed, IsMergeOpen, IsMergeServed, IsNestServed, IsOpen, IsServed}
 use Rattle.join_cover.specs.declared.uncovered.Uncovered.{Uncovered}
 

@@ -48,7 +48,8 @@ use Rattle.join_search.specs.declared.merges.MergeWork.{MergeWork}
 use Rattle.join_search.specs.declared.splits.Split.{Split}
 use Rattle.join_search.proofs.OfferLemmas.{cheapest-of, kept-at-most, served-by, served-later}
 use Rattle.join_search.proofs.ItemLemmas.{there-kept, plan-of-none, side-of-none}
-use Rattle.join_search.proofs.PlanLemmas.{at-none, at-set, sets-same, whole-rows}
+use Rattle.join_search.proofs.PlanLemmas.{at-none, at-set, whole-rows}
+use Rattle.plan_tree.proofs.SetLemmas.{sets-same}
 use Rattle.pg_base.proofs.ListLemmas.{some-folded}
 use Rattle.plan_tree.proofs.BoundLemmas.{some-clamped}
 

@@ -38,7 +38,8 @@ use Rattle.join_search.specs.declared.table.Table.{Table}
 use Rattle.join_search.proofs.OfferLemmas.{kept-at-most, served-by, served-later}
 use Rattle.join_search.proofs.ItemLemmas.{plan-of-none}
 use Rattle.join_search.proofs.TableLemmas.{params-found}
-use Rattle.join_search.proofs.PlanLemmas.{at-none, at-param, at-set, sets-same, whole-rows}
+use Rattle.join_search.proofs.PlanLemmas.{at-none, at-param, at-set, whole-rows}
+use Rattle.plan_tree.proofs.SetLemmas.{sets-same}
 
 -- no operators cost no more
 ops-rise : (a b : Pair) (ro ri n : ℕ) → IsAtMost (nest_cost a b ro ri 0) (nest_cost a b ro ri n)

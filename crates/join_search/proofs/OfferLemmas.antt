@@ -37,7 +37,8 @@ use Rattle.join_search.specs.Joins.{IsJoinOfKept, IsJoinPath, IsPathAt}
 use Rattle.join_search.specs.Offers.{IsCheapest, TakesJoins}
 use Rattle.join_search.specs.Sufficing.{HasSufficient, IsPartOfUse, IsServed, StaySufficient, floor_in}
 use Rattle.join_search.specs.declared.useful.Asked.{Asked}
-use Rattle.join_search.proofs.PlanLemmas.{at-set, at-none, sets-same, whole-rows}
+use Rattle.join_search.proofs.PlanLemmas.{at-set, at-none, whole-rows}
+use Rattle.plan_tree.proofs.SetLemmas.{sets-same}
 
 most : (m n : ℕ) → nat_le m n ≡ true → m ≤ n
 most m n e = grind (arith, common_steps)

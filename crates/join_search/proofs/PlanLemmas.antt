@@ -22,27 +22,13 @@ use Rattle.join_search.specs.Offers.{AreJoinsServed}
 use Rattle.join_search.specs.Splits.{IsDivided}
 use Rattle.join_search.specs.declared.useful.Asked.{Asked}
 use Rattle.join_search.proofs.TableLemmas.{same-number}
-
-pub sets-same : (a b : Set) → IsSameSet a b → a ≡ b
-sets-same a b h = λ i k. h k i
-
--- a plan reads some relation
-pub reads-some : (t : Plan) → (k : ℕ) × (set_of t k ≡ true)
-reads-some (seq r) = (r.0, eq-eqb r.0 r.0 refl)
-reads-some (index r i backward p) = (r.0, eq-eqb r.0 r.0 refl)
-reads-some (index_only r i backward p) = (r.0, eq-eqb r.0 r.0 refl)
-reads-some (bitmap r p bits) = (r.0, eq-eqb r.0 r.0 refl)
-reads-some (sort keys input) = reads-some input
-reads-some (nest outer inner) = let h = reads-some outer in (h.0, ap (λ b. b || set_of inner h.0) h.1)
-reads-some (merge keys outer inner) = let h = reads-some outer in (h.0, ap (λ b. b || set_of inner h.0) h.1)
+use Rattle.plan_tree.proofs.SetLemmas.{reads-some}
+use Rattle.plan_tree.proofs.SetLemmas.{sets-same}
+use Rattle.plan_tree.proofs.GivenLemmas.{given-none}
 
 or-self : (b : Bool) → b ≡ b || b
 or-self true = refl
 or-self false = refl
-
--- a plan that is given no rows is no scan that is
-pub given-none : (t : Plan) → IsEmpty (param_of t) → given_scan t ≡ None
-given-none t none = given-like t (nest t t) (record { set = λ k. or-self (set_of t k); param = λ k. none k })
 
 module _ (c : Contents) (q : Query) where
   -- the rows of such a plan are those of its set

@@ -20,12 +20,10 @@ use Rattle.plan_tree.proofs.PathLemmas.{built-below}
 use Rattle.plan_laws.proofs.WithinLemmas.{read-below}
 use Rattle.join_search.specs.Nests.{AreTested, IsInner}
 use Rattle.join_search.specs.declared.splits.Split.{Split}
-use Rattle.join_search.proofs.PlanLemmas.{at-param, at-set, given-none, sets-same}
-
--- a scan that is given rows is of one relation
-scan-one : (r : RelNo) (p : RelSet) (b : Bool) → IfSome (cond b None (Some (record { relation = r; param = p }))) (λ (s : GivenScan). IsSameSet (one r.0) (one s.relation.0))
-scan-one r p true = tt
-scan-one r p false = λ k. refl
+use Rattle.join_search.proofs.PlanLemmas.{at-param, at-set}
+use Rattle.plan_tree.proofs.GivenLemmas.{given-none}
+use Rattle.plan_tree.proofs.SetLemmas.{sets-same}
+use Rattle.plan_tree.proofs.GivenLemmas.{scan-one}
 
 given-one : (t : Plan) → IfSome (given_scan t) (λ (s : GivenScan). IsSameSet (set_of t) (one s.relation.0))
 given-one (seq r) = tt

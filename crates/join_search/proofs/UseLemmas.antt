@@ -20,7 +20,8 @@ use Rattle.plan_tree.specs.Space.{IsSameSet}
 use Rattle.plan_laws.specs.Useful.{are_open, is_open, outside}
 use Rattle.join_search.specs.Sufficing.{IsPartOfUse}
 use Rattle.join_search.specs.declared.useful.Asked.{Asked}
-use Rattle.join_search.proofs.PlanLemmas.{sets-same}
+use Rattle.plan_tree.proofs.SetLemmas.{sets-same}
+use Rattle.plan_tree.proofs.PlaceLemmas.{number-at}
 
 -- a class that is not open ends each list of open classes with which a list begins
 pub open-part : (q : Query) (s : Set) (keys ks : Keys) (n : ℕ) → n < length keys → is_open q s (get_or keys n 0) ≡ false → are_open q s ks ≡ true → covers keys ks ≡ true → covers (take n keys) ks ≡ true
@@ -93,12 +94,6 @@ numbers-take n items keys e = first n items ∙ ap (take n) e
 
 pub first-different : (n : ℕ) (items : List ClassNo) (keys : Keys) → class_numbers items ≡ keys → AreDifferent keys → AreDifferent (class_numbers (take n items))
 first-different n items keys e h = subst AreDifferent (sym (numbers-take n items keys e)) (pairs-take n keys h)
-
--- the class of an item
-number-at : (xs : List ClassNo) (n : ℕ) (d : ClassNo) → n < length xs → get_or (class_numbers xs) n 0 ≡ (get_or xs n d).0
-number-at [] n d lt = absurd (omega (arith, lt))
-number-at (y ∷ xs) zero d lt = refl
-number-at (y ∷ xs) (suc n) d lt = number-at xs n d (omega (arith, lt))
 
 pub item-class : (P : ℕ → Type 0) (xs : List ClassNo) (n : ℕ) (d : ClassNo) → n < length xs → All P (class_numbers xs) → P (get_or xs n d).0
 item-class P xs n d lt h = subst P (number-at xs n d lt) (h n 0 (omega (arith, lt, length-map xs (λ (k : ClassNo). k.0))))

@@ -107,11 +107,6 @@ any-number n (c ∷ cs) = ap (λ b. nat_eq n c.0 || b) (any-number n cs)
 taken-number : (n at : ℕ) (cs : List ClassNo) → list_any (λ (c : ClassNo). nat_eq n c.0) (take at cs) ≡ list_any (nat_eq n) (take at (class_numbers cs))
 taken-number n at cs = any-number n (take at cs) ∙ ap (list_any (nat_eq n)) (sym (take-map (λ (c : ClassNo). c.0) at cs))
 
-pub number-within : (cs : List ClassNo) (k : ℕ) (d : ClassNo) → k < length cs → get_or (class_numbers cs) k 0 ≡ (get_or cs k d).0
-number-within [] k d lt = absurd (omega (arith, lt))
-number-within (c ∷ cs) zero d lt = refl
-number-within (c ∷ cs) (suc k) d lt = number-within cs k d (omega (arith, lt))
-
 -- whether a class is among those before a place
 pub taken-found : (n at : ℕ) (cs : List ClassNo) (found is : Bool) → found ≡ list_any (λ (c : ClassNo). nat_eq n c.0) (take at cs) → found ≡ is → list_any (nat_eq n) (take at (class_numbers cs)) ≡ is
 taken-found n at cs found is e f = sym (taken-number n at cs) ∙ sym e ∙ f

@@ -16,3 +16,8 @@ pub mod PathLemmas
 pub mod PricingLemmas
 pub mod CostableLemmas
 pub mod WindowLemmas
+pub mod PlaceLemmas
+pub mod SetLemmas
+pub mod GivenLemmas
+pub mod PickedLemmas
+pub mod MostLemmas

@@ -30,7 +30,8 @@ use Rattle.plan_tree.proofs.PathLemmas.{built-below}
 use Rattle.plan_laws.proofs.WithinLemmas.{built-within}
 use Rattle.join_search.specs.Joins.{IsPathAt}
 use Rattle.join_search.specs.Tables.{Fronts}
-use Rattle.certificate_laws.specs.planner_BaseLemmas.{scan-most, within-most}
+use Rattle.certificate_laws.specs.planner_BaseLemmas.{scan-most}
+use Rattle.plan_tree.proofs.SetLemmas.{within-most}
 use Rattle.plan_check.specs.Certificates.{Certificate, Entry, finish_at}
 use Rattle.plan_check.specs.Limit.{MOST_ENTRIES}
 use Rattle.plan_check.specs.Tables.{IsPlanTable}

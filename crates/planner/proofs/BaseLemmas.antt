@@ -31,14 +31,10 @@ use Rattle.plan_tree.specs.Fronts.{AreDominated, AreOldOrOffers, HasDominating, 
 use Rattle.plan_tree.proofs.ConditionLemmas.{conditions-listed}
 use Rattle.scan_paths.proofs.SpaceLemmas.{no-join, same-param, same-relation}
 use Rattle.planner.specs.Bases.{AreAllOf, is_plan}
-use Rattle.planner.proofs.GivenLemmas.{below, named-given, used-local}
+use Rattle.planner.proofs.GivenLemmas.{named-given, used-local}
+use Rattle.plan_tree.proofs.GivenLemmas.{clauses-below as below}
 use Rattle.pg_base.proofs.BoolLemmas.{and-within}
-
--- the number of a set is no greater than that of one that it is within
-pub within-most : (a b : ℕ) → ((k : ℕ) → has a k ≡ true → has b k ≡ true) → a ≤ b
-within-most a b h =
-    let same : bit_and a b ≡ a = same_set (bit_and a b) a (λ k. has-and a b k ∙ and-within (has a k) (has b k) (h k)) in
-    subst (λ n. n ≤ b) same (and_le_r a b)
+use Rattle.plan_tree.proofs.SetLemmas.{within-most}
 
 module _ (c : Contents) (q : Query) (r : RelNo) (p : RelSet) where
   module _ (given : ℕ → Bool) (are : (n : ℕ) → given n ≡ nat_lt n (length q.classes.clauses) && is_param r.0 (has p.0) (clause_at q.classes.clauses n)) where

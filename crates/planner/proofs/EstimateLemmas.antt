@@ -22,13 +22,8 @@ use Rattle.plan_tree.proofs.BoundLemmas.{some-rows, startup-most}
 use Rattle.plan_tree.proofs.LikeLemmas.{given-like}
 use Rattle.plan_tree.proofs.WindowLemmas.{sort-kept, uncut-kept}
 use Rattle.planner.specs.Finishing.{IsWhole, finished}
-
-pub most-clamped : (n : ℕ) → clamped n ≤ MOST_ESTIMATE
-most-clamped n = omega arith
-
-pub most-folded : {A : Type 0} (f : ℕ → A → ℕ) → ((m : ℕ) (a : A) → f m a ≤ MOST_ESTIMATE) → (n : ℕ) (xs : List A) → n ≤ MOST_ESTIMATE → fold f n xs ≤ MOST_ESTIMATE
-most-folded f most n [] h = h
-most-folded f most n (x ∷ xs) h = most-folded f most (f n x) xs (most n x)
+use Rattle.plan_tree.proofs.MostLemmas.{most-clamped}
+use Rattle.plan_tree.proofs.MostLemmas.{most-folded}
 
 module _ (c : Contents) (q : Query) where
   pub most-rows : (set : Set) → set_rows c q.range q.classes set ≤ MOST_ESTIMATE

@@ -66,22 +66,6 @@ more-pass f chosen other n (x ∷ ks) given h =
     by later true e true g false k h = absurd (true≢false (sym (here e g) ∙ k))
     by later true e false g d k h = onto d (later (sym (ap (λ b. b || list_any f (conditions_from (n + 1) chosen ks)) g) ∙ h))
 
--- the conditions of clauses over some relations name no others
-pub below : (c : Contents) (q : Query) (k : ℕ) (chosen : ℕ → Bool) (n : ℕ) (ks : List Clause) → All (λ (x : Clause). IsOver c q.range x.cond) ks → list_any (names_rel k) (conditions_from n chosen ks) ≡ true → k < width q
-below c q k chosen n [] over h = absurd (true≢false (sym h))
-below c q k chosen n (x ∷ ks) over h = by (below c q k chosen (n + 1) ks (All-tail (λ (y : Clause). IsOver c q.range y.cond) x ks over)) (chosen n) h
-  where
-    here : names_rel k x.cond ≡ true → k < width q
-    here g =
-        let first = All-head (λ (y : Clause). IsOver c q.range y.cond) x ks over in
-        let found = column_both (is_column_in c q.range) (λ y. nat_eq k y.rel.0) x.cond first.columns g in
-        let lt : (found.0).rel.0 < width q = ltb-true (found.0).rel.0 (width q) (and_parts (nat_lt (found.0).rel.0 (width q)) _ found.1).0 in
-        subst (λ m. m < width q) (sym (eqb-true k (found.0).rel.0 found.2)) lt
-
-    by : (list_any (names_rel k) (conditions_from (n + 1) chosen ks) ≡ true → k < width q) → (b : Bool) → list_any (names_rel k) (cond b (x.cond ∷ conditions_from (n + 1) chosen ks) (conditions_from (n + 1) chosen ks)) ≡ true → k < width q
-    by later true g = ⊎_elim here later (or_cases (names_rel k x.cond) (list_any (names_rel k) (conditions_from (n + 1) chosen ks)) g)
-    by later false g = later g
-
 numbers-are : (P : ℕ → Type 0) (xs : List Numbered) → ((n : ℕ) → has_number xs n ≡ true → P n) → AllByRecursion (λ (x : Numbered). P x.number) xs
 numbers-are P [] given = tt
 numbers-are P (x ∷ xs) given = (

@@ -21,7 +21,8 @@ use Rattle.plan_tree.specs.Plans.{given_scan, nest, set_of}
 use Rattle.plan_tree.proofs.BoundLemmas.{some-rows, startup-most}
 use Rattle.plan_tree.proofs.LikeLemmas.{given-like}
 use Rattle.plan_tree.proofs.WindowLemmas.{uncut-kept}
-use Rattle.planner.proofs.EstimateLemmas.{most-clamped, most-folded}
+use Rattle.plan_tree.proofs.MostLemmas.{most-folded}
+use Rattle.plan_tree.proofs.MostLemmas.{most-clamped}
 
 module _ (c : Contents) (q : Query) (p : Path) (h : IsFinishedPath c q p) where
   most-rows : (set : Set) → set_rows c q.range q.classes set ≤ MOST_ESTIMATE

@@ -23,23 +23,8 @@ use Rattle.plan_tree.specs.Plans.{BitTree}
 use Rattle.plan_tree.specs.Reads.{IsOverTables}
 use Rattle.plan_tree.specs.Space.{IsBitmapScan, IsIndexScan, IsSameSet, others_named}
 use Rattle.plan_tree.proofs.ConditionLemmas.{conditions-listed}
-use Rattle.join_cover.specs.entry_check_WorkLemmas.{within-most}
-
--- the conditions of clauses over some relations name no others
-below : (c : Contents) (q : Query) (k : ℕ) (chosen : ℕ → Bool) (n : ℕ) (ks : List Clause) → All (λ (x : Clause). IsOver c q.range x.cond) ks → list_any (names_rel k) (conditions_from n chosen ks) ≡ true → k < width q
-below c q k chosen n [] over h = absurd (true≢false (sym h))
-below c q k chosen n (x ∷ ks) over h = by (below c q k chosen (n + 1) ks (All-tail (λ (y : Clause). IsOver c q.range y.cond) x ks over)) (chosen n) h
-  where
-    here : names_rel k x.cond ≡ true → k < width q
-    here g =
-        let first = All-head (λ (y : Clause). IsOver c q.range y.cond) x ks over in
-        let found = column_both (is_column_in c q.range) (λ y. nat_eq k y.rel.0) x.cond first.columns g in
-        let lt : (found.0).rel.0 < width q = ltb-true (found.0).rel.0 (width q) (and_parts (nat_lt (found.0).rel.0 (width q)) _ found.1).0 in
-        subst (λ m. m < width q) (sym (eqb-true k (found.0).rel.0 found.2)) lt
-
-    by : (list_any (names_rel k) (conditions_from (n + 1) chosen ks) ≡ true → k < width q) → (b : Bool) → list_any (names_rel k) (cond b (x.cond ∷ conditions_from (n + 1) chosen ks) (conditions_from (n + 1) chosen ks)) ≡ true → k < width q
-    by later true g = ⊎_elim here later (or_cases (names_rel k x.cond) (list_any (names_rel k) (conditions_from (n + 1) chosen ks)) g)
-    by later false g = later g
+use Rattle.plan_tree.proofs.SetLemmas.{within-most}
+use Rattle.plan_tree.proofs.GivenLemmas.{clauses-below as below}
 
 module _ (c : Contents) (q : Query) (over : IsOverTables c q) (all : RelSet) (is_all : IsSameSet (has all.0) (all_of_query q)) where
   named-below : (r : ℕ) (chosen : ℕ → Bool) (k : ℕ) → others_named r (conditions_from 0 chosen q.classes.clauses) k ≡ true → k < width q

@@ -9,14 +9,7 @@ use Rattle.index_match.specs.Slots.{is_local}
 use Rattle.index_match.proofs.PartLemmas.{clauses_by_number}
 use Rattle.path_cost.specs.Estimates.{conditions_from}
 use Rattle.path_cost.proofs.KeptLemmas.{where-from}
-
-pub chosen_are : (t u : Table) → u ≡ t → (test : Clause → Bool) (chosen : ℕ → Bool) → ((k : ℕ) → chosen k ≡ nat_lt k (length u.clauses) && test (clause_at u.clauses k))
-    → conditions_from 0 chosen u.clauses ≡ conditions_of (those t test)
-chosen_are t u same test chosen is =
-    where-from test chosen u.clauses 0 (λ k lt.
-    let z : 0 + k ≡ k = omega arith in
-    ap chosen z ∙ is k ∙ ap (λ (b : Bool). b && test (clause_at u.clauses k)) (lt-ltb k (length u.clauses) lt))
-    ∙ sym (clauses_by_number test 0 u.clauses) ∙ ap (λ (x : Table). conditions_of (those x test)) same
+use Rattle.scan_probes.proofs.PickedLemmas.{chosen-are as chosen_are}
 
 pub both_are : (t u : Table) → u ≡ t → (r : ℕ) (p : Set) (end : ℕ) → end ≡ length u.clauses → (own with both : ℕ → Bool)
     → ((k : ℕ) → own k ≡ nat_lt k (length u.clauses) && is_base r (clause_at u.clauses k))

@@ -43,6 +43,7 @@ use Rattle.scan_exec.specs.Held.{AreHeldTrees, HasTree, IsHeldTree}
 use Rattle.scan_exec.specs.Scene.{IsNear, IsScene, IsUsed}
 use Rattle.scan_exec.proofs.LimitLemmas.{places_number}
 use Rattle.scan_exec.proofs.NearLemmas.{clauses_near}
+use Rattle.plan_tree.proofs.PickedLemmas.{holds-picked as holds_picked}
 
 -- a condition's parts are over what it is over
 module _ (c : Contents) (q : Query) (r : ℕ) (p : Set) where
@@ -97,13 +98,6 @@ pub takes_own : (m : Method) (cs : List Numbered) (n : ℕ) → n ≡ length (co
 takes_own Btree cs n is some = lt-ltb 0 n some
 takes_own Hash [] n is some = absurd (let z : n ≡ 0 = is in omega (arith, z, some))
 takes_own Hash (x ∷ cs) n is some = eq-eqb n 1 is
-
--- what is known of the elements that are picked
-holds_picked : (P : Element → Type 0) (e : Element) (xs ys : List Element) → ArePicked P xs ys → In e ys → P e
-holds_picked P e _ _ none_left h = absurd h
-holds_picked P e _ _ (picked x xs ys is rest) (inl same) = subst P same is
-holds_picked P e _ _ (picked x xs ys is rest) (inr h) = holds_picked P e xs ys rest h
-holds_picked P e _ _ (passed x xs ys is rest) h = holds_picked P e xs ys rest h
 
 in_numbers : (n : ℕ) (cs : List Numbered) → In (by_clause n) (map (λ (k : Numbered). by_clause k.number) cs) → (x : Numbered) × IsIn x cs × (x.number ≡ n)
 in_numbers n [] h = absurd h

@@ -22,6 +22,7 @@ use Rattle.plan_tree.specs.Paths.{Path}
 use Rattle.plan_tree.specs.Fronts.{AreDominated, IsServed, is_no_bitmap}
 use Rattle.scan_paths.specs.Scans.{IsIndexServed, tree_by}
 use Rattle.scan_paths.proofs.IndexLemmas.{index-listed}
+use Rattle.plan_tree.proofs.SetLemmas.{reads-some}
 
 -- the parameterisation of a scan is the set that it has
 pub given-param : (r : RelNo) (p : RelSet) (k : ℕ) → param_in (scan_given r p) k ≡ has p.0 k
@@ -67,16 +68,6 @@ module _ (c : Contents) (q : Query) (r : RelNo) (i : IndexNo) (backward : Bool) 
   pub no-bitmap : (only : Bool) → is_no_bitmap (tree_by only r i backward p) ≡ true
   no-bitmap false = refl
   no-bitmap true = refl
-
--- a plan reads some relation
-reads-some : (t : Plan) → (k : ℕ) × (set_of t k ≡ true)
-reads-some (seq r) = (r.0, eq-eqb r.0 r.0 refl)
-reads-some (index r i backward p) = (r.0, eq-eqb r.0 r.0 refl)
-reads-some (index_only r i backward p) = (r.0, eq-eqb r.0 r.0 refl)
-reads-some (bitmap r p bits) = (r.0, eq-eqb r.0 r.0 refl)
-reads-some (sort keys input) = reads-some input
-reads-some (nest outer inner) = let h = reads-some outer in (h.0, ap (λ b. b || set_of inner h.0) h.1)
-reads-some (merge keys outer inner) = let h = reads-some outer in (h.0, ap (λ b. b || set_of inner h.0) h.1)
 
 -- so a join reads more than one relation
 pub no-join : (outer inner : Plan) (r : ℕ) → AreSides outer inner → IsSameSet (λ k. set_of outer k || set_of inner k) (one r) → ⊥

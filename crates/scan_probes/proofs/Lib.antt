@@ -6,3 +6,4 @@ pub mod BoundsLemmas
 pub mod LawLemmas
 pub mod WorldLemmas
 pub mod ChosenLemmas
+pub mod PickedLemmas

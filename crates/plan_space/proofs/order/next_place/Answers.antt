@@ -1,6 +1,7 @@
 use Rattle.std.proofs.Common.{◌∙◌, sym, true, false}
 use Rattle.pathkeys.specs.Finding.{class_numbers}
-use Rattle.plan_space.proofs.OrderLemmas.{differs-on, ends-numbers, number-within, passes-on, stands-on, taken-found, within-numbers}
+use Rattle.plan_space.proofs.OrderLemmas.{differs-on, ends-numbers, passes-on, stands-on, taken-found, within-numbers}
+use Rattle.plan_tree.proofs.PlaceLemmas.{number-at as number-within}
 use Rattle.plan_space.proofs.order.next_place.Goals as goal
 use Rattle.plan_space.proofs.order.next_place.Goals.{else-at-list-via-then-at-list+else-list-at, else-at-list-via-else-at-list}
 

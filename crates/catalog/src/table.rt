@@ -1,9 +1,10 @@
 //! What is kept of a table beside its name.
 
-ghost use Rattle.std.specs.Prelude.{◌≡◌, ℕ, [], IfOk, Vec, map};
+ghost use Rattle.std.specs.Prelude.{◌≡◌, ◌<◌, ◌≤◌, ℕ, [], IfOk, OnOk, Vec, length, map};
 ghost use Rattle.std.specs.Option.{option_map};
 ghost use Rattle.std.specs.declared.alloc.Global.{Global};
 ghost use Rattle.pg_base.specs.Names.{AreDistinct};
+ghost use Rattle.pg_value.specs.declared.columns.TheConstants.{MOST_COLUMNS};
 ghost use Rattle.catalog.specs.Contents.{new_table, unknown as all_unknown};
 ghost use Rattle.catalog.specs.Entries.{statistics, table_def};
 
@@ -52,6 +53,7 @@ impl Table {
         requires { AreDistinct names.now }
         ensures table { IfOk result (λ t. (name : Vec ℕ Global) → table_def (name, t) ≡ new_table name.items names.now columns) }
         ensures listed { IfOk result (λ t. t.indexes.items ≡ []) }
+        ensures width { OnOk result ((0 < length columns) × (length columns ≤ MOST_COLUMNS)) }
     {
         Ok(Table {
             names: Names::copy_of(alloc, names)?,
@@ -66,7 +68,9 @@ impl Table {
 
 /// Nothing known of each of these columns.
 fn unknown(alloc: Global, columns: &Columns) -> Result<Vec<Option<ColumnStats>>, Memory>
-    ensures { IfOk result (λ stats. map (option_map statistics) stats.items ≡ all_unknown columns.now) }
+    ensures stats { IfOk result (λ stats. map (option_map statistics) stats.items ≡ all_unknown columns.now) }
+    ensures some { 0 < length columns.now }
+    ensures few { length columns.now ≤ MOST_COLUMNS }
 {
     let mut stats = Vec::new(alloc);
     for _ in columns.items() {

@@ -10,7 +10,6 @@ mod cost_laws;
 mod costs;
 mod finish;
 mod form;
-mod groups;
 mod hash;
 mod kept;
 mod listing;
@@ -19,13 +18,13 @@ mod orders;
 mod shape;
 mod task;
 mod tuple_laws;
+mod tuples;
 mod value_laws;
 
 pub use choice::choose;
 pub use cost_laws::group_costs_rise;
 pub use costs::{group_cost, group_total, groups};
 pub use form::Form;
-pub use groups::Groups;
 pub use kept::Kept;
 pub use lists::{Lines, Values};
 pub use orders::{compare, same_keys};
@@ -34,4 +33,5 @@ pub use task::{GroupPlan, GroupTask};
 pub use tuple_laws::{
     neighbours_are_of_the_last_group, sorted_tuples_are_neighbours, sorted_tuples_give_sorted_lines,
 };
+pub use tuples::Groups;
 pub use value_laws::{a_tuple_begins_a_group, a_tuple_joins_its_group, no_tuple_is_seen};

@@ -17,9 +17,8 @@ invariant_of-self-2 c =
     let a = subst (λ (l : Contents). IsAcceptable l c.args.name c.args.names.items) (sym c.self.view_is) both in
     let free = subst (IsUnused (contents_of es is)) (sym named) a.free in
     let def = c.in_ok-table.ensures.table c.in_ok-key.key ∙ ap (λ n. new_table n c.deref-2.result.now c.args.columns) named ∙ ap (λ l. new_table c.args.name l c.args.columns) c.deref-2.ensures.value in
-    let wide = ap length c.columns.view_is in
-    let some : 0 < length c.args.columns = omega (arith, wide, c.columns.invariant.0, c.columns.inside.columns.ok) in
-    let few : length c.args.columns ≤ MOST_COLUMNS = omega (arith, wide, c.columns.invariant.1, c.columns.inside.columns.ok) in
+    let some : 0 < length c.args.columns = c.in_ok-table.ensures.width.0 in
+    let few : length c.args.columns ≤ MOST_COLUMNS = omega (arith, c.in_ok-table.ensures.width.1) in
     let lawful = new-lawful c.args.name c.args.names.items c.args.columns c.requires.name c.requires.names a.distinct c.requires.width some few in
     table-kept es c.put.new.map.entries is c.in_ok-key.key c.in_ok-table.table c.in_ok-put.ensures.entries free (subst IsLawfulTable (sym def) lawful) a.room c.in_ok-table.ensures.listed c.self.invariant
 

@@ -7,7 +7,7 @@ use Rattle.group_values.specs.Grouping.{Grouping}
 use Rattle.group_values.specs.Listing.{IsListing}
 use Rattle.group_values.specs.Places.{HasNoGroup, IsGroupOf}
 use Rattle.group_values.proofs.PushLemmas.{begun-pushed, begun-whole, joined-pushed}
-use Rattle.group_values.proofs.groups.Groups.push.Goals as goal
+use Rattle.group_values.proofs.tuples.Groups.push.Goals as goal
 
 pub join-requires-clause-listing : goal.join-requires-clause-listing
 join-requires-clause-listing c =

@@ -1,9 +1,10 @@
 //! The lines of a block.
 
-ghost use Rattle.std.specs.Prelude.{◌≡◌, ◌<◌, ◌≤◌, ◌+◌, ◌++◌, ◌∷◌, ℕ, List, IfNone, IfSome, None, Some, length, option_map, replicate, take, true};
+ghost use Rattle.std.specs.Prelude.{◌≡◌, ◌<◌, ◌≤◌, ◌+◌, ◌++◌, ◌∷◌, ℕ, List, IfNone, IfSome, None, Some, length, option_map, true};
 ghost use Rattle.certificate_text.specs.explain_Texts.{lead};
 ghost use Rattle.plan_lines.specs.Parts.{IsShallow, lacks};
 
+use crate::leads::behind_lead;
 use std::marker::Model;
 
 /// Where a byte stands first in a text; the text's length where it stands nowhere.
@@ -30,29 +31,6 @@ pub fn cut(text: &[u8], b: u8) -> Option<(&[u8], &[u8])>
     } else {
         None
     }
-}
-
-/// Whether a text begins with so many spaces.
-fn has_spaces(text: &[u8], count: usize) -> bool
-    ensures yes { result ≡ true → (count ≤ length text.now) × (take count text.now ≡ replicate count 32) }
-    ensures no { (x : List ℕ) → text.now ≡ replicate count 32 ++ x → result ≡ true }
-{
-    text.len() >= count && text[..count].iter().all(|b| *b == b' ')
-}
-
-/// What stands behind the lead of a line at a depth. None where it has no such lead.
-fn behind_lead(text: &[u8], depth: u8) -> Option<&[u8]>
-    ensures some { (x : List ℕ) → text.now ≡ lead depth ++ x → option_map (λ l. l.now) result ≡ Some x }
-    ensures is { IfSome result (λ l. text.now ≡ lead depth ++ l.now) }
-{
-    if depth == 0 {
-        return Some(text);
-    }
-    let spaces = 6 * depth as usize - 4;
-    if !has_spaces(text, spaces) {
-        return None;
-    }
-    text[spaces..].strip_prefix(b"->  ")
 }
 
 /// The lines of a block that are left. Contracts see their bytes.

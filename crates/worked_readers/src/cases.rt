@@ -29,7 +29,7 @@ pub(crate) enum Reader {
 #[derive(Clone, Copy)]
 pub(crate) enum Cases<'a> {
     Wrong(Reader, &'a [Wrong<'a>]),
-    Definitions(&'a [store::Right<'a>]),
+    Definitions(&'a [definitions::Right<'a>]),
     Indexes(&'a [indexes::Right<'a>]),
     Selects(&'a [selects::Right<'a>]),
     Orders(&'a [selects::Ordered<'a>]),
@@ -63,7 +63,7 @@ fn refusal(alloc: Global, catalog: &Catalog, reader: Reader, text: &[u8]) -> Opt
     requires { length text.now ≤ 2 ^ 31 }
 {
     match reader {
-        Reader::Definition => store::read(alloc, catalog, text).err(),
+        Reader::Definition => definitions::read(alloc, catalog, text).err(),
         Reader::Index => indexes::read(alloc, catalog, text).err(),
         Reader::Select => selects::reading(alloc, catalog, text).err(),
         Reader::SelectPart => parts::select(alloc, catalog, text).err(),
@@ -111,7 +111,7 @@ pub(crate) fn is_refused(
 fn first_over(alloc: Global, catalog: &Catalog, cases: Cases) -> Option<usize> {
     match cases {
         Cases::Wrong(reader, rows) => first_wrong(alloc, catalog, reader, rows),
-        Cases::Definitions(rows) => store::first_other(alloc, catalog, rows),
+        Cases::Definitions(rows) => definitions::first_other(alloc, catalog, rows),
         Cases::Indexes(rows) => indexes::first_other(alloc, catalog, rows),
         Cases::Selects(rows) => selects::first_other(alloc, catalog, rows),
         Cases::Orders(rows) => selects::first_order(alloc, catalog, rows),

@@ -5,9 +5,9 @@ use std::alloc::Global;
 
 /// What a text spells, with a truth value as 0 or 1 and a text as its length.
 fn spelled(alloc: Global, t: SqlType, text: &[u8]) -> Result<i64, FieldFault> {
-    match read_value(alloc, t, text)? {
-        Value::Int(n) => Ok(n),
-        Value::Bool(b) => Ok(i64::from(b)),
+    match &read_value(alloc, t, text)? {
+        Value::Int(n) => Ok(*n),
+        Value::Bool(b) => Ok(i64::from(*b)),
         Value::Text(bytes) => Ok(bytes.items().len() as i64),
         Value::Null => Err(FieldFault::Memory),
     }

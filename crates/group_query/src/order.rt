@@ -13,7 +13,7 @@ use std::alloc::Global;
 
 /// A column as an item with the direction and the place for NULL of its class: ascending with NULLs last where it has none.
 fn directed(classes: &Classes, x: ColRef) -> OrderItem
-    ensures { result ≡ grouping.directed classes.now x (keys.order_class classes.now x) }
+    ensures { result ≡ grouping.directed_item classes.now x (keys.order_class classes.now x) }
 {
     let (descending, nulls_first) = match order_class(classes, x) {
         Some(class) => classes.direction(class),

@@ -110,16 +110,16 @@ one_at_most Btree e cs = cc
 one_at_most Hash e [] = omega arith
 one_at_most Hash e (x ∷ cs) = omega arith
 
-pub only_of : (es : List Cond) (vs : List (Bor Expr)) (x : Bor Expr) → refs.conditions_of vs ≡ es → x ≡ get_or vs 0 x → 0 < length es → length es ≤ 1 → es ≡ view.cond x.now ∷ []
+pub only_of : (es : List Cond) (vs : List (Bor Expr)) (x : Bor Expr) → refs.lent_conditions vs ≡ es → x ≡ get_or vs 0 x → 0 < length es → length es ≤ 1 → es ≡ view.cond x.now ∷ []
 only_of es [] x are first some few = let e : 0 ≡ length es = ap length are in absurd (omega (arith, e, some))
 only_of es (v ∷ []) x are first some few = sym are ∙ ap (λ (y : Bor Expr). view.cond y.now ∷ []) (sym first)
 only_of es (v ∷ u ∷ vs) x are first some few =
-    let e : length (refs.conditions_of (v ∷ u ∷ vs)) ≡ length es = ap length are in
-    let long : length (refs.conditions_of (v ∷ u ∷ vs)) ≡ length (refs.conditions_of vs) + 2 = omega arith in
+    let e : length (refs.lent_conditions (v ∷ u ∷ vs)) ≡ length es = ap length are in
+    let long : length (refs.lent_conditions (v ∷ u ∷ vs)) ≡ length (refs.lent_conditions vs) + 2 = omega arith in
     absurd (omega (arith, e, few, long))
 
 pub hash_condition : (w : World) (q : Query) (r : RelNo) (i : IndexNo) (p : RelSet) → (index_at w.contents i).method ≡ Hash → nat_lt 0 (length (index_conditions w.contents q.classes i r.0 (has p.0))) ≡ true
-    → (vs : List (Bor Expr)) (x : Bor Expr) → refs.conditions_of vs ≡ conditions w q r i p → x ≡ get_or vs 0 x → conditions w q r i p ≡ view.cond x.now ∷ []
+    → (vs : List (Bor Expr)) (x : Bor Expr) → refs.lent_conditions vs ≡ conditions w q r i p → x ≡ get_or vs 0 x → conditions w q r i p ≡ view.cond x.now ∷ []
 hash_condition w q r i p hash some vs x are first =
     let long = length-map (index_conditions w.contents q.classes i r.0 (has p.0)) (λ (y : Numbered). y.cond) in
     let lt = ltb-true 0 (length (index_conditions w.contents q.classes i r.0 (has p.0))) some in

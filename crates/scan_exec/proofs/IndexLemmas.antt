@@ -182,7 +182,7 @@ module _ (c : Contents) (k : Kept) (q : Query) (r : RelNo) (p : RelSet) (outer :
   o = padded (width q) (has p.0) outer
 
   abbrev g : Given
-  g = values.given_of w q (has p.0) o
+  g = values.tuple_given w q (has p.0) o
 
   pub used_held : (i : IndexNo) (e : Cond) → IsUsed c q r.0 (has p.0) i e → IsHeldNear c q r.0 (has p.0) (index_at c i) e
   used_held i e is = record { near = is.near; held = condition_held (index_at c i) r.0 e is.form }

@@ -47,20 +47,20 @@ use Rattle.scan_exec.proofs.NearLemmas.{all_recursive}
 use Rattle.scan_exec.proofs.SeekLemmas.{at_entries, lawful}
 
 -- the one condition of a hash index
-pub first_used : (P : Cond → Type 0) (vs : List (Bor Expr)) (x : Bor Expr) → x ≡ get_or vs 0 x → length vs ≡ 1 → All P (refs.conditions_of vs) → P (view.cond x.now)
+pub first_used : (P : Cond → Type 0) (vs : List (Bor Expr)) (x : Bor Expr) → x ≡ get_or vs 0 x → length vs ≡ 1 → All P (refs.lent_conditions vs) → P (view.cond x.now)
 first_used P [] x first one all = absurd (omega (arith, one))
 first_used P (v ∷ vs) x first one all = subst (λ (y : Bor Expr). P (view.cond y.now)) (sym first) (all 0 (view.cond v.now) (omega arith))
 
-pub only_one : (vs : List (Bor Expr)) (x : Bor Expr) → x ≡ get_or vs 0 x → length vs ≡ 1 → refs.conditions_of vs ≡ view.cond x.now ∷ []
+pub only_one : (vs : List (Bor Expr)) (x : Bor Expr) → x ≡ get_or vs 0 x → length vs ≡ 1 → refs.lent_conditions vs ≡ view.cond x.now ∷ []
 only_one vs x first one =
     let long = length-map vs (λ (e : Bor Expr). view.cond e.now) in
-    only_of (refs.conditions_of vs) vs x refl first (omega (arith, long, one)) (omega (arith, long, one))
+    only_of (refs.lent_conditions vs) vs x refl first (omega (arith, long, one)) (omega (arith, long, one))
 
 pub takes_one : (m : Method) → m ≡ Hash → (n : ℕ) → takes_parts m n ≡ true → n ≡ 1
 takes_one Btree e n h = cc
 takes_one Hash e n h = eqb-true n 1 h
 
-pub arm_taken : (c : Contents) (r : ℕ) (i : IndexNo) (arm : Cond) → is_matched (index_at c i) r arm ≡ true → (vs : List (Bor Expr)) → refs.conditions_of vs ≡ arm_parts arm → takes_parts (index_at c i).method (length vs) ≡ true
+pub arm_taken : (c : Contents) (r : ℕ) (i : IndexNo) (arm : Cond) → is_matched (index_at c i) r arm ≡ true → (vs : List (Bor Expr)) → refs.lent_conditions vs ≡ arm_parts arm → takes_parts (index_at c i).method (length vs) ≡ true
 arm_taken c r i arm matched vs are =
     ap (takes_parts (index_at c i).method) (sym (length-map vs (λ (e : Bor Expr). view.cond e.now)) ∙ ap length are)
     ∙ (and_parts (takes_parts (index_at c i).method (length (arm_parts arm))) _ matched).0

@@ -81,7 +81,7 @@ module _ (c : Contents) (k : Kept) (q : Query) (r : RelNo) (p : RelSet) (outer :
   o = padded (width q) (has p.0) outer
 
   abbrev g : Given
-  g = values.given_of w q (has p.0) o
+  g = values.tuple_given w q (has p.0) o
 
   abbrev row : ℕ → Values
   row n = slice_index_or (rows_of_relation w q r) n []

@@ -42,10 +42,10 @@ module _ (w : World) (q : Query) (r : RelNo) (p : RelSet) (o : Tuple) where
   all = length (rows_of_relation w q r)
 
   -- a leaf
-  pub own_taken : (i : IndexNo) → nat_lt 0 (length (index_conditions w.contents q.classes i r.0 (has p.0))) ≡ true → (vs : List (Bor Expr)) → refs.conditions_of vs ≡ conditions w q r i p → takes_parts (index_at w.contents i).method (length vs) ≡ true
+  pub own_taken : (i : IndexNo) → nat_lt 0 (length (index_conditions w.contents q.classes i r.0 (has p.0))) ≡ true → (vs : List (Bor Expr)) → refs.lent_conditions vs ≡ conditions w q r i p → takes_parts (index_at w.contents i).method (length vs) ≡ true
   own_taken i some vs are =
       let long = length-map vs (λ (e : Bor Expr). view.cond e.now) in
-      let same : length (refs.conditions_of vs) ≡ length (conditions w q r i p) = ap length are in
+      let same : length (refs.lent_conditions vs) ≡ length (conditions w q r i p) = ap length are in
       let many = length-map (index_conditions w.contents q.classes i r.0 (has p.0)) (λ (y : Numbered). y.cond) in
       let lt = ltb-true 0 (length (index_conditions w.contents q.classes i r.0 (has p.0))) some in
       takes_own (index_at w.contents i).method (filter (λ (y : Numbered). is_condition (index_at w.contents i) r.0 y.cond) (local q.classes r.0 (has p.0))) (length vs) (sym long ∙ same) (omega (arith, long, same, many, lt))

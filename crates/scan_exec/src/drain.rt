@@ -41,12 +41,12 @@ pub fn scan<C: Counters>(
     requires store { IsStoreOf cat.now store.now }
     requires scan { IsScan (plan p.now) }
     requires built { IsBuilt cat.now q.now (plan p.now) }
-    requires outer { AreRowsOf (world cat.now store.now.stored) q.now (plans.param_of (plan p.now)) outer.now }
+    requires outer { AreRowsOf (world cat.now store.now.stored) q.now (plans.param_set (plan p.now)) outer.now }
     ensures set { IfOk result (λ ts. (k : ℕ) → has ts.set.0 k ≡ nat_eq k (plans.relation_of (plan p.now)).0) }
-    ensures tuples { IfOk result (λ ts. padded_tuples (width q.now) ts ≡ run (world cat.now store.now.stored) q.now (plan p.now) (padded (width q.now) (has (plans.param_of (plan p.now)).0) outer.now)) }
-    ensures exact { OnOk result (fetches.new ≡ fetches.old + counts.fetches (world cat.now store.now.stored) q.now (plan p.now) (padded (width q.now) (has (plans.param_of (plan p.now)).0) outer.now)) }
-    ensures most { fetches.new ≤ fetches.old + counts.fetches (world cat.now store.now.stored) q.now (plan p.now) (padded (width q.now) (has (plans.param_of (plan p.now)).0) outer.now) }
-    ensures looks { reads.new ≤ reads.old + counts.looks (world cat.now store.now.stored) q.now (plan p.now) (padded (width q.now) (has (plans.param_of (plan p.now)).0) outer.now) }
+    ensures tuples { IfOk result (λ ts. padded_tuples (width q.now) ts ≡ run (world cat.now store.now.stored) q.now (plan p.now) (padded (width q.now) (has (plans.param_set (plan p.now)).0) outer.now)) }
+    ensures exact { OnOk result (fetches.new ≡ fetches.old + counts.fetches (world cat.now store.now.stored) q.now (plan p.now) (padded (width q.now) (has (plans.param_set (plan p.now)).0) outer.now)) }
+    ensures most { fetches.new ≤ fetches.old + counts.fetches (world cat.now store.now.stored) q.now (plan p.now) (padded (width q.now) (has (plans.param_set (plan p.now)).0) outer.now) }
+    ensures looks { reads.new ≤ reads.old + counts.looks (world cat.now store.now.stored) q.now (plan p.now) (padded (width q.now) (has (plans.param_set (plan p.now)).0) outer.now) }
 {
     let mut rows = ScanRows::start(alloc, cat, q, p, store, outer, reads)?;
     let mut tuples = Tuples::new(alloc, RelSet::one(relation_of(p)));

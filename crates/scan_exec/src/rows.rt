@@ -84,7 +84,7 @@ pub(crate) fn relation_of(p: &Plan) -> RelNo
 /// The relations whose rows a scan is given.
 fn param_of(p: &Plan) -> RelSet
     requires { IsScan (plan p.now) }
-    ensures { result ≡ plans.param_of (plan p.now) }
+    ensures { result ≡ plans.param_set (plan p.now) }
 {
     match p {
         Plan::Index { param, .. } | Plan::IndexOnly { param, .. } | Plan::Bitmap { param, .. } => {
@@ -128,7 +128,7 @@ fn by_plan<'a, C: Counters>(
     requires scan { IsScan (plan p.now) }
     requires built { IsBuilt at.now.cat.now at.now.q.now (plan p.now) }
     requires relation { at.now.rel ≡ plans.relation_of (plan p.now) }
-    requires param { at.now.param ≡ plans.param_of (plan p.now) }
+    requires param { at.now.param ≡ plans.param_set (plan p.now) }
     ensures coming { IfOk result (λ kind. rows_of_kind kind ≡ coming (world_of at.now) at.now.q.now (plan p.now) (tuple_of at.now)) }
     ensures looks { IfOk result (λ kind. reads.new + (allowed (rows_of_kind kind) + given_looks (world_of at.now) at.now.q.now at.now.param) ≤ reads.old + looks (world_of at.now) at.now.q.now (plan p.now) (tuple_of at.now)) }
     ensures most { reads.new + given_looks (world_of at.now) at.now.q.now at.now.param ≤ reads.old + looks (world_of at.now) at.now.q.now (plan p.now) (tuple_of at.now) }
@@ -176,10 +176,10 @@ impl<'a, C: Counters> ScanRows<'a, C> {
         requires store { IsStoreOf cat.now store.now }
         requires scan { IsScan (plan p.now) }
         requires built { IsBuilt cat.now q.now (plan p.now) }
-        requires outer { AreRowsOf (world cat.now store.now.stored) q.now (plans.param_of (plan p.now)) outer.now }
-        ensures coming { IfOk result (λ s. s ≡ coming (world cat.now store.now.stored) q.now (plan p.now) (padded (width q.now) (has (plans.param_of (plan p.now)).0) outer.now)) }
-        ensures looks { IfOk result (λ s. reads.new + allowed s ≤ reads.old + looks (world cat.now store.now.stored) q.now (plan p.now) (padded (width q.now) (has (plans.param_of (plan p.now)).0) outer.now)) }
-        ensures most { reads.new ≤ reads.old + looks (world cat.now store.now.stored) q.now (plan p.now) (padded (width q.now) (has (plans.param_of (plan p.now)).0) outer.now) }
+        requires outer { AreRowsOf (world cat.now store.now.stored) q.now (plans.param_set (plan p.now)) outer.now }
+        ensures coming { IfOk result (λ s. s ≡ coming (world cat.now store.now.stored) q.now (plan p.now) (padded (width q.now) (has (plans.param_set (plan p.now)).0) outer.now)) }
+        ensures looks { IfOk result (λ s. reads.new + allowed s ≤ reads.old + looks (world cat.now store.now.stored) q.now (plan p.now) (padded (width q.now) (has (plans.param_set (plan p.now)).0) outer.now)) }
+        ensures most { reads.new ≤ reads.old + looks (world cat.now store.now.stored) q.now (plan p.now) (padded (width q.now) (has (plans.param_set (plan p.now)).0) outer.now) }
     {
         let rel = relation_of(p);
         let param = param_of(p);
@@ -213,11 +213,11 @@ impl<'a, C: Counters> ScanRows<'a, C> {
         requires store { IsStoreOf cat.now store.now }
         requires scan { IsScan (plan p.now) }
         requires built { IsBuilt cat.now q.now (plan p.now) }
-        requires outer { AreRowsOf (world cat.now store.now.stored) q.now (plans.param_of (plan p.now)) outer.now }
-        ensures coming { OnOk result (self.new ≡ coming (world cat.now store.now.stored) q.now (plan p.now) (padded (width q.now) (has (plans.param_of (plan p.now)).0) outer.now)) }
+        requires outer { AreRowsOf (world cat.now store.now.stored) q.now (plans.param_set (plan p.now)) outer.now }
+        ensures coming { OnOk result (self.new ≡ coming (world cat.now store.now.stored) q.now (plan p.now) (padded (width q.now) (has (plans.param_set (plan p.now)).0) outer.now)) }
         ensures refused { OnErr result (self.new ≡ self.old) }
-        ensures looks { OnOk result (reads.new + allowed self.new ≤ reads.old + looks (world cat.now store.now.stored) q.now (plan p.now) (padded (width q.now) (has (plans.param_of (plan p.now)).0) outer.now)) }
-        ensures most { reads.new ≤ reads.old + looks (world cat.now store.now.stored) q.now (plan p.now) (padded (width q.now) (has (plans.param_of (plan p.now)).0) outer.now) }
+        ensures looks { OnOk result (reads.new + allowed self.new ≤ reads.old + looks (world cat.now store.now.stored) q.now (plan p.now) (padded (width q.now) (has (plans.param_set (plan p.now)).0) outer.now)) }
+        ensures most { reads.new ≤ reads.old + looks (world cat.now store.now.stored) q.now (plan p.now) (padded (width q.now) (has (plans.param_set (plan p.now)).0) outer.now) }
     {
         let rows = ScanRows::start(alloc, cat, q, p, store, outer, reads)?;
         *self = rows;

@@ -8,6 +8,7 @@ mod cover;
 mod sides;
 
 pub use best::judge_best;
+pub use certificate_laws;
 pub use checking::check;
 pub use cover::open_candidate;
 pub use scan_cover::{entry_check, join_cover};

@@ -23,25 +23,25 @@ use Rattle.scan_paths.proofs.SpaceLemmas.{given-param}
 use Rattle.plan_laws.specs.Closed.{AreKeptSides, is_scan}
 use Rattle.plan_laws.proofs.WithinLemmas.{read-below}
 use Rattle.plan_tree.proofs.SetLemmas.{reads-some}
-use Rattle.certificate_laws.specs.join_search_SetLemmas.{set-below}
+use Rattle.certificate_check.specs.join_search_SetLemmas.{set-below}
 use Rattle.certificate_check.specs.plan_laws_WellBoundLemmas.{bound-over}
-use Rattle.certificate_laws.specs.explain_laws_ParamLemmas.{IsOfQuery, bitmap-param, index-param}
+use Rattle.certificate_check.specs.explain_laws_ParamLemmas.{IsOfQuery, bitmap-param, index-param}
 use Rattle.plan_check.specs.Certificates.{Certificate, Entry, Node, plan_of, plans_of, unfold_at, unfolded}
 use Rattle.plan_check.specs.Limit.{MOST_ENTRIES}
 use Rattle.plan_check.specs.Tables.{IsEntryPlan, IsStartup}
 use Rattle.plan_check.proofs.UnfoldLemmas.{at-split}
-use Rattle.certificate_laws.specs.certificate_text_HasText.{HasEntryLine, HasKeysText, HasStartup, IsSetOf}
+use Rattle.certificate_check.specs.certificate_text_HasText.{HasEntryLine, HasKeysText, HasStartup, IsSetOf}
 use Rattle.certificate_check.specs.entry_check_PlaceLemmas.{long}
 use Rattle.plan_check.specs.Verdicts.{IsUncovered}
 use Rattle.plan_check.specs.declared.verdict.Plain.{Plain}
-use Rattle.certificate_laws.specs.Arms.{HasArmsInOrs}
-use Rattle.certificate_laws.proofs.KeysLemmas.{keys-wider, plan-text}
-use Rattle.certificate_laws.proofs.NodeLemmas.{node-text}
-use Rattle.certificate_laws.proofs.RowsLemmas.{estimate-few}
+use Rattle.certificate_check.specs.certificate_laws_Arms.{HasArmsInOrs}
+use Rattle.certificate_check.specs.certificate_laws_KeysLemmas.{keys-wider, plan-text}
+use Rattle.certificate_check.specs.certificate_laws_NodeLemmas.{node-text}
+use Rattle.certificate_check.specs.certificate_laws_RowsLemmas.{estimate-few}
 use Rattle.check_reply.specs.Checked.{IsToldBy, with_entry}
 use Rattle.check_reply.specs.Telling.{Tells, entry_with}
 use Rattle.certificate_check.specs.entry_check_PartLemmas.{kept-start as started}
-use Rattle.certificate_laws.proofs.EntryLemmas.{inside}
+use Rattle.certificate_check.specs.certificate_laws_EntryLemmas.{inside}
 
 -- the number of an entry's line, taken off
 pub number-off : (text : List ℕ) → drop 2 (decimal 1 ++ (codes " " ++ text)) ≡ text

@@ -5,8 +5,8 @@ use Rattle.catalog.specs.Contents.{Contents}
 use Rattle.sql_query.specs.Queries.{Query}
 use Rattle.plan_check.specs.Certificates.{Certificate, Entry}
 use Rattle.plan_check.specs.Tables.{IsEntryAt, IsPlanTable}
-use Rattle.certificate_laws.specs.certificate_text_HasText.{HasEntryLine}
-use Rattle.certificate_laws.specs.certificate_text_Texts.{ended, entry_text}
+use Rattle.certificate_check.specs.certificate_text_HasText.{HasEntryLine}
+use Rattle.certificate_check.specs.certificate_text_Texts.{ended, entry_text}
 use Rattle.certificate_reader.specs.Faults.{IsFaultLine, IsText}
 use Rattle.certificate_reader.specs.Reading.{IsBlockRead}
 use Rattle.plan_check.specs.Verdicts.{IsUncovered, IsVerdict}

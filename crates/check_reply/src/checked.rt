@@ -8,7 +8,7 @@ ghost use Rattle.check_reply.specs.Checked.{IsCheckedText, IsReasonText, IsVerdi
 ghost use Rattle.plan_check.specs.Verdicts.{IsReason, IsVerdict};
 ghost use Rattle.plan_check.specs.declared.verdict.Verdict.{Verdict as Said};
 ghost use Rattle.sql_query.specs.WellBound.{IsWellBound};
-ghost use Rattle.certificate_laws.specs.Arms.{HasArmsInOrs};
+ghost use Rattle.certificate_check.specs.certificate_laws_Arms.{HasArmsInOrs};
 
 use crate::lines::{
     bad_node_text, bad_number_text, dominated_text, fault_text, invalid_line, not_best_text,

@@ -47,6 +47,19 @@ fn judge_whole(j: &Judged) -> Verdict
     }
 }
 
+/// What is said of a certificate: the first reason that its entries give, or what is said of it as a whole.
+fn judge_all(j: &Judged) -> Verdict
+    requires query { IsOverTables j.now.cat.now j.now.q.now }
+    requires atoms { HasFewAtoms j.now.q.now }
+    requires placed { ArePlaced (certificate j.now.t.now).entries j.now.places.now }
+    ensures { IsVerdict j.now.cat.now j.now.q.now (certificate j.now.t.now) result }
+{
+    match judge_table(j) {
+        Some(reason) => Verdict::No(reason),
+        None => judge_whole(j),
+    }
+}
+
 /// Checks a certificate, whoever made it: it is valid exactly where it is a table of the query; else the answer is the first
 /// reason for which it is none. In order: the first entry that is none of the plan space or not as it says, or the first
 /// number of it that is not its own; a best plan that is not finished; the first entry that another dominates, and the
@@ -68,8 +81,5 @@ pub fn check(cat: &Catalog, q: &Prepared, t: &Certificate) -> Verdict
         t,
         places: &places,
     };
-    match judge_table(&j) {
-        Some(reason) => Verdict::No(reason),
-        None => judge_whole(&j),
-    }
+    judge_all(&j)
 }

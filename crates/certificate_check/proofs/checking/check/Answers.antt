@@ -4,14 +4,11 @@ use Rattle.plan_check.specs.Views.{certificate}
 use Rattle.certificate_check.proofs.CheckLemmas.{placed-there, valid-best, valid-dominated}
 use Rattle.certificate_check.proofs.checking.check.Goals as goal
 
-pub returns-in-None-clause-dominated : goal.returns-in-None-clause-dominated
-returns-in-None-clause-dominated c = valid-dominated c.args.cat.now c.args.q.now (certificate c.args.t.now) (lawful-rows c.args.cat.now c.args.q.now c.lawful.ensures) c.judge_whole.result c.judge_whole.ensures
+pub returns-clause-dominated : goal.returns-clause-dominated
+returns-clause-dominated c = valid-dominated c.args.cat.now c.args.q.now (certificate c.args.t.now) (lawful-rows c.args.cat.now c.args.q.now c.lawful.ensures) c.judge_all.result c.judge_all.ensures
 
-pub returns-in-None-clause-best : goal.returns-in-None-clause-best
-returns-in-None-clause-best c = valid-best c.args.cat.now c.args.q.now (certificate c.args.t.now) (lawful-rows c.args.cat.now c.args.q.now c.lawful.ensures) c.judge_whole.result c.judge_whole.ensures
+pub returns-clause-best : goal.returns-clause-best
+returns-clause-best c = valid-best c.args.cat.now c.args.q.now (certificate c.args.t.now) (lawful-rows c.args.cat.now c.args.q.now c.lawful.ensures) c.judge_all.result c.judge_all.ensures
 
-pub judge_table-requires-clause-placed : goal.judge_table-requires-clause-placed
-judge_table-requires-clause-placed c = placed-there (certificate c.args.t.now) c.args.t.now.entries c.items.result.now c.of-places.result refl c.items.ensures.list c.of-places.ensures
-
-pub judge_whole-requires-clause-placed : goal.judge_whole-requires-clause-placed
-judge_whole-requires-clause-placed c = placed-there (certificate c.args.t.now) c.args.t.now.entries c.items.result.now c.of-places.result refl c.items.ensures.list c.of-places.ensures
+pub judge_all-requires-clause-placed : goal.judge_all-requires-clause-placed
+judge_all-requires-clause-placed c = placed-there (certificate c.args.t.now) c.args.t.now.entries c.items.result.now c.of-places.result refl c.items.ensures.list c.of-places.ensures

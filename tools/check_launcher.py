@@ -34,7 +34,7 @@ echo 'run=ended status=3 runners=1 proved=no' >&2
 exit 3
 """
 TOLD = "pgplan: {} of 3 crates proved ({}), 0 min\n"
-FIRST = "pgplan: proving the 3 crates of the program, N at a time: about N minutes where none was proved before\n"
+FIRST = "pgplan: proving the 3 crates of the program, N at a time: about N minutes where none was proved before, the first line after about four\n"
 UNPROVED = "pgplan: nothing is proved of this run; it is built first, which takes about two minutes\n"
 NOT_RUN = "pgplan: not run, since its sources are not proved and built (status {} of rt)\n"
 # The name of a case; what `rt` does; whether a program stands, and its sources are newer; the words; the output and the

@@ -25,7 +25,8 @@ use Rattle.sql_query.specs.Queries.{Query, width}
 use Rattle.sql_query.specs.WellBound.{IsColumnOf, IsWellBound}
 use Rattle.certificate_entries.specs.Keys.{AreWords, HasKeyText, IsClassOf, IsNamed, ends_key, family_if, is_abs}
 use Rattle.certificate_entries.specs.declared.line_keys.KeyWords.{KeyWords}
-use Rattle.certificate_entries.proofs.NameLemmas.{name-word, one-place}
+use Rattle.certificate_entries.proofs.NameLemmas.{one-place}
+use Rattle.pg_base.proofs.NameLemmas.{name-word}
 
 module _ (c : Contents) (q : Query) (bound : IsWellBound c q) where
   alias-at : (n : ℕ) (d : TableNo × List ℕ) → n < length q.range → get_or (aliases q.range) n [] ≡ (get_or q.range n d).1

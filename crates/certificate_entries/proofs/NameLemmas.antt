@@ -1,27 +1,14 @@
 -- Names: words, and one place each.
 use Rattle.std.proofs.Common.{◌≡◌, ◌<◌, ◌≤◌, ℕ, Bool, true, false, ◌||◌, ◌==◌, ◌⊎◌, inl, inr, List, [], ◌∷◌, length, get_or, refl, sym, ap, ◌∙◌, arith}
 use Rattle.std.specs.Prelude.{Option, Some, None, MatchOption}
-use Rattle.std.specs.Char.{is_ascii_digit, is_ascii_lowercase}
 use Rattle.std.specs.List.{list_all}
-use Rattle.std.proofs.lemmas.Bool.{and_from, cases_lt, true≢false}
+use Rattle.std.proofs.lemmas.Bool.{cases_lt}
 use Rattle.std.proofs.lemmas.List.{get_or-map, length-map}
-use Rattle.pg_base.specs.Names.{AreDistinct, IsName, begins_name, is_in_name}
+use Rattle.pg_base.specs.Names.{AreDistinct, is_in_name}
+use Rattle.pg_base.proofs.NameLemmas.{name-word}
 use Rattle.pg_base.specs.declared.numbers.IndexNo.{IndexNo}
 use Rattle.catalog.specs.Contents.{Contents, IsIndex, IsLawful, NamedIndex, index_name_at, index_names, no_index}
 use Rattle.catalog.specs.Tables.{HasIndexName, IsFreeIndex}
-
-begins-in : (b : ℕ) → begins_name b ≡ true → is_in_name b ≡ true
-begins-in b e = by-parts (is_ascii_lowercase b) (is_ascii_digit b) (b == 95) (b == 36) e where
-  by-parts : (l d u p : Bool) → (l || u) ≡ true → (((l || d) || u) || p) ≡ true
-  by-parts true d u p e = refl
-  by-parts false true u p e = refl
-  by-parts false false true p e = refl
-  by-parts false false false p e = absurd (true≢false (sym e))
-
--- a name is a word
-pub name-word : (w : List ℕ) → IsName w → list_all is_in_name w ≡ true
-name-word [] h = absurd h
-name-word (b ∷ bs) h = and_from (is_in_name b) (list_all is_in_name bs) (begins-in b h.0) h.1
 
 -- of distinct names each has one place
 pub one-place : (xs : List (List ℕ)) → AreDistinct xs → (i j : ℕ) → i < length xs → j < length xs → (d : List ℕ) → get_or xs i d ≡ get_or xs j d → i ≡ j

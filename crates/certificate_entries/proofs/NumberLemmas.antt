@@ -8,7 +8,7 @@ use Rattle.std.proofs.lemmas.Bool.{and_parts, true≢false}
 use Rattle.std.proofs.lemmas.Bool.Decides.{nat_tests}
 use Rattle.std.proofs.lemmas.Fmt.{decimal_is_IsNumeral}
 use Rattle.std.proofs.lemmas.List.{append_assoc}
-use Rattle.certificate_text.proofs.NumeralLemmas.{decimal-digits}
+use Rattle.pg_base.proofs.NameLemmas.{decimal-digits}
 use Rattle.certificate_text.specs.Texts.{side_text}
 use Rattle.certificate_text.specs.HasText.{IsEntryNumber}
 use Rattle.certificate_text.specs.plan_check_Certificates.{Side}

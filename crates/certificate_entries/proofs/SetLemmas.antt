@@ -19,7 +19,7 @@ use Rattle.catalog.specs.Range.{Range, aliases}
 use Rattle.certificate_text.specs.explain_Texts.{aliases_in, with_alias}
 use Rattle.certificate_text.specs.plan_tree_Plans.{is_empty}
 use Rattle.certificate_text.specs.Texts.{param_text, set_text, with_bare_commas}
-use Rattle.certificate_entries.proofs.NameLemmas.{name-word}
+use Rattle.pg_base.proofs.NameLemmas.{name-word}
 use Rattle.certificate_entries.specs.Parts.{IsSet, IsWordRead, has_no_comma}
 use Rattle.pg_base.proofs.NumberLemmas.{below-next}
 

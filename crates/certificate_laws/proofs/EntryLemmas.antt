@@ -17,7 +17,7 @@ use Rattle.plan_tree.specs.Space.{IsBuilt}
 use Rattle.plan_tree.proofs.BoundLemmas.{lawful-rows, startup-most}
 use Rattle.plan_tree.proofs.PathLemmas.{built-below}
 use Rattle.planner.specs.scan_paths_SpaceLemmas.{given-param}
-use Rattle.planner.specs.plan_laws_WithinLemmas.{read-below}
+use Rattle.plan_tree.proofs.GivenLemmas.{read-below}
 use Rattle.plan_tree.proofs.SetLemmas.{reads-some}
 use Rattle.planner.specs.join_search_SetLemmas.{set-below}
 use Rattle.planner.specs.plan_laws_WellBoundLemmas.{bound-over}

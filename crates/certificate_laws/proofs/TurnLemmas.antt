@@ -26,7 +26,7 @@ use Rattle.plan_tree.specs.Space.{AreSides, HasKeys, IsBuilt, IsPlanOf, IsSameSe
 use Rattle.plan_tree.proofs.FrontLemmas.{contains-mapped}
 use Rattle.plan_tree.proofs.PathLemmas.{built-below}
 use Rattle.planner.specs.scan_paths_SpaceLemmas.{no-join, same-param}
-use Rattle.plan_laws.proofs.WithinLemmas.{read-below}
+use Rattle.plan_tree.proofs.GivenLemmas.{read-below}
 use Rattle.planner.specs.join_search_Joins.{IsJoinOfKept, IsJoinPath, IsKept, IsSideKept, IsSingle}
 use Rattle.planner.specs.join_search_Tables.{Fronts}
 use Rattle.plan_tree.proofs.SetLemmas.{reads-some}

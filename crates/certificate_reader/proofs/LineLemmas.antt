@@ -10,7 +10,7 @@ use Rattle.std.proofs.lemmas.Fmt.{decimal_is_IsNumeral}
 use Rattle.std.proofs.lemmas.List.Elements.{All-head, All-tail, All-push}
 use Rattle.std.proofs.lemmas.List.{append_assoc, append-nil, append_cancel_left, length-append}
 use Rattle.catalog.specs.Contents.{Contents}
-use Rattle.certificate_text.proofs.NumeralLemmas.{decimal-digits}
+use Rattle.pg_base.proofs.NameLemmas.{decimal-digits}
 use Rattle.sql_query.specs.Queries.{Query}
 use Rattle.plan_check.specs.Certificates.{Entry, Side}
 use Rattle.plan_check.specs.Limit.{MOST_ENTRIES}

@@ -20,7 +20,7 @@ use Rattle.eq_classes.specs.Classes.{Class}
 use Rattle.eq_classes.specs.Clauses.{Set, first_in}
 use Rattle.eq_classes.specs.Listing.{blank, class_at}
 use Rattle.eq_classes.proofs.ListLemmas.{IsIn, found_in, in_from_contains}
-use Rattle.certificate_text.proofs.NumeralLemmas.{decimal-word}
+use Rattle.pg_base.proofs.NameLemmas.{decimal-word}
 use Rattle.sort_rows.proofs.ColumnLemmas.{member_is}
 use Rattle.sql_query.specs.Queries.{Query}
 use Rattle.sql_query.specs.declared.window.Window.{Window}

@@ -12,49 +12,9 @@ use Rattle.std.proofs.lemmas.Bool.Decides.{nat_tests}
 use Rattle.std.proofs.lemmas.Fmt.{decimal-digits_value, decimal_digit, decimal_is_IsNumeral, first_decimal}
 use Rattle.std.proofs.lemmas.Str.Parse.{IsDigitsTest, numerals_by_value}
 use Rattle.std.proofs.lemmas.Option.{same_Some, none-some}
-use Rattle.pg_base.specs.Names.{is_in_name}
+use Rattle.pg_base.proofs.NameLemmas.{decimal-digits}
 use Rattle.pg_value.specs.Fields.{is_numeral}
 use Rattle.certificate_text.specs.Words.{below_end, has_leading_zero, number_written}
-
-digit-in : (n : ℕ) → is_ascii_digit (digit_glyph false (n % 10)) ≡ true
-digit-in n = let low : n % 10 < 10 = omega arith in here (n % 10) low
-  where
-    glyph : (d : ℕ) → d < 10 → digit_glyph false d ≡ 48 + d
-    glyph d lt = let t : nat_lt d 10 ≡ true = grind (arith, nat_tests, lt) in ap (λ (b : Bool). if b then 48 + d else 87 + d) t
-
-    is-digit : (d : ℕ) → d < 10 → is_ascii_digit (48 + d) ≡ true
-    is-digit d lt = grind (arith, nat_tests, lt)
-
-    here : (d : ℕ) → d < 10 → is_ascii_digit (digit_glyph false d) ≡ true
-    here d lt = ap is_ascii_digit (glyph d lt) ∙ is-digit d lt
-
-onto-digits : (k n : ℕ) (acc : List ℕ) → list_all is_ascii_digit acc ≡ true → list_all is_ascii_digit (digits_onto k 10 false n acc) ≡ true
-onto-digits zero n acc h = h
-onto-digits (suc k) n acc h =
-    let more = and_from (is_ascii_digit (digit_glyph false (n % 10))) (list_all is_ascii_digit acc) (digit-in n) h in
-    by (n / 10 == 0) (digit_glyph false (n % 10) ∷ acc) (digits_onto k 10 false (n / 10) (digit_glyph false (n % 10) ∷ acc)) more (onto-digits k (n / 10) (digit_glyph false (n % 10) ∷ acc) more)
-  where
-    by : (b : Bool) (x y : List ℕ) → list_all is_ascii_digit x ≡ true → list_all is_ascii_digit y ≡ true → list_all is_ascii_digit (if b then x else y) ≡ true
-    by true x y hx hy = hx
-    by false x y hx hy = hy
-
-pub decimal-digits : (n : ℕ) → list_all is_ascii_digit (decimal n) ≡ true
-unfolding digits
-decimal-digits n = onto-digits 64 n [] refl
-
-in-name : (L D U S : Bool) → D ≡ true → ((L || D) || U) || S ≡ true
-in-name true D U S h = refl
-in-name false true U S h = refl
-in-name false false U S h = absurd (true≢false (sym h))
-
-digits-word : (ds : List ℕ) → list_all is_ascii_digit ds ≡ true → list_all is_in_name ds ≡ true
-digits-word [] h = refl
-digits-word (d ∷ ds) h =
-    let p = and_parts (is_ascii_digit d) (list_all is_ascii_digit ds) h in
-    and_from (is_in_name d) (list_all is_in_name ds) (in-name (is_ascii_lowercase d) (is_ascii_digit d) (d == 95) (d == 36) p.0) (digits-word ds p.1)
-
-pub decimal-word : (n : ℕ) → list_all is_in_name (decimal n) ≡ true
-decimal-word n = digits-word (decimal n) (decimal-digits n)
 
 -- a byte is a digit
 digit-range : (c : ℕ) → is_ascii_digit c ≡ true → IsInRange 48 57 c

@@ -21,7 +21,7 @@ use Rattle.plan_tree.proofs.BoundLemmas.{lawful-rows, startup-most}
 use Rattle.plan_tree.proofs.PathLemmas.{built-below}
 use Rattle.scan_paths.proofs.SpaceLemmas.{given-param}
 use Rattle.plan_laws.specs.Closed.{AreKeptSides, is_scan}
-use Rattle.plan_laws.proofs.WithinLemmas.{read-below}
+use Rattle.plan_tree.proofs.GivenLemmas.{read-below}
 use Rattle.plan_tree.proofs.SetLemmas.{reads-some}
 use Rattle.certificate_check.specs.join_search_SetLemmas.{set-below}
 use Rattle.certificate_check.specs.plan_laws_WellBoundLemmas.{bound-over}

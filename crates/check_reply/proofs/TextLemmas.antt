@@ -8,7 +8,8 @@ use Rattle.std.proofs.lemmas.Fmt.{decimal_is_IsNumeral}
 use Rattle.catalog.specs.Contents.{Contents}
 use Rattle.sql_query.specs.Queries.{Query}
 use Rattle.plan_check.specs.Certificates.{Certificate}
-use Rattle.certificate_check.specs.explain_laws_SplitLemmas.{decimal-word, split, stops}
+use Rattle.pg_base.proofs.NameLemmas.{decimal-word}
+use Rattle.certificate_check.specs.explain_laws_SplitLemmas.{split, stops}
 use Rattle.plan_check.specs.declared.verdict.Number.{Number}
 use Rattle.plan_check.specs.declared.verdict.Number.TheVariants.{Startup, Total, Rows}
 use Rattle.plan_check.specs.declared.verdict.Reason.{Reason}

@@ -8,7 +8,7 @@ use Rattle.pg_base.specs.declared.numbers.IndexNo.{IndexNo}
 use Rattle.pg_expr.specs.Cond.{Cond, any_of}
 use Rattle.pg_expr.specs.View.{cond as condition, conds}
 use Rattle.pg_expr.specs.declared.expr.Expr.{Expr}
-use Rattle.path_cost.proofs.PartLemmas.{listed_conds}
+use Rattle.eq_classes.proofs.ConditionLemmas.{listed_conds}
 use Rattle.catalog.specs.Contents.{Contents}
 use Rattle.eq_classes.specs.Clauses.{Set}
 use Rattle.index_match.specs.Arms.{arms_of}

@@ -17,7 +17,7 @@ use Rattle.plan_tree.specs.Costs.{HaveRows, estimate, rows_given}
 use Rattle.plan_tree.specs.Plans.{Plan, GivenScan, given_scan, set_of}
 use Rattle.plan_tree.specs.Space.{IsSameSet}
 use Rattle.plan_tree.proofs.BoundLemmas.{some-estimated}
-use Rattle.entry_check.proofs.TestedLemmas.{given-one}
+use Rattle.plan_tree.proofs.GivenLemmas.{given-one}
 use Rattle.plan_tree.proofs.MostLemmas.{most-clamped}
 use Rattle.plan_tree.proofs.MostLemmas.{most-folded}
 

@@ -20,7 +20,7 @@ use Rattle.plan_tree.specs.Space.{IsEmpty, IsSameSet}
 use Rattle.plan_tree.proofs.BoundLemmas.{startup-most}
 use Rattle.plan_tree.proofs.PathLemmas.{built-below}
 use Rattle.plan_tree.proofs.WindowLemmas.{path-cost, uncut-kept}
-use Rattle.plan_check.specs.plan_laws_WithinLemmas.{read-below}
+use Rattle.plan_tree.proofs.GivenLemmas.{read-below}
 use Rattle.plan_tree.proofs.SetLemmas.{reads-some}
 use Rattle.entry_check.specs.Parts.{IsPart, IsReckoned}
 use Rattle.entry_check.specs.declared.work_parts.Part.{Part}

@@ -15,17 +15,8 @@ use Rattle.plan_tree.specs.Plans.{Plan, seq, index, index_only, bitmap, sort, ne
 use Rattle.plan_tree.specs.Space.{IsEmpty, IsSameSet}
 use Rattle.plan_tree.proofs.LikeLemmas.{given-like}
 use Rattle.plan_tree.proofs.SetLemmas.{reads-some}
-use Rattle.plan_tree.proofs.GivenLemmas.{given-none}
+use Rattle.plan_tree.proofs.GivenLemmas.{given-none, given-one}
 use Rattle.plan_tree.proofs.GivenLemmas.{scan-one}
-
-pub given-one : (t : Plan) → IfSome (given_scan t) (λ (s : GivenScan). IsSameSet (set_of t) (one s.relation.0))
-given-one (seq r) = tt
-given-one (index r i backward p) = scan-one r p (is_empty p)
-given-one (index_only r i backward p) = scan-one r p (is_empty p)
-given-one (bitmap r p bits) = scan-one r p (is_empty p)
-given-one (sort keys input) = given-one input
-given-one (nest o i) = tt
-given-one (merge keys o i) = tt
 
 given-some : (t : Plan) (r : RelNo) (p : RelSet) → IsSameSet (param_of t) (has p.0) → ¬ (p.0 ≡ 0) → set_of t r.0 ≡ true → given_scan t ≡ Some (record { relation = r; param = p })
 given-some t r p params some reads = by (given_scan t) params (given-one t)

@@ -25,3 +25,5 @@ pub mod WhereLemmas
 pub mod WideLemmas
 pub mod WordLemmas
 pub mod WrittenLemmas
+pub mod DefaultLemmas
+pub mod ConditionLemmas

@@ -23,7 +23,8 @@ use Rattle.plan_space.proofs.NamedLemmas.{IsOfTable, enumerated}
 use Rattle.explain.specs.Texts.{bits_text, conjunct_by, lead, leaf_line, number_text, plain_line, trees_text}
 use Rattle.explain_laws.proofs.ConjunctLemmas.{HasConjunct, conjunct-same, or-conjunct}
 use Rattle.explain_laws.proofs.NameLemmas.{index-name, index-same}
-use Rattle.explain_laws.proofs.SplitLemmas.{decimal-word, split, word}
+use Rattle.explain_laws.proofs.SplitLemmas.{split}
+use Rattle.pg_base.proofs.NameLemmas.{decimal-word, name-word}
 use Rattle.pg_base.proofs.ListLemmas.{zip-long as zip_long}
 use Rattle.plan_tree.proofs.PickedLemmas.{holds-picked as picked-is}
 
@@ -132,7 +133,7 @@ module _ (c : Contents) (q : Query) where
     leaf-split d i j x y hi hj e =
         let one = same-titles d _ _ (leaf_title i ++ 10 ∷ x) (leaf_title j ++ 10 ∷ y) (line-is d (leaf_title i) x) (line-is d (leaf_title j) y) e in
         let two : index_name_at c i ++ 10 ∷ x ≡ index_name_at c j ++ 10 ∷ y = ap (λ (l : List ℕ). drop 21 l) one in
-        let three = split (index_name_at c i) (index_name_at c j) (10 ∷ x) (10 ∷ y) (word (index_name_at c i) (index-name c lawful i hi)) (word (index_name_at c j) (index-name c lawful j hj)) refl refl two in
+        let three = split (index_name_at c i) (index_name_at c j) (10 ∷ x) (10 ∷ y) (name-word (index_name_at c i) (index-name c lawful i hi)) (name-word (index_name_at c j) (index-name c lawful j hj)) refl refl two in
         (index-same c lawful i j hi hj three.0, ap (λ (l : List ℕ). drop 1 l) three.1)
 
     leaves-split : (d : ℕ) (us vs : List IndexNo) (x y : List ℕ) → AllByRecursion (IsIndex c) us → AllByRecursion (IsIndex c) vs → length us ≡ length vs →

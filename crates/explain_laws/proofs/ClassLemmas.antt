@@ -29,12 +29,14 @@ use Rattle.sql_query.specs.WellBound.{IsColumnOf, IsWellBound, given_with}
 use Rattle.pathkeys.specs.Keys.{Keys, class_of, is_constant, once, order_class, order_keys}
 use Rattle.plan_laws.specs.sort_rows_ColumnLemmas.{member_is}
 use Rattle.plan_laws.proofs.IndexOrderLemmas.{class_found}
-use Rattle.plan_laws.proofs.ItemLemmas.{default_of, same_family}
+use Rattle.eq_classes.proofs.DefaultLemmas.{same_family}
+use Rattle.eq_classes.proofs.DefaultLemmas.{default_of}
 use Rattle.eq_classes.proofs.TypedLemmas.{is_some_value as sample_fits}
 use Rattle.plan_laws.proofs.KeyLemmas.{find_more}
 use Rattle.explain.specs.Texts.{column_text, direction_text, family_text, key_text, keys_text, with_commas, member_text}
 use Rattle.explain_laws.proofs.NameLemmas.{alias-name, alias-same, column-name, column-same, relation-table}
-use Rattle.explain_laws.proofs.SplitLemmas.{split, stops, word}
+use Rattle.explain_laws.proofs.SplitLemmas.{split, stops}
+use Rattle.pg_base.proofs.NameLemmas.{name-word}
 
 abbrev pub is_abs : Family → Bool
 is_abs families.IntAbs = true
@@ -169,9 +171,9 @@ module _ (c : Contents) (q : Query) (lawful : IsLawful c) (bound : IsWellBound c
       let ty = relation-table c q.range bound.range y.rel cy.relation in
       let whole = sym (key-is a n k s) ∙ e ∙ key-is b m l t in
       let one = split (alias_at x) (alias_at y) (46 ∷ (name_of x ++ (tail_text K ++ s))) (46 ∷ (name_of y ++ (tail_text L ++ t)))
-      (word (alias_at x) (alias-name c q.range bound.range x.rel cx.relation)) (word (alias_at y) (alias-name c q.range bound.range y.rel cy.relation)) refl refl whole in
+      (name-word (alias_at x) (alias-name c q.range bound.range x.rel cx.relation)) (name-word (alias_at y) (alias-name c q.range bound.range y.rel cy.relation)) refl refl whole in
       let two = split (name_of x) (name_of y) (tail_text K ++ s) (tail_text L ++ t)
-      (word (name_of x) (column-name c lawful (table_of q.range x) x.col tx cx.column)) (word (name_of y) (column-name c lawful (table_of q.range y) y.col ty cy.column))
+      (name-word (name_of x) (column-name c lawful (table_of q.range x) x.col tx cx.column)) (name-word (name_of y) (column-name c lawful (table_of q.range y) y.col ty cy.column))
       (stops-tail K.family K.descending K.nulls_first s hs.stops_name) (stops-tail L.family L.descending L.nulls_first t ht.stops_name)
       (ap (λ (z : List ℕ). drop 1 z) one.1) in
       let rel : x.rel ≡ y.rel = alias-same c q.range bound.range x.rel y.rel cx.relation cy.relation one.0 in

@@ -30,7 +30,8 @@ use Rattle.explain_laws.proofs.BitLemmas.{IsShallow, IsTreeTold, bits-split, lin
 use Rattle.explain_laws.proofs.ClassLemmas.{AreShownKeys, keys-split, order-shown}
 use Rattle.explain_laws.proofs.NameLemmas.{alias-name, alias-same, aliases-names, index-name, index-same, relation-table, table-name}
 use Rattle.explain_laws.proofs.ParamLemmas.{IsOfQuery, bitmap-param, index-param, params-same}
-use Rattle.explain_laws.proofs.SplitLemmas.{numbers-split, relation-split, split, word}
+use Rattle.explain_laws.proofs.SplitLemmas.{numbers-split, relation-split, split}
+use Rattle.pg_base.proofs.NameLemmas.{name-word}
 
 -- three bytes of a title tell the kind of a node
 abbrev kind : Plan → ℕ
@@ -149,7 +150,7 @@ module _ (c : Contents) (q : Query) where
         let I = index_name_at c i in
         let J = index_name_at c j in
         let one : (I ++ (codes " on " ++ scanned_text c q r p)) ++ 32 ∷ 32 ∷ x ≡ (J ++ (codes " on " ++ scanned_text c q s o)) ++ 32 ∷ 32 ∷ y = ap (λ (l : List ℕ). drop 7 l) e in
-        let two = split I J ((codes " on " ++ scanned_text c q r p) ++ 32 ∷ 32 ∷ x) ((codes " on " ++ scanned_text c q s o) ++ 32 ∷ 32 ∷ y) (word I (index-name c lawful i hi)) (word J (index-name c lawful j hj)) refl refl
+        let two = split I J ((codes " on " ++ scanned_text c q r p) ++ 32 ∷ 32 ∷ x) ((codes " on " ++ scanned_text c q s o) ++ 32 ∷ 32 ∷ y) (name-word I (index-name c lawful i hi)) (name-word J (index-name c lawful j hj)) refl refl
         (sym (append_assoc I (codes " on " ++ scanned_text c q r p) (32 ∷ 32 ∷ x)) ∙ one ∙ append_assoc J (codes " on " ++ scanned_text c q s o) (32 ∷ 32 ∷ y)) in
         let rest = scanned-split r s p o x y hr hs hp ho (ap (λ (l : List ℕ). drop 4 l) two.1) in
         (index-same c lawful i j hi hj two.0, rest.0, rest.1, rest.2)

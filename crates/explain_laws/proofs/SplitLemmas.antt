@@ -10,6 +10,7 @@ use Rattle.std.proofs.lemmas.Bool.{and_from, and_parts, true≢false}
 use Rattle.std.proofs.lemmas.Bool.Decides.{nat_tests}
 use Rattle.std.proofs.lemmas.Slice.Eq.{bytes_eq-Decides}
 use Rattle.pg_base.specs.Names.{IsName, is_in_name}
+use Rattle.pg_base.proofs.NameLemmas.{decimal-word, first-in, name-word}
 use Rattle.sql_query.specs.declared.window.Window.{Window}
 use Rattle.cost_rules.specs.declared.pair.Pair.{Pair}
 use Rattle.explain.specs.Texts.{cost_text, with_commas, numbers_text, relation_text}
@@ -33,54 +34,9 @@ split (a ∷ us) (b ∷ bs) x y hv hw sx sy e =
     let more = split us bs x y (and_parts (is_in_name a) (list_all is_in_name us) hv).1 (and_parts (is_in_name b) (list_all is_in_name bs) hw).1 sx sy rest in
     (ap₂ (λ (c : ℕ) (l : List ℕ). c ∷ l) same more.0, more.1)
 
-begins-in : (L D U S : Bool) → L || U ≡ true → ((L || D) || U) || S ≡ true
-begins-in true D U S h = refl
-begins-in false true U S h = refl
-begins-in false false true S h = refl
-begins-in false false false S h = absurd (true≢false (sym h))
-
-pub first-in : (b : ℕ) (bs : List ℕ) → IsName (b ∷ bs) → is_in_name b ≡ true
-first-in b bs h = begins-in (is_ascii_lowercase b) (is_ascii_digit b) (b == 95) (b == 36) h.0
-
-pub word : (w : List ℕ) → IsName w → list_all is_in_name w ≡ true
-word [] h = refl
-word (b ∷ bs) h = and_from (is_in_name b) (list_all is_in_name bs) (first-in b bs h) h.1
-
 -- no name begins with a space
 pub no-space : (b : ℕ) (bs : List ℕ) → IsName (b ∷ bs) → b ≡ 32 → ⊥
 no-space b bs h e = true≢false (sym (first-in b bs h) ∙ ap is_in_name e)
-
--- the digits of a number are bytes of names
-digit-in : (n : ℕ) → is_in_name (digit_glyph false (n % 10)) ≡ true
-digit-in n = let low : n % 10 < 10 = omega arith in here (n % 10) low
-  where
-    glyph : (d : ℕ) → d < 10 → digit_glyph false d ≡ 48 + d
-    glyph d lt = let t : nat_lt d 10 ≡ true = grind (arith, nat_tests, lt) in ap (λ (b : Bool). if b then 48 + d else 87 + d) t
-
-    is-digit : (d : ℕ) → d < 10 → is_ascii_digit (48 + d) ≡ true
-    is-digit d lt = grind (arith, nat_tests, lt)
-
-    in-name : (L D U S : Bool) → D ≡ true → ((L || D) || U) || S ≡ true
-    in-name true D U S h = refl
-    in-name false true U S h = refl
-    in-name false false U S h = absurd (true≢false (sym h))
-
-    here : (d : ℕ) → d < 10 → is_in_name (digit_glyph false d) ≡ true
-    here d lt = ap is_in_name (glyph d lt) ∙ in-name (is_ascii_lowercase (48 + d)) (is_ascii_digit (48 + d)) ((48 + d) == 95) ((48 + d) == 36) (is-digit d lt)
-
-onto-word : (k n : ℕ) (acc : List ℕ) → list_all is_in_name acc ≡ true → list_all is_in_name (digits_onto k 10 false n acc) ≡ true
-onto-word zero n acc h = h
-onto-word (suc k) n acc h =
-    let more = and_from (is_in_name (digit_glyph false (n % 10))) (list_all is_in_name acc) (digit-in n) h in
-    by (n / 10 == 0) (digit_glyph false (n % 10) ∷ acc) (digits_onto k 10 false (n / 10) (digit_glyph false (n % 10) ∷ acc)) more (onto-word k (n / 10) (digit_glyph false (n % 10) ∷ acc) more)
-  where
-    by : (b : Bool) (x y : List ℕ) → list_all is_in_name x ≡ true → list_all is_in_name y ≡ true → list_all is_in_name (if b then x else y) ≡ true
-    by true x y hx hy = hx
-    by false x y hx hy = hy
-
-pub decimal-word : (n : ℕ) → list_all is_in_name (decimal n) ≡ true
-unfolding digits
-decimal-word n = onto-word 64 n [] refl
 
 -- behind the cost of a node
 cost-split : (window : Option Window) (m n : Pair) (x y : List ℕ) → stops x ≡ true → stops y ≡ true → cost_text window m ++ x ≡ cost_text window n ++ y → x ≡ y
@@ -116,7 +72,7 @@ more-split [] (b ∷ bs) s t h k e = let bad : 32 ≡ 44 = ap (λ (l : List ℕ)
 more-split (a ∷ us) [] s t h k e = let bad : 44 ≡ 32 = ap (λ (l : List ℕ). get_or l 0 0) e in absurd (omega (arith, bad))
 more-split (a ∷ us) (b ∷ bs) s t h k e =
     let one : (a ++ with_commas (codes ", ") us) ++ 32 ∷ s ≡ (b ++ with_commas (codes ", ") bs) ++ 32 ∷ t = ap (λ (l : List ℕ). drop 2 l) e in
-    let two = split a b (with_commas (codes ", ") us ++ 32 ∷ s) (with_commas (codes ", ") bs ++ 32 ∷ t) (word a h.0) (word b k.0) (stops-more us s) (stops-more bs t)
+    let two = split a b (with_commas (codes ", ") us ++ 32 ∷ s) (with_commas (codes ", ") bs ++ 32 ∷ t) (name-word a h.0) (name-word b k.0) (stops-more us s) (stops-more bs t)
     (sym (append_assoc a (with_commas (codes ", ") us) (32 ∷ s)) ∙ one ∙ append_assoc b (with_commas (codes ", ") bs) (32 ∷ t)) in
     let rest = more-split us bs s t h.1 k.1 two.1 in
     (ap₂ (λ (c : List ℕ) (l : List (List ℕ)). c ∷ l) two.0 rest.0, rest.1)
@@ -135,12 +91,12 @@ given-split [] (b ∷ bs) s t h k e = let bad : 32 ≡ 102 = ap (λ (l : List �
 given-split (a ∷ us) [] s t h k e = let bad : 102 ≡ 32 = ap (λ (l : List ℕ). get_or l 1 0) e in absurd (omega (arith, bad))
 given-split (a ∷ us) (b ∷ bs) s t h k e =
     let one : (a ++ with_commas (codes ", ") us) ++ 32 ∷ 32 ∷ s ≡ (b ++ with_commas (codes ", ") bs) ++ 32 ∷ 32 ∷ t = ap (λ (l : List ℕ). drop 5 l) e in
-    let two = split a b (with_commas (codes ", ") us ++ 32 ∷ 32 ∷ s) (with_commas (codes ", ") bs ++ 32 ∷ 32 ∷ t) (word a h.0) (word b k.0) (stops-more us (32 ∷ s)) (stops-more bs (32 ∷ t))
+    let two = split a b (with_commas (codes ", ") us ++ 32 ∷ 32 ∷ s) (with_commas (codes ", ") bs ++ 32 ∷ 32 ∷ t) (name-word a h.0) (name-word b k.0) (stops-more us (32 ∷ s)) (stops-more bs (32 ∷ t))
     (sym (append_assoc a (with_commas (codes ", ") us) (32 ∷ 32 ∷ s)) ∙ one ∙ append_assoc b (with_commas (codes ", ") bs) (32 ∷ 32 ∷ t)) in
     let rest = more-split us bs (32 ∷ s) (32 ∷ t) h.1 k.1 two.1 in
     (ap₂ (λ (c : List ℕ) (l : List (List ℕ)). c ∷ l) two.0 rest.0, ap (λ (l : List ℕ). drop 1 l) rest.1)
 
--- an alias beside the table's name is told from given relations, though it may be the word `for`
+-- an alias beside the table's name is told from given relations, though it may be the name-word `for`
 mixed-last : (us : List (List ℕ)) (b s z : List ℕ) → IsName b → with_commas (codes ", ") us ++ 32 ∷ 32 ∷ s ≡ 32 ∷ (b ++ z) → ⊥
 mixed-last [] [] s z n e = n
 mixed-last [] (c ∷ cs) s z n e = no-space c cs n (sym (ap (λ (l : List ℕ). get_or l 1 0) e))
@@ -152,7 +108,7 @@ mixed-for (c ∷ cs) us [] s t h k e = no-space c cs h (ap (λ (l : List ℕ). g
 mixed-for (c ∷ cs) us (b ∷ bs) s t h k e =
     let a = c ∷ cs in
     let one : (a ++ with_commas (codes ", ") us) ++ 32 ∷ 32 ∷ s ≡ codes "for" ++ 32 ∷ ((b ++ with_commas (codes ", ") bs) ++ 32 ∷ 32 ∷ t) = ap (λ (l : List ℕ). drop 1 l) e in
-    let two = split a (codes "for") (with_commas (codes ", ") us ++ 32 ∷ 32 ∷ s) (32 ∷ ((b ++ with_commas (codes ", ") bs) ++ 32 ∷ 32 ∷ t)) (word a h) refl (stops-more us (32 ∷ s)) refl
+    let two = split a (codes "for") (with_commas (codes ", ") us ++ 32 ∷ 32 ∷ s) (32 ∷ ((b ++ with_commas (codes ", ") bs) ++ 32 ∷ 32 ∷ t)) (name-word a h) refl (stops-more us (32 ∷ s)) refl
     (sym (append_assoc a (with_commas (codes ", ") us) (32 ∷ 32 ∷ s)) ∙ one) in
     mixed-last us b s (with_commas (codes ", ") bs ++ 32 ∷ 32 ∷ t) k.0 (two.1 ∙ ap (λ (l : List ℕ). 32 ∷ l) (append_assoc b (with_commas (codes ", ") bs) (32 ∷ 32 ∷ t)))
 
@@ -161,7 +117,7 @@ mixed [] bs [] s t h k n e = n
 mixed [] bs (c ∷ cs) s t h k n e = no-space c cs n (sym (ap (λ (l : List ℕ). get_or l 1 0) e))
 mixed (a ∷ us) bs w s t h k n e =
     let one : codes "for" ++ 32 ∷ ((a ++ with_commas (codes ", ") us) ++ 32 ∷ 32 ∷ s) ≡ w ++ after bs t = ap (λ (l : List ℕ). drop 1 l) e in
-    let two = split (codes "for") w (32 ∷ ((a ++ with_commas (codes ", ") us) ++ 32 ∷ 32 ∷ s)) (after bs t) refl (word w n) refl (stops-after bs t) one in
+    let two = split (codes "for") w (32 ∷ ((a ++ with_commas (codes ", ") us) ++ 32 ∷ 32 ∷ s)) (after bs t) refl (name-word w n) refl (stops-after bs t) one in
     mixed-for a us bs s t h.0 k two.1
 
 pub relation-split : (m n a b : List ℕ) (us bs : List (List ℕ)) (s t : List ℕ) → IsName m → IsName n → IsName a → IsName b → Names us → Names bs →
@@ -170,17 +126,17 @@ relation-split m n a b us bs s t hm hn ha hb h k e = by (bytes_eq m a) (bytes_eq
   where
     by : (x y : Bool) → bytes_eq m a ≡ x → bytes_eq n b ≡ y → cond x m (m ++ 32 ∷ a) ++ after us s ≡ cond y n (n ++ 32 ∷ b) ++ after bs t → (a ≡ b) × (us ≡ bs) × (s ≡ t)
     by true true p q e =
-        let one = split m n (after us s) (after bs t) (word m hm) (word n hn) (stops-after us s) (stops-after bs t) e in
+        let one = split m n (after us s) (after bs t) (name-word m hm) (name-word n hn) (stops-after us s) (stops-after bs t) e in
         let rest = given-split us bs s t h k one.1 in
         (sym ((bytes_eq-Decides m a).0 p) ∙ one.0 ∙ (bytes_eq-Decides n b).0 q, rest.0, rest.1)
     by true false p q e =
-        let one = split m n (after us s) (32 ∷ (b ++ after bs t)) (word m hm) (word n hn) (stops-after us s) refl (e ∙ append_assoc n (32 ∷ b) (after bs t)) in
+        let one = split m n (after us s) (32 ∷ (b ++ after bs t)) (name-word m hm) (name-word n hn) (stops-after us s) refl (e ∙ append_assoc n (32 ∷ b) (after bs t)) in
         absurd (mixed us bs b s t h k hb one.1)
     by false true p q e =
-        let one = split m n (32 ∷ (a ++ after us s)) (after bs t) (word m hm) (word n hn) refl (stops-after bs t) (sym (append_assoc m (32 ∷ a) (after us s)) ∙ e) in
+        let one = split m n (32 ∷ (a ++ after us s)) (after bs t) (name-word m hm) (name-word n hn) refl (stops-after bs t) (sym (append_assoc m (32 ∷ a) (after us s)) ∙ e) in
         absurd (mixed bs us a t s k h ha (sym one.1))
     by false false p q e =
-        let one = split m n (32 ∷ (a ++ after us s)) (32 ∷ (b ++ after bs t)) (word m hm) (word n hn) refl refl (sym (append_assoc m (32 ∷ a) (after us s)) ∙ e ∙ append_assoc n (32 ∷ b) (after bs t)) in
-        let two = split a b (after us s) (after bs t) (word a ha) (word b hb) (stops-after us s) (stops-after bs t) (ap (λ (l : List ℕ). drop 1 l) one.1) in
+        let one = split m n (32 ∷ (a ++ after us s)) (32 ∷ (b ++ after bs t)) (name-word m hm) (name-word n hn) refl refl (sym (append_assoc m (32 ∷ a) (after us s)) ∙ e ∙ append_assoc n (32 ∷ b) (after bs t)) in
+        let two = split a b (after us s) (after bs t) (name-word a ha) (name-word b hb) (stops-after us s) (stops-after bs t) (ap (λ (l : List ℕ). drop 1 l) one.1) in
         let rest = given-split us bs s t h k two.1 in
         (two.0, rest.0, rest.1)

@@ -29,35 +29,8 @@ use Rattle.pg_base.proofs.ListLemmas.{found-at as found_at}
 use Rattle.pg_base.proofs.OptionLemmas.{some-or as some_or}
 use Rattle.pg_base.proofs.OptionLemmas.{found-none as found_none}
 use Rattle.eq_classes.proofs.TypedLemmas.{is_some_value as sample_fits}
-
--- a type whose values a family orders has it as its default family, where the family is one of some type
-default_of : (t : SqlType) (f : Family) → IsOfFamily f (some_value t) → (f ≡ families.IntAbs → ⊥) → default_family_of t ≡ Some f
-default_of Int2 families.Integer h other = refl
-default_of Int4 families.Integer h other = refl
-default_of Int8 families.Integer h other = refl
-default_of TextType families.Integer h other = absurd h
-default_of BoolType families.Integer h other = absurd h
-default_of t families.IntAbs h other = absurd (other refl)
-default_of Int2 families.Text h other = absurd h
-default_of Int4 families.Text h other = absurd h
-default_of Int8 families.Text h other = absurd h
-default_of TextType families.Text h other = refl
-default_of BoolType families.Text h other = absurd h
-default_of Int2 families.Bool h other = absurd h
-default_of Int4 families.Bool h other = absurd h
-default_of Int8 families.Bool h other = absurd h
-default_of TextType families.Bool h other = absurd h
-default_of BoolType families.Bool h other = refl
-
-no_default_abs : (t : SqlType) → default_family_of t ≡ Some families.IntAbs → ⊥
-no_default_abs Int2 h = cc
-no_default_abs Int4 h = cc
-no_default_abs Int8 h = cc
-no_default_abs TextType h = cc
-no_default_abs BoolType h = cc
-
-same_family : (f g : Family) {o : Option Family} → o ≡ Some f → o ≡ Some g → f ≡ g
-same_family f g e h = cc
+use Rattle.eq_classes.proofs.DefaultLemmas.{default_of, no_default_abs, same_family}
+use Rattle.group_query.proofs.ItemLemmas.{directed-column}
 
 -- the class of a number: it has a column in a family
 record ClassOf (t : Table) (x : ColRef) (f : Family) (n : ℕ) : Type 0 where
@@ -73,11 +46,6 @@ class_found t x f n h =
     let passes : is_in (class_at t.classes n) (in_family x f) ≡ true = subst (λ (k : ℕ). is_in (class_at t.classes k) (in_family x f) ≡ true) same at.3 in
     let parts = and_parts (is_family (class_at t.classes n).family f) (has_member (class_at t.classes n) x) passes in
     record { low = low; family = sym (family_is (class_at t.classes n).family f parts.0); member = parts.1 }
-
--- the items of GROUP BY are of its columns
-pub directed-col : (t : Table) (x : ColRef) (o : Option ℕ) → (directed_item t x o).col ≡ x
-directed-col t x None = refl
-directed-col t x (Some n) = refl
 
 module _ (g : Premises) (t : Table) (is : IsClassTable g t) (typed : All (IsTyped g.type_of) g.conjuncts) where
   -- the class of a column in a family that is a default one is in the column's default family
@@ -145,5 +113,5 @@ module _ (g : Premises) (t : Table) (is : IsClassTable g t) (typed : All (IsType
       let (x, there, same) = in_map (λ y. directed_item t y (order_class t y)) keys item (found_in (orders_by g.type_of k) (group_items t keys) item found) in
       let passes : orders_by g.type_of k (directed_item t x (order_class t x)) ≡ true = subst (λ (j : OrderItem). orders_by g.type_of k j ≡ true) same (found_passes (orders_by g.type_of k) (group_items t keys) item found) in
       let by : is_some_and (is_in k) (option_map (in_family x) (default_family_of (g.type_of x))) ≡ true =
-      subst (λ (y : ColRef). is_some_and (is_in k) (option_map (in_family y) (default_family_of (g.type_of y))) ≡ true) (directed-col t x (order_class t x)) passes in
+      subst (λ (y : ColRef). is_some_and (is_in k) (option_map (in_family y) (default_family_of (g.type_of y))) ≡ true) (directed-column t x (order_class t x)) passes in
       subst (λ (j : OrderItem). ◌≡◌ {A = Bool × Bool} (direction_by (Some j)) (k.descending, k.nulls_first)) (sym same) (by-default x k (default_family_of (g.type_of x)) refl i by)

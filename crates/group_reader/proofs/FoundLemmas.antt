@@ -100,10 +100,6 @@ pub some-from : {A : Type 0} (o : Option A) → is_some o ≡ true → (x : A) �
 some-from None is = absurd (cc (is))
 some-from (Some x) is = (x, refl)
 
-pub none-from : {A : Type 0} (o : Option A) → is_some o ≡ false → o ≡ None
-none-from None is = refl
-none-from (Some x) is = absurd (cc (is))
-
 -- the first of two lists of words
 pub first-front : (xs ys : List Token) (t : Token) → first_of xs ≡ Some t → first_of (xs ++ ys) ≡ Some t
 first-front [] ys t is = absurd (cc (is))

@@ -55,7 +55,8 @@ use Rattle.group_reader.specs.declared.written.Sorting.{Sorting}
 use Rattle.group_reader.specs.Binding.{BoundLists, base_with, column_by_call, column_of_part, grouped_with, is_bool, is_grouped, item_in, none_of, over_column, over_rows, shown_columns, ungrouped_items, ungrouped_part}
 use Rattle.group_reader.specs.Meaning.{column_by, column_call, column_meant, known, last_word, list_said, listed_said, lists_said, part_alone, shown_at, sorting_said, then_parts}
 use Rattle.group_reader.specs.Selected.{IsGroupedByItself}
-use Rattle.group_reader.proofs.ClassLemmas.{directed-col, group-directed}
+use Rattle.group_reader.proofs.ClassLemmas.{group-directed}
+use Rattle.group_query.proofs.ItemLemmas.{directed-column}
 
 -- one step after another that is meant
 pub record Stepped {A B : Type 0} (m : Result A Fault) (f : A → Result B Fault) (b : B) : Type 0 where
@@ -425,7 +426,7 @@ module _ (c : Contents) (range : Range) (are : AreRelations c range) (some : 0 <
     group-key : (i : OrderItem) → IsIn i (group_items classes l.keys) → IsIn i.col l.keys
     group-key i at =
         let (x, j, same) = in_map (λ (y : ColRef). directed_item classes y (order_class classes y)) l.keys i at in
-        subst (λ (y : ColRef). IsIn y l.keys) (sym (ap (λ (o : OrderItem). o.col) same ∙ directed-col classes x (order_class classes x))) j
+        subst (λ (y : ColRef). IsIn y l.keys) (sym (ap (λ (o : OrderItem). o.col) same ∙ directed-column classes x (order_class classes x))) j
 
     item-there : (p : Part) → IsIn p l.parts → IsItemOf c (grouped_with classes (record { range = range; where_all = ws; lists = l })) (item_in l.keys p)
     item-there (parts.Shown x t) i = place-low l.keys x (shown x t i)

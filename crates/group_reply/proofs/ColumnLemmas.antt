@@ -24,6 +24,7 @@ use Rattle.group_runs.specs.Sorters.{AreSortersOf}
 use Rattle.group_query.specs.Grouping.{IsItemOf, directed_item, group_items}
 use Rattle.group_query.specs.Shapes.{args_of, place_in, place_or, sorter_in}
 use Rattle.group_reply.specs.Columns.{IsArgOf}
+use Rattle.group_query.proofs.ItemLemmas.{directed-column}
 
 -- a column stands where it is looked for among some of which it is one
 place-within : (keys : List ColRef) (x : ColRef) → Contains keys x → position_or_len (is_column x) keys < length keys
@@ -45,10 +46,6 @@ sorters-are keys (i ∷ is) all = (
   record { column = place-is keys i.col (All-head (λ (i : OrderItem). Contains keys i.col) i is all); descending = refl; nulls_first = refl },
   sorters-are keys is (All-tail (λ (i : OrderItem). Contains keys i.col) i is all),
 )
-
-directed-column : (t : Table) (x : ColRef) (o : Option ℕ) → (directed_item t x o).col ≡ x
-directed-column t x None = refl
-directed-column t x (Some n) = refl
 
 -- the columns of an order by the GROUP BY columns are these
 pub columns-are : (t : Table) (xs : List ColRef) → ordered_columns (group_items t xs) ≡ xs

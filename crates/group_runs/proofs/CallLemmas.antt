@@ -10,12 +10,7 @@ use Rattle.group_values.specs.declared.shape.Call.{Call}
 use Rattle.group_values.specs.declared.shape.Call.TheVariants.{CountAll, Count, Min, Max}
 use Rattle.group_values.specs.Groups.{Seen, all_called, args_of, called, is_known, number}
 use Rattle.group_runs.proofs.LeastLemmas.{Perm-length, least-moved}
-
-undirected : (d : Bool) (o : Ordering) → directed d o ≡ Equal → o ≡ Equal
-undirected false o e = e
-undirected true Less e = cc e
-undirected true Equal e = e
-undirected true Greater e = cc e
+use Rattle.pg_value.proofs.DirectionLemmas.{undirected_equal}
 
 -- values that tie are the same, with NULL behind the others
 tied-last : (d : Bool) (v w : Value) → directed_order d false v w ≡ Equal → v ≡ w
@@ -26,15 +21,15 @@ tied-last d Null (String t) e = cc e
 tied-last d (Int n) Null e = cc e
 tied-last d (Flag b) Null e = cc e
 tied-last d (String t) Null e = cc e
-tied-last d (Int n) (Int m) e = tied-same (Int n) (Int m) (undirected d (kind_order (Int n) (Int m)) e)
-tied-last d (Int n) (Flag b) e = tied-same (Int n) (Flag b) (undirected d (kind_order (Int n) (Flag b)) e)
-tied-last d (Int n) (String t) e = tied-same (Int n) (String t) (undirected d (kind_order (Int n) (String t)) e)
-tied-last d (Flag b) (Int n) e = tied-same (Flag b) (Int n) (undirected d (kind_order (Flag b) (Int n)) e)
-tied-last d (Flag b) (Flag a) e = tied-same (Flag b) (Flag a) (undirected d (kind_order (Flag b) (Flag a)) e)
-tied-last d (Flag b) (String t) e = tied-same (Flag b) (String t) (undirected d (kind_order (Flag b) (String t)) e)
-tied-last d (String t) (Int n) e = tied-same (String t) (Int n) (undirected d (kind_order (String t) (Int n)) e)
-tied-last d (String t) (Flag b) e = tied-same (String t) (Flag b) (undirected d (kind_order (String t) (Flag b)) e)
-tied-last d (String t) (String u) e = tied-same (String t) (String u) (undirected d (kind_order (String t) (String u)) e)
+tied-last d (Int n) (Int m) e = tied-same (Int n) (Int m) (undirected_equal d (kind_order (Int n) (Int m)) e)
+tied-last d (Int n) (Flag b) e = tied-same (Int n) (Flag b) (undirected_equal d (kind_order (Int n) (Flag b)) e)
+tied-last d (Int n) (String t) e = tied-same (Int n) (String t) (undirected_equal d (kind_order (Int n) (String t)) e)
+tied-last d (Flag b) (Int n) e = tied-same (Flag b) (Int n) (undirected_equal d (kind_order (Flag b) (Int n)) e)
+tied-last d (Flag b) (Flag a) e = tied-same (Flag b) (Flag a) (undirected_equal d (kind_order (Flag b) (Flag a)) e)
+tied-last d (Flag b) (String t) e = tied-same (Flag b) (String t) (undirected_equal d (kind_order (Flag b) (String t)) e)
+tied-last d (String t) (Int n) e = tied-same (String t) (Int n) (undirected_equal d (kind_order (String t) (Int n)) e)
+tied-last d (String t) (Flag b) e = tied-same (String t) (Flag b) (undirected_equal d (kind_order (String t) (Flag b)) e)
+tied-last d (String t) (String u) e = tied-same (String t) (String u) (undirected_equal d (kind_order (String t) (String u)) e)
 
 args-moved : (n : ℕ) (ss ts : List Seen) → Perm ss ts → Perm (args_of n ss) (args_of n ts)
 args-moved n ss ts p = Perm-filter is_known (map (λ (s : Seen). get_or s.args n Null) ss) (map (λ (s : Seen). get_or s.args n Null) ts) (Perm-map (λ (s : Seen). get_or s.args n Null) ss ts p)

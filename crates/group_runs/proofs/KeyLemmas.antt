@@ -8,6 +8,7 @@ use Rattle.group_values.specs.Groups.{Seen, firsts, keys_of, same_keys}
 use Rattle.group_values.proofs.GroupLemmas.{alike_equiv}
 use Rattle.group_values.proofs.OrderLemmas.{same-is}
 use Rattle.group_runs.proofs.LeastLemmas.{Perm-length}
+use Rattle.pg_base.proofs.ListLemmas.{map-filter, filters-swapped}
 
 abbrev pub Keys : Type 0
 Keys = List Value
@@ -20,28 +21,10 @@ abbrev pub once : List Keys → List Keys
 once [] = []
 once (k ∷ ks) = k ∷ filter (other_than k) (once ks)
 
-map-filter : {A B : Type 0} (f : A → B) (p : B → Bool) (xs : List A) → map f (filter (λ x. p (f x)) xs) ≡ filter p (map f xs)
-map-filter f p [] = refl
-map-filter f p (x ∷ xs) = by (p (f x)) (map-filter f p xs)
-  where
-    by : (b : Bool) → map f (filter (λ x. p (f x)) xs) ≡ filter p (map f xs) → map f (cond b (x ∷ filter (λ x. p (f x)) xs) (filter (λ x. p (f x)) xs)) ≡ cond b (f x ∷ filter p (map f xs)) (filter p (map f xs))
-    by true more = ap (λ l. f x ∷ l) more
-    by false more = more
-
 -- those of the firsts are these
 pub keys-of-firsts : (ss : List Seen) → map (λ (s : Seen). s.keys) (firsts ss) ≡ once (map (λ (s : Seen). s.keys) ss)
 keys-of-firsts [] = refl
 keys-of-firsts (s ∷ ss) = ap (λ l. s.keys ∷ l) (map-filter (λ (t : Seen). t.keys) (other_than s.keys) (firsts ss) ∙ ap (filter (other_than s.keys)) (keys-of-firsts ss))
-
-filters-swapped : {A : Type 0} (p q : A → Bool) (xs : List A) → filter p (filter q xs) ≡ filter q (filter p xs)
-filters-swapped p q [] = refl
-filters-swapped p q (x ∷ xs) = by (p x) refl (q x) refl (filters-swapped p q xs)
-  where
-    by : (b : Bool) → p x ≡ b → (c : Bool) → q x ≡ c → filter p (filter q xs) ≡ filter q (filter p xs) → filter p (cond c (x ∷ filter q xs) (filter q xs)) ≡ filter q (cond b (x ∷ filter p xs) (filter p xs))
-    by true e true f more = ap (λ b. cond b (x ∷ filter p (filter q xs)) (filter p (filter q xs))) e ∙ ap (λ l. x ∷ l) more ∙ sym (ap (λ b. cond b (x ∷ filter q (filter p xs)) (filter q (filter p xs))) f)
-    by true e false f more = more ∙ sym (ap (λ b. cond b (x ∷ filter q (filter p xs)) (filter q (filter p xs))) f)
-    by false e true f more = ap (λ b. cond b (x ∷ filter p (filter q xs)) (filter p (filter q xs))) e ∙ more
-    by false e false f more = more
 
 same-back : (k l : Keys) → same_keys k l ≡ same_keys l k
 same-back k l = alike_equiv.symm (record { keys = k; args = [] }) (record { keys = l; args = [] })

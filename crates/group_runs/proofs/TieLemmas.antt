@@ -28,12 +28,7 @@ use Rattle.sql_query.specs.Tuples.{Tuple, value_at}
 use Rattle.sql_query.specs.WellBound.{ordered_columns}
 use Rattle.sql_query.specs.Worlds.{World, IsWorld}
 use Rattle.group_values.specs.Groups.{same_keys, same_value}
-
-ties-directed : (d : Bool) (o : Ordering) → is_eq (directed d o) ≡ is_eq o
-ties-directed false o = refl
-ties-directed true Less = refl
-ties-directed true Equal = refl
-ties-directed true Greater = refl
+use Rattle.pg_value.proofs.DirectionLemmas.{equal_directed}
 
 -- neither a direction nor a place of NULL changes which values tie
 ties-anyway : (d n : Bool) (v w : Value) → is_eq (directed_order d n v w) ≡ same_value v w
@@ -50,15 +45,15 @@ ties-anyway d true (Flag a) Null = refl
 ties-anyway d false (Flag a) Null = refl
 ties-anyway d true (String a) Null = refl
 ties-anyway d false (String a) Null = refl
-ties-anyway d n (Int a) (Int b) = ties-directed d (kind_order (Int a) (Int b))
-ties-anyway d n (Int a) (Flag b) = ties-directed d (kind_order (Int a) (Flag b))
-ties-anyway d n (Int a) (String b) = ties-directed d (kind_order (Int a) (String b))
-ties-anyway d n (Flag a) (Int b) = ties-directed d (kind_order (Flag a) (Int b))
-ties-anyway d n (Flag a) (Flag b) = ties-directed d (kind_order (Flag a) (Flag b))
-ties-anyway d n (Flag a) (String b) = ties-directed d (kind_order (Flag a) (String b))
-ties-anyway d n (String a) (Int b) = ties-directed d (kind_order (String a) (Int b))
-ties-anyway d n (String a) (Flag b) = ties-directed d (kind_order (String a) (Flag b))
-ties-anyway d n (String a) (String b) = ties-directed d (kind_order (String a) (String b))
+ties-anyway d n (Int a) (Int b) = equal_directed d (kind_order (Int a) (Int b))
+ties-anyway d n (Int a) (Flag b) = equal_directed d (kind_order (Int a) (Flag b))
+ties-anyway d n (Int a) (String b) = equal_directed d (kind_order (Int a) (String b))
+ties-anyway d n (Flag a) (Int b) = equal_directed d (kind_order (Flag a) (Int b))
+ties-anyway d n (Flag a) (Flag b) = equal_directed d (kind_order (Flag a) (Flag b))
+ties-anyway d n (Flag a) (String b) = equal_directed d (kind_order (Flag a) (String b))
+ties-anyway d n (String a) (Int b) = equal_directed d (kind_order (String a) (Int b))
+ties-anyway d n (String a) (Flag b) = equal_directed d (kind_order (String a) (Flag b))
+ties-anyway d n (String a) (String b) = equal_directed d (kind_order (String a) (String b))
 
 -- the default family of a type orders its values
 abbrev pub family : SqlType → Family

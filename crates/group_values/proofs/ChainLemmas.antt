@@ -8,7 +8,7 @@ use Rattle.std.proofs.lemmas.Nat.{mod_below}
 use Rattle.pg_value.specs.declared.value.Value.{Value}
 use Rattle.linked.specs.Lists.{AreLists, has, list_of, first, next_in, behind, put_after, with_after}
 use Rattle.linked.proofs.ListLemmas.{behind_in, next_behind, put_parts, step_on}
-use Rattle.linked.proofs.ChangeLemmas.{put_has_other}
+use Rattle.linked.proofs.ChangeLemmas.{put_has_other, put-behind}
 use Rattle.group_values.specs.Groups.{same_keys}
 use Rattle.group_values.specs.Shapes.{Summary}
 use Rattle.group_values.specs.Steps.{group_at, none}
@@ -99,23 +99,6 @@ begins firsts hashes lists gs keys hash next chained is at e =
           ap (λ o. has s (chain_from lists o)) (e ∙ ap (first_for firsts) (at ∙ ap hash_of (sym (same-is (group_at gs s).keys keys f)) ∙ sym (hash-at hashes gs s is lt)))
           ∙ chained.stands s (omega (arith, lt, many));
     }
-
--- a slot put behind another one of a list
-put-behind : (at slot h s : ℕ) (xs : List ℕ) → h ≢ slot → s ≢ slot → has s (behind h xs) ≡ true → has s (behind h (put_after at slot xs)) ≡ true
-put-behind at slot h s [] hs ss e = e
-put-behind at slot h s (x ∷ xs) hs ss e = by (eqb at x) (eqb h x) refl e (put-behind at slot h s xs hs ss)
-  where
-    other : eqb s slot ≡ false
-    other = ne_eqb s slot ss
-
-    aside : eqb h slot ≡ false
-    aside = ne_eqb h slot hs
-
-    by : (a b : Bool) → eqb h x ≡ b → has s (cond b xs (behind h xs)) ≡ true → (has s (behind h xs) ≡ true → has s (behind h (put_after at slot xs)) ≡ true) → has s (behind h (cond a (x ∷ slot ∷ xs) (x ∷ put_after at slot xs))) ≡ true
-    by true true f g more = ap (λ b. has s (cond b (slot ∷ xs) (behind h (slot ∷ xs)))) f ∙ ap (λ b. b || has s xs) other ∙ g
-    by true false f g more = ap (λ b. has s (cond b (slot ∷ xs) (behind h (slot ∷ xs)))) f ∙ ap (λ b. has s (cond b xs (behind h xs))) aside ∙ g
-    by false true f g more = ap (λ b. has s (cond b (put_after at slot xs) (behind h (put_after at slot xs)))) f ∙ put_has_other at slot s ss xs ∙ g
-    by false false f g more = ap (λ b. has s (cond b (put_after at slot xs) (behind h (put_after at slot xs)))) f ∙ more g
 
 -- the last slot, put into the chain of its hash
 module _ (firsts : List (Option ℕ)) (hashes : List ℕ) (lists : List (List ℕ)) (slot hash : ℕ) (others : AreChained slot firsts hashes lists) (last : length hashes ≡ slot + 1) (at : get_or hashes slot 0 ≡ hash) where

@@ -4,7 +4,7 @@ use Rattle.std.proofs.lemmas.Bool.{eqb-true, ne_eqb, eq-eqb}
 use Rattle.std.proofs.lemmas.List.{get_or-map, get_or-set_other, get_or-set_same, length-set, length-map}
 use Rattle.linked.specs.Lists.{AreLists, has, list_of, behind, put_after, without, with_after, with_alone}
 use Rattle.linked.proofs.ListLemmas.{put_parts}
-use Rattle.linked.proofs.ChangeLemmas.{put_has_other, without_has_other}
+use Rattle.linked.proofs.ChangeLemmas.{put_has_other, without_has_other, put-behind}
 use Rattle.hash_index.specs.Chains.{stands_behind}
 
 without_behind : (slot h s : ℕ) (xs : List ℕ) → h ≢ slot → s ≢ slot → has s (behind h xs) ≡ true → has s (behind h (without slot xs)) ≡ true
@@ -16,22 +16,6 @@ without_behind slot h s (x ∷ xs) hs ss e = by (eqb slot x) refl (eqb h x) refl
     by true e' false f g more = more g
     by false e' true f g more = ap (λ b. has s (cond b (without slot xs) (behind h (without slot xs)))) f ∙ without_has_other slot s ss xs ∙ g
     by false e' false f g more = ap (λ b. has s (cond b (without slot xs) (behind h (without slot xs)))) f ∙ more g
-
-put_behind : (at slot h s : ℕ) (xs : List ℕ) → h ≢ slot → s ≢ slot → has s (behind h xs) ≡ true → has s (behind h (put_after at slot xs)) ≡ true
-put_behind at slot h s [] hs ss e = e
-put_behind at slot h s (x ∷ xs) hs ss e = by (eqb at x) (eqb h x) refl e (put_behind at slot h s xs hs ss)
-  where
-    other : eqb s slot ≡ false
-    other = ne_eqb s slot ss
-
-    aside : eqb h slot ≡ false
-    aside = ne_eqb h slot hs
-
-    by : (a b : Bool) → eqb h x ≡ b → has s (cond b xs (behind h xs)) ≡ true → (has s (behind h xs) ≡ true → has s (behind h (put_after at slot xs)) ≡ true) → has s (behind h (cond a (x ∷ slot ∷ xs) (x ∷ put_after at slot xs))) ≡ true
-    by true true f g more = ap (λ b. has s (cond b (slot ∷ xs) (behind h (slot ∷ xs)))) f ∙ ap (λ b. b || has s xs) other ∙ g
-    by true false f g more = ap (λ b. has s (cond b (slot ∷ xs) (behind h (slot ∷ xs)))) f ∙ ap (λ b. has s (cond b xs (behind h xs))) aside ∙ g
-    by false true f g more = ap (λ b. has s (cond b (put_after at slot xs) (behind h (put_after at slot xs)))) f ∙ put_has_other at slot s ss xs ∙ g
-    by false false f g more = ap (λ b. has s (cond b (put_after at slot xs) (behind h (put_after at slot xs)))) f ∙ more g
 
 -- a slot taken out and put behind another one
 module _ (lists apart put : List (List ℕ)) (at slot : ℕ) (first : apart ≡ with_alone slot lists) (then' : put ≡ with_after at slot apart) (at_in : at < length lists) (slot_in : slot < length lists) (differ : at ≢ slot) where
@@ -53,7 +37,7 @@ module _ (lists apart put : List (List ℕ)) (at slot : ℕ) (first : apart ≡ 
   pub put_kept : (h s : ℕ) → h < length lists → h ≢ slot → s ≢ slot → stands_behind lists h s ≡ true → stands_behind put h s ≡ true
   put_kept h s lt hs ss e =
       ap (λ l. has s (behind h l)) (put_list h lt hs)
-      ∙ put_behind at slot h s (list_of apart h) hs ss (ap (λ l. has s (behind h l)) (apart_list h lt hs) ∙ without_behind slot h s (list_of lists h) hs ss e)
+      ∙ put-behind at slot h s (list_of apart h) hs ss (ap (λ l. has s (behind h l)) (apart_list h lt hs) ∙ without_behind slot h s (list_of lists h) hs ss e)
 
   pub put_stands : AreLists apart → stands_behind put at slot ≡ true
   put_stands lawful =

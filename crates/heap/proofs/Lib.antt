@@ -8,3 +8,4 @@ pub mod Records
 pub mod Rows
 pub mod RunLemmas
 pub mod StoredLemmas
+pub mod FitsLemmas

@@ -15,10 +15,7 @@ use Rattle.index_match.specs.Bounds.{bounds_among}
 use Rattle.index_match.specs.Arms.{arm_parts, takes_parts, is_matched, arm_bounds}
 use Rattle.index_match.specs.Slots.{numbered_at, numbered_from, bound_at}
 use Rattle.index_match.proofs.BoundLemmas.{bounds_are, bounds_below}
-
-pub listed_are : (es : List Cond) → listed (conds_of es) ≡ es
-listed_are [] = refl
-listed_are (e ∷ es) = ap (λ (xs : List Cond). e ∷ xs) (listed_are es)
+use Rattle.eq_classes.proofs.ConditionLemmas.{listed_conds}
 
 pub all_mapped : {A B : Type 0} (p : B → Bool) (f : A → B) (xs : List A) → list_all p (map f xs) ≡ list_all (λ x. p (f x)) xs
 all_mapped p f [] = refl
@@ -78,7 +75,7 @@ pub parts_few : (d : Index) (r : ℕ) (arm : Cond) → list_all (is_condition d 
 parts_few d r arm h = subst (λ (n : ℕ). length (arm_parts arm) ≤ n) (part_atoms arm) (few_parts d r (arm_parts arm) h)
 
 pub and_arm : (arm : Cond) (es : List Cond) → arm ≡ all_of (conds_of es) → es ≡ arm_parts arm
-and_arm arm es is = sym (listed_are es) ∙ sym (ap arm_parts is)
+and_arm arm es is = sym (listed_conds es) ∙ sym (ap arm_parts is)
 
 pub alone : (arm : Cond) → is_all arm ≡ false → arm ∷ [] ≡ arm_parts arm
 alone (all_of es) h = absurd (true≢false h)

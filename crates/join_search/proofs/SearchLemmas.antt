@@ -33,7 +33,7 @@ use Rattle.join_search.proofs.NestLemmas.{nests-later}
 use Rattle.join_search.proofs.OfferLemmas.{paths-there}
 use Rattle.join_search.proofs.PlanLemmas.{all-covered}
 use Rattle.join_search.proofs.SetLemmas.{divided-not-single, inner-less, outer-less, set-below}
-use Rattle.plan_laws.proofs.WithinLemmas.{read-below}
+use Rattle.plan_tree.proofs.GivenLemmas.{read-below}
 use Rattle.join_search.proofs.TableLemmas.{same-number}
 
 both-or-not : (a b m n : ℕ) (x y : Bool) → nat_eq a m ≡ x → nat_eq b n ≡ y → ((a ≡ m) × (b ≡ n)) ⊎ (((a ≡ m) × (b ≡ n)) → ⊥)

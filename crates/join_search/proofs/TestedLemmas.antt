@@ -17,22 +17,13 @@ use Rattle.plan_tree.specs.Plans.{Plan, seq, index, index_only, bitmap, sort, ne
 use Rattle.plan_tree.specs.Reads.{IsOverTables}
 use Rattle.plan_tree.specs.Space.{IsSameSet}
 use Rattle.plan_tree.proofs.PathLemmas.{built-below}
-use Rattle.plan_laws.proofs.WithinLemmas.{read-below}
+use Rattle.plan_tree.proofs.GivenLemmas.{read-below}
 use Rattle.join_search.specs.Nests.{AreTested, IsInner}
 use Rattle.join_search.specs.declared.splits.Split.{Split}
 use Rattle.join_search.proofs.PlanLemmas.{at-param, at-set}
-use Rattle.plan_tree.proofs.GivenLemmas.{given-none}
+use Rattle.plan_tree.proofs.GivenLemmas.{given-none, given-one}
 use Rattle.plan_tree.proofs.SetLemmas.{sets-same}
 use Rattle.plan_tree.proofs.GivenLemmas.{scan-one}
-
-given-one : (t : Plan) → IfSome (given_scan t) (λ (s : GivenScan). IsSameSet (set_of t) (one s.relation.0))
-given-one (seq r) = tt
-given-one (index r i backward p) = scan-one r p (is_empty p)
-given-one (index_only r i backward p) = scan-one r p (is_empty p)
-given-one (bitmap r p bits) = scan-one r p (is_empty p)
-given-one (sort keys input) = given-one input
-given-one (nest o i) = tt
-given-one (merge keys o i) = tt
 
 pub given-some : (t : Plan) (r : RelNo) (p : RelSet) → IsSameSet (has p.0) (param_of t) → (p.0 ≡ 0 → ⊥) → set_of t r.0 ≡ true → given_scan t ≡ Some (record { relation = r; param = p })
 given-some t r p params some reads = by (given_scan t) params (given-one t)

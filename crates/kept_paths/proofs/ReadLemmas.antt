@@ -16,6 +16,7 @@ use Rattle.pathkeys.proofs.CoveringLemmas.{covers-prefix, prefix-covers}
 use Rattle.cost_rules.specs.declared.pair.Pair.{Pair}
 use Rattle.kept_paths.specs.Bounds.{Bounds, is_first, is_told, is_within, known_at, least_in}
 use Rattle.kept_paths.specs.declared.bounds.Known.{Known}
+use Rattle.pg_base.proofs.OptionLemmas.{is-none}
 
 abbrev pub Numbers : Type 0
 Numbers = Vec ℕ Global
@@ -34,10 +35,6 @@ same-or list ks = ⊎_elim (λ y. inl ((bytes_decides list ks).0 y)) inr (cases_
 
 pub differ-from : (list ks : Keys) → ks ≢ list → bytes_eq list ks ≡ false
 differ-from list ks ne = ⊎_elim (λ same. absurd (ne (sym same))) (λ differ. differ) (same-or list ks)
-
-is-none : {X : Type 0} (x : Option X) → is_some x ≡ false → x ≡ None
-is-none None e = refl
-is-none (Some x) e = absurd (false≢true (sym e))
 
 pub none-known : (m : Bounds) (list : Keys) → is_some (known_at m list) ≡ false → known_at m list ≡ None
 none-known m list e = is-none (known_at m list) e

@@ -1,1 +1,2 @@
 pub mod KeyOrderLemmas
+pub mod TruthLemmas

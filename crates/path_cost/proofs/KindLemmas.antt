@@ -14,16 +14,13 @@ use Rattle.pg_expr.specs.Typed.{some_value}
 use Rattle.catalog.specs.Statistics.{Common}
 use Rattle.path_cost.specs.Known.{IsLawfulKnown, SuitsColumn}
 use Rattle.path_cost.specs.declared.known.Known.{Known}
+use Rattle.pg_expr.proofs.DefinedLaws.{no_number}
 
 has-plain : (op : Op) (v : Value) → is_absolute op ≡ false → HasOp op v
 has-plain op Null h = tt
 has-plain op (Int n) h = tt
 has-plain op (Flag b) h = h
 has-plain op (String t) h = h
-
-no-int : (t : SqlType) (n : ℤ) → limit t ≡ 0 → in_range t n ≡ true → ⊥
-no-int t (pos n) e h = grind (arith, common_steps, e, h)
-no-int t (negsuc n) e h = grind (arith, common_steps, e, h)
 
 same-kind : (t : SqlType) (p v : Value) → IsOfType t p → IsSameKind (some_value t) v → IsSameKind p v
 same-kind t Null v h k = tt
@@ -39,8 +36,8 @@ same-kind Int8 (Int n) Null h k = tt
 same-kind Int8 (Int n) (Int m) h k = tt
 same-kind Int8 (Int n) (Flag c) h k = absurd k
 same-kind Int8 (Int n) (String s) h k = absurd k
-same-kind TextType (Int n) v h k = absurd (no-int TextType n refl h)
-same-kind BoolType (Int n) v h k = absurd (no-int BoolType n refl h)
+same-kind TextType (Int n) v h k = absurd (no_number TextType n refl h)
+same-kind BoolType (Int n) v h k = absurd (no_number BoolType n refl h)
 same-kind Int2 (Flag b) v h k = absurd h
 same-kind Int4 (Flag b) v h k = absurd h
 same-kind Int8 (Flag b) v h k = absurd h

@@ -36,12 +36,12 @@ use Rattle.path_cost.proofs.ColumnLemmas.{column_laws, nulls_most, stats_lawful,
 use Rattle.path_cost.proofs.ShareLemmas.{all-most, and_most, column-most, null-most, or_most, two-columns-most}
 
 -- a table has a row
-some-rows : (loaded : ℕ) (sizes : Option Sizes) → AreSizes sizes → 1 ≤ rows_by loaded sizes
-some-rows loaded None h = omega arith
-some-rows loaded (Some s) h = grind (arith, nat_tests, common_steps, h.rows)
+pub some-sized : (loaded : ℕ) (sizes : Option Sizes) → AreSizes sizes → 1 ≤ rows_by loaded sizes
+some-sized loaded None h = omega arith
+some-sized loaded (Some s) h = grind (arith, nat_tests, common_steps, h.rows)
 
 pub rows-some : (c : Contents) (t : TableNo) → IsLawful c → IsTable c t → 1 ≤ rows_of c t
-rows-some c t h there = some-rows (table_at c t).loaded (table_at c t).sizes (h.tables t.0 no_table there).sizes
+rows-some c t h there = some-sized (table_at c t).loaded (table_at c t).sizes (h.tables t.0 no_table there).sizes
 
 module _ (c : Contents) (range : Range) (lawful : IsLawful c) (tables : AreTables c range) where
   -- what is taken to be known of a column is lawful

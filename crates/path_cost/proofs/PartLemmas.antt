@@ -22,10 +22,6 @@ use Rattle.path_cost.specs.Columns.{IsOver, is_column_in}
 use Rattle.path_cost.specs.Estimates.{kept, picked_from, share_of_rows}
 use Rattle.path_cost.specs.Selectivity.{selectivity}
 
-pub listed_conds : (es : List Cond) → listed (conds_of es) ≡ es
-listed_conds [] = refl
-listed_conds (e ∷ es) = ap (λ xs. e ∷ xs) (listed_conds es)
-
 -- what an AND of expressions stands for
 pub and-is : (parts : Exprs) → view.cond (And parts) ≡ all_of (view.conds parts.items.items)
 and-is parts = search (rules, the_lemmas, rolls-And, fold-roll-Expr, fold_out-Expr, fold-roll-Exprs, fold_out-Exprs)

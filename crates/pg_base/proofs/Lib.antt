@@ -4,3 +4,4 @@ pub mod NumberLemmas
 pub mod ListLemmas
 pub mod BoolLemmas
 pub mod OptionLemmas
+pub mod NameLemmas

@@ -86,3 +86,32 @@ all-filter P p (x ∷ xs) h = by (p x) (all-filter P p xs h.1)
 pub some-folded : {A : Type 0} (f : ℕ → A → ℕ) → ((m : ℕ) (a : A) → 1 ≤ f m a) → (n : ℕ) (xs : List A) → 1 ≤ n → 1 ≤ fold f n xs
 some-folded f some n [] h = h
 some-folded f some n (x ∷ xs) h = some-folded f some (f n x) xs (some n x)
+
+-- the images of those whose image passes are the images that pass
+pub map-filter : {A B : Type 0} (f : A → B) (p : B → Bool) (xs : List A) → map f (filter (λ x. p (f x)) xs) ≡ filter p (map f xs)
+map-filter f p [] = refl
+map-filter f p (x ∷ xs) = by (p (f x)) (map-filter f p xs)
+  where
+    by : (b : Bool) → map f (filter (λ x. p (f x)) xs) ≡ filter p (map f xs) → map f (cond b (x ∷ filter (λ x. p (f x)) xs) (filter (λ x. p (f x)) xs)) ≡ cond b (f x ∷ filter p (map f xs)) (filter p (map f xs))
+    by true more = ap (λ l. f x ∷ l) more
+    by false more = more
+
+-- two tests in either order
+pub filters-swapped : {A : Type 0} (p q : A → Bool) (xs : List A) → filter p (filter q xs) ≡ filter q (filter p xs)
+filters-swapped p q [] = refl
+filters-swapped p q (x ∷ xs) = by (p x) refl (q x) refl (filters-swapped p q xs)
+  where
+    by : (b : Bool) → p x ≡ b → (c : Bool) → q x ≡ c → filter p (filter q xs) ≡ filter q (filter p xs) → filter p (cond c (x ∷ filter q xs) (filter q xs)) ≡ filter q (cond b (x ∷ filter p xs) (filter p xs))
+    by true e true f more = ap (λ b. cond b (x ∷ filter p (filter q xs)) (filter p (filter q xs))) e ∙ ap (λ l. x ∷ l) more ∙ sym (ap (λ b. cond b (x ∷ filter q (filter p xs)) (filter q (filter p xs))) f)
+    by true e false f more = more ∙ sym (ap (λ b. cond b (x ∷ filter q (filter p xs)) (filter q (filter p xs))) f)
+    by false e true f more = ap (λ b. cond b (x ∷ filter p (filter q xs)) (filter p (filter q xs))) e ∙ more
+    by false e false f more = more
+
+-- each that is left passes
+pub filter-passes : {X : Type 0} (p : X → Bool) (xs : List X) → AllByRecursion (λ x. p x ≡ true) (filter p xs)
+filter-passes p [] = tt
+filter-passes p (x ∷ xs) = by (filter-passes p xs) (p x) refl
+  where
+    by : AllByRecursion (λ y. p y ≡ true) (filter p xs) → (b : Bool) → p x ≡ b → AllByRecursion (λ y. p y ≡ true) (cond b (x ∷ filter p xs) (filter p xs))
+    by more true e = (e, more)
+    by more false e = more

@@ -1,8 +1,8 @@
 -- Numbers compared by tests.
-use Rattle.std.proofs.Common.{◌≡◌, ℕ, ◌<◌, true, nat_lt, arith, ◌&&◌, Bool, false, refl, ◌/◌, ◌%◌, nat_eq, ◌+◌, ◌≤◌, subst, ◌⊎◌, inl, inr}
+use Rattle.std.proofs.Common.{◌≡◌, ℕ, ◌<◌, true, nat_lt, arith, ◌&&◌, Bool, false, refl, ◌/◌, ◌%◌, nat_eq, ◌+◌, ◌≤◌, subst, ◌⊎◌, inl, inr, sym}
 use Rattle.std.proofs.lemmas.Grind.{common_steps}
 use Rattle.std.proofs.lemmas.Bool.Decides.{nat_tests}
-use Rattle.std.proofs.lemmas.Bool.{cases_lt}
+use Rattle.std.proofs.lemmas.Bool.{cases_lt, eqb-true, eqb-false, eq-eqb, ne_eqb}
 
 pub below : (a b : ℕ) → a < b → nat_lt a b ≡ true
 below a b lt = grind (arith, common_steps)
@@ -32,3 +32,11 @@ each-below P n h here k lt = by (cases_lt k n)
     by : (k < n) ⊎ (n ≤ k) → P k
     by (inl less) = h k less
     by (inr most) = let same : n ≡ k = omega (arith, most, lt) in subst P same here
+
+-- equality of numbers, turned round
+pub nat_eq-turned : (m n : ℕ) → nat_eq m n ≡ nat_eq n m
+nat_eq-turned m n = by (nat_eq n m) refl
+  where
+    by : (b : Bool) → nat_eq n m ≡ b → nat_eq m n ≡ b
+    by true e = eq-eqb m n (sym (eqb-true n m e))
+    by false e = ne_eqb m n (λ same. eqb-false n m e (sym same))

@@ -1,10 +1,10 @@
 -- Options and results: what is there, and what is not.
-use Rattle.std.proofs.Common.{ℕ, List, [], sym, append-nil, Option, Some, None, ◌≡◌, refl, ◌-◌, ◌+◌, Bool, true, false, cond, ◌||◌, ◌∷◌, Result, Ok, Err, OnErr}
+use Rattle.std.proofs.Common.{ℕ, List, [], sym, append-nil, Option, Some, None, ◌≡◌, refl, ◌-◌, ◌+◌, Bool, true, false, cond, ◌||◌, ◌∷◌, Result, Ok, Err, OnErr, is_some}
 use Rattle.std.specs.Io.KnownBytes.{Appends}
 use Rattle.std.specs.Prelude.{Option, None, Some}
 use Rattle.std.specs.Option.{option_or}
 use Rattle.std.specs.List.{list_any, position_from}
-use Rattle.std.proofs.lemmas.Bool.{true≢false}
+use Rattle.std.proofs.lemmas.Bool.{true≢false, false≢true}
 
 pub appends-none : (a : Option (List ℕ)) → Appends a a []
 appends-none None = tt
@@ -34,3 +34,8 @@ none-some-too o a e f = cc
 pub on-err : {E : Type 0} (r : Result (Unit {0}) E) (P : Type 0) → P → OnErr r P
 on-err (Ok u) P holds = tt
 on-err (Err e) P holds = holds
+
+-- what is not there is None
+pub is-none : {X : Type 0} (x : Option X) → is_some x ≡ false → x ≡ None
+is-none None e = refl
+is-none (Some x) e = absurd (false≢true (sym e))

@@ -8,3 +8,4 @@ pub mod SortingLemmas
 pub mod SortByLemmas
 pub mod PartSearchLemmas
 pub mod KindLemmas
+pub mod DirectionLemmas

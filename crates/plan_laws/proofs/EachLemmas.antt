@@ -39,14 +39,6 @@ module _ {X : Type 0} (P : X → Type 0) where
   each_contained (y ∷ ys) x h (zero, lt, is) = subst P is h.0
   each_contained (y ∷ ys) x h (suc k, lt, is) = each_contained ys x h.1 (k, omega (arith, lt), is)
 
-pub each_passes : {X : Type 0} (p : X → Bool) (xs : List X) → AllByRecursion (λ x. p x ≡ true) (filter p xs)
-each_passes p [] = tt
-each_passes p (x ∷ xs) = by (each_passes p xs) (p x) refl
-  where
-    by : AllByRecursion (λ y. p y ≡ true) (filter p xs) → (b : Bool) → p x ≡ b → AllByRecursion (λ y. p y ≡ true) (cond b (x ∷ filter p xs) (filter p xs))
-    by more true e = (e, more)
-    by more false e = more
-
 -- of what is made of the elements
 module _ {X Y : Type 0} (P : X → Type 0) (Q : Y → Type 0) where
   pub each_mapped : (f : X → Y) → ((x : X) → P x → Q (f x)) → (xs : List X) → AllByRecursion P xs → AllByRecursion Q (map f xs)

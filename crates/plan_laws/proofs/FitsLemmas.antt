@@ -17,23 +17,10 @@ use Rattle.sql_query.specs.Queries.{Query}
 use Rattle.sql_query.specs.Tuples.{Tuple, row_of, rows_of_relation, value_at}
 use Rattle.sql_query.specs.catalog_Indexes.{no_column}
 use Rattle.sql_query.specs.Worlds.{World, Holds, IsWorld, nothing_stored, stored_at}
+use Rattle.heap.proofs.FitsLemmas.{value_fits, fits-at}
 
 null_fits : (t : SqlType) → IsOfType t Null
 null_fits t = tt
-
-value_fits : (c : Column) (v : Value) → IsValueOf c v → IsOfType c.typed v
-value_fits c Null h = tt
-value_fits c (Int n) h = h
-value_fits c (Flag b) h = h
-value_fits c (String bs) h = h.0
-
--- a row's values by place
-pub at_place : (cs : List Column) (vs : Values) → AllZip IsValueOf cs vs → (k : ℕ) (d : Column) → IsOfType (slice_index_or cs k d).typed (slice_index_or vs k Null)
-at_place [] [] h k d = null_fits d.typed
-at_place [] (v ∷ vs) h k d = absurd h
-at_place (c ∷ cs) [] h k d = absurd h
-at_place (c ∷ cs) (v ∷ vs) h zero d = value_fits c v h.0
-at_place (c ∷ cs) (v ∷ vs) h (suc k) d = at_place cs vs h.1 k d
 
 no_values : (cs : List Column) (k : ℕ) (d : Column) → IsOfType (slice_index_or cs k d).typed (slice_index_or {A = Value} [] k Null)
 no_values cs k d = null_fits (slice_index_or cs k d).typed
@@ -69,5 +56,5 @@ values_fit w q t is x =
     subst (λ (cs : List Column). IsOfType (slice_index_or cs x.col.0 no_column).typed (value_at w q t x)) kept.columns
     (row_or_none (λ (vs : Values). IsOfType (slice_index_or (stored_at w n).columns x.col.0 no_column).typed (slice_index_or vs x.col.0 Null))
     (rows_of_relation w q x.rel)
-    (λ k d lt. at_place (stored_at w n).columns (slice_index_or (rows_of_relation w q x.rel) k d) (kept.rows k d lt) x.col.0 no_column)
+    (λ k d lt. fits-at (stored_at w n).columns (slice_index_or (rows_of_relation w q x.rel) k d) (kept.rows k d lt) x.col.0 no_column)
     (no_values (stored_at w n).columns x.col.0 no_column) (row_of t x.rel.0))

@@ -42,7 +42,8 @@ use Rattle.plan_tree.specs.Run.{directed, conditions, clauses_at, index_rows, tu
 use Rattle.plan_tree.specs.Space.{IsIndexScan}
 use Rattle.plan_laws.specs.Meant.{holds_at}
 use Rattle.plan_laws.proofs.ClauseLemmas.{one_is_base, local_base}
-use Rattle.plan_laws.proofs.EachLemmas.{each_made, each_passes}
+use Rattle.plan_laws.proofs.EachLemmas.{each_made}
+use Rattle.pg_base.proofs.ListLemmas.{filter-passes}
 use Rattle.plan_laws.proofs.FilterLemmas.{each_Perm}
 use Rattle.plan_laws.proofs.PermLemmas.{Perm-sym}
 use Rattle.plan_laws.proofs.ReorderLemmas.{Perm-in_order}
@@ -250,7 +251,7 @@ module _ (w : World) (q : Query) where
         (λ x y hx hy up. ap is_gt (read_alike (value_at w q) q.classes (one r.0) (keys_from q.classes r.0 backward [] ks) (one_row q r.0 x) (one_row q r.0 y))
         ∙ keys_from_up w q world bound r is.relation x y (holds x hx) (holds y hy) backward ks [] tt up)
         (index_rows w q r i backward p o)
-        (each_passes clause (directed w q backward (filter condition (entry_rows w i))))
+        (filter-passes clause (directed w q backward (filter condition (entry_rows w i))))
         (up_filter (way backward E) clause (directed w q backward (filter condition (entry_rows w i))) (directed_up backward E (filter condition (entry_rows w i)) (up_filter E condition (entry_rows w i) entries)))
 
     pub scan_is_up : (r : RelNo) (i : IndexNo) (backward : Bool) (p : RelSet) (o : Tuple) → IsIndexScan w.contents q r i backward p → is_empty p ≡ true → IsUp (by_keys w q (one r.0) (scan_keys w.contents q r i backward p)) (tuples w q r (index_rows w q r i backward p o))

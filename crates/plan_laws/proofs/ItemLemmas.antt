@@ -41,35 +41,7 @@ use Rattle.plan_laws.proofs.TieLemmas.{tie_in_all, members_alike, constants_tie}
 use Rattle.pg_base.proofs.OptionLemmas.{some-or as some_or}
 use Rattle.pg_base.proofs.OptionLemmas.{found-none as found_none}
 use Rattle.eq_classes.proofs.TypedLemmas.{is_some_value as sample_fits}
-
--- a type whose values a family orders has it as its default family, where the family is one of some type
-pub default_of : (t : SqlType) (f : Family) → IsOfFamily f (some_value t) → (f ≡ families.IntAbs → ⊥) → default_family_of t ≡ Some f
-default_of Int2 families.Integer h other = refl
-default_of Int4 families.Integer h other = refl
-default_of Int8 families.Integer h other = refl
-default_of TextType families.Integer h other = absurd h
-default_of BoolType families.Integer h other = absurd h
-default_of t families.IntAbs h other = absurd (other refl)
-default_of Int2 families.Text h other = absurd h
-default_of Int4 families.Text h other = absurd h
-default_of Int8 families.Text h other = absurd h
-default_of TextType families.Text h other = refl
-default_of BoolType families.Text h other = absurd h
-default_of Int2 families.Bool h other = absurd h
-default_of Int4 families.Bool h other = absurd h
-default_of Int8 families.Bool h other = absurd h
-default_of TextType families.Bool h other = absurd h
-default_of BoolType families.Bool h other = refl
-
-no_default_abs : (t : SqlType) → default_family_of t ≡ Some families.IntAbs → ⊥
-no_default_abs Int2 h = cc
-no_default_abs Int4 h = cc
-no_default_abs Int8 h = cc
-no_default_abs TextType h = cc
-no_default_abs BoolType h = cc
-
-pub same_family : (f g : Family) {o : Option Family} → o ≡ Some f → o ≡ Some g → f ≡ g
-same_family f g e h = cc
+use Rattle.eq_classes.proofs.DefaultLemmas.{default_of, no_default_abs, same_family}
 
 -- what is found first where nothing before it passes
 first_passing : {A : Type 0} (p : A → Bool) (before : List A) (x : A) (after : List A) → AllByRecursion (λ y. p y ≡ false) before → p x ≡ true → find p (before ++ x ∷ after) ≡ Some x

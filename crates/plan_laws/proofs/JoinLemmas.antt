@@ -11,7 +11,8 @@ use Rattle.sql_query.specs.WellBound.{IsWellBound}
 use Rattle.sql_query.specs.Worlds.{World, IsWorld}
 use Rattle.plan_laws.specs.Meant.{holds_at, numbers_of, tuples_in, meant, tested, meant_rows, meant_scan, joined_with}
 use Rattle.plan_laws.proofs.ClauseLemmas.{IsOfQuery, merged_left, merged_right, all_splits, params_split, one_is_base, local_all, local_base, local_param}
-use Rattle.plan_laws.proofs.EachLemmas.{each_mapped, each_passes}
+use Rattle.plan_laws.proofs.EachLemmas.{each_mapped}
+use Rattle.pg_base.proofs.ListLemmas.{filter-passes}
 use Rattle.plan_laws.proofs.FilterLemmas.{pairs_filtered, early_and_late, each_Perm, hold_either, filter_where}
 use Rattle.plan_laws.proofs.PermLemmas.{Perm, join, Perm-same, Perm-sym, Perm-filter, Perm-map, Perm-flat_map, Perm-flat_map_each}
 use Rattle.plan_laws.proofs.TupleLemmas.{row_at, tuples_split, tuples_one, crossing}
@@ -49,7 +50,7 @@ module _ (w : World) (q : Query) (world : IsWorld w) (bound : IsWellBound w.cont
       (Perm-filter (λ t. holds_at w q t (is_all (union a b))) (tuples_in w q (union a b)) (crossing w q a (tuples_in w q a) (tuples_in w q b)) (tuples_split w q a b apart))))
 
   pub each_meant : (a : Set) (ts : List Tuple) → Perm ts (meant w q a) → AllByRecursion (λ t. holds_at w q t (is_all a) ≡ true) ts
-  each_meant a ts is = each_Perm (λ t. holds_at w q t (is_all a) ≡ true) (meant w q a) ts (Perm-sym ts (meant w q a) is) (each_passes (λ t. holds_at w q t (is_all a)) (tuples_in w q a))
+  each_meant a ts is = each_Perm (λ t. holds_at w q t (is_all a) ≡ true) (meant w q a) ts (Perm-sym ts (meant w q a) is) (filter-passes (λ t. holds_at w q t (is_all a)) (tuples_in w q a))
 
   -- a scan that is given the rows of p, of an outer tuple at which the outer's clauses hold
   module _ (a p : Set) (r : ℕ) (apart : AreApart a (one r)) (of_a : IsOfQuery w q a) (lt : r < width q) (part : IsWithin p a) where
@@ -127,7 +128,7 @@ module _ (w : World) (q : Query) (world : IsWorld w) (bound : IsWellBound w.cont
         (each_Perm (λ u. holds_at w q (merged q a t u) (is_join_param a r p) ≡ holds_at w q (merged q a t u) (is_join a (one r))) (meant_scan w q r p t) us (Perm-sym us (meant_scan w q r p t) is)
         (each_mapped (λ row. holds_at w q (beside q r row t) (tested w q r p) ≡ true) (λ u. holds_at w q (merged q a t u) (is_join_param a r p) ≡ holds_at w q (merged q a t u) (is_join a (one r))) (one_row q r)
         (λ row passes. sym (joins_split t holds row ∙ ap (λ (v : Bool). v && holds_at w q (merged q a t (one_row q r row)) (is_join_param a r p)) (param_passes row t passes)))
-        (meant_rows w q r p t) (each_passes (λ row. holds_at w q (beside q r row t) (tested w q r p)) (numbers_of w q r))))
+        (meant_rows w q r p t) (filter-passes (λ row. holds_at w q (beside q r row t) (tested w q r p)) (numbers_of w q r))))
       where
         param_passes : (row : ℕ) (t : Tuple) → holds_at w q (beside q r row t) (tested w q r p) ≡ true → holds_at w q (beside q r row t) (is_param r p) ≡ true
         param_passes row t passes =

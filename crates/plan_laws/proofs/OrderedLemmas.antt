@@ -22,6 +22,7 @@ use Rattle.plan_laws.proofs.TotalLemmas.{IsUp, up_is_in_order}
 use Rattle.plan_laws.proofs.KeyLemmas.{by_keys}
 use Rattle.plan_laws.proofs.IndexOrderLemmas.{up_mapped}
 use Rattle.plan_laws.proofs.IndexKeyLemmas.{after_same}
+use Rattle.pg_base.proofs.NumberLemmas.{nat_eq-turned}
 
 filter_two : {X : Type 0} (p q r : X → Bool) → ((x : X) → r x ≡ q x && p x) → (xs : List X) → filter p (filter q xs) ≡ filter r xs
 filter_two p q r h [] = refl
@@ -31,12 +32,6 @@ filter_two {X} p q r h (x ∷ xs) = by (filter_two p q r h xs) (q x) (p x) refl 
     by more true true e f g = rw (g, e, f) (ap (λ l. x ∷ l) more)
     by more true false e f g = rw (g, e, f) more
     by more false b e f g = rw (g, e) more
-
-turn_eq : (m n : ℕ) → nat_eq m n ≡ nat_eq n m
-turn_eq m n = ⊎_elim
-    (λ (e : nat_eq m n ≡ true). e ∙ sym (eq-eqb n m (sym (eqb-true m n e))))
-    (λ (e : nat_eq m n ≡ false). ⊎_elim (λ (f : nat_eq n m ≡ true). absurd (true≢false (sym (eq-eqb m n (sym (eqb-true n m f))) ∙ e))) (λ (f : nat_eq n m ≡ false). e ∙ sym f) (cases_Bool (nat_eq n m)))
-    (cases_Bool (nat_eq m n))
 
 not_or : (a b : Bool) → not (a || b) ≡ not a && not b
 not_or true b = refl
@@ -149,7 +144,7 @@ module _ (w : World) (q : Query) where
             ∙ after_same (class_order (class_at q.classes.classes n) (all_of_query q) (value_at w q x) (value_at w q y)) (by_keys w q (all_of_query q) (filter (untaken (n ∷ taken)) (keys_of_items items)) x y) (lex items)
             (subst (λ (l : Keys). Ups l)
             (ap (λ (v : Bool). cond (not v) (n ∷ filter (untaken taken) (filter (λ m. not (nat_eq n m)) (keys_of_items items))) (filter (untaken taken) (filter (λ m. not (nat_eq n m)) (keys_of_items items)))) b
-            ∙ ap (λ (l : Keys). n ∷ l) (filter_two (untaken taken) (λ m. not (nat_eq n m)) (untaken (n ∷ taken)) (λ m. not_or (nat_eq m n) (list_any (nat_eq m) taken) ∙ ap (λ (v : Bool). not v && untaken taken m) (turn_eq m n)) (keys_of_items items)))
+            ∙ ap (λ (l : Keys). n ∷ l) (filter_two (untaken taken) (λ m. not (nat_eq n m)) (untaken (n ∷ taken)) (λ m. not_or (nat_eq m n) (list_any (nat_eq m) taken) ∙ ap (λ (v : Bool). not v && untaken taken m) (nat_eq-turned m n)) (keys_of_items items)))
             h)
             (λ tie more. later (n ∷ taken) (tie, ties) (each_snoc (Seen (n ∷ taken)) before item (one_more taken n before seen) (λ m is' k'. ap (λ (v : Bool). v || list_any (nat_eq m) taken) (eq-eqb m n (sym (same_number n m is is'))))) more)
 

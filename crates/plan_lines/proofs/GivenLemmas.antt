@@ -18,7 +18,7 @@ use Rattle.pg_base.specs.declared.numbers.TableNo.{TableNo}
 use Rattle.catalog.specs.Range.{Range, aliases}
 use Rattle.certificate_entries.specs.explain_Texts.{aliases_in, given_text, with_alias, with_commas}
 use Rattle.certificate_entries.specs.certificate_text_HasText.{IsSetOf}
-use Rattle.certificate_entries.proofs.NameLemmas.{name-word}
+use Rattle.pg_base.proofs.NameLemmas.{name-word}
 use Rattle.plan_tree.proofs.ElementLemmas.{same-number}
 use Rattle.plan_lines.specs.Words.{IsWordRead}
 use Rattle.pg_base.proofs.NumberLemmas.{below-next}

@@ -16,7 +16,7 @@ use Rattle.plan_tree.specs.declared.bits.BitTree.TheViews.{the_lemmas}
 use Rattle.plan_tree.specs.declared.bits.BitTree.TheVariants.{rolls-Leaf}
 use Rattle.plan_tree.specs.declared.bits.BitTree.TheFolds.{fold_out-BitTree}
 use Rattle.certificate_entries.specs.explain_Texts.{bits_text, conjunct_by, lead, leaf_line, number_text, plain_line, trees_text}
-use Rattle.certificate_text.proofs.NumeralLemmas.{decimal-word}
+use Rattle.pg_base.proofs.NameLemmas.{decimal-word}
 use Rattle.plan_lines.specs.Parts.{IsShallow, lacks}
 use Rattle.certificate_entries.proofs.NameLemmas.{index-word}
 use Rattle.pg_base.proofs.OptionLemmas.{none-some-too as none-some}

@@ -20,7 +20,7 @@ use Rattle.eq_classes.specs.Classes.{Class}
 use Rattle.eq_classes.specs.Clauses.{Set, first_in}
 use Rattle.eq_classes.specs.Listing.{blank, class_at}
 use Rattle.eq_classes.proofs.ListLemmas.{IsIn, found_in, in_from_contains}
-use Rattle.certificate_text.proofs.NumeralLemmas.{decimal-word}
+use Rattle.pg_base.proofs.NameLemmas.{decimal-word}
 use Rattle.sort_rows.proofs.ColumnLemmas.{member_is}
 use Rattle.sql_query.specs.Queries.{Query, width}
 use Rattle.sql_query.specs.WellBound.{IsColumnOf, IsWellBound}
@@ -28,7 +28,8 @@ use Rattle.pathkeys.specs.Keys.{Keys}
 use Rattle.plan_tree.specs.Plans.{Plan, seq, index, index_only, bitmap, sort, nest, merge, set_of}
 use Rattle.plan_lines.specs.explain_Texts.{aliases_in, column_text, direction_text, family_text, figures_text, given_text, key_text, keys_text, lead, member_text, rel_text, relation_text, scanned_text, title, with_alias, with_commas}
 use Rattle.plan_lines.specs.certificate_text_HasText.{HasKeysText}
-use Rattle.plan_lines.specs.certificate_entries_NameLemmas.{index-word, name-word}
+use Rattle.pg_base.proofs.NameLemmas.{name-word}
+use Rattle.plan_lines.specs.certificate_entries_NameLemmas.{index-word}
 use Rattle.plan_space.specs.Numbered.{Pair}
 use Rattle.plan_lines.specs.Kinds.{words}
 use Rattle.plan_lines.specs.Parts.{figures_behind, lacks}

@@ -28,7 +28,8 @@ use Rattle.plan_lines.specs.explain_Texts.{bits_text, conjunct_by, direction_tex
 use Rattle.plan_lines.specs.explain_laws_ClassLemmas.{AreShownKeys, IsShownKey, keys-split}
 use Rattle.plan_lines.specs.explain_laws_ConjunctLemmas.{conjunct-same}
 use Rattle.plan_lines.specs.explain_laws_NameLemmas.{alias-name, alias-same, index-name, index-same, relation-table, table-name}
-use Rattle.plan_lines.specs.explain_laws_SplitLemmas.{decimal-word, no-space, relation-split, split, word}
+use Rattle.pg_base.proofs.NameLemmas.{decimal-word, name-word}
+use Rattle.plan_lines.specs.explain_laws_SplitLemmas.{no-space, relation-split, split}
 use Rattle.plan_lines.specs.certificate_entries_ClauseLemmas.{conjunct-small}
 use Rattle.plan_lines.specs.certificate_text_HasText.{HasKeysText}
 use Rattle.plan_space.specs.Numbered.{Pair, nodes}
@@ -181,7 +182,7 @@ module _ (c : Contents) (q : Query) (lawful : IsLawful c) (bound : IsWellBound c
       let one = direction-split a b ((I ++ (codes " on " ++ scanned_text c q r p)) ++ 32 ∷ 32 ∷ x) ((J ++ (codes " on " ++ scanned_text c q s o)) ++ 32 ∷ 32 ∷ y)
       (sym (append_assoc (cond a (codes " Backward") []) (codes " using " ++ (I ++ (codes " on " ++ scanned_text c q r p))) (32 ∷ 32 ∷ x)) ∙ e
       ∙ append_assoc (cond b (codes " Backward") []) (codes " using " ++ (J ++ (codes " on " ++ scanned_text c q s o))) (32 ∷ 32 ∷ y)) in
-      let two = split I J ((codes " on " ++ scanned_text c q r p) ++ 32 ∷ 32 ∷ x) ((codes " on " ++ scanned_text c q s o) ++ 32 ∷ 32 ∷ y) (word I (index-name c lawful i hi.index)) (word J (index-name c lawful j hj.index)) refl refl
+      let two = split I J ((codes " on " ++ scanned_text c q r p) ++ 32 ∷ 32 ∷ x) ((codes " on " ++ scanned_text c q s o) ++ 32 ∷ 32 ∷ y) (name-word I (index-name c lawful i hi.index)) (name-word J (index-name c lawful j hj.index)) refl refl
       (sym (append_assoc I (codes " on " ++ scanned_text c q r p) (32 ∷ 32 ∷ x)) ∙ one.1 ∙ append_assoc J (codes " on " ++ scanned_text c q s o) (32 ∷ 32 ∷ y)) in
       let rest = scanned-split c q lawful bound r s p o x y hr hs (ap (λ (l : List ℕ). drop 4 l) two.1) in
       (rest.0, index-same c lawful i j hi.index hj.index two.0, one.0, rest.1, rest.2)
@@ -245,7 +246,7 @@ module _ (c : Contents) (q : Query) (lawful : IsLawful c) (bound : IsWellBound c
   names-split : (i j : IndexNo) (x y : List ℕ) → IsIndexOfQuery c q i → IsIndexOfQuery c q j → leaf_title c i ++ 10 ∷ x ≡ leaf_title c j ++ 10 ∷ y → (i ≡ j) × (x ≡ y)
   names-split i j x y hi hj e =
       let one : index_name_at c i ++ 10 ∷ x ≡ index_name_at c j ++ 10 ∷ y = ap (λ (l : List ℕ). drop 21 l) e in
-      let two = split (index_name_at c i) (index_name_at c j) (10 ∷ x) (10 ∷ y) (word (index_name_at c i) (index-name c lawful i hi.index)) (word (index_name_at c j) (index-name c lawful j hj.index)) refl refl one in
+      let two = split (index_name_at c i) (index_name_at c j) (10 ∷ x) (10 ∷ y) (name-word (index_name_at c i) (index-name c lawful i hi.index)) (name-word (index_name_at c j) (index-name c lawful j hj.index)) refl refl one in
       (index-same c lawful i j hi.index hj.index two.0, ap (λ (l : List ℕ). drop 1 l) two.1)
 
   leaves-unique : (d : ℕ) (is js : List IndexNo) (x y : List ℕ) → All (IsIndexOfQuery c q) is → All (IsIndexOfQuery c q) js → IsShallow d x → IsShallow d y →

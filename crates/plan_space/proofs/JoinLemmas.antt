@@ -26,6 +26,7 @@ use Rattle.plan_tree.specs.declared.plan.Plan.{Plan as Planned}
 use Rattle.plan_tree.proofs.CostableLemmas.{built-costable}
 use Rattle.plan_tree.proofs.EstimateLemmas.{below-more}
 use Rattle.plan_tree.proofs.PathLemmas.{built-below}
+use Rattle.plan_tree.proofs.GivenLemmas.{read-below}
 
 -- a scan is given the rows of its parameterisation, also of an empty one
 pub scan-param : (r : RelNo) (p : RelSet) (k : ℕ) → has p.0 k ≡ param_in (scan_given r p) k
@@ -101,22 +102,12 @@ either : {A B C : Type 0} → (A → C) → (B → C) → A ⊎ B → C
 either f g (inl a) = f a
 either f g (inr b) = g b
 
--- a plan reads relations below a number alone
-set-below : (n : ℕ) (p : Plan) (k : ℕ) → ReadsBelow n p → set_of p k ≡ true → k < n
-set-below n (seq r) k h e = let same : k ≡ r.0 = eqb-true k r.0 e in omega (arith, same, h)
-set-below n (index r i backward p) k h e = let same : k ≡ r.0 = eqb-true k r.0 e in omega (arith, same, h)
-set-below n (index_only r i backward p) k h e = let same : k ≡ r.0 = eqb-true k r.0 e in omega (arith, same, h)
-set-below n (bitmap r p bits) k h e = let same : k ≡ r.0 = eqb-true k r.0 e in omega (arith, same, h)
-set-below n (sort keys input) k h e = set-below n input k h e
-set-below n (nest o i) k h e = either (set-below n o k h.0) (set-below n i k h.1) (or_cases (set_of o k) (set_of i k) e)
-set-below n (merge keys o i) k h e = either (set-below n o k h.0) (set-below n i k h.1) (or_cases (set_of o k) (set_of i k) e)
-
 -- it reads all of them where each is found
 pub all-read : (n a : ℕ) (p : Plan) → ReadsBelow n p → ((k : ℕ) → has a k ≡ set_of p k) → ((k : ℕ) → k < n → has a k ≡ true) ↔ IsSameSet (set_of p) (λ k. nat_lt k n)
 all-read n a p reads same = (λ h k. by h k (nat_lt k n) refl, λ h k lt. same k ∙ h k ∙ lt-ltb k n lt)
   where
     other : (k : ℕ) → nat_lt k n ≡ false → (b : Bool) → set_of p k ≡ b → b ≡ false
-    other k f true e = absurd (true≢false (sym (lt-ltb k n (set-below n p k reads e)) ∙ f))
+    other k f true e = absurd (true≢false (sym (lt-ltb k n (read-below n p k reads e)) ∙ f))
     other k f false e = refl
 
     by : ((k : ℕ) → k < n → has a k ≡ true) → (k : ℕ) (b : Bool) → nat_lt k n ≡ b → set_of p k ≡ b

@@ -13,6 +13,7 @@ use Rattle.eq_classes.specs.declared.order.OrderItem.{OrderItem}
 use Rattle.pathkeys.specs.Finding.{class_numbers}
 use Rattle.pathkeys.specs.Keys.{Keys, covers, is_constant, once, order_class, order_keys}
 use Rattle.plan_space.specs.OrderKeys.{GoesOnAs, classes_asked, goes_on, once_besides}
+use Rattle.pg_base.proofs.NumberLemmas.{nat_eq-turned}
 
 -- a filter of a filter is one by both tests
 filter-both : (p q r : ℕ → Bool) → ((m : ℕ) → r m ≡ q m && p m) → (ns : List ℕ) → filter p (filter q ns) ≡ filter r ns
@@ -25,13 +26,6 @@ filter-both p q r h (n ∷ ns) = by (filter-both p q r h ns) (q n) (r n) (h n)
 
 abbrev free : Keys → ℕ → Bool
 free taken m = not (list_any (nat_eq m) taken)
-
-turned : (m n : ℕ) → nat_eq m n ≡ nat_eq n m
-turned m n = by (nat_eq n m) refl
-  where
-    by : (b : Bool) → nat_eq n m ≡ b → nat_eq m n ≡ b
-    by true e = eq-eqb m n (sym (eqb-true n m e))
-    by false e = ne_eqb m n (λ same. eqb-false n m e (sym same))
 
 pub besides-none : (ns : List ℕ) → once_besides [] ns ≡ once ns
 besides-none ns = all (once ns)
@@ -69,7 +63,7 @@ besides-taken taken n ns e =
     more : (m : ℕ) → free (taken ++ n ∷ []) m ≡ not (nat_eq n m) && free taken m
     more m =
         ap not (list_any-append (nat_eq m) taken (n ∷ [])) ∙ parts (list_any (nat_eq m) taken) (nat_eq m n)
-        ∙ ap (λ b. not b && free taken m) (turned m n)
+        ∙ ap (λ b. not b && free taken m) (nat_eq-turned m n)
 
 module _ (keys : Keys) (at : ℕ) (n : ℕ) where
   pub passes-on : list_any (nat_eq n) (take at keys) ≡ true → (ns : List ℕ) → GoesOnAs keys at (n ∷ ns) at ns

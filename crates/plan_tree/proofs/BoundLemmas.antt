@@ -26,6 +26,7 @@ use Rattle.pathkeys.specs.Keys.{Keys}
 use Rattle.plan_tree.specs.Plans.{Plan, seq, index, index_only, bitmap, sort, nest, merge, set_of, GivenScan, given_scan}
 use Rattle.plan_tree.specs.Costs.{cost, estimate, rows_given, join_operators, merge_operators, asked, asked_by, HaveRows}
 use Rattle.pg_base.proofs.ListLemmas.{some-folded}
+use Rattle.path_cost.proofs.LimitLemmas.{some-sized}
 
 pub some-clamped : (n : ℕ) → 1 ≤ clamped n
 some-clamped n = omega arith
@@ -82,12 +83,8 @@ asked-most w n = asked-by-most w.limit w.offset n
 counted : (n : ℕ) → is_count n ≡ true → 1 ≤ n
 counted n h = let first = (and_parts (nat_le 1 n) (nat_le n MOST_NUMBER) h).0 in grind (arith, nat_tests)
 
-some-by : (loaded : ℕ) (sizes : Option Sizes) → AreSizes sizes → 1 ≤ rows_by loaded sizes
-some-by loaded None h = omega arith
-some-by loaded (Some s) h = counted s.rows h.rows
-
 some-sizes : (c : Contents) (t : TableNo) → IsLawful c → (t.0 < length c.tables) ⊎ (length c.tables ≤ t.0) → 1 ≤ rows_of c t
-some-sizes c t h (inl there) = some-by (table_at c t).loaded (table_at c t).sizes (h.tables t.0 no_table there).sizes
+some-sizes c t h (inl there) = some-sized (table_at c t).loaded (table_at c t).sizes (h.tables t.0 no_table there).sizes
 some-sizes c t h (inr past) = let P : TableDef → Type 0 = λ d. 1 ≤ rows_by d.loaded d.sizes in subst P (sym (get_or_past c.tables t.0 no_table past)) (omega arith)
 
 -- the tables of lawful contents have rows, and so has what stands where a number is none of a table

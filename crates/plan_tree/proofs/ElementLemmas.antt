@@ -26,7 +26,7 @@ use Rattle.pg_expr.specs.AtomSets.{contains}
 use Rattle.index_match.specs.Numbered.{Numbered, has_number}
 use Rattle.sql_query.specs.Queries.{Query}
 use Rattle.index_match.specs.Arms.{arms_of}
-use Rattle.index_match.proofs.ArmLemmas.{listed_are}
+use Rattle.eq_classes.proofs.ConditionLemmas.{listed_conds}
 use Rattle.plan_tree.specs.Bitmaps.{IsIndexOn, IsMatchedOr, MatchesArm, table_of_relation, condition_by, is_or}
 use Rattle.path_cost.proofs.PartLemmas.{over-each}
 
@@ -209,4 +209,4 @@ matched-or c q r k es e = (
 )
   where
     arms : arms_of k ≡ map view.cond es
-    arms = ap arms_of e ∙ listed_are (map view.cond es)
+    arms = ap arms_of e ∙ listed_conds (map view.cond es)

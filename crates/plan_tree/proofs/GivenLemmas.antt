@@ -1,5 +1,5 @@
 -- Scans that are given rows of other relations.
-use Rattle.std.proofs.Common.{◌≡◌, ◌<◌, ◌+◌, ℕ, Bool, true, false, cond, nat_eq, nat_lt, List, [], ◌∷◌, sym, subst, ⊎_elim, refl}
+use Rattle.std.proofs.Common.{◌≡◌, ◌<◌, ◌+◌, ℕ, Bool, true, false, cond, nat_eq, nat_lt, List, [], ◌∷◌, sym, subst, ⊎_elim, refl, ◌||◌, arith}
 use Rattle.std.specs.Prelude.{All, None, Some, IfSome}
 use Rattle.std.specs.List.{list_any}
 use Rattle.std.proofs.lemmas.Bool.{and_parts, eqb-true, ltb-true, or_cases, true≢false}
@@ -12,7 +12,8 @@ use Rattle.path_cost.specs.Columns.{IsOver, is_column_in}
 use Rattle.path_cost.specs.Estimates.{conditions_from}
 use Rattle.sql_query.specs.Queries.{Query, width}
 use Rattle.std.proofs.Math.Bool.{or_self}
-use Rattle.plan_tree.specs.Plans.{Plan, nest, given_scan, param_of, set_of, GivenScan}
+use Rattle.plan_tree.specs.Plans.{Plan, seq, index, index_only, bitmap, sort, nest, merge, given_scan, is_empty, param_of, set_of, GivenScan}
+use Rattle.plan_tree.specs.Reads.{ReadsBelow}
 use Rattle.plan_tree.specs.Space.{IsEmpty, IsSameSet}
 use Rattle.plan_tree.proofs.LikeLemmas.{given-like}
 use Rattle.pg_base.specs.declared.numbers.RelNo.{RelNo}
@@ -42,3 +43,23 @@ given-none t none = given-like t (nest t t) (record { set = λ k. sym (or_self (
 pub scan-one : (r : RelNo) (p : RelSet) (b : Bool) → IfSome (cond b None (Some (record { relation = r; param = p }))) (λ (s : GivenScan). IsSameSet (one r.0) (one s.relation.0))
 scan-one r p true = tt
 scan-one r p false = λ k. refl
+
+-- a scan that is given rows is of one relation alone
+pub given-one : (t : Plan) → IfSome (given_scan t) (λ (s : GivenScan). IsSameSet (set_of t) (one s.relation.0))
+given-one (seq r) = tt
+given-one (index r i backward p) = scan-one r p (is_empty p)
+given-one (index_only r i backward p) = scan-one r p (is_empty p)
+given-one (bitmap r p bits) = scan-one r p (is_empty p)
+given-one (sort keys input) = given-one input
+given-one (nest o i) = tt
+given-one (merge keys o i) = tt
+
+-- what a plan reads is below the bound of its relations
+pub read-below : (n : ℕ) (t : Plan) (k : ℕ) → ReadsBelow n t → set_of t k ≡ true → k < n
+read-below n (seq r) k h e = let same : k ≡ r.0 = eqb-true k r.0 e in omega (arith, same, h)
+read-below n (index r i backward p) k h e = let same : k ≡ r.0 = eqb-true k r.0 e in omega (arith, same, h)
+read-below n (index_only r i backward p) k h e = let same : k ≡ r.0 = eqb-true k r.0 e in omega (arith, same, h)
+read-below n (bitmap r p bits) k h e = let same : k ≡ r.0 = eqb-true k r.0 e in omega (arith, same, h)
+read-below n (sort keys input) k h e = read-below n input k h e
+read-below n (nest o i) k h e = ⊎_elim (read-below n o k h.0) (read-below n i k h.1) (or_cases (set_of o k) (set_of i k) e)
+read-below n (merge keys o i) k h e = ⊎_elim (read-below n o k h.0) (read-below n i k h.1) (or_cases (set_of o k) (set_of i k) e)

@@ -20,7 +20,7 @@ use Rattle.sql_query.specs.catalog_Range.{Range}
 use Rattle.cost_rules.specs.Scans.{bitmap_scan_cost}
 use Rattle.eq_classes.specs.Clauses.{Clause, Set, Table}
 use Rattle.index_match.specs.Arms.{arms_of, arm_parts, arm_bounds}
-use Rattle.index_match.proofs.ArmLemmas.{listed_are}
+use Rattle.eq_classes.proofs.ConditionLemmas.{listed_conds}
 use Rattle.index_match.specs.Numbered.{has_number}
 use Rattle.path_cost.specs.Costs.{arm_part, bitmap_cost, local_operators}
 use Rattle.path_cost.specs.Estimates.{conditions_from, kept, picked_from, table_pages, table_rows}
@@ -176,7 +176,7 @@ used-below k n end len old found is le ge e f = ap₂ (λ m b. old || (nat_lt k 
 
 -- the arms of a clause that is found to be an OR
 pub arms-found : (k : Cond) (es : List Expr) → k ≡ any_of (view.conds es) → arms_of k ≡ map view.cond es
-arms-found k es are = ap arms_of are ∙ listed_are (map view.cond es)
+arms-found k es are = ap arms_of are ∙ listed_conds (map view.cond es)
 
 module _ (k : Cond) (es : List Expr) (is js : List IndexNo) (are : k ≡ any_of (view.conds es)) (same : js ≡ is) where
   pub arms-zip : (R : Cond → IndexNo → Type 0) → AllZip R (arms_of k) is → AllZip R (map view.cond es) js

@@ -27,6 +27,7 @@ use Rattle.predicate_proof.specs.Atoms.{SameSide, SameAtom, has_column_number, t
 use Rattle.predicate_proof.specs.Derivation.{Implies, each_part, each_arm, arm_by_arm, atom_to_part, part_to_atom, all_to_part, part_to_any, same, not_null, by_table, ImpliesAll, no_part, part_and, ImpliesSome, this_part, later_part, AllImply, no_arm, arm_and, SomeImplies, this_clause, later_clause, EachImpliesSome, no_choice, choice_and}
 use Rattle.predicate_proof.specs.Rows.{at_row, FitsColumns}
 use Rattle.predicate_proof.proofs.Table.{cell-sound}
+use Rattle.pg_expr.proofs.DefinedLaws.{no_number}
 
 both_left : (a b : Truth) → both a b ≡ True → a ≡ True
 both_left True b h = refl
@@ -103,11 +104,6 @@ value-given BoolOps Null h = absurd h
 chosen : (b : Bool) (g f : Family) → cond b (Some IntAbs) (Some g) ≡ Some f → cond b IntAbs g ≡ f
 chosen true g f e = cc
 chosen false g f e = cc
-
--- a type that is no integer type has no whole number
-no_number : (t : SqlType) (n : ℤ) → limit t ≡ 0 → in_range t n ≡ true → ⊥
-no_number t (pos m) none h = let below = ltb-true m (limit t) h in omega (arith, below, none)
-no_number t (negsuc m) none h = let below = ltb-true m (limit t) h in omega (arith, below, none)
 
 -- the family by which an operator compares a value of a type
 family-fits : (t : SqlType) (op : Op) (x : Value) (f : Family) → IsOfType t x → opposite (truth_of_null x) ≡ True → typed_family t op ≡ Some f → comparing_family op x ≡ f

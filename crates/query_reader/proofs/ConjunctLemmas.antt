@@ -29,7 +29,7 @@ use Rattle.sql_query.specs.WellBound.{IsColumnOf, IsWithinLimits, NamesOnly}
 use Rattle.query_reader.specs.Binding.{past_limit}
 use Rattle.query_reader.specs.Named.{column_in, columns_in, columns_in_all}
 use Rattle.pg_base.proofs.NumberLemmas.{below}
-use Rattle.path_cost.proofs.PartLemmas.{listed_conds as listed-conds}
+use Rattle.eq_classes.proofs.ConditionLemmas.{listed_conds as listed-conds}
 
 -- a list of expressions, seen as conditions
 pub listed-as : (es : List Expr) (cs : Conds) → view.conds es ≡ cs → map view.cond es ≡ listed cs

@@ -41,20 +41,7 @@ use Rattle.plan_tree.specs.Entries.{cell, entry, meets}
 use Rattle.store.specs.Kept.{first_key, found, held_of}
 use Rattle.store.proofs.FoundLemmas.{among, among-suc}
 use Rattle.pg_base.proofs.ListLemmas.{each-map as each-mapped}
-
--- a row's values by place
-value_fits : (c : Column) (v : Value) → IsValueOf c v → IsOfType c.typed v
-value_fits c Null h = tt
-value_fits c (Int n) h = h
-value_fits c (Flag b) h = h
-value_fits c (String bs) h = h.0
-
-fits-at : (cs : List Column) (vs : Values) → AllZip IsValueOf cs vs → (k : ℕ) (d : Column) → IsOfType (slice_index_or cs k d).typed (slice_index_or vs k Null)
-fits-at [] [] h k d = tt
-fits-at [] (v ∷ vs) h k d = absurd h
-fits-at (c ∷ cs) [] h k d = absurd h
-fits-at (c ∷ cs) (v ∷ vs) h zero d = value_fits c v h.0
-fits-at (c ∷ cs) (v ∷ vs) h (suc k) d = fits-at cs vs h.1 k d
+use Rattle.heap.proofs.FitsLemmas.{value_fits, fits-at}
 
 module _ (columns : List Column) (row : Values) (is : IsRowOf columns row) where
   pub wide : length row ≡ length columns

@@ -4,7 +4,7 @@ use Rattle.pg_base.specs.declared.numbers.IndexNo.{IndexNo}
 use Rattle.pg_expr.specs.Cond.{Cond}
 use Rattle.pg_expr.specs.View.{cond}
 use Rattle.index_match.specs.Arms.{arms_of}
-use Rattle.index_match.proofs.ArmLemmas.{listed_are}
+use Rattle.eq_classes.proofs.ConditionLemmas.{listed_conds}
 use Rattle.plan_tree.specs.Bitmaps.{MatchesArm, by_clause, condition_at}
 use Rattle.plan_tree.specs.Plans.{some_arm}
 use Rattle.plan_tree.specs.Views.{bits}
@@ -34,12 +34,12 @@ returns-clause-least c =
     let arms = map cond c.in-Some.arms.now in
     let is : bits (Or c.args.n c.in_ok-indexes.indexes) ≡ some_arm c.args.n c.in_ok-indexes.indexes.items = search (rules, the_lemmas, rolls-Or, fold-roll-BitTree, fold_out-BitTree, fold-roll-BitTrees, fold_out-BitTrees) in
     subst (IsLeastTree c.args.cat.now c.args.q.now c.args.r c.args.p (by_clause c.args.n)) (sym is)
-    (clause-least c.args.cat.now c.args.q.now c.args.r c.args.p c.args.n arms c.in_ok-indexes.indexes.items c.in_ok-indexes.part (ap arms_of c.in-Some.ensures.arms ∙ listed_are arms) c.in_ok-indexes.ensures)
+    (clause-least c.args.cat.now c.args.q.now c.args.r c.args.p c.args.n arms c.in_ok-indexes.indexes.items c.in_ok-indexes.part (ap arms_of c.in-Some.ensures.arms ∙ listed_conds arms) c.in_ok-indexes.ensures)
 
 pub returns-clause-kept : goal.returns-clause-kept
 returns-clause-kept c =
     let arms = map cond c.in-Some.arms.now in
     let is : bits (Or c.args.n c.in_ok-indexes.indexes) ≡ some_arm c.args.n c.in_ok-indexes.indexes.items = search (rules, the_lemmas, rolls-Or, fold-roll-BitTree, fold_out-BitTree, fold-roll-BitTrees, fold_out-BitTrees) in
-    let part = clause-part c.args.cat.now c.args.q.now c.args.r c.args.p c.args.n arms c.in_ok-indexes.indexes.items c.in_ok-indexes.part (ap arms_of c.in-Some.ensures.arms ∙ listed_are arms) c.in_ok-indexes.ensures in
+    let part = clause-part c.args.cat.now c.args.q.now c.args.r c.args.p c.args.n arms c.in_ok-indexes.indexes.items c.in_ok-indexes.part (ap arms_of c.in-Some.ensures.arms ∙ listed_conds arms) c.in_ok-indexes.ensures in
     kept-of c.args.cat.now c.args.q.now c.args.r c.args.p _ (some_arm c.args.n c.in_ok-indexes.indexes.items) is part c.only-used.ensures
     (λ k e. only-within k c.args.n _ (sym (c.only-used.ensures k) ∙ e) c.requires.clause) c.others_named-named.ensures

@@ -4,7 +4,8 @@ use Rattle.pg_expr.specs.Pushed.{parts_of}
 use Rattle.pg_expr.specs.View as view
 use Rattle.eq_classes.specs.Classes.{listed}
 use Rattle.path_cost.specs.Columns.{IsOver}
-use Rattle.path_cost.proofs.PartLemmas.{and-is, listed_conds, parts_over}
+use Rattle.path_cost.proofs.PartLemmas.{and-is, parts_over}
+use Rattle.eq_classes.proofs.ConditionLemmas.{listed_conds}
 use Rattle.path_cost.proofs.indexes.parts_of_arm.Goals as goal
 
 pub returns-in-And-clause-parts : goal.returns-in-And-clause-parts

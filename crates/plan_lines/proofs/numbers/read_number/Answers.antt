@@ -1,6 +1,6 @@
 use Rattle.std.proofs.Common.{◌∙◌, ℕ}
 use Rattle.std.specs.Fmt.{decimal}
-use Rattle.certificate_text.proofs.NumeralLemmas.{decimal-word}
+use Rattle.pg_base.proofs.NameLemmas.{decimal-word}
 use Rattle.plan_lines.proofs.CompareLemmas.{number-left}
 use Rattle.pg_base.proofs.OptionLemmas.{none-some-too as none-some}
 use Rattle.plan_lines.proofs.numbers.read_number.Goals as goal

@@ -4,7 +4,7 @@ use Rattle.pg_base.specs.declared.numbers.IndexNo.{IndexNo}
 use Rattle.pg_expr.specs.Cond.{Cond}
 use Rattle.pg_expr.specs.View.{cond}
 use Rattle.index_match.specs.Arms.{arms_of}
-use Rattle.index_match.proofs.ArmLemmas.{listed_are}
+use Rattle.eq_classes.proofs.ConditionLemmas.{listed_conds}
 use Rattle.plan_tree.specs.Bitmaps.{MatchesArm, condition_at}
 use Rattle.plan_tree.specs.Plans.{some_arm}
 use Rattle.plan_tree.proofs.ElementLemmas.{matched-or}
@@ -29,4 +29,4 @@ pub returns-clause-kept : goal.returns-clause-kept
 returns-clause-kept c =
     let arms = map cond c.in-Some.arms.now in
     let h = c.arms_part.ensures in
-    (some_arm c.args.n h.0, kept-clause c.args.cat.now c.args.q.now c.args.r c.args.p _ c.args.n arms h.0 refl (ap arms_of c.in-Some.ensures.arms ∙ listed_are arms) h.1 c.only.ensures c.requires.clause)
+    (some_arm c.args.n h.0, kept-clause c.args.cat.now c.args.q.now c.args.r c.args.p _ c.args.n arms h.0 refl (ap arms_of c.in-Some.ensures.arms ∙ listed_conds arms) h.1 c.only.ensures c.requires.clause)

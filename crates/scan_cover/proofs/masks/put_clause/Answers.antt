@@ -4,7 +4,7 @@ use Rattle.pg_base.specs.declared.numbers.IndexNo.{IndexNo}
 use Rattle.pg_expr.specs.Cond.{Cond}
 use Rattle.pg_expr.specs.View.{cond}
 use Rattle.index_match.specs.Arms.{arms_of}
-use Rattle.index_match.proofs.ArmLemmas.{listed_are}
+use Rattle.eq_classes.proofs.ConditionLemmas.{listed_conds}
 use Rattle.plan_tree.specs.Bitmaps.{MatchesArm, condition_at}
 use Rattle.plan_tree.specs.Plans.{some_arm}
 use Rattle.plan_tree.specs.Views.{element}
@@ -31,4 +31,4 @@ returns c =
     let arms = map cond c.in-Some.arms.now in
     let kept = c.requires.kept in
     let put = c.put_least.ensures in
-    (some_arm c.args.n put.0, put-clause c.args.cat.now c.args.q.now c.args.at.rel c.args.at.param c.args.k.now c.args.n kept.0 arms put.0 (ap element c.requires.element) kept.1 (ap arms_of c.in-Some.ensures.arms ∙ listed_are arms) put.1, put.2)
+    (some_arm c.args.n put.0, put-clause c.args.cat.now c.args.q.now c.args.at.rel c.args.at.param c.args.k.now c.args.n kept.0 arms put.0 (ap element c.requires.element) kept.1 (ap arms_of c.in-Some.ensures.arms ∙ listed_conds arms) put.1, put.2)

@@ -2,7 +2,8 @@ use Rattle.std.proofs.Common.{◌≡◌, ◌<◌, ◌^◌, ◌++◌, ◌∙◌, 
 use Rattle.std.specs.Prelude.{Option, IfSome, Some, None}
 use Rattle.std.specs.Fmt.{decimal}
 use Rattle.certificate_text.specs.Words.{number_written}
-use Rattle.certificate_text.proofs.NumeralLemmas.{decimal-word, read-back, written-is}
+use Rattle.certificate_text.proofs.NumeralLemmas.{read-back, written-is}
+use Rattle.pg_base.proofs.NameLemmas.{decimal-word}
 use Rattle.certificate_text.proofs.cursor.LineCursor.number.Goals as goal
 
 found : (old new ds : List ℕ) (o : Option ℕ) → old ≡ ds ++ new → number_written ds ≡ o → IfSome o (λ n. (n < 10 ^ 19) × (old ≡ decimal n ++ new))

@@ -1,10 +1,11 @@
 //! Entries added to those of an index: one by one where they are few, else all at once.
 
-ghost use Rattle.std.specs.Prelude.{◌≡◌, ◌∷◌, ◌++◌, ◌<◌, ◌≤◌, [], List, All, OnOk, OnErr};
-ghost use Rattle.pg_value.specs.Sorting.{IsInOrder, in_order};
+ghost use Rattle.std.specs.Prelude.{◌≡◌, ◌∷◌, ◌<◌, ◌≤◌, [], List, All, OnOk, OnErr};
+ghost use Rattle.pg_value.specs.Sorting.{IsInOrder};
 ghost use Rattle.opfamily.specs.KeyOrder.{Entry as Held, entry_order};
 ghost use Rattle.btree_index.specs.Adding.{AreAdded};
 ghost use Rattle.btree_index.specs.Pages.{IsPaged, entries_of};
+ghost use Rattle.btree_index.specs.Tree.{entries_with};
 
 use crate::edges::Edge;
 use crate::entries::Entry;
@@ -22,7 +23,7 @@ impl Pages {
         requires paged { IsPaged self.old }
         requires order { IsInOrder (entry_order keys.now) (entries_of self.old) }
         ensures paged { IsPaged self.new }
-        ensures added { OnOk result (entries_of self.new ≡ in_order (entry_order keys.now) (entries_of self.old ++ entry ∷ [])) }
+        ensures added { OnOk result (entries_of self.new ≡ entries_with keys.now (entries_of self.old) (entry ∷ [])) }
         ensures refused { OnErr result (entries_of self.new ≡ entries_of self.old) }
     {
         let place = self.find(keys, &Edge::Behind(&entry));
@@ -34,7 +35,7 @@ impl Pages {
         requires paged { IsPaged self.old }
         requires order { IsInOrder (entry_order keys.now) (entries_of self.old) }
         ensures paged { IsPaged self.new }
-        ensures added { OnOk result (entries_of self.new ≡ in_order (entry_order keys.now) (entries_of self.old ++ added.items)) }
+        ensures added { OnOk result (entries_of self.new ≡ entries_with keys.now (entries_of self.old) added.items) }
         ensures first { (left : List Held) × AreAdded keys.now (entries_of self.old) added.items left (entries_of self.new) }
     {
         for entry in added {
@@ -55,7 +56,7 @@ impl Pages {
         requires below { All (λ e. e.row < above) (entries_of self.old) }
         requires from { All (λ e. above ≤ e.row) added.items }
         ensures paged { IsPaged self.new }
-        ensures added { OnOk result (entries_of self.new ≡ in_order (entry_order keys.now) (entries_of self.old ++ added.items)) }
+        ensures added { OnOk result (entries_of self.new ≡ entries_with keys.now (entries_of self.old) added.items) }
         ensures refused { OnErr result (entries_of self.new ≡ entries_of self.old) }
     {
         match self.add_each(keys, added) {
@@ -79,7 +80,7 @@ impl Pages {
         requires order { IsInOrder (entry_order keys.now) (entries_of self.old) }
         requires below { All (λ e. e.row < above) (entries_of self.old) }
         ensures paged { IsPaged self.new }
-        ensures added { OnOk result (entries_of self.new ≡ in_order (entry_order keys.now) (entries_of self.old ++ added.items)) }
+        ensures added { OnOk result (entries_of self.new ≡ entries_with keys.now (entries_of self.old) added.items) }
         ensures refused { OnErr result (entries_of self.new ≡ entries_of self.old) }
     {
         let Ok(above) = u32::try_from(above) else {

@@ -1,5 +1,5 @@
 -- Chains of different values, one for each bucket. Own.
-use Rattle.std.specs.Prelude.{◌≡◌, ℕ, ◌%◌, ◌-◌, ◌^◌, ◌<◌, ◌≤◌, Bool, true, List, [], ◌∷◌, ◌++◌, All, length, slice_index_or, is_some}
+use Rattle.std.specs.Prelude.{◌≡◌, ℕ, ◌%◌, ◌-◌, ◌^◌, ◌<◌, ◌≤◌, Bool, true, List, [], ◌∷◌, ◌++◌, All, length, slice_index_or, is_some, ◌≢◌}
 use Rattle.pg_value.specs.declared.operators.Op.TheVariants.{Eq}
 use Rattle.pg_value.specs.declared.value.Value.{Value}
 use Rattle.pg_value.specs.declared.value.Value.TheVariants.{Null}
@@ -59,3 +59,11 @@ pub record IsWider (old new : List RowsOf) : Type 0 where
 abbrev pub taken_back : List Place → List RowsOf → List RowsOf
 taken_back [] gs = gs
 taken_back (p ∷ ps) gs = without_at p.slot p.at (taken_back ps gs)
+
+-- the value of a slot, if it is not NULL, is found behind the head of its bucket
+abbrev pub IsBehindHead : Chains → List ℕ → List RowsOf → ℕ → Type 0
+IsBehindHead new heads gs slot = IsKnown (value_at gs slot) → stands_behind new.links (head_for heads (value_at gs slot)) slot ≡ true
+
+-- what stands behind a head goes on to, but for one slot
+abbrev pub StaysBehind : Chains → Chains → ℕ → Type 0
+StaysBehind new old slot = (h s : ℕ) → h < length old.links → value_at old.groups.items h ≡ Null → s ≢ slot → stands_behind old.links h s ≡ true → stands_behind new.links h s ≡ true

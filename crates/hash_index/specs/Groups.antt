@@ -64,3 +64,11 @@ pub record HasPut (h : Held) (old new : List Held) : Type 0 where
   pub back : List Held
   pub was : old ≡ front ++ back
   pub is : new ≡ front ++ h ∷ back
+
+-- the slots of one list have the values that they have in another
+abbrev pub HaveSameValues : List RowsOf → List RowsOf → Type 0
+HaveSameValues new old = (s : ℕ) → value_at new s ≡ value_at old s
+
+-- a value without rows
+abbrev pub no_rows_of : Value → RowsOf
+no_rows_of v = record { value = v; tids = [] }

@@ -9,8 +9,8 @@ ghost use Rattle.pg_value.specs.Order.{IsOfFamily};
 ghost use Rattle.opfamily.specs.declared.classes.Method.TheVariants.{Hash};
 ghost use Rattle.opfamily.specs.Answers.{number_in};
 ghost use Rattle.opfamily.specs.KeyOrder.{key_family, key_order};
-ghost use Rattle.hash_index.specs.Chains.{HasSlots, IsChained, IsWider, head_for, stands_behind};
-ghost use Rattle.hash_index.specs.Groups.{HasPut, below, held_by, value_at, without_at};
+ghost use Rattle.hash_index.specs.Chains.{HasSlots, IsChained, IsWider, head_for, IsBehindHead, StaysBehind};
+ghost use Rattle.hash_index.specs.Groups.{HasPut, below, held_by, value_at, without_at, HaveSameValues, no_rows_of};
 ghost use Rattle.hash_index.specs.Held.{IsKnown};
 
 use crate::group::Group;
@@ -185,7 +185,7 @@ impl Chains {
         requires { IsChained key self.old }
         ensures chained { IsChained key self.new }
         ensures wider { IsWider self.old.groups.items self.new.groups.items }
-        ensures values { (s : ℕ) → value_at self.new.groups.items s ≡ value_at self.old.groups.items s }
+        ensures values { HaveSameValues self.new.groups.items self.old.groups.items }
     {
         if self.groups.len().saturating_sub(1) / 3 < self.heads.len() {
             return Ok(());
@@ -199,7 +199,7 @@ impl Chains {
         ensures chained { IsChained key self.new }
         ensures twice { OnOk result (length self.new.heads.items ≡ length self.old.heads.items + length self.old.heads.items) }
         ensures wider { IsWider self.old.groups.items self.new.groups.items }
-        ensures values { (s : ℕ) → value_at self.new.groups.items s ≡ value_at self.old.groups.items s }
+        ensures values { HaveSameValues self.new.groups.items self.old.groups.items }
     {
         let count = self.heads.len();
         self.add_heads(count)?;
@@ -217,8 +217,8 @@ impl Chains {
         ensures slots { HasSlots self.new }
         ensures heads { self.new.heads ≡ self.old.heads }
         ensures groups { self.new.groups ≡ self.old.groups }
-        ensures put { IsKnown (value_at self.old.groups.items slot) → stands_behind self.new.links (head_for self.old.heads.items (value_at self.old.groups.items slot)) slot ≡ true }
-        ensures kept { (h s : ℕ) → h < length self.old.links → value_at self.old.groups.items h ≡ Null → s ≢ slot → stands_behind self.old.links h s ≡ true → stands_behind self.new.links h s ≡ true }
+        ensures put { IsBehindHead self.new self.old.heads.items self.old.groups.items slot }
+        ensures kept { StaysBehind self.new self.old slot }
     {
         let value = self.value_at(slot);
         if is_known(value) {
@@ -235,7 +235,7 @@ impl Chains {
         ensures more { OnOk result (length self.new.heads.items ≡ length self.old.heads.items + count) }
         ensures refused { OnErr result (self.new.heads.items ≡ self.old.heads.items) }
         ensures wider { IsWider self.old.groups.items self.new.groups.items }
-        ensures values { (s : ℕ) → value_at self.new.groups.items s ≡ value_at self.old.groups.items s }
+        ensures values { HaveSameValues self.new.groups.items self.old.groups.items }
         ensures lists { (s : ℕ) → s < length self.old.links → list_of self.new.links s ≡ list_of self.old.links s }
     {
         let mut heads = Vec::new(self.alloc);
@@ -252,7 +252,7 @@ impl Chains {
     fn add_slot(&mut self, v: Value) -> Result<u32, AllocError>
         requires { length self.old.links ≡ length self.old.groups.items }
         ensures slot { IfOk result (λ s. s ≡ length self.old.groups.items) }
-        ensures groups { OnOk result (self.new.groups.items ≡ self.old.groups.items ++ record { value = v; tids = [] } ∷ []) }
+        ensures groups { OnOk result (self.new.groups.items ≡ self.old.groups.items ++ no_rows_of v ∷ []) }
         ensures links { OnOk result (self.new.links ≡ self.old.links ++ (length self.old.links ∷ []) ∷ []) }
         ensures few { OnOk result (length self.new.groups.items ≤ 2 ^ 32 - 1) }
         ensures lawful { OnOk result (AreLists self.new.links) }

@@ -1,5 +1,5 @@
 -- The rows that COPY data stand for, or the first fault of the data (PostgreSQL manual, COPY; `\N` is NULL in quotes too, own).
-use Rattle.std.specs.Prelude.{ℕ, ◌≡◌, ◌+◌, ◌-◌, ◌<◌, Bool, false, cond, List, [], ◌∷◌, ◌++◌, length, take, drop, nat_lt, nat_eq, Ok, Err}
+use Rattle.std.specs.Prelude.{ℕ, ◌≡◌, ◌+◌, ◌-◌, ◌<◌, Bool, false, cond, List, [], ◌∷◌, ◌++◌, length, take, drop, nat_lt, nat_eq, Ok, Err, ◌≢◌}
 use Rattle.std.specs.declared.result.Result.{Result}
 use Rattle.std.specs.Str.{bytes_eq}
 use Rattle.csv.specs.Reading.{default_config, records, strip_bom}
@@ -90,3 +90,7 @@ appended before after = drop (length before) after
 -- so many rows whose values were put at the end of a list, one row after another
 abbrev pub appended_rows : List Column → ℕ → Values → Values → List Values
 appended_rows columns n before after = runs_of (length columns) n (appended before after)
+
+-- a fault, but for want of memory, is that of a reading
+abbrev pub IsFaultOf : {A : Type 0} → Result A CopyFault → CopyFault → Type 0
+IsFaultOf reading e = e ≢ Memory → reading ≡ Err e

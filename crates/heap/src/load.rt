@@ -1,12 +1,12 @@
 //! Rows read from COPY data.
 
-ghost use Rattle.std.specs.Prelude.{◌≡◌, ◌≢◌, ◌+◌, ◌*◌, ◌<◌, ◌≤◌, List, length, slice_get, true, Some, Ok, Err, IfOk, IfErr, IfSome, IfNone, OnOk};
+ghost use Rattle.std.specs.Prelude.{◌≡◌, ◌+◌, ◌*◌, ◌<◌, ◌≤◌, List, length, slice_get, true, Some, Ok, Err, IfOk, IfErr, OnOk};
 ghost use Rattle.std.specs.List.{All};
 ghost use Rattle.csv.specs.Reading.{error_kind, stops_reader};
 ghost use Rattle.csv.specs.Records.{fields_of};
 ghost use Rattle.pg_base.specs.declared.limits.TheConstants.{MOST_COLUMNS, MOST_ROWS};
 ghost use Rattle.pg_value.specs.declared.columns.Column.{Column};
-ghost use Rattle.heap.specs.Loading.{BeginsWith, NamesColumnOf, appended, records_of, field, row, appended_rows, rows_from, is_long};
+ghost use Rattle.heap.specs.Loading.{BeginsWith, NamesColumnOf, appended, records_of, field, row, appended_rows, rows_from, is_long, IsFaultOf};
 ghost use Rattle.heap.specs.Stored.{IsRowOf, IsValueOf};
 
 use crate::fault::CopyFault;
@@ -35,7 +35,7 @@ pub(crate) fn read_rows(
         length values.new.items ≡ length values.old.items + n * length columns.now) }
     ensures lawful { IfOk result (λ n.
         All (IsRowOf columns.now) (appended_rows columns.now n values.old.items values.new.items)) }
-    ensures fault { IfErr result (λ e. e ≢ CopyFault.Memory → rows_from columns.now room 1 (records_of block.now) ≡ Err e) }
+    ensures fault { IfErr result (IsFaultOf (rows_from columns.now room 1 (records_of block.now))) }
     ensures field { IfErr result (NamesColumnOf columns.now) }
 {
     let rdr = ReaderBuilder::new()
@@ -83,7 +83,7 @@ fn read_row(
         Ok (appended values.old.items values.new.items)) }
     ensures few { OnOk result (before < room) }
     ensures lawful { OnOk result (IsRowOf columns.now (appended values.old.items values.new.items)) }
-    ensures fault { IfErr result (λ e. e ≢ CopyFault.Memory → row columns.now room (before + 1) (fields_of fields.now) ≡ Err e) }
+    ensures fault { IfErr result (IsFaultOf (row columns.now room (before + 1) (fields_of fields.now))) }
     ensures field { IfErr result (NamesColumnOf columns.now) }
 {
     let rec = before + 1;
@@ -122,7 +122,7 @@ fn read_field(
 ) -> Result<Value, CopyFault>
     ensures value { IfOk result (λ v. field rec col column text.now ≡ Ok v) }
     ensures lawful { IfOk result (λ v. IsValueOf column v) }
-    ensures fault { IfErr result (λ e. e ≢ CopyFault.Memory → field rec col column text.now ≡ Err e) }
+    ensures fault { IfErr result (IsFaultOf (field rec col column text.now)) }
     ensures field { (columns : List Column) → col.0 < length columns → IfErr result (NamesColumnOf columns) }
 {
     if text == b"\\N".as_slice() {

@@ -1,8 +1,8 @@
 //! Rows in order of loading.
 
-ghost use Rattle.std.specs.Prelude.{◌≡◌, ◌≢◌, ◌+◌, ◌^◌, ◌<◌, ◌≤◌, List, [], length, take, slice_get, Some, Ok, Err, IfOk, IfErr, OnErr};
+ghost use Rattle.std.specs.Prelude.{◌≡◌, ◌+◌, ◌<◌, ◌≤◌, [], length, take, slice_get, Some, Ok, Err, IfOk, IfErr, OnErr};
 ghost use Rattle.pg_base.specs.declared.limits.TheConstants.{MOST_COLUMNS, MOST_ROWS};
-ghost use Rattle.heap.specs.Loading.{NamesColumnOf, records_of, loaded};
+ghost use Rattle.heap.specs.Loading.{NamesColumnOf, records_of, loaded, IsFaultOf};
 ghost use Rattle.heap.specs.Stored.{IsLawful, IsRowOf};
 
 use crate::counters::Counters;
@@ -96,7 +96,7 @@ impl<C: Counters> Heap<C> {
         ensures rows { IfOk result (λ n. loaded self.old (records_of block.now) ≡ Ok self.new) }
         ensures columns { self.new.columns ≡ self.old.columns }
         ensures count { IfOk result (λ n. length self.new.rows ≡ length self.old.rows + n) }
-        ensures fault { IfErr result (λ e. e ≢ CopyFault.Memory → loaded self.old (records_of block.now) ≡ Err e) }
+        ensures fault { IfErr result (IsFaultOf (loaded self.old (records_of block.now))) }
         ensures field { IfErr result (NamesColumnOf self.old.columns) }
         ensures refused { OnErr result (self.new ≡ self.old) }
         ensures lawful { IsLawful self.new }

@@ -1,8 +1,8 @@
 //! Sets of row numbers as bitmaps.
 
-ghost use Rattle.std.specs.Prelude.{◌≡◌, ◌<◌, ◌≤◌, ◌+◌, ◌*◌, ◌^◌, ◌/◌, ◌%◌, ◌&&◌, ◌||◌, ◌∷◌, [], ℕ, false, true, length, nat_eq, slice_index_or, bit_and, bit_or, IfSome, IfNone, IfOk};
+ghost use Rattle.std.specs.Prelude.{◌≡◌, ◌<◌, ◌≤◌, ◌+◌, ◌*◌, ◌^◌, ◌/◌, ◌%◌, ◌||◌, ◌∷◌, [], ℕ, false, length, nat_eq, slice_index_or, bit_and, bit_or, IfSome, IfNone, IfOk};
 ghost use Rattle.pg_base.specs.Sets.{has};
-ghost use Rattle.heap.specs.TidSets.{IsTidSet, is_marked, is_member, not_below, those};
+ghost use Rattle.heap.specs.TidSets.{IsTidSet, is_marked, not_below, those, IsNextBit, IsNextMarked, rows_of_either, common_rows, with_member};
 
 use pg_base::{Memory, Tid};
 use std::alloc::Global;
@@ -43,7 +43,7 @@ impl Tids {
     /// Makes a row number a member.
     pub fn add(&mut self, t: Tid)
         requires { t.0 < self.old.bound }
-        ensures { self.new ≡ record { bound = self.old.bound; members = those self.old.bound (λ n. nat_eq n t.0 || is_member self.old.members n) } }
+        ensures { self.new ≡ with_member self.old t.0 }
     {
         let place = (t.0 / 64) as usize;
         self.words[place] = with_bit(self.words[place], t.0 % 64);
@@ -52,7 +52,7 @@ impl Tids {
     /// Keeps the members that are in the other set too.
     pub fn and(&mut self, o: &Tids)
         requires { o.now.bound ≡ self.old.bound }
-        ensures { self.new ≡ record { bound = self.old.bound; members = those self.old.bound (λ n. is_member self.old.members n && is_member o.now.members n) } }
+        ensures { self.new ≡ common_rows self.old o.now }
     {
         meet(&mut self.words, &o.words);
     }
@@ -60,7 +60,7 @@ impl Tids {
     /// Takes the members of the other set as well.
     pub fn or(&mut self, o: &Tids)
         requires { o.now.bound ≡ self.old.bound }
-        ensures { self.new ≡ record { bound = self.old.bound; members = those self.old.bound (λ n. is_member self.old.members n || is_member o.now.members n) } }
+        ensures { self.new ≡ rows_of_either self.old o.now }
     {
         join(&mut self.words, &o.words);
     }
@@ -111,7 +111,7 @@ fn join(words: &mut [u64], others: &[u64])
 /// The least number not below `t` whose bit is set.
 fn first_mark(words: &[u64], t: u32) -> Option<u64>
     requires { length words.now ≤ 2 ^ 27 }
-    ensures some { IfSome result (λ m. (t ≤ m) × (is_marked words.now m ≡ true) × ((n : ℕ) → t ≤ n → n < m → is_marked words.now n ≡ false)) }
+    ensures some { IfSome result (IsNextMarked words.now t) }
     ensures none { IfNone result ((n : ℕ) → t ≤ n → is_marked words.now n ≡ false) }
 {
     for place in (t / 64) as usize..words.len() {
@@ -139,7 +139,7 @@ fn lowest_bit(place: usize, t: u32) -> u32
 /// The lowest bit that is set, from one on.
 fn first_bit(word: u64, from: u32) -> Option<u32>
     requires { from < 64 }
-    ensures some { IfSome result (λ b. (from ≤ b) × (b < 64) × (has word b ≡ true) × ((k : ℕ) → from ≤ k → k < b → has word k ≡ false)) }
+    ensures some { IfSome result (IsNextBit word from) }
     ensures none { IfNone result ((k : ℕ) → from ≤ k → has word k ≡ false) }
 {
     let rest = word >> from;

@@ -1,11 +1,14 @@
 -- A well typed condition is defined under each binding that fits the types and binds its columns.
 use Rattle.std.proofs.Common.{◌≡◌, refl, Bool, true, false, IsTrue, ℤ, pos, negsuc, arith}
 use Rattle.std.proofs.lemmas.Bool.{and_parts, ltb-true}
+use Rattle.pg_value.specs.declared.operators.Family.{Family}
+use Rattle.pg_value.specs.declared.operators.Family.TheVariants.{Integer, IntAbs, Text as TextOps, Bool as BoolOps}
 use Rattle.pg_value.specs.declared.operators.Op.{Op}
 use Rattle.pg_value.specs.declared.value.SqlType.{SqlType}
 use Rattle.pg_value.specs.declared.value.SqlType.TheVariants.{Int2, Int4, Int8, Text as TextType, Bool as BoolType}
 use Rattle.pg_value.specs.declared.value.Value.{Value}
 use Rattle.pg_value.specs.declared.value.Value.TheVariants.{Null, Int, Bool as Flag, Text as String}
+use Rattle.pg_value.specs.Order.{IsOfFamily}
 use Rattle.pg_value.specs.Truths.{AreComparable, HasOp, IsSameKind}
 use Rattle.pg_value.specs.Types.{limit, in_range, IsOfType}
 use Rattle.pg_expr.specs.declared.operand.ColRef.{ColRef}
@@ -19,7 +22,7 @@ use Rattle.pg_expr.specs.Pushed.{pushed}
 use Rattle.pg_expr.proofs.PushedLaws.{IsDefined, AreDefined, kinds_turned, pushed-truth}
 
 -- a value is NULL or of the kind of another
-abbrev IsLike : Value → Value → Type 0
+abbrev pub IsLike : Value → Value → Type 0
 IsLike s Null = Unit {0}
 IsLike (Int x) (Int y) = Unit {0}
 IsLike (Flag x) (Flag y) = Unit {0}
@@ -36,7 +39,7 @@ pub no_number : (t : SqlType) (n : ℤ) → limit t ≡ 0 → in_range t n ≡ t
 no_number t (pos n) none h = omega (arith, ltb-true n (limit t) h)
 no_number t (negsuc m) none h = omega (arith, ltb-true m (limit t) h)
 
-like_type : (t : SqlType) (v : Value) → IsOfType t v → IsLike (some_value t) v
+pub like_type : (t : SqlType) (v : Value) → IsOfType t v → IsLike (some_value t) v
 like_type t Null h = tt
 like_type Int2 (Int x) h = tt
 like_type Int4 (Int x) h = tt
@@ -47,6 +50,33 @@ like_type TextType (String x) h = tt
 like_type BoolType (Flag x) h = tt
 like_type t v h = absurd h
 
+-- what may stand beside some value of a type is of its kind
+pub like_kind : (t : SqlType) (v : Value) → IsSameKind (some_value t) v → IsLike (some_value t) v
+like_kind t Null h = tt
+like_kind Int2 (Int x) h = tt
+like_kind Int4 (Int x) h = tt
+like_kind Int8 (Int x) h = tt
+like_kind TextType (String x) h = tt
+like_kind BoolType (Flag x) h = tt
+like_kind t v h = absurd h
+
+-- a family that orders a value orders those of its kind
+pub family_like : (f : Family) (s v : Value) → IsLike s v → IsOfFamily f s → IsOfFamily f v
+family_like f s Null like h = tt
+family_like Integer (Int x) (Int y) like h = tt
+family_like IntAbs (Int x) (Int y) like h = tt
+family_like TextOps (Int x) (Int y) like h = absurd h
+family_like BoolOps (Int x) (Int y) like h = absurd h
+family_like Integer (Flag x) (Flag y) like h = absurd h
+family_like IntAbs (Flag x) (Flag y) like h = absurd h
+family_like TextOps (Flag x) (Flag y) like h = absurd h
+family_like BoolOps (Flag x) (Flag y) like h = tt
+family_like Integer (String x) (String y) like h = absurd h
+family_like IntAbs (String x) (String y) like h = absurd h
+family_like TextOps (String x) (String y) like h = tt
+family_like BoolOps (String x) (String y) like h = absurd h
+family_like f s v like h = absurd like
+
 has_op-like : (op : Op) (s v : Value) → IsLike s v → HasOp op s → HasOp op v
 has_op-like op s Null like h = tt
 has_op-like op s (Int y) like h = tt
@@ -54,7 +84,7 @@ has_op-like op (Flag x) (Flag y) like h = h
 has_op-like op (String x) (String y) like h = h
 has_op-like op s v like h = absurd like
 
-same_kind-like : (s v w : Value) → IsLike s v → IsSameKind s w → IsSameKind v w
+pub same_kind-like : (s v w : Value) → IsLike s v → IsSameKind s w → IsSameKind v w
 same_kind-like s Null w like h = tt
 same_kind-like (Int x) (Int y) Null like h = tt
 same_kind-like (Int x) (Int y) (Int z) like h = tt

@@ -1,5 +1,5 @@
 -- The rows of a hash index at which its condition is True: those of the entries whose value equals the one compared with.
-use Rattle.std.proofs.Common.{◌≡◌, ◌<◌, ◌≤◌, ◌+◌, ℕ, zero, suc, Bool, true, false, cond, ◌&&◌, List, [], ◌∷◌, length, map, filter, refl, sym, ap, ◌∙◌, subst, arith, ⊎_elim, ◌⊎◌, inl, inr, Ordering, Less, Equal, Greater}
+use Rattle.std.proofs.Common.{◌≡◌, ◌<◌, ◌≤◌, ◌+◌, ℕ, zero, suc, Bool, true, false, cond, ◌&&◌, List, [], ◌∷◌, length, map, filter, refl, sym, ap, ◌∙◌, subst, arith, ⊎_elim, ◌⊎◌, inl, inr, Ordering, Less, Equal, Greater, not, ◌||◌}
 use Rattle.std.specs.Prelude.{IsFalse, is_some, nat_eq, slice_index_or}
 use Rattle.std.specs.List.{range_with_len}
 use Rattle.std.specs.Ordering.{is_eq, is_gt, nat_cmp, ordering_reverse, ordering_then}
@@ -8,7 +8,7 @@ use Rattle.pg_base.specs.declared.numbers.ColNo.{ColNo}
 use Rattle.pg_value.specs.declared.operators.Family.{Family}
 use Rattle.pg_value.specs.declared.operators.Family.TheVariants.{Integer, IntAbs, Text as TextFamily, Bool as BoolFamily}
 use Rattle.pg_value.specs.declared.operators.Op.{Op}
-use Rattle.pg_value.specs.declared.operators.Op.TheVariants.{Lt, Le, Eq, Ge, Gt, Ne, AbsLt, AbsLe, AbsEq, AbsGe, AbsGt}
+use Rattle.pg_value.specs.declared.operators.Op.TheVariants.{Eq}
 use Rattle.pg_value.specs.declared.value.SqlType.{SqlType}
 use Rattle.pg_value.specs.declared.value.Value.{Value}
 use Rattle.pg_value.specs.declared.value.Value.TheVariants.{Null, Int, Bool as Flag, Text as String}
@@ -16,7 +16,7 @@ use Rattle.pg_value.specs.Order.{IsOfFamily}
 use Rattle.pg_value.specs.Sorting.{IsInOrder, in_order}
 use Rattle.pg_value.specs.Truths.{is_true, truth_of_op}
 use Rattle.pg_value.proofs.SortingLemmas.{in_order_fixed}
-use Rattle.opfamily.specs.Answers.{number_in}
+use Rattle.opfamily.specs.Answers.{number_in, op_place}
 use Rattle.opfamily.specs.KeyOrder.{Entry, key_family, key_order}
 use Rattle.opfamily.specs.declared.classes.IndexKey.{IndexKey}
 use Rattle.opfamily.specs.declared.classes.Method.{Method}
@@ -44,53 +44,16 @@ use Rattle.store.proofs.OrderLemmas.{filter-in_order}
 use Rattle.scan_probes.specs.Values.{Given, value_beside}
 use Rattle.scan_probes.specs.Probes.{column_of, compared_with, probe_of}
 use Rattle.scan_probes.proofs.MeetLemmas.{meets_true, stands}
+use Rattle.opfamily.proofs.TableLemmas.{every_pair, implied}
+
+-- `=` is known by its place among the operators
+at_equality : (op : Op) → nat_eq (op_place op) (op_place Eq) ≡ true → op ≡ Eq
+at_equality Eq h = refl
+at_equality op h = absurd (true≢false (sym h))
 
 -- a hash index has `=` alone, which is an operator of a B-tree too
 hash_only : (f : Family) (op : Op) → is_some (number_in f Hash op) ≡ true → op ≡ Eq
-hash_only Integer Lt h = absurd (true≢false (sym h))
-hash_only IntAbs Lt h = absurd (true≢false (sym h))
-hash_only TextFamily Lt h = absurd (true≢false (sym h))
-hash_only BoolFamily Lt h = absurd (true≢false (sym h))
-hash_only Integer Le h = absurd (true≢false (sym h))
-hash_only IntAbs Le h = absurd (true≢false (sym h))
-hash_only TextFamily Le h = absurd (true≢false (sym h))
-hash_only BoolFamily Le h = absurd (true≢false (sym h))
-hash_only Integer Eq h = refl
-hash_only IntAbs Eq h = refl
-hash_only TextFamily Eq h = refl
-hash_only BoolFamily Eq h = refl
-hash_only Integer Ge h = absurd (true≢false (sym h))
-hash_only IntAbs Ge h = absurd (true≢false (sym h))
-hash_only TextFamily Ge h = absurd (true≢false (sym h))
-hash_only BoolFamily Ge h = absurd (true≢false (sym h))
-hash_only Integer Gt h = absurd (true≢false (sym h))
-hash_only IntAbs Gt h = absurd (true≢false (sym h))
-hash_only TextFamily Gt h = absurd (true≢false (sym h))
-hash_only BoolFamily Gt h = absurd (true≢false (sym h))
-hash_only Integer Ne h = absurd (true≢false (sym h))
-hash_only IntAbs Ne h = absurd (true≢false (sym h))
-hash_only TextFamily Ne h = absurd (true≢false (sym h))
-hash_only BoolFamily Ne h = absurd (true≢false (sym h))
-hash_only Integer AbsLt h = absurd (true≢false (sym h))
-hash_only IntAbs AbsLt h = absurd (true≢false (sym h))
-hash_only TextFamily AbsLt h = absurd (true≢false (sym h))
-hash_only BoolFamily AbsLt h = absurd (true≢false (sym h))
-hash_only Integer AbsLe h = absurd (true≢false (sym h))
-hash_only IntAbs AbsLe h = absurd (true≢false (sym h))
-hash_only TextFamily AbsLe h = absurd (true≢false (sym h))
-hash_only BoolFamily AbsLe h = absurd (true≢false (sym h))
-hash_only Integer AbsEq h = absurd (true≢false (sym h))
-hash_only IntAbs AbsEq h = absurd (true≢false (sym h))
-hash_only TextFamily AbsEq h = absurd (true≢false (sym h))
-hash_only BoolFamily AbsEq h = absurd (true≢false (sym h))
-hash_only Integer AbsGe h = absurd (true≢false (sym h))
-hash_only IntAbs AbsGe h = absurd (true≢false (sym h))
-hash_only TextFamily AbsGe h = absurd (true≢false (sym h))
-hash_only BoolFamily AbsGe h = absurd (true≢false (sym h))
-hash_only Integer AbsGt h = absurd (true≢false (sym h))
-hash_only IntAbs AbsGt h = absurd (true≢false (sym h))
-hash_only TextFamily AbsGt h = absurd (true≢false (sym h))
-hash_only BoolFamily AbsGt h = absurd (true≢false (sym h))
+hash_only f op h = at_equality op (implied (is_some (number_in f Hash op)) (nat_eq (op_place op) (op_place Eq)) (every_pair (λ g o. not (is_some (number_in g Hash o)) || nat_eq (op_place o) (op_place Eq)) refl f op) h)
 
 ordered_too : (f : Family) → is_some (number_in f Hash Eq) ≡ true → is_some (number_in f Btree Eq) ≡ true
 ordered_too Integer h = refl

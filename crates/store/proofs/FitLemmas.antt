@@ -1,27 +1,21 @@
 -- What an index has of lawful rows: values that are of its keys' families.
 use Rattle.std.proofs.Common.{cond as when, ◌≡◌, ◌<◌, ◌≤◌, ◌+◌, ◌-◌, ◌&&◌, ◌||◌, ℕ, zero, suc, Bool, true, false, List, [], ◌∷◌, Option, Some, length, get_or, map, refl, sym, subst, arith, All}
-use Rattle.std.specs.Prelude.{IsTrue, is_some, nat_eq, nat_lt, slice_index_or}
-use Rattle.std.specs.List.{AllByRecursion, AllZip}
+use Rattle.std.specs.Prelude.{IsTrue, is_some, nat_eq, nat_lt}
+use Rattle.std.specs.List.{AllByRecursion}
 use Rattle.std.proofs.lemmas.Bool.{and_from, and_parts, false≢true}
 use Rattle.std.proofs.lemmas.List.{length-map}
 use Rattle.std.proofs.lemmas.List.Elements.{All-from_recursion, recursion_from_All}
 use Rattle.std.proofs.lemmas.Slice.Zip.{AllZip-long}
 use Rattle.pg_value.specs.declared.columns.Column.{Column}
-use Rattle.pg_value.specs.declared.operators.Family.{Family}
-use Rattle.pg_value.specs.declared.operators.Family.TheVariants.{Integer, IntAbs, Text as TextFamily, Bool as BoolFamily}
 use Rattle.pg_value.specs.declared.operators.Op.TheVariants.{Eq}
 use Rattle.pg_value.specs.declared.value.SqlType.{SqlType}
-use Rattle.pg_value.specs.declared.value.SqlType.TheVariants.{Int2, Int4, Int8, Text as TextType, Bool as BoolType}
-use Rattle.pg_value.specs.declared.value.Value.{Value}
-use Rattle.pg_value.specs.declared.value.Value.TheVariants.{Null, Int, Bool as Flag, Text as String}
 use Rattle.pg_value.specs.Order.{IsOfFamily}
-use Rattle.pg_value.specs.Types.{IsOfType}
-use Rattle.opfamily.specs.Answers.{accepted, family_of, has_method, is_type, number_in}
-use Rattle.opfamily.specs.Table.{both_methods, class}
+use Rattle.opfamily.specs.Answers.{accepted, family_of, number_in}
+use Rattle.opfamily.specs.Table.{class}
 use Rattle.opfamily.specs.KeyOrder.{AreKeyValues, Entry, family_or_integer, first_value, key_family}
 use Rattle.opfamily.specs.declared.classes.IndexKey.{IndexKey}
 use Rattle.opfamily.specs.declared.classes.Method.{Method}
-use Rattle.opfamily.specs.declared.classes.Method.TheVariants.{Btree, Hash}
+use Rattle.opfamily.specs.declared.classes.Method.TheVariants.{Hash}
 use Rattle.opfamily.specs.declared.classes.OpClass.{OpClass}
 use Rattle.opfamily.specs.declared.classes.OpClass.TheVariants.{Int2Ops, Int4Ops, Int8Ops, TextOps, BoolOps, Int2AbsOps, Int4AbsOps, Int8AbsOps}
 use Rattle.pg_expr.specs.declared.operand.ColRef.{ColRef}
@@ -30,7 +24,7 @@ use Rattle.pg_expr.specs.declared.expr.Expr.{Expr}
 use Rattle.pg_expr.specs.View.{cond}
 use Rattle.pg_expr.specs.Columns.{each_column}
 use Rattle.pg_expr.specs.Cond.{Cond}
-use Rattle.pg_expr.specs.Typed.{FitsTypes, some_value}
+use Rattle.pg_expr.specs.Typed.{FitsTypes}
 use Rattle.pg_expr.proofs.ColumnLaws.{weaker-each}
 use Rattle.eq_classes.proofs.SideLemmas.{type_fits}
 use Rattle.heap.specs.Stored.{IsRowOf, IsValueOf, Values}
@@ -41,7 +35,8 @@ use Rattle.plan_tree.specs.Entries.{cell, entry, meets}
 use Rattle.store.specs.Kept.{first_key, found, held_of}
 use Rattle.store.proofs.FoundLemmas.{among, among-suc}
 use Rattle.pg_base.proofs.ListLemmas.{each-map as each-mapped}
-use Rattle.heap.proofs.FitsLemmas.{value_fits, fits-at}
+use Rattle.heap.proofs.FitsLemmas.{fits-at}
+use Rattle.eq_classes.proofs.DefaultLemmas.{class_fits}
 
 module _ (columns : List Column) (row : Values) (is : IsRowOf columns row) where
   pub wide : length row ≡ length columns
@@ -69,32 +64,10 @@ or-false : (b : Bool) → b || false ≡ true → b ≡ true
 or-false true h = refl
 or-false false h = h
 
-own-type : (b : Bool) (own t : SqlType) → (b && is_type own t) || false ≡ true → is_type own t ≡ true
-own-type b own t h = (and_parts b (is_type own t) (or-false (b && is_type own t) h)).1
-
-some-of : (f : Family) (own t : SqlType) → is_type own t ≡ true → IsOfFamily f (some_value own) → IsOfFamily f (some_value t)
-some-of f Int2 Int2 e h = h
-some-of f Int4 Int4 e h = h
-some-of f Int8 Int8 e h = h
-some-of f TextType TextType e h = h
-some-of f BoolType BoolType e h = h
-some-of f own t e h = absurd (false≢true e)
-
--- some value of the type is of the kind that the class orders
-class-fits : (m : Method) (t : SqlType) (c : OpClass) → accepted c m t ≡ true → IsOfFamily (family_or_integer (family_of c)) (some_value t)
-class-fits m t Int2Ops h = some-of Integer Int2 t (own-type (has_method (class Int2Ops [] Int2 both_methods) m) Int2 t h) tt
-class-fits m t Int4Ops h = some-of Integer Int4 t (own-type (has_method (class Int4Ops [] Int4 both_methods) m) Int4 t h) tt
-class-fits m t Int8Ops h = some-of Integer Int8 t (own-type (has_method (class Int8Ops [] Int8 both_methods) m) Int8 t h) tt
-class-fits m t TextOps h = some-of TextFamily TextType t (own-type (has_method (class TextOps [] TextType both_methods) m) TextType t h) tt
-class-fits m t BoolOps h = some-of BoolFamily BoolType t (own-type (has_method (class BoolOps [] BoolType both_methods) m) BoolType t h) tt
-class-fits m t Int2AbsOps h = some-of IntAbs Int2 t (own-type (has_method (class Int2AbsOps [] Int2 (Btree ∷ [])) m) Int2 t h) tt
-class-fits m t Int4AbsOps h = some-of IntAbs Int4 t (own-type (has_method (class Int4AbsOps [] Int4 (Btree ∷ [])) m) Int4 t h) tt
-class-fits m t Int8AbsOps h = some-of IntAbs Int8 t (own-type (has_method (class Int8AbsOps [] Int8 (Btree ∷ [])) m) Int8 t h) tt
-
 pub key-fits : (columns : List Column) (m : Method) (k : IndexKey) (row : Values) → IsKeyOf columns m k → IsRowOf columns row → IsOfFamily (key_family k) (cell row k.col)
 unfolding key_family
 key-fits columns m k row of is =
-    type_fits (family_or_integer (family_of k.class)) (type_at columns k.col) (cell row k.col) (class-fits m (type_at columns k.col) k.class of.class) (fits-at columns row is k.col.0 no_column)
+    type_fits (family_or_integer (family_of k.class)) (type_at columns k.col) (cell row k.col) (class_fits k.class m (type_at columns k.col) of.class) (fits-at columns row is k.col.0 no_column)
 
 class-hashes : (t : SqlType) (c : OpClass) → accepted c Hash t ≡ true → is_some (number_in (family_or_integer (family_of c)) Hash Eq) ≡ true
 class-hashes t Int2Ops h = refl

@@ -8,6 +8,7 @@ use Rattle.pg_expr.specs.Truths.{truth_at}
 use Rattle.eq_classes.specs.Clauses.{Clause, each_pair}
 use Rattle.eq_classes.specs.Holding.{hold}
 use Rattle.eq_classes.proofs.ListLemmas.{IsIn, Before, in_left, in_right, in_parts}
+use Rattle.opfamily.proofs.TableLemmas.{implied}
 
 module _ {A B : Type 0} where
   pub in_map : (f : A → B) (xs : List A) (y : B) → IsIn y (map f xs) → (x : A) × IsIn x xs × (y ≡ f x)
@@ -44,10 +45,6 @@ module _ {A B : Type 0} where
   each_pair_in f (z ∷ zs) x y (inl h) = in_left (f x y) (map (f z) zs) (each_pair f zs) (subst (λ (a : A). IsIn (f a y) (map (f z) zs)) (sym h.0) (map_in (f z) zs y h.1))
   each_pair_in f (z ∷ zs) x y (inr h) = in_right (f x y) (map (f z) zs) (each_pair f zs) (each_pair_in f zs x y h)
 
-or_at : (p q : Bool) → not p || q ≡ true → p ≡ true → q ≡ true
-or_at true q h e = h
-or_at false q h e = absurd (true≢false (sym e))
-
 or_make : (p q : Bool) → (p ≡ true → q ≡ true) → not p || q ≡ true
 or_make true q h = h refl
 or_make false q h = refl
@@ -58,7 +55,7 @@ module _ (b : ColRef → Value) (chosen : Clause → Bool) where
   hold_at (z ∷ zs) h k i is =
       let parts = and_parts (not (chosen z) || is_true (truth_at b z.cond)) (hold b chosen zs) h in
       ⊎_elim
-      (λ (e : k ≡ z). or_at (chosen k) (is_true (truth_at b k.cond)) (subst (λ (a : Clause). not (chosen a) || is_true (truth_at b a.cond) ≡ true) (sym e) parts.0) is)
+      (λ (e : k ≡ z). implied (chosen k) (is_true (truth_at b k.cond)) (subst (λ (a : Clause). not (chosen a) || is_true (truth_at b a.cond) ≡ true) (sym e) parts.0) is)
       (λ (later : IsIn k zs). hold_at zs parts.1 k later is)
       i
 

@@ -1,6 +1,6 @@
 -- The columns by which tuples of a set of relations are sorted, and the order of their values (PostgreSQL,
 -- src/backend/executor/nodeSort.c; PostgreSQL manual, chapter Queries, Sorting Rows).
-use Rattle.std.specs.Prelude.{◌≡◌, true, List, [], ◌∷◌, map, Option, option_map}
+use Rattle.std.specs.Prelude.{◌≡◌, true, List, [], ◌∷◌, map, Option, option_map, ℕ, slice_index_or}
 use Rattle.std.specs.List.{filter_map}
 use Rattle.std.specs.Ordering.{on, then_cmp}
 use Rattle.std.specs.declared.cmp.Ordering.{Ordering}
@@ -18,6 +18,12 @@ use Rattle.sql_query.specs.Queries.{Query}
 use Rattle.sql_query.specs.WellBound.{IsColumnOf}
 use Rattle.pathkeys.specs.Keys.{Keys}
 use Rattle.sort_rows.specs.declared.columns.SortColumn.{SortColumn}
+use Rattle.std.specs.Borrow.{Bor}
+use Rattle.pg_base.specs.Sets.{has}
+use Rattle.pg_base.specs.declared.rel_set.RelSet.{RelSet}
+use Rattle.pg_value.specs.declared.value.Value.TheVariants.{Null}
+use Rattle.eq_classes.specs.declared.classes.ClassNo.{ClassNo}
+use Rattle.pathkeys.specs.Finding.{class_numbers}
 
 -- the column of a class: its first member inside a set, with what the class says of the order of its values
 abbrev pub sorting_by : Class → Set → ColRef → SortColumn
@@ -30,6 +36,10 @@ column_in c set = option_map (sorting_by c set) (first_in c set)
 -- those of a key list
 abbrev pub sorted_columns : Table → Set → Keys → List SortColumn
 sorted_columns t set keys = filter_map (λ n. column_in (class_at t.classes n) set) keys
+
+-- those of the classes of a list, for tuples of a set of relations
+abbrev pub sorting_columns : Table → RelSet → List ClassNo → List SortColumn
+sorting_columns t set keys = sorted_columns t (has set.0) (class_numbers keys)
 
 -- two values of a column
 abbrev pub values_order : SortColumn → Value → Value → Ordering
@@ -49,3 +59,11 @@ pub record IsSortColumn (c : Contents) (q : Query) (set : Set) (s : SortColumn) 
   pub inside : set s.column.rel.0 ≡ true
   pub column : IsColumnOf c q.range s.column
   pub place : s.place ≡ rank set s.column.rel.0
+
+-- the values that a list of references to values stands for
+abbrev pub lent_values : List (Bor Value) → List Value
+lent_values vs = map (λ v. v.now) vs
+
+-- the value at a place of a key, and NULL past its end
+abbrev pub lent_value : List (Bor Value) → ℕ → Value
+lent_value key place = slice_index_or (lent_values key) place Null

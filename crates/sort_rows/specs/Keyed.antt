@@ -6,8 +6,11 @@ use Rattle.pg_base.specs.declared.numbers.Tid.{Tid}
 use Rattle.pg_value.specs.declared.value.Value.{Value}
 use Rattle.sort_rows.specs.declared.columns.SortColumn.{SortColumn}
 use Rattle.sort_rows.specs.declared.sort.Keyed.{Keyed}
-use Rattle.sort_rows.specs.Columns.{columns_order}
+use Rattle.sort_rows.specs.Columns.{columns_order, lent_values}
 use Rattle.sort_rows.specs.Leads.{key_lead}
+use Rattle.std.specs.Borrow.{Bor}
+use Rattle.pg_value.specs.Sorting.{in_order}
+use Rattle.heap.specs.Tuples.{TupleList}
 
 -- the key of so many values at a place of the list of all keys
 abbrev pub run_at : {A : Type 0} → List A → ℕ → ℕ → List A
@@ -35,3 +38,17 @@ module _ (cs : List SortColumn) (keys : List Value) where
   -- tuples to be sorted, each with the lead of its key
   abbrev pub AreKeyed : ℕ → List Keyed → Type 0
   AreKeyed count ks = All (IsKeyed count) ks
+
+-- so the keys of the list are lent
+module _ (cs : List SortColumn) (keys : List (Bor Value)) where
+  -- tuples in the order of their keys; those that tie keep their places
+  abbrev pub keyed_sorted : List Keyed → List Keyed
+  keyed_sorted ks = in_order (keyed_order cs (lent_values keys)) ks
+
+  -- the tuples of a list, each with the lead of its key
+  abbrev pub AreWithLeads : TupleList → List Keyed → Type 0
+  AreWithLeads input ks = AreKeyed cs (lent_values keys) (length input.rows) ks
+
+-- the tuples of a list in the order of their places
+abbrev pub tuples_keyed : TupleList → List Keyed → TupleList
+tuples_keyed input ks = record { set = input.set; rows = rows_keyed input.rows ks }

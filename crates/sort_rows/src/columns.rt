@@ -4,8 +4,7 @@ ghost use Rattle.std.specs.Prelude.{◌≡◌, ◌<◌, All, IfOk, length};
 ghost use Rattle.pg_base.specs.Sets.{has};
 ghost use Rattle.eq_classes.specs.Listing.{class_at};
 ghost use Rattle.heap.specs.Tuples.{rank};
-ghost use Rattle.pathkeys.specs.Finding.{class_numbers};
-ghost use Rattle.sort_rows.specs.Columns.{column_in, sorted_columns};
+ghost use Rattle.sort_rows.specs.Columns.{column_in, sorting_columns};
 
 use eq_classes::{ClassNo, Classes};
 use pg_base::{Memory, RelNo, RelSet};
@@ -38,7 +37,7 @@ pub fn sort_columns(
     keys: &[ClassNo],
 ) -> Result<Vec<SortColumn>, Memory>
     requires { All (λ c. c.0 < length classes.now.classes) keys.now }
-    ensures { IfOk result (λ cs. cs.items ≡ sorted_columns classes.now (has set.0) (class_numbers keys.now)) }
+    ensures { IfOk result (λ cs. cs.items ≡ sorting_columns classes.now set keys.now) }
 {
     let mut columns = Vec::new(alloc);
     for key in keys {

@@ -1,19 +1,17 @@
 //! Sort keys of tuples: their values, and how they compare.
 
-ghost use Rattle.std.specs.Prelude.{◌≡◌, ◌+◌, ◌++◌, ◌≤◌, All, IfOk, OnOk, length, map, slice_index_or};
+ghost use Rattle.std.specs.Prelude.{◌≡◌, ◌+◌, ◌≤◌, All, IfOk, OnOk, length, slice_index_or};
 ghost use Rattle.pg_base.specs.Sets.{has};
-ghost use Rattle.pg_value.specs.declared.value.Value.TheVariants.{Null};
 ghost use Rattle.pg_value.specs.ColumnOrder.{column_order};
 ghost use Rattle.eq_classes.specs.Holding.{IsWithin};
 ghost use Rattle.heap.specs.Tuples.{relation_count};
 ghost use Rattle.path_cost.specs.Columns.{AreTables};
 ghost use Rattle.sql_query.specs.Queries.{all_of_query};
-ghost use Rattle.sql_query.specs.Tuples.{value_at};
 ghost use Rattle.sql_query.specs.Worlds.{IsWorld, world};
-ghost use Rattle.sort_rows.specs.Columns.{columns_order, key_at, values_order, IsSortColumn};
+ghost use Rattle.sort_rows.specs.Columns.{columns_order, lent_value, lent_values, values_order, IsSortColumn};
 ghost use Rattle.sort_rows.specs.Keyed.{run_at};
-ghost use Rattle.sort_rows.specs.KeySource.{IsKeySource, key_of, world_of};
-ghost use Rattle.sort_rows.specs.Rows.{AreRowsAt, HasRows, tuple_of};
+ghost use Rattle.sort_rows.specs.KeySource.{AddsKey, AreRowsRead, IsKeyAt, IsKeySource, world_of};
+ghost use Rattle.sort_rows.specs.Rows.{HasRows};
 
 use crate::columns::SortColumn;
 use crate::source::KeySource;
@@ -35,7 +33,7 @@ fn tuple_rows<'a, C: Counters>(
     requires source { IsKeySource at.now }
     requires width { length tuple.now ≡ relation_count at.now.set }
     requires rows { HasRows (world_of at.now) at.now.q.now (has at.now.set.0) tuple.now }
-    ensures rows { OnOk result (AreRowsAt (world_of at.now) at.now.q.now at.now.set tuple.now (map (λ r. r.now) rows.new.items)) }
+    ensures rows { OnOk result (AreRowsRead at.now tuple.now rows.new.items) }
     ensures cost { reads.new ≤ reads.old + relation_count at.now.set }
 {
     let q: &Prepared = at.q;
@@ -62,7 +60,7 @@ pub(crate) fn add_key<'a, C: Counters>(
     requires source { IsKeySource at.now }
     requires width { length tuple.now ≡ relation_count at.now.set }
     requires rows { HasRows (world_of at.now) at.now.q.now (has at.now.set.0) tuple.now }
-    ensures key { OnOk result (map (λ v. v.now) keys.new.items ≡ map (λ v. v.now) keys.old.items ++ key_of at.now tuple.now) }
+    ensures key { OnOk result (AddsKey at.now tuple.now keys.old keys.new) }
     ensures cost { reads.new ≤ reads.old + relation_count at.now.set }
 {
     tuple_rows(at, tuple, rows, reads)?;
@@ -90,7 +88,7 @@ pub fn read_key<'a, C: Counters>(
     requires columns { All (IsSortColumn cat.now q.now (has set.0)) columns.now }
     requires width { length tuple.now ≡ relation_count set }
     requires rows { HasRows (world cat.now heaps.now) q.now (has set.0) tuple.now }
-    ensures key { IfOk result (λ key. map (λ v. v.now) key.items ≡ key_at columns.now (value_at (world cat.now heaps.now) q.now (tuple_of q.now set tuple.now))) }
+    ensures key { IfOk result (IsKeyAt (world cat.now heaps.now) q.now set columns.now tuple.now) }
     ensures cost { reads.new ≤ reads.old + relation_count set }
 {
     let at = KeySource {
@@ -122,7 +120,7 @@ pub(crate) fn key_at_place<'k, 'a>(
 /// How two keys stand to one another, by the first column that tells them apart. A value that a key lacks counts as
 /// NULL.
 pub fn compare_keys(columns: &[SortColumn], a: &[&Value], b: &[&Value]) -> Ordering
-    ensures { result ≡ columns_order columns.now (map (λ v. v.now) a.now) (map (λ v. v.now) b.now) }
+    ensures { result ≡ columns_order columns.now (lent_values a.now) (lent_values b.now) }
 {
     for i in 0..columns.len() {
         match compare_at(columns[i], a, b, i) {
@@ -135,7 +133,7 @@ pub fn compare_keys(columns: &[SortColumn], a: &[&Value], b: &[&Value]) -> Order
 
 /// How the values at one place of two keys stand to one another by a column.
 fn compare_at(column: SortColumn, a: &[&Value], b: &[&Value], place: usize) -> Ordering
-    ensures { result ≡ values_order column (slice_index_or (map (λ v. v.now) a.now) place Null) (slice_index_or (map (λ v. v.now) b.now) place Null) }
+    ensures { result ≡ values_order column (lent_value a.now place) (lent_value b.now place) }
 {
     let null = Value::Null;
     let one = value_or(a, place, &null);
@@ -151,7 +149,7 @@ fn compare_at(column: SortColumn, a: &[&Value], b: &[&Value], place: usize) -> O
 
 /// The value at a place of a key, or another one past its end.
 pub(crate) fn value_or<'a>(key: &'a [&Value], place: usize, past: &'a Value) -> &'a Value
-    ensures { result.now ≡ slice_index_or (map (λ v. v.now) key.now) place past.now }
+    ensures { result.now ≡ slice_index_or (lent_values key.now) place past.now }
 {
     match key.get(place) {
         Some(value) => value,

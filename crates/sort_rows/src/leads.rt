@@ -1,8 +1,9 @@
 //! Numbers that stand for the first values of keys (PostgreSQL's abbreviated keys, src/backend/utils/sort/tuplesort.c).
 
-ghost use Rattle.std.specs.Prelude.{◌≡◌, map, pos};
+ghost use Rattle.std.specs.Prelude.{◌≡◌, pos};
 ghost use Rattle.pg_value.specs.Order as order;
 ghost use Rattle.sort_rows.specs.Leads.{absent_lead, family_lead, flag_lead, key_lead, later, lead_of, leading, text_lead};
+ghost use Rattle.sort_rows.specs.Columns.{lent_values};
 
 use crate::columns::SortColumn;
 use crate::keys::value_or;
@@ -104,7 +105,7 @@ fn later(text: &[u8]) -> &[u8]
 
 /// The lead of a key: that of its first value.
 pub(crate) fn key_lead(columns: &[SortColumn], key: &[&Value]) -> i64
-    ensures { result ≡ key_lead columns.now (map (λ v. v.now) key.now) }
+    ensures { result ≡ key_lead columns.now (lent_values key.now) }
 {
     let null = Value::Null;
     match columns.first() {

@@ -1,19 +1,16 @@
 //! The sort of a list of tuples.
 
-ghost use Rattle.std.specs.Prelude.{◌≡◌, ◌+◌, ◌*◌, ◌<◌, ◌≤◌, All, IfOk, OnOk, length, map};
-ghost use Rattle.std.specs.List.{flat_map};
+ghost use Rattle.std.specs.Prelude.{◌≡◌, ◌+◌, ◌*◌, ◌<◌, ◌≤◌, All, IfOk, OnOk, length};
 ghost use Rattle.pg_base.specs.Sets.{has};
-ghost use Rattle.pg_value.specs.Sorting.{in_order};
 ghost use Rattle.eq_classes.specs.Holding.{IsWithin};
-ghost use Rattle.heap.specs.Tuples.{padded_tuples, relation_count};
-ghost use Rattle.pathkeys.specs.Sorted.{keys_order};
-ghost use Rattle.sql_query.specs.Queries.{all_of_query, width};
-ghost use Rattle.sql_query.specs.Tuples.{value_at};
+ghost use Rattle.heap.specs.Tuples.{relation_count};
+ghost use Rattle.sql_query.specs.Queries.{all_of_query};
 ghost use Rattle.sql_query.specs.WellBound.{IsWellBound};
 ghost use Rattle.sql_query.specs.Worlds.{IsWorld, world};
-ghost use Rattle.sort_rows.specs.Keyed.{AreKeyed, keyed_order, rows_keyed};
-ghost use Rattle.sort_rows.specs.KeySource.{IsKeySource, by_key, key_of, world_of};
+ghost use Rattle.sort_rows.specs.Keyed.{AreWithLeads, keyed_order, keyed_sorted, rows_keyed, tuples_keyed};
+ghost use Rattle.sort_rows.specs.KeySource.{IsInKeyOrder, IsKeySource, in_key_order, keys_of_all, world_of};
 ghost use Rattle.sort_rows.specs.Rows.{AllHaveRows};
+ghost use Rattle.sort_rows.specs.Columns.{lent_values};
 
 use crate::columns::{SortColumn, sort_columns};
 use crate::keys::{add_key, compare_keys, key_at_place};
@@ -53,7 +50,7 @@ pub fn sort_rows<C: Counters>(
     requires set { IsWithin (has input.now.set.0) (all_of_query q.now) }
     requires rows { AllHaveRows (world cat.now heaps.now) q.now input.now }
     ensures set { IfOk result (λ r. r.set ≡ input.now.set) }
-    ensures sorted { IfOk result (λ r. padded_tuples (width q.now) r ≡ in_order (keys_order (value_at (world cat.now heaps.now) q.now) q.now.classes (has input.now.set.0) keys.now) (padded_tuples (width q.now) input.now)) }
+    ensures sorted { IfOk result (IsInKeyOrder (world cat.now heaps.now) q.now keys.now input.now) }
     ensures rows { IfOk result (λ r. AllHaveRows (world cat.now heaps.now) q.now r) }
     ensures cost { reads.new ≤ reads.old + relation_count input.now.set * length input.now.rows }
 {
@@ -78,7 +75,7 @@ fn sorted<C: Counters>(
     requires source { IsKeySource at.now }
     requires set { at.now.set ≡ input.now.set }
     requires rows { AllHaveRows (world_of at.now) at.now.q.now input.now }
-    ensures rows { IfOk result (λ r. r ≡ record { set = input.now.set; rows = in_order (by_key at.now) input.now.rows }) }
+    ensures rows { IfOk result (λ r. r ≡ in_key_order at.now input.now) }
     ensures cost { reads.new ≤ reads.old + relation_count input.now.set * length input.now.rows }
 {
     let keys = read_keys(alloc, at, input, reads)?;
@@ -97,7 +94,7 @@ fn read_keys<'a, C: Counters>(
     requires source { IsKeySource at.now }
     requires set { at.now.set ≡ input.now.set }
     requires rows { AllHaveRows (world_of at.now) at.now.q.now input.now }
-    ensures keys { IfOk result (λ keys. map (λ v. v.now) keys.items ≡ flat_map (key_of at.now) input.now.rows) }
+    ensures keys { IfOk result (λ keys. lent_values keys.items ≡ keys_of_all at.now input.now) }
     ensures cost { reads.new ≤ reads.old + relation_count input.now.set * length input.now.rows }
 {
     let mut keys = Vec::new(alloc);
@@ -115,8 +112,8 @@ fn with_leads(
     keys: &[&Value],
     input: &Tuples,
 ) -> Result<Vec<Keyed>, Memory>
-    ensures rows { IfOk result (λ items. rows_keyed input.now.rows items.items ≡ input.now.rows) }
-    ensures keys { IfOk result (λ items. AreKeyed columns.now (map (λ v. v.now) keys.now) (length input.now.rows) items.items) }
+    ensures rows { IfOk result (λ ks. rows_keyed input.now.rows ks.items ≡ input.now.rows) }
+    ensures keys { IfOk result (λ items. AreWithLeads columns.now keys.now input.now items.items) }
 {
     let mut items = Vec::new(alloc);
     for place in 0..input.len() {
@@ -128,7 +125,7 @@ fn with_leads(
 
 /// How two tuples stand to one another by their keys.
 fn compare_keyed(columns: &[SortColumn], keys: &[&Value], a: Keyed, b: Keyed) -> Ordering
-    ensures { result ≡ keyed_order columns.now (map (λ v. v.now) keys.now) a b }
+    ensures { result ≡ keyed_order columns.now (lent_values keys.now) a b }
 {
     match a.lead.cmp(&b.lead) {
         Ordering::Equal => {
@@ -143,7 +140,7 @@ fn compare_keyed(columns: &[SortColumn], keys: &[&Value], a: Keyed, b: Keyed) ->
 
 /// Sorts tuples by their keys. Those that tie keep their places. The error means want of memory.
 fn sort_keyed(columns: &[SortColumn], keys: &[&Value], items: &mut Vec<Keyed>) -> Result<(), Memory>
-    ensures { OnOk result (items.new.items ≡ in_order (keyed_order columns.now (map (λ v. v.now) keys.now)) items.old.items) }
+    ensures { OnOk result (items.new.items ≡ keyed_sorted columns.now keys.now items.old.items) }
 {
     items.sort_by(|a, b| compare_keyed(columns, keys, *a, *b))?;
     Ok(())
@@ -152,7 +149,7 @@ fn sort_keyed(columns: &[SortColumn], keys: &[&Value], items: &mut Vec<Keyed>) -
 /// The tuples alone.
 fn rows_of(alloc: Global, input: &Tuples, items: &[Keyed]) -> Result<Tuples, Memory>
     requires { All (λ k. k.place < length input.now.rows) items.now }
-    ensures { IfOk result (λ r. r ≡ record { set = input.now.set; rows = rows_keyed input.now.rows items.now }) }
+    ensures { IfOk result (λ r. r ≡ tuples_keyed input.now items.now) }
 {
     let mut rows = Tuples::new(alloc, input.set());
     for item in items {

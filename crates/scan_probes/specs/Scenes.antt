@@ -81,3 +81,7 @@ AreReadyAtRow c range r given es row = AreReady c range r (is_within row) (value
 -- conditions can be tested at an entry without its row: the index holds each column of the relation that they name
 abbrev pub AreReadyAtEntry : Contents → Range → ℕ → Given → List Cond → Index → Entry → Type 0
 AreReadyAtEntry c range r given es d e = AreReady c range r (has_entry_value d e) (value_in_entry d e) given es
+
+-- conditions can be tested where a scan stands, at a row or at an entry
+abbrev pub AreReadyIn : Bound → List Cond → Type 0
+AreReadyIn b es = AreReady b.cat.now b.range.now b.rel.0 (has_own_value b.own) (own_value b.own) b.given.now es

@@ -16,6 +16,10 @@ use Rattle.heap.specs.Stored.{Values}
 use Rattle.sql_query.specs.Queries.{Query, width}
 use Rattle.sql_query.specs.Worlds.{World}
 use Rattle.sql_query.specs.Tuples.{Tuple, row_at}
+use Rattle.pg_base.specs.Sets.{has}
+use Rattle.pg_base.specs.declared.numbers.Tid.{Tid}
+use Rattle.pg_base.specs.declared.rel_set.RelSet.{RelSet}
+use Rattle.heap.specs.Tuples.{padded}
 
 -- rows given, each in the place of its relation; a relation without one has none
 abbrev pub Given : Type 0
@@ -24,6 +28,10 @@ Given = List (Option Values)
 -- the rows that a tuple has of the relations of a set
 abbrev pub tuple_given : World → Query → Set → Tuple → Given
 tuple_given w q set o = map (λ k. cond (set k) (Some (row_at w q o (record { 0 = k }))) None) (range_with_len 0 (width q))
+
+-- the rows that the numbers of a tuple of a set of relations give
+abbrev pub given_rows : World → Query → RelSet → List Tid → Given
+given_rows w q set rows = tuple_given w q (has set.0) (padded (width q) (has set.0) rows)
 
 -- the value of a column in a row; NULL where there is none
 abbrev pub value_in : Values → ColNo → Value

@@ -1,11 +1,9 @@
 //! Conditions tested at a row or at an entry.
 
-ghost use Rattle.std.specs.Prelude.{◌≡◌, ◌<◌, IfOk, length, map};
-ghost use Rattle.pg_expr.specs.AtomSets.{contains};
-ghost use Rattle.pg_expr.specs.View.{cond};
-ghost use Rattle.path_cost.specs.Estimates.{conditions_from};
-ghost use Rattle.scan_probes.specs.Scenes.{AreReady, has_own_value, own_value, values_at};
+ghost use Rattle.std.specs.Prelude.{◌≡◌, ◌<◌, IfOk, length};
+ghost use Rattle.scan_probes.specs.Scenes.{AreReadyIn, values_at};
 ghost use Rattle.scan_probes.specs.Values.{are_true};
+ghost use Rattle.scan_probes.specs.Filters.{chosen_conditions, lent_conditions};
 
 use crate::bound::Bound;
 use eq_classes::{Classes, ClauseSet};
@@ -20,7 +18,7 @@ pub fn chosen<'a>(
     classes: &'a Classes,
     set: &ClauseSet,
 ) -> Result<Vec<&'a Expr>, Memory>
-    ensures { IfOk result (λ v. map (λ e. cond e.now) v.items ≡ conditions_from 0 (contains set.now) classes.now.clauses) }
+    ensures { IfOk result (λ v. lent_conditions v.items ≡ chosen_conditions set.now classes.now) }
 {
     let mut chosen = Vec::new(alloc);
     for n in 0..classes.count() {
@@ -33,8 +31,8 @@ pub fn chosen<'a>(
 
 /// Whether each condition is True there. False and Unknown leave the row out.
 pub(crate) fn all_true(bound: &Bound, conditions: &[&Expr]) -> bool
-    requires { AreReady bound.now.cat.now bound.now.range.now bound.now.rel.0 (has_own_value bound.now.own) (own_value bound.now.own) bound.now.given.now (map (λ e. cond e.now) conditions.now) }
-    ensures { result ≡ are_true (values_at bound.now) (map (λ e. cond e.now) conditions.now) }
+    requires { AreReadyIn bound.now (lent_conditions conditions.now) }
+    ensures { result ≡ are_true (values_at bound.now) (lent_conditions conditions.now) }
 {
     for condition in conditions {
         if eval(condition, bound) != Truth::True {

@@ -1,10 +1,7 @@
 //! Conditions that a scan tests at the rows of its relation, or at entries of an index, beside the rows that it is given.
 
 ghost use Rattle.std.specs.Prelude.{◌≡◌};
-ghost use Rattle.catalog.specs.Entries.{index_of};
-ghost use Rattle.scan_probes.specs.Filters.{lent_conditions};
-ghost use Rattle.scan_probes.specs.Scenes.{AreReadyAtEntry, AreReadyAtRow};
-ghost use Rattle.scan_probes.specs.Values.{are_true, value_beside, value_in, value_in_entry};
+ghost use Rattle.scan_probes.specs.Filters.{AreTestedAtEntry, AreTestedAtRow, is_met_at_entry, is_met_at_row};
 
 use crate::bound::{Bound, Own};
 use crate::conditions::all_true;
@@ -28,8 +25,8 @@ pub struct Beside<'a> {
 
 /// Whether conditions are True at a row of the relation beside the rows given.
 pub fn pass_row(beside: &Beside, given: &Given, conditions: &[&Expr], row: Row) -> bool
-    requires { AreReadyAtRow beside.now.cat.now beside.now.range.now beside.now.rel.0 given.now (lent_conditions conditions.now) row.now }
-    ensures { result ≡ are_true (value_beside beside.now.rel.0 (value_in row.now) given.now) (lent_conditions conditions.now) }
+    requires { AreTestedAtRow beside.now given.now conditions.now row.now }
+    ensures { result ≡ is_met_at_row beside.now given.now conditions.now row.now }
 {
     let bound = Bound {
         cat: beside.cat,
@@ -49,8 +46,8 @@ pub fn pass_entry(
     def: &IndexDef,
     entry: &EntryRef,
 ) -> bool
-    requires { AreReadyAtEntry beside.now.cat.now beside.now.range.now beside.now.rel.0 given.now (lent_conditions conditions.now) (index_of def.now) entry.now }
-    ensures { result ≡ are_true (value_beside beside.now.rel.0 (value_in_entry (index_of def.now) entry.now) given.now) (lent_conditions conditions.now) }
+    requires { AreTestedAtEntry beside.now given.now conditions.now def.now entry.now }
+    ensures { result ≡ is_met_at_entry beside.now given.now conditions.now def.now entry.now }
 {
     let bound = Bound {
         cat: beside.cat,

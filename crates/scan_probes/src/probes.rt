@@ -1,12 +1,12 @@
 //! The conditions of an index as bounds of a part of it.
 
-ghost use Rattle.std.specs.Prelude.{◌≡◌, ◌<◌, ◌++◌, true, IfOk, IfSome, OnOk, IsTrue, length, map, find, option_map};
+ghost use Rattle.std.specs.Prelude.{◌≡◌, ◌<◌, true, IfOk, IfSome, OnOk, IsTrue, length};
 ghost use Rattle.opfamily.specs.declared.classes.Method.TheVariants.{Btree, Hash};
 ghost use Rattle.pg_expr.specs.Truths.{value_of};
 ghost use Rattle.pg_expr.specs.View.{cond};
-ghost use Rattle.index_match.specs.Bounds as bounds;
 ghost use Rattle.index_match.specs.Conditions as forms;
-ghost use Rattle.scan_probes.specs.Probes.{AreKnown, compared_with, given_value, is_given, is_known, on_key, probe_of, probes_from};
+ghost use Rattle.scan_probes.specs.Probes.{AddsBounds, AreKnown, compared_with, fixing_bound, given_bound, given_value, is_given, is_known, key_bounds, probe_at};
+ghost use Rattle.scan_probes.specs.Filters.{lent_conditions};
 
 use crate::given::Given;
 use btree_index::{Bound, Probe};
@@ -41,7 +41,7 @@ fn bound(
     side: &Operand,
 ) -> Result<Probe, Memory>
     requires { IsTrue (is_given given.now side.now) }
-    ensures { IfOk result (λ p. p ≡ Probe.Bound (record { col = column; op = op; value = value_of (given_value given.now) side.now })) }
+    ensures { IfOk result (λ p. p ≡ given_bound column op given.now side.now) }
 {
     let value = side_value(alloc, given, side)?;
     Ok(Probe::Bound(Bound {
@@ -63,7 +63,7 @@ struct KeyColumn {
 fn probe(alloc: Global, at: &KeyColumn, given: &Given, e: &Expr) -> Result<Probe, Memory>
     requires form { forms.has_form Btree at.now.rel.0 at.now.key (cond e.now) ≡ true }
     requires known { is_known at.now.rel.0 given.now (cond e.now) ≡ true }
-    ensures { IfOk result (λ p. p ≡ probe_of at.now.rel.0 at.now.key at.now.place given.now (cond e.now)) }
+    ensures { IfOk result (λ p. p ≡ probe_at at.now given.now (cond e.now)) }
 {
     match e {
         Expr::Compare(op, a, b) => {
@@ -85,8 +85,8 @@ fn fixing_probe(
     given: &Given,
     conditions: &[&Expr],
 ) -> Result<Option<Probe>, Memory>
-    requires { AreKnown at.now.rel.0 given.now (map (λ e. cond e.now) conditions.now) }
-    ensures { IfOk result (λ p. p ≡ option_map (probe_of at.now.rel.0 at.now.key at.now.place given.now) (find bounds.is_fixing (on_key at.now.rel.0 at.now.key (map (λ e. cond e.now) conditions.now)))) }
+    requires { AreKnown at.now.rel.0 given.now (lent_conditions conditions.now) }
+    ensures { IfOk result (λ p. p ≡ fixing_bound at.now given.now conditions.now) }
 {
     for condition in conditions {
         if has_form(Method::Btree, at.rel, at.key, condition) && is_fixing(condition) {
@@ -105,8 +105,8 @@ fn add_open(
     conditions: &[&Expr],
     probes: &mut Vec<Probe>,
 ) -> Result<(), Memory>
-    requires { AreKnown at.now.rel.0 given.now (map (λ e. cond e.now) conditions.now) }
-    ensures { OnOk result (probes.new.items ≡ probes.old.items ++ map (probe_of at.now.rel.0 at.now.key at.now.place given.now) (on_key at.now.rel.0 at.now.key (map (λ e. cond e.now) conditions.now))) }
+    requires { AreKnown at.now.rel.0 given.now (lent_conditions conditions.now) }
+    ensures { OnOk result (AddsBounds at.now given.now conditions.now probes.old probes.new) }
 {
     for condition in conditions {
         if has_form(Method::Btree, at.rel, at.key, condition) {
@@ -151,8 +151,8 @@ pub fn index_probes(
     conditions: &[&Expr],
 ) -> Result<Vec<Probe>, Memory>
     requires few { length keys.now < 256 }
-    requires known { AreKnown r.0 given.now (map (λ e. cond e.now) conditions.now) }
-    ensures { IfOk result (λ v. v.items ≡ probes_from r.0 0 keys.now given.now (map (λ e. cond e.now) conditions.now)) }
+    requires known { AreKnown r.0 given.now (lent_conditions conditions.now) }
+    ensures { IfOk result (λ v. v.items ≡ key_bounds r.0 keys.now given.now conditions.now) }
 {
     let mut probes = Vec::new(alloc);
     for column in 0..keys.len() {

@@ -1,6 +1,6 @@
 -- The rows that a scan comes to one after another, what it counts for each, and which of them it gives. Own; how each scan
 -- works is PostgreSQL's (manual, Using EXPLAIN; chapter Indexes).
-use Rattle.std.specs.Prelude.{ℕ, Bool, true, false, ◌&&◌, List, [], ◌∷◌, map, filter, cond, length}
+use Rattle.std.specs.Prelude.{ℕ, Bool, true, false, ◌&&◌, List, [], ◌∷◌, map, filter, cond, length, Option, find, option_map}
 use Rattle.pg_base.specs.Sets.{has}
 use Rattle.pg_base.specs.declared.numbers.RelNo.{RelNo}
 use Rattle.pg_base.specs.declared.numbers.IndexNo.{IndexNo}
@@ -41,6 +41,10 @@ owed cs = length (filter (λ (c : Coming). c.fetched) cs)
 -- the looks that coming to all of them takes: one for each entry that a cursor gives
 abbrev pub allowed : List Coming → ℕ
 allowed cs = length (filter (λ (c : Coming). c.looked) cs)
+
+-- the number of the first row that is given
+abbrev pub first_given : List Coming → Option ℕ
+first_given cs = option_map (λ c. c.row) (find is_given cs)
 
 -- what stands behind the first that passes a test; nothing where none does
 abbrev pub behind : {A : Type 0} → (A → Bool) → List A → List A

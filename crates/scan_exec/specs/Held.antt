@@ -1,5 +1,5 @@
 -- Sets of rows that a bitmap is made of. Own.
-use Rattle.std.specs.Prelude.{◌≡◌, ◌<◌, ℕ, true, ◌||◌, List, length, nat_lt}
+use Rattle.std.specs.Prelude.{◌≡◌, ◌<◌, ℕ, true, ◌||◌, List, length, nat_lt, All, filter, map}
 use Rattle.std.specs.List.{AllZip}
 use Rattle.pg_base.specs.Sets.{has}
 use Rattle.pg_base.specs.declared.numbers.IndexNo.{IndexNo}
@@ -22,6 +22,10 @@ use Rattle.plan_tree.specs.Run.{held, some_holds}
 use Rattle.scan_probes.specs.Scenes.{AreReadyAtEntry}
 use Rattle.scan_probes.specs.Values.{Given}
 use Rattle.scan_exec.specs.Scene.{IsNear}
+use Rattle.catalog.specs.Entries.{index_of}
+use Rattle.scan_probes.specs.Filters.{lent_conditions}
+use Rattle.scan_exec.specs.Kinds.{passes_entry}
+use Rattle.scan_exec.specs.declared.bitmap.Tests.{Tests}
 
 -- a set that is told of by its members
 abbrev pub IsMade : TidSet → Type 0
@@ -59,3 +63,15 @@ abbrev mutual
   pub HasTree : BitTrees → Type 0
   HasTree no_trees = ⊥
   HasTree (tree_and b bs) = Unit {0}
+
+-- so at each of a list of entries
+abbrev pub AreReadyMarks : Tests → ℕ → List Entry → Type 0
+AreReadyMarks t bound es =
+    All (IsReadyMark t.beside.now.cat.now t.beside.now.range.now t.beside.now.rel.0 t.given.now (lent_conditions t.conditions.now)
+    (index_of t.def.now) bound) es
+
+-- the rows of the entries that pass the tests
+abbrev pub passed_rows : Tests → List Entry → List ℕ
+passed_rows t es =
+    map (λ (e : Entry). e.row)
+    (filter (passes_entry t.beside.now.rel.0 t.given.now (lent_conditions t.conditions.now) (index_of t.def.now)) es)

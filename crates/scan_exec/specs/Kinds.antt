@@ -1,15 +1,23 @@
 -- The rows that a scan has still to come to, where it stands at a place of its relation's rows or of an index. Own.
-use Rattle.std.specs.Prelude.{ℕ, ◌<◌, ◌-◌, true, false, ◌&&◌, Bool, List, [], length, map, slice_index_or}
+use Rattle.std.specs.Prelude.{ℕ, ◌<◌, ◌-◌, true, false, ◌&&◌, Bool, List, [], length, map, slice_index_or, All}
 use Rattle.std.specs.List.{range_with_len}
 use Rattle.opfamily.specs.KeyOrder.{Entry}
 use Rattle.pg_expr.specs.Cond.{Cond}
 use Rattle.catalog.specs.Contents.{Contents}
 use Rattle.catalog.specs.Indexes.{Index}
 use Rattle.catalog.specs.Range.{Range}
-use Rattle.heap.specs.Stored.{Values}
+use Rattle.heap.specs.Stored.{Values, Stored}
 use Rattle.scan_probes.specs.Values.{Given, are_true, value_beside, value_in, value_in_entry}
 use Rattle.scan_probes.specs.Scenes.{AreReadyAtEntry, AreReadyAtRow}
 use Rattle.scan_exec.specs.Coming.{Coming}
+use Rattle.std.specs.Borrow.{Bor}
+use Rattle.pg_base.specs.declared.numbers.Tid.{Tid}
+use Rattle.pg_expr.specs.declared.expr.Expr.{Expr}
+use Rattle.catalog.specs.Entries.{index_of}
+use Rattle.catalog.specs.declared.index_def.IndexDef.{IndexDef}
+use Rattle.heap.specs.TidSets.{TidSet, not_below}
+use Rattle.scan_probes.specs.Filters.{lent_conditions}
+use Rattle.scan_probes.specs.declared.filter.Beside.{Beside}
 
 -- whether conditions are True at a row beside the rows given, and at an entry
 abbrev pub passes_row : ℕ → Given → List Cond → Values → Bool
@@ -64,3 +72,47 @@ pub record IsReadyCover (c : Contents) (range : Range) (r : ℕ) (given : Given)
 pub record IsReadyNumber (c : Contents) (range : Range) (r : ℕ) (given : Given) (es : List Cond) (rows : List Values) (n : ℕ) : Type 0 where
   pub within : n < length rows
   pub clauses : AreReadyAtRow c range r given es (slice_index_or rows n [])
+
+-- a relation beside the rows given, and what is lent of the clauses and of the tests
+module _ (b : Beside) (given : Given) (clauses : List (Bor Expr)) where
+  -- the clauses can be tested at each row of a heap
+  abbrev pub AreReadyRows : List Values → Type 0
+  AreReadyRows rows = All (AreReadyAtRow b.cat.now b.range.now b.rel.0 given (lent_conditions clauses)) rows
+
+  -- the rows of a heap of these numbers can be fetched and tested
+  abbrev pub AreReadyNumbers : List Values → List Tid → Type 0
+  AreReadyNumbers rows tids =
+      All (IsReadyNumber b.cat.now b.range.now b.rel.0 given (lent_conditions clauses) rows) (map (λ t. t.0) tids)
+
+  -- the rows of a heap
+  abbrev pub rows_of_heap : Stored → List Coming
+  rows_of_heap heap = rows_from b.rel.0 given (lent_conditions clauses) heap.rows 0
+
+  -- those of these numbers, in their order
+  abbrev pub rows_of_tids : Stored → List Tid → List Coming
+  rows_of_tids heap tids = rows_of b.rel.0 given (lent_conditions clauses) heap.rows (map (λ t. t.0) tids)
+
+  -- those of a set, by their numbers
+  abbrev pub rows_of_set : Stored → TidSet → List Coming
+  rows_of_set heap held = rows_of b.rel.0 given (lent_conditions clauses) heap.rows (not_below 0 held.members)
+
+module _ (b : Beside) (given : Given) (tests clauses : List (Bor Expr)) (d : IndexDef) where
+  -- entries of an index are of rows of a heap, and can be tested
+  abbrev pub AreReadyEntries : Stored → List Entry → Type 0
+  AreReadyEntries heap es =
+      All (IsReadyEntry b.cat.now b.range.now b.rel.0 given (lent_conditions tests) (lent_conditions clauses) (index_of d)
+      heap.rows) es
+
+  -- the rows of these entries
+  abbrev pub rows_of_entries : Stored → List Entry → List Coming
+  rows_of_entries heap es =
+      map (entry_at b.rel.0 given (lent_conditions tests) (lent_conditions clauses) (index_of d) heap.rows) es
+
+  -- entries can be tested without their rows
+  abbrev pub AreReadyCovers : List Entry → Type 0
+  AreReadyCovers es =
+      All (IsReadyCover b.cat.now b.range.now b.rel.0 given (lent_conditions tests) (lent_conditions clauses) (index_of d)) es
+
+  -- the rows of these entries, none of which is fetched
+  abbrev pub covered_rows : List Entry → List Coming
+  covered_rows es = map (covered_at b.rel.0 given (lent_conditions tests) (lent_conditions clauses) (index_of d)) es

@@ -4,5 +4,7 @@ pub mod Kinds
 pub mod Scene
 pub mod Rows
 pub mod Held
+pub mod AtScene
+pub mod Handed
 -- What callers name of the crates below.
 pub use Rattle.store.specs.Kept as store_Kept

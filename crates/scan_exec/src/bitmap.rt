@@ -1,30 +1,22 @@
 //! Bitmaps of the rows that the indexes of a bitmap tree hold, and their scans.
 
-ghost use Rattle.std.specs.Prelude.{◌≡◌, ◌<◌, ◌≤◌, ◌+◌, All, IfOk, OnOk, filter, length, map, nat_lt, true};
-ghost use Rattle.std.specs.List.{AllByRecursion, AllZip};
-ghost use Rattle.pg_base.specs.Sets.{has};
+ghost use Rattle.std.specs.Prelude.{◌≡◌, ◌<◌, ◌≤◌, ◌+◌, All, IfOk, OnOk, length, map, nat_lt, true};
+ghost use Rattle.std.specs.List.{AllByRecursion};
 ghost use Rattle.pg_expr.specs.View as view;
-ghost use Rattle.opfamily.specs.KeyOrder.{Entry};
 ghost use Rattle.opfamily.specs.declared.classes.Method.TheVariants.{Btree};
 ghost use Rattle.heap.specs.TidSets.{TidSet};
 ghost use Rattle.catalog.specs.Contents.{index_at};
-ghost use Rattle.catalog.specs.Entries.{index_of};
 ghost use Rattle.index_match.specs.Arms.{arm_parts, takes_parts};
 ghost use Rattle.index_match.specs.Conditions.{index_conditions};
 ghost use Rattle.scan_probes.specs.Filters.{lent_conditions};
-ghost use Rattle.sql_query.specs.Tuples.{rows_of_relation};
 ghost use Rattle.plan_tree.specs.Bitmaps.{IsIndexOn, MatchesArm};
-ghost use Rattle.plan_tree.specs.Counts.{arm_looks, entries_met, index_looks, tree_looks, all_tree_looks};
-ghost use Rattle.plan_tree.specs.Entries.{entry_rows};
 ghost use Rattle.plan_tree.specs.Plans as plans;
-ghost use Rattle.plan_tree.specs.Run.{at_which, met, some_holds, all_hold_row, holds, held as held_rows};
-ghost use Rattle.plan_tree.specs.Space.{IsBitmapScan};
+ghost use Rattle.plan_tree.specs.Run.{met, some_holds, all_hold_row, holds, held as held_rows};
 ghost use Rattle.plan_tree.specs.Views.{bits, bits_all};
-ghost use Rattle.store.specs.Kept.{built_of, hashed};
-ghost use Rattle.scan_exec.specs.Coming.{coming};
-ghost use Rattle.scan_exec.specs.Held.{AreHeldTrees, IsHeldTree, IsMade, IsReadyMark, set_held, with_arms, with_rows};
-ghost use Rattle.scan_exec.specs.Kinds.{passes_entry};
-ghost use Rattle.scan_exec.specs.Scene.{AreUsed, IsNear, IsSceneOf, limits, tuple_of, world_of};
+ghost use Rattle.store.specs.Kept.{hashed};
+ghost use Rattle.scan_exec.specs.Held.{AreReadyMarks, IsMade, passed_rows, with_rows};
+ghost use Rattle.scan_exec.specs.Scene.{IsSceneOf};
+ghost use Rattle.scan_exec.specs.AtScene.{AreSceneTrees, AreUsedThere, IsNearScene, IsSceneBitmap, IsSceneTree, MatchArms, arms_looks, bitmap_rows, bound_looks, leaf_looks, rows_meeting, scene_held, scene_index, scene_rows, scene_tree_looks, trees_looks, with_scene_arms};
 
 use crate::hashed::rows_equal;
 use crate::index::{seek, sorted_index};
@@ -60,8 +52,8 @@ fn mark_entries<C: Counters>(
     reads: &mut Steps<C::Looks>,
 )
     requires made { IsMade held.old }
-    requires ready { All (IsReadyMark tests.now.beside.now.cat.now tests.now.beside.now.range.now tests.now.beside.now.rel.0 tests.now.given.now (lent_conditions tests.now.conditions.now) (index_of tests.now.def.now) held.old.bound) cursor }
-    ensures held { held.new ≡ with_rows held.old (map (λ (e : Entry). e.row) (filter (passes_entry tests.now.beside.now.rel.0 tests.now.given.now (lent_conditions tests.now.conditions.now) (index_of tests.now.def.now)) cursor.entry)) }
+    requires ready { AreReadyMarks tests.now held.old.bound cursor }
+    ensures held { held.new ≡ with_rows held.old (passed_rows tests.now cursor.entry) }
     ensures looks { reads.new ≡ reads.old + length cursor.entry }
 {
     let mut left = cursor;
@@ -102,11 +94,12 @@ fn mark_sorted<C: Counters>(
     requires scene { IsSceneOf at.now given.now }
     requires index { IsIndexOn at.now.cat.now at.now.q.now at.now.rel.0 i }
     requires ordered { (index_at at.now.cat.now i).method ≡ Btree }
-    requires used { AreUsed at.now.cat.now at.now.q.now at.now.rel at.now.param i (lent_conditions conditions.now) }
+    requires used { AreUsedThere at.now i conditions.now }
     requires made { IsMade held.old }
-    requires bound { held.old.bound ≡ length (rows_of_relation (world_of at.now) at.now.q.now at.now.rel) }
-    ensures held { OnOk result (held.new ≡ with_rows held.old (at_which (world_of at.now) at.now.q.now at.now.rel (tuple_of at.now) (lent_conditions conditions.now) (entry_rows (world_of at.now) i))) }
-    ensures most { reads.new ≤ reads.old + entries_met (world_of at.now) at.now.q.now (index_at at.now.cat.now i).method at.now.rel i (tuple_of at.now) (limits (index_at at.now.cat.now i) at.now.rel.0 (lent_conditions conditions.now)) }
+    requires bound { held.old.bound ≡ length (scene_rows at.now) }
+    ensures held { OnOk result (held.new ≡
+        with_rows held.old (rows_meeting at.now i (lent_conditions conditions.now))) }
+    ensures most { reads.new ≤ reads.old + bound_looks at.now i (lent_conditions conditions.now) }
 {
     let tree = sorted_index(at, i);
     let cursor = seek(at, given, i, tree, conditions, false)?;
@@ -133,12 +126,13 @@ fn mark_hashed<C: Counters>(
 ) -> Result<(), Memory>
     requires scene { IsSceneOf at.now given.now }
     requires index { IsIndexOn at.now.cat.now at.now.q.now at.now.rel.0 i }
-    requires table { hashed index.now ≡ built_of (index_at at.now.cat.now i) (rows_of_relation (world_of at.now) at.now.q.now at.now.rel) }
+    requires table { hashed index.now ≡ scene_index at.now i }
     requires one { length conditions.now ≡ 1 }
-    requires used { AreUsed at.now.cat.now at.now.q.now at.now.rel at.now.param i (lent_conditions conditions.now) }
+    requires used { AreUsedThere at.now i conditions.now }
     requires made { IsMade held.old }
-    requires bound { held.old.bound ≡ length (rows_of_relation (world_of at.now) at.now.q.now at.now.rel) }
-    ensures held { OnOk result (held.new ≡ with_rows held.old (at_which (world_of at.now) at.now.q.now at.now.rel (tuple_of at.now) (lent_conditions conditions.now) (entry_rows (world_of at.now) i))) }
+    requires bound { held.old.bound ≡ length (scene_rows at.now) }
+    ensures held { OnOk result (held.new ≡
+        with_rows held.old (rows_meeting at.now i (lent_conditions conditions.now))) }
 {
     let tids = rows_equal(at, given, i, index, conditions[0])?;
     mark_rows(tids, held);
@@ -158,11 +152,12 @@ fn mark<C: Counters>(
     requires scene { IsSceneOf at.now given.now }
     requires index { IsIndexOn at.now.cat.now at.now.q.now at.now.rel.0 i }
     requires takes { takes_parts (index_at at.now.cat.now i).method (length conditions.now) ≡ true }
-    requires used { AreUsed at.now.cat.now at.now.q.now at.now.rel at.now.param i (lent_conditions conditions.now) }
+    requires used { AreUsedThere at.now i conditions.now }
     requires made { IsMade held.old }
-    requires bound { held.old.bound ≡ length (rows_of_relation (world_of at.now) at.now.q.now at.now.rel) }
-    ensures held { OnOk result (held.new ≡ with_rows held.old (at_which (world_of at.now) at.now.q.now at.now.rel (tuple_of at.now) (lent_conditions conditions.now) (entry_rows (world_of at.now) i))) }
-    ensures most { reads.new ≤ reads.old + entries_met (world_of at.now) at.now.q.now (index_at at.now.cat.now i).method at.now.rel i (tuple_of at.now) (limits (index_at at.now.cat.now i) at.now.rel.0 (lent_conditions conditions.now)) }
+    requires bound { held.old.bound ≡ length (scene_rows at.now) }
+    ensures held { OnOk result (held.new ≡
+        with_rows held.old (rows_meeting at.now i (lent_conditions conditions.now))) }
+    ensures most { reads.new ≤ reads.old + bound_looks at.now i (lent_conditions conditions.now) }
 {
     match at.store.index(i) {
         BuiltIndex::Sorted(_) => mark_sorted(at, given, i, conditions, held, reads),
@@ -178,9 +173,9 @@ fn hold_index<C: Counters>(
     reads: &mut Steps<C::Looks>,
 ) -> Result<Tids, Memory>
     requires scene { IsSceneOf at.now given.now }
-    requires tree { IsHeldTree at.now.cat.now at.now.q.now at.now.rel at.now.param (plans.leaf i) }
-    ensures held { IfOk result (λ s. s ≡ set_held (world_of at.now) at.now.q.now at.now.rel at.now.param (plans.leaf i) (tuple_of at.now)) }
-    ensures most { reads.new ≤ reads.old + index_looks (world_of at.now) at.now.q.now at.now.rel i at.now.param (tuple_of at.now) }
+    requires tree { IsSceneTree at.now (plans.leaf i) }
+    ensures held { IfOk result (λ s. s ≡ scene_held at.now (plans.leaf i)) }
+    ensures most { reads.new ≤ reads.old + leaf_looks at.now i }
 {
     let conditions = at.conditions(i)?;
     let rows = at.heap().len();
@@ -222,12 +217,13 @@ fn mark_arm<C: Counters>(
     reads: &mut Steps<C::Looks>,
 ) -> Result<(), Memory>
     requires scene { IsSceneOf at.now given.now }
-    requires near { IsNear at.now.cat.now at.now.q.now at.now.rel.0 (has at.now.param.0) (view.cond arm.now) }
+    requires near { IsNearScene at.now (view.cond arm.now) }
     requires matched { MatchesArm at.now.cat.now at.now.q.now at.now.rel.0 (view.cond arm.now) i }
     requires made { IsMade held.old }
-    requires bound { held.old.bound ≡ length (rows_of_relation (world_of at.now) at.now.q.now at.now.rel) }
-    ensures held { OnOk result (held.new ≡ with_rows held.old (at_which (world_of at.now) at.now.q.now at.now.rel (tuple_of at.now) (arm_parts (view.cond arm.now)) (entry_rows (world_of at.now) i))) }
-    ensures most { reads.new ≤ reads.old + entries_met (world_of at.now) at.now.q.now (index_at at.now.cat.now i).method at.now.rel i (tuple_of at.now) (limits (index_at at.now.cat.now i) at.now.rel.0 (arm_parts (view.cond arm.now))) }
+    requires bound { held.old.bound ≡ length (scene_rows at.now) }
+    ensures held { OnOk result (held.new ≡
+        with_rows held.old (rows_meeting at.now i (arm_parts (view.cond arm.now)))) }
+    ensures most { reads.new ≤ reads.old + bound_looks at.now i (arm_parts (view.cond arm.now)) }
 {
     let parts = parts_of(at.alloc, arm)?;
     mark(at, given, i, &parts, held, reads)
@@ -243,12 +239,13 @@ fn mark_arms<C: Counters>(
     reads: &mut Steps<C::Looks>,
 ) -> Result<(), Memory>
     requires scene { IsSceneOf at.now given.now }
-    requires near { All (λ e. IsNear at.now.cat.now at.now.q.now at.now.rel.0 (has at.now.param.0) (view.cond e)) arms.now }
-    requires matched { AllZip (MatchesArm at.now.cat.now at.now.q.now at.now.rel.0) (map view.cond arms.now) indexes.now }
+    requires near { All (λ e. IsNearScene at.now (view.cond e)) arms.now }
+    requires matched { MatchArms at.now (map view.cond arms.now) indexes.now }
     requires made { IsMade held.old }
-    requires bound { held.old.bound ≡ length (rows_of_relation (world_of at.now) at.now.q.now at.now.rel) }
-    ensures held { OnOk result (held.new ≡ with_arms (world_of at.now) at.now.q.now at.now.rel (tuple_of at.now) held.old (map view.cond arms.now) indexes.now) }
-    ensures most { reads.new ≤ reads.old + arm_looks (world_of at.now) at.now.q.now at.now.rel (tuple_of at.now) (map view.cond arms.now) indexes.now }
+    requires bound { held.old.bound ≡ length (scene_rows at.now) }
+    ensures held { OnOk result (held.new ≡
+        with_scene_arms at.now held.old (map view.cond arms.now) indexes.now) }
+    ensures most { reads.new ≤ reads.old + arms_looks at.now (map view.cond arms.now) indexes.now }
 {
     for n in 0..arms.len() {
         mark_arm(at, given, &arms[n], indexes[n], held, reads)?;
@@ -265,9 +262,9 @@ fn hold_arms<C: Counters>(
     reads: &mut Steps<C::Looks>,
 ) -> Result<Tids, Memory>
     requires scene { IsSceneOf at.now given.now }
-    requires tree { IsHeldTree at.now.cat.now at.now.q.now at.now.rel at.now.param (plans.some_arm n indexes.now) }
-    ensures held { IfOk result (λ s. s ≡ set_held (world_of at.now) at.now.q.now at.now.rel at.now.param (plans.some_arm n indexes.now) (tuple_of at.now)) }
-    ensures most { reads.new ≤ reads.old + tree_looks (world_of at.now) at.now.q.now at.now.rel at.now.param (tuple_of at.now) (plans.some_arm n indexes.now) }
+    requires tree { IsSceneTree at.now (plans.some_arm n indexes.now) }
+    ensures held { IfOk result (λ s. s ≡ scene_held at.now (plans.some_arm n indexes.now)) }
+    ensures most { reads.new ≤ reads.old + scene_tree_looks at.now (plans.some_arm n indexes.now) }
 {
     let rows = at.heap().len();
     let mut held = Tids::empty(at.alloc, rows)?;
@@ -289,9 +286,9 @@ fn hold<C: Counters>(
     reads: &mut Steps<C::Looks>,
 ) -> Result<Tids, Memory>
     requires scene { IsSceneOf at.now given.now }
-    requires tree { IsHeldTree at.now.cat.now at.now.q.now at.now.rel at.now.param (bits tree.now) }
-    ensures held { IfOk result (λ s. s ≡ set_held (world_of at.now) at.now.q.now at.now.rel at.now.param (bits tree.now) (tuple_of at.now)) }
-    ensures most { reads.new ≤ reads.old + tree_looks (world_of at.now) at.now.q.now at.now.rel at.now.param (tuple_of at.now) (bits tree.now) }
+    requires tree { IsSceneTree at.now (bits tree.now) }
+    ensures held { IfOk result (λ s. s ≡ scene_held at.now (bits tree.now)) }
+    ensures most { reads.new ≤ reads.old + scene_tree_looks at.now (bits tree.now) }
 {
     match tree {
         BitTree::Leaf(i) => hold_index(at, given, *i, reads),
@@ -309,10 +306,10 @@ fn hold_all<C: Counters>(
     reads: &mut Steps<C::Looks>,
 ) -> Result<Tids, Memory>
     requires scene { IsSceneOf at.now given.now }
-    requires trees { AreHeldTrees at.now.cat.now at.now.q.now at.now.rel at.now.param (bits_all trees.now) }
+    requires trees { AreSceneTrees at.now (bits_all trees.now) }
     requires some { 0 < length trees.now }
-    ensures held { IfOk result (λ s. s ≡ set_held (world_of at.now) at.now.q.now at.now.rel at.now.param (plans.all_hold (bits_all trees.now)) (tuple_of at.now)) }
-    ensures most { reads.new ≤ reads.old + all_tree_looks (world_of at.now) at.now.q.now at.now.rel at.now.param (tuple_of at.now) (bits_all trees.now) }
+    ensures held { IfOk result (λ s. s ≡ scene_held at.now (plans.all_hold (bits_all trees.now))) }
+    ensures most { reads.new ≤ reads.old + trees_looks at.now (bits_all trees.now) }
 {
     let mut held = hold(at, given, &trees[0], reads)?;
     for n in 1..trees.len() {
@@ -330,9 +327,9 @@ pub(crate) fn bit_rows<'a, C: Counters>(
     reads: &mut Steps<C::Looks>,
 ) -> Result<BitRows<'a, C>, Memory>
     requires scene { IsSceneOf at.now given }
-    requires scan { IsBitmapScan at.now.cat.now at.now.q.now at.now.rel at.now.param (bits tree.now) }
-    ensures coming { IfOk result (λ s. s ≡ coming (world_of at.now) at.now.q.now (plans.bitmap at.now.rel at.now.param (bits tree.now)) (tuple_of at.now)) }
-    ensures most { reads.new ≤ reads.old + tree_looks (world_of at.now) at.now.q.now at.now.rel at.now.param (tuple_of at.now) (bits tree.now) }
+    requires scan { IsSceneBitmap at.now (bits tree.now) }
+    ensures coming { IfOk result (λ s. s ≡ bitmap_rows at.now (bits tree.now)) }
+    ensures most { reads.new ≤ reads.old + scene_tree_looks at.now (bits tree.now) }
 {
     let held = hold(at, &given, tree, reads)?;
     let clauses = at.clauses()?;

@@ -2,18 +2,16 @@
 
 ghost use Rattle.std.specs.Prelude.{◌≡◌, ◌+◌, ◌≤◌, ℕ, IfOk, OnOk, nat_eq};
 ghost use Rattle.pg_base.specs.Sets.{has};
-ghost use Rattle.heap.specs.Tuples.{padded, padded_tuples};
+ghost use Rattle.heap.specs.Tuples.{padded_tuples};
 ghost use Rattle.sql_query.specs.Queries.{width};
 ghost use Rattle.sql_query.specs.WellBound.{IsWellBound};
 ghost use Rattle.sql_query.specs.Worlds.{world};
-ghost use Rattle.plan_tree.specs.Counts as counts;
-ghost use Rattle.plan_tree.specs.Run.{run};
 ghost use Rattle.plan_tree.specs.Space.{IsBuilt};
 ghost use Rattle.plan_tree.specs.Views.{plan};
-ghost use Rattle.scan_probes.specs.Scenes.{AreRowsOf};
 ghost use Rattle.store.specs.Kept.{IsStoreOf};
 ghost use Rattle.scan_exec.specs.Plans as plans;
 ghost use Rattle.scan_exec.specs.Plans.{IsScan};
+ghost use Rattle.scan_exec.specs.Handed.{AreHanded, handed_fetches, handed_looks, handed_run};
 
 use crate::rows::{ScanRows, relation_of};
 use catalog::Catalog;
@@ -41,12 +39,18 @@ pub fn scan<C: Counters>(
     requires store { IsStoreOf cat.now store.now }
     requires scan { IsScan (plan p.now) }
     requires built { IsBuilt cat.now q.now (plan p.now) }
-    requires outer { AreRowsOf (world cat.now store.now.stored) q.now (plans.param_set (plan p.now)) outer.now }
-    ensures set { IfOk result (λ ts. (k : ℕ) → has ts.set.0 k ≡ nat_eq k (plans.relation_of (plan p.now)).0) }
-    ensures tuples { IfOk result (λ ts. padded_tuples (width q.now) ts ≡ run (world cat.now store.now.stored) q.now (plan p.now) (padded (width q.now) (has (plans.param_set (plan p.now)).0) outer.now)) }
-    ensures exact { OnOk result (fetches.new ≡ fetches.old + counts.fetches (world cat.now store.now.stored) q.now (plan p.now) (padded (width q.now) (has (plans.param_set (plan p.now)).0) outer.now)) }
-    ensures most { fetches.new ≤ fetches.old + counts.fetches (world cat.now store.now.stored) q.now (plan p.now) (padded (width q.now) (has (plans.param_set (plan p.now)).0) outer.now) }
-    ensures looks { reads.new ≤ reads.old + counts.looks (world cat.now store.now.stored) q.now (plan p.now) (padded (width q.now) (has (plans.param_set (plan p.now)).0) outer.now) }
+    requires outer { AreHanded (world cat.now store.now.stored) q.now (plan p.now) outer.now }
+    ensures set { IfOk result (λ ts.
+        (k : ℕ) → has ts.set.0 k ≡ nat_eq k (plans.relation_of (plan p.now)).0) }
+    ensures tuples { IfOk result (λ ts.
+        padded_tuples (width q.now) ts ≡
+        handed_run (world cat.now store.now.stored) q.now (plan p.now) outer.now) }
+    ensures exact { OnOk result (fetches.new ≡ fetches.old +
+        handed_fetches (world cat.now store.now.stored) q.now (plan p.now) outer.now) }
+    ensures most { fetches.new ≤ fetches.old +
+        handed_fetches (world cat.now store.now.stored) q.now (plan p.now) outer.now }
+    ensures looks { reads.new ≤ reads.old +
+        handed_looks (world cat.now store.now.stored) q.now (plan p.now) outer.now }
 {
     let mut rows = ScanRows::start(alloc, cat, q, p, store, outer, reads)?;
     let mut tuples = Tuples::new(alloc, RelSet::one(relation_of(p)));

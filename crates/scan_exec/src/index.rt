@@ -1,20 +1,15 @@
 //! Scans of a B-tree, begun from the conditions of the index.
 
-ghost use Rattle.std.specs.Prelude.{◌≡◌, IfOk, false, filter, map, true};
+ghost use Rattle.std.specs.Prelude.{◌≡◌, IfOk, false, true};
 ghost use Rattle.opfamily.specs.declared.classes.Method.TheVariants.{Btree};
 ghost use Rattle.btree_index.specs.Tree.{in_direction};
 ghost use Rattle.catalog.specs.Contents.{index_at};
-ghost use Rattle.scan_probes.specs.Filters.{lent_conditions};
-ghost use Rattle.sql_query.specs.Meaning.{all_true};
-ghost use Rattle.sql_query.specs.Tuples.{beside, rows_of_relation};
 ghost use Rattle.plan_tree.specs.Bitmaps.{IsIndexOn};
-ghost use Rattle.plan_tree.specs.Entries.{entries};
-ghost use Rattle.plan_tree.specs.Run.{directed};
 ghost use Rattle.plan_tree.specs.Space.{IsIndexOnlyScan, IsIndexScan};
-ghost use Rattle.store.specs.Kept.{built_of, sorted};
+ghost use Rattle.store.specs.Kept.{sorted};
 ghost use Rattle.scan_probes.specs.Values.{Given as Rows};
-ghost use Rattle.scan_exec.specs.Coming.{bounded, entry_row};
-ghost use Rattle.scan_exec.specs.Scene.{AreUsed, IsSceneOf, limits, tuple_of, world_of};
+ghost use Rattle.scan_exec.specs.Scene.{IsSceneOf};
+ghost use Rattle.scan_exec.specs.AtScene.{AreUsedThere, entries_within, scene_index, tree_rows};
 
 use crate::scene::Scene;
 use crate::sorted::{IndexRows, OnlyRows};
@@ -37,9 +32,10 @@ pub(crate) fn seek<'a, C: Counters>(
 ) -> Result<Cursor<'a, C::Looks>, Memory>
     requires scene { IsSceneOf at.now given.now }
     requires index { IsIndexOn at.now.cat.now at.now.q.now at.now.rel.0 i }
-    requires tree { sorted tree.now ≡ built_of (index_at at.now.cat.now i) (rows_of_relation (world_of at.now) at.now.q.now at.now.rel) }
-    requires conditions { AreUsed at.now.cat.now at.now.q.now at.now.rel at.now.param i (lent_conditions conditions.now) }
-    ensures { IfOk result (λ cursor. cursor ≡ in_direction backward (filter (λ e. all_true (world_of at.now) at.now.q.now (beside at.now.q.now at.now.rel.0 e.row (tuple_of at.now)) (limits (index_at at.now.cat.now i) at.now.rel.0 (lent_conditions conditions.now))) (entries (world_of at.now) i))) }
+    requires tree { sorted tree.now ≡ scene_index at.now i }
+    requires conditions { AreUsedThere at.now i conditions.now }
+    ensures { IfOk result (λ cursor. cursor ≡
+        in_direction backward (entries_within at.now i conditions.now)) }
 {
     let def = at.cat.index(i);
     let probes = index_probes(at.alloc, at.rel, &def.keys, given, conditions)?;
@@ -56,8 +52,8 @@ pub(crate) fn index_rows<'a, C: Counters>(
 ) -> Result<IndexRows<'a, C>, Memory>
     requires scene { IsSceneOf at.now given }
     requires scan { IsIndexScan at.now.cat.now at.now.q.now at.now.rel i backward at.now.param }
-    requires tree { sorted tree.now ≡ built_of (index_at at.now.cat.now i) (rows_of_relation (world_of at.now) at.now.q.now at.now.rel) }
-    ensures { IfOk result (λ s. s ≡ map (entry_row (world_of at.now) at.now.q.now at.now.rel i false at.now.param (tuple_of at.now)) (directed (world_of at.now) at.now.q.now backward (bounded (world_of at.now) at.now.q.now at.now.rel i at.now.param (tuple_of at.now)))) }
+    requires tree { sorted tree.now ≡ scene_index at.now i }
+    ensures { IfOk result (λ s. s ≡ tree_rows at.now i false backward) }
 {
     let conditions = at.conditions(i)?;
     let cursor = seek(at, &given, i, tree, &conditions, backward)?;
@@ -77,7 +73,7 @@ pub(crate) fn only_rows<'a, C: Counters>(
 ) -> Result<OnlyRows<'a, C>, Memory>
     requires scene { IsSceneOf at.now given }
     requires scan { IsIndexOnlyScan at.now.cat.now at.now.q.now at.now.rel i backward at.now.param }
-    ensures { IfOk result (λ s. s ≡ map (entry_row (world_of at.now) at.now.q.now at.now.rel i true at.now.param (tuple_of at.now)) (directed (world_of at.now) at.now.q.now backward (bounded (world_of at.now) at.now.q.now at.now.rel i at.now.param (tuple_of at.now)))) }
+    ensures { IfOk result (λ s. s ≡ tree_rows at.now i true backward) }
 {
     let tree = sorted_index(at, i);
     let conditions = at.conditions(i)?;
@@ -96,7 +92,7 @@ pub(crate) fn sorted_index<'a, C: Counters>(
     requires scene { (given : Rows) × IsSceneOf at.now given }
     requires index { IsIndexOn at.now.cat.now at.now.q.now at.now.rel.0 i }
     requires ordered { (index_at at.now.cat.now i).method ≡ Btree }
-    ensures { sorted result.now ≡ built_of (index_at at.now.cat.now i) (rows_of_relation (world_of at.now) at.now.q.now at.now.rel) }
+    ensures { sorted result.now ≡ scene_index at.now i }
 {
     match at.store.index(i) {
         BuiltIndex::Sorted(tree) => tree,

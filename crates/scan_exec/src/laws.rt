@@ -16,7 +16,9 @@ ghost use Rattle.scan_exec.specs.Plans.{IsScan, param_set, relation_of};
 pub fn scans_come_to_their_rows()
     ensures rows { (w : World) (q : Query) (p : Plan) (o : Tuple) → IsScan p →
         map (one_row q (relation_of p).0) (left (coming w q p o)) ≡ run w q p o }
-    ensures fetches { (w : World) (q : Query) (p : Plan) (o : Tuple) → IsScan p → owed (coming w q p o) ≡ fetches w q p o }
-    ensures looks { (w : World) (q : Query) (p : Plan) (o : Tuple) → IsScan p → IsBuilt w.contents q p →
+    ensures fetches { (w : World) (q : Query) (p : Plan) (o : Tuple) → IsScan p →
+        owed (coming w q p o) ≡ fetches w q p o }
+    ensures looks { (w : World) (q : Query) (p : Plan) (o : Tuple) →
+        IsScan p → IsBuilt w.contents q p →
         allowed (coming w q p o) + given_looks w q (param_set p) ≤ looks w q p o }
 {}

@@ -1,12 +1,9 @@
 //! Scans of rows by their numbers: those of a value in a hash index, and those that a bitmap holds.
 
-ghost use Rattle.std.specs.Prelude.{◌≡◌, ◌+◌, ◌≤◌, All, find, length, map, option_map};
+ghost use Rattle.std.specs.Prelude.{◌≡◌, ◌+◌, ◌≤◌, length, option_map};
 ghost use Rattle.pg_base.specs.declared.limits.TheConstants.{MOST_ROWS};
-ghost use Rattle.heap.specs.TidSets.{not_below};
-ghost use Rattle.scan_probes.specs.Filters.{lent_conditions};
-ghost use Rattle.scan_probes.specs.Scenes.{AreReadyAtRow};
-ghost use Rattle.scan_exec.specs.Coming.{allowed, behind, is_given, owed};
-ghost use Rattle.scan_exec.specs.Kinds.{IsReadyNumber, rows_of};
+ghost use Rattle.scan_exec.specs.Coming.{allowed, behind, first_given, is_given, owed};
+ghost use Rattle.scan_exec.specs.Kinds.{AreReadyNumbers, AreReadyRows, rows_of_set, rows_of_tids};
 
 use heap::{Counters, Heap, Tids};
 use pg_base::{Steps, Tid};
@@ -58,8 +55,9 @@ impl<'a, C: Counters> HashRows<'a, C> {
         heap: &'a Heap<C>,
         tids: &'a [Tid],
     ) -> HashRows<'a, C>
-        requires { All (IsReadyNumber beside.cat.now beside.range.now beside.rel.0 given (lent_conditions clauses.items) heap.now.rows) (map (λ t. t.0) tids.now) }
-        ensures { result ≡ rows_of beside.entry.rel.0 given.entry (lent_conditions clauses.entry.items) heap.now.rows (map (λ t. t.0) tids.now) }
+        requires { AreReadyNumbers beside given clauses.items heap.now.rows tids.now }
+        ensures { result ≡
+            rows_of_tids beside.entry given.entry clauses.entry.items heap.now tids.now }
     {
         HashRows {
             beside,
@@ -72,7 +70,7 @@ impl<'a, C: Counters> HashRows<'a, C> {
 
     /// The next row that is given. Each row that the scan comes to, up to and with that one, is fetched once.
     pub fn next(&mut self, fetches: &mut Steps<C::Fetches>) -> Option<Tid>
-        ensures row { option_map (λ t. t.0) result ≡ option_map (λ c. c.row) (find is_given self.old) }
+        ensures row { option_map (λ t. t.0) result ≡ first_given self.old }
         ensures rest { self.new ≡ behind is_given self.old }
         ensures exact { fetches.new + owed self.new ≡ fetches.old + owed self.old }
         ensures unlooked { allowed self.new ≡ allowed self.old }
@@ -139,8 +137,8 @@ impl<'a, C: Counters> BitRows<'a, C> {
     ) -> BitRows<'a, C>
         requires bound { held.bound ≡ length heap.now.rows }
         requires few { length heap.now.rows ≤ MOST_ROWS }
-        requires ready { All (AreReadyAtRow beside.cat.now beside.range.now beside.rel.0 given (lent_conditions clauses.items)) heap.now.rows }
-        ensures { result ≡ rows_of beside.entry.rel.0 given.entry (lent_conditions clauses.entry.items) heap.now.rows (not_below 0 held.members) }
+        requires ready { AreReadyRows beside given clauses.items heap.now.rows }
+        ensures { result ≡ rows_of_set beside.entry given.entry clauses.entry.items heap.now held }
     {
         BitRows {
             beside,
@@ -154,7 +152,7 @@ impl<'a, C: Counters> BitRows<'a, C> {
 
     /// The next row that is given. Each row that the scan comes to, up to and with that one, is fetched once.
     pub fn next(&mut self, fetches: &mut Steps<C::Fetches>) -> Option<Tid>
-        ensures row { option_map (λ t. t.0) result ≡ option_map (λ c. c.row) (find is_given self.old) }
+        ensures row { option_map (λ t. t.0) result ≡ first_given self.old }
         ensures rest { self.new ≡ behind is_given self.old }
         ensures exact { fetches.new + owed self.new ≡ fetches.old + owed self.old }
         ensures unlooked { allowed self.new ≡ allowed self.old }

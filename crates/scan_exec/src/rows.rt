@@ -1,22 +1,18 @@
 //! Scans of every kind, drawn from row by row.
 
-ghost use Rattle.std.specs.Prelude.{◌≡◌, ◌+◌, ◌≤◌, IfOk, OnErr, OnOk, find, option_map};
-ghost use Rattle.pg_base.specs.Sets.{has};
-ghost use Rattle.heap.specs.Tuples.{padded};
-ghost use Rattle.sql_query.specs.Queries.{width};
+ghost use Rattle.std.specs.Prelude.{◌≡◌, ◌+◌, ◌≤◌, IfOk, OnErr, OnOk, option_map};
 ghost use Rattle.sql_query.specs.WellBound.{IsWellBound};
 ghost use Rattle.sql_query.specs.Worlds.{world};
-ghost use Rattle.catalog.specs.Contents.{index_at};
-ghost use Rattle.plan_tree.specs.Counts.{given_looks, looks};
 ghost use Rattle.plan_tree.specs.Space.{IsBuilt, IsIndexScan};
 ghost use Rattle.plan_tree.specs.Views.{plan};
-ghost use Rattle.scan_probes.specs.Scenes.{AreRowsOf};
 ghost use Rattle.store.specs.Kept.{IsStoreOf};
-ghost use Rattle.scan_exec.specs.Coming.{allowed, behind, coming, index_coming, is_given, owed};
+ghost use Rattle.scan_exec.specs.Coming.{allowed, behind, first_given, is_given, owed};
 ghost use Rattle.scan_exec.specs.Plans as plans;
 ghost use Rattle.scan_exec.specs.Plans.{IsScan};
 ghost use Rattle.scan_exec.specs.Rows.{rows_of_kind};
-ghost use Rattle.scan_exec.specs.Scene.{IsSceneOf, tuple_of, world_of};
+ghost use Rattle.scan_exec.specs.Scene.{IsSceneOf};
+ghost use Rattle.scan_exec.specs.Handed.{AreHanded, handed_coming, handed_looks};
+ghost use Rattle.scan_exec.specs.AtScene.{index_scan_rows, outer_looks, scene_coming, scene_looks};
 
 use crate::bitmap::bit_rows;
 use crate::hashed::hash_rows;
@@ -103,7 +99,7 @@ fn by_index<'a, C: Counters>(
 ) -> Result<Kind<'a, C>, Memory>
     requires scene { IsSceneOf at.now given }
     requires scan { IsIndexScan at.now.cat.now at.now.q.now at.now.rel i backward at.now.param }
-    ensures { IfOk result (λ kind. rows_of_kind kind ≡ index_coming (world_of at.now) at.now.q.now (index_at at.now.cat.now i).method at.now.rel i backward at.now.param (tuple_of at.now)) }
+    ensures { IfOk result (λ kind. rows_of_kind kind ≡ index_scan_rows at.now i backward) }
 {
     match at.store.index(i) {
         BuiltIndex::Sorted(tree) => {
@@ -129,9 +125,11 @@ fn by_plan<'a, C: Counters>(
     requires built { IsBuilt at.now.cat.now at.now.q.now (plan p.now) }
     requires relation { at.now.rel ≡ plans.relation_of (plan p.now) }
     requires param { at.now.param ≡ plans.param_set (plan p.now) }
-    ensures coming { IfOk result (λ kind. rows_of_kind kind ≡ coming (world_of at.now) at.now.q.now (plan p.now) (tuple_of at.now)) }
-    ensures looks { IfOk result (λ kind. reads.new + (allowed (rows_of_kind kind) + given_looks (world_of at.now) at.now.q.now at.now.param) ≤ reads.old + looks (world_of at.now) at.now.q.now (plan p.now) (tuple_of at.now)) }
-    ensures most { reads.new + given_looks (world_of at.now) at.now.q.now at.now.param ≤ reads.old + looks (world_of at.now) at.now.q.now (plan p.now) (tuple_of at.now) }
+    ensures coming { IfOk result (λ kind. rows_of_kind kind ≡ scene_coming at.now (plan p.now)) }
+    ensures looks { IfOk result (λ kind.
+        reads.new + (allowed (rows_of_kind kind) + outer_looks at.now) ≤
+        reads.old + scene_looks at.now (plan p.now)) }
+    ensures most { reads.new + outer_looks at.now ≤ reads.old + scene_looks at.now (plan p.now) }
 {
     match p {
         Plan::Seq { .. } => {
@@ -176,10 +174,13 @@ impl<'a, C: Counters> ScanRows<'a, C> {
         requires store { IsStoreOf cat.now store.now }
         requires scan { IsScan (plan p.now) }
         requires built { IsBuilt cat.now q.now (plan p.now) }
-        requires outer { AreRowsOf (world cat.now store.now.stored) q.now (plans.param_set (plan p.now)) outer.now }
-        ensures coming { IfOk result (λ s. s ≡ coming (world cat.now store.now.stored) q.now (plan p.now) (padded (width q.now) (has (plans.param_set (plan p.now)).0) outer.now)) }
-        ensures looks { IfOk result (λ s. reads.new + allowed s ≤ reads.old + looks (world cat.now store.now.stored) q.now (plan p.now) (padded (width q.now) (has (plans.param_set (plan p.now)).0) outer.now)) }
-        ensures most { reads.new ≤ reads.old + looks (world cat.now store.now.stored) q.now (plan p.now) (padded (width q.now) (has (plans.param_set (plan p.now)).0) outer.now) }
+        requires outer { AreHanded (world cat.now store.now.stored) q.now (plan p.now) outer.now }
+        ensures coming { IfOk result (λ s.
+            s ≡ handed_coming (world cat.now store.now.stored) q.now (plan p.now) outer.now) }
+        ensures looks { IfOk result (λ s. reads.new + allowed s ≤ reads.old +
+            handed_looks (world cat.now store.now.stored) q.now (plan p.now) outer.now) }
+        ensures most { reads.new ≤ reads.old +
+            handed_looks (world cat.now store.now.stored) q.now (plan p.now) outer.now }
     {
         let rel = relation_of(p);
         let param = param_of(p);
@@ -213,11 +214,14 @@ impl<'a, C: Counters> ScanRows<'a, C> {
         requires store { IsStoreOf cat.now store.now }
         requires scan { IsScan (plan p.now) }
         requires built { IsBuilt cat.now q.now (plan p.now) }
-        requires outer { AreRowsOf (world cat.now store.now.stored) q.now (plans.param_set (plan p.now)) outer.now }
-        ensures coming { OnOk result (self.new ≡ coming (world cat.now store.now.stored) q.now (plan p.now) (padded (width q.now) (has (plans.param_set (plan p.now)).0) outer.now)) }
+        requires outer { AreHanded (world cat.now store.now.stored) q.now (plan p.now) outer.now }
+        ensures coming { OnOk result (self.new ≡
+            handed_coming (world cat.now store.now.stored) q.now (plan p.now) outer.now) }
         ensures refused { OnErr result (self.new ≡ self.old) }
-        ensures looks { OnOk result (reads.new + allowed self.new ≤ reads.old + looks (world cat.now store.now.stored) q.now (plan p.now) (padded (width q.now) (has (plans.param_set (plan p.now)).0) outer.now)) }
-        ensures most { reads.new ≤ reads.old + looks (world cat.now store.now.stored) q.now (plan p.now) (padded (width q.now) (has (plans.param_set (plan p.now)).0) outer.now) }
+        ensures looks { OnOk result (reads.new + allowed self.new ≤ reads.old +
+            handed_looks (world cat.now store.now.stored) q.now (plan p.now) outer.now) }
+        ensures most { reads.new ≤ reads.old +
+            handed_looks (world cat.now store.now.stored) q.now (plan p.now) outer.now }
     {
         let rows = ScanRows::start(alloc, cat, q, p, store, outer, reads)?;
         *self = rows;
@@ -231,7 +235,7 @@ impl<'a, C: Counters> ScanRows<'a, C> {
         fetches: &mut Steps<C::Fetches>,
         reads: &mut Steps<C::Looks>,
     ) -> Option<Tid>
-        ensures row { option_map (λ t. t.0) result ≡ option_map (λ c. c.row) (find is_given self.old) }
+        ensures row { option_map (λ t. t.0) result ≡ first_given self.old }
         ensures rest { self.new ≡ behind is_given self.old }
         ensures exact { fetches.new + owed self.new ≡ fetches.old + owed self.old }
         ensures looked { reads.new + allowed self.new ≡ reads.old + allowed self.old }

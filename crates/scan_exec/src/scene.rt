@@ -3,14 +3,12 @@
 ghost use Rattle.std.specs.Prelude.{◌≡◌, ◌<◌, ◌≤◌, ◌&&◌, ◌||◌, ℕ, IfOk, length, nat_lt};
 ghost use Rattle.pg_base.specs.declared.limits.TheConstants.{MOST_ROWS};
 ghost use Rattle.pg_expr.specs.AtomSets.{contains};
-ghost use Rattle.index_match.specs.Numbered as numbered;
-ghost use Rattle.plan_tree.specs.Run.{clauses_at, conditions as conditions_at};
 ghost use Rattle.scan_probes.specs.Filters.{lent_conditions};
-ghost use Rattle.sql_query.specs.Tuples.{rows_of_relation};
 ghost use Rattle.sql_query.specs.Queries.{width};
 ghost use Rattle.plan_tree.specs.Bitmaps.{IsIndexOn};
 ghost use Rattle.scan_probes.specs.Values.{Given as Rows};
-ghost use Rattle.scan_exec.specs.Scene.{IsSceneOf, world_of};
+ghost use Rattle.scan_exec.specs.Scene.{IsSceneOf};
+ghost use Rattle.scan_exec.specs.AtScene.{scene_base, scene_clauses, scene_conditions, scene_rows};
 
 use catalog::Catalog;
 use eq_classes::{ClauseSet, note};
@@ -53,7 +51,7 @@ impl<'a, 'o, C: Counters> Scene<'a, 'o, C> {
     /// The rows of its relation.
     pub(crate) fn heap(&self) -> &'a Heap<C>
         requires { (given : Rows) × IsSceneOf self.now given }
-        ensures rows { result.now.rows ≡ rows_of_relation (world_of self.now) self.now.q.now self.now.rel }
+        ensures rows { result.now.rows ≡ scene_rows self.now }
         ensures few { length result.now.rows ≤ MOST_ROWS }
     {
         let range = range_of(self.q).items();
@@ -67,7 +65,7 @@ impl<'a, 'o, C: Counters> Scene<'a, 'o, C> {
     /// The conditions of the clauses over its relation. The error means want of memory.
     pub(crate) fn base(&self) -> Result<Vec<&'a Expr>, Memory>
         requires { self.now.rel.0 < 16 }
-        ensures { IfOk result (λ v. lent_conditions v.items ≡ numbered.conditions_of (numbered.base self.now.q.now.classes self.now.rel.0)) }
+        ensures { IfOk result (λ v. lent_conditions v.items ≡ scene_base self.now) }
     {
         let classes = classes_of(self.q);
         let base = classes.base_clauses(self.rel);
@@ -77,7 +75,7 @@ impl<'a, 'o, C: Counters> Scene<'a, 'o, C> {
     /// The conditions of these and of the clauses that are tested with the rows given. The error means want of memory.
     pub(crate) fn clauses(&self) -> Result<Vec<&'a Expr>, Memory>
         requires { self.now.rel.0 < 16 }
-        ensures { IfOk result (λ v. lent_conditions v.items ≡ clauses_at (world_of self.now) self.now.q.now self.now.rel self.now.param) }
+        ensures { IfOk result (λ v. lent_conditions v.items ≡ scene_clauses self.now) }
     {
         let classes = classes_of(self.q);
         let base = classes.base_clauses(self.rel);
@@ -90,7 +88,7 @@ impl<'a, 'o, C: Counters> Scene<'a, 'o, C> {
     pub(crate) fn conditions(&self, i: IndexNo) -> Result<Vec<&'a Expr>, Memory>
         requires relation { self.now.rel.0 < 16 }
         requires index { IsIndexOn self.now.cat.now self.now.q.now self.now.rel.0 i }
-        ensures { IfOk result (λ v. lent_conditions v.items ≡ conditions_at (world_of self.now) self.now.q.now self.now.rel i self.now.param) }
+        ensures { IfOk result (λ v. lent_conditions v.items ≡ scene_conditions self.now i) }
     {
         let found = conditions_found(self.cat, self.q, self.rel, i, self.param);
         chosen(self.alloc, classes_of(self.q), &found)

@@ -1,12 +1,11 @@
 //! Sequential scans.
 
-ghost use Rattle.std.specs.Prelude.{◌≡◌, ◌+◌, All, IfOk, find, option_map};
-ghost use Rattle.scan_probes.specs.Filters.{lent_conditions};
-ghost use Rattle.scan_probes.specs.Scenes.{AreReadyAtRow};
+ghost use Rattle.std.specs.Prelude.{◌≡◌, ◌+◌, IfOk, option_map};
 ghost use Rattle.plan_tree.specs.Plans.{seq};
-ghost use Rattle.scan_exec.specs.Coming.{allowed, behind, coming, is_given, owed};
-ghost use Rattle.scan_exec.specs.Kinds.{rows_from};
-ghost use Rattle.scan_exec.specs.Scene.{IsSceneOf, tuple_of, world_of};
+ghost use Rattle.scan_exec.specs.Coming.{allowed, behind, first_given, is_given, owed};
+ghost use Rattle.scan_exec.specs.Scene.{IsSceneOf};
+ghost use Rattle.scan_exec.specs.Kinds.{AreReadyRows, rows_of_heap};
+ghost use Rattle.scan_exec.specs.AtScene.{scene_coming};
 
 use crate::scene::Scene;
 use heap::{Counters, Heap};
@@ -59,8 +58,8 @@ impl<'a, C: Counters> SeqRows<'a, C> {
         clauses: Vec<&'a Expr>,
         heap: &'a Heap<C>,
     ) -> SeqRows<'a, C>
-        requires { All (AreReadyAtRow beside.cat.now beside.range.now beside.rel.0 given (lent_conditions clauses.items)) heap.now.rows }
-        ensures { result ≡ rows_from beside.entry.rel.0 given.entry (lent_conditions clauses.entry.items) heap.now.rows 0 }
+        requires { AreReadyRows beside given clauses.items heap.now.rows }
+        ensures { result ≡ rows_of_heap beside.entry given.entry clauses.entry.items heap.now }
     {
         SeqRows {
             beside,
@@ -73,7 +72,7 @@ impl<'a, C: Counters> SeqRows<'a, C> {
 
     /// The next row that is given. Each row that it comes to, up to and with that one, is fetched once.
     pub fn next(&mut self, fetches: &mut Steps<C::Fetches>) -> Option<Tid>
-        ensures row { option_map (λ t. t.0) result ≡ option_map (λ c. c.row) (find is_given self.old) }
+        ensures row { option_map (λ t. t.0) result ≡ first_given self.old }
         ensures rest { self.new ≡ behind is_given self.old }
         ensures exact { fetches.new + owed self.new ≡ fetches.old + owed self.old }
         ensures unlooked { allowed self.new ≡ allowed self.old }
@@ -95,7 +94,7 @@ pub(crate) fn seq_rows<'a, C: Counters>(
     given: Given<'a>,
 ) -> Result<SeqRows<'a, C>, Memory>
     requires { IsSceneOf at.now given }
-    ensures { IfOk result (λ s. s ≡ coming (world_of at.now) at.now.q.now (seq at.now.rel) (tuple_of at.now)) }
+    ensures { IfOk result (λ s. s ≡ scene_coming at.now (seq at.now.rel)) }
 {
     let clauses = at.base()?;
     let beside = at.beside();

@@ -1,10 +1,8 @@
 //! Scans of B-tree indexes.
 
-ghost use Rattle.std.specs.Prelude.{◌≡◌, ◌+◌, All, find, map, option_map};
-ghost use Rattle.catalog.specs.Entries.{index_of};
-ghost use Rattle.scan_probes.specs.Filters.{lent_conditions};
-ghost use Rattle.scan_exec.specs.Coming.{allowed, behind, is_given, owed};
-ghost use Rattle.scan_exec.specs.Kinds.{IsReadyCover, IsReadyEntry, covered_at, entry_at};
+ghost use Rattle.std.specs.Prelude.{◌≡◌, ◌+◌, option_map};
+ghost use Rattle.scan_exec.specs.Coming.{allowed, behind, first_given, is_given, owed};
+ghost use Rattle.scan_exec.specs.Kinds.{AreReadyCovers, AreReadyEntries, covered_rows, rows_of_entries};
 
 use btree_index::Cursor;
 use catalog::IndexDef;
@@ -65,8 +63,11 @@ impl<'a, C: Counters> IndexRows<'a, C> {
         cursor: Cursor<'a, C::Looks>,
         heap: &'a Heap<C>,
     ) -> IndexRows<'a, C>
-        requires { All (IsReadyEntry beside.cat.now beside.range.now beside.rel.0 given (lent_conditions tests.items) (lent_conditions clauses.items) (index_of def.now) heap.now.rows) cursor }
-        ensures { result ≡ map (entry_at beside.entry.rel.0 given.entry (lent_conditions tests.entry.items) (lent_conditions clauses.entry.items) (index_of def.now) heap.now.rows) cursor.entry }
+        requires { AreReadyEntries beside given tests.items clauses.items
+            def.now heap.now cursor }
+        ensures { result ≡
+            rows_of_entries beside.entry given.entry tests.entry.items clauses.entry.items
+            def.now heap.now cursor.entry }
     {
         IndexRows {
             beside,
@@ -86,7 +87,7 @@ impl<'a, C: Counters> IndexRows<'a, C> {
         fetches: &mut Steps<C::Fetches>,
         reads: &mut Steps<C::Looks>,
     ) -> Option<Tid>
-        ensures row { option_map (λ t. t.0) result ≡ option_map (λ c. c.row) (find is_given self.old) }
+        ensures row { option_map (λ t. t.0) result ≡ first_given self.old }
         ensures rest { self.new ≡ behind is_given self.old }
         ensures exact { fetches.new + owed self.new ≡ fetches.old + owed self.old }
         ensures looked { reads.new + allowed self.new ≡ reads.old + allowed self.old }
@@ -152,8 +153,10 @@ impl<'a, C: Counters> OnlyRows<'a, C> {
         def: &'a IndexDef,
         cursor: Cursor<'a, C::Looks>,
     ) -> OnlyRows<'a, C>
-        requires { All (IsReadyCover beside.cat.now beside.range.now beside.rel.0 given (lent_conditions tests.items) (lent_conditions clauses.items) (index_of def.now)) cursor }
-        ensures { result ≡ map (covered_at beside.entry.rel.0 given.entry (lent_conditions tests.entry.items) (lent_conditions clauses.entry.items) (index_of def.now)) cursor.entry }
+        requires { AreReadyCovers beside given tests.items clauses.items def.now cursor }
+        ensures { result ≡
+            covered_rows beside.entry given.entry tests.entry.items clauses.entry.items
+            def.now cursor.entry }
     {
         OnlyRows {
             beside,
@@ -167,7 +170,7 @@ impl<'a, C: Counters> OnlyRows<'a, C> {
 
     /// The next row that is given. Up to and with that one, each entry that the scan comes to is one look.
     pub fn next(&mut self, reads: &mut Steps<C::Looks>) -> Option<Tid>
-        ensures row { option_map (λ t. t.0) result ≡ option_map (λ c. c.row) (find is_given self.old) }
+        ensures row { option_map (λ t. t.0) result ≡ first_given self.old }
         ensures rest { self.new ≡ behind is_given self.old }
         ensures unfetched { owed self.new ≡ owed self.old }
         ensures looked { reads.new + allowed self.new ≡ reads.old + allowed self.old }

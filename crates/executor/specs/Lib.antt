@@ -4,6 +4,7 @@ pub mod EState
 pub mod Probe
 pub mod Pairs
 pub mod Node
+pub mod AtState
 pub mod Good
 pub mod Reading
 -- What callers name of the crates below.

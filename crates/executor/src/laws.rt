@@ -12,6 +12,7 @@ ghost use Rattle.executor.specs.Numbers.{IsTupleOf};
 
 /// Each tuple that a finished plan gives has a number for each relation of the query, that of one of its rows.
 pub fn tuples_have_rows()
-    ensures { (w : World) (q : Query) (p : Plan) → IsWorld w → IsWellBound w.contents q → IsFinished w.contents q p →
+    ensures { (w : World) (q : Query) (p : Plan) → IsWorld w →
+        IsWellBound w.contents q → IsFinished w.contents q p →
         All (IsTupleOf w q) (run w q p (no_rows q)) }
 {}

@@ -1,20 +1,15 @@
 //! Scans that are drawn from.
 
-ghost use Rattle.std.specs.Prelude.{◌≡◌, ◌≤◌, ◌+◌, ◌∷◌, [], true, length, IfOk, IfSome, IfNone};
-ghost use Rattle.heap.specs.Tuples.{padded, rank};
-ghost use Rattle.sql_query.specs.Queries.{Query, width};
-ghost use Rattle.sql_query.specs.Tuples.{no_rows};
-ghost use Rattle.plan_tree.specs.Counts as counts;
-ghost use Rattle.plan_tree.specs.Counts.{looks};
-ghost use Rattle.plan_tree.specs.Plans.{set_of};
-ghost use Rattle.plan_tree.specs.Run.{run};
+ghost use Rattle.std.specs.Prelude.{◌≡◌, ◌≤◌, ◌+◌, true, length, IfOk, IfSome, IfNone};
+ghost use Rattle.heap.specs.Tuples.{rank};
+ghost use Rattle.sql_query.specs.Queries.{Query};
 ghost use Rattle.plan_tree.specs.Views.{plan};
-ghost use Rattle.scan_exec.specs.Coming.{allowed, behind, coming, is_given, left, owed};
+ghost use Rattle.scan_exec.specs.Coming.{allowed, behind, is_given, owed};
 ghost use Rattle.scan_exec.specs.Plans.{IsScan};
-ghost use Rattle.executor.specs.Drawn.{IsDrawable};
 ghost use Rattle.plan_laws.specs.Closed.{is_scan};
-ghost use Rattle.executor.specs.EState.{IsOver, world_of};
-ghost use Rattle.executor.specs.Node.{IsScanning, scanning_left};
+ghost use Rattle.executor.specs.EState.{IsOver};
+ghost use Rattle.executor.specs.Node.{IsNextScanned, IsScanning, IsSpentScanning, scanning_left, scanning_set};
+ghost use Rattle.executor.specs.AtState.{IsDrawableAt, whole_coming, whole_fetches, whole_looks, whole_run};
 
 use crate::estate::EState;
 use crate::tuple::Tuple;
@@ -38,16 +33,17 @@ pub(crate) fn start_scanning<'a, C: Counters>(
     reads: &mut Steps<C::Looks>,
 ) -> Result<Scanning<'a, C>, Memory>
     requires over { IsOver at.now }
-    requires plan { IsDrawable (world_of at.now) at.now.q.now (plan p.now) }
+    requires plan { IsDrawableAt at.now (plan p.now) }
     requires scan { IsScan (plan p.now) }
     ensures good { IfOk result (λ s. IsScanning s) }
     ensures plan { IfOk result (λ s. s.plan.now ≡ p.now) }
     ensures one { is_scan (plan p.now) ≡ true }
-    ensures left { IfOk result (λ s. scanning_left at.now.q.now s ≡ run (world_of at.now) at.now.q.now (plan p.now) (no_rows at.now.q.now)) }
-    ensures owed { IfOk result (λ s. owed s.rows ≡ counts.fetches (world_of at.now) at.now.q.now (plan p.now) (no_rows at.now.q.now)) }
-    ensures coming { IfOk result (λ s. s.rows ≡ coming (world_of at.now) at.now.q.now (plan p.now) (no_rows at.now.q.now)) }
-    ensures reads { IfOk result (λ s. reads.new + allowed s.rows ≤ reads.old + looks (world_of at.now) at.now.q.now (plan p.now) (no_rows at.now.q.now)) }
-    ensures most { reads.new ≤ reads.old + looks (world_of at.now) at.now.q.now (plan p.now) (no_rows at.now.q.now) }
+    ensures left { IfOk result (λ s. scanning_left at.now.q.now s ≡ whole_run at.now (plan p.now)) }
+    ensures owed { IfOk result (λ s. owed s.rows ≡ whole_fetches at.now (plan p.now)) }
+    ensures coming { IfOk result (λ s. s.rows ≡ whole_coming at.now (plan p.now)) }
+    ensures reads { IfOk result (λ s. reads.new + allowed s.rows ≤
+        reads.old + whole_looks at.now (plan p.now)) }
+    ensures most { reads.new ≤ reads.old + whole_looks at.now (plan p.now) }
 {
     let rows = ScanRows::start(at.alloc, at.cat, at.q, p, at.store, &[], reads)?;
     Ok(Scanning { plan: p, rows })
@@ -64,9 +60,11 @@ pub(crate) fn next_scanned<'a, C: Counters>(
     requires good { IsScanning scanning.old }
     ensures good { IsScanning scanning.new }
     ensures plan { scanning.new.plan.now ≡ scanning.old.plan.now }
-    ensures some { (q : Query) → IfOk result (λ o. IfSome o (λ t. scanning_left q scanning.old ≡ padded (width q) (set_of (plan scanning.old.plan.now)) t ∷ scanning_left q scanning.new)) }
-    ensures len { IfOk result (λ o. IfSome o (λ t. length t ≡ rank (set_of (plan scanning.old.plan.now)) 16)) }
-    ensures none { IfOk result (λ o. IfNone o ((left scanning.old.rows ≡ []) × (scanning.new.rows ≡ []))) }
+    ensures some { (q : Query) → IfOk result (λ o. IfSome o
+        (IsNextScanned q scanning.old scanning.new)) }
+    ensures len { IfOk result (λ o. IfSome o (λ t.
+        length t ≡ rank (scanning_set scanning.old) 16)) }
+    ensures none { IfOk result (λ o. IfNone o (IsSpentScanning scanning.old scanning.new)) }
     ensures rest { scanning.new.rows ≡ behind is_given scanning.old.rows }
     ensures exact { fetches.new + owed scanning.new.rows ≡ fetches.old + owed scanning.old.rows }
     ensures reads { reads.new + allowed scanning.new.rows ≤ reads.old + allowed scanning.old.rows }

@@ -1,17 +1,15 @@
 //! Sorts that were drained and are drawn from.
 
-ghost use Rattle.std.specs.Prelude.{◌≡◌, ◌≤◌, ◌<◌, ◌+◌, ◌*◌, ◌∷◌, [], All, drop, length, IfOk, IfSome, IfNone, OnOk};
+ghost use Rattle.std.specs.Prelude.{◌≡◌, ◌≤◌, ◌<◌, ◌+◌, ◌*◌, ◌∷◌, All, length, IfOk, IfSome, IfNone, OnOk};
 ghost use Rattle.pg_base.specs.Sets.{has};
-ghost use Rattle.pg_value.specs.Sorting.{in_order};
 ghost use Rattle.eq_classes.specs.Holding.{IsWithin};
-ghost use Rattle.heap.specs.Tuples.{padded_tuples, rank};
-ghost use Rattle.pathkeys.specs.Sorted.{keys_order};
-ghost use Rattle.sql_query.specs.Queries.{all_of_query, width};
-ghost use Rattle.sql_query.specs.Tuples.{value_at};
+ghost use Rattle.heap.specs.Tuples.{rank};
+ghost use Rattle.sql_query.specs.Queries.{all_of_query};
 ghost use Rattle.plan_tree.specs.Counts.{MOST_READS};
 ghost use Rattle.sort_rows.specs.Rows.{AllHaveRows};
 ghost use Rattle.executor.specs.EState.{IsOver, world_of};
-ghost use Rattle.executor.specs.Node.{IsSorting, sorting_left};
+ghost use Rattle.executor.specs.Node.{IsSorting, IsSpentSorting, kept_left, sorting_left};
+ghost use Rattle.sort_rows.specs.KeySource.{tuples_by_keys};
 
 use crate::estate::EState;
 use crate::tuple::Tuple;
@@ -41,7 +39,8 @@ pub(crate) fn start_sorting<C: Counters>(
     requires rows { AllHaveRows (world_of at.now) at.now.q.now input.now }
     ensures good { IfOk result (λ s. IsSorting s) }
     ensures set { IfOk result (λ s. s.kept.set ≡ input.now.set) }
-    ensures left { IfOk result (λ s. sorting_left at.now.q.now s ≡ in_order (keys_order (value_at (world_of at.now) at.now.q.now) at.now.q.now.classes (has input.now.set.0) keys.now) (padded_tuples (width at.now.q.now) input.now)) }
+    ensures left { IfOk result (λ s. sorting_left at.now.q.now s ≡
+        tuples_by_keys (world_of at.now) at.now.q.now keys.now input.now) }
     ensures cost { reads.new ≤ reads.old + MOST_READS * length input.now.rows }
 {
     let kept = sort_rows(at.alloc, at.cat, at.q, at.store.heaps(), keys, input, reads)?;
@@ -53,9 +52,11 @@ pub(crate) fn next_sorted(alloc: Global, sorting: &mut Sorting) -> Result<Option
     requires good { IsSorting sorting.old }
     ensures good { OnOk result (IsSorting sorting.new) }
     ensures kept { sorting.new.kept ≡ sorting.old.kept }
-    ensures some { IfOk result (λ o. IfSome o (λ t. drop sorting.old.at sorting.old.kept.rows ≡ t ∷ drop sorting.new.at sorting.new.kept.rows)) }
-    ensures len { IfOk result (λ o. IfSome o (λ t. length t ≡ rank (has sorting.old.kept.set.0) 16)) }
-    ensures none { IfOk result (λ o. IfNone o ((drop sorting.old.at sorting.old.kept.rows ≡ []) × (drop sorting.new.at sorting.new.kept.rows ≡ []))) }
+    ensures some { IfOk result (λ o. IfSome o (λ t.
+        kept_left sorting.old ≡ t ∷ kept_left sorting.new)) }
+    ensures len { IfOk result (λ o. IfSome o (λ t.
+        length t ≡ rank (has sorting.old.kept.set.0) 16)) }
+    ensures none { IfOk result (λ o. IfNone o (IsSpentSorting sorting.old sorting.new)) }
 {
     if sorting.at == sorting.kept.len() {
         return Ok(None);

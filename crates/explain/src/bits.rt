@@ -1,12 +1,10 @@
 //! Bitmap trees.
 
-ghost use Rattle.std.specs.Prelude.{◌≡◌, ◌<◌, ◌+◌, ◌++◌, All, IfOk, OnOk, codes, slice_get};
-ghost use Rattle.std.specs.List.{flat_map};
-ghost use Rattle.catalog.specs.Contents.{IsIndex, index_name_at};
+ghost use Rattle.std.specs.Prelude.{◌≡◌, ◌++◌, All, OnOk};
+ghost use Rattle.catalog.specs.Contents.{IsIndex};
 ghost use Rattle.explain.specs.Lines.{HasIndexes, HaveIndexes};
 ghost use Rattle.plan_tree.specs.Views.{bits, bits_all};
-ghost use Rattle.explain.specs.Texts as texts;
-ghost use Rattle.explain.specs.Texts.{conjunct_by, number_text, plain_line};
+ghost use Rattle.explain.specs.Texts.{Gets, and_line, conjunct_in, leaf_line, leaf_lines, leaf_title, number_text, or_line, part_lines, tree_lines};
 
 use crate::lead::Lead;
 use catalog::Catalog;
@@ -18,7 +16,7 @@ use std::alloc::Global;
 /// Appends what a scan of an index's entries is.
 fn put_leaf_title(text: &mut Vec<u8>, cat: &Catalog, i: IndexNo) -> Result<(), Memory>
     requires index { IsIndex cat.now i }
-    ensures { OnOk result (text.new.items ≡ text.old.items ++ (codes "Bitmap Index Scan on " ++ index_name_at cat.now i)) }
+    ensures { OnOk result (text.new.items ≡ text.old.items ++ leaf_title cat.now i) }
 {
     text.extend_from_slice(b"Bitmap Index Scan on ")?;
     text.extend_from_slice(cat.index_name(i))?;
@@ -28,7 +26,7 @@ fn put_leaf_title(text: &mut Vec<u8>, cat: &Catalog, i: IndexNo) -> Result<(), M
 /// Appends the line of a scan of an index's entries.
 fn put_leaf(text: &mut Vec<u8>, cat: &Catalog, lead: &Lead, i: IndexNo) -> Result<(), Memory>
     requires index { IsIndex cat.now i }
-    ensures { OnOk result (text.new.items ≡ text.old.items ++ texts.leaf_line cat.now lead.now i) }
+    ensures { OnOk result (text.new.items ≡ text.old.items ++ leaf_line cat.now lead.now i) }
 {
     lead.put(text)?;
     put_leaf_title(text, cat, i)?;
@@ -43,7 +41,7 @@ fn put_leaves(
     indexes: &[IndexNo],
 ) -> Result<(), Memory>
     requires indexes { All (IsIndex cat.now) indexes.now }
-    ensures { OnOk result (text.new.items ≡ text.old.items ++ flat_map (texts.leaf_line cat.now lead.now) indexes.now) }
+    ensures { OnOk result (Gets text.old text.new (leaf_lines cat.now lead.now indexes.now)) }
 {
     for i in indexes {
         put_leaf(text, cat, lead, *i)?;
@@ -53,7 +51,7 @@ fn put_leaves(
 
 /// The number, from 1, of the conjunct that the clause of a number is. None where there is no such clause, or a class makes it.
 pub fn conjunct_of(q: &Prepared, n: u16) -> Option<u16>
-    ensures { result ≡ conjunct_by (slice_get q.now.classes.clauses n) }
+    ensures { result ≡ conjunct_in q.now n }
 {
     let classes = classes_of(q);
     if (n as usize) < classes.count() {
@@ -84,7 +82,7 @@ fn put_or(
     lead: &Lead,
     n: u16,
 ) -> Result<(), Memory>
-    ensures { OnOk result (text.new.items ≡ text.old.items ++ plain_line lead.now (codes "BitmapOr " ++ number_text (conjunct_by (slice_get q.now.classes.clauses n)))) }
+    ensures { OnOk result (text.new.items ≡ text.old.items ++ or_line q.now lead.now n) }
 {
     lead.put(text)?;
     text.extend_from_slice(b"BitmapOr ")?;
@@ -94,7 +92,7 @@ fn put_or(
 
 /// Appends the line of an AND.
 fn put_and(text: &mut Vec<u8>, lead: &Lead) -> Result<(), Memory>
-    ensures { OnOk result (text.new.items ≡ text.old.items ++ plain_line lead.now (codes "BitmapAnd")) }
+    ensures { OnOk result (text.new.items ≡ text.old.items ++ and_line lead.now) }
 {
     lead.put(text)?;
     text.extend_from_slice(b"BitmapAnd\n")
@@ -111,7 +109,7 @@ pub(crate) fn put_bits(
     tree: &BitTree,
 ) -> Result<(), Memory>
     requires tree { HasIndexes cat.now (bits tree.now) }
-    ensures { OnOk result (text.new.items ≡ text.old.items ++ texts.bits_text cat.now q.now lead.now (bits tree.now)) }
+    ensures { OnOk result (Gets text.old text.new (tree_lines cat.now q.now lead.now tree.now)) }
 {
     match tree {
         BitTree::Leaf(i) => put_leaf(text, cat, lead, *i),
@@ -139,7 +137,7 @@ fn put_trees(
     trees: &[BitTree],
 ) -> Result<(), Memory>
     requires trees { HaveIndexes cat.now (bits_all trees.now) }
-    ensures { OnOk result (text.new.items ≡ text.old.items ++ texts.trees_text cat.now q.now lead.now (bits_all trees.now)) }
+    ensures { OnOk result (Gets text.old text.new (part_lines cat.now q.now lead.now trees.now)) }
 {
     for tree in trees {
         put_bits(alloc, text, cat, q, lead, tree)?;

@@ -76,7 +76,8 @@ pub fn limit_text(
 ) -> Result<Bytes, Memory>
     requires window { IsSome q.now.window }
     requires asked { asked ≤ rows }
-    ensures text { (w : windows.Window) → q.now.window ≡ Some w → IfOk result (λ text. text ≡ texts.limit_text w price asked) }
+    ensures text { (w : windows.Window) → q.now.window ≡ Some w →
+        IfOk result (λ text. text ≡ texts.limit_text w price asked) }
 {
     match q.window {
         None => unreachable!(),

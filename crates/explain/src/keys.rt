@@ -3,13 +3,10 @@
 ghost use Rattle.std.specs.Prelude.{◌≡◌, ◌<◌, ◌++◌, ℕ, All, OnOk, codes, cond, length, nat_eq};
 ghost use Rattle.std.specs.Prelude.{[]};
 ghost use Rattle.pg_base.specs.Sets.{has};
-ghost use Rattle.eq_classes.specs.Clauses.{first_in};
-ghost use Rattle.eq_classes.specs.Listing.{class_at};
 ghost use Rattle.plan_laws.specs.path_cost_Columns.{AreTables};
 ghost use Rattle.pathkeys.specs.Finding.{class_numbers};
 ghost use Rattle.sql_query.specs.WellBound.{IsWellBound};
-ghost use Rattle.explain.specs.Texts as texts;
-ghost use Rattle.explain.specs.Texts.{direction_text, family_text};
+ghost use Rattle.explain.specs.Texts.{Gets, direction_text, family_text, member_at, key_list, key_text};
 
 use crate::relations::put_column;
 use catalog::Catalog;
@@ -31,7 +28,7 @@ fn put_family(text: &mut Vec<u8>, family: Family) -> Result<(), Memory>
 
 /// Appends the direction of a key and the place of NULL, where they do not go without saying.
 fn put_direction(text: &mut Vec<u8>, descending: bool, nulls_first: bool) -> Result<(), Memory>
-    ensures { OnOk result (text.new.items ≡ text.old.items ++ direction_text descending nulls_first) }
+    ensures { OnOk result (Gets text.old text.new (direction_text descending nulls_first)) }
 {
     match (descending, nulls_first) {
         (true, true) => text.extend_from_slice(b" DESC"),
@@ -51,7 +48,7 @@ fn put_member(
 ) -> Result<(), Memory>
     requires bound { IsWellBound cat.now q.now }
     requires class { c.0 < length q.now.classes.classes }
-    ensures { OnOk result (text.new.items ≡ text.old.items ++ texts.member_text cat.now q.now (first_in (class_at q.now.classes.classes c.0) (has set.0))) }
+    ensures { OnOk result (Gets text.old text.new (member_at cat.now q.now (has set.0) c.0)) }
 {
     match classes_of(q).member(c, set) {
         Some(x) => put_column(text, cat, q, x),
@@ -69,7 +66,7 @@ fn put_key(
 ) -> Result<(), Memory>
     requires bound { IsWellBound cat.now q.now }
     requires class { c.0 < length q.now.classes.classes }
-    ensures { OnOk result (text.new.items ≡ text.old.items ++ texts.key_text cat.now q.now (has set.0) c.0) }
+    ensures { OnOk result (Gets text.old text.new (key_text cat.now q.now (has set.0) c.0)) }
 {
     put_member(text, cat, q, set, c)?;
     put_family(text, classes_of(q).family(c))?;
@@ -98,7 +95,7 @@ pub fn put_keys(
 ) -> Result<(), Memory>
     requires bound { IsWellBound cat.now q.now }
     requires classes { All (λ n. n < length q.now.classes.classes) (class_numbers keys.now) }
-    ensures { OnOk result (text.new.items ≡ text.old.items ++ texts.keys_text cat.now q.now (has set.0) (class_numbers keys.now)) }
+    ensures { OnOk result (Gets text.old text.new (key_list cat.now q.now (has set.0) keys.now)) }
 {
     for n in 0..keys.len() {
         put_comma(text, n)?;

@@ -2,17 +2,14 @@
 
 ghost use Rattle.std.specs.Prelude.{◌≡◌, ◌<◌, ◌++◌, ℕ, All, IfOk, OnOk, length};
 ghost use Rattle.catalog.specs.Contents.{IsIndex};
-ghost use Rattle.pathkeys.specs.Keys as keys;
-ghost use Rattle.plan_tree.specs.Costs as costs;
 ghost use Rattle.plan_tree.specs.Costable.{IsCostable};
 ghost use Rattle.plan_tree.specs.Least.{IsAdmissible};
-ghost use Rattle.plan_tree.specs.Plans as plans;
 ghost use Rattle.plan_tree.specs.Views.{path, plan};
 ghost use Rattle.sql_query.specs.Queries.{width};
 ghost use Rattle.sql_query.specs.WellBound.{IsWellBound};
 ghost use Rattle.explain.specs.Lines.{HasLine, HasLines, IsShown};
 ghost use Rattle.explain.specs.Texts as texts;
-ghost use Rattle.explain.specs.Texts.{backward_text, first_depth, numbers_text, scan_name};
+ghost use Rattle.explain.specs.Texts.{Gets, backward_text, first_depth, node_keys, node_line, node_numbers, scan_name, text_at, title, using_text};
 
 use crate::bits::put_bits;
 use crate::figures::numbers;
@@ -38,7 +35,7 @@ fn put_numbers(
     requires bound { IsWellBound cat.now q.now }
     requires costable { IsCostable cat.now q.now (plan p.now) }
     requires admissible { IsAdmissible cat.now q.now (plan p.now) }
-    ensures { OnOk result (text.new.items ≡ text.old.items ++ numbers_text q.now.window (costs.cost cat.now q.now (plan p.now)) (costs.estimate cat.now q.now (plan p.now))) }
+    ensures { OnOk result (Gets text.old text.new (node_numbers cat.now q.now (plan p.now))) }
 {
     let pair = cost(cat, q, p);
     let rows = estimate(cat, q, p);
@@ -58,7 +55,7 @@ fn put_using(
     requires bound { IsWellBound cat.now q.now }
     requires relation { r.0 < width q.now }
     requires index { IsIndex cat.now i }
-    ensures { OnOk result (text.new.items ≡ text.old.items ++ texts.using_text cat.now q.now r i p) }
+    ensures { OnOk result (text.new.items ≡ text.old.items ++ using_text cat.now q.now r i p) }
 {
     text.extend_from_slice(b" using ")?;
     text.extend_from_slice(cat.index_name(i))?;
@@ -68,7 +65,7 @@ fn put_using(
 
 /// Appends to a text the kind of a scan by an index, of that alone or not, and its direction. The error means want of memory.
 pub fn put_scan_name(text: &mut Vec<u8>, only: bool, backward: bool) -> Result<(), Memory>
-    ensures { OnOk result (text.new.items ≡ text.old.items ++ (scan_name only ++ backward_text backward)) }
+    ensures { OnOk result (Gets text.old text.new (scan_name only ++ backward_text backward)) }
 {
     if only {
         text.extend_from_slice(b"Index Only Scan")?;
@@ -92,7 +89,7 @@ fn put_node_keys(
     requires bound { IsWellBound cat.now q.now }
     requires costable { IsCostable cat.now q.now (plan p.now) }
     requires classes { All (λ n. n < length q.now.classes.classes) keys.now }
-    ensures { OnOk result (text.new.items ≡ text.old.items ++ texts.keys_text cat.now q.now (plans.set_of (plan p.now)) keys.now) }
+    ensures { OnOk result (Gets text.old text.new (node_keys cat.now q.now (plan p.now) keys.now)) }
 {
     put_keys(text, cat, q, set_of(p), keys.items())
 }
@@ -101,7 +98,7 @@ fn put_node_keys(
 fn put_title(text: &mut Vec<u8>, cat: &Catalog, q: &Prepared, p: &Plan) -> Result<(), Memory>
     requires bound { IsWellBound cat.now q.now }
     requires line { HasLine cat.now q.now (plan p.now) }
-    ensures { OnOk result (text.new.items ≡ text.old.items ++ texts.title cat.now q.now (plan p.now)) }
+    ensures { OnOk result (text.new.items ≡ text.old.items ++ title cat.now q.now (plan p.now)) }
 {
     match p {
         Plan::Seq { rel } => {
@@ -153,7 +150,7 @@ fn put_line(
 ) -> Result<(), Memory>
     requires bound { IsWellBound cat.now q.now }
     requires line { HasLine cat.now q.now (plan p.now) }
-    ensures { OnOk result (text.new.items ≡ text.old.items ++ texts.node_line cat.now q.now lead.now (plan p.now)) }
+    ensures { OnOk result (Gets text.old text.new (node_line cat.now q.now lead.now (plan p.now))) }
 {
     lead.put(text)?;
     put_title(text, cat, q, p)?;
@@ -171,7 +168,7 @@ fn put_plan(
 ) -> Result<(), Memory>
     requires bound { IsWellBound cat.now q.now }
     requires lines { HasLines cat.now q.now (plan p.now) }
-    ensures { OnOk result (text.new.items ≡ text.old.items ++ texts.text_at cat.now q.now lead.now (plan p.now)) }
+    ensures { OnOk result (Gets text.old text.new (text_at cat.now q.now lead.now (plan p.now))) }
 {
     put_line(alloc, text, cat, q, lead, p)?;
     let below = lead.deeper(alloc)?;
@@ -226,7 +223,7 @@ pub fn plan_text_at(
     requires bound { IsWellBound cat.now q.now }
     requires plan { IsShown cat.now q.now (path p.now).tree }
     requires admissible { IsAdmissible cat.now q.now (path p.now).tree }
-    ensures text { IfOk result (λ text. text ≡ texts.text_at cat.now q.now depth (path p.now).tree) }
+    ensures text { IfOk result (λ text. text ≡ text_at cat.now q.now depth (path p.now).tree) }
 {
     cat.lawful();
     let mut text = Vec::new(alloc);

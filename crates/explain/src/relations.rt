@@ -1,13 +1,12 @@
 //! Relations, indexes and columns by their names.
 
-ghost use Rattle.std.specs.Prelude.{◌≡◌, ◌<◌, ◌≤◌, ◌++◌, ℕ, Bool, List, IfOk, OnOk, codes, cond, map};
+ghost use Rattle.std.specs.Prelude.{◌≡◌, ◌<◌, ◌≤◌, ◌++◌, ℕ, Bool, List, IfOk, OnOk, map};
 ghost use Rattle.pg_base.specs.Sets.{has};
 ghost use Rattle.catalog.specs.Contents.{IsIndex, index_name_at};
 ghost use Rattle.plan_laws.specs.path_cost_Columns.{AreTables};
 ghost use Rattle.sql_query.specs.Queries.{width};
 ghost use Rattle.sql_query.specs.WellBound.{IsColumnOf};
-ghost use Rattle.explain.specs.Texts as texts;
-ghost use Rattle.explain.specs.Texts.{with_commas, relation_text, with_alias};
+ghost use Rattle.explain.specs.Texts.{before_given, column_text, given_list, given_text, rel_text, relation_text, scanned_text, with_alias};
 
 use catalog::Catalog;
 use pg_base::{IndexNo, Memory, RelNo, RelSet};
@@ -36,7 +35,7 @@ pub(crate) fn put_relation(
 ) -> Result<(), Memory>
     requires tables { AreTables cat.now q.now.range }
     requires relation { r.0 < width q.now }
-    ensures { OnOk result (text.new.items ≡ text.old.items ++ texts.rel_text cat.now q.now r) }
+    ensures { OnOk result (text.new.items ≡ text.old.items ++ rel_text cat.now q.now r) }
 {
     let (table, alias) = &range_of(q).items()[r.0 as usize];
     put_names(text, cat.table_name(*table), alias.items())
@@ -44,7 +43,7 @@ pub(crate) fn put_relation(
 
 /// Appends a comma and a space, or the word before the first of the relations that are given.
 fn put_before(text: &mut Vec<u8>, first: bool) -> Result<(), Memory>
-    ensures { OnOk result (text.new.items ≡ text.old.items ++ cond first (codes " for ") (codes ", ")) }
+    ensures { OnOk result (text.new.items ≡ text.old.items ++ before_given first) }
 {
     if first {
         text.extend_from_slice(b" for ")
@@ -56,7 +55,8 @@ fn put_before(text: &mut Vec<u8>, first: bool) -> Result<(), Memory>
 /// Appends an alias where its relation is given, and says whether the next one is still the first.
 fn put_alias(text: &mut Vec<u8>, alias: &[u8], is: bool, first: bool) -> Result<bool, Memory>
     ensures { IfOk result (λ still. (xs : List (List ℕ)) →
-        text.new.items ++ with_commas (cond still (codes " for ") (codes ", ")) xs ≡ text.old.items ++ with_commas (cond first (codes " for ") (codes ", ")) (with_alias is alias.now xs)) }
+        text.new.items ++ given_list still xs ≡
+        text.old.items ++ given_list first (with_alias is alias.now xs)) }
 {
     if !is {
         return Ok(first);
@@ -69,7 +69,7 @@ fn put_alias(text: &mut Vec<u8>, alias: &[u8], is: bool, first: bool) -> Result<
 /// Appends the relations of a set, in FROM order, whose rows a scan is given.
 fn put_given(text: &mut Vec<u8>, q: &Prepared, p: RelSet) -> Result<(), Memory>
     requires few { width q.now ≤ 16 }
-    ensures { OnOk result (text.new.items ≡ text.old.items ++ texts.given_text q.now.range p) }
+    ensures { OnOk result (text.new.items ≡ text.old.items ++ given_text q.now.range p) }
 {
     let relations = range_of(q).items();
     let mut first = true;
@@ -91,7 +91,7 @@ pub(crate) fn put_scanned(
     requires tables { AreTables cat.now q.now.range }
     requires few { width q.now ≤ 16 }
     requires relation { r.0 < width q.now }
-    ensures { OnOk result (text.new.items ≡ text.old.items ++ texts.scanned_text cat.now q.now r p) }
+    ensures { OnOk result (text.new.items ≡ text.old.items ++ scanned_text cat.now q.now r p) }
 {
     put_relation(text, cat, q, r)?;
     put_given(text, q, p)
@@ -106,7 +106,7 @@ pub(crate) fn put_column(
 ) -> Result<(), Memory>
     requires tables { AreTables cat.now q.now.range }
     requires column { IsColumnOf cat.now q.now.range x }
-    ensures { OnOk result (text.new.items ≡ text.old.items ++ texts.column_text cat.now q.now x) }
+    ensures { OnOk result (text.new.items ≡ text.old.items ++ column_text cat.now q.now x) }
 {
     let (table, alias) = &range_of(q).items()[x.rel.0 as usize];
     text.extend_from_slice(alias.items())?;

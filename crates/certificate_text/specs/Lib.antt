@@ -12,4 +12,5 @@ pub use Rattle.plan_check.specs.Limit as plan_check_Limit
 pub use Rattle.plan_check.specs.Tables as plan_check_Tables
 pub use Rattle.plan_check.specs.Views as plan_check_Views
 pub use Rattle.plan_check.specs.declared.entry.Node as plan_check_entry_Node
+pub use Rattle.plan_check.specs.declared.entry.Side as plan_check_entry_Side
 pub use Rattle.plan_tree.specs.Plans as plan_tree_Plans

@@ -1,6 +1,6 @@
 -- The text of a certificate: a line for each entry, and one for the best plan. Own; it is written and read by the same
 -- words.
-use Rattle.std.specs.Prelude.{ℕ, suc, ◌+◌, ◌==◌, Bool, true, false, not, cond, List, [], ◌∷◌, ◌++◌, codes, map, slice_get, Option, Some, None}
+use Rattle.std.specs.Prelude.{ℕ, suc, ◌+◌, ◌==◌, Bool, true, false, not, cond, List, [], ◌∷◌, ◌++◌, codes, map, Option, Some, None}
 use Rattle.std.specs.Fmt.{decimal}
 use Rattle.std.specs.List.{list_all}
 use Rattle.pg_base.specs.Sets.{has}
@@ -11,8 +11,16 @@ use Rattle.cost_rules.specs.Costs.{pair}
 use Rattle.sql_query.specs.Queries.{Query}
 use Rattle.sql_query.specs.declared.window.Window.{Window}
 use Rattle.plan_tree.specs.Plans.{BitTree, leaf, all_hold, some_arm, BitTrees, no_trees, tree_and, is_empty}
-use Rattle.explain.specs.Texts.{aliases_in, backward_text, conjunct_by, cost_text, keys_text, number_text, scan_name, with_commas}
+use Rattle.eq_classes.specs.Clauses.{Set}
+use Rattle.explain.specs.Texts.{aliases_in, backward_text, conjunct_text, cost_text, keys_text, scan_name, with_commas}
+use Rattle.plan_check.specs.Views.{entry, node}
+use Rattle.plan_check.specs.declared.entry.Entry.{Entry as Entered}
+use Rattle.plan_check.specs.declared.entry.Node.{Node as Noded}
 use Rattle.plan_check.specs.Certificates.{Side, Node, by_seq, by_index, by_index_only, by_bitmap, by_nest, by_merge, Entry, Certificate}
+
+-- nothing before the first of texts in a row, a comma alone before each other one
+abbrev pub bare_comma : Bool → List ℕ
+bare_comma first = cond first [] (codes ",")
 
 -- texts in a row: the first behind a text of its own, each other one behind a comma alone
 abbrev pub with_bare_commas : List ℕ → List (List ℕ) → List ℕ
@@ -23,9 +31,13 @@ with_bare_commas before (x ∷ xs) = before ++ (x ++ with_bare_commas (codes ","
 abbrev pub side_text : Side → List ℕ
 side_text s = cond s.sorted (codes "sort ") [] ++ decimal s.entry
 
+-- two numbers in a row
+abbrev pub two_numbers : ℕ → ℕ → List ℕ
+two_numbers first second = decimal first ++ (codes " " ++ decimal second)
+
 -- the two sides of a nested loop
 abbrev pub nest_text : ℕ → ℕ → List ℕ
-nest_text outer inner = codes "Nested Loop " ++ (decimal outer ++ (codes " " ++ decimal inner))
+nest_text outer inner = codes "Nested Loop " ++ two_numbers outer inner
 
 -- the two sides of a merge
 abbrev pub sides_text : Side → Side → List ℕ
@@ -49,9 +61,13 @@ abbrev pub best_line : Side → List ℕ
 best_line s = codes "best " ++ side_text s
 
 module _ (q : Query) where
-  -- the aliases of a set, in FROM order
+  -- the aliases of the relations of a set, in FROM order
+  abbrev pub alias_list : Set → List ℕ
+  alias_list s = with_bare_commas [] (aliases_in 0 s q.range)
+
+  -- a set by them
   abbrev pub set_text : RelSet → List ℕ
-  set_text s = codes "{" ++ (with_bare_commas [] (aliases_in 0 (has s.0) q.range) ++ codes "}")
+  set_text s = codes "{" ++ (alias_list (has s.0) ++ codes "}")
 
   -- a parameterisation, where there is one
   abbrev pub param_text : RelSet → List ℕ
@@ -66,10 +82,14 @@ module _ (c : Contents) where
   abbrev pub leaf_text : IndexNo → List ℕ
   leaf_text i = codes "Index " ++ index_name_at c i
 
+  -- the entries of some indexes
+  abbrev pub leaf_texts : List IndexNo → List ℕ
+  leaf_texts is = with_commas [] (map leaf_text is)
+
 module _ (c : Contents) (q : Query) where
   -- an OR by the number of its conjunct, with an index for each arm
   abbrev pub or_text : ℕ → List IndexNo → List ℕ
-  or_text n is = codes "Or " ++ (number_text (conjunct_by (slice_get q.classes.clauses n)) ++ (codes "(" ++ (with_commas [] (map (leaf_text c) is) ++ codes ")")))
+  or_text n is = codes "Or " ++ (conjunct_text q n ++ (codes "(" ++ (leaf_texts c is ++ codes ")")))
 
   -- a bitmap tree in one line
   abbrev mutual
@@ -82,6 +102,10 @@ module _ (c : Contents) (q : Query) where
     tree_texts no_trees = []
     tree_texts (tree_and b bs) = tree_text b ∷ tree_texts bs
 
+  -- the parts of an AND in a row
+  abbrev pub tree_list : BitTrees → List ℕ
+  tree_list bs = with_commas [] (tree_texts bs)
+
   -- what an entry of a set is
   abbrev pub node_text : RelSet → Node → List ℕ
   node_text s by_seq = codes "Seq Scan"
@@ -90,6 +114,10 @@ module _ (c : Contents) (q : Query) where
   node_text s (by_bitmap bits) = codes "Bitmap Heap Scan " ++ tree_text bits
   node_text s (by_nest a b) = nest_text a b
   node_text s (by_merge keys a b) = codes "Merge Join by " ++ (keys_text c q (has s.0) keys ++ sides_text a b)
+
+  -- the same of what an entry of the program is
+  abbrev pub node_words : RelSet → Noded → List ℕ
+  node_words s n = node_text s (node n)
 
   -- an entry's set, its parameterisation and what it is
   abbrev pub made_text : Entry → List ℕ
@@ -108,10 +136,18 @@ module _ (c : Contents) (q : Query) where
   abbrev pub entry_line : ℕ → Entry → List ℕ
   entry_line n e = decimal n ++ (codes " " ++ entry_text e)
 
+  -- the same with LF
+  abbrev pub ended_line : ℕ → Entry → List ℕ
+  ended_line n e = ended (entry_line n e)
+
   -- the lines of entries from a number on, each ended by LF
   abbrev pub entries_text : ℕ → List Entry → List ℕ
   entries_text n [] = []
-  entries_text n (e ∷ es) = ended (entry_line n e) ++ entries_text (n + 1) es
+  entries_text n (e ∷ es) = ended_line n e ++ entries_text (n + 1) es
+
+  -- the lines of the program's entries, from 1 on
+  abbrev pub written_entries : List Entered → List ℕ
+  written_entries es = entries_text 1 (map entry es)
 
   -- the text of a certificate
   abbrev pub certificate_text : Certificate → List ℕ

@@ -1,11 +1,11 @@
 //! Bitmap trees in one line.
 
-ghost use Rattle.std.specs.Prelude.{◌≡◌, ◌++◌, [], All, OnOk, codes, cond, map};
+ghost use Rattle.std.specs.Prelude.{◌≡◌, ◌++◌, [], All, OnOk, codes, cond};
 ghost use Rattle.catalog.specs.Contents.{IsIndex};
-ghost use Rattle.explain.specs.Texts.{with_commas};
+ghost use Rattle.explain.specs.Texts.{Gets};
 ghost use Rattle.plan_tree.specs.Views.{bits, bits_all};
 ghost use Rattle.certificate_text.specs.HasText.{HasBitsText, HasElementText, HaveElementTexts};
-ghost use Rattle.certificate_text.specs.Texts as texts;
+ghost use Rattle.certificate_text.specs.Texts.{leaf_text, leaf_texts, or_text, tree_list, tree_text};
 
 use catalog::Catalog;
 use explain::{conjunct_of, put_conjunct};
@@ -27,7 +27,7 @@ fn put_comma(text: &mut Vec<u8>, first: bool) -> Result<(), Memory>
 /// Appends the entries of an index.
 fn put_leaf(text: &mut Vec<u8>, cat: &Catalog, i: IndexNo) -> Result<(), Memory>
     requires index { IsIndex cat.now i }
-    ensures { OnOk result (text.new.items ≡ text.old.items ++ texts.leaf_text cat.now i) }
+    ensures { OnOk result (text.new.items ≡ text.old.items ++ leaf_text cat.now i) }
 {
     text.extend_from_slice(b"Index ")?;
     text.extend_from_slice(cat.index_name(i))?;
@@ -37,7 +37,7 @@ fn put_leaf(text: &mut Vec<u8>, cat: &Catalog, i: IndexNo) -> Result<(), Memory>
 /// Appends the entries of some indexes.
 fn put_leaves(text: &mut Vec<u8>, cat: &Catalog, indexes: &[IndexNo]) -> Result<(), Memory>
     requires indexes { All (IsIndex cat.now) indexes.now }
-    ensures { OnOk result (text.new.items ≡ text.old.items ++ with_commas [] (map (texts.leaf_text cat.now) indexes.now)) }
+    ensures { OnOk result (text.new.items ≡ text.old.items ++ leaf_texts cat.now indexes.now) }
 {
     let mut first = true;
     for i in indexes {
@@ -58,7 +58,7 @@ fn put_or(
     indexes: &[IndexNo],
 ) -> Result<(), Memory>
     requires indexes { All (IsIndex cat.now) indexes.now }
-    ensures { OnOk result (text.new.items ≡ text.old.items ++ texts.or_text cat.now q.now n indexes.now) }
+    ensures { OnOk result (text.new.items ≡ text.old.items ++ or_text cat.now q.now n indexes.now) }
 {
     text.extend_from_slice(b"Or ")?;
     put_conjunct(alloc, text, conjunct_of(q, n))?;
@@ -76,7 +76,7 @@ fn put_element(
     tree: &BitTree,
 ) -> Result<(), Memory>
     requires element { HasElementText cat.now q.now (bits tree.now) }
-    ensures { OnOk result (text.new.items ≡ text.old.items ++ texts.tree_text cat.now q.now (bits tree.now)) }
+    ensures { OnOk result (Gets text.old text.new (tree_text cat.now q.now (bits tree.now))) }
 {
     match tree {
         BitTree::Leaf(i) => put_leaf(text, cat, *i),
@@ -94,7 +94,7 @@ fn put_elements(
     trees: &[BitTree],
 ) -> Result<(), Memory>
     requires elements { HaveElementTexts cat.now q.now (bits_all trees.now) }
-    ensures { OnOk result (text.new.items ≡ text.old.items ++ with_commas [] (texts.tree_texts cat.now q.now (bits_all trees.now))) }
+    ensures { OnOk result (Gets text.old text.new (tree_list cat.now q.now (bits_all trees.now))) }
 {
     let mut first = true;
     for tree in trees {
@@ -114,7 +114,7 @@ pub(crate) fn put_bits(
     tree: &BitTree,
 ) -> Result<(), Memory>
     requires tree { HasBitsText cat.now q.now (bits tree.now) }
-    ensures { OnOk result (text.new.items ≡ text.old.items ++ texts.tree_text cat.now q.now (bits tree.now)) }
+    ensures { OnOk result (Gets text.old text.new (tree_text cat.now q.now (bits tree.now))) }
 {
     match tree {
         BitTree::Leaf(i) => put_leaf(text, cat, *i),

@@ -1,10 +1,10 @@
 //! The bytes of a line that are left.
 
-ghost use Rattle.std.specs.Prelude.{◌≡◌, ◌↔◌, ◌<◌, ◌≤◌, ◌+◌, ◌^◌, ◌++◌, ℕ, List, IfSome, IsTrue, Some, false, length, true};
+ghost use Rattle.std.specs.Prelude.{◌≡◌, ◌↔◌, ◌<◌, ◌≤◌, ◌+◌, ◌^◌, ◌++◌, ℕ, List, IfSome, IsTrue, false, length, true};
 ghost use Rattle.std.specs.Fmt.{decimal};
 ghost use Rattle.std.specs.List.{list_all};
 ghost use Rattle.pg_base.specs.Names.{is_in_name};
-ghost use Rattle.certificate_text.specs.Words.{below_end, has_leading_zero, number_written, stops, word_end};
+ghost use Rattle.certificate_text.specs.Words.{IsNextNumber, IsNextWord, PassesOver, below_end, has_leading_zero, number_written, stops, word_end};
 
 use pg_value::read_digits;
 use std::marker::Model;
@@ -91,7 +91,7 @@ impl<'a> LineCursor<'a> {
 
     /// Passes over these bytes where they come next. Where they do not, it says so, and nothing is passed over.
     pub fn eat(&mut self, wanted: &[u8]) -> bool
-        ensures took { (rest : List ℕ) → self.old ≡ wanted.now ++ rest → (result ≡ true) × (self.new ≡ rest) }
+        ensures took { PassesOver wanted.now self.old self.new result }
         ensures left { result ≡ false → self.new ≡ self.old }
         ensures is { result ≡ true → self.old ≡ wanted.now ++ self.new }
         ensures shorter { length self.new ≤ length self.old }
@@ -111,8 +111,7 @@ impl<'a> LineCursor<'a> {
         ensures split { self.old ≡ result.now ++ self.new }
         ensures word { list_all is_in_name result.now ≡ true }
         ensures stops { stops self.new ≡ true }
-        ensures only { (w : List ℕ) (rest : List ℕ) → self.old ≡ w ++ rest → list_all is_in_name w ≡ true → stops rest ≡ true →
-            (result.now ≡ w) × (self.new ≡ rest) }
+        ensures only { IsNextWord self.old self.new result.now }
         ensures shorter { length self.new ≤ length self.old }
     {
         let left = self.left;
@@ -125,8 +124,7 @@ impl<'a> LineCursor<'a> {
     /// written, without a leading zero.
     pub fn number(&mut self) -> Option<u64>
         ensures is { IfSome result (λ n. (n < 10 ^ 19) × (self.old ≡ decimal n ++ self.new)) }
-        ensures only { (n : ℕ) (rest : List ℕ) → n < 10 ^ 19 → self.old ≡ decimal n ++ rest → stops rest ≡ true →
-            (result ≡ Some n) × (self.new ≡ rest) }
+        ensures only { IsNextNumber self.old self.new result }
         ensures shorter { length self.new ≤ length self.old }
     {
         number_of(self.word())

@@ -4,13 +4,13 @@ ghost use Rattle.std.specs.Prelude.{◌≡◌, ◌≤◌, ◌++◌, All, IfOk, O
 ghost use Rattle.std.specs.Fmt.{decimal};
 ghost use Rattle.pg_base.specs.Sets.{has};
 ghost use Rattle.cost_rules.specs.Costs.{pair};
-ghost use Rattle.explain.specs.Texts.{cost_text};
+ghost use Rattle.explain.specs.Texts.{Gets, cost_text};
 ghost use Rattle.sql_query.specs.Queries.{width};
 ghost use Rattle.sql_query.specs.WellBound.{IsWellBound};
 ghost use Rattle.plan_check.specs.Limit.{MOST_ENTRIES};
 ghost use Rattle.plan_check.specs.Views.{certificate, entry, side};
 ghost use Rattle.certificate_text.specs.HasText.{HasEntryLine, HasText};
-ghost use Rattle.certificate_text.specs.Texts as texts;
+ghost use Rattle.certificate_text.specs.Texts.{best_line, certificate_text, ended, ended_line, entry_line, head_text, made_text, measures_text, written_entries};
 
 use crate::nodes::{put_node, put_number, put_side};
 use crate::sets::{put_param, put_set};
@@ -30,7 +30,7 @@ fn put_cost(
     startup: u64,
     total: u64,
 ) -> Result<(), Memory>
-    ensures { OnOk result (text.new.items ≡ text.old.items ++ cost_text q.now.window (pair startup total)) }
+    ensures { OnOk result (Gets text.old text.new (cost_text q.now.window (pair startup total))) }
 {
     match q.window {
         None => put_number(alloc, text, total),
@@ -53,7 +53,7 @@ fn put_plan(
     requires bound { IsWellBound cat.now q.now }
     requires few { width q.now ≤ 16 }
     requires line { HasEntryLine cat.now q.now (entry e.now) }
-    ensures { OnOk result (text.new.items ≡ text.old.items ++ texts.made_text cat.now q.now (entry e.now)) }
+    ensures { OnOk result (Gets text.old text.new (made_text cat.now q.now (entry e.now))) }
 {
     put_set(text, q, e.set)?;
     put_param(text, q, e.param)?;
@@ -71,7 +71,7 @@ fn put_numbers(
 ) -> Result<(), Memory>
     requires bound { IsWellBound cat.now q.now }
     requires line { HasEntryLine cat.now q.now (entry e.now) }
-    ensures { OnOk result (text.new.items ≡ text.old.items ++ texts.measures_text cat.now q.now (entry e.now)) }
+    ensures { OnOk result (Gets text.old text.new (measures_text cat.now q.now (entry e.now))) }
 {
     text.extend_from_slice(b" cost=")?;
     put_cost(alloc, text, q, e.startup, e.cost)?;
@@ -94,7 +94,7 @@ fn put_line(
     requires bound { IsWellBound cat.now q.now }
     requires few { width q.now ≤ 16 }
     requires line { HasEntryLine cat.now q.now (entry e.now) }
-    ensures { OnOk result (text.new.items ≡ text.old.items ++ texts.entry_line cat.now q.now n (entry e.now)) }
+    ensures { OnOk result (Gets text.old text.new (entry_line cat.now q.now n (entry e.now))) }
 {
     put_number(alloc, text, n)?;
     text.extend_from_slice(b" ")?;
@@ -114,7 +114,7 @@ fn put_entry(
     requires bound { IsWellBound cat.now q.now }
     requires few { width q.now ≤ 16 }
     requires line { HasEntryLine cat.now q.now (entry e.now) }
-    ensures { OnOk result (text.new.items ≡ text.old.items ++ texts.ended (texts.entry_line cat.now q.now n (entry e.now))) }
+    ensures { OnOk result (Gets text.old text.new (ended_line cat.now q.now n (entry e.now))) }
 {
     put_line(alloc, text, cat, q, n, e)?;
     text.extend_from_slice(b"\n")
@@ -132,7 +132,7 @@ fn put_entries(
     requires few { width q.now ≤ 16 }
     requires numbers { length entries.now ≤ MOST_ENTRIES }
     requires lines { All (HasEntryLine cat.now q.now) (map entry entries.now) }
-    ensures { OnOk result (text.new.items ≡ text.old.items ++ texts.entries_text cat.now q.now 1 (map entry entries.now)) }
+    ensures { OnOk result (Gets text.old text.new (written_entries cat.now q.now entries.now)) }
 {
     for n in 0..entries.len() {
         put_entry(alloc, text, cat, q, n as u64 + 1, &entries[n])?;
@@ -142,7 +142,7 @@ fn put_entries(
 
 /// Appends the line of the best plan, without its LF.
 fn put_best(alloc: Global, text: &mut Vec<u8>, best: Side) -> Result<(), Memory>
-    ensures { OnOk result (text.new.items ≡ text.old.items ++ texts.best_line (side best)) }
+    ensures { OnOk result (text.new.items ≡ text.old.items ++ best_line (side best)) }
 {
     text.extend_from_slice(b"best ")?;
     put_side(alloc, text, best)
@@ -150,7 +150,7 @@ fn put_best(alloc: Global, text: &mut Vec<u8>, best: Side) -> Result<(), Memory>
 
 /// Appends the line of the best plan, with its LF.
 fn put_last(alloc: Global, text: &mut Vec<u8>, best: Side) -> Result<(), Memory>
-    ensures { OnOk result (text.new.items ≡ text.old.items ++ texts.ended (texts.best_line (side best))) }
+    ensures { OnOk result (text.new.items ≡ text.old.items ++ ended (best_line (side best))) }
 {
     put_best(alloc, text, best)?;
     text.extend_from_slice(b"\n")
@@ -167,7 +167,7 @@ pub fn entry_line(
 ) -> Result<Bytes, Memory>
     requires bound { IsWellBound cat.now q.now }
     requires line { HasEntryLine cat.now q.now (entry e.now) }
-    ensures line { IfOk result (λ text. text ≡ texts.entry_line cat.now q.now n (entry e.now)) }
+    ensures line { IfOk result (λ text. text ≡ entry_line cat.now q.now n (entry e.now)) }
 {
     let mut text = Vec::new(alloc);
     put_line(alloc, &mut text, cat, q, n, e)?;
@@ -176,7 +176,7 @@ pub fn entry_line(
 
 /// The line of the best plan, without its LF. The error means want of memory.
 pub fn best_line(alloc: Global, best: Side) -> Result<Bytes, Memory>
-    ensures line { IfOk result (λ text. text ≡ texts.best_line (side best)) }
+    ensures line { IfOk result (λ text. text ≡ best_line (side best)) }
 {
     let mut text = Vec::new(alloc);
     put_best(alloc, &mut text, best)?;
@@ -185,7 +185,7 @@ pub fn best_line(alloc: Global, best: Side) -> Result<Bytes, Memory>
 
 /// Appends the first line of a certificate of a query with a window.
 fn put_head(text: &mut Vec<u8>, q: &Prepared) -> Result<(), Memory>
-    ensures { OnOk result (text.new.items ≡ text.old.items ++ texts.head_text q.now.window) }
+    ensures { OnOk result (text.new.items ≡ text.old.items ++ head_text q.now.window) }
 {
     match q.window {
         None => Ok(()),
@@ -205,7 +205,7 @@ pub fn certificate_text(
 ) -> Result<Bytes, Memory>
     requires bound { IsWellBound cat.now q.now }
     requires has { HasText cat.now q.now (certificate t.now) }
-    ensures text { IfOk result (λ text. text ≡ texts.certificate_text cat.now q.now (certificate t.now)) }
+    ensures text { IfOk result (λ text. text ≡ certificate_text cat.now q.now (certificate t.now)) }
 {
     let mut text = Vec::new(alloc);
     put_head(&mut text, q)?;

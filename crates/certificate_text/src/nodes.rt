@@ -5,10 +5,12 @@ ghost use Rattle.std.specs.Fmt.{decimal};
 ghost use Rattle.std.specs.String.{string_bytes};
 ghost use Rattle.pg_base.specs.Sets.{has};
 ghost use Rattle.catalog.specs.Contents.{IsIndex};
+ghost use Rattle.explain.specs.Texts.{Gets};
 ghost use Rattle.sql_query.specs.WellBound.{IsWellBound};
 ghost use Rattle.plan_check.specs.Views as views;
+ghost use Rattle.plan_check.specs.Views.{side};
 ghost use Rattle.certificate_text.specs.HasText.{HasNodeText};
-ghost use Rattle.certificate_text.specs.Texts as texts;
+ghost use Rattle.certificate_text.specs.Texts.{by_index_text, nest_text, node_words, side_text, sides_text, two_numbers};
 
 use crate::bits::put_bits;
 use catalog::Catalog;
@@ -39,7 +41,7 @@ fn put_sort(text: &mut Vec<u8>, sort: bool) -> Result<(), Memory>
 
 /// Appends an entry by its number, as it stands or sorted.
 pub(crate) fn put_side(alloc: Global, text: &mut Vec<u8>, s: Side) -> Result<(), Memory>
-    ensures { OnOk result (text.new.items ≡ text.old.items ++ texts.side_text (views.side s)) }
+    ensures { OnOk result (text.new.items ≡ text.old.items ++ side_text (side s)) }
 {
     put_sort(text, s.sort)?;
     put_number(alloc, text, u64::from(s.entry))
@@ -54,7 +56,7 @@ fn put_index(
     backward: bool,
 ) -> Result<(), Memory>
     requires index { IsIndex cat.now i }
-    ensures { OnOk result (text.new.items ≡ text.old.items ++ texts.by_index_text cat.now only i backward) }
+    ensures { OnOk result (Gets text.old text.new (by_index_text cat.now only i backward)) }
 {
     put_scan_name(text, only, backward)?;
     text.extend_from_slice(b" using ")?;
@@ -64,7 +66,7 @@ fn put_index(
 
 /// Appends two numbers.
 fn put_two(alloc: Global, text: &mut Vec<u8>, first: u32, second: u32) -> Result<(), Memory>
-    ensures { OnOk result (text.new.items ≡ text.old.items ++ (decimal first ++ (codes " " ++ decimal second))) }
+    ensures { OnOk result (text.new.items ≡ text.old.items ++ two_numbers first second) }
 {
     put_number(alloc, text, u64::from(first))?;
     text.extend_from_slice(b" ")?;
@@ -73,7 +75,7 @@ fn put_two(alloc: Global, text: &mut Vec<u8>, first: u32, second: u32) -> Result
 
 /// Appends a nested loop.
 fn put_nest(alloc: Global, text: &mut Vec<u8>, outer: u32, inner: u32) -> Result<(), Memory>
-    ensures { OnOk result (text.new.items ≡ text.old.items ++ texts.nest_text outer inner) }
+    ensures { OnOk result (text.new.items ≡ text.old.items ++ nest_text outer inner) }
 {
     text.extend_from_slice(b"Nested Loop ")?;
     put_two(alloc, text, outer, inner)
@@ -81,7 +83,7 @@ fn put_nest(alloc: Global, text: &mut Vec<u8>, outer: u32, inner: u32) -> Result
 
 /// Appends the sides of a merge.
 fn put_sides(alloc: Global, text: &mut Vec<u8>, outer: Side, inner: Side) -> Result<(), Memory>
-    ensures { OnOk result (text.new.items ≡ text.old.items ++ texts.sides_text (views.side outer) (views.side inner)) }
+    ensures { OnOk result (Gets text.old text.new (sides_text (side outer) (side inner))) }
 {
     text.extend_from_slice(b" ")?;
     put_side(alloc, text, outer)?;
@@ -100,7 +102,7 @@ pub(crate) fn put_node(
 ) -> Result<(), Memory>
     requires bound { IsWellBound cat.now q.now }
     requires node { HasNodeText cat.now q.now (has set.0) (views.node node.now) }
-    ensures { OnOk result (text.new.items ≡ text.old.items ++ texts.node_text cat.now q.now set (views.node node.now)) }
+    ensures { OnOk result (Gets text.old text.new (node_words cat.now q.now set node.now)) }
 {
     match node {
         Node::Seq => text.extend_from_slice(b"Seq Scan"),

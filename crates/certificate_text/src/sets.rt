@@ -1,11 +1,10 @@
 //! Sets of relations by their aliases.
 
-ghost use Rattle.std.specs.Prelude.{◌≡◌, ◌≤◌, ◌++◌, ℕ, List, [], IfOk, OnOk, codes, cond};
+ghost use Rattle.std.specs.Prelude.{◌≡◌, ◌≤◌, ◌++◌, ℕ, List, IfOk, OnOk};
 ghost use Rattle.pg_base.specs.Sets.{has};
-ghost use Rattle.explain.specs.Texts.{aliases_in, with_alias};
+ghost use Rattle.explain.specs.Texts.{with_alias};
 ghost use Rattle.sql_query.specs.Queries.{width};
-ghost use Rattle.certificate_text.specs.Texts as texts;
-ghost use Rattle.certificate_text.specs.Texts.{with_bare_commas};
+ghost use Rattle.certificate_text.specs.Texts.{alias_list, bare_comma, param_text, set_text, with_bare_commas};
 
 use pg_base::{Memory, RelNo, RelSet};
 use plan_tree::range_of;
@@ -13,7 +12,7 @@ use sql_query::Prepared;
 
 /// Appends a comma, where something stands before.
 fn put_before(text: &mut Vec<u8>, first: bool) -> Result<(), Memory>
-    ensures { OnOk result (text.new.items ≡ text.old.items ++ cond first [] (codes ",")) }
+    ensures { OnOk result (text.new.items ≡ text.old.items ++ bare_comma first) }
 {
     if !first {
         text.push(b',')?;
@@ -24,7 +23,8 @@ fn put_before(text: &mut Vec<u8>, first: bool) -> Result<(), Memory>
 /// Appends an alias where its relation is in the set, and says whether the next one is still the first.
 fn put_alias(text: &mut Vec<u8>, alias: &[u8], is: bool, first: bool) -> Result<bool, Memory>
     ensures { IfOk result (λ still. (xs : List (List ℕ)) →
-        text.new.items ++ with_bare_commas (cond still [] (codes ",")) xs ≡ text.old.items ++ with_bare_commas (cond first [] (codes ",")) (with_alias is alias.now xs)) }
+        text.new.items ++ with_bare_commas (bare_comma still) xs ≡
+        text.old.items ++ with_bare_commas (bare_comma first) (with_alias is alias.now xs)) }
 {
     if !is {
         return Ok(first);
@@ -37,7 +37,7 @@ fn put_alias(text: &mut Vec<u8>, alias: &[u8], is: bool, first: bool) -> Result<
 /// Appends the aliases of a set, in FROM order.
 fn put_aliases(text: &mut Vec<u8>, q: &Prepared, s: RelSet) -> Result<(), Memory>
     requires few { width q.now ≤ 16 }
-    ensures { OnOk result (text.new.items ≡ text.old.items ++ with_bare_commas [] (aliases_in 0 (has s.0) q.now.range)) }
+    ensures { OnOk result (text.new.items ≡ text.old.items ++ alias_list q.now (has s.0)) }
 {
     let relations = range_of(q).items();
     let mut first = true;
@@ -51,7 +51,7 @@ fn put_aliases(text: &mut Vec<u8>, q: &Prepared, s: RelSet) -> Result<(), Memory
 /// Appends a set.
 pub(crate) fn put_set(text: &mut Vec<u8>, q: &Prepared, s: RelSet) -> Result<(), Memory>
     requires few { width q.now ≤ 16 }
-    ensures { OnOk result (text.new.items ≡ text.old.items ++ texts.set_text q.now s) }
+    ensures { OnOk result (text.new.items ≡ text.old.items ++ set_text q.now s) }
 {
     text.extend_from_slice(b"{")?;
     put_aliases(text, q, s)?;
@@ -61,7 +61,7 @@ pub(crate) fn put_set(text: &mut Vec<u8>, q: &Prepared, s: RelSet) -> Result<(),
 /// Appends a parameterisation, where there is one.
 pub(crate) fn put_param(text: &mut Vec<u8>, q: &Prepared, p: RelSet) -> Result<(), Memory>
     requires few { width q.now ≤ 16 }
-    ensures { OnOk result (text.new.items ≡ text.old.items ++ texts.param_text q.now p) }
+    ensures { OnOk result (text.new.items ≡ text.old.items ++ param_text q.now p) }
 {
     if p.0 == 0 {
         return Ok(());

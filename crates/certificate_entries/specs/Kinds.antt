@@ -24,6 +24,10 @@ words kinds.Bitmap = codes "Bitmap Heap Scan "
 words kinds.Nest = codes "Nested Loop "
 words kinds.Merge = codes "Merge Join by "
 
+-- the kind whose words are next is read, and what follows is left
+abbrev pub ReadsKind : List ℕ → List ℕ → Option Kind → Type 0
+ReadsKind old new result = (k : Kind) (rest : List ℕ) → old ≡ words k ++ rest → (result ≡ Some k) × (new ≡ rest)
+
 -- the kind of an entry: which scan or join it is
 abbrev pub kind_of : Node → Kind
 kind_of by_seq = kinds.Seq

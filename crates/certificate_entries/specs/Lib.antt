@@ -1,7 +1,11 @@
 pub mod Kinds
 pub mod Reading
 pub mod Parts
+pub mod Figures
 pub mod Scans
+pub mod Trees
+pub mod Sets
+pub mod Nodes
 pub mod Keys
 -- What callers name of the crates below.
 pub use Rattle.certificate_text.specs.HasText as certificate_text_HasText

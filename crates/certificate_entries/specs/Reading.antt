@@ -17,7 +17,15 @@ pub record IsBestRead (line : List ℕ) (s : Side) : Type 0 where
   pub is : line ≡ best_line s
   pub only : (o : Side) → IsEntryNumber o.entry → line ≡ best_line o → o ≡ s
 
+-- the line is that of no best plan
+abbrev pub IsNoBestLine : List ℕ → Type 0
+IsNoBestLine line = (s : Side) → IsEntryNumber s.entry → ¬ (line ≡ best_line s)
+
 module _ (c : Contents) (q : Query) where
+  -- the line is that of no entry with a number
+  abbrev pub IsNoEntryLine : ℕ → List ℕ → Type 0
+  IsNoEntryLine n line = (e : Entry) → HasEntryLine c q e → ¬ (line ≡ entry_line c q n e)
+
   -- the line is that of an entry with a number, and of no other one
   pub record IsEntryRead (n : ℕ) (line : List ℕ) (e : Entry) : Type 0 where
     pub has : HasEntryLine c q e
@@ -26,8 +34,8 @@ module _ (c : Contents) (q : Query) where
 
   -- no entry has the line with this number, and no best plan has it
   pub record IsBad (n : ℕ) (line : List ℕ) : Type 0 where
-    pub entry : (e : Entry) → HasEntryLine c q e → ¬ (line ≡ entry_line c q n e)
-    pub best : (s : Side) → IsEntryNumber s.entry → ¬ (line ≡ best_line s)
+    pub entry : IsNoEntryLine n line
+    pub best : IsNoBestLine line
 
   -- a line is read as the entry of a number, or as the best plan, that has it; a bad line is that of neither. Want of memory
   -- says nothing

@@ -1,13 +1,11 @@
 //! Bitmap trees.
 
-ghost use Rattle.std.specs.Prelude.{◌≡◌, ◌≤◌, ◌++◌, [], ℕ, List, IfOk, IfSome, Some, codes, length, option_map};
-ghost use Rattle.certificate_text.specs.explain_Texts.{with_commas};
+ghost use Rattle.std.specs.Prelude.{◌≤◌, IfOk, IfSome, length, option_map};
 ghost use Rattle.plan_tree.specs.Plans as trees;
 ghost use Rattle.plan_tree.specs.Views.{bits};
 ghost use Rattle.sql_query.specs.WellBound.{IsWellBound};
 ghost use Rattle.certificate_text.specs.HasText.{HasBitsText};
-ghost use Rattle.certificate_text.specs.Texts.{tree_text, tree_texts};
-ghost use Rattle.certificate_entries.specs.Parts.{Reads};
+ghost use Rattle.certificate_entries.specs.Trees.{ReadsParts, ReadsTree};
 
 use crate::elements::{read_element, read_elements};
 use catalog::Catalog;
@@ -26,8 +24,7 @@ fn read_and(
 ) -> Result<Option<BitTree>, Memory>
     requires bound { IsWellBound cat.now q.now }
     ensures has { IfOk result (λ o. IfSome o (λ b. HasBitsText cat.now q.now (bits b))) }
-    ensures only { IfOk result (λ o. (bs : trees.BitTrees) (rest : List ℕ) → HasBitsText cat.now q.now (trees.all_hold bs) →
-        at.old ≡ with_commas [] (tree_texts cat.now q.now bs) ++ (codes ")" ++ rest) → (option_map bits o ≡ Some (trees.all_hold bs)) × (at.new ≡ rest)) }
+    ensures only { IfOk result (λ o. ReadsParts cat.now q.now at.old at.new (option_map bits o)) }
 {
     let items = match read_elements(alloc, at, cat, q)? {
         Some(items) => items,
@@ -52,7 +49,7 @@ pub fn read_bits(
 ) -> Result<Option<BitTree>, Memory>
     requires bound { IsWellBound cat.now q.now }
     ensures has { IfOk result (λ o. IfSome o (λ b. HasBitsText cat.now q.now (bits b))) }
-    ensures only { IfOk result (λ o. Reads (HasBitsText cat.now q.now) (tree_text cat.now q.now) at.old at.new (option_map bits o)) }
+    ensures only { IfOk result (λ o. ReadsTree cat.now q.now at.old at.new (option_map bits o)) }
 {
     if at.eat(b"And(") {
         read_and(alloc, at, cat, q)

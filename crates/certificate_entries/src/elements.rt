@@ -1,16 +1,12 @@
 //! Elements of bitmap trees.
 
-ghost use Rattle.std.specs.Prelude.{[], ◌≡◌, ◌≤◌, ◌++◌, ℕ, List, All, IfOk, IfSome, None, Some, codes, length, map, option_map, slice_get, true};
-ghost use Rattle.std.specs.Fmt.{decimal};
-ghost use Rattle.pg_base.specs.declared.numbers.IndexNo as numbers;
-ghost use Rattle.certificate_text.specs.explain_Texts.{conjunct_by, with_commas};
-ghost use Rattle.certificate_text.specs.Words.{stops};
+ghost use Rattle.std.specs.Prelude.{◌≡◌, ◌≤◌, IfOk, IfSome, None, length, option_map, slice_get};
+ghost use Rattle.certificate_text.specs.explain_Texts.{conjunct_by};
 ghost use Rattle.plan_tree.specs.Plans as trees;
 ghost use Rattle.plan_tree.specs.Views.{bits};
 ghost use Rattle.sql_query.specs.WellBound.{IsWellBound};
 ghost use Rattle.certificate_text.specs.HasText.{HasElementText};
-ghost use Rattle.certificate_text.specs.Texts.{or_text, tree_text};
-ghost use Rattle.certificate_entries.specs.Parts.{Reads, has_no_comma};
+ghost use Rattle.certificate_entries.specs.Trees.{HaveElements, ReadsClause, ReadsElement, ReadsElements, ReadsLeaf, ReadsOr};
 
 use crate::clauses::find_clause;
 use crate::{read_leaf, read_leaves};
@@ -25,8 +21,7 @@ use std::alloc::Global;
 fn read_clause(at: &mut LineCursor, cat: &Catalog, q: &Prepared) -> Option<u16>
     requires bound { IsWellBound cat.now q.now }
     ensures has { IfSome result (λ n. ¬ (conjunct_by (slice_get q.now.classes.clauses n) ≡ None)) }
-    ensures only { (n m : ℕ) (rest : List ℕ) → conjunct_by (slice_get q.now.classes.clauses n) ≡ Some m → at.old ≡ decimal m ++ (codes "(" ++ rest) →
-        (result ≡ Some n) × (at.new ≡ rest) }
+    ensures only { ReadsClause q.now at.old at.new result }
     ensures shorter { length at.new ≤ length at.old }
 {
     let number = at.number()?;
@@ -43,8 +38,7 @@ fn read_or(
 ) -> Result<Option<BitTree>, Memory>
     requires bound { IsWellBound cat.now q.now }
     ensures has { IfOk result (λ o. IfSome o (λ b. HasElementText cat.now q.now (bits b))) }
-    ensures only { IfOk result (λ o. (n : ℕ) (is : List numbers.IndexNo) (rest : List ℕ) → HasElementText cat.now q.now (trees.some_arm n is) →
-        codes "Or " ++ at.old ≡ or_text cat.now q.now n is ++ rest → (option_map bits o ≡ Some (trees.some_arm n is)) × (at.new ≡ rest)) }
+    ensures only { IfOk result (λ o. ReadsOr cat.now q.now at.old at.new (option_map bits o)) }
     ensures shorter { length at.new ≤ length at.old }
 {
     let Some(clause) = read_clause(at, cat, q) else {
@@ -63,8 +57,7 @@ fn read_or(
 /// The entries of an index as an element.
 fn leaf_of(at: &mut LineCursor, cat: &Catalog, q: &Prepared) -> Option<BitTree>
     ensures has { IfSome result (λ b. HasElementText cat.now q.now (bits b)) }
-    ensures only { (i : numbers.IndexNo) (rest : List ℕ) → HasElementText cat.now q.now (trees.leaf i) → stops rest ≡ true →
-        at.old ≡ tree_text cat.now q.now (trees.leaf i) ++ rest → (option_map bits result ≡ Some (trees.leaf i)) × (at.new ≡ rest) }
+    ensures only { ReadsLeaf cat.now q.now at.old at.new (option_map bits result) }
     ensures shorter { length at.new ≤ length at.old }
 {
     let _ = q;
@@ -81,7 +74,7 @@ pub(crate) fn read_element(
 ) -> Result<Option<BitTree>, Memory>
     requires bound { IsWellBound cat.now q.now }
     ensures has { IfOk result (λ o. IfSome o (λ b. HasElementText cat.now q.now (bits b))) }
-    ensures only { IfOk result (λ o. Reads (HasElementText cat.now q.now) (tree_text cat.now q.now) at.old at.new (option_map bits o)) }
+    ensures only { IfOk result (λ o. ReadsElement cat.now q.now at.old at.new (option_map bits o)) }
     ensures shorter { length at.new ≤ length at.old }
 {
     if at.eat(b"Or ") {
@@ -100,10 +93,8 @@ pub(crate) fn read_elements(
     q: &Prepared,
 ) -> Result<Option<Vec<BitTree>>, Memory>
     requires bound { IsWellBound cat.now q.now }
-    ensures has { IfOk result (λ o. IfSome o (λ bs. All (HasElementText cat.now q.now) (map bits bs.items))) }
-    ensures only { IfOk result (λ o. (bs : List trees.BitTree) (rest : List ℕ) → All (HasElementText cat.now q.now) bs → 1 ≤ length bs →
-        stops rest ≡ true → has_no_comma rest ≡ true → at.old ≡ with_commas [] (map (tree_text cat.now q.now) bs) ++ rest →
-        (option_map (λ v. map bits v.items) o ≡ Some bs) × (at.new ≡ rest)) }
+    ensures has { IfOk result (λ o. IfSome o (λ bs. HaveElements cat.now q.now bs.items)) }
+    ensures only { IfOk result (λ o. ReadsElements cat.now q.now at.old at.new o) }
     ensures shorter { length at.new ≤ length at.old }
 {
     let mut elements = Vec::new(alloc);

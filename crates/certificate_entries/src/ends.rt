@@ -1,15 +1,16 @@
 //! The sets that a line begins with, the keys that it ends with, and the line of the best plan.
 
-ghost use Rattle.std.specs.Prelude.{◌≡◌, ◌↔◌, ◌++◌, ◌==◌, ℕ, List, IfOk, IfSome, IsTrue, Some, codes, false, get_or, option_map, true};
+ghost use Rattle.std.specs.Prelude.{◌≡◌, ◌↔◌, IfOk, IfSome, IsTrue, option_map};
 ghost use Rattle.std.specs.Fmt.{decimal};
 ghost use Rattle.pg_base.specs.Sets.{has};
-ghost use Rattle.pg_base.specs.declared.rel_set.RelSet as sets;
 ghost use Rattle.certificate_text.specs.explain_Texts.{keys_text};
 ghost use Rattle.sql_query.specs.WellBound.{IsWellBound};
 ghost use Rattle.certificate_text.specs.plan_check_Views.{side};
 ghost use Rattle.certificate_text.specs.HasText.{HasKeysText, IsEntryNumber, IsSetOf};
 ghost use Rattle.certificate_text.specs.Texts as texts;
-ghost use Rattle.certificate_entries.specs.Parts.{HasSideText, IsSet, Reads};
+ghost use Rattle.certificate_entries.specs.Parts.{HasSideText, Reads};
+ghost use Rattle.certificate_text.specs.Words.{PassesOver};
+ghost use Rattle.certificate_entries.specs.Sets.{ReadsSets};
 
 use crate::certificate_text::best_line;
 use crate::keys::read_key_list;
@@ -24,7 +25,7 @@ use std::alloc::Global;
 
 /// Passes over this number where it comes next.
 pub fn eat_number(alloc: Global, at: &mut LineCursor, n: u64) -> Result<bool, Memory>
-    ensures only { IfOk result (λ b. (rest : List ℕ) → at.old ≡ decimal n ++ rest → (b ≡ true) × (at.new ≡ rest)) }
+    ensures only { IfOk result (λ b. PassesOver (decimal n) at.old at.new b) }
 {
     let digits = format!(in alloc; "{n}")?;
     Ok(at.eat(digits.as_bytes()))
@@ -34,8 +35,7 @@ pub fn eat_number(alloc: Global, at: &mut LineCursor, n: u64) -> Result<bool, Me
 pub fn read_sets(at: &mut LineCursor, cat: &Catalog, q: &Prepared) -> Option<(RelSet, RelSet)>
     requires bound { IsWellBound cat.now q.now }
     ensures has { IfSome result (λ p. IsSetOf q.now (has p.0.0) × IsSetOf q.now (has p.1.0)) }
-    ensures only { (s p : sets.RelSet) (rest : List ℕ) → IsSet q.now s → IsSet q.now p → (get_or rest 0 0 == 102) ≡ false →
-        at.old ≡ texts.set_text q.now s ++ (texts.param_text q.now p ++ (codes " " ++ rest)) → (result ≡ Some (s, p)) × (at.new ≡ rest) }
+    ensures only { ReadsSets q.now at.old at.new result }
 {
     let set = read_set(at, cat, q)?;
     let param = read_param(at, cat, q)?;

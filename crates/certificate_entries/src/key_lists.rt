@@ -1,12 +1,9 @@
 //! Key lists.
 
-ghost use Rattle.std.specs.Prelude.{◌≡◌, ◌≤◌, ◌++◌, ℕ, List, All, IfOk, IfSome, Some, length, option_map, true};
+ghost use Rattle.std.specs.Prelude.{◌≤◌, IfOk, IfSome, length};
 ghost use Rattle.pg_base.specs.Sets.{has};
-ghost use Rattle.pathkeys.specs.Finding.{class_numbers};
-ghost use Rattle.certificate_text.specs.explain_Texts.{keys_text};
 ghost use Rattle.sql_query.specs.WellBound.{IsWellBound};
-ghost use Rattle.certificate_entries.specs.Keys.{HasKeyText, ends_key};
-ghost use Rattle.certificate_entries.specs.Parts.{has_no_comma};
+ghost use Rattle.certificate_entries.specs.Keys.{HaveKeyTexts, ReadsKeys};
 
 use crate::line_keys::read_key;
 use catalog::Catalog;
@@ -26,11 +23,9 @@ pub fn read_keys(
     set: RelSet,
 ) -> Result<Option<Vec<ClassNo>>, Memory>
     requires bound { IsWellBound cat.now q.now }
-    ensures has { IfOk result (λ o. IfSome o (λ ks. All (HasKeyText q.now (has set.0)) (class_numbers ks.items))) }
+    ensures has { IfOk result (λ o. IfSome o (λ ks. HaveKeyTexts q.now (has set.0) ks.items)) }
     ensures some { IfOk result (λ o. IfSome o (λ ks. 1 ≤ length ks.items)) }
-    ensures only { IfOk result (λ o. (keys : List ℕ) (rest : List ℕ) → All (HasKeyText q.now (has set.0)) keys → 1 ≤ length keys →
-        ends_key rest ≡ true → has_no_comma rest ≡ true → at.old ≡ keys_text cat.now q.now (has set.0) keys ++ rest →
-        (option_map (λ ks. class_numbers ks.items) o ≡ Some keys) × (at.new ≡ rest)) }
+    ensures only { IfOk result (λ o. ReadsKeys cat.now q.now (has set.0) at.old at.new o) }
 {
     let mut keys = Vec::new(alloc);
     match read_key(at, cat, q, set) {

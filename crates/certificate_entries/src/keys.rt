@@ -1,14 +1,11 @@
 //! Key lists without repeats.
 
-ghost use Rattle.std.specs.Prelude.{◌≡◌, ◌≢◌, ◌<◌, ◌↔◌, ◌++◌, ◌≤◌, ℕ, List, IfOk, IfSome, IsTrue, Some, codes, false, get_or, length, true};
+ghost use Rattle.std.specs.Prelude.{◌≡◌, ◌≢◌, ◌<◌, ◌↔◌, ℕ, IfOk, IfSome, IsTrue, codes, false, length, true};
 ghost use Rattle.pg_base.specs.Sets.{has};
 ghost use Rattle.pathkeys.specs.Finding.{class_numbers};
 ghost use Rattle.pathkeys.specs.Keys.{AreDifferent};
-ghost use Rattle.certificate_text.specs.explain_Texts.{keys_text};
 ghost use Rattle.sql_query.specs.WellBound.{IsWellBound};
-ghost use Rattle.certificate_text.specs.HasText.{HasKeysText};
-ghost use Rattle.certificate_entries.specs.Keys.{ends_key};
-ghost use Rattle.certificate_entries.specs.Parts.{has_no_comma};
+ghost use Rattle.certificate_entries.specs.Keys.{HasSomeKeys, ReadsKeyList, nth_key};
 
 use crate::read_keys;
 use catalog::Catalog;
@@ -23,7 +20,7 @@ use std::alloc::Global;
 fn is_same(keys: &[ClassNo], i: usize, n: usize) -> bool
     requires first { i < length keys.now }
     requires second { n < length keys.now }
-    ensures { IsTrue result ↔ (get_or (class_numbers keys.now) i 0 ≡ get_or (class_numbers keys.now) n 0) }
+    ensures { IsTrue result ↔ (nth_key keys.now i ≡ nth_key keys.now n) }
 {
     keys[i].0 == keys[n].0
 }
@@ -31,8 +28,8 @@ fn is_same(keys: &[ClassNo], i: usize, n: usize) -> bool
 /// Whether a class stands among those before a place.
 fn stands_before(keys: &[ClassNo], n: usize) -> bool
     requires within { n < length keys.now }
-    ensures none { result ≡ false → (i : ℕ) → i < n → get_or (class_numbers keys.now) i 0 ≢ get_or (class_numbers keys.now) n 0 }
-    ensures some { result ≡ true → (i : ℕ) × (i < n) × (get_or (class_numbers keys.now) i 0 ≡ get_or (class_numbers keys.now) n 0) }
+    ensures none { result ≡ false → (i : ℕ) → i < n → nth_key keys.now i ≢ nth_key keys.now n }
+    ensures some { result ≡ true → (i : ℕ) × (i < n) × (nth_key keys.now i ≡ nth_key keys.now n) }
 {
     for i in 0..n {
         if is_same(keys, i, n) {
@@ -64,9 +61,8 @@ pub fn read_key_list(
     set: RelSet,
 ) -> Result<Option<Keys>, Memory>
     requires bound { IsWellBound cat.now q.now }
-    ensures has { IfOk result (λ o. IfSome o (λ keys. HasKeysText q.now (has set.0) keys × (1 ≤ length keys))) }
-    ensures only { IfOk result (λ o. (keys : List ℕ) (rest : List ℕ) → HasKeysText q.now (has set.0) keys → 1 ≤ length keys →
-        ends_key rest ≡ true → has_no_comma rest ≡ true → at.old ≡ keys_text cat.now q.now (has set.0) keys ++ rest → (o ≡ Some keys) × (at.new ≡ rest)) }
+    ensures has { IfOk result (λ o. IfSome o (λ keys. HasSomeKeys q.now (has set.0) keys)) }
+    ensures only { IfOk result (λ o. ReadsKeyList cat.now q.now (has set.0) at.old at.new o) }
 {
     let keys = match read_keys(alloc, at, cat, q, set)? {
         Some(keys) => keys,

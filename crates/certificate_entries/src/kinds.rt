@@ -1,8 +1,6 @@
 //! What entries are, by the words that they begin with.
 
-ghost use Rattle.std.specs.Prelude.{◌≡◌, ◌++◌, ℕ, List, Some};
-ghost use Rattle.certificate_entries.specs.Kinds.{words};
-ghost use Rattle.certificate_entries.specs.declared.kinds.Kind as kinds;
+ghost use Rattle.certificate_entries.specs.Kinds.{ReadsKind};
 
 use certificate_text::LineCursor;
 
@@ -25,7 +23,7 @@ pub(crate) enum Kind {
 
 /// The kind whose words come next. None where those of none do.
 pub(crate) fn read_kind(at: &mut LineCursor) -> Option<Kind>
-    ensures only { (k : kinds.Kind) (rest : List ℕ) → at.old ≡ words k ++ rest → (result ≡ Some k) × (at.new ≡ rest) }
+    ensures only { ReadsKind at.old at.new result }
 {
     if at.eat(b"Seq Scan") {
         return Some(Kind::Seq);

@@ -1,18 +1,11 @@
 //! Keys by their columns.
 
-ghost use Rattle.std.specs.Prelude.{◌≡◌, ◌<◌, ◌≤◌, ◌++◌, ℕ, Bool, List, IfNone, IfSome, Some, codes, false, length, option_map, true};
-ghost use Rattle.std.specs.List.{list_all};
-ghost use Rattle.pg_base.specs.Names.{is_in_name};
+ghost use Rattle.std.specs.Prelude.{◌≡◌, ◌≤◌, ℕ, IfNone, IfSome, false, length};
 ghost use Rattle.pg_base.specs.Sets.{has};
-ghost use Rattle.pg_base.specs.declared.numbers.RelNo as rels;
 ghost use Rattle.pg_expr.specs.declared.operand.ColRef as columns;
-ghost use Rattle.catalog.specs.Range.{relation_at};
-ghost use Rattle.eq_classes.specs.Clauses.{first_in};
-ghost use Rattle.eq_classes.specs.Listing.{class_at};
-ghost use Rattle.certificate_text.specs.explain_Texts.{direction_text, key_text};
-ghost use Rattle.sql_query.specs.Queries.{width};
+ghost use Rattle.certificate_text.specs.explain_Texts.{direction_text};
 ghost use Rattle.sql_query.specs.WellBound.{IsWellBound};
-ghost use Rattle.certificate_entries.specs.Keys.{AreWords, HasKeyText, IsClassIn, IsClassOf, IsNamed, ends_key, family_if, is_abs};
+ghost use Rattle.certificate_entries.specs.Keys.{FindsClass, FindsColumn, FindsRelation, HasAlias, HasKeyText, IsClassIn, IsClassOf, IsNamed, ReadsKey, ReadsKeyWords};
 
 use catalog::Catalog;
 use certificate_text::LineCursor;
@@ -26,8 +19,8 @@ use sql_query::Prepared;
 /// The relation that has this alias.
 fn find_relation(cat: &Catalog, q: &Prepared, alias: &[u8]) -> Option<RelNo>
     requires bound { IsWellBound cat.now q.now }
-    ensures found { IfSome result (λ r. (r.0 < width q.now) × ((relation_at q.now.range r).1 ≡ alias.now)) }
-    ensures only { (r : rels.RelNo) → r.0 < width q.now → (relation_at q.now.range r).1 ≡ alias.now → result ≡ Some r }
+    ensures found { IfSome result (λ r. HasAlias q.now alias.now r) }
+    ensures only { FindsRelation q.now alias.now result }
 {
     let relations = range_of(q).items();
     for n in 0..relations.len() {
@@ -42,7 +35,7 @@ fn find_relation(cat: &Catalog, q: &Prepared, alias: &[u8]) -> Option<RelNo>
 fn find_column(cat: &Catalog, q: &Prepared, alias: &[u8], name: &[u8]) -> Option<ColRef>
     requires bound { IsWellBound cat.now q.now }
     ensures found { IfSome result (IsNamed cat.now q.now alias.now name.now) }
-    ensures only { (x : columns.ColRef) → IsNamed cat.now q.now alias.now name.now x → result ≡ Some x }
+    ensures only { FindsColumn cat.now q.now alias.now name.now result }
 {
     cat.lawful();
     let rel = find_relation(cat, q, alias)?;
@@ -110,8 +103,7 @@ struct KeyWords<'a> {
 
 /// The words of a key.
 fn read_words<'a>(at: &mut LineCursor<'a>) -> Option<KeyWords<'a>>
-    ensures only { (alias name rest : List ℕ) (abs : Bool) → list_all is_in_name alias ≡ true → list_all is_in_name name ≡ true → ends_key rest ≡ true →
-        at.old ≡ (alias ++ (codes "." ++ name)) ++ (family_if abs ++ rest) → AreWords result alias name abs × (at.new ≡ rest) }
+    ensures only { ReadsKeyWords at.old at.new result }
     ensures shorter { length at.new ≤ length at.old }
 {
     let alias = at.word();
@@ -127,9 +119,7 @@ fn read_words<'a>(at: &mut LineCursor<'a>) -> Option<KeyWords<'a>>
 fn class_by(cat: &Catalog, q: &Prepared, set: RelSet, words: &KeyWords) -> Option<ClassNo>
     requires bound { IsWellBound cat.now q.now }
     ensures has { IfSome result (λ n. HasKeyText q.now (has set.0) n.0) }
-    ensures only { (n : ℕ) (x : columns.ColRef) → HasKeyText q.now (has set.0) n →
-        first_in (class_at q.now.classes.classes n) (has set.0) ≡ Some x → IsNamed cat.now q.now words.now.alias.now words.now.name.now x →
-        is_abs (class_at q.now.classes.classes n).family ≡ words.now.abs → option_map (λ c. c.0) result ≡ Some n }
+    ensures only { FindsClass cat.now q.now (has set.0) words.now result }
 {
     let column = find_column(cat, q, words.alias, words.name)?;
     let class = find_class(q, column, words.abs)?;
@@ -141,8 +131,7 @@ fn class_by(cat: &Catalog, q: &Prepared, set: RelSet, words: &KeyWords) -> Optio
 pub fn read_key(at: &mut LineCursor, cat: &Catalog, q: &Prepared, set: RelSet) -> Option<ClassNo>
     requires bound { IsWellBound cat.now q.now }
     ensures has { IfSome result (λ n. HasKeyText q.now (has set.0) n.0) }
-    ensures only { (n : ℕ) (rest : List ℕ) → HasKeyText q.now (has set.0) n → ends_key rest ≡ true →
-        at.old ≡ key_text cat.now q.now (has set.0) n ++ rest → (option_map (λ c. c.0) result ≡ Some n) × (at.new ≡ rest) }
+    ensures only { ReadsKey cat.now q.now (has set.0) at.old at.new result }
     ensures shorter { length at.new ≤ length at.old }
 {
     cat.lawful();

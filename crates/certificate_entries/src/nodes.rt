@@ -1,23 +1,11 @@
 //! What entries are.
 
-ghost use Rattle.std.specs.Prelude.{◌≡◌, ◌≤◌, ◌++◌, ℕ, Bool, List, IfOk, IfSome, Some, codes, length, option_map, true};
-ghost use Rattle.std.specs.Fmt.{decimal};
+ghost use Rattle.std.specs.Prelude.{◌≤◌, IfOk, IfSome, length};
 ghost use Rattle.pg_base.specs.Sets.{has};
-ghost use Rattle.pg_base.specs.declared.numbers.IndexNo as numbers;
-ghost use Rattle.catalog.specs.Contents as contents;
-ghost use Rattle.catalog.specs.Contents.{IsIndex};
-ghost use Rattle.eq_classes.specs.Clauses as clauses;
-ghost use Rattle.certificate_text.specs.explain_Texts.{keys_text};
-ghost use Rattle.certificate_text.specs.Words.{stops};
-ghost use Rattle.plan_tree.specs.Plans as trees;
-ghost use Rattle.sql_query.specs.Queries as queries;
 ghost use Rattle.sql_query.specs.WellBound.{IsWellBound};
 ghost use Rattle.certificate_text.specs.plan_check_Certificates as certs;
-ghost use Rattle.certificate_text.specs.plan_check_Views.{node, side};
-ghost use Rattle.certificate_text.specs.HasText.{HasBitsText, HasKeysText, HasNodeText, IsEntryNumber};
-ghost use Rattle.certificate_text.specs.Texts.{node_text, sides_text, tree_text};
-ghost use Rattle.certificate_entries.specs.Scans.{scan_text};
-ghost use Rattle.certificate_entries.specs.Kinds.{IsReadBack, behind_text, kind_of};
+ghost use Rattle.certificate_text.specs.HasText.{HasKeysText, IsEntryNumber};
+ghost use Rattle.certificate_entries.specs.Nodes.{HasTextAnywhere, HasTextInCatalog, HasTextInQuery, HasTextInSet, ReadsBehind, ReadsBitmap, ReadsMerge, ReadsNest, ReadsNode, ReadsScanNode, ReadsSides};
 
 use crate::bits::read_bits;
 use crate::figures::read_two;
@@ -34,8 +22,7 @@ use std::alloc::Global;
 /// The sides of a merge, each behind a space.
 fn read_sides(at: &mut LineCursor) -> Option<(Side, Side)>
     ensures has { IfSome result (λ p. IsEntryNumber p.0.entry × IsEntryNumber p.1.entry) }
-    ensures only { (a b : certs.Side) (rest : List ℕ) → IsEntryNumber a.entry → IsEntryNumber b.entry → stops rest ≡ true → at.old ≡ sides_text a b ++ rest →
-        (option_map {U = certs.Side × certs.Side} (λ p. (side p.0, side p.1)) result ≡ Some (a, b)) × (at.new ≡ rest) }
+    ensures only { ReadsSides at.old at.new result }
 {
     if !at.eat(b" ") {
         return None;
@@ -50,9 +37,8 @@ fn read_sides(at: &mut LineCursor) -> Option<(Side, Side)>
 
 /// A scan by an index, behind its words.
 fn index_node(at: &mut LineCursor, cat: &Catalog) -> Option<Node>
-    ensures has { IfSome result (λ n. (q : queries.Query) (s : clauses.Set) → HasNodeText cat.now q s (node n)) }
-    ensures only { (i : numbers.IndexNo) (b : Bool) (rest : List ℕ) → IsIndex cat.now i → stops rest ≡ true → at.old ≡ scan_text cat.now (i, b) ++ rest →
-        (option_map node result ≡ Some (certs.by_index i b)) × (at.new ≡ rest) }
+    ensures has { IfSome result (λ n. HasTextInCatalog cat.now n) }
+    ensures only { ReadsScanNode cat.now certs.by_index at.old at.new result }
 {
     let (index, backward) = read_scan(at, cat)?;
     Some(Node::Index(index, backward))
@@ -60,9 +46,8 @@ fn index_node(at: &mut LineCursor, cat: &Catalog) -> Option<Node>
 
 /// The same with the columns taken from the index's entries.
 fn index_only_node(at: &mut LineCursor, cat: &Catalog) -> Option<Node>
-    ensures has { IfSome result (λ n. (q : queries.Query) (s : clauses.Set) → HasNodeText cat.now q s (node n)) }
-    ensures only { (i : numbers.IndexNo) (b : Bool) (rest : List ℕ) → IsIndex cat.now i → stops rest ≡ true → at.old ≡ scan_text cat.now (i, b) ++ rest →
-        (option_map node result ≡ Some (certs.by_index_only i b)) × (at.new ≡ rest) }
+    ensures has { IfSome result (λ n. HasTextInCatalog cat.now n) }
+    ensures only { ReadsScanNode cat.now certs.by_index_only at.old at.new result }
 {
     let (index, backward) = read_scan(at, cat)?;
     Some(Node::IndexOnly(index, backward))
@@ -76,9 +61,8 @@ fn bitmap_node(
     q: &Prepared,
 ) -> Result<Option<Node>, Memory>
     requires bound { IsWellBound cat.now q.now }
-    ensures has { IfOk result (λ o. IfSome o (λ n. (s : clauses.Set) → HasNodeText cat.now q.now s (node n))) }
-    ensures only { IfOk result (λ o. (b : trees.BitTree) (rest : List ℕ) → HasBitsText cat.now q.now b → stops rest ≡ true → at.old ≡ tree_text cat.now q.now b ++ rest →
-        (option_map node o ≡ Some (certs.by_bitmap b)) × (at.new ≡ rest)) }
+    ensures has { IfOk result (λ o. IfSome o (λ n. HasTextInQuery cat.now q.now n)) }
+    ensures only { IfOk result (λ o. ReadsBitmap cat.now q.now at.old at.new o) }
 {
     match read_bits(alloc, at, cat, q)? {
         Some(tree) => Ok(Some(Node::Bitmap(tree))),
@@ -88,9 +72,8 @@ fn bitmap_node(
 
 /// A nested loop, behind its words.
 fn nest_node(at: &mut LineCursor) -> Option<Node>
-    ensures has { IfSome result (λ n. (c : contents.Contents) (q : queries.Query) (s : clauses.Set) → HasNodeText c q s (node n)) }
-    ensures only { (a b : ℕ) (rest : List ℕ) → IsEntryNumber a → IsEntryNumber b → stops rest ≡ true → at.old ≡ decimal a ++ (codes " " ++ (decimal b ++ rest)) →
-        (option_map node result ≡ Some (certs.by_nest a b)) × (at.new ≡ rest) }
+    ensures has { IfSome result (λ n. HasTextAnywhere n) }
+    ensures only { ReadsNest at.old at.new result }
 {
     let (outer, inner) = read_two(at)?;
     Some(Node::Nest(outer, inner))
@@ -105,9 +88,8 @@ fn merge_node(
     set: RelSet,
 ) -> Result<Option<Node>, Memory>
     requires bound { IsWellBound cat.now q.now }
-    ensures has { IfOk result (λ o. IfSome o (λ n. HasNodeText cat.now q.now (has set.0) (node n))) }
-    ensures only { IfOk result (λ o. (keys : List ℕ) (a b : certs.Side) (rest : List ℕ) → HasNodeText cat.now q.now (has set.0) (certs.by_merge keys a b) → stops rest ≡ true →
-        at.old ≡ keys_text cat.now q.now (has set.0) keys ++ (sides_text a b ++ rest) → (option_map node o ≡ Some (certs.by_merge keys a b)) × (at.new ≡ rest)) }
+    ensures has { IfOk result (λ o. IfSome o (λ n. HasTextInSet cat.now q.now (has set.0) n)) }
+    ensures only { IfOk result (λ o. ReadsMerge cat.now q.now (has set.0) at.old at.new o) }
 {
     let keys = match read_key_list(alloc, at, cat, q, set)? {
         Some(keys) => keys,
@@ -129,8 +111,8 @@ fn read_behind(
     kind: Kind,
 ) -> Result<Option<Node>, Memory>
     requires bound { IsWellBound cat.now q.now }
-    ensures has { IfOk result (λ o. IfSome o (λ n. HasNodeText cat.now q.now (has set.0) (node n))) }
-    ensures only { IfOk result (λ o. (x : certs.Node) → kind_of x ≡ kind → IsReadBack cat.now q.now set (behind_text cat.now q.now set) at.old at.new (option_map node o) x) }
+    ensures has { IfOk result (λ o. IfSome o (λ n. HasTextInSet cat.now q.now (has set.0) n)) }
+    ensures only { IfOk result (λ o. ReadsBehind cat.now q.now set kind at.old at.new o) }
 {
     match kind {
         Kind::Seq => Ok(Some(Node::Seq)),
@@ -151,8 +133,8 @@ pub fn read_node(
     set: RelSet,
 ) -> Result<Option<Node>, Memory>
     requires bound { IsWellBound cat.now q.now }
-    ensures has { IfOk result (λ o. IfSome o (λ n. HasNodeText cat.now q.now (has set.0) (node n))) }
-    ensures only { IfOk result (λ o. (x : certs.Node) → IsReadBack cat.now q.now set (node_text cat.now q.now set) at.old at.new (option_map node o) x) }
+    ensures has { IfOk result (λ o. IfSome o (λ n. HasTextInSet cat.now q.now (has set.0) n)) }
+    ensures only { IfOk result (λ o. ReadsNode cat.now q.now set at.old at.new o) }
 {
     match read_kind(at) {
         Some(kind) => read_behind(alloc, at, cat, q, set, kind),

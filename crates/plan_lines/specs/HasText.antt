@@ -1,6 +1,6 @@
 -- Which trees have a text as plans: their relations, indexes, clauses and classes are of the query. Whether a tree is a plan is
 -- not asked. Own.
-use Rattle.std.specs.Prelude.{◌≡◌, ◌<◌, ℕ, All, slice_get, None}
+use Rattle.std.specs.Prelude.{◌≡◌, ◌<◌, ℕ, All, None}
 use Rattle.pg_base.specs.Sets.{has}
 use Rattle.pg_base.specs.declared.numbers.IndexNo.{IndexNo}
 use Rattle.pg_base.specs.declared.numbers.RelNo.{RelNo}
@@ -10,7 +10,7 @@ use Rattle.catalog.specs.Contents.{Contents, IsIndex, index_at}
 use Rattle.catalog.specs.Range.{relation_at}
 use Rattle.sql_query.specs.Queries.{Query, width}
 use Rattle.plan_tree.specs.Plans.{Plan, seq, index, index_only, bitmap, sort, nest, merge, BitTree, leaf, all_hold, some_arm, BitTrees, no_trees, tree_and, set_of}
-use Rattle.certificate_entries.specs.explain_Texts.{conjunct_by}
+use Rattle.certificate_entries.specs.explain_Texts.{conjunct_in}
 use Rattle.certificate_entries.specs.certificate_text_HasText.{HasKeysText, IsSetOf}
 
 -- the table of some relation of a query
@@ -27,7 +27,7 @@ module _ (c : Contents) (q : Query) where
 
   -- the number of a clause that is a conjunct
   abbrev pub IsConjunct : ℕ → Type 0
-  IsConjunct n = ¬ (conjunct_by (slice_get q.classes.clauses n) ≡ None)
+  IsConjunct n = ¬ (conjunct_in q n ≡ None)
 
   -- the indexes of a bitmap tree are of the query's tables, and its ORs are conjuncts
   abbrev mutual

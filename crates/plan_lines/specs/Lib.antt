@@ -4,8 +4,11 @@ pub mod HasText
 pub mod TitleKinds
 pub mod Scans
 pub mod Words
+pub mod Finding
+pub mod Behind
 pub mod Lines
 pub mod Stands
+pub mod Trees
 -- What callers name of the crates below.
 pub use Rattle.certificate_entries.proofs.ClauseLemmas as certificate_entries_ClauseLemmas
 pub use Rattle.certificate_entries.proofs.NameLemmas as certificate_entries_NameLemmas

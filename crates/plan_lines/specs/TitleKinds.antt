@@ -1,11 +1,12 @@
 -- What a node is: its kind, and what stands behind the words of that. Own.
-use Rattle.std.specs.Prelude.{ℕ, List, []}
+use Rattle.std.specs.Prelude.{ℕ, List, [], ◌++◌}
 use Rattle.catalog.specs.Contents.{Contents}
 use Rattle.sql_query.specs.Queries.{Query}
 use Rattle.plan_tree.specs.Plans.{Plan, seq, index, index_only, bitmap, sort, nest, merge, set_of}
 use Rattle.certificate_entries.specs.explain_Texts.{keys_text, rel_text, scanned_text}
 use Rattle.plan_lines.specs.declared.kinds.Kind.{Kind}
 use Rattle.plan_lines.specs.declared.kinds.Kind.TheVariants as kinds
+use Rattle.plan_lines.specs.Kinds.{words}
 use Rattle.plan_lines.specs.Scans.{indexed_text}
 
 -- the kind of a node
@@ -28,3 +29,7 @@ module _ (c : Contents) (q : Query) where
   behind_words (sort keys input) = keys_text c q (set_of (sort keys input)) keys
   behind_words (nest outer inner) = []
   behind_words (merge keys outer inner) = keys_text c q (set_of (merge keys outer inner)) keys
+
+  -- what a node is, by the two
+  abbrev pub parted_title : Plan → List ℕ
+  parted_title p = words (kind_of p) ++ behind_words p

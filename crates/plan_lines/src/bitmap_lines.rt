@@ -1,13 +1,12 @@
 //! What one line of a bitmap tree says.
 
-ghost use Rattle.std.specs.Prelude.{◌≡◌, ◌≤◌, ◌++◌, ℕ, List, IfSome, Some, codes, slice_get};
-ghost use Rattle.pg_base.specs.declared.numbers.IndexNo as numbers;
-ghost use Rattle.certificate_entries.specs.explain_Texts.{conjunct_by, number_text};
+ghost use Rattle.std.specs.Prelude.{◌≡◌, ◌≤◌, List, IfSome, Some, codes};
+ghost use Rattle.certificate_entries.specs.explain_Texts.{conjunct_text, leaf_title};
 ghost use Rattle.sql_query.specs.WellBound.{IsWellBound};
 ghost use Rattle.plan_lines.specs.HasText.{IsConjunct, IsIndexOfQuery};
-ghost use Rattle.plan_lines.specs.Lines.{HasLine, leaf_title};
-ghost use Rattle.plan_lines.specs.declared.bitmap_lines.TreeLine as lines;
-ghost use Rattle.plan_lines.specs.declared.bitmap_lines.TreeLine.TheVariants.{All as AllHold, Arm, Leaf};
+ghost use Rattle.plan_lines.specs.Lines.{HasLine};
+ghost use Rattle.plan_lines.specs.declared.bitmap_lines.TreeLine.TheVariants.{All as AllHold};
+ghost use Rattle.plan_lines.specs.Finding.{Finds, FindsArm, FindsScan};
 
 use crate::certificate_entries::find_clause;
 use crate::{behind, read_index_name};
@@ -30,7 +29,7 @@ pub(crate) enum TreeLine {
 /// The index whose entries are scanned by a line.
 pub(crate) fn read_leaf(line: &[u8], cat: &Catalog, q: &Prepared) -> Option<IndexNo>
     ensures has { IfSome result (IsIndexOfQuery cat.now q.now) }
-    ensures only { (i : numbers.IndexNo) → IsIndexOfQuery cat.now q.now i → line.now ≡ leaf_title cat.now i → result ≡ Some i }
+    ensures only { Finds (IsIndexOfQuery cat.now q.now) (leaf_title cat.now) line.now result }
 {
     read_index_name(behind(line, b"Bitmap Index Scan on ")?, cat, q)
 }
@@ -39,7 +38,7 @@ pub(crate) fn read_leaf(line: &[u8], cat: &Catalog, q: &Prepared) -> Option<Inde
 fn read_conjunct(text: &[u8], cat: &Catalog, q: &Prepared) -> Option<u16>
     requires bound { IsWellBound cat.now q.now }
     ensures has { IfSome result (λ n. IsConjunct cat.now q.now n) }
-    ensures only { (n : ℕ) → IsConjunct cat.now q.now n → text.now ≡ number_text (conjunct_by (slice_get q.now.classes.clauses n)) → result ≡ Some n }
+    ensures only { Finds (IsConjunct cat.now q.now) (conjunct_text q.now) text.now result }
 {
     let number = LineCursor::new(text).number()?;
     find_clause(cat, q, number)
@@ -49,7 +48,7 @@ fn read_conjunct(text: &[u8], cat: &Catalog, q: &Prepared) -> Option<u16>
 fn read_arm(line: &[u8], cat: &Catalog, q: &Prepared) -> Option<TreeLine>
     requires bound { IsWellBound cat.now q.now }
     ensures has { IfSome result (HasLine cat.now q.now) }
-    ensures arm { (n : ℕ) → IsConjunct cat.now q.now n → line.now ≡ codes "BitmapOr " ++ number_text (conjunct_by (slice_get q.now.classes.clauses n)) → result ≡ Some (Arm n) }
+    ensures arm { FindsArm cat.now q.now line.now result }
 {
     let clause = read_conjunct(behind(line, b"BitmapOr ")?, cat, q)?;
     Some(TreeLine::Arm(clause))
@@ -58,7 +57,7 @@ fn read_arm(line: &[u8], cat: &Catalog, q: &Prepared) -> Option<TreeLine>
 /// What a line says that begins with the words of a scan of an index's entries.
 fn read_scan(line: &[u8], cat: &Catalog, q: &Prepared) -> Option<TreeLine>
     ensures has { IfSome result (HasLine cat.now q.now) }
-    ensures leaf { (i : numbers.IndexNo) → IsIndexOfQuery cat.now q.now i → line.now ≡ leaf_title cat.now i → result ≡ Some (Leaf i) }
+    ensures leaf { FindsScan cat.now q.now line.now result }
 {
     let index = read_leaf(line, cat, q)?;
     Some(TreeLine::Leaf(index))
@@ -68,9 +67,9 @@ fn read_scan(line: &[u8], cat: &Catalog, q: &Prepared) -> Option<TreeLine>
 pub(crate) fn read_line(line: &[u8], cat: &Catalog, q: &Prepared) -> Option<TreeLine>
     requires bound { IsWellBound cat.now q.now }
     ensures has { IfSome result (HasLine cat.now q.now) }
-    ensures leaf { (i : numbers.IndexNo) → IsIndexOfQuery cat.now q.now i → line.now ≡ leaf_title cat.now i → result ≡ Some (Leaf i) }
+    ensures leaf { FindsScan cat.now q.now line.now result }
     ensures all { line.now ≡ codes "BitmapAnd" → result ≡ Some AllHold }
-    ensures arm { (n : ℕ) → IsConjunct cat.now q.now n → line.now ≡ codes "BitmapOr " ++ number_text (conjunct_by (slice_get q.now.classes.clauses n)) → result ≡ Some (Arm n) }
+    ensures arm { FindsArm cat.now q.now line.now result }
 {
     if line.starts_with(b"BitmapA") {
         return Some(TreeLine::All);

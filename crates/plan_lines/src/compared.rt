@@ -1,15 +1,14 @@
 //! Bitmap trees compared with a text.
 
-ghost use Rattle.std.specs.Prelude.{◌≡◌, ◌↔◌, ◌≤◌, ◌+◌, ◌++◌, ℕ, List, All, IfSome, IsTrue, Some, codes, option_map, slice_get};
-ghost use Rattle.std.specs.List.{flat_map};
+ghost use Rattle.std.specs.Prelude.{◌≡◌, ◌↔◌, ◌≤◌, ◌+◌, ◌++◌, All, IfSome, IsTrue, Some, codes};
 ghost use Rattle.catalog.specs.Contents.{IsIndex, index_name_at};
-ghost use Rattle.certificate_entries.specs.explain_Texts as texts;
-ghost use Rattle.certificate_entries.specs.explain_Texts.{conjunct_by, leaf_line, number_text, plain_line};
+ghost use Rattle.certificate_entries.specs.explain_Texts.{and_line, leaf_line, leaf_lines, leaf_title, or_line, part_lines, tree_lines};
 ghost use Rattle.plan_tree.specs.Views.{bits, bits_all};
 ghost use Rattle.sql_query.specs.WellBound.{IsWellBound};
 ghost use Rattle.plan_lines.specs.HasText.{HasBits, HaveBits, IsConjunct, IsIndexOfQuery};
-ghost use Rattle.plan_lines.specs.Lines.{leaf_title};
+ghost use Rattle.plan_lines.specs.Lines.{or_ending};
 ghost use Rattle.plan_lines.specs.Stands.{Stand, Stands};
+ghost use Rattle.plan_lines.specs.Behind.{GivesBehind};
 
 use crate::behind;
 use crate::certificate_entries::find_clause;
@@ -24,7 +23,7 @@ use sql_query::Prepared;
 fn behind_leaf_title<'a>(text: &'a [u8], cat: &Catalog, i: IndexNo) -> Option<&'a [u8]>
     requires index { IsIndex cat.now i }
     ensures is { IfSome result (λ l. text.now ≡ leaf_title cat.now i ++ l.now) }
-    ensures only { (rest : List ℕ) → text.now ≡ leaf_title cat.now i ++ rest → option_map (λ l. l.now) result ≡ Some rest }
+    ensures only { GivesBehind (leaf_title cat.now i) text.now result }
 {
     let left = behind(text, b"Bitmap Index Scan on ")?;
     behind(left, cat.index_name(i))
@@ -34,7 +33,7 @@ fn behind_leaf_title<'a>(text: &'a [u8], cat: &Catalog, i: IndexNo) -> Option<&'
 fn behind_ended<'a>(text: &'a [u8], cat: &Catalog, i: IndexNo) -> Option<&'a [u8]>
     requires index { IsIndex cat.now i }
     ensures is { IfSome result (λ l. text.now ≡ (leaf_title cat.now i ++ codes "\n") ++ l.now) }
-    ensures only { (rest : List ℕ) → text.now ≡ (leaf_title cat.now i ++ codes "\n") ++ rest → option_map (λ l. l.now) result ≡ Some rest }
+    ensures only { GivesBehind (leaf_title cat.now i ++ codes "\n") text.now result }
 {
     let left = behind_leaf_title(text, cat, i)?;
     behind(left, b"\n")
@@ -44,7 +43,7 @@ fn behind_ended<'a>(text: &'a [u8], cat: &Catalog, i: IndexNo) -> Option<&'a [u8
 fn behind_leaf<'a>(text: &'a [u8], cat: &Catalog, depth: u8, i: IndexNo) -> Option<&'a [u8]>
     requires index { IsIndex cat.now i }
     ensures is { IfSome result (λ l. text.now ≡ leaf_line cat.now depth i ++ l.now) }
-    ensures only { (rest : List ℕ) → text.now ≡ leaf_line cat.now depth i ++ rest → option_map (λ l. l.now) result ≡ Some rest }
+    ensures only { GivesBehind (leaf_line cat.now depth i) text.now result }
 {
     let left = behind_lead(text, depth)?;
     behind_ended(left, cat, i)
@@ -59,8 +58,8 @@ fn behind_leaves<'a>(
     indexes: &[IndexNo],
 ) -> Option<&'a [u8]>
     requires indexes { All (IsIndexOfQuery cat.now q.now) indexes.now }
-    ensures is { IfSome result (λ l. text.now ≡ flat_map (leaf_line cat.now depth) indexes.now ++ l.now) }
-    ensures only { (rest : List ℕ) → text.now ≡ flat_map (leaf_line cat.now depth) indexes.now ++ rest → option_map (λ l. l.now) result ≡ Some rest }
+    ensures is { IfSome result (λ l. text.now ≡ leaf_lines cat.now depth indexes.now ++ l.now) }
+    ensures only { GivesBehind (leaf_lines cat.now depth indexes.now) text.now result }
 {
     let mut left = text;
     for i in indexes {
@@ -83,8 +82,8 @@ fn is_clause(found: Option<u16>, n: u16) -> bool
 fn behind_conjunct<'a>(text: &'a [u8], cat: &Catalog, q: &Prepared, n: u16) -> Option<&'a [u8]>
     requires bound { IsWellBound cat.now q.now }
     requires clause { IsConjunct cat.now q.now n }
-    ensures is { IfSome result (λ l. text.now ≡ (number_text (conjunct_by (slice_get q.now.classes.clauses n)) ++ codes "\n") ++ l.now) }
-    ensures only { (rest : List ℕ) → text.now ≡ (number_text (conjunct_by (slice_get q.now.classes.clauses n)) ++ codes "\n") ++ rest → option_map (λ l. l.now) result ≡ Some rest }
+    ensures is { IfSome result (λ l. text.now ≡ or_ending q.now n ++ l.now) }
+    ensures only { GivesBehind (or_ending q.now n) text.now result }
 {
     let (number, left) = read_number(text)?;
     if is_clause(find_clause(cat, q, number), n) {
@@ -98,9 +97,8 @@ fn behind_conjunct<'a>(text: &'a [u8], cat: &Catalog, q: &Prepared, n: u16) -> O
 fn behind_or<'a>(text: &'a [u8], cat: &Catalog, q: &Prepared, depth: u8, n: u16) -> Option<&'a [u8]>
     requires bound { IsWellBound cat.now q.now }
     requires clause { IsConjunct cat.now q.now n }
-    ensures is { IfSome result (λ l. text.now ≡ plain_line depth (codes "BitmapOr " ++ number_text (conjunct_by (slice_get q.now.classes.clauses n))) ++ l.now) }
-    ensures only { (rest : List ℕ) → text.now ≡ plain_line depth (codes "BitmapOr " ++ number_text (conjunct_by (slice_get q.now.classes.clauses n))) ++ rest →
-        option_map (λ l. l.now) result ≡ Some rest }
+    ensures is { IfSome result (λ l. text.now ≡ or_line q.now depth n ++ l.now) }
+    ensures only { GivesBehind (or_line q.now depth n) text.now result }
 {
     let left = behind_lead(text, depth)?;
     behind_conjunct(behind(left, b"BitmapOr ")?, cat, q, n)
@@ -108,8 +106,8 @@ fn behind_or<'a>(text: &'a [u8], cat: &Catalog, q: &Prepared, depth: u8, n: u16)
 
 /// What stands behind the line of an AND.
 fn behind_and(text: &[u8], depth: u8) -> Option<&[u8]>
-    ensures is { IfSome result (λ l. text.now ≡ plain_line depth (codes "BitmapAnd") ++ l.now) }
-    ensures only { (rest : List ℕ) → text.now ≡ plain_line depth (codes "BitmapAnd") ++ rest → option_map (λ l. l.now) result ≡ Some rest }
+    ensures is { IfSome result (λ l. text.now ≡ and_line depth ++ l.now) }
+    ensures only { GivesBehind (and_line depth) text.now result }
 {
     let left = behind_lead(text, depth)?;
     behind(left, b"BitmapAnd\n")
@@ -127,8 +125,8 @@ pub fn behind_bits<'a>(
     requires bound { IsWellBound cat.now q.now }
     requires has { HasBits cat.now q.now (bits tree.now) }
     requires stands { Stands depth (bits tree.now) }
-    ensures is { IfSome result (λ l. text.now ≡ texts.bits_text cat.now q.now depth (bits tree.now) ++ l.now) }
-    ensures only { (rest : List ℕ) → text.now ≡ texts.bits_text cat.now q.now depth (bits tree.now) ++ rest → option_map (λ l. l.now) result ≡ Some rest }
+    ensures is { IfSome result (λ l. text.now ≡ tree_lines cat.now q.now depth tree.now ++ l.now) }
+    ensures only { GivesBehind (tree_lines cat.now q.now depth tree.now) text.now result }
 {
     match tree {
         BitTree::Leaf(i) => behind_leaf(text, cat, depth, *i),
@@ -155,8 +153,8 @@ fn behind_trees<'a>(
     requires bound { IsWellBound cat.now q.now }
     requires has { HaveBits cat.now q.now (bits_all trees.now) }
     requires stand { Stand depth (bits_all trees.now) }
-    ensures is { IfSome result (λ l. text.now ≡ texts.trees_text cat.now q.now depth (bits_all trees.now) ++ l.now) }
-    ensures only { (rest : List ℕ) → text.now ≡ texts.trees_text cat.now q.now depth (bits_all trees.now) ++ rest → option_map (λ l. l.now) result ≡ Some rest }
+    ensures is { IfSome result (λ l. text.now ≡ part_lines cat.now q.now depth trees.now ++ l.now) }
+    ensures only { GivesBehind (part_lines cat.now q.now depth trees.now) text.now result }
 {
     let mut left = text;
     for tree in trees {

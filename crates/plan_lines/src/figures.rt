@@ -1,9 +1,10 @@
 //! What a node is, and its numbers, by its line.
 
-ghost use Rattle.std.specs.Prelude.{◌≡◌, ◌++◌, ◌∷◌, ℕ, List, IfSome, Some, codes, option_map, true};
+ghost use Rattle.std.specs.Prelude.{IfSome, codes};
 ghost use Rattle.std.specs.Fmt.{decimal};
 ghost use Rattle.certificate_text.specs.HasText.{IsWritable};
-ghost use Rattle.plan_lines.specs.Parts.{figures_behind, lacks};
+ghost use Rattle.plan_lines.specs.Finding.{CutsFigures, FindsFigures};
+ghost use Rattle.plan_lines.specs.Behind.{GivesBefore};
 
 use crate::lines::cut;
 use certificate_text::LineCursor;
@@ -11,7 +12,7 @@ use certificate_text::LineCursor;
 /// The cost and the rows behind a parenthesis.
 fn read_figures(text: &[u8]) -> Option<(u64, u64)>
     ensures has { IfSome result (λ n. IsWritable n.0 × IsWritable n.1) }
-    ensures only { (cost rows : ℕ) → IsWritable cost → IsWritable rows → text.now ≡ figures_behind cost rows → result ≡ Some (cost, rows) }
+    ensures only { FindsFigures text.now result }
 {
     let mut at = LineCursor::new(text);
     if !at.eat(b"cost=") {
@@ -27,7 +28,7 @@ fn read_figures(text: &[u8]) -> Option<(u64, u64)>
 
 /// What stands before two spaces at the end of a text.
 fn without_spaces(text: &[u8]) -> Option<&[u8]>
-    ensures only { (t : List ℕ) → text.now ≡ t ++ codes "  " → option_map (λ l. l.now) result ≡ Some t }
+    ensures only { GivesBefore (codes "  ") text.now result }
 {
     text.strip_suffix(b"  ")
 }
@@ -35,8 +36,7 @@ fn without_spaces(text: &[u8]) -> Option<&[u8]>
 /// What the line of a node says that it is, and its cost and rows.
 pub fn read_line(line: &[u8]) -> Option<(&[u8], (u64, u64))>
     ensures has { IfSome result (λ p. IsWritable p.1.0 × IsWritable p.1.1) }
-    ensures only { (t : List ℕ) (cost rows : ℕ) → lacks 40 (t ++ codes "  ") ≡ true → IsWritable cost → IsWritable rows →
-        line.now ≡ (t ++ codes "  ") ++ (40 ∷ figures_behind cost rows) → option_map {U = List ℕ × (ℕ × ℕ)} (λ p. (p.0.now, p.1)) result ≡ Some (t, (cost, rows)) }
+    ensures only { CutsFigures line.now result }
 {
     let (before, behind) = cut(line, b'(')?;
     let title = without_spaces(before)?;

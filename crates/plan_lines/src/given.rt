@@ -1,14 +1,11 @@
 //! The relations whose rows a scan is given, read by their aliases.
 
-ghost use Rattle.std.specs.Prelude.{◌≡◌, ◌≤◌, ℕ, List, All, length, true};
-ghost use Rattle.std.specs.List.{list_all};
-ghost use Rattle.pg_base.specs.Names.{is_in_name};
+ghost use Rattle.std.specs.Prelude.{◌≤◌, length};
 ghost use Rattle.pg_base.specs.Sets.{has};
-ghost use Rattle.pg_base.specs.declared.rel_set.RelSet as sets;
-ghost use Rattle.certificate_entries.specs.explain_Texts.{given_text, with_commas};
 ghost use Rattle.sql_query.specs.WellBound.{IsWellBound};
 ghost use Rattle.certificate_entries.specs.certificate_text_HasText.{IsSetOf};
-ghost use Rattle.plan_lines.specs.Words.{IsWordRead};
+ghost use Rattle.plan_lines.specs.Words.{ReadsListed};
+ghost use Rattle.plan_lines.specs.Finding.{FindsGiven};
 
 use catalog::Catalog;
 use certificate_text::LineCursor;
@@ -19,8 +16,7 @@ use sql_query::Prepared;
 /// The word behind some bytes; an empty one where they do not come next.
 fn next_word<'a>(at: &mut LineCursor<'a>, before: &[u8]) -> &'a [u8]
     requires some { 1 ≤ length before.now }
-    ensures next { (xs : List (List ℕ)) → All (λ x. list_all is_in_name x ≡ true) xs → at.old ≡ with_commas before.now xs →
-        IsWordRead xs result.now at.new }
+    ensures next { ReadsListed before.now at.old at.new result.now }
 {
     if at.eat(before) { at.word() } else { b"" }
 }
@@ -29,7 +25,7 @@ fn next_word<'a>(at: &mut LineCursor<'a>, before: &[u8]) -> &'a [u8]
 pub(crate) fn read_given(text: &[u8], cat: &Catalog, q: &Prepared) -> RelSet
     requires bound { IsWellBound cat.now q.now }
     ensures within { IsSetOf q.now (has result.0) }
-    ensures only { (p : sets.RelSet) → IsSetOf q.now (has p.0) → text.now ≡ given_text q.now.range p → result ≡ p }
+    ensures only { FindsGiven q.now text.now result }
 {
     let relations = range_of(q).items();
     let mut at = LineCursor::new(text);

@@ -1,14 +1,12 @@
 //! Indexes by their names, and scans by them.
 
-ghost use Rattle.std.specs.Prelude.{◌≡◌, ◌↔◌, ◌++◌, ℕ, Bool, List, IfSome, IsTrue, Some, codes, option_map, true};
-ghost use Rattle.pg_base.specs.declared.numbers.IndexNo as numbers;
+ghost use Rattle.std.specs.Prelude.{◌↔◌, IfSome, IsTrue};
 ghost use Rattle.catalog.specs.Contents.{IsIndex, index_name_at};
-ghost use Rattle.certificate_entries.specs.explain_Texts.{backward_text};
-ghost use Rattle.certificate_text.specs.Words.{stops};
 ghost use Rattle.sql_query.specs.WellBound.{IsWellBound};
 ghost use Rattle.plan_lines.specs.HasText.{IsIndexOfQuery, IsTableOfQuery};
 ghost use Rattle.plan_lines.specs.Scans.{IsIndexScan, indexed_text};
-ghost use Rattle.plan_lines.specs.declared.indexes.IndexScan as scans;
+ghost use Rattle.plan_lines.specs.Finding.{Finds};
+ghost use Rattle.plan_lines.specs.Behind.{CutsDirection, CutsIndex};
 
 use crate::relations::behind;
 use crate::scanned::read_scanned;
@@ -42,8 +40,7 @@ fn is_of_query(cat: &Catalog, q: &Prepared, i: IndexNo) -> bool
 /// with the name of none.
 fn read_index<'a>(text: &'a [u8], cat: &Catalog, q: &Prepared) -> Option<(IndexNo, &'a [u8])>
     ensures has { IfSome result (λ r. IsIndexOfQuery cat.now q.now r.0) }
-    ensures only { (i : numbers.IndexNo) (rest : List ℕ) → IsIndexOfQuery cat.now q.now i → stops rest ≡ true → text.now ≡ index_name_at cat.now i ++ rest →
-        option_map {U = numbers.IndexNo × List ℕ} (λ r. (r.0, r.1.now)) result ≡ Some (i, rest) }
+    ensures only { CutsIndex cat.now q.now text.now result }
 {
     cat.lawful();
     let name = LineCursor::new(text).word();
@@ -58,7 +55,7 @@ fn read_index<'a>(text: &'a [u8], cat: &Catalog, q: &Prepared) -> Option<(IndexN
 /// The index of a table of the query whose name a text is.
 pub fn read_index_name(text: &[u8], cat: &Catalog, q: &Prepared) -> Option<IndexNo>
     ensures has { IfSome result (IsIndexOfQuery cat.now q.now) }
-    ensures only { (i : numbers.IndexNo) → IsIndexOfQuery cat.now q.now i → text.now ≡ index_name_at cat.now i → result ≡ Some i }
+    ensures only { Finds (IsIndexOfQuery cat.now q.now) (index_name_at cat.now) text.now result }
 {
     let (index, _) = read_index(text, cat, q)?;
     Some(index)
@@ -66,7 +63,7 @@ pub fn read_index_name(text: &[u8], cat: &Catalog, q: &Prepared) -> Option<Index
 
 /// Whether a text says that a scan goes backward, and what stands behind that.
 fn read_direction(text: &[u8]) -> (bool, &[u8])
-    ensures { (b : Bool) (rest : List ℕ) → text.now ≡ backward_text b ++ (codes " using " ++ rest) → (result.0 ≡ b) × (result.1.now ≡ codes " using " ++ rest) }
+    ensures { CutsDirection text.now result.0 result.1.now }
 {
     match behind(text, b" Backward") {
         Some(left) => (true, left),
@@ -91,7 +88,7 @@ pub struct IndexScan {
 pub fn read_index_scan(text: &[u8], cat: &Catalog, q: &Prepared) -> Option<IndexScan>
     requires bound { IsWellBound cat.now q.now }
     ensures has { IfSome result (IsIndexScan cat.now q.now) }
-    ensures only { (s : scans.IndexScan) → IsIndexScan cat.now q.now s → text.now ≡ indexed_text cat.now q.now s → result ≡ Some s }
+    ensures only { Finds (IsIndexScan cat.now q.now) (indexed_text cat.now q.now) text.now result }
 {
     let (backward, left) = read_direction(text);
     let (index, left) = read_index(behind(left, b" using ")?, cat, q)?;

@@ -1,15 +1,16 @@
 //! Key lists.
 
-ghost use Rattle.std.specs.Prelude.{[], ◌≡◌, ◌<◌, ◌++◌, ℕ, List, All, IfOk, IfSome, Some, codes, cond, length, nat_eq, option_map};
+ghost use Rattle.std.specs.Prelude.{[], ◌≡◌, ◌<◌, ◌++◌, All, IfOk, IfSome, codes, cond, length, nat_eq};
 ghost use Rattle.pg_base.specs.Sets.{has};
 ghost use Rattle.path_cost.specs.Columns.{AreTables};
-ghost use Rattle.eq_classes.specs.Clauses.{first_in};
-ghost use Rattle.eq_classes.specs.Listing.{class_at};
 ghost use Rattle.pathkeys.specs.Finding.{class_numbers};
 ghost use Rattle.sql_query.specs.WellBound.{IsColumnOf, IsWellBound};
 ghost use Rattle.certificate_entries.specs.explain_Texts as texts;
-ghost use Rattle.certificate_entries.specs.explain_Texts.{direction_text, family_text};
+ghost use Rattle.certificate_entries.specs.explain_Texts.{column_text, direction_text, family_text, key_list, key_text, member_at};
 ghost use Rattle.certificate_entries.specs.certificate_text_HasText.{HasKeysText};
+ghost use Rattle.plan_lines.specs.Behind.{GivesBehind, IsLeft};
+ghost use Rattle.plan_lines.specs.Finding.{FindsKeys};
+ghost use Rattle.plan_lines.specs.Parts.{next_key};
 
 use crate::relations::behind;
 use catalog::Catalog;
@@ -27,7 +28,7 @@ use std::alloc::Global;
 /// What stands behind a name, a point and another name.
 fn behind_dotted<'a>(text: &'a [u8], first: &[u8], last: &[u8]) -> Option<&'a [u8]>
     ensures is { IfSome result (λ l. text.now ≡ (first.now ++ (codes "." ++ last.now)) ++ l.now) }
-    ensures only { (rest : List ℕ) → text.now ≡ (first.now ++ (codes "." ++ last.now)) ++ rest → option_map (λ l. l.now) result ≡ Some rest }
+    ensures only { GivesBehind (first.now ++ (codes "." ++ last.now)) text.now result }
 {
     let left = behind(text, first)?;
     behind(behind(left, b".")?, last)
@@ -38,7 +39,7 @@ fn behind_column<'a>(text: &'a [u8], cat: &Catalog, q: &Prepared, x: ColRef) -> 
     requires tables { AreTables cat.now q.now.range }
     requires column { IsColumnOf cat.now q.now.range x }
     ensures is { IfSome result (λ l. text.now ≡ texts.column_text cat.now q.now x ++ l.now) }
-    ensures only { (rest : List ℕ) → text.now ≡ texts.column_text cat.now q.now x ++ rest → option_map (λ l. l.now) result ≡ Some rest }
+    ensures only { GivesBehind (column_text cat.now q.now x) text.now result }
 {
     let (table, alias) = &range_of(q).items()[x.rel.0 as usize];
     behind_dotted(text, alias.items(), cat.column_name(*table, x.col))
@@ -54,9 +55,8 @@ fn behind_member<'a>(
 ) -> Option<&'a [u8]>
     requires bound { IsWellBound cat.now q.now }
     requires class { c.0 < length q.now.classes.classes }
-    ensures is { IfSome result (λ l. text.now ≡ texts.member_text cat.now q.now (first_in (class_at q.now.classes.classes c.0) (has set.0)) ++ l.now) }
-    ensures only { (rest : List ℕ) → text.now ≡ texts.member_text cat.now q.now (first_in (class_at q.now.classes.classes c.0) (has set.0)) ++ rest →
-        option_map (λ l. l.now) result ≡ Some rest }
+    ensures is { IfSome result (λ l. text.now ≡ member_at cat.now q.now (has set.0) c.0 ++ l.now) }
+    ensures only { GivesBehind (member_at cat.now q.now (has set.0) c.0) text.now result }
 {
     match classes_of(q).member(c, set) {
         Some(x) => behind_column(text, cat, q, x),
@@ -96,8 +96,8 @@ fn behind_key<'a>(
 ) -> Option<&'a [u8]>
     requires bound { IsWellBound cat.now q.now }
     requires class { c.0 < length q.now.classes.classes }
-    ensures is { IfSome result (λ l. text.now ≡ texts.key_text cat.now q.now (has set.0) c.0 ++ l.now) }
-    ensures only { (rest : List ℕ) → text.now ≡ texts.key_text cat.now q.now (has set.0) c.0 ++ rest → option_map (λ l. l.now) result ≡ Some rest }
+    ensures is { IfSome result (λ l. text.now ≡ key_text cat.now q.now (has set.0) c.0 ++ l.now) }
+    ensures only { GivesBehind (key_text cat.now q.now (has set.0) c.0) text.now result }
 {
     let left = behind_member(text, cat, q, set, c)?;
     let left = behind(left, family_bytes(classes_of(q).family(c)))?;
@@ -123,9 +123,8 @@ fn behind_next<'a>(
 ) -> Option<&'a [u8]>
     requires bound { IsWellBound cat.now q.now }
     requires class { c.0 < length q.now.classes.classes }
-    ensures is { IfSome result (λ l. text.now ≡ (cond (nat_eq n 0) [] (codes ", ") ++ texts.key_text cat.now q.now (has set.0) c.0) ++ l.now) }
-    ensures only { (rest : List ℕ) → text.now ≡ (cond (nat_eq n 0) [] (codes ", ") ++ texts.key_text cat.now q.now (has set.0) c.0) ++ rest →
-        option_map (λ l. l.now) result ≡ Some rest }
+    ensures is { IfSome result (λ l. text.now ≡ next_key cat.now q.now (has set.0) n c.0 ++ l.now) }
+    ensures only { GivesBehind (next_key cat.now q.now (has set.0) n c.0) text.now result }
 {
     let left = behind(text, before_key(n))?;
     behind_key(left, cat, q, set, c)
@@ -141,8 +140,8 @@ pub(crate) fn behind_keys<'a>(
 ) -> Option<&'a [u8]>
     requires bound { IsWellBound cat.now q.now }
     requires classes { All (λ n. n < length q.now.classes.classes) (class_numbers keys.now) }
-    ensures is { IfSome result (λ l. text.now ≡ texts.keys_text cat.now q.now (has set.0) (class_numbers keys.now) ++ l.now) }
-    ensures only { (rest : List ℕ) → text.now ≡ texts.keys_text cat.now q.now (has set.0) (class_numbers keys.now) ++ rest → option_map (λ l. l.now) result ≡ Some rest }
+    ensures is { IfSome result (IsLeft (key_list cat.now q.now (has set.0) keys.now) text.now) }
+    ensures only { GivesBehind (key_list cat.now q.now (has set.0) keys.now) text.now result }
 {
     let mut left = text;
     for n in 0..keys.len() {
@@ -162,7 +161,7 @@ pub fn read_node_keys(
 ) -> Result<Option<Keys>, Memory>
     requires bound { IsWellBound cat.now q.now }
     ensures has { IfOk result (λ o. IfSome o (HasKeysText q.now (has set.0))) }
-    ensures only { IfOk result (λ o. (keys : List ℕ) → HasKeysText q.now (has set.0) keys → text.now ≡ texts.keys_text cat.now q.now (has set.0) keys → o ≡ Some keys) }
+    ensures only { IfOk result (λ o. FindsKeys cat.now q.now (has set.0) text.now o) }
 {
     if text.is_empty() {
         let keys = Keys::from_slice(alloc, &[])?;

@@ -1,8 +1,9 @@
 //! What nodes are, by the words that their lines begin with.
 
-ghost use Rattle.std.specs.Prelude.{◌≡◌, ◌++◌, ℕ, List, IfSome, Some, option_map};
+ghost use Rattle.std.specs.Prelude.{◌≡◌, ◌++◌, ℕ, List, IfSome};
 ghost use Rattle.plan_lines.specs.Kinds.{words};
 ghost use Rattle.plan_lines.specs.declared.kinds.Kind as kinds;
+ghost use Rattle.plan_lines.specs.Behind.{CutsKind, GivesBehind};
 
 /// What a node is.
 #[derive(Clone, Copy)]
@@ -41,7 +42,7 @@ fn words_of(kind: Kind) -> &'static [u8]
 /// What stands behind the words of a kind.
 fn behind(title: &[u8], kind: Kind) -> Option<&[u8]>
     ensures is { IfSome result (λ l. title.now ≡ words kind ++ l.now) }
-    ensures only { (rest : List ℕ) → title.now ≡ words kind ++ rest → option_map (λ l. l.now) result ≡ Some rest }
+    ensures only { GivesBehind (words kind) title.now result }
 {
     title.strip_prefix(words_of(kind))
 }
@@ -73,7 +74,7 @@ fn kind_of(title: &[u8]) -> Kind
 
 /// The kind whose words begin a line, and what stands behind them. None where those of no kind do.
 pub fn read_kind(title: &[u8]) -> Option<(Kind, &[u8])>
-    ensures only { (k : kinds.Kind) (rest : List ℕ) → title.now ≡ words k ++ rest → option_map {U = kinds.Kind × List ℕ} (λ p. (p.0, p.1.now)) result ≡ Some (k, rest) }
+    ensures only { CutsKind title.now result }
 {
     let kind = kind_of(title);
     let rest = behind(title, kind)?;

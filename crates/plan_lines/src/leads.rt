@@ -1,11 +1,12 @@
 //! What stands before the title of a line.
 
-ghost use Rattle.std.specs.Prelude.{◌≡◌, ◌≤◌, ◌++◌, ℕ, List, IfSome, Some, length, option_map, replicate, take, true};
+ghost use Rattle.std.specs.Prelude.{◌≡◌, ◌++◌, ℕ, List, IfSome, replicate, true};
 ghost use Rattle.certificate_entries.specs.explain_Texts.{lead};
+ghost use Rattle.plan_lines.specs.Behind.{GivesBehind, HasSpaces};
 
 /// Whether a text begins with so many spaces.
 fn has_spaces(text: &[u8], count: usize) -> bool
-    ensures yes { result ≡ true → (count ≤ length text.now) × (take count text.now ≡ replicate count 32) }
+    ensures yes { result ≡ true → HasSpaces count text.now }
     ensures no { (x : List ℕ) → text.now ≡ replicate count 32 ++ x → result ≡ true }
 {
     text.len() >= count && text[..count].iter().all(|b| *b == b' ')
@@ -14,7 +15,7 @@ fn has_spaces(text: &[u8], count: usize) -> bool
 /// What stands behind the lead of a line at a depth. None where a text does not begin with it.
 pub fn behind_lead(text: &[u8], depth: u8) -> Option<&[u8]>
     ensures is { IfSome result (λ l. text.now ≡ lead depth ++ l.now) }
-    ensures only { (rest : List ℕ) → text.now ≡ lead depth ++ rest → option_map (λ l. l.now) result ≡ Some rest }
+    ensures only { GivesBehind (lead depth) text.now result }
 {
     if depth == 0 {
         return Some(text);

@@ -1,8 +1,8 @@
 //! The lines of a block.
 
-ghost use Rattle.std.specs.Prelude.{◌≡◌, ◌<◌, ◌≤◌, ◌+◌, ◌++◌, ◌∷◌, ℕ, List, IfNone, IfSome, None, Some, length, option_map, true};
-ghost use Rattle.certificate_text.specs.explain_Texts.{lead};
-ghost use Rattle.plan_lines.specs.Parts.{IsShallow, lacks};
+ghost use Rattle.std.specs.Prelude.{◌≡◌, ◌<◌, ◌≤◌, ◌+◌, ℕ, List, IfNone, IfSome, None, length};
+ghost use Rattle.plan_lines.specs.Parts.{IsShallow};
+ghost use Rattle.plan_lines.specs.Behind.{CutsAt, GivesLine, IsFirstPlace};
 
 use crate::leads::behind_lead;
 use std::marker::Model;
@@ -10,7 +10,7 @@ use std::marker::Model;
 /// Where a byte stands first in a text; the text's length where it stands nowhere.
 fn find(text: &[u8], b: u8) -> usize
     ensures within { result ≤ length text.now }
-    ensures only { (t rest : List ℕ) → lacks b t ≡ true → text.now ≡ t ++ (b ∷ rest) → result ≡ length t }
+    ensures only { IsFirstPlace b text.now result }
 {
     for n in 0..text.len() {
         if text[n] == b {
@@ -22,7 +22,7 @@ fn find(text: &[u8], b: u8) -> usize
 
 /// The parts of a text before the first of a byte and behind it. None where it stands nowhere.
 pub fn cut(text: &[u8], b: u8) -> Option<(&[u8], &[u8])>
-    ensures only { (t rest : List ℕ) → lacks b t ≡ true → text.now ≡ t ++ (b ∷ rest) → option_map {U = List ℕ × List ℕ} (λ p. (p.0.now, p.1.now)) result ≡ Some (t, rest) }
+    ensures only { CutsAt b text.now result }
     ensures less { IfSome result (λ p. length p.1.now < length text.now) }
 {
     let end = find(text, b);
@@ -58,7 +58,7 @@ impl<'a> Lines<'a> {
     /// The next line, without its lead and its end, where it stands at a depth; it is passed over. None where none does, and
     /// nothing is passed over.
     pub fn next_at(&mut self, depth: u8) -> Option<&'a [u8]>
-        ensures only { (t rest : List ℕ) → lacks 10 t ≡ true → self.old ≡ lead depth ++ (t ++ (10 ∷ rest)) → (option_map (λ l. l.now) result ≡ Some t) × (self.new ≡ rest) }
+        ensures only { GivesLine depth self.old self.new result }
         ensures shallow { (d : ℕ) → depth ≡ d + 1 → IsShallow d self.old → result ≡ None }
         ensures left { IfNone result (self.new ≡ self.old) }
         ensures less { IfSome result (λ l. length self.new < length self.old) }

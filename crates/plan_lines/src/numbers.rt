@@ -1,8 +1,8 @@
 //! Numbers.
 
-ghost use Rattle.std.specs.Prelude.{◌≡◌, ◌<◌, ◌^◌, ◌++◌, ℕ, List, IfSome, Some, option_map, true};
+ghost use Rattle.std.specs.Prelude.{◌≡◌, ◌<◌, ◌^◌, ◌++◌, ℕ, IfSome, Some};
 ghost use Rattle.std.specs.Fmt.{decimal};
-ghost use Rattle.certificate_text.specs.Words.{stops};
+ghost use Rattle.plan_lines.specs.Behind.{CutsNumber, GivesBehindNumber};
 
 use crate::behind;
 use certificate_text::LineCursor;
@@ -20,8 +20,7 @@ fn number_of(word: &[u8]) -> Option<u64>
 /// The number with which a text begins, and what stands behind it. None where it begins with none below 10^19.
 pub(crate) fn read_number(text: &[u8]) -> Option<(u64, &[u8])>
     ensures is { IfSome result (λ p. (p.0 < 10 ^ 19) × (text.now ≡ decimal p.0 ++ p.1.now)) }
-    ensures only { (n : ℕ) (rest : List ℕ) → n < 10 ^ 19 → stops rest ≡ true → text.now ≡ decimal n ++ rest →
-        option_map {U = ℕ × List ℕ} (λ p. (p.0, p.1.now)) result ≡ Some (n, rest) }
+    ensures only { CutsNumber text.now result }
 {
     let word = LineCursor::new(text).word();
     let number = number_of(word)?;
@@ -32,7 +31,7 @@ pub(crate) fn read_number(text: &[u8]) -> Option<(u64, &[u8])>
 /// What stands behind a number. None where a text does not begin with it.
 pub fn behind_number(text: &[u8], n: u64) -> Option<&[u8]>
     ensures is { IfSome result (λ l. (n < 10 ^ 19) × (text.now ≡ decimal n ++ l.now)) }
-    ensures only { (rest : List ℕ) → n < 10 ^ 19 → stops rest ≡ true → text.now ≡ decimal n ++ rest → option_map (λ l. l.now) result ≡ Some rest }
+    ensures only { GivesBehindNumber n text.now result }
 {
     let (number, left) = read_number(text)?;
     if number == n { Some(left) } else { None }

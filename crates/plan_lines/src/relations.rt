@@ -1,11 +1,12 @@
 //! Relations, and those whose rows a scan is given.
 
-ghost use Rattle.std.specs.Prelude.{◌≡◌, ◌<◌, ◌≤◌, ◌++◌, ℕ, Bool, List, IfSome, IsSomeAnd, Some, codes, cond, option_map};
+ghost use Rattle.std.specs.Prelude.{◌≡◌, ◌<◌, ◌≤◌, ◌++◌, Bool, IfSome, codes};
 ghost use Rattle.pg_base.specs.Sets.{has};
 ghost use Rattle.path_cost.specs.Columns.{AreTables};
 ghost use Rattle.sql_query.specs.Queries.{width};
 ghost use Rattle.certificate_entries.specs.explain_Texts as texts;
-ghost use Rattle.certificate_entries.specs.explain_Texts.{relation_text, with_alias, with_commas};
+ghost use Rattle.certificate_entries.specs.explain_Texts.{before_given, given_text, rel_text, relation_text, scanned_text};
+ghost use Rattle.plan_lines.specs.Behind.{AddsAlias, GivesBehind, PassesAlias};
 
 use catalog::Catalog;
 use pg_base::{RelNo, RelSet};
@@ -15,7 +16,7 @@ use sql_query::Prepared;
 /// What stands behind some bytes. None where a text does not begin with them.
 pub fn behind<'a>(text: &'a [u8], bytes: &[u8]) -> Option<&'a [u8]>
     ensures is { IfSome result (λ l. text.now ≡ bytes.now ++ l.now) }
-    ensures only { (rest : List ℕ) → text.now ≡ bytes.now ++ rest → option_map (λ l. l.now) result ≡ Some rest }
+    ensures only { GivesBehind bytes.now text.now result }
 {
     text.strip_prefix(bytes)
 }
@@ -23,7 +24,7 @@ pub fn behind<'a>(text: &'a [u8], bytes: &[u8]) -> Option<&'a [u8]>
 /// What stands behind the name of a table and an alias.
 fn behind_both<'a>(text: &'a [u8], name: &[u8], alias: &[u8]) -> Option<&'a [u8]>
     ensures is { IfSome result (λ l. text.now ≡ (name.now ++ (codes " " ++ alias.now)) ++ l.now) }
-    ensures only { (rest : List ℕ) → text.now ≡ (name.now ++ (codes " " ++ alias.now)) ++ rest → option_map (λ l. l.now) result ≡ Some rest }
+    ensures only { GivesBehind (name.now ++ (codes " " ++ alias.now)) text.now result }
 {
     let left = behind(text, name)?;
     behind(behind(left, b" ")?, alias)
@@ -32,7 +33,7 @@ fn behind_both<'a>(text: &'a [u8], name: &[u8], alias: &[u8]) -> Option<&'a [u8]
 /// What stands behind the name of a table, and behind its alias where that is another. None where a text does not begin so.
 fn behind_names<'a>(text: &'a [u8], name: &[u8], alias: &[u8]) -> Option<&'a [u8]>
     ensures is { IfSome result (λ l. text.now ≡ relation_text name.now alias.now ++ l.now) }
-    ensures only { (rest : List ℕ) → text.now ≡ relation_text name.now alias.now ++ rest → option_map (λ l. l.now) result ≡ Some rest }
+    ensures only { GivesBehind (relation_text name.now alias.now) text.now result }
 {
     if name == alias {
         behind(text, name)
@@ -51,7 +52,7 @@ pub(crate) fn behind_relation<'a>(
     requires tables { AreTables cat.now q.now.range }
     requires relation { r.0 < width q.now }
     ensures is { IfSome result (λ l. text.now ≡ texts.rel_text cat.now q.now r ++ l.now) }
-    ensures only { (rest : List ℕ) → text.now ≡ texts.rel_text cat.now q.now r ++ rest → option_map (λ l. l.now) result ≡ Some rest }
+    ensures only { GivesBehind (rel_text cat.now q.now r) text.now result }
 {
     let (table, alias) = &range_of(q).items()[r.0 as usize];
     behind_names(text, cat.table_name(*table), alias.items())
@@ -59,8 +60,8 @@ pub(crate) fn behind_relation<'a>(
 
 /// What stands behind a comma and a space, or behind the word before the first of the relations that are given.
 fn behind_comma(text: &[u8], first: bool) -> Option<&[u8]>
-    ensures is { IfSome result (λ l. text.now ≡ cond first (codes " for ") (codes ", ") ++ l.now) }
-    ensures only { (rest : List ℕ) → text.now ≡ cond first (codes " for ") (codes ", ") ++ rest → option_map (λ l. l.now) result ≡ Some rest }
+    ensures is { IfSome result (λ l. text.now ≡ before_given first ++ l.now) }
+    ensures only { GivesBehind (before_given first) text.now result }
 {
     if first {
         behind(text, b" for ")
@@ -71,18 +72,16 @@ fn behind_comma(text: &[u8], first: bool) -> Option<&[u8]>
 
 /// What stands behind an alias in a row.
 fn behind_item<'a>(text: &'a [u8], alias: &[u8], first: bool) -> Option<&'a [u8]>
-    ensures is { IfSome result (λ l. text.now ≡ (cond first (codes " for ") (codes ", ") ++ alias.now) ++ l.now) }
-    ensures only { (rest : List ℕ) → text.now ≡ (cond first (codes " for ") (codes ", ") ++ alias.now) ++ rest → option_map (λ l. l.now) result ≡ Some rest }
+    ensures is { IfSome result (λ l. text.now ≡ (before_given first ++ alias.now) ++ l.now) }
+    ensures only { GivesBehind (before_given first ++ alias.now) text.now result }
 {
     behind(behind_comma(text, first)?, alias)
 }
 
 /// What stands behind an alias in a row, where its relation is given, and whether the next one is still the first.
 fn behind_alias<'a>(text: &'a [u8], alias: &[u8], is: bool, first: bool) -> Option<(&'a [u8], bool)>
-    ensures is { IfSome result (λ s. (xs : List (List ℕ)) (rest : List ℕ) → s.0.now ≡ with_commas (cond s.1 (codes " for ") (codes ", ")) xs ++ rest →
-        text.now ≡ with_commas (cond first (codes " for ") (codes ", ")) (with_alias is alias.now xs) ++ rest) }
-    ensures only { (xs : List (List ℕ)) (rest : List ℕ) → text.now ≡ with_commas (cond first (codes " for ") (codes ", ")) (with_alias is alias.now xs) ++ rest →
-        IsSomeAnd result (λ s. s.0.now ≡ with_commas (cond s.1 (codes " for ") (codes ", ")) xs ++ rest) }
+    ensures is { IfSome result (λ s. AddsAlias is alias.now first text.now s) }
+    ensures only { PassesAlias is alias.now first text.now result }
 {
     if !is {
         return Some((text, first));
@@ -95,7 +94,7 @@ fn behind_alias<'a>(text: &'a [u8], alias: &[u8], is: bool, first: bool) -> Opti
 pub(crate) fn behind_given<'a>(text: &'a [u8], q: &Prepared, p: RelSet) -> Option<&'a [u8]>
     requires few { width q.now ≤ 16 }
     ensures is { IfSome result (λ l. text.now ≡ texts.given_text q.now.range p ++ l.now) }
-    ensures only { (rest : List ℕ) → text.now ≡ texts.given_text q.now.range p ++ rest → option_map (λ l. l.now) result ≡ Some rest }
+    ensures only { GivesBehind (given_text q.now.range p) text.now result }
 {
     let relations = range_of(q).items();
     let mut left = text;
@@ -121,7 +120,7 @@ pub(crate) fn behind_scanned<'a>(
     requires few { width q.now ≤ 16 }
     requires relation { r.0 < width q.now }
     ensures is { IfSome result (λ l. text.now ≡ texts.scanned_text cat.now q.now r p ++ l.now) }
-    ensures only { (rest : List ℕ) → text.now ≡ texts.scanned_text cat.now q.now r p ++ rest → option_map (λ l. l.now) result ≡ Some rest }
+    ensures only { GivesBehind (scanned_text cat.now q.now r p) text.now result }
 {
     let left = behind_relation(text, cat, q, r)?;
     behind_given(left, q, p)

@@ -1,14 +1,12 @@
 //! Scans: a relation, and those whose rows it is given.
 
-ghost use Rattle.std.specs.Prelude.{◌≡◌, ◌↔◌, ◌<◌, IfSome, IsTrue, Some};
+ghost use Rattle.std.specs.Prelude.{◌≡◌, ◌↔◌, ◌<◌, IfSome, IsTrue};
 ghost use Rattle.pg_base.specs.Sets.{has};
-ghost use Rattle.pg_base.specs.declared.numbers.RelNo as rels;
-ghost use Rattle.pg_base.specs.declared.rel_set.RelSet as sets;
 ghost use Rattle.certificate_entries.specs.explain_Texts.{given_text, rel_text, scanned_text};
 ghost use Rattle.sql_query.specs.Queries.{width};
 ghost use Rattle.sql_query.specs.WellBound.{IsWellBound};
-ghost use Rattle.certificate_entries.specs.certificate_text_HasText.{IsSetOf};
 ghost use Rattle.plan_lines.specs.HasText.{IsScanned};
+ghost use Rattle.plan_lines.specs.Finding.{Finds, FindsScanned, IsGivenSet, IsGivenTo};
 
 use crate::given::read_given;
 use crate::relations::{behind_given, behind_relation};
@@ -32,8 +30,8 @@ fn is_given(text: &[u8], cat: &Catalog, q: &Prepared, p: RelSet) -> bool
 fn given_to(text: &[u8], cat: &Catalog, q: &Prepared, r: RelNo) -> Option<RelSet>
     requires bound { IsWellBound cat.now q.now }
     requires relation { r.0 < width q.now }
-    ensures is { IfSome result (λ p. IsSetOf q.now (has p.0) × (text.now ≡ scanned_text cat.now q.now r p)) }
-    ensures only { (p : sets.RelSet) → IsSetOf q.now (has p.0) → text.now ≡ scanned_text cat.now q.now r p → result ≡ Some p }
+    ensures is { IfSome result (λ p. IsGivenTo cat.now q.now r text.now p) }
+    ensures only { Finds (IsGivenSet q.now) (scanned_text cat.now q.now r) text.now result }
 {
     let left = behind_relation(text, cat, q, r)?;
     let given = read_given(left, cat, q);
@@ -48,7 +46,7 @@ fn given_to(text: &[u8], cat: &Catalog, q: &Prepared, r: RelNo) -> Option<RelSet
 pub fn read_scanned(text: &[u8], cat: &Catalog, q: &Prepared) -> Option<(RelNo, RelSet)>
     requires bound { IsWellBound cat.now q.now }
     ensures has { IfSome result (λ s. IsScanned cat.now q.now s.0 s.1) }
-    ensures only { (r : rels.RelNo) (p : sets.RelSet) → IsScanned cat.now q.now r p → text.now ≡ scanned_text cat.now q.now r p → result ≡ Some (r, p) }
+    ensures only { FindsScanned cat.now q.now text.now result }
 {
     cat.lawful();
     for n in 0..range_of(q).items().len() {
@@ -64,7 +62,7 @@ pub fn read_scanned(text: &[u8], cat: &Catalog, q: &Prepared) -> Option<(RelNo, 
 pub fn read_relation(text: &[u8], cat: &Catalog, q: &Prepared) -> Option<RelNo>
     requires bound { IsWellBound cat.now q.now }
     ensures has { IfSome result (λ r. r.0 < width q.now) }
-    ensures only { (r : rels.RelNo) → r.0 < width q.now → text.now ≡ rel_text cat.now q.now r → result ≡ Some r }
+    ensures only { Finds (λ r. r.0 < width q.now) (rel_text cat.now q.now) text.now result }
 {
     let (rel, _) = read_scanned(text, cat, q)?;
     Some(rel)

@@ -1,17 +1,17 @@
 //! What a node is.
 
-ghost use Rattle.std.specs.Prelude.{◌≡◌, ◌<◌, ◌++◌, ℕ, List, All, IfSome, Some, length, option_map};
+ghost use Rattle.std.specs.Prelude.{◌≡◌, ◌<◌, ◌++◌, All, IfSome, length};
 ghost use Rattle.catalog.specs.Contents.{IsIndex};
-ghost use Rattle.plan_tree.specs.Plans as plans;
 ghost use Rattle.plan_tree.specs.Views.{plan};
 ghost use Rattle.sql_query.specs.Queries.{width};
 ghost use Rattle.sql_query.specs.WellBound.{IsWellBound};
 ghost use Rattle.certificate_entries.specs.explain_Texts as texts;
-ghost use Rattle.certificate_entries.specs.explain_Texts.{backward_text};
+ghost use Rattle.certificate_entries.specs.explain_Texts.{backward_text, node_keys, title};
 ghost use Rattle.plan_lines.specs.Kinds.{words};
 ghost use Rattle.plan_lines.specs.HasText.{IsText};
 ghost use Rattle.plan_lines.specs.Scans.{indexed_text};
-ghost use Rattle.plan_lines.specs.TitleKinds.{behind_words, kind_of};
+ghost use Rattle.plan_lines.specs.TitleKinds.{behind_words, kind_of, parted_title};
+ghost use Rattle.plan_lines.specs.Behind.{GivesBehind, IsLeft};
 
 use crate::indexes::IndexScan;
 use crate::keys::behind_keys;
@@ -40,7 +40,7 @@ fn behind_index<'a>(
     requires relation { scan.rel.0 < width q.now }
     requires index { IsIndex cat.now scan.index }
     ensures is { IfSome result (λ l. text.now ≡ indexed_text cat.now q.now scan ++ l.now) }
-    ensures only { (rest : List ℕ) → text.now ≡ indexed_text cat.now q.now scan ++ rest → option_map (λ l. l.now) result ≡ Some rest }
+    ensures only { GivesBehind (indexed_text cat.now q.now scan) text.now result }
 {
     let left = behind(behind(text, direction_bytes(scan.backward))?, b" using ")?;
     let left = behind(left, cat.index_name(scan.index))?;
@@ -73,8 +73,8 @@ fn behind_node_keys<'a>(
     requires bound { IsWellBound cat.now q.now }
     requires has { IsText cat.now q.now (plan p.now) }
     requires classes { All (λ n. n < length q.now.classes.classes) keys.now }
-    ensures is { IfSome result (λ l. text.now ≡ texts.keys_text cat.now q.now (plans.set_of (plan p.now)) keys.now ++ l.now) }
-    ensures only { (rest : List ℕ) → text.now ≡ texts.keys_text cat.now q.now (plans.set_of (plan p.now)) keys.now ++ rest → option_map (λ l. l.now) result ≡ Some rest }
+    ensures is { IfSome result (IsLeft (node_keys cat.now q.now (plan p.now) keys.now) text.now) }
+    ensures only { GivesBehind (node_keys cat.now q.now (plan p.now) keys.now) text.now result }
 {
     behind_keys(text, cat, q, set_of(p), keys.items())
 }
@@ -99,7 +99,7 @@ fn behind_named<'a>(text: &'a [u8], cat: &Catalog, q: &Prepared, p: &Plan) -> Op
     requires bound { IsWellBound cat.now q.now }
     requires has { IsText cat.now q.now (plan p.now) }
     ensures is { IfSome result (λ l. text.now ≡ behind_words cat.now q.now (plan p.now) ++ l.now) }
-    ensures only { (rest : List ℕ) → text.now ≡ behind_words cat.now q.now (plan p.now) ++ rest → option_map (λ l. l.now) result ≡ Some rest }
+    ensures only { GivesBehind (behind_words cat.now q.now (plan p.now)) text.now result }
 {
     match p {
         Plan::Seq { rel } => behind_relation(text, cat, q, *rel),
@@ -126,8 +126,8 @@ fn behind_named<'a>(text: &'a [u8], cat: &Catalog, q: &Prepared, p: &Plan) -> Op
 fn behind_parts<'a>(text: &'a [u8], cat: &Catalog, q: &Prepared, p: &Plan) -> Option<&'a [u8]>
     requires bound { IsWellBound cat.now q.now }
     requires has { IsText cat.now q.now (plan p.now) }
-    ensures is { IfSome result (λ l. text.now ≡ (words (kind_of (plan p.now)) ++ behind_words cat.now q.now (plan p.now)) ++ l.now) }
-    ensures only { (rest : List ℕ) → text.now ≡ (words (kind_of (plan p.now)) ++ behind_words cat.now q.now (plan p.now)) ++ rest → option_map (λ l. l.now) result ≡ Some rest }
+    ensures is { IfSome result (λ l. text.now ≡ parted_title cat.now q.now (plan p.now) ++ l.now) }
+    ensures only { GivesBehind (parted_title cat.now q.now (plan p.now)) text.now result }
 {
     let left = behind(text, words_of(p))?;
     behind_named(left, cat, q, p)
@@ -138,7 +138,7 @@ pub fn behind_title<'a>(text: &'a [u8], cat: &Catalog, q: &Prepared, p: &Plan) -
     requires bound { IsWellBound cat.now q.now }
     requires has { IsText cat.now q.now (plan p.now) }
     ensures is { IfSome result (λ l. text.now ≡ texts.title cat.now q.now (plan p.now) ++ l.now) }
-    ensures only { (rest : List ℕ) → text.now ≡ texts.title cat.now q.now (plan p.now) ++ rest → option_map (λ l. l.now) result ≡ Some rest }
+    ensures only { GivesBehind (title cat.now q.now (plan p.now)) text.now result }
 {
     behind_parts(text, cat, q, p)
 }

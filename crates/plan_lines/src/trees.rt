@@ -1,16 +1,11 @@
 //! Bitmap trees, read line by line.
 
-ghost use Rattle.std.specs.Prelude.{◌≡◌, ◌≤◌, ◌+◌, ◌++◌, ℕ, List, All, IfOk, IfSome, Some, length, option_map};
-ghost use Rattle.std.specs.List.{flat_map};
-ghost use Rattle.pg_base.specs.declared.numbers.IndexNo as numbers;
-ghost use Rattle.certificate_entries.specs.explain_Texts.{leaf_line, trees_text};
-ghost use Rattle.plan_lines.specs.Parts.{IsShallow};
-ghost use Rattle.plan_tree.specs.Plans as trees;
+ghost use Rattle.std.specs.Prelude.{◌≤◌, IfOk, IfSome, length};
 ghost use Rattle.plan_tree.specs.Views.{bits};
 ghost use Rattle.sql_query.specs.WellBound.{IsWellBound};
-ghost use Rattle.plan_lines.specs.HasText.{HasBits, IsConjunct, IsIndexOfQuery};
-ghost use Rattle.plan_lines.specs.Lines.{beneath, leaf_title, tree_title};
-ghost use Rattle.plan_lines.specs.Stands.{Stands};
+ghost use Rattle.plan_lines.specs.HasText.{IsConjunct, IsIndexOfQuery};
+ghost use Rattle.plan_lines.specs.Finding.{FindsLeafAt};
+ghost use Rattle.plan_lines.specs.Trees.{HasBitsAt, ReadsAll, ReadsArms, ReadsTreeAt};
 
 use crate::Lines;
 use crate::bitmap_lines::{TreeLine, read_leaf, read_line};
@@ -23,7 +18,7 @@ use std::alloc::Global;
 /// The index whose entries a line at a depth scans.
 fn read_leaf_at(line: &[u8], cat: &Catalog, q: &Prepared, depth: u8) -> Option<IndexNo>
     ensures has { IfSome result (λ i. IsIndexOfQuery cat.now q.now i × (depth ≤ 64)) }
-    ensures only { (i : numbers.IndexNo) → IsIndexOfQuery cat.now q.now i → depth ≤ 64 → line.now ≡ leaf_title cat.now i → result ≡ Some i }
+    ensures only { FindsLeafAt cat.now q.now depth line.now result }
 {
     if depth > 64 {
         return None;
@@ -42,10 +37,8 @@ fn read_arms(
 ) -> Result<Option<BitTree>, Memory>
     requires deep { depth ≤ 64 }
     requires clause { IsConjunct cat.now q.now clause }
-    ensures has { IfOk result (λ o. IfSome o (λ b. HasBits cat.now q.now (bits b) × Stands depth (bits b))) }
-    ensures only { IfOk result (λ o. (is : List numbers.IndexNo) (rest : List ℕ) → All (IsIndexOfQuery cat.now q.now) is → All (λ i. depth + 1 ≤ 64) is →
-        IsShallow depth rest → at.old ≡ flat_map (leaf_line cat.now (depth + 1)) is ++ rest →
-        (option_map bits o ≡ Some (trees.some_arm clause is)) × (at.new ≡ rest)) }
+    ensures has { IfOk result (λ o. IfSome o (λ b. HasBitsAt cat.now q.now depth (bits b))) }
+    ensures only { IfOk result (λ o. ReadsArms cat.now q.now depth clause at.old at.new o) }
     ensures shorter { length at.new ≤ length at.old }
 {
     cat.lawful();
@@ -72,9 +65,8 @@ pub fn read_tree(
 ) -> Result<Option<BitTree>, Memory>
     requires bound { IsWellBound cat.now q.now }
     requires deep { depth ≤ 65 }
-    ensures has { IfOk result (λ o. IfSome o (λ b. HasBits cat.now q.now (bits b) × Stands depth (bits b))) }
-    ensures only { IfOk result (λ o. (b : trees.BitTree) (rest : List ℕ) → HasBits cat.now q.now b → Stands depth b → IsShallow depth rest →
-        line.now ≡ tree_title cat.now q.now b → at.old ≡ beneath cat.now q.now depth b ++ rest → (option_map bits o ≡ Some b) × (at.new ≡ rest)) }
+    ensures has { IfOk result (λ o. IfSome o (λ b. HasBitsAt cat.now q.now depth (bits b))) }
+    ensures only { IfOk result (λ o. ReadsTreeAt cat.now q.now depth line.now at.old at.new o) }
     ensures shorter { length at.new ≤ length at.old }
 {
     if depth > 64 {
@@ -99,9 +91,8 @@ fn read_all(
 ) -> Result<Option<BitTree>, Memory>
     requires bound { IsWellBound cat.now q.now }
     requires deep { depth ≤ 64 }
-    ensures has { IfOk result (λ o. IfSome o (λ b. HasBits cat.now q.now (bits b) × Stands depth (bits b))) }
-    ensures only { IfOk result (λ o. (bs : trees.BitTrees) (rest : List ℕ) → HasBits cat.now q.now (trees.all_hold bs) → Stands depth (trees.all_hold bs) →
-        IsShallow depth rest → at.old ≡ trees_text cat.now q.now (depth + 1) bs ++ rest → (option_map bits o ≡ Some (trees.all_hold bs)) × (at.new ≡ rest)) }
+    ensures has { IfOk result (λ o. IfSome o (λ b. HasBitsAt cat.now q.now depth (bits b))) }
+    ensures only { IfOk result (λ o. ReadsAll cat.now q.now depth at.old at.new o) }
     ensures shorter { length at.new ≤ length at.old }
 {
     cat.lawful();

@@ -24,7 +24,7 @@ use Rattle.pathkeys.specs.Keys.{Keys}
 use Rattle.sql_query.specs.Queries.{Query, width}
 use Rattle.sql_query.specs.WellBound.{IsWellBound}
 use Rattle.plan_tree.specs.Plans.{Plan, seq, index, index_only, bitmap, sort, nest, merge, BitTree, leaf, all_hold, some_arm, BitTrees, no_trees, tree_and, set_of}
-use Rattle.plan_lines.specs.explain_Texts.{bits_text, conjunct_by, direction_text, family_text, figures_text, key_text, member_text, with_commas, keys_text, lead, leaf_line, number_text, rel_text, scanned_text, title, trees_text}
+use Rattle.plan_lines.specs.explain_Texts.{bits_text, conjunct_by, direction_text, family_text, figures_text, key_text, keys_text, lead, leaf_line, leaf_title, member_text, number_text, rel_text, scanned_text, title, trees_text, with_commas}
 use Rattle.plan_lines.specs.explain_laws_ClassLemmas.{AreShownKeys, IsShownKey, keys-split}
 use Rattle.plan_lines.specs.explain_laws_ConjunctLemmas.{conjunct-same}
 use Rattle.plan_lines.specs.explain_laws_NameLemmas.{alias-name, alias-same, index-name, index-same, relation-table, table-name}
@@ -42,7 +42,7 @@ use Rattle.plan_lines.specs.TitleKinds.{behind_words, kind_of}
 use Rattle.plan_lines.specs.Scans.{indexed_text}
 use Rattle.plan_lines.proofs.KeyLemmas.{title-is}
 use Rattle.plan_lines.proofs.ScannedLemmas.{scanned-split}
-use Rattle.plan_lines.specs.Lines.{beneath, leaf_title, tree_title}
+use Rattle.plan_lines.specs.Lines.{beneath, tree_title}
 use Rattle.plan_lines.proofs.CompareLemmas.{some-of}
 use Rattle.plan_lines.proofs.LineLemmas.{line-shallow, shallow-end, shallow-more}
 use Rattle.plan_lines.proofs.TreeLemmas.{bits-is}

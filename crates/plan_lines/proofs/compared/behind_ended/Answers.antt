@@ -1,6 +1,6 @@
 use Rattle.std.proofs.Common.{ap, codes}
 use Rattle.std.specs.Prelude.{option_map}
-use Rattle.plan_lines.specs.Lines.{leaf_title}
+use Rattle.certificate_entries.specs.explain_Texts.{leaf_title}
 use Rattle.plan_lines.proofs.CompareLemmas.{two-if, two-none, two-only}
 use Rattle.plan_lines.proofs.compared.behind_ended.Goals as goal
 

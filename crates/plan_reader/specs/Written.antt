@@ -20,10 +20,14 @@ abbrev pub later_pairs : List Pair → List Pair
 later_pairs [] = []
 later_pairs (n ∷ ns) = ns
 
+-- these numbers as a cost and rows
+abbrev pub figures_with : Pair → List ℕ
+figures_with n = figures_text (decimal n.0) n.1
+
 module _ (c : Contents) (q : Query) where
   -- the line of a node with these numbers
   abbrev pub line_with : ℕ → Plan → Pair → List ℕ
-  line_with d p n = lead d ++ (title c q p ++ figures_text (decimal n.0) n.1)
+  line_with d p n = lead d ++ (title c q p ++ figures_with n)
 
   -- the lines beneath the first of a plan at a depth, with the numbers behind the first pair: a pair for each node, the
   -- node's first, an outer side's before an inner's

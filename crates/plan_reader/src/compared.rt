@@ -1,14 +1,11 @@
 //! Plans with numbers compared with a text.
 
-ghost use Rattle.std.specs.Prelude.{◌≡◌, ◌≤◌, ◌++◌, ℕ, List, All, IfSome, Some, length, option_map};
-ghost use Rattle.std.specs.Fmt.{decimal};
-ghost use Rattle.plan_lines.specs.explain_Texts.{figures_text};
-ghost use Rattle.plan_space.specs.Numbered.{Pair, nodes};
+ghost use Rattle.std.specs.Prelude.{◌≡◌, ◌≤◌, ◌++◌, IfSome};
 ghost use Rattle.plan_tree.specs.Views.{plan};
 ghost use Rattle.sql_query.specs.WellBound.{IsWellBound};
 ghost use Rattle.plan_lines.specs.HasText.{IsText};
-ghost use Rattle.plan_reader.specs.Beneath.{IsBehind};
-ghost use Rattle.plan_reader.specs.Written.{Fits, StandsAt, line_with, written_at};
+ghost use Rattle.plan_reader.specs.Written.{Fits, StandsAt, figures_with, line_with};
+ghost use Rattle.plan_reader.specs.Compared.{GivesBoth, GivesFitting, IsBehindLine, LeavesBoth};
 
 use catalog::Catalog;
 use plan_lines::{behind, behind_bits, behind_lead, behind_number, behind_title};
@@ -17,8 +14,8 @@ use sql_query::Prepared;
 
 /// What stands behind the numbers of a node. None where a text does not begin with them, or one has more than 19 digits.
 fn behind_numbers(text: &[u8], n: (u64, u64)) -> Option<&[u8]>
-    ensures is { IfSome result (λ l. Fits n × (text.now ≡ figures_text (decimal n.0) n.1 ++ l.now)) }
-    ensures only { (rest : List ℕ) → Fits n → text.now ≡ figures_text (decimal n.0) n.1 ++ rest → option_map (λ l. l.now) result ≡ Some rest }
+    ensures is { IfSome result (λ l. Fits n × (text.now ≡ figures_with n ++ l.now)) }
+    ensures only { GivesFitting n (figures_with n) text.now result }
 {
     let (cost, rows) = n;
     let left = behind_number(behind(text, b"  (cost=")?, cost)?;
@@ -37,8 +34,8 @@ fn behind_line<'a>(
 ) -> Option<&'a [u8]>
     requires bound { IsWellBound cat.now q.now }
     requires has { IsText cat.now q.now (plan p.now) }
-    ensures is { IfSome result (λ l. Fits n × (text.now ≡ line_with cat.now q.now depth (plan p.now) n ++ l.now)) }
-    ensures only { (rest : List ℕ) → Fits n → text.now ≡ line_with cat.now q.now depth (plan p.now) n ++ rest → option_map (λ l. l.now) result ≡ Some rest }
+    ensures is { IfSome result (IsBehindLine cat.now q.now depth (plan p.now) n text.now) }
+    ensures only { GivesFitting n (line_with cat.now q.now depth (plan p.now) n) text.now result }
 {
     let left = behind_title(behind_lead(text, depth)?, cat, q, p)?;
     behind_numbers(left, n)
@@ -58,9 +55,8 @@ pub(crate) fn behind_plan<'a>(
     requires bound { IsWellBound cat.now q.now }
     requires has { IsText cat.now q.now (plan p.now) }
     requires stands { StandsAt depth (plan p.now) }
-    ensures is { IfSome result (λ s. IsBehind cat.now q.now depth (plan p.now) text.now numbers.now s.0.now s.1.now) }
-    ensures only { (ns more : List Pair) (rest : List ℕ) → length ns ≡ nodes (plan p.now) → All Fits ns → numbers.now ≡ ns ++ more →
-        text.now ≡ written_at cat.now q.now depth (plan p.now) ns ++ rest → option_map {U = List ℕ × List Pair} (λ s. (s.0.now, s.1.now)) result ≡ Some (rest, more) }
+    ensures is { IfSome result (LeavesBoth cat.now q.now depth (plan p.now) text.now numbers.now) }
+    ensures only { GivesBoth cat.now q.now depth (plan p.now) text.now numbers.now result }
 {
     let (first, numbers) = numbers.split_first()?;
     let left = behind_line(text, cat, q, depth, p, *first)?;

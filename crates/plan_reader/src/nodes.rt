@@ -1,17 +1,15 @@
 //! Nodes, and what stands beneath them.
 
-ghost use Rattle.std.specs.Prelude.{◌≡◌, ◌<◌, ◌≤◌, ◌+◌, ◌++◌, ℕ, List, All, IfOk, IfSome, Some, length, option_map};
+ghost use Rattle.std.specs.Prelude.{◌≡◌, ◌<◌, ◌≤◌, ◌+◌, ◌++◌, ℕ, All, IfOk, IfSome, Some, length, option_map};
 ghost use Rattle.pg_base.specs.Sets.{has};
-ghost use Rattle.eq_classes.specs.Parts.{union};
 ghost use Rattle.plan_tree.specs.Plans as plans;
 ghost use Rattle.plan_tree.specs.Reads.{ReadsBelow};
 ghost use Rattle.plan_tree.specs.Views.{plan};
 ghost use Rattle.sql_query.specs.WellBound.{IsWellBound};
-ghost use Rattle.plan_lines.specs.certificate_text_HasText.{HasKeysText};
-ghost use Rattle.plan_lines.specs.explain_Texts.{keys_text};
 ghost use Rattle.plan_lines.specs.HasText.{IsText};
-ghost use Rattle.plan_reader.specs.Beneath.{AreRead, IsRead};
 ghost use Rattle.plan_reader.specs.Written.{StandsAt};
+ghost use Rattle.plan_reader.specs.Nodes.{AreSidesAt, FindsMerge, FindsSort, IsTextAt, ReadsPair, ReadsPlan, joined_set};
+ghost use Rattle.plan_tree.specs.Plans.{nest};
 
 use crate::lines::read_first;
 use crate::scans::{bitmap_of, index_of, index_only_of, seq_of};
@@ -34,9 +32,9 @@ fn sort_of(
     requires bound { IsWellBound cat.now q.now }
     requires input { IsText cat.now q.now (plan input) }
     ensures has { IfOk result (λ o. IfSome o (λ p. IsText cat.now q.now (plan p))) }
-    ensures stands { (d : ℕ) → d ≤ 64 → StandsAt (d + 1) (plan input) → IfOk result (λ o. IfSome o (λ p. StandsAt d (plan p))) }
-    ensures only { IfOk result (λ o. (keys : List ℕ) → HasKeysText q.now (plans.set_of (plan input)) keys →
-        behind.now ≡ keys_text cat.now q.now (plans.set_of (plan input)) keys → option_map plan o ≡ Some (plans.sort keys (plan input))) }
+    ensures stands { (d : ℕ) → d ≤ 64 → StandsAt (d + 1) (plan input) →
+        IfOk result (λ o. IfSome o (λ p. StandsAt d (plan p))) }
+    ensures only { IfOk result (λ o. FindsSort cat.now q.now behind.now (plan input) o) }
 {
     let set = set_of(&input);
     match read_node_keys(alloc, behind, cat, q, set)? {
@@ -50,7 +48,7 @@ fn sort_of(
 
 /// A nested loop of two plans.
 fn nest_of(alloc: Global, outer: Plan, inner: Plan) -> Result<Option<Plan>, Memory>
-    ensures only { IfOk result (λ o. option_map plan o ≡ Some (plans.nest (plan outer) (plan inner))) }
+    ensures only { IfOk result (λ o. option_map plan o ≡ Some (nest (plan outer) (plan inner))) }
 {
     let outer = Box::new(alloc, outer)?;
     let inner = Box::new(alloc, inner)?;
@@ -70,7 +68,7 @@ fn merged(alloc: Global, keys: Keys, outer: Plan, inner: Plan) -> Result<Plan, M
 fn both_sets(outer: &Plan, inner: &Plan) -> RelSet
     requires outer { ReadsBelow 16 (plan outer.now) }
     requires inner { ReadsBelow 16 (plan inner.now) }
-    ensures { (k : ℕ) → has result.0 k ≡ union (plans.set_of (plan outer.now)) (plans.set_of (plan inner.now)) k }
+    ensures { (k : ℕ) → has result.0 k ≡ joined_set (plan outer.now) (plan inner.now) k }
 {
     set_of(outer).union(set_of(inner))
 }
@@ -88,10 +86,9 @@ fn merge_of(
     requires outer { IsText cat.now q.now (plan outer) }
     requires inner { IsText cat.now q.now (plan inner) }
     ensures has { IfOk result (λ o. IfSome o (λ p. IsText cat.now q.now (plan p))) }
-    ensures stands { (d : ℕ) → d ≤ 64 → StandsAt (d + 1) (plan outer) → StandsAt (d + 1) (plan inner) → IfOk result (λ o. IfSome o (λ p. StandsAt d (plan p))) }
-    ensures only { IfOk result (λ o. (keys : List ℕ) → HasKeysText q.now (union (plans.set_of (plan outer)) (plans.set_of (plan inner))) keys →
-        behind.now ≡ keys_text cat.now q.now (union (plans.set_of (plan outer)) (plans.set_of (plan inner))) keys →
-        option_map plan o ≡ Some (plans.merge keys (plan outer) (plan inner))) }
+    ensures stands { (d : ℕ) → d ≤ 64 → StandsAt (d + 1) (plan outer) →
+        StandsAt (d + 1) (plan inner) → IfOk result (λ o. IfSome o (λ p. StandsAt d (plan p))) }
+    ensures only { IfOk result (λ o. FindsMerge cat.now q.now behind.now outer inner o) }
 {
     let set = both_sets(&outer, &inner);
     match read_node_keys(alloc, behind, cat, q, set)? {
@@ -116,8 +113,9 @@ pub(crate) fn read_node(
 ) -> Result<Option<Plan>, Memory>
     requires bound { IsWellBound cat.now q.now }
     requires deep { depth ≤ 65 }
-    ensures has { IfOk result (λ o. IfSome o (λ p. IsText cat.now q.now (plan p) × StandsAt depth (plan p))) }
-    ensures only { IfOk result (λ o. IsRead cat.now q.now depth at.old at.new numbers.old.items numbers.new.items (option_map plan o)) }
+    ensures has { IfOk result (λ o. IfSome o (λ p. IsTextAt cat.now q.now depth (plan p))) }
+    ensures only { IfOk result (λ o.
+        ReadsPlan cat.now q.now depth at.old at.new numbers.old numbers.new o) }
 {
     if depth > 64 {
         return Ok(None);
@@ -158,8 +156,9 @@ fn read_pair(
 ) -> Result<Option<(Plan, Plan)>, Memory>
     requires bound { IsWellBound cat.now q.now }
     requires deep { depth ≤ 64 }
-    ensures has { IfOk result (λ o. IfSome o (λ s. (IsText cat.now q.now (plan s.0) × StandsAt (depth + 1) (plan s.0)) × (IsText cat.now q.now (plan s.1) × StandsAt (depth + 1) (plan s.1)))) }
-    ensures only { IfOk result (λ o. AreRead cat.now q.now depth at.old at.new numbers.old.items numbers.new.items (option_map {U = plans.Plan × plans.Plan} (λ s. (plan s.0, plan s.1)) o)) }
+    ensures has { IfOk result (λ o. IfSome o (λ s. AreSidesAt cat.now q.now (depth + 1) s)) }
+    ensures only { IfOk result (λ o.
+        ReadsPair cat.now q.now depth at.old at.new numbers.old numbers.new o) }
 {
     let outer = match read_node(alloc, at, cat, q, depth + 1, numbers)? {
         Some(outer) => outer,

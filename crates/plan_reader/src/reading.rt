@@ -1,13 +1,12 @@
 //! The whole text of a plan.
 
-ghost use Rattle.std.specs.Prelude.{◌≡◌, ◌↔◌, ℕ, List, IfErr, IfOk, IsTrue};
-ghost use Rattle.plan_space.specs.Numbered.{Pair};
-ghost use Rattle.plan_tree.specs.Plans as plans;
+ghost use Rattle.std.specs.Prelude.{◌≡◌, ◌↔◌, ℕ, IfErr, IfOk, IsTrue};
 ghost use Rattle.plan_tree.specs.Views.{plan};
 ghost use Rattle.sql_query.specs.WellBound.{IsWellBound};
 ghost use Rattle.plan_lines.specs.HasText.{IsText};
 ghost use Rattle.plan_reader.specs.Written.{IsWritten, StandsAt};
 ghost use Rattle.plan_reader.specs.declared.reading.WrittenFault.TheVariants.{P1};
+ghost use Rattle.plan_reader.specs.Nodes.{IsNoPlan, IsOnlyPlan};
 
 use crate::compared::behind_plan;
 use crate::nodes::read_node;
@@ -93,8 +92,8 @@ pub fn read_plan(
 ) -> Result<Written, WrittenFault>
     requires bound { IsWellBound cat.now q.now }
     ensures read { IfOk result (λ w. IsWritten cat.now q.now block.now (plan w.plan) w.numbers) }
-    ensures only { IfOk result (λ w. (p : plans.Plan) (ns : List Pair) → IsWritten cat.now q.now block.now p ns → (p ≡ plan w.plan) × (ns ≡ w.numbers)) }
-    ensures none { IfErr result (λ e. e ≡ P1 → (p : plans.Plan) (ns : List Pair) → ¬ IsWritten cat.now q.now block.now p ns) }
+    ensures only { IfOk result (λ w. IsOnlyPlan cat.now q.now block.now (plan w.plan) w.numbers) }
+    ensures none { IfErr result (λ e. e ≡ P1 → IsNoPlan cat.now q.now block.now) }
 {
     let mut at = Lines::new(block);
     let mut numbers = Vec::new(alloc);

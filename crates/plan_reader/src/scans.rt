@@ -1,20 +1,13 @@
 //! Scans, from what stands behind their words, and beneath their lines.
 
-ghost use Rattle.std.specs.Prelude.{◌≡◌, ◌<◌, ◌≤◌, ◌+◌, ◌++◌, ℕ, Bool, List, IfOk, IfSome, Some, length, option_map};
-ghost use Rattle.pg_base.specs.declared.numbers.IndexNo as numbers;
-ghost use Rattle.pg_base.specs.declared.numbers.RelNo as rels;
-ghost use Rattle.pg_base.specs.declared.rel_set.RelSet as sets;
-ghost use Rattle.plan_lines.specs.explain_Texts.{bits_text, rel_text, scanned_text};
-ghost use Rattle.plan_lines.specs.Parts.{IsShallow};
+ghost use Rattle.std.specs.Prelude.{◌≤◌, ◌+◌, ℕ, Bool, IfOk, IfSome, length};
 ghost use Rattle.plan_tree.specs.Plans as plans;
 ghost use Rattle.plan_tree.specs.Views.{bits, plan};
-ghost use Rattle.sql_query.specs.Queries.{width};
 ghost use Rattle.sql_query.specs.WellBound.{IsWellBound};
-ghost use Rattle.plan_lines.specs.HasText.{HasBits, IsIndexOfQuery, IsScanned, IsText};
-ghost use Rattle.plan_lines.specs.Scans.{IsIndexScan, indexed_text};
-ghost use Rattle.plan_lines.specs.declared.indexes.IndexScan as scans;
-ghost use Rattle.plan_lines.specs.Stands.{Stands};
+ghost use Rattle.plan_lines.specs.HasText.{IsIndexOfQuery, IsText};
 ghost use Rattle.plan_reader.specs.Written.{StandsAt};
+ghost use Rattle.plan_reader.specs.Nodes.{FindsIndexed, FindsSeq, IsTextAt, ReadsBits, ReadsHeapScan};
+ghost use Rattle.plan_lines.specs.Trees.{HasBitsAt};
 
 use catalog::Catalog;
 use pg_base::Memory;
@@ -28,7 +21,7 @@ pub(crate) fn seq_of(behind: &[u8], cat: &Catalog, q: &Prepared) -> Option<Plan>
     requires bound { IsWellBound cat.now q.now }
     ensures has { IfSome result (λ p. IsText cat.now q.now (plan p)) }
     ensures stands { (d : ℕ) → d ≤ 64 → IfSome result (λ p. StandsAt d (plan p)) }
-    ensures only { (r : rels.RelNo) → r.0 < width q.now → behind.now ≡ rel_text cat.now q.now r → option_map plan result ≡ Some (plans.seq r) }
+    ensures only { FindsSeq cat.now q.now behind.now result }
 {
     let rel = read_relation(behind, cat, q)?;
     Some(Plan::Seq { rel })
@@ -39,8 +32,7 @@ pub(crate) fn index_of(behind: &[u8], cat: &Catalog, q: &Prepared) -> Option<Pla
     requires bound { IsWellBound cat.now q.now }
     ensures has { IfSome result (λ p. IsText cat.now q.now (plan p)) }
     ensures stands { (d : ℕ) → d ≤ 64 → IfSome result (λ p. StandsAt d (plan p)) }
-    ensures only { (s : scans.IndexScan) → IsIndexScan cat.now q.now s → behind.now ≡ indexed_text cat.now q.now s →
-        option_map plan result ≡ Some (plans.index s.rel s.index s.backward s.param) }
+    ensures only { FindsIndexed cat.now q.now plans.index behind.now result }
 {
     let scan = read_index_scan(behind, cat, q)?;
     Some(Plan::Index {
@@ -56,8 +48,7 @@ pub(crate) fn index_only_of(behind: &[u8], cat: &Catalog, q: &Prepared) -> Optio
     requires bound { IsWellBound cat.now q.now }
     ensures has { IfSome result (λ p. IsText cat.now q.now (plan p)) }
     ensures stands { (d : ℕ) → d ≤ 64 → IfSome result (λ p. StandsAt d (plan p)) }
-    ensures only { (s : scans.IndexScan) → IsIndexScan cat.now q.now s → behind.now ≡ indexed_text cat.now q.now s →
-        option_map plan result ≡ Some (plans.index_only s.rel s.index s.backward s.param) }
+    ensures only { FindsIndexed cat.now q.now plans.index_only behind.now result }
 {
     let scan = read_index_scan(behind, cat, q)?;
     Some(Plan::IndexOnly {
@@ -78,9 +69,8 @@ fn read_bits(
 ) -> Result<Option<BitTree>, Memory>
     requires bound { IsWellBound cat.now q.now }
     requires deep { depth ≤ 64 }
-    ensures has { IfOk result (λ o. IfSome o (λ b. HasBits cat.now q.now (bits b) × Stands (depth + 1) (bits b))) }
-    ensures only { IfOk result (λ o. (b : plans.BitTree) (rest : List ℕ) → HasBits cat.now q.now b → Stands (depth + 1) b → IsShallow (depth + 1) rest →
-        at.old ≡ bits_text cat.now q.now (depth + 1) b ++ rest → (option_map bits o ≡ Some b) × (at.new ≡ rest)) }
+    ensures has { IfOk result (λ o. IfSome o (λ b. HasBitsAt cat.now q.now (depth + 1) (bits b))) }
+    ensures only { IfOk result (λ o. ReadsBits cat.now q.now (depth + 1) at.old at.new o) }
 {
     cat.lawful();
     match at.next_at(depth + 1) {
@@ -100,10 +90,8 @@ pub(crate) fn bitmap_of(
 ) -> Result<Option<Plan>, Memory>
     requires bound { IsWellBound cat.now q.now }
     requires deep { depth ≤ 64 }
-    ensures has { IfOk result (λ o. IfSome o (λ p. IsText cat.now q.now (plan p) × StandsAt depth (plan p))) }
-    ensures only { IfOk result (λ o. (r : rels.RelNo) (p : sets.RelSet) (b : plans.BitTree) (rest : List ℕ) → IsScanned cat.now q.now r p → HasBits cat.now q.now b →
-        Stands (depth + 1) b → IsShallow (depth + 1) rest → behind.now ≡ scanned_text cat.now q.now r p → at.old ≡ bits_text cat.now q.now (depth + 1) b ++ rest →
-        (option_map plan o ≡ Some (plans.bitmap r p b)) × (at.new ≡ rest)) }
+    ensures has { IfOk result (λ o. IfSome o (λ p. IsTextAt cat.now q.now depth (plan p))) }
+    ensures only { IfOk result (λ o. ReadsHeapScan cat.now q.now depth behind.now at.old at.new o) }
 {
     let Some((rel, param)) = read_scanned(behind, cat, q) else {
         return Ok(None);

@@ -1,13 +1,15 @@
 -- What reading a block comes to. Own.
-use Rattle.std.specs.Prelude.{◌≡◌, ◌+◌, ℕ, suc, Bool, true, cond, ◌==◌, List, [], ◌∷◌, ◌++◌, length, All, Option, Some, None, Result, Ok, Err}
+use Rattle.std.specs.Prelude.{◌≡◌, ◌+◌, ℕ, suc, Bool, true, cond, ◌==◌, List, [], ◌∷◌, ◌++◌, length, map, All, Option, Some, None, Result, Ok, Err, Vec}
+use Rattle.std.specs.declared.alloc.Global.{Global}
 use Rattle.catalog.specs.Contents.{Contents}
 use Rattle.sql_query.specs.Queries.{Query}
 use Rattle.sql_query.specs.declared.window.Window.{Window}
 use Rattle.plan_check.specs.Certificates.{Certificate, Entry, Side}
-use Rattle.plan_check.specs.Views.{certificate}
+use Rattle.plan_check.specs.Views.{certificate, entry}
+use Rattle.plan_check.specs.declared.entry.Entry.{Entry as Entered}
 use Rattle.plan_check.specs.declared.certificate.Certificate.{Certificate as Certified}
 use Rattle.certificate_entries.specs.certificate_text_HasText.{HasEntryLine, HasText}
-use Rattle.certificate_entries.specs.certificate_text_Texts.{certificate_text, ended, entry_line, is_line}
+use Rattle.certificate_entries.specs.certificate_text_Texts.{certificate_text, ended, entry_line, head_text, is_line}
 use Rattle.certificate_entries.specs.Reading.{IsBestRead}
 use Rattle.certificate_reader.specs.Faults.{IsFaultLine, IsText, joined}
 use Rattle.certificate_reader.specs.Passed.{Passed}
@@ -24,7 +26,27 @@ abbrev pub head_lines : Option Window → ℕ
 head_lines None = 0
 head_lines (Some w) = 1
 
+-- a text begins with a line, ended by LF, and this follows
+abbrev pub IsFirstLine : List ℕ → List ℕ → List ℕ → Type 0
+IsFirstLine text line rest = (text ≡ ended line ++ rest) × (is_line line ≡ true)
+
+-- a block does not begin with the first line of a certificate
+abbrev pub LacksHead : Option Window → List ℕ → Type 0
+LacksHead window block = (rest : List ℕ) → ¬ (block ≡ head_text window ++ rest)
+
+-- entries get one more at their end
+abbrev pub GetsEntry : Vec Entered Global → Vec Entered Global → Entered → Type 0
+GetsEntry old new made = map entry new.items ≡ map entry old.items ++ entry made ∷ []
+
 module _ (c : Contents) (q : Query) where
+  -- the block is the text of a certificate
+  abbrev pub IsCertificateOf : List ℕ → Certificate → Type 0
+  IsCertificateOf block t = HasText c q t × (certificate_text c q t ≡ block)
+
+  -- the block is the text of no other certificate
+  abbrev pub IsOnlyCertificate : List ℕ → Certificate → Type 0
+  IsOnlyCertificate block t = (o : Certificate) → HasText c q o → certificate_text c q o ≡ block → o ≡ t
+
   -- each of some entries is the only one with its line; the first has the number n
   abbrev pub AreOnly : ℕ → List Entry → Type 0
   AreOnly n [] = Unit {0}
@@ -52,7 +74,7 @@ module _ (c : Contents) (q : Query) where
   pub record IsBlockRead (block : List ℕ) (t : Certificate) : Type 0 where
     pub has : HasText c q t
     pub is : certificate_text c q t ≡ block
-    pub only : (o : Certificate) → HasText c q o → certificate_text c q o ≡ block → o ≡ t
+    pub only : IsOnlyCertificate block t
 
   -- a block is no text, and that is its line at fault; want of memory says nothing
   abbrev pub IsFault : List ℕ → CertFault → Type 0

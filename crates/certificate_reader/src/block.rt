@@ -1,12 +1,10 @@
 //! A block of lines read as a certificate.
 
-ghost use Rattle.std.specs.Prelude.{◌≡◌, ◌<◌, ◌≤◌, ◌∷◌, ◌+◌, ◌++◌, ◌^◌, ℕ, List, [], IfErr, IfNone, IfOk, IfSome, OnOk, length, map, true};
+ghost use Rattle.std.specs.Prelude.{◌≡◌, ◌<◌, ◌≤◌, ◌+◌, ◌++◌, ◌^◌, IfErr, IfNone, IfOk, IfSome, OnOk, length, map, true};
 ghost use Rattle.sql_query.specs.WellBound.{IsWellBound};
-ghost use Rattle.plan_check.specs.Certificates as certs;
 ghost use Rattle.plan_check.specs.Views.{certificate, entry, side};
-ghost use Rattle.certificate_entries.specs.certificate_text_HasText.{HasText};
-ghost use Rattle.certificate_entries.specs.certificate_text_Texts.{certificate_text, ended, head_text, is_line};
-ghost use Rattle.certificate_reader.specs.Reading.{IsAtBest, IsBlock, IsFault, head_lines, line_end};
+ghost use Rattle.certificate_entries.specs.certificate_text_Texts.{head_text, is_line};
+ghost use Rattle.certificate_reader.specs.Reading.{GetsEntry, IsAtBest, IsBlock, IsCertificateOf, IsFault, IsFirstLine, IsOnlyCertificate, LacksHead, head_lines, line_end};
 
 use catalog::Catalog;
 use certificate_entries::{Line, LineFault, ReadLine};
@@ -53,7 +51,7 @@ fn line_length(text: &[u8]) -> usize
 
 /// The first line of a text, without its LF, and what stands behind it. None where the text has no LF.
 fn next_line(text: &[u8]) -> Option<(&[u8], &[u8])>
-    ensures line { IfSome result (λ r. (text.now ≡ ended (r.0).now ++ (r.1).now) × (is_line (r.0).now ≡ true)) }
+    ensures line { IfSome result (λ r. IsFirstLine text.now (r.0).now (r.1).now) }
     ensures less { IfSome result (λ r. length (r.1).now < length text.now) }
     ensures none { IfNone result (is_line text.now ≡ true) }
 {
@@ -69,7 +67,7 @@ fn next_line(text: &[u8]) -> Option<(&[u8], &[u8])>
 /// the block does not begin with that line.
 fn behind_head<'a>(q: &Prepared, block: &'a [u8]) -> Option<&'a [u8]>
     ensures behind { IfSome result (λ left. block.now ≡ head_text q.now.window ++ left.now) }
-    ensures none { IfNone result ((rest : List ℕ) → ¬ (block.now ≡ head_text q.now.window ++ rest)) }
+    ensures none { IfNone result (LacksHead q.now.window block.now) }
 {
     match q.window {
         None => Some(block),
@@ -90,7 +88,7 @@ fn line_number(q: &Prepared, entries: usize) -> u32
 
 /// Puts an entry behind others. The error means want of memory.
 fn push(entries: &mut Vec<Entry>, made: Entry) -> Result<(), Memory>
-    ensures { OnOk result (map entry entries.new.items ≡ map entry entries.old.items ++ entry made ∷ []) }
+    ensures { OnOk result (GetsEntry entries.old entries.new made) }
 {
     entries.push(made)?;
     Ok(())
@@ -172,8 +170,8 @@ pub fn read_block<R: ReadLine>(
 ) -> Result<Certificate, CertFault>
     requires bound { IsWellBound cat.now q.now }
     requires few { length block.now ≤ 2 ^ 31 }
-    ensures read { IfOk result (λ t. HasText cat.now q.now (certificate t) × (certificate_text cat.now q.now (certificate t) ≡ block.now)) }
-    ensures only { IfOk result (λ t. (o : certs.Certificate) → HasText cat.now q.now o → certificate_text cat.now q.now o ≡ block.now → o ≡ certificate t) }
+    ensures read { IfOk result (λ t. IsCertificateOf cat.now q.now block.now (certificate t)) }
+    ensures only { IfOk result (λ t. IsOnlyCertificate cat.now q.now block.now (certificate t)) }
     ensures fault { IfErr result (IsFault cat.now q.now block.now) }
 {
     cat.lawful();

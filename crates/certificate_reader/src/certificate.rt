@@ -1,12 +1,9 @@
 //! The whole text of a certificate.
 
-ghost use Rattle.std.specs.Prelude.{◌≡◌, ◌≤◌, ◌^◌, IfErr, IfOk, length};
+ghost use Rattle.std.specs.Prelude.{◌≤◌, ◌^◌, IfErr, IfOk, length};
 ghost use Rattle.sql_query.specs.WellBound.{IsWellBound};
-ghost use Rattle.plan_check.specs.Certificates as certs;
 ghost use Rattle.plan_check.specs.Views.{certificate};
-ghost use Rattle.certificate_entries.specs.certificate_text_HasText.{HasText};
-ghost use Rattle.certificate_entries.specs.certificate_text_Texts as texts;
-ghost use Rattle.certificate_reader.specs.Reading.{IsFault};
+ghost use Rattle.certificate_reader.specs.Reading.{IsCertificateOf, IsFault, IsOnlyCertificate};
 
 use crate::line::LineReader;
 use crate::{CertFault, read_block};
@@ -27,8 +24,8 @@ pub fn read_certificate(
 ) -> Result<Certificate, CertFault>
     requires bound { IsWellBound cat.now q.now }
     requires few { length block.now ≤ 2 ^ 31 }
-    ensures read { IfOk result (λ t. HasText cat.now q.now (certificate t) × (texts.certificate_text cat.now q.now (certificate t) ≡ block.now)) }
-    ensures only { IfOk result (λ t. (o : certs.Certificate) → HasText cat.now q.now o → texts.certificate_text cat.now q.now o ≡ block.now → o ≡ certificate t) }
+    ensures read { IfOk result (λ t. IsCertificateOf cat.now q.now block.now (certificate t)) }
+    ensures only { IfOk result (λ t. IsOnlyCertificate cat.now q.now block.now (certificate t)) }
     ensures fault { IfErr result (IsFault cat.now q.now block.now) }
 {
     read_block(alloc, &LineReader, cat, q, block)

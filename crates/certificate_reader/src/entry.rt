@@ -1,15 +1,12 @@
 //! Entries from the parts of their lines.
 
-ghost use Rattle.std.specs.Prelude.{◌≡◌, ◌++◌, ◌==◌, ℕ, List, IfNone, IfOk, IfSome, IsTrue, Some, ◌↔◌, codes, false, get_or, option_map};
-ghost use Rattle.std.specs.Fmt.{decimal};
-ghost use Rattle.pg_base.specs.declared.rel_set.RelSet as sets;
+ghost use Rattle.std.specs.Prelude.{◌≡◌, IfNone, IfOk, IfSome, IsTrue, ◌↔◌};
 ghost use Rattle.sql_query.specs.WellBound.{IsWellBound};
-ghost use Rattle.plan_check.specs.Certificates as certs;
 ghost use Rattle.plan_check.specs.Views as views;
 ghost use Rattle.plan_check.specs.Views.{entry};
 ghost use Rattle.certificate_entries.specs.certificate_text_HasText.{HasEntryLine};
-ghost use Rattle.certificate_entries.specs.certificate_text_Texts as texts;
-ghost use Rattle.certificate_reader.specs.Parts.{AreSets, entry_by};
+ghost use Rattle.certificate_reader.specs.Parts.{AreSets, FindsEntry, ReadsHead, ReadsSome, entry_by};
+ghost use Rattle.certificate_entries.specs.certificate_text_Texts.{entry_line};
 
 use crate::measures::{Measures, read_measures};
 use catalog::Catalog;
@@ -25,8 +22,7 @@ use std::alloc::Global;
 fn read_some(at: &mut LineCursor, cat: &Catalog, q: &Prepared) -> Option<(RelSet, RelSet)>
     requires bound { IsWellBound cat.now q.now }
     ensures has { IfSome result (λ p. AreSets q.now p.0 p.1) }
-    ensures only { (s p : sets.RelSet) (rest : List ℕ) → AreSets q.now s p → (get_or rest 0 0 == 102) ≡ false →
-        at.old ≡ texts.set_text q.now s ++ (texts.param_text q.now p ++ (codes " " ++ rest)) → (result ≡ Some (s, p)) × (at.new ≡ rest) }
+    ensures only { ReadsSome q.now at.old at.new result }
 {
     let (set, param) = read_sets(at, cat, q)?;
     set.first()?;
@@ -44,9 +40,7 @@ fn read_head(
 ) -> Result<Option<(RelSet, RelSet)>, Memory>
     requires bound { IsWellBound cat.now q.now }
     ensures has { IfOk result (λ o. IfSome o (λ p. AreSets q.now p.0 p.1)) }
-    ensures only { IfOk result (λ o. (s p : sets.RelSet) (rest : List ℕ) → AreSets q.now s p → (get_or rest 0 0 == 102) ≡ false →
-        at.old ≡ decimal n ++ (codes " " ++ (texts.set_text q.now s ++ (texts.param_text q.now p ++ (codes " " ++ rest)))) →
-        (o ≡ Some (s, p)) × (at.new ≡ rest)) }
+    ensures only { IfOk result (λ o. ReadsHead q.now n at.old at.new o) }
 {
     if !eat_number(alloc, at, n)? {
         return Ok(None);
@@ -84,8 +78,7 @@ pub(crate) fn read_entry(
 ) -> Result<Option<Entry>, Memory>
     requires bound { IsWellBound cat.now q.now }
     ensures has { IfOk result (λ o. IfSome o (λ e. HasEntryLine cat.now q.now (entry e))) }
-    ensures only { IfOk result (λ o. (e : certs.Entry) → HasEntryLine cat.now q.now e → at.old ≡ texts.entry_line cat.now q.now n e →
-        option_map entry o ≡ Some e) }
+    ensures only { IfOk result (λ o. FindsEntry cat.now q.now n at.old o) }
 {
     let (set, param) = match read_head(alloc, at, cat, q, n)? {
         Some(sets) => sets,
@@ -113,7 +106,7 @@ pub(crate) fn is_entry_line(
 ) -> Result<bool, Memory>
     requires bound { IsWellBound cat.now q.now }
     requires has { HasEntryLine cat.now q.now (entry e.now) }
-    ensures { IfOk result (λ b. IsTrue b ↔ (line.now ≡ texts.entry_line cat.now q.now n (entry e.now))) }
+    ensures { IfOk result (λ b. IsTrue b ↔ (line.now ≡ entry_line cat.now q.now n (entry e.now))) }
 {
     let text = entry_line(alloc, cat, q, n, e)?;
     Ok(line == text.items())

@@ -1,12 +1,9 @@
 //! A reader of one line.
 
-ghost use Rattle.std.specs.Prelude.{◌≡◌, IfNone, IfOk, IfSome};
+ghost use Rattle.std.specs.Prelude.{IfNone, IfOk, IfSome};
 ghost use Rattle.sql_query.specs.WellBound.{IsWellBound};
-ghost use Rattle.plan_check.specs.Certificates as certs;
 ghost use Rattle.plan_check.specs.Views.{entry, side};
-ghost use Rattle.certificate_entries.specs.certificate_text_HasText.{HasEntryLine, IsEntryNumber};
-ghost use Rattle.certificate_entries.specs.certificate_text_Texts as texts;
-ghost use Rattle.certificate_entries.specs.Reading.{IsBestRead, IsEntryRead, IsRead};
+ghost use Rattle.certificate_entries.specs.Reading.{IsBestRead, IsEntryRead, IsNoBestLine, IsNoEntryLine, IsRead};
 
 use crate::entry::{is_entry_line, read_entry};
 use catalog::Catalog;
@@ -20,7 +17,7 @@ use std::alloc::Global;
 /// The best plan whose line this is. None where it is that of none. The error means want of memory.
 fn best_of(alloc: Global, line: &[u8]) -> Result<Option<Side>, Memory>
     ensures is { IfOk result (λ o. IfSome o (λ s. IsBestRead line.now (side s))) }
-    ensures none { IfOk result (λ o. IfNone o ((s : certs.Side) → IsEntryNumber s.entry → ¬ (line.now ≡ texts.best_line s))) }
+    ensures none { IfOk result (λ o. IfNone o (IsNoBestLine line.now)) }
 {
     let mut at = LineCursor::new(line);
     let best = match read_best(&mut at) {
@@ -45,7 +42,7 @@ fn entry_with(
 ) -> Result<Option<Entry>, Memory>
     requires bound { IsWellBound cat.now q.now }
     ensures is { IfOk result (λ o. IfSome o (λ e. IsEntryRead cat.now q.now n line.now (entry e))) }
-    ensures none { IfOk result (λ o. IfNone o ((e : certs.Entry) → HasEntryLine cat.now q.now e → ¬ (line.now ≡ texts.entry_line cat.now q.now n e))) }
+    ensures none { IfOk result (λ o. IfNone o (IsNoEntryLine cat.now q.now n line.now)) }
 {
     let mut at = LineCursor::new(line);
     let made = match read_entry(alloc, &mut at, cat, q, n)? {

@@ -4,10 +4,8 @@ ghost use Rattle.std.specs.Prelude.{◌≡◌, ◌++◌, ℕ, List, [], IfOk, If
 ghost use Rattle.pg_base.specs.Sets.{has};
 ghost use Rattle.certificate_entries.specs.explain_Texts.{keys_text};
 ghost use Rattle.sql_query.specs.WellBound.{IsWellBound};
-ghost use Rattle.plan_check.specs.Certificates as certs;
-ghost use Rattle.certificate_entries.specs.certificate_text_HasText.{HasEntryLine, HasKeysText};
-ghost use Rattle.certificate_entries.specs.certificate_text_Texts.{measures_text};
-ghost use Rattle.certificate_reader.specs.Parts.{HasMeasuresText, measures_of};
+ghost use Rattle.certificate_entries.specs.certificate_text_HasText.{HasKeysText};
+ghost use Rattle.certificate_reader.specs.Parts.{FindsMeasures, HasMeasuresText};
 
 use catalog::Catalog;
 use certificate_entries::{read_figures, read_key_list};
@@ -74,8 +72,7 @@ pub(crate) fn read_measures(
 ) -> Result<Option<Measures>, Memory>
     requires bound { IsWellBound cat.now q.now }
     ensures has { IfOk result (λ o. IfSome o (HasMeasuresText q.now (has set.0))) }
-    ensures only { IfOk result (λ o. (e : certs.Entry) → HasEntryLine cat.now q.now e → e.set ≡ set → at.old ≡ measures_text cat.now q.now e →
-        o ≡ Some (measures_of e)) }
+    ensures only { IfOk result (λ o. FindsMeasures cat.now q.now set at.old o) }
 {
     let (startup, cost, rows) = match read_figures(at, q) {
         Some(figures) => figures,

@@ -18,18 +18,19 @@ ghost use Rattle.certificate_laws.specs.Searched.{AreOfFronts, IsSearched};
 /// The paths of the fronts of a search for every key and every cost dominate each admissible scan and each admissible join
 /// of their plans, and none of them dominates another.
 pub fn searched_paths_are_kept()
-    ensures { (c : Contents) (q : Query) (fronts : Fronts) (paths : List Path) → HaveRows c q → IsSearched c q fronts →
-        AreOfFronts fronts paths → AreKept c q paths }
+    ensures { (c : Contents) (q : Query) (fronts : Fronts) (paths : List Path) → HaveRows c q →
+        IsSearched c q fronts → AreOfFronts fronts paths → AreKept c q paths }
 {}
 
 /// In the order of printing each of them is a scan, or a join of plans that stand before it.
 pub fn paths_are_made_in_turn()
-    ensures { (c : Contents) (q : Query) (fronts : Fronts) (paths : List Path) → IsOverTables c q → IsSearched c q fronts →
-        AreOfFronts fronts paths → IsInOrder path_order paths → AreMadeInTurn (width q) paths }
+    ensures { (c : Contents) (q : Query) (fronts : Fronts) (paths : List Path) → IsOverTables c q →
+        IsSearched c q fronts → AreOfFronts fronts paths → IsInOrder path_order paths →
+        AreMadeInTurn (width q) paths }
 {}
 
 /// Entries for paths that stand in the order of printing do too.
 pub fn printed_entries_are_ordered()
-    ensures { (q : Query) (t : Certificate) (paths : List Path) → AreOf q t paths → IsInOrder path_order paths →
-        IsInOrder printing_order t.entries }
+    ensures { (q : Query) (t : Certificate) (paths : List Path) → AreOf q t paths →
+        IsInOrder path_order paths → IsInOrder printing_order t.entries }
 {}

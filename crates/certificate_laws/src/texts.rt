@@ -13,7 +13,7 @@ ghost use Rattle.certificate_laws.specs.Arms.{HasArmsInOrs};
 /// A table of a well bound query that is not too long has a text, where each OR of the query has an arm and its entries have
 /// no startup unless the query has a window. A bitmap by an OR without arms would be one of the space, and has no text.
 pub fn tables_have_text()
-    ensures { (c : Contents) (q : Query) (t : Certificate) → IsLawful c → IsWellBound c q → IsPlanTable c q t →
-        HasArmsInOrs q → length t.entries ≤ MOST_ENTRIES → (q.window ≡ None → All (λ (e : Entry). e.startup ≡ 0) t.entries) →
-        HasText c q t }
+    ensures { (c : Contents) (q : Query) (t : Certificate) → IsLawful c → IsWellBound c q →
+        IsPlanTable c q t → HasArmsInOrs q → length t.entries ≤ MOST_ENTRIES →
+        (q.window ≡ None → All (λ (e : Entry). e.startup ≡ 0) t.entries) → HasText c q t }
 {}

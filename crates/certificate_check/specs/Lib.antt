@@ -1,4 +1,5 @@
 pub mod Pricing
+pub mod Checked
 -- What callers name of the crates below.
 pub use Rattle.certificate_laws.specs.plan_laws_WellBoundLemmas as plan_laws_WellBoundLemmas
 pub use Rattle.scan_cover.proofs.AtomLemmas as scan_cover_AtomLemmas

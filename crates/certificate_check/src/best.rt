@@ -1,16 +1,14 @@
 //! The best plan of a certificate held against the others that are finished.
 
-ghost use Rattle.std.specs.Prelude.{◌≡◌, ◌≤◌, MatchOption};
+ghost use Rattle.std.specs.Prelude.{◌≡◌, ◌≤◌};
 ghost use Rattle.cost_rules.specs.Costs.{IsEstimate};
 ghost use Rattle.plan_tree.specs.Costs.{query_rows};
 ghost use Rattle.plan_tree.specs.Reads.{IsOverTables};
-ghost use Rattle.plan_check.specs.Certificates.{Side as Sided};
-ghost use Rattle.plan_check.specs.Tables.{IsLeastAmong, IsOver};
 ghost use Rattle.plan_check.specs.Views.{certificate, side};
-ghost use Rattle.entry_check.specs.plan_check_Reasons.{AllRight, HasBest, IsNotBest};
-ghost use Rattle.certificate_check.specs.Pricing.{IsPriced, IsSomePrice};
+ghost use Rattle.entry_check.specs.plan_check_Reasons.{AllRight, HasBest};
+ghost use Rattle.certificate_check.specs.Pricing.{IsLeastOnSide, IsLeastOnSides, IsSomePrice};
 ghost use Rattle.cost_rules.specs.Worse.{IsNoWorse};
-ghost use Rattle.cost_rules.specs.declared.prices.Price.{Price as Priced};
+ghost use Rattle.certificate_check.specs.Checked.{JudgesBest};
 
 use crate::sides::price_of_side;
 use catalog::Catalog;
@@ -35,7 +33,7 @@ fn better_side(
     requires least { IsSomePrice cat.now q.now (certificate t.now) least }
     ensures some { IsSomePrice cat.now q.now (certificate t.now) result }
     ensures first { IsNoWorse result least }
-    ensures this { (x : Priced) → IsPriced cat.now q.now (certificate t.now) (side s) x → IsNoWorse result x }
+    ensures this { IsLeastOnSide cat.now q.now (certificate t.now) (side s) result }
 {
     match price_of_side(cat, q, t, s, rows) {
         Some(x) => better(least, x),
@@ -51,7 +49,7 @@ fn least_price(cat: &Catalog, q: &Prepared, t: &Certificate, best: Price, rows: 
     requires estimate { IsEstimate rows }
     requires best { IsSomePrice cat.now q.now (certificate t.now) best }
     ensures some { IsSomePrice cat.now q.now (certificate t.now) result }
-    ensures least { (s : Sided) (x : Priced) → IsPriced cat.now q.now (certificate t.now) s x → IsNoWorse result x }
+    ensures least { IsLeastOnSides cat.now q.now (certificate t.now) result }
 {
     let mut least = best;
     for n in 0..t.entries.items().len() {
@@ -70,7 +68,7 @@ pub fn judge_best(cat: &Catalog, q: &Prepared, t: &Certificate) -> Option<(u64, 
     requires query { IsOverTables cat.now q.now }
     requires right { AllRight cat.now q.now (certificate t.now) }
     requires best { HasBest cat.now q.now (certificate t.now) }
-    ensures { MatchOption result ((best : HasBest cat.now q.now (certificate t.now)) → IsLeastAmong cat.now q.now (IsOver cat.now q.now (certificate t.now)) best.plan) (λ r. IsNotBest cat.now q.now (certificate t.now) r.0 r.1) }
+    ensures { JudgesBest cat.now q.now (certificate t.now) result }
 {
     let rows = set_rows(cat, q, all_relations(q));
     let best = match price_of_side(cat, q, t, t.best, rows) {

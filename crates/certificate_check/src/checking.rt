@@ -1,20 +1,15 @@
 //! Certificates checked.
 
-ghost use Rattle.std.specs.Prelude.{◌≡◌, ◌≤◌, ℕ, Some, false, slice_get, suc};
+ghost use Rattle.std.specs.Prelude.{◌≡◌, ℕ, slice_get, suc};
 ghost use Rattle.pg_base.specs.Sets.{has};
-ghost use Rattle.plan_tree.specs.Costs.{price};
-ghost use Rattle.plan_tree.specs.Least.{IsAdmissible};
-ghost use Rattle.plan_tree.specs.Plans.{Plan, is_sort};
 ghost use Rattle.plan_tree.specs.Reads.{IsOverTables};
-ghost use Rattle.plan_tree.specs.Space.{IsBuilt, IsFinished};
 ghost use Rattle.scan_cover.specs.Limits.{HasFewAtoms};
-ghost use Rattle.plan_check.specs.Certificates.{finish_at};
-ghost use Rattle.plan_check.specs.Tables.{IsDominated};
 ghost use Rattle.plan_check.specs.Views.{certificate};
 ghost use Rattle.plan_check.specs.Placing.{ArePlaced};
 ghost use Rattle.plan_check.specs.Reasons.{AreUndominated};
 ghost use Rattle.plan_check.specs.Verdicts.{AreWhole, IsVerdict};
 ghost use Rattle.plan_check.specs.declared.verdict.Verdict.TheVariants as verdicts;
+ghost use Rattle.certificate_check.specs.Checked.{HasCheapest, LeavesNoneOut};
 
 use crate::cover::open_candidate;
 use crate::judge_best;
@@ -70,8 +65,8 @@ pub fn check(cat: &Catalog, q: &Prepared, t: &Certificate) -> Verdict
     requires query { IsOverTables cat.now q.now }
     requires atoms { HasFewAtoms q.now }
     ensures verdict { IsVerdict cat.now q.now (certificate t.now) result }
-    ensures dominated { result ≡ verdicts.Valid → (p : Plan) → IsBuilt cat.now q.now p → is_sort p ≡ false → IsAdmissible cat.now q.now p → IsDominated cat.now q.now (certificate t.now) p }
-    ensures best { result ≡ verdicts.Valid → (best : Plan) → finish_at q.now (certificate t.now) (certificate t.now).best ≡ Some best → IsFinished cat.now q.now best × ((p : Plan) → IsFinished cat.now q.now p → IsAdmissible cat.now q.now p → IsAdmissible cat.now q.now best × (price cat.now q.now best ≤ price cat.now q.now p)) }
+    ensures dominated { result ≡ verdicts.Valid → LeavesNoneOut cat.now q.now (certificate t.now) }
+    ensures best { result ≡ verdicts.Valid → HasCheapest cat.now q.now (certificate t.now) }
 {
     cat.lawful();
     let places = SetPlaces::of(t.entries.items());

@@ -21,7 +21,8 @@ pub fn open_candidate(j: &Judged) -> Option<(Plain, Uncovered)>
     requires atoms { HasFewAtoms j.now.q.now }
     requires right { AllRight j.now.cat.now j.now.q.now (certificate j.now.t.now) }
     requires placed { ArePlaced (certificate j.now.t.now).entries j.now.places.now }
-    ensures { MatchOption result (AreCovered j.now.cat.now j.now.q.now (certificate j.now.t.now)) (λ x. IsOpen j.now.cat.now j.now.q.now (certificate j.now.t.now) x.0 x.1) }
+    ensures { MatchOption result (AreCovered j.now.cat.now j.now.q.now (certificate j.now.t.now))
+        (λ x. IsOpen j.now.cat.now j.now.q.now (certificate j.now.t.now) x.0 x.1) }
 {
     if let Some(x) = open_plain_scan(j) {
         return Some(x);

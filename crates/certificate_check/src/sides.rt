@@ -1,18 +1,12 @@
 //! Sides of a certificate that are finished plans, and their prices.
 
-ghost use Rattle.std.specs.Prelude.{◌≡◌, ◌≤◌, IfNone, IfSome, Some};
+ghost use Rattle.std.specs.Prelude.{◌≡◌, ◌≤◌, IfNone, IfSome};
 ghost use Rattle.cost_rules.specs.Costs.{IsEstimate};
-ghost use Rattle.pathkeys.specs.Keys.{order_keys};
-ghost use Rattle.plan_tree.specs.Costs.{cost, query_rows};
-ghost use Rattle.plan_tree.specs.Paths.{kept_cost};
-ghost use Rattle.plan_tree.specs.Plans.{Plan};
+ghost use Rattle.plan_tree.specs.Costs.{query_rows};
 ghost use Rattle.plan_tree.specs.Reads.{IsOverTables};
-ghost use Rattle.plan_tree.specs.Space.{IsFinished};
-ghost use Rattle.plan_check.specs.Certificates.{finish_at, sorted_if};
 ghost use Rattle.plan_check.specs.Views.{certificate, entry, side};
-ghost use Rattle.entry_check.specs.plan_check_Beating.{IsRight};
 ghost use Rattle.entry_check.specs.plan_check_Reasons.{AllRight};
-ghost use Rattle.certificate_check.specs.Pricing.{HasPrice, IsFinishedEntry, IsPriced};
+ghost use Rattle.certificate_check.specs.Pricing.{HasNoFinish, IsFinishedEntry, IsKeptCost, IsPriceOfEntry, IsPriced};
 
 use catalog::Catalog;
 use cost_rules::{MOST_COST, Pair, Price, sort_total};
@@ -28,7 +22,7 @@ fn finished_cost(cat: &Catalog, q: &Prepared, e: &Entry, sort: bool, rows: u64) 
     requires side { IsFinishedEntry cat.now q.now (entry e.now) sort }
     requires rows { rows ≡ query_rows cat.now q.now }
     requires estimate { IsEstimate rows }
-    ensures kept { (p : Plan) → IsRight cat.now q.now (entry e.now) p → IsFinished cat.now q.now (sorted_if sort (order_keys q.now.classes q.now.order) p) → result ≡ kept_cost q.now.window (cost cat.now q.now (sorted_if sort (order_keys q.now.classes q.now.order) p)) }
+    ensures kept { IsKeptCost cat.now q.now (entry e.now) sort result }
     ensures startup { result.startup ≤ result.total }
 {
     cat.lawful();
@@ -50,7 +44,7 @@ fn price_of_entry(cat: &Catalog, q: &Prepared, e: &Entry, sort: bool, rows: u64)
     requires side { IsFinishedEntry cat.now q.now (entry e.now) sort }
     requires rows { rows ≡ query_rows cat.now q.now }
     requires estimate { IsEstimate rows }
-    ensures { (p : Plan) → IsRight cat.now q.now (entry e.now) p → IsFinished cat.now q.now (sorted_if sort (order_keys q.now.classes q.now.order) p) → HasPrice cat.now q.now (sorted_if sort (order_keys q.now.classes q.now.order) p) result }
+    ensures { IsPriceOfEntry cat.now q.now (entry e.now) sort result }
 {
     let cost = finished_cost(cat, q, e, sort, rows);
     Price {
@@ -74,7 +68,7 @@ pub fn price_of_side(
     requires rows { rows ≡ query_rows cat.now q.now }
     requires estimate { IsEstimate rows }
     ensures some { IfSome result (λ x. IsPriced cat.now q.now (certificate t.now) (side s) x) }
-    ensures none { IfNone result ((p : Plan) → finish_at q.now (certificate t.now) (side s) ≡ Some p → ¬ IsFinished cat.now q.now p) }
+    ensures none { IfNone result (HasNoFinish cat.now q.now (certificate t.now) (side s)) }
 {
     match finished_side(cat, q, t, s) {
         Some(e) => Some(price_of_entry(cat, q, e, s.sort, rows)),

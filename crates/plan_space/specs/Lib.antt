@@ -4,3 +4,6 @@ pub mod Sorts
 pub mod Numbered
 pub mod Parts
 pub mod Judging
+pub mod MergeLists
+pub mod PlanKeys
+pub mod Elements

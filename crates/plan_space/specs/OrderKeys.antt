@@ -1,9 +1,12 @@
 -- The keys of ORDER BY held against a list of classes, item by item. Own.
-use Rattle.std.specs.Prelude.{◌≡◌, ℕ, ◌+◌, Bool, not, nat_eq, List, drop, filter, filter_map, length, take}
-use Rattle.std.specs.List.{list_any}
+use Rattle.std.specs.Prelude.{◌≡◌, ℕ, ◌+◌, Bool, not, nat_eq, List, drop, filter, filter_map, length, take, [], ◌∷◌, false, Option, option_map}
+use Rattle.std.specs.List.{list_any, cons_option}
 use Rattle.eq_classes.specs.declared.order.OrderItem.{OrderItem}
 use Rattle.eq_classes.specs.Clauses.{Table}
-use Rattle.pathkeys.specs.Keys.{Keys, covers, is_constant, once, order_class}
+use Rattle.pathkeys.specs.Keys.{Keys, covers, is_constant, once, order_class, order_keys}
+use Rattle.eq_classes.specs.declared.classes.ClassNo.{ClassNo}
+use Rattle.sql_query.specs.Queries.{Query}
+use Rattle.pathkeys.specs.Finding.{class_numbers}
 
 -- the classes of ORDER BY items that have no constant, also those that stood before; once each they are the keys
 abbrev pub classes_asked : Table → List OrderItem → List ℕ
@@ -21,3 +24,32 @@ goes_on keys at ns = covers (drop at keys) (once_besides (take at keys) ns)
 pub record GoesOnAs (keys : Keys) (at : ℕ) (ns : List ℕ) (next : ℕ) (rest : List ℕ) : Type 0 where
   pub begins : goes_on keys at ns ≡ goes_on keys next rest
   pub count : at + length (once_besides (take at keys) ns) ≡ next + length (once_besides (take next keys) rest)
+
+-- the number of a class, where there is one, as a list
+abbrev pub class_listed : Option ClassNo → List ℕ
+class_listed found = cons_option (option_map (λ (c : ClassNo). c.0) found) []
+
+-- a list goes on at a place with a class, and with any others behind it as it does with these at the next place
+abbrev pub GoesOnPastClass : List ClassNo → ℕ → ClassNo → ℕ → Type 0
+GoesOnPastClass list at c next = (ns : List ℕ) → GoesOnAs (class_numbers list) at (c.0 ∷ ns) next ns
+
+-- it does not go on with the class, whatever stands behind
+abbrev pub StopsAtClass : List ClassNo → ℕ → ClassNo → Type 0
+StopsAtClass list at c = (ns : List ℕ) → goes_on (class_numbers list) at (c.0 ∷ ns) ≡ false
+
+-- the same of an item of ORDER BY: the list goes on past it
+abbrev pub GoesOnPastItem : Table → List ClassNo → ℕ → OrderItem → ℕ → Type 0
+GoesOnPastItem t list at item next =
+    (items : List OrderItem) → GoesOnAs (class_numbers list) at (classes_asked t (item ∷ items)) next (classes_asked t items)
+
+-- it does not go on with the item, whatever stands behind
+abbrev pub StopsAtItem : Table → List ClassNo → ℕ → OrderItem → Type 0
+StopsAtItem t list at item = (items : List OrderItem) → goes_on (class_numbers list) at (classes_asked t (item ∷ items)) ≡ false
+
+-- a list begins with the keys of ORDER BY
+abbrev pub is_order_begun : Table → List OrderItem → List ClassNo → Bool
+is_order_begun t items list = covers (class_numbers list) (order_keys t items)
+
+-- the keys of the query's ORDER BY
+abbrev pub keys_asked : Query → Keys
+keys_asked q = order_keys q.classes q.order

@@ -1,19 +1,14 @@
 //! Which joins of two plans are in the plan space (PostgreSQL, src/backend/optimizer/README, Paths and Join Pairs, and
 //! Parameterized Paths).
 
-ghost use Rattle.std.specs.Prelude.{◌≡◌, ◌≤◌, ◌↔◌, ℕ, IsTrue, Option};
-ghost use Rattle.std.specs.List.{list_all, list_any};
-ghost use Rattle.std.specs.Option.{option_map};
+ghost use Rattle.std.specs.Prelude.{◌≡◌, ◌≤◌, ◌↔◌, ℕ, IsTrue};
 ghost use Rattle.pg_base.specs.Sets.{has};
-ghost use Rattle.pathkeys.specs.Finding.{is_class};
-ghost use Rattle.catalog.specs.Contents.{Contents};
-ghost use Rattle.sql_query.specs.Queries.{Query};
-ghost use Rattle.eq_classes.specs.declared.classes.ClassNo.{ClassNo as Numbered};
 ghost use Rattle.plan_tree.specs.Costable.{IsCostable};
 ghost use Rattle.plan_tree.specs.Plans as plans;
 ghost use Rattle.plan_tree.specs.Reads.{IsOverTables, ReadsBelow};
-ghost use Rattle.plan_tree.specs.Space as space;
 ghost use Rattle.plan_tree.specs.Views.{plan};
+ghost use Rattle.plan_space.specs.MergeLists.{AreWholeSides, TellsMergeList, are_classes_found, is_class_found};
+ghost use Rattle.plan_tree.specs.Space.{AreSides, IsMerge, IsNest};
 
 use crate::keys::is_at;
 use crate::sorts::{has_keys, is_sort};
@@ -43,7 +38,7 @@ pub(crate) fn param_of(p: &Plan) -> RelSet
 fn are_sides(outer: &Plan, inner: &Plan) -> bool
     requires outer { ReadsBelow 16 (plan outer.now) }
     requires inner { ReadsBelow 16 (plan inner.now) }
-    ensures { IsTrue result ↔ space.AreSides (plan outer.now) (plan inner.now) }
+    ensures { IsTrue result ↔ AreSides (plan outer.now) (plan inner.now) }
 {
     !set_of(outer).meets(set_of(inner)) && param_of(outer).is_empty()
 }
@@ -53,7 +48,7 @@ fn are_sides(outer: &Plan, inner: &Plan) -> bool
 pub fn is_nest(outer: &Plan, inner: &Plan) -> bool
     requires outer { ReadsBelow 16 (plan outer.now) }
     requires inner { ReadsBelow 16 (plan inner.now) }
-    ensures { IsTrue result ↔ space.IsNest (plan outer.now) (plan inner.now) }
+    ensures { IsTrue result ↔ IsNest (plan outer.now) (plan inner.now) }
 {
     are_sides(outer, inner)
         && param_of(inner).within(set_of(outer))
@@ -63,14 +58,14 @@ pub fn is_nest(outer: &Plan, inner: &Plan) -> bool
 
 /// Whether a class was found.
 fn is_one_of(found: &[Option<ClassNo>], c: ClassNo) -> bool
-    ensures { result ≡ list_any (λ (o : Option Numbered). is_class c.0 (option_map (λ (n : Numbered). n.0) o)) found.now }
+    ensures { result ≡ is_class_found found.now c }
 {
     found.iter().any(|other| is_at(*other, c))
 }
 
 /// Whether each class of a list was found.
 fn are_found(found: &[Option<ClassNo>], list: &[ClassNo]) -> bool
-    ensures { result ≡ list_all (λ (c : Numbered). list_any (λ (o : Option Numbered). is_class c.0 (option_map (λ (n : Numbered). n.0) o)) found.now) list.now }
+    ensures { result ≡ are_classes_found found.now list.now }
 {
     list.iter().all(|c| is_one_of(found, *c))
 }
@@ -78,7 +73,7 @@ fn are_found(found: &[Option<ClassNo>], list: &[ClassNo]) -> bool
 /// Whether a merge of two sets may be by a list: 1 to [`MOST_MERGE_KEYS`] different classes of the first
 /// [`MOST_JOINING_CLASSES`](pg_base::MOST_JOINING_CLASSES) that join the sets (own).
 pub fn is_merge_list(classes: &Classes, a: RelSet, b: RelSet, list: &Keys) -> bool
-    ensures { (c : Contents) (q : Query) → q.classes ≡ classes.now → IsTrue result ↔ space.IsMergeList c q (has a.0) (has b.0) list.now }
+    ensures { TellsMergeList classes.now a b list.now result }
 {
     let list = list.items();
     if list.is_empty() || list.len() > MOST_MERGE_KEYS {
@@ -91,7 +86,7 @@ pub fn is_merge_list(classes: &Classes, a: RelSet, b: RelSet, list: &Keys) -> bo
 fn are_whole_sides(outer: &Plan, inner: &Plan) -> bool
     requires outer { ReadsBelow 16 (plan outer.now) }
     requires inner { ReadsBelow 16 (plan inner.now) }
-    ensures { IsTrue result ↔ (space.AreSides (plan outer.now) (plan inner.now) × space.IsEmpty (plans.param_of (plan inner.now))) }
+    ensures { IsTrue result ↔ AreWholeSides (plan outer.now) (plan inner.now) }
 {
     are_sides(outer, inner) && param_of(inner).is_empty()
 }
@@ -102,7 +97,7 @@ pub fn is_merge(cat: &Catalog, q: &Prepared, list: &Keys, outer: &Plan, inner: &
     requires query { IsOverTables cat.now q.now }
     requires outer { IsCostable cat.now q.now (plan outer.now) }
     requires inner { IsCostable cat.now q.now (plan inner.now) }
-    ensures { IsTrue result ↔ space.IsMerge cat.now q.now list.now (plan outer.now) (plan inner.now) }
+    ensures { IsTrue result ↔ IsMerge cat.now q.now list.now (plan outer.now) (plan inner.now) }
 {
     if !are_whole_sides(outer, inner) {
         return false;

@@ -1,14 +1,14 @@
 //! The keys of plans, place by place.
 
-ghost use Rattle.std.specs.Prelude.{◌≡◌, ◌≤◌, ◌↔◌, IsTrue, Some, false, length, slice_get, true};
+ghost use Rattle.std.specs.Prelude.{◌≡◌, ◌≤◌, ◌↔◌, IsTrue, Some, false, length, slice_get};
 ghost use Rattle.eq_classes.specs.declared.classes.ClassNo.{ClassNo as Numbered};
 ghost use Rattle.std.specs.Option.{option_map};
 ghost use Rattle.catalog.specs.Contents.{IsIndex};
 ghost use Rattle.pathkeys.specs.Finding.{class_numbers, is_class};
-ghost use Rattle.pathkeys.specs.Keys.{covers};
 ghost use Rattle.plan_tree.specs.Costable.{IsCostable};
 ghost use Rattle.plan_tree.specs.Keys as keys;
 ghost use Rattle.plan_tree.specs.Views.{plan};
+ghost use Rattle.plan_space.specs.PlanKeys.{KeysBeginWith, keys_of_scan, number_of_class};
 
 use catalog::Catalog;
 use eq_classes::ClassNo;
@@ -29,7 +29,7 @@ struct IndexScan {
 /// The class at place `n`, from 0, of the keys of a scan by an index.
 fn scan_key(cat: &Catalog, q: &Prepared, s: &IndexScan, n: u8) -> Option<ClassNo>
     requires index { IsIndex cat.now s.now.index }
-    ensures class { option_map (λ c. c.0) result ≡ slice_get (keys.scan_keys cat.now q.now s.now.rel s.now.index s.now.backward s.now.param) n }
+    ensures class { number_of_class result ≡ slice_get (keys_of_scan cat.now q.now s.now) n }
 {
     if s.param.0 == 0 {
         index_key(
@@ -48,7 +48,7 @@ fn scan_key(cat: &Catalog, q: &Prepared, s: &IndexScan, n: u8) -> Option<ClassNo
 
 /// The class at place `n`, from 0, of a list.
 fn list_key(keys: &[ClassNo], n: u8) -> Option<ClassNo>
-    ensures class { option_map (λ c. c.0) result ≡ slice_get (class_numbers keys.now) n }
+    ensures class { number_of_class result ≡ slice_get (class_numbers keys.now) n }
 {
     keys.get(n as usize).copied()
 }
@@ -57,7 +57,7 @@ fn list_key(keys: &[ClassNo], n: u8) -> Option<ClassNo>
 /// long. It takes no memory.
 pub fn key_at(cat: &Catalog, q: &Prepared, p: &Plan, n: u8) -> Option<ClassNo>
     requires plan { IsCostable cat.now q.now (plan p.now) }
-    ensures class { option_map (λ c. c.0) result ≡ slice_get (keys.keys_of cat.now q.now (plan p.now)) n }
+    ensures class { number_of_class result ≡ slice_get (keys.keys_of cat.now q.now (plan p.now)) n }
 {
     match p {
         Plan::Seq { .. } => None,
@@ -102,7 +102,7 @@ pub(crate) fn is_at(found: Option<ClassNo>, c: ClassNo) -> bool
 pub fn keys_begin_with(cat: &Catalog, q: &Prepared, p: &Plan, list: &[ClassNo]) -> bool
     requires plan { IsCostable cat.now q.now (plan p.now) }
     requires few { length list.now ≤ 255 }
-    ensures covered { IsTrue result ↔ (covers (keys.keys_of cat.now q.now (plan p.now)) (class_numbers list.now) ≡ true) }
+    ensures covered { IsTrue result ↔ KeysBeginWith cat.now q.now (plan p.now) list.now }
 {
     for n in 0..list.len() {
         if !is_at(key_at(cat, q, p, n as u8), list[n]) {

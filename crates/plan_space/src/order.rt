@@ -1,18 +1,16 @@
 //! Which plans are in the order that a query asks for (PostgreSQL, src/backend/optimizer/README, PathKeys).
 
-ghost use Rattle.std.specs.Prelude.{◌≡◌, ◌≤◌, ◌∷◌, ◌↔◌, ℕ, [], IfNone, IfSome, IsTrue, List, MatchOption, false, length, nat_eq, true};
-ghost use Rattle.std.specs.List.{cons_option, list_any};
-ghost use Rattle.std.specs.Option.{option_map};
+ghost use Rattle.std.specs.Prelude.{◌≡◌, ◌≤◌, ◌∷◌, ◌↔◌, [], IfNone, IfSome, IsTrue, MatchOption, false, length, nat_eq, true};
+ghost use Rattle.std.specs.List.{list_any};
 ghost use Rattle.pg_base.specs.declared.limits.TheConstants.{MOST_COLUMNS};
 ghost use Rattle.eq_classes.specs.declared.classes.ClassNo.{ClassNo as Numbered};
-ghost use Rattle.eq_classes.specs.declared.order.OrderItem.{OrderItem};
 ghost use Rattle.pathkeys.specs.Finding.{class_numbers};
 ghost use Rattle.pathkeys.specs.Keys as lists;
 ghost use Rattle.plan_tree.specs.Costable.{IsCostable};
 ghost use Rattle.plan_tree.specs.Keys as keys;
 ghost use Rattle.plan_tree.specs.Space.{IsBuilt, MeetsOrder};
 ghost use Rattle.plan_tree.specs.Views.{plan};
-ghost use Rattle.plan_space.specs.OrderKeys.{GoesOnAs, classes_asked, goes_on};
+ghost use Rattle.plan_space.specs.OrderKeys.{GoesOnPastClass, GoesOnPastItem, StopsAtClass, StopsAtItem, class_listed, classes_asked, is_order_begun, keys_asked};
 
 use crate::keys::key_at;
 use crate::sorts::sort_list;
@@ -36,8 +34,8 @@ fn is_listed(list: &[ClassNo], c: ClassNo) -> bool
 fn next_place(list: &[ClassNo], at: usize, c: ClassNo) -> Option<usize>
     requires within { at ≤ length list.now }
     ensures within { IfSome result (λ next. next ≤ length list.now) }
-    ensures some { IfSome result (λ next. (ns : List ℕ) → GoesOnAs (class_numbers list.now) at (c.0 ∷ ns) next ns) }
-    ensures none { IfNone result ((ns : List ℕ) → goes_on (class_numbers list.now) at (c.0 ∷ ns) ≡ false) }
+    ensures some { IfSome result (λ next. GoesOnPastClass list.now at c next) }
+    ensures none { IfNone result (StopsAtClass list.now at c) }
 {
     if is_listed(&list[..at], c) {
         return Some(at);
@@ -52,7 +50,7 @@ fn next_place(list: &[ClassNo], at: usize, c: ClassNo) -> Option<usize>
 /// The class that one item of ORDER BY asks for: that of its column's default family. None where it has no class, or one
 /// with a constant.
 fn class_asked(classes: &Classes, item: OrderItem) -> Option<ClassNo>
-    ensures { cons_option (option_map (λ (c : Numbered). c.0) result) [] ≡ classes_asked classes.now (item ∷ []) }
+    ensures { class_listed result ≡ classes_asked classes.now (item ∷ []) }
 {
     order_key(classes, &[item], 0)
 }
@@ -62,8 +60,8 @@ fn class_asked(classes: &Classes, item: OrderItem) -> Option<ClassNo>
 fn place_after(classes: &Classes, list: &[ClassNo], at: usize, item: OrderItem) -> Option<usize>
     requires within { at ≤ length list.now }
     ensures within { IfSome result (λ next. next ≤ length list.now) }
-    ensures some { IfSome result (λ next. (items : List OrderItem) → GoesOnAs (class_numbers list.now) at (classes_asked classes.now (item ∷ items)) next (classes_asked classes.now items)) }
-    ensures none { IfNone result ((items : List OrderItem) → goes_on (class_numbers list.now) at (classes_asked classes.now (item ∷ items)) ≡ false) }
+    ensures some { IfSome result (λ next. GoesOnPastItem classes.now list.now at item next) }
+    ensures none { IfNone result (StopsAtItem classes.now list.now at item) }
 {
     match class_asked(classes, item) {
         Some(c) => next_place(list, at, c),
@@ -73,9 +71,9 @@ fn place_after(classes: &Classes, list: &[ClassNo], at: usize, item: OrderItem) 
 
 /// How many keys ORDER BY has, where a list begins with them. None where it does not.
 fn keys_begun(classes: &Classes, order: &[OrderItem], list: &[ClassNo]) -> Option<usize>
-    ensures some { IfSome result (λ n. lists.covers (class_numbers list.now) (lists.order_keys classes.now order.now) ≡ true) }
+    ensures some { IfSome result (λ n. is_order_begun classes.now order.now list.now ≡ true) }
     ensures count { IfSome result (λ n. n ≡ length (lists.order_keys classes.now order.now)) }
-    ensures none { IfNone result (lists.covers (class_numbers list.now) (lists.order_keys classes.now order.now) ≡ false) }
+    ensures none { IfNone result (is_order_begun classes.now order.now list.now ≡ false) }
 {
     let mut at = 0;
     for item in order {
@@ -86,9 +84,9 @@ fn keys_begun(classes: &Classes, order: &[OrderItem], list: &[ClassNo]) -> Optio
 
 /// How many keys the query's ORDER BY has, where a list begins with them. None where it does not.
 pub fn order_begun(q: &Prepared, list: &[ClassNo]) -> Option<usize>
-    ensures some { IfSome result (λ n. lists.covers (class_numbers list.now) (lists.order_keys q.now.classes q.now.order) ≡ true) }
-    ensures count { IfSome result (λ n. n ≡ length (lists.order_keys q.now.classes q.now.order)) }
-    ensures none { IfNone result (lists.covers (class_numbers list.now) (lists.order_keys q.now.classes q.now.order) ≡ false) }
+    ensures some { IfSome result (λ n. is_order_begun q.now.classes q.now.order list.now ≡ true) }
+    ensures count { IfSome result (λ n. n ≡ length (keys_asked q.now)) }
+    ensures none { IfNone result (is_order_begun q.now.classes q.now.order list.now ≡ false) }
 {
     keys_begun(classes_of(q), q.order.items(), list)
 }
@@ -111,9 +109,9 @@ fn keys_listed(cat: &Catalog, q: &Prepared, p: &Plan) -> ArrayVec<ClassNo, MOST_
 
 /// Whether a list is that of the keys of ORDER BY, of which there is one at least.
 fn is_order(q: &Prepared, list: &Keys) -> bool
-    ensures yes { result ≡ true → list.now ≡ lists.order_keys q.now.classes q.now.order }
+    ensures yes { result ≡ true → list.now ≡ keys_asked q.now }
     ensures some { result ≡ true → 1 ≤ length list.now }
-    ensures no { list.now ≡ lists.order_keys q.now.classes q.now.order → 1 ≤ length list.now → result ≡ true }
+    ensures no { list.now ≡ keys_asked q.now → 1 ≤ length list.now → result ≡ true }
 {
     let list = list.items();
     match order_begun(q, list) {
@@ -126,7 +124,7 @@ fn is_order(q: &Prepared, list: &Keys) -> bool
 fn begins_with_order(cat: &Catalog, q: &Prepared, p: &Plan) -> bool
     requires plan { IsCostable cat.now q.now (plan p.now) }
     requires few { length (keys.keys_of cat.now q.now (plan p.now)) ≤ MOST_COLUMNS }
-    ensures { result ≡ lists.covers (keys.keys_of cat.now q.now (plan p.now)) (lists.order_keys q.now.classes q.now.order) }
+    ensures { result ≡ lists.covers (keys.keys_of cat.now q.now (plan p.now)) (keys_asked q.now) }
 {
     let list = keys_listed(cat, q, p);
     order_begun(q, list.as_slice()).is_some()
@@ -136,7 +134,7 @@ fn begins_with_order(cat: &Catalog, q: &Prepared, p: &Plan) -> bool
 /// is a sort by exactly these, of which there is one at least.
 pub(crate) fn meets_order(cat: &Catalog, q: &Prepared, p: &Plan) -> bool
     requires built { IsBuilt cat.now q.now (plan p.now) }
-    ensures { IsTrue result ↔ MeetsOrder cat.now q.now (plan p.now) (lists.order_keys q.now.classes q.now.order) }
+    ensures { IsTrue result ↔ MeetsOrder cat.now q.now (plan p.now) (keys_asked q.now) }
 {
     cat.lawful();
     match sort_list(p) {

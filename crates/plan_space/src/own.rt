@@ -1,15 +1,13 @@
 //! The numbers that are a plan's own, node by node.
 
 ghost use Rattle.std.specs.Prelude.{◌≡◌, ◌≢◌, ◌<◌, ◌≤◌, ◌+◌, get_or};
-ghost use Rattle.catalog.specs.Contents.{Contents};
-ghost use Rattle.sql_query.specs.Queries.{Query};
 ghost use Rattle.plan_tree.specs.Costable.{IsCostable};
 ghost use Rattle.plan_tree.specs.Costs.{HaveRows};
 ghost use Rattle.plan_tree.specs.Least.{IsAdmissible};
 ghost use Rattle.plan_tree.specs.Reads.{IsOverTables};
 ghost use Rattle.plan_tree.specs.Views.{plan};
-ghost use Rattle.plan_space.specs.Parts.{IsPart};
-ghost use Rattle.plan_space.specs.Numbered.{lines, lines_from, nodes, own_numbers, own_pair};
+ghost use Rattle.plan_space.specs.Parts.{IsFoundIn};
+ghost use Rattle.plan_space.specs.Numbered.{lines, lines_from, nodes, own_numbers_at, own_pair};
 ghost use Rattle.plan_space.specs.declared.lines.TheConstants.{MOST_LINES};
 
 use crate::lines::{count_lines, count_nodes};
@@ -65,7 +63,7 @@ fn child_of(p: &Plan, at: u32, place: usize) -> Part<'_>
     requires few { at + lines (plan p.now) ≤ MOST_LINES + 1 }
     requires below { place ≢ 0 }
     requires within { place < nodes (plan p.now) }
-    ensures part { (c : Contents) (q : Query) → IsPart c q (plan p.now) at place (plan result.plan.now) result.at result.place }
+    ensures part { IsFoundIn (plan p.now) at place result }
     ensures less { result.place < place }
 {
     match p {
@@ -122,7 +120,7 @@ pub(crate) fn node_at(cat: &Catalog, q: &Prepared, p: &Plan, place: usize) -> No
     requires few { lines (plan p.now) ≤ MOST_LINES }
     requires within { place < nodes (plan p.now) }
     ensures line { result.line ≡ get_or (lines_from 1 (plan p.now)) place 0 }
-    ensures own { (result.cost, result.rows) ≡ get_or (own_numbers cat.now q.now (plan p.now)) place (0, 0) }
+    ensures own { (result.cost, result.rows) ≡ own_numbers_at cat.now q.now (plan p.now) place }
 {
     let mut part = Part {
         plan: p,

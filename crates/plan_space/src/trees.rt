@@ -1,24 +1,19 @@
 //! Which bitmap scans are in the plan space. Nothing is asked of the numbers that stand inside a bitmap tree.
 
-ghost use Rattle.std.specs.Prelude.{◌≡◌, ◌<◌, ◌≤◌, ◌↔◌, ℕ, Contains, All, IsTrue, List, Some, drop, false, length, map, true, ◌∷◌};
-ghost use Rattle.std.specs.List.{AllZip};
+ghost use Rattle.std.specs.Prelude.{◌≡◌, ◌<◌, ◌≤◌, ◌↔◌, Contains, All, IsTrue, false, length, map, true};
 ghost use Rattle.std.specs.Option.{option_map};
 ghost use Rattle.pg_base.specs.Sets.{has};
 ghost use Rattle.pg_base.specs.declared.limits.TheConstants.{MOST_ATOMS};
 ghost use Rattle.pg_expr.specs.Columns.{atom_count};
 ghost use Rattle.pg_expr.specs.View as view;
 ghost use Rattle.pg_expr.specs.declared.expr.Expr.{Expr};
-ghost use Rattle.catalog.specs.Contents.{Contents};
 ghost use Rattle.eq_classes.specs.Clauses.{Set};
-ghost use Rattle.plan_tree.specs.index_match_Arms.{arms_of};
-ghost use Rattle.sql_query.specs.Queries.{Query, width};
-ghost use Rattle.plan_tree.specs.Bitmaps as bitmaps;
-ghost use Rattle.plan_tree.specs.Bitmaps.{HasArms, HaveArms, IsBitTree, IsTreeOver, MatchesArm, condition_at, elements_of};
-ghost use Rattle.plan_tree.specs.Plans.{all_hold};
-ghost use Rattle.plan_space.specs.Ordered.{AreInOrder};
+ghost use Rattle.sql_query.specs.Queries.{width};
+ghost use Rattle.plan_tree.specs.Bitmaps.{HasArms, HaveArms, IsBitTree};
 ghost use Rattle.plan_tree.specs.Reads.{IsOverTables};
-ghost use Rattle.plan_tree.specs.Space.{IsBitmapScan, IsSameSet, conditions_used, others_named};
+ghost use Rattle.plan_tree.specs.Space.{IsBitmapScan};
 ghost use Rattle.plan_tree.specs.Views.{bits, bits_all, element};
+ghost use Rattle.plan_space.specs.Elements.{AreMatched, GoOnInOrder, IsAndOverFound, IsElementOf, IsNamedByTree, IsNotTheElement, IsTheElement, IsTreeOverFound, TellsOrder, arms_of_clause};
 
 use crate::validity::is_relation;
 use catalog::Catalog;
@@ -57,7 +52,7 @@ fn all_match(cat: &Catalog, q: &Prepared, r: RelNo, arms: &[Expr], indexes: &[In
     requires relation { r.0 < width q.now }
     requires few { All (λ (e : Expr). atom_count (view.cond e) ≤ MOST_ATOMS) arms.now }
     requires as_many { length indexes.now ≡ length arms.now }
-    ensures { IsTrue result ↔ AllZip (MatchesArm cat.now q.now r.0) (map view.cond arms.now) indexes.now }
+    ensures { IsTrue result ↔ AreMatched cat.now q.now r (map view.cond arms.now) indexes.now }
 {
     for n in 0..arms.len() {
         if !matches_arm(cat, q, r, &arms[n], indexes[n]) {
@@ -71,7 +66,7 @@ fn all_match(cat: &Catalog, q: &Prepared, r: RelNo, arms: &[Expr], indexes: &[In
 fn has_arms(cat: &Catalog, q: &Prepared, r: RelNo, n: u16, indexes: &[IndexNo]) -> bool
     requires query { IsOverTables cat.now q.now }
     requires relation { r.0 < width q.now }
-    ensures { IsTrue result ↔ AllZip (MatchesArm cat.now q.now r.0) (arms_of (condition_at q.now n)) indexes.now }
+    ensures { IsTrue result ↔ AreMatched cat.now q.now r (arms_of_clause q.now n) indexes.now }
 {
     match arms_at(q, n) {
         Some(arms) => indexes.len() == arms.len() && all_match(cat, q, r, arms, indexes),
@@ -81,7 +76,7 @@ fn has_arms(cat: &Catalog, q: &Prepared, r: RelNo, n: u16, indexes: &[IndexNo]) 
 
 /// The element that a tree is. None where it is an AND.
 fn element_of(tree: &BitTree) -> Option<Element>
-    ensures { (c : Contents) (q : Query) (r : ℕ) (p : Set) → option_map element result ≡ bitmaps.element_of c q r p (bits tree.now) }
+    ensures { IsElementOf (bits tree.now) (option_map element result) }
 {
     match tree {
         BitTree::Leaf(i) => Some(Element::Index(*i)),
@@ -92,8 +87,8 @@ fn element_of(tree: &BitTree) -> Option<Element>
 
 /// Whether a tree is an element.
 fn is_element(tree: &BitTree, e: Element) -> bool
-    ensures yes { result ≡ true → (c : Contents) (q : Query) (r : ℕ) (p : Set) → bitmaps.element_of c q r p (bits tree.now) ≡ Some (element e) }
-    ensures no { result ≡ false → (c : Contents) (q : Query) (r : ℕ) (p : Set) → ¬ (bitmaps.element_of c q r p (bits tree.now) ≡ Some (element e)) }
+    ensures yes { result ≡ true → IsTheElement (bits tree.now) (element e) }
+    ensures no { result ≡ false → IsNotTheElement (bits tree.now) (element e) }
 {
     match element_of(tree) {
         Some(own) => is_same(own, e),
@@ -105,7 +100,7 @@ fn is_element(tree: &BitTree, e: Element) -> bool
 fn next(trees: &[BitTree], at: usize, e: Element) -> usize
     requires within { at ≤ length trees.now }
     ensures within { result ≤ length trees.now }
-    ensures order { (c : Contents) (q : Query) (r : ℕ) (p : Set) (later : List bitmaps.Element) → AreInOrder (elements_of c q r p (bits_all (drop at trees.now))) (element e ∷ later) ↔ AreInOrder (elements_of c q r p (bits_all (drop result trees.now))) later }
+    ensures order { GoOnInOrder trees.now at (element e) result }
 {
     if at < trees.len() && is_element(&trees[at], e) {
         at + 1
@@ -116,7 +111,7 @@ fn next(trees: &[BitTree], at: usize, e: Element) -> usize
 
 /// Whether some trees are elements of a list, in its order.
 fn are_in_order(trees: &[BitTree], found: &[Element]) -> bool
-    ensures { (c : Contents) (q : Query) (r : ℕ) (p : Set) → IsTrue result ↔ AreInOrder (elements_of c q r p (bits_all trees.now)) (map element found.now) }
+    ensures { TellsOrder trees.now found.now result }
 {
     let mut at = 0;
     for e in found {
@@ -156,7 +151,7 @@ fn have_arms(cat: &Catalog, q: &Prepared, r: RelNo, trees: &[BitTree]) -> bool
 fn are_over(cat: &Catalog, q: &Prepared, r: RelNo, trees: &[BitTree], found: &[Element]) -> bool
     requires query { IsOverTables cat.now q.now }
     requires relation { r.0 < width q.now }
-    ensures { (p : Set) → IsTrue result ↔ IsTreeOver cat.now q.now r.0 p (map element found.now) (all_hold (bits_all trees.now)) }
+    ensures { (p : Set) → IsTrue result ↔ IsAndOverFound cat.now q.now r p found.now trees.now }
 {
     if trees.len() < 2 {
         return false;
@@ -171,7 +166,7 @@ fn are_over(cat: &Catalog, q: &Prepared, r: RelNo, trees: &[BitTree], found: &[E
 fn is_over(cat: &Catalog, q: &Prepared, r: RelNo, tree: &BitTree, found: &[Element]) -> bool
     requires query { IsOverTables cat.now q.now }
     requires relation { r.0 < width q.now }
-    ensures { (p : Set) → IsTrue result ↔ IsTreeOver cat.now q.now r.0 p (map element found.now) (bits tree.now) }
+    ensures { (p : Set) → IsTrue result ↔ IsTreeOverFound cat.now q.now r p found.now tree.now }
 {
     match tree {
         BitTree::Leaf(i) => is_among(found, Element::Index(*i)),
@@ -197,7 +192,7 @@ fn is_named_by_tree(cat: &Catalog, q: &Prepared, r: RelNo, p: RelSet, tree: &Bit
     requires query { IsOverTables cat.now q.now }
     requires relation { r.0 < width q.now }
     requires tree { IsBitTree cat.now q.now r.0 (has p.0) (bits tree.now) }
-    ensures { IsTrue result ↔ IsSameSet (has p.0) (others_named r.0 (conditions_used cat.now q.now r p (bits tree.now))) }
+    ensures { IsTrue result ↔ IsNamedByTree cat.now q.now r p (bits tree.now) }
 {
     let mut used = ClauseSet::empty();
     use_tree(cat, q, r, p, tree, &mut used);

@@ -1,6 +1,8 @@
 pub mod Owning
 pub mod Working
 pub mod Parts
+pub mod Making
+pub mod Telling
 -- What callers name of the crates below.
 pub use Rattle.plan_check.proofs.BeatingLemmas as plan_check_BeatingLemmas
 pub use Rattle.plan_check.specs.Beating as plan_check_Beating

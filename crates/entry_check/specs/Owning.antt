@@ -6,12 +6,13 @@ use Rattle.plan_tree.specs.Costs.{cost, estimate}
 use Rattle.plan_tree.specs.Least.{IsAdmissible}
 use Rattle.plan_tree.specs.Plans.{Plan, index, index_only}
 use Rattle.plan_tree.specs.Space.{IsFinished}
-use Rattle.pathkeys.specs.Keys.{order_keys}
+use Rattle.pathkeys.specs.Keys.{order_keys, Keys}
 use Rattle.plan_check.specs.Certificates.{Certificate, Entry, Side, plan_at, plans_of, sorted_if, unfold_at}
 use Rattle.plan_check.specs.Tables.{HasItsPlan, IsStartup}
 use Rattle.plan_check.specs.Beating.{IsRight}
 use Rattle.entry_check.specs.declared.numbers.Own.{Own}
 use Rattle.entry_check.specs.declared.scans.ByIndex.{ByIndex}
+use Rattle.plan_tree.specs.Keys.{scan_keys}
 
 -- a scan by an index as a plan
 abbrev pub tree_of : ByIndex → Plan
@@ -61,3 +62,7 @@ module _ (c : Contents) (q : Query) where
     pub unfolds : unfold_at q t s.entry ≡ Some input
     pub right : IsRight c q e input
     pub finished : IsFinished c q (sorted_if s.sorted (order_keys q.classes q.order) input)
+
+-- the classes by which the rows of a scan by an index are sorted
+abbrev pub keys_by_index : Contents → Query → ByIndex → Keys
+keys_by_index c q s = scan_keys c q s.rel s.index s.backward s.param

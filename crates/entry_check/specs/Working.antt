@@ -1,5 +1,5 @@
 -- What the joins of two sets have in common. Own.
-use Rattle.std.specs.Prelude.{◌≡◌, ◌-◌, ◌^◌, ◌&&◌, ◌||◌, ℕ, Some, min, not, slice_get}
+use Rattle.std.specs.Prelude.{◌≡◌, ◌-◌, ◌^◌, ◌&&◌, ◌||◌, ℕ, Some, min, not, slice_get, List, length, nat_lt}
 use Rattle.pg_base.specs.Sets.{has}
 use Rattle.catalog.specs.Contents.{Contents}
 use Rattle.cost_rules.specs.Costs.{IsEstimate}
@@ -9,10 +9,15 @@ use Rattle.path_cost.specs.Costs.{operators}
 use Rattle.path_cost.specs.Estimates.{conditions_where, is_pair_of, pairs, set_rows}
 use Rattle.pathkeys.specs.Finding.{class_numbers}
 use Rattle.plan_tree.specs.Costs.{join_operators}
-use Rattle.plan_tree.specs.Plans.{Plan, param_of, set_of}
+use Rattle.plan_tree.specs.Plans.{Plan, param_of, set_of, joins}
 use Rattle.plan_tree.specs.Space.{IsSameSet}
 use Rattle.entry_check.specs.declared.merges.MergeWork.{MergeWork}
 use Rattle.entry_check.specs.declared.nests.NestWork.{NestWork}
+use Rattle.pg_base.specs.declared.rel_set.RelSet.{RelSet}
+use Rattle.pg_expr.specs.AtomSets.{contains}
+use Rattle.eq_classes.specs.Clauses.{Table}
+use Rattle.eq_classes.specs.Listing.{clause_at}
+use Rattle.eq_classes.specs.declared.classes.ClassNo.{ClassNo}
 
 -- the operators that each pair of rows of a nested loop of two sets goes through, whose inner side is given the rows of a
 -- third one
@@ -39,3 +44,14 @@ module _ (c : Contents) (q : Query) where
     pub paired : w.equal ≡ pairs c q.range q.classes (has w.outer.0) (has w.inner.0) (class_numbers w.list.now)
     pub bounded : IsEstimate w.equal
     pub tested : w.ops ≡ min (operators (conditions_where (λ k. is_join (has w.outer.0) (has w.inner.0) k && not (is_pair_of (class_numbers w.list.now) k)) q.classes.clauses)) (2 ^ 64 - 1)
+
+-- the clauses that a join of one set tests with any plan of a second that is given the rows of a third
+abbrev pub AreClausesTested : Table → RelSet → RelSet → RelSet → List ℕ → Type 0
+AreClausesTested t a b p tested = (i : Plan) → IsSameSet (set_of i) (has b.0) → IsSameSet (param_of i) (has p.0) →
+    (k : ℕ) → contains tested k ≡ nat_lt k (length t.clauses) && joins (has a.0) i (clause_at t.clauses k)
+
+-- the operators of the clauses that a merge of two sets tests beside the equality of the classes of a list
+abbrev pub merge_tests : Query → List ClassNo → RelSet → RelSet → ℕ
+merge_tests q list a b =
+    min (operators (conditions_where
+    (λ k. is_join (has a.0) (has b.0) k && not (is_pair_of (class_numbers list) k)) q.classes.clauses)) (2 ^ 64 - 1)

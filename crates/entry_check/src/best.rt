@@ -1,19 +1,13 @@
 //! The best plan of a certificate, and the first reason among the entries.
 
-ghost use Rattle.std.specs.Prelude.{◌≡◌, ◌≤◌, ◌↔◌, IfNone, IfSome, IsTrue, MatchOption, Some, length, nat_lt};
-ghost use Rattle.catalog.specs.Contents.{Contents};
+ghost use Rattle.std.specs.Prelude.{◌≡◌, ◌≤◌, IfNone, IfSome, MatchOption, length, nat_lt};
 ghost use Rattle.pathkeys.specs.Keys as lists;
-ghost use Rattle.plan_tree.specs.Plans.{Plan, param_of, set_of};
 ghost use Rattle.plan_tree.specs.Reads.{IsOverTables};
-ghost use Rattle.plan_tree.specs.Space.{IsEmpty, IsFinished, IsSameSet, MeetsOrder};
-ghost use Rattle.sql_query.specs.Queries.{all_of_query, width};
-ghost use Rattle.plan_check.specs.Certificates.{finish_at, sorted_if};
-ghost use Rattle.plan_check.specs.Views.{certificate, entry, side};
-ghost use Rattle.plan_check.specs.Beating.{IsRight};
+ghost use Rattle.sql_query.specs.Queries.{width};
+ghost use Rattle.plan_check.specs.Views.{certificate};
 ghost use Rattle.plan_check.specs.Placing.{ArePlaced};
-ghost use Rattle.plan_check.specs.Reasons.{AllRight, AreUndominated, HasBest};
-ghost use Rattle.plan_check.specs.Verdicts.{AreWhole, IsReason};
-ghost use Rattle.entry_check.specs.Owning.{IsFinishedSide};
+ghost use Rattle.plan_check.specs.Reasons.{AllRight, HasBest};
+ghost use Rattle.entry_check.specs.Telling.{HasSoundEntries, IsEntryOfSide, IsReasonAgainst, IsUnfinishedSide, TellsOrdered, TellsWhole};
 
 use crate::entries::entry_before;
 use crate::judging::judge_entries;
@@ -27,7 +21,7 @@ use sql_query::Prepared;
 /// Whether a right entry is of all relations of the query, and is given no rows.
 fn is_whole(q: &Prepared, e: &Entry) -> bool
     requires few { width q.now ≤ 16 }
-    ensures { (c : Contents) (p : Plan) → IsRight c q.now (entry e.now) p → IsTrue result ↔ (IsSameSet (set_of p) (all_of_query q.now) × IsEmpty (param_of p)) }
+    ensures { TellsWhole q.now e.now result }
 {
     if !has_all(q, e.set) {
         return false;
@@ -47,7 +41,7 @@ fn has_order(q: &Prepared) -> bool
 
 /// Whether a right entry, sorted into the order asked for or not, is in that order.
 fn is_ordered(q: &Prepared, e: &Entry, sort: bool) -> bool
-    ensures { (c : Contents) (p : Plan) → IsRight c q.now (entry e.now) p → IsTrue result ↔ MeetsOrder c q.now (sorted_if sort (lists.order_keys q.now.classes q.now.order) p) (lists.order_keys q.now.classes q.now.order) }
+    ensures { TellsOrdered q.now e.now sort result }
 {
     if sort {
         return has_order(q);
@@ -67,8 +61,8 @@ pub fn finished_side<'a>(
 ) -> Option<&'a Entry>
     requires query { IsOverTables cat.now q.now }
     requires right { AllRight cat.now q.now (certificate t.now) }
-    ensures some { IfSome result (λ e. IsFinishedSide cat.now q.now (certificate t.now) (side s) (entry e.now)) }
-    ensures none { IfNone result ((p : Plan) → finish_at q.now (certificate t.now) (side s) ≡ Some p → ¬ IsFinished cat.now q.now p) }
+    ensures some { IfSome result (λ e. IsEntryOfSide cat.now q.now t.now s e.now) }
+    ensures none { IfNone result (IsUnfinishedSide cat.now q.now t.now s) }
 {
     match entry_before(cat, q, t, t.entries.items().len(), s.entry) {
         Some(e) => {
@@ -90,7 +84,7 @@ pub fn finished_side<'a>(
 pub fn judge_table(j: &Judged) -> Option<Reason>
     requires query { IsOverTables j.now.cat.now j.now.q.now }
     requires placed { ArePlaced (certificate j.now.t.now).entries j.now.places.now }
-    ensures { MatchOption result (AreWhole j.now.cat.now j.now.q.now (certificate j.now.t.now) × AreUndominated j.now.cat.now j.now.q.now (certificate j.now.t.now)) (λ r. IsReason j.now.cat.now j.now.q.now (certificate j.now.t.now) r) }
+    ensures { MatchOption result (HasSoundEntries j.now) (λ r. IsReasonAgainst j.now r) }
 {
     match judge_entries(j.cat, j.q, j.t) {
         Some(reason) => Some(reason),

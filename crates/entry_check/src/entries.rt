@@ -1,15 +1,10 @@
 //! Nodes of entries over the entries before them.
 
-ghost use Rattle.std.specs.Prelude.{◌≡◌, ◌≤◌, IfNone, IfSome, MatchOption, None, length, option_map};
-ghost use Rattle.sql_query.specs.Queries.{width};
-ghost use Rattle.plan_tree.specs.Plans as plans;
+ghost use Rattle.std.specs.Prelude.{◌≡◌, ◌≤◌, IfNone, IfSome, None, length};
 ghost use Rattle.plan_tree.specs.Reads.{IsOverTables};
-ghost use Rattle.plan_tree.specs.Views.{bits};
-ghost use Rattle.plan_check.specs.Certificates.{join_by, plan_at, plan_of, relation_in, side_at};
-ghost use Rattle.plan_check.specs.Views.{certificate, entry};
-ghost use Rattle.plan_check.specs.Views as views;
+ghost use Rattle.plan_check.specs.Views.{certificate};
 ghost use Rattle.plan_check.specs.Reasons.{AreRight};
-ghost use Rattle.entry_check.specs.Owning.{HasNone, HasOwn, HasPlanAt, plans_before};
+ghost use Rattle.entry_check.specs.Making.{FindsOwn, HasPlanBefore, made_at, made_bitmap, made_index, made_index_only, made_merge, made_nest, made_seq, plan_before};
 
 use crate::joins::{Merging, own_merge, own_nest};
 use crate::numbers::Own;
@@ -30,8 +25,8 @@ pub(crate) fn entry_before<'a>(
 ) -> Option<&'a Entry>
     requires within { n ≤ length (certificate t.now).entries }
     requires right { AreRight cat.now q.now (certificate t.now) n }
-    ensures some { IfSome result (λ e. HasPlanAt cat.now q.now (plans_before q.now (certificate t.now) n) number (entry e.now)) }
-    ensures none { IfNone result (plan_at (plans_before q.now (certificate t.now) n) number ≡ None) }
+    ensures some { IfSome result (λ e. HasPlanBefore cat.now q.now t.now n number e.now) }
+    ensures none { IfNone result (plan_before q.now t.now n number ≡ None) }
 {
     let number = number as usize;
     if number < 1 {
@@ -46,7 +41,7 @@ pub(crate) fn entry_before<'a>(
 /// What an entry is as a sequential scan. None exactly where it is none, but for its numbers.
 fn seq_own(cat: &Catalog, q: &Prepared, e: &Entry) -> Option<Own>
     requires query { IsOverTables cat.now q.now }
-    ensures { MatchOption result (HasNone cat.now q.now (option_map plans.seq (relation_in (width q.now) e.now.set)) (entry e.now)) (λ x. HasOwn cat.now q.now (option_map plans.seq (relation_in (width q.now) e.now.set)) (entry e.now) x) }
+    ensures { FindsOwn cat.now q.now (made_seq q.now e.now) e.now result }
 {
     match relation_of(q, e.set) {
         Some(r) => own_seq(cat, q, e, r),
@@ -57,7 +52,7 @@ fn seq_own(cat: &Catalog, q: &Prepared, e: &Entry) -> Option<Own>
 /// What an entry is as a scan by an index. None exactly where it is none, but for its numbers.
 fn index_own(cat: &Catalog, q: &Prepared, e: &Entry, i: IndexNo, backward: bool) -> Option<Own>
     requires query { IsOverTables cat.now q.now }
-    ensures { MatchOption result (HasNone cat.now q.now (option_map (λ r. plans.index r i backward e.now.param) (relation_in (width q.now) e.now.set)) (entry e.now)) (λ x. HasOwn cat.now q.now (option_map (λ r. plans.index r i backward e.now.param) (relation_in (width q.now) e.now.set)) (entry e.now) x) }
+    ensures { FindsOwn cat.now q.now (made_index q.now e.now i backward) e.now result }
 {
     match relation_of(q, e.set) {
         Some(rel) => own_index(
@@ -79,7 +74,7 @@ fn index_own(cat: &Catalog, q: &Prepared, e: &Entry, i: IndexNo, backward: bool)
 /// What an entry is as an index-only scan. None exactly where it is none, but for its numbers.
 fn index_only_own(cat: &Catalog, q: &Prepared, e: &Entry, i: IndexNo, backward: bool) -> Option<Own>
     requires query { IsOverTables cat.now q.now }
-    ensures { MatchOption result (HasNone cat.now q.now (option_map (λ r. plans.index_only r i backward e.now.param) (relation_in (width q.now) e.now.set)) (entry e.now)) (λ x. HasOwn cat.now q.now (option_map (λ r. plans.index_only r i backward e.now.param) (relation_in (width q.now) e.now.set)) (entry e.now) x) }
+    ensures { FindsOwn cat.now q.now (made_index_only q.now e.now i backward) e.now result }
 {
     match relation_of(q, e.set) {
         Some(rel) => own_index(
@@ -101,7 +96,7 @@ fn index_only_own(cat: &Catalog, q: &Prepared, e: &Entry, i: IndexNo, backward: 
 /// What an entry is as a scan by a bitmap tree. None exactly where it is none, but for its numbers.
 fn bitmap_own(cat: &Catalog, q: &Prepared, e: &Entry, tree: &BitTree) -> Option<Own>
     requires query { IsOverTables cat.now q.now }
-    ensures { MatchOption result (HasNone cat.now q.now (option_map (λ r. plans.bitmap r e.now.param (bits tree.now)) (relation_in (width q.now) e.now.set)) (entry e.now)) (λ x. HasOwn cat.now q.now (option_map (λ r. plans.bitmap r e.now.param (bits tree.now)) (relation_in (width q.now) e.now.set)) (entry e.now) x) }
+    ensures { FindsOwn cat.now q.now (made_bitmap q.now e.now tree.now) e.now result }
 {
     match relation_of(q, e.set) {
         Some(r) => own_bitmap(cat, q, e, r, tree),
@@ -122,7 +117,7 @@ fn nest_own(
     requires query { IsOverTables cat.now q.now }
     requires within { n ≤ length (certificate t.now).entries }
     requires right { AreRight cat.now q.now (certificate t.now) n }
-    ensures { MatchOption result (HasNone cat.now q.now (join_by plans.nest (plan_at (plans_before q.now (certificate t.now) n) sides.0) (plan_at (plans_before q.now (certificate t.now) n) sides.1)) (entry e.now)) (λ x. HasOwn cat.now q.now (join_by plans.nest (plan_at (plans_before q.now (certificate t.now) n) sides.0) (plan_at (plans_before q.now (certificate t.now) n) sides.1)) (entry e.now) x) }
+    ensures { FindsOwn cat.now q.now (made_nest q.now t.now n sides.0 sides.1) e.now result }
 {
     match entry_before(cat, q, t, n, sides.0) {
         Some(a) => match entry_before(cat, q, t, n, sides.1) {
@@ -146,7 +141,7 @@ fn merge_own(
     requires query { IsOverTables cat.now q.now }
     requires within { n ≤ length (certificate t.now).entries }
     requires right { AreRight cat.now q.now (certificate t.now) n }
-    ensures { MatchOption result (HasNone cat.now q.now (join_by (plans.merge m.now.list.now) (side_at (plans_before q.now (certificate t.now) n) m.now.list.now (views.side m.now.outer)) (side_at (plans_before q.now (certificate t.now) n) m.now.list.now (views.side m.now.inner))) (entry e.now)) (λ x. HasOwn cat.now q.now (join_by (plans.merge m.now.list.now) (side_at (plans_before q.now (certificate t.now) n) m.now.list.now (views.side m.now.outer)) (side_at (plans_before q.now (certificate t.now) n) m.now.list.now (views.side m.now.inner))) (entry e.now) x) }
+    ensures { FindsOwn cat.now q.now (made_merge q.now t.now n m.now) e.now result }
 {
     match entry_before(cat, q, t, n, m.outer.entry) {
         Some(a) => match entry_before(cat, q, t, n, m.inner.entry) {
@@ -169,7 +164,7 @@ pub(crate) fn own_at(
     requires query { IsOverTables cat.now q.now }
     requires within { n ≤ length (certificate t.now).entries }
     requires right { AreRight cat.now q.now (certificate t.now) n }
-    ensures { MatchOption result (HasNone cat.now q.now (plan_of (width q.now) (plans_before q.now (certificate t.now) n) (entry e.now)) (entry e.now)) (λ x. HasOwn cat.now q.now (plan_of (width q.now) (plans_before q.now (certificate t.now) n) (entry e.now)) (entry e.now) x) }
+    ensures { FindsOwn cat.now q.now (made_at q.now t.now n e.now) e.now result }
 {
     match &e.node {
         Node::Seq => seq_own(cat, q, e),

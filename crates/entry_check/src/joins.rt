@@ -1,16 +1,11 @@
 //! Joins that entries say they are.
 
 ghost use Rattle.std.specs.Prelude.{◌≡◌, ◌↔◌, IfNone, IfSome, IsTrue};
-ghost use Rattle.catalog.specs.Contents.{Contents};
-ghost use Rattle.sql_query.specs.Queries.{Query};
 ghost use Rattle.pathkeys.specs.Finding.{class_numbers};
-ghost use Rattle.plan_tree.specs.Plans.{Plan, merge, nest};
 ghost use Rattle.plan_tree.specs.Reads.{IsOverTables};
-ghost use Rattle.plan_check.specs.Certificates.{sorted_if};
-ghost use Rattle.plan_check.specs.Tables.{HasItsPlan};
 ghost use Rattle.plan_check.specs.Views.{entry};
-ghost use Rattle.plan_check.specs.Beating.{IsRight, candidate};
-ghost use Rattle.entry_check.specs.Owning.{HasRight, IsOwn};
+ghost use Rattle.entry_check.specs.Owning.{HasRight};
+ghost use Rattle.entry_check.specs.Making.{HasCandidate, HasNoMerge, HasNoNest, HasOther, HasOwnMerge, HasOwnNest};
 
 use crate::merges::merge_of;
 use crate::nests::nest_of;
@@ -33,8 +28,8 @@ fn are_equal(a: &[ClassNo], b: &[ClassNo]) -> bool
 /// The numbers of a candidate, where an entry has its set, its parameterisation and its keys. None exactly where it has
 /// not.
 fn own_of(e: &Entry, x: &Candidate) -> Option<Own>
-    ensures some { IfSome result (λ own. (c : Contents) (q : Query) (p : Plan) → IsRight c q (candidate x.now) p → IsOwn c q (entry e.now) p own) }
-    ensures none { IfNone result ((c : Contents) (q : Query) (p : Plan) → IsRight c q (candidate x.now) p → ¬ HasItsPlan c q (entry e.now) p) }
+    ensures some { IfSome result (λ own. HasCandidate e.now x.now own) }
+    ensures none { IfNone result (HasOther e.now x.now) }
 {
     if e.set.0 != x.set.0 {
         return None;
@@ -58,8 +53,8 @@ pub(crate) fn own_nest(cat: &Catalog, q: &Prepared, e: &Entry, a: &Entry, b: &En
     requires query { IsOverTables cat.now q.now }
     requires outer { HasRight cat.now q.now (entry a.now) }
     requires inner { HasRight cat.now q.now (entry b.now) }
-    ensures some { IfSome result (λ own. (o i : Plan) → IsRight cat.now q.now (entry a.now) o → IsRight cat.now q.now (entry b.now) i → IsOwn cat.now q.now (entry e.now) (nest o i) own) }
-    ensures none { IfNone result ((o i : Plan) → IsRight cat.now q.now (entry a.now) o → IsRight cat.now q.now (entry b.now) i → ¬ HasItsPlan cat.now q.now (entry e.now) (nest o i)) }
+    ensures some { IfSome result (λ own. HasOwnNest cat.now q.now e.now a.now b.now own) }
+    ensures none { IfNone result (HasNoNest cat.now q.now e.now a.now b.now) }
 {
     match nest_of(cat, q, a, b) {
         Some(x) => own_of(e, &x),
@@ -91,8 +86,8 @@ pub(crate) fn own_merge(
     requires query { IsOverTables cat.now q.now }
     requires outer { HasRight cat.now q.now (entry a.now) }
     requires inner { HasRight cat.now q.now (entry b.now) }
-    ensures some { IfSome result (λ own. (o i : Plan) → IsRight cat.now q.now (entry a.now) o → IsRight cat.now q.now (entry b.now) i → IsOwn cat.now q.now (entry e.now) (merge m.now.list.now (sorted_if m.now.outer.sort m.now.list.now o) (sorted_if m.now.inner.sort m.now.list.now i)) own) }
-    ensures none { IfNone result ((o i : Plan) → IsRight cat.now q.now (entry a.now) o → IsRight cat.now q.now (entry b.now) i → ¬ HasItsPlan cat.now q.now (entry e.now) (merge m.now.list.now (sorted_if m.now.outer.sort m.now.list.now o) (sorted_if m.now.inner.sort m.now.list.now i))) }
+    ensures some { IfSome result (λ own. HasOwnMerge cat.now q.now m.now e.now a.now b.now own) }
+    ensures none { IfNone result (HasNoMerge cat.now q.now m.now e.now a.now b.now) }
 {
     if !is_merge_list(classes_of(q), a.set, b.set, m.list) {
         return None;

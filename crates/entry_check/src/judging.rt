@@ -1,16 +1,13 @@
 //! The reason for which an entry is not right.
 
-ghost use Rattle.std.specs.Prelude.{◌≡◌, ◌≢◌, ◌+◌, ◌<◌, IfNone, IfSome, MatchOption, Some, false, length, true};
-ghost use Rattle.catalog.specs.Contents.{Contents};
-ghost use Rattle.plan_tree.specs.Costs as costs;
-ghost use Rattle.plan_tree.specs.Plans.{Plan};
+ghost use Rattle.std.specs.Prelude.{◌≡◌, ◌≢◌, ◌+◌, ◌<◌, IfNone, IfSome, Some, false, length, true};
 ghost use Rattle.plan_tree.specs.Reads.{IsOverTables};
 ghost use Rattle.sql_query.specs.declared.window.Window.{Window as Asked};
-ghost use Rattle.plan_check.specs.Tables.{HasPlanNumbers, IsStartup};
-ghost use Rattle.plan_check.specs.Views.{certificate, entry};
-ghost use Rattle.plan_check.specs.Reasons.{AllRight, AreRight, IsDifference};
+ghost use Rattle.plan_check.specs.Tables.{IsStartup};
+ghost use Rattle.plan_check.specs.Views.{certificate};
+ghost use Rattle.plan_check.specs.Reasons.{AreRight};
 ghost use Rattle.plan_check.specs.Verdicts.{IsReason};
-ghost use Rattle.entry_check.specs.Owning.{AreNumbersOf};
+ghost use Rattle.entry_check.specs.Telling.{DiffersBy, JudgesEntries, SaysNumbers};
 
 use crate::entries::own_at;
 use crate::numbers::Own;
@@ -32,8 +29,8 @@ fn start_alike(q: &Prepared, a: u64, b: u64) -> bool
 /// The first number of an entry that is not its plan's, with what the entry has and what it is: the startup, where the
 /// query has a window, then the total, then the rows. None exactly where each is.
 fn difference(q: &Prepared, e: &Entry, own: Own) -> Option<(Number, u64, u64)>
-    ensures some { IfSome result (λ d. (c : Contents) (p : Plan) → AreNumbersOf c q.now p own → IsDifference q.now.window (entry e.now) (costs.cost c q.now p) (costs.estimate c q.now p) d.0 d.1 d.2) }
-    ensures none { IfNone result ((c : Contents) (p : Plan) → AreNumbersOf c q.now p own → HasPlanNumbers c q.now (entry e.now) p) }
+    ensures some { IfSome result (λ d. DiffersBy q.now e.now own d.0 d.1 d.2) }
+    ensures none { IfNone result (SaysNumbers q.now e.now own) }
 {
     if !start_alike(q, e.startup, own.startup) {
         return Some((Number::Startup, e.startup, own.startup));
@@ -77,7 +74,7 @@ pub fn judge_entry(cat: &Catalog, q: &Prepared, t: &Certificate, n: usize) -> Op
 /// no memory.
 pub fn judge_entries(cat: &Catalog, q: &Prepared, t: &Certificate) -> Option<Reason>
     requires query { IsOverTables cat.now q.now }
-    ensures { MatchOption result (AllRight cat.now q.now (certificate t.now)) (λ r. IsReason cat.now q.now (certificate t.now) r) }
+    ensures { JudgesEntries cat.now q.now t.now result }
 {
     for n in 0..t.entries.items().len() {
         if let Some(reason) = judge_entry(cat, q, t, n) {

@@ -1,25 +1,15 @@
 //! Merges of right entries, as they stand or sorted, in numbers.
 
-ghost use Rattle.std.specs.Prelude.{◌≡◌, ◌≤◌, ◌↔◌, IfNone, IfSome, IsTrue, cond, false, length, true};
-ghost use Rattle.pg_base.specs.Sets.{has};
-ghost use Rattle.catalog.specs.Contents.{Contents};
-ghost use Rattle.cost_rules.specs.Costs.{IsEstimate, capped_pair};
-ghost use Rattle.entry_check.specs.Parts.{IsPart, IsReckoned};
-ghost use Rattle.plan_tree.specs.Costs as costs;
-ghost use Rattle.plan_tree.specs.Paths.{kept_cost};
-ghost use Rattle.sql_query.specs.Queries.{Query};
+ghost use Rattle.std.specs.Prelude.{◌≡◌, ◌≤◌, ◌↔◌, IfNone, IfSome, IsTrue, cond, length};
+ghost use Rattle.cost_rules.specs.Costs.{IsEstimate};
+ghost use Rattle.entry_check.specs.Parts.{IsMergeCost, IsReckoned};
 ghost use Rattle.pathkeys.specs.Finding.{class_numbers};
-ghost use Rattle.pathkeys.specs.Keys as lists;
-ghost use Rattle.plan_tree.specs.Least.{IsAdmissible};
-ghost use Rattle.plan_tree.specs.Plans.{Plan, merge};
 ghost use Rattle.plan_tree.specs.Reads.{IsOverTables};
-ghost use Rattle.plan_tree.specs.Space.{IsBuilt, IsMergeList};
-ghost use Rattle.plan_check.specs.Certificates.{sorted_if};
 ghost use Rattle.plan_check.specs.Views.{entry};
-ghost use Rattle.plan_check.specs.Beating.{IsRight, candidate};
-ghost use Rattle.plan_check.specs.Joining.{MayMerge};
 ghost use Rattle.entry_check.specs.Owning.{HasRight};
 ghost use Rattle.entry_check.specs.Working.{IsMergeWork};
+ghost use Rattle.entry_check.specs.Making.{HaveNoMerge, IsMergeOf};
+ghost use Rattle.entry_check.specs.Telling.{HasList, IsMergeListOf, TellsMayMerge};
 
 use crate::numbers::numbers_of;
 use crate::parts::side_of;
@@ -35,14 +25,14 @@ use sql_query::Prepared;
 
 /// Whether an entry is sorted by a list, or has keys that begin with it.
 pub fn has_list(e: &Entry, list: &[ClassNo], sort: bool) -> bool
-    ensures { IsTrue result ↔ (sort ≡ false → lists.covers e.now.keys (class_numbers list.now) ≡ true) }
+    ensures { IsTrue result ↔ HasList e.now list.now sort }
 {
     sort || begin_with(e.keys.items(), list)
 }
 
 /// Whether two entries may be the sides of a merge by a list that is one of a merge of their sets.
 fn may_merge(list: &[ClassNo], a: &Entry, b: &Entry, sorts: (bool, bool)) -> bool
-    ensures { (c : Contents) (q : Query) → IsMergeList c q (has a.now.set.0) (has b.now.set.0) (class_numbers list.now) → IsTrue result ↔ MayMerge c q (class_numbers list.now) (entry a.now) (entry b.now) sorts.0 sorts.1 }
+    ensures { TellsMayMerge list.now a.now b.now sorts result }
 {
     !a.set.meets(b.set)
         && a.param.is_empty()
@@ -115,7 +105,7 @@ fn merge_cost(q: &Prepared, work: &MergeWork, outer: Part, inner: Part) -> Pair
     requires some_keys { 1 ≤ length work.now.list.now }
     requires few_keys { length work.now.list.now ≤ 3 }
     requires bounded { IsEstimate work.now.equal }
-    ensures { (c : Contents) (o i : Plan) → IsMergeWork c q.now work.now → IsPart c q.now outer o → IsPart c q.now inner i → result ≡ capped_pair (kept_cost q.now.window (costs.cost c q.now (merge (class_numbers work.now.list.now) o i))) }
+    ensures { IsMergeCost q.now work.now outer inner result }
 {
     cost_rules::merge(
         outer.cost,
@@ -145,9 +135,9 @@ pub fn merge_with<'a>(
     requires inner_set { b.now.set.0 ≡ work.now.inner.0 }
     requires outer { HasRight cat.now q.now (entry a.now) }
     requires inner { HasRight cat.now q.now (entry b.now) }
-    requires list { IsMergeList cat.now q.now (has a.now.set.0) (has b.now.set.0) (class_numbers work.now.list.now) }
-    ensures some { IfSome result (λ x. (o i : Plan) → IsRight cat.now q.now (entry a.now) o → IsRight cat.now q.now (entry b.now) i → IsRight cat.now q.now (candidate x) (merge (class_numbers work.now.list.now) (sorted_if sorts.0 (class_numbers work.now.list.now) o) (sorted_if sorts.1 (class_numbers work.now.list.now) i))) }
-    ensures none { IfNone result ((o i : Plan) → IsRight cat.now q.now (entry a.now) o → IsRight cat.now q.now (entry b.now) i → IsBuilt cat.now q.now (merge (class_numbers work.now.list.now) (sorted_if sorts.0 (class_numbers work.now.list.now) o) (sorted_if sorts.1 (class_numbers work.now.list.now) i)) → ¬ IsAdmissible cat.now q.now (merge (class_numbers work.now.list.now) (sorted_if sorts.0 (class_numbers work.now.list.now) o) (sorted_if sorts.1 (class_numbers work.now.list.now) i))) }
+    requires list { IsMergeListOf cat.now q.now a.now b.now work.now.list.now }
+    ensures some { IfSome result (λ x. IsMergeOf cat.now q.now work.now.list.now sorts a.now b.now x) }
+    ensures none { IfNone result (HaveNoMerge cat.now q.now work.now.list.now sorts a.now b.now) }
 {
     cat.lawful();
     if !may_merge(work.list, a, b, sorts) {
@@ -179,9 +169,9 @@ pub fn merge_of<'a>(
     requires query { IsOverTables cat.now q.now }
     requires outer { HasRight cat.now q.now (entry a.now) }
     requires inner { HasRight cat.now q.now (entry b.now) }
-    requires list { IsMergeList cat.now q.now (has a.now.set.0) (has b.now.set.0) (class_numbers list.now) }
-    ensures some { IfSome result (λ x. (o i : Plan) → IsRight cat.now q.now (entry a.now) o → IsRight cat.now q.now (entry b.now) i → IsRight cat.now q.now (candidate x) (merge (class_numbers list.now) (sorted_if sorts.0 (class_numbers list.now) o) (sorted_if sorts.1 (class_numbers list.now) i))) }
-    ensures none { IfNone result ((o i : Plan) → IsRight cat.now q.now (entry a.now) o → IsRight cat.now q.now (entry b.now) i → IsBuilt cat.now q.now (merge (class_numbers list.now) (sorted_if sorts.0 (class_numbers list.now) o) (sorted_if sorts.1 (class_numbers list.now) i)) → ¬ IsAdmissible cat.now q.now (merge (class_numbers list.now) (sorted_if sorts.0 (class_numbers list.now) o) (sorted_if sorts.1 (class_numbers list.now) i))) }
+    requires list { IsMergeListOf cat.now q.now a.now b.now list.now }
+    ensures some { IfSome result (λ x. IsMergeOf cat.now q.now list.now sorts a.now b.now x) }
+    ensures none { IfNone result (HaveNoMerge cat.now q.now list.now sorts a.now b.now) }
 {
     let work = merge_work(cat, q, list, a.set, b.set);
     merge_with(cat, q, &work, a, b, sorts)

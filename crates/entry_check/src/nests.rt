@@ -2,19 +2,14 @@
 
 ghost use Rattle.std.specs.Prelude.{◌≡◌, ◌<◌, ◌↔◌, IfNone, IfSome, IsTrue, Some, slice_get};
 ghost use Rattle.catalog.specs.Contents.{Contents};
-ghost use Rattle.cost_rules.specs.Costs.{capped_pair};
-ghost use Rattle.entry_check.specs.Parts.{IsPart, IsReckoned};
-ghost use Rattle.plan_tree.specs.Costs as costs;
-ghost use Rattle.plan_tree.specs.Least.{IsAdmissible};
-ghost use Rattle.plan_tree.specs.Paths.{kept_cost};
-ghost use Rattle.plan_tree.specs.Plans.{Plan, nest};
+ghost use Rattle.entry_check.specs.Parts.{IsJoinCost, IsReckoned};
+ghost use Rattle.plan_tree.specs.Plans.{nest};
 ghost use Rattle.plan_tree.specs.Reads.{IsOverTables};
-ghost use Rattle.plan_tree.specs.Space.{IsBuilt};
 ghost use Rattle.plan_check.specs.Views.{entry};
-ghost use Rattle.plan_check.specs.Beating.{IsRight, candidate};
 ghost use Rattle.plan_check.specs.Joining.{MayNest};
 ghost use Rattle.entry_check.specs.Owning.{HasRight};
 ghost use Rattle.entry_check.specs.Working.{AreGiven, AreNestOperators, IsNestWork};
+ghost use Rattle.entry_check.specs.Making.{HaveNoNest, IsNestOf};
 
 use crate::numbers::numbers_of;
 use crate::parts::part_of;
@@ -129,7 +124,7 @@ fn nest_cost(q: &Prepared, work: &NestWork, outer: Part, inner: Part) -> Pair
     requires inner_set { inner.set.0 ≡ work.now.inner.0 }
     requires tested { AreNestOperators q.now work.now.outer.0 work.now.inner.0 0 work.now.ops }
     requires given { AreGiven q.now work.now }
-    ensures { (c : Contents) (o i : Plan) → IsPart c q.now outer o → IsPart c q.now inner i → result ≡ capped_pair (kept_cost q.now.window (costs.cost c q.now (nest o i))) }
+    ensures { (c : Contents) → IsJoinCost c q.now outer inner nest result }
 {
     let ops = operators_given(q, work, inner.param);
     cost_rules::nest(outer.cost, inner.cost, outer.rows, inner.rows, ops)
@@ -150,8 +145,8 @@ pub fn nest_with<'a>(
     requires inner_set { b.now.set.0 ≡ work.now.inner.0 }
     requires outer { HasRight cat.now q.now (entry a.now) }
     requires inner { HasRight cat.now q.now (entry b.now) }
-    ensures some { IfSome result (λ x. (o i : Plan) → IsRight cat.now q.now (entry a.now) o → IsRight cat.now q.now (entry b.now) i → IsRight cat.now q.now (candidate x) (nest o i)) }
-    ensures none { IfNone result ((o i : Plan) → IsRight cat.now q.now (entry a.now) o → IsRight cat.now q.now (entry b.now) i → IsBuilt cat.now q.now (nest o i) → ¬ IsAdmissible cat.now q.now (nest o i)) }
+    ensures some { IfSome result (λ x. IsNestOf cat.now q.now a.now b.now x) }
+    ensures none { IfNone result (HaveNoNest cat.now q.now a.now b.now) }
 {
     cat.lawful();
     if !may_nest(a, b) {
@@ -176,8 +171,8 @@ pub fn nest_of<'a>(cat: &Catalog, q: &Prepared, a: &'a Entry, b: &Entry) -> Opti
     requires query { IsOverTables cat.now q.now }
     requires outer { HasRight cat.now q.now (entry a.now) }
     requires inner { HasRight cat.now q.now (entry b.now) }
-    ensures some { IfSome result (λ x. (o i : Plan) → IsRight cat.now q.now (entry a.now) o → IsRight cat.now q.now (entry b.now) i → IsRight cat.now q.now (candidate x) (nest o i)) }
-    ensures none { IfNone result ((o i : Plan) → IsRight cat.now q.now (entry a.now) o → IsRight cat.now q.now (entry b.now) i → IsBuilt cat.now q.now (nest o i) → ¬ IsAdmissible cat.now q.now (nest o i)) }
+    ensures some { IfSome result (λ x. IsNestOf cat.now q.now a.now b.now x) }
+    ensures none { IfNone result (HaveNoNest cat.now q.now a.now b.now) }
 {
     let work = nest_work(cat, q, a.set, b.set);
     nest_with(cat, q, &work, a, b)

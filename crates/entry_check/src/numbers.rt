@@ -1,14 +1,7 @@
 //! The numbers of plans, as entries have them.
 
-ghost use Rattle.std.specs.Prelude.{◌≡◌, IfNone, IfSome};
-ghost use Rattle.catalog.specs.Contents.{Contents};
-ghost use Rattle.cost_rules.specs.Costs.{capped_pair};
-ghost use Rattle.plan_tree.specs.Costs as costs;
-ghost use Rattle.plan_tree.specs.Costs.{HaveRows};
-ghost use Rattle.plan_tree.specs.Least.{IsAdmissible};
-ghost use Rattle.plan_tree.specs.Paths.{kept_cost};
-ghost use Rattle.plan_tree.specs.Plans.{Plan};
-ghost use Rattle.entry_check.specs.Owning.{AreNumbersOf};
+ghost use Rattle.std.specs.Prelude.{IfNone, IfSome};
+ghost use Rattle.entry_check.specs.Telling.{AreNumbersFrom, IsPastLimit};
 
 use cost_rules::{MOST_COST, Pair};
 use sql_query::Prepared;
@@ -26,8 +19,8 @@ pub struct Own {
 
 /// The numbers of a plan from its cost, cut to at most 10^18, and its rows. None exactly where it is not admissible.
 pub fn numbers_of(q: &Prepared, cost: Pair, rows: u64) -> Option<Own>
-    ensures some { IfSome result (λ x. (c : Contents) (p : Plan) → HaveRows c q.now → cost ≡ capped_pair (kept_cost q.now.window (costs.cost c q.now p)) → rows ≡ costs.estimate c q.now p → AreNumbersOf c q.now p x) }
-    ensures none { IfNone result ((c : Contents) (p : Plan) → cost ≡ capped_pair (kept_cost q.now.window (costs.cost c q.now p)) → ¬ IsAdmissible c q.now p) }
+    ensures some { IfSome result (λ x. AreNumbersFrom q.now cost rows x) }
+    ensures none { IfNone result (IsPastLimit q.now cost) }
 {
     if cost.total >= MOST_COST {
         return None;

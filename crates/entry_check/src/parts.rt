@@ -4,15 +4,11 @@ ghost use Rattle.std.specs.Prelude.{◌≡◌, ◌<◌};
 ghost use Rattle.pg_base.specs.Sets.{has};
 ghost use Rattle.cost_rules.specs.Costs.{IsEstimate};
 ghost use Rattle.path_cost.specs.Estimates as numbers;
-ghost use Rattle.pathkeys.specs.Keys.{Keys};
-ghost use Rattle.plan_tree.specs.Plans.{Plan};
 ghost use Rattle.plan_tree.specs.Reads.{IsOverTables};
 ghost use Rattle.plan_tree.specs.Space.{IsEmpty};
 ghost use Rattle.sql_query.specs.Queries.{width};
-ghost use Rattle.entry_check.specs.Parts.{IsPart, IsReckoned};
-ghost use Rattle.plan_check.specs.Certificates.{sorted_if};
+ghost use Rattle.entry_check.specs.Parts.{IsEntryPart, IsReckoned, IsSidePart};
 ghost use Rattle.plan_check.specs.Views.{entry};
-ghost use Rattle.plan_check.specs.Beating.{IsRight};
 ghost use Rattle.entry_check.specs.Owning.{HasRight};
 
 use crate::{Part, sorted};
@@ -54,7 +50,7 @@ fn rows_of(cat: &Catalog, q: &Prepared, e: &Entry) -> u64
 pub(crate) fn part_of(cat: &Catalog, q: &Prepared, e: &Entry) -> Part
     requires query { IsOverTables cat.now q.now }
     requires right { HasRight cat.now q.now (entry e.now) }
-    ensures part { (p : Plan) → IsRight cat.now q.now (entry e.now) p → IsPart cat.now q.now result p }
+    ensures part { IsEntryPart cat.now q.now e.now result }
     ensures reckoned { IsReckoned result }
     ensures set { result.set.0 ≡ e.now.set.0 }
 {
@@ -76,7 +72,7 @@ pub(crate) fn side_of(cat: &Catalog, q: &Prepared, e: &Entry, sort: bool) -> Par
     requires query { IsOverTables cat.now q.now }
     requires right { HasRight cat.now q.now (entry e.now) }
     requires whole { IsEmpty (has e.now.param.0) }
-    ensures part { (keys : Keys) (p : Plan) → IsRight cat.now q.now (entry e.now) p → IsPart cat.now q.now result (sorted_if sort keys p) }
+    ensures part { IsSidePart cat.now q.now e.now sort result }
     ensures reckoned { IsReckoned result }
     ensures set { result.set.0 ≡ e.now.set.0 }
 {

@@ -1,6 +1,6 @@
 //! Scans that entries say they are.
 
-ghost use Rattle.std.specs.Prelude.{◌≡◌, ◌<◌, ◌≤◌, ◌↔◌, ℕ, IfNone, IfSome, IsTrue, MatchOption, cond, false, length, slice_get, true};
+ghost use Rattle.std.specs.Prelude.{◌≡◌, ◌<◌, ◌≤◌, ◌↔◌, ℕ, IfNone, IfSome, IsTrue, cond, false, length, slice_get, true};
 ghost use Rattle.std.specs.Option.{option_map};
 ghost use Rattle.pg_base.specs.Sets.{has};
 ghost use Rattle.pg_base.specs.declared.limits.TheConstants.{MOST_COLUMNS};
@@ -17,9 +17,8 @@ ghost use Rattle.plan_tree.specs.Space.{IsBuilt, IsSameSet};
 ghost use Rattle.plan_tree.specs.Views.{bits};
 ghost use Rattle.sql_query.specs.Queries.{width};
 ghost use Rattle.plan_check.specs.Certificates.{relation_in};
-ghost use Rattle.plan_check.specs.Tables.{HasItsPlan};
-ghost use Rattle.plan_check.specs.Views.{entry};
-ghost use Rattle.entry_check.specs.Owning.{IsOwn, tree_of};
+ghost use Rattle.entry_check.specs.Owning.{keys_by_index, tree_of};
+ghost use Rattle.entry_check.specs.Making.{FindsOwnOf};
 
 use crate::numbers::{Own, numbers_of};
 use crate::set_rows;
@@ -91,7 +90,7 @@ pub fn rows_given(cat: &Catalog, q: &Prepared, r: RelNo, p: RelSet) -> u64
 pub fn key_at(cat: &Catalog, q: &Prepared, s: ByIndex, n: usize) -> Option<ClassNo>
     requires index { IsIndex cat.now s.index }
     requires few { n ≤ MOST_COLUMNS }
-    ensures class { option_map (λ c. c.0) result ≡ slice_get (keys.scan_keys cat.now q.now s.rel s.index s.backward s.param) n }
+    ensures class { option_map (λ c. c.0) result ≡ slice_get (keys_by_index cat.now q.now s) n }
 {
     if s.param.0 == 0 {
         index_key(
@@ -155,7 +154,7 @@ pub fn is_built(cat: &Catalog, q: &Prepared, s: ByIndex) -> bool
 pub(crate) fn own_seq(cat: &Catalog, q: &Prepared, e: &Entry, r: RelNo) -> Option<Own>
     requires query { IsOverTables cat.now q.now }
     requires relation { r.0 < width q.now }
-    ensures { MatchOption result (¬ HasItsPlan cat.now q.now (entry e.now) (plans.seq r)) (λ x. IsOwn cat.now q.now (entry e.now) (plans.seq r) x) }
+    ensures { FindsOwnOf cat.now q.now e.now (plans.seq r) result }
 {
     cat.lawful();
     if !is_alone(e.set, r) {
@@ -177,7 +176,7 @@ pub(crate) fn own_index(cat: &Catalog, q: &Prepared, e: &Entry, s: ByIndex) -> O
     requires query { IsOverTables cat.now q.now }
     requires relation { s.rel.0 < width q.now }
     requires param { s.param ≡ e.now.param }
-    ensures { MatchOption result (¬ HasItsPlan cat.now q.now (entry e.now) (tree_of s)) (λ x. IsOwn cat.now q.now (entry e.now) (tree_of s) x) }
+    ensures { FindsOwnOf cat.now q.now e.now (tree_of s) result }
 {
     cat.lawful();
     if !is_alone(e.set, s.rel) {
@@ -205,7 +204,7 @@ pub(crate) fn own_bitmap(
 ) -> Option<Own>
     requires query { IsOverTables cat.now q.now }
     requires relation { r.0 < width q.now }
-    ensures { MatchOption result (¬ HasItsPlan cat.now q.now (entry e.now) (plans.bitmap r e.now.param (bits tree.now))) (λ x. IsOwn cat.now q.now (entry e.now) (plans.bitmap r e.now.param (bits tree.now)) x) }
+    ensures { FindsOwnOf cat.now q.now e.now (plans.bitmap r e.now.param (bits tree.now)) result }
 {
     cat.lawful();
     if !is_alone(e.set, r) {

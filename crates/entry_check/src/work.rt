@@ -2,15 +2,11 @@
 
 ghost use Rattle.std.specs.Prelude.{◌≡◌, ◌≤◌, length};
 ghost use Rattle.catalog.specs.Contents.{Contents};
-ghost use Rattle.cost_rules.specs.Costs.{IsCost, capped_pair};
+ghost use Rattle.cost_rules.specs.Costs.{IsCost};
 ghost use Rattle.pathkeys.specs.Finding.{class_numbers};
-ghost use Rattle.pathkeys.specs.Keys.{Keys};
-ghost use Rattle.plan_tree.specs.Costs as costs;
-ghost use Rattle.plan_tree.specs.Paths.{kept_cost};
-ghost use Rattle.plan_tree.specs.Plans.{Plan, merge, nest, param_of, sort};
+ghost use Rattle.plan_tree.specs.Plans.{merge, nest};
 ghost use Rattle.plan_tree.specs.Reads.{IsOverTables};
-ghost use Rattle.plan_tree.specs.Space.{IsEmpty};
-ghost use Rattle.entry_check.specs.Parts.{IsPart, IsReckoned};
+ghost use Rattle.entry_check.specs.Parts.{IsJoinCost, IsReckoned, IsSortedPart};
 
 use crate::operators::{merge_operators, nest_operators};
 use crate::work_parts::Part;
@@ -25,7 +21,7 @@ use sql_query::Prepared;
 pub fn nest_cost(q: &Prepared, outer: Part, inner: Part) -> Pair
     requires outer { IsReckoned outer }
     requires inner { IsReckoned inner }
-    ensures rule { (c : Contents) (o i : Plan) → IsPart c q.now outer o → IsPart c q.now inner i → result ≡ capped_pair (kept_cost q.now.window (costs.cost c q.now (nest o i))) }
+    ensures rule { (c : Contents) → IsJoinCost c q.now outer inner nest result }
     ensures cost { IsCost result }
 {
     let ops = nest_operators(q, outer.set, inner.set, inner.param);
@@ -39,7 +35,7 @@ pub fn merge_cost(cat: &Catalog, q: &Prepared, keys: &[ClassNo], outer: Part, in
     requires few_keys { length keys.now ≤ 3 }
     requires outer { IsReckoned outer }
     requires inner { IsReckoned inner }
-    ensures rule { (o i : Plan) → IsPart cat.now q.now outer o → IsPart cat.now q.now inner i → result ≡ capped_pair (kept_cost q.now.window (costs.cost cat.now q.now (merge (class_numbers keys.now) o i))) }
+    ensures rule { IsJoinCost cat.now q.now outer inner (merge (class_numbers keys.now)) result }
     ensures cost { IsCost result }
 {
     let equal = pairs(cat, range_of(q), classes_of(q), outer.set, inner.set, keys);
@@ -58,7 +54,7 @@ pub fn merge_cost(cat: &Catalog, q: &Prepared, keys: &[ClassNo], outer: Part, in
 /// What the sort of a plan that is given no rows is reckoned by, whatever the classes.
 pub fn sorted(q: &Prepared, x: Part) -> Part
     requires reckoned { IsReckoned x }
-    ensures sorted { (c : Contents) (keys : Keys) (p : Plan) → IsPart c q.now x p → IsEmpty (param_of p) → IsPart c q.now result (sort keys p) }
+    ensures sorted { IsSortedPart q.now x result }
     ensures reckoned { IsReckoned result }
     ensures set { result.set ≡ x.set }
     ensures param { result.param ≡ x.param }

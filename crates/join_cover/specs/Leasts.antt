@@ -1,6 +1,10 @@
 -- The least of the entries of a set that are given no rows. Own.
-use Rattle.std.specs.Prelude.{◌≡◌, ◌<◌, ◌≤◌, ℕ, List, MatchOption, Option, Some, slice_get}
+use Rattle.std.specs.Prelude.{◌≡◌, ◌<◌, ◌≤◌, ℕ, List, MatchOption, Option, Some, slice_get, map, ◌+◌}
 use Rattle.plan_check.specs.Certificates.{Entry}
+use Rattle.pg_base.specs.declared.rel_set.RelSet.{RelSet}
+use Rattle.plan_check.specs.Views.{certificate, entry}
+use Rattle.plan_check.specs.declared.entry.Entry.{Entry as Entered}
+use Rattle.plan_check.specs.declared.judged.Judged.{Judged}
 
 module _ (es : List Entry) (s : ℕ) where
   -- the entry at a place is of the set, and is given no rows
@@ -24,3 +28,12 @@ module _ (es : List Entry) (s : ℕ) where
   -- where there is one
   abbrev pub IsLeastFrom : ℕ → ℕ → Option (ℕ × ℕ) → Type 0
   IsLeastFrom from n found = MatchOption found ((l : ℕ) → from ≤ l → l < n → ¬ IsWhole l) (λ x. IsLeastAt from n x)
+
+-- the least of the entries before a place becomes that of those before the next one
+abbrev pub TakesNext : List Entered → RelSet → ℕ → Option (ℕ × ℕ) → Option (ℕ × ℕ) → Type 0
+TakesNext es set n found new =
+    (from : ℕ) → IsLeastFrom (map entry es) set.0 from n found → IsLeastFrom (map entry es) set.0 from (n + 1) new
+
+-- no entry of the set that is judged with it is given no rows
+abbrev pub HasNoWhole : Judged → RelSet → Type 0
+HasNoWhole j set = (k : ℕ) → ¬ IsWhole (certificate j.t.now).entries set.0 k

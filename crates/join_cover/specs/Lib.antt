@@ -1,5 +1,6 @@
 pub mod Leasts
 pub mod Serving
+pub mod Covering
 -- What callers name of the crates below.
 pub use Rattle.entry_check.proofs.PartLemmas as entry_check_PartLemmas
 pub use Rattle.entry_check.proofs.PlaceLemmas as entry_check_PlaceLemmas

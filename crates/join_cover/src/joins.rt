@@ -1,6 +1,6 @@
 //! Joins of any two entries, by the pairs of their sets.
 
-ghost use Rattle.std.specs.Prelude.{◌≤◌, ℕ, MatchOption};
+ghost use Rattle.std.specs.Prelude.{MatchOption};
 ghost use Rattle.pg_base.specs.Sets.{has};
 ghost use Rattle.plan_tree.specs.Reads.{IsOverTables};
 ghost use Rattle.plan_tree.specs.Space.{IsSameSet};
@@ -8,7 +8,7 @@ ghost use Rattle.plan_check.specs.Views.{certificate};
 ghost use Rattle.plan_check.specs.Placing.{ArePlaced};
 ghost use Rattle.plan_check.specs.Reasons.{AllRight};
 ghost use Rattle.sql_query.specs.Queries.{all_of_query};
-ghost use Rattle.join_cover.specs.Serving.{AreJoinsOf, AreJoinsServed, AreMergesOf, IsOpen};
+ghost use Rattle.join_cover.specs.Covering.{CoversAllJoins, CoversJoins, CoversJoinsUpTo, CoversMerges, Misses};
 
 use crate::lists::open_firsts;
 use crate::nests::open_nests;
@@ -25,7 +25,7 @@ pub fn open_merges(j: &Judged, outer: RelSet, inner: RelSet) -> Option<(Plain, U
     requires query { IsOverTables j.now.cat.now j.now.q.now }
     requires right { AllRight j.now.cat.now j.now.q.now (certificate j.now.t.now) }
     requires placed { ArePlaced (certificate j.now.t.now).entries j.now.places.now }
-    ensures { MatchOption result (AreMergesOf j.now.cat.now j.now.q.now (certificate j.now.t.now) outer.0 inner.0) (λ r. IsOpen j.now.cat.now j.now.q.now (certificate j.now.t.now) r.0 r.1) }
+    ensures { MatchOption result (CoversMerges j.now outer inner) (λ r. Misses j.now r) }
 {
     let found = classes_of(j.q).joining(outer, inner);
     open_firsts(j, (outer, inner), &found)
@@ -36,7 +36,7 @@ fn open_pair(j: &Judged, outer: RelSet, inner: RelSet) -> Option<(Plain, Uncover
     requires query { IsOverTables j.now.cat.now j.now.q.now }
     requires right { AllRight j.now.cat.now j.now.q.now (certificate j.now.t.now) }
     requires placed { ArePlaced (certificate j.now.t.now).entries j.now.places.now }
-    ensures { MatchOption result (AreJoinsOf j.now.cat.now j.now.q.now (certificate j.now.t.now) outer.0 inner.0) (λ r. IsOpen j.now.cat.now j.now.q.now (certificate j.now.t.now) r.0 r.1) }
+    ensures { MatchOption result (CoversJoins j.now outer inner) (λ r. Misses j.now r) }
 {
     if outer.meets(inner) {
         return None;
@@ -52,7 +52,7 @@ fn open_side(j: &Judged, outer: RelSet, all: RelSet) -> Option<(Plain, Uncovered
     requires query { IsOverTables j.now.cat.now j.now.q.now }
     requires right { AllRight j.now.cat.now j.now.q.now (certificate j.now.t.now) }
     requires placed { ArePlaced (certificate j.now.t.now).entries j.now.places.now }
-    ensures { MatchOption result ((y : ℕ) → y ≤ all.0 → AreJoinsOf j.now.cat.now j.now.q.now (certificate j.now.t.now) outer.0 y) (λ r. IsOpen j.now.cat.now j.now.q.now (certificate j.now.t.now) r.0 r.1) }
+    ensures { MatchOption result (CoversJoinsUpTo j.now outer all) (λ r. Misses j.now r) }
 {
     for bits in 0..all.0 as u32 + 1 {
         if let Some(x) = open_pair(j, outer, RelSet(bits as u16)) {
@@ -69,7 +69,7 @@ pub fn open_join(j: &Judged) -> Option<(Plain, Uncovered)>
     requires query { IsOverTables j.now.cat.now j.now.q.now }
     requires right { AllRight j.now.cat.now j.now.q.now (certificate j.now.t.now) }
     requires placed { ArePlaced (certificate j.now.t.now).entries j.now.places.now }
-    ensures { MatchOption result (AreJoinsServed j.now.cat.now j.now.q.now (certificate j.now.t.now)) (λ r. IsOpen j.now.cat.now j.now.q.now (certificate j.now.t.now) r.0 r.1) }
+    ensures { MatchOption result (CoversAllJoins j.now) (λ r. Misses j.now r) }
 {
     let all = all_relations(j.q);
     for bits in 0..all.0 as u32 + 1 {

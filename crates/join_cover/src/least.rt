@@ -1,9 +1,9 @@
 //! The least entries of a set.
 
-ghost use Rattle.std.specs.Prelude.{◌≡◌, ◌+◌, ◌<◌, ◌≤◌, ℕ, IfNone, IfSome, length, map};
+ghost use Rattle.std.specs.Prelude.{◌≡◌, ◌<◌, ◌≤◌, IfNone, IfSome, length, map};
 ghost use Rattle.plan_check.specs.Views.{certificate, entry};
 ghost use Rattle.plan_check.specs.Placing.{ArePlaced};
-ghost use Rattle.join_cover.specs.Leasts.{IsLeastFrom, IsLeastWhole, IsWhole};
+ghost use Rattle.join_cover.specs.Leasts.{HasNoWhole, IsLeastFrom, IsLeastWhole, TakesNext};
 
 use pg_base::RelSet;
 use plan_check::{Entry, Judged};
@@ -25,7 +25,7 @@ fn lesser(
     n: usize,
 ) -> Option<(usize, u64)>
     requires there { n < length entries.now }
-    ensures { (from : ℕ) → IsLeastFrom (map entry entries.now) set.0 from n found → IsLeastFrom (map entry entries.now) set.0 from (n + 1) result }
+    ensures { TakesNext entries.now set n found result }
 {
     let e = &entries[n];
     if e.set.0 != set.0 {
@@ -57,7 +57,7 @@ fn least_in(entries: &[Entry], within: (usize, usize), set: RelSet) -> Option<(u
 pub(crate) fn least_whole(j: &Judged, set: RelSet) -> Option<usize>
     requires placed { ArePlaced (certificate j.now.t.now).entries j.now.places.now }
     ensures some { IfSome result (λ k. IsLeastWhole (certificate j.now.t.now).entries set.0 k) }
-    ensures none { IfNone result ((k : ℕ) → ¬ IsWhole (certificate j.now.t.now).entries set.0 k) }
+    ensures none { IfNone result (HasNoWhole j.now set) }
 {
     let entries = j.t.entries.items();
     let within = j.places.range(set, entries.len());

@@ -1,14 +1,13 @@
 //! Merges of the entries of two sets by each list of theirs.
 
-ghost use Rattle.std.specs.Prelude.{◌≡◌, ◌≢◌, ℕ, MatchOption, Some, [], ◌∷◌, slice_get};
-ghost use Rattle.pg_base.specs.Sets.{has};
+ghost use Rattle.std.specs.Prelude.{MatchOption, [], ◌∷◌};
 ghost use Rattle.pathkeys.specs.Finding.{class_numbers};
 ghost use Rattle.plan_tree.specs.Reads.{IsOverTables};
-ghost use Rattle.plan_tree.specs.Space.{IsMergeList};
 ghost use Rattle.plan_check.specs.Views.{certificate};
 ghost use Rattle.plan_check.specs.Placing.{ArePlaced};
 ghost use Rattle.plan_check.specs.Reasons.{AllRight};
-ghost use Rattle.join_cover.specs.Serving.{AreListsOf, AreMergesBy, AreThirdsServed, IsFirstServed, IsOpen, IsSecondServed};
+ghost use Rattle.join_cover.specs.Serving.{AreListsOf};
+ghost use Rattle.join_cover.specs.Covering.{CoversFirst, CoversFirsts, CoversMergesBy, CoversSecond, CoversSeconds, CoversThirds, CoversThree, IsListOfSets, Misses};
 
 use crate::merges::open_work;
 use crate::uncovered::Uncovered;
@@ -22,8 +21,8 @@ fn open_list(j: &Judged, sets: (RelSet, RelSet), list: &[ClassNo]) -> Option<(Pl
     requires query { IsOverTables j.now.cat.now j.now.q.now }
     requires right { AllRight j.now.cat.now j.now.q.now (certificate j.now.t.now) }
     requires placed { ArePlaced (certificate j.now.t.now).entries j.now.places.now }
-    requires list { IsMergeList j.now.cat.now j.now.q.now (has sets.0.0) (has sets.1.0) (class_numbers list.now) }
-    ensures { MatchOption result (AreMergesBy j.now.cat.now j.now.q.now (certificate j.now.t.now) (class_numbers list.now) sets.0.0 sets.1.0) (λ r. IsOpen j.now.cat.now j.now.q.now (certificate j.now.t.now) r.0 r.1) }
+    requires list { IsListOfSets j.now sets (class_numbers list.now) }
+    ensures { MatchOption result (CoversMergesBy j.now list.now sets) (λ r. Misses j.now r) }
 {
     let work = merge_work(j.cat, j.q, list, sets.0, sets.1);
     open_work(j, &work)
@@ -38,9 +37,9 @@ fn open_three(
     requires query { IsOverTables j.now.cat.now j.now.q.now }
     requires right { AllRight j.now.cat.now j.now.q.now (certificate j.now.t.now) }
     requires placed { ArePlaced (certificate j.now.t.now).entries j.now.places.now }
-    requires two { IsMergeList j.now.cat.now j.now.q.now (has sets.0.0) (has sets.1.0) (list.0.0 ∷ list.1.0 ∷ []) }
-    requires third { IsMergeList j.now.cat.now j.now.q.now (has sets.0.0) (has sets.1.0) (list.2.0 ∷ []) }
-    ensures { MatchOption result (list.2.0 ≢ list.0.0 → list.2.0 ≢ list.1.0 → AreMergesBy j.now.cat.now j.now.q.now (certificate j.now.t.now) (list.0.0 ∷ list.1.0 ∷ list.2.0 ∷ []) sets.0.0 sets.1.0) (λ r. IsOpen j.now.cat.now j.now.q.now (certificate j.now.t.now) r.0 r.1) }
+    requires two { IsListOfSets j.now sets (list.0.0 ∷ list.1.0 ∷ []) }
+    requires third { IsListOfSets j.now sets (list.2.0 ∷ []) }
+    ensures { MatchOption result (CoversThree j.now list sets) (λ r. Misses j.now r) }
 {
     if list.2.0 == list.0.0 {
         return None;
@@ -62,8 +61,8 @@ fn open_thirds(
     requires right { AllRight j.now.cat.now j.now.q.now (certificate j.now.t.now) }
     requires placed { ArePlaced (certificate j.now.t.now).entries j.now.places.now }
     requires found { AreListsOf j.now.cat.now j.now.q.now found.now sets.0.0 sets.1.0 }
-    requires two { IsMergeList j.now.cat.now j.now.q.now (has sets.0.0) (has sets.1.0) (two.0.0 ∷ two.1.0 ∷ []) }
-    ensures { MatchOption result (AreThirdsServed j.now.cat.now j.now.q.now (certificate j.now.t.now) found.now two.0 two.1 sets.0.0 sets.1.0) (λ r. IsOpen j.now.cat.now j.now.q.now (certificate j.now.t.now) r.0 r.1) }
+    requires two { IsListOfSets j.now sets (two.0.0 ∷ two.1.0 ∷ []) }
+    ensures { MatchOption result (CoversThirds j.now found.now two sets) (λ r. Misses j.now r) }
 {
     for n in 0..found.len() {
         if let Some(z) = found[n] {
@@ -86,9 +85,9 @@ fn open_two(
     requires right { AllRight j.now.cat.now j.now.q.now (certificate j.now.t.now) }
     requires placed { ArePlaced (certificate j.now.t.now).entries j.now.places.now }
     requires found { AreListsOf j.now.cat.now j.now.q.now found.now sets.0.0 sets.1.0 }
-    requires first { IsMergeList j.now.cat.now j.now.q.now (has sets.0.0) (has sets.1.0) (two.0.0 ∷ []) }
-    requires second { IsMergeList j.now.cat.now j.now.q.now (has sets.0.0) (has sets.1.0) (two.1.0 ∷ []) }
-    ensures { MatchOption result (IsSecondServed j.now.cat.now j.now.q.now (certificate j.now.t.now) found.now two.0 two.1 sets.0.0 sets.1.0) (λ r. IsOpen j.now.cat.now j.now.q.now (certificate j.now.t.now) r.0 r.1) }
+    requires first { IsListOfSets j.now sets (two.0.0 ∷ []) }
+    requires second { IsListOfSets j.now sets (two.1.0 ∷ []) }
+    ensures { MatchOption result (CoversSecond j.now found.now two sets) (λ r. Misses j.now r) }
 {
     if two.1.0 == two.0.0 {
         return None;
@@ -110,8 +109,8 @@ fn open_seconds(
     requires right { AllRight j.now.cat.now j.now.q.now (certificate j.now.t.now) }
     requires placed { ArePlaced (certificate j.now.t.now).entries j.now.places.now }
     requires found { AreListsOf j.now.cat.now j.now.q.now found.now sets.0.0 sets.1.0 }
-    requires first { IsMergeList j.now.cat.now j.now.q.now (has sets.0.0) (has sets.1.0) (first.0 ∷ []) }
-    ensures { MatchOption result ((n : ℕ) (y : ClassNo) → slice_get found.now n ≡ Some (Some y) → IsSecondServed j.now.cat.now j.now.q.now (certificate j.now.t.now) found.now first y sets.0.0 sets.1.0) (λ r. IsOpen j.now.cat.now j.now.q.now (certificate j.now.t.now) r.0 r.1) }
+    requires first { IsListOfSets j.now sets (first.0 ∷ []) }
+    ensures { MatchOption result (CoversSeconds j.now found.now first sets) (λ r. Misses j.now r) }
 {
     for n in 0..found.len() {
         if let Some(y) = found[n] {
@@ -134,8 +133,8 @@ fn open_one(
     requires right { AllRight j.now.cat.now j.now.q.now (certificate j.now.t.now) }
     requires placed { ArePlaced (certificate j.now.t.now).entries j.now.places.now }
     requires found { AreListsOf j.now.cat.now j.now.q.now found.now sets.0.0 sets.1.0 }
-    requires first { IsMergeList j.now.cat.now j.now.q.now (has sets.0.0) (has sets.1.0) (first.0 ∷ []) }
-    ensures { MatchOption result (IsFirstServed j.now.cat.now j.now.q.now (certificate j.now.t.now) found.now first sets.0.0 sets.1.0) (λ r. IsOpen j.now.cat.now j.now.q.now (certificate j.now.t.now) r.0 r.1) }
+    requires first { IsListOfSets j.now sets (first.0 ∷ []) }
+    ensures { MatchOption result (CoversFirst j.now found.now first sets) (λ r. Misses j.now r) }
 {
     if let Some(x) = open_list(j, sets, &[first]) {
         return Some(x);
@@ -154,7 +153,7 @@ pub(crate) fn open_firsts(
     requires right { AllRight j.now.cat.now j.now.q.now (certificate j.now.t.now) }
     requires placed { ArePlaced (certificate j.now.t.now).entries j.now.places.now }
     requires found { AreListsOf j.now.cat.now j.now.q.now found.now sets.0.0 sets.1.0 }
-    ensures { MatchOption result ((n : ℕ) (x : ClassNo) → slice_get found.now n ≡ Some (Some x) → IsFirstServed j.now.cat.now j.now.q.now (certificate j.now.t.now) found.now x sets.0.0 sets.1.0) (λ r. IsOpen j.now.cat.now j.now.q.now (certificate j.now.t.now) r.0 r.1) }
+    ensures { MatchOption result (CoversFirsts j.now found.now sets) (λ r. Misses j.now r) }
 {
     for n in 0..found.len() {
         if let Some(first) = found[n] {

@@ -1,22 +1,13 @@
 //! Merges of the entries of two sets by a list, as they stand or sorted.
 
-ghost use Rattle.std.specs.Prelude.{◌≡◌, ◌<◌, ◌≤◌, ◌-◌, ◌^◌, ℕ, MatchOption, Some, false, length, suc};
-ghost use Rattle.pg_base.specs.Sets.{has};
-ghost use Rattle.catalog.specs.Contents.{Contents};
-ghost use Rattle.sql_query.specs.Queries.{Query};
-ghost use Rattle.pathkeys.specs.Finding.{class_numbers};
-ghost use Rattle.plan_tree.specs.Plans as plans;
+ghost use Rattle.std.specs.Prelude.{◌≡◌, ◌<◌, ◌≤◌, ◌-◌, ◌^◌, MatchOption, false, length};
 ghost use Rattle.plan_tree.specs.Reads.{IsOverTables};
-ghost use Rattle.plan_tree.specs.Space.{IsMergeList};
-ghost use Rattle.plan_check.specs.Certificates as forms;
-ghost use Rattle.plan_check.specs.Certificates.{sorted_if, unfold_at};
 ghost use Rattle.plan_check.specs.Views.{certificate};
 ghost use Rattle.entry_check.specs.Working.{IsMergeWork};
-ghost use Rattle.plan_check.specs.Placing.{ArePlaced, IsOf};
-ghost use Rattle.plan_check.specs.Plains.{StandsForPlan};
+ghost use Rattle.plan_check.specs.Placing.{ArePlaced};
 ghost use Rattle.plan_check.specs.Reasons.{AllRight};
 ghost use Rattle.join_cover.specs.Leasts.{IsLeastWhole};
-ghost use Rattle.join_cover.specs.Serving.{AreMergesBy, IsMergeOpen, IsMergeServed, IsOpen, IsRowServed};
+ghost use Rattle.join_cover.specs.Covering.{CoversMerge, CoversPlain, CoversPlainIn, CoversRow, CoversRowsIn, CoversWork, HasMergeList, IsNodeOfMerge, Misses, MissesMerge};
 
 use crate::least::least_whole;
 use crate::uncovered::Uncovered;
@@ -29,7 +20,7 @@ fn merge_node(list: &[ClassNo], at: (usize, usize), sorts: (bool, bool)) -> Plai
     requires few { length list.now ≤ 3 }
     requires outer { at.0 < 2 ^ 32 - 1 }
     requires inner { at.1 < 2 ^ 32 - 1 }
-    ensures { (c : Contents) (q : Query) (t : forms.Certificate) (o i : plans.Plan) → unfold_at q t (suc at.0) ≡ Some o → unfold_at q t (suc at.1) ≡ Some i → StandsForPlan c q t result (plans.merge (class_numbers list.now) (sorted_if sorts.0 (class_numbers list.now) o) (sorted_if sorts.1 (class_numbers list.now) i)) }
+    ensures { IsNodeOfMerge list.now at sorts result }
 {
     Plain::Merge {
         keys: [
@@ -61,10 +52,11 @@ fn open_merge(
     requires right { AllRight j.now.cat.now j.now.q.now (certificate j.now.t.now) }
     requires placed { ArePlaced (certificate j.now.t.now).entries j.now.places.now }
     requires work { IsMergeWork j.now.cat.now j.now.q.now work.now }
-    requires list { IsMergeList j.now.cat.now j.now.q.now (has work.now.outer.0) (has work.now.inner.0) (class_numbers work.now.list.now) }
+    requires list { HasMergeList j.now work.now }
     requires outer { at.0 < length (certificate j.now.t.now).entries }
     requires inner { at.1 < length (certificate j.now.t.now).entries }
-    ensures { MatchOption result (IsOf (certificate j.now.t.now).entries work.now.outer.0 at.0 → IsOf (certificate j.now.t.now).entries work.now.inner.0 at.1 → IsMergeServed j.now.cat.now j.now.q.now (certificate j.now.t.now) (class_numbers work.now.list.now) sorts.0 sorts.1 at.0 at.1) (λ x. IsMergeOpen j.now.cat.now j.now.q.now (certificate j.now.t.now) (class_numbers work.now.list.now) sorts.0 sorts.1 at.0 at.1 x) }
+    ensures { MatchOption result (CoversMerge j.now work.now at sorts)
+        (λ x. MissesMerge j.now work.now at sorts x) }
 {
     let entries = j.t.entries.items();
     let (k, l) = at;
@@ -104,10 +96,10 @@ fn open_sides(
     requires right { AllRight j.now.cat.now j.now.q.now (certificate j.now.t.now) }
     requires placed { ArePlaced (certificate j.now.t.now).entries j.now.places.now }
     requires work { IsMergeWork j.now.cat.now j.now.q.now work.now }
-    requires list { IsMergeList j.now.cat.now j.now.q.now (has work.now.outer.0) (has work.now.inner.0) (class_numbers work.now.list.now) }
+    requires list { HasMergeList j.now work.now }
     requires outer { at.0 < length (certificate j.now.t.now).entries }
     requires inner { at.1 < length (certificate j.now.t.now).entries }
-    ensures { MatchOption result (IsOf (certificate j.now.t.now).entries work.now.outer.0 at.0 → IsOf (certificate j.now.t.now).entries work.now.inner.0 at.1 → IsMergeServed j.now.cat.now j.now.q.now (certificate j.now.t.now) (class_numbers work.now.list.now) sorts.0 sorts.1 at.0 at.1) (λ r. IsOpen j.now.cat.now j.now.q.now (certificate j.now.t.now) r.0 r.1) }
+    ensures { MatchOption result (CoversMerge j.now work.now at sorts) (λ r. Misses j.now r) }
 {
     let _few = j.t.entries.items();
     match open_merge(j, work, at, sorts, noted) {
@@ -121,7 +113,7 @@ fn open_sides(
 fn may_lead(j: &Judged, work: &MergeWork, k: usize, sort: bool) -> bool
     requires right { AllRight j.now.cat.now j.now.q.now (certificate j.now.t.now) }
     requires outer { k < length (certificate j.now.t.now).entries }
-    ensures { result ≡ false → IsOf (certificate j.now.t.now).entries work.now.outer.0 k → (l : ℕ) → IsMergeServed j.now.cat.now j.now.q.now (certificate j.now.t.now) (class_numbers work.now.list.now) sort false k l }
+    ensures { result ≡ false → CoversPlain j.now work.now k sort }
 {
     let entries = j.t.entries.items();
     let a = &entries[k];
@@ -147,10 +139,10 @@ fn open_plain(
     requires right { AllRight j.now.cat.now j.now.q.now (certificate j.now.t.now) }
     requires placed { ArePlaced (certificate j.now.t.now).entries j.now.places.now }
     requires work { IsMergeWork j.now.cat.now j.now.q.now work.now }
-    requires list { IsMergeList j.now.cat.now j.now.q.now (has work.now.outer.0) (has work.now.inner.0) (class_numbers work.now.list.now) }
+    requires list { HasMergeList j.now work.now }
     requires outer { at.0 < length (certificate j.now.t.now).entries }
     requires inner { within.1 ≤ length (certificate j.now.t.now).entries }
-    ensures { MatchOption result ((l : ℕ) → within.0 ≤ l → l < within.1 → IsOf (certificate j.now.t.now).entries work.now.outer.0 at.0 → IsOf (certificate j.now.t.now).entries work.now.inner.0 l → IsMergeServed j.now.cat.now j.now.q.now (certificate j.now.t.now) (class_numbers work.now.list.now) at.1 false at.0 l) (λ r. IsOpen j.now.cat.now j.now.q.now (certificate j.now.t.now) r.0 r.1) }
+    ensures { MatchOption result (CoversPlainIn j.now work.now at within) (λ r. Misses j.now r) }
 {
     if !may_lead(j, work, at.0, at.1) {
         return None;
@@ -176,10 +168,10 @@ fn open_row(
     requires right { AllRight j.now.cat.now j.now.q.now (certificate j.now.t.now) }
     requires placed { ArePlaced (certificate j.now.t.now).entries j.now.places.now }
     requires work { IsMergeWork j.now.cat.now j.now.q.now work.now }
-    requires list { IsMergeList j.now.cat.now j.now.q.now (has work.now.outer.0) (has work.now.inner.0) (class_numbers work.now.list.now) }
+    requires list { HasMergeList j.now work.now }
     requires outer { k < length (certificate j.now.t.now).entries }
     requires inner { least < length (certificate j.now.t.now).entries }
-    ensures { MatchOption result (IsRowServed j.now.cat.now j.now.q.now (certificate j.now.t.now) (class_numbers work.now.list.now) work.now.outer.0 work.now.inner.0 k sort least) (λ r. IsOpen j.now.cat.now j.now.q.now (certificate j.now.t.now) r.0 r.1) }
+    ensures { MatchOption result (CoversRow j.now work.now k sort least) (λ r. Misses j.now r) }
 {
     let mut noted = k;
     if let Some(x) = open_sides(j, work, (k, least), (sort, true), &mut noted) {
@@ -201,10 +193,10 @@ fn open_rows(
     requires right { AllRight j.now.cat.now j.now.q.now (certificate j.now.t.now) }
     requires placed { ArePlaced (certificate j.now.t.now).entries j.now.places.now }
     requires work { IsMergeWork j.now.cat.now j.now.q.now work.now }
-    requires list { IsMergeList j.now.cat.now j.now.q.now (has work.now.outer.0) (has work.now.inner.0) (class_numbers work.now.list.now) }
+    requires list { HasMergeList j.now work.now }
     requires outer { within.1 ≤ length (certificate j.now.t.now).entries }
     requires inner { least < length (certificate j.now.t.now).entries }
-    ensures { MatchOption result ((k : ℕ) → within.0 ≤ k → k < within.1 → IsRowServed j.now.cat.now j.now.q.now (certificate j.now.t.now) (class_numbers work.now.list.now) work.now.outer.0 work.now.inner.0 k false least) (λ r. IsOpen j.now.cat.now j.now.q.now (certificate j.now.t.now) r.0 r.1) }
+    ensures { MatchOption result (CoversRowsIn j.now work.now within least) (λ r. Misses j.now r) }
 {
     for k in within.0..within.1 {
         if let Some(x) = open_row(j, work, k, false, least) {
@@ -221,10 +213,10 @@ fn open_from(j: &Judged, work: &MergeWork, least: (usize, usize)) -> Option<(Pla
     requires right { AllRight j.now.cat.now j.now.q.now (certificate j.now.t.now) }
     requires placed { ArePlaced (certificate j.now.t.now).entries j.now.places.now }
     requires work { IsMergeWork j.now.cat.now j.now.q.now work.now }
-    requires list { IsMergeList j.now.cat.now j.now.q.now (has work.now.outer.0) (has work.now.inner.0) (class_numbers work.now.list.now) }
+    requires list { HasMergeList j.now work.now }
     requires outer { IsLeastWhole (certificate j.now.t.now).entries work.now.outer.0 least.0 }
     requires inner { IsLeastWhole (certificate j.now.t.now).entries work.now.inner.0 least.1 }
-    ensures { MatchOption result (AreMergesBy j.now.cat.now j.now.q.now (certificate j.now.t.now) (class_numbers work.now.list.now) work.now.outer.0 work.now.inner.0) (λ r. IsOpen j.now.cat.now j.now.q.now (certificate j.now.t.now) r.0 r.1) }
+    ensures { MatchOption result (CoversWork j.now work.now) (λ r. Misses j.now r) }
 {
     if let Some(x) = open_row(j, work, least.0, true, least.1) {
         return Some(x);
@@ -241,8 +233,8 @@ pub fn open_work(j: &Judged, work: &MergeWork) -> Option<(Plain, Uncovered)>
     requires right { AllRight j.now.cat.now j.now.q.now (certificate j.now.t.now) }
     requires placed { ArePlaced (certificate j.now.t.now).entries j.now.places.now }
     requires work { IsMergeWork j.now.cat.now j.now.q.now work.now }
-    requires list { IsMergeList j.now.cat.now j.now.q.now (has work.now.outer.0) (has work.now.inner.0) (class_numbers work.now.list.now) }
-    ensures { MatchOption result (AreMergesBy j.now.cat.now j.now.q.now (certificate j.now.t.now) (class_numbers work.now.list.now) work.now.outer.0 work.now.inner.0) (λ r. IsOpen j.now.cat.now j.now.q.now (certificate j.now.t.now) r.0 r.1) }
+    requires list { HasMergeList j.now work.now }
+    ensures { MatchOption result (CoversWork j.now work.now) (λ r. Misses j.now r) }
 {
     match least_whole(j, work.outer) {
         Some(k) => match least_whole(j, work.inner) {

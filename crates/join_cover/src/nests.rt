@@ -1,13 +1,12 @@
 //! Nested loops of the entries of two sets.
 
-ghost use Rattle.std.specs.Prelude.{◌≡◌, ◌<◌, ◌≤◌, ℕ, MatchOption, length, suc};
+ghost use Rattle.std.specs.Prelude.{◌≡◌, ◌<◌, ◌≤◌, MatchOption, length};
 ghost use Rattle.plan_tree.specs.Reads.{IsOverTables};
 ghost use Rattle.plan_check.specs.Views.{certificate};
 ghost use Rattle.entry_check.specs.Working.{IsNestWork};
-ghost use Rattle.plan_check.specs.Placing.{ArePlaced, IsOf};
+ghost use Rattle.plan_check.specs.Placing.{ArePlaced};
 ghost use Rattle.plan_check.specs.Reasons.{AllRight};
-ghost use Rattle.plan_check.specs.declared.verdict.Plain.TheVariants as plain;
-ghost use Rattle.join_cover.specs.Serving.{AreNestsBy, AreNestsOf, IsNestServed, IsOpen};
+ghost use Rattle.join_cover.specs.Covering.{CoversNest, CoversNestsBy, CoversNestsIn, CoversNestsOf, MissesNest, MissesNestAt, MissesNestWith};
 
 use crate::uncovered::Uncovered;
 use entry_check::{NestWork, nest_with, nest_work_given};
@@ -23,7 +22,7 @@ fn open_at(j: &Judged, work: &NestWork, k: usize, l: usize, noted: &mut usize) -
     requires work { IsNestWork j.now.cat.now j.now.q.now work.now }
     requires outer { k < length (certificate j.now.t.now).entries }
     requires inner { l < length (certificate j.now.t.now).entries }
-    ensures { MatchOption result (IsOf (certificate j.now.t.now).entries work.now.outer.0 k → IsOf (certificate j.now.t.now).entries work.now.inner.0 l → IsNestServed j.now.cat.now j.now.q.now (certificate j.now.t.now) k l) (λ x. IsOpen j.now.cat.now j.now.q.now (certificate j.now.t.now) (plain.Nest (suc k) (suc l)) x) }
+    ensures { MatchOption result (CoversNest j.now work.now k l) (λ x. MissesNestAt j.now k l x) }
 {
     let entries = j.t.entries.items();
     let a = &entries[k];
@@ -63,7 +62,8 @@ fn open_inner(
     requires work { IsNestWork j.now.cat.now j.now.q.now work.now }
     requires outer { k < length (certificate j.now.t.now).entries }
     requires inner { within.1 ≤ length (certificate j.now.t.now).entries }
-    ensures { MatchOption result ((l : ℕ) → within.0 ≤ l → l < within.1 → IsOf (certificate j.now.t.now).entries work.now.outer.0 k → IsOf (certificate j.now.t.now).entries work.now.inner.0 l → IsNestServed j.now.cat.now j.now.q.now (certificate j.now.t.now) k l) (λ r. (r.0 < length (certificate j.now.t.now).entries) × IsOpen j.now.cat.now j.now.q.now (certificate j.now.t.now) (plain.Nest (suc k) (suc r.0)) r.1) }
+    ensures { MatchOption result (CoversNestsIn j.now work.now k within)
+        (λ r. MissesNestWith j.now k r) }
 {
     let mut noted = k;
     for l in within.0..within.1 {
@@ -87,7 +87,8 @@ fn open_outer(
     requires work { IsNestWork j.now.cat.now j.now.q.now work.now }
     requires outer { outer.1 ≤ length (certificate j.now.t.now).entries }
     requires inner { inner.1 ≤ length (certificate j.now.t.now).entries }
-    ensures { MatchOption result (AreNestsBy j.now.cat.now j.now.q.now (certificate j.now.t.now) work.now.outer.0 work.now.inner.0 outer inner) (λ r. IsOpen j.now.cat.now j.now.q.now (certificate j.now.t.now) (plain.Nest r.0 r.1) r.2) }
+    ensures { MatchOption result (CoversNestsBy j.now work.now outer inner)
+        (λ r. MissesNest j.now r) }
 {
     let _few = j.t.entries.items();
     for k in outer.0..outer.1 {
@@ -105,7 +106,7 @@ pub fn open_nests(j: &Judged, outer: RelSet, inner: RelSet) -> Option<(u32, u32,
     requires query { IsOverTables j.now.cat.now j.now.q.now }
     requires right { AllRight j.now.cat.now j.now.q.now (certificate j.now.t.now) }
     requires placed { ArePlaced (certificate j.now.t.now).entries j.now.places.now }
-    ensures { MatchOption result (AreNestsOf j.now.cat.now j.now.q.now (certificate j.now.t.now) outer.0 inner.0) (λ r. IsOpen j.now.cat.now j.now.q.now (certificate j.now.t.now) (plain.Nest r.0 r.1) r.2) }
+    ensures { MatchOption result (CoversNestsOf j.now outer inner) (λ r. MissesNest j.now r) }
 {
     let work = nest_work_given(j.cat, j.q, outer, inner);
     let count = j.t.entries.items().len();

@@ -2,6 +2,7 @@ pub mod Scanning
 pub mod Limits
 pub mod Trees
 pub mod Arms
+pub mod Covering
 -- What callers name of the crates below.
 pub use Rattle.join_cover.proofs.CoverLemmas as join_cover_CoverLemmas
 pub use Rattle.join_cover.specs.Serving as join_cover_Serving

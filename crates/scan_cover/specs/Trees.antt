@@ -1,6 +1,6 @@
 -- Elements of bitmaps with what each set of them needs, and the scans over such sets. Own.
-use Rattle.std.specs.Prelude.{◌≡◌, ◌<◌, ℕ, true, List, length, map, take}
-use Rattle.std.specs.List.{AllZip}
+use Rattle.std.specs.Prelude.{◌≡◌, ◌<◌, ℕ, true, List, length, map, take, cond, ◌++◌, [], ◌∷◌, Bool, ◌&&◌, nat_lt}
+use Rattle.std.specs.List.{AllZip, list_any}
 use Rattle.pg_base.specs.Sets.{has}
 use Rattle.pg_base.specs.declared.numbers.RelNo.{RelNo}
 use Rattle.pg_base.specs.declared.rel_set.RelSet.{RelSet}
@@ -9,13 +9,18 @@ use Rattle.catalog.specs.Contents.{Contents}
 use Rattle.cost_rules.specs.Costs.{capped}
 use Rattle.sql_query.specs.Queries.{Query}
 use Rattle.plan_tree.specs.Bitmaps.{AreElements, Element, MOST_ELEMENTS, uses}
-use Rattle.plan_tree.specs.Costs.{part_of}
+use Rattle.plan_tree.specs.Costs.{part_of, together}
 use Rattle.plan_tree.specs.Plans.{BitTree, bitmap}
 use Rattle.plan_tree.specs.Views.{element}
 use Rattle.bitmap_scan.specs.Chosen.{IsLeastTree, combined, marked}
 use Rattle.plan_check.specs.Certificates.{Certificate}
 use Rattle.join_cover.specs.Serving.{IsServed}
 use Rattle.scan_cover.specs.declared.kept.Kept.{Kept}
+use Rattle.plan_check.specs.Plains.{arms_in}
+use Rattle.scan_cover.specs.Arms.{PutsIndexes}
+use Rattle.scan_cover.specs.Limits.{arms_of_all}
+use Rattle.scan_cover.specs.declared.filling.Arms.{Arms}
+use Rattle.scan_cover.specs.declared.masks.Given.{Given}
 
 -- the element of what is kept
 abbrev pub element_in : Kept → Element
@@ -55,3 +60,21 @@ AreRelationBitmapsServed c q t r = (p : RelSet) → AreBitmapsServed c q r p t
 -- of all relations
 abbrev pub AreAllBitmapsServed : Contents → Query → Certificate → Type 0
 AreAllBitmapsServed c q t = (r : RelNo) → AreRelationBitmapsServed c q t r
+
+-- the arms of a tree of least part of an element were put behind those in an array
+abbrev pub PutsArms : Contents → Query → Given → Kept → Arms → Arms → Type 0
+PutsArms c q at k old new = (b : BitTree) × IsKept c q at.rel at.param k b × PutsIndexes old new (arms_in b)
+
+-- so were those of such trees of several elements
+abbrev pub PutsAllArms : Contents → Query → Given → List Kept → Arms → Arms → Type 0
+PutsAllArms c q at ks old new =
+    (bs : List BitTree) × AllZip (IsKept c q at.rel at.param) ks bs × PutsIndexes old new (arms_of_all bs)
+
+-- some parts together, cut, and how many they are: with one more, where it is taken, they are this much
+abbrev pub AddsPart : ℕ × ℕ → ℕ → Bool → ℕ → Type 0
+AddsPart sum part is new = (ns : List ℕ) → sum.0 ≡ capped (together ns) → sum.1 ≡ length ns →
+    new ≡ capped (together (ns ++ cond is (part ∷ []) []))
+
+-- the clauses that some elements use
+abbrev pub AreUsedByKept : Query → List Kept → List ℕ → Type 0
+AreUsedByKept q ks used = (n : ℕ) → contains used n ≡ nat_lt n (length q.classes.clauses) && list_any (λ k. contains k.used n) ks

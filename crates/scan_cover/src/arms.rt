@@ -1,7 +1,6 @@
 //! The indexes of least part for the arms of an OR clause.
 
 ghost use Rattle.std.specs.Prelude.{◌≡◌, ◌<◌, ◌≤◌, ◌++◌, ◌∷◌, [], ℕ, List, All, length, map};
-ghost use Rattle.std.specs.List.{AllZip};
 ghost use Rattle.pg_base.specs.declared.limits.TheConstants.{MOST_ATOMS};
 ghost use Rattle.pg_base.specs.declared.numbers.IndexNo.{IndexNo as Numbered};
 ghost use Rattle.pg_expr.specs.Columns.{atom_count};
@@ -15,7 +14,7 @@ ghost use Rattle.plan_tree.specs.Costs.{together};
 ghost use Rattle.plan_tree.specs.Reads.{IsOverTables};
 ghost use Rattle.bitmap_scan.specs.Arms.{AreServed, IsLeastMatch, part_for};
 ghost use Rattle.bitmap_scan.specs.Arms as least;
-ghost use Rattle.scan_cover.specs.Arms.{IsFilled};
+ghost use Rattle.scan_cover.specs.Arms.{HaveMatches, PutsLeast};
 
 use crate::filling::Arms;
 use crate::indexes_of;
@@ -82,7 +81,7 @@ pub(crate) fn arms_part(cat: &Catalog, q: &Prepared, r: RelNo, arms: &[Expr]) ->
     requires relation { r.0 < width q.now }
     requires over { All (λ (e : Condition). IsOver cat.now q.now.range (cond e)) arms.now }
     requires few { All (λ (e : Condition). atom_count (cond e) ≤ MOST_ATOMS) arms.now }
-    requires some { All (λ (e : Condition). (i : Numbered) × MatchesArm cat.now q.now r.0 (cond e) i) arms.now }
+    requires some { HaveMatches cat.now q.now r arms.now }
     ensures { (is : List Numbered) × AreServed cat.now q.now r (map cond arms.now) is result }
 {
     let mut sum = 0;
@@ -99,8 +98,8 @@ pub(crate) fn put_least(cat: &Catalog, q: &Prepared, r: RelNo, arms: &[Expr], in
     requires relation { r.0 < width q.now }
     requires over { All (λ (e : Condition). IsOver cat.now q.now.range (cond e)) arms.now }
     requires few { All (λ (e : Condition). atom_count (cond e) ≤ MOST_ATOMS) arms.now }
-    requires some { All (λ (e : Condition). (i : Numbered) × MatchesArm cat.now q.now r.0 (cond e) i) arms.now }
-    ensures { (is : List Numbered) × AllZip (IsLeastMatch cat.now q.now r) (map cond arms.now) is × ((found : List Numbered) → IsFilled into.old found → IsFilled into.new (found ++ is)) }
+    requires some { HaveMatches cat.now q.now r arms.now }
+    ensures { PutsLeast cat.now q.now r arms.now into.old into.new }
 {
     for n in 0..arms.len() {
         let found = least_match(cat, q, r, &arms[n]);

@@ -21,7 +21,7 @@ pub fn few_atoms()
 
 /// Where they have not, the arms of any of the first 8 elements, each element in a tree of least part, are no more either.
 pub fn arms_fit()
-    ensures { (c : Contents) (q : Query) (r : RelNo) (p : RelSet) → HasFewAtoms q → (es : List Element) (n : ℕ)
-        (bs : List BitTree) → AreElements c q r.0 (has p.0) es →
+    ensures { (c : Contents) (q : Query) (r : RelNo) (p : RelSet) → HasFewAtoms q →
+        (es : List Element) (n : ℕ) (bs : List BitTree) → AreElements c q r.0 (has p.0) es →
         AllZip (IsLeastTree c q r p) (marked n (take MOST_ELEMENTS es)) bs → length (arms_of_all bs) ≤ MOST_ATOMS }
 {}

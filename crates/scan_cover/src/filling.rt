@@ -1,8 +1,7 @@
 //! The indexes of arms, in an array.
 
-ghost use Rattle.std.specs.Prelude.{◌++◌, ◌∷◌, [], List};
-ghost use Rattle.pg_base.specs.declared.numbers.IndexNo.{IndexNo as Numbered};
-ghost use Rattle.scan_cover.specs.Arms.{IsFilled};
+ghost use Rattle.std.specs.Prelude.{◌∷◌, []};
+ghost use Rattle.scan_cover.specs.Arms.{IsFilled, PutsIndexes};
 
 use pg_base::{IndexNo, MOST_ATOMS};
 
@@ -28,7 +27,7 @@ impl Arms {
 
     /// One more.
     pub(crate) fn push(&mut self, i: IndexNo)
-        ensures { (found : List Numbered) → IsFilled self.old found → IsFilled self.new (found ++ i ∷ []) }
+        ensures { PutsIndexes self.old self.new (i ∷ []) }
     {
         if self.count < MOST_ATOMS {
             self.indexes[self.count] = i;

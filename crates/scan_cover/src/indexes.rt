@@ -11,10 +11,9 @@ ghost use Rattle.sql_query.specs.Queries.{width};
 ghost use Rattle.plan_check.specs.Views.{certificate};
 ghost use Rattle.plan_check.specs.Placing.{ArePlaced};
 ghost use Rattle.plan_check.specs.Reasons.{AllRight};
-ghost use Rattle.plan_check.specs.declared.verdict.Plain.TheVariants as plain;
 ghost use Rattle.join_cover.specs.entry_check_Owning.{tree_of};
-ghost use Rattle.join_cover.specs.Serving.{IsOpen, IsServed};
-ghost use Rattle.scan_cover.specs.Scanning.{IsIndexServed};
+ghost use Rattle.join_cover.specs.Covering.{Misses};
+ghost use Rattle.scan_cover.specs.Covering.{CoversIndex, CoversScan, MissesScan};
 
 use crate::numbers::open_with;
 use arrayvec::ArrayVec;
@@ -49,7 +48,7 @@ fn open_index(j: &Judged, s: ByIndex) -> Option<Uncovered>
     requires right { AllRight j.now.cat.now j.now.q.now (certificate j.now.t.now) }
     requires placed { ArePlaced (certificate j.now.t.now).entries j.now.places.now }
     requires relation { s.rel.0 < width j.now.q.now }
-    ensures { MatchOption result (IsServed j.now.cat.now j.now.q.now (certificate j.now.t.now) (tree_of s)) (λ x. IsOpen j.now.cat.now j.now.q.now (certificate j.now.t.now) (plain.Index s.rel s.index s.backward s.only s.param) x) }
+    ensures { MatchOption result (CoversScan j.now s) (λ x. MissesScan j.now s x) }
 {
     j.cat.lawful();
     if !is_built(j.cat, j.q, s) {
@@ -70,7 +69,7 @@ fn open_way(j: &Judged, s: ByIndex) -> Option<(Plain, Uncovered)>
     requires right { AllRight j.now.cat.now j.now.q.now (certificate j.now.t.now) }
     requires placed { ArePlaced (certificate j.now.t.now).entries j.now.places.now }
     requires relation { s.rel.0 < width j.now.q.now }
-    ensures { MatchOption result (IsServed j.now.cat.now j.now.q.now (certificate j.now.t.now) (tree_of s)) (λ r. IsOpen j.now.cat.now j.now.q.now (certificate j.now.t.now) r.0 r.1) }
+    ensures { MatchOption result (CoversScan j.now s) (λ r. Misses j.now r) }
 {
     match open_index(j, s) {
         Some(x) => Some((
@@ -99,7 +98,7 @@ pub(crate) fn open_by_index(
     requires right { AllRight j.now.cat.now j.now.q.now (certificate j.now.t.now) }
     requires placed { ArePlaced (certificate j.now.t.now).entries j.now.places.now }
     requires relation { r.0 < width j.now.q.now }
-    ensures { MatchOption result (IsIndexServed j.now.cat.now j.now.q.now (certificate j.now.t.now) r p i) (λ x. IsOpen j.now.cat.now j.now.q.now (certificate j.now.t.now) x.0 x.1) }
+    ensures { MatchOption result (CoversIndex j.now r p i) (λ x. Misses j.now x) }
 {
     let fetching = ByIndex {
         rel: r,

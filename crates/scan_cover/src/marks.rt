@@ -1,11 +1,12 @@
 //! Some of the elements together, as the binary digits of a number mark them, the lowest digit the first element.
 
-ghost use Rattle.std.specs.Prelude.{◌≡◌, ◌<◌, ◌≤◌, ◌+◌, ◌%◌, ◌&&◌, ◌||◌, ◌++◌, ◌∷◌, [], ℕ, List, cond, length, map, nat_eq, nat_lt};
+ghost use Rattle.std.specs.Prelude.{◌≡◌, ◌<◌, ◌≤◌, ◌+◌, ◌%◌, ◌&&◌, ◌||◌, cond, length, map, nat_eq};
 ghost use Rattle.std.specs.List.{list_any};
 ghost use Rattle.pg_expr.specs.AtomSets.{contains};
 ghost use Rattle.cost_rules.specs.Costs.{capped};
 ghost use Rattle.plan_tree.specs.Costs.{together};
 ghost use Rattle.bitmap_scan.specs.Chosen.{marked};
+ghost use Rattle.scan_cover.specs.Trees.{AddsPart, AreUsedByKept};
 
 use crate::arms::with_part;
 use crate::kept::Kept;
@@ -16,7 +17,7 @@ use sql_query::Prepared;
 /// Parts together and how many they are, with one more where it is marked.
 fn add(sum: (u64, usize), part: u64, is: bool) -> (u64, usize)
     requires few { sum.1 ≤ 8 }
-    ensures sum { (ns : List ℕ) → sum.0 ≡ capped (together ns) → sum.1 ≡ length ns → result.0 ≡ capped (together (ns ++ cond is (part ∷ []) [])) }
+    ensures sum { AddsPart sum part is result.0 }
     ensures count { result.1 ≡ sum.1 + cond is 1 0 }
 {
     if !is {
@@ -66,7 +67,7 @@ fn is_used(kept: &[Kept], mask: usize, n: u16) -> bool
 /// The clauses that the elements that are marked use.
 #[tactic(auto, using(eq_classes::proofs::WordLemmas::grows))]
 pub(crate) fn used_by(q: &Prepared, kept: &[Kept], mask: usize) -> ClauseSet
-    ensures { (n : ℕ) → contains result n ≡ nat_lt n (length q.now.classes.clauses) && list_any (λ k. contains k.used n) (marked mask kept.now) }
+    ensures { AreUsedByKept q.now (marked mask kept.now) result }
 {
     let mut set = ClauseSet::empty();
     for n in 0..classes_of(q).count() {

@@ -1,25 +1,20 @@
 //! Scans over each set of the elements.
 
-ghost use Rattle.std.specs.Prelude.{◌≡◌, ◌<◌, ◌≤◌, ◌++◌, ◌^◌, ℕ, All, IfNone, IfSome, List, MatchOption, cond, ◌∷◌, [], length};
-ghost use Rattle.std.specs.List.{AllZip};
-ghost use Rattle.pg_base.specs.declared.numbers.IndexNo.{IndexNo as Numbered};
+ghost use Rattle.std.specs.Prelude.{◌≡◌, ◌<◌, ◌≤◌, ◌^◌, ℕ, All, IfNone, IfSome, MatchOption, cond, ◌∷◌, [], length};
 ghost use Rattle.plan_tree.specs.Bitmaps.{IsMatchedOr, condition_at};
-ghost use Rattle.plan_tree.specs.Plans.{BitTree, bitmap as bitmap_of};
+ghost use Rattle.plan_tree.specs.Plans.{BitTree};
 ghost use Rattle.plan_tree.specs.Reads.{IsOverTables};
 ghost use Rattle.plan_tree.specs.declared.elements.Element.TheVariants as elements;
 ghost use Rattle.sql_query.specs.Queries.{width};
-ghost use Rattle.bitmap_scan.specs.Chosen.{combined, marked};
+ghost use Rattle.bitmap_scan.specs.Chosen.{marked};
 ghost use Rattle.bitmap_scan.specs.ElementTrees.{IsMade};
-ghost use Rattle.plan_check.specs.Certificates as forms;
 ghost use Rattle.plan_check.specs.Views.{certificate};
-ghost use Rattle.plan_check.specs.Plains.{StandsForPlan, arms_in};
 ghost use Rattle.plan_check.specs.Placing.{ArePlaced};
 ghost use Rattle.plan_check.specs.Reasons.{AllRight};
-ghost use Rattle.plan_check.specs.declared.verdict.Plain.{Plain as Node};
-ghost use Rattle.join_cover.specs.Serving.{IsOpen};
-ghost use Rattle.scan_cover.specs.Arms.{IsFilled};
-ghost use Rattle.scan_cover.specs.Limits.{HasFewAtoms, arms_of_all};
-ghost use Rattle.scan_cover.specs.Trees.{AreBitmapsServed, AreFirst, AreKept, IsKept, IsMarkServed, element_in};
+ghost use Rattle.scan_cover.specs.Limits.{HasFewAtoms};
+ghost use Rattle.scan_cover.specs.Trees.{AreFirst, AreKept, IsKept, PutsAllArms, PutsArms, element_in};
+ghost use Rattle.join_cover.specs.Covering.{Misses};
+ghost use Rattle.scan_cover.specs.Covering.{CoversBitmaps, CoversMarked, IsNodeOfMarked, MissesMarked};
 
 use crate::arms::put_least;
 use crate::entry_check::{numbers_of, rows_given};
@@ -53,8 +48,8 @@ fn open_mask(j: &Judged, at: Given, kept: &[Kept], mask: usize) -> Option<Uncove
     requires relation { at.rel.0 < width j.now.q.now }
     requires few { length kept.now ≤ 8 }
     requires first { AreFirst j.now.cat.now j.now.q.now at.rel at.param kept.now }
-    ensures none { IfNone result (IsMarkServed j.now.cat.now j.now.q.now at.rel at.param (certificate j.now.t.now) kept.now mask) }
-    ensures some { IfSome result (λ x. (bs : List BitTree) (node : Node) → AllZip (IsKept j.now.cat.now j.now.q.now at.rel at.param) (marked mask kept.now) bs → StandsForPlan j.now.cat.now j.now.q.now (certificate j.now.t.now) node (bitmap_of at.rel at.param (combined bs)) → IsOpen j.now.cat.now j.now.q.now (certificate j.now.t.now) node x) }
+    ensures none { IfNone result (CoversMarked j.now at kept.now mask) }
+    ensures some { IfSome result (λ x. MissesMarked j.now at kept.now mask x) }
 {
     j.cat.lawful();
     let parts = parts_of(kept, mask);
@@ -82,7 +77,7 @@ fn put_clause(cat: &Catalog, q: &Prepared, at: Given, k: &Kept, n: u16, into: &m
     requires matched { IsMatchedOr cat.now q.now at.rel.0 (condition_at q.now n) }
     requires element { k.now.element ≡ elements.Clause n }
     requires kept { (b : BitTree) × IsKept cat.now q.now at.rel at.param k.now b }
-    ensures { (b : BitTree) × IsKept cat.now q.now at.rel at.param k.now b × ((found : List Numbered) → IsFilled into.old found → IsFilled into.new (found ++ arms_in b)) }
+    ensures { PutsArms cat.now q.now at k.now into.old into.new }
 {
     match or_arms(q, n) {
         Some(arms) => put_least(cat, q, at.rel, arms, into),
@@ -96,7 +91,7 @@ fn put_element(cat: &Catalog, q: &Prepared, at: Given, k: &Kept, into: &mut Arms
     requires relation { at.rel.0 < width q.now }
     requires made { IsMade cat.now q.now at.rel at.param (element_in k.now) }
     requires kept { (b : BitTree) × IsKept cat.now q.now at.rel at.param k.now b }
-    ensures { (b : BitTree) × IsKept cat.now q.now at.rel at.param k.now b × ((found : List Numbered) → IsFilled into.old found → IsFilled into.new (found ++ arms_in b)) }
+    ensures { PutsArms cat.now q.now at k.now into.old into.new }
 {
     match k.element {
         Element::Index(_) => {}
@@ -110,7 +105,7 @@ fn put_marked(cat: &Catalog, q: &Prepared, at: Given, k: &Kept, is: bool, into: 
     requires relation { at.rel.0 < width q.now }
     requires made { IsMade cat.now q.now at.rel at.param (element_in k.now) }
     requires kept { (b : BitTree) × IsKept cat.now q.now at.rel at.param k.now b }
-    ensures { (bs : List BitTree) × AllZip (IsKept cat.now q.now at.rel at.param) (cond is (k.now ∷ []) []) bs × ((found : List Numbered) → IsFilled into.old found → IsFilled into.new (found ++ arms_of_all bs)) }
+    ensures { PutsAllArms cat.now q.now at (cond is (k.now ∷ []) []) into.old into.new }
 {
     if is {
         put_element(cat, q, at, k, into);
@@ -123,7 +118,7 @@ fn put_all(cat: &Catalog, q: &Prepared, at: Given, kept: &[Kept], mask: usize, i
     requires relation { at.rel.0 < width q.now }
     requires made { All (λ k. IsMade cat.now q.now at.rel at.param (element_in k)) kept.now }
     requires kept { AreKept cat.now q.now at.rel at.param kept.now }
-    ensures { (bs : List BitTree) × AllZip (IsKept cat.now q.now at.rel at.param) (marked mask kept.now) bs × ((found : List Numbered) → IsFilled into.old found → IsFilled into.new (found ++ arms_of_all bs)) }
+    ensures { PutsAllArms cat.now q.now at (marked mask kept.now) into.old into.new }
 {
     let mut left = mask;
     for n in 0..kept.len() {
@@ -141,7 +136,7 @@ fn node_of(cat: &Catalog, q: &Prepared, at: Given, kept: &[Kept], mask: usize) -
     requires mask { mask < 2 ^ length kept.now }
     requires first { AreFirst cat.now q.now at.rel at.param kept.now }
     requires kept { AreKept cat.now q.now at.rel at.param kept.now }
-    ensures { (bs : List BitTree) × AllZip (IsKept cat.now q.now at.rel at.param) (marked mask kept.now) bs × ((t : forms.Certificate) → StandsForPlan cat.now q.now t result (bitmap_of at.rel at.param (combined bs))) }
+    ensures { IsNodeOfMarked cat.now q.now at (marked mask kept.now) result }
 {
     let mut arms = Arms::empty();
     put_all(cat, q, at, kept, mask, &mut arms);
@@ -172,7 +167,7 @@ pub(crate) fn open_marks(j: &Judged, at: Given, kept: &[Kept]) -> Option<(Plain,
     requires few { length kept.now ≤ 8 }
     requires first { AreFirst j.now.cat.now j.now.q.now at.rel at.param kept.now }
     requires kept { AreKept j.now.cat.now j.now.q.now at.rel at.param kept.now }
-    ensures { MatchOption result (AreBitmapsServed j.now.cat.now j.now.q.now at.rel at.param (certificate j.now.t.now)) (λ x. IsOpen j.now.cat.now j.now.q.now (certificate j.now.t.now) x.0 x.1) }
+    ensures { MatchOption result (CoversBitmaps j.now at) (λ x. Misses j.now x) }
 {
     for mask in 0..sets_of(kept.len()) {
         if let Some(x) = open_mask(j, at, kept, mask) {

@@ -1,17 +1,9 @@
 //! Candidates by their numbers.
 
 ghost use Rattle.std.specs.Prelude.{IfNone, IfSome};
-ghost use Rattle.catalog.specs.Contents.{Contents};
-ghost use Rattle.pathkeys.specs.Finding.{class_numbers};
-ghost use Rattle.plan_tree.specs.Plans.{Plan};
 ghost use Rattle.plan_check.specs.Views.{certificate};
-ghost use Rattle.plan_check.specs.Beating.{IsBeaten, candidate};
 ghost use Rattle.plan_check.specs.Placing.{ArePlaced};
-ghost use Rattle.plan_check.specs.Plains.{StandsForPlan};
-ghost use Rattle.plan_check.specs.Reasons.{AllRight};
-ghost use Rattle.plan_check.specs.declared.verdict.Plain.{Plain};
-ghost use Rattle.join_cover.specs.Serving.{IsOpen, IsServed};
-ghost use Rattle.scan_cover.specs.Scanning.{IsLeftOpen, IsScanWith};
+ghost use Rattle.scan_cover.specs.Covering.{CoversCandidate, CoversScansWith, MissesCandidate, MissesScansWith};
 
 use eq_classes::ClassNo;
 use join_cover::Uncovered;
@@ -22,8 +14,8 @@ use plan_check::{Candidate, Judged, counted, is_covered};
 /// The numbers of a candidate that no entry dominates. None exactly where an entry dominates it.
 fn open_candidate(j: &Judged, x: &Candidate) -> Option<Uncovered>
     requires placed { ArePlaced (certificate j.now.t.now).entries j.now.places.now }
-    ensures none { IfNone result (IsBeaten j.now.q.now.window (certificate j.now.t.now).entries (candidate x.now)) }
-    ensures some { IfSome result (λ u. IsLeftOpen j.now.q.now.window (certificate j.now.t.now) (candidate x.now) u) }
+    ensures none { IfNone result (CoversCandidate j.now x.now) }
+    ensures some { IfSome result (λ u. MissesCandidate j.now x.now u) }
 {
     let entries = j.t.entries.items();
     let mut noted = 0;
@@ -49,8 +41,8 @@ pub fn open_with(
     own: Own,
 ) -> Option<Uncovered>
     requires placed { ArePlaced (certificate j.now.t.now).entries j.now.places.now }
-    ensures none { IfNone result ((c : Contents) (p : Plan) → AllRight c j.now.q.now (certificate j.now.t.now) → IsScanWith c j.now.q.now set param (class_numbers keys.now) own p → IsServed c j.now.q.now (certificate j.now.t.now) p) }
-    ensures some { IfSome result (λ x. (c : Contents) (p : Plan) (node : Plain) → AllRight c j.now.q.now (certificate j.now.t.now) → IsScanWith c j.now.q.now set param (class_numbers keys.now) own p → StandsForPlan c j.now.q.now (certificate j.now.t.now) node p → IsOpen c j.now.q.now (certificate j.now.t.now) node x) }
+    ensures none { IfNone result (CoversScansWith j.now set param keys.now own) }
+    ensures some { IfSome result (λ x. MissesScansWith j.now set param keys.now own x) }
 {
     let x = Candidate {
         set,

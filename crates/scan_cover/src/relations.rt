@@ -2,19 +2,16 @@
 
 ghost use Rattle.std.specs.Prelude.{◌≡◌, ◌<◌, MatchOption};
 ghost use Rattle.pg_base.specs.Sets.{has};
-ghost use Rattle.pg_base.specs.declared.numbers.IndexNo.{IndexNo as Numbered};
 ghost use Rattle.catalog.specs.Contents as contents;
 ghost use Rattle.plan_tree.specs.Bitmaps.{table_of_relation};
-ghost use Rattle.plan_tree.specs.Plans.{seq};
 ghost use Rattle.plan_tree.specs.Reads.{IsOverTables};
 ghost use Rattle.plan_tree.specs.Space.{IsSameSet};
 ghost use Rattle.sql_query.specs.Queries.{all_of_query, width};
 ghost use Rattle.plan_check.specs.Views.{certificate};
 ghost use Rattle.plan_check.specs.Placing.{ArePlaced};
 ghost use Rattle.plan_check.specs.Reasons.{AllRight};
-ghost use Rattle.plan_check.specs.declared.verdict.Plain.TheVariants as plain;
-ghost use Rattle.join_cover.specs.Serving.{IsOpen, IsServed};
-ghost use Rattle.scan_cover.specs.Scanning.{ArePlainScansServed, IsIndexServed, IsRelationServed};
+ghost use Rattle.join_cover.specs.Covering.{Misses};
+ghost use Rattle.scan_cover.specs.Covering.{CoversIndexes, CoversPlainScans, CoversRelation, CoversSeq, MissesSeq};
 
 use crate::indexes::open_by_index;
 use crate::numbers::open_with;
@@ -32,7 +29,7 @@ fn open_seq(j: &Judged, r: RelNo) -> Option<Uncovered>
     requires right { AllRight j.now.cat.now j.now.q.now (certificate j.now.t.now) }
     requires placed { ArePlaced (certificate j.now.t.now).entries j.now.places.now }
     requires relation { r.0 < width j.now.q.now }
-    ensures { MatchOption result (IsServed j.now.cat.now j.now.q.now (certificate j.now.t.now) (seq r)) (λ x. IsOpen j.now.cat.now j.now.q.now (certificate j.now.t.now) (plain.Seq r) x) }
+    ensures { MatchOption result (CoversSeq j.now r) (λ x. MissesSeq j.now r x) }
 {
     j.cat.lawful();
     let set = RelSet::one(r);
@@ -58,7 +55,7 @@ fn open_given(j: &Judged, r: RelNo, p: RelSet) -> Option<(Plain, Uncovered)>
     requires right { AllRight j.now.cat.now j.now.q.now (certificate j.now.t.now) }
     requires placed { ArePlaced (certificate j.now.t.now).entries j.now.places.now }
     requires relation { r.0 < width j.now.q.now }
-    ensures { MatchOption result ((i : Numbered) → IsIndexServed j.now.cat.now j.now.q.now (certificate j.now.t.now) r p i) (λ x. IsOpen j.now.cat.now j.now.q.now (certificate j.now.t.now) x.0 x.1) }
+    ensures { MatchOption result (CoversIndexes j.now r p) (λ x. Misses j.now x) }
 {
     let indexes = indexes_of(j.cat, j.q, r);
     for i in indexes {
@@ -76,7 +73,7 @@ fn open_relation(j: &Judged, r: RelNo, all: RelSet) -> Option<(Plain, Uncovered)
     requires placed { ArePlaced (certificate j.now.t.now).entries j.now.places.now }
     requires relation { r.0 < width j.now.q.now }
     requires all { IsSameSet (has all.0) (all_of_query j.now.q.now) }
-    ensures { MatchOption result (IsRelationServed j.now.cat.now j.now.q.now (certificate j.now.t.now) r) (λ x. IsOpen j.now.cat.now j.now.q.now (certificate j.now.t.now) x.0 x.1) }
+    ensures { MatchOption result (CoversRelation j.now r) (λ x. Misses j.now x) }
 {
     if let Some(x) = open_seq(j, r) {
         return Some((Plain::Seq { rel: r }, x));
@@ -96,7 +93,7 @@ pub fn open_plain_scan(j: &Judged) -> Option<(Plain, Uncovered)>
     requires query { IsOverTables j.now.cat.now j.now.q.now }
     requires right { AllRight j.now.cat.now j.now.q.now (certificate j.now.t.now) }
     requires placed { ArePlaced (certificate j.now.t.now).entries j.now.places.now }
-    ensures { MatchOption result (ArePlainScansServed j.now.cat.now j.now.q.now (certificate j.now.t.now)) (λ x. IsOpen j.now.cat.now j.now.q.now (certificate j.now.t.now) x.0 x.1) }
+    ensures { MatchOption result (CoversPlainScans j.now) (λ x. Misses j.now x) }
 {
     let all = all_relations(j.q);
     for r in 0..range_of(j.q).items().len() {

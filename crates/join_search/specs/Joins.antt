@@ -1,6 +1,6 @@
 -- Joins of kept paths, and what is kept of them (PostgreSQL, src/backend/optimizer/README, Join Tree Construction;
 -- src/backend/optimizer/path/joinrels.c and joinpath.c).
-use Rattle.std.specs.Prelude.{◌≡◌, ℕ, List, All, AllPairs, Contains, Some}
+use Rattle.std.specs.Prelude.{◌≡◌, ℕ, List, All, AllPairs, Contains, Some, Vec}
 use Rattle.pg_base.specs.Sets.{has}
 use Rattle.pg_base.specs.declared.rel_set.RelSet.{RelSet}
 use Rattle.catalog.specs.Contents.{Contents}
@@ -12,10 +12,12 @@ use Rattle.plan_tree.specs.Least.{IsAdmissible, Dominates}
 use Rattle.plan_tree.specs.Paths.{Path, IsPathOf}
 use Rattle.plan_laws.specs.Useful.{IsBelow}
 use Rattle.plan_tree.specs.declared.path.Path.{Path as Costed}
-use Rattle.join_search.specs.Tables.{Fronts, front_at, paths_at}
+use Rattle.join_search.specs.Tables.{Fronts, front_at, paths_at, list_at, set_numbered}
 use Rattle.join_search.specs.Sufficing.{HasSufficient}
 use Rattle.join_search.specs.declared.table.Table.{Table}
 use Rattle.join_search.specs.declared.useful.Asked.{Asked}
+use Rattle.std.specs.Global.{Global}
+use Rattle.join_search.specs.declared.table.Placed.{Placed}
 
 -- a set of one relation alone
 abbrev pub IsSingle : RelSet → Type 0
@@ -83,3 +85,23 @@ module _ (c : Contents) (q : Query) where
 -- each join of kept paths below the limit that is a plan of the set has a path of the set's front that suffices for it
 abbrev pub AreJoinsCovered : Contents → Query → Asked → Fronts → RelSet → Type 0
 AreJoinsCovered c q asked fronts s = (t : Plan) → IsPlanOf c q (has s.0) empty t → IsBelow c q asked.limit t → IsJoinOfKept fronts t → HasSufficient c q asked (fronts s (record { 0 = 0 })) t
+
+-- the fronts of single relations stay as they are
+abbrev pub KeepsScans : List (Vec Placed Global) → List (Vec Placed Global) → Type 0
+KeepsScans old new = (k : ℕ) → IsSingle (set_numbered k) → list_at new k ≡ list_at old k
+
+-- only single relations have fronts
+abbrev pub HasOnlyScans : Table → Type 0
+HasOnlyScans t = (s p : RelSet) (f : List Costed) → front_at t s p ≡ Some f → IsSingle s
+
+-- each set is covered
+abbrev pub AreAllCovered : Contents → Query → Asked → Table → Type 0
+AreAllCovered c q asked t = (s : RelSet) → AreJoinsCovered c q asked (paths_at t) s
+
+-- each path of a set of several relations is a join of kept ones
+abbrev pub HasOnlyJoins : Contents → Query → Table → Type 0
+HasOnlyJoins c q t = (s p : RelSet) → ¬ IsSingle s → All (IsJoinPath c q (paths_at t) s p) (paths_at t s p)
+
+-- of the paths of such a set none dominates another
+abbrev pub HasNoDominatedJoins : Contents → Query → Table → Type 0
+HasNoDominatedJoins c q t = (s p : RelSet) → ¬ IsSingle s → AreUndominated c q (paths_at t s p)

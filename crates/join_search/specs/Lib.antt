@@ -7,6 +7,7 @@ pub mod Nests
 pub mod Merges
 pub mod Search
 pub mod Past
+pub mod Outcomes
 -- What callers name of the crates below.
 pub use Rattle.plan_laws.proofs.LeastLemmas as plan_laws_LeastLemmas
 pub use Rattle.plan_laws.proofs.UsefulLemmas as plan_laws_UsefulLemmas

@@ -1,6 +1,6 @@
 -- Paths that suffice for plans, as far as is asked of a search (PostgreSQL, src/backend/optimizer/path/pathkeys.c,
 -- truncate_useless_pathkeys; the limit is own).
-use Rattle.std.specs.Prelude.{◌≡◌, ℕ, true, List, Option, None, Some, Contains}
+use Rattle.std.specs.Prelude.{◌≡◌, ℕ, true, List, Option, None, Some, Contains, ◌<◌, IsTrue, take}
 use Rattle.catalog.specs.Contents.{Contents}
 use Rattle.cost_rules.specs.declared.pair.Pair.{Pair}
 use Rattle.eq_classes.specs.Clauses.{Set}
@@ -9,9 +9,14 @@ use Rattle.sql_query.specs.Queries.{Query}
 use Rattle.sql_query.specs.declared.window.Window.{Window}
 use Rattle.plan_tree.specs.Paths.{Path}
 use Rattle.plan_tree.specs.Plans.{Plan}
-use Rattle.plan_tree.specs.Space.{IsBuilt}
-use Rattle.plan_laws.specs.Useful.{IsBelow, IsOfUse, Suffices}
+use Rattle.plan_tree.specs.Space.{IsBuilt, IsSameSet}
+use Rattle.plan_laws.specs.Useful.{IsBelow, IsOfUse, Suffices, are_open, outside}
 use Rattle.join_search.specs.declared.useful.Asked.{Asked}
+use Rattle.pg_base.specs.Sets.{has}
+use Rattle.pg_base.specs.declared.rel_set.RelSet.{RelSet}
+use Rattle.cost_rules.specs.declared.parameters.TheConstants.{MOST_COST}
+use Rattle.eq_classes.specs.declared.classes.ClassNo.{ClassNo}
+use Rattle.pathkeys.specs.Finding.{class_numbers}
 
 -- what a plan of a cost costs at least in whatever is made of it: the total, or under a window the startup
 abbrev pub floor_in : Option Window → Pair → ℕ
@@ -36,3 +41,17 @@ module _ (c : Contents) (q : Query) (asked : Asked) where
   -- for each plan for which the one list has a sufficient path the other has one
   abbrev pub StaySufficient : List Path → List Path → Type 0
   StaySufficient old new = (t : Plan) → HasSufficient old t → HasSufficient new t
+
+-- a cost is at the limit of all costs, or at that of the search
+abbrev pub IsCostPast : Query → Asked → Pair → Type 0
+IsCostPast q asked own = own.total < MOST_COST → floor_in q.window own < asked.limit → ⊥
+
+-- so many first classes of a list begin with each list of open classes with which the whole begins; the relations outside
+-- are given
+abbrev pub BeginsWithOpen : Query → RelSet → List ClassNo → ℕ → Type 0
+BeginsWithOpen q rest list n = (s : Set) (ks : Keys) → IsSameSet (has rest.0) (outside q s) → IsTrue (are_open q s ks) →
+    IsTrue (covers (class_numbers list) ks) → IsTrue (covers (take n (class_numbers list)) ks)
+
+-- a part of a key list begins with each list of use, where the relations outside are given
+abbrev pub IsPartOutside : Query → Asked → RelSet → Keys → Keys → Type 0
+IsPartOutside q asked rest keys part = (s : Set) → IsSameSet (has rest.0) (outside q s) → IsPartOfUse q asked s keys part

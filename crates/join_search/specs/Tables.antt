@@ -66,3 +66,23 @@ paths_at t s p = paths_of (front_at t s p)
 -- two places are one
 abbrev pub IsSamePlace : RelSet → RelSet → RelSet → RelSet → Type 0
 IsSamePlace s p t o = (s.0 ≡ t.0) × (p.0 ≡ o.0)
+
+-- the front of a number is the first that stands at a parameterisation
+abbrev pub IsPlaceOf : RelSet → List Placed → ℕ → Type 0
+IsPlaceOf p places n = (f : List Costed) → found_at p (with_front places n f) ≡ Some f
+
+-- none of another one changes with it
+abbrev pub IsOfNoOther : RelSet → List Placed → ℕ → Type 0
+IsOfNoOther p places n = (f : List Costed) (o : RelSet) → ¬ (o.0 ≡ p.0) → found_at o (with_front places n f) ≡ found_at o places
+
+-- fronts of a set stay as they are but for that at a parameterisation
+abbrev pub ChangesOnlyParam : RelSet → List Placed → List Placed → Type 0
+ChangesOnlyParam p old new = (o : RelSet) → ¬ (o.0 ≡ p.0) → found_at o new ≡ found_at o old
+
+-- the fronts of a table stay as they are but for that at a set and a parameterisation
+abbrev pub ChangesOnlyFront : RelSet → RelSet → Table → Table → Type 0
+ChangesOnlyFront s p old new = (t o : RelSet) → ¬ IsSamePlace t o s p → front_at new t o ≡ front_at old t o
+
+-- that one stays
+abbrev pub KeepsFront : RelSet → RelSet → Table → Table → Type 0
+KeepsFront s p old new = front_at new s p ≡ front_at old s p

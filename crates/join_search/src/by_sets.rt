@@ -1,22 +1,17 @@
 //! The search over all sets of relations, from small ones to great ones.
 
-ghost use Rattle.std.specs.Prelude.{◌≡◌, ◌<◌, ◌≤◌, ◌⊎◌, ◌+◌, ◌^◌, ℕ, All, Contains, IfOk, IsTrue, OnOk, [], false, map};
+ghost use Rattle.std.specs.Prelude.{◌≡◌, ◌<◌, ◌≤◌, ◌⊎◌, ◌+◌, ◌^◌, All, Contains, IfOk, IsTrue, OnOk, [], false, map};
 ghost use Rattle.pg_base.specs.declared.rel_set.RelSet as sets;
 ghost use Rattle.cost_rules.specs.Costs.{IsEstimate};
-ghost use Rattle.path_cost.specs.Estimates as numbers;
-ghost use Rattle.pg_base.specs.Sets.{has};
 ghost use Rattle.plan_tree.specs.Reads.{IsOverTables};
 ghost use Rattle.plan_tree.specs.Views.{path};
 ghost use Rattle.pareto.specs.Front.{AreKeptOr};
-ghost use Rattle.plan_tree.specs.Fronts.{StayDominated};
-ghost use Rattle.join_search.specs.Joins.{ArePlaced, AreUndominated, IsBase, AreJoinsCovered, IsJoinPath, IsPathAt, IsSingle};
-ghost use Rattle.join_search.specs.Sufficing.{HasSufficient, StaySufficient};
-ghost use Rattle.join_search.specs.Offers.{AreJoinsServed, AreTargetServed, IsPartServed, Takes, TargetTakes};
-ghost use Rattle.join_search.specs.Past.{HasNoJoins};
+ghost use Rattle.join_search.specs.Joins.{AreAllCovered, ArePlaced, HasNoDominatedJoins, HasOnlyJoins, HaveSameScans, IsBase, IsPathAt};
+ghost use Rattle.join_search.specs.Offers.{AreTargetServed, IsPartServed, Takes, TargetTakes};
 ghost use Rattle.join_search.specs.Splits.{HasEachFilled, AreJoinsOf, AreTargetJoins, AreTargetPaths, IsDivided, IsOver, IsTarget, IsTask};
-ghost use Rattle.join_search.specs.declared.table.Table as tables;
-ghost use Rattle.join_search.specs.Tables.{front_at, none, paths_at};
-ghost use Rattle.join_search.specs.Search.{IsDone};
+ghost use Rattle.join_search.specs.Tables.{none, paths_at};
+ghost use Rattle.join_search.specs.Search.{DoesNext, IsDoneTo};
+ghost use Rattle.join_search.specs.Outcomes.{AreTargetUndominated, AreTaskJoins, AreTaskUndominated, HasSufficientFor, IsSetServed, IsTargetServed, LacksJoins, ServesJoins, StaysDominated, StaysEnough, set_rows_of};
 
 use crate::merges::offer_merges;
 use crate::nests::offer_nests;
@@ -38,7 +33,7 @@ fn offer_split(alloc: Global, j: &Split, front: &mut KeptPaths) -> Result<(), Me
     requires over { IsOver j.now }
     requires joins { AreJoinsOf j.now (map path front.old) }
     ensures takes { Takes j.now (map path front.old) (map path front.new) }
-    ensures served { OnOk result (AreJoinsServed j.now.cat.now j.now.q.now j.now.asked (paths_at j.now.table.now) (map path front.new) j.now.outer j.now.inner) }
+    ensures served { OnOk result (ServesJoins j.now front.new) }
 {
     offer_nests(alloc, j, front)?;
     offer_merges(alloc, j, front)
@@ -48,7 +43,7 @@ fn offer_split(alloc: Global, j: &Split, front: &mut KeptPaths) -> Result<(), Me
 fn rows_by(at: &Target, set: RelSet, paths: &[Path]) -> u64
     requires at { IsTarget at.now }
     requires paths { map path paths.now ≡ paths_at at.now.table.now set none }
-    ensures rows { result ≡ numbers.set_rows at.now.cat.now at.now.q.now.range at.now.q.now.classes (has set.0) }
+    ensures rows { result ≡ set_rows_of at.now.cat.now at.now.q.now set }
     ensures estimate { IsEstimate result }
 {
     match cheapest(paths) {
@@ -157,8 +152,8 @@ fn keep(alloc: Global, at: &Target, kept: &mut KeptPaths, made: Path) -> Result<
     requires paths { AreTargetPaths at.now (map path kept.old) }
     requires made { IsPathAt at.now.cat.now at.now.q.now at.now.set none (path made) }
     ensures some { AreKeptOr kept.old made kept.new }
-    ensures still { StayDominated at.now.cat.now at.now.q.now (map path kept.old) (map path kept.new) }
-    ensures enough { OnOk result (HasSufficient at.now.cat.now at.now.q.now at.now.asked (map path kept.new) (path made).tree) }
+    ensures still { StaysDominated at.now kept.old kept.new }
+    ensures enough { OnOk result (HasSufficientFor at.now kept.new made) }
 {
     let cat: &Catalog = at.cat;
     cat.lawful();
@@ -176,8 +171,8 @@ fn front_among(alloc: Global, at: &Target, paths: Vec<Path>) -> Result<Front<Pat
     requires at { IsTarget at.now }
     requires paths { AreTargetPaths at.now (map path paths.items) }
     ensures some { IfOk result (λ f. All (Contains (map path paths.items)) (map path f)) }
-    ensures enough { IfOk result (λ f. StaySufficient at.now.cat.now at.now.q.now at.now.asked (map path paths.items) (map path f)) }
-    ensures undominated { IfOk result (λ f. AreUndominated at.now.cat.now at.now.q.now (map path f)) }
+    ensures enough { IfOk result (λ f. StaysEnough at.now paths.items f) }
+    ensures undominated { IfOk result (λ f. AreTargetUndominated at.now f) }
 {
     let mut kept = KeptPaths::new(alloc);
     for made in paths {
@@ -194,8 +189,8 @@ pub(crate) fn front_of(alloc: Global, at: &Target, kept: KeptPaths) -> Result<Fr
     requires at { IsTarget at.now }
     requires paths { AreTargetPaths at.now (map path kept) }
     ensures some { IfOk result (λ f. All (Contains (map path kept)) (map path f)) }
-    ensures enough { IfOk result (λ f. StaySufficient at.now.cat.now at.now.q.now at.now.asked (map path kept) (map path f)) }
-    ensures undominated { IfOk result (λ f. AreUndominated at.now.cat.now at.now.q.now (map path f)) }
+    ensures enough { IfOk result (λ f. StaysEnough at.now kept f) }
+    ensures undominated { IfOk result (λ f. AreTargetUndominated at.now f) }
 {
     let mut paths = kept.into_paths();
     paths.sort_by_key(|p| p.cost)?;
@@ -207,8 +202,8 @@ fn joins_of(alloc: Global, at: &Target, filled: &[RelSet]) -> Result<Front<Path>
     requires at { IsTarget at.now }
     requires filled { HasEachFilled (paths_at at.now.table.now) at.now.set.0 filled.now }
     ensures joins { IfOk result (λ f. AreTargetJoins at.now (map path f)) }
-    ensures served { IfOk result (λ f. (a b : sets.RelSet) → IsDivided at.now.set a b → AreTargetServed at.now (map path f) a b) }
-    ensures undominated { IfOk result (λ f. AreUndominated at.now.cat.now at.now.q.now (map path f)) }
+    ensures served { IfOk result (λ f. IsTargetServed at.now f) }
+    ensures undominated { IfOk result (λ f. AreTargetUndominated at.now f) }
 {
     let mut kept = KeptPaths::new(alloc);
     for part in filled {
@@ -233,7 +228,7 @@ fn may_join(
 ) -> Result<bool, Memory>
     requires task { IsTask task.now }
     requires placed { ArePlaced task.now.cat.now task.now.q.now (paths_at table.now) }
-    ensures { IfOk result (λ may. may ≡ false → HasNoJoins task.now.cat.now task.now.q.now task.now.asked (paths_at table.now) set part) }
+    ensures { IfOk result (λ may. may ≡ false → LacksJoins task.now table.now set part) }
 {
     if !part.within(set) {
         return Ok(false);
@@ -256,7 +251,7 @@ fn may_join_any(
 ) -> Result<bool, Memory>
     requires task { IsTask task.now }
     requires placed { ArePlaced task.now.cat.now task.now.q.now (paths_at table.now) }
-    ensures { IfOk result (λ may. may ≡ false → All (HasNoJoins task.now.cat.now task.now.q.now task.now.asked (paths_at table.now) set) parts.now) }
+    ensures { IfOk result (λ may. may ≡ false → All (LacksJoins task.now table.now set) parts.now) }
 {
     for part in parts {
         if may_join(alloc, task, table, set, *part)? {
@@ -278,9 +273,9 @@ fn front_over(
     requires task { IsTask task.now }
     requires placed { ArePlaced task.now.cat.now task.now.q.now (paths_at table.now) }
     requires filled { HasEachFilled (paths_at table.now) set.0 filled.now }
-    ensures joins { IfOk result (λ f. All (IsJoinPath task.now.cat.now task.now.q.now (paths_at table.now) set none) (map path f)) }
-    ensures served { IfOk result (λ f. (a b : sets.RelSet) → IsDivided set a b → AreJoinsServed task.now.cat.now task.now.q.now task.now.asked (paths_at table.now) (map path f) a b) }
-    ensures undominated { IfOk result (λ f. AreUndominated task.now.cat.now task.now.q.now (map path f)) }
+    ensures joins { IfOk result (λ f. AreTaskJoins task.now table.now set f) }
+    ensures served { IfOk result (λ f. IsSetServed task.now table.now set f) }
+    ensures undominated { IfOk result (λ f. AreTaskUndominated task.now f) }
 {
     let may = may_join_any(alloc, task, table, set, filled)?;
     if !may {
@@ -334,7 +329,7 @@ fn add_set(
     requires task { IsTask task.now }
     requires placed { ArePlaced task.now.cat.now task.now.q.now (paths_at before) }
     requires filled { HasEachFilled (paths_at before) set.0 filled.old.items }
-    ensures done { IfOk result (λ t. (base : tables.Table) → IsDone task.now.cat.now task.now.q.now task.now.asked base before set.0 → IsDone task.now.cat.now task.now.q.now task.now.asked base t (set.0 + 1)) }
+    ensures done { IfOk result (λ t. DoesNext task.now before t set.0) }
     ensures filled { IfOk result (λ t. HasEachFilled (paths_at t) (set.0 + 1) filled.new.items) }
 {
     if is_single(set) {
@@ -355,7 +350,7 @@ fn sets_below(alloc: Global, task: &Task, base: Table, end: u32) -> Result<Table
     requires task { IsTask task.now }
     requires base { IsBase task.now.cat.now task.now.q.now base }
     requires few { end ≤ 2 ^ 16 }
-    ensures { IfOk result (λ t. (n : ℕ) × (end ≤ n) × IsDone task.now.cat.now task.now.q.now task.now.asked base t n) }
+    ensures { IfOk result (λ t. IsDoneTo task.now base t end) }
 {
     let mut table = base;
     let mut filled = Vec::new(alloc);
@@ -381,11 +376,11 @@ pub fn search(
 ) -> Result<Table, Memory>
     requires query { IsOverTables cat.now q.now }
     requires base { IsBase cat.now q.now base }
-    ensures handed { IfOk result (λ t. (s p : sets.RelSet) → IsSingle s → front_at t s p ≡ front_at base s p) }
+    ensures handed { IfOk result (λ t. HaveSameScans t base) }
     ensures placed { IfOk result (λ t. ArePlaced cat.now q.now (paths_at t)) }
-    ensures covered { IfOk result (λ t. (s : sets.RelSet) → AreJoinsCovered cat.now q.now asked (paths_at t) s) }
-    ensures kept { IfOk result (λ t. (s p : sets.RelSet) → ¬ IsSingle s → All (IsJoinPath cat.now q.now (paths_at t) s p) (paths_at t s p)) }
-    ensures undominated { IfOk result (λ t. (s p : sets.RelSet) → ¬ IsSingle s → AreUndominated cat.now q.now (paths_at t s p)) }
+    ensures covered { IfOk result (λ t. AreAllCovered cat.now q.now asked t) }
+    ensures kept { IfOk result (λ t. HasOnlyJoins cat.now q.now t) }
+    ensures undominated { IfOk result (λ t. HasNoDominatedJoins cat.now q.now t) }
 {
     let order = order_asked(alloc, q)?;
     let task = Task {

@@ -1,14 +1,15 @@
 //! Likely plans, found by adding one relation after another (own, in the manner of PostgreSQL's search by left-deep trees,
 //! src/backend/optimizer/geqo/geqo_eval.c). They are a guess, and nothing else rests on them.
 
-ghost use Rattle.std.specs.Prelude.{◌<◌, All, IfOk, map};
+ghost use Rattle.std.specs.Prelude.{◌<◌, IfOk, map};
 ghost use Rattle.pg_base.specs.Sets.{has};
 ghost use Rattle.plan_tree.specs.Reads.{IsOverTables};
 ghost use Rattle.plan_tree.specs.Views.{path};
-ghost use Rattle.join_search.specs.Joins.{ArePlaced, HaveSameScans, IsPathAt};
+ghost use Rattle.join_search.specs.Joins.{ArePlaced, HaveSameScans};
 ghost use Rattle.join_search.specs.Splits.{AreTargetPaths, IsTarget, IsTask};
-ghost use Rattle.join_search.specs.Tables.{none, paths_at};
+ghost use Rattle.join_search.specs.Tables.{paths_at};
 ghost use Rattle.std.specs.Prelude.{◌≡◌};
+ghost use Rattle.join_search.specs.Outcomes.{AreTaskPaths};
 
 use crate::by_sets::{front_of, offer_side};
 use crate::offers::least_cost;
@@ -46,7 +47,7 @@ fn joins_with(
 ) -> Result<Front<Path>, Memory>
     requires task { IsTask task.now }
     requires placed { ArePlaced task.now.cat.now task.now.q.now (paths_at table.now) }
-    ensures { IfOk result (λ f. All (IsPathAt task.now.cat.now task.now.q.now set none) (map path f)) }
+    ensures { IfOk result (λ f. AreTaskPaths task.now set f) }
 {
     let rows = set_rows(task.cat, task.q, set);
     let all = all_relations(task.q);

@@ -1,14 +1,12 @@
 //! The lists of classes by which two sets may be merged.
 
-ghost use Rattle.std.specs.Prelude.{◌≡◌, ◌++◌, ◌∷◌, [], All, IfOk, OnOk, Contains, false, nat_eq, take};
+ghost use Rattle.std.specs.Prelude.{◌≡◌, ◌++◌, ◌∷◌, [], All, IfOk, OnOk, false, nat_eq};
 ghost use Rattle.std.specs.List.{list_any};
-ghost use Rattle.std.specs.Option.{option_map, option_to_list};
 ghost use Rattle.pg_base.specs.Sets.{has};
-ghost use Rattle.eq_classes.specs.Parts.{joining_from};
 ghost use Rattle.pathkeys.specs.Finding.{class_numbers};
-ghost use Rattle.pathkeys.specs.Keys as keys;
 ghost use Rattle.plan_tree.specs.Space.{IsMergeList};
-ghost use Rattle.join_search.specs.Merges.{all_longer, lists_of, longer};
+ghost use Rattle.join_search.specs.Merges.{lists_of, longer};
+ghost use Rattle.join_search.specs.Outcomes.{HasEachMergeList, all_longer_by, first_joining, longer_by, numbers_with};
 
 use catalog::Catalog;
 use eq_classes::ClassNo;
@@ -20,7 +18,7 @@ use std::alloc::Global;
 
 /// Puts a class that was found behind others. The error means want of memory.
 fn add_found(out: &mut Vec<ClassNo>, class: Option<ClassNo>) -> Result<(), Memory>
-    ensures { OnOk result (class_numbers out.new.items ≡ class_numbers out.old.items ++ option_to_list (option_map (λ n. n.0) class)) }
+    ensures { OnOk result (class_numbers out.new.items ≡ numbers_with out.old.items class) }
 {
     if let Some(c) = class {
         out.push(c)?;
@@ -30,7 +28,7 @@ fn add_found(out: &mut Vec<ClassNo>, class: Option<ClassNo>) -> Result<(), Memor
 
 /// The first four joining classes of two sets. The error means want of memory.
 fn joining(alloc: Global, q: &Prepared, a: RelSet, b: RelSet) -> Result<Vec<ClassNo>, Memory>
-    ensures { IfOk result (λ v. class_numbers v.items ≡ take 4 (joining_from (has a.0) (has b.0) 0 q.now.classes.classes)) }
+    ensures { IfOk result (λ v. class_numbers v.items ≡ first_joining q.now a b) }
 {
     let four = classes_of(q).joining(a, b);
     let mut found = Vec::new(alloc);
@@ -99,7 +97,7 @@ fn add_longer(
     list: &Keys,
     out: &mut Vec<Keys>,
 ) -> Result<(), Memory>
-    ensures { OnOk result (out.new.items ≡ out.old.items ++ longer (class_numbers classes.now) list.now) }
+    ensures { OnOk result (out.new.items ≡ out.old.items ++ longer_by classes.now list.now) }
 {
     for c in classes {
         add_one_longer(alloc, *c, list, out)?;
@@ -114,7 +112,7 @@ fn add_all_longer(
     lists: &[Keys],
     out: &mut Vec<Keys>,
 ) -> Result<(), Memory>
-    ensures { OnOk result (out.new.items ≡ out.old.items ++ all_longer (class_numbers classes.now) lists.now) }
+    ensures { OnOk result (out.new.items ≡ out.old.items ++ all_longer_by classes.now lists.now) }
 {
     for list in lists {
         add_longer(alloc, classes, list, out)?;
@@ -160,7 +158,7 @@ pub(crate) fn merge_lists(
     b: RelSet,
 ) -> Result<Vec<Keys>, Memory>
     ensures sound { IfOk result (λ v. All (IsMergeList cat.now q.now (has a.0) (has b.0)) v.items) }
-    ensures complete { IfOk result (λ v. (ks : keys.Keys) → IsMergeList cat.now q.now (has a.0) (has b.0) ks → Contains v.items ks) }
+    ensures complete { IfOk result (λ v. HasEachMergeList cat.now q.now a b v.items) }
 {
     let classes = joining(alloc, q, a, b)?;
     lists_among(alloc, &classes)

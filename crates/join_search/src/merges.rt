@@ -1,18 +1,17 @@
 //! Merge joins of two sets (PostgreSQL, src/backend/optimizer/path/joinpath.c, sort_inner_and_outer and
 //! match_unsorted_outer).
 
-ghost use Rattle.std.specs.Prelude.{◌≡◌, ◌<◌, ◌≤◌, ◌^◌, ◌-◌, ℕ, All, Contains, IfOk, IsTrue, List, OnOk, map, min, true};
+ghost use Rattle.std.specs.Prelude.{◌≡◌, ◌≤◌, All, Contains, IfOk, IsTrue, OnOk, map};
 ghost use Rattle.cost_rules.specs.Costs.{IsEstimate};
 ghost use Rattle.pathkeys.specs.Keys as keys;
-ghost use Rattle.plan_tree.specs.Paths as kept;
-ghost use Rattle.plan_tree.specs.Plans as plans;
 ghost use Rattle.plan_tree.specs.Views.{path, plan};
-ghost use Rattle.join_search.specs.Joins.{IsPathAt, IsPlanIn};
-ghost use Rattle.join_search.specs.Merges.{ArePast, IsNoCheaper, IsInnerSide, IsListOf, IsMergeWork, IsOuterSide, ServesEarlyPlain, ServesEarlySides, ServesOuters, ServesPlain, merge_with, side_path, side_plan, sort_startup};
+ghost use Rattle.join_search.specs.Joins.{IsPathAt};
+ghost use Rattle.join_search.specs.Merges.{ArePast, IsNoCheaper, IsInnerSide, IsListOf, IsMergeWork, IsOuterSide, ServesEarlyPlain, ServesEarlySides, side_path};
 ghost use Rattle.join_search.specs.Merges as merges;
-ghost use Rattle.join_search.specs.Offers.{Serves, ServesMerges, Takes};
+ghost use Rattle.join_search.specs.Offers.{ServesMerges, Takes};
 ghost use Rattle.join_search.specs.Splits.{AreJoinsOf, IsOuterOf, IsOver, inners_of, outers_of};
 ghost use Rattle.join_search.specs.Tables.{none};
+ghost use Rattle.join_search.specs.Outcomes.{IsKeptOfMerge, NeedsNoMerges, ServesIfEarly, ServesInOrder, ServesMerge, ServesPlainSide, ServesSide, ServesSortIfEarly, ServesSortedSide};
 
 use crate::lists::merge_lists;
 use crate::offers::{cheapest, is_passed_over, least_cost, offer_join};
@@ -60,7 +59,7 @@ fn merge_kept(j: &Split, by: &Keys, outer: Side, inner: Side, work: MergeWork) -
     requires outer { IsOuterOf j.now (side_path outer) }
     requires inner { IsPathAt j.now.cat.now j.now.q.now j.now.inner none (side_path inner) }
     requires pairs { IsEstimate work.pairs }
-    ensures { (n : ℕ) → work.ops ≡ min n (2 ^ 64 - 1) → result ≡ merge_with j.now by.now (side_plan by.now outer.entry) (side_plan by.now inner.entry) work.pairs n }
+    ensures { IsKeptOfMerge j.now by.now outer.entry inner.entry work result }
 {
     let outer_cost = side_cost(j.cat, j.q, j.outer, j.outer_rows, outer);
     let inner_cost = side_cost(j.cat, j.q, j.inner, j.inner_rows, inner);
@@ -103,7 +102,7 @@ fn offer_merge(
     requires inner { IsInnerSide j.now by.now inner }
     requires joins { AreJoinsOf j.now (map path front.old) }
     ensures takes { Takes j.now (map path front.old) (map path front.new) }
-    ensures served { OnOk result (Serves j.now (map path front.new) (merges.merge_of by.now outer.entry inner.entry)) }
+    ensures served { OnOk result (ServesMerge j.now front.new by.now outer.entry inner.entry) }
 {
     let one = MergeWork { pairs: 1, ops: 0 };
     let least = merge_kept(j, by, outer, inner, one);
@@ -136,7 +135,7 @@ fn offer_in_order(
     requires inner { IsInnerSide j.now by.now inner }
     requires joins { AreJoinsOf j.now (map path front.old) }
     ensures takes { Takes j.now (map path front.old) (map path front.new) }
-    ensures served { OnOk result (keys.covers outer.now.keys by.now ≡ true → Serves j.now (map path front.new) (plans.merge by.now (path outer.now).tree (side_plan by.now inner.entry))) }
+    ensures served { OnOk result (ServesInOrder j.now front.new by.now outer.now inner.entry) }
 {
     if !covers(&outer.keys, by) {
         return Ok(());
@@ -164,7 +163,7 @@ fn offer_plain(
     requires inner { IsInnerSide j.now by.now inner }
     requires joins { AreJoinsOf j.now (map path front.old) }
     ensures takes { Takes j.now (map path front.old) (map path front.new) }
-    ensures served { OnOk result (ServesPlain j.now (map path front.new) by.now (side_plan by.now inner.entry)) }
+    ensures served { OnOk result (ServesPlainSide j.now front.new by.now inner.entry) }
 {
     for outer in outers {
         offer_in_order(alloc, j, by, outer, inner, front)?;
@@ -187,7 +186,7 @@ fn offer_sorted(
     requires inner { IsInnerSide j.now by.now inner }
     requires joins { AreJoinsOf j.now (map path front.old) }
     ensures takes { Takes j.now (map path front.old) (map path front.new) }
-    ensures served { OnOk result ((o : plans.Plan) → IsPlanIn (outers_of j.now) o → Serves j.now (map path front.new) (plans.merge by.now (plans.sort by.now o) (side_plan by.now inner.entry))) }
+    ensures served { OnOk result (ServesSortedSide j.now front.new by.now inner.entry) }
 {
     match cheapest(outers) {
         Some(path) => {
@@ -211,7 +210,7 @@ fn offer_side(
     requires inner { IsInnerSide j.now by.now inner }
     requires joins { AreJoinsOf j.now (map path front.old) }
     ensures takes { Takes j.now (map path front.old) (map path front.new) }
-    ensures served { OnOk result (ServesOuters j.now (map path front.new) by.now (side_plan by.now inner.entry)) }
+    ensures served { OnOk result (ServesSide j.now front.new by.now inner.entry) }
 {
     offer_plain(alloc, j, by, j.outers, inner, front)?;
     offer_sorted(alloc, j, by, j.outers, inner, front)
@@ -232,7 +231,7 @@ fn offer_if_early(
     requires inner { Contains (inners_of j.now none) (path inner.now) }
     requires joins { AreJoinsOf j.now (map path front.old) }
     ensures takes { Takes j.now (map path front.old) (map path front.new) }
-    ensures served { OnOk result (keys.covers inner.now.keys by.now ≡ true → inner.now.startup < startup → ServesOuters j.now (map path front.new) by.now (path inner.now).tree) }
+    ensures served { OnOk result (ServesIfEarly j.now front.new by.now inner.now startup) }
 {
     if inner.startup >= startup {
         return Ok(());
@@ -285,7 +284,7 @@ fn offer_sort_if_early(
     requires inner { Contains (inners_of j.now none) (path inner.now) }
     requires joins { AreJoinsOf j.now (map path front.old) }
     ensures takes { Takes j.now (map path front.old) (map path front.new) }
-    ensures served { OnOk result (sort_startup j.now by.now (path inner.now).tree < startup → ServesOuters j.now (map path front.new) by.now (plans.sort by.now (path inner.now).tree)) }
+    ensures served { OnOk result (ServesSortIfEarly j.now front.new by.now inner.now startup) }
 {
     let side = Side {
         path: inner,
@@ -380,7 +379,7 @@ pub(crate) fn are_past(j: &Split, outer: Pair, inner: Pair) -> bool
 /// Whether all merges of two sets are past the limit, as what their sides cost at least tells.
 fn are_merges_past(j: &Split) -> bool
     requires over { IsOver j.now }
-    ensures { IsTrue result → (front : List kept.Path) (by : keys.Keys) → ServesMerges j.now front by }
+    ensures { IsTrue result → NeedsNoMerges j.now }
 {
     let cat: &Catalog = j.cat;
     cat.lawful();

@@ -1,17 +1,18 @@
 //! Nested loops of two sets (PostgreSQL, src/backend/optimizer/path/joinpath.c, match_unsorted_outer).
 
-ghost use Rattle.std.specs.Prelude.{◌≡◌, ◌<◌, ◌^◌, ◌-◌, ℕ, Contains, IfOk, IsTrue, List, OnOk, map, min};
+ghost use Rattle.std.specs.Prelude.{◌≡◌, Contains, IfOk, IsTrue, List, OnOk, map};
 ghost use Rattle.pg_base.specs.Sets.{has};
 ghost use Rattle.eq_classes.specs.Holding.{IsWithin};
 ghost use Rattle.plan_tree.specs.Paths as kept;
 ghost use Rattle.plan_tree.specs.Plans as plans;
 ghost use Rattle.plan_tree.specs.Views.{path, plan};
 ghost use Rattle.join_search.specs.Joins.{IsKept};
-ghost use Rattle.join_search.specs.Nests.{AreTested, IsInnerOf, nest_operators, nest_with};
-ghost use Rattle.join_search.specs.Offers.{Serves, ServesEach, ServesEarly, ServesNests, Takes};
+ghost use Rattle.join_search.specs.Nests.{AreTested, IsInnerOf, nest_operators};
+ghost use Rattle.join_search.specs.Offers.{ServesEach, ServesEarly, ServesNests, Takes};
 ghost use Rattle.join_search.specs.Splits.{AreJoinsOf, IsOuterOf, IsOver, inners_of, outers_of};
 ghost use Rattle.join_search.specs.Tables.{paths_at};
 ghost use Rattle.pg_base.specs.declared.rel_set.RelSet as sets;
+ghost use Rattle.join_search.specs.Outcomes.{IsKeptOfNest, ServesEachIfEarly, ServesNest};
 
 use crate::merges::{are_past, least_of};
 use crate::offers::{cheapest, is_passed_over, offer_join};
@@ -56,7 +57,7 @@ fn nest_kept(j: &Split, outer: &Path, inner: &Path, ops: u64) -> Pair
     requires over { IsOver j.now }
     requires outer { IsOuterOf j.now (path outer.now) }
     requires inner { IsInnerOf j.now (path inner.now) }
-    ensures { (n : ℕ) → ops ≡ min n (2 ^ 64 - 1) → result ≡ nest_with j.now.cat.now j.now.q.now (path outer.now).tree (path inner.now).tree n }
+    ensures { IsKeptOfNest j.now outer.now inner.now ops result }
 {
     let outer_cost = cost_of(j.cat, j.q, outer);
     let inner_cost = cost_of(j.cat, j.q, inner);
@@ -88,7 +89,7 @@ fn offer_nest(
     requires kept { IsKept (paths_at j.now.table.now) (path inner.now).tree }
     requires joins { AreJoinsOf j.now (map path front.old) }
     ensures takes { Takes j.now (map path front.old) (map path front.new) }
-    ensures served { OnOk result (Serves j.now (map path front.new) (plans.nest (path outer.now).tree (path inner.now).tree)) }
+    ensures served { OnOk result (ServesNest j.now front.new outer.now inner.now) }
 {
     let least = nest_kept(j, outer, inner, 0);
     if is_passed_over(alloc, j, least, &outer.keys, front)? {
@@ -159,7 +160,7 @@ fn offer_if_early(
     requires inner { Contains (inners_of j.now p) (path inner.now) }
     requires joins { AreJoinsOf j.now (map path front.old) }
     ensures takes { Takes j.now (map path front.old) (map path front.new) }
-    ensures served { OnOk result (inner.now.startup < startup → ServesEach j.now (map path front.new) (path inner.now).tree) }
+    ensures served { OnOk result (ServesEachIfEarly j.now front.new inner.now startup) }
 {
     if inner.startup >= startup {
         return Ok(());

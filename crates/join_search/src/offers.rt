@@ -2,13 +2,12 @@
 
 ghost use Rattle.std.specs.Prelude.{◌≡◌, ◌<◌, ◌≤◌, All, Contains, IfNone, IfOk, IfSome, IsTrue, OnOk, [], false, length, map};
 ghost use Rattle.cost_rules.specs.declared.parameters.TheConstants.{MOST_COST};
-ghost use Rattle.plan_tree.specs.Fronts.{HasDominating};
 ghost use Rattle.plan_tree.specs.Keys.{keys_of};
 ghost use Rattle.plan_tree.specs.Views.{path, plan};
-ghost use Rattle.join_search.specs.Joins.{IsJoinOfKept, IsJoinPath, IsPathAt};
-ghost use Rattle.join_search.specs.Offers.{ServesFrom, TakesJoins};
+ghost use Rattle.join_search.specs.Joins.{IsPathAt};
 ghost use Rattle.join_search.specs.Splits.{ArePathsOfSet, IsJoinOf, IsOver, kept_of};
-ghost use Rattle.join_search.specs.Tables.{Fronts, none};
+ghost use Rattle.join_search.specs.Tables.{none};
+ghost use Rattle.join_search.specs.Outcomes.{FrontHasDominating, MayPassOver, TakesOne};
 
 use crate::splits::Split;
 use crate::useful::{is_below, useful};
@@ -51,7 +50,7 @@ pub(crate) fn is_passed_over(
     requires over { IsOver j.now }
     requires classes { All (λ n. n < length j.now.q.now.classes.classes) keys.now }
     requires front { ArePathsOfSet j.now (map path front.now) }
-    ensures served { IfOk result (λ b. IsTrue b → ServesFrom j.now (map path front.now) least keys.now) }
+    ensures served { IfOk result (λ b. IsTrue b → MayPassOver j.now front.now least keys.now) }
     ensures below { IfOk result (λ b. b ≡ false → least.total < MOST_COST) }
 {
     if !is_below(j.q, j.asked, least) {
@@ -99,8 +98,8 @@ pub(crate) fn offer_join(
     requires below { cost.total < MOST_COST }
     requires keys { keys ≡ keys_of j.now.cat.now j.now.q.now (plan t) }
     requires front { ArePathsOfSet j.now (map path front.old) }
-    ensures takes { (kept : Fronts) → IsJoinOfKept kept (plan t) → All (IsJoinPath j.now.cat.now j.now.q.now kept j.now.set none) (map path front.old) → TakesJoins j.now.cat.now j.now.q.now kept j.now.set (map path front.old) (map path front.new) }
-    ensures served { OnOk result (HasDominating j.now.cat.now j.now.q.now (map path front.new) (plan t)) }
+    ensures takes { TakesOne j.now (plan t) front.old front.new }
+    ensures served { OnOk result (FrontHasDominating j.now front.new (plan t)) }
 {
     let made = join_path(j, t, cost, keys);
     front.offer(alloc, made)

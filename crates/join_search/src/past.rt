@@ -1,20 +1,11 @@
 //! Joins that are past the limit of a search, as what their sides cost at least tells (own).
 
-ghost use Rattle.std.specs.Prelude.{◌≡◌, ◌<◌, ◌≤◌, ◌+◌, ◌*◌, IfOk, IsTrue, List, false, map};
-ghost use Rattle.cost_rules.specs.declared.pair.Pair as pairs;
-ghost use Rattle.cost_rules.specs.declared.parameters.TheConstants.{MOST_COST};
-ghost use Rattle.path_cost.specs.Estimates as numbers;
-ghost use Rattle.pg_base.specs.Sets.{has};
-ghost use Rattle.pg_base.specs.declared.rel_set.RelSet as sets;
-ghost use Rattle.pathkeys.specs.Keys as keys;
-ghost use Rattle.plan_tree.specs.Paths as kept;
-ghost use Rattle.plan_tree.specs.Space.{IsMergeList};
+ghost use Rattle.std.specs.Prelude.{◌≡◌, ◌≤◌, ◌*◌, IfOk, IsTrue, false, map};
 ghost use Rattle.plan_tree.specs.Views.{path};
 ghost use Rattle.join_search.specs.Joins.{ArePlaced};
-ghost use Rattle.join_search.specs.Offers.{AreJoinsServed, AreNestsServed};
 ghost use Rattle.join_search.specs.Splits.{IsTask};
-ghost use Rattle.join_search.specs.Sufficing.{floor_in};
 ghost use Rattle.join_search.specs.Tables.{none, paths_at};
+ghost use Rattle.join_search.specs.Outcomes.{AreSumsPast, HasNoMergeList, NeedsNoJoins, NeedsNoNests, NeedsNoNestsAt, set_rows_of};
 
 use crate::lists::merge_lists;
 use crate::merges::least_of;
@@ -30,7 +21,7 @@ use std::alloc::Global;
 
 /// Whether what costs no less than two sides together is past the limit.
 pub(crate) fn is_past(q: &Prepared, asked: Asked, outer: Pair, inner: Pair) -> bool
-    ensures { IsTrue result → (n : pairs.Pair) → outer.startup + inner.startup ≤ n.startup → outer.total + inner.total ≤ n.total → n.total < MOST_COST → floor_in q.now.window n < asked.limit → ⊥ }
+    ensures { IsTrue result → AreSumsPast q.now asked outer inner }
 {
     let startup = outer.startup.saturating_add(inner.startup);
     let total = outer.total.saturating_add(inner.total);
@@ -63,8 +54,8 @@ struct Outer<'a> {
 fn are_past_given(task: &Task, table: &Table, outer: Outer, inner: RelSet, p: RelSet) -> bool
     requires placed { ArePlaced task.now.cat.now task.now.q.now (paths_at table.now) }
     requires paths { map path outer.paths.now ≡ paths_at table.now outer.set none }
-    requires rows { outer.rows ≡ numbers.set_rows task.now.cat.now task.now.q.now.range task.now.q.now.classes (has outer.set.0) }
-    ensures { IsTrue result → (front : List kept.Path) → AreNestsServed task.now.cat.now task.now.q.now task.now.asked front (paths_at table.now outer.entry.set none) (paths_at table.now inner p) }
+    requires rows { outer.rows ≡ set_rows_of task.now.cat.now task.now.q.now outer.set }
+    ensures { IsTrue result → NeedsNoNestsAt task.now table.now outer.entry.set inner p }
 {
     if !p.within(outer.set) {
         return true;
@@ -85,8 +76,8 @@ fn are_nests_past(
 ) -> Result<bool, Memory>
     requires placed { ArePlaced task.now.cat.now task.now.q.now (paths_at table.now) }
     requires paths { map path outer.paths.now ≡ paths_at table.now outer.set none }
-    requires rows { outer.rows ≡ numbers.set_rows task.now.cat.now task.now.q.now.range task.now.q.now.classes (has outer.set.0) }
-    ensures { IfOk result (λ b. IsTrue b → (front : List kept.Path) (p : sets.RelSet) → AreNestsServed task.now.cat.now task.now.q.now task.now.asked front (paths_at table.now outer.entry.set none) (paths_at table.now inner p)) }
+    requires rows { outer.rows ≡ set_rows_of task.now.cat.now task.now.q.now outer.set }
+    ensures { IfOk result (λ b. IsTrue b → NeedsNoNests task.now table.now outer.entry.set inner) }
 {
     let params = table.params(alloc, inner)?;
     for p in &params {
@@ -99,7 +90,7 @@ fn are_nests_past(
 
 /// Whether there is a list by which two sets may be merged. The error means want of memory.
 fn may_merge(alloc: Global, task: &Task, a: RelSet, b: RelSet) -> Result<bool, Memory>
-    ensures { IfOk result (λ may. may ≡ false → (ks : keys.Keys) → IsMergeList task.now.cat.now task.now.q.now (has a.0) (has b.0) ks → ⊥) }
+    ensures { IfOk result (λ may. may ≡ false → HasNoMergeList task.now a b) }
 {
     let lists = merge_lists(alloc, task.cat, task.q, a, b)?;
     Ok(!lists.as_slice().is_empty())
@@ -116,8 +107,8 @@ fn are_past_from(
 ) -> Result<bool, Memory>
     requires placed { ArePlaced task.now.cat.now task.now.q.now (paths_at table.now) }
     requires paths { map path outer.paths.now ≡ paths_at table.now outer.set none }
-    requires rows { outer.rows ≡ numbers.set_rows task.now.cat.now task.now.q.now.range task.now.q.now.classes (has outer.set.0) }
-    ensures { IfOk result (λ past. IsTrue past → (front : List kept.Path) → AreJoinsServed task.now.cat.now task.now.q.now task.now.asked (paths_at table.now) front outer.entry.set inner) }
+    requires rows { outer.rows ≡ set_rows_of task.now.cat.now task.now.q.now outer.set }
+    ensures { IfOk result (λ past. IsTrue past → NeedsNoJoins task.now table.now outer.entry.set inner) }
 {
     let nests = are_nests_past(alloc, task, table, outer, inner)?;
     if !nests {
@@ -138,7 +129,7 @@ pub(crate) fn are_joins_past(
 ) -> Result<bool, Memory>
     requires task { IsTask task.now }
     requires placed { ArePlaced task.now.cat.now task.now.q.now (paths_at table.now) }
-    ensures { IfOk result (λ past. IsTrue past → (front : List kept.Path) → AreJoinsServed task.now.cat.now task.now.q.now task.now.asked (paths_at table.now) front a b) }
+    ensures { IfOk result (λ past. IsTrue past → NeedsNoJoins task.now table.now a b) }
 {
     let outers = table.paths(a, RelSet(0));
     match cheapest(outers) {

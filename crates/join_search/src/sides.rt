@@ -2,17 +2,15 @@
 
 ghost use Rattle.std.specs.Prelude.{◌≡◌, ◌≤◌, ◌<◌, All, Contains, IfNone, IfOk, IfSome, [], false, map, true};
 ghost use Rattle.pg_base.specs.Sets.{has};
-ghost use Rattle.cost_rules.specs.Costs.{IsCost, IsEstimate, capped_pair};
+ghost use Rattle.cost_rules.specs.Costs.{IsCost, IsEstimate};
 ghost use Rattle.cost_rules.specs.declared.parameters.TheConstants.{MOST_COST};
 ghost use Rattle.path_cost.specs.Estimates.{set_rows};
-ghost use Rattle.pathkeys.specs.Keys as keys;
-ghost use Rattle.plan_tree.specs.Costs as costs;
-ghost use Rattle.plan_tree.specs.Paths.{kept_cost};
 ghost use Rattle.plan_tree.specs.Views.{path, plan};
 ghost use Rattle.join_search.specs.Joins.{IsPathAt};
 ghost use Rattle.join_search.specs.Merges as merges;
-ghost use Rattle.join_search.specs.Merges.{IsBestSide, IsCheapestBy, side_keys, side_path, side_plan};
+ghost use Rattle.join_search.specs.Merges.{IsCheapestBy, side_keys, side_path, side_plan};
 ghost use Rattle.join_search.specs.Tables.{none};
+ghost use Rattle.join_search.specs.Outcomes.{HasNoneBy, IsBestSideOf, IsLeastBy, IsSideCost, IsSideWith};
 
 use crate::offers::cheapest;
 use catalog::Catalog;
@@ -37,7 +35,7 @@ pub(crate) fn side_cost(cat: &Catalog, q: &Prepared, set: RelSet, rows: u64, s: 
     requires at { IsPathAt cat.now q.now set none (side_path s) }
     requires rows { rows ≡ set_rows cat.now q.now.range q.now.classes (has set.0) }
     requires estimate { IsEstimate rows }
-    ensures kept { (by : keys.Keys) → result ≡ capped_pair (kept_cost q.now.window (costs.cost cat.now q.now (side_plan by s.entry))) }
+    ensures kept { IsSideCost cat.now q.now s.entry result }
     ensures cost { IsCost result }
 {
     let cost = cost_of(cat, q, s.path);
@@ -86,7 +84,7 @@ fn cost_by(p: &Path, by: &Keys) -> u64
 /// A path of least such cost.
 fn least_by<'a>(paths: &'a [Path], by: &Keys) -> Option<&'a Path>
     ensures is_there { IfSome result (λ p. Contains paths.now p.now) }
-    ensures least { IfSome result (λ p. All (λ o. merges.cost_by by.now p.now ≤ merges.cost_by by.now o) paths.now) }
+    ensures least { IfSome result (λ p. IsLeastBy by.now paths.now p.now) }
     ensures none { IfNone result (paths.now ≡ []) }
 {
     paths.iter().min_by_key(|p| cost_by(p, by))
@@ -96,7 +94,7 @@ fn least_by<'a>(paths: &'a [Path], by: &Keys) -> Option<&'a Path>
 fn cheapest_by<'a>(paths: &'a [Path], by: &Keys) -> Option<&'a Path>
     requires below { All (λ o. o.cost < MOST_COST) paths.now }
     ensures some { IfSome result (λ p. IsCheapestBy by.now (map path paths.now) (path p.now)) }
-    ensures none { IfNone result (All (λ p. keys.covers p.keys by.now ≡ false) (map path paths.now)) }
+    ensures none { IfNone result (HasNoneBy by.now paths.now) }
 {
     match least_by(paths, by) {
         Some(p) => { if covers(&p.keys, by) { Some(p) } else { None } }
@@ -106,8 +104,8 @@ fn cheapest_by<'a>(paths: &'a [Path], by: &Keys) -> Option<&'a Path>
 
 /// A path as it is where it costs no more than another one sorted, which costs so much.
 fn cheaper_side<'a>(plain: &'a Path, sorted: &'a Path, cost: u64) -> Side<'a>
-    ensures plain { plain.now.cost ≤ cost → (result.path.now ≡ plain.now) × (result.sorted ≡ false) }
-    ensures sorted { cost < plain.now.cost → (result.path.now ≡ sorted.now) × (result.sorted ≡ true) }
+    ensures plain { plain.now.cost ≤ cost → IsSideWith result plain.now false }
+    ensures sorted { cost < plain.now.cost → IsSideWith result sorted.now true }
 {
     if plain.cost <= cost {
         Side {
@@ -135,7 +133,7 @@ pub(crate) fn best_side<'a>(
     requires paths { All (IsPathAt cat.now q.now set none) (map path paths.now) }
     requires rows { rows ≡ set_rows cat.now q.now.range q.now.classes (has set.0) }
     requires estimate { IsEstimate rows }
-    ensures some { IfSome result (λ s. IsBestSide cat.now q.now by.now (map path paths.now) (side_path s) s.sorted) }
+    ensures some { IfSome result (λ s. IsBestSideOf cat.now q.now by.now paths.now s) }
     ensures none { IfNone result (paths.now ≡ []) }
 {
     let sorted = Side {

@@ -1,13 +1,12 @@
 //! Fronts of paths by set of relations and parameterisation (PostgreSQL, src/backend/optimizer/README, Optimizer Data
 //! Structures).
 
-ghost use Rattle.std.specs.Prelude.{◌≡◌, ◌<◌, ◌↔◌, ◌⊎◌, ℕ, Bool, IfErr, IfNone, IfOk, IfSome, IsTrue, List, None, OnOk, [], Some, get_or, length, map};
+ghost use Rattle.std.specs.Prelude.{◌≡◌, ◌<◌, ◌↔◌, ◌⊎◌, ℕ, Bool, IfErr, IfNone, IfOk, IfSome, IsTrue, None, OnOk, [], Some, get_or, length, map};
 ghost use Rattle.std.specs.Option.{option_map};
 ghost use Rattle.pg_base.specs.declared.rel_set.RelSet as sets;
 ghost use Rattle.plan_tree.specs.Views.{path};
-ghost use Rattle.plan_tree.specs.declared.path.Path as costed;
-ghost use Rattle.join_search.specs.Joins.{HaveSameScans, IsSingle};
-ghost use Rattle.join_search.specs.Tables.{IsSamePlace, found_at, front_at, is_at, list_at, set_numbered, params_of, paths_at, paths_of, places_at, with_front};
+ghost use Rattle.join_search.specs.Joins.{HasOnlyScans, HaveSameScans, IsSingle, KeepsScans};
+ghost use Rattle.join_search.specs.Tables.{ChangesOnlyFront, ChangesOnlyParam, IsOfNoOther, IsPlaceOf, KeepsFront, found_at, front_at, is_at, list_at, params_of, paths_at, paths_of, places_at, set_numbered};
 
 use pareto::Front;
 use pg_base::{Memory, RelSet};
@@ -56,8 +55,8 @@ fn find<'a>(places: &'a [Placed], p: RelSet) -> Option<&'a Front<Path>>
 /// The number of the first front that stands there, from 0.
 fn place_of(places: &[Placed], p: RelSet) -> Option<usize>
     ensures within { IfSome result (λ n. n < length places.now) }
-    ensures put { IfSome result (λ n. (f : List costed.Path) → found_at p (with_front places.now n f) ≡ Some f) }
-    ensures others { IfSome result (λ n. (f : List costed.Path) (o : sets.RelSet) → ¬ (o.0 ≡ p.0) → found_at o (with_front places.now n f) ≡ found_at o places.now) }
+    ensures put { IfSome result (λ n. IsPlaceOf p places.now n) }
+    ensures others { IfSome result (λ n. IsOfNoOther p places.now n) }
     ensures none { IfNone result (found_at p places.now ≡ None) }
 {
     for n in 0..places.len() {
@@ -73,7 +72,7 @@ fn place_of(places: &[Placed], p: RelSet) -> Option<usize>
 fn add(places: &mut Vec<Placed>, p: RelSet, f: Front<Path>) -> Result<(), Front<Path>>
     requires new { found_at p places.old.items ≡ None }
     ensures here { OnOk result (found_at p places.new.items ≡ Some f) }
-    ensures others { (o : sets.RelSet) → ¬ (o.0 ≡ p.0) → found_at o places.new.items ≡ found_at o places.old.items }
+    ensures others { ChangesOnlyParam p places.old.items places.new.items }
     ensures err { IfErr result (λ back. (back ≡ f) × (places.new.items ≡ places.old.items)) }
 {
     let placed = Placed { param: p, front: f };
@@ -87,7 +86,7 @@ fn add(places: &mut Vec<Placed>, p: RelSet, f: Front<Path>) -> Result<(), Front<
 /// of memory, and changes nothing.
 fn put_in(places: &mut Vec<Placed>, p: RelSet, f: Front<Path>) -> Result<(), Front<Path>>
     ensures here { OnOk result (found_at p places.new.items ≡ Some f) }
-    ensures others { (o : sets.RelSet) → ¬ (o.0 ≡ p.0) → found_at o places.new.items ≡ found_at o places.old.items }
+    ensures others { ChangesOnlyParam p places.old.items places.new.items }
     ensures err { IfErr result (λ back. (back ≡ f) × (places.new.items ≡ places.old.items)) }
 {
     match place_of(places, p) {
@@ -156,7 +155,7 @@ fn forget_at(sets: &mut Vec<Vec<Placed>>, n: usize)
     requires within { n < length sets.old.items }
     ensures many { length sets.new.items ≡ length sets.old.items }
     ensures here { IsSingle (set_numbered n) ⊎ (list_at sets.new.items n ≡ []) }
-    ensures single { (k : ℕ) → IsSingle (set_numbered k) → list_at sets.new.items k ≡ list_at sets.old.items k }
+    ensures single { KeepsScans sets.old.items sets.new.items }
     ensures others { (k : ℕ) → ¬ (k ≡ n) → list_at sets.new.items k ≡ list_at sets.old.items k }
 {
     if is_one(n) {
@@ -167,7 +166,7 @@ fn forget_at(sets: &mut Vec<Vec<Placed>>, n: usize)
 
 /// Lets go of the fronts of sets of more than one relation.
 fn forget(sets: &mut Vec<Vec<Placed>>)
-    ensures single { (k : ℕ) → IsSingle (set_numbered k) → list_at sets.new.items k ≡ list_at sets.old.items k }
+    ensures single { KeepsScans sets.old.items sets.new.items }
     ensures others { (k : ℕ) → IsSingle (set_numbered k) ⊎ (list_at sets.new.items k ≡ []) }
 {
     for n in 0..sets.len() {
@@ -207,8 +206,8 @@ impl Table {
     /// want of memory, and the table is as before.
     pub fn put(&mut self, s: RelSet, p: RelSet, f: Front<Path>) -> Result<(), Front<Path>>
         ensures here { OnOk result (front_at self.new s p ≡ Some f) }
-        ensures others { (t o : sets.RelSet) → ¬ IsSamePlace t o s p → front_at self.new t o ≡ front_at self.old t o }
-        ensures err { IfErr result (λ back. (back ≡ f) × (front_at self.new s p ≡ front_at self.old s p)) }
+        ensures others { ChangesOnlyFront s p self.old self.new }
+        ensures err { IfErr result (λ back. (back ≡ f) × KeepsFront s p self.old self.new) }
     {
         match grow(self.alloc, &mut self.sets, s.0) {
             Ok(()) => put_in(&mut self.sets[s.0 as usize], p, f),
@@ -219,7 +218,7 @@ impl Table {
     /// Lets go of the fronts of all sets but those of one relation alone.
     pub fn forget_joins(&mut self)
         ensures scans { HaveSameScans self.new self.old }
-        ensures single { (s p : sets.RelSet) (f : List costed.Path) → front_at self.new s p ≡ Some f → IsSingle s }
+        ensures single { HasOnlyScans self.new }
     {
         forget(&mut self.sets)
     }

@@ -4,14 +4,11 @@
 ghost use Rattle.std.specs.Prelude.{◌≡◌, ◌<◌, ◌≤◌, ◌&&◌, All, IfOk, IsTrue, false, length, nat_lt, take};
 ghost use Rattle.pg_base.specs.Sets.{has};
 ghost use Rattle.cost_rules.specs.declared.parameters.TheConstants.{MOST_COST};
-ghost use Rattle.eq_classes.specs.Clauses.{Set};
 ghost use Rattle.eq_classes.specs.Listing.{class_at};
 ghost use Rattle.eq_classes.specs.Parts.{has_in};
 ghost use Rattle.pathkeys.specs.Finding.{class_numbers};
 ghost use Rattle.pathkeys.specs.Keys as keys;
-ghost use Rattle.plan_tree.specs.Space.{IsSameSet};
-ghost use Rattle.plan_laws.specs.Useful as uses;
-ghost use Rattle.join_search.specs.Sufficing.{IsPartOfUse, floor_in};
+ghost use Rattle.join_search.specs.Sufficing.{BeginsWithOpen, IsCostPast, IsPartOutside, floor_in};
 
 use cost_rules::{MOST_COST, Pair};
 use eq_classes::ClassNo;
@@ -44,7 +41,7 @@ fn floor_of(q: &Prepared, cost: Pair) -> u64
 /// Whether a plan of a cost is admissible, and its floor below the limit.
 pub(crate) fn is_below(q: &Prepared, asked: Asked, cost: Pair) -> bool
     ensures yes { IsTrue result → cost.total < MOST_COST }
-    ensures no { result ≡ false → cost.total < MOST_COST → floor_in q.now.window cost < asked.limit → ⊥ }
+    ensures no { result ≡ false → IsCostPast q.now asked cost }
 {
     let floor = floor_of(q, cost);
     cost.total < MOST_COST && floor < asked.limit
@@ -62,7 +59,7 @@ fn has_member(q: &Prepared, class: ClassNo, set: RelSet) -> bool
 fn open_classes(q: &Prepared, outside: RelSet, list: &[ClassNo]) -> usize
     requires { All (λ n. n < length q.now.classes.classes) (class_numbers list.now) }
     ensures within { result ≤ length list.now }
-    ensures begins { (s : Set) (ks : keys.Keys) → IsSameSet (has outside.0) (uses.outside q.now s) → IsTrue (uses.are_open q.now s ks) → IsTrue (keys.covers (class_numbers list.now) ks) → IsTrue (keys.covers (take result (class_numbers list.now)) ks) }
+    ensures begins { BeginsWithOpen q.now outside list.now result }
 {
     for n in 0..list.len() {
         if !has_member(q, list[n], outside) {
@@ -112,7 +109,7 @@ pub(crate) fn useful(
 ) -> Result<Keys, Memory>
     requires order { order.now ≡ keys.order_keys q.now.classes q.now.order }
     requires classes { All (λ n. n < length q.now.classes.classes) list.now }
-    ensures { IfOk result (λ part. (s : Set) → IsSameSet (has outside.0) (uses.outside q.now s) → IsPartOfUse q.now asked s list.now part) }
+    ensures { IfOk result (λ part. IsPartOutside q.now asked outside list.now part) }
 {
     if asked.every_key {
         return list.copy(alloc);

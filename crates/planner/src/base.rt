@@ -1,19 +1,15 @@
 //! The paths of one relation, also where rows of other relations are given.
 
-ghost use Rattle.std.specs.Prelude.{◌≡◌, ◌<◌, ◌≤◌, ◌↔◌, ℕ, IsTrue, false, IfOk, OnOk, Some, map};
+ghost use Rattle.std.specs.Prelude.{◌≡◌, ◌<◌, ◌≤◌, ◌↔◌, IsTrue, false, IfOk, OnOk, Some};
 ghost use Rattle.pg_base.specs.Sets.{has};
-ghost use Rattle.pg_base.specs.declared.rel_set.RelSet as sets;
 ghost use Rattle.eq_classes.specs.Clauses.{one};
 ghost use Rattle.sql_query.specs.Queries.{all_of_query, width};
-ghost use Rattle.plan_tree.specs.Fronts.{AreDominated};
-ghost use Rattle.plan_tree.specs.Plans as plans;
 ghost use Rattle.plan_tree.specs.Reads.{IsOverTables};
-ghost use Rattle.plan_tree.specs.Space.{IsPlanOf, IsSameSet};
-ghost use Rattle.plan_tree.specs.Views.{path};
+ghost use Rattle.plan_tree.specs.Space.{IsSameSet};
 ghost use Rattle.join_search.specs.Joins.{IsBase};
-ghost use Rattle.join_search.specs.Tables.{IsSamePlace, front_at, paths_at};
+ghost use Rattle.join_search.specs.Tables.{ChangesOnlyFront, front_at, paths_at};
 ghost use Rattle.scan_paths.specs.Reached.{AreReached};
-ghost use Rattle.planner.specs.Bases.{AreAllOf, AreNamed, HaveScansOf, is_plan};
+ghost use Rattle.planner.specs.Bases.{AreAllScans, AreNamed, ChangesOnlyScans, HasAllScans, HasNoScan, HasScansAt, HaveScansOf};
 ghost use Rattle.planner.specs.Near.{IsNear};
 
 use crate::near::relations_near;
@@ -33,7 +29,7 @@ fn may_be_given(cat: &Catalog, q: &Prepared, r: RelNo, p: RelSet) -> bool
     requires query { IsOverTables cat.now q.now }
     requires relation { r.0 < width q.now }
     ensures named { IsTrue result ↔ AreNamed q.now r.0 (has p.0) }
-    ensures none { result ≡ false → (t : plans.Plan) → ¬ IsPlanOf cat.now q.now (one r.0) (has p.0) t }
+    ensures none { result ≡ false → HasNoScan cat.now q.now r p }
 {
     let tested = classes_of(q).param_clauses(r, p);
     let named = others_named(cat, q, r, &tested);
@@ -65,7 +61,7 @@ fn relation_paths(
     requires query { IsOverTables cat.now q.now }
     requires relation { at.rel.0 < width q.now }
     requires indexes { AreReached cat.now q.now at.rel at.indexes.now }
-    ensures { IfOk result (λ front. AreAllOf cat.now q.now (one at.entry.rel.0) (has p.0) (map path front)) }
+    ensures { IfOk result (λ front. AreAllScans cat.now q.now at.entry.rel p front) }
 {
     let mut front = Front::new(alloc);
     scans_by(alloc, cat, q, (at.rel, p), at.indexes, &mut front)?;
@@ -76,7 +72,7 @@ fn relation_paths(
 /// Puts a front into a table. The error means want of memory.
 fn put(table: &mut Table, s: RelSet, p: RelSet, front: Front<Path>) -> Result<(), Memory>
     ensures here { OnOk result (front_at table.new s p ≡ Some front) }
-    ensures others { (t o : sets.RelSet) → ¬ IsSamePlace t o s p → front_at table.new t o ≡ front_at table.old t o }
+    ensures others { ChangesOnlyFront s p table.old table.new }
 {
     match table.put(s, p, front) {
         Ok(()) => Ok(()),
@@ -101,8 +97,8 @@ fn add_paths(
     requires indexes { AreReached cat.now q.now at.rel at.indexes.now }
     requires base { IsBase cat.now q.now table.old }
     ensures base { OnOk result (IsBase cat.now q.now table.new) }
-    ensures dominated { OnOk result (AreDominated cat.now q.now is_plan (one at.entry.rel.0) (has p.0) (paths_at table.new at.entry.set p)) }
-    ensures others { (t o : sets.RelSet) → ¬ IsSamePlace t o at.entry.set p → front_at table.new t o ≡ front_at table.old t o }
+    ensures dominated { OnOk result (HasScansAt cat.now q.now at.entry.rel at.entry.set p table.new) }
+    ensures others { ChangesOnlyFront at.entry.set p table.old table.new }
 {
     if !p.within(at.near) {
         return Ok(());
@@ -132,7 +128,7 @@ fn add_each(
     requires base { IsBase cat.now q.now table.old }
     ensures base { OnOk result (IsBase cat.now q.now table.new) }
     ensures scans { OnOk result (HaveScansOf cat.now q.now (paths_at table.new) at.entry.rel.0) }
-    ensures others { (t o : sets.RelSet) → ¬ IsSameSet (has t.0) (one at.entry.rel.0) → front_at table.new t o ≡ front_at table.old t o }
+    ensures others { ChangesOnlyScans at.entry.rel table.old table.new }
 {
     for bits in 0..all.0 as u32 + 1 {
         add_paths(alloc, cat, q, at, RelSet(bits as u16), table)?;
@@ -155,7 +151,7 @@ fn add_relation(
     requires base { IsBase cat.now q.now table.old }
     ensures base { OnOk result (IsBase cat.now q.now table.new) }
     ensures scans { OnOk result (HaveScansOf cat.now q.now (paths_at table.new) r.0) }
-    ensures others { (t o : sets.RelSet) → ¬ IsSameSet (has t.0) (one r.0) → front_at table.new t o ≡ front_at table.old t o }
+    ensures others { ChangesOnlyScans r table.old table.new }
 {
     let indexes = indexes_reached(alloc, cat, q, r)?;
     let at = Scanned {
@@ -171,7 +167,7 @@ fn add_relation(
 pub fn base_table(alloc: Global, cat: &Catalog, q: &Prepared) -> Result<Table, Memory>
     requires query { IsOverTables cat.now q.now }
     ensures base { IfOk result (λ t. IsBase cat.now q.now t) }
-    ensures scans { IfOk result (λ t. (r : ℕ) → r < width q.now → HaveScansOf cat.now q.now (paths_at t) r) }
+    ensures scans { IfOk result (λ t. HasAllScans cat.now q.now t) }
 {
     let all = all_relations(q);
     let mut table = Table::new(alloc);

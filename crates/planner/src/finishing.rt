@@ -2,16 +2,14 @@
 //! src/backend/optimizer/plan/planner.c, create_ordered_paths; src/backend/optimizer/util/pathnode.c,
 //! get_cheapest_fractional_path).
 
-ghost use Rattle.std.specs.Prelude.{◌≡◌, ◌⊎◌, ◌<◌, ◌≤◌, ℕ, All, IfNone, IfOk, IfSome, None, Some, get_or, length, map};
-ghost use Rattle.cost_rules.specs.Costs.{IsCost, capped_pair};
+ghost use Rattle.std.specs.Prelude.{◌≡◌, ◌⊎◌, ◌<◌, ◌≤◌, ℕ, All, IfNone, IfOk, IfSome, None, Some, length, map};
+ghost use Rattle.cost_rules.specs.Costs.{IsCost};
 ghost use Rattle.pathkeys.specs.Keys as keys;
-ghost use Rattle.plan_tree.specs.Costs as costs;
 ghost use Rattle.plan_tree.specs.Least.{IsAdmissible};
-ghost use Rattle.plan_tree.specs.Paths.{HasItsNumbers, kept_cost};
+ghost use Rattle.plan_tree.specs.Paths.{HasItsNumbers};
 ghost use Rattle.plan_tree.specs.Plans as plans;
 ghost use Rattle.plan_tree.specs.Views.{path};
-ghost use Rattle.plan_tree.specs.declared.path.Path as costed;
-ghost use Rattle.planner.specs.Finishing.{IsLeastOf, IsPriced, IsWhole, finished};
+ghost use Rattle.planner.specs.Finishing.{HasItsPrice, IsLeastPlace, IsPriced, IsSortedCost, IsWhole, NoneFinishes, finished, finished_kept, finished_of};
 ghost use Rattle.planner.specs.Priced.{IsUnder};
 
 use catalog::Catalog;
@@ -34,7 +32,7 @@ pub struct Least {
 /// The cost of a sort of the path's plan, as a path keeps it, cut to at most 10^18.
 fn sorted_cost(cat: &Catalog, q: &Prepared, p: &Path) -> Pair
     requires whole { IsWhole cat.now q.now (path p.now) }
-    ensures kept { (by : keys.Keys) → result ≡ capped_pair (kept_cost q.now.window (costs.cost cat.now q.now (plans.sort by (path p.now).tree))) }
+    ensures kept { IsSortedCost cat.now q.now p.now result }
     ensures cost { IsCost result }
 {
     let input = cost_of(cat, q, p);
@@ -45,7 +43,7 @@ fn sorted_cost(cat: &Catalog, q: &Prepared, p: &Path) -> Pair
 fn finished_cost(cat: &Catalog, q: &Prepared, p: &Path, order: &Keys) -> Pair
     requires whole { IsWhole cat.now q.now (path p.now) }
     requires order { order.now ≡ keys.order_keys q.now.classes q.now.order }
-    ensures kept { result ≡ capped_pair (kept_cost q.now.window (costs.cost cat.now q.now (finished cat.now q.now (path p.now).tree))) }
+    ensures kept { result ≡ finished_kept cat.now q.now p.now }
     ensures cost { IsCost result }
 {
     if covers(&p.keys, order) {
@@ -60,7 +58,7 @@ fn finished_price(cat: &Catalog, q: &Prepared, p: &Path, order: &Keys) -> Option
     requires whole { IsWhole cat.now q.now (path p.now) }
     requires order { order.now ≡ keys.order_keys q.now.classes q.now.order }
     ensures priced { IfSome result (λ n. IsPriced cat.now q.now (path p.now) n) }
-    ensures none { IfNone result (¬ IsAdmissible cat.now q.now (finished cat.now q.now (path p.now).tree)) }
+    ensures none { IfNone result (¬ IsAdmissible cat.now q.now (finished_of cat.now q.now p.now)) }
 {
     cat.lawful();
     let cost = finished_cost(cat, q, p, order);
@@ -100,9 +98,9 @@ pub fn least_place(cat: &Catalog, q: &Prepared, paths: &[Path], order: &Keys) ->
     requires whole { All (IsWhole cat.now q.now) (map path paths.now) }
     requires order { order.now ≡ keys.order_keys q.now.classes q.now.order }
     ensures within { IfSome result (λ l. l.at < length paths.now) }
-    ensures priced { IfSome result (λ l. (d : costed.Path) → IsPriced cat.now q.now (path (get_or paths.now l.at d)) l.price) }
-    ensures least { IfSome result (λ l. (d : costed.Path) → IsLeastOf cat.now q.now (map path paths.now) (path (get_or paths.now l.at d)).tree) }
-    ensures none { IfNone result (All (λ p. ¬ IsAdmissible cat.now q.now (finished cat.now q.now p.tree)) (map path paths.now)) }
+    ensures priced { IfSome result (λ l. HasItsPrice cat.now q.now paths.now l) }
+    ensures least { IfSome result (λ l. IsLeastPlace cat.now q.now paths.now l) }
+    ensures none { IfNone result (NoneFinishes cat.now q.now paths.now) }
 {
     let mut best = None;
     for at in 0..paths.len() {
@@ -146,7 +144,7 @@ pub fn finish(
     requires whole { IsWhole cat.now q.now (path p.now) }
     requires order { order ≡ keys.order_keys q.now.classes q.now.order }
     requires admissible { IsAdmissible cat.now q.now (finished cat.now q.now (path p.now).tree) }
-    ensures tree { IfOk result (λ made. (path made).tree ≡ finished cat.now q.now (path p.now).tree) }
+    ensures tree { IfOk result (λ made. (path made).tree ≡ finished_of cat.now q.now p.now) }
     ensures numbers { IfOk result (λ made. HasItsNumbers cat.now q.now (path made)) }
 {
     let made = p.copy(alloc)?;

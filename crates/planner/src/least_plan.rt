@@ -1,20 +1,15 @@
 //! The plan that a query is answered by.
 
-ghost use Rattle.std.specs.Prelude.{◌≡◌, ◌<◌, ◌≤◌, ℕ, All, IfErr, IfNone, IfOk, IfSome, MatchOption, map};
-ghost use Rattle.cost_rules.specs.declared.parameters.TheConstants.{MOST_COST};
+ghost use Rattle.std.specs.Prelude.{◌≡◌, ◌<◌, ℕ, All, IfErr, IfNone, IfOk, IfSome, MatchOption, map};
 ghost use Rattle.sql_query.specs.Queries.{width};
 ghost use Rattle.plan_tree.specs.Reads.{IsOverTables};
 ghost use Rattle.join_search.specs.Joins.{HaveSameScans, IsBase};
 ghost use Rattle.planner.specs.Bases.{HaveScansOf};
 ghost use Rattle.pathkeys.specs.Keys as keys;
 ghost use Rattle.sql_query.specs.WellBound.{IsWellBound};
-ghost use Rattle.plan_tree.specs.Least.{IsAdmissible, IsBestPlan};
-ghost use Rattle.plan_tree.specs.Paths.{IsFinishedPath};
-ghost use Rattle.plan_tree.specs.Plans as plans;
-ghost use Rattle.plan_tree.specs.Space.{IsFinished};
 ghost use Rattle.plan_tree.specs.Views.{path};
 ghost use Rattle.join_search.specs.Tables.{none, paths_at};
-ghost use Rattle.planner.specs.Finishing.{AreCandidates, IsWhole};
+ghost use Rattle.planner.specs.Finishing.{AreCandidates, HasBestPlan, HasFinished, HasNoAdmissiblePlan, HasNoneWithin, IsWhole};
 ghost use Rattle.planner.specs.declared.least_plan.PlanFault.TheVariants.{CostLimit};
 
 use crate::base::base_table;
@@ -76,9 +71,9 @@ fn least_of(
 ) -> Result<Option<Planned>, Memory>
     requires candidates { AreCandidates cat.now q.now asked (map path paths.now) }
     requires order { order.now ≡ keys.order_keys q.now.classes q.now.order }
-    ensures best { IfOk result (λ found. IfSome found (λ planned. IsFinishedPath cat.now q.now (path planned.best))) }
-    ensures least { IfOk result (λ found. IfSome found (λ planned. IsBestPlan cat.now q.now (path planned.best).tree)) }
-    ensures none { IfOk result (λ found. IfNone found (MOST_COST ≤ asked.limit → (t : plans.Plan) → IsFinished cat.now q.now t → ¬ IsAdmissible cat.now q.now t)) }
+    ensures best { IfOk result (λ found. IfSome found (λ made. HasFinished cat.now q.now made)) }
+    ensures least { IfOk result (λ found. IfSome found (λ made. HasBestPlan cat.now q.now made)) }
+    ensures none { IfOk result (λ found. IfNone found (HasNoneWithin cat.now q.now asked.limit)) }
 {
     cat.lawful();
     let least = match least_place(cat, q, paths, order) {
@@ -161,9 +156,9 @@ fn plan_below(
     requires base { IsBase cat.now q.now base }
     requires scans { (r : ℕ) → r < width q.now → HaveScansOf cat.now q.now (paths_at base) r }
     requires order { order.now ≡ keys.order_keys q.now.classes q.now.order }
-    ensures best { IfOk result (λ found. IfSome found (λ planned. IsFinishedPath cat.now q.now (path planned.best))) }
-    ensures least { IfOk result (λ found. IfSome found (λ planned. IsBestPlan cat.now q.now (path planned.best).tree)) }
-    ensures none { IfOk result (λ found. IfNone found (MOST_COST ≤ limit → (t : plans.Plan) → IsFinished cat.now q.now t → ¬ IsAdmissible cat.now q.now t)) }
+    ensures best { IfOk result (λ found. IfSome found (λ made. HasFinished cat.now q.now made)) }
+    ensures least { IfOk result (λ found. IfSome found (λ made. HasBestPlan cat.now q.now made)) }
+    ensures none { IfOk result (λ found. IfNone found (HasNoneWithin cat.now q.now limit)) }
 {
     cat.lawful();
     let asked = Asked {
@@ -189,9 +184,9 @@ fn planned_or_past(found: Option<Planned>) -> Result<Planned, PlanFault>
 /// the limit of costs.
 fn plan_over(alloc: Global, cat: &Catalog, q: &Prepared) -> Result<Planned, PlanFault>
     requires query { IsOverTables cat.now q.now }
-    ensures best { IfOk result (λ planned. IsFinishedPath cat.now q.now (path planned.best)) }
-    ensures least { IfOk result (λ planned. IsBestPlan cat.now q.now (path planned.best).tree) }
-    ensures limit { IfErr result (λ e. e ≡ CostLimit → (t : plans.Plan) → IsFinished cat.now q.now t → ¬ IsAdmissible cat.now q.now t) }
+    ensures best { IfOk result (λ made. HasFinished cat.now q.now made) }
+    ensures least { IfOk result (λ made. HasBestPlan cat.now q.now made) }
+    ensures limit { IfErr result (λ e. e ≡ CostLimit → HasNoAdmissiblePlan cat.now q.now) }
 {
     let order = order_asked(alloc, q)?;
     let base = base_table(alloc, cat, q)?;
@@ -212,9 +207,9 @@ fn plan_over(alloc: Global, cat: &Catalog, q: &Prepared) -> Result<Planned, Plan
 /// is found without it.
 pub fn plan(alloc: Global, cat: &Catalog, q: &Prepared) -> Result<Planned, PlanFault>
     requires bound { IsWellBound cat.now q.now }
-    ensures best { IfOk result (λ planned. IsFinishedPath cat.now q.now (path planned.best)) }
-    ensures least { IfOk result (λ planned. IsBestPlan cat.now q.now (path planned.best).tree) }
-    ensures limit { IfErr result (λ e. e ≡ CostLimit → (t : plans.Plan) → IsFinished cat.now q.now t → ¬ IsAdmissible cat.now q.now t) }
+    ensures best { IfOk result (λ made. HasFinished cat.now q.now made) }
+    ensures least { IfOk result (λ made. HasBestPlan cat.now q.now made) }
+    ensures limit { IfErr result (λ e. e ≡ CostLimit → HasNoAdmissiblePlan cat.now q.now) }
 {
     plan_over(alloc, cat, q)
 }

@@ -1,17 +1,11 @@
 //! The relations whose rows the scans of a relation may be given.
 
-ghost use Rattle.std.specs.Prelude.{◌≡◌, ◌<◌, ◌&&◌, ℕ, is_some, length};
+ghost use Rattle.std.specs.Prelude.{◌≡◌, ◌<◌, length};
 ghost use Rattle.pg_base.specs.Sets.{has};
 ghost use Rattle.pg_expr.specs.AtomSets.{contains};
-ghost use Rattle.pg_expr.specs.Columns.{names_rel};
-ghost use Rattle.eq_classes.specs.Clauses.{one};
-ghost use Rattle.eq_classes.specs.Listing.{clause_at, conjunct_of};
-ghost use Rattle.eq_classes.specs.Parts.{is_param};
-ghost use Rattle.path_cost.specs.Estimates.{conditions_where};
 ghost use Rattle.sql_query.specs.Queries.{width};
 ghost use Rattle.plan_tree.specs.Reads.{IsOverTables};
-ghost use Rattle.plan_tree.specs.Space as space;
-ghost use Rattle.planner.specs.Near.{AreConjuncts, HavePairs, IsNear};
+ghost use Rattle.planner.specs.Near.{AreConjuncts, AreNamedWith, HavePairs, IsNear, is_conjunct_naming};
 
 use catalog::Catalog;
 use eq_classes::{ClauseSet, note};
@@ -24,7 +18,7 @@ use sql_query::Prepared;
 fn is_conjunct_of(cat: &Catalog, q: &Prepared, r: RelNo, n: u16) -> bool
     requires query { IsOverTables cat.now q.now }
     requires clause { n < length q.now.classes.clauses }
-    ensures { result ≡ is_some (conjunct_of (clause_at q.now.classes.clauses n).source) && names_rel r.0 (clause_at q.now.classes.clauses n).cond }
+    ensures { result ≡ is_conjunct_naming q.now r n }
 {
     classes_of(q).conjunct(n).is_some() && rels(classes_of(q).clause(n)).has(r)
 }
@@ -48,7 +42,7 @@ fn named_with(cat: &Catalog, q: &Prepared, r: RelNo, k: RelNo) -> RelSet
     requires query { IsOverTables cat.now q.now }
     requires relation { r.0 < width q.now }
     requires other { k.0 < width q.now }
-    ensures { (j : ℕ) → has result.0 j ≡ space.others_named r.0 (conditions_where (is_param r.0 (one k.0)) q.now.classes.clauses) j }
+    ensures { AreNamedWith q.now r k result }
 {
     let tested = classes_of(q).param_clauses(r, RelSet::one(k));
     others_named(cat, q, r, &tested)

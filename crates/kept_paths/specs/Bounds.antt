@@ -1,6 +1,6 @@
 -- Paths that would not be kept beside others, and bounds that tell so (PostgreSQL, src/backend/optimizer/util/pathnode.c,
 -- add_path_precheck; that bounds stand beside the paths is own).
-use Rattle.std.specs.Prelude.{◌≡◌, ◌≤◌, ◌↔◌, ◌&&◌, ◌||◌, ℕ, Bool, true, false, nat_eq, nat_le, nat_lt, List, Option, None, Some, Vec, Contains}
+use Rattle.std.specs.Prelude.{◌≡◌, ◌≤◌, ◌↔◌, ◌&&◌, ◌||◌, ℕ, Bool, true, false, nat_eq, nat_le, nat_lt, List, Option, None, Some, Vec, Contains, ◌≢◌, All, IsSome, IsTrue, map}
 use Rattle.std.specs.BTreeMap.{BTreeMap, get_by}
 use Rattle.std.specs.Global.{Global}
 use Rattle.std.specs.Cmp.Lexicographic.{slice_cmp}
@@ -10,6 +10,8 @@ use Rattle.cost_rules.specs.declared.pair.Pair.{Pair}
 use Rattle.pathkeys.specs.Keys.{Keys, covers}
 use Rattle.plan_tree.specs.Paths.{Path}
 use Rattle.kept_paths.specs.declared.bounds.Known.{Known}
+use Rattle.plan_tree.specs.Views.{path}
+use Rattle.plan_tree.specs.declared.path.Path.{Path as Costed}
 
 -- a path of a list costs no more, neither before its first row nor in all, and its keys begin with these
 pub record IsBeaten (paths : List Path) (cost : Pair) (keys : Keys) : Type 0 where
@@ -69,3 +71,36 @@ beats (Some least) cost = nat_le least.startup cost.startup && nat_le least.tota
 -- begin with the list
 abbrev pub AreTold : List Path → Bounds → Type 0
 AreTold paths bounds = (keys : Keys) (cost : Pair) → (is_told bounds keys cost ≡ true) ↔ IsPreceded paths cost keys
+
+-- bounds tell the same of each list and cost
+abbrev pub TellTheSame : Bounds → Bounds → Type 0
+TellTheSame old new = (keys : Keys) (n : Pair) → is_told new keys n ≡ is_told old keys n
+
+-- each list that was known still is
+abbrev pub KeepsRooms : Bounds → Bounds → Type 0
+KeepsRooms old new = (keys : Keys) → IsSome (known_at old keys) → IsSome (known_at new keys)
+
+-- the least cost that is known was lowered to another, where that comes first
+abbrev pub IsLowered : Known → Pair → Known → Type 0
+IsLowered old cost new = (n : Pair) → is_within new.least n ≡ (is_within old.least n || is_first cost n)
+
+-- so for one list
+abbrev pub LowersAt : Bounds → Bounds → Keys → Pair → Type 0
+LowersAt old new list cost = (n : Pair) → is_told new list n ≡ (is_told old list n || is_first cost n)
+
+-- what is known of other lists stays as it is
+abbrev pub ChangesOnlyList : Bounds → Bounds → Keys → Type 0
+ChangesOnlyList old new list = (keys : Keys) → keys ≢ list → known_at new keys ≡ known_at old keys
+
+-- for each list with which one begins the least cost was lowered
+abbrev pub LowersEach : Bounds → Bounds → Keys → Pair → Type 0
+LowersEach old new list cost =
+    (keys : Keys) (n : Pair) → is_told new keys n ≡ (is_told old keys n || covers list keys && is_first cost n)
+
+-- the bounds tell of the paths of the program
+abbrev pub AreToldOf : List Costed → Bounds → Type 0
+AreToldOf paths bounds = AreTold (map path paths) bounds
+
+-- where no path costs anything before its first row, a test tells each cost and list that a path beats
+abbrev pub TellsBeaten : List Costed → Pair → Keys → Bool → Type 0
+TellsBeaten paths cost keys told = All (λ p. p.startup ≡ 0) (map path paths) → IsBeaten (map path paths) cost keys → IsTrue told

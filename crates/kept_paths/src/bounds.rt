@@ -1,9 +1,8 @@
 //! For each list of classes, the least cost of a path whose keys begin with it.
 
-ghost use Rattle.std.specs.Prelude.{◌≡◌, ◌≢◌, ◌&&◌, ◌||◌, ℕ, IsSome, OnOk, take};
+ghost use Rattle.std.specs.Prelude.{◌≡◌, ◌||◌, ℕ, IsSome, OnOk, take};
 ghost use Rattle.cost_rules.specs.declared.pair.Pair as pairs;
-ghost use Rattle.pathkeys.specs.Keys as keys;
-ghost use Rattle.kept_paths.specs.Bounds.{is_first, is_told, is_within, known_at};
+ghost use Rattle.kept_paths.specs.Bounds.{ChangesOnlyList, IsLowered, KeepsRooms, LowersAt, LowersEach, TellTheSame, is_first, known_at};
 ghost use Rattle.kept_paths.specs.Bounds as bounds_of;
 
 use cost_rules::Pair;
@@ -64,9 +63,9 @@ pub(crate) fn place_of(bounds: &Bounds, list: &[u16]) -> Option<usize> {
 
 /// Makes room for a list, of which nothing more is told then. The error means want of memory.
 fn add_room(alloc: Global, bounds: &mut Bounds, list: &[u16]) -> Result<(), Memory>
-    ensures told { (ks : keys.Keys) (n : pairs.Pair) → is_told bounds.new ks n ≡ is_told bounds.old ks n }
+    ensures told { TellTheSame bounds.old bounds.new }
     ensures room { OnOk result (IsSome (known_at bounds.new list.now)) }
-    ensures rooms { (ks : keys.Keys) → IsSome (known_at bounds.old ks) → IsSome (known_at bounds.new ks) }
+    ensures rooms { KeepsRooms bounds.old bounds.new }
 {
     if bounds.contains_key(list) {
         return Ok(());
@@ -82,7 +81,7 @@ fn add_room(alloc: Global, bounds: &mut Bounds, list: &[u16]) -> Result<(), Memo
 
 /// Makes room for each list that a list begins with. The error means want of memory.
 pub(crate) fn add_rooms(alloc: Global, bounds: &mut Bounds, list: &[u16]) -> Result<(), Memory>
-    ensures told { (ks : keys.Keys) (n : pairs.Pair) → is_told bounds.new ks n ≡ is_told bounds.old ks n }
+    ensures told { TellTheSame bounds.old bounds.new }
     ensures rooms { OnOk result ((n : ℕ) → IsSome (known_at bounds.new (take n list.now))) }
 {
     for n in 0..list.len() {
@@ -93,7 +92,7 @@ pub(crate) fn add_rooms(alloc: Global, bounds: &mut Bounds, list: &[u16]) -> Res
 
 /// What is known once a path of a cost is there too, which was put at a place if it has just these keys.
 fn lowered(known: Known, cost: Pair, at: Option<usize>) -> Known
-    ensures { (n : pairs.Pair) → is_within result.least n ≡ (is_within known.least n || is_first cost n) }
+    ensures { IsLowered known cost result }
 {
     let least = match known.least {
         Some(least) => first_of(least, cost),
@@ -108,8 +107,8 @@ fn lowered(known: Known, cost: Pair, at: Option<usize>) -> Known
 /// Notes of a list that there is a path of a cost, which was put at a place if it has just these keys.
 fn lower(bounds: &mut Bounds, list: &[u16], cost: Pair, at: Option<usize>)
     requires { IsSome (known_at bounds.old list.now) }
-    ensures here { (n : pairs.Pair) → is_told bounds.new list.now n ≡ (is_told bounds.old list.now n || is_first cost n) }
-    ensures others { (ks : keys.Keys) → ks ≢ list.now → known_at bounds.new ks ≡ known_at bounds.old ks }
+    ensures here { LowersAt bounds.old bounds.new list.now cost }
+    ensures others { ChangesOnlyList bounds.old bounds.new list.now }
     ensures room { IsSome (known_at bounds.new list.now) }
 {
     if let Some(known) = bounds.get_mut(list) {
@@ -120,7 +119,7 @@ fn lower(bounds: &mut Bounds, list: &[u16], cost: Pair, at: Option<usize>)
 /// Notes of each list that a path's keys begin with what the path costs, and where it was put.
 pub(crate) fn lower_each(bounds: &mut Bounds, list: &[u16], cost: Pair, at: usize)
     requires { (n : ℕ) → IsSome (known_at bounds.old (take n list.now)) }
-    ensures { (ks : keys.Keys) (n : pairs.Pair) → is_told bounds.new ks n ≡ (is_told bounds.old ks n || keys.covers list.now ks && is_first cost n) }
+    ensures { LowersEach bounds.old bounds.new list.now cost }
 {
     for n in 0..list.len() {
         lower(bounds, &list[..n], cost, None);

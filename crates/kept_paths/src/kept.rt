@@ -4,7 +4,7 @@ ghost use Rattle.std.specs.Prelude.{◌≡◌, ◌<◌, ◌↔◌, All, Contains
 ghost use Rattle.pareto.specs.Front as fronts;
 ghost use Rattle.pareto.specs.Front.{AreKeptOr};
 ghost use Rattle.plan_tree.specs.Views.{is_path_at_most, path};
-ghost use Rattle.kept_paths.specs.Bounds.{AreTold, IsBeaten};
+ghost use Rattle.kept_paths.specs.Bounds.{AreTold, AreToldOf, IsBeaten, TellsBeaten};
 
 use crate::bounds::{Bounds, add_rooms, beats, least_at, lower_each, place_of};
 use cost_rules::Pair;
@@ -98,7 +98,7 @@ fn keep(alloc: Global, paths: &mut Vec<Path>, bounds: &mut Bounds, made: Path) -
     ensures covered { All (fronts.IsCovered is_path_at_most paths.new.items) paths.old.items }
     ensures offered { OnOk result (Contains paths.new.items made) }
     ensures err { OnErr result (paths.new.items ≡ paths.old.items) }
-    ensures told { AreTold (map path paths.old.items) bounds.old → AreTold (map path paths.new.items) bounds.new }
+    ensures told { AreToldOf paths.old.items bounds.old → AreToldOf paths.new.items bounds.new }
 {
     let cost = Pair {
         startup: made.startup,
@@ -157,7 +157,7 @@ impl KeptPaths {
     /// parameterisation, such a path is at most each one of that cost and these keys. The error means want of memory.
     pub fn is_beaten(&self, alloc: Global, cost: Pair, by: &Keys) -> Result<bool, Memory>
         ensures sound { IfOk result (λ b. IsTrue b → IsBeaten (map path self.now) cost by.now) }
-        ensures exact { IfOk result (λ b. All (λ p. p.startup ≡ 0) (map path self.now) → IsBeaten (map path self.now) cost by.now → IsTrue b) }
+        ensures exact { IfOk result (λ b. TellsBeaten self.now cost by.now b) }
     {
         let list = numbers_of(alloc, by)?;
         Ok(beats(least_at(&self.bounds, list.as_slice()), cost))

@@ -7,10 +7,13 @@ ghost use Rattle.group_values.specs.Shapes.{GroupShape};
 
 /// The same tuples in another order give the same lines, in another order where these are not sorted, or tie.
 pub fn tuples_in_any_order_give_the_same_lines()
-    ensures { (shape : GroupShape) (ss ts : List Seen) → All (λ (s : Seen). length s.keys ≡ shape.width) ss → IsPermutation ss ts → IsPermutation (lines shape ss) (lines shape ts) }
+    ensures { (shape : GroupShape) (ss ts : List Seen) →
+        All (λ (s : Seen). length s.keys ≡ shape.width) ss → IsPermutation ss ts →
+        IsPermutation (lines shape ss) (lines shape ts) }
 {}
 
 /// Groups whose lines are sorted stand in the order of the items of ORDER BY.
 pub fn groups_are_sorted()
-    ensures { (shape : GroupShape) (ss : List Seen) → IsInOrder (one_after_other (map sorter_order shape.order)) (sorted shape.order (summaries shape ss)) }
+    ensures { (shape : GroupShape) (ss : List Seen) →
+        IsInOrder (one_after_other (map sorter_order shape.order)) (sorted shape.order (summaries shape ss)) }
 {}

@@ -1,5 +1,5 @@
 -- What a `Classes` stands for: the clause of an entry, the relations that it names, and the table of them all. Own.
-use Rattle.std.specs.Prelude.{◌≡◌, Option, Some, None, ℕ, false, cond, is_some, List, [], ◌∷◌, map, slice_index_or}
+use Rattle.std.specs.Prelude.{◌≡◌, Option, Some, None, ℕ, false, cond, is_some, List, [], ◌∷◌, map, slice_index_or, Vec, ◌++◌, Bool, nat_lt, length, ◌&&◌, flat_map, option_map}
 use Rattle.opfamily.specs.pg_value_operators_Family_TheVariants.{Integer}
 use Rattle.pg_expr.specs.declared.operand.ColRef.{ColRef}
 use Rattle.opfamily.specs.pg_value_value_SqlType.{SqlType}
@@ -14,7 +14,10 @@ use Rattle.eq_classes.specs.Classes.{Class}
 use Rattle.opfamily.specs.pg_base_rel_set_RelSet.{RelSet}
 use Rattle.opfamily.specs.pg_base_Sets.{has}
 use Rattle.pg_expr.specs.Columns.{names_rel}
-use Rattle.eq_classes.specs.Clauses.{Source, by_conjunct, by_class, by_pair, Clause, clause, inner_clause, first_in, one, Table}
+use Rattle.eq_classes.specs.Clauses.{Source, by_conjunct, by_class, by_pair, Clause, clause, inner_clause, first_in, one, Table, pair_clause, equals_constant, conjunct_clauses, each_pair, inner_clauses, constant_clauses, class_clauses}
+use Rattle.std.specs.declared.alloc.Global.{Global}
+use Rattle.pg_expr.specs.declared.expr.Expr.{Expr}
+use Rattle.eq_classes.specs.declared.classes.ClassNo.{ClassNo}
 
 -- a class of no columns: what stands where a number is none of a class
 abbrev pub blank : Class
@@ -23,6 +26,14 @@ blank = record { family = Integer; members = []; constants = []; descending = fa
 -- the class of a number
 abbrev pub class_at : List Class → ℕ → Class
 class_at cs n = slice_index_or cs n blank
+
+-- the number of a class that was found, if one was
+abbrev pub class_no : Option ClassNo → Option ℕ
+class_no = option_map (λ (n : ClassNo). n.0)
+
+-- the direction of a class: whether it is descending, and whether NULL stands first
+abbrev pub sort_direction : Class → Bool × Bool
+sort_direction c = (c.descending, c.nulls_first)
 
 -- the source of an entry's clause, with the class that the entry has by number
 abbrev pub source_of : List Class → Origin → Source
@@ -38,6 +49,30 @@ clause_of cs k = clause (view.cond k.expr) (source_of cs k.origin)
 abbrev pub clauses_of : List Class → List Listed → List Clause
 clauses_of cs ks = map (clause_of cs) ks
 
+-- the entries gain these clauses at their end
+abbrev pub Gains : List Class → Vec Listed Global → Vec Listed Global → List Clause → Type 0
+Gains cs old new ks = clauses_of cs new.items ≡ clauses_of cs old.items ++ ks
+
+-- the clause of an expression over one relation, from the class of a number
+abbrev pub own_clause : List Class → ℕ → Expr → Clause
+own_clause cs n e = clause (view.cond e) (by_class n (class_at cs n))
+
+-- the pair clause of two columns of the class of a number
+abbrev pub paired_at : List Class → ℕ → ColRef → ColRef → Clause
+paired_at cs n x y = pair_clause n (class_at cs n) x y
+
+-- those of a column with each of some others
+abbrev pub coupled : List Class → ℕ → ColRef → List ColRef → List Clause
+coupled cs n x others = map (pair_clause n (class_at cs n) x) others
+
+-- those of each of some columns with each later one
+abbrev pub pairings : List Class → ℕ → List ColRef → List Clause
+pairings cs n firsts = each_pair (pair_clause n (class_at cs n)) firsts
+
+-- a member of the class of a number with each of its constants
+abbrev pub column_constants : List Class → ℕ → ColRef → List Clause
+column_constants cs n x = map (λ v. clause (equals_constant (class_at cs n) x v) (by_class n (class_at cs n))) (class_at cs n).constants
+
 -- the clause of a member that is not the first of its relation
 abbrev pub inner_at : ℕ → Class → ColRef → List Clause
 inner_at n c x = inner_clause n c x (first_in c (one x.rel.0))
@@ -46,9 +81,41 @@ inner_at n c x = inner_clause n c x (first_in c (one x.rel.0))
 abbrev pub conjunct_at : (ColRef → SqlType) → ℕ → Cond → List Clause
 conjunct_at type_of n k = cond (is_some (equality_in type_of k)) [] (clause (as_clause type_of k) (by_conjunct n) ∷ [])
 
+-- the clause of a member of the class of a number that is not the first of its relation
+abbrev pub inner_clause_at : List Class → ℕ → ColRef → List Clause
+inner_clause_at cs n x = inner_at n (class_at cs n) x
+
+-- those of these members
+abbrev pub inner_of : List Class → ℕ → List ColRef → List Clause
+inner_of cs n members = flat_map (inner_at n (class_at cs n)) members
+
+-- those of all members of the class of a number
+abbrev pub inner_clauses_at : List Class → ℕ → List Clause
+inner_clauses_at cs n = inner_clauses n (class_at cs n)
+
+-- `member = constant` for every member and constant of the class of a number
+abbrev pub constant_clauses_at : List Class → ℕ → List Clause
+constant_clauses_at cs n = constant_clauses n (class_at cs n)
+
+-- the clauses of the class of a number
+abbrev pub class_clauses_at : List Class → ℕ → List Clause
+class_clauses_at cs n = class_clauses n (class_at cs n)
+
+-- the entries gain the clause of an expression, where it is no equality conjunct
+abbrev pub GainsConjunct : (ColRef → SqlType) → List Class → ℕ → Expr → Vec Listed Global → Vec Listed Global → Type 0
+GainsConjunct type_of cs n k old new = Gains cs old new (conjunct_at type_of n (view.cond k))
+
+-- the entries gain the clauses of those of these expressions that are no equality conjunct
+abbrev pub GainsConjuncts : (ColRef → SqlType) → List Class → Vec Expr Global → Vec Listed Global → Vec Listed Global → Type 0
+GainsConjuncts type_of cs es old new = Gains cs old new (conjunct_clauses type_of 1 (map view.cond es.items))
+
 -- the clause of a number
 abbrev pub clause_at : List Clause → ℕ → Clause
 clause_at ks n = slice_index_or ks n (clause (const True) (by_conjunct 0))
+
+-- a number is that of a clause of the table that passes a test
+abbrev pub selects : (Clause → Bool) → Table → ℕ → Bool
+selects test t k = nat_lt k (length t.clauses) && test (clause_at t.clauses k)
 
 -- the conjunct of a clause, or none where a class makes it
 abbrev pub conjunct_of : Source → Option ℕ

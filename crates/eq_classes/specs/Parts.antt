@@ -1,13 +1,15 @@
 -- The parts of a clause list, each as a test of a clause.
 -- Source: PostgreSQL, src/backend/optimizer/README (restriction and join clauses, parameterized paths); the choice of pair clauses is own.
-use Rattle.std.specs.Prelude.{ℕ, suc, Bool, true, false, not, cond, ◌&&◌, ◌||◌, nat_eq, List, [], ◌∷◌, map, slice_get, Option, Some, None}
-use Rattle.std.specs.List.{list_any}
+use Rattle.std.specs.Prelude.{ℕ, suc, Bool, true, false, not, cond, ◌&&◌, ◌||◌, nat_eq, List, [], ◌∷◌, map, slice_get, Option, Some, None, ◌≡◌, drop}
+use Rattle.std.specs.List.{list_any, cons_option}
 use Rattle.opfamily.specs.pg_base_numbers_RelNo.{RelNo}
 use Rattle.pg_expr.specs.declared.operand.ColRef.{ColRef}
 use Rattle.pg_expr.specs.Cond.{Cond}
 use Rattle.pg_expr.specs.Columns.{some_column, each_column, names_rel}
 use Rattle.eq_classes.specs.Classes.{Class}
 use Rattle.eq_classes.specs.Clauses.{Set, one, Source, by_conjunct, by_class, by_pair, Clause, first_in, has_constant}
+use Rattle.eq_classes.specs.declared.classes.ClassNo.{ClassNo}
+use Rattle.eq_classes.specs.Listing.{class_no}
 
 -- the relations of either of two sets: those of a join of them
 abbrev pub union : Set → Set → Set
@@ -28,6 +30,10 @@ names_some set e = some_column (λ x. set x.rel.0) e
 -- a class has a member in a set of relations
 abbrev pub has_in : Class → Set → Bool
 has_in c set = list_any (λ x. set x.rel.0) c.members
+
+-- a class has members in both of two sets
+abbrev pub spans : Class → Set → Set → Bool
+spans c a b = has_in c a && has_in c b
 
 -- a relation is the lowest one of a set in which a class has a member
 abbrev pub is_relation_of : Option ColRef → ℕ → Bool
@@ -79,6 +85,10 @@ is_left_out r p e (by_conjunct n) = is_param_from r p e (by_conjunct n)
 is_left_out r p e (by_class n c) = has_in c (one r) && has_in c p
 is_left_out r p e (by_pair n c l h) = has_in c (one r) && has_in c p
 
+-- a clause that a join with a scan of r leaves out, since the scan tests it or its class
+abbrev pub is_spared : ℕ → Set → Clause → Bool
+is_spared r p k = is_left_out r p k.cond k.source
+
 -- a clause of Join(A, (r, P)): a join of A with a scan of r that is given rows of P tests it, and the scan has not
 abbrev pub is_join_param : Set → ℕ → Set → Clause → Bool
 is_join_param a r p k = is_join a (one r) k && not (is_left_out r p k.cond k.source)
@@ -106,3 +116,12 @@ joining_from a b n (c ∷ cs) = cond (is_joining a b c) (n ∷ joining_from a b 
 -- the first four of a list of numbers
 abbrev pub first_four : List ℕ → List (Option ℕ)
 first_four ns = map (slice_get ns) (0 ∷ 1 ∷ 2 ∷ 3 ∷ [])
+
+-- the first four joining classes of two sets, by number
+abbrev pub first_joining : Set → Set → List Class → List (Option ℕ)
+first_joining a b cs = first_four (joining_from a b 0 cs)
+
+-- the joining classes from a number on are the one that was found, if one was, and those from the number beside it on
+abbrev pub GivesNextJoining : Set → Set → List Class → ℕ → Option ClassNo × ℕ → Type 0
+GivesNextJoining a b cs from found =
+    joining_from a b from (drop from cs) ≡ cons_option (class_no found.0) (joining_from a b found.1 (drop found.1 cs))

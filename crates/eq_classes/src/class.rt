@@ -1,18 +1,19 @@
 //! The classes, made of the groups mention by mention.
 
-ghost use Rattle.std.specs.Prelude.{◌≡◌, ◌<◌, ℕ, nat_eq, ◌||◌, AllPairs, filter, Some, ◌∷◌, [], ◌++◌, cond, find, insert, map, option_map, IfOk, OnOk, IsTrue, All, IfSome, length, ◌≤◌, ◌+◌, ◌&&◌};
+ghost use Rattle.std.specs.Prelude.{◌≡◌, ◌<◌, ℕ, nat_eq, ◌||◌, AllPairs, filter, Some, [], ◌++◌, find, option_map, IfOk, OnOk, IsTrue, All, IfSome, length, ◌≤◌, ◌+◌, ◌&&◌};
 ghost use Rattle.std.specs.List.{list_any, prefix_len};
 ghost use Rattle.opfamily.specs.pg_value_Order.{IsOfFamily};
-ghost use Rattle.pg_expr.specs.Columns.{each_column, each_column_of};
+ghost use Rattle.pg_expr.specs.Columns.{each_column};
 ghost use Rattle.pg_expr.specs.Pushed.{is_lower};
 ghost use Rattle.pg_expr.specs.Typed.{IsTyped, AreTyped};
 ghost use Rattle.pg_expr.specs.View as view;
-ghost use Rattle.eq_classes.specs.Equality.{is_column, are_equal, equality_in};
-ghost use Rattle.eq_classes.specs.Classes.{is_family, has_member, is_in, in_family, ordered_by, orders_by, AreClasses, literals, literal_in, direction_of};
+ghost use Rattle.eq_classes.specs.Equality.{is_column, are_equal};
+ghost use Rattle.eq_classes.specs.Classes.{is_in, in_family, orders_by};
 ghost use Rattle.opfamily.specs.pg_base_Sets.{has};
-ghost use Rattle.eq_classes.specs.Clauses.{has_constant, first_in, one, is_first};
+ghost use Rattle.eq_classes.specs.Clauses.{has_constant, first_in, one, is_first, as_first};
 ghost use Rattle.eq_classes.specs.Parts.{has_in, is_lowest, is_number};
-ghost use Rattle.eq_classes.specs.Building.{IsMasked, given, inserted, arranged, is_group_of, members_of, over, noted, noted_option, class_with, with_mention, mention_in, by_conjuncts, by_order, all_classes};
+ghost use Rattle.eq_classes.specs.Building.{IsMasked, inserted, arranged, is_group_of, members_of, over, noted, AreBoundBy, literal_by, with_value, with_lent, AreConstantsBy, order_direction, class_from, PlacesColumn, PlacesConjunct, PlacesItem, PlacesConjuncts, PlacesItems, AreClassesFrom};
+ghost use Rattle.std.specs.Option.{option_copied};
 
 use crate::equality::{equal_values, equality, same_column, same_family, stands_before};
 use crate::group::{Group, group_all};
@@ -146,7 +147,7 @@ impl EqClass {
 
     /// Puts a member at the end where it is the first of its relation.
     fn note_first(&self, firsts: &mut Vec<ColRef>, x: ColRef) -> Result<(), Memory>
-        ensures { OnOk result (firsts.new.items ≡ firsts.old.items ++ cond (is_first self.now x) (x ∷ []) []) }
+        ensures { OnOk result (firsts.new.items ≡ firsts.old.items ++ as_first self.now x) }
     {
         if self.is_first(x) {
             firsts.push(x)?;
@@ -286,7 +287,7 @@ fn class_literal<'a, B: Binding>(
 ) -> Option<&'a Value>
     requires bound { IsTrue (each_column (B.binds typed.now) (view.cond k.now)) }
     requires typed { IsTyped (B.type_of typed.now) (view.cond k.now) }
-    ensures value { option_map (λ v. v.now) result ≡ literal_in (over f members.now) (equality_in (B.type_of typed.now) (view.cond k.now)) }
+    ensures value { option_copied result ≡ literal_by (B.type_of typed.now) f members.now k.now }
     ensures suits { IfSome result (λ v. IsOfFamily f v.now) }
 {
     let (family, l, r) = equality(k, typed)?;
@@ -317,7 +318,7 @@ fn has_equal(f: Family, values: &[Value], v: &Value) -> bool
 fn note_value(alloc: Global, values: &mut Vec<Value>, f: Family, v: &Value) -> Result<(), Memory>
     requires each { All (IsOfFamily f) values.old.items }
     requires value { IsOfFamily f v.now }
-    ensures noted { OnOk result (values.new.items ≡ cond (list_any (are_equal f v.now) values.old.items) values.old.items (values.old.items ++ v.now ∷ [])) }
+    ensures noted { OnOk result (values.new.items ≡ with_value f v.now values.old.items) }
     ensures each { OnOk result (All (IsOfFamily f) values.new.items) }
 {
     if has_equal(f, values, v) {
@@ -336,7 +337,7 @@ fn note_literal(
 ) -> Result<(), Memory>
     requires each { All (IsOfFamily f) values.old.items }
     requires value { IfSome found (λ v. IsOfFamily f v.now) }
-    ensures noted { OnOk result (values.new.items ≡ noted_option f (option_map (λ v. v.now) found.entry) values.old.items) }
+    ensures noted { OnOk result (values.new.items ≡ with_lent f found.entry values.old.items) }
     ensures each { OnOk result (All (IsOfFamily f) values.new.items) }
 {
     match found {
@@ -354,9 +355,9 @@ fn class_constants<B: Binding>(
     f: Family,
     members: &[ColRef],
 ) -> Result<Vec<Value>, Memory>
-    requires bound { IsTrue (each_column_of (B.binds typed.now) (view.conds conjuncts.now)) }
+    requires bound { AreBoundBy (B.binds typed.now) conjuncts.now }
     requires typed { AreTyped (B.type_of typed.now) (view.conds conjuncts.now) }
-    ensures { IfOk result (λ vs. vs.items ≡ noted f (literals (given (B.type_of typed.now) conjuncts.now []) (over f members.now)) []) }
+    ensures { IfOk result (λ vs. AreConstantsBy (B.type_of typed.now) conjuncts.now f members.now vs) }
 {
     let mut values = Vec::new(alloc);
     for k in conjuncts {
@@ -382,7 +383,7 @@ fn class_direction<B: Binding>(
     members: &[ColRef],
 ) -> (bool, bool)
     requires { All (λ i. IsTrue (B.binds typed.now i.col)) order.now }
-    ensures { result ≡ direction_of (given (B.type_of typed.now) [] order.now) (over f members.now) }
+    ensures { result ≡ order_direction (B.type_of typed.now) order.now f members.now }
 {
     for item in order {
         if is_by(*item, typed, f, members) {
@@ -404,10 +405,10 @@ struct Source<'a, B: Binding> {
 
 /// The class of a column in a family.
 fn make_class<B: Binding>(from: &Source<B>, f: Family, x: ColRef) -> Result<EqClass, Memory>
-    requires bound { IsTrue (each_column_of (B.binds from.now.typed.now) (view.conds from.now.conjuncts.now)) }
+    requires bound { AreBoundBy (B.binds from.now.typed.now) from.now.conjuncts.now }
     requires typed { AreTyped (B.type_of from.now.typed.now) (view.conds from.now.conjuncts.now) }
     requires order { All (λ i. IsTrue (B.binds from.now.typed.now i.col)) from.now.order.now }
-    ensures { IfOk result (λ c. c ≡ class_with (given (B.type_of from.now.typed.now) from.now.conjuncts.now from.now.order.now) f (members_of from.now.groups.now f x)) }
+    ensures { IfOk result (λ c. c ≡ class_from B.type_of from.now f x) }
 {
     let members = class_members(from.alloc, from.groups, f, x)?;
     let rels = rels_of(&members);
@@ -437,10 +438,10 @@ fn note_mention<B: Binding>(
     f: Family,
     x: ColRef,
 ) -> Result<(), Memory>
-    requires bound { IsTrue (each_column_of (B.binds from.now.typed.now) (view.conds from.now.conjuncts.now)) }
+    requires bound { AreBoundBy (B.binds from.now.typed.now) from.now.conjuncts.now }
     requires typed { AreTyped (B.type_of from.now.typed.now) (view.conds from.now.conjuncts.now) }
     requires order { All (λ i. IsTrue (B.binds from.now.typed.now i.col)) from.now.order.now }
-    ensures { OnOk result (classes.new.items ≡ with_mention (given (B.type_of from.now.typed.now) from.now.conjuncts.now from.now.order.now) from.now.groups.now (Some (in_family x f)) classes.old.items) }
+    ensures { OnOk result (PlacesColumn B.type_of from.now f x classes.old classes.new) }
 {
     if is_placed(classes, f, x) {
         return Ok(());
@@ -456,12 +457,12 @@ fn note_conjunct<B: Binding>(
     classes: &mut Vec<EqClass>,
     k: &Expr,
 ) -> Result<(), Memory>
-    requires bound { IsTrue (each_column_of (B.binds from.now.typed.now) (view.conds from.now.conjuncts.now)) }
+    requires bound { AreBoundBy (B.binds from.now.typed.now) from.now.conjuncts.now }
     requires typed { AreTyped (B.type_of from.now.typed.now) (view.conds from.now.conjuncts.now) }
     requires order { All (λ i. IsTrue (B.binds from.now.typed.now i.col)) from.now.order.now }
     requires own_bound { IsTrue (each_column (B.binds from.now.typed.now) (view.cond k.now)) }
     requires own_typed { IsTyped (B.type_of from.now.typed.now) (view.cond k.now) }
-    ensures { OnOk result (classes.new.items ≡ with_mention (given (B.type_of from.now.typed.now) from.now.conjuncts.now from.now.order.now) from.now.groups.now (mention_in (B.type_of from.now.typed.now) (view.cond k.now)) classes.old.items) }
+    ensures { OnOk result (PlacesConjunct B.type_of from.now k.now classes.old classes.new) }
 {
     match equality(k, from.typed) {
         Some((f, l, _)) => note_mention(from, classes, f, l),
@@ -476,11 +477,11 @@ fn note_item<B: Binding>(
     classes: &mut Vec<EqClass>,
     item: OrderItem,
 ) -> Result<(), Memory>
-    requires bound { IsTrue (each_column_of (B.binds from.now.typed.now) (view.conds from.now.conjuncts.now)) }
+    requires bound { AreBoundBy (B.binds from.now.typed.now) from.now.conjuncts.now }
     requires typed { AreTyped (B.type_of from.now.typed.now) (view.conds from.now.conjuncts.now) }
     requires order { All (λ i. IsTrue (B.binds from.now.typed.now i.col)) from.now.order.now }
     requires own_bound { IsTrue (B.binds from.now.typed.now item.col) }
-    ensures noted { OnOk result (classes.new.items ≡ with_mention (given (B.type_of from.now.typed.now) from.now.conjuncts.now from.now.order.now) from.now.groups.now (ordered_by (B.type_of from.now.typed.now) item) classes.old.items) }
+    ensures noted { OnOk result (PlacesItem B.type_of from.now item classes.old classes.new) }
     ensures narrow { item.col.col.0 < 256 }
 {
     let f = default_family(from.typed.typed(item.col));
@@ -488,10 +489,10 @@ fn note_item<B: Binding>(
 }
 
 fn note_conjuncts<B: Binding>(from: &Source<B>, classes: &mut Vec<EqClass>) -> Result<(), Memory>
-    requires bound { IsTrue (each_column_of (B.binds from.now.typed.now) (view.conds from.now.conjuncts.now)) }
+    requires bound { AreBoundBy (B.binds from.now.typed.now) from.now.conjuncts.now }
     requires typed { AreTyped (B.type_of from.now.typed.now) (view.conds from.now.conjuncts.now) }
     requires order { All (λ i. IsTrue (B.binds from.now.typed.now i.col)) from.now.order.now }
-    ensures { OnOk result (classes.new.items ≡ by_conjuncts (given (B.type_of from.now.typed.now) from.now.conjuncts.now from.now.order.now) from.now.groups.now (map view.cond from.now.conjuncts.now) classes.old.items) }
+    ensures { OnOk result (PlacesConjuncts B.type_of from.now classes.old classes.new) }
 {
     for k in from.conjuncts {
         note_conjunct(from, classes, k)?;
@@ -500,10 +501,10 @@ fn note_conjuncts<B: Binding>(from: &Source<B>, classes: &mut Vec<EqClass>) -> R
 }
 
 fn note_items<B: Binding>(from: &Source<B>, classes: &mut Vec<EqClass>) -> Result<(), Memory>
-    requires bound { IsTrue (each_column_of (B.binds from.now.typed.now) (view.conds from.now.conjuncts.now)) }
+    requires bound { AreBoundBy (B.binds from.now.typed.now) from.now.conjuncts.now }
     requires typed { AreTyped (B.type_of from.now.typed.now) (view.conds from.now.conjuncts.now) }
     requires order { All (λ i. IsTrue (B.binds from.now.typed.now i.col)) from.now.order.now }
-    ensures noted { OnOk result (classes.new.items ≡ by_order (given (B.type_of from.now.typed.now) from.now.conjuncts.now from.now.order.now) from.now.groups.now from.now.order.now classes.old.items) }
+    ensures noted { OnOk result (PlacesItems B.type_of from.now classes.old classes.new) }
     ensures narrow { OnOk result (All (λ i. i.col.col.0 < 256) from.now.order.now) }
 {
     for item in from.order {
@@ -519,10 +520,10 @@ pub fn make_classes<B: Binding>(
     order: &[OrderItem],
     typed: &B,
 ) -> Result<Vec<EqClass>, Memory>
-    requires bound { IsTrue (each_column_of (B.binds typed.now) (view.conds conjuncts.now)) }
+    requires bound { AreBoundBy (B.binds typed.now) conjuncts.now }
     requires typed { AreTyped (B.type_of typed.now) (view.conds conjuncts.now) }
     requires order { All (λ i. IsTrue (B.binds typed.now i.col)) order.now }
-    ensures built { IfOk result (λ cs. AreClasses (given (B.type_of typed.now) conjuncts.now order.now) cs.items) }
+    ensures built { IfOk result (AreClassesFrom (B.type_of typed.now) conjuncts.now order.now) }
     ensures narrow { IfOk result (λ _. All (λ i. i.col.col.0 < 256) order.now) }
 {
     let groups = group_all(alloc, conjuncts, typed)?;

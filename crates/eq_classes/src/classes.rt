@@ -4,7 +4,7 @@ ghost use Rattle.std.specs.Prelude.{◌≡◌, ◌<◌, ◌≤◌, length, All, 
 ghost use Rattle.pg_expr.specs.Columns.{rels_below};
 ghost use Rattle.pg_expr.specs.View as view;
 ghost use Rattle.eq_classes.specs.Listing.{AreNamed};
-ghost use Rattle.eq_classes.specs.Parts.{is_number};
+ghost use Rattle.eq_classes.specs.Parts.{is_number, spans, is_spared, GivesNextJoining, first_joining};
 
 use crate::class::{EqClass, make_classes};
 use crate::clause_set::{ClauseSet, note};
@@ -55,25 +55,24 @@ impl Model for Classes {
 }
 
 impl Classes {
-    ghost use Rattle.std.specs.Prelude.{List, true, map, drop, ℕ, nat_lt, IfSome, IfNone, option_map};
-    ghost use Rattle.std.specs.List.{cons_option};
+    ghost use Rattle.std.specs.Prelude.{List, true, map, drop, ℕ, IfSome, IfNone};
     ghost use Rattle.opfamily.specs.pg_base_Sets.{has};
     ghost use Rattle.opfamily.specs.pg_base_limits_TheConstants.{MOST_CONJUNCTS};
     ghost use Rattle.eq_classes.specs.Classes.{in_family, class_number, conjuncts_in};
     ghost use Rattle.eq_classes.specs.Clauses.{Set, one, first_in, has_constant};
     ghost use Rattle.eq_classes.specs.Parts as parts;
-    ghost use Rattle.eq_classes.specs.Parts.{is_lowest, are_lowest, is_all, is_base, is_join, is_param, is_param_from, is_left_out, is_join_param, is_joining, joining_from, first_four};
+    ghost use Rattle.eq_classes.specs.Parts.{is_lowest, are_lowest, is_all, is_base, is_join, is_param, is_left_out, is_join_param};
     ghost use Rattle.pg_expr.specs.AtomSets.{contains};
-    ghost use Rattle.eq_classes.specs.Listing.{class_at, clause_at, clause_of, conjunct_of, pair_class_of};
+    ghost use Rattle.eq_classes.specs.Listing.{class_no, selects, sort_direction, class_at, clause_at, clause_of, conjunct_of, pair_class_of};
     ghost use Rattle.opfamily.specs.pg_value_value_Value.{Value};
     ghost use Rattle.opfamily.specs.pg_value_Truths.{is_true};
     ghost use Rattle.pg_expr.specs.declared.operand.ColRef.{ColRef};
     ghost use Rattle.pg_expr.specs.Cond.{Cond, conds_of};
-    ghost use Rattle.pg_expr.specs.Columns.{each_column, each_column_of, names_rel};
+    ghost use Rattle.pg_expr.specs.Columns.{each_column, names_rel};
     ghost use Rattle.pg_expr.specs.Truths.{truth_of_all};
     ghost use Rattle.pg_expr.specs.Typed.{IsTyped, AreTyped};
-    ghost use Rattle.eq_classes.specs.Building.{given};
-    ghost use Rattle.eq_classes.specs.Holding.{IsClassTable, Fits, hold};
+    ghost use Rattle.eq_classes.specs.Building.{AreBoundBy, AreOfRelationsBelow};
+    ghost use Rattle.eq_classes.specs.Holding.{Fits, hold, IsTableFrom};
 
     /// The classes and clauses of conjuncts in pushed form, none of them an AND, and an ORDER BY. The conditions are
     /// that each conjunct is well typed, that each column is bound and of a relation below 16, and that there are at
@@ -84,13 +83,13 @@ impl Classes {
         order: &[OrderItem],
         typed: &B,
     ) -> Result<Classes, Memory>
-        requires bound { IsTrue (each_column_of (B.binds typed.now) (view.conds conjuncts.items.items)) }
+        requires bound { AreBoundBy (B.binds typed.now) conjuncts.items.items }
         requires typed { AreTyped (B.type_of typed.now) (view.conds conjuncts.items.items) }
         requires order { All (λ i. IsTrue (B.binds typed.now i.col)) order.now }
-        requires rels { IsTrue (each_column_of (λ c. nat_lt c.rel.0 16) (view.conds conjuncts.items.items)) }
+        requires rels { AreOfRelationsBelow 16 conjuncts.items.items }
         requires order_rels { All (λ i. i.col.rel.0 < 16) order.now }
         requires few { length conjuncts.items.items ≤ MOST_CONJUNCTS }
-        ensures table { IfOk result (λ t. IsClassTable (given (B.type_of typed.now) conjuncts.items.items order.now) t) }
+        ensures table { IfOk result (λ t. IsTableFrom (B.type_of typed.now) conjuncts order.now t) }
         ensures means { IfOk result (λ t. (ws : List Cond) (b : ColRef → Value) (set : Set) →
             map view.cond conjuncts.items.items ≡ conjuncts_in ws → All (IsTyped (B.type_of typed.now)) ws →
             Fits (B.type_of typed.now) b → set 0 ≡ true → All (λ w. each_column (λ x. set x.rel.0) w ≡ true) ws →
@@ -105,13 +104,13 @@ impl Classes {
         order: &[OrderItem],
         typed: &B,
     ) -> Result<Classes, Memory>
-        requires bound { IsTrue (each_column_of (B.binds typed.now) (view.conds conjuncts.items.items)) }
+        requires bound { AreBoundBy (B.binds typed.now) conjuncts.items.items }
         requires typed { AreTyped (B.type_of typed.now) (view.conds conjuncts.items.items) }
         requires order { All (λ i. IsTrue (B.binds typed.now i.col)) order.now }
-        requires rels { IsTrue (each_column_of (λ c. nat_lt c.rel.0 16) (view.conds conjuncts.items.items)) }
+        requires rels { AreOfRelationsBelow 16 conjuncts.items.items }
         requires order_rels { All (λ i. i.col.rel.0 < 16) order.now }
         requires few { length conjuncts.items.items ≤ MOST_CONJUNCTS }
-        ensures { IfOk result (λ t. IsClassTable (given (B.type_of typed.now) conjuncts.items.items order.now) t) }
+        ensures { IfOk result (λ t. IsTableFrom (B.type_of typed.now) conjuncts order.now t) }
     {
         let classes = make_classes(alloc, conjuncts.items(), order, typed)?;
         let mut clauses = Vec::new(alloc);
@@ -170,7 +169,7 @@ impl Classes {
     /// The class whose pair clause of two relations this is. None exactly where it is no pair clause.
     pub fn pair_class(&self, n: u16) -> Option<ClassNo>
         requires { n < length self.now.clauses }
-        ensures { option_map (λ c. c.0) result ≡ pair_class_of (clause_at self.now.clauses n).source }
+        ensures { class_no result ≡ pair_class_of (clause_at self.now.clauses n).source }
     {
         match self.listed(n).origin {
             Origin::Pair(c, _, _) => Some(ClassNo(c)),
@@ -180,7 +179,7 @@ impl Classes {
 
     /// The class of a column in a family. None exactly where the column is in no class of the family.
     pub fn class_of(&self, c: ColRef, f: Family) -> Option<ClassNo>
-        ensures class { option_map (λ n. n.0) result ≡ class_number self.now.classes (in_family c f) }
+        ensures class { class_no result ≡ class_number self.now.classes (in_family c f) }
         ensures within { IfSome result (λ n. n.0 < length self.now.classes) }
     {
         for n in 0..self.classes.len() {
@@ -210,7 +209,7 @@ impl Classes {
     /// The direction of a class: whether it is descending, and whether NULL stands first.
     pub fn direction(&self, c: ClassNo) -> (bool, bool)
         requires { c.0 < length self.now.classes }
-        ensures { result ≡ ((class_at self.now.classes c.0).descending, (class_at self.now.classes c.0).nulls_first) }
+        ensures { result ≡ sort_direction (class_at self.now.classes c.0) }
     {
         class_of_number(&self.classes, c.0).direction()
     }
@@ -242,7 +241,7 @@ impl Classes {
 
     /// Whether a class has members in both sets.
     fn has_in_both(&self, n: u16, a: RelSet, b: RelSet) -> bool
-        ensures { result ≡ parts.has_in (class_at self.now.classes n) (has a.0) && parts.has_in (class_at self.now.classes n) (has b.0) }
+        ensures { result ≡ spans (class_at self.now.classes n) (has a.0) (has b.0) }
     {
         match self.classes.get(n as usize) {
             Some(class) => class.has_in(a) && class.has_in(b),
@@ -321,7 +320,7 @@ impl Classes {
     fn is_left_out(&self, n: u16, r: RelNo, p: RelSet) -> bool
         requires number { n < length self.now.clauses }
         requires below { r.0 < 16 }
-        ensures { result ≡ is_left_out r.0 (has p.0) (clause_at self.now.clauses n).cond (clause_at self.now.clauses n).source }
+        ensures { result ≡ is_spared r.0 (has p.0) (clause_at self.now.clauses n) }
     {
         match self.listed(n).origin {
             Origin::Conjunct(_) => self.is_in_param(n, r, p),
@@ -342,7 +341,7 @@ impl Classes {
     #[tactic(auto, using(crate::proofs::WordLemmas::grows))]
     pub fn base_clauses(&self, r: RelNo) -> ClauseSet
         requires { r.0 < 16 }
-        ensures { (k : ℕ) → contains result k ≡ nat_lt k (length self.now.clauses) && is_base r.0 (clause_at self.now.clauses k) }
+        ensures { (k : ℕ) → contains result k ≡ selects (is_base r.0) self.now k }
     {
         let mut set = ClauseSet::empty();
         for n in 0..self.count() {
@@ -356,7 +355,7 @@ impl Classes {
     #[tactic(auto, using(crate::proofs::WordLemmas::grows))]
     pub fn param_clauses(&self, r: RelNo, p: RelSet) -> ClauseSet
         requires { r.0 < 16 }
-        ensures { (k : ℕ) → contains result k ≡ nat_lt k (length self.now.clauses) && is_param r.0 (has p.0) (clause_at self.now.clauses k) }
+        ensures { (k : ℕ) → contains result k ≡ selects (is_param r.0 (has p.0)) self.now k }
     {
         let mut set = ClauseSet::empty();
         for n in 0..self.count() {
@@ -369,7 +368,7 @@ impl Classes {
     /// The clauses that join two sets.
     #[tactic(auto, using(crate::proofs::WordLemmas::grows))]
     pub fn join_clauses(&self, a: RelSet, b: RelSet) -> ClauseSet
-        ensures { (k : ℕ) → contains result k ≡ nat_lt k (length self.now.clauses) && is_join (has a.0) (has b.0) (clause_at self.now.clauses k) }
+        ensures { (k : ℕ) → contains result k ≡ selects (is_join (has a.0) (has b.0)) self.now k }
     {
         let mut set = ClauseSet::empty();
         for n in 0..self.count() {
@@ -383,7 +382,7 @@ impl Classes {
     #[tactic(auto, using(crate::proofs::WordLemmas::grows))]
     pub fn join_param_clauses(&self, a: RelSet, r: RelNo, p: RelSet) -> ClauseSet
         requires { r.0 < 16 }
-        ensures { (k : ℕ) → contains result k ≡ nat_lt k (length self.now.clauses) && is_join_param (has a.0) r.0 (has p.0) (clause_at self.now.clauses k) }
+        ensures { (k : ℕ) → contains result k ≡ selects (is_join_param (has a.0) r.0 (has p.0)) self.now k }
     {
         let mut set = ClauseSet::empty();
         for n in 0..self.count() {
@@ -396,7 +395,7 @@ impl Classes {
     /// The clauses inside a set.
     #[tactic(auto, using(crate::proofs::WordLemmas::grows))]
     pub fn all_clauses(&self, s: RelSet) -> ClauseSet
-        ensures { (k : ℕ) → contains result k ≡ nat_lt k (length self.now.clauses) && is_all (has s.0) (clause_at self.now.clauses k) }
+        ensures { (k : ℕ) → contains result k ≡ selects (is_all (has s.0)) self.now k }
     {
         let mut set = ClauseSet::empty();
         for n in 0..self.count() {
@@ -409,7 +408,7 @@ impl Classes {
     /// The first joining class of two sets from a number on, with the number after it.
     fn next_joining(&self, a: RelSet, b: RelSet, from: usize) -> (Option<ClassNo>, usize)
         requires { from ≤ length self.now.classes }
-        ensures next { joining_from (has a.0) (has b.0) from (drop from self.now.classes) ≡ cons_option (option_map (λ n. n.0) result.0) (joining_from (has a.0) (has b.0) result.1 (drop result.1 self.now.classes)) }
+        ensures next { GivesNextJoining (has a.0) (has b.0) self.now.classes from result }
         ensures within { result.1 ≤ length self.now.classes }
         ensures found { IfSome result.0 (λ n. n.0 < length self.now.classes) }
         ensures none { IfNone result.0 (result.1 ≡ length self.now.classes) }
@@ -427,7 +426,7 @@ impl Classes {
 
     /// The first four joining classes of two sets: those without a constant that have members in both, by number.
     pub fn joining(&self, a: RelSet, b: RelSet) -> [Option<ClassNo>; 4]
-        ensures joining { map (option_map (λ n. n.0)) result ≡ first_four (joining_from (has a.0) (has b.0) 0 self.now.classes) }
+        ensures joining { map class_no result ≡ first_joining (has a.0) (has b.0) self.now.classes }
         ensures within { All (λ found. IfSome found (λ n. n.0 < length self.now.classes)) result }
     {
         let (first, after) = self.next_joining(a, b, 0);

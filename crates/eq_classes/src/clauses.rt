@@ -1,13 +1,15 @@
 //! The numbered clause list.
 
-ghost use Rattle.std.specs.Prelude.{◌≡◌, ◌<◌, ◌≤◌, ◌+◌, ◌^◌, Some, ◌∷◌, [], ◌++◌, map, filter, flat_map, length, IfOk, IfSome, IfNone, OnOk, IsTrue};
-ghost use Rattle.pg_expr.specs.Columns.{each_column, each_column_of};
+ghost use Rattle.std.specs.Prelude.{◌≡◌, ◌<◌, ◌+◌, ◌^◌, Some, ◌∷◌, [], length, IfSome, IfNone, OnOk, IsTrue};
+ghost use Rattle.pg_expr.specs.Columns.{each_column};
 ghost use Rattle.pg_expr.specs.Cond.{is_not_null};
 ghost use Rattle.pg_expr.specs.Typed.{IsTyped, AreTyped};
 ghost use Rattle.pg_expr.specs.View as view;
 ghost use Rattle.eq_classes.specs.Equality as specs_equality;
-ghost use Rattle.eq_classes.specs.Clauses.{clause, by_conjunct, by_class, by_pair, equals, equals_constant, first_in, one, is_first, inner_clause, each_pair, pair_clause, has_constant, conjunct_clauses, constant_clauses, inner_clauses, pair_clauses, class_clauses, clauses_from};
-ghost use Rattle.eq_classes.specs.Listing.{class_at, clauses_of, inner_at, conjunct_at};
+ghost use Rattle.eq_classes.specs.Clauses.{clause, one, clauses_from};
+ghost use Rattle.eq_classes.specs.Listing.{class_at, Gains, own_clause, paired_at, column_constants, inner_clause_at, inner_of, inner_clauses_at, constant_clauses_at, class_clauses_at, coupled, pairings, GainsConjunct, GainsConjuncts};
+ghost use Rattle.eq_classes.specs.Equality.{listed_as};
+ghost use Rattle.eq_classes.specs.Building.{AreBoundBy};
 
 use crate::class::EqClass;
 use crate::equality::{equality, equality_operator, family_of_equality, same_column};
@@ -62,8 +64,8 @@ fn as_clause<B: Binding>(k: Expr, typed: &B) -> Expr
 /// The column of `x = x`.
 fn self_equality<B: Binding>(k: &Expr, typed: &B) -> Option<ColRef>
     requires { IsTrue (each_column (B.binds typed.now) (view.cond k.now)) }
-    ensures some { IfSome result (λ c. specs_equality.as_clause (B.type_of typed.now) (view.cond k.now) ≡ is_not_null c) }
-    ensures none { IfNone result (specs_equality.as_clause (B.type_of typed.now) (view.cond k.now) ≡ view.cond k.now) }
+    ensures some { IfSome result (λ c. listed_as (B.type_of typed.now) k.now ≡ is_not_null c) }
+    ensures none { IfNone result (listed_as (B.type_of typed.now) k.now ≡ view.cond k.now) }
 {
     match k {
         Expr::Compare(op, l, r) => match l {
@@ -84,7 +86,7 @@ fn self_equality<B: Binding>(k: &Expr, typed: &B) -> Option<ColRef>
 }
 
 fn push_own(out: &mut Vec<Listed>, classes: &[EqClass], n: u16, expr: Expr) -> Result<(), Memory>
-    ensures { OnOk result (clauses_of classes.now out.new.items ≡ clauses_of classes.now out.old.items ++ clause (view.cond expr) (by_class n (class_at classes.now n)) ∷ []) }
+    ensures { OnOk result (Gains classes.now out.old out.new (own_clause classes.now n expr ∷ [])) }
 {
     out.push(Listed {
         expr,
@@ -101,7 +103,7 @@ fn push_pair(
     y: ColRef,
 ) -> Result<(), Memory>
     requires { n < length classes.now }
-    ensures { OnOk result (clauses_of classes.now out.new.items ≡ clauses_of classes.now out.old.items ++ pair_clause n (class_at classes.now n) x y ∷ []) }
+    ensures { OnOk result (Gains classes.now out.old out.new (paired_at classes.now n x y ∷ [])) }
 {
     let op = equality_operator(class_of_number(classes, n).family());
     out.push(Listed {
@@ -120,7 +122,7 @@ fn constant_row(
     x: ColRef,
 ) -> Result<(), Memory>
     requires { n < length classes.now }
-    ensures { OnOk result (clauses_of classes.now out.new.items ≡ clauses_of classes.now out.old.items ++ map (λ v. clause (equals_constant (class_at classes.now n) x v) (by_class n (class_at classes.now n))) (class_at classes.now n).constants) }
+    ensures { OnOk result (Gains classes.now out.old out.new (column_constants classes.now n x)) }
 {
     let class = class_of_number(classes, n);
     for v in class.constants() {
@@ -143,7 +145,7 @@ fn all_constants(
     n: u16,
 ) -> Result<(), Memory>
     requires { n < length classes.now }
-    ensures { OnOk result (clauses_of classes.now out.new.items ≡ clauses_of classes.now out.old.items ++ constant_clauses n (class_at classes.now n)) }
+    ensures { OnOk result (Gains classes.now out.old out.new (constant_clauses_at classes.now n)) }
 {
     for x in class_of_number(classes, n).members() {
         constant_row(alloc, out, classes, n, *x)?;
@@ -154,7 +156,7 @@ fn all_constants(
 /// `first member of its relation = member`, where they differ.
 fn inner_row(out: &mut Vec<Listed>, classes: &[EqClass], n: u16, x: ColRef) -> Result<(), Memory>
     requires { n < length classes.now }
-    ensures { OnOk result (clauses_of classes.now out.new.items ≡ clauses_of classes.now out.old.items ++ inner_at n (class_at classes.now n) x) }
+    ensures { OnOk result (Gains classes.now out.old out.new (inner_clause_at classes.now n x)) }
 {
     let class = class_of_number(classes, n);
     match class.first_of(x.rel) {
@@ -181,7 +183,7 @@ fn inner_rows(
     members: &[ColRef],
 ) -> Result<(), Memory>
     requires { n < length classes.now }
-    ensures { OnOk result (clauses_of classes.now out.new.items ≡ clauses_of classes.now out.old.items ++ flat_map (inner_at n (class_at classes.now n)) members.now) }
+    ensures { OnOk result (Gains classes.now out.old out.new (inner_of classes.now n members.now)) }
 {
     for x in members {
         inner_row(out, classes, n, *x)?;
@@ -191,7 +193,7 @@ fn inner_rows(
 
 fn all_inner(out: &mut Vec<Listed>, classes: &[EqClass], n: u16) -> Result<(), Memory>
     requires { n < length classes.now }
-    ensures { OnOk result (clauses_of classes.now out.new.items ≡ clauses_of classes.now out.old.items ++ inner_clauses n (class_at classes.now n)) }
+    ensures { OnOk result (Gains classes.now out.old out.new (inner_clauses_at classes.now n)) }
 {
     inner_rows(out, classes, n, class_of_number(classes, n).members())
 }
@@ -204,7 +206,7 @@ fn pair_row(
     others: &[ColRef],
 ) -> Result<(), Memory>
     requires { n < length classes.now }
-    ensures { OnOk result (clauses_of classes.now out.new.items ≡ clauses_of classes.now out.old.items ++ map (pair_clause n (class_at classes.now n) x) others.now) }
+    ensures { OnOk result (Gains classes.now out.old out.new (coupled classes.now n x others.now)) }
 {
     for y in others {
         push_pair(out, classes, n, x, *y)?;
@@ -219,7 +221,7 @@ fn each_with_later(
     firsts: &[ColRef],
 ) -> Result<(), Memory>
     requires { n < length classes.now }
-    ensures { OnOk result (clauses_of classes.now out.new.items ≡ clauses_of classes.now out.old.items ++ each_pair (pair_clause n (class_at classes.now n)) firsts.now) }
+    ensures { OnOk result (Gains classes.now out.old out.new (pairings classes.now n firsts.now)) }
 {
     for i in 0..firsts.len() {
         pair_row(out, classes, n, firsts[i], &firsts[i + 1..])?;
@@ -235,7 +237,7 @@ fn add_class(
     n: u16,
 ) -> Result<(), Memory>
     requires { n < length classes.now }
-    ensures { OnOk result (clauses_of classes.now out.new.items ≡ clauses_of classes.now out.old.items ++ class_clauses n (class_at classes.now n)) }
+    ensures { OnOk result (Gains classes.now out.old out.new (class_clauses_at classes.now n)) }
 {
     let class = class_of_number(classes, n);
     if class.has_constant() {
@@ -249,7 +251,7 @@ fn add_class(
 /// The clauses of all classes, class by class.
 pub fn add_classes(alloc: Global, out: &mut Vec<Listed>, classes: &[EqClass]) -> Result<(), Memory>
     requires { length classes.now < 2 ^ 16 }
-    ensures { OnOk result (clauses_of classes.now out.new.items ≡ clauses_of classes.now out.old.items ++ clauses_from 0 classes.now) }
+    ensures { OnOk result (Gains classes.now out.old out.new (clauses_from 0 classes.now)) }
 {
     for n in 0..classes.len() {
         add_class(alloc, out, classes, n as u16)?;
@@ -268,7 +270,7 @@ fn add_conjunct<B: Binding>(
 ) -> Result<(), Memory>
     requires bound { IsTrue (each_column (B.binds typed.now) (view.cond k)) }
     requires typed { IsTyped (B.type_of typed.now) (view.cond k) }
-    ensures { OnOk result (clauses_of classes.now out.new.items ≡ clauses_of classes.now out.old.items ++ conjunct_at (B.type_of typed.now) n (view.cond k)) }
+    ensures { OnOk result (GainsConjunct (B.type_of typed.now) classes.now n k out.old out.new) }
 {
     if equality(&k, typed).is_some() {
         return Ok(());
@@ -288,10 +290,10 @@ pub fn add_conjuncts<B: Binding>(
     conjuncts: Vec<Expr>,
     typed: &B,
 ) -> Result<(), Memory>
-    requires bound { IsTrue (each_column_of (B.binds typed.now) (view.conds conjuncts.items)) }
+    requires bound { AreBoundBy (B.binds typed.now) conjuncts.items }
     requires typed { AreTyped (B.type_of typed.now) (view.conds conjuncts.items) }
     requires few { length conjuncts.items < 2 ^ 15 }
-    ensures { OnOk result (clauses_of classes.now out.new.items ≡ clauses_of classes.now out.old.items ++ conjunct_clauses (B.type_of typed.now) 1 (map view.cond conjuncts.items)) }
+    ensures { OnOk result (GainsConjuncts (B.type_of typed.now) classes.now conjuncts out.old out.new) }
 {
     let mut n = 1;
     for k in conjuncts {

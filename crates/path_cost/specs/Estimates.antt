@@ -1,21 +1,24 @@
 -- Estimated rows. Own, in the manner of PostgreSQL's clauselist_selectivity, set_baserel_size_estimates and
 -- get_parameterized_baserel_size.
-use Rattle.std.specs.Prelude.{ℕ, ◌+◌, ◌*◌, Bool, false, ◌&&◌, ◌||◌, cond, nat_eq, not, List, [], ◌∷◌, map, filter, fold, length, Option, Some, None}
+use Rattle.std.specs.Prelude.{ℕ, ◌+◌, ◌*◌, Bool, false, ◌&&◌, ◌||◌, cond, nat_eq, not, List, [], ◌∷◌, map, filter, fold, length, Option, Some, None, nat_lt}
 use Rattle.std.specs.List.{list_any, range_with_len}
 use Rattle.std.specs.Int.{div_ceil}
 use Rattle.pg_base.specs.declared.numbers.IndexNo.{IndexNo}
 use Rattle.pg_expr.specs.AtomSets.{contains}
 use Rattle.pg_expr.specs.Cond.{Cond}
+use Rattle.pg_expr.specs.View as view
 use Rattle.catalog.specs.Contents.{Contents, index_at}
 use Rattle.catalog.specs.Indexes.{Index}
 use Rattle.catalog.specs.Range.{Range, relation_at}
 use Rattle.catalog.specs.Tables.{rows_of, pages_of}
 use Rattle.eq_classes.specs.Clauses.{Clause, Set, Table}
-use Rattle.eq_classes.specs.Listing.{pair_class_of}
+use Rattle.eq_classes.specs.Listing.{pair_class_of, clause_at}
 use Rattle.eq_classes.specs.Parts.{is_all, is_base, is_join, is_param}
 use Rattle.cost_rules.specs.Powers.{clamped}
 use Rattle.path_cost.specs.declared.shares.TheConstants.{ALL_ROWS}
 use Rattle.path_cost.specs.Selectivity.{selectivity}
+use Rattle.pg_expr.specs.declared.expr.Expr.{Expr}
+use Rattle.eq_classes.specs.declared.classes.ClassNo.{ClassNo}
 
 -- the conditions of the clauses that pass a test, by their numbers
 abbrev pub conditions_where : (Clause → Bool) → List Clause → List Cond
@@ -42,6 +45,14 @@ is_pair_by (Some n) keys = list_any (nat_eq n) keys
 -- a clause is a pair clause of one of some classes: a merge by these finds the pairs that meet it
 abbrev pub is_pair_of : List ℕ → Clause → Bool
 is_pair_of keys k = is_pair_by (pair_class_of k.source) keys
+
+-- a number is that of a pair clause of one of some classes
+abbrev pub is_pair_at : List ClassNo → Table → ℕ → Bool
+is_pair_at keys t n = is_pair_of (map (λ (k : ClassNo). k.0) keys) (clause_at t.clauses n)
+
+-- a number is that of a pair clause of one of some classes that joins two sets
+abbrev pub is_keyed : Set → Set → List ClassNo → Table → ℕ → Bool
+is_keyed a b keys t n = nat_lt n (length t.clauses) && (is_join a b (clause_at t.clauses n) && is_pair_at keys t n)
 
 -- a number is in one of two sets of clauses
 abbrev pub either : List ℕ → List ℕ → ℕ → Bool
@@ -76,6 +87,14 @@ module _ (c : Contents) (range : Range) where
   abbrev pub kept : ℕ → List Cond → ℕ
   kept n es = fold (λ m e. share_of_rows m (selectivity c range e)) n es
 
+  -- so many rows after the clauses of a set of numbers
+  abbrev pub kept_by : ℕ → (ℕ → Bool) → Table → ℕ
+  kept_by n chosen t = kept n (conditions_from 0 chosen t.clauses)
+
+  -- so many rows after those of some conditions that have a number of a set
+  abbrev pub kept_by_parts : ℕ → (ℕ → Bool) → List Expr → ℕ
+  kept_by_parts n chosen es = kept n (picked_from 0 chosen (map view.cond es))
+
   -- the rows of a product of relations, after some rows
   abbrev pub product_from : ℕ → List ℕ → ℕ
   product_from n rs = fold (λ m r. clamped (m * table_rows c range r)) n rs
@@ -95,6 +114,10 @@ module _ (c : Contents) (range : Range) where
   -- the pairs of rows of two sets that are equal in the classes of a list
   abbrev pub pairs : Table → Set → Set → List ℕ → ℕ
   pairs t a b keys = kept (clamped (set_rows t a * set_rows t b)) (conditions_where (λ k. is_join a b k && is_pair_of keys k) t.clauses)
+
+-- the pairs of rows of two sets that are equal in some classes
+abbrev pub pairs_by : Contents → Range → Table → Set → Set → List ClassNo → ℕ
+pairs_by c range t a b keys = pairs c range t a b (map (λ (k : ClassNo). k.0) keys)
 
 -- the entries of an index: the rows of its table at which its predicate, as one condition, is taken to be True; without
 -- a predicate all rows

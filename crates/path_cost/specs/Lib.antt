@@ -4,5 +4,6 @@ pub mod Known
 pub mod Relations
 pub mod Estimates
 pub mod Costs
+pub mod Cut
 pub mod Limits
 pub mod NumberTables

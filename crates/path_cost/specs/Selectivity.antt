@@ -12,12 +12,14 @@ use Rattle.pg_expr.specs.declared.operand.ColRef.{ColRef}
 use Rattle.pg_expr.specs.declared.operand.Operand.{Operand}
 use Rattle.pg_expr.specs.declared.operand.Operand.TheVariants.{Col, Lit}
 use Rattle.pg_expr.specs.Cond.{Cond, compare, is_null, is_not_null, bool_col, const, all_of, any_of, negation, Conds, no_conds, cond_and}
+use Rattle.pg_expr.specs.View as view
 use Rattle.catalog.specs.Contents.{Contents}
 use Rattle.catalog.specs.Range.{Range, column_at}
 use Rattle.catalog.specs.Statistics.{Common, Statistics, shares}
 use Rattle.catalog.specs.declared.limits.TheConstants.{WHOLE_SHARE}
 use Rattle.path_cost.specs.declared.shares.TheConstants.{ALL_ROWS, THIRD, HALF, UNKNOWN_NULLS, PER_SHARE}
 use Rattle.path_cost.specs.Columns.{known, stats_of}
+use Rattle.pg_expr.specs.declared.expr.Expr.{Expr}
 
 -- a comparison of two values is True
 abbrev pub holds : Op → Value → Value → Bool
@@ -36,9 +38,13 @@ abbrev pub equal_by : Statistics → Option ℕ → ℕ
 equal_by s (Some share) = PER_SHARE * share
 equal_by s None = PER_SHARE * uncommon s / max 1 (s.distinct - length s.common)
 
+-- the share of the common value that equals a literal, where one does
+abbrev pub share_among : List Common → Value → Option ℕ
+share_among common v = option_map (λ (p : Common). p.1) (find (λ (p : Common). holds Eq p.0 v) common)
+
 -- column = literal in parts per 10^9, the literal looked for among the common values (var_eq_const)
 abbrev pub equal_to : Statistics → Value → ℕ
-equal_to s v = equal_by s (option_map (λ (p : Common). p.1) (find (λ (p : Common). holds Eq p.0 v) s.common))
+equal_to s v = equal_by s (share_among s.common v)
 
 -- how many bounds a literal has below it, for < and >=, or not above it, for <= and >
 abbrev pub passing : Op → Op
@@ -154,3 +160,11 @@ module _ (c : Contents) (range : Range) where
     pub of_any : ℕ → Conds → ℕ
     of_any a no_conds = a
     of_any a (cond_and e es) = of_any (or_share a (selectivity e)) es
+
+  -- the share at which all conditions are True
+  abbrev pub all_share : List Expr → ℕ
+  all_share es = of_all ALL_ROWS (view.conds es)
+
+  -- the share at which some condition is True
+  abbrev pub any_share : List Expr → ℕ
+  any_share es = of_any 0 (view.conds es)

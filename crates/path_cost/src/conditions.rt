@@ -2,14 +2,15 @@
 
 ghost use Rattle.std.specs.Prelude.{◌≡◌, ◌≤◌, IsTrue};
 ghost use Rattle.pg_value.specs.Truths.{IsSameKind};
-ghost use Rattle.pg_expr.specs.Columns.{each_column, each_column_of, passes_column};
+ghost use Rattle.pg_expr.specs.Columns.{passes_column};
 ghost use Rattle.pg_expr.specs.Typed.{AreTyped, IsTyped, some_value};
 ghost use Rattle.pg_expr.specs.Cond as conds;
 ghost use Rattle.pg_expr.specs.View as view;
-ghost use Rattle.path_cost.specs.Columns.{AreTables, IsOver, is_column_in, stats_of};
+ghost use Rattle.path_cost.specs.Columns.{AreTables, IsOver, is_column_in};
 ghost use Rattle.catalog.specs.Range.{type_in};
 ghost use Rattle.path_cost.specs.Relations.{range_of};
 ghost use Rattle.path_cost.specs.Selectivity as sel;
+ghost use Rattle.path_cost.specs.Limits.{HasColumns, HaveColumns};
 
 use crate::shares::{ALL_ROWS, HALF, PER_SHARE, UNKNOWN_NULLS, column_literal, holds, two_columns};
 use crate::tables::{Relations, column, known, nulls};
@@ -31,7 +32,7 @@ pub fn selectivity(cat: &Catalog, range: &RangeTable, e: &Expr) -> u32
 #[cycle(share)]
 pub(crate) fn share_of(cat: &Catalog, relations: Relations, e: &Expr) -> u64
     requires tables { AreTables cat.now (range_of relations) }
-    requires columns { IsTrue (each_column (is_column_in cat.now (range_of relations)) (view.cond e.now)) }
+    requires columns { HasColumns cat.now (range_of relations) (view.cond e.now) }
     requires typed { IsTyped (type_in cat.now (range_of relations)) (view.cond e.now) }
     ensures share { result ≡ sel.selectivity cat.now (range_of relations.entry) (view.cond e.now) }
     ensures part { result ≤ 1_000_000_000 }
@@ -51,9 +52,9 @@ pub(crate) fn share_of(cat: &Catalog, relations: Relations, e: &Expr) -> u64
 #[cycle(share)]
 fn all_share(cat: &Catalog, relations: Relations, parts: &[Expr]) -> u64
     requires tables { AreTables cat.now (range_of relations) }
-    requires columns { IsTrue (each_column_of (is_column_in cat.now (range_of relations)) (view.conds parts.now)) }
+    requires columns { HaveColumns cat.now (range_of relations) (view.conds parts.now) }
     requires typed { AreTyped (type_in cat.now (range_of relations)) (view.conds parts.now) }
-    ensures share { result ≡ sel.of_all cat.now (range_of relations.entry) ALL_ROWS (view.conds parts.now) }
+    ensures share { result ≡ sel.all_share cat.now (range_of relations.entry) parts.now }
     ensures part { result ≤ 1_000_000_000 }
 {
     let mut all = ALL_ROWS;
@@ -66,9 +67,9 @@ fn all_share(cat: &Catalog, relations: Relations, parts: &[Expr]) -> u64
 #[cycle(share)]
 fn any_share(cat: &Catalog, relations: Relations, parts: &[Expr]) -> u64
     requires tables { AreTables cat.now (range_of relations) }
-    requires columns { IsTrue (each_column_of (is_column_in cat.now (range_of relations)) (view.conds parts.now)) }
+    requires columns { HaveColumns cat.now (range_of relations) (view.conds parts.now) }
     requires typed { AreTyped (type_in cat.now (range_of relations)) (view.conds parts.now) }
-    ensures share { result ≡ sel.of_any cat.now (range_of relations.entry) 0 (view.conds parts.now) }
+    ensures share { result ≡ sel.any_share cat.now (range_of relations.entry) parts.now }
     ensures part { result ≤ 1_000_000_000 }
 {
     let mut any = 0;

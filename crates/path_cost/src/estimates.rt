@@ -1,18 +1,15 @@
 //! Estimated rows. Rows are from 1 to 10^12.
 
-ghost use Rattle.std.specs.Prelude.{◌≡◌, ◌≤◌, ◌<◌, ◌^◌, ◌*◌, ◌&&◌, ℕ, All, length, map, nat_eq, nat_lt};
+ghost use Rattle.std.specs.Prelude.{◌≡◌, ◌≤◌, ◌<◌, ◌^◌, ◌*◌, ◌&&◌, ℕ, All, length, map, nat_eq};
 ghost use Rattle.std.specs.List.{list_any};
 ghost use Rattle.pg_base.specs.Sets.{has};
 ghost use Rattle.pg_expr.specs.AtomSets.{contains};
 ghost use Rattle.eq_classes.specs.Clauses.{Clause};
-ghost use Rattle.eq_classes.specs.Listing.{clause_at};
-ghost use Rattle.eq_classes.specs.Parts.{is_join};
 ghost use Rattle.eq_classes.specs.declared.classes.ClassNo.{ClassNo};
-ghost use Rattle.catalog.specs.Contents.{IsTable};
 ghost use Rattle.cost_rules.specs.Costs.{IsEstimate};
 ghost use Rattle.cost_rules.specs.Powers.{clamped};
 ghost use Rattle.path_cost.specs.Columns.{AreTables, IsOver};
-ghost use Rattle.path_cost.specs.Estimates.{either, conditions_from, is_pair_of, kept, pairs as pairs_of, param_rows, product_rows, relations, set_rows, share_of_rows, table_rows};
+ghost use Rattle.path_cost.specs.Estimates.{either, param_rows, product_rows, relations, set_rows, share_of_rows, table_rows, kept_by, pairs_by, is_keyed, is_pair_at};
 
 use crate::conditions::selectivity;
 use crate::shares::ALL_ROWS;
@@ -44,7 +41,7 @@ pub(crate) fn after(
     requires tables { AreTables cat.now range.now }
     requires clauses { All (λ (k : Clause). IsOver cat.now range.now k.cond) classes.now.clauses }
     requires rows { IsEstimate rows }
-    ensures value { result ≡ kept cat.now range.now rows (conditions_from 0 (either one.now other.now) classes.now.clauses) }
+    ensures value { result ≡ kept_by cat.now range.now rows (either one.now other.now) classes.now }
     ensures estimate { IsEstimate result }
 {
     let mut left = rows;
@@ -136,7 +133,7 @@ pub fn pairs(
     requires tables { AreTables cat.now range.now }
     requires clauses { All (λ (k : Clause). IsOver cat.now range.now k.cond) classes.now.clauses }
     requires few { length range.now ≤ 16 }
-    ensures rows { result ≡ pairs_of cat.now range.now classes.now (has a.0) (has b.0) (map (λ (k : ClassNo). k.0) keys.now) }
+    ensures rows { result ≡ pairs_by cat.now range.now classes.now (has a.0) (has b.0) keys.now }
     ensures estimate { IsEstimate result }
 {
     let product = times(rows(cat, range, classes, a), rows(cat, range, classes, b));
@@ -147,7 +144,7 @@ pub fn pairs(
 /// The pair clauses of some classes among the clauses that join two sets.
 #[tactic(auto, using(eq_classes::proofs::WordLemmas::grows, crate::proofs::KeptLemmas::inside_twice))]
 pub fn key_pairs(classes: &Classes, a: RelSet, b: RelSet, keys: &[ClassNo]) -> ClauseSet
-    ensures { (k : ℕ) → contains result k ≡ nat_lt k (length classes.now.clauses) && (is_join (has a.0) (has b.0) (clause_at classes.now.clauses k) && is_pair_of (map (λ (k : ClassNo). k.0) keys.now) (clause_at classes.now.clauses k)) }
+    ensures { (k : ℕ) → contains result k ≡ is_keyed (has a.0) (has b.0) keys.now classes.now k }
 {
     let joining = classes.join_clauses(a, b);
     let mut set = ClauseSet::empty();
@@ -162,7 +159,7 @@ pub fn key_pairs(classes: &Classes, a: RelSet, b: RelSet, keys: &[ClassNo]) -> C
 fn is_key_pair(classes: &Classes, joining: &ClauseSet, n: u16, keys: &[ClassNo]) -> bool
     requires clause { n < length classes.now.clauses }
     requires below { n < 512 }
-    ensures { result ≡ contains joining.now n && is_pair_of (map (λ (k : ClassNo). k.0) keys.now) (clause_at classes.now.clauses n) }
+    ensures { result ≡ contains joining.now n && is_pair_at keys.now classes.now n }
 {
     match classes.pair_class(n) {
         Some(class) => joining.has(n) && is_among(keys, class),

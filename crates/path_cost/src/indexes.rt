@@ -1,6 +1,6 @@
 //! The costs of indexes over a catalogue, a query's relations and its clauses. Each cost is cut to at most 10^18.
 
-ghost use Rattle.std.specs.Prelude.{◌≡◌, ◌≤◌, ◌<◌, false, All, length, map, min};
+ghost use Rattle.std.specs.Prelude.{◌≡◌, ◌≤◌, ◌<◌, false, All, length, map};
 ghost use Rattle.pg_base.specs.Sets.{has};
 ghost use Rattle.pg_base.specs.declared.limits.TheConstants.{MOST_ATOMS};
 ghost use Rattle.pg_expr.specs.AtomSets.{contains};
@@ -12,11 +12,12 @@ ghost use Rattle.catalog.specs.Range.{Range};
 ghost use Rattle.eq_classes.specs.Classes.{listed};
 ghost use Rattle.eq_classes.specs.Clauses.{Clause};
 ghost use Rattle.cost_rules.specs.declared.parameters.TheConstants.{MOST_COST};
-ghost use Rattle.cost_rules.specs.Costs.{IsCost, IsEstimate, capped, capped_pair};
-ghost use Rattle.cost_rules.specs.Scans.{part_cost};
-ghost use Rattle.path_cost.specs.Columns.{AreTables, IsOver};
+ghost use Rattle.cost_rules.specs.Costs.{IsCost, IsEstimate};
+ghost use Rattle.path_cost.specs.Columns.{AreTables, IsOver, AreOver};
 ghost use Rattle.path_cost.specs.Costs as costs;
-ghost use Rattle.path_cost.specs.Estimates.{conditions_from, entries as entries_of, kept, picked_from};
+ghost use Rattle.path_cost.specs.Estimates.{conditions_from, entries as entries_of, kept_by_parts};
+ghost use Rattle.path_cost.specs.Cut.{own_part_cut, part_cut, arm_cut, scan_cut};
+ghost use Rattle.path_cost.specs.Costs.{found};
 
 use crate::conditions::{selectivity, share_of};
 use crate::estimates::{after, keep, relation_rows};
@@ -64,7 +65,7 @@ fn descent(cat: &Catalog, i: IndexNo) -> u64
 fn own_part(cat: &Catalog, i: IndexNo, rows: u64, conditions: u64) -> u64
     requires index { IsIndex cat.now i }
     requires rows { IsEstimate rows }
-    ensures rule { result ≡ capped (part_cost (costs.descent cat.now i) (min (entries_of cat.now i) rows) (entries_of cat.now i) conditions) }
+    ensures rule { result ≡ own_part_cut cat.now i rows conditions }
     ensures reached { costs.descent cat.now i ≤ result }
     ensures most { result ≤ MOST_COST }
 {
@@ -101,7 +102,7 @@ pub fn index_part(
     requires clauses { All (λ (k : Clause). IsOver cat.now range.now k.cond) classes.now.clauses }
     requires relation { r.0 < length range.now }
     requires index { IsIndex cat.now i }
-    ensures rule { result ≡ capped (costs.index_part cat.now range.now classes.now i r.0 (contains bounds.now) (contains conditions.now)) }
+    ensures rule { result ≡ part_cut cat.now range.now classes.now i r bounds.now conditions.now }
     ensures reached { costs.descent cat.now i ≤ result }
     ensures most { result ≤ MOST_COST }
 {
@@ -125,7 +126,7 @@ pub fn arm_part(
     requires few { length (listed (parts_of false (view.cond arm.now))) ≤ MOST_ATOMS }
     requires relation { r.0 < length range.now }
     requires index { IsIndex cat.now i }
-    ensures rule { result ≡ capped (costs.arm_part cat.now range.now i r.0 (listed (parts_of false (view.cond arm.now))) (contains bounds.now)) }
+    ensures rule { result ≡ arm_cut cat.now range.now i r arm.now bounds.now }
     ensures most { result ≤ MOST_COST }
 {
     let parts = parts_of_arm(arm);
@@ -137,7 +138,8 @@ pub fn arm_part(
 #[tactic(auto, using(crate::proofs::PartLemmas::one_over))]
 fn parts_of_arm(arm: &Expr) -> &[Expr]
     ensures parts { map view.cond result.now ≡ listed (parts_of false (view.cond arm.now)) }
-    ensures over { (c : Contents) (range : Range) → IsOver c range (view.cond arm.now) → All (λ (e : Expr). IsOver c range (view.cond e)) result.now }
+    ensures over { (c : Contents) (range : Range) → IsOver c range (view.cond arm.now) →
+        AreOver c range result.now }
 {
     match arm {
         Expr::And(parts) => parts.items(),
@@ -154,10 +156,10 @@ fn after_parts(
     chosen: &AtomSet,
 ) -> u64
     requires tables { AreTables cat.now range.now }
-    requires over { All (λ (e : Expr). IsOver cat.now range.now (view.cond e)) parts.now }
+    requires over { AreOver cat.now range.now parts.now }
     requires few { length parts.now ≤ MOST_ATOMS }
     requires rows { IsEstimate rows }
-    ensures value { result ≡ kept cat.now range.now rows (picked_from 0 (contains chosen.now) (map view.cond parts.now)) }
+    ensures value { result ≡ kept_by_parts cat.now range.now rows (contains chosen.now) parts.now }
     ensures estimate { IsEstimate result }
 {
     let mut left = rows;
@@ -188,9 +190,9 @@ pub fn index(
     requires few { length range.now ≤ 16 }
     requires relation { r.0 < length range.now }
     requires index { IsIndex cat.now i }
-    ensures rule { result ≡ capped_pair (costs.index_cost cat.now range.now classes.now i r.0 (has p.0) (contains bounds.now) (contains conditions.now) only) }
+    ensures rule { result ≡ scan_cut cat.now range.now classes.now i r p bounds.now conditions.now only }
     ensures cost { IsCost result }
-    ensures part_of { capped (costs.index_part cat.now range.now classes.now i r.0 (contains bounds.now) (contains conditions.now)) ≤ result.total }
+    ensures part_of { part_cut cat.now range.now classes.now i r bounds.now conditions.now ≤ result.total }
 {
     let part = index_part(cat, range, classes, i, r, bounds, conditions);
     let found = rows_found(cat, range, classes, i, r, conditions);
@@ -221,7 +223,7 @@ fn rows_found(
     requires clauses { All (λ (k : Clause). IsOver cat.now range.now k.cond) classes.now.clauses }
     requires relation { r.0 < length range.now }
     requires index { IsIndex cat.now i }
-    ensures rows { result ≡ costs.found cat.now range.now classes.now i r.0 (contains conditions.now) }
+    ensures rows { result ≡ found cat.now range.now classes.now i r.0 (contains conditions.now) }
     ensures estimate { IsEstimate result }
 {
     let rows = relation_rows(cat, range, r);

@@ -19,36 +19,41 @@ ghost use Rattle.path_cost.specs.Selectivity.{selectivity};
 pub fn rows_of_equal_sets()
     ensures set { (c : Contents) (range : Range) (t : Table) (a b : Set) → ((k : ℕ) → a k ≡ b k) →
         set_rows c range t a ≡ set_rows c range t b }
-    ensures param { (c : Contents) (range : Range) (t : Table) (r : ℕ) (p q : Set) → ((k : ℕ) → p k ≡ q k) →
-        param_rows c range t r p ≡ param_rows c range t r q }
+    ensures param { (c : Contents) (range : Range) (t : Table) (r : ℕ) (p q : Set) →
+        ((k : ℕ) → p k ≡ q k) → param_rows c range t r p ≡ param_rows c range t r q }
 {}
 
 /// Over lawful contents a selectivity is at most all rows, and conditions leave no more rows than there were, and one at
 /// least.
 pub fn shares_of_rows()
-    ensures share { (c : Contents) (range : Range) (e : Cond) → IsLawful c → AreTables c range → HasColumns c range e →
-        selectivity c range e ≤ 10 ^ 9 }
-    ensures kept { (c : Contents) (range : Range) (n : ℕ) (es : List Cond) → IsLawful c → AreTables c range →
-        All (HasColumns c range) es → 1 ≤ n → (1 ≤ kept c range n es) × (kept c range n es ≤ n) }
+    ensures share { (c : Contents) (range : Range) (e : Cond) → IsLawful c → AreTables c range →
+        HasColumns c range e → selectivity c range e ≤ 10 ^ 9 }
+    ensures kept { (c : Contents) (range : Range) (n : ℕ) (es : List Cond) → IsLawful c →
+        AreTables c range → All (HasColumns c range) es → 1 ≤ n →
+        (1 ≤ kept c range n es) × (kept c range n es ≤ n) }
 {}
 
 /// Within the limits of tables and clauses every scan costs far less than 10^18, so that each is admissible. A bitmap
 /// scan's own share is small beside the parts of its indexes, of which a tree of at most 8 elements has one for each
 /// leaf and each arm; no scan costs more than 1.42 x 10^14.
 pub fn scans_are_admissible()
-    ensures seq { (c : Contents) (range : Range) (t : Table) (r : ℕ) → AreWithinLimits c range t → r < length range →
-        (seq_cost c range t r).total ≤ 2 * 10 ^ 12 }
-    ensures part { (c : Contents) (range : Range) (t : Table) (i : IndexNo) (r : ℕ) (bounds conditions : ℕ → Bool) →
-        AreWithinLimits c range t → IsIndex c i → index_part c range t i r bounds conditions ≤ 523 * 10 ^ 9 }
-    ensures arm { (c : Contents) (range : Range) (t : Table) (i : IndexNo) (r : ℕ) (parts : List Cond) (bounds : ℕ → Bool) →
-        AreWithinLimits c range t → IsIndex c i → length parts ≤ MOST_ATOMS →
-        arm_part c range i r parts bounds ≤ 523 * 10 ^ 9 }
+    ensures seq { (c : Contents) (range : Range) (t : Table) (r : ℕ) → AreWithinLimits c range t →
+        r < length range → (seq_cost c range t r).total ≤ 2 * 10 ^ 12 }
+    ensures part { (c : Contents) (range : Range) (t : Table) (i : IndexNo) (r : ℕ)
+        (bounds conditions : ℕ → Bool) → AreWithinLimits c range t → IsIndex c i →
+        index_part c range t i r bounds conditions ≤ 523 * 10 ^ 9 }
+    ensures arm { (c : Contents) (range : Range) (t : Table) (i : IndexNo) (r : ℕ)
+        (parts : List Cond) (bounds : ℕ → Bool) → AreWithinLimits c range t → IsIndex c i →
+        length parts ≤ MOST_ATOMS → arm_part c range i r parts bounds ≤ 523 * 10 ^ 9 }
     ensures index { (c : Contents) (range : Range) (t : Table) (i : IndexNo) (r : ℕ) (p : Set)
-        (bounds conditions : ℕ → Bool) (only : Bool) → AreWithinLimits c range t → r < length range → IsIndex c i →
+        (bounds conditions : ℕ → Bool) (only : Bool) → AreWithinLimits c range t →
+        r < length range → IsIndex c i →
         (index_cost c range t i r p bounds conditions only).total ≤ 4 * 10 ^ 12 }
-    ensures bitmap { (c : Contents) (range : Range) (t : Table) (r : ℕ) (p : Set) (used : ℕ → Bool) (parts : ℕ) →
-        AreWithinLimits c range t → r < length range → (bitmap_cost c range t r p used parts).total ≤ parts + 3 * 10 ^ 12 }
-    ensures bitmap_of_parts { (c : Contents) (range : Range) (t : Table) (r : ℕ) (p : Set) (used : ℕ → Bool) (parts : List ℕ) →
-        AreWithinLimits c range t → r < length range → length parts ≤ MOST_ATOMS + 8 → All (λ n. n ≤ 523 * 10 ^ 9) parts →
+    ensures bitmap { (c : Contents) (range : Range) (t : Table) (r : ℕ) (p : Set) (used : ℕ → Bool)
+        (parts : ℕ) → AreWithinLimits c range t → r < length range →
+        (bitmap_cost c range t r p used parts).total ≤ parts + 3 * 10 ^ 12 }
+    ensures bitmap_of_parts { (c : Contents) (range : Range) (t : Table) (r : ℕ) (p : Set)
+        (used : ℕ → Bool) (parts : List ℕ) → AreWithinLimits c range t → r < length range →
+        length parts ≤ MOST_ATOMS + 8 → All (λ n. n ≤ 523 * 10 ^ 9) parts →
         (bitmap_cost c range t r p used (sum parts + BITMAP_CHILD * length parts)).total ≤ 142 * 10 ^ 12 }
 {}

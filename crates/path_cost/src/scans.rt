@@ -1,14 +1,13 @@
 //! Costs of scans over a catalogue, a query's relations and its clauses. Each cost is cut to at most 10^18.
 
-ghost use Rattle.std.specs.Prelude.{◌≡◌, ◌≤◌, ◌<◌, ◌^◌, ◌-◌, All, length, min};
-ghost use Rattle.pg_base.specs.Sets.{has};
-ghost use Rattle.pg_expr.specs.AtomSets.{contains};
+ghost use Rattle.std.specs.Prelude.{◌≡◌, ◌≤◌, ◌<◌, ◌^◌, ◌-◌, All, length};
 ghost use Rattle.eq_classes.specs.Clauses.{Clause};
 ghost use Rattle.cost_rules.specs.declared.parameters.TheConstants.{MOST_COST};
 ghost use Rattle.cost_rules.specs.Costs.{IsCost, IsEstimate, capped_pair};
 ghost use Rattle.path_cost.specs.Columns.{AreTables, IsOver};
-ghost use Rattle.path_cost.specs.Costs.{bitmap_cost, operators, seq_cost};
-ghost use Rattle.path_cost.specs.Estimates.{either_but, conditions_from, table_pages};
+ghost use Rattle.path_cost.specs.Costs.{operators, seq_cost};
+ghost use Rattle.path_cost.specs.Estimates.{either_but, table_pages};
+ghost use Rattle.path_cost.specs.Cut.{saturated, operators_but, bitmap_cut};
 
 use crate::estimates::{after, is_in_either, relation_rows};
 use catalog::{Catalog, RangeTable};
@@ -19,7 +18,7 @@ use pg_expr::ops;
 
 /// The operators of the clauses of two sets that are not in a third. A number past 2^64 - 1 is answered as 2^64 - 1.
 pub fn operators_of(classes: &Classes, one: &ClauseSet, other: &ClauseSet, but: &ClauseSet) -> u64
-    ensures { result ≡ min (operators (conditions_from 0 (either_but one.now other.now but.now) classes.now.clauses)) (2 ^ 64 - 1) }
+    ensures { result ≡ saturated (operators_but classes.now one.now other.now but.now) }
 {
     let mut sum: u64 = 0;
     for n in 0..classes.count() {
@@ -85,7 +84,7 @@ pub fn bitmap(
     requires few { length range.now ≤ 16 }
     requires relation { r.0 < length range.now }
     requires parts { parts ≤ MOST_COST }
-    ensures rule { result ≡ capped_pair (bitmap_cost cat.now range.now classes.now r.0 (has p.0) (contains used.now) parts) }
+    ensures rule { result ≡ bitmap_cut cat.now range.now classes.now r p used.now parts }
     ensures cost { IsCost result }
     ensures part_of { parts ≤ result.total }
 {

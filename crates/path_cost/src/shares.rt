@@ -1,7 +1,6 @@
 //! Shares of rows that meet a comparison, in parts per 10^9.
 
-ghost use Rattle.std.specs.Prelude.{◌≡◌, ◌≤◌, ◌^◌, ◌*◌, ◌-◌, false, All, find, length};
-ghost use Rattle.std.specs.Option.{option_map};
+ghost use Rattle.std.specs.Prelude.{◌≡◌, ◌≤◌, ◌^◌, ◌*◌, ◌-◌, false, All, length};
 ghost use Rattle.pg_value.specs.Truths.{AreComparable, is_absolute};
 ghost use Rattle.catalog.specs.Statistics.{Common, shares};
 ghost use Rattle.catalog.specs.declared.limits.TheConstants.{MOST_COMMON, MOST_BOUNDS, WHOLE_SHARE};
@@ -65,7 +64,7 @@ fn sum_met(op: Op, common: &[(Value, u32)], v: &Value) -> u64
 /// The share of a common value that equals a literal. None where no common value does.
 fn common_share(common: &[(Value, u32)], v: &Value) -> Option<u32>
     requires { All (λ (p : Common). AreComparable Op.Eq p.0 v.now) common.now }
-    ensures { result ≡ option_map (λ (p : Common). p.1) (find (λ (p : Common). sel.holds Op.Eq p.0 v.now) common.now) }
+    ensures { result ≡ sel.share_among common.now v.now }
 {
     for p in common {
         if holds(Op::Eq, &p.0, v) {

@@ -1,11 +1,9 @@
 //! The tables of a condition's relations, and what is known of their columns.
 
 ghost use Rattle.std.specs.Prelude.{◌≡◌, ◌<◌, ◌≤◌, IfSome, IsTrue, length};
-ghost use Rattle.std.specs.Option.{option_map};
-ghost use Rattle.catalog.specs.Contents.{IsColumn, IsTable, table_at};
 ghost use Rattle.catalog.specs.Entries.{statistics};
 ghost use Rattle.catalog.specs.Range.{column_at, table_of, type_in};
-ghost use Rattle.path_cost.specs.Columns.{AreTables, is_column_in, known as known_of, stats_of};
+ghost use Rattle.path_cost.specs.Columns.{AreTables, is_column_in, stats_of, nulls_known};
 ghost use Rattle.path_cost.specs.Known.{IsLawfulKnown, statistics_of};
 ghost use Rattle.path_cost.specs.Relations.{range_of};
 
@@ -99,7 +97,7 @@ fn lent(typed: SqlType, s: &ColumnStats) -> Known
 pub(crate) fn nulls(cat: &Catalog, relations: Relations, x: ColRef) -> Option<u32>
     requires tables { AreTables cat.now (range_of relations) }
     requires column { IsTrue (is_column_in cat.now (range_of relations) x) }
-    ensures given { result ≡ option_map (λ s. s.nulls) (known_of cat.now (range_of relations.entry) x) }
+    ensures given { result ≡ nulls_known cat.now (range_of relations.entry) x }
     ensures part { IfSome result (λ n. n ≤ 1_000_000) }
 {
     cat.lawful();

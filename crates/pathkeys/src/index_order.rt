@@ -1,12 +1,11 @@
 //! The order that an index scan gives (PostgreSQL, src/backend/optimizer/path/pathkeys.c, build_index_pathkeys).
 
-ghost use Rattle.std.specs.Prelude.{◌≡◌, ◌<◌, ◌++◌, [], IfOk, OnOk, IfSome, length, slice_get};
-ghost use Rattle.std.specs.Option.{option_map};
+ghost use Rattle.std.specs.Prelude.{◌≡◌, ◌<◌, [], IfOk, OnOk, IfSome, length};
 ghost use Rattle.catalog.specs.Contents.{IsIndex};
-ghost use Rattle.eq_classes.specs.Listing.{class_at};
+ghost use Rattle.eq_classes.specs.Listing.{class_at, class_no};
 ghost use Rattle.pathkeys.specs.Keys as keys;
 ghost use Rattle.pathkeys.specs.Keys.{class_of_key, has_direction, keys_from, turned};
-ghost use Rattle.pathkeys.specs.Finding.{class_numbers, is_class, is_of_some, step_after, step_found};
+ghost use Rattle.pathkeys.specs.Finding.{is_class, is_of_some, step_found, key_step, GainsKeys, btree_key, index_key_at};
 
 use crate::keys::{Keys, keys_of};
 use catalog::opfamily::{IndexKey, Method};
@@ -29,7 +28,7 @@ enum Found {
 
 /// The class of a key column, in the family of its operator class. None where it has no class.
 fn class_of_key(classes: &Classes, r: RelNo, key: IndexKey) -> Option<ClassNo>
-    ensures class { option_map (λ c. c.0) result ≡ class_of_key classes.now r.0 key }
+    ensures class { class_no result ≡ class_of_key classes.now r.0 key }
     ensures within { IfSome result (λ c. c.0 < length classes.now.classes) }
 {
     let x = ColRef {
@@ -41,7 +40,7 @@ fn class_of_key(classes: &Classes, r: RelNo, key: IndexKey) -> Option<ClassNo>
 
 /// Whether a class was found and is this one.
 pub(crate) fn is_found(found: Option<ClassNo>, c: ClassNo) -> bool
-    ensures { result ≡ is_class c.0 (option_map (λ f. f.0) found) }
+    ensures { result ≡ is_class c.0 (class_no found) }
 {
     match found {
         Some(f) => c.0 == f.0,
@@ -83,7 +82,7 @@ fn found_after(
     before: &[IndexKey],
     key: IndexKey,
 ) -> Found
-    ensures { step_found result ≡ step_after classes.now r.0 backward before.now key (class_of_key classes.now r.0 key) }
+    ensures { step_found result ≡ key_step classes.now r.0 backward before.now key }
 {
     match class_of_key(classes, r, key) {
         None => Found::Ends,
@@ -107,7 +106,7 @@ fn give_all(
     columns: &[IndexKey],
     items: &mut SmallVec<ClassNo, 4>,
 ) -> Result<(), Memory>
-    ensures { OnOk result (class_numbers items.new.items ≡ class_numbers items.old.items ++ keys_from classes.now r.0 backward [] columns.now) }
+    ensures { OnOk result (GainsKeys classes.now r backward columns.now items.old.items items.new.items) }
 {
     for at in 0..columns.len() {
         match found_after(classes, r, backward, &columns[..at], columns[at]) {
@@ -165,7 +164,7 @@ fn given_at(
     columns: &[IndexKey],
     n: u8,
 ) -> Option<ClassNo>
-    ensures class { option_map (λ c. c.0) result ≡ slice_get (keys_from classes.now r.0 backward [] columns.now) n }
+    ensures class { class_no result ≡ btree_key classes.now r.0 backward columns.now n }
 {
     let mut left = n;
     for at in 0..columns.len() {
@@ -195,7 +194,7 @@ pub fn index_key(
     n: u8,
 ) -> Option<ClassNo>
     requires index { IsIndex cat.now i }
-    ensures class { option_map (λ c. c.0) result ≡ slice_get (keys.index_keys cat.now classes.now i r.0 backward) n }
+    ensures class { class_no result ≡ index_key_at cat.now classes.now i r.0 backward n }
     ensures within { IfSome result (λ c. c.0 < length classes.now.classes) }
 {
     let def = cat.index(i);

@@ -17,11 +17,13 @@ pub fn prefixes_are_covered()
 pub fn covering_is_a_partial_order()
     ensures reflexive { (a : Keys) → covers a a ≡ true }
     ensures antisymmetric { (a b : Keys) → covers a b ≡ true → covers b a ≡ true → a ≡ b }
-    ensures transitive { (a b c : Keys) → covers a b ≡ true → covers b c ≡ true → covers a c ≡ true }
+    ensures transitive { (a b c : Keys) → covers a b ≡ true → covers b c ≡ true →
+        covers a c ≡ true }
 {}
 
 /// The keys of an index scan and those of an ORDER BY are different classes of the table, none with a constant.
 pub fn keys_are_different_classes()
-    ensures index { (c : Contents) (t : Table) (i : IndexNo) (r : ℕ) (backward : Bool) → IsKeyList t (index_keys c t i r backward) }
+    ensures index { (c : Contents) (t : Table) (i : IndexNo) (r : ℕ) (backward : Bool) →
+        IsKeyList t (index_keys c t i r backward) }
     ensures order { (t : Table) (order : List OrderItem) → IsKeyList t (order_keys t order) }
 {}

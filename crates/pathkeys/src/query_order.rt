@@ -2,11 +2,10 @@
 //! make_pathkeys_for_sortclauses).
 
 ghost use Rattle.std.specs.Prelude.{◌≡◌, ◌<◌, IfOk, IfSome, length, slice_get};
-ghost use Rattle.std.specs.Option.{option_map};
 ghost use Rattle.pathkeys.specs.Keys as keys;
 ghost use Rattle.pathkeys.specs.Keys.{order_class};
-ghost use Rattle.pathkeys.specs.Finding as finding;
-ghost use Rattle.pathkeys.specs.Finding.{is_ordered_by};
+ghost use Rattle.pathkeys.specs.Finding.{is_ordered_by, item_class};
+ghost use Rattle.eq_classes.specs.Listing.{class_no};
 
 use crate::index_order::is_found;
 use crate::keys::{Keys, keys_of};
@@ -19,7 +18,7 @@ use std::alloc::Global;
 
 /// The class of a column in its default family: that of integers, of text or of booleans, of which a type has one.
 pub fn order_class(classes: &Classes, x: ColRef) -> Option<ClassNo>
-    ensures class { option_map (λ c. c.0) result ≡ order_class classes.now x }
+    ensures class { class_no result ≡ order_class classes.now x }
     ensures within { IfSome result (λ c. c.0 < length classes.now.classes) }
 {
     let text = classes.class_of(x, Family::Text);
@@ -38,7 +37,7 @@ fn is_ordered_by(classes: &Classes, before: &[OrderItem], c: ClassNo) -> bool
 
 /// The class of an item after others. None where it has a constant or stood before.
 fn new_class(classes: &Classes, before: &[OrderItem], item: OrderItem) -> Option<ClassNo>
-    ensures class { option_map (λ c. c.0) result ≡ finding.new_class classes.now before.now (order_class classes.now item.col) }
+    ensures class { class_no result ≡ item_class classes.now before.now item }
     ensures within { IfSome result (λ c. c.0 < length classes.now.classes) }
 {
     let c = order_class(classes, item.col)?;
@@ -64,7 +63,7 @@ pub fn order_keys(alloc: Global, classes: &Classes, order: &[OrderItem]) -> Resu
 
 /// The class at place `n`, from 0, of the order keys. None exactly where the list is not so long. It takes no memory.
 pub fn order_key(classes: &Classes, order: &[OrderItem], n: u16) -> Option<ClassNo>
-    ensures class { option_map (λ c. c.0) result ≡ slice_get (keys.order_keys classes.now order.now) n }
+    ensures class { class_no result ≡ slice_get (keys.order_keys classes.now order.now) n }
     ensures within { IfSome result (λ c. c.0 < length classes.now.classes) }
 {
     let mut left = n;

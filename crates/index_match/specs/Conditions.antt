@@ -1,6 +1,6 @@
 -- The conditions of an index. Source: PostgreSQL manual, Multicolumn Indexes, Operator Classes and Operator Families; src/backend/optimizer/path/indxpath.c.
 use Rattle.std.specs.Prelude.{ℕ, Bool, true, false, not, ◌&&◌, ◌||◌, nat_eq, List, filter, take, is_some}
-use Rattle.std.specs.List.{list_any}
+use Rattle.std.specs.List.{list_any, list_all}
 use Rattle.pg_base.specs.declared.numbers.IndexNo.{IndexNo}
 use Rattle.catalog.specs.pg_value_operators_Op.{Op}
 use Rattle.catalog.specs.pg_value_value_Value_TheVariants.{Null}
@@ -13,10 +13,15 @@ use Rattle.pg_expr.specs.declared.operand.ColRef.{ColRef}
 use Rattle.pg_expr.specs.declared.operand.Operand.{Operand}
 use Rattle.pg_expr.specs.declared.operand.Operand.TheVariants.{Col, Lit}
 use Rattle.pg_expr.specs.Cond.{Cond, compare, is_null, is_not_null}
+use Rattle.pg_expr.specs.View as view
 use Rattle.catalog.specs.Contents.{Contents, index_at}
 use Rattle.catalog.specs.Indexes.{Index}
 use Rattle.eq_classes.specs.Clauses.{Set, Table}
-use Rattle.index_match.specs.Numbered.{Numbered, local}
+use Rattle.index_match.specs.Numbered.{Numbered, local, has_number}
+use Rattle.pg_expr.specs.declared.expr.Expr.{Expr}
+use Rattle.pg_base.specs.Sets.{has}
+use Rattle.pg_base.specs.declared.numbers.RelNo.{RelNo}
+use Rattle.pg_base.specs.declared.rel_set.RelSet.{RelSet}
 
 -- a hash index: it serves equality alone, in no order
 abbrev pub is_hash : Method → Bool
@@ -42,9 +47,13 @@ is_outside r (Lit Null) = false
 is_outside r (Lit v) = true
 is_outside r (Col x) = not (nat_eq x.rel.0 r)
 
+-- one side of a comparison is the key's column, and the other what it may be compared with
+abbrev pub is_across : ℕ → IndexKey → Operand → Operand → Bool
+is_across r k a b = (is_key_side r k a && is_outside r b) || (is_outside r a && is_key_side r k b)
+
 -- a condition that an index may use on a key column: column op literal or column of another relation, either way round, with an operator of the key's family; for a B-tree IS NULL and IS NOT NULL
 abbrev pub has_form : Method → ℕ → IndexKey → Cond → Bool
-has_form m r k (compare op a b) = is_member m k op && ((is_key_side r k a && is_outside r b) || (is_outside r a && is_key_side r k b))
+has_form m r k (compare op a b) = is_member m k op && is_across r k a b
 has_form m r k (is_null x) = not (is_hash m) && is_key r k x
 has_form m r k (is_not_null x) = not (is_hash m) && is_key r k x
 has_form m r k _ = false
@@ -52,6 +61,10 @@ has_form m r k _ = false
 -- on some key column of the index
 abbrev pub is_condition : Index → ℕ → Cond → Bool
 is_condition d r e = list_any (λ k. has_form d.method r k e) d.keys
+
+-- each of some expressions is on some key column of the index
+abbrev pub are_conditions : Index → ℕ → List Expr → Bool
+are_conditions d r es = list_all (λ e. is_condition d r (view.cond e)) es
 
 -- a hash index has the first one alone
 abbrev pub allowed : Method → List Numbered → List Numbered
@@ -65,3 +78,7 @@ conditions_among d r cs = allowed d.method (filter (λ (c : Numbered). is_condit
 -- the conditions of an index, among the clauses of a relation and of its parameterisation
 abbrev pub index_conditions : Contents → Table → IndexNo → ℕ → Set → List Numbered
 index_conditions c t i r p = conditions_among (index_at c i) r (local t r p)
+
+-- a number is that of a condition of an index
+abbrev pub is_condition_of : Contents → Table → IndexNo → RelNo → RelSet → ℕ → Bool
+is_condition_of c t i r p n = has_number (index_conditions c t i r.0 (has p.0)) n

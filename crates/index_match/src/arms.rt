@@ -1,6 +1,6 @@
 //! The arms of an OR clause that an index matches.
 
-ghost use Rattle.std.specs.Prelude.{◌≡◌, ◌≤◌, ◌&&◌, ℕ, false, length, map, nat_lt, IfSome, is_some};
+ghost use Rattle.std.specs.Prelude.{◌≡◌, ◌≤◌, ◌&&◌, ℕ, map, nat_lt, IfSome, is_some};
 ghost use Rattle.pg_base.specs.declared.limits.TheConstants.{MOST_ATOMS};
 ghost use Rattle.pg_expr.specs.AtomSets.{contains};
 ghost use Rattle.pg_expr.specs.Columns.{atom_count};
@@ -8,10 +8,8 @@ ghost use Rattle.pg_expr.specs.View.{cond};
 ghost use Rattle.catalog.specs.Contents.{IsIndex, index_at};
 ghost use Rattle.catalog.specs.Entries.{index_of};
 ghost use Rattle.index_match.specs.Arms as arms;
-ghost use Rattle.index_match.specs.Arms.{arm_bounds};
+ghost use Rattle.index_match.specs.Arms.{parts_matched, bounds_arm};
 ghost use Rattle.index_match.specs.Conditions as forms;
-ghost use Rattle.index_match.specs.Numbered.{has_number};
-ghost use Rattle.std.specs.List.{list_all};
 
 use crate::bounds::bounds;
 use crate::forms::is_condition;
@@ -47,14 +45,14 @@ fn takes_parts(m: Method, n: usize) -> bool
 
 /// Whether an index may use each part on some key column.
 fn are_conditions(def: &IndexDef, r: RelNo, parts: &[Expr]) -> bool
-    ensures { result ≡ list_all (λ e. forms.is_condition (index_of def.now) r.0 (cond e)) parts.now }
+    ensures { result ≡ forms.are_conditions (index_of def.now) r.0 parts.now }
 {
     parts.iter().all(|part| is_condition(def, r, part))
 }
 
 /// Whether an index matches an arm of these parts wholly.
 fn is_matched(def: &IndexDef, r: RelNo, parts: &[Expr]) -> bool
-    ensures { result ≡ arms.takes_parts def.now.method (length parts.now) && list_all (λ e. forms.is_condition (index_of def.now) r.0 (cond e)) parts.now }
+    ensures { result ≡ parts_matched def.now r.0 parts.now }
 {
     takes_parts(def.method, parts.len()) && are_conditions(def, r, parts)
 }
@@ -82,7 +80,7 @@ pub fn arm(cat: &Catalog, range: &RangeTable, i: IndexNo, r: RelNo, arm: &Expr) 
     requires index { IsIndex cat.now i }
     requires few { atom_count (cond arm.now) ≤ MOST_ATOMS }
     ensures matched { is_some result ≡ arms.is_matched (index_at cat.now i) r.0 (cond arm.now) }
-    ensures bounds { IfSome result (λ set. (n : ℕ) → contains set n ≡ has_number (arm_bounds (index_at cat.now i) r.0 (cond arm.now)) n) }
+    ensures bounds { IfSome result (λ set. (n : ℕ) → contains set n ≡ bounds_arm cat.now i r arm.now n) }
 {
     let def = cat.index(i);
     let parts = arm_parts(arm);

@@ -1,12 +1,12 @@
 //! The conditions that bound one contiguous part of an index.
 
-ghost use Rattle.std.specs.Prelude.{◌≡◌, ◌<◌, ◌≤◌, ◌||◌, ◌&&◌, ℕ, length, nat_eq, nat_lt, slice_index_or, IfSome, None};
+ghost use Rattle.std.specs.Prelude.{◌≡◌, ◌<◌, ◌≤◌, ◌||◌, ◌&&◌, ℕ, length, nat_eq, IfSome};
 ghost use Rattle.std.specs.List.{position_from};
 ghost use Rattle.std.specs.Option.{option_map};
 ghost use Rattle.pg_expr.specs.AtomSets.{contains};
 ghost use Rattle.pg_expr.specs.View.{cond};
 ghost use Rattle.index_match.specs.Slots as slots;
-ghost use Rattle.index_match.specs.Slots.{bound_at, slots_of};
+ghost use Rattle.index_match.specs.Slots.{slots_of, is_key_slot, is_bound};
 
 use crate::forms::{has_form, is_fixing};
 use crate::slots::Conditions;
@@ -65,7 +65,7 @@ pub(crate) fn note(set: &mut ClauseSet, n: u16, is: bool)
 #[tactic(auto, using(crate::proofs::SlotLemmas::growing))]
 fn note_all(set: &mut ClauseSet, m: Method, r: RelNo, key: IndexKey, list: &Conditions)
     requires few { length (slots_of list.now) ≤ 512 }
-    ensures { (j : ℕ) → contains set.new j ≡ contains set.old j || (nat_lt j (length (slots_of list.now)) && slots.is_on_key m r.0 key (slice_index_or (slots_of list.now) j None)) }
+    ensures { (j : ℕ) → contains set.new j ≡ contains set.old j || is_key_slot m r key list.now j }
 {
     for n in 0..list.end() {
         let is = is_on_key(m, r, key, list.get(n as u16));
@@ -77,7 +77,7 @@ fn note_all(set: &mut ClauseSet, m: Method, r: RelNo, key: IndexKey, list: &Cond
 /// column one value; the first column without such a one gives all its conditions, and none after it gives any.
 pub(crate) fn bounds(def: &IndexDef, r: RelNo, list: &Conditions) -> ClauseSet
     requires few { length (slots_of list.now) ≤ 512 }
-    ensures { (j : ℕ) → contains result j ≡ bound_at def.now.method r.0 def.now.keys.items (slots_of list.now) j }
+    ensures { (j : ℕ) → contains result j ≡ is_bound def.now r.0 (slots_of list.now) j }
 {
     let mut set = ClauseSet::empty();
     for key in &def.keys {

@@ -1,6 +1,6 @@
 //! The forms of conditions that an index serves.
 
-ghost use Rattle.std.specs.Prelude.{◌≡◌, ◌&&◌, ◌||◌, true};
+ghost use Rattle.std.specs.Prelude.{◌≡◌, true};
 ghost use Rattle.catalog.specs.opfamily_Answers.{takes};
 ghost use Rattle.pg_expr.specs.View.{cond};
 ghost use Rattle.catalog.specs.Entries.{index_of};
@@ -63,7 +63,7 @@ pub fn is_outside(r: RelNo, side: &Operand) -> bool
 
 /// Whether a comparison has the key's column on one side, and on the other what it may be compared with.
 fn is_across(r: RelNo, key: IndexKey, a: &Operand, b: &Operand) -> bool
-    ensures { result ≡ (forms.is_key_side r.0 key a.now && forms.is_outside r.0 b.now) || (forms.is_outside r.0 a.now && forms.is_key_side r.0 key b.now) }
+    ensures { result ≡ forms.is_across r.0 key a.now b.now }
 {
     (is_key_side(r, key, a) && is_outside(r, b)) || (is_outside(r, a) && is_key_side(r, key, b))
 }

@@ -1,17 +1,12 @@
 //! The conditions of an index among the clauses of a relation and of its parameterisation.
 
-ghost use Rattle.std.specs.Prelude.{◌≡◌, ◌<◌, ◌≤◌, ◌&&◌, ℕ, not, length, nat_lt};
+ghost use Rattle.std.specs.Prelude.{◌≡◌, ◌<◌, ◌≤◌, ℕ};
 ghost use Rattle.pg_base.specs.Sets.{has};
 ghost use Rattle.pg_expr.specs.AtomSets.{contains};
 ghost use Rattle.catalog.specs.Contents.{IsIndex};
-ghost use Rattle.catalog.specs.Entries.{index_of};
-ghost use Rattle.eq_classes.specs.Listing.{clause_at};
-ghost use Rattle.index_match.specs.Numbered as numbered;
-ghost use Rattle.index_match.specs.Numbered.{has_number};
-ghost use Rattle.index_match.specs.Conditions as conditions;
-ghost use Rattle.index_match.specs.Bounds.{index_bounds, index_tests};
+ghost use Rattle.index_match.specs.Bounds.{is_bound_of, is_test_of};
 ghost use Rattle.index_match.specs.Slots as slots;
-ghost use Rattle.index_match.specs.Slots.{AreLocal, bound_at, chosen_from, is_found, is_number, numbered_from};
+ghost use Rattle.index_match.specs.Slots.{AreLocal, is_number, is_found_at, numbered_by, conditions_for, is_left_over, is_bound, chosen_by};
 
 use crate::bounds::{bounds, note};
 use crate::forms::is_condition;
@@ -50,7 +45,7 @@ pub fn local_clauses(classes: &Classes, r: RelNo, p: RelSet) -> ClauseSet
 #[tactic(auto, using(crate::proofs::FoundLemmas::finding))]
 fn all_found(def: &IndexDef, classes: &Classes, r: RelNo, p: RelSet, local: &ClauseSet) -> ClauseSet
     requires local { AreLocal classes.now r.0 (has p.0) (contains local.now) }
-    ensures { (j : ℕ) → contains result j ≡ nat_lt j (length classes.now.clauses) && is_found (index_of def.now) r.0 (has p.0) (clause_at classes.now.clauses j) }
+    ensures { (j : ℕ) → contains result j ≡ is_found_at def.now r p classes.now j }
 {
     let mut set = ClauseSet::empty();
     for n in 0..classes.count() {
@@ -78,7 +73,7 @@ fn least(set: &ClauseSet, end: usize) -> ClauseSet
 /// The conditions of the index: a hash index has the first one alone.
 fn found(def: &IndexDef, classes: &Classes, r: RelNo, p: RelSet, local: &ClauseSet) -> ClauseSet
     requires local { AreLocal classes.now r.0 (has p.0) (contains local.now) }
-    ensures conditions { numbered_from 0 (chosen_from 0 (contains result) classes.now.clauses) ≡ conditions.conditions_among (index_of def.now) r.0 (numbered.local classes.now r.0 (has p.0)) }
+    ensures conditions { numbered_by result classes.now ≡ conditions_for def.now r p classes.now }
 {
     let all = all_found(def, classes, r, p, local);
     match def.method {
@@ -91,7 +86,7 @@ fn found(def: &IndexDef, classes: &Classes, r: RelNo, p: RelSet, local: &ClauseS
 #[tactic(auto, using(eq_classes::proofs::WordLemmas::grows))]
 fn without(set: &ClauseSet, other: &ClauseSet, end: usize) -> ClauseSet
     requires few { end ≤ 512 }
-    ensures { (j : ℕ) → contains result j ≡ nat_lt j end && (contains set.now j && not (contains other.now j)) }
+    ensures { (j : ℕ) → contains result j ≡ is_left_over set.now other.now end j }
 {
     let mut rest = ClauseSet::empty();
     for n in 0..end {
@@ -103,7 +98,7 @@ fn without(set: &ClauseSet, other: &ClauseSet, end: usize) -> ClauseSet
 
 /// The numbers of the bounds among the clauses of a set.
 fn bounding(def: &IndexDef, r: RelNo, classes: &Classes, set: &ClauseSet) -> ClauseSet
-    ensures { (j : ℕ) → contains result j ≡ bound_at def.now.method r.0 def.now.keys.items (chosen_from 0 (contains set.now) classes.now.clauses) j }
+    ensures { (j : ℕ) → contains result j ≡ is_bound def.now r.0 (chosen_by set.now classes.now) j }
 {
     let chosen = Chosen { classes, set };
     let _ = chosen.end();
@@ -122,8 +117,8 @@ pub fn conditions_among(
 ) -> Match
     requires index { IsIndex cat.now i }
     requires local { AreLocal classes.now r.0 (has p.0) (contains local.now) }
-    ensures bounds { (n : ℕ) → contains result.bounds n ≡ has_number (index_bounds cat.now classes.now i r.0 (has p.0)) n }
-    ensures tests { (n : ℕ) → contains result.tests n ≡ has_number (index_tests cat.now classes.now i r.0 (has p.0)) n }
+    ensures bounds { (n : ℕ) → contains result.bounds n ≡ is_bound_of cat.now classes.now i r p n }
+    ensures tests { (n : ℕ) → contains result.tests n ≡ is_test_of cat.now classes.now i r p n }
 {
     let def = cat.index(i);
     let found = found(def, classes, r, p, local);
@@ -149,8 +144,8 @@ pub fn conditions(
 ) -> Match
     requires index { IsIndex cat.now i }
     requires below { r.0 < 16 }
-    ensures bounds { (n : ℕ) → contains result.bounds n ≡ has_number (index_bounds cat.now classes.now i r.0 (has p.0)) n }
-    ensures tests { (n : ℕ) → contains result.tests n ≡ has_number (index_tests cat.now classes.now i r.0 (has p.0)) n }
+    ensures bounds { (n : ℕ) → contains result.bounds n ≡ is_bound_of cat.now classes.now i r p n }
+    ensures tests { (n : ℕ) → contains result.tests n ≡ is_test_of cat.now classes.now i r p n }
 {
     conditions_among(cat, classes, i, r, p, &local_clauses(classes, r, p))
 }

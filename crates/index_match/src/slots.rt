@@ -3,7 +3,7 @@
 ghost use Rattle.std.specs.Prelude.{◌≡◌, ◌<◌, ◌≤◌, length, slice_index_or, None};
 ghost use Rattle.std.specs.Option.{option_map};
 ghost use Rattle.pg_expr.specs.View.{cond};
-ghost use Rattle.index_match.specs.Slots.{chosen_slots, slots_of};
+ghost use Rattle.index_match.specs.Slots.{chosen_slots, slots_of, slot_at};
 
 use eq_classes::{Classes, ClauseSet};
 use pg_expr::Expr;
@@ -29,7 +29,7 @@ impl<'a> Chosen<'a> {
     /// The condition of a number. None where the set does not have it.
     fn get(&self, n: u16) -> Option<&'a Expr>
         requires within { n < length (chosen_slots self.now) }
-        ensures { option_map (λ e. cond e.now) result ≡ slice_index_or (chosen_slots self.now) n None }
+        ensures { option_map (λ e. cond e.now) result ≡ slot_at (chosen_slots self.now) n }
     {
         let _ = self.classes.count();
         if self.set.has(n) {

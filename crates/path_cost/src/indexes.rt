@@ -1,10 +1,8 @@
 //! The costs of indexes over a catalogue, a query's relations and its clauses. Each cost is cut to at most 10^18.
 
 ghost use Rattle.std.specs.Prelude.{◌≡◌, ◌≤◌, ◌<◌, false, All, length, map};
-ghost use Rattle.pg_base.specs.Sets.{has};
 ghost use Rattle.pg_base.specs.declared.limits.TheConstants.{MOST_ATOMS};
 ghost use Rattle.pg_expr.specs.AtomSets.{contains};
-ghost use Rattle.pg_expr.specs.declared.expr.Expr.{Expr};
 ghost use Rattle.pg_expr.specs.Pushed.{parts_of};
 ghost use Rattle.pg_expr.specs.View as view;
 ghost use Rattle.catalog.specs.Contents.{Contents, IsIndex};

@@ -1,11 +1,11 @@
 //! Costs of scans over a catalogue, a query's relations and its clauses. Each cost is cut to at most 10^18.
 
-ghost use Rattle.std.specs.Prelude.{◌≡◌, ◌≤◌, ◌<◌, ◌^◌, ◌-◌, All, length};
+ghost use Rattle.std.specs.Prelude.{◌≡◌, ◌≤◌, ◌<◌, All, length};
 ghost use Rattle.eq_classes.specs.Clauses.{Clause};
 ghost use Rattle.cost_rules.specs.declared.parameters.TheConstants.{MOST_COST};
 ghost use Rattle.cost_rules.specs.Costs.{IsCost, IsEstimate, capped_pair};
 ghost use Rattle.path_cost.specs.Columns.{AreTables, IsOver};
-ghost use Rattle.path_cost.specs.Costs.{operators, seq_cost};
+ghost use Rattle.path_cost.specs.Costs.{seq_cost};
 ghost use Rattle.path_cost.specs.Estimates.{either_but, table_pages};
 ghost use Rattle.path_cost.specs.Cut.{saturated, operators_but, bitmap_cut};
 

@@ -1,10 +1,11 @@
 -- The estimated rows, the cost and the price of a plan, by its structure. They are exact: no number is cut. Own.
-use Rattle.std.specs.Prelude.{ℕ, ◌≤◌, ◌+◌, ◌-◌, ◌*◌, min, Bool, not, true, false, ◌&&◌, List, [], ◌∷◌, length, sum, Option, Some, None}
+use Rattle.std.specs.Prelude.{ℕ, ◌≤◌, ◌+◌, ◌-◌, ◌*◌, min, Bool, not, true, false, ◌&&◌, List, [], ◌∷◌, length, sum, Option, Some, None, map}
 use Rattle.pg_base.specs.Sets.{has}
 use Rattle.pg_base.specs.declared.numbers.IndexNo.{IndexNo}
 use Rattle.pg_base.specs.declared.numbers.RelNo.{RelNo}
 use Rattle.pg_base.specs.declared.rel_set.RelSet.{RelSet}
 use Rattle.pg_expr.specs.Cond.{Cond}
+use Rattle.pg_expr.specs.View as view
 use Rattle.sql_query.specs.catalog_Contents.{Contents, index_at}
 use Rattle.eq_classes.specs.Clauses.{Set}
 use Rattle.eq_classes.specs.Parts.{is_join}
@@ -22,6 +23,7 @@ use Rattle.index_match.specs.Conditions.{index_conditions}
 use Rattle.index_match.specs.Bounds.{index_bounds}
 use Rattle.plan_tree.specs.Plans.{Plan, seq, index, index_only, bitmap, sort, nest, merge, BitTree, leaf, all_hold, some_arm, BitTrees, no_trees, tree_and, set_of, GivenScan, given_scan, joins}
 use Rattle.plan_tree.specs.Bitmaps.{condition_at, uses}
+use Rattle.pg_expr.specs.declared.expr.Expr.{Expr}
 
 -- the parts of indexes together, with so much for each after the first
 abbrev pub together : List ℕ → ℕ
@@ -56,9 +58,13 @@ module _ (c : Contents) (q : Query) where
   abbrev pub estimate : Plan → ℕ
   estimate p = rows_given (set_of p) (given_scan p)
 
+  -- the part of an index that serves an arm of an OR
+  abbrev pub part_of_arm : RelNo → Cond → IndexNo → ℕ
+  part_of_arm r arm i = arm_part c q.range i r.0 (arm_parts arm) (has_number (arm_bounds (index_at c i) r.0 arm))
+
   -- the parts of the indexes of an OR's arms
   abbrev pub parts_of_arms : RelNo → List Cond → List IndexNo → List ℕ
-  parts_of_arms r (arm ∷ arms) (i ∷ is) = arm_part c q.range i r.0 (arm_parts arm) (has_number (arm_bounds (index_at c i) r.0 arm)) ∷ parts_of_arms r arms is
+  parts_of_arms r (arm ∷ arms) (i ∷ is) = part_of_arm r arm i ∷ parts_of_arms r arms is
   parts_of_arms r _ _ = []
 
   -- the parts of the indexes of a bitmap tree: of its leaves and of its arms
@@ -71,6 +77,14 @@ module _ (c : Contents) (q : Query) where
     pub parts_of_all : RelNo → RelSet → BitTrees → List ℕ
     parts_of_all r p no_trees = []
     parts_of_all r p (tree_and b bs) = part_of r p b ∷ parts_of_all r p bs
+
+  -- the parts of the indexes of some arms together
+  abbrev pub arms_together : RelNo → List Expr → List IndexNo → ℕ
+  arms_together r arms is = together (parts_of_arms r (map view.cond arms) is)
+
+  -- the parts of the indexes of some bitmap trees together
+  abbrev pub trees_together : RelNo → RelSet → BitTrees → ℕ
+  trees_together r p bs = together (parts_of_all r p bs)
 
   -- the cost of an index scan or an index-only scan by the relation's clauses and the parameterisation, in 1/400 of a
   -- sequential page

@@ -6,9 +6,11 @@ pub mod Costs
 pub mod Least
 pub mod Paths
 pub mod Views
+pub mod Held
 pub mod Reads
 pub mod Ranks
 pub mod Fronts
+pub mod Lists
 pub mod Entries
 pub mod Run
 pub mod Counts

@@ -33,6 +33,10 @@ startup_kept (Some w) n = n
 abbrev pub kept_cost : Option Window → Pair → Pair
 kept_cost w cost = pair (startup_kept w cost.startup) cost.total
 
+-- what a path keeps of the cost of its plan
+abbrev pub cost_kept : Contents → Query → Plan → Pair
+cost_kept c q t = kept_cost q.window (cost c q t)
+
 -- the set, the numbers and the keys of a path are those of its plan
 pub record HasItsNumbers (c : Contents) (q : Query) (p : Path) : Type 0 where
   pub set : IsSameSet (has p.set.0) (set_of p.tree)

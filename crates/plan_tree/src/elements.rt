@@ -1,25 +1,21 @@
 //! What a bitmap may be made of at a relation with a parameterisation (PostgreSQL manual, Combining Multiple Indexes;
 //! src/backend/optimizer/path/indxpath.c, generate_bitmap_or_paths; the first 8 elements are own).
 
-ghost use Rattle.std.specs.Prelude.{◌≡◌, ◌<◌, ◌≤◌, ◌↔◌, ◌++◌, ◌∷◌, ℕ, [], All, IsTrue, IfSome, MatchOption, List, cond, false, length, map, nat_lt, take};
-ghost use Rattle.std.specs.List.{AllByRecursion};
+ghost use Rattle.std.specs.Prelude.{◌≡◌, ◌<◌, ◌≤◌, ◌↔◌, IsTrue, IfSome, MatchOption, List, cond, length, map, nat_lt};
 ghost use Rattle.pg_base.specs.Sets.{has};
 ghost use Rattle.pg_base.specs.declared.limits.TheConstants.{MOST_ATOMS};
 ghost use Rattle.pg_base.specs.declared.numbers.IndexNo.{IndexNo};
 ghost use Rattle.pg_expr.specs.AtomSets.{contains};
 ghost use Rattle.pg_expr.specs.Columns.{atom_count};
-ghost use Rattle.pg_expr.specs.Cond.{any_of};
 ghost use Rattle.pg_expr.specs.View as view;
-ghost use Rattle.pg_expr.specs.declared.expr.Expr.{Expr};
-ghost use Rattle.sql_query.specs.catalog_Contents.{Contents, IsIndex, IsTable, indexes_of};
-ghost use Rattle.path_cost.specs.Columns.{IsOver};
+ghost use Rattle.sql_query.specs.catalog_Contents.{Contents, IsIndex, IsTable};
+ghost use Rattle.path_cost.specs.Columns.{AreOver};
 ghost use Rattle.index_match.specs.Conditions.{index_conditions};
-ghost use Rattle.index_match.specs.Numbered as numbered;
 ghost use Rattle.index_match.specs.Slots.{AreLocal};
 ghost use Rattle.sql_query.specs.Queries.{width};
 ghost use Rattle.plan_tree.specs.Bitmaps as bitmaps;
-ghost use Rattle.plan_tree.specs.Bitmaps.{AreElements, IsElement, IsIndexOn, IsMatchedOr, MatchesArm, by_clause, by_index, condition_at, table_of_relation};
-ghost use Rattle.plan_tree.specs.Gathering.{Gathered};
+ghost use Rattle.plan_tree.specs.Bitmaps.{IsElement, IsIndexOn, MatchesArm, by_index, table_of_relation, with_element, HasNumber, AreMatchedArms, AreOfFewAtoms, IsNoOr, IsOrOf, IsMatchedAt, AreFirstElements};
+ghost use Rattle.plan_tree.specs.Gathering.{GathersIndexes, GathersClauses};
 ghost use Rattle.plan_tree.specs.Reads.{IsOverTables};
 ghost use Rattle.plan_tree.specs.Views.{element};
 
@@ -85,7 +81,7 @@ impl Elements {
 
     /// Puts an element in at the end, where there is room.
     fn add(&mut self, e: Element)
-        ensures { self.new ≡ take bitmaps.MOST_ELEMENTS (self.old ++ element e ∷ []) }
+        ensures { self.new ≡ with_element self.old (element e) }
     {
         if !self.kept.is_full() {
             self.kept.push(e);
@@ -94,7 +90,7 @@ impl Elements {
 
     /// Puts an element in at the end, where it is to be and there is room.
     fn note(&mut self, e: Element, is: bool)
-        ensures { self.new ≡ cond is (take bitmaps.MOST_ELEMENTS (self.old ++ element e ∷ [])) self.old }
+        ensures { self.new ≡ cond is (with_element self.old (element e)) self.old }
     {
         if is {
             self.add(e);
@@ -107,7 +103,7 @@ impl Elements {
         requires query { IsOverTables cat.now q.now }
         requires relation { r.0 < width q.now }
         requires local { AreLocal q.now.classes r.0 (has p.0) (contains local.now) }
-        ensures { (all rest : List bitmaps.Element) → Gathered (IsElement cat.now q.now r.0 (has p.0)) all (map by_index (indexes_of cat.now (table_of_relation q.now r.0)) ++ rest) self.old → Gathered (IsElement cat.now q.now r.0 (has p.0)) all rest self.new }
+        ensures { GathersIndexes cat.now q.now r p self.old self.new }
     {
         for i in cat.indexes(table_of(q, r)) {
             let is = is_index_element(cat, q, r, p, *i, local);
@@ -121,7 +117,7 @@ impl Elements {
         requires query { IsOverTables cat.now q.now }
         requires relation { r.0 < width q.now }
         requires local { AreLocal q.now.classes r.0 (has p.0) (contains local.now) }
-        ensures { (all : List bitmaps.Element) → Gathered (IsElement cat.now q.now r.0 (has p.0)) all (map (λ k. by_clause k.number) (numbered.local q.now.classes r.0 (has p.0))) self.old → Gathered (IsElement cat.now q.now r.0 (has p.0)) all [] self.new }
+        ensures { GathersClauses cat.now q.now r p self.old self.new }
     {
         for n in 0..classes_of(q).count() {
             let is = is_clause_element(cat, q, r, n as u16, local.has(n as u16));
@@ -150,7 +146,7 @@ pub fn is_index_on(cat: &Catalog, q: &Prepared, r: RelNo, i: IndexNo) -> bool
 
 /// Whether a set has the number of a clause.
 pub(crate) fn has_some(classes: &Classes, set: &ClauseSet) -> bool
-    ensures { IsTrue result ↔ ((n : ℕ) × (n < length classes.now.clauses) × IsTrue (contains set.now n)) }
+    ensures { IsTrue result ↔ HasNumber classes.now set.now }
 {
     for n in 0..classes.count() {
         if set.has(n as u16) {
@@ -242,8 +238,8 @@ fn has_match(cat: &Catalog, q: &Prepared, r: RelNo, arm: &Expr) -> bool
 fn are_matched(cat: &Catalog, q: &Prepared, r: RelNo, arms: &[Expr]) -> bool
     requires query { IsOverTables cat.now q.now }
     requires relation { r.0 < width q.now }
-    requires few { All (λ (e : Expr). atom_count (view.cond e) ≤ MOST_ATOMS) arms.now }
-    ensures { IsTrue result ↔ AllByRecursion (λ arm. (i : IndexNo) × MatchesArm cat.now q.now r.0 arm i) (map view.cond arms.now) }
+    requires few { AreOfFewAtoms arms.now }
+    ensures { IsTrue result ↔ AreMatchedArms cat.now q.now r.0 (map view.cond arms.now) }
 {
     for arm in arms {
         if !has_match(cat, q, r, arm) {
@@ -257,9 +253,11 @@ fn are_matched(cat: &Catalog, q: &Prepared, r: RelNo, arms: &[Expr]) -> bool
 /// over, and have no more atoms.
 pub fn or_arms(q: &Prepared, n: u16) -> Option<&[Expr]>
     requires clause { n < length q.now.classes.clauses }
-    ensures arms { MatchOption result (bitmaps.is_or (condition_at q.now n) ≡ false) (λ arms. condition_at q.now n ≡ any_of (view.conds arms.now)) }
-    ensures over { (c : Contents) → IsOverTables c q.now → IfSome result (λ arms. All (λ (e : Expr). IsOver c q.now.range (view.cond e)) arms.now) }
-    ensures few { (c : Contents) → IsOverTables c q.now → IfSome result (λ arms. All (λ (e : Expr). atom_count (view.cond e) ≤ MOST_ATOMS) arms.now) }
+    ensures arms { MatchOption result (IsNoOr q.now n) (λ arms. IsOrOf q.now n arms.now) }
+    ensures over { (c : Contents) → IsOverTables c q.now →
+        IfSome result (λ arms. AreOver c q.now.range arms.now) }
+    ensures few { (c : Contents) → IsOverTables c q.now →
+        IfSome result (λ arms. AreOfFewAtoms arms.now) }
 {
     or_parts(classes_of(q).clause(n))
 }
@@ -269,7 +267,7 @@ fn is_matched_or(cat: &Catalog, q: &Prepared, r: RelNo, n: u16) -> bool
     requires query { IsOverTables cat.now q.now }
     requires relation { r.0 < width q.now }
     requires clause { n < length q.now.classes.clauses }
-    ensures { IsTrue result ↔ IsMatchedOr cat.now q.now r.0 (condition_at q.now n) }
+    ensures { IsTrue result ↔ IsMatchedAt cat.now q.now r.0 n }
 {
     match or_arms(q, n) {
         Some(arms) => are_matched(cat, q, r, arms),
@@ -282,7 +280,7 @@ fn is_clause_element(cat: &Catalog, q: &Prepared, r: RelNo, n: u16, is_local: bo
     requires query { IsOverTables cat.now q.now }
     requires relation { r.0 < width q.now }
     requires clause { n < length q.now.classes.clauses }
-    ensures { IsTrue result ↔ (IsTrue is_local × IsMatchedOr cat.now q.now r.0 (condition_at q.now n)) }
+    ensures { IsTrue result ↔ (IsTrue is_local × IsMatchedAt cat.now q.now r.0 n) }
 {
     is_local && is_matched_or(cat, q, r, n)
 }
@@ -298,7 +296,7 @@ pub fn elements_among(
     requires query { IsOverTables cat.now q.now }
     requires relation { r.0 < width q.now }
     requires local { AreLocal q.now.classes r.0 (has p.0) (contains local.now) }
-    ensures elements { (es : List bitmaps.Element) × AreElements cat.now q.now r.0 (has p.0) es × (result ≡ take bitmaps.MOST_ELEMENTS es) }
+    ensures elements { AreFirstElements cat.now q.now r p result }
 {
     let mut found = Elements {
         kept: ArrayVec::new(),
@@ -314,7 +312,7 @@ pub fn elements_among(
 pub fn first_elements(cat: &Catalog, q: &Prepared, r: RelNo, p: RelSet) -> Elements
     requires query { IsOverTables cat.now q.now }
     requires relation { r.0 < width q.now }
-    ensures elements { (es : List bitmaps.Element) × AreElements cat.now q.now r.0 (has p.0) es × (result ≡ take bitmaps.MOST_ELEMENTS es) }
+    ensures elements { AreFirstElements cat.now q.now r p result }
 {
     let local = local_clauses(classes_of(q), r, p);
     elements_among(cat, q, r, p, &local)

@@ -1,12 +1,11 @@
 //! Which scans of a relation by an index there are.
 
-ghost use Rattle.std.specs.Prelude.{◌≡◌, ◌<◌, ◌↔◌, ◌||◌, ℕ, IsTrue, length, nat_lt, not};
+ghost use Rattle.std.specs.Prelude.{◌≡◌, ◌<◌, ◌↔◌, ℕ, IsTrue, length, nat_lt};
 ghost use Rattle.pg_base.specs.Sets.{has};
 ghost use Rattle.pg_expr.specs.AtomSets.{contains};
 ghost use Rattle.sql_query.specs.catalog_Contents.{IsIndex, index_at};
 ghost use Rattle.index_match.specs.Conditions as forms;
-ghost use Rattle.index_match.specs.Conditions.{index_conditions};
-ghost use Rattle.index_match.specs.Numbered.{has_number};
+ghost use Rattle.index_match.specs.Conditions.{index_conditions, is_condition_of};
 ghost use Rattle.sql_query.specs.Queries.{width};
 ghost use Rattle.plan_tree.specs.Bitmaps.{IsIndexOn};
 ghost use Rattle.plan_tree.specs.Reads.{IsOverTables};
@@ -33,7 +32,8 @@ fn has_condition(
     p: RelSet,
     found: &ClauseSet,
 ) -> bool
-    requires found { (n : ℕ) → contains found.now n ≡ has_number (index_conditions cat.now q.now.classes i r.0 (has p.0)) n }
+    requires found { (n : ℕ) →
+        contains found.now n ≡ is_condition_of cat.now q.now.classes i r p n }
     ensures { result ≡ nat_lt 0 (length (index_conditions cat.now q.now.classes i r.0 (has p.0))) }
 {
     has_some(classes_of(q), found)
@@ -53,8 +53,9 @@ fn is_hash(cat: &Catalog, i: IndexNo) -> bool
 /// Whether a scan may be by an index with these conditions: a hash index has one.
 fn serves(cat: &Catalog, q: &Prepared, r: RelNo, i: IndexNo, p: RelSet, found: &ClauseSet) -> bool
     requires index { IsIndex cat.now i }
-    requires found { (n : ℕ) → contains found.now n ≡ has_number (index_conditions cat.now q.now.classes i r.0 (has p.0)) n }
-    ensures { result ≡ not (forms.is_hash (index_at cat.now i).method) || nat_lt 0 (length (index_conditions cat.now q.now.classes i r.0 (has p.0))) }
+    requires found { (n : ℕ) →
+        contains found.now n ≡ is_condition_of cat.now q.now.classes i r p n }
+    ensures { result ≡ space.may_serve cat.now q.now r i p }
 {
     !is_hash(cat, i) || has_condition(cat, q, r, i, p, found)
 }

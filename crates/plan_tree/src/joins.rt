@@ -1,19 +1,16 @@
 //! What joins cost: the clauses that they test, and the rules over the costs of their sides.
 
-ghost use Rattle.std.specs.Prelude.{◌≡◌, ◌≤◌, ◌^◌, ◌-◌, ◌&&◌, ℕ, length, map, min, nat_lt};
+ghost use Rattle.std.specs.Prelude.{◌≡◌, ◌≤◌, ℕ, length};
 ghost use Rattle.pg_expr.specs.AtomSets.{contains};
-ghost use Rattle.eq_classes.specs.Listing.{clause_at};
 ghost use Rattle.eq_classes.specs.declared.classes.ClassNo.{ClassNo};
 ghost use Rattle.cost_rules.specs.declared.pair.Pair.{Pair};
-ghost use Rattle.cost_rules.specs.Costs as rules;
 ghost use Rattle.cost_rules.specs.Costs.{IsCost, capped_pair};
-ghost use Rattle.path_cost.specs.Estimates as numbers;
 ghost use Rattle.sql_query.specs.Queries.{width};
-ghost use Rattle.pathkeys.specs.Finding.{class_numbers};
 ghost use Rattle.plan_tree.specs.Costs as costs;
-ghost use Rattle.plan_tree.specs.Plans as plans;
 ghost use Rattle.plan_tree.specs.Reads.{IsOverTables, ReadsBelow};
 ghost use Rattle.plan_tree.specs.Views.{plan};
+ghost use Rattle.path_cost.specs.Cut.{saturated};
+ghost use Rattle.plan_tree.specs.Held.{joins_at, merge_operators_by, nest_over, merge_over};
 
 use crate::estimates::{classes_of, estimate, range_of};
 use crate::plan::Plan;
@@ -28,7 +25,7 @@ use sql_query::catalog::Catalog;
 fn joining(classes: &Classes, outer: &Plan, inner: &Plan) -> ClauseSet
     requires outer { ReadsBelow 16 (plan outer.now) }
     requires inner { ReadsBelow 16 (plan inner.now) }
-    ensures { (k : ℕ) → contains result k ≡ nat_lt k (length classes.now.clauses) && plans.joins (plans.set_of (plan outer.now)) (plan inner.now) (clause_at classes.now.clauses k) }
+    ensures { (k : ℕ) → contains result k ≡ joins_at outer.now inner.now classes.now k }
 {
     match given_scan(inner) {
         Some((rel, param)) => classes.join_param_clauses(set_of(outer), rel, param),
@@ -40,7 +37,7 @@ fn joining(classes: &Classes, outer: &Plan, inner: &Plan) -> ClauseSet
 fn join_operators(q: &Prepared, outer: &Plan, inner: &Plan) -> u64
     requires outer { ReadsBelow 16 (plan outer.now) }
     requires inner { ReadsBelow 16 (plan inner.now) }
-    ensures { result ≡ min (costs.join_operators q.now (plan outer.now) (plan inner.now)) (2 ^ 64 - 1) }
+    ensures { result ≡ saturated (costs.join_operators q.now (plan outer.now) (plan inner.now)) }
 {
     let classes = classes_of(q);
     let none = ClauseSet::empty();
@@ -53,7 +50,7 @@ fn join_operators(q: &Prepared, outer: &Plan, inner: &Plan) -> u64
 fn merge_operators(q: &Prepared, keys: &[ClassNo], outer: &Plan, inner: &Plan) -> u64
     requires outer { ReadsBelow 16 (plan outer.now) }
     requires inner { ReadsBelow 16 (plan inner.now) }
-    ensures { result ≡ min (costs.merge_operators q.now (class_numbers keys.now) (plan outer.now) (plan inner.now)) (2 ^ 64 - 1) }
+    ensures { result ≡ saturated (merge_operators_by q.now keys.now outer.now inner.now) }
 {
     let classes = classes_of(q);
     let a = set_of(outer);
@@ -79,7 +76,8 @@ pub fn nest_cost(
     requires inner { ReadsBelow (width q.now) (plan inner.now) }
     requires outer_cost { IsCost outer_cost }
     requires inner_cost { IsCost inner_cost }
-    ensures rule { (a b : Pair) → outer_cost ≡ capped_pair a → inner_cost ≡ capped_pair b → result ≡ capped_pair (rules.nest_cost a b (costs.estimate cat.now q.now (plan outer.now)) (costs.estimate cat.now q.now (plan inner.now)) (costs.join_operators q.now (plan outer.now) (plan inner.now))) }
+    ensures rule { (a b : Pair) → outer_cost ≡ capped_pair a → inner_cost ≡ capped_pair b →
+        result ≡ capped_pair (nest_over cat.now q.now outer.now inner.now a b) }
     ensures cost { IsCost result }
 {
     let outer_rows = estimate(cat, q, outer);
@@ -106,7 +104,8 @@ pub fn merge_cost(
     requires inner { ReadsBelow (width q.now) (plan inner.now) }
     requires outer_cost { IsCost outer_cost }
     requires inner_cost { IsCost inner_cost }
-    ensures rule { (a b : Pair) → outer_cost ≡ capped_pair a → inner_cost ≡ capped_pair b → result ≡ capped_pair (rules.merge_cost a b (costs.estimate cat.now q.now (plan outer.now)) (costs.estimate cat.now q.now (plan inner.now)) (length keys.now) (numbers.pairs cat.now q.now.range q.now.classes (plans.set_of (plan outer.now)) (plans.set_of (plan inner.now)) (class_numbers keys.now)) (costs.merge_operators q.now (class_numbers keys.now) (plan outer.now) (plan inner.now))) }
+    ensures rule { (a b : Pair) → outer_cost ≡ capped_pair a → inner_cost ≡ capped_pair b →
+        result ≡ capped_pair (merge_over cat.now q.now keys.now outer.now inner.now a b) }
     ensures cost { IsCost result }
 {
     let outer_rows = estimate(cat, q, outer);

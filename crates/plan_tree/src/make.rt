@@ -10,21 +10,19 @@ ghost use Rattle.cost_rules.specs.declared.parameters.TheConstants.{MOST_COST};
 ghost use Rattle.cost_rules.specs.Costs.{capped_pair};
 ghost use Rattle.eq_classes.specs.Clauses.{one};
 ghost use Rattle.eq_classes.specs.Listing.{clause_at};
-ghost use Rattle.index_match.specs.Conditions.{index_conditions};
-ghost use Rattle.index_match.specs.Numbered.{has_number};
+ghost use Rattle.index_match.specs.Conditions.{is_condition_of};
 ghost use Rattle.pareto.specs.Front.{AreKeptOr, IsCovered};
-ghost use Rattle.path_cost.specs.Estimates.{conditions_from};
 ghost use Rattle.sql_query.specs.Queries.{width};
 ghost use Rattle.plan_tree.specs.Costs as costs;
-ghost use Rattle.plan_tree.specs.Fronts.{AreOldOrOffers, ArePathsOf, HasDominating, StayDominated};
+ghost use Rattle.plan_tree.specs.Fronts.{ArePathsOf, StayDominated};
 ghost use Rattle.plan_tree.specs.Keys.{keys_of};
 ghost use Rattle.plan_tree.specs.Least.{IsAdmissible};
 ghost use Rattle.plan_tree.specs.Paths.{IsPathOf};
 ghost use Rattle.plan_tree.specs.Plans as plans;
 ghost use Rattle.plan_tree.specs.Reads.{IsOverTables};
-ghost use Rattle.plan_tree.specs.Space as space;
-ghost use Rattle.plan_tree.specs.Space.{IsPlanOf, IsSameSet};
+ghost use Rattle.plan_tree.specs.Space.{IsPlanOf, IsSameSet, conditions_in, named_beside};
 ghost use Rattle.plan_tree.specs.Views.{is_path_at_most, path, plan};
+ghost use Rattle.plan_tree.specs.Lists.{AreScanOffers, IsDominatedIn};
 
 use crate::estimates::{classes_of, estimate, range_of};
 use crate::path::Path;
@@ -47,7 +45,7 @@ use std::alloc::AllocError;
 pub fn conditions_found(cat: &Catalog, q: &Prepared, r: RelNo, i: IndexNo, p: RelSet) -> ClauseSet
     requires relation { r.0 < 16 }
     requires index { IsIndex cat.now i }
-    ensures { (n : ℕ) → contains result n ≡ has_number (index_conditions cat.now q.now.classes i r.0 (has p.0)) n }
+    ensures { (n : ℕ) → contains result n ≡ is_condition_of cat.now q.now.classes i r p n }
 {
     let classes = classes_of(q);
     let found = conditions(cat, range_of(q), classes, i, r, p);
@@ -66,7 +64,7 @@ fn clause_relations(cat: &Catalog, q: &Prepared, n: u16) -> RelSet
 /// The relations that the conditions of the clauses of a set name.
 fn all_named(cat: &Catalog, q: &Prepared, set: &ClauseSet) -> RelSet
     requires query { IsOverTables cat.now q.now }
-    ensures { (k : ℕ) → has result.0 k ≡ list_any (names_rel k) (conditions_from 0 (contains set.now) q.now.classes.clauses) }
+    ensures { (k : ℕ) → has result.0 k ≡ list_any (names_rel k) (conditions_in q.now set.now) }
 {
     let mut named = RelSet::empty();
     for n in 0..classes_of(q).count() {
@@ -81,7 +79,7 @@ fn all_named(cat: &Catalog, q: &Prepared, set: &ClauseSet) -> RelSet
 pub fn others_named(cat: &Catalog, q: &Prepared, r: RelNo, set: &ClauseSet) -> RelSet
     requires query { IsOverTables cat.now q.now }
     requires relation { r.0 < 16 }
-    ensures { (k : ℕ) → has result.0 k ≡ space.others_named r.0 (conditions_from 0 (contains set.now) q.now.classes.clauses) k }
+    ensures { (k : ℕ) → has result.0 k ≡ named_beside q.now r set.now k }
 {
     all_named(cat, q, set).minus(RelSet::one(r))
 }
@@ -90,7 +88,7 @@ pub fn others_named(cat: &Catalog, q: &Prepared, r: RelNo, set: &ClauseSet) -> R
 pub fn names_exactly(cat: &Catalog, q: &Prepared, r: RelNo, p: RelSet, set: &ClauseSet) -> bool
     requires query { IsOverTables cat.now q.now }
     requires relation { r.0 < 16 }
-    ensures { IsTrue result ↔ IsSameSet (has p.0) (space.others_named r.0 (conditions_from 0 (contains set.now) q.now.classes.clauses)) }
+    ensures { IsTrue result ↔ IsSameSet (has p.0) (named_beside q.now r set.now) }
 {
     others_named(cat, q, r, set) == p
 }
@@ -160,8 +158,9 @@ pub fn offer_scan(
     requires keys { keys ≡ keys_of cat.now q.now (plan t) }
     requires paths { ArePathsOf cat.now q.now (map path front.old) }
     ensures paths { ArePathsOf cat.now q.now (map path front.new) }
-    ensures kept { (test : plans.Plan → Bool) → test (plan t) ≡ true → AreOldOrOffers cat.now q.now test (one r.0) (has p.0) (map path front.old) (map path front.new) }
-    ensures dominated { OnOk result (IsAdmissible cat.now q.now (plan t) → HasDominating cat.now q.now (map path front.new) (plan t)) }
+    ensures kept { (test : plans.Plan → Bool) → test (plan t) ≡ true →
+        AreScanOffers cat.now q.now test r p front.old front.new }
+    ensures dominated { OnOk result (IsDominatedIn cat.now q.now front.new (plan t)) }
     ensures still { StayDominated cat.now q.now (map path front.old) (map path front.new) }
 {
     if cost.total >= MOST_COST {

@@ -1,6 +1,6 @@
 //! The parts of the indexes of bitmap trees. Each is cut to at most 10^18.
 
-ghost use Rattle.std.specs.Prelude.{◌≡◌, ◌<◌, ◌≤◌, ℕ, All, map, true};
+ghost use Rattle.std.specs.Prelude.{◌≡◌, ◌<◌, ◌≤◌, ℕ, true};
 ghost use Rattle.pg_base.specs.Sets.{has};
 ghost use Rattle.pg_base.specs.declared.limits.TheConstants.{MOST_ATOMS};
 ghost use Rattle.pg_expr.specs.AtomSets.{contains};
@@ -9,12 +9,10 @@ ghost use Rattle.pg_expr.specs.View.{cond};
 ghost use Rattle.sql_query.specs.catalog_Contents.{IsIndex, index_at};
 ghost use Rattle.cost_rules.specs.declared.parameters.TheConstants.{MOST_COST};
 ghost use Rattle.cost_rules.specs.Costs.{capped};
-ghost use Rattle.index_match.specs.Arms.{arm_bounds, arm_parts, is_matched};
-ghost use Rattle.index_match.specs.Conditions.{index_conditions};
-ghost use Rattle.index_match.specs.Numbered.{has_number};
+ghost use Rattle.index_match.specs.Arms.{is_matched};
+ghost use Rattle.index_match.specs.Conditions.{is_condition_of};
 ghost use Rattle.index_match.specs.Slots.{AreLocal};
 ghost use Rattle.path_cost.specs.Columns.{IsOver};
-ghost use Rattle.path_cost.specs.Costs as paths;
 ghost use Rattle.sql_query.specs.Queries.{width};
 ghost use Rattle.plan_tree.specs.Costs as costs;
 ghost use Rattle.plan_tree.specs.Plans.{leaf};
@@ -69,7 +67,8 @@ pub fn index_served(
     requires relation { r.0 < width q.now }
     requires index { IsIndex cat.now i }
     requires local { AreLocal q.now.classes r.0 (has p.0) (contains local.now) }
-    ensures conditions { (n : ℕ) → contains result.conditions n ≡ has_number (index_conditions cat.now q.now.classes i r.0 (has p.0)) n }
+    ensures conditions { (n : ℕ) →
+        contains result.conditions n ≡ is_condition_of cat.now q.now.classes i r p n }
     ensures part { result.part ≡ capped (costs.part_of cat.now q.now r p (leaf i)) }
 {
     let classes = classes_of(q);
@@ -91,7 +90,7 @@ pub fn arm_part_of(cat: &Catalog, q: &Prepared, r: RelNo, arm: &Expr, i: IndexNo
     requires over { IsOver cat.now q.now.range (cond arm.now) }
     requires few { atom_count (cond arm.now) ≤ MOST_ATOMS }
     requires matched { is_matched (index_at cat.now i) r.0 (cond arm.now) ≡ true }
-    ensures part { result ≡ capped (paths.arm_part cat.now q.now.range i r.0 (arm_parts (cond arm.now)) (has_number (arm_bounds (index_at cat.now i) r.0 (cond arm.now)))) }
+    ensures part { result ≡ capped (costs.part_of_arm cat.now q.now r (cond arm.now) i) }
     ensures most { result ≤ MOST_COST }
 {
     let range = range_of(q);

@@ -1,29 +1,20 @@
 //! What bitmap trees and whole plans cost. Each cost is cut to at most 10^18.
 
-ghost use Rattle.std.specs.Prelude.{◌≡◌, ◌<◌, ◌≤◌, ◌-◌, ◌+◌, ◌*◌, ◌||◌, ◌&&◌, ℕ, All, IfSome, List, MatchOption, [], length, map, nat_lt, sum};
+ghost use Rattle.std.specs.Prelude.{◌≡◌, ◌<◌, ◌≤◌, ◌-◌, ◌+◌, ◌*◌, ℕ, IfSome, List, MatchOption, length, map, sum};
 ghost use Rattle.std.specs.List.{AllZip};
-ghost use Rattle.pg_base.specs.Sets.{has};
-ghost use Rattle.pg_base.specs.declared.limits.TheConstants.{MOST_ATOMS};
 ghost use Rattle.pg_expr.specs.AtomSets.{contains};
-ghost use Rattle.pg_expr.specs.Columns.{atom_count};
-ghost use Rattle.pg_expr.specs.Cond.{any_of};
 ghost use Rattle.pg_expr.specs.View as view;
-ghost use Rattle.pg_expr.specs.declared.expr.Expr.{Expr};
 ghost use Rattle.sql_query.specs.catalog_Contents.{Contents, IsIndex};
 ghost use Rattle.cost_rules.specs.declared.parameters.TheConstants.{BITMAP_CHILD, MOST_COST};
 ghost use Rattle.cost_rules.specs.Costs.{IsCost, capped, capped_pair};
-ghost use Rattle.index_match.specs.Arms.{arms_of};
-ghost use Rattle.index_match.specs.Conditions.{index_conditions};
-ghost use Rattle.index_match.specs.Numbered.{has_number};
-ghost use Rattle.path_cost.specs.Columns.{IsOver};
+ghost use Rattle.path_cost.specs.Columns.{AreOver};
 ghost use Rattle.sql_query.specs.Queries.{width};
-ghost use Rattle.plan_tree.specs.Bitmaps as bitmaps;
-ghost use Rattle.plan_tree.specs.Bitmaps.{condition_at};
+ghost use Rattle.plan_tree.specs.Bitmaps.{HasNoArms, IsOrOf, AreOfFewAtoms};
 ghost use Rattle.plan_tree.specs.Costable.{IsCostable, IsMatchedBy, IsCostableTree, AreCostableTrees};
 ghost use Rattle.plan_tree.specs.Costs as costs;
-ghost use Rattle.plan_tree.specs.Plans as plans;
 ghost use Rattle.plan_tree.specs.Reads.{IsOverTables};
 ghost use Rattle.plan_tree.specs.Views.{bits, bits_all, plan};
+ghost use Rattle.plan_tree.specs.Held.{used_with_index, used_with_tree, used_with_all, tree_cost};
 
 use crate::bits::BitTree;
 use crate::elements::or_arms;
@@ -45,7 +36,8 @@ use sql_query::catalog::Catalog;
 /// So many parts of indexes, whose sum is given, together: each after the first is one more child.
 fn together(all: u64, count: usize) -> u64
     requires all { all ≤ MOST_COST }
-    ensures part { (parts : List ℕ) → all ≡ capped (sum parts) → count ≡ length parts → result ≡ capped (costs.together parts) }
+    ensures part { (parts : List ℕ) → all ≡ capped (sum parts) → count ≡ length parts →
+        result ≡ capped (costs.together parts) }
     ensures most { result ≤ MOST_COST }
 {
     let children = (count as u64)
@@ -56,9 +48,11 @@ fn together(all: u64, count: usize) -> u64
 
 /// The arms of the OR clause of a number. None where the number is that of no OR clause.
 pub fn arms_at(q: &Prepared, n: u16) -> Option<&[Expr]>
-    ensures arms { MatchOption result (arms_of (condition_at q.now n) ≡ []) (λ arms. condition_at q.now n ≡ any_of (view.conds arms.now)) }
-    ensures over { (c : Contents) → IsOverTables c q.now → IfSome result (λ arms. All (λ (e : Expr). IsOver c q.now.range (view.cond e)) arms.now) }
-    ensures few { (c : Contents) → IsOverTables c q.now → IfSome result (λ arms. All (λ (e : Expr). atom_count (view.cond e) ≤ MOST_ATOMS) arms.now) }
+    ensures arms { MatchOption result (HasNoArms q.now n) (λ arms. IsOrOf q.now n arms.now) }
+    ensures over { (c : Contents) → IsOverTables c q.now →
+        IfSome result (λ arms. AreOver c q.now.range arms.now) }
+    ensures few { (c : Contents) → IsOverTables c q.now →
+        IfSome result (λ arms. AreOfFewAtoms arms.now) }
 {
     if (n as usize) < classes_of(q).count() {
         or_arms(q, n)
@@ -71,10 +65,10 @@ pub fn arms_at(q: &Prepared, n: u16) -> Option<&[Expr]>
 fn arms_part(cat: &Catalog, q: &Prepared, r: RelNo, arms: &[Expr], indexes: &[IndexNo]) -> u64
     requires query { IsOverTables cat.now q.now }
     requires relation { r.0 < width q.now }
-    requires over { All (λ (e : Expr). IsOver cat.now q.now.range (view.cond e)) arms.now }
-    requires few { All (λ (e : Expr). atom_count (view.cond e) ≤ MOST_ATOMS) arms.now }
+    requires over { AreOver cat.now q.now.range arms.now }
+    requires few { AreOfFewAtoms arms.now }
     requires matched { AllZip (IsMatchedBy cat.now r.0) (map view.cond arms.now) indexes.now }
-    ensures part { result ≡ capped (costs.together (costs.parts_of_arms cat.now q.now r (map view.cond arms.now) indexes.now)) }
+    ensures part { result ≡ capped (costs.arms_together cat.now q.now r arms.now indexes.now) }
     ensures most { result ≤ MOST_COST }
 {
     let mut sum = 0;
@@ -109,7 +103,7 @@ fn trees_part(cat: &Catalog, q: &Prepared, r: RelNo, p: RelSet, trees: &[BitTree
     requires query { IsOverTables cat.now q.now }
     requires relation { r.0 < width q.now }
     requires trees { AreCostableTrees cat.now q.now r.0 (bits_all trees.now) }
-    ensures part { result ≡ capped (costs.together (costs.parts_of_all cat.now q.now r p (bits_all trees.now))) }
+    ensures part { result ≡ capped (costs.trees_together cat.now q.now r p (bits_all trees.now)) }
     ensures most { result ≤ MOST_COST }
 {
     let mut sum = 0;
@@ -131,7 +125,7 @@ fn use_conditions(
     requires few { width q.now ≤ 16 }
     requires relation { r.0 < width q.now }
     requires index { IsIndex cat.now i }
-    ensures { (k : ℕ) → contains used.new k ≡ contains used.old k || (nat_lt k (length q.now.classes.clauses) && has_number (index_conditions cat.now q.now.classes i r.0 (has p.0)) k) }
+    ensures { (k : ℕ) → contains used.new k ≡ used_with_index cat.now q.now r p i used.old k }
 {
     let classes = classes_of(q);
     let found = conditions(cat, range_of(q), classes, i, r, p);
@@ -154,7 +148,7 @@ pub fn use_tree(
     requires few { width q.now ≤ 16 }
     requires relation { r.0 < width q.now }
     requires tree { IsCostableTree cat.now q.now r.0 (bits tree.now) }
-    ensures { (k : ℕ) → contains used.new k ≡ contains used.old k || (nat_lt k (length q.now.classes.clauses) && bitmaps.uses cat.now q.now r.0 (has p.0) (bits tree.now) k) }
+    ensures { (k : ℕ) → contains used.new k ≡ used_with_tree cat.now q.now r p tree.now used.old k }
 {
     match tree {
         BitTree::Leaf(i) => use_conditions(cat, q, r, p, *i, used),
@@ -181,7 +175,7 @@ fn use_trees(
     requires few { width q.now ≤ 16 }
     requires relation { r.0 < width q.now }
     requires trees { AreCostableTrees cat.now q.now r.0 (bits_all trees.now) }
-    ensures { (k : ℕ) → contains used.new k ≡ contains used.old k || (nat_lt k (length q.now.classes.clauses) && bitmaps.some_uses cat.now q.now r.0 (has p.0) (bits_all trees.now) k) }
+    ensures { (k : ℕ) → contains used.new k ≡ used_with_all cat.now q.now r p trees.now used.old k }
 {
     for tree in trees {
         use_tree(cat, q, r, p, tree, used);
@@ -200,7 +194,7 @@ pub fn bitmap_scan_cost(
     requires query { IsOverTables cat.now q.now }
     requires relation { r.0 < width q.now }
     requires tree { IsCostableTree cat.now q.now r.0 (bits tree.now) }
-    ensures rule { result ≡ capped_pair (costs.cost cat.now q.now (plans.bitmap r param (bits tree.now))) }
+    ensures rule { result ≡ capped_pair (tree_cost cat.now q.now r param tree.now) }
     ensures cost { IsCost result }
 {
     let mut used = ClauseSet::empty();

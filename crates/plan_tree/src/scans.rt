@@ -1,7 +1,6 @@
 //! What scans of one relation cost.
 
-ghost use Rattle.std.specs.Prelude.{◌≡◌, ◌<◌, ◌&&◌, ◌||◌, ℕ, length, nat_lt};
-ghost use Rattle.pg_base.specs.Sets.{has};
+ghost use Rattle.std.specs.Prelude.{◌≡◌, ◌<◌, ℕ};
 ghost use Rattle.pg_expr.specs.AtomSets.{contains};
 ghost use Rattle.sql_query.specs.catalog_Contents.{IsIndex};
 ghost use Rattle.cost_rules.specs.Costs.{IsCost, capped_pair};
@@ -9,6 +8,7 @@ ghost use Rattle.path_cost.specs.Costs as paths;
 ghost use Rattle.sql_query.specs.Queries.{width};
 ghost use Rattle.plan_tree.specs.Costs as costs;
 ghost use Rattle.plan_tree.specs.Reads.{IsOverTables};
+ghost use Rattle.plan_tree.specs.Held.{is_of_match};
 
 use crate::estimates::{classes_of, range_of};
 use cost_rules::Pair;
@@ -32,7 +32,7 @@ pub fn seq_scan_cost(cat: &Catalog, q: &Prepared, r: RelNo) -> Pair
 /// The bounds and tests of an index together.
 #[tactic(auto, using(eq_classes::proofs::WordLemmas::grows))]
 pub fn bounds_and_tests(classes: &Classes, found: &Match) -> ClauseSet
-    ensures { (k : ℕ) → contains result k ≡ nat_lt k (length classes.now.clauses) && (contains found.now.bounds k || contains found.now.tests k) }
+    ensures { (k : ℕ) → contains result k ≡ is_of_match classes.now found.now k }
 {
     let mut set = ClauseSet::empty();
     for n in 0..classes.count() {

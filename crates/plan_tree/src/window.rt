@@ -5,7 +5,7 @@ ghost use Rattle.sql_query.specs.catalog_Contents.{Contents};
 ghost use Rattle.cost_rules.specs.Costs.{IsCost, IsEstimate, capped_pair};
 ghost use Rattle.plan_tree.specs.Costs as costs;
 ghost use Rattle.plan_tree.specs.Least.{IsAdmissible};
-ghost use Rattle.plan_tree.specs.Paths.{HasItsNumbers, kept_cost, startup_kept};
+ghost use Rattle.plan_tree.specs.Paths.{HasItsNumbers, kept_cost, startup_kept, cost_kept};
 ghost use Rattle.plan_tree.specs.Plans as plans;
 ghost use Rattle.plan_tree.specs.Views.{path};
 
@@ -40,7 +40,7 @@ pub fn kept_of(q: &Prepared, cost: Pair) -> Pair
 pub fn cost_of(cat: &Catalog, q: &Prepared, p: &Path) -> Pair
     requires numbers { HasItsNumbers cat.now q.now (path p.now) }
     requires admissible { IsAdmissible cat.now q.now (path p.now).tree }
-    ensures kept { result ≡ capped_pair (kept_cost q.now.window (costs.cost cat.now q.now (path p.now).tree)) }
+    ensures kept { result ≡ capped_pair (cost_kept cat.now q.now (path p.now).tree) }
     ensures cost { IsCost result }
 {
     cat.lawful();
@@ -65,7 +65,8 @@ pub fn asked(w: Window, rows: u64) -> u64
 pub fn price_of(q: &Prepared, cost: Pair, rows: u64) -> u64
     requires startup { cost.startup ≤ cost.total }
     requires rows { IsEstimate rows }
-    ensures price { (c : Contents) (p : plans.Plan) → cost ≡ kept_cost q.now.window (costs.cost c q.now p) → rows ≡ costs.query_rows c q.now → result ≡ costs.price c q.now p }
+    ensures price { (c : Contents) (p : plans.Plan) → cost ≡ cost_kept c q.now p →
+        rows ≡ costs.query_rows c q.now → result ≡ costs.price c q.now p }
     ensures most { result ≤ cost.total }
 {
     match q.window {

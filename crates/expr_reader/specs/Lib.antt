@@ -3,6 +3,7 @@ pub mod Literals
 pub mod Conditions
 pub mod Reads
 pub mod Written
+pub mod Expressions
 pub mod Parted
 pub mod Reading
 pub mod Operators

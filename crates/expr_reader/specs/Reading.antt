@@ -1,11 +1,14 @@
 -- What a step of a cursor says of the words that were left and of those that are left (own).
-use Rattle.std.specs.Prelude.{◌≡◌, ℕ, ◌-◌, ◌^◌, min, true, List, ◌∷◌}
+use Rattle.std.specs.Prelude.{◌≡◌, ℕ, ◌-◌, ◌^◌, min, Bool, true, List, ◌∷◌, ◌++◌, Option, MatchOption}
 use Rattle.std.specs.Str.Parse.{digits_value}
 use Rattle.pg_value.specs.Fields.{is_numeral}
 use Rattle.sql_lex.specs.declared.tokens.Token.{Token}
 use Rattle.sql_lex.specs.declared.tokens.Kind.TheVariants.{Number as NumberKind}
-use Rattle.sql_grammar.specs.Terminals.{Terminal, Ident, Said, token_of, t_name, t_number, t_operator, t_quoted}
+use Rattle.sql_grammar.specs.declared.class.Class.{Class}
+use Rattle.sql_grammar.specs.declared.class.Free.{Free}
+use Rattle.sql_grammar.specs.Terminals.{Terminal, Ident, Said, class_of, free, token_of, t_name, t_number, t_operator, t_quoted}
 use Rattle.sql_grammar.specs.Reading.{bytes_of_token}
+use Rattle.sql_grammar.specs.Unique.{token_in}
 use Rattle.sql_grammar.specs.Faults.{bytes_of}
 use Rattle.expr_reader.specs.declared.cursor.Number.{Number}
 use Rattle.expr_reader.specs.declared.cursor.Operator.{Operator}
@@ -19,6 +22,18 @@ Begins word ts left = (token : Token) × (ts ≡ word token ∷ left)
 -- this word is not next
 abbrev pub BeginsNot : (Token → Terminal) → List Terminal → Type 0
 BeginsNot word ts = (left : List Terminal) → ¬ Begins word ts left
+
+-- the word that is not reserved and has its place in the grammar, at a token
+abbrev pub free_name : Free → Token → Terminal
+free_name wanted = λ token. t_name (free wanted token)
+
+-- a word of this class is next
+abbrev pub IsNextClass : Class → List Terminal → Type 0
+IsNextClass c ts = (word : Terminal) × (left : List Terminal) × (class_of word ≡ c) × (ts ≡ word ∷ left)
+
+-- where a word is next, this is its token
+abbrev pub IsNextToken : Token → List Terminal → Type 0
+IsNextToken token ts = (word : Terminal) (left : List Terminal) → ts ≡ word ∷ left → token ≡ token_in word
 
 -- what a name says
 abbrev pub spelled : Ident → Spelled
@@ -52,6 +67,10 @@ BeginsNumber n ts left = (said : Said) × (n ≡ numbered said) × (ts ≡ t_num
 abbrev pub BeginsNoNumber : List Terminal → Type 0
 BeginsNoNumber ts = (said : Said) (left : List Terminal) → ¬ (ts ≡ t_number said ∷ left)
 
+-- the number that is next is taken, or none is next and no word is taken
+abbrev pub TakesNumber : Option Number → List Terminal → List Terminal → Type 0
+TakesNumber taken old new = MatchOption taken ((new ≡ old) × BeginsNoNumber old) (λ n. BeginsNumber n old new)
+
 -- the operator that is spelled
 abbrev pub operator_said : Said → Operator
 operator_said said = record { op = operator_of said.value; token = said.token }
@@ -64,6 +83,40 @@ BeginsOperator o ts left = (said : Said) × (o ≡ operator_said said) × (ts �
 abbrev pub BeginsNoOperator : List Terminal → Type 0
 BeginsNoOperator ts = (said : Said) (left : List Terminal) → ¬ (ts ≡ t_operator said ∷ left)
 
+-- the operator that is next is taken, or none is next and no word is taken
+abbrev pub TakesOperator : Option Operator → List Terminal → List Terminal → Type 0
+TakesOperator taken old new = MatchOption taken ((new ≡ old) × BeginsNoOperator old) (λ o. BeginsOperator o old new)
+
 -- a number's token is decimal digits
 abbrev pub HasDigits : List ℕ → Token → Type 0
 HasDigits text token = token.kind ≡ NumberKind → is_numeral (bytes_of_token text token) ≡ true
+
+-- a part with these words stands first, and no word behind it goes on it
+abbrev pub StandsFirst : {A : Type 0} → (A → List Terminal) → (List Terminal → Bool) → List Terminal → Type 0
+StandsFirst {A} words ends ts = (x : A) × (rest : List Terminal) × (ends rest ≡ true) × (ts ≡ words x ++ rest)
+
+-- where such a part stands first, this holds of it and of what stands behind it
+abbrev pub IfFirst : {A : Type 0} → (A → List Terminal) → (List Terminal → Bool) → List Terminal →
+    (A → List Terminal → Type 0) → Type 0
+IfFirst {A} words ends ts P = (x : A) (rest : List Terminal) → ends rest ≡ true → ts ≡ words x ++ rest → P x rest
+
+-- where such a part stands first, what it means is read, and what stands behind it is left
+abbrev pub Yields : {A B : Type 0} → (A → List Terminal) → (List Terminal → Bool) → (A → B) → List Terminal → B →
+    List Terminal → Type 0
+Yields words ends meaning old read left = IfFirst words ends old (λ x rest. (read ≡ meaning x) × (left ≡ rest))
+
+-- where a part with these words, which nothing goes on, stands first, this holds of it and of what stands behind it
+abbrev pub IfWords : {A : Type 0} → (A → List Terminal) → List Terminal → (A → List Terminal → Type 0) → Type 0
+IfWords {A} words ts P = (x : A) (rest : List Terminal) → ts ≡ words x ++ rest → P x rest
+
+-- where such a part stands first, what it means is read, and what stands behind it is left
+abbrev pub YieldsWords : {A B : Type 0} → (A → List Terminal) → (A → B) → List Terminal → B → List Terminal → Type 0
+YieldsWords words meaning old read left = IfWords words old (λ x rest. (read ≡ meaning x) × (left ≡ rest))
+
+-- where a word of this kind is next, this holds of what it says and of what stands behind it
+abbrev pub IfNext : {A : Type 0} → (A → Terminal) → List Terminal → (A → List Terminal → Type 0) → Type 0
+IfNext {A} word ts P = (x : A) (rest : List Terminal) → ts ≡ word x ∷ rest → P x rest
+
+-- where a word of this kind is next, what it means is read, and what stands behind it is left
+abbrev pub YieldsNext : {A B : Type 0} → (A → Terminal) → (A → B) → List Terminal → B → List Terminal → Type 0
+YieldsNext word meaning old read left = IfNext word old (λ x rest. (read ≡ meaning x) × (left ≡ rest))

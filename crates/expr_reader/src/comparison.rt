@@ -2,12 +2,10 @@
 
 ghost use Rattle.std.specs.Prelude.{◌≡◌, Option};
 ghost use Rattle.pg_expr.specs.View.{cond};
-ghost use Rattle.sql_grammar.specs.Terminals.{Said};
-ghost use Rattle.expr_reader.specs.Reading.{operator_said};
-ghost use Rattle.expr_reader.specs.Conditions.{Side as SideTree, own_type as own_type_of, type_beside as type_beside_of, operand_of as operand_of_side, operated as operated_of, compare_sides};
+ghost use Rattle.expr_reader.specs.Conditions.{Side as SideTree, own_type as own_type_of, type_beside as type_beside_of, operand_of as operand_of_side, operated as operated_of};
 ghost use Rattle.expr_reader.specs.Literals.{type_of_lit};
 ghost use Rattle.expr_reader.specs.Reads.{seen_as};
-ghost use Rattle.expr_reader.specs.Written.{side_read};
+ghost use Rattle.expr_reader.specs.Written.{side_read, IsComparison};
 
 use crate::Operator;
 use crate::value::literal_value;
@@ -69,7 +67,7 @@ fn operated(
 
 /// The comparison of two sides, or its first fault: of a literal, from the left, and then of the operator. No memory is wanted.
 pub fn compare(alloc: Global, operator: Operator, left: Side, right: Side) -> Result<Expr, Fault>
-    ensures { (o : Said) (a b : SideTree) → operator ≡ operator_said o → left ≡ side_read a → right ≡ side_read b → seen_as cond result ≡ compare_sides o a b }
+    ensures { IsComparison operator left right (seen_as cond result) }
 {
     let own = own_type(&left);
     let other = own_type(&right);

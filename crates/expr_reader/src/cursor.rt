@@ -2,10 +2,9 @@
 
 ghost use Rattle.std.specs.Prelude.{◌≡◌, ◌≢◌, ◌≤◌, ◌^◌, ℕ, List, [], ◌∷◌, length, drop, take, true, false, IfErr, IfOk, MatchOption, MatchResult};
 ghost use Rattle.sql_lex.specs.Words.{AreWords};
-ghost use Rattle.sql_grammar.specs.Terminals.{Terminal, Ident, free, t_key, t_mark, t_name, class_of as class_of_terminal};
-ghost use Rattle.sql_grammar.specs.Unique.{token_in};
+ghost use Rattle.sql_grammar.specs.Terminals.{Terminal, Ident, t_key, t_mark, t_name};
 ghost use Rattle.sql_grammar.specs.Faults.{terminals};
-ghost use Rattle.expr_reader.specs.Reading.{Begins, BeginsNot, BeginsName, BeginsNoName, BeginsQuoted, BeginsNoQuoted, BeginsNumber, BeginsNoNumber, BeginsOperator, BeginsNoOperator};
+ghost use Rattle.expr_reader.specs.Reading.{Begins, BeginsNot, BeginsName, BeginsNoName, BeginsQuoted, BeginsNoQuoted, IsNextToken, IsNextClass, free_name, TakesNumber, TakesOperator};
 
 use crate::values::{number_value, operator_named, small_letters, unquoted};
 use pg_value::{Bytes, Op};
@@ -95,14 +94,14 @@ impl<'a> Cursor<'a> {
     /// The token of the next word, which stays.
     pub fn token(&self) -> Token
         requires { (word : Terminal) × (left : List Terminal) × (self.now ≡ word ∷ left) }
-        ensures { (word : Terminal) (left : List Terminal) → self.now ≡ word ∷ left → result ≡ token_in word }
+        ensures { IsNextToken result self.now }
     {
         self.tokens[self.at]
     }
 
     /// The class of the next word, which stays; None where none is left.
     pub fn peek(&self) -> Option<Class>
-        ensures { MatchOption result (self.now ≡ []) (λ c. (word : Terminal) × (left : List Terminal) × (class_of_terminal word ≡ c) × (self.now ≡ word ∷ left)) }
+        ensures { MatchOption result (self.now ≡ []) (λ c. IsNextClass c self.now) }
     {
         if self.at < self.tokens.len() {
             Some(class_of(self.text, self.tokens[self.at]))
@@ -152,9 +151,9 @@ impl<'a> Cursor<'a> {
 
     /// Takes the next word where it is this word, which is not reserved.
     pub fn takes_free(&mut self, wanted: Free) -> bool
-        ensures took { result ≡ true → Begins (λ token. t_name (free wanted token)) self.old self.new }
+        ensures took { result ≡ true → Begins (free_name wanted) self.old self.new }
         ensures left { result ≡ false → self.new ≡ self.old }
-        ensures other { result ≡ false → BeginsNot (λ token. t_name (free wanted token)) self.old }
+        ensures other { result ≡ false → BeginsNot (free_name wanted) self.old }
     {
         if self.peek() == Some(Class::Name(Some(wanted))) {
             self.skip(1);
@@ -200,7 +199,7 @@ impl<'a> Cursor<'a> {
 
     /// Takes the next word where it is a number.
     pub fn number(&mut self) -> Option<Number>
-        ensures { MatchOption result ((self.new ≡ self.old) × BeginsNoNumber self.old) (λ n. BeginsNumber n self.old self.new) }
+        ensures { TakesNumber result self.old self.new }
     {
         match self.peek() {
             Some(Class::Number) => {
@@ -215,7 +214,7 @@ impl<'a> Cursor<'a> {
 
     /// Takes the next word where it is an operator.
     pub fn operator(&mut self) -> Option<Operator>
-        ensures { MatchOption result ((self.new ≡ self.old) × BeginsNoOperator self.old) (λ o. BeginsOperator o self.old self.new) }
+        ensures { TakesOperator result self.old self.new }
     {
         match self.peek() {
             Some(Class::Operator) => {

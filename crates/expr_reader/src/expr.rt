@@ -1,20 +1,20 @@
 //! The words of an expression, from the left.
 
-ghost use Rattle.std.specs.Prelude.{◌≡◌, ◌≢◌, ◌≤◌, ◌<◌, length, true, false, List, [], ◌∷◌, ◌++◌, Ok, MatchOption};
+ghost use Rattle.std.specs.Prelude.{◌≡◌, ◌≢◌, ◌≤◌, ◌<◌, length, [], ◌∷◌, Ok, MatchOption};
 ghost use Rattle.pg_expr.specs.Cond.{is_null, is_not_null, const};
 ghost use Rattle.pg_expr.specs.View.{cond, conds};
 ghost use Rattle.pg_value.specs.declared.operators.Truth.{Truth};
 ghost use Rattle.expr_reader.specs.declared.written.Literal.TheVariants.{Constant as ConstantOf};
 ghost use Rattle.sql_lex.specs.declared.tokens.Token.{Token};
-ghost use Rattle.sql_grammar.specs.declared.class.Word.TheVariants.{Is, Not, Null};
-ghost use Rattle.sql_grammar.specs.Terminals.{Terminal, Said, t_key};
-ghost use Rattle.sql_grammar.specs.Syntax.{Expr as ExprTree, Conj, Neg, Atom, Operand};
-ghost use Rattle.sql_grammar.specs.Unique.{ends_operand, ends_atom, ends_conj, ends_expr, is_parens, front, tail};
+ghost use Rattle.sql_grammar.specs.declared.class.Word.TheVariants.{Is};
+ghost use Rattle.sql_grammar.specs.Terminals.{t_key};
+ghost use Rattle.sql_grammar.specs.Unique.{ends_operand, ends_atom, ends_conj, ends_expr};
 ghost use Rattle.sql_grammar.specs.Words.{words_of_expr, words_of_conj, words_of_neg, words_of_atom, words_of_operand};
-ghost use Rattle.expr_reader.specs.Reading.{BeginsNot, operator_said};
-ghost use Rattle.expr_reader.specs.Conditions.{next, Side as SideTree, side_of, compare_sides, flag_column as flag_column_of, or_of as or_of_conds, and_of as and_of_conds, meaning_of_expr, meaning_of_conj, meaning_of_neg, meaning_of_atom};
-ghost use Rattle.expr_reader.specs.Reads.{Reads, seen_as};
-ghost use Rattle.expr_reader.specs.Written.{side_read, IsNullWords};
+ghost use Rattle.expr_reader.specs.Reading.{BeginsNot, StandsFirst, IfNext};
+ghost use Rattle.expr_reader.specs.Conditions.{flag_column as flag_column_of, or_of as or_of_conds, and_of as and_of_conds};
+ghost use Rattle.expr_reader.specs.Reads.{seen_as};
+ghost use Rattle.expr_reader.specs.Written.{IsNullWords, ReadsNull, ReadsNotNull, ReadsIsNull, ReadsIsNotNull};
+ghost use Rattle.expr_reader.specs.Expressions.{ReadsComparison, StandsTail, ReadsTail, ReadsAtom, ReadsNeg, ReadsConj, ReadsExpr};
 
 use crate::comparison::compare;
 use crate::operand::operand;
@@ -31,8 +31,8 @@ use std::alloc::Global;
 /// The null test of a column, after IS.
 fn null_test(from: &mut Cursor, c: ColRef) -> Expr
     requires { IsNullWords from.old }
-    ensures plain { (null : Token) (rest : List Terminal) → from.old ≡ t_key Null null ∷ rest → (cond result ≡ is_null c) × (from.new ≡ rest) }
-    ensures negated { (not null : Token) (rest : List Terminal) → from.old ≡ t_key Not not ∷ t_key Null null ∷ rest → (cond result ≡ is_not_null c) × (from.new ≡ rest) }
+    ensures plain { ReadsNull (is_null c) from.old (cond result) from.new }
+    ensures negated { ReadsNotNull (is_not_null c) from.old (cond result) from.new }
     ensures ahead { length from.new ≤ length from.old }
 {
     let negated = from.takes(Word::Not);
@@ -58,11 +58,11 @@ fn flag_column(c: ColRef, t: SqlType, token: Token) -> Result<Expr, Fault>
 
 /// A column's null test where IS is next, else the column by itself.
 fn column_test(from: &mut Cursor, c: ColRef, t: SqlType, token: Token) -> Result<Expr, Fault>
-    requires { (is : Token) (left : List Terminal) → from.old ≡ t_key Is is ∷ left → IsNullWords left }
-    ensures plain { (is null : Token) (rest : List Terminal) → from.old ≡ t_key Is is ∷ t_key Null null ∷ rest → (seen_as cond result ≡ Ok (is_null c)) × (from.new ≡ rest) }
-    ensures negated { (is not null : Token) (rest : List Terminal) → from.old ≡ t_key Is is ∷ t_key Not not ∷ t_key Null null ∷ rest →
-        (seen_as cond result ≡ Ok (is_not_null c)) × (from.new ≡ rest) }
-    ensures alone { BeginsNot (t_key Is) from.old → (seen_as cond result ≡ flag_column_of t c token) × (from.new ≡ from.old) }
+    requires { IfNext (t_key Is) from.old (λ is left. IsNullWords left) }
+    ensures plain { ReadsIsNull (Ok (is_null c)) from.old (seen_as cond result) from.new }
+    ensures negated { ReadsIsNotNull (Ok (is_not_null c)) from.old (seen_as cond result) from.new }
+    ensures alone { BeginsNot (t_key Is) from.old →
+        (seen_as cond result ≡ flag_column_of t c token) × (from.new ≡ from.old) }
     ensures ahead { length from.new ≤ length from.old }
 {
     if from.takes(Word::Is) {
@@ -90,10 +90,9 @@ fn comparison<S: Scope>(
     left: Side,
     operator: Operator,
 ) -> Result<Expr, Refusal>
-    requires { (o : Operand) × (rest : List Terminal) × (ends_operand rest ≡ true) × (from.old ≡ words_of_operand o ++ rest) }
-    ensures read { (a : SideTree) (op : Said) (o : Operand) (rest : List Terminal) → left ≡ side_read a → operator ≡ operator_said op → ends_operand rest ≡ true →
-        from.old ≡ words_of_operand o ++ rest →
-        Reads cond (next (side_of (S.visible scope.now) (S.type_of scope.now) o) (λ b. compare_sides op a b)) rest result from.new }
+    requires { StandsFirst words_of_operand ends_operand from.old }
+    ensures read { ReadsComparison (S.visible scope.now) (S.type_of scope.now) left operator
+        from.old result from.new }
     ensures ahead { length from.new ≤ length from.old }
 {
     let right = operand(alloc, scope, from)?;
@@ -107,11 +106,9 @@ fn after_operand<S: Scope>(
     from: &mut Cursor,
     left: Side,
 ) -> Result<Expr, Refusal>
-    requires { (a : Atom) × (s : SideTree) × (rest : List Terminal) × (is_parens a ≡ false) × (ends_atom rest ≡ true) ×
-        (side_of (S.visible scope.now) (S.type_of scope.now) (front a) ≡ Ok s) × (left ≡ side_read s) × (from.old ≡ tail a rest) }
-    ensures read { (a : Atom) (s : SideTree) (rest : List Terminal) → is_parens a ≡ false → ends_atom rest ≡ true →
-        side_of (S.visible scope.now) (S.type_of scope.now) (front a) ≡ Ok s → left ≡ side_read s → from.old ≡ tail a rest →
-        Reads cond (meaning_of_atom (S.visible scope.now) (S.type_of scope.now) a) rest result from.new }
+    requires { StandsTail (S.visible scope.now) (S.type_of scope.now) left from.old }
+    ensures read { ReadsTail (S.visible scope.now) (S.type_of scope.now) left
+        from.old result from.new }
     ensures ahead { length from.new ≤ length from.old }
 {
     if let Some(operator) = from.operator() {
@@ -125,7 +122,8 @@ fn after_operand<S: Scope>(
 
 /// The part, where it is the only one.
 fn only(parts: &mut Vec<Expr>) -> Option<Expr>
-    ensures { MatchOption result ((parts.new ≡ parts.old) × (length parts.old.items ≢ 1)) (λ e. parts.old.items ≡ e ∷ []) }
+    ensures { MatchOption result ((parts.new ≡ parts.old) × (length parts.old.items ≢ 1))
+        (λ e. parts.old.items ≡ e ∷ []) }
 {
     if parts.len() == 1 { parts.pop() } else { None }
 }
@@ -155,9 +153,8 @@ fn and_of(mut parts: Vec<Expr>) -> Expr
 /// The expression in parentheses, the comparison, the null test, the column or the constant that is next.
 #[cycle(expr)]
 fn atom<S: Scope>(alloc: Global, scope: &S, from: &mut Cursor) -> Result<Expr, Refusal>
-    requires { (a : Atom) × (rest : List Terminal) × (ends_atom rest ≡ true) × (from.old ≡ words_of_atom a ++ rest) }
-    ensures read { (a : Atom) (rest : List Terminal) → ends_atom rest ≡ true → from.old ≡ words_of_atom a ++ rest →
-        Reads cond (meaning_of_atom (S.visible scope.now) (S.type_of scope.now) a) rest result from.new }
+    requires { StandsFirst words_of_atom ends_atom from.old }
+    ensures read { ReadsAtom (S.visible scope.now) (S.type_of scope.now) from.old result from.new }
     ensures ahead { length from.new ≤ length from.old }
 {
     if from.takes_mark(Symbol::Open) {
@@ -174,9 +171,8 @@ fn atom<S: Scope>(alloc: Global, scope: &S, from: &mut Cursor) -> Result<Expr, R
 /// The atom that is next, with the NOTs before it.
 #[cycle(expr)]
 fn negation<S: Scope>(alloc: Global, scope: &S, from: &mut Cursor) -> Result<Expr, Refusal>
-    requires { (n : Neg) × (rest : List Terminal) × (ends_atom rest ≡ true) × (from.old ≡ words_of_neg n ++ rest) }
-    ensures read { (n : Neg) (rest : List Terminal) → ends_atom rest ≡ true → from.old ≡ words_of_neg n ++ rest →
-        Reads cond (meaning_of_neg (S.visible scope.now) (S.type_of scope.now) n) rest result from.new }
+    requires { StandsFirst words_of_neg ends_atom from.old }
+    ensures read { ReadsNeg (S.visible scope.now) (S.type_of scope.now) from.old result from.new }
     ensures ahead { length from.new ≤ length from.old }
 {
     if from.takes(Word::Not) {
@@ -189,9 +185,8 @@ fn negation<S: Scope>(alloc: Global, scope: &S, from: &mut Cursor) -> Result<Exp
 /// The AND that is next.
 #[cycle(expr)]
 fn conjunction<S: Scope>(alloc: Global, scope: &S, from: &mut Cursor) -> Result<Expr, Refusal>
-    requires { (c : Conj) × (rest : List Terminal) × (ends_conj rest ≡ true) × (from.old ≡ words_of_conj c ++ rest) }
-    ensures read { (c : Conj) (rest : List Terminal) → ends_conj rest ≡ true → from.old ≡ words_of_conj c ++ rest →
-        Reads cond (meaning_of_conj (S.visible scope.now) (S.type_of scope.now) c) rest result from.new }
+    requires { StandsFirst words_of_conj ends_conj from.old }
+    ensures read { ReadsConj (S.visible scope.now) (S.type_of scope.now) from.old result from.new }
     ensures ahead { length from.new ≤ length from.old }
 {
     let mut parts = Vec::new(alloc);
@@ -205,9 +200,8 @@ fn conjunction<S: Scope>(alloc: Global, scope: &S, from: &mut Cursor) -> Result<
 /// The OR that is next.
 #[cycle(expr)]
 pub fn disjunction<S: Scope>(alloc: Global, scope: &S, from: &mut Cursor) -> Result<Expr, Refusal>
-    requires { (e : ExprTree) × (rest : List Terminal) × (ends_expr rest ≡ true) × (from.old ≡ words_of_expr e ++ rest) }
-    ensures read { (e : ExprTree) (rest : List Terminal) → ends_expr rest ≡ true → from.old ≡ words_of_expr e ++ rest →
-        Reads cond (meaning_of_expr (S.visible scope.now) (S.type_of scope.now) e) rest result from.new }
+    requires { StandsFirst words_of_expr ends_expr from.old }
+    ensures read { ReadsExpr (S.visible scope.now) (S.type_of scope.now) from.old result from.new }
     ensures ahead { length from.new ≤ length from.old }
 {
     let mut parts = Vec::new(alloc);

@@ -6,6 +6,7 @@ ghost use Rattle.sql_grammar.specs.Syntax.{Constant, Lit};
 ghost use Rattle.sql_grammar.specs.Words.{words_of_lit, constant_word};
 ghost use Rattle.expr_reader.specs.Conditions.{truth_of_constant};
 ghost use Rattle.expr_reader.specs.Written.{literal_of, whole as whole_literal};
+ghost use Rattle.expr_reader.specs.Reading.{YieldsWords, YieldsNext};
 
 use crate::Cursor;
 use crate::written::Literal;
@@ -18,7 +19,7 @@ use std::alloc::Global;
 /// A number; whether a `-` stood before it, and the literal's first token.
 fn whole(from: &mut Cursor, minus: bool, token: Token) -> Literal
     requires { (n : Said) × (rest : List Terminal) × (from.old ≡ t_number n ∷ rest) }
-    ensures read { (n : Said) (rest : List Terminal) → from.old ≡ t_number n ∷ rest → (result ≡ whole_literal minus token n) × (from.new ≡ rest) }
+    ensures read { YieldsNext t_number (whole_literal minus token) from.old result from.new }
     ensures ahead { length from.new ≤ length from.old }
 {
     let Some(number) = from.number() else {
@@ -48,7 +49,7 @@ fn constant(from: &mut Cursor) -> Option<Truth>
 /// The literal that is next.
 pub fn literal(alloc: Global, from: &mut Cursor) -> Result<Literal, Memory>
     requires { (l : Lit) × (rest : List Terminal) × (from.old ≡ words_of_lit l ++ rest) }
-    ensures read { IfOk result (λ x. (l : Lit) (rest : List Terminal) → from.old ≡ words_of_lit l ++ rest → (x ≡ literal_of l) × (from.new ≡ rest)) }
+    ensures read { IfOk result (λ x. YieldsWords words_of_lit literal_of from.old x from.new) }
     ensures ahead { length from.new ≤ length from.old }
 {
     let token = from.token();

@@ -1,14 +1,12 @@
 //! A side of a comparison: a column that is looked up, or a literal.
 
-ghost use Rattle.std.specs.Prelude.{◌≡◌, ◌≤◌, length, true, List, ◌++◌, Contains, IfOk};
-ghost use Rattle.sql_grammar.specs.Terminals.{Terminal};
-ghost use Rattle.sql_grammar.specs.Syntax.{Col, Operand, column as column_tree};
+ghost use Rattle.std.specs.Prelude.{◌≡◌, ◌≤◌, length, Contains, IfOk};
 ghost use Rattle.sql_grammar.specs.Unique.{ends_operand};
 ghost use Rattle.sql_grammar.specs.Words.{words_of_col, words_of_operand};
-ghost use Rattle.expr_reader.specs.Conditions.{the_column, column_of};
-ghost use Rattle.expr_reader.specs.Reads.{Reads};
+ghost use Rattle.expr_reader.specs.Conditions.{the_column};
 ghost use Rattle.expr_reader.specs.Scope.{columns_of};
-ghost use Rattle.expr_reader.specs.Written.{side_meant};
+ghost use Rattle.expr_reader.specs.Reading.{StandsFirst};
+ghost use Rattle.expr_reader.specs.Expressions.{ReadsColumn, ReadsSide, ReadsOperand};
 
 use crate::Cursor;
 use crate::found::Found;
@@ -37,9 +35,8 @@ pub fn found_column(found: Found, qualifier: Token, name: Token) -> Result<ColRe
 /// The column that is next, bound to the visible ones. The condition is that the words that are left begin with one, and that
 /// no dot follows it. The refusal is `Memory`, or the column's fault as `found_column` gives it.
 pub fn take_column<S: Scope>(alloc: Global, scope: &S, from: &mut Cursor) -> Result<ColRef, Refusal>
-    requires { (c : Col) × (rest : List Terminal) × (ends_operand rest ≡ true) × (from.old ≡ words_of_col c ++ rest) }
-    ensures read { (c : Col) (rest : List Terminal) → ends_operand rest ≡ true → from.old ≡ words_of_col c ++ rest →
-        Reads (λ x. x) (column_of (S.visible scope.now) c) rest result from.new }
+    requires { StandsFirst words_of_col ends_operand from.old }
+    ensures read { ReadsColumn (S.visible scope.now) from.old result from.new }
     ensures ahead { length from.new ≤ length from.old }
     ensures visible { IfOk result (Contains (columns_of (S.visible scope.now))) }
 {
@@ -55,9 +52,8 @@ pub fn take_column<S: Scope>(alloc: Global, scope: &S, from: &mut Cursor) -> Res
 
 /// The column that is next, with its type and the token of its first word.
 fn column<S: Scope>(alloc: Global, scope: &S, from: &mut Cursor) -> Result<Side, Refusal>
-    requires { (c : Col) × (rest : List Terminal) × (ends_operand rest ≡ true) × (from.old ≡ words_of_col c ++ rest) }
-    ensures read { (c : Col) (rest : List Terminal) → ends_operand rest ≡ true → from.old ≡ words_of_col c ++ rest →
-        Reads (λ x. x) (side_meant (S.visible scope.now) (S.type_of scope.now) (column_tree c)) rest result from.new }
+    requires { StandsFirst words_of_col ends_operand from.old }
+    ensures read { ReadsSide (S.visible scope.now) (S.type_of scope.now) from.old result from.new }
     ensures ahead { length from.new ≤ length from.old }
 {
     let first = from.token();
@@ -67,9 +63,8 @@ fn column<S: Scope>(alloc: Global, scope: &S, from: &mut Cursor) -> Result<Side,
 
 /// The operand that is next.
 pub fn operand<S: Scope>(alloc: Global, scope: &S, from: &mut Cursor) -> Result<Side, Refusal>
-    requires { (o : Operand) × (rest : List Terminal) × (ends_operand rest ≡ true) × (from.old ≡ words_of_operand o ++ rest) }
-    ensures read { (o : Operand) (rest : List Terminal) → ends_operand rest ≡ true → from.old ≡ words_of_operand o ++ rest →
-        Reads (λ x. x) (side_meant (S.visible scope.now) (S.type_of scope.now) o) rest result from.new }
+    requires { StandsFirst words_of_operand ends_operand from.old }
+    ensures read { ReadsOperand (S.visible scope.now) (S.type_of scope.now) from.old result from.new }
     ensures ahead { length from.new ≤ length from.old }
 {
     match from.peek() {

@@ -1,18 +1,17 @@
 //! Reading an expression of a statement.
 
-ghost use Rattle.std.specs.Prelude.{◌≡◌, ◌≤◌, ◌^◌, ◌++◌, ℕ, Bool, true, List, length, drop, take, All, IfOk, IsTrue};
-ghost use Rattle.pg_expr.specs.declared.operand.ColRef.{ColRef};
-ghost use Rattle.pg_expr.specs.Columns.{each_column};
+ghost use Rattle.std.specs.Prelude.{◌≡◌, ◌≤◌, ◌^◌, ℕ, length, drop, take, IfOk};
 ghost use Rattle.pg_expr.specs.Typed.{IsTyped};
 ghost use Rattle.pg_expr.specs.View.{cond};
 ghost use Rattle.sql_lex.specs.Words.{AreWords};
 ghost use Rattle.sql_grammar.specs.Faults.{terminals, EndsAt, IsExpr};
 ghost use Rattle.sql_grammar.specs.Syntax.{Expr as ExprTree};
-ghost use Rattle.sql_grammar.specs.Terminals.{Terminal};
 ghost use Rattle.sql_grammar.specs.Unique.{ends_expr};
 ghost use Rattle.sql_grammar.specs.Words.{words_of_expr};
-ghost use Rattle.expr_reader.specs.Conditions.{meaning_of_expr};
-ghost use Rattle.expr_reader.specs.Reads.{Reads, IsReadAs};
+ghost use Rattle.expr_reader.specs.Conditions.{meaning_of_expr, IsOfVisible};
+ghost use Rattle.expr_reader.specs.Reads.{IsReadAs};
+ghost use Rattle.expr_reader.specs.Reading.{StandsFirst};
+ghost use Rattle.expr_reader.specs.Expressions.{ReadsExpr};
 
 use crate::Cursor;
 use crate::expr::disjunction;
@@ -36,12 +35,11 @@ use std::alloc::Global;
 ///
 /// What is read is well typed, and names visible columns alone.
 pub fn take_expr<S: Scope>(alloc: Global, scope: &S, from: &mut Cursor) -> Result<Expr, Refusal>
-    requires { (e : ExprTree) × (rest : List Terminal) × (ends_expr rest ≡ true) × (from.old ≡ words_of_expr e ++ rest) }
-    ensures read { (e : ExprTree) (rest : List Terminal) → ends_expr rest ≡ true → from.old ≡ words_of_expr e ++ rest →
-        Reads cond (meaning_of_expr (S.visible scope.now) (S.type_of scope.now) e) rest result from.new }
+    requires { StandsFirst words_of_expr ends_expr from.old }
+    ensures read { ReadsExpr (S.visible scope.now) (S.type_of scope.now) from.old result from.new }
     ensures ahead { length from.new ≤ length from.old }
     ensures typed { IfOk result (λ e. IsTyped (S.type_of scope.now) (cond e)) }
-    ensures visible { IfOk result (λ e. (test : ColRef → Bool) → All (λ v. IsTrue (test v.column)) (S.visible scope.now) → IsTrue (each_column test (cond e))) }
+    ensures visible { IfOk result (λ e. IsOfVisible (S.visible scope.now) (cond e)) }
 {
     disjunction(alloc, scope, from)
 }
@@ -60,10 +58,11 @@ pub fn read_expr<S: Scope>(
     requires short { length text.now ≤ 2 ^ 31 }
     requires words { (from : ℕ) × AreWords text.now from tokens.now }
     requires end { EndsAt IsExpr text.now tokens.now first end }
-    ensures read { (e : ExprTree) → words_of_expr e ≡ terminals text.now (drop first (take end tokens.now)) →
+    ensures read { (e : ExprTree) →
+        words_of_expr e ≡ terminals text.now (drop first (take end tokens.now)) →
         IsReadAs cond (meaning_of_expr (S.visible scope.now) (S.type_of scope.now) e) result }
     ensures typed { IfOk result (λ e. IsTyped (S.type_of scope.now) (cond e)) }
-    ensures visible { IfOk result (λ e. (test : ColRef → Bool) → All (λ v. IsTrue (test v.column)) (S.visible scope.now) → IsTrue (each_column test (cond e))) }
+    ensures visible { IfOk result (λ e. IsOfVisible (S.visible scope.now) (cond e)) }
 {
     let mut from = Cursor::part(text, tokens, first, end);
     take_expr(alloc, scope, &mut from)

@@ -19,7 +19,8 @@ pub trait Scope {
 
     /// What a name in small letters means, under this alias where one is given.
     fn column(&self, qualifier: Option<&[u8]>, name: &[u8]) -> Found
-        ensures { result ≡ look_up (visible self.now) (option_map (λ q. q.now) qualifier.entry) name.now };
+        ensures { result ≡
+            look_up (visible self.now) (option_map (λ q. q.now) qualifier.entry) name.now };
 
     /// The type of a visible column.
     fn typed(&self, c: ColRef) -> SqlType

@@ -1,17 +1,16 @@
 //! The direction of a column of an order, and the end at which its NULLs stand.
 
-ghost use Rattle.std.specs.Prelude.{◌≡◌, ◌≤◌, ◌++◌, List, length, true};
-ghost use Rattle.sql_grammar.specs.Terminals.{Terminal};
-ghost use Rattle.sql_grammar.specs.Syntax.{Direction, NullsEnd};
+ghost use Rattle.std.specs.Prelude.{◌≤◌, length};
 ghost use Rattle.sql_grammar.specs.Words.{words_of_direction, words_of_nulls_end};
 ghost use Rattle.expr_reader.specs.Sorts.{is_descending, has_nulls_first, ends_direction, ends_nulls_end};
+ghost use Rattle.expr_reader.specs.Reading.{Yields};
 
 use crate::cursor::Cursor;
 use sql_grammar::{Free, Word};
 
 /// Whether DESC is next. It is taken, and so is ASC.
 pub fn descending(from: &mut Cursor) -> bool
-    ensures read { (d : Direction) (rest : List Terminal) → ends_direction rest ≡ true → from.old ≡ words_of_direction d ++ rest → (result ≡ is_descending d) × (from.new ≡ rest) }
+    ensures read { Yields words_of_direction ends_direction is_descending from.old result from.new }
     ensures ahead { length from.new ≤ length from.old }
 {
     if from.takes(Word::Desc) {
@@ -25,7 +24,8 @@ pub fn descending(from: &mut Cursor) -> bool
 
 /// Whether NULL stands before all values: where neither NULLS FIRST nor NULLS LAST is next, NULL is the greatest one.
 pub fn nulls_first(from: &mut Cursor, descending: bool) -> bool
-    ensures read { (z : NullsEnd) (rest : List Terminal) → ends_nulls_end rest ≡ true → from.old ≡ words_of_nulls_end z ++ rest → (result ≡ has_nulls_first descending z) × (from.new ≡ rest) }
+    ensures read { Yields words_of_nulls_end ends_nulls_end (has_nulls_first descending)
+        from.old result from.new }
     ensures ahead { length from.new ≤ length from.old }
 {
     if !from.takes_free(Free::Nulls) {

@@ -1,6 +1,6 @@
 //! The values of literals.
 
-ghost use Rattle.std.specs.Prelude.{◌≡◌, ◌≢◌, ◌≤◌, ◌<◌, ◌-◌, ◌^◌, ℕ, min, length, List, ◌++◌, IfOk, Some};
+ghost use Rattle.std.specs.Prelude.{◌≡◌, ◌≢◌, ◌≤◌, ◌<◌, length, List, ◌++◌, IfOk, Some};
 ghost use Rattle.pg_value.specs.Fields.{signed, ranged, field_value};
 ghost use Rattle.pg_value.specs.Types.{limit, IsOfType};
 ghost use Rattle.pg_value.specs.declared.value.Value.TheVariants as values;
@@ -8,9 +8,10 @@ ghost use Rattle.sql_lex.specs.declared.tokens.Token.{Token};
 ghost use Rattle.sql_grammar.specs.Terminals.{Terminal};
 ghost use Rattle.sql_grammar.specs.Syntax.{Lit};
 ghost use Rattle.sql_grammar.specs.Words.{words_of_lit};
-ghost use Rattle.expr_reader.specs.Literals.{value_at, literal_value as literal_value_of, typed_value as typed_value_of, number_as as number_as_of, flag_as as flag_as_of, place_of_lit};
-ghost use Rattle.expr_reader.specs.Reads.{Reads};
+ghost use Rattle.expr_reader.specs.Literals.{value_at, literal_value as literal_value_of, typed_value as typed_value_of, number_as as number_as_of, flag_as as flag_as_of, place_of_lit, IfCapped};
 ghost use Rattle.expr_reader.specs.Written.{literal_of};
+ghost use Rattle.expr_reader.specs.Reading.{IfWords};
+ghost use Rattle.expr_reader.specs.Expressions.{ReadsLiteral};
 
 use crate::literal::literal;
 use crate::written::Literal;
@@ -44,7 +45,7 @@ fn spelled_value(value: Result<Value, FieldFault>, token: Token) -> Result<Value
 /// A whole number of an integer type.
 fn whole_value(t: SqlType, minus: bool, magnitude: u64, token: Token) -> Result<Value, Fault>
     requires integer { 0 < limit t }
-    ensures { (n : ℕ) → magnitude ≡ min n (2 ^ 64 - 1) → result ≡ value_at token (ranged t (Some (signed minus n))) }
+    ensures { IfCapped magnitude (λ n. result ≡ value_at token (ranged t (Some (signed minus n)))) }
 {
     spelled_value(signed_value(t, minus, magnitude), token)
 }
@@ -77,7 +78,7 @@ pub fn literal_value(alloc: Global, t: SqlType, literal: Literal) -> Result<Valu
 
 /// A whole number for a column of this type.
 fn number_as(t: SqlType, minus: bool, magnitude: u64, token: Token) -> Result<Value, Fault>
-    ensures { (n : ℕ) → magnitude ≡ min n (2 ^ 64 - 1) → result ≡ number_as_of t token (signed minus n) }
+    ensures { IfCapped magnitude (λ n. result ≡ number_as_of t token (signed minus n)) }
 {
     match t {
         SqlType::Text | SqlType::Bool => Err(fault_at(Code::S10, token)),
@@ -117,8 +118,9 @@ fn typed_value(alloc: Global, t: SqlType, literal: Literal) -> Result<Value, Fau
 /// the column is of another kind, and 22023 for NULL.
 pub fn read_literal(alloc: Global, t: SqlType, from: &mut Cursor) -> Result<Placed, Refusal>
     requires { (l : Lit) × (rest : List Terminal) × (from.old ≡ words_of_lit l ++ rest) }
-    ensures read { (l : Lit) (rest : List Terminal) → from.old ≡ words_of_lit l ++ rest → Reads (λ x. x.value) (typed_value_of t l) rest result from.new }
-    ensures place { (l : Lit) (rest : List Terminal) → from.old ≡ words_of_lit l ++ rest → IfOk result (λ x. x.token ≡ place_of_lit l) }
+    ensures read { ReadsLiteral t from.old result from.new }
+    ensures place { IfWords words_of_lit from.old
+        (λ l rest. IfOk result (λ x. x.token ≡ place_of_lit l)) }
     ensures typed { IfOk result (λ x. IsOfType t x.value) }
     ensures some { IfOk result (λ x. x.value ≢ values.Null) }
     ensures ahead { length from.new ≤ length from.old }

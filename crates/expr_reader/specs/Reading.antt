@@ -6,7 +6,9 @@ use Rattle.sql_lex.specs.declared.tokens.Token.{Token}
 use Rattle.sql_lex.specs.declared.tokens.Kind.TheVariants.{Number as NumberKind}
 use Rattle.sql_grammar.specs.declared.class.Class.{Class}
 use Rattle.sql_grammar.specs.declared.class.Free.{Free}
-use Rattle.sql_grammar.specs.Terminals.{Terminal, Ident, Said, class_of, free, token_of, t_name, t_number, t_operator, t_quoted}
+use Rattle.sql_grammar.specs.Terminals.{Terminal, Ident, Said, class_of, free, token_of, t_mark, t_name, t_number, t_operator, t_quoted}
+use Rattle.sql_grammar.specs.declared.class.Symbol.TheVariants.{Close}
+use Rattle.sql_grammar.specs.Syntax.{Mark}
 use Rattle.sql_grammar.specs.Reading.{bytes_of_token}
 use Rattle.sql_grammar.specs.Unique.{token_in}
 use Rattle.sql_grammar.specs.Faults.{bytes_of}
@@ -120,3 +122,38 @@ IfNext {A} word ts P = (x : A) (rest : List Terminal) → ts ≡ word x ∷ rest
 -- where a word of this kind is next, what it means is read, and what stands behind it is left
 abbrev pub YieldsNext : {A B : Type 0} → (A → Terminal) → (A → B) → List Terminal → B → List Terminal → Type 0
 YieldsNext word meaning old read left = IfNext word old (λ x rest. (read ≡ meaning x) × (left ≡ rest))
+
+-- where such a part stands first, what stands behind it is left
+abbrev pub LeavesRest : {A : Type 0} → (A → List Terminal) → (List Terminal → Bool) → List Terminal → List Terminal → Type 0
+LeavesRest words ends old left = IfFirst words ends old (λ _ rest. left ≡ rest)
+
+-- the same of a part which nothing goes on
+abbrev pub LeavesWords : {A : Type 0} → (A → List Terminal) → List Terminal → List Terminal → Type 0
+LeavesWords words old left = IfWords words old (λ _ rest. left ≡ rest)
+
+-- some parts with commas between them, a word that ends them, and what stands behind it, with these words, are all that is left
+abbrev pub StandsList : {A : Type 0} → (A → List (Mark × A) → Mark → List Terminal → List Terminal) → List Terminal → Type 0
+StandsList {A} words ts = (x : A) × (xs : List (Mark × A)) × (m : Mark) × (rest : List Terminal) × (ts ≡ words x xs m rest)
+
+-- where they are, this holds of them
+abbrev pub IfList : {A : Type 0} → (A → List (Mark × A) → Mark → List Terminal → List Terminal) → List Terminal →
+    (A → List (Mark × A) → Mark → List Terminal → Type 0) → Type 0
+IfList {A} words ts P = (x : A) (xs : List (Mark × A)) (m : Mark) (rest : List Terminal) → ts ≡ words x xs m rest → P x xs m rest
+
+-- where they are, and the word that ends them is `)`, that one is left, with what stands behind it
+abbrev pub LeavesClose : {A : Type 0} → (A → List (Mark × A) → Mark → List Terminal → List Terminal) → List Terminal →
+    List Terminal → Type 0
+LeavesClose words old left = IfList words old (λ _ _ m rest. left ≡ t_mark Close m ∷ rest)
+
+-- a part with these words and further ones with those stand first, and no word behind them goes on them
+abbrev pub StandsListed : {A : Type 0} → (A → List Terminal) → (List (Mark × A) → List Terminal) → (List Terminal → Bool) →
+    List Terminal → Type 0
+StandsListed {A} words more ends ts =
+    (x : A) × (xs : List (Mark × A)) × (rest : List Terminal) × (ends rest ≡ true) × (ts ≡ words x ++ (more xs ++ rest))
+
+-- where such parts stand first, this holds of them and of what stands behind them
+abbrev pub IfListed : {A : Type 0} → (A → List Terminal) → (List (Mark × A) → List Terminal) → (List Terminal → Bool) →
+    List Terminal →
+    (A → List (Mark × A) → List Terminal → Type 0) → Type 0
+IfListed {A} words more ends ts P =
+    (x : A) (xs : List (Mark × A)) (rest : List Terminal) → ends rest ≡ true → ts ≡ words x ++ (more xs ++ rest) → P x xs rest

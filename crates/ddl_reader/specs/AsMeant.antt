@@ -1,10 +1,11 @@
 -- What a part's reading gives, against what it means (own).
-use Rattle.std.specs.Prelude.{◌≡◌, ℕ, ◌-◌, ◌^◌, min, Bool, true, false, List, [], ◌∷◌, ◌++◌, Result, Ok, Err}
+use Rattle.std.specs.Prelude.{◌≡◌, ℕ, ◌-◌, ◌^◌, min, Bool, true, false, List, [], ◌∷◌, ◌++◌, map, Result, Ok, Err, Vec}
+use Rattle.std.specs.declared.alloc.Global.{Global}
 use Rattle.pg_base.specs.declared.faults.Fault.{Fault}
 use Rattle.pg_base.specs.declared.faults.Refusal.{Refusal}
 use Rattle.pg_base.specs.declared.faults.Refusal.TheVariants as refusal
 use Rattle.sql_grammar.specs.declared.class.Word.TheVariants.{Not, Null}
-use Rattle.sql_grammar.specs.declared.class.Symbol.TheVariants.{Close, Dot}
+use Rattle.sql_grammar.specs.declared.class.Symbol.TheVariants.{Close, Dot, Open}
 use Rattle.sql_grammar.specs.Terminals.{Terminal, Ident, Said, free, t_key, t_mark, t_name, t_number}
 use Rattle.sql_grammar.specs.Syntax.{Mark, ColDef, Lit, Share, Common, Histogram}
 use Rattle.sql_grammar.specs.Words.{words_of_coldef, words_of_columns, words_of_lit, words_of_share, words_of_shares, words_of_bounds, words_of_common, words_of_histogram}
@@ -32,6 +33,10 @@ Tells T V view (Ok x) meant = meant ≡ Ok (view x)
 Tells T V view (Err (refusal.Fault f)) meant = meant ≡ Err f
 Tells T V view (Err refusal.Memory) meant = ⊥
 
+-- the parts that are read, in their order, are those that are meant, or their first fault is; or there was no memory
+abbrev pub AreAsMeant : (T : Type 0) → Result (Vec T Global) Refusal → Result (List T) Fault → Type 0
+AreAsMeant T = IsAsMeant (Vec T Global) (List T) (λ v. v.items)
+
 -- nothing that goes on a column's definition is next
 abbrev pub ends_nulls : List Terminal → Bool
 ends_nulls (t_key Not _ ∷ _) = false
@@ -46,6 +51,10 @@ words_of_body c cs m rest = words_of_coldef c ++ (words_of_columns cs ++ t_mark 
 abbrev pub seen : ColumnDef → Bound
 seen d = record { name = d.name.bytes; name_at = d.name.token; column = d.column }
 
+-- the columns that are read are those that are meant, or their first fault is; or there was no memory
+abbrev pub AreColumnsMeant : Result (Vec ColumnDef Global) Refusal → Result (List Bound) Fault → Type 0
+AreColumnsMeant = IsAsMeant (Vec ColumnDef Global) (List Bound) (λ v. map seen v.items)
+
 -- COMMON is not next: no common values follow
 abbrev pub ends_common : List Terminal → Bool
 ends_common (t_name (free CommonWord _) ∷ _) = false
@@ -55,6 +64,12 @@ ends_common _ = true
 abbrev pub ends_histogram : List Terminal → Bool
 ends_histogram (t_name (free HistogramWord _) ∷ _) = false
 ends_histogram _ = true
+
+-- the words of CREATE TABLE, from the table's name on
+abbrev pub SpellsTable : List Terminal → Type 0
+SpellsTable ts =
+    (n : Ident) × (o : Mark) × (x : ColDef) × (xs : List (Mark × ColDef)) × (m : Mark) × (rest : List Terminal) ×
+    (ts ≡ t_name n ∷ t_mark Open o ∷ words_of_body x xs m rest)
 
 -- common values with their shares up to `)`, and what follows
 abbrev pub words_of_shares_left : Share → List (Mark × Share) → Mark → List Terminal → List Terminal
@@ -83,6 +98,25 @@ words_of_lists cs h rest = words_of_common cs ++ (words_of_histogram h ++ rest)
 -- the words of STATISTICS of a column from its name on, with its lists of literals, and what follows
 abbrev pub words_of_column : Ident → Terminal → Said → Terminal → Said → Common → Histogram → List Terminal → List Terminal
 words_of_column c a d b n cs h rest = t_name c ∷ a ∷ t_number d ∷ b ∷ t_number n ∷ words_of_lists cs h rest
+
+-- those of a table from ROWS on are all that is left
+abbrev pub SpellsSizesPart : List Terminal → Type 0
+SpellsSizesPart ts =
+    (r : Ident) × (rows : Said) × (b : Terminal) × (pages : Said) × (rest : List Terminal) ×
+    (ts ≡ words_of_sizes r rows b pages rest)
+
+-- the two lists of literals of a column stand first, and no word behind them begins another one
+abbrev pub SpellsLists : List Terminal → Type 0
+SpellsLists ts =
+    (cs : Common) × (h : Histogram) × (rest : List Terminal) × (ends_common rest ≡ true) × (ends_histogram rest ≡ true) ×
+    (ts ≡ words_of_lists cs h rest)
+
+-- those of a column from its name on are all that is left: no list of literals follows them
+abbrev pub SpellsColumnPart : List Terminal → Type 0
+SpellsColumnPart ts =
+    (c : Ident) × (a : Terminal) × (d : Said) × (b : Terminal) × (n : Said) × (cs : Common) × (h : Histogram) ×
+    (rest : List Terminal) ×
+    (ends_common rest ≡ true) × (ends_histogram rest ≡ true) × (ts ≡ words_of_column c a d b n cs h rest)
 
 -- the words of STATISTICS of a table, from its name on
 abbrev pub SpellsSizes : List Terminal → Type 0

@@ -2,11 +2,9 @@
 
 ghost use Rattle.std.specs.Prelude.{◌≡◌, ◌∷◌, List};
 ghost use Rattle.sql_grammar.specs.Terminals.{Terminal, Ident, t_name};
-ghost use Rattle.ddl_reader.specs.declared.ddl.Read.{Read};
-ghost use Rattle.ddl_reader.specs.AsMeant.{IsAsMeant};
-ghost use Rattle.ddl_reader.specs.Readings.{reading};
 ghost use Rattle.ddl_reader.specs.Statistics.{analysis as analysis_meant};
-ghost use Rattle.ddl_reader.specs.Tables.{Reading};
+ghost use Rattle.expr_reader.specs.Reading.{IfNext};
+ghost use Rattle.ddl_reader.specs.Readings.{IsReadingOf};
 
 use crate::ddl::{Ddl, Read};
 use crate::statistics::table_of;
@@ -19,7 +17,7 @@ use std::alloc::Global;
 /// ANALYZE from the table's name on. An unknown table is refused (42P01) at its name.
 pub(crate) fn analysis(alloc: Global, cat: &Catalog, from: &mut Cursor) -> Result<Read, Refusal>
     requires { (n : Ident) × (rest : List Terminal) × (from.old ≡ t_name n ∷ rest) }
-    ensures { (n : Ident) (rest : List Terminal) → from.old ≡ t_name n ∷ rest → IsAsMeant Read Reading reading result (analysis_meant cat.now n) }
+    ensures { IfNext t_name from.old (λ n rest. IsReadingOf result (analysis_meant cat.now n)) }
 {
     let title = name(alloc, from)?;
     let table = table_of(cat, &title)?;

@@ -40,7 +40,8 @@ fn is_mark(line: &[u8]) -> bool
 pub fn block_end(text: &[u8], start: u32) -> Option<(u32, u32)>
     requires short { length text.now ≤ 2 ^ 31 }
     requires start { start ≤ length text.now }
-    ensures { MatchOption result (HaveNoMark (lines_of (drop start text.now))) (λ e. IsBlockEnd text.now start e.0 e.1) }
+    ensures { MatchOption result (HaveNoMark (lines_of (drop start text.now)))
+        (λ e. IsBlockEnd text.now start e.0 e.1) }
 {
     let mut at = start as usize;
     while at < text.len() {

@@ -1,13 +1,13 @@
 //! The columns of CREATE TABLE.
 
-ghost use Rattle.std.specs.Prelude.{◌≡◌, ◌≤◌, ◌<◌, List, ◌∷◌, ◌++◌, length, map, true, IfOk, OnOk, Vec};
-ghost use Rattle.std.specs.declared.alloc.Global.{Global};
+ghost use Rattle.std.specs.Prelude.{◌≡◌, ◌≤◌, ◌<◌, List, ◌∷◌, ◌++◌, length, IfOk, OnOk};
 ghost use Rattle.sql_grammar.specs.Terminals.{Terminal};
-ghost use Rattle.sql_grammar.specs.Syntax.{Mark, Nulls, ColDef};
+ghost use Rattle.sql_grammar.specs.Syntax.{ColDef};
 ghost use Rattle.sql_grammar.specs.Words.{words_of_nulls, words_of_coldef};
 ghost use Rattle.ddl_reader.specs.declared.columns.ColumnDef.{ColumnDef};
-ghost use Rattle.ddl_reader.specs.Columns.{refuses_null, defined_column, further, Bound, bound, bound_all};
-ghost use Rattle.ddl_reader.specs.AsMeant.{ends_nulls, words_of_body, IsAsMeant, Tells, seen};
+ghost use Rattle.ddl_reader.specs.Columns.{refuses_null, defined_column, further, Bound, bound, bound_all, written_column};
+ghost use Rattle.ddl_reader.specs.AsMeant.{ends_nulls, words_of_body, IsAsMeant, Tells, seen, AreColumnsMeant};
+ghost use Rattle.expr_reader.specs.Reading.{IfFirst, Yields, StandsList, IfList, LeavesRest};
 
 use crate::types::type_named;
 use crate::words::{name, word_fault};
@@ -29,7 +29,7 @@ pub struct ColumnDef {
 /// Whether NOT NULL stands next. It is taken, and so is NULL.
 fn not_null(from: &mut Cursor) -> bool
     ensures ahead { length from.new ≤ length from.old }
-    ensures read { (x : Nulls) (rest : List Terminal) → ends_nulls rest ≡ true → from.old ≡ words_of_nulls x ++ rest → (result ≡ refuses_null x) × (from.new ≡ rest) }
+    ensures read { Yields words_of_nulls ends_nulls refuses_null from.old result from.new }
 {
     if from.takes(Word::Not) {
         from.skip(1);
@@ -43,7 +43,7 @@ fn not_null(from: &mut Cursor) -> bool
 
 /// The column of this name and of this type. An unknown type is refused (42704) at its name.
 fn bind(name: Spelled, kind: &Spelled, not_null: bool) -> Result<ColumnDef, Refusal>
-    ensures { Tells ColumnDef Bound seen result (bound (record { name = name.bytes; name_at = name.token; kind = kind.now.bytes; kind_at = kind.now.token; not_null = not_null })) }
+    ensures { Tells ColumnDef Bound seen result (bound (written_column name kind.now not_null)) }
 {
     let Some(typed) = type_named(kind.bytes.items()) else {
         return Err(word_fault(Code::S8, kind.token));
@@ -57,8 +57,9 @@ fn bind(name: Spelled, kind: &Spelled, not_null: bool) -> Result<ColumnDef, Refu
 /// The next column.
 fn one_column(alloc: Global, from: &mut Cursor) -> Result<ColumnDef, Refusal>
     requires { (x : ColDef) × (rest : List Terminal) × (from.old ≡ words_of_coldef x ++ rest) }
-    ensures read { (x : ColDef) (rest : List Terminal) → ends_nulls rest ≡ true → from.old ≡ words_of_coldef x ++ rest → IsAsMeant ColumnDef Bound seen result (bound (defined_column x)) }
-    ensures left { OnOk result ((x : ColDef) (rest : List Terminal) → ends_nulls rest ≡ true → from.old ≡ words_of_coldef x ++ rest → from.new ≡ rest) }
+    ensures read { IfFirst words_of_coldef ends_nulls from.old
+        (λ x rest. IsAsMeant ColumnDef Bound seen result (bound (defined_column x))) }
+    ensures left { OnOk result (LeavesRest words_of_coldef ends_nulls from.old from.new) }
     ensures ahead { OnOk result (length from.new ≤ length from.old) }
 {
     let title = name(alloc, from)?;
@@ -69,10 +70,10 @@ fn one_column(alloc: Global, from: &mut Cursor) -> Result<ColumnDef, Refusal>
 
 /// The columns up to `)`, which is left.
 pub fn columns(alloc: Global, from: &mut Cursor) -> Result<Vec<ColumnDef>, Refusal>
-    requires { (x : ColDef) × (xs : List (Mark × ColDef)) × (m : Mark) × (rest : List Terminal) × (from.old ≡ words_of_body x xs m rest) }
+    requires { StandsList words_of_body from.old }
     ensures some { IfOk result (λ v. 0 < length v.items) }
-    ensures read { (x : ColDef) (xs : List (Mark × ColDef)) (m : Mark) (rest : List Terminal) → from.old ≡ words_of_body x xs m rest →
-        IsAsMeant (Vec ColumnDef Global) (List Bound) (λ v. map seen v.items) result (bound_all (defined_column x ∷ further xs)) }
+    ensures read { IfList words_of_body from.old
+        (λ x xs m rest. AreColumnsMeant result (bound_all (defined_column x ∷ further xs))) }
 {
     let mut all = Vec::new(alloc);
     let first = one_column(alloc, from)?;

@@ -1,15 +1,9 @@
 //! The words of COPY.
 
-ghost use Rattle.std.specs.Prelude.{◌≡◌};
-ghost use Rattle.sql_grammar.specs.Terminals.{Ident, Said, token_of};
-ghost use Rattle.sql_grammar.specs.Syntax.{CopyWords, copy as copy_tree};
-ghost use Rattle.sql_grammar.specs.Words.{words_of};
-ghost use Rattle.sql_grammar.specs.Faults.{bytes_of};
-ghost use Rattle.catalog.specs.Tables.{table_named};
 ghost use Rattle.ddl_reader.specs.declared.ddl.Read.{Read};
-ghost use Rattle.ddl_reader.specs.AsMeant.{IsAsMeant, Tells};
-ghost use Rattle.ddl_reader.specs.Tables.{Reading, data_of};
-ghost use Rattle.ddl_reader.specs.Readings.{reading};
+ghost use Rattle.ddl_reader.specs.AsMeant.{Tells};
+ghost use Rattle.ddl_reader.specs.Tables.{Reading, data_spelled, data_named};
+ghost use Rattle.ddl_reader.specs.Readings.{reading, IsReadingOf, AreOfCopy, IfCopy};
 
 use crate::ddl::{Ddl, Read};
 use crate::words::{name, quoted, word_fault};
@@ -27,7 +21,7 @@ fn bind(
     null: &Spelled,
     start: u32,
 ) -> Result<Read, Refusal>
-    ensures { Tells Read Reading reading result (data_of (table_named cat.now name.now.bytes) name.now.token null.now.bytes null.now.token start) }
+    ensures { Tells Read Reading reading result (data_spelled cat.now name.now null.now start) }
 {
     let Some(table) = cat.table(name.bytes.items()) else {
         return Err(word_fault(Code::S2, name.token));
@@ -43,9 +37,8 @@ fn bind(
 
 /// COPY, whose data begin at the byte offset `start`.
 pub fn copy(alloc: Global, cat: &Catalog, start: u32, from: &mut Cursor) -> Result<Read, Refusal>
-    requires { (k : CopyWords) × (n : Ident) × (null : Said) × (from.old ≡ words_of (copy_tree k n null)) }
-    ensures { (k : CopyWords) (n : Ident) (null : Said) → from.old ≡ words_of (copy_tree k n null) →
-        IsAsMeant Read Reading reading result (data_of (table_named cat.now (bytes_of n)) (token_of n) null.value null.token start) }
+    requires { AreOfCopy from.old }
+    ensures { IfCopy from.old (λ k n null. IsReadingOf result (data_named cat.now n null start)) }
 {
     from.skip(1);
     let title = name(alloc, from)?;

@@ -1,16 +1,15 @@
 //! The literals of STATISTICS: the common values and the bounds of a histogram of a column.
 
-ghost use Rattle.std.specs.Prelude.{◌≡◌, ◌≤◌, ◌<◌, List, ◌∷◌, ◌++◌, length, true, OnOk, Vec};
-ghost use Rattle.std.specs.declared.alloc.Global.{Global};
-ghost use Rattle.sql_grammar.specs.Terminals.{Terminal, t_mark};
-ghost use Rattle.sql_grammar.specs.declared.class.Symbol.TheVariants.{Close};
-ghost use Rattle.sql_grammar.specs.Syntax.{Lit, Mark, Share, Common, Histogram};
+ghost use Rattle.std.specs.Prelude.{◌≡◌, ◌≤◌, ◌<◌, List, ◌∷◌, ◌++◌, length, OnOk};
+ghost use Rattle.sql_grammar.specs.Terminals.{Terminal};
+ghost use Rattle.sql_grammar.specs.Syntax.{Lit, Share};
 ghost use Rattle.sql_grammar.specs.Words.{words_of_lit, words_of_share, words_of_common, words_of_histogram};
 ghost use Rattle.expr_reader.specs.declared.value.Placed.{Placed};
 ghost use Rattle.ddl_reader.specs.declared.literals.CommonRead.{CommonRead};
 ghost use Rattle.expr_reader.specs.Lists.{parts_of, bound_each};
 ghost use Rattle.ddl_reader.specs.Statistics.{common_words, commons_of, bounds_of};
-ghost use Rattle.ddl_reader.specs.AsMeant.{IsAsMeant, ends_common, ends_histogram, words_of_shares_left, words_of_bounds_left, placed, common_placed};
+ghost use Rattle.ddl_reader.specs.AsMeant.{IsAsMeant, ends_common, ends_histogram, words_of_shares_left, words_of_bounds_left, placed, common_placed, AreAsMeant};
+ghost use Rattle.expr_reader.specs.Reading.{StandsFirst, IfFirst, IfWords, StandsList, IfList, LeavesRest, LeavesWords, LeavesClose};
 
 use crate::words::number;
 use expr_reader::{Cursor, Number, Placed, read_literal};
@@ -31,8 +30,9 @@ pub struct CommonRead {
 /// The next literal, for a column of type `t`.
 fn bound(alloc: Global, t: SqlType, from: &mut Cursor) -> Result<Placed, Refusal>
     requires { (l : Lit) × (rest : List Terminal) × (from.old ≡ words_of_lit l ++ rest) }
-    ensures read { (l : Lit) (rest : List Terminal) → from.old ≡ words_of_lit l ++ rest → IsAsMeant Placed Placed (λ x. x) result (placed t l) }
-    ensures left { OnOk result ((l : Lit) (rest : List Terminal) → from.old ≡ words_of_lit l ++ rest → from.new ≡ rest) }
+    ensures read { IfWords words_of_lit from.old
+        (λ l rest. IsAsMeant Placed Placed (λ x. x) result (placed t l)) }
+    ensures left { OnOk result (LeavesWords words_of_lit from.old from.new) }
     ensures ahead { length from.new ≤ length from.old }
 {
     read_literal(alloc, t, from)
@@ -41,8 +41,9 @@ fn bound(alloc: Global, t: SqlType, from: &mut Cursor) -> Result<Placed, Refusal
 /// The next common value and its share.
 fn share(alloc: Global, t: SqlType, from: &mut Cursor) -> Result<CommonRead, Refusal>
     requires { (s : Share) × (rest : List Terminal) × (from.old ≡ words_of_share s ++ rest) }
-    ensures read { (s : Share) (rest : List Terminal) → from.old ≡ words_of_share s ++ rest → IsAsMeant CommonRead CommonRead (λ x. x) result (common_placed t (common_words s)) }
-    ensures left { OnOk result ((s : Share) (rest : List Terminal) → from.old ≡ words_of_share s ++ rest → from.new ≡ rest) }
+    ensures read { IfWords words_of_share from.old
+        (λ s rest. IsAsMeant CommonRead CommonRead (λ x. x) result (common_placed t (common_words s))) }
+    ensures left { OnOk result (LeavesWords words_of_share from.old from.new) }
     ensures ahead { OnOk result (length from.new ≤ length from.old) }
 {
     let literal = bound(alloc, t, from)?;
@@ -52,10 +53,10 @@ fn share(alloc: Global, t: SqlType, from: &mut Cursor) -> Result<CommonRead, Ref
 
 /// The bounds of a histogram up to `)`, which is left.
 fn bounds(alloc: Global, t: SqlType, from: &mut Cursor) -> Result<Vec<Placed>, Refusal>
-    requires { (l : Lit) × (ls : List (Mark × Lit)) × (m : Mark) × (rest : List Terminal) × (from.old ≡ words_of_bounds_left l ls m rest) }
-    ensures read { (l : Lit) (ls : List (Mark × Lit)) (m : Mark) (rest : List Terminal) → from.old ≡ words_of_bounds_left l ls m rest →
-        IsAsMeant (Vec Placed Global) (List Placed) (λ v. v.items) result (bound_each (placed t) (l ∷ parts_of (λ x. x) ls)) }
-    ensures left { OnOk result ((l : Lit) (ls : List (Mark × Lit)) (m : Mark) (rest : List Terminal) → from.old ≡ words_of_bounds_left l ls m rest → from.new ≡ t_mark Close m ∷ rest) }
+    requires { StandsList words_of_bounds_left from.old }
+    ensures read { IfList words_of_bounds_left from.old (λ l ls m rest.
+        AreAsMeant Placed result (bound_each (placed t) (l ∷ parts_of (λ x. x) ls))) }
+    ensures left { OnOk result (LeavesClose words_of_bounds_left from.old from.new) }
 {
     let mut all = Vec::new(alloc);
     let first = bound(alloc, t, from)?;
@@ -69,10 +70,10 @@ fn bounds(alloc: Global, t: SqlType, from: &mut Cursor) -> Result<Vec<Placed>, R
 
 /// Common values with their shares, up to `)`, which is left.
 fn shares(alloc: Global, t: SqlType, from: &mut Cursor) -> Result<Vec<CommonRead>, Refusal>
-    requires { (s : Share) × (ss : List (Mark × Share)) × (m : Mark) × (rest : List Terminal) × (from.old ≡ words_of_shares_left s ss m rest) }
-    ensures read { (s : Share) (ss : List (Mark × Share)) (m : Mark) (rest : List Terminal) → from.old ≡ words_of_shares_left s ss m rest →
-        IsAsMeant (Vec CommonRead Global) (List CommonRead) (λ v. v.items) result (bound_each (common_placed t) (common_words s ∷ parts_of common_words ss)) }
-    ensures left { OnOk result ((s : Share) (ss : List (Mark × Share)) (m : Mark) (rest : List Terminal) → from.old ≡ words_of_shares_left s ss m rest → from.new ≡ t_mark Close m ∷ rest) }
+    requires { StandsList words_of_shares_left from.old }
+    ensures read { IfList words_of_shares_left from.old (λ s ss m rest. AreAsMeant CommonRead
+        result (bound_each (common_placed t) (common_words s ∷ parts_of common_words ss))) }
+    ensures left { OnOk result (LeavesClose words_of_shares_left from.old from.new) }
 {
     let mut all = Vec::new(alloc);
     let first = share(alloc, t, from)?;
@@ -86,10 +87,10 @@ fn shares(alloc: Global, t: SqlType, from: &mut Cursor) -> Result<Vec<CommonRead
 
 /// The common values of a column of type `t`, where COMMON stands next; else none.
 pub fn common(alloc: Global, t: SqlType, from: &mut Cursor) -> Result<Vec<CommonRead>, Refusal>
-    requires { (c : Common) × (rest : List Terminal) × (ends_common rest ≡ true) × (from.old ≡ words_of_common c ++ rest) }
-    ensures read { (c : Common) (rest : List Terminal) → ends_common rest ≡ true → from.old ≡ words_of_common c ++ rest →
-        IsAsMeant (Vec CommonRead Global) (List CommonRead) (λ v. v.items) result (bound_each (common_placed t) (commons_of c)) }
-    ensures left { OnOk result ((c : Common) (rest : List Terminal) → ends_common rest ≡ true → from.old ≡ words_of_common c ++ rest → from.new ≡ rest) }
+    requires { StandsFirst words_of_common ends_common from.old }
+    ensures read { IfFirst words_of_common ends_common from.old (λ c rest.
+        AreAsMeant CommonRead result (bound_each (common_placed t) (commons_of c))) }
+    ensures left { OnOk result (LeavesRest words_of_common ends_common from.old from.new) }
 {
     if !from.takes_free(Free::Common) {
         return Ok(Vec::new(alloc));
@@ -102,9 +103,9 @@ pub fn common(alloc: Global, t: SqlType, from: &mut Cursor) -> Result<Vec<Common
 
 /// The bounds of the histogram of a column of type `t`, where HISTOGRAM stands next; else none.
 pub fn histogram(alloc: Global, t: SqlType, from: &mut Cursor) -> Result<Vec<Placed>, Refusal>
-    requires { (h : Histogram) × (rest : List Terminal) × (ends_histogram rest ≡ true) × (from.old ≡ words_of_histogram h ++ rest) }
-    ensures { (h : Histogram) (rest : List Terminal) → ends_histogram rest ≡ true → from.old ≡ words_of_histogram h ++ rest →
-        IsAsMeant (Vec Placed Global) (List Placed) (λ v. v.items) result (bound_each (placed t) (bounds_of h)) }
+    requires { StandsFirst words_of_histogram ends_histogram from.old }
+    ensures { IfFirst words_of_histogram ends_histogram from.old (λ h rest.
+        AreAsMeant Placed result (bound_each (placed t) (bounds_of h))) }
 {
     if !from.takes_free(Free::Histogram) {
         return Ok(Vec::new(alloc));

@@ -1,14 +1,12 @@
 //! Reading a statement that defines a table, gives or finds statistics, or loads data.
 
-ghost use Rattle.std.specs.Prelude.{◌≡◌, ◌≤◌, ◌<◌, ◌^◌, ℕ, List, [], ◌∷◌, ◌++◌, length, true, IfOk, IfErr, Ok, MatchResult};
-ghost use Rattle.sql_lex.specs.declared.tokens.Token.{Token};
+ghost use Rattle.std.specs.Prelude.{◌≡◌, ◌≤◌, ◌<◌, ◌^◌, ℕ, length, true, IfOk, IfErr, Ok, MatchResult};
 ghost use Rattle.sql_lex.specs.Words.{AreWords};
-ghost use Rattle.sql_grammar.specs.Syntax.{CopyWords, Statement, copy as copy_tree};
+ghost use Rattle.sql_grammar.specs.Syntax.{Statement, copy as copy_tree};
 ghost use Rattle.sql_grammar.specs.Words.{words_of};
 ghost use Rattle.sql_grammar.specs.Faults.{terminals, IsWhole};
-ghost use Rattle.sql_grammar.specs.Terminals.{Ident, Said};
 ghost use Rattle.ddl_reader.specs.Statements.{opens_ddl, begins_ddl, begins_index, IsMeaning, IsDdlRefusal};
-ghost use Rattle.ddl_reader.specs.Readings.{reading, ReadsAs, IsSyntaxRefusal};
+ghost use Rattle.ddl_reader.specs.Readings.{reading, ReadsAs, IsSyntaxRefusal, AreOfCopy, IfCopy, IsLastEnd};
 ghost use Rattle.ddl_reader.specs.Soundness.{IsSound};
 
 use crate::analysis::analysis;
@@ -27,7 +25,7 @@ use std::alloc::Global;
 /// Where the last token ends.
 fn last_end(text: &[u8], tokens: &Tokens) -> u32
     requires words { (from : ℕ) × AreWords text.now from tokens.now }
-    ensures last { (before : List Token) × (token : Token) × (tokens.now ≡ before ++ token ∷ []) × (result ≡ token.end) }
+    ensures last { IsLastEnd tokens.now result }
     ensures within { result ≤ length text.now }
 {
     tokens.end()
@@ -44,8 +42,8 @@ fn data(
     requires short { length text.now ≤ 2 ^ 31 }
     requires words { (from : ℕ) × AreWords text.now from tokens.now }
     requires all { from.old ≡ terminals text.now tokens.now }
-    requires copy { (k : CopyWords) × (n : Ident) × (null : Said) × (from.old ≡ words_of (copy_tree k n null)) }
-    ensures { (k : CopyWords) (n : Ident) (null : Said) → from.old ≡ words_of (copy_tree k n null) → ReadsAs cat.now text.now (copy_tree k n null) result }
+    requires copy { AreOfCopy from.old }
+    ensures { IfCopy from.old (λ k n null. ReadsAs cat.now text.now (copy_tree k n null) result) }
 {
     let start = data_start(text, last_end(text, tokens))?;
     copy(alloc, cat, start, from)
@@ -57,7 +55,8 @@ fn statement(alloc: Global, cat: &Catalog, text: &[u8], tokens: &Tokens) -> Resu
     requires words { (from : ℕ) × AreWords text.now from tokens.now }
     requires tree { (x : Statement) × (words_of x ≡ terminals text.now tokens.now) }
     requires opens { begins_ddl (terminals text.now tokens.now) ≡ true }
-    ensures { (x : Statement) → words_of x ≡ terminals text.now tokens.now → ReadsAs cat.now text.now x result }
+    ensures { (x : Statement) → words_of x ≡ terminals text.now tokens.now →
+        ReadsAs cat.now text.now x result }
 {
     let mut from = Cursor::new(text, tokens, 0);
     if from.takes(Word::Create) {

@@ -1,25 +1,16 @@
 //! STATISTICS: the size of a table, and what is known of a column.
 
-ghost use Rattle.std.specs.Prelude.{◌≡◌, ◌≤◌, ◌-◌, ◌^◌, ◌⊎◌, min, List, ◌∷◌, ◌++◌, map, true, IfOk, OnOk, MatchResult};
+ghost use Rattle.std.specs.Prelude.{◌≡◌, ◌≤◌, ◌-◌, ◌^◌, ◌⊎◌, min, ◌++◌, map, IfOk, OnOk};
 ghost use Rattle.std.specs.List.{flat_map};
-ghost use Rattle.pg_base.specs.declared.faults.Code.TheVariants.{S2, S3};
-ghost use Rattle.pg_base.specs.declared.faults.Refusal.TheVariants as refusal;
 ghost use Rattle.pg_base.specs.declared.numbers.TableNo.{TableNo};
 ghost use Rattle.pg_base.specs.declared.numbers.ColNo.{ColNo};
-ghost use Rattle.sql_grammar.specs.declared.class.Symbol.TheVariants.{Dot};
-ghost use Rattle.sql_grammar.specs.Terminals.{Terminal, Ident, Said, token_of, t_mark, t_name, t_number};
-ghost use Rattle.sql_grammar.specs.Syntax.{Mark, Common, Histogram};
+ghost use Rattle.sql_grammar.specs.Terminals.{token_of, t_number};
 ghost use Rattle.sql_grammar.specs.Faults.{bytes_of};
-ghost use Rattle.expr_reader.specs.Reading.{numbered};
-ghost use Rattle.expr_reader.specs.Conditions.{next};
 ghost use Rattle.catalog.specs.Contents.{IsTable, IsColumn, table_at};
 ghost use Rattle.catalog.specs.Indexes.{type_at};
-ghost use Rattle.catalog.specs.Tables.{table_named, column_named};
-ghost use Rattle.ddl_reader.specs.declared.ddl.Read.{Read};
-ghost use Rattle.ddl_reader.specs.Statistics.{known, sizes_reading, statistics_of, column_of_name, stated_rows, column_statistics_of, commons_of, bounds_of};
-ghost use Rattle.ddl_reader.specs.AsMeant.{IsAsMeant, Tells, SpellsSizes, SpellsColumn, ends_common, ends_histogram, words_of_sizes, words_of_column, words_of_lists, common_seen, starts_seen, value_seen, start_seen};
-ghost use Rattle.ddl_reader.specs.Tables.{Reading};
-ghost use Rattle.ddl_reader.specs.Readings.{reading, statistics_read};
+ghost use Rattle.ddl_reader.specs.AsMeant.{Tells, SpellsSizes, SpellsColumn, common_seen, starts_seen, value_seen, start_seen, SpellsSizesPart, SpellsLists, SpellsColumnPart};
+ghost use Rattle.ddl_reader.specs.Readings.{statistics_read, IsMadeAs, ReadsLists, ReadsColumnPart, ReadsSizesPart, ReadsSizes, ReadsColumnStatistics};
+ghost use Rattle.ddl_reader.specs.Statistics.{table_spelled, column_spelled};
 
 use crate::ddl::{Ddl, Read};
 use crate::literals::{CommonRead, common, histogram};
@@ -42,7 +33,7 @@ struct Counted {
 
 /// The table of this name. An unknown one is refused (42P01) at its name.
 pub(crate) fn table_of(cat: &Catalog, name: &Spelled) -> Result<TableNo, Refusal>
-    ensures told { Tells TableNo TableNo (λ t. t) result (known S2 name.now.token (table_named cat.now name.now.bytes)) }
+    ensures told { Tells TableNo TableNo (λ t. t) result (table_spelled cat.now name.now) }
     ensures there { IfOk result (IsTable cat.now) }
 {
     match cat.table(name.bytes.items()) {
@@ -54,7 +45,7 @@ pub(crate) fn table_of(cat: &Catalog, name: &Spelled) -> Result<TableNo, Refusal
 /// The column of this name, of a table. An unknown one is refused (42703) at its name.
 fn column_of(cat: &Catalog, table: TableNo, name: &Spelled) -> Result<ColNo, Refusal>
     requires { IsTable cat.now table }
-    ensures told { Tells ColNo ColNo (λ c. c) result (known S3 name.now.token (column_named cat.now table name.now.bytes)) }
+    ensures told { Tells ColNo ColNo (λ c. c) result (column_spelled cat.now table name.now) }
     ensures there { IfOk result (IsColumn cat.now table) }
 {
     match cat.column(table, name.bytes.items()) {
@@ -123,7 +114,7 @@ fn made(
     common: Vec<CommonRead>,
     bounds: Vec<Placed>,
 ) -> Result<Read, Refusal>
-    ensures { MatchResult result (λ r. reading r ≡ statistics_read counted common.items bounds.items) (λ e. e ≡ refusal.Memory) }
+    ensures { IsMadeAs result (statistics_read counted common.items bounds.items) }
 {
     let mut at = Vec::new(alloc);
     at.push(counted.distinct.token.start)?;
@@ -148,9 +139,8 @@ fn made(
 
 /// The lists of literals of a column of type `t`, which are bound from the left.
 fn lists(alloc: Global, t: SqlType, counted: Counted, from: &mut Cursor) -> Result<Read, Refusal>
-    requires { (cs : Common) × (h : Histogram) × (rest : List Terminal) × (ends_common rest ≡ true) × (ends_histogram rest ≡ true) × (from.old ≡ words_of_lists cs h rest) }
-    ensures { (d n : Said) (cs : Common) (h : Histogram) (rest : List Terminal) → counted.distinct ≡ numbered d → counted.nulls ≡ numbered n → ends_common rest ≡ true → ends_histogram rest ≡ true → from.old ≡ words_of_lists cs h rest →
-        IsAsMeant Read Reading reading result (statistics_of t counted.table counted.col d n (commons_of cs) (bounds_of h)) }
+    requires { SpellsLists from.old }
+    ensures { ReadsLists t counted from.old result }
 {
     let common = common(alloc, t, from)?;
     let bounds = histogram(alloc, t, from)?;
@@ -160,12 +150,8 @@ fn lists(alloc: Global, t: SqlType, counted: Counted, from: &mut Cursor) -> Resu
 /// STATISTICS of a column of a table, from the column's name on. An unknown column is refused (42703) at its name.
 fn column(alloc: Global, cat: &Catalog, table: TableNo, from: &mut Cursor) -> Result<Read, Refusal>
     requires there { IsTable cat.now table }
-    requires words { (c : Ident) × (a : Terminal) × (d : Said) × (b : Terminal) × (n : Said) × (cs : Common) × (h : Histogram) × (rest : List Terminal) ×
-        (ends_common rest ≡ true) × (ends_histogram rest ≡ true) × (from.old ≡ words_of_column c a d b n cs h rest) }
-    ensures { (c : Ident) (a : Terminal) (d : Said) (b : Terminal) (n : Said) (cs : Common) (h : Histogram) (rest : List Terminal) → ends_common rest ≡ true → ends_histogram rest ≡ true →
-        from.old ≡ words_of_column c a d b n cs h rest →
-        IsAsMeant Read Reading reading result
-        (next (column_of_name cat.now table c) (λ col. statistics_of (type_at (table_at cat.now table).columns col) table col d n (commons_of cs) (bounds_of h))) }
+    requires words { SpellsColumnPart from.old }
+    ensures { ReadsColumnPart cat.now table from.old result }
 {
     let title = name(alloc, from)?;
     let col = column_of(cat, table, &title)?;
@@ -184,9 +170,8 @@ fn column(alloc: Global, cat: &Catalog, table: TableNo, from: &mut Cursor) -> Re
 
 /// STATISTICS of a table, from ROWS on.
 fn sizes(alloc: Global, table: TableNo, from: &mut Cursor) -> Result<Read, Refusal>
-    requires { (r : Ident) × (rows : Said) × (b : Terminal) × (pages : Said) × (rest : List Terminal) × (from.old ≡ words_of_sizes r rows b pages rest) }
-    ensures { (r : Ident) (rows : Said) (b : Terminal) (pages : Said) (rest : List Terminal) → from.old ≡ words_of_sizes r rows b pages rest →
-        MatchResult result (λ v. reading v ≡ sizes_reading rows pages table) (λ e. e ≡ refusal.Memory) }
+    requires { SpellsSizesPart from.old }
+    ensures { ReadsSizesPart table from.old result }
 {
     from.skip(1);
     let rows = number(from);
@@ -208,11 +193,8 @@ fn sizes(alloc: Global, table: TableNo, from: &mut Cursor) -> Result<Read, Refus
 /// STATISTICS from the table's name on. The table's name is bound (42P01), then a column's (42703), then all literals, from the left.
 pub fn statistics(alloc: Global, cat: &Catalog, from: &mut Cursor) -> Result<Read, Refusal>
     requires { SpellsSizes from.old ⊎ SpellsColumn from.old }
-    ensures sizes { (t r : Ident) (rows : Said) (b : Terminal) (pages : Said) (rest : List Terminal) →
-        from.old ≡ t_name t ∷ words_of_sizes r rows b pages rest → IsAsMeant Read Reading reading result (stated_rows cat.now t rows pages) }
-    ensures column { (t : Ident) (m : Mark) (c : Ident) (a : Terminal) (d : Said) (b : Terminal) (n : Said) (cs : Common) (h : Histogram) (rest : List Terminal) →
-        ends_common rest ≡ true → ends_histogram rest ≡ true → from.old ≡ t_name t ∷ t_mark Dot m ∷ words_of_column c a d b n cs h rest →
-        IsAsMeant Read Reading reading result (column_statistics_of cat.now t c d n (commons_of cs) (bounds_of h)) }
+    ensures sizes { ReadsSizes cat.now from.old result }
+    ensures column { ReadsColumnStatistics cat.now from.old result }
 {
     let title = name(alloc, from)?;
     let table = table_of(cat, &title)?;

@@ -1,20 +1,15 @@
 //! CREATE TABLE.
 
-ghost use Rattle.std.specs.Prelude.{◌≡◌, ◌≤◌, ◌<◌, List, ◌∷◌, length, map, slice_get, Some, MatchResult};
+ghost use Rattle.std.specs.Prelude.{◌≡◌, ◌≤◌, ◌<◌, length, map, slice_get, Some, MatchResult};
 ghost use Rattle.pg_base.specs.declared.faults.Code.TheVariants.{S15};
 ghost use Rattle.pg_base.specs.declared.faults.Limit.TheVariants.{Columns as ColumnLimit};
 ghost use Rattle.pg_base.specs.declared.faults.Refusal.TheVariants as refusal;
 ghost use Rattle.pg_base.specs.declared.limits.TheConstants.{MOST_COLUMNS};
-ghost use Rattle.sql_grammar.specs.Terminals.{Terminal, Ident, token_of, t_mark, t_name};
-ghost use Rattle.sql_grammar.specs.declared.class.Symbol.TheVariants.{Open};
-ghost use Rattle.sql_grammar.specs.Syntax.{Mark, ColDef};
-ghost use Rattle.sql_grammar.specs.Faults.{bytes_of, fault_at};
+ghost use Rattle.sql_grammar.specs.Faults.{fault_at};
 ghost use Rattle.ddl_reader.specs.declared.columns.ColumnDef.{ColumnDef};
-ghost use Rattle.ddl_reader.specs.declared.ddl.Read.{Read};
-ghost use Rattle.ddl_reader.specs.Columns.{defined_column, further, bound_all};
-ghost use Rattle.ddl_reader.specs.AsMeant.{words_of_body, IsAsMeant, seen};
-ghost use Rattle.ddl_reader.specs.Tables.{Reading, bound_table, table_reading};
-ghost use Rattle.ddl_reader.specs.Readings.{reading};
+ghost use Rattle.ddl_reader.specs.AsMeant.{seen, SpellsTable};
+ghost use Rattle.ddl_reader.specs.Tables.{table_reading};
+ghost use Rattle.ddl_reader.specs.Readings.{IsMadeAs, ReadsTable};
 
 use crate::columns::{ColumnDef, columns};
 use crate::ddl::{Ddl, Read};
@@ -28,7 +23,7 @@ use std::alloc::Global;
 fn made(alloc: Global, name: Spelled, defs: Vec<ColumnDef>) -> Result<Read, Refusal>
     requires some { 0 < length defs.items }
     requires few { length defs.items ≤ MOST_COLUMNS }
-    ensures { MatchResult result (λ r. reading r ≡ table_reading name.bytes name.token (map seen defs.items)) (λ e. e ≡ refusal.Memory) }
+    ensures { IsMadeAs result (table_reading name.bytes name.token (map seen defs.items)) }
 {
     let mut names = Vec::new(alloc);
     let mut columns = Vec::new(alloc);
@@ -66,9 +61,8 @@ fn limit(defs: &[ColumnDef]) -> Result<(), Refusal>
 
 /// CREATE TABLE from its name on. Its columns are bound from the left (42704), then counted (54000).
 pub fn table(alloc: Global, from: &mut Cursor) -> Result<Read, Refusal>
-    requires { (n : Ident) × (o : Mark) × (x : ColDef) × (xs : List (Mark × ColDef)) × (m : Mark) × (rest : List Terminal) × (from.old ≡ t_name n ∷ t_mark Open o ∷ words_of_body x xs m rest) }
-    ensures { (n : Ident) (o : Mark) (x : ColDef) (xs : List (Mark × ColDef)) (m : Mark) (rest : List Terminal) → from.old ≡ t_name n ∷ t_mark Open o ∷ words_of_body x xs m rest →
-        IsAsMeant Read Reading reading result (bound_table (bytes_of n) (token_of n) (bound_all (defined_column x ∷ further xs))) }
+    requires { SpellsTable from.old }
+    ensures { ReadsTable from.old result }
 {
     let title = name(alloc, from)?;
     from.skip(1);

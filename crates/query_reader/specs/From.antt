@@ -8,7 +8,7 @@ use Rattle.pg_base.specs.declared.faults.Code.TheVariants.{S2, S7, S15}
 use Rattle.pg_base.specs.declared.faults.Fault.{Fault}
 use Rattle.pg_base.specs.declared.faults.Limit.TheVariants.{Relations}
 use Rattle.pg_base.specs.declared.limits.TheConstants.{MOST_RELATIONS}
-use Rattle.pg_base.specs.Names.{AreDistinct}
+use Rattle.pg_base.specs.Names.{AreDistinct, IsName}
 use Rattle.pg_value.specs.declared.value.SqlType.{SqlType}
 use Rattle.pg_expr.specs.declared.operand.ColRef.{ColRef}
 use Rattle.pg_expr.specs.Cond.{Cond}
@@ -42,6 +42,10 @@ pub record AreRelations (c : Contents) (range : Range) : Type 0 where
   pub tables : All (λ r. IsTable c r.0) range
   pub lawful : All (λ r. IsLawfulTable (table_at c r.0)) range
   pub distinct : AreDistinct (aliases range)
+
+-- the relations are under names
+abbrev pub HaveNames : Range → Type 0
+HaveNames range = All (λ r. IsName r.1) range
 
 -- the conjuncts of a condition as written: the parts of an AND, else the condition itself
 abbrev pub conjuncts_of_expr : Scope → (ColRef → SqlType) → Expr → Result (List Cond) Fault

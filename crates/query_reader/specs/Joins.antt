@@ -1,9 +1,11 @@
 -- Which join is next, by its first words (own).
-use Rattle.std.specs.Prelude.{◌≡◌, List, [], ◌∷◌, ◌++◌, Option, Some, None}
+use Rattle.std.specs.Prelude.{◌≡◌, true, List, [], ◌∷◌, ◌++◌, Option, Some, None}
 use Rattle.sql_grammar.specs.declared.class.Word.TheVariants.{On as OnKey}
 use Rattle.sql_grammar.specs.Syntax.{Key, Expr, Relation, Inner, Join, join_on, cross_join}
 use Rattle.sql_grammar.specs.Terminals.{Terminal, t_key}
 use Rattle.sql_grammar.specs.Words.{words_of_expr, words_of_joins, words_of_relation}
+use Rattle.sql_grammar.specs.Unique.{ends_expr}
+use Rattle.query_reader.specs.Ends.{ends_group}
 use Rattle.query_reader.specs.declared.written.Joining.{Joining}
 use Rattle.query_reader.specs.declared.written.Joining.TheVariants.{On, Cross}
 
@@ -37,3 +39,26 @@ abbrev pub IsNext : Option Joining → List Join → List Terminal → List Term
 IsNext None = NoJoin
 IsNext (Some On) = NextOn
 IsNext (Some Cross) = NextCross
+
+-- a join by these words stands first behind them, with the joins that follow, and no word behind those goes on the group
+abbrev pub StandsJoin : Joining → List Terminal → Type 0
+StandsJoin how ts =
+    (x : Join) × (more : List Join) × (rest : List Terminal) × (ends_group rest ≡ true) × IsNext (Some how) (x ∷ more) rest ts
+
+-- where it does, this holds of them and of what stands behind them
+abbrev pub IfJoin : Joining → List Terminal → (Join → List Join → List Terminal → Type 0) → Type 0
+IfJoin how ts P =
+    (x : Join) (more : List Join) (rest : List Terminal) → ends_group rest ≡ true → IsNext (Some how) (x ∷ more) rest ts →
+    P x more rest
+
+-- a relation with ON and its condition stands first, and no word behind it goes on the condition
+abbrev pub StandsOn : List Terminal → Type 0
+StandsOn ts =
+    (r : Relation) × (k : Key) × (e : Expr) × (rest : List Terminal) × (ends_expr rest ≡ true) ×
+    (ts ≡ words_of_relation r ++ t_key OnKey k ∷ (words_of_expr e ++ rest))
+
+-- where it does, this holds of them and of what stands behind them
+abbrev pub IfOn : List Terminal → (Relation → Expr → List Terminal → Type 0) → Type 0
+IfOn ts P =
+    (r : Relation) (k : Key) (e : Expr) (rest : List Terminal) → ends_expr rest ≡ true →
+    ts ≡ words_of_relation r ++ t_key OnKey k ∷ (words_of_expr e ++ rest) → P r e rest

@@ -11,4 +11,5 @@ pub mod Binding
 pub mod Adds
 pub mod Parts
 pub mod Select
+pub mod Reads
 pub mod Wanted

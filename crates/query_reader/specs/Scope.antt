@@ -1,12 +1,15 @@
 -- The columns that are visible over the relations of a query (PostgreSQL manual, chapter Value Expressions, Column References).
-use Rattle.std.specs.Prelude.{ℕ, ◌+◌, List, [], ◌∷◌, ◌++◌, drop}
+use Rattle.std.specs.Prelude.{◌≡◌, ◌<◌, ℕ, ◌+◌, List, [], ◌∷◌, ◌++◌, drop, length, All, IsTrue, Option, MatchOption}
 use Rattle.pg_base.specs.declared.numbers.RelNo.{RelNo}
 use Rattle.catalog.specs.Contents.{Contents, table_at}
+use Rattle.pg_expr.specs.Cond.{Cond}
 use Rattle.pg_expr.specs.declared.operand.ColRef.{ColRef}
-use Rattle.catalog.specs.Range.{Range, relation_at}
+use Rattle.pg_value.specs.declared.value.SqlType.{SqlType}
+use Rattle.catalog.specs.Range.{Range, relation_at, type_in}
 use Rattle.expr_reader.specs.declared.found.Found.{Found}
 use Rattle.expr_reader.specs.declared.found.Found.TheVariants.{One, NoColumn, Many}
-use Rattle.expr_reader.specs.Scope.{Scope}
+use Rattle.expr_reader.specs.Scope.{Scope, columns_of, under}
+use Rattle.path_cost.specs.Columns.{IsOver, is_column_in}
 
 -- the columns of a relation that have these names, from column k on
 abbrev pub columns_from : List ℕ → RelNo → ℕ → List (List ℕ) → Scope
@@ -46,3 +49,27 @@ own_columns s k = columns_from (relation_at s.range (record { 0 = k })).1 (recor
 abbrev pub also : Found → ColRef → Found
 also NoColumn x = One x
 also _ x = Many
+
+-- the types of the columns of the relations in which names are looked up
+abbrev pub types_in : Sight → ColRef → SqlType
+types_in s = type_in s.contents s.range
+
+-- these conditions are over those relations
+abbrev pub AreOver : Sight → List Cond → Type 0
+AreOver s conditions = All (IsOver s.contents s.range) conditions
+
+-- a column is one of those relations
+abbrev pub IsSeenColumn : Sight → ColRef → Type 0
+IsSeenColumn s c = IsTrue (is_column_in s.contents s.range c)
+
+-- this is the number of the visible relation under an alias
+abbrev pub IsRelationUnder : List ℕ → Sight → ℕ → Type 0
+IsRelationUnder alias s k = (k < length s.range) × (under alias (visible_in s) ≡ own_columns s k)
+
+-- the one column of these, where there is one; there is no second one
+abbrev pub IsOnlyColumn : Scope → Option ColRef → Type 0
+IsOnlyColumn scope found = MatchOption found (scope ≡ []) (λ c. columns_of scope ≡ c ∷ [])
+
+-- the columns, by their numbers from 0 on, of the relation of a number, which have these names
+abbrev pub numbered_columns : List ℕ → ℕ → List (List ℕ) → List ColRef
+numbered_columns alias k names = columns_of (columns_from alias (record { 0 = k }) 0 names)

@@ -10,7 +10,7 @@ use Rattle.sql_grammar.specs.declared.class.Symbol.TheVariants.{Open}
 use Rattle.sql_grammar.specs.declared.class.Word.TheVariants.{Select as SelectKey}
 use Rattle.sql_grammar.specs.declared.offered.TheConstants.{READS_GROUPS}
 use Rattle.sql_grammar.specs.Terminals.{Terminal, free, t_key, t_mark, t_name}
-use Rattle.sql_grammar.specs.Syntax.{GroupedSelect, IsOffered, MaybeExplain, OrderedSelect, Statement, grouped, query}
+use Rattle.sql_grammar.specs.Syntax.{GroupedSelect, IsOffered, MaybeExplain, OrderedSelect, Statement, WindowedSelect, grouped, query}
 use Rattle.sql_grammar.specs.Words.{words_of}
 use Rattle.sql_grammar.specs.Faults.{IsStatement, IsFirstFault, IsWhole, fault_at, terminals}
 use Rattle.sql_grammar.specs.Spelled.{IsSpelled}
@@ -18,9 +18,9 @@ use Rattle.catalog.specs.Contents.{Contents}
 use Rattle.eq_classes.specs.Holding.{IsClassTable}
 use Rattle.sql_query.specs.Queries.{Query}
 use Rattle.sql_query.specs.WellBound.{IsWellBound, given_of}
-use Rattle.query_reader.specs.Binding.{Bound, query_with}
+use Rattle.query_reader.specs.Binding.{Bound, bound_part, query_with}
 use Rattle.query_reader.specs.Conveys.{Conveys}
-use Rattle.query_reader.specs.Parts.{HaveSelectAt}
+use Rattle.query_reader.specs.Parts.{HaveSelectAt, IsPartAt, IsSelectAt}
 
 -- EXPLAIN is the first word
 abbrev pub is_explained : List Terminal → Bool
@@ -104,3 +104,17 @@ IsBoundAs = Conveys (λ meant read. read ≡ query_with read.classes meant)
 pub record IsBoundByItself (c : Contents) (q : Query) : Type 0 where
   pub well_bound : IsWellBound c q
   pub classes : IsClassTable (given_of c q) q.classes
+
+-- where the tokens from `first` up to `end` are a SELECT with its order and its window, what is read is what it means, in a
+-- statement that begins at the first token
+abbrev pub BindsPart : Contents → List ℕ → List Token → ℕ → ℕ → Result Query Refusal → Type 0
+BindsPart c text tokens first end read =
+    (x : WindowedSelect) (start : Token) (later : List Token) → tokens ≡ start ∷ later → IsPartAt text tokens first end x →
+    IsBoundAs (bound_part c start x) read
+
+-- the same of a SELECT that the end of the statement ends
+abbrev pub BindsSelect : Contents → List ℕ → List Token → ℕ → Result Query Refusal → Type 0
+BindsSelect c text tokens first read =
+    (x : WindowedSelect) (start : Token) (later : List Token) → tokens ≡ start ∷ later → IsWhole text tokens →
+        IsSelectAt text tokens first x →
+    IsBoundAs (bound_part c start x) read

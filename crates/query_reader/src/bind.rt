@@ -1,18 +1,15 @@
 //! Binding the names of a SELECT to a catalogue.
 
-ghost use Rattle.std.specs.Prelude.{◌≡◌, ◌<◌, ◌++◌, List, ◌∷◌, All, length, true, IfOk, map};
-ghost use Rattle.pg_base.specs.Names.{IsName};
+ghost use Rattle.std.specs.Prelude.{◌≡◌, ◌<◌, ◌∷◌, length, IfOk, map};
 ghost use Rattle.pg_expr.specs.View.{cond};
 ghost use Rattle.sql_grammar.specs.FromParts.{groups_after};
-ghost use Rattle.sql_grammar.specs.Syntax.{Group, Mark, Where, OrderBy, Window as WindowTree};
-ghost use Rattle.sql_grammar.specs.Terminals.{Terminal};
-ghost use Rattle.sql_grammar.specs.Words.{words_of_group, words_of_groups, words_of_where, words_of_order, words_of_window};
 ghost use Rattle.expr_reader.specs.Conditions.{next, the_column};
 ghost use Rattle.query_reader.specs.Adds.{Adds, AddsAll};
 ghost use Rattle.query_reader.specs.Binding.{alone, bound_from, bound_over, item_columns, list_columns, named_in};
-ghost use Rattle.query_reader.specs.Ends.{ends_window};
 ghost use Rattle.query_reader.specs.Scope.{visible_in};
 ghost use Rattle.query_reader.specs.Select.{IsBoundByItself, IsBoundAs};
+ghost use Rattle.query_reader.specs.From.{HaveNames};
+ghost use Rattle.query_reader.specs.Reads.{StandsAfterFrom, IfAfterFrom, StandsFrom, IfFrom};
 
 use crate::conditions::{classes_within, written_conjuncts};
 use crate::named;
@@ -46,7 +43,8 @@ fn add_column(
 /// Adds the columns of an item over the visible relations, or tells its first fault: an unknown qualifier (42P01), an unknown column
 /// (42703) or one that several have (42702), with its word.
 pub fn add_item(relations: &Relations, item: &Item, all: &mut Vec<ColRef>) -> Result<(), Refusal>
-    ensures { Adds (item_columns (visible_in relations.now) item.now) all.old.items all.new.items result }
+    ensures { Adds (item_columns (visible_in relations.now) item.now)
+        all.old.items all.new.items result }
 {
     match item {
         Item::Every => relations.add_all(all),
@@ -68,7 +66,8 @@ pub fn add_items(
     items: &[Item],
     all: &mut Vec<ColRef>,
 ) -> Result<(), Refusal>
-    ensures { AddsAll (list_columns (visible_in relations.now) items.now) all.old.items all.new.items result }
+    ensures { AddsAll (list_columns (visible_in relations.now) items.now)
+        all.old.items all.new.items result }
 {
     for item in items {
         add_item(relations, item, all)?;
@@ -114,10 +113,10 @@ fn over(
     from: &mut Cursor,
 ) -> Result<Prepared, Refusal>
     requires some { 0 < length sources.range }
-    requires words { (w : Where) × (y : OrderBy) × (v : WindowTree) × (rest : List Terminal) × (ends_window rest ≡ true) × (from.old ≡ words_of_where w ++ (words_of_order y ++ (words_of_window v ++ rest))) }
-    ensures meaning { (w : Where) (y : OrderBy) (v : WindowTree) (rest : List Terminal) → ends_window rest ≡ true → from.old ≡ words_of_where w ++ (words_of_order y ++ (words_of_window v ++ rest)) →
-        IsBoundAs (bound_over start items.now w y v sources.entry) result }
-    ensures itself { IfOk result (λ q. All (λ r. IsName r.1) q.range → IsBoundByItself sources.entry.contents q) }
+    requires words { StandsAfterFrom from.old }
+    ensures meaning { IfAfterFrom from.old
+        (λ w y v. IsBoundAs (bound_over start items.now w y v sources.entry) result) }
+    ensures itself { IfOk result (λ q. HaveNames q.range → IsBoundByItself sources.entry.contents q) }
 {
     let Sources {
         cat,
@@ -154,12 +153,10 @@ pub fn bind(
     start: Token,
     from: &mut Cursor,
 ) -> Result<Prepared, Refusal>
-    requires { (g : Group) × (gs : List (Mark × Group)) × (w : Where) × (y : OrderBy) × (v : WindowTree) × (rest : List Terminal) × (ends_window rest ≡ true) ×
-        (from.old ≡ words_of_group g ++ (words_of_groups gs ++ (words_of_where w ++ (words_of_order y ++ (words_of_window v ++ rest))))) }
-    ensures meaning { (g : Group) (gs : List (Mark × Group)) (w : Where) (y : OrderBy) (v : WindowTree) (rest : List Terminal) → ends_window rest ≡ true →
-        from.old ≡ words_of_group g ++ (words_of_groups gs ++ (words_of_where w ++ (words_of_order y ++ (words_of_window v ++ rest)))) →
-        IsBoundAs (bound_from cat.now start items.now (g ∷ groups_after gs) w y v) result }
-    ensures itself { IfOk result (λ q. All (λ r. IsName r.1) q.range → IsBoundByItself cat.now q) }
+    requires { StandsFrom from.old }
+    ensures meaning { IfFrom from.old (λ g gs w y v.
+        IsBoundAs (bound_from cat.now start items.now (g ∷ groups_after gs) w y v) result) }
+    ensures itself { IfOk result (λ q. HaveNames q.range → IsBoundByItself cat.now q) }
 {
     let mut sources = Sources::new(alloc, cat);
     sources.take_groups(alloc, from)?;

@@ -1,22 +1,18 @@
 //! The conjuncts of conditions, and their classes.
 
-ghost use Rattle.std.specs.Prelude.{◌≡◌, ◌≤◌, ◌-◌, ◌^◌, ◌++◌, List, All, IfOk, length, map, min, true, IsTrue};
+ghost use Rattle.std.specs.Prelude.{◌≡◌, ◌≤◌, ◌-◌, ◌^◌, All, IfOk, length, map, min};
 ghost use Rattle.pg_expr.specs.Columns.{atom_count_of};
 ghost use Rattle.pg_expr.specs.View.{cond, conds};
-ghost use Rattle.catalog.specs.Range.{type_in};
 ghost use Rattle.eq_classes.specs.Classes.{conjuncts_in};
 ghost use Rattle.eq_classes.specs.Holding.{IsClassTable};
-ghost use Rattle.path_cost.specs.Columns.{IsOver, is_column_in};
-ghost use Rattle.sql_grammar.specs.Syntax.{Expr as ExprTree, Where};
-ghost use Rattle.sql_grammar.specs.Terminals.{Terminal};
 ghost use Rattle.sql_grammar.specs.Unique.{ends_expr};
 ghost use Rattle.sql_grammar.specs.Words.{words_of_expr, words_of_where};
-ghost use Rattle.expr_reader.specs.Reads.{Reads};
-ghost use Rattle.query_reader.specs.Binding.{conjuncts_written, limited, past_limit};
+ghost use Rattle.query_reader.specs.Binding.{limited, past_limit, premises_of};
 ghost use Rattle.query_reader.specs.Ends.{ends_where};
-ghost use Rattle.query_reader.specs.From.{conjuncts_of_expr};
-ghost use Rattle.query_reader.specs.Scope.{visible_in};
+ghost use Rattle.query_reader.specs.Scope.{visible_in, types_in, AreOver, IsSeenColumn};
 ghost use Rattle.query_reader.specs.Conveys.{Conveys};
+ghost use Rattle.expr_reader.specs.Reading.{StandsFirst};
+ghost use Rattle.query_reader.specs.Reads.{ReadsConjuncts, ReadsWhere};
 
 use crate::relations::Relations;
 use eq_classes::{Classes, OrderItem};
@@ -33,10 +29,10 @@ pub fn conjuncts_next(
     relations: &Relations,
     from: &mut Cursor,
 ) -> Result<Exprs, Refusal>
-    requires { (e : ExprTree) × (rest : List Terminal) × (ends_expr rest ≡ true) × (from.old ≡ words_of_expr e ++ rest) }
-    ensures read { (e : ExprTree) (rest : List Terminal) → ends_expr rest ≡ true → from.old ≡ words_of_expr e ++ rest →
-        Reads (λ (es : Exprs). map cond es.items.items) (conjuncts_of_expr (visible_in relations.now) (type_in relations.now.contents relations.now.range) e) rest result from.new }
-    ensures over { IfOk result (λ es. All (IsOver relations.now.contents relations.now.range) (map cond es.items.items)) }
+    requires { StandsFirst words_of_expr ends_expr from.old }
+    ensures read { ReadsConjuncts (visible_in relations.now) (types_in relations.now)
+        from.old result from.new }
+    ensures over { IfOk result (λ es. AreOver relations.now (map cond es.items.items)) }
     ensures ahead { length from.new ≤ length from.old }
 {
     relations.see_their_columns();
@@ -50,10 +46,10 @@ pub fn written_conjuncts(
     relations: &Relations,
     from: &mut Cursor,
 ) -> Result<Exprs, Refusal>
-    requires { (w : Where) × (rest : List Terminal) × (ends_where rest ≡ true) × (from.old ≡ words_of_where w ++ rest) }
-    ensures read { (w : Where) (rest : List Terminal) → ends_where rest ≡ true → from.old ≡ words_of_where w ++ rest →
-        Reads (λ (es : Exprs). map cond es.items.items) (conjuncts_written (visible_in relations.now) (type_in relations.now.contents relations.now.range) w) rest result from.new }
-    ensures over { IfOk result (λ es. All (IsOver relations.now.contents relations.now.range) (map cond es.items.items)) }
+    requires { StandsFirst words_of_where ends_where from.old }
+    ensures read { ReadsWhere (visible_in relations.now) (types_in relations.now)
+        from.old result from.new }
+    ensures over { IfOk result (λ es. AreOver relations.now (map cond es.items.items)) }
 {
     if !from.takes(Word::Where) {
         return Ok(Exprs::from_vec(Vec::new(alloc)));
@@ -107,10 +103,11 @@ pub fn classes_within(
     order: &[OrderItem],
     start: Token,
 ) -> Result<Classes, Refusal>
-    requires over { All (IsOver relations.now.contents relations.now.range) (map cond written.now) }
-    requires order { All (λ (i : OrderItem). IsTrue (is_column_in relations.now.contents relations.now.range i.col)) order.now }
+    requires over { AreOver relations.now (map cond written.now) }
+    requires order { All (λ (i : OrderItem). IsSeenColumn relations.now i.col) order.now }
     requires few { length relations.now.range ≤ 16 }
-    ensures { Conveys (λ ws t. IsClassTable (record { conjuncts = conjuncts_in ws; order = order.now; type_of = type_in relations.now.contents relations.now.range }) t) (limited start (past_limit (map cond written.now)) (map cond written.now)) result }
+    ensures { Conveys (λ ws t. IsClassTable (premises_of relations.now order.now ws) t)
+        (limited start (past_limit (map cond written.now)) (map cond written.now)) result }
 {
     let pushed = pushed_conjuncts(alloc, written)?;
     if let Some(limit) = past_limit(written, pushed.items()) {

@@ -1,17 +1,12 @@
 //! ORDER BY: its items read and bound.
 
-ghost use Rattle.std.specs.Prelude.{◌≡◌, ◌≤◌, ◌++◌, List, ◌∷◌, All, IfOk, IsTrue, OnOk, Vec, length, true};
-ghost use Rattle.std.specs.declared.alloc.Global.{Global};
-ghost use Rattle.path_cost.specs.Columns.{is_column_in};
-ghost use Rattle.sql_grammar.specs.Syntax.{Col, Mark, Ordering, OrderBy};
-ghost use Rattle.sql_grammar.specs.Terminals.{Terminal};
+ghost use Rattle.std.specs.Prelude.{◌≤◌, All, IfOk, OnOk, length};
 ghost use Rattle.sql_grammar.specs.Words.{words_of_col, words_of_ordering, words_of_orderings, words_of_order};
 ghost use Rattle.sql_grammar.specs.Unique.{ends_operand};
-ghost use Rattle.expr_reader.specs.Lists.{parts_of, bound_each};
-ghost use Rattle.expr_reader.specs.Reads.{Reads};
 ghost use Rattle.query_reader.specs.Ends.{ends_order, ends_ordering};
-ghost use Rattle.query_reader.specs.Order.{order_column as column_meant, order_item as item_meant, order_items as items_meant};
-ghost use Rattle.query_reader.specs.Scope.{visible_in};
+ghost use Rattle.query_reader.specs.Scope.{visible_in, IsSeenColumn};
+ghost use Rattle.expr_reader.specs.Reading.{StandsFirst, StandsListed};
+ghost use Rattle.query_reader.specs.Reads.{ReadsOrderColumn, ReadsOrdering, ReadsOrderings, ReadsOrderBy};
 
 use crate::relations::Relations;
 use eq_classes::OrderItem;
@@ -28,9 +23,8 @@ fn order_column(
     select: &[ColRef],
     from: &mut Cursor,
 ) -> Result<ColRef, Refusal>
-    requires { (c : Col) × (rest : List Terminal) × (ends_operand rest ≡ true) × (from.old ≡ words_of_col c ++ rest) }
-    ensures read { (c : Col) (rest : List Terminal) → ends_operand rest ≡ true → from.old ≡ words_of_col c ++ rest →
-        Reads (λ x. x) (column_meant (visible_in relations.now) select.now c) rest result from.new }
+    requires { StandsFirst words_of_col ends_operand from.old }
+    ensures read { ReadsOrderColumn (visible_in relations.now) select.now from.old result from.new }
     ensures ahead { length from.new ≤ length from.old }
 {
     let first = from.expect_name(alloc)?;
@@ -50,9 +44,8 @@ fn order_item(
     select: &[ColRef],
     from: &mut Cursor,
 ) -> Result<OrderItem, Refusal>
-    requires { (o : Ordering) × (rest : List Terminal) × (ends_ordering rest ≡ true) × (from.old ≡ words_of_ordering o ++ rest) }
-    ensures read { (o : Ordering) (rest : List Terminal) → ends_ordering rest ≡ true → from.old ≡ words_of_ordering o ++ rest →
-        Reads (λ i. i) (item_meant (visible_in relations.now) select.now o) rest result from.new }
+    requires { StandsFirst words_of_ordering ends_ordering from.old }
+    ensures read { ReadsOrdering (visible_in relations.now) select.now from.old result from.new }
     ensures ahead { OnOk result (length from.new ≤ length from.old) }
 {
     let col = order_column(alloc, relations, select, from)?;
@@ -72,9 +65,8 @@ fn order_items(
     select: &[ColRef],
     from: &mut Cursor,
 ) -> Result<Vec<OrderItem>, Refusal>
-    requires { (o : Ordering) × (os : List (Mark × Ordering)) × (rest : List Terminal) × (ends_order rest ≡ true) × (from.old ≡ words_of_ordering o ++ (words_of_orderings os ++ rest)) }
-    ensures { (o : Ordering) (os : List (Mark × Ordering)) (rest : List Terminal) → ends_order rest ≡ true → from.old ≡ words_of_ordering o ++ (words_of_orderings os ++ rest) →
-        Reads (λ (v : Vec OrderItem Global). v.items) (bound_each (item_meant (visible_in relations.now) select.now) (o ∷ parts_of (λ x. x) os)) rest result from.new }
+    requires { StandsListed words_of_ordering words_of_orderings ends_order from.old }
+    ensures { ReadsOrderings (visible_in relations.now) select.now from.old result from.new }
 {
     let mut all = Vec::new(alloc);
     let first = order_item(alloc, relations, select, from)?;
@@ -93,10 +85,9 @@ pub fn order_by(
     select: &[ColRef],
     from: &mut Cursor,
 ) -> Result<Vec<OrderItem>, Refusal>
-    requires { (y : OrderBy) × (rest : List Terminal) × (ends_order rest ≡ true) × (from.old ≡ words_of_order y ++ rest) }
-    ensures read { (y : OrderBy) (rest : List Terminal) → ends_order rest ≡ true → from.old ≡ words_of_order y ++ rest →
-        Reads (λ (v : Vec OrderItem Global). v.items) (items_meant (visible_in relations.now) select.now y) rest result from.new }
-    ensures over { IfOk result (λ v. All (λ i. IsTrue (is_column_in relations.now.contents relations.now.range i.col)) v.items) }
+    requires { StandsFirst words_of_order ends_order from.old }
+    ensures read { ReadsOrderBy (visible_in relations.now) select.now from.old result from.new }
+    ensures over { IfOk result (λ v. All (λ i. IsSeenColumn relations.now i.col) v.items) }
 {
     if !from.takes(Word::Order) {
         return Ok(Vec::new(alloc));

@@ -1,15 +1,15 @@
 //! Reading the words of a SELECT that the grammar has accepted. Each part is asked for only where the words left are those
 //! of some tree, so that want of memory alone is left to refuse it.
 
-ghost use Rattle.std.specs.Prelude.{◌≡◌, List, ◌∷◌, ◌++◌, ◌≤◌, length, true, IfOk};
+ghost use Rattle.std.specs.Prelude.{◌≡◌, List, ◌∷◌, ◌≤◌, length, IfOk};
 ghost use Rattle.sql_grammar.specs.Terminals.{Terminal, Ident, t_key, t_name};
-ghost use Rattle.sql_grammar.specs.Syntax.{Key, Mark, Output, Alias, Join, Relation};
-ghost use Rattle.sql_grammar.specs.Words.{words_of_output, words_of_outputs, words_of_alias, words_of_joins, words_of_relation};
+ghost use Rattle.sql_grammar.specs.Words.{words_of_output, words_of_alias, words_of_joins, words_of_relation};
 ghost use Rattle.sql_grammar.specs.declared.class.Word.TheVariants.{From};
-ghost use Rattle.expr_reader.specs.Reading.{spelled};
+ghost use Rattle.expr_reader.specs.Reading.{spelled, StandsFirst, IfFirst, Yields, YieldsNext, StandsList, IfList};
 ghost use Rattle.query_reader.specs.Written.{item_of, items_of, alias_of as alias_value, source_of};
 ghost use Rattle.query_reader.specs.Ends.{ends_item, ends_alias, ends_group};
 ghost use Rattle.query_reader.specs.Joins.{IsNext};
+ghost use Rattle.query_reader.specs.Reads.{words_of_list, StandsAfterName, YieldsAfterName};
 
 use crate::written::{Item, Joining, Source};
 use expr_reader::{Cursor, Spelled};
@@ -20,7 +20,7 @@ use std::alloc::Global;
 /// A name.
 fn name(alloc: Global, from: &mut Cursor) -> Result<Spelled, Memory>
     requires { (n : Ident) × (rest : List Terminal) × (from.old ≡ t_name n ∷ rest) }
-    ensures read { IfOk result (λ x. (n : Ident) (rest : List Terminal) → from.old ≡ t_name n ∷ rest → (x ≡ spelled n) × (from.new ≡ rest)) }
+    ensures read { IfOk result (λ x. YieldsNext t_name spelled from.old x from.new) }
     ensures ahead { length from.new ≤ length from.old }
 {
     let Some(found) = from.name(alloc)? else {
@@ -31,8 +31,8 @@ fn name(alloc: Global, from: &mut Cursor) -> Result<Spelled, Memory>
 
 /// The item of a SELECT's list that is next: a star, or a column. The refusal is want of memory alone.
 pub fn list_item(alloc: Global, from: &mut Cursor) -> Result<Item, Memory>
-    requires { (o : Output) × (rest : List Terminal) × (ends_item rest ≡ true) × (from.old ≡ words_of_output o ++ rest) }
-    ensures read { IfOk result (λ x. (o : Output) (rest : List Terminal) → ends_item rest ≡ true → from.old ≡ words_of_output o ++ rest → (x ≡ item_of o) × (from.new ≡ rest)) }
+    requires { StandsFirst words_of_output ends_item from.old }
+    ensures read { IfOk result (λ x. Yields words_of_output ends_item item_of from.old x from.new) }
     ensures ahead { length from.new ≤ length from.old }
 {
     if from.takes_mark(Symbol::Star) {
@@ -44,9 +44,8 @@ pub fn list_item(alloc: Global, from: &mut Cursor) -> Result<Item, Memory>
 
 /// An item whose first name is taken: the rest of it is next. The refusal is want of memory alone.
 pub fn after_name(alloc: Global, from: &mut Cursor, first: Spelled) -> Result<Item, Memory>
-    requires { (n : Ident) × (o : Output) × (rest : List Terminal) × (ends_item rest ≡ true) × (t_name n ∷ from.old ≡ words_of_output o ++ rest) }
-    ensures read { IfOk result (λ x. (n : Ident) (o : Output) (rest : List Terminal) → ends_item rest ≡ true → first ≡ spelled n → t_name n ∷ from.old ≡ words_of_output o ++ rest →
-        (x ≡ item_of o) × (from.new ≡ rest)) }
+    requires { StandsAfterName from.old }
+    ensures read { IfOk result (λ x. YieldsAfterName first item_of from.old x from.new) }
     ensures ahead { length from.new ≤ length from.old }
 {
     if !from.takes_mark(Symbol::Dot) {
@@ -61,8 +60,8 @@ pub fn after_name(alloc: Global, from: &mut Cursor, first: Spelled) -> Result<It
 
 /// An alias, where there is one.
 fn alias(alloc: Global, from: &mut Cursor) -> Result<Option<Spelled>, Memory>
-    requires { (a : Alias) × (rest : List Terminal) × (ends_alias rest ≡ true) × (from.old ≡ words_of_alias a ++ rest) }
-    ensures { IfOk result (λ x. (a : Alias) (rest : List Terminal) → ends_alias rest ≡ true → from.old ≡ words_of_alias a ++ rest → (x ≡ alias_value a) × (from.new ≡ rest)) }
+    requires { StandsFirst words_of_alias ends_alias from.old }
+    ensures { IfOk result (λ x. Yields words_of_alias ends_alias alias_value from.old x from.new) }
 {
     if from.takes(Word::As) {
         return Ok(Some(name(alloc, from)?));
@@ -72,8 +71,8 @@ fn alias(alloc: Global, from: &mut Cursor) -> Result<Option<Spelled>, Memory>
 
 /// A relation of FROM.
 pub fn source(alloc: Global, from: &mut Cursor) -> Result<Source, Memory>
-    requires { (r : Relation) × (rest : List Terminal) × (ends_alias rest ≡ true) × (from.old ≡ words_of_relation r ++ rest) }
-    ensures { IfOk result (λ x. (r : Relation) (rest : List Terminal) → ends_alias rest ≡ true → from.old ≡ words_of_relation r ++ rest → (x ≡ source_of r) × (from.new ≡ rest)) }
+    requires { StandsFirst words_of_relation ends_alias from.old }
+    ensures { IfOk result (λ x. Yields words_of_relation ends_alias source_of from.old x from.new) }
 {
     let table = name(alloc, from)?;
     let alias = alias(alloc, from)?;
@@ -82,8 +81,8 @@ pub fn source(alloc: Global, from: &mut Cursor) -> Result<Source, Memory>
 
 /// How the next relation of a group is joined, by the words before it; None where no join is next.
 pub fn joining(from: &mut Cursor) -> Option<Joining>
-    requires { (js : List Join) × (rest : List Terminal) × (ends_group rest ≡ true) × (from.old ≡ words_of_joins js ++ rest) }
-    ensures { (js : List Join) (rest : List Terminal) → ends_group rest ≡ true → from.old ≡ words_of_joins js ++ rest → IsNext result js rest from.new }
+    requires { StandsFirst words_of_joins ends_group from.old }
+    ensures { IfFirst words_of_joins ends_group from.old (λ js rest. IsNext result js rest from.new) }
 {
     if from.takes(Word::Cross) {
         from.skip(1);
@@ -101,9 +100,9 @@ pub fn joining(from: &mut Cursor) -> Option<Joining>
 
 /// The items of the list, up to FROM.
 fn items(alloc: Global, from: &mut Cursor) -> Result<Vec<Item>, Memory>
-    requires { (o : Output) × (os : List (Mark × Output)) × (f : Key) × (rest : List Terminal) × (from.old ≡ words_of_output o ++ (words_of_outputs os ++ t_key From f ∷ rest)) }
-    ensures { IfOk result (λ v. (o : Output) (os : List (Mark × Output)) (f : Key) (rest : List Terminal) → from.old ≡ words_of_output o ++ (words_of_outputs os ++ t_key From f ∷ rest) →
-        (v.items ≡ item_of o ∷ items_of os) × (from.new ≡ t_key From f ∷ rest)) }
+    requires { StandsList words_of_list from.old }
+    ensures { IfOk result (λ v. IfList words_of_list from.old (λ o os f rest.
+        (v.items ≡ item_of o ∷ items_of os) × (from.new ≡ t_key From f ∷ rest))) }
 {
     let mut all = Vec::new(alloc);
     all.push(list_item(alloc, from)?)?;
@@ -115,9 +114,9 @@ fn items(alloc: Global, from: &mut Cursor) -> Result<Vec<Item>, Memory>
 
 /// The list and FROM, from the word after SELECT on.
 pub fn list(alloc: Global, from: &mut Cursor) -> Result<Vec<Item>, Memory>
-    requires { (o : Output) × (os : List (Mark × Output)) × (f : Key) × (rest : List Terminal) × (from.old ≡ words_of_output o ++ (words_of_outputs os ++ t_key From f ∷ rest)) }
-    ensures { IfOk result (λ v. (o : Output) (os : List (Mark × Output)) (f : Key) (rest : List Terminal) → from.old ≡ words_of_output o ++ (words_of_outputs os ++ t_key From f ∷ rest) →
-        (v.items ≡ item_of o ∷ items_of os) × (from.new ≡ rest)) }
+    requires { StandsList words_of_list from.old }
+    ensures { IfOk result (λ v. IfList words_of_list from.old (λ o os f rest.
+        (v.items ≡ item_of o ∷ items_of os) × (from.new ≡ rest))) }
 {
     let items = items(alloc, from)?;
     from.skip(1);

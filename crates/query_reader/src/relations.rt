@@ -1,16 +1,16 @@
 //! The relations of a query, in which names are looked up.
 
-ghost use Rattle.std.specs.Prelude.{◌≡◌, ◌<◌, ℕ, List, [], ◌∷◌, length, All, IsTrue, Ok, MatchOption, None, Some};
+ghost use Rattle.std.specs.Prelude.{◌≡◌, ◌<◌, ℕ, List, [], length, All, Ok, MatchOption, None, Some};
 ghost use Rattle.std.specs.List.{list_any};
 ghost use Rattle.catalog.specs.Contents.{IsTable, IsLawfulTable, table_at};
 ghost use Rattle.eq_classes.specs.Equality.{is_column as is_same_column};
 ghost use Rattle.path_cost.specs.Columns.{is_column_in};
 ghost use Rattle.expr_reader.specs.Scope.{Visible, columns_of, look_up, of_name, the_one, under};
 ghost use Rattle.query_reader.specs.Adds.{Adds};
-ghost use Rattle.query_reader.specs.Binding.{found_relation};
 ghost use Rattle.query_reader.specs.From.{AreRelations};
-ghost use Rattle.query_reader.specs.Order.{first_among, shown_of_name};
-ghost use Rattle.query_reader.specs.Scope.{also as also_meant, columns_from, own_columns, visible_in};
+ghost use Rattle.query_reader.specs.Order.{shown_of_name, ordered_name};
+ghost use Rattle.query_reader.specs.Scope.{also as also_meant, own_columns, visible_in, IsSeenColumn, IsRelationUnder, IsOnlyColumn, numbered_columns};
+ghost use Rattle.query_reader.specs.Binding.{columns_under};
 
 use catalog::Catalog;
 use expr_reader::{Found, Scope, Spelled};
@@ -100,7 +100,9 @@ fn add_columns(
 ) -> Result<(), Refusal>
     requires table { IsTable cat.now table }
     requires lawful { IsLawfulTable (table_at cat.now table) }
-    ensures { (alias : List ℕ) → Adds (Ok (columns_of (columns_from alias (record { 0 = number }) 0 (table_at cat.now table).names))) all.old.items all.new.items result }
+    ensures { (alias : List ℕ) →
+        Adds (Ok (numbered_columns alias number (table_at cat.now table).names))
+        all.old.items all.new.items result }
 {
     let count = cat.columns(table).items().len() as u8;
     for col in 0..count {
@@ -145,7 +147,7 @@ impl<'a> Relations<'a> {
 
     /// Each visible column is one of the relations.
     pub fn see_their_columns(&self)
-        ensures { All (λ (v : Visible). IsTrue (is_column_in self.now.contents self.now.range v.column)) (visible_in self.now) }
+        ensures { All (λ (v : Visible). IsSeenColumn self.now v.column) (visible_in self.now) }
     {
         let _ = &self.cat;
     }
@@ -153,7 +155,7 @@ impl<'a> Relations<'a> {
     /// The column of a relation that has a name.
     fn in_relation(&self, number: usize, name: &[u8]) -> Option<ColRef>
         requires { number < length self.now.range }
-        ensures { MatchOption result (of_name name.now (own_columns self.now number) ≡ []) (λ x. columns_of (of_name name.now (own_columns self.now number)) ≡ x ∷ []) }
+        ensures { IsOnlyColumn (of_name name.now (own_columns self.now number)) result }
     {
         let range = self.range;
         let col = self.cat.column(range[number].0, name)?;
@@ -164,9 +166,8 @@ impl<'a> Relations<'a> {
     /// That column, where the list shows it.
     fn shown_in_relation(&self, number: usize, name: &[u8], select: &[ColRef]) -> Option<ColRef>
         requires { number < length self.now.range }
-        ensures { MatchOption result
-            (shown_of_name (own_columns self.now number) select.now name.now ≡ [])
-            (λ x. columns_of (shown_of_name (own_columns self.now number) select.now name.now) ≡ x ∷ []) }
+        ensures { IsOnlyColumn
+            (shown_of_name (own_columns self.now number) select.now name.now) result }
     {
         let column = self.in_relation(number, name)?;
         if is_shown(select, column) {
@@ -204,7 +205,7 @@ impl<'a> Relations<'a> {
 
     /// What a name alone means in ORDER BY: it is sought among the columns that the list shows first.
     pub fn ordering(&self, name: &[u8], select: &[ColRef]) -> Found
-        ensures { result ≡ first_among (shown_of_name (visible_in self.now) select.now name.now) (look_up (visible_in self.now) None name.now) }
+        ensures { result ≡ ordered_name (visible_in self.now) select.now name.now }
     {
         match self.shown(name, select) {
             Found::NoColumn => self.named(name),
@@ -214,7 +215,8 @@ impl<'a> Relations<'a> {
 
     /// The number of the visible relation under an alias.
     fn place_of(&self, alias: &[u8]) -> Option<usize>
-        ensures { MatchOption result (under alias.now (visible_in self.now) ≡ []) (λ k. (k < length self.now.range) × (under alias.now (visible_in self.now) ≡ own_columns self.now k)) }
+        ensures { MatchOption result (under alias.now (visible_in self.now) ≡ [])
+            (λ k. IsRelationUnder alias.now self.now k) }
     {
         for number in self.first..self.range.len() {
             if alias == self.range[number].1.items() {
@@ -241,7 +243,8 @@ impl<'a> Relations<'a> {
     /// Adds every column of a relation.
     fn add_relation(&self, number: usize, all: &mut Vec<ColRef>) -> Result<(), Refusal>
         requires { number < length self.now.range }
-        ensures { Adds (Ok (columns_of (own_columns self.now number))) all.old.items all.new.items result }
+        ensures { Adds (Ok (columns_of (own_columns self.now number)))
+            all.old.items all.new.items result }
     {
         add_columns(self.cat, self.range[number].0, number as u8, all)
     }
@@ -258,7 +261,8 @@ impl<'a> Relations<'a> {
 
     /// Adds every column under this alias.
     pub fn add_under(&self, qualifier: &Spelled, all: &mut Vec<ColRef>) -> Result<(), Refusal>
-        ensures { Adds (found_relation (under qualifier.now.bytes (visible_in self.now)) qualifier.now.token) all.old.items all.new.items result }
+        ensures { Adds (columns_under (visible_in self.now) qualifier.now)
+            all.old.items all.new.items result }
     {
         let _ = &self.cat;
         match self.place_of(qualifier.bytes.items()) {

@@ -1,16 +1,13 @@
 //! Reading a SELECT.
 
-ghost use Rattle.std.specs.Prelude.{◌≡◌, ℕ, ◌^◌, ◌<◌, ◌≤◌, List, ◌∷◌, All, drop, length, true, false, IfOk, MatchOption};
+ghost use Rattle.std.specs.Prelude.{◌≡◌, ℕ, ◌^◌, ◌<◌, ◌≤◌, All, drop, length, true, false, IfOk, MatchOption};
 ghost use Rattle.sql_lex.specs.Words.{AreWords};
-ghost use Rattle.sql_lex.specs.declared.tokens.Token.{Token};
 ghost use Rattle.sql_grammar.specs.Faults.{terminals, IsWhole};
-ghost use Rattle.sql_grammar.specs.Syntax.{WindowedSelect};
 ghost use Rattle.eq_classes.specs.Holding.{IsClassTable};
 ghost use Rattle.expr_reader.specs.Parted.{HasParts};
 ghost use Rattle.sql_query.specs.WellBound.{IsWellBound, given_of};
-ghost use Rattle.query_reader.specs.Binding.{bound_part};
-ghost use Rattle.query_reader.specs.Parts.{HavePart, HaveSelectAt, IsPartAt, IsSelectAt};
-ghost use Rattle.query_reader.specs.Select.{AreGrouped, IsBoundByItself, IsGrammatical, IsBoundAs, IsNoSelectAt, begins_select, is_explained};
+ghost use Rattle.query_reader.specs.Parts.{HavePart, HaveSelectAt};
+ghost use Rattle.query_reader.specs.Select.{AreGrouped, IsBoundByItself, IsGrammatical, IsNoSelectAt, begins_select, is_explained, BindsPart, BindsSelect};
 
 use crate::bind::bind;
 use crate::read::list;
@@ -55,7 +52,8 @@ fn select_fault(text: &[u8], tokens: &Tokens, first: u32) -> Option<Fault>
     requires short { length text.now ≤ 2 ^ 31 }
     requires words { (from : ℕ) × AreWords text.now from tokens.now }
     requires within { first < length tokens.now }
-    ensures { MatchOption result (HaveSelectAt text.now tokens.now first) (IsNoSelectAt text.now tokens.now first) }
+    ensures { MatchOption result (HaveSelectAt text.now tokens.now first)
+        (IsNoSelectAt text.now tokens.now first) }
 {
     let mut from = Cursor::new(text, tokens, first);
     if !from.takes(Word::Select) {
@@ -82,8 +80,7 @@ fn part(
     requires short { length text.now ≤ 2 ^ 31 }
     requires words { (from : ℕ) × AreWords text.now from tokens.now }
     requires part { HavePart text.now tokens.now first end }
-    ensures binding { (x : WindowedSelect) (start : Token) (later : List Token) → tokens.now ≡ start ∷ later →
-        IsPartAt text.now tokens.now first end x → IsBoundAs (bound_part cat.now start x) result }
+    ensures binding { BindsPart cat.now text.now tokens.now first end result }
     ensures itself { IfOk result (IsBoundByItself cat.now) }
 {
     let mut from = Cursor::part(text, tokens, first, end);
@@ -104,8 +101,7 @@ fn read_whole(
     requires words { (from : ℕ) × AreWords text.now from tokens.now }
     requires within { first < length tokens.now }
     ensures grammar { IsGrammatical text.now tokens.now first result }
-    ensures binding { (x : WindowedSelect) (start : Token) (later : List Token) → tokens.now ≡ start ∷ later →
-        IsWhole text.now tokens.now → IsSelectAt text.now tokens.now first x → IsBoundAs (bound_part cat.now start x) result }
+    ensures binding { BindsSelect cat.now text.now tokens.now first result }
     ensures itself { IfOk result (IsBoundByItself cat.now) }
 {
     if let Some(fault) = statement_fault(text, tokens, 0) {
@@ -153,8 +149,7 @@ pub fn read_select(
     requires words { (from : ℕ) × AreWords text.now from tokens.now }
     requires within { first < length tokens.now }
     ensures grammar { IsGrammatical text.now tokens.now first result }
-    ensures binding { (x : WindowedSelect) (start : Token) (later : List Token) → tokens.now ≡ start ∷ later →
-        IsWhole text.now tokens.now → IsSelectAt text.now tokens.now first x → IsBoundAs (bound_part cat.now start x) result }
+    ensures binding { BindsSelect cat.now text.now tokens.now first result }
     ensures well_bound { IfOk result (IsWellBound cat.now) }
     ensures classes { IfOk result (λ q. IsClassTable (given_of cat.now q) q.classes) }
     ensures parts { IfOk result (λ q. All HasParts q.where_all) }
@@ -176,8 +171,7 @@ pub fn read_part(
     requires short { length text.now ≤ 2 ^ 31 }
     requires words { (from : ℕ) × AreWords text.now from tokens.now }
     requires part { HavePart text.now tokens.now first end }
-    ensures binding { (x : WindowedSelect) (start : Token) (later : List Token) → tokens.now ≡ start ∷ later →
-        IsPartAt text.now tokens.now first end x → IsBoundAs (bound_part cat.now start x) result }
+    ensures binding { BindsPart cat.now text.now tokens.now first end result }
     ensures well_bound { IfOk result (IsWellBound cat.now) }
     ensures classes { IfOk result (λ q. IsClassTable (given_of cat.now q) q.classes) }
 {

@@ -1,6 +1,6 @@
 //! FROM: its relations and the conditions of its joins, read and bound from the left.
 
-ghost use Rattle.std.specs.Prelude.{◌≡◌, ◌++◌, ◌∷◌, ◌⊎◌, List, true, false, length, map, nat_lt, All, MatchResult, IfOk, None, Some};
+ghost use Rattle.std.specs.Prelude.{◌≡◌, ◌++◌, ◌∷◌, ◌⊎◌, true, false, length, map, nat_lt, All, MatchResult, IfOk, None, Some};
 ghost use Rattle.pg_base.specs.declared.faults.Code.TheVariants.{S2, S15};
 ghost use Rattle.pg_base.specs.declared.faults.Limit.TheVariants.{Relations as RelationsLimit};
 ghost use Rattle.pg_expr.specs.View.{cond};
@@ -8,21 +8,19 @@ ghost use Rattle.path_cost.specs.Columns.{IsOver};
 ghost use Rattle.catalog.specs.Range.{type_in};
 ghost use Rattle.catalog.specs.Contents.{IsTable, IsLawfulTable, table_at};
 ghost use Rattle.catalog.specs.Tables.{table_named};
-ghost use Rattle.sql_grammar.specs.declared.class.Word.TheVariants.{On as OnKey};
 ghost use Rattle.sql_grammar.specs.Faults.{fault_at as fault_at_token};
 ghost use Rattle.sql_grammar.specs.FromParts.{groups_after};
-ghost use Rattle.sql_grammar.specs.Syntax.{Expr as ExprTree, Group, Join, Key, Mark, Relation};
-ghost use Rattle.sql_grammar.specs.Terminals.{Terminal, t_key};
 ghost use Rattle.sql_grammar.specs.Unique.{ends_expr};
 ghost use Rattle.sql_grammar.specs.Words.{words_of_expr, words_of_group, words_of_groups, words_of_joins, words_of_relation};
 ghost use Rattle.expr_reader.specs.Conditions.{next};
-ghost use Rattle.expr_reader.specs.Reads.{Reads};
 ghost use Rattle.query_reader.specs.Conveys.{Conveys, ReadsInto};
 ghost use Rattle.query_reader.specs.Ends.{ends_alias, ends_from, ends_group};
-ghost use Rattle.query_reader.specs.From.{alias_or, conjuncts_of_expr, is_taken as is_taken_in, nothing_joined, under_alias, with_condition, with_group, with_groups, with_join, with_joins, with_relation};
-ghost use Rattle.query_reader.specs.Joins.{IsNext};
+ghost use Rattle.query_reader.specs.From.{alias_or, is_taken as is_taken_in, nothing_joined, under_alias, with_condition, with_group, with_groups, with_join, with_joins, with_relation};
 ghost use Rattle.query_reader.specs.Scope.{scope_after};
 ghost use Rattle.query_reader.specs.Written.{source_of};
+ghost use Rattle.expr_reader.specs.Reading.{StandsFirst, IfFirst, StandsListed, IfListed};
+ghost use Rattle.query_reader.specs.Joins.{StandsJoin, IfJoin, StandsOn, IfOn};
+ghost use Rattle.query_reader.specs.Reads.{ReadsConjuncts};
 
 use crate::conditions::conjuncts_next;
 use crate::read::{joining, source};
@@ -144,9 +142,9 @@ impl<'a> Sources<'a> {
 
     /// The relation that is next.
     fn take_relation(&mut self, alloc: Global, from: &mut Cursor) -> Result<(), Refusal>
-        requires { (r : Relation) × (rest : List Terminal) × (ends_alias rest ≡ true) × (from.old ≡ words_of_relation r ++ rest) }
-        ensures { (r : Relation) (rest : List Terminal) → ends_alias rest ≡ true → from.old ≡ words_of_relation r ++ rest →
-            ReadsInto self.new (with_relation self.old (source_of r)) rest result from.new }
+        requires { StandsFirst words_of_relation ends_alias from.old }
+        ensures { IfFirst words_of_relation ends_alias from.old (λ r rest.
+            ReadsInto self.new (with_relation self.old (source_of r)) rest result from.new) }
     {
         let source = source(alloc, from)?;
         self.add(source)
@@ -154,10 +152,11 @@ impl<'a> Sources<'a> {
 
     /// The conjuncts of the condition that is next, over the relations from `first` on.
     fn conjuncts(&self, alloc: Global, first: usize, from: &mut Cursor) -> Result<Exprs, Refusal>
-        requires { (e : ExprTree) × (rest : List Terminal) × (ends_expr rest ≡ true) × (from.old ≡ words_of_expr e ++ rest) }
-        ensures read { (e : ExprTree) (rest : List Terminal) → ends_expr rest ≡ true → from.old ≡ words_of_expr e ++ rest →
-            Reads (λ (es : Exprs). map cond es.items.items) (conjuncts_of_expr (scope_after self.now.contents first self.now.range) (type_in self.now.contents self.now.range) e) rest result from.new }
-        ensures over { IfOk result (λ es. All (IsOver self.now.contents self.now.range) (map cond es.items.items)) }
+        requires { StandsFirst words_of_expr ends_expr from.old }
+        ensures read { ReadsConjuncts (scope_after self.now.contents first self.now.range)
+            (type_in self.now.contents self.now.range) from.old result from.new }
+        ensures over { IfOk result
+            (λ es. All (IsOver self.now.contents self.now.range) (map cond es.items.items)) }
     {
         let relations = Relations::new(self.cat, &self.relations, first);
         conjuncts_next(alloc, &relations, from)
@@ -170,9 +169,9 @@ impl<'a> Sources<'a> {
         first: usize,
         from: &mut Cursor,
     ) -> Result<(), Refusal>
-        requires { (e : ExprTree) × (rest : List Terminal) × (ends_expr rest ≡ true) × (from.old ≡ words_of_expr e ++ rest) }
-        ensures { (e : ExprTree) (rest : List Terminal) → ends_expr rest ≡ true → from.old ≡ words_of_expr e ++ rest →
-            ReadsInto self.new (with_condition first self.old e) rest result from.new }
+        requires { StandsFirst words_of_expr ends_expr from.old }
+        ensures { IfFirst words_of_expr ends_expr from.old (λ e rest.
+            ReadsInto self.new (with_condition first self.old e) rest result from.new) }
     {
         let mut more = self.conjuncts(alloc, first, from)?;
         self.written.append(&mut more.items)?;
@@ -181,9 +180,10 @@ impl<'a> Sources<'a> {
 
     /// The relation that is next, then ON and its condition, over the relations from `first` on.
     fn take_on(&mut self, alloc: Global, first: usize, from: &mut Cursor) -> Result<(), Refusal>
-        requires { (r : Relation) × (k : Key) × (e : ExprTree) × (rest : List Terminal) × (ends_expr rest ≡ true) × (from.old ≡ words_of_relation r ++ t_key OnKey k ∷ (words_of_expr e ++ rest)) }
-        ensures { (r : Relation) (k : Key) (e : ExprTree) (rest : List Terminal) → ends_expr rest ≡ true → from.old ≡ words_of_relation r ++ t_key OnKey k ∷ (words_of_expr e ++ rest) →
-            ReadsInto self.new (next (with_relation self.old (source_of r)) (λ i. with_condition first i e)) rest result from.new }
+        requires { StandsOn from.old }
+        ensures { IfOn from.old (λ r e rest. ReadsInto self.new
+            (next (with_relation self.old (source_of r)) (λ i. with_condition first i e))
+            rest result from.new) }
     {
         self.take_relation(alloc, from)?;
         from.skip(1);
@@ -198,9 +198,10 @@ impl<'a> Sources<'a> {
         first: usize,
         from: &mut Cursor,
     ) -> Result<(), Refusal>
-        requires { (x : Join) × (more : List Join) × (rest : List Terminal) × (ends_group rest ≡ true) × IsNext (Some how) (x ∷ more) rest from.old }
-        ensures { (x : Join) (more : List Join) (rest : List Terminal) → ends_group rest ≡ true → IsNext (Some how) (x ∷ more) rest from.old →
-            ReadsInto self.new (with_join first self.old x) (words_of_joins more ++ rest) result from.new }
+        requires { StandsJoin how from.old }
+        ensures { IfJoin how from.old (λ x more rest.
+            ReadsInto self.new (with_join first self.old x) (words_of_joins more ++ rest)
+            result from.new) }
     {
         match how {
             Joining::On => self.take_on(alloc, first, from),
@@ -210,9 +211,9 @@ impl<'a> Sources<'a> {
 
     /// The joins that are next, of the group that begins with relation `first`.
     fn take_joins(&mut self, alloc: Global, first: usize, from: &mut Cursor) -> Result<(), Refusal>
-        requires { (js : List Join) × (rest : List Terminal) × (ends_group rest ≡ true) × (from.old ≡ words_of_joins js ++ rest) }
-        ensures { (js : List Join) (rest : List Terminal) → ends_group rest ≡ true → from.old ≡ words_of_joins js ++ rest →
-            ReadsInto self.new (with_joins first self.old js) rest result from.new }
+        requires { StandsFirst words_of_joins ends_group from.old }
+        ensures { IfFirst words_of_joins ends_group from.old (λ js rest.
+            ReadsInto self.new (with_joins first self.old js) rest result from.new) }
     {
         'more: while let Some(how) = joining(from) {
             self.take_join(alloc, how, first, from)?;
@@ -222,9 +223,9 @@ impl<'a> Sources<'a> {
 
     /// The group that is next.
     fn take_group(&mut self, alloc: Global, from: &mut Cursor) -> Result<(), Refusal>
-        requires { (g : Group) × (rest : List Terminal) × (ends_group rest ≡ true) × (from.old ≡ words_of_group g ++ rest) }
-        ensures { (g : Group) (rest : List Terminal) → ends_group rest ≡ true → from.old ≡ words_of_group g ++ rest →
-            ReadsInto self.new (with_group self.old g) rest result from.new }
+        requires { StandsFirst words_of_group ends_group from.old }
+        ensures { IfFirst words_of_group ends_group from.old (λ g rest.
+            ReadsInto self.new (with_group self.old g) rest result from.new) }
     {
         let first = self.relations.len();
         self.take_relation(alloc, from)?;
@@ -233,9 +234,9 @@ impl<'a> Sources<'a> {
 
     /// The groups that are next, all of FROM, or its first fault (54000, 42P01, 42712, or that of a join's condition).
     pub fn take_groups(&mut self, alloc: Global, from: &mut Cursor) -> Result<(), Refusal>
-        requires { (g : Group) × (gs : List (Mark × Group)) × (rest : List Terminal) × (ends_from rest ≡ true) × (from.old ≡ words_of_group g ++ (words_of_groups gs ++ rest)) }
-        ensures { (g : Group) (gs : List (Mark × Group)) (rest : List Terminal) → ends_from rest ≡ true → from.old ≡ words_of_group g ++ (words_of_groups gs ++ rest) →
-            ReadsInto self.new (with_groups self.old (g ∷ groups_after gs)) rest result from.new }
+        requires { StandsListed words_of_group words_of_groups ends_from from.old }
+        ensures { IfListed words_of_group words_of_groups ends_from from.old (λ g gs rest.
+            ReadsInto self.new (with_groups self.old (g ∷ groups_after gs)) rest result from.new) }
     {
         self.take_group(alloc, from)?;
         'more: while from.takes_mark(Symbol::Comma) {

@@ -1,11 +1,11 @@
 //! LIMIT and OFFSET: their numbers read.
 
-ghost use Rattle.std.specs.Prelude.{◌≡◌, List, ◌∷◌, ◌++◌, OnOk, true};
-ghost use Rattle.sql_grammar.specs.Syntax.{Limit, Offset, Window as WindowTree};
+ghost use Rattle.std.specs.Prelude.{◌≡◌, List, ◌∷◌, OnOk};
 ghost use Rattle.sql_grammar.specs.Terminals.{Terminal, Said, t_number};
 ghost use Rattle.sql_grammar.specs.Words.{words_of_limit, words_of_offset, words_of_window};
 ghost use Rattle.query_reader.specs.Ends.{ends_limit, ends_window};
 ghost use Rattle.query_reader.specs.Windows.{most_of, rows_of, skipped_of, window_by, window_of};
+ghost use Rattle.expr_reader.specs.Reading.{StandsFirst, IfFirst, Yields, YieldsNext};
 
 use expr_reader::Cursor;
 use pg_base::{Code, Fault};
@@ -15,7 +15,7 @@ use sql_query::Window;
 /// The number of rows that is next, or its fault.
 fn rows(from: &mut Cursor) -> Result<u64, Fault>
     requires { (n : Said) × (rest : List Terminal) × (from.old ≡ t_number n ∷ rest) }
-    ensures { (n : Said) (rest : List Terminal) → from.old ≡ t_number n ∷ rest → (result ≡ rows_of n) × (from.new ≡ rest) }
+    ensures { YieldsNext t_number rows_of from.old result from.new }
 {
     let Some(number) = from.number() else {
         unreachable!();
@@ -28,8 +28,8 @@ fn rows(from: &mut Cursor) -> Result<u64, Fault>
 
 /// The number of LIMIT, where it is next.
 fn most_rows(from: &mut Cursor) -> Result<Option<u64>, Fault>
-    requires { (l : Limit) × (rest : List Terminal) × (ends_limit rest ≡ true) × (from.old ≡ words_of_limit l ++ rest) }
-    ensures { (l : Limit) (rest : List Terminal) → ends_limit rest ≡ true → from.old ≡ words_of_limit l ++ rest → (result ≡ most_of l) × (from.new ≡ rest) }
+    requires { StandsFirst words_of_limit ends_limit from.old }
+    ensures { Yields words_of_limit ends_limit most_of from.old result from.new }
 {
     if !from.takes(Word::Limit) {
         return Ok(None);
@@ -39,8 +39,8 @@ fn most_rows(from: &mut Cursor) -> Result<Option<u64>, Fault>
 
 /// The number of OFFSET, where it is next.
 fn skipped_rows(from: &mut Cursor) -> Result<Option<u64>, Fault>
-    requires { (o : Offset) × (rest : List Terminal) × (ends_window rest ≡ true) × (from.old ≡ words_of_offset o ++ rest) }
-    ensures { (o : Offset) (rest : List Terminal) → ends_window rest ≡ true → from.old ≡ words_of_offset o ++ rest → (result ≡ skipped_of o) × (from.new ≡ rest) }
+    requires { StandsFirst words_of_offset ends_window from.old }
+    ensures { Yields words_of_offset ends_window skipped_of from.old result from.new }
 {
     if !from.takes(Word::Offset) {
         return Ok(None);
@@ -66,9 +66,9 @@ fn window_by(limit: Option<u64>, offset: Option<u64>) -> Option<Window>
 
 /// The window that LIMIT and OFFSET, which are next, ask for, or the first fault of their numbers.
 pub fn window(from: &mut Cursor) -> Result<Option<Window>, Fault>
-    requires { (v : WindowTree) × (rest : List Terminal) × (ends_window rest ≡ true) × (from.old ≡ words_of_window v ++ rest) }
-    ensures { (v : WindowTree) (rest : List Terminal) → ends_window rest ≡ true → from.old ≡ words_of_window v ++ rest →
-        (result ≡ window_of v) × OnOk result (from.new ≡ rest) }
+    requires { StandsFirst words_of_window ends_window from.old }
+    ensures { IfFirst words_of_window ends_window from.old (λ v rest.
+        (result ≡ window_of v) × OnOk result (from.new ≡ rest)) }
 {
     let limit = most_rows(from)?;
     let offset = skipped_rows(from)?;

@@ -53,3 +53,9 @@ abbrev pub TellsParts : Contents → Token → List Token → Said → Row → Q
 TellsParts c start tokens n w q (Ok a) = PartsMean c start tokens n (candidates_of w.first w.more) q.queries (Ok (advice_asked a))
 TellsParts c start tokens n w q (Err (refusal.Fault f)) = PartsMean c start tokens n (candidates_of w.first w.more) q.queries (Err f)
 TellsParts c start tokens n w q (Err refusal.Memory) = Unit {0}
+
+-- where the parts of an ADVISE stand where they are read, what is read of them is told
+abbrev pub TellsAdvice : Contents → List ℕ → List Token → Result Advising Refusal → Type 0
+TellsAdvice c text tokens read =
+    (n : Said) (w : Row) (q : QueryRow) (start : Token) (later : List Token) → tokens ≡ start ∷ later →
+    PartsStand text tokens n w q → TellsParts c start tokens n w q read

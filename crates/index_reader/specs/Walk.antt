@@ -1,5 +1,5 @@
 -- What is left of an ADVISE at a token, and what reading it from there on gives (own).
-use Rattle.std.specs.Prelude.{◌≡◌, ◌≤◌, ℕ, ◌+◌, max, map, List, ◌∷◌, ◌++◌, drop, length, All, Result, Ok, Err, Vec}
+use Rattle.std.specs.Prelude.{◌≡◌, ◌≤◌, ℕ, ◌+◌, max, map, true, List, ◌∷◌, ◌++◌, drop, length, All, Result, Ok, Err, Vec}
 use Rattle.std.specs.declared.alloc.Global.{Global}
 use Rattle.pg_base.specs.declared.faults.Refusal.{Refusal}
 use Rattle.pg_base.specs.declared.faults.Refusal.TheVariants as refusal
@@ -9,8 +9,9 @@ use Rattle.pg_base.specs.Names.{AreDistinct}
 use Rattle.sql_lex.specs.declared.tokens.Token.{Token}
 use Rattle.sql_grammar.specs.declared.class.Symbol.TheVariants.{Close}
 use Rattle.sql_grammar.specs.Terminals.{Terminal, t_mark}
-use Rattle.sql_grammar.specs.Syntax.{Mark, Cand, Advised, Ending}
-use Rattle.sql_grammar.specs.Words.{words_of_cand, words_of_cands, words_of_advised, words_of_more_advised, words_of_ending, levels_of_cand, levels_of_cands, levels_of_more_advised}
+use Rattle.sql_grammar.specs.Syntax.{Mark, Cand, WindowedSelect, Advised, Ending}
+use Rattle.sql_grammar.specs.Unique.{ends_cand, ends_windowed}
+use Rattle.sql_grammar.specs.Words.{words_of_cand, words_of_cands, words_of_advised, words_of_more_advised, words_of_windowed, words_of_ending, levels_of_advised, levels_of_cand, levels_of_cands, levels_of_more_advised, levels_of_windowed}
 use Rattle.sql_grammar.specs.Faults.{AreWithinLimits, terminals}
 use Rattle.catalog.specs.Contents.{Contents, NamedIndex, indexes_of}
 use Rattle.eq_classes.specs.Holding.{IsClassTable}
@@ -96,3 +97,59 @@ abbrev pub TellsQueries : Contents → Token → QueryRow → Result (Vec Query 
 TellsQueries c start w (Ok v) = QueriesMean c start w.queries (Ok v.items)
 TellsQueries c start w (Err (refusal.Fault f)) = QueriesMean c start w.queries (Err f)
 TellsQueries c start w (Err refusal.Memory) = Unit {0}
+
+-- a candidate stands from token number `first` on, and no word behind it goes on it
+abbrev pub StandsCand : List ℕ → List Token → ℕ → Type 0
+StandsCand text tokens first =
+    (x : Cand) × (next : Terminal) × (rest : List Terminal) × Stands text tokens first (words_of_cand x) next rest ×
+    (ends_cand (next ∷ rest) ≡ true) × (levels_of_cand x ≤ MOST_LEVELS)
+
+-- where one does, this is the number of the token behind it
+abbrev pub IsEndOfCand : List ℕ → List Token → ℕ → ℕ → Type 0
+IsEndOfCand text tokens first end =
+    (x : Cand) (next : Terminal) (rest : List Terminal) → Stands text tokens first (words_of_cand x) next rest →
+    ends_cand (next ∷ rest) ≡ true → levels_of_cand x ≤ MOST_LEVELS → end ≡ first + length (words_of_cand x)
+
+-- where one does, what is read of it is told, behind earlier ones
+abbrev pub TellsNextCandidate : Contents → List ℕ → List Token → List NamedIndex → ℕ → Result OneRead Refusal → Type 0
+TellsNextCandidate c text tokens earlier first read =
+    (x : Cand) (next : Terminal) (rest : List Terminal) (start : Token) (later : List Token) → tokens ≡ start ∷ later →
+    Stands text tokens first (words_of_cand x) next rest → ends_cand (next ∷ rest) ≡ true → levels_of_cand x ≤ MOST_LEVELS →
+    TellsCandidate c start tokens earlier first x read
+
+-- where candidates stand from token number `first` on, what is read of them is told
+abbrev pub TellsRow : Contents → List ℕ → List Token → ℕ → Result AllRead Refusal → Type 0
+TellsRow c text tokens first read =
+    (w : Row) (start : Token) (later : List Token) → tokens ≡ start ∷ later → RowAt text tokens first w →
+    TellsCandidates c start text tokens w read
+
+-- a SELECT with its order and its window stands from token number `first` on, and no word behind it goes on it
+abbrev pub StandsWindowed : List ℕ → List Token → ℕ → Type 0
+StandsWindowed text tokens first =
+    (x : WindowedSelect) × (next : Terminal) × (rest : List Terminal) × Stands text tokens first (words_of_windowed x) next rest ×
+    (ends_windowed (next ∷ rest) ≡ true) × (levels_of_windowed x ≤ MOST_LEVELS)
+
+-- where one does, this is the number of the token behind it
+abbrev pub IsEndOfWindowed : List ℕ → List Token → ℕ → ℕ → Type 0
+IsEndOfWindowed text tokens first end =
+    (x : WindowedSelect) (next : Terminal) (rest : List Terminal) → Stands text tokens first (words_of_windowed x) next rest →
+    ends_windowed (next ∷ rest) ≡ true → levels_of_windowed x ≤ MOST_LEVELS → end ≡ first + length (words_of_windowed x)
+
+-- a SELECT in parentheses stands from token number `first` on
+abbrev pub StandsAdvised : List ℕ → List Token → ℕ → Type 0
+StandsAdvised text tokens first =
+    (x : Advised) × (next : Terminal) × (rest : List Terminal) × Stands text tokens first (words_of_advised x) next rest ×
+    (levels_of_advised x ≤ MOST_LEVELS)
+
+-- where one does, what is read of it is told, behind earlier ones
+abbrev pub TellsNextQuery : Contents → List ℕ → List Token → List Query → ℕ → Result OneQuery Refusal → Type 0
+TellsNextQuery c text tokens earlier first read =
+    (x : Advised) (next : Terminal) (rest : List Terminal) (start : Token) (later : List Token) → tokens ≡ start ∷ later →
+    Stands text tokens first (words_of_advised x) next rest → levels_of_advised x ≤ MOST_LEVELS →
+    TellsQuery c start earlier first x read
+
+-- where SELECTs in parentheses stand from token number `first` on, what is read of them is told
+abbrev pub TellsQueryRow : Contents → List ℕ → List Token → ℕ → Result (Vec Query Global) Refusal → Type 0
+TellsQueryRow c text tokens first read =
+    (w : QueryRow) (start : Token) (later : List Token) → tokens ≡ start ∷ later → QueryRowAt text tokens first w →
+    TellsQueries c start w read

@@ -2,13 +2,13 @@
 
 ghost use Rattle.std.specs.Prelude.{◌≡◌, ◌^◌, ◌≤◌, ℕ, List, ◌∷◌, drop, length, true, IfOk, IfErr, Ok};
 ghost use Rattle.sql_lex.specs.Words.{AreWords};
-ghost use Rattle.sql_lex.specs.declared.tokens.Token.{Token};
 ghost use Rattle.sql_grammar.specs.Faults.{terminals};
 ghost use Rattle.sql_grammar.specs.Terminals.{Said, Terminal, t_number};
 ghost use Rattle.index_reader.specs.AdviseMeaning.{most_meant};
 ghost use Rattle.index_reader.specs.AdviseSoundness.{IsSound};
-ghost use Rattle.index_reader.specs.AdviseStatements.{advice_asked, begins_advise, IsAdviseMeaning, IsAdviseRefusal, PartsStand, TellsParts};
+ghost use Rattle.index_reader.specs.AdviseStatements.{advice_asked, begins_advise, IsAdviseMeaning, IsAdviseRefusal, PartsStand, TellsAdvice};
 ghost use Rattle.index_reader.specs.Walk.{QueryRow, Row};
+ghost use Rattle.expr_reader.specs.Reading.{IfNext};
 
 use crate::advising::Advising;
 use crate::candidates::{AllRead, candidates};
@@ -35,8 +35,10 @@ pub fn is_advise(text: &[u8], tokens: &Tokens) -> bool
 fn most(text: &[u8], tokens: &Tokens) -> Result<u8, Fault>
     requires short { length text.now ≤ 2 ^ 31 }
     requires words { (from : ℕ) × AreWords text.now from tokens.now }
-    requires there { (n : Said) × (rest : List Terminal) × (terminals text.now (drop 1 tokens.now) ≡ t_number n ∷ rest) }
-    ensures told { (n : Said) (rest : List Terminal) → terminals text.now (drop 1 tokens.now) ≡ t_number n ∷ rest → result ≡ most_meant n }
+    requires there { (n : Said) × (rest : List Terminal) ×
+        (terminals text.now (drop 1 tokens.now) ≡ t_number n ∷ rest) }
+    ensures told { IfNext t_number (terminals text.now (drop 1 tokens.now))
+        (λ n rest. result ≡ most_meant n) }
     ensures few { IfOk result (λ n. n ≤ MOST_CANDIDATES) }
 {
     let mut from = Cursor::new(text, tokens, 1);
@@ -54,8 +56,7 @@ fn parts(alloc: Global, cat: &Catalog, text: &[u8], tokens: &Tokens) -> Result<A
     requires short { length text.now ≤ 2 ^ 31 }
     requires words { (from : ℕ) × AreWords text.now from tokens.now }
     requires there { (n : Said) × (w : Row) × (q : QueryRow) × PartsStand text.now tokens.now n w q }
-    ensures told { (n : Said) (w : Row) (q : QueryRow) (start : Token) (later : List Token) → tokens.now ≡ start ∷ later →
-        PartsStand text.now tokens.now n w q → TellsParts cat.now start tokens.now n w q result }
+    ensures told { TellsAdvice cat.now text.now tokens.now result }
     ensures sound { IfOk result (λ a. IsSound cat.now (advice_asked a)) }
 {
     let most = most(text, tokens)?;
@@ -98,7 +99,8 @@ pub fn read_advise(
     requires short { length text.now ≤ 2 ^ 31 }
     requires words { (from : ℕ) × AreWords text.now from tokens.now }
     requires opens { begins_advise (terminals text.now tokens.now) ≡ true }
-    ensures read { IfOk result (λ a. IsAdviseMeaning cat.now text.now tokens.now (Ok (advice_asked a))) }
+    ensures read { IfOk result
+        (λ a. IsAdviseMeaning cat.now text.now tokens.now (Ok (advice_asked a))) }
     ensures sound { IfOk result (λ a. IsSound cat.now (advice_asked a)) }
     ensures refused { IfErr result (IsAdviseRefusal cat.now text.now tokens.now) }
 {

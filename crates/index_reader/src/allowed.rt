@@ -1,6 +1,6 @@
 //! Whether a candidate that is read may be made.
 
-ghost use Rattle.std.specs.Prelude.{◌≡◌, ◌<◌, ◌+◌, ◌≤◌, ◌↔◌, IsTrue, MatchOption, take, length, slice_index_or, Contains};
+ghost use Rattle.std.specs.Prelude.{◌≡◌, ◌<◌, ◌+◌, ◌≤◌, ◌↔◌, IsTrue, MatchOption, length, slice_index_or, Contains};
 ghost use Rattle.std.specs.List.{list_any};
 ghost use Rattle.std.specs.Str.{bytes_eq};
 ghost use Rattle.pg_base.specs.declared.limits.TheConstants.{MOST_COLUMNS};
@@ -9,7 +9,7 @@ ghost use Rattle.catalog.specs.Entries.{index_of};
 ghost use Rattle.catalog.specs.Indexes.{AreDifferent, IsFirstTwice, columns_of, has_form, is_plain};
 ghost use Rattle.catalog.specs.Candidates.{with_candidates};
 ghost use Rattle.index_reader.specs.Reads.{reading};
-ghost use Rattle.index_reader.specs.AdviseCandidates.{IsAllowed, IsNotAllowed};
+ghost use Rattle.index_reader.specs.AdviseCandidates.{IsAllowed, IsNotAllowed, StandsBefore};
 ghost use Rattle.index_reader.specs.Places.{end_of_word as end_of_word_at, word_fault};
 
 use crate::ReadIndex;
@@ -52,7 +52,7 @@ fn column(def: &IndexDef, n: usize) -> ColNo
 fn stands_before(def: &IndexDef, n: usize) -> bool
     requires few { length def.now.keys.items + length def.now.include.items ≤ MOST_COLUMNS }
     requires within { n < length def.now.keys.items + length def.now.include.items }
-    ensures { IsTrue result ↔ Contains (take n (columns_of (index_of def.now))) (slice_index_or (columns_of (index_of def.now)) n (record { 0 = 0 })) }
+    ensures { IsTrue result ↔ StandsBefore (columns_of (index_of def.now)) n }
 {
     let sought = column(def, n);
     for m in 0..n {
@@ -66,7 +66,8 @@ fn stands_before(def: &IndexDef, n: usize) -> bool
 /// The place, from 0, of the first of the columns that stands before already. None where they differ.
 fn first_twice(def: &IndexDef) -> Option<usize>
     requires { length def.now.keys.items + length def.now.include.items ≤ MOST_COLUMNS }
-    ensures { MatchOption result (AreDifferent (columns_of (index_of def.now))) (IsFirstTwice (columns_of (index_of def.now))) }
+    ensures { MatchOption result (AreDifferent (columns_of (index_of def.now)))
+        (IsFirstTwice (columns_of (index_of def.now))) }
 {
     for n in 0..def.keys.len() + def.include.len() {
         if stands_before(def, n) {
@@ -105,7 +106,8 @@ fn is_among(candidates: &[Candidate], name: &[u8]) -> bool
 
 /// Whether a table, an index or one of some candidates has this name.
 fn is_taken(cat: &Catalog, candidates: &[Candidate], name: &[u8]) -> bool
-    ensures { IsTrue result ↔ Contains (all_names (with_candidates cat.now candidates.now)) name.now }
+    ensures { IsTrue result ↔
+        Contains (all_names (with_candidates cat.now candidates.now)) name.now }
 {
     if cat.table(name).is_some() {
         return true;
@@ -127,7 +129,9 @@ pub(crate) fn not_allowed(
 ) -> Option<Fault>
     requires few { length read.now.def.keys.items + length read.now.def.include.items ≤ MOST_COLUMNS }
     requires places { length read.now.at.items ≡ length (columns_of (index_of read.now.def)) + 1 }
-    ensures { MatchOption result (IsAllowed (with_candidates cat.now earlier.now) (reading read.now)) (IsNotAllowed (with_candidates cat.now earlier.now) tokens.now (reading read.now)) }
+    ensures { MatchOption result
+        (IsAllowed (with_candidates cat.now earlier.now) (reading read.now))
+        (IsNotAllowed (with_candidates cat.now earlier.now) tokens.now (reading read.now)) }
 {
     if is_taken(cat, earlier, read.name.items()) {
         return Some(at_word(Code::S5, tokens, read.at[0]));

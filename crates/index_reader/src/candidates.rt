@@ -1,22 +1,18 @@
 //! The candidates of ADVISE.
 
-ghost use Rattle.std.specs.Prelude.{◌≡◌, ◌^◌, ◌<◌, ◌≤◌, ◌+◌, ℕ, List, [], ◌∷◌, ◌++◌, length, map, drop, true, IfOk, All};
-ghost use Rattle.pg_base.specs.declared.limits.TheConstants.{MOST_CANDIDATES, MOST_LEVELS};
+ghost use Rattle.std.specs.Prelude.{◌≡◌, ◌^◌, ◌<◌, ◌≤◌, ◌+◌, ℕ, [], ◌++◌, length, map, drop, IfOk, All};
+ghost use Rattle.pg_base.specs.declared.limits.TheConstants.{MOST_CANDIDATES};
 ghost use Rattle.pg_base.specs.Names.{AreDistinct};
 ghost use Rattle.sql_lex.specs.Words.{AreWords};
-ghost use Rattle.sql_lex.specs.declared.tokens.Token.{Token};
 ghost use Rattle.sql_grammar.specs.declared.class.Symbol.TheVariants.{Close};
-ghost use Rattle.sql_grammar.specs.Syntax.{Cand};
-ghost use Rattle.sql_grammar.specs.Terminals.{Terminal, t_mark};
+ghost use Rattle.sql_grammar.specs.Terminals.{t_mark};
 ghost use Rattle.sql_grammar.specs.Faults.{terminals};
-ghost use Rattle.sql_grammar.specs.Unique.{ends_cand};
-ghost use Rattle.sql_grammar.specs.Words.{words_of_cand, levels_of_cand};
 ghost use Rattle.catalog.specs.Contents.{NamedIndex};
 ghost use Rattle.catalog.specs.Candidates.{IsCandidateIndex, names_of, with_candidates};
 ghost use Rattle.index_reader.specs.AdviseCandidates.{CandidateMeans};
 ghost use Rattle.index_reader.specs.AdviseMeaning.{CandidatesMean};
 ghost use Rattle.index_reader.specs.Parts.{candidates_of, name_token};
-ghost use Rattle.index_reader.specs.Walk.{AreApart, Row, RowAt, Stands, TellsCandidate, TellsCandidates};
+ghost use Rattle.index_reader.specs.Walk.{AreApart, Row, RowAt, StandsCand, TellsNextCandidate, TellsRow};
 
 use crate::allowed::not_allowed;
 use crate::ends::end_of_candidate;
@@ -53,15 +49,13 @@ fn one(
 ) -> Result<OneRead, Refusal>
     requires short { length text.now ≤ 2 ^ 31 }
     requires words { (from : ℕ) × AreWords text.now from tokens.now }
-    requires there { (x : Cand) × (next : Terminal) × (rest : List Terminal) × Stands text.now tokens.now first (words_of_cand x) next rest ×
-        (ends_cand (next ∷ rest) ≡ true) × (levels_of_cand x ≤ MOST_LEVELS) }
+    requires there { StandsCand text.now tokens.now first }
     requires few { length earlier.now ≤ MOST_CANDIDATES }
-    ensures told { (x : Cand) (next : Terminal) (rest : List Terminal) (start : Token) (later : List Token) → tokens.now ≡ start ∷ later →
-        Stands text.now tokens.now first (words_of_cand x) next rest → ends_cand (next ∷ rest) ≡ true → levels_of_cand x ≤ MOST_LEVELS →
-        TellsCandidate cat.now start tokens.now earlier.now first x result }
+    ensures told { TellsNextCandidate cat.now text.now tokens.now earlier.now first result }
     ensures ahead { IfOk result (λ r. (first < r.end) × (r.end < length tokens.now)) }
     ensures room { IfOk result (λ r. length earlier.now < MOST_CANDIDATES) }
-    ensures sound { IfOk result (λ r. IsCandidateIndex (with_candidates cat.now earlier.now) r.candidate) }
+    ensures sound { IfOk result
+        (λ r. IsCandidateIndex (with_candidates cat.now earlier.now) r.candidate) }
 {
     if earlier.len() == MOST_CANDIDATES {
         let limit = Code::S15(Limit::Candidates);
@@ -88,8 +82,7 @@ pub(crate) fn candidates(
     requires short { length text.now ≤ 2 ^ 31 }
     requires words { (from : ℕ) × AreWords text.now from tokens.now }
     requires there { (w : Row) × RowAt text.now tokens.now first w }
-    ensures told { (w : Row) (start : Token) (later : List Token) → tokens.now ≡ start ∷ later → RowAt text.now tokens.now first w →
-        TellsCandidates cat.now start text.now tokens.now w result }
+    ensures told { TellsRow cat.now text.now tokens.now first result }
     ensures as_many { IfOk result (λ r. length r.names.items ≡ length r.candidates.items) }
     ensures sound { IfOk result (λ r. AreApart cat.now r.candidates.items) }
 {

@@ -1,13 +1,9 @@
 //! The operator class of a key column.
 
-ghost use Rattle.std.specs.Prelude.{◌≡◌, ◌≤◌, ◌++◌, List, length, true, false, OnOk};
-ghost use Rattle.sql_grammar.specs.Terminals.{Terminal};
-ghost use Rattle.sql_grammar.specs.Syntax.{OpClass as ClassTree};
-ghost use Rattle.sql_grammar.specs.Words.{words_of_class};
+ghost use Rattle.std.specs.Prelude.{◌≡◌, ◌≤◌, length, true, OnOk};
 ghost use Rattle.opfamily.specs.Answers.{class_of_name};
-ghost use Rattle.expr_reader.specs.Reads.{Reads};
-ghost use Rattle.index_reader.specs.Keys.{class_has_method, class_known, class_bound};
-ghost use Rattle.index_reader.specs.Reads.{opens_class, begins_class};
+ghost use Rattle.index_reader.specs.Keys.{class_has_method, class_known};
+ghost use Rattle.index_reader.specs.Reads.{opens_class, begins_class, StandsClass, ReadsClass};
 
 use expr_reader::{Cursor, Spelled};
 use opfamily::{Method, OpClass, accepts, class_named, default_class, family};
@@ -63,8 +59,8 @@ fn names_class(from: &Cursor) -> bool
 
 /// The operator class that is next, or that of the type's default family.
 pub fn op_class(alloc: Global, m: Method, t: SqlType, from: &mut Cursor) -> Result<OpClass, Refusal>
-    requires { (c : ClassTree) × (rest : List Terminal) × (begins_class rest ≡ false) × (from.old ≡ words_of_class c ++ rest) }
-    ensures read { (c : ClassTree) (rest : List Terminal) → begins_class rest ≡ false → from.old ≡ words_of_class c ++ rest → Reads (λ k. k) (class_bound m t c) rest result from.new }
+    requires { StandsClass from.old }
+    ensures read { ReadsClass m t from.old result from.new }
     ensures ahead { OnOk result (length from.new ≤ length from.old) }
 {
     if !names_class(from) {

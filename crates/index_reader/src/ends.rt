@@ -1,13 +1,8 @@
 //! Where the parts of ADVISE end.
 
-ghost use Rattle.std.specs.Prelude.{◌≡◌, ◌^◌, ◌≤◌, ◌+◌, ℕ, List, ◌∷◌, length, true};
-ghost use Rattle.pg_base.specs.declared.limits.TheConstants.{MOST_LEVELS};
+ghost use Rattle.std.specs.Prelude.{◌^◌, ◌≤◌, ℕ, length};
 ghost use Rattle.sql_lex.specs.Words.{AreWords};
-ghost use Rattle.sql_grammar.specs.Syntax.{Cand, WindowedSelect};
-ghost use Rattle.sql_grammar.specs.Terminals.{Terminal};
-ghost use Rattle.sql_grammar.specs.Unique.{ends_cand, ends_windowed};
-ghost use Rattle.sql_grammar.specs.Words.{words_of_cand, words_of_windowed, levels_of_cand, levels_of_windowed};
-ghost use Rattle.index_reader.specs.Walk.{Stands};
+ghost use Rattle.index_reader.specs.Walk.{StandsCand, IsEndOfCand, StandsWindowed, IsEndOfWindowed};
 
 use sql_grammar::{cand_end, one_candidate, one_windowed_select, windowed_select_end};
 use sql_lex::Tokens;
@@ -16,10 +11,8 @@ use sql_lex::Tokens;
 pub(crate) fn end_of_candidate(text: &[u8], tokens: &Tokens, first: u32) -> u32
     requires short { length text.now ≤ 2 ^ 31 }
     requires words { (from : ℕ) × AreWords text.now from tokens.now }
-    requires there { (x : Cand) × (next : Terminal) × (rest : List Terminal) × Stands text.now tokens.now first (words_of_cand x) next rest ×
-        (ends_cand (next ∷ rest) ≡ true) × (levels_of_cand x ≤ MOST_LEVELS) }
-    ensures { (x : Cand) (next : Terminal) (rest : List Terminal) → Stands text.now tokens.now first (words_of_cand x) next rest →
-        ends_cand (next ∷ rest) ≡ true → levels_of_cand x ≤ MOST_LEVELS → result ≡ first + length (words_of_cand x) }
+    requires there { StandsCand text.now tokens.now first }
+    ensures { IsEndOfCand text.now tokens.now first result }
 {
     one_candidate();
     match cand_end(text, tokens, first) {
@@ -32,10 +25,8 @@ pub(crate) fn end_of_candidate(text: &[u8], tokens: &Tokens, first: u32) -> u32
 pub(crate) fn end_of_select(text: &[u8], tokens: &Tokens, first: u32) -> u32
     requires short { length text.now ≤ 2 ^ 31 }
     requires words { (from : ℕ) × AreWords text.now from tokens.now }
-    requires there { (x : WindowedSelect) × (next : Terminal) × (rest : List Terminal) × Stands text.now tokens.now first (words_of_windowed x) next rest ×
-        (ends_windowed (next ∷ rest) ≡ true) × (levels_of_windowed x ≤ MOST_LEVELS) }
-    ensures { (x : WindowedSelect) (next : Terminal) (rest : List Terminal) → Stands text.now tokens.now first (words_of_windowed x) next rest →
-        ends_windowed (next ∷ rest) ≡ true → levels_of_windowed x ≤ MOST_LEVELS → result ≡ first + length (words_of_windowed x) }
+    requires there { StandsWindowed text.now tokens.now first }
+    ensures { IsEndOfWindowed text.now tokens.now first result }
 {
     one_windowed_select();
     match windowed_select_end(text, tokens, first) {

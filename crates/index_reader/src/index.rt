@@ -1,21 +1,17 @@
 //! A new index from its name on.
 
-ghost use Rattle.std.specs.Prelude.{◌≡◌, ◌≤◌, ◌++◌, List, ◌∷◌, [], map, option_map, true, IfOk, MatchResult};
+ghost use Rattle.std.specs.Prelude.{◌≡◌, ◌≤◌, ◌++◌, ◌∷◌, map, option_map, true, IfOk, MatchResult};
 ghost use Rattle.pg_base.specs.declared.faults.Code.TheVariants.{S2};
-ghost use Rattle.pg_base.specs.declared.faults.Refusal.TheVariants as refusal;
 ghost use Rattle.pg_expr.specs.View.{cond};
 ghost use Rattle.sql_grammar.specs.Terminals.{Terminal, Ident};
-ghost use Rattle.sql_grammar.specs.Syntax.{Key, Mark, Where, IndexKey as KeyTree, Using, Include, cand_on};
-ghost use Rattle.sql_grammar.specs.Words.{words_of_cand};
 ghost use Rattle.sql_lex.specs.declared.tokens.Token.{Token};
 ghost use Rattle.expr_reader.specs.Reading.{spelled};
 ghost use Rattle.catalog.specs.Contents.{IsTable, IsLawful};
 ghost use Rattle.catalog.specs.Entries.{index_of};
 ghost use Rattle.catalog.specs.Tables.{table_named};
-ghost use Rattle.expr_reader.specs.Reads.{Reads};
 ghost use Rattle.ddl_reader.specs.Statistics.{known};
-ghost use Rattle.index_reader.specs.Meaning.{index_reading, meaning_of_cand, name_tokens};
-ghost use Rattle.index_reader.specs.Reads.{reading};
+ghost use Rattle.index_reader.specs.Meaning.{index_reading, name_tokens};
+ghost use Rattle.index_reader.specs.Reads.{reading, AreOfCand, ReadsCand};
 
 use crate::keys::{KeyRead, keys};
 use crate::limits::{check_atoms, check_columns, name_tokens_of};
@@ -143,10 +139,8 @@ pub fn index(
     start: Token,
     from: &mut Cursor,
 ) -> Result<ReadIndex, Refusal>
-    requires { (n : Ident) × (o : Key) × (t : Ident) × (u : Using) × (p : Mark) × (x : KeyTree) × (xs : List (Mark × KeyTree)) × (m : Mark) × (c : Include) × (w : Where) ×
-        (from.old ≡ words_of_cand (cand_on n o t u p x xs m c w)) }
-    ensures { (n : Ident) (o : Key) (t : Ident) (u : Using) (p : Mark) (x : KeyTree) (xs : List (Mark × KeyTree)) (m : Mark) (c : Include) (w : Where) →
-        from.old ≡ words_of_cand (cand_on n o t u p x xs m c w) → Reads reading (meaning_of_cand cat.now start (cand_on n o t u p x xs m c w)) [] result [] }
+    requires { AreOfCand from.old }
+    ensures { ReadsCand cat.now start from.old result }
 {
     let name = from.expect_name(alloc)?;
     from.skip(1);

@@ -1,17 +1,11 @@
 //! The key columns.
 
-ghost use Rattle.std.specs.Prelude.{◌≡◌, ◌≤◌, ◌++◌, List, length, true, OnOk, Vec};
-ghost use Rattle.std.specs.declared.alloc.Global.{Global};
-ghost use Rattle.sql_grammar.specs.Terminals.{Terminal, Ident};
-ghost use Rattle.sql_grammar.specs.Syntax.{Mark, Direction, NullsEnd, OpClass as ClassTree, IndexKey as KeyTree, index_key};
-ghost use Rattle.sql_grammar.specs.Words.{words_of_key};
+ghost use Rattle.std.specs.Prelude.{◌≡◌, ◌≤◌, length, OnOk};
 ghost use Rattle.catalog.specs.Contents.{IsTable, IsColumn, table_at};
 ghost use Rattle.catalog.specs.Indexes.{type_at};
-ghost use Rattle.expr_reader.specs.Reads.{Reads};
-ghost use Rattle.expr_reader.specs.Lists.{bound_each};
 ghost use Rattle.index_reader.specs.Keys.{key_bound, keys_of};
-ghost use Rattle.index_reader.specs.Reads.{ends_key, words_of_keys_left};
-ghost use Rattle.index_reader.specs.declared.keys.KeyRead.{KeyRead};
+ghost use Rattle.index_reader.specs.Reads.{words_of_keys_left, ReadsEach, StandsKey, ReadsKey};
+ghost use Rattle.expr_reader.specs.Reading.{StandsList, IfList};
 
 use crate::classes::op_class;
 use crate::names::column_of;
@@ -51,9 +45,8 @@ fn one_key(
     from: &mut Cursor,
 ) -> Result<KeyRead, Refusal>
     requires there { IsTable cat.now table }
-    requires words { (n : Ident) × (c : ClassTree) × (d : Direction) × (z : NullsEnd) × (rest : List Terminal) × (ends_key rest ≡ true) × (from.old ≡ words_of_key (index_key n c d z) ++ rest) }
-    ensures read { (n : Ident) (c : ClassTree) (d : Direction) (z : NullsEnd) (rest : List Terminal) → ends_key rest ≡ true → from.old ≡ words_of_key (index_key n c d z) ++ rest →
-        Reads (λ k. k) (key_bound cat.now table method (index_key n c d z)) rest result from.new }
+    requires words { StandsKey from.old }
+    ensures read { ReadsKey cat.now table method from.old result from.new }
     ensures ahead { OnOk result (length from.new ≤ length from.old) }
 {
     let name = from.expect_name(alloc)?;
@@ -82,9 +75,9 @@ pub fn keys(
     from: &mut Cursor,
 ) -> Result<Vec<KeyRead>, Refusal>
     requires there { IsTable cat.now table }
-    requires words { (x : KeyTree) × (xs : List (Mark × KeyTree)) × (m : Mark) × (rest : List Terminal) × (from.old ≡ words_of_keys_left x xs m rest) }
-    ensures { (x : KeyTree) (xs : List (Mark × KeyTree)) (m : Mark) (rest : List Terminal) → from.old ≡ words_of_keys_left x xs m rest →
-        Reads (λ (v : Vec KeyRead Global). v.items) (bound_each (key_bound cat.now table method) (keys_of x xs)) rest result from.new }
+    requires words { StandsList words_of_keys_left from.old }
+    ensures { IfList words_of_keys_left from.old (λ x xs m rest.
+        ReadsEach (key_bound cat.now table method) (keys_of x xs) rest result from.new) }
 {
     let mut all = Vec::new(alloc);
     let first = one_key(alloc, cat, table, method, from)?;

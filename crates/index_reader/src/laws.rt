@@ -7,5 +7,7 @@ ghost use Rattle.index_reader.specs.Candidates.{HaveCand};
 
 /// What [`cand_end`](sql_grammar::cand_end) finds is a candidate of a statement within the limits.
 pub fn a_candidate_that_ends_is_one()
-    ensures { (text : List ℕ) (tokens : List Token) (first end : ℕ) → AreWithinLimits (terminals text tokens) → EndsAt IsCand text tokens first end → HaveCand text tokens first end }
+    ensures { (text : List ℕ) (tokens : List Token) (first end : ℕ) →
+        AreWithinLimits (terminals text tokens) → EndsAt IsCand text tokens first end →
+        HaveCand text tokens first end }
 {}

@@ -1,12 +1,9 @@
 //! The limits of an index.
 
-ghost use Rattle.std.specs.Prelude.{◌≡◌, List, drop, map, option_map, cond as when, Ok, Err, IfOk};
-ghost use Rattle.pg_base.specs.declared.faults.Code.TheVariants.{S15};
-ghost use Rattle.pg_base.specs.declared.faults.Limit.TheVariants.{Atoms};
+ghost use Rattle.std.specs.Prelude.{◌≡◌, List, drop, map, option_map, Ok, IfOk};
 ghost use Rattle.pg_base.specs.declared.limits.TheConstants.{MOST_COLUMNS};
 ghost use Rattle.pg_expr.specs.View.{cond};
-ghost use Rattle.sql_grammar.specs.Faults.{fault_at as fault_at_token};
-ghost use Rattle.index_reader.specs.Meaning.{has_many_atoms, limited_names, name_tokens};
+ghost use Rattle.index_reader.specs.Meaning.{limited_names, name_tokens, limited_atoms};
 
 use crate::keys::KeyRead;
 use crate::names::NamedColumn;
@@ -46,7 +43,7 @@ pub fn check_columns(names: &[Token]) -> Result<(), Fault>
 
 /// The limit of atoms (54000), at the statement's first token.
 pub fn check_atoms(start: Token, predicate: &Option<Expr>) -> Result<(), Fault>
-    ensures { result ≡ when (has_many_atoms (option_map cond predicate.now)) (Err (fault_at_token (S15 Atoms) start)) (Ok tt) }
+    ensures { result ≡ limited_atoms start (option_map cond predicate.now) tt }
 {
     match predicate {
         Some(e) if ops(e) > MOST_ATOMS as u64 => Err(fault_at(Code::S15(Limit::Atoms), start)),

@@ -1,12 +1,11 @@
 //! The access method after USING.
 
-ghost use Rattle.std.specs.Prelude.{◌≡◌, ◌++◌, List, true};
-ghost use Rattle.sql_grammar.specs.Terminals.{Terminal};
-ghost use Rattle.sql_grammar.specs.Syntax.{Using};
+ghost use Rattle.std.specs.Prelude.{◌≡◌};
 ghost use Rattle.sql_grammar.specs.Words.{words_of_using};
 ghost use Rattle.expr_reader.specs.Reads.{Reads};
 ghost use Rattle.index_reader.specs.Keys.{method_of_name, method_bound};
 ghost use Rattle.index_reader.specs.Reads.{ends_using};
+ghost use Rattle.expr_reader.specs.Reading.{StandsFirst, IfFirst};
 
 use expr_reader::Cursor;
 use opfamily::Method;
@@ -38,8 +37,9 @@ fn method_named(name: &[u8]) -> Option<Method>
 
 /// The access method: btree where no USING is next. An unknown one is refused (42704) at its word.
 pub fn using(alloc: Global, from: &mut Cursor) -> Result<MethodRead, Refusal>
-    requires { (u : Using) × (rest : List Terminal) × (ends_using rest ≡ true) × (from.old ≡ words_of_using u ++ rest) }
-    ensures { (u : Using) (rest : List Terminal) → ends_using rest ≡ true → from.old ≡ words_of_using u ++ rest → Reads (λ m. m) (method_bound u) rest result from.new }
+    requires { StandsFirst words_of_using ends_using from.old }
+    ensures { IfFirst words_of_using ends_using from.old
+        (λ u rest. Reads (λ m. m) (method_bound u) rest result from.new) }
 {
     if !from.takes(Word::Using) {
         return Ok(MethodRead {

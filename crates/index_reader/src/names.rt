@@ -1,19 +1,17 @@
 //! Names of columns, and the columns of INCLUDE.
 
-ghost use Rattle.std.specs.Prelude.{◌≡◌, ◌≤◌, ◌++◌, List, ◌∷◌, length, true, IfOk, OnOk, Vec};
-ghost use Rattle.std.specs.declared.alloc.Global.{Global};
+ghost use Rattle.std.specs.Prelude.{◌≡◌, ◌≤◌, List, ◌∷◌, length, IfOk, OnOk};
 ghost use Rattle.pg_base.specs.declared.faults.Code.TheVariants.{S3};
 ghost use Rattle.sql_grammar.specs.Terminals.{Terminal, Ident, t_name};
-ghost use Rattle.sql_grammar.specs.Syntax.{Mark, Include};
 ghost use Rattle.sql_grammar.specs.Words.{words_of_include};
 ghost use Rattle.catalog.specs.Contents.{IsTable, IsColumn};
 ghost use Rattle.catalog.specs.Tables.{column_named};
 ghost use Rattle.expr_reader.specs.Reads.{Reads};
-ghost use Rattle.expr_reader.specs.Lists.{parts_of, bound_each};
+ghost use Rattle.expr_reader.specs.Lists.{parts_of};
 ghost use Rattle.ddl_reader.specs.Statistics.{known};
 ghost use Rattle.index_reader.specs.Keys.{name_bound, include_names};
-ghost use Rattle.index_reader.specs.Reads.{ends_include, words_of_names_left};
-ghost use Rattle.index_reader.specs.declared.names.NamedColumn.{NamedColumn};
+ghost use Rattle.index_reader.specs.Reads.{ends_include, words_of_names_left, ReadsEach};
+ghost use Rattle.expr_reader.specs.Reading.{StandsFirst, IfFirst, IfNext, StandsList, IfList};
 
 use catalog::Catalog;
 use expr_reader::{Cursor, Spelled};
@@ -52,7 +50,8 @@ fn one_name(
 ) -> Result<NamedColumn, Refusal>
     requires there { IsTable cat.now table }
     requires words { (n : Ident) × (rest : List Terminal) × (from.old ≡ t_name n ∷ rest) }
-    ensures read { (n : Ident) (rest : List Terminal) → from.old ≡ t_name n ∷ rest → Reads (λ k. k) (name_bound cat.now table n) rest result from.new }
+    ensures read { IfNext t_name from.old
+        (λ n rest. Reads (λ k. k) (name_bound cat.now table n) rest result from.new) }
     ensures ahead { OnOk result (length from.new ≤ length from.old) }
 {
     let name = from.expect_name(alloc)?;
@@ -71,9 +70,9 @@ fn names(
     from: &mut Cursor,
 ) -> Result<Vec<NamedColumn>, Refusal>
     requires there { IsTable cat.now table }
-    requires words { (n : Ident) × (ns : List (Mark × Ident)) × (m : Mark) × (rest : List Terminal) × (from.old ≡ words_of_names_left n ns m rest) }
-    ensures { (n : Ident) (ns : List (Mark × Ident)) (m : Mark) (rest : List Terminal) → from.old ≡ words_of_names_left n ns m rest →
-        Reads (λ (v : Vec NamedColumn Global). v.items) (bound_each (name_bound cat.now table) (n ∷ parts_of (λ x. x) ns)) rest result from.new }
+    requires words { StandsList words_of_names_left from.old }
+    ensures { IfList words_of_names_left from.old (λ n ns m rest.
+        ReadsEach (name_bound cat.now table) (n ∷ parts_of (λ x. x) ns) rest result from.new) }
 {
     let mut all = Vec::new(alloc);
     let first = one_name(alloc, cat, table, from)?;
@@ -94,9 +93,9 @@ pub fn include(
     from: &mut Cursor,
 ) -> Result<Vec<NamedColumn>, Refusal>
     requires there { IsTable cat.now table }
-    requires words { (c : Include) × (rest : List Terminal) × (ends_include rest ≡ true) × (from.old ≡ words_of_include c ++ rest) }
-    ensures { (c : Include) (rest : List Terminal) → ends_include rest ≡ true → from.old ≡ words_of_include c ++ rest →
-        Reads (λ (v : Vec NamedColumn Global). v.items) (bound_each (name_bound cat.now table) (include_names c)) rest result from.new }
+    requires words { StandsFirst words_of_include ends_include from.old }
+    ensures { IfFirst words_of_include ends_include from.old (λ c rest.
+        ReadsEach (name_bound cat.now table) (include_names c) rest result from.new) }
 {
     if !from.takes_free(Free::Include) {
         return Ok(Vec::new(alloc));

@@ -1,15 +1,14 @@
 //! The condition of an index.
 
-ghost use Rattle.std.specs.Prelude.{◌≡◌, ◌++◌, List, true, IfOk, option_map};
+ghost use Rattle.std.specs.Prelude.{IfOk, option_map};
 ghost use Rattle.pg_expr.specs.View.{cond};
-ghost use Rattle.sql_grammar.specs.Syntax.{Where};
-ghost use Rattle.sql_grammar.specs.Terminals.{Terminal};
 ghost use Rattle.sql_grammar.specs.Words.{words_of_where};
 ghost use Rattle.catalog.specs.Contents.{table_at};
 ghost use Rattle.catalog.specs.Indexes.{IsPredicateOf};
 ghost use Rattle.expr_reader.specs.Reads.{Reads};
 ghost use Rattle.query_reader.specs.Ends.{ends_where};
 ghost use Rattle.index_reader.specs.Meaning.{condition_bound};
+ghost use Rattle.expr_reader.specs.Reading.{StandsFirst, IfFirst};
 
 use crate::table_scope::TableScope;
 use expr_reader::{Cursor, take_expr};
@@ -24,9 +23,9 @@ pub fn predicate(
     scope: &TableScope,
     from: &mut Cursor,
 ) -> Result<Option<Expr>, Refusal>
-    requires { (w : Where) × (rest : List Terminal) × (ends_where rest ≡ true) × (from.old ≡ words_of_where w ++ rest) }
-    ensures { (w : Where) (rest : List Terminal) → ends_where rest ≡ true → from.old ≡ words_of_where w ++ rest →
-        Reads (option_map cond) (condition_bound scope.now w) rest result from.new }
+    requires { StandsFirst words_of_where ends_where from.old }
+    ensures { IfFirst words_of_where ends_where from.old (λ w rest.
+        Reads (option_map cond) (condition_bound scope.now w) rest result from.new) }
 {
     if !from.takes(Word::Where) {
         return Ok(None);

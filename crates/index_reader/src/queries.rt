@@ -1,15 +1,11 @@
 //! The SELECTs of ADVISE.
 
-ghost use Rattle.std.specs.Prelude.{◌≡◌, ◌^◌, ◌<◌, ◌≤◌, ℕ, List, ◌∷◌, ◌++◌, length, IfOk};
-ghost use Rattle.pg_base.specs.declared.limits.TheConstants.{MOST_LEVELS, MOST_QUERIES};
+ghost use Rattle.std.specs.Prelude.{◌^◌, ◌<◌, ◌≤◌, ℕ, ◌++◌, length, IfOk};
+ghost use Rattle.pg_base.specs.declared.limits.TheConstants.{MOST_QUERIES};
 ghost use Rattle.sql_lex.specs.Words.{AreWords};
-ghost use Rattle.sql_lex.specs.declared.tokens.Token.{Token};
-ghost use Rattle.sql_grammar.specs.Syntax.{Advised};
-ghost use Rattle.sql_grammar.specs.Terminals.{Terminal};
-ghost use Rattle.sql_grammar.specs.Words.{words_of_advised, levels_of_advised};
 ghost use Rattle.eq_classes.specs.Holding.{IsClassTable};
 ghost use Rattle.sql_query.specs.WellBound.{IsWellBound, given_of};
-ghost use Rattle.index_reader.specs.Walk.{ArePlannable, QueryRow, QueryRowAt, Stands, TellsQueries, TellsQuery};
+ghost use Rattle.index_reader.specs.Walk.{ArePlannable, QueryRow, QueryRowAt, TellsQueryRow, TellsNextQuery, StandsAdvised};
 
 use crate::ends::end_of_select;
 use catalog::Catalog;
@@ -38,12 +34,9 @@ fn one(
 ) -> Result<OneQuery, Refusal>
     requires short { length text.now ≤ 2 ^ 31 }
     requires words { (from : ℕ) × AreWords text.now from tokens.now }
-    requires there { (x : Advised) × (next : Terminal) × (rest : List Terminal) × Stands text.now tokens.now first (words_of_advised x) next rest ×
-        (levels_of_advised x ≤ MOST_LEVELS) }
+    requires there { StandsAdvised text.now tokens.now first }
     requires few { length earlier.now ≤ MOST_QUERIES }
-    ensures told { (x : Advised) (next : Terminal) (rest : List Terminal) (start : Token) (later : List Token) → tokens.now ≡ start ∷ later →
-        Stands text.now tokens.now first (words_of_advised x) next rest → levels_of_advised x ≤ MOST_LEVELS →
-        TellsQuery cat.now start earlier.now first x result }
+    ensures told { TellsNextQuery cat.now text.now tokens.now earlier.now first result }
     ensures ahead { IfOk result (λ r. (first < r.end) × (r.end < length tokens.now)) }
     ensures room { IfOk result (λ r. length earlier.now < MOST_QUERIES) }
     ensures well_bound { IfOk result (λ r. IsWellBound cat.now r.query) }
@@ -72,8 +65,7 @@ pub(crate) fn queries(
     requires short { length text.now ≤ 2 ^ 31 }
     requires words { (from : ℕ) × AreWords text.now from tokens.now }
     requires there { (w : QueryRow) × QueryRowAt text.now tokens.now first w }
-    ensures told { (w : QueryRow) (start : Token) (later : List Token) → tokens.now ≡ start ∷ later → QueryRowAt text.now tokens.now first w →
-        TellsQueries cat.now start w result }
+    ensures told { TellsQueryRow cat.now text.now tokens.now first result }
     ensures sound { IfOk result (λ v. ArePlannable cat.now v.items) }
 {
     let mut queries = Vec::new(alloc);

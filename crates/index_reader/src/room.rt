@@ -32,8 +32,11 @@ fn indexes_on(cat: &Catalog, candidates: &[Candidate], table: TableNo) -> usize
 pub(crate) fn room_fault(cat: &Catalog, names: &[Token], candidates: &[Candidate]) -> Option<Fault>
     requires named { length names.now ≡ length candidates.now }
     requires apart { AreApart cat.now candidates.now }
-    ensures told { MatchOption result (with_room cat.now [] names.now candidates.now ≡ Ok candidates.now) (λ f. with_room cat.now [] names.now candidates.now ≡ Err f) }
-    ensures room { MatchOption result (HaveRoom (with_candidates cat.now candidates.now)) (λ _. Unit {0}) }
+    ensures told { MatchOption result
+        (with_room cat.now [] names.now candidates.now ≡ Ok candidates.now)
+        (λ f. with_room cat.now [] names.now candidates.now ≡ Err f) }
+    ensures room { MatchOption result (HaveRoom (with_candidates cat.now candidates.now))
+        (λ _. Unit {0}) }
 {
     cat.lawful();
     for n in 0..candidates.len() {

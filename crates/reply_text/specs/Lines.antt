@@ -90,9 +90,17 @@ place_text Field c f = codes ", record " ++ (decimal f.rec ++ (codes " column " 
 abbrev pub suffix : Contents → Fault → List ℕ
 suffix c f = if f.rec == 0 then [] else place_text (data_place_of f.code) c f
 
+-- what the text of a fault names behind its first words
+abbrev pub named_word : List ℕ → Fault → List ℕ
+named_word script f = naming_text (naming_of f.code) (word_at script f)
+
 -- the text of a fault
 abbrev pub fault_text : Contents → List ℕ → Fault → List ℕ
-fault_text c script f = phrase f.code f.rec ++ (naming_text (naming_of f.code) (word_at script f) ++ suffix c f)
+fault_text c script f = phrase f.code f.rec ++ (named_word script f ++ suffix c f)
+
+-- the line of a fault as far as the first words of its text
+abbrev pub line_head : Fault → List ℕ
+line_head f = codes "ERROR " ++ (code_text f.code ++ (codes " at " ++ (decimal f.at ++ (codes ": " ++ phrase f.code f.rec))))
 
 -- the line of a fault, up to its LF
 abbrev pub fault_line : Contents → List ℕ → Fault → List ℕ

@@ -16,6 +16,10 @@ pub record IsBetween {W : Type 0} (w : Writer W) : Type 0 where
   pub clean : has_written w ≡ false
   pub sent : writer_pending w ≡ []
 
+-- from one state of a writer to a later one these bytes were written
+abbrev pub HasNewText : {W : Type 0} → (W → Option (List ℕ)) → Writer W → Writer W → List ℕ → Type 0
+HasNewText contents old new bytes = Appends (text_written contents old) (text_written contents new) bytes
+
 -- from one state of a writer to a later one this field was written, behind the delimiter where it is not the first of its record
 pub record HasField {W : Type 0} (contents : W → Option (List ℕ)) (old new : Writer W) (field : List ℕ) : Type 0 where
   pub setup : writer_setup new ≡ row_writer

@@ -1,12 +1,11 @@
 //! The error line of a fault.
 
 ghost use Rattle.std.specs.Prelude.{◌≡◌, ◌++◌, ◌-◌, OnOk, OnErr, codes, drop, take};
-ghost use Rattle.std.specs.Fmt.{decimal};
 ghost use Rattle.std.specs.Io.KnownBytes.{Appends};
 ghost use Rattle.pg_base.specs.Causes.{HasCause};
 ghost use Rattle.pg_base.specs.Writing.{AppendsPrefix};
-ghost use Rattle.reply_text.specs.Tells.{IsFieldOf, naming_of};
-ghost use Rattle.reply_text.specs.Lines.{code_text, fault_line, naming_text, phrase, suffix, word_at};
+ghost use Rattle.reply_text.specs.Tells.{IsFieldOf};
+ghost use Rattle.reply_text.specs.Lines.{fault_line, line_head, named_word, suffix};
 
 use crate::pieces::{write_pieces, write_small};
 use crate::tells::{Naming, Place, how_named, place_named};
@@ -26,8 +25,10 @@ pub fn write_fault<E: Sink>(
     fault: &Fault,
 ) -> Result<(), Failed>
     requires field { IsFieldOf cat.now fault.now }
-    ensures ok { OnOk result (Appends (E.held errors.old) (E.held errors.new) (fault_line cat.now text.now fault.now)) }
-    ensures err { OnErr result (AppendsPrefix (E.held errors.old) (E.held errors.new) (fault_line cat.now text.now fault.now)) }
+    ensures ok { OnOk result (Appends (E.held errors.old) (E.held errors.new)
+        (fault_line cat.now text.now fault.now)) }
+    ensures err { OnErr result (AppendsPrefix (E.held errors.old) (E.held errors.new)
+        (fault_line cat.now text.now fault.now)) }
     ensures cause { HasCause (E.faults errors.old) (E.faults errors.new) result }
 {
     write_head(errors, fault)?;
@@ -37,8 +38,10 @@ pub fn write_fault<E: Sink>(
 
 // The code, the offset and the first words of the text.
 fn write_head<E: Sink>(errors: &mut E, fault: &Fault) -> Result<(), Failed>
-    ensures ok { OnOk result (Appends (E.held errors.old) (E.held errors.new) (codes "ERROR " ++ (code_text fault.now.code ++ (codes " at " ++ (decimal fault.now.at ++ (codes ": " ++ phrase fault.now.code fault.now.rec)))))) }
-    ensures err { OnErr result (AppendsPrefix (E.held errors.old) (E.held errors.new) (codes "ERROR " ++ (code_text fault.now.code ++ (codes " at " ++ (decimal fault.now.at ++ (codes ": " ++ phrase fault.now.code fault.now.rec)))))) }
+    ensures ok { OnOk result (Appends (E.held errors.old) (E.held errors.new)
+        (line_head fault.now)) }
+    ensures err { OnErr result (AppendsPrefix (E.held errors.old) (E.held errors.new)
+        (line_head fault.now)) }
     ensures cause { HasCause (E.faults errors.old) (E.faults errors.new) result }
 {
     let mut buffer = Buffer::new();
@@ -59,8 +62,10 @@ fn word(text: &[u8], from: usize, to: usize) -> &[u8]
 
 // The word at fault, where the text names it.
 fn write_word<E: Sink>(errors: &mut E, text: &[u8], fault: &Fault) -> Result<(), Failed>
-    ensures ok { OnOk result (Appends (E.held errors.old) (E.held errors.new) (naming_text (naming_of fault.now.code) (word_at text.now fault.now))) }
-    ensures err { OnErr result (AppendsPrefix (E.held errors.old) (E.held errors.new) (naming_text (naming_of fault.now.code) (word_at text.now fault.now))) }
+    ensures ok { OnOk result (Appends (E.held errors.old) (E.held errors.new)
+        (named_word text.now fault.now)) }
+    ensures err { OnErr result (AppendsPrefix (E.held errors.old) (E.held errors.new)
+        (named_word text.now fault.now)) }
     ensures cause { HasCause (E.faults errors.old) (E.faults errors.new) result }
 {
     let word = word(text, fault.from as usize, fault.to as usize);
@@ -73,8 +78,10 @@ fn write_word<E: Sink>(errors: &mut E, text: &[u8], fault: &Fault) -> Result<(),
 // The record and the column of COPY data, where the text names them, and LF.
 fn write_end<E: Sink>(errors: &mut E, cat: &Catalog, fault: &Fault) -> Result<(), Failed>
     requires field { IsFieldOf cat.now fault.now }
-    ensures ok { OnOk result (Appends (E.held errors.old) (E.held errors.new) (suffix cat.now fault.now ++ codes "\n")) }
-    ensures err { OnErr result (AppendsPrefix (E.held errors.old) (E.held errors.new) (suffix cat.now fault.now ++ codes "\n")) }
+    ensures ok { OnOk result (Appends (E.held errors.old) (E.held errors.new)
+        (suffix cat.now fault.now ++ codes "\n")) }
+    ensures err { OnErr result (AppendsPrefix (E.held errors.old) (E.held errors.new)
+        (suffix cat.now fault.now ++ codes "\n")) }
     ensures cause { HasCause (E.faults errors.old) (E.faults errors.new) result }
 {
     if fault.rec == 0 {

@@ -1,10 +1,9 @@
 //! The lines of rows, each as one record of comma-separated values.
 
 ghost use Rattle.std.specs.Prelude.{◌≡◌, IfOk, OnOk, Some, map};
-ghost use Rattle.std.specs.Io.KnownBytes.{Appends};
-ghost use Rattle.csv.specs.Writing.{text_written, writer_setup, writer_under};
+ghost use Rattle.csv.specs.Writing.{writer_setup, writer_under};
 ghost use Rattle.reply_text.specs.Texts.{field_text, row_line};
-ghost use Rattle.reply_text.specs.Writers.{HasField, IsBetween, row_writer};
+ghost use Rattle.reply_text.specs.Writers.{HasField, HasNewText, IsBetween, row_writer};
 
 use csv::{Error, Writer, WriterBuilder};
 use itoa::Buffer;
@@ -93,7 +92,8 @@ fn begin_anew(alloc: Global, writer: &mut Writer<Vec<u8>>)
 fn write_row<W: Write + Drop>(writer: &mut Writer<W>, values: &[&Value]) -> Result<(), Error>
     requires { IsBetween writer.old }
     ensures between { OnOk result (IsBetween writer.new) }
-    ensures text { OnOk result (Appends (text_written W.contents writer.old) (text_written W.contents writer.new) (row_line (map (λ v. v.now) values.now))) }
+    ensures text { OnOk result
+        (HasNewText W.contents writer.old writer.new (row_line (map (λ v. v.now) values.now))) }
 {
     for value in values {
         write_value(writer, value)?;

@@ -11,8 +11,10 @@ use pg_base::{Failed, Sink, write_all};
 
 /// Writes all of these texts, one after another; at `Err` the sink has a prefix of them.
 pub(crate) fn write_pieces<E: Sink>(errors: &mut E, pieces: &[&[u8]]) -> Result<(), Failed>
-    ensures ok { OnOk result (Appends (E.held errors.old) (E.held errors.new) (flat_map (λ p. p.now) pieces.now)) }
-    ensures err { OnErr result (AppendsPrefix (E.held errors.old) (E.held errors.new) (flat_map (λ p. p.now) pieces.now)) }
+    ensures ok { OnOk result (Appends (E.held errors.old) (E.held errors.new)
+        (flat_map (λ p. p.now) pieces.now)) }
+    ensures err { OnErr result (AppendsPrefix (E.held errors.old) (E.held errors.new)
+        (flat_map (λ p. p.now) pieces.now)) }
     ensures cause { HasCause (E.faults errors.old) (E.faults errors.new) result }
 {
     'pieces: for piece in pieces {
@@ -23,8 +25,10 @@ pub(crate) fn write_pieces<E: Sink>(errors: &mut E, pieces: &[&[u8]]) -> Result<
 
 /// Writes a text with each ASCII capital made small; at `Err` the sink has a prefix of it.
 pub(crate) fn write_small<E: Sink>(errors: &mut E, word: &[u8]) -> Result<(), Failed>
-    ensures ok { OnOk result (Appends (E.held errors.old) (E.held errors.new) (map to_ascii_lowercase word.now)) }
-    ensures err { OnErr result (AppendsPrefix (E.held errors.old) (E.held errors.new) (map to_ascii_lowercase word.now)) }
+    ensures ok { OnOk result (Appends (E.held errors.old) (E.held errors.new)
+        (map to_ascii_lowercase word.now)) }
+    ensures err { OnErr result (AppendsPrefix (E.held errors.old) (E.held errors.new)
+        (map to_ascii_lowercase word.now)) }
     ensures cause { HasCause (E.faults errors.old) (E.faults errors.new) result }
 {
     'bytes: for byte in word {

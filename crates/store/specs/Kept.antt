@@ -1,22 +1,28 @@
 -- What is kept of a catalogue: the rows of its tables, and its indexes built over them (PostgreSQL manual, chapter Indexes;
 -- the order of equal keys is own).
-use Rattle.std.specs.Prelude.{◌≡◌, ℕ, ◌-◌, ◌*◌, false, cond, nat_eq, List, [], ◌∷◌, ◌++◌, filter, length, map, slice_index_or, slice_set, take}
+use Rattle.std.specs.Prelude.{◌≡◌, ◌⊎◌, ◌≤◌, ℕ, ◌+◌, ◌-◌, ◌*◌, All, Ok, false, cond, nat_eq, List, [], ◌∷◌, ◌++◌, filter, length, map, slice_index_or, slice_set, take}
 use Rattle.std.specs.List.{range_with_len}
+use Rattle.std.specs.declared.result.Result.{Result}
+use Rattle.pg_base.specs.declared.numbers.IndexNo.{IndexNo}
 use Rattle.pg_base.specs.declared.numbers.TableNo.{TableNo}
+use Rattle.pg_value.specs.Order.{IsOfFamily}
 use Rattle.pg_value.specs.Sorting.{in_order}
-use Rattle.opfamily.specs.KeyOrder.{Entry, first_value}
+use Rattle.pg_value.specs.declared.columns.Column.{Column}
+use Rattle.opfamily.specs.KeyOrder.{Entry, first_value, key_family}
 use Rattle.opfamily.specs.declared.classes.IndexKey.{IndexKey}
 use Rattle.opfamily.specs.declared.classes.Method.{Method}
 use Rattle.opfamily.specs.declared.classes.Method.TheVariants.{Btree, Hash}
 use Rattle.opfamily.specs.declared.classes.OpClass.TheVariants.{Int2Ops}
-use Rattle.btree_index.specs.Tree.{Tree}
+use Rattle.btree_index.specs.Tree.{IsEntryOf, Tree}
 use Rattle.btree_index.specs.Tree as tree
 use Rattle.hash_index.specs.Held.{Held, Table, held_order}
 use Rattle.hash_index.specs.Held as held
+use Rattle.heap.specs.Loading.{loaded, records_of}
 use Rattle.heap.specs.Stored.{Stored, Values}
-use Rattle.catalog.specs.Contents.{Contents, NamedIndex, indexes_of}
+use Rattle.heap.specs.declared.fault.CopyFault.{CopyFault}
+use Rattle.catalog.specs.Contents.{Contents, NamedIndex, index_at, indexes_of}
 use Rattle.catalog.specs.Indexes.{Index}
-use Rattle.sql_query.specs.Worlds.{IsWorld, nothing_stored, world}
+use Rattle.sql_query.specs.Worlds.{IsWorld, nothing_stored, stored_at, world}
 use Rattle.plan_tree.specs.Entries.{entries_over, entry, meets}
 
 -- an index as it is built
@@ -41,6 +47,22 @@ with_heap k h = record { stored = k.stored ++ h ∷ []; built = k.built }
 abbrev pub stored_of : Kept → TableNo → Stored
 stored_of k t = slice_index_or k.stored t.0 nothing_stored
 
+-- how many rows are stored of a table
+abbrev pub row_count : Kept → TableNo → ℕ
+row_count k t = length (stored_of k t).rows
+
+-- what is stored of a table of these columns without rows
+abbrev pub no_rows_of : List Column → Stored
+no_rows_of columns = record { columns = columns; rows = [] }
+
+-- how many rows are stored of the table of an index
+abbrev pub indexed_rows : Contents → Kept → IndexNo → ℕ
+indexed_rows c k i = length (stored_of k (index_at c i).table).rows
+
+-- how many indexes a table has
+abbrev pub index_count : Contents → TableNo → ℕ
+index_count c t = length (indexes_of c t)
+
 -- the entries of an index for the rows from a number on, in the order of the rows
 abbrev pub found : Index → List Values → ℕ → List Entry
 found d rows from = map (entry d rows) (filter (λ n. meets d.predicate (slice_index_or rows n [])) (range_with_len from (length rows - from)))
@@ -53,6 +75,14 @@ first_key (k ∷ ks) = k
 -- an entry with one key, as a hash index holds it
 abbrev pub held_of : Entry → Held
 held_of e = record { value = first_value e.keys; row = e.row }
+
+-- entries as an index has them, each with the values of its columns
+abbrev pub AreIndexEntries : Index → List Entry → Type 0
+AreIndexEntries d es = All (IsEntryOf d.keys d.include) es
+
+-- rows whose values are all of the family of a hash index's one key
+abbrev pub AreOfKeyFamily : Index → List Held → Type 0
+AreOfKeyFamily d rs = All (λ h. IsOfFamily (key_family (first_key d.keys)) h.value) rs
 
 -- an index with exactly its entries over the rows of its table: a B-tree has them in the order of its keys, equal ones by
 -- row, a hash index by the value of its one key, equal ones by row
@@ -86,9 +116,22 @@ pub record IsStoreOf (c : Contents) (k : Kept) : Type 0 where
   pub world : IsWorld (world c k.stored)
   pub built : k.built ≡ map (built_over k.stored) c.indexes
 
+-- an index of the catalogue over what is kept of its table
+abbrev pub built_at : Contents → Kept → IndexNo → Built
+built_at c k i = built_of (index_at c i) (stored_at (world c k.stored) (index_at c i).table).rows
+
 -- the looks of a load by which this comes to be stored of a table: one at each new row for each index of the table
 abbrev pub load_looks : Contents → TableNo → (old new : Stored) → ℕ
 load_looks c t old new = length (indexes_of c t) * (length new.rows - length old.rows)
+
+-- what is stored of a table once the data of a block are loaded, or the first fault of the data
+abbrev pub loaded_block : Kept → TableNo → List ℕ → Result Stored CopyFault
+loaded_block k t block = loaded (stored_of k t) (records_of block)
+
+-- a count of looks did not rise, or rose within the looks of the load of a block without fault
+abbrev pub IsWithinLoad : Contents → Kept → TableNo → List ℕ → (before now : ℕ) → Type 0
+IsWithinLoad c k t block before now =
+    (now ≡ before) ⊎ ((s : Stored) × (loaded_block k t block ≡ Ok s) × (now ≤ before + load_looks c t (stored_of k t) s))
 
 -- what is stored, but of one table the first rows alone
 abbrev pub first_rows : ℕ → TableNo → List Stored → List Stored

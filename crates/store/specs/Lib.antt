@@ -1,3 +1,4 @@
 pub mod Kept
 pub mod View
 pub mod Actions
+pub mod Growth

@@ -1,13 +1,10 @@
 //! The entries of rows.
 
 ghost use Rattle.std.specs.Prelude.{◌≡◌, ◌≤◌, ◌<◌, ◌+◌, ◌-◌, ◌∷◌, [], All, IfOk, OnOk, length, map};
-ghost use Rattle.pg_value.specs.Order.{IsOfFamily};
-ghost use Rattle.opfamily.specs.KeyOrder.{key_family};
-ghost use Rattle.btree_index.specs.Tree.{IsEntryOf};
 ghost use Rattle.catalog.specs.Entries.{index_of};
 ghost use Rattle.catalog.specs.Indexes.{IsLawfulIndex};
 ghost use Rattle.plan_tree.specs.Entries.{cell};
-ghost use Rattle.store.specs.Kept.{first_key, found, held_of};
+ghost use Rattle.store.specs.Kept.{AreIndexEntries, AreOfKeyFamily, found, held_of};
 
 use crate::rows::passes;
 use btree_index::Entry;
@@ -31,7 +28,7 @@ pub(crate) fn entries_from<C: Counters>(
     requires from { from ≤ length heap.now.rows }
     requires lawful { IsLawfulIndex heap.now.columns (index_of def.now) }
     ensures entries { IfOk result (λ es. es.items ≡ found (index_of def.now) heap.now.rows from) }
-    ensures fits { IfOk result (λ es. All (IsEntryOf (index_of def.now).keys (index_of def.now).include) es.items) }
+    ensures fits { IfOk result (λ es. AreIndexEntries (index_of def.now) es.items) }
     ensures looks { OnOk result (looks.new ≡ looks.old + (length heap.now.rows - from)) }
     ensures fewer { looks.new ≤ looks.old + (length heap.now.rows - from) }
 {
@@ -59,8 +56,9 @@ pub(crate) fn hashed_from<C: Counters>(
 ) -> Result<Vec<HeldRow>, Memory>
     requires from { from ≤ length heap.now.rows }
     requires lawful { IsLawfulIndex heap.now.columns (index_of def.now) }
-    ensures entries { IfOk result (λ rs. rs.items ≡ map held_of (found (index_of def.now) heap.now.rows from)) }
-    ensures fits { IfOk result (λ rs. All (λ h. IsOfFamily (key_family (first_key (index_of def.now).keys)) h.value) rs.items) }
+    ensures entries { IfOk result (λ rs.
+        rs.items ≡ map held_of (found (index_of def.now) heap.now.rows from)) }
+    ensures fits { IfOk result (λ rs. AreOfKeyFamily (index_of def.now) rs.items) }
     ensures looks { OnOk result (looks.new ≡ looks.old + (length heap.now.rows - from)) }
     ensures fewer { looks.new ≤ looks.old + (length heap.now.rows - from) }
 {

@@ -1,9 +1,8 @@
 //! Statistics of a table, found by its rows.
 
-ghost use Rattle.std.specs.Prelude.{◌≡◌, ◌≤◌, ◌+◌, OnErr, OnOk, length};
+ghost use Rattle.std.specs.Prelude.{◌≡◌, ◌≤◌, ◌+◌, OnErr, OnOk};
 ghost use Rattle.catalog.specs.Contents.{IsTable};
-ghost use Rattle.sql_query.specs.Worlds.{world};
-ghost use Rattle.store.specs.Kept.{IsStoreOf, stored_of};
+ghost use Rattle.store.specs.Kept.{IsStoreOf, row_count};
 ghost use Rattle.store.specs.Actions as actions;
 
 use crate::Store;
@@ -24,11 +23,12 @@ pub fn gather<C: Counters>(
 ) -> Result<(), Memory>
     requires store { IsStoreOf catalog.old store.now }
     requires table { IsTable catalog.old table }
-    ensures gathered { OnOk result (world catalog.new store.now.stored ≡ actions.after (world catalog.old store.now.stored) (actions.gather table)) }
+    ensures gathered { OnOk result
+        (actions.IsWorldAfter (actions.gather table) catalog.old store.now catalog.new store.now) }
     ensures store { IsStoreOf catalog.new store.now }
     ensures unchanged { OnErr result (catalog.new ≡ catalog.old) }
-    ensures looks { OnOk result (reads.new ≡ reads.old + length (stored_of store.now table).rows) }
-    ensures fewer { reads.new ≤ reads.old + length (stored_of store.now table).rows }
+    ensures looks { OnOk result (reads.new ≡ reads.old + row_count store.now table) }
+    ensures fewer { reads.new ≤ reads.old + row_count store.now table }
 {
     let found = analyze_table(alloc, store.heap(table), reads)?;
     if catalog.replace_stats(table, found).is_err() {

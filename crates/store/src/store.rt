@@ -1,12 +1,11 @@
 //! The store of a catalogue.
 
-ghost use Rattle.std.specs.Prelude.{◌≡◌, ◌≢◌, ◌⊎◌, ◌≤◌, ◌<◌, ◌+◌, ◌-◌, ◌*◌, Err, IfErr, IfOk, Ok, OnErr, OnOk, Some, length, map, slice_get, slice_index_or, slice_set};
-ghost use Rattle.catalog.specs.Contents.{IsLastIndex, IsTable, index_at, indexes_before, indexes_of, table_at, with_loaded};
-ghost use Rattle.heap.specs.Loading.{NamesColumnOf, loaded, records_of};
-ghost use Rattle.heap.specs.Stored.{Stored};
-ghost use Rattle.sql_query.specs.Worlds.{nothing_stored};
-ghost use Rattle.store.specs.Kept.{IsStoreOf, built_over, cut_back, first_rows, load_looks, nothing_kept, stored_of, with_heap};
+ghost use Rattle.std.specs.Prelude.{◌≡◌, ◌≢◌, ◌≤◌, ◌<◌, ◌+◌, ◌-◌, ◌*◌, Err, IfErr, IfOk, Ok, OnErr, OnOk, Some, length, map, slice_get, slice_set};
+ghost use Rattle.catalog.specs.Contents.{IsLastIndex, IsTable, indexes_before, with_loaded};
+ghost use Rattle.heap.specs.Loading.{NamesColumnOf};
+ghost use Rattle.store.specs.Kept.{IsStoreOf, IsWithinLoad, cut_back, index_count, indexed_rows, loaded_block, nothing_kept, row_count, stored_of, with_heap};
 ghost use Rattle.store.specs.View.{built};
+ghost use Rattle.store.specs.Growth.{built_with, built_without, grown_rows, grown_table, growth_looks};
 
 use crate::built::BuiltIndex;
 use catalog::Catalog;
@@ -76,8 +75,8 @@ impl<C: Counters> Store<C> {
         ensures store { OnOk result (IsStoreOf cat.now self.new) }
         ensures stored { self.new.stored ≡ self.old.stored }
         ensures refused { OnErr result (self.new ≡ self.old) }
-        ensures looks { OnOk result (looks.new ≡ looks.old + length (stored_of self.old (index_at cat.now i).table).rows) }
-        ensures fewer { looks.new ≤ looks.old + length (stored_of self.old (index_at cat.now i).table).rows }
+        ensures looks { OnOk result (looks.new ≡ looks.old + indexed_rows cat.now self.old i) }
+        ensures fewer { looks.new ≤ looks.old + indexed_rows cat.now self.old i }
     {
         let def = cat.index(i);
         let heap = self.heaps.get(def.table);
@@ -97,16 +96,19 @@ impl<C: Counters> Store<C> {
     ) -> Result<u32, CopyFault>
         requires table { IsTable cat.now t }
         requires store { IsStoreOf cat.now self.old }
-        ensures rows { OnOk result (loaded (stored_of self.old t) (records_of block.now) ≡ Ok (stored_of self.new t)) }
+        ensures rows { OnOk result (loaded_block self.old t block.now ≡ Ok (stored_of self.new t)) }
         ensures others { self.new.stored ≡ slice_set self.old.stored t.0 (stored_of self.new t) }
-        ensures count { IfOk result (λ n. length (stored_of self.new t).rows ≡ length (stored_of self.old t).rows + n) }
-        ensures store { OnOk result (IsStoreOf (with_loaded cat.now t (length (stored_of self.new t).rows)) self.new) }
-        ensures fault { IfErr result (λ e. e ≢ CopyFault.Memory → loaded (stored_of self.old t) (records_of block.now) ≡ Err e) }
+        ensures count { IfOk result (λ n. row_count self.new t ≡ row_count self.old t + n) }
+        ensures store { OnOk result
+            (IsStoreOf (with_loaded cat.now t (row_count self.new t)) self.new) }
+        ensures fault { IfErr result (λ e.
+            e ≢ CopyFault.Memory → loaded_block self.old t block.now ≡ Err e) }
         ensures field { IfErr result (NamesColumnOf (stored_of self.old t).columns) }
         ensures refused { OnErr result (self.new ≡ self.old) }
-        ensures looks { IfOk result (λ n. looks.new ≡ looks.old + length (indexes_of cat.now t) * n) }
+        ensures looks { IfOk result (λ n. looks.new ≡ looks.old + index_count cat.now t * n) }
         ensures unread { IfErr result (λ e. e ≢ CopyFault.Memory → looks.new ≡ looks.old) }
-        ensures fewer { OnErr result ((looks.new ≡ looks.old) ⊎ ((s : Stored) × (loaded (stored_of self.old t) (records_of block.now) ≡ Ok s) × (looks.new ≤ looks.old + load_looks cat.now t (stored_of self.old t) s))) }
+        ensures fewer { OnErr result
+            (IsWithinLoad cat.now self.old t block.now looks.old looks.new) }
     {
         let before = self.heaps.get(t).len();
         let count = self.heaps.get_mut(t).load(block)?;
@@ -165,13 +167,13 @@ fn grow<C: Counters>(
     looks: &mut Steps<C::Looks>,
 ) -> Result<(), Memory>
     requires table { rows.now.table.0 < length rows.now.heaps.now }
-    requires columns { (slice_index_or rows.now.heaps.now rows.now.table.0 nothing_stored).columns ≡ (table_at rows.now.cat.now rows.now.table).columns }
-    requires before { rows.now.before ≤ length (slice_index_or rows.now.heaps.now rows.now.table.0 nothing_stored).rows }
-    requires built { map built indexes.old.items ≡ map (built_over (first_rows rows.now.before rows.now.table rows.now.heaps.now)) rows.now.cat.now.indexes }
-    ensures built { OnOk result (map built indexes.new.items ≡ map (built_over rows.now.heaps.now) rows.now.cat.now.indexes) }
+    requires columns { (grown_rows rows.now).columns ≡ (grown_table rows.now).columns }
+    requires before { rows.now.before ≤ length (grown_rows rows.now).rows }
+    requires built { map built indexes.old.items ≡ built_without rows.now }
+    ensures built { OnOk result (map built indexes.new.items ≡ built_with rows.now) }
     ensures refused { OnErr result (map built indexes.new.items ≡ map built indexes.old.items) }
-    ensures looks { OnOk result (looks.new ≡ looks.old + length (indexes_of rows.now.cat.now rows.now.table) * (length (slice_index_or rows.now.heaps.now rows.now.table.0 nothing_stored).rows - rows.now.before)) }
-    ensures fewer { looks.new ≤ looks.old + length (indexes_of rows.now.cat.now rows.now.table) * (length (slice_index_or rows.now.heaps.now rows.now.table.0 nothing_stored).rows - rows.now.before) }
+    ensures looks { OnOk result (looks.new ≡ looks.old + growth_looks rows.now) }
+    ensures fewer { looks.new ≤ looks.old + growth_looks rows.now }
 {
     rows.cat.lawful();
     for n in 0..indexes.len() {
@@ -195,7 +197,8 @@ fn grow<C: Counters>(
 /// Takes the rows of a table from number `before` on out of its indexes.
 fn shrink<C: Counters>(cat: &Catalog, t: TableNo, before: u32, indexes: &mut Vec<BuiltIndex<C>>)
     requires { length indexes.old.items ≡ length cat.now.indexes }
-    ensures { map built indexes.new.items ≡ cut_back t before cat.now.indexes (map built indexes.old.items) }
+    ensures { map built indexes.new.items ≡
+        cut_back t before cat.now.indexes (map built indexes.old.items) }
 {
     cat.lawful();
     for n in 0..indexes.len() {

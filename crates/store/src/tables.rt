@@ -1,14 +1,13 @@
 //! Tables and indexes: their definitions in the catalogue, and beside them the store with the rows and the built indexes.
 
-ghost use Rattle.std.specs.Prelude.{◌≡◌, ◌≢◌, ◌⊎◌, ◌≤◌, ◌+◌, All, IfErr, Ok, Err, OnErr, OnOk, length};
+ghost use Rattle.std.specs.Prelude.{◌≡◌, ◌≢◌, ◌≤◌, ◌+◌, All, IfErr, Ok, Err, OnErr, OnOk, length};
 ghost use Rattle.catalog.specs.Contents.{IsTable, table_at};
 ghost use Rattle.catalog.specs.Entries.{index_of};
 ghost use Rattle.pg_base.specs.Names.{IsName};
 ghost use Rattle.catalog.specs.Tables.{Fits, IsAcceptable, IsAcceptableIndex, IsIndexRefusal, IsRefusal};
-ghost use Rattle.heap.specs.Loading.{NamesColumnOf, loaded, records_of};
+ghost use Rattle.heap.specs.Loading.{NamesColumnOf};
 ghost use Rattle.heap.specs.Stored.{Stored};
-ghost use Rattle.sql_query.specs.Worlds.{stored_at, world};
-ghost use Rattle.store.specs.Kept.{IsStoreOf, load_looks, stored_of};
+ghost use Rattle.store.specs.Kept.{IsStoreOf, IsWithinLoad, load_looks, loaded_block, row_count, stored_of};
 ghost use Rattle.store.specs.Actions as actions;
 
 use crate::Store;
@@ -32,9 +31,12 @@ pub fn make<C: Counters>(
     requires name { IsName name }
     requires names { All IsName names.items }
     ensures accepted { OnOk result (IsAcceptable catalog.old name names.items) }
-    ensures made { OnOk result (world catalog.new store.new.stored ≡ actions.after (world catalog.old store.old.stored) (actions.make name names.items columns)) }
+    ensures made { OnOk result
+        (actions.IsWorldAfter (actions.make name names.items columns)
+        catalog.old store.old catalog.new store.new) }
     ensures store { IsStoreOf catalog.new store.new }
-    ensures cause { IfErr result (λ e. e ≢ CatalogFault.Memory → IsRefusal catalog.old name names.items e) }
+    ensures cause { IfErr result (λ e.
+        e ≢ CatalogFault.Memory → IsRefusal catalog.old name names.items e) }
     ensures unchanged { OnErr result ((catalog.new ≡ catalog.old) × (store.new ≡ store.old)) }
 {
     catalog.lawful();
@@ -60,11 +62,13 @@ pub fn build<C: Counters>(
     requires name { IsName name }
     requires fits { Fits catalog.old (index_of def) }
     ensures accepted { OnOk result (IsAcceptableIndex catalog.old name (index_of def)) }
-    ensures built { OnOk result (world catalog.new store.new.stored ≡ actions.after (world catalog.old store.old.stored) (actions.build name (index_of def))) }
+    ensures built { OnOk result
+        (actions.IsWorldAfter (actions.build name (index_of def))
+        catalog.old store.old catalog.new store.new) }
     ensures store { IsStoreOf catalog.new store.new }
     ensures cause { IfErr result (IsIndexRefusal catalog.old name (index_of def)) }
     ensures unchanged { OnErr result ((catalog.new ≡ catalog.old) × (store.new ≡ store.old)) }
-    ensures looks { reads.new ≤ reads.old + length (stored_of store.old (index_of def).table).rows }
+    ensures looks { reads.new ≤ reads.old + row_count store.old (index_of def).table }
     ensures unread { IfErr result (λ e. e ≢ CatalogFault.Memory → reads.new ≡ reads.old) }
 {
     let index = catalog.add_index(name, def)?;
@@ -85,13 +89,17 @@ pub fn fill<C: Counters>(
 ) -> Result<(), CopyFault>
     requires store { IsStoreOf catalog.old store.old }
     requires table { IsTable catalog.old table }
-    ensures filled { OnOk result ((s : Stored) × (loaded (stored_at (world catalog.old store.old.stored) table) (records_of block.now) ≡ Ok s) × (world catalog.new store.new.stored ≡ actions.after (world catalog.old store.old.stored) (actions.fill table s)) × (reads.new ≡ reads.old + load_looks catalog.old table (stored_of store.old table) s)) }
+    ensures filled { OnOk result ((s : Stored) × (loaded_block store.old table block.now ≡ Ok s) ×
+        actions.IsWorldAfter (actions.fill table s) catalog.old store.old catalog.new store.new ×
+        (reads.new ≡ reads.old + load_looks catalog.old table (stored_of store.old table) s)) }
     ensures store { IsStoreOf catalog.new store.new }
-    ensures fault { IfErr result (λ e. e ≢ CopyFault.Memory → loaded (stored_at (world catalog.old store.old.stored) table) (records_of block.now) ≡ Err e) }
+    ensures fault { IfErr result (λ e.
+        e ≢ CopyFault.Memory → loaded_block store.old table block.now ≡ Err e) }
     ensures field { IfErr result (NamesColumnOf (table_at catalog.old table).columns) }
     ensures unchanged { OnErr result ((catalog.new ≡ catalog.old) × (store.new ≡ store.old)) }
     ensures unread { IfErr result (λ e. e ≢ CopyFault.Memory → reads.new ≡ reads.old) }
-    ensures fewer { OnErr result ((reads.new ≡ reads.old) ⊎ ((s : Stored) × (loaded (stored_at (world catalog.old store.old.stored) table) (records_of block.now) ≡ Ok s) × (reads.new ≤ reads.old + load_looks catalog.old table (stored_of store.old table) s))) }
+    ensures fewer { OnErr result
+        (IsWithinLoad catalog.old store.old table block.now reads.old reads.new) }
 {
     store.load(catalog, table, block, reads)?;
     let rows = store.heap(table).len();

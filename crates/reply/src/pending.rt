@@ -37,7 +37,8 @@ impl Page {
 /// Puts these bytes behind the pending ones, and writes all that is pending once it is enough. Where out fails, or memory is wanted,
 /// out has a prefix of the pending bytes and these.
 pub fn put<K: Sink>(out: &mut K, pending: &mut Vec<u8>, bytes: &[u8]) -> Result<(), Broken>
-    ensures puts { Puts (K.held out.old) (K.held out.new) pending.old.items pending.new.items result bytes.now }
+    ensures puts { Puts (K.held out.old) (K.held out.new)
+        pending.old.items pending.new.items result bytes.now }
     ensures cause { HasWriteCause Write (K.faults out.old) (K.faults out.new) result }
 {
     pending.extend_from_slice(bytes)?;

@@ -1,20 +1,19 @@
 //! The reply to a query, written to out.
 
-ghost use Rattle.std.specs.Prelude.{◌≡◌, ◌+◌, ◌≤◌, ◌++◌, All, IfErr, OnErr, OnOk, length};
+ghost use Rattle.std.specs.Prelude.{◌≡◌, ◌+◌, ◌≤◌, ◌++◌, All, IfErr, OnErr, OnOk};
 ghost use Rattle.std.specs.Io.KnownBytes.{Appends};
 ghost use Rattle.pg_base.specs.Writing.{AppendsPrefix};
-ghost use Rattle.sql_query.specs.Meaning.{windowed};
 ghost use Rattle.sql_query.specs.WellBound.{IsWellBound};
 ghost use Rattle.sql_query.specs.Worlds.{world};
 ghost use Rattle.executor.specs.store_Kept.{IsStoreOf};
 ghost use Rattle.plan_tree.specs.Least.{IsBestPlan};
 ghost use Rattle.plan_tree.specs.Paths.{IsFinishedPath};
 ghost use Rattle.plan_tree.specs.Views.{path};
-ghost use Rattle.reply.specs.Answers.{HasNoPlan, result_text};
-ghost use Rattle.reply.specs.Effort.{HasRisen, fetched_by, last_in, looked_by};
+ghost use Rattle.reply.specs.Answers.{HasNoPlan};
+ghost use Rattle.reply.specs.Effort.{HasRisen};
 ghost use Rattle.reply.specs.Putting.{HasWriteCause};
-ghost use Rattle.reply.specs.Replies.{HasBegun, HasReplied, IsAnswerTo, IsExplanationOf, Leaves, traces};
-ghost use Rattle.reply.specs.Settings.{IsSetting, world_of};
+ghost use Rattle.reply.specs.Replies.{HasBegun, HasBegunPrinting, HasPrinted, HasReplied, IsAnswerTo, IsExplanationOf, Leaves, LeavesPrinted, traces};
+ghost use Rattle.reply.specs.Settings.{IsSetting, result_shown, window_fetches, window_looks, world_of};
 ghost use Rattle.executor.specs.Numbers.{IsTupleOf};
 
 use crate::best::best_path;
@@ -57,8 +56,13 @@ pub fn answer<C: Counters, K: Sink>(
 ) -> Result<(), Stop>
     requires bound { IsWellBound cat.now q.now }
     requires store { IsStoreOf cat.now store.now }
-    ensures answered { OnOk result (HasReplied (IsAnswerTo (world cat.now store.now.stored) q.now) (traces (K.held out.old) fetches.old reads.old) (traces (K.held out.new) fetches.new reads.new)) }
-    ensures stopped { IfErr result (λ stop. Leaves stop (IsAnswerTo (world cat.now store.now.stored) q.now) (traces (K.held out.old) fetches.old reads.old) (traces (K.held out.new) fetches.new reads.new)) }
+    ensures answered { OnOk result (HasReplied (IsAnswerTo (world cat.now store.now.stored) q.now)
+        (traces (K.held out.old) fetches.old reads.old)
+        (traces (K.held out.new) fetches.new reads.new)) }
+    ensures stopped { IfErr result (λ stop.
+        Leaves stop (IsAnswerTo (world cat.now store.now.stored) q.now)
+        (traces (K.held out.old) fetches.old reads.old)
+        (traces (K.held out.new) fetches.new reads.new)) }
     ensures no_plan { IfErr result (λ stop. stop ≡ Stop.NoPlan → HasNoPlan cat.now q.now) }
     ensures cause { HasWriteCause Stop.Write (K.faults out.old) (K.faults out.new) result }
 {
@@ -83,8 +87,10 @@ pub fn explain_query<K: Sink>(
     out: &mut K,
 ) -> Result<(), Stop>
     requires bound { IsWellBound cat.now q.now }
-    ensures explained { OnOk result (HasReplied (IsExplanationOf cat.now q.now) (traces (K.held out.old) 0 0) (traces (K.held out.new) 0 0)) }
-    ensures stopped { IfErr result (λ stop. Leaves stop (IsExplanationOf cat.now q.now) (traces (K.held out.old) 0 0) (traces (K.held out.new) 0 0)) }
+    ensures explained { OnOk result
+        (HasPrinted (IsExplanationOf cat.now q.now) (K.held out.old) (K.held out.new)) }
+    ensures stopped { IfErr result (λ stop.
+        LeavesPrinted stop (IsExplanationOf cat.now q.now) (K.held out.old) (K.held out.new)) }
     ensures no_plan { IfErr result (λ stop. stop ≡ Stop.NoPlan → HasNoPlan cat.now q.now) }
     ensures cause { HasWriteCause Stop.Write (K.faults out.old) (K.faults out.new) result }
 {
@@ -104,8 +110,12 @@ fn answer_by<C: Counters, K: Sink>(
     requires setting { IsSetting at.now }
     requires finished { IsFinishedPath at.now.cat.now at.now.q.now (path best.now) }
     requires best { IsBestPlan at.now.cat.now at.now.q.now (path best.now).tree }
-    ensures ok { OnOk result (HasReplied (IsAnswerTo (world_of at.now) at.now.q.now) (traces (K.held out.old) fetches.old reads.old) (traces (K.held out.new) fetches.new reads.new)) }
-    ensures err { OnErr result (HasBegun (IsAnswerTo (world_of at.now) at.now.q.now) (traces (K.held out.old) fetches.old reads.old) (traces (K.held out.new) fetches.new reads.new)) }
+    ensures ok { OnOk result (HasReplied (IsAnswerTo (world_of at.now) at.now.q.now)
+        (traces (K.held out.old) fetches.old reads.old)
+        (traces (K.held out.new) fetches.new reads.new)) }
+    ensures err { OnErr result (HasBegun (IsAnswerTo (world_of at.now) at.now.q.now)
+        (traces (K.held out.old) fetches.old reads.old)
+        (traces (K.held out.new) fetches.new reads.new)) }
     ensures cause { HasWriteCause Broken.Write (K.faults out.old) (K.faults out.new) result }
 {
     plans_give_their_tuples();
@@ -129,12 +139,15 @@ pub fn put_result<C: Counters, K: Sink>(
 ) -> Result<(), Broken>
     requires setting { IsSetting at.now }
     requires tuples { All (IsTupleOf (world_of at.now) at.now.q.now) rows.old.left }
-    ensures ok { OnOk result (Appends (K.held out.old) (K.held out.new) (text.now ++ result_text (world_of at.now) at.now.q.now (windowed at.now.q.now.window rows.old.left))) }
-    ensures err { OnErr result (AppendsPrefix (K.held out.old) (K.held out.new) (text.now ++ result_text (world_of at.now) at.now.q.now (windowed at.now.q.now.window rows.old.left))) }
+    ensures ok { OnOk result (Appends (K.held out.old) (K.held out.new)
+        (text.now ++ result_shown at.now rows.old.left)) }
+    ensures err { OnErr result (AppendsPrefix (K.held out.old) (K.held out.new)
+        (text.now ++ result_shown at.now rows.old.left)) }
     ensures cause { HasWriteCause Broken.Write (K.faults out.old) (K.faults out.new) result }
-    ensures fetches { OnOk result (HasRisen (fetched_by (last_in at.now.q.now.window) (length rows.old.left) rows.old.owed rows.old.one rows.old.coming) fetches.old fetches.new) }
-    ensures fewer { fetches.new ≤ fetches.old + (fetched_by (last_in at.now.q.now.window) (length rows.old.left) rows.old.owed rows.old.one rows.old.coming).most }
-    ensures reads { reads.new ≤ reads.old + looked_by (last_in at.now.q.now.window) rows.old.allowed (length (windowed at.now.q.now.window rows.old.left)) }
+    ensures fetches { OnOk result
+        (HasRisen (window_fetches at.now rows.old) fetches.old fetches.new) }
+    ensures fewer { fetches.new ≤ fetches.old + (window_fetches at.now rows.old).most }
+    ensures reads { reads.new ≤ reads.old + window_looks at.now rows.old }
 {
     let mut page = Page::new(at.alloc, text)?;
     let count = put_window(at, rows, out, &mut page, fetches, reads)?;
@@ -154,8 +167,10 @@ fn explain_by<K: Sink>(
     requires bound { IsWellBound cat.now q.now }
     requires finished { IsFinishedPath cat.now q.now (path best.now) }
     requires best { IsBestPlan cat.now q.now (path best.now).tree }
-    ensures ok { OnOk result (HasReplied (IsExplanationOf cat.now q.now) (traces (K.held out.old) 0 0) (traces (K.held out.new) 0 0)) }
-    ensures err { OnErr result (HasBegun (IsExplanationOf cat.now q.now) (traces (K.held out.old) 0 0) (traces (K.held out.new) 0 0)) }
+    ensures ok { OnOk result
+        (HasPrinted (IsExplanationOf cat.now q.now) (K.held out.old) (K.held out.new)) }
+    ensures err { OnErr result
+        (HasBegunPrinting (IsExplanationOf cat.now q.now) (K.held out.old) (K.held out.new)) }
     ensures cause { HasWriteCause Broken.Write (K.faults out.old) (K.faults out.new) result }
 {
     let text = shown_text(alloc, cat, q, best)?;

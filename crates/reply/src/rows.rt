@@ -2,15 +2,13 @@
 
 ghost use Rattle.std.specs.Prelude.{◌≡◌, ◌+◌, ◌*◌, ◌≤◌, All, IfOk, OnOk, Some, length, map};
 ghost use Rattle.reply_text.specs.Texts.{row_line};
-ghost use Rattle.sql_query.specs.Meaning.{shown, up_to, windowed};
 ghost use Rattle.sql_query.specs.Queries.{width};
 ghost use Rattle.plan_tree.specs.Counts.{MOST_READS};
 ghost use Rattle.executor.specs.Numbers.{IsTupleOf, numbers};
-ghost use Rattle.reply.specs.Answers.{tuples_text};
 ghost use Rattle.reply.specs.Drawing.{Draws, drawn_by};
-ghost use Rattle.reply.specs.Effort.{HasRisen, fetched_by, last_in, limit_in, looked_by};
+ghost use Rattle.reply.specs.Effort.{HasRisen, limit_in};
 ghost use Rattle.reply.specs.Putting.{HasWriteCause, Puts};
-ghost use Rattle.reply.specs.Settings.{IsSetting, world_of};
+ghost use Rattle.reply.specs.Settings.{IsSetting, let_through, line_shown, lines_shown, up_to_limit, window_fetches, window_looks, world_of};
 ghost use Rattle.reply.specs.Showing.{HasColumn, cell_of, rows_at};
 ghost use Rattle.reply.specs.declared.stop.Broken.TheVariants.{Write};
 
@@ -38,12 +36,15 @@ pub(crate) fn put_window<C: Counters, K: Sink>(
 ) -> Result<u64, Broken>
     requires setting { IsSetting at.now }
     requires tuples { All (IsTupleOf (world_of at.now) at.now.q.now) rows.old.left }
-    ensures puts { Puts (K.held out.old) (K.held out.new) page.old.pending.items page.new.pending.items result (tuples_text (world_of at.now) at.now.q.now (windowed at.now.q.now.window rows.old.left)) }
-    ensures count { IfOk result (λ n. n ≡ length (windowed at.now.q.now.window rows.old.left)) }
+    ensures puts { Puts (K.held out.old) (K.held out.new)
+        page.old.pending.items page.new.pending.items result
+        (lines_shown at.now (let_through at.now rows.old.left)) }
+    ensures count { IfOk result (λ n. n ≡ length (let_through at.now rows.old.left)) }
     ensures cause { HasWriteCause Write (K.faults out.old) (K.faults out.new) result }
-    ensures fetches { OnOk result (HasRisen (fetched_by (last_in at.now.q.now.window) (length rows.old.left) rows.old.owed rows.old.one rows.old.coming) fetches.old fetches.new) }
-    ensures fewer { fetches.new ≤ fetches.old + (fetched_by (last_in at.now.q.now.window) (length rows.old.left) rows.old.owed rows.old.one rows.old.coming).most }
-    ensures reads { reads.new ≤ reads.old + looked_by (last_in at.now.q.now.window) rows.old.allowed (length (windowed at.now.q.now.window rows.old.left)) }
+    ensures fetches { OnOk result
+        (HasRisen (window_fetches at.now rows.old) fetches.old fetches.new) }
+    ensures fewer { fetches.new ≤ fetches.old + (window_fetches at.now rows.old).most }
+    ensures reads { reads.new ≤ reads.old + window_looks at.now rows.old }
 {
     pass_over(rows, offset_of(at.q), fetches, reads)?;
     put_rows(at, rows, out, page, fetches, reads)
@@ -61,13 +62,18 @@ fn put_rows<C: Counters, K: Sink>(
 ) -> Result<u64, Broken>
     requires setting { IsSetting at.now }
     requires tuples { All (IsTupleOf (world_of at.now) at.now.q.now) rows.old.left }
-    ensures puts { Puts (K.held out.old) (K.held out.new) page.old.pending.items page.new.pending.items result (tuples_text (world_of at.now) at.now.q.now (up_to (limit_in at.now.q.now.window) rows.old.left)) }
-    ensures count { IfOk result (λ n. n ≡ length (up_to (limit_in at.now.q.now.window) rows.old.left)) }
+    ensures puts { Puts (K.held out.old) (K.held out.new)
+        page.old.pending.items page.new.pending.items result
+        (lines_shown at.now (up_to_limit at.now rows.old.left)) }
+    ensures count { IfOk result (λ n. n ≡ length (up_to_limit at.now rows.old.left)) }
     ensures cause { HasWriteCause Write (K.faults out.old) (K.faults out.new) result }
-    ensures drawn { OnOk result (Draws (drawn_by (limit_in at.now.q.now.window) rows.old.left) rows.old rows.new fetches.old fetches.new) }
+    ensures drawn { OnOk result (Draws (drawn_by (limit_in at.now.q.now.window) rows.old.left)
+        rows.old rows.new fetches.old fetches.new) }
     ensures fewer { fetches.new ≤ fetches.old + rows.old.owed }
-    ensures reads { reads.new ≤ reads.old + (rows.old.allowed + MOST_READS * length (up_to (limit_in at.now.q.now.window) rows.old.left)) }
-    ensures idle { limit_in at.now.q.now.window ≡ Some 0 → (fetches.new ≡ fetches.old) × (reads.new ≡ reads.old) }
+    ensures reads { reads.new ≤ reads.old +
+        (rows.old.allowed + MOST_READS * length (up_to_limit at.now rows.old.left)) }
+    ensures idle { limit_in at.now.q.now.window ≡ Some 0 →
+        (fetches.new ≡ fetches.old) × (reads.new ≡ reads.old) }
 {
     let mut count: u64 = 0;
     'drawn: while is_wanted(at.q, count) {
@@ -102,7 +108,9 @@ fn put_row<C: Counters, K: Sink>(
 ) -> Result<(), Broken>
     requires setting { IsSetting at.now }
     requires tuple { IsTupleOf (world_of at.now) at.now.q.now (numbers tuple.now) }
-    ensures puts { Puts (K.held out.old) (K.held out.new) page.old.pending.items page.new.pending.items result (row_line (shown (world_of at.now) at.now.q.now (numbers tuple.now))) }
+    ensures puts { Puts (K.held out.old) (K.held out.new)
+        page.old.pending.items page.new.pending.items result
+        (line_shown at.now (numbers tuple.now)) }
     ensures cause { HasWriteCause Write (K.faults out.old) (K.faults out.new) result }
     ensures reads { reads.new ≤ reads.old + MOST_READS }
 {
@@ -119,7 +127,7 @@ fn tuple_line<'a, C: Counters>(
 ) -> Result<&'a [u8], Memory>
     requires setting { IsSetting at.now }
     requires tuple { IsTupleOf (world_of at.now) at.now.q.now (numbers tuple.now) }
-    ensures line { IfOk result (λ line. line.now ≡ row_line (shown (world_of at.now) at.now.q.now (numbers tuple.now))) }
+    ensures line { IfOk result (λ line. line.now ≡ line_shown at.now (numbers tuple.now)) }
     ensures reads { reads.new ≤ reads.old + MOST_READS }
 {
     selected_columns();
@@ -136,7 +144,8 @@ pub fn rows_at<'a, C: Counters>(
 ) -> Result<Vec<Row<'a>>, Memory>
     requires setting { IsSetting at.now }
     requires tuple { IsTupleOf (world_of at.now) at.now.q.now (numbers tuple.now) }
-    ensures rows { IfOk result (λ rows. map (λ r. r.now) rows.items ≡ rows_at (world_of at.now) at.now.q.now (numbers tuple.now)) }
+    ensures rows { IfOk result (λ rows.
+        map (λ r. r.now) rows.items ≡ rows_at (world_of at.now) at.now.q.now (numbers tuple.now)) }
     ensures reads { reads.new ≤ reads.old + width at.now.q.now }
 {
     let mut rows = Vec::new(at.alloc);
@@ -157,7 +166,8 @@ fn shown_line<'a>(
     lines: &'a mut Lines,
 ) -> Result<&'a [u8], Memory>
     requires { All (HasColumn (map (λ r. r.now) rows.now)) columns.now }
-    ensures { IfOk result (λ line. line.now ≡ row_line (map (cell_of (map (λ r. r.now) rows.now)) columns.now)) }
+    ensures { IfOk result (λ line.
+        line.now ≡ row_line (map (cell_of (map (λ r. r.now) rows.now)) columns.now)) }
 {
     let mut values = Vec::new(alloc);
     for column in columns {

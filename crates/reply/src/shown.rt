@@ -39,7 +39,8 @@ pub(crate) fn shown_text(
     requires bound { IsWellBound cat.now q.now }
     requires finished { IsFinishedPath cat.now q.now (path best.now) }
     requires admissible { IsAdmissible cat.now q.now (path best.now).tree }
-    ensures { IfOk result (λ text. text.items ≡ explained_text cat.now q.now (path best.now).tree) }
+    ensures { IfOk result (λ text.
+        text.items ≡ explained_text cat.now q.now (path best.now).tree) }
 {
     let mut text = window_text(alloc, cat, q, best)?;
     let lines = plan_text(alloc, cat, q, best)?;

@@ -41,7 +41,8 @@ fn add_front<'a>(
     s: RelSet,
     p: RelSet,
 ) -> Result<(), Memory>
-    ensures added { OnOk result (shown listed.new.items ≡ shown listed.old.items ++ paths_at table.now s p) }
+    ensures added { OnOk result
+        (shown listed.new.items ≡ shown listed.old.items ++ paths_at table.now s p) }
     ensures unrelated { AreUnrelated (paths_at table.now s p) }
 {
     add_paths(listed, front_paths(table, s, p))
@@ -50,7 +51,8 @@ fn add_front<'a>(
 /// The paths of each set up to that of all relations, where they are given no rows. The error means want of memory.
 fn whole_sets<'a>(alloc: Global, table: &'a Table, all: RelSet) -> Result<Vec<&'a Path>, Memory>
     requires places { StandAtTheirs (paths_at table.now) }
-    ensures { IfOk result (λ listed. AreGathered (IsWholeBelow (all.0 + 1)) (paths_at table.now) (shown listed.items)) }
+    ensures { IfOk result (λ listed.
+        AreGathered (IsWholeBelow (all.0 + 1)) (paths_at table.now) (shown listed.items)) }
 {
     let mut listed = Vec::new(alloc);
     for bits in 0..all.0 as u32 + 1 {
@@ -69,8 +71,10 @@ fn add_given<'a>(
 ) -> Result<(), Memory>
     requires places { StandAtTheirs (paths_at table.now) }
     requires set { IsSameSet (has s.0) (one r.0) }
-    requires before { AreGathered (IsBelow all.0 r.0) (paths_at table.now) (shown listed.old.items) }
-    ensures { OnOk result (AreGathered (IsBelow all.0 (r.0 + 1)) (paths_at table.now) (shown listed.new.items)) }
+    requires before { AreGathered (IsBelow all.0 r.0) (paths_at table.now)
+        (shown listed.old.items) }
+    ensures { OnOk result
+        (AreGathered (IsBelow all.0 (r.0 + 1)) (paths_at table.now) (shown listed.new.items)) }
 {
     for bits in 1..all.0 as u32 + 1 {
         add_front(listed, table, s, RelSet(bits as u16))?;
@@ -87,7 +91,8 @@ pub(crate) fn gathered<'a>(
 ) -> Result<Vec<&'a Path>, Memory>
     requires places { StandAtTheirs (paths_at table.now) }
     requires few { relations ≤ 16 }
-    ensures { IfOk result (λ listed. AreGathered (IsBelow all.0 relations) (paths_at table.now) (shown listed.items)) }
+    ensures { IfOk result (λ listed.
+        AreGathered (IsBelow all.0 relations) (paths_at table.now) (shown listed.items)) }
 {
     let mut listed = whole_sets(alloc, table, all)?;
     for r in 0..relations {

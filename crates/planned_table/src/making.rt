@@ -11,9 +11,9 @@ ghost use Rattle.plan_check.specs.Certificates.{plan_at, plan_by};
 ghost use Rattle.plan_check.specs.Limit.{MOST_ENTRIES};
 ghost use Rattle.plan_check.specs.Views as views;
 ghost use Rattle.certificate_laws.specs.Kept.{AreEntriesOf, AreOf, IsEntryOf};
-ghost use Rattle.certificate_laws.specs.Made.{AreMadeInTurn, IsMadeAmong, IsSideAmong};
+ghost use Rattle.certificate_laws.specs.Made.{AreMadeInTurn, IsSideAmong};
 ghost use Rattle.planned_table.specs.Gathering.{shown};
-ghost use Rattle.planned_table.specs.Numbering.{present, trees};
+ghost use Rattle.planned_table.specs.Numbering.{IsMadeBefore, present, present_before, trees};
 
 use crate::numbering::{number_of, side_of};
 use pathkeys::{Keys, covers};
@@ -38,7 +38,7 @@ fn merge_of(
     requires outer { IsSideAmong (take first (trees listed.now)) keys.now (plan outer.now) }
     requires inner { IsSideAmong (take first (trees listed.now)) keys.now (plan inner.now) }
     ensures { (w : ℕ) (set param : RelSet) → IfOk result (λ n.
-        plan_by w (present (take first (trees listed.now))) set param (views.node n)
+        plan_by w (present_before first listed.now) set param (views.node n)
         ≡ Some (plans.merge keys.now (plan outer.now) (plan inner.now))) }
 {
     let outer = side_of(listed, first, outer);
@@ -59,8 +59,10 @@ fn node_of(
     requires few { length listed.now ≤ MOST_ENTRIES }
     requires within { first ≤ length listed.now }
     requires below { ReadsBelow 16 (path p.now).tree }
-    requires made { IsMadeAmong (width q.now) (take first (trees listed.now)) (path p.now) (path p.now).tree }
-    ensures { IfOk result (λ n. plan_by (width q.now) (present (take first (trees listed.now))) p.now.set p.now.param (views.node n) ≡ Some (path p.now).tree) }
+    requires made { IsMadeBefore q.now first listed.now (path p.now) }
+    ensures { IfOk result (λ n.
+        plan_by (width q.now) (present_before first listed.now)
+        p.now.set p.now.param (views.node n) ≡ Some (path p.now).tree) }
 {
     match &p.plan {
         Plan::Seq { .. } => Ok(Node::Seq),
@@ -99,8 +101,9 @@ fn entry_of(
     requires few { length listed.now ≤ MOST_ENTRIES }
     requires within { first ≤ length listed.now }
     requires below { ReadsBelow 16 (path p.now).tree }
-    requires made { IsMadeAmong (width q.now) (take first (trees listed.now)) (path p.now) (path p.now).tree }
-    ensures { IfOk result (λ e. IsEntryOf (width q.now) (present (take first (trees listed.now))) (views.entry e) (path p.now)) }
+    requires made { IsMadeBefore q.now first listed.now (path p.now) }
+    ensures { IfOk result (λ e.
+        IsEntryOf (width q.now) (present_before first listed.now) (views.entry e) (path p.now)) }
 {
     let node = node_of(alloc, q, listed, first, p)?;
     let keys = p.keys.copy(alloc)?;
@@ -120,7 +123,8 @@ fn entries_of(alloc: Global, q: &Prepared, listed: &[&Path]) -> Result<Vec<Entry
     requires few { length listed.now ≤ MOST_ENTRIES }
     requires below { All (ReadsBelow 16) (trees listed.now) }
     requires made { AreMadeInTurn (width q.now) (shown listed.now) }
-    ensures { IfOk result (λ es. AreEntriesOf (width q.now) [] (map views.entry es.items) (shown listed.now)) }
+    ensures { IfOk result (λ es.
+        AreEntriesOf (width q.now) [] (map views.entry es.items) (shown listed.now)) }
 {
     let mut entries = Vec::new(alloc);
     for n in 0..listed.len() {
@@ -157,8 +161,10 @@ pub(crate) fn certificate_of(
     requires made { AreMadeInTurn (width q.now) (shown listed.now) }
     requires there { Contains (trees listed.now) (path best.now).tree }
     ensures entries { IfOk result (λ t. AreOf q.now (views.certificate t) (shown listed.now)) }
-    ensures sorted { IfOk result (λ t. t.best.sort ≡ not (keys.covers (path best.now).keys order.now)) }
-    ensures best { IfOk result (λ t. plan_at (present (trees listed.now)) t.best.entry ≡ Some (path best.now).tree) }
+    ensures sorted { IfOk result (λ t.
+        t.best.sort ≡ not (keys.covers (path best.now).keys order.now)) }
+    ensures best { IfOk result (λ t.
+        plan_at (present (trees listed.now)) t.best.entry ≡ Some (path best.now).tree) }
     ensures few { IfOk result (λ t. length t.entries ≤ MOST_ENTRIES) }
 {
     if listed.len() > u32::MAX as usize {

@@ -8,7 +8,7 @@ ghost use Rattle.plan_check.specs.Certificates.{plan_at, side_at};
 ghost use Rattle.plan_check.specs.Limit.{MOST_ENTRIES};
 ghost use Rattle.plan_check.specs.Views.{side};
 ghost use Rattle.certificate_laws.specs.Made.{IsSideAmong};
-ghost use Rattle.planned_table.specs.Numbering.{present, trees, without_sort};
+ghost use Rattle.planned_table.specs.Numbering.{present, present_before, trees, trees_before, without_sort};
 
 use crate::printing::size;
 use pg_base::RelSet;
@@ -20,7 +20,8 @@ fn place_in(listed: &[&Path], from: usize, to: usize, tree: &Plan) -> Option<usi
     requires within { to ≤ length listed.now }
     ensures before { IfSome result (λ n. n < to) }
     ensures found { IfSome result (λ n. slice_get (trees listed.now) n ≡ Some (plan tree.now)) }
-    ensures none { IfNone result ((n : ℕ) → from ≤ n → n < to → slice_get (trees listed.now) n ≢ Some (plan tree.now)) }
+    ensures none { IfNone result ((n : ℕ) →
+        from ≤ n → n < to → slice_get (trees listed.now) n ≢ Some (plan tree.now)) }
 {
     for n in from..to {
         if is_same_plan(&listed[n].plan, tree) {
@@ -86,7 +87,8 @@ pub(crate) fn side_of(listed: &[&Path], first: usize, tree: &Plan) -> Side
     requires within { first ≤ length listed.now }
     requires below { ReadsBelow 16 (plan tree.now) }
     requires there { Contains (take first (trees listed.now)) (without_sort (plan tree.now)) }
-    ensures { (by : keys.Keys) → IsSideAmong (take first (trees listed.now)) by (plan tree.now) → side_at (present (take first (trees listed.now))) by (side result) ≡ Some (plan tree.now) }
+    ensures { (by : keys.Keys) → IsSideAmong (trees_before first listed.now) by (plan tree.now) →
+        side_at (present_before first listed.now) by (side result) ≡ Some (plan tree.now) }
 {
     match tree {
         Plan::Sort { input, .. } => Side {

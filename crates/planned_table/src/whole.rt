@@ -23,6 +23,7 @@ ghost use Rattle.certificate_laws.specs.Arms.{HasArmsInOrs};
 ghost use Rattle.certificate_laws.specs.Printing.{path_order, printing_order};
 ghost use Rattle.certificate_laws.specs.Searched.{AreOfFronts, IsSearched};
 ghost use Rattle.planned_table.specs.Gathering.{shown};
+ghost use Rattle.planned_table.specs.Numbering.{HasBestPlan};
 
 use crate::gathering::gathered;
 use crate::making::certificate_of;
@@ -106,7 +107,8 @@ fn certified(alloc: Global, at: &Searched, best: &Path, order: &Keys) -> Result<
     requires searched { IsSearched at.now.cat.now at.now.q.now (paths_at at.now.table.now) }
     requires order { order.now ≡ keys.order_keys at.now.q.now.classes at.now.q.now.order }
     requires best { Contains (paths_at at.now.table.now at.now.all none) (path best.now) }
-    requires least { IsBestPlan at.now.cat.now at.now.q.now (finished at.now.cat.now at.now.q.now (path best.now).tree) }
+    requires least { IsBestPlan at.now.cat.now at.now.q.now
+        (finished at.now.cat.now at.now.q.now (path best.now).tree) }
     ensures table { IfOk result (λ t. IsPlanTable at.now.cat.now at.now.q.now (certificate t)) }
     ensures unfolds { IfOk result (λ t.
         finish_at at.now.q.now (certificate t) (certificate t).best
@@ -136,9 +138,12 @@ fn least_path<'a>(
     requires order { order.now ≡ keys.order_keys q.now.classes q.now.order }
     ensures there { IfSome result (λ p. Contains (paths_at table.now all none) (path p.now)) }
     ensures whole { IfSome result (λ p. IsWhole cat.now q.now (path p.now)) }
-    ensures admissible { IfSome result (λ p. IsAdmissible cat.now q.now (finished cat.now q.now (path p.now).tree)) }
-    ensures best { IfSome result (λ p. IsBestPlan cat.now q.now (finished cat.now q.now (path p.now).tree)) }
-    ensures none { IfNone result ((t : plans.Plan) → IsFinished cat.now q.now t → ¬ IsAdmissible cat.now q.now t) }
+    ensures admissible { IfSome result (λ p.
+        IsAdmissible cat.now q.now (finished cat.now q.now (path p.now).tree)) }
+    ensures best { IfSome result (λ p.
+        IsBestPlan cat.now q.now (finished cat.now q.now (path p.now).tree)) }
+    ensures none { IfNone result
+        ((t : plans.Plan) → IsFinished cat.now q.now t → ¬ IsAdmissible cat.now q.now t) }
 {
     cat.lawful();
     let paths = whole_paths(table, all);
@@ -163,11 +168,14 @@ fn tabled_of(
     requires order { order ≡ keys.order_keys q.now.classes q.now.order }
     ensures best { IfOk result (λ t. IsFinishedPath cat.now q.now (path t.best)) }
     ensures least { IfOk result (λ t. IsBestPlan cat.now q.now (path t.best).tree) }
-    ensures limit { IfErr result (λ e. e ≡ CostLimit → (t : plans.Plan) → IsFinished cat.now q.now t → ¬ IsAdmissible cat.now q.now t) }
+    ensures limit { IfErr result (λ e. e ≡ CostLimit →
+        (t : plans.Plan) → IsFinished cat.now q.now t → ¬ IsAdmissible cat.now q.now t) }
     ensures table { IfOk result (λ t. IsPlanTable cat.now q.now (certificate t.table)) }
-    ensures unfolds { IfOk result (λ t. finish_at q.now (certificate t.table) (certificate t.table).best ≡ Some (path t.best).tree) }
+    ensures unfolds { IfOk result (λ t.
+        HasBestPlan q.now (certificate t.table) (path t.best).tree) }
     ensures ordered { IfOk result (λ t. IsInOrder printing_order (certificate t.table).entries) }
-    ensures text { IfOk result (λ t. HasArmsInOrs q.now → HasText cat.now q.now (certificate t.table)) }
+    ensures text { IfOk result (λ t.
+        HasArmsInOrs q.now → HasText cat.now q.now (certificate t.table)) }
 {
     let all = all_relations(q);
     let least = match least_path(cat, q, table, all, &order) {
@@ -189,11 +197,14 @@ pub fn plan_with_table(alloc: Global, cat: &Catalog, q: &Prepared) -> Result<Tab
     requires bound { IsWellBound cat.now q.now }
     ensures best { IfOk result (λ t. IsFinishedPath cat.now q.now (path t.best)) }
     ensures least { IfOk result (λ t. IsBestPlan cat.now q.now (path t.best).tree) }
-    ensures limit { IfErr result (λ e. e ≡ CostLimit → (t : plans.Plan) → IsFinished cat.now q.now t → ¬ IsAdmissible cat.now q.now t) }
+    ensures limit { IfErr result (λ e. e ≡ CostLimit →
+        (t : plans.Plan) → IsFinished cat.now q.now t → ¬ IsAdmissible cat.now q.now t) }
     ensures table { IfOk result (λ t. IsPlanTable cat.now q.now (certificate t.table)) }
-    ensures unfolds { IfOk result (λ t. finish_at q.now (certificate t.table) (certificate t.table).best ≡ Some (path t.best).tree) }
+    ensures unfolds { IfOk result (λ t.
+        HasBestPlan q.now (certificate t.table) (path t.best).tree) }
     ensures ordered { IfOk result (λ t. IsInOrder printing_order (certificate t.table).entries) }
-    ensures text { IfOk result (λ t. HasArmsInOrs q.now → HasText cat.now q.now (certificate t.table)) }
+    ensures text { IfOk result (λ t.
+        HasArmsInOrs q.now → HasText cat.now q.now (certificate t.table)) }
 {
     let order = order_asked(alloc, q)?;
     let table = whole_table(alloc, cat, q)?;

@@ -45,6 +45,10 @@ abbrev pub IsFault : Judged → Type 0
 IsFault Good = ⊥
 IsFault _ = Unit {0}
 
+-- it is not good, and these bytes say why
+abbrev pub IsReasonOf : Judged → List ℕ → Type 0
+IsReasonOf judged bytes = IsFault judged × (bytes ≡ reason_text judged)
+
 module _ (c : Contents) (q : Query) (block : List ℕ) where
   -- the block is the text of no plan
   abbrev pub IsNoPlanText : Type 0

@@ -26,8 +26,12 @@ fn answer_by<C: Counters, K: Sink>(
     requires setting { IsSetting at.now }
     requires good { IsGoodPlan at.now.cat.now at.now.q.now block.now (plan p.now) }
     requires whole { at.now.q.now.window ≡ None }
-    ensures ok { OnOk result (HasReplied (IsPlanReplyTo (world_of at.now) at.now.q.now block.now) (traces (K.held out.old) fetches.old reads.old) (traces (K.held out.new) fetches.new reads.new)) }
-    ensures err { OnErr result (HasBegun (IsPlanReplyTo (world_of at.now) at.now.q.now block.now) (traces (K.held out.old) fetches.old reads.old) (traces (K.held out.new) fetches.new reads.new)) }
+    ensures ok { OnOk result (HasReplied (IsPlanReplyTo (world_of at.now) at.now.q.now block.now)
+        (traces (K.held out.old) fetches.old reads.old)
+        (traces (K.held out.new) fetches.new reads.new)) }
+    ensures err { OnErr result (HasBegun (IsPlanReplyTo (world_of at.now) at.now.q.now block.now)
+        (traces (K.held out.old) fetches.old reads.old)
+        (traces (K.held out.new) fetches.new reads.new)) }
     ensures cause { HasWriteCause Broken.Write (K.faults out.old) (K.faults out.new) result }
 {
     tuples_have_rows();
@@ -53,8 +57,12 @@ pub fn answer_told<C: Counters, K: Sink>(
     requires setting { IsSetting at.now }
     requires told { IsTold at.now.cat.now at.now.q.now block.now told.now }
     requires whole { at.now.q.now.window ≡ None }
-    ensures ok { OnOk result (HasReplied (IsPlanReplyTo (world_of at.now) at.now.q.now block.now) (traces (K.held out.old) fetches.old reads.old) (traces (K.held out.new) fetches.new reads.new)) }
-    ensures err { OnErr result (HasBegun (IsPlanReplyTo (world_of at.now) at.now.q.now block.now) (traces (K.held out.old) fetches.old reads.old) (traces (K.held out.new) fetches.new reads.new)) }
+    ensures ok { OnOk result (HasReplied (IsPlanReplyTo (world_of at.now) at.now.q.now block.now)
+        (traces (K.held out.old) fetches.old reads.old)
+        (traces (K.held out.new) fetches.new reads.new)) }
+    ensures err { OnErr result (HasBegun (IsPlanReplyTo (world_of at.now) at.now.q.now block.now)
+        (traces (K.held out.old) fetches.old reads.old)
+        (traces (K.held out.new) fetches.new reads.new)) }
     ensures cause { HasWriteCause Broken.Write (K.faults out.old) (K.faults out.new) result }
 {
     match told {

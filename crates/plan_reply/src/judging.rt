@@ -23,7 +23,8 @@ fn told_by(alloc: Global, cat: &Catalog, q: &Prepared, w: Written) -> Result<Tol
     requires bound { IsWellBound cat.now q.now }
     requires few { lines (plan w.plan) ≤ 256 }
     requires count { length w.numbers ≡ nodes (plan w.plan) }
-    ensures { IfOk result (λ t. (block : List ℕ) → IsWritten cat.now q.now block (plan w.plan) w.numbers → IsTold cat.now q.now block t) }
+    ensures { IfOk result (λ t. (block : List ℕ) →
+        IsWritten cat.now q.now block (plan w.plan) w.numbers → IsTold cat.now q.now block t) }
 {
     match reason_text(alloc, judge(cat, q, &w))? {
         Some(reason) => Ok(Told::Line(invalid_line(alloc, &reason)?)),

@@ -2,7 +2,7 @@
 
 ghost use Rattle.std.specs.Prelude.{◌≡◌, IfOk, MatchOption};
 ghost use Rattle.plan_reply.specs.Told as texts;
-ghost use Rattle.plan_reply.specs.Told.{IsFault};
+ghost use Rattle.plan_reply.specs.Told.{IsReasonOf};
 
 use cost_rules::MOST_COST;
 use pg_base::Memory;
@@ -33,7 +33,8 @@ fn number_text(
     printed: u64,
     own: u64,
 ) -> Result<Vec<u8>, Memory>
-    ensures { IfOk result (λ text. text.items ≡ texts.reason_text (Judged.Number line is_cost printed own)) }
+    ensures { IfOk result (λ text.
+        text.items ≡ texts.reason_text (Judged.Number line is_cost printed own)) }
 {
     let text = if is_cost {
         format!(in alloc; "P3 line {line} cost {printed} is {own}")?
@@ -45,7 +46,8 @@ fn number_text(
 
 /// Why a plan is not run. None of a good one.
 pub(crate) fn reason_text(alloc: Global, judged: Judged) -> Result<Option<Vec<u8>>, Memory>
-    ensures { IfOk result (λ o. MatchOption o (judged ≡ Judged.Good) (λ text. IsFault judged × (text.items ≡ texts.reason_text judged))) }
+    ensures { IfOk result (λ o.
+        MatchOption o (judged ≡ Judged.Good) (λ text. IsReasonOf judged text.items)) }
 {
     let text = match judged {
         Judged::Good => return Ok(None),

@@ -5,7 +5,7 @@ ghost use Rattle.std.specs.Io.KnownBytes.{Appends};
 ghost use Rattle.pg_base.specs.Writing.{AppendsPrefix};
 ghost use Rattle.reply.specs.Answers.{HasNoPlan};
 ghost use Rattle.reply.specs.Putting.{HasWriteCause};
-ghost use Rattle.reply.specs.Replies.{HasReplied, Leaves, traces};
+ghost use Rattle.reply.specs.Replies.{HasPrinted, LeavesPrinted};
 ghost use Rattle.sql_query.specs.WellBound.{IsWellBound};
 ghost use Rattle.plan_reply.specs.Tabled.{IsTableOf};
 ghost use Rattle.planned_table.specs.certificate_laws_Arms.{HasArmsInOrs};
@@ -43,8 +43,10 @@ pub fn explain_table<K: Sink>(
 ) -> Result<(), Stop>
     requires bound { IsWellBound cat.now q.now }
     requires arms { HasArmsInOrs q.now }
-    ensures tabled { OnOk result (HasReplied (IsTableOf cat.now q.now) (traces (K.held out.old) 0 0) (traces (K.held out.new) 0 0)) }
-    ensures stopped { IfErr result (λ stop. Leaves stop (IsTableOf cat.now q.now) (traces (K.held out.old) 0 0) (traces (K.held out.new) 0 0)) }
+    ensures tabled { OnOk result
+        (HasPrinted (IsTableOf cat.now q.now) (K.held out.old) (K.held out.new)) }
+    ensures stopped { IfErr result (λ stop.
+        LeavesPrinted stop (IsTableOf cat.now q.now) (K.held out.old) (K.held out.new)) }
     ensures no_plan { IfErr result (λ stop. stop ≡ Stop.NoPlan → HasNoPlan cat.now q.now) }
     ensures cause { HasWriteCause Stop.Write (K.faults out.old) (K.faults out.new) result }
 {

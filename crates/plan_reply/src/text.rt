@@ -38,7 +38,8 @@ fn whole_text(
     requires finished { IsFinishedPath cat.now q.now (path best.now) }
     requires admissible { IsAdmissible cat.now q.now (path best.now).tree }
     requires has { HasText cat.now q.now (certificate table.now) }
-    ensures { IfOk result (λ text. text.items ≡ tabled_text cat.now q.now (path best.now).tree (certificate table.now)) }
+    ensures { IfOk result (λ text.
+        text.items ≡ tabled_text cat.now q.now (path best.now).tree (certificate table.now)) }
 {
     let mut text = shown_text(alloc, cat, q, best)?;
     let lines = certificate_text(alloc, cat, q, table)?;

@@ -1,5 +1,5 @@
 -- The plan by which a grouped query is answered, and its EXPLAIN. Own.
-use Rattle.std.specs.Prelude.{◌≡◌, ℕ, List, None}
+use Rattle.std.specs.Prelude.{◌≡◌, ℕ, Bool, List, None}
 use Rattle.catalog.specs.Contents.{Contents}
 use Rattle.sql_query.specs.Grouped.{GroupedQuery}
 use Rattle.sql_query.specs.Queries.{Query}
@@ -14,7 +14,7 @@ use Rattle.group_values.specs.declared.task.GroupTask.{GroupTask}
 use Rattle.group_explain.specs.GroupPlans.{IsGroupPlan, IsLeastOf, IsTaskOf, input_query}
 use Rattle.reply.specs.Effort.{exactly}
 use Rattle.reply.specs.Replies.{Reply}
-use Rattle.group_explain.specs.Texts.{group_plan_text, group_query}
+use Rattle.group_explain.specs.Texts.{group_plan_text, group_query, lines_above}
 use Rattle.group_explain.specs.declared.chosen.Chosen.{Chosen}
 
 -- the same grouped query over another base
@@ -24,6 +24,18 @@ over_base q g = record { base = q; keys = g.keys; items = g.items; order = g.ord
 -- the base of a grouped query in the order that the input of a form is asked in
 abbrev pub input_base : Form → GroupedQuery → Query
 input_base form g = input_query form (group_query g)
+
+-- a grouped query is the first one over the base in the order that the input of a form is asked in
+abbrev pub IsOverInput : Form → (first now : GroupedQuery) → Type 0
+IsOverInput form first now = now ≡ over_base (input_base form first) first
+
+-- the lines above the input of the chosen plan
+abbrev pub chosen_lines : Contents → GroupedQuery → Chosen → Bool → List ℕ
+chosen_lines c g x sort_after = lines_above c g x.task x.plan (path x.input).tree sort_after
+
+-- the text of the chosen plan
+abbrev pub chosen_text : Contents → GroupedQuery → Chosen → List ℕ
+chosen_text c g x = group_plan_text c g x.task x.plan (path x.input).tree
 
 -- a plan that groups with its own cost, which no plan that groups undercuts, and the path of its input
 pub record IsChosen (c : Contents) (g : GroupedQuery) (x : Chosen) : Type 0 where

@@ -83,7 +83,8 @@ fn over_input(task: GroupTask, plan: GroupPlan, plain: Option<Path>, sorted: Opt
     requires input { input_of plan.form (option_map path plain) (option_map path sorted) ≢ None }
     ensures task { result.task ≡ task }
     ensures plan { result.plan ≡ plan }
-    ensures input { input_of plan.form (option_map path plain) (option_map path sorted) ≡ Some (path result.input) }
+    ensures input { input_of plan.form (option_map path plain) (option_map path sorted) ≡
+        Some (path result.input) }
 {
     match plan.form {
         Form::Sorted => over_one(task, plan, sorted),
@@ -94,7 +95,9 @@ fn over_input(task: GroupTask, plan: GroupPlan, plain: Option<Path>, sorted: Opt
 /// The least plan that groups over two best plans.
 fn least_plan(task: &GroupTask, plain: &Option<Path>, sorted: &Option<Path>) -> Option<GroupPlan>
     requires { IsTask task.now }
-    ensures { (c : Contents) (g : GroupQuery) → AreInputs c g task.now (option_map path plain.now) (option_map path sorted.now) → IsLeastGroupPlan c g task.now result }
+    ensures { (c : Contents) (g : GroupQuery) →
+        AreInputs c g task.now (option_map path plain.now) (option_map path sorted.now) →
+        IsLeastGroupPlan c g task.now result }
 {
     choose_plan(task, plain.as_ref(), sorted.as_ref())
 }

@@ -17,7 +17,10 @@ pub fn choose_plan(
     sorted: Option<&Path>,
 ) -> Option<GroupPlan>
     requires { IsTask task.now }
-    ensures { (c : Contents) (g : GroupQuery) → AreInputs c g task.now (option_map (λ p. path p.now) plain.entry) (option_map (λ p. path p.now) sorted.entry) → IsLeastGroupPlan c g task.now result }
+    ensures { (c : Contents) (g : GroupQuery) →
+        AreInputs c g task.now (option_map (λ p. path p.now) plain.entry)
+        (option_map (λ p. path p.now) sorted.entry) →
+        IsLeastGroupPlan c g task.now result }
 {
     choose(task, total_of(plain), total_of(sorted))
 }

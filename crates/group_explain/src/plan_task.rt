@@ -40,7 +40,9 @@ pub fn group_task(
     requires all { IsSameSet (has all.0) (all_of_query q.now) }
     requires distinct { distinct.items ≡ map (distinct_of cat.now q.now) asked.group_keys.now }
     ensures task { IsTask result }
-    ensures is { (g : GroupQuery) → g.base ≡ q.now → IsAskedBy g asked.entry.group_keys.now asked.entry.line_keys.now asked.entry.calls → IsTaskOf cat.now g result }
+    ensures is { (g : GroupQuery) → g.base ≡ q.now →
+        IsAskedBy g asked.entry.group_keys.now asked.entry.line_keys.now asked.entry.calls →
+        IsTaskOf cat.now g result }
 {
     cat.lawful();
     GroupTask {

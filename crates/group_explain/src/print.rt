@@ -4,8 +4,8 @@ ghost use Rattle.std.specs.Prelude.{◌≡◌, IfErr, OnErr, OnOk};
 ghost use Rattle.sql_query.specs.Grouped.{GroupedQuery};
 ghost use Rattle.group_query.specs.Grouping.{IsWellGrouped};
 ghost use Rattle.reply.specs.Putting.{HasWriteCause};
-ghost use Rattle.reply.specs.Replies.{HasBegun, HasReplied, Leaves, traces};
-ghost use Rattle.group_explain.specs.Plans.{HasNoGroupPlan, IsChosen, IsGroupedExplanationOf, IsReady, input_base, over_base};
+ghost use Rattle.reply.specs.Replies.{HasBegunPrinting, HasPrinted, LeavesPrinted};
+ghost use Rattle.group_explain.specs.Plans.{HasNoGroupPlan, IsChosen, IsGroupedExplanationOf, IsOverInput, IsReady};
 
 use crate::choice::choose_groups;
 use crate::chosen::Chosen;
@@ -25,8 +25,14 @@ fn explain_by<K: Sink>(
     out: &mut K,
 ) -> Result<(), Broken>
     requires ready { IsReady cat.now g.now x.now }
-    ensures ok { (first : GroupedQuery) → IsChosen cat.now first x.now → g.now ≡ over_base (input_base x.now.plan.form first) first → OnOk result (HasReplied (IsGroupedExplanationOf cat.now first) (traces (K.held out.old) 0 0) (traces (K.held out.new) 0 0)) }
-    ensures err { (first : GroupedQuery) → IsChosen cat.now first x.now → g.now ≡ over_base (input_base x.now.plan.form first) first → OnErr result (HasBegun (IsGroupedExplanationOf cat.now first) (traces (K.held out.old) 0 0) (traces (K.held out.new) 0 0)) }
+    ensures ok { (first : GroupedQuery) → IsChosen cat.now first x.now →
+        IsOverInput x.now.plan.form first g.now → OnOk result
+        (HasPrinted (IsGroupedExplanationOf cat.now first)
+        (K.held out.old) (K.held out.new)) }
+    ensures err { (first : GroupedQuery) → IsChosen cat.now first x.now →
+        IsOverInput x.now.plan.form first g.now → OnErr result
+        (HasBegunPrinting (IsGroupedExplanationOf cat.now first)
+        (K.held out.old) (K.held out.new)) }
     ensures cause { HasWriteCause Broken.Write (K.faults out.old) (K.faults out.new) result }
 {
     let text = group_text(alloc, cat, g, x)?;
@@ -41,8 +47,11 @@ fn explain_lent<K: Sink>(
     out: &mut K,
 ) -> Result<(), Stop>
     requires bound { IsWellGrouped cat.now g.old }
-    ensures explained { OnOk result (HasReplied (IsGroupedExplanationOf cat.now g.old) (traces (K.held out.old) 0 0) (traces (K.held out.new) 0 0)) }
-    ensures stopped { IfErr result (λ stop. Leaves stop (IsGroupedExplanationOf cat.now g.old) (traces (K.held out.old) 0 0) (traces (K.held out.new) 0 0)) }
+    ensures explained { OnOk result
+        (HasPrinted (IsGroupedExplanationOf cat.now g.old) (K.held out.old) (K.held out.new)) }
+    ensures stopped { IfErr result (λ stop.
+        LeavesPrinted stop (IsGroupedExplanationOf cat.now g.old)
+        (K.held out.old) (K.held out.new)) }
     ensures no_plan { IfErr result (λ stop. stop ≡ Stop.NoPlan → HasNoGroupPlan cat.now g.old) }
     ensures cause { HasWriteCause Stop.Write (K.faults out.old) (K.faults out.new) result }
 {
@@ -61,8 +70,10 @@ pub fn explain_groups<K: Sink>(
     out: &mut K,
 ) -> Result<(), Stop>
     requires bound { IsWellGrouped cat.now g }
-    ensures explained { OnOk result (HasReplied (IsGroupedExplanationOf cat.now g) (traces (K.held out.old) 0 0) (traces (K.held out.new) 0 0)) }
-    ensures stopped { IfErr result (λ stop. Leaves stop (IsGroupedExplanationOf cat.now g) (traces (K.held out.old) 0 0) (traces (K.held out.new) 0 0)) }
+    ensures explained { OnOk result
+        (HasPrinted (IsGroupedExplanationOf cat.now g) (K.held out.old) (K.held out.new)) }
+    ensures stopped { IfErr result (λ stop.
+        LeavesPrinted stop (IsGroupedExplanationOf cat.now g) (K.held out.old) (K.held out.new)) }
     ensures no_plan { IfErr result (λ stop. stop ≡ Stop.NoPlan → HasNoGroupPlan cat.now g) }
     ensures cause { HasWriteCause Stop.Write (K.faults out.old) (K.faults out.new) result }
 {

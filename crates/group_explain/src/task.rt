@@ -47,7 +47,8 @@ fn values_of_each(
 ) -> Result<Vec<u64>, Memory>
     requires bound { IsWellBound cat.now q.now }
     requires classes { All (λ n. n < length q.now.classes.classes) (class_numbers keys.now) }
-    ensures { IfOk result (λ v. v.items ≡ map (distinct_of cat.now q.now) (class_numbers keys.now)) }
+    ensures { IfOk result (λ v.
+        v.items ≡ map (distinct_of cat.now q.now) (class_numbers keys.now)) }
 {
     let all = all_relations(q);
     let mut values = Vec::new(alloc);

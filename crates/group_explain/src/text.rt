@@ -3,13 +3,12 @@
 ghost use Rattle.std.specs.Prelude.{◌≡◌, ◌<◌, ◌++◌, All, IfOk, OnOk, length, true};
 ghost use Rattle.std.specs.Fmt.{decimal};
 ghost use Rattle.reply.specs.explain_Texts.{figures_text};
-ghost use Rattle.plan_tree.specs.Views.{path};
 ghost use Rattle.sql_query.specs.Grouped.{GroupedQuery};
 ghost use Rattle.sql_query.specs.WellBound.{IsWellBound};
 ghost use Rattle.group_explain.specs.GroupPlans as plans;
-ghost use Rattle.group_explain.specs.Plans.{IsReady, input_base, over_base};
+ghost use Rattle.group_explain.specs.Plans.{IsOverInput, IsReady, chosen_lines, chosen_text};
 ghost use Rattle.group_explain.specs.Texts as texts;
-ghost use Rattle.group_explain.specs.Texts.{group_plan_text, group_query, input_depth as depth_of, lines_above};
+ghost use Rattle.group_explain.specs.Texts.{group_query, input_depth as depth_of};
 
 use crate::chosen::Chosen;
 use crate::keys::{group_keys, line_keys};
@@ -27,7 +26,8 @@ use std::alloc::Global;
 fn put_all_keys(text: &mut Vec<u8>, cat: &Catalog, g: &Grouped, keys: &Keys) -> Result<(), Memory>
     requires bound { IsWellBound cat.now g.now.base }
     requires classes { All (λ n. n < length g.now.base.classes.classes) keys.now }
-    ensures { OnOk result (text.new.items ≡ text.old.items ++ texts.all_keys_text cat.now g.now keys.now) }
+    ensures { OnOk result
+        (text.new.items ≡ text.old.items ++ texts.all_keys_text cat.now g.now keys.now) }
 {
     put_keys(text, cat, &g.base, all_relations(&g.base), keys.items())
 }
@@ -52,7 +52,8 @@ fn put_group_title(
 ) -> Result<(), Memory>
     requires bound { IsWellBound cat.now g.now.base }
     requires keys { keys.now ≡ plans.group_keys (group_query g.now) }
-    ensures { OnOk result (text.new.items ≡ text.old.items ++ texts.group_title cat.now g.now form) }
+    ensures { OnOk result
+        (text.new.items ≡ text.old.items ++ texts.group_title cat.now g.now form) }
 {
     if keys.items().is_empty() {
         text.extend_from_slice(b"Aggregate")
@@ -81,7 +82,8 @@ fn put_group_line(
     total: u64,
 ) -> Result<(), Memory>
     requires bound { IsWellBound cat.now g.now.base }
-    ensures { OnOk result (text.new.items ≡ text.old.items ++ (texts.group_title cat.now g.now x.now.plan.form ++ figures_text (decimal total) x.now.plan.rows)) }
+    ensures { OnOk result
+        (text.new.items ≡ text.old.items ++ texts.titled_line cat.now g.now x.now.plan total) }
 {
     let keys = group_keys(alloc, g)?;
     put_group_title(text, cat, g, x.plan.form, &keys)?;
@@ -97,7 +99,8 @@ fn put_sort_line(
     x: &Chosen,
 ) -> Result<(), Memory>
     requires bound { IsWellBound cat.now g.now.base }
-    ensures { OnOk result (text.new.items ≡ text.old.items ++ texts.sort_line cat.now g.now x.now.plan) }
+    ensures { OnOk result
+        (text.new.items ≡ text.old.items ++ texts.sort_line cat.now g.now x.now.plan) }
 {
     let keys = line_keys(alloc, g)?;
     text.extend_from_slice(b"Sort by ")?;
@@ -114,7 +117,8 @@ fn put_both_lines(
     x: &Chosen,
 ) -> Result<(), Memory>
     requires ready { IsReady cat.now g.now x.now }
-    ensures { OnOk result (text.new.items ≡ text.old.items ++ lines_above cat.now g.now x.now.task x.now.plan (path x.now.input).tree true) }
+    ensures { OnOk result
+        (text.new.items ≡ text.old.items ++ chosen_lines cat.now g.now x.now true) }
 {
     put_sort_line(alloc, text, cat, g, x)?;
     text.extend_from_slice(b"  ->  ")?;
@@ -131,7 +135,9 @@ fn put_lines_above(
     x: &Chosen,
 ) -> Result<(), Memory>
     requires ready { IsReady cat.now g.now x.now }
-    ensures { OnOk result (text.new.items ≡ text.old.items ++ lines_above cat.now g.now x.now.task x.now.plan (path x.now.input).tree x.now.plan.sort_after) }
+    ensures { OnOk result
+        (text.new.items ≡
+        text.old.items ++ chosen_lines cat.now g.now x.now x.now.plan.sort_after) }
 {
     if x.plan.sort_after {
         put_both_lines(alloc, text, cat, g, x)
@@ -152,7 +158,8 @@ fn input_depth(sort_after: bool) -> u8
 /// 1/400 of a sequential page and its estimated groups, and the lines of the input plan beneath. The error means want of memory.
 pub fn group_text(alloc: Global, cat: &Catalog, g: &Grouped, x: &Chosen) -> Result<Vec<u8>, Memory>
     requires ready { IsReady cat.now g.now x.now }
-    ensures { (first : GroupedQuery) → g.now ≡ over_base (input_base x.now.plan.form first) first → IfOk result (λ text. text.items ≡ group_plan_text cat.now first x.now.task x.now.plan (path x.now.input).tree) }
+    ensures { (first : GroupedQuery) → IsOverInput x.now.plan.form first g.now →
+        IfOk result (λ text. text.items ≡ chosen_text cat.now first x.now) }
 {
     let mut text = Vec::new(alloc);
     put_lines_above(alloc, &mut text, cat, g, x)?;

@@ -1,13 +1,19 @@
 -- The columns that are seen of a tuple where it is grouped, and their values in rows of all relations. Own.
-use Rattle.std.specs.Prelude.{List, Option, None, Some, All}
+use Rattle.std.specs.Prelude.{List, Option, None, Some, All, map}
 use Rattle.pg_value.specs.declared.value.Value.{Value}
 use Rattle.pg_value.specs.declared.value.Value.TheVariants.{Null}
 use Rattle.pg_expr.specs.declared.operand.ColRef.{ColRef}
 use Rattle.heap.specs.Stored.{Values}
 use Rattle.catalog.specs.Contents.{Contents}
 use Rattle.catalog.specs.Range.{Range}
+use Rattle.sql_query.specs.Queries.{Query}
+use Rattle.sql_query.specs.Tuples.{Tuple}
 use Rattle.sql_query.specs.WellBound.{IsColumnOf}
+use Rattle.sql_query.specs.Worlds.{World}
+use Rattle.group_values.specs.Groups.{Seen}
+use Rattle.group_runs.specs.Seen.{seen_of}
 use Rattle.group_explain.specs.reply_Showing.{HasColumn, cell_of}
+use Rattle.group_reply.specs.declared.columns.Columns.{Columns}
 
 -- the column of a call, where it has one, is one of a relation
 abbrev pub IsArgOf : Contents → Range → Option ColRef → Type 0
@@ -28,3 +34,15 @@ HasArg rows (Some x) = HasColumn rows x
 abbrev pub arg_in : List Values → Option ColRef → Value
 arg_in rows None = Null
 arg_in rows (Some x) = cell_of rows x
+
+-- these are such columns of a relation
+abbrev pub AreColumnsSeen : Contents → Range → Columns → Type 0
+AreColumnsSeen c range columns = AreSeenOf c range columns.keys.now columns.args.now
+
+-- what is seen of a tuple by them
+abbrev pub seen_by : World → Query → Columns → Tuple → Seen
+seen_by w q columns t = seen_of w q columns.keys.now columns.args.now t
+
+-- what is seen of tuples by them
+abbrev pub all_seen_by : World → Query → Columns → List Tuple → List Seen
+all_seen_by w q columns ts = map (seen_of w q columns.keys.now columns.args.now) ts

@@ -23,6 +23,8 @@ use Rattle.group_explain.specs.reply_Effort.{exactly}
 use Rattle.group_explain.specs.reply_Replies.{Reply}
 use Rattle.group_reply.specs.Columns.{AreSeenOf}
 use Rattle.group_reply.specs.Replies.{lines_text}
+use Rattle.plan_tree.specs.Views.{path}
+use Rattle.group_explain.specs.declared.chosen.Chosen.{Chosen}
 
 -- the lines of groups of what is seen, sorted in the end where the plan says so
 abbrev pub final_lines : GroupedQuery → GroupPlan → List Seen → List (List Value)
@@ -53,3 +55,7 @@ module _ (w : World) (q : Query) (g : GroupedQuery) where
     fetched = exactly (fetches w q p (no_rows q));
     looked = looks w q p (no_rows q) + MOST_READS * length (drawn p);
   }
+
+  -- the same of a chosen plan
+  abbrev pub chosen_reply : Chosen → Reply
+  chosen_reply x = drawn_reply x.task x.plan (path x.input).tree

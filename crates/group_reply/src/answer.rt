@@ -9,8 +9,8 @@ ghost use Rattle.group_explain.specs.reply_Putting.{HasWriteCause};
 ghost use Rattle.group_explain.specs.reply_Replies.{HasBegun, HasReplied, Leaves, Reply, traces};
 ghost use Rattle.group_explain.specs.reply_Settings.{IsSetting, world_of};
 ghost use Rattle.group_query.specs.Grouping.{IsWellGrouped};
-ghost use Rattle.group_explain.specs.Plans.{HasNoGroupPlan, IsGroupedExplanationOf, IsReady, input_base, over_base};
-ghost use Rattle.group_reply.specs.Drawing.{IsInputFor, drawn_reply};
+ghost use Rattle.group_explain.specs.Plans.{HasNoGroupPlan, IsGroupedExplanationOf, IsOverInput, IsReady};
+ghost use Rattle.group_reply.specs.Drawing.{IsInputFor, chosen_reply};
 ghost use Rattle.group_reply.specs.Replies.{IsGroupedAnswerTo};
 
 use crate::drawing::draw_lines;
@@ -45,8 +45,14 @@ pub fn answer_groups<C: Counters, K: Sink>(
 ) -> Result<(), Stop>
     requires bound { IsWellGrouped cat.now g }
     requires store { IsStoreOf cat.now store.now }
-    ensures answered { OnOk result (HasReplied (IsGroupedAnswerTo (world cat.now store.now.stored) g) (traces (K.held out.old) fetches.old reads.old) (traces (K.held out.new) fetches.new reads.new)) }
-    ensures stopped { IfErr result (λ stop. Leaves stop (IsGroupedAnswerTo (world cat.now store.now.stored) g) (traces (K.held out.old) fetches.old reads.old) (traces (K.held out.new) fetches.new reads.new)) }
+    ensures answered { OnOk result
+        (HasReplied (IsGroupedAnswerTo (world cat.now store.now.stored) g)
+        (traces (K.held out.old) fetches.old reads.old)
+        (traces (K.held out.new) fetches.new reads.new)) }
+    ensures stopped { IfErr result (λ stop.
+        Leaves stop (IsGroupedAnswerTo (world cat.now store.now.stored) g)
+        (traces (K.held out.old) fetches.old reads.old)
+        (traces (K.held out.new) fetches.new reads.new)) }
     ensures no_plan { IfErr result (λ stop. stop ≡ Stop.NoPlan → HasNoGroupPlan cat.now g) }
     ensures cause { HasWriteCause Stop.Write (K.faults out.old) (K.faults out.new) result }
 {
@@ -71,7 +77,8 @@ pub fn plan_groups<C: Counters>(
 ) -> Result<(), Stop>
     requires bound { IsWellGrouped cat.now g }
     requires store { IsStoreOf cat.now store.now }
-    ensures answer { OnOk result ((r : Reply) × IsGroupedAnswerTo (world cat.now store.now.stored) g r) }
+    ensures answer { OnOk result
+        ((r : Reply) × IsGroupedAnswerTo (world cat.now store.now.stored) g r) }
     ensures explanation { OnOk result ((r : Reply) × IsGroupedExplanationOf cat.now g r) }
     ensures no_plan { IfErr result (λ stop. stop ≡ Stop.NoPlan → HasNoGroupPlan cat.now g) }
     ensures unwritten { IfErr result (λ stop. stop ≢ Stop.Write) }
@@ -91,9 +98,17 @@ fn answer_by<C: Counters, K: Sink>(
 ) -> Result<(), Broken>
     requires setting { IsSetting at.now }
     requires ready { IsReady at.now.cat.now g.now chosen.now }
-    requires input { IsInputFor (world_of at.now) at.now.q.now g.now chosen.now.plan.form (path chosen.now.input).tree }
-    ensures ok { (asked : GroupedQuery) → g.now ≡ over_base (input_base chosen.now.plan.form asked) asked → OnOk result (HasReplied (λ r. r ≡ drawn_reply (world_of at.now) at.now.q.now asked chosen.now.task chosen.now.plan (path chosen.now.input).tree) (traces (K.held out.old) fetches.old reads.old) (traces (K.held out.new) fetches.new reads.new)) }
-    ensures err { (asked : GroupedQuery) → g.now ≡ over_base (input_base chosen.now.plan.form asked) asked → OnErr result (HasBegun (λ r. r ≡ drawn_reply (world_of at.now) at.now.q.now asked chosen.now.task chosen.now.plan (path chosen.now.input).tree) (traces (K.held out.old) fetches.old reads.old) (traces (K.held out.new) fetches.new reads.new)) }
+    requires input { IsInputFor (world_of at.now) at.now.q.now g.now
+        chosen.now.plan.form (path chosen.now.input).tree }
+    ensures ok { (asked : GroupedQuery) → IsOverInput chosen.now.plan.form asked g.now → OnOk result
+        (HasReplied (λ r. r ≡ chosen_reply (world_of at.now) at.now.q.now asked chosen.now)
+        (traces (K.held out.old) fetches.old reads.old)
+        (traces (K.held out.new) fetches.new reads.new)) }
+    ensures err { (asked : GroupedQuery) → IsOverInput chosen.now.plan.form asked g.now →
+        OnErr result
+        (HasBegun (λ r. r ≡ chosen_reply (world_of at.now) at.now.q.now asked chosen.now)
+        (traces (K.held out.old) fetches.old reads.old)
+        (traces (K.held out.new) fetches.new reads.new)) }
     ensures cause { HasWriteCause Broken.Write (K.faults out.old) (K.faults out.new) result }
 {
     tuples_have_rows();

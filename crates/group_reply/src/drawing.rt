@@ -1,6 +1,6 @@
 //! The groups of the tuples that a plan gives, which are drawn one by one.
 
-ghost use Rattle.std.specs.Prelude.{◌≡◌, ◌+◌, ◌*◌, ◌≤◌, ◌<◌, ◌^◌, ◌++◌, ◌∷◌, [], List, All, IfOk, OnOk, length, map};
+ghost use Rattle.std.specs.Prelude.{◌≡◌, ◌+◌, ◌*◌, ◌≤◌, ◌<◌, ◌^◌, ◌++◌, ◌∷◌, [], List, All, IfOk, OnOk, length};
 ghost use Rattle.plan_tree.specs.Counts.{MOST_READS};
 ghost use Rattle.executor.specs.Numbers.{IsTupleOf, numbers};
 ghost use Rattle.group_explain.specs.reply_Settings.{IsSetting, world_of};
@@ -9,9 +9,8 @@ ghost use Rattle.group_values.specs.Steps.{IsLastAlone};
 ghost use Rattle.group_values.specs.Grouping.{AreOf, final_shape, with_groups};
 ghost use Rattle.group_values.specs.Neighbours.{AreTogether};
 ghost use Rattle.group_values.specs.declared.form.Form.TheVariants.{Sorted};
-ghost use Rattle.group_runs.specs.Seen.{seen_of};
 ghost use Rattle.group_query.specs.Shapes.{args_of, calls_of};
-ghost use Rattle.group_reply.specs.Columns.{AreSeenOf};
+ghost use Rattle.group_reply.specs.Columns.{AreColumnsSeen, AreSeenOf, all_seen_by, seen_by};
 ghost use Rattle.group_reply.specs.Drawing.{final_lines, seen_all};
 
 use crate::columns::{Columns, args_in, keys_in};
@@ -38,8 +37,10 @@ pub(crate) fn draw_lines<C: Counters>(
     requires seen { AreSeenOf at.now.cat.now at.now.q.now.range g.now.keys (args_of g.now.items) }
     requires few_keys { length g.now.keys < 2 ^ 32 }
     requires few_calls { length (calls_of g.now.items) < 2 ^ 32 }
-    requires together { plan.form ≡ Sorted → AreTogether (seen_all (world_of at.now) at.now.q.now g.now rows.old.left) }
-    ensures lines { IfOk result (λ l. l ≡ final_lines g.now plan (seen_all (world_of at.now) at.now.q.now g.now rows.old.left)) }
+    requires together { plan.form ≡ Sorted →
+        AreTogether (seen_all (world_of at.now) at.now.q.now g.now rows.old.left) }
+    ensures lines { IfOk result (λ l.
+        l ≡ final_lines g.now plan (seen_all (world_of at.now) at.now.q.now g.now rows.old.left)) }
     ensures fetches { OnOk result (fetches.new ≡ fetches.old + rows.old.owed) }
     ensures fewer { fetches.new ≤ fetches.old + rows.old.owed }
     ensures reads { reads.new ≤ reads.old + (rows.old.allowed + MOST_READS * length rows.old.left) }
@@ -65,12 +66,15 @@ fn group_lines<C: Counters>(
 ) -> Result<Lines, Memory>
     requires setting { IsSetting at.now }
     requires tuples { All (IsTupleOf (world_of at.now) at.now.q.now) rows.old.left }
-    requires seen { AreSeenOf at.now.cat.now at.now.q.now.range columns.now.keys.now columns.now.args.now }
+    requires seen { AreColumnsSeen at.now.cat.now at.now.q.now.range columns.now }
     requires keys { length columns.now.keys.now ≡ groups.shape.width }
     requires args { length columns.now.args.now ≡ length groups.shape.calls }
     requires none { AreOf [] groups }
-    requires together { groups.form ≡ Sorted → AreTogether (map (seen_of (world_of at.now) at.now.q.now columns.now.keys.now columns.now.args.now) rows.old.left) }
-    ensures lines { IfOk result (λ l. l ≡ lines (final_shape groups.sort_after groups.shape) (map (seen_of (world_of at.now) at.now.q.now columns.now.keys.now columns.now.args.now) rows.old.left)) }
+    requires together { groups.form ≡ Sorted →
+        AreTogether (all_seen_by (world_of at.now) at.now.q.now columns.now rows.old.left) }
+    ensures lines { IfOk result (λ l.
+        l ≡ lines (final_shape groups.sort_after groups.shape)
+        (all_seen_by (world_of at.now) at.now.q.now columns.now rows.old.left)) }
     ensures fetches { OnOk result (fetches.new ≡ fetches.old + rows.old.owed) }
     ensures fewer { fetches.new ≤ fetches.old + rows.old.owed }
     ensures reads { reads.new ≤ reads.old + (rows.old.allowed + MOST_READS * length rows.old.left) }
@@ -90,12 +94,14 @@ fn push_all<C: Counters>(
 ) -> Result<(), Memory>
     requires setting { IsSetting at.now }
     requires tuples { All (IsTupleOf (world_of at.now) at.now.q.now) rows.old.left }
-    requires seen { AreSeenOf at.now.cat.now at.now.q.now.range columns.now.keys.now columns.now.args.now }
+    requires seen { AreColumnsSeen at.now.cat.now at.now.q.now.range columns.now }
     requires keys { length columns.now.keys.now ≡ groups.old.shape.width }
     requires args { length columns.now.args.now ≡ length groups.old.shape.calls }
     requires none { AreOf [] groups.old }
-    requires together { groups.old.form ≡ Sorted → AreTogether (map (seen_of (world_of at.now) at.now.q.now columns.now.keys.now columns.now.args.now) rows.old.left) }
-    ensures pushed { OnOk result (AreOf (map (seen_of (world_of at.now) at.now.q.now columns.now.keys.now columns.now.args.now) rows.old.left) groups.new) }
+    requires together { groups.old.form ≡ Sorted →
+        AreTogether (all_seen_by (world_of at.now) at.now.q.now columns.now rows.old.left) }
+    ensures pushed { OnOk result
+        (AreOf (all_seen_by (world_of at.now) at.now.q.now columns.now rows.old.left) groups.new) }
     ensures kept { groups.new ≡ with_groups groups.new.groups groups.old }
     ensures fetches { OnOk result (fetches.new ≡ fetches.old + rows.old.owed) }
     ensures fewer { fetches.new ≤ fetches.old + rows.old.owed }
@@ -118,11 +124,16 @@ fn push_tuple<C: Counters>(
 ) -> Result<(), Memory>
     requires setting { IsSetting at.now }
     requires tuple { IsTupleOf (world_of at.now) at.now.q.now (numbers tuple.now) }
-    requires seen { AreSeenOf at.now.cat.now at.now.q.now.range columns.now.keys.now columns.now.args.now }
+    requires seen { AreColumnsSeen at.now.cat.now at.now.q.now.range columns.now }
     requires keys { length columns.now.keys.now ≡ groups.old.shape.width }
     requires args { length columns.now.args.now ≡ length groups.old.shape.calls }
-    requires together { groups.old.form ≡ Sorted → IsLastAlone groups.old.groups (seen_of (world_of at.now) at.now.q.now columns.now.keys.now columns.now.args.now (numbers tuple.now)).keys }
-    ensures pushed { OnOk result ((ss : List Seen) → AreOf ss groups.old → AreOf (ss ++ seen_of (world_of at.now) at.now.q.now columns.now.keys.now columns.now.args.now (numbers tuple.now) ∷ []) groups.new) }
+    requires together { groups.old.form ≡ Sorted →
+        IsLastAlone groups.old.groups
+        (seen_by (world_of at.now) at.now.q.now columns.now (numbers tuple.now)).keys }
+    ensures pushed { OnOk result
+        ((ss : List Seen) → AreOf ss groups.old →
+        AreOf (ss ++ seen_by (world_of at.now) at.now.q.now columns.now (numbers tuple.now) ∷ [])
+        groups.new) }
     ensures kept { groups.new ≡ with_groups groups.new.groups groups.old }
     ensures reads { reads.new ≤ reads.old + MOST_READS }
 {

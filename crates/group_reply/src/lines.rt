@@ -24,8 +24,10 @@ pub(crate) fn put_answer<K: Sink>(
     lines: &[Values],
     out: &mut K,
 ) -> Result<(), Broken>
-    ensures ok { OnOk result (Appends (K.held out.old) (K.held out.new) (text.now ++ lines_text lines.now)) }
-    ensures err { OnErr result (AppendsPrefix (K.held out.old) (K.held out.new) (text.now ++ lines_text lines.now)) }
+    ensures ok { OnOk result
+        (Appends (K.held out.old) (K.held out.new) (text.now ++ lines_text lines.now)) }
+    ensures err { OnErr result
+        (AppendsPrefix (K.held out.old) (K.held out.new) (text.now ++ lines_text lines.now)) }
     ensures cause { HasWriteCause Write (K.faults out.old) (K.faults out.new) result }
 {
     let mut pending = Vec::from_slice(alloc, text)?;
@@ -42,7 +44,8 @@ fn put_lines<K: Sink>(
     out: &mut K,
     pending: &mut Vec<u8>,
 ) -> Result<(), Broken>
-    ensures puts { Puts (K.held out.old) (K.held out.new) pending.old.items pending.new.items result (flat_map row_line lines.now) }
+    ensures puts { Puts (K.held out.old) (K.held out.new)
+        pending.old.items pending.new.items result (flat_map row_line lines.now) }
     ensures cause { HasWriteCause Write (K.faults out.old) (K.faults out.new) result }
 {
     let mut written = Lines::new(alloc);
@@ -60,7 +63,8 @@ fn put_line<K: Sink>(
     out: &mut K,
     pending: &mut Vec<u8>,
 ) -> Result<(), Broken>
-    ensures puts { Puts (K.held out.old) (K.held out.new) pending.old.items pending.new.items result (row_line values.now) }
+    ensures puts { Puts (K.held out.old) (K.held out.new)
+        pending.old.items pending.new.items result (row_line values.now) }
     ensures cause { HasWriteCause Write (K.faults out.old) (K.faults out.new) result }
 {
     let line = line_text(alloc, values, written)?;

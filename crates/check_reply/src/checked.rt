@@ -34,7 +34,8 @@ fn reason_text(
     requires bound { IsWellBound cat.now q.now }
     requires arms { HasArmsInOrs q.now }
     requires holds { IsReason cat.now q.now (certificate t.now) reason.now }
-    ensures { IfOk result (λ text. IsReasonText cat.now q.now (certificate t.now) reason.now text.items) }
+    ensures { IfOk result (λ text.
+        IsReasonText cat.now q.now (certificate t.now) reason.now text.items) }
 {
     match reason {
         Reason::BadNode { entry } => bad_node_text(alloc, *entry),
@@ -73,7 +74,8 @@ fn verdict_line(
     requires bound { IsWellBound cat.now q.now }
     requires arms { HasArmsInOrs q.now }
     requires holds { IsVerdict cat.now q.now (certificate t.now) verdict.now }
-    ensures { IfOk result (λ line. IsVerdictLine cat.now q.now (certificate t.now) verdict.now line.items) }
+    ensures { IfOk result (λ line.
+        IsVerdictLine cat.now q.now (certificate t.now) verdict.now line.items) }
 {
     match verdict {
         Verdict::Valid => Vec::from_slice(alloc, b"valid\n"),
@@ -93,7 +95,9 @@ fn judged_line(
 ) -> Result<Vec<u8>, Memory>
     requires bound { IsWellBound cat.now q.now }
     requires arms { HasArmsInOrs q.now }
-    ensures { IfOk result (λ line. (v : Said) × IsVerdict cat.now q.now (certificate t.now) v × IsVerdictLine cat.now q.now (certificate t.now) v line.items) }
+    ensures { IfOk result (λ line.
+        (v : Said) × IsVerdict cat.now q.now (certificate t.now) v ×
+        IsVerdictLine cat.now q.now (certificate t.now) v line.items) }
 {
     let verdict = check(cat, q, t);
     verdict_line(alloc, cat, q, t, &verdict)
@@ -101,7 +105,8 @@ fn judged_line(
 
 /// The line of a block that is no certificate's text. The error means want of memory.
 fn unread_line(alloc: Global, fault: CertFault) -> Result<Vec<u8>, Memory>
-    ensures { IfOk result (λ text. (n : ℕ) × (fault ≡ faults.C1 n) × (text.items ≡ texts.invalid_line (texts.fault_text n))) }
+    ensures { IfOk result (λ text.
+        (n : ℕ) × (fault ≡ faults.C1 n) × (text.items ≡ texts.invalid_line (texts.fault_text n))) }
 {
     match fault {
         CertFault::C1 { line } => {

@@ -29,7 +29,8 @@ use std::alloc::Global;
 /// A sequential scan. The error means want of memory.
 pub(crate) fn seq_shape(alloc: Global, rel: RelNo) -> Result<Shape, Memory>
     requires relation { rel.0 < 16 }
-    ensures { IfOk result (λ s. (c : Contents) (q : Query) (t : forms.Certificate) → IsShapeOf c q t (plain.Seq rel) s) }
+    ensures { IfOk result (λ s.
+        (c : Contents) (q : Query) (t : forms.Certificate) → IsShapeOf c q t (plain.Seq rel) s) }
 {
     Ok(Shape {
         set: RelSet::one(rel),
@@ -42,7 +43,8 @@ pub(crate) fn seq_shape(alloc: Global, rel: RelNo) -> Result<Shape, Memory>
 /// The keys of a scan by an index. The error means want of memory.
 fn scan_keys(alloc: Global, cat: &Catalog, q: &Prepared, s: ByIndex) -> Result<Keys, Memory>
     requires index { IsIndex cat.now s.index }
-    ensures { IfOk result (λ ks. ks ≡ lists.scan_keys cat.now q.now s.rel s.index s.backward s.param) }
+    ensures { IfOk result (λ ks.
+        ks ≡ lists.scan_keys cat.now q.now s.rel s.index s.backward s.param) }
 {
     if s.param.0 == 0 {
         let (range, classes) = (range_of(q), classes_of(q));
@@ -53,7 +55,8 @@ fn scan_keys(alloc: Global, cat: &Catalog, q: &Prepared, s: ByIndex) -> Result<K
 
 /// What a scan by an index is.
 fn index_node(s: ByIndex) -> Node
-    ensures { node result ≡ cond s.only (forms.by_index_only s.index s.backward) (forms.by_index s.index s.backward) }
+    ensures { node result ≡
+        cond s.only (forms.by_index_only s.index s.backward) (forms.by_index s.index s.backward) }
 {
     if s.only {
         Node::IndexOnly(s.index, s.backward)
@@ -71,7 +74,8 @@ pub(crate) fn index_shape(
 ) -> Result<Shape, Memory>
     requires relation { s.rel.0 < 16 }
     requires index { IsIndex cat.now s.index }
-    ensures { IfOk result (λ x. (t : forms.Certificate) → IsShapeOf cat.now q.now t (plain.Index s.rel s.index s.backward s.only s.param) x) }
+    ensures { IfOk result (λ x. (t : forms.Certificate) →
+        IsShapeOf cat.now q.now t (plain.Index s.rel s.index s.backward s.only s.param) x) }
 {
     let keys = scan_keys(alloc, cat, q, s)?;
     Ok(Shape {
@@ -93,7 +97,8 @@ pub(crate) fn bitmap_shape(
 ) -> Result<Shape, Memory>
     requires query { IsOverTables cat.now q.now }
     requires relation { at.0.0 < width q.now }
-    ensures { IfOk result (λ x. (t : forms.Certificate) → IsShapeOf cat.now q.now t (plain.Bitmap at.0 at.1 elements arms.now) x) }
+    ensures { IfOk result (λ x. (t : forms.Certificate) →
+        IsShapeOf cat.now q.now t (plain.Bitmap at.0 at.1 elements arms.now) x) }
 {
     let found = first_elements(cat, q, at.0, at.1);
     let trees = trees_by(alloc, q, elements, found.items(), arms)?;
@@ -123,8 +128,11 @@ pub(crate) fn nest_shape(
     inner: u32,
 ) -> Result<Shape, Memory>
     requires some { (1 ≤ outer) × (1 ≤ inner) }
-    requires within { (outer ≤ length (certificate t.now).entries) × (inner ≤ length (certificate t.now).entries) }
-    ensures { IfOk result (λ x. (c : Contents) (q : Query) → AllRight c q (certificate t.now) → IsShapeOf c q (certificate t.now) (plain.Nest outer inner) x) }
+    requires within { (outer ≤ length (certificate t.now).entries) ×
+        (inner ≤ length (certificate t.now).entries) }
+    ensures { IfOk result (λ x. (c : Contents) (q : Query) →
+        AllRight c q (certificate t.now) →
+        IsShapeOf c q (certificate t.now) (plain.Nest outer inner) x) }
 {
     let a = entry_at(t, outer);
     let b = entry_at(t, inner);
@@ -171,8 +179,11 @@ pub(crate) fn merge_shape(
 ) -> Result<Shape, Memory>
     requires different { AreDifferent (keys_in places.now) }
     requires some { (1 ≤ outer.entry) × (1 ≤ inner.entry) }
-    requires within { (outer.entry ≤ length (certificate t.now).entries) × (inner.entry ≤ length (certificate t.now).entries) }
-    ensures { IfOk result (λ x. (c : Contents) (q : Query) → AllRight c q (certificate t.now) → IsShapeOf c q (certificate t.now) (plain.Merge places.now outer inner) x) }
+    requires within { (outer.entry ≤ length (certificate t.now).entries) ×
+        (inner.entry ≤ length (certificate t.now).entries) }
+    ensures { IfOk result (λ x. (c : Contents) (q : Query) →
+        AllRight c q (certificate t.now) →
+        IsShapeOf c q (certificate t.now) (plain.Merge places.now outer inner) x) }
 {
     let a = entry_at(t, outer.entry);
     let b = entry_at(t, inner.entry);

@@ -37,7 +37,8 @@ fn shape_of(
 ) -> Result<Shape, Memory>
     requires bound { IsWellBound cat.now q.now }
     requires right { AllRight cat.now q.now (certificate t.now) }
-    requires built { (p : Plan) × StandsForPlan cat.now q.now (certificate t.now) node.now p × IsBuilt cat.now q.now p }
+    requires built { (p : Plan) ×
+        StandsForPlan cat.now q.now (certificate t.now) node.now p × IsBuilt cat.now q.now p }
     ensures { IfOk result (IsShapeOf cat.now q.now (certificate t.now) node.now) }
 {
     match node {
@@ -71,7 +72,8 @@ fn shape_of(
 
 /// An entry with its numbers.
 fn with_numbers(shape: Shape, x: Uncovered) -> Entry
-    ensures { entry result ≡ entry_with shape.set shape.param (seen shape.node) shape.keys x.startup x.cost x.rows }
+    ensures { entry result ≡
+        entry_with shape.set shape.param (seen shape.node) shape.keys x.startup x.cost x.rows }
 {
     Entry {
         set: shape.set,
@@ -96,8 +98,10 @@ fn told_by(
     requires bound { IsWellBound cat.now q.now }
     requires arms { HasArmsInOrs q.now }
     requires right { AllRight cat.now q.now (certificate t.now) }
-    requires uncovered { IsUncovered cat.now q.now (certificate t.now) node.now x.startup x.cost x.rows }
-    ensures told { IfOk result (λ e. IsToldBy cat.now q.now (certificate t.now) node.now x.startup x.cost x.rows (entry e)) }
+    requires uncovered { IsUncovered cat.now q.now (certificate t.now)
+        node.now x.startup x.cost x.rows }
+    ensures told { IfOk result (λ e.
+        IsToldBy cat.now q.now (certificate t.now) node.now x.startup x.cost x.rows (entry e)) }
     ensures line { IfOk result (λ e. HasEntryLine cat.now q.now (entry e)) }
 {
     cat.lawful();
@@ -131,8 +135,11 @@ pub(crate) fn uncovered_text(
     requires bound { IsWellBound cat.now q.now }
     requires arms { HasArmsInOrs q.now }
     requires right { AllRight cat.now q.now (certificate t.now) }
-    requires uncovered { IsUncovered cat.now q.now (certificate t.now) node.now x.startup x.cost x.rows }
-    ensures { IfOk result (λ text. (e : forms.Entry) × IsToldBy cat.now q.now (certificate t.now) node.now x.startup x.cost x.rows e × HasEntryLine cat.now q.now e × (text.items ≡ texts.uncovered_text cat.now q.now e)) }
+    requires uncovered { IsUncovered cat.now q.now (certificate t.now)
+        node.now x.startup x.cost x.rows }
+    ensures { IfOk result (λ text. (e : forms.Entry) ×
+        IsToldBy cat.now q.now (certificate t.now) node.now x.startup x.cost x.rows e ×
+        HasEntryLine cat.now q.now e × (text.items ≡ texts.uncovered_text cat.now q.now e)) }
 {
     let told = told_by(alloc, cat, q, t, node, x)?;
     entry_text(alloc, cat, q, &told)

@@ -54,7 +54,8 @@ pub(crate) fn trees_by(
     elements: &[Element],
     indexes: &[IndexNo],
 ) -> Result<Vec<BitTree>, Memory>
-    ensures { IfOk result (λ trees. map bits trees.items ≡ telling.trees_by q.now mask (map element elements.now) indexes.now) }
+    ensures { IfOk result (λ trees.
+        map bits trees.items ≡ telling.trees_by q.now mask (map element elements.now) indexes.now) }
 {
     let mut trees = Vec::new(alloc);
     let mut left = mask;

@@ -7,6 +7,7 @@ pub mod Faults
 pub mod Ending
 pub mod Steps
 pub mod Claims
+pub mod Places
 -- What callers name of the crates below.
 pub use Rattle.group_reply.specs.reply_Measures as reply_Measures
 pub use Rattle.group_reply.specs.reply_Putting as reply_Putting

@@ -1,5 +1,5 @@
 -- What a SELECT of either form asks over a store of its catalogue. Own.
-use Rattle.std.specs.Prelude.{ℕ, ◌≤◌, ◌<◌, Bool, true, false, List, length}
+use Rattle.std.specs.Prelude.{ℕ, ◌⊎◌, ◌≤◌, ◌<◌, Bool, true, false, List, length}
 use Rattle.pg_base.specs.declared.limits.TheConstants.{MOST_SCRIPT_BYTES}
 use Rattle.sql_lex.specs.declared.tokens.Token.{Token}
 use Rattle.sql_lex.specs.Words.{AreWords}
@@ -7,10 +7,11 @@ use Rattle.sql_grammar.specs.Faults.{terminals}
 use Rattle.sql_grammar.specs.Terminals.{Terminal}
 use Rattle.catalog.specs.Contents.{Contents}
 use Rattle.sql_query.specs.Grouped.{GroupedQuery}
+use Rattle.sql_query.specs.Queries.{Query}
 use Rattle.sql_query.specs.WellBound.{IsWellBound}
 use Rattle.store.specs.Kept.{IsStoreOf}
 use Rattle.plan_reply.specs.certificate_laws_Arms.{HasArmsInOrs}
-use Rattle.query_reader.specs.Select.{AreNoOther, is_explained}
+use Rattle.query_reader.specs.Select.{AreGrouped, AreNoOther, AreSelect, is_explained}
 use Rattle.query_reader.specs.Wanted.{wanted_by}
 use Rattle.group_query.specs.Grouping.{IsWellGrouped}
 use Rattle.group_reader.specs.declared.selected.Selected.{Selected}
@@ -19,7 +20,7 @@ use Rattle.group_reply.specs.group_explain_Plans.{HasNoGroupPlan}
 use Rattle.group_reply.specs.reply_Answers.{HasNoPlan}
 use Rattle.store.specs.Actions.{Action, answer_groups, explain_groups}
 use Rattle.statements.specs.declared.using.Place.{Place}
-use Rattle.statements.specs.Accepted.{asked_as}
+use Rattle.statements.specs.Accepted.{action_asked, asked_as}
 
 -- the tokens are a statement of more than its end, and of no other kind than a SELECT; the store is one of the catalogue
 pub record IsQuestion {C F L : Type 0} (at : Place C F L) : Type 0 where
@@ -56,3 +57,15 @@ IsBoundTo c (Grouped g) = IsWellGrouped c g
 abbrev pub HasNoneOf : Contents → Selected → Type 0
 HasNoneOf c (Plain q) = HasNoPlan c q
 HasNoneOf c (Grouped g) = HasNoGroupPlan c g
+
+-- the tokens are a SELECT, grouped or not
+abbrev pub AreAnySelect : List ℕ → List Token → Type 0
+AreAnySelect text tokens = AreSelect text tokens ⊎ AreGrouped text tokens
+
+-- what is done of a query that does not group
+abbrev pub asked_at : {C F L : Type 0} → Place C F L → Query → Action
+asked_at at q = action_asked at.text.now at.tokens.now q
+
+-- what is done of one that groups
+abbrev pub groups_asked_at : {C F L : Type 0} → Place C F L → GroupedQuery → Action
+groups_asked_at at g = groups_asked (is_explained (terminals at.text.now at.tokens.now)) g

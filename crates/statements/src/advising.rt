@@ -34,8 +34,12 @@ pub(crate) fn advise<K: Sink>(
     requires short { length text.now ≤ MOST_SCRIPT_BYTES }
     requires words { (from : ℕ) × AreWords text.now from tokens.now }
     requires opens { begins_advise (terminals text.now tokens.now) ≡ true }
-    ensures answered { (stored : List Stored) (f l : ℕ) → IfOk result (λ next. IsAnsweredOver (world catalog.now stored) text.now tokens.now next (traces (K.held out.old) f l) (traces (K.held out.new) f l)) }
-    ensures stopped { (stored : List Stored) (f l : ℕ) → IfErr result (λ e. StopsOver e (world catalog.now stored) text.now tokens.now (traces (K.held out.old) f l) (traces (K.held out.new) f l)) }
+    ensures answered { (stored : List Stored) (f l : ℕ) → IfOk result (λ next.
+        IsAnsweredOver (world catalog.now stored) text.now tokens.now next
+        (traces (K.held out.old) f l) (traces (K.held out.new) f l)) }
+    ensures stopped { (stored : List Stored) (f l : ℕ) → IfErr result (λ e.
+        StopsOver e (world catalog.now stored) text.now tokens.now
+        (traces (K.held out.old) f l) (traces (K.held out.new) f l)) }
     ensures cause { HasWriteCause End.Write (K.faults out.old) (K.faults out.new) result }
 {
     let lines = advice(alloc, text, tokens, catalog)?;
@@ -55,8 +59,10 @@ pub(crate) fn advice(
     requires short { length text.now ≤ MOST_SCRIPT_BYTES }
     requires words { (from : ℕ) × AreWords text.now from tokens.now }
     requires opens { begins_advise (terminals text.now tokens.now) ≡ true }
-    ensures advised { (stored : List Stored) → IfOk result (λ lines. IsTelling (world catalog.now stored) text.now tokens.now (end_of tokens.now) lines.items) }
-    ensures refused { (stored : List Stored) → IfErr result (λ e. Refuses e (world catalog.now stored) text.now tokens.now 0 0) }
+    ensures advised { (stored : List Stored) → IfOk result (λ lines.
+        IsTelling (world catalog.now stored) text.now tokens.now (end_of tokens.now) lines.items) }
+    ensures refused { (stored : List Stored) →
+        IfErr result (λ e. Refuses e (world catalog.now stored) text.now tokens.now 0 0) }
 {
     let asked = read_advise(alloc, catalog, text, tokens)?;
     let found = advice_for(

@@ -31,9 +31,14 @@ pub fn carry_out<C: Counters>(
     requires short { length text.now ≤ MOST_SCRIPT_BYTES }
     requires words { (from : ℕ) × AreWords text.now from tokens.now }
     requires store { IsStoreOf catalog.old store.old }
-    ensures carried { IfOk result (λ next. MatchOption next (AreNoDefinition text.now tokens.now) (λ next. IsDefined (world catalog.old store.old.stored) (world catalog.new store.new.stored) text.now tokens.now next reads.old reads.new)) }
-    ensures still { IfOk result (λ next. next ≡ None → (catalog.new ≡ catalog.old) × (store.new ≡ store.old) × (reads.new ≡ reads.old)) }
-    ensures refused { IfErr result (λ e. Refuses e (world catalog.old store.old.stored) text.now tokens.now reads.old reads.new) }
+    ensures carried { IfOk result (λ next.
+        MatchOption next (AreNoDefinition text.now tokens.now) (λ next.
+        IsDefined (world catalog.old store.old.stored) (world catalog.new store.new.stored)
+        text.now tokens.now next reads.old reads.new)) }
+    ensures still { IfOk result (λ next. next ≡ None →
+        (catalog.new ≡ catalog.old) × (store.new ≡ store.old) × (reads.new ≡ reads.old)) }
+    ensures refused { IfErr result (λ e.
+        Refuses e (world catalog.old store.old.stored) text.now tokens.now reads.old reads.new) }
     ensures store { IsStoreOf catalog.new store.new }
     ensures unchanged { OnErr result ((catalog.new ≡ catalog.old) × (store.new ≡ store.old)) }
 {

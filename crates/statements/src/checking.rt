@@ -35,8 +35,10 @@ pub(crate) fn verdict_of(
     requires short { length text.now ≤ MOST_SCRIPT_BYTES }
     requires words { (from : ℕ) × AreWords text.now from tokens.now }
     requires opens { begins_check (terminals text.now tokens.now) ≡ true }
-    ensures telling { (stored : List Stored) → IfOk result (λ v. IsTelling (world catalog.now stored) text.now tokens.now v.next v.line.items) }
-    ensures refused { (stored : List Stored) → IfErr result (λ e. Refuses e (world catalog.now stored) text.now tokens.now 0 0) }
+    ensures telling { (stored : List Stored) → IfOk result (λ v.
+        IsTelling (world catalog.now stored) text.now tokens.now v.next v.line.items) }
+    ensures refused { (stored : List Stored) →
+        IfErr result (λ e. Refuses e (world catalog.now stored) text.now tokens.now 0 0) }
 {
     let Claim {
         query,
@@ -62,8 +64,12 @@ pub(crate) fn check<K: Sink>(
     requires short { length text.now ≤ MOST_SCRIPT_BYTES }
     requires words { (from : ℕ) × AreWords text.now from tokens.now }
     requires opens { begins_check (terminals text.now tokens.now) ≡ true }
-    ensures answered { (stored : List Stored) (f l : ℕ) → IfOk result (λ next. IsAnsweredOver (world catalog.now stored) text.now tokens.now next (traces (K.held out.old) f l) (traces (K.held out.new) f l)) }
-    ensures stopped { (stored : List Stored) (f l : ℕ) → IfErr result (λ e. StopsOver e (world catalog.now stored) text.now tokens.now (traces (K.held out.old) f l) (traces (K.held out.new) f l)) }
+    ensures answered { (stored : List Stored) (f l : ℕ) → IfOk result (λ next.
+        IsAnsweredOver (world catalog.now stored) text.now tokens.now next
+        (traces (K.held out.old) f l) (traces (K.held out.new) f l)) }
+    ensures stopped { (stored : List Stored) (f l : ℕ) → IfErr result (λ e.
+        StopsOver e (world catalog.now stored) text.now tokens.now
+        (traces (K.held out.old) f l) (traces (K.held out.new) f l)) }
     ensures cause { HasWriteCause End.Write (K.faults out.old) (K.faults out.new) result }
 {
     let verdict = verdict_of(alloc, text, tokens, catalog)?;

@@ -88,8 +88,11 @@ pub(crate) fn read_claim(
     ensures arms { IfOk result (λ c. HasArmsInOrs c.query) }
     ensures whole { IfOk result (λ c. IsWholeFor given c.query) }
     ensures within { IfOk result (λ c. (c.start ≤ c.end) × (c.end ≤ length text.now)) }
-    ensures read { (stored : List Stored) → IfOk result (λ c. IsReadOver (world catalog.now stored) text.now tokens.now (action_for given c.query (slice_range text.now c.start c.end)) c.next) }
-    ensures refused { (stored : List Stored) → IfErr result (λ e. Refuses e (world catalog.now stored) text.now tokens.now 0 0) }
+    ensures read { (stored : List Stored) → IfOk result (λ c.
+        IsReadOver (world catalog.now stored) text.now tokens.now
+        (action_for given c.query (slice_range text.now c.start c.end)) c.next) }
+    ensures refused { (stored : List Stored) →
+        IfErr result (λ e. Refuses e (world catalog.now stored) text.now tokens.now 0 0) }
 {
     if let Some(fault) = statement_fault(text, tokens, 0) {
         return Err(End::Fault(fault));

@@ -12,12 +12,11 @@ ghost use Rattle.pg_base.specs.Names.{IsName};
 ghost use Rattle.catalog.specs.Tables.{IsAcceptable};
 ghost use Rattle.ddl_reader.specs.Block.{IsBlockEnd};
 ghost use Rattle.ddl_reader.specs.Statements.{begins_ddl};
-ghost use Rattle.ddl_reader.specs.Tables.{data_for, sizes_for, statistics_for, table as table_of};
-ghost use Rattle.heap.specs.Loading.{loaded, records_of};
+ghost use Rattle.ddl_reader.specs.Tables.{sizes_for, statistics_for, table as table_of};
 ghost use Rattle.heap.specs.Stored.{Stored};
-ghost use Rattle.sql_query.specs.Worlds.{stored_at, world};
+ghost use Rattle.sql_query.specs.Worlds.{world};
 ghost use Rattle.store.specs.Actions as actions;
-ghost use Rattle.store.specs.Kept.{IsStoreOf, Kept, load_looks, stored_of};
+ghost use Rattle.store.specs.Kept.{IsStoreOf, Kept, load_looks, loaded_block, stored_of};
 ghost use Rattle.statements.specs.Steps.{IsDefined, Refuses, RefusesData, RefusesDefinition};
 
 use crate::end::End;
@@ -44,8 +43,11 @@ pub(crate) fn define<C: Counters>(
     requires words { (from : ℕ) × AreWords text.now from tokens.now }
     requires opens { begins_ddl (terminals text.now tokens.now) ≡ true }
     requires store { IsStoreOf catalog.old store.old }
-    ensures defined { IfOk result (λ next. IsDefined (world catalog.old store.old.stored) (world catalog.new store.new.stored) text.now tokens.now next reads.old reads.new) }
-    ensures refused { IfErr result (λ e. Refuses e (world catalog.old store.old.stored) text.now tokens.now reads.old reads.new) }
+    ensures defined { IfOk result (λ next.
+        IsDefined (world catalog.old store.old.stored) (world catalog.new store.new.stored)
+        text.now tokens.now next reads.old reads.new) }
+    ensures refused { IfErr result (λ e.
+        Refuses e (world catalog.old store.old.stored) text.now tokens.now reads.old reads.new) }
     ensures store { IsStoreOf catalog.new store.new }
     ensures unchanged { OnErr result ((catalog.new ≡ catalog.old) × (store.new ≡ store.old)) }
 {
@@ -104,8 +106,12 @@ fn table<C: Counters>(
     requires places { length at.now ≡ length asked.names.items + 1 }
     requires within { All (λ a. a ≤ 2 ^ 31) at.now }
     ensures accepted { OnOk result (IsAcceptable catalog.old asked.name asked.names.items) }
-    ensures made { OnOk result (world catalog.new store.new.stored ≡ actions.after (world catalog.old store.old.stored) (actions.make asked.name asked.names.items asked.columns)) }
-    ensures refused { IfErr result (λ e. RefusesDefinition e (world catalog.old store.old.stored) [] (table_of asked.name asked.names.items asked.columns) at.now) }
+    ensures made { OnOk result
+        (actions.IsWorldAfter (actions.make asked.name asked.names.items asked.columns)
+        catalog.old store.old catalog.new store.new) }
+    ensures refused { IfErr result (λ e.
+        RefusesDefinition e (world catalog.old store.old.stored) []
+        (table_of asked.name asked.names.items asked.columns) at.now) }
     ensures store { IsStoreOf catalog.new store.new }
     ensures unchanged { OnErr result ((catalog.new ≡ catalog.old) × (store.new ≡ store.old)) }
 {
@@ -126,8 +132,11 @@ fn size(catalog: &mut Catalog, at: &[u32], table: TableNo, rows: u64, pages: u64
     requires table { IsTable catalog.old table }
     requires places { length at.now ≡ 2 }
     ensures accepted { OnOk result ((is_count rows ≡ true) × (is_count pages ≡ true)) }
-    ensures made { OnOk result ((stored : List Stored) → world catalog.new stored ≡ actions.after (world catalog.old stored) (actions.size table rows pages)) }
-    ensures refused { (stored : List Stored) (text : List ℕ) → IfErr result (λ e. RefusesDefinition e (world catalog.old stored) text (sizes_for table rows pages) at.now) }
+    ensures made { OnOk result ((stored : List Stored) →
+        world catalog.new stored ≡
+        actions.after (world catalog.old stored) (actions.size table rows pages)) }
+    ensures refused { (stored : List Stored) (text : List ℕ) → IfErr result (λ e.
+        RefusesDefinition e (world catalog.old stored) text (sizes_for table rows pages) at.now) }
     ensures store { (k : Kept) → IsStoreOf catalog.old k → IsStoreOf catalog.new k }
     ensures unchanged { OnErr result (catalog.new ≡ catalog.old) }
 {
@@ -148,11 +157,17 @@ fn describe(
 ) -> Result<(), End>
     requires table { IsTable catalog.old table }
     requires column { IsColumn catalog.old table col }
-    requires values { AreValuesOf (type_at (table_at catalog.old table).columns col) (statistics stats) }
-    requires places { length at.now ≡ 2 + (2 * length (statistics stats).common + length (statistics stats).histogram) }
+    requires values { AreValuesOf (type_at (table_at catalog.old table).columns col)
+        (statistics stats) }
+    requires places { length at.now ≡
+        2 + (2 * length (statistics stats).common + length (statistics stats).histogram) }
     ensures accepted { OnOk result (AreAllowed (statistics stats)) }
-    ensures made { OnOk result ((stored : List Stored) → world catalog.new stored ≡ actions.after (world catalog.old stored) (actions.describe table col (statistics stats))) }
-    ensures refused { (stored : List Stored) (text : List ℕ) → IfErr result (λ e. RefusesDefinition e (world catalog.old stored) text (statistics_for table col (statistics stats)) at.now) }
+    ensures made { OnOk result ((stored : List Stored) →
+        world catalog.new stored ≡
+        actions.after (world catalog.old stored) (actions.describe table col (statistics stats))) }
+    ensures refused { (stored : List Stored) (text : List ℕ) → IfErr result (λ e.
+        RefusesDefinition e (world catalog.old stored) text
+        (statistics_for table col (statistics stats)) at.now) }
     ensures store { (k : Kept) → IsStoreOf catalog.old k → IsStoreOf catalog.new k }
     ensures unchanged { OnErr result (catalog.new ≡ catalog.old) }
 {
@@ -175,8 +190,14 @@ fn data<C: Counters>(
     requires start { start ≤ length text.now }
     requires store { IsStoreOf catalog.old store.old }
     requires table { IsTable catalog.old table }
-    ensures loaded { IfOk result (λ next. (end : ℕ) × (s : Stored) × IsBlockEnd text.now start end next × (loaded (stored_at (world catalog.old store.old.stored) table) (records_of (slice_range text.now start end)) ≡ Ok s) × (world catalog.new store.new.stored ≡ actions.after (world catalog.old store.old.stored) (actions.fill table s)) × (reads.new ≡ reads.old + load_looks catalog.old table (stored_of store.old table) s)) }
-    ensures refused { IfErr result (λ e. RefusesData e (world catalog.old store.old.stored) text.now table start reads.old reads.new) }
+    ensures loaded { IfOk result (λ next. (end : ℕ) × (s : Stored) ×
+        IsBlockEnd text.now start end next ×
+        (loaded_block store.old table (slice_range text.now start end) ≡ Ok s) ×
+        actions.IsWorldAfter (actions.fill table s) catalog.old store.old catalog.new store.new ×
+        (reads.new ≡ reads.old + load_looks catalog.old table (stored_of store.old table) s)) }
+    ensures refused { IfErr result (λ e.
+        RefusesData e (world catalog.old store.old.stored) text.now table start
+        reads.old reads.new) }
     ensures store { IsStoreOf catalog.new store.new }
     ensures unchanged { OnErr result ((catalog.new ≡ catalog.old) × (store.new ≡ store.old)) }
 {

@@ -33,8 +33,11 @@ pub(crate) fn create_index<C: Counters>(
     requires words { (from : ℕ) × AreWords text.now from tokens.now }
     requires opens { begins_index (terminals text.now tokens.now) ≡ true }
     requires store { IsStoreOf catalog.old store.old }
-    ensures defined { IfOk result (λ next. IsDefined (world catalog.old store.old.stored) (world catalog.new store.new.stored) text.now tokens.now next reads.old reads.new) }
-    ensures refused { IfErr result (λ e. Refuses e (world catalog.old store.old.stored) text.now tokens.now reads.old reads.new) }
+    ensures defined { IfOk result (λ next.
+        IsDefined (world catalog.old store.old.stored) (world catalog.new store.new.stored)
+        text.now tokens.now next reads.old reads.new) }
+    ensures refused { IfErr result (λ e.
+        Refuses e (world catalog.old store.old.stored) text.now tokens.now reads.old reads.new) }
     ensures store { IsStoreOf catalog.new store.new }
     ensures unchanged { OnErr result ((catalog.new ≡ catalog.old) × (store.new ≡ store.old)) }
 {

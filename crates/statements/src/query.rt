@@ -1,6 +1,6 @@
 //! SELECT, answered or measured, EXPLAIN and EXPLAIN (TABLE): of a SELECT that groups, and of any other.
 
-ghost use Rattle.std.specs.Prelude.{◌≡◌, ◌≢◌, ◌⊎◌, ◌≤◌, ◌<◌, ℕ, List, IfErr, IfOk, OnOk, length};
+ghost use Rattle.std.specs.Prelude.{◌≡◌, ◌≢◌, ◌≤◌, ◌<◌, ℕ, List, IfErr, IfOk, OnOk, length};
 ghost use Rattle.pg_base.specs.declared.limits.TheConstants.{MOST_SCRIPT_BYTES};
 ghost use Rattle.sql_lex.specs.Ends.{end_of, token_at as token_of_number};
 ghost use Rattle.sql_lex.specs.Words.{AreWords};
@@ -9,20 +9,21 @@ ghost use Rattle.heap.specs.Stored.{Stored};
 ghost use Rattle.sql_query.specs.WellBound.{IsWellBound};
 ghost use Rattle.sql_query.specs.Worlds.{world};
 ghost use Rattle.plan_reply.specs.certificate_laws_Arms.{HasArmsInOrs};
-ghost use Rattle.query_reader.specs.Select.{AreGrouped, AreNoOther, AreSelect, is_explained, words_before};
+ghost use Rattle.query_reader.specs.Select.{AreNoOther, words_before};
 ghost use Rattle.group_query.specs.Grouping.{IsWellGrouped};
 ghost use Rattle.group_reply.specs.group_explain_Plans.{HasNoGroupPlan};
 ghost use Rattle.group_reply.specs.reply_Answers.{HasNoPlan};
 ghost use Rattle.group_reply.specs.reply_Putting.{HasWriteCause};
 ghost use Rattle.group_reply.specs.reply_Replies.{HasReplied, Leaves, traces};
-ghost use Rattle.statements.specs.Accepted.{IsReadOver, action_asked};
+ghost use Rattle.statements.specs.Accepted.{IsReadOver};
 ghost use Rattle.statements.specs.Askings.{IsTallied};
 ghost use Rattle.statements.specs.Faults.{IsFaultOver, no_plan};
 ghost use Rattle.statements.specs.Claims.{world_at};
 ghost use Rattle.statements.specs.Ending.{end_of_stop};
-ghost use Rattle.statements.specs.Questions.{HasNoneOf, IsBoundTo, IsQuestion, action_of, asked_of, groups_asked};
+ghost use Rattle.statements.specs.Questions.{AreAnySelect, HasNoneOf, IsBoundTo, IsQuestion, action_of, asked_at, asked_of, groups_asked_at};
 ghost use Rattle.statements.specs.Replies.{IsReply};
-ghost use Rattle.statements.specs.Steps.{IsAnsweredOver, IsTalliedOver, Refuses, StopsOver};
+ghost use Rattle.statements.specs.Steps.{Refuses};
+ghost use Rattle.statements.specs.Places.{IsAnsweredAt, IsTalliedAt, RefusesAt, StopsAnswerAt};
 
 use crate::end::End;
 use crate::using::Place;
@@ -47,7 +48,8 @@ fn select_at(text: &[u8], tokens: &Tokens) -> u32
     requires short { length text.now ≤ MOST_SCRIPT_BYTES }
     requires words { (from : ℕ) × AreWords text.now from tokens.now }
     requires some { 1 < length tokens.now }
-    ensures place { AreSelect text.now tokens.now ⊎ AreGrouped text.now tokens.now → result ≡ words_before (terminals text.now tokens.now) }
+    ensures place { AreAnySelect text.now tokens.now →
+        result ≡ words_before (terminals text.now tokens.now) }
     ensures within { result < length tokens.now }
 {
     let first = words_by(wants(text, tokens));
@@ -70,10 +72,15 @@ fn read_query(
     requires some { 1 < length tokens.now }
     requires kind { AreNoOther text.now tokens.now }
     ensures bound { IfOk result (IsBoundTo catalog.now) }
-    ensures select { IfOk result (λ s. AreSelect text.now tokens.now ⊎ AreGrouped text.now tokens.now) }
-    ensures read { (stored : List Stored) → IfOk result (λ s. IsReadOver (world catalog.now stored) text.now tokens.now (asked_of text.now tokens.now s) (end_of tokens.now)) }
-    ensures unplanned { (stored : List Stored) → IfOk result (λ s. HasNoneOf catalog.now s → IsFaultOver (world catalog.now stored) text.now tokens.now (no_plan text.now tokens.now)) }
-    ensures refused { (stored : List Stored) → IfErr result (λ e. Refuses e (world catalog.now stored) text.now tokens.now 0 0) }
+    ensures select { IfOk result (λ s. AreAnySelect text.now tokens.now) }
+    ensures read { (stored : List Stored) → IfOk result (λ s.
+        IsReadOver (world catalog.now stored) text.now tokens.now
+        (asked_of text.now tokens.now s) (end_of tokens.now)) }
+    ensures unplanned { (stored : List Stored) → IfOk result (λ s.
+        HasNoneOf catalog.now s →
+        IsFaultOver (world catalog.now stored) text.now tokens.now (no_plan text.now tokens.now)) }
+    ensures refused { (stored : List Stored) →
+        IfErr result (λ e. Refuses e (world catalog.now stored) text.now tokens.now 0 0) }
 {
     let first = select_at(text, tokens);
     let read = read_any(alloc, catalog, text, tokens, first)?;
@@ -85,7 +92,7 @@ fn unplanned(text: &[u8], tokens: &Tokens) -> Fault
     requires short { length text.now ≤ MOST_SCRIPT_BYTES }
     requires words { (from : ℕ) × AreWords text.now from tokens.now }
     requires some { 1 < length tokens.now }
-    requires select { AreSelect text.now tokens.now ⊎ AreGrouped text.now tokens.now }
+    requires select { AreAnySelect text.now tokens.now }
     ensures { result ≡ no_plan text.now tokens.now }
 {
     let first = select_at(text, tokens);
@@ -101,8 +108,12 @@ pub(crate) fn answer_query<C: Counters, K: Sink>(
     reads: &mut Steps<C::Looks>,
 ) -> Result<u32, End>
     requires { IsQuestion at.now }
-    ensures answered { IfOk result (λ next. IsAnsweredOver (world_at at.now) at.now.text.now at.now.tokens.now next (traces (K.held out.old) fetches.old reads.old) (traces (K.held out.new) fetches.new reads.new)) }
-    ensures stopped { IfErr result (λ e. StopsOver e (world_at at.now) at.now.text.now at.now.tokens.now (traces (K.held out.old) fetches.old reads.old) (traces (K.held out.new) fetches.new reads.new)) }
+    ensures answered { IfOk result (λ next. IsAnsweredAt at.now next
+        (traces (K.held out.old) fetches.old reads.old)
+        (traces (K.held out.new) fetches.new reads.new)) }
+    ensures stopped { IfErr result (λ e. StopsAnswerAt e at.now
+        (traces (K.held out.old) fetches.old reads.old)
+        (traces (K.held out.new) fetches.new reads.new)) }
     ensures cause { HasWriteCause End.Write (K.faults out.old) (K.faults out.new) result }
 {
     let read = read_query(at.alloc, at.text, at.tokens, at.catalog)?;
@@ -120,8 +131,8 @@ pub(crate) fn measure_query<C: Counters>(
     reads: &mut Steps<C::Looks>,
 ) -> Result<Option<Measured>, End>
     requires { IsQuestion at.now }
-    ensures tallied { IfOk result (IsTalliedOver (world_at at.now) at.now.text.now at.now.tokens.now (end_of at.now.tokens.now)) }
-    ensures refused { IfErr result (λ e. Refuses e (world_at at.now) at.now.text.now at.now.tokens.now 0 0) }
+    ensures tallied { IfOk result (IsTalliedAt at.now) }
+    ensures refused { IfErr result (λ e. RefusesAt e at.now) }
 {
     let read = read_query(at.alloc, at.text, at.tokens, at.catalog)?;
     match count(at, read, fetches, reads) {
@@ -140,7 +151,8 @@ fn count<C: Counters>(
     requires question { IsQuestion at.now }
     requires bound { IsBoundTo at.now.catalog.now read }
     ensures tallied { IfOk result (IsTallied (world_at at.now) (action_of at.now read)) }
-    ensures no_plan { IfErr result (λ stop. stop ≡ Stop.NoPlan → HasNoneOf at.now.catalog.now read) }
+    ensures no_plan { IfErr result (λ stop.
+        stop ≡ Stop.NoPlan → HasNoneOf at.now.catalog.now read) }
     ensures unwritten { IfErr result (λ stop. stop ≢ Stop.Write) }
 {
     match read {
@@ -162,8 +174,9 @@ fn count_rows<C: Counters>(
     requires question { IsQuestion at.now }
     requires bound { IsWellBound at.now.catalog.now query.now }
     requires arms { HasArmsInOrs query.now }
-    ensures tallied { IfOk result (IsTallied (world_at at.now) (action_asked at.now.text.now at.now.tokens.now query.now)) }
-    ensures no_plan { IfErr result (λ stop. stop ≡ Stop.NoPlan → HasNoPlan at.now.catalog.now query.now) }
+    ensures tallied { IfOk result (IsTallied (world_at at.now) (asked_at at.now query.now)) }
+    ensures no_plan { IfErr result (λ stop.
+        stop ≡ Stop.NoPlan → HasNoPlan at.now.catalog.now query.now) }
     ensures unwritten { IfErr result (λ stop. stop ≢ Stop.Write) }
 {
     match wants(at.text, at.tokens) {
@@ -192,9 +205,15 @@ fn print<C: Counters, K: Sink>(
 ) -> Result<(), Stop>
     requires question { IsQuestion at.now }
     requires bound { IsBoundTo at.now.catalog.now read }
-    ensures replied { OnOk result (HasReplied (IsReply (world_at at.now) (action_of at.now read)) (traces (K.held out.old) fetches.old reads.old) (traces (K.held out.new) fetches.new reads.new)) }
-    ensures stopped { IfErr result (λ stop. Leaves stop (IsReply (world_at at.now) (action_of at.now read)) (traces (K.held out.old) fetches.old reads.old) (traces (K.held out.new) fetches.new reads.new)) }
-    ensures no_plan { IfErr result (λ stop. stop ≡ Stop.NoPlan → HasNoneOf at.now.catalog.now read) }
+    ensures replied { OnOk result (HasReplied (IsReply (world_at at.now) (action_of at.now read))
+        (traces (K.held out.old) fetches.old reads.old)
+        (traces (K.held out.new) fetches.new reads.new)) }
+    ensures stopped { IfErr result (λ stop.
+        Leaves stop (IsReply (world_at at.now) (action_of at.now read))
+        (traces (K.held out.old) fetches.old reads.old)
+        (traces (K.held out.new) fetches.new reads.new)) }
+    ensures no_plan { IfErr result (λ stop.
+        stop ≡ Stop.NoPlan → HasNoneOf at.now.catalog.now read) }
     ensures cause { HasWriteCause Stop.Write (K.faults out.old) (K.faults out.new) result }
 {
     match read {
@@ -214,9 +233,16 @@ fn print_rows<C: Counters, K: Sink>(
     requires question { IsQuestion at.now }
     requires bound { IsWellBound at.now.catalog.now query.now }
     requires arms { HasArmsInOrs query.now }
-    ensures replied { OnOk result (HasReplied (IsReply (world_at at.now) (action_asked at.now.text.now at.now.tokens.now query.now)) (traces (K.held out.old) fetches.old reads.old) (traces (K.held out.new) fetches.new reads.new)) }
-    ensures stopped { IfErr result (λ stop. Leaves stop (IsReply (world_at at.now) (action_asked at.now.text.now at.now.tokens.now query.now)) (traces (K.held out.old) fetches.old reads.old) (traces (K.held out.new) fetches.new reads.new)) }
-    ensures no_plan { IfErr result (λ stop. stop ≡ Stop.NoPlan → HasNoPlan at.now.catalog.now query.now) }
+    ensures replied { OnOk result
+        (HasReplied (IsReply (world_at at.now) (asked_at at.now query.now))
+        (traces (K.held out.old) fetches.old reads.old)
+        (traces (K.held out.new) fetches.new reads.new)) }
+    ensures stopped { IfErr result (λ stop.
+        Leaves stop (IsReply (world_at at.now) (asked_at at.now query.now))
+        (traces (K.held out.old) fetches.old reads.old)
+        (traces (K.held out.new) fetches.new reads.new)) }
+    ensures no_plan { IfErr result (λ stop.
+        stop ≡ Stop.NoPlan → HasNoPlan at.now.catalog.now query.now) }
     ensures cause { HasWriteCause Stop.Write (K.faults out.old) (K.faults out.new) result }
 {
     match wants(at.text, at.tokens) {
@@ -236,9 +262,16 @@ fn print_groups<C: Counters, K: Sink>(
 ) -> Result<(), Stop>
     requires question { IsQuestion at.now }
     requires bound { IsWellGrouped at.now.catalog.now query }
-    ensures replied { OnOk result (HasReplied (IsReply (world_at at.now) (groups_asked (is_explained (terminals at.now.text.now at.now.tokens.now)) query)) (traces (K.held out.old) fetches.old reads.old) (traces (K.held out.new) fetches.new reads.new)) }
-    ensures stopped { IfErr result (λ stop. Leaves stop (IsReply (world_at at.now) (groups_asked (is_explained (terminals at.now.text.now at.now.tokens.now)) query)) (traces (K.held out.old) fetches.old reads.old) (traces (K.held out.new) fetches.new reads.new)) }
-    ensures no_plan { IfErr result (λ stop. stop ≡ Stop.NoPlan → HasNoGroupPlan at.now.catalog.now query) }
+    ensures replied { OnOk result
+        (HasReplied (IsReply (world_at at.now) (groups_asked_at at.now query))
+        (traces (K.held out.old) fetches.old reads.old)
+        (traces (K.held out.new) fetches.new reads.new)) }
+    ensures stopped { IfErr result (λ stop.
+        Leaves stop (IsReply (world_at at.now) (groups_asked_at at.now query))
+        (traces (K.held out.old) fetches.old reads.old)
+        (traces (K.held out.new) fetches.new reads.new)) }
+    ensures no_plan { IfErr result (λ stop.
+        stop ≡ Stop.NoPlan → HasNoGroupPlan at.now.catalog.now query) }
     ensures cause { HasWriteCause Stop.Write (K.faults out.old) (K.faults out.new) result }
 {
     if explains(at.text, at.tokens) {

@@ -52,8 +52,14 @@ pub fn reply_to<C: Counters, K: Sink>(
     requires words { (from : ℕ) × AreWords text.now from tokens.now }
     requires kind { AreNoDefinition text.now tokens.now }
     requires store { IsStoreOf catalog.now store.now }
-    ensures answered { IfOk result (λ next. IsAnsweredOver (world catalog.now store.now.stored) text.now tokens.now next (traces (K.held out.old) fetches.old reads.old) (traces (K.held out.new) fetches.new reads.new)) }
-    ensures stopped { IfErr result (λ e. StopsOver e (world catalog.now store.now.stored) text.now tokens.now (traces (K.held out.old) fetches.old reads.old) (traces (K.held out.new) fetches.new reads.new)) }
+    ensures answered { IfOk result (λ next.
+        IsAnsweredOver (world catalog.now store.now.stored) text.now tokens.now next
+        (traces (K.held out.old) fetches.old reads.old)
+        (traces (K.held out.new) fetches.new reads.new)) }
+    ensures stopped { IfErr result (λ e.
+        StopsOver e (world catalog.now store.now.stored) text.now tokens.now
+        (traces (K.held out.old) fetches.old reads.old)
+        (traces (K.held out.new) fetches.new reads.new)) }
     ensures cause { HasWriteCause End.Write (K.faults out.old) (K.faults out.new) result }
 {
     if is_advise(text, tokens) {
@@ -90,8 +96,10 @@ pub fn tally_reply<C: Counters>(
     requires words { (from : ℕ) × AreWords text.now from tokens.now }
     requires kind { AreNoDefinition text.now tokens.now }
     requires store { IsStoreOf catalog.now store.now }
-    ensures tallied { IfOk result (λ t. IsTalliedOver (world catalog.now store.now.stored) text.now tokens.now t.next t.measured) }
-    ensures refused { IfErr result (λ e. Refuses e (world catalog.now store.now.stored) text.now tokens.now 0 0) }
+    ensures tallied { IfOk result (λ t.
+        IsTalliedOver (world catalog.now store.now.stored) text.now tokens.now t.next t.measured) }
+    ensures refused { IfErr result (λ e.
+        Refuses e (world catalog.now store.now.stored) text.now tokens.now 0 0) }
 {
     if is_advise(text, tokens) {
         return tally_advice(alloc, text, tokens, catalog);
@@ -128,8 +136,10 @@ fn tally_advice(
     requires short { length text.now ≤ MOST_SCRIPT_BYTES }
     requires words { (from : ℕ) × AreWords text.now from tokens.now }
     requires opens { begins_advise (terminals text.now tokens.now) ≡ true }
-    ensures tallied { (stored : List Stored) → IfOk result (λ t. IsTalliedOver (world catalog.now stored) text.now tokens.now t.next t.measured) }
-    ensures refused { (stored : List Stored) → IfErr result (λ e. Refuses e (world catalog.now stored) text.now tokens.now 0 0) }
+    ensures tallied { (stored : List Stored) → IfOk result (λ t.
+        IsTalliedOver (world catalog.now stored) text.now tokens.now t.next t.measured) }
+    ensures refused { (stored : List Stored) →
+        IfErr result (λ e. Refuses e (world catalog.now stored) text.now tokens.now 0 0) }
 {
     let _lines = advice(alloc, text, tokens, catalog)?;
     Ok(Tallied {
@@ -148,8 +158,10 @@ fn tally_check(
     requires short { length text.now ≤ MOST_SCRIPT_BYTES }
     requires words { (from : ℕ) × AreWords text.now from tokens.now }
     requires opens { begins_check (terminals text.now tokens.now) ≡ true }
-    ensures tallied { (stored : List Stored) → IfOk result (λ t. IsTalliedOver (world catalog.now stored) text.now tokens.now t.next t.measured) }
-    ensures refused { (stored : List Stored) → IfErr result (λ e. Refuses e (world catalog.now stored) text.now tokens.now 0 0) }
+    ensures tallied { (stored : List Stored) → IfOk result (λ t.
+        IsTalliedOver (world catalog.now stored) text.now tokens.now t.next t.measured) }
+    ensures refused { (stored : List Stored) →
+        IfErr result (λ e. Refuses e (world catalog.now stored) text.now tokens.now 0 0) }
 {
     let verdict = verdict_of(alloc, text, tokens, catalog)?;
     Ok(Tallied {
@@ -170,8 +182,10 @@ fn tally_plan<C: Counters>(
     requires words { (from : ℕ) × AreWords text.now from tokens.now }
     requires opens { begins_use (terminals text.now tokens.now) ≡ true }
     requires store { IsStoreOf catalog.now store.now }
-    ensures tallied { IfOk result (λ t. IsTalliedOver (world catalog.now store.now.stored) text.now tokens.now t.next t.measured) }
-    ensures refused { IfErr result (λ e. Refuses e (world catalog.now store.now.stored) text.now tokens.now 0 0) }
+    ensures tallied { IfOk result (λ t.
+        IsTalliedOver (world catalog.now store.now.stored) text.now tokens.now t.next t.measured) }
+    ensures refused { IfErr result (λ e.
+        Refuses e (world catalog.now store.now.stored) text.now tokens.now 0 0) }
 {
     let order = judged(alloc, text, tokens, catalog)?;
     told_blocks_have_replies();

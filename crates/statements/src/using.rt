@@ -10,7 +10,8 @@ ghost use Rattle.group_reply.specs.reply_Putting.{HasWriteCause};
 ghost use Rattle.group_reply.specs.reply_Replies.{traces};
 ghost use Rattle.statements.specs.Claims.{IsOrder, IsPlace, world_at};
 ghost use Rattle.statements.specs.Ending.{end_of_broken};
-ghost use Rattle.statements.specs.Steps.{IsAnsweredOver, Refuses, StopsOver, begins_use};
+ghost use Rattle.statements.specs.Steps.{Refuses, begins_use};
+ghost use Rattle.statements.specs.Places.{IsAnsweredAt, StopsAnswerAt};
 
 use crate::claims::{Claim, Given, read_claim};
 use crate::end::End;
@@ -55,8 +56,10 @@ pub(crate) fn judged(
     requires short { length text.now ≤ MOST_SCRIPT_BYTES }
     requires words { (from : ℕ) × AreWords text.now from tokens.now }
     requires opens { begins_use (terminals text.now tokens.now) ≡ true }
-    ensures ordered { (stored : List Stored) → IfOk result (λ o. IsOrder (world catalog.now stored) text.now tokens.now o) }
-    ensures refused { (stored : List Stored) → IfErr result (λ e. Refuses e (world catalog.now stored) text.now tokens.now 0 0) }
+    ensures ordered { (stored : List Stored) →
+        IfOk result (λ o. IsOrder (world catalog.now stored) text.now tokens.now o) }
+    ensures refused { (stored : List Stored) →
+        IfErr result (λ e. Refuses e (world catalog.now stored) text.now tokens.now 0 0) }
 {
     let Claim {
         query,
@@ -86,8 +89,12 @@ pub(crate) fn follow<C: Counters, K: Sink>(
 ) -> Result<u32, End>
     requires place { IsPlace at.now }
     requires opens { begins_use (terminals at.now.text.now at.now.tokens.now) ≡ true }
-    ensures answered { IfOk result (λ next. IsAnsweredOver (world_at at.now) at.now.text.now at.now.tokens.now next (traces (K.held out.old) fetches.old reads.old) (traces (K.held out.new) fetches.new reads.new)) }
-    ensures stopped { IfErr result (λ e. StopsOver e (world_at at.now) at.now.text.now at.now.tokens.now (traces (K.held out.old) fetches.old reads.old) (traces (K.held out.new) fetches.new reads.new)) }
+    ensures answered { IfOk result (λ next. IsAnsweredAt at.now next
+        (traces (K.held out.old) fetches.old reads.old)
+        (traces (K.held out.new) fetches.new reads.new)) }
+    ensures stopped { IfErr result (λ e. StopsAnswerAt e at.now
+        (traces (K.held out.old) fetches.old reads.old)
+        (traces (K.held out.new) fetches.new reads.new)) }
     ensures cause { HasWriteCause End.Write (K.faults out.old) (K.faults out.new) result }
 {
     let order = judged(at.alloc, at.text, at.tokens, at.catalog)?;
@@ -104,8 +111,12 @@ fn print_told<C: Counters, K: Sink>(
 ) -> Result<u32, End>
     requires place { IsPlace at.now }
     requires ordered { IsOrder (world_at at.now) at.now.text.now at.now.tokens.now order.now }
-    ensures answered { IfOk result (λ next. IsAnsweredOver (world_at at.now) at.now.text.now at.now.tokens.now next (traces (K.held out.old) fetches.old reads.old) (traces (K.held out.new) fetches.new reads.new)) }
-    ensures stopped { IfErr result (λ e. StopsOver e (world_at at.now) at.now.text.now at.now.tokens.now (traces (K.held out.old) fetches.old reads.old) (traces (K.held out.new) fetches.new reads.new)) }
+    ensures answered { IfOk result (λ next. IsAnsweredAt at.now next
+        (traces (K.held out.old) fetches.old reads.old)
+        (traces (K.held out.new) fetches.new reads.new)) }
+    ensures stopped { IfErr result (λ e. StopsAnswerAt e at.now
+        (traces (K.held out.old) fetches.old reads.old)
+        (traces (K.held out.new) fetches.new reads.new)) }
     ensures cause { HasWriteCause End.Write (K.faults out.old) (K.faults out.new) result }
 {
     let block = &at.text[order.start as usize..order.end as usize];

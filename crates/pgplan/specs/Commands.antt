@@ -1,5 +1,7 @@
 -- The words of the command line that are a command. Own.
-use Rattle.std.specs.Prelude.{ℕ, ◌≡◌, ◌≤◌, ◌<◌, ◌^◌, List, [], ◌∷◌, codes, length}
+use Rattle.std.specs.Prelude.{ℕ, ◌≡◌, ◌≤◌, ◌<◌, ◌^◌, List, [], ◌∷◌, codes, length, map}
+use Rattle.std.specs.String.{string_bytes}
+use Rattle.std.specs.declared.string.String.{String}
 use Rattle.std.specs.Str.Parse.{IsNumeral, digits_value}
 
 -- the one word `run`
@@ -20,3 +22,11 @@ IsSampleCommand n words = (word : List ℕ) × (words ≡ codes "sample" ∷ wor
 -- neither
 abbrev pub AreNoCommand : List (List ℕ) → Type 0
 AreNoCommand words = ¬ IsRunCommand words × ((n : ℕ) → ¬ IsSampleCommand n words)
+
+-- these are the words of that command
+abbrev pub AreRunWords : {Z : Type 0} → List (String Z) → Type 0
+AreRunWords words = IsRunCommand (map string_bytes words)
+
+-- these are those of the other, with a number
+abbrev pub AreSampleWords : {Z : Type 0} → ℕ → List (String Z) → Type 0
+AreSampleWords n words = IsSampleCommand n (map string_bytes words)

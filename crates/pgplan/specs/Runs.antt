@@ -17,7 +17,7 @@ use Rattle.statements.specs.Faults.{IsFault}
 use Rattle.statements.specs.reply_Replies.{Reply}
 use Rattle.statements.specs.Replies.{IsReply}
 use Rattle.statements.specs.Scripts.{Worked, AreFirst, AreAll, world_after, place_after, replies}
-use Rattle.pgplan.specs.Statuses.{IsTold, line_of}
+use Rattle.pgplan.specs.Statuses.{IsTold, IsWorkStatus, line_of}
 
 -- these bytes were taken, all that the source had
 pub record IsReadWhole (left left' : Option (List ℕ)) (text : List ℕ) : Type 0 where
@@ -105,7 +105,7 @@ RunsOut left left' held held' =
 
 -- what a run over a text that was read did, by its status
 pub record IsRunOver (status : ℕ) (text : List ℕ) (held held' errs errs' : Option (List ℕ)) (before now : ℕ) : Type 0 where
-  pub among : (status ≡ 0) ⊎ ((status ≡ 3) ⊎ ((status ≡ 4) ⊎ (status ≡ 5)))
+  pub among : IsWorkStatus status
   pub done : status ≡ 0 → IsAnswered text held held'
   pub refused : status ≡ 3 → (statements : List Worked) × (fault : Fault) × EndsInFault text held held' statements fault
       × IsTold errs errs' before now (fault_line (world_after empty_world statements).contents text fault)

@@ -17,9 +17,13 @@ drawn s (suc k) = turned (drawn s k)
 abbrev pub draw_at : ℕ → ℕ → (below : ℕ) → ℕ
 draw_at s k below = (drawn s (k + 1) / 2 ^ 33) % below
 
+-- three numbers as a record of data
+abbrev pub numbers_line : (id other value : ℕ) → List ℕ
+numbers_line id other value = decimal id ++ codes "," ++ decimal other ++ codes "," ++ decimal value ++ codes "\n"
+
 -- a record of data: its number, from 1 on, a number drawn from those below a bound behind the least, and one below 1000
 abbrev pub record_line : ℕ → (least below : ℕ) → ℕ → List ℕ
-record_line s least below i = decimal (i + 1) ++ codes "," ++ decimal (least + draw_at s (2 * i) below) ++ codes "," ++ decimal (draw_at s (2 * i + 1) 1000) ++ codes "\n"
+record_line s least below i = numbers_line (i + 1) (least + draw_at s (2 * i) below) (draw_at s (2 * i + 1) 1000)
 
 -- so many records
 unfoldable pub records : ℕ → (least below count : ℕ) → List ℕ

@@ -1,5 +1,5 @@
 -- The statuses of a run, their numbers and their lines on the errors sink. Own.
-use Rattle.std.specs.Prelude.{ℕ, List, [], ◌∷◌, codes, slice_index_or, Result, Ok, Err}
+use Rattle.std.specs.Prelude.{ℕ, ◌≡◌, ◌⊎◌, List, [], ◌∷◌, codes, slice_index_or, Result, Ok, Err}
 use Rattle.std.specs.declared.option.Option.{Option}
 use Rattle.std.specs.Io.KnownBytes.{Appends}
 use Rattle.pg_base.specs.Causes.{Rose}
@@ -22,6 +22,10 @@ number_of Statement = 3
 number_of WriteFault = 4
 number_of Memory = 5
 number_of TooLong = 6
+
+-- the number of a status of a run whose text was read
+abbrev pub IsWorkStatus : ℕ → Type 0
+IsWorkStatus status = (status ≡ 0) ⊎ ((status ≡ 3) ⊎ ((status ≡ 4) ⊎ (status ≡ 5)))
 
 -- the line that each status writes, by its number: none for 0, and for 3 that of the fault
 abbrev pub line_of : ℕ → List ℕ

@@ -1,5 +1,5 @@
 -- What the queries of a script come to, and the line that tells of it. Own.
-use Rattle.std.specs.Prelude.{ℕ, ◌≡◌, ◌⊎◌, List, [], ◌∷◌, ◌++◌, length, codes, Option, Some, None}
+use Rattle.std.specs.Prelude.{ℕ, ◌≡◌, List, [], ◌∷◌, ◌++◌, length, codes, Option, Some, None}
 use Rattle.std.specs.Fmt.{decimal}
 use Rattle.std.specs.List.{sum, sum_by}
 use Rattle.std.specs.Io.KnownBytes.{Appends}
@@ -14,7 +14,7 @@ use Rattle.statements.specs.declared.end.End.TheVariants as ends
 use Rattle.statements.specs.Askings.{Asking, askings}
 use Rattle.pgplan.specs.Runs.{ReachesFault}
 use Rattle.statements.specs.Scripts.{AreAll, Worked, world_after}
-use Rattle.pgplan.specs.Statuses.{IsTold, line_of}
+use Rattle.pgplan.specs.Statuses.{IsTold, IsWorkStatus, line_of}
 
 -- the rows that the answers to queries have together: those of their meanings that OFFSET and LIMIT let through
 abbrev pub rows_together : List Asking → ℕ
@@ -100,7 +100,7 @@ pub record TellsFaultAlone (text : List ℕ) (held held' errs errs' : Option (Li
 
 -- what a run that sums up a text did, by its status
 pub record IsSumOver (status : ℕ) (text : List ℕ) (held held' errs errs' : Option (List ℕ)) (before now : ℕ) : Type 0 where
-  pub among : (status ≡ 0) ⊎ ((status ≡ 3) ⊎ ((status ≡ 4) ⊎ (status ≡ 5)))
+  pub among : IsWorkStatus status
   pub done : status ≡ 0 → IsSummedUp text held held'
   pub refused : status ≡ 3 → TellsFaultAlone text held held' errs errs' before now
   pub cut : status ≡ 4 → IsSummedInPart text held held'

@@ -2,7 +2,7 @@
 
 ghost use Rattle.std.specs.Prelude.{◌≡◌, ◌≢◌, ◌↔◌, ℕ, IfSome, MatchOption, Some, None, codes, map};
 ghost use Rattle.std.specs.String.{string_bytes};
-ghost use Rattle.pgplan.specs.Commands.{AreNoCommand, IsNumberWord, IsRunCommand, IsSampleCommand};
+ghost use Rattle.pgplan.specs.Commands.{AreNoCommand, AreRunWords, AreSampleWords, IsNumberWord};
 
 /// What the program is asked to do.
 #[derive(Clone, Copy, Debug, PartialEq, Eq)]
@@ -16,8 +16,8 @@ pub enum Command {
 /// What the words after the program's own name ask for: the one word `run`, or `sample` and a number below 2^64 in one to 20
 /// decimal digits, which may begin with zeros. None exactly where they are neither, which an option or one more word is too.
 pub fn read_command(words: &[String]) -> Option<Command>
-    ensures run { result ≡ Some Command.Run ↔ IsRunCommand (map string_bytes words.now) }
-    ensures sample { (n : ℕ) → (result ≡ Some (Command.Sample n)) ↔ IsSampleCommand n (map string_bytes words.now) }
+    ensures run { result ≡ Some Command.Run ↔ AreRunWords words.now }
+    ensures sample { (n : ℕ) → (result ≡ Some (Command.Sample n)) ↔ AreSampleWords n words.now }
     ensures none { (result ≡ None) ↔ AreNoCommand (map string_bytes words.now) }
 {
     match words {
@@ -29,7 +29,8 @@ pub fn read_command(words: &[String]) -> Option<Command>
 
 /// What one word asks for.
 fn run_command(word: &str) -> Option<Command>
-    ensures { MatchOption result (word.now ≢ codes "run") (λ command. (command ≡ Command.Run) × (word.now ≡ codes "run")) }
+    ensures { MatchOption result (word.now ≢ codes "run") (λ command.
+        (command ≡ Command.Run) × (word.now ≡ codes "run")) }
 {
     if word == "run" {
         Some(Command::Run)
@@ -40,8 +41,10 @@ fn run_command(word: &str) -> Option<Command>
 
 /// What two words ask for.
 fn sample_command(word: &str, number: &str) -> Option<Command>
-    ensures some { IfSome result (λ command. (n : ℕ) × (command ≡ Command.Sample n) × (word.now ≡ codes "sample") × IsNumberWord n number.now) }
-    ensures none { result ≡ None → (n : ℕ) → word.now ≡ codes "sample" → ¬ IsNumberWord n number.now }
+    ensures some { IfSome result (λ command. (n : ℕ) ×
+        (command ≡ Command.Sample n) × (word.now ≡ codes "sample") × IsNumberWord n number.now) }
+    ensures none { result ≡ None → (n : ℕ) → word.now ≡ codes "sample" →
+        ¬ IsNumberWord n number.now }
 {
     if word != "sample" {
         return None;

@@ -76,8 +76,12 @@ impl<C: Counters> Machine<C> {
     ) -> Result<u32, End>
         requires short { length text.now ≤ MOST_SCRIPT_BYTES }
         requires within { at ≤ length text.now }
-        ensures done { IfOk result (λ next. Advances self.old self.new text.now at next (traces (K.held out.old) fetches.old reads.old) (traces (K.held out.new) fetches.new reads.new)) }
-        ensures stopped { IfErr result (λ e. Stops e self.old text.now at (traces (K.held out.old) fetches.old reads.old) (traces (K.held out.new) fetches.new reads.new)) }
+        ensures done { IfOk result (λ next. Advances self.old self.new text.now at next
+            (traces (K.held out.old) fetches.old reads.old)
+            (traces (K.held out.new) fetches.new reads.new)) }
+        ensures stopped { IfErr result (λ e. Stops e self.old text.now at
+            (traces (K.held out.old) fetches.old reads.old)
+            (traces (K.held out.new) fetches.new reads.new)) }
         ensures unchanged { OnErr result (self.new ≡ self.old) }
         ensures cause { HasWriteCause End.Write (K.faults out.old) (K.faults out.new) result }
         ensures ahead { IfOk result (λ next. at < length text.now → at < next) }

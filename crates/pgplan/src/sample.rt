@@ -22,7 +22,8 @@ use std::sync::ledger::{Blank, Ledger};
 
 /// Works the script of a number and prints what its queries come to, and answers the status.
 pub(crate) fn sample<K: Sink, E: Sink>(alloc: Global, n: u64, out: &mut K, errors: &mut E) -> u8
-    ensures sums { IsSumOver result (script n) (K.held out.old) (K.held out.new) (E.held errors.old) (E.held errors.new) (E.faults errors.old) (E.faults errors.new) }
+    ensures sums { IsSumOver result (script n) (K.held out.old) (K.held out.new)
+        (E.held errors.old) (E.held errors.new) (E.faults errors.old) (E.faults errors.new) }
     ensures cause { HasStatusCause result (K.faults out.old) (K.faults out.new) }
 {
     match sample_script(alloc, n) {
@@ -34,7 +35,8 @@ pub(crate) fn sample<K: Sink, E: Sink>(alloc: Global, n: u64, out: &mut K, error
 /// Works the statements of the text and prints what its queries come to, and answers the status.
 fn summarize<K: Sink, E: Sink>(alloc: Global, text: &[u8], out: &mut K, errors: &mut E) -> u8
     requires short { length text.now ≤ MOST_SCRIPT_BYTES }
-    ensures sums { IsSumOver result text.now (K.held out.old) (K.held out.new) (E.held errors.old) (E.held errors.new) (E.faults errors.old) (E.faults errors.new) }
+    ensures sums { IsSumOver result text.now (K.held out.old) (K.held out.new)
+        (E.held errors.old) (E.held errors.new) (E.faults errors.old) (E.faults errors.new) }
     ensures cause { HasStatusCause result (K.faults out.old) (K.faults out.new) }
 {
     summed::<Brand, Brand, K, E>(alloc, Blank::new(1), Blank::new(1), text, out, errors)
@@ -56,7 +58,8 @@ fn summed<L: Ledger, M: Ledger, K: Sink, E: Sink>(
     requires other_parts { reading.parts ≡ M.parts }
     requires some_too { 0 < reading.parts }
     requires short { length text.now ≤ MOST_SCRIPT_BYTES }
-    ensures sums { IsSumOver result text.now (K.held out.old) (K.held out.new) (E.held errors.old) (E.held errors.new) (E.faults errors.old) (E.faults errors.new) }
+    ensures sums { IsSumOver result text.now (K.held out.old) (K.held out.new)
+        (E.held errors.old) (E.held errors.new) (E.faults errors.old) (E.faults errors.new) }
     ensures cause { HasStatusCause result (K.faults out.old) (K.faults out.new) }
 {
     let mut machine = Machine::<Counting<L, M>>::new(alloc);
@@ -79,7 +82,8 @@ fn print_summary<C: Counters, K: Sink>(
     requires new { machine.old ≡ empty_world }
     requires short { length text.now ≤ MOST_SCRIPT_BYTES }
     ensures done { OnOk result (IsSummedUp text.now (K.held out.old) (K.held out.new)) }
-    ensures ended { IfErr result (λ e. EndsUnsummed e text.now machine.new (K.held out.old) (K.held out.new)) }
+    ensures ended { IfErr result (λ e.
+        EndsUnsummed e text.now machine.new (K.held out.old) (K.held out.new)) }
     ensures cause { HasWriteCause End.Write (K.faults out.old) (K.faults out.new) result }
 {
     let totals = sum_up(machine, text, fetches, reads)?;

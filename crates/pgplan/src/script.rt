@@ -1,10 +1,9 @@
 //! The sample script, written part by part.
 
-ghost use Rattle.std.specs.Prelude.{◌≡◌, ◌≤◌, ◌<◌, ◌+◌, ◌*◌, ◌^◌, ◌++◌, IfOk, OnOk, codes, length};
-ghost use Rattle.std.specs.Fmt.{decimal};
+ghost use Rattle.std.specs.Prelude.{◌≡◌, ◌≤◌, ◌<◌, ◌+◌, ◌*◌, ◌^◌, ◌++◌, IfOk, OnOk, length};
 ghost use Rattle.std.specs.String.{string_bytes};
 ghost use Rattle.pg_base.specs.declared.limits.TheConstants.{MOST_SCRIPT_BYTES};
-ghost use Rattle.pgplan.specs.Script.{between, copied, data_of, draw_at, drawn, either_query, head_of, queries_of, record_line, records, script};
+ghost use Rattle.pgplan.specs.Script.{between, copied, data_of, draw_at, drawn, either_query, head_of, numbers_line, queries_of, record_line, records, script};
 
 use crate::draws::Draws;
 use pg_base::Memory;
@@ -36,7 +35,8 @@ pub fn sample_script(alloc: Global, n: u64) -> Result<Vec<u8>, Memory>
 
 /// Appends the rows of the three tables.
 fn append_data(text: &mut String, draws: &mut Draws) -> Result<(), Memory>
-    ensures text { OnOk result (string_bytes text.new ≡ string_bytes text.old ++ data_of draws.old.state) }
+    ensures text { OnOk result
+        (string_bytes text.new ≡ string_bytes text.old ++ data_of draws.old.state) }
     ensures state { OnOk result (draws.new.state ≡ drawn draws.old.state 7000) }
 {
     append_copy(text, draws, "a", 0, 50, 500)?;
@@ -55,7 +55,9 @@ fn append_copy(
 ) -> Result<(), Memory>
     requires some { 0 < below }
     requires small { least + below < 2 ^ 64 }
-    ensures text { OnOk result (string_bytes text.new ≡ string_bytes text.old ++ copied table.now draws.old.state least below count) }
+    ensures text { OnOk result
+        (string_bytes text.new ≡
+        string_bytes text.old ++ copied table.now draws.old.state least below count) }
     ensures state { OnOk result (draws.new.state ≡ drawn draws.old.state (2 * count)) }
 {
     append_head(text, table)?;
@@ -83,7 +85,9 @@ fn append_records(
 ) -> Result<(), Memory>
     requires some { 0 < below }
     requires small { least + below < 2 ^ 64 }
-    ensures text { OnOk result (string_bytes text.new ≡ string_bytes text.old ++ records draws.old.state least below count) }
+    ensures text { OnOk result
+        (string_bytes text.new ≡
+        string_bytes text.old ++ records draws.old.state least below count) }
     ensures state { OnOk result (draws.new.state ≡ drawn draws.old.state (2 * count)) }
 {
     for i in 0..count {
@@ -96,14 +100,16 @@ fn append_records(
 
 /// Appends a record of three numbers.
 fn append_record(text: &mut String, id: u64, other: u64, value: u64) -> Result<(), Memory>
-    ensures { OnOk result (string_bytes text.new ≡ string_bytes text.old ++ (decimal id ++ codes "," ++ decimal other ++ codes "," ++ decimal value ++ codes "\n")) }
+    ensures { OnOk result
+        (string_bytes text.new ≡ string_bytes text.old ++ numbers_line id other value) }
 {
     write!(text, "{id},{other},{value}\n")
 }
 
 /// Appends a number between two texts.
 fn append_between(text: &mut String, before: &str, number: u64, behind: &str) -> Result<(), Memory>
-    ensures { OnOk result (string_bytes text.new ≡ string_bytes text.old ++ between before.now number behind.now) }
+    ensures { OnOk result
+        (string_bytes text.new ≡ string_bytes text.old ++ between before.now number behind.now) }
 {
     write!(text, "{before}{number}{behind}")
 }
@@ -118,7 +124,8 @@ fn append_either(text: &mut String, id: u64, value: u64) -> Result<(), Memory>
 
 /// Appends the six queries.
 fn append_queries(text: &mut String, draws: &mut Draws) -> Result<(), Memory>
-    ensures { OnOk result (string_bytes text.new ≡ string_bytes text.old ++ queries_of draws.old.state) }
+    ensures { OnOk result
+        (string_bytes text.new ≡ string_bytes text.old ++ queries_of draws.old.state) }
 {
     append_between(
         text,

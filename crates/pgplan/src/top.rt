@@ -5,10 +5,10 @@ ghost use Rattle.std.specs.String.{string_bytes};
 ghost use Rattle.pg_base.specs.Causes.{Rose};
 ghost use Rattle.pg_base.specs.Reading.{ConsumesUpTo};
 ghost use Rattle.pg_base.specs.declared.limits.TheConstants.{MOST_SCRIPT_BYTES};
-ghost use Rattle.pgplan.specs.Commands.{AreNoCommand, IsRunCommand, IsSampleCommand};
+ghost use Rattle.pgplan.specs.Commands.{AreNoCommand, AreRunWords, AreSampleWords};
 ghost use Rattle.pgplan.specs.Script.{script};
 ghost use Rattle.pgplan.specs.Runs.{AnswersAll, CutsOff, HasNoFault, HasStatusCause, IsCutShort, IsRunOver, IsTooLong, ReachesFault, RunsOut, TellsFault};
-ghost use Rattle.pgplan.specs.Statuses.{IsTold, line_of, line_of_work, number_of, status_of_work};
+ghost use Rattle.pgplan.specs.Statuses.{IsTold, IsWorkStatus, line_of, line_of_work, number_of, status_of_work};
 ghost use Rattle.statements.specs.Steps.{HasField};
 ghost use Rattle.pgplan.specs.Summaries.{IsSummedInPart, IsSummedUp, TellsFaultAlone};
 
@@ -50,22 +50,35 @@ pub fn pgplan<S: Source, K: Sink, E: Sink>(
     ensures statuses { result ≤ 6 }
 
     // With the word `run`: what was read, what out gained, and of which statement's fault errors tells.
-    ensures answered { IsRunCommand (map string_bytes words.now) → result ≡ 0 → AnswersAll (S.left source.old) (S.left source.new) (K.held out.old) (K.held out.new) }
-    ensures refused { IsRunCommand (map string_bytes words.now) → result ≡ 3 → TellsFault (S.left source.old) (S.left source.new) (K.held out.old) (K.held out.new) (E.held errors.old) (E.held errors.new) (E.faults errors.old) (E.faults errors.new) }
-    ensures cut_off { IsRunCommand (map string_bytes words.now) → result ≡ 4 → CutsOff (S.left source.old) (S.left source.new) (K.held out.old) (K.held out.new) }
-    ensures out_of_memory { IsRunCommand (map string_bytes words.now) → result ≡ 5 → RunsOut (S.left source.old) (S.left source.new) (K.held out.old) (K.held out.new) }
-    ensures read_in_part { result ≡ 2 → ConsumesUpTo (S.left source.old) (S.left source.new) MOST_SCRIPT_BYTES }
+    ensures answered { AreRunWords words.now → result ≡ 0 →
+        AnswersAll (S.left source.old) (S.left source.new) (K.held out.old) (K.held out.new) }
+    ensures refused { AreRunWords words.now → result ≡ 3 →
+        TellsFault (S.left source.old) (S.left source.new) (K.held out.old) (K.held out.new)
+        (E.held errors.old) (E.held errors.new) (E.faults errors.old) (E.faults errors.new) }
+    ensures cut_off { AreRunWords words.now → result ≡ 4 →
+        CutsOff (S.left source.old) (S.left source.new) (K.held out.old) (K.held out.new) }
+    ensures out_of_memory { AreRunWords words.now → result ≡ 5 →
+        RunsOut (S.left source.old) (S.left source.new) (K.held out.old) (K.held out.new) }
+    ensures read_in_part { result ≡ 2 →
+        ConsumesUpTo (S.left source.old) (S.left source.new) MOST_SCRIPT_BYTES }
     ensures too_long { result ≡ 6 → IsTooLong (S.left source.old) (S.left source.new) }
     ensures unread { result ≡ 1 → S.left source.new ≡ S.left source.old }
-    ensures unwritten { (result ≡ 1) ⊎ ((result ≡ 2) ⊎ (result ≡ 6)) → K.held out.new ≡ K.held out.old }
+    ensures unwritten { (result ≡ 1) ⊎ ((result ≡ 2) ⊎ (result ≡ 6)) →
+        K.held out.new ≡ K.held out.old }
 
     // With the word `sample` and a number: nothing is read; what out gained, and of which statement's fault errors tells.
-    ensures sample_statuses { (n : ℕ) → IsSampleCommand n (map string_bytes words.now) → (result ≡ 0) ⊎ ((result ≡ 3) ⊎ ((result ≡ 4) ⊎ (result ≡ 5))) }
-    ensures summed { (n : ℕ) → IsSampleCommand n (map string_bytes words.now) → result ≡ 0 → IsSummedUp (script n) (K.held out.old) (K.held out.new) }
-    ensures sample_refused { (n : ℕ) → IsSampleCommand n (map string_bytes words.now) → result ≡ 3 → TellsFaultAlone (script n) (K.held out.old) (K.held out.new) (E.held errors.old) (E.held errors.new) (E.faults errors.old) (E.faults errors.new) }
-    ensures sample_cut_off { (n : ℕ) → IsSampleCommand n (map string_bytes words.now) → result ≡ 4 → IsSummedInPart (script n) (K.held out.old) (K.held out.new) }
-    ensures sample_out_of_memory { (n : ℕ) → IsSampleCommand n (map string_bytes words.now) → result ≡ 5 → K.held out.new ≡ K.held out.old }
-    ensures sample_reads_nothing { (n : ℕ) → IsSampleCommand n (map string_bytes words.now) → S.left source.new ≡ S.left source.old }
+    ensures sample_statuses { (n : ℕ) → AreSampleWords n words.now → IsWorkStatus result }
+    ensures summed { (n : ℕ) → AreSampleWords n words.now → result ≡ 0 →
+        IsSummedUp (script n) (K.held out.old) (K.held out.new) }
+    ensures sample_refused { (n : ℕ) → AreSampleWords n words.now → result ≡ 3 →
+        TellsFaultAlone (script n) (K.held out.old) (K.held out.new)
+        (E.held errors.old) (E.held errors.new) (E.faults errors.old) (E.faults errors.new) }
+    ensures sample_cut_off { (n : ℕ) → AreSampleWords n words.now → result ≡ 4 →
+        IsSummedInPart (script n) (K.held out.old) (K.held out.new) }
+    ensures sample_out_of_memory { (n : ℕ) → AreSampleWords n words.now → result ≡ 5 →
+        K.held out.new ≡ K.held out.old }
+    ensures sample_reads_nothing { (n : ℕ) → AreSampleWords n words.now →
+        S.left source.new ≡ S.left source.old }
 
     // The cause of each status, and that no fault of the outside is passed over.
     ensures usage { (result ≡ 1) ↔ AreNoCommand (map string_bytes words.now) }
@@ -76,16 +89,25 @@ pub fn pgplan<S: Source, K: Sink, E: Sink>(
 
     // Where the source tells a text that is no longer than a script may be, the text decides between 0 and 3, unless the
     // outside fails or memory runs out; and a longer text is refused.
-    ensures complete { (text : List ℕ) → IsRunCommand (map string_bytes words.now) → S.left source.old ≡ Some text → length text ≤ MOST_SCRIPT_BYTES → HasNoFault text → (result ≡ 0) ⊎ IsCutShort result }
-    ensures reached { (text : List ℕ) → IsRunCommand (map string_bytes words.now) → S.left source.old ≡ Some text → length text ≤ MOST_SCRIPT_BYTES → ReachesFault text → (result ≡ 3) ⊎ IsCutShort result }
-    ensures longer { (text : List ℕ) → IsRunCommand (map string_bytes words.now) → S.left source.old ≡ Some text → MOST_SCRIPT_BYTES < length text → (result ≡ 6) ⊎ ((result ≡ 2) ⊎ (result ≡ 5)) }
+    ensures complete { (text : List ℕ) → AreRunWords words.now →
+        S.left source.old ≡ Some text → length text ≤ MOST_SCRIPT_BYTES →
+        HasNoFault text → (result ≡ 0) ⊎ IsCutShort result }
+    ensures reached { (text : List ℕ) → AreRunWords words.now →
+        S.left source.old ≡ Some text → length text ≤ MOST_SCRIPT_BYTES →
+        ReachesFault text → (result ≡ 3) ⊎ IsCutShort result }
+    ensures longer { (text : List ℕ) → AreRunWords words.now →
+        S.left source.old ≡ Some text → MOST_SCRIPT_BYTES < length text →
+        (result ≡ 6) ⊎ ((result ≡ 2) ⊎ (result ≡ 5)) }
 
     // The script of a number decides between 0 and 3, unless out fails or memory runs out.
-    ensures sample_complete { (n : ℕ) → IsSampleCommand n (map string_bytes words.now) → HasNoFault (script n) → (result ≡ 0) ⊎ ((result ≡ 4) ⊎ (result ≡ 5)) }
-    ensures sample_reached { (n : ℕ) → IsSampleCommand n (map string_bytes words.now) → ReachesFault (script n) → (result ≡ 3) ⊎ (result ≡ 5) }
+    ensures sample_complete { (n : ℕ) → AreSampleWords n words.now → HasNoFault (script n) →
+        (result ≡ 0) ⊎ ((result ≡ 4) ⊎ (result ≡ 5)) }
+    ensures sample_reached { (n : ℕ) → AreSampleWords n words.now → ReachesFault (script n) →
+        (result ≡ 3) ⊎ (result ≡ 5) }
 
     // The status's line on errors, where no statement has a fault: a prefix of it, and all of it where errors did not fail.
-    ensures line { result ≢ 3 → IsTold (E.held errors.old) (E.held errors.new) (E.faults errors.old) (E.faults errors.new) (line_of result) }
+    ensures line { result ≢ 3 → IsTold (E.held errors.old) (E.held errors.new)
+        (E.faults errors.old) (E.faults errors.new) (line_of result) }
 {
     match read_command(words) {
         None => tell(errors, Status::Usage),
@@ -102,21 +124,33 @@ fn run<S: Source, K: Sink, E: Sink>(
     errors: &mut E,
 ) -> u8
     ensures statuses { (result ≡ 0) ⊎ ((2 ≤ result) × (result ≤ 6)) }
-    ensures answered { result ≡ 0 → AnswersAll (S.left source.old) (S.left source.new) (K.held out.old) (K.held out.new) }
-    ensures refused { result ≡ 3 → TellsFault (S.left source.old) (S.left source.new) (K.held out.old) (K.held out.new) (E.held errors.old) (E.held errors.new) (E.faults errors.old) (E.faults errors.new) }
-    ensures cut_off { result ≡ 4 → CutsOff (S.left source.old) (S.left source.new) (K.held out.old) (K.held out.new) }
-    ensures out_of_memory { result ≡ 5 → RunsOut (S.left source.old) (S.left source.new) (K.held out.old) (K.held out.new) }
-    ensures read_in_part { result ≡ 2 → ConsumesUpTo (S.left source.old) (S.left source.new) MOST_SCRIPT_BYTES }
+    ensures answered { result ≡ 0 →
+        AnswersAll (S.left source.old) (S.left source.new) (K.held out.old) (K.held out.new) }
+    ensures refused { result ≡ 3 →
+        TellsFault (S.left source.old) (S.left source.new) (K.held out.old) (K.held out.new)
+        (E.held errors.old) (E.held errors.new) (E.faults errors.old) (E.faults errors.new) }
+    ensures cut_off { result ≡ 4 →
+        CutsOff (S.left source.old) (S.left source.new) (K.held out.old) (K.held out.new) }
+    ensures out_of_memory { result ≡ 5 →
+        RunsOut (S.left source.old) (S.left source.new) (K.held out.old) (K.held out.new) }
+    ensures read_in_part { result ≡ 2 →
+        ConsumesUpTo (S.left source.old) (S.left source.new) MOST_SCRIPT_BYTES }
     ensures too_long { result ≡ 6 → IsTooLong (S.left source.old) (S.left source.new) }
     ensures unwritten { (result ≡ 2) ⊎ (result ≡ 6) → K.held out.new ≡ K.held out.old }
     ensures read_fault { result ≡ 2 → Rose (S.faults source.old) (S.faults source.new) }
     ensures write_fault { result ≡ 4 → Rose (K.faults out.old) (K.faults out.new) }
     ensures quiet_source { (result ≡ 2 → ⊥) → S.faults source.new ≡ S.faults source.old }
     ensures quiet_out { (result ≡ 4 → ⊥) → K.faults out.new ≡ K.faults out.old }
-    ensures complete { (text : List ℕ) → S.left source.old ≡ Some text → length text ≤ MOST_SCRIPT_BYTES → HasNoFault text → (result ≡ 0) ⊎ IsCutShort result }
-    ensures reached { (text : List ℕ) → S.left source.old ≡ Some text → length text ≤ MOST_SCRIPT_BYTES → ReachesFault text → (result ≡ 3) ⊎ IsCutShort result }
-    ensures longer { (text : List ℕ) → S.left source.old ≡ Some text → MOST_SCRIPT_BYTES < length text → (result ≡ 6) ⊎ ((result ≡ 2) ⊎ (result ≡ 5)) }
-    ensures line { result ≢ 3 → IsTold (E.held errors.old) (E.held errors.new) (E.faults errors.old) (E.faults errors.new) (line_of result) }
+    ensures complete { (text : List ℕ) → S.left source.old ≡ Some text →
+        length text ≤ MOST_SCRIPT_BYTES →
+        HasNoFault text → (result ≡ 0) ⊎ IsCutShort result }
+    ensures reached { (text : List ℕ) → S.left source.old ≡ Some text →
+        length text ≤ MOST_SCRIPT_BYTES →
+        ReachesFault text → (result ≡ 3) ⊎ IsCutShort result }
+    ensures longer { (text : List ℕ) → S.left source.old ≡ Some text →
+        MOST_SCRIPT_BYTES < length text → (result ≡ 6) ⊎ ((result ≡ 2) ⊎ (result ≡ 5)) }
+    ensures line { result ≢ 3 → IsTold (E.held errors.old) (E.held errors.new)
+        (E.faults errors.old) (E.faults errors.new) (line_of result) }
 {
     match read_all(alloc, source, MOST_SCRIPT_BYTES) {
         Ok(text) => answer(alloc, &text, out, errors),
@@ -127,7 +161,8 @@ fn run<S: Source, K: Sink, E: Sink>(
 /// Writes the status's line and answers its number.
 pub(crate) fn tell<E: Sink>(errors: &mut E, status: Status) -> u8
     ensures number { result ≡ number_of status }
-    ensures line { IsTold (E.held errors.old) (E.held errors.new) (E.faults errors.old) (E.faults errors.new) (line_of (number_of status)) }
+    ensures line { IsTold (E.held errors.old) (E.held errors.new)
+        (E.faults errors.old) (E.faults errors.new) (line_of (number_of status)) }
 {
     let _ = write_all(errors, status.line());
     status.number()
@@ -136,7 +171,8 @@ pub(crate) fn tell<E: Sink>(errors: &mut E, status: Status) -> u8
 /// Answers the statements of the text, and answers the status.
 fn answer<K: Sink, E: Sink>(alloc: Global, text: &[u8], out: &mut K, errors: &mut E) -> u8
     requires short { length text.now ≤ MOST_SCRIPT_BYTES }
-    ensures answers { IsRunOver result text.now (K.held out.old) (K.held out.new) (E.held errors.old) (E.held errors.new) (E.faults errors.old) (E.faults errors.new) }
+    ensures answers { IsRunOver result text.now (K.held out.old) (K.held out.new)
+        (E.held errors.old) (E.held errors.new) (E.faults errors.old) (E.faults errors.new) }
     ensures cause { HasStatusCause result (K.faults out.old) (K.faults out.new) }
 {
     counted::<Brand, Brand, K, E>(alloc, Blank::new(1), Blank::new(1), text, out, errors)
@@ -158,7 +194,8 @@ fn counted<L: Ledger, M: Ledger, K: Sink, E: Sink>(
     requires other_parts { reading.parts ≡ M.parts }
     requires some_too { 0 < reading.parts }
     requires short { length text.now ≤ MOST_SCRIPT_BYTES }
-    ensures answers { IsRunOver result text.now (K.held out.old) (K.held out.new) (E.held errors.old) (E.held errors.new) (E.faults errors.old) (E.faults errors.new) }
+    ensures answers { IsRunOver result text.now (K.held out.old) (K.held out.new)
+        (E.held errors.old) (E.held errors.new) (E.faults errors.old) (E.faults errors.new) }
     ensures cause { HasStatusCause result (K.faults out.old) (K.faults out.new) }
 {
     let mut machine = Machine::<Counting<L, M>>::new(alloc);
@@ -177,7 +214,8 @@ pub(crate) fn close<E: Sink>(
 ) -> u8
     requires field { IfErr ended.now (HasField catalog.now) }
     ensures number { result ≡ number_of (status_of_work ended.now) }
-    ensures line { IsTold (E.held errors.old) (E.held errors.new) (E.faults errors.old) (E.faults errors.new) (line_of_work catalog.now text.now ended.now) }
+    ensures line { IsTold (E.held errors.old) (E.held errors.new)
+        (E.faults errors.old) (E.faults errors.new) (line_of_work catalog.now text.now ended.now) }
 {
     let status = Status::of_work(ended);
     if let Err(End::Fault(fault)) = ended {

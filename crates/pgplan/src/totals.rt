@@ -70,7 +70,8 @@ fn added(totals: Totals, measured: Option<Measured>) -> Totals
 
 /// The line that tells of them. The only error is want of memory.
 pub(crate) fn summary_line(alloc: Global, totals: Totals) -> Result<Vec<u8>, Memory>
-    ensures { IfOk result (λ line. line.items ≡ summary_line totals.queries totals.rows totals.cost) }
+    ensures { IfOk result (λ line.
+        line.items ≡ summary_line totals.queries totals.rows totals.cost) }
 {
     let Totals {
         queries,

@@ -23,7 +23,8 @@ pub(crate) fn work<C: Counters, K: Sink>(
     requires new { machine.old ≡ empty_world }
     requires short { length text.now ≤ MOST_SCRIPT_BYTES }
     ensures done { OnOk result (IsAnswered text.now (K.held out.old) (K.held out.new)) }
-    ensures ended { IfErr result (λ e. Ends e text.now machine.new (K.held out.old) (K.held out.new)) }
+    ensures ended { IfErr result (λ e.
+        Ends e text.now machine.new (K.held out.old) (K.held out.new)) }
     ensures cause { HasWriteCause End.Write (K.faults out.old) (K.faults out.new) result }
 {
     let mut at: u32 = 0;

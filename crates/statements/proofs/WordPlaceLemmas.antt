@@ -2,7 +2,7 @@
 use Rattle.std.proofs.Common.{◌≡◌, ◌<◌, ◌+◌, ◌≤◌, ℕ, Bool, true, false, cond, nat_eq, List, [], ◌∷◌, length, drop, get_or, zero, suc, refl, sym, ap, ◌∙◌, arith}
 use Rattle.std.proofs.lemmas.Bool.Decides.{nat_tests}
 use Rattle.sql_lex.specs.declared.tokens.Token.{Token}
-use Rattle.statements.specs.Faults.{end_of_word}
+use Rattle.index_reader.specs.Places.{end_of_word}
 
 past : (ts : List Token) (at n : ℕ) (d : Token) → n < length ts → end_of_word (drop n ts) at ≡ cond (nat_eq (get_or ts n d).start at) (get_or ts n d).end (end_of_word (drop (n + 1) ts) at)
 past [] at n d lt = absurd (omega (arith, lt))

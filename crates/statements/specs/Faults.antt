@@ -1,9 +1,8 @@
 -- The first fault of a statement: of its words, of its syntax, of its names and limits, then of its data, of the catalogue, or of
 -- its plans
 -- (PostgreSQL manual, appendix Error Codes; the order is own).
-use Rattle.std.specs.Prelude.{◌≡◌, ◌⊎◌, ℕ, ◌+◌, List, [], ◌∷◌, cond, nat_eq, length, drop, slice_index_or, slice_range, Option, Some, None, Ok, Err}
+use Rattle.std.specs.Prelude.{◌≡◌, ◌⊎◌, ℕ, ◌+◌, List, [], ◌∷◌, length, drop, slice_index_or, slice_range, Option, Some, None, Ok, Err}
 use Rattle.pg_base.specs.declared.numbers.TableNo.{TableNo}
-use Rattle.pg_base.specs.declared.faults.Code.{Code}
 use Rattle.pg_base.specs.declared.faults.Code.TheVariants.{S5, S6, S11, S12, S13, S14, S15, S16, S17}
 use Rattle.pg_base.specs.declared.faults.Limit.TheVariants.{Indexes, Tables, Rows, Text}
 use Rattle.pg_base.specs.declared.faults.Fault.{Fault}
@@ -28,6 +27,7 @@ use Rattle.heap.specs.declared.fault.CopyFault.TheVariants as copying
 use Rattle.heap.specs.Loading.{records_of, loaded}
 use Rattle.index_prices.specs.Replies.{HasNoAdviceFor}
 use Rattle.index_reader.specs.Meaning.{Reading as IndexReading, meaning}
+use Rattle.index_reader.specs.Places.{word_fault}
 use Rattle.group_query.specs.Grouping.{given_groups}
 use Rattle.group_reader.specs.Binding.{BoundGroups, bound_groups, grouped_with}
 use Rattle.group_reply.specs.group_explain_Plans.{HasNoGroupPlan}
@@ -53,15 +53,6 @@ table_fault (refused.ColumnTwice place) at ends = Some (words_fault S6 (slice_in
 table_fault refused.TooMany at ends = Some (words_fault (S15 Tables) (slice_index_or at 0 0) (slice_index_or ends 0 0))
 table_fault (refused.BadNumber place) at ends = None
 table_fault refused.Memory at ends = None
-
--- where the word ends that begins at an offset; the offset itself where none does
-abbrev pub end_of_word : List Token → ℕ → ℕ
-end_of_word [] at = at
-end_of_word (t ∷ ts) at = cond (nat_eq t.start at) t.end (end_of_word ts at)
-
--- a fault at the word that begins at an offset
-abbrev pub word_fault : Code → List Token → ℕ → Fault
-word_fault code tokens at = words_fault code at (end_of_word tokens at)
 
 -- the fault of what the catalogue refuses an index for, whose words begin at these offsets, the new name first and then its
 -- columns: at the new name, at a repeated column's, or, for the form of a hash index, at the access method's

@@ -1,5 +1,5 @@
 use Rattle.std.proofs.Common.{◌≡◌, drop}
-use Rattle.statements.specs.Faults.{end_of_word as end_of_word_at}
+use Rattle.index_reader.specs.Places.{end_of_word as end_of_word_at}
 use Rattle.statements.proofs.faults.end_of_word.Given as goal
 
 abbrev pub invariant-loop-token : goal.invariant-loop-token

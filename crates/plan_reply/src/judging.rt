@@ -2,6 +2,7 @@
 
 ghost use Rattle.std.specs.Prelude.{◌≡◌, ◌≤◌, ℕ, IfOk, List, codes, length};
 ghost use Rattle.plan_space.specs.Numbered.{lines, nodes};
+ghost use Rattle.plan_space.specs.declared.lines.TheConstants.{MOST_LINES};
 ghost use Rattle.plan_reader.specs.Written.{IsWritten};
 ghost use Rattle.plan_reader.specs.declared.reading.WrittenFault.TheVariants.{P1};
 ghost use Rattle.plan_reply.specs.Told as texts;
@@ -21,7 +22,7 @@ use std::alloc::{AllocError, Global};
 /// What is told of each block that is the text of this plan with these numbers. The error means want of memory.
 fn told_by(alloc: Global, cat: &Catalog, q: &Prepared, w: Written) -> Result<Told, Memory>
     requires bound { IsWellBound cat.now q.now }
-    requires few { lines (plan w.plan) ≤ 256 }
+    requires few { lines (plan w.plan) ≤ MOST_LINES }
     requires count { length w.numbers ≡ nodes (plan w.plan) }
     ensures { IfOk result (λ t. (block : List ℕ) →
         IsWritten cat.now q.now block (plan w.plan) w.numbers → IsTold cat.now q.now block t) }

@@ -7,7 +7,6 @@ mod judging;
 mod laws;
 mod lines;
 mod print;
-mod shown;
 mod text;
 mod told;
 

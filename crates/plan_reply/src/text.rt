@@ -11,7 +11,6 @@ ghost use Rattle.sql_query.specs.WellBound.{IsWellBound};
 ghost use Rattle.plan_reply.specs.Tabled.{IsTabledText, tabled_text};
 ghost use Rattle.planned_table.specs.certificate_laws_Arms.{HasArmsInOrs};
 
-use crate::shown::shown_text;
 use catalog::Catalog;
 use pg_base::Memory;
 use plan_check::Certificate;
@@ -19,7 +18,7 @@ use plan_tree::Path;
 use planned_table::certificate_text::certificate_text;
 use planned_table::plan_with_table;
 use planned_table::planner::PlanFault;
-use reply::Stop;
+use reply::{Stop, shown_text};
 use sql_query::Prepared;
 use std::alloc::Global;
 

@@ -20,4 +20,5 @@ pub use planner::join_search;
 pub use print::{answer, explain_query, put_result};
 pub use rows::rows_at;
 pub use setting::Setting;
+pub use shown::shown_text;
 pub use stop::{Broken, Stop};

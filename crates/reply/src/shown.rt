@@ -30,7 +30,7 @@ fn window_text(alloc: Global, cat: &Catalog, q: &Prepared, best: &Path) -> Resul
 }
 
 /// The text of a finished plan, behind the line of LIMIT and OFFSET where the query has one of them.
-pub(crate) fn shown_text(
+pub fn shown_text(
     alloc: Global,
     cat: &Catalog,
     q: &Prepared,

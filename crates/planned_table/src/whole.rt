@@ -7,9 +7,9 @@ ghost use Rattle.sql_query.specs.Queries.{all_of_query};
 ghost use Rattle.sql_query.specs.WellBound.{IsWellBound};
 ghost use Rattle.plan_tree.specs.Least.{IsAdmissible, IsBestPlan};
 ghost use Rattle.plan_tree.specs.Paths.{IsFinishedPath};
-ghost use Rattle.plan_tree.specs.Plans as plans;
-ghost use Rattle.plan_tree.specs.Space.{IsFinished, IsSameSet};
+ghost use Rattle.plan_tree.specs.Space.{IsSameSet};
 ghost use Rattle.plan_tree.specs.Reads.{IsOverTables};
+ghost use Rattle.plan_laws.specs.Moved.{HasNoPlan};
 ghost use Rattle.join_search.specs.Tables.{none, paths_at};
 ghost use Rattle.certificate_laws.specs.planner_Finishing.{IsWhole, finished};
 ghost use Rattle.plan_tree.specs.Views.{path};
@@ -142,8 +142,7 @@ fn least_path<'a>(
         IsAdmissible cat.now q.now (finished cat.now q.now (path p.now).tree)) }
     ensures best { IfSome result (λ p.
         IsBestPlan cat.now q.now (finished cat.now q.now (path p.now).tree)) }
-    ensures none { IfNone result
-        ((t : plans.Plan) → IsFinished cat.now q.now t → ¬ IsAdmissible cat.now q.now t) }
+    ensures none { IfNone result (HasNoPlan cat.now q.now) }
 {
     cat.lawful();
     let paths = whole_paths(table, all);
@@ -168,8 +167,7 @@ fn tabled_of(
     requires order { order ≡ keys.order_keys q.now.classes q.now.order }
     ensures best { IfOk result (λ t. IsFinishedPath cat.now q.now (path t.best)) }
     ensures least { IfOk result (λ t. IsBestPlan cat.now q.now (path t.best).tree) }
-    ensures limit { IfErr result (λ e. e ≡ CostLimit →
-        (t : plans.Plan) → IsFinished cat.now q.now t → ¬ IsAdmissible cat.now q.now t) }
+    ensures limit { IfErr result (λ e. e ≡ CostLimit → HasNoPlan cat.now q.now) }
     ensures table { IfOk result (λ t. IsPlanTable cat.now q.now (certificate t.table)) }
     ensures unfolds { IfOk result (λ t.
         HasBestPlan q.now (certificate t.table) (path t.best).tree) }
@@ -197,8 +195,7 @@ pub fn plan_with_table(alloc: Global, cat: &Catalog, q: &Prepared) -> Result<Tab
     requires bound { IsWellBound cat.now q.now }
     ensures best { IfOk result (λ t. IsFinishedPath cat.now q.now (path t.best)) }
     ensures least { IfOk result (λ t. IsBestPlan cat.now q.now (path t.best).tree) }
-    ensures limit { IfErr result (λ e. e ≡ CostLimit →
-        (t : plans.Plan) → IsFinished cat.now q.now t → ¬ IsAdmissible cat.now q.now t) }
+    ensures limit { IfErr result (λ e. e ≡ CostLimit → HasNoPlan cat.now q.now) }
     ensures table { IfOk result (λ t. IsPlanTable cat.now q.now (certificate t.table)) }
     ensures unfolds { IfOk result (λ t.
         HasBestPlan q.now (certificate t.table) (path t.best).tree) }

@@ -2,6 +2,7 @@
 use Rattle.std.specs.Prelude.{ℕ, ◌≡◌, ◌<◌, ◌^◌, Bool, true, false, nat_eq, cond, List, [], ◌∷◌, ◌++◌, length, codes}
 use Rattle.std.specs.Fmt.{decimal}
 use Rattle.catalog.specs.Contents.{Contents}
+use Rattle.reply_text.specs.Texts.{invalid_line}
 use Rattle.sql_query.specs.Queries.{Query}
 use Rattle.plan_check.specs.Certificates.{Certificate, Entry}
 use Rattle.plan_check.specs.Tables.{IsEntryAt, IsPlanTable}
@@ -21,10 +22,6 @@ use Rattle.plan_check.specs.declared.verdict.Verdict.TheVariants as verdicts
 -- the line of a certificate that is a table
 abbrev pub valid_line : List ℕ
 valid_line = ended (codes "valid")
-
--- the line of a block that is none: it ends in the first reason
-abbrev pub invalid_line : List ℕ → List ℕ
-invalid_line reason = ended (codes "invalid: " ++ reason)
 
 -- no certificate's text, first at fault at a line
 abbrev pub fault_text : ℕ → List ℕ

@@ -3,6 +3,7 @@
 ghost use Rattle.std.specs.Prelude.{◌≡◌, ◌≤◌, ◌^◌, ℕ, IfOk, length};
 ghost use Rattle.certificate_reader.specs.declared.block.CertFault.TheVariants as faults;
 ghost use Rattle.plan_check.specs.Views.{certificate};
+ghost use Rattle.reply_text.specs.Texts as lines;
 ghost use Rattle.check_reply.specs.Checked as texts;
 ghost use Rattle.check_reply.specs.Checked.{IsCheckedText, IsReasonText, IsVerdictLine};
 ghost use Rattle.plan_check.specs.Verdicts.{IsReason, IsVerdict};
@@ -10,9 +11,7 @@ ghost use Rattle.plan_check.specs.declared.verdict.Verdict.{Verdict as Said};
 ghost use Rattle.sql_query.specs.WellBound.{IsWellBound};
 ghost use Rattle.certificate_check.specs.certificate_laws_Arms.{HasArmsInOrs};
 
-use crate::lines::{
-    bad_node_text, bad_number_text, dominated_text, fault_text, invalid_line, not_best_text,
-};
+use crate::lines::{bad_node_text, bad_number_text, dominated_text, fault_text, not_best_text};
 use crate::told::uncovered_text;
 use catalog::Catalog;
 use certificate_check::check;
@@ -20,6 +19,7 @@ use certificate_check::join_cover::Uncovered;
 use certificate_reader::{CertFault, read_certificate};
 use pg_base::Memory;
 use plan_check::{Certificate, Reason, Verdict};
+use reply_text::invalid_line;
 use sql_query::Prepared;
 use std::alloc::{AllocError, Global};
 
@@ -106,7 +106,7 @@ fn judged_line(
 /// The line of a block that is no certificate's text. The error means want of memory.
 fn unread_line(alloc: Global, fault: CertFault) -> Result<Vec<u8>, Memory>
     ensures { IfOk result (λ text.
-        (n : ℕ) × (fault ≡ faults.C1 n) × (text.items ≡ texts.invalid_line (texts.fault_text n))) }
+        (n : ℕ) × (fault ≡ faults.C1 n) × (text.items ≡ lines.invalid_line (texts.fault_text n))) }
 {
     match fault {
         CertFault::C1 { line } => {

@@ -59,13 +59,3 @@ pub(crate) fn not_best_text(alloc: Global, printed: u64, own: u64) -> Result<Vec
     let text = format!(in alloc; "C6 best {printed} least {own}")?;
     Ok(text.into_bytes())
 }
-
-/// The line of a block that is no table, for a reason.
-pub(crate) fn invalid_line(alloc: Global, reason: &[u8]) -> Result<Vec<u8>, Memory>
-    ensures { IfOk result (λ line. line.items ≡ texts.invalid_line reason.now) }
-{
-    let mut line = Vec::from_slice(alloc, b"invalid: ")?;
-    line.extend_from_slice(reason)?;
-    line.extend_from_slice(b"\n")?;
-    Ok(line)
-}

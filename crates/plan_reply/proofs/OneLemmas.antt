@@ -14,7 +14,8 @@ use Rattle.plan_space.specs.declared.judged.Judged.{Judged}
 use Rattle.plan_space.specs.declared.judged.Judged.TheVariants.{Good, Outside, Limit, Number}
 use Rattle.plan_reader.specs.Written.{IsWritten}
 use Rattle.plan_reader.proofs.UniqueLemmas.{one-plan}
-use Rattle.plan_reply.specs.Told.{IsFault, IsFaulted, IsGoodPlan, IsRefusedPlan, IsSameTold, IsTold, faulted, invalid_line, reason_text, unread}
+use Rattle.reply_text.specs.Texts.{invalid_line}
+use Rattle.plan_reply.specs.Told.{IsFault, IsFaulted, IsGoodPlan, IsRefusedPlan, IsSameTold, IsTold, faulted, reason_text, unread}
 use Rattle.plan_reply.specs.declared.told.Told.{Told}
 use Rattle.plan_reply.specs.declared.told.Told.TheVariants as tellings
 

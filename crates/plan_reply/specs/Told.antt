@@ -2,7 +2,7 @@
 use Rattle.std.specs.Prelude.{ℕ, ◌≡◌, ◌≤◌, Bool, cond, List, [], ◌++◌, codes, IsPermutation}
 use Rattle.std.specs.Fmt.{decimal}
 use Rattle.catalog.specs.Contents.{Contents}
-use Rattle.plan_reader.specs.certificate_text_Texts.{ended}
+use Rattle.reply_text.specs.Texts.{invalid_line}
 use Rattle.cost_rules.specs.declared.parameters.TheConstants.{MOST_COST}
 use Rattle.reply.specs.explain_Texts.{plan_text}
 use Rattle.sql_query.specs.Meaning.{IsOrdered, meaning}
@@ -23,10 +23,6 @@ use Rattle.reply.specs.Effort.{answer_fetches, answer_looks, exactly}
 use Rattle.reply.specs.Replies.{Reply}
 use Rattle.plan_reply.specs.declared.told.Told.{Told}
 use Rattle.plan_reply.specs.declared.told.Told.TheVariants as tellings
-
--- the line of a plan that is not run, with the reason
-abbrev pub invalid_line : List ℕ → List ℕ
-invalid_line reason = ended (codes "invalid: " ++ reason)
 
 -- the name of a number of a node
 abbrev pub number_name : Bool → List ℕ

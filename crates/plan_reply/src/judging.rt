@@ -5,17 +5,18 @@ ghost use Rattle.plan_space.specs.Numbered.{lines, nodes};
 ghost use Rattle.plan_space.specs.declared.lines.TheConstants.{MOST_LINES};
 ghost use Rattle.plan_reader.specs.Written.{IsWritten};
 ghost use Rattle.plan_reader.specs.declared.reading.WrittenFault.TheVariants.{P1};
-ghost use Rattle.plan_reply.specs.Told as texts;
+ghost use Rattle.reply_text.specs.Texts as texts;
 ghost use Rattle.plan_reply.specs.Told.{IsTold};
 ghost use Rattle.plan_tree.specs.Views.{plan};
 ghost use Rattle.sql_query.specs.WellBound.{IsWellBound};
 
-use crate::lines::{invalid_line, reason_text};
+use crate::lines::reason_text;
 use crate::told::Told;
 use catalog::Catalog;
 use pg_base::Memory;
 use plan_reader::{WrittenFault, read_plan};
 use plan_space::{Written, judge};
+use reply_text::invalid_line;
 use sql_query::Prepared;
 use std::alloc::{AllocError, Global};
 

@@ -62,13 +62,3 @@ pub(crate) fn reason_text(alloc: Global, judged: Judged) -> Result<Option<Vec<u8
     };
     Ok(Some(text))
 }
-
-/// The line of a plan that is not run, for a reason.
-pub(crate) fn invalid_line(alloc: Global, reason: &[u8]) -> Result<Vec<u8>, Memory>
-    ensures { IfOk result (λ line. line.items ≡ texts.invalid_line reason.now) }
-{
-    let mut line = Vec::from_slice(alloc, b"invalid: ")?;
-    line.extend_from_slice(reason)?;
-    line.extend_from_slice(b"\n")?;
-    Ok(line)
-}

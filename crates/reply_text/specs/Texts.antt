@@ -20,3 +20,7 @@ row_line values = row_text default_writer (map field_text values)
 -- the number of rows, ended by LF (psql)
 abbrev pub count_line : ℕ → List ℕ
 count_line n = if n == 1 then codes "(1 row)\n" else codes "(" ++ (decimal n ++ codes " rows)\n")
+
+-- the line of a block that is not what it is given for: a certificate or a plan, with the first reason (own)
+abbrev pub invalid_line : List ℕ → List ℕ
+invalid_line reason = (codes "invalid: " ++ reason) ++ codes "\n"

@@ -3,6 +3,7 @@
 #![tactic(auto)]
 
 mod count;
+mod invalid;
 mod line;
 mod lines;
 mod pieces;
@@ -10,5 +11,6 @@ mod tells;
 mod texts;
 
 pub use count::count_line;
+pub use invalid::invalid_line;
 pub use line::write_fault;
 pub use lines::Lines;

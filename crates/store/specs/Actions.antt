@@ -71,4 +71,4 @@ after w (explain_groups g) = w
 
 -- an action turns a catalogue and what is kept of it, the first two, into the others
 abbrev pub IsWorldAfter : Action → Contents → Kept → Contents → Kept → Type 0
-IsWorldAfter action c k c' k' = world c' k'.stored ≡ after (world c k.stored) action
+IsWorldAfter action c k d m = world d m.stored ≡ after (world c k.stored) action

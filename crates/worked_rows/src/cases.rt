@@ -13,7 +13,7 @@ use crate::script::{Data, define, give, query};
 use crate::seen::{Seen, Wanted};
 use catalog::Catalog;
 use heap::{Counters, Counting};
-use pg_base::Steps;
+use pg_base::{Memory, Steps};
 use std::alloc::Global;
 use std::marker::Brand;
 use std::sync::ledger::{Blank, Ledger};
@@ -151,7 +151,7 @@ fn see<C: Counters>(
     seen: &mut Seen,
     fetches: &mut Steps<C::Fetches>,
     reads: &mut Steps<C::Looks>,
-) -> Option<Cost>
+) -> Result<Option<Cost>, Memory>
     requires bound { IsWellBound at.now.cat.now at.now.q.now }
     requires store { IsStoreOf at.now.cat.now at.now.store.now }
 {
@@ -174,7 +174,7 @@ fn is_done<C: Counters>(
     requires store { IsStoreOf at.now.cat.now at.now.store.now }
 {
     let mut seen = Seen::new(case.3);
-    let Some(before) = see(at, case.2, &mut seen, fetches, reads) else {
+    let Ok(Some(before)) = see(at, case.2, &mut seen, fetches, reads) else {
         return false;
     };
     let after = counted::<C>(fetches, reads);
@@ -255,10 +255,15 @@ fn is_counted<L: Ledger, M: Ledger>(
         && is_done_over(alloc, &cat, &store, case, &mut fetches, &mut reads)
 }
 
+/// Whether a case is as told.
+fn is_told(alloc: Global, case: Case) -> bool {
+    is_counted::<Brand, Brand>(alloc, Blank::new(1), Blank::new(1), case)
+}
+
 /// The place of the first case that is not as told.
 fn first_other(alloc: Global, cases: &[Case]) -> Option<usize> {
     for n in 0..cases.len() {
-        if !is_counted::<Brand, Brand>(alloc, Blank::new(1), Blank::new(1), cases[n]) {
+        if !is_told(alloc, cases[n]) {
             return Some(n);
         }
     }

@@ -7,26 +7,23 @@ ghost use Rattle.sql_query.specs.Queries.{width};
 ghost use Rattle.sql_query.specs.WellBound.{IsWellBound};
 ghost use Rattle.sql_query.specs.Worlds.{world};
 ghost use Rattle.store.specs.Kept.{IsStoreOf};
-ghost use Rattle.plan_tree.specs.Space.{IsBuilt, IsMerge};
 ghost use Rattle.plan_tree.specs.Sorted.{AreSorted};
 ghost use Rattle.plan_tree.specs.Views.{plan};
 ghost use Rattle.sort_rows.specs.Rows.{AllHaveRows};
 ghost use Rattle.merge_exec.specs.Keys.{AreJoining};
 ghost use Rattle.merge_exec.specs.Pairs.{AreDisjointSides};
-ghost use Rattle.worked_rows.specs.Scans.{index_at};
+ghost use Rattle.worked_rows.specs.Sides.{AreSides};
 
-use crate::scans::{index_scan, scanned};
+use crate::scans::{index_scan, is_whole_scan, scanned};
 use crate::scene::{Cost, Scene, counted};
 use crate::seen::Seen;
-use catalog::Catalog;
 use eq_classes::ClassNo;
 use heap::{Counters, Tuples};
 use merge_exec::{merge_lists_join, merge_rows, nest_rows};
 use pathkeys::Keys;
-use pg_base::{IndexNo, Memory, RelNo, RelSet, Steps};
-use plan_space::{is_index_scan, is_merge};
+use pg_base::{Memory, Steps};
+use plan_space::is_merge;
 use plan_tree::Plan;
-use sql_query::Prepared;
 
 /// How the sides are joined.
 #[derive(Clone, Copy)]
@@ -35,31 +32,26 @@ pub(crate) enum Way {
     Merge,
 }
 
-/// Whether a relation may be scanned by the index of its number.
-fn is_side(cat: &Catalog, q: &Prepared, rel: u8) -> bool
-    requires { IsWellBound cat.now q.now }
-    ensures { IsTrue result → IsBuilt cat.now q.now (index_at rel) }
-{
-    is_index_scan(cat, q, RelNo(rel), IndexNo(rel as u16), false, RelSet(0))
+/// Two scans, and the keys of a merge of them.
+#[derive(Drop)]
+struct Sides<'a> {
+    keys: &'a Keys,
+    outer: &'a Plan,
+    inner: &'a Plan,
 }
 
-/// Whether scans of two relations by their indexes are the sides of a merge by these keys.
+/// Whether two plans are scans that a merge may join by these keys.
 fn are_sides<C: Counters>(at: &Scene<C>, keys: &Keys, outer: &Plan, inner: &Plan) -> bool
-    requires bound { IsWellBound at.now.cat.now at.now.q.now }
-    requires outer { plan outer.now ≡ index_at 0 }
-    requires inner { plan inner.now ≡ index_at 1 }
-    ensures outer { IsTrue result → IsBuilt at.now.cat.now at.now.q.now (index_at 0) }
-    ensures inner { IsTrue result → IsBuilt at.now.cat.now at.now.q.now (index_at 1) }
-    ensures merge { IsTrue result → IsMerge at.now.cat.now at.now.q.now keys.now (index_at 0) (index_at 1) }
+    requires { IsWellBound at.now.cat.now at.now.q.now }
+    ensures { IsTrue result → AreSides at.now.cat.now at.now.q.now keys.now (plan outer.now) (plan inner.now) }
 {
-    if !is_side(at.cat, at.q, 0) || !is_side(at.cat, at.q, 1) {
-        return false;
-    }
-    is_merge(at.cat, at.q, keys, outer, inner)
+    is_whole_scan(at, outer)
+        && is_whole_scan(at, inner)
+        && is_merge(at.cat, at.q, keys, outer, inner)
 }
 
 /// The tuples of two sides joined so.
-fn joined<C: Counters>(
+fn joined_rows<C: Counters>(
     at: &Scene<C>,
     way: Way,
     keys: &Keys,
@@ -81,6 +73,28 @@ fn joined<C: Counters>(
     }
 }
 
+/// Sees the tuples of two sides joined so, and gives what was counted before the join.
+fn see_joined<C: Counters>(
+    at: &Scene<C>,
+    way: Way,
+    sides: &Sides,
+    seen: &mut Seen,
+    fetches: &mut Steps<C::Fetches>,
+    reads: &mut Steps<C::Looks>,
+) -> Result<Cost, Memory>
+    requires bound { IsWellBound at.now.cat.now at.now.q.now }
+    requires store { IsStoreOf at.now.cat.now at.now.store.now }
+    requires sides { AreSides at.now.cat.now at.now.q.now sides.now.keys.now (plan sides.now.outer.now) (plan sides.now.inner.now) }
+{
+    let outer = scanned(at, sides.outer, fetches, reads)?;
+    let inner = scanned(at, sides.inner, fetches, reads)?;
+    merge_lists_join();
+    let before = counted::<C>(fetches, reads);
+    let tuples = joined_rows(at, way, sides.keys, &outer, &inner, reads)?;
+    seen.see_all(&tuples);
+    Ok(before)
+}
+
 /// Sees the first relation joined with the second, both in the order of their indexes. It gives what was counted before the
 /// join.
 pub(crate) fn see_join<C: Counters>(
@@ -89,20 +103,21 @@ pub(crate) fn see_join<C: Counters>(
     seen: &mut Seen,
     fetches: &mut Steps<C::Fetches>,
     reads: &mut Steps<C::Looks>,
-) -> Option<Cost>
+) -> Result<Option<Cost>, Memory>
     requires bound { IsWellBound at.now.cat.now at.now.q.now }
     requires store { IsStoreOf at.now.cat.now at.now.store.now }
 {
-    let keys = Keys::from_slice(at.alloc, &[ClassNo(0)]).ok()?;
-    let (first, second) = (index_scan(0, false), index_scan(1, false));
+    let keys = Keys::from_slice(at.alloc, &[ClassNo(0)])?;
+    let first = index_scan(0, false);
+    let second = index_scan(1, false);
     if !are_sides(at, &keys, &first, &second) {
-        return None;
+        return Ok(None);
     }
-    let outer = scanned(at, &first, fetches, reads).ok()?;
-    let inner = scanned(at, &second, fetches, reads).ok()?;
-    merge_lists_join();
-    let before = counted::<C>(fetches, reads);
-    let tuples = joined(at, way, &keys, &outer, &inner, reads).ok()?;
-    seen.see_all(&tuples);
-    Some(before)
+    let sides = Sides {
+        keys: &keys,
+        outer: &first,
+        inner: &second,
+    };
+    let before = see_joined(at, way, &sides, seen, fetches, reads)?;
+    Ok(Some(before))
 }

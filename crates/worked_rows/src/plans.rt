@@ -84,18 +84,18 @@ pub(crate) fn see_tuples<C: Counters>(
     seen: &mut Seen,
     fetches: &mut Steps<C::Fetches>,
     reads: &mut Steps<C::Looks>,
-) -> Option<Cost>
+) -> Result<Option<Cost>, Memory>
     requires bound { IsWellBound at.now.cat.now at.now.q.now }
     requires store { IsStoreOf at.now.cat.now at.now.store.now }
 {
     let before = counted::<C>(fetches, reads);
-    let p = plan_of(at.alloc, is_sorted).ok()?;
+    let p = plan_of(at.alloc, is_sorted)?;
     if !validate(at.cat, at.q, &p) {
-        return None;
+        return Ok(None);
     }
     match drawn {
-        Drawn::All => see_plan(at, &p, seen, fetches, reads).ok()?,
-        Drawn::Each(most) => see_each(at, &p, most, seen, fetches, reads).ok()?,
+        Drawn::All => see_plan(at, &p, seen, fetches, reads)?,
+        Drawn::Each(most) => see_each(at, &p, most, seen, fetches, reads)?,
     }
-    Some(before)
+    Ok(Some(before))
 }

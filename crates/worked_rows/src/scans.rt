@@ -1,6 +1,6 @@
 //! One scan run.
 
-ghost use Rattle.std.specs.Prelude.{◌≡◌, ◌<◌, IfOk, IsTrue, false, length};
+ghost use Rattle.std.specs.Prelude.{◌≡◌, ◌<◌, IfOk, IsTrue, length};
 ghost use Rattle.pg_base.specs.Sets.{has};
 ghost use Rattle.heap.specs.Tuples.{padded_tuples};
 ghost use Rattle.sql_query.specs.Queries.{width};
@@ -10,24 +10,21 @@ ghost use Rattle.sql_query.specs.Worlds.{world};
 ghost use Rattle.store.specs.Kept.{IsStoreOf};
 ghost use Rattle.plan_tree.specs.Plans as plans;
 ghost use Rattle.plan_tree.specs.Run.{run};
-ghost use Rattle.plan_tree.specs.Space.{IsBuilt, IsEmpty};
+ghost use Rattle.plan_tree.specs.Space.{IsBuilt};
 ghost use Rattle.plan_tree.specs.Views.{plan};
 ghost use Rattle.sort_rows.specs.Rows.{AllHaveRows};
 ghost use Rattle.scan_exec.specs.Plans.{IsScan, param_set};
-ghost use Rattle.worked_rows.specs.Scans.{index_at};
 
 use crate::scene::{Cost, Scene, counted};
 use crate::seen::Seen;
 use heap::{Counters, Tuples};
 use pg_base::{IndexNo, Memory, RelNo, RelSet, Steps, Tid};
-use plan_space::{is_index_scan, validate};
+use plan_space::is_index_scan;
 use plan_tree::Plan;
 use scan_exec::{ScanRows, scan};
 
 /// The scan of a relation by the index of its number, without a parameterisation.
 pub(crate) fn index_scan(rel: u8, backward: bool) -> Plan
-    ensures plan { plan result ≡ plans.index (record { 0 = rel }) (record { 0 = rel }) backward (record { 0 = 0 }) }
-    ensures forward { backward ≡ false → plan result ≡ index_at rel }
 {
     Plan::Index {
         rel: RelNo(rel),
@@ -48,12 +45,49 @@ pub(crate) fn scanned<C: Counters>(
     requires store { IsStoreOf at.now.cat.now at.now.store.now }
     requires scan { IsScan (plan p.now) }
     requires built { IsBuilt at.now.cat.now at.now.q.now (plan p.now) }
-    requires whole { IsEmpty (plans.param_of (plan p.now)) }
+    requires whole { (param_set (plan p.now)).0 ≡ 0 }
     ensures set { IfOk result (λ ts. has ts.set.0 ≡ plans.set_of (plan p.now)) }
     ensures rows { IfOk result (λ ts. padded_tuples (width at.now.q.now) ts ≡ run (world at.now.cat.now at.now.store.now.stored) at.now.q.now (plan p.now) (no_rows at.now.q.now)) }
-    ensures held { IfOk result (AllHaveRows (world at.now.cat.now at.now.store.now.stored) at.now.q.now) }
 {
     scan(at.alloc, at.cat, at.q, p, at.store, &[], fetches, reads)
+}
+
+/// Whether a plan is a scan of the plan space, by an index or in turn, that is given no rows.
+pub(crate) fn is_whole_scan<C: Counters>(at: &Scene<C>, p: &Plan) -> bool
+    requires { IsWellBound at.now.cat.now at.now.q.now }
+    ensures scan { IsTrue result → IsScan (plan p.now) }
+    ensures built { IsTrue result → IsBuilt at.now.cat.now at.now.q.now (plan p.now) }
+    ensures param { IsTrue result → (param_set (plan p.now)).0 ≡ 0 }
+{
+    match p {
+        Plan::Seq { rel } => rel.0 == 0,
+        Plan::Index {
+            rel,
+            index,
+            backward,
+            param,
+        } => param.0 == 0 && is_index_scan(at.cat, at.q, *rel, *index, *backward, *param),
+        _ => false,
+    }
+}
+
+/// Sees the tuples of a scan that is given no rows.
+fn see_scanned<C: Counters>(
+    at: &Scene<C>,
+    p: &Plan,
+    seen: &mut Seen,
+    fetches: &mut Steps<C::Fetches>,
+    reads: &mut Steps<C::Looks>,
+) -> Result<(), Memory>
+    requires bound { IsWellBound at.now.cat.now at.now.q.now }
+    requires store { IsStoreOf at.now.cat.now at.now.store.now }
+    requires scan { IsScan (plan p.now) }
+    requires built { IsBuilt at.now.cat.now at.now.q.now (plan p.now) }
+    requires whole { (param_set (plan p.now)).0 ≡ 0 }
+{
+    let tuples = scanned(at, p, fetches, reads)?;
+    seen.see_all(&tuples);
+    Ok(())
 }
 
 /// Sees the tuples of a scan of the first relation, by the first index or in turn. It gives what was counted before.
@@ -63,7 +97,7 @@ pub(crate) fn see_scan<C: Counters>(
     seen: &mut Seen,
     fetches: &mut Steps<C::Fetches>,
     reads: &mut Steps<C::Looks>,
-) -> Option<Cost>
+) -> Result<Option<Cost>, Memory>
     requires bound { IsWellBound at.now.cat.now at.now.q.now }
     requires store { IsStoreOf at.now.cat.now at.now.store.now }
 {
@@ -73,19 +107,11 @@ pub(crate) fn see_scan<C: Counters>(
     } else {
         Plan::Seq { rel: RelNo(0) }
     };
-    if !is_scan(&p) || !validate(at.cat, at.q, &p) {
-        return None;
+    if !is_whole_scan(at, &p) {
+        return Ok(None);
     }
-    let tuples = scanned(at, &p, fetches, reads).ok()?;
-    seen.see_all(&tuples);
-    Some(before)
-}
-
-/// Whether a plan is one scan.
-fn is_scan(p: &Plan) -> bool
-    ensures { IsTrue result → IsScan (plan p.now) }
-{
-    matches!(p, Plan::Seq { .. } | Plan::Index { .. })
+    see_scanned(at, &p, seen, fetches, reads)?;
+    Ok(Some(before))
 }
 
 /// Sees each row that a scan has still to give, behind the number of the outer row.
@@ -134,18 +160,18 @@ pub(crate) fn see_restarts<C: Counters>(
     seen: &mut Seen,
     fetches: &mut Steps<C::Fetches>,
     reads: &mut Steps<C::Looks>,
-) -> Option<Cost>
+) -> Result<Option<Cost>, Memory>
     requires bound { IsWellBound at.now.cat.now at.now.q.now }
     requires store { IsStoreOf at.now.cat.now at.now.store.now }
 {
-    let outer = scanned(at, &Plan::Seq { rel: RelNo(0) }, fetches, reads).ok()?;
+    let outer = scanned(at, &Plan::Seq { rel: RelNo(0) }, fetches, reads)?;
     let before = counted::<C>(fetches, reads);
     let (rel, index, param) = (RelNo(1), IndexNo(1), RelSet(1));
     if outer.set() != param || outer.len() == 0 {
-        return None;
+        return Ok(None);
     }
     if !is_index_scan(at.cat, at.q, rel, index, false, param) {
-        return None;
+        return Ok(None);
     }
     let p = Plan::Index {
         rel,
@@ -153,6 +179,6 @@ pub(crate) fn see_restarts<C: Counters>(
         backward: false,
         param,
     };
-    see_each(at, &p, &outer, seen, fetches, reads).ok()?;
-    Some(before)
+    see_each(at, &p, &outer, seen, fetches, reads)?;
+    Ok(Some(before))
 }

@@ -144,10 +144,12 @@ fn see_each<C: Counters>(
     requires some { 0 < length outer.now.rows }
     requires held { AllHaveRows (world at.now.cat.now at.now.store.now.stored) at.now.q.now outer.now }
 {
-    let mut rows = ScanRows::start(at.alloc, at.cat, at.q, p, at.store, outer.get(0), reads)?;
+    let first = outer.get(0);
+    let mut rows = ScanRows::start(at.alloc, at.cat, at.q, p, at.store, first, reads)?;
     let _ = rows.next(fetches, reads);
     for n in 0..outer.len() {
-        rows.restart(at.alloc, at.cat, at.q, p, at.store, outer.get(n), reads)?;
+        let tuple = outer.get(n);
+        rows.restart(at.alloc, at.cat, at.q, p, at.store, tuple, reads)?;
         see_rows(&mut rows, n, seen, fetches, reads);
     }
     Ok(())

@@ -1,22 +1,20 @@
 -- The rows of the statements that are in the grammar by a constant are rules of the grammar.
-use Rattle.std.proofs.Common.{◌≡◌, ℕ, ◌≤◌, Bool, true, false, List, [], ◌∷◌, ◌++◌, Some, None, refl, ap, ◌∙◌, subst, arith, append_assoc, cond}
+use Rattle.std.proofs.Common.{◌≡◌, ℕ, ◌≤◌, Bool, true, false, List, [], ◌∷◌, ◌++◌, Some, None, refl, ap, subst, arith, append_assoc, cond}
 use Rattle.sql_lex.specs.declared.tokens.Token.{Token}
-use Rattle.sql_grammar.specs.Terminals.{Terminal, t_key, t_mark, t_name, t_number, t_semicolon, free, class_of}
-use Rattle.sql_grammar.specs.declared.class.Free.{Free as FreeT}
+use Rattle.sql_grammar.specs.Terminals.{Terminal, t_key, t_mark, t_name, t_number, t_semicolon, free}
 use Rattle.sql_grammar.specs.declared.class.Free.TheVariants.{Advise as AdviseWord, Analyze, Check, Plan, Use}
-use Rattle.sql_grammar.specs.declared.class.Word.TheVariants.{Select, Table}
-use Rattle.sql_grammar.specs.declared.class.Symbol.TheVariants.{Open, Close, Comma}
+use Rattle.sql_grammar.specs.declared.class.Word.TheVariants.{Table}
+use Rattle.sql_grammar.specs.declared.class.Symbol.TheVariants.{Open, Close}
 use Rattle.sql_grammar.specs.declared.offered.TheConstants.{READS_ADVISE, READS_ANALYZE, READS_CHECK, READS_PLAN, READS_TABLE}
 use Rattle.sql_grammar.specs.declared.table.Item.{Item}
 use Rattle.sql_grammar.specs.declared.table.Item.TheVariants.{Keyword, Sign, FreeWord, Label, Digits, Whole, Ends, Stop, Query, MaybeOrder, MaybeLimit, MaybeOffset, AfterExplain, Candidate, MoreCands, AdvisedSelect, MoreAdvised}
-use Rattle.sql_grammar.specs.Syntax.{IsOffered, window, windowed_select, explained, explain_table, ordered_select, index_key, cand_on, advised, advise_of, query, analyze, advise, check, use_plan}
+use Rattle.sql_grammar.specs.Syntax.{IsOffered, window, windowed_select, explain_table, ordered_select, advise_of, query, analyze, advise, check, use_plan}
 use Rattle.sql_grammar.specs.Words.{words_of_select, words_of_order, words_of_limit, words_of_offset, words_of_cand, words_of_cands, words_of_advised, words_of_more_advised, words_of_ending}
-use Rattle.sql_grammar.specs.AdviseTable.{offered_takes, explained_takes, candidate_takes, cands_takes, advised_takes, more_advised_takes}
 use Rattle.sql_grammar.specs.Machine.{depth_of}
 use Rattle.sql_grammar.proofs.Forest.{words_of_parts, IsRule}
 
 -- the words of a SELECT with its order and its window, of a word behind them and of what follows
-windowed-words : (q y l o e x : List Terminal) → ((q ++ (y ++ (l ++ o))) ++ e) ++ x ≡ q ++ (y ++ (l ++ (o ++ (e ++ x))))
+pub windowed-words : (q y l o e x : List Terminal) → ((q ++ (y ++ (l ++ o))) ++ e) ++ x ≡ q ++ (y ++ (l ++ (o ++ (e ++ x))))
 windowed-words q y l o e x = simp append_assoc
 
 -- those of one that ends a statement
@@ -28,7 +26,7 @@ advise-words : (c cs x xs e w : List Terminal) (m : Terminal) → (c ++ (cs ++ m
 advise-words c cs x xs e w m = simp append_assoc
 
 module _ (limit : ℕ) (s : List Item) where
-  table : (b : Bool) (o : Token) → b ≡ READS_TABLE →
+  pub table : (b : Bool) (o : Token) → b ≡ READS_TABLE →
       IsRule limit s AfterExplain (t_mark Open o) (cond b (Some (Keyword Table ∷ Sign Close ∷ Query ∷ MaybeOrder ∷ MaybeLimit ∷ MaybeOffset ∷ Ends ∷ [])) None)
   table true o is = λ (t, (m, ((q, low), (y, (l, (u, (e, f))))))). (
     (
@@ -43,42 +41,12 @@ module _ (limit : ℕ) (s : List Item) where
   )
   table false o is = tt
 
-  pub explained_rule : (t : Terminal) → IsRule limit s AfterExplain t (explained_takes (class_of t))
-  explained_rule (t_key Select k) = λ ((ts, after'), f). (((t_key Select k ∷ ts, λ j. after' (explained j) k []), f), refl)
-  explained_rule (t_mark Open o) = table READS_TABLE o refl
-  explained_rule _ = tt
-
-  pub candidate_rule : (t : Terminal) → IsRule limit s Candidate t (candidate_takes (class_of t))
-  candidate_rule (t_name n) = λ (o, (t, (u, (p, (x, (c, (d, (z, ((ks, m), (inc, ((w, low), f))))))))))). (((cand_on n o t u p (index_key x c d z) ks m inc w, omega arith), f), simp append_assoc)
-  candidate_rule _ = tt
-
-  pub advised_rule : (t : Terminal) → IsRule limit s AdvisedSelect t (advised_takes (class_of t))
-  advised_rule (t_mark Open o) = λ ((q, low), (y, (l, (u, (m, f))))). (
-    ((advised o (windowed_select q y (window l u)) m, omega arith), f),
-    ap (λ v. t_mark Open o ∷ v) (windowed-words (words_of_select q) (words_of_order y) (words_of_limit l) (words_of_offset u) (t_mark Close m ∷ []) (words_of_parts limit s f)),
-  )
-  advised_rule _ = tt
-
-  pub more_advised_rule : (t : Terminal) → IsRule limit s MoreAdvised t (more_advised_takes (class_of t))
-  more_advised_rule (t_mark Open o) = λ ((q, low), (y, (l, (u, (m, ((xs, others), f)))))). (
-    ((advised o (windowed_select q y (window l u)) m ∷ xs, omega arith), f),
-    ap (λ v. t_mark Open o ∷ v)
-        (append_assoc ((words_of_select q ++ (words_of_order y ++ (words_of_limit l ++ words_of_offset u))) ++ t_mark Close m ∷ []) (words_of_more_advised xs) (words_of_parts limit s f) ∙
-        windowed-words (words_of_select q) (words_of_order y) (words_of_limit l) (words_of_offset u) (t_mark Close m ∷ []) (words_of_more_advised xs ++ words_of_parts limit s f)),
-  )
-  more_advised_rule _ = tt
-
   module _ (shallow : depth_of s ≤ limit) where
-    pub cands_rule : (t : Terminal) → IsRule limit s MoreCands t (cands_takes (class_of t))
-    cands_rule (t_mark Comma k) = λ ((c, low), ((cs, others, m), f)). ((((k, c) ∷ cs, omega arith, m), f), simp append_assoc)
-    cands_rule (t_mark Close m) = λ f. ((([], omega arith, m), f), refl)
-    cands_rule _ = tt
-
-    analyze_rule : (b : Bool) (k : Token) → b ≡ READS_ANALYZE → IsRule limit s Whole (t_name (free Analyze k)) (cond b (Some (Label ∷ Ends ∷ [])) None)
+    pub analyze_rule : (b : Bool) (k : Token) → b ≡ READS_ANALYZE → IsRule limit s Whole (t_name (free Analyze k)) (cond b (Some (Label ∷ Ends ∷ [])) None)
     analyze_rule true k is = λ (n, (e, f)). (((analyze (subst IsOffered is tt) k n e, omega arith), f), refl)
     analyze_rule false k is = tt
 
-    advise_rule : (b : Bool) (k : Token) → b ≡ READS_ADVISE →
+    pub advise_rule : (b : Bool) (k : Token) → b ≡ READS_ADVISE →
         IsRule limit s Whole (t_name (free AdviseWord k)) (cond b (Some (Digits ∷ Sign Open ∷ Candidate ∷ MoreCands ∷ AdvisedSelect ∷ MoreAdvised ∷ Ends ∷ [])) None)
     advise_rule true k is = λ (n, (o, ((c, first), ((cs, others, m), ((x, asked), ((xs, more), (e, f))))))). (
       ((advise (advise_of (subst IsOffered is tt) k n o c cs m x xs e), omega arith), f),
@@ -87,20 +55,13 @@ module _ (limit : ℕ) (s : List Item) where
     )
     advise_rule false k is = tt
 
-    check_rule : (b : Bool) (k : Token) → b ≡ READS_CHECK → IsRule limit s Whole (t_name (free Check k)) (cond b (Some (Query ∷ MaybeOrder ∷ MaybeLimit ∷ MaybeOffset ∷ Stop ∷ [])) None)
+    pub check_rule : (b : Bool) (k : Token) → b ≡ READS_CHECK → IsRule limit s Whole (t_name (free Check k)) (cond b (Some (Query ∷ MaybeOrder ∷ MaybeLimit ∷ MaybeOffset ∷ Stop ∷ [])) None)
     check_rule true k is = λ ((q, low), (y, (l, (u, (e, f))))). (
       ((check (subst IsOffered is tt) k (windowed_select q y (window l u)) e, omega arith), f),
       ap (λ v. t_name (free Check k) ∷ v) (windowed-words (words_of_select q) (words_of_order y) (words_of_limit l) (words_of_offset u) (t_semicolon e ∷ []) (words_of_parts limit s f)),
     )
     check_rule false k is = tt
 
-    plan_rule : (b : Bool) (k : Token) → b ≡ READS_PLAN → IsRule limit s Whole (t_name (free Use k)) (cond b (Some (FreeWord Plan ∷ Query ∷ MaybeOrder ∷ Stop ∷ [])) None)
+    pub plan_rule : (b : Bool) (k : Token) → b ≡ READS_PLAN → IsRule limit s Whole (t_name (free Use k)) (cond b (Some (FreeWord Plan ∷ Query ∷ MaybeOrder ∷ Stop ∷ [])) None)
     plan_rule true k is = λ (p, ((q, low), (y, (e, f)))). (((use_plan (subst IsOffered is tt) k p q y e, omega arith), f), simp append_assoc)
     plan_rule false k is = tt
-
-    pub offered_rule : (w : FreeT) (k : Token) → IsRule limit s Whole (t_name (free w k)) (offered_takes w)
-    offered_rule AdviseWord k = advise_rule READS_ADVISE k refl
-    offered_rule Analyze k = analyze_rule READS_ANALYZE k refl
-    offered_rule Check k = check_rule READS_CHECK k refl
-    offered_rule Use k = plan_rule READS_PLAN k refl
-    offered_rule _ k = tt

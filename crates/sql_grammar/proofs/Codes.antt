@@ -14,30 +14,7 @@ word_at n = get_or (And ∷ As ∷ Asc ∷ Create ∷ Cross ∷ Desc ∷ False �
 
 word_back : (w : Word) → word_at (word_code w) ≡ w
 word_back And = refl
-word_back As = refl
-word_back Asc = refl
-word_back Create = refl
-word_back Cross = refl
-word_back Desc = refl
-word_back False = refl
-word_back From = refl
-word_back Group = refl
-word_back Inner = refl
-word_back Is = refl
-word_back Join = refl
-word_back Limit = refl
-word_back Not = refl
-word_back Null = refl
-word_back Offset = refl
-word_back On = refl
-word_back Or = refl
-word_back Order = refl
-word_back Select = refl
-word_back Table = refl
-word_back True = refl
-word_back Using = refl
-word_back Where = refl
-word_back With = refl
+word_back _ = refl
 
 pub same_word : (v w : Word) → nat_eq (word_code v) (word_code w) ≡ true → v ≡ w
 same_word v w e = sym (word_back v) ∙ (ap word_at (eqb-true (word_code v) (word_code w) e) ∙ word_back w)
@@ -47,11 +24,7 @@ sign_at n = get_or (Open ∷ Close ∷ Comma ∷ Dot ∷ Minus ∷ Star ∷ []) 
 
 sign_back : (w : Symbol) → sign_at (sign_code w) ≡ w
 sign_back Open = refl
-sign_back Close = refl
-sign_back Comma = refl
-sign_back Dot = refl
-sign_back Minus = refl
-sign_back Star = refl
+sign_back _ = refl
 
 pub same_sign : (v w : Symbol) → nat_eq (sign_code v) (sign_code w) ≡ true → v ≡ w
 same_sign v w e = sym (sign_back v) ∙ (ap sign_at (eqb-true (sign_code v) (sign_code w) e) ∙ sign_back w)
@@ -61,27 +34,7 @@ free_at n = get_or (Advise ∷ Analyze ∷ By ∷ Check ∷ Common ∷ Copy ∷ 
 
 free_back : (w : Free) → free_at (free_code w) ≡ w
 free_back Advise = refl
-free_back Analyze = refl
-free_back By = refl
-free_back Check = refl
-free_back Common = refl
-free_back Copy = refl
-free_back Csv = refl
-free_back Distinct = refl
-free_back Explain = refl
-free_back First = refl
-free_back Format = refl
-free_back Histogram = refl
-free_back Include = refl
-free_back Index = refl
-free_back Last = refl
-free_back Nulls = refl
-free_back Pages = refl
-free_back Plan = refl
-free_back Rows = refl
-free_back Statistics = refl
-free_back Stdin = refl
-free_back Use = refl
+free_back _ = refl
 
 pub same_free : (v w : Free) → nat_eq (free_code v) (free_code w) ≡ true → v ≡ w
 same_free v w e = sym (free_back v) ∙ (ap free_at (eqb-true (free_code v) (free_code w) e) ∙ free_back w)

@@ -3,23 +3,27 @@ use Rattle.std.proofs.Common.{◌≡◌, ℕ, Bool, true, false, ◌&&◌, not, 
 use Rattle.std.proofs.lemmas.Bool.{and_parts}
 use Rattle.sql_grammar.specs.declared.class.Class.{Class}
 use Rattle.sql_grammar.specs.declared.table.Item.{Item}
-use Rattle.sql_grammar.specs.declared.table.Item.TheVariants.{Whole, Ends, Stop, AfterCreate, AfterExplain, PlainItem, AfterPlain, PlainNext, PlainTail}
+use Rattle.sql_grammar.specs.declared.table.Item.TheVariants.{Whole}
 use Rattle.sql_grammar.specs.Table.{Expansion, takes_of, is_optional, takes_end, is_ending}
 use Rattle.sql_grammar.specs.Machine.{depth_of, opens, by_row, step_of, may_end, is_empty, is_closed}
 use Rattle.sql_grammar.proofs.RoomTests.{row_test}
 use Rattle.sql_grammar.proofs.Room.{row-room}
 
+-- computed for each item
+ends-or-optional : (i : Item) → is_optional i && takes_end i ≡ false
+ends-or-optional Whole = refl
+ends-or-optional _ = refl
+
+not-both : (o e : Bool) → o && e ≡ false → o ≡ true → e ≡ false
+not-both true e none is = none
+not-both false e none is = absurd (cc)
+
+nor-both : (o e : Bool) → o && e ≡ false → e ≡ true → o ≡ false
+nor-both true e none is = absurd (cc)
+nor-both false e none is = refl
+
 optional-inner : (i : Item) → is_optional i ≡ true → takes_end i ≡ false
-optional-inner Whole o = absurd (cc)
-optional-inner Ends o = absurd (cc)
-optional-inner Stop o = absurd (cc)
-optional-inner AfterCreate o = absurd (cc)
-optional-inner AfterExplain o = absurd (cc)
-optional-inner PlainItem o = absurd (cc)
-optional-inner AfterPlain o = absurd (cc)
-optional-inner PlainNext o = absurd (cc)
-optional-inner PlainTail o = absurd (cc)
-optional-inner _ o = refl
+optional-inner i = not-both (is_optional i) (takes_end i) (ends-or-optional i)
 
 -- without such an item in front the stack's end is what counts
 inner-parts : (b x : Bool) → cond b false x ≡ true → (b ≡ false) × (x ≡ true)
@@ -85,16 +89,7 @@ end-awaited false true m e c inner more closed = more closed
 end-awaited false false m e c inner more closed = refl
 
 last-needed : (i : Item) → takes_end i ≡ true → is_optional i ≡ false
-last-needed Whole l = refl
-last-needed Ends l = refl
-last-needed Stop l = refl
-last-needed AfterCreate l = refl
-last-needed AfterExplain l = refl
-last-needed PlainItem l = refl
-last-needed AfterPlain l = refl
-last-needed PlainNext l = refl
-last-needed PlainTail l = refl
-last-needed _ l = absurd (cc)
+last-needed i = nor-both (is_optional i) (takes_end i) (ends-or-optional i)
 
 pub still-open : (s : List Item) → is_closed false true s ≡ true → may_end s ≡ false
 still-open [] closed = absurd (cc)

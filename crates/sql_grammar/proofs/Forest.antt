@@ -38,143 +38,97 @@ words_of_led ((o, m) ∷ led) = words_of_output o ++ t_mark Comma m ∷ words_of
 abbrev pub begun : MaybeExplain → Key → List (Output × Mark) → List Terminal → List Terminal
 begun x k led ts = words_of_maybe_explain x ++ t_key SelectKey k ∷ (words_of_led led ++ ts)
 
+-- what an item may stand for, with its words
+abbrev pub Kind : Type 1
+Kind = (T : Type 0) × (T → List Terminal)
+
+-- a tree within the limit of levels
+abbrev within : ℕ → ℕ → (T : Type 0) → (T → ℕ) → (T → List Terminal) → Kind
+within limit depth T levels words = ((x : T) × (levels x + depth ≤ limit), λ p. words p.0)
+
+-- words that make something of what stands before them
+abbrev behind : (List Terminal → Type 0) → Kind
+behind Makes = ((ts : List Terminal) × Makes ts, λ p. p.0)
+
+-- a tree and the parenthesis that closes it
+abbrev closed : (T : Type 0) → (T → List Terminal) → Kind
+closed T words = (T × Mark, λ p. words p.0 ++ t_mark Close p.1 ∷ [])
+
 -- what an item below which `depth` levels are open stands for
+abbrev pub kind_of : ℕ → ℕ → Item → Kind
+kind_of limit depth (Keyword w) = (Key, λ k. t_key w k ∷ [])
+kind_of limit depth (Sign s) = (Mark, λ m. t_mark s m ∷ [])
+kind_of limit depth (FreeWord w) = (Token, λ t. t_name (free w t) ∷ [])
+kind_of limit depth Label = (Ident, λ n. t_name n ∷ [])
+kind_of limit depth Digits = (Said, λ n. t_number n ∷ [])
+kind_of limit depth QuotedText = (Said, λ q. t_quoted q ∷ [])
+kind_of limit depth Whole = within limit depth Statement levels_of words_of
+kind_of limit depth Ends = (Ending, words_of_ending)
+kind_of limit depth Stop = (Token, λ t. t_semicolon t ∷ [])
+kind_of limit depth Query = within limit depth Select levels_of_select words_of_select
+kind_of limit depth Nullness = (Nulls, words_of_nulls)
+kind_of limit depth MoreColumns = closed (List (Mark × ColDef)) words_of_columns
+kind_of limit depth Negation = within limit depth Neg levels_of_neg words_of_neg
+kind_of limit depth MoreAnds = within limit depth Ands levels_of_ands words_of_ands
+kind_of limit depth MoreOrs = within limit depth Ors levels_of_ors words_of_ors
+kind_of limit depth Closes = (Mark, λ m. t_mark Close m ∷ [])
+kind_of limit depth NotEnds = (Unit {0}, λ p. [])
+kind_of limit depth AfterName = behind (λ ts. (n : Ident) → Atom_after (t_name n ∷ []) ts)
+kind_of limit depth AfterColumn = behind (λ ts. (c : Col) → Atom_after (words_of_col c) ts)
+kind_of limit depth AfterIs = behind (λ ts. (c : Col) (k : Key) → Atom_after (words_of_col c) (t_key Is k ∷ ts))
+kind_of limit depth AfterLiteral = behind (λ ts. (l : Lit) → Atom_after (words_of_lit l) ts)
+kind_of limit depth AfterTruth = behind (λ ts. (c : Constant) (k : Key) → Atom_after (words_of_lit (constant c k)) ts)
+kind_of limit depth Side = (Operand, words_of_operand)
+kind_of limit depth AfterQualifier = behind (λ ts. (n : Ident) → (c : Col) × (words_of_col c ≡ t_name n ∷ ts))
+kind_of limit depth Result = (Output, words_of_output)
+kind_of limit depth MoreResults = (List (Mark × Output), words_of_outputs)
+kind_of limit depth AfterResult = behind (λ ts. (n : Ident) → (o : Output) × (words_of_output o ≡ t_name n ∷ ts))
+kind_of limit depth StarOrLabel = behind (λ ts. (n : Ident) (d : Mark) → (o : Output) × (words_of_output o ≡ t_name n ∷ t_mark Dot d ∷ ts))
+kind_of limit depth MaybeAlias = (Alias, words_of_alias)
+kind_of limit depth MoreJoins = within limit depth (List Join) levels_of_joins words_of_joins
+kind_of limit depth MoreGroups = within limit depth (List (Mark × Group)) levels_of_groups words_of_groups
+kind_of limit depth MaybeWhere = within limit depth Where levels_of_where words_of_where
+kind_of limit depth Figures = behind (λ ts. Statement_after ts)
+kind_of limit depth MaybeCommon = (Common, words_of_common)
+kind_of limit depth MoreShares = closed (List (Mark × Share)) words_of_shares
+kind_of limit depth MaybeHistogram = (Histogram, words_of_histogram)
+kind_of limit depth MoreBounds = closed (List (Mark × Lit)) words_of_bounds
+kind_of limit depth Literal = (Lit, words_of_lit)
+kind_of limit depth MaybeOrder = (OrderBy, words_of_order)
+kind_of limit depth MoreOrderings = (List (Mark × Ordering), words_of_orderings)
+kind_of limit depth MaybeLimit = (Limit, words_of_limit)
+kind_of limit depth MaybeOffset = (Offset, words_of_offset)
+kind_of limit depth MaybeDirection = (Direction, words_of_direction)
+kind_of limit depth MaybeNulls = (NullsEnd, words_of_nulls_end)
+kind_of limit depth FirstOrLast = behind (λ ts. (k : Token) → (n : NullsEnd) × (words_of_nulls_end n ≡ t_name (free NullsWord k) ∷ ts))
+kind_of limit depth AfterCreate = behind (λ ts. (k : Key) → (x : Statement) × (words_of x ≡ t_key Create k ∷ ts) × (levels_of x + depth ≤ limit))
+kind_of limit depth MaybeUsing = (Using, words_of_using)
+kind_of limit depth MaybeClass = (OpClass, words_of_class)
+kind_of limit depth MoreKeys = closed (List (Mark × IndexKey)) words_of_keys
+kind_of limit depth MaybeInclude = (Include, words_of_include)
+kind_of limit depth MoreNames = closed (List (Mark × Ident)) words_of_names
+kind_of limit depth AfterExplain = behind (λ ts. (k : Token) → Statement_of limit depth (t_name (free Explain k) ∷ ts))
+kind_of limit depth Candidate = within limit depth Cand levels_of_cand words_of_cand
+kind_of limit depth MoreCands = ((x : List (Mark × Cand)) × (levels_of_cands x + depth ≤ limit) × Mark, λ p. words_of_cands p.0 ++ t_mark Close p.2 ∷ [])
+kind_of limit depth AdvisedSelect = within limit depth Advised levels_of_advised words_of_advised
+kind_of limit depth MoreAdvised = within limit depth (List Advised) levels_of_more_advised words_of_more_advised
+kind_of limit depth PlainItem = behind (λ ts. (x : MaybeExplain) (k : Key) (led : List (Output × Mark)) → Statement_of limit depth (begun x k led ts))
+kind_of limit depth AfterPlain = behind (λ ts. (x : MaybeExplain) (k : Key) (led : List (Output × Mark)) (n : Ident) → Statement_of limit depth (begun x k led (t_name n ∷ ts)))
+kind_of limit depth PlainNext = behind (λ ts. (x : MaybeExplain) (k : Key) (led : List (Output × Mark)) (o : Output) → Statement_of limit depth (begun x k led (words_of_output o ++ ts)))
+kind_of limit depth PlainTail = behind (λ ts. (x : MaybeExplain) (q : Select) → levels_of_select q + depth ≤ limit → Statement_of limit depth (words_of_maybe_explain x ++ (words_of_select q ++ ts)))
+kind_of limit depth GroupedItem = (GroupedItemTree, words_of_grouped_item)
+kind_of limit depth AfterGroupedName = behind (λ ts. (n : Ident) → (i : GroupedItemTree) × (words_of_grouped_item i ≡ t_name n ∷ ts))
+kind_of limit depth MoreGroupedItems = (List (Mark × GroupedItemTree) × Key, λ p. words_of_grouped_items p.0 ++ t_key From p.1 ∷ [])
+kind_of limit depth Argument = (ArgumentTree, words_of_argument)
+kind_of limit depth MaybeGroup = (GroupBy, words_of_group_by)
+kind_of limit depth MoreGroupColumns = (List (Mark × Col), words_of_group_columns)
+
 abbrev pub Part : ℕ → ℕ → Item → Type 0
-Part limit depth (Keyword w) = Key
-Part limit depth (Sign s) = Mark
-Part limit depth (FreeWord w) = Token
-Part limit depth Label = Ident
-Part limit depth Digits = Said
-Part limit depth QuotedText = Said
-Part limit depth Whole = (x : Statement) × (levels_of x + depth ≤ limit)
-Part limit depth Ends = Ending
-Part limit depth Stop = Token
-Part limit depth Query = (x : Select) × (levels_of_select x + depth ≤ limit)
-Part limit depth Nullness = Nulls
-Part limit depth MoreColumns = List (Mark × ColDef) × Mark
-Part limit depth Negation = (x : Neg) × (levels_of_neg x + depth ≤ limit)
-Part limit depth MoreAnds = (x : Ands) × (levels_of_ands x + depth ≤ limit)
-Part limit depth MoreOrs = (x : Ors) × (levels_of_ors x + depth ≤ limit)
-Part limit depth Closes = Mark
-Part limit depth NotEnds = Unit {0}
-Part limit depth AfterName = (ts : List Terminal) × ((n : Ident) → Atom_after (t_name n ∷ []) ts)
-Part limit depth AfterColumn = (ts : List Terminal) × ((c : Col) → Atom_after (words_of_col c) ts)
-Part limit depth AfterIs = (ts : List Terminal) × ((c : Col) (k : Key) → Atom_after (words_of_col c) (t_key Is k ∷ ts))
-Part limit depth AfterLiteral = (ts : List Terminal) × ((l : Lit) → Atom_after (words_of_lit l) ts)
-Part limit depth AfterTruth = (ts : List Terminal) × ((c : Constant) (k : Key) → Atom_after (words_of_lit (constant c k)) ts)
-Part limit depth Side = Operand
-Part limit depth AfterQualifier = (ts : List Terminal) × ((n : Ident) → (c : Col) × (words_of_col c ≡ t_name n ∷ ts))
-Part limit depth Result = Output
-Part limit depth MoreResults = List (Mark × Output)
-Part limit depth AfterResult = (ts : List Terminal) × ((n : Ident) → (o : Output) × (words_of_output o ≡ t_name n ∷ ts))
-Part limit depth StarOrLabel = (ts : List Terminal) × ((n : Ident) (d : Mark) → (o : Output) × (words_of_output o ≡ t_name n ∷ t_mark Dot d ∷ ts))
-Part limit depth MaybeAlias = Alias
-Part limit depth MoreJoins = (x : List Join) × (levels_of_joins x + depth ≤ limit)
-Part limit depth MoreGroups = (x : List (Mark × Group)) × (levels_of_groups x + depth ≤ limit)
-Part limit depth MaybeWhere = (x : Where) × (levels_of_where x + depth ≤ limit)
-Part limit depth Figures = (ts : List Terminal) × Statement_after ts
-Part limit depth MaybeCommon = Common
-Part limit depth MoreShares = List (Mark × Share) × Mark
-Part limit depth MaybeHistogram = Histogram
-Part limit depth MoreBounds = List (Mark × Lit) × Mark
-Part limit depth Literal = Lit
-Part limit depth MaybeOrder = OrderBy
-Part limit depth MoreOrderings = List (Mark × Ordering)
-Part limit depth MaybeLimit = Limit
-Part limit depth MaybeOffset = Offset
-Part limit depth MaybeDirection = Direction
-Part limit depth MaybeNulls = NullsEnd
-Part limit depth FirstOrLast = (ts : List Terminal) × ((k : Token) → (n : NullsEnd) × (words_of_nulls_end n ≡ t_name (free NullsWord k) ∷ ts))
-Part limit depth AfterCreate = (ts : List Terminal) × ((k : Key) → (x : Statement) × (words_of x ≡ t_key Create k ∷ ts) × (levels_of x + depth ≤ limit))
-Part limit depth MaybeUsing = Using
-Part limit depth MaybeClass = OpClass
-Part limit depth MoreKeys = List (Mark × IndexKey) × Mark
-Part limit depth MaybeInclude = Include
-Part limit depth MoreNames = List (Mark × Ident) × Mark
-Part limit depth AfterExplain = (ts : List Terminal) × ((k : Token) → Statement_of limit depth (t_name (free Explain k) ∷ ts))
-Part limit depth Candidate = (x : Cand) × (levels_of_cand x + depth ≤ limit)
-Part limit depth MoreCands = (x : List (Mark × Cand)) × (levels_of_cands x + depth ≤ limit) × Mark
-Part limit depth AdvisedSelect = (x : Advised) × (levels_of_advised x + depth ≤ limit)
-Part limit depth MoreAdvised = (x : List Advised) × (levels_of_more_advised x + depth ≤ limit)
-Part limit depth PlainItem = (ts : List Terminal) × ((x : MaybeExplain) (k : Key) (led : List (Output × Mark)) → Statement_of limit depth (begun x k led ts))
-Part limit depth AfterPlain = (ts : List Terminal) × ((x : MaybeExplain) (k : Key) (led : List (Output × Mark)) (n : Ident) → Statement_of limit depth (begun x k led (t_name n ∷ ts)))
-Part limit depth PlainNext = (ts : List Terminal) × ((x : MaybeExplain) (k : Key) (led : List (Output × Mark)) (o : Output) → Statement_of limit depth (begun x k led (words_of_output o ++ ts)))
-Part limit depth PlainTail = (ts : List Terminal) × ((x : MaybeExplain) (q : Select) → levels_of_select q + depth ≤ limit → Statement_of limit depth (words_of_maybe_explain x ++ (words_of_select q ++ ts)))
-Part limit depth GroupedItem = GroupedItemTree
-Part limit depth AfterGroupedName = (ts : List Terminal) × ((n : Ident) → (i : GroupedItemTree) × (words_of_grouped_item i ≡ t_name n ∷ ts))
-Part limit depth MoreGroupedItems = List (Mark × GroupedItemTree) × Key
-Part limit depth Argument = ArgumentTree
-Part limit depth MaybeGroup = GroupBy
-Part limit depth MoreGroupColumns = List (Mark × Col)
+Part limit depth i = (kind_of limit depth i).0
 
 -- its words
 abbrev pub words_of_part : (limit depth : ℕ) (i : Item) → Part limit depth i → List Terminal
-words_of_part limit depth (Keyword w) k = t_key w k ∷ []
-words_of_part limit depth (Sign s) m = t_mark s m ∷ []
-words_of_part limit depth (FreeWord w) t = t_name (free w t) ∷ []
-words_of_part limit depth Label n = t_name n ∷ []
-words_of_part limit depth Digits n = t_number n ∷ []
-words_of_part limit depth QuotedText q = t_quoted q ∷ []
-words_of_part limit depth Whole p = words_of p.0
-words_of_part limit depth Ends p = words_of_ending p
-words_of_part limit depth Stop t = t_semicolon t ∷ []
-words_of_part limit depth Query p = words_of_select p.0
-words_of_part limit depth Nullness p = words_of_nulls p
-words_of_part limit depth MoreColumns p = words_of_columns p.0 ++ t_mark Close p.1 ∷ []
-words_of_part limit depth Negation p = words_of_neg p.0
-words_of_part limit depth MoreAnds p = words_of_ands p.0
-words_of_part limit depth MoreOrs p = words_of_ors p.0
-words_of_part limit depth Closes m = t_mark Close m ∷ []
-words_of_part limit depth NotEnds p = []
-words_of_part limit depth AfterName p = p.0
-words_of_part limit depth AfterColumn p = p.0
-words_of_part limit depth AfterIs p = p.0
-words_of_part limit depth AfterLiteral p = p.0
-words_of_part limit depth AfterTruth p = p.0
-words_of_part limit depth Side p = words_of_operand p
-words_of_part limit depth AfterQualifier p = p.0
-words_of_part limit depth Result p = words_of_output p
-words_of_part limit depth MoreResults p = words_of_outputs p
-words_of_part limit depth AfterResult p = p.0
-words_of_part limit depth StarOrLabel p = p.0
-words_of_part limit depth MaybeAlias p = words_of_alias p
-words_of_part limit depth MoreJoins p = words_of_joins p.0
-words_of_part limit depth MoreGroups p = words_of_groups p.0
-words_of_part limit depth MaybeWhere p = words_of_where p.0
-words_of_part limit depth Figures p = p.0
-words_of_part limit depth MaybeCommon p = words_of_common p
-words_of_part limit depth MoreShares p = words_of_shares p.0 ++ t_mark Close p.1 ∷ []
-words_of_part limit depth MaybeHistogram p = words_of_histogram p
-words_of_part limit depth MoreBounds p = words_of_bounds p.0 ++ t_mark Close p.1 ∷ []
-words_of_part limit depth Literal p = words_of_lit p
-words_of_part limit depth MaybeOrder p = words_of_order p
-words_of_part limit depth MoreOrderings p = words_of_orderings p
-words_of_part limit depth MaybeLimit p = words_of_limit p
-words_of_part limit depth MaybeOffset p = words_of_offset p
-words_of_part limit depth MaybeDirection p = words_of_direction p
-words_of_part limit depth MaybeNulls p = words_of_nulls_end p
-words_of_part limit depth FirstOrLast p = p.0
-words_of_part limit depth AfterCreate p = p.0
-words_of_part limit depth MaybeUsing p = words_of_using p
-words_of_part limit depth MaybeClass p = words_of_class p
-words_of_part limit depth MoreKeys p = words_of_keys p.0 ++ t_mark Close p.1 ∷ []
-words_of_part limit depth MaybeInclude p = words_of_include p
-words_of_part limit depth MoreNames p = words_of_names p.0 ++ t_mark Close p.1 ∷ []
-words_of_part limit depth AfterExplain p = p.0
-words_of_part limit depth Candidate p = words_of_cand p.0
-words_of_part limit depth MoreCands p = words_of_cands p.0 ++ t_mark Close p.2 ∷ []
-words_of_part limit depth AdvisedSelect p = words_of_advised p.0
-words_of_part limit depth MoreAdvised p = words_of_more_advised p.0
-words_of_part limit depth PlainItem p = p.0
-words_of_part limit depth AfterPlain p = p.0
-words_of_part limit depth PlainNext p = p.0
-words_of_part limit depth PlainTail p = p.0
-words_of_part limit depth GroupedItem p = words_of_grouped_item p
-words_of_part limit depth AfterGroupedName p = p.0
-words_of_part limit depth MoreGroupedItems p = words_of_grouped_items p.0 ++ t_key From p.1 ∷ []
-words_of_part limit depth Argument p = words_of_argument p
-words_of_part limit depth MaybeGroup p = words_of_group_by p
-words_of_part limit depth MoreGroupColumns p = words_of_group_columns p
+words_of_part limit depth i p = (kind_of limit depth i).1 p
 
 -- what a stack stands for
 abbrev pub Parts : ℕ → List Item → Type 0

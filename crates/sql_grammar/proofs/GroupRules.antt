@@ -1,4 +1,4 @@
--- The rows of a SELECT's list, of calls and of GROUP BY are rules of the grammar.
+-- The rows of a SELECT's list, and of what follows it up to a statement's end, are rules of the grammar.
 use Rattle.std.proofs.Common.{◌≡◌, ℕ, ◌+◌, ◌≤◌, Bool, true, false, ◌||◌, List, [], ◌∷◌, ◌++◌, Option, Some, None, refl, sym, ap, ◌∙◌, subst, arith, append_assoc, cond}
 use Rattle.sql_lex.specs.declared.tokens.Token.{Token}
 use Rattle.sql_grammar.specs.Terminals.{Terminal, Ident, t_key, t_mark, t_name, t_semicolon, t_end, free, class_of}
@@ -7,10 +7,10 @@ use Rattle.sql_grammar.specs.declared.class.Word.TheVariants.{From, Group as Gro
 use Rattle.sql_grammar.specs.declared.class.Symbol.TheVariants.{Open, Close, Comma, Dot, Star}
 use Rattle.sql_grammar.specs.declared.offered.TheConstants.{READS_GROUPS, READS_WINDOW}
 use Rattle.sql_grammar.specs.declared.table.Item.{Item}
-use Rattle.sql_grammar.specs.declared.table.Item.TheVariants.{Sign, FreeWord, Label, Digits, Ends, MaybeAlias, MoreJoins, MoreGroups, MaybeWhere, AfterQualifier, MaybeOrder, MaybeLimit, MaybeOffset, PlainItem, AfterPlain, PlainNext, PlainTail, GroupedItem, AfterGroupedName, MoreGroupedItems, Argument, MaybeGroup, MoreGroupColumns}
-use Rattle.sql_grammar.specs.Syntax.{IsOffered, Key, Mark, Col, bare, Output, every, one, Alias, no_alias, relation, Join, Group, group_of, Where, no_where, Select, select_from, Ending, semicolon, text_end, OrderBy, no_order, no_limit, most_rows, no_offset, skipped_rows, Window, window, no_explain, explain, ordered_select, MaybeExplain, unexplained, explained, all_rows, of_col, GroupedItem as ItemTree, plain_item, call, GroupBy, group_by, is_call, has_call, is_written, Holds, IsGrouped, grouped_select, query, grouped}
+use Rattle.sql_grammar.specs.declared.table.Item.TheVariants.{Sign, FreeWord, Label, Digits, Ends, MaybeAlias, MoreJoins, MoreGroups, MaybeWhere, AfterQualifier, MaybeOrder, MaybeLimit, MaybeOffset, PlainItem, AfterPlain, PlainNext, PlainTail, MoreGroupedItems, Argument, MaybeGroup, MoreGroupColumns}
+use Rattle.sql_grammar.specs.Syntax.{IsOffered, Key, Mark, Col, bare, Output, every, one, Alias, no_alias, relation, Join, Group, group_of, Where, no_where, Select, select_from, Ending, semicolon, text_end, OrderBy, no_order, no_limit, most_rows, no_offset, skipped_rows, Window, window, no_explain, explain, ordered_select, MaybeExplain, unexplained, explained, GroupedItem as ItemTree, plain_item, call, GroupBy, group_by, is_call, has_call, is_written, Holds, IsGrouped, grouped_select, query, grouped}
 use Rattle.sql_grammar.specs.Words.{words_of_output, words_of_outputs, words_of_alias, words_of_joins, words_of_group, words_of_groups, words_of_where, words_of_select, words_of_order, words_of_limit, words_of_offset, words_of_window, words_of_ending, words_of_maybe_explain, words_of_argument, words_of_grouped_item, words_of_grouped_items, words_of_group_by, words_of_group_columns, levels_of_joins, levels_of_groups, levels_of_where, levels_of_select}
-use Rattle.sql_grammar.specs.GroupTable.{plain_item_takes, after_plain_takes, plain_next_takes, plain_tail_takes, grouped_item_takes, grouped_name_takes, grouped_items_takes, argument_takes, group_by_takes, group_columns_takes}
+use Rattle.sql_grammar.specs.Table.{takes_of}
 use Rattle.sql_grammar.specs.Machine.{depth_of}
 use Rattle.sql_grammar.proofs.Forest.{Part, Parts, words_of_parts, IsRule, Statement_of, words_of_led, begun}
 use Rattle.sql_grammar.proofs.FromRules as froms
@@ -140,12 +140,7 @@ module _ (limit depth : ℕ) where
     some-item = let (ts, whole) = some-next in (t_mark Star t ∷ ts, λ x k led. whole x k led (every t))
 
 module _ (limit : ℕ) (s : List Item) where
-  pub plain_item_rule : (t : Terminal) → IsRule limit s PlainItem t (plain_item_takes (class_of t))
-  plain_item_rule (t_mark Star m) = λ ((ts, whole), f). (((t_mark Star m ∷ ts, λ x k led. whole x k led (every m)), f), refl)
-  plain_item_rule (t_name n) = λ ((ts, whole), f). (((t_name n ∷ ts, λ x k led. whole x k led n), f), refl)
-  plain_item_rule _ = tt
-
-  pub plain_next_rule : (t : Terminal) → IsRule limit s PlainNext t (plain_next_takes (class_of t))
+  pub plain_next_rule : (t : Terminal) → IsRule limit s PlainNext t (takes_of PlainNext (class_of t))
   unfolding from-next
   plain_next_rule (t_mark Comma m) = λ ((ts, whole), f). (
     (
@@ -195,7 +190,7 @@ module _ (limit : ℕ) (s : List Item) where
       )
   called false m offered = tt
 
-  pub after_plain_rule : (t : Terminal) → IsRule limit s AfterPlain t (after_plain_takes (class_of t))
+  pub after_plain_rule : (t : Terminal) → IsRule limit s AfterPlain t (takes_of AfterPlain (class_of t))
   after_plain_rule (t_mark Dot m) = λ ((ws, after'), ((ts, whole), f)). (
     (
       (
@@ -210,8 +205,8 @@ module _ (limit : ℕ) (s : List Item) where
     ap (λ l. t_mark Dot m ∷ l) (append_assoc ws ts (words_of_parts limit s f)),
   )
   after_plain_rule (t_mark Open m) = called READS_GROUPS m refl
-  after_plain_rule (t_mark Comma m) = by-name (t_mark Comma m) (plain_next_takes (class_of (t_mark Comma m))) (plain_next_rule (t_mark Comma m))
-  after_plain_rule (t_key From m) = by-name (t_key From m) (plain_next_takes (class_of (t_key From m))) (plain_next_rule (t_key From m))
+  after_plain_rule (t_mark Comma m) = by-name (t_mark Comma m) (takes_of PlainNext (class_of (t_mark Comma m))) (plain_next_rule (t_mark Comma m))
+  after_plain_rule (t_key From m) = by-name (t_key From m) (takes_of PlainNext (class_of (t_key From m))) (plain_next_rule (t_key From m))
   after_plain_rule _ = tt
 
   -- an order, a window and an end, where no call and no GROUP BY stands
@@ -248,7 +243,7 @@ module _ (limit : ℕ) (s : List Item) where
   skipped true k offered = λ (n, f). plain-tail (no_order, (no_limit, (skipped_rows (subst IsOffered offered tt) k n, f)))
   skipped false k offered = tt
 
-  pub plain_tail_rule : (t : Terminal) → IsRule limit s PlainTail t (plain_tail_takes (class_of t))
+  pub plain_tail_rule : (t : Terminal) → IsRule limit s PlainTail t (takes_of PlainTail (class_of t))
   plain_tail_rule (t_key GroupKey k) = grouping READS_GROUPS k refl
   plain_tail_rule (t_key Order k) = λ f.
       let (g, is) = orders.order_rule limit (MaybeLimit ∷ MaybeOffset ∷ Ends ∷ s) (t_key Order k) f in
@@ -259,40 +254,3 @@ module _ (limit : ℕ) (s : List Item) where
   plain_tail_rule (t_semicolon t) = λ f. plain-tail (no_order, (no_limit, (no_offset, (semicolon t, f))))
   plain_tail_rule (t_end t) = λ f. plain-tail (no_order, (no_limit, (no_offset, (text_end t, f))))
   plain_tail_rule _ = tt
-
-  pub grouped_item_rule : (t : Terminal) → IsRule limit s GroupedItem t (grouped_item_takes (class_of t))
-  grouped_item_rule (t_mark Star m) = λ f. ((plain_item (every m), f), refl)
-  grouped_item_rule (t_name n) = λ ((ts, after'), f). (((after' n).0, f), ap (λ l. l ++ words_of_parts limit s f) (after' n).1)
-  grouped_item_rule _ = tt
-
-  pub grouped_name_rule : (t : Terminal) → IsRule limit s AfterGroupedName t (grouped_name_takes (class_of t))
-  grouped_name_rule (t_mark Dot m) = λ ((ws, after'), f). (((t_mark Dot m ∷ ws, λ n. let (o, is) = after' n m in (plain_item o, is)), f), refl)
-  grouped_name_rule (t_mark Open m) = λ (a, (c, f)). (
-    ((t_mark Open m ∷ (words_of_argument a ++ t_mark Close c ∷ []), λ n. (call n m a c, refl)), f),
-    ap (λ l. t_mark Open m ∷ l) (append_assoc (words_of_argument a) (t_mark Close c ∷ []) (words_of_parts limit s f)),
-  )
-  grouped_name_rule _ = tt
-
-  pub grouped_items_rule : (t : Terminal) → IsRule limit s MoreGroupedItems t (grouped_items_takes (class_of t))
-  grouped_items_rule (t_mark Comma m) = λ (i, ((is, from), f)). ((((m, i) ∷ is, from), f), simp append_assoc)
-  grouped_items_rule (t_key From k) = λ f. ((([], k), f), refl)
-  grouped_items_rule _ = tt
-
-  pub argument_rule : (t : Terminal) → IsRule limit s Argument t (argument_takes (class_of t))
-  argument_rule (t_mark Star m) = λ f. ((all_rows m, f), refl)
-  argument_rule (t_name n) = λ ((ts, after'), f). ((of_col (after' n).0, f), ap (λ l. l ++ words_of_parts limit s f) (after' n).1)
-  argument_rule _ = tt
-
-  pub group_by_rule : (t : Terminal) → IsRule limit s MaybeGroup t (group_by_takes (class_of t))
-  group_by_rule (t_key GroupKey k) = λ (t, (n, ((ts, after'), (cs, f)))). (
-    (group_by k t (after' n).0 cs, f),
-    ap (λ l. t_key GroupKey k ∷ t_name (free By t) ∷ ((l ++ words_of_group_columns cs) ++ words_of_parts limit s f)) (after' n).1 ∙ simp append_assoc,
-  )
-  group_by_rule _ = tt
-
-  pub group_columns_rule : (t : Terminal) → IsRule limit s MoreGroupColumns t (group_columns_takes (class_of t))
-  group_columns_rule (t_mark Comma m) = λ (n, ((ts, after'), (cs, f))). (
-    ((m, (after' n).0) ∷ cs, f),
-    ap (λ l. t_mark Comma m ∷ ((l ++ words_of_group_columns cs) ++ words_of_parts limit s f)) (after' n).1 ∙ simp append_assoc,
-  )
-  group_columns_rule _ = tt

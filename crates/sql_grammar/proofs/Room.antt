@@ -1,259 +1,57 @@
 -- The stack has room for what a step brings.
-use Rattle.std.proofs.Common.{◌≡◌, ℕ, ◌+◌, ◌*◌, ◌≤◌, ◌<◌, Bool, true, false, List, [], ◌∷◌, ◌++◌, length, Some, None, refl, sym, ap, ◌∙◌, subst, arith, length-append, cond, nat_eq}
+use Rattle.std.proofs.Common.{◌≡◌, ℕ, ◌+◌, ◌*◌, ◌≤◌, ◌<◌, Bool, true, false, ◌&&◌, not, nat_le, List, [], ◌∷◌, ◌++◌, length, Some, None, refl, sym, ap, ◌∙◌, subst, arith, length-append, cond}
 use Rattle.std.proofs.lemmas.Bool.{leb-true, le-leb, lt-leb, and_parts}
 use Rattle.pg_base.specs.declared.limits.TheConstants.{MOST_LEVELS}
-use Rattle.sql_grammar.specs.declared.class.Free.TheVariants.{Common, Copy, Explain, Histogram, Rows, Statistics}
-use Rattle.sql_grammar.specs.declared.class.Free.{Free}
-use Rattle.sql_grammar.specs.declared.class.Word.{Word}
-use Rattle.sql_grammar.specs.declared.class.Word.TheVariants.{And, As, Create, Is, Not, Or, Select, Where}
-use Rattle.sql_grammar.specs.declared.class.Symbol.{Symbol}
-use Rattle.sql_grammar.specs.declared.class.Symbol.TheVariants.{Open, Close, Comma, Dot, Minus, Star}
 use Rattle.sql_grammar.specs.declared.class.Class.{Class}
 use Rattle.sql_grammar.specs.declared.class.Class.TheVariants.{Key, Mark, Name, Number, Quoted, Operator, Semicolon, End}
 use Rattle.sql_grammar.specs.declared.table.Item.{Item}
-use Rattle.sql_grammar.specs.declared.table.Item.TheVariants.{Keyword, Sign, FreeWord, Label, Digits, QuotedText, Whole, Ends, Stop, Query, Nullness, MoreColumns, Result, MoreResults, AfterResult, StarOrLabel, MaybeAlias, MoreJoins, MoreGroups, MaybeWhere, Figures, MaybeCommon, MoreShares, MaybeHistogram, MoreBounds, Literal, Negation, MoreAnds, MoreOrs, Closes, NotEnds, AfterName, AfterColumn, AfterIs, AfterLiteral, AfterTruth, Side, AfterQualifier, MaybeOrder, MoreOrderings, MaybeLimit, MaybeOffset, MaybeDirection, MaybeNulls, FirstOrLast, AfterCreate, MaybeUsing, MaybeClass, MoreKeys, MaybeInclude, MoreNames, AfterExplain, Candidate, MoreCands, AdvisedSelect, MoreAdvised, PlainItem, AfterPlain, PlainNext, PlainTail, GroupedItem, AfterGroupedName, MoreGroupedItems, Argument, MaybeGroup, MoreGroupColumns}
-use Rattle.sql_grammar.specs.Table.{word_code, sign_code, free_code, takes_of, is_optional, room_of, statement_takes, ends_takes, stop_takes, query_takes, nullness_takes, columns_takes, output_takes, outputs_takes, after_output_takes, star_takes, alias_takes, where_takes, figures_takes, common_takes, shares_takes, histogram_takes, bounds_takes, lit_takes, negation_takes, ands_takes, ors_takes, literal_takes, column_takes, name_takes, side_takes, qualifier_takes, keyword_takes, sign_takes, free_takes, label_takes, digits_takes, quoted_takes}
-use Rattle.sql_grammar.specs.Machine.{depth_of, opens, pushed, by_row, step_of, Fits}
+use Rattle.sql_grammar.specs.declared.table.Item.TheVariants.{Whole, Closes, NotEnds}
+use Rattle.sql_grammar.specs.Table.{Expansion, GrammarRow, leads, row_for, all_rows_of, takes_of, takes_end, is_ending, is_optional, room_of}
+use Rattle.sql_grammar.specs.Machine.{depth_of, is_empty, is_closed, opens, pushed, by_row, step_of, Fits}
 use Rattle.sql_grammar.specs.Steps.{Taken}
-use Rattle.sql_grammar.proofs.RoomTests.{room_test, row_test}
-use Rattle.sql_grammar.proofs.FromRoom.{joins-room, groups-room}
-use Rattle.sql_grammar.proofs.OrderRoom.{order-room, orderings-room, direction-room, nulls-room, nulls-end-room}
-use Rattle.sql_grammar.proofs.WindowRoom.{limit-room, offset-room}
-use Rattle.sql_grammar.proofs.IndexRoom.{create-room, using-room, class-room, keys-room, include-room, names-room}
-use Rattle.sql_grammar.proofs.AdviseRoom.{offered-room, explained-room, candidate-room, cands-room, advised-room, more-advised-room}
-use Rattle.sql_grammar.proofs.GroupRoom.{plain-item-room, after-plain-room, plain-next-room, plain-tail-room, grouped-item-room, grouped-name-room, grouped-items-room, argument-room, group-by-room, group-columns-room}
+use Rattle.sql_grammar.proofs.RoomTests.{room_test, row_test, rows_test}
 use Rattle.sql_grammar.proofs.Sound.{flat-depth}
 
-keyword-room : (w : Word) (t : Class) → row_test (Keyword w) t (keyword_takes w t) ≡ true
-keyword-room w (Key v) = elim (nat_eq (word_code v) (word_code w)) as (λ b. row_test (Keyword w) (Key v) (cond b (Some []) None) ≡ true) [ true ↦ refl | false ↦ refl ]
-keyword-room w _ = refl
+-- a class that a row's token takes ends a statement where that token does
+same-end : (c t : Class) → leads c t ≡ true → is_ending c ≡ is_ending t
+same-end (Name (Some w)) (Name (Some v)) e = refl
+same-end (Name None) (Name v) e = refl
+same-end (Key w) (Key v) e = refl
+same-end (Mark s) (Mark v) e = refl
+same-end Number Number e = refl
+same-end Quoted Quoted e = refl
+same-end Operator Operator e = refl
+same-end Semicolon Semicolon e = refl
+same-end End End e = refl
+same-end _ _ e = absurd (cc)
 
-free-room : (w : Free) (t : Class) → row_test (FreeWord w) t (free_takes w t) ≡ true
-free-room w (Name (Some v)) = elim (nat_eq (free_code v) (free_code w)) as (λ b. row_test (FreeWord w) (Name (Some v)) (cond b (Some []) None) ≡ true) [ true ↦ refl | false ↦ refl ]
-free-room w _ = refl
+-- the row of a token that one of the rows takes keeps within the room
+led-room : (i : Item) (c t : Class) (is : List Item) → leads c t ≡ true → row_test i c (Some is) ≡ true → row_test i t (Some is) ≡ true
+led-room i c t is e test =
+    subst (λ b. ((nat_le (depth_of is) 1 && room_test (room_of i) is) && cond (takes_end i) (cond b (is_empty is) (is_closed false true is)) (not b && is_closed true false is)) ≡ true) (same-end c t e) test
 
-sign-room : (w : Symbol) (t : Class) → row_test (Sign w) t (sign_takes w t) ≡ true
-sign-room w (Mark v) = elim (nat_eq (sign_code v) (sign_code w)) as (λ b. row_test (Sign w) (Mark v) (cond b (Some []) None) ≡ true) [ true ↦ refl | false ↦ refl ]
-sign-room w _ = refl
+here-room : (i : Item) (t : Class) (row : GrammarRow) (below : Expansion) (led offered : Bool) → leads row.0 t ≡ led → row_test i row.0 (Some row.2) ≡ true →
+    row_test i t below ≡ true → row_test i t (cond led (cond offered (Some row.2) None) below) ≡ true
+here-room i t row below true true e test rest = led-room i row.0 t row.2 e test
+here-room i t row below true false e test rest = refl
+here-room i t row below false offered e test rest = rest
 
-closes-room : (t : Class) → row_test Closes t (sign_takes Close t) ≡ true
-closes-room (Mark Close) = refl
-closes-room _ = refl
+found-room : (i : Item) (t : Class) (rows : List GrammarRow) → rows_test i rows ≡ true → row_test i t (row_for rows t) ≡ true
+found-room i t [] test = refl
+found-room i t (row ∷ rows) test =
+    let both = and_parts _ _ test in
+    here-room i t row (row_for rows t) (leads row.0 t) row.1 refl both.0 (found-room i t rows both.1)
 
-statement-room : (t : Class) → row_test Whole t (statement_takes t) ≡ true
-statement-room (Key Create) = refl
-statement-room (Key Select) = refl
-statement-room (Name (Some Copy)) = refl
-statement-room (Name (Some Explain)) = refl
-statement-room (Name (Some Statistics)) = refl
-statement-room (Name (Some w)) = offered-room w
-statement-room Semicolon = refl
-statement-room End = refl
-statement-room _ = refl
-
-nullness-room : (t : Class) → row_test Nullness t (nullness_takes t) ≡ true
-nullness-room (Key Not) = refl
-nullness-room _ = refl
-
-columns-room : (t : Class) → row_test MoreColumns t (columns_takes t) ≡ true
-columns-room (Mark Comma) = refl
-columns-room _ = refl
-
-negation-room : (t : Class) → row_test Negation t (negation_takes t) ≡ true
-negation-room (Mark Open) = refl
-negation-room (Key Not) = refl
-negation-room _ = refl
-
-ands-room : (t : Class) → row_test MoreAnds t (ands_takes t) ≡ true
-ands-room (Key And) = refl
-ands-room _ = refl
-
-ors-room : (t : Class) → row_test MoreOrs t (ors_takes t) ≡ true
-ors-room (Key Or) = refl
-ors-room _ = refl
-
-literal-room : (t : Class) → row_test AfterLiteral t (literal_takes t) ≡ true
-literal-room Operator = refl
-literal-room _ = refl
-
-name-room : (t : Class) → row_test AfterName t (name_takes t) ≡ true
-name-room (Mark Dot) = refl
-name-room (Key Is) = refl
-name-room _ = refl
-
-column-room : (t : Class) → row_test AfterColumn t (column_takes t) ≡ true
-column-room (Key Is) = refl
-column-room _ = refl
-
-side-room : (t : Class) → row_test Side t (side_takes t) ≡ true
-side-room (Mark Minus) = refl
-side-room (Key Not) = refl
-side-room _ = refl
-
-qualifier-room : (t : Class) → row_test AfterQualifier t (qualifier_takes t) ≡ true
-qualifier-room (Mark Dot) = refl
-qualifier-room _ = refl
-
-label-room : (t : Class) → row_test Label t (label_takes t) ≡ true
-label-room (Name _) = refl
-label-room _ = refl
-
-digits-room : (t : Class) → row_test Digits t (digits_takes t) ≡ true
-digits-room Number = refl
-digits-room _ = refl
-
-output-room : (t : Class) → row_test Result t (output_takes t) ≡ true
-output-room (Mark Star) = refl
-output-room _ = refl
-
-outputs-room : (t : Class) → row_test MoreResults t (outputs_takes t) ≡ true
-outputs-room (Mark Comma) = refl
-outputs-room _ = refl
-
-after-output-room : (t : Class) → row_test AfterResult t (after_output_takes t) ≡ true
-after-output-room (Mark Dot) = refl
-after-output-room _ = refl
-
-star-room : (t : Class) → row_test StarOrLabel t (star_takes t) ≡ true
-star-room (Mark Star) = refl
-star-room _ = refl
-
-alias-room : (t : Class) → row_test MaybeAlias t (alias_takes t) ≡ true
-alias-room (Key As) = refl
-alias-room _ = refl
-
-where-room : (t : Class) → row_test MaybeWhere t (where_takes t) ≡ true
-where-room (Key Where) = refl
-where-room _ = refl
-
-figures-room : (t : Class) → row_test Figures t (figures_takes t) ≡ true
-figures-room (Name (Some Rows)) = refl
-figures-room (Mark Dot) = refl
-figures-room _ = refl
-
-common-room : (t : Class) → row_test MaybeCommon t (common_takes t) ≡ true
-common-room (Name (Some Common)) = refl
-common-room _ = refl
-
-shares-room : (t : Class) → row_test MoreShares t (shares_takes t) ≡ true
-shares-room (Mark Comma) = refl
-shares-room _ = refl
-
-histogram-room : (t : Class) → row_test MaybeHistogram t (histogram_takes t) ≡ true
-histogram-room (Name (Some Histogram)) = refl
-histogram-room _ = refl
-
-bounds-room : (t : Class) → row_test MoreBounds t (bounds_takes t) ≡ true
-bounds-room (Mark Comma) = refl
-bounds-room _ = refl
-
-lit-room : (t : Class) → row_test Literal t (lit_takes t) ≡ true
-lit-room (Mark Minus) = refl
-lit-room (Key Not) = refl
-lit-room _ = refl
-
-ends-room : (t : Class) → row_test Ends t (ends_takes t) ≡ true
-ends-room Semicolon = refl
-ends-room End = refl
-ends-room _ = refl
-
-stop-room : (t : Class) → row_test Stop t (stop_takes t) ≡ true
-stop-room Semicolon = refl
-stop-room _ = refl
-
-query-room : (t : Class) → row_test Query t (query_takes t) ≡ true
-query-room (Key Select) = refl
-query-room _ = refl
-
-quoted-room : (t : Class) → row_test QuotedText t (quoted_takes t) ≡ true
-quoted-room Quoted = refl
-quoted-room _ = refl
-
-is-room : (t : Class) → row_test AfterIs t (nullness_takes t) ≡ true
-is-room (Key Not) = refl
-is-room _ = refl
-
-truth-room : (t : Class) → row_test AfterTruth t (literal_takes t) ≡ true
-truth-room Operator = refl
-truth-room _ = refl
+-- computed for each item
+all-rows : (i : Item) → rows_test i (all_rows_of i) ≡ true
+all-rows Whole = refl
+all-rows _ = refl
 
 pub row-room : (i : Item) (t : Class) → row_test i t (takes_of i t) ≡ true
-row-room (Keyword w) t = keyword-room w t
-row-room (Sign w) t = sign-room w t
-row-room (FreeWord w) t = free-room w t
-row-room Label t = label-room t
-row-room Digits t = digits-room t
-row-room QuotedText t = quoted-room t
-row-room Whole t = statement-room t
-row-room Ends t = ends-room t
-row-room Stop t = stop-room t
-row-room Query t = query-room t
-row-room Nullness t = nullness-room t
-row-room MoreColumns t = columns-room t
-row-room Negation t = negation-room t
-row-room MoreAnds t = ands-room t
-row-room MoreOrs t = ors-room t
-row-room Closes t = closes-room t
-row-room NotEnds t = refl
-row-room AfterName t = name-room t
-row-room AfterColumn t = column-room t
-row-room AfterIs t = is-room t
-row-room AfterLiteral t = literal-room t
-row-room AfterTruth t = truth-room t
-row-room Side t = side-room t
-row-room AfterQualifier t = qualifier-room t
-row-room Result t = output-room t
-row-room MoreResults t = outputs-room t
-row-room AfterResult t = after-output-room t
-row-room StarOrLabel t = star-room t
-row-room MaybeAlias t = alias-room t
-row-room MoreJoins t = joins-room t
-row-room MoreGroups t = groups-room t
-row-room MaybeWhere t = where-room t
-row-room Figures t = figures-room t
-row-room MaybeCommon t = common-room t
-row-room MoreShares t = shares-room t
-row-room MaybeHistogram t = histogram-room t
-row-room MoreBounds t = bounds-room t
-row-room Literal t = lit-room t
-row-room MaybeOrder t = order-room t
-row-room MoreOrderings t = orderings-room t
-row-room MaybeLimit t = limit-room t
-row-room MaybeOffset t = offset-room t
-row-room MaybeDirection t = direction-room t
-row-room MaybeNulls t = nulls-room t
-row-room FirstOrLast t = nulls-end-room t
-row-room AfterCreate t = create-room t
-row-room MaybeUsing t = using-room t
-row-room MaybeClass t = class-room t
-row-room MoreKeys t = keys-room t
-row-room MaybeInclude t = include-room t
-row-room MoreNames t = names-room t
-row-room AfterExplain t = explained-room t
-row-room Candidate t = candidate-room t
-row-room MoreCands t = cands-room t
-row-room AdvisedSelect t = advised-room t
-row-room MoreAdvised t = more-advised-room t
-row-room PlainItem t = plain-item-room t
-row-room AfterPlain t = after-plain-room t
-row-room PlainNext t = plain-next-room t
-row-room PlainTail t = plain-tail-room t
-row-room GroupedItem t = grouped-item-room t
-row-room AfterGroupedName t = grouped-name-room t
-row-room MoreGroupedItems t = grouped-items-room t
-row-room Argument t = argument-room t
-row-room MaybeGroup t = group-by-room t
-row-room MoreGroupColumns t = group-columns-room t
+row-room i t = found-room i t (all_rows_of i) (all-rows i)
 
 room-some : (i : Item) → 1 ≤ room_of i
 room-some Whole = omega arith
-room-some MoreColumns = omega arith
-room-some Negation = omega arith
-room-some MoreAnds = omega arith
-room-some MoreOrs = omega arith
-room-some AfterName = omega arith
-room-some MoreResults = omega arith
-room-some Query = omega arith
 room-some _ = omega arith
 
 depth-append : (a b : List Item) → depth_of (a ++ b) ≡ depth_of a + depth_of b

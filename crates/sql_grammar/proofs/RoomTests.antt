@@ -2,7 +2,7 @@
 use Rattle.std.proofs.Common.{ℕ, ◌+◌, ◌*◌, Bool, true, false, ◌&&◌, not, List, [], ◌∷◌, length, Some, None, cond, nat_le}
 use Rattle.sql_grammar.specs.declared.class.Class.{Class}
 use Rattle.sql_grammar.specs.declared.table.Item.{Item}
-use Rattle.sql_grammar.specs.Table.{Expansion, takes_end, is_ending, room_of}
+use Rattle.sql_grammar.specs.Table.{Expansion, GrammarRow, takes_end, is_ending, room_of}
 use Rattle.sql_grammar.specs.Machine.{depth_of, is_empty, is_closed}
 
 -- no more cells than the item's room
@@ -18,3 +18,8 @@ ending_test i t is = cond (takes_end i) (cond (is_ending t) (is_empty is) (is_cl
 abbrev pub row_test : Item → Class → Expansion → Bool
 row_test i t None = true
 row_test i t (Some is) = (nat_le (depth_of is) 1 && room_test (room_of i) is) && ending_test i t is
+
+-- each of an item's rows does, also one that is not in the grammar
+abbrev pub rows_test : Item → List GrammarRow → Bool
+rows_test i [] = true
+rows_test i (row ∷ rows) = row_test i row.0 (Some row.2) && rows_test i rows

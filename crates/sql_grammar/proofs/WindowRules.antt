@@ -1,13 +1,12 @@
 -- The rows of LIMIT and OFFSET are rules of the grammar.
 use Rattle.std.proofs.Common.{◌≡◌, ℕ, Bool, true, false, List, [], ◌∷◌, ◌++◌, Some, None, refl, subst, append_assoc, cond}
 use Rattle.sql_lex.specs.declared.tokens.Token.{Token}
-use Rattle.sql_grammar.specs.Terminals.{Terminal, t_key, class_of}
+use Rattle.sql_grammar.specs.Terminals.{Terminal, t_key}
 use Rattle.sql_grammar.specs.declared.class.Word.TheVariants.{Limit, Offset}
 use Rattle.sql_grammar.specs.declared.offered.TheConstants.{READS_WINDOW}
 use Rattle.sql_grammar.specs.declared.table.Item.{Item}
 use Rattle.sql_grammar.specs.declared.table.Item.TheVariants.{Digits, MaybeLimit, MaybeOffset}
 use Rattle.sql_grammar.specs.Syntax.{IsOffered, most_rows, skipped_rows}
-use Rattle.sql_grammar.specs.WindowTable.{limit_takes, offset_takes}
 use Rattle.sql_grammar.proofs.Forest.{IsRule}
 
 -- the words of an order, of a window, of an end and of what follows
@@ -15,18 +14,10 @@ pub window-words : (y l o e x : List Terminal) → (y ++ ((l ++ o) ++ e)) ++ x �
 window-words y l o e x = simp append_assoc
 
 module _ (limit : ℕ) (s : List Item) where
-  most : (b : Bool) (k : Token) → b ≡ READS_WINDOW → IsRule limit s MaybeLimit (t_key Limit k) (cond b (Some (Digits ∷ [])) None)
+  pub most : (b : Bool) (k : Token) → b ≡ READS_WINDOW → IsRule limit s MaybeLimit (t_key Limit k) (cond b (Some (Digits ∷ [])) None)
   most true k is = λ (n, f). ((most_rows (subst IsOffered is tt) k n, f), refl)
   most false k is = tt
 
-  skipped : (b : Bool) (k : Token) → b ≡ READS_WINDOW → IsRule limit s MaybeOffset (t_key Offset k) (cond b (Some (Digits ∷ [])) None)
+  pub skipped : (b : Bool) (k : Token) → b ≡ READS_WINDOW → IsRule limit s MaybeOffset (t_key Offset k) (cond b (Some (Digits ∷ [])) None)
   skipped true k is = λ (n, f). ((skipped_rows (subst IsOffered is tt) k n, f), refl)
   skipped false k is = tt
-
-  pub limit_rule : (t : Terminal) → IsRule limit s MaybeLimit t (limit_takes (class_of t))
-  limit_rule (t_key Limit k) = most READS_WINDOW k refl
-  limit_rule _ = tt
-
-  pub offset_rule : (t : Terminal) → IsRule limit s MaybeOffset t (offset_takes (class_of t))
-  offset_rule (t_key Offset k) = skipped READS_WINDOW k refl
-  offset_rule _ = tt

@@ -2,12 +2,6 @@ pub mod Terminals
 pub mod Syntax
 pub mod Words
 pub mod FromParts
-pub mod FromTable
-pub mod OrderTable
-pub mod WindowTable
-pub mod IndexTable
-pub mod AdviseTable
-pub mod GroupTable
 pub mod Table
 pub mod Machine
 pub mod Steps

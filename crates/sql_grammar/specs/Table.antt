@@ -1,5 +1,6 @@
 -- The table of the walk: the items that stand in an item's place after a token (own).
-use Rattle.std.specs.Prelude.{ℕ, Bool, true, false, List, [], ◌∷◌, Option, Some, None, cond, nat_eq}
+use Rattle.std.specs.Prelude.{ℕ, Bool, true, false, List, [], ◌∷◌, map, Option, Some, None, cond, nat_eq}
+use Rattle.std.specs.Borrow.{Bor}
 use Rattle.sql_grammar.specs.declared.class.Free.TheVariants.{Advise, Analyze, By, Check, Common, Copy, Csv, Distinct, Explain, First, Format, Histogram, Include, Index, Last, Nulls, Pages, Plan, Rows, Statistics, Stdin, Use}
 use Rattle.sql_grammar.specs.declared.class.Free.{Free}
 use Rattle.sql_grammar.specs.declared.class.Word.{Word}
@@ -8,14 +9,9 @@ use Rattle.sql_grammar.specs.declared.class.Symbol.{Symbol}
 use Rattle.sql_grammar.specs.declared.class.Symbol.TheVariants.{Open, Close, Comma, Dot, Minus, Star}
 use Rattle.sql_grammar.specs.declared.class.Class.{Class}
 use Rattle.sql_grammar.specs.declared.class.Class.TheVariants.{Key, Mark, Name, Number, Quoted, Operator, Semicolon, End}
+use Rattle.sql_grammar.specs.declared.rows.TheConstants as rows
 use Rattle.sql_grammar.specs.declared.table.Item.{Item}
 use Rattle.sql_grammar.specs.declared.table.Item.TheVariants.{Keyword, Sign, FreeWord, Label, Digits, QuotedText, Whole, Ends, Stop, Query, Nullness, MoreColumns, Result, MoreResults, AfterResult, StarOrLabel, MaybeAlias, MoreJoins, MoreGroups, MaybeWhere, Figures, MaybeCommon, MoreShares, MaybeHistogram, MoreBounds, Literal, Negation, MoreAnds, MoreOrs, Closes, NotEnds, AfterName, AfterColumn, AfterIs, AfterLiteral, AfterTruth, Side, AfterQualifier, MaybeOrder, MoreOrderings, MaybeLimit, MaybeOffset, MaybeDirection, MaybeNulls, FirstOrLast, AfterCreate, MaybeUsing, MaybeClass, MoreKeys, MaybeInclude, MoreNames, AfterExplain, Candidate, MoreCands, AdvisedSelect, MoreAdvised, PlainItem, AfterPlain, PlainNext, PlainTail, GroupedItem, AfterGroupedName, MoreGroupedItems, Argument, MaybeGroup, MoreGroupColumns}
-use Rattle.sql_grammar.specs.FromTable.{joins_takes, groups_takes}
-use Rattle.sql_grammar.specs.OrderTable.{order_takes, orderings_takes, direction_takes, nulls_takes, nulls_end_takes}
-use Rattle.sql_grammar.specs.WindowTable.{limit_takes, offset_takes}
-use Rattle.sql_grammar.specs.IndexTable.{create_takes, using_takes, class_takes, keys_takes, include_takes, names_takes}
-use Rattle.sql_grammar.specs.AdviseTable.{offered_takes, explained_takes, candidate_takes, cands_takes, advised_takes, more_advised_takes}
-use Rattle.sql_grammar.specs.GroupTable.{plain_item_takes, after_plain_takes, plain_next_takes, plain_tail_takes, grouped_item_takes, grouped_name_takes, grouped_items_takes, argument_takes, group_by_takes, group_columns_takes}
 
 -- the items in an item's place; None where the token is not awaited
 abbrev pub Expansion : Type 0
@@ -83,313 +79,125 @@ free_code Statistics = 19
 free_code Stdin = 20
 free_code Use = 21
 
--- a statement behind its first word, which is not reserved
-abbrev pub worded_takes : Free → Expansion
-worded_takes Explain = Some (AfterExplain ∷ [])
-worded_takes Copy = Some (Label ∷ Keyword From ∷ FreeWord Stdin ∷ Keyword With ∷ Sign Open ∷ FreeWord Format ∷ FreeWord Csv ∷ Sign Comma ∷ Keyword Null ∷ QuotedText ∷ Sign Close ∷ Stop ∷ [])
-worded_takes Statistics = Some (Label ∷ Figures ∷ Ends ∷ [])
-worded_takes w = offered_takes w
+-- what a row says: the token that it takes, whether it is in the grammar, and the items in the item's place
+abbrev pub GrammarRow : Type 0
+GrammarRow = Class × Bool × List Item
 
--- a statement and its end: `CREATE`, `SELECT`, a word that is not reserved, or nothing before the end
-abbrev pub statement_takes : Class → Expansion
-statement_takes (Key Create) = Some (AfterCreate ∷ [])
-statement_takes (Key Select) = Some (PlainItem ∷ [])
-statement_takes (Name (Some w)) = worded_takes w
-statement_takes Semicolon = Some []
-statement_takes End = Some []
-statement_takes _ = None
+-- what is said of an item: whether no token need come for it, and its rows
+abbrev pub ItemRows : Type 0
+ItemRows = Bool × List GrammarRow
 
--- a statement's end
-abbrev pub ends_takes : Class → Expansion
-ends_takes Semicolon = Some []
-ends_takes End = Some []
-ends_takes _ = None
+-- a constant's rows
+abbrev pub rows_said : Bool × record { now : List (Class × Bool × record { now : List Item }) } → ItemRows
+rows_said said = (said.0, map (λ row. (row.0, row.1, row.2.now)) said.1.now)
 
--- the `;` before data
-abbrev pub stop_takes : Class → Expansion
-stop_takes Semicolon = Some []
-stop_takes _ = None
+-- rows that are lent
+abbrev pub lent_rows : List (Class × Bool × Bor (List Item)) → List GrammarRow
+lent_rows rows = map (λ (row : Class × Bool × Bor (List Item)). (row.0, row.1, row.2.now)) rows
 
--- a SELECT
-abbrev pub query_takes : Class → Expansion
-query_takes (Key Select) = Some (Result ∷ MoreResults ∷ Keyword From ∷ Label ∷ MaybeAlias ∷ MoreJoins ∷ MoreGroups ∷ MaybeWhere ∷ [])
-query_takes _ = None
+-- a row with the first token takes the second; in a row `Name None` is any name
+abbrev pub leads : Class → Class → Bool
+leads (Key w) (Key v) = nat_eq (word_code v) (word_code w)
+leads (Mark s) (Mark v) = nat_eq (sign_code v) (sign_code s)
+leads (Name (Some w)) (Name (Some v)) = nat_eq (free_code v) (free_code w)
+leads (Name None) (Name _) = true
+leads Number Number = true
+leads Quoted Quoted = true
+leads Operator Operator = true
+leads Semicolon Semicolon = true
+leads End End = true
+leads _ _ = false
 
--- NULL or NOT NULL
-abbrev pub nullness_takes : Class → Expansion
-nullness_takes (Key Not) = Some (Keyword Null ∷ [])
-nullness_takes (Key Null) = Some []
-nullness_takes _ = None
+-- the items of the first row that takes the token
+abbrev pub row_for : List GrammarRow → Class → Expansion
+row_for [] t = None
+row_for (row ∷ rows) t = cond (leads row.0 t) (cond row.1 (Some row.2) None) (row_for rows t)
 
--- further columns, and the closing parenthesis
-abbrev pub columns_takes : Class → Expansion
-columns_takes (Mark Comma) = Some (Label ∷ Label ∷ Nullness ∷ MoreColumns ∷ [])
-columns_takes (Mark Close) = Some []
-columns_takes _ = None
+-- the row of an item that is a word of its own
+abbrev pub lone_row : Class → List GrammarRow
+lone_row t = (t, true, []) ∷ []
 
--- what SELECT asks for
-abbrev pub output_takes : Class → Expansion
-output_takes (Mark Star) = Some []
-output_takes (Name _) = Some (AfterResult ∷ [])
-output_takes _ = None
+-- what is said of an item
+abbrev pub rows_of_item : Item → ItemRows
+rows_of_item Label = rows_said rows.LABEL
+rows_of_item Digits = rows_said rows.DIGITS
+rows_of_item QuotedText = rows_said rows.QUOTED_TEXT
+rows_of_item Whole = rows_said rows.WHOLE
+rows_of_item Ends = rows_said rows.ENDS
+rows_of_item Stop = rows_said rows.STOP
+rows_of_item Query = rows_said rows.QUERY
+rows_of_item Nullness = rows_said rows.NULLNESS
+rows_of_item MoreColumns = rows_said rows.MORE_COLUMNS
+rows_of_item Result = rows_said rows.RESULT
+rows_of_item MoreResults = rows_said rows.MORE_RESULTS
+rows_of_item AfterResult = rows_said rows.AFTER_RESULT
+rows_of_item StarOrLabel = rows_said rows.STAR_OR_LABEL
+rows_of_item MaybeAlias = rows_said rows.MAYBE_ALIAS
+rows_of_item MoreJoins = rows_said rows.MORE_JOINS
+rows_of_item MoreGroups = rows_said rows.MORE_GROUPS
+rows_of_item MaybeWhere = rows_said rows.MAYBE_WHERE
+rows_of_item Figures = rows_said rows.FIGURES
+rows_of_item MaybeCommon = rows_said rows.MAYBE_COMMON
+rows_of_item MoreShares = rows_said rows.MORE_SHARES
+rows_of_item MaybeHistogram = rows_said rows.MAYBE_HISTOGRAM
+rows_of_item MoreBounds = rows_said rows.MORE_BOUNDS
+rows_of_item Literal = rows_said rows.LITERAL
+rows_of_item Negation = rows_said rows.NEGATION
+rows_of_item MoreAnds = rows_said rows.MORE_ANDS
+rows_of_item MoreOrs = rows_said rows.MORE_ORS
+rows_of_item Closes = rows_said rows.CLOSES
+rows_of_item NotEnds = rows_said rows.NOT_ENDS
+rows_of_item AfterName = rows_said rows.AFTER_NAME
+rows_of_item AfterColumn = rows_said rows.AFTER_COLUMN
+rows_of_item AfterIs = rows_said rows.AFTER_IS
+rows_of_item AfterLiteral = rows_said rows.AFTER_LITERAL
+rows_of_item AfterTruth = rows_said rows.AFTER_TRUTH
+rows_of_item Side = rows_said rows.SIDE
+rows_of_item AfterQualifier = rows_said rows.AFTER_QUALIFIER
+rows_of_item MaybeOrder = rows_said rows.MAYBE_ORDER
+rows_of_item MoreOrderings = rows_said rows.MORE_ORDERINGS
+rows_of_item MaybeLimit = rows_said rows.MAYBE_LIMIT
+rows_of_item MaybeOffset = rows_said rows.MAYBE_OFFSET
+rows_of_item MaybeDirection = rows_said rows.MAYBE_DIRECTION
+rows_of_item MaybeNulls = rows_said rows.MAYBE_NULLS
+rows_of_item FirstOrLast = rows_said rows.FIRST_OR_LAST
+rows_of_item AfterCreate = rows_said rows.AFTER_CREATE
+rows_of_item MaybeUsing = rows_said rows.MAYBE_USING
+rows_of_item MaybeClass = rows_said rows.MAYBE_CLASS
+rows_of_item MoreKeys = rows_said rows.MORE_KEYS
+rows_of_item MaybeInclude = rows_said rows.MAYBE_INCLUDE
+rows_of_item MoreNames = rows_said rows.MORE_NAMES
+rows_of_item AfterExplain = rows_said rows.AFTER_EXPLAIN
+rows_of_item Candidate = rows_said rows.CANDIDATE
+rows_of_item MoreCands = rows_said rows.MORE_CANDS
+rows_of_item AdvisedSelect = rows_said rows.ADVISED_SELECT
+rows_of_item MoreAdvised = rows_said rows.MORE_ADVISED
+rows_of_item PlainItem = rows_said rows.PLAIN_ITEM
+rows_of_item AfterPlain = rows_said rows.AFTER_PLAIN
+rows_of_item PlainNext = rows_said rows.PLAIN_NEXT
+rows_of_item PlainTail = rows_said rows.PLAIN_TAIL
+rows_of_item GroupedItem = rows_said rows.GROUPED_ITEM
+rows_of_item AfterGroupedName = rows_said rows.AFTER_GROUPED_NAME
+rows_of_item MoreGroupedItems = rows_said rows.MORE_GROUPED_ITEMS
+rows_of_item Argument = rows_said rows.ARGUMENT
+rows_of_item MaybeGroup = rows_said rows.MAYBE_GROUP
+rows_of_item MoreGroupColumns = rows_said rows.MORE_GROUP_COLUMNS
+rows_of_item _ = (false, [])
 
--- further ones
-abbrev pub outputs_takes : Class → Expansion
-outputs_takes (Mark Comma) = Some (Result ∷ MoreResults ∷ [])
-outputs_takes _ = None
-
--- what follows a name there
-abbrev pub after_output_takes : Class → Expansion
-after_output_takes (Mark Dot) = Some (StarOrLabel ∷ [])
-after_output_takes _ = None
-
--- what follows a name and a dot there
-abbrev pub star_takes : Class → Expansion
-star_takes (Mark Star) = Some []
-star_takes (Name _) = Some []
-star_takes _ = None
-
--- an alias
-abbrev pub alias_takes : Class → Expansion
-alias_takes (Key As) = Some (Label ∷ [])
-alias_takes (Name _) = Some []
-alias_takes _ = None
-
--- a condition
-abbrev pub where_takes : Class → Expansion
-where_takes (Key Where) = Some (Negation ∷ MoreAnds ∷ MoreOrs ∷ [])
-where_takes _ = None
-
--- what STATISTICS gives, after a table's name
-abbrev pub figures_takes : Class → Expansion
-figures_takes (Name (Some Rows)) = Some (Digits ∷ FreeWord Pages ∷ Digits ∷ [])
-figures_takes (Mark Dot) = Some (Label ∷ FreeWord Distinct ∷ Digits ∷ FreeWord Nulls ∷ Digits ∷ MaybeCommon ∷ MaybeHistogram ∷ [])
-figures_takes _ = None
-
--- common values with their shares
-abbrev pub common_takes : Class → Expansion
-common_takes (Name (Some Common)) = Some (Sign Open ∷ Literal ∷ Digits ∷ MoreShares ∷ [])
-common_takes _ = None
-
--- further ones, and the closing parenthesis
-abbrev pub shares_takes : Class → Expansion
-shares_takes (Mark Comma) = Some (Literal ∷ Digits ∷ MoreShares ∷ [])
-shares_takes (Mark Close) = Some []
-shares_takes _ = None
-
--- the bounds of a histogram
-abbrev pub histogram_takes : Class → Expansion
-histogram_takes (Name (Some Histogram)) = Some (Sign Open ∷ Literal ∷ MoreBounds ∷ [])
-histogram_takes _ = None
-
--- further ones, and the closing parenthesis
-abbrev pub bounds_takes : Class → Expansion
-bounds_takes (Mark Comma) = Some (Literal ∷ MoreBounds ∷ [])
-bounds_takes (Mark Close) = Some []
-bounds_takes _ = None
-
--- a literal
-abbrev pub lit_takes : Class → Expansion
-lit_takes (Mark Minus) = Some (Digits ∷ [])
-lit_takes Number = Some []
-lit_takes Quoted = Some []
-lit_takes (Key True) = Some []
-lit_takes (Key False) = Some []
-lit_takes (Key Null) = Some []
-lit_takes _ = None
-
--- a NOT or an atom
-abbrev pub negation_takes : Class → Expansion
-negation_takes (Key Not) = Some (Negation ∷ NotEnds ∷ [])
-negation_takes (Mark Open) = Some (Negation ∷ MoreAnds ∷ MoreOrs ∷ Closes ∷ [])
-negation_takes (Name _) = Some (AfterName ∷ [])
-negation_takes Number = Some (AfterLiteral ∷ [])
-negation_takes Quoted = Some (AfterLiteral ∷ [])
-negation_takes (Mark Minus) = Some (Digits ∷ AfterLiteral ∷ [])
-negation_takes (Key True) = Some (AfterTruth ∷ [])
-negation_takes (Key False) = Some (AfterTruth ∷ [])
-negation_takes (Key Null) = Some (AfterTruth ∷ [])
-negation_takes _ = None
-
--- further parts of an AND
-abbrev pub ands_takes : Class → Expansion
-ands_takes (Key And) = Some (Negation ∷ MoreAnds ∷ [])
-ands_takes _ = None
-
--- further parts of an OR
-abbrev pub ors_takes : Class → Expansion
-ors_takes (Key Or) = Some (Negation ∷ MoreAnds ∷ MoreOrs ∷ [])
-ors_takes _ = None
-
--- what follows a literal
-abbrev pub literal_takes : Class → Expansion
-literal_takes Operator = Some (Side ∷ [])
-literal_takes _ = None
-
--- what follows a column
-abbrev pub column_takes : Class → Expansion
-column_takes (Key Is) = Some (AfterIs ∷ [])
-column_takes Operator = Some (Side ∷ [])
-column_takes _ = None
-
--- what follows a name that begins a column
-abbrev pub name_takes : Class → Expansion
-name_takes (Mark Dot) = Some (Label ∷ AfterColumn ∷ [])
-name_takes (Key Is) = Some (AfterIs ∷ [])
-name_takes Operator = Some (Side ∷ [])
-name_takes _ = None
-
--- an operand
-abbrev pub side_takes : Class → Expansion
-side_takes (Name _) = Some (AfterQualifier ∷ [])
-side_takes (Mark Minus) = Some (Digits ∷ [])
-side_takes Number = Some []
-side_takes Quoted = Some []
-side_takes (Key True) = Some []
-side_takes (Key False) = Some []
-side_takes (Key Null) = Some []
-side_takes _ = None
-
--- what follows a name in an operand
-abbrev pub qualifier_takes : Class → Expansion
-qualifier_takes (Mark Dot) = Some (Label ∷ [])
-qualifier_takes _ = None
-
--- a name
-abbrev pub label_takes : Class → Expansion
-label_takes (Name _) = Some []
-label_takes _ = None
-
--- a number
-abbrev pub digits_takes : Class → Expansion
-digits_takes Number = Some []
-digits_takes _ = None
-
--- a quoted text
-abbrev pub quoted_takes : Class → Expansion
-quoted_takes Quoted = Some []
-quoted_takes _ = None
-
--- this reserved word
-abbrev pub keyword_takes : Word → Class → Expansion
-keyword_takes w (Key v) = cond (nat_eq (word_code v) (word_code w)) (Some []) None
-keyword_takes w _ = None
-
--- this symbol
-abbrev pub sign_takes : Symbol → Class → Expansion
-sign_takes w (Mark v) = cond (nat_eq (sign_code v) (sign_code w)) (Some []) None
-sign_takes w _ = None
-
--- this word, which is not reserved
-abbrev pub free_takes : Free → Class → Expansion
-free_takes w (Name (Some v)) = cond (nat_eq (free_code v) (free_code w)) (Some []) None
-free_takes w _ = None
+-- the rows of an item
+abbrev pub all_rows_of : Item → List GrammarRow
+all_rows_of (Keyword w) = lone_row (Key w)
+all_rows_of (Sign s) = lone_row (Mark s)
+all_rows_of (FreeWord w) = lone_row (Name (Some w))
+all_rows_of i = (rows_of_item i).1
 
 -- the whole table
 abbrev pub takes_of : Item → Class → Expansion
-takes_of (Keyword w) t = keyword_takes w t
-takes_of (Sign s) t = sign_takes s t
-takes_of (FreeWord w) t = free_takes w t
-takes_of Label t = label_takes t
-takes_of Digits t = digits_takes t
-takes_of QuotedText t = quoted_takes t
-takes_of Whole t = statement_takes t
-takes_of Ends t = ends_takes t
-takes_of Stop t = stop_takes t
-takes_of Query t = query_takes t
-takes_of Nullness t = nullness_takes t
-takes_of MoreColumns t = columns_takes t
-takes_of Result t = output_takes t
-takes_of MoreResults t = outputs_takes t
-takes_of AfterResult t = after_output_takes t
-takes_of StarOrLabel t = star_takes t
-takes_of MaybeAlias t = alias_takes t
-takes_of MoreJoins t = joins_takes t
-takes_of MoreGroups t = groups_takes t
-takes_of MaybeWhere t = where_takes t
-takes_of Figures t = figures_takes t
-takes_of MaybeCommon t = common_takes t
-takes_of MoreShares t = shares_takes t
-takes_of MaybeHistogram t = histogram_takes t
-takes_of MoreBounds t = bounds_takes t
-takes_of Literal t = lit_takes t
-takes_of Negation t = negation_takes t
-takes_of MoreAnds t = ands_takes t
-takes_of MoreOrs t = ors_takes t
-takes_of Closes t = sign_takes Close t
-takes_of NotEnds t = None
-takes_of AfterName t = name_takes t
-takes_of AfterColumn t = column_takes t
-takes_of AfterIs t = nullness_takes t
-takes_of AfterLiteral t = literal_takes t
-takes_of AfterTruth t = literal_takes t
-takes_of Side t = side_takes t
-takes_of AfterQualifier t = qualifier_takes t
-takes_of MaybeOrder t = order_takes t
-takes_of MoreOrderings t = orderings_takes t
-takes_of MaybeLimit t = limit_takes t
-takes_of MaybeOffset t = offset_takes t
-takes_of MaybeDirection t = direction_takes t
-takes_of MaybeNulls t = nulls_takes t
-takes_of FirstOrLast t = nulls_end_takes t
-takes_of AfterCreate t = create_takes t
-takes_of MaybeUsing t = using_takes t
-takes_of MaybeClass t = class_takes t
-takes_of MoreKeys t = keys_takes t
-takes_of MaybeInclude t = include_takes t
-takes_of MoreNames t = names_takes t
-takes_of AfterExplain t = explained_takes t
-takes_of Candidate t = candidate_takes t
-takes_of MoreCands t = cands_takes t
-takes_of AdvisedSelect t = advised_takes t
-takes_of MoreAdvised t = more_advised_takes t
-takes_of PlainItem t = plain_item_takes t
-takes_of AfterPlain t = after_plain_takes t
-takes_of PlainNext t = plain_next_takes t
-takes_of PlainTail t = plain_tail_takes t
-takes_of GroupedItem t = grouped_item_takes t
-takes_of AfterGroupedName t = grouped_name_takes t
-takes_of MoreGroupedItems t = grouped_items_takes t
-takes_of Argument t = argument_takes t
-takes_of MaybeGroup t = group_by_takes t
-takes_of MoreGroupColumns t = group_columns_takes t
-
--- no token need come for it, which does not stand in a SELECT with groups alone
-abbrev pub is_optional_elsewhere : Item → Bool
-is_optional_elsewhere Nullness = true
-is_optional_elsewhere MoreResults = true
-is_optional_elsewhere AfterResult = true
-is_optional_elsewhere MaybeAlias = true
-is_optional_elsewhere MoreJoins = true
-is_optional_elsewhere MoreGroups = true
-is_optional_elsewhere MaybeWhere = true
-is_optional_elsewhere MaybeCommon = true
-is_optional_elsewhere MaybeHistogram = true
-is_optional_elsewhere MoreAnds = true
-is_optional_elsewhere MoreOrs = true
-is_optional_elsewhere NotEnds = true
-is_optional_elsewhere AfterName = true
-is_optional_elsewhere AfterColumn = true
-is_optional_elsewhere AfterTruth = true
-is_optional_elsewhere AfterQualifier = true
-is_optional_elsewhere MaybeOrder = true
-is_optional_elsewhere MoreOrderings = true
-is_optional_elsewhere MaybeLimit = true
-is_optional_elsewhere MaybeOffset = true
-is_optional_elsewhere MaybeDirection = true
-is_optional_elsewhere MaybeNulls = true
-is_optional_elsewhere MaybeUsing = true
-is_optional_elsewhere MaybeClass = true
-is_optional_elsewhere MaybeInclude = true
-is_optional_elsewhere MoreAdvised = true
-is_optional_elsewhere _ = false
+takes_of i t = row_for (all_rows_of i) t
 
 -- no token need come for it
 abbrev pub is_optional : Item → Bool
-is_optional AfterGroupedName = true
-is_optional MaybeGroup = true
-is_optional MoreGroupColumns = true
-is_optional i = is_optional_elsewhere i
+is_optional i = (rows_of_item i).0
 
 -- the levels of an expression that end with it
 abbrev pub level_of : Item → ℕ

@@ -1,420 +1,465 @@
-//! The rows of the table: for an item, the tokens that are awaited and the items that then stand in its place.
+//! The rows of the table: for each item the tokens that are awaited, and the items that then stand in its place.
+//!
+//! This is the one place where a production's rows are said: the definitions of specs/ read these constants.
 
-ghost use Rattle.std.specs.Prelude.{◌≡◌, MatchOption};
-ghost use Rattle.sql_grammar.specs.Table.{statement_takes, worded_takes, ends_takes, stop_takes, query_takes, nullness_takes, columns_takes, output_takes, outputs_takes, after_output_takes, star_takes, alias_takes, where_takes, figures_takes, common_takes, shares_takes, histogram_takes, bounds_takes, lit_takes, negation_takes, ands_takes, ors_takes, literal_takes, column_takes, name_takes, side_takes, qualifier_takes, label_takes, digits_takes, quoted_takes, keyword_takes, sign_takes, free_takes};
-
+use crate::class::Class::{End, Key, Mark, Name, Number, Operator, Quoted, Semicolon};
 use crate::class::{Class, Free, Symbol, Word};
-use crate::rows_advise;
-use crate::table::Item;
+use crate::offered::{
+    READS_ADVISE, READS_ANALYZE, READS_CHECK, READS_GROUPS, READS_PLAN, READS_TABLE, READS_WINDOW,
+};
+use crate::table::Item::{
+    self, AdvisedSelect, AfterColumn, AfterCreate, AfterExplain, AfterGroupedName, AfterIs,
+    AfterLiteral, AfterName, AfterPlain, AfterQualifier, AfterResult, AfterTruth, Argument,
+    Candidate, Closes, Digits, Ends, Figures, FirstOrLast, FreeWord, GroupedItem, Keyword, Label,
+    Literal, MaybeAlias, MaybeClass, MaybeCommon, MaybeDirection, MaybeGroup, MaybeHistogram,
+    MaybeInclude, MaybeLimit, MaybeNulls, MaybeOffset, MaybeOrder, MaybeUsing, MaybeWhere,
+    MoreAdvised, MoreAnds, MoreBounds, MoreCands, MoreColumns, MoreGroupColumns, MoreGroupedItems,
+    MoreGroups, MoreJoins, MoreKeys, MoreNames, MoreOrderings, MoreOrs, MoreResults, MoreShares,
+    Negation, NotEnds, Nullness, PlainItem, PlainNext, PlainTail, Query, QuotedText, Result, Side,
+    Sign, StarOrLabel, Stop,
+};
 
-/// The items that stand in an item's place; None where the token is not awaited.
-pub type Expansion = Option<&'static [Item]>;
+/// A row: the token that it takes, whether it is in the grammar, and the items in the item's place after it. The first row of
+/// a token is its only one; where that is not in the grammar, the token is not awaited.
+pub type Row = (Class, bool, &'static [Item]);
 
-/// A statement and its end: `CREATE`, `SELECT`, a word that is not reserved, or nothing before the end.
-pub fn statement(class: Class) -> Expansion
-    ensures { MatchOption result (statement_takes class ≡ None) (λ r. statement_takes class ≡ Some r.now) }
-{
-    match class {
-        Class::Key(Word::Create) => Some(&[Item::AfterCreate]),
-        Class::Key(Word::Select) => Some(&[Item::PlainItem]),
-        Class::Name(Some(word)) => worded(word),
-        Class::Semicolon | Class::End => Some(&[]),
-        _ => None,
-    }
-}
+/// What is said of an item: whether no token need come for it, and its rows.
+pub type ItemRows = (bool, &'static [Row]);
 
-/// A statement behind its first word, which is not reserved: `EXPLAIN`, `COPY`, `STATISTICS` or one that is in the grammar by
-/// a constant.
-fn worded(word: Free) -> Expansion
-    ensures { MatchOption result (worded_takes word ≡ None) (λ r. worded_takes word ≡ Some r.now) }
-{
-    match word {
-        Free::Explain => Some(&[Item::AfterExplain]),
-        Free::Copy => Some(&[
-            Item::Label,
-            Item::Keyword(Word::From),
-            Item::FreeWord(Free::Stdin),
-            Item::Keyword(Word::With),
-            Item::Sign(Symbol::Open),
-            Item::FreeWord(Free::Format),
-            Item::FreeWord(Free::Csv),
-            Item::Sign(Symbol::Comma),
-            Item::Keyword(Word::Null),
-            Item::QuotedText,
-            Item::Sign(Symbol::Close),
-            Item::Stop,
-        ]),
-        Free::Statistics => Some(&[Item::Label, Item::Figures, Item::Ends]),
-        _ => rows_advise::offered(word),
-    }
-}
+/// A token has to come.
+pub const NEEDED: bool = false;
 
-/// A statement's end.
-pub fn ends(class: Class) -> Expansion
-    ensures { MatchOption result (ends_takes class ≡ None) (λ r. ends_takes class ≡ Some r.now) }
-{
-    match class {
-        Class::Semicolon | Class::End => Some(&[]),
-        _ => None,
-    }
-}
+/// None need come.
+const OPTIONAL: bool = true;
 
-/// The `;` before data.
-pub fn stop(class: Class) -> Expansion
-    ensures { MatchOption result (stop_takes class ≡ None) (λ r. stop_takes class ≡ Some r.now) }
-{
-    match class {
-        Class::Semicolon => Some(&[]),
-        _ => None,
-    }
-}
+/// A row that none has: its token is left out of a later row.
+const NEVER: bool = false;
 
-/// A SELECT.
-pub fn query(class: Class) -> Expansion
-    ensures { MatchOption result (query_takes class ≡ None) (λ r. query_takes class ≡ Some r.now) }
-{
-    match class {
-        Class::Key(Word::Select) => Some(&[
-            Item::Result,
-            Item::MoreResults,
-            Item::Keyword(Word::From),
-            Item::Label,
-            Item::MaybeAlias,
-            Item::MoreJoins,
-            Item::MoreGroups,
-            Item::MaybeWhere,
-        ]),
-        _ => None,
-    }
-}
+/// In a row any name, also one with a place of its own.
+const ANY_NAME: Class = Name(None);
 
-/// NULL or NOT NULL.
-pub fn nullness(class: Class) -> Expansion
-    ensures { MatchOption result (nullness_takes class ≡ None) (λ r. nullness_takes class ≡ Some r.now) }
-{
-    match class {
-        Class::Key(Word::Not) => Some(&[Item::Keyword(Word::Null)]),
-        Class::Key(Word::Null) => Some(&[]),
-        _ => None,
-    }
-}
-
-/// Further columns, and the closing parenthesis.
-pub fn columns(class: Class) -> Expansion
-    ensures { MatchOption result (columns_takes class ≡ None) (λ r. columns_takes class ≡ Some r.now) }
-{
-    match class {
-        Class::Mark(Symbol::Comma) => Some(&[
-            Item::Label,
-            Item::Label,
-            Item::Nullness,
-            Item::MoreColumns,
-        ]),
-        Class::Mark(Symbol::Close) => Some(&[]),
-        _ => None,
-    }
-}
-
-/// What SELECT asks for.
-pub fn output(class: Class) -> Expansion
-    ensures { MatchOption result (output_takes class ≡ None) (λ r. output_takes class ≡ Some r.now) }
-{
-    match class {
-        Class::Mark(Symbol::Star) => Some(&[]),
-        Class::Name(_) => Some(&[Item::AfterResult]),
-        _ => None,
-    }
-}
-
-/// Further ones.
-pub fn outputs(class: Class) -> Expansion
-    ensures { MatchOption result (outputs_takes class ≡ None) (λ r. outputs_takes class ≡ Some r.now) }
-{
-    match class {
-        Class::Mark(Symbol::Comma) => Some(&[Item::Result, Item::MoreResults]),
-        _ => None,
-    }
-}
-
-/// What follows a name there.
-pub fn after_output(class: Class) -> Expansion
-    ensures { MatchOption result (after_output_takes class ≡ None) (λ r. after_output_takes class ≡ Some r.now) }
-{
-    match class {
-        Class::Mark(Symbol::Dot) => Some(&[Item::StarOrLabel]),
-        _ => None,
-    }
-}
-
-/// What follows a name and a dot there.
-pub fn star_or_label(class: Class) -> Expansion
-    ensures { MatchOption result (star_takes class ≡ None) (λ r. star_takes class ≡ Some r.now) }
-{
-    match class {
-        Class::Mark(Symbol::Star) | Class::Name(_) => Some(&[]),
-        _ => None,
-    }
-}
-
-/// An alias.
-pub fn alias(class: Class) -> Expansion
-    ensures { MatchOption result (alias_takes class ≡ None) (λ r. alias_takes class ≡ Some r.now) }
-{
-    match class {
-        Class::Key(Word::As) => Some(&[Item::Label]),
-        Class::Name(_) => Some(&[]),
-        _ => None,
-    }
-}
-
-/// A condition.
-pub fn condition(class: Class) -> Expansion
-    ensures { MatchOption result (where_takes class ≡ None) (λ r. where_takes class ≡ Some r.now) }
-{
-    match class {
-        Class::Key(Word::Where) => Some(&[Item::Negation, Item::MoreAnds, Item::MoreOrs]),
-        _ => None,
-    }
-}
-
-/// What STATISTICS gives, after a table's name.
-pub fn figures(class: Class) -> Expansion
-    ensures { MatchOption result (figures_takes class ≡ None) (λ r. figures_takes class ≡ Some r.now) }
-{
-    match class {
-        Class::Name(Some(Free::Rows)) => Some(&[
-            Item::Digits,
-            Item::FreeWord(Free::Pages),
-            Item::Digits,
-        ]),
-        Class::Mark(Symbol::Dot) => Some(&[
-            Item::Label,
-            Item::FreeWord(Free::Distinct),
-            Item::Digits,
-            Item::FreeWord(Free::Nulls),
-            Item::Digits,
-            Item::MaybeCommon,
-            Item::MaybeHistogram,
-        ]),
-        _ => None,
-    }
-}
-
-/// Common values with their shares.
-pub fn common(class: Class) -> Expansion
-    ensures { MatchOption result (common_takes class ≡ None) (λ r. common_takes class ≡ Some r.now) }
-{
-    match class {
-        Class::Name(Some(Free::Common)) => Some(&[
-            Item::Sign(Symbol::Open),
-            Item::Literal,
-            Item::Digits,
-            Item::MoreShares,
-        ]),
-        _ => None,
-    }
-}
-
-/// Further ones, and the closing parenthesis.
-pub fn shares(class: Class) -> Expansion
-    ensures { MatchOption result (shares_takes class ≡ None) (λ r. shares_takes class ≡ Some r.now) }
-{
-    match class {
-        Class::Mark(Symbol::Comma) => Some(&[Item::Literal, Item::Digits, Item::MoreShares]),
-        Class::Mark(Symbol::Close) => Some(&[]),
-        _ => None,
-    }
-}
-
-/// The bounds of a histogram.
-pub fn histogram(class: Class) -> Expansion
-    ensures { MatchOption result (histogram_takes class ≡ None) (λ r. histogram_takes class ≡ Some r.now) }
-{
-    match class {
-        Class::Name(Some(Free::Histogram)) => Some(&[
-            Item::Sign(Symbol::Open),
-            Item::Literal,
-            Item::MoreBounds,
-        ]),
-        _ => None,
-    }
-}
-
-/// Further ones, and the closing parenthesis.
-pub fn bounds(class: Class) -> Expansion
-    ensures { MatchOption result (bounds_takes class ≡ None) (λ r. bounds_takes class ≡ Some r.now) }
-{
-    match class {
-        Class::Mark(Symbol::Comma) => Some(&[Item::Literal, Item::MoreBounds]),
-        Class::Mark(Symbol::Close) => Some(&[]),
-        _ => None,
-    }
-}
-
-/// A literal.
-pub fn literal(class: Class) -> Expansion
-    ensures { MatchOption result (lit_takes class ≡ None) (λ r. lit_takes class ≡ Some r.now) }
-{
-    match class {
-        Class::Mark(Symbol::Minus) => Some(&[Item::Digits]),
-        Class::Number | Class::Quoted => Some(&[]),
-        Class::Key(Word::True | Word::False | Word::Null) => Some(&[]),
-        _ => None,
-    }
-}
-
-/// A NOT or an atom.
-pub fn negation(class: Class) -> Expansion
-    ensures { MatchOption result (negation_takes class ≡ None) (λ r. negation_takes class ≡ Some r.now) }
-{
-    match class {
-        Class::Key(Word::Not) => Some(&[Item::Negation, Item::NotEnds]),
-        Class::Mark(Symbol::Open) => Some(&[
-            Item::Negation,
-            Item::MoreAnds,
-            Item::MoreOrs,
-            Item::Closes,
-        ]),
-        Class::Name(_) => Some(&[Item::AfterName]),
-        Class::Number | Class::Quoted => Some(&[Item::AfterLiteral]),
-        Class::Mark(Symbol::Minus) => Some(&[Item::Digits, Item::AfterLiteral]),
-        Class::Key(Word::True | Word::False | Word::Null) => Some(&[Item::AfterTruth]),
-        _ => None,
-    }
-}
-
-/// Further parts of an AND.
-pub fn ands(class: Class) -> Expansion
-    ensures { MatchOption result (ands_takes class ≡ None) (λ r. ands_takes class ≡ Some r.now) }
-{
-    match class {
-        Class::Key(Word::And) => Some(&[Item::Negation, Item::MoreAnds]),
-        _ => None,
-    }
-}
-
-/// Further parts of an OR.
-pub fn ors(class: Class) -> Expansion
-    ensures { MatchOption result (ors_takes class ≡ None) (λ r. ors_takes class ≡ Some r.now) }
-{
-    match class {
-        Class::Key(Word::Or) => Some(&[Item::Negation, Item::MoreAnds, Item::MoreOrs]),
-        _ => None,
-    }
-}
-
-/// What follows a literal.
-pub fn after_literal(class: Class) -> Expansion
-    ensures { MatchOption result (literal_takes class ≡ None) (λ r. literal_takes class ≡ Some r.now) }
-{
-    match class {
-        Class::Operator => Some(&[Item::Side]),
-        _ => None,
-    }
-}
-
-/// What follows a column.
-pub fn after_column(class: Class) -> Expansion
-    ensures { MatchOption result (column_takes class ≡ None) (λ r. column_takes class ≡ Some r.now) }
-{
-    match class {
-        Class::Key(Word::Is) => Some(&[Item::AfterIs]),
-        Class::Operator => Some(&[Item::Side]),
-        _ => None,
-    }
-}
-
-/// What follows a name that begins a column.
-pub fn after_name(class: Class) -> Expansion
-    ensures { MatchOption result (name_takes class ≡ None) (λ r. name_takes class ≡ Some r.now) }
-{
-    match class {
-        Class::Mark(Symbol::Dot) => Some(&[Item::Label, Item::AfterColumn]),
-        Class::Key(Word::Is) => Some(&[Item::AfterIs]),
-        Class::Operator => Some(&[Item::Side]),
-        _ => None,
-    }
-}
-
-/// An operand.
-pub fn operand(class: Class) -> Expansion
-    ensures { MatchOption result (side_takes class ≡ None) (λ r. side_takes class ≡ Some r.now) }
-{
-    match class {
-        Class::Name(_) => Some(&[Item::AfterQualifier]),
-        Class::Mark(Symbol::Minus) => Some(&[Item::Digits]),
-        Class::Number | Class::Quoted => Some(&[]),
-        Class::Key(Word::True | Word::False | Word::Null) => Some(&[]),
-        _ => None,
-    }
-}
-
-/// What follows a name in an operand.
-pub fn after_qualifier(class: Class) -> Expansion
-    ensures { MatchOption result (qualifier_takes class ≡ None) (λ r. qualifier_takes class ≡ Some r.now) }
-{
-    match class {
-        Class::Mark(Symbol::Dot) => Some(&[Item::Label]),
-        _ => None,
-    }
+/// The rows of an item: `token => [items];`, with `if CONSTANT` behind it where the row is in the grammar by a constant.
+macro_rules! rows {
+    (@offered) => { true };
+    (@offered $offered:ident) => { $offered };
+    ($empty:ident; $($lead:expr => [$($item:expr),*] $(if $offered:ident)?;)*) => {
+        ($empty, &[$(($lead, rows!(@offered $($offered)?), &[$($item),*])),*])
+    };
 }
 
 /// A name.
-pub fn label(class: Class) -> Expansion
-    ensures { MatchOption result (label_takes class ≡ None) (λ r. label_takes class ≡ Some r.now) }
-{
-    match class {
-        Class::Name(_) => Some(&[]),
-        _ => None,
-    }
-}
+pub const LABEL: ItemRows = rows! { NEEDED;
+    ANY_NAME => [];
+};
 
 /// A number.
-pub fn digits(class: Class) -> Expansion
-    ensures { MatchOption result (digits_takes class ≡ None) (λ r. digits_takes class ≡ Some r.now) }
-{
-    match class {
-        Class::Number => Some(&[]),
-        _ => None,
-    }
-}
+pub const DIGITS: ItemRows = rows! { NEEDED;
+    Number => [];
+};
 
 /// A quoted text.
-pub fn quoted_text(class: Class) -> Expansion
-    ensures { MatchOption result (quoted_takes class ≡ None) (λ r. quoted_takes class ≡ Some r.now) }
-{
-    match class {
-        Class::Quoted => Some(&[]),
-        _ => None,
-    }
-}
+pub const QUOTED_TEXT: ItemRows = rows! { NEEDED;
+    Quoted => [];
+};
 
-/// This reserved word.
-pub fn keyword(word: Word, class: Class) -> Expansion
-    ensures { MatchOption result (keyword_takes word class ≡ None) (λ r. keyword_takes word class ≡ Some r.now) }
-{
-    match class {
-        Class::Key(other) if other as u8 == word as u8 => Some(&[]),
-        _ => None,
-    }
-}
+/// A statement and its end.
+pub const WHOLE: ItemRows = rows! { NEEDED;
+    Key(Word::Create) => [AfterCreate];
+    Key(Word::Select) => [PlainItem];
+    Name(Some(Free::Explain)) => [AfterExplain];
+    Name(Some(Free::Copy)) => [
+        Label, Keyword(Word::From), FreeWord(Free::Stdin), Keyword(Word::With), Sign(Symbol::Open),
+        FreeWord(Free::Format), FreeWord(Free::Csv), Sign(Symbol::Comma), Keyword(Word::Null),
+        QuotedText, Sign(Symbol::Close), Stop
+    ];
+    Name(Some(Free::Statistics)) => [Label, Figures, Ends];
+    Name(Some(Free::Advise)) => [
+        Digits, Sign(Symbol::Open), Candidate, MoreCands, AdvisedSelect, MoreAdvised, Ends
+    ] if READS_ADVISE;
+    Name(Some(Free::Analyze)) => [Label, Ends] if READS_ANALYZE;
+    Name(Some(Free::Check)) => [Query, MaybeOrder, MaybeLimit, MaybeOffset, Stop] if READS_CHECK;
+    Name(Some(Free::Use)) => [FreeWord(Free::Plan), Query, MaybeOrder, Stop] if READS_PLAN;
+    Semicolon => [];
+    End => [];
+};
 
-/// This symbol.
-pub fn sign(symbol: Symbol, class: Class) -> Expansion
-    ensures { MatchOption result (sign_takes symbol class ≡ None) (λ r. sign_takes symbol class ≡ Some r.now) }
-{
-    match class {
-        Class::Mark(other) if other as u8 == symbol as u8 => Some(&[]),
-        _ => None,
-    }
-}
+/// A statement's end: `;` or the text's end.
+pub const ENDS: ItemRows = rows! { NEEDED;
+    Semicolon => [];
+    End => [];
+};
 
-/// This word, which is not reserved.
-pub fn free_word(word: Free, class: Class) -> Expansion
-    ensures { MatchOption result (free_takes word class ≡ None) (λ r. free_takes word class ≡ Some r.now) }
-{
-    match class {
-        Class::Name(Some(other)) if other as u8 == word as u8 => Some(&[]),
-        _ => None,
-    }
-}
+/// The `;` that a statement with data needs.
+pub const STOP: ItemRows = rows! { NEEDED;
+    Semicolon => [];
+};
+
+/// A SELECT.
+pub const QUERY: ItemRows = rows! { NEEDED;
+    Key(Word::Select) => [
+        Result, MoreResults, Keyword(Word::From), Label, MaybeAlias, MoreJoins, MoreGroups,
+        MaybeWhere
+    ];
+};
+
+/// NULL, NOT NULL or nothing.
+pub const NULLNESS: ItemRows = rows! { OPTIONAL;
+    Key(Word::Not) => [Keyword(Word::Null)];
+    Key(Word::Null) => [];
+};
+
+/// Further columns of a table, and the closing parenthesis.
+pub const MORE_COLUMNS: ItemRows = rows! { NEEDED;
+    Mark(Symbol::Comma) => [Label, Label, Nullness, MoreColumns];
+    Mark(Symbol::Close) => [];
+};
+
+/// What SELECT asks for.
+pub const RESULT: ItemRows = rows! { NEEDED;
+    Mark(Symbol::Star) => [];
+    ANY_NAME => [AfterResult];
+};
+
+/// Further ones.
+pub const MORE_RESULTS: ItemRows = rows! { OPTIONAL;
+    Mark(Symbol::Comma) => [Result, MoreResults];
+};
+
+/// What follows a name there.
+pub const AFTER_RESULT: ItemRows = rows! { OPTIONAL;
+    Mark(Symbol::Dot) => [StarOrLabel];
+};
+
+/// What follows a name and a dot there.
+pub const STAR_OR_LABEL: ItemRows = rows! { NEEDED;
+    Mark(Symbol::Star) => [];
+    ANY_NAME => [];
+};
+
+/// An alias or nothing.
+pub const MAYBE_ALIAS: ItemRows = rows! { OPTIONAL;
+    Key(Word::As) => [Label];
+    ANY_NAME => [];
+};
+
+/// Further joins of a group.
+pub const MORE_JOINS: ItemRows = rows! { OPTIONAL;
+    Key(Word::Join) => [
+        Label, MaybeAlias, Keyword(Word::On), Negation, MoreAnds, MoreOrs, MoreJoins
+    ];
+    Key(Word::Inner) => [
+        Keyword(Word::Join), Label, MaybeAlias, Keyword(Word::On), Negation, MoreAnds, MoreOrs,
+        MoreJoins
+    ];
+    Key(Word::Cross) => [Keyword(Word::Join), Label, MaybeAlias, MoreJoins];
+};
+
+/// Further groups of a FROM list.
+pub const MORE_GROUPS: ItemRows = rows! { OPTIONAL;
+    Mark(Symbol::Comma) => [Label, MaybeAlias, MoreJoins, MoreGroups];
+};
+
+/// WHERE and a condition, or nothing.
+pub const MAYBE_WHERE: ItemRows = rows! { OPTIONAL;
+    Key(Word::Where) => [Negation, MoreAnds, MoreOrs];
+};
+
+/// What STATISTICS gives, after a table's name.
+pub const FIGURES: ItemRows = rows! { NEEDED;
+    Name(Some(Free::Rows)) => [Digits, FreeWord(Free::Pages), Digits];
+    Mark(Symbol::Dot) => [
+        Label, FreeWord(Free::Distinct), Digits, FreeWord(Free::Nulls), Digits, MaybeCommon,
+        MaybeHistogram
+    ];
+};
+
+/// Common values with their shares, or nothing.
+pub const MAYBE_COMMON: ItemRows = rows! { OPTIONAL;
+    Name(Some(Free::Common)) => [Sign(Symbol::Open), Literal, Digits, MoreShares];
+};
+
+/// Further common values, and the closing parenthesis.
+pub const MORE_SHARES: ItemRows = rows! { NEEDED;
+    Mark(Symbol::Comma) => [Literal, Digits, MoreShares];
+    Mark(Symbol::Close) => [];
+};
+
+/// The bounds of a histogram, or nothing.
+pub const MAYBE_HISTOGRAM: ItemRows = rows! { OPTIONAL;
+    Name(Some(Free::Histogram)) => [Sign(Symbol::Open), Literal, MoreBounds];
+};
+
+/// Further bounds, and the closing parenthesis.
+pub const MORE_BOUNDS: ItemRows = rows! { NEEDED;
+    Mark(Symbol::Comma) => [Literal, MoreBounds];
+    Mark(Symbol::Close) => [];
+};
+
+/// A literal.
+pub const LITERAL: ItemRows = rows! { NEEDED;
+    Mark(Symbol::Minus) => [Digits];
+    Number => [];
+    Quoted => [];
+    Key(Word::True) => [];
+    Key(Word::False) => [];
+    Key(Word::Null) => [];
+};
+
+/// An expression without AND and OR on its outside.
+pub const NEGATION: ItemRows = rows! { NEEDED;
+    Key(Word::Not) => [Negation, NotEnds];
+    Mark(Symbol::Open) => [Negation, MoreAnds, MoreOrs, Closes];
+    ANY_NAME => [AfterName];
+    Number => [AfterLiteral];
+    Quoted => [AfterLiteral];
+    Mark(Symbol::Minus) => [Digits, AfterLiteral];
+    Key(Word::True) => [AfterTruth];
+    Key(Word::False) => [AfterTruth];
+    Key(Word::Null) => [AfterTruth];
+};
+
+/// Further parts of an AND.
+pub const MORE_ANDS: ItemRows = rows! { OPTIONAL;
+    Key(Word::And) => [Negation, MoreAnds];
+};
+
+/// Further parts of an OR.
+pub const MORE_ORS: ItemRows = rows! { OPTIONAL;
+    Key(Word::Or) => [Negation, MoreAnds, MoreOrs];
+};
+
+/// The parenthesis that closes a level.
+pub const CLOSES: ItemRows = rows! { NEEDED;
+    Mark(Symbol::Close) => [];
+};
+
+/// The end of what a NOT governs, which closes its level.
+pub const NOT_ENDS: ItemRows = rows! { OPTIONAL;
+};
+
+/// What follows a name at an atom's start.
+pub const AFTER_NAME: ItemRows = rows! { OPTIONAL;
+    Mark(Symbol::Dot) => [Label, AfterColumn];
+    Key(Word::Is) => [AfterIs];
+    Operator => [Side];
+};
+
+/// What follows a column there.
+pub const AFTER_COLUMN: ItemRows = rows! { OPTIONAL;
+    Key(Word::Is) => [AfterIs];
+    Operator => [Side];
+};
+
+/// What follows IS.
+pub const AFTER_IS: ItemRows = rows! { NEEDED;
+    Key(Word::Not) => [Keyword(Word::Null)];
+    Key(Word::Null) => [];
+};
+
+/// What follows a number or a quoted text: it has to be compared.
+pub const AFTER_LITERAL: ItemRows = rows! { NEEDED;
+    Operator => [Side];
+};
+
+/// What follows TRUE, FALSE or NULL.
+pub const AFTER_TRUTH: ItemRows = rows! { OPTIONAL;
+    Operator => [Side];
+};
+
+/// An operand.
+pub const SIDE: ItemRows = rows! { NEEDED;
+    ANY_NAME => [AfterQualifier];
+    Mark(Symbol::Minus) => [Digits];
+    Number => [];
+    Quoted => [];
+    Key(Word::True) => [];
+    Key(Word::False) => [];
+    Key(Word::Null) => [];
+};
+
+/// What follows a name in an operand.
+pub const AFTER_QUALIFIER: ItemRows = rows! { OPTIONAL;
+    Mark(Symbol::Dot) => [Label];
+};
+
+/// ORDER BY and its columns, or nothing.
+pub const MAYBE_ORDER: ItemRows = rows! { OPTIONAL;
+    Key(Word::Order) => [
+        FreeWord(Free::By), Label, AfterQualifier, MaybeDirection, MaybeNulls, MoreOrderings
+    ];
+};
+
+/// Further columns of it.
+pub const MORE_ORDERINGS: ItemRows = rows! { OPTIONAL;
+    Mark(Symbol::Comma) => [Label, AfterQualifier, MaybeDirection, MaybeNulls, MoreOrderings];
+};
+
+/// LIMIT and a number, or nothing.
+pub const MAYBE_LIMIT: ItemRows = rows! { OPTIONAL;
+    Key(Word::Limit) => [Digits] if READS_WINDOW;
+};
+
+/// OFFSET and a number, or nothing.
+pub const MAYBE_OFFSET: ItemRows = rows! { OPTIONAL;
+    Key(Word::Offset) => [Digits] if READS_WINDOW;
+};
+
+/// ASC, DESC or nothing.
+pub const MAYBE_DIRECTION: ItemRows = rows! { OPTIONAL;
+    Key(Word::Asc) => [];
+    Key(Word::Desc) => [];
+};
+
+/// NULLS FIRST, NULLS LAST or nothing.
+pub const MAYBE_NULLS: ItemRows = rows! { OPTIONAL;
+    Name(Some(Free::Nulls)) => [FirstOrLast];
+};
+
+/// FIRST or LAST.
+pub const FIRST_OR_LAST: ItemRows = rows! { NEEDED;
+    Name(Some(Free::First)) => [];
+    Name(Some(Free::Last)) => [];
+};
+
+/// What follows CREATE, up to the statement's end.
+pub const AFTER_CREATE: ItemRows = rows! { NEEDED;
+    Key(Word::Table) => [Label, Sign(Symbol::Open), Label, Label, Nullness, MoreColumns, Ends];
+    Name(Some(Free::Index)) => [
+        Label, Keyword(Word::On), Label, MaybeUsing, Sign(Symbol::Open), Label, MaybeClass,
+        MaybeDirection, MaybeNulls, MoreKeys, MaybeInclude, MaybeWhere, Ends
+    ];
+};
+
+/// USING and an access method, or nothing.
+pub const MAYBE_USING: ItemRows = rows! { OPTIONAL;
+    Key(Word::Using) => [Label];
+};
+
+/// An operator class, or nothing.
+pub const MAYBE_CLASS: ItemRows = rows! { OPTIONAL;
+    Name(Some(Free::Nulls)) => [] if NEVER;
+    ANY_NAME => [];
+};
+
+/// Further keys, and the closing parenthesis.
+pub const MORE_KEYS: ItemRows = rows! { NEEDED;
+    Mark(Symbol::Comma) => [Label, MaybeClass, MaybeDirection, MaybeNulls, MoreKeys];
+    Mark(Symbol::Close) => [];
+};
+
+/// INCLUDE and its columns, or nothing.
+pub const MAYBE_INCLUDE: ItemRows = rows! { OPTIONAL;
+    Name(Some(Free::Include)) => [Sign(Symbol::Open), Label, MoreNames];
+};
+
+/// Further columns of INCLUDE, and the closing parenthesis.
+pub const MORE_NAMES: ItemRows = rows! { NEEDED;
+    Mark(Symbol::Comma) => [Label, MoreNames];
+    Mark(Symbol::Close) => [];
+};
+
+/// What follows EXPLAIN, up to the statement's end.
+pub const AFTER_EXPLAIN: ItemRows = rows! { NEEDED;
+    Key(Word::Select) => [PlainItem];
+    Mark(Symbol::Open) => [
+        Keyword(Word::Table), Sign(Symbol::Close), Query, MaybeOrder, MaybeLimit, MaybeOffset, Ends
+    ] if READS_TABLE;
+};
+
+/// A candidate for an index.
+pub const CANDIDATE: ItemRows = rows! { NEEDED;
+    ANY_NAME => [
+        Keyword(Word::On), Label, MaybeUsing, Sign(Symbol::Open), Label, MaybeClass, MaybeDirection,
+        MaybeNulls, MoreKeys, MaybeInclude, MaybeWhere
+    ];
+};
+
+/// Further candidates, and the closing parenthesis.
+pub const MORE_CANDS: ItemRows = rows! { NEEDED;
+    Mark(Symbol::Comma) => [Candidate, MoreCands];
+    Mark(Symbol::Close) => [];
+};
+
+/// A SELECT with its order and its window in parentheses.
+pub const ADVISED_SELECT: ItemRows = rows! { NEEDED;
+    Mark(Symbol::Open) => [Query, MaybeOrder, MaybeLimit, MaybeOffset, Sign(Symbol::Close)];
+};
+
+/// Further ones.
+pub const MORE_ADVISED: ItemRows = rows! { OPTIONAL;
+    Mark(Symbol::Open) => [
+        Query, MaybeOrder, MaybeLimit, MaybeOffset, Sign(Symbol::Close), MoreAdvised
+    ];
+};
+
+/// An item of a SELECT's list before which no call stands, and what follows it up to the statement's end.
+pub const PLAIN_ITEM: ItemRows = rows! { NEEDED;
+    Mark(Symbol::Star) => [PlainNext];
+    ANY_NAME => [AfterPlain];
+};
+
+/// What follows a name there.
+pub const AFTER_PLAIN: ItemRows = rows! { NEEDED;
+    Mark(Symbol::Dot) => [StarOrLabel, PlainNext];
+    Mark(Symbol::Open) => [
+        Argument, Sign(Symbol::Close), MoreGroupedItems, Label, MaybeAlias, MoreJoins, MoreGroups,
+        MaybeWhere, MaybeGroup, MaybeOrder, Ends
+    ] if READS_GROUPS;
+    Mark(Symbol::Comma) => [PlainItem];
+    Key(Word::From) => [Label, MaybeAlias, MoreJoins, MoreGroups, MaybeWhere, PlainTail];
+};
+
+/// What follows such an item without a call.
+pub const PLAIN_NEXT: ItemRows = rows! { NEEDED;
+    Mark(Symbol::Comma) => [PlainItem];
+    Key(Word::From) => [Label, MaybeAlias, MoreJoins, MoreGroups, MaybeWhere, PlainTail];
+};
+
+/// What follows FROM and WHERE of a SELECT without calls, up to the statement's end.
+pub const PLAIN_TAIL: ItemRows = rows! { NEEDED;
+    Key(Word::Group) => [
+        FreeWord(Free::By), Label, AfterQualifier, MoreGroupColumns, MaybeOrder, Ends
+    ] if READS_GROUPS;
+    Key(Word::Order) => [
+        FreeWord(Free::By), Label, AfterQualifier, MaybeDirection, MaybeNulls, MoreOrderings,
+        MaybeLimit, MaybeOffset, Ends
+    ];
+    Key(Word::Limit) => [Digits, MaybeOffset, Ends] if READS_WINDOW;
+    Key(Word::Offset) => [Digits, Ends] if READS_WINDOW;
+    Semicolon => [];
+    End => [];
+};
+
+/// An item of a SELECT's list behind a call.
+pub const GROUPED_ITEM: ItemRows = rows! { NEEDED;
+    Mark(Symbol::Star) => [];
+    ANY_NAME => [AfterGroupedName];
+};
+
+/// What follows a name there.
+pub const AFTER_GROUPED_NAME: ItemRows = rows! { OPTIONAL;
+    Mark(Symbol::Dot) => [StarOrLabel];
+    Mark(Symbol::Open) => [Argument, Sign(Symbol::Close)];
+};
+
+/// Further items of it, and FROM.
+pub const MORE_GROUPED_ITEMS: ItemRows = rows! { NEEDED;
+    Mark(Symbol::Comma) => [GroupedItem, MoreGroupedItems];
+    Key(Word::From) => [];
+};
+
+/// What a call is of.
+pub const ARGUMENT: ItemRows = rows! { NEEDED;
+    Mark(Symbol::Star) => [];
+    ANY_NAME => [AfterQualifier];
+};
+
+/// GROUP BY and its columns, or nothing.
+pub const MAYBE_GROUP: ItemRows = rows! { OPTIONAL;
+    Key(Word::Group) => [FreeWord(Free::By), Label, AfterQualifier, MoreGroupColumns];
+};
+
+/// Further columns of it.
+pub const MORE_GROUP_COLUMNS: ItemRows = rows! { OPTIONAL;
+    Mark(Symbol::Comma) => [Label, AfterQualifier, MoreGroupColumns];
+};

@@ -3,10 +3,10 @@
 //! Each entry takes a token: nothing is put in an item's place before one has come.
 
 ghost use Rattle.std.specs.Prelude.{◌≡◌, ◌≤◌, MatchOption};
-ghost use Rattle.sql_grammar.specs.Table.{takes_of, is_optional, is_optional_elsewhere, level_of};
+ghost use Rattle.sql_grammar.specs.Table.{leads, lent_rows, row_for, lone_row, rows_of_item, takes_of, is_optional, level_of};
 
 use crate::class::{Class, Free, Symbol, Word};
-use crate::{rows, rows_advise, rows_from, rows_group, rows_index, rows_order, rows_window};
+use crate::rows::{self, ItemRows, Row};
 
 /// What is awaited.
 #[derive(Clone, Copy)]
@@ -145,75 +145,126 @@ pub enum Item {
     MoreGroupColumns,
 }
 
+/// What is said of an item that is no word of its own.
+fn item_rows(item: Item) -> ItemRows
+    ensures empty { result.0 ≡ is_optional item }
+    ensures rows { lent_rows result.1.now ≡ (rows_of_item item).1 }
+{
+    match item {
+        Item::Keyword(_) | Item::Sign(_) | Item::FreeWord(_) => (rows::NEEDED, &[]),
+        Item::Label => rows::LABEL,
+        Item::Digits => rows::DIGITS,
+        Item::QuotedText => rows::QUOTED_TEXT,
+        Item::Whole => rows::WHOLE,
+        Item::Ends => rows::ENDS,
+        Item::Stop => rows::STOP,
+        Item::Query => rows::QUERY,
+        Item::Nullness => rows::NULLNESS,
+        Item::MoreColumns => rows::MORE_COLUMNS,
+        Item::Result => rows::RESULT,
+        Item::MoreResults => rows::MORE_RESULTS,
+        Item::AfterResult => rows::AFTER_RESULT,
+        Item::StarOrLabel => rows::STAR_OR_LABEL,
+        Item::MaybeAlias => rows::MAYBE_ALIAS,
+        Item::MoreJoins => rows::MORE_JOINS,
+        Item::MoreGroups => rows::MORE_GROUPS,
+        Item::MaybeWhere => rows::MAYBE_WHERE,
+        Item::Figures => rows::FIGURES,
+        Item::MaybeCommon => rows::MAYBE_COMMON,
+        Item::MoreShares => rows::MORE_SHARES,
+        Item::MaybeHistogram => rows::MAYBE_HISTOGRAM,
+        Item::MoreBounds => rows::MORE_BOUNDS,
+        Item::Literal => rows::LITERAL,
+        Item::Negation => rows::NEGATION,
+        Item::MoreAnds => rows::MORE_ANDS,
+        Item::MoreOrs => rows::MORE_ORS,
+        Item::Closes => rows::CLOSES,
+        Item::NotEnds => rows::NOT_ENDS,
+        Item::AfterName => rows::AFTER_NAME,
+        Item::AfterColumn => rows::AFTER_COLUMN,
+        Item::AfterIs => rows::AFTER_IS,
+        Item::AfterLiteral => rows::AFTER_LITERAL,
+        Item::AfterTruth => rows::AFTER_TRUTH,
+        Item::Side => rows::SIDE,
+        Item::AfterQualifier => rows::AFTER_QUALIFIER,
+        Item::MaybeOrder => rows::MAYBE_ORDER,
+        Item::MoreOrderings => rows::MORE_ORDERINGS,
+        Item::MaybeLimit => rows::MAYBE_LIMIT,
+        Item::MaybeOffset => rows::MAYBE_OFFSET,
+        Item::MaybeDirection => rows::MAYBE_DIRECTION,
+        Item::MaybeNulls => rows::MAYBE_NULLS,
+        Item::FirstOrLast => rows::FIRST_OR_LAST,
+        Item::AfterCreate => rows::AFTER_CREATE,
+        Item::MaybeUsing => rows::MAYBE_USING,
+        Item::MaybeClass => rows::MAYBE_CLASS,
+        Item::MoreKeys => rows::MORE_KEYS,
+        Item::MaybeInclude => rows::MAYBE_INCLUDE,
+        Item::MoreNames => rows::MORE_NAMES,
+        Item::AfterExplain => rows::AFTER_EXPLAIN,
+        Item::Candidate => rows::CANDIDATE,
+        Item::MoreCands => rows::MORE_CANDS,
+        Item::AdvisedSelect => rows::ADVISED_SELECT,
+        Item::MoreAdvised => rows::MORE_ADVISED,
+        Item::PlainItem => rows::PLAIN_ITEM,
+        Item::AfterPlain => rows::AFTER_PLAIN,
+        Item::PlainNext => rows::PLAIN_NEXT,
+        Item::PlainTail => rows::PLAIN_TAIL,
+        Item::GroupedItem => rows::GROUPED_ITEM,
+        Item::AfterGroupedName => rows::AFTER_GROUPED_NAME,
+        Item::MoreGroupedItems => rows::MORE_GROUPED_ITEMS,
+        Item::Argument => rows::ARGUMENT,
+        Item::MaybeGroup => rows::MAYBE_GROUP,
+        Item::MoreGroupColumns => rows::MORE_GROUP_COLUMNS,
+    }
+}
+
+/// Whether a row with the first token takes the second.
+fn is_led(lead: Class, class: Class) -> bool
+    ensures { result ≡ leads lead class }
+{
+    match (lead, class) {
+        (Class::Key(word), Class::Key(other)) => other as u8 == word as u8,
+        (Class::Mark(symbol), Class::Mark(other)) => other as u8 == symbol as u8,
+        (Class::Name(Some(word)), Class::Name(Some(other))) => other as u8 == word as u8,
+        (Class::Name(None), Class::Name(_))
+        | (Class::Number, Class::Number)
+        | (Class::Quoted, Class::Quoted)
+        | (Class::Operator, Class::Operator)
+        | (Class::Semicolon, Class::Semicolon)
+        | (Class::End, Class::End) => true,
+        _ => false,
+    }
+}
+
+/// The items of the first row that takes the token.
+fn found(rows: &[Row], class: Class) -> Option<&'static [Item]>
+    ensures { MatchOption result (row_for (lent_rows rows.now) class ≡ None) (λ r. row_for (lent_rows rows.now) class ≡ Some r.now) }
+{
+    for n in 0..rows.len() {
+        let (lead, offered, items) = rows[n];
+        if is_led(lead, class) {
+            return if offered { Some(items) } else { None };
+        }
+    }
+    None
+}
+
+/// An item that is a word of its own: it takes this token, and nothing stands in its place.
+fn alone(lead: Class, class: Class) -> Option<&'static [Item]>
+    ensures { MatchOption result (row_for (lone_row lead) class ≡ None) (λ r. row_for (lone_row lead) class ≡ Some r.now) }
+{
+    if is_led(lead, class) { Some(&[]) } else { None }
+}
+
 /// The items that are awaited in this one's place after the token; None where the token is not awaited.
 pub fn takes(item: Item, class: Class) -> Option<&'static [Item]>
     ensures { MatchOption result (takes_of item class ≡ None) (λ r. takes_of item class ≡ Some r.now) }
 {
     match item {
-        Item::Keyword(word) => rows::keyword(word, class),
-        Item::Sign(symbol) => rows::sign(symbol, class),
-        Item::FreeWord(word) => rows::free_word(word, class),
-        Item::Label => rows::label(class),
-        Item::Digits => rows::digits(class),
-        Item::QuotedText => rows::quoted_text(class),
-        Item::Whole => rows::statement(class),
-        Item::Ends => rows::ends(class),
-        Item::Stop => rows::stop(class),
-        Item::Query => rows::query(class),
-        Item::Nullness | Item::AfterIs => rows::nullness(class),
-        Item::MoreColumns => rows::columns(class),
-        Item::Result => rows::output(class),
-        Item::MoreResults => rows::outputs(class),
-        Item::AfterResult => rows::after_output(class),
-        Item::StarOrLabel => rows::star_or_label(class),
-        Item::MaybeAlias => rows::alias(class),
-        Item::MoreJoins => rows_from::joins(class),
-        Item::MoreGroups => rows_from::groups(class),
-        Item::MaybeWhere => rows::condition(class),
-        Item::Figures => rows::figures(class),
-        Item::MaybeCommon => rows::common(class),
-        Item::MoreShares => rows::shares(class),
-        Item::MaybeHistogram => rows::histogram(class),
-        Item::MoreBounds => rows::bounds(class),
-        Item::Literal => rows::literal(class),
-        Item::Negation => rows::negation(class),
-        Item::MoreAnds => rows::ands(class),
-        Item::MoreOrs => rows::ors(class),
-        Item::Closes => rows::sign(Symbol::Close, class),
-        Item::NotEnds => None,
-        Item::AfterName => rows::after_name(class),
-        Item::AfterColumn => rows::after_column(class),
-        Item::AfterLiteral | Item::AfterTruth => rows::after_literal(class),
-        Item::Side => rows::operand(class),
-        Item::AfterQualifier => rows::after_qualifier(class),
-        Item::MaybeOrder => rows_order::order(class),
-        Item::MoreOrderings => rows_order::orderings(class),
-        Item::MaybeLimit => rows_window::most(class),
-        Item::MaybeOffset => rows_window::skipped(class),
-        Item::MaybeDirection => rows_order::direction(class),
-        Item::MaybeNulls => rows_order::nulls(class),
-        Item::FirstOrLast => rows_order::nulls_end(class),
-        Item::AfterCreate => rows_index::created(class),
-        Item::MaybeUsing => rows_index::using(class),
-        Item::MaybeClass => rows_index::op_class(class),
-        Item::MoreKeys => rows_index::keys(class),
-        Item::MaybeInclude => rows_index::include(class),
-        Item::MoreNames => rows_index::names(class),
-        Item::AfterExplain => rows_advise::explained(class),
-        Item::Candidate => rows_advise::candidate(class),
-        Item::MoreCands => rows_advise::candidates(class),
-        Item::AdvisedSelect => rows_advise::advised(class),
-        Item::MoreAdvised => rows_advise::more_advised(class),
-        Item::PlainItem => rows_group::plain_item(class),
-        Item::AfterPlain => rows_group::after_plain(class),
-        Item::PlainNext => rows_group::plain_next(class),
-        Item::PlainTail => rows_group::plain_tail(class),
-        Item::GroupedItem => rows_group::grouped_item(class),
-        Item::AfterGroupedName => rows_group::after_grouped_name(class),
-        Item::MoreGroupedItems => rows_group::grouped_items(class),
-        Item::Argument => rows_group::argument(class),
-        Item::MaybeGroup => rows_group::group_by(class),
-        Item::MoreGroupColumns => rows_group::group_columns(class),
+        Item::Keyword(word) => alone(Class::Key(word), class),
+        Item::Sign(symbol) => alone(Class::Mark(symbol), class),
+        Item::FreeWord(word) => alone(Class::Name(Some(word)), class),
+        _ => found(item_rows(item).1, class),
     }
 }
 
@@ -221,45 +272,7 @@ pub fn takes(item: Item, class: Class) -> Option<&'static [Item]>
 pub fn may_be_empty(item: Item) -> bool
     ensures { result ≡ is_optional item }
 {
-    match item {
-        Item::AfterGroupedName | Item::MaybeGroup | Item::MoreGroupColumns => true,
-        _ => may_be_empty_elsewhere(item),
-    }
-}
-
-/// The same of items that do not stand in a SELECT with groups alone.
-fn may_be_empty_elsewhere(item: Item) -> bool
-    ensures { result ≡ is_optional_elsewhere item }
-{
-    matches!(
-        item,
-        Item::Nullness
-            | Item::MoreResults
-            | Item::AfterResult
-            | Item::MaybeAlias
-            | Item::MoreJoins
-            | Item::MoreGroups
-            | Item::MaybeWhere
-            | Item::MaybeCommon
-            | Item::MaybeHistogram
-            | Item::MoreAnds
-            | Item::MoreOrs
-            | Item::NotEnds
-            | Item::AfterName
-            | Item::AfterColumn
-            | Item::AfterTruth
-            | Item::AfterQualifier
-            | Item::MaybeOrder
-            | Item::MoreOrderings
-            | Item::MaybeLimit
-            | Item::MaybeOffset
-            | Item::MaybeDirection
-            | Item::MaybeNulls
-            | Item::MaybeUsing
-            | Item::MaybeClass
-            | Item::MaybeInclude
-            | Item::MoreAdvised
-    )
+    item_rows(item).0
 }
 
 /// The levels of an expression that end with the item: 1 or 0.

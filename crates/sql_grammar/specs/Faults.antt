@@ -1,6 +1,6 @@
 -- Which lists of terminals are statements, and where a list of tokens leaves the grammar: told of the lists that are
 -- statements alone (codes 42601 and 54000: PostgreSQL manual, appendix Error Codes; the numbers of the limits are own).
-use Rattle.std.specs.Prelude.{◌≡◌, ℕ, ◌+◌, ◌≤◌, List, [], ◌∷◌, ◌++◌, length, map, drop, All, Option, Some, None, Result, Ok, Err, cond, nat_le}
+use Rattle.std.specs.Prelude.{◌≡◌, ℕ, ◌+◌, ◌≤◌, List, [], ◌∷◌, ◌++◌, length, map, drop, All, Option, Some, None, MatchOption, Result, Ok, Err, cond, nat_le}
 use Rattle.pg_base.specs.declared.faults.Code.{Code}
 use Rattle.pg_base.specs.declared.faults.Code.TheVariants.{S1, S15}
 use Rattle.pg_base.specs.declared.faults.Limit.{Limit}
@@ -110,3 +110,7 @@ IsPartEnd Of text tokens first (Err fault) = IsFirstFault Of text (drop first to
 pub record IsWhole (text : List ℕ) (tokens : List Token) : Type 0 where
   pub statement : IsStatement MOST_LEVELS (terminals text tokens)
   pub within : AreWithinLimits (terminals text tokens)
+
+-- the first fault of a statement; none where the tokens are a statement within the limits
+abbrev pub IsStatementFault : List ℕ → List Token → Option Fault → Type 0
+IsStatementFault text tokens told = MatchOption told (IsWhole text tokens) (λ f. IsFirstFault IsStatement text tokens f)

@@ -1,11 +1,15 @@
 -- What a step of the walk tells (own).
-use Rattle.std.specs.Prelude.{◌≡◌, ℕ, ◌+◌, true, false, ◌≤◌, List, Some, None}
+use Rattle.std.specs.Prelude.{◌≡◌, ℕ, ◌+◌, true, false, ◌≤◌, List, [], ◌∷◌, Option, Some, None, MatchOption}
 use Rattle.pg_base.specs.declared.limits.TheConstants.{MOST_LEVELS}
 use Rattle.sql_grammar.specs.declared.class.Class.{Class}
 use Rattle.sql_grammar.specs.declared.table.Item.{Item}
 use Rattle.sql_grammar.specs.declared.stack.Step.{Step}
 use Rattle.sql_grammar.specs.declared.stack.Step.TheVariants.{Took, Refused, Ended, TooDeep}
 use Rattle.sql_grammar.specs.Machine.{depth_of, step_of, may_end, Fits}
+
+-- the first item is taken off; none where there is none
+abbrev pub IsPopped : Option Item → List Item → List Item → Type 0
+IsPopped top old new = MatchOption top ((old ≡ []) × (new ≡ [])) (λ i. old ≡ i ∷ new)
 
 -- the token was awaited
 pub record Taken (t : Class) (old new : List Item) : Type 0 where

@@ -1,5 +1,5 @@
 -- The table of the walk: the items that stand in an item's place after a token (own).
-use Rattle.std.specs.Prelude.{ℕ, Bool, true, false, List, [], ◌∷◌, map, Option, Some, None, cond, nat_eq}
+use Rattle.std.specs.Prelude.{◌≡◌, ℕ, Bool, true, false, List, [], ◌∷◌, map, Option, Some, None, MatchOption, cond, nat_eq}
 use Rattle.std.specs.Borrow.{Bor}
 use Rattle.sql_grammar.specs.declared.class.Free.TheVariants.{Advise, Analyze, By, Check, Common, Copy, Csv, Distinct, Explain, First, Format, Histogram, Include, Index, Last, Nulls, Pages, Plan, Rows, Statistics, Stdin, Use}
 use Rattle.sql_grammar.specs.declared.class.Free.{Free}
@@ -16,6 +16,10 @@ use Rattle.sql_grammar.specs.declared.table.Item.TheVariants.{Keyword, Sign, Fre
 -- the items in an item's place; None where the token is not awaited
 abbrev pub Expansion : Type 0
 Expansion = Option (List Item)
+
+-- lent items, or none, are these
+abbrev pub IsExpansion : Option (Bor (List Item)) → Expansion → Type 0
+IsExpansion lent items = MatchOption lent (items ≡ None) (λ l. items ≡ Some l.now)
 
 -- the number of a reserved word, by which two are compared
 abbrev pub word_code : Word → ℕ

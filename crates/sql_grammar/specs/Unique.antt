@@ -1,11 +1,14 @@
 -- What the words of a tree tell of it (own).
-use Rattle.std.specs.Prelude.{Bool, true, false, List, [], ◌∷◌, ◌++◌}
+use Rattle.std.specs.Prelude.{◌≡◌, ℕ, ◌+◌, ◌≤◌, Bool, true, false, List, [], ◌∷◌, ◌++◌, length, map, drop, Result, Ok}
+use Rattle.pg_base.specs.declared.faults.Fault.{Fault}
+use Rattle.pg_base.specs.declared.limits.TheConstants.{MOST_LEVELS}
 use Rattle.sql_lex.specs.declared.tokens.Token.{Token}
 use Rattle.sql_grammar.specs.declared.class.Word.TheVariants.{And, Is, Not, Null, Or}
 use Rattle.sql_grammar.specs.declared.class.Symbol.TheVariants.{Close, Comma, Dot}
 use Rattle.sql_grammar.specs.Terminals.{Terminal, token_of, t_key, t_mark, t_name, t_number, t_quoted, t_operator, t_semicolon, t_end}
 use Rattle.sql_grammar.specs.Syntax.{unknown, constant, Operand, column, literal, Atom, parens, compare, is_null, is_not_null, column_alone, constant_alone}
 use Rattle.sql_grammar.specs.Words.{words_of_operand}
+use Rattle.sql_grammar.specs.Faults.{Production, terminals, AreWithinLimits, IsPartEnd}
 
 -- the token of a terminal
 abbrev pub token_in : Terminal → Token
@@ -86,3 +89,17 @@ tail (is_null c i k) x = t_key Is i ∷ t_key Null k ∷ x
 tail (is_not_null c i n k) x = t_key Is i ∷ t_key Not n ∷ t_key Null k ∷ x
 tail (column_alone c) x = x
 tail (constant_alone c k) x = x
+
+-- where these words are those of some tokens, their tokens are these
+abbrev pub HaveTheirTokens : List Terminal → Type 0
+HaveTheirTokens words = (text : List ℕ) (ts : List Token) → words ≡ terminals text ts → map token_in words ≡ ts
+
+-- a list of terminals begins with one tree at most that no further word goes on
+abbrev pub IsOneAhead : {Tree : Type 0} → (Tree → List Terminal) → (List Terminal → Bool) → Type 0
+IsOneAhead {Tree} words ends = (a b : Tree) (x y : List Terminal) → ends x ≡ true → ends y ≡ true → words a ++ x ≡ words b ++ y → (a ≡ b) × (x ≡ y)
+
+-- where tokens begin with the words of a tree, within the limits, and the next word does not go on, the part's end is told there
+abbrev pub HasItsEnd : {Tree : Type 0} → Production → (List Terminal → Bool) → (Tree → List Terminal) → (Tree → ℕ) → Type 0
+HasItsEnd {Tree} Of ends words levels =
+    (a : Tree) (next : Terminal) (x : List Terminal) (text : List ℕ) (ts : List Token) (first : ℕ) (r : Result ℕ Fault) → terminals text (drop first ts) ≡ words a ++ next ∷ x →
+    ends (next ∷ x) ≡ true → AreWithinLimits (words a) → levels a ≤ MOST_LEVELS → IsPartEnd Of text ts first r → r ≡ Ok (first + length (words a))

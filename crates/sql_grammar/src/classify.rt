@@ -2,9 +2,10 @@
 
 ghost use Rattle.std.specs.Prelude.{◌≡◌, ◌≤◌, length, map, slice_range};
 ghost use Rattle.std.specs.Char.{to_ascii_lowercase};
+ghost use Rattle.sql_lex.specs.declared.tokens.Kind.TheVariants.{Word as WordKind};
 ghost use Rattle.sql_lex.specs.declared.tokens.Token.{Token};
 ghost use Rattle.sql_grammar.specs.Terminals.{class_of as class_of_terminal};
-ghost use Rattle.sql_grammar.specs.Reading.{spelling_of, free_spelling_of, reserved_of, free_of, terminal_of, word_terminal, symbol_terminal, IsWithin};
+ghost use Rattle.sql_grammar.specs.Reading.{spelling_of, free_spelling_of, reserved_of, free_of, terminal_of, terminal_by, symbol_terminal, IsWithin};
 
 use crate::class::{Class, Free, Symbol, Word};
 use sql_lex::{Kind, Token};
@@ -153,7 +154,7 @@ fn free(bytes: &[u8]) -> Option<Free>
 
 /// The class of a word.
 fn word(bytes: &[u8]) -> Class
-    ensures { (t : Token) → let small = map to_ascii_lowercase bytes.now in result ≡ class_of_terminal (word_terminal (reserved_of small) small t) }
+    ensures { (t : Token) → result ≡ class_of_terminal (terminal_by WordKind bytes.now t) }
 {
     match reserved(bytes) {
         Some(key) => Class::Key(key),

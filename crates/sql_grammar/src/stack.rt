@@ -3,7 +3,7 @@
 ghost use Rattle.std.specs.Prelude.{◌≡◌, ◌≢◌, ℕ, ◌+◌, ◌*◌, ◌<◌, ◌≤◌, List, [], ◌∷◌, ◌++◌, length, Option, MatchOption, ◌==◌};
 ghost use Rattle.sql_grammar.specs.declared.table.Item.{Item};
 ghost use Rattle.sql_grammar.specs.Machine.{depth_of, Fits};
-ghost use Rattle.sql_grammar.specs.Steps.{IsStackStep};
+ghost use Rattle.sql_grammar.specs.Steps.{IsPopped, IsStackStep};
 
 use crate::class::Class;
 use crate::table::{self, Item};
@@ -85,7 +85,7 @@ impl Stack {
     }
 
     fn pop(&mut self) -> Option<Item>
-        ensures { MatchOption result ((self.old ≡ []) × (self.new ≡ [])) (λ i. self.old ≡ i ∷ self.new) }
+        ensures { IsPopped result self.old self.new }
     {
         if self.len == 0 {
             return None;

@@ -2,8 +2,8 @@
 //!
 //! Each entry takes a token: nothing is put in an item's place before one has come.
 
-ghost use Rattle.std.specs.Prelude.{◌≡◌, ◌≤◌, MatchOption};
-ghost use Rattle.sql_grammar.specs.Table.{leads, lent_rows, row_for, lone_row, rows_of_item, takes_of, is_optional, level_of};
+ghost use Rattle.std.specs.Prelude.{◌≡◌, ◌≤◌};
+ghost use Rattle.sql_grammar.specs.Table.{IsExpansion, leads, lent_rows, row_for, lone_row, rows_of_item, takes_of, is_optional, level_of};
 
 use crate::class::{Class, Free, Symbol, Word};
 use crate::rows::{self, ItemRows, Row};
@@ -238,7 +238,7 @@ fn is_led(lead: Class, class: Class) -> bool
 
 /// The items of the first row that takes the token.
 fn found(rows: &[Row], class: Class) -> Option<&'static [Item]>
-    ensures { MatchOption result (row_for (lent_rows rows.now) class ≡ None) (λ r. row_for (lent_rows rows.now) class ≡ Some r.now) }
+    ensures { IsExpansion result (row_for (lent_rows rows.now) class) }
 {
     for n in 0..rows.len() {
         let (lead, offered, items) = rows[n];
@@ -251,14 +251,14 @@ fn found(rows: &[Row], class: Class) -> Option<&'static [Item]>
 
 /// An item that is a word of its own: it takes this token, and nothing stands in its place.
 fn alone(lead: Class, class: Class) -> Option<&'static [Item]>
-    ensures { MatchOption result (row_for (lone_row lead) class ≡ None) (λ r. row_for (lone_row lead) class ≡ Some r.now) }
+    ensures { IsExpansion result (row_for (lone_row lead) class) }
 {
     if is_led(lead, class) { Some(&[]) } else { None }
 }
 
 /// The items that are awaited in this one's place after the token; None where the token is not awaited.
 pub fn takes(item: Item, class: Class) -> Option<&'static [Item]>
-    ensures { MatchOption result (takes_of item class ≡ None) (λ r. takes_of item class ≡ Some r.now) }
+    ensures { IsExpansion result (takes_of item class) }
 {
     match item {
         Item::Keyword(word) => alone(Class::Key(word), class),

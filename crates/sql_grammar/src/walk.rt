@@ -3,10 +3,10 @@
 //! Conditions of the calls: the text has at most 2^31 bytes, the tokens are the words of a statement from some offset of
 //! it, up to `;` or the text's end, and `first` is the number of one of them. None of them takes memory.
 
-ghost use Rattle.std.specs.Prelude.{◌≡◌, ℕ, ◌^◌, ◌<◌, ◌≤◌, length, drop, true, MatchOption};
+ghost use Rattle.std.specs.Prelude.{◌≡◌, ℕ, ◌^◌, ◌<◌, ◌≤◌, length, drop, true};
 ghost use Rattle.sql_lex.specs.Words.{AreWords};
 ghost use Rattle.sql_grammar.specs.Reading.{terminal_of, IsWithin, AreTokens};
-ghost use Rattle.sql_grammar.specs.Faults.{IsWhole, IsStatement, IsSelect, IsWindowed, IsCand, IsExpr, IsFirstFault, IsPartEnd};
+ghost use Rattle.sql_grammar.specs.Faults.{IsStatementFault, IsSelect, IsWindowed, IsCand, IsExpr, IsPartEnd};
 ghost use Rattle.sql_grammar.specs.Machine.{depth_of, Fits, is_closed};
 ghost use Rattle.sql_grammar.specs.Walk.{IsTaken, IsWalk};
 
@@ -79,7 +79,7 @@ pub fn statement_fault(text: &[u8], tokens: &Tokens, first: u32) -> Option<Fault
     requires short { length text.now ≤ 2 ^ 31 }
     requires words { (from : ℕ) × AreWords text.now from tokens.now }
     requires first { first < length tokens.now }
-    ensures { MatchOption result (IsWhole text.now (drop first tokens.now)) (λ f. IsFirstFault IsStatement text.now (drop first tokens.now) f) }
+    ensures { IsStatementFault text.now (drop first tokens.now) result }
 {
     match walk(text, tokens.items(), first, &[Item::Whole]) {
         Ok(_) => None,

@@ -1,10 +1,11 @@
 -- The matching index of least part for an arm of an OR clause (PostgreSQL, src/backend/optimizer/path/indxpath.c,
 -- generate_bitmap_or_paths; the least part is own).
-use Rattle.std.specs.Prelude.{◌≡◌, ◌≤◌, ℕ, List, cond, nat_le, Option, Some, None}
+use Rattle.std.specs.Prelude.{◌≡◌, ◌≤◌, ℕ, List, cond, nat_le, Option, Some, None, All, map}
 use Rattle.std.specs.List.{AllZip}
 use Rattle.pg_base.specs.declared.numbers.IndexNo.{IndexNo}
 use Rattle.pg_base.specs.declared.numbers.RelNo.{RelNo}
 use Rattle.pg_expr.specs.Cond.{Cond}
+use Rattle.pg_expr.specs.View as view
 use Rattle.catalog.specs.Contents.{Contents, index_at}
 use Rattle.sql_query.specs.Queries.{Query}
 use Rattle.cost_rules.specs.Costs.{capped}
@@ -13,6 +14,7 @@ use Rattle.index_match.specs.Numbered.{has_number}
 use Rattle.path_cost.specs.Costs.{arm_part}
 use Rattle.plan_tree.specs.Bitmaps.{MatchesArm}
 use Rattle.plan_tree.specs.Costs.{parts_of_arms, together}
+use Rattle.pg_expr.specs.declared.expr.Expr.{Expr}
 
 -- the lesser one by the number, the first where they tie
 abbrev pub lesser : Option (IndexNo × ℕ) → IndexNo → ℕ → Option (IndexNo × ℕ)
@@ -33,3 +35,11 @@ module _ (c : Contents) (q : Query) (r : RelNo) where
   pub record AreServed (arms : List Cond) (is : List IndexNo) (n : ℕ) : Type 0 where
     pub least : AllZip IsLeastMatch arms is
     pub part : n ≡ capped (together (parts_of_arms c q r arms is))
+
+  -- each of some arms is matched by some index
+  abbrev pub AreArmsMatched : List Expr → Type 0
+  AreArmsMatched es = All (λ (e : Expr). (i : IndexNo) × MatchesArm c q r.0 (view.cond e) i) es
+
+  -- so for the arms that expressions are
+  abbrev pub AreArmsServed : List Expr → List IndexNo → ℕ → Type 0
+  AreArmsServed es is n = AreServed (map view.cond es) is n

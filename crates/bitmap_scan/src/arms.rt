@@ -1,6 +1,6 @@
 //! The indexes of least part for the arms of an OR clause.
 
-ghost use Rattle.std.specs.Prelude.{◌≡◌, ◌<◌, ◌≤◌, ◌++◌, ◌∷◌, [], ℕ, List, All, IfOk, length, map};
+ghost use Rattle.std.specs.Prelude.{◌≡◌, ◌<◌, ◌≤◌, ◌++◌, ◌∷◌, [], ℕ, List, All, IfOk, length};
 ghost use Rattle.pg_base.specs.declared.limits.TheConstants.{MOST_ATOMS};
 ghost use Rattle.pg_base.specs.declared.numbers.IndexNo.{IndexNo};
 ghost use Rattle.pg_expr.specs.Columns.{atom_count};
@@ -14,7 +14,7 @@ ghost use Rattle.plan_tree.specs.Bitmaps.{MatchesArm, table_of_relation};
 ghost use Rattle.plan_tree.specs.Costs.{together};
 ghost use Rattle.plan_tree.specs.Reads.{IsOverTables};
 ghost use Rattle.bitmap_scan.specs.Arms as arms;
-ghost use Rattle.bitmap_scan.specs.Arms.{AreServed, IsLeastMatch, part_for};
+ghost use Rattle.bitmap_scan.specs.Arms.{IsLeastMatch, part_for, AreArmsMatched, AreArmsServed};
 
 use catalog::Catalog;
 use path_cost::{BITMAP_CHILD, MOST_COST};
@@ -95,8 +95,8 @@ pub(crate) fn least_matches(
     requires relation { r.0 < width q.now }
     requires over { All (λ (e : Expr). IsOver cat.now q.now.range (cond e)) arms.now }
     requires few { All (λ (e : Expr). atom_count (cond e) ≤ MOST_ATOMS) arms.now }
-    requires some { All (λ (e : Expr). (i : IndexNo) × MatchesArm cat.now q.now r.0 (cond e) i) arms.now }
-    ensures { IfOk result (λ found. AreServed cat.now q.now r (map cond arms.now) found.0.items found.1) }
+    requires some { AreArmsMatched cat.now q.now r arms.now }
+    ensures { IfOk result (λ found. AreArmsServed cat.now q.now r arms.now found.0.items found.1) }
 {
     let mut indexes = Vec::new(alloc);
     let mut sum = 0;

@@ -1,6 +1,6 @@
 //! Some of the elements together: what they use, their parts, and their tree.
 
-ghost use Rattle.std.specs.Prelude.{◌≡◌, ◌<◌, ◌≤◌, ◌&&◌, ◌||◌, ◌%◌, ◌↔◌, ℕ, IfOk, IsTrue, length, map, nat_eq, nat_lt};
+ghost use Rattle.std.specs.Prelude.{◌≡◌, ◌<◌, ◌≤◌, ◌↔◌, ℕ, IfOk, IsTrue, length, map};
 ghost use Rattle.std.specs.List.{list_any};
 ghost use Rattle.pg_base.specs.Sets.{has};
 ghost use Rattle.pg_expr.specs.AtomSets.{contains};
@@ -9,7 +9,7 @@ ghost use Rattle.plan_tree.specs.Costs.{together};
 ghost use Rattle.plan_tree.specs.Views.{bits};
 ghost use Rattle.bitmap_scan.specs.Chosen.{combined, marked};
 ghost use Rattle.plan_tree.specs.Space.{IsSameSet};
-ghost use Rattle.bitmap_scan.specs.ElementTrees.{named_in, tree_in};
+ghost use Rattle.bitmap_scan.specs.ElementTrees.{named_in, tree_in, named_with, marked_names, is_clause_used};
 
 use crate::arms::with_part;
 use crate::element_tree::{ElementTree, Marked};
@@ -41,7 +41,7 @@ pub(crate) fn chosen_by<'a>(
 
 /// The relations of a set, with those that an element names where the lowest digit of a number is 1.
 fn with_named(named: RelSet, e: &ElementTree, left: usize) -> RelSet
-    ensures { (k : ℕ) → has result.0 k ≡ has named.0 k || (nat_eq (left % 2) 1 && has e.now.named.0 k) }
+    ensures { (k : ℕ) → has result.0 k ≡ named_with named e.now left k }
 {
     if left % 2 == 1 {
         named.union(e.named)
@@ -65,7 +65,7 @@ fn named_by(kept: &[ElementTree], mask: usize) -> RelSet
 
 /// Whether the relations that the marked elements name are exactly those of `p`.
 pub(crate) fn are_named(m: Marked, p: RelSet) -> bool
-    ensures { IsTrue result ↔ IsSameSet (has p.0) (named_in (marked m.entry.mask m.entry.kept.now)) }
+    ensures { IsTrue result ↔ IsSameSet (has p.0) (marked_names m.entry) }
 {
     named_by(m.kept, m.mask) == p
 }
@@ -81,7 +81,7 @@ fn is_used(chosen: &[&ElementTree], n: u16) -> bool
 /// The clauses that some elements use.
 #[tactic(auto, using(eq_classes::proofs::WordLemmas::grows))]
 pub(crate) fn used_by(q: &Prepared, chosen: &[&ElementTree]) -> ClauseSet
-    ensures { (n : ℕ) → contains result n ≡ nat_lt n (length q.now.classes.clauses) && list_any (λ k. contains k.now.used n) chosen.now }
+    ensures { (n : ℕ) → contains result n ≡ is_clause_used q.now chosen.now n }
 {
     let mut set = ClauseSet::empty();
     for n in 0..classes_of(q).count() {

@@ -1,9 +1,8 @@
 //! The elements of bitmaps, each in its tree of least part.
 
-ghost use Rattle.std.specs.Prelude.{◌≡◌, ◌<◌, ℕ, All, IfOk, length, map, nat_eq};
+ghost use Rattle.std.specs.Prelude.{◌≡◌, ◌<◌, ℕ, All, IfOk, length, nat_eq};
 ghost use Rattle.pg_base.specs.Sets.{has};
 ghost use Rattle.pg_expr.specs.AtomSets.{contains};
-ghost use Rattle.std.specs.List.{AllZip};
 ghost use Rattle.catalog.specs.Contents.{IsIndex};
 ghost use Rattle.index_match.specs.Slots.{AreLocal};
 ghost use Rattle.sql_query.specs.Queries.{width};
@@ -11,7 +10,7 @@ ghost use Rattle.plan_tree.specs.Bitmaps.{IsMatchedOr, by_clause, by_index, cond
 ghost use Rattle.plan_tree.specs.Reads.{IsOverTables};
 ghost use Rattle.plan_tree.specs.Views.{element};
 ghost use Rattle.bitmap_scan.specs.Chosen.{IsLeastTree};
-ghost use Rattle.bitmap_scan.specs.ElementTrees.{IsKept, IsMade, tree_in};
+ghost use Rattle.bitmap_scan.specs.ElementTrees.{IsKept, IsMade, tree_in, HasLeastTree, HaveLeastTrees, AreKeptAt};
 
 use crate::arms::least_matches;
 use crate::element_tree::{ElementTree, Place};
@@ -28,7 +27,7 @@ fn keep_index(cat: &Catalog, q: &Prepared, at: Place, i: IndexNo) -> ElementTree
     requires relation { at.rel.0 < width q.now }
     requires local { AreLocal q.now.classes at.rel.0 (has at.param.0) (contains at.local.now) }
     requires index { IsIndex cat.now i }
-    ensures least { IsLeastTree cat.now q.now at.entry.rel at.entry.param (by_index i) (tree_in result) }
+    ensures least { HasLeastTree cat.now q.now at.entry (by_index i) result }
     ensures kept { IsKept cat.now q.now at.entry.rel at.entry.param result }
 {
     let found = index_served(cat, q, at.rel, at.param, i, at.local);
@@ -95,7 +94,7 @@ fn keep(
     requires relation { at.rel.0 < width q.now }
     requires local { AreLocal q.now.classes at.rel.0 (has at.param.0) (contains at.local.now) }
     requires made { IsMade cat.now q.now at.rel at.param (element e) }
-    ensures least { IfOk result (λ k. IsLeastTree cat.now q.now at.entry.rel at.entry.param (element e) (tree_in k)) }
+    ensures least { IfOk result (λ k. HasLeastTree cat.now q.now at.entry (element e) k) }
     ensures kept { IfOk result (λ k. IsKept cat.now q.now at.entry.rel at.entry.param k) }
 {
     match e {
@@ -116,8 +115,8 @@ pub(crate) fn keep_all(
     requires relation { at.rel.0 < width q.now }
     requires local { AreLocal q.now.classes at.rel.0 (has at.param.0) (contains at.local.now) }
     requires made { All (λ e. IsMade cat.now q.now at.rel at.param (element e)) elements.now }
-    ensures least { IfOk result (λ v. AllZip (IsLeastTree cat.now q.now at.entry.rel at.entry.param) (map element elements.now) (map tree_in v.items)) }
-    ensures kept { IfOk result (λ v. All (IsKept cat.now q.now at.entry.rel at.entry.param) v.items) }
+    ensures least { IfOk result (λ v. HaveLeastTrees cat.now q.now at.entry elements.now v.items) }
+    ensures kept { IfOk result (λ v. AreKeptAt cat.now q.now at.entry v.items) }
 {
     let mut kept = Vec::new(alloc);
     for e in elements {

@@ -1,17 +1,13 @@
 //! The bitmap scans that are offered to a front.
 
-ghost use Rattle.std.specs.Prelude.{◌≡◌, ◌<◌, ◌≤◌, ◌^◌, All, OnOk, length, map};
-ghost use Rattle.pg_base.specs.Sets.{has};
-ghost use Rattle.eq_classes.specs.Clauses.{one};
+ghost use Rattle.std.specs.Prelude.{◌≡◌, ◌<◌, ◌≤◌, ◌^◌, All, OnOk, map};
 ghost use Rattle.sql_query.specs.Queries.{width};
-ghost use Rattle.plan_tree.specs.Fronts.{AreDominated, AreOldOrOffers, ArePathsOf, HasDominating, StayDominated, is_bitmap};
-ghost use Rattle.plan_tree.specs.Least.{IsAdmissible};
-ghost use Rattle.plan_tree.specs.Plans.{bitmap};
+ghost use Rattle.plan_tree.specs.Fronts.{ArePathsOf, StayDominated, is_bitmap};
 ghost use Rattle.plan_tree.specs.Reads.{IsOverTables};
-ghost use Rattle.plan_tree.specs.Space.{IsPlanOf};
 ghost use Rattle.plan_tree.specs.Views.{path};
-ghost use Rattle.bitmap_scan.specs.Chosen.{AreChosen, combined, marked};
-ghost use Rattle.bitmap_scan.specs.ElementTrees.{IsKept, tree_in};
+ghost use Rattle.bitmap_scan.specs.Chosen.{AreChosen};
+ghost use Rattle.bitmap_scan.specs.ElementTrees.{IsKept, lent_trees, marked_trees, AreBitmapOffers, AreLentTogether, AreMarkedTogether};
+ghost use Rattle.plan_tree.specs.Lists.{AreScanOffers, AreDominatedBy};
 
 use crate::chosen::{are_named, chosen_by, combine, parts_together, used_by};
 use crate::element_tree::{ElementTree, Marked, Place};
@@ -46,13 +42,12 @@ fn offer_chosen(
 ) -> Result<(), Memory>
     requires query { IsOverTables cat.now q.now }
     requires relation { at.rel.0 < width q.now }
-    requires chosen { AreChosen cat.now q.now at.rel at.param (map (λ k. tree_in k.now) chosen.now) }
+    requires chosen { AreChosen cat.now q.now at.rel at.param (lent_trees chosen.now) }
     requires kept { All (λ k. IsKept cat.now q.now at.rel at.param k.now) chosen.now }
     requires paths { ArePathsOf cat.now q.now (map path front.old) }
     ensures paths { ArePathsOf cat.now q.now (map path front.new) }
-    ensures kept { AreOldOrOffers cat.now q.now is_bitmap (one at.entry.rel.0) (has at.entry.param.0) (map path front.old) (map path front.new) }
-    ensures dominated { let t = bitmap at.entry.rel at.entry.param (combined (map (λ k. tree_in k.now) chosen.now)) in
-        OnOk result (IsPlanOf cat.now q.now (one at.entry.rel.0) (has at.entry.param.0) t → IsAdmissible cat.now q.now t → HasDominating cat.now q.now (map path front.new) t) }
+    ensures kept { AreBitmapOffers cat.now q.now at.entry front.old front.new }
+    ensures dominated { OnOk result (AreLentTogether cat.now q.now at.entry chosen.now front.new) }
     ensures still { StayDominated cat.now q.now (map path front.old) (map path front.new) }
 {
     let (r, p) = (at.rel, at.param);
@@ -87,13 +82,12 @@ fn offer_marked(
 ) -> Result<(), Memory>
     requires query { IsOverTables cat.now q.now }
     requires relation { at.rel.0 < width q.now }
-    requires chosen { AreChosen cat.now q.now at.rel at.param (marked m.mask (map tree_in m.kept.now)) }
+    requires chosen { AreChosen cat.now q.now at.rel at.param (marked_trees m) }
     requires kept { All (IsKept cat.now q.now at.rel at.param) m.kept.now }
     requires paths { ArePathsOf cat.now q.now (map path front.old) }
     ensures paths { ArePathsOf cat.now q.now (map path front.new) }
-    ensures kept { AreOldOrOffers cat.now q.now is_bitmap (one at.entry.rel.0) (has at.entry.param.0) (map path front.old) (map path front.new) }
-    ensures dominated { let t = bitmap at.entry.rel at.entry.param (combined (marked m.entry.mask (map tree_in m.entry.kept.now))) in
-        OnOk result (IsPlanOf cat.now q.now (one at.entry.rel.0) (has at.entry.param.0) t → IsAdmissible cat.now q.now t → HasDominating cat.now q.now (map path front.new) t) }
+    ensures kept { AreBitmapOffers cat.now q.now at.entry front.old front.new }
+    ensures dominated { OnOk result (AreMarkedTogether cat.now q.now at.entry m.entry front.new) }
     ensures still { StayDominated cat.now q.now (map path front.old) (map path front.new) }
 {
     if !are_named(m, at.param) {
@@ -121,8 +115,8 @@ pub fn bitmaps(
     requires relation { r.0 < width q.now }
     requires paths { ArePathsOf cat.now q.now (map path front.old) }
     ensures paths { ArePathsOf cat.now q.now (map path front.new) }
-    ensures kept { AreOldOrOffers cat.now q.now is_bitmap (one r.0) (has p.0) (map path front.old) (map path front.new) }
-    ensures dominated { OnOk result (AreDominated cat.now q.now is_bitmap (one r.0) (has p.0) (map path front.new)) }
+    ensures kept { AreScanOffers cat.now q.now is_bitmap r p front.old front.new }
+    ensures dominated { OnOk result (AreDominatedBy cat.now q.now is_bitmap r p front.new) }
     ensures still { StayDominated cat.now q.now (map path front.old) (map path front.new) }
 {
     let local = local_clauses(classes_of(q), r, p);

@@ -19,9 +19,9 @@ ghost use Rattle.eq_classes.specs.Holding.{hold, Fits, IsClassTable, AreApart, I
 
 /// The clauses of all relations are True exactly where each condition as written is.
 pub fn clauses_mean_where()
-    ensures { (g : Premises) (t : Table) (ws : List Cond) (b : ColRef → Value) (set : Set) → IsClassTable g t →
-        g.conjuncts ≡ conjuncts_in ws → All (IsTyped g.type_of) ws → Fits g.type_of b → set 0 ≡ true →
-        All (λ w. each_column (λ x. set x.rel.0) w ≡ true) ws →
+    ensures { (g : Premises) (t : Table) (ws : List Cond) (b : ColRef → Value) (set : Set) →
+        IsClassTable g t → g.conjuncts ≡ conjuncts_in ws → All (IsTyped g.type_of) ws →
+        Fits g.type_of b → set 0 ≡ true → All (λ w. each_column (λ x. set x.rel.0) w ≡ true) ws →
         hold b (is_all set) t.clauses ≡ is_true (truth_of_all b (conds_of ws)) }
 {}
 
@@ -29,16 +29,16 @@ pub fn clauses_mean_where()
 pub fn clauses_split()
     ensures { (g : Premises) (t : Table) (b : ColRef → Value) (s u : Set) → IsClassTable g t →
         All (IsTyped g.type_of) g.conjuncts → Fits g.type_of b → AreApart s u →
-        hold b (is_all (union s u)) t.clauses ≡
-        hold b (is_all s) t.clauses && (hold b (is_all u) t.clauses && hold b (is_join s u) t.clauses) }
+        hold b (is_all (union s u)) t.clauses ≡ hold b (is_all s) t.clauses &&
+        (hold b (is_all u) t.clauses && hold b (is_join s u) t.clauses) }
 {}
 
 /// Where the clauses inside a set hold, those that join it with a relation are those that a scan of the relation with
 /// a parameter tests itself, and those that are left.
 pub fn params_split()
-    ensures { (g : Premises) (t : Table) (b : ColRef → Value) (s p : Set) (r : ℕ) → IsClassTable g t →
-        All (IsTyped g.type_of) g.conjuncts → Fits g.type_of b → IsWithin p s → s r ≡ false →
-        hold b (is_all s) t.clauses ≡ true →
+    ensures { (g : Premises) (t : Table) (b : ColRef → Value) (s p : Set) (r : ℕ) →
+        IsClassTable g t → All (IsTyped g.type_of) g.conjuncts → Fits g.type_of b → IsWithin p s →
+        s r ≡ false → hold b (is_all s) t.clauses ≡ true →
         hold b (is_join s (one r)) t.clauses ≡
         hold b (is_param r p) t.clauses && hold b (is_join_param s r p) t.clauses }
 {}
@@ -51,41 +51,44 @@ pub fn base_is_all()
 
 /// Each part reads columns of its relations alone.
 pub fn parts_are_local()
-    ensures all { (g : Premises) (t : Table) (b d : ColRef → Value) (s : Set) → IsClassTable g t → AgreeOn s b d →
-        hold b (is_all s) t.clauses ≡ hold d (is_all s) t.clauses }
-    ensures base { (g : Premises) (t : Table) (b d : ColRef → Value) (r : ℕ) → IsClassTable g t → AgreeOn (one r) b d →
-        hold b (is_base r) t.clauses ≡ hold d (is_base r) t.clauses }
-    ensures join { (g : Premises) (t : Table) (b d : ColRef → Value) (s u : Set) → IsClassTable g t →
-        AgreeOn (union s u) b d → hold b (is_join s u) t.clauses ≡ hold d (is_join s u) t.clauses }
-    ensures param { (g : Premises) (t : Table) (b d : ColRef → Value) (r : ℕ) (p : Set) → IsClassTable g t →
-        AgreeOn (union (one r) p) b d → hold b (is_param r p) t.clauses ≡ hold d (is_param r p) t.clauses }
-    ensures join_param { (g : Premises) (t : Table) (b d : ColRef → Value) (s p : Set) (r : ℕ) → IsClassTable g t →
-        AgreeOn (union s (one r)) b d →
+    ensures all { (g : Premises) (t : Table) (b d : ColRef → Value) (s : Set) → IsClassTable g t →
+        AgreeOn s b d → hold b (is_all s) t.clauses ≡ hold d (is_all s) t.clauses }
+    ensures base { (g : Premises) (t : Table) (b d : ColRef → Value) (r : ℕ) → IsClassTable g t →
+        AgreeOn (one r) b d → hold b (is_base r) t.clauses ≡ hold d (is_base r) t.clauses }
+    ensures join { (g : Premises) (t : Table) (b d : ColRef → Value) (s u : Set) →
+        IsClassTable g t → AgreeOn (union s u) b d →
+        hold b (is_join s u) t.clauses ≡ hold d (is_join s u) t.clauses }
+    ensures param { (g : Premises) (t : Table) (b d : ColRef → Value) (r : ℕ) (p : Set) →
+        IsClassTable g t → AgreeOn (union (one r) p) b d →
+        hold b (is_param r p) t.clauses ≡ hold d (is_param r p) t.clauses }
+    ensures join_param { (g : Premises) (t : Table) (b d : ColRef → Value) (s p : Set) (r : ℕ) →
+        IsClassTable g t → AgreeOn (union s (one r)) b d →
         hold b (is_join_param s r p) t.clauses ≡ hold d (is_join_param s r p) t.clauses }
 {}
 
 /// Where the clauses inside a set hold at two tuples, a class with a member inside a part of the set compares them alike
 /// by its first member inside the part and by that inside the set.
 pub fn classes_compare_alike()
-    ensures { (g : Premises) (t : Table) (b d : ColRef → Value) (part set : Set) (c : Class) (x y : ColRef) → IsClassTable g t →
-        All (IsTyped g.type_of) g.conjuncts → Fits g.type_of b → Fits g.type_of d → IsWithin part set →
-        hold b (is_all set) t.clauses ≡ true → hold d (is_all set) t.clauses ≡ true → HasClass t c →
-        first_in c part ≡ Some x → first_in c set ≡ Some y →
-        compared c.family (b x) (d x) ≡ compared c.family (b y) (d y) }
+    ensures { (g : Premises) (t : Table) (b d : ColRef → Value) (part set : Set) (c : Class)
+        (x y : ColRef) → IsClassTable g t → All (IsTyped g.type_of) g.conjuncts → Fits g.type_of b →
+        Fits g.type_of d → IsWithin part set → hold b (is_all set) t.clauses ≡ true →
+        hold d (is_all set) t.clauses ≡ true → HasClass t c → first_in c part ≡ Some x →
+        first_in c set ≡ Some y → compared c.family (b x) (d x) ≡ compared c.family (b y) (d y) }
 {}
 
 /// Where the clauses inside a set hold, two members of a class there are one column or equal values, and tuples agree
 /// on each member of a class that has a constant.
 pub fn members_tie()
-    ensures same { (g : Premises) (t : Table) (b : ColRef → Value) (set : Set) (c : Class) (x y : ColRef) → IsClassTable g t →
-        All (IsTyped g.type_of) g.conjuncts → Fits g.type_of b → hold b (is_all set) t.clauses ≡ true → HasClass t c →
-        has_member c x ≡ true → has_member c y ≡ true → set x.rel.0 ≡ true → set y.rel.0 ≡ true →
+    ensures same { (g : Premises) (t : Table) (b : ColRef → Value) (set : Set) (c : Class)
+        (x y : ColRef) → IsClassTable g t → All (IsTyped g.type_of) g.conjuncts → Fits g.type_of b →
+        hold b (is_all set) t.clauses ≡ true → HasClass t c → has_member c x ≡ true →
+        has_member c y ≡ true → set x.rel.0 ≡ true → set y.rel.0 ≡ true →
         (x ≡ y) ⊎ (are_equal c.family (b x) (b y) ≡ true) }
-    ensures constant { (g : Premises) (t : Table) (b d : ColRef → Value) (set : Set) (c : Class) (x : ColRef) →
-        IsClassTable g t → All (IsTyped g.type_of) g.conjuncts → Fits g.type_of b → Fits g.type_of d →
-        hold b (is_all set) t.clauses ≡ true → hold d (is_all set) t.clauses ≡ true → HasClass t c →
-        has_constant c ≡ true → has_member c x ≡ true → set x.rel.0 ≡ true →
-        are_equal c.family (b x) (d x) ≡ true }
+    ensures constant { (g : Premises) (t : Table) (b d : ColRef → Value) (set : Set) (c : Class)
+        (x : ColRef) → IsClassTable g t → All (IsTyped g.type_of) g.conjuncts → Fits g.type_of b →
+        Fits g.type_of d → hold b (is_all set) t.clauses ≡ true →
+        hold d (is_all set) t.clauses ≡ true → HasClass t c → has_constant c ≡ true →
+        has_member c x ≡ true → set x.rel.0 ≡ true → are_equal c.family (b x) (d x) ≡ true }
 {}
 
 /// The conjuncts of conditions as written are well typed where these are, name columns that pass a test where theirs do, and
@@ -93,7 +96,8 @@ pub fn members_tie()
 pub fn conjuncts_are_over()
     ensures typed { (ws : List Cond) (type_of : ColRef → SqlType) → All (IsTyped type_of) ws →
         All (IsTyped type_of) (conjuncts_in ws) }
-    ensures columns { (ws : List Cond) (test : ColRef → Bool) → All (λ w. each_column test w ≡ true) ws →
+    ensures columns { (ws : List Cond) (test : ColRef → Bool) →
+        All (λ w. each_column test w ≡ true) ws →
         All (λ k. each_column test k ≡ true) (conjuncts_in ws) }
     ensures atoms { (ws : List Cond) (most : ℕ) → All (λ w. atom_count w ≤ most) ws →
         All (λ k. atom_count k ≤ most) (conjuncts_in ws) }
@@ -102,19 +106,22 @@ pub fn conjuncts_are_over()
 /// Each clause is well typed where the conjuncts are, names columns that pass a test where those of the conjuncts and of ORDER BY
 /// do, and has no more atoms than a conjunct may have, which is one at least.
 pub fn clauses_are_over()
-    ensures typed { (g : Premises) (t : Table) → IsClassTable g t → All (IsTyped g.type_of) g.conjuncts →
+    ensures typed { (g : Premises) (t : Table) → IsClassTable g t →
+        All (IsTyped g.type_of) g.conjuncts →
         All (λ (k : Clause). IsTyped g.type_of k.cond) t.clauses }
     ensures columns { (g : Premises) (t : Table) (test : ColRef → Bool) → IsClassTable g t →
         All (λ k. each_column test k ≡ true) g.conjuncts → All (λ i. test i.col ≡ true) g.order →
         All (λ (k : Clause). each_column test k.cond ≡ true) t.clauses }
     ensures atoms { (g : Premises) (t : Table) (most : ℕ) → IsClassTable g t → 1 ≤ most →
-        All (λ k. atom_count k ≤ most) g.conjuncts → All (λ (k : Clause). atom_count k.cond ≤ most) t.clauses }
+        All (λ k. atom_count k ≤ most) g.conjuncts →
+        All (λ (k : Clause). atom_count k.cond ≤ most) t.clauses }
 {}
 
 /// A column is in one class of a family at most.
 pub fn classes_are_apart()
-    ensures { (g : Premises) (t : Table) (m : Mention) (k l : ℕ) → IsClassTable g t → k < length t.classes →
-        l < length t.classes → is_in (class_at t.classes k) m ≡ true → is_in (class_at t.classes l) m ≡ true → k ≡ l }
+    ensures { (g : Premises) (t : Table) (m : Mention) (k l : ℕ) → IsClassTable g t →
+        k < length t.classes → l < length t.classes → is_in (class_at t.classes k) m ≡ true →
+        is_in (class_at t.classes l) m ≡ true → k ≡ l }
 {}
 
 /// Conjuncts and an ORDER BY have one table.

@@ -18,14 +18,15 @@ ghost use Rattle.plan_laws.specs.Moved.{HasNoPlan, HasPrice, Moves, added_from, 
 
 /// The estimated rows after conditions read no index.
 pub fn estimates_read_no_index()
-    ensures { (tables : List TableDef) (a b : List NamedIndex) (range : Range) (n : ℕ) (es : List Cond) →
-        kept (over tables b) range n es ≡ kept (over tables a) range n es }
+    ensures { (tables : List TableDef) (a b : List NamedIndex) (range : Range) (n : ℕ)
+        (es : List Cond) → kept (over tables b) range n es ≡ kept (over tables a) range n es }
 {}
 
 /// What a scan by an index costs reads the definition of the index, not its number.
 pub fn scans_read_definitions()
-    ensures { (tables : List TableDef) (a b : List NamedIndex) (i j : IndexNo) → index_at (over tables b) j ≡ index_at (over tables a) i →
-        (q : Query) (r : RelNo) (p : RelSet) (only : Bool) →
+    ensures { (tables : List TableDef) (a b : List NamedIndex) (i j : IndexNo) →
+        index_at (over tables b) j ≡ index_at (over tables a) i → (q : Query) (r : RelNo)
+        (p : RelSet) (only : Bool) →
         scan_cost (over tables b) q r j p only ≡ scan_cost (over tables a) q r i p only }
 {}
 
@@ -33,26 +34,31 @@ pub fn scans_read_definitions()
 /// takes finished plans to finished plans of the same cost and price; where one goes back, plans of the least price to
 /// plans of the least price.
 pub fn finished_plans_move()
-    ensures finished { (tables : List TableDef) (a b : List NamedIndex) (q : Query) (f : IndexNo → IndexNo) →
-        Moves (over tables a) (over tables b) q f → (p : Plan) → IsFinished (over tables a) q p →
-        IsFinished (over tables b) q (moved f p) }
-    ensures price { (tables : List TableDef) (a b : List NamedIndex) (q : Query) (f : IndexNo → IndexNo) →
-        Moves (over tables a) (over tables b) q f → (p : Plan) → IsFinished (over tables a) q p →
+    ensures finished { (tables : List TableDef) (a b : List NamedIndex) (q : Query)
+        (f : IndexNo → IndexNo) → Moves (over tables a) (over tables b) q f → (p : Plan) →
+        IsFinished (over tables a) q p → IsFinished (over tables b) q (moved f p) }
+    ensures price { (tables : List TableDef) (a b : List NamedIndex) (q : Query)
+        (f : IndexNo → IndexNo) → Moves (over tables a) (over tables b) q f → (p : Plan) →
+        IsFinished (over tables a) q p →
         price (over tables b) q (moved f p) ≡ price (over tables a) q p }
-    ensures best { (tables : List TableDef) (a b : List NamedIndex) (q : Query) (f g : IndexNo → IndexNo) →
-        Moves (over tables a) (over tables b) q f → Moves (over tables b) (over tables a) q g →
-        (p : Plan) → IsBestPlan (over tables a) q p → IsBestPlan (over tables b) q (moved f p) }
+    ensures best { (tables : List TableDef) (a b : List NamedIndex) (q : Query)
+        (f g : IndexNo → IndexNo) → Moves (over tables a) (over tables b) q f →
+        Moves (over tables b) (over tables a) q g → (p : Plan) → IsBestPlan (over tables a) q p →
+        IsBestPlan (over tables b) q (moved f p) }
 {}
 
 /// The least price of a query, or that it has none, reads the indexes on its tables alone: it is the same over two lists
 /// of indexes that have the same ones on these, in the same order. So of a set of candidates added behind the indexes
 /// only those on its tables count.
 pub fn prices_read_the_tables_of_the_query()
-    ensures price { (tables : List TableDef) (q : Query) (a b : List NamedIndex) → filter (is_read q) a ≡ filter (is_read q) b →
-        (n : ℕ) → HasPrice (over tables a) q n → HasPrice (over tables b) q n }
-    ensures none { (tables : List TableDef) (q : Query) (a b : List NamedIndex) → filter (is_read q) a ≡ filter (is_read q) b →
-        HasNoPlan (over tables a) q → HasNoPlan (over tables b) q }
-    ensures candidates { (q : Query) (indexes candidates : List NamedIndex) (set concerned : ℕ → Bool) →
+    ensures price { (tables : List TableDef) (q : Query) (a b : List NamedIndex) →
+        filter (is_read q) a ≡ filter (is_read q) b → (n : ℕ) → HasPrice (over tables a) q n →
+        HasPrice (over tables b) q n }
+    ensures none { (tables : List TableDef) (q : Query) (a b : List NamedIndex) →
+        filter (is_read q) a ≡ filter (is_read q) b → HasNoPlan (over tables a) q →
+        HasNoPlan (over tables b) q }
+    ensures candidates { (q : Query) (indexes candidates : List NamedIndex)
+        (set concerned : ℕ → Bool) →
         ((k : ℕ) → k < length candidates → concerned k ≡ is_read q (slice_index_or candidates k no_index)) →
         filter (is_read q) (indexes ++ added_from 0 set candidates) ≡
         filter (is_read q) (indexes ++ added_from 0 (λ k. set k && concerned k) candidates) }
@@ -60,7 +66,8 @@ pub fn prices_read_the_tables_of_the_query()
 
 /// A query well bound over some tables is well bound over them whatever indexes there are.
 pub fn well_bound_queries_read_no_index()
-    ensures { (tables : List TableDef) (a b : List NamedIndex) (q : Query) → IsWellBound (over tables a) q → IsWellBound (over tables b) q }
+    ensures { (tables : List TableDef) (a b : List NamedIndex) (q : Query) →
+        IsWellBound (over tables a) q → IsWellBound (over tables b) q }
 {}
 
 /// A query has no two least prices, and none where no finished plan is admissible.

@@ -14,25 +14,29 @@ ghost use Rattle.plan_laws.specs.Useful.{HasEnough, IsBelow, IsClosedBelow, IsLe
 /// Where some plans dominate each admissible scan and each admissible join of their own, they dominate each admissible
 /// plan of the space that is no sort.
 pub fn admissible_plans_are_dominated()
-    ensures { (c : Contents) (q : Query) (kept : List Plan) → HaveRows c q → IsClosed c q (Contains kept) →
-        (t : Plan) → IsBuilt c q t → is_sort t ≡ false → IsAdmissible c q t → IsUndercut c q (Contains kept) t }
+    ensures { (c : Contents) (q : Query) (kept : List Plan) → HaveRows c q →
+        IsClosed c q (Contains kept) → (t : Plan) → IsBuilt c q t → is_sort t ≡ false →
+        IsAdmissible c q t → IsUndercut c q (Contains kept) t }
 {}
 
 /// Where some plans suffice for each scan and each join of their own below a limit, they suffice for each plan of the
 /// space below it that is no sort.
 pub fn kept_plans_suffice()
-    ensures { (c : Contents) (q : Query) (every : Bool) (kept : List Plan) (limit : ℕ) → HaveRows c q → IsClosedBelow c q every (Contains kept) limit →
-        (t : Plan) → IsBuilt c q t → is_sort t ≡ false → IsBelow c q limit t → HasEnough c q every (Contains kept) limit t }
+    ensures { (c : Contents) (q : Query) (every : Bool) (kept : List Plan) (limit : ℕ) →
+        HaveRows c q → IsClosedBelow c q every (Contains kept) limit → (t : Plan) → IsBuilt c q t →
+        is_sort t ≡ false → IsBelow c q limit t → HasEnough c q every (Contains kept) limit t }
 {}
 
 /// Where every list of keys counts, a plan suffices for another exactly where it dominates it.
 pub fn sufficing_by_every_list_is_domination()
-    ensures { (c : Contents) (q : Query) (p other : Plan) → Suffices c q true p other ↔ Dominates c q p other }
+    ensures { (c : Contents) (q : Query) (p other : Plan) →
+        Suffices c q true p other ↔ Dominates c q p other }
 {}
 
 /// Of plans that are kept below a limit, a finished one of no greater price than any other, and of a price below the
 /// limit, is of no greater price than any admissible finished plan.
 pub fn least_kept_plan_is_least()
-    ensures { (c : Contents) (q : Query) (every : Bool) (kept : List Plan) (limit : ℕ) → HaveRows c q → IsClosedBelow c q every (Contains kept) limit →
-        (b : Plan) → IsLeastKept c q (Contains kept) b → price c q b < limit → IsLeast c q b }
+    ensures { (c : Contents) (q : Query) (every : Bool) (kept : List Plan) (limit : ℕ) →
+        HaveRows c q → IsClosedBelow c q every (Contains kept) limit → (b : Plan) →
+        IsLeastKept c q (Contains kept) b → price c q b < limit → IsLeast c q b }
 {}

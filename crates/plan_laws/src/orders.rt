@@ -14,12 +14,13 @@ ghost use Rattle.plan_tree.specs.Space.{IsBuilt, IsFinished};
 
 /// A plan's tuples are sorted by the plan's keys.
 pub fn plans_are_sorted()
-    ensures { (w : World) (q : Query) (p : Plan) (o : Tuple) → IsWorld w → IsWellBound w.contents q →
-        IsBuilt w.contents q p → AreSorted w q (set_of p) (keys_of w.contents q p) (run w q p o) }
+    ensures { (w : World) (q : Query) (p : Plan) (o : Tuple) → IsWorld w →
+        IsWellBound w.contents q → IsBuilt w.contents q p →
+        AreSorted w q (set_of p) (keys_of w.contents q p) (run w q p o) }
 {}
 
 /// A finished plan's tuples are in the query's ORDER BY, item by item as written.
 pub fn finished_plans_are_ordered()
-    ensures { (w : World) (q : Query) (p : Plan) → IsWorld w → IsWellBound w.contents q → IsFinished w.contents q p →
-        IsOrdered w q (run w q p (no_rows q)) }
+    ensures { (w : World) (q : Query) (p : Plan) → IsWorld w → IsWellBound w.contents q →
+        IsFinished w.contents q p → IsOrdered w q (run w q p (no_rows q)) }
 {}

@@ -1,17 +1,17 @@
 //! Scans of a relation by an index, offered to a front.
 
-ghost use Rattle.std.specs.Prelude.{◌≡◌, ◌<◌, ◌↔◌, Bool, true, false, IfOk, IsTrue, OnOk, map};
+ghost use Rattle.std.specs.Prelude.{◌≡◌, ◌<◌, ◌↔◌, true, false, IfOk, IsTrue, OnOk, map};
 ghost use Rattle.pg_base.specs.Sets.{has};
 ghost use Rattle.catalog.specs.Contents.{IsIndex, index_at};
 ghost use Rattle.index_match.specs.Conditions.{is_hash};
 ghost use Rattle.sql_query.specs.Queries.{width};
 ghost use Rattle.plan_tree.specs.Bitmaps.{IsIndexOn};
-ghost use Rattle.plan_tree.specs.Fronts.{ArePathsOf, IsServed};
-ghost use Rattle.plan_tree.specs.Keys as keys;
+ghost use Rattle.plan_tree.specs.Fronts.{ArePathsOf};
 ghost use Rattle.plan_tree.specs.Reads.{IsOverTables};
 ghost use Rattle.plan_tree.specs.Space.{IsBuilt, may_go};
 ghost use Rattle.plan_tree.specs.Views.{path, plan};
-ghost use Rattle.scan_paths.specs.Scans.{IsIndexServed, TakesScans, tree_of};
+ghost use Rattle.scan_paths.specs.Scans.{tree_of, OffersScans, AreWaysServed, IsIndexServedBy, scan_keys_of};
+ghost use Rattle.plan_tree.specs.Lists.{IsServedBy};
 
 use catalog::Catalog;
 use opfamily::Method;
@@ -69,7 +69,7 @@ fn keys_of(
     backward: bool,
 ) -> Result<Keys, Memory>
     requires index { IsIndex cat.now s.index }
-    ensures keys { IfOk result (λ ks. ks ≡ keys.scan_keys cat.now q.now s.rel s.index backward s.param) }
+    ensures keys { IfOk result (λ ks. ks ≡ scan_keys_of cat.now q.now s backward) }
 {
     if s.param.0 == 0 {
         index_keys(
@@ -98,8 +98,8 @@ fn offer(
     requires query { IsOverTables cat.now q.now }
     requires built { IsBuilt cat.now q.now (tree_of s backward) }
     requires paths { ArePathsOf cat.now q.now (map path front.old) }
-    ensures takes { TakesScans cat.now q.now s.rel s.param (map path front.old) (map path front.new) }
-    ensures served { OnOk result (IsServed cat.now q.now (map path front.new) (tree_of s backward)) }
+    ensures takes { OffersScans cat.now q.now s.rel s.param front.old front.new }
+    ensures served { OnOk result (IsServedBy cat.now q.now front.new (tree_of s backward)) }
 {
     let keys = keys_of(alloc, cat, q, s, backward)?;
     let cost = index_scan_cost(cat, q, s.rel, s.index, s.param, s.only);
@@ -137,8 +137,8 @@ fn offer_ways(
     requires query { IsOverTables cat.now q.now }
     requires built { IsBuilt cat.now q.now (tree_of s false) }
     requires paths { ArePathsOf cat.now q.now (map path front.old) }
-    ensures takes { TakesScans cat.now q.now s.rel s.param (map path front.old) (map path front.new) }
-    ensures served { OnOk result ((backward : Bool) → IsServed cat.now q.now (map path front.new) (tree_of s backward)) }
+    ensures takes { OffersScans cat.now q.now s.rel s.param front.old front.new }
+    ensures served { OnOk result (AreWaysServed cat.now q.now s front.new) }
 {
     offer(alloc, cat, q, s, false, front)?;
     if goes_back(cat, s) {
@@ -173,8 +173,8 @@ fn offer_kind(
     requires relation { s.rel.0 < width q.now }
     requires index { IsIndexOn cat.now q.now s.rel.0 s.index }
     requires paths { ArePathsOf cat.now q.now (map path front.old) }
-    ensures takes { TakesScans cat.now q.now s.rel s.param (map path front.old) (map path front.new) }
-    ensures served { OnOk result ((backward : Bool) → IsServed cat.now q.now (map path front.new) (tree_of s backward)) }
+    ensures takes { OffersScans cat.now q.now s.rel s.param front.old front.new }
+    ensures served { OnOk result (AreWaysServed cat.now q.now s front.new) }
 {
     if is_in_space(cat, q, s) {
         offer_ways(alloc, cat, q, s, front)?;
@@ -196,8 +196,8 @@ pub(crate) fn offer_by_index(
     requires index { IsIndexOn cat.now q.now s.rel.0 s.index }
     requires fetching { s.only ≡ false }
     requires paths { ArePathsOf cat.now q.now (map path front.old) }
-    ensures takes { TakesScans cat.now q.now s.rel s.param (map path front.old) (map path front.new) }
-    ensures served { OnOk result (IsIndexServed cat.now q.now s.rel s.param (map path front.new) s.index) }
+    ensures takes { OffersScans cat.now q.now s.rel s.param front.old front.new }
+    ensures served { OnOk result (IsIndexServedBy cat.now q.now s front.new) }
 {
     if !is_in_space(cat, q, s) {
         return Ok(());

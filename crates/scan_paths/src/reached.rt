@@ -1,17 +1,16 @@
 //! The relations whose rows the scans by each index of a relation may be given.
 
-ghost use Rattle.std.specs.Prelude.{◌≡◌, ◌<◌, ◌&&◌, ℕ, All, IfOk, length, nat_lt};
+ghost use Rattle.std.specs.Prelude.{◌≡◌, ◌<◌, ℕ, All, IfOk, length};
 ghost use Rattle.pg_base.specs.Sets.{has};
 ghost use Rattle.pg_expr.specs.AtomSets.{contains};
 ghost use Rattle.pg_expr.specs.View.{cond};
-ghost use Rattle.catalog.specs.Contents.{IsIndex, index_at};
+ghost use Rattle.catalog.specs.Contents.{IsIndex};
 ghost use Rattle.catalog.specs.Entries.{index_of};
-ghost use Rattle.eq_classes.specs.Listing.{clause_at};
 ghost use Rattle.index_match.specs.Conditions as forms;
 ghost use Rattle.sql_query.specs.Queries.{width};
 ghost use Rattle.plan_tree.specs.Bitmaps.{IsIndexOn};
 ghost use Rattle.plan_tree.specs.Reads.{IsOverTables};
-ghost use Rattle.scan_paths.specs.Reached.{AreReached, AreReachedBy, IsReach};
+ghost use Rattle.scan_paths.specs.Reached.{AreReached, AreReachedBy, IsReach, may_use_at, is_clause_of_use};
 
 use crate::relation_scans::table_of;
 use catalog::{Catalog, IndexDef};
@@ -43,7 +42,7 @@ fn may_use(def: &IndexDef, r: RelNo, e: &Expr) -> bool
 fn may_use_clause(cat: &Catalog, q: &Prepared, r: RelNo, i: IndexNo, n: u16) -> bool
     requires index { IsIndex cat.now i }
     requires clause { n < length q.now.classes.clauses }
-    ensures { result ≡ forms.is_condition (index_at cat.now i) r.0 (clause_at q.now.classes.clauses n).cond }
+    ensures { result ≡ may_use_at cat.now q.now r i n }
 {
     may_use(cat.index(i), r, classes_of(q).clause(n))
 }
@@ -52,7 +51,7 @@ fn may_use_clause(cat: &Catalog, q: &Prepared, r: RelNo, i: IndexNo, n: u16) -> 
 #[tactic(auto, using(eq_classes::proofs::WordLemmas::grows))]
 fn clauses_of_use(cat: &Catalog, q: &Prepared, r: RelNo, i: IndexNo) -> ClauseSet
     requires index { IsIndex cat.now i }
-    ensures { (j : ℕ) → contains result j ≡ nat_lt j (length q.now.classes.clauses) && forms.is_condition (index_at cat.now i) r.0 (clause_at q.now.classes.clauses j).cond }
+    ensures { (j : ℕ) → contains result j ≡ is_clause_of_use cat.now q.now r i j }
 {
     let mut set = ClauseSet::empty();
     for n in 0..classes_of(q).count() {

@@ -1,17 +1,16 @@
 //! All scans of a relation but those by a bitmap.
 
-ghost use Rattle.std.specs.Prelude.{◌≡◌, ◌<◌, ℕ, false, All, OnOk, map};
+ghost use Rattle.std.specs.Prelude.{◌≡◌, ◌<◌, false, All, OnOk, map};
 ghost use Rattle.pg_base.specs.Sets.{has};
 ghost use Rattle.catalog.specs.Contents.{IsTable};
-ghost use Rattle.eq_classes.specs.Clauses.{one};
 ghost use Rattle.sql_query.specs.Queries.{width};
 ghost use Rattle.plan_tree.specs.Bitmaps.{IsIndexOn, table_of_relation};
-ghost use Rattle.plan_tree.specs.Fronts.{AreDominated, AreOldOrOffers, ArePathsOf, IsServed, StayDominated, is_no_bitmap};
-ghost use Rattle.plan_tree.specs.Plans as plans;
+ghost use Rattle.plan_tree.specs.Fronts.{ArePathsOf, StayDominated, is_no_bitmap};
 ghost use Rattle.plan_tree.specs.Reads.{IsOverTables};
 ghost use Rattle.plan_tree.specs.Views.{path};
 ghost use Rattle.scan_paths.specs.Reached.{AreReached, IsReach, IsReached};
-ghost use Rattle.scan_paths.specs.Scans.{AreIndexesServed, IsIndexServed, TakesScans};
+ghost use Rattle.scan_paths.specs.Scans.{OffersScans, IsIndexServedBy, AreAllServed, IsSeqServed};
+ghost use Rattle.plan_tree.specs.Lists.{AreScanOffers, AreDominatedBy};
 
 use crate::index_scans::{ByIndex, offer_by_index};
 use crate::reached::{Reached, indexes_reached};
@@ -35,8 +34,8 @@ fn offer_seq(
     requires query { IsOverTables cat.now q.now }
     requires relation { r.0 < width q.now }
     requires paths { ArePathsOf cat.now q.now (map path front.old) }
-    ensures takes { TakesScans cat.now q.now r p (map path front.old) (map path front.new) }
-    ensures served { OnOk result (((k : ℕ) → has p.0 k ≡ false) → IsServed cat.now q.now (map path front.new) (plans.seq r)) }
+    ensures takes { OffersScans cat.now q.now r p front.old front.new }
+    ensures served { OnOk result (IsSeqServed cat.now q.now r p front.new) }
 {
     if !p.is_empty() {
         return Ok(());
@@ -71,8 +70,8 @@ fn offer_reached(
     requires reach { IsReach cat.now q.now s.rel s.index (has others.0) }
     requires fetching { s.only ≡ false }
     requires paths { ArePathsOf cat.now q.now (map path front.old) }
-    ensures takes { TakesScans cat.now q.now s.rel s.param (map path front.old) (map path front.new) }
-    ensures served { OnOk result (IsIndexServed cat.now q.now s.rel s.param (map path front.new) s.index) }
+    ensures takes { OffersScans cat.now q.now s.rel s.param front.old front.new }
+    ensures served { OnOk result (IsIndexServedBy cat.now q.now s front.new) }
 {
     if !s.param.within(others) {
         return Ok(());
@@ -100,8 +99,8 @@ fn offer_by_each(
     requires relation { at.rel.0 < width q.now }
     requires indexes { All (IsReached cat.now q.now at.rel) indexes.now }
     requires paths { ArePathsOf cat.now q.now (map path front.old) }
-    ensures takes { TakesScans cat.now q.now at.rel at.param (map path front.old) (map path front.new) }
-    ensures served { OnOk result (AreIndexesServed cat.now q.now at.rel at.param (map path front.new) indexes.now) }
+    ensures takes { OffersScans cat.now q.now at.rel at.param front.old front.new }
+    ensures served { OnOk result (AreAllServed cat.now q.now at front.new indexes.now) }
 {
     for x in indexes {
         let s = ByIndex {
@@ -129,8 +128,8 @@ pub fn scans_by(
     requires indexes { AreReached cat.now q.now at.0 indexes.now }
     requires paths { ArePathsOf cat.now q.now (map path front.old) }
     ensures paths { ArePathsOf cat.now q.now (map path front.new) }
-    ensures kept { AreOldOrOffers cat.now q.now is_no_bitmap (one at.0.0) (has at.1.0) (map path front.old) (map path front.new) }
-    ensures dominated { OnOk result (AreDominated cat.now q.now is_no_bitmap (one at.0.0) (has at.1.0) (map path front.new)) }
+    ensures kept { AreScanOffers cat.now q.now is_no_bitmap at.0 at.1 front.old front.new }
+    ensures dominated { OnOk result (AreDominatedBy cat.now q.now is_no_bitmap at.0 at.1 front.new) }
     ensures still { StayDominated cat.now q.now (map path front.old) (map path front.new) }
 {
     let (r, p) = at;
@@ -156,8 +155,8 @@ pub fn scans(
     requires relation { r.0 < width q.now }
     requires paths { ArePathsOf cat.now q.now (map path front.old) }
     ensures paths { ArePathsOf cat.now q.now (map path front.new) }
-    ensures kept { AreOldOrOffers cat.now q.now is_no_bitmap (one r.0) (has p.0) (map path front.old) (map path front.new) }
-    ensures dominated { OnOk result (AreDominated cat.now q.now is_no_bitmap (one r.0) (has p.0) (map path front.new)) }
+    ensures kept { AreScanOffers cat.now q.now is_no_bitmap r p front.old front.new }
+    ensures dominated { OnOk result (AreDominatedBy cat.now q.now is_no_bitmap r p front.new) }
     ensures still { StayDominated cat.now q.now (map path front.old) (map path front.new) }
 {
     let indexes = indexes_reached(alloc, cat, q, r)?;

@@ -139,6 +139,10 @@ pub record BoundLists : Type 0 where
   pub order : List OrderItem
   pub keys : List ColRef
 
+-- the words at which bound lists are at fault where they are not grouped, those of ORDER BY beside their last words
+abbrev pub ungrouped_words : BoundLists → List Token → List Token
+ungrouped_words l words = filter_map (ungrouped_part l.keys) l.parts ++ ungrouped_items l.keys l.order words
+
 -- the list that is shown, then ORDER BY, then GROUP BY, then what is not grouped
 abbrev pub lists_bound : Scope → (ColRef → SqlType) → List GroupedItem → GroupBy → OrderBy → Result BoundLists Fault
 lists_bound scope type_of items groups order =

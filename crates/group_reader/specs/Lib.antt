@@ -5,3 +5,4 @@ pub mod Meaning
 pub mod Adds
 pub mod Seen
 pub mod Selected
+pub mod Reads

@@ -1,5 +1,6 @@
 -- What contracts see of the parts of a grouped query (own).
-use Rattle.std.specs.Prelude.{◌≡◌, List, [], ◌∷◌, ◌++◌, map, Option, Some, None}
+use Rattle.std.specs.Prelude.{◌≡◌, List, [], ◌∷◌, ◌++◌, map, Option, Some, None, Result}
+use Rattle.pg_base.specs.declared.faults.Fault.{Fault}
 use Rattle.pg_expr.specs.declared.operand.ColRef.{ColRef}
 use Rattle.pg_expr.specs.Cond.{Cond}
 use Rattle.catalog.specs.Range.{Range, type_in}
@@ -7,10 +8,12 @@ use Rattle.eq_classes.specs.Classes.{conjuncts_in}
 use Rattle.eq_classes.specs.Holding.{IsClassTable}
 use Rattle.sql_query.specs.Grouped.{GroupedQuery}
 use Rattle.group_query.specs.Grouping.{plain_item}
-use Rattle.query_reader.specs.Scope.{Sight}
+use Rattle.query_reader.specs.Scope.{Sight, visible_in}
 use Rattle.group_reader.specs.declared.group.Ready.{Ready}
 use Rattle.group_reader.specs.declared.lists.Lists.{Lists}
+use Rattle.group_reader.specs.declared.written.Words.{Words}
 use Rattle.group_reader.specs.Binding.{BoundLists, item_in, named_in_lists}
+use Rattle.group_reader.specs.Meaning.{lists_said}
 
 -- bound lists
 abbrev pub lists_of : Lists → BoundLists
@@ -36,3 +39,7 @@ grouped_of range ws r = record {
   items = r.items.items;
   order = r.lists.order.items;
 }
+
+-- the lists of some words, bound over relations, or their first fault
+abbrev pub words_said : Sight → Words → Result BoundLists Fault
+words_said s w = lists_said (visible_in s) (type_in s.contents s.range) w.listed.items w.columns.items w.sorts.items

@@ -1,5 +1,5 @@
 -- A SELECT of either form that is read. Own.
-use Rattle.std.specs.Prelude.{◌≡◌, ◌⊎◌, ℕ, List, drop, All, Result, Ok, Err}
+use Rattle.std.specs.Prelude.{◌≡◌, ◌⊎◌, ℕ, true, List, ◌∷◌, ◌++◌, drop, map, All, Result, Ok, Err}
 use Rattle.pg_base.specs.declared.faults.Fault.{Fault}
 use Rattle.pg_base.specs.declared.faults.Refusal.{Refusal}
 use Rattle.pg_base.specs.declared.faults.Refusal.TheVariants as refusal
@@ -7,17 +7,25 @@ use Rattle.sql_lex.specs.declared.tokens.Token.{Token}
 use Rattle.sql_grammar.specs.declared.offered.TheConstants.{READS_GROUPS}
 use Rattle.sql_grammar.specs.Faults.{IsFirstFault, IsStatement, IsWhole}
 use Rattle.sql_grammar.specs.Spelled.{IsSpelled}
-use Rattle.sql_grammar.specs.Syntax.{GroupedSelect, IsOffered, grouped, unexplained}
+use Rattle.sql_grammar.specs.FromParts.{groups_after}
+use Rattle.sql_grammar.specs.Syntax.{Group, GroupBy, GroupedItem, GroupedSelect, IsOffered, Mark, MaybeExplain, OrderBy, OrderedSelect, Where, grouped, query, unexplained}
+use Rattle.sql_grammar.specs.Terminals.{Terminal}
+use Rattle.sql_grammar.specs.Words.{words_of_group, words_of_group_by, words_of_groups, words_of_order, words_of_where}
 use Rattle.catalog.specs.Contents.{Contents}
 use Rattle.eq_classes.specs.Holding.{IsClassTable}
+use Rattle.expr_reader.specs.Conditions.{next}
 use Rattle.expr_reader.specs.Parted.{HasParts}
 use Rattle.sql_query.specs.Grouped.{GroupedQuery}
 use Rattle.sql_query.specs.WellBound.{IsWellBound, given_of}
-use Rattle.query_reader.specs.Binding.{Bound, query_with}
+use Rattle.query_reader.specs.Binding.{Bound, bound, query_with}
 use Rattle.query_reader.specs.Conveys.{Conveys}
+use Rattle.query_reader.specs.Ends.{ends_window}
+use Rattle.query_reader.specs.From.{Joined, nothing_joined, with_groups}
 use Rattle.query_reader.specs.Select.{AreGrouped, AreSelect}
 use Rattle.group_query.specs.Grouping.{IsWellGrouped, given_groups}
-use Rattle.group_reader.specs.Binding.{BoundGroups, grouped_with}
+use Rattle.group_reader.specs.declared.written.Listed.{Listed}
+use Rattle.group_reader.specs.Binding.{BoundGroups, bound_groups, grouped_with, groups_over}
+use Rattle.group_reader.specs.Written.{listed_of}
 use Rattle.group_reader.specs.declared.selected.Selected.{Selected}
 use Rattle.group_reader.specs.declared.selected.Selected.TheVariants.{Plain, Grouped}
 
@@ -65,3 +73,36 @@ IsReadPlain = Conveys IsPlainOf
 -- the same where this is the meaning of one that groups
 abbrev pub IsReadGrouped : Result BoundGroups Fault → Result Selected Refusal → Type 0
 IsReadGrouped = Conveys IsGroupedOf
+
+-- where the tokens are a SELECT that does not group, or its EXPLAIN, what is read is what it means
+abbrev pub ReadsPlainSelect : Contents → List ℕ → List Token → Result Selected Refusal → Type 0
+ReadsPlainSelect c text tokens read =
+    (x : OrderedSelect) (start : Token) (later : List Token) → tokens ≡ start ∷ later → IsSpelled (query x) text tokens →
+    IsReadPlain (bound c start x) read
+
+-- the same of one that groups
+abbrev pub ReadsGroupedSelect : Contents → List ℕ → List Token → Result Selected Refusal → Type 0
+ReadsGroupedSelect c text tokens read =
+    (offered : IsOffered READS_GROUPS) (e : MaybeExplain) (k : Token) (x : GroupedSelect) (start : Token) (later : List Token) →
+    tokens ≡ start ∷ later → IsSpelled (grouped offered e k x) text tokens → IsReadGrouped (bound_groups c start x) read
+
+-- where the tokens from number `first` on are a SELECT that groups, what is read is what it means
+abbrev pub BindsGrouped : Contents → List ℕ → List Token → ℕ → Result GroupedQuery Refusal → Type 0
+BindsGrouped c text tokens first read =
+    (x : GroupedSelect) (start : Token) (later : List Token) → tokens ≡ start ∷ later → IsGroupedAt text tokens first x →
+    IsGroupedAs (bound_groups c start x) read
+
+-- where the parts behind FROM stand first, and this is the list as it was read, what is read is what they mean over what FROM names
+abbrev pub BindsGroupsOver : Token → Joined → List Listed → List Terminal → Result GroupedQuery Refusal → Type 0
+BindsGroupsOver start j listed ts read =
+    (is : List GroupedItem) (w : Where) (b : GroupBy) (y : OrderBy) (rest : List Terminal) → listed ≡ map listed_of is →
+    ends_window rest ≡ true → ts ≡ words_of_where w ++ (words_of_group_by b ++ (words_of_order y ++ rest)) →
+    IsGroupedAs (groups_over start is w b y j) read
+
+-- the same of FROM and the parts behind it
+abbrev pub BindsGroups : Contents → Token → List Listed → List Terminal → Result GroupedQuery Refusal → Type 0
+BindsGroups c start listed ts read =
+    (is : List GroupedItem) (g : Group) (gs : List (Mark × Group)) (w : Where) (b : GroupBy) (y : OrderBy)
+    (rest : List Terminal) → listed ≡ map listed_of is → ends_window rest ≡ true →
+    ts ≡ words_of_group g ++ (words_of_groups gs ++ (words_of_where w ++ (words_of_group_by b ++ (words_of_order y ++ rest)))) →
+    IsGroupedAs (next (with_groups (nothing_joined c) (g ∷ groups_after gs)) (groups_over start is w b y)) read

@@ -1,10 +1,9 @@
 //! Binding the lists of a grouped SELECT, item by item.
 
 ghost use Rattle.std.specs.Prelude.{◌≡◌, Ok, map};
-ghost use Rattle.catalog.specs.Range.{type_in};
 ghost use Rattle.expr_reader.specs.Lists.{bound_each};
 ghost use Rattle.query_reader.specs.Conveys.{Conveys};
-ghost use Rattle.query_reader.specs.Scope.{visible_in};
+ghost use Rattle.query_reader.specs.Scope.{visible_in, types_in};
 ghost use Rattle.group_reader.specs.Adds.{AddsParts};
 ghost use Rattle.group_reader.specs.Binding.{is_bool as is_truth, over_column as over_one, over_rows as over_all};
 ghost use Rattle.group_reader.specs.Meaning.{column_call, column_meant, columns_said, known as known_call, list_said, listed_said, shown_at, sorting_column as sorted_by, sorting_said};
@@ -88,7 +87,8 @@ fn known(call: Option<Shown>, name: Token) -> Result<Part, Fault>
 
 /// A call over a column, which is bound first.
 fn call(relations: &Relations, name: &Spelled, over: &Column) -> Result<Part, Fault>
-    ensures { result ≡ column_call (visible_in relations.now) (type_in relations.now.contents relations.now.range) name.now over.now }
+    ensures { result ≡
+        column_call (visible_in relations.now) (types_in relations.now) name.now over.now }
 {
     let over = column(relations, over)?;
     let typed = relations.typed(over);
@@ -97,7 +97,8 @@ fn call(relations: &Relations, name: &Spelled, over: &Column) -> Result<Part, Fa
 
 /// Adds columns that are shown, at fault at this word.
 fn add_shown(columns: &[ColRef], word: Token, parts: &mut Vec<Part>) -> Result<(), Refusal>
-    ensures { AddsParts (Ok (map (shown_at word) columns.now)) parts.old.items parts.new.items result }
+    ensures { AddsParts (Ok (map (shown_at word) columns.now))
+        parts.old.items parts.new.items result }
 {
     for column in columns {
         parts.push(Part::Shown(*column, word))?;
@@ -113,7 +114,8 @@ fn add_columns(
     word: Token,
     parts: &mut Vec<Part>,
 ) -> Result<(), Refusal>
-    ensures { AddsParts (columns_said (visible_in relations.now) item.now word) parts.old.items parts.new.items result }
+    ensures { AddsParts (columns_said (visible_in relations.now) item.now word)
+        parts.old.items parts.new.items result }
 {
     let mut columns = Vec::new(alloc);
     add_item(relations, item, &mut columns)?;
@@ -127,7 +129,8 @@ fn add_listed(
     listed: &Listed,
     parts: &mut Vec<Part>,
 ) -> Result<(), Refusal>
-    ensures { AddsParts (listed_said (visible_in relations.now) (type_in relations.now.contents relations.now.range) listed.now) parts.old.items parts.new.items result }
+    ensures { AddsParts (listed_said (visible_in relations.now) (types_in relations.now) listed.now)
+        parts.old.items parts.new.items result }
 {
     match listed {
         Listed::Columns(item, word) => add_columns(alloc, relations, item, *word, parts),
@@ -149,7 +152,8 @@ pub fn add_list(
     list: &[Listed],
     parts: &mut Vec<Part>,
 ) -> Result<(), Refusal>
-    ensures { AddsParts (list_said (visible_in relations.now) (type_in relations.now.contents relations.now.range) list.now) parts.old.items parts.new.items result }
+    ensures { AddsParts (list_said (visible_in relations.now) (types_in relations.now) list.now)
+        parts.old.items parts.new.items result }
 {
     for listed in list {
         add_listed(alloc, relations, listed, parts)?;
@@ -194,7 +198,8 @@ pub fn sort_items(
     shown: &[ColRef],
     sorts: &[Sorting],
 ) -> Result<Vec<OrderItem>, Refusal>
-    ensures { Conveys (λ is v. v.items ≡ is) (bound_each (sorting_said (visible_in relations.now) shown.now) sorts.now) result }
+    ensures { Conveys (λ is v. v.items ≡ is)
+        (bound_each (sorting_said (visible_in relations.now) shown.now) sorts.now) result }
 {
     let mut all = Vec::new(alloc);
     for written in sorts {
@@ -209,7 +214,8 @@ pub fn columns(
     relations: &Relations,
     written: &[Column],
 ) -> Result<Vec<ColRef>, Refusal>
-    ensures { Conveys (λ xs v. v.items ≡ xs) (bound_each (column_meant (visible_in relations.now)) written.now) result }
+    ensures { Conveys (λ xs v. v.items ≡ xs)
+        (bound_each (column_meant (visible_in relations.now)) written.now) result }
 {
     let mut all = Vec::new(alloc);
     for one in written {

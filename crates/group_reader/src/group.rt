@@ -1,27 +1,18 @@
 //! A SELECT that groups: its words read, and its names bound.
 
-ghost use Rattle.std.specs.Prelude.{◌≡◌, ◌<◌, ◌≤◌, ◌^◌, ◌++◌, ℕ, List, ◌∷◌, All, IfOk, length, map, true};
-ghost use Rattle.pg_base.specs.Names.{IsName};
+ghost use Rattle.std.specs.Prelude.{◌≡◌, ◌<◌, ◌≤◌, ◌^◌, ℕ, All, IfOk, length, map};
 ghost use Rattle.pg_expr.specs.View.{cond};
-ghost use Rattle.catalog.specs.Range.{type_in};
 ghost use Rattle.path_cost.specs.Columns.{IsOver};
 ghost use Rattle.sql_lex.specs.Words.{AreWords};
-ghost use Rattle.sql_lex.specs.declared.tokens.Token.{Token};
-ghost use Rattle.sql_grammar.specs.FromParts.{groups_after};
-ghost use Rattle.sql_grammar.specs.Syntax.{Group, GroupBy, GroupedItem, GroupedSelect, Mark, OrderBy, Where};
-ghost use Rattle.sql_grammar.specs.Terminals.{Terminal};
-ghost use Rattle.sql_grammar.specs.Words.{words_of_group, words_of_group_by, words_of_groups, words_of_order, words_of_where};
+ghost use Rattle.sql_grammar.specs.Syntax.{GroupedSelect};
 ghost use Rattle.expr_reader.specs.Conditions.{next};
 ghost use Rattle.query_reader.specs.Binding.{limited, past_limit};
 ghost use Rattle.query_reader.specs.Conveys.{Conveys};
-ghost use Rattle.query_reader.specs.Ends.{ends_window};
-ghost use Rattle.query_reader.specs.From.{AreRelations, nothing_joined, with_groups};
-ghost use Rattle.query_reader.specs.Scope.{visible_in};
-ghost use Rattle.group_reader.specs.Binding.{bound_groups, groups_over};
-ghost use Rattle.group_reader.specs.Meaning.{lists_said};
-ghost use Rattle.group_reader.specs.Seen.{IsReady, grouped_of};
-ghost use Rattle.group_reader.specs.Selected.{IsGroupedAs, IsGroupedAt, IsGroupedByItself};
-ghost use Rattle.group_reader.specs.Written.{columns_written, listed_of, sorts_written};
+ghost use Rattle.query_reader.specs.From.{AreRelations, HaveNames};
+ghost use Rattle.group_reader.specs.Seen.{IsReady, grouped_of, words_said};
+ghost use Rattle.group_reader.specs.Selected.{IsGroupedAt, IsGroupedByItself, BindsGrouped, BindsGroupsOver, BindsGroups};
+ghost use Rattle.group_reader.specs.Written.{columns_written, sorts_written};
+ghost use Rattle.group_reader.specs.Reads.{StandsGrouping, IfGrouping, StandsGroupedAfterFrom, StandsGroupedFrom};
 
 use crate::lists::{Lists, bound_lists, class_items, items, used};
 use crate::read::{group_columns, list, sorts};
@@ -63,7 +54,7 @@ fn make_ready(
     requires all { relations.now.first ≡ 0 }
     requires keys { length words.now.columns.items < 2 ^ 32 }
     ensures { Conveys (IsReady relations.now (map cond written.now))
-        (next (lists_said (visible_in relations.now) (type_in relations.now.contents relations.now.range) words.now.listed.items words.now.columns.items words.now.sorts.items)
+        (next (words_said relations.now words.now)
         (limited start (past_limit (map cond written.now)))) result }
 {
     let lists = bound_lists(alloc, relations, words)?;
@@ -81,9 +72,9 @@ fn make_ready(
 
 /// The lists as they are written, of which the first is read: GROUP BY and ORDER BY are next.
 fn words(alloc: Global, listed: Vec<Listed>, from: &mut Cursor) -> Result<Words, Memory>
-    requires { (b : GroupBy) × (y : OrderBy) × (rest : List Terminal) × (ends_window rest ≡ true) × (from.old ≡ words_of_group_by b ++ (words_of_order y ++ rest)) }
-    ensures read { IfOk result (λ w. (b : GroupBy) (y : OrderBy) (rest : List Terminal) → ends_window rest ≡ true → from.old ≡ words_of_group_by b ++ (words_of_order y ++ rest) →
-        (w.columns.items ≡ columns_written b) × (w.sorts.items ≡ sorts_written y)) }
+    requires { StandsGrouping from.old }
+    ensures read { IfOk result (λ w. IfGrouping from.old (λ b y.
+        (w.columns.items ≡ columns_written b) × (w.sorts.items ≡ sorts_written y))) }
     ensures listed { IfOk result (λ w. w.listed.items ≡ listed.items) }
 {
     let columns = group_columns(alloc, from)?;
@@ -139,11 +130,10 @@ fn over(
     requires some { 0 < length sources.range }
     requires few { length listed.items < 2 ^ 32 }
     requires room { length from.old < 2 ^ 32 }
-    requires words { (w : Where) × (b : GroupBy) × (y : OrderBy) × (rest : List Terminal) × (ends_window rest ≡ true) ×
-        (from.old ≡ words_of_where w ++ (words_of_group_by b ++ (words_of_order y ++ rest))) }
-    ensures meaning { (is : List GroupedItem) (w : Where) (b : GroupBy) (y : OrderBy) (rest : List Terminal) → listed.items ≡ map listed_of is → ends_window rest ≡ true →
-        from.old ≡ words_of_where w ++ (words_of_group_by b ++ (words_of_order y ++ rest)) → IsGroupedAs (groups_over start is w b y sources.entry) result }
-    ensures itself { IfOk result (λ g. All (λ r. IsName r.1) g.base.range → IsGroupedByItself sources.entry.contents g) }
+    requires words { StandsGroupedAfterFrom from.old }
+    ensures meaning { BindsGroupsOver start sources.entry listed.items from.old result }
+    ensures itself { IfOk result (λ g. HaveNames g.base.range →
+        IsGroupedByItself sources.entry.contents g) }
 {
     let Sources {
         cat,
@@ -170,12 +160,9 @@ fn bind(
 ) -> Result<Grouped, Refusal>
     requires few { length listed.items < 2 ^ 32 }
     requires room { length from.old < 2 ^ 32 }
-    requires words { (g : Group) × (gs : List (Mark × Group)) × (w : Where) × (b : GroupBy) × (y : OrderBy) × (rest : List Terminal) × (ends_window rest ≡ true) ×
-        (from.old ≡ words_of_group g ++ (words_of_groups gs ++ (words_of_where w ++ (words_of_group_by b ++ (words_of_order y ++ rest))))) }
-    ensures meaning { (is : List GroupedItem) (g : Group) (gs : List (Mark × Group)) (w : Where) (b : GroupBy) (y : OrderBy) (rest : List Terminal) → listed.items ≡ map listed_of is → ends_window rest ≡ true →
-        from.old ≡ words_of_group g ++ (words_of_groups gs ++ (words_of_where w ++ (words_of_group_by b ++ (words_of_order y ++ rest)))) →
-        IsGroupedAs (next (with_groups (nothing_joined cat.now) (g ∷ groups_after gs)) (groups_over start is w b y)) result }
-    ensures itself { IfOk result (λ q. All (λ r. IsName r.1) q.base.range → IsGroupedByItself cat.now q) }
+    requires words { StandsGroupedFrom from.old }
+    ensures meaning { BindsGroups cat.now start listed.items from.old result }
+    ensures itself { IfOk result (λ q. HaveNames q.base.range → IsGroupedByItself cat.now q) }
 {
     let mut sources = Sources::new(alloc, cat);
     sources.take_groups(alloc, from)?;
@@ -194,7 +181,7 @@ pub fn read_grouped(
     requires words { (from : ℕ) × AreWords text.now from tokens.now }
     requires within { first < length tokens.now }
     requires select { (x : GroupedSelect) × IsGroupedAt text.now tokens.now first x }
-    ensures meaning { (x : GroupedSelect) (start : Token) (later : List Token) → tokens.now ≡ start ∷ later → IsGroupedAt text.now tokens.now first x → IsGroupedAs (bound_groups cat.now start x) result }
+    ensures meaning { BindsGrouped cat.now text.now tokens.now first result }
     ensures itself { IfOk result (IsGroupedByItself cat.now) }
 {
     let mut from = Cursor::new(text, tokens, first);

@@ -1,17 +1,15 @@
 //! The lists of a grouped SELECT together: which columns are grouped, and what follows from them.
 
 ghost use Rattle.std.specs.Prelude.{◌≡◌, ◌<◌, ◌≤◌, ◌^◌, ◌++◌, IfOk, IfSome, length, map, filter_map, position};
-ghost use Rattle.catalog.specs.Range.{type_in};
 ghost use Rattle.eq_classes.specs.Equality.{is_column};
 ghost use Rattle.eq_classes.specs.declared.order.OrderItem.{OrderItem};
 ghost use Rattle.pg_expr.specs.View.{cond};
 ghost use Rattle.group_query.specs.Grouping.{plain_item};
 ghost use Rattle.group_query.specs.Shapes.{place_in};
 ghost use Rattle.query_reader.specs.Conveys.{Conveys};
-ghost use Rattle.query_reader.specs.Scope.{visible_in};
-ghost use Rattle.group_reader.specs.Binding.{column_by_call, column_of_part, is_grouped as is_grouped_in, item_in, named_in_lists, shown_column, shown_columns, ungrouped_items, ungrouped_part};
-ghost use Rattle.group_reader.specs.Meaning.{first_of, last_word, lists_said};
-ghost use Rattle.group_reader.specs.Seen.{lists_of, with_found};
+ghost use Rattle.group_reader.specs.Binding.{column_by_call, column_of_part, is_grouped as is_grouped_in, item_in, named_in_lists, shown_column, shown_columns, ungrouped_items, ungrouped_part, ungrouped_words};
+ghost use Rattle.group_reader.specs.Meaning.{first_of, last_word};
+ghost use Rattle.group_reader.specs.Seen.{lists_of, with_found, words_said};
 
 use crate::bind::{add_list, columns, sort_items};
 use crate::parts::Part;
@@ -118,7 +116,7 @@ fn first_item(keys: &[ColRef], order: &[OrderItem], sorts: &[Sorting]) -> Option
 
 /// The word of the first column that is not grouped: in the list, then in ORDER BY.
 fn first_ungrouped(lists: &Lists, sorts: &[Sorting]) -> Option<Token>
-    ensures { result ≡ first_of (filter_map (ungrouped_part lists.now.keys.items) lists.now.parts.items ++ ungrouped_items lists.now.keys.items lists.now.order.items (map last_word sorts.now)) }
+    ensures { result ≡ first_of (ungrouped_words (lists_of lists.now) (map last_word sorts.now)) }
 {
     let word = first_part(&lists.keys, &lists.parts);
     if word.is_some() {
@@ -130,7 +128,7 @@ fn first_ungrouped(lists: &Lists, sorts: &[Sorting]) -> Option<Token>
 /// The lists with their names bound: the list first, then ORDER BY, then GROUP BY, then that what is shown and what orders is
 /// grouped.
 pub fn bound_lists(alloc: Global, relations: &Relations, words: &Words) -> Result<Lists, Refusal>
-    ensures { Conveys (λ m l. lists_of l ≡ m) (lists_said (visible_in relations.now) (type_in relations.now.contents relations.now.range) words.now.listed.items words.now.columns.items words.now.sorts.items) result }
+    ensures { Conveys (λ m l. lists_of l ≡ m) (words_said relations.now words.now) result }
 {
     let mut parts = Vec::new(alloc);
     add_list(alloc, relations, &words.listed, &mut parts)?;
@@ -207,7 +205,8 @@ fn order_columns(alloc: Global, order: &[OrderItem]) -> Result<Vec<ColRef>, Memo
 
 /// Every column that is named.
 pub fn used(alloc: Global, lists: &Lists, written: &[Expr]) -> Result<Vec<ColRef>, Memory>
-    ensures { IfOk result (λ v. v.items ≡ named_in_lists (lists_of lists.now) (map cond written.now)) }
+    ensures { IfOk result
+        (λ v. v.items ≡ named_in_lists (lists_of lists.now) (map cond written.now)) }
 {
     let mut used = part_columns(alloc, &lists.parts)?;
     let mut more = columns_in_all(alloc, written)?;

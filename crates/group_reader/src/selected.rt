@@ -1,16 +1,10 @@
 //! A SELECT of either form, read.
 
-ghost use Rattle.std.specs.Prelude.{◌≡◌, ◌⊎◌, ◌<◌, ◌≤◌, ◌^◌, ℕ, List, ◌∷◌, IfOk, length};
+ghost use Rattle.std.specs.Prelude.{◌≡◌, ◌⊎◌, ◌<◌, ◌≤◌, ◌^◌, ℕ, IfOk, length};
 ghost use Rattle.sql_lex.specs.Words.{AreWords};
-ghost use Rattle.sql_lex.specs.declared.tokens.Token.{Token};
-ghost use Rattle.sql_grammar.specs.declared.offered.TheConstants.{READS_GROUPS};
 ghost use Rattle.sql_grammar.specs.Faults.{IsWhole, terminals};
-ghost use Rattle.sql_grammar.specs.Spelled.{IsSpelled};
-ghost use Rattle.sql_grammar.specs.Syntax.{GroupedSelect, IsOffered, Key, MaybeExplain, OrderedSelect, grouped as grouped_tree, query};
-ghost use Rattle.query_reader.specs.Binding.{bound};
 ghost use Rattle.query_reader.specs.Select.{AreGrouped, AreNoOther, AreSelect, words_before};
-ghost use Rattle.group_reader.specs.Binding.{bound_groups};
-ghost use Rattle.group_reader.specs.Selected.{IsAnyGrammatical, IsReadGrouped, IsReadPlain, IsWellSelected};
+ghost use Rattle.group_reader.specs.Selected.{IsAnyGrammatical, IsWellSelected, ReadsPlainSelect, ReadsGroupedSelect};
 
 use crate::group::read_grouped;
 use catalog::Catalog;
@@ -45,7 +39,7 @@ fn plain(
     requires select { AreSelect text.now tokens.now }
     requires place { first ≡ words_before (terminals text.now tokens.now) }
     ensures grammar { IsAnyGrammatical text.now tokens.now result }
-    ensures meaning { (x : OrderedSelect) (start : Token) (later : List Token) → tokens.now ≡ start ∷ later → IsSpelled (query x) text.now tokens.now → IsReadPlain (bound cat.now start x) result }
+    ensures meaning { ReadsPlainSelect cat.now text.now tokens.now result }
     ensures well { IfOk result (IsWellSelected cat.now) }
 {
     let query = read_select(alloc, cat, text, tokens, first)?;
@@ -67,8 +61,7 @@ fn grouped(
     requires select { AreGrouped text.now tokens.now }
     requires place { first ≡ words_before (terminals text.now tokens.now) }
     ensures grammar { IsAnyGrammatical text.now tokens.now result }
-    ensures meaning { (offered : IsOffered READS_GROUPS) (e : MaybeExplain) (k : Key) (x : GroupedSelect) (start : Token) (later : List Token) → tokens.now ≡ start ∷ later →
-        IsSpelled (grouped_tree offered e k x) text.now tokens.now → IsReadGrouped (bound_groups cat.now start x) result }
+    ensures meaning { ReadsGroupedSelect cat.now text.now tokens.now result }
     ensures well { IfOk result (IsWellSelected cat.now) }
 {
     let query = read_grouped(alloc, cat, text, tokens, first)?;
@@ -102,11 +95,11 @@ pub fn read_any(
     requires words { (from : ℕ) × AreWords text.now from tokens.now }
     requires within { first < length tokens.now }
     requires kind { AreNoOther text.now tokens.now }
-    requires place { (AreSelect text.now tokens.now ⊎ AreGrouped text.now tokens.now) → first ≡ words_before (terminals text.now tokens.now) }
+    requires place { (AreSelect text.now tokens.now ⊎ AreGrouped text.now tokens.now) →
+        first ≡ words_before (terminals text.now tokens.now) }
     ensures grammar { IsAnyGrammatical text.now tokens.now result }
-    ensures plain { (x : OrderedSelect) (start : Token) (later : List Token) → tokens.now ≡ start ∷ later → IsSpelled (query x) text.now tokens.now → IsReadPlain (bound cat.now start x) result }
-    ensures grouped { (offered : IsOffered READS_GROUPS) (e : MaybeExplain) (k : Token) (x : GroupedSelect) (start : Token) (later : List Token) → tokens.now ≡ start ∷ later →
-        IsSpelled (grouped_tree offered e k x) text.now tokens.now → IsReadGrouped (bound_groups cat.now start x) result }
+    ensures plain { ReadsPlainSelect cat.now text.now tokens.now result }
+    ensures grouped { ReadsGroupedSelect cat.now text.now tokens.now result }
     ensures well { IfOk result (IsWellSelected cat.now) }
 {
     if let Some(fault) = statement_fault(text, tokens, 0) {

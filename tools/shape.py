@@ -4,8 +4,8 @@
 usage: tools/shape.py [CRATE ..]
 
 It tells the functions with more than six parameters, apart from public ones, those of more than 40 lines from the line of `fn` to
-their closing brace without contracts, the crates of more than 1,500 lines of code or 100 functions, the clauses of more than 100
-columns, and the crates with most paths down to what they stand on, by crates.txt: `rt ci` reads a crate's text once along each. A
+their closing brace without contracts, the crates of more than 1,500 lines of code or 100 functions, the clauses with a line of more
+than 100 columns, those of more than 300 characters on all their lines, and the crates with most paths down to what they stand on, by crates.txt: `rt ci` reads a crate's text once along each. A
 method's `self` counts as a parameter.
 """
 import collections
@@ -14,7 +14,7 @@ import re
 import sys
 
 ROOT = pathlib.Path(__file__).resolve().parent.parent
-MOST_PARAMETERS, MOST_LINES, MOST_CODE, MOST_FUNCTIONS, MOST_COLUMNS = 6, 40, 1500, 100, 100
+MOST_PARAMETERS, MOST_LINES, MOST_CODE, MOST_FUNCTIONS, MOST_COLUMNS, MOST_CLAUSE = 6, 40, 1500, 100, 100, 300
 FUNCTION = re.compile(r"^([ \t]*)(pub(?:\([a-z]+\))? )?fn (\w+)", re.M)
 CLAUSE = re.compile(r"^\s*(requires|ensures)\b")
 
@@ -43,18 +43,32 @@ def generic_end(text, at):
     return at
 
 
+def clauses(lines):
+    """Each clause: the number of its first line, from 1, and its lines, up to the brace that closes it."""
+    at = 0
+    while at < len(lines):
+        end, depth = at, 0
+        if CLAUSE.match(lines[at]):
+            depth = lines[at].count("{") - lines[at].count("}")
+            while depth > 0 and end + 1 < len(lines):
+                end += 1
+                depth += lines[end].count("{") - lines[end].count("}")
+            yield at + 1, lines[at:end + 1]
+        at = end + 1
+
+
 def length(text, found):
     """The lines of a function but for its clauses."""
     lines = text[found.start():].lstrip("\n").split("\n")
-    end = next((n for n, line in enumerate(lines) if line.startswith(found[1] + "}")), 0)
-    return sum(not CLAUSE.match(line) for line in lines[:end + 1])
+    lines = lines[:1 + next((n for n, line in enumerate(lines) if line.startswith(found[1] + "}")), 0)]
+    return len(lines) - sum(len(clause) for _, clause in clauses(lines))
 
 
 class Shape:
     """What is past a measure, one row each."""
 
     def __init__(self):
-        self.wide, self.long, self.large, self.clauses = [], [], [], []
+        self.wide, self.long, self.large, self.clauses, self.wordy = [], [], [], [], []
 
 
 def measured(folders):
@@ -65,8 +79,10 @@ def measured(folders):
         for file in sorted(folder.glob("src/**/*.rt")):
             text = file.read_text()
             lines += text.count("\n")
-            made.clauses += [f"{folder.name} {file.stem}:{at}" for at, line in enumerate(text.split("\n"), 1)
-                             if len(line) > MOST_COLUMNS and CLAUSE.match(line)]
+            for at, clause in clauses(text.split("\n")):
+                place = f"{folder.name} {file.stem}:{at}"
+                made.clauses += [place] * any(len(line) > MOST_COLUMNS for line in clause)
+                made.wordy += [place] * (len(" ".join(line.strip() for line in clause)) > MOST_CLAUSE)
             for found in FUNCTION.finditer(text):
                 functions += 1
                 name = f"{folder.name}::{found[3]}"
@@ -94,8 +110,9 @@ def main():
     made = measured([ROOT / "crates" / name for name in sys.argv[1:]] or sorted((ROOT / "crates").iterdir()))
     for title, found in (("more than six parameters", made.wide), ("more than 40 lines", made.long), ("large crates", made.large)):
         print(f"{title}: {len(found)}", *found, sep="\n  ")
-    clauses = collections.Counter(row.split()[0] for row in made.clauses)
-    print(f"clauses of more than 100 columns: {len(made.clauses)}", *(f"{name} {n}" for name, n in clauses.most_common(10)), sep="\n  ")
+    for title, found in (("clauses with a line of more than 100 columns", made.clauses), ("clauses of more than 300 characters", made.wordy)):
+        places = collections.Counter(row.split()[0] for row in found)
+        print(f"{title}: {len(found)}", *(f"{name} {n}" for name, n in places.most_common(10)), sep="\n  ")
     down = collections.Counter(paths())
     print(f"paths: {sum(down.values())}", *(f"{name} {n}" for name, n in down.most_common(10)), sep="\n  ")
 

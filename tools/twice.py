@@ -4,9 +4,10 @@
 usage: tools/twice.py [--list]
 
 One line each: lemma statements that stand in two or more files (the names of a lemma and of its variables do not count), words of
-specs/ defined in two or more crates, functions with more than six parameters apart from public ones, clauses of more than 100
-columns, functions of more than 40 lines without their clauses, and definitions of specs/ without a comment above. With --list what is
-counted follows each line.
+specs/ defined in two or more crates, those of them of which one crate uses two (its own among them), functions with more than six
+parameters apart from public ones, clauses with a line of more than 100 columns, clauses of more than 300 characters, functions of
+more than 40 lines without their clauses, and definitions of specs/ without a comment above. With --list what is counted follows each
+line.
 """
 import collections
 import re
@@ -18,6 +19,7 @@ import shape
 
 DEFINED = re.compile(r"^( *)(?:abbrev pub|pub|pub record|pub data|abbrev pub record|abbrev pub data) ([^\W\d][\w'-]*)(?= [:(])")
 STATED = re.compile(r"^(?:pub )?([^\s:(){}]+) : (.*)$")
+USED = re.compile(r"^\s*(?:pub |ghost )*use Rattle\.(\w+)\.specs\.([\w.]+?)(?:\.\{([^}]*)\}| as (\w+));?\s*$")
 OWN = re.compile(r"^ *(?:pub )?(?:abbrev (?:pub )?|record |data )([^\W\d][^\s:(){}]*)(?= [:(])")
 BOUND = re.compile(r"[({]([^(){}:]+) : |λ ([^\s.(]+)")
 PLAIN = {"Type", "Unit", "List", "Option", "Result", "Bool", "Cond", "Conds", "Plan", "Path", "Query", "Token", "Code", "Fault"}
@@ -104,14 +106,48 @@ def words_of_two_crates(found):
     return [f"{name}: {', '.join(places.values())}" for name, places in sorted(crates.items()) if len(places) > 1]
 
 
+def uses(file):
+    """The words of specs/ that a file names: each with the crate and the module that its import gives."""
+    text = file.read_text()
+    for line in text.splitlines():
+        found = USED.match(line)
+        if not found:
+            continue
+        crate, module, names, alias = found.groups()
+        passed_on = re.match(r"([a-z_0-9]+)_([A-Z]\w*)$", module)
+        if passed_on and (shape.ROOT / "crates" / passed_on[1]).is_dir():
+            crate, module = passed_on.groups()
+        for name in names.split(",") if names else re.findall(rf"(?<![\w.]){alias}\.([\w'-]+)", text):
+            word, _, own = name.strip().partition(" as ")
+            yield own or word, crate, module
+
+
+def words_that_meet(found):
+    """The words of which a crate uses two, by its own names for them."""
+    places = collections.defaultdict(lambda: collections.defaultdict(set))
+    of_two = {row.partition(":")[0] for row in words_of_two_crates(found)}
+    for crate, place, name, _ in found:
+        places[name][crate].add((crate, place.partition("/specs/")[2].partition(".antt")[0].replace("/", ".")))
+    for folder in sorted((shape.ROOT / "crates").iterdir()):
+        for part in ("src", "specs", "proofs"):
+            for file in folder.glob(f"{part}/**/*.*t*"):
+                for name, crate, module in uses(file):
+                    if name in of_two:
+                        places[name][folder.name].add((crate, module))
+    return [f"{name}: {folder} uses {', '.join(f'{crate}.{module}' for crate, module in sorted(at))}"
+            for name in sorted(of_two) for folder, at in sorted(places[name].items()) if len({crate for crate, _ in at}) > 1]
+
+
 def main():
     folders = sorted((shape.ROOT / "crates").iterdir())
     code, found = shape.measured(folders), list(definitions())
     counts = (
         ("lemma statements that stand in two or more files", repeated_lemmas()),
         ("words of specs/ defined in two or more crates", words_of_two_crates(found)),
+        ("of these, words that meet in one crate", words_that_meet(found)),
         ("functions with more than six parameters", code.wide),
-        ("clauses of more than 100 columns", code.clauses),
+        ("clauses with a line of more than 100 columns", code.clauses),
+        ("clauses of more than 300 characters", code.wordy),
         ("functions of more than 40 lines", code.long),
         ("definitions of specs/ without a comment above", [f"{place} {name}" for _, place, name, said in found if not said]),
     )

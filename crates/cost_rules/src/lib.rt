@@ -1,5 +1,6 @@
-//! The rules of costs as arithmetic on numbers: rows, pages, entries and operators go in, costs come out, and of finished
-//! plans' prices the lower one is told. A cost unit is 1/400 of a sequential page.
+//! The rules of costs as arithmetic on numbers: rows, pages, entries and operators go in, costs come out. Of the prices of
+//! finished plans the better one is told: that of a plan below 10^18, and of others the lesser. A cost unit is 1/400 of a
+//! sequential page.
 #![tactic(auto)]
 
 mod joins;

@@ -1,5 +1,6 @@
 //! Scans that an entry of a certificate must dominate, and the first that none dominates. Plain scans are each looked at;
-//! of scans by a bitmap, each set of the first elements with each arm of an OR by its index of least part.
+//! of scans by a bitmap, each set of the first elements with each arm of an OR by its index of least part. Two laws say that
+//! a query's ORs, and the arms of such a set, have few atoms.
 #![tactic(auto)]
 
 mod arms;

@@ -23,7 +23,7 @@ use Rattle.pg_value.specs.declared.value.Value.TheVariants.{Null, Int, Bool as F
 use Rattle.pg_value.specs.Types.{IsOfType}
 use Rattle.pg_value.specs.Sorting.{IsInOrder, in_order}
 use Rattle.opfamily.specs.Answers.{default_family_of}
-use Rattle.heap.specs.Stored.{IsLawful, IsRowOf, Stored, Values, IsValueOf as MayHold}
+use Rattle.heap.specs.Stored.{IsLawfulData, IsRowOf, Stored, Values, IsColumnValue as MayHold}
 use Rattle.catalog.specs.Indexes.{no_column}
 use Rattle.catalog.specs.declared.limits.TheConstants.{MOST_BOUNDS, MOST_COMMON, ROWS_PER_PAGE, WHOLE_SHARE}
 use Rattle.catalog.specs.Analysed.{FitColumns, IsAllowedTable}
@@ -241,7 +241,7 @@ column-lawful t vs few h (Some f) e =
     let nulls = null-count f vs in
     found-lawful t f e (length vs) (length (filter is_null vs)) (rising f vs) few (omega (arith, sorted, nulls)) (rising-up f vs) (each-in_order (ascending f) (IsValueOf t) (filter (λ v. not (is_null v)) vs) (known-typed t vs h))
 
-pub columns-lawful : (h : Stored) → IsLawful h → (k : ℕ) → k < length h.columns → IsLawfulStatistics (slice_index_or h.columns k no_column).typed (statistics_of h k)
+pub columns-lawful : (h : Stored) → IsLawfulData h → (k : ℕ) → k < length h.columns → IsLawfulStatistics (slice_index_or h.columns k no_column).typed (statistics_of h k)
 columns-lawful h lawful k lt =
     let t = (slice_index_or h.columns k no_column).typed in
     let long = length-map h.rows (λ (row : Values). slice_index_or row k Null) in
@@ -257,7 +257,7 @@ zip-range f (c ∷ cs) from each =
       zip-range f cs (from + 1) (λ k lt. let same : from + suc k ≡ from + 1 + k = omega arith in subst (λ n. AreValuesOf (slice_index_or cs k no_column).typed (f n)) same (each (suc k) (omega (arith, lt)))),
     )
 
-pub columns-fit : (h : Stored) → IsLawful h → FitColumns h.columns (table_statistics h).columns
+pub columns-fit : (h : Stored) → IsLawfulData h → FitColumns h.columns (table_statistics h).columns
 columns-fit h lawful = zip-range (statistics_of h) h.columns 0 (λ k lt. let same : k ≡ 0 + k = omega arith in subst (λ n. AreValuesOf (slice_index_or h.columns k no_column).typed (statistics_of h n)) same (columns-lawful h lawful k lt).values)
 
 counts-so : (n : ℕ) → n ≤ MOST_ROWS → is_count (max 1 n) ≡ true
@@ -266,7 +266,7 @@ counts-so n few = grind (arith, nat_tests)
 few-pages : (n : ℕ) → n ≤ MOST_ROWS → (n + (ROWS_PER_PAGE - 1)) / ROWS_PER_PAGE ≤ MOST_ROWS
 few-pages n few = omega (arith, few)
 
-pub table-allowed : (h : Stored) → IsLawful h → IsAllowedTable (table_statistics h)
+pub table-allowed : (h : Stored) → IsLawfulData h → IsAllowedTable (table_statistics h)
 table-allowed h lawful = record {
   rows = counts-so (length h.rows) lawful.few;
   pages = counts-so ((length h.rows + (ROWS_PER_PAGE - 1)) / ROWS_PER_PAGE) (few-pages (length h.rows) lawful.few);

@@ -86,10 +86,11 @@ module _ (c : Contents) (q : Query) (at : Place) where
       IsPlanOf c q (one at.rel.0) (has at.param.0) (bitmap at.rel at.param (combined bs)) →
       IsAdmissible c q (bitmap at.rel at.param (combined bs)) → HasDominating c q (map path paths) (bitmap at.rel at.param (combined bs))
 
-  -- so of elements that are lent, and of the marked ones
+  -- so of elements that are lent
   abbrev pub AreLentTogether : List (Bor ElementTree) → List Costed → Type 0
   AreLentTogether chosen paths = AreTogetherIn (lent_trees chosen) paths
 
+  -- so of the marked ones
   abbrev pub AreMarkedTogether : Marked → List Costed → Type 0
   AreMarkedTogether m paths = AreTogetherIn (marked_trees m) paths
 

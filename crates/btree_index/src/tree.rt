@@ -3,7 +3,7 @@
 ghost use Rattle.std.specs.Prelude.{◌≡◌, ◌<◌, ◌∷◌, [], length, filter, All, IfOk, OnOk, OnErr};
 ghost use Rattle.opfamily.specs.KeyOrder.{AreKeyValues};
 ghost use Rattle.btree_index.specs.Bounds.{AreBounds, meets_all};
-ghost use Rattle.btree_index.specs.Tree.{IsEntryOf, IsLawful, of_rows_below, with_entries, in_direction};
+ghost use Rattle.btree_index.specs.Tree.{IsEntryOf, IsLawfulTree, of_rows_below, with_entries, in_direction};
 
 use crate::bounds::Probe;
 use crate::cursors::Cursor;
@@ -44,13 +44,13 @@ impl<L: Ledger> Drop for BTree<L> {
 impl<L: Ledger> Model for BTree<L> {
     ghost use Rattle.std.specs.Prelude.{◌<◌, All};
     ghost use Rattle.btree_index.specs.Pages.{IsPaged, entries_of};
-    ghost use Rattle.btree_index.specs.Tree.{Tree, IsLawful};
+    ghost use Rattle.btree_index.specs.Tree.{Tree, IsLawfulTree};
 
     ghost Value = { Tree };
 
     ghost view = { λ t. record { keys = t.keys.items; include = t.include.items; entries = entries_of t.pages } };
 
-    ghost invariant = { λ t. IsPaged t.pages × IsLawful (record { keys = t.keys.items; include = t.include.items; entries = entries_of t.pages }) × All (λ e. e.row < t.above) (entries_of t.pages) };
+    ghost invariant = { λ t. IsPaged t.pages × IsLawfulTree (record { keys = t.keys.items; include = t.include.items; entries = entries_of t.pages }) × All (λ e. e.row < t.above) (entries_of t.pages) };
 }
 
 impl<L: Ledger> BTree<L> {
@@ -74,7 +74,7 @@ impl<L: Ledger> BTree<L> {
     /// The keys, from the left.
     pub fn keys(&self) -> &[IndexKey]
         ensures keys { result.now ≡ self.now.keys }
-        ensures lawful { IsLawful self.now }
+        ensures lawful { IsLawfulTree self.now }
     {
         &self.keys
     }
@@ -125,7 +125,7 @@ impl<L: Ledger> BTree<L> {
         requires { AreBounds 0 self.now.keys bounds.now }
         ensures part { result ≡ in_direction backward (filter (λ e. meets_all bounds.now e.keys) self.now.entries) }
         ensures each { All (IsEntryOf self.now.keys self.now.include) result }
-        ensures lawful { IsLawful self.now }
+        ensures lawful { IsLawfulTree self.now }
     {
         let start = self.pages.find(&self.keys, &Edge::Start(bounds));
         let end = self.pages.find(&self.keys, &Edge::End(bounds));

@@ -13,7 +13,7 @@ use Rattle.pg_expr.specs.declared.operand.ColRef.{ColRef}
 use Rattle.catalog.specs.Contents.{Contents, IsLawful, IsTable, name_at, no_table}
 use Rattle.catalog.specs.Range.{Range, aliases, relation_at, table_of}
 use Rattle.eq_classes.specs.Classes.{Class, has_member}
-use Rattle.eq_classes.specs.Clauses.{Set, Table, first_in}
+use Rattle.eq_classes.specs.Clauses.{Set, ClassTable, first_in}
 use Rattle.eq_classes.specs.Listing.{blank, class_at}
 use Rattle.eq_classes.specs.declared.classes.ClassNo.{ClassNo}
 use Rattle.eq_classes.proofs.ListLemmas.{IsIn, found_in, in_at}
@@ -139,8 +139,8 @@ column-same o x y e f = some (sym e ∙ f) where
   some : Some y ≡ Some x → y ≡ x
   some h = cc
 
-pub direction-is : (q : Query) (t : Table) (class n : ℕ) (d : Bool × Bool) (bytes : List ℕ) → t ≡ q.classes → class ≡ n → d ≡ ((class_at t.classes class).descending, (class_at t.classes class).nulls_first) → bytes ≡ direction_text d.0 d.1 →
+pub direction-is : (q : Query) (t : ClassTable) (class n : ℕ) (d : Bool × Bool) (bytes : List ℕ) → t ≡ q.classes → class ≡ n → d ≡ ((class_at t.classes class).descending, (class_at t.classes class).nulls_first) → bytes ≡ direction_text d.0 d.1 →
     bytes ≡ direction_text (class_at q.classes.classes n).descending (class_at q.classes.classes n).nulls_first
 direction-is q t class n d bytes same is of text =
-    let k : class_at t.classes class ≡ class_at q.classes.classes n = ap₂ (λ (u : Table) (m : ℕ). class_at u.classes m) same is in
+    let k : class_at t.classes class ≡ class_at q.classes.classes n = ap₂ (λ (u : ClassTable) (m : ℕ). class_at u.classes m) same is in
     text ∙ (ap (λ (e : Bool × Bool). direction_text e.0 e.1) of ∙ ap (λ (c : Class). direction_text c.descending c.nulls_first) k)

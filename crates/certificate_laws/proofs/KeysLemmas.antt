@@ -11,7 +11,7 @@ use Rattle.opfamily.specs.declared.classes.IndexKey.{IndexKey}
 use Rattle.opfamily.specs.declared.classes.Method.{Method}
 use Rattle.opfamily.specs.declared.classes.Method.TheVariants.{Btree, Hash}
 use Rattle.catalog.specs.Contents.{Contents, index_at}
-use Rattle.eq_classes.specs.Clauses.{Set, Table, first_in, one}
+use Rattle.eq_classes.specs.Clauses.{Set, ClassTable, first_in, one}
 use Rattle.eq_classes.specs.Listing.{class_at}
 use Rattle.eq_classes.specs.Parts.{union}
 use Rattle.plan_laws.proofs.JoiningLemmas.{joining_classes}
@@ -29,7 +29,7 @@ some-none : {A : Type 0} (x : A) (o : Option A) → o ≡ Some x → o ≡ None 
 some-none x o e n = cc
 
 -- a class has a member in a set
-abbrev HasMember : Table → Set → ℕ → Type 0
+abbrev HasMember : ClassTable → Set → ℕ → Type 0
 HasMember t s n = ¬ (first_in (class_at t.classes n) s ≡ None)
 
 none-more : (p r : ColRef → Bool) → ((x : ColRef) → p x ≡ true → r x ≡ true) → (xs : List ColRef) → find r xs ≡ None → find p xs ≡ None
@@ -41,7 +41,7 @@ none-more p r f (x ∷ xs) h = by (none-more p r f xs) (r x) (p x) refl refl h
     by later false true e g h = absurd (true≢false (sym (f x g) ∙ e))
     by later false false e g h = later h
 
-member-wider : (t : Table) (a b : Set) → ((k : ℕ) → a k ≡ true → b k ≡ true) → (n : ℕ) → HasMember t a n → HasMember t b n
+member-wider : (t : ClassTable) (a b : Set) → ((k : ℕ) → a k ≡ true → b k ≡ true) → (n : ℕ) → HasMember t a n → HasMember t b n
 member-wider t a b f n h none = h (none-more (λ (x : ColRef). a x.rel.0) (λ (x : ColRef). b x.rel.0) (λ x is. f x.rel.0 is) (class_at t.classes n).members none)
 
 pub keys-wider : (q : Query) (a b : Set) → ((k : ℕ) → a k ≡ true → b k ≡ true) → (keys : Keys) → HasKeysText q a keys → HasKeysText q b keys
@@ -55,7 +55,7 @@ no-keys : (q : Query) (s : Set) → HasKeysText q s []
 no-keys q s = record { different = λ i j d lt within. absurd (omega (arith, within)); classes = All-nil (λ n. n < length q.classes.classes); members = All-nil (HasMember q.classes s) }
 
 -- the keys of an index are classes with members in the relation
-from-members : (t : Table) (r : ℕ) (backward : Bool) (taken : Keys) (ks : List IndexKey) → AllByRecursion (HasMember t (one r)) (keys_from t r backward taken ks)
+from-members : (t : ClassTable) (r : ℕ) (backward : Bool) (taken : Keys) (ks : List IndexKey) → AllByRecursion (HasMember t (one r)) (keys_from t r backward taken ks)
 from-members t r backward taken [] = tt
 from-members t r backward taken (k ∷ ks) = by (λ more. from-members t r backward more ks) (class_of_key t r k) refl
   where
@@ -70,12 +70,12 @@ from-members t r backward taken (k ∷ ks) = by (λ more. from-members t r backw
     by later None e = tt
     by later (Some n) e = by_tests later n (class_found t (column_of r k) (key_family k) n e) (is_constant t n || list_any (nat_eq n) taken) (has_direction backward k (class_at t.classes n))
 
-by-members : (m : Method) (t : Table) (r : ℕ) (backward : Bool) (ks : List IndexKey) → AllByRecursion (HasMember t (one r)) (keys_by m t r backward ks)
+by-members : (m : Method) (t : ClassTable) (r : ℕ) (backward : Bool) (ks : List IndexKey) → AllByRecursion (HasMember t (one r)) (keys_by m t r backward ks)
 by-members Btree t r backward ks = from-members t r backward [] ks
 by-members Hash t r backward ks = tt
 
 -- those of a list that joins two sets, in either
-listed-members : (t : Table) (s : Set) (keys : Keys) → AreKeys t s keys → AllByRecursion (HasMember t s) keys
+listed-members : (t : ClassTable) (s : Set) (keys : Keys) → AreKeys t s keys → AllByRecursion (HasMember t s) keys
 listed-members t s [] h = tt
 listed-members t s (n ∷ ns) h = (some-none h.0.member (first_in (class_at t.classes n) s) h.0.first, listed-members t s ns h.1)
 

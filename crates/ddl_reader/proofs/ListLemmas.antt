@@ -6,7 +6,7 @@ use Rattle.sql_grammar.specs.declared.class.Symbol.TheVariants.{Close, Comma}
 use Rattle.sql_grammar.specs.Terminals.{Terminal, t_mark}
 use Rattle.sql_grammar.specs.Syntax.{Mark}
 use Rattle.expr_reader.specs.Reading.{BeginsNot}
-use Rattle.expr_reader.specs.Lists.{parts_of, before_all, bound_each}
+use Rattle.expr_reader.specs.Lists.{further_parts, before_all, bound_each}
 use Rattle.expr_reader.proofs.EachLemmas.{bound-err, bound-ok}
 
 -- a kind of list: each part of the syntax with its words and what is bound of it, and the words of further parts
@@ -23,7 +23,7 @@ module _ {T A B : Type 0} (p : Parts T A B) where
   pub record So (all : List A) (bs : List B) (left : List Terminal) (m : Mark) (rest : List Terminal) : Type 0 where
     pub so : List A
     pub ys : List (Mark × T)
-    pub whole : all ≡ so ++ parts_of p.part ys
+    pub whole : all ≡ so ++ further_parts p.part ys
     pub read : bound_each p.bind so ≡ Ok bs
     pub words : left ≡ p.further ys ++ t_mark Close m ∷ rest
 
@@ -32,15 +32,15 @@ module _ {T A B : Type 0} (p : Parts T A B) where
     pub so : List A
     pub y : T
     pub ys : List (Mark × T)
-    pub whole : all ≡ so ++ p.part y ∷ parts_of p.part ys
+    pub whole : all ≡ so ++ p.part y ∷ further_parts p.part ys
     pub read : bound_each p.bind so ≡ Ok bs
     pub words : left ≡ p.words y ++ (p.further ys ++ t_mark Close m ∷ rest)
 
-  abbrev pub first : (x : T) (xs : List (Mark × T)) (m : Mark) (rest left : List Terminal) → left ≡ p.words x ++ (p.further xs ++ t_mark Close m ∷ rest) → Next (p.part x ∷ parts_of p.part xs) [] left m rest
+  abbrev pub first : (x : T) (xs : List (Mark × T)) (m : Mark) (rest left : List Terminal) → left ≡ p.words x ++ (p.further xs ++ t_mark Close m ∷ rest) → Next (p.part x ∷ further_parts p.part xs) [] left m rest
   first x xs m rest left e = record { so = []; y = x; ys = xs; whole = refl; read = refl; words = e }
 
   next-by : (all : List A) (bs : List B) (left new : List Terminal) (token : Token) (m : Mark) (rest : List Terminal) (so : List A) (ys : List (Mark × T)) → left ≡ t_mark Comma token ∷ new →
-      all ≡ so ++ parts_of p.part ys → bound_each p.bind so ≡ Ok bs → left ≡ p.further ys ++ t_mark Close m ∷ rest → Next all bs new m rest
+      all ≡ so ++ further_parts p.part ys → bound_each p.bind so ≡ Ok bs → left ≡ p.further ys ++ t_mark Close m ∷ rest → Next all bs new m rest
   next-by all bs left new token m rest so [] is whole read e =
       let wrong : t_mark Comma token ∷ new ≡ t_mark Close m ∷ rest = sym is ∙ (e ∙ ap (λ l. l ++ t_mark Close m ∷ rest) p.none) in
       absurd (cc (wrong))
@@ -61,13 +61,13 @@ module _ {T A B : Type 0} (p : Parts T A B) where
   more all bs now left new m rest n b right is grown = record {
     so = n.so ++ p.part n.y ∷ [];
     ys = n.ys;
-    whole = n.whole ∙ sym (append_assoc n.so (p.part n.y ∷ []) (parts_of p.part n.ys));
+    whole = n.whole ∙ sym (append_assoc n.so (p.part n.y ∷ []) (further_parts p.part n.ys));
     read = bound-ok p.bind n.so bs _ b n.read right ∙ ap Ok (sym grown);
     words = is;
   }
 
   whole-by : (all : List A) (bs : List B) (left : List Terminal) (m : Mark) (rest : List Terminal) (so : List A) (ys : List (Mark × T)) → BeginsNot (t_mark Comma) left →
-      all ≡ so ++ parts_of p.part ys → bound_each p.bind so ≡ Ok bs → left ≡ p.further ys ++ t_mark Close m ∷ rest → (bound_each p.bind all ≡ Ok bs) × (left ≡ t_mark Close m ∷ rest)
+      all ≡ so ++ further_parts p.part ys → bound_each p.bind so ≡ Ok bs → left ≡ p.further ys ++ t_mark Close m ∷ rest → (bound_each p.bind all ≡ Ok bs) × (left ≡ t_mark Close m ∷ rest)
   whole-by all bs left m rest so [] other whole read e = (ap (bound_each p.bind) (whole ∙ append-nil so) ∙ read, e ∙ ap (λ l. l ++ t_mark Close m ∷ rest) p.none)
   whole-by all bs left m rest so ((c, y) ∷ ys) other whole read e = absurd (other _ (c, e ∙ ap (λ l. l ++ t_mark Close m ∷ rest) (p.some c y ys)))
 

@@ -19,7 +19,7 @@ use Rattle.expr_reader.specs.Conditions.{next}
 use Rattle.expr_reader.specs.Reads.{Reads as ReadsOn}
 use Rattle.ddl_reader.specs.declared.literals.CommonRead.{CommonRead}
 use Rattle.ddl_reader.specs.Statistics.{CommonWords, common_words, commons_of, bounds_of}
-use Rattle.expr_reader.specs.Lists.{parts_of}
+use Rattle.expr_reader.specs.Lists.{further_parts}
 use Rattle.ddl_reader.specs.AsMeant.{IsAsMeant, ends_common, ends_histogram, words_of_shares_left, words_of_bounds_left, placed, common_placed}
 use Rattle.ddl_reader.proofs.ListLemmas.{Parts}
 
@@ -78,7 +78,7 @@ pub record HasBounds (h : Histogram) (rest left : List Terminal) : Type 0 where
   pub first : Lit
   pub further : List (Mark × Lit)
   pub close : Mark
-  pub is : bounds_of h ≡ first ∷ parts_of (λ l. l) further
+  pub is : bounds_of h ≡ first ∷ further_parts (λ l. l) further
   pub words : drop 1 left ≡ words_of_bounds_left first further close rest
 
 pub has-bounds : (h : Histogram) (rest old left : List Terminal) (token : Token) → ends_histogram rest ≡ true → old ≡ t_name (free HistogramWord token) ∷ left → old ≡ words_of_histogram h ++ rest → HasBounds h rest left
@@ -95,7 +95,7 @@ pub record HasShares (c : Common) (rest left : List Terminal) : Type 0 where
   pub first : Share
   pub further : List (Mark × Share)
   pub close : Mark
-  pub is : commons_of c ≡ common_words first ∷ parts_of common_words further
+  pub is : commons_of c ≡ common_words first ∷ further_parts common_words further
   pub words : drop 1 left ≡ words_of_shares_left first further close rest
 
 pub has-shares : (c : Common) (rest old left : List Terminal) (token : Token) → ends_common rest ≡ true → old ≡ t_name (free CommonWord token) ∷ left → old ≡ words_of_common c ++ rest → HasShares c rest left

@@ -3,7 +3,7 @@ use Rattle.std.proofs.Common.{◌≡◌, ℕ, List, [], ◌∷◌, map, refl}
 use Rattle.pg_value.specs.declared.columns.Column.{Column}
 use Rattle.sql_lex.specs.declared.tokens.Token.{Token}
 use Rattle.ddl_reader.specs.declared.columns.ColumnDef.{ColumnDef}
-use Rattle.ddl_reader.specs.Columns.{Bound}
+use Rattle.ddl_reader.specs.Columns.{BoundColumn}
 use Rattle.ddl_reader.specs.AsMeant.{seen}
 use Rattle.ddl_reader.specs.Tables.{table, table_reading}
 
@@ -17,7 +17,7 @@ column_of d = d.column
 abbrev pub place_of : ColumnDef → ℕ
 place_of d = d.name.token.start
 
-module _ (A : Type 0) (f : Bound → A) (g : ColumnDef → A) (same : (d : ColumnDef) → f (seen d) ≡ g d) where
+module _ (A : Type 0) (f : BoundColumn → A) (g : ColumnDef → A) (same : (d : ColumnDef) → f (seen d) ≡ g d) where
   all-seen : (ds : List ColumnDef) → map f (map seen ds) ≡ map g ds
   all-seen [] = refl
   all-seen (d ∷ ds) = rw (same d, all-seen ds) refl

@@ -16,7 +16,7 @@ use Rattle.expr_reader.specs.declared.cursor.Spelled.{Spelled}
 use Rattle.expr_reader.specs.Reading.{BeginsName, spelled}
 use Rattle.ddl_reader.specs.declared.ddl.Read.{Read}
 use Rattle.ddl_reader.specs.declared.columns.ColumnDef.{ColumnDef}
-use Rattle.ddl_reader.specs.Columns.{Bound}
+use Rattle.ddl_reader.specs.Columns.{BoundColumn}
 use Rattle.ddl_reader.specs.AsMeant.{IsAsMeant, seen}
 use Rattle.ddl_reader.specs.Tables.{Reading, table_reading, limited_columns, bound_table}
 use Rattle.ddl_reader.specs.Readings.{reading}
@@ -26,7 +26,7 @@ use Rattle.ddl_reader.proofs.Parts.{named}
 pub opened : (n : Ident) (o : Mark) (body old mid new : List Terminal) (s : Spelled) → old ≡ t_name n ∷ t_mark Open o ∷ body → BeginsName s old mid → new ≡ drop 1 mid → (s ≡ spelled n) × (new ≡ body)
 opened n o body old mid new s is begins skipped = let one = named n (t_mark Open o ∷ body) s old mid is begins in (one.0, skipped ∙ ap (drop 1) one.1)
 
-module _ (n : Ident) (ds : List ColumnDef) (m : Result (List Bound) Fault) (meant : m ≡ Ok (map seen ds)) where
+module _ (n : Ident) (ds : List ColumnDef) (m : Result (List BoundColumn) Fault) (meant : m ≡ Ok (map seen ds)) where
   pub past : (d : ColumnDef) → slice_get ds MOST_COLUMNS ≡ Some d → bound_table (bytes_of n) (token_of n) m ≡ Err (fault_at (S15 Columns) d.name.token)
   past d is =
       let lt = slice_get_within ds MOST_COLUMNS d is in

@@ -23,7 +23,7 @@ use Rattle.catalog.specs.Contents.{Contents, IsTable, IsLawful}
 use Rattle.catalog.specs.Tables.{table_named}
 use Rattle.ddl_reader.specs.declared.ddl.Read.{Read}
 use Rattle.ddl_reader.specs.Types.{type_named}
-use Rattle.ddl_reader.specs.Columns.{Written, Bound, defined_column, further, bound, bound_by, bound_all}
+use Rattle.ddl_reader.specs.Columns.{Written, BoundColumn, defined_column, further, bound_column, bound_by, bound_all}
 use Rattle.ddl_reader.specs.Statistics.{commons_of, bounds_of}
 use Rattle.ddl_reader.specs.Tables.{Reading, data_for, table_reading, limited_columns, bound_table, data_of, data_after}
 use Rattle.pg_value.specs.Fields.{null_text}
@@ -36,28 +36,28 @@ use Rattle.ddl_reader.proofs.SoundStatisticsLemmas.{AreWithin, within-all, known
 use Rattle.expr_reader.proofs.Named.{AreNamed, named-from}
 
 -- what bound columns have of those that are defined_column
-module _ {A : Type 0} (ours : Bound → A) (theirs : Written → A)
+module _ {A : Type 0} (ours : BoundColumn → A) (theirs : Written → A)
     (alike : (w : Written) (t : SqlType) → ours (record { name = w.name; name_at = w.name_at; column = record { typed = t; not_null = w.not_null } }) ≡ theirs w) where
-  bound-alike : (w : Written) (b : Bound) (o : Option SqlType) → bound_by o w ≡ Ok b → ours b ≡ theirs w
+  bound-alike : (w : Written) (b : BoundColumn) (o : Option SqlType) → bound_by o w ≡ Ok b → ours b ≡ theirs w
   bound-alike w b None is = absurd (cc)
   bound-alike w b (Some t) is =
       let same : record { name = w.name; name_at = w.name_at; column = record { typed = t; not_null = w.not_null } } ≡ b = cc in
       sym (ap ours same) ∙ alike w t
 
-  all-alike : (ws : List Written) (bs : List Bound) → bound_all ws ≡ Ok bs → map ours bs ≡ map theirs ws
-  all-alike ws bs is = sym (each-same bound theirs ours (λ w b e. sym (bound-alike w b (type_named w.kind) e)) ws bs is)
+  all-alike : (ws : List Written) (bs : List BoundColumn) → bound_all ws ≡ Ok bs → map ours bs ≡ map theirs ws
+  all-alike ws bs is = sym (each-same bound_column theirs ours (λ w b e. sym (bound-alike w b (type_named w.kind) e)) ws bs is)
 
 -- the names of bound columns and their places are those that are defined_column
-abbrev AreCalled : List Written → List Bound → Type 0
+abbrev AreCalled : List Written → List BoundColumn → Type 0
 AreCalled ws bs = map (λ b. b.name) bs ≡ map (λ w. w.name) ws
 
-abbrev ArePlaced : List Written → List Bound → Type 0
+abbrev ArePlaced : List Written → List BoundColumn → Type 0
 ArePlaced ws bs = map (λ b. b.name_at.start) bs ≡ map (λ w. w.name_at.start) ws
 
-called : (ws : List Written) (bs : List Bound) → bound_all ws ≡ Ok bs → AreCalled ws bs
+called : (ws : List Written) (bs : List BoundColumn) → bound_all ws ≡ Ok bs → AreCalled ws bs
 called = all-alike (λ b. b.name) (λ w. w.name) (λ w t. refl)
 
-put : (ws : List Written) (bs : List Bound) → bound_all ws ≡ Ok bs → ArePlaced ws bs
+put : (ws : List Written) (bs : List BoundColumn) → bound_all ws ≡ Ok bs → ArePlaced ws bs
 put = all-alike (λ b. b.name_at.start) (λ w. w.name_at.start) (λ w t. refl)
 
 -- what holds of each name among some words
@@ -92,16 +92,16 @@ module _ (Q : Ident → Type 0) where
       (columns-hold P f is d ds rest (subst (Holds Q) (append_assoc (words_of_coldef d) (words_of_columns ds) rest) later.1))
 
 -- a table that is meant
-few-by : (bs left : List Bound) → drop MOST_COLUMNS bs ≡ left → left ≡ [] → length bs ≤ MOST_COLUMNS
+few-by : (bs left : List BoundColumn) → drop MOST_COLUMNS bs ≡ left → left ≡ [] → length bs ≤ MOST_COLUMNS
 few-by bs left is none = let len = length-drop MOST_COLUMNS bs in let zero-left = ap length (is ∙ none) in omega (arith, len, zero-left)
 
 module _ (cat : Contents) (text : List ℕ) where
-  table-sound : (name : List ℕ) (token : Token) (w : Written) (ws : List Written) (bs : List Bound) → IsName name → All IsName (map (λ v. v.name) (w ∷ ws)) → AreCalled (w ∷ ws) bs →
+  table-sound : (name : List ℕ) (token : Token) (w : Written) (ws : List Written) (bs : List BoundColumn) → IsName name → All IsName (map (λ v. v.name) (w ∷ ws)) → AreCalled (w ∷ ws) bs →
       token.start ≤ length text → All (λ a. a ≤ length text) (map (λ v. v.name_at.start) (w ∷ ws)) → ArePlaced (w ∷ ws) bs → length bs ≤ MOST_COLUMNS → IsSound cat text (table_reading name token bs)
   table-sound name token w ws bs named all same here low placed few =
-      let names = length-map bs (λ (b : Bound). b.name) in
-      let columns = length-map bs (λ (b : Bound). b.column) in
-      let places = length-map bs (λ (b : Bound). b.name_at.start) in
+      let names = length-map bs (λ (b : BoundColumn). b.name) in
+      let columns = length-map bs (λ (b : BoundColumn). b.column) in
+      let places = length-map bs (λ (b : BoundColumn). b.name_at.start) in
       let all-names = length-map (w ∷ ws) (λ (v : Written). v.name) in
       let count = ap length same in
       record {
@@ -114,11 +114,11 @@ module _ (cat : Contents) (text : List ℕ) where
         few = omega (arith, columns, few);
       }
 
-  limited-sound : (m r : Reading) (bs left : List Bound) → drop MOST_COLUMNS bs ≡ left → (length bs ≤ MOST_COLUMNS → IsSound cat text m) → Ok r ≡ limited_columns m left → IsSound cat text r
+  limited-sound : (m r : Reading) (bs left : List BoundColumn) → drop MOST_COLUMNS bs ≡ left → (length bs ≤ MOST_COLUMNS → IsSound cat text m) → Ok r ≡ limited_columns m left → IsSound cat text r
   limited-sound m r bs [] few sound is = let same : m ≡ r = cc in subst (IsSound cat text) same (sound (few-by bs [] few refl))
   limited-sound m r bs (b ∷ left) few sound is = absurd (cc (is))
 
-  bound-sound : (name : List ℕ) (token : Token) (w : Written) (ws : List Written) (r : Reading) (m : Result (List Bound) Fault) → IsName name → All IsName (map (λ v. v.name) (w ∷ ws)) → token.start ≤ length text →
+  bound-sound : (name : List ℕ) (token : Token) (w : Written) (ws : List Written) (r : Reading) (m : Result (List BoundColumn) Fault) → IsName name → All IsName (map (λ v. v.name) (w ∷ ws)) → token.start ≤ length text →
       All (λ a. a ≤ length text) (map (λ v. v.name_at.start) (w ∷ ws)) → bound_all (w ∷ ws) ≡ m → Ok r ≡ bound_table name token m → IsSound cat text r
   bound-sound name token w ws r (Err f) named all here low is means = absurd (cc (means))
   bound-sound name token w ws r (Ok bs) named all here low is means =

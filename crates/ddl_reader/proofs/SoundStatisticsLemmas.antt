@@ -26,7 +26,7 @@ use Rattle.catalog.specs.Contents.{Contents, IsTable, IsColumn, IsLawful, no_tab
 use Rattle.catalog.specs.Indexes.{type_at}
 use Rattle.catalog.specs.Statistics.{IsValueOf}
 use Rattle.catalog.specs.Tables.{table_named, column_named}
-use Rattle.expr_reader.specs.Lists.{parts_of, bound_each}
+use Rattle.expr_reader.specs.Lists.{further_parts, bound_each}
 use Rattle.ddl_reader.specs.Statistics.{CommonWords, common_words, commons_of, bounds_of, common_value, known, number_of_32, number_of_64, start_of, start_of_lit, starts_of_common, places_of, sizes_reading, statistics_of, column_of_name, stated_rows, column_statistics_of, analysis, analysis_reading}
 use Rattle.ddl_reader.specs.Tables.{Reading, statistics_for}
 use Rattle.ddl_reader.specs.Soundness.{IsSound}
@@ -63,31 +63,31 @@ module _ (most : ℕ) where
       let (lit, part) = split most (words_of_lit l) (t_number n ∷ []) h in
       All-cons (λ a. a ≤ most) (start_of_lit l) (start_of n ∷ ns) (lit-within l lit) (All-cons (λ a. a ≤ most) (start_of n) ns part.0 low)
 
-  shares-within : (ss : List (Mark × Share)) (ns : List ℕ) → AreWithin most (words_of_shares ss) → Low ns → Low (flat_map starts_of_common (parts_of common_words ss) ++ ns)
+  shares-within : (ss : List (Mark × Share)) (ns : List ℕ) → AreWithin most (words_of_shares ss) → Low ns → Low (flat_map starts_of_common (further_parts common_words ss) ++ ns)
   shares-within [] ns h low = low
   shares-within ((m, s) ∷ ss) ns h low =
       let (one, more) = split most (words_of_share s) (words_of_shares ss) h.1 in
-      share-within s (flat_map starts_of_common (parts_of common_words ss) ++ ns) one (shares-within ss ns more low)
+      share-within s (flat_map starts_of_common (further_parts common_words ss) ++ ns) one (shares-within ss ns more low)
 
   common-within : (c : Common) (ns : List ℕ) → AreWithin most (words_of_common c) → Low ns → Low (flat_map starts_of_common (commons_of c) ++ ns)
   common-within no_common ns h low = low
   common-within (common k o s ss m) ns h low =
       let (one, rest) = split most (words_of_share s) (words_of_shares ss ++ t_mark Close m ∷ []) h.1.1 in
       let (more, last) = split most (words_of_shares ss) (t_mark Close m ∷ []) rest in
-      share-within s (flat_map starts_of_common (parts_of common_words ss) ++ ns) one (shares-within ss ns more low)
+      share-within s (flat_map starts_of_common (further_parts common_words ss) ++ ns) one (shares-within ss ns more low)
 
-  bounds-within : (ls : List (Mark × Lit)) → AreWithin most (words_of_bounds ls) → Low (map start_of_lit (parts_of (λ l. l) ls))
+  bounds-within : (ls : List (Mark × Lit)) → AreWithin most (words_of_bounds ls) → Low (map start_of_lit (further_parts (λ l. l) ls))
   bounds-within [] h = All-nil (λ a. a ≤ most)
   bounds-within ((m, l) ∷ ls) h =
       let (one, more) = split most (words_of_lit l) (words_of_bounds ls) h.1 in
-      All-cons (λ a. a ≤ most) (start_of_lit l) (map start_of_lit (parts_of (λ x. x) ls)) (lit-within l one) (bounds-within ls more)
+      All-cons (λ a. a ≤ most) (start_of_lit l) (map start_of_lit (further_parts (λ x. x) ls)) (lit-within l one) (bounds-within ls more)
 
   histogram-within : (h : Histogram) → AreWithin most (words_of_histogram h) → Low (map start_of_lit (bounds_of h))
   histogram-within no_histogram h = All-nil (λ a. a ≤ most)
   histogram-within (histogram k o l ls m) h =
       let (one, rest) = split most (words_of_lit l) (words_of_bounds ls ++ t_mark Close m ∷ []) h.1.1 in
       let (more, last) = split most (words_of_bounds ls) (t_mark Close m ∷ []) rest in
-      All-cons (λ a. a ≤ most) (start_of_lit l) (map start_of_lit (parts_of (λ x. x) ls)) (lit-within l one) (bounds-within ls more)
+      All-cons (λ a. a ≤ most) (start_of_lit l) (map start_of_lit (further_parts (λ x. x) ls)) (lit-within l one) (bounds-within ls more)
 
   pub places-within : (d z : Said) (c : Common) (h : Histogram) (rest : List Terminal) → d.token.start ≤ most → z.token.start ≤ most → AreWithin most (words_of_common c ++ (words_of_histogram h ++ rest)) →
       Low (places_of d z (commons_of c) (bounds_of h))

@@ -18,7 +18,7 @@ use Rattle.expr_reader.specs.Literals.{typed_value, place_of_lit}
 use Rattle.expr_reader.specs.Conditions.{next}
 use Rattle.ddl_reader.specs.declared.columns.ColumnDef.{ColumnDef}
 use Rattle.ddl_reader.specs.declared.literals.CommonRead.{CommonRead}
-use Rattle.ddl_reader.specs.Columns.{Bound}
+use Rattle.ddl_reader.specs.Columns.{BoundColumn}
 use Rattle.ddl_reader.specs.Statistics.{CommonWords}
 
 -- what is read, seen by `view`, is what is meant, and a fault is the fault that is meant; or there was no memory
@@ -48,12 +48,12 @@ abbrev pub words_of_body : ColDef → List (Mark × ColDef) → Mark → List Te
 words_of_body c cs m rest = words_of_coldef c ++ (words_of_columns cs ++ t_mark Close m ∷ rest)
 
 -- a column that is read
-abbrev pub seen : ColumnDef → Bound
+abbrev pub seen : ColumnDef → BoundColumn
 seen d = record { name = d.name.bytes; name_at = d.name.token; column = d.column }
 
 -- the columns that are read are those that are meant, or their first fault is; or there was no memory
-abbrev pub AreColumnsMeant : Result (Vec ColumnDef Global) Refusal → Result (List Bound) Fault → Type 0
-AreColumnsMeant = IsAsMeant (Vec ColumnDef Global) (List Bound) (λ v. map seen v.items)
+abbrev pub AreColumnsMeant : Result (Vec ColumnDef Global) Refusal → Result (List BoundColumn) Fault → Type 0
+AreColumnsMeant = IsAsMeant (Vec ColumnDef Global) (List BoundColumn) (λ v. map seen v.items)
 
 -- COMMON is not next: no common values follow
 abbrev pub ends_common : List Terminal → Bool

@@ -11,7 +11,7 @@ use Rattle.sql_grammar.specs.Syntax.{Mark, Nulls, unwritten, not_null, nullable,
 use Rattle.sql_grammar.specs.Faults.{bytes_of, fault_at}
 use Rattle.expr_reader.specs.declared.cursor.Spelled.{Spelled}
 use Rattle.ddl_reader.specs.Types.{type_named}
-use Rattle.expr_reader.specs.Lists.{parts_of, bound_each}
+use Rattle.expr_reader.specs.Lists.{further_parts, bound_each}
 
 -- a column as it is defined_column: its name and its type's name, in small letters, each with its token, and whether NOT NULL stands
 pub record Written : Type 0 where
@@ -22,7 +22,7 @@ pub record Written : Type 0 where
   pub not_null : Bool
 
 -- a column with its type
-pub record Bound : Type 0 where
+pub record BoundColumn : Type 0 where
   pub name : List ℕ
   pub name_at : Token
   pub column : Column
@@ -44,17 +44,17 @@ written_column name kind strict =
 
 -- further columns
 abbrev pub further : List (Mark × ColDef) → List Written
-further = parts_of defined_column
+further = further_parts defined_column
 
 -- with its type, where there is one of the name; else the type's name is at fault
-abbrev pub bound_by : Option SqlType → Written → Result Bound Fault
+abbrev pub bound_by : Option SqlType → Written → Result BoundColumn Fault
 bound_by None w = Err (fault_at S8 w.kind_at)
 bound_by (Some t) w = Ok (record { name = w.name; name_at = w.name_at; column = record { typed = t; not_null = w.not_null } })
 
 -- a column bound
-abbrev pub bound : Written → Result Bound Fault
-bound w = bound_by (type_named w.kind) w
+abbrev pub bound_column : Written → Result BoundColumn Fault
+bound_column w = bound_by (type_named w.kind) w
 
 -- columns bound from the left, or the first fault
-abbrev pub bound_all : List Written → Result (List Bound) Fault
-bound_all = bound_each bound
+abbrev pub bound_all : List Written → Result (List BoundColumn) Fault
+bound_all = bound_each bound_column

@@ -19,7 +19,7 @@ use Rattle.expr_reader.specs.Conditions.{next}
 use Rattle.catalog.specs.Contents.{Contents, table_at}
 use Rattle.catalog.specs.Indexes.{type_at}
 use Rattle.catalog.specs.Tables.{table_named, column_named}
-use Rattle.expr_reader.specs.Lists.{parts_of, bound_each}
+use Rattle.expr_reader.specs.Lists.{further_parts, bound_each}
 use Rattle.ddl_reader.specs.Tables.{Reading, sizes_for, statistics_for, analysis_of}
 
 -- the number that a word writes, or the greatest of its field where it is more
@@ -50,12 +50,12 @@ common_words (share l n) = (l, n)
 -- the common values of COMMON from the left, none where it is left out
 abbrev pub commons_of : Common → List CommonWords
 commons_of no_common = []
-commons_of (common _ _ s ss _) = common_words s ∷ parts_of common_words ss
+commons_of (common _ _ s ss _) = common_words s ∷ further_parts common_words ss
 
 -- the bounds of HISTOGRAM from the left, none where it is left out
 abbrev pub bounds_of : Histogram → List Lit
 bounds_of no_histogram = []
-bounds_of (histogram _ _ l ls _) = l ∷ parts_of (λ x. x) ls
+bounds_of (histogram _ _ l ls _) = l ∷ further_parts (λ x. x) ls
 
 -- a common value of a column of this type, with its share
 abbrev pub common_value : SqlType → CommonWords → Result (Value × ℕ) Fault

@@ -16,7 +16,7 @@ use Rattle.catalog.specs.Contents.{Contents}
 use Rattle.catalog.specs.Statistics.{Statistics}
 use Rattle.catalog.specs.Tables.{table_named}
 use Rattle.expr_reader.specs.declared.cursor.Spelled.{Spelled}
-use Rattle.ddl_reader.specs.Columns.{Bound}
+use Rattle.ddl_reader.specs.Columns.{BoundColumn}
 
 -- what is defined: a table by its name, its columns' names and its columns; the rows and pages of a table; what is known of
 -- a column of a table; data for a table, from an offset on; or that the rows of a table give its statistics
@@ -33,19 +33,19 @@ pub record Reading : Type 0 where
   pub at : List ℕ
 
 -- the table of this name, whose token is given, with these columns
-abbrev pub table_reading : List ℕ → Token → List Bound → Reading
+abbrev pub table_reading : List ℕ → Token → List BoundColumn → Reading
 table_reading name token bs = record {
   definition = table name (map (λ b. b.name) bs) (map (λ b. b.column) bs);
   at = token.start ∷ map (λ b. b.name_at.start) bs;
 }
 
 -- the first column past the limit is at fault, at its name
-abbrev pub limited_columns : Reading → List Bound → Result Reading Fault
+abbrev pub limited_columns : Reading → List BoundColumn → Result Reading Fault
 limited_columns reading [] = Ok reading
 limited_columns reading (b ∷ _) = Err (fault_at (S15 Columns) b.name_at)
 
 -- after all columns are bound comes their limit
-abbrev pub bound_table : List ℕ → Token → Result (List Bound) Fault → Result Reading Fault
+abbrev pub bound_table : List ℕ → Token → Result (List BoundColumn) Fault → Result Reading Fault
 bound_table name token (Err f) = Err f
 bound_table name token (Ok bs) = limited_columns (table_reading name token bs) (drop MOST_COLUMNS bs)
 

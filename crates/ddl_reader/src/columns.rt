@@ -5,7 +5,7 @@ ghost use Rattle.sql_grammar.specs.Terminals.{Terminal};
 ghost use Rattle.sql_grammar.specs.Syntax.{ColDef};
 ghost use Rattle.sql_grammar.specs.Words.{words_of_nulls, words_of_coldef};
 ghost use Rattle.ddl_reader.specs.declared.columns.ColumnDef.{ColumnDef};
-ghost use Rattle.ddl_reader.specs.Columns.{refuses_null, defined_column, further, Bound, bound, bound_all, written_column};
+ghost use Rattle.ddl_reader.specs.Columns.{refuses_null, defined_column, further, BoundColumn, bound_column, bound_all, written_column};
 ghost use Rattle.ddl_reader.specs.AsMeant.{ends_nulls, words_of_body, IsAsMeant, Tells, seen, AreColumnsMeant};
 ghost use Rattle.expr_reader.specs.Reading.{IfFirst, Yields, StandsList, IfList, LeavesRest};
 
@@ -43,7 +43,7 @@ fn not_null(from: &mut Cursor) -> bool
 
 /// The column of this name and of this type. An unknown type is refused (42704) at its name.
 fn bind(name: Spelled, kind: &Spelled, not_null: bool) -> Result<ColumnDef, Refusal>
-    ensures { Tells ColumnDef Bound seen result (bound (written_column name kind.now not_null)) }
+    ensures { Tells ColumnDef BoundColumn seen result (bound_column (written_column name kind.now not_null)) }
 {
     let Some(typed) = type_named(kind.bytes.items()) else {
         return Err(word_fault(Code::S8, kind.token));
@@ -58,7 +58,7 @@ fn bind(name: Spelled, kind: &Spelled, not_null: bool) -> Result<ColumnDef, Refu
 fn one_column(alloc: Global, from: &mut Cursor) -> Result<ColumnDef, Refusal>
     requires { (x : ColDef) × (rest : List Terminal) × (from.old ≡ words_of_coldef x ++ rest) }
     ensures read { IfFirst words_of_coldef ends_nulls from.old
-        (λ x rest. IsAsMeant ColumnDef Bound seen result (bound (defined_column x))) }
+        (λ x rest. IsAsMeant ColumnDef BoundColumn seen result (bound_column (defined_column x))) }
     ensures left { OnOk result (LeavesRest words_of_coldef ends_nulls from.old from.new) }
     ensures ahead { OnOk result (length from.new ≤ length from.old) }
 {

@@ -6,7 +6,7 @@ ghost use Rattle.sql_grammar.specs.Syntax.{Lit, Share};
 ghost use Rattle.sql_grammar.specs.Words.{words_of_lit, words_of_share, words_of_common, words_of_histogram};
 ghost use Rattle.expr_reader.specs.declared.value.Placed.{Placed};
 ghost use Rattle.ddl_reader.specs.declared.literals.CommonRead.{CommonRead};
-ghost use Rattle.expr_reader.specs.Lists.{parts_of, bound_each};
+ghost use Rattle.expr_reader.specs.Lists.{further_parts, bound_each};
 ghost use Rattle.ddl_reader.specs.Statistics.{common_words, commons_of, bounds_of};
 ghost use Rattle.ddl_reader.specs.AsMeant.{IsAsMeant, ends_common, ends_histogram, words_of_shares_left, words_of_bounds_left, placed, common_placed, AreAsMeant};
 ghost use Rattle.expr_reader.specs.Reading.{StandsFirst, IfFirst, IfWords, StandsList, IfList, LeavesRest, LeavesWords, LeavesClose};
@@ -55,7 +55,7 @@ fn share(alloc: Global, t: SqlType, from: &mut Cursor) -> Result<CommonRead, Ref
 fn bounds(alloc: Global, t: SqlType, from: &mut Cursor) -> Result<Vec<Placed>, Refusal>
     requires { StandsList words_of_bounds_left from.old }
     ensures read { IfList words_of_bounds_left from.old (λ l ls m rest.
-        AreAsMeant Placed result (bound_each (placed t) (l ∷ parts_of (λ x. x) ls))) }
+        AreAsMeant Placed result (bound_each (placed t) (l ∷ further_parts (λ x. x) ls))) }
     ensures left { OnOk result (LeavesClose words_of_bounds_left from.old from.new) }
 {
     let mut all = Vec::new(alloc);
@@ -72,7 +72,7 @@ fn bounds(alloc: Global, t: SqlType, from: &mut Cursor) -> Result<Vec<Placed>, R
 fn shares(alloc: Global, t: SqlType, from: &mut Cursor) -> Result<Vec<CommonRead>, Refusal>
     requires { StandsList words_of_shares_left from.old }
     ensures read { IfList words_of_shares_left from.old (λ s ss m rest. AreAsMeant CommonRead
-        result (bound_each (common_placed t) (common_words s ∷ parts_of common_words ss))) }
+        result (bound_each (common_placed t) (common_words s ∷ further_parts common_words ss))) }
     ensures left { OnOk result (LeavesClose words_of_shares_left from.old from.new) }
 {
     let mut all = Vec::new(alloc);

@@ -6,7 +6,7 @@ use Rattle.catalog.specs.Contents.{Contents}
 use Rattle.cost_rules.specs.Costs.{IsEstimate, capped_pair, merge_cost, nest_cost, sort_cost}
 use Rattle.cost_rules.specs.declared.pair.Pair.{Pair}
 use Rattle.pg_expr.specs.AtomSets.{contains}
-use Rattle.eq_classes.specs.Clauses.{Set, Table}
+use Rattle.eq_classes.specs.Clauses.{Set, ClassTable}
 use Rattle.eq_classes.specs.Listing.{clause_at}
 use Rattle.eq_classes.specs.Parts.{is_join}
 use Rattle.path_cost.specs.Costs.{operators}
@@ -25,7 +25,7 @@ use Rattle.plan_tree.proofs.GivenLemmas.{given-none}
 use Rattle.plan_tree.proofs.SetLemmas.{sets-same}
 
 -- the operators of the clauses found, which are those of a nested loop of plans of these sets
-pub nest-operators-are : (q : Query) (t : Table) (tested none : List ℕ) (a : RelSet) (o i : Plan) (n : ℕ) → t ≡ q.classes → IsSameSet (set_of o) (has a.0) →
+pub nest-operators-are : (q : Query) (t : ClassTable) (tested none : List ℕ) (a : RelSet) (o i : Plan) (n : ℕ) → t ≡ q.classes → IsSameSet (set_of o) (has a.0) →
     ((k : ℕ) → contains tested k ≡ nat_lt k (length t.clauses) && joins (has a.0) i (clause_at t.clauses k)) → ((k : ℕ) → contains none k ≡ false) →
     n ≡ min (operators (conditions_from 0 (either_but tested none none) t.clauses)) (2 ^ 64 - 1) → n ≡ min (join_operators q o i) (2 ^ 64 - 1)
 nest-operators-are q t tested none a o i n same reads h g e =
@@ -34,7 +34,7 @@ nest-operators-are q t tested none a o i n same reads h g e =
     ∙ (λ z. min (operators (conditions_where (joins (as-set z) i) (same z).clauses)) (2 ^ 64 - 1))
 
 -- and of a merge of two sets by some classes
-pub merge-operators-are : (q : Query) (t : Table) (keys tested none equal : List ℕ) (a b : RelSet) (n : ℕ) → t ≡ q.classes →
+pub merge-operators-are : (q : Query) (t : ClassTable) (keys tested none equal : List ℕ) (a b : RelSet) (n : ℕ) → t ≡ q.classes →
     ((k : ℕ) → contains tested k ≡ nat_lt k (length t.clauses) && is_join (has a.0) (has b.0) (clause_at t.clauses k)) → ((k : ℕ) → contains none k ≡ false) →
     ((k : ℕ) → contains equal k ≡ nat_lt k (length t.clauses) && (is_join (has a.0) (has b.0) (clause_at t.clauses k) && is_pair_of keys (clause_at t.clauses k))) →
     n ≡ min (operators (conditions_from 0 (either_but tested none equal) t.clauses)) (2 ^ 64 - 1) →

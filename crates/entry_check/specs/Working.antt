@@ -15,7 +15,7 @@ use Rattle.entry_check.specs.declared.merges.MergeWork.{MergeWork}
 use Rattle.entry_check.specs.declared.nests.NestWork.{NestWork}
 use Rattle.pg_base.specs.declared.rel_set.RelSet.{RelSet}
 use Rattle.pg_expr.specs.AtomSets.{contains}
-use Rattle.eq_classes.specs.Clauses.{Table}
+use Rattle.eq_classes.specs.Clauses.{ClassTable}
 use Rattle.eq_classes.specs.Listing.{clause_at}
 use Rattle.eq_classes.specs.declared.classes.ClassNo.{ClassNo}
 
@@ -46,7 +46,7 @@ module _ (c : Contents) (q : Query) where
     pub tested : w.ops ≡ min (operators (conditions_where (λ k. is_join (has w.outer.0) (has w.inner.0) k && not (is_pair_of (class_numbers w.list.now) k)) q.classes.clauses)) (2 ^ 64 - 1)
 
 -- the clauses that a join of one set tests with any plan of a second that is given the rows of a third
-abbrev pub AreClausesTested : Table → RelSet → RelSet → RelSet → List ℕ → Type 0
+abbrev pub AreClausesTested : ClassTable → RelSet → RelSet → RelSet → List ℕ → Type 0
 AreClausesTested t a b p tested = (i : Plan) → IsSameSet (set_of i) (has b.0) → IsSameSet (param_of i) (has p.0) →
     (k : ℕ) → contains tested k ≡ nat_lt k (length t.clauses) && joins (has a.0) i (clause_at t.clauses k)
 

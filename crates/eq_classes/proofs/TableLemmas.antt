@@ -9,7 +9,7 @@ use Rattle.pg_expr.specs.Columns.{each_column}
 use Rattle.pg_expr.specs.Truths.{truth_of_all}
 use Rattle.pg_expr.specs.Typed.{IsTyped}
 use Rattle.eq_classes.specs.Classes.{Premises, Class, IsClass, conjuncts_in}
-use Rattle.eq_classes.specs.Clauses.{Set, one, first_in, Clause, clauses_from, conjunct_clauses, clause_list, Table}
+use Rattle.eq_classes.specs.Clauses.{Set, one, first_in, Clause, clauses_from, conjunct_clauses, clause_list, ClassTable}
 use Rattle.eq_classes.specs.Parts.{union, is_inside, is_all, is_base, is_join, is_param, is_join_param}
 use Rattle.eq_classes.specs.Holding.{hold, Fits, IsClassTable, AreApart, IsWithin, AgreeOn, HasClass}
 use Rattle.eq_classes.proofs.ListLemmas.{IsIn, in_from_contains, all_at}
@@ -23,7 +23,7 @@ use Rattle.eq_classes.proofs.WrittenLemmas.{each_true, true_each, in_typed, in_i
 abbrev pub made : Premises → List Class → List Clause
 made g classes = clause_list g.type_of g.conjuncts classes
 
-module _ (g : Premises) (t : Table) (is : IsClassTable g t) where
+module _ (g : Premises) (t : ClassTable) (is : IsClassTable g t) where
   pub list_is : made g t.classes ≡ t.clauses
   list_is = sym is.clauses
 
@@ -52,6 +52,6 @@ module _ (g : Premises) (t : Table) (is : IsClassTable g t) where
       ∙ in_truth g.type_of ws typed b fits
 
 -- what the clauses of a table of given conjuncts mean
-abbrev pub Means : Premises → Table → Type 0
+abbrev pub Means : Premises → ClassTable → Type 0
 Means g t = (ws : List Cond) (b : ColRef → Value) (set : Set) → g.conjuncts ≡ conjuncts_in ws → All (IsTyped g.type_of) ws → Fits g.type_of b → set 0 ≡ true
     → All (λ w. each_column (λ x. set x.rel.0) w ≡ true) ws → hold b (is_all set) t.clauses ≡ is_true (truth_of_all b (conds_of ws))

@@ -8,7 +8,7 @@ use Rattle.pg_expr.specs.declared.operand.ColRef.{ColRef}
 use Rattle.pg_expr.specs.declared.operand.Operand.TheVariants.{Col}
 use Rattle.pg_expr.specs.Pushed.{is_lower}
 use Rattle.eq_classes.specs.Classes.{Premises, Linked, Class, is_family, has_member, Mention, is_in, mentions, first_mention, IsClass, AreClasses}
-use Rattle.eq_classes.specs.Clauses.{Clause, clause_list, Table}
+use Rattle.eq_classes.specs.Clauses.{Clause, clause_list, ClassTable}
 use Rattle.eq_classes.specs.Holding.{IsClassTable}
 use Rattle.eq_classes.proofs.ListLemmas.{IsIn, Before, all_at, pairs_at, any_at}
 use Rattle.eq_classes.proofs.EqualLemmas.{family_is}
@@ -57,7 +57,7 @@ same_class g c d p q family members =
     let moved : made c.family c.members d.constants d.descending d.nulls_first ≡ d = ap (λ (f : Family). made f c.members d.constants d.descending d.nulls_first) family ∙ ap (λ (m : List ColRef). made d.family m d.constants d.descending d.nulls_first) members in
     same_made g c.family c.members c.constants d.constants c.descending d.descending c.nulls_first d.nulls_first p (subst (IsClass g) (sym moved) q) ∙ moved
 
-abbrev table_of : List Clause → List Class → Table
+abbrev table_of : List Clause → List Class → ClassTable
 table_of ks cs = record { clauses = ks; classes = cs }
 
 module _ (g : Premises) where
@@ -87,7 +87,7 @@ module _ (g : Premises) where
       (pairs_at (λ c d. first_mention g c < first_mention g d) cs are.numbered) (pairs_at (λ c d. first_mention g c < first_mention g d) ds are'.numbered)
       (found_in_other cs ds are are') (found_in_other ds cs are' are)
 
-  pub table_one : (t u : Table) → IsClassTable g t → IsClassTable g u → t ≡ u
+  pub table_one : (t u : ClassTable) → IsClassTable g t → IsClassTable g u → t ≡ u
   table_one t u p q =
       let classes : t.classes ≡ u.classes = classes_one t.classes u.classes p.classes q.classes in
       let listed : t.clauses ≡ u.clauses = p.clauses ∙ ap (clause_list g.type_of g.conjuncts) classes ∙ sym q.clauses in

@@ -14,7 +14,7 @@ use Rattle.eq_classes.specs.Classes.{Class}
 use Rattle.opfamily.specs.pg_base_rel_set_RelSet.{RelSet}
 use Rattle.opfamily.specs.pg_base_Sets.{has}
 use Rattle.pg_expr.specs.Columns.{names_rel}
-use Rattle.eq_classes.specs.Clauses.{Source, by_conjunct, by_class, by_pair, Clause, clause, inner_clause, first_in, one, Table, pair_clause, equals_constant, conjunct_clauses, each_pair, inner_clauses, constant_clauses, class_clauses}
+use Rattle.eq_classes.specs.Clauses.{Source, by_conjunct, by_class, by_pair, Clause, clause, inner_clause, first_in, one, ClassTable, pair_clause, equals_constant, conjunct_clauses, each_pair, inner_clauses, constant_clauses, class_clauses}
 use Rattle.std.specs.declared.alloc.Global.{Global}
 use Rattle.pg_expr.specs.declared.expr.Expr.{Expr}
 use Rattle.eq_classes.specs.declared.classes.ClassNo.{ClassNo}
@@ -114,7 +114,7 @@ abbrev pub clause_at : List Clause → ℕ → Clause
 clause_at ks n = slice_index_or ks n (clause (const True) (by_conjunct 0))
 
 -- a number is that of a clause of the table that passes a test
-abbrev pub selects : (Clause → Bool) → Table → ℕ → Bool
+abbrev pub selects : (Clause → Bool) → ClassTable → ℕ → Bool
 selects test t k = nat_lt k (length t.clauses) && test (clause_at t.clauses k)
 
 -- the conjunct of a clause, or none where a class makes it
@@ -128,7 +128,7 @@ pair_class_of (by_pair n c l h) = Some n
 pair_class_of s = None
 
 -- the table of these entries and classes
-abbrev pub table_of : List Class → List Listed → Table
+abbrev pub table_of : List Class → List Listed → ClassTable
 table_of cs ks = record { clauses = clauses_of cs ks; classes = cs }
 
 -- each set holds the relations that the condition of its entry names

@@ -42,10 +42,10 @@ impl Model for Classes {
     ghost use Rattle.std.specs.Prelude.{◌<◌, ◌≤◌, ◌^◌, length};
     ghost use Rattle.std.specs.Coded.{codes};
     ghost use Rattle.pg_expr.specs.CondCode.{cond_code};
-    ghost use Rattle.eq_classes.specs.Clauses.{Table};
+    ghost use Rattle.eq_classes.specs.Clauses.{ClassTable};
     ghost use Rattle.eq_classes.specs.Listing.{table_of, AreNamed};
 
-    ghost Value = { Table };
+    ghost Value = { ClassTable };
 
     ghost coded = { Prim.hlevel (codes, cond_code (Prim.hlevel codes)) };
 

@@ -4,10 +4,10 @@ ghost use Rattle.std.specs.Prelude.{◌≡◌, ◌≤◌, ◌+◌, true, length,
 ghost use Rattle.heap.specs.Tuples.{rank};
 ghost use Rattle.sql_query.specs.Queries.{Query};
 ghost use Rattle.plan_tree.specs.Views.{plan};
-ghost use Rattle.scan_exec.specs.Coming.{allowed, behind, is_given, owed};
+ghost use Rattle.scan_exec.specs.Coming.{looks_allowed, behind, is_given, owed};
 ghost use Rattle.scan_exec.specs.Plans.{IsScan};
 ghost use Rattle.plan_laws.specs.Closed.{is_scan};
-ghost use Rattle.executor.specs.EState.{IsOver};
+ghost use Rattle.executor.specs.EState.{IsOverStore};
 ghost use Rattle.executor.specs.Node.{IsNextScanned, IsScanning, IsSpentScanning, scanning_left, scanning_set};
 ghost use Rattle.executor.specs.AtState.{IsDrawableAt, whole_coming, whole_fetches, whole_looks, whole_run};
 
@@ -32,7 +32,7 @@ pub(crate) fn start_scanning<'a, C: Counters>(
     p: &'a Plan,
     reads: &mut Steps<C::Looks>,
 ) -> Result<Scanning<'a, C>, Memory>
-    requires over { IsOver at.now }
+    requires over { IsOverStore at.now }
     requires plan { IsDrawableAt at.now (plan p.now) }
     requires scan { IsScan (plan p.now) }
     ensures good { IfOk result (λ s. IsScanning s) }
@@ -41,7 +41,7 @@ pub(crate) fn start_scanning<'a, C: Counters>(
     ensures left { IfOk result (λ s. scanning_left at.now.q.now s ≡ whole_run at.now (plan p.now)) }
     ensures owed { IfOk result (λ s. owed s.rows ≡ whole_fetches at.now (plan p.now)) }
     ensures coming { IfOk result (λ s. s.rows ≡ whole_coming at.now (plan p.now)) }
-    ensures reads { IfOk result (λ s. reads.new + allowed s.rows ≤
+    ensures reads { IfOk result (λ s. reads.new + looks_allowed s.rows ≤
         reads.old + whole_looks at.now (plan p.now)) }
     ensures most { reads.new ≤ reads.old + whole_looks at.now (plan p.now) }
 {
@@ -67,7 +67,7 @@ pub(crate) fn next_scanned<'a, C: Counters>(
     ensures none { IfOk result (λ o. IfNone o (IsSpentScanning scanning.old scanning.new)) }
     ensures rest { scanning.new.rows ≡ behind is_given scanning.old.rows }
     ensures exact { fetches.new + owed scanning.new.rows ≡ fetches.old + owed scanning.old.rows }
-    ensures reads { reads.new + allowed scanning.new.rows ≤ reads.old + allowed scanning.old.rows }
+    ensures reads { reads.new + looks_allowed scanning.new.rows ≤ reads.old + looks_allowed scanning.old.rows }
 {
     match scanning.rows.next(fetches, reads) {
         Some(tid) => {

@@ -7,7 +7,7 @@ ghost use Rattle.heap.specs.Tuples.{rank};
 ghost use Rattle.sql_query.specs.Queries.{all_of_query};
 ghost use Rattle.plan_tree.specs.Counts.{MOST_READS};
 ghost use Rattle.sort_rows.specs.Rows.{AllHaveRows};
-ghost use Rattle.executor.specs.EState.{IsOver, world_of};
+ghost use Rattle.executor.specs.EState.{IsOverStore, world_of};
 ghost use Rattle.executor.specs.Node.{IsSorting, IsSpentSorting, kept_left, sorting_left};
 ghost use Rattle.sort_rows.specs.KeySource.{tuples_by_keys};
 
@@ -33,7 +33,7 @@ pub(crate) fn start_sorting<C: Counters>(
     input: &Tuples,
     reads: &mut Steps<C::Looks>,
 ) -> Result<Sorting, Memory>
-    requires over { IsOver at.now }
+    requires over { IsOverStore at.now }
     requires keys { All (λ n. n < length at.now.q.now.classes.classes) keys.now }
     requires set { IsWithin (has input.now.set.0) (all_of_query at.now.q.now) }
     requires rows { AllHaveRows (world_of at.now) at.now.q.now input.now }

@@ -8,7 +8,7 @@ use Rattle.pg_base.specs.Sets.{has}
 use Rattle.pg_base.specs.declared.rel_set.RelSet.{RelSet}
 use Rattle.pg_expr.specs.declared.operand.ColRef.{ColRef}
 use Rattle.catalog.specs.Contents.{Contents}
-use Rattle.eq_classes.specs.Clauses.{Table, first_in}
+use Rattle.eq_classes.specs.Clauses.{ClassTable, first_in}
 use Rattle.eq_classes.specs.Listing.{blank, class_at}
 use Rattle.eq_classes.specs.declared.classes.ClassNo.{ClassNo}
 use Rattle.eq_classes.proofs.ListLemmas.{IsIn, found_in, in_from_contains}
@@ -18,10 +18,10 @@ use Rattle.sql_query.specs.WellBound.{IsColumnOf, IsWellBound}
 use Rattle.plan_laws.specs.sort_rows_ColumnLemmas.{member_is}
 use Rattle.explain.specs.Texts.{key_text, with_commas}
 
-pub member-column : (c : Contents) (q : Query) → IsWellBound c q → (n : ℕ) → n < length q.classes.classes → (set : RelSet) (x : ColRef) (t : Table) → t ≡ q.classes → Some x ≡ first_in (class_at t.classes n) (has set.0) → IsColumnOf c q.range x
+pub member-column : (c : Contents) (q : Query) → IsWellBound c q → (n : ℕ) → n < length q.classes.classes → (set : RelSet) (x : ColRef) (t : ClassTable) → t ≡ q.classes → Some x ≡ first_in (class_at t.classes n) (has set.0) → IsColumnOf c q.range x
 member-column c q is n lt set x t same found =
     let k = class_at q.classes.classes n in
-    let here : first_in k (has set.0) ≡ Some x = sym (found ∙ ap (λ (u : Table). first_in (class_at u.classes n) (has set.0)) same) in
+    let here : first_in k (has set.0) ≡ Some x = sym (found ∙ ap (λ (u : ClassTable). first_in (class_at u.classes n) (has set.0)) same) in
     let class : IsIn k q.classes.classes = in_from_contains q.classes.classes k (n, lt, get_or_default q.classes.classes n k blank lt) in
     member_is c q is k class x (found_in (λ (y : ColRef). has set.0 y.rel.0) k.members x here)
 

@@ -17,7 +17,7 @@ use Rattle.catalog.specs.Contents.{Contents, IsColumn, IsLawful, name_at}
 use Rattle.catalog.specs.Range.{relation_at, table_of, type_in}
 use Rattle.eq_classes.specs.declared.order.OrderItem.{OrderItem}
 use Rattle.eq_classes.specs.Classes.{Class, has_member, in_family, is_family}
-use Rattle.eq_classes.specs.Clauses.{Set, Table, first_in}
+use Rattle.eq_classes.specs.Clauses.{Set, ClassTable, first_in}
 use Rattle.eq_classes.specs.Listing.{blank, class_at}
 use Rattle.eq_classes.proofs.EqualLemmas.{family_self}
 use Rattle.eq_classes.proofs.ListLemmas.{IsIn, all_at, any_from, found_in, in_filter_map, in_from_contains}
@@ -110,7 +110,7 @@ pub record IsNext (s : List ℕ) : Type 0 where
   pub space : get_or s 1 0 ≡ 32
 
 -- a class of a table with a first member inside a set
-pub record IsShownKey (t : Table) (set : Set) (n : ℕ) : Type 0 where
+pub record IsShownKey (t : ClassTable) (set : Set) (n : ℕ) : Type 0 where
   pub low : n < length t.classes
   pub member : ColRef
   pub first : first_in (class_at t.classes n) set ≡ Some member

@@ -5,11 +5,11 @@ use Rattle.std.specs.Str.{bytes_eq}
 use Rattle.std.proofs.lemmas.List.Elements.{All-nil, All-cons, All-head, All-weaker, All-filter}
 use Rattle.pg_expr.specs.declared.operand.ColRef.{ColRef}
 use Rattle.expr_reader.specs.declared.found.Found.TheVariants.{One}
-use Rattle.expr_reader.specs.Scope.{Visible, Scope, columns_of, under, of_name, the_one, among, look_up}
+use Rattle.expr_reader.specs.Scope.{Visible, Scope, columns_in_scope, under, of_name, the_one, among, look_up}
 
 -- the column is one of these
 abbrev pub Seen : Scope → Visible → Type 0
-Seen scope v = Contains (columns_of scope) v.column
+Seen scope v = Contains (columns_in_scope scope) v.column
 
 later : (w : Visible) (scope : Scope) (v : Visible) → Seen scope v → Seen (w ∷ scope) v
 later w scope v (k, lt, is) = (suc k, omega (arith, lt), is)
@@ -33,5 +33,5 @@ module _ (P : ColRef → Type 0) where
   found-all scope None name c all is = the-one-all (of_name name scope) c (All-filter (λ u. bytes_eq name u.name) (λ u. P u.column) scope all) is
   found-all scope (Some alias) name c all is = among-all (under alias scope) name c (All-filter (λ u. bytes_eq alias u.alias) (λ u. P u.column) scope all) is
 
-pub found-seen : (scope : Scope) (qualifier : Option (List ℕ)) (name : List ℕ) (c : ColRef) → look_up scope qualifier name ≡ One c → Contains (columns_of scope) c
-found-seen scope qualifier name c is = found-all (λ x. Contains (columns_of scope) x) scope qualifier name c (seen-all scope) is
+pub found-seen : (scope : Scope) (qualifier : Option (List ℕ)) (name : List ℕ) (c : ColRef) → look_up scope qualifier name ≡ One c → Contains (columns_in_scope scope) c
+found-seen scope qualifier name c is = found-all (λ x. Contains (columns_in_scope scope) x) scope qualifier name c (seen-all scope) is

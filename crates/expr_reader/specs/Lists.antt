@@ -4,9 +4,9 @@ use Rattle.pg_base.specs.declared.faults.Fault.{Fault}
 use Rattle.sql_grammar.specs.Syntax.{Mark}
 
 -- the further parts, each behind its comma
-abbrev pub parts_of : {A B : Type 0} → (A → B) → List (Mark × A) → List B
-parts_of part [] = []
-parts_of part ((_, x) ∷ xs) = part x ∷ parts_of part xs
+abbrev pub further_parts : {A B : Type 0} → (A → B) → List (Mark × A) → List B
+further_parts part [] = []
+further_parts part ((_, x) ∷ xs) = part x ∷ further_parts part xs
 
 -- one before others, or the first fault
 abbrev pub before_all : {B : Type 0} → Result B Fault → Result (List B) Fault → Result (List B) Fault

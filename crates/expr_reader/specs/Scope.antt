@@ -20,8 +20,8 @@ abbrev pub Scope : Type 0
 Scope = List Visible
 
 -- the columns themselves
-abbrev pub columns_of : Scope → List ColRef
-columns_of scope = map (λ v. v.column) scope
+abbrev pub columns_in_scope : Scope → List ColRef
+columns_in_scope scope = map (λ v. v.column) scope
 
 -- those of the relations under an alias
 abbrev pub under : List ℕ → Scope → Scope

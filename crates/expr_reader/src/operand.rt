@@ -4,7 +4,7 @@ ghost use Rattle.std.specs.Prelude.{◌≡◌, ◌≤◌, length, Contains, IfOk
 ghost use Rattle.sql_grammar.specs.Unique.{ends_operand};
 ghost use Rattle.sql_grammar.specs.Words.{words_of_col, words_of_operand};
 ghost use Rattle.expr_reader.specs.Conditions.{the_column};
-ghost use Rattle.expr_reader.specs.Scope.{columns_of};
+ghost use Rattle.expr_reader.specs.Scope.{columns_in_scope};
 ghost use Rattle.expr_reader.specs.Reading.{StandsFirst};
 ghost use Rattle.expr_reader.specs.Expressions.{ReadsColumn, ReadsSide, ReadsOperand};
 
@@ -38,7 +38,7 @@ pub fn take_column<S: Scope>(alloc: Global, scope: &S, from: &mut Cursor) -> Res
     requires { StandsFirst words_of_col ends_operand from.old }
     ensures read { ReadsColumn (S.visible scope.now) from.old result from.new }
     ensures ahead { length from.new ≤ length from.old }
-    ensures visible { IfOk result (Contains (columns_of (S.visible scope.now))) }
+    ensures visible { IfOk result (Contains (columns_in_scope (S.visible scope.now))) }
 {
     let first = from.expect_name(alloc)?;
     if !from.takes_mark(Symbol::Dot) {

@@ -11,7 +11,7 @@ pub trait Scope {
     ghost use Rattle.std.specs.Prelude.{◌≡◌, List, Contains, option_map};
     ghost use Rattle.pg_expr.specs.declared.operand.ColRef.{ColRef};
     ghost use Rattle.pg_value.specs.declared.value.SqlType.{SqlType};
-    ghost use Rattle.expr_reader.specs.Scope.{Visible, columns_of, look_up};
+    ghost use Rattle.expr_reader.specs.Scope.{Visible, columns_in_scope, look_up};
 
     ghost visible: { Self → List Visible };
 
@@ -24,6 +24,6 @@ pub trait Scope {
 
     /// The type of a visible column.
     fn typed(&self, c: ColRef) -> SqlType
-        requires { Contains (columns_of (visible self.now)) c }
+        requires { Contains (columns_in_scope (visible self.now)) c }
         ensures { result ≡ type_of self.now c };
 }

@@ -5,7 +5,7 @@ use Rattle.std.specs.Prelude.{All, not, nat_eq}
 use Rattle.catalog.specs.Contents.{Contents}
 use Rattle.catalog.specs.Range.{Range}
 use Rattle.eq_classes.specs.declared.classes.ClassNo.{ClassNo}
-use Rattle.eq_classes.specs.Clauses.{Clause, Set, Table}
+use Rattle.eq_classes.specs.Clauses.{Clause, Set, ClassTable}
 use Rattle.path_cost.specs.Columns.{IsOver}
 use Rattle.path_cost.specs.Estimates.{set_rows}
 use Rattle.pathkeys.specs.Finding.{class_numbers}
@@ -19,14 +19,14 @@ use Rattle.group_values.specs.declared.task.GroupTask.{GroupTask}
 use Rattle.group_values.specs.GroupCosts.{sorts_after}
 use Rattle.group_explain.specs.GroupPlans.{GroupQuery, IsAskedBy, IsTaskOf, distinct_of, form_keys, group_keys, line_keys}
 
-pub rows-are : (c : Contents) (q : Query) (range : Range) (classes : Table) (s : Set) (n : ℕ) → n ≡ set_rows c range classes s → range ≡ q.range → classes ≡ q.classes → IsSameSet s (all_of_query q) → n ≡ query_rows c q
+pub rows-are : (c : Contents) (q : Query) (range : Range) (classes : ClassTable) (s : Set) (n : ℕ) → n ≡ set_rows c range classes s → range ≡ q.range → classes ≡ q.classes → IsSameSet s (all_of_query q) → n ≡ query_rows c q
 rows-are c q range classes s n e f g same =
     e ∙ ap (λ (x : Set). set_rows c range classes x) (λ i k. same k i) ∙ ap₂ (λ r t. set_rows c r t (all_of_query q)) f g
 
 -- clauses over relations that were lent
-pub clauses-lent : (c : Contents) (q : Query) (range : Range) (classes : Table) → range ≡ q.range → classes ≡ q.classes → All (λ (k : Clause). IsOver c q.range k.cond) q.classes.clauses → All (λ (k : Clause). IsOver c range k.cond) classes.clauses
+pub clauses-lent : (c : Contents) (q : Query) (range : Range) (classes : ClassTable) → range ≡ q.range → classes ≡ q.classes → All (λ (k : Clause). IsOver c q.range k.cond) q.classes.clauses → All (λ (k : Clause). IsOver c range k.cond) classes.clauses
 clauses-lent c q range classes e f over =
-    subst (λ r. All (λ (k : Clause). IsOver c r k.cond) classes.clauses) (sym e) (subst (λ (t : Table). All (λ (k : Clause). IsOver c q.range k.cond) t.clauses) (sym f) over)
+    subst (λ r. All (λ (k : Clause). IsOver c r k.cond) classes.clauses) (sym e) (subst (λ (t : ClassTable). All (λ (k : Clause). IsOver c q.range k.cond) t.clauses) (sym f) over)
 
 -- a list covers the empty one, and the empty list no other
 pub none-covers : (ls : List ClassNo) (keys : Keys) (b : Bool) → b ≡ nat_eq (length ls) 0 → class_numbers ls ≡ keys → b ≡ covers [] keys

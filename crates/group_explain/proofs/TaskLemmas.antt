@@ -8,7 +8,7 @@ use Rattle.pg_expr.specs.declared.operand.ColRef.{ColRef}
 use Rattle.catalog.specs.Contents.{Contents}
 use Rattle.catalog.specs.Range.{Range}
 use Rattle.eq_classes.specs.Classes.{Class}
-use Rattle.eq_classes.specs.Clauses.{Set, Table, first_in}
+use Rattle.eq_classes.specs.Clauses.{Set, ClassTable, first_in}
 use Rattle.eq_classes.specs.Listing.{blank, class_at}
 use Rattle.eq_classes.specs.declared.classes.ClassNo.{ClassNo}
 use Rattle.pathkeys.specs.Finding.{class_numbers}
@@ -34,9 +34,9 @@ pub all-within : (c : ℕ) (ks ls : List ℕ) → ls ≡ ks → All (λ n. n < c
 all-within c ks ls e all = subst (All (λ n. n < c)) (sym e) all
 
 -- what was lent is the query's
-same-first : (q : Query) (n : ℕ) (set : Set) (t : Table) → t ≡ q.classes → IsSameSet set (all_of_query q) → first_in (class_at t.classes n) set ≡ first_in (class_at q.classes.classes n) (all_of_query q)
+same-first : (q : Query) (n : ℕ) (set : Set) (t : ClassTable) → t ≡ q.classes → IsSameSet set (all_of_query q) → first_in (class_at t.classes n) set ≡ first_in (class_at q.classes.classes n) (all_of_query q)
 same-first q n set t same all =
-    ap (λ (u : Table). first_in (class_at u.classes n) set) same ∙ ap (λ (s : Set). first_in (class_at q.classes.classes n) s) (λ i k. all k i)
+    ap (λ (u : ClassTable). first_in (class_at u.classes n) set) same ∙ ap (λ (s : Set). first_in (class_at q.classes.classes n) s) (λ i k. all k i)
 
 module _ (c : Contents) (q : Query) (bound : IsWellBound c q) where
   pub tables : (range : Range) → range ≡ q.range → AreTables c range
@@ -61,15 +61,15 @@ module _ (c : Contents) (q : Query) (bound : IsWellBound c q) where
   column-in x of = ap₂ (λ a b. a && b) (lt-ltb _ _ of.relation) (lt-ltb _ _ of.column)
 
   -- a member is a column of the relations that were lent
-  pub member-column : (n : ℕ) (set : Set) (t : Table) (range : Range) (x : ColRef) → t ≡ q.classes → range ≡ q.range → IsSameSet set (all_of_query q) → Some x ≡ first_in (class_at t.classes n) set → is_column_in c range x ≡ true
+  pub member-column : (n : ℕ) (set : Set) (t : ClassTable) (range : Range) (x : ColRef) → t ≡ q.classes → range ≡ q.range → IsSameSet set (all_of_query q) → Some x ≡ first_in (class_at t.classes n) set → is_column_in c range x ≡ true
   member-column n set t range x same ranged all e =
       subst (λ r. is_column_in c r x ≡ true) (sym ranged)
       (column-in x (column-of n (all_of_query q) x (sym (same-first q n set t same all) ∙ sym e)))
 
-  pub member-values : (n : ℕ) (set : Set) (t : Table) (range : Range) (x : ColRef) (found : ℕ) → t ≡ q.classes → range ≡ q.range → IsSameSet set (all_of_query q) → Some x ≡ first_in (class_at t.classes n) set
+  pub member-values : (n : ℕ) (set : Set) (t : ClassTable) (range : Range) (x : ColRef) (found : ℕ) → t ≡ q.classes → range ≡ q.range → IsSameSet set (all_of_query q) → Some x ≡ first_in (class_at t.classes n) set
       → found ≡ (stats_of c range x).distinct → found ≡ distinct_of c q n
   member-values n set t range x found same ranged all e values =
       values ∙ ap (λ r. (stats_of c r x).distinct) ranged ∙ ap (distinct_in c q) (e ∙ same-first q n set t same all)
 
-  pub no-member-values : (n : ℕ) (set : Set) (t : Table) → t ≡ q.classes → IsSameSet set (all_of_query q) → None ≡ first_in (class_at t.classes n) set → 1 ≡ distinct_of c q n
+  pub no-member-values : (n : ℕ) (set : Set) (t : ClassTable) → t ≡ q.classes → IsSameSet set (all_of_query q) → None ≡ first_in (class_at t.classes n) set → 1 ≡ distinct_of c q n
   no-member-values n set t same all e = ap (distinct_in c q) (e ∙ same-first q n set t same all)

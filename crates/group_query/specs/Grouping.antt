@@ -6,7 +6,7 @@ use Rattle.catalog.specs.Contents.{Contents}
 use Rattle.catalog.specs.Range.{type_in}
 use Rattle.eq_classes.specs.declared.order.OrderItem.{OrderItem}
 use Rattle.eq_classes.specs.Classes.{Premises, conjuncts_in}
-use Rattle.eq_classes.specs.Clauses.{Table}
+use Rattle.eq_classes.specs.Clauses.{ClassTable}
 use Rattle.eq_classes.specs.Listing.{class_at}
 use Rattle.pathkeys.specs.Keys.{order_class}
 use Rattle.sql_query.specs.Grouped.{GroupedQuery}
@@ -29,12 +29,12 @@ abbrev pub given_groups : Contents → GroupedQuery → Premises
 given_groups c g = given_with c g.base (class_items g)
 
 -- a column as an item with the direction and the place for NULL of a class; ascending with NULLs last where there is none
-abbrev pub directed_item : Table → ColRef → Option ℕ → OrderItem
+abbrev pub directed_item : ClassTable → ColRef → Option ℕ → OrderItem
 directed_item t x None = plain_item x
 directed_item t x (Some n) = record { col = x; descending = (class_at t.classes n).descending; nulls_first = (class_at t.classes n).nulls_first }
 
 -- the GROUP BY columns as items of an order, each with the direction of its class
-abbrev pub group_items : Table → List ColRef → List OrderItem
+abbrev pub group_items : ClassTable → List ColRef → List OrderItem
 group_items t xs = map (λ x. directed_item t x (order_class t x)) xs
 
 -- what is shown is there: a GROUP BY column by its place, or a column of a relation

@@ -15,7 +15,7 @@ use Rattle.pg_expr.specs.declared.operand.ColRef.{ColRef}
 use Rattle.pg_expr.specs.Typed.{IsTyped, some_value}
 use Rattle.eq_classes.specs.declared.order.OrderItem.{OrderItem}
 use Rattle.eq_classes.specs.Classes.{Class, IsClass, Premises, direction_by, has_member, in_family, is_family, is_in, is_some_and, orders_by}
-use Rattle.eq_classes.specs.Clauses.{Table}
+use Rattle.eq_classes.specs.Clauses.{ClassTable}
 use Rattle.eq_classes.specs.Holding.{IsClassTable}
 use Rattle.eq_classes.specs.Listing.{blank, class_at}
 use Rattle.eq_classes.proofs.EqualLemmas.{family_is}
@@ -33,12 +33,12 @@ use Rattle.eq_classes.proofs.DefaultLemmas.{default_of, no_default_abs, same_fam
 use Rattle.group_query.proofs.ItemLemmas.{directed-column}
 
 -- the class of a number: it has a column in a family
-record ClassOf (t : Table) (x : ColRef) (f : Family) (n : ℕ) : Type 0 where
+record ClassOf (t : ClassTable) (x : ColRef) (f : Family) (n : ℕ) : Type 0 where
   low : n < length t.classes
   family : f ≡ (class_at t.classes n).family
   member : has_member (class_at t.classes n) x ≡ true
 
-class_found : (t : Table) (x : ColRef) (f : Family) (n : ℕ) → class_of t x f ≡ Some n → ClassOf t x f n
+class_found : (t : ClassTable) (x : ColRef) (f : Family) (n : ℕ) → class_of t x f ≡ Some n → ClassOf t x f n
 class_found t x f n h =
     let at = found_at (λ c. is_in c (in_family x f)) 0 t.classes blank n h in
     let same : at.0 ≡ n = omega (arith, at.1) in
@@ -47,7 +47,7 @@ class_found t x f n h =
     let parts = and_parts (is_family (class_at t.classes n).family f) (has_member (class_at t.classes n) x) passes in
     record { low = low; family = sym (family_is (class_at t.classes n).family f parts.0); member = parts.1 }
 
-module _ (g : Premises) (t : Table) (is : IsClassTable g t) (typed : All (IsTyped g.type_of) g.conjuncts) where
+module _ (g : Premises) (t : ClassTable) (is : IsClassTable g t) (typed : All (IsTyped g.type_of) g.conjuncts) where
   -- the class of a column in a family that is a default one is in the column's default family
   member_default : (x : ColRef) (f : Family) (n : ℕ) → ClassOf t x f n → (f ≡ families.IntAbs → ⊥) → default_family_of (g.type_of x) ≡ Some f
   member_default x f n of other =

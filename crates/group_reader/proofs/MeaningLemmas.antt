@@ -9,9 +9,9 @@ use Rattle.sql_grammar.specs.Faults.{bytes_of}
 use Rattle.sql_grammar.specs.Terminals.{Ident, token_of}
 use Rattle.sql_grammar.specs.Syntax.{Mark, Col, bare, qualified, all_rows, of_col, GroupedItem, plain_item, call, GroupBy, no_group_by, group_by, Ordering, ordering, OrderBy, no_order, order_by}
 use Rattle.expr_reader.specs.declared.cursor.Spelled.{Spelled}
-use Rattle.expr_reader.specs.Lists.{before_all, bound_each, parts_of}
+use Rattle.expr_reader.specs.Lists.{before_all, bound_each, further_parts}
 use Rattle.expr_reader.specs.Conditions.{next, column_of}
-use Rattle.expr_reader.specs.Scope.{Scope, columns_of, look_up}
+use Rattle.expr_reader.specs.Scope.{Scope, columns_in_scope, look_up}
 use Rattle.expr_reader.proofs.OperandLemmas.{is-found}
 use Rattle.expr_reader.proofs.ScopeLemmas.{found-seen}
 use Rattle.sql_query.specs.declared.grouped.Item.{Item}
@@ -23,11 +23,11 @@ use Rattle.group_reader.specs.Meaning.{column_by, column_meant, known, last_word
 use Rattle.group_reader.specs.Written.{column_written, columns_written, listed_of, sorting_of, sorts_written}
 
 -- a column that is meant is visible
-column-by-seen : (scope : Scope) (q : Option Spelled) (n : Spelled) (x : ColRef) → column_by scope q n ≡ Ok x → Contains (columns_of scope) x
+column-by-seen : (scope : Scope) (q : Option Spelled) (n : Spelled) (x : ColRef) → column_by scope q n ≡ Ok x → Contains (columns_in_scope scope) x
 column-by-seen scope None n x is = found-seen scope None n.bytes x (is-found (look_up scope None n.bytes) n.token n.token x is)
 column-by-seen scope (Some q) n x is = found-seen scope (Some q.bytes) n.bytes x (is-found (look_up scope (Some q.bytes) n.bytes) q.token n.token x is)
 
-pub column-seen : (scope : Scope) (k : Column) (x : ColRef) → column_meant scope k ≡ Ok x → Contains (columns_of scope) x
+pub column-seen : (scope : Scope) (k : Column) (x : ColRef) → column_meant scope k ≡ Ok x → Contains (columns_in_scope scope) x
 column-seen scope k x is = column-by-seen scope k.qualifier k.name x is
 
 -- one step after another, where the later one says the same
@@ -36,7 +36,7 @@ next-same (Ok x) f g same = same x
 next-same (Err e) f g same = refl
 
 -- parts bound one by one
-each-parts : {A B C : Type 0} (f : B → Result C Fault) (g : A → Result C Fault) (write : A → B) → ((x : A) → f (write x) ≡ g x) → (xs : List (Mark × A)) → bound_each f (parts_of write xs) ≡ bound_each g (parts_of (λ (x : A). x) xs)
+each-parts : {A B C : Type 0} (f : B → Result C Fault) (g : A → Result C Fault) (write : A → B) → ((x : A) → f (write x) ≡ g x) → (xs : List (Mark × A)) → bound_each f (further_parts write xs) ≡ bound_each g (further_parts (λ (x : A). x) xs)
 each-parts f g write same [] = refl
 each-parts f g write same ((m, x) ∷ xs) = ap₂ before_all (same x) (each-parts f g write same xs)
 
@@ -61,7 +61,7 @@ last-same : (o : Ordering) → last_word (sorting_of o) ≡ word_of_ordering o
 last-same (ordering (bare n) d z) = refl
 last-same (ordering (qualified q t n) d z) = refl
 
-lasts-same : (os : List (Mark × Ordering)) → map last_word (parts_of sorting_of os) ≡ map word_of_ordering (parts_of (λ (o : Ordering). o) os)
+lasts-same : (os : List (Mark × Ordering)) → map last_word (further_parts sorting_of os) ≡ map word_of_ordering (further_parts (λ (o : Ordering). o) os)
 lasts-same [] = refl
 lasts-same ((m, o) ∷ os) = ap₂ (λ (t : Token) (ts : List Token). t ∷ ts) (last-same o) (lasts-same os)
 

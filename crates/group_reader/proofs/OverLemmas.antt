@@ -12,7 +12,7 @@ use Rattle.pg_expr.specs.declared.operand.ColRef.{ColRef}
 use Rattle.pg_expr.specs.Cond.{Cond}
 use Rattle.catalog.specs.Contents.{Contents}
 use Rattle.catalog.specs.Range.{Range, type_in}
-use Rattle.eq_classes.specs.Clauses.{Table}
+use Rattle.eq_classes.specs.Clauses.{ClassTable}
 use Rattle.eq_classes.specs.declared.order.OrderItem.{OrderItem}
 use Rattle.sql_lex.specs.Words.{AreWords}
 use Rattle.sql_lex.specs.declared.tokens.Token.{Token}
@@ -22,7 +22,7 @@ use Rattle.sql_grammar.specs.Syntax.{Mark, Col, Group, GroupBy, no_group_by, gro
 use Rattle.sql_grammar.specs.Terminals.{Terminal, t_key, t_semicolon, t_end}
 use Rattle.sql_grammar.specs.declared.class.Word.TheVariants.{From}
 use Rattle.sql_grammar.specs.Words.{words_of_col, words_of_ending, words_of_group, words_of_group_by, words_of_group_columns, words_of_grouped, words_of_grouped_item, words_of_grouped_items, words_of_groups, words_of_order, words_of_where}
-use Rattle.expr_reader.specs.Lists.{parts_of}
+use Rattle.expr_reader.specs.Lists.{further_parts}
 use Rattle.expr_reader.proofs.Named.{AreNamed, named-from}
 use Rattle.expr_reader.specs.Conditions.{next}
 use Rattle.expr_reader.proofs.StepLemmas.{step, stop}
@@ -132,8 +132,8 @@ within (Ok k) start (Some x) l is = absurd (cc (is))
 within (Err f) start o l is = absurd (cc (is))
 
 -- the same with the classes that it has
-pub own-classes : (g : GroupedQuery) (t : Table) (b : BoundGroups) → g ≡ grouped_with t b → g ≡ grouped_with g.base.classes b
-own-classes g t b is = is ∙ ap (λ (x : Table). grouped_with x b) (sym (ap (λ (x : GroupedQuery). x.base.classes) is))
+pub own-classes : (g : GroupedQuery) (t : ClassTable) (b : BoundGroups) → g ≡ grouped_with t b → g ≡ grouped_with g.base.classes b
+own-classes g t b is = is ∙ ap (λ (x : ClassTable). grouped_with x b) (sym (ap (λ (x : GroupedQuery). x.base.classes) is))
 
 -- the query that is put together is what is meant
 pub made-so : (s : Sight) (range : Range) (ws : List Cond) (l : BoundLists) (r : Ready) → IsReady s ws l r → grouped_of range ws r ≡ grouped_with r.classes (record { range = range; where_all = ws; lists = l })
@@ -161,7 +161,7 @@ pub at-joined : (i j : Joined) (start : Token) (is : List GroupedItem) (w : Wher
 at-joined i j start is w b y r same told = subst (λ (x : Joined). IsGroupedAs (groups_over start is w b y x) r) same told
 
 -- there are no more columns than words
-more-columns : (cs : List (Mark × Col)) → length (parts_of column_written cs) ≤ length (words_of_group_columns cs)
+more-columns : (cs : List (Mark × Col)) → length (further_parts column_written cs) ≤ length (words_of_group_columns cs)
 more-columns [] = omega arith
 more-columns ((m, c) ∷ cs) = omega (arith, more-columns cs, length-append (words_of_col c) (words_of_group_columns cs))
 
@@ -169,16 +169,16 @@ pub few-columns : (b : GroupBy) → length (columns_written b) ≤ length (words
 few-columns no_group_by = omega arith
 few-columns (group_by k t c cs) = omega (arith, more-columns cs, length-append (words_of_col c) (words_of_group_columns cs))
 
-more-items : (is : List (Mark × GroupedItem)) → length (parts_of listed_of is) ≤ length (words_of_grouped_items is)
+more-items : (is : List (Mark × GroupedItem)) → length (further_parts listed_of is) ≤ length (words_of_grouped_items is)
 more-items [] = omega arith
 more-items ((m, i) ∷ is) = omega (arith, more-items is, length-append (words_of_grouped_item i) (words_of_grouped_items is))
 
 -- and no more items, with the word FROM
-pub few-items : (i : GroupedItem) (is : List (Mark × GroupedItem)) (f : Terminal) (rest : List Terminal) → length (listed_of i ∷ parts_of listed_of is) ≤ length (words_of_grouped_item i ++ (words_of_grouped_items is ++ f ∷ rest))
+pub few-items : (i : GroupedItem) (is : List (Mark × GroupedItem)) (f : Terminal) (rest : List Terminal) → length (listed_of i ∷ further_parts listed_of is) ≤ length (words_of_grouped_item i ++ (words_of_grouped_items is ++ f ∷ rest))
 few-items i is f rest = omega (arith, more-items is, length-append (words_of_grouped_item i) (words_of_grouped_items is ++ f ∷ rest), length-append (words_of_grouped_items is) (f ∷ rest))
 
 -- the items of a list, the first one apart
-pub each-listed : (is : List (Mark × GroupedItem)) → parts_of listed_of is ≡ map listed_of (parts_of (λ (i : GroupedItem). i) is)
+pub each-listed : (is : List (Mark × GroupedItem)) → further_parts listed_of is ≡ map listed_of (further_parts (λ (i : GroupedItem). i) is)
 each-listed [] = refl
 each-listed ((m, i) ∷ is) = ap (λ l. listed_of i ∷ l) (each-listed is)
 
@@ -230,7 +230,7 @@ pub record Parted (x : GroupedSelect) (left : List Terminal) : Type 0 where
   pub split : left ≡ words_of_grouped_item first ++ (words_of_grouped_items more ++ t_key From from_at ∷
       (words_of_group group ++ (words_of_groups groups ++ (words_of_where condition ++ (words_of_group_by by ++ (words_of_order order ++ words_of_ending ending))))))
   pub means : (c : Contents) (start : Token) →
-      next (with_groups (nothing_joined c) (group ∷ groups_after groups)) (groups_over start (first ∷ parts_of (λ (i : GroupedItem). i) more) condition by order) ≡ bound_groups c start x
+      next (with_groups (nothing_joined c) (group ∷ groups_after groups)) (groups_over start (first ∷ further_parts (λ (i : GroupedItem). i) more) condition by order) ≡ bound_groups c start x
 
 pub parted : (x : GroupedSelect) (left : List Terminal) → left ≡ words_of_grouped x → Parted x left
 parted (grouped_select i is f g gs w b p y e) left words = record {

@@ -18,7 +18,7 @@ use Rattle.catalog.specs.Contents.{Contents}
 use Rattle.catalog.specs.Range.{Range, type_in}
 use Rattle.eq_classes.specs.declared.order.OrderItem.{OrderItem}
 use Rattle.eq_classes.specs.Classes.{IsClass, Premises, conjuncts_in, direction_by, orders_by}
-use Rattle.eq_classes.specs.Clauses.{Table}
+use Rattle.eq_classes.specs.Clauses.{ClassTable}
 use Rattle.eq_classes.specs.Equality.{is_column}
 use Rattle.eq_classes.specs.Holding.{IsClassTable}
 use Rattle.eq_classes.proofs.EqualLemmas.{column_is}
@@ -335,7 +335,7 @@ find-front test (z ∷ zs) ys x is = by (find-front test zs ys x) (test z) is
     by later false is = later is
 
 -- the grouped query of these lists
-module _ (c : Contents) (range : Range) (are : AreRelations c range) (some : 0 < length range) (names : All (λ r. IsName r.1) range) (ws : List Cond) (over : All (IsOver c range) ws) (kept : past_limit ws ≡ None) (classes : Table) (l : BoundLists) where
+module _ (c : Contents) (range : Range) (are : AreRelations c range) (some : 0 < length range) (names : All (λ r. IsName r.1) range) (ws : List Cond) (over : All (IsOver c range) ws) (kept : past_limit ws ≡ None) (classes : ClassTable) (l : BoundLists) where
   abbrev premises : Premises
   premises = record { conjuncts = conjuncts_in ws; order = l.order ++ map plain_item l.keys; type_of = type_in c range }
 
@@ -454,7 +454,7 @@ module _ (c : Contents) (range : Range) (are : AreRelations c range) (some : 0 <
         (well, is)
 
 -- the same where the lists are meant
-pub grouped-of-lists : (c : Contents) (range : Range) (are : AreRelations c range) → 0 < length range → All (λ r. IsName r.1) range → (ws : List Cond) → All (IsOver c range) ws → past_limit ws ≡ None → (classes : Table) (l : BoundLists)
+pub grouped-of-lists : (c : Contents) (range : Range) (are : AreRelations c range) → 0 < length range → All (λ r. IsName r.1) range → (ws : List Cond) → All (IsOver c range) ws → past_limit ws ≡ None → (classes : ClassTable) (l : BoundLists)
     (listed : List Listed) (columns : List Column) (sorts : List Sorting) → AreLists (scope_of c range) (type_in c range) listed columns sorts l →
     IsClassTable (record { conjuncts = conjuncts_in ws; order = l.order ++ map plain_item l.keys; type_of = type_in c range }) classes → length listed < 2 ^ 32 → length columns < 2 ^ 32 →
     IsGroupedByItself c (grouped_with classes (record { range = range; where_all = ws; lists = l }))

@@ -7,7 +7,7 @@ use Rattle.sql_grammar.specs.Words.{words_of_argument, words_of_col, words_of_gr
 use Rattle.sql_grammar.specs.declared.class.Word.TheVariants.{From, Group as GroupKey, Order}
 use Rattle.sql_grammar.specs.declared.class.Symbol.TheVariants.{Close, Comma, Dot, Open, Star}
 use Rattle.sql_grammar.specs.Unique.{ends_operand}
-use Rattle.expr_reader.specs.Lists.{parts_of}
+use Rattle.expr_reader.specs.Lists.{further_parts}
 use Rattle.expr_reader.specs.Reading.{BeginsName, BeginsNot, spelled}
 use Rattle.expr_reader.specs.declared.cursor.Spelled.{Spelled}
 use Rattle.query_reader.specs.declared.written.Item.TheVariants.{Bare, Every, EveryOf, Qualified}
@@ -162,7 +162,7 @@ module _ {A B : Type 0} (write : A → B) (words : A → List Terminal) (more : 
   pub record NextPart (ys : List (Mark × A)) (left rest : List Terminal) : Type 0 where
     pub head : A
     pub others : List (Mark × A)
-    pub all : parts_of write ys ≡ write head ∷ parts_of write others
+    pub all : further_parts write ys ≡ write head ∷ further_parts write others
     pub says : left ≡ words head ++ (more others ++ rest)
 
   pub next-part : (ys : List (Mark × A)) (left rest : List Terminal) (t : Token) → BeginsNot (t_mark Comma) rest → t_mark Comma t ∷ left ≡ more ys ++ rest → NextPart ys left rest
@@ -172,7 +172,7 @@ module _ {A B : Type 0} (write : A → B) (words : A → List Terminal) (more : 
       let tail : left ≡ (words x ++ more xs) ++ rest = cc (so) in
       record { head = x; others = xs; all = refl; says = tail ∙ append_assoc (words x) (more xs) rest }
 
-  pub no-part : (ys : List (Mark × A)) (old rest : List Terminal) → BeginsNot (t_mark Comma) old → old ≡ more ys ++ rest → (parts_of write ys ≡ []) × (old ≡ rest)
+  pub no-part : (ys : List (Mark × A)) (old rest : List Terminal) → BeginsNot (t_mark Comma) old → old ≡ more ys ++ rest → (further_parts write ys ≡ []) × (old ≡ rest)
   no-part [] old rest absent is = (refl, is ∙ ap (λ l. l ++ rest) none)
   no-part ((m, x) ∷ xs) old rest absent is = absurd (absent ((words x ++ more xs) ++ rest) (m, is ∙ ap (λ l. l ++ rest) (some m x xs)))
 

@@ -12,7 +12,7 @@ use Rattle.pg_expr.specs.declared.operand.ColRef.{ColRef}
 use Rattle.pg_expr.specs.Cond.{Cond, conds_of}
 use Rattle.catalog.specs.Contents.{Contents}
 use Rattle.catalog.specs.Range.{Range, type_in}
-use Rattle.eq_classes.specs.Clauses.{Table}
+use Rattle.eq_classes.specs.Clauses.{ClassTable}
 use Rattle.eq_classes.specs.Equality.{is_column}
 use Rattle.eq_classes.specs.declared.order.OrderItem.{OrderItem}
 use Rattle.sql_lex.specs.declared.tokens.Token.{Token}
@@ -20,7 +20,7 @@ use Rattle.sql_grammar.specs.Faults.{bytes_of, fault_at}
 use Rattle.sql_grammar.specs.FromParts.{groups_after}
 use Rattle.sql_grammar.specs.Syntax.{Argument, all_rows, of_col, GroupedItem, plain_item, call, GroupBy, no_group_by, group_by, Where, OrderBy, no_order, order_by, Ordering, ordering, GroupedSelect, grouped_select}
 use Rattle.sql_grammar.specs.Terminals.{Ident, token_of}
-use Rattle.expr_reader.specs.Lists.{parts_of, bound_each}
+use Rattle.expr_reader.specs.Lists.{further_parts, bound_each}
 use Rattle.expr_reader.specs.Conditions.{next, column_of}
 use Rattle.expr_reader.specs.Scope.{Scope}
 use Rattle.sql_query.specs.Queries.{Query}
@@ -99,7 +99,7 @@ column_of_part (parts.Called i) = column_by_call i
 -- the columns of GROUP BY
 abbrev pub group_columns : Scope → GroupBy → Result (List ColRef) Fault
 group_columns scope no_group_by = Ok []
-group_columns scope (group_by _ _ c cs) = bound_each (column_of scope) (c ∷ parts_of (λ x. x) cs)
+group_columns scope (group_by _ _ c cs) = bound_each (column_of scope) (c ∷ further_parts (λ x. x) cs)
 
 -- a column is itself one of the GROUP BY columns: that a condition makes it equal to one is not enough
 abbrev pub is_grouped : List ColRef → ColRef → Bool
@@ -117,7 +117,7 @@ word_of_ordering (ordering c d z) = word_of_col c
 -- for each column of ORDER BY the word at which it is at fault where it is not grouped
 abbrev pub order_words : OrderBy → List Token
 order_words no_order = []
-order_words (order_by _ _ o os) = map word_of_ordering (o ∷ parts_of (λ x. x) os)
+order_words (order_by _ _ o os) = map word_of_ordering (o ∷ further_parts (λ x. x) os)
 
 -- those of the items that are not grouped
 abbrev pub ungrouped_items : List ColRef → List OrderItem → List Token → List Token
@@ -167,7 +167,7 @@ abbrev pub named_in_lists : BoundLists → List Cond → List ColRef
 named_in_lists l ws = filter_map column_of_part l.parts ++ (columns_in_all (conds_of ws) ++ (map (λ i. i.col) l.order ++ l.keys))
 
 -- the query whose tuples are grouped, with these classes
-abbrev pub base_with : Table → BoundGroups → Query
+abbrev pub base_with : ClassTable → BoundGroups → Query
 base_with classes b = record {
   range = b.range;
   classes = classes;
@@ -179,7 +179,7 @@ base_with classes b = record {
 }
 
 -- the grouped query with these classes
-abbrev pub grouped_with : Table → BoundGroups → GroupedQuery
+abbrev pub grouped_with : ClassTable → BoundGroups → GroupedQuery
 grouped_with classes b = record { base = base_with classes b; keys = b.lists.keys; items = map (item_in b.lists.keys) b.lists.parts; order = b.lists.order }
 
 -- WHERE, then the lists, over the relations that FROM names, then the limits
@@ -194,4 +194,4 @@ groups_over start items condition groups order j =
 -- what a grouped SELECT means, in a statement that begins at this token: FROM first
 abbrev pub bound_groups : Contents → Token → GroupedSelect → Result BoundGroups Fault
 bound_groups c start (grouped_select i is _ g gs w b _ y _) =
-    next (with_groups (nothing_joined c) (g ∷ groups_after gs)) (groups_over start (i ∷ parts_of (λ x. x) is) w b y)
+    next (with_groups (nothing_joined c) (g ∷ groups_after gs)) (groups_over start (i ∷ further_parts (λ x. x) is) w b y)

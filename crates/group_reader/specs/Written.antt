@@ -4,7 +4,7 @@ use Rattle.sql_lex.specs.declared.tokens.Token.{Token}
 use Rattle.sql_grammar.specs.Syntax.{Col, bare, qualified, Output, every, every_of, one, Argument, all_rows, of_col, GroupedItem, plain_item, call, GroupBy, no_group_by, group_by, Ordering, ordering, OrderBy, no_order, order_by}
 use Rattle.sql_grammar.specs.Terminals.{token_of}
 use Rattle.expr_reader.specs.declared.cursor.Spelled.{Spelled}
-use Rattle.expr_reader.specs.Lists.{parts_of}
+use Rattle.expr_reader.specs.Lists.{further_parts}
 use Rattle.expr_reader.specs.Reading.{spelled}
 use Rattle.expr_reader.specs.Sorts.{is_descending, has_nulls_first}
 use Rattle.query_reader.specs.Written.{item_of}
@@ -46,7 +46,7 @@ listed_of (call n _ a _) = called_over (spelled n) a
 -- the columns of GROUP BY
 abbrev pub columns_written : GroupBy → List Column
 columns_written no_group_by = []
-columns_written (group_by _ _ c cs) = column_written c ∷ parts_of column_written cs
+columns_written (group_by _ _ c cs) = column_written c ∷ further_parts column_written cs
 
 -- an item of ORDER BY
 abbrev pub sorting_of : Ordering → Sorting
@@ -55,4 +55,4 @@ sorting_of (ordering c d z) = record { column = column_written c; descending = i
 -- the items of ORDER BY
 abbrev pub sorts_written : OrderBy → List Sorting
 sorts_written no_order = []
-sorts_written (order_by _ _ o os) = sorting_of o ∷ parts_of sorting_of os
+sorts_written (order_by _ _ o os) = sorting_of o ∷ further_parts sorting_of os

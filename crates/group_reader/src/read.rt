@@ -6,7 +6,7 @@ ghost use Rattle.sql_grammar.specs.Terminals.{t_key};
 ghost use Rattle.sql_grammar.specs.Unique.{ends_operand};
 ghost use Rattle.sql_grammar.specs.Words.{words_of_col, words_of_group_by, words_of_group_columns, words_of_grouped_item, words_of_order, words_of_ordering, words_of_orderings};
 ghost use Rattle.sql_grammar.specs.declared.class.Word.TheVariants.{From};
-ghost use Rattle.expr_reader.specs.Lists.{parts_of};
+ghost use Rattle.expr_reader.specs.Lists.{further_parts};
 ghost use Rattle.query_reader.specs.Ends.{ends_order, ends_ordering};
 ghost use Rattle.group_reader.specs.Ends.{ends_columns, ends_listed};
 ghost use Rattle.group_reader.specs.Written.{called_over, column_written, columns_listed, columns_written, listed_of, sorting_of, sorts_written};
@@ -97,7 +97,7 @@ fn listed(alloc: Global, from: &mut Cursor) -> Result<Listed, Memory>
 fn items(alloc: Global, from: &mut Cursor) -> Result<Vec<Listed>, Memory>
     requires { StandsList words_of_grouped_list from.old }
     ensures { IfOk result (λ v. IfList words_of_grouped_list from.old (λ i is f rest.
-        (v.items ≡ listed_of i ∷ parts_of listed_of is) × (from.new ≡ t_key From f ∷ rest))) }
+        (v.items ≡ listed_of i ∷ further_parts listed_of is) × (from.new ≡ t_key From f ∷ rest))) }
 {
     let mut all = Vec::new(alloc);
     all.push(listed(alloc, from)?)?;
@@ -111,7 +111,7 @@ fn items(alloc: Global, from: &mut Cursor) -> Result<Vec<Listed>, Memory>
 pub fn list(alloc: Global, from: &mut Cursor) -> Result<Vec<Listed>, Memory>
     requires { StandsList words_of_grouped_list from.old }
     ensures { IfOk result (λ v. IfList words_of_grouped_list from.old (λ i is f rest.
-        (v.items ≡ listed_of i ∷ parts_of listed_of is) × (from.new ≡ rest))) }
+        (v.items ≡ listed_of i ∷ further_parts listed_of is) × (from.new ≡ rest))) }
 {
     let items = items(alloc, from)?;
     from.skip(1);
@@ -123,7 +123,7 @@ fn columns(alloc: Global, from: &mut Cursor) -> Result<Vec<Column>, Memory>
     requires { StandsListed words_of_col words_of_group_columns ends_columns from.old }
     ensures { IfOk result (λ v.
         IfListed words_of_col words_of_group_columns ends_columns from.old (λ c cs rest.
-        (v.items ≡ column_written c ∷ parts_of column_written cs) × (from.new ≡ rest))) }
+        (v.items ≡ column_written c ∷ further_parts column_written cs) × (from.new ≡ rest))) }
 {
     let mut all = Vec::new(alloc);
     all.push(column(alloc, from)?)?;
@@ -168,7 +168,7 @@ fn sortings(alloc: Global, from: &mut Cursor) -> Result<Vec<Sorting>, Memory>
     requires { StandsListed words_of_ordering words_of_orderings ends_order from.old }
     ensures { IfOk result (λ v.
         IfListed words_of_ordering words_of_orderings ends_order from.old (λ o os rest.
-        (v.items ≡ sorting_of o ∷ parts_of sorting_of os) × (from.new ≡ rest))) }
+        (v.items ≡ sorting_of o ∷ further_parts sorting_of os) × (from.new ≡ rest))) }
 {
     let mut all = Vec::new(alloc);
     all.push(sorting(alloc, from)?)?;

@@ -11,7 +11,7 @@ use Rattle.std.proofs.lemmas.Option.{slice_get-get_or}
 use Rattle.pg_expr.specs.declared.operand.ColRef.{ColRef}
 use Rattle.catalog.specs.Contents.{Contents}
 use Rattle.eq_classes.specs.declared.order.OrderItem.{OrderItem}
-use Rattle.eq_classes.specs.Clauses.{Table}
+use Rattle.eq_classes.specs.Clauses.{ClassTable}
 use Rattle.eq_classes.specs.Equality.{is_column}
 use Rattle.eq_classes.proofs.ClassHoldLemmas.{column_self}
 use Rattle.eq_classes.proofs.EqualLemmas.{column_is}
@@ -48,7 +48,7 @@ sorters-are keys (i ∷ is) all = (
 )
 
 -- the columns of an order by the GROUP BY columns are these
-pub columns-are : (t : Table) (xs : List ColRef) → ordered_columns (group_items t xs) ≡ xs
+pub columns-are : (t : ClassTable) (xs : List ColRef) → ordered_columns (group_items t xs) ≡ xs
 columns-are t [] = refl
 columns-are t (x ∷ xs) = ap₂ (λ (y : ColRef) (ys : List ColRef). y ∷ ys) (directed-column t x (order_class t x)) (columns-are t xs)
 

@@ -7,7 +7,7 @@ use Rattle.pg_base.specs.declared.numbers.TableNo.{TableNo}
 use Rattle.pg_value.specs.declared.value.Value.{Value}
 use Rattle.pg_value.specs.declared.value.Value.TheVariants.{Null}
 use Rattle.pg_expr.specs.declared.operand.ColRef.{ColRef}
-use Rattle.heap.specs.Stored.{IsRowOf, IsValueOf, Values}
+use Rattle.heap.specs.Stored.{IsRowOf, IsColumnValue, Values}
 use Rattle.catalog.specs.Contents.{Contents, IsTable, no_table, table_at}
 use Rattle.catalog.specs.Range.{relation_at}
 use Rattle.sort_rows.specs.Rows.{relation}
@@ -35,7 +35,7 @@ module _ (c : Contents) (k : Kept) (q : Query) (t : Tuple) (bound : IsWellBound 
       let here : IsTable c no = bound.range.tables r (record { 0 = 0 }, []) lt in
       let holds : Holds (table_at c no) (stored_at (world c k.stored) no) = zip_at Holds c.tables k.stored no.0 no_table nothing_stored store.world here in
       let row : IsRowOf (stored_at (world c k.stored) no).columns (row_at (world c k.stored) q t (relation r)) = holds.lawful.each (row_of t r) [] (is.within r lt) in
-      zip_long IsValueOf (stored_at (world c k.stored) no).columns (row_at (world c k.stored) q t (relation r)) row ∙ ap length holds.columns
+      zip_long IsColumnValue (stored_at (world c k.stored) no).columns (row_at (world c k.stored) q t (relation r)) row ∙ ap length holds.columns
 
   -- the columns of the query are of these rows, and their values there are those at the tuple
   column-there : (x : ColRef) → IsColumnOf c q.range x → HasColumn (rows_at (world c k.stored) q t) x

@@ -11,7 +11,7 @@ use Rattle.pg_value.specs.Sorting.{IsInOrder, in_order}
 use Rattle.pg_value.proofs.SortingLemmas.{in_order_fixed, in_order_is, All-in_order}
 use Rattle.opfamily.specs.declared.classes.IndexKey.{IndexKey}
 use Rattle.opfamily.specs.KeyOrder.{key_family, key_order}
-use Rattle.hash_index.specs.Held.{Held, held_order, IsKnown, IsLawful, rows_equal}
+use Rattle.hash_index.specs.Held.{Held, held_order, IsKnown, IsLawfulHash, rows_equal}
 use Rattle.hash_index.specs.Groups.{AreRising, RowsOf, group_at, held_by, held_in, held_of, value_at}
 use Rattle.hash_index.specs.Chains.{AreChained}
 use Rattle.hash_index.proofs.ChainLemmas.{sorted_filter}
@@ -59,7 +59,7 @@ of_in_order k g rising i j d lt within =
     (then_second (key_order k g.value g.value) (nat_cmp (get_or g.tids i t).0 (get_or g.tids j t).0) (key_same k g.value) (rising i j t lt (omega arith))))
 
 -- what contracts see is lawful
-pub lawful : (k : IndexKey) (heads : List ℕ) (gs : List RowsOf) (lists : List (List ℕ)) → AreChained k heads gs lists → IsLawful (record { key = k; held = held_in k gs })
+pub lawful : (k : IndexKey) (heads : List ℕ) (gs : List RowsOf) (lists : List (List ℕ)) → AreChained k heads gs lists → IsLawfulHash (record { key = k; held = held_in k gs })
 lawful k heads gs lists chained = record {
   hashes = chained.hashes;
   fits = All-in_order (held_order k) (held_total k) (Fits k) (held_by gs) (held_fit k gs chained.fits);

@@ -15,7 +15,7 @@ use Rattle.opfamily.specs.declared.classes.Method.TheVariants.{Hash}
 use Rattle.opfamily.specs.Answers.{number_in}
 use Rattle.opfamily.specs.KeyOrder.{key_family}
 use Rattle.hash_index.specs.declared.chains.Place.{Place}
-use Rattle.hash_index.specs.Held.{Held, Table, held_order}
+use Rattle.hash_index.specs.Held.{Held, HashTable, held_order}
 use Rattle.hash_index.specs.Groups.{RowsOf, HasPut, held_by, held_in, held_of, value_at, without_at}
 use Rattle.hash_index.specs.Chains.{IsWider, taken_back}
 use Rattle.hash_index.proofs.ChainLemmas.{sorted_moved}
@@ -126,7 +126,7 @@ pub refused_back : (k : IndexKey) (old : List RowsOf) (added rest : List Held) (
 refused_back k old added rest ps now new inv w = taken_wider now new ps inv.within w ∙ inv.back
 
 -- what contracts see
-abbrev pub the_table : IndexKey → List Held → Table
+abbrev pub the_table : IndexKey → List Held → HashTable
 the_table k hs = record { key = k; held = hs }
 
 pub table_same : (k : IndexKey) (gs new : List RowsOf) → held_by new ≡ held_by gs → the_table k (held_in k new) ≡ the_table k (held_in k gs)

@@ -9,7 +9,7 @@ ghost use Rattle.opfamily.specs.Answers.{number_in};
 ghost use Rattle.opfamily.specs.KeyOrder.{key_family};
 ghost use Rattle.hash_index.specs.Chains.{IsChained, taken_back};
 ghost use Rattle.hash_index.specs.Groups.{held_by};
-ghost use Rattle.hash_index.specs.Held.{IsLawful, held_order, of_rows_below, with_held, rows_equal};
+ghost use Rattle.hash_index.specs.Held.{IsLawfulHash, held_order, held_below, with_held, rows_equal};
 
 use crate::chains::{Chains, Place};
 use crate::rows::{Row, is_known};
@@ -37,11 +37,11 @@ impl Drop for HashIndex {
 }
 
 impl Model for HashIndex {
-    ghost use Rattle.hash_index.specs.Held.{Table};
+    ghost use Rattle.hash_index.specs.Held.{HashTable};
     ghost use Rattle.hash_index.specs.Groups.{held_in};
     ghost use Rattle.hash_index.specs.Chains.{IsChained};
 
-    ghost Value = { Table };
+    ghost Value = { HashTable };
 
     ghost view = { λ h. record { key = h.key; held = held_in h.key h.chains.groups.items } };
 
@@ -92,7 +92,7 @@ impl HashIndex {
     /// Keeps the rows whose numbers are below `rows`. It takes no memory, so it undoes what was added for rows that a load
     /// had put behind the others.
     pub fn cut(&mut self, rows: u32)
-        ensures { self.new ≡ of_rows_below rows self.old }
+        ensures { self.new ≡ held_below rows self.old }
     {
         self.chains.cut(self.key, rows);
     }
@@ -101,7 +101,7 @@ impl HashIndex {
     pub fn matches(&self, v: &Value) -> &[Tid]
         requires { IsOfFamily (key_family self.now.key) v.now }
         ensures rows { map (λ t. t.0) result.now ≡ rows_equal v.now self.now.held }
-        ensures lawful { IsLawful self.now }
+        ensures lawful { IsLawfulHash self.now }
     {
         let key = self.key;
         if !is_known(v) {

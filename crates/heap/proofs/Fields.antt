@@ -17,7 +17,7 @@ use Rattle.pg_value.specs.declared.value.Value.{Value}
 use Rattle.pg_value.specs.declared.value.Value.TheVariants.{Null, Int, Bool as Flag, Text as String}
 use Rattle.heap.specs.declared.fault.CopyFault.TheVariants.{IsNull, TooLong}
 use Rattle.heap.specs.Loading.{field, is_long, placed}
-use Rattle.heap.specs.Stored.{IsValueOf}
+use Rattle.heap.specs.Stored.{IsColumnValue}
 use Rattle.pg_value.specs.Fields.{null_text}
 
 module _ (rec : ℕ) (col : ColNo) (column : Column) (text : List ℕ) where
@@ -85,7 +85,7 @@ short_text text h = grind (arith, nat_tests)
 not_null_text : (text : List ℕ) → bytes_eq text null_text ≡ false → text ≢ null_text
 not_null_text text h e = let yes' = (bytes_eq-Decides text null_text).1 e in cc
 
-pub read_lawful : (column : Column) (text : List ℕ) (v : Value) → bytes_eq text null_text ≡ false → is_long column.typed text ≡ false → field_value column.typed text ≡ Ok v → IsOfType column.typed v → IsValueOf column v
+pub read_lawful : (column : Column) (text : List ℕ) (v : Value) → bytes_eq text null_text ≡ false → is_long column.typed text ≡ false → field_value column.typed text ≡ Ok v → IsOfType column.typed v → IsColumnValue column v
 unfolding IsReadFrom
 read_lawful column text Null plain short is typed = absurd (read_from column.typed text Null is)
 read_lawful column text (Int n) plain short is typed = typed

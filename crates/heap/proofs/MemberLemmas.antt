@@ -8,22 +8,22 @@ use Rattle.std.proofs.lemmas.List.Folds.{list_any-append}
 use Rattle.std.proofs.lemmas.List.FromFn.{filter_of_map_range_with_len_more}
 use Rattle.std.proofs.lemmas.Bool.{cases_lt}
 use Rattle.std.proofs.lemmas.Bool.Decides.{nat_tests}
-use Rattle.heap.specs.TidSets.{IsTidSet, TidSet, those, is_member, not_below}
+use Rattle.heap.specs.TidSets.{IsTidSet, TidSet, rows_passing, is_member, not_below}
 
 one_if : Bool → ℕ → List ℕ
 one_if b n = cond b (n ∷ []) []
 
-pub those-more : (b : ℕ) (test : ℕ → Bool) → those (b + 1) test ≡ those b test ++ cond (test b) (b ∷ []) []
+pub those-more : (b : ℕ) (test : ℕ → Bool) → rows_passing (b + 1) test ≡ rows_passing b test ++ cond (test b) (b ∷ []) []
 those-more b test =
     ap (filter test) (sym (map-id (range_with_len 0 (b + 1))))
     ∙ filter_of_map_range_with_len_more test (λ (n : ℕ). n) 0 b b (let same : 0 + b ≡ b = omega arith in same)
     ∙ ap (λ (l : List ℕ). filter test l ++ cond (test b) (b ∷ []) []) (map-id (range_with_len 0 b))
 
-those-suc : (b : ℕ) (test : ℕ → Bool) → those (suc b) test ≡ those b test ++ cond (test b) (b ∷ []) []
-those-suc b test = ap (λ (k : ℕ). those k test) (let same : suc b ≡ b + 1 = omega arith in same) ∙ those-more b test
+those-suc : (b : ℕ) (test : ℕ → Bool) → rows_passing (suc b) test ≡ rows_passing b test ++ cond (test b) (b ∷ []) []
+those-suc b test = ap (λ (k : ℕ). rows_passing k test) (let same : suc b ≡ b + 1 = omega arith in same) ∙ those-more b test
 
 -- tests that agree below the bound
-pub those-same : (b : ℕ) (f g : ℕ → Bool) → ((n : ℕ) → n < b → f n ≡ g n) → those b f ≡ those b g
+pub those-same : (b : ℕ) (f g : ℕ → Bool) → ((n : ℕ) → n < b → f n ≡ g n) → rows_passing b f ≡ rows_passing b g
 those-same zero f g same = refl
 those-same (suc b) f g same =
     those-suc b f
@@ -66,15 +66,15 @@ merge n b p q same = elim (cases_lt n b) [
 ]
 
 -- which numbers are among them
-member-all : (b : ℕ) (test : ℕ → Bool) (n : ℕ) → is_member (those b test) n ≡ (nat_lt n b && test n)
+member-all : (b : ℕ) (test : ℕ → Bool) (n : ℕ) → is_member (rows_passing b test) n ≡ (nat_lt n b && test n)
 member-all zero test n = let none : nat_lt n 0 ≡ false = grind (arith, nat_tests) in ap (λ (x : Bool). x && test n) (sym none)
 member-all (suc b) test n =
     ap (λ (l : List ℕ). is_member l n) (those-suc b test)
-    ∙ list_any-append (nat_eq n) (those b test) (cond (test b) (b ∷ []) [])
+    ∙ list_any-append (nat_eq n) (rows_passing b test) (cond (test b) (b ∷ []) [])
     ∙ ap₂ (λ (x y : Bool). x || y) (member-all b test n) (last-member (test b) n b)
     ∙ merge n b (test n) (test b) (λ e. ap test e)
 
-pub member-those : (b : ℕ) (test : ℕ → Bool) (n : ℕ) → n < b → is_member (those b test) n ≡ test n
+pub member-those : (b : ℕ) (test : ℕ → Bool) (n : ℕ) → n < b → is_member (rows_passing b test) n ≡ test n
 member-those b test n lt = let below : nat_lt n b ≡ true = grind (arith, nat_tests) in member-all b test n ∙ ap (λ (x : Bool). x && test n) below
 
 -- those from a number on
@@ -87,10 +87,10 @@ last-in t b true le = let there : nat_lt b t ≡ false = grind (arith, nat_tests
 last-in t b false le = refl
 
 module _ (test : ℕ → Bool) where
-  rest-suc : (t b : ℕ) → not_below t (those (suc b) test) ≡ not_below t (those b test) ++ not_below t (cond (test b) (b ∷ []) [])
-  rest-suc t b = ap (not_below t) (those-suc b test) ∙ filter-append (λ n. not (nat_lt n t)) (those b test) (cond (test b) (b ∷ []) [])
+  rest-suc : (t b : ℕ) → not_below t (rows_passing (suc b) test) ≡ not_below t (rows_passing b test) ++ not_below t (cond (test b) (b ∷ []) [])
+  rest-suc t b = ap (not_below t) (those-suc b test) ∙ filter-append (λ n. not (nat_lt n t)) (rows_passing b test) (cond (test b) (b ∷ []) [])
 
-  pub rest-none : (t b : ℕ) → ((n : ℕ) → t ≤ n → n < b → test n ≡ false) → not_below t (those b test) ≡ []
+  pub rest-none : (t b : ℕ) → ((n : ℕ) → t ≤ n → n < b → test n ≡ false) → not_below t (rows_passing b test) ≡ []
   rest-none t zero none = refl
   rest-none t (suc b) none =
       rest-suc t b
@@ -99,7 +99,7 @@ module _ (test : ℕ → Bool) where
         | inr least ↦ last-in t b (test b) least ∙ ap (λ (x : Bool). cond x (b ∷ []) []) (none b least (omega arith))
       ])
 
-  pub rest-first : (t m b : ℕ) → t ≤ m → test m ≡ true → ((n : ℕ) → t ≤ n → n < m → test n ≡ false) → m < b → not_below t (those b test) ≡ m ∷ not_below (m + 1) (those b test)
+  pub rest-first : (t m b : ℕ) → t ≤ m → test m ≡ true → ((n : ℕ) → t ≤ n → n < m → test n ≡ false) → m < b → not_below t (rows_passing b test) ≡ m ∷ not_below (m + 1) (rows_passing b test)
   rest-first t m zero le is none lt = absurd (omega arith)
   rest-first t m (suc b) le is none lt = elim (cases_lt m b) [
     | inl inside ↦ rest-suc t b ∙ ap₂ (λ (x y : List ℕ). x ++ y) (rest-first t m b le is none inside) (last-in t b (test b) (omega arith) ∙ sym (last-in (m + 1) b (test b) (omega arith)))
@@ -111,7 +111,7 @@ module _ (test : ℕ → Bool) where
         ∙ ap (λ (l : List ℕ). m ∷ l) (sym (rest-none (m + 1) (suc b) (λ n low high. absurd (omega (arith, same, low, high)))))
   ]
 
-  pub those-none : (b : ℕ) → ((n : ℕ) → n < b → test n ≡ false) → those b test ≡ []
+  pub those-none : (b : ℕ) → ((n : ℕ) → n < b → test n ≡ false) → rows_passing b test ≡ []
   those-none zero none = refl
   those-none (suc b) none =
       those-suc b test ∙ ap₂ (λ (l : List ℕ) (x : Bool). l ++ cond x (b ∷ []) []) (those-none b (λ n lt. none n (omega arith))) (none b (omega arith))
@@ -125,16 +125,16 @@ last-ordered : (xs : List ℕ) (b : ℕ) (x : Bool) → All (λ n. n < b) xs →
 last-ordered xs b true all pairs = all_pairs_push ◌<◌ xs b pairs all
 last-ordered xs b false all pairs = subst (λ (l : List ℕ). AllPairs ◌<◌ l) (sym (append-nil xs)) pairs
 
-those-within : (b : ℕ) (test : ℕ → Bool) → All (λ n. n < b) (those b test)
+those-within : (b : ℕ) (test : ℕ → Bool) → All (λ n. n < b) (rows_passing b test)
 those-within zero test = λ k d lt. absurd (omega arith)
-those-within (suc b) test = subst (λ (l : List ℕ). All (λ n. n < suc b) l) (sym (those-suc b test)) (last-within (those b test) b (test b) (those-within b test))
+those-within (suc b) test = subst (λ (l : List ℕ). All (λ n. n < suc b) l) (sym (those-suc b test)) (last-within (rows_passing b test) b (test b) (those-within b test))
 
-those-ordered : (b : ℕ) (test : ℕ → Bool) → AllPairs ◌<◌ (those b test)
+those-ordered : (b : ℕ) (test : ℕ → Bool) → AllPairs ◌<◌ (rows_passing b test)
 those-ordered zero test = λ i j d lt within. absurd (omega arith)
-those-ordered (suc b) test = subst (λ (l : List ℕ). AllPairs ◌<◌ l) (sym (those-suc b test)) (last-ordered (those b test) b (test b) (those-within b test) (those-ordered b test))
+those-ordered (suc b) test = subst (λ (l : List ℕ). AllPairs ◌<◌ l) (sym (those-suc b test)) (last-ordered (rows_passing b test) b (test b) (those-within b test) (those-ordered b test))
 
 abbrev pub set_of : ℕ → List ℕ → TidSet
 set_of b ms = record { bound = b; members = ms }
 
-pub tid_set : (b : ℕ) (test : ℕ → Bool) → IsTidSet (set_of b (those b test))
+pub tid_set : (b : ℕ) (test : ℕ → Bool) → IsTidSet (set_of b (rows_passing b test))
 tid_set b test = record { ordered = those-ordered b test; within = those-within b test }

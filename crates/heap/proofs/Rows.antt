@@ -15,7 +15,7 @@ use Rattle.pg_value.specs.declared.value.Value.{Value}
 use Rattle.heap.specs.declared.fault.CopyFault.{CopyFault}
 use Rattle.heap.specs.declared.fault.CopyFault.TheVariants.{Arity, TooMany}
 use Rattle.heap.specs.Loading.{joined, field, values_from, row, rows_from}
-use Rattle.heap.specs.Stored.{Values, IsValueOf}
+use Rattle.heap.specs.Stored.{Values, IsColumnValue}
 
 pub field_there : (fields : List (List ℕ)) (i : ℕ) → field_at fields i ≡ slice_get fields i
 unfolding field_at
@@ -37,20 +37,20 @@ pub values-more : (rec i : ℕ) (cs : List Column) (fs : List (List ℕ)) (d : C
 unfolding values_from
 values-more rec i cs fs d f lc lf ef = ap₂ (values_from rec i) (drop_more cs i d lc) (drop_more fs i f lf ∙ ap (λ (x : List ℕ). x ∷ drop (i + 1) fs) (get_or_from_slice_get fs i f f ef))
 
-zip_push : (cs : List Column) (vs : Values) (c : Column) (v : Value) → AllZip IsValueOf cs vs → IsValueOf c v → AllZip IsValueOf (cs ++ c ∷ []) (vs ++ v ∷ [])
+zip_push : (cs : List Column) (vs : Values) (c : Column) (v : Value) → AllZip IsColumnValue cs vs → IsColumnValue c v → AllZip IsColumnValue (cs ++ c ∷ []) (vs ++ v ∷ [])
 zip_push [] [] c v all one = (one, tt)
 zip_push [] (w ∷ vs) c v all one = absurd all
 zip_push (d ∷ cs) [] c v all one = absurd all
 zip_push (d ∷ cs) (w ∷ vs) c v all one = (all.0, zip_push cs vs c v all.1 one)
 
-pub zip_length : (cs : List Column) (vs : Values) → AllZip IsValueOf cs vs → length vs ≡ length cs
+pub zip_length : (cs : List Column) (vs : Values) → AllZip IsColumnValue cs vs → length vs ≡ length cs
 zip_length [] [] all = refl
 zip_length [] (w ∷ vs) all = absurd all
 zip_length (d ∷ cs) [] all = absurd all
 zip_length (d ∷ cs) (w ∷ vs) all = ap suc (zip_length cs vs all.1)
 
-pub zip-more : (cs : List Column) (vs : Values) (i : ℕ) (d : Column) (v : Value) → i < length cs → AllZip IsValueOf (take i cs) vs → IsValueOf (get_or cs i d) v → AllZip IsValueOf (take (i + 1) cs) (vs ++ v ∷ [])
-zip-more cs vs i d v lt all one = subst (λ (l : List Column). AllZip IsValueOf l (vs ++ v ∷ [])) (sym (take_more cs i d lt)) (zip_push (take i cs) vs (get_or cs i d) v all one)
+pub zip-more : (cs : List Column) (vs : Values) (i : ℕ) (d : Column) (v : Value) → i < length cs → AllZip IsColumnValue (take i cs) vs → IsColumnValue (get_or cs i d) v → AllZip IsColumnValue (take (i + 1) cs) (vs ++ v ∷ [])
+zip-more cs vs i d v lt all one = subst (λ (l : List Column). AllZip IsColumnValue l (vs ++ v ∷ [])) (sym (take_more cs i d lt)) (zip_push (take i cs) vs (get_or cs i d) v all one)
 
 -- the end of the columns
 pub values-all : (rec i : ℕ) (cs : List Column) (fs : List (List ℕ)) (vs : Values) → length cs ≤ i → prepended vs (values_from rec i (drop i cs) (drop i fs)) ≡ Ok vs

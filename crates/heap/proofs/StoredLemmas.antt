@@ -7,7 +7,7 @@ use Rattle.pg_base.specs.declared.limits.TheConstants.{MOST_ROWS}
 use Rattle.pg_value.specs.declared.columns.Column.{Column}
 use Rattle.heap.specs.declared.fault.CopyFault.{CopyFault}
 use Rattle.heap.specs.Loading.{BeginsWith, loaded, appended_rows, rows_from, with_rows}
-use Rattle.heap.specs.Stored.{IsLawful, IsRowOf, IsWhole, Stored, Values, laid_out}
+use Rattle.heap.specs.Stored.{IsLawfulData, IsRowOf, IsWhole, Stored, Values, laid_out}
 use Rattle.heap.proofs.AppendedLemmas.{rows-joined}
 use Rattle.heap.proofs.RunLemmas.{first-runs, length-runs_of, run-inside, runs-at}
 
@@ -19,7 +19,7 @@ pub record RowAt (values : Values) (s : Stored) (t w : ℕ) : Type 0 where
   pub inside : t * w + w ≤ length values
   pub is : slice_get s.rows t ≡ Some (take w (drop (t * w) values))
 
-pub lawful-at : (s : Stored) (t : ℕ) (row : Values) → IsLawful s → t < length s.rows → slice_get s.rows t ≡ Some row → IsRowOf s.columns row
+pub lawful-at : (s : Stored) (t : ℕ) (row : Values) → IsLawfulData s → t < length s.rows → slice_get s.rows t ≡ Some row → IsRowOf s.columns row
 lawful-at s t row law lt e = subst (λ (r : Values). IsRowOf s.columns r) (get_or_from_slice_get s.rows t row row e) (All-get_or (IsRowOf s.columns) s.rows t row lt law.each)
 
 module _ (columns : List Column) (count : ℕ) (values : Values) (whole : IsWhole columns count values) where
@@ -39,7 +39,7 @@ module _ (columns : List Column) (count : ℕ) (values : Values) (whole : IsWhol
   pub cut-here : (len : ℕ) → len ≤ count → laid_out columns len (take (len * length columns) values) ≡ cut_to len here
   cut-here len le = ap (λ (l : List Values). record { columns = columns; rows = l }) (sym (first-runs (length columns) count len values whole le))
 
-  pub cut-lawful : (len : ℕ) → len ≤ count → IsLawful here → IsLawful (laid_out columns len (take (len * length columns) values))
+  pub cut-lawful : (len : ℕ) → len ≤ count → IsLawfulData here → IsLawfulData (laid_out columns len (take (len * length columns) values))
   cut-lawful len le law = record {
     few = omega (arith, law.few, length-runs_of (length columns) count values, length-runs_of (length columns) len (take (len * length columns) values));
     each = subst (λ (l : List Values). All (IsRowOf columns) l) (first-runs (length columns) count len values whole le) (All-take (IsRowOf columns) len here.rows law.each);
@@ -59,8 +59,8 @@ module _ (columns : List Column) (count : ℕ) (values : Values) (whole : IsWhol
   pub fault-here : (records : List (List (List ℕ))) (e : CopyFault) → rows_from columns (MOST_ROWS - count) 1 records ≡ Err e → loaded here records ≡ Err e
   fault-here records e read = ap (λ (r : ℕ). with_rows here (rows_from columns r 1 records)) room ∙ ap (with_rows here) read
 
-  pub load-lawful : (n : ℕ) (after : Values) → BeginsWith values after → IsLawful here → n ≤ MOST_ROWS - count → All (IsRowOf columns) (appended_rows columns n values after)
-      → IsLawful (laid_out columns (count + n) after)
+  pub load-lawful : (n : ℕ) (after : Values) → BeginsWith values after → IsLawfulData here → n ≤ MOST_ROWS - count → All (IsRowOf columns) (appended_rows columns n values after)
+      → IsLawfulData (laid_out columns (count + n) after)
   load-lawful n after kept law few each =
       let fits : count ≤ MOST_ROWS = omega (arith, law.few, length-runs_of (length columns) count values) in
       record {

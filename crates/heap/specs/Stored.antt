@@ -19,17 +19,17 @@ pub record Stored : Type 0 where
   pub rows : List Values
 
 -- a value that a column may hold: NULL where it takes NULL, else one of its type; a text keeps its limit and is not `\N`
-abbrev pub IsValueOf : Column → Value → Type 0
-IsValueOf c Null = c.not_null ≡ false
-IsValueOf c (String bs) = IsOfType c.typed (String bs) × (length bs ≤ MOST_TEXT_BYTES) × (bs ≢ null_text)
-IsValueOf c v = IsOfType c.typed v
+abbrev pub IsColumnValue : Column → Value → Type 0
+IsColumnValue c Null = c.not_null ≡ false
+IsColumnValue c (String bs) = IsOfType c.typed (String bs) × (length bs ≤ MOST_TEXT_BYTES) × (bs ≢ null_text)
+IsColumnValue c v = IsOfType c.typed v
 
 -- one value for each column
 abbrev pub IsRowOf : List Column → Values → Type 0
-IsRowOf columns row = AllZip IsValueOf columns row
+IsRowOf columns row = AllZip IsColumnValue columns row
 
 -- lawful data: no more rows than a table may have, each of values that the columns may hold
-pub record IsLawful (h : Stored) : Type 0 where
+pub record IsLawfulData (h : Stored) : Type 0 where
   pub few : length h.rows ≤ MOST_ROWS
   pub each : All (IsRowOf h.columns) h.rows
 

@@ -18,8 +18,8 @@ abbrev pub is_member : List ℕ → ℕ → Bool
 is_member ns n = list_any (nat_eq n) ns
 
 -- the numbers below a bound that pass a test, in order
-abbrev pub those : ℕ → (ℕ → Bool) → List ℕ
-those bound test = filter test (range_with_len 0 bound)
+abbrev pub rows_passing : ℕ → (ℕ → Bool) → List ℕ
+rows_passing bound test = filter test (range_with_len 0 bound)
 
 -- the members from a number on
 abbrev pub not_below : ℕ → List ℕ → List ℕ
@@ -31,7 +31,7 @@ is_marked words n = has (slice_index_or words (n / 64) 0) (n % 64)
 
 -- the set, of the same bound, of the row numbers that pass a test
 abbrev pub with_members : TidSet → (ℕ → Bool) → TidSet
-with_members s test = record { bound = s.bound; members = those s.bound test }
+with_members s test = record { bound = s.bound; members = rows_passing s.bound test }
 
 -- a set with one more member
 abbrev pub with_member : TidSet → ℕ → TidSet

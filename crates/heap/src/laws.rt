@@ -2,7 +2,7 @@
 
 ghost use Rattle.std.specs.Prelude.{◌≡◌, ◌<◌, ℕ, Bool, List, false, length, slice_index_or, true};
 ghost use Rattle.pg_base.specs.declared.numbers.Tid.{Tid};
-ghost use Rattle.heap.specs.TidSets.{is_member, those};
+ghost use Rattle.heap.specs.TidSets.{is_member, rows_passing};
 ghost use Rattle.heap.specs.Tuples.{padded, row_number};
 
 /// A law: a tuple as one of a query of n relations has n numbers: a relation of the set has the number of its row, each
@@ -15,6 +15,6 @@ pub fn padded_tuples_have_each_relation()
 
 /// A law: those below a bound that pass a test have as members just these, and tests that agree below it give the same.
 pub fn those_are_their_members()
-    ensures members { (bound : ℕ) (test : ℕ → Bool) (n : ℕ) → n < bound → is_member (those bound test) n ≡ test n }
-    ensures same { (bound : ℕ) (f g : ℕ → Bool) → ((n : ℕ) → n < bound → f n ≡ g n) → those bound f ≡ those bound g }
+    ensures members { (bound : ℕ) (test : ℕ → Bool) (n : ℕ) → n < bound → is_member (rows_passing bound test) n ≡ test n }
+    ensures same { (bound : ℕ) (f g : ℕ → Bool) → ((n : ℕ) → n < bound → f n ≡ g n) → rows_passing bound f ≡ rows_passing bound g }
 {}

@@ -7,7 +7,7 @@ ghost use Rattle.csv.specs.Records.{fields_of};
 ghost use Rattle.pg_base.specs.declared.limits.TheConstants.{MOST_COLUMNS, MOST_ROWS};
 ghost use Rattle.pg_value.specs.declared.columns.Column.{Column};
 ghost use Rattle.heap.specs.Loading.{BeginsWith, NamesColumnOf, appended, records_of, field, row, appended_rows, rows_from, is_long, IsFaultOf};
-ghost use Rattle.heap.specs.Stored.{IsRowOf, IsValueOf};
+ghost use Rattle.heap.specs.Stored.{IsRowOf, IsColumnValue};
 
 use crate::fault::CopyFault;
 use csv::{ByteRecord, Error as CsvError, ErrorKind, ReaderBuilder};
@@ -121,7 +121,7 @@ fn read_field(
     text: &[u8],
 ) -> Result<Value, CopyFault>
     ensures value { IfOk result (λ v. field rec col column text.now ≡ Ok v) }
-    ensures lawful { IfOk result (λ v. IsValueOf column v) }
+    ensures lawful { IfOk result (λ v. IsColumnValue column v) }
     ensures fault { IfErr result (IsFaultOf (field rec col column text.now)) }
     ensures field { (columns : List Column) → col.0 < length columns → IfErr result (NamesColumnOf columns) }
 {

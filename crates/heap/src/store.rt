@@ -3,7 +3,7 @@
 ghost use Rattle.std.specs.Prelude.{◌≡◌, ◌+◌, ◌<◌, ◌≤◌, [], length, take, slice_get, Some, Ok, Err, IfOk, IfErr, OnErr};
 ghost use Rattle.pg_base.specs.declared.limits.TheConstants.{MOST_COLUMNS, MOST_ROWS};
 ghost use Rattle.heap.specs.Loading.{NamesColumnOf, records_of, loaded, IsFaultOf};
-ghost use Rattle.heap.specs.Stored.{IsLawful, IsRowOf};
+ghost use Rattle.heap.specs.Stored.{IsLawfulData, IsRowOf};
 
 use crate::counters::Counters;
 use crate::fault::CopyFault;
@@ -48,14 +48,14 @@ impl<C: Counters> Drop for Heap<C> {
 }
 
 impl<C: Counters> Model for Heap<C> {
-    ghost use Rattle.heap.specs.Stored.{Stored, IsLawful, IsWhole, laid_out};
+    ghost use Rattle.heap.specs.Stored.{Stored, IsLawfulData, IsWhole, laid_out};
 
     ghost Value = { Stored };
 
     ghost view = { λ h. laid_out h.columns h.count h.values.items };
 
     ghost invariant = { λ h.
-        IsLawful (laid_out h.columns h.count h.values.items) ×
+        IsLawfulData (laid_out h.columns h.count h.values.items) ×
         IsWhole h.columns h.count h.values.items };
 }
 
@@ -84,7 +84,7 @@ impl<C: Counters> Heap<C> {
     /// The columns of the table.
     pub fn columns(&self) -> &Columns
         ensures columns { result.now ≡ self.now.columns }
-        ensures lawful { IsLawful self.now }
+        ensures lawful { IsLawfulData self.now }
     {
         &self.columns
     }
@@ -99,7 +99,7 @@ impl<C: Counters> Heap<C> {
         ensures fault { IfErr result (IsFaultOf (loaded self.old (records_of block.now))) }
         ensures field { IfErr result (NamesColumnOf self.old.columns) }
         ensures refused { OnErr result (self.new ≡ self.old) }
-        ensures lawful { IsLawful self.new }
+        ensures lawful { IsLawfulData self.new }
     {
         let room = MOST_ROWS - self.count as usize;
         let start = self.values.len();
@@ -120,7 +120,7 @@ impl<C: Counters> Heap<C> {
     pub fn cut(&mut self, len: u32)
         requires { len ≤ length self.old.rows }
         ensures kept { self.new ≡ record { columns = self.old.columns; rows = take len self.old.rows } }
-        ensures lawful { IsLawful self.new }
+        ensures lawful { IsLawfulData self.new }
     {
         let width = self.width();
         self.values.truncate(len as usize * width);

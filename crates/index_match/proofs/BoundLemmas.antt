@@ -8,7 +8,7 @@ use Rattle.catalog.specs.opfamily_classes_Method.{Method}
 use Rattle.pg_expr.specs.Cond.{Cond}
 use Rattle.catalog.specs.Indexes.{Index}
 use Rattle.index_match.specs.Numbered.{Numbered, has_number}
-use Rattle.index_match.specs.Conditions.{has_form}
+use Rattle.index_match.specs.Conditions.{has_key_form}
 use Rattle.index_match.specs.Bounds.{is_fixing, on_key, bounding, bounds_among}
 use Rattle.index_match.specs.Slots.{numbered_at, numbered_from, passes, is_on_key, is_fixing_on, bound_at}
 use Rattle.pg_base.proofs.BoolLemmas.{either as or_step}
@@ -92,12 +92,12 @@ module _ (m : Method) (r : ℕ) where
   bounding_at : (ks : List IndexKey) (ss : List (Option Cond)) (j : ℕ) → has_number (bounding m r ks (numbered_from 0 ss)) j ≡ bound_at m r ks ss j
   bounding_at [] ss j = refl
   bounding_at (k ∷ ks) ss j =
-      by (bounding_at ks ss j) (find (λ (c : Numbered). is_fixing c.cond) (on_key m r k (numbered_from 0 ss))) (position_from (is_fixing_on m r k) 0 ss) (first_at is_fixing (has_form m r k) 0 ss)
+      by (bounding_at ks ss j) (find (λ (c : Numbered). is_fixing c.cond) (on_key m r k (numbered_from 0 ss))) (position_from (is_fixing_on m r k) 0 ss) (first_at is_fixing (has_key_form m r k) 0 ss)
     where
       by : has_number (bounding m r ks (numbered_from 0 ss)) j ≡ bound_at m r ks ss j → (o : Option Numbered) (p : Option ℕ) → option_map (λ (c : Numbered). c.number) o ≡ p
           → has_number (elim o [ None ↦ on_key m r k (numbered_from 0 ss) | Some c ↦ c ∷ bounding m r ks (numbered_from 0 ss) ]) j
           ≡ elim p [ None ↦ nat_lt j (length ss) && is_on_key m r k (slice_index_or ss j None) | Some n ↦ nat_eq j n || bound_at m r ks ss j ]
-      by later None None e = placed_at (has_form m r k) ss j
+      by later None None e = placed_at (has_key_form m r k) ss j
       by later (Some c) (Some n) e = let same : c.number ≡ n = cc in ap₂ (λ (x : ℕ) (b : Bool). nat_eq j x || b) same later
       by later None (Some n) e = cc
       by later (Some c) None e = cc
@@ -125,9 +125,9 @@ bounds_among_them m r (k ∷ ks) cs j h = by (bounds_among_them m r ks cs j) (fi
   where
     by : (has_number (bounding m r ks cs) j ≡ true → has_number cs j ≡ true) → (o : Option Numbered) → find (λ (c : Numbered). is_fixing c.cond) (on_key m r k cs) ≡ o
         → has_number (elim o [ None ↦ on_key m r k cs | Some c ↦ c ∷ bounding m r ks cs ]) j ≡ true → has_number cs j ≡ true
-    by later None e h = any_filter (λ (c : Numbered). nat_eq j c.number) (λ (c : Numbered). has_form m r k c.cond) cs h
+    by later None e h = any_filter (λ (c : Numbered). nat_eq j c.number) (λ (c : Numbered). has_key_form m r k c.cond) cs h
     by later (Some c) e h = elim (or_cases (nat_eq j c.number) (has_number (bounding m r ks cs) j) h) [
-      | inl here ↦ any_filter (λ (d : Numbered). nat_eq j d.number) (λ (d : Numbered). has_form m r k d.cond) cs
+      | inl here ↦ any_filter (λ (d : Numbered). nat_eq j d.number) (λ (d : Numbered). has_key_form m r k d.cond) cs
           (found_any (λ (d : Numbered). is_fixing d.cond) (λ (d : Numbered). nat_eq j d.number) (on_key m r k cs) c e here)
       | inr there ↦ later there
     ]

@@ -10,7 +10,7 @@ use Rattle.pg_expr.specs.Cond.{Cond}
 use Rattle.pg_base.specs.declared.numbers.IndexNo.{IndexNo}
 use Rattle.catalog.specs.Contents.{Contents, index_at}
 use Rattle.catalog.specs.Indexes.{Index}
-use Rattle.eq_classes.specs.Clauses.{Clause, Set, Table}
+use Rattle.eq_classes.specs.Clauses.{Clause, Set, ClassTable}
 use Rattle.eq_classes.specs.Listing.{clause_at}
 use Rattle.eq_classes.proofs.WordLemmas.{grown}
 use Rattle.index_match.specs.Numbered.{Numbered, numbered, has_number, those, local, conditions_of}
@@ -39,7 +39,7 @@ chosen_are test chosen n (k ∷ ks) agree =
     by later true e = ap₂ (λ (a : Bool) (cs : List Numbered). cons_option (option_map (numbered_at n) (cond a (Some k.cond) None)) cs) e later
     by later false e = ap₂ (λ (a : Bool) (cs : List Numbered). cons_option (option_map (numbered_at n) (cond a (Some k.cond) None)) cs) e later
 
-pub those_are : (t : Table) (test : Clause → Bool) (chosen : ℕ → Bool) → ((j : ℕ) → chosen j ≡ nat_lt j (length t.clauses) && test (clause_at t.clauses j)) →
+pub those_are : (t : ClassTable) (test : Clause → Bool) (chosen : ℕ → Bool) → ((j : ℕ) → chosen j ≡ nat_lt j (length t.clauses) && test (clause_at t.clauses j)) →
     numbered_from 0 (chosen_from 0 chosen t.clauses) ≡ those t test
 those_are t test chosen agree = chosen_are test chosen 0 t.clauses (λ i d lt.
     let here : 0 + i ≡ i = omega arith in
@@ -102,7 +102,7 @@ first_alone chosen one n (k ∷ ks) agree = by (first_alone chosen one (n + 1) k
         (agree n ∙ not_yet n (find chosen (range_with_len (n + 1) (length ks))) (found_from chosen (n + 1) (length ks)))
         ∙ later agree
 
-module _ (d : Index) (t : Table) (r : ℕ) (p : Set) (all : ℕ → Bool) (agree : (j : ℕ) → all j ≡ nat_lt j (length t.clauses) && is_found d r p (clause_at t.clauses j)) where
+module _ (d : Index) (t : ClassTable) (r : ℕ) (p : Set) (all : ℕ → Bool) (agree : (j : ℕ) → all j ≡ nat_lt j (length t.clauses) && is_found d r p (clause_at t.clauses j)) where
   all_conditions : numbered_from 0 (chosen_from 0 all t.clauses) ≡ filter (λ (c : Numbered). is_condition d r c.cond) (local t r p)
   all_conditions = those_are t (is_found d r p) all agree ∙ sym (filter_twice (is_local r p) (is_condition d r) 0 t.clauses)
 
@@ -139,12 +139,12 @@ conditions_placed n (None ∷ ss) = conditions_placed (n + 1) ss
 conditions_placed n (Some e ∷ ss) = ap (λ (es : List Cond). e ∷ es) (conditions_placed (n + 1) ss)
 
 -- the conditions of a chosen part are those of its clauses
-pub placed_are : (t : Table) (test : Clause → Bool) (chosen : ℕ → Bool) → ((j : ℕ) → chosen j ≡ nat_lt j (length t.clauses) && test (clause_at t.clauses j)) →
+pub placed_are : (t : ClassTable) (test : Clause → Bool) (chosen : ℕ → Bool) → ((j : ℕ) → chosen j ≡ nat_lt j (length t.clauses) && test (clause_at t.clauses j)) →
     placed (chosen_from 0 chosen t.clauses) ≡ conditions_of (those t test)
 placed_are t test chosen agree = sym (conditions_placed 0 (chosen_from 0 chosen t.clauses)) ∙ ap conditions_of (those_are t test chosen agree)
 
 -- the answers of a match, from the conditions found
-module _ (c : Contents) (t : Table) (i : IndexNo) (r : ℕ) (p : Set) (d : Index) (at : d ≡ index_at c i)
+module _ (c : Contents) (t : ClassTable) (i : IndexNo) (r : ℕ) (p : Set) (d : Index) (at : d ≡ index_at c i)
     (found : ℕ → Bool) (conditions : numbered_from 0 (chosen_from 0 found t.clauses) ≡ conditions_among d r (local t r p))
     (bounds : ℕ → Bool) (bound : (j : ℕ) → bounds j ≡ bound_at d.method r d.keys (chosen_from 0 found t.clauses) j) where
   conditions_are : numbered_from 0 (chosen_from 0 found t.clauses) ≡ index_conditions c t i r p

@@ -7,7 +7,7 @@ use Rattle.catalog.specs.opfamily_classes_Method_TheVariants.{Btree, Hash}
 use Rattle.pg_base.specs.declared.numbers.IndexNo.{IndexNo}
 use Rattle.pg_expr.specs.Cond.{Cond}
 use Rattle.catalog.specs.Contents.{Contents, index_at}
-use Rattle.eq_classes.specs.Clauses.{Clause, Set, Table}
+use Rattle.eq_classes.specs.Clauses.{Clause, Set, ClassTable}
 use Rattle.eq_classes.specs.Listing.{clause_at}
 use Rattle.index_match.specs.Numbered.{Numbered, numbered, has_number, those, local, conditions_of}
 use Rattle.index_match.specs.Conditions.{allowed, is_condition, index_conditions}
@@ -29,7 +29,7 @@ clauses_by_number test n (k ∷ ks) = by (clauses_by_number test (n + 1) ks) (te
     by later false = later
 
 -- those that pass a test have its numbers
-those_numbers : (t : Table) (test : Clause → Bool) (n : ℕ) → has_number (those t test) n ≡ nat_lt n (length t.clauses) && test (clause_at t.clauses n)
+those_numbers : (t : ClassTable) (test : Clause → Bool) (n : ℕ) → has_number (those t test) n ≡ nat_lt n (length t.clauses) && test (clause_at t.clauses n)
 those_numbers t test n =
     let chosen = λ (j : ℕ). nat_lt j (length t.clauses) && test (clause_at t.clauses j) in
     ap (λ (cs : List Numbered). has_number cs n) (sym (those_are t test chosen (λ j. refl))) ∙ chosen_numbers chosen t.clauses n ∙ again (nat_lt n (length t.clauses)) (test (clause_at t.clauses n))
@@ -42,7 +42,7 @@ any_allowed : (m : Method) (cs : List Numbered) (n : ℕ) → has_number (allowe
 any_allowed Btree cs n h = h
 any_allowed Hash cs n h = any_take (λ (c : Numbered). nat_eq n c.number) cs h
 
-pub conditions_local : (c : Contents) (t : Table) (i : IndexNo) (r : ℕ) (p : Set) (n : ℕ) → has_number (index_conditions c t i r p) n ≡ true →
+pub conditions_local : (c : Contents) (t : ClassTable) (i : IndexNo) (r : ℕ) (p : Set) (n : ℕ) → has_number (index_conditions c t i r p) n ≡ true →
     (n < length t.clauses) × (is_local r p (clause_at t.clauses n) ≡ true)
 conditions_local c t i r p n h =
     let d = index_at c i in
@@ -52,7 +52,7 @@ conditions_local c t i r p n h =
     let parts = and_parts (nat_lt n (length t.clauses)) (is_local r p (clause_at t.clauses n)) (sym (those_numbers t (is_local r p) n) ∙ among) in
     (ltb-true n (length t.clauses) parts.0, parts.1)
 
-module _ (c : Contents) (t : Table) (i : IndexNo) (r : ℕ) (p : Set) (n : ℕ) where
+module _ (c : Contents) (t : ClassTable) (i : IndexNo) (r : ℕ) (p : Set) (n : ℕ) where
   abbrev cs : List Numbered
   cs = index_conditions c t i r p
 

@@ -10,7 +10,7 @@ use Rattle.pg_expr.specs.Cond.{Cond}
 use Rattle.predicate_proof.specs.Derivation.{IsImplied}
 use Rattle.catalog.specs.Contents.{Contents, index_at, table_at}
 use Rattle.catalog.specs.Indexes.{Index}
-use Rattle.eq_classes.specs.Clauses.{Table}
+use Rattle.eq_classes.specs.Clauses.{ClassTable}
 use Rattle.index_match.specs.Numbered.{base, conditions_of}
 use Rattle.index_match.specs.Usable.{IsUsable, IsUsableBy}
 
@@ -31,7 +31,7 @@ module _ (c : ℕ) (ks : List IndexKey) (ns : List ColNo) where
   pub held_beside : (b found : Bool) → b ≡ false → b ≡ in_key → found ≡ list_any (λ (n : ColNo). nat_eq c n.0) ns → found ≡ list_any (λ (n : ColNo). nat_eq c n.0) (map (λ (k : IndexKey). k.col) ks ++ ns)
   held_beside b found h is beside = beside ∙ sym (held_columns c ks ns ∙ ap (λ (a : Bool). a || list_any (λ (n : ColNo). nat_eq c n.0) ns) (sym is ∙ h))
 
-module _ (c : Contents) (t : Table) (i : IndexNo) (r : ℕ) where
+module _ (c : Contents) (t : ClassTable) (i : IndexNo) (r : ℕ) where
   of_predicate : (x : Index) (o : Option Cond) (e : Cond) (b : Bool) → o ≡ Some e → (IsTrue b ↔ IsImplied (table_at c x.table).columns (conditions_of (base t r)) e) → IsTrue b ↔ IsUsableBy c t r x o
   of_predicate x o e b is h = subst (λ (p : Option Cond). IsTrue b ↔ IsUsableBy c t r x p) (sym is) h
 

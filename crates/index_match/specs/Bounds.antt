@@ -7,9 +7,9 @@ use Rattle.catalog.specs.opfamily_classes_Method.{Method}
 use Rattle.pg_expr.specs.Cond.{Cond, compare, is_null}
 use Rattle.catalog.specs.Contents.{Contents, index_at}
 use Rattle.catalog.specs.Indexes.{Index}
-use Rattle.eq_classes.specs.Clauses.{Set, Table}
+use Rattle.eq_classes.specs.Clauses.{Set, ClassTable}
 use Rattle.index_match.specs.Numbered.{Numbered, is_among, others, has_number}
-use Rattle.index_match.specs.Conditions.{has_form, index_conditions}
+use Rattle.index_match.specs.Conditions.{has_key_form, index_conditions}
 use Rattle.pg_base.specs.Sets.{has}
 use Rattle.pg_base.specs.declared.numbers.RelNo.{RelNo}
 use Rattle.pg_base.specs.declared.rel_set.RelSet.{RelSet}
@@ -23,7 +23,7 @@ is_fixing _ = false
 
 -- the conditions on a key column
 abbrev pub on_key : Method → ℕ → IndexKey → List Numbered → List Numbered
-on_key m r k cs = filter (λ (c : Numbered). has_form m r k c.cond) cs
+on_key m r k cs = filter (λ (c : Numbered). has_key_form m r k c.cond) cs
 
 -- from the left over the key columns: the first fixing condition of a column, and the next column follows; else all conditions of the column, and none follows
 abbrev pub bounding : Method → ℕ → List IndexKey → List Numbered → List Numbered
@@ -39,17 +39,17 @@ abbrev pub bounds_among : Index → ℕ → List Numbered → List Numbered
 bounds_among d r cs = filter (is_among (bounding d.method r d.keys cs)) cs
 
 -- the bounds of an index, and its other conditions, which are tests of its entries
-abbrev pub index_bounds : Contents → Table → IndexNo → ℕ → Set → List Numbered
+abbrev pub index_bounds : Contents → ClassTable → IndexNo → ℕ → Set → List Numbered
 index_bounds c t i r p = bounds_among (index_at c i) r (index_conditions c t i r p)
 
 -- the conditions of an index that bound nothing: each entry within the bounds is tested by them
-abbrev pub index_tests : Contents → Table → IndexNo → ℕ → Set → List Numbered
+abbrev pub index_tests : Contents → ClassTable → IndexNo → ℕ → Set → List Numbered
 index_tests c t i r p = others (index_bounds c t i r p) (index_conditions c t i r p)
 
 -- a number is that of a bound of an index
-abbrev pub is_bound_of : Contents → Table → IndexNo → RelNo → RelSet → ℕ → Bool
+abbrev pub is_bound_of : Contents → ClassTable → IndexNo → RelNo → RelSet → ℕ → Bool
 is_bound_of c t i r p n = has_number (index_bounds c t i r.0 (has p.0)) n
 
 -- a number is that of a test of an index
-abbrev pub is_test_of : Contents → Table → IndexNo → RelNo → RelSet → ℕ → Bool
+abbrev pub is_test_of : Contents → ClassTable → IndexNo → RelNo → RelSet → ℕ → Bool
 is_test_of c t i r p n = has_number (index_tests c t i r.0 (has p.0)) n

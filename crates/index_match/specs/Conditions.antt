@@ -16,7 +16,7 @@ use Rattle.pg_expr.specs.Cond.{Cond, compare, is_null, is_not_null}
 use Rattle.pg_expr.specs.View as view
 use Rattle.catalog.specs.Contents.{Contents, index_at}
 use Rattle.catalog.specs.Indexes.{Index}
-use Rattle.eq_classes.specs.Clauses.{Set, Table}
+use Rattle.eq_classes.specs.Clauses.{Set, ClassTable}
 use Rattle.index_match.specs.Numbered.{Numbered, local, has_number}
 use Rattle.pg_expr.specs.declared.expr.Expr.{Expr}
 use Rattle.pg_base.specs.Sets.{has}
@@ -29,8 +29,8 @@ is_hash Btree = false
 is_hash Hash = true
 
 -- the operator is in the family of the key's class, for the method
-abbrev pub is_member : Method → IndexKey → Op → Bool
-is_member m k op = is_some (number_in (key_family k) m op)
+abbrev pub is_family_operator : Method → IndexKey → Op → Bool
+is_family_operator m k op = is_some (number_in (key_family k) m op)
 
 -- a column is that of the key, of the relation
 abbrev pub is_key : ℕ → IndexKey → ColRef → Bool
@@ -52,15 +52,15 @@ abbrev pub is_across : ℕ → IndexKey → Operand → Operand → Bool
 is_across r k a b = (is_key_side r k a && is_outside r b) || (is_outside r a && is_key_side r k b)
 
 -- a condition that an index may use on a key column: column op literal or column of another relation, either way round, with an operator of the key's family; for a B-tree IS NULL and IS NOT NULL
-abbrev pub has_form : Method → ℕ → IndexKey → Cond → Bool
-has_form m r k (compare op a b) = is_member m k op && is_across r k a b
-has_form m r k (is_null x) = not (is_hash m) && is_key r k x
-has_form m r k (is_not_null x) = not (is_hash m) && is_key r k x
-has_form m r k _ = false
+abbrev pub has_key_form : Method → ℕ → IndexKey → Cond → Bool
+has_key_form m r k (compare op a b) = is_family_operator m k op && is_across r k a b
+has_key_form m r k (is_null x) = not (is_hash m) && is_key r k x
+has_key_form m r k (is_not_null x) = not (is_hash m) && is_key r k x
+has_key_form m r k _ = false
 
 -- on some key column of the index
 abbrev pub is_condition : Index → ℕ → Cond → Bool
-is_condition d r e = list_any (λ k. has_form d.method r k e) d.keys
+is_condition d r e = list_any (λ k. has_key_form d.method r k e) d.keys
 
 -- each of some expressions is on some key column of the index
 abbrev pub are_conditions : Index → ℕ → List Expr → Bool
@@ -76,9 +76,9 @@ abbrev pub conditions_among : Index → ℕ → List Numbered → List Numbered
 conditions_among d r cs = allowed d.method (filter (λ (c : Numbered). is_condition d r c.cond) cs)
 
 -- the conditions of an index, among the clauses of a relation and of its parameterisation
-abbrev pub index_conditions : Contents → Table → IndexNo → ℕ → Set → List Numbered
+abbrev pub index_conditions : Contents → ClassTable → IndexNo → ℕ → Set → List Numbered
 index_conditions c t i r p = conditions_among (index_at c i) r (local t r p)
 
 -- a number is that of a condition of an index
-abbrev pub is_condition_of : Contents → Table → IndexNo → RelNo → RelSet → ℕ → Bool
+abbrev pub is_condition_of : Contents → ClassTable → IndexNo → RelNo → RelSet → ℕ → Bool
 is_condition_of c t i r p n = has_number (index_conditions c t i r.0 (has p.0)) n

@@ -2,7 +2,7 @@
 use Rattle.std.specs.Prelude.{ℕ, Bool, not, ◌||◌, nat_eq, List, map, filter}
 use Rattle.std.specs.List.{list_any, enumerate_from}
 use Rattle.pg_expr.specs.Cond.{Cond}
-use Rattle.eq_classes.specs.Clauses.{Set, Clause, Table}
+use Rattle.eq_classes.specs.Clauses.{Set, Clause, ClassTable}
 use Rattle.eq_classes.specs.Parts.{is_base, is_param}
 
 -- a condition with its number
@@ -19,7 +19,7 @@ abbrev pub numbered_from_0 : List Cond → List Numbered
 numbered_from_0 es = map numbered (enumerate_from 0 es)
 
 -- the clauses that pass a test
-abbrev pub those : Table → (Clause → Bool) → List Numbered
+abbrev pub those : ClassTable → (Clause → Bool) → List Numbered
 those t test = map (λ (p : ℕ × Clause). numbered (p.0, p.1.cond)) (filter (λ (p : ℕ × Clause). test p.1) (enumerate_from 0 t.clauses))
 
 -- a number is one of the list's
@@ -39,9 +39,9 @@ abbrev pub conditions_of : List Numbered → List Cond
 conditions_of cs = map (λ (c : Numbered). c.cond) cs
 
 -- the clauses over a relation alone; those and the clauses with the relations of a parameterisation
-abbrev pub base : Table → ℕ → List Numbered
+abbrev pub base : ClassTable → ℕ → List Numbered
 base t r = those t (is_base r)
 
 -- all clauses that a scan of a relation tests, where it is given rows of the relations of a set
-abbrev pub local : Table → ℕ → Set → List Numbered
+abbrev pub local : ClassTable → ℕ → Set → List Numbered
 local t r p = those t (λ k. is_base r k || is_param r p k)

@@ -8,14 +8,14 @@ use Rattle.pg_expr.specs.View as view
 use Rattle.catalog.specs.opfamily_classes_IndexKey.{IndexKey}
 use Rattle.catalog.specs.opfamily_classes_Method.{Method}
 use Rattle.catalog.specs.Indexes.{Index}
-use Rattle.eq_classes.specs.Clauses.{Clause, Set, Table}
+use Rattle.eq_classes.specs.Clauses.{Clause, Set, ClassTable}
 use Rattle.eq_classes.specs.Listing.{clause_at, selects}
 use Rattle.eq_classes.specs.Parts.{is_base, is_param}
 use Rattle.index_match.specs.declared.slots.Conditions.{Conditions}
 use Rattle.index_match.specs.declared.slots.Conditions.TheVariants.{Clauses, Parts}
 use Rattle.index_match.specs.declared.slots.Chosen.{Chosen}
 use Rattle.index_match.specs.Numbered.{Numbered, local}
-use Rattle.index_match.specs.Conditions.{has_form, is_condition, conditions_among}
+use Rattle.index_match.specs.Conditions.{has_key_form, is_condition, conditions_among}
 use Rattle.index_match.specs.Bounds.{is_fixing}
 use Rattle.pg_base.specs.Sets.{has}
 use Rattle.pg_base.specs.declared.numbers.RelNo.{RelNo}
@@ -29,7 +29,7 @@ chosen_from n chosen [] = []
 chosen_from n chosen (k ∷ ks) = cond (chosen n) (Some k.cond) None ∷ chosen_from (n + 1) chosen ks
 
 -- the places of the clauses of a set
-abbrev pub chosen_by : List ℕ → Table → List (Option Cond)
+abbrev pub chosen_by : List ℕ → ClassTable → List (Option Cond)
 chosen_by set t = chosen_from 0 (contains set) t.clauses
 
 -- the places of these conditions
@@ -59,7 +59,7 @@ abbrev pub slot_at : List (Option Cond) → ℕ → Option Cond
 slot_at slots n = slice_index_or slots n None
 
 -- the clauses of a set with their numbers
-abbrev pub numbered_by : List ℕ → Table → List Numbered
+abbrev pub numbered_by : List ℕ → ClassTable → List Numbered
 numbered_by set t = numbered_from 0 (chosen_by set t)
 
 -- a place has a condition that passes a test
@@ -69,7 +69,7 @@ passes test (Some e) = test e
 
 -- it has a condition on a key column, and one that fixes it
 abbrev pub is_on_key : Method → ℕ → IndexKey → Option Cond → Bool
-is_on_key m r k = passes (has_form m r k)
+is_on_key m r k = passes (has_key_form m r k)
 
 -- a number is that of a place with a condition on a key column
 abbrev pub is_key_slot : Method → RelNo → IndexKey → Conditions → ℕ → Bool
@@ -77,14 +77,14 @@ is_key_slot m r k list j = nat_lt j (length (slots_of list)) && is_on_key m r.0 
 
 -- the condition at a place leaves the key column one value
 abbrev pub is_fixing_on : Method → ℕ → IndexKey → Option Cond → Bool
-is_fixing_on m r k = passes (λ e. has_form m r k e && is_fixing e)
+is_fixing_on m r k = passes (λ e. has_key_form m r k e && is_fixing e)
 
 -- a clause over a relation and its parameterisation is a condition of the index
 abbrev pub is_local : ℕ → Set → Clause → Bool
 is_local r p k = is_base r k || is_param r p k
 
 -- a set has the numbers of the clauses over a relation and its parameterisation, and no others
-abbrev pub AreLocal : Table → ℕ → Set → (ℕ → Bool) → Type 0
+abbrev pub AreLocal : ClassTable → ℕ → Set → (ℕ → Bool) → Type 0
 AreLocal t r p chosen = (n : ℕ) → chosen n ≡ nat_lt n (length t.clauses) && is_local r p (clause_at t.clauses n)
 
 -- a clause that an index uses inside itself, in a scan of a relation with this parameterisation
@@ -92,11 +92,11 @@ abbrev pub is_found : Index → ℕ → Set → Clause → Bool
 is_found d r p k = is_local r p k && is_condition d r k.cond
 
 -- a number is that of a clause that an index uses inside itself, in a scan of a relation with this parameterisation
-abbrev pub is_found_at : IndexDef → RelNo → RelSet → Table → ℕ → Bool
+abbrev pub is_found_at : IndexDef → RelNo → RelSet → ClassTable → ℕ → Bool
 is_found_at d r p t = selects (is_found (index_of d) r.0 (has p.0)) t
 
 -- the conditions that an index has in a scan of a relation with this parameterisation
-abbrev pub conditions_for : IndexDef → RelNo → RelSet → Table → List Numbered
+abbrev pub conditions_for : IndexDef → RelNo → RelSet → ClassTable → List Numbered
 conditions_for d r p t = conditions_among (index_of d) r.0 (local t r.0 (has p.0))
 
 -- a number below an end is in the one set and not in the other

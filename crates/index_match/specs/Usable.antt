@@ -8,17 +8,17 @@ use Rattle.pg_expr.specs.Cond.{Cond}
 use Rattle.predicate_proof.specs.Derivation.{IsImplied}
 use Rattle.catalog.specs.Contents.{Contents, index_at, table_at}
 use Rattle.catalog.specs.Indexes.{Index, columns_of}
-use Rattle.eq_classes.specs.Clauses.{Table}
+use Rattle.eq_classes.specs.Clauses.{ClassTable}
 use Rattle.index_match.specs.Numbered.{base, conditions_of}
 
 -- without a predicate always; else where the clauses of the relation alone imply it
-abbrev pub IsUsableBy : Contents → Table → ℕ → Index → Option Cond → Type 0
+abbrev pub IsUsableBy : Contents → ClassTable → ℕ → Index → Option Cond → Type 0
 IsUsableBy c t r d None = Unit {0}
 IsUsableBy c t r d (Some predicate) = IsImplied (table_at c d.table).columns (conditions_of (base t r)) predicate
 
 -- an index may be used for a relation: it is known to have every row at which the relation's own clauses are True
 -- (PostgreSQL, predtest.c)
-abbrev pub IsUsable : Contents → Table → IndexNo → ℕ → Type 0
+abbrev pub IsUsable : Contents → ClassTable → IndexNo → ℕ → Type 0
 IsUsable c t i r = IsUsableBy c t r (index_at c i) (index_at c i).predicate
 
 -- an index holds each column of the relation that a list names, as a key column or an included one

@@ -26,7 +26,7 @@ fn type_of(f: Family) -> SqlType
 
 /// Whether the operator is in the family of the key's class, for the method.
 fn is_member(m: Method, key: IndexKey, op: Op) -> bool
-    ensures { result ≡ forms.is_member m key op }
+    ensures { result ≡ forms.is_family_operator m key op }
 {
     let t = type_of(key.family());
     strategy(key.family(), m, op, t, t).is_some()
@@ -70,7 +70,7 @@ fn is_across(r: RelNo, key: IndexKey, a: &Operand, b: &Operand) -> bool
 
 /// Whether an index may use a condition on a key column.
 pub fn has_form(m: Method, r: RelNo, key: IndexKey, e: &Expr) -> bool
-    ensures { result ≡ forms.has_form m r.0 key (cond e.now) }
+    ensures { result ≡ forms.has_key_form m r.0 key (cond e.now) }
 {
     match e {
         Expr::Compare(op, a, b) => is_member(m, key, *op) && is_across(r, key, a, b),

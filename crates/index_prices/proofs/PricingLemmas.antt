@@ -5,7 +5,7 @@ use Rattle.catalog.specs.Contents.{Contents}
 use Rattle.catalog.specs.Range.{Range}
 use Rattle.cost_rules.specs.Costs.{capped_pair}
 use Rattle.cost_rules.specs.declared.pair.Pair.{Pair}
-use Rattle.eq_classes.specs.Clauses.{Clause, Table}
+use Rattle.eq_classes.specs.Clauses.{Clause, ClassTable}
 use Rattle.path_cost.specs.Columns.{IsOver}
 use Rattle.path_cost.specs.Estimates.{set_rows}
 use Rattle.sql_query.specs.Queries.{Query, all_of_query}
@@ -29,7 +29,7 @@ module _ (c : Contents) (q : Query) (p : Path) (h : IsFinishedPath c q p) where
       uncut-kept q.window (cost c q p.tree) x (startup-most c q some p.tree) e (omega (arith, total, admissible))
 
 -- the clauses of a well bound query are over its relations, which are lent
-pub over-lent : (c : Contents) (q : Query) (range : Range) (t : Table) → IsWellBound c q → range ≡ q.range → t ≡ q.classes → All (λ (k : Clause). IsOver c range k.cond) t.clauses
+pub over-lent : (c : Contents) (q : Query) (range : Range) (t : ClassTable) → IsWellBound c q → range ≡ q.range → t ≡ q.classes → All (λ (k : Clause). IsOver c range k.cond) t.clauses
 over-lent c q range t h e f =
     subst (λ (r : Range). All (λ (k : Clause). IsOver c r k.cond) t.clauses) (sym e)
-    (subst (λ (u : Table). All (λ (k : Clause). IsOver c q.range k.cond) u.clauses) (sym f) (clauses_over c q h))
+    (subst (λ (u : ClassTable). All (λ (k : Clause). IsOver c q.range k.cond) u.clauses) (sym f) (clauses_over c q h))

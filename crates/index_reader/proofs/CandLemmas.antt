@@ -21,8 +21,8 @@ use Rattle.query_reader.proofs.ReadingLemmas.{some-token}
 use Rattle.query_reader.proofs.PlaceLemmas.{front-of, one-end, slice-is}
 use Rattle.index_reader.specs.Candidates.{cand_of, HaveCand, IsCandAt}
 use Rattle.index_reader.specs.declared.index.ReadIndex.{ReadIndex}
-use Rattle.index_reader.specs.Meaning.{Reading, meaning, meaning_of_cand}
-use Rattle.index_reader.specs.Reads.{reading}
+use Rattle.index_reader.specs.Meaning.{IndexMeant, meaning, meaning_of_cand}
+use Rattle.index_reader.specs.Reads.{index_meant}
 
 -- its words, with its end, and its first word
 pub record Behind (y : CreateIndex) (text : List ℕ) (tokens : List Token) : Type 0 where
@@ -53,10 +53,10 @@ cand-behind y text tokens end s at =
 
 -- what is read of it is what CREATE INDEX means
 pub index-told : (cat : Contents) (text : List ℕ) (tokens : List Token) (y : CreateIndex) (end : ℕ) (r : Result ReadIndex Refusal) → IsSpelled (create_index y) text tokens → 0 < length tokens → end ≡ length tokens - 1 →
-    ((x : Cand) (start : Token) (later : List Token) → tokens ≡ start ∷ later → IsCandAt text tokens 2 end x → Reads reading (meaning_of_cand cat start x) [] r []) → Reads reading (meaning cat y) [] r []
+    ((x : Cand) (start : Token) (later : List Token) → tokens ≡ start ∷ later → IsCandAt text tokens 2 end x → Reads index_meant (meaning_of_cand cat start x) [] r []) → Reads index_meant (meaning cat y) [] r []
 index-told cat text tokens y end r s some at told =
     let (start, later, whole) = some-token tokens some in
-    subst (λ (m : Result Reading Fault). Reads reading m [] r []) ((behind-two y text tokens s.words).means cat start later whole) (told (cand_of y) start later whole (cand-behind y text tokens end s at))
+    subst (λ (m : Result IndexMeant Fault). Reads index_meant m [] r []) ((behind-two y text tokens s.words).means cat start later whole) (told (cand_of y) start later whole (cand-behind y text tokens end s at))
 
 -- one whose end is found stands up to it
 pub cand-that-ends : (text : List ℕ) (tokens : List Token) (first end : ℕ) → AreWithinLimits (terminals text tokens) → EndsAt IsCand text tokens first end → HaveCand text tokens first end

@@ -25,7 +25,7 @@ use Rattle.catalog.specs.Tables.{Fits}
 use Rattle.catalog.proofs.NameLaws.{distinct-push, not_among}
 use Rattle.catalog.specs.Candidates.{IsCandidateIndex, names_of, with_candidates}
 use Rattle.index_reader.specs.Candidates.{IsCandAt}
-use Rattle.index_reader.specs.Meaning.{Reading, meaning_of_cand}
+use Rattle.index_reader.specs.Meaning.{IndexMeant, meaning_of_cand}
 use Rattle.index_reader.specs.Statements.{IsCandRefusal}
 use Rattle.index_reader.specs.declared.candidates.AllRead.{AllRead}
 use Rattle.index_reader.specs.declared.candidates.OneRead.{OneRead}
@@ -89,16 +89,16 @@ module _ (c : Contents) (start : Token) (tokens : List Token) (earlier : List Na
   read-wrong f lt wrong = inl (f, sym (below lt ∙ wrong), refl)
 
   -- one that may not be made
-  pub made-wrong : (read : Reading) (f : Fault) → length earlier < MOST_CANDIDATES → meaning_of_cand c start x ≡ Ok read → IsNotAllowed (with_candidates c earlier) tokens read f → CandidateMeans c start tokens earlier x (Err f)
+  pub made-wrong : (read : IndexMeant) (f : Fault) → length earlier < MOST_CANDIDATES → meaning_of_cand c start x ≡ Ok read → IsNotAllowed (with_candidates c earlier) tokens read f → CandidateMeans c start tokens earlier x (Err f)
   made-wrong read f lt is wrong = inr (read, sym (below lt ∙ is), wrong)
 
   -- one that may
-  pub made : (read : Reading) → length earlier < MOST_CANDIDATES → meaning_of_cand c start x ≡ Ok read → IsAllowed (with_candidates c earlier) read →
+  pub made : (read : IndexMeant) → length earlier < MOST_CANDIDATES → meaning_of_cand c start x ≡ Ok read → IsAllowed (with_candidates c earlier) read →
       CandidateMeans c start tokens earlier x (Ok (record { name = read.name; index = read.index }))
   made read lt is allowed = inr (read, sym (below lt ∙ is), (allowed, refl))
 
 -- it may be made, with earlier ones
-pub may-be-made : (c : Contents) (earlier : List NamedIndex) (read : Reading) → IsName read.name → Fits c read.index → IsAllowed (with_candidates c earlier) read →
+pub may-be-made : (c : Contents) (earlier : List NamedIndex) (read : IndexMeant) → IsName read.name → Fits c read.index → IsAllowed (with_candidates c earlier) read →
     IsCandidateIndex (with_candidates c earlier) (record { name = read.name; index = read.index })
 may-be-made c earlier read name fits allowed = record {
   name = name;
@@ -233,7 +233,7 @@ cand-stopped c start tokens earlier first x e (Ok y) on told = absurd told
 cand-stopped c start tokens earlier first x e (Err (refusal.Fault f)) on told = on f (sym told)
 cand-stopped c start tokens earlier first x e (Err refusal.Memory) on told = tt
 
-pub cand-refused : (m : Result Reading Fault) (e : Refusal) (f : Fault) → e ≡ refusal.Fault f → IsCandRefusal m e → m ≡ Err f
+pub cand-refused : (m : Result IndexMeant Fault) (e : Refusal) (f : Fault) → e ≡ refusal.Fault f → IsCandRefusal m e → m ≡ Err f
 cand-refused m e f is told = subst (λ (d : Refusal). IsCandRefusal m d) is told
 
 -- some candidates are left, in a statement with a first token
@@ -257,7 +257,7 @@ ongoing c text tokens first found names at (w, there) on =
     record { start = start; later = later; whole = whole; row = w; going = g; inside = omega (arith, lt') }
 
 -- a column stands twice
-pub repeated-by : (c : Contents) (tokens : List Token) (read : Reading) (name : List ℕ) (place at : ℕ) (d : ℕ) (f : Fault) (b : Bool) → name ≡ read.name → IsTrue b ↔ Contains (all_names c) name → b ≡ false → IsFirstTwice (columns_of read.index) place →
+pub repeated-by : (c : Contents) (tokens : List Token) (read : IndexMeant) (name : List ℕ) (place at : ℕ) (d : ℕ) (f : Fault) (b : Bool) → name ≡ read.name → IsTrue b ↔ Contains (all_names c) name → b ≡ false → IsFirstTwice (columns_of read.index) place →
     length read.at ≡ length (columns_of read.index) + 1 → at ≡ get_or read.at (place + 1) d → f ≡ word_fault S6 tokens at → IsNotAllowed c tokens read f
 repeated-by c tokens read name place at d f b named decides none twice many here is =
     let lt = twice.within in

@@ -30,9 +30,9 @@ use Rattle.index_reader.specs.declared.keys.KeyRead.{KeyRead}
 use Rattle.index_reader.specs.declared.names.NamedColumn.{NamedColumn}
 use Rattle.index_reader.specs.declared.methods.MethodRead.{MethodRead}
 use Rattle.index_reader.specs.Keys.{method_bound, key_bound, keys_of, name_bound, include_names}
-use Rattle.index_reader.specs.Meaning.{Reading, condition_bound, name_tokens, limited_names, has_many_atoms, index_reading, within_limits, meaning, meaning_of_cand}
-use Rattle.index_reader.specs.Reads.{ends_include, words_of_keys_left, reading}
-use Rattle.index_reader.specs.Statements.{IsCandRefusal, IsMeaning, IsRefusal}
+use Rattle.index_reader.specs.Meaning.{IndexMeant, condition_bound, name_tokens, limited_names, has_many_atoms, index_reading, within_limits, meaning, meaning_of_cand}
+use Rattle.index_reader.specs.Reads.{ends_include, words_of_keys_left, index_meant}
+use Rattle.index_reader.specs.Statements.{IsCandRefusal, IsIndexMeaning, IsCreateRefusal}
 use Rattle.ddl_reader.specs.Statements.{begins_index}
 use Rattle.expr_reader.proofs.StepLemmas.{step, stop}
 use Rattle.index_reader.proofs.VisibleLemmas.{sight}
@@ -97,7 +97,7 @@ module _ (start : Token) (n : Ident) (t : TableNo) (m : MethodRead) (keys : List
 
 -- what is bound so far
 module _ (cat : Contents) (start : Token) (n : Ident) (o : Key) (t : Ident) (u : Using) (p : Mark) (x : KeyTree) (xs : List (Mark × KeyTree)) (m : Mark) (c : Include) (w : Where) where
-  abbrev whole : Result Reading Fault
+  abbrev whole : Result IndexMeant Fault
   whole = meaning_of_cand cat start (cand_on n o t u p x xs m c w)
 
   module _ (table : TableNo) (found : table_of_name cat t ≡ Ok table) where
@@ -134,8 +134,8 @@ parts-of (cand_on n o t u p x xs m c w) old is = (n, o, t, u, p, x, xs, m, c, w,
 
 pub every-cand : (cat : Contents) (start : Token) (old : List Terminal) (r : Result ReadIndex Refusal) →
     ((n : Ident) (o : Key) (t : Ident) (u : Using) (p : Mark) (x : KeyTree) (xs : List (Mark × KeyTree)) (m : Mark) (c : Include) (w : Where) →
-    old ≡ words_of_cand (cand_on n o t u p x xs m c w) → Reads reading (meaning_of_cand cat start (cand_on n o t u p x xs m c w)) [] r []) →
-    (y : Cand) → old ≡ words_of_cand y → Reads reading (meaning_of_cand cat start y) [] r []
+    old ≡ words_of_cand (cand_on n o t u p x xs m c w) → Reads index_meant (meaning_of_cand cat start (cand_on n o t u p x xs m c w)) [] r []) →
+    (y : Cand) → old ≡ words_of_cand y → Reads index_meant (meaning_of_cand cat start y) [] r []
 every-cand cat start old r told (cand_on n o t u p x xs m c w) is = told n o t u p x xs m c w is
 
 -- a statement that begins with CREATE INDEX is one
@@ -169,26 +169,26 @@ indexing text tokens given opens =
     record { tree = y; spelled = subst (λ z. IsSpelled z text tokens) is (record { words = words; limits = given.within; levels = low }) }
 
 -- an index that is read is meant
-pub meant-as : (cat : Contents) (text : List ℕ) (tokens : List Token) (r : Result ReadIndex Refusal) (given : Indexing text tokens) → Reads reading (meaning cat given.tree) [] r [] → IfOk r (λ v. IsMeaning cat text tokens (Ok (reading v)))
-meant-as cat text tokens (Ok v) given told = record { statement = given.tree; spelled = given.spelled; means = (was-read ReadIndex Reading reading (meaning cat given.tree) v [] [] told).meant }
+pub meant-as : (cat : Contents) (text : List ℕ) (tokens : List Token) (r : Result ReadIndex Refusal) (given : Indexing text tokens) → Reads index_meant (meaning cat given.tree) [] r [] → IfOk r (λ v. IsIndexMeaning cat text tokens (Ok (index_meant v)))
+meant-as cat text tokens (Ok v) given told = record { statement = given.tree; spelled = given.spelled; means = (was-read ReadIndex IndexMeant index_meant (meaning cat given.tree) v [] [] told).meant }
 meant-as cat text tokens (Err e) given told = tt
 
-pub fault-by : (m : Result Reading Fault) (f : Fault) → Reads {T = ReadIndex} {A = Reading} reading m [] (Err (refusal.Fault f)) [] → m ≡ Err f
+pub fault-by : (m : Result IndexMeant Fault) (f : Fault) → Reads {T = ReadIndex} {A = IndexMeant} index_meant m [] (Err (refusal.Fault f)) [] → m ≡ Err f
 fault-by (Ok a) f told = absurd told
 fault-by (Err g) f told = ap Err (sym told)
 
 -- one that is refused after its syntax
-pub refused-as : (cat : Contents) (text : List ℕ) (tokens : List Token) (r : Result ReadIndex Refusal) (given : Indexing text tokens) → Reads reading (meaning cat given.tree) [] r [] → IfErr r (IsRefusal cat text tokens)
+pub refused-as : (cat : Contents) (text : List ℕ) (tokens : List Token) (r : Result ReadIndex Refusal) (given : Indexing text tokens) → Reads index_meant (meaning cat given.tree) [] r [] → IfErr r (IsCreateRefusal cat text tokens)
 refused-as cat text tokens (Ok v) given told = tt
 refused-as cat text tokens (Err refusal.Memory) given told = (given.tree, given.spelled)
 refused-as cat text tokens (Err (refusal.Fault f)) given told = inr (record { statement = given.tree; spelled = given.spelled; means = fault-by (meaning cat given.tree) f told })
 
 -- a candidate that is read, or refused
-pub cand-read : (m : Result Reading Fault) (r : Result ReadIndex Refusal) → Reads reading m [] r [] → IfOk r (λ v. m ≡ Ok (reading v))
-cand-read m (Ok v) told = (was-read ReadIndex Reading reading m v [] [] told).meant
+pub cand-read : (m : Result IndexMeant Fault) (r : Result ReadIndex Refusal) → Reads index_meant m [] r [] → IfOk r (λ v. m ≡ Ok (index_meant v))
+cand-read m (Ok v) told = (was-read ReadIndex IndexMeant index_meant m v [] [] told).meant
 cand-read m (Err e) told = tt
 
-pub cand-refused : (m : Result Reading Fault) (r : Result ReadIndex Refusal) → Reads reading m [] r [] → IfErr r (IsCandRefusal m)
+pub cand-refused : (m : Result IndexMeant Fault) (r : Result ReadIndex Refusal) → Reads index_meant m [] r [] → IfErr r (IsCandRefusal m)
 cand-refused m (Ok v) told = tt
 cand-refused m (Err refusal.Memory) told = tt
 cand-refused m (Err (refusal.Fault f)) told = fault-by m f told

@@ -38,7 +38,7 @@ use Rattle.catalog.specs.Indexes.{IsKeyOf, IsPredicateOf, type_at}
 use Rattle.catalog.specs.Tables.{column_named, table_named}
 use Rattle.expr_reader.specs.Conditions.{meaning_of_expr}
 use Rattle.expr_reader.proofs.TypedLemmas.{next-done, expr-good}
-use Rattle.expr_reader.specs.Lists.{parts_of, before_all, bound_each}
+use Rattle.expr_reader.specs.Lists.{further_parts, before_all, bound_each}
 use Rattle.ddl_reader.specs.Statistics.{known, column_of_name, table_of_name}
 use Rattle.ddl_reader.proofs.ListLemmas.{each-same}
 use Rattle.expr_reader.proofs.EachLemmas.{each-holds}
@@ -51,8 +51,8 @@ use Rattle.index_reader.specs.declared.methods.MethodRead.{MethodRead}
 use Rattle.index_reader.specs.Visible.{Sight, visible_in, sight_type}
 use Rattle.expr_reader.specs.Sorts.{is_descending, has_nulls_first}
 use Rattle.index_reader.specs.Keys.{method_of_name, method_bound, class_has_method, class_known, given, class_bound, key_bound, keys_of, name_bound, include_names}
-use Rattle.index_reader.specs.Meaning.{Reading, condition_bound, name_tokens, limited_names, has_many_atoms, index_reading, meaning_of_cand}
-use Rattle.index_reader.specs.Reads.{reading}
+use Rattle.index_reader.specs.Meaning.{IndexMeant, condition_bound, name_tokens, limited_names, has_many_atoms, index_reading, meaning_of_cand}
+use Rattle.index_reader.specs.Reads.{index_meant}
 use Rattle.index_reader.proofs.VisibleLemmas.{all-map, is_first_column, visible-columns}
 use Rattle.index_reader.specs.Soundness.{IsSound}
 use Rattle.index_reader.specs.Candidates.{IsCandAt}
@@ -119,27 +119,27 @@ module _ (most : ℕ) where
   key-within : (x : KeyTree) (rest : List Terminal) → AreWithin most (words_of_key x ++ rest) → ((key_token x).start ≤ most) × AreWithin most rest
   key-within (index_key n c d z) rest h = (h.0, behind _ rest h.1)
 
-  further-within : (xs : List (Mark × KeyTree)) (rest : List Terminal) → AreWithin most (words_of_keys xs ++ rest) → Low (map key_token (parts_of (λ k. k) xs)) × AreWithin most rest
+  further-within : (xs : List (Mark × KeyTree)) (rest : List Terminal) → AreWithin most (words_of_keys xs ++ rest) → Low (map key_token (further_parts (λ k. k) xs)) × AreWithin most rest
   further-within [] rest h = (All-nil (λ u. u.start ≤ most), h)
   further-within ((m, x) ∷ xs) rest h =
       let (here, more) = key-within x (words_of_keys xs ++ rest) (subst (AreWithin most) (append_assoc (words_of_key x) (words_of_keys xs) rest) h.1) in
       let (low, last) = further-within xs rest more in
-      (All-cons (λ u. u.start ≤ most) (key_token x) (map key_token (parts_of (λ k. k) xs)) here low, last)
+      (All-cons (λ u. u.start ≤ most) (key_token x) (map key_token (further_parts (λ k. k) xs)) here low, last)
 
   keys-within : (x : KeyTree) (xs : List (Mark × KeyTree)) (rest : List Terminal) → AreWithin most (words_of_key x ++ (words_of_keys xs ++ rest)) → Low (map key_token (keys_of x xs)) × AreWithin most rest
   keys-within x xs rest h =
       let (here, more) = key-within x (words_of_keys xs ++ rest) h in
       let (low, last) = further-within xs rest more in
-      (All-cons (λ u. u.start ≤ most) (key_token x) (map key_token (parts_of (λ k. k) xs)) here low, last)
+      (All-cons (λ u. u.start ≤ most) (key_token x) (map key_token (further_parts (λ k. k) xs)) here low, last)
 
-  names-within : (ns : List (Mark × Ident)) (rest : List Terminal) → AreWithin most (words_of_names ns ++ rest) → Low (map token_of (parts_of (λ x. x) ns))
+  names-within : (ns : List (Mark × Ident)) (rest : List Terminal) → AreWithin most (words_of_names ns ++ rest) → Low (map token_of (further_parts (λ x. x) ns))
   names-within [] rest h = All-nil (λ u. u.start ≤ most)
-  names-within ((m, n) ∷ ns) rest h = All-cons (λ u. u.start ≤ most) (token_of n) (map token_of (parts_of (λ x. x) ns)) h.1.0 (names-within ns rest h.1.1)
+  names-within ((m, n) ∷ ns) rest h = All-cons (λ u. u.start ≤ most) (token_of n) (map token_of (further_parts (λ x. x) ns)) h.1.0 (names-within ns rest h.1.1)
 
   include-within : (c : Include) (rest : List Terminal) → AreWithin most (words_of_include c ++ rest) → Low (map token_of (include_names c))
   include-within no_include rest h = All-nil (λ u. u.start ≤ most)
   include-within (include_columns k o n ns m) rest h =
-      All-cons (λ u. u.start ≤ most) (token_of n) (map token_of (parts_of (λ x. x) ns)) h.1.1.0
+      All-cons (λ u. u.start ≤ most) (token_of n) (map token_of (further_parts (λ x. x) ns)) h.1.1.0
       (names-within ns (t_mark Close m ∷ rest) (subst (AreWithin most) (append_assoc (words_of_names ns) (t_mark Close m ∷ []) rest) h.1.1.1))
 
   using-within : (u : Using) (rest : List Terminal) (m : MethodRead) → method_bound u ≡ Ok m → AreWithin most (words_of_using u ++ rest) → (m.at ≤ most) × AreWithin most rest
@@ -225,7 +225,7 @@ module _ (cat : Contents) (lawful : IsLawful cat) (t : TableNo) (there : IsTable
           fits = record {
             table = there;
             columns = record {
-              some = omega (arith, bare-keys, first-bound (key_bound cat t m.method x) (bound_each (key_bound cat t m.method) (parts_of (λ k. k) xs)) keys are-keys);
+              some = omega (arith, bare-keys, first-bound (key_bound cat t m.method x) (bound_each (key_bound cat t m.method) (further_parts (λ k. k) xs)) keys are-keys);
               few = omega (arith, none, dropped, count, key-count, name-count, bare-keys, bare-names);
               keys = all-map (IsKeyOf columns m.method) (λ (k : KeyRead). k.key) keys (each-holds (key_bound cat t m.method) (λ k. IsKeyOf columns m.method k.key) (key-fits m.method) (keys_of x xs) keys are-keys);
               include = all-map (λ (c : ColNo). c.0 < length columns) (λ (k : NamedColumn). k.col) names
@@ -239,7 +239,7 @@ module _ (cat : Contents) (lawful : IsLawful cat) (t : TableNo) (there : IsTable
         }
 
 module _ (cat : Contents) (text : List ℕ) (lawful : IsLawful cat) where
-  cand-sound : (start : Token) (x : Cand) (r : Reading) → AreNamed (words_of_cand x) → AreWithin (length text) (words_of_cand x) → meaning_of_cand cat start x ≡ Ok r → IsSound cat text r
+  cand-sound : (start : Token) (x : Cand) (r : IndexMeant) → AreNamed (words_of_cand x) → AreWithin (length text) (words_of_cand x) → meaning_of_cand cat start x ≡ Ok r → IsSound cat text r
   cand-sound start (cand_on n o t u p x xs m c w) r named low is =
       let table = next-done (table_of_name cat t) _ r is in
       let there = known-table cat text (bytes_of t) table.value _ refl (known-some _ (token_of t) (table_named cat (bytes_of t)) table.value table.first) in
@@ -259,10 +259,10 @@ module _ (cat : Contents) (text : List ℕ) (lawful : IsLawful cat) where
 
   -- an index that is read of the tokens between two numbers
   pub sound-as : (tokens : List Token) (from first end : ℕ) (x : Cand) (start : Token) (r : Result ReadIndex Refusal) → AreWords text from tokens → IsCandAt text tokens first end x →
-      IfOk r (λ v. meaning_of_cand cat start x ≡ Ok (reading v)) → IfOk r (λ v. IsSound cat text (reading v))
+      IfOk r (λ v. meaning_of_cand cat start x ≡ Ok (index_meant v)) → IfOk r (λ v. IsSound cat text (index_meant v))
   sound-as tokens from first end x start (Ok v) w at m =
       let named = subst AreNamed (sym at.words) (named-between text tokens first end (named-from text from tokens 0 w at.limits)) in
       let low = All-drop (λ (u : Token). u.start ≤ length text) first (take end tokens) (All-take (λ (u : Token). u.start ≤ length text) end tokens (starts-within text from tokens w)) in
       let placed = subst (All (λ (u : Token). u.start ≤ length text)) (sym (tokens-are (words_of_cand x) text (drop first (take end tokens)) at.words)) low in
-      cand-sound start x (reading v) named (within-all (length text) (words_of_cand x) placed) m
+      cand-sound start x (index_meant v) named (within-all (length text) (words_of_cand x) placed) m
   sound-as tokens from first end x start (Err e) w at m = tt

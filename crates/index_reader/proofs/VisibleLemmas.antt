@@ -11,7 +11,7 @@ use Rattle.pg_base.specs.declared.numbers.TableNo.{TableNo}
 use Rattle.pg_expr.specs.declared.operand.ColRef.{ColRef}
 use Rattle.catalog.specs.Contents.{Contents, IsLawfulTable, table_at}
 use Rattle.catalog.specs.Tables.{column_named}
-use Rattle.expr_reader.specs.Scope.{Visible, columns_of, of_name, the_one, among, look_up}
+use Rattle.expr_reader.specs.Scope.{Visible, columns_in_scope, of_name, the_one, among, look_up}
 use Rattle.expr_reader.specs.declared.found.Found.TheVariants.{NoTable}
 use Rattle.query_reader.specs.Scope.{columns_from}
 use Rattle.query_reader.proofs.RelationsLemmas.{found_number}
@@ -69,11 +69,11 @@ module _ (s : Sight) (c : Contents) (t : TableNo) (alias : List ℕ) (is : sight
       subst (λ (x : Sight). NoTable ≡ look_up (visible_in x) (Some q) name) is (sym none)
 
   -- a visible column is one of the table
-  pub column-seen : (x : ColRef) → Contains (columns_of (visible_in s)) x → x.col.0 < length (table_at c t).columns
+  pub column-seen : (x : ColRef) → Contains (columns_in_scope (visible_in s)) x → x.col.0 < length (table_at c t).columns
   column-seen x among' =
       let n = length (table_at c t).columns in
       let all = visible-columns alias n 0 names (omega (arith, lawful.width)) in
       let each = all-map (λ y. IsTrue (is_first_column n y)) (λ (v : Visible). v.column) (columns_from alias first_relation 0 names) all in
-      let (k, lt, at) = subst (λ (y : Sight). Contains (columns_of (visible_in y)) x) (sym is) among' in
+      let (k, lt, at) = subst (λ (y : Sight). Contains (columns_in_scope (visible_in y)) x) (sym is) among' in
       let passed : is_first_column n x ≡ true = subst (λ y. is_first_column n y ≡ true) at (each k x lt) in
       ltb-true x.col.0 n (and_parts (nat_eq x.rel.0 0) (nat_lt x.col.0 n) passed).1

@@ -13,7 +13,7 @@ use Rattle.catalog.specs.Contents.{Contents, NamedIndex, all_names, indexes_of}
 use Rattle.catalog.specs.Indexes.{AreDifferent, IsFirstTwice, columns_of, has_form}
 use Rattle.catalog.specs.Tables.{IsUnused}
 use Rattle.catalog.specs.Candidates.{with_candidates}
-use Rattle.index_reader.specs.Meaning.{Reading, meaning_of_cand}
+use Rattle.index_reader.specs.Meaning.{IndexMeant, meaning_of_cand}
 use Rattle.index_reader.specs.Parts.{name_token}
 use Rattle.index_reader.specs.Places.{word_fault}
 use Rattle.index_reader.specs.Stages.{Then}
@@ -24,14 +24,14 @@ StandsBefore columns place = Contains (take place columns) (slice_index_or colum
 
 -- a candidate that is read may be made, where its table has room: no table, index or earlier candidate has its name, no column
 -- stands twice, and the method has its form
-pub record IsAllowed (c : Contents) (read : Reading) : Type 0 where
+pub record IsAllowed (c : Contents) (read : IndexMeant) : Type 0 where
   pub free : IsUnused c read.name
   pub distinct : AreDifferent (columns_of read.index)
   pub form : has_form read.index ≡ true
 
 -- why it may not be made: its name is taken, at that name; else a column stands twice, at the first such column's name; else the
 -- method has no index of its form, at the method's name
-pub data IsNotAllowed (c : Contents) (tokens : List Token) (read : Reading) (f : Fault) : Type 0 where
+pub data IsNotAllowed (c : Contents) (tokens : List Token) (read : IndexMeant) (f : Fault) : Type 0 where
   taken : Contains (all_names c) read.name → f ≡ word_fault S5 tokens (slice_index_or read.at 0 0) → IsNotAllowed c tokens read f
   repeated : (place : ℕ) → IsUnused c read.name → IsFirstTwice (columns_of read.index) place →
       f ≡ word_fault S6 tokens (slice_index_or read.at (place + 1) 0) → IsNotAllowed c tokens read f
@@ -39,18 +39,18 @@ pub data IsNotAllowed (c : Contents) (tokens : List Token) (read : Reading) (f :
       f ≡ word_fault S17 tokens read.method → IsNotAllowed c tokens read f
 
 -- the candidate, or why it may not be made
-abbrev pub MayBeMade : Contents → List Token → Reading → Result NamedIndex Fault → Type 0
+abbrev pub MayBeMade : Contents → List Token → IndexMeant → Result NamedIndex Fault → Type 0
 MayBeMade c tokens read (Ok x) = IsAllowed c read × (x ≡ record { name = read.name; index = read.index })
 MayBeMade c tokens read (Err f) = IsNotAllowed c tokens read f
 
 -- the reading of a candidate behind so many: the one too many is at fault at its name, and is not bound
-abbrev pub candidate_read : Contents → Token → ℕ → Cand → Result Reading Fault
+abbrev pub candidate_read : Contents → Token → ℕ → Cand → Result IndexMeant Fault
 candidate_read c start earlier x = cond (nat_lt earlier MOST_CANDIDATES) (meaning_of_cand c start x) (Err (fault_at (S15 Candidates) (name_token x)))
 
 -- what a candidate means behind earlier ones, in a statement of these tokens that begins at `start`
 abbrev pub CandidateMeans : Contents → Token → List Token → List NamedIndex → Cand → Result NamedIndex Fault → Type 0
 CandidateMeans c start tokens earlier x =
-    Then Reading NamedIndex (λ r. r ≡ candidate_read c start (length earlier) x) (MayBeMade (with_candidates c earlier) tokens)
+    Then IndexMeant NamedIndex (λ r. r ≡ candidate_read c start (length earlier) x) (MayBeMade (with_candidates c earlier) tokens)
 
 -- the candidates, from the left behind earlier ones, where each finds room at its table: fewer indexes than a table may have; the
 -- first that finds none is at fault at its name

@@ -18,7 +18,7 @@ use Rattle.sql_grammar.specs.Syntax.{Mark, OpClass as ClassTree, no_class, op_cl
 use Rattle.catalog.specs.Contents.{Contents, table_at}
 use Rattle.catalog.specs.Indexes.{type_at}
 use Rattle.expr_reader.specs.Conditions.{next}
-use Rattle.expr_reader.specs.Lists.{parts_of}
+use Rattle.expr_reader.specs.Lists.{further_parts}
 use Rattle.expr_reader.specs.Sorts.{is_descending, has_nulls_first}
 use Rattle.ddl_reader.specs.Statistics.{known, column_of_name}
 use Rattle.index_reader.specs.declared.keys.KeyRead.{KeyRead}
@@ -69,7 +69,7 @@ key_bound cat t m (index_key n c d z) =
 
 -- all key columns
 abbrev pub keys_of : KeyTree → List (Mark × KeyTree) → List KeyTree
-keys_of x xs = x ∷ parts_of (λ k. k) xs
+keys_of x xs = x ∷ further_parts (λ k. k) xs
 
 -- an INCLUDE column with its name's token
 abbrev pub name_bound : Contents → TableNo → Ident → Result NamedColumn Fault
@@ -78,4 +78,4 @@ name_bound cat t n = next (column_of_name cat t n) (λ col. Ok (record { col = c
 -- all INCLUDE columns
 abbrev pub include_names : Include → List Ident
 include_names no_include = []
-include_names (include_columns _ _ n ns _) = n ∷ parts_of (λ x. x) ns
+include_names (include_columns _ _ n ns _) = n ∷ further_parts (λ x. x) ns

@@ -25,7 +25,7 @@ use Rattle.index_reader.specs.Keys.{method_bound, key_bound, keys_of, name_bound
 use Rattle.index_reader.specs.Visible.{Sight, visible_in, sight_type}
 
 -- a new index by its name, with the offsets of the words at which the catalogue's refusals stand
-pub record Reading : Type 0 where
+pub record IndexMeant : Type 0 where
   pub name : List ℕ
   pub index : Index
   pub at : List ℕ
@@ -55,7 +55,7 @@ abbrev pub limited_atoms : {A : Type 0} → Token → Option Cond → A → Resu
 limited_atoms start predicate x = cond (has_many_atoms predicate) (Err (fault_at (S15 Atoms) start)) (Ok x)
 
 -- a new index, all of whose words are bound
-abbrev pub index_reading : Ident → TableNo → MethodRead → List KeyRead → List NamedColumn → Option Cond → Reading
+abbrev pub index_reading : Ident → TableNo → MethodRead → List KeyRead → List NamedColumn → Option Cond → IndexMeant
 index_reading n t m keys names predicate = record {
   name = bytes_of n;
   index = record { table = t; method = m.method; keys = map (λ k. k.key) keys; include = map (λ x. x.col) names; predicate = predicate };
@@ -64,13 +64,13 @@ index_reading n t m keys names predicate = record {
 }
 
 -- within the limits: of columns, at the first name too many, then of atoms, at the statement's first token
-abbrev pub within_limits : Token → Ident → TableNo → MethodRead → List KeyRead → List NamedColumn → Option Cond → Result Reading Fault
+abbrev pub within_limits : Token → Ident → TableNo → MethodRead → List KeyRead → List NamedColumn → Option Cond → Result IndexMeant Fault
 within_limits start n t m keys names predicate =
     limited_names (drop MOST_COLUMNS (name_tokens keys names))
     (cond (has_many_atoms predicate) (Err (fault_at (S15 Atoms) start)) (Ok (index_reading n t m keys names predicate)))
 
 -- what a candidate for an index means, in a statement that begins at this token
-abbrev pub meaning_of_cand : Contents → Token → Cand → Result Reading Fault
+abbrev pub meaning_of_cand : Contents → Token → Cand → Result IndexMeant Fault
 meaning_of_cand cat start (cand_on n _ of u _ x xs _ c w) =
     next (table_of_name cat of) (λ t.
     next (method_bound u) (λ m.
@@ -80,5 +80,5 @@ meaning_of_cand cat start (cand_on n _ of u _ x xs _ c w) =
     within_limits start n t m keys names predicate)))))
 
 -- what CREATE INDEX means: what stands behind its first two words, in a statement that begins at its first one
-abbrev pub meaning : Contents → CreateIndex → Result Reading Fault
+abbrev pub meaning : Contents → CreateIndex → Result IndexMeant Fault
 meaning cat (index_on start _ n o of u p x xs m c w _) = meaning_of_cand cat start (cand_on n o of u p x xs m c w)

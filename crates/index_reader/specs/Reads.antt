@@ -24,7 +24,7 @@ use Rattle.expr_reader.specs.Reads.{Reads}
 use Rattle.index_reader.specs.declared.index.ReadIndex.{ReadIndex}
 use Rattle.index_reader.specs.declared.keys.KeyRead.{KeyRead}
 use Rattle.index_reader.specs.Keys.{class_bound, key_bound}
-use Rattle.index_reader.specs.Meaning.{Reading, meaning_of_cand}
+use Rattle.index_reader.specs.Meaning.{IndexMeant, meaning_of_cand}
 
 -- a word of this class is an operator class where one may stand
 abbrev pub opens_class : Class → Bool
@@ -61,8 +61,8 @@ abbrev pub words_of_names_left : Ident → List (Mark × Ident) → Mark → Lis
 words_of_names_left n ns m rest = t_name n ∷ (words_of_names ns ++ t_mark Close m ∷ rest)
 
 -- what is read
-abbrev pub reading : ReadIndex → Reading
-reading r = record { name = r.name; index = index_of r.def; at = r.at.items; method = r.method }
+abbrev pub index_meant : ReadIndex → IndexMeant
+index_meant r = record { name = r.name; index = index_of r.def; at = r.at.items; method = r.method }
 
 -- some parts, bound from the left, are read, and `rest` is left; or the first fault is told; or there was no memory
 abbrev pub ReadsEach : {A T : Type 0} → (A → Result T Fault) → List A → List Terminal → Result (Vec T Global) Refusal →
@@ -76,8 +76,8 @@ StandsKey ts =
     (ts ≡ words_of_key (index_key n c d z) ++ rest)
 
 -- where it does, it is read as it means, of a table and for an access method, and what stands behind it is left
-abbrev pub ReadsKey : Contents → TableNo → Method → List Terminal → Result KeyRead Refusal → List Terminal → Type 0
-ReadsKey cat t m old read left =
+abbrev pub ReadsIndexKey : Contents → TableNo → Method → List Terminal → Result KeyRead Refusal → List Terminal → Type 0
+ReadsIndexKey cat t m old read left =
     (n : Ident) (c : ClassTree) (d : Direction) (z : NullsEnd) (rest : List Terminal) → ends_key rest ≡ true →
     old ≡ words_of_key (index_key n c d z) ++ rest → Reads (λ k. k) (key_bound cat t m (index_key n c d z)) rest read left
 
@@ -102,4 +102,4 @@ abbrev pub ReadsCand : Contents → Token → List Terminal → Result ReadIndex
 ReadsCand cat start ts read =
     (n : Ident) (o : Key) (t : Ident) (u : Using) (p : Mark) (x : KeyTree) (xs : List (Mark × KeyTree)) (m : Mark)
     (c : Include) (w : Where) → ts ≡ words_of_cand (cand_on n o t u p x xs m c w) →
-    Reads reading (meaning_of_cand cat start (cand_on n o t u p x xs m c w)) [] read []
+    Reads index_meant (meaning_of_cand cat start (cand_on n o t u p x xs m c w)) [] read []

@@ -4,11 +4,11 @@ use Rattle.pg_base.specs.Names.{IsName}
 use Rattle.catalog.specs.Contents.{Contents}
 use Rattle.catalog.specs.Indexes.{columns_of}
 use Rattle.catalog.specs.Tables.{Fits}
-use Rattle.index_reader.specs.Meaning.{Reading}
+use Rattle.index_reader.specs.Meaning.{IndexMeant}
 
 -- it may be handed to the catalogue: it has a name, and fits the table that it is of; its name and each of its columns have a
 -- place in the text, and so has its method
-pub record IsSound (cat : Contents) (text : List ℕ) (r : Reading) : Type 0 where
+pub record IsSound (cat : Contents) (text : List ℕ) (r : IndexMeant) : Type 0 where
   pub name : IsName r.name
   pub fits : Fits cat r.index
   pub places : length r.at ≡ length (columns_of r.index) + 1

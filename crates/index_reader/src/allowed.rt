@@ -8,7 +8,7 @@ ghost use Rattle.catalog.specs.Contents.{all_names};
 ghost use Rattle.catalog.specs.Entries.{index_of};
 ghost use Rattle.catalog.specs.Indexes.{AreDifferent, IsFirstTwice, columns_of, has_form, is_plain};
 ghost use Rattle.catalog.specs.Candidates.{with_candidates};
-ghost use Rattle.index_reader.specs.Reads.{reading};
+ghost use Rattle.index_reader.specs.Reads.{index_meant};
 ghost use Rattle.index_reader.specs.AdviseCandidates.{IsAllowed, IsNotAllowed, StandsBefore};
 ghost use Rattle.index_reader.specs.Places.{end_of_word as end_of_word_at, word_fault};
 
@@ -130,8 +130,8 @@ pub(crate) fn not_allowed(
     requires few { length read.now.def.keys.items + length read.now.def.include.items ≤ MOST_COLUMNS }
     requires places { length read.now.at.items ≡ length (columns_of (index_of read.now.def)) + 1 }
     ensures { MatchOption result
-        (IsAllowed (with_candidates cat.now earlier.now) (reading read.now))
-        (IsNotAllowed (with_candidates cat.now earlier.now) tokens.now (reading read.now)) }
+        (IsAllowed (with_candidates cat.now earlier.now) (index_meant read.now))
+        (IsNotAllowed (with_candidates cat.now earlier.now) tokens.now (index_meant read.now)) }
 {
     if is_taken(cat, earlier, read.name.items()) {
         return Some(at_word(Code::S5, tokens, read.at[0]));

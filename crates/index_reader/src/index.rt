@@ -11,7 +11,7 @@ ghost use Rattle.catalog.specs.Entries.{index_of};
 ghost use Rattle.catalog.specs.Tables.{table_named};
 ghost use Rattle.ddl_reader.specs.Statistics.{known};
 ghost use Rattle.index_reader.specs.Meaning.{index_reading, name_tokens};
-ghost use Rattle.index_reader.specs.Reads.{reading, AreOfCand, ReadsCand};
+ghost use Rattle.index_reader.specs.Reads.{index_meant, AreOfCand, ReadsCand};
 
 use crate::keys::{KeyRead, keys};
 use crate::limits::{check_atoms, check_columns, name_tokens_of};
@@ -106,7 +106,7 @@ fn made(
 ) -> Result<ReadIndex, Memory>
     requires { tokens.now ≡ name_tokens parts.keys.items parts.names.items }
     ensures { IfOk result (λ r. (n : Ident) → parts.name ≡ spelled n →
-        reading r ≡ index_reading n parts.table parts.method parts.keys.items parts.names.items (option_map cond predicate)) }
+        index_meant r ≡ index_reading n parts.table parts.method parts.keys.items parts.names.items (option_map cond predicate)) }
 {
     let Parts {
         name,

@@ -4,7 +4,7 @@ ghost use Rattle.std.specs.Prelude.{◌≡◌, ◌≤◌, length, OnOk};
 ghost use Rattle.catalog.specs.Contents.{IsTable, IsColumn, table_at};
 ghost use Rattle.catalog.specs.Indexes.{type_at};
 ghost use Rattle.index_reader.specs.Keys.{key_bound, keys_of};
-ghost use Rattle.index_reader.specs.Reads.{words_of_keys_left, ReadsEach, StandsKey, ReadsKey};
+ghost use Rattle.index_reader.specs.Reads.{words_of_keys_left, ReadsEach, StandsKey, ReadsIndexKey};
 ghost use Rattle.expr_reader.specs.Reading.{StandsList, IfList};
 
 use crate::classes::op_class;
@@ -46,7 +46,7 @@ fn one_key(
 ) -> Result<KeyRead, Refusal>
     requires there { IsTable cat.now table }
     requires words { StandsKey from.old }
-    ensures read { ReadsKey cat.now table method from.old result from.new }
+    ensures read { ReadsIndexKey cat.now table method from.old result from.new }
     ensures ahead { OnOk result (length from.new ≤ length from.old) }
 {
     let name = from.expect_name(alloc)?;

@@ -7,7 +7,7 @@ ghost use Rattle.sql_grammar.specs.Words.{words_of_include};
 ghost use Rattle.catalog.specs.Contents.{IsTable, IsColumn};
 ghost use Rattle.catalog.specs.Tables.{column_named};
 ghost use Rattle.expr_reader.specs.Reads.{Reads};
-ghost use Rattle.expr_reader.specs.Lists.{parts_of};
+ghost use Rattle.expr_reader.specs.Lists.{further_parts};
 ghost use Rattle.ddl_reader.specs.Statistics.{known};
 ghost use Rattle.index_reader.specs.Keys.{name_bound, include_names};
 ghost use Rattle.index_reader.specs.Reads.{ends_include, words_of_names_left, ReadsEach};
@@ -72,7 +72,7 @@ fn names(
     requires there { IsTable cat.now table }
     requires words { StandsList words_of_names_left from.old }
     ensures { IfList words_of_names_left from.old (λ n ns m rest.
-        ReadsEach (name_bound cat.now table) (n ∷ parts_of (λ x. x) ns) rest result from.new) }
+        ReadsEach (name_bound cat.now table) (n ∷ further_parts (λ x. x) ns) rest result from.new) }
 {
     let mut all = Vec::new(alloc);
     let first = one_name(alloc, cat, table, from)?;

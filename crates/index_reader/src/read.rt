@@ -10,9 +10,9 @@ ghost use Rattle.expr_reader.specs.Reads.{Reads};
 ghost use Rattle.ddl_reader.specs.Statements.{begins_index};
 ghost use Rattle.index_reader.specs.Candidates.{HaveCand, IsCandAt};
 ghost use Rattle.index_reader.specs.Meaning.{meaning_of_cand};
-ghost use Rattle.index_reader.specs.Reads.{reading};
+ghost use Rattle.index_reader.specs.Reads.{index_meant};
 ghost use Rattle.index_reader.specs.Soundness.{IsSound};
-ghost use Rattle.index_reader.specs.Statements.{IsCandRefusal, IsMeaning, IsRefusal};
+ghost use Rattle.index_reader.specs.Statements.{IsCandRefusal, IsIndexMeaning, IsCreateRefusal};
 
 use crate::index::{ReadIndex, index};
 use catalog::Catalog;
@@ -43,8 +43,8 @@ fn cand(
     requires words { (from : ℕ) × AreWords text.now from tokens.now }
     requires part { HaveCand text.now tokens.now first end }
     ensures meaning { (x : Cand) (start : Token) (later : List Token) → tokens.now ≡ start ∷ later →
-        IsCandAt text.now tokens.now first end x → Reads reading (meaning_of_cand cat.now start x) [] result [] }
-    ensures sound { IfOk result (λ r. IsSound cat.now text.now (reading r)) }
+        IsCandAt text.now tokens.now first end x → Reads index_meant (meaning_of_cand cat.now start x) [] result [] }
+    ensures sound { IfOk result (λ r. IsSound cat.now text.now (index_meant r)) }
 {
     cat.lawful();
     let mut from = Cursor::part(text, tokens, first, end);
@@ -75,9 +75,9 @@ pub fn read_index(
     requires short { length text.now ≤ 2 ^ 31 }
     requires words { (from : ℕ) × AreWords text.now from tokens.now }
     requires opens { begins_index (terminals text.now tokens.now) ≡ true }
-    ensures read { IfOk result (λ r. IsMeaning cat.now text.now tokens.now (Ok (reading r))) }
-    ensures sound { IfOk result (λ r. IsSound cat.now text.now (reading r)) }
-    ensures refused { IfErr result (IsRefusal cat.now text.now tokens.now) }
+    ensures read { IfOk result (λ r. IsIndexMeaning cat.now text.now tokens.now (Ok (index_meant r))) }
+    ensures sound { IfOk result (λ r. IsSound cat.now text.now (index_meant r)) }
+    ensures refused { IfErr result (IsCreateRefusal cat.now text.now tokens.now) }
 {
     match statement_fault(text, tokens, 0) {
         Some(fault) => Err(Refusal::Fault(fault)),
@@ -101,8 +101,8 @@ pub fn read_cand(
     requires words { (from : ℕ) × AreWords text.now from tokens.now }
     requires part { HaveCand text.now tokens.now first end }
     ensures read { (x : Cand) (start : Token) (later : List Token) → tokens.now ≡ start ∷ later →
-        IsCandAt text.now tokens.now first end x → IfOk result (λ r. meaning_of_cand cat.now start x ≡ Ok (reading r)) }
-    ensures sound { IfOk result (λ r. IsSound cat.now text.now (reading r)) }
+        IsCandAt text.now tokens.now first end x → IfOk result (λ r. meaning_of_cand cat.now start x ≡ Ok (index_meant r)) }
+    ensures sound { IfOk result (λ r. IsSound cat.now text.now (index_meant r)) }
     ensures refused { (x : Cand) (start : Token) (later : List Token) → tokens.now ≡ start ∷ later →
         IsCandAt text.now tokens.now first end x → IfErr result (IsCandRefusal (meaning_of_cand cat.now start x)) }
 {

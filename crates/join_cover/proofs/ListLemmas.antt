@@ -7,7 +7,7 @@ use Rattle.std.proofs.lemmas.List.Quantifiers.{all_pairs_push}
 use Rattle.std.proofs.lemmas.Bool.{and_parts}
 use Rattle.pg_base.specs.Sets.{has}
 use Rattle.catalog.specs.Contents.{Contents}
-use Rattle.eq_classes.specs.Clauses.{Set, Table}
+use Rattle.eq_classes.specs.Clauses.{Set, ClassTable}
 use Rattle.eq_classes.specs.Parts.{first_four, joining_from}
 use Rattle.eq_classes.specs.declared.classes.ClassNo.{ClassNo}
 use Rattle.sql_query.specs.Queries.{Query}
@@ -96,9 +96,9 @@ module _ (c : Contents) (q : Query) (t : Certificate) (k l : ℕ) where
         by None seconds = (list, seconds)
         by (Some u) open' = open'
 
-  module _ (found : List (Option ClassNo)) (classes : Table) (same : classes ≡ q.classes) (four : map (option_map (λ (n : ClassNo). n.0)) found ≡ first_four (joining_from (has k) (has l) 0 classes.classes)) where
+  module _ (found : List (Option ClassNo)) (classes : ClassTable) (same : classes ≡ q.classes) (four : map (option_map (λ (n : ClassNo). n.0)) found ≡ first_four (joining_from (has k) (has l) 0 classes.classes)) where
     first : map (option_map (λ (n : ClassNo). n.0)) found ≡ first_four (joining_from (has k) (has l) 0 q.classes.classes)
-    first = four ∙ ap (λ (x : Table). first_four (joining_from (has k) (has l) 0 x.classes)) same
+    first = four ∙ ap (λ (x : ClassTable). first_four (joining_from (has k) (has l) 0 x.classes)) same
 
     -- what was found are classes that join the two sets
     pub lists-of : AreListsOf c q found k l

@@ -8,7 +8,7 @@ use Rattle.pg_base.specs.declared.numbers.RelNo.{RelNo}
 use Rattle.pg_base.specs.declared.rel_set.RelSet.{RelSet}
 use Rattle.pg_expr.specs.AtomSets.{contains}
 use Rattle.catalog.specs.Contents.{Contents}
-use Rattle.eq_classes.specs.Clauses.{Table, one}
+use Rattle.eq_classes.specs.Clauses.{ClassTable, one}
 use Rattle.eq_classes.specs.Listing.{clause_at}
 use Rattle.eq_classes.specs.Parts.{is_join, is_join_param}
 use Rattle.sql_query.specs.Queries.{Query, width}
@@ -45,7 +45,7 @@ module _ (c : Contents) (q : Query) (j : Split) (x : Path) where
       let below = read-below (width q) x.tree r (built-below c q x.tree h.stands.is_path.plan.built) (sym (reads h r) ∙ is) in
       omega (arith, below, over.few)
 
-  pub tested-whole : (table : Table) (set : List ℕ) → IsInner c q j x → x.param.0 ≡ 0 → table ≡ q.classes →
+  pub tested-whole : (table : ClassTable) (set : List ℕ) → IsInner c q j x → x.param.0 ≡ 0 → table ≡ q.classes →
       ((k : ℕ) → contains set k ≡ nat_lt k (length table.clauses) && is_join (has j.outer.0) (has j.inner.0) (clause_at table.clauses k)) → AreTested q j.outer x.tree set
   tested-whole table set h zero same tested =
       let whole : given_scan x.tree ≡ None = given-none x.tree (λ k. sym (at-param c q j.inner x.param x h.stands k) ∙ ap (λ n. has n k) zero ∙ has-zero k) in
@@ -53,7 +53,7 @@ module _ (c : Contents) (q : Query) (j : Split) (x : Path) where
       let none : None ≡ given_scan x.tree = sym whole in
       λ k. tested k ∙ (λ z. nat_lt k (length (same z).clauses) && joins_with (has j.outer.0) (as-set z) (none z) (clause_at (same z).clauses k))
 
-  pub tested-given : (r : RelNo) (table : Table) (set : List ℕ) → IsInner c q j x → (x.param.0 ≡ 0 → ⊥) → has j.inner.0 r.0 ≡ true → table ≡ q.classes →
+  pub tested-given : (r : RelNo) (table : ClassTable) (set : List ℕ) → IsInner c q j x → (x.param.0 ≡ 0 → ⊥) → has j.inner.0 r.0 ≡ true → table ≡ q.classes →
       ((k : ℕ) → contains set k ≡ nat_lt k (length table.clauses) && is_join_param (has j.outer.0) r.0 (has x.param.0) (clause_at table.clauses k)) → AreTested q j.outer x.tree set
   tested-given r table set h some is same tested =
       let scan : Some (record { relation = r; param = x.param }) ≡ given_scan x.tree =

@@ -90,8 +90,8 @@ abbrev pub numbers_with : List ClassNo → Option ClassNo → List ℕ
 numbers_with found class = class_numbers found ++ option_to_list (option_map (λ n. n.0) class)
 
 -- the first four classes that join two sets
-abbrev pub first_joining : Query → RelSet → RelSet → List ℕ
-first_joining q a b = take 4 (joining_from (has a.0) (has b.0) 0 q.classes.classes)
+abbrev pub first_four_joining : Query → RelSet → RelSet → List ℕ
+first_four_joining q a b = take 4 (joining_from (has a.0) (has b.0) 0 q.classes.classes)
 
 -- a list with one more class, each of some
 abbrev pub longer_by : List ClassNo → Keys → List Keys

@@ -6,7 +6,7 @@ ghost use Rattle.pg_base.specs.Sets.{has};
 ghost use Rattle.pathkeys.specs.Finding.{class_numbers};
 ghost use Rattle.plan_tree.specs.Space.{IsMergeList};
 ghost use Rattle.join_search.specs.Merges.{lists_of, longer};
-ghost use Rattle.join_search.specs.Outcomes.{HasEachMergeList, all_longer_by, first_joining, longer_by, numbers_with};
+ghost use Rattle.join_search.specs.Outcomes.{HasEachMergeList, all_longer_by, first_four_joining, longer_by, numbers_with};
 
 use catalog::Catalog;
 use eq_classes::ClassNo;
@@ -28,7 +28,7 @@ fn add_found(out: &mut Vec<ClassNo>, class: Option<ClassNo>) -> Result<(), Memor
 
 /// The first four joining classes of two sets. The error means want of memory.
 fn joining(alloc: Global, q: &Prepared, a: RelSet, b: RelSet) -> Result<Vec<ClassNo>, Memory>
-    ensures { IfOk result (λ v. class_numbers v.items ≡ first_joining q.now a b) }
+    ensures { IfOk result (λ v. class_numbers v.items ≡ first_four_joining q.now a b) }
 {
     let four = classes_of(q).joining(a, b);
     let mut found = Vec::new(alloc);

@@ -8,12 +8,12 @@ use Rattle.pg_value.specs.declared.value.Value.{Value}
 use Rattle.pg_value.specs.declared.value.Value.TheVariants.{Null}
 use Rattle.pg_value.proofs.ColumnOrderLemmas.{column_total}
 use Rattle.opfamily.specs.declared.classes.IndexKey.{IndexKey}
-use Rattle.opfamily.specs.KeyOrder.{key_family, key_order, first_value, later_values, keys_order, Entry, entry_order}
+use Rattle.opfamily.specs.KeyOrder.{key_family, key_order, first_value, later_values, key_values_order, Entry, entry_order}
 
 pub key_total : (k : IndexKey) → IsTotalOrder (key_order k)
 key_total k = column_total (key_family k) k.descending k.nulls_first
 
-pub keys_total : (ks : List IndexKey) → IsTotalOrder (keys_order ks)
+pub keys_total : (ks : List IndexKey) → IsTotalOrder (key_values_order ks)
 keys_total [] = record { antisymm = λ x y. refl; trans = λ x y z p q. p; congr = λ x y z p. refl }
 keys_total (k ∷ ks) = then_total (on_total first_value (key_total k)) (on_total later_values (keys_total ks))
 
@@ -34,12 +34,12 @@ later-drop (v ∷ vs) (suc i) = later-drop vs i
 
 -- the keys from i on, by the one at i and those after it
 pub keys_order-drop : (ks : List IndexKey) (a b : List Value) (i : ℕ) (d : IndexKey) → i < length ks
-    → keys_order (drop i ks) (drop i a) (drop i b) ≡ ordering_then (key_order (get_or ks i d) (get_or a i Null) (get_or b i Null)) (keys_order (drop (i + 1) ks) (drop (i + 1) a) (drop (i + 1) b))
+    → key_values_order (drop i ks) (drop i a) (drop i b) ≡ ordering_then (key_order (get_or ks i d) (get_or a i Null) (get_or b i Null)) (key_values_order (drop (i + 1) ks) (drop (i + 1) a) (drop (i + 1) b))
 keys_order-drop ks a b i d lt =
-    ap (λ (l : List IndexKey). keys_order l (drop i a) (drop i b)) (drop_more ks i d lt)
+    ap (λ (l : List IndexKey). key_values_order l (drop i a) (drop i b)) (drop_more ks i d lt)
     ∙ ap₂ ordering_then
     (ap₂ (key_order (get_or ks i d)) (first-drop a i) (first-drop b i))
-    (ap₂ (keys_order (drop (i + 1) ks)) (later-drop a i ∙ ap (λ n. drop n a) (sym (add-one i))) (later-drop b i ∙ ap (λ n. drop n b) (sym (add-one i))))
+    (ap₂ (key_values_order (drop (i + 1) ks)) (later-drop a i ∙ ap (λ n. drop n a) (sym (add-one i))) (later-drop b i ∙ ap (λ n. drop n b) (sym (add-one i))))
 
 pub then_other : (o k : Ordering) → (o ≡ Equal → ⊥) → ordering_then o k ≡ o
 then_other Less k h = refl
@@ -47,8 +47,8 @@ then_other Equal k h = absurd (h refl)
 then_other Greater k h = refl
 
 module _ (ks : List IndexKey) (a b : List Value) (i : ℕ) (d : IndexKey) (lt : i < length ks) where
-  pub step_equal : Equal ≡ key_order (get_or ks i d) (get_or a i Null) (get_or b i Null) → keys_order (drop i ks) (drop i a) (drop i b) ≡ keys_order (drop (i + 1) ks) (drop (i + 1) a) (drop (i + 1) b)
-  step_equal e = keys_order-drop ks a b i d lt ∙ ap (λ o. ordering_then o (keys_order (drop (i + 1) ks) (drop (i + 1) a) (drop (i + 1) b))) (sym e)
+  pub step_equal : Equal ≡ key_order (get_or ks i d) (get_or a i Null) (get_or b i Null) → key_values_order (drop i ks) (drop i a) (drop i b) ≡ key_values_order (drop (i + 1) ks) (drop (i + 1) a) (drop (i + 1) b)
+  step_equal e = keys_order-drop ks a b i d lt ∙ ap (λ o. ordering_then o (key_values_order (drop (i + 1) ks) (drop (i + 1) a) (drop (i + 1) b))) (sym e)
 
-  pub step_other : (r : Ordering) → r ≡ key_order (get_or ks i d) (get_or a i Null) (get_or b i Null) → (r ≡ Equal → ⊥) → keys_order (drop i ks) (drop i a) (drop i b) ≡ r
-  step_other r e other = keys_order-drop ks a b i d lt ∙ ap (λ o. ordering_then o (keys_order (drop (i + 1) ks) (drop (i + 1) a) (drop (i + 1) b))) (sym e) ∙ then_other r (keys_order (drop (i + 1) ks) (drop (i + 1) a) (drop (i + 1) b)) other
+  pub step_other : (r : Ordering) → r ≡ key_order (get_or ks i d) (get_or a i Null) (get_or b i Null) → (r ≡ Equal → ⊥) → key_values_order (drop i ks) (drop i a) (drop i b) ≡ r
+  step_other r e other = keys_order-drop ks a b i d lt ∙ ap (λ o. ordering_then o (key_values_order (drop (i + 1) ks) (drop (i + 1) a) (drop (i + 1) b))) (sym e) ∙ then_other r (key_values_order (drop (i + 1) ks) (drop (i + 1) a) (drop (i + 1) b)) other

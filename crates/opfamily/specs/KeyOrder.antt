@@ -36,9 +36,9 @@ later_values [] = []
 later_values (v ∷ vs) = vs
 
 -- two lists of key values, by the first key that tells them apart
-abbrev pub keys_order : List IndexKey → List Value → List Value → Ordering
-keys_order [] = λ a b. Equal
-keys_order (k ∷ ks) = then_cmp (on first_value (key_order k)) (on later_values (keys_order ks))
+abbrev pub key_values_order : List IndexKey → List Value → List Value → Ordering
+key_values_order [] = λ a b. Equal
+key_values_order (k ∷ ks) = then_cmp (on first_value (key_order k)) (on later_values (key_values_order ks))
 
 -- an entry: a row's number, its key values and the values that it includes
 pub record Entry : Type 0 where
@@ -48,7 +48,7 @@ pub record Entry : Type 0 where
 
 -- by the keys, then by the row number
 abbrev pub entry_order : List IndexKey → Entry → Entry → Ordering
-entry_order ks = then_cmp (on (λ (e : Entry). e.keys) (keys_order ks)) (on (λ (e : Entry). e.row) nat_cmp)
+entry_order ks = then_cmp (on (λ (e : Entry). e.keys) (key_values_order ks)) (on (λ (e : Entry). e.row) nat_cmp)
 
 -- one value for each key, NULL or of the kind that the key's family orders
 abbrev pub AreKeyValues : List IndexKey → List Value → Type 0

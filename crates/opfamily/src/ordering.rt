@@ -2,7 +2,7 @@
 
 ghost use Rattle.std.specs.Prelude.{◌≡◌, slice_index_or};
 ghost use Rattle.pg_value.specs.declared.value.Value.TheVariants.{Null};
-ghost use Rattle.opfamily.specs.KeyOrder.{key_family, key_order, keys_order};
+ghost use Rattle.opfamily.specs.KeyOrder.{key_family, key_order, key_values_order};
 
 use crate::classes::{IndexKey, family};
 use pg_value::{Family, Value, column_order};
@@ -28,7 +28,7 @@ impl IndexKey {
 /// How two lists of key values stand to one another, by the first key that tells them apart. A value that a list
 /// lacks counts as NULL.
 pub fn keys_order(keys: &[IndexKey], a: &[Value], b: &[Value]) -> Ordering
-    ensures { result ≡ keys_order keys.now a.now b.now }
+    ensures { result ≡ key_values_order keys.now a.now b.now }
 {
     for i in 0..keys.len() {
         match compare_at(keys[i], a, b, i) {

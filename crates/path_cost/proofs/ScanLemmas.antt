@@ -19,7 +19,7 @@ use Rattle.catalog.specs.Range.{Range, relation_at}
 use Rattle.catalog.specs.Tables.{pages_of, rows_of}
 use Rattle.catalog.specs.declared.limits.TheConstants.{MOST_NUMBER}
 use Rattle.catalog.proofs.SizeLemmas.{pages-bounded, rows-bounded}
-use Rattle.eq_classes.specs.Clauses.{Clause, Set, Table}
+use Rattle.eq_classes.specs.Clauses.{Clause, Set, ClassTable}
 use Rattle.eq_classes.specs.Parts.{is_base}
 use Rattle.cost_rules.specs.declared.parameters.TheConstants.{BITMAP_CHILD, ENTRIES_PER_PAGE, INDEX_TUPLE, OPERATOR, RANDOM_PAGE}
 use Rattle.cost_rules.specs.Costs.{row_cost}
@@ -97,7 +97,7 @@ work-few rows ops h k = times-few rows (row_cost ops) (10 ^ 9) 1028 h (omega (ar
 heap-few : (rows pages : ℕ) → pages ≤ 10 ^ 9 → heap_pages_of rows pages ≤ 10 ^ 9
 heap-few rows pages h = omega (arith, h)
 
-module _ (c : Contents) (range : Range) (t : Table) (h : AreWithinLimits c range t) where
+module _ (c : Contents) (range : Range) (t : ClassTable) (h : AreWithinLimits c range t) where
   rows-few : (r : ℕ) → r < length range → (1 ≤ table_rows c range r) × (table_rows c range r ≤ 10 ^ 9)
   rows-few r within =
       let there = h.tables r _ within in

@@ -9,7 +9,7 @@ use Rattle.pg_expr.specs.Cond.{Cond}
 use Rattle.pg_expr.specs.Columns.{atom_count}
 use Rattle.catalog.specs.Contents.{Contents, index_at}
 use Rattle.catalog.specs.Range.{Range}
-use Rattle.eq_classes.specs.Clauses.{Set, Table}
+use Rattle.eq_classes.specs.Clauses.{Set, ClassTable}
 use Rattle.eq_classes.specs.Listing.{clause_at}
 use Rattle.eq_classes.specs.Parts.{is_base}
 use Rattle.cost_rules.specs.declared.pair.Pair.{Pair}
@@ -45,7 +45,7 @@ module _ (c : Contents) (range : Range) where
   abbrev pub arm_part : IndexNo → ℕ → List Cond → (ℕ → Bool) → ℕ
   arm_part i r parts bounds = part_within i r (picked_from 0 bounds parts) (length parts)
 
-module _ (c : Contents) (range : Range) (t : Table) where
+module _ (c : Contents) (range : Range) (t : ClassTable) where
   -- the operators of a relation's clauses, with those of its parameterisation
   abbrev pub local_operators : ℕ → Set → ℕ
   local_operators r p = operators (conditions_where (is_local r p) t.clauses)

@@ -11,7 +11,7 @@ use Rattle.pg_expr.specs.View as view
 use Rattle.catalog.specs.Contents.{Contents}
 use Rattle.catalog.specs.Range.{Range}
 use Rattle.eq_classes.specs.Classes.{listed}
-use Rattle.eq_classes.specs.Clauses.{Table}
+use Rattle.eq_classes.specs.Clauses.{ClassTable}
 use Rattle.cost_rules.specs.declared.pair.Pair.{Pair}
 use Rattle.cost_rules.specs.Costs.{capped, capped_pair}
 use Rattle.cost_rules.specs.Scans.{part_cost}
@@ -23,7 +23,7 @@ abbrev pub saturated : ℕ → ℕ
 saturated n = min n (2 ^ 64 - 1)
 
 -- the operators of the clauses of two sets that are not in a third
-abbrev pub operators_but : Table → List ℕ → List ℕ → List ℕ → ℕ
+abbrev pub operators_but : ClassTable → List ℕ → List ℕ → List ℕ → ℕ
 operators_but t a b but = operators (conditions_from 0 (either_but a b but) t.clauses)
 
 -- an index's own part where so many rows meet its bounds, and so many conditions are made on each entry
@@ -31,7 +31,7 @@ abbrev pub own_part_cut : Contents → IndexNo → ℕ → ℕ → ℕ
 own_part_cut c i rows n = capped (part_cost (descent c i) (min (entries c i) rows) (entries c i) n)
 
 -- an index's own part, by its bounds and its conditions
-abbrev pub part_cut : Contents → Range → Table → IndexNo → RelNo → List ℕ → List ℕ → ℕ
+abbrev pub part_cut : Contents → Range → ClassTable → IndexNo → RelNo → List ℕ → List ℕ → ℕ
 part_cut c range t i r bounds conditions = capped (index_part c range t i r.0 (contains bounds) (contains conditions))
 
 -- the part of an index that serves an arm of an OR
@@ -39,10 +39,10 @@ abbrev pub arm_cut : Contents → Range → IndexNo → RelNo → Expr → List 
 arm_cut c range i r arm bounds = capped (arm_part c range i r.0 (listed (parts_of false (view.cond arm))) (contains bounds))
 
 -- an index scan, by the bounds and the conditions of its index
-abbrev pub scan_cut : Contents → Range → Table → IndexNo → RelNo → RelSet → List ℕ → List ℕ → Bool → Pair
+abbrev pub scan_cut : Contents → Range → ClassTable → IndexNo → RelNo → RelSet → List ℕ → List ℕ → Bool → Pair
 scan_cut c range t i r p bounds conditions only =
     capped_pair (index_cost c range t i r.0 (has p.0) (contains bounds) (contains conditions) only)
 
 -- a bitmap scan over the parts of its indexes, by the clauses that it uses
-abbrev pub bitmap_cut : Contents → Range → Table → RelNo → RelSet → List ℕ → ℕ → Pair
+abbrev pub bitmap_cut : Contents → Range → ClassTable → RelNo → RelSet → List ℕ → ℕ → Pair
 bitmap_cut c range t r p used parts = capped_pair (bitmap_cost c range t r.0 (has p.0) (contains used) parts)

@@ -11,7 +11,7 @@ use Rattle.catalog.specs.Contents.{Contents, index_at}
 use Rattle.catalog.specs.Indexes.{Index}
 use Rattle.catalog.specs.Range.{Range, relation_at}
 use Rattle.catalog.specs.Tables.{rows_of, pages_of}
-use Rattle.eq_classes.specs.Clauses.{Clause, Set, Table}
+use Rattle.eq_classes.specs.Clauses.{Clause, Set, ClassTable}
 use Rattle.eq_classes.specs.Listing.{pair_class_of, clause_at}
 use Rattle.eq_classes.specs.Parts.{is_all, is_base, is_join, is_param}
 use Rattle.cost_rules.specs.Powers.{clamped}
@@ -47,11 +47,11 @@ abbrev pub is_pair_of : List ℕ → Clause → Bool
 is_pair_of keys k = is_pair_by (pair_class_of k.source) keys
 
 -- a number is that of a pair clause of one of some classes
-abbrev pub is_pair_at : List ClassNo → Table → ℕ → Bool
+abbrev pub is_pair_at : List ClassNo → ClassTable → ℕ → Bool
 is_pair_at keys t n = is_pair_of (map (λ (k : ClassNo). k.0) keys) (clause_at t.clauses n)
 
 -- a number is that of a pair clause of one of some classes that joins two sets
-abbrev pub is_keyed : Set → Set → List ClassNo → Table → ℕ → Bool
+abbrev pub is_keyed : Set → Set → List ClassNo → ClassTable → ℕ → Bool
 is_keyed a b keys t n = nat_lt n (length t.clauses) && (is_join a b (clause_at t.clauses n) && is_pair_at keys t n)
 
 -- a number is in one of two sets of clauses
@@ -88,7 +88,7 @@ module _ (c : Contents) (range : Range) where
   kept n es = fold (λ m e. share_of_rows m (selectivity c range e)) n es
 
   -- so many rows after the clauses of a set of numbers
-  abbrev pub kept_by : ℕ → (ℕ → Bool) → Table → ℕ
+  abbrev pub kept_by : ℕ → (ℕ → Bool) → ClassTable → ℕ
   kept_by n chosen t = kept n (conditions_from 0 chosen t.clauses)
 
   -- so many rows after those of some conditions that have a number of a set
@@ -104,19 +104,19 @@ module _ (c : Contents) (range : Range) where
   product_rows rs = product_from 1 rs
 
   -- the rows of a set: the product of its relations, after its clauses
-  abbrev pub set_rows : Table → Set → ℕ
+  abbrev pub set_rows : ClassTable → Set → ℕ
   set_rows t set = kept (product_rows (relations range set)) (conditions_where (is_all set) t.clauses)
 
   -- the rows of a relation with the relations of a parameterisation
-  abbrev pub param_rows : Table → ℕ → Set → ℕ
+  abbrev pub param_rows : ClassTable → ℕ → Set → ℕ
   param_rows t r p = kept (table_rows c range r) (conditions_where (is_local r p) t.clauses)
 
   -- the pairs of rows of two sets that are equal in the classes of a list
-  abbrev pub pairs : Table → Set → Set → List ℕ → ℕ
+  abbrev pub pairs : ClassTable → Set → Set → List ℕ → ℕ
   pairs t a b keys = kept (clamped (set_rows t a * set_rows t b)) (conditions_where (λ k. is_join a b k && is_pair_of keys k) t.clauses)
 
 -- the pairs of rows of two sets that are equal in some classes
-abbrev pub pairs_by : Contents → Range → Table → Set → Set → List ClassNo → ℕ
+abbrev pub pairs_by : Contents → Range → ClassTable → Set → Set → List ClassNo → ℕ
 pairs_by c range t a b keys = pairs c range t a b (map (λ (k : ClassNo). k.0) keys)
 
 -- the entries of an index: the rows of its table at which its predicate, as one condition, is taken to be True; without

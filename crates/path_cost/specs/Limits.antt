@@ -6,7 +6,7 @@ use Rattle.pg_expr.specs.Cond.{Cond, Conds}
 use Rattle.catalog.specs.Contents.{Contents, IsLawful, IsTable, table_at}
 use Rattle.catalog.specs.Range.{Range}
 use Rattle.catalog.specs.declared.limits.TheConstants.{MOST_NUMBER}
-use Rattle.eq_classes.specs.Clauses.{Clause, Table}
+use Rattle.eq_classes.specs.Clauses.{Clause, ClassTable}
 use Rattle.path_cost.specs.Columns.{AreTables, is_column_in}
 use Rattle.path_cost.specs.Costs.{operators}
 
@@ -20,7 +20,7 @@ HaveColumns c range es = IsTrue (each_column_of (is_column_in c range) es)
 
 -- lawful contents with at most 10^9 rows loaded into each table; relations that are its tables; and at most 512 clauses
 -- over their columns, with at most 1024 operators together
-pub record AreWithinLimits (c : Contents) (range : Range) (t : Table) : Type 0 where
+pub record AreWithinLimits (c : Contents) (range : Range) (t : ClassTable) : Type 0 where
   pub lawful : IsLawful c
   pub loaded : (n : TableNo) → IsTable c n → (table_at c n).loaded ≤ MOST_NUMBER
   pub tables : AreTables c range

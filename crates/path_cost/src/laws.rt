@@ -7,7 +7,7 @@ ghost use Rattle.pg_base.specs.declared.numbers.IndexNo.{IndexNo};
 ghost use Rattle.pg_expr.specs.Cond.{Cond};
 ghost use Rattle.catalog.specs.Contents.{Contents, IsIndex, IsLawful};
 ghost use Rattle.catalog.specs.Range.{Range};
-ghost use Rattle.eq_classes.specs.Clauses.{Set, Table};
+ghost use Rattle.eq_classes.specs.Clauses.{Set, ClassTable};
 ghost use Rattle.path_cost.specs.Columns.{AreTables};
 ghost use Rattle.path_cost.specs.Costs.{arm_part, bitmap_cost, index_cost, index_part, seq_cost};
 ghost use Rattle.path_cost.specs.Estimates.{kept, param_rows, set_rows};
@@ -17,9 +17,9 @@ ghost use Rattle.path_cost.specs.Selectivity.{selectivity};
 /// Estimated rows depend on the members of a set alone, however the set came about: rows of a set are one number however
 /// its relations were joined.
 pub fn rows_of_equal_sets()
-    ensures set { (c : Contents) (range : Range) (t : Table) (a b : Set) → ((k : ℕ) → a k ≡ b k) →
+    ensures set { (c : Contents) (range : Range) (t : ClassTable) (a b : Set) → ((k : ℕ) → a k ≡ b k) →
         set_rows c range t a ≡ set_rows c range t b }
-    ensures param { (c : Contents) (range : Range) (t : Table) (r : ℕ) (p q : Set) →
+    ensures param { (c : Contents) (range : Range) (t : ClassTable) (r : ℕ) (p q : Set) →
         ((k : ℕ) → p k ≡ q k) → param_rows c range t r p ≡ param_rows c range t r q }
 {}
 
@@ -37,22 +37,22 @@ pub fn shares_of_rows()
 /// scan's own share is small beside the parts of its indexes, of which a tree of at most 8 elements has one for each
 /// leaf and each arm; no scan costs more than 1.42 x 10^14.
 pub fn scans_are_admissible()
-    ensures seq { (c : Contents) (range : Range) (t : Table) (r : ℕ) → AreWithinLimits c range t →
+    ensures seq { (c : Contents) (range : Range) (t : ClassTable) (r : ℕ) → AreWithinLimits c range t →
         r < length range → (seq_cost c range t r).total ≤ 2 * 10 ^ 12 }
-    ensures part { (c : Contents) (range : Range) (t : Table) (i : IndexNo) (r : ℕ)
+    ensures part { (c : Contents) (range : Range) (t : ClassTable) (i : IndexNo) (r : ℕ)
         (bounds conditions : ℕ → Bool) → AreWithinLimits c range t → IsIndex c i →
         index_part c range t i r bounds conditions ≤ 523 * 10 ^ 9 }
-    ensures arm { (c : Contents) (range : Range) (t : Table) (i : IndexNo) (r : ℕ)
+    ensures arm { (c : Contents) (range : Range) (t : ClassTable) (i : IndexNo) (r : ℕ)
         (parts : List Cond) (bounds : ℕ → Bool) → AreWithinLimits c range t → IsIndex c i →
         length parts ≤ MOST_ATOMS → arm_part c range i r parts bounds ≤ 523 * 10 ^ 9 }
-    ensures index { (c : Contents) (range : Range) (t : Table) (i : IndexNo) (r : ℕ) (p : Set)
+    ensures index { (c : Contents) (range : Range) (t : ClassTable) (i : IndexNo) (r : ℕ) (p : Set)
         (bounds conditions : ℕ → Bool) (only : Bool) → AreWithinLimits c range t →
         r < length range → IsIndex c i →
         (index_cost c range t i r p bounds conditions only).total ≤ 4 * 10 ^ 12 }
-    ensures bitmap { (c : Contents) (range : Range) (t : Table) (r : ℕ) (p : Set) (used : ℕ → Bool)
+    ensures bitmap { (c : Contents) (range : Range) (t : ClassTable) (r : ℕ) (p : Set) (used : ℕ → Bool)
         (parts : ℕ) → AreWithinLimits c range t → r < length range →
         (bitmap_cost c range t r p used parts).total ≤ parts + 3 * 10 ^ 12 }
-    ensures bitmap_of_parts { (c : Contents) (range : Range) (t : Table) (r : ℕ) (p : Set)
+    ensures bitmap_of_parts { (c : Contents) (range : Range) (t : ClassTable) (r : ℕ) (p : Set)
         (used : ℕ → Bool) (parts : List ℕ) → AreWithinLimits c range t → r < length range →
         length parts ≤ MOST_ATOMS + 8 → All (λ n. n ≤ 523 * 10 ^ 9) parts →
         (bitmap_cost c range t r p used (sum parts + BITMAP_CHILD * length parts)).total ≤ 142 * 10 ^ 12 }

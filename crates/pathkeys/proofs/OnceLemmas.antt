@@ -13,7 +13,7 @@ use Rattle.catalog.specs.pg_value_operators_Family_TheVariants as families
 use Rattle.catalog.specs.pg_expr_operand_ColRef.{ColRef}
 use Rattle.eq_classes.specs.declared.order.OrderItem.{OrderItem}
 use Rattle.eq_classes.specs.Classes.{is_in, in_family}
-use Rattle.eq_classes.specs.Clauses.{Table}
+use Rattle.eq_classes.specs.Clauses.{ClassTable}
 use Rattle.pathkeys.specs.Keys.{Keys, AreDifferent, IsKeyList, is_constant, class_of, order_class, once, order_keys}
 use Rattle.pathkeys.specs.Finding.{is_class, is_ordered_by, new_class, order_after}
 
@@ -80,7 +80,7 @@ position_within {A} p i (x ∷ xs) = by (position_within p (i + 1) xs) (p x)
     by later true = omega arith
     by later false = more (position_from p (i + 1) xs) later
 
-pub class_within : (t : Table) (x : ColRef) (f : Family) → IfSome (class_of t x f) (λ n. n < length t.classes)
+pub class_within : (t : ClassTable) (x : ColRef) (f : Family) → IfSome (class_of t x f) (λ n. n < length t.classes)
 class_within t x f = from_0 (class_of t x f) (position_within (λ c. is_in c (in_family x f)) 0 t.classes)
   where
     from_0 : (o : Option ℕ) → IfSome o (λ n. n < 0 + length t.classes) → IfSome o (λ n. n < length t.classes)
@@ -91,12 +91,12 @@ or_within : (L : ℕ) (o p : Option ℕ) → IfSome o (λ n. n < L) → IfSome p
 or_within L None p h k = k
 or_within L (Some n) p h k = h
 
-order_class_within : (t : Table) (x : ColRef) → IfSome (order_class t x) (λ n. n < length t.classes)
+order_class_within : (t : ClassTable) (x : ColRef) → IfSome (order_class t x) (λ n. n < length t.classes)
 order_class_within t x =
     or_within (length t.classes) (class_of t x families.Integer) (option_or (class_of t x families.Text) (class_of t x families.Bool)) (class_within t x families.Integer)
     (or_within (length t.classes) (class_of t x families.Text) (class_of t x families.Bool) (class_within t x families.Text) (class_within t x families.Bool))
 
-module _ (t : Table) where
+module _ (t : ClassTable) where
   abbrev class_by : OrderItem → Option ℕ
   class_by item = order_class t item.col
 

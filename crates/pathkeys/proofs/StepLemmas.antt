@@ -12,18 +12,18 @@ use Rattle.catalog.specs.opfamily_classes_IndexKey.{IndexKey}
 use Rattle.catalog.specs.opfamily_classes_Method.{Method}
 use Rattle.catalog.specs.opfamily_classes_Method_TheVariants.{Btree, Hash}
 use Rattle.eq_classes.specs.declared.classes.ClassNo.{ClassNo}
-use Rattle.eq_classes.specs.Clauses.{Table}
+use Rattle.eq_classes.specs.Clauses.{ClassTable}
 use Rattle.eq_classes.specs.Listing.{class_at}
 use Rattle.pathkeys.specs.Keys.{Keys, IsKeyList, ends, passes, gives, is_constant, has_direction, step_of, column_of, class_of_key, keys_from, keys_by}
 use Rattle.pathkeys.specs.Finding.{is_class, is_of_some, step_after, keys_after}
 use Rattle.pathkeys.proofs.OnceLemmas.{class_within}
 
 -- a key list whose classes are not among those that are taken
-record IsFresh (t : Table) (taken keys : Keys) : Type 0 where
+record IsFresh (t : ClassTable) (taken keys : Keys) : Type 0 where
   list : IsKeyList t keys
   untaken : All (λ n. list_any (nat_eq n) taken ≡ false) keys
 
-module _ (t : Table) (r : ℕ) (backward : Bool) where
+module _ (t : ClassTable) (r : ℕ) (backward : Bool) where
   nothing_fresh : (taken : Keys) → IsFresh t taken []
   nothing_fresh taken = record {
     list = record { different = λ i j d lt within. absurd (omega (arith, within)); classes = All-nil (λ n. n < length t.classes); free = All-nil (λ n. is_constant t n ≡ false) };
@@ -120,7 +120,7 @@ module _ (t : Table) (r : ℕ) (backward : Bool) where
   keys_after_none ks = keys_after_are [] [] (λ n free. refl) ks
 
 -- a class at a place of a key list is one of the table's
-pub class_of_list : (t : Table) (keys : Keys) (n : ℕ) (o : Option ClassNo) → IsKeyList t keys → option_map (λ (c : ClassNo). c.0) o ≡ slice_get keys n → IfSome o (λ c. c.0 < length t.classes)
+pub class_of_list : (t : ClassTable) (keys : Keys) (n : ℕ) (o : Option ClassNo) → IsKeyList t keys → option_map (λ (c : ClassNo). c.0) o ≡ slice_get keys n → IfSome o (λ c. c.0 < length t.classes)
 class_of_list t keys n None list e = tt
 class_of_list t keys n (Some c) list e =
     subst (λ (m : ℕ). m < length t.classes) (get_or_from_slice_get keys n c.0 c.0 (sym e)) (list.classes n c.0 (slice_get_within keys n c.0 (sym e)))

@@ -13,7 +13,7 @@ use Rattle.catalog.specs.pg_expr_operand_ColRef.{ColRef}
 use Rattle.catalog.specs.Contents.{Contents, index_at}
 use Rattle.eq_classes.specs.declared.order.OrderItem.{OrderItem}
 use Rattle.eq_classes.specs.Classes.{Class, class_number, in_family}
-use Rattle.eq_classes.specs.Clauses.{Table, has_constant}
+use Rattle.eq_classes.specs.Clauses.{ClassTable, has_constant}
 use Rattle.eq_classes.specs.Listing.{class_at}
 
 -- classes by their numbers
@@ -25,21 +25,21 @@ abbrev pub AreDifferent : Keys → Type 0
 AreDifferent keys = AllPairs (λ m n. m ≢ n) keys
 
 -- a class of a number has a constant: all rows are equal in it, and sorting by it orders nothing (README, PathKeys)
-abbrev pub is_constant : Table → ℕ → Bool
+abbrev pub is_constant : ClassTable → ℕ → Bool
 is_constant t n = has_constant (class_at t.classes n)
 
 -- a key list of a table: different classes of it, none with a constant
-pub record IsKeyList (t : Table) (keys : Keys) : Type 0 where
+pub record IsKeyList (t : ClassTable) (keys : Keys) : Type 0 where
   pub different : AreDifferent keys
   pub classes : All (λ n. n < length t.classes) keys
   pub free : All (λ n. is_constant t n ≡ false) keys
 
 -- the class of a column in a family
-abbrev pub class_of : Table → ColRef → Family → Option ℕ
+abbrev pub class_of : ClassTable → ColRef → Family → Option ℕ
 class_of t x f = class_number t.classes (in_family x f)
 
 -- the class of a column in its default family: that of integers, of text or of booleans, of which a type has one
-abbrev pub order_class : Table → ColRef → Option ℕ
+abbrev pub order_class : ClassTable → ColRef → Option ℕ
 order_class t x = option_or (class_of t x families.Integer) (option_or (class_of t x families.Text) (class_of t x families.Bool))
 
 -- each number that stands nowhere before it
@@ -48,7 +48,7 @@ once [] = []
 once (n ∷ ns) = n ∷ filter (λ m. not (nat_eq n m)) (once ns)
 
 -- the order keys: the classes of the ORDER BY columns, without those that have a constant or stood before
-abbrev pub order_keys : Table → List OrderItem → Keys
+abbrev pub order_keys : ClassTable → List OrderItem → Keys
 order_keys t order = once (filter (λ n. not (is_constant t n)) (filter_map (λ (item : OrderItem). order_class t item.col) order))
 
 -- what a key column of an index adds to the keys: the list ends, the column is passed over, or it gives its class
@@ -70,7 +70,7 @@ abbrev pub has_direction : Bool → IndexKey → Class → Bool
 has_direction backward k c = is_equal (turned backward k.descending) c.descending && is_equal (turned backward k.nulls_first) c.nulls_first
 
 -- a column without a class ends the list; a class that has a constant or is taken is passed over; another is given where the directions are equal, else it ends the list
-abbrev pub step_of : Table → Bool → Keys → IndexKey → Option ℕ → Step
+abbrev pub step_of : ClassTable → Bool → Keys → IndexKey → Option ℕ → Step
 step_of t backward taken k None = ends
 step_of t backward taken k (Some n) =
     cond (is_constant t n || list_any (nat_eq n) taken) passes (cond (has_direction backward k (class_at t.classes n)) (gives n) ends)
@@ -80,11 +80,11 @@ abbrev pub column_of : ℕ → IndexKey → ColRef
 column_of r k = record { rel = record { 0 = r }; col = k.col }
 
 -- the class of a key column, in the family of its operator class
-abbrev pub class_of_key : Table → ℕ → IndexKey → Option ℕ
+abbrev pub class_of_key : ClassTable → ℕ → IndexKey → Option ℕ
 class_of_key t r k = class_of t (column_of r k) (key_family k)
 
 -- from the left over the key columns, where some classes are taken already
-abbrev pub keys_from : Table → ℕ → Bool → Keys → List IndexKey → Keys
+abbrev pub keys_from : ClassTable → ℕ → Bool → Keys → List IndexKey → Keys
 keys_from t r backward taken [] = []
 keys_from t r backward taken (k ∷ ks) =
     elim (step_of t backward taken k (class_of_key t r k)) [
@@ -94,12 +94,12 @@ keys_from t r backward taken (k ∷ ks) =
     ]
 
 -- a hash index gives no order
-abbrev pub keys_by : Method → Table → ℕ → Bool → List IndexKey → Keys
+abbrev pub keys_by : Method → ClassTable → ℕ → Bool → List IndexKey → Keys
 keys_by Btree t r backward ks = keys_from t r backward [] ks
 keys_by Hash t r backward ks = []
 
 -- the keys of a scan of a relation by an index, forward or backward
-abbrev pub index_keys : Contents → Table → IndexNo → ℕ → Bool → Keys
+abbrev pub index_keys : Contents → ClassTable → IndexNo → ℕ → Bool → Keys
 index_keys c t i r backward = keys_by (index_at c i).method t r backward (index_at c i).keys
 
 -- a key list covers another where the other is a prefix of it

@@ -4,7 +4,7 @@ ghost use Rattle.std.specs.Prelude.{◌≡◌, ℕ, Bool, true, List, length, ta
 ghost use Rattle.pg_base.specs.declared.numbers.IndexNo.{IndexNo};
 ghost use Rattle.catalog.specs.Contents.{Contents};
 ghost use Rattle.eq_classes.specs.declared.order.OrderItem.{OrderItem};
-ghost use Rattle.eq_classes.specs.Clauses.{Table};
+ghost use Rattle.eq_classes.specs.Clauses.{ClassTable};
 ghost use Rattle.pathkeys.specs.Keys.{IsKeyList, Keys, covers, index_keys, order_keys};
 
 /// One list covers another exactly where the other is its first part.
@@ -23,7 +23,7 @@ pub fn covering_is_a_partial_order()
 
 /// The keys of an index scan and those of an ORDER BY are different classes of the table, none with a constant.
 pub fn keys_are_different_classes()
-    ensures index { (c : Contents) (t : Table) (i : IndexNo) (r : ℕ) (backward : Bool) →
+    ensures index { (c : Contents) (t : ClassTable) (i : IndexNo) (r : ℕ) (backward : Bool) →
         IsKeyList t (index_keys c t i r backward) }
-    ensures order { (t : Table) (order : List OrderItem) → IsKeyList t (order_keys t order) }
+    ensures order { (t : ClassTable) (order : List OrderItem) → IsKeyList t (order_keys t order) }
 {}

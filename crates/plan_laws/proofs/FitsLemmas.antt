@@ -11,7 +11,7 @@ use Rattle.pg_value.specs.declared.value.Value.TheVariants.{Null, Int, Bool as F
 use Rattle.pg_value.specs.Types.{IsOfType}
 use Rattle.sql_query.specs.catalog_Contents.{TableDef, no_table, table_at}
 use Rattle.sql_query.specs.catalog_Range.{relation_at, type_in}
-use Rattle.heap.specs.Stored.{Stored, Values, IsValueOf}
+use Rattle.heap.specs.Stored.{Stored, Values, IsColumnValue}
 use Rattle.eq_classes.specs.Holding.{Fits}
 use Rattle.sql_query.specs.Queries.{Query}
 use Rattle.sql_query.specs.Tuples.{Tuple, row_of, rows_of_relation, value_at}
@@ -40,7 +40,7 @@ row_or_none P rows all none row = ⊎_elim
 -- what is stored of a table, also of none, has its columns and is lawful
 record Keeps (d : TableDef) (s : Stored) : Type 0 where
   columns : s.columns ≡ d.columns
-  rows : All (λ vs. AllZip IsValueOf s.columns vs) s.rows
+  rows : All (λ vs. AllZip IsColumnValue s.columns vs) s.rows
 
 kept_at : (ds : List TableDef) (ss : List Stored) → AllZip Holds ds ss → (n : ℕ) → Keeps (slice_index_or ds n no_table) (slice_index_or ss n nothing_stored)
 kept_at [] [] h n = record { columns = refl; rows = λ k d lt. absurd (omega (arith, lt)) }

@@ -14,7 +14,7 @@ use Rattle.pg_value.specs.declared.value.Value.{Value}
 use Rattle.pg_value.specs.ColumnOrder.{column_order}
 use Rattle.pg_value.specs.Sorting.{in_order}
 use Rattle.pg_value.proofs.ColumnOrderLemmas.{column_total}
-use Rattle.opfamily.specs.KeyOrder.{key_family, keys_order as values_order, Entry, entry_order}
+use Rattle.opfamily.specs.KeyOrder.{key_family, key_values_order as values_order, Entry, entry_order}
 use Rattle.opfamily.specs.declared.classes.IndexKey.{IndexKey}
 use Rattle.opfamily.specs.declared.classes.Method.{Method}
 use Rattle.opfamily.specs.declared.classes.Method.TheVariants.{Btree, Hash}
@@ -23,7 +23,7 @@ use Rattle.pg_expr.specs.declared.operand.ColRef.{ColRef}
 use Rattle.heap.specs.Stored.{Values}
 use Rattle.catalog.specs.Contents.{index_at}
 use Rattle.catalog.specs.Indexes.{Index}
-use Rattle.eq_classes.specs.Clauses.{Set, one, Table, first_in}
+use Rattle.eq_classes.specs.Clauses.{Set, one, ClassTable, first_in}
 use Rattle.eq_classes.specs.Listing.{class_at}
 use Rattle.eq_classes.specs.Parts.{is_all, is_base}
 use Rattle.eq_classes.proofs.ListLemmas.{found_in, found_passes}
@@ -35,10 +35,10 @@ use Rattle.sql_query.specs.WellBound.{IsWellBound}
 use Rattle.sql_query.specs.Worlds.{World, IsWorld, stored_at}
 use Rattle.pathkeys.specs.Keys.{Keys, class_of_key, column_of, ends, passes, gives, step_of, keys_from, keys_by, has_direction, turned, is_equal, is_constant}
 use Rattle.pathkeys.specs.Sorted.{class_order, order_at, keys_order}
-use Rattle.plan_tree.specs.Entries.{cell, meets, entry, ordered, entries_over, entry_rows}
+use Rattle.plan_tree.specs.Entries.{cell, meets_predicate, entry, ordered, entries_over, entry_rows}
 use Rattle.plan_tree.specs.Keys.{scan_keys}
 use Rattle.plan_tree.specs.Plans.{is_empty}
-use Rattle.plan_tree.specs.Run.{directed, conditions, clauses_at, index_rows, tuples}
+use Rattle.plan_tree.specs.Run.{in_scan_direction, conditions, clauses_at, index_rows, tuples}
 use Rattle.plan_tree.specs.Space.{IsIndexScan}
 use Rattle.plan_laws.specs.Meant.{holds_at}
 use Rattle.plan_laws.proofs.ClauseLemmas.{one_is_base, local_base}
@@ -55,7 +55,7 @@ use Rattle.plan_laws.proofs.TieLemmas.{tie_in_all, members_alike, constants_tie}
 use Rattle.plan_laws.proofs.TotalLemmas.{IsUp, in_order_up, up_filter}
 
 -- the keys of an index are classes with members in the relation
-keys_from_are : (t : Table) (r : ℕ) (backward : Bool) (taken : Keys) (ks : List IndexKey) → AreKeys t (one r) (keys_from t r backward taken ks)
+keys_from_are : (t : ClassTable) (r : ℕ) (backward : Bool) (taken : Keys) (ks : List IndexKey) → AreKeys t (one r) (keys_from t r backward taken ks)
 keys_from_are t r backward taken [] = tt
 keys_from_are t r backward taken (k ∷ ks) = by (λ more. keys_from_are t r backward more ks) (class_of_key t r k) refl
   where
@@ -70,7 +70,7 @@ keys_from_are t r backward taken (k ∷ ks) = by (λ more. keys_from_are t r bac
     by later None e = tt
     by later (Some n) e = by_tests later n (class_found t (column_of r k) (key_family k) n e) (is_constant t n || list_any (nat_eq n) taken) (has_direction backward k (class_at t.classes n))
 
-keys_by_are : (m : Method) (t : Table) (r : ℕ) (backward : Bool) (ks : List IndexKey) → AreKeys t (one r) (keys_by m t r backward ks)
+keys_by_are : (m : Method) (t : ClassTable) (r : ℕ) (backward : Bool) (ks : List IndexKey) → AreKeys t (one r) (keys_by m t r backward ks)
 keys_by_are Btree t r backward ks = keys_from_are t r backward [] ks
 keys_by_are Hash t r backward ks = tt
 
@@ -188,7 +188,7 @@ module _ (w : World) (q : Query) (world : IsWorld w) (bound : IsWellBound w.cont
       by later (Some n) e g = by_tests later n (class_found q.classes (column_of r.0 k) (key_family k) n e) (is_constant q.classes n) (list_any (nat_eq n) taken) (has_direction backward k (class_at q.classes.classes n)) refl refl refl g
 
 -- an order by keys reads the values alone
-read_alike : {X : Type 0} (value : X → ColRef → Value) (t : Table) (set : Set) (keys : Keys) (x y : X) → keys_order value t set keys x y ≡ keys_order (λ (v : ColRef → Value). v) t set keys (value x) (value y)
+read_alike : {X : Type 0} (value : X → ColRef → Value) (t : ClassTable) (set : Set) (keys : Keys) (x y : X) → keys_order value t set keys x y ≡ keys_order (λ (v : ColRef → Value). v) t set keys (value x) (value y)
 read_alike value t set [] x y = refl
 read_alike value t set (n ∷ ns) x y = ap (ordering_then (class_order (class_at t.classes n) set (value x) (value y))) (read_alike value t set ns x y)
 
@@ -203,7 +203,7 @@ IsEntryOf d rows e = e.keys ≡ key_values rows d.keys e.row
 
 entries_up : (d : Index) (rows : List Values) → d.method ≡ Btree → IsUp (rows_order rows d.keys) (map (λ (e : Entry). e.row) (entries_over d rows))
 entries_up d rows btree =
-    let ns = filter (λ n. meets d.predicate (slice_index_or rows n [])) (range_with_len 0 (length rows)) in
+    let ns = filter (λ n. meets_predicate d.predicate (slice_index_or rows n [])) (range_with_len 0 (length rows)) in
     let es = map (entry d rows) ns in
     subst (λ (m : Method). IsUp (rows_order rows d.keys) (map (λ (e : Entry). e.row) (ordered m d.keys es))) (sym btree)
     (up_mapped (entry_order d.keys) (rows_order rows d.keys) (IsEntryOf d rows) (λ (e : Entry). e.row)
@@ -213,7 +213,7 @@ entries_up d rows btree =
     (in_order_up (entry_order d.keys) (entries_total d.keys) es))
 
 module _ (w : World) (q : Query) where
-  directed_up : (backward : Bool) (R : ℕ → ℕ → Ordering) (ns : List ℕ) → IsUp R ns → IsUp (way backward R) (directed w q backward ns)
+  directed_up : (backward : Bool) (R : ℕ → ℕ → Ordering) (ns : List ℕ) → IsUp R ns → IsUp (way backward R) (in_scan_direction w q backward ns)
   directed_up false R ns h = h
   directed_up true R ns h = up_reverse R ns h
 
@@ -251,8 +251,8 @@ module _ (w : World) (q : Query) where
         (λ x y hx hy up. ap is_gt (read_alike (value_at w q) q.classes (one r.0) (keys_from q.classes r.0 backward [] ks) (one_row q r.0 x) (one_row q r.0 y))
         ∙ keys_from_up w q world bound r is.relation x y (holds x hx) (holds y hy) backward ks [] tt up)
         (index_rows w q r i backward p o)
-        (filter-passes clause (directed w q backward (filter condition (entry_rows w i))))
-        (up_filter (way backward E) clause (directed w q backward (filter condition (entry_rows w i))) (directed_up backward E (filter condition (entry_rows w i)) (up_filter E condition (entry_rows w i) entries)))
+        (filter-passes clause (in_scan_direction w q backward (filter condition (entry_rows w i))))
+        (up_filter (way backward E) clause (in_scan_direction w q backward (filter condition (entry_rows w i))) (directed_up backward E (filter condition (entry_rows w i)) (up_filter E condition (entry_rows w i) entries)))
 
     pub scan_is_up : (r : RelNo) (i : IndexNo) (backward : Bool) (p : RelSet) (o : Tuple) → IsIndexScan w.contents q r i backward p → is_empty p ≡ true → IsUp (by_keys w q (one r.0) (scan_keys w.contents q r i backward p)) (tuples w q r (index_rows w q r i backward p o))
     scan_is_up r i backward p o is e =

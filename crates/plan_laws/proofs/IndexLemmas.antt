@@ -10,7 +10,7 @@ use Rattle.catalog.specs.Contents.{TableDef, NamedIndex, index_at}
 use Rattle.catalog.specs.Indexes.{Index}
 use Rattle.catalog.specs.Range.{Range}
 use Rattle.catalog.specs.Tables.{rows_of}
-use Rattle.eq_classes.specs.Clauses.{Set, Table}
+use Rattle.eq_classes.specs.Clauses.{Set, ClassTable}
 use Rattle.cost_rules.specs.Scans.{part_cost, index_scan_cost}
 use Rattle.path_cost.specs.Estimates.{conditions_from, entries, entries_by, kept, picked_from, table_pages, table_rows}
 use Rattle.path_cost.specs.Costs.{arm_part, descent, descent_by, found, index_cost, index_part, other_operators, part_within}
@@ -25,7 +25,7 @@ use Rattle.plan_tree.specs.Costs.{scan_cost}
 use Rattle.plan_laws.specs.Moved.{over}
 use Rattle.plan_laws.proofs.EstimateLemmas.{kept-over}
 
-usable-by : (tables : List TableDef) (a b : List NamedIndex) (t : Table) (r : ℕ) (d : Index) (e : Option Cond) → IsUsableBy (over tables a) t r d e → IsUsableBy (over tables b) t r d e
+usable-by : (tables : List TableDef) (a b : List NamedIndex) (t : ClassTable) (r : ℕ) (d : Index) (e : Option Cond) → IsUsableBy (over tables a) t r d e → IsUsableBy (over tables b) t r d e
 usable-by tables a b t r d None h = h
 usable-by tables a b t r d (Some e) h = h
 
@@ -34,19 +34,19 @@ entries-by tables a b d None = refl
 entries-by tables a b d (Some e) = kept-over tables a b ((d.table, []) ∷ []) (rows_of (over tables a) d.table) (e ∷ [])
 
 module _ (tables : List TableDef) (a b : List NamedIndex) (i j : IndexNo) (same : index_at (over tables b) j ≡ index_at (over tables a) i) where
-  pub conditions-same : (t : Table) (r : ℕ) (p : Set) → index_conditions (over tables b) t j r p ≡ index_conditions (over tables a) t i r p
+  pub conditions-same : (t : ClassTable) (r : ℕ) (p : Set) → index_conditions (over tables b) t j r p ≡ index_conditions (over tables a) t i r p
   conditions-same t r p = ap (λ (d : Index). conditions_among d r (local t r p)) same
 
-  pub bounds-same : (t : Table) (r : ℕ) (p : Set) → index_bounds (over tables b) t j r p ≡ index_bounds (over tables a) t i r p
+  pub bounds-same : (t : ClassTable) (r : ℕ) (p : Set) → index_bounds (over tables b) t j r p ≡ index_bounds (over tables a) t i r p
   bounds-same t r p = ap (λ (d : Index). bounds_among d r (conditions_among d r (local t r p))) same
 
-  pub keys-same : (t : Table) (r : ℕ) (backward : Bool) → index_keys (over tables b) t j r backward ≡ index_keys (over tables a) t i r backward
+  pub keys-same : (t : ClassTable) (r : ℕ) (backward : Bool) → index_keys (over tables b) t j r backward ≡ index_keys (over tables a) t i r backward
   keys-same t r backward = ap (λ (d : Index). keys_by d.method t r backward d.keys) same
 
-  pub usable-same : (t : Table) (r : ℕ) → IsUsable (over tables a) t i r → IsUsable (over tables b) t j r
+  pub usable-same : (t : ClassTable) (r : ℕ) → IsUsable (over tables a) t i r → IsUsable (over tables b) t j r
   usable-same t r h = usable-by tables a b t r (index_at (over tables b) j) (index_at (over tables b) j).predicate (subst (λ (d : Index). IsUsableBy (over tables a) t r d d.predicate) (sym same) h)
 
-  pub usable-back : (t : Table) (r : ℕ) → IsUsable (over tables b) t j r → IsUsable (over tables a) t i r
+  pub usable-back : (t : ClassTable) (r : ℕ) → IsUsable (over tables b) t j r → IsUsable (over tables a) t i r
   usable-back t r h = usable-by tables b a t r (index_at (over tables a) i) (index_at (over tables a) i).predicate (subst (λ (d : Index). IsUsableBy (over tables b) t r d d.predicate) same h)
 
   pub entries-same : entries (over tables b) j ≡ entries (over tables a) i
@@ -60,13 +60,13 @@ module _ (tables : List TableDef) (a b : List NamedIndex) (i j : IndexNo) (same 
       ap₂ (λ (x y : ℕ). part_cost x (min y (kept (over tables b) range (table_rows (over tables b) range r) bounds)) y n) descent-same entries-same
       ∙ ap (λ (k : ℕ). part_cost (descent (over tables a) i) (min (entries (over tables a) i) k) (entries (over tables a) i) n) (kept-over tables a b range (table_rows (over tables a) range r) bounds)
 
-  index-part-same : (range : Range) (t : Table) (r : ℕ) (bs cs : ℕ → Bool) → index_part (over tables b) range t j r bs cs ≡ index_part (over tables a) range t i r bs cs
+  index-part-same : (range : Range) (t : ClassTable) (r : ℕ) (bs cs : ℕ → Bool) → index_part (over tables b) range t j r bs cs ≡ index_part (over tables a) range t i r bs cs
   index-part-same range t r bs cs = part-same range r (conditions_from 0 bs t.clauses) (length (conditions_from 0 cs t.clauses))
 
-  found-same : (range : Range) (t : Table) (r : ℕ) (cs : ℕ → Bool) → found (over tables b) range t j r cs ≡ found (over tables a) range t i r cs
+  found-same : (range : Range) (t : ClassTable) (r : ℕ) (cs : ℕ → Bool) → found (over tables b) range t j r cs ≡ found (over tables a) range t i r cs
   found-same range t r cs = ap₂ min entries-same (kept-over tables a b range (table_rows (over tables a) range r) (conditions_from 0 cs t.clauses))
 
-  index-cost-same : (range : Range) (t : Table) (r : ℕ) (p : Set) (bs cs : ℕ → Bool) (only : Bool) → index_cost (over tables b) range t j r p bs cs only ≡ index_cost (over tables a) range t i r p bs cs only
+  index-cost-same : (range : Range) (t : ClassTable) (r : ℕ) (p : Set) (bs cs : ℕ → Bool) (only : Bool) → index_cost (over tables b) range t j r p bs cs only ≡ index_cost (over tables a) range t i r p bs cs only
   index-cost-same range t r p bs cs only =
       ap₂ (λ (x y : ℕ). index_scan_cost x y only (found (over tables b) range t j r cs) (table_pages (over tables a) range r) (other_operators (over tables a) range t r p cs)) descent-same (index-part-same range t r bs cs)
       ∙ ap (λ (n : ℕ). index_scan_cost (descent (over tables a) i) (index_part (over tables a) range t i r bs cs) only n (table_pages (over tables a) range r) (other_operators (over tables a) range t r p cs)) (found-same range t r cs)

@@ -13,13 +13,13 @@ use Rattle.pg_value.specs.Order.{value_order}
 use Rattle.pg_value.specs.ColumnOrder.{column_order, directed, place_of_null}
 use Rattle.pg_value.specs.Sorting.{one_after_other}
 use Rattle.pg_value.proofs.ColumnOrderLemmas.{column_total}
-use Rattle.opfamily.specs.KeyOrder.{key_family, key_order, keys_order}
+use Rattle.opfamily.specs.KeyOrder.{key_family, key_order, key_values_order}
 use Rattle.opfamily.specs.declared.classes.IndexKey.{IndexKey}
 use Rattle.pg_expr.specs.declared.operand.ColRef.{ColRef}
 use Rattle.heap.specs.Stored.{Values}
 use Rattle.eq_classes.specs.Equality.{is_column}
 use Rattle.eq_classes.specs.Classes.{is_family, is_in, in_family, has_member}
-use Rattle.eq_classes.specs.Clauses.{one, Table, first_in}
+use Rattle.eq_classes.specs.Clauses.{one, ClassTable, first_in}
 use Rattle.eq_classes.specs.Holding.{HasClass}
 use Rattle.eq_classes.specs.Listing.{blank, class_at}
 use Rattle.eq_classes.proofs.EqualLemmas.{family_is}
@@ -112,18 +112,18 @@ rows_order rows ks = one_after_other (map (row_order rows) ks)
 abbrev pub key_values : List Values → List IndexKey → ℕ → List Value
 key_values rows ks n = map (λ (k : IndexKey). cell (slice_index_or rows n []) k.col) ks
 
-pub by_key_values : (rows : List Values) (ks : List IndexKey) (n m : ℕ) → keys_order ks (key_values rows ks n) (key_values rows ks m) ≡ rows_order rows ks n m
+pub by_key_values : (rows : List Values) (ks : List IndexKey) (n m : ℕ) → key_values_order ks (key_values rows ks n) (key_values rows ks m) ≡ rows_order rows ks n m
 by_key_values rows [] n m = refl
 by_key_values rows (k ∷ ks) n m = ap (ordering_then (row_order rows k n m)) (by_key_values rows ks n m)
 
 -- what a number found among classes is
-pub record ClassOf (t : Table) (x : ColRef) (f : Family) (n : ℕ) : Type 0 where
+pub record ClassOf (t : ClassTable) (x : ColRef) (f : Family) (n : ℕ) : Type 0 where
   pub low : n < length t.classes
   pub family : f ≡ (class_at t.classes n).family
   pub class : HasClass t (class_at t.classes n)
   pub member : has_member (class_at t.classes n) x ≡ true
 
-pub class_found : (t : Table) (x : ColRef) (f : Family) (n : ℕ) → class_of t x f ≡ Some n → ClassOf t x f n
+pub class_found : (t : ClassTable) (x : ColRef) (f : Family) (n : ℕ) → class_of t x f ≡ Some n → ClassOf t x f n
 class_found t x f n h =
     let at = found_at (λ c. is_in c (in_family x f)) 0 t.classes blank n h in
     let same : at.0 ≡ n = omega (arith, at.1) in
@@ -138,11 +138,11 @@ class_found t x f n h =
     }
 
 -- what a key column's class is
-abbrev pub KeyClass : Table → ℕ → IndexKey → ℕ → Type 0
+abbrev pub KeyClass : ClassTable → ℕ → IndexKey → ℕ → Type 0
 KeyClass t r k n = ClassOf t (column_of r k) (key_family k) n
 
 -- its first member in the relation
-pub first_of : (t : Table) (r : ℕ) (k : IndexKey) (n : ℕ) → KeyClass t r k n → (y : ColRef) × (first_in (class_at t.classes n) (one r) ≡ Some y)
+pub first_of : (t : ClassTable) (r : ℕ) (k : IndexKey) (n : ℕ) → KeyClass t r k n → (y : ColRef) × (first_in (class_at t.classes n) (one r) ≡ Some y)
 first_of t r k n key = find_more (is_column (column_of r k)) (λ y. one r y.rel.0)
     (λ y is. let e : r ≡ y.rel.0 = eqb-true r y.rel.0 (and_parts (nat_eq r y.rel.0) (nat_eq k.col.0 y.col.0) is).0 in eq-eqb y.rel.0 r (sym e))
     (class_at t.classes n).members key.member

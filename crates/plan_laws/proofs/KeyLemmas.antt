@@ -5,7 +5,7 @@ use Rattle.std.specs.List.{AllByRecursion, list_all, list_any}
 use Rattle.std.specs.Ordering.{is_gt}
 use Rattle.std.proofs.lemmas.Bool.{or_cases, and_parts, true≢false}
 use Rattle.pg_expr.specs.declared.operand.ColRef.{ColRef}
-use Rattle.eq_classes.specs.Clauses.{Set, Table, first_in, has_constant}
+use Rattle.eq_classes.specs.Clauses.{Set, ClassTable, first_in, has_constant}
 use Rattle.eq_classes.specs.Parts.{is_joining, has_in, joining_from}
 use Rattle.eq_classes.specs.Holding.{HasClass}
 use Rattle.eq_classes.specs.Listing.{blank, class_at}
@@ -40,22 +40,22 @@ found_any p (y ∷ ys) x h = by (found_any p ys x) (p y) h
     by later false h = later h
 
 -- a class of the table that has a member inside a set
-pub record IsKey (t : Table) (a : Set) (n : ℕ) : Type 0 where
+pub record IsKey (t : ClassTable) (a : Set) (n : ℕ) : Type 0 where
   pub class : HasClass t (class_at t.classes n)
   pub member : ColRef
   pub first : first_in (class_at t.classes n) a ≡ Some member
 
-abbrev pub AreKeys : Table → Set → Keys → Type 0
+abbrev pub AreKeys : ClassTable → Set → Keys → Type 0
 AreKeys t a keys = AllByRecursion (IsKey t a) keys
 
-pub wider : (t : Table) (a b : Set) → ((k : ℕ) → a k ≡ true → b k ≡ true) → (keys : Keys) → AreKeys t a keys → AreKeys t b keys
+pub wider : (t : ClassTable) (a b : Set) → ((k : ℕ) → a k ≡ true → b k ≡ true) → (keys : Keys) → AreKeys t a keys → AreKeys t b keys
 wider t a b f [] h = tt
 wider t a b f (n ∷ ns) h =
     let more = find_more (λ x. a x.rel.0) (λ x. b x.rel.0) (λ x is. f x.rel.0 is) (class_at t.classes n).members (found_any (λ x. a x.rel.0) (class_at t.classes n).members h.0.member h.0.first) in
     (record { class = h.0.class; member = more.0; first = more.1 }, wider t a b f ns h.1)
 
 -- the joining classes of two sets have members in both
-pub list_keys : (t : Table) (a b : Set) (keys : Keys) → list_all (λ n. list_any (nat_eq n) (take 4 (joining_from a b 0 t.classes))) keys ≡ true → AreKeys t a keys × AreKeys t b keys
+pub list_keys : (t : ClassTable) (a b : Set) (keys : Keys) → list_all (λ n. list_any (nat_eq n) (take 4 (joining_from a b 0 t.classes))) keys ≡ true → AreKeys t a keys × AreKeys t b keys
 list_keys t a b [] h = (tt, tt)
 list_keys t a b (n ∷ ns) h =
     let parts : (list_any (nat_eq n) (take 4 (joining_from a b 0 t.classes)) ≡ true) × (list_all (λ m. list_any (nat_eq m) (take 4 (joining_from a b 0 t.classes))) ns ≡ true) = and_parts (list_any (nat_eq n) (take 4 (joining_from a b 0 t.classes))) (list_all (λ m. list_any (nat_eq m) (take 4 (joining_from a b 0 t.classes))) ns) h in

@@ -7,7 +7,7 @@ use Rattle.pg_expr.specs.declared.operand.ColRef.{ColRef}
 use Rattle.pg_expr.specs.Typed.{IsTyped}
 use Rattle.eq_classes.specs.Equality.{is_column, are_equal}
 use Rattle.eq_classes.specs.Classes.{Premises, Class, is_family, has_member, Mention, is_in, first_mention, IsClass, AreClasses}
-use Rattle.eq_classes.specs.Clauses.{Set, one, first_in, has_constant, Clause, clause_list, Table}
+use Rattle.eq_classes.specs.Clauses.{Set, one, first_in, has_constant, Clause, clause_list, ClassTable}
 use Rattle.eq_classes.specs.Parts.{union, is_all, is_base, is_join, is_param, is_join_param}
 use Rattle.eq_classes.specs.Holding.{hold, Fits, IsClassTable, AreApart, IsWithin, AgreeOn, HasClass}
 use Rattle.eq_classes.specs.Listing.{class_at}
@@ -21,7 +21,7 @@ use Rattle.eq_classes.proofs.SplitLemmas as splits
 use Rattle.plan_laws.proofs.LocalLemmas as local
 use Rattle.plan_laws.proofs.AlikeLemmas.{equal_inside, compare_alike}
 
-module _ (g : Premises) (t : Table) (is : IsClassTable g t) where
+module _ (g : Premises) (t : ClassTable) (is : IsClassTable g t) where
   pub local_at : (set : Set) (chosen : Clause → Bool) → local.Reads set chosen (made g t.classes) → (b d : ColRef → Value) → AgreeOn set b d → hold b chosen t.clauses ≡ hold d chosen t.clauses
   local_at set chosen reads b d agree = subst (λ (ks : List Clause). hold b chosen ks ≡ hold d chosen ks) (list_is g t is) (local.hold_local set chosen (made g t.classes) reads b d agree)
 

@@ -36,7 +36,7 @@ use Rattle.plan_laws.proofs.MeaningLemmas.{all_is_each}
 use Rattle.plan_tree.specs.index_match_Numbered.{numbered, conditions_of, base}
 use Rattle.plan_tree.specs.index_match_Usable.{IsUsable, IsUsableBy}
 use Rattle.plan_tree.specs.Bitmaps.{IsIndexOn}
-use Rattle.plan_tree.specs.Entries.{cell, meets}
+use Rattle.plan_tree.specs.Entries.{cell, meets_predicate}
 use Rattle.plan_laws.specs.Meant.{holds_at}
 use Rattle.plan_laws.proofs.TupleLemmas.{row_at}
 
@@ -91,7 +91,7 @@ module _ (w : World) (q : Query) (world : IsWorld w) where
       (row_at (width q) (λ j. cond (one r.0 j) row (row_of o j)) x.rel.0 low ∙ ap (λ (v : Bool). cond v row (row_of o x.rel.0)) is)
 
   follows_by : (r : RelNo) (i : IndexNo) → r.0 < width q → (index_at w.contents i).table ≡ (relation_at q.range r).0 → (predicate : Option Cond) → IsUsableBy w.contents q.classes r.0 (index_at w.contents i) predicate
-      → (row : ℕ) (o : Tuple) → holds_at w q (beside q r.0 row o) (is_base r.0) ≡ true → meets predicate (slice_index_or (rows_of_relation w q r) row []) ≡ true
+      → (row : ℕ) (o : Tuple) → holds_at w q (beside q r.0 row o) (is_base r.0) ≡ true → meets_predicate predicate (slice_index_or (rows_of_relation w q r) row []) ≡ true
   follows_by r i lt same None usable row o h = refl
   follows_by r i lt same (Some e) usable row o h =
       let columns = (table_at w.contents (relation_at q.range r).0).columns in
@@ -102,5 +102,5 @@ module _ (w : World) (q : Query) (world : IsWorld w) where
       ∙ alike_from r.0 (value_at w q (beside q r.0 row o)) (at_row (values r row)) (own_values r lt row o) 0 q.classes.clauses h)))
 
   pub predicates_follow : (r : RelNo) (i : IndexNo) → r.0 < width q → IsIndexOn w.contents q r.0 i → IsUsable w.contents q.classes i r.0
-      → (row : ℕ) (o : Tuple) → holds_at w q (beside q r.0 row o) (is_base r.0) ≡ true → meets (index_at w.contents i).predicate (slice_index_or (rows_of_relation w q r) row []) ≡ true
+      → (row : ℕ) (o : Tuple) → holds_at w q (beside q r.0 row o) (is_base r.0) ≡ true → meets_predicate (index_at w.contents i).predicate (slice_index_or (rows_of_relation w q r) row []) ≡ true
   predicates_follow r i lt is usable row o h = follows_by r i lt is.table (index_at w.contents i).predicate usable row o h

@@ -16,7 +16,7 @@ use Rattle.sql_query.specs.Worlds.{World, IsWorld}
 use Rattle.plan_tree.specs.index_match_Numbered.{base, conditions_of}
 use Rattle.plan_tree.specs.Entries.{entry_rows}
 use Rattle.plan_tree.specs.Plans.{Plan, seq, index, index_only, bitmap, sort, nest, merge, scan_given, param_in, param_of, is_empty}
-use Rattle.plan_tree.specs.Run.{directed, index_rows, joined, run, sorted}
+use Rattle.plan_tree.specs.Run.{in_scan_direction, index_rows, joined, run, sorted}
 use Rattle.plan_tree.specs.Space.{IsBuilt}
 use Rattle.plan_laws.specs.Meant.{HaveSameRows, holds_at, tested}
 use Rattle.plan_laws.proofs.BitmapLemmas.{bitmap_means}
@@ -57,7 +57,7 @@ module _ (w : World) (q : Query) (world : IsWorld w) (bound : IsWellBound w.cont
   index_alike : (r : RelNo) (i : IndexNo) (backward : Bool) (p : RelSet) → HaveSameRows (param_in (scan_given r p)) o u → index_rows w q r i backward p o ≡ index_rows w q r i backward p u
   index_alike r i backward p same =
       index_rows_are w q r i backward p o
-      ∙ rows_alike r.0 (has p.0) (scan_rows r p same) (directed w q backward (entry_rows w i))
+      ∙ rows_alike r.0 (has p.0) (scan_rows r p same) (in_scan_direction w q backward (entry_rows w i))
       ∙ sym (index_rows_are w q r i backward p u)
 
   pub run_alike : (p : Plan) → IsBuilt w.contents q p → HaveSameRows (param_of p) o u → run w q p o ≡ run w q p u

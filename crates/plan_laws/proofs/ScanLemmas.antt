@@ -40,8 +40,8 @@ use Rattle.plan_tree.specs.index_match_Conditions.{allowed, is_condition}
 use Rattle.plan_tree.specs.index_match_Usable.{IsUsable}
 use Rattle.plan_tree.specs.Plans.{GivenScan, scan_given, is_empty, empty}
 use Rattle.plan_tree.specs.Bitmaps.{IsIndexOn}
-use Rattle.plan_tree.specs.Entries.{meets, entry, ordered, entries_over, entry_rows}
-use Rattle.plan_tree.specs.Run.{directed, conditions, clauses_at, index_rows}
+use Rattle.plan_tree.specs.Entries.{meets_predicate, entry, ordered, entries_over, entry_rows}
+use Rattle.plan_tree.specs.Run.{in_scan_direction, conditions, clauses_at, index_rows}
 use Rattle.plan_laws.specs.Meant.{holds_at, numbers_of, meant, tested, meant_rows, meant_scan}
 use Rattle.plan_laws.proofs.ClauseLemmas.{one_is_base, local_base}
 use Rattle.plan_laws.proofs.EachLemmas.{each_of}
@@ -118,7 +118,7 @@ rows_of_entries : (d : Index) (rows : List Values) (ns : List ℕ) → map (λ (
 rows_of_entries d rows [] = refl
 rows_of_entries d rows (n ∷ ns) = ap (λ (l : List ℕ). n ∷ l) (rows_of_entries d rows ns)
 
-Perm-directed : (w : World) (q : Query) (backward : Bool) (ns : List ℕ) → Perm (directed w q backward ns) ns
+Perm-directed : (w : World) (q : Query) (backward : Bool) (ns : List ℕ) → Perm (in_scan_direction w q backward ns) ns
 Perm-directed w q false ns = Perm-refl ns
 Perm-directed w q true ns = Perm-sym ns (reverse ns) (from_std ns (reverse ns) (IsPermutation-reverse ns))
 
@@ -132,14 +132,14 @@ filter_reverse p (n ∷ ns) =
     by true e later = rw e (reverse-append (n ∷ []) (filter p ns) ∙ ap (λ (l : List ℕ). l ++ n ∷ []) later)
     by false e later = rw e (later ∙ sym (append-nil (filter p (reverse ns))))
 
-directed_filter : (w : World) (q : Query) (backward : Bool) (p : ℕ → Bool) (ns : List ℕ) → directed w q backward (filter p ns) ≡ filter p (directed w q backward ns)
+directed_filter : (w : World) (q : Query) (backward : Bool) (p : ℕ → Bool) (ns : List ℕ) → in_scan_direction w q backward (filter p ns) ≡ filter p (in_scan_direction w q backward ns)
 directed_filter w q false p ns = refl
 directed_filter w q true p ns = filter_reverse p ns
 
 module _ (w : World) (q : Query) where
   -- the predicate of an index is True at a row of a relation
   abbrev pub meets_at : RelNo → IndexNo → ℕ → Bool
-  meets_at r i row = meets (index_at w.contents i).predicate (slice_index_or (rows_of_relation w q r) row [])
+  meets_at r i row = meets_predicate (index_at w.contents i).predicate (slice_index_or (rows_of_relation w q r) row [])
 
   pub entries_are : (r : RelNo) (i : IndexNo) → IsIndexOn w.contents q r.0 i → Perm (entry_rows w i) (filter (meets_at r i) (row_numbers w q r))
   entries_are r i is =
@@ -165,11 +165,11 @@ module _ (w : World) (q : Query) where
 
   -- the rows of an index scan are those of the entries at which its clauses hold
   pub index_rows_are : (r : RelNo) (i : IndexNo) (backward : Bool) (p : RelSet) (o : Tuple)
-      → index_rows w q r i backward p o ≡ filter (λ row. holds_at w q (beside q r.0 row o) (tested w q r.0 (has p.0))) (directed w q backward (entry_rows w i))
+      → index_rows w q r i backward p o ≡ filter (λ row. holds_at w q (beside q r.0 row o) (tested w q r.0 (has p.0))) (in_scan_direction w q backward (entry_rows w i))
   index_rows_are r i backward p o =
       let clause = λ (row : ℕ). all_true w q (beside q r.0 row o) (clauses_at w q r p) in
       let condition = λ (row : ℕ). all_true w q (beside q r.0 row o) (conditions w q r i p) in
-      let es = directed w q backward (entry_rows w i) in
+      let es = in_scan_direction w q backward (entry_rows w i) in
       ap (filter clause) (directed_filter w q backward condition (entry_rows w i))
       ∙ filter_follows clause condition es (each_of (λ (row : ℕ). clause row ≡ true → condition row ≡ true) (λ row h. conditions_hold r i p (beside q r.0 row o) h) es)
       ∙ filter_alike clause (λ row. holds_at w q (beside q r.0 row o) (tested w q r.0 (has p.0))) es (clauses_hold r p o)
@@ -180,7 +180,7 @@ module _ (w : World) (q : Query) where
   index_means world r i backward p o lt is usable =
       let rows = row_numbers w q r in
       let test = λ (row : ℕ). holds_at w q (beside q r.0 row o) (tested w q r.0 (has p.0)) in
-      let es = directed w q backward (entry_rows w i) in
+      let es = in_scan_direction w q backward (entry_rows w i) in
       subst (λ (l : List ℕ). Perm l (meant_rows w q r.0 (has p.0) o)) (sym (index_rows_are r i backward p o))
       (subst (λ (l : List ℕ). Perm (filter test es) l)
       (filter_follows test (meets_at r i) rows (each_of (λ (row : ℕ). test row ≡ true → meets_at r i row ≡ true) (λ row h. predicates_follow w q world r i lt is usable row o (base_of_tested r.0 (has p.0) (beside q r.0 row o) h)) rows))

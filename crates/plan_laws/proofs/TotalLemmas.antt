@@ -12,7 +12,7 @@ use Rattle.pg_value.proofs.ColumnOrderLemmas.{column_total}
 use Rattle.pg_value.proofs.SortingLemmas.{in_order_is}
 use Rattle.pg_expr.specs.declared.operand.ColRef.{ColRef}
 use Rattle.eq_classes.specs.Classes.{Class}
-use Rattle.eq_classes.specs.Clauses.{Set, Table, first_in}
+use Rattle.eq_classes.specs.Clauses.{Set, ClassTable, first_in}
 use Rattle.eq_classes.specs.Listing.{class_at}
 use Rattle.pathkeys.specs.Keys.{Keys}
 use Rattle.pathkeys.specs.Sorted.{keys_order, order_at}
@@ -21,7 +21,7 @@ use Rattle.plan_laws.proofs.EachLemmas.{each_filter, each_joined}
 all_tie : {X : Type 0} → IsTotalOrder {K = X} (λ x y. Equal)
 all_tie = record { antisymm = λ x y. refl; trans = λ x y z p q. p; congr = λ x y z p. refl }
 
-module _ {X : Type 0} (value : X → ColRef → Value) (t : Table) (set : Set) where
+module _ {X : Type 0} (value : X → ColRef → Value) (t : ClassTable) (set : Set) where
   at_total : (c : Class) (o : Option ColRef) → IsTotalOrder (λ (a b : X). order_at c o (value a) (value b))
   at_total c None = all_tie
   at_total c (Some x) = on_total (λ (a : X). value a x) (column_total c.family c.descending c.nulls_first)

@@ -35,8 +35,8 @@ CutsParts line result =
     IsSomeAnd result (λ l. IsLineOf l k rest (cost, rows))
 
 -- the relations of two sides
-abbrev pub joined_set : Plan → Plan → Set
-joined_set outer inner = union (set_of outer) (set_of inner)
+abbrev pub set_of_sides : Plan → Plan → Set
+set_of_sides outer inner = union (set_of outer) (set_of inner)
 
 module _ (c : Contents) (q : Query) where
   -- the line of a node at a depth is read, and what follows is left
@@ -64,8 +64,8 @@ module _ (c : Contents) (q : Query) where
   -- the text behind the words of a merge
   abbrev pub FindsMerge : List ℕ → Planned → Planned → Option Planned → Type 0
   FindsMerge behind outer inner result =
-      (keys : List ℕ) → HasKeysText q (joined_set (plan outer) (plan inner)) keys →
-      behind ≡ keys_text c q (joined_set (plan outer) (plan inner)) keys →
+      (keys : List ℕ) → HasKeysText q (set_of_sides (plan outer) (plan inner)) keys →
+      behind ≡ keys_text c q (set_of_sides (plan outer) (plan inner)) keys →
       option_map plan result ≡ Some (merge keys (plan outer) (plan inner))
 
   -- a bitmap tree whose lines come next

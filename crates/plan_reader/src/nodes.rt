@@ -8,7 +8,7 @@ ghost use Rattle.plan_tree.specs.Views.{plan};
 ghost use Rattle.sql_query.specs.WellBound.{IsWellBound};
 ghost use Rattle.plan_lines.specs.HasText.{IsText};
 ghost use Rattle.plan_reader.specs.Written.{StandsAt};
-ghost use Rattle.plan_reader.specs.Nodes.{AreSidesAt, FindsMerge, FindsSort, IsTextAt, ReadsPair, ReadsPlan, joined_set};
+ghost use Rattle.plan_reader.specs.Nodes.{AreSidesAt, FindsMerge, FindsSort, IsTextAt, ReadsPair, ReadsPlan, set_of_sides};
 ghost use Rattle.plan_tree.specs.Plans.{nest};
 
 use crate::lines::read_first;
@@ -68,7 +68,7 @@ fn merged(alloc: Global, keys: Keys, outer: Plan, inner: Plan) -> Result<Plan, M
 fn both_sets(outer: &Plan, inner: &Plan) -> RelSet
     requires outer { ReadsBelow 16 (plan outer.now) }
     requires inner { ReadsBelow 16 (plan inner.now) }
-    ensures { (k : ℕ) → has result.0 k ≡ joined_set (plan outer.now) (plan inner.now) k }
+    ensures { (k : ℕ) → has result.0 k ≡ set_of_sides (plan outer.now) (plan inner.now) k }
 {
     set_of(outer).union(set_of(inner))
 }

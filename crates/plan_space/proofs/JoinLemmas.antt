@@ -10,7 +10,7 @@ use Rattle.pg_base.specs.declared.numbers.RelNo.{RelNo}
 use Rattle.pg_base.specs.declared.rel_set.RelSet.{RelSet}
 use Rattle.pg_base.proofs.SetLaws.{has-zero}
 use Rattle.catalog.specs.Contents.{Contents}
-use Rattle.eq_classes.specs.Clauses.{Set, Table}
+use Rattle.eq_classes.specs.Clauses.{Set, ClassTable}
 use Rattle.eq_classes.specs.Holding.{AreApart, IsWithin}
 use Rattle.eq_classes.specs.Parts.{first_four, joining_from}
 use Rattle.eq_classes.specs.declared.classes.ClassNo.{ClassNo}
@@ -85,7 +85,7 @@ all-four js found [] e = refl
 all-four js found (c ∷ cs) e = ap₂ (λ x y. x && y) (found-four c.0 js found e) (all-four js found cs e)
 
 -- what is found of a list makes it one of a merge
-pub merge-list : (c : Contents) (q : Query) (a b : Set) (t : Table) (keys : Keys) (cs : List ClassNo) (found : List (Option ClassNo)) (all : Bool) → q.classes ≡ t → class_numbers cs ≡ keys → 1 ≤ length cs → length cs ≤ 3 → AreDifferent keys →
+pub merge-list : (c : Contents) (q : Query) (a b : Set) (t : ClassTable) (keys : Keys) (cs : List ClassNo) (found : List (Option ClassNo)) (all : Bool) → q.classes ≡ t → class_numbers cs ≡ keys → 1 ≤ length cs → length cs ≤ 3 → AreDifferent keys →
     map (option_map (λ (n : ClassNo). n.0)) found ≡ first_four (joining_from a b 0 t.classes) → all ≡ list_all (λ (c : ClassNo). list_any (λ (o : Option ClassNo). is_class c.0 (option_map (λ (n : ClassNo). n.0) o)) found) cs →
     (all ≡ true) ↔ IsMergeList c q a b keys
 merge-list c q a b t keys cs found all table same some few different four is =
@@ -96,7 +96,7 @@ merge-list c q a b t keys cs found all table same some few different four is =
 
     joined : all ≡ list_all (λ n. list_any (nat_eq n) (take 4 (joining_from a b 0 q.classes.classes))) keys
     joined = is ∙ all-four (joining_from a b 0 t.classes) found cs four
-        ∙ ap₂ (λ (x : Table) (ks : Keys). list_all (λ n. list_any (nat_eq n) (take 4 (joining_from a b 0 x.classes))) ks) (sym table) same
+        ∙ ap₂ (λ (x : ClassTable) (ks : Keys). list_all (λ n. list_any (nat_eq n) (take 4 (joining_from a b 0 x.classes))) ks) (sym table) same
 
 either : {A B C : Type 0} → (A → C) → (B → C) → A ⊎ B → C
 either f g (inl a) = f a

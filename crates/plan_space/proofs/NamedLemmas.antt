@@ -17,7 +17,7 @@ use Rattle.pg_expr.proofs.ColumnLaws.{weaker-each}
 use Rattle.catalog.specs.Range.{Range}
 use Rattle.path_cost.specs.Columns.{IsOver, is_column_in}
 use Rattle.catalog.specs.Contents.{Contents, index_at}
-use Rattle.eq_classes.specs.Clauses.{Clause, Set, Table}
+use Rattle.eq_classes.specs.Clauses.{Clause, Set, ClassTable}
 use Rattle.eq_classes.specs.Listing.{clause_at}
 use Rattle.eq_classes.proofs.ClasswiseLemmas.{same_truth}
 use Rattle.plan_tree.specs.index_match_Conditions.{allowed, is_condition, index_conditions}
@@ -70,7 +70,7 @@ allowed-of ks Btree xs h = h
 allowed-of ks Hash [] h = tt
 allowed-of ks Hash (x ∷ xs) h = (h.0, tt)
 
-pub conditions-of-table : (c : Contents) (t : Table) (i : IndexNo) (r : ℕ) (p : Set) → AllByRecursion (IsOfTable t.clauses) (index_conditions c t i r p)
+pub conditions-of-table : (c : Contents) (t : ClassTable) (i : IndexNo) (r : ℕ) (p : Set) → AllByRecursion (IsOfTable t.clauses) (index_conditions c t i r p)
 conditions-of-table c t i r p =
     let d = index_at c i in
     allowed-of t.clauses d.method (filter (λ (x : Numbered). is_condition d r x.cond) (local t r p)) (kept-of t.clauses (λ x. is_condition d r x.cond) (local t r p) (enumerated t.clauses _ 0 t.clauses refl))

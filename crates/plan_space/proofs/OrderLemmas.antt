@@ -7,7 +7,7 @@ use Rattle.std.proofs.lemmas.Bool.{and_from, and_parts, cases_lt, eqb-true, eqb-
 use Rattle.std.proofs.lemmas.Option.{slice_get-get_or, slice_get_within}
 use Rattle.std.proofs.lemmas.List.{drop_all, drop_more, length-map, map-append, take-map, take_all, take_more}
 use Rattle.std.proofs.lemmas.List.Folds.{list_any-append}
-use Rattle.eq_classes.specs.Clauses.{Table}
+use Rattle.eq_classes.specs.Clauses.{ClassTable}
 use Rattle.eq_classes.specs.declared.classes.ClassNo.{ClassNo}
 use Rattle.eq_classes.specs.declared.order.OrderItem.{OrderItem}
 use Rattle.pathkeys.specs.Finding.{class_numbers}
@@ -112,7 +112,7 @@ pub ends-numbers : (cs : List ClassNo) (at n : ℕ) → list_any (nat_eq n) (tak
 ends-numbers cs at n other le = let long = length-map cs (λ (c : ClassNo). c.0) in ends-on (class_numbers cs) at n other (omega (arith, long, le))
 
 -- the classes of items, one item after the other
-pub asked-more : (t : Table) (i : OrderItem) (is : List OrderItem) → classes_asked t (i ∷ is) ≡ classes_asked t (i ∷ []) ++ classes_asked t is
+pub asked-more : (t : ClassTable) (i : OrderItem) (is : List OrderItem) → classes_asked t (i ∷ is) ≡ classes_asked t (i ∷ []) ++ classes_asked t is
 asked-more t i is = by (order_class t i.col)
   where
     keep : ℕ → Bool
@@ -140,7 +140,7 @@ covers-none [] = refl
 covers-none (k ∷ ks) = refl
 
 -- past the last item the list begins with the keys, and there are as many as it went on
-pub begun-all : (t : Table) (order : List OrderItem) (keys : Keys) (n : ℕ) → GoesOnAs keys 0 (classes_asked t order) n [] → (covers keys (order_keys t order) ≡ true) × (n ≡ length (order_keys t order))
+pub begun-all : (t : ClassTable) (order : List OrderItem) (keys : Keys) (n : ℕ) → GoesOnAs keys 0 (classes_asked t order) n [] → (covers keys (order_keys t order) ≡ true) × (n ≡ length (order_keys t order))
 begun-all t order keys n h = (
   ap (covers keys) (sym (besides-none (classes_asked t order))) ∙ h.begins ∙ covers-none (drop n keys),
   sym (ap length (sym (besides-none (classes_asked t order))) ∙ sum (length (once_besides [] (classes_asked t order))) n h.count),
@@ -149,7 +149,7 @@ begun-all t order keys n h = (
     sum : (a b : ℕ) → 0 + a ≡ b + 0 → a ≡ b
     sum a b e = omega (arith, e)
 
-pub begun-no : (t : Table) (order : List OrderItem) (keys : Keys) (at : ℕ) (ns : List ℕ) → GoesOnAs keys 0 (classes_asked t order) at ns → goes_on keys at ns ≡ false → covers keys (order_keys t order) ≡ false
+pub begun-no : (t : ClassTable) (order : List OrderItem) (keys : Keys) (at : ℕ) (ns : List ℕ) → GoesOnAs keys 0 (classes_asked t order) at ns → goes_on keys at ns ≡ false → covers keys (order_keys t order) ≡ false
 begun-no t order keys at ns h stops = ap (covers keys) (sym (besides-none (classes_asked t order))) ∙ h.begins ∙ stops
 
 -- a list is the keys of ORDER BY where it begins with them and is no longer

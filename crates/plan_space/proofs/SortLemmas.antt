@@ -10,7 +10,7 @@ use Rattle.opfamily.specs.declared.classes.IndexKey.{IndexKey}
 use Rattle.opfamily.specs.declared.classes.Method.{Method}
 use Rattle.opfamily.specs.declared.classes.Method.TheVariants.{Btree, Hash}
 use Rattle.catalog.specs.Contents.{Contents, IsIndex, IsLawful, index_at, no_index}
-use Rattle.eq_classes.specs.Clauses.{Table}
+use Rattle.eq_classes.specs.Clauses.{ClassTable}
 use Rattle.sql_query.specs.Queries.{Query}
 use Rattle.pathkeys.specs.Keys.{Keys, covers, keys_from, keys_by, index_keys, class_of_key, step_of, Step, ends, passes, gives}
 use Rattle.plan_tree.specs.Keys.{keys_of, scan_keys}
@@ -67,7 +67,7 @@ module _ (c : Contents) (q : Query) where
   plain-meets (merge ks o i) keys e = (λ h. h, λ h. h)
 
 -- a B-tree gives no more keys than it has key columns
-few-from : (t : Table) (r : ℕ) (backward : Bool) (taken : Keys) (ks : List IndexKey) → length (keys_from t r backward taken ks) ≤ length ks
+few-from : (t : ClassTable) (r : ℕ) (backward : Bool) (taken : Keys) (ks : List IndexKey) → length (keys_from t r backward taken ks) ≤ length ks
 few-from t r backward taken [] = omega arith
 few-from t r backward taken (k ∷ ks) = by (step_of t backward taken k (class_of_key t r k)) (few-from t r backward taken ks) (λ n. few-from t r backward (n ∷ taken) ks)
   where
@@ -77,7 +77,7 @@ few-from t r backward taken (k ∷ ks) = by (step_of t backward taken k (class_o
     by passes h g = omega (arith, h)
     by (gives n) h g = omega (arith, g n)
 
-few-by : (m : Method) (t : Table) (r : ℕ) (backward : Bool) (ks : List IndexKey) → length (keys_by m t r backward ks) ≤ length ks
+few-by : (m : Method) (t : ClassTable) (r : ℕ) (backward : Bool) (ks : List IndexKey) → length (keys_by m t r backward ks) ≤ length ks
 few-by Btree t r backward ks = few-from t r backward [] ks
 few-by Hash t r backward ks = omega arith
 

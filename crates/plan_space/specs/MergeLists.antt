@@ -4,7 +4,7 @@ use Rattle.std.specs.List.{list_all, list_any}
 use Rattle.pg_base.specs.Sets.{has}
 use Rattle.pg_base.specs.declared.rel_set.RelSet.{RelSet}
 use Rattle.catalog.specs.Contents.{Contents}
-use Rattle.eq_classes.specs.Clauses.{Table}
+use Rattle.eq_classes.specs.Clauses.{ClassTable}
 use Rattle.eq_classes.specs.declared.classes.ClassNo.{ClassNo}
 use Rattle.sql_query.specs.Queries.{Query}
 use Rattle.pathkeys.specs.Finding.{is_class}
@@ -21,7 +21,7 @@ abbrev pub are_classes_found : List (Option ClassNo) → List ClassNo → Bool
 are_classes_found found list = list_all (λ (c : ClassNo). is_class_found found c) list
 
 -- a test tells whether a list is one of a merge of two sets, in every query with these classes
-abbrev pub TellsMergeList : Table → RelSet → RelSet → Keys → Bool → Type 0
+abbrev pub TellsMergeList : ClassTable → RelSet → RelSet → Keys → Bool → Type 0
 TellsMergeList t a b list told =
     (c : Contents) (q : Query) → q.classes ≡ t → IsTrue told ↔ IsMergeList c q (has a.0) (has b.0) list
 

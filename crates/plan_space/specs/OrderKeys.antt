@@ -2,14 +2,14 @@
 use Rattle.std.specs.Prelude.{◌≡◌, ℕ, ◌+◌, Bool, not, nat_eq, List, drop, filter, filter_map, length, take, [], ◌∷◌, false, Option, option_map}
 use Rattle.std.specs.List.{list_any, cons_option}
 use Rattle.eq_classes.specs.declared.order.OrderItem.{OrderItem}
-use Rattle.eq_classes.specs.Clauses.{Table}
+use Rattle.eq_classes.specs.Clauses.{ClassTable}
 use Rattle.pathkeys.specs.Keys.{Keys, covers, is_constant, once, order_class, order_keys}
 use Rattle.eq_classes.specs.declared.classes.ClassNo.{ClassNo}
 use Rattle.sql_query.specs.Queries.{Query}
 use Rattle.pathkeys.specs.Finding.{class_numbers}
 
 -- the classes of ORDER BY items that have no constant, also those that stood before; once each they are the keys
-abbrev pub classes_asked : Table → List OrderItem → List ℕ
+abbrev pub classes_asked : ClassTable → List OrderItem → List ℕ
 classes_asked t items = filter (λ n. not (is_constant t n)) (filter_map (λ (item : OrderItem). order_class t item.col) items)
 
 -- classes once each, without those of a list
@@ -38,16 +38,16 @@ abbrev pub StopsAtClass : List ClassNo → ℕ → ClassNo → Type 0
 StopsAtClass list at c = (ns : List ℕ) → goes_on (class_numbers list) at (c.0 ∷ ns) ≡ false
 
 -- the same of an item of ORDER BY: the list goes on past it
-abbrev pub GoesOnPastItem : Table → List ClassNo → ℕ → OrderItem → ℕ → Type 0
+abbrev pub GoesOnPastItem : ClassTable → List ClassNo → ℕ → OrderItem → ℕ → Type 0
 GoesOnPastItem t list at item next =
     (items : List OrderItem) → GoesOnAs (class_numbers list) at (classes_asked t (item ∷ items)) next (classes_asked t items)
 
 -- it does not go on with the item, whatever stands behind
-abbrev pub StopsAtItem : Table → List ClassNo → ℕ → OrderItem → Type 0
+abbrev pub StopsAtItem : ClassTable → List ClassNo → ℕ → OrderItem → Type 0
 StopsAtItem t list at item = (items : List OrderItem) → goes_on (class_numbers list) at (classes_asked t (item ∷ items)) ≡ false
 
 -- a list begins with the keys of ORDER BY
-abbrev pub is_order_begun : Table → List OrderItem → List ClassNo → Bool
+abbrev pub is_order_begun : ClassTable → List OrderItem → List ClassNo → Bool
 is_order_begun t items list = covers (class_numbers list) (order_keys t items)
 
 -- the keys of the query's ORDER BY

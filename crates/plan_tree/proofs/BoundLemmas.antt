@@ -16,7 +16,7 @@ use Rattle.sql_query.specs.catalog_Contents.{Contents, TableDef, AreSizes, IsLaw
 use Rattle.sql_query.specs.catalog_Range.{Range, relation_at}
 use Rattle.cost_rules.specs.Powers.{clamped}
 use Rattle.cost_rules.proofs.RisingLemmas.{sort-startup, nest-startup, merge-startup, sort-child, nest-children, merge-children}
-use Rattle.eq_classes.specs.Clauses.{Set, Table}
+use Rattle.eq_classes.specs.Clauses.{Set, ClassTable}
 use Rattle.eq_classes.specs.Parts.{is_all}
 use Rattle.sql_query.specs.Queries.{Query}
 use Rattle.sql_query.specs.declared.window.Window.{Window}
@@ -34,7 +34,7 @@ some-clamped n = omega arith
 some-kept : (c : Contents) (range : Range) (n : ℕ) (es : List Cond) → 1 ≤ n → 1 ≤ kept c range n es
 some-kept c range n es h = some-folded {A = Cond} (λ m e. share_of_rows m (selectivity c range e)) (λ m e. some-clamped _) n es h
 
-pub some-rows : (c : Contents) (range : Range) (t : Table) (set : Set) → 1 ≤ set_rows c range t set
+pub some-rows : (c : Contents) (range : Range) (t : ClassTable) (set : Set) → 1 ≤ set_rows c range t set
 some-rows c range t set =
     some-kept c range (product_rows c range (relations range set)) (conditions_where (is_all set) t.clauses)
     (some-folded {A = ℕ} (λ m r. clamped (m * table_rows c range r)) (λ m r. some-clamped (m * table_rows c range r)) 1 (relations range set) (le_refl 1))

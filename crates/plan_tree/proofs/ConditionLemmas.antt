@@ -7,7 +7,7 @@ use Rattle.sql_query.specs.opfamily_classes_Method_TheVariants.{Btree, Hash}
 use Rattle.pg_base.specs.declared.numbers.IndexNo.{IndexNo}
 use Rattle.pg_expr.specs.Cond.{Cond}
 use Rattle.sql_query.specs.catalog_Contents.{Contents, index_at}
-use Rattle.eq_classes.specs.Clauses.{Clause, Set, Table}
+use Rattle.eq_classes.specs.Clauses.{Clause, Set, ClassTable}
 use Rattle.eq_classes.specs.Listing.{clause_at}
 use Rattle.index_match.specs.Numbered.{Numbered, conditions_of, has_number}
 use Rattle.index_match.specs.Conditions.{index_conditions}
@@ -38,7 +38,7 @@ part-conditions cs chosen ks e =
     let at : 0 + i ≡ i = omega arith in
     ap chosen at ∙ sym (below-and i (length ks) (chosen i) lt) ∙ sym (chosen_numbers chosen ks i) ∙ ap (λ xs. has_number xs i) e ∙ sym (ap (has_number cs) at))
 
-module _ (c : Contents) (t : Table) (i : IndexNo) (r : ℕ) (p : Set) where
+module _ (c : Contents) (t : ClassTable) (i : IndexNo) (r : ℕ) (p : Set) where
   abbrev all : ℕ → Bool
   all j = nat_lt j (length t.clauses) && is_found (index_at c i) r p (clause_at t.clauses j)
 

@@ -18,7 +18,7 @@ use Rattle.cost_rules.specs.declared.parameters.TheConstants.{MOST_COST}
 use Rattle.cost_rules.specs.Costs.{capped, capped_pair, pair}
 use Rattle.sql_query.specs.catalog_Range.{Range}
 use Rattle.cost_rules.specs.Scans.{bitmap_scan_cost}
-use Rattle.eq_classes.specs.Clauses.{Clause, Set, Table}
+use Rattle.eq_classes.specs.Clauses.{Clause, Set, ClassTable}
 use Rattle.index_match.specs.Arms.{arms_of, arm_parts, arm_bounds}
 use Rattle.eq_classes.proofs.ConditionLemmas.{listed_conds}
 use Rattle.index_match.specs.Numbered.{has_number}
@@ -193,7 +193,7 @@ pub or-bits : (n : ℕ) (is : Vec IndexNo Global) → bits (Or n is) ≡ some_ar
 or-bits n is = search (rules, the_lemmas, rolls-Or, fold-roll-BitTree, fold_out-BitTree, fold-roll-BitTrees, fold_out-BitTrees)
 
 -- a bitmap scan by the set of the clauses that its tree is found to use, and its part as it was cut
-pub bitmap-costs : (c : Contents) (range : Range) (t : Table) (r : ℕ) (p : Set) (chosen used : ℕ → Bool) (part exact : ℕ) → ((k : ℕ) → chosen k ≡ nat_lt k (length t.clauses) && used k) → part ≡ capped exact →
+pub bitmap-costs : (c : Contents) (range : Range) (t : ClassTable) (r : ℕ) (p : Set) (chosen used : ℕ → Bool) (part exact : ℕ) → ((k : ℕ) → chosen k ≡ nat_lt k (length t.clauses) && used k) → part ≡ capped exact →
     capped_pair (bitmap_cost c range t r p chosen part) ≡ capped_pair (bitmap_cost c range t r p used exact)
 bitmap-costs c range t r p chosen used part exact same cut =
     ap (λ n. capped_pair (bitmap_cost c range t r p chosen n)) cut

@@ -4,7 +4,7 @@ use Rattle.std.proofs.lemmas.Grind.{common_steps}
 use Rattle.pg_base.specs.declared.numbers.IndexNo.{IndexNo}
 use Rattle.pg_expr.specs.AtomSets.{contains}
 use Rattle.sql_query.specs.catalog_Contents.{Contents}
-use Rattle.eq_classes.specs.Clauses.{Set, Table}
+use Rattle.eq_classes.specs.Clauses.{Set, ClassTable}
 use Rattle.index_match.specs.Numbered.{has_number}
 use Rattle.index_match.specs.Conditions.{index_conditions}
 use Rattle.index_match.specs.Bounds.{index_bounds, index_tests}
@@ -12,7 +12,7 @@ use Rattle.index_match.proofs.PartLemmas.{conditions_local, in_either}
 use Rattle.pg_base.proofs.NumberLemmas.{test-below as inside}
 
 -- what is a bound or a test is a condition
-pub all-found : (c : Contents) (t : Table) (i : IndexNo) (r : ℕ) (p : Set) (bounds tests all : List ℕ) → ((n : ℕ) → contains bounds n ≡ has_number (index_bounds c t i r p) n) → ((n : ℕ) → contains tests n ≡ has_number (index_tests c t i r p) n) →
+pub all-found : (c : Contents) (t : ClassTable) (i : IndexNo) (r : ℕ) (p : Set) (bounds tests all : List ℕ) → ((n : ℕ) → contains bounds n ≡ has_number (index_bounds c t i r p) n) → ((n : ℕ) → contains tests n ≡ has_number (index_tests c t i r p) n) →
     ((n : ℕ) → contains all n ≡ nat_lt n (length t.clauses) && (contains bounds n || contains tests n)) → (n : ℕ) → contains all n ≡ has_number (index_conditions c t i r p) n
 all-found c t i r p bounds tests all g h e n =
     e n

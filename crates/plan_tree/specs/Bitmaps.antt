@@ -8,7 +8,7 @@ use Rattle.pg_expr.specs.Cond.{Cond, any_of, no_conds}
 use Rattle.pg_expr.specs.View as view
 use Rattle.sql_query.specs.catalog_Contents.{Contents, IsIndex, index_at, indexes_of}
 use Rattle.sql_query.specs.catalog_Range.{relation_at}
-use Rattle.eq_classes.specs.Clauses.{Set, Clause, Table}
+use Rattle.eq_classes.specs.Clauses.{Set, Clause, ClassTable}
 use Rattle.index_match.specs.Numbered.{Numbered, has_number, local}
 use Rattle.sql_query.specs.Queries.{Query}
 use Rattle.index_match.specs.Conditions.{index_conditions}
@@ -101,7 +101,7 @@ abbrev pub IsMatchedAt : Contents → Query → ℕ → ℕ → Type 0
 IsMatchedAt c q r n = IsMatchedOr c q r (condition_at q n)
 
 -- a set has the number of a clause
-abbrev pub HasNumber : Table → List ℕ → Type 0
+abbrev pub HasNumber : ClassTable → List ℕ → Type 0
 HasNumber t set = (n : ℕ) × (n < length t.clauses) × IsTrue (contains set n)
 
 module _ (c : Contents) (q : Query) (r : ℕ) (p : Set) where

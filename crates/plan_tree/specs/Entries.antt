@@ -24,9 +24,9 @@ abbrev pub cell : Values → ColNo → Value
 cell row n = slice_index_or row n.0 Null
 
 -- the predicate of an index, if it has one, is True at a row
-abbrev pub meets : Option Cond → Values → Bool
-meets None row = true
-meets (Some e) row = is_true (truth_at (λ (x : ColRef). cell row x.col) e)
+abbrev pub meets_predicate : Option Cond → Values → Bool
+meets_predicate None row = true
+meets_predicate (Some e) row = is_true (truth_at (λ (x : ColRef). cell row x.col) e)
 
 -- the entry of a row: its number, its key values, and the values that the index includes
 abbrev pub entry : Index → List Values → ℕ → Entry
@@ -43,7 +43,7 @@ ordered Hash ks es = es
 
 -- the entries of an index over the rows of its table: those of the rows at which its predicate is True
 abbrev pub entries_over : Index → List Values → List Entry
-entries_over d rows = ordered d.method d.keys (map (entry d rows) (filter (λ n. meets d.predicate (slice_index_or rows n [])) (range_with_len 0 (length rows))))
+entries_over d rows = ordered d.method d.keys (map (entry d rows) (filter (λ n. meets_predicate d.predicate (slice_index_or rows n [])) (range_with_len 0 (length rows))))
 
 -- the entries of an index of the catalogue over the rows that are stored of its table
 abbrev pub entries : World → IndexNo → List Entry

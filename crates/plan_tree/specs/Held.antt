@@ -5,7 +5,7 @@ use Rattle.pg_base.specs.declared.numbers.IndexNo.{IndexNo}
 use Rattle.pg_base.specs.declared.numbers.RelNo.{RelNo}
 use Rattle.pg_base.specs.declared.rel_set.RelSet.{RelSet}
 use Rattle.pg_expr.specs.AtomSets.{contains}
-use Rattle.eq_classes.specs.Clauses.{Table}
+use Rattle.eq_classes.specs.Clauses.{ClassTable}
 use Rattle.eq_classes.specs.Listing.{clause_at}
 use Rattle.eq_classes.specs.declared.classes.ClassNo.{ClassNo}
 use Rattle.cost_rules.specs.Costs as rules
@@ -25,11 +25,11 @@ use Rattle.plan_tree.specs.Plans.{bitmap, joins, set_of}
 use Rattle.plan_tree.specs.Views.{bits, bits_all, plan}
 
 -- a number is that of a clause, and of a bound or a test of an index
-abbrev pub is_of_match : Table → Match → ℕ → Bool
+abbrev pub is_of_match : ClassTable → Match → ℕ → Bool
 is_of_match t found k = nat_lt k (length t.clauses) && (contains found.bounds k || contains found.tests k)
 
 -- a number is that of a clause that a join of an outer plan with an inner one tests
-abbrev pub joins_at : Planned → Planned → Table → ℕ → Bool
+abbrev pub joins_at : Planned → Planned → ClassTable → ℕ → Bool
 joins_at outer inner t k = nat_lt k (length t.clauses) && joins (set_of (plan outer)) (plan inner) (clause_at t.clauses k)
 
 -- a number is in a set, or that of a condition of an index

@@ -35,5 +35,5 @@ abbrev pub IsMadeBefore : Query → ℕ → List (Bor Costed) → Path → Type 
 IsMadeBefore q n xs p = IsMadeAmong (width q) (take n (trees xs)) p p.tree
 
 -- the best entry of a table stands for this plan
-abbrev pub HasBestPlan : Query → Certificate → Plan → Type 0
-HasBestPlan q t p = finish_at q t t.best ≡ Some p
+abbrev pub HasBestEntryFor : Query → Certificate → Plan → Type 0
+HasBestEntryFor q t p = finish_at q t t.best ≡ Some p

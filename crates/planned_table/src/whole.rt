@@ -23,7 +23,7 @@ ghost use Rattle.certificate_laws.specs.Arms.{HasArmsInOrs};
 ghost use Rattle.certificate_laws.specs.Printing.{path_order, printing_order};
 ghost use Rattle.certificate_laws.specs.Searched.{AreOfFronts, IsSearched};
 ghost use Rattle.planned_table.specs.Gathering.{shown};
-ghost use Rattle.planned_table.specs.Numbering.{HasBestPlan};
+ghost use Rattle.planned_table.specs.Numbering.{HasBestEntryFor};
 
 use crate::gathering::gathered;
 use crate::making::certificate_of;
@@ -170,7 +170,7 @@ fn tabled_of(
     ensures limit { IfErr result (λ e. e ≡ CostLimit → HasNoPlan cat.now q.now) }
     ensures table { IfOk result (λ t. IsPlanTable cat.now q.now (certificate t.table)) }
     ensures unfolds { IfOk result (λ t.
-        HasBestPlan q.now (certificate t.table) (path t.best).tree) }
+        HasBestEntryFor q.now (certificate t.table) (path t.best).tree) }
     ensures ordered { IfOk result (λ t. IsInOrder printing_order (certificate t.table).entries) }
     ensures text { IfOk result (λ t.
         HasArmsInOrs q.now → HasText cat.now q.now (certificate t.table)) }
@@ -198,7 +198,7 @@ pub fn plan_with_table(alloc: Global, cat: &Catalog, q: &Prepared) -> Result<Tab
     ensures limit { IfErr result (λ e. e ≡ CostLimit → HasNoPlan cat.now q.now) }
     ensures table { IfOk result (λ t. IsPlanTable cat.now q.now (certificate t.table)) }
     ensures unfolds { IfOk result (λ t.
-        HasBestPlan q.now (certificate t.table) (path t.best).tree) }
+        HasBestEntryFor q.now (certificate t.table) (path t.best).tree) }
     ensures ordered { IfOk result (λ t. IsInOrder printing_order (certificate t.table).entries) }
     ensures text { IfOk result (λ t.
         HasArmsInOrs q.now → HasText cat.now q.now (certificate t.table)) }

@@ -16,7 +16,7 @@ use Rattle.sql_query.proofs.OrderLemmas.{own_directions, own_stands}
 use Rattle.query_reader.specs.Select.{IsBoundByItself}
 use Rattle.query_reader.specs.declared.written.Item.{Item}
 use Rattle.query_reader.specs.declared.written.Item.TheVariants.{Every, EveryOf, Bare, Qualified}
-use Rattle.expr_reader.specs.Scope.{Scope, Visible, columns_of, under, of_name, the_one, among, look_up}
+use Rattle.expr_reader.specs.Scope.{Scope, Visible, columns_in_scope, under, of_name, the_one, among, look_up}
 use Rattle.expr_reader.specs.declared.found.Found.{Found}
 use Rattle.expr_reader.specs.declared.found.Found.TheVariants.{One, NoTable, NoColumn, Many}
 use Rattle.query_reader.specs.From.{AreRelations}
@@ -31,7 +31,7 @@ use Rattle.pg_expr.specs.Cond.{Cond, conds_of}
 use Rattle.catalog.specs.Range.{type_in}
 use Rattle.eq_classes.specs.declared.order.OrderItem.{OrderItem}
 use Rattle.eq_classes.specs.Classes.{conjuncts_in}
-use Rattle.eq_classes.specs.Clauses.{Table}
+use Rattle.eq_classes.specs.Clauses.{ClassTable}
 use Rattle.eq_classes.specs.Holding.{IsClassTable as IsTableOf}
 use Rattle.eq_classes.proofs.HoldLemmas.{map_in}
 use Rattle.eq_classes.proofs.ListLemmas.{IsIn, all_at, all_from, contains_from_in, in_left, in_parts, in_right}
@@ -61,7 +61,7 @@ module _ (P : ColRef → Type 0) where
   holds-append [] ds h g = g
   holds-append (c ∷ cs) ds h g = (h.0, holds-append cs ds h.1 g)
 
-  columns-hold : (s : Scope) → HoldsIn s → Holds (columns_of s)
+  columns-hold : (s : Scope) → HoldsIn s → Holds (columns_in_scope s)
   columns-hold [] h = tt
   columns-hold (v ∷ s) h = (h.0, columns-hold s h.1)
 
@@ -150,19 +150,19 @@ module _ (c : Contents) where
       (cases_Bool (nat_lt (length range) first))
 
   -- each visible column is one of its relation's table
-  pub visible-columns : (range : Range) (first : ℕ) → All (λ r. IsLawfulTable (table_at c r.0)) range → All (IsColumnOf c range) (columns_of (scope_after c first range))
-  visible-columns range first lawful = holds-all (IsColumnOf c range) (columns_of (scope_after c first range)) (columns-hold (IsColumnOf c range) (scope_after c first range) (visible-hold range first lawful))
+  pub visible-columns : (range : Range) (first : ℕ) → All (λ r. IsLawfulTable (table_at c r.0)) range → All (IsColumnOf c range) (columns_in_scope (scope_after c first range))
+  visible-columns range first lawful = holds-all (IsColumnOf c range) (columns_in_scope (scope_after c first range)) (columns-hold (IsColumnOf c range) (scope_after c first range) (visible-hold range first lawful))
 
   pub all-seen : (range : Range) (first : ℕ) → All (λ r. IsLawfulTable (table_at c r.0)) range → All (λ (v : Visible). is_column_in c range v.column ≡ true) (scope_after c first range)
   all-seen range first lawful =
       let scope = scope_after c first range in
       all_from (λ (v : Visible). is_column_in c range v.column ≡ true) scope
-      (λ v i. all_at (λ (x : ColRef). is_column_in c range x ≡ true) (columns_of scope) (all-passing c range (columns_of scope) (visible-columns range first lawful)) v.column (map_in (λ (w : Visible). w.column) scope v i))
+      (λ v i. all_at (λ (x : ColRef). is_column_in c range x ≡ true) (columns_in_scope scope) (all-passing c range (columns_in_scope scope) (visible-columns range first lawful)) v.column (map_in (λ (w : Visible). w.column) scope v i))
 
 -- columns that are seen of relations as they are lent
 module _ (s : Sight) (c : Contents) (range : Range) (first : ℕ) (is : record { contents = c; range = range; first = first } ≡ s) (are : AreRelations c range) where
-  pub seen-column : (x : ColRef) → IsIn x (columns_of (visible_in s)) → IsColumnOf c range x
-  seen-column x i = all_at (IsColumnOf c range) (columns_of (scope_after c first range)) (visible-columns c range first are.lawful) x (subst (λ (y : Sight). IsIn x (columns_of (visible_in y))) (sym is) i)
+  pub seen-column : (x : ColRef) → IsIn x (columns_in_scope (visible_in s)) → IsColumnOf c range x
+  seen-column x i = all_at (IsColumnOf c range) (columns_in_scope (scope_after c first range)) (visible-columns c range first are.lawful) x (subst (λ (y : Sight). IsIn x (columns_in_scope (visible_in y))) (sym is) i)
 
   pub seen-relation : (x : ColRef) (d : TableNo × List ℕ) → x.rel.0 < length range → relation_at range x.rel ≡ get_or range x.rel.0 d
   seen-relation x d lt = get_or_default range x.rel.0 (record { 0 = 0 }, []) d lt
@@ -181,7 +181,7 @@ module _ (c : Contents) (range : Range) (are : AreRelations c range) where
       holds-all (IsColumnOf c range) cs (ok-holds (IsColumnOf c range) (list_columns (scope_of c range) items) cs (list-holds (IsColumnOf c range) (scope_of c range) items (visible-hold c range 0 are.lawful)) is)
 
   -- the query of columns that the list shows, of conjuncts and of an order over the relations, with their classes
-  pub well-bound : 0 < length range → (items : List Item) (cs : List ColRef) (ws : List Cond) (order : List OrderItem) (window : Option Window) (classes : Table) → list_columns (scope_of c range) items ≡ Ok cs →
+  pub well-bound : 0 < length range → (items : List Item) (cs : List ColRef) (ws : List Cond) (order : List OrderItem) (window : Option Window) (classes : ClassTable) → list_columns (scope_of c range) items ≡ Ok cs →
       All (IsOver c range) ws → All (λ (i : OrderItem). is_column_in c range i.col ≡ true) order → past_limit ws ≡ None → IsTableOf (record { conjuncts = conjuncts_in ws; order = order; type_of = type_in c range }) classes →
       All (λ r. IsName r.1) range → IsBoundByItself c (query_with classes (record { range = range; select = cs; where_all = ws; order = order; window = window }))
   well-bound some items cs ws order window classes shown over ordered kept is names =

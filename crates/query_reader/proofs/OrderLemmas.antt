@@ -17,7 +17,7 @@ use Rattle.sql_grammar.specs.Terminals.{Terminal, Ident, free, token_of, t_key, 
 use Rattle.sql_grammar.specs.Syntax.{Mark, Col, bare, qualified, Direction, no_direction, ascending, descending, NullsEnd, no_nulls_end, nulls_first, nulls_last, Ordering, ordering, OrderBy, no_order, order_by}
 use Rattle.sql_grammar.specs.Unique.{ends_operand}
 use Rattle.sql_grammar.specs.Words.{words_of_col, words_of_direction, words_of_nulls_end, words_of_ordering, words_of_orderings, words_of_order}
-use Rattle.expr_reader.specs.Lists.{parts_of, bound_each}
+use Rattle.expr_reader.specs.Lists.{further_parts, bound_each}
 use Rattle.expr_reader.specs.declared.cursor.Spelled.{Spelled}
 use Rattle.expr_reader.specs.Reading.{BeginsName, BeginsNot, spelled}
 use Rattle.expr_reader.specs.Sorts.{is_descending, has_nulls_first, ends_direction, ends_nulls_end}
@@ -150,7 +150,7 @@ module _ (bind : Ordering → Result OrderItem Fault) where
   pub record So (all : List Ordering) (items : List OrderItem) (left rest : List Terminal) : Type 0 where
     pub so : List Ordering
     pub ys : List (Mark × Ordering)
-    pub whole : all ≡ so ++ parts_of (λ x. x) ys
+    pub whole : all ≡ so ++ further_parts (λ x. x) ys
     pub read : bound_each bind so ≡ Ok items
     pub words : left ≡ words_of_orderings ys ++ rest
 
@@ -159,15 +159,15 @@ module _ (bind : Ordering → Result OrderItem Fault) where
     pub so : List Ordering
     pub y : Ordering
     pub ys : List (Mark × Ordering)
-    pub whole : all ≡ so ++ y ∷ parts_of (λ x. x) ys
+    pub whole : all ≡ so ++ y ∷ further_parts (λ x. x) ys
     pub read : bound_each bind so ≡ Ok items
     pub words : left ≡ words_of_ordering y ++ (words_of_orderings ys ++ rest)
 
-  abbrev pub first : (o : Ordering) (os : List (Mark × Ordering)) (rest left : List Terminal) → left ≡ words_of_ordering o ++ (words_of_orderings os ++ rest) → Next (o ∷ parts_of (λ x. x) os) [] left rest
+  abbrev pub first : (o : Ordering) (os : List (Mark × Ordering)) (rest left : List Terminal) → left ≡ words_of_ordering o ++ (words_of_orderings os ++ rest) → Next (o ∷ further_parts (λ x. x) os) [] left rest
   first o os rest left is = record { so = []; y = o; ys = os; whole = refl; read = refl; words = is }
 
   next-by : (all : List Ordering) (items : List OrderItem) (left new rest : List Terminal) (token : Token) (so : List Ordering) (ys : List (Mark × Ordering)) → ends_order rest ≡ true → left ≡ t_mark Comma token ∷ new →
-      all ≡ so ++ parts_of (λ x. x) ys → bound_each bind so ≡ Ok items → left ≡ words_of_orderings ys ++ rest → Next all items new rest
+      all ≡ so ++ further_parts (λ x. x) ys → bound_each bind so ≡ Ok items → left ≡ words_of_orderings ys ++ rest → Next all items new rest
   next-by all items left new rest token so [] ends is whole read e = let wrong = ap ends_order (sym is ∙ e) ∙ ends in absurd (cc (wrong))
   next-by all items left new rest token so ((c, y) ∷ ys) ends is whole read e =
       let after : t_mark Comma token ∷ new ≡ t_mark Comma c ∷ ((words_of_ordering y ++ words_of_orderings ys) ++ rest) = sym is ∙ e in
@@ -187,13 +187,13 @@ module _ (bind : Ordering → Result OrderItem Fault) where
   more all items now left new rest n b right is grown = record {
     so = n.so ++ n.y ∷ [];
     ys = n.ys;
-    whole = n.whole ∙ sym (append_assoc n.so (n.y ∷ []) (parts_of (λ x. x) n.ys));
+    whole = n.whole ∙ sym (append_assoc n.so (n.y ∷ []) (further_parts (λ x. x) n.ys));
     read = bound-ok bind n.so items _ b n.read right ∙ ap Ok (sym grown);
     words = is;
   }
 
   whole-by : (all : List Ordering) (items : List OrderItem) (left rest : List Terminal) (so : List Ordering) (ys : List (Mark × Ordering)) → BeginsNot (t_mark Comma) left →
-      all ≡ so ++ parts_of (λ x. x) ys → bound_each bind so ≡ Ok items → left ≡ words_of_orderings ys ++ rest → (bound_each bind all ≡ Ok items) × (left ≡ rest)
+      all ≡ so ++ further_parts (λ x. x) ys → bound_each bind so ≡ Ok items → left ≡ words_of_orderings ys ++ rest → (bound_each bind all ≡ Ok items) × (left ≡ rest)
   whole-by all items left rest so [] other whole read e = (ap (bound_each bind) (whole ∙ append-nil so) ∙ read, e)
   whole-by all items left rest so ((c, y) ∷ ys) other whole read e = absurd (other _ (c, e))
 
@@ -252,4 +252,4 @@ module _ (scope : Scope) (test : ColRef → Bool) (all : All (λ (v : Visible). 
 
   pub order-seen : (y : OrderBy) (items : List OrderItem) → order_items scope select y ≡ Ok items → All (λ i. P i.col) items
   order-seen no_order items is = let none : [] ≡ items = cc (is) in subst (All (λ i. P i.col)) none (All-nil (λ i. P i.col))
-  order-seen (order_by k b o os) items is = each-holds (order_item scope select) (λ i. P i.col) item-seen (o ∷ parts_of (λ x. x) os) items is
+  order-seen (order_by k b o os) items is = each-holds (order_item scope select) (λ i. P i.col) item-seen (o ∷ further_parts (λ x. x) os) items is

@@ -10,7 +10,7 @@ use Rattle.pg_expr.specs.Cond.{Cond}
 use Rattle.catalog.specs.Contents.{Contents}
 use Rattle.catalog.specs.Range.{Range, type_in}
 use Rattle.eq_classes.specs.declared.order.OrderItem.{OrderItem}
-use Rattle.eq_classes.specs.Clauses.{Table}
+use Rattle.eq_classes.specs.Clauses.{ClassTable}
 use Rattle.sql_lex.specs.declared.tokens.Token.{Token}
 use Rattle.sql_grammar.specs.Faults.{fault_at}
 use Rattle.sql_grammar.specs.Syntax.{Where, OrderBy, Window as WindowTree}
@@ -51,7 +51,7 @@ limit-by Says start (Some l) ws t h = absurd h
 pub within : {T : Type 0} (Says : List Cond → T → Type 0) (start : Token) (ws : List Cond) (t : T) → Conveys Says (limited start (past_limit ws) ws) (Ok t) → (past_limit ws ≡ None) × Says ws t
 within Says start ws t h = limit-by Says start (past_limit ws) ws t h
 
-pub same-query : (range other : Range) (classes : Table) (select columns used : List ColRef) (order items : List OrderItem) (ws all : List Cond) (window : Option Window) → range ≡ other → select ≡ columns → order ≡ items →
+pub same-query : (range other : Range) (classes : ClassTable) (select columns used : List ColRef) (order items : List OrderItem) (ws all : List Cond) (window : Option Window) → range ≡ other → select ≡ columns → order ≡ items →
     used ≡ named_in columns all items → ws ≡ all →
     query_with classes (record { range = other; select = columns; where_all = all; order = items; window = window }) ≡
     record { range = range; classes = classes; select = select; order = order; used = used; where_all = ws; window = window }

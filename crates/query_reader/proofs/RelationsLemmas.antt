@@ -17,7 +17,7 @@ use Rattle.catalog.specs.Range.{Range, aliases, relation_at}
 use Rattle.catalog.specs.Tables.{column_named}
 use Rattle.eq_classes.specs.Equality.{is_column}
 use Rattle.sql_lex.specs.declared.tokens.Token.{Token}
-use Rattle.expr_reader.specs.Scope.{Scope, Visible, columns_of, under, of_name, the_one, among, look_up}
+use Rattle.expr_reader.specs.Scope.{Scope, Visible, columns_in_scope, under, of_name, the_one, among, look_up}
 use Rattle.expr_reader.specs.declared.found.Found.{Found}
 use Rattle.expr_reader.specs.declared.found.Found.TheVariants.{One, NoTable, NoColumn, Many}
 use Rattle.query_reader.specs.Binding.{found_relation}
@@ -41,12 +41,12 @@ none-there [] is = refl
 none-there (v ∷ []) is = absurd (cc (is))
 none-there (v ∷ w ∷ s) is = absurd (cc (is))
 
-pub one-there : (s : Scope) (x : ColRef) → the_one s ≡ One x → columns_of s ≡ x ∷ []
+pub one-there : (s : Scope) (x : ColRef) → the_one s ≡ One x → columns_in_scope s ≡ x ∷ []
 one-there [] x is = absurd (cc (is))
 one-there (v ∷ []) x is = let same : v.column ≡ x = cc (is) in ap (λ c. c ∷ []) same
 one-there (v ∷ w ∷ s) x is = absurd (cc (is))
 
-pub the-one-there : (s : Scope) (x : ColRef) → columns_of s ≡ x ∷ [] → the_one s ≡ One x
+pub the-one-there : (s : Scope) (x : ColRef) → columns_in_scope s ≡ x ∷ [] → the_one s ≡ One x
 the-one-there [] x is = absurd (cc (is))
 the-one-there (v ∷ []) x is = let same : v.column ≡ x = cc (is) in ap One same
 the-one-there (v ∷ w ∷ s) x is = absurd (cc (is))
@@ -63,11 +63,11 @@ abbrev pub after : Found → List ColRef → Found
 after f [] = f
 after f (x ∷ xs) = after (also f x) xs
 
-many-after : (s : Scope) → Many ≡ after Many (columns_of s)
+many-after : (s : Scope) → Many ≡ after Many (columns_in_scope s)
 many-after [] = refl
 many-after (v ∷ s) = many-after s
 
-pub after-none : (s : Scope) → after NoColumn (columns_of s) ≡ the_one s
+pub after-none : (s : Scope) → after NoColumn (columns_in_scope s) ≡ the_one s
 after-none [] = refl
 after-none (v ∷ []) = refl
 after-none (v ∷ w ∷ s) = sym (many-after s)
@@ -84,22 +84,22 @@ relations-end c range k le = ap (relations_from c k) (nil_from_length (drop k ra
 module _ (pick : Scope → Scope) (parts : (xs ys : Scope) → pick (xs ++ ys) ≡ pick xs ++ pick ys) (empty : pick [] ≡ []) (s : Sight) where
   -- those still to be looked at
   abbrev pub left : ℕ → List ColRef
-  left k = columns_of (pick (relations_from s.contents k (drop k s.range)))
+  left k = columns_in_scope (pick (relations_from s.contents k (drop k s.range)))
 
-  parted : (k : ℕ) → k < length s.range → left k ≡ columns_of (pick (own_columns s k)) ++ left (k + 1)
+  parted : (k : ℕ) → k < length s.range → left k ≡ columns_in_scope (pick (own_columns s k)) ++ left (k + 1)
   parted k lt =
-      ap (λ x. columns_of (pick x)) (relations-more s.contents s.range k (record { 0 = 0 }, []) lt) ∙
-      (ap columns_of (parts (own_columns s k) (relations_from s.contents (k + 1) (drop (k + 1) s.range))) ∙
+      ap (λ x. columns_in_scope (pick x)) (relations-more s.contents s.range k (record { 0 = 0 }, []) lt) ∙
+      (ap columns_in_scope (parts (own_columns s k) (relations_from s.contents (k + 1) (drop (k + 1) s.range))) ∙
       map-append (λ (v : Visible). v.column) (pick (own_columns s k)) (pick (relations_from s.contents (k + 1) (drop (k + 1) s.range))))
 
   pub none-more : (k : ℕ) (f : Found) (whole : Found) → k < length s.range → pick (own_columns s k) ≡ [] → after f (left k) ≡ whole → after f (left (k + 1)) ≡ whole
-  none-more k f whole lt none so = sym (ap (after f) (parted k lt ∙ ap (λ x. columns_of x ++ left (k + 1)) none)) ∙ so
+  none-more k f whole lt none so = sym (ap (after f) (parted k lt ∙ ap (λ x. columns_in_scope x ++ left (k + 1)) none)) ∙ so
 
-  pub one-more : (k : ℕ) (f g : Found) (x : ColRef) (whole : Found) → k < length s.range → columns_of (pick (own_columns s k)) ≡ x ∷ [] → g ≡ also f x → after f (left k) ≡ whole → after g (left (k + 1)) ≡ whole
+  pub one-more : (k : ℕ) (f g : Found) (x : ColRef) (whole : Found) → k < length s.range → columns_in_scope (pick (own_columns s k)) ≡ x ∷ [] → g ≡ also f x → after f (left k) ≡ whole → after g (left (k + 1)) ≡ whole
   one-more k f g x whole lt one is so = ap (λ h. after h (left (k + 1))) is ∙ (sym (ap (after f) (parted k lt ∙ ap (λ xs. xs ++ left (k + 1)) one)) ∙ so)
 
   pub no-more : (k : ℕ) (f whole : Found) → length s.range ≤ k → after f (left k) ≡ whole → f ≡ whole
-  no-more k f whole le so = sym (ap (λ x. after f (columns_of (pick x))) (relations-end s.contents s.range k le) ∙ ap (λ x. after f (columns_of x)) empty) ∙ so
+  no-more k f whole le so = sym (ap (λ x. after f (columns_in_scope (pick x))) (relations-end s.contents s.range k le) ∙ ap (λ x. after f (columns_in_scope x)) empty) ∙ so
 
 pub name-parts : (name : List ℕ) (xs ys : Scope) → of_name name (xs ++ ys) ≡ of_name name xs ++ of_name name ys
 name-parts name xs ys = filter-append (λ v. bytes_eq name v.name) xs ys
@@ -112,20 +112,20 @@ shown-parts select name xs ys =
 pub shown-none : (select : List ColRef) (name : List ℕ) (s : Scope) → of_name name s ≡ [] → shown_of_name s select name ≡ []
 shown-none select name s none = ap (filter (λ v. list_any (is_column v.column) select)) none
 
-shown-by : (select : List ColRef) (xs : Scope) (x : ColRef) → columns_of xs ≡ x ∷ [] → list_any (is_column x) select ≡ true → columns_of (filter (λ v. list_any (is_column v.column) select) xs) ≡ x ∷ []
+shown-by : (select : List ColRef) (xs : Scope) (x : ColRef) → columns_in_scope xs ≡ x ∷ [] → list_any (is_column x) select ≡ true → columns_in_scope (filter (λ v. list_any (is_column v.column) select) xs) ≡ x ∷ []
 shown-by select [] x is shows = absurd (cc (is))
 shown-by select (v ∷ []) x is shows = let same : v.column ≡ x = cc (is) in rw (ap (λ c. list_any (is_column c) select) same ∙ shows) is
 shown-by select (v ∷ w ∷ xs) x is shows = absurd (cc (is))
 
-hidden-by : (select : List ColRef) (xs : Scope) (x : ColRef) → columns_of xs ≡ x ∷ [] → list_any (is_column x) select ≡ false → filter (λ v. list_any (is_column v.column) select) xs ≡ []
+hidden-by : (select : List ColRef) (xs : Scope) (x : ColRef) → columns_in_scope xs ≡ x ∷ [] → list_any (is_column x) select ≡ false → filter (λ v. list_any (is_column v.column) select) xs ≡ []
 hidden-by select [] x is hides = absurd (cc (is))
 hidden-by select (v ∷ []) x is hides = let same : v.column ≡ x = cc (is) in rw (ap (λ c. list_any (is_column c) select) same ∙ hides) refl
 hidden-by select (v ∷ w ∷ xs) x is hides = absurd (cc (is))
 
-pub shown-one : (select : List ColRef) (name : List ℕ) (s : Scope) (x : ColRef) → columns_of (of_name name s) ≡ x ∷ [] → list_any (is_column x) select ≡ true → columns_of (shown_of_name s select name) ≡ x ∷ []
+pub shown-one : (select : List ColRef) (name : List ℕ) (s : Scope) (x : ColRef) → columns_in_scope (of_name name s) ≡ x ∷ [] → list_any (is_column x) select ≡ true → columns_in_scope (shown_of_name s select name) ≡ x ∷ []
 shown-one select name s x is shows = shown-by select (of_name name s) x is shows
 
-pub hidden-one : (select : List ColRef) (name : List ℕ) (s : Scope) (x : ColRef) → columns_of (of_name name s) ≡ x ∷ [] → list_any (is_column x) select ≡ false → shown_of_name s select name ≡ []
+pub hidden-one : (select : List ColRef) (name : List ℕ) (s : Scope) (x : ColRef) → columns_in_scope (of_name name s) ≡ x ∷ [] → list_any (is_column x) select ≡ false → shown_of_name s select name ≡ []
 hidden-one select name s x is hides = hidden-by select (of_name name s) x is hides
 
 -- what is found first
@@ -197,7 +197,7 @@ filled s k are lt =
     let lawful : IsLawfulTable (table_at s.contents (relation_at s.range (record { 0 = k })).0) = are.lawful k (record { 0 = 0 }, []) lt in
     filled-names (relation_at s.range (record { 0 = k })).1 (record { 0 = k }) (table_at s.contents (relation_at s.range (record { 0 = k })).0).names (omega (arith, lawful.some, lawful.width))
 
-pub all-there : (scope : Scope) (q : Token) → Filled scope → found_relation scope q ≡ Ok (columns_of scope)
+pub all-there : (scope : Scope) (q : Token) → Filled scope → found_relation scope q ≡ Ok (columns_in_scope scope)
 all-there scope q f = rw f.is refl
 
 among-there : (scope : Scope) (name : List ℕ) → Filled scope → among name scope ≡ the_one (of_name name scope)
@@ -212,11 +212,11 @@ under-one scope own q name f is full found = sym found ∙ (sym (among-there own
 
 -- columns of a table, added one by one
 pub column-more : (alias : List ℕ) (rel : RelNo) (names : List (List ℕ)) (k : ℕ) → k < length names →
-    columns_of (columns_from alias rel k (drop k names)) ≡ record { rel = rel; col = record { 0 = k } } ∷ columns_of (columns_from alias rel (k + 1) (drop (k + 1) names))
-column-more alias rel names k lt = ap (λ ns. columns_of (columns_from alias rel k ns)) (drop_more names k [] lt)
+    columns_in_scope (columns_from alias rel k (drop k names)) ≡ record { rel = rel; col = record { 0 = k } } ∷ columns_in_scope (columns_from alias rel (k + 1) (drop (k + 1) names))
+column-more alias rel names k lt = ap (λ ns. columns_in_scope (columns_from alias rel k ns)) (drop_more names k [] lt)
 
-pub column-end : (alias : List ℕ) (rel : RelNo) (names : List (List ℕ)) (k : ℕ) → length names ≤ k → columns_of (columns_from alias rel k (drop k names)) ≡ []
-column-end alias rel names k le = ap (λ ns. columns_of (columns_from alias rel k ns)) (nil_from_length (drop k names) (omega (arith, length-drop k names)))
+pub column-end : (alias : List ℕ) (rel : RelNo) (names : List (List ℕ)) (k : ℕ) → length names ≤ k → columns_in_scope (columns_from alias rel k (drop k names)) ≡ []
+column-end alias rel names k le = ap (λ ns. columns_in_scope (columns_from alias rel k ns)) (nil_from_length (drop k names) (omega (arith, length-drop k names)))
 
 pub column-added : (old now : List ColRef) (x : ColRef) (more rest whole : List ColRef) → now ≡ old ++ x ∷ [] → more ≡ x ∷ rest → old ++ more ≡ whole → now ++ rest ≡ whole
 column-added old now x more rest whole grown is so = rw (grown, append_assoc) (ap (λ l. old ++ l) (sym is) ∙ so)
@@ -225,16 +225,16 @@ pub columns-done : (now rest whole : List ColRef) → rest ≡ [] → now ++ res
 columns-done now rest whole none so = sym (append-nil now) ∙ (ap (λ l. now ++ l) (sym none) ∙ so)
 
 -- the columns of the relations from one on, added relation by relation
-pub relation-added : (s : Sight) (k : ℕ) (old now whole : List ColRef) → k < length s.range → now ≡ old ++ columns_of (own_columns s k) →
-    old ++ columns_of (relations_from s.contents k (drop k s.range)) ≡ whole → now ++ columns_of (relations_from s.contents (k + 1) (drop (k + 1) s.range)) ≡ whole
+pub relation-added : (s : Sight) (k : ℕ) (old now whole : List ColRef) → k < length s.range → now ≡ old ++ columns_in_scope (own_columns s k) →
+    old ++ columns_in_scope (relations_from s.contents k (drop k s.range)) ≡ whole → now ++ columns_in_scope (relations_from s.contents (k + 1) (drop (k + 1) s.range)) ≡ whole
 relation-added s k old now whole lt grown so =
     let later = relations_from s.contents (k + 1) (drop (k + 1) s.range) in
-    ap (λ l. l ++ columns_of later) grown ∙ (append_assoc old (columns_of (own_columns s k)) (columns_of later) ∙
+    ap (λ l. l ++ columns_in_scope later) grown ∙ (append_assoc old (columns_in_scope (own_columns s k)) (columns_in_scope later) ∙
     (ap (λ l. old ++ l) (sym (map-append (λ (v : Visible). v.column) (own_columns s k) later) ∙
-    sym (ap columns_of (relations-more s.contents s.range k (record { 0 = 0 }, []) lt))) ∙ so))
+    sym (ap columns_in_scope (relations-more s.contents s.range k (record { 0 = 0 }, []) lt))) ∙ so))
 
-pub relations-done : (s : Sight) (k : ℕ) (now whole : List ColRef) → length s.range ≤ k → now ++ columns_of (relations_from s.contents k (drop k s.range)) ≡ whole → now ≡ whole
-relations-done s k now whole le so = columns-done now (columns_of (relations_from s.contents k (drop k s.range))) whole (ap columns_of (relations-end s.contents s.range k le)) so
+pub relations-done : (s : Sight) (k : ℕ) (now whole : List ColRef) → length s.range ≤ k → now ++ columns_in_scope (relations_from s.contents k (drop k s.range)) ≡ whole → now ≡ whole
+relations-done s k now whole le so = columns-done now (columns_in_scope (relations_from s.contents k (drop k s.range))) whole (ap columns_in_scope (relations-end s.contents s.range k le)) so
 
 -- relations as they are lent, and what contracts see of them
 module _ (s : Sight) (c : Contents) (range : Range) (first : ℕ) (is : record { contents = c; range = range; first = first } ≡ s) (are : AreRelations c range) where
@@ -265,7 +265,7 @@ module _ (s : Sight) (c : Contents) (range : Range) (first : ℕ) (is : record {
   pub unnamed : (k : ℕ) (d : TableNo × List ℕ) → k < length range → (name : List ℕ) → column_named c (get_or range k d).0 name ≡ None → of_name name (own_columns s k) ≡ []
   unnamed k d lt name none = none-there (of_name name (own_columns s k)) (named-at k d lt name ∙ ap (found_number (record { 0 = k })) none)
 
-  pub named-so : (k : ℕ) (d : TableNo × List ℕ) → k < length range → (name : List ℕ) (col : ColNo) → column_named c (get_or range k d).0 name ≡ Some col → columns_of (of_name name (own_columns s k)) ≡ record { rel = record { 0 = k }; col = col } ∷ []
+  pub named-so : (k : ℕ) (d : TableNo × List ℕ) → k < length range → (name : List ℕ) (col : ColNo) → column_named c (get_or range k d).0 name ≡ Some col → columns_in_scope (of_name name (own_columns s k)) ≡ record { rel = record { 0 = k }; col = col } ∷ []
   named-so k d lt name col one = one-there (of_name name (own_columns s k)) (record { rel = record { 0 = k }; col = col }) (named-at k d lt name ∙ ap (found_number (record { 0 = k })) one)
 
   alias-at : (q bytes : List ℕ) (b : Bool) (k : ℕ) (d : TableNo × List ℕ) → k < length range → bytes ≡ (get_or range k d).1 → b ≡ bytes_eq q bytes → bytes_eq q (relation_at s.range (record { 0 = k })).1 ≡ b

@@ -14,7 +14,7 @@ use Rattle.pg_expr.specs.Cond.{Cond, conds_of}
 use Rattle.catalog.specs.Contents.{Contents}
 use Rattle.catalog.specs.Range.{Range, type_in}
 use Rattle.eq_classes.specs.Classes.{Premises, conjuncts_in}
-use Rattle.eq_classes.specs.Clauses.{Table}
+use Rattle.eq_classes.specs.Clauses.{ClassTable}
 use Rattle.eq_classes.specs.declared.order.OrderItem.{OrderItem}
 use Rattle.sql_lex.specs.declared.tokens.Token.{Token}
 use Rattle.sql_grammar.specs.Faults.{fault_at}
@@ -22,7 +22,7 @@ use Rattle.sql_grammar.specs.FromParts.{groups_after}
 use Rattle.sql_grammar.specs.Syntax.{Group, Where, no_where, where_expr, select_from, OrderBy, Window as WindowTree, WindowedSelect, windowed_select, OrderedSelect, ordered_select}
 use Rattle.expr_reader.specs.declared.cursor.Spelled.{Spelled}
 use Rattle.expr_reader.specs.Conditions.{next, the_column}
-use Rattle.expr_reader.specs.Scope.{Scope, columns_of, look_up, under}
+use Rattle.expr_reader.specs.Scope.{Scope, columns_in_scope, look_up, under}
 use Rattle.sql_query.specs.Queries.{Query}
 use Rattle.sql_query.specs.declared.window.Window.{Window}
 use Rattle.query_reader.specs.declared.written.Item.{Item}
@@ -48,7 +48,7 @@ abbrev pub named_in : List ColRef → List Cond → List OrderItem → List ColR
 named_in select conjuncts order = select ++ (columns_in_all (conds_of conjuncts) ++ map (λ i. i.col) order)
 
 -- the query with these classes
-abbrev pub query_with : Table → Bound → Query
+abbrev pub query_with : ClassTable → Bound → Query
 query_with classes b = record {
   range = b.range;
   classes = classes;
@@ -66,7 +66,7 @@ alone c = Ok (c ∷ [])
 -- the columns under an alias: there is one at least
 abbrev pub found_relation : Scope → Token → Result (List ColRef) Fault
 found_relation [] qualifier = Err (fault_at S2 qualifier)
-found_relation (v ∷ scope) qualifier = Ok (columns_of (v ∷ scope))
+found_relation (v ∷ scope) qualifier = Ok (columns_in_scope (v ∷ scope))
 
 -- the columns under an alias that was read
 abbrev pub columns_under : Scope → Spelled → Result (List ColRef) Fault
@@ -74,7 +74,7 @@ columns_under scope qualifier = found_relation (under qualifier.bytes scope) qua
 
 -- the columns that an item shows
 abbrev pub item_columns : Scope → Item → Result (List ColRef) Fault
-item_columns scope Every = Ok (columns_of scope)
+item_columns scope Every = Ok (columns_in_scope scope)
 item_columns scope (EveryOf q) = found_relation (under q.bytes scope) q.token
 item_columns scope (Bare n) = next (the_column (look_up scope None n.bytes) n.token n.token) alone
 item_columns scope (Qualified q n) = next (the_column (look_up scope (Some q.bytes) n.bytes) q.token n.token) alone

@@ -9,7 +9,7 @@ use Rattle.eq_classes.specs.declared.order.OrderItem.{OrderItem}
 use Rattle.sql_grammar.specs.Terminals.{token_of}
 use Rattle.sql_grammar.specs.Faults.{bytes_of}
 use Rattle.sql_grammar.specs.Syntax.{Col, bare, qualified, Ordering, ordering, OrderBy, no_order, order_by}
-use Rattle.expr_reader.specs.Lists.{parts_of, bound_each}
+use Rattle.expr_reader.specs.Lists.{further_parts, bound_each}
 use Rattle.expr_reader.specs.Sorts.{is_descending, has_nulls_first}
 use Rattle.expr_reader.specs.declared.found.Found.{Found}
 use Rattle.expr_reader.specs.Conditions.{next, the_column, column_of}
@@ -41,4 +41,4 @@ order_item scope select (ordering c d z) =
 -- the items from the left
 abbrev pub order_items : Scope → List ColRef → OrderBy → Result (List OrderItem) Fault
 order_items scope select no_order = Ok []
-order_items scope select (order_by _ _ o os) = bound_each (order_item scope select) (o ∷ parts_of (λ x. x) os)
+order_items scope select (order_by _ _ o os) = bound_each (order_item scope select) (o ∷ further_parts (λ x. x) os)

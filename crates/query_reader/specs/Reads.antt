@@ -13,7 +13,7 @@ use Rattle.sql_grammar.specs.Syntax.{Mark, Output, Group, Where, OrderBy, Window
 use Rattle.sql_grammar.specs.Unique.{ends_expr, ends_operand}
 use Rattle.sql_grammar.specs.Words.{words_of_col, words_of_expr, words_of_group, words_of_groups, words_of_order, words_of_ordering, words_of_orderings, words_of_output, words_of_outputs, words_of_where, words_of_window}
 use Rattle.expr_reader.specs.declared.cursor.Spelled.{Spelled}
-use Rattle.expr_reader.specs.Lists.{parts_of, bound_each}
+use Rattle.expr_reader.specs.Lists.{further_parts, bound_each}
 use Rattle.expr_reader.specs.Reading.{IfFirst, IfListed, spelled}
 use Rattle.expr_reader.specs.Reads.{Reads}
 use Rattle.expr_reader.specs.Scope.{Scope}
@@ -91,7 +91,7 @@ ReadsOrdering scope select old read left =
 abbrev pub ReadsOrderings : Scope → List ColRef → List Terminal → Result (Vec OrderItem Global) Refusal → List Terminal → Type 0
 ReadsOrderings scope select old read left =
     IfListed words_of_ordering words_of_orderings ends_order old (λ o os rest.
-    Reads (λ (v : Vec OrderItem Global). v.items) (bound_each (order_item scope select) (o ∷ parts_of
+    Reads (λ (v : Vec OrderItem Global). v.items) (bound_each (order_item scope select) (o ∷ further_parts
         (λ x. x) os)) rest read left)
 
 -- the items of ORDER BY, or none where it is left out

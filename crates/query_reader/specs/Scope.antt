@@ -8,7 +8,7 @@ use Rattle.pg_value.specs.declared.value.SqlType.{SqlType}
 use Rattle.catalog.specs.Range.{Range, relation_at, type_in}
 use Rattle.expr_reader.specs.declared.found.Found.{Found}
 use Rattle.expr_reader.specs.declared.found.Found.TheVariants.{One, NoColumn, Many}
-use Rattle.expr_reader.specs.Scope.{Scope, columns_of, under}
+use Rattle.expr_reader.specs.Scope.{Scope, columns_in_scope, under}
 use Rattle.path_cost.specs.Columns.{IsOver, is_column_in}
 
 -- the columns of a relation that have these names, from column k on
@@ -55,8 +55,8 @@ abbrev pub types_in : Sight → ColRef → SqlType
 types_in s = type_in s.contents s.range
 
 -- these conditions are over those relations
-abbrev pub AreOver : Sight → List Cond → Type 0
-AreOver s conditions = All (IsOver s.contents s.range) conditions
+abbrev pub AreConditionsOver : Sight → List Cond → Type 0
+AreConditionsOver s conditions = All (IsOver s.contents s.range) conditions
 
 -- a column is one of those relations
 abbrev pub IsSeenColumn : Sight → ColRef → Type 0
@@ -68,8 +68,8 @@ IsRelationUnder alias s k = (k < length s.range) × (under alias (visible_in s) 
 
 -- the one column of these, where there is one; there is no second one
 abbrev pub IsOnlyColumn : Scope → Option ColRef → Type 0
-IsOnlyColumn scope found = MatchOption found (scope ≡ []) (λ c. columns_of scope ≡ c ∷ [])
+IsOnlyColumn scope found = MatchOption found (scope ≡ []) (λ c. columns_in_scope scope ≡ c ∷ [])
 
 -- the columns, by their numbers from 0 on, of the relation of a number, which have these names
 abbrev pub numbered_columns : List ℕ → ℕ → List (List ℕ) → List ColRef
-numbered_columns alias k names = columns_of (columns_from alias (record { 0 = k }) 0 names)
+numbered_columns alias k names = columns_in_scope (columns_from alias (record { 0 = k }) 0 names)

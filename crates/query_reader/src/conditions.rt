@@ -9,7 +9,7 @@ ghost use Rattle.sql_grammar.specs.Unique.{ends_expr};
 ghost use Rattle.sql_grammar.specs.Words.{words_of_expr, words_of_where};
 ghost use Rattle.query_reader.specs.Binding.{limited, past_limit, premises_of};
 ghost use Rattle.query_reader.specs.Ends.{ends_where};
-ghost use Rattle.query_reader.specs.Scope.{visible_in, types_in, AreOver, IsSeenColumn};
+ghost use Rattle.query_reader.specs.Scope.{visible_in, types_in, AreConditionsOver, IsSeenColumn};
 ghost use Rattle.query_reader.specs.Conveys.{Conveys};
 ghost use Rattle.expr_reader.specs.Reading.{StandsFirst};
 ghost use Rattle.query_reader.specs.Reads.{ReadsConjuncts, ReadsWhere};
@@ -32,7 +32,7 @@ pub fn conjuncts_next(
     requires { StandsFirst words_of_expr ends_expr from.old }
     ensures read { ReadsConjuncts (visible_in relations.now) (types_in relations.now)
         from.old result from.new }
-    ensures over { IfOk result (λ es. AreOver relations.now (map cond es.items.items)) }
+    ensures over { IfOk result (λ es. AreConditionsOver relations.now (map cond es.items.items)) }
     ensures ahead { length from.new ≤ length from.old }
 {
     relations.see_their_columns();
@@ -49,7 +49,7 @@ pub fn written_conjuncts(
     requires { StandsFirst words_of_where ends_where from.old }
     ensures read { ReadsWhere (visible_in relations.now) (types_in relations.now)
         from.old result from.new }
-    ensures over { IfOk result (λ es. AreOver relations.now (map cond es.items.items)) }
+    ensures over { IfOk result (λ es. AreConditionsOver relations.now (map cond es.items.items)) }
 {
     if !from.takes(Word::Where) {
         return Ok(Exprs::from_vec(Vec::new(alloc)));
@@ -103,7 +103,7 @@ pub fn classes_within(
     order: &[OrderItem],
     start: Token,
 ) -> Result<Classes, Refusal>
-    requires over { AreOver relations.now (map cond written.now) }
+    requires over { AreConditionsOver relations.now (map cond written.now) }
     requires order { All (λ (i : OrderItem). IsSeenColumn relations.now i.col) order.now }
     requires few { length relations.now.range ≤ 16 }
     ensures { Conveys (λ ws t. IsClassTable (premises_of relations.now order.now ws) t)

@@ -5,7 +5,7 @@ ghost use Rattle.std.specs.List.{list_any};
 ghost use Rattle.catalog.specs.Contents.{IsTable, IsLawfulTable, table_at};
 ghost use Rattle.eq_classes.specs.Equality.{is_column as is_same_column};
 ghost use Rattle.path_cost.specs.Columns.{is_column_in};
-ghost use Rattle.expr_reader.specs.Scope.{Visible, columns_of, look_up, of_name, the_one, under};
+ghost use Rattle.expr_reader.specs.Scope.{Visible, columns_in_scope, look_up, of_name, the_one, under};
 ghost use Rattle.query_reader.specs.Adds.{Adds};
 ghost use Rattle.query_reader.specs.From.{AreRelations};
 ghost use Rattle.query_reader.specs.Order.{shown_of_name, ordered_name};
@@ -243,7 +243,7 @@ impl<'a> Relations<'a> {
     /// Adds every column of a relation.
     fn add_relation(&self, number: usize, all: &mut Vec<ColRef>) -> Result<(), Refusal>
         requires { number < length self.now.range }
-        ensures { Adds (Ok (columns_of (own_columns self.now number)))
+        ensures { Adds (Ok (columns_in_scope (own_columns self.now number)))
             all.old.items all.new.items result }
     {
         add_columns(self.cat, self.range[number].0, number as u8, all)
@@ -251,7 +251,7 @@ impl<'a> Relations<'a> {
 
     /// Adds every visible column.
     pub fn add_all(&self, all: &mut Vec<ColRef>) -> Result<(), Refusal>
-        ensures { Adds (Ok (columns_of (visible_in self.now))) all.old.items all.new.items result }
+        ensures { Adds (Ok (columns_in_scope (visible_in self.now))) all.old.items all.new.items result }
     {
         for number in self.first..self.range.len() {
             self.add_relation(number, all)?;

@@ -43,7 +43,7 @@ use Rattle.sql_query.specs.WellBound.{given_with}
 use Rattle.sql_query.specs.Worlds.{World, world}
 use Rattle.plan_tree.specs.Bitmaps.{IsIndexOn}
 use Rattle.plan_tree.specs.Entries.{entries}
-use Rattle.plan_tree.specs.Run.{clauses_at, conditions, directed}
+use Rattle.plan_tree.specs.Run.{clauses_at, conditions, in_scan_direction}
 use Rattle.store.specs.Kept.{Kept}
 use Rattle.scan_probes.specs.Scenes.{AreReadyAtRow}
 use Rattle.scan_probes.specs.Values.{Given, key_columns}
@@ -81,7 +81,7 @@ pub in_directed : (b : Bool) (e : Entry) (es : List Entry) → IsIn e (in_direct
 in_directed true e es i = in_reverse e es i
 in_directed false e es i = i
 
-pub directed_rows : (w : World) (q : Query) (b : Bool) (es : List Entry) → directed w q b (map (λ (e : Entry). e.row) es) ≡ map (λ (e : Entry). e.row) (in_direction b es)
+pub directed_rows : (w : World) (q : Query) (b : Bool) (es : List Entry) → in_scan_direction w q b (map (λ (e : Entry). e.row) es) ≡ map (λ (e : Entry). e.row) (in_direction b es)
 directed_rows w q true es = reverse_of_map (λ (e : Entry). e.row) es
 directed_rows w q false es = refl
 
@@ -155,9 +155,9 @@ module _ (c : Contents) (k : Kept) (q : Query) (r : RelNo) (p : RelSet) (outer :
     in_part : (b : Bool) (e : Entry) → IsIn e (part b) → IsEntryAt d rows e
     in_part b e j = at_entries c k q r p outer given at i on e (in_filter passes (entries w i) e (in_directed b e (filter passes (entries w i)) j)).0
 
-    bounded_are : (b : Bool) → directed w q b (bounded w q r i p o) ≡ map (λ (e : Entry). e.row) (part b)
+    bounded_are : (b : Bool) → in_scan_direction w q b (bounded w q r i p o) ≡ map (λ (e : Entry). e.row) (part b)
     bounded_are b =
-        ap (directed w q b)
+        ap (in_scan_direction w q b)
         (filter_of_map (λ (n : ℕ). all_true w q (beside q r.0 n o) (conditions_of (index_bounds c q.classes i r.0 (has p.0)))) (λ (e : Entry). e.row) (entries w i)
         ∙ ap (map (λ (e : Entry). e.row)) (filter_in_same (λ (e : Entry). all_true w q (beside q r.0 e.row o) (conditions_of (index_bounds c q.classes i r.0 (has p.0)))) passes (entries w i)
         (λ e j. sym (limits_are _ (λ n. (clause_at q.classes.clauses n).cond) d r.0 (index_conditions c q.classes i r.0 (has p.0)) (by_number c q r p i)))))
@@ -185,7 +185,7 @@ module _ (c : Contents) (k : Kept) (q : Query) (r : RelNo) (p : RelSet) (outer :
           row = ready_at c k q r p outer given at e.row here.within (clauses_at w q r p) (clauses_near c k q r p outer given at);
         })
 
-    pub index_are : (b : Bool) → map (entry_at r.0 given es (clauses_at w q r p) d rows) (part b) ≡ map (entry_row w q r i false p o) (directed w q b (bounded w q r i p o))
+    pub index_are : (b : Bool) → map (entry_at r.0 given es (clauses_at w q r p) d rows) (part b) ≡ map (entry_row w q r i false p o) (in_scan_direction w q b (bounded w q r i p o))
     index_are b =
         map_in_same (entry_at r.0 given es (clauses_at w q r p) d rows) (λ e. entry_row w q r i false p o e.row) (part b) (λ e j. entry_is e (in_part b e j))
         ∙ sym (map-map (entry_row w q r i false p o) (λ (e : Entry). e.row) (part b))
@@ -198,10 +198,10 @@ module _ (c : Contents) (k : Kept) (q : Query) (r : RelNo) (p : RelSet) (outer :
           subst (All (IsReadyEntry c' s' r'.0 given ts' cls' d' rows')) (sym ie)
           (moved_index (λ a l e f h t y. All (IsReadyEntry a l e.0 given t f y h) (part b)) c c' q.range s' r r' (clauses_at w q r p) cls' rows rows' es ts' d d' ce se re ee we te de (index_ready b))
 
-      pub index_begun : map (entry_at r'.0 given ts' cls' d' rows') cursor ≡ map (entry_row w q r i false p o) (directed w q b (bounded w q r i p o))
+      pub index_begun : map (entry_at r'.0 given ts' cls' d' rows') cursor ≡ map (entry_row w q r i false p o) (in_scan_direction w q b (bounded w q r i p o))
       index_begun =
           ap (map (entry_at r'.0 given ts' cls' d' rows')) ie
-          ∙ moved_index (λ a l e f h t y. map (entry_at e.0 given t f y h) (part b) ≡ map (entry_row w q r i false p o) (directed w q b (bounded w q r i p o)))
+          ∙ moved_index (λ a l e f h t y. map (entry_at e.0 given t f y h) (part b) ≡ map (entry_row w q r i false p o) (in_scan_direction w q b (bounded w q r i p o)))
           c c' q.range s' r r' (clauses_at w q r p) cls' rows rows' es ts' d d' ce se re ee we te de (index_are b)
 
     -- an index-only scan of it, where it holds each column of the relation that is named
@@ -247,7 +247,7 @@ module _ (c : Contents) (k : Kept) (q : Query) (r : RelNo) (p : RelSet) (outer :
             clauses = ready_entry c k q r p outer given at d columns (lawful c k q r p outer given at i on contents) e here (clauses_at w q r p) clauses_held;
           })
 
-      pub only_are : (b : Bool) → map (covered_at r.0 given es (clauses_at w q r p) d) (part b) ≡ map (entry_row w q r i true p o) (directed w q b (bounded w q r i p o))
+      pub only_are : (b : Bool) → map (covered_at r.0 given es (clauses_at w q r p) d) (part b) ≡ map (entry_row w q r i true p o) (in_scan_direction w q b (bounded w q r i p o))
       only_are b =
           map_in_same (covered_at r.0 given es (clauses_at w q r p) d) (λ e. entry_row w q r i true p o e.row) (part b) (λ e j. cover_is e (in_part b e j))
           ∙ sym (map-map (entry_row w q r i true p o) (λ (e : Entry). e.row) (part b))
@@ -259,8 +259,8 @@ module _ (c : Contents) (k : Kept) (q : Query) (r : RelNo) (p : RelSet) (outer :
             subst (All (IsReadyCover c' s' r'.0 given ts' cls' d')) (sym ie)
             (moved_index (λ a l e f h t y. All (IsReadyCover a l e.0 given t f y) (part b)) c c' q.range s' r r' (clauses_at w q r p) cls' rows rows es ts' d d' ce se re ee refl te de (only_ready b))
 
-        pub only_begun : map (covered_at r'.0 given ts' cls' d') cursor ≡ map (entry_row w q r i true p o) (directed w q b (bounded w q r i p o))
+        pub only_begun : map (covered_at r'.0 given ts' cls' d') cursor ≡ map (entry_row w q r i true p o) (in_scan_direction w q b (bounded w q r i p o))
         only_begun =
             ap (map (covered_at r'.0 given ts' cls' d')) ie
-            ∙ moved_index (λ a l e f h t y. map (covered_at e.0 given t f y) (part b) ≡ map (entry_row w q r i true p o) (directed w q b (bounded w q r i p o)))
+            ∙ moved_index (λ a l e f h t y. map (covered_at e.0 given t f y) (part b) ≡ map (entry_row w q r i true p o) (in_scan_direction w q b (bounded w q r i p o)))
             c c' q.range s' r r' (clauses_at w q r p) cls' rows rows es ts' d d' ce se re ee refl te de (only_are b)

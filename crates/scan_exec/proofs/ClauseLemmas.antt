@@ -1,7 +1,7 @@
 -- Clauses chosen by their numbers are those of the relation, and those with its parameterisation.
 use Rattle.std.proofs.Common.{◌≡◌, ◌+◌, ℕ, Bool, true, false, ◌&&◌, ◌||◌, nat_lt, length, refl, sym, ap, ap₂, ◌∙◌, arith}
 use Rattle.std.proofs.lemmas.Bool.{lt-ltb}
-use Rattle.eq_classes.specs.Clauses.{Clause, Set, Table}
+use Rattle.eq_classes.specs.Clauses.{Clause, Set, ClassTable}
 use Rattle.eq_classes.specs.Listing.{clause_at}
 use Rattle.eq_classes.specs.Parts.{is_base, is_param}
 use Rattle.index_match.specs.Numbered.{conditions_of, local, those}
@@ -11,7 +11,7 @@ use Rattle.path_cost.specs.Estimates.{conditions_from}
 use Rattle.path_cost.proofs.KeptLemmas.{where-from}
 use Rattle.scan_probes.proofs.PickedLemmas.{chosen-are as chosen_are}
 
-pub both_are : (t u : Table) → u ≡ t → (r : ℕ) (p : Set) (end : ℕ) → end ≡ length u.clauses → (own with both : ℕ → Bool)
+pub both_are : (t u : ClassTable) → u ≡ t → (r : ℕ) (p : Set) (end : ℕ) → end ≡ length u.clauses → (own with both : ℕ → Bool)
     → ((k : ℕ) → own k ≡ nat_lt k (length u.clauses) && is_base r (clause_at u.clauses k))
     → ((k : ℕ) → with k ≡ nat_lt k (length u.clauses) && is_param r p (clause_at u.clauses k))
     → ((k : ℕ) → both k ≡ nat_lt k end && (own k || with k))

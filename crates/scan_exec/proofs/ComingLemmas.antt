@@ -21,19 +21,19 @@ use Rattle.sql_query.specs.Meaning.{all_true}
 use Rattle.plan_tree.specs.Counts.{entries_met, fetches, given_looks, index_looks, looks}
 use Rattle.plan_tree.specs.Entries.{entry_rows}
 use Rattle.plan_tree.specs.Plans.{Plan, seq, index, index_only, bitmap, sort, nest, merge}
-use Rattle.plan_tree.specs.Run.{at_which, clauses_at, conditions, directed, held, met, run}
+use Rattle.plan_tree.specs.Run.{at_which, clauses_at, conditions, in_scan_direction, held, met, run}
 use Rattle.plan_tree.specs.Space.{IsBuilt}
-use Rattle.scan_exec.specs.Coming.{Coming, allowed, bounded, coming, entry_row, fetched_row, index_coming, left, owed}
+use Rattle.scan_exec.specs.Coming.{Coming, looks_allowed, bounded, coming, entry_row, fetched_row, index_coming, rows_to_come, owed}
 use Rattle.scan_exec.specs.Plans.{IsScan, param_set, relation_of}
 use Rattle.plan_laws.proofs.ScanLemmas.{all_filtered as part_true}
 
 -- rows by a test of each
 module _ {A : Type 0} (f : A → Coming) where
-  left_of : (row : A → ℕ) (test : A → Bool) → ((x : A) → (f x).row ≡ row x) → ((x : A) → (f x).given ≡ test x) → (xs : List A) → left (map f xs) ≡ map row (filter test xs)
+  left_of : (row : A → ℕ) (test : A → Bool) → ((x : A) → (f x).row ≡ row x) → ((x : A) → (f x).given ≡ test x) → (xs : List A) → rows_to_come (map f xs) ≡ map row (filter test xs)
   left_of row test rows tests [] = refl
   left_of row test rows tests (x ∷ xs) = by (f x).given (test x) (tests x) (left_of row test rows tests xs)
     where
-      by : (a b : Bool) → a ≡ b → left (map f xs) ≡ map row (filter test xs) → map (λ (c : Coming). c.row) (cond a (f x ∷ filter (λ (c : Coming). c.given) (map f xs)) (filter (λ (c : Coming). c.given) (map f xs))) ≡ map row (cond b (x ∷ filter test xs) (filter test xs))
+      by : (a b : Bool) → a ≡ b → rows_to_come (map f xs) ≡ map row (filter test xs) → map (λ (c : Coming). c.row) (cond a (f x ∷ filter (λ (c : Coming). c.given) (map f xs)) (filter (λ (c : Coming). c.given) (map f xs))) ≡ map row (cond b (x ∷ filter test xs) (filter test xs))
       by true true e later = ap₂ (λ (n : ℕ) (l : List ℕ). n ∷ l) (rows x) later
       by true false e later = absurd (true≢false e)
       by false true e later = absurd (true≢false (sym e))
@@ -97,11 +97,11 @@ filter-reverse p (x ∷ xs) =
     by false later = append-nil _ ∙ later
 
 module _ (w : World) (q : Query) where
-  filter_directed : (p : ℕ → Bool) (b : Bool) (xs : List ℕ) → filter p (directed w q b xs) ≡ directed w q b (filter p xs)
+  filter_directed : (p : ℕ → Bool) (b : Bool) (xs : List ℕ) → filter p (in_scan_direction w q b xs) ≡ in_scan_direction w q b (filter p xs)
   filter_directed p false xs = refl
   filter_directed p true xs = filter-reverse p xs
 
-  length_directed : (b : Bool) (xs : List ℕ) → length (directed w q b xs) ≡ length xs
+  length_directed : (b : Bool) (xs : List ℕ) → length (in_scan_direction w q b xs) ≡ length xs
   length_directed false xs = refl
   length_directed true xs = length-reverse xs
 
@@ -109,13 +109,13 @@ module _ (w : World) (q : Query) where
     abbrev passes : ℕ → Bool
     passes n = all_true w q (beside q r.0 n o) es
 
-    fetched_left : (ns : List ℕ) → left (map (fetched_row w q r o es) ns) ≡ at_which w q r o es ns
+    fetched_left : (ns : List ℕ) → rows_to_come (map (fetched_row w q r o es) ns) ≡ at_which w q r o es ns
     fetched_left ns = left_of (fetched_row w q r o es) (λ n. n) passes (λ n. refl) (λ n. refl) ns ∙ map_same (filter passes ns)
 
     fetched_owed : (ns : List ℕ) → owed (map (fetched_row w q r o es) ns) ≡ length ns
     fetched_owed ns = counted_of (fetched_row w q r o es) (λ (c : Coming). c.fetched) (λ n. true) (λ n. refl) ns ∙ ap length (filter_all ns)
 
-    pub fetched_allowed : (ns : List ℕ) → allowed (map (fetched_row w q r o es) ns) ≡ 0
+    pub fetched_allowed : (ns : List ℕ) → looks_allowed (map (fetched_row w q r o es) ns) ≡ 0
     fetched_allowed ns = counted_of (fetched_row w q r o es) (λ (c : Coming). c.looked) (λ n. false) (λ n. refl) ns ∙ ap length (filter_none ns)
 
   module _ (r : RelNo) (i : IndexNo) (only : Bool) (p : RelSet) (o : Tuple) where
@@ -133,37 +133,37 @@ module _ (w : World) (q : Query) where
         (λ n h. part_true _ (is_among (bounding (index_at w.contents i).method r.0 (index_at w.contents i).keys (index_conditions w.contents q.classes i r.0 (has p.0)))) (index_conditions w.contents q.classes i r.0 (has p.0)) h)
         (entry_rows w i)
 
-    entry_left : (b : Bool) → left (map (entry_row w q r i only p o) (directed w q b (bounded w q r i p o))) ≡ at_which w q r o (clauses_at w q r p) (directed w q b (met w q r i p o))
+    entry_left : (b : Bool) → rows_to_come (map (entry_row w q r i only p o) (in_scan_direction w q b (bounded w q r i p o))) ≡ at_which w q r o (clauses_at w q r p) (in_scan_direction w q b (met w q r i p o))
     entry_left b =
-        left_of (entry_row w q r i only p o) (λ n. n) (λ n. meet n && hold n) (λ n. refl) (λ n. refl) (directed w q b (bounded w q r i p o))
-        ∙ map_same (filter (λ n. meet n && hold n) (directed w q b (bounded w q r i p o)))
-        ∙ filter_both meet hold (directed w q b (bounded w q r i p o))
-        ∙ ap (filter hold) (filter_directed meet b (bounded w q r i p o) ∙ ap (directed w q b) met_of)
+        left_of (entry_row w q r i only p o) (λ n. n) (λ n. meet n && hold n) (λ n. refl) (λ n. refl) (in_scan_direction w q b (bounded w q r i p o))
+        ∙ map_same (filter (λ n. meet n && hold n) (in_scan_direction w q b (bounded w q r i p o)))
+        ∙ filter_both meet hold (in_scan_direction w q b (bounded w q r i p o))
+        ∙ ap (filter hold) (filter_directed meet b (bounded w q r i p o) ∙ ap (in_scan_direction w q b) met_of)
 
-    entry_allowed : (b : Bool) → allowed (map (entry_row w q r i only p o) (directed w q b (bounded w q r i p o))) ≡ length (bounded w q r i p o)
+    entry_allowed : (b : Bool) → looks_allowed (map (entry_row w q r i only p o) (in_scan_direction w q b (bounded w q r i p o))) ≡ length (bounded w q r i p o)
     entry_allowed b =
-        counted_of (entry_row w q r i only p o) (λ (c : Coming). c.looked) (λ n. true) (λ n. refl) (directed w q b (bounded w q r i p o))
-        ∙ ap length (filter_all (directed w q b (bounded w q r i p o))) ∙ length_directed b (bounded w q r i p o)
+        counted_of (entry_row w q r i only p o) (λ (c : Coming). c.looked) (λ n. true) (λ n. refl) (in_scan_direction w q b (bounded w q r i p o))
+        ∙ ap length (filter_all (in_scan_direction w q b (bounded w q r i p o))) ∙ length_directed b (bounded w q r i p o)
 
-  entry_owed : (r : RelNo) (i : IndexNo) (p : RelSet) (o : Tuple) (b : Bool) → owed (map (entry_row w q r i false p o) (directed w q b (bounded w q r i p o))) ≡ length (met w q r i p o)
+  entry_owed : (r : RelNo) (i : IndexNo) (p : RelSet) (o : Tuple) (b : Bool) → owed (map (entry_row w q r i false p o) (in_scan_direction w q b (bounded w q r i p o))) ≡ length (met w q r i p o)
   entry_owed r i p o b =
-      counted_of (entry_row w q r i false p o) (λ (c : Coming). c.fetched) (meet r i false p o) (λ n. refl) (directed w q b (bounded w q r i p o))
+      counted_of (entry_row w q r i false p o) (λ (c : Coming). c.fetched) (meet r i false p o) (λ n. refl) (in_scan_direction w q b (bounded w q r i p o))
       ∙ ap length (filter_directed (meet r i false p o) b (bounded w q r i p o)) ∙ length_directed b (filter (meet r i false p o) (bounded w q r i p o)) ∙ ap length (met_of r i false p o)
 
-  only_owed : (r : RelNo) (i : IndexNo) (p : RelSet) (o : Tuple) (b : Bool) → owed (map (entry_row w q r i true p o) (directed w q b (bounded w q r i p o))) ≡ 0
+  only_owed : (r : RelNo) (i : IndexNo) (p : RelSet) (o : Tuple) (b : Bool) → owed (map (entry_row w q r i true p o) (in_scan_direction w q b (bounded w q r i p o))) ≡ 0
   only_owed r i p o b =
-      counted_of (entry_row w q r i true p o) (λ (c : Coming). c.fetched) (λ n. false) (λ n. refl) (directed w q b (bounded w q r i p o))
-      ∙ ap length (filter_none (directed w q b (bounded w q r i p o)))
+      counted_of (entry_row w q r i true p o) (λ (c : Coming). c.fetched) (λ n. false) (λ n. refl) (in_scan_direction w q b (bounded w q r i p o))
+      ∙ ap length (filter_none (in_scan_direction w q b (bounded w q r i p o)))
 
-  index_left : (r : RelNo) (i : IndexNo) (b : Bool) (p : RelSet) (o : Tuple) (m : Method) → left (index_coming w q m r i b p o) ≡ at_which w q r o (clauses_at w q r p) (directed w q b (met w q r i p o))
+  index_left : (r : RelNo) (i : IndexNo) (b : Bool) (p : RelSet) (o : Tuple) (m : Method) → rows_to_come (index_coming w q m r i b p o) ≡ at_which w q r o (clauses_at w q r p) (in_scan_direction w q b (met w q r i p o))
   index_left r i b p o Btree = entry_left r i false p o b
-  index_left r i b p o Hash = fetched_left r (clauses_at w q r p) o (directed w q b (met w q r i p o))
+  index_left r i b p o Hash = fetched_left r (clauses_at w q r p) o (in_scan_direction w q b (met w q r i p o))
 
   index_owed : (r : RelNo) (i : IndexNo) (b : Bool) (p : RelSet) (o : Tuple) (m : Method) → owed (index_coming w q m r i b p o) ≡ length (met w q r i p o)
   index_owed r i b p o Btree = entry_owed r i p o b
-  index_owed r i b p o Hash = fetched_owed r (clauses_at w q r p) o (directed w q b (met w q r i p o)) ∙ length_directed b (met w q r i p o)
+  index_owed r i b p o Hash = fetched_owed r (clauses_at w q r p) o (in_scan_direction w q b (met w q r i p o)) ∙ length_directed b (met w q r i p o)
 
-  pub given_rows : (p : Plan) (o : Tuple) → IsScan p → map (one_row q (relation_of p).0) (left (coming w q p o)) ≡ run w q p o
+  pub given_rows : (p : Plan) (o : Tuple) → IsScan p → map (one_row q (relation_of p).0) (rows_to_come (coming w q p o)) ≡ run w q p o
   given_rows (seq r) o is = ap (map (one_row q r.0)) (fetched_left r (conditions_of (base q.classes r.0)) o (row_numbers w q r))
   given_rows (index r i b p) o is = ap (map (one_row q r.0)) (index_left r i b p o (index_at w.contents i).method)
   given_rows (index_only r i b p) o is = ap (map (one_row q r.0)) (entry_left r i true p o b)
@@ -181,19 +181,19 @@ module _ (w : World) (q : Query) where
   fetched_rows (nest outer inner) o is = absurd is
   fetched_rows (merge keys outer inner) o is = absurd is
 
-  index_allowed : (r : RelNo) (i : IndexNo) (b : Bool) (p : RelSet) (o : Tuple) (m : Method) → allowed (index_coming w q m r i b p o) ≡ entries_met w q m r i o (conditions_of (index_bounds w.contents q.classes i r.0 (has p.0)))
+  index_allowed : (r : RelNo) (i : IndexNo) (b : Bool) (p : RelSet) (o : Tuple) (m : Method) → looks_allowed (index_coming w q m r i b p o) ≡ entries_met w q m r i o (conditions_of (index_bounds w.contents q.classes i r.0 (has p.0)))
   index_allowed r i b p o Btree = entry_allowed r i false p o b
-  index_allowed r i b p o Hash = fetched_allowed r (clauses_at w q r p) o (directed w q b (met w q r i p o))
+  index_allowed r i b p o Hash = fetched_allowed r (clauses_at w q r p) o (in_scan_direction w q b (met w q r i p o))
 
   is_tree : (m : Method) → is_hash m ≡ false → m ≡ Btree
   is_tree Btree h = refl
   is_tree Hash h = absurd (true≢false h)
 
-  pub looked_rows : (p : Plan) (o : Tuple) → IsScan p → IsBuilt w.contents q p → allowed (coming w q p o) + given_looks w q (param_set p) ≤ looks w q p o
+  pub looked_rows : (p : Plan) (o : Tuple) → IsScan p → IsBuilt w.contents q p → looks_allowed (coming w q p o) + given_looks w q (param_set p) ≤ looks w q p o
   looked_rows (seq r) o is built = let none = fetched_allowed r (conditions_of (base q.classes r.0)) o (row_numbers w q r) in omega (arith, none)
   looked_rows (index r i b p) o is built = let e = index_allowed r i b p o (index_at w.contents i).method in omega (arith, e)
   looked_rows (index_only r i b p) o is built =
-      let e : allowed (coming w q (index_only r i b p) o) ≡ index_looks w q r i p o =
+      let e : looks_allowed (coming w q (index_only r i b p) o) ≡ index_looks w q r i p o =
       entry_allowed r i true p o b ∙ sym (ap (λ (m : Method). entries_met w q m r i o (conditions_of (index_bounds w.contents q.classes i r.0 (has p.0)))) (is_tree (index_at w.contents i).method built.ordered)) in
       omega (arith, e)
   looked_rows (bitmap r p bits) o is built = let none = fetched_allowed r (clauses_at w q r p) o (held w q r p bits o) in omega (arith, none)

@@ -17,18 +17,18 @@ use Rattle.sql_query.specs.Worlds.{World}
 use Rattle.plan_tree.specs.Counts.{fetches}
 use Rattle.plan_tree.specs.Plans.{Plan}
 use Rattle.plan_tree.specs.Run.{run}
-use Rattle.scan_exec.specs.Coming.{Coming, allowed, behind, coming, is_given, left, owed}
+use Rattle.scan_exec.specs.Coming.{Coming, looks_allowed, behind, coming, is_given, rows_to_come, owed}
 use Rattle.scan_exec.specs.Plans.{IsScan, relation_of}
 use Rattle.scan_exec.proofs.ComingLemmas.{fetched_rows, given_rows}
 
 -- the first that is given, and those behind
-pub left_split : (cs : List Coming) (n : ℕ) → Some n ≡ option_map (λ (c : Coming). c.row) (find is_given cs) → left cs ≡ n ∷ left (behind is_given cs)
+pub left_split : (cs : List Coming) (n : ℕ) → Some n ≡ option_map (λ (c : Coming). c.row) (find is_given cs) → rows_to_come cs ≡ n ∷ rows_to_come (behind is_given cs)
 left_split [] n e = absurd (none-some n (sym e))
 left_split (c ∷ cs) n e = by c.given e (left_split cs n)
   where
-    by : (b : Bool) → Some n ≡ option_map (λ (x : Coming). x.row) (cond b (Some c) (find is_given cs)) → (Some n ≡ option_map (λ (x : Coming). x.row) (find is_given cs) → left cs ≡ n ∷ left (behind is_given cs))
-        → map (λ (x : Coming). x.row) (cond b (c ∷ filter is_given cs) (filter is_given cs)) ≡ n ∷ left (cond b cs (behind is_given cs))
-    by true h later = let same : n ≡ c.row = cc in ap (λ (m : ℕ). m ∷ left cs) (sym same)
+    by : (b : Bool) → Some n ≡ option_map (λ (x : Coming). x.row) (cond b (Some c) (find is_given cs)) → (Some n ≡ option_map (λ (x : Coming). x.row) (find is_given cs) → rows_to_come cs ≡ n ∷ rows_to_come (behind is_given cs))
+        → map (λ (x : Coming). x.row) (cond b (c ∷ filter is_given cs) (filter is_given cs)) ≡ n ∷ rows_to_come (cond b cs (behind is_given cs))
+    by true h later = let same : n ≡ c.row = cc in ap (λ (m : ℕ). m ∷ rows_to_come cs) (sym same)
     by false h later = later h
 
 pub behind_short : (cs : List Coming) (n : ℕ) → Some n ≡ option_map (λ (c : Coming). c.row) (find is_given cs) → length (behind is_given cs) < length cs
@@ -40,11 +40,11 @@ behind_short (c ∷ cs) n e = by c.given e (behind_short cs n)
     by true h later = let long : length (c ∷ cs) ≡ length cs + 1 = omega arith in omega (arith, long)
     by false h later = let lt = later h in let long : length (c ∷ cs) ≡ length cs + 1 = omega arith in omega (arith, lt, long)
 
-pub left_none : (cs : List Coming) → None ≡ option_map (λ (c : Coming). c.row) (find is_given cs) → left cs ≡ []
+pub left_none : (cs : List Coming) → None ≡ option_map (λ (c : Coming). c.row) (find is_given cs) → rows_to_come cs ≡ []
 left_none [] e = refl
 left_none (c ∷ cs) e = by c.given e (left_none cs)
   where
-    by : (b : Bool) → None ≡ option_map (λ (x : Coming). x.row) (cond b (Some c) (find is_given cs)) → (None ≡ option_map (λ (x : Coming). x.row) (find is_given cs) → left cs ≡ [])
+    by : (b : Bool) → None ≡ option_map (λ (x : Coming). x.row) (cond b (Some c) (find is_given cs)) → (None ≡ option_map (λ (x : Coming). x.row) (find is_given cs) → rows_to_come cs ≡ [])
         → map (λ (x : Coming). x.row) (cond b (c ∷ filter is_given cs) (filter is_given cs)) ≡ []
     by true h later = absurd (none-some c.row h)
     by false h later = later h
@@ -88,30 +88,30 @@ module _ (set : ℕ → Bool) (r : ℕ) (one : (k : ℕ) → set k ≡ nat_eq k 
 -- the tuples put down, those still to come, and the counters
 pub record IsDraining (q : Query) (r : ℕ) (set : RelSet) (all : List Tuple) (fetches looks : ℕ) (ts : TupleList) (rows : List Coming) (f g : ℕ) : Type 0 where
   pub set_is : ts.set ≡ set
-  pub tuples : padded_tuples (width q) ts ++ map (one_row q r) (left rows) ≡ all
+  pub tuples : padded_tuples (width q) ts ++ map (one_row q r) (rows_to_come rows) ≡ all
   pub fetched : f + owed rows ≡ fetches
-  pub looked : g + allowed rows ≤ looks
+  pub looked : g + looks_allowed rows ≤ looks
 
 module _ (q : Query) (r : ℕ) (set : RelSet) (one : (k : ℕ) → has set.0 k ≡ nat_eq k r) (all : List Tuple) (fetches looks : ℕ) where
-  pub drain_begins : (ts : TupleList) (rows : List Coming) (f g : ℕ) → ts ≡ record { set = set; rows = [] } → map (one_row q r) (left rows) ≡ all → f + owed rows ≡ fetches → g + allowed rows ≤ looks
+  pub drain_begins : (ts : TupleList) (rows : List Coming) (f g : ℕ) → ts ≡ record { set = set; rows = [] } → map (one_row q r) (rows_to_come rows) ≡ all → f + owed rows ≡ fetches → g + looks_allowed rows ≤ looks
       → IsDraining q r set all fetches looks ts rows f g
   drain_begins ts rows f g is same fe le = record {
     set_is = ap (λ (x : TupleList). x.set) is;
-    tuples = ap (λ (x : TupleList). padded_tuples (width q) x ++ map (one_row q r) (left rows)) is ∙ same;
+    tuples = ap (λ (x : TupleList). padded_tuples (width q) x ++ map (one_row q r) (rows_to_come rows)) is ∙ same;
     fetched = fe;
     looked = le;
   }
 
-  module _ (ts : TupleList) (rows rest : List Coming) (f g f' g' : ℕ) (is : IsDraining q r set all fetches looks ts rows f g) (be : rest ≡ behind is_given rows) (fe : f' + owed rest ≡ f + owed rows) (ge : g' + allowed rest ≡ g + allowed rows) where
+  module _ (ts : TupleList) (rows rest : List Coming) (f g f' g' : ℕ) (is : IsDraining q r set all fetches looks ts rows f g) (be : rest ≡ behind is_given rows) (fe : f' + owed rest ≡ f + owed rows) (ge : g' + looks_allowed rest ≡ g + looks_allowed rows) where
     pub drain_on : (t : Tid) → Some t.0 ≡ option_map (λ (c : Coming). c.row) (find is_given rows) → (more : TupleList) → more ≡ record { set = ts.set; rows = ts.rows ++ (t ∷ []) ∷ [] } → IsDraining q r set all fetches looks more rest f' g'
     drain_on t found more added = record {
       set_is = ap (λ (x : TupleList). x.set) added ∙ is.set_is;
       tuples =
-          ap (λ (x : TupleList). padded_tuples (width q) x ++ map (one_row q r) (left rest)) added
-          ∙ ap (λ (l : List Tuple). l ++ map (one_row q r) (left rest)) (map-append (padded (width q) (has ts.set.0)) ts.rows ((t ∷ []) ∷ []))
-          ∙ append_assoc (padded_tuples (width q) ts) (padded (width q) (has ts.set.0) (t ∷ []) ∷ []) (map (one_row q r) (left rest))
-          ∙ ap (λ (x : Tuple). padded_tuples (width q) ts ++ x ∷ map (one_row q r) (left rest)) (ap (λ (x : RelSet). padded (width q) (has x.0) (t ∷ [])) is.set_is ∙ padded_one (has set.0) r one q t)
-          ∙ ap (λ (l : List ℕ). padded_tuples (width q) ts ++ map (one_row q r) l) (ap (λ (l : List Coming). t.0 ∷ left l) be ∙ sym (left_split rows t.0 found))
+          ap (λ (x : TupleList). padded_tuples (width q) x ++ map (one_row q r) (rows_to_come rest)) added
+          ∙ ap (λ (l : List Tuple). l ++ map (one_row q r) (rows_to_come rest)) (map-append (padded (width q) (has ts.set.0)) ts.rows ((t ∷ []) ∷ []))
+          ∙ append_assoc (padded_tuples (width q) ts) (padded (width q) (has ts.set.0) (t ∷ []) ∷ []) (map (one_row q r) (rows_to_come rest))
+          ∙ ap (λ (x : Tuple). padded_tuples (width q) ts ++ x ∷ map (one_row q r) (rows_to_come rest)) (ap (λ (x : RelSet). padded (width q) (has x.0) (t ∷ [])) is.set_is ∙ padded_one (has set.0) r one q t)
+          ∙ ap (λ (l : List ℕ). padded_tuples (width q) ts ++ map (one_row q r) l) (ap (λ (l : List Coming). t.0 ∷ rows_to_come l) be ∙ sym (left_split rows t.0 found))
           ∙ is.tuples;
       fetched = fe ∙ is.fetched;
       looked = let e = is.looked in omega (arith, e, ge);
@@ -148,8 +148,8 @@ one_long set r n one below few now is t =
 
 -- a scan of a plan
 module _ (w : World) (q : Query) (p : Plan) (o : Tuple) (scan : IsScan p) (rows : List Coming) (is : rows ≡ coming w q p o) where
-  pub rows_run : map (one_row q (relation_of p).0) (left rows) ≡ run w q p o
-  rows_run = ap (λ (l : List Coming). map (one_row q (relation_of p).0) (left l)) is ∙ given_rows w q p o scan
+  pub rows_run : map (one_row q (relation_of p).0) (rows_to_come rows) ≡ run w q p o
+  rows_run = ap (λ (l : List Coming). map (one_row q (relation_of p).0) (rows_to_come l)) is ∙ given_rows w q p o scan
 
   pub rows_owed : (f : ℕ) → f + owed rows ≡ f + fetches w q p o
   rows_owed f = ap (λ (n : ℕ). f + n) (ap owed is ∙ fetched_rows w q p o scan)

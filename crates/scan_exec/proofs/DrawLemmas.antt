@@ -1,13 +1,13 @@
 -- A list drawn from up to the first row that is given, and what was counted on the way.
 use Rattle.std.proofs.Common.{◌≡◌, ◌+◌, ℕ, Bool, true, false, cond, List, ◌∷◌, length, filter, find, Some, refl, sym, ap, ◌∙◌, arith}
-use Rattle.scan_exec.specs.Coming.{Coming, allowed, behind, is_given, owed}
+use Rattle.scan_exec.specs.Coming.{Coming, looks_allowed, behind, is_given, owed}
 
 -- from one list on to a later part of it, with no row given between; and the counters before and after
 pub record IsOnward (old now : List Coming) (f g s t : ℕ) : Type 0 where
   pub first : find is_given now ≡ find is_given old
   pub rest : behind is_given now ≡ behind is_given old
   pub fetched : g + owed now ≡ f + owed old
-  pub looked : t + allowed now ≡ s + allowed old
+  pub looked : t + looks_allowed now ≡ s + looks_allowed old
 
 pub onward_here : (old : List Coming) (f s : ℕ) → IsOnward old old f f s s
 onward_here old f s = record { first = refl; rest = refl; fetched = refl; looked = refl }
@@ -24,7 +24,7 @@ module _ (old now : List Coming) (c : Coming) (f g s t : ℕ) (is : IsOnward old
   pub fetched_on : g + (cond c.fetched 1 0 + owed now) ≡ f + owed old
   fetched_on = ap (λ (n : ℕ). g + n) (sym (counted c.fetched c (filter (λ (x : Coming). x.fetched) now))) ∙ is.fetched
 
-  pub looked_on : t + (cond c.looked 1 0 + allowed now) ≡ s + allowed old
+  pub looked_on : t + (cond c.looked 1 0 + looks_allowed now) ≡ s + looks_allowed old
   looked_on = ap (λ (n : ℕ). t + n) (sym (counted c.looked c (filter (λ (x : Coming). x.looked) now))) ∙ is.looked
 
   -- a row that is not given

@@ -38,8 +38,8 @@ use Rattle.catalog.specs.Indexes as indexes
 use Rattle.catalog.specs.Range.{Range, relation_at, type_in}
 use Rattle.eq_classes.proofs.HoldLemmas.{in_map}
 use Rattle.eq_classes.proofs.ListLemmas.{IsIn, all_from, in_filter}
-use Rattle.hash_index.specs.Held.{Held, Table, rows_equal}
-use Rattle.index_match.specs.Conditions.{allowed, has_form, index_conditions, is_condition, is_hash}
+use Rattle.hash_index.specs.Held.{Held, HashTable, rows_equal}
+use Rattle.index_match.specs.Conditions.{allowed, has_key_form, index_conditions, is_condition, is_hash}
 use Rattle.index_match.specs.Numbered.{Numbered, conditions_of, local}
 use Rattle.sql_query.specs.Meaning.{all_true}
 use Rattle.sql_query.specs.Queries.{Query, width}
@@ -70,14 +70,14 @@ use Rattle.scan_exec.proofs.NearLemmas.{clauses_near, true_at}
 use Rattle.scan_exec.proofs.SeekLemmas.{at_entries, entries_are, filter_in_same, given_fits, lawful, own_fits, probes_known}
 
 -- what was built of a hash index
-pub is_hashed : (d : Index) (rows : List Values) (t : Table) → hashed t ≡ built_of d rows → d.method ≡ Hash
+pub is_hashed : (d : Index) (rows : List Values) (t : HashTable) → hashed t ≡ built_of d rows → d.method ≡ Hash
 is_hashed d rows t e = by d.method refl e
   where
     by : (m : Method) → d.method ≡ m → hashed t ≡ built_by m d rows → d.method ≡ Hash
     by Btree is e = cc
     by Hash is e = is
 
-pub table_is : (d : Index) (rows : List Values) (t : Table) → hashed t ≡ built_of d rows → t ≡ hash_table d rows
+pub table_is : (d : Index) (rows : List Values) (t : HashTable) → hashed t ≡ built_of d rows → t ≡ hash_table d rows
 table_is d rows t e = by d.method e
   where
     by : (m : Method) → hashed t ≡ built_by m d rows → t ≡ hash_table d rows
@@ -203,14 +203,14 @@ module _ (c : Contents) (k : Kept) (q : Query) (r : RelNo) (p : RelSet) (outer :
         let P : Method → Type 0 = λ m. indexes.has_form (record d { method = m }) ≡ true in
         (and_parts (nat_eq (length d.keys) 1) _ (subst P hash index_lawful.form)).0
 
-    form_first : has_form Hash r.0 key e ≡ true
-    form_first = one_passes (λ x. has_form Hash r.0 x e) d.keys one_key (subst (λ (m : Method). list_any (λ x. has_form m r.0 x e) d.keys ≡ true) hash used.form)
+    form_first : has_key_form Hash r.0 key e ≡ true
+    form_first = one_passes (λ x. has_key_form Hash r.0 x e) d.keys one_key (subst (λ (m : Method). list_any (λ x. has_key_form m r.0 x e) d.keys ≡ true) hash used.form)
 
     pub first_of : (x : IndexKey) (ks : List IndexKey) → ks ≡ d.keys → x ≡ get_or ks 0 x → x ≡ key
     first_of x ks keys is = first_is x d.keys one_key (is ∙ ap (λ (l : List IndexKey). get_or l 0 x) keys)
 
-    pub form_of : (x : IndexKey) (ks : List IndexKey) → ks ≡ d.keys → x ≡ get_or ks 0 x → has_form Hash r.0 x e ≡ true
-    form_of x ks keys is = ap (λ (y : IndexKey). has_form Hash r.0 y e) (first_of x ks keys is) ∙ form_first
+    pub form_of : (x : IndexKey) (ks : List IndexKey) → ks ≡ d.keys → x ≡ get_or ks 0 x → has_key_form Hash r.0 x e ≡ true
+    form_of x ks keys is = ap (λ (y : IndexKey). has_key_form Hash r.0 y e) (first_of x ks keys is) ∙ form_first
 
     of_key : IsKeyOf columns d.method key
     of_key = first_at d.keys one_key index_lawful.fits.keys
@@ -272,11 +272,11 @@ module _ (c : Contents) (k : Kept) (q : Query) (r : RelNo) (p : RelSet) (outer :
         ∙ ap (λ (l : List Entry). at_which w q r o (e ∷ []) (map (λ (x : Entry). x.row) l)) (sym (entries_are c k q r p outer given at i on))
 
     -- in what a call was handed
-    pub value_fits_table : (t : Table) → hashed t ≡ built_of d rows → (v : Value) (x : IndexKey) → x ≡ key → v ≡ compared_with r.0 x given e → IsOfFamily (key_family t.key) v
+    pub value_fits_table : (t : HashTable) → hashed t ≡ built_of d rows → (v : Value) (x : IndexKey) → x ≡ key → v ≡ compared_with r.0 x given e → IsOfFamily (key_family t.key) v
     value_fits_table t built v x first is =
-        subst (λ (y : IndexKey). IsOfFamily (key_family y) v) (sym (ap (λ (y : Table). y.key) (table_is d rows t built)))
+        subst (λ (y : IndexKey). IsOfFamily (key_family y) v) (sym (ap (λ (y : HashTable). y.key) (table_is d rows t built)))
         (subst (IsOfFamily (key_family key)) (sym (is ∙ ap (λ (y : IndexKey). compared_with r.0 y given e) first)) value_fits)
 
-    pub table_rows : (t : Table) → hashed t ≡ built_of d rows → (v : Value) (x : IndexKey) → x ≡ key → v ≡ compared_with r.0 x given e → rows_equal v t.held ≡ at_which w q r o (e ∷ []) (entry_rows w i)
+    pub table_rows : (t : HashTable) → hashed t ≡ built_of d rows → (v : Value) (x : IndexKey) → x ≡ key → v ≡ compared_with r.0 x given e → rows_equal v t.held ≡ at_which w q r o (e ∷ []) (entry_rows w i)
     table_rows t built v x first is =
-        ap₂ (λ (y : Value) (z : Table). rows_equal y z.held) (is ∙ ap (λ (y : IndexKey). compared_with r.0 y given e) first) (table_is d rows t built) ∙ rows_are
+        ap₂ (λ (y : Value) (z : HashTable). rows_equal y z.held) (is ∙ ap (λ (y : IndexKey). compared_with r.0 y given e) first) (table_is d rows t built) ∙ rows_are

@@ -35,10 +35,10 @@ use Rattle.btree_index.specs.declared.bounds.Probe.TheVariants.{Bound}
 use Rattle.hash_index.specs.Held as held
 use Rattle.hash_index.specs.Held.{Held, IsKnown, held_order, rows_equal}
 use Rattle.hash_index.proofs.HeldLemmas.{held_total, none_equal, ties_equal}
-use Rattle.index_match.specs.Conditions.{has_form, is_key_side, is_outside}
+use Rattle.index_match.specs.Conditions.{has_key_form, is_key_side, is_outside}
 use Rattle.catalog.specs.Indexes.{Index}
 use Rattle.heap.specs.Stored.{Values}
-use Rattle.plan_tree.specs.Entries.{entries_over, entry, meets, ordered}
+use Rattle.plan_tree.specs.Entries.{entries_over, entry, meets_predicate, ordered}
 use Rattle.store.specs.Kept.{held_of}
 use Rattle.store.proofs.OrderLemmas.{filter-in_order}
 use Rattle.scan_probes.specs.Values.{Given, value_beside}
@@ -63,7 +63,7 @@ ordered_too BoolFamily h = refl
 
 module _ (r : ℕ) (k : IndexKey) (given : Given) where
   -- a condition of a hash index as one of a B-tree, and what it compares the key with
-  pub as_ordered : (e : Cond) → has_form Hash r k e ≡ true → has_form Btree r k e ≡ true
+  pub as_ordered : (e : Cond) → has_key_form Hash r k e ≡ true → has_key_form Btree r k e ≡ true
   as_ordered (compare op a b) h =
       let parts = and_parts (is_some (number_in (key_family k) Hash op)) _ h in
       let same = hash_only (key_family k) op parts.0 in
@@ -76,7 +76,7 @@ module _ (r : ℕ) (k : IndexKey) (given : Given) where
   as_ordered (any_of es) h = absurd (true≢false (sym h))
   as_ordered (negation e) h = absurd (true≢false (sym h))
 
-  pub equal_probe : (e : Cond) → has_form Hash r k e ≡ true → probe_of r k 0 given e ≡ Bound (record { col = 0; op = Eq; value = compared_with r k given e })
+  pub equal_probe : (e : Cond) → has_key_form Hash r k e ≡ true → probe_of r k 0 given e ≡ Bound (record { col = 0; op = Eq; value = compared_with r k given e })
   equal_probe (compare op a b) h =
       let same = hash_only (key_family k) op (and_parts (is_some (number_in (key_family k) Hash op)) _ h).0 in
       subst (λ (x : Op). probe_of r k 0 given (compare x a b) ≡ Bound (record { col = 0; op = Eq; value = compared_with r k given (compare x a b) })) (sym same)
@@ -94,7 +94,7 @@ module _ (r : ℕ) (k : IndexKey) (given : Given) where
   equal_probe (negation e) h = absurd (true≢false (sym h))
 
   -- the value compared with is of the key's family
-  pub fits_key : (type_of : ColRef → SqlType) (e : Cond) → IsOfFamily (key_family k) (some_value (type_of (column_of r k.col))) → has_form Hash r k e ≡ true
+  pub fits_key : (type_of : ColRef → SqlType) (e : Cond) → IsOfFamily (key_family k) (some_value (type_of (column_of r k.col))) → has_key_form Hash r k e ≡ true
       → IsDefined (value_beside r (λ c. some_value (type_of (column_of r c))) given) e → IsOfFamily (key_family k) (compared_with r k given e)
   fits_key type_of e key form defined =
       fits_bound (compared_with r k given e) (subst (tree.IsOn 0 k) (equal_probe e form) (stands r k given 0 type_of key e (as_ordered e form) defined))
@@ -103,7 +103,7 @@ module _ (r : ℕ) (k : IndexKey) (given : Given) where
       fits_bound v on = on.fits.1
 
   -- a value equals it where the condition is True
-  pub equals_true : (own : ColNo → Value) (v : Value) → v ≡ own k.col → (e : Cond) → has_form Hash r k e ≡ true → IsDefined (value_beside r own given) e
+  pub equals_true : (own : ColNo → Value) (v : Value) → v ≡ own k.col → (e : Cond) → has_key_form Hash r k e ≡ true → IsDefined (value_beside r own given) e
       → is_true (truth_of_op Eq v (compared_with r k given e)) ≡ is_true (truth_at (value_beside r own given) e)
   equals_true own v at e form defined =
       ap (λ (p : Probe). tree.meets p (v ∷ [])) (sym (equal_probe e form))
@@ -120,7 +120,7 @@ module _ (k : IndexKey) (hashes : is_some (number_in (key_family k) Hash Eq) ≡
   known_or_null (Flag b) = inr tt
   known_or_null (String t) = inr tt
 
-  alone : (h : Held) → IsOfFamily (key_family k) h.value → held.IsLawful (record { key = k; held = h ∷ [] })
+  alone : (h : Held) → IsOfFamily (key_family k) h.value → held.IsLawfulHash (record { key = k; held = h ∷ [] })
   alone h fh = record {
     hashes = hashes;
     fits = all_from (λ (x : Held). IsOfFamily (key_family k) x.value) (h ∷ []) (λ x i. only x i);
@@ -181,11 +181,11 @@ before_range a (suc m) x y (inr h) = let w = before_range (a + 1) m x y h in let
 
 pub entries_rise : (d : Index) (rows : List Values) → d.method ≡ Hash → (x y : Held) → Before x y (map held_of (entries_over d rows)) → x.row < y.row
 entries_rise d rows is x y b =
-    let listed = filter (λ n. meets d.predicate (slice_index_or rows n [])) (range_with_len 0 (length rows)) in
+    let listed = filter (λ n. meets_predicate d.predicate (slice_index_or rows n [])) (range_with_len 0 (length rows)) in
     let plain : entries_over d rows ≡ map (entry d rows) listed = ap (λ (m : Method). ordered m d.keys (map (entry d rows) listed)) is in
     let one = before_map held_of (map (entry d rows) listed) x y (subst (λ (l : List Entry). Before x y (map held_of l)) plain b) in
     let two = before_map (entry d rows) listed one.0 one.1 one.2 in
-    let numbers = before_range 0 (length rows) two.0 two.1 (before_filter (λ n. meets d.predicate (slice_index_or rows n [])) (range_with_len 0 (length rows)) two.0 two.1 two.2) in
+    let numbers = before_range 0 (length rows) two.0 two.1 (before_filter (λ n. meets_predicate d.predicate (slice_index_or rows n [])) (range_with_len 0 (length rows)) two.0 two.1 two.2) in
     let lt = numbers.1 in
     let left : x.row ≡ two.0 = ap (λ (h : Held). h.row) one.3 ∙ ap (λ (e : Entry). e.row) two.3 in
     let right : y.row ≡ two.1 = ap (λ (h : Held). h.row) one.4 ∙ ap (λ (e : Entry). e.row) two.4 in

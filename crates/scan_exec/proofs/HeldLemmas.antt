@@ -14,7 +14,7 @@ use Rattle.opfamily.specs.KeyOrder.{Entry}
 use Rattle.opfamily.specs.declared.classes.Method.{Method}
 use Rattle.opfamily.specs.declared.classes.Method.TheVariants.{Btree, Hash}
 use Rattle.pg_expr.specs.Cond.{Cond}
-use Rattle.heap.specs.TidSets.{TidSet, is_member, those}
+use Rattle.heap.specs.TidSets.{TidSet, is_member, rows_passing}
 use Rattle.heap.proofs.MemberLemmas.{member-those, those-none, those-same}
 use Rattle.catalog.specs.Contents.{Contents, index_at}
 use Rattle.catalog.specs.Indexes.{Index}
@@ -47,8 +47,8 @@ turned true true d = refl
 turned true false d = refl
 turned false b d = refl
 
-pub made_those : (b : ℕ) (f : ℕ → Bool) → IsMade (record { bound = b; members = those b f })
-made_those b f = those-same b (is_member (those b f)) f (λ n lt. member-those b f n lt)
+pub made_those : (b : ℕ) (f : ℕ → Bool) → IsMade (record { bound = b; members = rows_passing b f })
+made_those b f = those-same b (is_member (rows_passing b f)) f (λ n lt. member-those b f n lt)
 
 pub made_empty : (b : ℕ) → IsMade (record { bound = b; members = [] })
 made_empty b = those-none (is_member []) b (λ n lt. refl)
@@ -64,7 +64,7 @@ made_with s t ns is = subst IsMade (sym is) (made_those s.bound (λ n. is_member
 
 -- one more row
 abbrev pub added : TidSet → ℕ → TidSet
-added s x = set_by s.bound (those s.bound (λ n. nat_eq n x || is_member s.members n))
+added s x = set_by s.bound (rows_passing s.bound (λ n. nat_eq n x || is_member s.members n))
 
 pub made_added : (s t : TidSet) (x : ℕ) → t ≡ added s x → IsMade t
 made_added s t x is = subst IsMade (sym is) (made_those s.bound (λ n. nat_eq n x || is_member s.members n))
@@ -72,7 +72,7 @@ made_added s t x is = subst IsMade (sym is) (made_those s.bound (λ n. nat_eq n 
 pub add_then : (s t : TidSet) (x : ℕ) (ns : List ℕ) → t ≡ added s x → with_rows t ns ≡ with_rows s (x ∷ ns)
 add_then s t x ns is =
     ap (λ (y : TidSet). with_rows y ns) is
-    ∙ ap (set_by s.bound) (those-same s.bound (λ n. is_member (those s.bound (λ m. nat_eq m x || is_member s.members m)) n || is_member ns n) (λ n. is_member s.members n || is_member (x ∷ ns) n)
+    ∙ ap (set_by s.bound) (those-same s.bound (λ n. is_member (rows_passing s.bound (λ m. nat_eq m x || is_member s.members m)) n || is_member ns n) (λ n. is_member s.members n || is_member (x ∷ ns) n)
     (λ n lt. ap (λ (b : Bool). b || is_member ns n) (member-those s.bound (λ m. nat_eq m x || is_member s.members m) n lt) ∙ turned (nat_eq n x) (is_member s.members n) (is_member ns n)))
 
 -- rows put in one after another

@@ -32,12 +32,12 @@ use Rattle.catalog.specs.Contents.{Contents, index_at}
 use Rattle.catalog.specs.Indexes.{Index, IsLawfulIndex}
 use Rattle.eq_classes.proofs.HoldLemmas.{in_map}
 use Rattle.eq_classes.proofs.ListLemmas.{IsIn, all_from, any_at, in_filter}
-use Rattle.index_match.specs.Conditions.{has_form, is_condition, is_hash, is_key, is_key_side, is_member, is_outside}
+use Rattle.index_match.specs.Conditions.{has_key_form, is_condition, is_hash, is_key, is_key_side, is_family_operator, is_outside}
 use Rattle.sql_query.specs.Meaning.{all_true}
 use Rattle.sql_query.specs.Queries.{Query, width}
 use Rattle.sql_query.specs.Tuples.{Tuple, beside, rows_of_relation}
 use Rattle.sql_query.specs.Worlds.{World, world}
-use Rattle.plan_tree.specs.Entries.{cell, entries_over, entry, meets, ordered}
+use Rattle.plan_tree.specs.Entries.{cell, entries_over, entry, meets_predicate, ordered}
 use Rattle.store.specs.Kept.{Kept}
 use Rattle.scan_probes.specs.Scenes.{AreReadyAtEntry, IsTestable}
 use Rattle.scan_probes.specs.Values as values
@@ -58,15 +58,15 @@ in_range a (suc m) n (inl same) = omega (arith, same)
 in_range a (suc m) n (inr i) = let later = in_range (a + 1) m n i in omega (arith, later)
 
 module _ (d : Index) (rows : List Values) where
-  one_entry : (e : Entry) → IsIn e (map (entry d rows) (filter (λ n. meets d.predicate (slice_index_or rows n [])) (range_with_len 0 (length rows)))) → IsEntryAt d rows e
+  one_entry : (e : Entry) → IsIn e (map (entry d rows) (filter (λ n. meets_predicate d.predicate (slice_index_or rows n [])) (range_with_len 0 (length rows)))) → IsEntryAt d rows e
   one_entry e i =
-      let x = in_map (entry d rows) (filter (λ n. meets d.predicate (slice_index_or rows n [])) (range_with_len 0 (length rows))) e i in
+      let x = in_map (entry d rows) (filter (λ n. meets_predicate d.predicate (slice_index_or rows n [])) (range_with_len 0 (length rows))) e i in
       let number : e.row ≡ x.0 = ap (λ (y : Entry). y.row) x.2 in
-      let lt = in_range 0 (length rows) x.0 (in_filter (λ n. meets d.predicate (slice_index_or rows n [])) (range_with_len 0 (length rows)) x.0 x.1).0 in
+      let lt = in_range 0 (length rows) x.0 (in_filter (λ n. meets_predicate d.predicate (slice_index_or rows n [])) (range_with_len 0 (length rows)) x.0 x.1).0 in
       record { within = omega (arith, number, lt); is = x.2 ∙ ap (entry d rows) (sym number) }
 
   abbrev listed : List Entry
-  listed = map (entry d rows) (filter (λ n. meets d.predicate (slice_index_or rows n [])) (range_with_len 0 (length rows)))
+  listed = map (entry d rows) (filter (λ n. meets_predicate d.predicate (slice_index_or rows n [])) (range_with_len 0 (length rows)))
 
   pub entries_at : All (IsEntryAt d rows) (entries_over d rows)
   entries_at = by d.method
@@ -147,7 +147,7 @@ module _ (d : Index) (r : ℕ) where
     outside_held (Col x) h = or_left (not (nat_eq x.rel.0 r)) (is_held d x.col) h
     outside_held (Lit v) h = refl
 
-    form_held : (m : Method) (e : Cond) → has_form m r k e ≡ true → each_column holds_own e ≡ true
+    form_held : (m : Method) (e : Cond) → has_key_form m r k e ≡ true → each_column holds_own e ≡ true
     form_held m (compare op a b) h = ⊎_elim
         (λ (t : (is_key_side r k a && is_outside r b) ≡ true).
         let parts = and_parts (is_key_side r k a) (is_outside r b) t in
@@ -155,7 +155,7 @@ module _ (d : Index) (r : ℕ) where
         (λ (t : (is_outside r a && is_key_side r k b) ≡ true).
         let parts = and_parts (is_outside r a) (is_key_side r k b) t in
         and_from _ _ (outside_held a parts.0) (side_held b parts.1))
-        (or_cases (is_key_side r k a && is_outside r b) (is_outside r a && is_key_side r k b) (and_parts (is_member m k op) _ h).1)
+        (or_cases (is_key_side r k a && is_outside r b) (is_outside r a && is_key_side r k b) (and_parts (is_family_operator m k op) _ h).1)
     form_held m (is_null x) h = key_held x (and_parts (not (is_hash m)) (is_key r k x) h).1
     form_held m (is_not_null x) h = key_held x (and_parts (not (is_hash m)) (is_key r k x) h).1
     form_held m (bool_col x) h = absurd (true≢false (sym h))
@@ -166,7 +166,7 @@ module _ (d : Index) (r : ℕ) where
 
   pub condition_held : (e : Cond) → is_condition d r e ≡ true → each_column holds_own e ≡ true
   condition_held e h =
-      let w = any_at (λ (k : IndexKey). has_form d.method r k e) d.keys h in
+      let w = any_at (λ (k : IndexKey). has_key_form d.method r k e) d.keys h in
       form_held w.0 w.1 d.method e w.2
 
 -- conditions whose own columns are held are ready at an entry, and are True there where they are at the tuple

@@ -20,10 +20,10 @@ use Rattle.plan_tree.specs.declared.bits.BitTree.{BitTree as Bits}
 use Rattle.plan_tree.specs.declared.plan.Plan.{Plan as Planned, Seq, Index, IndexOnly, Bitmap}
 use Rattle.plan_tree.specs.Counts.{given_looks, looks, tree_looks}
 use Rattle.plan_tree.specs.Plans.{Plan, seq, index, index_only, bitmap, sort, nest, merge}
-use Rattle.plan_tree.specs.Run.{clauses_at, directed, held}
+use Rattle.plan_tree.specs.Run.{clauses_at, in_scan_direction, held}
 use Rattle.plan_tree.specs.Space.{IsBitmapScan, IsBuilt, IsIndexOnlyScan, IsIndexScan}
 use Rattle.plan_tree.specs.Views.{bits, plan}
-use Rattle.scan_exec.specs.Coming.{Coming, allowed, bounded, coming, entry_row, index_coming}
+use Rattle.scan_exec.specs.Coming.{Coming, looks_allowed, bounded, coming, entry_row, index_coming}
 use Rattle.store.specs.Kept.{IsStoreOf, Kept}
 use Rattle.scan_probes.specs.Scenes.{AreRowsOf, IsOverWorld}
 use Rattle.scan_probes.specs.Values.{Given, tuple_given}
@@ -83,9 +83,9 @@ module _ (w : World) (q : Query) (o : Tuple) (p : Planned) (r : RelNo) (s : RelS
   index_comes rel i b param is =
       ap₂ (λ (x : RelNo) (y : RelSet). index_coming w q (index_at w.contents i).method x i b y o) (rel_is (Index rel i b param) is) (param_is (Index rel i b param) is) ∙ sym (coming_is (Index rel i b param) is)
 
-  pub only_comes : (rel : RelNo) (i : IndexNo) (b : Bool) (param : RelSet) → p ≡ IndexOnly rel i b param → map (entry_row w q r i true s o) (directed w q b (bounded w q r i s o)) ≡ coming w q (plan p) o
+  pub only_comes : (rel : RelNo) (i : IndexNo) (b : Bool) (param : RelSet) → p ≡ IndexOnly rel i b param → map (entry_row w q r i true s o) (in_scan_direction w q b (bounded w q r i s o)) ≡ coming w q (plan p) o
   only_comes rel i b param is =
-      ap₂ (λ (x : RelNo) (y : RelSet). map (entry_row w q x i true y o) (directed w q b (bounded w q x i y o))) (rel_is (IndexOnly rel i b param) is) (param_is (IndexOnly rel i b param) is) ∙ sym (coming_is (IndexOnly rel i b param) is)
+      ap₂ (λ (x : RelNo) (y : RelSet). map (entry_row w q x i true y o) (in_scan_direction w q b (bounded w q x i y o))) (rel_is (IndexOnly rel i b param) is) (param_is (IndexOnly rel i b param) is) ∙ sym (coming_is (IndexOnly rel i b param) is)
 
   pub bits_come : (rel : RelNo) (param : RelSet) (t : Bits) → p ≡ Bitmap rel param t → coming w q (bitmap r s (bits t)) o ≡ coming w q (plan p) o
   bits_come rel param t is =
@@ -93,10 +93,10 @@ module _ (w : World) (q : Query) (o : Tuple) (p : Planned) (r : RelNo) (s : RelS
 
   -- what is looked at, where the start itself looks at nothing
   module _ (scan : IsScan (plan p)) (built : IsBuilt w.contents q (plan p)) where
-    pub looks_left : (kind : List Coming) → kind ≡ coming w q (plan p) o → (a : ℕ) → a + (allowed kind + given_looks w q s) ≤ a + looks w q (plan p) o
+    pub looks_left : (kind : List Coming) → kind ≡ coming w q (plan p) o → (a : ℕ) → a + (looks_allowed kind + given_looks w q s) ≤ a + looks w q (plan p) o
     looks_left kind is a =
         let most = looked_rows w q (plan p) o scan built in
-        let e : allowed kind ≡ allowed (coming w q (plan p) o) = ap allowed is in
+        let e : looks_allowed kind ≡ looks_allowed (coming w q (plan p) o) = ap looks_allowed is in
         let f : given_looks w q s ≡ given_looks w q (param_set (plan p)) = ap (given_looks w q) pe in
         omega (arith, most, e, f)
 
@@ -116,10 +116,10 @@ module _ (w : World) (q : Query) (o : Tuple) (p : Planned) (r : RelNo) (s : RelS
     pub tree_first : (a b : ℕ) → b ≤ a + tree_looks w q r s o (bits t) → b + given_looks w q s ≤ a + looks w q (plan p) o
     tree_first a b most = let e = tree_is in omega (arith, most, e)
 
-    pub tree_left : (kind : List Coming) → kind ≡ coming w q (bitmap r s (bits t)) o → (a b : ℕ) → b ≤ a + tree_looks w q r s o (bits t) → b + (allowed kind + given_looks w q s) ≤ a + looks w q (plan p) o
+    pub tree_left : (kind : List Coming) → kind ≡ coming w q (bitmap r s (bits t)) o → (a b : ℕ) → b ≤ a + tree_looks w q r s o (bits t) → b + (looks_allowed kind + given_looks w q s) ≤ a + looks w q (plan p) o
     tree_left kind from a b most =
         let e = tree_is in
-        let none : allowed kind ≡ 0 = ap allowed from ∙ fetched_allowed w q r (clauses_at w q r s) o (held w q r s (bits t) o) in
+        let none : looks_allowed kind ≡ 0 = ap looks_allowed from ∙ fetched_allowed w q r (clauses_at w q r s) o (held w q r s (bits t) o) in
         omega (arith, most, e, none)
 
 -- a start hands these on

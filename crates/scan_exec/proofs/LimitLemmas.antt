@@ -11,7 +11,7 @@ use Rattle.eq_classes.proofs.HoldLemmas.{in_map}
 use Rattle.eq_classes.proofs.ListLemmas.{IsIn, any_at, any_from, filter_in, found_in, in_filter}
 use Rattle.catalog.specs.Indexes.{Index}
 use Rattle.index_match.specs.Bounds.{bounding, bounds_among, is_fixing, on_key}
-use Rattle.index_match.specs.Conditions.{has_form}
+use Rattle.index_match.specs.Conditions.{has_key_form}
 use Rattle.index_match.specs.Numbered.{Numbered, conditions_of, is_among, numbered, numbered_from_0}
 use Rattle.scan_probes.proofs.BoundsLemmas.{filter_of, find_of, in_conditions}
 use Rattle.scan_exec.specs.Scene.{limits}
@@ -23,14 +23,14 @@ going (Some e) here behind = e ∷ behind
 
 abbrev plain : Method → ℕ → List IndexKey → List Cond → List Cond
 plain m r [] es = []
-plain m r (k ∷ ks) es = going (find is_fixing (filter (has_form m r k) es)) (filter (has_form m r k) es) (plain m r ks es)
+plain m r (k ∷ ks) es = going (find is_fixing (filter (has_key_form m r k) es)) (filter (has_key_form m r k) es) (plain m r ks es)
 
 plain_are : (m : Method) (r : ℕ) (ks : List IndexKey) (cs : List Numbered) → conditions_of (bounding m r ks cs) ≡ plain m r ks (conditions_of cs)
 plain_are m r [] cs = refl
 plain_are m r (k ∷ ks) cs =
     by (plain_are m r ks cs) (find (λ (c : Numbered). is_fixing c.cond) (on_key m r k cs))
     ∙ ap₂ (λ (o : Option Cond) (l : List Cond). going o l (plain m r ks (conditions_of cs)))
-    (sym (find_of is_fixing (on_key m r k cs)) ∙ ap (find is_fixing) (sym (filter_of (has_form m r k) cs))) (sym (filter_of (has_form m r k) cs))
+    (sym (find_of is_fixing (on_key m r k cs)) ∙ ap (find is_fixing) (sym (filter_of (has_key_form m r k) cs))) (sym (filter_of (has_key_form m r k) cs))
   where
     by : conditions_of (bounding m r ks cs) ≡ plain m r ks (conditions_of cs) → (o : Option Numbered) →
         conditions_of (elim o [ None ↦ on_key m r k cs | Some c ↦ c ∷ bounding m r ks cs ]) ≡ going (option_map (λ (c : Numbered). c.cond) o) (conditions_of (on_key m r k cs)) (plain m r ks (conditions_of cs))
@@ -49,8 +49,8 @@ in_bounding m r (k ∷ ks) cs x i = by (in_bounding m r ks cs x) (find (λ (c : 
   where
     by : (IsIn x (bounding m r ks cs) → IsIn x cs) → (o : Option Numbered) → find (λ (c : Numbered). is_fixing c.cond) (on_key m r k cs) ≡ o
         → IsIn x (elim o [ None ↦ on_key m r k cs | Some c ↦ c ∷ bounding m r ks cs ]) → IsIn x cs
-    by later None e j = (in_filter (λ (c : Numbered). has_form m r k c.cond) cs x j).0
-    by later (Some c) e (inl same) = (in_filter (λ (c : Numbered). has_form m r k c.cond) cs x (subst (λ (y : Numbered). IsIn y (on_key m r k cs)) (sym same) (found_in (λ (c : Numbered). is_fixing c.cond) (on_key m r k cs) c e))).0
+    by later None e j = (in_filter (λ (c : Numbered). has_key_form m r k c.cond) cs x j).0
+    by later (Some c) e (inl same) = (in_filter (λ (c : Numbered). has_key_form m r k c.cond) cs x (subst (λ (y : Numbered). IsIn y (on_key m r k cs)) (sym same) (found_in (λ (c : Numbered). is_fixing c.cond) (on_key m r k cs) c e))).0
     by later (Some c) e (inr j) = later j
 
 pub in_limits : (d : Index) (r : ℕ) (es : List Cond) (e : Cond) → IsIn e (limits d r es) → IsIn e es

@@ -33,7 +33,7 @@ use Rattle.catalog.specs.Indexes.{Index, IsKeyOf, IsLawfulIndex}
 use Rattle.catalog.specs.Range.{relation_at, type_in}
 use Rattle.eq_classes.proofs.ListLemmas.{IsIn, all_at, all_from}
 use Rattle.scan_probes.specs.plan_laws_FitsLemmas.{values_fit}
-use Rattle.btree_index.specs.Bounds.{AreBounds, meets_all, value_at}
+use Rattle.btree_index.specs.Bounds.{AreBounds, meets_all, key_value_at}
 use Rattle.btree_index.specs.Tree.{Tree, in_direction}
 use Rattle.btree_index.specs.declared.bounds.Probe.{Probe}
 use Rattle.index_match.specs.Bounds.{bounding}
@@ -66,11 +66,11 @@ filter_in_same p q (x ∷ xs) h =
 
 -- key values from a place on
 keys_of : (own : ColNo → Value) (n : ℕ) (ks : List IndexKey) (vs : List Value) →
-    ((j : ℕ) → value_at vs (n + j) ≡ value_at (map (λ (k : IndexKey). own k.col) ks) j) → AreOf own n ks vs
+    ((j : ℕ) → key_value_at vs (n + j) ≡ key_value_at (map (λ (k : IndexKey). own k.col) ks) j) → AreOf own n ks vs
 keys_of own n [] vs h = tt
 keys_of own n (k ∷ ks) vs h = (
-  ap (value_at vs) (let e : n ≡ n + 0 = omega arith in e) ∙ h 0,
-  keys_of own (n + 1) ks vs (λ j. ap (value_at vs) (let e : n + 1 + j ≡ n + suc j = omega arith in e) ∙ h (suc j)),
+  ap (key_value_at vs) (let e : n ≡ n + 0 = omega arith in e) ∙ h 0,
+  keys_of own (n + 1) ks vs (λ j. ap (key_value_at vs) (let e : n + 1 + j ≡ n + suc j = omega arith in e) ∙ h (suc j)),
 )
 
 -- a tree that was built is of a B-tree
@@ -199,7 +199,7 @@ module _ (c : Contents) (k : Kept) (q : Query) (r : RelNo) (p : RelSet) (outer :
           let keys : e.keys ≡ map (λ (x : IndexKey). own x.col) d.keys = ap (λ (y : Entry). y.keys) here.is in
           ap (λ (l : List Cond). meets_all (probes_from r.0 0 d.keys given l) e.keys) (sym (numbered_are 0 es))
           ∙ conditions_met type_of r.0 given given_fits own (own_fits e.row) d.keys e.keys (numbered_from_0 es)
-          (keys_of own 0 d.keys e.keys (λ j. ap₂ (λ (vs : List Value) (n : ℕ). value_at vs n) keys (let z : 0 + j ≡ j = omega arith in z)))
+          (keys_of own 0 d.keys e.keys (λ j. ap₂ (λ (vs : List Value) (n : ℕ). key_value_at vs n) keys (let z : 0 + j ≡ j = omega arith in z)))
           limits_typed
           ∙ ap (λ (m : Method). are_true (value_beside r.0 own given) (conditions_of (bounding m r.0 d.keys (numbered_from_0 es)))) (sym is)
           ∙ true_at c k q r p outer given at e.row here.within (limits d r.0 es) (λ x j. near x (in_limits d r.0 es x j))

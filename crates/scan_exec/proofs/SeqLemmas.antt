@@ -8,7 +8,7 @@ use Rattle.heap.specs.Stored.{Values}
 use Rattle.pg_expr.specs.Cond.{Cond}
 use Rattle.scan_probes.specs.Scenes.{AreReadyAtRow}
 use Rattle.scan_probes.specs.Values.{Given}
-use Rattle.scan_exec.specs.Coming.{Coming, allowed, behind, is_given, owed}
+use Rattle.scan_exec.specs.Coming.{Coming, looks_allowed, behind, is_given, owed}
 use Rattle.scan_exec.specs.Kinds.{fetched_at, passes_row, rows_from}
 use Rattle.scan_exec.proofs.DrawLemmas.{IsOnward, onward_by, onward_here, found_here, behind_here, fetched_on}
 
@@ -29,11 +29,11 @@ module _ (r : ℕ) (given : Given) (es : List Cond) (rows : List Values) where
   none_behind n le = ap (λ (k : ℕ). map (fetched_at r given es rows) (range_with_len n k)) (let e : length rows - n ≡ 0 = omega (arith, le) in e)
 
   -- nothing is looked at
-  none_looked : (ns : List ℕ) → allowed (map (fetched_at r given es rows) ns) ≡ 0
+  none_looked : (ns : List ℕ) → looks_allowed (map (fetched_at r given es rows) ns) ≡ 0
   none_looked [] = refl
   none_looked (n ∷ ns) = none_looked ns
 
-  pub unlooked_from : (n : ℕ) → allowed (rows_from r given es rows n) ≡ 0
+  pub unlooked_from : (n : ℕ) → looks_allowed (rows_from r given es rows n) ≡ 0
   unlooked_from n = none_looked (range_with_len n (length rows - n))
 
   pub seq_begins : (c : Contents) (range : Range) (at end f : ℕ) → end ≡ length rows → All (AreReadyAtRow c range r given es) rows → IsSeqDraw c range r given es rows at at end (rows_from r given es rows at) f f

@@ -12,7 +12,7 @@ use Rattle.pg_base.specs.declared.rel_set.RelSet.{RelSet}
 use Rattle.pg_expr.specs.Cond.{Cond}
 use Rattle.pg_expr.specs.View as view
 use Rattle.pg_expr.specs.declared.expr.Expr.{Expr}
-use Rattle.heap.specs.TidSets.{TidSet, is_member, those}
+use Rattle.heap.specs.TidSets.{TidSet, is_member, rows_passing}
 use Rattle.heap.proofs.MemberLemmas.{member-those, those-none, those-same}
 use Rattle.catalog.specs.Contents.{index_at}
 use Rattle.index_match.specs.Arms.{arms_of, arm_bounds, arm_parts, takes_parts}
@@ -142,7 +142,7 @@ module _ (w : World) (q : Query) (r : RelNo) (p : RelSet) (o : Tuple) where
   pub record IsMeeting (trees rest : BitTrees) (now : TidSet) (before after : ℕ) : Type 0 where
     pub made : IsMade now
     pub bound : now.bound ≡ all
-    pub same : those all (λ m. is_member now.members m && all_hold_row w q r p o m rest) ≡ those all (λ m. all_hold_row w q r p o m trees)
+    pub same : rows_passing all (λ m. is_member now.members m && all_hold_row w q r p o m rest) ≡ rows_passing all (λ m. all_hold_row w q r p o m trees)
     pub looked : after + all_tree_looks w q r p o rest ≤ before + all_tree_looks w q r p o trees
 
   pub meeting_begins : (b : BitTree) (bs : BitTrees) (now : TidSet) (a d : ℕ) → now ≡ set_held w q r p b o → d ≤ a + tree_looks w q r p o b → IsMeeting (tree_and b bs) bs now a d
@@ -153,9 +153,9 @@ module _ (w : World) (q : Query) (r : RelNo) (p : RelSet) (o : Tuple) where
     looked = omega (arith, le);
   }
 
-  pub meeting_on : (trees : BitTrees) (b : BitTree) (bs : BitTrees) (now next other : TidSet) (a d e : ℕ) → IsMeeting trees (tree_and b bs) now a d → other ≡ set_held w q r p b o → next ≡ set_by now.bound (those now.bound (λ m. is_member now.members m && is_member other.members m)) → e ≤ d + tree_looks w q r p o b → IsMeeting trees bs next a e
+  pub meeting_on : (trees : BitTrees) (b : BitTree) (bs : BitTrees) (now next other : TidSet) (a d e : ℕ) → IsMeeting trees (tree_and b bs) now a d → other ≡ set_held w q r p b o → next ≡ set_by now.bound (rows_passing now.bound (λ m. is_member now.members m && is_member other.members m)) → e ≤ d + tree_looks w q r p o b → IsMeeting trees bs next a e
   meeting_on trees b bs now next other a d e so_far is ne le =
-      let full : next ≡ set_by all (those all (λ m. is_member now.members m && is_member other.members m)) = ne ∙ ap (λ (n : ℕ). set_by n (those n (λ m. is_member now.members m && is_member other.members m))) so_far.bound in
+      let full : next ≡ set_by all (rows_passing all (λ m. is_member now.members m && is_member other.members m)) = ne ∙ ap (λ (n : ℕ). set_by n (rows_passing n (λ m. is_member now.members m && is_member other.members m))) so_far.bound in
       record {
         made = subst IsMade (sym full) (made_those all (λ m. is_member now.members m && is_member other.members m));
         bound = ap (λ (s : TidSet). s.bound) full;
@@ -171,7 +171,7 @@ module _ (w : World) (q : Query) (r : RelNo) (p : RelSet) (o : Tuple) where
   pub meeting_ends : (trees rest : BitTrees) (now : TidSet) (a d : ℕ) → rest ≡ no_trees → IsMeeting trees rest now a d → now ≡ set_held w q r p (all_hold trees) o
   meeting_ends trees rest now a d none so_far =
       ap₂ set_by so_far.bound
-      (sym so_far.made ∙ ap (λ (n : ℕ). those n (is_member now.members)) so_far.bound
+      (sym so_far.made ∙ ap (λ (n : ℕ). rows_passing n (is_member now.members)) so_far.bound
       ∙ sym (those-same all (λ m. is_member now.members m && all_hold_row w q r p o m rest) (is_member now.members) (λ m lt. ap (λ (x : BitTrees). is_member now.members m && all_hold_row w q r p o m x) none ∙ and-true (is_member now.members m)))
       ∙ so_far.same)
 
@@ -196,7 +196,7 @@ module _ (w : World) (q : Query) (r : RelNo) (p : RelSet) (o : Tuple) (ts : List
   met_first now a d first is le =
       subst (λ (x : BitTrees). IsMeeting w q r p o x (bits_all (drop (n + 1) ts)) now a d) (sym from_here ∙ ap (λ (m : ℕ). bits_all (drop m ts)) first) (meeting_begins w q r p o (bits t) (bits_all (drop (n + 1) ts)) now a d is le)
 
-  pub met_next : (trees : BitTrees) (now next other : TidSet) (a d e : ℕ) → IsMeeting w q r p o trees (bits_all (drop n ts)) now a d → other ≡ set_held w q r p (bits t) o → next ≡ set_by now.bound (those now.bound (λ m. is_member now.members m && is_member other.members m))
+  pub met_next : (trees : BitTrees) (now next other : TidSet) (a d e : ℕ) → IsMeeting w q r p o trees (bits_all (drop n ts)) now a d → other ≡ set_held w q r p (bits t) o → next ≡ set_by now.bound (rows_passing now.bound (λ m. is_member now.members m && is_member other.members m))
       → e ≤ d + tree_looks w q r p o (bits t) → IsMeeting w q r p o trees (bits_all (drop (n + 1) ts)) next a e
   met_next trees now next other a d e so_far is ne le =
       meeting_on w q r p o trees (bits t) (bits_all (drop (n + 1) ts)) now next other a d e (subst (λ (x : BitTrees). IsMeeting w q r p o trees x now a d) from_here so_far) is ne le

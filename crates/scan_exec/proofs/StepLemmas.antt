@@ -10,7 +10,7 @@ use Rattle.opfamily.specs.KeyOrder.{Entry}
 use Rattle.pg_expr.specs.Cond.{Cond}
 use Rattle.scan_probes.specs.Scenes.{AreReadyAtEntry, AreReadyAtRow}
 use Rattle.scan_probes.specs.Values.{Given}
-use Rattle.scan_exec.specs.Coming.{Coming, allowed, behind, is_given, owed}
+use Rattle.scan_exec.specs.Coming.{Coming, looks_allowed, behind, is_given, owed}
 use Rattle.scan_exec.specs.Kinds.{covered_at, entry_at, fetched_at, passes_entry, passes_row, rows_of}
 use Rattle.scan_exec.proofs.DrawLemmas.{IsOnward, onward_by, found_here, behind_here, fetched_on, looked_on}
 
@@ -102,7 +102,7 @@ module _ (r : ℕ) (given : Given) (es : List Cond) (rows : List Values) where
       pub entry_exact : h + owed rest ≡ f + owed old
       entry_exact = let on = fetched_on old rest this f g s t is in let c = once in omega (arith, on, c)
 
-      pub entry_looked : u + allowed rest ≡ s + allowed old
+      pub entry_looked : u + looks_allowed rest ≡ s + looks_allowed old
       entry_looked = let on = looked_on old rest this f g s t is in omega (arith, on, look)
 
 -- by an entry that covers the columns
@@ -131,5 +131,5 @@ module _ (r : ℕ) (given : Given) (tests es : List Cond) (d : Index) where
     pub cover_rest : (passes_entry r given tests d e && passes_entry r given es d e) ≡ true → others ≡ behind is_given old
     cover_rest passes = behind_here old others cover 0 0 s t is passes
 
-    pub cover_looked : u + allowed others ≡ s + allowed old
+    pub cover_looked : u + looks_allowed others ≡ s + looks_allowed old
     cover_looked = let on = looked_on old others cover 0 0 s t is in omega (arith, on, look)

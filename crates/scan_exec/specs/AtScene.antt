@@ -106,7 +106,7 @@ module _ {C F L : Type 0} (s : Scene C F L) where
   abbrev pub tree_rows : IndexNo → Bool → Bool → List Coming
   tree_rows i only backward =
       map (entry_row (world_of s) s.q.now s.rel i only s.param (tuple_of s))
-      (run.directed (world_of s) s.q.now backward (bounded (world_of s) s.q.now s.rel i s.param (tuple_of s)))
+      (run.in_scan_direction (world_of s) s.q.now backward (bounded (world_of s) s.q.now s.rel i s.param (tuple_of s)))
 
   -- and by a hash index
   abbrev pub hash_scan_rows : IndexNo → List Coming

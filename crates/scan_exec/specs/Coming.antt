@@ -17,7 +17,7 @@ use Rattle.sql_query.specs.Tuples.{Tuple, beside, row_numbers}
 use Rattle.sql_query.specs.Meaning.{all_true}
 use Rattle.plan_tree.specs.Plans.{Plan, seq, index, index_only, bitmap, sort, nest, merge}
 use Rattle.plan_tree.specs.Entries.{entry_rows}
-use Rattle.plan_tree.specs.Run.{at_which, clauses_at, conditions, directed, held, met}
+use Rattle.plan_tree.specs.Run.{at_which, clauses_at, conditions, in_scan_direction, held, met}
 
 -- a row that a scan comes to: whether a cursor gives an entry for it, whether it is fetched, and whether the scan gives it
 pub record Coming : Type 0 where
@@ -31,16 +31,16 @@ abbrev pub is_given : Coming → Bool
 is_given c = c.given
 
 -- the rows that are given, in order; how many rows are fetched; how many entries are looked at
-abbrev pub left : List Coming → List ℕ
-left cs = map (λ (c : Coming). c.row) (filter is_given cs)
+abbrev pub rows_to_come : List Coming → List ℕ
+rows_to_come cs = map (λ (c : Coming). c.row) (filter is_given cs)
 
 -- the row fetches that coming to all of them takes
 abbrev pub owed : List Coming → ℕ
 owed cs = length (filter (λ (c : Coming). c.fetched) cs)
 
 -- the looks that coming to all of them takes: one for each entry that a cursor gives
-abbrev pub allowed : List Coming → ℕ
-allowed cs = length (filter (λ (c : Coming). c.looked) cs)
+abbrev pub looks_allowed : List Coming → ℕ
+looks_allowed cs = length (filter (λ (c : Coming). c.looked) cs)
 
 -- the number of the first row that is given
 abbrev pub first_given : List Coming → Option ℕ
@@ -72,14 +72,14 @@ module _ (w : World) (q : Query) where
 
   -- a B-tree comes to the entries that meet the bounds, in its direction; a hash index to the rows of its one condition
   abbrev pub index_coming : Method → RelNo → IndexNo → Bool → RelSet → Tuple → List Coming
-  index_coming Btree r i backward p o = map (entry_row r i false p o) (directed w q backward (bounded r i p o))
-  index_coming Hash r i backward p o = map (fetched_row r o (clauses_at w q r p)) (directed w q backward (met w q r i p o))
+  index_coming Btree r i backward p o = map (entry_row r i false p o) (in_scan_direction w q backward (bounded r i p o))
+  index_coming Hash r i backward p o = map (fetched_row r o (clauses_at w q r p)) (in_scan_direction w q backward (met w q r i p o))
 
   -- the rows that a scan comes to, where a tuple binds its parameterisation; a plan that is no scan comes to none
   abbrev pub coming : Plan → Tuple → List Coming
   coming (seq r) o = map (fetched_row r o (conditions_of (base q.classes r.0))) (row_numbers w q r)
   coming (index r i backward p) o = index_coming (index_at w.contents i).method r i backward p o
-  coming (index_only r i backward p) o = map (entry_row r i true p o) (directed w q backward (bounded r i p o))
+  coming (index_only r i backward p) o = map (entry_row r i true p o) (in_scan_direction w q backward (bounded r i p o))
   coming (bitmap r p bits) o = map (fetched_row r o (clauses_at w q r p)) (held w q r p bits o)
   coming (sort keys input) o = []
   coming (nest outer inner) o = []

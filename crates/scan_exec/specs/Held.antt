@@ -7,7 +7,7 @@ use Rattle.pg_base.specs.declared.numbers.RelNo.{RelNo}
 use Rattle.pg_base.specs.declared.rel_set.RelSet.{RelSet}
 use Rattle.opfamily.specs.KeyOrder.{Entry}
 use Rattle.pg_expr.specs.Cond.{Cond}
-use Rattle.heap.specs.TidSets.{TidSet, is_member, those}
+use Rattle.heap.specs.TidSets.{TidSet, is_member, rows_passing}
 use Rattle.catalog.specs.Contents.{Contents}
 use Rattle.catalog.specs.Indexes.{Index}
 use Rattle.catalog.specs.Range.{Range}
@@ -29,15 +29,15 @@ use Rattle.scan_exec.specs.declared.bitmap.Tests.{Tests}
 
 -- a set that is told of by its members
 abbrev pub IsMade : TidSet → Type 0
-IsMade s = those s.bound (is_member s.members) ≡ s.members
+IsMade s = rows_passing s.bound (is_member s.members) ≡ s.members
 
 -- a set with more rows
 abbrev pub with_rows : TidSet → List ℕ → TidSet
-with_rows s rows = record { bound = s.bound; members = those s.bound (λ n. is_member s.members n || is_member rows n) }
+with_rows s rows = record { bound = s.bound; members = rows_passing s.bound (λ n. is_member s.members n || is_member rows n) }
 
 -- with those that some of the arms holds, by an index for each
 abbrev pub with_arms : World → Query → RelNo → Tuple → TidSet → List Cond → List IndexNo → TidSet
-with_arms w q r o s arms is = record { bound = s.bound; members = those s.bound (λ n. is_member s.members n || some_holds w q r o n arms is) }
+with_arms w q r o s arms is = record { bound = s.bound; members = rows_passing s.bound (λ n. is_member s.members n || some_holds w q r o n arms is) }
 
 -- the rows that a bitmap tree holds, as a set
 abbrev pub set_held : World → Query → RelNo → RelSet → BitTree → Tuple → TidSet

@@ -8,17 +8,17 @@ ghost use Rattle.plan_tree.specs.Counts.{fetches, given_looks, looks};
 ghost use Rattle.plan_tree.specs.Plans.{Plan};
 ghost use Rattle.plan_tree.specs.Run.{run};
 ghost use Rattle.plan_tree.specs.Space.{IsBuilt};
-ghost use Rattle.scan_exec.specs.Coming.{allowed, coming, left, owed};
+ghost use Rattle.scan_exec.specs.Coming.{looks_allowed, coming, rows_to_come, owed};
 ghost use Rattle.scan_exec.specs.Plans.{IsScan, param_set, relation_of};
 
 /// Of the rows that a scan comes to those that are given are the rows of its plan, the fetched ones are its fetches, and its
 /// looks allow one for each entry beside those at the rows that it is given.
 pub fn scans_come_to_their_rows()
     ensures rows { (w : World) (q : Query) (p : Plan) (o : Tuple) → IsScan p →
-        map (one_row q (relation_of p).0) (left (coming w q p o)) ≡ run w q p o }
+        map (one_row q (relation_of p).0) (rows_to_come (coming w q p o)) ≡ run w q p o }
     ensures fetches { (w : World) (q : Query) (p : Plan) (o : Tuple) → IsScan p →
         owed (coming w q p o) ≡ fetches w q p o }
     ensures looks { (w : World) (q : Query) (p : Plan) (o : Tuple) →
         IsScan p → IsBuilt w.contents q p →
-        allowed (coming w q p o) + given_looks w q (param_set p) ≤ looks w q p o }
+        looks_allowed (coming w q p o) + given_looks w q (param_set p) ≤ looks w q p o }
 {}

@@ -2,7 +2,7 @@
 
 ghost use Rattle.std.specs.Prelude.{◌≡◌, ◌+◌, ◌≤◌, length, option_map};
 ghost use Rattle.pg_base.specs.declared.limits.TheConstants.{MOST_ROWS};
-ghost use Rattle.scan_exec.specs.Coming.{allowed, behind, first_given, is_given, owed};
+ghost use Rattle.scan_exec.specs.Coming.{looks_allowed, behind, first_given, is_given, owed};
 ghost use Rattle.scan_exec.specs.Kinds.{AreReadyNumbers, AreReadyRows, rows_of_set, rows_of_tids};
 
 use heap::{Counters, Heap, Tids};
@@ -73,7 +73,7 @@ impl<'a, C: Counters> HashRows<'a, C> {
         ensures row { option_map (λ t. t.0) result ≡ first_given self.old }
         ensures rest { self.new ≡ behind is_given self.old }
         ensures exact { fetches.new + owed self.new ≡ fetches.old + owed self.old }
-        ensures unlooked { allowed self.new ≡ allowed self.old }
+        ensures unlooked { looks_allowed self.new ≡ looks_allowed self.old }
     {
         while let Some((tid, left)) = self.tids.split_first() {
             self.tids = left;
@@ -155,7 +155,7 @@ impl<'a, C: Counters> BitRows<'a, C> {
         ensures row { option_map (λ t. t.0) result ≡ first_given self.old }
         ensures rest { self.new ≡ behind is_given self.old }
         ensures exact { fetches.new + owed self.new ≡ fetches.old + owed self.old }
-        ensures unlooked { allowed self.new ≡ allowed self.old }
+        ensures unlooked { looks_allowed self.new ≡ looks_allowed self.old }
     {
         while let Some(tid) = self.held.from(self.at) {
             self.at = tid.0 + 1;

@@ -6,7 +6,7 @@ ghost use Rattle.sql_query.specs.Worlds.{world};
 ghost use Rattle.plan_tree.specs.Space.{IsBuilt, IsIndexScan};
 ghost use Rattle.plan_tree.specs.Views.{plan};
 ghost use Rattle.store.specs.Kept.{IsStoreOf};
-ghost use Rattle.scan_exec.specs.Coming.{allowed, behind, first_given, is_given, owed};
+ghost use Rattle.scan_exec.specs.Coming.{looks_allowed, behind, first_given, is_given, owed};
 ghost use Rattle.scan_exec.specs.Plans as plans;
 ghost use Rattle.scan_exec.specs.Plans.{IsScan};
 ghost use Rattle.scan_exec.specs.Rows.{rows_of_kind};
@@ -127,7 +127,7 @@ fn by_plan<'a, C: Counters>(
     requires param { at.now.param ≡ plans.param_set (plan p.now) }
     ensures coming { IfOk result (λ kind. rows_of_kind kind ≡ scene_coming at.now (plan p.now)) }
     ensures looks { IfOk result (λ kind.
-        reads.new + (allowed (rows_of_kind kind) + outer_looks at.now) ≤
+        reads.new + (looks_allowed (rows_of_kind kind) + outer_looks at.now) ≤
         reads.old + scene_looks at.now (plan p.now)) }
     ensures most { reads.new + outer_looks at.now ≤ reads.old + scene_looks at.now (plan p.now) }
 {
@@ -177,7 +177,7 @@ impl<'a, C: Counters> ScanRows<'a, C> {
         requires outer { AreHanded (world cat.now store.now.stored) q.now (plan p.now) outer.now }
         ensures coming { IfOk result (λ s.
             s ≡ handed_coming (world cat.now store.now.stored) q.now (plan p.now) outer.now) }
-        ensures looks { IfOk result (λ s. reads.new + allowed s ≤ reads.old +
+        ensures looks { IfOk result (λ s. reads.new + looks_allowed s ≤ reads.old +
             handed_looks (world cat.now store.now.stored) q.now (plan p.now) outer.now) }
         ensures most { reads.new ≤ reads.old +
             handed_looks (world cat.now store.now.stored) q.now (plan p.now) outer.now }
@@ -218,7 +218,7 @@ impl<'a, C: Counters> ScanRows<'a, C> {
         ensures coming { OnOk result (self.new ≡
             handed_coming (world cat.now store.now.stored) q.now (plan p.now) outer.now) }
         ensures refused { OnErr result (self.new ≡ self.old) }
-        ensures looks { OnOk result (reads.new + allowed self.new ≤ reads.old +
+        ensures looks { OnOk result (reads.new + looks_allowed self.new ≤ reads.old +
             handed_looks (world cat.now store.now.stored) q.now (plan p.now) outer.now) }
         ensures most { reads.new ≤ reads.old +
             handed_looks (world cat.now store.now.stored) q.now (plan p.now) outer.now }
@@ -238,7 +238,7 @@ impl<'a, C: Counters> ScanRows<'a, C> {
         ensures row { option_map (λ t. t.0) result ≡ first_given self.old }
         ensures rest { self.new ≡ behind is_given self.old }
         ensures exact { fetches.new + owed self.new ≡ fetches.old + owed self.old }
-        ensures looked { reads.new + allowed self.new ≡ reads.old + allowed self.old }
+        ensures looked { reads.new + looks_allowed self.new ≡ reads.old + looks_allowed self.old }
     {
         match &mut self.kind {
             Kind::Seq(rows) => rows.next(fetches),

@@ -2,7 +2,7 @@
 
 ghost use Rattle.std.specs.Prelude.{◌≡◌, ◌+◌, IfOk, option_map};
 ghost use Rattle.plan_tree.specs.Plans.{seq};
-ghost use Rattle.scan_exec.specs.Coming.{allowed, behind, first_given, is_given, owed};
+ghost use Rattle.scan_exec.specs.Coming.{looks_allowed, behind, first_given, is_given, owed};
 ghost use Rattle.scan_exec.specs.Scene.{IsSceneOf};
 ghost use Rattle.scan_exec.specs.Kinds.{AreReadyRows, rows_of_heap};
 ghost use Rattle.scan_exec.specs.AtScene.{scene_coming};
@@ -75,7 +75,7 @@ impl<'a, C: Counters> SeqRows<'a, C> {
         ensures row { option_map (λ t. t.0) result ≡ first_given self.old }
         ensures rest { self.new ≡ behind is_given self.old }
         ensures exact { fetches.new + owed self.new ≡ fetches.old + owed self.old }
-        ensures unlooked { allowed self.new ≡ allowed self.old }
+        ensures unlooked { looks_allowed self.new ≡ looks_allowed self.old }
     {
         for n in self.at..self.heap.len() {
             self.at = n + 1;

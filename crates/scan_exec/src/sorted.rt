@@ -1,7 +1,7 @@
 //! Scans of B-tree indexes.
 
 ghost use Rattle.std.specs.Prelude.{◌≡◌, ◌+◌, option_map};
-ghost use Rattle.scan_exec.specs.Coming.{allowed, behind, first_given, is_given, owed};
+ghost use Rattle.scan_exec.specs.Coming.{looks_allowed, behind, first_given, is_given, owed};
 ghost use Rattle.scan_exec.specs.Kinds.{AreReadyCovers, AreReadyEntries, covered_rows, rows_of_entries};
 
 use btree_index::Cursor;
@@ -90,7 +90,7 @@ impl<'a, C: Counters> IndexRows<'a, C> {
         ensures row { option_map (λ t. t.0) result ≡ first_given self.old }
         ensures rest { self.new ≡ behind is_given self.old }
         ensures exact { fetches.new + owed self.new ≡ fetches.old + owed self.old }
-        ensures looked { reads.new + allowed self.new ≡ reads.old + allowed self.old }
+        ensures looked { reads.new + looks_allowed self.new ≡ reads.old + looks_allowed self.old }
     {
         while let Some(entry) = self.cursor.next(reads) {
             if pass_entry(&self.beside, &self.given, &self.tests, self.def, &entry) {
@@ -173,7 +173,7 @@ impl<'a, C: Counters> OnlyRows<'a, C> {
         ensures row { option_map (λ t. t.0) result ≡ first_given self.old }
         ensures rest { self.new ≡ behind is_given self.old }
         ensures unfetched { owed self.new ≡ owed self.old }
-        ensures looked { reads.new + allowed self.new ≡ reads.old + allowed self.old }
+        ensures looked { reads.new + looks_allowed self.new ≡ reads.old + looks_allowed self.old }
     {
         while let Some(entry) = self.cursor.next(reads) {
             if pass_entry(&self.beside, &self.given, &self.tests, self.def, &entry)

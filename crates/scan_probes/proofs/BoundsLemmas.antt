@@ -18,12 +18,12 @@ use Rattle.eq_classes.proofs.ListLemmas.{IsIn, in_filter, found_in, found_passes
 use Rattle.btree_index.specs.declared.bounds.Probe.{Probe}
 use Rattle.btree_index.specs.Bounds as tree
 use Rattle.btree_index.specs.Bounds.{AreBounds, GoOn, IsOn, IsOpenOn}
-use Rattle.index_match.specs.Conditions.{has_form}
+use Rattle.index_match.specs.Conditions.{has_key_form}
 use Rattle.index_match.specs.Numbered.{Numbered, conditions_of}
 use Rattle.index_match.specs.Bounds as match
 use Rattle.index_match.specs.Bounds.{bounding, bounds_among, is_fixing}
 use Rattle.scan_probes.specs.Values.{Given, are_true, value_beside}
-use Rattle.scan_probes.specs.Probes.{AreOf, column_of, fixed_or_open, on_key, probe_of, probes_from}
+use Rattle.scan_probes.specs.Probes.{AreOf, column_of, fixed_or_open, conditions_on_key, probe_of, probes_from}
 use Rattle.scan_probes.proofs.MeetLemmas.{fixes, meets_true, stands}
 
 -- no element passes a test where none is found
@@ -51,7 +51,7 @@ abbrev pub IsKeySampled : ℕ → (ColRef → SqlType) → IndexKey → Type 0
 IsKeySampled r type_of k = IsOfFamily (key_family k) (some_value (type_of (column_of r k.col)))
 
 module _ (r : ℕ) (given : Given) (type_of : ColRef → SqlType) (es : List Cond) (defined : (e : Cond) → IsIn e es → IsDefined (sampled r given type_of) e) where
-  open_bounds : (column : ℕ) (k : IndexKey) → IsKeySampled r type_of k → (xs : List Cond) → ((e : Cond) → IsIn e xs → IsIn e es × (has_form Btree r k e ≡ true) × (is_fixing e ≡ false)) →
+  open_bounds : (column : ℕ) (k : IndexKey) → IsKeySampled r type_of k → (xs : List Cond) → ((e : Cond) → IsIn e xs → IsIn e es × (has_key_form Btree r k e ≡ true) × (is_fixing e ≡ false)) →
       AllByRecursion (IsOpenOn column k) (map (probe_of r k column given) xs)
   open_bounds column k key [] each = tt
   open_bounds column k key (e ∷ xs) each =
@@ -67,18 +67,18 @@ module _ (r : ℕ) (given : Given) (type_of : ColRef → SqlType) (es : List Con
 
   pub probes_bound : (column : ℕ) (ks : List IndexKey) → AllByRecursion (IsKeySampled r type_of) ks → AreBounds column ks (probes_from r column ks given es)
   probes_bound column [] keys = tt
-  probes_bound column (k ∷ ks) keys = by (probes_bound (column + 1) ks keys.1) (find is_fixing (on_key r k es)) refl
+  probes_bound column (k ∷ ks) keys = by (probes_bound (column + 1) ks keys.1) (find is_fixing (conditions_on_key r k es)) refl
     where
-      by : AreBounds (column + 1) ks (probes_from r (column + 1) ks given es) → (o : Option Cond) → find is_fixing (on_key r k es) ≡ o →
-          AreBounds column (k ∷ ks) (fixed_or_open o (probe_of r k column given) (on_key r k es) (probes_from r (column + 1) ks given es))
+      by : AreBounds (column + 1) ks (probes_from r (column + 1) ks given es) → (o : Option Cond) → find is_fixing (conditions_on_key r k es) ≡ o →
+          AreBounds column (k ∷ ks) (fixed_or_open o (probe_of r k column given) (conditions_on_key r k es) (probes_from r (column + 1) ks given es))
       by later None none =
-          from_open column k ks (map (probe_of r k column given) (on_key r k es))
-          (open_bounds column k keys.0 (on_key r k es) (λ e i. let in_es = in_filter (has_form Btree r k) es e i in (in_es.0, in_es.1, none_passes is_fixing (on_key r k es) none e i)))
+          from_open column k ks (map (probe_of r k column given) (conditions_on_key r k es))
+          (open_bounds column k keys.0 (conditions_on_key r k es) (λ e i. let in_es = in_filter (has_key_form Btree r k) es e i in (in_es.0, in_es.1, none_passes is_fixing (conditions_on_key r k es) none e i)))
       by later (Some e) found =
-          let here = in_filter (has_form Btree r k) es e (found_in is_fixing (on_key r k es) e found) in (
+          let here = in_filter (has_key_form Btree r k) es e (found_in is_fixing (conditions_on_key r k es) e found) in (
             stands r k given column type_of keys.0 e here.1 (defined e here.0),
             subst (λ (b : Bool). GoOn b (AreBounds (column + 1) ks (probes_from r (column + 1) ks given es)) (AllByRecursion (IsOpenOn column k) (probes_from r (column + 1) ks given es)))
-                (sym (fixes r k given column e here.1 ∙ found_passes is_fixing (on_key r k es) e found)) later,
+                (sym (fixes r k given column e here.1 ∙ found_passes is_fixing (conditions_on_key r k es) e found)) later,
           )
 
 pub filter_of : (p : Cond → Bool) (cs : List Numbered) → filter p (conditions_of cs) ≡ conditions_of (filter (λ (c : Numbered). p c.cond) cs)
@@ -107,7 +107,7 @@ module _ (r : ℕ) (given : Given) (own : ColNo → Value) (vs : List Value) (cs
   abbrev values : ColRef → Value
   values = value_beside r own given
 
-  open_meet : (column : ℕ) (k : IndexKey) → tree.value_at vs column ≡ own k.col → (xs : List Numbered) → ((c : Numbered) → IsIn c xs → IsIn c cs × (has_form Btree r k c.cond ≡ true)) →
+  open_meet : (column : ℕ) (k : IndexKey) → tree.key_value_at vs column ≡ own k.col → (xs : List Numbered) → ((c : Numbered) → IsIn c xs → IsIn c cs × (has_key_form Btree r k c.cond ≡ true)) →
       tree.meets_all (map (probe_of r k column given) (conditions_of xs)) vs ≡ are_true values (conditions_of xs)
   open_meet column k at [] each = refl
   open_meet column k at (c ∷ xs) each =
@@ -130,14 +130,14 @@ module _ (r : ℕ) (given : Given) (own : ColNo → Value) (vs : List Value) (cs
   probes_meet column [] at = refl
   probes_meet column (k ∷ ks) at =
       ap₂ (λ (o : Option Cond) (l : List Cond). tree.meets_all (fixed_or_open o (probe_of r k column given) l (probes_from r (column + 1) ks given (conditions_of cs))) vs)
-      (ap (find is_fixing) (filter_of (has_form Btree r k) cs) ∙ find_of is_fixing (match.on_key Btree r k cs)) (filter_of (has_form Btree r k) cs)
+      (ap (find is_fixing) (filter_of (has_key_form Btree r k) cs) ∙ find_of is_fixing (match.on_key Btree r k cs)) (filter_of (has_key_form Btree r k) cs)
       ∙ by (probes_meet (column + 1) ks at.1) (find (λ (c : Numbered). is_fixing c.cond) (match.on_key Btree r k cs)) refl
       ∙ sym (ap (λ (l : List Numbered). are_true values (conditions_of l)) (bounding_is k ks))
     where
       by : tree.meets_all (probes_from r (column + 1) ks given (conditions_of cs)) vs ≡ are_true values (conditions_of (bounding Btree r ks cs)) → (o : Option Numbered) → find (λ (c : Numbered). is_fixing c.cond) (match.on_key Btree r k cs) ≡ o →
           tree.meets_all (fixed_or_open (option_map (λ (c : Numbered). c.cond) o) (probe_of r k column given) (conditions_of (match.on_key Btree r k cs)) (probes_from r (column + 1) ks given (conditions_of cs))) vs
           ≡ are_true values (conditions_of (bounding_by o (match.on_key Btree r k cs) (bounding Btree r ks cs)))
-      by later None none = open_meet column k at.0 (match.on_key Btree r k cs) (λ c i. in_filter (λ (c : Numbered). has_form Btree r k c.cond) cs c i)
+      by later None none = open_meet column k at.0 (match.on_key Btree r k cs) (λ c i. in_filter (λ (c : Numbered). has_key_form Btree r k c.cond) cs c i)
       by later (Some c) found =
-          let here = in_filter (λ (c : Numbered). has_form Btree r k c.cond) cs c (found_in (λ (c : Numbered). is_fixing c.cond) (match.on_key Btree r k cs) c found) in
+          let here = in_filter (λ (c : Numbered). has_key_form Btree r k c.cond) cs c (found_in (λ (c : Numbered). is_fixing c.cond) (match.on_key Btree r k cs) c found) in
           ap₂ (λ (a b : Bool). a && b) (meets_true r k given column own vs at.0 c.cond here.1 (defined c here.0)) later

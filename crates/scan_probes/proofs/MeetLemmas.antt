@@ -24,7 +24,7 @@ use Rattle.btree_index.specs.declared.bounds.Probe.{Probe}
 use Rattle.btree_index.specs.declared.bounds.Probe.TheVariants.{Bound}
 use Rattle.btree_index.specs.Bounds as tree
 use Rattle.btree_index.specs.Bounds.{IsOn}
-use Rattle.index_match.specs.Conditions.{has_form, is_key, is_key_side, is_member, is_outside}
+use Rattle.index_match.specs.Conditions.{has_key_form, is_key, is_key_side, is_family_operator, is_outside}
 use Rattle.index_match.specs.Bounds.{is_fixing}
 use Rattle.scan_probes.specs.Values.{Given, value_beside}
 use Rattle.scan_probes.specs.Probes.{column_of, given_value, probe_of}
@@ -56,13 +56,13 @@ fixing_is AbsEq a b = refl
 fixing_is AbsGe a b = refl
 fixing_is AbsGt a b = refl
 
-null_true : (v : Value) → tree.is_null v ≡ is_true (truth_at (λ x. v) (is_null (record { rel = record { 0 = 0 }; col = record { 0 = 0 } })))
+null_true : (v : Value) → tree.is_null_value v ≡ is_true (truth_at (λ x. v) (is_null (record { rel = record { 0 = 0 }; col = record { 0 = 0 } })))
 null_true Null = refl
 null_true (Int n) = refl
 null_true (Flag b) = refl
 null_true (String t) = refl
 
-not_null_true : (v : Value) → not (tree.is_null v) ≡ is_true (truth_at (λ x. v) (is_not_null (record { rel = record { 0 = 0 }; col = record { 0 = 0 } })))
+not_null_true : (v : Value) → not (tree.is_null_value v) ≡ is_true (truth_at (λ x. v) (is_not_null (record { rel = record { 0 = 0 }; col = record { 0 = 0 } })))
 not_null_true Null = refl
 not_null_true (Int n) = refl
 not_null_true (Flag b) = refl
@@ -87,9 +87,9 @@ module _ (r : ℕ) (k : IndexKey) (given : Given) where
       turned false h = refl
 
   -- which side the column is on
-  sides : (op : Op) (a b : Operand) → has_form Btree r k (compare op a b) ≡ true →
+  sides : (op : Op) (a b : Operand) → has_key_form Btree r k (compare op a b) ≡ true →
       ((is_key_side r k a && is_outside r b) ≡ true) ⊎ (((is_key_side r k a && is_outside r b) ≡ false) × ((is_outside r a && is_key_side r k b) ≡ true))
-  sides op a b h = by (is_key_side r k a && is_outside r b) (is_outside r a && is_key_side r k b) (and_parts (is_member Btree k op) _ h).1
+  sides op a b h = by (is_key_side r k a && is_outside r b) (is_outside r a && is_key_side r k b) (and_parts (is_family_operator Btree k op) _ h).1
     where
       by : (x y : Bool) → x || y ≡ true → (x ≡ true) ⊎ ((x ≡ false) × (y ≡ true))
       by true y h = inl refl
@@ -100,7 +100,7 @@ module _ (r : ℕ) (k : IndexKey) (given : Given) where
     bound op o = Bound (record { col = column; op = op; value = value_of (given_value given) o })
 
     -- what is shown of either side is shown of the bound
-    on_side : (P : Probe → Type 0) (op : Op) (a b : Operand) → has_form Btree r k (compare op a b) ≡ true
+    on_side : (P : Probe → Type 0) (op : Op) (a b : Operand) → has_key_form Btree r k (compare op a b) ≡ true
         → (is_key_side r k a ≡ true → is_outside r b ≡ true → P (bound op b)) → (is_outside r a ≡ true → is_key_side r k b ≡ true → P (bound (commutator_of op) a))
         → P (probe_of r k column given (compare op a b))
     on_side P op a b h left right = ⊎_elim
@@ -112,8 +112,8 @@ module _ (r : ℕ) (k : IndexKey) (given : Given) where
         subst (λ (x : Bool). P (cond x (bound op b) (bound (commutator_of op) a))) (sym t.0) (right parts.0 parts.1))
         (sides op a b h)
 
-    pub fixes : (e : Cond) → has_form Btree r k e ≡ true → tree.is_fixing (probe_of r k column given e) ≡ is_fixing e
-    fixes (compare op a b) h = on_side (λ p. tree.is_fixing p ≡ is_fixing (compare op a b)) op a b h (λ x y. fixing_is op a b) (λ x y. equality_turned op ∙ fixing_is op a b)
+    pub fixes : (e : Cond) → has_key_form Btree r k e ≡ true → tree.fixes_column (probe_of r k column given e) ≡ is_fixing e
+    fixes (compare op a b) h = on_side (λ p. tree.fixes_column p ≡ is_fixing (compare op a b)) op a b h (λ x y. fixing_is op a b) (λ x y. equality_turned op ∙ fixing_is op a b)
     fixes (is_null x) h = refl
     fixes (is_not_null x) h = refl
     fixes (bool_col x) h = absurd (true≢false (sym h))
@@ -127,10 +127,10 @@ module _ (r : ℕ) (k : IndexKey) (given : Given) where
       sample : ColNo → Value
       sample c = some_value (type_of (column_of r c))
 
-      pub stands : (e : Cond) → has_form Btree r k e ≡ true → IsDefined (value_beside r (λ c. some_value (type_of (column_of r c))) given) e → IsOn column k (probe_of r k column given e)
+      pub stands : (e : Cond) → has_key_form Btree r k e ≡ true → IsDefined (value_beside r (λ c. some_value (type_of (column_of r c))) given) e → IsOn column k (probe_of r k column given e)
       stands (compare op a b) h defined =
           let values = value_beside r (λ c. some_value (type_of (column_of r c))) given in
-          let member = (and_parts (is_member Btree k op) _ h).0 in
+          let member = (and_parts (is_family_operator Btree k op) _ h).0 in
           on_side (IsOn column k) op a b h
           (λ ka ob.
           let both : AreComparable op (some_value (type_of (column_of r k.col))) (value_of (given_value given) b) =
@@ -151,8 +151,8 @@ module _ (r : ℕ) (k : IndexKey) (given : Given) where
       stands (negation c) h defined = absurd (true≢false (sym h))
 
     -- key values with the column's own meet it where the condition is True
-    module _ (own : ColNo → Value) (vs : List Value) (at : tree.value_at vs column ≡ own k.col) where
-      pub meets_true : (e : Cond) → has_form Btree r k e ≡ true → IsDefined (value_beside r own given) e → tree.meets (probe_of r k column given e) vs ≡ is_true (truth_at (value_beside r own given) e)
+    module _ (own : ColNo → Value) (vs : List Value) (at : tree.key_value_at vs column ≡ own k.col) where
+      pub meets_true : (e : Cond) → has_key_form Btree r k e ≡ true → IsDefined (value_beside r own given) e → tree.meets (probe_of r k column given e) vs ≡ is_true (truth_at (value_beside r own given) e)
       meets_true (compare op a b) h defined =
           let values = value_beside r own given in
           on_side (λ p. tree.meets p vs ≡ is_true (truth_of_op op (value_of values a) (value_of values b))) op a b h
@@ -160,9 +160,9 @@ module _ (r : ℕ) (k : IndexKey) (given : Given) where
           (λ oa kb. ap₂ (λ (v w : Value). is_true (truth_of_op (commutator_of op) v w)) (at ∙ sym (key_side own b kb)) (sym (outside own a oa))
           ∙ ap is_true (truth_exchanged op (value_of values a) (value_of values b) defined))
       meets_true (is_null x) h defined =
-          ap tree.is_null (at ∙ sym (key_read own x (and_parts true (is_key r k x) h).1)) ∙ null_true (value_beside r own given x)
+          ap tree.is_null_value (at ∙ sym (key_read own x (and_parts true (is_key r k x) h).1)) ∙ null_true (value_beside r own given x)
       meets_true (is_not_null x) h defined =
-          ap (λ (v : Value). not (tree.is_null v)) (at ∙ sym (key_read own x (and_parts true (is_key r k x) h).1)) ∙ not_null_true (value_beside r own given x)
+          ap (λ (v : Value). not (tree.is_null_value v)) (at ∙ sym (key_read own x (and_parts true (is_key r k x) h).1)) ∙ not_null_true (value_beside r own given x)
       meets_true (bool_col x) h defined = absurd (true≢false (sym h))
       meets_true (const t) h defined = absurd (true≢false (sym h))
       meets_true (all_of cs) h defined = absurd (true≢false (sym h))

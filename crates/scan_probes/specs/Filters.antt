@@ -8,7 +8,7 @@ use Rattle.opfamily.specs.KeyOrder.{Entry}
 use Rattle.pg_expr.specs.AtomSets.{contains}
 use Rattle.catalog.specs.Entries.{index_of}
 use Rattle.catalog.specs.declared.index_def.IndexDef.{IndexDef}
-use Rattle.eq_classes.specs.Clauses.{Table}
+use Rattle.eq_classes.specs.Clauses.{ClassTable}
 use Rattle.heap.specs.Stored.{Values}
 use Rattle.path_cost.specs.Estimates.{conditions_from}
 use Rattle.scan_probes.specs.Scenes.{AreReadyAtEntry, AreReadyAtRow}
@@ -20,7 +20,7 @@ abbrev pub lent_conditions : List (Bor Expr) → List Cond
 lent_conditions es = map (λ e. cond e.now) es
 
 -- the conditions of the clauses of a set, by their numbers
-abbrev pub chosen_conditions : List ℕ → Table → List Cond
+abbrev pub chosen_conditions : List ℕ → ClassTable → List Cond
 chosen_conditions set t = conditions_from 0 (contains set) t.clauses
 
 -- conditions can be tested at a row of the relation beside the rows given

@@ -61,7 +61,7 @@ struct KeyColumn {
 
 /// A condition on a key column, with the column on the left. The error means want of memory.
 fn probe(alloc: Global, at: &KeyColumn, given: &Given, e: &Expr) -> Result<Probe, Memory>
-    requires form { forms.has_form Btree at.now.rel.0 at.now.key (cond e.now) ≡ true }
+    requires form { forms.has_key_form Btree at.now.rel.0 at.now.key (cond e.now) ≡ true }
     requires known { is_known at.now.rel.0 given.now (cond e.now) ≡ true }
     ensures { IfOk result (λ p. p ≡ probe_at at.now given.now (cond e.now)) }
 {
@@ -125,7 +125,7 @@ pub fn equal_value(
     given: &Given,
     e: &Expr,
 ) -> Result<Value, Memory>
-    requires form { forms.has_form Hash r.0 key (cond e.now) ≡ true }
+    requires form { forms.has_key_form Hash r.0 key (cond e.now) ≡ true }
     requires known { is_known r.0 given.now (cond e.now) ≡ true }
     ensures { IfOk result (λ v. v ≡ compared_with r.0 key given.now (cond e.now)) }
 {

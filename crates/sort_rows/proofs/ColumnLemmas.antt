@@ -16,7 +16,7 @@ use Rattle.pg_expr.specs.Cond.{Cond}
 use Rattle.sql_query.specs.catalog_Contents.{Contents}
 use Rattle.eq_classes.specs.declared.order.OrderItem.{OrderItem}
 use Rattle.eq_classes.specs.Classes.{Class}
-use Rattle.eq_classes.specs.Clauses.{Set, Table, first_in}
+use Rattle.eq_classes.specs.Clauses.{Set, ClassTable, first_in}
 use Rattle.eq_classes.specs.Listing.{class_at, blank}
 use Rattle.eq_classes.proofs.ColumnLemmas.{member_passes}
 use Rattle.eq_classes.proofs.ListLemmas.{IsIn, all_at, all_from, found_in, found_passes, in_filter_map, in_from_contains}
@@ -84,7 +84,7 @@ module _ (c : Contents) (q : Query) (is : IsWellBound c q) (set : Set) (keys : K
         of_class w.0 (all_at (λ n. n < length q.classes.classes) keys within w.0 w.1) s w.2
 
 -- by the values at the columns, as by the classes
-module _ {X : Type 0} (value : X → ColRef → Value) (t : Table) (set : Set) (x y : X) where
+module _ {X : Type 0} (value : X → ColRef → Value) (t : ClassTable) (set : Set) (x y : X) where
   by_class : (k : Class) (o : Option ColRef) (cs : List SortColumn) (rest : Ordering) → columns_order cs (key_at cs (value x)) (key_at cs (value y)) ≡ rest
       → columns_order (cons_option (option_map (sorting_by k set) o) cs) (key_at (cons_option (option_map (sorting_by k set) o) cs) (value x)) (key_at (cons_option (option_map (sorting_by k set) o) cs) (value y))
       ≡ ordering_then (order_at k o (value x) (value y)) rest
@@ -96,14 +96,14 @@ module _ {X : Type 0} (value : X → ColRef → Value) (t : Table) (set : Set) (
   columns_compare (n ∷ ns) = by_class (class_at t.classes n) (first_in (class_at t.classes n) set) (sorted_columns t set ns) (keys_order value t set ns x y) (columns_compare ns)
 
 -- one class more
-columns_more : (t : Table) (set : Set) (ks : List ClassNo) (i : ℕ) (d : ClassNo) → i < length ks
+columns_more : (t : ClassTable) (set : Set) (ks : List ClassNo) (i : ℕ) (d : ClassNo) → i < length ks
     → sorted_columns t set (class_numbers (take (i + 1) ks)) ≡ sorted_columns t set (class_numbers (take i ks)) ++ cons_option (column_in (class_at t.classes (get_or ks i d).0) set) []
 columns_more t set ks i d lt =
     ap (λ (l : List ClassNo). sorted_columns t set (class_numbers l)) (take_more ks i d lt)
     ∙ ap (sorted_columns t set) (map-append (λ (c : ClassNo). c.0) (take i ks) (get_or ks i d ∷ []))
     ∙ filter_map-append (λ n. column_in (class_at t.classes n) set) (class_numbers (take i ks)) ((get_or ks i d).0 ∷ [])
 
-module _ (t : Table) (set : Set) (ks : List ClassNo) (i : ℕ) (d : ClassNo) (lt : i < length ks) (columns : List SortColumn) (before : columns ≡ sorted_columns t set (class_numbers (take i ks))) where
+module _ (t : ClassTable) (set : Set) (ks : List ClassNo) (i : ℕ) (d : ClassNo) (lt : i < length ks) (columns : List SortColumn) (before : columns ≡ sorted_columns t set (class_numbers (take i ks))) where
   pub columns_pushed : (s : SortColumn) → Some s ≡ column_in (class_at t.classes (get_or ks i d).0) set → columns ++ s ∷ [] ≡ sorted_columns t set (class_numbers (take (i + 1) ks))
   columns_pushed s is =
       ap (λ (l : List SortColumn). l ++ s ∷ []) before
@@ -118,9 +118,9 @@ module _ (t : Table) (set : Set) (ks : List ClassNo) (i : ℕ) (d : ClassNo) (lt
       ∙ sym (columns_more t set ks i d lt)
 
 -- the columns that a call gave
-pub columns_given : (t u : Table) (r s : RelSet) (ks ls : Keys) (lent columns : List SortColumn) → lent ≡ columns → columns ≡ sorted_columns t (has r.0) ks → t ≡ u → r ≡ s → ks ≡ ls → lent ≡ sorted_columns u (has s.0) ls
+pub columns_given : (t u : ClassTable) (r s : RelSet) (ks ls : Keys) (lent columns : List SortColumn) → lent ≡ columns → columns ≡ sorted_columns t (has r.0) ks → t ≡ u → r ≡ s → ks ≡ ls → lent ≡ sorted_columns u (has s.0) ls
 columns_given t u r s ks ls lent columns same given t_is r_is ks_is =
     same ∙ given
-    ∙ ap (λ (x : Table). sorted_columns x (has r.0) ks) t_is
+    ∙ ap (λ (x : ClassTable). sorted_columns x (has r.0) ks) t_is
     ∙ ap (λ (x : RelSet). sorted_columns u (has x.0) ks) r_is
     ∙ ap (sorted_columns u (has s.0)) ks_is

@@ -11,7 +11,7 @@ use Rattle.opfamily.specs.KeyOrder.{first_value, later_values}
 use Rattle.pg_expr.specs.declared.operand.ColRef.{ColRef}
 use Rattle.sql_query.specs.catalog_Contents.{Contents}
 use Rattle.eq_classes.specs.Classes.{Class}
-use Rattle.eq_classes.specs.Clauses.{Set, Table, first_in}
+use Rattle.eq_classes.specs.Clauses.{Set, ClassTable, first_in}
 use Rattle.eq_classes.specs.Listing.{class_at}
 use Rattle.heap.specs.Tuples.{rank}
 use Rattle.sql_query.specs.Queries.{Query}
@@ -34,11 +34,11 @@ abbrev pub column_in : Class → Set → Option SortColumn
 column_in c set = option_map (sorting_by c set) (first_in c set)
 
 -- those of a key list
-abbrev pub sorted_columns : Table → Set → Keys → List SortColumn
+abbrev pub sorted_columns : ClassTable → Set → Keys → List SortColumn
 sorted_columns t set keys = filter_map (λ n. column_in (class_at t.classes n) set) keys
 
 -- those of the classes of a list, for tuples of a set of relations
-abbrev pub sorting_columns : Table → RelSet → List ClassNo → List SortColumn
+abbrev pub sorting_columns : ClassTable → RelSet → List ClassNo → List SortColumn
 sorting_columns t set keys = sorted_columns t (has set.0) (class_numbers keys)
 
 -- two values of a column
@@ -61,9 +61,9 @@ pub record IsSortColumn (c : Contents) (q : Query) (set : Set) (s : SortColumn) 
   pub place : s.place ≡ rank set s.column.rel.0
 
 -- the values that a list of references to values stands for
-abbrev pub lent_values : List (Bor Value) → List Value
-lent_values vs = map (λ v. v.now) vs
+abbrev pub lent_key_values : List (Bor Value) → List Value
+lent_key_values vs = map (λ v. v.now) vs
 
 -- the value at a place of a key, and NULL past its end
 abbrev pub lent_value : List (Bor Value) → ℕ → Value
-lent_value key place = slice_index_or (lent_values key) place Null
+lent_value key place = slice_index_or (lent_key_values key) place Null

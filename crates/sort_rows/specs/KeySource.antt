@@ -11,7 +11,7 @@ use Rattle.sql_query.specs.Queries.{all_of_query, Query, width}
 use Rattle.sql_query.specs.Tuples.{value_at, Tuple}
 use Rattle.sql_query.specs.Worlds.{World, IsWorld, world}
 use Rattle.sort_rows.specs.declared.source.KeySource.{KeySource}
-use Rattle.sort_rows.specs.Columns.{columns_order, key_at, IsSortColumn, lent_values}
+use Rattle.sort_rows.specs.Columns.{columns_order, key_at, IsSortColumn, lent_key_values}
 use Rattle.sort_rows.specs.Rows.{tuple_of, AreRowsAt}
 use Rattle.std.specs.List.{flat_map}
 use Rattle.std.specs.Borrow.{Bor}
@@ -51,7 +51,7 @@ module _ {C F L : Type 0} where
 
   -- the key of a tuple stands behind those of a list
   abbrev pub AddsKey : KeySource C F L → List Tid → Vec (Bor Value) Global → Vec (Bor Value) Global → Type 0
-  AddsKey at row old new = lent_values new.items ≡ lent_values old.items ++ key_of at row
+  AddsKey at row old new = lent_key_values new.items ≡ lent_key_values old.items ++ key_of at row
 
   -- the rows that are lent are those of a tuple
   abbrev pub AreRowsRead : KeySource C F L → List Tid → List (Bor Values) → Type 0
@@ -72,4 +72,4 @@ IsInKeyOrder w q keys input ts = padded_tuples (width q) ts ≡ tuples_by_keys w
 
 -- values are those of a tuple of a set of relations at columns of them
 abbrev pub IsKeyAt : World → Query → RelSet → List SortColumn → List Tid → Vec (Bor Value) Global → Type 0
-IsKeyAt w q set cs row key = lent_values key.items ≡ key_at cs (value_at w q (tuple_of q set row))
+IsKeyAt w q set cs row key = lent_key_values key.items ≡ key_at cs (value_at w q (tuple_of q set row))

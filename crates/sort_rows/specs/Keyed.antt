@@ -6,7 +6,7 @@ use Rattle.pg_base.specs.declared.numbers.Tid.{Tid}
 use Rattle.pg_value.specs.declared.value.Value.{Value}
 use Rattle.sort_rows.specs.declared.columns.SortColumn.{SortColumn}
 use Rattle.sort_rows.specs.declared.sort.Keyed.{Keyed}
-use Rattle.sort_rows.specs.Columns.{columns_order, lent_values}
+use Rattle.sort_rows.specs.Columns.{columns_order, lent_key_values}
 use Rattle.sort_rows.specs.Leads.{key_lead}
 use Rattle.std.specs.Borrow.{Bor}
 use Rattle.pg_value.specs.Sorting.{in_order}
@@ -43,11 +43,11 @@ module _ (cs : List SortColumn) (keys : List Value) where
 module _ (cs : List SortColumn) (keys : List (Bor Value)) where
   -- tuples in the order of their keys; those that tie keep their places
   abbrev pub keyed_sorted : List Keyed → List Keyed
-  keyed_sorted ks = in_order (keyed_order cs (lent_values keys)) ks
+  keyed_sorted ks = in_order (keyed_order cs (lent_key_values keys)) ks
 
   -- the tuples of a list, each with the lead of its key
   abbrev pub AreWithLeads : TupleList → List Keyed → Type 0
-  AreWithLeads input ks = AreKeyed cs (lent_values keys) (length input.rows) ks
+  AreWithLeads input ks = AreKeyed cs (lent_key_values keys) (length input.rows) ks
 
 -- the tuples of a list in the order of their places
 abbrev pub tuples_keyed : TupleList → List Keyed → TupleList

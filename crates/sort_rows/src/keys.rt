@@ -8,7 +8,7 @@ ghost use Rattle.heap.specs.Tuples.{relation_count};
 ghost use Rattle.path_cost.specs.Columns.{AreTables};
 ghost use Rattle.sql_query.specs.Queries.{all_of_query};
 ghost use Rattle.sql_query.specs.Worlds.{IsWorld, world};
-ghost use Rattle.sort_rows.specs.Columns.{columns_order, lent_value, lent_values, values_order, IsSortColumn};
+ghost use Rattle.sort_rows.specs.Columns.{columns_order, lent_value, lent_key_values, values_order, IsSortColumn};
 ghost use Rattle.sort_rows.specs.Keyed.{run_at};
 ghost use Rattle.sort_rows.specs.KeySource.{AddsKey, AreRowsRead, IsKeyAt, IsKeySource, world_of};
 ghost use Rattle.sort_rows.specs.Rows.{HasRows};
@@ -120,7 +120,7 @@ pub(crate) fn key_at_place<'k, 'a>(
 /// How two keys stand to one another, by the first column that tells them apart. A value that a key lacks counts as
 /// NULL.
 pub fn compare_keys(columns: &[SortColumn], a: &[&Value], b: &[&Value]) -> Ordering
-    ensures { result ≡ columns_order columns.now (lent_values a.now) (lent_values b.now) }
+    ensures { result ≡ columns_order columns.now (lent_key_values a.now) (lent_key_values b.now) }
 {
     for i in 0..columns.len() {
         match compare_at(columns[i], a, b, i) {
@@ -149,7 +149,7 @@ fn compare_at(column: SortColumn, a: &[&Value], b: &[&Value], place: usize) -> O
 
 /// The value at a place of a key, or another one past its end.
 pub(crate) fn value_or<'a>(key: &'a [&Value], place: usize, past: &'a Value) -> &'a Value
-    ensures { result.now ≡ slice_index_or (lent_values key.now) place past.now }
+    ensures { result.now ≡ slice_index_or (lent_key_values key.now) place past.now }
 {
     match key.get(place) {
         Some(value) => value,

@@ -3,7 +3,7 @@
 ghost use Rattle.std.specs.Prelude.{◌≡◌, pos};
 ghost use Rattle.pg_value.specs.Order as order;
 ghost use Rattle.sort_rows.specs.Leads.{absent_lead, family_lead, flag_lead, key_lead, later, lead_of, leading, text_lead};
-ghost use Rattle.sort_rows.specs.Columns.{lent_values};
+ghost use Rattle.sort_rows.specs.Columns.{lent_key_values};
 
 use crate::columns::SortColumn;
 use crate::keys::value_or;
@@ -105,7 +105,7 @@ fn later(text: &[u8]) -> &[u8]
 
 /// The lead of a key: that of its first value.
 pub(crate) fn key_lead(columns: &[SortColumn], key: &[&Value]) -> i64
-    ensures { result ≡ key_lead columns.now (lent_values key.now) }
+    ensures { result ≡ key_lead columns.now (lent_key_values key.now) }
 {
     let null = Value::Null;
     match columns.first() {

@@ -10,7 +10,7 @@ ghost use Rattle.sql_query.specs.Worlds.{IsWorld, world};
 ghost use Rattle.sort_rows.specs.Keyed.{AreWithLeads, keyed_order, keyed_sorted, rows_keyed, tuples_keyed};
 ghost use Rattle.sort_rows.specs.KeySource.{IsInKeyOrder, IsKeySource, in_key_order, keys_of_all, world_of};
 ghost use Rattle.sort_rows.specs.Rows.{AllHaveRows};
-ghost use Rattle.sort_rows.specs.Columns.{lent_values};
+ghost use Rattle.sort_rows.specs.Columns.{lent_key_values};
 
 use crate::columns::{SortColumn, sort_columns};
 use crate::keys::{add_key, compare_keys, key_at_place};
@@ -94,7 +94,7 @@ fn read_keys<'a, C: Counters>(
     requires source { IsKeySource at.now }
     requires set { at.now.set ≡ input.now.set }
     requires rows { AllHaveRows (world_of at.now) at.now.q.now input.now }
-    ensures keys { IfOk result (λ keys. lent_values keys.items ≡ keys_of_all at.now input.now) }
+    ensures keys { IfOk result (λ keys. lent_key_values keys.items ≡ keys_of_all at.now input.now) }
     ensures cost { reads.new ≤ reads.old + relation_count input.now.set * length input.now.rows }
 {
     let mut keys = Vec::new(alloc);
@@ -125,7 +125,7 @@ fn with_leads(
 
 /// How two tuples stand to one another by their keys.
 fn compare_keyed(columns: &[SortColumn], keys: &[&Value], a: Keyed, b: Keyed) -> Ordering
-    ensures { result ≡ keyed_order columns.now (lent_values keys.now) a b }
+    ensures { result ≡ keyed_order columns.now (lent_key_values keys.now) a b }
 {
     match a.lead.cmp(&b.lead) {
         Ordering::Equal => {

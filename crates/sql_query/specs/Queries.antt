@@ -5,14 +5,14 @@ use Rattle.pg_expr.specs.declared.operand.ColRef.{ColRef}
 use Rattle.pg_expr.specs.Cond.{Cond}
 use Rattle.catalog.specs.Range.{Range}
 use Rattle.eq_classes.specs.declared.order.OrderItem.{OrderItem}
-use Rattle.eq_classes.specs.Clauses.{Set, Table}
+use Rattle.eq_classes.specs.Clauses.{Set, ClassTable}
 use Rattle.sql_query.specs.declared.window.Window.{Window}
 
 -- the relations in FROM order, the classes with the numbered clauses, the columns of the select list, the items of ORDER
 -- BY, every column that is named, the conjuncts as written, and the window, where LIMIT or OFFSET is written
 pub record Query : Type 0 where
   pub range : Range
-  pub classes : Table
+  pub classes : ClassTable
   pub select : List ColRef
   pub order : List OrderItem
   pub used : List ColRef

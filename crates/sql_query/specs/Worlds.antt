@@ -3,7 +3,7 @@ use Rattle.std.specs.Prelude.{◌≡◌, List, [], length, slice_index_or}
 use Rattle.std.specs.List.{AllZip}
 use Rattle.catalog.specs.pg_base_numbers_TableNo.{TableNo}
 use Rattle.catalog.specs.Contents.{Contents, TableDef, nothing}
-use Rattle.heap.specs.Stored.{Stored, IsLawful}
+use Rattle.heap.specs.Stored.{Stored, IsLawfulData}
 
 -- the catalogue's contents, and what is stored of each table, in order of making
 pub record World : Type 0 where
@@ -18,7 +18,7 @@ world contents stored = record { contents = contents; stored = stored }
 pub record Holds (d : TableDef) (s : Stored) : Type 0 where
   pub columns : s.columns ≡ d.columns
   pub loaded : d.loaded ≡ length s.rows
-  pub lawful : IsLawful s
+  pub lawful : IsLawfulData s
 
 -- so for each table
 abbrev pub IsWorld : World → Type 0

@@ -20,7 +20,7 @@ use Rattle.sql_grammar.specs.Faults.{bytes_of, fault_at}
 use Rattle.sql_grammar.specs.Syntax.{Col, bare, qualified, Ordering, ordering, OrderBy, no_order, order_by, OrderedSelect, ordered_select, Expr, Join, join_on, cross_join, Group, group_of, select_from, WindowedSelect, windowed_select, Where, no_where, where_expr, Limit as LimitTree, no_limit, most_rows, Offset, no_offset, skipped_rows, Window as WindowTree, window}
 use Rattle.sql_grammar.specs.FromParts.{groups_after}
 use Rattle.expr_reader.specs.declared.cursor.Spelled.{Spelled}
-use Rattle.expr_reader.specs.Lists.{parts_of}
+use Rattle.expr_reader.specs.Lists.{further_parts}
 use Rattle.expr_reader.specs.Conditions.{the_column, meaning_of_expr}
 use Rattle.expr_reader.specs.Scope.{Scope, under, look_up}
 use Rattle.query_reader.specs.declared.written.Item.{Item}
@@ -111,7 +111,7 @@ order-item-plain scope select (ordering x d z) = next-plain (order_column scope 
 
 pub order-plain : (scope : Scope) (select : List ColRef) (o : OrderBy) → IsPlain (order_items scope select o)
 order-plain scope select no_order = tt
-order-plain scope select (order_by k b o os) = each-plain (order_item scope select) (o ∷ parts_of (λ x. x) os) (order-item-plain scope select)
+order-plain scope select (order_by k b o os) = each-plain (order_item scope select) (o ∷ further_parts (λ x. x) os) (order-item-plain scope select)
 
 rows-plain : (n : Said) → IsPlain (rows_of n)
 rows-plain n = by (nat_lt (digits_value 10 n.value) (limit types.Int8))

@@ -6,7 +6,7 @@ use Rattle.pg_base.specs.declared.faults.Limit.{Limit}
 use Rattle.pg_base.specs.declared.faults.Refusal.{Refusal}
 use Rattle.pg_base.specs.declared.faults.Refusal.TheVariants as refusal
 use Rattle.catalog.specs.Range.{type_in}
-use Rattle.eq_classes.specs.Clauses.{Table}
+use Rattle.eq_classes.specs.Clauses.{ClassTable}
 use Rattle.eq_classes.specs.Holding.{IsClassTable}
 use Rattle.sql_lex.specs.declared.tokens.Token.{Token}
 use Rattle.sql_lex.specs.Ends.{end_of, token_at}
@@ -75,9 +75,9 @@ pub record IsClaim (given : Given) (w : World) (text : List ℕ) (tokens : List 
   pub ends : stop.end ≡ end_of tokens
   pub at : IsSelectAt text tokens (words_for given) select
   pub within : words_for given < length tokens
-  pub whole : (b : Bound) (classes : Table) → bound_part w.contents (token_at tokens 0) select ≡ Ok b → IsWholeFor given (query_with classes b)
+  pub whole : (b : Bound) (classes : ClassTable) → bound_part w.contents (token_at tokens 0) select ≡ Ok b → IsWholeFor given (query_with classes b)
   pub faults : (f : Fault) → IsCheckFault w text tokens select stop f → IsMeaningFault w text tokens statement f
-  pub does : (start end next : ℕ) (b : Bound) (classes : Table) → IsDataStart text stop.end (Ok start) → bound_part w.contents (token_at tokens 0) select ≡ Ok b → IsBlockEnd text start end next →
+  pub does : (start end next : ℕ) (b : Bound) (classes : ClassTable) → IsDataStart text stop.end (Ok start) → bound_part w.contents (token_at tokens 0) select ≡ Ok b → IsBlockEnd text start end next →
       IsClassTable (given_of w.contents (query_with classes b)) classes → Does w text tokens statement (action_for given (query_with classes b) (slice_range text start end)) next
 
 -- a SELECT without LIMIT and OFFSET means a query without a window

@@ -25,7 +25,7 @@ use Rattle.ddl_reader.specs.declared.ddl.Ddl.TheVariants.{Table, Rows, Column as
 use Rattle.ddl_reader.specs.declared.ddl.Read.{Read}
 use Rattle.ddl_reader.specs.Readings.{definition, reading}
 use Rattle.ddl_reader.specs.Types.{type_named}
-use Rattle.ddl_reader.specs.Columns.{Written, defined_column, Bound, bound, bound_by, bound_all, further}
+use Rattle.ddl_reader.specs.Columns.{Written, defined_column, BoundColumn, bound_column, bound_by, bound_all, further}
 use Rattle.expr_reader.specs.Lists.{bound_each}
 use Rattle.ddl_reader.specs.Statistics.{CommonWords, common_value, table_of_name, column_of_name, stated_rows, statistics_of, column_statistics_of, commons_of, bounds_of, analysis}
 use Rattle.expr_reader.specs.Literals.{typed_value}
@@ -56,13 +56,13 @@ type-plain None w = refl
 type-plain (Some t) w = tt
 
 columns-plain : (ws : List Written) → IsPlain (bound_all ws)
-columns-plain ws = each-plain bound ws (λ w. type-plain (type_named w.kind) w)
+columns-plain ws = each-plain bound_column ws (λ w. type-plain (type_named w.kind) w)
 
-limited-plain : (m : Reading) (left : List Bound) → IsPlain (limited_columns m left)
+limited-plain : (m : Reading) (left : List BoundColumn) → IsPlain (limited_columns m left)
 limited-plain m [] = tt
 limited-plain m (b ∷ left) = refl
 
-table-plain : (name : List ℕ) (token : Token) (m : Result (List Bound) Fault) → IsPlain m → IsPlain (bound_table name token m)
+table-plain : (name : List ℕ) (token : Token) (m : Result (List BoundColumn) Fault) → IsPlain m → IsPlain (bound_table name token m)
 table-plain name token (Err f) none = none
 table-plain name token (Ok bs) none = limited-plain (table_reading name token bs) (drop MOST_COLUMNS bs)
 

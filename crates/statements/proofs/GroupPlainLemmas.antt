@@ -11,7 +11,7 @@ use Rattle.sql_grammar.specs.Syntax.{Argument, all_rows, of_col, GroupBy, no_gro
 use Rattle.sql_grammar.specs.Faults.{bytes_of}
 use Rattle.sql_grammar.specs.Terminals.{Ident}
 use Rattle.eq_classes.specs.declared.order.OrderItem.{OrderItem}
-use Rattle.expr_reader.specs.Lists.{parts_of}
+use Rattle.expr_reader.specs.Lists.{further_parts}
 use Rattle.sql_query.specs.declared.grouped.Item.{Item}
 use Rattle.expr_reader.specs.Conditions.{column_of}
 use Rattle.expr_reader.specs.Scope.{Scope}
@@ -38,7 +38,7 @@ grouped-plain keys ps ordered words x = none-plain (filter_map (ungrouped_part k
 
 columns-plain : (scope : Scope) (b : GroupBy) → IsPlain (group_columns scope b)
 columns-plain scope no_group_by = tt
-columns-plain scope (group_by k b c cs) = each-plain (column_of scope) (c ∷ parts_of (λ x. x) cs) (column-plain scope)
+columns-plain scope (group_by k b c cs) = each-plain (column_of scope) (c ∷ further_parts (λ x. x) cs) (column-plain scope)
 
 module _ (scope : Scope) (type_of : ColRef → SqlType) where
   call-plain : (n : Ident) (a : Argument) → IsPlain (call_parts scope type_of n a)
@@ -67,7 +67,7 @@ over-plain start is w b y j =
 
 groups-bound : (c : Contents) (start : Token) (x : GroupedSelect) → IsPlain (bound_groups c start x)
 groups-bound c start (grouped_select i is f g gs w b d y e) =
-    next-plain (with_groups (nothing_joined c) (g ∷ groups_after gs)) _ (groups-plain (nothing_joined c) (g ∷ groups_after gs)) (over-plain start (i ∷ parts_of (λ x. x) is) w b y)
+    next-plain (with_groups (nothing_joined c) (g ∷ groups_after gs)) _ (groups-plain (nothing_joined c) (g ∷ groups_after gs)) (over-plain start (i ∷ further_parts (λ x. x) is) w b y)
 
 by-fault : {A : Type 0} (r : Result A Fault) (f : Fault) → r ≡ Err f → IsPlain r → f.rec ≡ 0
 by-fault (Ok x) f is plain = absurd (cc (is))

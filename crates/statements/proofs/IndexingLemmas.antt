@@ -28,8 +28,8 @@ use Rattle.index_reader.specs.declared.keys.KeyRead.{KeyRead}
 use Rattle.index_reader.specs.declared.names.NamedColumn.{NamedColumn}
 use Rattle.index_reader.specs.declared.methods.MethodRead.{MethodRead}
 use Rattle.index_reader.specs.Keys.{class_bound, class_has_method, class_known, key_bound, keys_of, method_bound, method_of_name, name_bound, include_names}
-use Rattle.index_reader.specs.Meaning.{Reading, condition_bound, has_many_atoms, index_reading, limited_names, meaning, meaning_of_cand, name_tokens, within_limits}
-use Rattle.index_reader.specs.Statements.{IsMeaning, IsRefusal}
+use Rattle.index_reader.specs.Meaning.{IndexMeant, condition_bound, has_many_atoms, index_reading, limited_names, meaning, meaning_of_cand, name_tokens, within_limits}
+use Rattle.index_reader.specs.Statements.{IsIndexMeaning, IsCreateRefusal}
 use Rattle.index_reader.specs.Visible.{Sight, visible_in, sight_type}
 use Rattle.sql_query.specs.Worlds.{World, stored_at}
 use Rattle.statements.specs.declared.end.End.{End}
@@ -107,12 +107,12 @@ place-among cat name x refused.Memory count h many = tt
 
 module _ (w : World) (text : List ℕ) (tokens : List Token) where
   -- what the reader refuses
-  pub read-refused : (looked : ℕ) (r : Refusal) → IsRefusal w.contents text tokens r → Refuses (end_of_refusal r) w text tokens looked looked
+  pub read-refused : (looked : ℕ) (r : Refusal) → IsCreateRefusal w.contents text tokens r → Refuses (end_of_refusal r) w text tokens looked looked
   read-refused looked (refusal.Fault f) (inl first) = (in_syntax first, plain-field w.contents f (ap (λ (g : Fault). g.rec) first.place), refl)
   read-refused looked (refusal.Fault f) (inr m) = (in_meaning (create_index m.statement) m.spelled (inl m.means), plain-field w.contents f (fault-plain w.contents m.statement f m.means), refl)
   read-refused looked refusal.Memory h = inl refl
 
-  module _ (r : Reading) (m : IsMeaning w.contents text tokens (Ok r)) where
+  module _ (r : IndexMeant) (m : IsIndexMeaning w.contents text tokens (Ok r)) where
     -- what the catalogue accepts
     carrying : (looked looked' : ℕ) → IsAcceptableIndex w.contents r.name r.index → looked' ≤ looked + length (stored_at w r.index.table).rows → IsCarrying w text tokens (build r.name r.index) (end_of tokens) looked looked'
     carrying looked looked' accepted within = record {

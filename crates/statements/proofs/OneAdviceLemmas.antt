@@ -10,12 +10,12 @@ use Rattle.sql_lex.specs.declared.tokens.Token.{Token}
 use Rattle.sql_grammar.specs.Syntax.{Cand, Advised, Advise, advise_of}
 use Rattle.catalog.specs.Contents.{Contents, NamedIndex}
 use Rattle.catalog.specs.Indexes.{columns_of, has_form}
-use Rattle.eq_classes.specs.Clauses.{Table}
+use Rattle.eq_classes.specs.Clauses.{ClassTable}
 use Rattle.eq_classes.specs.Holding.{IsClassTable}
 use Rattle.eq_classes.proofs.UniqueLemmas.{table_one}
 use Rattle.catalog.specs.Candidates.{with_candidates}
 use Rattle.index_prices.specs.Replies.{HasNoAdviceFor, IsReplyTo}
-use Rattle.index_reader.specs.Meaning.{Reading}
+use Rattle.index_reader.specs.Meaning.{IndexMeant}
 use Rattle.query_reader.specs.Binding.{Bound, query_with}
 use Rattle.sql_query.specs.Queries.{Query}
 use Rattle.sql_query.specs.WellBound.{given_of}
@@ -57,7 +57,7 @@ read-one A B M one earlier [] = one-value (Ok earlier)
 read-one A B M one earlier (x ∷ xs) =
     then-one B (List B) (M earlier x) (λ y. AreRead A B M (earlier ++ y ∷ []) xs) (one earlier x) (λ y. read-one A B M one (earlier ++ y ∷ []) xs)
 
-module _ (c : Contents) (tokens : List Token) (read : Reading) where
+module _ (c : Contents) (tokens : List Token) (read : IndexMeant) where
   -- a candidate may not be made for one reason
   one-cause : (f g : Fault) → IsNotAllowed c tokens read f → IsNotAllowed c tokens read g → f ≡ g
   one-cause f g (taken h i) (taken k j) = i ∙ sym j
@@ -92,7 +92,7 @@ module _ (c : Contents) (start : Token) where
   candidates-one : (tokens : List Token) (xs : List Cand) → HasOne (CandidatesMean c start tokens xs)
   candidates-one tokens xs =
       read-one Cand NamedIndex (CandidateMeans c start tokens)
-      (λ earlier x. then-one Reading NamedIndex _ _ (one-value (candidate_read c start (length earlier) x)) (λ r. made-one (with_candidates c earlier) tokens r))
+      (λ earlier x. then-one IndexMeant NamedIndex _ _ (one-value (candidate_read c start (length earlier) x)) (λ r. made-one (with_candidates c earlier) tokens r))
       [] xs
 
   same-query : (meant : Result Bound Fault) (p q : Query) → IsQueryOf meant (Ok p) → IsQueryOf meant (Ok q) → IsClassTable (given_of c p) p.classes → IsClassTable (given_of c q) q.classes → p ≡ q
@@ -100,7 +100,7 @@ module _ (c : Contents) (start : Token) where
   same-query (Ok b) p q h k i j =
       let first : IsClassTable (given_of c (query_with p.classes b)) p.classes = subst (λ (x : Query). IsClassTable (given_of c x) p.classes) h i in
       let second : IsClassTable (given_of c (query_with q.classes b)) q.classes = subst (λ (x : Query). IsClassTable (given_of c x) q.classes) k j in
-      h ∙ (ap (λ (t : Table). query_with t b) (table_one (given_of c (query_with p.classes b)) p.classes q.classes first second) ∙ sym k)
+      h ∙ (ap (λ (t : ClassTable). query_with t b) (table_one (given_of c (query_with p.classes b)) p.classes q.classes first second) ∙ sym k)
 
   same-fault : (meant : Result Bound Fault) (f g : Fault) → IsQueryOf meant (Err f) → IsQueryOf meant (Err g) → f ≡ g
   same-fault (Ok b) f g h k = absurd h

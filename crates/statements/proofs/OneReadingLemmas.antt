@@ -12,12 +12,12 @@ use Rattle.sql_grammar.specs.Faults.{bytes_of, IsStatement, terminals}
 use Rattle.catalog.specs.Contents.{Contents}
 use Rattle.catalog.specs.Tables.{IsIndexRefusal, table_named}
 use Rattle.eq_classes.specs.Holding.{IsClassTable}
-use Rattle.eq_classes.specs.Clauses.{Table}
+use Rattle.eq_classes.specs.Clauses.{ClassTable}
 use Rattle.ddl_reader.specs.Block.{HaveNoMark, IsBlockEnd, lines_of}
 use Rattle.ddl_reader.specs.Statements.{Means}
 use Rattle.ddl_reader.specs.Tables.{Definition, table, sizes_for, statistics_for, data_for, analysis_of, Reading, data_after}
 use Rattle.heap.specs.Loading.{records_of, loaded}
-use Rattle.index_reader.specs.Meaning.{Reading as IndexReading}
+use Rattle.index_reader.specs.Meaning.{IndexMeant as IndexReading}
 use Rattle.query_reader.specs.Binding.{Bound, query_with}
 use Rattle.query_reader.specs.Wanted.{wanted_by}
 use Rattle.query_reader.specs.declared.wanted.Wanted.{Wanted}
@@ -96,18 +96,18 @@ module _ (w : World) (text : List ℕ) (tokens : List Token) where
       i ∙ (ap (λ (y : Asked). advise y.most y.candidates y.queries) (one-advice w.contents tokens x (Ok p) (Ok q) h k left right) ∙ sym j)
 
   -- the classes of a query are one table
-  one_query_of : (p q : Bound) (t u : Table) → q ≡ p → IsClassTable (given_of w.contents (query_with t p)) t → IsClassTable (given_of w.contents (query_with u q)) u → query_with t p ≡ query_with u q
+  one_query_of : (p q : Bound) (t u : ClassTable) → q ≡ p → IsClassTable (given_of w.contents (query_with t p)) t → IsClassTable (given_of w.contents (query_with u q)) u → query_with t p ≡ query_with u q
   one_query_of p q t u same left right =
       let there : IsClassTable (given_of w.contents (query_with u p)) u = subst (λ (z : Bound). IsClassTable (given_of w.contents (query_with u z)) u) same right in
       let one : t ≡ u = table_one (given_of w.contents (query_with t p)) t u left there in
-      ap (λ (z : Table). query_with z p) one ∙ ap (query_with u) (sym same)
+      ap (λ (z : ClassTable). query_with z p) one ∙ ap (query_with u) (sym same)
 
   -- and so are those of a grouped query
-  one_groups_of : (p q : BoundGroups) (t u : Table) → q ≡ p → IsClassTable (given_groups w.contents (grouped_with t p)) t → IsClassTable (given_groups w.contents (grouped_with u q)) u → grouped_with t p ≡ grouped_with u q
+  one_groups_of : (p q : BoundGroups) (t u : ClassTable) → q ≡ p → IsClassTable (given_groups w.contents (grouped_with t p)) t → IsClassTable (given_groups w.contents (grouped_with u q)) u → grouped_with t p ≡ grouped_with u q
   one_groups_of p q t u same left right =
       let there : IsClassTable (given_groups w.contents (grouped_with u p)) u = subst (λ (z : BoundGroups). IsClassTable (given_groups w.contents (grouped_with u z)) u) same right in
       let one : t ≡ u = table_one (given_groups w.contents (grouped_with t p)) t u left there in
-      ap (λ (z : Table). grouped_with z p) one ∙ ap (grouped_with u) (sym same)
+      ap (λ (z : ClassTable). grouped_with z p) one ∙ ap (grouped_with u) (sym same)
 
   one_grouping : (e : MaybeExplain) (p q : BoundGroups) (a b : Action) → q ≡ p → Groups w e p a → Groups w e q b → a ≡ b
   one_grouping e p q a b same h k = h.asks ∙ (ap (asked_of_groups e) (one_groups_of p q h.classes k.classes same h.own k.own) ∙ sym k.asks)

@@ -34,7 +34,7 @@ use Rattle.expr_reader.specs.Literals.{typed_value}
 use Rattle.expr_reader.specs.Lists.{bound_each}
 use Rattle.ddl_reader.specs.Statistics.{CommonWords, common_value, table_of_name, column_of_name, stated_rows, statistics_of, column_statistics_of, commons_of, bounds_of, analysis}
 use Rattle.sql_grammar.proofs.ExprTrees.{tokens-are}
-use Rattle.ddl_reader.specs.Columns.{Bound, bound_all, defined_column, further}
+use Rattle.ddl_reader.specs.Columns.{BoundColumn, bound_all, defined_column, further}
 use Rattle.ddl_reader.specs.Tables.{Definition, table, sizes_for, statistics_for, data_for, analysis_of, Reading, data_after, limited_columns, bound_table, table_reading}
 use Rattle.pg_value.specs.Fields.{null_text}
 use Rattle.sql_query.specs.Queries.{Query}
@@ -133,12 +133,12 @@ carried-data w text tokens (data_for u from) action next t start e within c =
     let lies = block-within text from c.0 next (omega (arith, same, within)) c.2 in
     subst P same (omega (arith, lies.order, lies.end_order), lies.within)
 
-is-table : (name : List ℕ) (token : Token) (bs : List Bound) (more : List Bound) (r : Reading) → Ok r ≡ limited_columns (table_reading name token bs) more →
+is-table : (name : List ℕ) (token : Token) (bs : List BoundColumn) (more : List BoundColumn) (r : Reading) → Ok r ≡ limited_columns (table_reading name token bs) more →
     r.definition ≡ table name (map (λ b. b.name) bs) (map (λ b. b.column) bs)
 is-table name token bs [] r e = let same : r ≡ table_reading name token bs = cc in ap (λ (x : Reading). x.definition) same
 is-table name token bs (b ∷ more) r e = cc
 
-table-behind : (w : World) (text : List ℕ) (tokens : List Token) (action : Action) (next : ℕ) (name : List ℕ) (token : Token) (bound : Result (List Bound) Fault) (r : Reading) →
+table-behind : (w : World) (text : List ℕ) (tokens : List Token) (action : Action) (next : ℕ) (name : List ℕ) (token : Token) (bound : Result (List BoundColumn) Fault) (r : Reading) →
     Ok r ≡ bound_table name token bound → Carries w text tokens r.definition action next → next ≡ end_of tokens
 table-behind w text tokens action next name token (Err f) r e c = cc
 table-behind w text tokens action next name token (Ok bs) r e c =

@@ -8,7 +8,7 @@ use Rattle.sql_grammar.specs.Terminals.{Said}
 use Rattle.sql_grammar.specs.Syntax.{Cand, Advised, Advise, advise_of}
 use Rattle.catalog.specs.Contents.{Contents, NamedIndex, indexes_of}
 use Rattle.catalog.specs.Candidates.{with_candidates}
-use Rattle.index_reader.specs.Meaning.{Reading, meaning_of_cand}
+use Rattle.index_reader.specs.Meaning.{IndexMeant, meaning_of_cand}
 use Rattle.query_reader.specs.Binding.{Bound, bound_part}
 use Rattle.sql_query.specs.Queries.{Query}
 use Rattle.index_reader.specs.AdviseCandidates.{CandidateMeans, IsNotAllowed, MayBeMade, candidate_read, formless, repeated, taken, with_room}
@@ -40,12 +40,12 @@ either-plain : {A : Type 0} (b : Bool) (r : Result A Fault) (f : Fault) → IsPl
 either-plain true r f h k = h
 either-plain false r f h k = k
 
-cause-plain : (c : Contents) (tokens : List Token) (read : Reading) (f : Fault) → IsNotAllowed c tokens read f → f.rec ≡ 0
+cause-plain : (c : Contents) (tokens : List Token) (read : IndexMeant) (f : Fault) → IsNotAllowed c tokens read f → f.rec ≡ 0
 cause-plain c tokens read f (taken h i) = ap (λ (x : Fault). x.rec) i
 cause-plain c tokens read f (repeated p h m i) = ap (λ (x : Fault). x.rec) i
 cause-plain c tokens read f (formless h m n i) = ap (λ (x : Fault). x.rec) i
 
-made-plain : (c : Contents) (tokens : List Token) (read : Reading) → ArePlain (MayBeMade c tokens read)
+made-plain : (c : Contents) (tokens : List Token) (read : IndexMeant) → ArePlain (MayBeMade c tokens read)
 made-plain c tokens read (Ok x) h = tt
 made-plain c tokens read (Err f) h = cause-plain c tokens read f h
 
@@ -76,7 +76,7 @@ advice-plain c tokens (advise_of p start n o x xs m q qs e) =
     then-plain ℕ Asked _ _ (plain-value (most_meant n) (most-plain n)) (λ most.
     then-plain (List NamedIndex) Asked _ _
     (read-plain Cand NamedIndex (CandidateMeans c start tokens)
-    (λ earlier y. then-plain Reading NamedIndex _ _ (plain-value (candidate_read c start (length earlier) y) (candidate-plain c start (length earlier) y)) (λ r. made-plain (with_candidates c earlier) tokens r))
+    (λ earlier y. then-plain IndexMeant NamedIndex _ _ (plain-value (candidate_read c start (length earlier) y) (candidate-plain c start (length earlier) y)) (λ r. made-plain (with_candidates c earlier) tokens r))
     [] (candidates_of x xs)) (λ candidates.
     then-plain (List NamedIndex) Asked _ _ (plain-value (with_room c [] (map name_token (candidates_of x xs)) candidates) (room-plain c tokens [] (map name_token (candidates_of x xs)) candidates)) (λ all.
     then-plain (List Query) Asked _ _

@@ -12,14 +12,14 @@ use Rattle.index_reader.specs.AdviseMeaning.{Asked, AdviseMeans}
 use Rattle.catalog.specs.Contents.{Contents}
 use Rattle.catalog.specs.Statistics.{AreAllowed, is_count}
 use Rattle.catalog.specs.Tables.{IsAcceptable, IsAcceptableIndex}
-use Rattle.eq_classes.specs.Clauses.{Table}
+use Rattle.eq_classes.specs.Clauses.{ClassTable}
 use Rattle.eq_classes.specs.Holding.{IsClassTable}
 use Rattle.ddl_reader.specs.Block.{IsBlockEnd}
 use Rattle.ddl_reader.specs.Statements.{Means}
 use Rattle.ddl_reader.specs.Tables.{Definition, table, sizes_for, statistics_for, data_for, analysis_of, Reading}
 use Rattle.heap.specs.Loading.{records_of, loaded}
 use Rattle.heap.specs.Stored.{Stored}
-use Rattle.index_reader.specs.Meaning.{Reading as IndexReading, meaning}
+use Rattle.index_reader.specs.Meaning.{IndexMeant as IndexReading, meaning}
 use Rattle.group_query.specs.Grouping.{given_groups}
 use Rattle.group_reader.specs.Binding.{BoundGroups, bound_groups, grouped_with}
 use Rattle.query_reader.specs.Binding.{Bound, bound, bound_part, query_with}
@@ -64,7 +64,7 @@ action_asked text tokens q = asked_as (wanted_by (terminals text tokens)) q
 
 -- what a SELECT that means this does: it answers or explains the query with its classes
 abbrev pub Answers : World → List ℕ → List Token → Bound → Action → Type 0
-Answers w text tokens b action = (t : Table) × IsClassTable (given_of w.contents (query_with t b)) t × (action ≡ action_asked text tokens (query_with t b))
+Answers w text tokens b action = (t : ClassTable) × IsClassTable (given_of w.contents (query_with t b)) t × (action ≡ action_asked text tokens (query_with t b))
 
 -- each query has the table of its classes
 abbrev pub HaveClasses : Contents → List Query → Type 0
@@ -80,7 +80,7 @@ pub record Takes (w : World) (text : List ℕ) (tokens : List Token) (x : Window
   pub start : ℕ
   pub end : ℕ
   pub meant : Bound
-  pub classes : Table
+  pub classes : ClassTable
   pub begins : IsDataStart text stop.end (Ok start)
   pub means : bound_part w.contents (token_at tokens 0) x ≡ Ok meant
   pub ends : IsBlockEnd text start end next
@@ -94,7 +94,7 @@ asked_of_groups (explained _) g = explain_groups g
 
 -- what a SELECT that groups and means this does: the grouped query with its classes is answered or explained
 pub record Groups (w : World) (e : MaybeExplain) (b : BoundGroups) (action : Action) : Type 0 where
-  pub classes : Table
+  pub classes : ClassTable
   pub own : IsClassTable (given_groups w.contents (grouped_with classes b)) classes
   pub asks : action ≡ asked_of_groups e (grouped_with classes b)
 

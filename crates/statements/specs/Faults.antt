@@ -17,7 +17,7 @@ use Rattle.index_reader.specs.AdviseMeaning.{Asked, AdviseMeans}
 use Rattle.catalog.specs.declared.fault.CatalogFault.{CatalogFault}
 use Rattle.catalog.specs.declared.fault.CatalogFault.TheVariants as refused
 use Rattle.catalog.specs.Tables.{IsRefusal, IsIndexRefusal, IsSizeRefusal, IsStatisticsRefusal}
-use Rattle.eq_classes.specs.Clauses.{Table}
+use Rattle.eq_classes.specs.Clauses.{ClassTable}
 use Rattle.eq_classes.specs.Holding.{IsClassTable}
 use Rattle.ddl_reader.specs.Block.{HaveNoMark, lines_of, IsBlockEnd}
 use Rattle.ddl_reader.specs.Statements.{Means}
@@ -26,7 +26,7 @@ use Rattle.heap.specs.declared.fault.CopyFault.{CopyFault}
 use Rattle.heap.specs.declared.fault.CopyFault.TheVariants as copying
 use Rattle.heap.specs.Loading.{records_of, loaded}
 use Rattle.index_prices.specs.Replies.{HasNoAdviceFor}
-use Rattle.index_reader.specs.Meaning.{Reading as IndexReading, meaning}
+use Rattle.index_reader.specs.Meaning.{IndexMeant as IndexReading, meaning}
 use Rattle.index_reader.specs.Places.{word_fault}
 use Rattle.group_query.specs.Grouping.{given_groups}
 use Rattle.group_reader.specs.Binding.{BoundGroups, bound_groups, grouped_with}
@@ -112,7 +112,7 @@ no_plan text tokens = fault_at S16 (token_at tokens (words_before (terminals tex
 -- the query with its classes has none
 abbrev pub IsUnplanned : World → List ℕ → List Token → Bound → Fault → Type 0
 IsUnplanned w text tokens b f =
-    (t : Table) × IsClassTable (given_of w.contents (query_with t b)) t × HasNoPlan w.contents (query_with t b) × (f ≡ no_plan text tokens)
+    (t : ClassTable) × IsClassTable (given_of w.contents (query_with t b)) t × HasNoPlan w.contents (query_with t b) × (f ≡ no_plan text tokens)
 
 -- a fault of a query: in its names and limits, or that it has no admissible plan
 abbrev pub IsQueryFault : World → List ℕ → List Token → OrderedSelect → Fault → Type 0
@@ -140,7 +140,7 @@ pub data IsCheckFault (w : World) (text : List ℕ) (tokens : List Token) (x : W
 
 -- the grouped query with its classes has no admissible plan that groups
 pub record IsUngroupable (w : World) (text : List ℕ) (tokens : List Token) (b : BoundGroups) (f : Fault) : Type 0 where
-  pub classes : Table
+  pub classes : ClassTable
   pub own : IsClassTable (given_groups w.contents (grouped_with classes b)) classes
   pub none : HasNoGroupPlan w.contents (grouped_with classes b)
   pub is : f ≡ no_plan text tokens

@@ -15,7 +15,7 @@ use Rattle.opfamily.proofs.KeyOrderLemmas.{entries_total}
 use Rattle.pg_expr.specs.Cond.{Cond}
 use Rattle.heap.specs.Stored.{Values}
 use Rattle.btree_index.specs.Tree.{IsEntryOf, Tree, with_entries}
-use Rattle.hash_index.specs.Held.{Held, Table, held_order, with_held}
+use Rattle.hash_index.specs.Held.{Held, HashTable, held_order, with_held}
 use Rattle.hash_index.proofs.HeldLemmas.{held_total}
 use Rattle.catalog.specs.Indexes.{Index}
 use Rattle.store.specs.Kept.{sorted, hashed, below, built_by, built_of, first_key, found, held_of, hash_table, tree_of}
@@ -25,13 +25,13 @@ use Rattle.store.proofs.OrderLemmas.{filter-in_order}
 same-tree : (a b : Tree) → sorted a ≡ sorted b → a ≡ b
 same-tree a b e = cc
 
-same-table : (a b : Table) → hashed a ≡ hashed b → a ≡ b
+same-table : (a b : HashTable) → hashed a ≡ hashed b → a ≡ b
 same-table a b e = cc
 
-no-table : (a : Tree) (b : Table) → sorted a ≡ hashed b → ⊥
+no-table : (a : Tree) (b : HashTable) → sorted a ≡ hashed b → ⊥
 no-table a b e = cc
 
-no-tree : (a : Table) (b : Tree) → hashed a ≡ sorted b → ⊥
+no-tree : (a : HashTable) (b : Tree) → hashed a ≡ sorted b → ⊥
 no-tree a b e = cc
 
 -- what stands of an entry in a hash index, of those of rows below a number
@@ -64,8 +64,8 @@ module _ (table : TableNo) (keys : List IndexKey) (include : List ColNo) (predic
     sorted-by Btree t is u grown = ap sorted (grown ∙ ap (λ (x : Tree). with_entries x (found (def Btree) rows from)) (same-tree t _ is) ∙ tree-grown)
     sorted-by Hash t is u grown = absurd (no-table t _ is)
 
-    hashed-by : (m : Method) (t : Table) → hashed t ≡ built_by m (def m) (take from rows) → (u : Table) → u ≡ with_held t (map held_of (found (def m) rows from)) → hashed u ≡ built_by m (def m) rows
-    hashed-by Hash t is u grown = ap hashed (grown ∙ ap (λ (x : Table). with_held x (map held_of (found (def Hash) rows from))) (same-table t _ is) ∙ table-grown)
+    hashed-by : (m : Method) (t : HashTable) → hashed t ≡ built_by m (def m) (take from rows) → (u : HashTable) → u ≡ with_held t (map held_of (found (def m) rows from)) → hashed u ≡ built_by m (def m) rows
+    hashed-by Hash t is u grown = ap hashed (grown ∙ ap (λ (x : HashTable). with_held x (map held_of (found (def Hash) rows from))) (same-table t _ is) ∙ table-grown)
     hashed-by Btree t is u grown = absurd (no-tree t _ is)
 
     below-by : (m : Method) → below from (built_by m (def m) rows) ≡ built_by m (def m) (take from rows)
@@ -83,8 +83,8 @@ module _ (table : TableNo) (keys : List IndexKey) (include : List ColNo) (predic
   keys-of-tree Btree rows t is = let same = same-tree t _ is in (ap (λ (x : Tree). x.keys) same, ap (λ (x : Tree). x.include) same)
   keys-of-tree Hash rows t is = absurd (no-table t _ is)
 
-  key-of-table : (m : Method) (rows : List Values) (t : Table) → hashed t ≡ built_by m (def m) rows → t.key ≡ first_key keys
-  key-of-table Hash rows t is = ap (λ (x : Table). x.key) (same-table t _ is)
+  key-of-table : (m : Method) (rows : List Values) (t : HashTable) → hashed t ≡ built_by m (def m) rows → t.key ≡ first_key keys
+  key-of-table Hash rows t is = ap (λ (x : HashTable). x.key) (same-table t _ is)
   key-of-table Btree rows t is = absurd (no-tree t _ is)
 
 module _ (d : Index) (rows : List Values) (from : ℕ) (le : from ≤ length rows) where
@@ -92,7 +92,7 @@ module _ (d : Index) (rows : List Values) (from : ℕ) (le : from ≤ length row
   pub sorted-grown : (t : Tree) → sorted t ≡ built_of d (take from rows) → (u : Tree) → u ≡ with_entries t (found d rows from) → sorted u ≡ built_of d rows
   sorted-grown = sorted-by d.table d.keys d.include d.predicate rows from le d.method
 
-  pub hashed-grown : (t : Table) → hashed t ≡ built_of d (take from rows) → (u : Table) → u ≡ with_held t (map held_of (found d rows from)) → hashed u ≡ built_of d rows
+  pub hashed-grown : (t : HashTable) → hashed t ≡ built_of d (take from rows) → (u : HashTable) → u ≡ with_held t (map held_of (found d rows from)) → hashed u ≡ built_of d rows
   hashed-grown = hashed-by d.table d.keys d.include d.predicate rows from le d.method
 
   -- and without those again
@@ -104,6 +104,6 @@ module _ (d : Index) (rows : List Values) (from : ℕ) (le : from ≤ length row
       let same = keys-of-tree d.table d.keys d.include d.predicate d.method (take from rows) t is in
       subst (λ (ks : List IndexKey). All (IsEntryOf ks t.include) es) (sym same.0) (subst (λ (cs : List ColNo). All (IsEntryOf d.keys cs) es) (sym same.1) fits)
 
-  pub hashed-fits : (t : Table) → hashed t ≡ built_of d (take from rows) → (hs : List Held) → All (λ (h : Held). IsOfFamily (key_family (first_key d.keys)) h.value) hs → All (λ (h : Held). IsOfFamily (key_family t.key) h.value) hs
+  pub hashed-fits : (t : HashTable) → hashed t ≡ built_of d (take from rows) → (hs : List Held) → All (λ (h : Held). IsOfFamily (key_family (first_key d.keys)) h.value) hs → All (λ (h : Held). IsOfFamily (key_family t.key) h.value) hs
   hashed-fits t is hs fits =
       subst (λ (k : IndexKey). All (λ (h : Held). IsOfFamily (key_family k) h.value) hs) (sym (key-of-table d.table d.keys d.include d.predicate d.method (take from rows) t is)) fits

@@ -27,11 +27,11 @@ use Rattle.pg_expr.specs.Cond.{Cond}
 use Rattle.pg_expr.specs.Typed.{FitsTypes}
 use Rattle.pg_expr.proofs.ColumnLaws.{weaker-each}
 use Rattle.eq_classes.proofs.SideLemmas.{type_fits}
-use Rattle.heap.specs.Stored.{IsRowOf, IsValueOf, Values}
+use Rattle.heap.specs.Stored.{IsRowOf, IsColumnValue, Values}
 use Rattle.catalog.specs.Indexes.{FitsColumns, Index, IsConditionOf, IsKeyOf, IsLawfulIndex, IsPredicateOf, no_column, type_at}
 use Rattle.btree_index.specs.Tree.{IsEntryOf}
 use Rattle.hash_index.specs.Held.{Held}
-use Rattle.plan_tree.specs.Entries.{cell, entry, meets}
+use Rattle.plan_tree.specs.Entries.{cell, entry, meets_predicate}
 use Rattle.store.specs.Kept.{first_key, found, held_of}
 use Rattle.store.proofs.FoundLemmas.{among, among-suc}
 use Rattle.pg_base.proofs.ListLemmas.{each-map as each-mapped}
@@ -40,7 +40,7 @@ use Rattle.eq_classes.proofs.DefaultLemmas.{class_fits}
 
 module _ (columns : List Column) (row : Values) (is : IsRowOf columns row) where
   pub wide : length row ≡ length columns
-  wide = AllZip-long IsValueOf columns row is
+  wide = AllZip-long IsColumnValue columns row is
 
   -- the columns that the row binds, as those of relation 0
   abbrev binds : ColRef → Bool
@@ -103,7 +103,7 @@ each-among : (P : Entry → Type 0) (d : Index) (rows : List Values) (a n : ℕ)
 each-among P d rows a zero h = tt
 each-among P d rows a (suc n) h =
     subst (AllByRecursion P) (sym (among-suc d rows a n))
-    (each-cond P (meets d.predicate (get_or rows a [])) (entry d rows a) (among d rows (a + 1) n) (h a (omega arith)) (each-among P d rows (a + 1) n (λ k lt. h k (omega arith))))
+    (each-cond P (meets_predicate d.predicate (get_or rows a [])) (entry d rows a) (among d rows (a + 1) n) (h a (omega arith)) (each-among P d rows (a + 1) n (λ k lt. h k (omega arith))))
 
 module _ (columns : List Column) (d : Index) (lawful : IsLawfulIndex columns d) (rows : List Values) (each : All (IsRowOf columns) rows) (from : ℕ) (le : from ≤ length rows) where
   pub found-fits : All (IsEntryOf d.keys d.include) (found d rows from)

@@ -14,7 +14,7 @@ use Rattle.opfamily.specs.declared.classes.IndexKey.{IndexKey}
 use Rattle.heap.specs.Stored.{Values}
 use Rattle.catalog.specs.Indexes.{Index}
 use Rattle.hash_index.specs.Held.{Held}
-use Rattle.plan_tree.specs.Entries.{cell, entry, meets}
+use Rattle.plan_tree.specs.Entries.{cell, entry, meets_predicate}
 use Rattle.store.specs.Kept.{found, held_of}
 
 -- so many numbers, and behind them more
@@ -30,7 +30,7 @@ range-more a n = range-add a n 1
 
 -- the entries of n rows from number a on, in the order of the rows
 abbrev pub among : Index → List Values → ℕ → ℕ → List Entry
-among d rows a n = map (entry d rows) (filter (λ k. meets d.predicate (get_or rows k [])) (range_with_len a n))
+among d rows a n = map (entry d rows) (filter (λ k. meets_predicate d.predicate (get_or rows k [])) (range_with_len a n))
 
 -- the entry of a row by its values
 abbrev pub entry_by : Index → Values → ℕ → Entry
@@ -42,13 +42,13 @@ map-cond f false x l = refl
 
 among-add : (d : Index) (rows : List Values) (a m n : ℕ) → among d rows a (m + n) ≡ among d rows a m ++ among d rows (a + m) n
 among-add d rows a m n =
-    let test : ℕ → Bool = λ k. meets d.predicate (get_or rows k []) in
+    let test : ℕ → Bool = λ k. meets_predicate d.predicate (get_or rows k []) in
     ap (λ l. map (entry d rows) (filter test l)) (range-add a m n)
     ∙ ap (map (entry d rows)) (filter-append test (range_with_len a m) (range_with_len (a + m) n))
     ∙ map-append (entry d rows) (filter test (range_with_len a m)) (filter test (range_with_len (a + m) n))
 
-pub among-suc : (d : Index) (rows : List Values) (a n : ℕ) → among d rows a (suc n) ≡ cond (meets d.predicate (get_or rows a [])) (entry d rows a ∷ among d rows (a + 1) n) (among d rows (a + 1) n)
-among-suc d rows a n = map-cond (entry d rows) (meets d.predicate (get_or rows a [])) a (filter (λ k. meets d.predicate (get_or rows k [])) (range_with_len (a + 1) n))
+pub among-suc : (d : Index) (rows : List Values) (a n : ℕ) → among d rows a (suc n) ≡ cond (meets_predicate d.predicate (get_or rows a [])) (entry d rows a ∷ among d rows (a + 1) n) (among d rows (a + 1) n)
+among-suc d rows a n = map-cond (entry d rows) (meets_predicate d.predicate (get_or rows a [])) a (filter (λ k. meets_predicate d.predicate (get_or rows k [])) (range_with_len (a + 1) n))
 
 -- the entries of the same rows
 among-alike : (d : Index) (xs ys : List Values) (a n : ℕ) → ((k : ℕ) → a ≤ k → k < a + n → get_or xs k [] ≡ get_or ys k []) → among d xs a n ≡ among d ys a n
@@ -56,7 +56,7 @@ among-alike d xs ys a zero h = refl
 among-alike d xs ys a (suc n) h =
     let rest = among-alike d xs ys (a + 1) n (λ k low high. h k (omega arith) (omega arith)) in
     among-suc d xs a n
-    ∙ ap₂ (λ (row : Values) (l : List Entry). cond (meets d.predicate row) (entry_by d row a ∷ l) l) (h a (omega arith) (omega arith)) rest
+    ∙ ap₂ (λ (row : Values) (l : List Entry). cond (meets_predicate d.predicate row) (entry_by d row a ∷ l) l) (h a (omega arith) (omega arith)) rest
     ∙ sym (among-suc d ys a n)
 
 -- of entries of rows below a number all stay below it, of entries of rows from it on none
@@ -73,7 +73,7 @@ all-below d rows a zero end le = refl
 all-below d rows a (suc n) end le =
     let test : Entry → Bool = λ (e : Entry). nat_lt e.row end in
     ap (filter test) (among-suc d rows a n)
-    ∙ filter-kept test (meets d.predicate (get_or rows a [])) (entry d rows a) (among d rows (a + 1) n) (lt-ltb a end (omega arith)) (all-below d rows (a + 1) n end (omega arith))
+    ∙ filter-kept test (meets_predicate d.predicate (get_or rows a [])) (entry d rows a) (among d rows (a + 1) n) (lt-ltb a end (omega arith)) (all-below d rows (a + 1) n end (omega arith))
     ∙ sym (among-suc d rows a n)
 
 none-below : (d : Index) (rows : List Values) (a n end : ℕ) → end ≤ a → filter (λ (e : Entry). nat_lt e.row end) (among d rows a n) ≡ []
@@ -81,7 +81,7 @@ none-below d rows a zero end le = refl
 none-below d rows a (suc n) end le =
     let test : Entry → Bool = λ (e : Entry). nat_lt e.row end in
     ap (filter test) (among-suc d rows a n)
-    ∙ filter-left test (meets d.predicate (get_or rows a [])) (entry d rows a) (among d rows (a + 1) n) (le-ltb a end le) (none-below d rows (a + 1) n end (omega arith))
+    ∙ filter-left test (meets_predicate d.predicate (get_or rows a [])) (entry d rows a) (among d rows (a + 1) n) (le-ltb a end le) (none-below d rows (a + 1) n end (omega arith))
 
 -- the entries of all rows
 abbrev pub whole : Index → List Values → List Entry
@@ -123,30 +123,30 @@ module _ (d : Index) (rows : List Values) (from n : ℕ) (le : from ≤ n) (row 
   pub same-row : get_or rows n [] ≡ row
   same-row = get_or_from_slice_get rows n row [] at
 
-  among-next : among d rows from (n + 1 - from) ≡ among d rows from (n - from) ++ cond (meets d.predicate row) (entry_by d row n ∷ []) []
+  among-next : among d rows from (n + 1 - from) ≡ among d rows from (n - from) ++ cond (meets_predicate d.predicate row) (entry_by d row n ∷ []) []
   among-next =
       let count : n + 1 - from ≡ n - from + 1 = omega arith in
       let place : from + (n - from) ≡ n = omega arith in
       ap (among d rows from) count
       ∙ among-add d rows from (n - from) 1
-      ∙ ap (λ l. among d rows from (n - from) ++ l) (ap (λ a. among d rows a 1) place ∙ among-suc d rows n 0 ∙ ap (λ (r : Values). cond (meets d.predicate r) (entry_by d r n ∷ []) []) same-row)
+      ∙ ap (λ l. among d rows from (n - from) ++ l) (ap (λ a. among d rows a 1) place ∙ among-suc d rows n 0 ∙ ap (λ (r : Values). cond (meets_predicate d.predicate r) (entry_by d r n ∷ []) []) same-row)
 
-  pub next-left : meets d.predicate row ≡ false → among d rows from (n + 1 - from) ≡ among d rows from (n - from)
+  pub next-left : meets_predicate d.predicate row ≡ false → among d rows from (n + 1 - from) ≡ among d rows from (n - from)
   next-left out = among-next ∙ ap (λ b. among d rows from (n - from) ++ cond b (entry_by d row n ∷ []) []) out ∙ append-nil (among d rows from (n - from))
 
-  pub next-taken : meets d.predicate row ≡ true → among d rows from (n + 1 - from) ≡ among d rows from (n - from) ++ entry_by d row n ∷ []
+  pub next-taken : meets_predicate d.predicate row ≡ true → among d rows from (n + 1 - from) ≡ among d rows from (n - from) ++ entry_by d row n ∷ []
   next-taken inside = among-next ∙ ap (λ b. among d rows from (n - from) ++ cond b (entry_by d row n ∷ []) []) inside
 
-  pub entries-left : (es : List Entry) → es ≡ among d rows from (n - from) → (b : Bool) → b ≡ meets d.predicate row → b ≡ false → es ≡ among d rows from (n + 1 - from)
+  pub entries-left : (es : List Entry) → es ≡ among d rows from (n - from) → (b : Bool) → b ≡ meets_predicate d.predicate row → b ≡ false → es ≡ among d rows from (n + 1 - from)
   entries-left es is b test out = is ∙ sym (next-left (sym test ∙ out))
 
-  pub entries-taken : (es : List Entry) (e : Entry) → es ≡ among d rows from (n - from) → (b : Bool) → b ≡ meets d.predicate row → b ≡ true → e ≡ entry_by d row n → es ++ e ∷ [] ≡ among d rows from (n + 1 - from)
+  pub entries-taken : (es : List Entry) (e : Entry) → es ≡ among d rows from (n - from) → (b : Bool) → b ≡ meets_predicate d.predicate row → b ≡ true → e ≡ entry_by d row n → es ++ e ∷ [] ≡ among d rows from (n + 1 - from)
   entries-taken es e is b test inside of = ap₂ (λ l x. l ++ x ∷ []) is of ∙ sym (next-taken (sym test ∙ inside))
 
-  pub held-left : (hs : List Held) → hs ≡ map held_of (among d rows from (n - from)) → (b : Bool) → b ≡ meets d.predicate row → b ≡ false → hs ≡ map held_of (among d rows from (n + 1 - from))
+  pub held-left : (hs : List Held) → hs ≡ map held_of (among d rows from (n - from)) → (b : Bool) → b ≡ meets_predicate d.predicate row → b ≡ false → hs ≡ map held_of (among d rows from (n + 1 - from))
   held-left hs is b test out = is ∙ ap (map held_of) (sym (next-left (sym test ∙ out)))
 
-  pub held-taken : (hs : List Held) (h : Held) → hs ≡ map held_of (among d rows from (n - from)) → (b : Bool) → b ≡ meets d.predicate row → b ≡ true → h ≡ held_of (entry_by d row n) → hs ++ h ∷ [] ≡ map held_of (among d rows from (n + 1 - from))
+  pub held-taken : (hs : List Held) (h : Held) → hs ≡ map held_of (among d rows from (n - from)) → (b : Bool) → b ≡ meets_predicate d.predicate row → b ≡ true → h ≡ held_of (entry_by d row n) → hs ++ h ∷ [] ≡ map held_of (among d rows from (n + 1 - from))
   held-taken hs h is b test inside of =
       ap₂ (λ l x. l ++ x ∷ []) is of ∙ sym (map-append held_of (among d rows from (n - from)) (entry_by d row n ∷ [])) ∙ ap (map held_of) (sym (next-taken (sym test ∙ inside)))
 

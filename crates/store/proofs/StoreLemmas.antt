@@ -13,7 +13,7 @@ use Rattle.pg_base.specs.declared.limits.TheConstants.{MOST_ROWS}
 use Rattle.pg_value.specs.declared.columns.Column.{Column}
 use Rattle.heap.specs.declared.fault.CopyFault.{CopyFault}
 use Rattle.heap.specs.Loading.{loaded, rows_from, with_rows}
-use Rattle.heap.specs.Stored.{IsLawful, Stored, Values}
+use Rattle.heap.specs.Stored.{IsLawfulData, Stored, Values}
 use Rattle.catalog.specs.Contents.{Contents, IsIndex, IsLastIndex, IsTable, NamedIndex, TableDef, index_at, indexes_before, no_index, no_table, table_at, with_loaded}
 use Rattle.catalog.specs.Contents as catalog
 use Rattle.catalog.specs.Indexes.{Index, IsLawfulIndex}
@@ -113,7 +113,7 @@ module _ (c : Contents) (stored : List Stored) (bs : List Built) (t : TableNo) (
   pub what-is-there : (s : Stored) → slice_get stored t.0 ≡ Some s → s ≡ get_or stored t.0 nothing_stored
   what-is-there s at = sym (get_or_from_slice_get stored t.0 s nothing_stored at)
 
-  module _ (old : Stored) (at : old ≡ get_or stored t.0 nothing_stored) (n : ℕ) (count : n ≡ length old.rows) (new : Stored) (rs : List (List (List ℕ))) (load : loaded old rs ≡ Ok new) (lawful : IsLawful new) where
+  module _ (old : Stored) (at : old ≡ get_or stored t.0 nothing_stored) (n : ℕ) (count : n ≡ length old.rows) (new : Stored) (rs : List (List (List ℕ))) (load : loaded old rs ≡ Ok new) (lawful : IsLawfulData new) where
     parts : (take n new.rows ≡ old.rows) × (new.columns ≡ old.columns) × (n ≤ length new.rows)
     parts = subst (λ m. (take m new.rows ≡ old.rows) × (new.columns ≡ old.columns) × (m ≤ length new.rows)) (sym count) (loaded-by old new (rows_from old.columns (MOST_ROWS - length old.rows) 1 rs) load)
 

@@ -15,7 +15,7 @@ use Rattle.opfamily.specs.declared.classes.Method.TheVariants.{Btree, Hash}
 use Rattle.opfamily.specs.declared.classes.OpClass.TheVariants.{Int2Ops}
 use Rattle.btree_index.specs.Tree.{IsEntryOf, Tree}
 use Rattle.btree_index.specs.Tree as tree
-use Rattle.hash_index.specs.Held.{Held, Table, held_order}
+use Rattle.hash_index.specs.Held.{Held, HashTable, held_order}
 use Rattle.hash_index.specs.Held as held
 use Rattle.heap.specs.Loading.{loaded, records_of}
 use Rattle.heap.specs.Stored.{Stored, Values}
@@ -23,12 +23,12 @@ use Rattle.heap.specs.declared.fault.CopyFault.{CopyFault}
 use Rattle.catalog.specs.Contents.{Contents, NamedIndex, index_at, indexes_of}
 use Rattle.catalog.specs.Indexes.{Index}
 use Rattle.sql_query.specs.Worlds.{IsWorld, nothing_stored, stored_at, world}
-use Rattle.plan_tree.specs.Entries.{entries_over, entry, meets}
+use Rattle.plan_tree.specs.Entries.{entries_over, entry, meets_predicate}
 
 -- an index as it is built
 pub data Built : Type 0 where
   sorted : Tree → Built
-  hashed : Table → Built
+  hashed : HashTable → Built
 
 -- what is stored of each table, and the indexes, each in order of making
 pub record Kept : Type 0 where
@@ -52,8 +52,8 @@ abbrev pub row_count : Kept → TableNo → ℕ
 row_count k t = length (stored_of k t).rows
 
 -- what is stored of a table of these columns without rows
-abbrev pub no_rows_of : List Column → Stored
-no_rows_of columns = record { columns = columns; rows = [] }
+abbrev pub stored_without_rows : List Column → Stored
+stored_without_rows columns = record { columns = columns; rows = [] }
 
 -- how many rows are stored of the table of an index
 abbrev pub indexed_rows : Contents → Kept → IndexNo → ℕ
@@ -65,7 +65,7 @@ index_count c t = length (indexes_of c t)
 
 -- the entries of an index for the rows from a number on, in the order of the rows
 abbrev pub found : Index → List Values → ℕ → List Entry
-found d rows from = map (entry d rows) (filter (λ n. meets d.predicate (slice_index_or rows n [])) (range_with_len from (length rows - from)))
+found d rows from = map (entry d rows) (filter (λ n. meets_predicate d.predicate (slice_index_or rows n [])) (range_with_len from (length rows - from)))
 
 -- the one key of a hash index; what stands where there is none
 abbrev pub first_key : List IndexKey → IndexKey
@@ -90,7 +90,7 @@ abbrev pub tree_of : Index → List Values → Tree
 tree_of d rows = record { keys = d.keys; include = d.include; entries = entries_over d rows }
 
 -- a hash index with exactly its entries over the rows of its table
-abbrev pub hash_table : Index → List Values → Table
+abbrev pub hash_table : Index → List Values → HashTable
 hash_table d rows = record { key = first_key d.keys; held = in_order (held_order (first_key d.keys)) (map held_of (entries_over d rows)) }
 
 -- an index of a method with its entries over rows
@@ -105,7 +105,7 @@ built_of d rows = built_by d.method d rows
 -- an index without the entries of the rows from a number on
 abbrev pub below : ℕ → Built → Built
 below rows (sorted t) = sorted (tree.of_rows_below rows t)
-below rows (hashed t) = hashed (held.of_rows_below rows t)
+below rows (hashed t) = hashed (held.held_below rows t)
 
 -- an index of a catalogue, over what is stored of its table
 abbrev pub built_over : List Stored → NamedIndex → Built

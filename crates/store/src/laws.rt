@@ -6,7 +6,7 @@ ghost use Rattle.pg_base.specs.declared.numbers.TableNo.{TableNo};
 ghost use Rattle.pg_value.specs.declared.columns.Column.{Column};
 ghost use Rattle.catalog.specs.Contents.{Contents, IsIndex, IsLawful, TableDef, indexes_before, new_table, nothing, table_at, with_definition, with_index, with_table};
 ghost use Rattle.catalog.specs.Indexes.{Index};
-ghost use Rattle.store.specs.Kept.{IsStoreOf, Kept, built_at, no_rows_of, nothing_kept, with_heap};
+ghost use Rattle.store.specs.Kept.{IsStoreOf, Kept, built_at, stored_without_rows, nothing_kept, with_heap};
 
 /// A law: the store of no table is that of the catalogue without definitions; with the heap of a new table a store is that
 /// of the catalogue with the table; it stays the catalogue's after other statistics; and the catalogue before its newest
@@ -16,7 +16,7 @@ pub fn stores_follow_their_catalogues()
     ensures table { (c : Contents) (k : Kept)
         (name : List ℕ) (names : List (List ℕ)) (columns : List Column) →
         IsLawful c → IsStoreOf c k →
-        IsStoreOf (with_table c (new_table name names columns)) (with_heap k (no_rows_of columns)) }
+        IsStoreOf (with_table c (new_table name names columns)) (with_heap k (stored_without_rows columns)) }
     ensures statistics { (c : Contents) (k : Kept) (t : TableNo) (d : TableDef) →
         d.columns ≡ (table_at c t).columns → d.loaded ≡ (table_at c t).loaded → IsStoreOf c k →
         IsStoreOf (with_definition c t d) k }

@@ -5,7 +5,7 @@ ghost use Rattle.std.specs.Option.{option_map};
 ghost use Rattle.pg_expr.specs.View.{cond};
 ghost use Rattle.catalog.specs.Indexes.{IsPredicateOf};
 ghost use Rattle.heap.specs.Stored.{IsRowOf};
-ghost use Rattle.plan_tree.specs.Entries.{meets};
+ghost use Rattle.plan_tree.specs.Entries.{meets_predicate};
 
 use heap::{Row, value_in};
 use pg_expr::{Binding, ColRef, Expr, eval};
@@ -42,7 +42,7 @@ impl<'a> Binding for Bound<'a> {
 pub(crate) fn passes(predicate: &Option<Expr>, columns: &Columns, row: Row) -> bool
     requires predicate { IsPredicateOf columns.now (option_map cond predicate.now) }
     requires row { IsRowOf columns.now row.now }
-    ensures { result ≡ meets (option_map cond predicate.now) row.now }
+    ensures { result ≡ meets_predicate (option_map cond predicate.now) row.now }
 {
     match predicate {
         None => true,

@@ -6,7 +6,7 @@ use Rattle.pg_base.specs.declared.limits.TheConstants.{MOST_ATOMS}
 use Rattle.pg_expr.specs.Columns.{atom_count}
 use Rattle.catalog.specs.Contents.{Contents, IsTable as IsTableOf}
 use Rattle.eq_classes.specs.Classes.{Class, Premises, first_mention}
-use Rattle.eq_classes.specs.Clauses.{Clause, Table, clause_list}
+use Rattle.eq_classes.specs.Clauses.{Clause, ClassTable, clause_list}
 use Rattle.eq_classes.specs.Holding.{IsClassTable}
 use Rattle.path_cost.specs.Columns.{IsOver}
 use Rattle.sql_query.specs.Queries.{Query, width}
@@ -16,7 +16,7 @@ no-class : (n : Class → ℕ) (cs : List Class) → All (λ c. n c < 0) cs → 
 no-class n [] h = refl
 no-class n (c ∷ cs) h = absurd (omega (arith, All-head (λ d. n d < 0) c cs h))
 
-pub no-clause : (g : Premises) (t : Table) → IsClassTable g t → g.conjuncts ≡ [] → g.order ≡ [] → t.clauses ≡ []
+pub no-clause : (g : Premises) (t : ClassTable) → IsClassTable g t → g.conjuncts ≡ [] → g.order ≡ [] → t.clauses ≡ []
 no-clause g t h none no-order =
     let bare : Premises = record { conjuncts = []; order = []; type_of = g.type_of } in
     let same : g ≡ bare = λ z. record { conjuncts = none z; order = no-order z; type_of = g.type_of } in

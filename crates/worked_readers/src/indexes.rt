@@ -1,7 +1,7 @@
 //! CREATE INDEX read and refused. Kinds and places were found by a reader written apart.
 
 ghost use Rattle.std.specs.Prelude.{◌≤◌, ◌^◌, length, IfOk};
-ghost use Rattle.index_reader.specs.Reads.{reading};
+ghost use Rattle.index_reader.specs.Reads.{index_meant};
 ghost use Rattle.index_reader.specs.Soundness.{IsSound};
 
 use crate::cases::{Cases, Reader, Tables, Wrong, first_failing};
@@ -131,7 +131,7 @@ const RIGHT: [Right; 6] = [
 /// The CREATE INDEX at the text's beginning.
 pub(crate) fn read(alloc: Global, cat: &Catalog, text: &[u8]) -> Result<ReadIndex, Refusal>
     requires { length text.now ≤ 2 ^ 31 }
-    ensures { IfOk result (λ r. IsSound cat.now text.now (reading r)) }
+    ensures { IfOk result (λ r. IsSound cat.now text.now (index_meant r)) }
 {
     let tokens = lex_statement(alloc, text, 0)?;
     if !is_index(text, &tokens) {

@@ -5,7 +5,7 @@ use Rattle.eq_classes.specs.declared.classes.ClassNo.{ClassNo}
 use Rattle.pg_expr.specs.declared.operand.ColRef.{ColRef}
 use Rattle.pg_value.specs.declared.operators.Family.{Family}
 use Rattle.sql_query.specs.Queries.{Query}
-use Rattle.eq_classes.specs.Clauses.{Table}
+use Rattle.eq_classes.specs.Clauses.{ClassTable}
 use Rattle.certificate_entries.specs.Keys.{IsClassIn}
 use Rattle.certificate_entries.proofs.ClassLemmas.{class-found, class-none}
 use Rattle.certificate_entries.proofs.line_keys.class_in.Goals as goal
@@ -19,7 +19,7 @@ none q x f None e = class-none q x f (sym e)
 none q x f (Some n) e = tt
 
 pub returns-clause-found : goal.returns-clause-found
-returns-clause-found c = found c.args.q.now c.args.x c.args.f c.class_of.result (c.class_of.ensures.class ∙ ap (λ (t : Table). class_number t.classes (in_family c.args.x c.args.f)) c.classes_of.ensures)
+returns-clause-found c = found c.args.q.now c.args.x c.args.f c.class_of.result (c.class_of.ensures.class ∙ ap (λ (t : ClassTable). class_number t.classes (in_family c.args.x c.args.f)) c.classes_of.ensures)
 
 pub returns-clause-none : goal.returns-clause-none
-returns-clause-none c = none c.args.q.now c.args.x c.args.f c.class_of.result (c.class_of.ensures.class ∙ ap (λ (t : Table). class_number t.classes (in_family c.args.x c.args.f)) c.classes_of.ensures)
+returns-clause-none c = none c.args.q.now c.args.x c.args.f c.class_of.result (c.class_of.ensures.class ∙ ap (λ (t : ClassTable). class_number t.classes (in_family c.args.x c.args.f)) c.classes_of.ensures)

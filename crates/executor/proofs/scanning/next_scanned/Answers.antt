@@ -2,7 +2,7 @@ use Rattle.std.proofs.Common.{◌≡◌, ◌∷◌, ◌++◌, ◌∙◌, [], Lis
 use Rattle.pg_base.specs.declared.numbers.Tid.{Tid}
 use Rattle.sql_query.specs.Queries.{Query}
 use Rattle.plan_tree.specs.Views.{plan}
-use Rattle.scan_exec.specs.Coming.{Coming, left}
+use Rattle.scan_exec.specs.Coming.{Coming, rows_to_come}
 use Rattle.executor.specs.Numbers.{numbers}
 use Rattle.executor.proofs.DrawLemmas.{found_left, none_left, none_behind}
 use Rattle.executor.proofs.ScanLemmas.{scan_long, scan_step}
@@ -11,10 +11,10 @@ use Rattle.executor.proofs.scanning.next_scanned.Goals as goal
 pub returns-in_ok-push-in-Some-clause-some : goal.returns-in_ok-push-in-Some-clause-some
 returns-in_ok-push-in-Some-clause-some g c = λ (q : Query).
     let row : c.from_vec.result ≡ c.in-Some.tid ∷ [] = search rules in
-    scan_step q (plan c.args.scanning.now.plan.now) c.from_vec.result (left c.args.scanning.now.rows) (left c.next.new.self) c.requires.good.scan (ap length row)
+    scan_step q (plan c.args.scanning.now.plan.now) c.from_vec.result (rows_to_come c.args.scanning.now.rows) (rows_to_come c.next.new.self) c.requires.good.scan (ap length row)
     (found_left c.args.scanning.now.rows c.in-Some.tid.0 c.in-Some.ensures.row
-    ∙ ap (λ (cs : List Coming). c.in-Some.tid.0 ∷ left cs) (sym c.in-Some.ensures.rest)
-    ∙ ap (λ (t : List Tid). numbers t ++ left c.next.new.self) (sym row))
+    ∙ ap (λ (cs : List Coming). c.in-Some.tid.0 ∷ rows_to_come cs) (sym c.in-Some.ensures.rest)
+    ∙ ap (λ (t : List Tid). numbers t ++ rows_to_come c.next.new.self) (sym row))
 
 pub returns-in_ok-push-in-Some-clause-len : goal.returns-in_ok-push-in-Some-clause-len
 returns-in_ok-push-in-Some-clause-len g c =

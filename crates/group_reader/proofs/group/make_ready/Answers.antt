@@ -6,7 +6,7 @@ use Rattle.pg_expr.specs.View.{cond}
 use Rattle.pg_expr.specs.declared.operand.ColRef.{ColRef}
 use Rattle.catalog.specs.Range.{type_in}
 use Rattle.eq_classes.specs.Classes.{conjuncts_in}
-use Rattle.eq_classes.specs.Clauses.{Table}
+use Rattle.eq_classes.specs.Clauses.{ClassTable}
 use Rattle.eq_classes.specs.Holding.{IsClassTable}
 use Rattle.eq_classes.specs.declared.order.OrderItem.{OrderItem}
 use Rattle.path_cost.specs.Columns.{is_column_in}
@@ -63,7 +63,7 @@ returns c =
     let behind : c.deref-3.result.now ≡ told.0.order ++ map plain_item told.0.keys =
     c.deref-3.ensures.value ∙ (c.in_ok-behind.ensures ∙ (ap (λ (o : List OrderItem). o ++ map plain_item c.deref-2.result.now) c.deref.ensures.value
     ∙ (ap (λ (k : List ColRef). c.in_ok-lists.lists.order.items ++ map plain_item k) c.deref-2.ensures.value ∙ ap (λ (l : BoundLists). l.order ++ map plain_item l.keys) told.2))) in
-    let Says : List Cond → Table → Type 0 = λ ks t. IsClassTable (record { conjuncts = conjuncts_in ks; order = c.deref-3.result.now; type_of = type_in s.contents s.range }) t in
+    let Says : List Cond → ClassTable → Type 0 = λ ks t. IsClassTable (record { conjuncts = conjuncts_in ks; order = c.deref-3.result.now; type_of = type_in s.contents s.range }) t in
     let kept = within Says c.args.start ws c.in_ok-classes.classes c.in_ok-classes.ensures in
     let table = subst (λ (l : List OrderItem). IsClassTable (record { conjuncts = conjuncts_in ws; order = l; type_of = type_in s.contents s.range }) c.in_ok-classes.classes) behind kept.1 in
     conveys-ok BoundLists Ready (IsReady s ws) (next said within_limits) told.0 _ (step said within_limits told.0 told.1 ∙ ap (λ (o : Option Limit). limited c.args.start o told.0) kept.0)

@@ -8,7 +8,7 @@ use Rattle.sql_grammar.specs.Terminals.{t_key}
 use Rattle.sql_grammar.specs.declared.class.Word.TheVariants.{From}
 use Rattle.sql_grammar.specs.Words.{words_of_ending, words_of_group, words_of_group_by, words_of_grouped_item, words_of_grouped_items, words_of_groups, words_of_order, words_of_where}
 use Rattle.sql_grammar.proofs.StatementWords.{words-are-tokens}
-use Rattle.expr_reader.specs.Lists.{parts_of}
+use Rattle.expr_reader.specs.Lists.{further_parts}
 use Rattle.expr_reader.proofs.Named.{AreNamed}
 use Rattle.expr_reader.specs.Conditions.{next}
 use Rattle.query_reader.specs.From.{nothing_joined, with_groups}
@@ -58,7 +58,7 @@ returns-clause-meaning c = λ x start later whole at.
     let words = c.skip.ensures ∙ (ap (drop 1) c.new-from.ensures ∙ sym (ap (drop 1) at.spelled.words)) in
     let t = parted x c.skip.new.self words in
     let read = c.in_ok-listed.ensures t.first t.more t.from_at (words_of_group t.group ++ (words_of_groups t.groups ++ (words_of_where t.condition ++ (words_of_group_by t.by ++ (words_of_order t.order ++ words_of_ending t.ending))))) t.split in
-    let is : List GroupedItem = t.first ∷ parts_of (λ (i : GroupedItem). i) t.more in
+    let is : List GroupedItem = t.first ∷ further_parts (λ (i : GroupedItem). i) t.more in
     subst (λ m. IsGroupedAs m c.bind.result) (t.means c.args.cat.now start)
     (at-start (λ (k : Token). IsGroupedAs (next (with_groups (nothing_joined c.args.cat.now) (t.group ∷ groups_after t.groups)) (groups_over k is t.condition t.by t.order)) c.bind.result) c.args.tokens.now c.items.result.now later start _ c.items.ensures whole
     (c.bind.ensures.meaning is t.group t.groups t.condition t.by t.order (words_of_ending t.ending) (read.0 ∙ ap (λ l. listed_of t.first ∷ l) (each-listed t.more)) (ending-window t.ending) read.1))
@@ -69,7 +69,7 @@ returns-clause-itself c =
     let words = c.skip.ensures ∙ (ap (drop 1) c.new-from.ensures ∙ sym (ap (drop 1) at.spelled.words)) in
     let t = parted x c.skip.new.self words in
     let read = c.in_ok-listed.ensures t.first t.more t.from_at (words_of_group t.group ++ (words_of_groups t.groups ++ (words_of_where t.condition ++ (words_of_group_by t.by ++ (words_of_order t.order ++ words_of_ending t.ending))))) t.split in
-    let is : List GroupedItem = t.first ∷ parts_of (λ (i : GroupedItem). i) t.more in
+    let is : List GroupedItem = t.first ∷ further_parts (λ (i : GroupedItem). i) t.more in
     let named = left-named c.args.text.now c.args.tokens.now c.args.first _ c.skip.new.self c.new-from.ensures c.skip.ensures at.spelled.limits c.requires.words.0 c.requires.words.1 in
     let inside = after-words (words_of_grouped_items t.more) _ (after-words (words_of_grouped_item t.first) _ (subst AreNamed t.split named)) in
     let (start, later, whole) = some-token c.args.tokens.now (omega (arith, c.requires.within)) in

@@ -1,6 +1,6 @@
 use Rattle.std.proofs.Common.{[], ◌∷◌, ◌++◌, refl, sym, ap, ◌∙◌, append-nil}
 use Rattle.sql_grammar.specs.Words.{words_of_col, words_of_group_columns}
-use Rattle.expr_reader.specs.Lists.{parts_of}
+use Rattle.expr_reader.specs.Lists.{further_parts}
 use Rattle.group_reader.specs.Written.{column_written}
 use Rattle.group_reader.proofs.WordLemmas.{columns-comma, columns-operand, next-part, no-part, pushed}
 use Rattle.group_reader.proofs.read.columns.Goals as goal
@@ -13,7 +13,7 @@ column-requires c =
 pub more-init : goal.more-init
 more-init c = λ x xs rest ends is.
     let read = c.in_ok-column.ensures.read x (words_of_group_columns xs ++ rest) (columns-operand xs rest ends) is in
-    (xs, pushed [] c.push.new.self.items c.in_ok-column.field-0 (column_written x) (parts_of column_written xs) (column_written x ∷ parts_of column_written xs) (c.in_ok-push.ensures.items ∙ ap (λ l. l ++ c.in_ok-column.field-0 ∷ []) c.new-all.ensures.items) read.0 refl, read.1)
+    (xs, pushed [] c.push.new.self.items c.in_ok-column.field-0 (column_written x) (further_parts column_written xs) (column_written x ∷ further_parts column_written xs) (c.in_ok-push.ensures.items ∙ ap (λ l. l ++ c.in_ok-column.field-0 ∷ []) c.new-all.ensures.items) read.0 refl, read.1)
 
 pub column-requires-in-more : goal.column-requires-in-more
 column-requires-in-more c =
@@ -30,7 +30,7 @@ more-preserved c = λ x xs rest ends is.
     let next = next-part column_written words_of_col words_of_group_columns refl (λ m x xs. refl) ys c.takes_mark.new.self (rest) t (columns-comma rest ends) (sym took ∙ left) in
     let read = c.in_ok-column-2.ensures.read next.head (words_of_group_columns next.others ++ rest) (columns-operand next.others rest ends) next.says in
     let so = sym (ap (λ l. c.more.all.items ++ l) next.all) ∙ whole in
-    (next.others, pushed c.more.all.items c.push-in-more.new.self.items c.in_ok-column-2.field-0 (column_written next.head) (parts_of column_written next.others) (column_written x ∷ parts_of column_written xs) c.in_ok-push-2.ensures.items read.0 so, read.1)
+    (next.others, pushed c.more.all.items c.push-in-more.new.self.items c.in_ok-column-2.field-0 (column_written next.head) (further_parts column_written next.others) (column_written x ∷ further_parts column_written xs) c.in_ok-push-2.ensures.items read.0 so, read.1)
 
 pub returns : goal.returns
 returns c = λ x xs rest ends is.

@@ -1,7 +1,7 @@
 use Rattle.std.proofs.Common.{◌∙◌, ap₂}
 use Rattle.pg_base.specs.Sets.{has}
 use Rattle.catalog.specs.Range.{Range}
-use Rattle.eq_classes.specs.Clauses.{Table}
+use Rattle.eq_classes.specs.Clauses.{ClassTable}
 use Rattle.path_cost.specs.Estimates.{set_rows}
 use Rattle.plan_tree.specs.Views.{path}
 use Rattle.plan_tree.proofs.BoundLemmas.{lawful-rows}
@@ -18,5 +18,5 @@ returns-clause-price c =
     let p = path c.args.p.now in
     let h = c.requires.finished in
     let exact = kept-whole cat q p h (lawful-rows cat q c.lawful.ensures) c.cost_of.result c.requires.admissible c.cost_of.ensures.kept in
-    let rows = c.rows-all.ensures.rows ∙ ap₂ (λ (range : Range) (t : Table). set_rows cat range t (has p.set.0)) c.range_of.ensures c.classes_of.ensures in
+    let rows = c.rows-all.ensures.rows ∙ ap₂ (λ (range : Range) (t : ClassTable). set_rows cat range t (has p.set.0)) c.range_of.ensures c.classes_of.ensures in
     c.price_of.ensures.price cat p.tree exact (rows-are cat q p h c.rows-all.result rows)

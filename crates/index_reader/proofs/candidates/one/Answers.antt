@@ -1,5 +1,5 @@
 use Rattle.std.proofs.Common.{arith}
-use Rattle.index_reader.specs.Reads.{reading}
+use Rattle.index_reader.specs.Reads.{index_meant}
 use Rattle.index_reader.proofs.CandidateLemmas.{cand-ahead, cand-at, cand-refused, cand-stopped, eleventh-at, made, made-wrong, read-wrong}
 use Rattle.index_reader.proofs.candidates.one.Goals as goal
 
@@ -22,13 +22,13 @@ returns-in_err-read-clause-told c = λ x next rest start later whole s ends low.
 pub returns-in-Some-clause-told : goal.returns-in-Some-clause-told
 returns-in-Some-clause-told c = λ x next rest start later whole s ends low.
     let part = cand-at c.args.text.now c.args.tokens.now c.args.first c.end_of_candidate-end.result x next rest s (c.end_of_candidate-end.ensures x next rest s ends low) in
-    made-wrong c.args.cat.now start c.args.tokens.now c.args.earlier.now x (reading c.in_ok-read.read) c.in-Some.fault (omega (arith, c.requires.few, c.if-earlier-eq-MOST_CANDIDATES.false)) (c.in_ok-read.ensures.read x start later whole part) c.in-Some.ensures
+    made-wrong c.args.cat.now start c.args.tokens.now c.args.earlier.now x (index_meant c.in_ok-read.read) c.in-Some.fault (omega (arith, c.requires.few, c.if-earlier-eq-MOST_CANDIDATES.false)) (c.in_ok-read.ensures.read x start later whole part) c.in-Some.ensures
 
 pub returns-clause-told : goal.returns-clause-told
 returns-clause-told c = λ x next rest start later whole s ends low.
     let at = c.end_of_candidate-end.ensures x next rest s ends low in
     let part = cand-at c.args.text.now c.args.tokens.now c.args.first c.end_of_candidate-end.result x next rest s at in
-    (made c.args.cat.now start c.args.tokens.now c.args.earlier.now x (reading c.in_ok-read.read) (omega (arith, c.requires.few, c.if-earlier-eq-MOST_CANDIDATES.false)) (c.in_ok-read.ensures.read x start later whole part) c.in_default.ensures, at)
+    (made c.args.cat.now start c.args.tokens.now c.args.earlier.now x (index_meant c.in_ok-read.read) (omega (arith, c.requires.few, c.if-earlier-eq-MOST_CANDIDATES.false)) (c.in_ok-read.ensures.read x start later whole part) c.in_default.ensures, at)
 
 pub returns-clause-ahead : goal.returns-clause-ahead
 returns-clause-ahead c =

@@ -3,7 +3,7 @@ use Rattle.sql_lex.specs.declared.tokens.Token.{Token}
 use Rattle.sql_lex.specs.Ends.{token_at}
 use Rattle.expr_reader.specs.Reads.{Reads}
 use Rattle.index_reader.specs.Meaning.{meaning_of_cand}
-use Rattle.index_reader.specs.Reads.{reading}
+use Rattle.index_reader.specs.Reads.{index_meant}
 use Rattle.index_reader.proofs.CandLemmas.{cand-goes-on}
 use Rattle.index_reader.proofs.IndexLemmas.{cand-read, every-cand, parts-of}
 use Rattle.index_reader.proofs.SoundLemmas.{sound-as}
@@ -19,7 +19,7 @@ index-requires c = let (x, at) = c.requires.part in parts-of x c.part-from.resul
 
 pub returns-clause-meaning : goal.returns-clause-meaning
 returns-clause-meaning c = λ x start later whole at.
-    subst (λ (k : Token). Reads reading (meaning_of_cand c.args.cat.now k x) [] c.index.result []) (c.first_token.ensures ∙ ap (λ (ts : List Token). token_at ts 0) whole)
+    subst (λ (k : Token). Reads index_meant (meaning_of_cand c.args.cat.now k x) [] c.index.result []) (c.first_token.ensures ∙ ap (λ (ts : List Token). token_at ts 0) whole)
     (every-cand c.args.cat.now c.first_token.result c.part-from.result c.index.result c.index.ensures x (c.part-from.ensures ∙ sym at.words))
 
 pub returns-clause-sound : goal.returns-clause-sound

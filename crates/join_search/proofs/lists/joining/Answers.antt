@@ -1,7 +1,7 @@
 use Rattle.std.proofs.Common.{◌∙◌, ap, arith, take, sym}
 use Rattle.pg_base.specs.Sets.{has}
 use Rattle.pathkeys.specs.Finding.{class_numbers}
-use Rattle.eq_classes.specs.Clauses.{Table}
+use Rattle.eq_classes.specs.Clauses.{ClassTable}
 use Rattle.eq_classes.specs.Parts.{joining_from}
 use Rattle.join_search.proofs.ListLemmas.{four-long, joining-all, joining-more, somes-nil}
 use Rattle.join_search.proofs.lists.joining.Goals as goal
@@ -22,4 +22,4 @@ returns c =
     let a = has c.args.a.0 in
     let b = has c.args.b.0 in
     joining-all c.joining-four.result c.loop-n.n (joining_from a b 0 c.classes_of.result.now.classes) (class_numbers c.loop-n.found.items) c.loop-n.invariant c.joining-four.ensures.joining c.loop-n-test.false
-    ∙ ap (λ (t : Table). take 4 (joining_from a b 0 t.classes)) c.classes_of.ensures
+    ∙ ap (λ (t : ClassTable). take 4 (joining_from a b 0 t.classes)) c.classes_of.ensures

@@ -1,6 +1,6 @@
 use Rattle.std.proofs.Common.{◌∙◌, ap, length, nat_lt}
 use Rattle.pg_base.specs.Sets.{has}
-use Rattle.eq_classes.specs.Clauses.{Table}
+use Rattle.eq_classes.specs.Clauses.{ClassTable}
 use Rattle.index_match.specs.Conditions.{index_conditions}
 use Rattle.index_match.proofs.PartLemmas.{conditions_local}
 use Rattle.plan_tree.proofs.ElementLemmas.{condition-found}
@@ -18,4 +18,4 @@ returns c =
     condition-found c.has_some.result (index_conditions contents t i r p) (length t.clauses) c.bounds_and_tests.result c.has_some.ensures
     (all-found contents t i r p found.result.bounds found.result.tests c.bounds_and_tests.result found.ensures.bounds found.ensures.tests c.bounds_and_tests.ensures)
     (λ n local. (conditions_local contents t i r p n local).0)
-    ∙ ap (λ (x : Table). nat_lt 0 (length (index_conditions contents x i r p))) c.classes_of-classes.ensures
+    ∙ ap (λ (x : ClassTable). nat_lt 0 (length (index_conditions contents x i r p))) c.classes_of-classes.ensures

@@ -4,7 +4,7 @@ use Rattle.pg_expr.specs.Cond.{Cond}
 use Rattle.pg_expr.specs.Columns.{atom_count}
 use Rattle.pg_expr.specs.View as view
 use Rattle.pg_expr.specs.declared.expr.Expr.{Expr}
-use Rattle.eq_classes.specs.Clauses.{Table}
+use Rattle.eq_classes.specs.Clauses.{ClassTable}
 use Rattle.eq_classes.specs.Listing.{clause_at}
 use Rattle.path_cost.specs.Columns.{IsOver}
 use Rattle.plan_tree.specs.Bitmaps.{condition_at}
@@ -16,7 +16,7 @@ returns c =
     let f = λ (a : Bor (List Expr)). a.now in
     let ks = c.args.q.now.classes.clauses in
     let k = condition_at c.args.q.now c.args.n in
-    let same : k ≡ view.cond c.clause.result.now = condition-here ks c.args.n c.requires.clause ∙ ap (λ (t : Table). (clause_at t.clauses c.args.n).cond) (sym c.classes_of.ensures) ∙ sym c.clause.ensures in
+    let same : k ≡ view.cond c.clause.result.now = condition-here ks c.args.n c.requires.clause ∙ ap (λ (t : ClassTable). (clause_at t.clauses c.args.n).cond) (sym c.classes_of.ensures) ∙ sym c.clause.ensures in
     let are = arms-are f c.or_parts.result (view.cond c.clause.result.now) k same c.or_parts.ensures in
     record {
       arms = are;

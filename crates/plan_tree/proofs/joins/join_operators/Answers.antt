@@ -1,5 +1,5 @@
 use Rattle.std.proofs.Common.{◌-◌, ◌^◌, ◌∙◌, ap, min}
-use Rattle.eq_classes.specs.Clauses.{Table}
+use Rattle.eq_classes.specs.Clauses.{ClassTable}
 use Rattle.path_cost.specs.Costs.{operators}
 use Rattle.path_cost.specs.Estimates.{conditions_where}
 use Rattle.plan_tree.specs.Plans.{set_of, joins}
@@ -12,4 +12,4 @@ returns c =
     let test = joins (set_of (plan c.args.outer.now)) (plan c.args.inner.now) in
     c.operators_of.ensures
     ∙ ap (λ n. min n (2 ^ 64 - 1)) (join_operators_are test c.classes_of-classes.result.now.clauses c.joining-tested.result c.empty-none.result c.joining-tested.ensures c.empty-none.ensures)
-    ∙ ap (λ (t : Table). min (operators (conditions_where test t.clauses)) (2 ^ 64 - 1)) c.classes_of-classes.ensures
+    ∙ ap (λ (t : ClassTable). min (operators (conditions_where test t.clauses)) (2 ^ 64 - 1)) c.classes_of-classes.ensures

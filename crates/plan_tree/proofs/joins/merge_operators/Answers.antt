@@ -1,5 +1,5 @@
 use Rattle.std.proofs.Common.{◌-◌, ◌^◌, ◌&&◌, ◌∙◌, ap, min, not}
-use Rattle.eq_classes.specs.Clauses.{Table}
+use Rattle.eq_classes.specs.Clauses.{ClassTable}
 use Rattle.eq_classes.specs.Parts.{is_join}
 use Rattle.path_cost.specs.Costs.{operators}
 use Rattle.path_cost.specs.Estimates.{conditions_where, is_pair_of}
@@ -17,4 +17,4 @@ returns c =
     c.operators_of.ensures
     ∙ ap (λ n. min n (2 ^ 64 - 1)) (merge_operators_are c.classes_of-classes.result.now.clauses c.set_of-a.result c.set_of-b.result s t keys c.join_clauses-tested.result c.empty-none.result c.key_pairs-equal.result
     c.set_of-a.ensures.members c.set_of-b.ensures.members c.join_clauses-tested.ensures c.empty-none.ensures c.key_pairs-equal.ensures)
-    ∙ ap (λ (table : Table). min (operators (conditions_where (λ k. is_join s t k && not (is_pair_of keys k)) table.clauses)) (2 ^ 64 - 1)) c.classes_of-classes.ensures
+    ∙ ap (λ (table : ClassTable). min (operators (conditions_where (λ k. is_join s t k && not (is_pair_of keys k)) table.clauses)) (2 ^ 64 - 1)) c.classes_of-classes.ensures

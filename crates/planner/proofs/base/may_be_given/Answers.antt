@@ -2,7 +2,7 @@ use Rattle.std.proofs.Common.{◌≡◌, ◌∙◌, ◌&&◌, ℕ, ap, length, n
 use Rattle.std.proofs.lemmas.Bool.{true≢false}
 use Rattle.pg_base.specs.Sets.{has}
 use Rattle.pg_expr.specs.AtomSets.{contains}
-use Rattle.eq_classes.specs.Clauses.{Table}
+use Rattle.eq_classes.specs.Clauses.{ClassTable}
 use Rattle.eq_classes.specs.Listing.{clause_at}
 use Rattle.eq_classes.specs.Parts.{is_param}
 use Rattle.path_cost.specs.Estimates.{conditions_where}
@@ -18,7 +18,7 @@ returns c =
     let q = c.args.q.now in
     let tested = c.param_clauses-tested.result in
     let given : (n : ℕ) → contains tested n ≡ nat_lt n (length q.classes.clauses) && is_param r.0 (has p.0) (clause_at q.classes.clauses n) =
-    λ n. c.param_clauses-tested.ensures n ∙ ap (λ (x : Table). nat_lt n (length x.clauses) && is_param r.0 (has p.0) (clause_at x.clauses n)) c.classes_of.ensures in
+    λ n. c.param_clauses-tested.ensures n ∙ ap (λ (x : ClassTable). nat_lt n (length x.clauses) && is_param r.0 (has p.0) (clause_at x.clauses n)) c.classes_of.ensures in
     let same : (k : ℕ) → has c.others_named-named.result.0 k ≡ others_named r.0 (conditions_where (is_param r.0 (has p.0)) q.classes.clauses) k =
     λ k. c.others_named-named.ensures k ∙ named-where r.0 (has p.0) q.classes.clauses (contains tested) given k in
     record {

@@ -9,7 +9,7 @@ use Rattle.pg_expr.specs.Cond.{Cond}
 use Rattle.pg_expr.specs.View.{cond}
 use Rattle.catalog.specs.Range.{Range, type_in}
 use Rattle.eq_classes.specs.Classes.{conjuncts_in}
-use Rattle.eq_classes.specs.Clauses.{Table}
+use Rattle.eq_classes.specs.Clauses.{ClassTable}
 use Rattle.eq_classes.specs.Holding.{IsClassTable}
 use Rattle.eq_classes.specs.declared.order.OrderItem.{OrderItem}
 use Rattle.expr_reader.specs.Reads.{Reads}
@@ -155,7 +155,7 @@ returns-in_err-classes-clause-meaning c = λ w y v later ends_so is.
     (stopped _ c.in_err-classes.field-0.0 _
     (λ f at. limit-wrong cat range (map cond old) c.args.start c.args.items.now w y v s look ws conj.meant shown.columns shown.is c.in_ok-order.order.items sorted.meant c.in_ok-window.window rows f
     (subst (λ (l : List Cond). limited c.args.start (past_limit l) l ≡ Err f) every
-    (conveys-fault (List Cond) Table (λ ks t. IsClassTable (record { conjuncts = conjuncts_in ks; order = c.deref-4.result.now; type_of = type_in s.contents s.range }) t) _ _ f c.in_err-classes.ensures at)))
+    (conveys-fault (List Cond) ClassTable (λ ks t. IsClassTable (record { conjuncts = conjuncts_in ks; order = c.deref-4.result.now; type_of = type_in s.contents s.range }) t) _ _ f c.in_err-classes.ensures at)))
     c.from_residual-in_err-classes.ensures.1)
 
 pub returns-in_err-used-clause-meaning : goal.returns-in_err-used-clause-meaning
@@ -179,7 +179,7 @@ returns-clause-meaning c = λ w y v later ends_so is.
     let sorted = was-read (Vec OrderItem Global) (List OrderItem) (λ (v : Vec OrderItem Global). v.items) (order_items (visible_in s) shown.columns y) c.in_ok-order.order rest _
     (subst (λ (l : List ColRef). Reads (λ (v : Vec OrderItem Global). v.items) (order_items (visible_in s) l y) rest (Ok c.in_ok-order.order) c.order_by.new.from) (c.deref-2.ensures.value ∙ select) (c.in_ok-order.ensures.read y rest ends conj.words)) in
     let every : map cond c.deref-3.result.now ≡ map cond old ++ ws = ap (map cond) c.deref-3.ensures.value ∙ sym both in
-    let Says : List Cond → Table → Type 0 = λ ks t. IsClassTable (record { conjuncts = conjuncts_in ks; order = c.deref-4.result.now; type_of = type_in s.contents s.range }) t in
+    let Says : List Cond → ClassTable → Type 0 = λ ks t. IsClassTable (record { conjuncts = conjuncts_in ks; order = c.deref-4.result.now; type_of = type_in s.contents s.range }) t in
     let kept = subst (λ (l : List Cond). (past_limit l ≡ None) × Says l c.in_ok-classes.classes) every (within Says c.args.start (map cond c.deref-3.result.now) c.in_ok-classes.classes c.in_ok-classes.ensures) in
     let same = same-query c.from_vec.result range c.in_ok-classes.classes c.from_vec-2.result shown.columns c.from_vec-4.result c.from_vec-3.result c.in_ok-order.order.items (map cond c.from_vec-5.result.items.items) (map cond old ++ ws) c.in_ok-window.window
     c.from_vec.ensures (c.from_vec-2.ensures ∙ select) c.from_vec-3.ensures
@@ -202,7 +202,7 @@ returns-clause-itself c = λ names.
     let shown = added-all (list_columns (visible_in s) c.args.items.now) c.new-select.result.items c.add_items.new.all.items _ c.in_ok-add_items.ensures in
     let select = shown.grown ∙ ap (λ l. l ++ shown.columns) c.new-select.ensures.items in
     let every : map cond c.deref-3.result.now ≡ map cond old ++ ws = ap (map cond) c.deref-3.ensures.value ∙ sym both in
-    let Says : List Cond → Table → Type 0 = λ ks t. IsClassTable (record { conjuncts = conjuncts_in ks; order = c.deref-4.result.now; type_of = type_in s.contents s.range }) t in
+    let Says : List Cond → ClassTable → Type 0 = λ ks t. IsClassTable (record { conjuncts = conjuncts_in ks; order = c.deref-4.result.now; type_of = type_in s.contents s.range }) t in
     let kept = subst (λ (l : List Cond). (past_limit l ≡ None) × Says l c.in_ok-classes.classes) every (within Says c.args.start (map cond c.deref-3.result.now) c.in_ok-classes.classes c.in_ok-classes.ensures) in
     let same = same-query c.from_vec.result range c.in_ok-classes.classes c.from_vec-2.result shown.columns c.from_vec-4.result c.from_vec-3.result c.in_ok-order.order.items (map cond c.from_vec-5.result.items.items) (map cond old ++ ws) c.in_ok-window.window
     c.from_vec.ensures (c.from_vec-2.ensures ∙ select) c.from_vec-3.ensures

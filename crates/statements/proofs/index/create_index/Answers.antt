@@ -1,6 +1,6 @@
 use Rattle.std.proofs.Common.{◌≡◌, rules}
 use Rattle.std.proofs.lemmas.Result.{err_from_is_err_and}
-use Rattle.index_reader.specs.Reads.{reading}
+use Rattle.index_reader.specs.Reads.{index_meant}
 use Rattle.sql_query.specs.Worlds.{world}
 use Rattle.statements.specs.Ending.{end_by}
 use Rattle.statements.specs.Faults.{index_fault}
@@ -17,5 +17,5 @@ returns-clause-refused g c =
     let read = c.in_ok-name.field-0 in
     let at : c.deref.result.now ≡ read.at.items = search rules in
     let told : c.refused_index.result ≡ end_by (index_fault c.in-Err.refused c.deref.result.now read.method c.args.tokens.now) = search rules in
-    refused-as (world c.args.catalog.now c.args.store.now.stored) c.args.text.now c.args.tokens.now (reading read) c.in_ok-name.ensures.read c.args.reads.now c.build.new.reads c.in-Err.refused c.deref.result.now c.refused_index.result
+    refused-as (world c.args.catalog.now c.args.store.now.stored) c.args.text.now c.args.tokens.now (index_meant read) c.in_ok-name.ensures.read c.args.reads.now c.build.new.reads c.in-Err.refused c.deref.result.now c.refused_index.result
     c.in-Err.ensures.cause c.in-Err.ensures.unread c.in-Err.ensures.looks at told

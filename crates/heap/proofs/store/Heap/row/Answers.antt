@@ -1,5 +1,5 @@
 use Rattle.std.proofs.Common.{◌*◌, Some, length, take, drop, sym, ap, subst, ◌∙◌, arith}
-use Rattle.heap.specs.Stored.{Stored, Values, IsLawful}
+use Rattle.heap.specs.Stored.{Stored, Values, IsLawfulData}
 use Rattle.heap.proofs.Rows.{zip_length}
 use Rattle.heap.proofs.StoredLemmas.{lawful-at, row-at}
 use Rattle.heap.proofs.store.Heap.row.Goals as goal
@@ -20,7 +20,7 @@ returns-clause-row g c =
 
 pub returns-clause-lawful : goal.returns-clause-lawful
 returns-clause-lawful g c =
-    let lawful : IsLawful c.args.self.now = subst (λ (s : Stored). IsLawful s) c.self.view_is c.self.invariant.0 in
+    let lawful : IsLawfulData c.args.self.now = subst (λ (s : Stored). IsLawfulData s) c.self.view_is c.self.invariant.0 in
     lawful-at c.args.self.now c.args.t.0 c.part.result.now lawful c.requires (returns-clause-row g c)
 
 pub returns-clause-width : goal.returns-clause-width

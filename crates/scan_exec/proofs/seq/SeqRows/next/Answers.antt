@@ -2,7 +2,7 @@ use Rattle.std.proofs.Common.{ap, sym, ◌∙◌}
 use Rattle.scan_probes.specs.Filters.{lent_conditions}
 use Rattle.scan_exec.specs.Kinds.{passes_row}
 use Rattle.scan_exec.proofs.SeqLemmas.{row_ready, seq_on, seq_row, seq_rest, seq_exact, unlooked_from}
-use Rattle.scan_exec.specs.Coming.{allowed}
+use Rattle.scan_exec.specs.Coming.{looks_allowed}
 use Rattle.scan_exec.proofs.seq.SeqRows.next.Goals as goal
 
 pub pass_row-requires : goal.pass_row-requires
@@ -40,4 +40,4 @@ returns-then-pass_row-clause-unlooked g c =
     let s = c.loop-n.self-inside in
     let i = c.self.inside in
     unlooked_from s.beside.rel.0 s.given (lent_conditions s.clauses.items) s.heap.now.rows _
-    ∙ sym (ap allowed (sym c.self.view_is) ∙ unlooked_from i.beside.rel.0 i.given (lent_conditions i.clauses.items) i.heap.now.rows i.at)
+    ∙ sym (ap looks_allowed (sym c.self.view_is) ∙ unlooked_from i.beside.rel.0 i.given (lent_conditions i.clauses.items) i.heap.now.rows i.at)

@@ -35,7 +35,7 @@ StandsAfterName ts =
 abbrev pub YieldsAfterName : {B : Type 0} → Spelled → (Output → B) → List Terminal → B → List Terminal → Type 0
 YieldsAfterName first meaning old read left =
     (n : Ident) (o : Output) (rest : List Terminal) → ends_item rest ≡ true → first ≡ spelled n →
-        t_name n ∷ old ≡ words_of_output o ++ rest →
+    t_name n ∷ old ≡ words_of_output o ++ rest →
     (read ≡ meaning o) × (left ≡ rest)
 
 -- the parts of a SELECT behind its FROM stand first, and no word behind them goes on them
@@ -54,28 +54,28 @@ IfAfterFrom ts P =
 abbrev pub StandsFrom : List Terminal → Type 0
 StandsFrom ts =
     (g : Group) × (gs : List (Mark × Group)) × (w : Where) × (y : OrderBy) × (v : Window) × (rest : List Terminal) ×
-        (ends_window rest ≡ true) ×
+    (ends_window rest ≡ true) ×
     (ts ≡ words_of_group g ++ (words_of_groups gs ++ (words_of_where w ++ (words_of_order y ++ (words_of_window v ++ rest)))))
 
 -- where they do, this holds of them
 abbrev pub IfFrom : List Terminal → (Group → List (Mark × Group) → Where → OrderBy → Window → Type 0) → Type 0
 IfFrom ts P =
     (g : Group) (gs : List (Mark × Group)) (w : Where) (y : OrderBy) (v : Window) (rest : List Terminal) →
-        ends_window rest ≡ true →
+    ends_window rest ≡ true →
     ts ≡ words_of_group g ++ (words_of_groups gs ++ (words_of_where w ++ (words_of_order y ++ (words_of_window v ++ rest)))) →
-        P g gs w y v
+    P g gs w y v
 
 -- the conjuncts of a condition
 abbrev pub ReadsConjuncts : Scope → (ColRef → SqlType) → List Terminal → Result Exprs Refusal → List Terminal → Type 0
 ReadsConjuncts scope type_of old read left =
     IfFirst words_of_expr ends_expr old (λ e rest. Reads
-        (λ (es : Exprs). map cond es.items.items) (conjuncts_of_expr scope type_of e) rest read left)
+    (λ (es : Exprs). map cond es.items.items) (conjuncts_of_expr scope type_of e) rest read left)
 
 -- the conjuncts of WHERE
 abbrev pub ReadsWhere : Scope → (ColRef → SqlType) → List Terminal → Result Exprs Refusal → List Terminal → Type 0
 ReadsWhere scope type_of old read left =
     IfFirst words_of_where ends_where old (λ w rest. Reads
-        (λ (es : Exprs). map cond es.items.items) (conjuncts_written scope type_of w) rest read left)
+    (λ (es : Exprs). map cond es.items.items) (conjuncts_written scope type_of w) rest read left)
 
 -- the column of an item of ORDER BY, where the list shows these columns
 abbrev pub ReadsOrderColumn : Scope → List ColRef → List Terminal → Result ColRef Refusal → List Terminal → Type 0
@@ -92,10 +92,10 @@ abbrev pub ReadsOrderings : Scope → List ColRef → List Terminal → Result (
 ReadsOrderings scope select old read left =
     IfListed words_of_ordering words_of_orderings ends_order old (λ o os rest.
     Reads (λ (v : Vec OrderItem Global). v.items) (bound_each (order_item scope select) (o ∷ further_parts
-        (λ x. x) os)) rest read left)
+    (λ x. x) os)) rest read left)
 
 -- the items of ORDER BY, or none where it is left out
 abbrev pub ReadsOrderBy : Scope → List ColRef → List Terminal → Result (Vec OrderItem Global) Refusal → List Terminal → Type 0
 ReadsOrderBy scope select old read left =
     IfFirst words_of_order ends_order old (λ y rest. Reads
-        (λ (v : Vec OrderItem Global). v.items) (order_items scope select y) rest read left)
+    (λ (v : Vec OrderItem Global). v.items) (order_items scope select y) rest read left)

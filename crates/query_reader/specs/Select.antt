@@ -116,5 +116,5 @@ BindsPart c text tokens first end read =
 abbrev pub BindsSelect : Contents → List ℕ → List Token → ℕ → Result Query Refusal → Type 0
 BindsSelect c text tokens first read =
     (x : WindowedSelect) (start : Token) (later : List Token) → tokens ≡ start ∷ later → IsWhole text tokens →
-        IsSelectAt text tokens first x →
+    IsSelectAt text tokens first x →
     IsBoundAs (bound_part c start x) read

@@ -109,7 +109,14 @@ const CASES: [Case; 10] = [
         0,
         448,
     ),
-    (MANY, BOTH, Call::Join(Way::Merge), Wanted::Mirrored, 0, 96_000),
+    (
+        MANY,
+        BOTH,
+        Call::Join(Way::Merge),
+        Wanted::Mirrored,
+        0,
+        96_000,
+    ),
     (
         ONE,
         DOWN,

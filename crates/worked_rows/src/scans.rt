@@ -24,8 +24,7 @@ use plan_tree::Plan;
 use scan_exec::{ScanRows, scan};
 
 /// The scan of a relation by the index of its number, without a parameterisation.
-pub(crate) fn index_scan(rel: u8, backward: bool) -> Plan
-{
+pub(crate) fn index_scan(rel: u8, backward: bool) -> Plan {
     Plan::Index {
         rel: RelNo(rel),
         index: IndexNo(rel as u16),

@@ -24,10 +24,7 @@ pub(crate) struct Cost {
 }
 
 /// What was counted so far.
-pub(crate) fn counted<C: Counters>(
-    fetches: &Steps<C::Fetches>,
-    reads: &Steps<C::Looks>,
-) -> Cost {
+pub(crate) fn counted<C: Counters>(fetches: &Steps<C::Fetches>, reads: &Steps<C::Looks>) -> Cost {
     Cost {
         fetches: fetches.shown(),
         looks: reads.shown(),

@@ -7,6 +7,7 @@ use Rattle.plan_tree.specs.Plans.{Plan, seq, index, index_only, bitmap, sort, ne
 use Rattle.plan_lines.specs.explain_Texts.{bits_text, figures_text, lead, title}
 use Rattle.plan_lines.specs.certificate_text_HasText.{IsWritable}
 use Rattle.plan_space.specs.Numbered.{Pair, lines, nodes}
+use Rattle.plan_space.specs.declared.lines.TheConstants.{MOST_LINES}
 use Rattle.plan_lines.specs.HasText.{IsText}
 use Rattle.plan_lines.specs.Stands.{MOST_DEPTH, Stands}
 
@@ -61,10 +62,6 @@ StandsAt d (bitmap r p bits) = (d ≤ MOST_DEPTH) × Stands (d + 1) bits
 StandsAt d (sort keys input) = (d ≤ MOST_DEPTH) × StandsAt (d + 1) input
 StandsAt d (nest outer inner) = (d ≤ MOST_DEPTH) × StandsAt (d + 1) outer × StandsAt (d + 1) inner
 StandsAt d (merge keys outer inner) = (d ≤ MOST_DEPTH) × StandsAt (d + 1) outer × StandsAt (d + 1) inner
-
--- the most lines of a plan that is read
-abbrev pub MOST_LINES : ℕ
-MOST_LINES = 256
 
 -- two numbers of at most 19 digits, each of which a u64 holds
 abbrev pub Fits : Pair → Type 0

@@ -13,7 +13,7 @@ use crate::nodes::read_node;
 use crate::sizes::count_up;
 use catalog::Catalog;
 use plan_lines::Lines;
-use plan_space::{Numbers, Written};
+use plan_space::{MOST_LINES, Numbers, Written};
 use plan_tree::Plan;
 use sql_query::Prepared;
 use std::alloc::{AllocError, Global};
@@ -44,7 +44,7 @@ fn is_written(cat: &Catalog, q: &Prepared, block: &[u8], p: &Plan, numbers: &[(u
     requires stands { StandsAt 0 (plan p.now) }
     ensures { IsTrue result ↔ IsWritten cat.now q.now block.now (plan p.now) numbers.now }
 {
-    if count_up(p) > 256 {
+    if count_up(p) > MOST_LINES {
         return false;
     }
     match behind_plan(block, cat, q, 0, p, numbers) {

@@ -1,6 +1,6 @@
 //! Two sides joined.
 
-ghost use Rattle.std.specs.Prelude.{◌≡◌, IsTrue};
+ghost use Rattle.std.specs.Prelude.{IsTrue};
 ghost use Rattle.pg_base.specs.Sets.{has};
 ghost use Rattle.heap.specs.Tuples.{padded_tuples};
 ghost use Rattle.sql_query.specs.Queries.{width};

@@ -113,7 +113,7 @@ pub(crate) fn see_scan<C: Counters>(
     Ok(Some(before))
 }
 
-/// Sees each row that a scan has still to give, behind the number of the outer row.
+/// Sees the rows that a scan has still to give, 100 at most, each behind the number of the outer row.
 fn see_rows<'a, C: Counters>(
     rows: &mut ScanRows<'a, C>,
     outer: u32,
@@ -121,8 +121,11 @@ fn see_rows<'a, C: Counters>(
     fetches: &mut Steps<C::Fetches>,
     reads: &mut Steps<C::Looks>,
 ) {
-    'rows: while let Some(row) = rows.next(fetches, reads) {
-        seen.see_tuple(&[Tid(outer), row]);
+    for _ in 0..100 {
+        match rows.next(fetches, reads) {
+            Some(row) => seen.see_tuple(&[Tid(outer), row]),
+            None => return,
+        }
     }
 }
 

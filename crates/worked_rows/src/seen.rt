@@ -1,7 +1,5 @@
 //! Tuples beside those that are wanted.
 
-ghost use Rattle.std.specs.Prelude.{◌<◌};
-
 use heap::Tuples;
 use pg_base::Tid;
 
@@ -14,13 +12,24 @@ pub(crate) enum Wanted<'a> {
     Mirrored,
 }
 
+/// The number at a place of the mirrored tuples.
+fn mirrored(place: usize) -> Option<u32> {
+    if place >= 2000 {
+        return None;
+    }
+    let n = (place / 2) as u32;
+    if place % 2 == 0 {
+        Some(n)
+    } else {
+        Some(999u32.saturating_sub(n))
+    }
+}
+
 /// The number at a place.
 fn number_at(wanted: Wanted, place: usize) -> Option<u32> {
     match wanted {
         Wanted::These(numbers) => numbers.get(place).copied(),
-        Wanted::Mirrored if place >= 2000 => None,
-        Wanted::Mirrored if place % 2 == 0 => Some((place / 2) as u32),
-        Wanted::Mirrored => Some(999 - (place / 2) as u32),
+        Wanted::Mirrored => mirrored(place),
     }
 }
 

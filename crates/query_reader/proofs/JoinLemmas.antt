@@ -59,6 +59,21 @@ joins-expr (join_on no_inner j r o e ∷ js) rest ends = refl
 joins-expr (join_on (inner i) j r o e ∷ js) rest ends = refl
 joins-expr (cross_join c j r ∷ js) rest ends = refl
 
+pub from-group : (rest : List Terminal) → ends_from rest ≡ true → ends_group rest ≡ true
+from-group [] ends = refl
+from-group (t_key WhereKey _ ∷ rest) ends = refl
+from-group (t_key GroupKey _ ∷ rest) ends = refl
+from-group (t_key Order _ ∷ rest) ends = refl
+from-group (t_key LimitKey _ ∷ rest) ends = refl
+from-group (t_key OffsetKey _ ∷ rest) ends = refl
+from-group (t_semicolon _ ∷ rest) ends = refl
+from-group (t_end _ ∷ rest) ends = refl
+from-group _ ends = absurd (cc (ends))
+
+pub groups-end : (gs : List (Mark × Group)) (rest : List Terminal) → ends_from rest ≡ true → ends_group (words_of_groups gs ++ rest) ≡ true
+groups-end [] rest ends = from-group rest ends
+groups-end ((m, g) ∷ gs) rest ends = refl
+
 order-from : (y : OrderBy) (rest : List Terminal) → ends_order rest ≡ true → ends_from (words_of_order y ++ rest) ≡ true
 order-from no_order [] ends = refl
 order-from no_order (t_key LimitKey _ ∷ rest) ends = refl

@@ -3,7 +3,7 @@ use Rattle.sql_grammar.specs.Words.{words_of_groups}
 use Rattle.expr_reader.proofs.StepLemmas.{step, stop}
 use Rattle.query_reader.specs.From.{Joined, with_group, with_groups}
 use Rattle.query_reader.proofs.FromLemmas.{group-shorter, next-group, no-group}
-use Rattle.sql_grammar.proofs.FromTrees.{groups-end}
+use Rattle.query_reader.proofs.JoinLemmas.{groups-end}
 use Rattle.query_reader.proofs.SourceLemmas.{into-fault, into-ok, into-stopped, was-into}
 use Rattle.query_reader.proofs.sources.Sources.take_groups.Goals as goal
 

@@ -45,9 +45,13 @@ fn are_sides<C: Counters>(at: &Scene<C>, keys: &Keys, outer: &Plan, inner: &Plan
     requires { IsWellBound at.now.cat.now at.now.q.now }
     ensures { IsTrue result → AreSides at.now.cat.now at.now.q.now keys.now (plan outer.now) (plan inner.now) }
 {
-    is_whole_scan(at, outer)
-        && is_whole_scan(at, inner)
-        && is_merge(at.cat, at.q, keys, outer, inner)
+    if !is_whole_scan(at, outer) {
+        return false;
+    }
+    if !is_whole_scan(at, inner) {
+        return false;
+    }
+    is_merge(at.cat, at.q, keys, outer, inner)
 }
 
 /// The tuples of two sides joined so.

@@ -1,3 +1,4 @@
+use Rattle.std.proofs.Common.{refl}
 use Rattle.plan_tree.specs.Views.{plan}
 use Rattle.plan_tree.proofs.CostableLemmas.{built-costable}
 use Rattle.plan_laws.proofs.WellBoundLemmas.{bound-over}
@@ -7,7 +8,7 @@ pub is_merge-requires-clause-query : goal.is_merge-requires-clause-query
 is_merge-requires-clause-query g c = bound-over c.args.at.now.cat.now c.args.at.now.q.now c.requires
 
 pub is_merge-requires-clause-outer : goal.is_merge-requires-clause-outer
-is_merge-requires-clause-outer g c = built-costable c.args.at.now.cat.now c.args.at.now.q.now (plan c.args.outer.now) (c.is_whole_scan.ensures.built c.if-is_whole_scan.true)
+is_merge-requires-clause-outer g c = built-costable c.args.at.now.cat.now c.args.at.now.q.now (plan c.args.outer.now) (c.if-not-is_whole_scan.ensures.built refl)
 
 pub is_merge-requires-clause-inner : goal.is_merge-requires-clause-inner
-is_merge-requires-clause-inner g c = built-costable c.args.at.now.cat.now c.args.at.now.q.now (plan c.args.inner.now) (c.is_whole_scan-2.ensures.built c.if-is_whole_scan-2.true)
+is_merge-requires-clause-inner g c = built-costable c.args.at.now.cat.now c.args.at.now.q.now (plan c.args.inner.now) (c.if-not-is_whole_scan-2.ensures.built refl)

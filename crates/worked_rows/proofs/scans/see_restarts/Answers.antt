@@ -8,8 +8,8 @@ use Rattle.worked_rows.proofs.scans.see_restarts.Goals as goal
 pub is_index_scan-requires : goal.is_index_scan-requires
 is_index_scan-requires g c = record { query = bound-over c.args.at.now.cat.now c.args.at.now.q.now c.requires.bound }
 
-pub scanned-outer-requires-clause-built : goal.scanned-outer-requires-clause-built
-scanned-outer-requires-clause-built g c = c.requires.bound.range.some
+pub scanned-requires-clause-built : goal.scanned-requires-clause-built
+scanned-requires-clause-built g c = c.requires.bound.range.some
 
 pub see_each-requires-clause-held : goal.see_each-requires-clause-held
 see_each-requires-clause-held g c =

@@ -1,21 +1,19 @@
 -- The paths of the fronts of a search dominate each admissible scan and each admissible join of their plans.
-use Rattle.std.proofs.Common.{◌≡◌, ◌<◌, true, false, List, get_or, sym, ◌∙◌, arith, true≢false}
-use Rattle.std.specs.Prelude.{Contains, Option, Some, None}
+use Rattle.std.proofs.Common.{◌≡◌, true, false, List, get_or, sym, ◌∙◌, arith, true≢false}
+use Rattle.std.specs.Prelude.{Contains}
 use Rattle.std.proofs.lemmas.List.Elements.{All-contains, All-contains_itself, All-weaker}
 use Rattle.catalog.specs.Contents.{Contents}
 use Rattle.cost_rules.specs.declared.parameters.TheConstants.{MOST_COST}
 use Rattle.pg_base.specs.declared.rel_set.RelSet.{RelSet}
 use Rattle.sql_query.specs.Queries.{Query}
-use Rattle.sql_query.specs.declared.window.Window.{Window}
 use Rattle.plan_tree.specs.Costs.{HaveRows}
 use Rattle.plan_tree.specs.Least.{Dominates, IsAdmissible}
 use Rattle.plan_tree.specs.Paths.{Path, is_at_most}
 use Rattle.plan_tree.specs.Plans.{Plan}
 use Rattle.plan_tree.proofs.AtMostLemmas.{dominates-at-most}
-use Rattle.plan_tree.proofs.BoundLemmas.{startup-most}
 use Rattle.plan_laws.specs.Closed.{IsUndercut}
-use Rattle.plan_laws.specs.Useful.{HasEnough, IsBelow, floor_by}
-use Rattle.plan_laws.proofs.UsefulLemmas.{suffices-dominates}
+use Rattle.plan_laws.specs.Useful.{HasEnough, IsBelow}
+use Rattle.plan_laws.proofs.UsefulLemmas.{price-total, suffices-dominates}
 use Rattle.planner.specs.join_search_Joins.{AreUndominated, IsKept, IsPathAt}
 use Rattle.planner.specs.join_search_Tables.{Fronts}
 use Rattle.planner.proofs.SearchLemmas.{closed}
@@ -76,12 +74,8 @@ module _ (c : Contents) (q : Query) (fronts : Fronts) (searched : IsSearched c q
         (no-at-most x y hx hy u.0, no-at-most y x hy hx u.1)
 
     module _ (some : HaveRows c q) where
-      floor-less : (w : Option Window) (t : Plan) → IsAdmissible c q t → floor_by c q w t < MOST_COST
-      floor-less None t a = a
-      floor-less (Some w) t a = let most = startup-most c q some t in omega (arith, most, a)
-
       below : (t : Plan) → IsAdmissible c q t → IsBelow c q MOST_COST t
-      below t a = record { admissible = a; floor = floor-less q.window t a }
+      below t a = record { admissible = a; floor = let most = price-total c q some q.window t in omega (arith, most, a) }
 
       pub paths-kept : AreKept c q paths
       paths-kept =

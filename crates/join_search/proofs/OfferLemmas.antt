@@ -16,7 +16,7 @@ use Rattle.pathkeys.specs.Keys.{Keys, covers}
 use Rattle.pathkeys.proofs.CoveringLemmas.{covers-trans}
 use Rattle.sql_query.specs.Queries.{Query}
 use Rattle.sql_query.specs.declared.window.Window.{Window}
-use Rattle.plan_tree.specs.Costs.{HaveRows, cost}
+use Rattle.plan_tree.specs.Costs.{HaveRows, asked as asked_of, cost, price_by, query_rows}
 use Rattle.plan_tree.specs.Fronts.{ArePathsOf, HasDominating, StayDominated}
 use Rattle.plan_tree.specs.Keys.{keys_of}
 use Rattle.plan_tree.specs.Paths.{Path, kept_cost}
@@ -25,17 +25,17 @@ use Rattle.plan_tree.specs.Plans.{Plan, empty, set_of}
 use Rattle.plan_tree.specs.Space.{IsBuilt, IsPlanOf}
 use Rattle.plan_tree.specs.Views.{is_path_at_most, path}
 use Rattle.plan_tree.specs.declared.path.Path.{Path as Costed}
-use Rattle.plan_tree.proofs.BoundLemmas.{startup-most}
+use Rattle.plan_tree.proofs.BoundLemmas.{asked-most, startup-most}
 use Rattle.plan_tree.proofs.DominationLemmas.{dominates-refl}
 use Rattle.plan_tree.proofs.FrontLemmas.{contains-mapped, made-dominated, still-dominated}
-use Rattle.plan_tree.proofs.WindowLemmas.{kept-most, kept-rises, uncut-kept}
-use Rattle.plan_laws.specs.Useful.{IsOfUse, Suffices, floor_by}
-use Rattle.plan_laws.proofs.UsefulLemmas.{below-from, dominates-suffices, suffices-trans}
+use Rattle.plan_tree.proofs.WindowLemmas.{kept-least, kept-most, kept-rises, uncut-kept}
+use Rattle.plan_laws.specs.Useful.{IsBelow, IsOfUse, Suffices}
+use Rattle.plan_laws.proofs.UsefulLemmas.{below-from, dominates-suffices, price-falls, suffices-trans}
 use Rattle.kept_paths.specs.Bounds.{IsBeaten}
 use Rattle.join_search.specs.Tables.{Fronts, none}
 use Rattle.join_search.specs.Joins.{IsJoinOfKept, IsJoinPath, IsPathAt}
 use Rattle.join_search.specs.Offers.{IsCheapest, TakesJoins}
-use Rattle.join_search.specs.Sufficing.{HasSufficient, IsPartOfUse, IsServed, StaySufficient, floor_in}
+use Rattle.join_search.specs.Sufficing.{AreWholeRows, HasSufficient, IsPartOfUse, IsServed, StaySufficient, floor_in}
 use Rattle.join_search.specs.declared.useful.Asked.{Asked}
 use Rattle.join_search.proofs.PlanLemmas.{at-set, at-none, whole-rows}
 use Rattle.plan_tree.proofs.SetLemmas.{sets-same}
@@ -50,12 +50,22 @@ kept-at-most w a b h = record { startup = kept-rises w a.startup b.startup h.sta
 pub at-most-same : (a b : Pair) → a ≡ b → IsAtMost a b
 at-most-same a b e = subst (IsAtMost a) e (record { startup = le_refl a.startup; total = le_refl a.total })
 
-pub floor-rises : (w : Option Window) (a b : Pair) → IsAtMost a b → floor_in w a ≤ floor_in w b
-floor-rises None a b h = h.total
-floor-rises (Some w) a b h = h.startup
+pub floor-rises : (w : Option Window) (whole : ℕ) (a b : Pair) → 1 ≤ whole → IsAtMost a b → floor_in w whole a ≤ floor_in w whole b
+floor-rises None whole a b some h = h.total
+floor-rises (Some w) whole a b some h = price-falls a b (asked_of w whole) whole some (asked-most w whole) h
 
 pub beaten-more : (front : List Path) (a b : Pair) (part : Keys) → IsAtMost a b → IsBeaten front a part → IsBeaten front b part
 beaten-more front a b part h k = record { path = k.path; is_there = k.is_there; early = le_trans k.early h.startup; cheap = le_trans k.cheap h.total; covers = k.covers }
+
+module _ (c : Contents) (q : Query) where
+  -- the floor of a plan's costs by the rows of all relations is its price
+  floor-same : (w : Option Window) (t : Plan) → price_by c q w t ≡ floor_in w (query_rows c q) (cost c q t)
+  floor-same None t = refl
+  floor-same (Some w) t = refl
+
+  pub floor-below : (whole : ℕ) → AreWholeRows c q whole → (t : Plan) (limit : ℕ) → IsBelow c q limit t → floor_in q.window whole (cost c q t) < limit
+  floor-below whole is t limit below =
+      subst (λ (k : ℕ). k < limit) (floor-same q.window t ∙ ap (λ (n : ℕ). floor_in q.window n (cost c q t)) (sym is.rows)) below.floor
 
 -- the cheapest of some paths
 pub cheapest-of : (paths : List Costed) (p : Costed) → Contains paths p → All (λ o. p.cost ≤ o.cost) paths → IsCheapest (map path paths) (path p)
@@ -154,20 +164,25 @@ module _ (c : Contents) (q : Query) (asked : Asked) where
         };
       }
 
-  floor-least : (w : Option Window) (t : Plan) (n : Pair) → n ≡ capped_pair (kept_cost w (cost c q t)) → floor_in w n ≤ floor_by c q w t
-  floor-least None t n e = let total = ap (λ (x : Pair). x.total) e in omega (arith, total)
-  floor-least (Some w) t n e = let startup = ap (λ (x : Pair). x.startup) e in omega (arith, startup)
+  -- what a path keeps of a cost is no more than it
+  kept-under : (w : Option Window) (p n : Pair) → n ≡ capped_pair (kept_cost w p) → IsAtMost n p
+  kept-under w p n e =
+      let startup = ap (λ (x : Pair). x.startup) e in
+      let total = ap (λ (x : Pair). x.total) e in
+      let least = kept-least w p.startup in
+      record { startup = omega (arith, startup, least); total = omega (arith, total) }
 
   -- a plan past the limit is not below it
-  pub past-limit : (front : List Path) (t : Plan) (n : Pair) → n ≡ capped_pair (kept_cost q.window (cost c q t)) → (n.total < MOST_COST → floor_in q.window n < asked.limit → ⊥) → IsServed c q asked front t
-  past-limit front t n e past built below =
+  pub past-limit : (whole : ℕ) (front : List Path) (t : Plan) (n : Pair) → AreWholeRows c q whole → n ≡ capped_pair (kept_cost q.window (cost c q t)) → (n.total < MOST_COST → floor_in q.window whole n < asked.limit → ⊥) → IsServed c q asked front t
+  past-limit whole front t n is e past built below =
       let total = ap (λ (x : Pair). x.total) e in
-      let least = floor-least q.window t n e in
-      absurd (past (omega (arith, total, below.admissible)) (omega (arith, least, below.floor)))
+      let least = floor-rises q.window whole n (cost c q t) is.estimate.some (kept-under q.window (cost c q t) n e) in
+      let floor = floor-below c q whole is t asked.limit below in
+      absurd (past (omega (arith, total, below.admissible)) (omega (arith, least, floor)))
 
   -- nor is one that costs no less than what is past it
-  pub past-more : (front : List Path) (t : Plan) (m n : Pair) → n ≡ capped_pair (kept_cost q.window (cost c q t)) → IsAtMost m n → (m.total < MOST_COST → floor_in q.window m < asked.limit → ⊥) → IsServed c q asked front t
-  past-more front t m n e h past =
+  pub past-more : (whole : ℕ) (front : List Path) (t : Plan) (m n : Pair) → AreWholeRows c q whole → n ≡ capped_pair (kept_cost q.window (cost c q t)) → IsAtMost m n → (m.total < MOST_COST → floor_in q.window whole m < asked.limit → ⊥) → IsServed c q asked front t
+  past-more whole front t m n is e h past =
       let total = h.total in
-      let floor = floor-rises q.window m n h in
-      past-limit front t n e (λ lt below. past (omega (arith, total, lt)) (omega (arith, floor, below)))
+      let floor = floor-rises q.window whole m n is.estimate.some h in
+      past-limit whole front t n is e (λ lt below. past (omega (arith, total, lt)) (omega (arith, floor, below)))

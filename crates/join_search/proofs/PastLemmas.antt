@@ -1,6 +1,6 @@
 -- Joins whose sides cost so much together that they are past the limit.
 use Rattle.std.proofs.Common.{◌≡◌, ◌<◌, ◌≤◌, ℕ, ◌+◌, ◌*◌, Bool, true, false, not, nat_eq, List, length, map, refl, sym, ◌∙◌, ap, subst, le_trans, arith}
-use Rattle.std.specs.Prelude.{All, Contains, Option, Some, None}
+use Rattle.std.specs.Prelude.{All, Contains}
 use Rattle.std.proofs.Math.Nat.{mul-le-mul_left}
 use Rattle.std.proofs.lemmas.Bool.{eqb-true, false≢true}
 use Rattle.pg_base.specs.Sets.{has}
@@ -13,7 +13,6 @@ use Rattle.cost_rules.specs.declared.parameters.TheConstants.{MOST_COST, OPERATO
 use Rattle.path_cost.specs.Estimates.{pairs, set_rows}
 use Rattle.pathkeys.specs.Keys.{Keys}
 use Rattle.sql_query.specs.Queries.{Query}
-use Rattle.sql_query.specs.declared.window.Window.{Window}
 use Rattle.plan_tree.specs.Costs.{HaveRows, cost, estimate, join_operators, merge_operators}
 use Rattle.plan_tree.specs.Paths.{Path, startup_kept}
 use Rattle.plan_tree.specs.Plans.{Plan, seq, index, index_only, bitmap, sort, nest, merge, set_of}
@@ -21,13 +20,13 @@ use Rattle.plan_tree.specs.Views.{path}
 use Rattle.plan_tree.specs.declared.path.Path.{Path as Costed}
 use Rattle.plan_tree.proofs.BoundLemmas.{sort-most, startup-most}
 use Rattle.plan_tree.proofs.WindowLemmas.{kept-least}
-use Rattle.plan_laws.specs.Useful.{floor_by}
 use Rattle.join_search.specs.Tables.{none}
 use Rattle.join_search.specs.Joins.{IsPathAt, IsPlanIn, IsSideIn}
 use Rattle.join_search.specs.Merges.{IsNoCheaper}
 use Rattle.join_search.specs.Offers.{AreMergesServed, AreNestsServed}
-use Rattle.join_search.specs.Sufficing.{floor_in}
+use Rattle.join_search.specs.Sufficing.{AreWholeRows, floor_in}
 use Rattle.join_search.specs.declared.useful.Asked.{Asked}
+use Rattle.join_search.proofs.OfferLemmas.{floor-below}
 use Rattle.join_search.proofs.PlanLemmas.{at-none, at-set, whole-rows}
 
 pub not-true : (b : Bool) → not b ≡ true → b ≡ false
@@ -67,10 +66,6 @@ module _ (c : Contents) (q : Query) where
   abbrev IsFromPlan : Pair → Plan → Type 0
   IsFromPlan n t = (n.startup ≤ (cost c q t).startup) × (n.total ≤ (cost c q t).total)
 
-  floor-same : (w : Option Window) (t : Plan) → floor_by c q w t ≡ floor_in w (cost c q t)
-  floor-same None t = refl
-  floor-same (Some w) t = refl
-
   module _ (s p : RelSet) (paths : List Path) (at : All (IsPathAt c q s p) paths) (n : Pair) (least : All (IsNoCheaper n) paths) where
     plan-from : (t : Plan) → IsPlanIn paths t → IsFromPlan n t
     plan-from t k =
@@ -98,25 +93,25 @@ module _ (c : Contents) (q : Query) where
     side-from some (merge keys o i) k = plan-from (merge keys o i) k
 
   -- where what costs no less than the least of both sides together is past the limit, each merge of them is
-  pub merges-past : (asked : Asked) (some : HaveRows c q) (a b : RelSet) (outers inners : List Path) (m n : Pair) → All (IsPathAt c q a none) outers → All (IsPathAt c q b none) inners → All (IsNoCheaper m) outers → All (IsNoCheaper n) inners →
-      ((x : Pair) → m.startup + n.startup ≤ x.startup → m.total + n.total ≤ x.total → x.total < MOST_COST → floor_in q.window x < asked.limit → ⊥) → (front : List Path) (keys : Keys) → AreMergesServed c q asked front outers inners keys
-  merges-past asked some a b outers inners m n at at' least least' past front keys o i so si built below =
+  pub merges-past : (asked : Asked) (whole : ℕ) (are : AreWholeRows c q whole) (some : HaveRows c q) (a b : RelSet) (outers inners : List Path) (m n : Pair) → All (IsPathAt c q a none) outers → All (IsPathAt c q b none) inners → All (IsNoCheaper m) outers → All (IsNoCheaper n) inners →
+      ((x : Pair) → m.startup + n.startup ≤ x.startup → m.total + n.total ≤ x.total → x.total < MOST_COST → floor_in q.window whole x < asked.limit → ⊥) → (front : List Path) (keys : Keys) → AreMergesServed c q asked front outers inners keys
+  merges-past asked whole are some a b outers inners m n at at' least least' past front keys o i so si built below =
       let x = side-from a none outers at m least some o so in
       let y = side-from b none inners at' n least' some i si in
       absurd (past (cost c q (merge keys o i)) (both (cost c q o).startup (cost c q i).startup m.startup n.startup x.0 y.0)
       (both-more (cost c q o).total (cost c q i).total m.total n.total ((estimate c q o + 2 * estimate c q i) * (length keys * OPERATOR)) (pairs c q.range q.classes (set_of o) (set_of i) keys * row_cost (merge_operators q keys o i)) x.1 y.1)
-      below.admissible (subst (λ (k : ℕ). k < asked.limit) (floor-same q.window (merge keys o i)) below.floor))
+      below.admissible (floor-below c q whole are (merge keys o i) asked.limit below))
 
   -- where what costs no less than the least of both sides, the inner one for each outer row, is past the limit, each nested
   -- loop of them is
-  pub nests-past : (asked : Asked) (a b p : RelSet) (outers inners : List Path) (rows : ℕ) (m n each : Pair) → All (IsPathAt c q a none) outers → All (IsPathAt c q b p) inners → All (IsNoCheaper m) outers → All (IsNoCheaper n) inners →
+  pub nests-past : (asked : Asked) (whole : ℕ) (are : AreWholeRows c q whole) (a b p : RelSet) (outers inners : List Path) (rows : ℕ) (m n each : Pair) → All (IsPathAt c q a none) outers → All (IsPathAt c q b p) inners → All (IsNoCheaper m) outers → All (IsNoCheaper n) inners →
       rows ≡ set_rows c q.range q.classes (has a.0) → each.startup ≡ n.startup → each.total ≤ rows * n.total →
-      ((x : Pair) → m.startup + each.startup ≤ x.startup → m.total + each.total ≤ x.total → x.total < MOST_COST → floor_in q.window x < asked.limit → ⊥) → (front : List Path) → AreNestsServed c q asked front outers inners
-  nests-past asked a b p outers inners rows m n each at at' least least' same early total past front o i so si built below =
+      ((x : Pair) → m.startup + each.startup ≤ x.startup → m.total + each.total ≤ x.total → x.total < MOST_COST → floor_in q.window whole x < asked.limit → ⊥) → (front : List Path) → AreNestsServed c q asked front outers inners
+  nests-past asked whole are a b p outers inners rows m n each at at' least least' same early total past front o i so si built below =
       let x = plan-from a none outers at m least o so in
       let y = plan-from b p inners at' n least' i si in
       let is = All-contains (IsPathAt c q a none) outers so.path at so.is_there in
       let outer_rows : rows ≡ estimate c q o = same ∙ whole-rows c q a so.path.tree (at-set c q a none so.path is) (at-none c q a so.path is) ∙ ap (estimate c q) so.is_plan in
       absurd (past (cost c q (nest o i)) (both (cost c q o).startup (cost c q i).startup m.startup each.startup x.0 (subst (λ (k : ℕ). k ≤ (cost c q i).startup) (sym early) y.0))
       (runs-more (cost c q o).total (cost c q i).total m.total n.total each.total (estimate c q o) (estimate c q o * estimate c q i * row_cost (join_operators q o i)) x.1 y.1 (subst (λ (r : ℕ). each.total ≤ r * n.total) outer_rows total))
-      below.admissible (subst (λ (k : ℕ). k < asked.limit) (floor-same q.window (nest o i)) below.floor))
+      below.admissible (floor-below c q whole are (nest o i) asked.limit below))

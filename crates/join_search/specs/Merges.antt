@@ -158,4 +158,4 @@ merge_with j keys o i pairs n = let c = j.cat.now in let q = j.q.now in
 
 -- what costs no less than two sides together is past the limit of a search
 abbrev pub ArePast : Split → Pair → Pair → Type 0
-ArePast j o i = (n : Pair) → o.startup + i.startup ≤ n.startup → o.total + i.total ≤ n.total → n.total < MOST_COST → floor_in j.q.now.window n < j.asked.limit → ⊥
+ArePast j o i = (n : Pair) → o.startup + i.startup ≤ n.startup → o.total + i.total ≤ n.total → n.total < MOST_COST → floor_in j.q.now.window j.whole n < j.asked.limit → ⊥

@@ -173,9 +173,9 @@ abbrev pub FrontHasDominating : Split → List Costed → Plan → Type 0
 FrontHasDominating j front t = HasDominating j.cat.now j.q.now (map path front) t
 
 -- what costs no less than two parts together is past a limit
-abbrev pub AreSumsPast : Query → Asked → Pair → Pair → Type 0
-AreSumsPast q asked a b = (n : Pair) → a.startup + b.startup ≤ n.startup → a.total + b.total ≤ n.total →
-    n.total < MOST_COST → floor_in q.window n < asked.limit → ⊥
+abbrev pub AreSumsPast : Query → Asked → ℕ → Pair → Pair → Type 0
+AreSumsPast q asked whole a b = (n : Pair) → a.startup + b.startup ≤ n.startup → a.total + b.total ≤ n.total →
+    n.total < MOST_COST → floor_in q.window whole n < asked.limit → ⊥
 
 -- whatever the front, no nested loop of two sets is wanted whose inner side has a parameterisation
 abbrev pub NeedsNoNestsAt : Task → Table → RelSet → RelSet → RelSet → Type 0

@@ -19,6 +19,7 @@ use Rattle.plan_tree.specs.Views.{path}
 use Rattle.sql_query.specs.Queries.{Query}
 use Rattle.plan_laws.specs.Useful.{outside}
 use Rattle.join_search.specs.Joins.{ArePlaced, IsJoinPath, IsPathAt}
+use Rattle.join_search.specs.Sufficing.{AreWholeRows}
 use Rattle.join_search.specs.Tables.{Fronts, none, paths_at}
 use Rattle.join_search.specs.declared.splits.Split.{Split}
 use Rattle.join_search.specs.declared.splits.Target.{Target}
@@ -45,14 +46,16 @@ pub record IsSplit (c : Contents) (q : Query) (j : Split) : Type 0 where
   pub inner_estimate : IsEstimate j.inner_rows
   pub outside : IsSameSet (has j.outside.0) (outside q (has j.set.0))
 
--- what a search is over: a query over tables, with its order keys
+-- what a search is over: a query over tables, with the rows of all its relations and its order keys
 pub record IsTask (t : Task) : Type 0 where
   pub query : IsOverTables t.cat.now t.q.now
+  pub whole : AreWholeRows t.cat.now t.q.now t.whole
   pub order : t.order.now ≡ order_keys t.q.now.classes t.q.now.order
 
 -- the same with a set, its rows and the other relations, over fronts of which each path stands at its place
 pub record IsTarget (t : Target) : Type 0 where
   pub query : IsOverTables t.cat.now t.q.now
+  pub whole : AreWholeRows t.cat.now t.q.now t.whole
   pub order : t.order.now ≡ order_keys t.q.now.classes t.q.now.order
   pub placed : ArePlaced t.cat.now t.q.now (paths_at t.table.now)
   pub rows : t.rows ≡ set_rows t.cat.now t.q.now.range t.q.now.classes (has t.set.0)
@@ -61,6 +64,7 @@ pub record IsTarget (t : Target) : Type 0 where
 -- the same of a division of a set, whose sides have the paths of the fronts
 pub record IsOver (j : Split) : Type 0 where
   pub query : IsOverTables j.cat.now j.q.now
+  pub whole : AreWholeRows j.cat.now j.q.now j.whole
   pub order : j.order.now ≡ order_keys j.q.now.classes j.q.now.order
   pub placed : ArePlaced j.cat.now j.q.now (paths_at j.table.now)
   pub split : IsSplit j.cat.now j.q.now j

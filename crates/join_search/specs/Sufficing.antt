@@ -2,11 +2,13 @@
 -- truncate_useless_pathkeys; the limit is own).
 use Rattle.std.specs.Prelude.{◌≡◌, ℕ, true, List, Option, None, Some, Contains, ◌<◌, IsTrue, take}
 use Rattle.catalog.specs.Contents.{Contents}
+use Rattle.cost_rules.specs.Costs.{IsEstimate, price_of}
 use Rattle.cost_rules.specs.declared.pair.Pair.{Pair}
 use Rattle.eq_classes.specs.Clauses.{Set}
 use Rattle.pathkeys.specs.Keys.{Keys, covers}
 use Rattle.sql_query.specs.Queries.{Query}
 use Rattle.sql_query.specs.declared.window.Window.{Window}
+use Rattle.plan_tree.specs.Costs.{asked, query_rows}
 use Rattle.plan_tree.specs.Paths.{Path}
 use Rattle.plan_tree.specs.Plans.{Plan}
 use Rattle.plan_tree.specs.Space.{IsBuilt, IsSameSet}
@@ -18,10 +20,16 @@ use Rattle.cost_rules.specs.declared.parameters.TheConstants.{MOST_COST}
 use Rattle.eq_classes.specs.declared.classes.ClassNo.{ClassNo}
 use Rattle.pathkeys.specs.Finding.{class_numbers}
 
--- what a plan of a cost costs at least in whatever is made of it: the total, or under a window the startup
-abbrev pub floor_in : Option Window → Pair → ℕ
-floor_in None cost = cost.total
-floor_in (Some w) cost = cost.startup
+-- what a plan of a cost costs at least in whatever is made of it: the total, or under a window the price of such costs by
+-- the rows of all relations
+abbrev pub floor_in : Option Window → ℕ → Pair → ℕ
+floor_in None whole cost = cost.total
+floor_in (Some w) whole cost = price_of cost (asked w whole) whole
+
+-- a number is that of the rows of all relations
+pub record AreWholeRows (c : Contents) (q : Query) (n : ℕ) : Type 0 where
+  pub rows : n ≡ query_rows c q
+  pub estimate : IsEstimate n
 
 -- a part of a key list begins with each list of use at a set with which the whole begins
 abbrev pub IsPartOfUse : Query → Asked → Set → Keys → Keys → Type 0
@@ -42,9 +50,9 @@ module _ (c : Contents) (q : Query) (asked : Asked) where
   abbrev pub StaySufficient : List Path → List Path → Type 0
   StaySufficient old new = (t : Plan) → HasSufficient old t → HasSufficient new t
 
--- a cost is at the limit of all costs, or at that of the search
-abbrev pub IsCostPast : Query → Asked → Pair → Type 0
-IsCostPast q asked own = own.total < MOST_COST → floor_in q.window own < asked.limit → ⊥
+-- a cost is at the limit of all costs, or at that of the search, where all relations give so many rows
+abbrev pub IsCostPast : Query → Asked → ℕ → Pair → Type 0
+IsCostPast q asked whole own = own.total < MOST_COST → floor_in q.window whole own < asked.limit → ⊥
 
 -- so many first classes of a list begin with each list of open classes with which the whole begins; the relations outside
 -- are given

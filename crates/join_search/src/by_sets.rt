@@ -17,7 +17,9 @@ use crate::merges::offer_merges;
 use crate::nests::offer_nests;
 use crate::offers::cheapest;
 use crate::past::are_joins_past;
-use crate::splits::{Split, Target, Task, all_relations, is_single, path_rows, set_rows, sets_of};
+use crate::splits::{
+    Split, Target, Task, all_relations, is_single, path_rows, set_rows, sets_of, whole_rows,
+};
 use crate::table::Table;
 use crate::useful::{Asked, order_asked, useful};
 use catalog::Catalog;
@@ -75,6 +77,7 @@ fn offer_sides(
         cat: at.cat,
         q: at.q,
         asked: at.asked,
+        whole: at.whole,
         order: at.order,
         table: at.table,
         set: at.set,
@@ -288,6 +291,7 @@ fn front_over(
         cat: task.cat,
         q: task.q,
         asked: task.asked,
+        whole: task.whole,
         order: task.order,
         table,
         set,
@@ -383,10 +387,12 @@ pub fn search(
     ensures undominated { IfOk result (λ t. HasNoDominatedJoins cat.now q.now t) }
 {
     let order = order_asked(alloc, q)?;
+    let whole = whole_rows(cat, q);
     let task = Task {
         cat,
         q,
         asked,
+        whole,
         order: &order,
     };
     sets_below(alloc, &task, base, sets_of(range_of(q).items().len()))

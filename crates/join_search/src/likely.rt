@@ -13,7 +13,7 @@ ghost use Rattle.join_search.specs.Outcomes.{AreTaskPaths};
 
 use crate::by_sets::{front_of, offer_side};
 use crate::offers::least_cost;
-use crate::splits::{Target, Task, all_relations, is_single, set_rows};
+use crate::splits::{Target, Task, all_relations, is_single, set_rows, whole_rows};
 use crate::table::Table;
 use crate::useful::{Asked, order_asked};
 use catalog::Catalog;
@@ -56,6 +56,7 @@ fn joins_with(
         cat: task.cat,
         q: task.q,
         asked: task.asked,
+        whole: task.whole,
         order: task.order,
         table,
         set,
@@ -85,6 +86,7 @@ fn joins_below(
             every_key: task.asked.every_key,
             limit,
         },
+        whole: task.whole,
         order: task.order,
     };
     joins_with(alloc, &below, table, set, part)
@@ -199,10 +201,12 @@ pub fn likely_plans(
     ensures scans { IfOk result (λ t. HaveSameScans t base) }
 {
     let order = order_asked(alloc, q)?;
+    let whole = whole_rows(cat, q);
     let task = Task {
         cat,
         q,
         asked,
+        whole,
         order: &order,
     };
     joined(alloc, &task, base)

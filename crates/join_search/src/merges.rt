@@ -371,9 +371,10 @@ pub(crate) fn least_of(paths: &[Path]) -> Pair
 
 /// Whether two sides that cost so much are together past the limit.
 pub(crate) fn are_past(j: &Split, outer: Pair, inner: Pair) -> bool
+    requires { IsEstimate j.now.whole }
     ensures { IsTrue result → ArePast j.now outer inner }
 {
-    is_past(j.q, j.asked, outer, inner)
+    is_past(j.q, j.asked, j.whole, outer, inner)
 }
 
 /// Whether all merges of two sets are past the limit, as what their sides cost at least tells.

@@ -53,7 +53,7 @@ pub(crate) fn is_passed_over(
     ensures served { IfOk result (λ b. IsTrue b → MayPassOver j.now front.now least keys.now) }
     ensures below { IfOk result (λ b. b ≡ false → least.total < MOST_COST) }
 {
-    if !is_below(j.q, j.asked, least) {
+    if !is_below(j.q, j.asked, j.whole, least) {
         return Ok(true);
     }
     let part = useful(alloc, j.q, j.asked, j.order, j.outside, keys)?;

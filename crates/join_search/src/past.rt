@@ -1,6 +1,7 @@
 //! Joins that are past the limit of a search, as what their sides cost at least tells (own).
 
 ghost use Rattle.std.specs.Prelude.{◌≡◌, ◌≤◌, ◌*◌, IfOk, IsTrue, false, map};
+ghost use Rattle.cost_rules.specs.Costs.{IsEstimate};
 ghost use Rattle.plan_tree.specs.Views.{path};
 ghost use Rattle.join_search.specs.Joins.{ArePlaced};
 ghost use Rattle.join_search.specs.Splits.{IsTask};
@@ -20,13 +21,14 @@ use sql_query::Prepared;
 use std::alloc::Global;
 
 /// Whether what costs no less than two sides together is past the limit.
-pub(crate) fn is_past(q: &Prepared, asked: Asked, outer: Pair, inner: Pair) -> bool
-    ensures { IsTrue result → AreSumsPast q.now asked outer inner }
+pub(crate) fn is_past(q: &Prepared, asked: Asked, whole: u64, outer: Pair, inner: Pair) -> bool
+    requires { IsEstimate whole }
+    ensures { IsTrue result → AreSumsPast q.now asked whole outer inner }
 {
     let startup = outer.startup.saturating_add(inner.startup);
     let total = outer.total.saturating_add(inner.total);
     let both = Pair { startup, total };
-    !is_below(q, asked, both)
+    !is_below(q, asked, whole, both)
 }
 
 /// What a path of a cost takes at least where it is run for so many rows.
@@ -52,6 +54,7 @@ struct Outer<'a> {
 /// Whether all nested loops of two sets with the inner paths of a parameterisation are past the limit, or none may be given
 /// these rows.
 fn are_past_given(task: &Task, table: &Table, outer: Outer, inner: RelSet, p: RelSet) -> bool
+    requires task { IsTask task.now }
     requires placed { ArePlaced task.now.cat.now task.now.q.now (paths_at table.now) }
     requires paths { map path outer.paths.now ≡ paths_at table.now outer.set none }
     requires rows { outer.rows ≡ set_rows_of task.now.cat.now task.now.q.now outer.set }
@@ -63,7 +66,7 @@ fn are_past_given(task: &Task, table: &Table, outer: Outer, inner: RelSet, p: Re
     let first = least_of(outer.paths);
     let second = least_of(table.paths(inner, p));
     let each = repeated(second, outer.rows);
-    is_past(task.q, task.asked, first, each)
+    is_past(task.q, task.asked, task.whole, first, each)
 }
 
 /// Whether all nested loops of two sets are past the limit. The error means want of memory.
@@ -74,6 +77,7 @@ fn are_nests_past(
     outer: Outer,
     inner: RelSet,
 ) -> Result<bool, Memory>
+    requires task { IsTask task.now }
     requires placed { ArePlaced task.now.cat.now task.now.q.now (paths_at table.now) }
     requires paths { map path outer.paths.now ≡ paths_at table.now outer.set none }
     requires rows { outer.rows ≡ set_rows_of task.now.cat.now task.now.q.now outer.set }
@@ -105,6 +109,7 @@ fn are_past_from(
     outer: Outer,
     inner: RelSet,
 ) -> Result<bool, Memory>
+    requires task { IsTask task.now }
     requires placed { ArePlaced task.now.cat.now task.now.q.now (paths_at table.now) }
     requires paths { map path outer.paths.now ≡ paths_at table.now outer.set none }
     requires rows { outer.rows ≡ set_rows_of task.now.cat.now task.now.q.now outer.set }

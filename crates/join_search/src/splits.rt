@@ -12,6 +12,7 @@ ghost use Rattle.plan_tree.specs.Views.{path};
 ghost use Rattle.sql_query.specs.Queries.{all_of_query, width};
 ghost use Rattle.join_search.specs.Joins.{IsSingle};
 ghost use Rattle.join_search.specs.Splits.{HasSome};
+ghost use Rattle.join_search.specs.Sufficing.{AreWholeRows};
 
 use crate::table::Table;
 use crate::useful::Asked;
@@ -31,6 +32,8 @@ pub(crate) struct Task<'a> {
     pub(crate) q: &'a Prepared,
     /// What is asked of the search.
     pub(crate) asked: Asked,
+    /// The rows of all relations, by which a window's price goes.
+    pub(crate) whole: u64,
     /// The order keys of the query.
     pub(crate) order: &'a Keys,
 }
@@ -43,6 +46,8 @@ pub(crate) struct Target<'a> {
     pub(crate) q: &'a Prepared,
     /// What is asked of the search.
     pub(crate) asked: Asked,
+    /// The rows of all relations, by which a window's price goes.
+    pub(crate) whole: u64,
     /// The order keys of the query.
     pub(crate) order: &'a Keys,
     /// The fronts.
@@ -63,6 +68,8 @@ pub(crate) struct Split<'a> {
     pub(crate) q: &'a Prepared,
     /// What is asked of the search.
     pub(crate) asked: Asked,
+    /// The rows of all relations, by which a window's price goes.
+    pub(crate) whole: u64,
     /// The order keys of the query.
     pub(crate) order: &'a Keys,
     /// The fronts.
@@ -135,6 +142,15 @@ pub(crate) fn set_rows(cat: &Catalog, q: &Prepared, s: RelSet) -> u64
     ensures estimate { IsEstimate result }
 {
     rows(cat, range_of(q), classes_of(q), s)
+}
+
+/// The rows that all relations of a query are taken to give.
+pub(crate) fn whole_rows(cat: &Catalog, q: &Prepared) -> u64
+    requires query { IsOverTables cat.now q.now }
+    ensures { AreWholeRows cat.now q.now result }
+{
+    let all = all_relations(q);
+    set_rows(cat, q, all)
 }
 
 /// The rows that a path is taken to give: its own number, which is one that costs are reckoned from.

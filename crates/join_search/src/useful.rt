@@ -3,19 +3,22 @@
 
 ghost use Rattle.std.specs.Prelude.{◌≡◌, ◌<◌, ◌≤◌, ◌&&◌, All, IfOk, IsTrue, false, length, nat_lt, take};
 ghost use Rattle.pg_base.specs.Sets.{has};
+ghost use Rattle.cost_rules.specs.Costs as costs;
+ghost use Rattle.cost_rules.specs.Costs.{IsEstimate};
 ghost use Rattle.cost_rules.specs.declared.parameters.TheConstants.{MOST_COST};
 ghost use Rattle.eq_classes.specs.Listing.{class_at};
 ghost use Rattle.eq_classes.specs.Parts.{has_in};
 ghost use Rattle.pathkeys.specs.Finding.{class_numbers};
 ghost use Rattle.pathkeys.specs.Keys as keys;
+ghost use Rattle.plan_tree.specs.Costs as plans;
 ghost use Rattle.join_search.specs.Sufficing.{BeginsWithOpen, IsCostPast, IsPartOutside, floor_in};
 
-use cost_rules::{MOST_COST, Pair};
+use cost_rules::{MOST_COST, Pair, price};
 use eq_classes::ClassNo;
 use pathkeys::{Keys, covers, order_keys};
 use pg_base::{Memory, RelSet};
-use plan_tree::classes_of;
-use sql_query::Prepared;
+use plan_tree::{asked, classes_of};
+use sql_query::{Prepared, Window};
 use std::alloc::Global;
 
 /// What a search is asked for.
@@ -24,26 +27,39 @@ pub struct Asked {
     /// A path is kept for any keys that no cheaper one has; else only for those by which a later join or the order asked for
     /// may still profit.
     pub every_key: bool,
-    /// What costs so much is left out: in all, or before its first row where the query has a window.
+    /// What costs so much is left out: in all, or where the query has a window for the rows asked for.
     pub limit: u64,
 }
 
-/// What a plan of a cost costs at least in whatever is made of it.
-fn floor_of(q: &Prepared, cost: Pair) -> u64
-    ensures { result ≡ floor_in q.now.window cost }
+/// What the rows that a window asks for, of so many, cost of any two costs.
+fn windowed(w: Window, whole: u64, cost: Pair) -> u64
+    requires { IsEstimate whole }
+    ensures { result ≡ costs.price_of cost (plans.asked w whole) whole }
+{
+    if cost.total <= cost.startup {
+        return cost.startup;
+    }
+    price(cost, asked(w, whole), whole)
+}
+
+/// What a plan of a cost costs at least in whatever is made of it, where all relations give so many rows.
+fn floor_of(q: &Prepared, whole: u64, cost: Pair) -> u64
+    requires { IsEstimate whole }
+    ensures { result ≡ floor_in q.now.window whole cost }
 {
     match q.window {
         None => cost.total,
-        Some(_) => cost.startup,
+        Some(w) => windowed(w, whole, cost),
     }
 }
 
-/// Whether a plan of a cost is admissible, and its floor below the limit.
-pub(crate) fn is_below(q: &Prepared, asked: Asked, cost: Pair) -> bool
+/// Whether a plan of a cost is admissible, and its floor below the limit, where all relations give so many rows.
+pub(crate) fn is_below(q: &Prepared, asked: Asked, whole: u64, cost: Pair) -> bool
+    requires { IsEstimate whole }
     ensures yes { IsTrue result → cost.total < MOST_COST }
-    ensures no { result ≡ false → IsCostPast q.now asked cost }
+    ensures no { result ≡ false → IsCostPast q.now asked whole cost }
 {
-    let floor = floor_of(q, cost);
+    let floor = floor_of(q, whole, cost);
     cost.total < MOST_COST && floor < asked.limit
 }
 

@@ -1,9 +1,10 @@
 -- What a change of the bounds leaves at each list of classes.
-use Rattle.std.proofs.Common.{rules, ◌≡◌, ◌≢◌, ◌⊎◌, ◌<◌, ◌≤◌, ◌+◌, ◌&&◌, ◌||◌, ℕ, zero, suc, Bool, true, false, nat_lt, nat_le, List, [], ◌∷◌, length, take, Option, Some, None, Vec, Global, inl, inr, ⊎_elim, refl, sym, ◌∙◌, ap, subst, arith}
+use Rattle.std.proofs.Common.{rules, ◌≡◌, ◌≢◌, ◌⊎◌, ◌<◌, ◌≤◌, ◌+◌, ◌&&◌, ◌||◌, ℕ, zero, suc, Bool, true, false, nat_lt, List, [], ◌∷◌, length, take, Option, Some, None, Vec, Global, inl, inr, ⊎_elim, refl, sym, ◌∙◌, ap, subst, arith}
 use Rattle.std.proofs.lemmas.Bool.{and_from, cases_Bool, cases_lt, false≢true}
 use Rattle.std.proofs.lemmas.Grind.{common_steps}
 use Rattle.std.proofs.lemmas.List.{length-take-le, take_all}
 use Rattle.std.proofs.lemmas.Map.Text.{is_eq-slice_cmp}
+use Rattle.std.proofs.lemmas.Option.{none-some}
 use Rattle.std.specs.BTreeMap.{UpdatesBy}
 use Rattle.std.specs.Cmp.{eq_by_cmp_equiv}
 use Rattle.std.specs.Cmp.Lexicographic.{slice_cmp, bytes_decides, nat_list_cmp_total, nat_list_eq_equiv}
@@ -14,7 +15,7 @@ use Rattle.std.specs.Str.{bytes_eq}
 use Rattle.pathkeys.specs.Keys.{Keys, covers}
 use Rattle.pathkeys.proofs.CoveringLemmas.{covers-prefix, prefix-covers}
 use Rattle.cost_rules.specs.declared.pair.Pair.{Pair}
-use Rattle.kept_paths.specs.Bounds.{Bounds, is_first, is_told, is_within, known_at, least_in}
+use Rattle.kept_paths.specs.Bounds.{Bounds, early_at, early_in, is_first, is_told, is_within, known_at, least_in}
 use Rattle.kept_paths.specs.declared.bounds.Known.{Known}
 use Rattle.pg_base.proofs.OptionLemmas.{is-none}
 
@@ -60,6 +61,16 @@ room-told list m n k h nothing none ks cost = ⊎_elim here other (same-or list 
 
     other : bytes_eq list ks ≡ false → is_told n ks cost ≡ is_told m ks cost
     other differ = ap (λ x. is_within (least_in x) cost) (known-other list m n (Some k) h ks differ)
+
+-- and no cost of a path that starts first
+pub room-early : (list : Keys) (m n : Bounds) (k : Known) → IsKnownAs list (Some k) m n → k.early ≡ None → (ks : Keys) (e : Pair) → early_at n ks ≡ Some e → early_at m ks ≡ Some e
+room-early list m n k h nothing ks e is = ⊎_elim here other (same-or list ks)
+  where
+    here : list ≡ ks → early_at m ks ≡ Some e
+    here same = absurd (none-some e (sym nothing ∙ sym (ap early_in (known-here list m n (Some k) h)) ∙ subst (λ (l : Keys). early_at n l ≡ Some e) (sym same) is))
+
+    other : bytes_eq list ks ≡ false → early_at m ks ≡ Some e
+    other differ = sym (ap early_in (known-other list m n (Some k) h ks differ)) ∙ is
 
 pub rooms-stay : (list : Keys) (m n : Bounds) (k : Known) → IsKnownAs list (Some k) m n → (ks : Keys) → IsSome (known_at m ks) → IsSome (known_at n ks)
 rooms-stay list m n k h ks some = ⊎_elim
@@ -148,6 +159,27 @@ passed-all list ks = by (covers list ks) refl
     by : (b : Bool) → covers list ks ≡ b → passed (length list + 1) list ks ≡ covers list ks
     by false e = ap (λ b. b && nat_lt (length ks) (length list + 1)) e ∙ sym e
     by true e = ap (λ b. covers list ks && b) (less (length ks) (length list) (within e)) ∙ ap (λ b. b && true) e ∙ sym e
+
+-- of one list more with which a list begins the path that starts first was noted
+pub earlier-more : (old now new : Bounds) (list part : Keys) (cost : Pair) → covers list part ≡ true →
+    ((ks : Keys) (e : Pair) → early_at now ks ≡ Some e → (early_at old ks ≡ Some e) ⊎ ((covers list ks ≡ true) × (e ≡ cost))) →
+    ((e : Pair) → early_at new part ≡ Some e → (early_at now part ≡ Some e) ⊎ (e ≡ cost)) →
+    ((ks : Keys) → ks ≢ part → known_at new ks ≡ known_at now ks) →
+    (ks : Keys) (e : Pair) → early_at new ks ≡ Some e → (early_at old ks ≡ Some e) ⊎ ((covers list ks ≡ true) × (e ≡ cost))
+earlier-more old now new list part cost begins before here others ks e = ⊎_elim at-it elsewhere (same-or part ks)
+  where
+    at-part : early_at new part ≡ Some e → (early_at old part ≡ Some e) ⊎ ((covers list part ≡ true) × (e ≡ cost))
+    at-part is = ⊎_elim (λ was. before part e was) (λ same. inr (begins, same)) (here e is)
+
+    at-it : part ≡ ks → early_at new ks ≡ Some e → (early_at old ks ≡ Some e) ⊎ ((covers list ks ≡ true) × (e ≡ cost))
+    at-it same = subst (λ (l : Keys). early_at new l ≡ Some e → (early_at old l ≡ Some e) ⊎ ((covers list l ≡ true) × (e ≡ cost))) same at-part
+
+    elsewhere : bytes_eq part ks ≡ false → early_at new ks ≡ Some e → (early_at old ks ≡ Some e) ⊎ ((covers list ks ≡ true) × (e ≡ cost))
+    elsewhere differ is = before ks e (sym (ap early_in (others ks (λ same. false≢true (sym differ ∙ (bytes_decides part ks).1 (sym same))))) ∙ is)
+
+-- a list begins with so many of its own
+pub begins-own : (list : Keys) (i : ℕ) → i ≤ length list → covers list (take i list) ≡ true
+begins-own list i le = prefix-covers list (take i list) (ap (λ k. take k list) (length-take-le i list le))
 
 -- room that lists had, they have when a list is known of besides
 pub room-same : (m n : Bounds) (list ks : Keys) → ((other : Keys) → other ≢ list → known_at n other ≡ known_at m other) → IsSome (known_at n list) → IsSome (known_at m ks) → IsSome (known_at n ks)

@@ -1,5 +1,5 @@
 -- What the paths that were offered cost, and what is told of them.
-use Rattle.std.proofs.Common.{◌≡◌, ◌≤◌, ◌⊎◌, ◌&&◌, ◌||◌, ℕ, Bool, true, false, nat_le, List, map, Option, None, Some, ⊎_elim, refl, sym, ◌∙◌, ap, subst, le_trans, arith}
+use Rattle.std.proofs.Common.{◌≡◌, ◌≤◌, ◌⊎◌, ◌&&◌, ◌||◌, ℕ, Bool, true, false, nat_le, List, map, Option, None, Some, ⊎_elim, refl, sym, ◌∙◌, ap, subst, le_refl, le_trans, arith}
 use Rattle.std.specs.Prelude.{All, Contains}
 use Rattle.std.proofs.lemmas.Bool.{and_from, and_parts, false≢true, or_cases, leb-true, or_right}
 use Rattle.std.proofs.lemmas.Grind.{common_steps}
@@ -14,7 +14,7 @@ use Rattle.plan_tree.specs.declared.path.Path.{Path as Costed}
 use Rattle.plan_tree.proofs.FrontLemmas.{contains-mapped, contains-source}
 use Rattle.cost_rules.specs.Costs.{pair}
 use Rattle.cost_rules.specs.declared.pair.Pair.{Pair}
-use Rattle.kept_paths.specs.Bounds.{AreTold, Bounds, IsBeaten, IsPreceded, beats, is_first, is_told, is_within, least_at, pair_of}
+use Rattle.kept_paths.specs.Bounds.{AreBounds, AreEarly, AreTold, Bounds, EarlierEach, IsBeaten, IsPreceded, KeepsEarly, beats, early_at, either_beats, is_first, is_told, is_within, least_at, pair_of}
 
 no-more : (m n : ℕ) → m ≤ n → nat_le m n ≡ true
 no-more m n e = grind (arith, common_steps)
@@ -56,6 +56,31 @@ preceded-later old new n ks covered b =
     let P : Path → Type 0 = λ (x : Path). IsPreceded (map path new) (pair_of x) x.keys in
     let all : All P (map path old) = All-map P path old (All-weaker (IsCovered is_path_at_most new) (λ (x : Costed). P (path x)) (λ x k. made-preceded new x k) old covered) in
     preceded-more (map path new) (pair_of b.path) n b.path.keys ks b.first b.covers (All-contains P (map path old) b.path all b.is_there)
+
+made-beaten : (new : List Costed) (x : Costed) → IsCovered is_path_at_most new x → IsBeaten (map path new) (pair_of (path x)) x.keys
+made-beaten new x k =
+    let p = parts-of (path k.by') (path x) k.covers in
+    record { path = path k.by'; is_there = contains-mapped path new k.by' k.is_kept; early = p.startup; cheap = p.cost; covers = p.keys }
+
+-- what covers some paths beats what they beat
+beaten-later : (old new : List Costed) (n : Pair) (ks : Keys) → All (IsCovered is_path_at_most new) old → IsBeaten (map path old) n ks → IsBeaten (map path new) n ks
+beaten-later old new n ks covered b =
+    let P : Path → Type 0 = λ (x : Path). IsBeaten (map path new) (pair_of x) x.keys in
+    let all : All P (map path old) = All-map P path old (All-weaker (IsCovered is_path_at_most new) (λ (x : Costed). P (path x)) (λ x k. made-beaten new x k) old covered) in
+    let x = All-contains P (map path old) b.path all b.is_there in
+    record { path = x.path; is_there = x.is_there; early = le_trans x.early b.early; cheap = le_trans x.cheap b.cheap; covers = covers-trans x.path.keys b.path.keys ks x.covers b.covers }
+
+-- bounds that know no other costs of paths that start first
+pub early-same : (ps : List Path) (m n : Bounds) → KeepsEarly m n → AreEarly ps m → AreEarly ps n
+early-same ps m n same h ks e is = h ks e (same ks e is)
+
+-- one more path was kept, and its cost noted of each list that its keys begin with
+pub early-kept : (old new : List Costed) (made : Costed) (m n : Bounds) → All (IsCovered is_path_at_most new) old → Contains new made →
+    EarlierEach m n made.keys (pair_of (path made)) → AreEarly (map path old) m → AreEarly (map path new) n
+early-kept old new made m n covered there each h ks e is = ⊎_elim
+    (λ was. beaten-later old new e ks covered (h ks e was))
+    (λ (k : (covers made.keys ks ≡ true) × (e ≡ pair_of (path made))). subst (λ (c : Pair). IsBeaten (map path new) c ks) (sym k.1) (record { path = path made; is_there = contains-mapped path new made there; early = le_refl made.startup; cheap = le_refl made.cost; covers = k.0 }))
+    (each ks e is)
 
 -- bounds that tell the same
 pub told-same : (ps : List Path) (m n : Bounds) → ((ks : Keys) (c : Pair) → is_told n ks c ≡ is_told m ks c) → AreTold ps m → AreTold ps n
@@ -149,16 +174,32 @@ module _ (ps : List Path) (m : Bounds) (h : AreTold ps m) (ks : Keys) where
   beats-exact none c b =
       beaten-by none (least_at m ks) refl c b ((h ks (pair_of b.path)).1 (record { path = b.path; is_there = b.is_there; first = first-refl b.path.startup b.path.cost; covers = b.covers }))
 
+-- where the cost of the path that starts first beats another, a path does
+early-beats : (ps : List Path) (m : Bounds) → AreEarly ps m → (ks : Keys) (o : Option Pair) → early_at m ks ≡ o → (c : Pair) → beats o c ≡ true → IsBeaten ps c ks
+early-beats ps m h ks None e c is-so = absurd (false≢true is-so)
+early-beats ps m h ks (Some least) e c is-so =
+    let x = h ks least e in
+    let parts = and_parts (nat_le least.startup c.startup) (nat_le least.total c.total) is-so in
+    record {
+      path = x.path;
+      is_there = x.is_there;
+      early = le_trans x.early (leb-true least.startup c.startup parts.0);
+      cheap = le_trans x.cheap (leb-true least.total c.total parts.1);
+      covers = x.covers;
+    }
+
 -- the same of paths and bounds as they are found
-module _ (now items : List Costed) (m : Bounds) (list by' : Keys) (least : Option Pair) (c : Pair) (b : Bool) (view : items ≡ now) (h : AreTold (map path items) m) (same : list ≡ by')
-    (at : least ≡ least_at m list) (is : b ≡ beats least c) where
-  as-found : b ≡ beats (least_at m by') c
-  as-found = is ∙ ap (λ o. beats o c) (at ∙ ap (least_at m) same)
+module _ (now items : List Costed) (m : Bounds) (list by' : Keys) (c : Pair) (b : Bool) (view : items ≡ now) (h : AreBounds (map path items) m) (same : list ≡ by')
+    (is : b ≡ either_beats m list c) where
+  as-found : b ≡ either_beats m by' c
+  as-found = is ∙ ap (λ (l : Keys). either_beats m l c) same
 
   pub found-sound : b ≡ true → IsBeaten (map path now) c by'
-  found-sound is-so = subst (λ (xs : List Costed). IsBeaten (map path xs) c by') view (beats-sound (map path items) m h by' c (sym as-found ∙ is-so))
+  found-sound is-so = subst (λ (xs : List Costed). IsBeaten (map path xs) c by') view
+      (⊎_elim (λ k. beats-sound (map path items) m h.told by' c k) (λ k. early-beats (map path items) m h.early by' (early_at m by') refl c k)
+      (or_cases (beats (least_at m by') c) (beats (early_at m by') c) (sym as-found ∙ is-so)))
 
   pub found-exact : All (λ p. p.startup ≡ 0) (map path now) → IsBeaten (map path now) c by' → b ≡ true
   found-exact none beaten =
       let back = sym view in
-      as-found ∙ beats-exact (map path items) m h by' (subst (λ (xs : List Costed). All (λ (p : Path). p.startup ≡ 0) (map path xs)) back none) c (subst (λ (xs : List Costed). IsBeaten (map path xs) c by') back beaten)
+      as-found ∙ or-left (beats (least_at m by') c) (beats (early_at m by') c) (beats-exact (map path items) m h.told by' (subst (λ (xs : List Costed). All (λ (p : Path). p.startup ≡ 0) (map path xs)) back none) c (subst (λ (xs : List Costed). IsBeaten (map path xs) c by') back beaten))

@@ -1,6 +1,6 @@
 -- Paths that would not be kept beside others, and bounds that tell so (PostgreSQL, src/backend/optimizer/util/pathnode.c,
 -- add_path_precheck; that bounds stand beside the paths is own).
-use Rattle.std.specs.Prelude.{◌≡◌, ◌≤◌, ◌↔◌, ◌&&◌, ◌||◌, ℕ, Bool, true, false, nat_eq, nat_le, nat_lt, List, Option, None, Some, Vec, Contains, ◌≢◌, All, IsSome, IsTrue, map}
+use Rattle.std.specs.Prelude.{◌≡◌, ◌≤◌, ◌↔◌, ◌⊎◌, ◌&&◌, ◌||◌, ℕ, Bool, true, false, nat_eq, nat_le, nat_lt, List, Option, None, Some, Vec, Contains, ◌≢◌, All, IsSome, IsTrue, map}
 use Rattle.std.specs.BTreeMap.{BTreeMap, get_by}
 use Rattle.std.specs.Global.{Global}
 use Rattle.std.specs.Cmp.Lexicographic.{slice_cmp}
@@ -67,14 +67,40 @@ abbrev pub beats : Option Pair → Pair → Bool
 beats None cost = false
 beats (Some least) cost = nat_le least.startup cost.startup && nat_le least.total cost.total
 
+-- the cost that is known of a list as that of the path that starts first; none where nothing is
+abbrev pub early_in : Option Known → Option Pair
+early_in None = None
+early_in (Some known) = known.early
+
+-- that cost of a list, where one is known
+abbrev pub early_at : Bounds → Keys → Option Pair
+early_at bounds keys = early_in (known_at bounds keys)
+
+-- either of the costs that are known of a list is no more than another cost
+abbrev pub either_beats : Bounds → Keys → Pair → Bool
+either_beats bounds keys cost = beats (least_at bounds keys) cost || beats (early_at bounds keys) cost
+
 -- the bounds tell of each list and cost just whether a path costs no more by its total, then by its startup, with keys that
 -- begin with the list
 abbrev pub AreTold : List Path → Bounds → Type 0
 AreTold paths bounds = (keys : Keys) (cost : Pair) → (is_told bounds keys cost ≡ true) ↔ IsPreceded paths cost keys
 
+-- each cost that is known as that of the path that starts first is one of a path, or more, with keys that begin with the list
+abbrev pub AreEarly : List Path → Bounds → Type 0
+AreEarly paths bounds = (keys : Keys) (e : Pair) → early_at bounds keys ≡ Some e → IsBeaten paths e keys
+
+-- what bounds know is of the paths
+pub record AreBounds (paths : List Path) (bounds : Bounds) : Type 0 where
+  pub told : AreTold paths bounds
+  pub early : AreEarly paths bounds
+
 -- bounds tell the same of each list and cost
 abbrev pub TellTheSame : Bounds → Bounds → Type 0
 TellTheSame old new = (keys : Keys) (n : Pair) → is_told new keys n ≡ is_told old keys n
+
+-- no cost is known as that of the path that starts first but those that were
+abbrev pub KeepsEarly : Bounds → Bounds → Type 0
+KeepsEarly old new = (keys : Keys) (e : Pair) → early_at new keys ≡ Some e → early_at old keys ≡ Some e
 
 -- each list that was known still is
 abbrev pub KeepsRooms : Bounds → Bounds → Type 0
@@ -84,7 +110,20 @@ KeepsRooms old new = (keys : Keys) → IsSome (known_at old keys) → IsSome (kn
 abbrev pub IsLowered : Known → Pair → Known → Type 0
 IsLowered old cost new = (n : Pair) → is_within new.least n ≡ (is_within old.least n || is_first cost n)
 
+-- the cost of the path that starts first is as it was, or another
+abbrev pub IsEarlier : Known → Pair → Known → Type 0
+IsEarlier old cost new = (e : Pair) → new.early ≡ Some e → (old.early ≡ Some e) ⊎ (e ≡ cost)
+
 -- so for one list
+abbrev pub EarlierAt : Bounds → Bounds → Keys → Pair → Type 0
+EarlierAt old new list cost = (e : Pair) → early_at new list ≡ Some e → (early_at old list ≡ Some e) ⊎ (e ≡ cost)
+
+-- for each list it is as it was, or one with which another list begins has another
+abbrev pub EarlierEach : Bounds → Bounds → Keys → Pair → Type 0
+EarlierEach old new list cost =
+    (keys : Keys) (e : Pair) → early_at new keys ≡ Some e → (early_at old keys ≡ Some e) ⊎ ((covers list keys ≡ true) × (e ≡ cost))
+
+-- the least cost was lowered for one list
 abbrev pub LowersAt : Bounds → Bounds → Keys → Pair → Type 0
 LowersAt old new list cost = (n : Pair) → is_told new list n ≡ (is_told old list n || is_first cost n)
 
@@ -100,6 +139,10 @@ LowersEach old new list cost =
 -- the bounds tell of the paths of the program
 abbrev pub AreToldOf : List Costed → Bounds → Type 0
 AreToldOf paths bounds = AreTold (map path paths) bounds
+
+-- so with the costs of paths that start first
+abbrev pub AreEarlyOf : List Costed → Bounds → Type 0
+AreEarlyOf paths bounds = AreEarly (map path paths) bounds
 
 -- where no path costs anything before its first row, a test tells each cost and list that a path beats
 abbrev pub TellsBeaten : List Costed → Pair → Keys → Bool → Type 0

@@ -4,9 +4,9 @@ ghost use Rattle.std.specs.Prelude.{◌≡◌, ◌<◌, ◌↔◌, All, Contains
 ghost use Rattle.pareto.specs.Front as fronts;
 ghost use Rattle.pareto.specs.Front.{AreKeptOr};
 ghost use Rattle.plan_tree.specs.Views.{is_path_at_most, path};
-ghost use Rattle.kept_paths.specs.Bounds.{AreTold, AreToldOf, IsBeaten, TellsBeaten};
+ghost use Rattle.kept_paths.specs.Bounds.{AreEarlyOf, AreToldOf, IsBeaten, TellsBeaten};
 
-use crate::bounds::{Bounds, add_rooms, beats, least_at, lower_each, place_of};
+use crate::bounds::{Bounds, add_rooms, is_beaten, lower_each, place_of};
 use cost_rules::Pair;
 use pareto::{Front, Ranked};
 use pathkeys::Keys;
@@ -30,7 +30,7 @@ impl Model for KeptPaths {
     ghost use Rattle.plan_tree.specs.Views.{path};
     ghost use Rattle.plan_tree.specs.contracts.plan.Plan as planned;
     ghost use Rattle.plan_tree.specs.declared.path.Path as costed;
-    ghost use Rattle.kept_paths.specs.Bounds.{AreTold};
+    ghost use Rattle.kept_paths.specs.Bounds.{AreBounds};
 
     ghost Value = { List costed.Path };
 
@@ -38,7 +38,7 @@ impl Model for KeptPaths {
 
     ghost view = { λ k. k.paths.items };
 
-    ghost invariant = { λ k. AreTold (map path k.paths.items) k.bounds };
+    ghost invariant = { λ k. AreBounds (map path k.paths.items) k.bounds };
 }
 
 /// The numbers of the classes of a list. The error means want of memory.
@@ -99,6 +99,7 @@ fn keep(alloc: Global, paths: &mut Vec<Path>, bounds: &mut Bounds, made: Path) -
     ensures offered { OnOk result (Contains paths.new.items made) }
     ensures err { OnErr result (paths.new.items ≡ paths.old.items) }
     ensures told { AreToldOf paths.old.items bounds.old → AreToldOf paths.new.items bounds.new }
+    ensures early { AreEarlyOf paths.old.items bounds.old → AreEarlyOf paths.new.items bounds.new }
 {
     let cost = Pair {
         startup: made.startup,
@@ -160,7 +161,7 @@ impl KeptPaths {
         ensures exact { IfOk result (λ b. TellsBeaten self.now cost by.now b) }
     {
         let list = numbers_of(alloc, by)?;
-        Ok(beats(least_at(&self.bounds, list.as_slice()), cost))
+        Ok(is_beaten(&self.bounds, list.as_slice(), cost))
     }
 
     /// Keeps a path. One that it is at most may be let go of. The error means want of memory, and all is as before.

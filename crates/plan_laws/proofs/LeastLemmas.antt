@@ -1,22 +1,18 @@
 -- A finished plan over kept plans, of a price below the limit and no greater than that of any other such, is least of all.
-use Rattle.std.proofs.Common.{Bool, ◌≡◌, ◌≤◌, ◌<◌, ◌⊎◌, inl, inr, ℕ, ◌+◌, true, false, refl, ◌∙◌, arith, le_refl, le_trans, ◌↔◌, true≢false}
-use Rattle.std.specs.Prelude.{Option, Some, None}
-use Rattle.std.specs.Int.{div_ceil}
+use Rattle.std.proofs.Common.{Bool, ◌≡◌, ◌≤◌, ◌<◌, ◌⊎◌, inl, inr, ℕ, ◌+◌, true, false, refl, ◌∙◌, arith, le_trans, ◌↔◌, true≢false}
 use Rattle.std.proofs.Math.Nat.{lt_of_le_of_lt}
 use Rattle.std.proofs.lemmas.Bool.{cases_lt}
 use Rattle.plan_tree.specs.catalog_Contents.{Contents}
-use Rattle.cost_rules.proofs.RisingLemmas.{price-rises}
-use Rattle.plan_tree.specs.sql_query_Queries.{Query, all_of_query}
-use Rattle.plan_tree.specs.sql_query_window_Window.{Window}
+use Rattle.plan_tree.specs.sql_query_Queries.{Query}
 use Rattle.plan_tree.specs.pathkeys_Keys.{Keys, covers, order_keys}
 use Rattle.plan_tree.specs.Plans.{Plan, seq, index, index_only, bitmap, sort, nest, merge, is_sort}
 use Rattle.plan_tree.specs.Keys.{keys_of}
-use Rattle.plan_tree.specs.Costs.{cost, price, price_by, asked, query_rows, HaveRows}
+use Rattle.plan_tree.specs.Costs.{cost, price, HaveRows}
 use Rattle.plan_tree.specs.Space.{IsBuilt, MeetsOrder, IsFinished}
-use Rattle.plan_tree.specs.Least.{IsAdmissible, IsStartupAtMost, IsLeast}
-use Rattle.plan_tree.proofs.BoundLemmas.{some-rows, sort-most, startup-most, asked-most}
-use Rattle.plan_laws.specs.Useful.{Suffices, floor_by, IsBelow, HasEnough, IsClosedBelow, IsLeastKept}
-use Rattle.plan_laws.proofs.UsefulLemmas.{child-below, enough, sort-stands}
+use Rattle.plan_tree.specs.Least.{IsAdmissible, IsLeast}
+use Rattle.plan_tree.proofs.BoundLemmas.{sort-most, startup-most}
+use Rattle.plan_laws.specs.Useful.{Suffices, IsBelow, IsClosedBelow, IsLeastKept}
+use Rattle.plan_laws.proofs.UsefulLemmas.{child-below, enough, price-most, sort-stands}
 
 module _ (c : Contents) (q : Query) (every : Bool) where
   meets-plain : (p : Plan) (keys : Keys) → is_sort p ≡ false → MeetsOrder c q p keys ↔ (covers (keys_of c q p) keys ≡ true)
@@ -28,19 +24,8 @@ module _ (c : Contents) (q : Query) (every : Bool) where
   meets-plain (nest outer inner) keys e = (λ h. h, λ h. h)
   meets-plain (merge ks outer inner) keys e = (λ h. h, λ h. h)
 
-  price-most : (w : Option Window) (p o : Plan) → HaveRows c q → (cost c q p).total ≤ (cost c q o).total →
-      IsStartupAtMost w (cost c q p).startup (cost c q o).startup → price_by c q w p ≤ price_by c q w o
-  price-most None p o some total startup = total
-  price-most (Some w) p o some total startup =
-      price-rises (cost c q p) (cost c q o) (asked w (query_rows c q)) (query_rows c q) (some-rows c q.range q.classes (all_of_query q))
-      (asked-most w (query_rows c q)) (startup-most c q some p) (record { startup = startup; total = total })
-
   first-part : (a b : ℕ) → a ≤ a + b
   first-part a b = omega arith
-
-  pub floor-price : (w : Option Window) (p : Plan) → floor_by c q w p ≤ price_by c q w p
-  floor-price None p = le_refl (cost c q p).total
-  floor-price (Some w) p = first-part (cost c q p).startup _
 
   pub finished-plain : (p o : Plan) → IsBuilt c q p → is_sort p ≡ false → is_sort o ≡ false → Suffices c q every p o → IsFinished c q o → IsFinished c q p
   finished-plain p o built e f h k = record {
@@ -62,20 +47,20 @@ module _ (c : Contents) (q : Query) (every : Bool) where
   module _ (Kept : Plan → Type 0) (limit : ℕ) (some : HaveRows c q) (closed : IsClosedBelow c q every Kept limit) (b : Plan) (least : IsLeastKept c q Kept b) (below : price c q b < limit) where
     plain-price : (t : Plan) → is_sort t ≡ false → IsFinished c q t → IsAdmissible c q t → price c q t < price c q b → price c q b ≤ price c q t
     plain-price t e f a lt =
-        let under : IsBelow c q limit t = record { admissible = a; floor = let l = floor-price q.window t in let m = below in omega (arith, l, lt, m) } in
+        let under : IsBelow c q limit t = record { admissible = a; floor = let m = below in omega (arith, lt, m) } in
         let k = enough c q every Kept limit some closed t f.built e under in
         let s = k.suffices in
         le_trans (least.plain k.by' k.is_kept (finished-plain k.by' t (closed.built k.by' k.is_kept) (closed.plain k.by' k.is_kept) e s f) (lt_of_le_of_lt s.total a))
-        (price-most q.window k.by' t some s.total s.startup)
+        (price-most c q q.window k.by' t s.total s.startup)
 
     sorted-price : (keys : Keys) (t : Plan) → IsFinished c q (sort keys t) → IsAdmissible c q (sort keys t) → price c q (sort keys t) < price c q b → price c q b ≤ price c q (sort keys t)
     sorted-price keys t f a lt =
-        let whole : IsBelow c q limit (sort keys t) = record { admissible = a; floor = let l = floor-price q.window (sort keys t) in let m = below in omega (arith, l, lt, m) } in
+        let whole : IsBelow c q limit (sort keys t) = record { admissible = a; floor = let m = below in omega (arith, lt, m) } in
         let under = child-below c q every t (sort keys t) limit (sort-most c q keys t) (le_trans (startup-most c q some t) (first-part (cost c q t).total _)) whole in
         let k = enough c q every Kept limit some closed t f.built.0 f.built.1 under in
         let s = (sort-stands c q every keys k.by' t k.suffices).suffices in
         le_trans (least.sorted keys k.by' k.is_kept (finished-sort keys k.by' t (closed.built k.by' k.is_kept) (closed.plain k.by' k.is_kept) k.suffices f) (lt_of_le_of_lt s.total a))
-        (price-most q.window (sort keys k.by') (sort keys t) some s.total s.startup)
+        (price-most c q q.window (sort keys k.by') (sort keys t) s.total s.startup)
 
     by-kind : (t : Plan) → IsFinished c q t → IsAdmissible c q t → price c q t < price c q b → price c q b ≤ price c q t
     by-kind (seq r) f a lt = plain-price (seq r) refl f a lt

@@ -1,12 +1,16 @@
 -- Plans that suffice for the sides of a join make a join that suffices for it, so kept plans suffice for all below a limit.
 use Prim.Native.Nat.{suc, zero}
-use Rattle.std.proofs.Common.{◌≡◌, ◌≤◌, ◌<◌, ◌⊎◌, inl, inr, ⊎_elim, ℕ, ◌+◌, Bool, true, false, cond, not, ◌||◌, ◌&&◌, nat_eq, List, [], ◌∷◌, length, take, refl, sym, ◌∙◌, ap, ap₂, subst, subst₂, arith, le_refl, le_trans, ◌↔◌, true≢false}
+use Rattle.std.proofs.Common.{◌≡◌, ◌≤◌, ◌<◌, ◌⊎◌, inl, inr, ⊎_elim, ℕ, ◌+◌, ◌-◌, ◌*◌, Bool, true, false, cond, not, ◌||◌, ◌&&◌, nat_eq, List, [], ◌∷◌, length, take, refl, sym, ◌∙◌, ap, ap₂, subst, subst₂, arith, le_refl, le_trans, ◌↔◌, true≢false}
 use Rattle.std.specs.Prelude.{Option, Some, None}
 use Rattle.std.specs.List.{list_all, list_any}
-use Rattle.std.proofs.Math.Nat.{lt_of_le_of_lt}
-use Rattle.std.proofs.lemmas.Bool.{or_cases, and_parts, and_from, eqb-true}
+use Rattle.std.specs.Int.{div_ceil}
+use Rattle.std.proofs.Math.Nat.{lt_of_le_of_lt, mul-le-mul_left, mul-le-mul_right}
+use Rattle.std.proofs.lemmas.Bool.{or_cases, and_parts, and_from, cases_lt, eqb-true}
 use Rattle.pg_expr.specs.declared.operand.ColRef.{ColRef}
 use Rattle.plan_tree.specs.catalog_Contents.{Contents}
+use Rattle.cost_rules.specs.declared.pair.Pair.{Pair}
+use Rattle.cost_rules.specs.Costs.{IsAtMost, price_of}
+use Rattle.cost_rules.proofs.RisingLemmas.{ceil-least, price-rises}
 use Rattle.plan_tree.specs.sql_query_Queries.{Query, all_of_query}
 use Rattle.plan_tree.specs.sql_query_window_Window.{Window}
 use Rattle.plan_tree.specs.eq_classes_Classes.{Class}
@@ -14,20 +18,20 @@ use Rattle.plan_tree.specs.eq_classes_Clauses.{Set, has_constant}
 use Rattle.plan_tree.specs.eq_classes_Parts.{has_in, is_joining, joining_from}
 use Rattle.plan_tree.specs.eq_classes_Listing.{class_at}
 use Rattle.plan_tree.specs.eq_classes_Holding.{AreApart, IsWithin}
-use Rattle.plan_tree.specs.pathkeys_Keys.{Keys, covers, order_keys}
+use Rattle.plan_tree.specs.pathkeys_Keys.{Keys, covers}
 use Rattle.plan_tree.specs.pathkeys_CoveringLemmas.{covers-refl, covers-trans}
 use Rattle.plan_tree.specs.Plans.{Plan, seq, index, index_only, bitmap, sort, nest, merge, is_sort, set_of}
 use Rattle.plan_tree.specs.Keys.{keys_of}
-use Rattle.plan_tree.specs.Costs.{cost, HaveRows}
+use Rattle.plan_tree.specs.Costs.{cost, price_by, asked, query_rows, HaveRows}
 use Rattle.plan_tree.specs.Space.{IsLike, IsBuilt, IsNest, IsMerge, IsMergeList, HasKeys}
-use Rattle.plan_tree.specs.Least.{Dominates, IsAdmissible, IsStartupAtMost}
-use Rattle.plan_tree.proofs.BoundLemmas.{merge-most, nest-most, sort-most, startup-most}
+use Rattle.plan_tree.specs.Least.{Dominates, IsStartupAtMost}
+use Rattle.plan_tree.proofs.BoundLemmas.{asked-most, merge-most, nest-most, some-rows, sort-most, startup-most}
 use Rattle.plan_tree.proofs.LikeLemmas.{set-like}
 use Rattle.plan_tree.proofs.ReplacingLemmas.{nest-replaced, nest-totals, merge-replaced, merge-totals, sort-totals}
 use Rattle.plan_tree.proofs.WindowLemmas.{startup-from}
 use Rattle.plan_laws.specs.Closed.{IsKeptSide}
 use Rattle.plan_laws.proofs.WithinLemmas.{built-within}
-use Rattle.plan_laws.specs.Useful.{outside, is_open, are_open, IsOfUse, Suffices, StandsIn, floor_by, IsBelow, HasEnough, IsClosedBelow}
+use Rattle.plan_laws.specs.Useful.{outside, is_open, are_open, IsOfUse, Suffices, StandsIn, IsBelow, HasEnough, IsClosedBelow}
 use Rattle.pg_base.proofs.ListLemmas.{any-taken}
 use Rattle.plan_tree.proofs.DominationLemmas.{startup-trans}
 use Rattle.pg_value.proofs.Spelled.{all_weaker as all-weaker}
@@ -126,7 +130,43 @@ use-shrinks q every s t keys h (inr (inr order)) = inr (inr order)
 first-within : (s t : Set) → IsWithin s (λ k. s k || t k)
 first-within s t k e = ap (λ v. v || t k) e
 
+-- a plan that costs no less before its first row than in all has that price, whatever is asked for
+nothing-more : (r f n : ℕ) → 1 ≤ n → r ≤ 0 → div_ceil (r * f) n ≤ 0
+nothing-more r f n some h =
+    let none : r * f ≤ 0 * f = mul-le-mul_right f h in
+    ceil-least (r * f) 0 n some (omega (arith, none))
+
+-- a price falls where neither number falls, of any two costs
+pub price-falls : (a b : Pair) (f n : ℕ) → 1 ≤ n → f ≤ n → IsAtMost a b → price_of a f n ≤ price_of b f n
+price-falls a b f n some part h = by (cases_lt a.total a.startup)
+  where
+    by : (a.total < a.startup) ⊎ (a.startup ≤ a.total) → price_of a f n ≤ price_of b f n
+    by (inr own) = price-rises a b f n some part own h
+    by (inl past) =
+        let none = nothing-more (a.total - a.startup) f n some (omega (arith, past)) in
+        omega (arith, none, h.startup)
+
+-- a part of a plan's rows costs no more than all of them
+part-of : (a : Pair) (f n : ℕ) → 1 ≤ n → f ≤ n → a.startup ≤ a.total → price_of a f n ≤ a.total
+part-of a f n some part own =
+    let rest = ceil-least ((a.total - a.startup) * f) (a.total - a.startup) n some (mul-le-mul_left (a.total - a.startup) part) in
+    omega (arith, rest, own)
+
 module _ (c : Contents) (q : Query) where
+  -- the price of a plan by the rows of all relations, where neither of its costs is greater
+  pub price-most : (w : Option Window) (p o : Plan) → (cost c q p).total ≤ (cost c q o).total →
+      IsStartupAtMost w (cost c q p).startup (cost c q o).startup → price_by c q w p ≤ price_by c q w o
+  price-most None p o total startup = total
+  price-most (Some w) p o total startup =
+      price-falls (cost c q p) (cost c q o) (asked w (query_rows c q)) (query_rows c q) (some-rows c q.range q.classes (all_of_query q))
+      (asked-most w (query_rows c q)) (record { startup = startup; total = total })
+
+  -- it is no more than the plan costs in all
+  pub price-total : HaveRows c q → (w : Option Window) (p : Plan) → price_by c q w p ≤ (cost c q p).total
+  price-total some None p = le_refl (cost c q p).total
+  price-total some (Some w) p =
+      part-of (cost c q p) (asked w (query_rows c q)) (query_rows c q) (some-rows c q.range q.classes (all_of_query q)) (asked-most w (query_rows c q)) (startup-most c q some p)
+
   -- domination is enough, and where every list counts no less is
   pub dominates-suffices : (every : Bool) (p o : Plan) → Dominates c q p o → Suffices c q every p o
   dominates-suffices every p o h = record {
@@ -233,12 +273,8 @@ module _ (c : Contents) (q : Query) (every : Bool) where
   )
 
   -- what suffices for a plan below a limit is below it
-  floors : (w : Option Window) (p o : Plan) (limit : ℕ) → (cost c q p).total ≤ (cost c q o).total → IsStartupAtMost w (cost c q p).startup (cost c q o).startup → floor_by c q w o < limit → floor_by c q w p < limit
-  floors None p o limit h k e = lt_of_le_of_lt h e
-  floors (Some w) p o limit h k e = lt_of_le_of_lt k e
-
   pub below-from : (p o : Plan) (limit : ℕ) → Suffices c q every p o → IsBelow c q limit o → IsBelow c q limit p
-  below-from p o limit h b = record { admissible = lt_of_le_of_lt h.total b.admissible; floor = floors q.window p o limit h.total h.startup b.floor }
+  below-from p o limit h b = record { admissible = lt_of_le_of_lt h.total b.admissible; floor = lt_of_le_of_lt (price-most c q q.window p o h.total h.startup) b.floor }
 
   first-part : (a b : ℕ) → a ≤ a + b
   first-part a b = omega arith
@@ -247,12 +283,8 @@ module _ (c : Contents) (q : Query) (every : Bool) where
   second-part a b = omega arith
 
   -- a child's floor is no greater than its parent's
-  floor-from : (w : Option Window) (p o : Plan) (limit : ℕ) → (cost c q p).total ≤ (cost c q o).total → (cost c q p).startup ≤ (cost c q o).startup → floor_by c q w o < limit → floor_by c q w p < limit
-  floor-from None p o limit h k e = lt_of_le_of_lt h e
-  floor-from (Some w) p o limit h k e = lt_of_le_of_lt k e
-
   pub child-below : (p o : Plan) (limit : ℕ) → (cost c q p).total ≤ (cost c q o).total → (cost c q p).startup ≤ (cost c q o).startup → IsBelow c q limit o → IsBelow c q limit p
-  child-below p o limit h k b = record { admissible = lt_of_le_of_lt h b.admissible; floor = floor-from q.window p o limit h k b.floor }
+  child-below p o limit h k b = record { admissible = lt_of_le_of_lt h b.admissible; floor = lt_of_le_of_lt (price-most c q q.window p o h (startup-from q.window (cost c q p).startup (cost c q o).startup k)) b.floor }
 
   module _ (Kept : Plan → Type 0) (limit : ℕ) (some : HaveRows c q) (closed : IsClosedBelow c q every Kept limit) where
     pub record HasSide (t : Plan) : Type 0 where

@@ -1,10 +1,9 @@
 -- Plans compared by the keys that can still be of use, for the search of a least plan alone (PostgreSQL,
 -- src/backend/optimizer/path/pathkeys.c, truncate_useless_pathkeys).
-use Rattle.std.specs.Prelude.{◌≡◌, ◌<◌, ◌≤◌, ◌⊎◌, ◌&&◌, ℕ, Bool, true, false, not, Option, None, Some}
+use Rattle.std.specs.Prelude.{◌≡◌, ◌<◌, ◌≤◌, ◌⊎◌, ◌&&◌, ℕ, Bool, true, false, not}
 use Rattle.std.specs.List.{list_all}
 use Rattle.plan_tree.specs.catalog_Contents.{Contents}
 use Rattle.plan_tree.specs.sql_query_Queries.{Query, all_of_query}
-use Rattle.plan_tree.specs.sql_query_window_Window.{Window}
 use Rattle.plan_tree.specs.eq_classes_Clauses.{Set}
 use Rattle.plan_tree.specs.eq_classes_Parts.{has_in}
 use Rattle.plan_tree.specs.eq_classes_Listing.{class_at}
@@ -49,15 +48,11 @@ module _ (c : Contents) (q : Query) (every : Bool) where
     pub has : (ks : Keys) → are_open q (set_of other) ks ≡ true → HasKeys c q other ks → HasKeys c q p ks
 
 module _ (c : Contents) (q : Query) where
-  -- what a plan costs at least in whatever is made of it: its total, or under a window its startup
-  abbrev pub floor_by : Option Window → Plan → ℕ
-  floor_by None p = (cost c q p).total
-  floor_by (Some w) p = (cost c q p).startup
-
-  -- an admissible plan whose floor is below a limit
+  -- an admissible plan whose floor is below a limit: what is made of it is of no lower price than its own costs are, by the
+  -- rows of all relations
   pub record IsBelow (limit : ℕ) (p : Plan) : Type 0 where
     pub admissible : IsAdmissible c q p
-    pub floor : floor_by q.window p < limit
+    pub floor : price c q p < limit
 
   module _ (every : Bool) (Kept : Plan → Type 0) (limit : ℕ) where
     -- some kept plan suffices for a plan

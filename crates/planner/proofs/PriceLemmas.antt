@@ -1,27 +1,25 @@
 -- Plans in the order asked for: they are finished, and none that is admissible is of a lower price than the least of them.
 use Rattle.std.proofs.Common.{◌≡◌, ◌⊎◌, ◌<◌, ◌≤◌, ◌+◌, ℕ, inl, inr, suc, Bool, true, false, cond, nat_lt, List, [], ◌∷◌, length, refl, sym, ap, subst, le_refl, le_trans, true≢false, arith}
-use Rattle.std.specs.Prelude.{All, Contains, Option, None, Some}
+use Rattle.std.specs.Prelude.{All, Contains}
 use Rattle.std.proofs.lemmas.Bool.{cases_lt, lt-ltb}
 use Rattle.std.proofs.lemmas.List.Elements.{All-contains}
 use Rattle.catalog.specs.Contents.{Contents}
 use Rattle.cost_rules.specs.Costs.{sort_work}
-use Rattle.cost_rules.proofs.RisingLemmas.{price-rises}
 use Rattle.sql_query.specs.Queries.{Query, all_of_query}
-use Rattle.sql_query.specs.declared.window.Window.{Window}
 use Rattle.pathkeys.specs.Keys.{Keys, covers, order_keys}
 use Rattle.plan_tree.specs.Plans.{Plan, seq, index, index_only, bitmap, sort, nest, merge, empty, is_sort, set_of}
 use Rattle.plan_tree.specs.Keys.{keys_of}
-use Rattle.plan_tree.specs.Costs.{cost, price, price_by, asked, query_rows, HaveRows}
+use Rattle.plan_tree.specs.Costs.{cost, price, HaveRows}
 use Rattle.path_cost.specs.Estimates.{set_rows}
 use Rattle.plan_tree.specs.Space.{IsFinished, IsPlanOf, MeetsOrder}
 use Rattle.plan_tree.specs.Least.{IsAdmissible, IsBestPlan, IsStartupAtMost}
 use Rattle.plan_tree.specs.Paths.{Path}
-use Rattle.plan_tree.proofs.BoundLemmas.{asked-most, some-rows, sort-most, startup-most}
+use Rattle.plan_tree.proofs.BoundLemmas.{sort-most, startup-most}
 use Rattle.plan_tree.proofs.WindowLemmas.{startup-from}
 use Rattle.cost_rules.specs.declared.parameters.TheConstants.{MOST_COST}
-use Rattle.join_search.specs.plan_laws_Useful.{IsBelow, floor_by}
-use Rattle.join_search.specs.plan_laws_LeastLemmas.{finished-plain, floor-price}
-use Rattle.join_search.specs.plan_laws_UsefulLemmas.{child-below, sort-stands}
+use Rattle.join_search.specs.plan_laws_Useful.{IsBelow}
+use Rattle.join_search.specs.plan_laws_LeastLemmas.{finished-plain}
+use Rattle.join_search.specs.plan_laws_UsefulLemmas.{child-below, price-most, price-total, sort-stands}
 use Rattle.join_search.specs.declared.useful.Asked.{Asked}
 use Rattle.planner.specs.Finishing.{AreCandidates, IsLeastOf, IsWhole, finished, finished_price}
 use Rattle.plan_tree.proofs.DominationLemmas.{startup-trans}
@@ -84,15 +82,8 @@ module _ (c : Contents) (q : Query) (some : HaveRows c q) where
     startup = startup-trans q.window (cost c q p).startup (cost c q o).startup (cost c q r).startup h.startup k.startup;
   }
 
-  price-most : (w : Option Window) (p o : Plan) → (cost c q p).total ≤ (cost c q o).total →
-      IsStartupAtMost w (cost c q p).startup (cost c q o).startup → price_by c q w p ≤ price_by c q w o
-  price-most None p o total startup = total
-  price-most (Some w) p o total startup =
-      price-rises (cost c q p) (cost c q o) (asked w (query_rows c q)) (query_rows c q) (some-rows c q.range q.classes (all_of_query q))
-      (asked-most w (query_rows c q)) (startup-most c q some p) (record { startup = startup; total = total })
-
   cheap-price : (p o : Plan) → IsCheap p o → price c q p ≤ price c q o
-  cheap-price p o h = price-most q.window p o h.total h.startup
+  cheap-price p o h = price-most c q q.window p o h.total h.startup
 
   -- a sort costs before its first row at least what its input costs in all
   before-sort : (keys : Keys) (t : Plan) → (cost c q t).startup ≤ (cost c q (sort keys t)).startup
@@ -157,14 +148,10 @@ module _ (c : Contents) (q : Query) (some : HaveRows c q) where
     undercuts (nest outer inner) f a = plain-undercuts (nest outer inner) refl f a
     undercuts (merge ks outer inner) f a = plain-undercuts (merge ks outer inner) refl f a
 
-    floor-total : (w : Option Window) (o : Plan) → floor_by c q w o ≤ (cost c q o).total
-    floor-total None o = le_refl (cost c q o).total
-    floor-total (Some w) o = startup-most c q some o
-
     -- where none of them is admissible no finished plan is, if the limit is no less than that of costs
     pub none-finished : MOST_COST ≤ asked.limit → All (λ p. ¬ IsAdmissible c q (finished c q p.tree)) paths → (o : Plan) → IsFinished c q o → ¬ IsAdmissible c q o
     none-finished whole none o f a =
-        let floor = floor-total q.window o in
+        let floor = price-total c q some q.window o in
         let u = undercuts o f (record { admissible = a; floor = le_trans_lt floor a whole }) in
         let total = u.cheap.total in
         All-contains (λ p. ¬ IsAdmissible c q (finished c q p.tree)) paths u.path none u.is_there (omega (arith, a, total))
@@ -183,8 +170,7 @@ module _ (c : Contents) (q : Query) (some : HaveRows c q) where
         by : (o : Plan) → IsFinished c q o → IsAdmissible c q o → (price c q o < finished_price c q t) ⊎ (finished_price c q t ≤ price c q o) → finished_price c q t ≤ price c q o
         by o f a (inr le) = le
         by o f a (inl lt) =
-            let floor = floor-price c q asked.every_key q.window o in
-            let u = undercuts o f (record { admissible = a; floor = omega (arith, floor, lt, below) }) in
+            let u = undercuts o f (record { admissible = a; floor = omega (arith, lt, below) }) in
             let total = u.cheap.total in
             let under : IsAdmissible c q (finished c q u.path.tree) = omega (arith, a, total) in
             let least = All-contains (λ (p : Path). IsAdmissible c q (finished c q p.tree) → finished_price c q t ≤ finished_price c q p.tree) paths u.path h.least u.is_there in

@@ -24,6 +24,7 @@ returns-then-not-may-clause-undominated c =
 pub joins_of-requires-clause-at : goal.joins_of-requires-clause-at
 joins_of-requires-clause-at c = record {
   query = c.requires.task.query;
+  whole = c.requires.task.whole;
   order = c.requires.task.order;
   placed = c.requires.placed;
   rows = c.set_rows-rows.ensures.rows;

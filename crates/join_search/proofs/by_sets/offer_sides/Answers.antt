@@ -3,6 +3,7 @@ use Rattle.join_search.proofs.by_sets.offer_sides.Goals as goal
 pub offer_split-requires-clause-over : goal.offer_split-requires-clause-over
 offer_split-requires-clause-over c = record {
   query = c.requires.at.query;
+  whole = c.requires.at.whole;
   order = c.requires.at.order;
   placed = c.requires.at.placed;
   split = record {

@@ -5,6 +5,7 @@ pub joins_either-requires : goal.joins_either-requires
 joins_either-requires c = record {
   at = record {
     query = c.requires.task.query;
+    whole = c.requires.task.whole;
     order = c.requires.task.order;
     placed = c.requires.placed;
     rows = c.set_rows-rows.ensures.rows;

@@ -13,7 +13,7 @@ returns c = λ is front by'.
     let q = j.q.now in
     let fronts = paths_at j.table.now in
     let over = c.requires.over in
-    merges-past contents q j.asked (lawful-rows contents q c.lawful.ensures) j.outer j.inner (fronts j.outer none) (fronts j.inner none) c.least_of-outer.result c.least_of-inner.result
+    merges-past contents q j.asked j.whole over.whole (lawful-rows contents q c.lawful.ensures) j.outer j.inner (fronts j.outer none) (fronts j.inner none) c.least_of-outer.result c.least_of-inner.result
     (over.placed.paths j.outer none) (over.placed.paths j.inner none)
     (subst (All (IsNoCheaper c.least_of-outer.result)) over.outers c.least_of-outer.ensures) (subst (All (IsNoCheaper c.least_of-inner.result)) over.inners c.least_of-inner.ensures)
     (c.are_past.ensures is) front by'

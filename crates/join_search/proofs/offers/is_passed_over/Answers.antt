@@ -10,7 +10,7 @@ use Rattle.join_search.proofs.offers.is_passed_over.Goals as goal
 pub returns-then-not-is_below-clause-served : goal.returns-then-not-is_below-clause-served
 returns-then-not-is_below-clause-served c =
     let j = c.args.j.now in
-    λ is t n of e most same. past-more j.cat.now j.q.now j.asked (map path c.args.front.now) t c.args.least n e most (c.is_below.ensures.no c.if-not-is_below.true)
+    λ is t n of e most same. past-more j.cat.now j.q.now j.asked j.whole (map path c.args.front.now) t c.args.least n c.requires.over.whole e most (c.is_below.ensures.no c.if-not-is_below.true)
 
 pub returns-clause-served : goal.returns-clause-served
 returns-clause-served c =

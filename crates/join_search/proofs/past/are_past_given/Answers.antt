@@ -16,7 +16,7 @@ returns c = λ is front.
     let t = c.args.task.now in
     let fronts = paths_at c.args.table.now in
     let a = c.args.outer.set in
-    nests-past t.cat.now t.q.now t.asked a c.args.inner c.args.p (fronts a none) (fronts c.args.inner c.args.p) c.args.outer.rows c.least_of-first.result c.least_of-second.result c.repeated-each.result
+    nests-past t.cat.now t.q.now t.asked t.whole c.requires.task.whole a c.args.inner c.args.p (fronts a none) (fronts c.args.inner c.args.p) c.args.outer.rows c.least_of-first.result c.least_of-second.result c.repeated-each.result
     (c.requires.placed.paths a none) (c.requires.placed.paths c.args.inner c.args.p)
     (subst (All (IsNoCheaper c.least_of-first.result)) c.requires.paths c.least_of-first.ensures) (subst (All (IsNoCheaper c.least_of-second.result)) c.paths.ensures c.least_of-second.ensures)
     c.requires.rows c.repeated-each.ensures.startup c.repeated-each.ensures.total (c.is_past.ensures is) front

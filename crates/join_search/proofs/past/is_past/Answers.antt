@@ -12,5 +12,5 @@ returns c = λ is n startup total below floor.
     let all = c.saturating_add-total.ensures in
     let most : IsAtMost sum n = record { startup = omega (arith, startup, first); total = omega (arith, total, all) } in
     let less = most.total in
-    let rises = floor-rises c.args.q.now.window sum n most in
+    let rises = floor-rises c.args.q.now.window c.args.whole sum n c.requires.some most in
     c.is_below.ensures.no (not-true c.is_below.result is) (omega (arith, less, below)) (omega (arith, rises, floor))

@@ -1,6 +1,7 @@
 -- What a front has after the bitmap scans over some sets of elements were offered to it.
-use Rattle.std.proofs.Common.{◌≡◌, ◌<◌, ◌≤◌, ◌⊎◌, ℕ, ◌+◌, List, subst, arith, inl, inr}
+use Rattle.std.proofs.Common.{◌≡◌, ◌<◌, ◌≤◌, ◌⊎◌, ℕ, ◌+◌, List, subst, arith, inl, inr, ◌∙◌, ap, sym, refl, le_refl, le_trans}
 use Rattle.std.proofs.lemmas.Bool.{cases_lt}
+use Rattle.std.proofs.lemmas.List.Elements.{All-contains}
 use Rattle.pg_base.specs.Sets.{has}
 use Rattle.pg_base.specs.declared.numbers.RelNo.{RelNo}
 use Rattle.pg_base.specs.declared.rel_set.RelSet.{RelSet}
@@ -10,11 +11,45 @@ use Rattle.sql_query.specs.Queries.{Query}
 use Rattle.plan_tree.specs.Plans.{BitTree, bitmap}
 use Rattle.plan_tree.specs.Space.{IsPlanOf}
 use Rattle.plan_tree.specs.Least.{IsAdmissible}
-use Rattle.plan_tree.specs.Paths.{Path}
+use Rattle.plan_tree.specs.Paths.{IsPathOf, Path}
+use Rattle.cost_rules.specs.Costs.{capped}
+use Rattle.plan_tree.specs.Costs.{HaveRows, cost, part_of}
+use Rattle.plan_tree.proofs.BoundLemmas.{startup-most}
+use Rattle.plan_tree.proofs.WindowLemmas.{startup-from}
 use Rattle.plan_tree.specs.Fronts.{AreOldOrOffers, ArePathsOf, HasDominating, StayDominated, is_bitmap}
 use Rattle.plan_tree.proofs.FrontLemmas.{old-stay}
 use Rattle.bitmap_scan.specs.Chosen.{combined, marked}
+use Rattle.bitmap_scan.specs.ElementTrees.{HasCheaper}
+use Rattle.bitmap_scan.specs.declared.element_tree.Place.{Place}
 use Rattle.bitmap_scan.proofs.ScanLemmas.{MarkIsDominated, offers-trans}
+
+capped-from : (n m t : ℕ) → n ≡ capped m → m ≤ t → n ≤ t
+capped-from n m t e h = omega (arith, e, h)
+
+-- a path that costs no more in all than the parts of a scan dominates it: these come before its first row
+pub cheaper-dominates : (c : Contents) (q : Query) → HaveRows c q → (at : Place) (paths : List Path) (n : ℕ) (b : BitTree) → ArePathsOf c q paths → HasCheaper at n paths → n ≡ capped (part_of c q at.rel at.param b) →
+    IsPlanOf c q (one at.rel.0) (has at.param.0) (bitmap at.rel at.param b) → HasDominating c q paths (bitmap at.rel at.param b)
+cheaper-dominates c q some at paths n b are h e of =
+    let x = h.path in
+    let is : IsPathOf c q x = All-contains (IsPathOf c q) paths x are h.is_there in
+    let scan = bitmap at.rel at.param b in
+    let part = part_of c q at.rel at.param b in
+    let under : n ≤ part = capped-from n part part e (le_refl part) in
+    let total : (cost c q x.tree).total ≤ part = subst (λ (k : ℕ). k ≤ part) is.numbers.cost (le_trans h.cheaper.cheap under) in
+    let before : part ≤ (cost c q scan).startup = le_refl part in
+    record {
+      path = x;
+      is_there = h.is_there;
+      dominates = record {
+        like = record {
+          set = λ k. is.plan.set_is k ∙ h.cheaper.set k ∙ sym (of.set_is k);
+          param = λ k. is.plan.param_is k ∙ ap (λ (s : RelSet). has s.0 k) h.cheaper.param ∙ sym (of.param_is k);
+        };
+        total = le_trans total (le_trans before (startup-most c q some scan));
+        startup = startup-from q.window (cost c q x.tree).startup (cost c q scan).startup (le_trans (startup-most c q some x.tree) (le_trans total before));
+        keys = refl;
+      };
+    }
 
 module _ (c : Contents) (q : Query) (r : RelNo) (p : RelSet) (ts : List BitTree) (old : List Path) where
   -- the scans of all marks below a number were offered

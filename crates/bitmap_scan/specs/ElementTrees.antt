@@ -1,5 +1,5 @@
 -- What is kept of an element in its tree of least part. Own.
-use Rattle.std.specs.Prelude.{◌≡◌, ◌<◌, ℕ, true, List, length, ◌||◌, ◌&&◌, ◌%◌, Bool, All, map, nat_eq, nat_lt}
+use Rattle.std.specs.Prelude.{◌≡◌, ◌<◌, ◌≤◌, ℕ, true, Contains, List, length, ◌||◌, ◌&&◌, ◌%◌, Bool, All, map, nat_eq, nat_lt}
 use Rattle.std.specs.List.{list_any, AllZip}
 use Rattle.pg_base.specs.Sets.{has}
 use Rattle.pg_base.specs.declared.numbers.RelNo.{RelNo}
@@ -13,7 +13,8 @@ use Rattle.cost_rules.specs.Costs.{capped}
 use Rattle.plan_tree.specs.Plans.{BitTree, bitmap}
 use Rattle.plan_tree.specs.Bitmaps.{Element, by_index, by_clause, IsMatchedOr, condition_at, uses}
 use Rattle.plan_tree.specs.Costs.{part_of}
-use Rattle.plan_tree.specs.Space.{others_named, IsPlanOf}
+use Rattle.plan_tree.specs.Paths.{Path}
+use Rattle.plan_tree.specs.Space.{others_named, IsPlanOf, IsSameSet}
 use Rattle.plan_tree.specs.Views.{bits, element, path}
 use Rattle.bitmap_scan.specs.declared.element_tree.ElementTree.{ElementTree}
 use Rattle.std.specs.Borrow.{Bor}
@@ -53,6 +54,18 @@ marked_names m = named_in (marked m.mask m.kept.now)
 -- a number is that of a clause that some of the elements use
 abbrev pub is_clause_used : Query → List (Bor ElementTree) → ℕ → Bool
 is_clause_used q chosen n = nat_lt n (length q.classes.clauses) && list_any (λ (k : Bor ElementTree). contains k.now.used n) chosen
+
+-- a path is of the relation where the rows are given, and costs no more in all
+pub record IsCheaper (at : Place) (cost : ℕ) (p : Path) : Type 0 where
+  pub set : IsSameSet (has p.set.0) (one at.rel.0)
+  pub param : p.param ≡ at.param
+  pub cheap : p.cost ≤ cost
+
+-- some path of a list is so
+pub record HasCheaper (at : Place) (cost : ℕ) (paths : List Path) : Type 0 where
+  pub path : Path
+  pub is_there : Contains paths path
+  pub cheaper : IsCheaper at cost path
 
 module _ (c : Contents) (q : Query) (r : RelNo) (p : RelSet) where
   -- an index of the catalogue, or an OR clause that is matched

@@ -1,12 +1,12 @@
 //! The bitmap scans that are offered to a front.
 
-ghost use Rattle.std.specs.Prelude.{◌≡◌, ◌<◌, ◌≤◌, ◌^◌, All, OnOk, map};
+ghost use Rattle.std.specs.Prelude.{◌≡◌, ◌<◌, ◌≤◌, ◌^◌, All, IsTrue, OnOk, map};
 ghost use Rattle.sql_query.specs.Queries.{width};
 ghost use Rattle.plan_tree.specs.Fronts.{ArePathsOf, StayDominated, is_bitmap};
 ghost use Rattle.plan_tree.specs.Reads.{IsOverTables};
 ghost use Rattle.plan_tree.specs.Views.{path};
 ghost use Rattle.bitmap_scan.specs.Chosen.{AreChosen};
-ghost use Rattle.bitmap_scan.specs.ElementTrees.{IsKept, lent_trees, marked_trees, AreBitmapOffers, AreLentTogether, AreMarkedTogether};
+ghost use Rattle.bitmap_scan.specs.ElementTrees.{HasCheaper, IsCheaper, IsKept, lent_trees, marked_trees, AreBitmapOffers, AreLentTogether, AreMarkedTogether};
 ghost use Rattle.plan_tree.specs.Lists.{AreScanOffers, AreDominatedBy};
 
 use crate::chosen::{are_named, chosen_by, combine, parts_together, used_by};
@@ -30,8 +30,33 @@ fn sets_of(n: usize) -> usize
     1 << n
 }
 
+/// Whether a path is of the relation where the rows are given, and costs no more in all.
+fn is_cheaper(x: &Path, at: Place, cost: u64) -> bool
+    requires { at.rel.0 < 16 }
+    ensures { IsTrue result → IsCheaper at.entry cost (path x.now) }
+{
+    if x.cost > cost || x.param != at.param {
+        return false;
+    }
+    x.set == RelSet::one(at.rel)
+}
+
+/// Whether some path is so.
+fn has_cheaper(paths: &[Path], at: Place, cost: u64) -> bool
+    requires { at.rel.0 < 16 }
+    ensures { IsTrue result → HasCheaper at.entry cost (map path paths.now) }
+{
+    for x in paths {
+        if is_cheaper(x, at, cost) {
+            return true;
+        }
+    }
+    false
+}
+
 /// Offers the bitmap scan over the tree of some elements, where there are some and the other relations that their
-/// clauses name are exactly those of the parameterisation. The error means want of memory.
+/// clauses name are exactly those of the parameterisation. It is not made where a path costs no more in all than their parts,
+/// which it costs before its first row. The error means want of memory.
 fn offer_chosen(
     alloc: Global,
     cat: &Catalog,
@@ -50,15 +75,19 @@ fn offer_chosen(
     ensures dominated { OnOk result (AreLentTogether cat.now q.now at.entry chosen.now front.new) }
     ensures still { StayDominated cat.now q.now (map path front.old) (map path front.new) }
 {
+    cat.lawful();
     let (r, p) = (at.rel, at.param);
     if chosen.is_empty() {
+        return Ok(());
+    }
+    let parts = parts_together(chosen);
+    if has_cheaper(front.items(), at, parts) {
         return Ok(());
     }
     let used = used_by(q, chosen);
     if !names_exactly(cat, q, r, p, &used) {
         return Ok(());
     }
-    let parts = parts_together(chosen);
     let cost = bitmap(cat, range_of(q), classes_of(q), r, p, &used, parts);
     let bits = combine(alloc, chosen)?;
     let keys = Keys::from_slice(alloc, &[])?;

@@ -1,4 +1,4 @@
-use Rattle.std.proofs.Common.{rules, ◌≤◌, ◌∙◌, ap, sym, map, length, subst, refl, arith, true≢false}
+use Rattle.std.proofs.Common.{rules, ◌≤◌, ◌∙◌, List, ap, sym, map, length, subst, refl, arith, true≢false}
 use Rattle.std.proofs.lemmas.List.{length-map}
 use Rattle.std.proofs.lemmas.Result.{on_ok_weaker}
 use Rattle.pg_base.specs.Sets.{has}
@@ -13,10 +13,23 @@ use Rattle.plan_tree.specs.Plans.{BitTree, bitmap}
 use Rattle.plan_tree.specs.Space.{IsPlanOf}
 use Rattle.plan_tree.specs.Views.{path}
 use Rattle.bitmap_scan.specs.Chosen.{combined}
-use Rattle.bitmap_scan.specs.ElementTrees.{tree_in}
+use Rattle.bitmap_scan.specs.ElementTrees.{HasCheaper, tree_in}
+use Rattle.plan_tree.proofs.BoundLemmas.{lawful-rows}
+use Rattle.plan_tree.specs.declared.path.Path.{Path as Costed}
+use Rattle.bitmap_scan.proofs.OfferLemmas.{cheaper-dominates}
 use Rattle.bitmap_scan.proofs.KeptLemmas.{parts-together, used-together}
 use Rattle.bitmap_scan.proofs.ScanLemmas.{chosen-scan, cost-cut, named-from, named-to}
 use Rattle.bitmap_scan.proofs.offers.offer_chosen.Goals as goal
+
+pub returns-then-has_cheaper-clause-dominated : goal.returns-then-has_cheaper-clause-dominated
+returns-then-has_cheaper-clause-dominated c =
+    let contents = c.args.cat.now in
+    let q = c.args.q.now in
+    let chosen = c.args.chosen.now in
+    let tree = combined (map (λ k. tree_in k.now) chosen) in
+    let parts = parts-together contents q c.args.at.rel c.args.at.param (λ k. k.now) chosen c.parts_together-parts.result c.requires.kept c.parts_together-parts.ensures in
+    λ plan admissible. cheaper-dominates contents q (lawful-rows contents q c.lawful.ensures) c.args.at (map path c.args.front.now) c.parts_together-parts.result tree c.requires.paths
+    (subst (λ (ps : List Costed). HasCheaper c.args.at c.parts_together-parts.result (map path ps)) c.items.ensures.items (c.has_cheaper.ensures c.if-has_cheaper.true)) parts plan
 
 pub returns-then-not-names_exactly-clause-dominated : goal.returns-then-not-names_exactly-clause-dominated
 returns-then-not-names_exactly-clause-dominated c =

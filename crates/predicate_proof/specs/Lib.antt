@@ -1,3 +1,4 @@
 pub mod Atoms
 pub mod Derivation
+pub mod Notes
 pub mod Rows

@@ -5,6 +5,7 @@
 mod atoms;
 mod conditions;
 mod implication;
+mod notes;
 mod parts;
 
 pub use implication::{ClauseList, implied_conditions_hold, implies, no_clauses_imply_nothing};

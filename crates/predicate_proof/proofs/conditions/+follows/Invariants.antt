@@ -6,8 +6,8 @@ use Rattle.predicate_proof.specs.Derivation.{AllImply, EachImpliesSome, ImpliesA
 use Rattle.predicate_proof.proofs.conditions.+follows.Given as goal
 
 -- four steps for each node of the clause and of the goal, and in their order the functions that pass both on
-abbrev pub decreases-follows : goal.decreases-follows
-decreases-follows l = 4 * (weight (cond l.clause.now) + weight (cond l.goal.now)) + 2
+abbrev pub decreases-follows_by : goal.decreases-follows_by
+decreases-follows_by l = 4 * (weight (cond l.clause.now) + weight (cond l.goal.now)) + 2
 
 abbrev pub decreases-any_follows : goal.decreases-any_follows
 decreases-any_follows l = 4 * (weight (cond l.clause.now) + weight (cond l.goal.now)) + 1

@@ -1,26 +1,27 @@
 -- What the words after an operand tell of the condition that begins with it.
-use Rattle.std.proofs.Common.{◌≡◌, Bool, true, false, List, [], ◌∷◌, ◌++◌, Result, Ok, Err, inl, inr, refl, sym, ap, ◌∙◌, append_assoc}
+use Rattle.std.proofs.Common.{◌≡◌, Bool, true, false, List, [], ◌∷◌, ◌++◌, Result, Ok, Err, inl, inr, refl, sym, ap, ◌∙◌, append_assoc, codes}
 use Rattle.pg_base.specs.declared.faults.Fault.{Fault}
 use Rattle.pg_value.specs.declared.operators.Truth.{Truth}
 use Rattle.pg_value.specs.declared.value.SqlType.{SqlType}
 use Rattle.pg_expr.specs.declared.expr.Expr.{Expr}
 use Rattle.pg_expr.specs.declared.operand.ColRef.{ColRef}
-use Rattle.pg_expr.specs.Cond.{is_null as null_test, is_not_null as not_null_test, const}
+use Rattle.pg_expr.specs.Cond.{is_null as null_test, is_not_null as not_null_test, const, no_conds}
 use Rattle.pg_expr.specs.View.{cond}
 use Rattle.sql_lex.specs.declared.tokens.Token.{Token}
-use Rattle.sql_grammar.specs.declared.class.Word.TheVariants.{Is, Not, Null}
+use Rattle.sql_grammar.specs.declared.class.Word.TheVariants.{And, Is, Not, Null}
 use Rattle.sql_grammar.specs.declared.class.Symbol.TheVariants.{Open, Close}
-use Rattle.sql_grammar.specs.Terminals.{Terminal, Said, t_key, t_mark, t_operator}
-use Rattle.sql_grammar.specs.Syntax.{Expr as ExprTree, Neg, negated, plain, Col, bare, qualified, yes, no, unknown, Lit, number, negative, quoted, constant, Operand, column, literal, Atom, parens, compare, is_null, is_not_null, column_alone, constant_alone}
+use Rattle.sql_grammar.specs.declared.class.Free.TheVariants.{Between, In}
+use Rattle.sql_grammar.specs.Terminals.{Terminal, Said, free, t_name, t_key, t_mark, t_operator}
+use Rattle.sql_grammar.specs.Syntax.{Expr as ExprTree, Negated, no_not, not_before, in_list, between, Neg, negated, plain, Col, bare, qualified, yes, no, unknown, Lit, number, negative, quoted, constant, Operand, column, literal, Atom, parens, compare, is_null, is_not_null, column_alone, constant_alone}
 use Rattle.sql_grammar.specs.Unique.{ends_atom, is_parens, front, tail}
-use Rattle.sql_grammar.specs.Words.{words_of_expr, words_of_neg, words_of_atom, words_of_operand, words_of_col}
+use Rattle.sql_grammar.specs.Words.{words_of_expr, words_of_neg, words_of_atom, words_of_operand, words_of_col, words_of_negated, words_of_lit, words_of_bounds}
 use Rattle.sql_grammar.proofs.ExprTrees.{tested}
 use Rattle.expr_reader.specs.declared.cursor.Operator.{Operator}
 use Rattle.expr_reader.specs.Reading.{BeginsNot, BeginsOperator, BeginsNoOperator, operator_said}
 use Rattle.expr_reader.specs.declared.written.Literal.{Literal}
 use Rattle.expr_reader.specs.declared.written.Literal.TheVariants.{Constant as ConstantOf}
 use Rattle.expr_reader.specs.declared.written.Side.TheVariants.{Column, Literal as LiteralSide}
-use Rattle.expr_reader.specs.Conditions.{next, Side, of_column, of_literal, side_of, column_of, place_of_col, compare_sides, flag_column, truth_of_constant, meaning_of_atom}
+use Rattle.expr_reader.specs.Conditions.{next, then_parts, comparison, standing_for, negated_by, literals_after, equal_to, or_of, and_of, Side, of_column, of_literal, side_of, column_of, place_of_col, compare_sides, flag_column, truth_of_constant, meaning_of_atom}
 use Rattle.expr_reader.specs.Reads.{seen_as}
 use Rattle.expr_reader.specs.Scope.{Scope}
 use Rattle.expr_reader.specs.Written.{side_read, literal_of, IsNullWords}
@@ -42,6 +43,10 @@ comparison-next (compare l op r) rest old left o flat ends (said, spelled, first
     record { lower = l; said = op; upper = r; atom = refl; operator = spelled ∙ ap operator_said word; words = cc (same) }
 comparison-next (is_null c i k) rest old left o flat ends (said, spelled, first) is = absurd (cc (first, is))
 comparison-next (is_not_null c i n k) rest old left o flat ends (said, spelled, first) is = absurd (cc (first, is))
+comparison-next (in_list u c no_not w p l ls m) rest old left o flat ends (said, spelled, first) is = absurd (cc (first, is))
+comparison-next (between u l no_not w a j b) rest old left o flat ends (said, spelled, first) is = absurd (cc (first, is))
+comparison-next (in_list u c (not_before z) w p l ls m) rest old left o flat ends (said, spelled, first) is = absurd (cc (first, is))
+comparison-next (between u l (not_before z) w a j b) rest old left o flat ends (said, spelled, first) is = absurd (cc (first, is))
 comparison-next (column_alone c) rest old left o flat ends (said, spelled, first) is = absurd (tested ends_atom rest (t_operator said ∷ left) ends refl (sym is ∙ first))
 comparison-next (constant_alone c k) rest old left o flat ends (said, spelled, first) is = absurd (tested ends_atom rest (t_operator said ∷ left) ends refl (sym is ∙ first))
 
@@ -51,6 +56,10 @@ null-words (parens b e c) rest old left t flat ends is took = absurd (cc (flat))
 null-words (compare l op r) rest old left t flat ends is took = absurd (cc (is, took))
 null-words (is_null c i k) rest old left t flat ends is took = inl (k, rest, cc (is, took))
 null-words (is_not_null c i n k) rest old left t flat ends is took = inr (n, k, rest, cc (is, took))
+null-words (in_list u c no_not w p l ls m) rest old left t flat ends is took = absurd (cc (is, took))
+null-words (between u l no_not w a j b) rest old left t flat ends is took = absurd (cc (is, took))
+null-words (in_list u c (not_before z) w p l ls m) rest old left t flat ends is took = absurd (cc (is, took))
+null-words (between u l (not_before z) w a j b) rest old left t flat ends is took = absurd (cc (is, took))
 null-words (column_alone c) rest old left t flat ends is took = absurd (tested ends_atom rest (t_key Is t ∷ left) ends refl (sym is ∙ took))
 null-words (constant_alone c k) rest old left t flat ends is took = absurd (tested ends_atom rest (t_key Is t ∷ left) ends refl (sym is ∙ took))
 
@@ -81,6 +90,8 @@ no-not (parens b e d) rest left t is = absurd (cc (is))
 no-not (compare l op r) rest left t is = no-not-operand l _ left t (sym (append_assoc (words_of_operand l) (t_operator op ∷ words_of_operand r) rest) ∙ is)
 no-not (is_null c i k) rest left t is = no-not-operand (column c) _ left t (sym (append_assoc (words_of_col c) (t_key Is i ∷ t_key Null k ∷ []) rest) ∙ is)
 no-not (is_not_null c i n k) rest left t is = no-not-operand (column c) _ left t (sym (append_assoc (words_of_col c) (t_key Is i ∷ t_key Not n ∷ t_key Null k ∷ []) rest) ∙ is)
+no-not (in_list u c n w p l ls m) rest left t is = no-not-operand (column c) _ left t (sym (append_assoc (words_of_col c) (words_of_negated n ++ t_name (free In w) ∷ t_mark Open p ∷ (words_of_lit l ++ (words_of_bounds ls ++ t_mark Close m ∷ []))) rest) ∙ is)
+no-not (between u l n w a j b) rest left t is = no-not-operand l _ left t (sym (append_assoc (words_of_operand l) (words_of_negated n ++ t_name (free Between w) ∷ (words_of_operand a ++ t_key And j ∷ words_of_operand b)) rest) ∙ is)
 no-not (column_alone c) rest left t is = no-not-operand (column c) rest left t is
 no-not (constant_alone k d) rest left t is = no-not-operand (literal (constant k d)) rest left t is
 
@@ -100,6 +111,8 @@ in-parens (parens b e d) rest old left t took is =
 in-parens (compare l op r) rest old left t took is = absurd (no-open l _ left t (sym (append_assoc (words_of_operand l) (t_operator op ∷ words_of_operand r) rest) ∙ (sym is ∙ took)))
 in-parens (is_null c i k) rest old left t took is = absurd (no-open (column c) _ left t (sym (append_assoc (words_of_col c) (t_key Is i ∷ t_key Null k ∷ []) rest) ∙ (sym is ∙ took)))
 in-parens (is_not_null c i n k) rest old left t took is = absurd (no-open (column c) _ left t (sym (append_assoc (words_of_col c) (t_key Is i ∷ t_key Not n ∷ t_key Null k ∷ []) rest) ∙ (sym is ∙ took)))
+in-parens (in_list u c n w p l ls m) rest old left t took is = absurd (no-open (column c) _ left t (sym (append_assoc (words_of_col c) (words_of_negated n ++ t_name (free In w) ∷ t_mark Open p ∷ (words_of_lit l ++ (words_of_bounds ls ++ t_mark Close m ∷ []))) rest) ∙ (sym is ∙ took)))
+in-parens (between u l n w a j b) rest old left t took is = absurd (no-open l _ left t (sym (append_assoc (words_of_operand l) (words_of_negated n ++ t_name (free Between w) ∷ (words_of_operand a ++ t_key And j ∷ words_of_operand b)) rest) ∙ (sym is ∙ took)))
 in-parens (column_alone c) rest old left t took is = absurd (no-open (column c) rest left t (sym is ∙ took))
 in-parens (constant_alone k d) rest old left t took is = absurd (cc (took, is))
 
@@ -108,6 +121,8 @@ no-parens (parens b e d) rest old none is = absurd (none _ (b, is))
 no-parens (compare l op r) rest old none is = refl
 no-parens (is_null c i k) rest old none is = refl
 no-parens (is_not_null c i n k) rest old none is = refl
+no-parens (in_list u c n w p l ls m) rest old none is = refl
+no-parens (between u l n w a j b) rest old none is = refl
 no-parens (column_alone c) rest old none is = refl
 no-parens (constant_alone k d) rest old none is = refl
 
@@ -130,6 +145,12 @@ pub record NoNot (n : Neg) (rest old : List Terminal) : Type 0 where
 pub not-absent : (n : Neg) (rest old : List Terminal) → BeginsNot (t_key Not) old → old ≡ words_of_neg n ++ rest → NoNot n rest old
 not-absent (negated k m) rest old none is = absurd (none _ (k, is))
 not-absent (plain a) rest old none is = record { atom = a; neg = refl; words = is }
+
+-- neither NOT, IN nor BETWEEN is next
+pub record NoList (ts : List Terminal) : Type 0 where
+  pub negated : BeginsNot (t_key Not) ts
+  pub in_list : BeginsNot (λ t. t_name (free In t)) ts
+  pub between : BeginsNot (λ t. t_name (free Between t)) ts
 
 -- a literal as a side
 abbrev sided : Lit → Result Side Fault
@@ -165,28 +186,32 @@ module _ (scope : Scope) (type_of : ColRef → SqlType) where
 
   -- what a column's test is, by the words after it
   pub column-atom : (a : Atom) (s : Side) (rest old new : List Terminal) (c : ColRef) (t : SqlType) (token : Token) (r : Result Expr Fault) → is_parens a ≡ false → ends_atom rest ≡ true →
-      side_of scope type_of (front a) ≡ Ok s → Column c t token ≡ side_read s → old ≡ tail a rest → BeginsNoOperator old →
+      side_of scope type_of (front a) ≡ Ok s → Column c t token ≡ side_read s → old ≡ tail a rest → BeginsNoOperator old → NoList old →
       ((is null : Token) (left : List Terminal) → old ≡ t_key Is is ∷ t_key Null null ∷ left → (seen_as cond r ≡ Ok (null_test c)) × (new ≡ left)) →
       ((is not null : Token) (left : List Terminal) → old ≡ t_key Is is ∷ t_key Not not ∷ t_key Null null ∷ left → (seen_as cond r ≡ Ok (not_null_test c)) × (new ≡ left)) →
       (BeginsNot (t_key Is) old → (seen_as cond r ≡ flag_column t c token) × (new ≡ old)) →
       (seen_as cond r ≡ meaning_of_atom scope type_of a) × (new ≡ rest)
-  column-atom (parens b e d) s rest old new c t token r flat ends side read is none null not_null alone = absurd (cc (flat))
-  column-atom (compare l op u) s rest old new c t token r flat ends side read is none null not_null alone = absurd (none op (words_of_operand u ++ rest) is)
-  column-atom (is_null col i k) s rest old new c t token r flat ends side read is none null not_null alone =
+  column-atom (parens b e d) s rest old new c t token r flat ends side read is none lists null not_null alone = absurd (cc (flat))
+  column-atom (compare l op u) s rest old new c t token r flat ends side read is none lists null not_null alone = absurd (none op (words_of_operand u ++ rest) is)
+  column-atom (is_null col i k) s rest old new c t token r flat ends side read is none lists null not_null alone =
       let found = column-side col s c t token side read in
       let told = null i k rest is in
       (told.0 ∙ sym (ap (λ m. next m (λ x. Ok (null_test x))) found.found), told.1)
-  column-atom (is_not_null col i n k) s rest old new c t token r flat ends side read is none null not_null alone =
+  column-atom (is_not_null col i n k) s rest old new c t token r flat ends side read is none lists null not_null alone =
       let found = column-side col s c t token side read in
       let told = not_null i n k rest is in
       (told.0 ∙ sym (ap (λ m. next m (λ x. Ok (not_null_test x))) found.found), told.1)
-  column-atom (column_alone col) s rest old new c t token r flat ends side read is none null not_null alone =
+  column-atom (in_list u col no_not w p l ls m) s rest old new c t token r flat ends side read is none lists null not_null alone = absurd (lists.in_list _ (w, is))
+  column-atom (in_list u col (not_before k) w p l ls m) s rest old new c t token r flat ends side read is none lists null not_null alone = absurd (lists.negated _ (k, is))
+  column-atom (between u l no_not w a j b) s rest old new c t token r flat ends side read is none lists null not_null alone = absurd (lists.between _ (w, is))
+  column-atom (between u l (not_before k) w a j b) s rest old new c t token r flat ends side read is none lists null not_null alone = absurd (lists.negated _ (k, is))
+  column-atom (column_alone col) s rest old new c t token r flat ends side read is none lists null not_null alone =
       let found = column-side col s c t token side read in
       let told = alone (λ left (i, e). no-is rest ends left (i, sym is ∙ e)) in
       (told.0 ∙ sym (ap (λ m. next m (λ x. flag_column (type_of x) x (place_of_col col))) found.found ∙ (ap (λ u. flag_column u c (place_of_col col)) found.typed ∙ ap (λ p. flag_column t c p) found.place)), told.1 ∙ is)
-  column-atom (constant_alone k d) s rest old new c t token r flat ends side read is none null not_null alone = absurd (no-literal s (constant k d) c t token side read)
+  column-atom (constant_alone k d) s rest old new c t token r flat ends side read is none lists null not_null alone = absurd (no-literal s (constant k d) c t token side read)
 
-  no-column : (m : Result ColRef Fault) (s : Side) (p : Token) (l : Literal) → next m (λ r. Ok (of_column r (type_of r) p)) ≡ Ok s → LiteralSide l ≡ side_read s → ⊥
+  pub no-column : (m : Result ColRef Fault) (s : Side) (p : Token) (l : Literal) → next m (λ r. Ok (of_column r (type_of r) p)) ≡ Ok s → LiteralSide l ≡ side_read s → ⊥
   no-column (Ok r) (of_column d u q) p l is read = absurd (cc (read))
   no-column (Ok r) (of_literal m) p l is read = absurd (cc (is))
   no-column (Err f) s p l is read = absurd (cc (is))
@@ -204,13 +229,16 @@ module _ (scope : Scope) (type_of : ColRef → SqlType) where
     pub words : old ≡ rest
 
   pub constant-atom : (a : Atom) (s : Side) (rest old : List Terminal) (x : Literal) → is_parens a ≡ false →
-      side_of scope type_of (front a) ≡ Ok s → LiteralSide x ≡ side_read s → old ≡ tail a rest → BeginsNoOperator old → IsConstant a x rest old
-  constant-atom (parens b e d) s rest old x flat side read is none = absurd (cc (flat))
-  constant-atom (compare l op u) s rest old x flat side read is none = absurd (none op (words_of_operand u ++ rest) is)
-  constant-atom (is_null col i k) s rest old x flat side read is none = absurd (no-column (column_of scope col) s (place_of_col col) x side read)
-  constant-atom (is_not_null col i n k) s rest old x flat side read is none = absurd (no-column (column_of scope col) s (place_of_col col) x side read)
-  constant-atom (column_alone col) s rest old x flat side read is none = absurd (no-column (column_of scope col) s (place_of_col col) x side read)
-  constant-atom (constant_alone k d) s rest old x flat side read is none =
+      side_of scope type_of (front a) ≡ Ok s → LiteralSide x ≡ side_read s → old ≡ tail a rest → BeginsNoOperator old → NoList old → IsConstant a x rest old
+  constant-atom (parens b e d) s rest old x flat side read is none lists = absurd (cc (flat))
+  constant-atom (compare l op u) s rest old x flat side read is none lists = absurd (none op (words_of_operand u ++ rest) is)
+  constant-atom (is_null col i k) s rest old x flat side read is none lists = absurd (no-column (column_of scope col) s (place_of_col col) x side read)
+  constant-atom (is_not_null col i n k) s rest old x flat side read is none lists = absurd (no-column (column_of scope col) s (place_of_col col) x side read)
+  constant-atom (in_list u col n w p l ls m) s rest old x flat side read is none lists = absurd (no-column (column_of scope col) s (place_of_col col) x side read)
+  constant-atom (between u l no_not w a j b) s rest old x flat side read is none lists = absurd (lists.between _ (w, is))
+  constant-atom (between u l (not_before k) w a j b) s rest old x flat side read is none lists = absurd (lists.negated _ (k, is))
+  constant-atom (column_alone col) s rest old x flat side read is none lists = absurd (no-column (column_of scope col) s (place_of_col col) x side read)
+  constant-atom (constant_alone k d) s rest old x flat side read is none lists =
       record { truth = truth_of_constant k; token = d; literal = lit-by (constant k d) x s side read; meant = refl; words = is }
 
   column-fault : (m : Result ColRef Fault) (f : Fault) (p : Token) → next m (λ r. Ok (of_column r (type_of r) p)) ≡ Err f → m ≡ Err f
@@ -223,5 +251,10 @@ module _ (scope : Scope) (type_of : ColRef → SqlType) where
   front-fault (compare l op r) f flat is = ap (λ m. next m (λ a. next (side_of scope type_of r) (λ b. compare_sides op a b))) is
   front-fault (is_null c i k) f flat is = ap (λ m. next m (λ r. Ok (null_test r))) (column-fault (column_of scope c) f (place_of_col c) is)
   front-fault (is_not_null c i n k) f flat is = ap (λ m. next m (λ r. Ok (not_null_test r))) (column-fault (column_of scope c) f (place_of_col c) is)
+  front-fault (in_list u c n w p l ls m) f flat is =
+      ap (λ x. next (then_parts (next x (λ a. next (side_of scope type_of (literal l)) (λ b. compare_sides (standing_for (codes "=") w) a b))) (equal_to scope type_of c w (literals_after ls))) (λ xs. Ok (negated_by n (or_of xs)))) is
+  front-fault (between u l n w a j b) f flat is =
+      ap (λ x. next (then_parts (next x (λ v. next (side_of scope type_of a) (λ y. compare_sides (standing_for (codes ">=") w) v y)))
+      (then_parts (comparison scope type_of l (standing_for (codes "<=") w) b) (Ok no_conds))) (λ xs. Ok (negated_by n (and_of xs)))) is
   front-fault (column_alone c) f flat is = ap (λ m. next m (λ r. flag_column (type_of r) r (place_of_col c))) (column-fault (column_of scope c) f (place_of_col c) is)
   front-fault (constant_alone k d) f flat is = absurd (cc (is))

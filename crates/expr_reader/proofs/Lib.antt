@@ -4,6 +4,7 @@ pub mod ReadsLemmas
 pub mod OperandLemmas
 pub mod PartLemmas
 pub mod AtomLemmas
+pub mod ListLemmas
 pub mod EndLemmas
 pub mod TypedLemmas
 pub mod StepLemmas

@@ -50,23 +50,23 @@ many-and (x ∷ y ∷ zs) some more = refl
 abbrev pub after : Conds → Result Conds Fault → Result Conds Fault
 after ready parts = next parts (λ xs. Ok (joined ready xs))
 
-more-ready : (ready : Conds) (x : Cond) (part : Result Cond Fault) (parts : Result Conds Fault) → part ≡ Ok x → after ready (then_parts part parts) ≡ after (joined ready (cond_and x no_conds)) parts
+pub more-ready : (ready : Conds) (x : Cond) (part : Result Cond Fault) (parts : Result Conds Fault) → part ≡ Ok x → after ready (then_parts part parts) ≡ after (joined ready (cond_and x no_conds)) parts
 more-ready ready x (Err f) parts is = absurd (cc (is))
 more-ready ready x (Ok y) (Err f) is = refl
 more-ready ready x (Ok y) (Ok ys) is =
     let same : y ≡ x = cc (is) in
     ap (λ (z : Cond). Ok (joined ready (cond_and z ys))) same ∙ ap (λ (zs : Conds). Ok zs) (sym (joined_assoc ready (cond_and x no_conds) ys))
 
-first-ready : (x : Cond) (part : Result Cond Fault) (parts : Result Conds Fault) → part ≡ Ok x → then_parts part parts ≡ after (cond_and x no_conds) parts
+pub first-ready : (x : Cond) (part : Result Cond Fault) (parts : Result Conds Fault) → part ≡ Ok x → then_parts part parts ≡ after (cond_and x no_conds) parts
 first-ready x (Err f) parts is = absurd (cc (is))
 first-ready x (Ok y) (Err f) is = refl
 first-ready x (Ok y) (Ok ys) is = let same : y ≡ x = cc (is) in ap (λ (z : Cond). Ok (cond_and z ys)) same
 
-first-fault : (f : Fault) (part : Result Cond Fault) (parts : Result Conds Fault) → part ≡ Err f → then_parts part parts ≡ Err f
+pub first-fault : (f : Fault) (part : Result Cond Fault) (parts : Result Conds Fault) → part ≡ Err f → then_parts part parts ≡ Err f
 first-fault f (Ok x) parts is = absurd (cc (is))
 first-fault f (Err g) parts is = cc (is)
 
-no-more : (ready : Conds) (f : Fault) (part : Result Cond Fault) (parts : Result Conds Fault) → part ≡ Err f → after ready (then_parts part parts) ≡ Err f
+pub no-more : (ready : Conds) (f : Fault) (part : Result Cond Fault) (parts : Result Conds Fault) → part ≡ Err f → after ready (then_parts part parts) ≡ Err f
 no-more ready f (Ok x) parts is = absurd (cc (is))
 no-more ready f (Err g) parts is = cc (is)
 

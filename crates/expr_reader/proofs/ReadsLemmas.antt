@@ -69,3 +69,9 @@ pub read-has : (T A : Type 0) (seen : T → A) (P : A → Type 0) (m : Result A 
 read-has T A seen P (Ok a) (Ok x) rest left read has = subst P (sym read.0) (has a refl)
 read-has T A seen P (Err f) (Ok x) rest left read has = absurd read
 read-has T A seen P m (Err e) rest left read has = tt
+
+-- want of memory that is handed on
+pub read-want : (T A : Type 0) (seen : T → A) (m : Result A Fault) (r : Result T Refusal) (rest left : List Terminal) → IsErrAnd r (λ e. e ≡ refusal.Memory) → Reads seen m rest r left
+read-want T A seen m (Ok x) rest left told = absurd told
+read-want T A seen m (Err refusal.Memory) rest left told = read-memory T A seen m rest left
+read-want T A seen m (Err (refusal.Fault f)) rest left told = absurd (cc (told))

@@ -1,5 +1,5 @@
 -- What a condition means is well typed, and names visible columns alone.
-use Rattle.std.proofs.Common.{◌≡◌, ℕ, Bool, true, false, ◌&&◌, ◌||◌, Option, Some, None, Result, Ok, Err, All, refl, sym, ap, subst, ◌∙◌, cond, is_some}
+use Rattle.std.proofs.Common.{◌≡◌, ℕ, Bool, true, false, ◌&&◌, ◌||◌, Option, Some, None, Result, Ok, Err, All, refl, sym, ap, subst, ◌∙◌, cond, is_some, List, [], ◌∷◌, codes}
 use Rattle.std.proofs.lemmas.Bool.{and_parts}
 use Rattle.pg_base.specs.declared.faults.Fault.{Fault}
 use Rattle.pg_value.specs.declared.operators.Family.{Family}
@@ -27,13 +27,13 @@ use Rattle.pg_expr.specs.Typed.{some_value, IsTyped, AreTyped}
 use Rattle.sql_lex.specs.declared.tokens.Token.{Token}
 use Rattle.sql_grammar.specs.Terminals.{Said, token_of}
 use Rattle.sql_grammar.specs.Faults.{bytes_of, fault_at}
-use Rattle.sql_grammar.specs.Syntax.{Col, bare, qualified, yes, no, unknown, Lit, number, negative, quoted, constant, Operand as OperandTree, column, literal, Expr, either_of, Ors, no_or, or_conj, Conj, both_of, Ands, no_and, and_neg, Neg, negated, plain, Atom, parens, compare as compareTree, is_null, is_not_null, column_alone, constant_alone}
+use Rattle.sql_grammar.specs.Syntax.{Col, bare, qualified, yes, no, unknown, Lit, number, negative, quoted, constant, Operand as OperandTree, column, literal, Expr, either_of, Ors, no_or, or_conj, Conj, both_of, Ands, no_and, and_neg, Negated, no_not, not_before, Neg, negated, plain, Atom, parens, compare as compareTree, is_null, is_not_null, in_list, between, column_alone, constant_alone}
 use Rattle.expr_reader.specs.Operators.{operator_of}
 use Rattle.expr_reader.specs.declared.found.Found.{Found}
 use Rattle.expr_reader.specs.declared.found.Found.TheVariants.{One, NoTable, NoColumn, Many}
 use Rattle.expr_reader.specs.Scope.{Scope, look_up}
 use Rattle.expr_reader.specs.Literals.{value_at, written, type_of_lit, literal_value}
-use Rattle.expr_reader.specs.Conditions.{next, the_column, column_of, place_of_col, Side, of_column, of_literal, own_type, type_beside, operand_of, operated, compare_sides, flag_column, truth_of_constant, then_parts, or_of, and_of, side_of, meaning_of_expr, meaning_of_ors, meaning_of_conj, meaning_of_ands, meaning_of_neg, meaning_of_atom}
+use Rattle.expr_reader.specs.Conditions.{next, comparison, standing_for, negated_by, literals_after, equal_to, bounded_by, the_column, column_of, place_of_col, Side, of_column, of_literal, own_type, type_beside, operand_of, operated, compare_sides, flag_column, truth_of_constant, then_parts, or_of, and_of, side_of, meaning_of_expr, meaning_of_ors, meaning_of_conj, meaning_of_ands, meaning_of_neg, meaning_of_atom}
 use Rattle.expr_reader.proofs.ScopeLemmas.{found-all}
 use Rattle.opfamily.specs.Answers.{does_exist, some_family_has, family_has, takes, number_in}
 
@@ -321,6 +321,32 @@ module _ (scope : Scope) (type_of : ColRef → SqlType) (test : ColRef → Bool)
       let second = next-done ms (λ ys. Ok (cond_and first.value ys)) xs first.rest in
       good-and first.value second.value xs (part first.value first.first) (parts second.value second.first) (sym (cc (second.rest)))
 
+  comparison-good : (l : OperandTree) (op : Said) (r : OperandTree) (c : Cond) → comparison scope type_of l op r ≡ Ok c → IsGood c
+  comparison-good l op r c is =
+      let first = next-done (side_of scope type_of l) (λ a. next (side_of scope type_of r) (λ b. compare_sides op a b)) c is in
+      let second = next-done (side_of scope type_of r) (λ b. compare_sides op first.value b) c first.rest in
+      sides-good op first.value second.value c (side-fits l first.value first.first) (side-fits r second.value second.first) second.rest
+
+  none-good : (m : Result Conds Fault) (cs : Conds) → m ≡ Ok no_conds → m ≡ Ok cs → AreGood cs
+  none-good m cs h is = let same : no_conds ≡ cs = cc (h, is) in subst AreGood same (tt, refl)
+
+  equal-good : (x : Col) (w : Token) (ls : List Lit) (cs : Conds) → equal_to scope type_of x w ls ≡ Ok cs → AreGood cs
+  equal-good x w [] cs is = none-good (equal_to scope type_of x w []) cs refl is
+  equal-good x w (l ∷ ls) cs is =
+      parts-good (comparison scope type_of (column x) (standing_for (codes "=") w) (literal l)) (equal_to scope type_of x w ls) cs is
+      (λ y e. comparison-good (column x) (standing_for (codes "=") w) (literal l) y e) (λ ys e. equal-good x w ls ys e)
+
+  bounded-good : (x : OperandTree) (w : Token) (a b : OperandTree) (cs : Conds) → bounded_by scope type_of x w a b ≡ Ok cs → AreGood cs
+  bounded-good x w a b cs is =
+      let low = standing_for (codes ">=") w in
+      let high = standing_for (codes "<=") w in
+      parts-good (comparison scope type_of x low a) (then_parts (comparison scope type_of x high b) (Ok no_conds)) cs is (λ y e. comparison-good x low a y e)
+      (λ ys e. parts-good (comparison scope type_of x high b) (Ok no_conds) ys e (λ y f. comparison-good x high b y f) (λ zs f. none-good (Ok no_conds) zs refl f))
+
+  negated-good : (n : Negated) (c : Cond) → IsGood c → IsGood (negated_by n c)
+  negated-good no_not c good = good
+  negated-good (not_before k) c good = good
+
   mutual
     pub expr-good : (e : Expr) (c : Cond) → meaning_of_expr scope type_of e ≡ Ok c → IsGood c
     expr-good (either_of p ps) c is =
@@ -351,10 +377,7 @@ module _ (scope : Scope) (type_of : ColRef → SqlType) (test : ColRef → Bool)
 
     atom-good : (a : Atom) (c : Cond) → meaning_of_atom scope type_of a ≡ Ok c → IsGood c
     atom-good (parens b e d) c is = expr-good e c is
-    atom-good (compareTree l op r) c is =
-        let first = next-done (side_of scope type_of l) (λ a. next (side_of scope type_of r) (λ b. compare_sides op a b)) c is in
-        let second = next-done (side_of scope type_of r) (λ b. compare_sides op first.value b) c first.rest in
-        sides-good op first.value second.value c (side-fits l first.value first.first) (side-fits r second.value second.first) second.rest
+    atom-good (compareTree l op r) c is = comparison-good l op r c is
     atom-good (is_null x i k) c is =
         let d = next-done (column_of scope x) (λ r. Ok (null_test r)) c is in
         let same : null_test d.value ≡ c = cc (d.rest) in
@@ -363,6 +386,14 @@ module _ (scope : Scope) (type_of : ColRef → SqlType) (test : ColRef → Bool)
         let d = next-done (column_of scope x) (λ r. Ok (not_null_test r)) c is in
         let same : not_null_test d.value ≡ c = cc (d.rest) in
         subst IsGood same (tt, column-passes x d.value d.first)
+    atom-good (in_list u x n w o l ls m) c is =
+        let d = next-done (equal_to scope type_of x w (l ∷ literals_after ls)) (λ xs. Ok (negated_by n (or_of xs))) c is in
+        let same : negated_by n (or_of d.value) ≡ c = cc (d.rest) in
+        subst IsGood same (negated-good n (or_of d.value) (or-good d.value (equal-good x w (l ∷ literals_after ls) d.value d.first)))
+    atom-good (between u x n w a j b) c is =
+        let d = next-done (bounded_by scope type_of x w a b) (λ xs. Ok (negated_by n (and_of xs))) c is in
+        let same : negated_by n (and_of d.value) ≡ c = cc (d.rest) in
+        subst IsGood same (negated-good n (and_of d.value) (and-good d.value (bounded-good x w a b d.value d.first)))
     atom-good (column_alone x) c is =
         let d = next-done (column_of scope x) (λ r. flag_column (type_of r) r (place_of_col x)) c is in
         flag-good (type_of d.value) d.value (place_of_col x) c refl (column-passes x d.value d.first) d.rest

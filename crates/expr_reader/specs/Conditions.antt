@@ -1,7 +1,8 @@
 -- What a condition means over the visible columns and their types, or its first fault: from the left, and within a comparison
--- its columns first, then its literals, then its operator (PostgreSQL manual, chapter Type Conversion, Operators; codes:
+-- its columns first, then its literals, then its operator; IN and BETWEEN are the comparisons that they stand for, one after
+-- the other (PostgreSQL manual, chapter Type Conversion, Operators; codes:
 -- appendix Error Codes).
-use Rattle.std.specs.Prelude.{◌≡◌, Bool, All, IsTrue, Option, Some, None, Result, Ok, Err, cond}
+use Rattle.std.specs.Prelude.{◌≡◌, ℕ, Bool, All, IsTrue, List, [], ◌∷◌, codes, Option, Some, None, Result, Ok, Err, cond}
 use Rattle.pg_base.specs.declared.faults.Code.TheVariants.{S2, S3, S4, S9, S10}
 use Rattle.pg_base.specs.declared.faults.Fault.{Fault}
 use Rattle.pg_value.specs.declared.operators.Op.{Op}
@@ -18,7 +19,7 @@ use Rattle.pg_expr.specs.Cond.{Cond, compare as compared, is_null as null_test, 
 use Rattle.sql_lex.specs.declared.tokens.Token.{Token}
 use Rattle.sql_grammar.specs.Terminals.{Said, token_of}
 use Rattle.sql_grammar.specs.Faults.{bytes_of, fault_at}
-use Rattle.sql_grammar.specs.Syntax.{Col, bare, qualified, Constant, yes, no, unknown, Lit, Operand as OperandTree, column, literal, Expr, either_of, Ors, no_or, or_conj, Conj, both_of, Ands, no_and, and_neg, Neg, negated, plain, Atom, parens, compare, is_null, is_not_null, column_alone, constant_alone}
+use Rattle.sql_grammar.specs.Syntax.{Mark, Col, bare, qualified, Constant, yes, no, unknown, Lit, Operand as OperandTree, column, literal, Expr, either_of, Ors, no_or, or_conj, Conj, both_of, Ands, no_and, and_neg, Negated, no_not, not_before, Neg, negated, plain, Atom, parens, compare, is_null, is_not_null, in_list, between, column_alone, constant_alone}
 use Rattle.expr_reader.specs.Operators.{operator_of}
 use Rattle.expr_reader.specs.declared.found.Found.{Found}
 use Rattle.expr_reader.specs.declared.found.Found.TheVariants.{One, NoTable, NoColumn, Many}
@@ -108,6 +109,20 @@ and_of no_conds = all_of no_conds
 and_of (cond_and c no_conds) = c
 and_of (cond_and c (cond_and d ds)) = all_of (cond_and c (cond_and d ds))
 
+-- an operator that is not written: the word that stands for it is at fault where there is none
+abbrev pub standing_for : List ℕ → Token → Said
+standing_for operator word = record { value = operator; token = word }
+
+-- a condition behind NOT, where that is written
+abbrev pub negated_by : Negated → Cond → Cond
+negated_by no_not c = c
+negated_by (not_before _) c = negation c
+
+-- the literals behind the first of a list
+abbrev pub literals_after : List (Mark × Lit) → List Lit
+literals_after [] = []
+literals_after ((_, l) ∷ ls) = l ∷ literals_after ls
+
 module _ (scope : Scope) (type_of : ColRef → SqlType) where
   -- a side, or the fault of its column
   abbrev pub side_of : OperandTree → Result Side Fault
@@ -117,6 +132,17 @@ module _ (scope : Scope) (type_of : ColRef → SqlType) where
   -- a comparison: its columns from the left, then the rest
   abbrev pub comparison : OperandTree → Said → OperandTree → Result Cond Fault
   comparison l op r = next (side_of l) (λ a. next (side_of r) (λ b. compare_sides op a b))
+
+  -- that a column is equal to each of some literals, from the left
+  abbrev pub equal_to : Col → Token → List Lit → Result Conds Fault
+  equal_to c word [] = Ok no_conds
+  equal_to c word (l ∷ ls) = then_parts (comparison (column c) (standing_for (codes "=") word) (literal l)) (equal_to c word ls)
+
+  -- that an operand is not below one and not above another
+  abbrev pub bounded_by : OperandTree → Token → OperandTree → OperandTree → Result Conds Fault
+  bounded_by x word a b =
+      then_parts (comparison x (standing_for (codes ">=") word) a)
+      (then_parts (comparison x (standing_for (codes "<=") word) b) (Ok no_conds))
 
   -- conditions, each with the parts of its tree in order; parentheses add nothing
   abbrev mutual
@@ -143,6 +169,8 @@ module _ (scope : Scope) (type_of : ColRef → SqlType) where
     meaning_of_atom (compare l op r) = comparison l op r
     meaning_of_atom (is_null c _ _) = next (column_of scope c) (λ r. Ok (null_test r))
     meaning_of_atom (is_not_null c _ _ _) = next (column_of scope c) (λ r. Ok (not_null_test r))
+    meaning_of_atom (in_list _ c n w _ l ls _) = next (equal_to c w (l ∷ literals_after ls)) (λ xs. Ok (negated_by n (or_of xs)))
+    meaning_of_atom (between _ x n w a _ b) = next (bounded_by x w a b) (λ xs. Ok (negated_by n (and_of xs)))
     meaning_of_atom (column_alone c) = next (column_of scope c) (λ r. flag_column (type_of r) r (place_of_col c))
     meaning_of_atom (constant_alone k _) = Ok (const (truth_of_constant k))
 

@@ -1,30 +1,32 @@
 //! The words of an expression, from the left.
 
-ghost use Rattle.std.specs.Prelude.{◌≡◌, ◌≢◌, ◌≤◌, ◌<◌, length, [], ◌∷◌, Ok, MatchOption};
-ghost use Rattle.pg_expr.specs.Cond.{is_null, is_not_null, const};
+ghost use Rattle.std.specs.Prelude.{◌≡◌, ◌≢◌, ◌≤◌, ◌<◌, true, false, length, List, [], ◌∷◌, ◌++◌, Ok, IfOk, MatchOption};
+ghost use Rattle.pg_expr.specs.Cond.{is_null, is_not_null, const, negation};
 ghost use Rattle.pg_expr.specs.View.{cond, conds};
 ghost use Rattle.pg_value.specs.declared.operators.Truth.{Truth};
 ghost use Rattle.expr_reader.specs.declared.written.Literal.TheVariants.{Constant as ConstantOf};
 ghost use Rattle.sql_lex.specs.declared.tokens.Token.{Token};
 ghost use Rattle.sql_grammar.specs.declared.class.Word.TheVariants.{Is};
-ghost use Rattle.sql_grammar.specs.Terminals.{t_key};
+ghost use Rattle.sql_grammar.specs.Syntax.{Lit};
+ghost use Rattle.sql_grammar.specs.Terminals.{Terminal, t_key};
 ghost use Rattle.sql_grammar.specs.Unique.{ends_operand, ends_atom, ends_conj, ends_expr};
-ghost use Rattle.sql_grammar.specs.Words.{words_of_expr, words_of_conj, words_of_neg, words_of_atom, words_of_operand};
-ghost use Rattle.expr_reader.specs.Reading.{BeginsNot, StandsFirst, IfNext};
+ghost use Rattle.sql_grammar.specs.Words.{words_of_expr, words_of_conj, words_of_neg, words_of_atom, words_of_operand, words_of_lit};
+ghost use Rattle.expr_reader.specs.Reading.{BeginsNot, StandsFirst, IfNext, free_name};
 ghost use Rattle.expr_reader.specs.Conditions.{flag_column as flag_column_of, or_of as or_of_conds, and_of as and_of_conds};
 ghost use Rattle.expr_reader.specs.Reads.{seen_as};
 ghost use Rattle.expr_reader.specs.Written.{IsNullWords, ReadsNull, ReadsNotNull, ReadsIsNull, ReadsIsNotNull};
-ghost use Rattle.expr_reader.specs.Expressions.{ReadsComparison, StandsTail, ReadsTail, ReadsAtom, ReadsNeg, ReadsConj, ReadsExpr};
+ghost use Rattle.expr_reader.specs.Expressions.{StandsBetween, ReadsBetween, ReadsEquality, StandsAmong, ReadsAmong, ReadsComparison, StandsTail, ReadsTail, ReadsAtom, ReadsNeg, ReadsConj, ReadsExpr};
 
 use crate::comparison::compare;
+use crate::literal::literal;
 use crate::operand::operand;
 use crate::scope::Scope;
 use crate::written::{Literal, Side};
-use crate::{Cursor, Operator};
-use pg_base::{Code, Fault, Refusal};
+use crate::{Cursor, Operator, Spelled};
+use pg_base::{Code, Fault, Memory, Refusal};
 use pg_expr::{ColRef, Expr, Exprs};
-use pg_value::SqlType;
-use sql_grammar::{Symbol, Word, fault_at};
+use pg_value::{Op, SqlType};
+use sql_grammar::{Free, Symbol, Word, fault_at};
 use sql_lex::Token;
 use std::alloc::Global;
 
@@ -99,6 +101,150 @@ fn comparison<S: Scope>(
     Ok(compare(alloc, operator, left, right)?)
 }
 
+/// A literal that is equal to this one.
+fn copied(alloc: Global, literal: &Literal) -> Result<Literal, Memory>
+    ensures { IfOk result (λ l. l ≡ literal.now) }
+{
+    match literal {
+        Literal::Whole(minus, magnitude, token) => Ok(Literal::Whole(*minus, *magnitude, *token)),
+        Literal::Constant(truth, token) => Ok(Literal::Constant(*truth, *token)),
+        Literal::Quoted(text) => {
+            let bytes = text.bytes.copy(alloc)?;
+            let token = text.token;
+            Ok(Literal::Quoted(Spelled { bytes, token }))
+        }
+    }
+}
+
+/// A side that is equal to this one.
+fn same_side(alloc: Global, side: &Side) -> Result<Side, Memory>
+    ensures { IfOk result (λ s. s ≡ side.now) }
+{
+    match side {
+        Side::Column(c, t, token) => Ok(Side::Column(*c, *t, *token)),
+        Side::Literal(literal) => Ok(Side::Literal(copied(alloc, literal)?)),
+    }
+}
+
+/// The comparisons of BETWEEN, which is taken: its low side, AND and its high side are next.
+fn between<S: Scope>(
+    alloc: Global,
+    scope: &S,
+    from: &mut Cursor,
+    left: Side,
+    word: Token,
+) -> Result<Expr, Refusal>
+    requires { StandsBetween left from.old }
+    ensures read { ReadsBetween (S.visible scope.now) (S.type_of scope.now) left word
+        from.old result from.new }
+    ensures ahead { length from.new ≤ length from.old }
+{
+    let again = same_side(alloc, &left)?;
+    let mut parts = Vec::new(alloc);
+    let low = Operator {
+        op: Some(Op::Ge),
+        token: word,
+    };
+    parts.push(comparison(alloc, scope, from, left, low)?)?;
+    if !from.takes(Word::And) {
+        unreachable!();
+    }
+    let high = Operator {
+        op: Some(Op::Le),
+        token: word,
+    };
+    parts.push(comparison(alloc, scope, from, again, high)?)?;
+    Ok(and_of(parts))
+}
+
+/// The comparison of a column with the literal that is next, by the `=` for which IN stands.
+fn equality(
+    alloc: Global,
+    from: &mut Cursor,
+    c: ColRef,
+    t: SqlType,
+    first: Token,
+    word: Token,
+) -> Result<Expr, Refusal>
+    requires { (l : Lit) × (rest : List Terminal) × (from.old ≡ words_of_lit l ++ rest) }
+    ensures read { ReadsEquality c t first word from.old result from.new }
+    ensures ahead { length from.new ≤ length from.old }
+{
+    let right = literal(alloc, from)?;
+    let operator = Operator {
+        op: Some(Op::Eq),
+        token: word,
+    };
+    Ok(compare(
+        alloc,
+        operator,
+        Side::Column(c, t, first),
+        Side::Literal(right),
+    )?)
+}
+
+/// The comparisons of IN, which is taken: `(`, literals with a comma between them, and `)` are next.
+fn among(
+    alloc: Global,
+    from: &mut Cursor,
+    c: ColRef,
+    t: SqlType,
+    first: Token,
+    word: Token,
+) -> Result<Expr, Refusal>
+    requires { StandsAmong from.old }
+    ensures read { ReadsAmong c t first word from.old result from.new }
+    ensures ahead { length from.new ≤ length from.old }
+{
+    if !from.takes_mark(Symbol::Open) {
+        unreachable!();
+    }
+    let mut parts = Vec::new(alloc);
+    parts.push(equality(alloc, from, c, t, first, word)?)?;
+    'more: while from.takes_mark(Symbol::Comma) {
+        parts.push(equality(alloc, from, c, t, first, word)?)?;
+    }
+    if !from.takes_mark(Symbol::Close) {
+        unreachable!();
+    }
+    Ok(or_of(parts))
+}
+
+/// The condition, or its negation.
+fn perhaps_not(alloc: Global, negated: bool, e: Expr) -> Result<Expr, Memory>
+    ensures plain { negated ≡ false → IfOk result (λ x. cond x ≡ cond e) }
+    ensures negated { negated ≡ true → IfOk result (λ x. cond x ≡ negation (cond e)) }
+{
+    if negated {
+        return Ok(Expr::Not(Box::new(alloc, e)?));
+    }
+    Ok(e)
+}
+
+/// Takes the next word, which there is, where it is this word, which is not reserved; its token.
+fn word_taken(from: &mut Cursor, wanted: Free) -> Option<Token>
+    requires { (word : Terminal) × (left : List Terminal) × (from.old ≡ word ∷ left) }
+    ensures { MatchOption result ((from.new ≡ from.old) × BeginsNot (free_name wanted) from.old)
+        (λ token. from.old ≡ free_name wanted token ∷ from.new) }
+{
+    let token = from.token();
+    if from.takes_free(wanted) {
+        return Some(token);
+    }
+    None
+}
+
+/// Takes the next word where it is this word, which is not reserved; its token.
+fn free_word(from: &mut Cursor, wanted: Free) -> Option<Token>
+    ensures { MatchOption result ((from.new ≡ from.old) × BeginsNot (free_name wanted) from.old)
+        (λ token. from.old ≡ free_name wanted token ∷ from.new) }
+{
+    match from.peek() {
+        Some(_) => word_taken(from, wanted),
+        None => None,
+    }
+}
+
 /// The condition that begins with an operand, which is taken.
 fn after_operand<S: Scope>(
     alloc: Global,
@@ -113,6 +259,18 @@ fn after_operand<S: Scope>(
 {
     if let Some(operator) = from.operator() {
         return comparison(alloc, scope, from, left, operator);
+    }
+    let negated = from.takes(Word::Not);
+    if let Some(word) = free_word(from, Free::Between) {
+        let e = between(alloc, scope, from, left, word)?;
+        return Ok(perhaps_not(alloc, negated, e)?);
+    }
+    if let Some(word) = free_word(from, Free::In) {
+        let Side::Column(c, t, first) = left else {
+            unreachable!();
+        };
+        let e = among(alloc, from, c, t, first, word)?;
+        return Ok(perhaps_not(alloc, negated, e)?);
     }
     match left {
         Side::Column(c, t, token) => Ok(column_test(from, c, t, token)?),

@@ -1,5 +1,5 @@
 -- The lists of a grouped SELECT mean as they are written what their trees mean.
-use Rattle.std.proofs.Common.{◌≡◌, Contains, List, [], ◌∷◌, ◌++◌, map, Option, Some, None, Result, Ok, Err, refl, ap, ap₂, ◌∙◌}
+use Rattle.std.proofs.Common.{◌≡◌, Bool, true, false, Contains, List, [], ◌∷◌, ◌++◌, map, Option, Some, None, Result, Ok, Err, refl, ap, ap₂, ◌∙◌}
 use Rattle.pg_base.specs.declared.faults.Fault.{Fault}
 use Rattle.pg_value.specs.declared.value.SqlType.{SqlType}
 use Rattle.pg_expr.specs.declared.operand.ColRef.{ColRef}
@@ -18,8 +18,8 @@ use Rattle.sql_query.specs.declared.grouped.Item.{Item}
 use Rattle.query_reader.specs.Order.{order_item, order_items}
 use Rattle.group_reader.specs.declared.parts.Part.{Part}
 use Rattle.group_reader.specs.declared.written.Column.{Column}
-use Rattle.group_reader.specs.Binding.{BoundLists, all_grouped, group_columns, item_parts, known_call, list_parts, lists_bound, order_words, over_column, over_rows, shown_columns, word_of_ordering}
-use Rattle.group_reader.specs.Meaning.{column_by, column_meant, known, last_word, list_said, listed_said, lists_said, part_alone, sorting_said, then_parts}
+use Rattle.group_reader.specs.Binding.{BoundLists, all_grouped, group_columns, grouper, item_parts, keys_by, known_call, list_parts, lists_bound, order_words, over_column, over_rows, shown_columns, word_of_ordering}
+use Rattle.group_reader.specs.Meaning.{column_by, column_meant, keys_said, known, last_word, list_said, listed_said, lists_said, part_alone, sorting_said, then_parts}
 use Rattle.group_reader.specs.Written.{column_written, columns_written, listed_of, sorting_of, sorts_written}
 
 -- a column that is meant is visible
@@ -48,6 +48,10 @@ module _ (scope : Scope) where
   groups-same : (b : GroupBy) → bound_each (column_meant scope) (columns_written b) ≡ group_columns scope b
   groups-same no_group_by = refl
   groups-same (group_by k t c cs) = ap₂ before_all (column-same c) (each-parts (column_meant scope) (column_of scope) column_written column-same cs)
+
+  keys-same : (d : Bool) (b : GroupBy) (ps : List Part) → keys_said scope d (columns_written b) ps ≡ keys_by scope (grouper d b) ps
+  keys-same true b ps = refl
+  keys-same false b ps = groups-same b
 
   sort-same : (shown : List ColRef) (o : Ordering) → sorting_said scope shown (sorting_of o) ≡ order_item scope shown o
   sort-same shown (ordering (bare n) d z) = refl
@@ -94,15 +98,18 @@ module _ (scope : Scope) (type_of : ColRef → SqlType) where
   list-same [] = refl
   list-same (i ∷ is) = ap₂ then_parts (listed-same i) (list-same is) ∙ then-next (item_parts scope type_of i) (list_parts scope type_of is)
 
-  pub lists-same : (is : List GroupedItem) (b : GroupBy) (y : OrderBy) → lists_said scope type_of (map listed_of is) (columns_written b) (sorts_written y) ≡ lists_bound scope type_of is b y
-  lists-same is b y =
+  pub lists-same : (is : List GroupedItem) (d : Bool) (b : GroupBy) (y : OrderBy) → lists_said scope type_of (map listed_of is) d (columns_written b) (sorts_written y) ≡ lists_bound scope type_of is (grouper d b) y
+  lists-same is d b y =
       let K : List Part → List OrderItem → List Token → List ColRef → Result BoundLists Fault = λ ps ordered words keys. all_grouped keys ps ordered words (record { parts = ps; order = ordered; keys = keys }) in
       let G : List Part → List OrderItem → List Token → Result (List ColRef) Fault → Result BoundLists Fault = λ ps ordered words m. next m (K ps ordered words) in
       let O : List Part → List Token → Result (List ColRef) Fault → Result (List OrderItem) Fault → Result BoundLists Fault = λ ps words k m. next m (λ ordered. G ps ordered words k) in
-      let L : (List Part → Result (List OrderItem) Fault) → List Token → Result (List ColRef) Fault → Result (List Part) Fault → Result BoundLists Fault = λ o words k m. next m (λ ps. O ps words k (o ps)) in
-      ap (L (λ ps. bound_each (sorting_said scope (shown_columns ps)) (sorts_written y)) (map last_word (sorts_written y)) (bound_each (column_meant scope) (columns_written b))) (list-same is)
-      ∙ (next-same (list_parts scope type_of is) (λ ps. O ps (map last_word (sorts_written y)) (bound_each (column_meant scope) (columns_written b)) (bound_each (sorting_said scope (shown_columns ps)) (sorts_written y)))
-      (λ ps. O ps (map last_word (sorts_written y)) (bound_each (column_meant scope) (columns_written b)) (order_items scope (shown_columns ps) y))
-      (λ ps. ap (O ps (map last_word (sorts_written y)) (bound_each (column_meant scope) (columns_written b))) (orders-same scope (shown_columns ps) y))
-      ∙ (ap (λ (ws : List Token). L (λ ps. order_items scope (shown_columns ps) y) ws (bound_each (column_meant scope) (columns_written b)) (list_parts scope type_of is)) (words-same y)
-      ∙ ap (λ (k : Result (List ColRef) Fault). L (λ ps. order_items scope (shown_columns ps) y) (order_words y) k (list_parts scope type_of is)) (groups-same scope b)))
+      let L : (List Part → Result (List OrderItem) Fault) → List Token → (List Part → Result (List ColRef) Fault) → Result (List Part) Fault → Result BoundLists Fault = λ o words k m. next m (λ ps. O ps words (k ps) (o ps)) in
+      let said : List Part → Result (List ColRef) Fault = keys_said scope d (columns_written b) in
+      ap (L (λ ps. bound_each (sorting_said scope (shown_columns ps)) (sorts_written y)) (map last_word (sorts_written y)) said) (list-same is)
+      ∙ (next-same (list_parts scope type_of is) (λ ps. O ps (map last_word (sorts_written y)) (said ps) (bound_each (sorting_said scope (shown_columns ps)) (sorts_written y)))
+      (λ ps. O ps (map last_word (sorts_written y)) (said ps) (order_items scope (shown_columns ps) y))
+      (λ ps. ap (O ps (map last_word (sorts_written y)) (said ps)) (orders-same scope (shown_columns ps) y))
+      ∙ (ap (λ (ws : List Token). L (λ ps. order_items scope (shown_columns ps) y) ws said (list_parts scope type_of is)) (words-same y)
+      ∙ next-same (list_parts scope type_of is) (λ ps. O ps (order_words y) (said ps) (order_items scope (shown_columns ps) y))
+      (λ ps. O ps (order_words y) (keys_by scope (grouper d b) ps) (order_items scope (shown_columns ps) y))
+      (λ ps. ap (λ (k : Result (List ColRef) Fault). O ps (order_words y) k (order_items scope (shown_columns ps) y)) (keys-same scope d b ps))))

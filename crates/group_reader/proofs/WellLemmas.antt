@@ -1,15 +1,17 @@
 -- The lists of a grouped SELECT that are bound: what they name is there, what is shown and what orders is grouped, and the grouped query
 -- that is made of them is well bound.
-use Rattle.std.proofs.Common.{◌≡◌, ℕ, ◌+◌, ◌^◌, ◌<◌, ◌≤◌, Bool, true, false, cond, List, [], ◌∷◌, ◌++◌, length, map, filter_map, find, All, Contains, Option, Some, None, Result, Ok, Err, inl, inr, refl, sym, ap, subst, ◌∙◌, ⊎_elim, suc, arith}
+use Rattle.std.proofs.Common.{◌≡◌, ℕ, ◌+◌, ◌^◌, ◌<◌, ◌≤◌, Vec, IfOk, Bool, true, false, cond, List, [], ◌∷◌, ◌++◌, length, map, filter_map, find, All, Contains, Option, Some, None, Result, Ok, Err, inl, inr, refl, sym, ap, subst, ◌∙◌, ⊎_elim, suc, arith}
 use Rattle.std.specs.Prelude.{codes, position}
 use Rattle.std.specs.List.{list_any}
 use Rattle.std.specs.Str.{bytes_eq}
 use Rattle.std.proofs.lemmas.Bool.{cases_Bool, true≢false}
 use Rattle.std.proofs.lemmas.List.{length-map}
-use Rattle.std.proofs.lemmas.List.Elements.{All-nil}
+use Rattle.std.proofs.lemmas.List.Elements.{All-cons, All-nil}
 use Rattle.std.proofs.lemmas.List.Quantifiers.{position-Some}
+use Rattle.std.specs.declared.alloc.Global.{Global}
 use Rattle.pg_base.specs.Names.{IsName}
 use Rattle.pg_base.specs.declared.faults.Fault.{Fault}
+use Rattle.pg_base.specs.declared.faults.Refusal.{Refusal}
 use Rattle.pg_value.specs.declared.value.SqlType.{SqlType}
 use Rattle.pg_expr.specs.declared.operand.ColRef.{ColRef}
 use Rattle.pg_expr.specs.Cond.{Cond, conds_of}
@@ -41,6 +43,7 @@ use Rattle.group_query.specs.Grouping.{IsItemOf, IsWellGrouped, directed_item, g
 use Rattle.group_query.specs.Shapes.{calls_of, place_in, place_or}
 use Rattle.query_reader.specs.declared.written.Item.TheVariants.{Bare, Qualified}
 use Rattle.query_reader.specs.Binding.{alone, item_columns, past_limit, then_columns}
+use Rattle.query_reader.specs.Conveys.{Conveys}
 use Rattle.query_reader.specs.From.{AreRelations}
 use Rattle.query_reader.specs.Named.{columns_in_all}
 use Rattle.query_reader.specs.Scope.{scope_of}
@@ -53,8 +56,9 @@ use Rattle.group_reader.specs.declared.written.Listed.{Listed}
 use Rattle.group_reader.specs.declared.written.Listed.TheVariants.{Columns, OverRows, OverColumn}
 use Rattle.group_reader.specs.declared.written.Sorting.{Sorting}
 use Rattle.group_reader.specs.Binding.{BoundLists, base_with, column_by_call, column_of_part, grouped_with, is_bool, is_grouped, item_in, none_of, over_column, over_rows, shown_columns, ungrouped_items, ungrouped_part}
-use Rattle.group_reader.specs.Meaning.{column_by, column_call, column_meant, known, last_word, list_said, listed_said, lists_said, part_alone, shown_at, sorting_said, then_parts}
+use Rattle.group_reader.specs.Meaning.{column_by, column_call, column_meant, keys_said, known, last_word, list_said, listed_said, lists_said, part_alone, shown_at, sorting_said, then_parts}
 use Rattle.group_reader.specs.Selected.{IsGroupedByItself}
+use Rattle.group_reader.proofs.AddLemmas.{was-conveyed}
 use Rattle.group_reader.proofs.ClassLemmas.{group-directed}
 use Rattle.group_query.proofs.ItemLemmas.{directed-column}
 
@@ -77,22 +81,22 @@ both-empty [] ys is = (refl, is)
 both-empty (x ∷ xs) ys is = absurd (cc (is))
 
 -- what the lists are where they are meant
-pub record AreLists (scope : Scope) (type_of : ColRef → SqlType) (listed : List Listed) (columns : List Column) (sorts : List Sorting) (l : BoundLists) : Type 0 where
+pub record AreLists (scope : Scope) (type_of : ColRef → SqlType) (listed : List Listed) (distinct : Bool) (columns : List Column) (sorts : List Sorting) (l : BoundLists) : Type 0 where
   pub shown : list_said scope type_of listed ≡ Ok l.parts
   pub ordered : bound_each (sorting_said scope (shown_columns l.parts)) sorts ≡ Ok l.order
-  pub grouped : bound_each (column_meant scope) columns ≡ Ok l.keys
+  pub grouped : keys_said scope distinct columns l.parts ≡ Ok l.keys
   pub shown_grouped : filter_map (ungrouped_part l.keys) l.parts ≡ []
   pub order_grouped : ungrouped_items l.keys l.order (map last_word sorts) ≡ []
 
-pub are-lists : (scope : Scope) (type_of : ColRef → SqlType) (listed : List Listed) (columns : List Column) (sorts : List Sorting) (l : BoundLists) → lists_said scope type_of listed columns sorts ≡ Ok l → AreLists scope type_of listed columns sorts l
-are-lists scope type_of listed columns sorts l is =
+pub are-lists : (scope : Scope) (type_of : ColRef → SqlType) (listed : List Listed) (distinct : Bool) (columns : List Column) (sorts : List Sorting) (l : BoundLists) → lists_said scope type_of listed distinct columns sorts ≡ Ok l → AreLists scope type_of listed distinct columns sorts l
+are-lists scope type_of listed distinct columns sorts l is =
     let a = stepped (list_said scope type_of listed) _ l is in
     let b = stepped (bound_each (sorting_said scope (shown_columns a.value)) sorts) _ l a.second in
-    let k = stepped (bound_each (column_meant scope) columns) _ l b.second in
+    let k = stepped (keys_said scope distinct columns a.value) _ l b.second in
     let made : BoundLists = record { parts = a.value; order = b.value; keys = k.value } in
     let (none, same) = none-there (filter_map (ungrouped_part k.value) a.value ++ ungrouped_items k.value b.value (map last_word sorts)) made l k.second in
     let (parts_none, order_none) = both-empty (filter_map (ungrouped_part k.value) a.value) (ungrouped_items k.value b.value (map last_word sorts)) none in
-    subst (AreLists scope type_of listed columns sorts) same (record { shown = a.first; ordered = b.first; grouped = k.first; shown_grouped = parts_none; order_grouped = order_none })
+    subst (AreLists scope type_of listed distinct columns sorts) same (record { shown = a.first; ordered = b.first; grouped = k.first; shown_grouped = parts_none; order_grouped = order_none })
 
 -- a column that is shown is grouped
 in-none : {A : Type 0} (x : A) (xs : List A) → xs ≡ [] → IsIn x xs → ⊥
@@ -124,6 +128,13 @@ each-length {A} {B} f (x ∷ xs) ys is = by (each-length f xs) (f x) (bound_each
     by later (Err e) rs at is = absurd (cc (is))
     by later (Ok b) (Err e) at is = absurd (cc (is))
     by later (Ok b) (Ok bs) at is = let same : b ∷ bs ≡ ys = cc (is) in sym (ap length same) ∙ ap suc (later bs at)
+
+-- columns that are bound are as many as are written
+pub few-bound : (f : Column → Result ColRef Fault) (ks : List Column) (r : Result (Vec ColRef Global) Refusal) → Conveys (λ xs v. v.items ≡ xs) (bound_each f ks) r → length ks < 2 ^ 32 → IfOk r (λ v. length v.items < 2 ^ 32)
+few-bound f ks (Err e) told few = tt
+few-bound f ks (Ok v) told few =
+    let (xs, is, same) = was-conveyed (List ColRef) (Vec ColRef Global) (λ xs v. v.items ≡ xs) (bound_each f ks) v told in
+    omega (arith, ap length same, each-length f ks xs is, few)
 
 pub in-keys : (keys : List ColRef) (x : ColRef) → is_grouped keys x ≡ true → IsIn x keys
 in-keys keys x h = let (y, i, same) = any_at (is_column x) keys h in subst (λ (z : ColRef). IsIn z keys) (sym (column_is x y same)) i
@@ -294,6 +305,16 @@ module _ (c : Contents) (range : Range) (are : AreRelations c range) where
         (λ (h : IsIn p b.back). parts-there ls b.back b.second p h x names)
         (in_parts p b.front b.back (subst (IsIn p) b.whole i))
 
+    -- so are the columns that the list shows, and those by which rows are grouped
+    shown-there : (ps : List Part) → ((p : Part) → IsIn p ps → (x : ColRef) → column_of_part p ≡ Some x → IsColumnOf c range x) → All (IsColumnOf c range) (shown_columns ps)
+    shown-there [] there = All-nil (IsColumnOf c range)
+    shown-there (parts.Shown x t ∷ ps) there = All-cons (IsColumnOf c range) x (shown_columns ps) (there (parts.Shown x t) (inl refl) x refl) (shown-there ps (λ p i. there p (inr i)))
+    shown-there (parts.Called i ∷ ps) there = shown-there ps (λ p j. there p (inr j))
+
+    pub grouped-there : (distinct : Bool) (ls : List Listed) (ks : List Column) (ps : List Part) (xs : List ColRef) → list_said (scope_of c range) type_of ls ≡ Ok ps → keys_said (scope_of c range) distinct ks ps ≡ Ok xs → All (IsColumnOf c range) xs
+    grouped-there true ls ks ps xs said is = let same : shown_columns ps ≡ xs = cc (is) in subst (All (IsColumnOf c range)) same (shown-there ps (parts-there ls ps said))
+    grouped-there false ls ks ps xs said is = keys-there ks xs is
+
 -- no call is a place among the GROUP BY columns
 module _ (scope : Scope) (type_of : ColRef → SqlType) where
   no-key-listed : (l : Listed) (ps : List Part) → listed_said scope type_of l ≡ Ok ps → (n : ℕ) → IsIn (parts.Called (Key n)) ps → ⊥
@@ -455,25 +476,25 @@ module _ (c : Contents) (range : Range) (are : AreRelations c range) (some : 0 <
 
 -- the same where the lists are meant
 pub grouped-of-lists : (c : Contents) (range : Range) (are : AreRelations c range) → 0 < length range → All (λ r. IsName r.1) range → (ws : List Cond) → All (IsOver c range) ws → past_limit ws ≡ None → (classes : ClassTable) (l : BoundLists)
-    (listed : List Listed) (columns : List Column) (sorts : List Sorting) → AreLists (scope_of c range) (type_in c range) listed columns sorts l →
-    IsClassTable (record { conjuncts = conjuncts_in ws; order = l.order ++ map plain_item l.keys; type_of = type_in c range }) classes → length listed < 2 ^ 32 → length columns < 2 ^ 32 →
+    (listed : List Listed) (distinct : Bool) (columns : List Column) (sorts : List Sorting) → AreLists (scope_of c range) (type_in c range) listed distinct columns sorts l →
+    IsClassTable (record { conjuncts = conjuncts_in ws; order = l.order ++ map plain_item l.keys; type_of = type_in c range }) classes → length listed < 2 ^ 32 → length l.keys < 2 ^ 32 →
     IsGroupedByItself c (grouped_with classes (record { range = range; where_all = ws; lists = l }))
-grouped-of-lists c range are some names ws over kept classes l listed columns sorts a is few many =
+grouped-of-lists c range are some names ws over kept classes l listed distinct columns sorts a is few many =
     let scope = scope_of c range in
     let type_of = type_in c range in
     let words : length l.order ≤ length (map last_word sorts) = omega (arith, each-length (sorting_said scope (shown_columns l.parts)) sorts l.order a.ordered, length-map sorts last_word) in
-    well-grouped c range are some names ws over kept classes l is (keys-there c range are columns l.keys a.grouped) (parts-there c range are type_of listed l.parts a.shown)
+    well-grouped c range are some names ws over kept classes l is (grouped-there c range are type_of distinct listed columns l.parts l.keys a.shown a.grouped) (parts-there c range are type_of listed l.parts a.shown)
     (shown-grouped l.keys l.parts a.shown_grouped) (order-grouped l.keys l.order (map last_word sorts) a.order_grouped words) (no-key scope type_of listed l.parts a.shown)
-    (omega (arith, each-length (column_meant scope) columns l.keys a.grouped, many))
+    many
     (omega (arith, calls-count l.keys l.parts, list-count scope type_of listed l.parts a.shown, few))
 
 -- what orders and what is grouped are columns of the relations
-pub items-over : (c : Contents) (range : Range) (are : AreRelations c range) (l : BoundLists) (listed : List Listed) (columns : List Column) (sorts : List Sorting) → AreLists (scope_of c range) (type_in c range) listed columns sorts l →
+pub items-over : (c : Contents) (range : Range) (are : AreRelations c range) (l : BoundLists) (listed : List Listed) (distinct : Bool) (columns : List Column) (sorts : List Sorting) → AreLists (scope_of c range) (type_in c range) listed distinct columns sorts l →
     All (λ (i : OrderItem). is_column_in c range i.col ≡ true) (l.order ++ map plain_item l.keys)
-items-over c range are l listed columns sorts a =
+items-over c range are l listed distinct columns sorts a =
     let scope = scope_of c range in
     let words : length l.order ≤ length (map last_word sorts) = omega (arith, each-length (sorting_said scope (shown_columns l.parts)) sorts l.order a.ordered, length-map sorts last_word) in
-    let passing = all-passing c range l.keys (keys-there c range are columns l.keys a.grouped) in
+    let passing = all-passing c range l.keys (grouped-there c range are (type_in c range) distinct listed columns l.parts l.keys a.shown a.grouped) in
     all_from (λ (i : OrderItem). is_column_in c range i.col ≡ true) (l.order ++ map plain_item l.keys)
     (λ i at. ⊎_elim
     (λ (h : IsIn i l.order). all_at (λ (x : ColRef). is_column_in c range x ≡ true) l.keys passing i.col (in-keys l.keys i.col (order-grouped l.keys l.order (map last_word sorts) a.order_grouped words i h)))

@@ -18,7 +18,7 @@ use Rattle.eq_classes.specs.declared.order.OrderItem.{OrderItem}
 use Rattle.sql_lex.specs.declared.tokens.Token.{Token}
 use Rattle.sql_grammar.specs.Faults.{bytes_of, fault_at}
 use Rattle.sql_grammar.specs.FromParts.{groups_after}
-use Rattle.sql_grammar.specs.Syntax.{Argument, all_rows, of_col, GroupedItem, plain_item, call, GroupBy, no_group_by, group_by, Where, OrderBy, no_order, order_by, Ordering, ordering, GroupedSelect, grouped_select}
+use Rattle.sql_grammar.specs.Syntax.{Argument, all_rows, of_col, GroupedItem, plain_item, call, GroupBy, no_group_by, group_by, Where, OrderBy, no_order, order_by, Ordering, ordering, GroupedSelect, distinct_select, grouped_select}
 use Rattle.sql_grammar.specs.Terminals.{Ident, token_of}
 use Rattle.expr_reader.specs.Lists.{further_parts, bound_each}
 use Rattle.expr_reader.specs.Conditions.{next, column_of}
@@ -101,6 +101,21 @@ abbrev pub group_columns : Scope → GroupBy → Result (List ColRef) Fault
 group_columns scope no_group_by = Ok []
 group_columns scope (group_by _ _ c cs) = bound_each (column_of scope) (c ∷ further_parts (λ x. x) cs)
 
+-- what a SELECT is grouped by: the columns of GROUP BY, or, behind DISTINCT, those that its list shows
+pub data Grouper : Type 0 where
+  columns_of : GroupBy → Grouper
+  shown : Grouper
+
+-- behind DISTINCT the list, else this GROUP BY
+abbrev pub grouper : Bool → GroupBy → Grouper
+grouper true b = shown
+grouper false b = columns_of b
+
+-- these columns, where the list is bound to these parts
+abbrev pub keys_by : Scope → Grouper → List Part → Result (List ColRef) Fault
+keys_by scope (columns_of b) ps = group_columns scope b
+keys_by scope shown ps = Ok (shown_columns ps)
+
 -- a column is itself one of the GROUP BY columns: that a condition makes it equal to one is not enough
 abbrev pub is_grouped : List ColRef → ColRef → Bool
 is_grouped keys x = list_any (is_column x) keys
@@ -144,11 +159,11 @@ abbrev pub ungrouped_words : BoundLists → List Token → List Token
 ungrouped_words l words = filter_map (ungrouped_part l.keys) l.parts ++ ungrouped_items l.keys l.order words
 
 -- the list that is shown, then ORDER BY, then GROUP BY, then what is not grouped
-abbrev pub lists_bound : Scope → (ColRef → SqlType) → List GroupedItem → GroupBy → OrderBy → Result BoundLists Fault
+abbrev pub lists_bound : Scope → (ColRef → SqlType) → List GroupedItem → Grouper → OrderBy → Result BoundLists Fault
 lists_bound scope type_of items groups order =
     next (list_parts scope type_of items) (λ ps.
     next (order_items scope (shown_columns ps) order) (λ ordered.
-    next (group_columns scope groups) (λ keys.
+    next (keys_by scope groups ps) (λ keys.
     all_grouped keys ps ordered (order_words order) (record { parts = ps; order = ordered; keys = keys }))))
 
 -- a grouped SELECT with its names bound, apart from its classes
@@ -183,7 +198,7 @@ abbrev pub grouped_with : ClassTable → BoundGroups → GroupedQuery
 grouped_with classes b = record { base = base_with classes b; keys = b.lists.keys; items = map (item_in b.lists.keys) b.lists.parts; order = b.lists.order }
 
 -- WHERE, then the lists, over the relations that FROM names, then the limits
-abbrev pub groups_over : Token → List GroupedItem → Where → GroupBy → OrderBy → Joined → Result BoundGroups Fault
+abbrev pub groups_over : Token → List GroupedItem → Where → Grouper → OrderBy → Joined → Result BoundGroups Fault
 groups_over start items condition groups order j =
     let scope = scope_of j.contents j.range in
     let type_of = type_in j.contents j.range in
@@ -194,4 +209,6 @@ groups_over start items condition groups order j =
 -- what a grouped SELECT means, in a statement that begins at this token: FROM first
 abbrev pub bound_groups : Contents → Token → GroupedSelect → Result BoundGroups Fault
 bound_groups c start (grouped_select i is _ g gs w b _ y _) =
-    next (with_groups (nothing_joined c) (g ∷ groups_after gs)) (groups_over start (i ∷ further_parts (λ x. x) is) w b y)
+    next (with_groups (nothing_joined c) (g ∷ groups_after gs)) (groups_over start (i ∷ further_parts (λ x. x) is) w (columns_of b) y)
+bound_groups c start (distinct_select _ _ o os _ g gs w y _) =
+    next (with_groups (nothing_joined c) (g ∷ groups_after gs)) (groups_over start (map plain_item (o ∷ further_parts (λ x. x) os)) w shown y)

@@ -1,6 +1,6 @@
 -- What the lists of a grouped SELECT mean as they are written, part by part (PostgreSQL manual, chapters Value Expressions, Column
 -- References, and Queries, Sorting Rows; Aggregate Functions).
-use Rattle.std.specs.Prelude.{List, [], ◌∷◌, ◌++◌, map, Option, Some, None, Result, Ok, Err}
+use Rattle.std.specs.Prelude.{Bool, true, false, List, [], ◌∷◌, ◌++◌, map, Option, Some, None, Result, Ok, Err}
 use Rattle.pg_base.specs.declared.faults.Code.TheVariants.{S9}
 use Rattle.pg_base.specs.declared.faults.Fault.{Fault}
 use Rattle.pg_value.specs.declared.value.SqlType.{SqlType}
@@ -93,10 +93,15 @@ abbrev pub first_of : List Token → Option Token
 first_of [] = None
 first_of (t ∷ ts) = Some t
 
+-- the columns by which rows are grouped: behind DISTINCT those that the list shows, else these
+abbrev pub keys_said : Scope → Bool → List Column → List Part → Result (List ColRef) Fault
+keys_said scope true columns ps = Ok (shown_columns ps)
+keys_said scope false columns ps = bound_each (column_meant scope) columns
+
 -- all lists: that of what is shown, then ORDER BY, then GROUP BY
-abbrev pub lists_said : Scope → (ColRef → SqlType) → List Listed → List Column → List Sorting → Result BoundLists Fault
-lists_said scope type_of listed columns sorts =
+abbrev pub lists_said : Scope → (ColRef → SqlType) → List Listed → Bool → List Column → List Sorting → Result BoundLists Fault
+lists_said scope type_of listed distinct columns sorts =
     next (list_said scope type_of listed) (λ ps.
     next (bound_each (sorting_said scope (shown_columns ps)) sorts) (λ ordered.
-    next (bound_each (column_meant scope) columns) (λ keys.
+    next (keys_said scope distinct columns ps) (λ keys.
     all_grouped keys ps ordered (map last_word sorts) (record { parts = ps; order = ordered; keys = keys }))))

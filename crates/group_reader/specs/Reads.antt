@@ -1,8 +1,9 @@
 -- What reading the parts of a grouped SELECT from the left says (own).
-use Rattle.std.specs.Prelude.{◌≡◌, true, List, ◌∷◌, ◌++◌}
-use Rattle.sql_grammar.specs.declared.class.Symbol.TheVariants.{Close}
+use Rattle.std.specs.Prelude.{◌≡◌, Bool, true, false, drop, List, ◌∷◌, ◌++◌}
+use Rattle.sql_grammar.specs.declared.class.Symbol.TheVariants.{Close, Star}
+use Rattle.sql_grammar.specs.declared.class.Free.TheVariants.{Distinct}
 use Rattle.sql_grammar.specs.declared.class.Word.TheVariants.{From}
-use Rattle.sql_grammar.specs.Terminals.{Terminal, t_key, t_mark}
+use Rattle.sql_grammar.specs.Terminals.{Terminal, free, t_key, t_mark, t_name}
 use Rattle.sql_grammar.specs.Syntax.{Argument, Group, GroupBy, GroupedItem, Mark, OrderBy, Where}
 use Rattle.sql_grammar.specs.Words.{words_of_argument, words_of_group, words_of_group_by, words_of_grouped_item, words_of_grouped_items, words_of_groups, words_of_order, words_of_where}
 use Rattle.query_reader.specs.Ends.{ends_window}
@@ -45,3 +46,19 @@ StandsGroupedFrom ts =
     (g : Group) × (gs : List (Mark × Group)) × (w : Where) × (b : GroupBy) × (y : OrderBy) × (rest : List Terminal) ×
     (ends_window rest ≡ true) ×
     (ts ≡ words_of_group g ++ (words_of_groups gs ++ (words_of_where w ++ (words_of_group_by b ++ (words_of_order y ++ rest)))))
+
+-- a list begins with the next word: a star or a name
+abbrev pub begins_items : List Terminal → Bool
+begins_items (t_mark Star _ ∷ _) = true
+begins_items (t_name _ ∷ _) = true
+begins_items _ = false
+
+-- DISTINCT stands next: a list begins behind that word
+abbrev pub begins_distinct : List Terminal → Bool
+begins_distinct (t_name (free Distinct _) ∷ ts) = begins_items ts
+begins_distinct _ = false
+
+-- what is left behind DISTINCT, where it stands next
+abbrev pub behind_distinct : Bool → List Terminal → List Terminal
+behind_distinct true ts = drop 1 ts
+behind_distinct false ts = ts

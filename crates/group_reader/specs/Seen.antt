@@ -42,4 +42,4 @@ grouped_of range ws r = record {
 
 -- the lists of some words, bound over relations, or their first fault
 abbrev pub words_said : Sight → Words → Result BoundLists Fault
-words_said s w = lists_said (visible_in s) (type_in s.contents s.range) w.listed.items w.columns.items w.sorts.items
+words_said s w = lists_said (visible_in s) (type_in s.contents s.range) w.listed.items w.distinct w.columns.items w.sorts.items

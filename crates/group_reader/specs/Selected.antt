@@ -1,5 +1,5 @@
 -- A SELECT of either form that is read. Own.
-use Rattle.std.specs.Prelude.{◌≡◌, ◌⊎◌, ℕ, true, List, ◌∷◌, ◌++◌, drop, map, All, Result, Ok, Err}
+use Rattle.std.specs.Prelude.{◌≡◌, ◌⊎◌, ℕ, Bool, true, List, ◌∷◌, ◌++◌, drop, map, All, Result, Ok, Err}
 use Rattle.pg_base.specs.declared.faults.Fault.{Fault}
 use Rattle.pg_base.specs.declared.faults.Refusal.{Refusal}
 use Rattle.pg_base.specs.declared.faults.Refusal.TheVariants as refusal
@@ -24,7 +24,7 @@ use Rattle.query_reader.specs.From.{Joined, nothing_joined, with_groups}
 use Rattle.query_reader.specs.Select.{AreGrouped, AreSelect}
 use Rattle.group_query.specs.Grouping.{IsWellGrouped, given_groups}
 use Rattle.group_reader.specs.declared.written.Listed.{Listed}
-use Rattle.group_reader.specs.Binding.{BoundGroups, bound_groups, grouped_with, groups_over}
+use Rattle.group_reader.specs.Binding.{BoundGroups, bound_groups, grouped_with, grouper, groups_over}
 use Rattle.group_reader.specs.Written.{listed_of}
 use Rattle.group_reader.specs.declared.selected.Selected.{Selected}
 use Rattle.group_reader.specs.declared.selected.Selected.TheVariants.{Plain, Grouped}
@@ -93,16 +93,16 @@ BindsGrouped c text tokens first read =
     IsGroupedAs (bound_groups c start x) read
 
 -- where the parts behind FROM stand first, and this is the list as it was read, what is read is what they mean over what FROM names
-abbrev pub BindsGroupsOver : Token → Joined → List Listed → List Terminal → Result GroupedQuery Refusal → Type 0
-BindsGroupsOver start j listed ts read =
+abbrev pub BindsGroupsOver : Token → Joined → List Listed → Bool → List Terminal → Result GroupedQuery Refusal → Type 0
+BindsGroupsOver start j listed distinct ts read =
     (is : List GroupedItem) (w : Where) (b : GroupBy) (y : OrderBy) (rest : List Terminal) → listed ≡ map listed_of is →
     ends_window rest ≡ true → ts ≡ words_of_where w ++ (words_of_group_by b ++ (words_of_order y ++ rest)) →
-    IsGroupedAs (groups_over start is w b y j) read
+    IsGroupedAs (groups_over start is w (grouper distinct b) y j) read
 
 -- the same of FROM and the parts behind it
-abbrev pub BindsGroups : Contents → Token → List Listed → List Terminal → Result GroupedQuery Refusal → Type 0
-BindsGroups c start listed ts read =
+abbrev pub BindsGroups : Contents → Token → List Listed → Bool → List Terminal → Result GroupedQuery Refusal → Type 0
+BindsGroups c start listed distinct ts read =
     (is : List GroupedItem) (g : Group) (gs : List (Mark × Group)) (w : Where) (b : GroupBy) (y : OrderBy)
     (rest : List Terminal) → listed ≡ map listed_of is → ends_window rest ≡ true →
     ts ≡ words_of_group g ++ (words_of_groups gs ++ (words_of_where w ++ (words_of_group_by b ++ (words_of_order y ++ rest)))) →
-    IsGroupedAs (next (with_groups (nothing_joined c) (g ∷ groups_after gs)) (groups_over start is w b y)) read
+    IsGroupedAs (next (with_groups (nothing_joined c) (g ∷ groups_after gs)) (groups_over start is w (grouper distinct b) y)) read

@@ -1,9 +1,10 @@
 //! A SELECT that groups: its words read, and its names bound.
 
-ghost use Rattle.std.specs.Prelude.{◌≡◌, ◌<◌, ◌≤◌, ◌^◌, ℕ, All, IfOk, length, map};
+ghost use Rattle.std.specs.Prelude.{◌≡◌, ◌<◌, ◌≤◌, ◌^◌, ℕ, All, IfOk, drop, length, map};
 ghost use Rattle.pg_expr.specs.View.{cond};
 ghost use Rattle.path_cost.specs.Columns.{IsOver};
 ghost use Rattle.sql_lex.specs.Words.{AreWords};
+ghost use Rattle.sql_grammar.specs.Faults.{terminals};
 ghost use Rattle.sql_grammar.specs.Syntax.{GroupedSelect};
 ghost use Rattle.expr_reader.specs.Conditions.{next};
 ghost use Rattle.query_reader.specs.Binding.{limited, past_limit};
@@ -12,7 +13,7 @@ ghost use Rattle.query_reader.specs.From.{AreRelations, HaveNames};
 ghost use Rattle.group_reader.specs.Seen.{IsReady, grouped_of, words_said};
 ghost use Rattle.group_reader.specs.Selected.{IsGroupedAt, IsGroupedByItself, BindsGrouped, BindsGroupsOver, BindsGroups};
 ghost use Rattle.group_reader.specs.Written.{columns_written, sorts_written};
-ghost use Rattle.group_reader.specs.Reads.{StandsGrouping, IfGrouping, StandsGroupedAfterFrom, StandsGroupedFrom};
+ghost use Rattle.group_reader.specs.Reads.{begins_distinct, begins_items, behind_distinct, StandsGrouping, IfGrouping, StandsGroupedAfterFrom, StandsGroupedFrom};
 
 use crate::lists::{Lists, bound_lists, class_items, items, used};
 use crate::read::{group_columns, list, sorts};
@@ -24,6 +25,7 @@ use pg_base::{Memory, Refusal, TableNo};
 use pg_expr::{ColRef, Expr, Exprs};
 use pg_value::Bytes;
 use query_reader::{Relations, Sources, classes_within, written_conjuncts};
+use sql_grammar::{Class, Free, Symbol};
 use sql_lex::{Token, Tokens};
 use sql_query::{ColList, Grouped, Item, ItemList, OrderList, Prepared};
 use std::alloc::Global;
@@ -53,9 +55,10 @@ fn make_ready(
     requires are { AreRelations relations.now.contents relations.now.range }
     requires all { relations.now.first ≡ 0 }
     requires keys { length words.now.columns.items < 2 ^ 32 }
-    ensures { Conveys (IsReady relations.now (map cond written.now))
+    ensures meaning { Conveys (IsReady relations.now (map cond written.now))
         (next (words_said relations.now words.now)
         (limited start (past_limit (map cond written.now)))) result }
+    ensures few { IfOk result (λ r. length r.lists.keys.items < 2 ^ 32) }
 {
     let lists = bound_lists(alloc, relations, words)?;
     let behind = class_items(alloc, &lists.order, &lists.keys)?;
@@ -71,17 +74,24 @@ fn make_ready(
 }
 
 /// The lists as they are written, of which the first is read: GROUP BY and ORDER BY are next.
-fn words(alloc: Global, listed: Vec<Listed>, from: &mut Cursor) -> Result<Words, Memory>
+fn words(
+    alloc: Global,
+    listed: Vec<Listed>,
+    distinct: bool,
+    from: &mut Cursor,
+) -> Result<Words, Memory>
     requires { StandsGrouping from.old }
     ensures read { IfOk result (λ w. IfGrouping from.old (λ b y.
         (w.columns.items ≡ columns_written b) × (w.sorts.items ≡ sorts_written y))) }
     ensures listed { IfOk result (λ w. w.listed.items ≡ listed.items) }
+    ensures distinct { IfOk result (λ w. w.distinct ≡ distinct) }
 {
     let columns = group_columns(alloc, from)?;
     let sorts = sorts(alloc, from)?;
     Ok(Words {
         listed,
         columns,
+        distinct,
         sorts,
     })
 }
@@ -124,6 +134,7 @@ fn over(
     alloc: Global,
     sources: Sources,
     listed: Vec<Listed>,
+    distinct: bool,
     start: Token,
     from: &mut Cursor,
 ) -> Result<Grouped, Refusal>
@@ -131,7 +142,7 @@ fn over(
     requires few { length listed.items < 2 ^ 32 }
     requires room { length from.old < 2 ^ 32 }
     requires words { StandsGroupedAfterFrom from.old }
-    ensures meaning { BindsGroupsOver start sources.entry listed.items from.old result }
+    ensures meaning { BindsGroupsOver start sources.entry listed.items distinct from.old result }
     ensures itself { IfOk result (λ g. HaveNames g.base.range →
         IsGroupedByItself sources.entry.contents g) }
 {
@@ -143,7 +154,7 @@ fn over(
     let range = Relations::new(cat, &relations, 0);
     let mut more = written_conjuncts(alloc, &range, from)?;
     written.append(&mut more.items)?;
-    let words = words(alloc, listed, from)?;
+    let words = words(alloc, listed, distinct, from)?;
     let ready = make_ready(alloc, &range, &written, &words, start)?;
     drop(range);
     Ok(finished(alloc, relations, written, ready))
@@ -155,18 +166,54 @@ fn bind(
     alloc: Global,
     cat: &Catalog,
     listed: Vec<Listed>,
+    distinct: bool,
     start: Token,
     from: &mut Cursor,
 ) -> Result<Grouped, Refusal>
     requires few { length listed.items < 2 ^ 32 }
     requires room { length from.old < 2 ^ 32 }
     requires words { StandsGroupedFrom from.old }
-    ensures meaning { BindsGroups cat.now start listed.items from.old result }
+    ensures meaning { BindsGroups cat.now start listed.items distinct from.old result }
     ensures itself { IfOk result (λ q. HaveNames q.base.range → IsGroupedByItself cat.now q) }
 {
     let mut sources = Sources::new(alloc, cat);
     sources.take_groups(alloc, from)?;
-    over(alloc, sources, listed, start, from)
+    over(alloc, sources, listed, distinct, start, from)
+}
+
+/// Whether a list begins with the next word: a `*` or a name.
+fn begins_list(from: &Cursor) -> bool
+    ensures { result ≡ begins_items from.now }
+{
+    match from.peek() {
+        Some(Class::Mark(Symbol::Star)) => true,
+        Some(Class::Name(_)) => true,
+        _ => false,
+    }
+}
+
+/// Whether DISTINCT stands behind the SELECT at this token: a list begins behind it.
+fn is_distinct(text: &[u8], tokens: &Tokens, first: u32) -> bool
+    requires short { length text.now ≤ 2 ^ 31 }
+    requires words { (from : ℕ) × AreWords text.now from tokens.now }
+    requires within { first ≤ length tokens.now }
+    ensures { result ≡ begins_distinct (drop 1 (terminals text.now (drop first tokens.now))) }
+{
+    let mut from = Cursor::new(text, tokens, first);
+    from.skip(1);
+    if !from.takes_free(Free::Distinct) {
+        return false;
+    }
+    begins_list(&from)
+}
+
+/// Passes over DISTINCT, where it stands there.
+fn pass(from: &mut Cursor, distinct: bool)
+    ensures { from.new ≡ behind_distinct distinct from.old }
+{
+    if distinct {
+        from.skip(1);
+    }
 }
 
 /// The SELECT that groups of a statement, told of whole; it begins at token `first`.
@@ -186,6 +233,8 @@ pub fn read_grouped(
 {
     let mut from = Cursor::new(text, tokens, first);
     from.skip(1);
+    let distinct = is_distinct(text, tokens, first);
+    pass(&mut from, distinct);
     let listed = list(alloc, &mut from)?;
-    bind(alloc, cat, listed, tokens.items()[0], &mut from)
+    bind(alloc, cat, listed, distinct, tokens.items()[0], &mut from)
 }

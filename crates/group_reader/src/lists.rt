@@ -7,8 +7,9 @@ ghost use Rattle.pg_expr.specs.View.{cond};
 ghost use Rattle.group_query.specs.Grouping.{plain_item};
 ghost use Rattle.group_query.specs.Shapes.{place_in};
 ghost use Rattle.query_reader.specs.Conveys.{Conveys};
+ghost use Rattle.query_reader.specs.Scope.{visible_in};
 ghost use Rattle.group_reader.specs.Binding.{column_by_call, column_of_part, is_grouped as is_grouped_in, item_in, named_in_lists, shown_column, shown_columns, ungrouped_items, ungrouped_part, ungrouped_words};
-ghost use Rattle.group_reader.specs.Meaning.{first_of, last_word};
+ghost use Rattle.group_reader.specs.Meaning.{first_of, keys_said, last_word};
 ghost use Rattle.group_reader.specs.Seen.{lists_of, with_found, words_said};
 
 use crate::bind::{add_list, columns, sort_items};
@@ -125,16 +126,41 @@ fn first_ungrouped(lists: &Lists, sorts: &[Sorting]) -> Option<Token>
     first_item(&lists.keys, &lists.order, sorts)
 }
 
+/// The columns by which rows are grouped: those that the list shows behind DISTINCT, else those of GROUP BY. Where a list shows
+/// more than can be numbered, there is no memory.
+fn keys(
+    alloc: Global,
+    relations: &Relations,
+    words: &Words,
+    parts: &[Part],
+) -> Result<Vec<ColRef>, Refusal>
+    requires written { length words.now.columns.items < 2 ^ 32 }
+    ensures meaning { Conveys (λ xs v. v.items ≡ xs)
+        (keys_said (visible_in relations.now) words.now.distinct words.now.columns.items parts.now) result }
+    ensures few { IfOk result (λ v. length v.items < 2 ^ 32) }
+{
+    if !words.distinct {
+        return columns(alloc, relations, &words.columns);
+    }
+    let shown = shown_columns(alloc, parts)?;
+    if shown.len() > u32::MAX as usize {
+        return Err(Refusal::Memory);
+    }
+    Ok(shown)
+}
+
 /// The lists with their names bound: the list first, then ORDER BY, then GROUP BY, then that what is shown and what orders is
 /// grouped.
 pub fn bound_lists(alloc: Global, relations: &Relations, words: &Words) -> Result<Lists, Refusal>
-    ensures { Conveys (λ m l. lists_of l ≡ m) (words_said relations.now words.now) result }
+    requires written { length words.now.columns.items < 2 ^ 32 }
+    ensures meaning { Conveys (λ m l. lists_of l ≡ m) (words_said relations.now words.now) result }
+    ensures few { IfOk result (λ l. length l.keys.items < 2 ^ 32) }
 {
     let mut parts = Vec::new(alloc);
     add_list(alloc, relations, &words.listed, &mut parts)?;
     let shown = shown_columns(alloc, &parts)?;
     let order = sort_items(alloc, relations, &shown, &words.sorts)?;
-    let keys = columns(alloc, relations, &words.columns)?;
+    let keys = keys(alloc, relations, words, &parts)?;
     let lists = Lists { parts, order, keys };
     match first_ungrouped(&lists, &words.sorts) {
         Some(word) => Err(Refusal::Fault(fault_at(Code::S18, word))),

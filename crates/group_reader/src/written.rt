@@ -35,5 +35,7 @@ pub struct Sorting {
 pub struct Words {
     pub listed: Vec<Listed>,
     pub columns: Vec<Column>,
+    /// Whether DISTINCT stands before the list.
+    pub distinct: bool,
     pub sorts: Vec<Sorting>,
 }

@@ -43,7 +43,7 @@ HasNames j = All (λ r. IsName r.1) j.range
 -- the name of a relation
 relation-named : (r : Relation) → AreNamed (words_of_relation r) → IsName (alias_or (source_of r).alias (source_of r).table).bytes
 relation-named (relation n no_alias) h = h.0 n refl
-relation-named (relation n (bare_alias a)) h = h.1.0 a refl
+relation-named (relation n (bare_alias a u)) h = h.1.0 a refl
 relation-named (relation n (as_alias k a)) h = h.1.1.0 a refl
 
 under-named : (taken : Bool) (j i : Joined) (t : TableNo) (alias : Spelled) (f : Fault) → IsName alias.bytes → HasNames j → cond taken (Err f) (Ok (record j { range = j.range ++ (t, alias.bytes) ∷ [] })) ≡ Ok i → HasNames i

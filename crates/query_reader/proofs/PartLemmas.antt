@@ -21,7 +21,7 @@ pub record AfterAs (a : Alias) (rest left : List Terminal) : Type 0 where
 
 pub after-as : (a : Alias) (rest left : List Terminal) (t : Token) → ends_alias rest ≡ true → t_key As t ∷ left ≡ words_of_alias a ++ rest → AfterAs a rest left
 after-as no_alias rest left t ends is = let absent = ap ends_alias is ∙ ends in absurd (cc (absent))
-after-as (bare_alias n) rest left t ends is = absurd (cc)
+after-as (bare_alias n u) rest left t ends is = absurd (cc)
 after-as (as_alias k n) rest left t ends is = record { name = n; alias = refl; words = cc }
 
 -- an alias without AS, or none
@@ -30,8 +30,8 @@ pub alias-found : (a : Alias) (rest old new : List Terminal) (found : Option Spe
     old ≡ words_of_alias a ++ rest → (found ≡ alias_of a) × (new ≡ rest)
 alias-found no_alias rest old new None ends absent given is = (refl, given.0 ∙ is)
 alias-found no_alias rest old new (Some s) ends absent (n, said, e) is = let not_so = ap ends_alias (sym e ∙ is) ∙ ends in absurd (cc (not_so))
-alias-found (bare_alias n) rest old new None ends absent given is = absurd (given.1 n rest is)
-alias-found (bare_alias n) rest old new (Some s) ends absent (m, said, e) is =
+alias-found (bare_alias n u) rest old new None ends absent given is = absurd (given.1 n rest is)
+alias-found (bare_alias n u) rest old new (Some s) ends absent (m, said, e) is =
     let same : t_name m ∷ new ≡ t_name n ∷ rest = sym e ∙ is in
     let name : m ≡ n = cc (same) in
     (ap Some (said ∙ ap spelled name), cc (same))

@@ -22,7 +22,7 @@ items_of ((_, o) ∷ os) = item_of o ∷ items_of os
 -- an alias, with or without AS
 abbrev pub alias_of : Alias → Option Spelled
 alias_of no_alias = None
-alias_of (bare_alias n) = Some (spelled n)
+alias_of (bare_alias n _) = Some (spelled n)
 alias_of (as_alias _ n) = Some (spelled n)
 
 -- a relation

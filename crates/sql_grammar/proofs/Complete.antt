@@ -1,12 +1,14 @@
 -- The walk takes every part of a statement.
 use Rattle.std.proofs.Common.{◌≡◌, ℕ, ◌+◌, ◌≤◌, true, List, [], ◌∷◌, ◌++◌, None, refl, sym, ap, ◌∙◌, arith, append_assoc, append-nil, nat_le}
 use Rattle.std.proofs.lemmas.Bool.{le-leb}
-use Rattle.sql_grammar.specs.Terminals.{Terminal, Said, t_key, t_mark, t_number, class_of}
-use Rattle.sql_grammar.specs.declared.class.Word.TheVariants.{Is}
+use Rattle.sql_lex.specs.declared.tokens.Token.{Token}
+use Rattle.sql_grammar.specs.Terminals.{Terminal, Ident, Said, free, t_key, t_mark, t_name, t_number, class_of}
+use Rattle.sql_grammar.specs.declared.class.Free.TheVariants.{Between, Full, In, Left, Natural, Outer, Right}
+use Rattle.sql_grammar.specs.declared.class.Word.TheVariants.{And, Is, Not}
 use Rattle.sql_grammar.specs.declared.class.Symbol.TheVariants.{Close, Dot}
 use Rattle.sql_grammar.specs.declared.table.Item.{Item}
-use Rattle.sql_grammar.specs.declared.table.Item.TheVariants.{Label, Ends, Nullness, MoreColumns, Negation, MoreAnds, MoreOrs, Closes, NotEnds, AfterName, AfterColumn, AfterTruth, Side, AfterQualifier, Result, MoreResults, AfterResult, MaybeAlias, MoreJoins, MoreGroups, MaybeWhere, MaybeCommon, MoreShares, MaybeHistogram, MoreBounds, Literal, Digits}
-use Rattle.sql_grammar.specs.Syntax.{Mark, bare, qualified, yes, no, unknown, Lit, number, negative, quoted, constant, Operand, column, literal, Expr, either_of, Ors, no_or, or_conj, Conj, both_of, Ands, no_and, and_neg, Neg, negated, plain, Atom, parens, compare, is_null, is_not_null, column_alone, constant_alone, Nulls, unwritten, not_null, nullable, ColDef, coldef, Output, every, every_of, one, Alias, no_alias, bare_alias, as_alias, Where, no_where, where_expr, Share, share, Common, no_common, common, Histogram, no_histogram, histogram, Ending, semicolon, text_end}
+use Rattle.sql_grammar.specs.declared.table.Item.TheVariants.{Keyword, Label, Ends, Nullness, MoreColumns, Negation, MoreAnds, MoreOrs, Closes, NotEnds, AfterName, AfterColumn, AfterTruth, Side, AfterQualifier, Result, MoreResults, AfterResult, MaybeAlias, MoreJoins, MoreGroups, MaybeWhere, MaybeCommon, MoreShares, MaybeHistogram, MoreBounds, Literal, Digits}
+use Rattle.sql_grammar.specs.Syntax.{Key, Mark, IsBareAlias, bare, qualified, yes, no, unknown, Lit, number, negative, quoted, constant, Operand, column, literal, Expr, either_of, Ors, no_or, or_conj, Conj, both_of, Ands, no_and, and_neg, Negated, no_not, not_before, Neg, negated, plain, Atom, parens, compare, is_null, is_not_null, in_list, between, column_alone, constant_alone, Nulls, unwritten, not_null, nullable, ColDef, coldef, Output, every, every_of, one, Alias, no_alias, bare_alias, as_alias, Where, no_where, where_expr, Share, share, Common, no_common, common, Histogram, no_histogram, histogram, Ending, semicolon, text_end}
 use Rattle.sql_grammar.specs.Words.{words_of_lit, words_of_operand, words_of_expr, words_of_ors, words_of_conj, words_of_ands, words_of_neg, words_of_atom, words_of_nulls, words_of_coldef, words_of_columns, words_of_output, words_of_outputs, words_of_alias, words_of_where, words_of_share, words_of_shares, words_of_common, words_of_bounds, words_of_histogram, words_of_ending, levels_of_where, levels_of_expr, levels_of_ors, levels_of_conj, levels_of_ands, levels_of_neg, levels_of_atom}
 use Rattle.sql_grammar.specs.Table.{takes_of, is_optional}
 use Rattle.sql_grammar.specs.Machine.{depth_of, takes_all}
@@ -25,6 +27,8 @@ truth-passes : (ts : List Terminal) → Passes AfterName ts → Passes AfterTrut
 truth-passes [] p = tt
 truth-passes (t_mark Dot _ ∷ ts) p = refl
 truth-passes (t_key Is _ ∷ ts) p = refl
+truth-passes (t_key Not _ ∷ ts) p = absurd (cc (p))
+truth-passes (t_name (free In _) ∷ ts) p = refl
 truth-passes (_ ∷ ts) p = p
 
 pub qualifier-passes : (ts : List Terminal) → Passes AfterName ts → Passes AfterQualifier ts
@@ -90,6 +94,52 @@ module _ (limit : ℕ) where
   compared (literal (constant no k)) op r s ts p = side r s ts p
   compared (literal (constant unknown k)) op r s ts p = side r s ts p
 
+  lit : (l : Lit) (s : List Item) (ts : List Terminal) → takes_all limit (words_of_lit l ++ ts) (Literal ∷ s) ≡ takes_all limit ts s
+  lit (number n) s ts = refl
+  lit (negative m n) s ts = refl
+  lit (quoted q) s ts = refl
+  lit (constant yes k) s ts = refl
+  lit (constant no k) s ts = refl
+  lit (constant unknown k) s ts = refl
+
+  bounds : (l : Lit) (ls : List (Mark × Lit)) (m : Mark) (s : List Item) (ts : List Terminal) →
+      takes_all limit (words_of_lit l ++ (words_of_bounds ls ++ t_mark Close m ∷ ts)) (Literal ∷ MoreBounds ∷ s) ≡ takes_all limit ts s
+  bounds l [] m s ts = lit l (MoreBounds ∷ s) (t_mark Close m ∷ ts)
+  bounds l ((c, k) ∷ ls) m s ts =
+      lit l (MoreBounds ∷ s) (words_of_bounds ((c, k) ∷ ls) ++ t_mark Close m ∷ ts) ∙ (apart (words_of_lit k) (words_of_bounds ls) (t_mark Close m ∷ ts) _ ∙ bounds k ls m s ts)
+
+  -- the rest of a list
+  listed : (l : Lit) (ls : List (Mark × Lit)) (m : Mark) (s : List Item) (ts : List Terminal) →
+      takes_all limit ((words_of_lit l ++ (words_of_bounds ls ++ t_mark Close m ∷ [])) ++ ts) (Literal ∷ MoreBounds ∷ s) ≡ takes_all limit ts s
+  listed l ls m s ts =
+      apart (words_of_lit l) (words_of_bounds ls ++ t_mark Close m ∷ []) ts _ ∙
+      (ap (λ x. takes_all limit (words_of_lit l ++ x) (Literal ∷ MoreBounds ∷ s)) (append_assoc (words_of_bounds ls) (t_mark Close m ∷ []) ts) ∙ bounds l ls m s ts)
+
+  -- the two sides behind BETWEEN
+  ranged : (a b : Operand) (j : Key) (s : List Item) (ts : List Terminal) → Passes AfterQualifier ts →
+      takes_all limit ((words_of_operand a ++ t_key And j ∷ words_of_operand b) ++ ts) (Side ∷ Keyword And ∷ Side ∷ s) ≡ takes_all limit ts s
+  ranged a b j s ts p =
+      apart (words_of_operand a) (t_key And j ∷ words_of_operand b) ts _ ∙ (side a (Keyword And ∷ Side ∷ s) (t_key And j ∷ (words_of_operand b ++ ts)) refl ∙ side b s ts p)
+
+  between-sides : (l : Operand) (z : Negated) (w : Token) (a : Operand) (j : Key) (b : Operand) (s : List Item) (ts : List Terminal) → Passes AfterQualifier ts →
+      takes_all limit (words_of_atom (between tt l z w a j b) ++ ts) (Negation ∷ s) ≡ takes_all limit ts s
+  between-sides (column (bare n)) no_not w a j b s ts p = ranged a b j s ts p
+  between-sides (column (bare n)) (not_before e) w a j b s ts p = ranged a b j s ts p
+  between-sides (column (qualified q d n)) no_not w a j b s ts p = ranged a b j s ts p
+  between-sides (column (qualified q d n)) (not_before e) w a j b s ts p = ranged a b j s ts p
+  between-sides (literal (number n)) no_not w a j b s ts p = ranged a b j s ts p
+  between-sides (literal (number n)) (not_before e) w a j b s ts p = ranged a b j s ts p
+  between-sides (literal (negative m n)) no_not w a j b s ts p = ranged a b j s ts p
+  between-sides (literal (negative m n)) (not_before e) w a j b s ts p = ranged a b j s ts p
+  between-sides (literal (quoted q)) no_not w a j b s ts p = ranged a b j s ts p
+  between-sides (literal (quoted q)) (not_before e) w a j b s ts p = ranged a b j s ts p
+  between-sides (literal (constant yes k)) no_not w a j b s ts p = ranged a b j s ts p
+  between-sides (literal (constant yes k)) (not_before e) w a j b s ts p = ranged a b j s ts p
+  between-sides (literal (constant no k)) no_not w a j b s ts p = ranged a b j s ts p
+  between-sides (literal (constant no k)) (not_before e) w a j b s ts p = ranged a b j s ts p
+  between-sides (literal (constant unknown k)) no_not w a j b s ts p = ranged a b j s ts p
+  between-sides (literal (constant unknown k)) (not_before e) w a j b s ts p = ranged a b j s ts p
+
   mutual
     pub expr : (e : Expr) (s : List Item) (ts : List Terminal) → levels_of_expr e + depth_of s ≤ limit → EndsExpr ts →
         takes_all limit (words_of_expr e ++ ts) (Negation ∷ MoreAnds ∷ MoreOrs ∷ s) ≡ takes_all limit ts s
@@ -131,6 +181,11 @@ module _ (limit : ℕ) where
     atom (is_null (qualified q d n) i k) s ts low p = refl
     atom (is_not_null (bare n) i e k) s ts low p = refl
     atom (is_not_null (qualified q d n) i e k) s ts low p = refl
+    atom (in_list u (bare n) no_not w o l ls m) s ts low p = listed l ls m s ts
+    atom (in_list u (bare n) (not_before e) w o l ls m) s ts low p = listed l ls m s ts
+    atom (in_list u (qualified q d n) no_not w o l ls m) s ts low p = listed l ls m s ts
+    atom (in_list u (qualified q d n) (not_before e) w o l ls m) s ts low p = listed l ls m s ts
+    atom (between u l z w a j b) s ts low p = between-sides l z w a j b s ts (qualifier-passes ts p)
     atom (column_alone (bare n)) s ts low p = skip AfterName s ts refl p
     atom (column_alone (qualified q d n)) s ts low p = skip AfterColumn s ts refl (column-passes ts p)
     atom (constant_alone yes k) s ts low p = skip AfterTruth s ts refl (truth-passes ts p)
@@ -168,23 +223,23 @@ module _ (limit : ℕ) where
   outputs o ((m, o') ∷ os) s ts p q =
       output o (MoreResults ∷ s) (words_of_outputs ((m, o') ∷ os) ++ ts) refl ∙ (apart (words_of_output o') (words_of_outputs os) ts _ ∙ outputs o' os s ts p q)
 
+  named-alias : (n : Ident) → IsBareAlias n → (s : List Item) (ts : List Terminal) → takes_all limit (t_name n ∷ ts) (MaybeAlias ∷ s) ≡ takes_all limit ts s
+  named-alias (free Full t) ok s ts = absurd ok
+  named-alias (free Left t) ok s ts = absurd ok
+  named-alias (free Natural t) ok s ts = absurd ok
+  named-alias (free Outer t) ok s ts = absurd ok
+  named-alias (free Right t) ok s ts = absurd ok
+  named-alias n ok s ts = refl
+
   pub alias : (a : Alias) (s : List Item) (ts : List Terminal) → Passes MaybeAlias ts → takes_all limit (words_of_alias a ++ ts) (MaybeAlias ∷ s) ≡ takes_all limit ts s
   alias no_alias s ts p = skip MaybeAlias s ts refl p
-  alias (bare_alias n) s ts p = refl
+  alias (bare_alias n ok) s ts p = named-alias n ok s ts
   alias (as_alias k n) s ts p = refl
 
   pub condition : (w : Where) (s : List Item) (ts : List Terminal) → levels_of_where w + depth_of s ≤ limit → Passes MaybeWhere ts → EndsExpr ts →
       takes_all limit (words_of_where w ++ ts) (MaybeWhere ∷ s) ≡ takes_all limit ts s
   condition no_where s ts low p q = skip MaybeWhere s ts refl p
   condition (where_expr k e) s ts low p q = expr e s ts low q
-
-  lit : (l : Lit) (s : List Item) (ts : List Terminal) → takes_all limit (words_of_lit l ++ ts) (Literal ∷ s) ≡ takes_all limit ts s
-  lit (number n) s ts = refl
-  lit (negative m n) s ts = refl
-  lit (quoted q) s ts = refl
-  lit (constant yes k) s ts = refl
-  lit (constant no k) s ts = refl
-  lit (constant unknown k) s ts = refl
 
   shares : (x : Share) (xs : List (Mark × Share)) (m : Mark) (s : List Item) (ts : List Terminal) →
       takes_all limit (words_of_share x ++ (words_of_shares xs ++ t_mark Close m ∷ ts)) (Literal ∷ Digits ∷ MoreShares ∷ s) ≡ takes_all limit ts s
@@ -199,12 +254,6 @@ module _ (limit : ℕ) where
   common-values (common k o x xs m) s ts p =
       apart (words_of_share x) (words_of_shares xs ++ t_mark Close m ∷ []) ts _ ∙
       (ap (λ l. takes_all limit (words_of_share x ++ l) (Literal ∷ Digits ∷ MoreShares ∷ s)) (append_assoc (words_of_shares xs) (t_mark Close m ∷ []) ts) ∙ shares x xs m s ts)
-
-  bounds : (l : Lit) (ls : List (Mark × Lit)) (m : Mark) (s : List Item) (ts : List Terminal) →
-      takes_all limit (words_of_lit l ++ (words_of_bounds ls ++ t_mark Close m ∷ ts)) (Literal ∷ MoreBounds ∷ s) ≡ takes_all limit ts s
-  bounds l [] m s ts = lit l (MoreBounds ∷ s) (t_mark Close m ∷ ts)
-  bounds l ((c, k) ∷ ls) m s ts =
-      lit l (MoreBounds ∷ s) (words_of_bounds ((c, k) ∷ ls) ++ t_mark Close m ∷ ts) ∙ (apart (words_of_lit k) (words_of_bounds ls) (t_mark Close m ∷ ts) _ ∙ bounds k ls m s ts)
 
   pub histograms : (h : Histogram) (s : List Item) (ts : List Terminal) → Passes MaybeHistogram ts → takes_all limit (words_of_histogram h ++ ts) (MaybeHistogram ∷ s) ≡ takes_all limit ts s
   histograms no_histogram s ts p = skip MaybeHistogram s ts refl p

@@ -5,15 +5,18 @@ use Rattle.sql_lex.specs.declared.tokens.Token.{Token}
 use Rattle.sql_lex.specs.declared.tokens.Kind.{Kind}
 use Rattle.sql_lex.specs.declared.tokens.Kind.TheVariants.{Word as WordKind, Number as NumberKind, Quoted as QuotedKind, Symbol as SymbolKind, End as EndKind}
 use Rattle.sql_grammar.specs.declared.class.Free.{Free}
+use Rattle.sql_grammar.specs.declared.class.Free.TheVariants.{Between, In}
 use Rattle.sql_grammar.specs.declared.class.Word.{Word}
 use Rattle.sql_grammar.specs.declared.class.Word.TheVariants.{And, False, Is, Not, Null, True}
-use Rattle.sql_grammar.specs.declared.class.Symbol.TheVariants.{Open, Close, Dot, Minus}
-use Rattle.sql_grammar.specs.Terminals.{Terminal, Ident, token_of, t_key, t_mark, t_name, t_number, t_quoted, t_operator}
+use Rattle.sql_grammar.specs.declared.class.Symbol.TheVariants.{Open, Close, Comma, Dot, Minus}
+use Rattle.sql_grammar.specs.declared.offered.TheConstants.{READS_LISTS}
+use Rattle.sql_grammar.specs.Terminals.{Terminal, Ident, free, token_of, t_key, t_mark, t_name, t_number, t_quoted, t_operator}
 use Rattle.sql_grammar.specs.Reading.{terminal_by, word_terminal, symbol_terminal, ident_of, free_of, reserved_of, bytes_of_token}
 use Rattle.sql_grammar.specs.Faults.{terminals}
-use Rattle.sql_grammar.specs.Syntax.{bare, qualified, yes, no, unknown, number, negative, quoted, constant, Operand, column, literal, Expr, either_of, Ors, no_or, or_conj, Conj, both_of, Ands, no_and, and_neg, Neg, negated, plain, Atom, parens, compare, is_null, is_not_null, column_alone, constant_alone}
+use Rattle.sql_grammar.specs.Syntax.{IsOffered, Mark, Lit, bare, qualified, yes, no, unknown, number, negative, quoted, constant, Operand, column, literal, Expr, either_of, Ors, no_or, or_conj, Conj, both_of, Ands, no_and, and_neg, Negated, no_not, not_before, Neg, negated, plain, Atom, parens, compare, is_null, is_not_null, in_list, between, column_alone, constant_alone}
 use Rattle.sql_grammar.specs.Unique.{token_in, ends_operand, ends_atom, ends_conj, ends_expr, is_parens, front, tail}
-use Rattle.sql_grammar.specs.Words.{words_of_col, words_of_operand, words_of_expr, words_of_ors, words_of_conj, words_of_ands, words_of_neg, words_of_atom}
+use Rattle.sql_grammar.specs.Words.{words_of_lit, words_of_bounds, words_of_negated, words_of_col, words_of_operand, words_of_expr, words_of_ors, words_of_conj, words_of_ands, words_of_neg, words_of_atom}
+use Rattle.sql_grammar.proofs.ListLemmas.{one_list}
 
 pub named-token : (o : Option Free) (small : List ℕ) (t : Token) → token_of (ident_of o small t) ≡ t
 named-token (Some w) small t = refl
@@ -55,12 +58,18 @@ atom-dotless _ h = refl
 
 pub conj-atom : (x : List Terminal) → ends_conj x ≡ true → ends_atom x ≡ true
 conj-atom (t_mark Dot _ ∷ x) h = absurd (cc)
+conj-atom (t_key Not _ ∷ x) h = absurd (cc)
+conj-atom (t_name (free In _) ∷ x) h = absurd (cc)
+conj-atom (t_name (free Between _) ∷ x) h = absurd (cc)
 conj-atom (t_key Is _ ∷ x) h = absurd (cc)
 conj-atom (t_operator _ ∷ x) h = absurd (cc)
 conj-atom _ h = refl
 
 pub expr-conj : (x : List Terminal) → ends_expr x ≡ true → ends_conj x ≡ true
 expr-conj (t_mark Dot _ ∷ x) h = absurd (cc)
+expr-conj (t_key Not _ ∷ x) h = absurd (cc)
+expr-conj (t_name (free In _) ∷ x) h = absurd (cc)
+expr-conj (t_name (free Between _) ∷ x) h = absurd (cc)
 expr-conj (t_key Is _ ∷ x) h = absurd (cc)
 expr-conj (t_operator _ ∷ x) h = absurd (cc)
 expr-conj (t_key And _ ∷ x) h = absurd (cc)
@@ -189,6 +198,8 @@ parted (parens o e c) x h = absurd (cc)
 parted (compare l op r) x h = append_assoc (words_of_operand l) (t_operator op ∷ words_of_operand r) x
 parted (is_null c i k) x h = append_assoc (words_of_col c) (t_key Is i ∷ t_key Null k ∷ []) x
 parted (is_not_null c i n k) x h = append_assoc (words_of_col c) (t_key Is i ∷ t_key Not n ∷ t_key Null k ∷ []) x
+parted (in_list u c n w o l ls m) x h = simp append_assoc
+parted (between u l n w a j b) x h = simp append_assoc
 parted (column_alone c) x h = refl
 parted (constant_alone c k) x h = refl
 
@@ -197,6 +208,10 @@ tail-dotless (parens o e c) x h = atom-dotless x h
 tail-dotless (compare l op r) x h = refl
 tail-dotless (is_null c i k) x h = refl
 tail-dotless (is_not_null c i n k) x h = refl
+tail-dotless (in_list u c no_not w o l ls m) x h = refl
+tail-dotless (in_list u c (not_before k) w o l ls m) x h = refl
+tail-dotless (between u l no_not w a j b) x h = refl
+tail-dotless (between u l (not_before k) w a j b) x h = refl
 tail-dotless (column_alone c) x h = atom-dotless x h
 tail-dotless (constant_alone c k) x h = atom-dotless x h
 
@@ -204,17 +219,26 @@ abbrev tail_kind : List Terminal → ℕ
 tail_kind (t_operator op ∷ x) = 1
 tail_kind (t_key Is i ∷ t_key Not n ∷ x) = 3
 tail_kind (t_key Is i ∷ x) = 2
+tail_kind (t_name (free In w) ∷ x) = 4
+tail_kind (t_key Not n ∷ t_name (free In w) ∷ x) = 4
+tail_kind (t_name (free Between w) ∷ x) = 5
+tail_kind (t_key Not n ∷ t_name (free Between w) ∷ x) = 5
 tail_kind _ = 0
 
 abbrev atom_kind : Atom → ℕ
 atom_kind (compare l op r) = 1
 atom_kind (is_null c i k) = 2
 atom_kind (is_not_null c i n k) = 3
+atom_kind (in_list u c z w o l ls m) = 4
+atom_kind (between u l z w a j b) = 5
 atom_kind _ = 0
 
 alone-kind : (x : List Terminal) → ends_atom x ≡ true → tail_kind x ≡ 0
 alone-kind (t_operator op ∷ x) h = absurd (cc)
 alone-kind (t_key Is i ∷ x) h = absurd (cc)
+alone-kind (t_key Not n ∷ x) h = absurd (cc)
+alone-kind (t_name (free In w) ∷ x) h = absurd (cc)
+alone-kind (t_name (free Between w) ∷ x) h = absurd (cc)
 alone-kind _ h = refl
 
 tail-kind : (a : Atom) (x : List Terminal) → ends_atom x ≡ true → tail_kind (tail a x) ≡ atom_kind a
@@ -222,8 +246,49 @@ tail-kind (parens o e c) x h = alone-kind x h
 tail-kind (compare l op r) x h = refl
 tail-kind (is_null c i k) x h = refl
 tail-kind (is_not_null c i n k) x h = refl
+tail-kind (in_list u c no_not w o l ls m) x h = refl
+tail-kind (in_list u c (not_before k) w o l ls m) x h = refl
+tail-kind (between u l no_not w a j b) x h = refl
+tail-kind (between u l (not_before k) w a j b) x h = refl
 tail-kind (column_alone c) x h = alone-kind x h
 tail-kind (constant_alone c k) x h = alone-kind x h
+
+pub one_offered : (b : Bool) (p q : IsOffered b) → p ≡ q
+one_offered true p q = refl
+one_offered false p q = absurd p
+
+pub one_lit : (a b : Lit) (x y : List Terminal) → ends_operand x ≡ true → ends_operand y ≡ true → words_of_lit a ++ x ≡ words_of_lit b ++ y → (a ≡ b) × (x ≡ y)
+one_lit a b x y h k e = let (first, rest) = one_operand (literal a) (literal b) x y h k e in (cc (first), rest)
+
+-- further literals and what closes them
+abbrev pub bounds_closed : List (Mark × Lit) → Mark → List Terminal → List Terminal
+bounds_closed ls m x = words_of_bounds ls ++ t_mark Close m ∷ x
+
+pub bounds-end : (ls : List (Mark × Lit)) (m : Mark) (x : List Terminal) → ends_operand (bounds_closed ls m x) ≡ true
+bounds-end [] m x = refl
+bounds-end ((t, l) ∷ ls) m x = refl
+
+pub one_bounds : (ls us : List (Mark × Lit)) (m n : Mark) (x y : List Terminal) → bounds_closed ls m x ≡ bounds_closed us n y → (ls ≡ us) × (m ≡ n) × (x ≡ y)
+one_bounds = one_list Lit words_of_lit words_of_bounds (t_mark Close) ends_operand (λ m x. refl)
+    (λ t l ls m x. ap (λ v. t_mark Comma t ∷ v) (append_assoc (words_of_lit l) (words_of_bounds ls) (t_mark Close m ∷ x)))
+    (λ m n x y e. cc (e)) (λ m t x y e. absurd (cc (e))) bounds-end one_lit
+
+-- a list behind its `(`
+one_listed : (l k : Lit) (ls ks : List (Mark × Lit)) (m n : Mark) (x y : List Terminal) → words_of_lit l ++ bounds_closed ls m x ≡ words_of_lit k ++ bounds_closed ks n y →
+    (l ≡ k) × (ls ≡ ks) × (m ≡ n) × (x ≡ y)
+one_listed l k ls ks m n x y e =
+    let (first, more) = one_lit l k (bounds_closed ls m x) (bounds_closed ks n y) (bounds-end ls m x) (bounds-end ks n y) e in
+    let (others, close, rest) = one_bounds ls ks m n x y more in
+    (first, others, close, rest)
+
+-- the two sides behind BETWEEN
+one_ranged : (a b c d : Operand) (j k : Token) (x y : List Terminal) → ends_operand x ≡ true → ends_operand y ≡ true →
+    words_of_operand a ++ t_key And j ∷ (words_of_operand b ++ x) ≡ words_of_operand c ++ t_key And k ∷ (words_of_operand d ++ y) → (a ≡ c) × (j ≡ k) × (b ≡ d) × (x ≡ y)
+one_ranged a b c d j k x y h i e =
+    let (low, more) = one_operand a c (t_key And j ∷ (words_of_operand b ++ x)) (t_key And k ∷ (words_of_operand d ++ y)) refl refl e in
+    let word : j ≡ k = cc (more) in
+    let (high, rest) = one_operand b d x y h i (ap (drop 1) more) in
+    (low, word, high, rest)
 
 flat-by : (a b : Atom) (x y : List Terminal) → is_parens a ≡ false → is_parens b ≡ false → atom_kind a ≡ atom_kind b → front a ≡ front b → ends_operand x ≡ true → ends_operand y ≡ true →
     tail a x ≡ tail b y → (a ≡ b) × (x ≡ y)
@@ -236,6 +301,26 @@ flat-by (is_null c j n) (is_null d u m) x y p q k f h i t =
     let col : c ≡ d = cc (f) in let key : j ≡ u = cc (t) in let null : n ≡ m = cc (t) in (cc (col, key, null), ap (drop 2) t)
 flat-by (is_not_null c j w n) (is_not_null d u v m) x y p q k f h i t =
     let col : c ≡ d = cc (f) in let key : j ≡ u = cc (t) in let negates : w ≡ v = cc (t) in let null : n ≡ m = cc (t) in (cc (col, key, negates, null), ap (drop 3) t)
+flat-by (in_list u c no_not w o l ls m) (in_list v d no_not r g e es n) x y p q k f h i t =
+    let col : c ≡ d = cc (f) in let word : w ≡ r = cc (t) in let mark : o ≡ g = cc (t) in
+    let (first, others, close, rest) = one_listed l e ls es m n x y (ap (drop 2) t) in
+    (cc (one_offered READS_LISTS u v, col, word, mark, first, others, close), rest)
+flat-by (in_list u c (not_before z) w o l ls m) (in_list v d (not_before b) r g e es n) x y p q k f h i t =
+    let col : c ≡ d = cc (f) in let negates : z ≡ b = cc (t) in let word : w ≡ r = cc (t) in let mark : o ≡ g = cc (t) in
+    let (first, others, close, rest) = one_listed l e ls es m n x y (ap (drop 3) t) in
+    (cc (one_offered READS_LISTS u v, col, negates, word, mark, first, others, close), rest)
+flat-by (between u l no_not w a j b) (between v o no_not r c g d) x y p q k f h i t =
+    let word : w ≡ r = cc (t) in
+    let (low, and', high, rest) = one_ranged a b c d j g x y h i (ap (drop 1) t) in
+    (cc (one_offered READS_LISTS u v, f, word, low, and', high), rest)
+flat-by (between u l (not_before z) w a j b) (between v o (not_before e) r c g d) x y p q k f h i t =
+    let negates : z ≡ e = cc (t) in let word : w ≡ r = cc (t) in
+    let (low, and', high, rest) = one_ranged a b c d j g x y h i (ap (drop 2) t) in
+    (cc (one_offered READS_LISTS u v, f, negates, word, low, and', high), rest)
+flat-by (in_list u c no_not w o l ls m) (in_list v d (not_before b) r g e es n) x y p q k f h i t = absurd (cc (t))
+flat-by (in_list u c (not_before z) w o l ls m) (in_list v d no_not r g e es n) x y p q k f h i t = absurd (cc (t))
+flat-by (between u l no_not w a j b) (between v o (not_before e) r c g d) x y p q k f h i t = absurd (cc (t))
+flat-by (between u l (not_before z) w a j b) (between v o no_not r c g d) x y p q k f h i t = absurd (cc (t))
 flat-by (column_alone c) (column_alone d) x y p q k f h i t = let col : c ≡ d = cc (f) in (ap column_alone col, t)
 flat-by (constant_alone c n) (constant_alone d m) x y p q k f h i t = let const : c ≡ d = cc (f) in let key : n ≡ m = cc (f) in (cc (const, key), t)
 flat-by (column_alone c) (constant_alone d m) x y p q k f h i t = absurd (cc (f))
@@ -340,11 +425,15 @@ mutual
   one_atom (parens o c m) (compare l op r) x y h k e = absurd (no-parens (parens o c m) (compare l op r) x y refl refl e)
   one_atom (parens o c m) (is_null d i n) x y h k e = absurd (no-parens (parens o c m) (is_null d i n) x y refl refl e)
   one_atom (parens o c m) (is_not_null d i w n) x y h k e = absurd (no-parens (parens o c m) (is_not_null d i w n) x y refl refl e)
+  one_atom (parens o c m) (in_list u d z w p l ls n) x y h k e = absurd (no-parens (parens o c m) (in_list u d z w p l ls n) x y refl refl e)
+  one_atom (parens o c m) (between u l z w a j b) x y h k e = absurd (no-parens (parens o c m) (between u l z w a j b) x y refl refl e)
   one_atom (parens o c m) (column_alone d) x y h k e = absurd (no-parens (parens o c m) (column_alone d) x y refl refl e)
   one_atom (parens o c m) (constant_alone d i) x y h k e = absurd (no-parens (parens o c m) (constant_alone d i) x y refl refl e)
   one_atom (compare l op r) b x y h k e = flat-first (is_parens b) (compare l op r) b x y refl refl h k e
   one_atom (is_null c i n) b x y h k e = flat-first (is_parens b) (is_null c i n) b x y refl refl h k e
   one_atom (is_not_null c i w n) b x y h k e = flat-first (is_parens b) (is_not_null c i w n) b x y refl refl h k e
+  one_atom (in_list u c z w o l ls m) b x y h k e = flat-first (is_parens b) (in_list u c z w o l ls m) b x y refl refl h k e
+  one_atom (between u l z w a j d) b x y h k e = flat-first (is_parens b) (between u l z w a j d) b x y refl refl h k e
   one_atom (column_alone c) b x y h k e = flat-first (is_parens b) (column_alone c) b x y refl refl h k e
   one_atom (constant_alone c n) b x y h k e = flat-first (is_parens b) (constant_alone c n) b x y refl refl h k e
 

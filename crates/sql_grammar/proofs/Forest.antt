@@ -2,11 +2,11 @@
 use Rattle.std.proofs.Common.{◌≡◌, ℕ, ◌+◌, ◌≤◌, List, [], ◌∷◌, ◌++◌, Option, Some, None}
 use Rattle.sql_lex.specs.declared.tokens.Token.{Token}
 use Rattle.sql_grammar.specs.Terminals.{Terminal, t_key, t_mark, t_name, t_number, t_quoted, t_semicolon, Ident, Said, free}
-use Rattle.sql_grammar.specs.declared.class.Word.TheVariants.{Create, From, Is, Select as SelectKey}
-use Rattle.sql_grammar.specs.declared.class.Free.TheVariants.{Explain, Nulls as NullsWord, Statistics}
+use Rattle.sql_grammar.specs.declared.class.Word.TheVariants.{Create, From, Is, Not, Select as SelectKey}
+use Rattle.sql_grammar.specs.declared.class.Free.TheVariants.{Distinct, Explain, Nulls as NullsWord, Statistics}
 use Rattle.sql_grammar.specs.declared.class.Symbol.TheVariants.{Close, Comma, Dot}
 use Rattle.sql_grammar.specs.declared.table.Item.{Item}
-use Rattle.sql_grammar.specs.declared.table.Item.TheVariants.{Keyword, Sign, FreeWord, Label, Digits, QuotedText, Whole, Ends, Stop, Query, Nullness, MoreColumns, Result, MoreResults, AfterResult, StarOrLabel, MaybeAlias, MoreJoins, MoreGroups, MaybeWhere, Figures, MaybeCommon, MoreShares, MaybeHistogram, MoreBounds, Literal, Negation, MoreAnds, MoreOrs, Closes, NotEnds, AfterName, AfterColumn, AfterIs, AfterLiteral, AfterTruth, Side, AfterQualifier, MaybeOrder, MoreOrderings, MaybeLimit, MaybeOffset, MaybeDirection, MaybeNulls, FirstOrLast, AfterCreate, MaybeUsing, MaybeClass, MoreKeys, MaybeInclude, MoreNames, AfterExplain, Candidate, MoreCands, AdvisedSelect, MoreAdvised, PlainItem, AfterPlain, PlainNext, PlainTail, GroupedItem, AfterGroupedName, MoreGroupedItems, Argument, MaybeGroup, MoreGroupColumns}
+use Rattle.sql_grammar.specs.declared.table.Item.TheVariants.{Keyword, Sign, FreeWord, Label, Digits, QuotedText, Whole, Ends, Stop, Query, Nullness, MoreColumns, Result, MoreResults, AfterResult, StarOrLabel, MaybeAlias, MoreJoins, MoreGroups, MaybeWhere, Figures, MaybeCommon, MoreShares, MaybeHistogram, MoreBounds, Literal, Negation, MoreAnds, MoreOrs, Closes, NotEnds, AfterName, AfterColumn, AfterNot, AfterIs, AfterLiteral, AfterTruth, Side, AfterQualifier, MaybeOrder, MoreOrderings, MaybeLimit, MaybeOffset, MaybeDirection, MaybeNulls, FirstOrLast, AfterCreate, MaybeUsing, MaybeClass, MoreKeys, MaybeInclude, MoreNames, AfterExplain, Candidate, MoreCands, AdvisedSelect, MoreAdvised, FirstItem, AfterDistinct, PlainItem, AfterPlain, PlainNext, PlainTail, GroupedItem, AfterGroupedName, MoreGroupedItems, Argument, MaybeGroup, MoreGroupColumns}
 use Rattle.sql_grammar.specs.Syntax.{Key, Mark, Col, Constant, Lit, constant, Operand, Ors, Ands, Neg, Atom, Nulls, ColDef, Output, Alias, Join, Group, Where, Select, Share, Common, Histogram, Ending, Statement}
 use Rattle.sql_grammar.specs.Words.{words_of, words_of_col, words_of_lit, words_of_operand, words_of_ors, words_of_ands, words_of_neg, words_of_atom, words_of_nulls, words_of_columns, words_of_output, words_of_outputs, words_of_alias, words_of_joins, words_of_groups, words_of_where, words_of_select, words_of_common, words_of_shares, words_of_histogram, words_of_bounds, words_of_ending, levels_of, levels_of_joins, levels_of_groups, levels_of_where, levels_of_select, levels_of_ors, levels_of_ands, levels_of_neg, levels_of_atom}
 use Rattle.sql_grammar.specs.Syntax.{Direction, NullsEnd, Ordering, OrderBy, Limit, Offset}
@@ -75,6 +75,7 @@ kind_of limit depth Closes = (Mark, λ m. t_mark Close m ∷ [])
 kind_of limit depth NotEnds = (Unit {0}, λ p. [])
 kind_of limit depth AfterName = behind (λ ts. (n : Ident) → Atom_after (t_name n ∷ []) ts)
 kind_of limit depth AfterColumn = behind (λ ts. (c : Col) → Atom_after (words_of_col c) ts)
+kind_of limit depth AfterNot = behind (λ ts. (c : Col) (k : Key) → Atom_after (words_of_col c) (t_key Not k ∷ ts))
 kind_of limit depth AfterIs = behind (λ ts. (c : Col) (k : Key) → Atom_after (words_of_col c) (t_key Is k ∷ ts))
 kind_of limit depth AfterLiteral = behind (λ ts. (l : Lit) → Atom_after (words_of_lit l) ts)
 kind_of limit depth AfterTruth = behind (λ ts. (c : Constant) (k : Key) → Atom_after (words_of_lit (constant c k)) ts)
@@ -112,6 +113,8 @@ kind_of limit depth Candidate = within limit depth Cand levels_of_cand words_of_
 kind_of limit depth MoreCands = ((x : List (Mark × Cand)) × (levels_of_cands x + depth ≤ limit) × Mark, λ p. words_of_cands p.0 ++ t_mark Close p.2 ∷ [])
 kind_of limit depth AdvisedSelect = within limit depth Advised levels_of_advised words_of_advised
 kind_of limit depth MoreAdvised = within limit depth (List Advised) levels_of_more_advised words_of_more_advised
+kind_of limit depth FirstItem = behind (λ ts. (x : MaybeExplain) (k : Key) → Statement_of limit depth (begun x k [] ts))
+kind_of limit depth AfterDistinct = behind (λ ts. (x : MaybeExplain) (k : Key) (d : Token) → Statement_of limit depth (begun x k [] (t_name (free Distinct d) ∷ ts)))
 kind_of limit depth PlainItem = behind (λ ts. (x : MaybeExplain) (k : Key) (led : List (Output × Mark)) → Statement_of limit depth (begun x k led ts))
 kind_of limit depth AfterPlain = behind (λ ts. (x : MaybeExplain) (k : Key) (led : List (Output × Mark)) (n : Ident) → Statement_of limit depth (begun x k led (t_name n ∷ ts)))
 kind_of limit depth PlainNext = behind (λ ts. (x : MaybeExplain) (k : Key) (led : List (Output × Mark)) (o : Output) → Statement_of limit depth (begun x k led (words_of_output o ++ ts)))

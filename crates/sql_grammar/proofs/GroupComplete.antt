@@ -2,16 +2,16 @@
 use Rattle.std.proofs.Common.{◌≡◌, ℕ, ◌≤◌, Bool, true, false, ◌||◌, List, [], ◌∷◌, ◌++◌, Some, None, refl, ap, ◌∙◌, arith, cond}
 use Rattle.sql_lex.specs.declared.tokens.Token.{Token}
 use Rattle.sql_grammar.specs.Terminals.{Terminal, Said, free, t_key, t_mark, t_name, t_number}
-use Rattle.sql_grammar.specs.declared.class.Free.TheVariants.{By}
+use Rattle.sql_grammar.specs.declared.class.Free.TheVariants.{Distinct, By}
 use Rattle.sql_grammar.specs.declared.class.Word.TheVariants.{From, Table}
 use Rattle.sql_grammar.specs.declared.class.Symbol.TheVariants.{Close, Comma}
 use Rattle.sql_grammar.specs.declared.offered.TheConstants.{READS_GROUPS, READS_TABLE, READS_WINDOW}
 use Rattle.sql_grammar.specs.declared.table.Item.{Item}
-use Rattle.sql_grammar.specs.declared.table.Item.TheVariants.{Keyword, Sign, FreeWord, Label, Digits, Whole, Ends, Query, MaybeAlias, MoreJoins, MoreGroups, MaybeWhere, AfterQualifier, MaybeOrder, MaybeLimit, MaybeOffset, PlainItem, PlainTail, GroupedItem, AfterGroupedName, MoreGroupedItems, Argument, MaybeGroup, MoreGroupColumns}
-use Rattle.sql_grammar.specs.Syntax.{IsOffered, Key, Mark, Col, bare, qualified, Output, every, every_of, one, Group, Where, Select, select_from, Ending, semicolon, text_end, OrderBy, no_order, order_by, no_limit, most_rows, Offset, no_offset, skipped_rows, Window, window, no_explain, explain, explain_table, OrderedSelect, ordered_select, Argument as ArgumentTree, all_rows, of_col, GroupedItem as ItemTree, plain_item, call, GroupBy, no_group_by, group_by, is_call, has_call, is_written, Holds, GroupedSelect, grouped_select}
+use Rattle.sql_grammar.specs.declared.table.Item.TheVariants.{MoreResults, Result, AfterDistinct, FirstItem, Keyword, Sign, FreeWord, Label, Digits, Whole, Ends, Query, MaybeAlias, MoreJoins, MoreGroups, MaybeWhere, AfterQualifier, MaybeOrder, MaybeLimit, MaybeOffset, PlainItem, PlainTail, GroupedItem, AfterGroupedName, MoreGroupedItems, Argument, MaybeGroup, MoreGroupColumns}
+use Rattle.sql_grammar.specs.Syntax.{IsOffered, Key, Mark, Col, bare, qualified, Output, every, every_of, one, Group, Where, Select, select_from, Ending, semicolon, text_end, OrderBy, no_order, order_by, no_limit, most_rows, Offset, no_offset, skipped_rows, Window, window, no_explain, explain, explain_table, OrderedSelect, ordered_select, Argument as ArgumentTree, all_rows, of_col, GroupedItem as ItemTree, plain_item, call, GroupBy, no_group_by, group_by, is_call, has_call, is_written, Holds, GroupedSelect, distinct_select, grouped_select}
 use Rattle.sql_grammar.specs.Words.{words_of_col, words_of_output, words_of_outputs, words_of_group, words_of_groups, words_of_where, words_of_select, words_of_order, words_of_offset, words_of_window, words_of_ending, words_of_ordered, words_of_argument, words_of_grouped_item, words_of_grouped_items, words_of_group_columns, words_of_group_by, words_of_grouped, levels_of_group, levels_of_groups, levels_of_where, levels_of_select, levels_of_ordered, levels_of_grouped}
 use Rattle.sql_grammar.specs.Machine.{depth_of, by_row, takes_then, takes_all}
-use Rattle.sql_grammar.proofs.Complete.{Passes, EndsSelect, skip, apart, ending}
+use Rattle.sql_grammar.proofs.Complete.{Passes, EndsSelect, skip, apart, ending, outputs}
 use Rattle.sql_grammar.proofs.WindowComplete.{ending-window, window-order, skipped, windowed}
 use Rattle.sql_grammar.proofs.OrderComplete.{order, after-select, ended}
 use Rattle.sql_grammar.proofs.FromComplete.{tables}
@@ -42,6 +42,40 @@ order-group no_order (text_end t) = record { qualifier = refl; more = refl; none
 order-group (order_by k b o os) e = record { qualifier = refl; more = refl; none = refl }
 
 module _ (limit : ℕ) where
+  -- the first item of a list is taken as any other
+  first-list : (o : Output) (os : List (Mark × Output)) (f : Key) (ts : List Terminal) →
+      takes_all limit (words_of_output o ++ (words_of_outputs os ++ t_key From f ∷ ts)) (FirstItem ∷ []) ≡ takes_all limit (words_of_output o ++ (words_of_outputs os ++ t_key From f ∷ ts)) (PlainItem ∷ [])
+  first-list (every s) os f ts = refl
+  first-list (every_of (free Distinct t) d s) os f ts = refl
+  first-list (every_of n d s) os f ts = refl
+  first-list (one (bare (free Distinct t))) [] f ts = refl
+  first-list (one (bare (free Distinct t))) (u ∷ os) f ts = refl
+  first-list (one (bare n)) os f ts = refl
+  first-list (one (qualified (free Distinct t) d n)) os f ts = refl
+  first-list (one (qualified q d n)) os f ts = refl
+
+  first-items : (i : ItemTree) (is : List (Mark × ItemTree)) (f : Key) (ts : List Terminal) →
+      takes_all limit (words_of_grouped_item i ++ (words_of_grouped_items is ++ t_key From f ∷ ts)) (FirstItem ∷ []) ≡ takes_all limit (words_of_grouped_item i ++ (words_of_grouped_items is ++ t_key From f ∷ ts)) (PlainItem ∷ [])
+  first-items (plain_item (every s)) is f ts = refl
+  first-items (plain_item (every_of (free Distinct t) d s)) is f ts = refl
+  first-items (plain_item (every_of n d s)) is f ts = refl
+  first-items (plain_item (one (bare (free Distinct t)))) [] f ts = refl
+  first-items (plain_item (one (bare (free Distinct t)))) (u ∷ is) f ts = refl
+  first-items (plain_item (one (bare n))) is f ts = refl
+  first-items (plain_item (one (qualified (free Distinct t) d n))) is f ts = refl
+  first-items (plain_item (one (qualified q d n))) is f ts = refl
+  first-items (call (free Distinct t) o a c) is f ts = refl
+  first-items (call n o a c) is f ts = refl
+
+  -- the list behind DISTINCT
+  distinct-first : (o : Output) (ts : List Terminal) →
+      takes_all limit (words_of_output o ++ ts) (AfterDistinct ∷ []) ≡
+      takes_all limit (words_of_output o ++ ts) (Result ∷ MoreResults ∷ Keyword From ∷ Label ∷ MaybeAlias ∷ MoreJoins ∷ MoreGroups ∷ MaybeWhere ∷ MaybeOrder ∷ Ends ∷ [])
+  distinct-first (every s) ts = refl
+  distinct-first (every_of n d s) ts = refl
+  distinct-first (one (bare n)) ts = refl
+  distinct-first (one (qualified q d n)) ts = refl
+
   -- an item without a call, before a comma and before FROM
   comma-item : (o : Output) (m : Mark) (ts : List Terminal) → takes_all limit (words_of_output o ++ t_mark Comma m ∷ ts) (PlainItem ∷ []) ≡ takes_all limit ts (PlainItem ∷ [])
   comma-item (every s) m ts = refl
@@ -86,13 +120,13 @@ module _ (limit : ℕ) where
   plain-behind : (o : Output) (os : List (Mark × Output)) (f : Key) (g : Group) (gs : List (Mark × Group)) (w : Where) (y : OrderBy) (v : Window) (e : Ending) →
       levels_of_group g ≤ limit → levels_of_groups gs ≤ limit → levels_of_where w ≤ limit →
       takes_all limit ((words_of_output o ++ (words_of_outputs os ++ t_key From f ∷ (words_of_group g ++ (words_of_groups gs ++ words_of_where w)))) ++ (words_of_order y ++ (words_of_window v ++ words_of_ending e)))
-      (PlainItem ∷ []) ≡ true
+      (FirstItem ∷ []) ≡ true
   plain-behind o os f g gs w y v e first others low =
       let last : List Terminal = words_of_order y ++ (words_of_window v ++ words_of_ending e) in
-      ap (λ l. takes_all limit l (PlainItem ∷ [])) (list-words (words_of_output o) (words_of_outputs os) (words_of_group g) (words_of_groups gs) (words_of_where w) last (t_key From f)) ∙
-      (plain-list o os f (words_of_group g ++ (words_of_groups gs ++ (words_of_where w ++ last))) ∙
+      ap (λ l. takes_all limit l (FirstItem ∷ [])) (list-words (words_of_output o) (words_of_outputs os) (words_of_group g) (words_of_groups gs) (words_of_where w) last (t_key From f)) ∙
+      (first-list o os f (words_of_group g ++ (words_of_groups gs ++ (words_of_where w ++ last))) ∙ (plain-list o os f (words_of_group g ++ (words_of_groups gs ++ (words_of_where w ++ last))) ∙
       (tables limit g gs w (PlainTail ∷ []) last (omega (arith, first)) (omega (arith, others)) (omega (arith, low))
-      (after-select limit y (words_of_window v ++ words_of_ending e) (window-order v (words_of_ending e) (ending-window e))) ∙ plain-tail y v e))
+      (after-select limit y (words_of_window v ++ words_of_ending e) (window-order v (words_of_ending e) (ending-window e))) ∙ plain-tail y v e)))
 
   -- (TABLE) behind EXPLAIN
   tabled : (b : Bool) → IsOffered b → (t m : Token) (q : Select) (y : OrderBy) (v : Window) (e : Ending) → levels_of_select q ≤ limit →
@@ -183,10 +217,17 @@ module _ (limit : ℕ) where
   after-tables no_group_by y e = after-select limit y (words_of_ending e) (ending-window e).order
   after-tables (group_by k t c cs) y e = record { alias = refl; joins = refl; groups = refl; condition = refl; expr = record { conj = record { atom = refl; ands = refl }; ors = refl } }
 
-  pub grouped-select : IsOffered READS_GROUPS → (q : GroupedSelect) → levels_of_grouped q ≤ limit → takes_all limit (words_of_grouped q) (PlainItem ∷ []) ≡ true
+  pub grouped-select : IsOffered READS_GROUPS → (q : GroupedSelect) → levels_of_grouped q ≤ limit → takes_all limit (words_of_grouped q) (FirstItem ∷ []) ≡ true
+  grouped-select p (distinct_select u d o os f g gs w y e) low =
+      let last : List Terminal = words_of_order y ++ words_of_ending e in
+      let rest : List Terminal = words_of_group g ++ (words_of_groups gs ++ (words_of_where w ++ last)) in
+      distinct-first o (words_of_outputs os ++ t_key From f ∷ rest) ∙
+      (outputs limit o os (Keyword From ∷ Label ∷ MaybeAlias ∷ MoreJoins ∷ MoreGroups ∷ MaybeWhere ∷ MaybeOrder ∷ Ends ∷ []) (t_key From f ∷ rest) refl refl ∙
+      (tables limit g gs w (MaybeOrder ∷ Ends ∷ []) last (omega (arith, low)) (omega (arith, low)) (omega (arith, low)) (after-tables no_group_by y e) ∙ order-end y e))
   grouped-select p (grouped_select i is f g gs w b h y e) low =
       let c : Bool = is_call i || has_call is in
       let last : List Terminal = words_of_group_by b ++ (words_of_order y ++ words_of_ending e) in
       let flat = tail-flat c in
-      grouped-list p i is f (words_of_group g ++ (words_of_groups gs ++ (words_of_where w ++ last))) ∙
-      (tables limit g gs w (tail_of c) last (omega (arith, low, flat)) (omega (arith, low, flat)) (omega (arith, low, flat)) (after-tables b y e) ∙ tails p c b y e h)
+      first-items i is f (words_of_group g ++ (words_of_groups gs ++ (words_of_where w ++ last))) ∙
+      (grouped-list p i is f (words_of_group g ++ (words_of_groups gs ++ (words_of_where w ++ last))) ∙
+      (tables limit g gs w (tail_of c) last (omega (arith, low, flat)) (omega (arith, low, flat)) (omega (arith, low, flat)) (after-tables b y e) ∙ tails p c b y e h))

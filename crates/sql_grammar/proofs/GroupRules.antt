@@ -2,13 +2,13 @@
 use Rattle.std.proofs.Common.{◌≡◌, ℕ, ◌+◌, ◌≤◌, Bool, true, false, ◌||◌, List, [], ◌∷◌, ◌++◌, Option, Some, None, refl, sym, ap, ◌∙◌, subst, arith, append_assoc, cond}
 use Rattle.sql_lex.specs.declared.tokens.Token.{Token}
 use Rattle.sql_grammar.specs.Terminals.{Terminal, Ident, t_key, t_mark, t_name, t_semicolon, t_end, free, class_of}
-use Rattle.sql_grammar.specs.declared.class.Free.TheVariants.{By}
+use Rattle.sql_grammar.specs.declared.class.Free.TheVariants.{By, Distinct}
 use Rattle.sql_grammar.specs.declared.class.Word.TheVariants.{From, Group as GroupKey, Limit as LimitKey, Offset as OffsetKey, Order, Select as SelectKey}
 use Rattle.sql_grammar.specs.declared.class.Symbol.TheVariants.{Open, Close, Comma, Dot, Star}
-use Rattle.sql_grammar.specs.declared.offered.TheConstants.{READS_GROUPS, READS_WINDOW}
+use Rattle.sql_grammar.specs.declared.offered.TheConstants.{READS_DISTINCT, READS_GROUPS, READS_WINDOW}
 use Rattle.sql_grammar.specs.declared.table.Item.{Item}
-use Rattle.sql_grammar.specs.declared.table.Item.TheVariants.{Sign, FreeWord, Label, Digits, Ends, MaybeAlias, MoreJoins, MoreGroups, MaybeWhere, AfterQualifier, MaybeOrder, MaybeLimit, MaybeOffset, PlainItem, AfterPlain, PlainNext, PlainTail, MoreGroupedItems, Argument, MaybeGroup, MoreGroupColumns}
-use Rattle.sql_grammar.specs.Syntax.{IsOffered, Key, Mark, Col, bare, Output, every, one, Alias, no_alias, relation, Join, Group, group_of, Where, no_where, Select, select_from, Ending, semicolon, text_end, OrderBy, no_order, no_limit, most_rows, no_offset, skipped_rows, Window, window, no_explain, explain, ordered_select, MaybeExplain, unexplained, explained, GroupedItem as ItemTree, plain_item, call, GroupBy, group_by, is_call, has_call, is_written, Holds, IsGrouped, grouped_select, query, grouped}
+use Rattle.sql_grammar.specs.declared.table.Item.TheVariants.{MoreResults, AfterResult, Keyword, Sign, FreeWord, Label, Digits, Ends, MaybeAlias, MoreJoins, MoreGroups, MaybeWhere, AfterQualifier, MaybeOrder, MaybeLimit, MaybeOffset, AfterDistinct, PlainItem, AfterPlain, PlainNext, PlainTail, MoreGroupedItems, Argument, MaybeGroup, MoreGroupColumns}
+use Rattle.sql_grammar.specs.Syntax.{distinct_select, IsOffered, Key, Mark, Col, bare, Output, every, one, Alias, no_alias, relation, Join, Group, group_of, Where, no_where, Select, select_from, Ending, semicolon, text_end, OrderBy, no_order, no_limit, most_rows, no_offset, skipped_rows, Window, window, no_explain, explain, ordered_select, MaybeExplain, unexplained, explained, GroupedItem as ItemTree, plain_item, call, GroupBy, group_by, is_call, has_call, is_written, Holds, IsGrouped, grouped_select, query, grouped}
 use Rattle.sql_grammar.specs.Words.{words_of_output, words_of_outputs, words_of_alias, words_of_joins, words_of_group, words_of_groups, words_of_where, words_of_select, words_of_order, words_of_limit, words_of_offset, words_of_window, words_of_ending, words_of_maybe_explain, words_of_argument, words_of_grouped_item, words_of_grouped_items, words_of_group_by, words_of_group_columns, levels_of_joins, levels_of_groups, levels_of_where, levels_of_select}
 use Rattle.sql_grammar.specs.Table.{takes_of}
 use Rattle.sql_grammar.specs.Machine.{depth_of}
@@ -208,6 +208,56 @@ module _ (limit : ℕ) (s : List Item) where
   after_plain_rule (t_mark Comma m) = by-name (t_mark Comma m) (takes_of PlainNext (class_of (t_mark Comma m))) (plain_next_rule (t_mark Comma m))
   after_plain_rule (t_key From m) = by-name (t_key From m) (takes_of PlainNext (class_of (t_key From m))) (plain_next_rule (t_key From m))
   after_plain_rule _ = tt
+
+  as-name : (t : Terminal) (e : Option (List Item)) → IsRule limit s AfterPlain t e → IsRule limit s AfterDistinct t e
+  as-name t None r = tt
+  as-name t (Some is) r = λ f. let (((ts, whole), g), same) = r f in (((ts, λ x k d. whole x k [] (free Distinct d)), g), same)
+
+  starred : (b : Bool) (m : Mark) → b ≡ READS_DISTINCT →
+      IsRule limit s AfterDistinct (t_mark Star m) (cond b (Some (MoreResults ∷ Keyword From ∷ Label ∷ MaybeAlias ∷ MoreJoins ∷ MoreGroups ∷ MaybeWhere ∷ MaybeOrder ∷ Ends ∷ [])) None)
+  starred true m offered = λ (os, (from, (n, (al, ((js, ejs), ((gs, egs), ((w, low), (y, (e, f))))))))). (
+    (
+      (
+        t_mark Star m ∷ (words_of_outputs os ++ t_key From from ∷ t_name n ∷ (words_of_alias al ++ (words_of_joins js ++ (words_of_groups gs ++ (words_of_where w ++ (words_of_order y ++ words_of_ending e)))))),
+        λ x k d. (
+          grouped tt x k (distinct_select (subst IsOffered offered tt) d (every m) os from (group_of (relation n al) js) gs w y e),
+          simp append_assoc,
+          omega (arith, ejs, egs, low),
+        ),
+      ),
+      f,
+    ),
+    simp append_assoc,
+  )
+  starred false m offered = tt
+
+  listed-names : (b : Bool) (u : Ident) → b ≡ READS_DISTINCT →
+      IsRule limit s AfterDistinct (t_name u) (cond b (Some (AfterResult ∷ MoreResults ∷ Keyword From ∷ Label ∷ MaybeAlias ∷ MoreJoins ∷ MoreGroups ∷ MaybeWhere ∷ MaybeOrder ∷ Ends ∷ [])) None)
+  listed-names true u offered = λ ((ws, after'), (os, (from, (n, (al, ((js, ejs), ((gs, egs), ((w, low), (y, (e, f)))))))))). (
+    (
+      (
+        t_name u ∷ (ws ++ (words_of_outputs os ++ t_key From from ∷ t_name n ∷ (words_of_alias al ++ (words_of_joins js ++ (words_of_groups gs ++ (words_of_where w ++ (words_of_order y ++ words_of_ending e))))))),
+        λ x k d.
+            let (o, is) = after' u in (
+              grouped tt x k (distinct_select (subst IsOffered offered tt) d o os from (group_of (relation n al) js) gs w y e),
+              ap (λ l. words_of_maybe_explain x ++ t_key SelectKey k ∷ t_name (free Distinct d) ∷ (l ++ (words_of_outputs os ++ t_key From from ∷ (words_of_group (group_of (relation n al) js) ++ (words_of_groups gs ++ (words_of_where w ++ (words_of_order y ++ words_of_ending e))))))) is ∙ simp append_assoc,
+              omega (arith, ejs, egs, low),
+            ),
+      ),
+      f,
+    ),
+    simp append_assoc,
+  )
+  listed-names false u offered = tt
+
+  pub after_distinct_rule : (t : Terminal) → IsRule limit s AfterDistinct t (takes_of AfterDistinct (class_of t))
+  after_distinct_rule (t_mark Star m) = starred READS_DISTINCT m refl
+  after_distinct_rule (t_name u) = listed-names READS_DISTINCT u refl
+  after_distinct_rule (t_mark Dot m) = as-name (t_mark Dot m) (takes_of AfterPlain (class_of (t_mark Dot m))) (after_plain_rule (t_mark Dot m))
+  after_distinct_rule (t_mark Open m) = as-name (t_mark Open m) (takes_of AfterPlain (class_of (t_mark Open m))) (after_plain_rule (t_mark Open m))
+  after_distinct_rule (t_mark Comma m) = as-name (t_mark Comma m) (takes_of AfterPlain (class_of (t_mark Comma m))) (after_plain_rule (t_mark Comma m))
+  after_distinct_rule (t_key From m) = as-name (t_key From m) (takes_of AfterPlain (class_of (t_key From m))) (after_plain_rule (t_key From m))
+  after_distinct_rule _ = tt
 
   -- an order, a window and an end, where no call and no GROUP BY stands
   plain-tail : (f : Parts limit (MaybeOrder ∷ MaybeLimit ∷ MaybeOffset ∷ Ends ∷ s)) →

@@ -2,14 +2,17 @@
 use Rattle.std.proofs.Common.{◌≡◌, Bool, true, false, ◌||◌, List, [], ◌∷◌, ◌++◌, drop, refl, sym, ap, ◌∙◌, subst}
 use Rattle.std.proofs.lemmas.List.{append_assoc}
 use Rattle.sql_grammar.specs.declared.class.Word.TheVariants.{From, Group as GroupKey, Select as SelectKey}
-use Rattle.sql_grammar.specs.declared.class.Symbol.TheVariants.{Open, Close, Comma, Dot}
-use Rattle.sql_grammar.specs.Terminals.{Terminal, t_key, t_mark}
-use Rattle.sql_grammar.specs.Syntax.{Key, Mark, Col, bare, qualified, Output, every, every_of, one, Group, Where, Select, select_from, Ending, semicolon, text_end, OrderBy, no_order, order_by, no_limit, most_rows, no_offset, skipped_rows, Window, window, no_explain, explain, explain_table, OrderedSelect, ordered_select, MaybeExplain, unexplained, explained, Argument, all_rows, of_col, GroupedItem, plain_item, call, GroupBy, no_group_by, group_by, is_call, has_call, is_written, Holds, IsGrouped, GroupedSelect, grouped_select}
+use Rattle.sql_grammar.specs.declared.class.Symbol.TheVariants.{Open, Close, Comma, Dot, Star}
+use Rattle.sql_grammar.specs.Terminals.{Terminal, free, t_key, t_mark, t_name}
+use Rattle.sql_grammar.specs.declared.class.Free.TheVariants.{Distinct}
+use Rattle.sql_grammar.specs.declared.offered.TheConstants.{READS_DISTINCT}
+use Rattle.sql_lex.specs.declared.tokens.Token.{Token}
+use Rattle.sql_grammar.specs.Syntax.{Key, Mark, Col, bare, qualified, Output, every, every_of, one, Group, Where, Select, select_from, Ending, semicolon, text_end, OrderBy, no_order, order_by, no_limit, most_rows, no_offset, skipped_rows, Window, window, no_explain, explain, explain_table, OrderedSelect, ordered_select, MaybeExplain, unexplained, explained, Argument, all_rows, of_col, GroupedItem, plain_item, call, GroupBy, no_group_by, group_by, is_call, has_call, is_written, Holds, IsGrouped, GroupedSelect, distinct_select, grouped_select}
 use Rattle.sql_grammar.specs.Unique.{ends_operand}
 use Rattle.sql_grammar.specs.Words.{words_of_col, words_of_output, words_of_select, words_of_order, words_of_window, words_of_ending, words_of_ordered, words_of_maybe_explain, words_of_argument, words_of_grouped_item, words_of_grouped_items, words_of_group_columns, words_of_group_by, words_of_grouped}
-use Rattle.sql_grammar.proofs.ExprTrees.{tested}
+use Rattle.sql_grammar.proofs.ExprTrees.{one_offered, tested}
 use Rattle.sql_grammar.proofs.ListLemmas.{one_list}
-use Rattle.sql_grammar.proofs.Trees.{ends_select, one_output, one_ending}
+use Rattle.sql_grammar.proofs.Trees.{ends_select, fronted, fronted-ends, one_output, one_outputs, one_ending}
 use Rattle.sql_grammar.proofs.FromTrees.{behind, select_words, one_behind}
 use Rattle.sql_grammar.proofs.OrderTrees.{one_col, one_order, order-select, windowed-order, ending-windowed, window-ends}
 use Rattle.sql_grammar.proofs.GroupRules.{plain_items, plain-items-words}
@@ -150,7 +153,45 @@ same_grouped i u is us f g gs w a b y e first others grouping p =
     (subst (λ c. (q : IsGrouped i is c) → grouped_select i is f g gs w a p y e ≡ grouped_select i is f g gs w c q y e) grouping
     (λ q. ap (λ r. grouped_select i is f g gs w a r y e) (one_holds (is_written a || (is_call i || has_call is)) p q))))
 
+-- a list begins with a star or a name
+abbrev begins_list : List Terminal → Bool
+begins_list (t_mark Star _ ∷ _) = true
+begins_list (t_name _ ∷ _) = true
+begins_list _ = false
+
+list-begins : (o : Output) (x : List Terminal) → begins_list (words_of_output o ++ x) ≡ true
+list-begins (every s) x = refl
+list-begins (every_of n d s) x = refl
+list-begins (one (bare n)) x = refl
+list-begins (one (qualified q d n)) x = refl
+
+listed-begins : (is : List (Mark × GroupedItem)) (f : Key) (x : List Terminal) → begins_list (listed is f x) ≡ false
+listed-begins [] f x = refl
+listed-begins ((m, i) ∷ is) f x = refl
+
+-- DISTINCT before a list is no item
+distinct-apart : (d : Token) (o : Output) (x : List Terminal) (i : GroupedItem) (is : List (Mark × GroupedItem)) (f : Key) (y : List Terminal) →
+    t_name (free Distinct d) ∷ (words_of_output o ++ x) ≡ words_of_grouped_item i ++ listed is f y → ⊥
+distinct-apart d o x (plain_item (every s)) is f y e = absurd (cc (e))
+distinct-apart d o x (plain_item (every_of n m s)) is f y e = tested begins_list (words_of_output o ++ x) (t_mark Dot m ∷ t_mark Star s ∷ listed is f y) (list-begins o x) refl (ap (drop 1) e)
+distinct-apart d o x (plain_item (one (bare n))) is f y e = tested begins_list (words_of_output o ++ x) (listed is f y) (list-begins o x) (listed-begins is f y) (ap (drop 1) e)
+distinct-apart d o x (plain_item (one (qualified q m n))) is f y e = tested begins_list (words_of_output o ++ x) (t_mark Dot m ∷ t_name n ∷ listed is f y) (list-begins o x) refl (ap (drop 1) e)
+distinct-apart d o x (call n m a c) is f y e = tested begins_list (words_of_output o ++ x) (t_mark Open m ∷ ((words_of_argument a ++ t_mark Close c ∷ []) ++ listed is f y)) (list-begins o x) refl (ap (drop 1) e)
+
 one_grouped : (a b : GroupedSelect) → words_of_grouped a ≡ words_of_grouped b → a ≡ b
+one_grouped (distinct_select a d o os f g gs v y e) (distinct_select b c u us j k ks w z r) h =
+    let word : d ≡ c = cc (h) in
+    let last : List Terminal = ordered_end y e in
+    let end : List Terminal = ordered_end z r in
+    let (first, more) = one_output o u (fronted os f (behind g gs v last)) (fronted us j (behind k ks w end)) (fronted-ends os f (behind g gs v last)) (fronted-ends us j (behind k ks w end)) (ap (drop 1) h) in
+    let (others, from, tables) = one_outputs os us f j (behind g gs v last) (behind k ks w end) more in
+    let (group, groups, condition, rest) = one_behind g k gs ks v w last end (grouping-select no_group_by y e) (grouping-select no_group_by z r) tables in
+    let (order, stop) = one_ordered_end y z e r rest in
+    cc (one_offered READS_DISTINCT a b, word, first, others, from, group, groups, condition, order, stop)
+one_grouped (distinct_select a d o os f g gs v y e) (grouped_select u us j k ks w b q z r) h =
+    absurd (distinct-apart d o (fronted os f (behind g gs v (ordered_end y e))) u us j (behind k ks w (words_of_group_by b ++ ordered_end z r)) h)
+one_grouped (grouped_select i is f g gs v a p y e) (distinct_select b c u us j k ks w z r) h =
+    absurd (distinct-apart c u (fronted us j (behind k ks w (ordered_end z r))) i is f (behind g gs v (words_of_group_by a ++ ordered_end y e)) (sym h))
 one_grouped (grouped_select i is f g gs v a p y e) (grouped_select u us j d ds w b q z r) h =
     let last : List Terminal = words_of_group_by a ++ ordered_end y e in
     let end : List Terminal = words_of_group_by b ++ ordered_end z r in
@@ -181,6 +222,12 @@ ungrouped (group_by j t d ds) c none h x y k e = tested groupless x (words_of_gr
 
 select-apart : (q : Select) (y : OrderBy) (v : Window) (e : Ending) (j : Key) (b : GroupedSelect) →
     words_of_select q ++ (words_of_order y ++ (words_of_window v ++ words_of_ending e)) ≡ t_key SelectKey j ∷ words_of_grouped b → ⊥
+select-apart (select_from k o os f g gs w) y v e j (distinct_select a d u us t m ms c z r) h =
+    let last : List Terminal = words_of_order y ++ (words_of_window v ++ words_of_ending e) in
+    let whole = sym (select_words k o os f g gs w last) ∙ h in
+    let list : t_name (free Distinct d) ∷ (words_of_output u ++ fronted us t (behind m ms c (ordered_end z r))) ≡ words_of_grouped_item (plain_item o) ++ listed (plain_items os) f (behind g gs w last) =
+    sym (ap (λ l. words_of_output o ++ (l ++ t_key From f ∷ behind g gs w last)) (plain-items-words os) ∙ ap (drop 1) whole) in
+    distinct-apart d u (fronted us t (behind m ms c (ordered_end z r))) (plain_item o) (plain_items os) f (behind g gs w last) list
 select-apart (select_from k o os f g gs w) y v e j (grouped_select i is t d ds c a p z r) h =
     let last : List Terminal = words_of_order y ++ (words_of_window v ++ words_of_ending e) in
     let end : List Terminal = words_of_group_by a ++ ordered_end z r in

@@ -118,6 +118,7 @@ cand-expr : (x : List Terminal) → ends_cand x ≡ true → ends_expr x ≡ tru
 cand-expr (t_mark Dot _ ∷ _) h = absurd (cc)
 cand-expr (t_operator _ ∷ _) h = absurd (cc)
 cand-expr (t_key _ _ ∷ _) h = absurd (cc)
+cand-expr (t_name _ ∷ _) h = absurd (cc)
 cand-expr _ h = refl
 
 ending-cand : (e : Ending) → ends_cand (words_of_ending e) ≡ true

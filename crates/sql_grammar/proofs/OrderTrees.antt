@@ -11,9 +11,9 @@ use Rattle.sql_grammar.specs.Syntax.{Direction, no_direction, ascending, descend
 use Rattle.sql_grammar.specs.Unique.{ends_operand, ends_windowed}
 use Rattle.sql_grammar.specs.Words.{words_of_col, words_of_select, words_of_window, words_of_ending}
 use Rattle.sql_grammar.specs.Words.{words_of_direction, words_of_nulls_end, words_of_ordering, words_of_orderings, words_of_order, words_of_windowed, words_of_ordered}
-use Rattle.sql_grammar.proofs.ExprTrees.{one_operand, tested}
+use Rattle.sql_grammar.proofs.ExprTrees.{one_offered, one_operand, tested}
 use Rattle.sql_grammar.proofs.Trees.{ends_select, one_ending}
-use Rattle.sql_grammar.proofs.WindowTrees.{one_offered, one_window}
+use Rattle.sql_grammar.proofs.WindowTrees.{one_window}
 use Rattle.sql_grammar.proofs.FromTrees.{one_select}
 use Rattle.sql_grammar.proofs.OrderComplete.{windowed-words}
 

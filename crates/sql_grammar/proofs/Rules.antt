@@ -3,16 +3,16 @@ use Rattle.std.proofs.Common.{◌≡◌, ℕ, ◌≤◌, Bool, true, false, List
 use Rattle.sql_lex.specs.declared.tokens.Token.{Token}
 use Rattle.sql_lex.specs.declared.tokens.Kind.TheVariants.{End}
 use Rattle.sql_grammar.specs.Terminals.{Terminal, Ident, Said, t_key, t_mark, t_name, t_number, t_quoted, t_operator, t_semicolon, t_end, free, other, class_of}
-use Rattle.sql_grammar.specs.declared.class.Free.TheVariants.{Common, Copy, Distinct, Explain, Histogram, Last, Nulls, Pages, Rows, Statistics, Include as IncludeWord, Index as IndexWord, By, First, Advise as AdviseWord, Analyze, Check, Use}
+use Rattle.sql_grammar.specs.declared.class.Free.TheVariants.{Between, Common, Copy, Distinct, Explain, Full, Histogram, In, Left, Natural, Outer, Right, Last, Nulls, Pages, Rows, Statistics, Include as IncludeWord, Index as IndexWord, By, First, Advise as AdviseWord, Analyze, Check, Use}
 use Rattle.sql_grammar.specs.declared.class.Free.{Free as FreeT}
 use Rattle.sql_grammar.specs.declared.class.Word.{Word}
 use Rattle.sql_grammar.specs.declared.class.Word.TheVariants.{And, As, Create, False, Is, Not, Null, Or, Select, Table, True, Where, Using as UsingKey, Asc, Desc, Cross, Inner, On, Limit, Offset, From, Group as GroupKey, Join}
 use Rattle.sql_grammar.specs.declared.class.Symbol.{Symbol}
 use Rattle.sql_grammar.specs.declared.class.Symbol.TheVariants.{Open, Close, Comma, Dot, Minus, Star}
 use Rattle.sql_grammar.specs.declared.table.Item.{Item}
-use Rattle.sql_grammar.specs.declared.table.Item.TheVariants.{Keyword, Sign, FreeWord, Label, Digits, QuotedText, Whole, Ends, Stop, Query, Nullness, MoreColumns, Result, MoreResults, AfterResult, StarOrLabel, MaybeAlias, MoreJoins, MoreGroups, MaybeWhere, Figures, MaybeCommon, MoreShares, MaybeHistogram, MoreBounds, Literal, Negation, MoreAnds, MoreOrs, Closes, NotEnds, AfterName, AfterColumn, AfterIs, AfterLiteral, AfterTruth, Side, AfterQualifier, MaybeOrder, MoreOrderings, MaybeLimit, MaybeOffset, MaybeDirection, MaybeNulls, FirstOrLast, AfterCreate, MaybeUsing, MaybeClass, MoreKeys, MaybeInclude, MoreNames, AfterExplain, Candidate, MoreCands, AdvisedSelect, MoreAdvised, PlainItem, AfterPlain, PlainNext, PlainTail, GroupedItem, AfterGroupedName, MoreGroupedItems, Argument, MaybeGroup, MoreGroupColumns}
-use Rattle.sql_grammar.specs.Syntax.{bare, qualified, yes, no, unknown, number, negative, quoted, constant, column, literal, either_of, no_or, or_conj, both_of, no_and, and_neg, negated, plain, parens, compare, is_null, is_not_null, column_alone, constant_alone, unwritten, not_null, nullable, coldef, every, every_of, one, no_alias, bare_alias, as_alias, relation, group_of, no_where, where_expr, select_from, share, no_common, common, no_histogram, histogram, semicolon, text_end, empty, create_table, copy, sizes, column_statistics, op_class, using_method, include_columns, index_on, create_index, ascending, descending, nulls_first, ordering, no_inner, inner, join_on, cross_join, of_col, call, group_by}
-use Rattle.sql_grammar.specs.Words.{words_of_operand, words_of_ending, words_of_common, words_of_histogram, words_of_coldef, words_of_columns, words_of_index, words_of_direction, words_of_nulls_end, words_of_orderings, words_of_alias, words_of_joins, words_of_neg, words_of_ands, words_of_ors, words_of_select, words_of_order, words_of_limit, words_of_offset, words_of_more_advised, words_of_argument, words_of_group_columns}
+use Rattle.sql_grammar.specs.declared.table.Item.TheVariants.{Keyword, Sign, FreeWord, Label, Digits, QuotedText, Whole, Ends, Stop, Query, Nullness, MoreColumns, Result, MoreResults, AfterResult, StarOrLabel, MaybeAlias, MoreJoins, MoreGroups, MaybeWhere, Figures, MaybeCommon, MoreShares, MaybeHistogram, MoreBounds, Literal, Negation, MoreAnds, MoreOrs, Closes, NotEnds, AfterName, AfterColumn, AfterNot, AfterIs, AfterLiteral, AfterTruth, Side, AfterQualifier, MaybeOrder, MoreOrderings, MaybeLimit, MaybeOffset, MaybeDirection, MaybeNulls, FirstOrLast, AfterCreate, MaybeUsing, MaybeClass, MoreKeys, MaybeInclude, MoreNames, AfterExplain, Candidate, MoreCands, AdvisedSelect, MoreAdvised, FirstItem, AfterDistinct, PlainItem, AfterPlain, PlainNext, PlainTail, GroupedItem, AfterGroupedName, MoreGroupedItems, Argument, MaybeGroup, MoreGroupColumns}
+use Rattle.sql_grammar.specs.Syntax.{bare, qualified, yes, no, unknown, number, negative, quoted, constant, column, literal, either_of, no_or, or_conj, both_of, no_and, and_neg, no_not, not_before, negated, plain, parens, compare, is_null, is_not_null, in_list, between, column_alone, constant_alone, unwritten, not_null, nullable, coldef, every, every_of, one, no_alias, bare_alias, as_alias, relation, group_of, no_where, where_expr, select_from, share, no_common, common, no_histogram, histogram, semicolon, text_end, empty, create_table, copy, sizes, column_statistics, op_class, using_method, include_columns, index_on, create_index, ascending, descending, nulls_first, ordering, no_inner, inner, join_on, cross_join, of_col, call, group_by}
+use Rattle.sql_grammar.specs.Words.{words_of_lit, words_of_bounds, words_of_operand, words_of_ending, words_of_common, words_of_histogram, words_of_coldef, words_of_columns, words_of_index, words_of_direction, words_of_nulls_end, words_of_orderings, words_of_alias, words_of_joins, words_of_neg, words_of_ands, words_of_ors, words_of_select, words_of_order, words_of_limit, words_of_offset, words_of_more_advised, words_of_argument, words_of_group_columns}
 use Rattle.sql_grammar.specs.Syntax.{no_direction, no_nulls_end, nulls_last, no_order, no_limit, no_offset, window, windowed_select, unexplained, explained, all_rows, plain_item, no_group_by}
 use Rattle.sql_grammar.specs.Syntax.{no_class, index_key, no_using, no_include, cand_on, advised}
 use Rattle.sql_grammar.proofs.Codes.{same_word, same_sign, same_free}
@@ -67,7 +67,7 @@ module _ (limit : ℕ) (s : List Item) (shallow : depth_of s ≤ limit) where
   rule Digits (t_number n) = λ f. ((n, f), refl)
   rule QuotedText (t_quoted q) = λ f. ((q, f), refl)
   rule Whole (t_key Create k) = λ ((ts, after'), f). let (x, is, low) = after' k in (((x, low), f), ap (λ l. l ++ words_of_parts limit s f) is)
-  rule Whole (t_key Select k) = λ ((ts, after'), f). let (x, is, low) = after' unexplained k [] in (((x, low), f), ap (λ l. l ++ words_of_parts limit s f) is)
+  rule Whole (t_key Select k) = λ ((ts, after'), f). let (x, is, low) = after' unexplained k in (((x, low), f), ap (λ l. l ++ words_of_parts limit s f) is)
   rule Whole (t_name (free Explain k)) = λ ((ts, after'), f). let (x, is, low) = after' k in (((x, low), f), ap (λ l. l ++ words_of_parts limit s f) is)
   rule Whole (t_name (free Copy k)) = λ (n, (from_at, (stdin, (with_at, (open_at, (format, (csv, (comma, (null, (text, (close_at, (stop, f)))))))))))).
       (((copy (record { copy = k; from_at = from_at; stdin = stdin; with_at = with_at; open_at = open_at; format = format; csv = csv; comma = comma; null = null; close_at = close_at; stop = stop }) n text, omega arith), f), refl)
@@ -103,12 +103,24 @@ module _ (limit : ℕ) (s : List Item) (shallow : depth_of s ≤ limit) where
   rule AfterName (t_mark Dot m) = λ (n, ((ws, after'), f)). (((t_mark Dot m ∷ t_name n ∷ ws, λ q. after' (qualified q m n)), f), refl)
   rule AfterName (t_key Is k) = λ ((ws, after'), f). (((t_key Is k ∷ ws, λ n. after' (bare n) k), f), refl)
   rule AfterName (t_operator op) = λ (r, f). (((t_operator op ∷ words_of_operand r, λ n. (compare (column (bare n)) op r, refl, refl)), f), refl)
+  rule AfterName (t_key Not k) = λ ((ws, after'), f). (((t_key Not k ∷ ws, λ n. after' (bare n) k), f), refl)
+  rule AfterName (t_name (free In w)) = λ (o, (l, ((ls, m), f))). (((t_name (free In w) ∷ t_mark Open o ∷ (words_of_lit l ++ (words_of_bounds ls ++ t_mark Close m ∷ [])), λ n. (in_list tt (bare n) no_not w o l ls m, refl, refl)), f), simp append_assoc)
+  rule AfterName (t_name (free Between w)) = λ (a, (j, (b, f))). (((t_name (free Between w) ∷ (words_of_operand a ++ t_key And j ∷ words_of_operand b), λ n. (between tt (column (bare n)) no_not w a j b, refl, refl)), f), simp append_assoc)
   rule AfterColumn (t_key Is k) = λ ((ws, after'), f). (((t_key Is k ∷ ws, λ c. after' c k), f), refl)
   rule AfterColumn (t_operator op) = λ (r, f). (((t_operator op ∷ words_of_operand r, λ c. (compare (column c) op r, refl, refl)), f), refl)
+  rule AfterColumn (t_key Not k) = λ ((ws, after'), f). (((t_key Not k ∷ ws, λ c. after' c k), f), refl)
+  rule AfterColumn (t_name (free In w)) = λ (o, (l, ((ls, m), f))). (((t_name (free In w) ∷ t_mark Open o ∷ (words_of_lit l ++ (words_of_bounds ls ++ t_mark Close m ∷ [])), λ c. (in_list tt c no_not w o l ls m, refl, refl)), f), simp append_assoc)
+  rule AfterColumn (t_name (free Between w)) = λ (a, (j, (b, f))). (((t_name (free Between w) ∷ (words_of_operand a ++ t_key And j ∷ words_of_operand b), λ c. (between tt (column c) no_not w a j b, refl, refl)), f), simp append_assoc)
+  rule AfterNot (t_name (free In w)) = λ (o, (l, ((ls, m), f))). (((t_name (free In w) ∷ t_mark Open o ∷ (words_of_lit l ++ (words_of_bounds ls ++ t_mark Close m ∷ [])), λ c k. (in_list tt c (not_before k) w o l ls m, refl, refl)), f), simp append_assoc)
+  rule AfterNot (t_name (free Between w)) = λ (a, (j, (b, f))). (((t_name (free Between w) ∷ (words_of_operand a ++ t_key And j ∷ words_of_operand b), λ c k. (between tt (column c) (not_before k) w a j b, refl, refl)), f), simp append_assoc)
   rule AfterIs (t_key Not n) = λ (k, f). (((t_key Not n ∷ t_key Null k ∷ [], λ c i. (is_not_null c i n k, refl, refl)), f), refl)
   rule AfterIs (t_key Null k) = λ f. (((t_key Null k ∷ [], λ c i. (is_null c i k, refl, refl)), f), refl)
   rule AfterLiteral (t_operator op) = λ (r, f). (((t_operator op ∷ words_of_operand r, λ l. (compare (literal l) op r, refl, refl)), f), refl)
+  rule AfterLiteral (t_key Not k) = λ (w, (a, (j, (b, f)))). (((t_key Not k ∷ t_name (free Between w) ∷ (words_of_operand a ++ t_key And j ∷ words_of_operand b), λ l. (between tt (literal l) (not_before k) w a j b, refl, refl)), f), simp append_assoc)
+  rule AfterLiteral (t_name (free Between w)) = λ (a, (j, (b, f))). (((t_name (free Between w) ∷ (words_of_operand a ++ t_key And j ∷ words_of_operand b), λ l. (between tt (literal l) no_not w a j b, refl, refl)), f), simp append_assoc)
   rule AfterTruth (t_operator op) = λ (r, f). (((t_operator op ∷ words_of_operand r, λ c k. (compare (literal (constant c k)) op r, refl, refl)), f), refl)
+  rule AfterTruth (t_key Not k) = λ (w, (a, (j, (b, f)))). (((t_key Not k ∷ t_name (free Between w) ∷ (words_of_operand a ++ t_key And j ∷ words_of_operand b), λ c i. (between tt (literal (constant c i)) (not_before k) w a j b, refl, refl)), f), simp append_assoc)
+  rule AfterTruth (t_name (free Between w)) = λ (a, (j, (b, f))). (((t_name (free Between w) ∷ (words_of_operand a ++ t_key And j ∷ words_of_operand b), λ c i. (between tt (literal (constant c i)) no_not w a j b, refl, refl)), f), simp append_assoc)
   rule Side (t_name n) = λ ((ws, after'), f). ((column (after' n).0, f), ap (λ l. l ++ words_of_parts limit s f) (after' n).1)
   rule Side (t_number n) = λ f. ((literal (number n), f), refl)
   rule Side (t_quoted q) = λ f. ((literal (quoted q), f), refl)
@@ -124,7 +136,12 @@ module _ (limit : ℕ) (s : List Item) (shallow : depth_of s ≤ limit) where
   rule StarOrLabel (t_mark Star m) = λ f. (((t_mark Star m ∷ [], λ n d. (every_of n d m, refl)), f), refl)
   rule StarOrLabel (t_name m) = λ f. (((t_name m ∷ [], λ n d. (one (qualified n d m), refl)), f), refl)
   rule MaybeAlias (t_key As k) = λ (n, f). ((as_alias k n, f), refl)
-  rule MaybeAlias (t_name n) = λ f. ((bare_alias n, f), refl)
+  rule MaybeAlias (t_name (free Full k)) = tt
+  rule MaybeAlias (t_name (free Left k)) = tt
+  rule MaybeAlias (t_name (free Natural k)) = tt
+  rule MaybeAlias (t_name (free Outer k)) = tt
+  rule MaybeAlias (t_name (free Right k)) = tt
+  rule MaybeAlias (t_name n) = λ f. ((bare_alias n tt, f), refl)
   rule MoreJoins (t_key Join k) = λ (n, (a, (on, ((c, low), ((ns, more), ((os, others), ((js, rest), f))))))). (
     ((join_on no_inner k (relation n a) on (either_of (both_of c ns) os) ∷ js, omega arith), f),
     ap (λ l. t_key Join k ∷ t_name n ∷ l) (froms.on-words (words_of_alias a) (words_of_neg c) (words_of_ands ns) (words_of_ors os) (words_of_joins js) (words_of_parts limit s f) (t_key On on)),
@@ -208,7 +225,7 @@ module _ (limit : ℕ) (s : List Item) (shallow : depth_of s ≤ limit) where
   rule MaybeInclude (t_name (free IncludeWord k)) = λ (o, (n, ((ns, m), f))). ((include_columns k o n ns m, f), simp append_assoc)
   rule MoreNames (t_mark Comma m) = λ (n, ((ns, close), f)). ((((m, n) ∷ ns, close), f), refl)
   rule MoreNames (t_mark Close m) = λ f. ((([], m), f), refl)
-  rule AfterExplain (t_key Select k) = λ ((ts, after'), f). (((t_key Select k ∷ ts, λ j. after' (explained j) k []), f), refl)
+  rule AfterExplain (t_key Select k) = λ ((ts, after'), f). (((t_key Select k ∷ ts, λ j. after' (explained j) k), f), refl)
   rule AfterExplain (t_mark Open o) = offers.table limit s READS_TABLE o refl
   rule Candidate (t_name n) = λ (o, (t, (u, (p, (x, (c, (d, (z, ((ks, m), (inc, ((w, low), f))))))))))). (((cand_on n o t u p (index_key x c d z) ks m inc w, omega arith), f), simp append_assoc)
   rule MoreCands (t_mark Comma k) = λ ((c, low), ((cs, others, m), f)). ((((k, c) ∷ cs, omega arith, m), f), simp append_assoc)
@@ -223,6 +240,10 @@ module _ (limit : ℕ) (s : List Item) (shallow : depth_of s ≤ limit) where
         (append_assoc ((words_of_select q ++ (words_of_order y ++ (words_of_limit l ++ words_of_offset u))) ++ t_mark Close m ∷ []) (words_of_more_advised xs) (words_of_parts limit s f) ∙
         offers.windowed-words (words_of_select q) (words_of_order y) (words_of_limit l) (words_of_offset u) (t_mark Close m ∷ []) (words_of_more_advised xs ++ words_of_parts limit s f)),
   )
+  rule FirstItem (t_mark Star m) = λ ((ts, whole), f). (((t_mark Star m ∷ ts, λ x k. whole x k [] (every m)), f), refl)
+  rule FirstItem (t_name (free Distinct d)) = λ ((ts, after'), f). (((t_name (free Distinct d) ∷ ts, λ x k. after' x k d), f), refl)
+  rule FirstItem (t_name n) = λ ((ts, whole), f). (((t_name n ∷ ts, λ x k. whole x k [] n), f), refl)
+  rule AfterDistinct t = groupings.after_distinct_rule limit s t
   rule PlainItem (t_mark Star m) = λ ((ts, whole), f). (((t_mark Star m ∷ ts, λ x k led. whole x k led (every m)), f), refl)
   rule PlainItem (t_name n) = λ ((ts, whole), f). (((t_name n ∷ ts, λ x k led. whole x k led n), f), refl)
   rule AfterPlain t = groupings.after_plain_rule limit s t
@@ -300,6 +321,10 @@ module _ (limit : ℕ) (s : List Item) (shallow : depth_of s ≤ limit) where
   needed_part MoreColumns o = ([], no_place)
   needed_part Negation o = (plain (constant_alone yes no_place), omega arith)
   needed_part Closes o = no_place
+  needed_part AfterNot o = (
+    t_name (free Between no_place) ∷ t_number (saying (48 ∷ [])) ∷ t_key And no_place ∷ t_number (saying (48 ∷ [])) ∷ [],
+    λ c k. (between tt (column c) (not_before k) no_place (literal (number (saying (48 ∷ [])))) no_place (literal (number (saying (48 ∷ [])))), refl, refl),
+  )
   needed_part AfterIs o = (t_key Null no_place ∷ [], λ c k. (is_null c k no_place, refl, refl))
   needed_part AfterLiteral o = (t_operator (saying (61 ∷ [])) ∷ t_number (saying (48 ∷ [])) ∷ [], λ l. (compare (literal l) (saying (61 ∷ [])) (literal (number (saying (48 ∷ [])))), refl, refl))
   needed_part Side o = literal (number (saying (48 ∷ [])))
@@ -326,6 +351,8 @@ module _ (limit : ℕ) (s : List Item) (shallow : depth_of s ≤ limit) where
     advised no_place (windowed_select (select_from no_place (every no_place) [] no_place (group_of (relation a_name no_alias) []) [] no_where) no_order (window no_limit no_offset)) no_place,
     omega arith,
   )
+  needed_part FirstItem o = let (ts, whole) = groupings.some-item limit (depth_of s) shallow a_name no_place in (ts, λ x k. whole x k [])
+  needed_part AfterDistinct o = let (ts, whole) = groupings.some-after limit (depth_of s) shallow a_name no_place in (ts, λ x k d. whole x k [] (free Distinct d))
   needed_part PlainItem o = groupings.some-item limit (depth_of s) shallow a_name no_place
   needed_part AfterPlain o = groupings.some-after limit (depth_of s) shallow a_name no_place
   needed_part PlainNext o = groupings.some-next limit (depth_of s) shallow a_name no_place

@@ -8,7 +8,7 @@ use Rattle.sql_grammar.specs.Syntax.{CopyWords, SizesWords, ColumnWords, Histogr
 use Rattle.sql_grammar.specs.Words.{words_of_histogram, words_of_ending, words_of}
 use Rattle.sql_grammar.proofs.StatisticsLemmas.{ends_common, ends_histogram, one_common, one_histogram}
 use Rattle.sql_grammar.proofs.Trees.{one_ending, one_table}
-use Rattle.sql_grammar.proofs.WindowTrees.{one_offered}
+use Rattle.sql_grammar.proofs.ExprTrees.{one_offered}
 use Rattle.sql_grammar.proofs.OrderTrees.{one_ordered}
 use Rattle.sql_grammar.proofs.IndexTrees.{one_index}
 use Rattle.sql_grammar.proofs.GroupTrees.{one_begun, plain-apart}

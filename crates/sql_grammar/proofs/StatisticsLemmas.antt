@@ -9,7 +9,7 @@ use Rattle.sql_grammar.specs.Syntax.{Mark, Lit, literal, Share, share, Common, n
 use Rattle.sql_grammar.specs.Unique.{ends_operand}
 use Rattle.sql_grammar.specs.Words.{words_of_lit, words_of_share, words_of_shares, words_of_common, words_of_bounds, words_of_histogram}
 use Rattle.sql_grammar.proofs.ListLemmas.{one_list}
-use Rattle.sql_grammar.proofs.ExprTrees.{one_operand, tested}
+use Rattle.sql_grammar.proofs.ExprTrees.{bounds_closed, bounds-end, one_bounds, one_lit, tested}
 
 -- no COMMON is next
 abbrev pub ends_common : List Terminal → Bool
@@ -20,9 +20,6 @@ ends_common _ = true
 abbrev pub ends_histogram : List Terminal → Bool
 ends_histogram (t_name (free HistogramWord _) ∷ _) = false
 ends_histogram _ = true
-
-one_lit : (a b : Lit) (x y : List Terminal) → ends_operand x ≡ true → ends_operand y ≡ true → words_of_lit a ++ x ≡ words_of_lit b ++ y → (a ≡ b) × (x ≡ y)
-one_lit a b x y h k e = let (first, rest) = one_operand (literal a) (literal b) x y h k e in (cc (first), rest)
 
 one_share : (a b : Share) (x y : List Terminal) → words_of_share a ++ x ≡ words_of_share b ++ y → (a ≡ b) × (x ≡ y)
 one_share (share l n) (share k m) x y e =
@@ -57,19 +54,6 @@ one_common (common i o s ss m) (common j p u us n) x y h k e =
     let (first, more) = one_share s u (shares_closed ss m x) (shares_closed us n y) (ap (drop 2) whole) in
     let (others, close, rest) = one_shares ss us m n x y more in
     (cc (word, mark, first, others, close), rest)
-
--- further bounds and what closes them
-abbrev bounds_closed : List (Mark × Lit) → Mark → List Terminal → List Terminal
-bounds_closed ls m x = words_of_bounds ls ++ t_mark Close m ∷ x
-
-bounds-end : (ls : List (Mark × Lit)) (m : Mark) (x : List Terminal) → ends_operand (bounds_closed ls m x) ≡ true
-bounds-end [] m x = refl
-bounds-end ((t, l) ∷ ls) m x = refl
-
-one_bounds : (ls us : List (Mark × Lit)) (m n : Mark) (x y : List Terminal) → bounds_closed ls m x ≡ bounds_closed us n y → (ls ≡ us) × (m ≡ n) × (x ≡ y)
-one_bounds = one_list Lit words_of_lit words_of_bounds (t_mark Close) ends_operand (λ m x. refl)
-    (λ t l ls m x. ap (λ r. t_mark Comma t ∷ r) (append_assoc (words_of_lit l) (words_of_bounds ls) (t_mark Close m ∷ x)))
-    (λ m n x y e. cc (e)) (λ m t x y e. absurd (cc (e))) bounds-end one_lit
 
 histogram-words : (k : Token) (o : Mark) (l : Lit) (ls : List (Mark × Lit)) (m : Mark) (x : List Terminal) →
     words_of_histogram (histogram k o l ls m) ++ x ≡ t_name (free HistogramWord k) ∷ t_mark Open o ∷ (words_of_lit l ++ bounds_closed ls m x)

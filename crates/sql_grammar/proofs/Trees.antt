@@ -1,10 +1,11 @@
 -- A list of words is spelled by one part of a statement.
-use Rattle.std.proofs.Common.{◌≡◌, Bool, true, false, List, [], ◌∷◌, ◌++◌, drop, refl, sym, ap, ◌∙◌}
+use Rattle.std.proofs.Common.{◌≡◌, Bool, true, false, List, [], ◌∷◌, ◌++◌, drop, refl, sym, ap, ◌∙◌, subst}
 use Rattle.std.proofs.lemmas.List.{append_assoc}
 use Rattle.sql_grammar.specs.declared.class.Word.TheVariants.{As, Cross, From, Inner, Join, Not, Null, Where as WhereKey}
 use Rattle.sql_grammar.specs.declared.class.Symbol.TheVariants.{Close, Comma, Dot, Star}
-use Rattle.sql_grammar.specs.Terminals.{Terminal, t_key, t_mark, t_name}
-use Rattle.sql_grammar.specs.Syntax.{Key, Mark, bare, qualified, Nulls, unwritten, not_null, nullable, ColDef, coldef, Output, every, every_of, one, Alias, no_alias, bare_alias, as_alias, Where, no_where, where_expr, Ending, semicolon, text_end}
+use Rattle.sql_grammar.specs.Terminals.{Terminal, Ident, free, t_key, t_mark, t_name}
+use Rattle.sql_grammar.specs.declared.class.Free.TheVariants.{Full, Left, Natural, Outer, Right}
+use Rattle.sql_grammar.specs.Syntax.{Key, Mark, IsBareAlias, bare, qualified, Nulls, unwritten, not_null, nullable, ColDef, coldef, Output, every, every_of, one, Alias, no_alias, bare_alias, as_alias, Where, no_where, where_expr, Ending, semicolon, text_end}
 use Rattle.sql_grammar.specs.Unique.{ends_operand, ends_expr}
 use Rattle.sql_grammar.specs.Words.{words_of_nulls, words_of_coldef, words_of_columns, words_of_output, words_of_outputs, words_of_alias, words_of_where, words_of_ending}
 use Rattle.sql_grammar.proofs.ExprTrees.{one_expr, tested}
@@ -171,15 +172,26 @@ one_condition (where_expr i c) (where_expr j d) x y h k g f e =
 pub one_where : (a b : Where) (x y : List Terminal) → ends_select x ≡ true → ends_select y ≡ true → words_of_where a ++ x ≡ words_of_where b ++ y → (a ≡ b) × (x ≡ y)
 one_where a b x y h k e = one_condition a b x y (select-where x h) (select-where y k) (select-expr x h) (select-expr y k) e
 
+one_bare : (n : Ident) (p q : IsBareAlias n) → p ≡ q
+one_bare (free Full t) p q = absurd p
+one_bare (free Left t) p q = absurd p
+one_bare (free Natural t) p q = absurd p
+one_bare (free Outer t) p q = absurd p
+one_bare (free Right t) p q = absurd p
+one_bare n p q = refl
+
+same_bare : (n m : Ident) → n ≡ m → (p : IsBareAlias n) (q : IsBareAlias m) → bare_alias n p ≡ bare_alias m q
+same_bare n m e p = subst (λ k. (q : IsBareAlias k) → bare_alias n p ≡ bare_alias k q) e (λ q. ap (bare_alias n) (one_bare n p q))
+
 pub one_alias : (a b : Alias) (x y : List Terminal) → aliasless x ≡ true → aliasless y ≡ true → words_of_alias a ++ x ≡ words_of_alias b ++ y → (a ≡ b) × (x ≡ y)
 one_alias no_alias no_alias x y h k e = (refl, e)
-one_alias no_alias (bare_alias m) x y h k e = absurd (tested aliasless x (t_name m ∷ y) h refl e)
+one_alias no_alias (bare_alias m q) x y h k e = absurd (tested aliasless x (t_name m ∷ y) h refl e)
 one_alias no_alias (as_alias j m) x y h k e = absurd (tested aliasless x (t_key As j ∷ t_name m ∷ y) h refl e)
-one_alias (bare_alias n) no_alias x y h k e = absurd (tested aliasless y (t_name n ∷ x) k refl (sym e))
-one_alias (bare_alias n) (bare_alias m) x y h k e = let name : n ≡ m = cc in (ap bare_alias name, ap (drop 1) e)
-one_alias (bare_alias n) (as_alias j m) x y h k e = absurd (cc)
+one_alias (bare_alias n p) no_alias x y h k e = absurd (tested aliasless y (t_name n ∷ x) k refl (sym e))
+one_alias (bare_alias n p) (bare_alias m q) x y h k e = let name : n ≡ m = cc in (same_bare n m name p q, ap (drop 1) e)
+one_alias (bare_alias n p) (as_alias j m) x y h k e = absurd (cc)
 one_alias (as_alias i n) no_alias x y h k e = absurd (tested aliasless y (t_key As i ∷ t_name n ∷ x) k refl (sym e))
-one_alias (as_alias i n) (bare_alias m) x y h k e = absurd (cc)
+one_alias (as_alias i n) (bare_alias m q) x y h k e = absurd (cc)
 one_alias (as_alias i n) (as_alias j m) x y h k e = let key : i ≡ j = cc in let name : n ≡ m = cc in (cc (key, name), ap (drop 2) e)
 
 -- a new table's columns and end

@@ -4,16 +4,12 @@ use Rattle.std.proofs.lemmas.List.{append_assoc}
 use Rattle.sql_grammar.specs.declared.class.Word.TheVariants.{Limit as LimitKey, Offset as OffsetKey}
 use Rattle.sql_grammar.specs.declared.offered.TheConstants.{READS_WINDOW}
 use Rattle.sql_grammar.specs.Terminals.{Terminal, t_key}
-use Rattle.sql_grammar.specs.Syntax.{IsOffered, Limit, no_limit, most_rows, Offset, no_offset, skipped_rows, Window, window}
+use Rattle.sql_grammar.specs.Syntax.{Limit, no_limit, most_rows, Offset, no_offset, skipped_rows, Window, window}
 use Rattle.sql_grammar.specs.Words.{words_of_limit, words_of_offset, words_of_window}
 use Rattle.sql_grammar.specs.Unique.{ends_windowed}
-use Rattle.sql_grammar.proofs.ExprTrees.{tested}
+use Rattle.sql_grammar.proofs.ExprTrees.{one_offered, tested}
 
 -- a production is in the grammar in one way
-pub one_offered : (b : Bool) (p q : IsOffered b) → p ≡ q
-one_offered true p q = refl
-one_offered false p q = absurd p
-
 -- no LIMIT is next, and no OFFSET
 abbrev limitless : List Terminal → Bool
 limitless (t_key LimitKey _ ∷ _) = false

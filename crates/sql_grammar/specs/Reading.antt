@@ -9,7 +9,7 @@ use Rattle.sql_lex.specs.declared.tokens.Kind.TheVariants.{Word as WordKind, Num
 use Rattle.sql_grammar.specs.declared.class.Word.{Word}
 use Rattle.sql_grammar.specs.declared.class.Word.TheVariants.{And, As, Asc, Create, Cross, Desc, False, From, Group, Inner, Is, Join, Limit, Not, Null, Offset, On, Or, Order, Select, Table, True, Using, Where, With}
 use Rattle.sql_grammar.specs.declared.class.Free.{Free}
-use Rattle.sql_grammar.specs.declared.class.Free.TheVariants.{Advise, Analyze, By, Check, Common, Copy, Csv, Distinct, Explain, First, Format, Histogram, Include, Index, Last, Nulls, Pages, Plan, Rows, Statistics, Stdin, Use}
+use Rattle.sql_grammar.specs.declared.class.Free.TheVariants.{Advise, Analyze, Between, By, Check, Common, Copy, Csv, Distinct, Explain, First, Format, Full, Histogram, In, Include, Index, Last, Left, Natural, Nulls, Outer, Pages, Plan, Right, Rows, Statistics, Stdin, Use}
 use Rattle.sql_grammar.specs.declared.class.Symbol.TheVariants.{Open, Close, Comma, Dot, Minus, Star}
 use Rattle.sql_grammar.specs.Terminals.{Ident, free, other, Terminal, t_key, t_mark, t_name, t_number, t_quoted, t_operator, t_semicolon, t_end, class_of}
 use Rattle.sql_grammar.specs.Table.{is_ending}
@@ -46,6 +46,7 @@ spelling_of With = 119 ∷ 105 ∷ 116 ∷ 104 ∷ []
 abbrev pub free_spelling_of : Free → List ℕ
 free_spelling_of Advise = 97 ∷ 100 ∷ 118 ∷ 105 ∷ 115 ∷ 101 ∷ []
 free_spelling_of Analyze = 97 ∷ 110 ∷ 97 ∷ 108 ∷ 121 ∷ 122 ∷ 101 ∷ []
+free_spelling_of Between = 98 ∷ 101 ∷ 116 ∷ 119 ∷ 101 ∷ 101 ∷ 110 ∷ []
 free_spelling_of By = 98 ∷ 121 ∷ []
 free_spelling_of Check = 99 ∷ 104 ∷ 101 ∷ 99 ∷ 107 ∷ []
 free_spelling_of Common = 99 ∷ 111 ∷ 109 ∷ 109 ∷ 111 ∷ 110 ∷ []
@@ -55,13 +56,19 @@ free_spelling_of Distinct = 100 ∷ 105 ∷ 115 ∷ 116 ∷ 105 ∷ 110 ∷ 99 �
 free_spelling_of Explain = 101 ∷ 120 ∷ 112 ∷ 108 ∷ 97 ∷ 105 ∷ 110 ∷ []
 free_spelling_of First = 102 ∷ 105 ∷ 114 ∷ 115 ∷ 116 ∷ []
 free_spelling_of Format = 102 ∷ 111 ∷ 114 ∷ 109 ∷ 97 ∷ 116 ∷ []
+free_spelling_of Full = 102 ∷ 117 ∷ 108 ∷ 108 ∷ []
 free_spelling_of Histogram = 104 ∷ 105 ∷ 115 ∷ 116 ∷ 111 ∷ 103 ∷ 114 ∷ 97 ∷ 109 ∷ []
+free_spelling_of In = 105 ∷ 110 ∷ []
 free_spelling_of Include = 105 ∷ 110 ∷ 99 ∷ 108 ∷ 117 ∷ 100 ∷ 101 ∷ []
 free_spelling_of Index = 105 ∷ 110 ∷ 100 ∷ 101 ∷ 120 ∷ []
 free_spelling_of Last = 108 ∷ 97 ∷ 115 ∷ 116 ∷ []
+free_spelling_of Left = 108 ∷ 101 ∷ 102 ∷ 116 ∷ []
+free_spelling_of Natural = 110 ∷ 97 ∷ 116 ∷ 117 ∷ 114 ∷ 97 ∷ 108 ∷ []
 free_spelling_of Nulls = 110 ∷ 117 ∷ 108 ∷ 108 ∷ 115 ∷ []
+free_spelling_of Outer = 111 ∷ 117 ∷ 116 ∷ 101 ∷ 114 ∷ []
 free_spelling_of Pages = 112 ∷ 97 ∷ 103 ∷ 101 ∷ 115 ∷ []
 free_spelling_of Plan = 112 ∷ 108 ∷ 97 ∷ 110 ∷ []
+free_spelling_of Right = 114 ∷ 105 ∷ 103 ∷ 104 ∷ 116 ∷ []
 free_spelling_of Rows = 114 ∷ 111 ∷ 119 ∷ 115 ∷ []
 free_spelling_of Statistics = 115 ∷ 116 ∷ 97 ∷ 116 ∷ 105 ∷ 115 ∷ 116 ∷ 105 ∷ 99 ∷ 115 ∷ []
 free_spelling_of Stdin = 115 ∷ 116 ∷ 100 ∷ 105 ∷ 110 ∷ []
@@ -73,7 +80,7 @@ reserved_words = And ∷ As ∷ Asc ∷ Create ∷ Cross ∷ Desc ∷ False ∷ 
 
 -- all words with a place of their own that may be names
 abbrev pub free_words : List Free
-free_words = Advise ∷ Analyze ∷ By ∷ Check ∷ Common ∷ Copy ∷ Csv ∷ Distinct ∷ Explain ∷ First ∷ Format ∷ Histogram ∷ Include ∷ Index ∷ Last ∷ Nulls ∷ Pages ∷ Plan ∷ Rows ∷ Statistics ∷ Stdin ∷ Use ∷ []
+free_words = Advise ∷ Analyze ∷ Between ∷ By ∷ Check ∷ Common ∷ Copy ∷ Csv ∷ Distinct ∷ Explain ∷ First ∷ Format ∷ Full ∷ Histogram ∷ In ∷ Include ∷ Index ∷ Last ∷ Left ∷ Natural ∷ Nulls ∷ Outer ∷ Pages ∷ Plan ∷ Right ∷ Rows ∷ Statistics ∷ Stdin ∷ Use ∷ []
 
 -- the reserved word of this spelling
 abbrev pub reserved_of : List ℕ → Option Word

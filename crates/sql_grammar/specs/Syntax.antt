@@ -3,8 +3,8 @@
 -- (PostgreSQL manual, chapters SQL Syntax and SQL Commands, cut down to this program's statements).
 use Rattle.std.specs.Prelude.{Bool, true, false, ◌||◌, List, [], ◌∷◌}
 use Rattle.sql_lex.specs.declared.tokens.Token.{Token}
-use Rattle.sql_grammar.specs.declared.class.Free.TheVariants.{Nulls as NullsWord}
-use Rattle.sql_grammar.specs.declared.offered.TheConstants.{READS_ADVISE, READS_ANALYZE, READS_CHECK, READS_GROUPS, READS_PLAN, READS_TABLE, READS_WINDOW}
+use Rattle.sql_grammar.specs.declared.class.Free.TheVariants.{Full, Left, Natural, Nulls as NullsWord, Outer, Right}
+use Rattle.sql_grammar.specs.declared.offered.TheConstants.{READS_ADVISE, READS_ANALYZE, READS_CHECK, READS_DISTINCT, READS_GROUPS, READS_LISTS, READS_PLAN, READS_TABLE, READS_WINDOW}
 use Rattle.sql_grammar.specs.Terminals.{Ident, Said, free}
 
 -- the token of a reserved word
@@ -43,6 +43,11 @@ pub data Operand : Type 0 where
   column : Col → Operand
   literal : Lit → Operand
 
+-- [NOT], before IN or BETWEEN
+pub data Negated : Type 0 where
+  no_not : Negated
+  not_before : Key → Negated
+
 mutual
   -- expr = conj { OR conj }
   pub data Expr : Type 0 where
@@ -67,12 +72,15 @@ mutual
     negated : Key → Neg → Neg
     plain : Atom → Neg
 
-  -- atom = "(" expr ")" | operand op operand | col IS [NOT] NULL | col | TRUE | FALSE | NULL
+  -- atom = "(" expr ")" | operand op operand | col IS [NOT] NULL | col [NOT] IN "(" lit { "," lit } ")"
+  --      | operand [NOT] BETWEEN operand AND operand | col | TRUE | FALSE | NULL
   pub data Atom : Type 0 where
     parens : Mark → Expr → Mark → Atom
     compare : Operand → Said → Operand → Atom
     is_null : Col → Key → Key → Atom
     is_not_null : Col → Key → Key → Key → Atom
+    in_list : IsOffered READS_LISTS → Col → Negated → Token → Mark → Lit → List (Mark × Lit) → Mark → Atom
+    between : IsOffered READS_LISTS → Operand → Negated → Token → Operand → Key → Operand → Atom
     column_alone : Col → Atom
     constant_alone : Constant → Key → Atom
 
@@ -92,13 +100,22 @@ pub data Output : Type 0 where
   every_of : Ident → Mark → Mark → Output
   one : Col → Output
 
--- [[AS] name]
+-- the name is none of the words of outer joins: behind a table's name these are no alias without AS, as in PostgreSQL
+abbrev pub IsBareAlias : Ident → Type 0
+IsBareAlias (free Full _) = ⊥
+IsBareAlias (free Left _) = ⊥
+IsBareAlias (free Natural _) = ⊥
+IsBareAlias (free Outer _) = ⊥
+IsBareAlias (free Right _) = ⊥
+IsBareAlias _ = Unit {0}
+
+-- [AS name | bare], bare a name but full, left, natural, outer and right
 pub data Alias : Type 0 where
   no_alias : Alias
-  bare_alias : Ident → Alias
+  bare_alias : (n : Ident) → IsBareAlias n → Alias
   as_alias : Key → Ident → Alias
 
--- from = name [[AS] name]
+-- from = name [AS name | bare]
 pub data Relation : Type 0 where
   relation : Ident → Alias → Relation
 
@@ -225,7 +242,9 @@ IsGrouped i is b = Holds (is_written b || (is_call i || has_call is))
 
 -- gselect = gitem { "," gitem } FROM group { "," group } [WHERE expr] [GROUP BY col { "," col }] [ORDER BY ord { "," ord }] end, with
 -- GROUP BY or a call
+--         | DISTINCT item { "," item } FROM group { "," group } [WHERE expr] [ORDER BY ord { "," ord }] end
 pub data GroupedSelect : Type 0 where
+  distinct_select : IsOffered READS_DISTINCT → Token → Output → List (Mark × Output) → Key → Group → List (Mark × Group) → Where → OrderBy → Ending → GroupedSelect
   grouped_select : (i : GroupedItem) (is : List (Mark × GroupedItem)) → Key → Group → List (Mark × Group) → Where → (b : GroupBy) → IsGrouped i is b → OrderBy → Ending → GroupedSelect
 
 -- the name is not `nulls`: behind a key's column that word begins NULLS FIRST or NULLS LAST

@@ -1,7 +1,7 @@
 -- The table of the walk: the items that stand in an item's place after a token (own).
 use Rattle.std.specs.Prelude.{◌≡◌, ℕ, Bool, true, false, List, [], ◌∷◌, map, Option, Some, None, MatchOption, cond, nat_eq}
 use Rattle.std.specs.Borrow.{Bor}
-use Rattle.sql_grammar.specs.declared.class.Free.TheVariants.{Advise, Analyze, By, Check, Common, Copy, Csv, Distinct, Explain, First, Format, Histogram, Include, Index, Last, Nulls, Pages, Plan, Rows, Statistics, Stdin, Use}
+use Rattle.sql_grammar.specs.declared.class.Free.TheVariants.{Advise, Analyze, Between, By, Check, Common, Copy, Csv, Distinct, Explain, First, Format, Full, Histogram, In, Include, Index, Last, Left, Natural, Nulls, Outer, Pages, Plan, Right, Rows, Statistics, Stdin, Use}
 use Rattle.sql_grammar.specs.declared.class.Free.{Free}
 use Rattle.sql_grammar.specs.declared.class.Word.{Word}
 use Rattle.sql_grammar.specs.declared.class.Word.TheVariants.{And, As, Asc, Create, Cross, Desc, False, From, Group, Inner, Is, Join, Limit, Not, Null, Offset, On, Or, Order, Select, Table, True, Using, Where, With}
@@ -11,7 +11,7 @@ use Rattle.sql_grammar.specs.declared.class.Class.{Class}
 use Rattle.sql_grammar.specs.declared.class.Class.TheVariants.{Key, Mark, Name, Number, Quoted, Operator, Semicolon, End}
 use Rattle.sql_grammar.specs.declared.rows.TheConstants as rows
 use Rattle.sql_grammar.specs.declared.table.Item.{Item}
-use Rattle.sql_grammar.specs.declared.table.Item.TheVariants.{Keyword, Sign, FreeWord, Label, Digits, QuotedText, Whole, Ends, Stop, Query, Nullness, MoreColumns, Result, MoreResults, AfterResult, StarOrLabel, MaybeAlias, MoreJoins, MoreGroups, MaybeWhere, Figures, MaybeCommon, MoreShares, MaybeHistogram, MoreBounds, Literal, Negation, MoreAnds, MoreOrs, Closes, NotEnds, AfterName, AfterColumn, AfterIs, AfterLiteral, AfterTruth, Side, AfterQualifier, MaybeOrder, MoreOrderings, MaybeLimit, MaybeOffset, MaybeDirection, MaybeNulls, FirstOrLast, AfterCreate, MaybeUsing, MaybeClass, MoreKeys, MaybeInclude, MoreNames, AfterExplain, Candidate, MoreCands, AdvisedSelect, MoreAdvised, PlainItem, AfterPlain, PlainNext, PlainTail, GroupedItem, AfterGroupedName, MoreGroupedItems, Argument, MaybeGroup, MoreGroupColumns}
+use Rattle.sql_grammar.specs.declared.table.Item.TheVariants.{Keyword, Sign, FreeWord, Label, Digits, QuotedText, Whole, Ends, Stop, Query, Nullness, MoreColumns, Result, MoreResults, AfterResult, StarOrLabel, MaybeAlias, MoreJoins, MoreGroups, MaybeWhere, Figures, MaybeCommon, MoreShares, MaybeHistogram, MoreBounds, Literal, Negation, MoreAnds, MoreOrs, Closes, NotEnds, AfterName, AfterColumn, AfterNot, AfterIs, AfterLiteral, AfterTruth, Side, AfterQualifier, MaybeOrder, MoreOrderings, MaybeLimit, MaybeOffset, MaybeDirection, MaybeNulls, FirstOrLast, AfterCreate, MaybeUsing, MaybeClass, MoreKeys, MaybeInclude, MoreNames, AfterExplain, Candidate, MoreCands, AdvisedSelect, MoreAdvised, FirstItem, AfterDistinct, PlainItem, AfterPlain, PlainNext, PlainTail, GroupedItem, AfterGroupedName, MoreGroupedItems, Argument, MaybeGroup, MoreGroupColumns}
 
 -- the items in an item's place; None where the token is not awaited
 abbrev pub Expansion : Type 0
@@ -62,26 +62,33 @@ sign_code Star = 5
 abbrev pub free_code : Free → ℕ
 free_code Advise = 0
 free_code Analyze = 1
-free_code By = 2
-free_code Check = 3
-free_code Common = 4
-free_code Copy = 5
-free_code Csv = 6
-free_code Distinct = 7
-free_code Explain = 8
-free_code First = 9
-free_code Format = 10
-free_code Histogram = 11
-free_code Include = 12
-free_code Index = 13
-free_code Last = 14
-free_code Nulls = 15
-free_code Pages = 16
-free_code Plan = 17
-free_code Rows = 18
-free_code Statistics = 19
-free_code Stdin = 20
-free_code Use = 21
+free_code Between = 2
+free_code By = 3
+free_code Check = 4
+free_code Common = 5
+free_code Copy = 6
+free_code Csv = 7
+free_code Distinct = 8
+free_code Explain = 9
+free_code First = 10
+free_code Format = 11
+free_code Full = 12
+free_code Histogram = 13
+free_code In = 14
+free_code Include = 15
+free_code Index = 16
+free_code Last = 17
+free_code Left = 18
+free_code Natural = 19
+free_code Nulls = 20
+free_code Outer = 21
+free_code Pages = 22
+free_code Plan = 23
+free_code Right = 24
+free_code Rows = 25
+free_code Statistics = 26
+free_code Stdin = 27
+free_code Use = 28
 
 -- what a row says: the token that it takes, whether it is in the grammar, and the items in the item's place
 abbrev pub GrammarRow : Type 0
@@ -153,6 +160,7 @@ rows_of_item Closes = rows_said rows.CLOSES
 rows_of_item NotEnds = rows_said rows.NOT_ENDS
 rows_of_item AfterName = rows_said rows.AFTER_NAME
 rows_of_item AfterColumn = rows_said rows.AFTER_COLUMN
+rows_of_item AfterNot = rows_said rows.AFTER_NOT
 rows_of_item AfterIs = rows_said rows.AFTER_IS
 rows_of_item AfterLiteral = rows_said rows.AFTER_LITERAL
 rows_of_item AfterTruth = rows_said rows.AFTER_TRUTH
@@ -176,6 +184,8 @@ rows_of_item Candidate = rows_said rows.CANDIDATE
 rows_of_item MoreCands = rows_said rows.MORE_CANDS
 rows_of_item AdvisedSelect = rows_said rows.ADVISED_SELECT
 rows_of_item MoreAdvised = rows_said rows.MORE_ADVISED
+rows_of_item FirstItem = rows_said rows.FIRST_ITEM
+rows_of_item AfterDistinct = rows_said rows.AFTER_DISTINCT
 rows_of_item PlainItem = rows_said rows.PLAIN_ITEM
 rows_of_item AfterPlain = rows_said rows.AFTER_PLAIN
 rows_of_item PlainNext = rows_said rows.PLAIN_NEXT
@@ -217,16 +227,20 @@ room_of MoreColumns = 4
 room_of MoreResults = 2
 room_of MoreJoins = 8
 room_of MoreGroups = 9
-room_of MaybeWhere = 4
+room_of MaybeWhere = 6
 room_of Figures = 7
 room_of MaybeCommon = 4
 room_of MoreShares = 3
 room_of MaybeHistogram = 3
 room_of MoreBounds = 2
-room_of Negation = 2
-room_of MoreAnds = 3
-room_of MoreOrs = 4
-room_of AfterName = 2
+room_of Negation = 4
+room_of MoreAnds = 5
+room_of MoreOrs = 6
+room_of AfterName = 3
+room_of AfterColumn = 3
+room_of AfterNot = 3
+room_of AfterLiteral = 4
+room_of AfterTruth = 4
 room_of MaybeOrder = 6
 room_of MoreOrderings = 5
 room_of AfterCreate = 13
@@ -238,6 +252,8 @@ room_of Candidate = 11
 room_of MoreCands = 12
 room_of AdvisedSelect = 14
 room_of MoreAdvised = 15
+room_of FirstItem = 16
+room_of AfterDistinct = 16
 room_of PlainItem = 16
 room_of AfterPlain = 16
 room_of PlainNext = 16
@@ -256,6 +272,8 @@ takes_end Ends = true
 takes_end Stop = true
 takes_end AfterCreate = true
 takes_end AfterExplain = true
+takes_end FirstItem = true
+takes_end AfterDistinct = true
 takes_end PlainItem = true
 takes_end AfterPlain = true
 takes_end PlainNext = true

@@ -3,11 +3,12 @@ use Rattle.std.specs.Prelude.{◌≡◌, ℕ, ◌+◌, ◌≤◌, Bool, true, fa
 use Rattle.pg_base.specs.declared.faults.Fault.{Fault}
 use Rattle.pg_base.specs.declared.limits.TheConstants.{MOST_LEVELS}
 use Rattle.sql_lex.specs.declared.tokens.Token.{Token}
+use Rattle.sql_grammar.specs.declared.class.Free.TheVariants.{Between, In}
 use Rattle.sql_grammar.specs.declared.class.Word.TheVariants.{And, Is, Not, Null, Or}
-use Rattle.sql_grammar.specs.declared.class.Symbol.TheVariants.{Close, Comma, Dot}
-use Rattle.sql_grammar.specs.Terminals.{Terminal, token_of, t_key, t_mark, t_name, t_number, t_quoted, t_operator, t_semicolon, t_end}
-use Rattle.sql_grammar.specs.Syntax.{unknown, constant, Operand, column, literal, Atom, parens, compare, is_null, is_not_null, column_alone, constant_alone}
-use Rattle.sql_grammar.specs.Words.{words_of_operand}
+use Rattle.sql_grammar.specs.declared.class.Symbol.TheVariants.{Close, Comma, Dot, Open}
+use Rattle.sql_grammar.specs.Terminals.{Terminal, free, token_of, t_key, t_mark, t_name, t_number, t_quoted, t_operator, t_semicolon, t_end}
+use Rattle.sql_grammar.specs.Syntax.{unknown, constant, Operand, column, literal, Atom, parens, compare, is_null, is_not_null, in_list, between, column_alone, constant_alone}
+use Rattle.sql_grammar.specs.Words.{words_of_bounds, words_of_lit, words_of_negated, words_of_operand}
 use Rattle.sql_grammar.specs.Faults.{Production, terminals, AreWithinLimits, IsPartEnd}
 
 -- the token of a terminal
@@ -26,9 +27,12 @@ abbrev pub ends_operand : List Terminal → Bool
 ends_operand (t_mark Dot _ ∷ _) = false
 ends_operand _ = true
 
--- it goes on no atom: it is no dot, IS or operator
+-- it goes on no atom: it is no dot, IS, NOT, IN, BETWEEN or operator
 abbrev pub ends_atom : List Terminal → Bool
 ends_atom (t_mark Dot _ ∷ _) = false
+ends_atom (t_key Not _ ∷ _) = false
+ends_atom (t_name (free In _) ∷ _) = false
+ends_atom (t_name (free Between _) ∷ _) = false
 ends_atom (t_key Is _ ∷ _) = false
 ends_atom (t_operator _ ∷ _) = false
 ends_atom _ = true
@@ -36,6 +40,9 @@ ends_atom _ = true
 -- it goes on no conjunction: it is no dot, IS, operator or AND
 abbrev pub ends_conj : List Terminal → Bool
 ends_conj (t_mark Dot _ ∷ _) = false
+ends_conj (t_key Not _ ∷ _) = false
+ends_conj (t_name (free In _) ∷ _) = false
+ends_conj (t_name (free Between _) ∷ _) = false
 ends_conj (t_key Is _ ∷ _) = false
 ends_conj (t_operator _ ∷ _) = false
 ends_conj (t_key And _ ∷ _) = false
@@ -44,6 +51,9 @@ ends_conj _ = true
 -- the next word, where there is one, goes on no expression before it: it is no dot, operator, IS, AND or OR
 abbrev pub ends_expr : List Terminal → Bool
 ends_expr (t_mark Dot _ ∷ _) = false
+ends_expr (t_key Not _ ∷ _) = false
+ends_expr (t_name (free In _) ∷ _) = false
+ends_expr (t_name (free Between _) ∷ _) = false
 ends_expr (t_operator _ ∷ _) = false
 ends_expr (t_key Is _ ∷ _) = false
 ends_expr (t_key And _ ∷ _) = false
@@ -78,6 +88,8 @@ front (parens o e c) = literal (constant unknown o)
 front (compare l op r) = l
 front (is_null c i k) = column c
 front (is_not_null c i n k) = column c
+front (in_list u c n w o l ls m) = column c
+front (between u l n w a k b) = l
 front (column_alone c) = column c
 front (constant_alone c k) = literal (constant c k)
 
@@ -87,6 +99,8 @@ tail (parens o e c) x = x
 tail (compare l op r) x = t_operator op ∷ (words_of_operand r ++ x)
 tail (is_null c i k) x = t_key Is i ∷ t_key Null k ∷ x
 tail (is_not_null c i n k) x = t_key Is i ∷ t_key Not n ∷ t_key Null k ∷ x
+tail (in_list u c n w o l ls m) x = words_of_negated n ++ t_name (free In w) ∷ t_mark Open o ∷ (words_of_lit l ++ (words_of_bounds ls ++ t_mark Close m ∷ x))
+tail (between u l n w a k b) x = words_of_negated n ++ t_name (free Between w) ∷ (words_of_operand a ++ t_key And k ∷ (words_of_operand b ++ x))
 tail (column_alone c) x = x
 tail (constant_alone c k) x = x
 

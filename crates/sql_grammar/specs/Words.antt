@@ -3,11 +3,11 @@
 use Rattle.std.specs.Prelude.{ℕ, ◌+◌, max, List, [], ◌∷◌, ◌++◌}
 use Rattle.sql_lex.specs.declared.tokens.Token.{Token}
 use Rattle.sql_grammar.specs.Terminals.{Terminal, Ident, t_key, t_mark, t_name, t_number, t_quoted, t_operator, t_semicolon, t_end, free}
-use Rattle.sql_grammar.specs.declared.class.Free.TheVariants.{Advise as AdviseWord, Analyze, By, Check as CheckWord, Common as CommonWord, Copy, Csv, Distinct, Explain, First, Format, Histogram as HistogramWord, Include as IncludeWord, Index as IndexWord, Last, Nulls as NullsWord, Pages, Plan, Rows, Statistics, Stdin, Use}
+use Rattle.sql_grammar.specs.declared.class.Free.TheVariants.{Advise as AdviseWord, Analyze, Between, By, Check as CheckWord, Common as CommonWord, Copy, Csv, Distinct, Explain, First, Format, Histogram as HistogramWord, In, Include as IncludeWord, Index as IndexWord, Last, Nulls as NullsWord, Pages, Plan, Rows, Statistics, Stdin, Use}
 use Rattle.sql_grammar.specs.declared.class.Word.{Word}
 use Rattle.sql_grammar.specs.declared.class.Word.TheVariants.{And, As, Asc, Create, Cross, Desc, False, From, Group as GroupKey, Inner as InnerKey, Is, Join as JoinKey, Limit as LimitKey, Not, Null, Offset as OffsetKey, On, Or, Order, Select, Table, True, Using as UsingKey, Where as WhereKey, With}
 use Rattle.sql_grammar.specs.declared.class.Symbol.TheVariants.{Open, Close, Comma, Dot, Minus, Star}
-use Rattle.sql_grammar.specs.Syntax.{Col, bare, qualified, Constant, yes, no, unknown, Lit, number, negative, quoted, constant, Operand, column, literal, Expr, either_of, Ors, no_or, or_conj, Conj, both_of, Ands, no_and, and_neg, Neg, negated, plain, Atom, parens, compare, is_null, is_not_null, column_alone, constant_alone, Nulls, unwritten, not_null, nullable, ColDef, coldef, Output, every, every_of, one, Alias, no_alias, bare_alias, as_alias, Relation, relation, Inner, no_inner, inner, Join, join_on, cross_join, Group, group_of, Select as SelectTree, select_from, Where, no_where, where_expr, Share, share, Common, no_common, common, Histogram, no_histogram, histogram, Ending, semicolon, text_end, Direction, no_direction, ascending, descending, NullsEnd, no_nulls_end, nulls_first, nulls_last, Ordering, ordering, OrderBy, no_order, order_by, Limit, no_limit, most_rows, Offset, no_offset, skipped_rows, Window, window, WindowedSelect, windowed_select, Explaining, no_explain, explain, explain_table, OrderedSelect, ordered_select, MaybeExplain, unexplained, explained, Argument, all_rows, of_col, GroupedItem, plain_item, call, GroupBy, no_group_by, group_by, GroupedSelect, grouped_select, OpClass, no_class, op_class, IndexKey, index_key, Using, no_using, using_method, Include, no_include, include_columns, CreateIndex, index_on, Cand, cand_on, Advised, advised, Advise, advise_of, Statement, empty, create_table, create_index, query, copy, sizes, column_statistics, analyze, advise, check, use_plan, grouped}
+use Rattle.sql_grammar.specs.Syntax.{Col, bare, qualified, Constant, yes, no, unknown, Lit, number, negative, quoted, constant, Operand, column, literal, Expr, either_of, Ors, no_or, or_conj, Conj, both_of, Ands, no_and, and_neg, Negated, no_not, not_before, Neg, negated, plain, Atom, parens, compare, is_null, is_not_null, in_list, between, column_alone, constant_alone, Nulls, unwritten, not_null, nullable, ColDef, coldef, Output, every, every_of, one, Alias, no_alias, bare_alias, as_alias, Relation, relation, Inner, no_inner, inner, Join, join_on, cross_join, Group, group_of, Select as SelectTree, select_from, Where, no_where, where_expr, Share, share, Common, no_common, common, Histogram, no_histogram, histogram, Ending, semicolon, text_end, Direction, no_direction, ascending, descending, NullsEnd, no_nulls_end, nulls_first, nulls_last, Ordering, ordering, OrderBy, no_order, order_by, Limit, no_limit, most_rows, Offset, no_offset, skipped_rows, Window, window, WindowedSelect, windowed_select, Explaining, no_explain, explain, explain_table, OrderedSelect, ordered_select, MaybeExplain, unexplained, explained, Argument, all_rows, of_col, GroupedItem, plain_item, call, GroupBy, no_group_by, group_by, GroupedSelect, distinct_select, grouped_select, OpClass, no_class, op_class, IndexKey, index_key, Using, no_using, using_method, Include, no_include, include_columns, CreateIndex, index_on, Cand, cand_on, Advised, advised, Advise, advise_of, Statement, empty, create_table, create_index, query, copy, sizes, column_statistics, analyze, advise, check, use_plan, grouped}
 
 -- a column, with its table's name and a dot before it where that is written
 abbrev pub words_of_col : Col → List Terminal
@@ -27,10 +27,20 @@ words_of_lit (negative m n) = t_mark Minus m ∷ t_number n ∷ []
 words_of_lit (quoted t) = t_quoted t ∷ []
 words_of_lit (constant c k) = t_key (constant_word c) k ∷ []
 
+-- further literals, each after a comma
+abbrev pub words_of_bounds : List (Token × Lit) → List Terminal
+words_of_bounds [] = []
+words_of_bounds ((m, l) ∷ ls) = t_mark Comma m ∷ (words_of_lit l ++ words_of_bounds ls)
+
 -- a column or a literal
 abbrev pub words_of_operand : Operand → List Terminal
 words_of_operand (column c) = words_of_col c
 words_of_operand (literal l) = words_of_lit l
+
+-- NOT or nothing
+abbrev pub words_of_negated : Negated → List Terminal
+words_of_negated no_not = []
+words_of_negated (not_before k) = t_key Not k ∷ []
 
 abbrev mutual
   -- the parts of an OR
@@ -56,12 +66,14 @@ abbrev mutual
   words_of_neg (negated k n) = t_key Not k ∷ words_of_neg n
   words_of_neg (plain a) = words_of_atom a
 
-  -- an expression in parentheses, a comparison, a null test, a column or a constant
+  -- an expression in parentheses, a comparison, a null test, IN with a list, BETWEEN, a column or a constant
   pub words_of_atom : Atom → List Terminal
   words_of_atom (parens o e c) = t_mark Open o ∷ (words_of_expr e ++ t_mark Close c ∷ [])
   words_of_atom (compare l op r) = words_of_operand l ++ t_operator op ∷ words_of_operand r
   words_of_atom (is_null c i k) = words_of_col c ++ t_key Is i ∷ t_key Null k ∷ []
   words_of_atom (is_not_null c i n k) = words_of_col c ++ t_key Is i ∷ t_key Not n ∷ t_key Null k ∷ []
+  words_of_atom (in_list _ c n w o l ls m) = words_of_col c ++ (words_of_negated n ++ t_name (free In w) ∷ t_mark Open o ∷ (words_of_lit l ++ (words_of_bounds ls ++ t_mark Close m ∷ [])))
+  words_of_atom (between _ l n w a k b) = words_of_operand l ++ (words_of_negated n ++ t_name (free Between w) ∷ (words_of_operand a ++ t_key And k ∷ words_of_operand b))
   words_of_atom (column_alone c) = words_of_col c
   words_of_atom (constant_alone c k) = t_key (constant_word c) k ∷ []
 
@@ -94,7 +106,7 @@ words_of_outputs ((m, o) ∷ os) = t_mark Comma m ∷ (words_of_output o ++ word
 -- an alias, with or without AS, or nothing
 abbrev pub words_of_alias : Alias → List Terminal
 words_of_alias no_alias = []
-words_of_alias (bare_alias n) = t_name n ∷ []
+words_of_alias (bare_alias n _) = t_name n ∷ []
 words_of_alias (as_alias k n) = t_key As k ∷ t_name n ∷ []
 
 -- a relation: a table's name with its alias
@@ -225,6 +237,9 @@ words_of_group_by (group_by k b c cs) = t_key GroupKey k ∷ t_name (free By b) 
 
 -- a SELECT with calls or GROUP BY, behind its first word, with its order and its end
 abbrev pub words_of_grouped : GroupedSelect → List Terminal
+words_of_grouped (distinct_select _ d o os f g gs w y e) =
+    t_name (free Distinct d) ∷ (words_of_output o ++ (words_of_outputs os ++ t_key From f ∷
+    (words_of_group g ++ (words_of_groups gs ++ (words_of_where w ++ (words_of_order y ++ words_of_ending e))))))
 words_of_grouped (grouped_select i is f g gs w b _ y e) =
     words_of_grouped_item i ++ (words_of_grouped_items is ++ t_key From f ∷
     (words_of_group g ++ (words_of_groups gs ++ (words_of_where w ++ (words_of_group_by b ++ (words_of_order y ++ words_of_ending e))))))
@@ -304,11 +319,6 @@ abbrev pub words_of_common : Common → List Terminal
 words_of_common no_common = []
 words_of_common (common k o s ss m) = t_name (free CommonWord k) ∷ t_mark Open o ∷ (words_of_share s ++ (words_of_shares ss ++ t_mark Close m ∷ []))
 
--- further bounds, each after a comma
-abbrev pub words_of_bounds : List (Token × Lit) → List Terminal
-words_of_bounds [] = []
-words_of_bounds ((m, l) ∷ ls) = t_mark Comma m ∷ (words_of_lit l ++ words_of_bounds ls)
-
 -- the bounds of a histogram, or nothing
 abbrev pub words_of_histogram : Histogram → List Terminal
 words_of_histogram no_histogram = []
@@ -367,6 +377,8 @@ abbrev mutual
   levels_of_atom (compare _ _ _) = 0
   levels_of_atom (is_null _ _ _) = 0
   levels_of_atom (is_not_null _ _ _ _) = 0
+  levels_of_atom (in_list _ _ _ _ _ _ _ _) = 0
+  levels_of_atom (between _ _ _ _ _ _ _) = 0
   levels_of_atom (column_alone _) = 0
   levels_of_atom (constant_alone _ _) = 0
 
@@ -404,6 +416,7 @@ levels_of_windowed (windowed_select q _ _) = levels_of_select q
 
 -- those of a SELECT with calls or GROUP BY
 abbrev pub levels_of_grouped : GroupedSelect → ℕ
+levels_of_grouped (distinct_select _ _ _ _ _ g gs w _ _) = max (levels_of_group g) (max (levels_of_groups gs) (levels_of_where w))
 levels_of_grouped (grouped_select _ _ _ g gs w _ _ _ _) = max (levels_of_group g) (max (levels_of_groups gs) (levels_of_where w))
 
 -- those of a SELECT with its order

@@ -12,6 +12,9 @@ pub const READS_ANALYZE: bool = true;
 /// CHECK of the certificate of a SELECT's plan.
 pub const READS_CHECK: bool = true;
 
+/// DISTINCT behind SELECT.
+pub const READS_DISTINCT: bool = true;
+
 /// GROUP BY and the calls of a SELECT's list, as count(*).
 pub const READS_GROUPS: bool = true;
 
@@ -20,6 +23,9 @@ pub const READS_PLAN: bool = true;
 
 /// EXPLAIN (TABLE) of a SELECT: its plan with its certificate.
 pub const READS_TABLE: bool = true;
+
+/// IN with a list, and BETWEEN.
+pub const READS_LISTS: bool = true;
 
 /// LIMIT and OFFSET behind a SELECT with its order.
 pub const READS_WINDOW: bool = true;

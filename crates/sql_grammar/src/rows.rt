@@ -5,18 +5,19 @@
 use crate::class::Class::{End, Key, Mark, Name, Number, Operator, Quoted, Semicolon};
 use crate::class::{Class, Free, Symbol, Word};
 use crate::offered::{
-    READS_ADVISE, READS_ANALYZE, READS_CHECK, READS_GROUPS, READS_PLAN, READS_TABLE, READS_WINDOW,
+    READS_ADVISE, READS_ANALYZE, READS_CHECK, READS_DISTINCT, READS_GROUPS, READS_LISTS,
+    READS_PLAN, READS_TABLE, READS_WINDOW,
 };
 use crate::table::Item::{
-    self, AdvisedSelect, AfterColumn, AfterCreate, AfterExplain, AfterGroupedName, AfterIs,
-    AfterLiteral, AfterName, AfterPlain, AfterQualifier, AfterResult, AfterTruth, Argument,
-    Candidate, Closes, Digits, Ends, Figures, FirstOrLast, FreeWord, GroupedItem, Keyword, Label,
-    Literal, MaybeAlias, MaybeClass, MaybeCommon, MaybeDirection, MaybeGroup, MaybeHistogram,
-    MaybeInclude, MaybeLimit, MaybeNulls, MaybeOffset, MaybeOrder, MaybeUsing, MaybeWhere,
-    MoreAdvised, MoreAnds, MoreBounds, MoreCands, MoreColumns, MoreGroupColumns, MoreGroupedItems,
-    MoreGroups, MoreJoins, MoreKeys, MoreNames, MoreOrderings, MoreOrs, MoreResults, MoreShares,
-    Negation, NotEnds, Nullness, PlainItem, PlainNext, PlainTail, Query, QuotedText, Result, Side,
-    Sign, StarOrLabel, Stop,
+    self, AdvisedSelect, AfterColumn, AfterCreate, AfterDistinct, AfterExplain, AfterGroupedName,
+    AfterIs, AfterLiteral, AfterName, AfterNot, AfterPlain, AfterQualifier, AfterResult,
+    AfterTruth, Argument, Candidate, Closes, Digits, Ends, Figures, FirstItem, FirstOrLast,
+    FreeWord, GroupedItem, Keyword, Label, Literal, MaybeAlias, MaybeClass, MaybeCommon,
+    MaybeDirection, MaybeGroup, MaybeHistogram, MaybeInclude, MaybeLimit, MaybeNulls, MaybeOffset,
+    MaybeOrder, MaybeUsing, MaybeWhere, MoreAdvised, MoreAnds, MoreBounds, MoreCands, MoreColumns,
+    MoreGroupColumns, MoreGroupedItems, MoreGroups, MoreJoins, MoreKeys, MoreNames, MoreOrderings,
+    MoreOrs, MoreResults, MoreShares, Negation, NotEnds, Nullness, PlainItem, PlainNext, PlainTail,
+    Query, QuotedText, Result, Side, Sign, StarOrLabel, Stop,
 };
 
 /// A row: the token that it takes, whether it is in the grammar, and the items in the item's place after it. The first row of
@@ -65,7 +66,7 @@ pub const QUOTED_TEXT: ItemRows = rows! { NEEDED;
 /// A statement and its end.
 pub const WHOLE: ItemRows = rows! { NEEDED;
     Key(Word::Create) => [AfterCreate];
-    Key(Word::Select) => [PlainItem];
+    Key(Word::Select) => [FirstItem];
     Name(Some(Free::Explain)) => [AfterExplain];
     Name(Some(Free::Copy)) => [
         Label, Keyword(Word::From), FreeWord(Free::Stdin), Keyword(Word::With), Sign(Symbol::Open),
@@ -136,9 +137,14 @@ pub const STAR_OR_LABEL: ItemRows = rows! { NEEDED;
     ANY_NAME => [];
 };
 
-/// An alias or nothing.
+/// An alias or nothing. The words of outer joins are none without AS, so such a join is a fault at its first word.
 pub const MAYBE_ALIAS: ItemRows = rows! { OPTIONAL;
     Key(Word::As) => [Label];
+    Name(Some(Free::Full)) => [] if NEVER;
+    Name(Some(Free::Left)) => [] if NEVER;
+    Name(Some(Free::Natural)) => [] if NEVER;
+    Name(Some(Free::Outer)) => [] if NEVER;
+    Name(Some(Free::Right)) => [] if NEVER;
     ANY_NAME => [];
 };
 
@@ -242,12 +248,24 @@ pub const AFTER_NAME: ItemRows = rows! { OPTIONAL;
     Mark(Symbol::Dot) => [Label, AfterColumn];
     Key(Word::Is) => [AfterIs];
     Operator => [Side];
+    Key(Word::Not) => [AfterNot] if READS_LISTS;
+    Name(Some(Free::In)) => [Sign(Symbol::Open), Literal, MoreBounds] if READS_LISTS;
+    Name(Some(Free::Between)) => [Side, Keyword(Word::And), Side] if READS_LISTS;
 };
 
 /// What follows a column there.
 pub const AFTER_COLUMN: ItemRows = rows! { OPTIONAL;
     Key(Word::Is) => [AfterIs];
     Operator => [Side];
+    Key(Word::Not) => [AfterNot] if READS_LISTS;
+    Name(Some(Free::In)) => [Sign(Symbol::Open), Literal, MoreBounds] if READS_LISTS;
+    Name(Some(Free::Between)) => [Side, Keyword(Word::And), Side] if READS_LISTS;
+};
+
+/// What follows a column and NOT.
+pub const AFTER_NOT: ItemRows = rows! { NEEDED;
+    Name(Some(Free::In)) => [Sign(Symbol::Open), Literal, MoreBounds];
+    Name(Some(Free::Between)) => [Side, Keyword(Word::And), Side];
 };
 
 /// What follows IS.
@@ -259,11 +277,15 @@ pub const AFTER_IS: ItemRows = rows! { NEEDED;
 /// What follows a number or a quoted text: it has to be compared.
 pub const AFTER_LITERAL: ItemRows = rows! { NEEDED;
     Operator => [Side];
+    Key(Word::Not) => [FreeWord(Free::Between), Side, Keyword(Word::And), Side] if READS_LISTS;
+    Name(Some(Free::Between)) => [Side, Keyword(Word::And), Side] if READS_LISTS;
 };
 
 /// What follows TRUE, FALSE or NULL.
 pub const AFTER_TRUTH: ItemRows = rows! { OPTIONAL;
     Operator => [Side];
+    Key(Word::Not) => [FreeWord(Free::Between), Side, Keyword(Word::And), Side] if READS_LISTS;
+    Name(Some(Free::Between)) => [Side, Keyword(Word::And), Side] if READS_LISTS;
 };
 
 /// An operand.
@@ -360,7 +382,7 @@ pub const MORE_NAMES: ItemRows = rows! { NEEDED;
 
 /// What follows EXPLAIN, up to the statement's end.
 pub const AFTER_EXPLAIN: ItemRows = rows! { NEEDED;
-    Key(Word::Select) => [PlainItem];
+    Key(Word::Select) => [FirstItem];
     Mark(Symbol::Open) => [
         Keyword(Word::Table), Sign(Symbol::Close), Query, MaybeOrder, MaybeLimit, MaybeOffset, Ends
     ] if READS_TABLE;
@@ -390,6 +412,32 @@ pub const MORE_ADVISED: ItemRows = rows! { OPTIONAL;
     Mark(Symbol::Open) => [
         Query, MaybeOrder, MaybeLimit, MaybeOffset, Sign(Symbol::Close), MoreAdvised
     ];
+};
+
+/// The first item of a SELECT's list, or DISTINCT and the list, and what follows up to the statement's end.
+pub const FIRST_ITEM: ItemRows = rows! { NEEDED;
+    Mark(Symbol::Star) => [PlainNext];
+    Name(Some(Free::Distinct)) => [AfterDistinct];
+    ANY_NAME => [AfterPlain];
+};
+
+/// What follows the word DISTINCT there: a list, where a `*` or a name is next; else it is a column's name.
+pub const AFTER_DISTINCT: ItemRows = rows! { NEEDED;
+    Mark(Symbol::Star) => [
+        MoreResults, Keyword(Word::From), Label, MaybeAlias, MoreJoins, MoreGroups, MaybeWhere,
+        MaybeOrder, Ends
+    ] if READS_DISTINCT;
+    ANY_NAME => [
+        AfterResult, MoreResults, Keyword(Word::From), Label, MaybeAlias, MoreJoins, MoreGroups,
+        MaybeWhere, MaybeOrder, Ends
+    ] if READS_DISTINCT;
+    Mark(Symbol::Dot) => [StarOrLabel, PlainNext];
+    Mark(Symbol::Open) => [
+        Argument, Sign(Symbol::Close), MoreGroupedItems, Label, MaybeAlias, MoreJoins, MoreGroups,
+        MaybeWhere, MaybeGroup, MaybeOrder, Ends
+    ] if READS_GROUPS;
+    Mark(Symbol::Comma) => [PlainItem];
+    Key(Word::From) => [Label, MaybeAlias, MoreJoins, MoreGroups, MaybeWhere, PlainTail];
 };
 
 /// An item of a SELECT's list before which no call stands, and what follows it up to the statement's end.

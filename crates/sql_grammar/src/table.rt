@@ -77,6 +77,8 @@ pub enum Item {
     AfterName,
     /// What follows a column there.
     AfterColumn,
+    /// What follows a column and NOT.
+    AfterNot,
     /// What follows IS.
     AfterIs,
     /// What follows a number or a quoted text: it has to be compared.
@@ -123,6 +125,10 @@ pub enum Item {
     AdvisedSelect,
     /// Further ones.
     MoreAdvised,
+    /// The first item of a SELECT's list, or DISTINCT and the list, and what follows up to the statement's end.
+    FirstItem,
+    /// What follows the word DISTINCT there.
+    AfterDistinct,
     /// An item of a SELECT's list before which no call stands, and what follows it up to the statement's end.
     PlainItem,
     /// What follows a name there.
@@ -182,6 +188,7 @@ fn item_rows(item: Item) -> ItemRows
         Item::NotEnds => rows::NOT_ENDS,
         Item::AfterName => rows::AFTER_NAME,
         Item::AfterColumn => rows::AFTER_COLUMN,
+        Item::AfterNot => rows::AFTER_NOT,
         Item::AfterIs => rows::AFTER_IS,
         Item::AfterLiteral => rows::AFTER_LITERAL,
         Item::AfterTruth => rows::AFTER_TRUTH,
@@ -205,6 +212,8 @@ fn item_rows(item: Item) -> ItemRows
         Item::MoreCands => rows::MORE_CANDS,
         Item::AdvisedSelect => rows::ADVISED_SELECT,
         Item::MoreAdvised => rows::MORE_ADVISED,
+        Item::FirstItem => rows::FIRST_ITEM,
+        Item::AfterDistinct => rows::AFTER_DISTINCT,
         Item::PlainItem => rows::PLAIN_ITEM,
         Item::AfterPlain => rows::AFTER_PLAIN,
         Item::PlainNext => rows::PLAIN_NEXT,

@@ -1,5 +1,5 @@
 -- A fault of a SELECT that groups is in no record of data.
-use Rattle.std.proofs.Common.{◌≡◌, List, filter_map, [], ◌∷◌, ◌++◌, Option, Some, None, Ok, Err, Result, refl, subst}
+use Rattle.std.proofs.Common.{◌≡◌, List, filter_map, map, [], ◌∷◌, ◌++◌, Option, Some, None, Ok, Err, Result, refl, subst}
 use Rattle.pg_base.specs.declared.faults.Fault.{Fault}
 use Rattle.pg_value.specs.declared.value.SqlType.{SqlType}
 use Rattle.pg_expr.specs.declared.operand.ColRef.{ColRef}
@@ -7,7 +7,7 @@ use Rattle.catalog.specs.Contents.{Contents}
 use Rattle.catalog.specs.Range.{type_in}
 use Rattle.sql_lex.specs.declared.tokens.Token.{Token}
 use Rattle.sql_grammar.specs.FromParts.{groups_after}
-use Rattle.sql_grammar.specs.Syntax.{Argument, all_rows, of_col, GroupBy, no_group_by, group_by, GroupedItem, plain_item, call, GroupedSelect, grouped_select, OrderBy, Where}
+use Rattle.sql_grammar.specs.Syntax.{Argument, all_rows, of_col, GroupBy, no_group_by, group_by, GroupedItem, plain_item, call, GroupedSelect, distinct_select, grouped_select, OrderBy, Where}
 use Rattle.sql_grammar.specs.Faults.{bytes_of}
 use Rattle.sql_grammar.specs.Terminals.{Ident}
 use Rattle.eq_classes.specs.declared.order.OrderItem.{OrderItem}
@@ -21,7 +21,7 @@ use Rattle.query_reader.specs.Order.{order_items}
 use Rattle.query_reader.specs.Scope.{scope_of}
 use Rattle.query_reader.specs.Written.{item_of}
 use Rattle.group_reader.specs.declared.parts.Part.{Part}
-use Rattle.group_reader.specs.Binding.{all_grouped, bound_groups, call_parts, group_columns, groups_over, item_parts, known_call, list_parts, lists_bound, none_of, order_words, over_column, over_rows, shown_columns, ungrouped_items, ungrouped_part}
+use Rattle.group_reader.specs.Binding.{Grouper, columns_of, shown, all_grouped, bound_groups, call_parts, group_columns, groups_over, item_parts, keys_by, known_call, list_parts, lists_bound, none_of, order_words, over_column, over_rows, shown_columns, ungrouped_items, ungrouped_part}
 use Rattle.statements.proofs.BindingLemmas.{groups-plain, item-plain, limit-plain, order-plain, where-plain}
 use Rattle.statements.proofs.PlainLemmas.{IsPlain, column-plain, each-plain, next-plain}
 
@@ -53,13 +53,17 @@ module _ (scope : Scope) (type_of : ColRef → SqlType) where
   parts-plain [] = tt
   parts-plain (i ∷ is) = next-plain (item_parts scope type_of i) _ (part-plain i) (λ ps. next-plain (list_parts scope type_of is) _ (parts-plain is) (λ qs. tt))
 
-  lists-plain : (is : List GroupedItem) (b : GroupBy) (y : OrderBy) → IsPlain (lists_bound scope type_of is b y)
+  keys-plain : (b : Grouper) (ps : List Part) → IsPlain (keys_by scope b ps)
+  keys-plain (columns_of b) ps = columns-plain scope b
+  keys-plain shown ps = tt
+
+  lists-plain : (is : List GroupedItem) (b : Grouper) (y : OrderBy) → IsPlain (lists_bound scope type_of is b y)
   lists-plain is b y =
       next-plain (list_parts scope type_of is) _ (parts-plain is)
       (λ ps. next-plain (order_items scope (shown_columns ps) y) _ (order-plain scope (shown_columns ps) y)
-      (λ ordered. next-plain (group_columns scope b) _ (columns-plain scope b) (λ keys. grouped-plain keys ps ordered (order_words y) (record { parts = ps; order = ordered; keys = keys }))))
+      (λ ordered. next-plain (keys_by scope b ps) _ (keys-plain b ps) (λ keys. grouped-plain keys ps ordered (order_words y) (record { parts = ps; order = ordered; keys = keys }))))
 
-over-plain : (start : Token) (is : List GroupedItem) (w : Where) (b : GroupBy) (y : OrderBy) (j : Joined) → IsPlain (groups_over start is w b y j)
+over-plain : (start : Token) (is : List GroupedItem) (w : Where) (b : Grouper) (y : OrderBy) (j : Joined) → IsPlain (groups_over start is w b y j)
 over-plain start is w b y j =
     next-plain (conjuncts_written (scope_of j.contents j.range) (type_in j.contents j.range) w) _ (where-plain (scope_of j.contents j.range) (type_in j.contents j.range) w)
     (λ conjuncts. next-plain (lists_bound (scope_of j.contents j.range) (type_in j.contents j.range) is b y) _ (lists-plain (scope_of j.contents j.range) (type_in j.contents j.range) is b y)
@@ -67,7 +71,9 @@ over-plain start is w b y j =
 
 groups-bound : (c : Contents) (start : Token) (x : GroupedSelect) → IsPlain (bound_groups c start x)
 groups-bound c start (grouped_select i is f g gs w b d y e) =
-    next-plain (with_groups (nothing_joined c) (g ∷ groups_after gs)) _ (groups-plain (nothing_joined c) (g ∷ groups_after gs)) (over-plain start (i ∷ further_parts (λ x. x) is) w b y)
+    next-plain (with_groups (nothing_joined c) (g ∷ groups_after gs)) _ (groups-plain (nothing_joined c) (g ∷ groups_after gs)) (over-plain start (i ∷ further_parts (λ x. x) is) w (columns_of b) y)
+groups-bound c start (distinct_select u d o os f g gs w y e) =
+    next-plain (with_groups (nothing_joined c) (g ∷ groups_after gs)) _ (groups-plain (nothing_joined c) (g ∷ groups_after gs)) (over-plain start (map plain_item (o ∷ further_parts (λ x. x) os)) w shown y)
 
 by-fault : {A : Type 0} (r : Result A Fault) (f : Fault) → r ≡ Err f → IsPlain r → f.rec ≡ 0
 by-fault (Ok x) f is plain = absurd (cc (is))

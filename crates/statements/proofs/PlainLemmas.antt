@@ -1,5 +1,5 @@
 -- A fault of names, literals and limits is in no record of data.
-use Rattle.std.proofs.Common.{◌≡◌, ℕ, Bool, true, false, cond, List, [], ◌∷◌, Option, Some, None, Ok, Err, Result, refl, ap, arith}
+use Rattle.std.proofs.Common.{◌≡◌, ℕ, Bool, true, false, codes, cond, List, [], ◌∷◌, Option, Some, None, Ok, Err, Result, refl, ap, arith}
 use Rattle.pg_base.specs.declared.faults.Code.{Code}
 use Rattle.pg_base.specs.declared.faults.Code.TheVariants.{S2, S3}
 use Rattle.pg_base.specs.declared.faults.Fault.{Fault}
@@ -14,20 +14,20 @@ use Rattle.pg_value.specs.Fields.{ranged, field_value}
 use Rattle.opfamily.specs.Answers.{does_exist}
 use Rattle.pg_expr.specs.declared.operand.ColRef.{ColRef}
 use Rattle.pg_expr.specs.declared.operand.Operand.{Operand as Bound}
-use Rattle.pg_expr.specs.Cond.{Cond, Conds, compare as compared}
+use Rattle.pg_expr.specs.Cond.{Cond, Conds, compare as compared, no_conds}
 use Rattle.catalog.specs.Contents.{Contents}
 use Rattle.catalog.specs.Tables.{column_named, table_named}
 use Rattle.sql_lex.specs.declared.tokens.Token.{Token}
 use Rattle.sql_grammar.specs.Terminals.{Ident, Said, token_of}
 use Rattle.sql_grammar.specs.Faults.{Production, IsFirstFault, bytes_of, fault_at}
-use Rattle.sql_grammar.specs.Syntax.{Col, bare, qualified, yes, no, unknown, Lit, number, negative, quoted, constant, Operand, column, literal, Expr, either_of, Ors, no_or, or_conj, Conj, both_of, Ands, no_and, and_neg, Neg, negated, plain, Atom, parens, compare, is_null, is_not_null, column_alone, constant_alone}
+use Rattle.sql_grammar.specs.Syntax.{Col, bare, qualified, yes, no, unknown, Lit, number, negative, quoted, constant, Operand, column, literal, Expr, either_of, Ors, no_or, or_conj, Conj, both_of, Ands, no_and, and_neg, Neg, negated, plain, Atom, parens, compare, is_null, is_not_null, in_list, between, column_alone, constant_alone}
 use Rattle.expr_reader.specs.Lists.{before_all, bound_each}
 use Rattle.expr_reader.specs.Operators.{operator_of}
 use Rattle.expr_reader.specs.declared.found.Found.{Found}
 use Rattle.expr_reader.specs.declared.found.Found.TheVariants.{One, NoTable, NoColumn, Many}
 use Rattle.expr_reader.specs.Scope.{Scope, look_up}
 use Rattle.expr_reader.specs.Literals.{literal_value, number_as, flag_as, typed_value, value_at, written}
-use Rattle.expr_reader.specs.Conditions.{next, the_column, column_of, place_of_col, Side, of_column, of_literal, own_type, type_beside, operand_of, operated, compare_as, flag_column, then_parts, side_of, meaning_of_expr, meaning_of_ors, meaning_of_conj, meaning_of_ands, meaning_of_neg, meaning_of_atom}
+use Rattle.expr_reader.specs.Conditions.{next, the_column, column_of, place_of_col, Side, of_column, of_literal, own_type, type_beside, operand_of, operated, compare_as, flag_column, then_parts, comparison, standing_for, literals_after, equal_to, bounded_by, side_of, meaning_of_expr, meaning_of_ors, meaning_of_conj, meaning_of_ands, meaning_of_neg, meaning_of_atom}
 use Rattle.ddl_reader.specs.Statistics.{known, table_of_name, column_of_name}
 use Rattle.reply_text.specs.Tells.{IsFieldOf}
 
@@ -149,6 +149,18 @@ module _ (scope : Scope) (type_of : ColRef → SqlType) where
   side-plain (column c) = next-plain (column_of scope c) _ (column-plain scope c) (λ r. tt)
   side-plain (literal l) = tt
 
+  comparison-plain : (l : Operand) (op : Said) (r : Operand) → IsPlain (comparison scope type_of l op r)
+  comparison-plain l op r =
+      next-plain (side_of scope type_of l) _ (side-plain l) (λ a. next-plain (side_of scope type_of r) _ (side-plain r) (λ b. sides-plain op (type_beside (own_type a) (own_type b)) (type_beside (own_type b) (own_type a)) a b))
+
+  equals-plain : (c : Col) (w : Token) (ls : List Lit) → IsPlain (equal_to scope type_of c w ls)
+  equals-plain c w [] = tt
+  equals-plain c w (l ∷ ls) = parts-plain _ (equal_to scope type_of c w ls) (comparison-plain (column c) (standing_for (codes "=") w) (literal l)) (equals-plain c w ls)
+
+  bounds-plain : (l : Operand) (w : Token) (a b : Operand) → IsPlain (bounded_by scope type_of l w a b)
+  bounds-plain l w a b =
+      parts-plain _ _ (comparison-plain l (standing_for (codes ">=") w) a) (parts-plain _ (Ok no_conds) (comparison-plain l (standing_for (codes "<=") w) b) tt)
+
   mutual
     pub expr-plain : (e : Expr) → IsPlain (meaning_of_expr scope type_of e)
     expr-plain (either_of c cs) = next-plain (then_parts (meaning_of_conj scope type_of c) (meaning_of_ors scope type_of cs)) _ (parts-plain _ _ (conj-plain c) (ors-plain cs)) (λ xs. tt)
@@ -170,8 +182,9 @@ module _ (scope : Scope) (type_of : ColRef → SqlType) where
 
     atom-plain : (a : Atom) → IsPlain (meaning_of_atom scope type_of a)
     atom-plain (parens m e n) = expr-plain e
-    atom-plain (compare l op r) =
-        next-plain (side_of scope type_of l) _ (side-plain l) (λ a. next-plain (side_of scope type_of r) _ (side-plain r) (λ b. sides-plain op (type_beside (own_type a) (own_type b)) (type_beside (own_type b) (own_type a)) a b))
+    atom-plain (compare l op r) = comparison-plain l op r
+    atom-plain (in_list u c n w o l ls m) = next-plain (equal_to scope type_of c w (l ∷ literals_after ls)) _ (equals-plain c w (l ∷ literals_after ls)) (λ xs. tt)
+    atom-plain (between u l n w a k b) = next-plain (bounded_by scope type_of l w a b) _ (bounds-plain l w a b) (λ xs. tt)
     atom-plain (is_null c i n) = next-plain (column_of scope c) _ (column-plain scope c) (λ r. tt)
     atom-plain (is_not_null c i k n) = next-plain (column_of scope c) _ (column-plain scope c) (λ r. tt)
     atom-plain (column_alone c) = next-plain (column_of scope c) _ (column-plain scope c) (λ r. alone-plain (type_of r) r (place_of_col c))

@@ -8,7 +8,7 @@ use Rattle.expr_reader.proofs.StepLemmas.{step, stop}
 use Rattle.query_reader.specs.From.{Joined, nothing_joined, with_groups}
 use Rattle.query_reader.proofs.GrowLemmas.{some-groups}
 use Rattle.query_reader.proofs.SourceLemmas.{into-fault, was-into}
-use Rattle.group_reader.specs.Binding.{BoundGroups, groups_over}
+use Rattle.group_reader.specs.Binding.{BoundGroups, grouper, groups_over}
 use Rattle.group_reader.specs.Selected.{IsGroupedAs, IsGroupedByItself}
 use Rattle.group_reader.proofs.OverLemmas.{groups-from, stopped}
 use Rattle.group_reader.proofs.group.bind.Goals as goal
@@ -48,7 +48,7 @@ returns-clause-meaning c = λ is g gs w b y rest listed ends eq.
     let so = was-into (Unit {0}) Joined c.take_groups.new.self (with_groups c.new-sources.result (g ∷ groups_after gs)) _ (words_of_where w ++ (words_of_group_by b ++ (words_of_order y ++ rest))) c.take_groups.new.from told in
     let meant = ap (λ (j : Joined). with_groups j (g ∷ groups_after gs)) (sym c.new-sources.ensures) ∙ so.meant in
     subst (λ (m : Result BoundGroups Fault). IsGroupedAs m c.over.result)
-    (sym (step (with_groups (nothing_joined c.args.cat.now) (g ∷ groups_after gs)) (groups_over c.args.start is w b y) c.take_groups.new.self meant))
+    (sym (step (with_groups (nothing_joined c.args.cat.now) (g ∷ groups_after gs)) (groups_over c.args.start is w (grouper c.args.distinct b) y) c.take_groups.new.self meant))
     (c.over.ensures.meaning is w b y rest listed ends so.words)
 
 pub returns-clause-itself : goal.returns-clause-itself

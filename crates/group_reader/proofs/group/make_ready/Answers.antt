@@ -30,36 +30,27 @@ pub classes_within-requires-clause-order : goal.classes_within-requires-clause-o
 classes_within-requires-clause-order c =
     let s : Sight = c.args.relations.now in
     let ws = map cond c.args.written.now in
-    let said : Result BoundLists Fault = lists_said (visible_in s) (type_in s.contents s.range) c.args.words.now.listed.items c.args.words.now.columns.items c.args.words.now.sorts.items in
+    let said : Result BoundLists Fault = lists_said (visible_in s) (type_in s.contents s.range) c.args.words.now.listed.items c.args.words.now.distinct c.args.words.now.columns.items c.args.words.now.sorts.items in
     let within_limits : BoundLists → Result BoundLists Fault = limited c.args.start (past_limit ws) in
-    let told = was-conveyed BoundLists Lists (λ m l. lists_of l ≡ m) said c.in_ok-lists.lists c.in_ok-lists.ensures in
+    let told = was-conveyed BoundLists Lists (λ m l. lists_of l ≡ m) said c.in_ok-lists.lists c.in_ok-lists.ensures.meaning in
     let look : s ≡ record { contents = s.contents; range = s.range; first = 0 } = ap (λ (n : ℕ). record { contents = s.contents; range = s.range; first = n }) c.requires.all in
-    let meant = subst (λ (x : Sight). lists_said (visible_in x) (type_in x.contents x.range) c.args.words.now.listed.items c.args.words.now.columns.items c.args.words.now.sorts.items ≡ Ok told.0) look told.1 in
-    let are = are-lists (scope_of s.contents s.range) (type_in s.contents s.range) c.args.words.now.listed.items c.args.words.now.columns.items c.args.words.now.sorts.items told.0 meant in
+    let meant = subst (λ (x : Sight). lists_said (visible_in x) (type_in x.contents x.range) c.args.words.now.listed.items c.args.words.now.distinct c.args.words.now.columns.items c.args.words.now.sorts.items ≡ Ok told.0) look told.1 in
+    let are = are-lists (scope_of s.contents s.range) (type_in s.contents s.range) c.args.words.now.listed.items c.args.words.now.distinct c.args.words.now.columns.items c.args.words.now.sorts.items told.0 meant in
     let behind : c.deref-3.result.now ≡ told.0.order ++ map plain_item told.0.keys =
     c.deref-3.ensures.value ∙ (c.in_ok-behind.ensures ∙ (ap (λ (o : List OrderItem). o ++ map plain_item c.deref-2.result.now) c.deref.ensures.value
     ∙ (ap (λ (k : List ColRef). c.in_ok-lists.lists.order.items ++ map plain_item k) c.deref-2.ensures.value ∙ ap (λ (l : BoundLists). l.order ++ map plain_item l.keys) told.2))) in
-    subst (λ (l : List OrderItem). All (λ (i : OrderItem). is_column_in s.contents s.range i.col ≡ true) l) (sym behind) (items-over s.contents s.range c.requires.are told.0 c.args.words.now.listed.items c.args.words.now.columns.items c.args.words.now.sorts.items are)
+    subst (λ (l : List OrderItem). All (λ (i : OrderItem). is_column_in s.contents s.range i.col ≡ true) l) (sym behind) (items-over s.contents s.range c.requires.are told.0 c.args.words.now.listed.items c.args.words.now.distinct c.args.words.now.columns.items c.args.words.now.sorts.items are)
 
 pub items-requires : goal.items-requires
-items-requires c =
-    let s : Sight = c.args.relations.now in
-    let ws = map cond c.args.written.now in
-    let said : Result BoundLists Fault = lists_said (visible_in s) (type_in s.contents s.range) c.args.words.now.listed.items c.args.words.now.columns.items c.args.words.now.sorts.items in
-    let within_limits : BoundLists → Result BoundLists Fault = limited c.args.start (past_limit ws) in
-    let told = was-conveyed BoundLists Lists (λ m l. lists_of l ≡ m) said c.in_ok-lists.lists c.in_ok-lists.ensures in
-    let look : s ≡ record { contents = s.contents; range = s.range; first = 0 } = ap (λ (n : ℕ). record { contents = s.contents; range = s.range; first = n }) c.requires.all in
-    let meant = subst (λ (x : Sight). lists_said (visible_in x) (type_in x.contents x.range) c.args.words.now.listed.items c.args.words.now.columns.items c.args.words.now.sorts.items ≡ Ok told.0) look told.1 in
-    let are = are-lists (scope_of s.contents s.range) (type_in s.contents s.range) c.args.words.now.listed.items c.args.words.now.columns.items c.args.words.now.sorts.items told.0 meant in
-    omega (arith, ap length c.deref-4.ensures.value, ap (λ (l : BoundLists). length l.keys) told.2, each-length (column_meant (scope_of s.contents s.range)) c.args.words.now.columns.items told.0.keys are.grouped, c.requires.keys)
+items-requires c = omega (arith, ap length c.deref-4.ensures.value, c.in_ok-lists.ensures.few)
 
-pub returns : goal.returns
-returns c =
+pub returns-clause-meaning : goal.returns-clause-meaning
+returns-clause-meaning c =
     let s : Sight = c.args.relations.now in
     let ws = map cond c.args.written.now in
-    let said : Result BoundLists Fault = lists_said (visible_in s) (type_in s.contents s.range) c.args.words.now.listed.items c.args.words.now.columns.items c.args.words.now.sorts.items in
+    let said : Result BoundLists Fault = lists_said (visible_in s) (type_in s.contents s.range) c.args.words.now.listed.items c.args.words.now.distinct c.args.words.now.columns.items c.args.words.now.sorts.items in
     let within_limits : BoundLists → Result BoundLists Fault = limited c.args.start (past_limit ws) in
-    let told = was-conveyed BoundLists Lists (λ m l. lists_of l ≡ m) said c.in_ok-lists.lists c.in_ok-lists.ensures in
+    let told = was-conveyed BoundLists Lists (λ m l. lists_of l ≡ m) said c.in_ok-lists.lists c.in_ok-lists.ensures.meaning in
     let behind : c.deref-3.result.now ≡ told.0.order ++ map plain_item told.0.keys =
     c.deref-3.ensures.value ∙ (c.in_ok-behind.ensures ∙ (ap (λ (o : List OrderItem). o ++ map plain_item c.deref-2.result.now) c.deref.ensures.value
     ∙ (ap (λ (k : List ColRef). c.in_ok-lists.lists.order.items ++ map plain_item k) c.deref-2.ensures.value ∙ ap (λ (l : BoundLists). l.order ++ map plain_item l.keys) told.2))) in

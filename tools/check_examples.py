@@ -8,7 +8,8 @@ lists. faults.json has scripts that print nothing, each with the line of its fau
 scripts at a limit and one past it: `script` and `out` are lists of texts, each with how often it stands, and `{n}` in such a text is
 the number of the time, from 1 on; where several plans cost the least, `begins` and `ends` stand in place of `out`; `line` is as
 above. best_plans.json has scripts that end with an EXPLAIN, each with how the first line of its output ends. words.json has words
-of the command line, each with its output, its errors and its status; the others are run by the word `run`.
+of the command line, each with its output, its errors and its status; the others are run by the word `run`. hints.json is for
+check_faults.py.
 
 Each script comes to the program whole, and a short one once more a byte at a time. Prints a line for each difference, and last
 the number of runs that passed and failed.

@@ -1,24 +1,24 @@
 #!/usr/bin/env python3
-"""Times the planning of chains and stars of 4, 6, 8 and 10 relations, and of cliques up to 8, beside a PostgreSQL server, as ratios of one run.
+"""Times the planning of chains and stars of 4, 6, 8 and 10 relations, and of cliques up to 8, beside a PostgreSQL server.
 
 usage: bench/joins.py PROGRAM [TURNS]
 
 PROGRAM is a built pgplan. The server is the local one to whose database postgres this user may connect (Debian's package postgresql),
 with hash joins, materialisation, memoisation, incremental sorts, parallel plans and the genetic search off, and collapse limits of 12.
-Each table has 1,000 rows and an index on each column that joins. Of pgplan a run with so many EXPLAINs is timed beside one without
-them, of the server the planning time that EXPLAIN tells. Nothing is promised of it.
+Each table has 1,000 rows and an index on each column that joins. Each query is planned as it stands, with LIMIT 10, and with ORDER BY
+and LIMIT 10. Of pgplan the processor time of a run with so many EXPLAINs is taken beside that of one without them, each the least of
+three, of the server the least planning time that so many EXPLAINs tell, so that other work on the machine counts for little. Nothing is
+promised of it.
 """
-import re
 import resource
-import subprocess
 import sys
-import time
 
-SETTINGS = ["enable_hashjoin = off", "enable_material = off", "enable_memoize = off", "enable_incremental_sort = off",
-            "max_parallel_workers_per_gather = 0", "geqo = off", "from_collapse_limit = 12", "join_collapse_limit = 12"]
+from measuring import planned, planned_by_server
+
 SIZES = (4, 6, 8, 10)
 # A clique of more has more conditions than a query may have.
 LARGEST_CLIQUE = 8
+TAILS = ("", " LIMIT 10", " ORDER BY t0.id LIMIT 10")
 
 
 def joins(shape, count):
@@ -52,32 +52,21 @@ def tables(pairs, count):
 
 
 def ours(program, pairs, count, turns):
-    """Seconds of one plan, and the most memory of a run in megabytes."""
+    """Seconds of one plan, with each of the tails."""
     script = "\n".join(tables(pairs, count)) + "\n"
     for n in range(count):
         script += f"STATISTICS t{n} ROWS 1000 PAGES 10;\n"
         script += "".join(f"STATISTICS t{n}.{name} DISTINCT 1000 NULLS 0;\n" for name in columns_of(pairs, n))
-    times = []
-    for explained in (0, turns):
-        text = script + f"EXPLAIN {query(pairs, count)};\n" * explained
-        start = time.perf_counter()
-        ran = subprocess.run([program, "run"], input=text.encode(), capture_output=True)
-        times.append(time.perf_counter() - start)
-        assert ran.returncode == 0, ran.stderr
-    return (times[1] - times[0]) / turns
+    return [planned(program, script, query(pairs, count) + tail, turns) for tail in TAILS]
 
 
 def theirs(pairs, count, turns):
-    """Seconds of one plan by the server."""
-    text = "".join(f"SET {s};\n" for s in SETTINGS) + "\n".join(tables(pairs, count)).replace("CREATE TABLE", "CREATE TEMP TABLE") + "\n"
+    """Seconds of one plan by the server, with each of the tails."""
+    text = "\n".join(tables(pairs, count)).replace("CREATE TABLE", "CREATE TEMP TABLE") + "\n"
     for n in range(count):
         names = columns_of(pairs, n)
         text += f"INSERT INTO t{n} SELECT {', '.join('g' for _ in names)} FROM generate_series(1, 1000) g;\nANALYZE t{n};\n"
-    text += f"EXPLAIN (SUMMARY ON) {query(pairs, count)};\n" * (turns + 1)
-    ran = subprocess.run(["psql", "-X", "-q", "-At", "-v", "ON_ERROR_STOP=1", "postgres"], input=text, capture_output=True,
-                         text=True, check=True)
-    told = [float(t) for t in re.findall(r"Planning Time: ([0-9.]+) ms", ran.stdout)]
-    return sum(told[1:]) / turns / 1000
+    return planned_by_server(text, [query(pairs, count) + tail for tail in TAILS], turns)
 
 
 def main():
@@ -88,8 +77,9 @@ def main():
             if shape == "clique" and count > LARGEST_CLIQUE:
                 continue
             pairs = joins(shape, count)
-            mine, other = ours(program, pairs, count, turns), theirs(pairs, count, turns)
-            print(f"{shape:6} {count} relations: {1000 * mine:9.2f} ms beside {1000 * other:8.2f} ms, ratio {mine / other:6.2f}")
+            for tail, mine, other in zip(TAILS, ours(program, pairs, count, turns), theirs(pairs, count, turns)):
+                print(f"{shape:6} {count} relations{tail:24}: {1000 * mine:9.2f} ms beside {1000 * other:8.2f} ms, ratio {mine / other:6.2f}",
+                      flush=True)
     print(f"most memory of a run: {resource.getrusage(resource.RUSAGE_CHILDREN).ru_maxrss // 1024} MB")
 
 

@@ -4,19 +4,16 @@
 usage: bench/tpch.py PROGRAM [TURNS [PART]]
 
 PROGRAM is a built pgplan. The server is that of bench/joins.py, with the same settings. Both are given the eight tables of TPC-H with the
-columns that the queries name, an index on each primary key, each foreign key and the two dates, and the same queries: the joins,
-conditions and orders of TPC-H's, without its subqueries, sums and groups, with days for dates and a range for a LIKE. pgplan is told the
-sizes of scale 1 (TPC-H specification, section 4.2.5); the server's tables have one row in PART of these (100 where it is not given),
-which its ANALYZE reads. Of pgplan the processor time of a run with so many EXPLAINs is taken beside that of one without them, each the
+columns that the queries name, an index on each primary key, each foreign key and the two dates, and the same queries, each with LIMIT 10
+too: the joins, conditions and orders of TPC-H's, without its subqueries, sums and groups, with days for dates and a range for a LIKE.
+pgplan is told the sizes of scale 1 (TPC-H specification, section 4.2.5); the server's tables have one row in PART of these (100 where
+it is not given), which its ANALYZE reads. Of pgplan the processor time of a run with so many EXPLAINs is taken beside that of one without them, each the
 least of three, of the server the least planning time that so many EXPLAINs tell, so that other work on the machine counts for little.
 With --script it prints pgplan's script alone. Nothing is promised of it.
 """
-import re
-import resource
-import subprocess
 import sys
 
-from joins import SETTINGS
+from measuring import planned, planned_by_server
 
 NATIONS = ("ALGERIA ARGENTINA BRAZIL CANADA EGYPT ETHIOPIA FRANCE GERMANY INDIA INDONESIA IRAN IRAQ JAPAN JORDAN KENYA MOROCCO"
            " MOZAMBIQUE PERU CHINA ROMANIA ARABIA VIETNAM RUSSIA KINGDOM STATES").split()
@@ -123,34 +120,9 @@ def filled(part):
         yield f"ANALYZE {table};"
 
 
-def used():
-    """The processor time of the programs that were run, in seconds."""
-    usage = resource.getrusage(resource.RUSAGE_CHILDREN)
-    return usage.ru_utime + usage.ru_stime
-
-
 def ours(program, query, turns):
     """Seconds of one plan."""
-    script, least = "\n".join([*definitions(), *statistics()]) + "\n", []
-    for explained in (0, turns):
-        text, times = script + f"EXPLAIN {query};\n" * explained, []
-        for _ in range(3):
-            before = used()
-            subprocess.run([program, "run"], input=text.encode(), capture_output=True, check=True)
-            times.append(used() - before)
-        least.append(min(times))
-    return (least[1] - least[0]) / turns
-
-
-def theirs(turns, part):
-    """Seconds of one plan of each query by the server."""
-    text = "\n".join([*(f"SET {s};" for s in SETTINGS), *definitions("TEMP "), *filled(part)]) + "\n"
-    for query in QUERIES.values():
-        text += f"EXPLAIN (SUMMARY ON) {query};\n" * turns
-    ran = subprocess.run(["psql", "-X", "-q", "-At", "-v", "ON_ERROR_STOP=1", "postgres"], input=text, capture_output=True,
-                         text=True, check=True)
-    told = [float(t) / 1000 for t in re.findall(r"Planning Time: ([0-9.]+) ms", ran.stdout)]
-    return [min(told[n:n + turns]) for n in range(0, len(told), turns)]
+    return planned(program, "\n".join([*definitions(), *statistics()]) + "\n", query, turns)
 
 
 def main():
@@ -158,10 +130,12 @@ def main():
         print(*definitions(), *statistics(), *(f"-- query {n}\nEXPLAIN {query};" for n, query in QUERIES.items()), sep="\n")
         return
     turns, part = [*map(int, sys.argv[2:]), *[20, 100][len(sys.argv) - 2:]]
-    others = theirs(turns, part)
-    for (number, query), other in zip(QUERIES.items(), others):
+    asked = [(number, query + tail) for number, query in QUERIES.items() for tail in ("", " LIMIT 10")]
+    others = planned_by_server("\n".join([*definitions("TEMP "), *filled(part)]) + "\n", [query for _, query in asked], turns)
+    for (number, query), other in zip(asked, others):
         mine, relations = ours(sys.argv[1], query, turns), query.split(" WHERE ")[0].count(",") - query.split(" FROM ")[0].count(",") + 1
-        print(f"query {number:2}, {relations} relations: {1000 * mine:8.2f} ms beside {1000 * other:7.2f} ms, ratio {mine / other:6.2f}")
+        window = "with LIMIT 10" if query.endswith(" LIMIT 10") else ""
+        print(f"query {number:2}, {relations} relations {window:13}: {1000 * mine:8.2f} ms beside {1000 * other:7.2f} ms, ratio {mine / other:6.2f}")
 
 
 if __name__ == "__main__":

@@ -12,7 +12,7 @@ abbrev pub chain_from : List (List ℕ) → Option ℕ → List ℕ
 chain_from lists None = []
 chain_from lists (Some slot) = slot ∷ behind slot (list_of lists slot)
 
--- as many lists as slots and at most two slots to a bucket; each slot below a number stands in the chain of its hash
+-- as many lists as slots, and at most twice as many slots as buckets; each slot below a number stands in the chain of its hash
 pub record AreChained (count : ℕ) (firsts : List (Option ℕ)) (hashes : List ℕ) (lists : List (List ℕ)) : Type 0 where
   pub as_many : length lists ≡ length hashes
   pub few : length hashes ≤ 2 ^ 32 - 1

@@ -26,20 +26,23 @@ use std::alloc::Global;
 use std::marker::Brand;
 use std::sync::ledger::{Blank, Ledger};
 
-/// Does all that the program does and answers the exit status: 0 where all was read, answered and written; 1 where the
-/// words are no command; 2 where the source failed; 3 where a statement has a fault; 4 where out failed; 5 for want of
-/// memory; 6 where the source gave more bytes than a script may have. A status other than 0 writes its line to `errors`.
+/// Does all that the program does and returns the exit status: 0 if everything was read, answered and written; 1 if the
+/// words are no command; 2 if the source failed; 3 if a statement has a fault; 4 if the output failed; 5 if memory ran
+/// out; 6 if the source gave more bytes than a script may have. A status other than 0 writes its line to `errors`.
 ///
-/// With the word `run`, for every script read to its end, each SELECT prints a plan of the written plan space at its own costs that
-/// no admissible plan undercuts in price; the rows printed are, in order, the window of LIMIT and OFFSET of those that this plan
-/// gives, which as a bag, before the window, are the query's meaning in three-valued logic, in its ORDER BY. EXPLAIN (TABLE) prints
-/// such a plan with a certificate of which it is the best one, and CHECK whether a certificate that is handed in, by whomever, is a
-/// table of its query, or the first reason for which it is none. ADVISE prints which of its candidate indexes, at most so many, to
-/// make so that the least prices of its queries come to the least sum, and that sum, and makes none. A statement is refused only for
-/// the fault that is named, which may be that no plan is admissible, or no advice to be had, or for want of memory.
+/// The word `run` carries out a script, once it is read to its end. A SELECT that does not group prints a plan of the written plan
+/// space at its own costs that no admissible plan undercuts in price. Its rows are, in order, the LIMIT and OFFSET window of those
+/// that this plan gives, which as a bag, before the window, are the query's meaning in three-valued logic, in its ORDER BY. A SELECT
+/// that groups, also by DISTINCT, prints a plan that groups, which no other such plan undercuts, and a line for each group. EXPLAIN
+/// prints such a plan alone. EXPLAIN (TABLE) prints it with a certificate of which it is the best plan. CHECK prints whether a
+/// certificate, whoever made it, is a table of its query, or the first reason why it is none. USE PLAN answers its query by the plan
+/// that is written out, or prints the first reason why it cannot. ADVISE prints which of its candidate indexes, at most so many, to
+/// create so that the least prices of its queries have the least sum, and that sum, and creates none. Definitions, COPY, STATISTICS
+/// and ANALYZE print nothing. A statement is rejected only for the fault that is named, which may be that no plan is admissible or
+/// that there is no advice, or because memory ran out.
 ///
-/// With the word `sample` and a number nothing is read, and the script of that number is worked. One line is printed at the end: how
-/// many queries it asks, how many rows their answers have together, and what the least prices of their plans come to.
+/// The word `sample` with a number reads nothing and carries out the script of that number. At the end it prints one line: how many
+/// queries the script asks, how many rows their answers have together, and the sum of the least prices of their plans.
 pub fn pgplan<S: Source, K: Sink, E: Sink>(
     alloc: Global,
     words: &[String],

@@ -5,8 +5,8 @@ ghost use Rattle.reply_text.specs.Texts.{row_line};
 ghost use Rattle.sql_query.specs.Queries.{width};
 ghost use Rattle.plan_tree.specs.Counts.{MOST_READS};
 ghost use Rattle.executor.specs.Numbers.{IsTupleOf, numbers};
-ghost use Rattle.reply.specs.Drawing.{Draws, drawn_by};
-ghost use Rattle.reply.specs.Effort.{HasRisen, limit_in};
+ghost use Rattle.reply.specs.Drawing.{Draws, drawn_behind, drawn_by};
+ghost use Rattle.reply.specs.Effort.{HasRisen, limit_in, offset_in};
 ghost use Rattle.reply.specs.Putting.{HasWriteCause, Puts};
 ghost use Rattle.reply.specs.Settings.{IsSetting, let_through, line_shown, lines_shown, up_to_limit, window_fetches, window_looks, world_of};
 ghost use Rattle.reply.specs.Showing.{HasColumn, cell_of, rows_at};
@@ -41,6 +41,9 @@ pub(crate) fn put_window<C: Counters, K: Sink>(
         (lines_shown at.now (let_through at.now rows.old.left)) }
     ensures count { IfOk result (λ n. n ≡ length (let_through at.now rows.old.left)) }
     ensures cause { HasWriteCause Write (K.faults out.old) (K.faults out.new) result }
+    ensures drawn { let window = at.now.q.now.window in OnOk result
+        (Draws (drawn_behind (offset_in window) (limit_in window) rows.old.left)
+        rows.old rows.new fetches.old fetches.new) }
     ensures fetches { OnOk result
         (HasRisen (window_fetches at.now rows.old) fetches.old fetches.new) }
     ensures fewer { fetches.new ≤ fetches.old + (window_fetches at.now rows.old).most }

@@ -1,80 +1,84 @@
 #!/usr/bin/env python3
 """Explains the fault of a script: its file, line and column, the line with a caret, the word at fault, and what to write instead.
 
-usage: tools/fault.py ERRORS SCRIPT..            what the program wrote on standard error is in the file ERRORS
-       tools/fault.py --outer-joins SCRIPT..     warns where an outer join is read as an inner one
-       tools/fault.py --place SCRIPT OFFSET      prints the line of a byte offset with a caret
+usage: tools/fault.py ERRORS SCRIPT..            the file ERRORS has what the program wrote on standard error
+       tools/fault.py --place SCRIPT OFFSET      prints the line at a byte offset with a caret
 
-Each SCRIPT is FILE or FILE=NAME, the file to read and the name to show. Several are one script, as `pgplan FILE..` joins them. Lines
-and columns count from 1, columns in characters where the line is UTF-8, else in bytes.
+Each SCRIPT is FILE or FILE=NAME, the file to read and the name to show. Several are one script, joined as `pgplan FILE..` joins them.
+Lines and columns count from 1; columns are characters if the line is UTF-8, else bytes.
 """
+from __future__ import annotations
+
 import csv
 import difflib
 import pathlib
 import re
 import sys
 import unicodedata
-from typing import NamedTuple
+from typing import Iterable, NamedTuple, Optional
 
 sys.dont_write_bytecode = True
 import hints
-from statements import blanked, statement_at, statements
+from statements import blanked, statement_at
 
 # What the launcher writes between two files.
 BETWEEN_FILES = b"\n;\n"
-# A longer line is shown in part.
+# The columns that are shown of a longer line.
 SHOWN = 110
-# So many words before a fault, and behind it, are looked at.
+# How many words before a fault, and behind it, are looked at.
 NEAR = 120
+# How many names a hint lists.
+LISTED = 20
 TOKEN = re.compile(r"'(?:[^']|'')*'|\w+|<=|>=|<>|!=|\|<=?\||\|>=?\||\|=\||[^ \t\n\r\f\v]", re.S)
 ERROR = re.compile(rb"ERROR (\w{5}) at (\d+): ([^\n]*)")
 RECORD = re.compile(r"record (\d+)")
-OUTER = re.compile(rb"\b(left|right|full|natural)\s+(?:outer\s+)?join\b", re.I)
 
 
-def text_of(line):
+def text_of(line: bytes) -> str:
+    """A line as UTF-8, or byte by byte if it is not."""
     try:
         return line.decode()
     except UnicodeDecodeError:
         return line.decode("latin-1")
 
 
-def place(script, offset):
-    """The number of the line with an offset, its column, and the line."""
+def place(script: bytes, offset: int) -> tuple[int, int, str]:
+    """The number of the line at an offset, the column, and the line."""
     begin = script.rfind(b"\n", 0, offset) + 1
     end = script.find(b"\n", offset)
     line = script[begin:end if end >= 0 else len(script)]
     return script.count(b"\n", 0, offset) + 1, len(text_of(line[:offset - begin])) + 1, text_of(line).rstrip("\r")
 
 
-def words(text):
+def words(text: bytes) -> list[str]:
     """The words and signs of a text, without comments."""
     return TOKEN.findall(blanked(text, False).decode("utf-8", "replace"))
 
 
-def bare(word):
+def bare(word: str) -> str:
+    """A word in small letters; every quoted text is the same."""
     return "'x'" if len(word) > 1 and word[0] == word[-1] == "'" else word.lower()
 
 
-def near(before, behind):
-    """Of the words before a fault the first few and those close to it, and those close behind it."""
+def near(before: list[str], behind: list[str]) -> list[str]:
+    """The words around a fault with a bar between: the first few of the statement, those close before it, and those close behind it."""
     return (before if len(before) <= NEAR else before[:8] + before[8 - NEAR:]) + ["¦"] + behind[:NEAR]
 
 
-def marked(script, offset):
-    """The words of the statement at an offset with a bar before the one that stands there, as the rows of hints know it."""
+def marked(script: bytes, offset: int) -> str:
+    """The words of the statement at an offset with a bar before the word that stands there, as the rows of hints know it."""
     begin, end = statement_at(script, offset)
     before, behind = words(script[begin:offset]), words(script[offset:max(end, offset)])
     return " ".join(near([bare(word) for word in before], [bare(word) for word in behind]))
 
 
-def word_at(script, offset):
-    """The word at an offset as it is written, where there is one."""
+def word_at(script: bytes, offset: int) -> str:
+    """The word at an offset as it is written, or nothing."""
     found = TOKEN.match(script[offset:offset + 200].decode("utf-8", "replace"))
     return found[0] if found else ""
 
 
-def names_in(script, what):
+def names_in(script: bytes, what: str) -> list[str]:
     """The names of the tables of a script, or of all their columns, each once."""
     text = blanked(script).decode("utf-8", "replace").lower()
     if what == "table":
@@ -84,33 +88,34 @@ def names_in(script, what):
     return list(dict.fromkeys(names))
 
 
-def closest(word, names):
+def closest(word: str, names: Iterable[str]) -> Optional[str]:
+    """The name that is most like a word, if one is."""
     return next(iter(difflib.get_close_matches(word.lower(), names, 1, 0.7)), None)
 
 
-def hint_for_name(script, what, name):
-    """What is told of a table or a column that there is not."""
+def hint_for_name(script: bytes, what: str, name: str) -> str:
+    """The hint for a table or a column that does not exist."""
     names = names_in(script, what)
     if what == "table" and name in names:
-        return "a table is named by its alias where the query gives it one"
+        return "a table that has an alias in the query goes by its alias"
     if closest(name, names):
-        return f"is {closest(name, names)} meant?"
-    return f"the {what}s are {', '.join(names[:20])}{', ..' * (len(names) > 20)}" if names else f"no {what} is there yet"
+        return f"did you mean {closest(name, names)}?"
+    return f"the {what}s are {', '.join(names[:LISTED])}{', ..' * (len(names) > LISTED)}" if names else f"there is no {what} yet"
 
 
-def hint_for_beginning(word):
-    """What is told of a word that begins no statement."""
+def hint_for_beginning(word: str) -> str:
+    """The hint for a word that begins no statement."""
     begins = hints.BEGINS.upper().split()
     found = closest(word, hints.BEGINS.split())
-    return f"is {found.upper()} meant?" if found else f"a statement begins with {', '.join(begins[:-1])} or {begins[-1]}"
+    return f"did you mean {found.upper()}?" if found else f"a statement begins with {', '.join(begins[:-1])} or {begins[-1]}"
 
 
-def hint(script, offset, code, said):
+def hint(script: bytes, offset: int, code: str, said: str) -> Optional[str]:
     """What to write instead, or None."""
     if said == "no end of copy data":
-        return "end the lines behind COPY, CHECK or USE PLAN by one that is exactly \\."
+        return "end the lines behind COPY, CHECK or USE PLAN with a line that is exactly \\."
     if script.startswith(b"/*", offset):
-        return "close the comment by */; comments nest"
+        return "close the comment with */; comments nest"
     where = marked(script, offset)
     row = hints.row_at(where, code)
     if row:
@@ -125,8 +130,8 @@ def hint(script, offset, code, said):
     return hint_for_beginning(word_at(script, offset)) if where.startswith("¦ ") else None
 
 
-def moved_to_record(script, offset, said):
-    """The offset of the record that a fault in data names. It stands at the first byte of the data."""
+def moved_to_record(script: bytes, offset: int, said: str) -> int:
+    """The offset of the record that a fault in data names. The program gives the first byte of the data."""
     record = RECORD.search(said)
     if not record:
         return offset
@@ -143,12 +148,13 @@ def moved_to_record(script, offset, said):
     return offset
 
 
-def width(letter):
+def width(letter: str) -> int:
+    """How many columns of a terminal a letter takes."""
     return 0 if unicodedata.combining(letter) else 2 if unicodedata.east_asian_width(letter) in "WF" else 1
 
 
-def shown(line, column, length):
-    """A line and its caret, without signs that a terminal would obey, and a long line in part. Tabs stay."""
+def shown(line: str, column: int, length: int) -> str:
+    """A line and its caret, without signs that a terminal would obey; of a long line a part. Tabs stay."""
     line = "".join(letter if letter == "\t" or letter.isprintable() else "\ufffd" for letter in line)
     first = max(0, column - 1 - SHOWN // 2) if len(line) > SHOWN else 0
     part, at = line[first:first + SHOWN], column - 1 - first
@@ -164,12 +170,12 @@ def shown(line, column, length):
 class Parts:
     """A script that is made of named texts, with the same bytes between any two, and which of them an offset is in."""
 
-    def __init__(self, names, texts, between=BETWEEN_FILES):
+    def __init__(self, names: list[str], texts: list[bytes], between: bytes = BETWEEN_FILES) -> None:
         self.names, self.texts, self.between = names, texts, between
         self.script = between.join(texts)
 
-    def at(self, offset):
-        """The name of the text at an offset, the text, and the offset in it: between two texts the end of the first."""
+    def at(self, offset: int) -> tuple[str, bytes, int]:
+        """The name of the text at an offset, the text, and the offset in it. Between two texts that is the end of the first."""
         for name, text in zip(self.names[:-1], self.texts):
             if offset < len(text) + bool(self.between):
                 return name, text, offset
@@ -178,6 +184,8 @@ class Parts:
 
 
 class Explanation(NamedTuple):
+    """A fault by its place, code and text, the line with a caret, and a hint, which may be empty."""
+
     name: str
     line: int
     column: int
@@ -186,29 +194,29 @@ class Explanation(NamedTuple):
     picture: str
     hint: str
 
-    def __str__(self):
+    def __str__(self) -> str:
         return "\n".join([f"{self.name}:{self.line}:{self.column}: error: {self.said}", self.picture, *self.hint_line()])
 
-    def hint_line(self):
+    def hint_line(self) -> list[str]:
+        """The line of the hint, if there is one."""
         return [f"hint: {self.hint}"] if self.hint else []
 
 
-def explained(parts, errors):
-    """The explanation of the program's errors, or None where they name no place in the script."""
+def explained(parts: Parts, errors: bytes) -> Optional[Explanation]:
+    """The explanation of the program's errors, or None if they name no place in the script."""
     found = ERROR.match(errors)
     if not found or int(found[2]) > len(parts.script):
         return None
     code, offset, said = found[1].decode(), int(found[2]), found[3].decode("utf-8", "replace")
-    begin = moved_to_record(parts.script, offset, said)
-    name, text, inside = parts.at(begin)
+    name, text, inside = parts.at(moved_to_record(parts.script, offset, said))
     number, column, line = place(text, inside)
     word = "" if RECORD.search(said) or code == "22P04" else word_at(text, inside)
     told = said + named(word, said, inside == len(text))
     return Explanation(name, number, column, code, told, shown(line, column, len(word)), hint(parts.script, offset, code, said) or "")
 
 
-def named(word, said, is_end):
-    """The word at a fault, as it is told behind a line that does not name it."""
+def named(word: str, said: str, is_end: bool) -> str:
+    """The word at a fault, to follow a text that does not name it."""
     if word.lower() in said.lower().split():
         return ""
     if not word:
@@ -218,35 +226,35 @@ def named(word, said, is_end):
     return f' at "{word if len(word) <= 40 else word[:40] + ".."}"'
 
 
-def outer_joins(parts):
-    """A warning for each outer join that is read as an inner one."""
-    for statement in statements(parts.script):
-        for found in OUTER.finditer(blanked(parts.script[statement.begin:statement.end])):
-            name, text, inside = parts.at(statement.begin + found.start())
-            number, column, line = place(text, inside)
-            kind = found[1].decode()
-            yield f"{name}:{number}:{column}: warning: {kind} is the alias of the table before it here, and the join an inner one\n{shown(line, column, len(kind))}"
+def file_and_name(word: str) -> tuple[str, str]:
+    """The file and the name of a word FILE or FILE=NAME. Either may have a `=` itself."""
+    ends = [] if pathlib.Path(word).exists() else [found.start() for found in re.finditer("=", word)]
+    return next(((word[:end], word[end + 1:]) for end in ends if pathlib.Path(word[:end]).is_file()), (word, word))
 
 
-def parts_of(given):
+def parts_of(given: list[str]) -> Parts:
     """The script of these words, each FILE or FILE=NAME."""
-    files = [(word, word) if pathlib.Path(word).exists() else word.split("=", 1) * (1 if "=" in word else 2) for word in given]
+    files = [file_and_name(word) for word in given]
     return Parts([name for _, name in files], [pathlib.Path(path).read_bytes() for path, _ in files])
 
 
-def main():
+def print_place(name: str, offset: int) -> None:
+    """Prints the line at an offset with a caret."""
+    parts = parts_of([name])
+    if offset > len(parts.script):
+        sys.exit(f"{name} has {len(parts.script)} bytes")
+    number, column, line = place(parts.script, offset)
+    print(f"{name}:{number}:{column}:", shown(line, column, 1), sep="\n")
+
+
+def main() -> None:
+    """Runs the command line."""
+    given = sys.argv[1:]
     try:
-        if len(sys.argv) == 4 and sys.argv[1] == "--place" and sys.argv[3].isascii() and sys.argv[3].isdigit():
-            parts, offset = parts_of(sys.argv[2:3]), int(sys.argv[3])
-            if offset > len(parts.script):
-                sys.exit(f"{sys.argv[2]} has {len(parts.script)} bytes")
-            number, column, line = place(parts.script, offset)
-            print(f"{sys.argv[2]}:{number}:{column}:", shown(line, column, 1), sep="\n")
-        elif len(sys.argv) > 2 and sys.argv[1] == "--outer-joins":
-            for warning in outer_joins(parts_of(sys.argv[2:])):
-                print(warning, file=sys.stderr)
-        elif len(sys.argv) > 2 and not sys.argv[1].startswith("-"):
-            told = explained(parts_of(sys.argv[2:]), pathlib.Path(sys.argv[1]).read_bytes())
+        if len(given) == 3 and given[0] == "--place" and given[2].isascii() and given[2].isdigit():
+            print_place(given[1], int(given[2]))
+        elif len(given) > 1 and not given[0].startswith("-"):
+            told = explained(parts_of(given[1:]), pathlib.Path(given[0]).read_bytes())
             if told:
                 print(told, file=sys.stderr)
         else:

@@ -1,6 +1,8 @@
-"""Parts a script into its statements, as pgplan reads them: quotes, comments that nest, and the lines behind COPY, CHECK and USE PLAN."""
+"""Splits a script into its statements, as pgplan reads them: quotes, comments that nest, and the lines behind COPY, CHECK and USE PLAN."""
+from __future__ import annotations
+
 import re
-from typing import NamedTuple
+from typing import Iterator, NamedTuple, Optional
 
 SIGN = re.compile(rb"--[^\n]*|'(?:[^']|'')*'|'|/\*|;")
 NESTED = re.compile(rb"/\*|\*/")
@@ -10,15 +12,16 @@ REST_OF_LINE = re.compile(rb"[ \t\r]*\n")
 
 
 class Statement(NamedTuple):
-    # Where it begins; where it ends, behind its `;`; and where the lines that belong to it end.
+    """Where a statement begins, where it ends behind its `;`, and where the lines that belong to it end."""
+
     begin: int
     end: int
     lines_end: int
     is_whole: bool
 
 
-def end_of_comment(script, at):
-    """The place behind the comment that begins at a place: the script's end where it is not closed."""
+def end_of_comment(script: bytes, at: int) -> int:
+    """The place behind the comment that begins at a place: the script's end if it is not closed."""
     depth = 0
     for found in NESTED.finditer(script, at):
         depth += 1 if found[0] == b"/*" else -1
@@ -27,8 +30,8 @@ def end_of_comment(script, at):
     return len(script)
 
 
-def blanked(text, texts_too=True):
-    """A text with its comments as blanks, each of its length, and its quoted texts too where that is asked."""
+def blanked(text: bytes, texts_too: bool = True) -> bytes:
+    """A text of the same length with blanks for its comments, and for its quoted texts too if that is asked."""
     parts, at = [], 0
     while found := SIGN.search(text, at):
         end = end_of_comment(text, found.start()) if found[0] == b"/*" else found.end()
@@ -38,7 +41,7 @@ def blanked(text, texts_too=True):
     return b"".join([*parts, text[at:]])
 
 
-def end_of_statement(script, at):
+def end_of_statement(script: bytes, at: int) -> Optional[int]:
     """The place behind the `;` that ends the statement at a place, or None."""
     while found := SIGN.search(script, at):
         if found[0] == b";":
@@ -49,15 +52,15 @@ def end_of_statement(script, at):
     return None
 
 
-def end_of_lines(script, end):
-    """The place behind the lines of a statement that has lines, their last one and its line end with them, or None."""
+def end_of_lines(script: bytes, end: int) -> Optional[int]:
+    """The place behind the lines of a statement that has lines, with the last of them and its line end, or None."""
     rest = REST_OF_LINE.match(script, end)
-    last = rest and LAST_LINE.search(script, rest.end())
-    return last and min(len(script), last.end() + 1)
+    last = LAST_LINE.search(script, rest.end()) if rest else None
+    return min(len(script), last.end() + 1) if last else None
 
 
-def statements(script):
-    """The statements of a script in turn. What stands behind the last `;` is one that is not whole, where it is more than blanks."""
+def statements(script: bytes) -> Iterator[Statement]:
+    """The statements of a script in turn. What follows the last `;`, unless it is blank, is one that is not whole."""
     begin = 0
     while end := end_of_statement(script, begin):
         lines_end = end_of_lines(script, end) if HAS_LINES.match(blanked(script[begin:end])) else end
@@ -67,7 +70,7 @@ def statements(script):
         yield Statement(begin, len(script), len(script), False)
 
 
-def statement_at(script, offset):
+def statement_at(script: bytes, offset: int) -> tuple[int, int]:
     """Where the statement that holds an offset begins and ends."""
     found = Statement(0, 0, 0, True)
     for found in statements(script):

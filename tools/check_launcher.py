@@ -158,6 +158,16 @@ def ran(room: pathlib.Path, *words: object, without: tuple = (), text: str = "",
     return done.stdout, done.stderr, done.returncode
 
 
+def other_user() -> dict[str, int]:
+    """How a command is run by another user, if this one is root and may do that."""
+    how = {"user": NOBODY, "group": NOBODY} if os.getuid() == 0 else {}
+    try:
+        subprocess.run(["true"], check=True, **how)
+    except (OSError, TypeError, ValueError, subprocess.SubprocessError):
+        return {}
+    return how
+
+
 def expect_refused(got: Ran, says: str = "") -> None:
     """A run that says this, has no output and ends with the status for no program."""
     expect((got[0], got[2], says in got[1]), ("", 70, True))
@@ -266,9 +276,12 @@ def unreadable_source(room: pathlib.Path) -> None:
     folder = checkout(room)
     put(folder / BUILT, NEW, 0o755)
     room.chmod(0o755)
-    (folder / "crates/low/src").chmod(0o700)
-    if os.getuid() == 0:
-        expect_refused(ran(room, folder / "pgplan", "run", user=NOBODY, group=NOBODY))
+    (folder / "crates/low/src").chmod(0o700 if other_user() else 0)
+    try:
+        if other_user() or os.getuid():
+            expect_refused(ran(room, folder / "pgplan", "run", **other_user()))
+    finally:
+        (folder / "crates/low/src").chmod(0o755)
 
 
 def not_executable(room: pathlib.Path) -> None:
@@ -296,10 +309,11 @@ def read_only(room: pathlib.Path) -> None:
     for path in (folder / "dist", folder):
         path.chmod(0o555)
     room.chmod(0o755)
-    other = {"user": NOBODY, "group": NOBODY} if os.getuid() == 0 else {}
     for _ in range(2):
-        expect(ran(room, folder / "pgplan", "run", **other), ("shipped 0\n", "", 0))
-    expect((folder / "dist/.checked").exists(), False)
+        expect(ran(room, folder / "pgplan", "run", **other_user()), ("shipped 0\n", "", 0))
+    expect((folder / "dist/.checked").exists(), not other_user() and os.getuid() == 0)
+    for path in (folder / "dist", folder):
+        path.chmod(0o755)
 
 
 def many_at_once(room: pathlib.Path) -> None:

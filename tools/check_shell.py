@@ -68,6 +68,13 @@ TYPED = [
     (COPY, ""),
     ("x,y", ""),
     ("\\.", "ERROR 22P02 in line 2: invalid input, record 1 column a\nx,y\n^\nhint: write a value of the column's type, or \\N for NULL\n"),
+    ("SELECT a -- it's", ""),
+    ("\\d t", "t  no statistics\n  a  int4\n  b  text\n"),
+    (" FROM t WHERE b = '", ""),
+    ("\\d t", ""),
+    ("' OR /* '", ""),
+    ("\\q", ""),
+    ("*/ a = 1;", "Seq Scan on t  (cost=412 rows=2)\n1\n(1 row)\n"),
     ("\\o reply", ""),
     ("SELECT a FROM t;", ""),
     ("\\o", ""),
@@ -75,7 +82,8 @@ TYPED = [
     ("\\new", ""),
     ("\\d", "There is no table.\n"),
     ("\\undo", "There is nothing to undo.\n"),
-    ("\\i scr\t", f"{PLAN_BEFORE * 2}Seq Scan on t  (cost=408 rows=2)\n1,it's;\n2,\\N\n(2 rows)\nSeq Scan on t  (cost=408 rows=2)\n1\n2\n(2 rows)\n"),
+    ("\\i scr\t", f"{PLAN_BEFORE * 2}Seq Scan on t  (cost=408 rows=2)\n1,it's;\n2,\\N\n(2 rows)\nSeq Scan on t  (cost=412 rows=2)\n1\n(1 row)\n"
+     "Seq Scan on t  (cost=408 rows=2)\n1\n2\n(2 rows)\n"),
     ("\\i nix", "nix: No such file or directory\n"),
     ("\\i script", "script:1:14: error: duplicate name events\nCREATE TABLE events (device int4 NOT NULL, kind text NOT NULL, at int8 NOT NULL);\n             ^~~~~~\n"
      "hint: choose another name: tables and indexes share their names\nNo statement of script is kept.\n"),

@@ -19,7 +19,7 @@ from typing import BinaryIO, Callable, NamedTuple, Optional
 
 sys.dont_write_bytecode = True
 from fault import Parts, explained, words
-from statements import HAS_LINES, blanked, end_of_statement, statements
+from statements import HAS_LINES, blanked, end_of_statement, ends_inside, statements
 
 try:
     import readline
@@ -371,6 +371,12 @@ class Shell:
         """Whether nothing of a statement was typed."""
         return not self.in_lines and not blanked(self.typed).strip()
 
+    def is_command(self, line: str) -> bool:
+        """Whether a line is a command: it begins with a backslash, also within a statement, or is a word by which others end."""
+        if self.in_lines or ends_inside(self.typed):
+            return False
+        return line.lstrip().startswith("\\") or self.is_between() and line.strip().rstrip(";") in ("help", "quit", "exit")
+
     def prompt(self) -> str:
         """The prompt for the next line."""
         if not self.at_terminal:
@@ -379,8 +385,7 @@ class Shell:
 
     def line(self, line: str) -> bool:
         """Takes a line that was typed. False ends the shell."""
-        if self.is_between() and (line.lstrip().startswith("\\") or line.strip().rstrip(";") in ("help", "quit", "exit")):
-            self.drop()
+        if self.is_command(line):
             return self.commands.obey("\\" + line.strip().lstrip("\\"))
         self.typed += line.encode("utf-8", "surrogateescape") + b"\n"
         if not self.in_lines:

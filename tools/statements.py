@@ -52,6 +52,16 @@ def end_of_statement(script: bytes, at: int) -> Optional[int]:
     return None
 
 
+def ends_inside(text: bytes) -> bool:
+    """Whether a text that ends with a line end ends inside of a quoted text or a comment."""
+    at = 0
+    while found := SIGN.search(text, at):
+        at = end_of_comment(text, found.start()) if found[0] == b"/*" else found.end()
+        if found[0] == b"'" or found[0] == b"/*" and at == len(text):
+            return True
+    return False
+
+
 def end_of_lines(script: bytes, end: int) -> Optional[int]:
     """The place behind the lines of a statement that has lines, with the last of them and its line end, or None."""
     rest = REST_OF_LINE.match(script, end)

@@ -17,7 +17,7 @@ import subprocess
 import sys
 import tempfile
 import time
-from typing import Optional
+from typing import Callable, Iterator, Optional, Tuple
 
 ROOT = pathlib.Path(__file__).resolve().parent.parent
 LAUNCHER = ROOT / "pgplan"
@@ -97,7 +97,8 @@ BUILDING = [
 
 # --- What the cases use ---
 
-Ran = tuple[str, str, int] if sys.version_info >= (3, 9) else tuple
+Ran = Tuple[str, str, int]
+Case = Callable[[pathlib.Path], None]
 
 
 class Differs(Exception):
@@ -429,7 +430,7 @@ def lives(number: str) -> bool:
         return False
 
 
-def waited(holds, seconds: float = SECONDS) -> bool:
+def waited(holds: Callable[[], bool], seconds: float = SECONDS) -> bool:
     """Whether something holds within a time."""
     end = time.monotonic() + seconds
     while not holds() and time.monotonic() < end:
@@ -510,7 +511,7 @@ def building(room: pathlib.Path, does: Optional[str], stands: bool, newer: bool,
     return done.stdout, done.returncode, told
 
 
-def outcome(case, room: pathlib.Path) -> Optional[str]:
+def outcome(case: Case, room: pathlib.Path) -> Optional[str]:
     """What is not as it should be in a case, or None."""
     try:
         case(room)
@@ -519,8 +520,8 @@ def outcome(case, room: pathlib.Path) -> Optional[str]:
     return None
 
 
-def all_cases():
-    """Each case by its name."""
+def all_cases() -> Iterator[tuple[str, Case]]:
+    """Each case with its name."""
     for name, does, stands, newer, words, *wanted in BUILDING:
         yield name, lambda room, how=(does, stands, newer, words), wanted=tuple(wanted): expect(building(room, *how), wanted)
     for case in CASES:

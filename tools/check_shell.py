@@ -203,7 +203,10 @@ def main() -> None:
         sys.exit(__doc__)
     program = pathlib.Path(sys.argv[1]).resolve()
     with tempfile.TemporaryDirectory() as folder:
-        terminal = Terminal(program, folder)
+        try:
+            terminal = Terminal(program, folder)
+        except OSError as error:
+            sys.exit(f"shell: no terminal could be opened ({error}): mount /dev/pts")
         terminal.read(is_answer)
         faults = list(typed_lines(terminal))
         checks = [*others(terminal, pathlib.Path(folder)), *without_a_terminal(program)]

@@ -44,6 +44,8 @@ NAMES = ("42601", "42704", "42883")
 # The table of the page. What stands higher is tried first.
 POSTGRES = [
     Row("`BETWEEN SYMMETRIC 5 AND 1`", "`BETWEEN 1 AND 5`, with the lower bound first", (r"\bbetween a?symmetric ¦",)),
+    Row("`a NOT IN (SELECT ..)`, `NOT EXISTS (SELECT ..)`", "leave the condition out: there are no subqueries and no outer joins",
+        (r"\bnot in \( ¦ select", r"\bnot exists ¦ \(")),
     Row("`a IN (SELECT ..)`, `EXISTS (SELECT ..)`, `a = (SELECT ..)`", "use a join, which returns a row for each match",
         (r"\bexists ¦ \(", r"[<=>] (any |all )?¦ \( select", r"\bselect .* \( ¦ select")),
     Row("`a = ANY ('{1,2}')`", "`a IN (1, 2)`", (r"[<=>] (any|all|some) ¦ \(",)),
@@ -68,7 +70,7 @@ POSTGRES = [
     Row("`$1`, `?`, `:name`", "put a value in its place", (r"¦ \$ ?\d", r"¦ \?", r"¦ : ?\w")),
     Row("`E'a\\n'`, `$$a$$`", "`'a'`, with the line break itself and `''` for a quote", (r"\b[bnex] ¦ 'x'", r"¦ \$ ?\$")),
     Row("`sum(a)`, `avg(a)`", "`count(a)`, `min(a)` or `max(a)`: there are no other functions", (r"¦ (?!(?:in|distinct)\b)\w+ \(",), ("42883",)),
-    Row("`count(DISTINCT a)`", "`SELECT DISTINCT a`, which prints the number of rows last", (r"\b\w+ \( ((distinct|all) ¦|¦ (distinct|all)\b)",)),
+    Row("`count(DISTINCT a)`", "`SELECT DISTINCT a .. WHERE a IS NOT NULL`, which prints the number of rows last", (r"\b\w+ \( ((distinct|all) ¦|¦ (distinct|all)\b)",)),
     Row("`SELECT DISTINCT ON (a)`", "`GROUP BY a`, with `min` or `max` of the other columns", (r"\bselect distinct ¦ on\b",)),
     Row("`SELECT DISTINCT (a)`", "`SELECT DISTINCT a`", (r"\bselect ¦ distinct \(",), ("42883",)),
     Row("`SELECT DISTINCT a, count(*)`", "`SELECT a, count(*) .. GROUP BY a`", (r"\bselect distinct [^¦]*\b(count|min|max|sum|avg) ¦ \(",)),

@@ -2,6 +2,7 @@
 
 ghost use Rattle.std.specs.Prelude.{◌≡◌, ◌≤◌, ◌<◌, ◌+◌, ◌-◌, ◌*◌, ◌/◌, ◌^◌, ℕ, length, drop, min};
 ghost use Rattle.exact_rows.specs.Digits.{AreDigits, number};
+ghost use Rattle.exact_rows.specs.Rows.{share_kept};
 
 /// The base of the digits, and the parts that a share is counted in: all rows are so many.
 pub const BASE: u64 = 1_000_000_000;
@@ -49,13 +50,14 @@ pub(crate) fn scale(digits: &mut [u64; DIGITS], len: usize, share: u64)
     ensures digits { AreDigits len digits.new }
     ensures number { number digits.new ≡ (number digits.old * share + (BASE - 1)) / BASE }
 {
+    let last = len - 1;
     let mut carry = (digits[0] * share + (BASE - 1)) / BASE;
-    for i in 1..len {
-        let sum = digits[i] * share + carry;
-        digits[i - 1] = sum % BASE;
+    for i in 0..last {
+        let sum = digits[i + 1] * share + carry;
+        digits[i] = sum % BASE;
         carry = sum / BASE;
     }
-    digits[len - 1] = carry;
+    digits[last] = carry;
 }
 
 /// The length without the zeros at the top.
@@ -65,8 +67,29 @@ pub(crate) fn trim(digits: &[u64; DIGITS], len: usize) -> usize
     ensures some { 0 < result → 0 < number digits.now }
 {
     let mut top = len;
-    while top > 0 && digits[top - 1] == 0 {
+    while top > 0 {
+        if digits[top - 1] > 0 {
+            return top;
+        }
         top -= 1;
+    }
+    0
+}
+
+/// Makes the number what a share of it leaves, rounded up and at least 1, and gives the length then.
+pub(crate) fn shrink(digits: &mut [u64; DIGITS], len: usize, share: u64) -> usize
+    requires share { share ≤ BASE }
+    requires digits { AreDigits len digits.old }
+    ensures digits { AreDigits result digits.new }
+    ensures number { number digits.new ≡ share_kept (number digits.old) share }
+{
+    if len == 0 {
+        return append(digits, 0, 1);
+    }
+    scale(digits, len, share);
+    let top = trim(digits, len);
+    if top == 0 {
+        return append(digits, 0, 1);
     }
     top
 }

@@ -3,7 +3,7 @@
 ghost use Rattle.std.specs.Prelude.{◌≡◌, ◌≤◌, ◌<◌, ◌*◌, ◌^◌, min};
 ghost use Rattle.exact_rows.specs.Rows.{most_of, share_kept};
 
-use crate::digits::{BASE, DIGITS, append, cut, multiply, scale, trim};
+use crate::digits::{BASE, DIGITS, append, cut, multiply, shrink};
 use std::marker::Model;
 
 /// The rows of a product of so many tables are counted.
@@ -53,14 +53,7 @@ impl ExactRows {
         requires share { share ≤ BASE }
         ensures rows { self.new ≡ share_kept self.old share }
     {
-        if self.len > 0 {
-            scale(&mut self.digits, self.len, u64::from(share));
-        }
-        self.len = trim(&self.digits, self.len);
-        if self.len == 0 {
-            self.digits[0] = 1;
-            self.len = 1;
-        }
+        self.len = shrink(&mut self.digits, self.len, u64::from(share));
     }
 
     /// The number of rows, or `most` where there are more.

@@ -38,17 +38,25 @@ CREATE VIEW open_orders AS SELECT * FROM orders WHERE status = 'open';
 CREATE INDEX orders_customer ON orders (customer, id DESC) INCLUDE (status);
 CREATE INDEX orders_open ON orders (customer) WHERE status = 'open' AND NOT paid;
 CREATE INDEX orders_in ON orders (customer) WHERE status IN ('open', 'new');
+CREATE INDEX orders_not ON orders (id) WHERE status NOT IN ('it''s late', 'a], b') AND customer IN (1, -2, 3);
+CREATE INDEX orders_text ON orders (id) WHERE status = 'x = ANY (ARRAY[1])';
 CREATE INDEX orders_hash ON orders USING hash (status);
 CREATE INDEX orders_total ON orders (total);
 CREATE INDEX customers_lower ON customers (lower(name));
 CREATE INDEX customers_mail ON customers (mail text_pattern_ops);
 CREATE INDEX customers_region ON customers (region DESC NULLS LAST, name) WHERE region IS NOT NULL AND (region > 0 OR name = 'O''Brien');
 CREATE INDEX articles_low ON articles (stock NULLS FIRST) WHERE stock >= '-5'::int AND kind <> 'gone';
+CREATE INDEX articles_kinds ON articles (id) WHERE kind IN ('kind 1', 'kind 2') AND NOT stock BETWEEN 5 AND 9;
 CREATE INDEX articles_calc ON articles (id) WHERE stock + 1 > 3;
 CREATE INDEX articles_true ON articles (id) WHERE (stock > 3) IS TRUE;
 CREATE INDEX prices_open ON prices (article, valid_from) WHERE valid_to IS NULL;
+CREATE INDEX prices_few ON prices (article) WHERE amount IN (1, 20000000000) AND valid_to NOT IN (5);
+CREATE INDEX prices_columns ON prices (article) WHERE amount = ANY (ARRAY[valid_from, 7]);
+CREATE INDEX prices_null ON prices (article) WHERE amount IN (1, NULL);
 CREATE INDEX stops_place ON stops USING gist (place);
 CREATE INDEX staff_active ON staff USING btree (boss, active) WHERE active OR boss = 1;
+CREATE INDEX staff_any ON staff (boss) WHERE active IN (true, false) OR boss = ANY ('{1,2}');
+CREATE INDEX staff_many ON staff (boss) WHERE boss IN (%s);
 CREATE INDEX staff_two ON staff (boss, boss);
 CREATE STATISTICS orders_both ON customer, status FROM orders;
 INSERT INTO regions SELECT g, 'region ' || g FROM generate_series(1, 12) g;
@@ -64,7 +72,7 @@ SET default_statistics_target = 400;
 ANALYZE articles;
 SET default_statistics_target = 100;
 ANALYZE regions; ANALYZE customers; ANALYZE orders; ANALYZE items; ANALYZE prices; ANALYZE empty_one; ANALYZE stops; ANALYZE staff;
-""" % ", ".join(f"c{n} int" for n in range(40))
+""" % (", ".join(f"c{n} int" for n in range(40)), ", ".join(map(str, range(300))))
 
 # Lines that stand in the script, each as a regular expression for the whole line.
 WANTED = [
@@ -85,7 +93,9 @@ WANTED = [
     r"CREATE TABLE orders \(id int8 NOT NULL, customer int4 NOT NULL, status text NOT NULL, paid bool\);",
     r"CREATE INDEX orders_customer ON orders \(customer, id DESC\) INCLUDE \(status\);",
     r"CREATE INDEX orders_open ON orders \(customer\) WHERE \(\(status = 'open'\) AND \(NOT paid\)\);",
-    r"-- left out: index orders_in on orders \(its condition .*\)",
+    r"CREATE INDEX orders_in ON orders \(customer\) WHERE \(status IN \('open', 'new'\)\);",
+    r"CREATE INDEX orders_not ON orders \(id\) WHERE \(\(status NOT IN \('it''s late', 'a\], b'\)\) AND \(customer IN \(1, '-2', 3\)\)\);",
+    r"-- left out: index orders_text on orders \(its condition .*\)",
     r"CREATE INDEX orders_hash ON orders USING hash \(status\);",
     r"-- left out: index orders_total on orders \(a column is left out\)",
     r"STATISTICS orders\.status DISTINCT 3 NULLS 0 COMMON \('done' \d+, 'it''s late' \d+, 'open' \d+\);",
@@ -93,6 +103,7 @@ WANTED = [
     r"-- left out: extended statistics orders_both on orders",
     r"-- left out: column articles\.\"Weight\" of type integer \(its name\)",
     r"CREATE INDEX articles_low ON articles \(stock NULLS FIRST\) WHERE \(\(stock >= '-5'\) AND \(kind <> 'gone'\)\);",
+    r"CREATE INDEX articles_kinds ON articles \(id\) WHERE \(\(kind IN \('kind 1', 'kind 2'\)\) AND \(NOT \(\(stock >= 5\) AND \(stock <= 9\)\)\)\);",
     r"-- left out: index articles_calc on articles \(its condition .*\)",
     r"-- left out: index articles_true on articles \(its condition .*\)",
     r"-- left out: 84 further common values of articles\.stock",
@@ -102,8 +113,13 @@ WANTED = [
     r"CREATE INDEX prices_article_valid_from_excl ON prices \(article, valid_from\);",
     r"-- left out: column staff\.\"order\" of type integer \(its name\)",
     r"CREATE INDEX staff_active ON staff \(boss, active\) WHERE \(active OR \(boss = 1\)\);",
+    r"-- left out: index staff_any on staff \(its condition .*\)",
+    r"-- left out: index staff_many on staff \(its condition .*\)",
     r"-- left out: index staff_two on staff \(a column stands twice\)",
     r"STATISTICS staff\.active DISTINCT 2 NULLS 0 COMMON \(TRUE 750000, FALSE 250000\);",
+    r"CREATE INDEX prices_few ON prices \(article\) WHERE \(\(amount IN \(1, '20000000000'\)\) AND \(valid_to <> 5\)\);",
+    r"-- left out: index prices_columns on prices \(its condition .*\)",
+    r"-- left out: index prices_null on prices \(its condition .*\)",
     r"CREATE INDEX prices_open ON prices \(article, valid_from\) WHERE \(valid_to IS NULL\);",
     r"STATISTICS prices\.amount DISTINCT 9000 NULLS 0 HISTOGRAM \(-\d+, .*\);",
     r"STATISTICS empty_one ROWS 1 PAGES 1;",

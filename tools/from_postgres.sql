@@ -61,20 +61,29 @@ index AS (
                 WHEN EXISTS (SELECT FROM unnest(i.indclass::oid[]) k JOIN pg_opclass o ON o.oid = k WHERE NOT o.opcdefault)
                     THEN 'its operator class' END AS bar
     FROM kept_tab t JOIN pg_index i ON i.indrelid = t.oid JOIN pg_class c ON c.oid = i.indexrelid JOIN pg_am m ON m.oid = c.relam, reserved w),
--- The condition of a partial index: casts of literals and of columns are taken away, and what is left has to be in pgplan's grammar.
+-- The condition of a partial index: casts of literals and of columns are taken away, a column's test by an array of literals is IN or
+-- NOT IN, and what is left has to be in pgplan's grammar.
 uncast AS (
     SELECT i.*, regexp_replace(regexp_replace(regexp_replace(i.pred,
                '(''(?:[^'']|'''')*'')::(?:text|bigint|integer|smallint|boolean|character varying)(?![\[\w(])', '\1', 'g'),
                '\((-?\d+)\)::(?:bigint|integer|smallint)', '\1', 'g'),
                '\(([a-z_][a-z0-9_$]*)\)::text(?![\[\w(])', '\1', 'g') AS cond
     FROM index i),
-bare AS (SELECT u.*, regexp_replace(u.cond, '''(?:[^'']|'''')*''', '0', 'g') AS shape FROM uncast u),
+array_of AS (
+    SELECT '\(\(?ARRAY\[(' || e || '(?:, ' || e || ')*)\](?:\)::text\[\])?\)' AS literals FROM (SELECT '(?:''(?:[^'']|'''')*''|\d+|true|false)' AS e) one),
+bare AS (
+    SELECT u.*, regexp_replace(l.cond, '''(?:[^'']|'''')*''', '0', 'g') AS shape, l.cond AS listed
+    FROM uncast u, array_of a, LATERAL (
+        SELECT regexp_replace(regexp_replace(u.cond, '([a-z0-9_$]) = ANY ' || a.literals, '\1 IN (\2)', 'g'),
+                              '([a-z0-9_$]) <> ALL ' || a.literals, '\1 NOT IN (\2)', 'g') AS cond) l),
 judged AS (
     SELECT b.*, CASE WHEN b.bar IS NOT NULL OR b.cond IS NULL THEN b.bar
-        WHEN b.cond ~ 'E''' OR b.shape !~ '^[a-zA-Z0-9_$ ()<>=!]*$' OR b.shape ~ '[a-z0-9_$]\(|\) (IS|[<=>!])|[<=>] \(|IS (NOT )?(TRUE|FALSE|UNKNOWN)'
+        WHEN b.cond ~ 'E''' OR b.shape !~ '^[a-zA-Z0-9_$ (),<>=!]*$' OR b.shape ~ '[a-z0-9_$]\(|\) (IS|[<=>!])|[<=>] \(|IS (NOT )?(TRUE|FALSE|UNKNOWN)'
             OR EXISTS (SELECT FROM regexp_matches(b.shape, '[a-zA-Z_][a-zA-Z0-9_$]*', 'g') AS w(word)
-                       WHERE lower(w.word[1]) NOT IN ('and', 'or', 'not', 'is', 'null', 'true', 'false')
+                       WHERE lower(w.word[1]) NOT IN ('and', 'or', 'not', 'is', 'in', 'null', 'true', 'false')
                          AND NOT EXISTS (SELECT FROM col WHERE col.oid = b.tab_oid AND col.name = w.word[1]))
+            OR EXISTS (SELECT FROM regexp_matches(b.cond, '''(?:[^'']|'''')*''', 'g') AS q(quoted) WHERE q.quoted[1] LIKE '%ARRAY[%')
+            OR cardinality(string_to_array(b.shape, ',')) > 200
             THEN 'its condition ' || b.pred END AS why
     FROM bare b),
 placed AS (SELECT j.*, row_number() OVER (PARTITION BY j.tab_oid, j.why IS NULL ORDER BY j.name) AS place FROM judged j),
@@ -85,7 +94,7 @@ written AS (
             FROM unnest(p.keys) WITH ORDINALITY AS k(att, n) JOIN col ON col.oid = p.tab_oid AND col.attnum = k.att WHERE k.n <= p.count) || ')'
         || coalesce(' INCLUDE (' || (SELECT string_agg(col.name, ', ' ORDER BY k.n) FROM unnest(p.keys) WITH ORDINALITY AS k(att, n)
             JOIN col ON col.oid = p.tab_oid AND col.attnum = k.att WHERE k.n > p.count) || ')', '')
-        || coalesce(' WHERE ' || p.cond, '') || ';' AS line
+        || coalesce(' WHERE ' || p.listed, '') || ';' AS line
     FROM placed p WHERE p.why IS NULL AND p.place <= 8),
 -- What the last ANALYZE found of a column.
 found AS (

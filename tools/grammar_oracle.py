@@ -5,7 +5,7 @@ usage: tools/grammar_oracle.py FOLDER [COUNT [SEED [CONSTANT ..]]]
 
 FOLDER holds the package `pgoracle` of the reference parser, written apart from
 this repository: `lexer.lex_statement(text, at)` gives the tokens of a statement
-and `grammar.Parser(tokens, 20).statement()` raises its first fault, with every
+and `grammar.Parser(tokens, 22).statement()` raises its first fault, with every
 production that this grammar has. Those whose constant in offered.rt is false
 are taken out of it, but for the CONSTANTs that are named: these are true in
 the copy too. The crates sql_grammar, sql_lex and pg_base are copied to a
@@ -23,7 +23,7 @@ from trying import ROOT, try_over
 RESERVED = ("and as asc create cross desc false from group inner is join limit not null offset "
             "on or order select table true using where with").split()
 NAMES = ("a b t rows first copy csv format stdin index statistics last _x x1 nulls pages distinct "
-         "common histogram by explain include advise check plan use analyze").split()
+         "common histogram by explain include advise check plan use analyze in between left right full natural outer").split()
 SYMBOLS = "( ) , . * - ; < <= = <> |<|".split()
 OPERATORS = "< <= = >= > <> != |<| |>=|".split()
 CHUNK = 100
@@ -67,7 +67,17 @@ def operand(r):
     return column(r) if r.random() < 0.6 else literal(r)
 
 
+def listed(r):
+    """IN with a list, or BETWEEN, with NOT or without."""
+    negated = ["not"] if r.random() < 0.4 else []
+    if r.random() < 0.5:
+        return column(r) + negated + ["in", "("] + joined(r, literal) + [")"]
+    return operand(r) + negated + ["between"] + operand(r) + ["and"] + operand(r)
+
+
 def atom(r):
+    if r.random() < 0.3:
+        return listed(r)
     kind = r.randrange(5)
     if kind < 2:
         return operand(r) + [r.choice(OPERATORS)] + operand(r)
@@ -194,11 +204,13 @@ def item(r):
 
 
 def grouped(r):
-    """A SELECT with calls or GROUP BY, now and then with neither."""
+    """A SELECT with calls or GROUP BY, now and then with neither, or with DISTINCT."""
     where = ["where"] + condition(r) if r.random() < 0.4 else []
     groups = ["group", "by"] + joined(r, column) if r.random() < 0.7 else []
     order = ["order", "by"] + joined(r, ordering) if r.random() < 0.4 else []
     window = ["limit", "7"] if r.random() < 0.1 else []
+    if r.random() < 0.3:
+        return ["select", "distinct"] + joined(r, output) + ["from"] + joined(r, group) + where + (groups if r.random() < 0.1 else []) + order + window
     return ["select"] + joined(r, item) + ["from"] + joined(r, group) + where + groups + order + window
 
 
@@ -261,8 +273,8 @@ def parser_of(grammar, offered):
     """The reference parser without the productions that are not offered, and with the parts by themselves."""
 
     class Parser(grammar.Parser):
-        # the reference parser has GROUP BY from this stage on
-        STAGE = 20 if offered["READS_GROUPS"] else 19
+        # the stages from which on the reference parser has these productions
+        STAGE = next((stage for stage, constant in ((22, "READS_DISTINCT"), (21, "READS_LISTS"), (20, "READS_GROUPS")) if offered[constant]), 19)
         ordered = True
 
         def accept_word(self, word):

@@ -5,8 +5,8 @@ usage: judge_scripts.py [--stage STAGE] JUDGE PROGRAM [COUNT [SEED [RELATIONS]]]
 
 COUNT right scripts and COUNT broken ones are made (500 each where it is not given). Queries have up to four relations, or with
 RELATIONS exactly so many, and are only explained then. STAGE tells which statements the judge knows
-(20+limits where it is not given: joins, certificates, LIMIT and OFFSET, ANALYZE, ADVISE, plans that are written out, GROUP BY, up to
-ten relations and 32 columns); without its 17 there is no ANALYZE in right scripts, without its 15 no LIMIT, without its 18 no ADVISE,
+(22+limits where it is not given: joins, certificates, LIMIT and OFFSET, ANALYZE, ADVISE, plans that are written out, GROUP BY, no
+outer join under an alias, up to ten relations and 32 columns); without its 17 there is no ANALYZE in right scripts, without its 15 no LIMIT, without its 18 no ADVISE,
 without its 20 no GROUP BY, and without its 11 and 16 no EXPLAIN (TABLE). JUDGE is a program called as `JUDGE judge --stage STAGE --allow '' SCRIPT OUT ERRORS STATUS` that exits with 0
 where the answer is allowed. A right script has to end with status 0, or with 54001 where no plan is below the limit of costs.
 """
@@ -356,7 +356,7 @@ def broken_script(rng, asked):
 
 def main():
     words = argparse.ArgumentParser()
-    words.add_argument("--stage", default="20+limits")
+    words.add_argument("--stage", default="22+limits")
     words.add_argument("judge")
     words.add_argument("program")
     words.add_argument("numbers", nargs="*", type=int)

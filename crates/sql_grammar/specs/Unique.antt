@@ -37,7 +37,7 @@ ends_atom (t_key Is _ ∷ _) = false
 ends_atom (t_operator _ ∷ _) = false
 ends_atom _ = true
 
--- it goes on no conjunction: it is no dot, IS, operator or AND
+-- it goes on no conjunction: it is no dot, IS, NOT, IN, BETWEEN, operator or AND
 abbrev pub ends_conj : List Terminal → Bool
 ends_conj (t_mark Dot _ ∷ _) = false
 ends_conj (t_key Not _ ∷ _) = false
@@ -48,7 +48,7 @@ ends_conj (t_operator _ ∷ _) = false
 ends_conj (t_key And _ ∷ _) = false
 ends_conj _ = true
 
--- the next word, where there is one, goes on no expression before it: it is no dot, operator, IS, AND or OR
+-- the next word, where there is one, goes on no expression before it: it is no dot, operator, IS, NOT, IN, BETWEEN, AND or OR
 abbrev pub ends_expr : List Terminal → Bool
 ends_expr (t_mark Dot _ ∷ _) = false
 ends_expr (t_key Not _ ∷ _) = false

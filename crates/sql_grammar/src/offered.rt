@@ -18,14 +18,14 @@ pub const READS_DISTINCT: bool = true;
 /// GROUP BY and the calls of a SELECT's list, as count(*).
 pub const READS_GROUPS: bool = true;
 
+/// IN with a list, and BETWEEN.
+pub const READS_LISTS: bool = true;
+
 /// USE PLAN: a SELECT by a plan that is written out.
 pub const READS_PLAN: bool = true;
 
 /// EXPLAIN (TABLE) of a SELECT: its plan with its certificate.
 pub const READS_TABLE: bool = true;
-
-/// IN with a list, and BETWEEN.
-pub const READS_LISTS: bool = true;
 
 /// LIMIT and OFFSET behind a SELECT with its order.
 pub const READS_WINDOW: bool = true;

@@ -195,7 +195,7 @@ pub const MAYBE_HISTOGRAM: ItemRows = rows! { OPTIONAL;
     Name(Some(Free::Histogram)) => [Sign(Symbol::Open), Literal, MoreBounds];
 };
 
-/// Further bounds, and the closing parenthesis.
+/// Further literals of a list, as those of IN and the bounds of a histogram, and the closing parenthesis.
 pub const MORE_BOUNDS: ItemRows = rows! { NEEDED;
     Mark(Symbol::Comma) => [Literal, MoreBounds];
     Mark(Symbol::Close) => [];
@@ -421,7 +421,7 @@ pub const FIRST_ITEM: ItemRows = rows! { NEEDED;
     ANY_NAME => [AfterPlain];
 };
 
-/// What follows the word DISTINCT there: a list, where a `*` or a name is next; else it is a column's name.
+/// What follows the word DISTINCT behind SELECT: a list, where a `*` or a name is next; else the word is a column's name.
 pub const AFTER_DISTINCT: ItemRows = rows! { NEEDED;
     Mark(Symbol::Star) => [
         MoreResults, Keyword(Word::From), Label, MaybeAlias, MoreJoins, MoreGroups, MaybeWhere,

@@ -59,7 +59,7 @@ pub enum Item {
     MoreShares,
     /// The bounds of a histogram, or nothing.
     MaybeHistogram,
-    /// Further bounds, and the closing parenthesis.
+    /// Further literals of a list, as those of IN and the bounds of a histogram, and the closing parenthesis.
     MoreBounds,
     /// A literal.
     Literal,
@@ -127,7 +127,7 @@ pub enum Item {
     MoreAdvised,
     /// The first item of a SELECT's list, or DISTINCT and the list, and what follows up to the statement's end.
     FirstItem,
-    /// What follows the word DISTINCT there.
+    /// What follows the word DISTINCT behind SELECT.
     AfterDistinct,
     /// An item of a SELECT's list before which no call stands, and what follows it up to the statement's end.
     PlainItem,

@@ -1,0 +1,13 @@
+-- IN with one value is an equality, with more an OR with an arm for each; BETWEEN is two bounds; NOT IN is a conjunct for each value.
+CREATE TABLE t (a int4, b int4);
+CREATE INDEX ta ON t (a);
+STATISTICS t ROWS 1000 PAGES 10;
+STATISTICS t.a DISTINCT 100 NULLS 0;
+EXPLAIN SELECT * FROM t WHERE a IN (5);
+EXPLAIN SELECT * FROM t WHERE a IN (5, 6);
+EXPLAIN SELECT * FROM t WHERE a BETWEEN 5 AND 7;
+EXPLAIN SELECT * FROM t WHERE a >= 5 AND a <= 7;
+EXPLAIN (TABLE) SELECT * FROM t WHERE a NOT IN (1, 2) AND a IN (5, 6);
+ADVISE 1 (tp ON t (b) WHERE a BETWEEN 1 AND 3, tb ON t (b)) (SELECT * FROM t WHERE b = 7 AND a BETWEEN 1 AND 3);
+EXPLAIN SELECT * FROM t WHERE a = 5 OR a = 6;
+EXPLAIN (TABLE) SELECT * FROM t WHERE b NOT BETWEEN 1 AND 2 AND a IN (5, 6);

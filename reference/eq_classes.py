@@ -127,6 +127,7 @@ class Classes:
     def _add_clauses(self, n: int, cls: Class) -> None:
         """The clauses of a class: each column with each literal, or the equalities inside and between relations."""
         def add(left: ColumnRef, right: Operand, mask: int, pair: tuple[int, int] | None = None) -> None:
+            """Adds an equality of the class."""
             expr = ("compare", equality_of(cls.family), ("column", *left), right)
             self.clauses.append(Clause(expr, mask, cls=n, pair=pair))
 

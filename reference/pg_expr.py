@@ -125,6 +125,7 @@ def _negated(value: bool | None) -> bool | None:
 def _series(wanted: bool, tests: list[Test]) -> Test:
     """AND where True is wanted of all, OR where it is wanted of none."""
     def run(rows: Sequence) -> bool | None:
+        """The truth at rows."""
         out: bool | None = wanted
         for test in tests:
             found = test(rows)

@@ -22,6 +22,7 @@ def drawing(n: int) -> Callable[[int], int]:
     state = n
 
     def draw(limit: int) -> int:
+        """A number below the limit."""
         nonlocal state
         state = (state * 6364136223846793005 + 1442695040888963407) % (1 << 64)
         return (state >> 33) % limit

@@ -105,6 +105,7 @@ def _set_sizes(node: Node, catalog: Catalog) -> Callable[[], None]:
     table, rows, pages = read_sizes(node, catalog)
 
     def change() -> None:
+        """Sets both."""
         table.given_rows, table.given_pages = rows, pages
     return change
 

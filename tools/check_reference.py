@@ -9,6 +9,7 @@ Prints a line for each difference, and last how many cases passed and failed.
 """
 import pathlib
 import sys
+from typing import Callable, Iterator
 
 sys.dont_write_bytecode = True
 ROOT = pathlib.Path(__file__).resolve().parent.parent
@@ -18,7 +19,7 @@ from reference.judge import judge
 from reference.pgplan import answer, answer_to_words
 
 
-def differences(script: bytes, told, errors: bytes, status: int, stored: bytes | None):
+def differences(script: bytes, told: Callable[[bytes], bool], errors: bytes, status: int, stored: bytes | None) -> Iterator[str]:
     """What is wrong with a script: the reference's own answer, and its judgement of that and of the stored output."""
     out, err, ended = answer(script)
     if (err, ended) != (errors, status):
@@ -33,7 +34,7 @@ def differences(script: bytes, told, errors: bytes, status: int, stored: bytes |
         yield f"the stored answer is {verdict}"
 
 
-def stored_output(name) -> bytes | None:
+def stored_output(name: object) -> bytes | None:
     """The stored output of a script with a file of its own."""
     return (ROOT / name).with_suffix(".out").read_bytes() if isinstance(name, pathlib.PurePath) else None
 

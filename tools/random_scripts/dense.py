@@ -130,6 +130,7 @@ def sizes(rng: Random, t: str) -> str:
 def data(rng: Random, t: str, columns: Columns, not_null: bool, count: int) -> str:
     """COPY of so many records."""
     def value(column: int) -> str:
+        """A field."""
         if not not_null and rng.random() < 0.15:
             return "\\N"
         kind = kind_of(column)

@@ -49,9 +49,11 @@ def change_word(rng: Random, lines: Lines, names: Sequence[str]) -> None:
 def change_sides(rng: Random, lines: Lines) -> None:
     """Two nodes of one depth, the one behind the other, with all below them, that change places."""
     def depth(n: int) -> int:
+        """How far a line is indented."""
         return len(lines[n]) - len(lines[n].lstrip(" "))
 
     def end(n: int) -> int:
+        """The place behind a node and all below it."""
         return next((k for k in range(n + 1, len(lines)) if depth(k) <= depth(n)), len(lines))
 
     n = rng.randrange(len(lines))

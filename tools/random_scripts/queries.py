@@ -130,6 +130,7 @@ def with_predicate(rng: Random, words: Words, relations: Sequence[Relation]) -> 
 def window(rng: Random) -> Words:
     """LIMIT, OFFSET, or both."""
     def number() -> str:
+        """A number of rows."""
         return str(rng.choice([0, 0, 1, 1, 2, 3, 5, 10, 40, 100, 1000, rng.randrange(200), 2**63 - 1]))
 
     kept = rng.randrange(1, 4)

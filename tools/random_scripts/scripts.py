@@ -16,6 +16,10 @@ from .certificates import MOST_ENTRIES, any_entries, kept
 from .certificates import edited as edited_certificate
 
 
+# Statements at fault are asked of tables with no more rows, where there are any, since some of them are no faults there.
+MOST_ROWS = 100
+
+
 # -- scripts of all statements
 
 class Mixed:
@@ -106,12 +110,13 @@ def mixed(rng: Random) -> str:
 
 
 def faulty(rng: Random) -> str:
-    """A right script, then a statement at fault, then a query that is not reached."""
+    """A right script, then a statement that is at fault, mostly, then a query."""
     script = grown(rng, [0, 1, 3, 5, 8, 12])
     if not script.tables:
         script.add_table()
-    script.parts.append(broken_statement(rng, script.tables))
-    script.add(plain_select(rng, script.tables)[0])
+    script.parts.append(broken_statement(rng, [table for table in script.tables if table.rows <= MOST_ROWS] or script.tables[:1]))
+    query, relations = plain_select(rng, script.tables)
+    script.add(["EXPLAIN", *query] if is_large(relations) else query)
     return "\n".join(script.parts)
 
 
@@ -245,6 +250,7 @@ def column_values(rng: Random, kind: str, count: int) -> list[str]:
     nulls, part, spread = rng.choice([0, 0, 0.1, 0.5, 0.98, 1]), rng.choice([0, 0, 0.2, 0.6, 1]), rng.choice([1, 2, 9, 17, 40, 300, 30_000])
 
     def value(limit: int) -> str:
+        """A value of about so many different ones."""
         number = rng.randrange(-limit, limit)
         return rng.choice("tf") if kind == "bool" else str(number) if kind == "int" else rng.choice(["k", "K", "k ", "z"]) + str(abs(number))
 

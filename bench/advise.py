@@ -4,8 +4,8 @@
 usage: bench/advise.py PROGRAM
 
 PROGRAM is a built pgplan. The tables are orders, items, articles and customers of 10,000 to 1,000,000 rows, told by STATISTICS; the
-queries join all four and differ in their conditions. Every query reads each table, so that each is planned with all 1,024 sets of
-candidates. Printed are the seconds of the whole run and its peak memory, for several numbers of candidates. Nothing is promised of it.
+queries join all four and differ in their conditions. Every query reads each table, so that each is priced with all 1,024 sets of
+candidates, and planned with those at which the plan of another set does not serve. Printed are the seconds of the whole run and its peak memory, for several numbers of candidates. Nothing is promised of it.
 """
 import sys
 

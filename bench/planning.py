@@ -10,8 +10,9 @@ import pathlib
 import sys
 
 sys.path.insert(0, str(pathlib.Path(__file__).resolve().parent.parent / "tools"))
-from class_oracle import answers
-from plan_oracle import CRATES
+from trying import answers
+
+CRATES = ["planner", "index_reader"]
 
 PROGRAM = r"""
 //! Reads definitions and a SELECT, a script a line, and prints the nanoseconds of planning it and its cost.

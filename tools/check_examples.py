@@ -114,4 +114,5 @@ def main():
         sys.exit(f"examples: {MEND}")
 
 
-main()
+if __name__ == "__main__":
+    main()

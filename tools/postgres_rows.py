@@ -13,9 +13,10 @@ import random
 import subprocess
 import sys
 
-from grouped_queries import grouped_select
-from joined_queries import joined_select
-from script_parts import Table, column_statistics, create, index, select, sizes, spaced
+sys.dont_write_bytecode = True
+from random_scripts.definitions import column_statistics, create, create_index, sizes
+from random_scripts.parts import Table, spaced
+from random_scripts.queries import grouped_select, is_large, plain_select
 
 
 def table_of(rng, name):
@@ -53,13 +54,13 @@ def script(rng):
         mine += [plain, data]
         theirs += ["CREATE TEMP " + plain.split(None, 1)[1], data]
         for n in range(rng.choice([0, 1, 2, 3])):
-            mine.append(spaced(rng, index(rng, table, f"i{number}{n}")) + ";\n")
+            mine.append(spaced(rng, create_index(rng, table, f"i{number}{n}")) + ";\n")
         mine += [spaced(rng, s(rng, table)) + ";\n" for s in rng.sample([sizes, column_statistics], rng.choice([0, 1, 2]))]
     queries = []
     while len(queries) < 5:
-        groups = rng.random() < 0.4
-        words = without_sizes(grouped_select(rng, tables) if groups else joined_select(rng, tables) if rng.random() < 0.8 else select(rng, rng.choice(tables)))
-        if words and words[0].lower() != "explain":
+        made, relations = grouped_select(rng, tables) if rng.random() < 0.4 else plain_select(rng, tables, (1, 2, 2, 2, 3, 3, 4))
+        words = without_sizes(made)
+        if words and not is_large(relations):
             queries.append(" ".join(words))
     return "".join(mine), "".join(theirs), queries
 

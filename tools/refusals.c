@@ -4,7 +4,8 @@
 // REFUSE_MEMORY=N  the Nth call that takes memory gives none         REFUSE_LATER=1  and so does each one after it
 // FAIL_READ=N      the Nth read of standard input fails              SHORT_READ=K    a read gives at most K bytes
 // FAIL_OUT=N       the Nth write to standard output fails            SHORT_WRITE=K   a write takes at most K bytes
-// FAIL_ERROR=N     the Nth write to standard error fails
+// FAIL_ERROR=N     the Nth write to standard error fails             INTERRUPT=K     K reads or writes in a row are interrupted
+//                                                                    before each one that is done
 // COUNTS=FILE      the four counts are written there at the end
 #define _GNU_SOURCE
 #include <dlfcn.h>
@@ -16,7 +17,7 @@
 #include <unistd.h>
 
 static long memory_calls, reads, outs, errors_written;
-static long refuse_memory, refuse_later, fail_read, short_read, fail_out, short_write, fail_error;
+static long refuse_memory, refuse_later, fail_read, short_read, fail_out, short_write, fail_error, interrupt, interrupted;
 static int is_ready;
 
 static long number(const char *name)
@@ -34,6 +35,7 @@ __attribute__((constructor)) static void begin(void)
     fail_out = number("FAIL_OUT");
     short_write = number("SHORT_WRITE");
     fail_error = number("FAIL_ERROR");
+    interrupt = number("INTERRUPT");
     is_ready = 1;
 }
 
@@ -91,9 +93,23 @@ int posix_memalign(void **to, size_t alignment, size_t size)
     return 0;
 }
 
+// Whether this call is one that a signal interrupts.
+static int is_interrupted(void)
+{
+    if (interrupted == interrupt) {
+        interrupted = 0;
+        return 0;
+    }
+    interrupted++;
+    errno = EINTR;
+    return 1;
+}
+
 ssize_t read(int file, void *to, size_t size)
 {
     if (is_ready && file == 0) {
+        if (is_interrupted())
+            return -1;
         if (++reads == fail_read) {
             errno = EIO;
             return -1;
@@ -106,6 +122,8 @@ ssize_t read(int file, void *to, size_t size)
 
 ssize_t write(int file, const void *from, size_t size)
 {
+    if (is_ready && (file == 1 || file == 2) && is_interrupted())
+        return -1;
     if (is_ready && file == 1 && ++outs == fail_out) {
         errno = EIO;
         return -1;

@@ -12,7 +12,8 @@ examples/ and scripts/ of at most 64 KiB. For each script the program is first r
 - once for each read, which fails: status 2, its line, and no output;
 - once for each write of output, which fails: status 4, its line, and a first part of the output;
 - where errors are written, once for each write of them, which fails: the status and the output stay, and the line is cut;
-- with reads and writes of at most 1 and at most 7 bytes: everything stays.
+- with reads and writes of at most 1 and at most 7 bytes: everything stays;
+- with each read and each write interrupted once and three times before it is done: everything stays.
 
 Prints a line for each difference and last the numbers of runs by kind, and how many failed.
 """
@@ -90,6 +91,13 @@ def give_little(program, name, script, whole):
         program.judge("short reads and writes", name, (got := program.run(script, **asked)) == whole, got, asked)
 
 
+def interrupt(program, name, script, whole):
+    """Interrupts each read and each write so many times."""
+    for times in (1, 3):
+        asked = {"INTERRUPT": times}
+        program.judge("interrupted reads and writes", name, (got := program.run(script, **asked)) == whole, got, asked)
+
+
 def scripts_of(words):
     if words:
         return [pathlib.Path(word) for word in words]
@@ -108,6 +116,7 @@ def main():
             fail_writes(program, path.name, script, whole, outs)
             fail_errors(program, path.name, script, whole, errors)
             give_little(program, path.name, script, whole)
+            interrupt(program, path.name, script, whole)
     told = ", ".join(f"{number} of {kind}" for kind, number in sorted(program.runs.items()))
     print(f"refusals: {told}; {program.failed} failed")
     sys.exit(program.failed != 0 or not program.runs)

@@ -77,7 +77,8 @@ fn better<P: Pricer>(
 
 /// The set of at most `k` of the first `n` candidates with which the queries cost least together; among equal ones that
 /// with the fewest members, then that whose list of places comes first. None exactly where no such set gives each query
-/// a plan. Each query is priced once for each set of the candidates that may change it. The error means want of memory.
+/// a plan. Each query is priced at most once with each set of the candidates that may change it. The error means that memory
+/// ran out.
 pub fn advise<P: Pricer>(alloc: Global, p: &mut P, n: u8, k: u8) -> Result<Option<Advice>, Memory>
     requires candidates { n ≤ MOST_CANDIDATES }
     requires members { k ≤ MOST_CANDIDATES }

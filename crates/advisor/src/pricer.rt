@@ -1,8 +1,18 @@
 //! What queries cost.
 
-ghost use Rattle.std.specs.Prelude.{bit_and, ◌≡◌, ◌<◌, ◌≤◌, ◌^◌, ℕ, Option, IfOk, IfSome};
+ghost use Rattle.std.specs.Prelude.{bit_and, ◌≡◌, ◌<◌, ◌≤◌, ℕ, Option, IfOk};
+ghost use Rattle.advisor.specs.Memos.{IsBelow, IsQuote};
 
 use pg_base::{MOST_QUERIES, Memory};
+
+/// What a query costs with a set of candidates.
+#[derive(Clone, Copy, Debug, PartialEq, Eq)]
+pub struct Quote {
+    /// The cost, below 10^18; None where it has no plan.
+    pub cost: Option<u64>,
+    /// Candidates of the set with which alone it costs the same, and so with every set between the two.
+    pub used: u16,
+}
 
 /// A list of queries, each with a cost by the set of candidates that is there. A set is a number whose bit j stands for
 /// candidate j.
@@ -26,12 +36,12 @@ pub trait Pricer {
         requires { q < count self.now }
         ensures { result ≡ concerns self.now q };
 
-    /// What a query costs with a set of candidates, below 10^18; None where it has no plan then. It leaves all that contracts
-    /// see as it was. The error means want of memory.
-    fn price(&mut self, q: u8, s: u16) -> Result<Option<u64>, Memory>
+    /// What a query costs with a set of candidates, and with every set between those that are used and this one. It leaves all
+    /// that contracts see as it was. The error means that memory ran out.
+    fn price(&mut self, q: u8, s: u16) -> Result<Quote, Memory>
         requires { q < count self.old }
-        ensures price { IfOk result (priced self.old q s) }
-        ensures below { IfOk result (λ o. IfSome o (λ n. n < 10 ^ 18)) }
+        ensures price { IfOk result (IsQuote (priced self.old) q s) }
+        ensures below { IfOk result (IsBelow s) }
         ensures same { self.new ≡ self.old };
 
     /// No query has two costs with one set.

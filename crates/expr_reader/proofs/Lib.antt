@@ -5,6 +5,7 @@ pub mod OperandLemmas
 pub mod PartLemmas
 pub mod AtomLemmas
 pub mod ListLemmas
+pub mod CountLemmas
 pub mod EndLemmas
 pub mod TypedLemmas
 pub mod StepLemmas

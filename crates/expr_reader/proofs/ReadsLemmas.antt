@@ -70,7 +70,7 @@ read-has T A seen P (Ok a) (Ok x) rest left read has = subst P (sym read.0) (has
 read-has T A seen P (Err f) (Ok x) rest left read has = absurd read
 read-has T A seen P m (Err e) rest left read has = tt
 
--- want of memory that is handed on
+-- a refusal for memory that is handed on
 pub read-want : (T A : Type 0) (seen : T → A) (m : Result A Fault) (r : Result T Refusal) (rest left : List Terminal) → IsErrAnd r (λ e. e ≡ refusal.Memory) → Reads seen m rest r left
 read-want T A seen m (Ok x) rest left told = absurd told
 read-want T A seen m (Err refusal.Memory) rest left told = read-memory T A seen m rest left

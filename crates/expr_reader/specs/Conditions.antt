@@ -1,7 +1,6 @@
 -- What a condition means over the visible columns and their types, or its first fault: from the left, and within a comparison
 -- its columns first, then its literals, then its operator; IN and BETWEEN are the comparisons that they stand for, one after
--- the other (PostgreSQL manual, chapter Type Conversion, Operators; codes:
--- appendix Error Codes).
+-- the other (PostgreSQL manual, chapter Type Conversion, Operators; codes: appendix Error Codes).
 use Rattle.std.specs.Prelude.{◌≡◌, ℕ, Bool, All, IsTrue, List, [], ◌∷◌, codes, Option, Some, None, Result, Ok, Err, cond}
 use Rattle.pg_base.specs.declared.faults.Code.TheVariants.{S2, S3, S4, S9, S10}
 use Rattle.pg_base.specs.declared.faults.Fault.{Fault}

@@ -39,17 +39,18 @@ abbrev pub each_equal : Side → Token → List Lit → Result Conds Fault
 each_equal s word [] = Ok no_conds
 each_equal s word (l ∷ ls) = then_parts (compare_sides (standing_for (codes "=") word) s (of_literal l)) (each_equal s word ls)
 
--- one of these comparisons, of which the literal is read
+-- the comparison of a column that was read with the literal that stands first, by the operator for which IN stands
 abbrev pub ReadsEquality : ColRef → SqlType → Token → Token → List Terminal → Result Expr Refusal → List Terminal → Type 0
 ReadsEquality c t first word old read left =
     IfWords words_of_lit old (λ l rest. Reads cond (compare_sides (standing_for (codes "=") word) (of_column c t first) (of_literal l)) rest read left)
 
--- a list in parentheses stands first, or the two sides behind BETWEEN, whose left side was read
+-- a list in parentheses stands first
 abbrev pub StandsAmong : List Terminal → Type 0
 StandsAmong ts =
     (o : Mark) × (l : Lit) × (ls : List (Mark × Lit)) × (m : Mark) × (rest : List Terminal) ×
     (ts ≡ t_mark Open o ∷ (words_of_lit l ++ (words_of_bounds ls ++ t_mark Close m ∷ rest)))
 
+-- the two sides behind BETWEEN stand first, whose left side was read
 abbrev pub StandsBetween : SideRead → List Terminal → Type 0
 StandsBetween first ts =
     (s : Side) × (a : Operand) × (k : Key) × (b : Operand) × (rest : List Terminal) × (first ≡ side_read s) × (ends_operand rest ≡ true) ×

@@ -1,6 +1,7 @@
 pub mod Scope
 pub mod Literals
 pub mod Conditions
+pub mod Counts
 pub mod Reads
 pub mod Written
 pub mod Expressions

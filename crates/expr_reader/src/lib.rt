@@ -4,6 +4,7 @@
 #![tactic(auto)]
 
 mod comparison;
+mod counts;
 mod cursor;
 mod cursor_laws;
 mod expr;
@@ -18,6 +19,7 @@ mod value;
 mod values;
 mod written;
 
+pub use counts::conjunct_count;
 pub use cursor::{Cursor, Number, Operator, Spelled};
 pub use cursor_laws::names_among_words;
 pub use found::Found;

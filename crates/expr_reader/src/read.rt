@@ -23,15 +23,19 @@ use std::alloc::Global;
 
 /// The expression that is next, its names bound to the visible columns, as written: AND, OR and NOT with their parts in order,
 /// and AND and OR of one part that part; parentheses add nothing. The cursor then stands behind it. The condition is that the
-/// words that are left begin with an expression, and that no dot, operator, IS, AND or OR follows it.
+/// words that are left begin with an expression, and that no dot, operator, IS, NOT, IN, BETWEEN, AND or OR follows it.
+///
+/// IN and BETWEEN are read as what they stand for: `c IN (a, b)` as `(c = a OR c = b)`, with one literal as `c = a`, and `x BETWEEN a
+/// AND b` as `(x >= a AND x <= b)`; with NOT before the word, as NOT of that.
 ///
 /// A quoted text beside an operand of another type is read as that type by the rules of COPY's fields, but never as NULL;
 /// beside text, NULL and another quoted text it is text. A whole number is an int8. The refusal is `Memory`, or the first
 /// fault from the left: an unknown qualifier (42P01) at the qualifier; an unknown column (42703) or one that several visible
 /// columns are (42702) at the column's word; a number past int8 (22003), or a quoted text that is out of the type's range
 /// (22003) or spells none of it (22P02), at the literal's first token, a `-` included; an operator that is not there for the
-/// types of its sides (42883) at the operator; a column that is a condition by itself and not bool (42804) at its first word.
-/// Within one comparison the columns come first, then the literals, each from the left, and then the operator.
+/// types of its sides (42883) at the operator, or at the word IN or BETWEEN; a column that is a condition by itself and not bool
+/// (42804) at its first word. Within one comparison the columns come first, then the literals, each from the left, and then the
+/// operator; the comparisons of IN and BETWEEN are read one after the other.
 ///
 /// What is read is well typed, and names visible columns alone.
 pub fn take_expr<S: Scope>(alloc: Global, scope: &S, from: &mut Cursor) -> Result<Expr, Refusal>

@@ -106,12 +106,12 @@ pub data Grouper : Type 0 where
   columns_of : GroupBy → Grouper
   shown : Grouper
 
--- behind DISTINCT the list, else this GROUP BY
+-- what a SELECT is grouped by, with DISTINCT before its list or not, where this GROUP BY is written
 abbrev pub grouper : Bool → GroupBy → Grouper
 grouper true b = shown
 grouper false b = columns_of b
 
--- these columns, where the list is bound to these parts
+-- the columns that a SELECT is grouped by, where its list is bound to these parts
 abbrev pub keys_by : Scope → Grouper → List Part → Result (List ColRef) Fault
 keys_by scope (columns_of b) ps = group_columns scope b
 keys_by scope shown ps = Ok (shown_columns ps)

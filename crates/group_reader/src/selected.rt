@@ -79,6 +79,9 @@ fn grouped(
 /// told by its place among these, the first one where it stands there twice. The classes are those of the conjuncts, of ORDER BY
 /// and of the GROUP BY columns behind it, ascending with NULLs last.
 ///
+/// SELECT DISTINCT is one that groups: its GROUP BY columns are those that the list shows, in their order and with repeats
+/// (PostgreSQL manual, SELECT, DISTINCT Clause). Where they are more than can be numbered, the refusal is `Memory`.
+///
 /// The text has at most 2^31 bytes, and the tokens are the words of a statement from some offset of it, of no other kind than a
 /// SELECT. The refusal is the first fault: that of the statement's grammar, as `read_select` tells it; else a fault of FROM, of a
 /// condition or of a name, with the codes there; a call that is not known (42883), with the call's name; a column that is not grouped

@@ -3,3 +3,4 @@ pub mod Prices
 pub mod PriceLaws
 pub mod Proposals
 pub mod Replies
+pub mod Quotes

@@ -16,8 +16,8 @@ use std::alloc::Global;
 
 /// The set of at most so many of the candidates with which the queries cost least together, each by its least price in the
 /// catalogue with the set added in list order; among equal sums the set with the fewest members, then the one whose list of
-/// places comes first. None exactly where with no such set each query has an admissible plan. The error means want of
-/// memory. Each query is planned once for each set of the candidates on its tables.
+/// places comes first. None exactly where with no such set each query has an admissible plan. The error means that
+/// memory ran out. Each query is planned at most once with each set of the candidates on its tables.
 pub fn recommend(
     alloc: Global,
     cat: &Catalog,

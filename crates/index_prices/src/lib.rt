@@ -6,6 +6,8 @@ mod adding;
 mod advising;
 mod pricer;
 mod pricing;
+mod reading;
+mod room;
 mod text;
 
 pub use advising::{advice_for, recommend};

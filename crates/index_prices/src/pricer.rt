@@ -5,8 +5,8 @@ ghost use Rattle.plan_laws.specs.Moved.{is_read};
 ghost use Rattle.index_prices.specs.Prices.{read_by};
 
 use crate::adding::with_added;
-use crate::pricing::least_price;
-use advisor::Pricer;
+use crate::pricing::least_quote;
+use advisor::{Pricer, Quote};
 use catalog::{Candidate, Catalog};
 use pg_base::{MOST_CANDIDATES, Memory};
 use sql_query::Prepared;
@@ -75,9 +75,15 @@ impl<'a> Pricer for PlanPricer<'a> {
         read_of(&self.queries[q as usize], self.candidates)
     }
 
-    fn price(&mut self, q: u8, s: u16) -> Result<Option<u64>, Memory> {
+    fn price(&mut self, q: u8, s: u16) -> Result<Quote, Memory> {
         let cat = with_added(self.alloc, self.cat, self.candidates, s)?;
-        least_price(self.alloc, &cat, &self.queries[q as usize])
+        least_quote(
+            self.alloc,
+            &cat,
+            self.candidates,
+            s,
+            &self.queries[q as usize],
+        )
     }
 
     ghost unique = { λ p q s a b. one-price-with p.contents p.candidates p.queries q s a b };

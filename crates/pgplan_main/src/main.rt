@@ -1,5 +1,5 @@
-//! The program `pgplan`: the top call over the words of the command line and the standard streams. Its tests run the top call over
-//! sources and outs that fail, and count what its machine fetches and looks at.
+//! The program `pgplan`: the top call over the words of the command line and the standard streams, of which interrupted reads and
+//! writes are made again. Its tests run the top call over sources and outs that fail, and count what its machine fetches and looks at.
 #![tactic(auto)]
 
 #[cfg(test)]
@@ -10,11 +10,13 @@ mod outside;
 mod pace;
 #[cfg(test)]
 mod product;
+mod retried;
 #[cfg(test)]
 mod runs;
 
 use pg_base::{StdSink, StdSource, write_all};
 use pgplan::pgplan;
+use retried::Retried;
 use std::process::ExitCode;
 use std::rt::Env;
 use std::{env, io};
@@ -29,7 +31,7 @@ fn words(rt: &(impl Env + AllocGlobal)) -> io::Result<Vec<String>> {
 }
 
 fn main(rt: HostRuntime) -> ExitCode {
-    let mut errors = StdSink::new(rt.stderr());
+    let mut errors = StdSink::new(Retried::new(rt.stderr()));
     let words = match words(&rt) {
         Ok(words) => words,
         Err(error) if error.kind() == io::ErrorKind::OutOfMemory => {
@@ -39,7 +41,7 @@ fn main(rt: HostRuntime) -> ExitCode {
         // Words that are no text are no command.
         Err(_) => Vec::new(rt.alloc()),
     };
-    let mut source = StdSource::new(rt.stdin());
-    let mut out = StdSink::new(rt.stdout());
+    let mut source = StdSource::new(Retried::new(rt.stdin()));
+    let mut out = StdSink::new(Retried::new(rt.stdout()));
     ExitCode::from(pgplan(rt.alloc(), &words, &mut source, &mut out, &mut errors))
 }

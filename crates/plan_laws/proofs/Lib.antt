@@ -32,6 +32,12 @@ pub mod TreeLemmas
 pub mod PlanLemmas
 pub mod ListLemmas
 pub mod PriceLemmas
+pub mod DecisionLemmas
+pub mod PickedLemmas
+pub mod HiddenLemmas
+pub mod RoomLemmas
+pub mod KeptTreeLemmas
+pub mod KeptPlanLemmas
 pub mod BoundLemmas
 pub mod TotalLemmas
 pub mod KeyLemmas

@@ -32,7 +32,7 @@ abbrev next : IndexNo → IndexNo
 next i = record { 0 = suc i.0 }
 
 -- an index that is not read is of no relation's table
-not-read : (range : Range) (m : ℕ) → list_any (λ rel. nat_eq m rel.0.0) range ≡ false → (r : ℕ) → r < length range → m ≢ (slice_index_or range r (record { 0 = 0 }, [])).0.0
+pub not-read : (range : Range) (m : ℕ) → list_any (λ rel. nat_eq m rel.0.0) range ≡ false → (r : ℕ) → r < length range → m ≢ (slice_index_or range r (record { 0 = 0 }, [])).0.0
 not-read [] m e r lt = absurd (omega (arith, lt))
 not-read (x ∷ xs) m e zero lt = λ same. true≢false (sym (ap (λ (b : Bool). b || list_any (λ rel. nat_eq m rel.0.0) xs) (eq-eqb m x.0.0 same)) ∙ e)
 not-read (x ∷ xs) m e (suc r) lt = not-read xs m (later (nat_eq m x.0.0) e) r (omega (arith, lt))

@@ -29,10 +29,11 @@ use Rattle.plan_tree.specs.Costs.{asked, cost, estimate, join_operators, merge_o
 use Rattle.plan_tree.specs.Keys.{keys_of}
 use Rattle.plan_tree.specs.Space.{IsSameSet, IsEmpty, others_named, AreSides, IsNest, may_go, IsIndexScan, IsBitmapScan, IsMergeList, HasKeys, IsMerge, IsBuilt, MeetsOrder, IsFinished}
 use Rattle.plan_tree.specs.Least.{IsAdmissible, IsBestPlan}
-use Rattle.plan_laws.specs.Moved.{over, Moves, moved, tree_moved}
+use Rattle.plan_laws.specs.Fewer.{Keeps}
+use Rattle.plan_laws.specs.Moved.{over, moved, tree_moved}
 use Rattle.plan_laws.proofs.EstimateLemmas.{kept-over}
 use Rattle.plan_laws.proofs.IndexLemmas.{keys-same, scan-cost-same, usable-same}
-use Rattle.plan_laws.proofs.TreeLemmas.{tree-there, tree-on, uses-same, part-there}
+use Rattle.plan_laws.proofs.TreeLemmas.{tree-on, uses-same, part-there}
 
 -- what reads no index at all
 module _ (f : IndexNo → IndexNo) where
@@ -103,7 +104,7 @@ module _ (tables : List TableDef) (a b : List NamedIndex) (q : Query) where
   merge-list-there : (s u : Set) (keys : Keys) → IsMergeList (over tables a) q s u keys → IsMergeList (over tables b) q s u keys
   merge-list-there s u keys h = record { some = h.some; few = h.few; different = h.different; joining = h.joining }
 
-module _ (tables : List TableDef) (a b : List NamedIndex) (q : Query) (f : IndexNo → IndexNo) (m : Moves (over tables a) (over tables b) q f) where
+module _ (tables : List TableDef) (a b : List NamedIndex) (q : Query) (f : IndexNo → IndexNo) (m : Keeps (over tables a) (over tables b) q f) where
   estimate-there : (p : Plan) → estimate (over tables b) q (moved f p) ≡ estimate (over tables a) q p
   estimate-there p = ap₂ (rows_given (over tables b) q) (set-there f p) (given-there f p) ∙ rows-given-there tables a b q (set_of p) (given_scan p)
 
@@ -120,7 +121,7 @@ module _ (tables : List TableDef) (a b : List NamedIndex) (q : Query) (f : Index
   uses-there : (r : RelNo) (p : RelSet) (bits : BitTree) → IsBitmapScan (over tables a) q r p bits → uses (over tables b) q r.0 (has p.0) (tree_moved f bits) ≡ uses (over tables a) q r.0 (has p.0) bits
   uses-there r p bits h = λ k n. uses-same tables a b q f m r.0 h.relation (has p.0) bits (tree-on tables a b q f m r.0 h.relation (has p.0) bits h.tree) n k
 
-  keys-there : (p : Plan) → IsBuilt (over tables a) q p → keys_of (over tables b) q (moved f p) ≡ keys_of (over tables a) q p
+  pub keys-there : (p : Plan) → IsBuilt (over tables a) q p → keys_of (over tables b) q (moved f p) ≡ keys_of (over tables a) q p
   keys-there (seq r) h = refl
   keys-there (index r i backward p) h = ap (λ (ks : Keys). cond (is_empty p) ks []) (keys-same tables a b i (f i) (m.same r.0 i h.relation h.index) q.classes r.0 backward)
   keys-there (index_only r i backward p) h = ap (λ (ks : Keys). cond (is_empty p) ks []) (keys-same tables a b i (f i) (m.same r.0 i h.scan.relation h.scan.index) q.classes r.0 backward)
@@ -166,7 +167,7 @@ module _ (tables : List TableDef) (a b : List NamedIndex) (q : Query) (f : Index
   }
   built-there (bitmap r p bits) h = record {
     relation = h.relation;
-    tree = tree-there tables a b q f m r.0 h.relation (has p.0) bits h.tree;
+    tree = m.trees r.0 (has p.0) bits h.relation h.tree;
     named = subst (λ (u : ℕ → Bool). IsSameSet (has p.0) (others_named r.0 (conditions_from 0 u q.classes.clauses))) (sym (uses-there r p bits h)) h.named;
   }
   built-there (sort keys input) h = (built-there input h.0, plain-there f input ∙ h.1)
@@ -210,7 +211,7 @@ module _ (tables : List TableDef) (a b : List NamedIndex) (q : Query) (f : Index
   price-there p h = price-by q.window p h
 
 -- a plan of the least price is one of the least price, moved
-pub best-there : (tables : List TableDef) (a b : List NamedIndex) (q : Query) (f g : IndexNo → IndexNo) → Moves (over tables a) (over tables b) q f → Moves (over tables b) (over tables a) q g → (p : Plan) → IsBestPlan (over tables a) q p → IsBestPlan (over tables b) q (moved f p)
+pub best-there : (tables : List TableDef) (a b : List NamedIndex) (q : Query) (f g : IndexNo → IndexNo) → Keeps (over tables a) (over tables b) q f → Keeps (over tables b) (over tables a) q g → (p : Plan) → IsBestPlan (over tables a) q p → IsBestPlan (over tables b) q (moved f p)
 best-there tables a b q f g m back p h = record {
   finished = finished-there tables a b q f m p h.finished;
   admissible = admissible-there tables a b q f m p h.finished.built h.admissible;

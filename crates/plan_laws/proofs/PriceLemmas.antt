@@ -6,11 +6,13 @@ use Rattle.std.specs.Prelude.{filter}
 use Rattle.pg_base.specs.declared.numbers.IndexNo.{IndexNo}
 use Rattle.catalog.specs.Contents.{TableDef, NamedIndex, no_index}
 use Rattle.sql_query.specs.Queries.{Query}
-use Rattle.plan_laws.specs.Moved.{over, is_read, Moves, moved, HasPrice, HasNoPlan, added_from}
+use Rattle.plan_laws.specs.Fewer.{Keeps}
+use Rattle.plan_laws.specs.Moved.{over, is_read, moved, HasPrice, HasNoPlan, added_from}
 use Rattle.plan_laws.proofs.ListLemmas.{no, read-alone}
+use Rattle.plan_laws.proofs.TreeLemmas.{keeps}
 use Rattle.plan_laws.proofs.PlanLemmas.{admissible-there, best-there, finished-there, price-there}
 
-module _ (tables : List TableDef) (a b : List NamedIndex) (q : Query) (f g : IndexNo → IndexNo) (there : Moves (over tables a) (over tables b) q f) (back : Moves (over tables b) (over tables a) q g) where
+module _ (tables : List TableDef) (a b : List NamedIndex) (q : Query) (f g : IndexNo → IndexNo) (there : Keeps (over tables a) (over tables b) q f) (back : Keeps (over tables b) (over tables a) q g) where
   pub price-moves : (n : ℕ) → HasPrice (over tables a) q n → HasPrice (over tables b) q n
   price-moves n h = record { plan = moved f h.plan; best = best-there tables a b q f g there back h.plan h.best; is = price-there tables a b q f there h.plan h.best.finished.built ∙ h.is }
 
@@ -22,17 +24,17 @@ module _ (tables : List TableDef) (q : Query) (a b : List NamedIndex) (same : fi
   price-reads n h =
       let s = read-alone tables q a in
       let t = read-alone tables q b in
-      price-moves tables (filter (is_read q) b) b q (no t.g) (no t.f) t.back t.there n
+      price-moves tables (filter (is_read q) b) b q (no t.g) (no t.f) (keeps tables (filter (is_read q) b) b q (no t.g) t.back) (keeps tables b (filter (is_read q) b) q (no t.f) t.there) n
       (subst (λ (xs : List NamedIndex). HasPrice (over tables xs) q n) same
-      (price-moves tables a (filter (is_read q) a) q (no s.f) (no s.g) s.there s.back n h))
+      (price-moves tables a (filter (is_read q) a) q (no s.f) (no s.g) (keeps tables a (filter (is_read q) a) q (no s.f) s.there) (keeps tables (filter (is_read q) a) a q (no s.g) s.back) n h))
 
   pub none-reads : HasNoPlan (over tables a) q → HasNoPlan (over tables b) q
   none-reads h =
       let s = read-alone tables q a in
       let t = read-alone tables q b in
-      none-moves tables (filter (is_read q) b) b q (no t.g) (no t.f) t.back t.there
+      none-moves tables (filter (is_read q) b) b q (no t.g) (no t.f) (keeps tables (filter (is_read q) b) b q (no t.g) t.back) (keeps tables b (filter (is_read q) b) q (no t.f) t.there)
       (subst (λ (xs : List NamedIndex). HasNoPlan (over tables xs) q) same
-      (none-moves tables a (filter (is_read q) a) q (no s.f) (no s.g) s.there s.back h))
+      (none-moves tables a (filter (is_read q) a) q (no s.f) (no s.g) (keeps tables a (filter (is_read q) a) q (no s.f) s.there) (keeps tables (filter (is_read q) a) a q (no s.g) s.back) h))
 
 filter-joined : (test : NamedIndex → Bool) (xs ys : List NamedIndex) → filter test (xs ++ ys) ≡ filter test xs ++ filter test ys
 filter-joined test [] ys = refl

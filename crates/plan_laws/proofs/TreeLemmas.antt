@@ -23,6 +23,7 @@ use Rattle.plan_tree.specs.Costs.{part_of, parts_of_all, parts_of_arms, together
 use Rattle.plan_tree.proofs.ElementLemmas.{is-listed, listed-on}
 use Rattle.plan_tree.proofs.CostableLemmas.{In, in-taken, in-contained, in-masked, in-picked, index-listed}
 use Rattle.plan_tree.proofs.FrontLemmas.{contains-mapped}
+use Rattle.plan_laws.specs.Fewer.{Keeps}
 use Rattle.plan_laws.specs.Moved.{over, Moves, tree_moved, trees_moved, element_moved}
 use Rattle.plan_laws.proofs.IndexLemmas.{conditions-same, usable-same, usable-back, leaf-same, arm-same}
 
@@ -170,13 +171,14 @@ module _ (tables : List TableDef) (a b : List NamedIndex) (q : Query) (f : Index
       have-there bs h.3,
     )
 
-    pub tree-there : (t : BitTree) → IsBitTree (over tables a) q r p t → IsBitTree (over tables b) q r p (tree_moved f t)
+    tree-there : (t : BitTree) → IsBitTree (over tables a) q r p t → IsBitTree (over tables b) q r p (tree_moved f t)
     tree-there t h = record {
       elements = map (element_moved f) h.elements;
       are = subst (λ (xs : List Element). ArePicked (IsElement (over tables b) q r p) xs (map (element_moved f) h.elements)) (sym candidates-there) (picked-there (candidates (over tables a) q r p) h.elements candidates-on h.are);
       over = subst (λ (es : List Element). IsTreeOver (over tables b) q r p es (tree_moved f t)) (sym (take-map (element_moved f) MOST_ELEMENTS h.elements)) (over-there (take MOST_ELEMENTS h.elements) t h.over);
     }
 
+module _ (tables : List TableDef) (a b : List NamedIndex) (q : Query) (f : IndexNo → IndexNo) (m : Keeps (over tables a) (over tables b) q f) (r : ℕ) (lt : r < width q) where
   module _ (p : Set) where
     leaf-on : (es : List Element) (i : IndexNo) → ArePicked (IsElement (over tables a) q r p) (candidates (over tables a) q r p) es → In (by_index i) es → IsIndexOn (over tables a) q r i
     leaf-on es i are h = (listed-on (over tables a) q r i).0 (index-listed i (indexes_of (over tables a) (table_of_relation q r)) (local q.classes r p) (in-picked (IsElement (over tables a) q r p) (by_index i) (candidates (over tables a) q r p) es are h))
@@ -212,7 +214,7 @@ module _ (tables : List TableDef) (a b : List NamedIndex) (q : Query) (f : Index
       some-uses-same (tree_and t bs) h n = ap₂ (λ (x y : Bool). x || y) (uses-same t h.0 n) (some-uses-same bs h.1 n)
 
 -- the parts of the indexes of a tree
-module _ (tables : List TableDef) (a b : List NamedIndex) (q : Query) (f : IndexNo → IndexNo) (m : Moves (over tables a) (over tables b) q f) (r : RelNo) (lt : r.0 < width q) (p : RelSet) where
+module _ (tables : List TableDef) (a b : List NamedIndex) (q : Query) (f : IndexNo → IndexNo) (m : Keeps (over tables a) (over tables b) q f) (r : RelNo) (lt : r.0 < width q) (p : RelSet) where
   arms-parts : (arms : List Cond) (is : List IndexNo) → AllZip (MatchesArm (over tables a) q r.0) arms is → parts_of_arms (over tables b) q r arms (map f is) ≡ parts_of_arms (over tables a) q r arms is
   arms-parts [] [] h = refl
   arms-parts [] (i ∷ is) h = absurd h
@@ -228,3 +230,7 @@ module _ (tables : List TableDef) (a b : List NamedIndex) (q : Query) (f : Index
     parts-there : (bs : BitTrees) → AreOnTrees (over tables a) q r.0 bs → parts_of_all (over tables b) q r p (trees_moved f bs) ≡ parts_of_all (over tables a) q r p bs
     parts-there no_trees h = refl
     parts-there (tree_and t bs) h = ap₂ (λ (n : ℕ) (ns : List ℕ). n ∷ ns) (part-there t h.0) (parts-there bs h.1)
+
+-- what moves is kept
+pub keeps : (tables : List TableDef) (a b : List NamedIndex) (q : Query) (f : IndexNo → IndexNo) → Moves (over tables a) (over tables b) q f → Keeps (over tables a) (over tables b) q f
+keeps tables a b q f m = record { there = m.there; same = m.same; trees = λ r p t lt h. tree-there tables a b q f m r lt p t h }

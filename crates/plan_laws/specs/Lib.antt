@@ -2,6 +2,7 @@ pub mod Meant
 pub mod Closed
 pub mod Useful
 pub mod Moved
+pub mod Fewer
 -- What callers name of the crates below.
 pub use Rattle.plan_tree.specs.index_match_Numbered as index_match_Numbered
 pub use Rattle.plan_tree.specs.path_cost_Columns as path_cost_Columns

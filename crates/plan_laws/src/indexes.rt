@@ -1,6 +1,7 @@
 //! Laws of catalogues that differ in their indexes alone. Own.
 
 ghost use Rattle.std.specs.Prelude.{◌≡◌, ◌<◌, ◌&&◌, ◌++◌, ℕ, Bool, List, length, filter, slice_index_or};
+ghost use Rattle.std.specs.List.{items_where_true};
 ghost use Rattle.pg_base.specs.declared.numbers.IndexNo.{IndexNo};
 ghost use Rattle.pg_base.specs.declared.numbers.RelNo.{RelNo};
 ghost use Rattle.pg_base.specs.declared.rel_set.RelSet.{RelSet};
@@ -14,6 +15,7 @@ ghost use Rattle.plan_tree.specs.Costs.{cost, price, scan_cost};
 ghost use Rattle.plan_tree.specs.Least.{IsBestPlan};
 ghost use Rattle.plan_tree.specs.Plans.{Plan};
 ghost use Rattle.plan_tree.specs.Space.{IsFinished};
+ghost use Rattle.plan_laws.specs.Fewer.{HasRoom, KeepsRead};
 ghost use Rattle.plan_laws.specs.Moved.{HasNoPlan, HasPrice, Moves, added_from, is_read, moved, over};
 
 /// The estimated rows after conditions read no index.
@@ -62,6 +64,19 @@ pub fn prices_read_the_tables_of_the_query()
         ((k : ℕ) → k < length candidates → concerned k ≡ is_read q (slice_index_or candidates k no_index)) →
         filter (is_read q) (indexes ++ added_from 0 set candidates) ≡
         filter (is_read q) (indexes ++ added_from 0 (λ k. set k && concerned k) candidates) }
+{}
+
+/// A least price reads the indexes that a plan of it reads: where bitmaps have room for each element, it is the least over
+/// any part of the indexes that has these, in the same order. Where no finished plan is admissible, none is with fewer
+/// indexes.
+pub fn least_prices_read_the_indexes_of_a_plan()
+    ensures price { (tables : List TableDef) (q : Query) (indexes : List NamedIndex)
+        (kept : List Bool) (p : Plan) → HasRoom (over tables indexes) q →
+        IsBestPlan (over tables indexes) q p → KeepsRead (over tables indexes) p kept →
+        HasPrice (over tables (items_where_true kept indexes)) q (price (over tables indexes) q p) }
+    ensures none { (tables : List TableDef) (q : Query) (indexes : List NamedIndex)
+        (kept : List Bool) → HasRoom (over tables indexes) q → HasNoPlan (over tables indexes) q →
+        HasNoPlan (over tables (items_where_true kept indexes)) q }
 {}
 
 /// A query well bound over some tables is well bound over them whatever indexes there are.

@@ -16,7 +16,8 @@ pub use classes::{
 };
 pub use indexes::{
     a_query_has_one_least_price, estimates_read_no_index, finished_plans_move,
-    prices_read_the_tables_of_the_query, scans_read_definitions, well_bound_queries_read_no_index,
+    least_prices_read_the_indexes_of_a_plan, prices_read_the_tables_of_the_query,
+    scans_read_definitions, well_bound_queries_read_no_index,
 };
 pub use joins::{
     admissible_plans_are_dominated, kept_plans_suffice, least_kept_plan_is_least,

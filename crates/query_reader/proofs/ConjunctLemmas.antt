@@ -2,7 +2,7 @@
 use Rattle.std.proofs.Common.{◌≡◌, ℕ, ◌+◌, ◌<◌, ◌≤◌, Bool, true, false, nat_lt, List, [], ◌∷◌, ◌++◌, length, map, drop, get_or, All, Option, Some, None, inl, inr, ⊎_elim, refl, sym, ap, subst, ◌∙◌, arith, append_assoc}
 use Rattle.std.proofs.lemmas.Bool.{and_parts, and_from, cases_Bool, ltb-true}
 use Rattle.std.proofs.lemmas.Grind.{common_steps}
-use Rattle.std.proofs.lemmas.List.{drop_more, map-append}
+use Rattle.std.proofs.lemmas.List.{drop_more, length-append, map-append}
 use Rattle.pg_base.specs.declared.limits.TheConstants.{MOST_ATOMS, MOST_CONJUNCTS}
 use Rattle.pg_base.specs.declared.faults.Limit.{Limit}
 use Rattle.pg_value.specs.declared.value.SqlType.{SqlType}
@@ -18,6 +18,7 @@ use Rattle.pg_expr.specs.Typed.{IsTyped, AreTyped}
 use Rattle.pg_expr.specs.View as view
 use Rattle.pg_expr.proofs.ColumnLaws.{weaker-each}
 use Rattle.pg_expr.proofs.KeptLaws.{conjuncts-each, conjuncts-typed}
+use Rattle.expr_reader.specs.Counts.{conjuncts_counted, count_of}
 use Rattle.catalog.specs.Contents.{Contents, table_at}
 use Rattle.catalog.specs.Range.{Range, table_of, type_in}
 use Rattle.eq_classes.specs.Classes.{conjuncts_in, listed}
@@ -36,6 +37,23 @@ pub listed-as : (es : List Expr) (cs : Conds) → view.conds es ≡ cs → map v
 listed-as es cs is = sym (listed-conds (map view.cond es)) ∙ ap listed is
 
 -- the conjuncts of one more condition
+listed-counted : (cs : Conds) → length (listed cs) ≡ count_of cs
+listed-counted no_conds = refl
+listed-counted (cond_and c cs) = omega (arith, listed-counted cs)
+
+-- the conjuncts of one more condition
+pub counted-more : (written : List Expr) (i : ℕ) (part : Expr) → i < length written → part ≡ get_or written i part →
+    length (conjuncts_in (map view.cond (drop i written))) ≡ conjuncts_counted false (view.cond part) + length (conjuncts_in (map view.cond (drop (i + 1) written)))
+counted-more written i part lt at =
+    let later = conjuncts_in (map view.cond (drop (i + 1) written)) in
+    let next : drop i written ≡ part ∷ drop (i + 1) written = drop_more written i part lt ∙ ap (λ (e : Expr). e ∷ drop (i + 1) written) (sym at) in
+    omega (
+      arith,
+      ap (λ (l : List Expr). length (conjuncts_in (map view.cond l))) next,
+      length-append (listed (conjuncts_of (pushed false (view.cond part)))) later,
+      listed-counted (conjuncts_of (pushed false (view.cond part))),
+    )
+
 pub pushed-more : (old new parts written : List Expr) (whole : List Cond) (i : ℕ) (part : Expr) (own : Cond) → i < length written → part ≡ get_or written i part → own ≡ pushed false (view.cond part) →
     view.conds parts ≡ conjuncts_of own → new ≡ old ++ parts →
     map view.cond old ++ conjuncts_in (map view.cond (drop i written)) ≡ whole → map view.cond new ++ conjuncts_in (map view.cond (drop (i + 1) written)) ≡ whole

@@ -16,7 +16,7 @@ ghost use Rattle.query_reader.specs.Reads.{ReadsConjuncts, ReadsWhere};
 
 use crate::relations::Relations;
 use eq_classes::{Classes, OrderItem};
-use expr_reader::{Cursor, take_expr};
+use expr_reader::{Cursor, conjunct_count, take_expr};
 use pg_base::{Code, Limit, MOST_ATOMS, MOST_CONJUNCTS, Memory, Refusal};
 use pg_expr::{Expr, Exprs, conjuncts, ops, push_not};
 use sql_grammar::{Word, fault_at};
@@ -81,12 +81,22 @@ fn atoms(written: &[Expr]) -> u64
     count
 }
 
-/// The first limit that conjuncts are past, given in pushed form too.
-fn past_limit(written: &[Expr], pushed: &[Expr]) -> Option<Limit>
-    requires { map cond pushed.now ≡ conjuncts_in (map cond written.now) }
+/// The number of conjuncts of conditions in pushed form; 2^64 - 1 where there are more.
+fn pushed_count(written: &[Expr]) -> u64
+    ensures { result ≡ min (length (conjuncts_in (map cond written.now))) (2 ^ 64 - 1) }
+{
+    let mut count: u64 = 0;
+    for part in written {
+        count = count.saturating_add(conjunct_count(part, false));
+    }
+    count
+}
+
+/// The first limit that conjuncts are past, told before their pushed form is made.
+fn past_limit(written: &[Expr]) -> Option<Limit>
     ensures { result ≡ past_limit (map cond written.now) }
 {
-    if pushed.len() > MOST_CONJUNCTS {
+    if pushed_count(written) > MOST_CONJUNCTS as u64 {
         return Some(Limit::Conjuncts);
     }
     if atoms(written) > MOST_ATOMS as u64 {
@@ -109,9 +119,9 @@ pub fn classes_within(
     ensures { Conveys (λ ws t. IsClassTable (premises_of relations.now order.now ws) t)
         (limited start (past_limit (map cond written.now)) (map cond written.now)) result }
 {
-    let pushed = pushed_conjuncts(alloc, written)?;
-    if let Some(limit) = past_limit(written, pushed.items()) {
+    if let Some(limit) = past_limit(written) {
         return Err(Refusal::Fault(fault_at(Code::S15(limit), start)));
     }
+    let pushed = pushed_conjuncts(alloc, written)?;
     Ok(Classes::build(alloc, pushed, order, relations)?)
 }

@@ -29,7 +29,7 @@ pub fn explains(text: &[u8], tokens: &Tokens) -> bool
     from.takes_free(Free::Explain)
 }
 
-/// Whether the SELECT that token `first` begins groups: it has GROUP BY, or a call in its list. The tokens from there on are a
+/// Whether the SELECT that token `first` begins groups: it has GROUP BY, DISTINCT or a call in its list. The tokens from there on are a
 /// statement whole and without a fault of the grammar.
 pub fn groups(text: &[u8], tokens: &Tokens, first: u32) -> bool
     requires short { length text.now ≤ 2 ^ 31 }

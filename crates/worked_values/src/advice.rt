@@ -1,6 +1,9 @@
 //! Sets of candidates that are advised, by queries that like some.
 
-use advisor::{Advice, Pricer, advise};
+ghost use Rattle.std.specs.Prelude.{◌≡◌, ◌≤◌};
+ghost use Rattle.worked_values.specs.Likings.{liked};
+
+use advisor::{Advice, Pricer, Quote, advise};
 use pg_base::Memory;
 use std::marker::Model;
 use std::test::Fail;
@@ -16,6 +19,15 @@ impl Model for Likings {
     ghost Value = { Unit {0} };
 
     ghost view = { λ l. tt };
+}
+
+/// What a query costs with a set.
+fn liked(q: u8, s: u16) -> u64
+    ensures price { result ≡ liked q s }
+    ensures below { result ≤ 5 }
+{
+    let concern = if q == 0 { 1u16 } else { 2u16 };
+    if s & concern == 0 { 5 } else { 3 }
 }
 
 impl Pricer for Likings {
@@ -35,13 +47,10 @@ impl Pricer for Likings {
         if q == 0 { 1 } else { 2 }
     }
 
-    fn price(&mut self, q: u8, s: u16) -> Result<Option<u64>, Memory> {
+    fn price(&mut self, q: u8, s: u16) -> Result<Quote, Memory> {
         self.asked = self.asked.saturating_add(1);
-        if s & self.relevant(q) == 0 {
-            Ok(Some(5))
-        } else {
-            Ok(Some(3))
-        }
+        let cost = Some(liked(q, s));
+        Ok(Quote { cost, used: s })
     }
 
     ghost unique = { λ p q s a b. liked-unique q s a b };
@@ -53,7 +62,7 @@ impl Pricer for Likings {
 fn the_first_of_equal_sets_is_advised_and_no_price_asked_twice(
     rt: HostRuntime,
 ) -> Result<(), Fail> {
-    let table = [(0, 0, 10, 2), (1, 1, 8, 4), (2, 3, 6, 4), (3, 3, 6, 4)];
+    let table = [(0, 0, 10, 4), (1, 1, 8, 4), (2, 3, 6, 4), (3, 3, 6, 4)];
     for (k, set, sum, asked) in table {
         let mut likings = Likings { asked: 0 };
         let found = advise(rt.alloc(), &mut likings, 3, k)?;

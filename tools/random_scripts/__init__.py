@@ -1,0 +1,4 @@
+"""Random scripts of every statement, right and at fault.
+
+`scripts.KINDS` has the kinds of scripts, and `scripts.script(seed, number)` the script of a number: the same whenever it is asked for.
+"""

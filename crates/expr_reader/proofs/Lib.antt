@@ -17,3 +17,4 @@ pub mod Tokens
 pub mod SortLemmas
 pub mod EachLemmas
 pub mod SliceLemmas
+pub mod PlaceLemmas

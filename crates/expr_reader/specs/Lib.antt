@@ -10,3 +10,4 @@ pub mod Reading
 pub mod Operators
 pub mod Lists
 pub mod Sorts
+pub mod Places

@@ -11,7 +11,7 @@ ghost use Rattle.group_reader.specs.Meaning.{column_call, column_meant, columns_
 use crate::parts::Part;
 use crate::written::{Column, Listed, Sorting};
 use eq_classes::OrderItem;
-use expr_reader::{Scope, Spelled, found_column};
+use expr_reader::{ColumnPlaces, Scope, Spelled, found_column};
 use pg_base::{Code, Fault, Refusal};
 use pg_expr::ColRef;
 use pg_value::SqlType;
@@ -164,7 +164,7 @@ pub fn add_list(
 /// The column of an item of ORDER BY: a name alone is sought among the columns that the list shows first.
 fn sorting_column(
     relations: &Relations,
-    shown: &[ColRef],
+    shown: &ColumnPlaces,
     written: &Column,
 ) -> Result<ColRef, Fault>
     ensures { result ≡ sorted_by (visible_in relations.now) shown.now written.now }
@@ -180,7 +180,11 @@ fn sorting_column(
 }
 
 /// An item of ORDER BY.
-fn sorting(relations: &Relations, shown: &[ColRef], sorting: &Sorting) -> Result<OrderItem, Fault>
+fn sorting(
+    relations: &Relations,
+    shown: &ColumnPlaces,
+    sorting: &Sorting,
+) -> Result<OrderItem, Fault>
     ensures { result ≡ sorting_said (visible_in relations.now) shown.now sorting.now }
 {
     let col = sorting_column(relations, shown, &sorting.column)?;
@@ -191,11 +195,11 @@ fn sorting(relations: &Relations, shown: &[ColRef], sorting: &Sorting) -> Result
     })
 }
 
-/// The items of ORDER BY from the left, or the first fault.
-pub fn sort_items(
+/// The items of ORDER BY from the left, or the first fault, where these columns are shown.
+fn sorted(
     alloc: Global,
     relations: &Relations,
-    shown: &[ColRef],
+    shown: &ColumnPlaces,
     sorts: &[Sorting],
 ) -> Result<Vec<OrderItem>, Refusal>
     ensures { Conveys (λ is v. v.items ≡ is)
@@ -206,6 +210,19 @@ pub fn sort_items(
         all.push(sorting(relations, shown, written)?)?;
     }
     Ok(all)
+}
+
+/// The items of ORDER BY from the left, or the first fault. The columns that are shown are placed once for all of them.
+pub fn sort_items(
+    alloc: Global,
+    relations: &Relations,
+    shown: &[ColRef],
+    sorts: &[Sorting],
+) -> Result<Vec<OrderItem>, Refusal>
+    ensures { Conveys (λ is v. v.items ≡ is)
+        (bound_each (sorting_said (visible_in relations.now) shown.now) sorts.now) result }
+{
+    sorted(alloc, relations, &ColumnPlaces::of(shown), sorts)
 }
 
 /// Columns from the left, or the first fault.

@@ -1,14 +1,13 @@
 //! The lists of a grouped SELECT together: which columns are grouped, and what follows from them.
 
-ghost use Rattle.std.specs.Prelude.{◌≡◌, ◌<◌, ◌≤◌, ◌^◌, ◌++◌, IfOk, IfSome, length, map, filter_map, position};
-ghost use Rattle.eq_classes.specs.Equality.{is_column};
+ghost use Rattle.std.specs.Prelude.{◌≡◌, ◌<◌, ◌≤◌, ◌^◌, ◌++◌, IfOk, length, map, filter_map};
 ghost use Rattle.eq_classes.specs.declared.order.OrderItem.{OrderItem};
 ghost use Rattle.pg_expr.specs.View.{cond};
 ghost use Rattle.group_query.specs.Grouping.{plain_item};
 ghost use Rattle.group_query.specs.Shapes.{place_in};
 ghost use Rattle.query_reader.specs.Conveys.{Conveys};
 ghost use Rattle.query_reader.specs.Scope.{visible_in};
-ghost use Rattle.group_reader.specs.Binding.{column_by_call, column_of_part, is_grouped as is_grouped_in, item_in, named_in_lists, shown_column, shown_columns, ungrouped_items, ungrouped_part, ungrouped_words};
+ghost use Rattle.group_reader.specs.Binding.{column_by_call, column_of_part, item_in, named_in_lists, shown_column, shown_columns, ungrouped_items, ungrouped_part, ungrouped_words};
 ghost use Rattle.group_reader.specs.Meaning.{first_of, keys_said, last_word};
 ghost use Rattle.group_reader.specs.Seen.{lists_of, with_found, words_said};
 
@@ -16,6 +15,7 @@ use crate::bind::{add_list, columns, sort_items};
 use crate::parts::Part;
 use crate::written::{Sorting, Words};
 use eq_classes::OrderItem;
+use expr_reader::ColumnPlaces;
 use pg_base::{Code, Memory, Refusal};
 use pg_expr::{ColRef, Expr};
 use query_reader::{Relations, columns_in_all};
@@ -66,31 +66,18 @@ fn shown_columns(alloc: Global, parts: &[Part]) -> Result<Vec<ColRef>, Memory>
     Ok(all)
 }
 
-/// Whether a column is one of these.
-fn is_grouped(keys: &[ColRef], column: ColRef) -> bool
-    ensures { result ≡ is_grouped_in keys.now column }
-{
-    keys.iter().any(|key| column == *key)
-}
-
 /// The word at which a part is at fault where it shows a column that is not grouped.
-fn ungrouped_part(keys: &[ColRef], part: Part) -> Option<Token>
+fn ungrouped_part(keys: &ColumnPlaces, part: Part) -> Option<Token>
     ensures { result ≡ ungrouped_part keys.now part }
 {
     match part {
-        Part::Shown(column, word) => {
-            if is_grouped(keys, column) {
-                None
-            } else {
-                Some(word)
-            }
-        }
+        Part::Shown(column, word) => { if keys.has(column) { None } else { Some(word) } }
         Part::Called(_) => None,
     }
 }
 
 /// The first such word of the list.
-fn first_part(keys: &[ColRef], parts: &[Part]) -> Option<Token>
+fn first_part(keys: &ColumnPlaces, parts: &[Part]) -> Option<Token>
     ensures { result ≡ first_of (filter_map (ungrouped_part keys.now) parts.now) }
 {
     for part in parts {
@@ -103,27 +90,46 @@ fn first_part(keys: &[ColRef], parts: &[Part]) -> Option<Token>
 }
 
 /// The last word of the first item of ORDER BY whose column is not grouped; the items stand beside them as they are written.
-fn first_item(keys: &[ColRef], order: &[OrderItem], sorts: &[Sorting]) -> Option<Token>
+fn first_item(keys: &ColumnPlaces, order: &[OrderItem], sorts: &[Sorting]) -> Option<Token>
     ensures { result ≡ first_of (ungrouped_items keys.now order.now (map last_word sorts.now)) }
 {
     let end = order.len().min(sorts.len());
     for n in 0..end {
-        if !is_grouped(keys, order[n].col) {
+        if !keys.has(order[n].col) {
             return Some(sorts[n].column.name.token);
         }
     }
     None
 }
 
-/// The word of the first column that is not grouped: in the list, then in ORDER BY.
-fn first_ungrouped(lists: &Lists, sorts: &[Sorting]) -> Option<Token>
-    ensures { result ≡ first_of (ungrouped_words (lists_of lists.now) (map last_word sorts.now)) }
+/// The word of the first column that is none of these: in the list, then in ORDER BY.
+fn first_outside(
+    keys: &ColumnPlaces,
+    parts: &[Part],
+    order: &[OrderItem],
+    sorts: &[Sorting],
+) -> Option<Token>
+    ensures { result ≡ first_of (filter_map (ungrouped_part keys.now) parts.now
+        ++ ungrouped_items keys.now order.now (map last_word sorts.now)) }
 {
-    let word = first_part(&lists.keys, &lists.parts);
+    let word = first_part(keys, parts);
     if word.is_some() {
         return word;
     }
-    first_item(&lists.keys, &lists.order, sorts)
+    first_item(keys, order, sorts)
+}
+
+/// The word of the first column that is not grouped: in the list, then in ORDER BY. The GROUP BY columns are placed once for
+/// all of them.
+fn first_ungrouped(lists: &Lists, sorts: &[Sorting]) -> Option<Token>
+    ensures { result ≡ first_of (ungrouped_words (lists_of lists.now) (map last_word sorts.now)) }
+{
+    first_outside(
+        &ColumnPlaces::of(&lists.keys),
+        &lists.parts,
+        &lists.order,
+        sorts,
+    )
 }
 
 /// The columns by which rows are grouped: those that the list shows behind DISTINCT, else those of GROUP BY. Where a list shows
@@ -244,27 +250,19 @@ pub fn used(alloc: Global, lists: &Lists, written: &[Expr]) -> Result<Vec<ColRef
     Ok(used)
 }
 
-/// The place of a column among the GROUP BY columns, where it stands first.
-fn found_place(keys: &[ColRef], column: ColRef) -> Option<usize>
-    ensures is { result ≡ position (is_column column) keys.now }
-    ensures within { IfSome result (λ n. n < length keys.now) }
-{
-    keys.iter().position(|key| column == *key)
-}
-
-/// The same; 0 where it does not stand there.
-fn place(keys: &[ColRef], column: ColRef) -> u32
+/// The place of a column among the GROUP BY columns, where it stands first; 0 where it does not stand there.
+fn place(keys: &ColumnPlaces, column: ColRef) -> u32
     requires { length keys.now < 2 ^ 32 }
     ensures { result ≡ place_in keys.now column }
 {
-    match found_place(keys, column) {
+    match keys.place(column) {
         Some(place) => place as u32,
         None => 0,
     }
 }
 
 /// What a part shows.
-fn item(keys: &[ColRef], part: Part) -> Item
+fn item(keys: &ColumnPlaces, part: Part) -> Item
     requires { length keys.now < 2 ^ 32 }
     ensures { result ≡ item_in keys.now part }
 {
@@ -274,8 +272,8 @@ fn item(keys: &[ColRef], part: Part) -> Item
     }
 }
 
-/// What the parts show.
-pub fn items(alloc: Global, keys: &[ColRef], parts: &[Part]) -> Result<Vec<Item>, Memory>
+/// What the parts show, where the GROUP BY columns stand at these places.
+fn items_at(alloc: Global, keys: &ColumnPlaces, parts: &[Part]) -> Result<Vec<Item>, Memory>
     requires { length keys.now < 2 ^ 32 }
     ensures { IfOk result (λ v. v.items ≡ map (item_in keys.now) parts.now) }
 {
@@ -284,4 +282,12 @@ pub fn items(alloc: Global, keys: &[ColRef], parts: &[Part]) -> Result<Vec<Item>
         all.push(item(keys, *part))?;
     }
     Ok(all)
+}
+
+/// What the parts show. The GROUP BY columns are placed once for all of them.
+pub fn items(alloc: Global, keys: &[ColRef], parts: &[Part]) -> Result<Vec<Item>, Memory>
+    requires { length keys.now < 2 ^ 32 }
+    ensures { IfOk result (λ v. v.items ≡ map (item_in keys.now) parts.now) }
+{
+    items_at(alloc, &ColumnPlaces::of(keys), parts)
 }

@@ -10,7 +10,7 @@ ghost use Rattle.query_reader.specs.Reads.{ReadsOrderColumn, ReadsOrdering, Read
 
 use crate::relations::Relations;
 use eq_classes::OrderItem;
-use expr_reader::{Cursor, Scope, descending, found_column, nulls_first};
+use expr_reader::{ColumnPlaces, Cursor, Scope, descending, found_column, nulls_first};
 use pg_base::Refusal;
 use pg_expr::ColRef;
 use sql_grammar::{Symbol, Word};
@@ -20,7 +20,7 @@ use std::alloc::Global;
 fn order_column(
     alloc: Global,
     relations: &Relations,
-    select: &[ColRef],
+    select: &ColumnPlaces,
     from: &mut Cursor,
 ) -> Result<ColRef, Refusal>
     requires { StandsFirst words_of_col ends_operand from.old }
@@ -41,7 +41,7 @@ fn order_column(
 fn order_item(
     alloc: Global,
     relations: &Relations,
-    select: &[ColRef],
+    select: &ColumnPlaces,
     from: &mut Cursor,
 ) -> Result<OrderItem, Refusal>
     requires { StandsFirst words_of_ordering ends_ordering from.old }
@@ -62,7 +62,7 @@ fn order_item(
 fn order_items(
     alloc: Global,
     relations: &Relations,
-    select: &[ColRef],
+    select: &ColumnPlaces,
     from: &mut Cursor,
 ) -> Result<Vec<OrderItem>, Refusal>
     requires { StandsListed words_of_ordering words_of_orderings ends_order from.old }
@@ -94,5 +94,5 @@ pub fn order_by(
     }
     relations.see_their_columns();
     from.skip(1);
-    order_items(alloc, relations, select, from)
+    order_items(alloc, relations, &ColumnPlaces::of(select), from)
 }

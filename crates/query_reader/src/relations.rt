@@ -1,9 +1,7 @@
 //! The relations of a query, in which names are looked up.
 
 ghost use Rattle.std.specs.Prelude.{◌≡◌, ◌<◌, ℕ, List, [], length, All, Ok, MatchOption, None, Some};
-ghost use Rattle.std.specs.List.{list_any};
 ghost use Rattle.catalog.specs.Contents.{IsTable, IsLawfulTable, table_at};
-ghost use Rattle.eq_classes.specs.Equality.{is_column as is_same_column};
 ghost use Rattle.path_cost.specs.Columns.{is_column_in};
 ghost use Rattle.expr_reader.specs.Scope.{Visible, columns_in_scope, look_up, of_name, the_one, under};
 ghost use Rattle.query_reader.specs.Adds.{Adds};
@@ -13,7 +11,7 @@ ghost use Rattle.query_reader.specs.Scope.{also as also_meant, own_columns, visi
 ghost use Rattle.query_reader.specs.Binding.{columns_under};
 
 use catalog::Catalog;
-use expr_reader::{Found, Scope, Spelled};
+use expr_reader::{ColumnPlaces, Found, Scope, Spelled};
 use pg_base::{Code, ColNo, Refusal, RelNo, TableNo};
 use pg_expr::{Binding, ColRef};
 use pg_value::{Bytes, SqlType, Value};
@@ -114,13 +112,6 @@ fn add_columns(
     Ok(())
 }
 
-/// Whether a column is one of these.
-fn is_shown(select: &[ColRef], column: ColRef) -> bool
-    ensures { result ≡ list_any (is_same_column column) select.now }
-{
-    select.iter().any(|shown| column == *shown)
-}
-
 /// What a name means, where one more column has it.
 fn also(found: Found, column: ColRef) -> Found
     ensures { result ≡ also_meant found column }
@@ -164,13 +155,13 @@ impl<'a> Relations<'a> {
     }
 
     /// That column, where the list shows it.
-    fn shown_in_relation(&self, number: usize, name: &[u8], select: &[ColRef]) -> Option<ColRef>
+    fn shown_in_relation(&self, number: usize, name: &[u8], select: &ColumnPlaces) -> Option<ColRef>
         requires { number < length self.now.range }
         ensures { IsOnlyColumn
             (shown_of_name (own_columns self.now number) select.now name.now) result }
     {
         let column = self.in_relation(number, name)?;
-        if is_shown(select, column) {
+        if select.has(column) {
             Some(column)
         } else {
             None
@@ -191,7 +182,7 @@ impl<'a> Relations<'a> {
     }
 
     /// What a name means among the visible columns that the list shows.
-    fn shown(&self, name: &[u8], select: &[ColRef]) -> Found
+    fn shown(&self, name: &[u8], select: &ColumnPlaces) -> Found
         ensures { result ≡ the_one (shown_of_name (visible_in self.now) select.now name.now) }
     {
         let mut found = Found::NoColumn;
@@ -204,7 +195,7 @@ impl<'a> Relations<'a> {
     }
 
     /// What a name alone means in ORDER BY: it is sought among the columns that the list shows first.
-    pub fn ordering(&self, name: &[u8], select: &[ColRef]) -> Found
+    pub fn ordering(&self, name: &[u8], select: &ColumnPlaces) -> Found
         ensures { result ≡ ordered_name (visible_in self.now) select.now name.now }
     {
         match self.shown(name, select) {

@@ -2,6 +2,7 @@ use Rattle.std.proofs.Common.{List, Vec, Ok, refl, sym, ap, ◌∙◌, subst}
 use Rattle.std.specs.declared.alloc.Global.{Global}
 use Rattle.eq_classes.specs.declared.order.OrderItem.{OrderItem}
 use Rattle.path_cost.specs.Columns.{is_column_in}
+use Rattle.pg_expr.specs.declared.operand.ColRef.{ColRef}
 use Rattle.expr_reader.proofs.ReadsLemmas.{read-ok, read-has}
 use Rattle.expr_reader.specs.Reads.{Reads}
 use Rattle.query_reader.specs.Order.{order_items}
@@ -27,8 +28,9 @@ returns-clause-read c = λ y rest ends is.
     let s = c.args.relations.now in
     let (key, took) = c.if-not-takes.ensures.took refl in
     let t = there y rest c.args.from.now c.takes.new.self c.skip.new.self key ends is took c.skip.ensures in
-    subst (λ z. Reads (λ (v : Vec OrderItem Global). v.items) (order_items (visible_in s) c.args.select.now z) rest c.order_items.result c.order_items.new.from) (sym t.is)
-    (c.order_items.ensures t.item t.items rest ends t.words)
+    let placed = subst (λ z. Reads (λ (v : Vec OrderItem Global). v.items) (order_items (visible_in s) c.of.result z) rest c.order_items.result c.order_items.new.from) (sym t.is)
+    (c.order_items.ensures t.item t.items rest ends t.words) in
+    subst (λ (xs : List ColRef). Reads (λ (v : Vec OrderItem Global). v.items) (order_items (visible_in s) xs y) rest c.order_items.result c.order_items.new.from) c.of.ensures placed
 
 pub returns-clause-over : goal.returns-clause-over
 returns-clause-over c =
@@ -36,7 +38,8 @@ returns-clause-over c =
     let (y, rest, ends, is) = c.requires in
     let (key, took) = c.if-not-takes.ensures.took refl in
     let t = there y rest c.args.from.now c.takes.new.self c.skip.new.self key ends is took c.skip.ensures in
-    let read = subst (λ z. Reads (λ (v : Vec OrderItem Global). v.items) (order_items (visible_in s) c.args.select.now z) rest c.order_items.result c.order_items.new.from) (sym t.is)
+    let placed = subst (λ z. Reads (λ (v : Vec OrderItem Global). v.items) (order_items (visible_in s) c.of.result z) rest c.order_items.result c.order_items.new.from) (sym t.is)
     (c.order_items.ensures t.item t.items rest ends t.words) in
+    let read = subst (λ (xs : List ColRef). Reads (λ (v : Vec OrderItem Global). v.items) (order_items (visible_in s) xs y) rest c.order_items.result c.order_items.new.from) c.of.ensures placed in
     read-has (Vec OrderItem Global) (List OrderItem) (λ v. v.items) _ (order_items (visible_in s) c.args.select.now y) c.order_items.result rest _ read
     (order-seen (visible_in s) (is_column_in s.contents s.range) c.see_their_columns.ensures c.args.select.now y)

@@ -3,7 +3,7 @@ use Rattle.expr_reader.specs.Lists.{bound_each}
 use Rattle.query_reader.specs.Scope.{visible_in}
 use Rattle.group_reader.specs.Meaning.{sorting_said}
 use Rattle.group_reader.proofs.AddLemmas.{onward}
-use Rattle.group_reader.proofs.bind.sort_items.Given as goal
+use Rattle.group_reader.proofs.bind.sorted.Given as goal
 
 abbrev pub invariant-loop-written : goal.invariant-loop-written
 invariant-loop-written l =

@@ -35,8 +35,8 @@ overflow_add-line c =
     let heads = few-heads c.args.q.now.window in
     omega (arith, few, same, most, is, line, heads)
 
-pub returns-then-is_empty : goal.returns-then-is_empty
-returns-then-is_empty c =
+pub returns-in_ok-from_vec : goal.returns-in_ok-from_vec
+returns-in_ok-from_vec c =
     let contents = c.args.cat.now in
     let q = c.args.q.now in
     let found = best-read contents q (plain-line contents q c.lawful.ensures c.requires.bound) c.args.block.now (map entry c.args.read.0.items) (side c.args.read.1) c.args.rest.now c.requires.at (no-length (length c.args.rest.now) c.if-is_empty.ensures) in

@@ -69,7 +69,7 @@ pub fn check(cat: &Catalog, q: &Prepared, t: &Certificate) -> Verdict
     ensures best { result ≡ verdicts.Valid → HasCheapest cat.now q.now (certificate t.now) }
 {
     cat.lawful();
-    let places = SetPlaces::of(t.entries.items());
+    let places = SetPlaces::of(t.entries.items(), t.entries.order());
     let j = Judged {
         cat,
         q,

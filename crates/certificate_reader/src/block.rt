@@ -96,23 +96,24 @@ fn push(entries: &mut Vec<Entry>, made: Entry) -> Result<(), Memory>
 
 /// The certificate of some entries and a best plan, where nothing is left of the block; else the next line is at fault.
 fn ended_by(
+    alloc: Global,
     cat: &Catalog,
     q: &Prepared,
     block: &[u8],
-    entries: Vec<Entry>,
-    best: Side,
+    read: (Vec<Entry>, Side),
     rest: &[u8],
 ) -> Result<Certificate, CertFault>
     requires bound { IsWellBound cat.now q.now }
     requires few { length block.now ≤ 2 ^ 31 }
-    requires at { IsAtBest cat.now q.now block.now (map entry entries.items) (side best) rest.now }
+    requires at { IsAtBest cat.now q.now block.now (map entry read.0.items) (side read.1) rest.now }
     ensures { IsBlock cat.now q.now block.now result }
 {
     cat.lawful();
+    let (entries, best) = read;
     let line = line_number(q, entries.len()) + 1;
     if rest.is_empty() {
         Ok(Certificate {
-            entries: Entries::from_vec(entries),
+            entries: Entries::from_vec(alloc, entries)?,
             best,
         })
     } else {
@@ -144,7 +145,7 @@ fn read_lines<R: ReadLine>(
                 push(&mut entries, made)?;
                 left = rest;
             }
-            Ok(Line::Best(best)) => return ended_by(cat, q, block, entries, best, rest),
+            Ok(Line::Best(best)) => return ended_by(alloc, cat, q, block, (entries, best), rest),
             Err(LineFault::Bad) => {
                 return Err(CertFault::C1 {
                     line: line_number(q, entries.len()),

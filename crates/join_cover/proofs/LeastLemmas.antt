@@ -18,7 +18,7 @@ use Rattle.plan_tree.proofs.WindowLemmas.{startup-from}
 use Rattle.plan_check.specs.Certificates.{Certificate, Entry, sorted_if, unfold_at}
 use Rattle.plan_check.specs.Beating.{IsRight}
 use Rattle.plan_check.specs.Joining.{MayMerge}
-use Rattle.plan_check.specs.Placing.{ArePlaced, IsOf, first_of, past_of}
+use Rattle.plan_check.specs.Placing.{ArePlaced, IsOf, first_of, order_of, past_of, place_at}
 use Rattle.plan_check.specs.Reasons.{AllRight}
 use Rattle.plan_check.specs.declared.places.SetPlaces.{SetPlaces}
 use Rattle.plan_check.proofs.MergeLemmas.{built-merge}
@@ -29,78 +29,81 @@ use Rattle.join_cover.specs.Serving.{AreMergesBy, IsMergeServed, IsRowServed, Is
 use Rattle.join_cover.proofs.CoverLemmas.{right-at}
 use Rattle.pg_base.proofs.NumberLemmas.{each-below as below-next}
 
-module _ (es : List Entry) (s from n : ℕ) where
-  own-cost : (e : Entry) → slice_get es n ≡ Some e → (y : IsWhole es s n) → e.cost ≤ y.entry.cost
-  own-cost e at y = subst (λ (x : Entry). e.cost ≤ x.cost) (same_Some e y.entry (sym at ∙ y.stands)) (le_refl e.cost)
+whole-of : (es : List Entry) (s k : ℕ) → IsWhole es s k → IsOf es s k
+whole-of es s k y = record { entry = y.entry; stands = y.stands; same = y.same }
 
-  -- one place more at which there is none
-  pub least-skip : (found : Option (ℕ × ℕ)) → ¬ IsWhole es s n → IsLeastFrom es s from n found → IsLeastFrom es s from (n + 1) found
-  least-skip None never h = λ l le lt y. below-next (λ m. from ≤ m → IsWhole es s m → ⊥) n (λ m less le' y'. h m le' less y') (λ le' y'. never y') l lt le y
+module _ (es : List Entry) (s : ℕ) (p : SetPlaces) (from i : ℕ) where
+  -- one rank more at which there is none
+  pub least-skip : (found : Option (ℕ × ℕ)) → ¬ IsWhole es s (place_at p i) → IsLeastFrom es s p from i found → IsLeastFrom es s p from (i + 1) found
+  least-skip None never h = λ r le lt y. below-next (λ m. from ≤ m → IsWhole es s (place_at p m) → ⊥) i (λ m less le' y'. h m le' less y') (λ le' y'. never y') r lt le y
   least-skip (Some x) never h = record {
     is = h.is;
     cost_is = h.cost_is;
-    least = λ l le lt y. below-next (λ m. from ≤ m → (z : IsWhole es s m) → x.1 ≤ z.entry.cost) n (λ m less le' y'. h.least m le' less y') (λ le' y'. absurd (never y')) l lt le y;
+    least = λ r le lt y. below-next (λ m. from ≤ m → (z : IsWhole es s (place_at p m)) → x.1 ≤ z.entry.cost) i (λ m less le' y'. h.least m le' less y') (λ le' y'. absurd (never y')) r lt le y;
   }
 
-  module _ (e : Entry) (at : slice_get es n ≡ Some e) where
+  module _ (n : ℕ) (here : place_at p i ≡ n) (e : Entry) (at : slice_get es n ≡ Some e) where
+    read-there : (y : IsWhole es s (place_at p i)) → e ≡ y.entry
+    read-there y = same_Some e y.entry (sym at ∙ (sym (ap (slice_get es) here) ∙ y.stands))
+
+    own-cost : (y : IsWhole es s (place_at p i)) → e.cost ≤ y.entry.cost
+    own-cost y = subst (λ (x : Entry). e.cost ≤ x.cost) (read-there y) (le_refl e.cost)
+
     -- the entry there is of another set, or is given rows
-    pub skip-other : (found : Option (ℕ × ℕ)) → ((e.set.0 ≡ s) → (e.param.0 ≡ 0) → ⊥) → IsLeastFrom es s from n found → IsLeastFrom es s from (n + 1) found
-    skip-other found other = least-skip found (λ y. let one = same_Some y.entry e (sym y.stands ∙ at) in other (subst (λ (x : Entry). x.set.0 ≡ s) one y.same) (subst (λ (x : Entry). x.param.0 ≡ 0) one y.whole))
+    pub skip-other : (found : Option (ℕ × ℕ)) → ((e.set.0 ≡ s) → (e.param.0 ≡ 0) → ⊥) → IsLeastFrom es s p from i found → IsLeastFrom es s p from (i + 1) found
+    skip-other found other = least-skip found (λ y. let one = sym (read-there y) in other (subst (λ (x : Entry). x.set.0 ≡ s) one y.same) (subst (λ (x : Entry). x.param.0 ≡ 0) one y.whole))
 
     module _ (same : e.set.0 ≡ s) (whole : e.param.0 ≡ 0) where
       -- the first one
-      pub least-first : IsLeastFrom es s from n None → IsLeastFrom es s from (n + 1) (Some (n, e.cost))
+      pub least-first : IsLeastFrom es s p from i None → IsLeastFrom es s p from (i + 1) (Some (n, e.cost))
       least-first h = record {
         is = record { entry = e; stands = at; same = same; whole = whole };
         cost_is = refl;
-        least = λ l le lt y. below-next (λ m. from ≤ m → (z : IsWhole es s m) → e.cost ≤ z.entry.cost) n (λ m less le' y'. absurd (h m le' less y')) (λ le' y'. own-cost e at y') l lt le y;
+        least = λ r le lt y. below-next (λ m. from ≤ m → (z : IsWhole es s (place_at p m)) → e.cost ≤ z.entry.cost) i (λ m less le' y'. absurd (h m le' less y')) (λ le' y'. own-cost y') r lt le y;
       }
 
       -- the lesser of two
-      pub least-more : (x r : ℕ × ℕ) → (x.1 ≤ e.cost → r ≡ x) → (e.cost < x.1 → r ≡ (n, e.cost)) → IsLeastFrom es s from n (Some x) → IsLeastFrom es s from (n + 1) (Some r)
+      pub least-more : (x r : ℕ × ℕ) → (x.1 ≤ e.cost → r ≡ x) → (e.cost < x.1 → r ≡ (n, e.cost)) → IsLeastFrom es s p from i (Some x) → IsLeastFrom es s p from (i + 1) (Some r)
       least-more x r kept new h = by (cases_lt e.cost x.1)
         where
-          old : x.1 ≤ e.cost → IsLeastFrom es s from (n + 1) (Some x)
+          old : x.1 ≤ e.cost → IsLeastFrom es s p from (i + 1) (Some x)
           old le = record {
             is = h.is;
             cost_is = h.cost_is;
-            least = λ l le' lt y. below-next (λ m. from ≤ m → (z : IsWhole es s m) → x.1 ≤ z.entry.cost) n (λ m less le' y'. h.least m le' less y') (λ le' y'. let own = own-cost e at y' in omega (arith, le, own)) l lt le' y;
+            least = λ l le' lt y. below-next (λ m. from ≤ m → (z : IsWhole es s (place_at p m)) → x.1 ≤ z.entry.cost) i (λ m less le' y'. h.least m le' less y') (λ le' y'. let own = own-cost y' in omega (arith, le, own)) l lt le' y;
           }
 
-          this : e.cost < x.1 → IsLeastFrom es s from (n + 1) (Some (n, e.cost))
+          this : e.cost < x.1 → IsLeastFrom es s p from (i + 1) (Some (n, e.cost))
           this lt' = record {
             is = record { entry = e; stands = at; same = same; whole = whole };
             cost_is = refl;
-            least = λ l le' lt y. below-next (λ m. from ≤ m → (z : IsWhole es s m) → e.cost ≤ z.entry.cost) n (λ m less le' y'. let own = h.least m le' less y' in omega (arith, lt', own)) (λ le' y'. own-cost e at y') l lt le' y;
+            least = λ l le' lt y. below-next (λ m. from ≤ m → (z : IsWhole es s (place_at p m)) → e.cost ≤ z.entry.cost) i (λ m less le' y'. let own = h.least m le' less y' in omega (arith, lt', own)) (λ le' y'. own-cost y') l lt le' y;
           }
 
-          by : (e.cost < x.1) ⊎ (x.1 ≤ e.cost) → IsLeastFrom es s from (n + 1) (Some r)
-          by (inl lt) = subst (λ (z : ℕ × ℕ). IsLeastFrom es s from (n + 1) (Some z)) (sym (new lt)) (this lt)
-          by (inr le) = subst (λ (z : ℕ × ℕ). IsLeastFrom es s from (n + 1) (Some z)) (sym (kept le)) (old le)
+          by : (e.cost < x.1) ⊎ (x.1 ≤ e.cost) → IsLeastFrom es s p from (i + 1) (Some r)
+          by (inl lt) = subst (λ (z : ℕ × ℕ). IsLeastFrom es s p from (i + 1) (Some z)) (sym (new lt)) (this lt)
+          by (inr le) = subst (λ (z : ℕ × ℕ). IsLeastFrom es s p from (i + 1) (Some z)) (sym (kept le)) (old le)
 
-  -- as far as a place that was passed
-  pub least-until : (past : ℕ) (found : Option (ℕ × ℕ)) → past ≤ n → IsLeastFrom es s from n found → IsLeastFrom es s from past found
+  -- as far as a rank that was passed
+  pub least-until : (past : ℕ) (found : Option (ℕ × ℕ)) → past ≤ i → IsLeastFrom es s p from i found → IsLeastFrom es s p from past found
   least-until past None le h = λ l le' lt y. h l le' (omega (arith, lt, le)) y
   least-until past (Some x) le h = record { is = h.is; cost_is = h.cost_is; least = λ l le' lt y. h.least l le' (omega (arith, lt, le)) y }
 
-module _ (es : List Entry) (s : ℕ) where
-  -- before the first place
-  pub least-none : (from : ℕ) → IsLeastFrom es s from from None
+module _ (es : List Entry) (s : ℕ) (p : SetPlaces) where
+  -- before the first rank
+  pub least-none : (from : ℕ) → IsLeastFrom es s p from from None
   least-none from l le lt y = absurd (omega (arith, le, lt))
 
-  of-whole : (k : ℕ) → IsWhole es s k → IsOf es s k
-  of-whole k y = record { entry = y.entry; stands = y.stands; same = y.same }
-
-  -- among the places of the set are all entries of it
-  module _ (p : SetPlaces) (placed : ArePlaced es p) (count from past : ℕ) (long : count ≡ length es) (f : from ≡ first_of p s) (g : past ≡ min (past_of p s) count) where
-    pub least-some : (x : ℕ × ℕ) → IsLeastFrom es s from past (Some x) → IsLeastWhole es s x.0
+  -- at the ranks of the set are all entries of it
+  module _ (placed : ArePlaced es p) (from past : ℕ) (f : from ≡ first_of p s) (g : past ≡ min (past_of p s) (length (order_of p))) where
+    pub least-some : (x : ℕ × ℕ) → IsLeastFrom es s p from past (Some x) → IsLeastWhole es s x.0
     least-some x h = record {
       is = h.is;
-      least = λ l y. subst (λ n. n ≤ y.entry.cost) h.cost_is (each-of es p s count from past (λ m. (z : IsWhole es s m) → x.1 ≤ z.entry.cost) placed long f g (λ m le lt z. h.least m le lt z) l (of-whole l y) y);
+      least = λ l y. subst (λ n. n ≤ y.entry.cost) h.cost_is (each-of es p s from past (λ m. (z : IsWhole es s m) → x.1 ≤ z.entry.cost) placed f g (λ m le lt z. h.least m le lt z) l (whole-of es s l y) y);
     }
 
-    pub least-never : IsLeastFrom es s from past None → (k : ℕ) → ¬ IsWhole es s k
-    least-never h k y = each-of es p s count from past (λ m. IsWhole es s m → ⊥) placed long f g (λ m le lt z. h m le lt z) k (of-whole k y) y
+    pub least-never : IsLeastFrom es s p from past None → (k : ℕ) → ¬ IsWhole es s k
+    least-never h k y = each-of es p s from past (λ m. IsWhole es s m → ⊥) placed f g (λ m le lt z. h m le lt z) k (whole-of es s k y) y
 
 module _ (c : Contents) (q : Query) where
   stands-self : (p : Plan) → StandsFor c q p p
@@ -162,29 +165,29 @@ module _ (c : Contents) (q : Query) where
             let r = right n ly.is.entry ly.is.stands in
             let none = (merge-of k l a b false true o i eo ei built).inner_whole in
             replaced keys o o (sort keys i) (sort keys r.plan) built.0 (r.has.plan.built, r.has.plan.plain) (stands-self o) (least-stands y n l ly b i ei none)
-            ((rows k a).sorted a (of-whole t.entries y n ly.is) o r.plan eo r.unfolds) built
+            ((rows k a).sorted a (whole-of t.entries y n ly.is) o r.plan eo r.unfolds) built
         from-least k l a b true false o i eo ei built =
             let r = right m lx.is.entry lx.is.stands in
             let none = (merge-of k l a b true false o i eo ei built).outer_whole in
             replaced keys (sort keys o) (sort keys r.plan) i i (r.has.plan.built, r.has.plan.plain) built.1 (least-stands x m k lx a o eo none) (stands-self i)
-            (row.plain l (of-whole t.entries x m lx.is) b r.plan i r.unfolds ei) built
+            (row.plain l (whole-of t.entries x m lx.is) b r.plan i r.unfolds ei) built
         from-least k l a b true true o i eo ei built =
             let r = right m lx.is.entry lx.is.stands in
             let r' = right n ly.is.entry ly.is.stands in
             let may = merge-of k l a b true true o i eo ei built in
             replaced keys (sort keys o) (sort keys r.plan) (sort keys i) (sort keys r'.plan) (r.has.plan.built, r.has.plan.plain) (r'.has.plan.built, r'.has.plan.plain)
             (least-stands x m k lx a o eo may.outer_whole) (least-stands y n l ly b i ei may.inner_whole)
-            (row.sorted (of-whole t.entries x m lx.is) (of-whole t.entries y n ly.is) r.plan r'.plan r.unfolds r'.unfolds) built
+            (row.sorted (whole-of t.entries x m lx.is) (whole-of t.entries y n ly.is) r.plan r'.plan r.unfolds r'.unfolds) built
 
-      module _ (p : SetPlaces) (placed : ArePlaced t.entries p) (count : ℕ) (long : count ≡ length t.entries) (a : ℕ × ℕ) where
-        -- what a walk over the places of a set says
-        pub row-served : (k m : ℕ) (sa : Bool) → a.0 ≡ first_of p y → a.1 ≡ min (past_of p y) count → (IsOf t.entries x k → IsOf t.entries y m → IsMergeServed c q t keys sa true k m) →
-            ((l : ℕ) → a.0 ≤ l → l < a.1 → IsOf t.entries x k → IsOf t.entries y l → IsMergeServed c q t keys sa false k l) → IsRowServed c q t keys x y k sa m
+      module _ (p : SetPlaces) (placed : ArePlaced t.entries p) (a : ℕ × ℕ) where
+        -- what a walk over the ranks of a set says
+        pub row-served : (k m : ℕ) (sa : Bool) → a.0 ≡ first_of p y → a.1 ≡ min (past_of p y) (length (order_of p)) → (IsOf t.entries x k → IsOf t.entries y m → IsMergeServed c q t keys sa true k m) →
+            ((l : ℕ) → a.0 ≤ l → l < a.1 → IsOf t.entries x k → IsOf t.entries y (place_at p l) → IsMergeServed c q t keys sa false k (place_at p l)) → IsRowServed c q t keys x y k sa m
         row-served k m sa f g sorted h = record {
           sorted = sorted;
-          plain = λ l is is'. each-of t.entries p y count a.0 a.1 (λ n. IsOf t.entries y n → IsMergeServed c q t keys sa false k n) placed long f g (λ n le lt. h n le lt is) l is' is';
+          plain = λ l is is'. each-of t.entries p y a.0 a.1 (λ n. IsOf t.entries y n → IsMergeServed c q t keys sa false k n) placed f g (λ n le lt. h n le lt is) l is' is';
         }
 
-        pub rows-served : (m n : ℕ) → IsLeastWhole t.entries x m → IsLeastWhole t.entries y n → a.0 ≡ first_of p x → a.1 ≡ min (past_of p x) count → IsRowServed c q t keys x y m true n →
-            ((k : ℕ) → a.0 ≤ k → k < a.1 → IsRowServed c q t keys x y k false n) → AreMergesBy c q t keys x y
-        rows-served m n lx ly f g row h = from-least m n lx ly row (λ k is. each-of t.entries p x count a.0 a.1 (λ j. IsRowServed c q t keys x y j false n) placed long f g h k is)
+        pub rows-served : (m n : ℕ) → IsLeastWhole t.entries x m → IsLeastWhole t.entries y n → a.0 ≡ first_of p x → a.1 ≡ min (past_of p x) (length (order_of p)) → IsRowServed c q t keys x y m true n →
+            ((k : ℕ) → a.0 ≤ k → k < a.1 → IsRowServed c q t keys x y (place_at p k) false n) → AreMergesBy c q t keys x y
+        rows-served m n lx ly f g row h = from-least m n lx ly row (λ k is. each-of t.entries p x a.0 a.1 (λ j. IsRowServed c q t keys x y j false n) placed f g h k is)

@@ -10,7 +10,7 @@ use Rattle.pathkeys.specs.Keys.{Keys}
 use Rattle.plan_tree.specs.Plans.{Plan, merge}
 use Rattle.plan_tree.specs.Space.{IsMergeList}
 use Rattle.plan_check.specs.Certificates.{Certificate, sorted_if, unfold_at}
-use Rattle.plan_check.specs.Placing.{IsOf}
+use Rattle.plan_check.specs.Placing.{IsOf, place_at}
 use Rattle.plan_check.specs.Plains.{StandsForPlan}
 use Rattle.plan_check.specs.Views.{certificate}
 use Rattle.plan_check.specs.declared.judged.Judged.{Judged}
@@ -102,21 +102,21 @@ abbrev pub CoversPlain : Judged → MergeWork → ℕ → Bool → Type 0
 CoversPlain j work k sort = IsOf (certificate j.t.now).entries work.outer.0 k → (l : ℕ) →
     IsMergeServed j.cat.now j.q.now (certificate j.t.now) (class_numbers work.list.now) sort false k l
 
--- so with those from one place on and before another
+-- so with those at the ranks from one on and before another
 abbrev pub CoversPlainIn : Judged → MergeWork → ℕ × Bool → ℕ × ℕ → Type 0
 CoversPlainIn j work at within = (l : ℕ) → within.0 ≤ l → l < within.1 →
-    IsOf (certificate j.t.now).entries work.outer.0 at.0 → IsOf (certificate j.t.now).entries work.inner.0 l →
-    IsMergeServed j.cat.now j.q.now (certificate j.t.now) (class_numbers work.list.now) at.1 false at.0 l
+    IsOf (certificate j.t.now).entries work.outer.0 at.0 → IsOf (certificate j.t.now).entries work.inner.0 (place_at j.places.now l) →
+    IsMergeServed j.cat.now j.q.now (certificate j.t.now) (class_numbers work.list.now) at.1 false at.0 (place_at j.places.now l)
 
 -- so also with the one at a place sorted
 abbrev pub CoversRow : Judged → MergeWork → ℕ → Bool → ℕ → Type 0
 CoversRow j work k sort least =
     IsRowServed j.cat.now j.q.now (certificate j.t.now) (class_numbers work.list.now) work.outer.0 work.inner.0 k sort least
 
--- so for each outer entry from one place on and before another, as it stands
+-- so for each outer entry at the ranks from one on and before another, as it stands
 abbrev pub CoversRowsIn : Judged → MergeWork → ℕ × ℕ → ℕ → Type 0
 CoversRowsIn j work within least = (k : ℕ) → within.0 ≤ k → k < within.1 →
-    IsRowServed j.cat.now j.q.now (certificate j.t.now) (class_numbers work.list.now) work.outer.0 work.inner.0 k false least
+    IsRowServed j.cat.now j.q.now (certificate j.t.now) (class_numbers work.list.now) work.outer.0 work.inner.0 (place_at j.places.now k) false least
 
 -- it covers all merges of two sets by a list
 abbrev pub CoversWork : Judged → MergeWork → Type 0
@@ -131,11 +131,11 @@ CoversNest j work k l = IsOf (certificate j.t.now).entries work.outer.0 k → Is
 abbrev pub MissesNestAt : Judged → ℕ → ℕ → Uncovered → Type 0
 MissesNestAt j k l x = IsOpen j.cat.now j.q.now (certificate j.t.now) (plain.Nest (suc k) (suc l)) x
 
--- it covers the nested loops of the outer entry at a place with inner ones from one place on and before another
+-- it covers the nested loops of the outer entry at a place with inner ones at the ranks from one on and before another
 abbrev pub CoversNestsIn : Judged → NestWork → ℕ → ℕ × ℕ → Type 0
 CoversNestsIn j work k within = (l : ℕ) → within.0 ≤ l → l < within.1 →
-    IsOf (certificate j.t.now).entries work.outer.0 k → IsOf (certificate j.t.now).entries work.inner.0 l →
-    IsNestServed j.cat.now j.q.now (certificate j.t.now) k l
+    IsOf (certificate j.t.now).entries work.outer.0 k → IsOf (certificate j.t.now).entries work.inner.0 (place_at j.places.now l) →
+    IsNestServed j.cat.now j.q.now (certificate j.t.now) k (place_at j.places.now l)
 
 -- it misses one of them, with the entry at a place
 abbrev pub MissesNestWith : Judged → ℕ → ℕ × Uncovered → Type 0
@@ -143,9 +143,9 @@ MissesNestWith j k r =
     (r.0 < length (certificate j.t.now).entries)
     × IsOpen j.cat.now j.q.now (certificate j.t.now) (plain.Nest (suc k) (suc r.0)) r.1
 
--- it covers the nested loops of the entries of two sets in two stretches of places
+-- it covers the nested loops of the entries of two sets at two stretches of ranks
 abbrev pub CoversNestsBy : Judged → NestWork → ℕ × ℕ → ℕ × ℕ → Type 0
-CoversNestsBy j work outer inner = AreNestsBy j.cat.now j.q.now (certificate j.t.now) work.outer.0 work.inner.0 outer inner
+CoversNestsBy j work outer inner = AreNestsBy j.cat.now j.q.now (certificate j.t.now) j.places.now work.outer.0 work.inner.0 outer inner
 
 -- it covers all of them
 abbrev pub CoversNestsOf : Judged → RelSet → RelSet → Type 0

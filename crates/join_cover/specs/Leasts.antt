@@ -2,9 +2,11 @@
 use Rattle.std.specs.Prelude.{◌≡◌, ◌<◌, ◌≤◌, ℕ, List, MatchOption, Option, Some, slice_get, map, ◌+◌}
 use Rattle.plan_check.specs.Certificates.{Entry}
 use Rattle.pg_base.specs.declared.rel_set.RelSet.{RelSet}
+use Rattle.plan_check.specs.Placing.{place_at}
 use Rattle.plan_check.specs.Views.{certificate, entry}
 use Rattle.plan_check.specs.declared.entry.Entry.{Entry as Entered}
 use Rattle.plan_check.specs.declared.judged.Judged.{Judged}
+use Rattle.plan_check.specs.declared.places.SetPlaces.{SetPlaces}
 
 module _ (es : List Entry) (s : ℕ) where
   -- the entry at a place is of the set, and is given no rows
@@ -19,20 +21,20 @@ module _ (es : List Entry) (s : ℕ) where
     pub is : IsWhole k
     pub least : (l : ℕ) (other : IsWhole l) → is.entry.cost ≤ other.entry.cost
 
-  -- so of those from one place on and before another, with its cost
-  pub record IsLeastAt (from n : ℕ) (found : ℕ × ℕ) : Type 0 where
+  -- so of those at the ranks from one on and before another, with its cost
+  pub record IsLeastAt (p : SetPlaces) (from i : ℕ) (found : ℕ × ℕ) : Type 0 where
     pub is : IsWhole found.0
     pub cost_is : found.1 ≡ is.entry.cost
-    pub least : (l : ℕ) → from ≤ l → l < n → (other : IsWhole l) → found.1 ≤ other.entry.cost
+    pub least : (r : ℕ) → from ≤ r → r < i → (other : IsWhole (place_at p r)) → found.1 ≤ other.entry.cost
 
   -- where there is one
-  abbrev pub IsLeastFrom : ℕ → ℕ → Option (ℕ × ℕ) → Type 0
-  IsLeastFrom from n found = MatchOption found ((l : ℕ) → from ≤ l → l < n → ¬ IsWhole l) (λ x. IsLeastAt from n x)
+  abbrev pub IsLeastFrom : SetPlaces → ℕ → ℕ → Option (ℕ × ℕ) → Type 0
+  IsLeastFrom p from i found = MatchOption found ((r : ℕ) → from ≤ r → r < i → ¬ IsWhole (place_at p r)) (λ x. IsLeastAt p from i x)
 
--- the least of the entries before a place becomes that of those before the next one
+-- the least of the entries before the rank of a place becomes that of those before the next one
 abbrev pub TakesNext : List Entered → RelSet → ℕ → Option (ℕ × ℕ) → Option (ℕ × ℕ) → Type 0
 TakesNext es set n found new =
-    (from : ℕ) → IsLeastFrom (map entry es) set.0 from n found → IsLeastFrom (map entry es) set.0 from (n + 1) new
+    (p : SetPlaces) (from i : ℕ) → place_at p i ≡ n → IsLeastFrom (map entry es) set.0 p from i found → IsLeastFrom (map entry es) set.0 p from (i + 1) new
 
 -- no entry of the set that is judged with it is given no rows
 abbrev pub HasNoWhole : Judged → RelSet → Type 0

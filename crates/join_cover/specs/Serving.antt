@@ -11,9 +11,10 @@ use Rattle.plan_tree.specs.Space.{IsBuilt, IsMergeList}
 use Rattle.plan_check.specs.Certificates.{Certificate, sorted_if, unfold_at}
 use Rattle.plan_check.specs.Tables.{IsDominated, IsEntryPlan}
 use Rattle.pathkeys.specs.Keys.{Keys}
-use Rattle.plan_check.specs.Placing.{IsOf}
+use Rattle.plan_check.specs.Placing.{IsOf, place_at}
 use Rattle.plan_check.specs.Plains.{StandsForPlan}
 use Rattle.plan_check.specs.Verdicts.{IsUncovered}
+use Rattle.plan_check.specs.declared.places.SetPlaces.{SetPlaces}
 use Rattle.plan_check.specs.declared.verdict.Plain.{Plain}
 use Rattle.join_cover.specs.declared.uncovered.Uncovered.{Uncovered}
 
@@ -51,10 +52,11 @@ module _ (c : Contents) (q : Query) (t : Certificate) where
   abbrev pub AreNestsOf : ℕ → ℕ → Type 0
   AreNestsOf x y = (k l : ℕ) → IsOf t.entries x k → IsOf t.entries y l → IsNestServed k l
 
-  -- the nested loops of the entries of two sets, so far as these stand in a stretch of places on either side: from one on
+  -- the nested loops of the entries of two sets, so far as these stand at a stretch of ranks on either side: from one on
   -- and before another
-  abbrev pub AreNestsBy : ℕ → ℕ → ℕ × ℕ → ℕ × ℕ → Type 0
-  AreNestsBy x y outer inner = (k l : ℕ) → outer.0 ≤ k → k < outer.1 → inner.0 ≤ l → l < inner.1 → IsOf t.entries x k → IsOf t.entries y l → IsNestServed k l
+  abbrev pub AreNestsBy : SetPlaces → ℕ → ℕ → ℕ × ℕ → ℕ × ℕ → Type 0
+  AreNestsBy p x y outer inner =
+      (k l : ℕ) → outer.0 ≤ k → k < outer.1 → inner.0 ≤ l → l < inner.1 → IsOf t.entries x (place_at p k) → IsOf t.entries y (place_at p l) → IsNestServed (place_at p k) (place_at p l)
 
   -- their merges by a list, each as it stands or sorted; and by every list
   abbrev pub AreMergesBy : Keys → ℕ → ℕ → Type 0

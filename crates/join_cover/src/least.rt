@@ -2,11 +2,11 @@
 
 ghost use Rattle.std.specs.Prelude.{◌≡◌, ◌<◌, ◌≤◌, IfNone, IfSome, length, map};
 ghost use Rattle.plan_check.specs.Views.{certificate, entry};
-ghost use Rattle.plan_check.specs.Placing.{ArePlaced};
+ghost use Rattle.plan_check.specs.Placing.{ArePlaced, order_of};
 ghost use Rattle.join_cover.specs.Leasts.{HasNoWhole, IsLeastFrom, IsLeastWhole, TakesNext};
 
 use pg_base::RelSet;
-use plan_check::{Entry, Judged};
+use plan_check::{Entry, Judged, SetPlaces};
 
 /// The lesser of two costs with their places; the first where they tie.
 fn lesser_of(other: (usize, u64), this: (usize, u64)) -> (usize, u64)
@@ -40,14 +40,20 @@ fn lesser(
     }
 }
 
-/// The place and the cost of the least one, in all, of the entries of a set that are given no rows, among some places.
-fn least_in(entries: &[Entry], within: (usize, usize), set: RelSet) -> Option<(usize, u64)>
-    requires past { within.1 ≤ length entries.now }
-    ensures { IsLeastFrom (map entry entries.now) set.0 within.0 within.1 result }
+/// The place and the cost of the least one, in all, of the entries of a set that are given no rows, among those at some ranks.
+fn least_in(
+    entries: &[Entry],
+    places: &SetPlaces,
+    within: (usize, usize),
+    set: RelSet,
+) -> Option<(usize, u64)>
+    requires placed { ArePlaced (map entry entries.now) places.now }
+    requires past { within.1 ≤ length (order_of places.now) }
+    ensures { IsLeastFrom (map entry entries.now) set.0 places.now within.0 within.1 result }
 {
     let mut least = None;
-    for n in within.0..within.1 {
-        least = lesser(entries, set, least, n);
+    for i in within.0..within.1 {
+        least = lesser(entries, set, least, places.at(i));
     }
     least
 }
@@ -60,8 +66,8 @@ pub(crate) fn least_whole(j: &Judged, set: RelSet) -> Option<usize>
     ensures none { IfNone result (HasNoWhole j.now set) }
 {
     let entries = j.t.entries.items();
-    let within = j.places.range(set, entries.len());
-    match least_in(entries, within, set) {
+    let within = j.places.range(set);
+    match least_in(entries, j.places, within, set) {
         Some(found) => Some(found.0),
         None => None,
     }

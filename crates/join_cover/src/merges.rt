@@ -4,7 +4,7 @@ ghost use Rattle.std.specs.Prelude.{◌≡◌, ◌<◌, ◌≤◌, ◌-◌, ◌^
 ghost use Rattle.plan_tree.specs.Reads.{IsOverTables};
 ghost use Rattle.plan_check.specs.Views.{certificate};
 ghost use Rattle.entry_check.specs.Working.{IsMergeWork};
-ghost use Rattle.plan_check.specs.Placing.{ArePlaced};
+ghost use Rattle.plan_check.specs.Placing.{ArePlaced, order_of};
 ghost use Rattle.plan_check.specs.Reasons.{AllRight};
 ghost use Rattle.join_cover.specs.Leasts.{IsLeastWhole};
 ghost use Rattle.join_cover.specs.Covering.{CoversMerge, CoversPlain, CoversPlainIn, CoversRow, CoversRowsIn, CoversWork, HasMergeList, IsNodeOfMerge, Misses, MissesMerge};
@@ -141,13 +141,14 @@ fn open_plain(
     requires work { IsMergeWork j.now.cat.now j.now.q.now work.now }
     requires list { HasMergeList j.now work.now }
     requires outer { at.0 < length (certificate j.now.t.now).entries }
-    requires inner { within.1 ≤ length (certificate j.now.t.now).entries }
+    requires inner { within.1 ≤ length (order_of j.now.places.now) }
     ensures { MatchOption result (CoversPlainIn j.now work.now at within) (λ r. Misses j.now r) }
 {
     if !may_lead(j, work, at.0, at.1) {
         return None;
     }
-    for l in within.0..within.1 {
+    for i in within.0..within.1 {
+        let l = j.places.at(i);
         if let Some(x) = open_sides(j, work, (at.0, l), (at.1, false), noted) {
             return Some(x);
         }
@@ -177,7 +178,7 @@ fn open_row(
     if let Some(x) = open_sides(j, work, (k, least), (sort, true), &mut noted) {
         return Some(x);
     }
-    let within = j.places.range(work.inner, j.t.entries.items().len());
+    let within = j.places.range(work.inner);
     open_plain(j, work, (k, sort), within, &mut noted)
 }
 
@@ -194,11 +195,12 @@ fn open_rows(
     requires placed { ArePlaced (certificate j.now.t.now).entries j.now.places.now }
     requires work { IsMergeWork j.now.cat.now j.now.q.now work.now }
     requires list { HasMergeList j.now work.now }
-    requires outer { within.1 ≤ length (certificate j.now.t.now).entries }
+    requires outer { within.1 ≤ length (order_of j.now.places.now) }
     requires inner { least < length (certificate j.now.t.now).entries }
     ensures { MatchOption result (CoversRowsIn j.now work.now within least) (λ r. Misses j.now r) }
 {
-    for k in within.0..within.1 {
+    for i in within.0..within.1 {
+        let k = j.places.at(i);
         if let Some(x) = open_row(j, work, k, false, least) {
             return Some(x);
         }
@@ -221,7 +223,7 @@ fn open_from(j: &Judged, work: &MergeWork, least: (usize, usize)) -> Option<(Pla
     if let Some(x) = open_row(j, work, least.0, true, least.1) {
         return Some(x);
     }
-    let within = j.places.range(work.outer, j.t.entries.items().len());
+    let within = j.places.range(work.outer);
     open_rows(j, work, within, least.1)
 }
 

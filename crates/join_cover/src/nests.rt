@@ -4,7 +4,7 @@ ghost use Rattle.std.specs.Prelude.{◌≡◌, ◌<◌, ◌≤◌, MatchOption, 
 ghost use Rattle.plan_tree.specs.Reads.{IsOverTables};
 ghost use Rattle.plan_check.specs.Views.{certificate};
 ghost use Rattle.entry_check.specs.Working.{IsNestWork};
-ghost use Rattle.plan_check.specs.Placing.{ArePlaced};
+ghost use Rattle.plan_check.specs.Placing.{ArePlaced, order_of};
 ghost use Rattle.plan_check.specs.Reasons.{AllRight};
 ghost use Rattle.join_cover.specs.Covering.{CoversNest, CoversNestsBy, CoversNestsIn, CoversNestsOf, MissesNest, MissesNestAt, MissesNestWith};
 
@@ -61,12 +61,13 @@ fn open_inner(
     requires placed { ArePlaced (certificate j.now.t.now).entries j.now.places.now }
     requires work { IsNestWork j.now.cat.now j.now.q.now work.now }
     requires outer { k < length (certificate j.now.t.now).entries }
-    requires inner { within.1 ≤ length (certificate j.now.t.now).entries }
+    requires inner { within.1 ≤ length (order_of j.now.places.now) }
     ensures { MatchOption result (CoversNestsIn j.now work.now k within)
         (λ r. MissesNestWith j.now k r) }
 {
     let mut noted = k;
-    for l in within.0..within.1 {
+    for i in within.0..within.1 {
+        let l = j.places.at(i);
         if let Some(x) = open_at(j, work, k, l, &mut noted) {
             return Some((l, x));
         }
@@ -85,13 +86,14 @@ fn open_outer(
     requires right { AllRight j.now.cat.now j.now.q.now (certificate j.now.t.now) }
     requires placed { ArePlaced (certificate j.now.t.now).entries j.now.places.now }
     requires work { IsNestWork j.now.cat.now j.now.q.now work.now }
-    requires outer { outer.1 ≤ length (certificate j.now.t.now).entries }
-    requires inner { inner.1 ≤ length (certificate j.now.t.now).entries }
+    requires outer { outer.1 ≤ length (order_of j.now.places.now) }
+    requires inner { inner.1 ≤ length (order_of j.now.places.now) }
     ensures { MatchOption result (CoversNestsBy j.now work.now outer inner)
         (λ r. MissesNest j.now r) }
 {
     let _few = j.t.entries.items();
-    for k in outer.0..outer.1 {
+    for i in outer.0..outer.1 {
+        let k = j.places.at(i);
         if let Some((l, x)) = open_inner(j, work, k, inner) {
             return Some((k as u32 + 1, l as u32 + 1, x));
         }
@@ -109,8 +111,7 @@ pub fn open_nests(j: &Judged, outer: RelSet, inner: RelSet) -> Option<(u32, u32,
     ensures { MatchOption result (CoversNestsOf j.now outer inner) (λ r. MissesNest j.now r) }
 {
     let work = nest_work_given(j.cat, j.q, outer, inner);
-    let count = j.t.entries.items().len();
-    let outers = j.places.range(outer, count);
-    let inners = j.places.range(inner, count);
+    let outers = j.places.range(outer);
+    let inners = j.places.range(inner);
     open_outer(j, &work, outers, inners)
 }

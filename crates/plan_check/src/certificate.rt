@@ -1,19 +1,28 @@
 //! Certificates: entries numbered from 1, and the best plan over them.
 
-ghost use Rattle.std.specs.Prelude.{◌≡◌, ◌≤◌, length};
+ghost use Rattle.std.specs.Prelude.{◌≡◌, ◌≤◌, IfOk, length};
 ghost use Rattle.plan_check.specs.Limit.{MOST_ENTRIES};
+ghost use Rattle.plan_check.specs.Ranking.{AreRanked};
 
 use crate::entry::{Entry, Side};
+use crate::ranking::ranked;
+use pg_base::Memory;
+use std::alloc::Global;
 use std::marker::Model;
 
 /// A list of at most 2^32 - 1 entries, which are numbered from 1. Contracts see the list.
 pub struct Entries {
     listed: Vec<Entry>,
+    /// The places of the entries, those of each set and parameterisation side by side, in order of cost.
+    order: Vec<u32>,
 }
 
 impl Drop for Entries {
     fn drop(self) {
-        let Entries { listed: _ } = self;
+        let Entries {
+            listed: _,
+            order: _,
+        } = self;
     }
 }
 
@@ -22,6 +31,7 @@ impl Model for Entries {
     ghost use Rattle.std.specs.Coded.{codes};
     ghost use Rattle.plan_tree.specs.contracts.bits.BitTree as trees;
     ghost use Rattle.plan_check.specs.Limit.{MOST_ENTRIES};
+    ghost use Rattle.plan_check.specs.Ranking.{AreRanked};
     ghost use Rattle.plan_check.specs.declared.entry.Entry.{Entry};
 
     ghost Value = { List Entry };
@@ -30,16 +40,18 @@ impl Model for Entries {
 
     ghost coded = { Prim.hlevel (codes, trees.the_row.coded) };
 
-    ghost invariant = { λ e. length e.listed.items ≤ MOST_ENTRIES };
+    ghost invariant = { λ e. (length e.listed.items ≤ MOST_ENTRIES)
+        × AreRanked e.order.items (length e.listed.items) };
 }
 
 impl Entries {
-    /// The list of these entries. The condition is that there are at most 2^32 - 1.
-    pub fn from_vec(v: Vec<Entry>) -> Entries
+    /// The list of these entries. The condition is that there are at most 2^32 - 1. The error means want of memory.
+    pub fn from_vec(alloc: Global, v: Vec<Entry>) -> Result<Entries, Memory>
         requires few { length v.items ≤ MOST_ENTRIES }
-        ensures list { result ≡ v.items }
+        ensures list { IfOk result (λ es. es ≡ v.items) }
     {
-        Entries { listed: v }
+        let order = ranked(alloc, &v)?;
+        Ok(Entries { listed: v, order })
     }
 
     /// The entries in order, lent.
@@ -48,6 +60,13 @@ impl Entries {
         ensures few { length result.now ≤ MOST_ENTRIES }
     {
         &self.listed
+    }
+
+    /// The places of the entries, from 0, each once: those of each set and parameterisation side by side, in order of cost.
+    pub fn order(&self) -> &[u32]
+        ensures { AreRanked result.now (length self.now) }
+    {
+        &self.order
     }
 }
 

@@ -15,5 +15,5 @@ pub struct Judged<'a> {
     /// The certificate.
     pub t: &'a Certificate,
     /// The places of its entries.
-    pub places: &'a SetPlaces,
+    pub places: &'a SetPlaces<'a>,
 }

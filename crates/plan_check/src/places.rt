@@ -3,7 +3,8 @@
 ghost use Rattle.std.specs.Prelude.{◌≡◌, ◌<◌, ◌≤◌, length, map, min};
 ghost use Rattle.plan_check.specs.Limit.{MOST_ENTRIES};
 ghost use Rattle.plan_check.specs.Views.{entry};
-ghost use Rattle.plan_check.specs.Placing.{ArePlaced, HasPut, first_of, past_of, slot};
+ghost use Rattle.plan_check.specs.Placing.{ArePlaced, HasPut, first_of, order_of, past_of, place_at, slot};
+ghost use Rattle.plan_check.specs.Ranking.{AreRanked};
 
 use crate::Entry;
 use pg_base::RelSet;
@@ -11,18 +12,25 @@ use pg_base::RelSet;
 /// Sets of relations are told apart by so many numbers, as many as there are sets of the relations that a query may have.
 pub const MOST_SETS: usize = 1_024;
 
-/// From which place on and before which one the entries of each set stand, from 0. Where entries stand in the order in
-/// which they are printed, no other entry stands between; in another order more do. It has a fixed size.
-pub struct SetPlaces {
-    /// By the set's number, the first place.
+/// The places of entries by rank, and from which rank on and before which one those of each set stand, from 0. No other
+/// entry stands between, in whatever order the entries themselves stand. Beside the places, which are lent, it has a fixed
+/// size.
+pub struct SetPlaces<'a> {
+    /// By rank, the place.
+    order: &'a [u32],
+    /// By the set's number, the first rank.
     first: [u32; MOST_SETS],
-    /// By the set's number, the place past the last.
+    /// By the set's number, the rank past the last.
     past: [u32; MOST_SETS],
 }
 
-impl Drop for SetPlaces {
+impl<'a> Drop for SetPlaces<'a> {
     fn drop(self) {
-        let SetPlaces { first: _, past: _ } = self;
+        let SetPlaces {
+            order: _,
+            first: _,
+            past: _,
+        } = self;
     }
 }
 
@@ -34,39 +42,52 @@ fn slot_of(set: RelSet) -> usize
     set.0 as usize % MOST_SETS
 }
 
-impl SetPlaces {
-    /// Those of some entries, by one pass. It takes no memory.
-    pub fn of(entries: &[Entry]) -> SetPlaces
+impl<'a> SetPlaces<'a> {
+    /// Those of some entries, by one pass over their places in order. It takes no memory.
+    pub fn of(entries: &[Entry], order: &'a [u32]) -> SetPlaces<'a>
         requires few { length entries.now ≤ MOST_ENTRIES }
+        requires ranked { AreRanked order.now (length entries.now) }
         ensures { ArePlaced (map entry entries.now) result }
     {
         let mut places = SetPlaces {
+            order,
             first: [u32::MAX; MOST_SETS],
             past: [0; MOST_SETS],
         };
-        for k in 0..entries.len() {
-            let e = &entries[k];
-            places.put(e.set, k as u32);
+        for i in 0..order.len() {
+            let e = &entries[order[i] as usize];
+            places.put(e.set, i as u32);
         }
         places
     }
 
-    /// One more entry, at a place behind the others.
-    fn put(&mut self, set: RelSet, k: u32)
-        requires few { k < 4294967295 }
-        ensures { HasPut self.old self.new set.0 k }
+    /// One more entry, at a rank behind the others.
+    fn put(&mut self, set: RelSet, i: u32)
+        requires few { i < 4294967295 }
+        ensures { HasPut self.old self.new set.0 i }
     {
         let n = slot_of(set);
-        self.first[n] = self.first[n].min(k);
-        self.past[n] = k + 1;
+        self.first[n] = self.first[n].min(i);
+        self.past[n] = i + 1;
     }
 
-    /// From which place on and before which one all entries of a set stand, of so many entries.
-    pub fn range(&self, set: RelSet, count: usize) -> (usize, usize)
+    /// From which rank on and before which one all entries of a set stand.
+    pub fn range(&self, set: RelSet) -> (usize, usize)
         ensures first { result.0 ≡ first_of self.now set.0 }
-        ensures past { result.1 ≡ min (past_of self.now set.0) count }
+        ensures past { result.1 ≡ min (past_of self.now set.0) (length (order_of self.now)) }
     {
         let n = slot_of(set);
-        (self.first[n] as usize, (self.past[n] as usize).min(count))
+        (
+            self.first[n] as usize,
+            (self.past[n] as usize).min(self.order.len()),
+        )
+    }
+
+    /// The place at a rank.
+    pub fn at(&self, i: usize) -> usize
+        requires { i < length (order_of self.now) }
+        ensures { result ≡ place_at self.now i }
+    {
+        self.order[i] as usize
     }
 }

@@ -173,7 +173,7 @@ pub(crate) fn certificate_of(
     let entries = entries_of(alloc, q, listed)?;
     let best = best_of(listed, best, order);
     Ok(Certificate {
-        entries: Entries::from_vec(entries),
+        entries: Entries::from_vec(alloc, entries)?,
         best,
     })
 }

@@ -1,6 +1,8 @@
-use Rattle.std.proofs.Common.{refl}
+use Rattle.std.proofs.Common.{List, length, refl, subst, sym}
 use Rattle.plan_tree.proofs.BoundLemmas.{lawful-rows}
+use Rattle.plan_check.specs.Ranking.{AreRanked}
 use Rattle.plan_check.specs.Views.{certificate}
+use Rattle.plan_check.specs.declared.entry.Entry.{Entry as Entered}
 use Rattle.certificate_check.proofs.CheckLemmas.{placed-there, valid-best, valid-dominated}
 use Rattle.certificate_check.proofs.checking.check.Goals as goal
 
@@ -12,3 +14,6 @@ returns-clause-best c = valid-best c.args.cat.now c.args.q.now (certificate c.ar
 
 pub judge_all-requires-clause-placed : goal.judge_all-requires-clause-placed
 judge_all-requires-clause-placed c = placed-there (certificate c.args.t.now) c.args.t.now.entries c.items.result.now c.of-places.result refl c.items.ensures.list c.of-places.ensures
+
+pub of-places-requires-clause-ranked : goal.of-places-requires-clause-ranked
+of-places-requires-clause-ranked c = subst (λ (xs : List Entered). AreRanked c.order.result.now (length xs)) (sym c.items.ensures.list) c.order.ensures

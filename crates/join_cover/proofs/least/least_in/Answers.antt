@@ -1,13 +1,14 @@
-use Rattle.std.proofs.Common.{map}
+use Rattle.std.proofs.Common.{map, sym}
 use Rattle.plan_check.specs.Views.{entry}
+use Rattle.plan_check.proofs.PlacedLemmas.{there-read}
 use Rattle.join_cover.proofs.LeastLemmas.{least-none, least-until}
 use Rattle.join_cover.proofs.least.least_in.Goals as goal
 
-pub loop-n-init : goal.loop-n-init
-loop-n-init c = least-none (map entry c.args.entries.now) c.args.set.0 c.args.within.0
+pub loop-i-init : goal.loop-i-init
+loop-i-init c = least-none (map entry c.args.entries.now) c.args.set.0 c.args.places.now c.args.within.0
 
-pub loop-n-preserved : goal.loop-n-preserved
-loop-n-preserved c = c.lesser-least.ensures c.args.within.0 c.loop-n.invariant
+pub loop-i-preserved : goal.loop-i-preserved
+loop-i-preserved c = c.lesser-least.ensures c.args.places.now c.args.within.0 c.loop-i.i (sym c.at.ensures) c.loop-i.invariant
 
 pub returns : goal.returns
-returns c = least-until (map entry c.args.entries.now) c.args.set.0 c.args.within.0 c.loop-n.n c.args.within.1 c.loop-n.least c.loop-n-test.false c.loop-n.invariant
+returns c = least-until (map entry c.args.entries.now) c.args.set.0 c.args.places.now c.args.within.0 c.loop-i.i c.args.within.1 c.loop-i.least c.loop-i-test.false c.loop-i.invariant

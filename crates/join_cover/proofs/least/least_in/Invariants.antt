@@ -3,5 +3,5 @@ use Rattle.plan_check.specs.Views.{entry}
 use Rattle.join_cover.specs.Leasts.{IsLeastFrom}
 use Rattle.join_cover.proofs.least.least_in.Given as goal
 
-abbrev pub invariant-loop-n : goal.invariant-loop-n
-invariant-loop-n l = IsLeastFrom (map entry l.entries) l.set.0 l.fn.within.0 l.n l.least
+abbrev pub invariant-loop-i : goal.invariant-loop-i
+invariant-loop-i l = IsLeastFrom (map entry l.entries) l.set.0 l.places l.fn.within.0 l.i l.least

@@ -10,11 +10,11 @@ returns-in-Some-clause-some c =
     let t = certificate c.args.j.now.t.now in
     let r = c.range-within in
     let x = least-read t c.args.j.now.t.now.entries c.items-entries.result.now refl c.items-entries.ensures.list in
-    least-some t.entries c.args.set.0 c.args.j.now.places.now c.requires.placed _ r.result.0 r.result.1 x.0 r.ensures.first r.ensures.past c.in-Some.found (x.1 c.args.set.0 r.result.0 r.result.1 (Some c.in-Some.found) c.in-Some.ensures)
+    least-some t.entries c.args.set.0 c.args.j.now.places.now c.requires.placed r.result.0 r.result.1 r.ensures.first r.ensures.past c.in-Some.found (x c.args.set.0 c.args.j.now.places.now r.result.0 r.result.1 (Some c.in-Some.found) c.in-Some.ensures)
 
 pub returns-in-None-clause-none : goal.returns-in-None-clause-none
 returns-in-None-clause-none c =
     let t = certificate c.args.j.now.t.now in
     let r = c.range-within in
     let x = least-read t c.args.j.now.t.now.entries c.items-entries.result.now refl c.items-entries.ensures.list in
-    least-never t.entries c.args.set.0 c.args.j.now.places.now c.requires.placed _ r.result.0 r.result.1 x.0 r.ensures.first r.ensures.past (x.1 c.args.set.0 r.result.0 r.result.1 None c.in-None.ensures)
+    least-never t.entries c.args.set.0 c.args.j.now.places.now c.requires.placed r.result.0 r.result.1 r.ensures.first r.ensures.past (x c.args.set.0 c.args.j.now.places.now r.result.0 r.result.1 None c.in-None.ensures)

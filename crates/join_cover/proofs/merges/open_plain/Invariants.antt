@@ -1,9 +1,9 @@
 use Rattle.std.proofs.Common.{◌<◌, ◌≤◌, ℕ, false}
 use Rattle.pathkeys.specs.Finding.{class_numbers}
 use Rattle.plan_check.specs.Views.{certificate}
-use Rattle.plan_check.specs.Placing.{IsOf}
+use Rattle.plan_check.specs.Placing.{IsOf, place_at}
 use Rattle.join_cover.specs.Serving.{IsMergeServed}
 use Rattle.join_cover.proofs.merges.open_plain.Given as goal
 
-abbrev pub invariant-loop-l : goal.invariant-loop-l
-invariant-loop-l l = (n : ℕ) → l.fn.within.0 ≤ n → n < l.l → IsOf (certificate l.j.t.now).entries l.work.outer.0 l.at.0 → IsOf (certificate l.j.t.now).entries l.work.inner.0 n → IsMergeServed l.j.cat.now l.j.q.now (certificate l.j.t.now) (class_numbers l.work.list.now) l.at.1 false l.at.0 n
+abbrev pub invariant-loop-i : goal.invariant-loop-i
+invariant-loop-i l = (n : ℕ) → l.fn.within.0 ≤ n → n < l.i → IsOf (certificate l.j.t.now).entries l.work.outer.0 l.at.0 → IsOf (certificate l.j.t.now).entries l.work.inner.0 (place_at l.j.places.now n) → IsMergeServed l.j.cat.now l.j.q.now (certificate l.j.t.now) (class_numbers l.work.list.now) l.at.1 false l.at.0 (place_at l.j.places.now n)

@@ -1,8 +1,8 @@
 use Rattle.std.proofs.Common.{◌<◌, ◌≤◌, ℕ}
 use Rattle.plan_check.specs.Views.{certificate}
-use Rattle.plan_check.specs.Placing.{IsOf}
+use Rattle.plan_check.specs.Placing.{IsOf, place_at}
 use Rattle.join_cover.specs.Serving.{IsNestServed}
 use Rattle.join_cover.proofs.nests.open_inner.Given as goal
 
-abbrev pub invariant-loop-l : goal.invariant-loop-l
-invariant-loop-l l = (n : ℕ) → l.fn.within.0 ≤ n → n < l.l → IsOf (certificate l.j.t.now).entries l.work.outer.0 l.k → IsOf (certificate l.j.t.now).entries l.work.inner.0 n → IsNestServed l.j.cat.now l.j.q.now (certificate l.j.t.now) l.k n
+abbrev pub invariant-loop-i : goal.invariant-loop-i
+invariant-loop-i l = (n : ℕ) → l.fn.within.0 ≤ n → n < l.i → IsOf (certificate l.j.t.now).entries l.work.outer.0 l.k → IsOf (certificate l.j.t.now).entries l.work.inner.0 (place_at l.j.places.now n) → IsNestServed l.j.cat.now l.j.q.now (certificate l.j.t.now) l.k (place_at l.j.places.now n)

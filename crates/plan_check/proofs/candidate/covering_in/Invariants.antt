@@ -1,8 +1,7 @@
-use Rattle.std.proofs.Common.{◌≡◌, ◌<◌, ◌≤◌, ℕ, false, get_or, map}
-use Rattle.plan_check.specs.Certificates.{Entry}
-use Rattle.plan_check.specs.Views.{entry}
-use Rattle.plan_check.specs.Beating.{beats, candidate}
+use Rattle.std.proofs.Common.{◌<◌, ◌≤◌, ℕ}
+use Rattle.plan_check.specs.Beating.{IsUnbeatenAt}
+use Rattle.plan_check.specs.Placing.{place_at}
 use Rattle.plan_check.proofs.candidate.covering_in.Given as goal
 
-abbrev pub invariant-loop-n : goal.invariant-loop-n
-invariant-loop-n l = (k : ℕ) → l.fn.within.0 ≤ k → k < l.n → (d : Entry) → beats l.q.window (get_or (map entry l.entries) k d) (candidate l.x) ≡ false
+abbrev pub invariant-loop-i : goal.invariant-loop-i
+invariant-loop-i l = (r : ℕ) → l.fn.within.0 ≤ r → r < l.i → IsUnbeatenAt l.q l.entries l.x (place_at l.places r)

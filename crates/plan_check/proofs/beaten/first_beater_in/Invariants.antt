@@ -1,7 +1,0 @@
-use Rattle.std.proofs.Common.{◌<◌, ◌≤◌, ℕ, map}
-use Rattle.plan_check.specs.Views.{entry}
-use Rattle.plan_check.specs.Beating.{IsNoBeater}
-use Rattle.plan_check.proofs.beaten.first_beater_in.Given as goal
-
-abbrev pub invariant-loop-m : goal.invariant-loop-m
-invariant-loop-m l = (k : ℕ) → l.fn.within.0 ≤ k → k < l.m → IsNoBeater l.q.window (map entry l.entries) l.n k

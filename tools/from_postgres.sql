@@ -9,6 +9,12 @@
 \pset format unaligned
 \pset tuples_only on
 \pset pager off
+-- Schemas of users may have functions, operators and tables with the names of those below, and a role or a database its own settings.
+SET search_path = pg_catalog, pg_temp;
+SET standard_conforming_strings = on;
+SET quote_all_identifiers = off;
+-- The script has the bytes that the server compares.
+SELECT set_config('client_encoding', getdatabaseencoding(), false) AS encoding \gset
 \if :{?schema}
 \else
     \set schema public

@@ -392,7 +392,7 @@ class Checks:
             self.failures.append(failure)
 
     def run(self, script: str) -> str:
-        """What pgplan prints of a script, which it must take with status 0."""
+        """What pgplan prints for a script, which it must accept with status 0."""
         ran = subprocess.run([self.program, "run"], input=script.encode(errors="surrogateescape"), capture_output=True)
         self.that(not ran.returncode and not ran.stderr, f"status {ran.returncode}, {ran.stderr.decode().strip()}: {script[-200:]}")
         return ran.stdout.decode()
@@ -412,6 +412,7 @@ def server(binaries: pathlib.Path) -> Iterator[Psql]:
         data, who = f"{folder}/data", "postgres" if os.geteuid() == 0 else pwd.getpwuid(os.geteuid()).pw_name
 
         def run(*words: str, given: str = "") -> str:
+            """What a command prints, run as the server's user."""
             ran = subprocess.run([*as_server(), *words], input=given, encoding="utf-8", errors="surrogateescape", capture_output=True, cwd=folder)
             if ran.returncode:
                 raise SystemExit(f"{words[0]}: {ran.stderr}")
@@ -479,7 +480,7 @@ def check_meaning(checks: Checks, psql: Psql) -> None:
 
 
 def check_stand_ins(checks: Checks, psql: Psql) -> None:
-    """Columns of types that pgplan has not, and that `*` names them."""
+    """Columns of types that pgplan does not have: `*` names them, so no index-only scan leaves them out."""
     psql("postgres", STAND_INS)
     script = exported(psql, "stand_ins")
     checks.run(script)
@@ -488,7 +489,7 @@ def check_stand_ins(checks: Checks, psql: Psql) -> None:
     checks.that("STATISTICS t.j" not in script and "STATISTICS t.at" not in script, "a stand-in has statistics")
     for columns, scan in [("*", "Index Scan"), ("a", "Index Only Scan"), ("a, j", "Index Scan")]:
         plan = checks.run(f"{script}EXPLAIN SELECT {columns} FROM t WHERE a = 7")
-        checks.that(scan == "Index Only Scan" if "Index Only" in plan else scan == "Index Scan", f"{columns} by {plan}")
+        checks.that(scan in plan and ("Only" in plan) == ("Only" in scan), f"{columns} by {plan}")
 
 
 def check_collations(checks: Checks, psql: Psql) -> None:
@@ -527,9 +528,7 @@ def check_size(checks: Checks, psql: Psql) -> None:
 
 def trusting(tool: str) -> str:
     """The tool without its first setting, as one that trusts the search_path of the server."""
-    changed = tool.replace("SET search_path = pg_catalog, pg_temp;\n", "")
-    assert changed != tool
-    return changed
+    return re.sub(r"^SET search_path .*\n", "", tool, flags=re.M)
 
 
 def check_hostile(checks: Checks, psql: Psql) -> None:

@@ -81,26 +81,26 @@ index AS (
         FROM unnest(i.indkey::int2[], i.indcollation::oid[]) WITH ORDINALITY AS k(att, sorts, n)
         JOIN col ON col.oid = t.oid AND col.attnum = k.att WHERE k.n <= i.indnkeyatts) k, reserved w),
 -- The condition of a partial index is split into words. A literal with its cast is one word, whatever its quotes contain. So is a
--- comparison with an array of literals, which is what the server makes of IN, and so is a column with its cast to text.
+-- comparison with an array of literals, which is what the server makes of IN, and so is a column with its cast to text. Backslashes
+-- stand for themselves, as standard_conforming_strings is on.
 literal AS (
-    SELECT $$E?'(?:[^']|'')*'::(?:text|character varying|bigint|integer|smallint)(?![\[a-zA-Z0-9_(])$$
-        || $$|\(E?'(?:[^']|'')*'::character varying\)::text(?![\[a-zA-Z0-9_(])$$
+    SELECT $$'(?:[^']|'')*'::(?:text|character varying|bigint|integer|smallint)(?![\[a-zA-Z0-9_(])$$
+        || $$|\('(?:[^']|'')*'::character varying\)::text(?![\[a-zA-Z0-9_(])$$
         || $$|\([0-9]+\)::(?:bigint|smallint)|[0-9]+|true|false$$ AS pattern),
 word AS (
     SELECT i.oid, i.tab_oid, w.n, w.word[1] AS word, w.word[1] ~ '^(= ANY|<> ALL) ' AS is_list,
            w.word[1] ~ ('^(?:' || l.pattern || ')$') AS is_literal, l.pattern
     FROM index i, literal l, regexp_matches(i.pred, replace($$(?:= ANY|<> ALL) \((?:ARRAY\[(?:@)(?:, (?:@))*\]|\(ARRAY\[(?:@)(?:, (?:@))*\]\)::text\[\])\)$$
-        || $$|@|E?'(?:[^']|'')*'|\([a-z_][a-z0-9_$]*\)::text(?![\[a-zA-Z0-9_(])|IS (?:NOT )?NULL|[a-zA-Z_][a-zA-Z0-9_$]*|[<=>!]+|.$$, '@', l.pattern), 'g')
+        || $$|@|'(?:[^']|'')*'|\([a-z_][a-z0-9_$]*\)::text(?![\[a-zA-Z0-9_(])|IS (?:NOT )?NULL|[a-zA-Z_][a-zA-Z0-9_$]*|[<=>!]+|.$$, '@', l.pattern), 'g')
         WITH ORDINALITY AS w(word, n)
     WHERE i.bar IS NULL),
 -- Numbers are written without quotes and texts without casts. A literal's kind is n for a number, q for a text and c for a boolean.
 value AS (
-    SELECT w.oid, w.n, v.place, v.of[1] AS literal, substring(v.of[1] FROM $$E?'(?:[^']|'')*'$$) AS quoted,
+    SELECT w.oid, w.n, v.place, v.of[1] AS literal, substring(v.of[1] FROM $$'(?:[^']|'')*'$$) AS quoted,
            CASE WHEN v.of[1] IN ('true', 'false') THEN 'c' WHEN v.of[1] ~ '^\(?[0-9]|::(bigint|integer|smallint)$' THEN 'n' ELSE 'q' END AS kind
     FROM word w, regexp_matches(w.word, w.pattern, 'g') WITH ORDINALITY AS v(of, place) WHERE w.is_list OR w.is_literal),
 plain AS (
-    SELECT v.*, CASE v.kind WHEN 'c' THEN v.literal WHEN 'n' THEN substring(v.literal FROM '-?[0-9]+')
-                     ELSE CASE WHEN v.quoted LIKE 'E%' THEN replace(substr(v.quoted, 2), '\\', '\') ELSE v.quoted END END AS text FROM value v),
+    SELECT v.*, CASE v.kind WHEN 'c' THEN v.literal WHEN 'n' THEN substring(v.literal FROM '-?[0-9]+') ELSE v.quoted END AS text FROM value v),
 sized_value AS (
     SELECT p.*, octet_length(CASE p.kind WHEN 'q' THEN replace(substr(p.text, 2, length(p.text) - 2), '''''', '''') ELSE '' END) AS bytes FROM plain p),
 listed AS (

@@ -1,13 +1,26 @@
 #!/usr/bin/env python3
-"""Tries tools/from_postgres.sql on a PostgreSQL server of its own: exports a schema of ten tables and runs pgplan on what it prints.
+"""Tries tools/from_postgres.sql on a PostgreSQL server of its own: exports several schemas and runs pgplan on what it prints.
 
 usage: tools/check_from_postgres.py PROGRAM
 
 PROGRAM is a built pgplan. Needs Debian's package postgresql: the newest server below /usr/lib/postgresql is started on a socket in a
-temporary folder, as the user postgres where this user is root, and stopped at the end. It is no part of the gate. Checks that
-pgplan ends with status 0 on the script and on queries over it, that each line that is wanted stands in it, and that nothing else
-is left out. Prints each difference, and last the number of checks that passed and failed.
+temporary folder, as the user postgres where this user is root, and stopped at the end. It is no part of the gate. Prints each
+difference, and last the number of checks that passed and failed. What is checked:
+
+- shop: twelve tables. Each line that is wanted is printed, nothing else is left out, and pgplan plans queries over them.
+- conditions: how the condition of a partial index is written, or that its index is left out. Each written one is true for the same
+  rows in pgplan and on the server.
+- stand-ins: columns of types that pgplan does not have are texts, and `*` names them.
+- collations: which histograms of texts are written, for databases and columns of several collations.
+- encoding: texts are written in the encoding of the database.
+- size: statistics of more than 16 MiB.
+- names: names and values that contain statements stay inside comments and quotes.
+- hostile: another user's functions, operators and views do not run, and neither they nor settings change a byte. They do run, and
+  forge a statement, without the tool's setting of search_path.
+
+pgplan ends with status 0 on every script.
 """
+import contextlib
 import os
 import pathlib
 import pwd
@@ -16,6 +29,7 @@ import shutil
 import subprocess
 import sys
 import tempfile
+from collections.abc import Callable, Iterator
 
 ROOT = pathlib.Path(__file__).resolve().parent.parent
 
@@ -32,7 +46,7 @@ CREATE TABLE empty_one (a int, b text);
 CREATE TABLE stops (id int4 NOT NULL, place point, tags text[]);
 CREATE TABLE staff (id int PRIMARY KEY, boss int REFERENCES staff, active boolean NOT NULL, "order" int);
 CREATE TABLE "Odd" (a int);
-CREATE TABLE only_json (j jsonb);
+CREATE TABLE capitals ("A" int);
 CREATE TABLE wide (%s);
 CREATE VIEW open_orders AS SELECT * FROM orders WHERE status = 'open';
 CREATE INDEX orders_customer ON orders (customer, id DESC) INCLUDE (status);
@@ -76,8 +90,8 @@ ANALYZE regions; ANALYZE customers; ANALYZE orders; ANALYZE items; ANALYZE price
 
 # Lines that stand in the script, each as a regular expression for the whole line.
 WANTED = [
-    r"CREATE TABLE customers \(id int4 NOT NULL, name text NOT NULL, region int2, mail text\);",
-    r"-- left out: column customers\.since of type date",
+    r"CREATE TABLE customers \(id int4 NOT NULL, name text NOT NULL, region int2, since text, mail text\);",
+    r"-- as text, without statistics: column customers\.since of type date",
     r"-- as text: column customers\.name of type character varying\(80\)",
     r"-- as a plain index: unique index customers_pkey",
     r"CREATE INDEX customers_pkey ON customers \(id\);",
@@ -88,27 +102,27 @@ WANTED = [
     r"\(\(region IS NOT NULL\) AND \(\(region > 0\) OR \(name = 'O''Brien'\)\)\);",
     r"STATISTICS customers ROWS 5000 PAGES \d+;",
     r"STATISTICS customers\.region DISTINCT 12 NULLS \d+ COMMON \(.*\);",
-    r"-- left out: the histogram of customers\.name \(its collation is not C\)",
+    r"STATISTICS regions\.name DISTINCT 12 NULLS 0 HISTOGRAM \('region 1', 'region 10', .*\);",
     r"STATISTICS customers\.mail DISTINCT \d+ NULLS 100000 HISTOGRAM \('c[^']*''x@example', .*\);",
-    r"CREATE TABLE orders \(id int8 NOT NULL, customer int4 NOT NULL, status text NOT NULL, paid bool\);",
+    r"CREATE TABLE orders \(id int8 NOT NULL, customer int4 NOT NULL, status text NOT NULL, paid bool, total text\);",
     r"CREATE INDEX orders_customer ON orders \(customer, id DESC\) INCLUDE \(status\);",
     r"CREATE INDEX orders_open ON orders \(customer\) WHERE \(\(status = 'open'\) AND \(NOT paid\)\);",
     r"CREATE INDEX orders_in ON orders \(customer\) WHERE \(status IN \('open', 'new'\)\);",
-    r"CREATE INDEX orders_not ON orders \(id\) WHERE \(\(status NOT IN \('it''s late', 'a\], b'\)\) AND \(customer IN \(1, '-2', 3\)\)\);",
-    r"-- left out: index orders_text on orders \(its condition .*\)",
+    r"CREATE INDEX orders_not ON orders \(id\) WHERE \(\(status NOT IN \('it''s late', 'a\], b'\)\) AND \(customer IN \(1, -2, 3\)\)\);",
+    r"CREATE INDEX orders_text ON orders \(id\) WHERE \(status = 'x = ANY \(ARRAY\[1\]\)'\);",
     r"CREATE INDEX orders_hash ON orders USING hash \(status\);",
-    r"-- left out: index orders_total on orders \(a column is left out\)",
+    r"-- left out: index orders_total on orders \(a key of type numeric\(10,2\)\)",
     r"STATISTICS orders\.status DISTINCT 3 NULLS 0 COMMON \('done' \d+, 'it''s late' \d+, 'open' \d+\);",
     r"STATISTICS orders\.paid DISTINCT 2 NULLS \d+ COMMON \((TRUE|FALSE) \d+, (TRUE|FALSE) \d+\);",
     r"-- left out: extended statistics orders_both on orders",
     r"-- left out: column articles\.\"Weight\" of type integer \(its name\)",
-    r"CREATE INDEX articles_low ON articles \(stock NULLS FIRST\) WHERE \(\(stock >= '-5'\) AND \(kind <> 'gone'\)\);",
+    r"CREATE INDEX articles_low ON articles \(stock NULLS FIRST\) WHERE \(\(stock >= -5\) AND \(kind <> 'gone'\)\);",
     r"CREATE INDEX articles_kinds ON articles \(id\) WHERE \(\(kind IN \('kind 1', 'kind 2'\)\) AND \(NOT \(\(stock >= 5\) AND \(stock <= 9\)\)\)\);",
     r"-- left out: index articles_calc on articles \(its condition .*\)",
     r"-- left out: index articles_true on articles \(its condition .*\)",
     r"-- left out: 84 further common values of articles\.stock",
     r"STATISTICS articles\.id DISTINCT 900 NULLS 0 HISTOGRAM \((\d+, ){100}900\);",
-    r"-- left out: column orders\.total of type numeric\(10,2\)",
+    r"-- as text, without statistics: column orders\.total of type numeric\(10,2\)",
     r"-- as a plain index: exclusion constraint prices_article_valid_from_excl",
     r"CREATE INDEX prices_article_valid_from_excl ON prices \(article, valid_from\);",
     r"-- left out: column staff\.\"order\" of type integer \(its name\)",
@@ -117,17 +131,19 @@ WANTED = [
     r"-- left out: index staff_many on staff \(its condition .*\)",
     r"-- left out: index staff_two on staff \(a column stands twice\)",
     r"STATISTICS staff\.active DISTINCT 2 NULLS 0 COMMON \(TRUE 750000, FALSE 250000\);",
-    r"CREATE INDEX prices_few ON prices \(article\) WHERE \(\(amount IN \(1, '20000000000'\)\) AND \(valid_to <> 5\)\);",
+    r"CREATE INDEX prices_few ON prices \(article\) WHERE \(\(amount IN \(1, 20000000000\)\) AND \(valid_to <> 5\)\);",
     r"-- left out: index prices_columns on prices \(its condition .*\)",
     r"-- left out: index prices_null on prices \(its condition .*\)",
     r"CREATE INDEX prices_open ON prices \(article, valid_from\) WHERE \(valid_to IS NULL\);",
     r"STATISTICS prices\.amount DISTINCT 9000 NULLS 0 HISTOGRAM \(-\d+, .*\);",
     r"STATISTICS empty_one ROWS 1 PAGES 1;",
-    r"-- left out: column stops\.place of type point",
-    r"-- left out: column stops\.tags of type text\[\]",
+    r"-- as text, without statistics: column stops\.place of type point",
+    r"-- as text, without statistics: column stops\.tags of type text\[\]",
+    r"CREATE TABLE stops \(id int4 NOT NULL, place text, tags text\);",
     r"-- left out: index stops_place on stops \(method gist\)",
     r"-- left out: table \"Odd\" \(its name\)",
-    r"-- left out: table only_json \(no column is left\)",
+    r"-- as text: column articles\.kind of type character varying",
+    r"-- left out: table capitals \(no column is left\)",
     r"-- left out: view open_orders",
     r"-- left out: column wide\.c32 of type integer \(more than 32 columns\)",
     r"-- no statistics: table wide was never analyzed",
@@ -141,54 +157,415 @@ QUERIES = [
 ]
 
 
-def as_server():
+# The columns of the table of each condition.
+COLUMNS = """id int4 NOT NULL, i int4, s int2, b int8, n text, v varchar(20), f bool, isfinite bool, lower text, d numeric, since date,
+until date, mood conditions.mood, amount conditions.amount, pair conditions.pair"""
+
+# Conditions of partial indexes, and how each is written: None where its index is left out.
+CONDITIONS = [
+    ("i > 99999999999", "(i > 99999999999)"),
+    ("s > -40000", "(s > -40000)"),
+    ("b > '-9223372036854775808'::int8 AND b < 9223372036854775807", "((b > -9223372036854775808) AND (b < 9223372036854775807))"),
+    ("i > 5::int8 AND i < 7::int2", "((i > 5) AND (i < 7))"),
+    ("s < 30000::int2", "(s < 30000)"),
+    ("i::text = 'abc'", None),
+    ("i::text > '5'", None),
+    ("f::text = 'maybe'", None),
+    ("d::text = '007'", None),
+    ("b::text = '(5)::bigint'", None),
+    ("n = '(5)::bigint'", "(n = '(5)::bigint')"),
+    ("n = '(a)::text (5)::bigint'", "(n = '(a)::text (5)::bigint')"),
+    ("v = '(v)::text'", "(v = '(v)::text')"),
+    ("v = ANY (ARRAY['(5)::bigint', '''x''::text', 'a'])", "(v IN ('(5)::bigint', '''x''::text', 'a'))"),
+    ("n NOT IN ('= ANY (ARRAY[1])', 'b')", "(n NOT IN ('= ANY (ARRAY[1])', 'b'))"),
+    ("v::text = ANY (ARRAY['a'::varchar::text, 'b c'::varchar::text])", "(v IN ('a', 'b c'))"),
+    (r"n = 'back\slash' OR n = 'THE''S' OR n = E'two\nlines'", "((n = 'back\\slash') OR (n = 'THE''S') OR (n = 'two\nlines'))"),
+    (r"n IN ('\', 'E''\''')", r"(n IN ('\', 'E''\'''))"),
+    ("v = n AND n < 'b' AND 'a' <= v", "((v = n) AND (n < 'b') AND ('a' <= v))"),
+    ("v::varchar(1) = 'a'", None),
+    ("v = 'abc'::varchar(2)", None),
+    ("n COLLATE \"C\" = 'a'", None),
+    ("n LIKE 'a%'", None),
+    ("lower(n) = 'a'", None),
+    ("lower = 'a'", "(lower = 'a')"),
+    ("isfinite AND f IS NULL", "(isfinite AND (f IS NULL))"),
+    ("isfinite(since)", None),
+    ("f IS TRUE", None),
+    ("(i > 5) = f", None),
+    ("f = true OR NOT isfinite OR f > isfinite", "((f = true) OR (NOT isfinite) OR (f > isfinite))"),
+    ("f IN (true, false)", "(f IN (true, false))"),
+    ("true AND i <> s AND 5 = 5", "(true AND (i <> s) AND (5 = 5))"),
+    ("i::int8 = b", None),
+    ("i IS DISTINCT FROM 5", None),
+    ("i IN (1, NULL)", None),
+    ("i = ANY ('{1,2}')", None),
+    ("i IN (1, s)", "((i = 1) OR (i = s))"),
+    ("- i = 5", None),
+    ("d > 5", None),
+    ("d IS NULL AND since IS NOT NULL", "((d IS NULL) AND (since IS NOT NULL))"),
+    ("mood IS NOT NULL OR amount IS NULL", "((mood IS NOT NULL) OR (amount IS NULL))"),
+    ("pair IS NULL", None),
+    ("since < until", None),
+    ("since > '2020-01-01'", None),
+    ("mood = 'sad'", None),
+    ("amount > 5", None),
+    ("i OPERATOR(conditions.=) 5", None),
+    ("conditions.odd(i)", None),
+    ("n = repeat('x', 3)", None),
+    (f"n = '{'x' * 8192}'", f"(n = '{'x' * 8192}')"),
+    (f"n = '{'x' * 8193}'", None),
+    ("n = '" + "''" * 8193 + "'", None),
+    (" AND ".join(f"i <> {n}" for n in range(40)), "(" + " AND ".join(f"(i <> {n})" for n in range(40)) + ")"),
+    (" OR ".join(f"i = {n}" for n in range(256)), "(" + " OR ".join(f"(i = {n})" for n in range(256)) + ")"),
+    (" OR ".join(f"i = {n}" for n in range(257)), None),
+    (f"i IN ({', '.join(map(str, range(255)))}) OR f", f"((i IN ({', '.join(map(str, range(255)))})) OR f)"),
+    (f"i IN ({', '.join(map(str, range(256)))}) OR f", None),
+]
+
+
+def nested(levels: int) -> str:
+    """A condition that the server prints with this number of levels: it flattens AND inside AND and OR inside OR."""
+    text = "(i = 0)"
+    for level in range(1, levels):
+        text = f"((i = {level}) {'AND' if level % 2 else 'OR'} {text})"
+    return text
+
+
+CONDITIONS += [(nested(32), nested(32)), (nested(33), None), (f"NOT {nested(30)}", f"(NOT {nested(30)})"), (f"NOT {nested(31)}", None)]
+
+# Rows on which pgplan and the server evaluate each condition that is written.
+ROWS = r"""1,5,5,5,a,a,t,f,a
+2,6,-4,9223372036854775807,back\slash,(5)::bigint,f,t,b
+3,-5,7,-9223372036854775808,THE'S,(v)::text,\N,\N,\N
+4,\N,\N,\N,\N,\N,t,t,\N
+5,2147483647,32767,20000000000,(5)::bigint,'x'::text,f,f,a
+6,0,0,0,(a)::text (5)::bigint,b c,t,\N,
+7,31,31,31,= ANY (ARRAY[1]),B,f,\N,A
+8,255,255,255,E'\',\,\N,t,\N
+9,256,256,256,\,a,f,f,lower
+"""
+
+CONDITION_SCHEMA = """
+CREATE SCHEMA conditions;
+CREATE TYPE conditions.mood AS ENUM ('sad', 'glad');
+CREATE DOMAIN conditions.amount AS int4;
+CREATE TYPE conditions.pair AS (x int, y int);
+CREATE FUNCTION conditions.odd(int) RETURNS bool LANGUAGE sql IMMUTABLE AS 'SELECT $1 % 2 = 1';
+CREATE FUNCTION conditions.never(int, int) RETURNS bool LANGUAGE sql IMMUTABLE AS 'SELECT false';
+CREATE OPERATOR conditions.= (LEFTARG = int, RIGHTARG = int, FUNCTION = conditions.never);
+"""
+
+STAND_INS = """
+CREATE SCHEMA stand_ins;
+SET search_path = stand_ins;
+CREATE TABLE t (a int NOT NULL, j jsonb, at timestamptz, k text COLLATE "C");
+CREATE INDEX t_a ON t (a);
+CREATE INDEX t_a_j ON t (k) INCLUDE (j);
+CREATE INDEX t_at ON t (a, at);
+CREATE INDEX t_now ON t (a) WHERE at IS NULL;
+CREATE INDEX t_then ON t (a) WHERE at > '2020-01-01';
+CREATE INDEX t_collated ON t (k COLLATE "en-x-icu");
+INSERT INTO t SELECT g, '{}', now(), g FROM generate_series(1, 10000) g;
+ANALYZE t;
+CREATE TABLE many (%s, a int);
+CREATE TABLE only_json (j jsonb);
+CREATE TABLE "order" (a int);
+""" % ", ".join(f"j{n} json" for n in range(32))
+
+STAND_IN_LINES = [
+    "-- as text, without statistics: column t.j of type jsonb",
+    "CREATE TABLE t (a int4 NOT NULL, j text, at text, k text);",
+    "CREATE INDEX t_a_j ON t (k) INCLUDE (j);",
+    "-- left out: index t_at on t (a key of type timestamp with time zone)",
+    "CREATE INDEX t_now ON t (a) WHERE (at IS NULL);",
+    "-- left out: index t_then on t (its condition (at > '2020-01-01 00:00:00+00'::timestamp with time zone))",
+    "-- left out: index t_collated on t (the collation of a key)",
+    "CREATE TABLE only_json (j text);",
+    "-- left out: table \"order\" (its name)",
+    "-- left out: column many.j31 of type json (more than 32 columns)",
+    f"CREATE TABLE many ({', '.join(f'j{n} text' for n in range(31))}, a int4);",
+]
+
+COLLATED = """
+CREATE SCHEMA collated;
+SET search_path = collated;
+CREATE COLLATION theirs (locale = 'C.utf8');
+CREATE TABLE t (usual text, c text COLLATE "C", posix varchar COLLATE "POSIX", utf text COLLATE "C.utf8", own text COLLATE theirs, basic text COLLATE ucs_basic,
+                english text COLLATE "en-x-icu");
+INSERT INTO t SELECT w, w, w, w, w, w, w FROM (SELECT chr(65 + g % 60) || chr(225 + g % 30) || g FROM generate_series(1, 500) g) w(w);
+ANALYZE t;
+"""
+
+# Databases, options of CREATE DATABASE, and the columns of the table above whose histograms are left out there.
+DATABASES = [
+    ("c_utf8", "LOCALE 'C.UTF-8'", {"english"}),
+    ("c", "LOCALE 'C'", {"english"}),
+    ("posix", "LOCALE 'POSIX'", {"english"}),
+    ("icu", "LOCALE_PROVIDER icu ICU_LOCALE 'en' LOCALE 'C.UTF-8'", {"english", "usual"}),
+]
+
+# The order of these two letters in WIN1252 is not that in UTF8.
+ENCODED = """
+CREATE SCHEMA encoded;
+CREATE TABLE encoded.t (a text);
+INSERT INTO encoded.t SELECT chr(CASE g % 2 WHEN 0 THEN 128 ELSE 233 END) || g FROM generate_series(1000, 1999) g;
+ANALYZE encoded.t;
+ALTER DATABASE encoded SET client_encoding = 'UTF8';
+"""
+
+SIZE = "CREATE SCHEMA size; SET search_path = size;" + "".join(
+    f"CREATE TABLE t{t:02} ({', '.join(f'c{c} text' for c in range(20))});"
+    f"INSERT INTO t{t:02} SELECT {', '.join(['w'] * 20)} FROM (SELECT rpad(g::text, 1000, 'x') FROM generate_series(1000, 1119) g) v(w);"
+    f"ANALYZE t{t:02};" for t in range(10))
+
+HOSTILE = r"""
+CREATE TABLE public.heard (who text, what text);
+GRANT INSERT ON public.heard TO PUBLIC;
+CREATE ROLE mallory;
+GRANT CREATE ON SCHEMA public TO mallory;
+SET ROLE mallory;
+CREATE FUNCTION public.tell(text) RETURNS void LANGUAGE sql AS 'INSERT INTO public.heard VALUES (current_user, $1)';
+CREATE FUNCTION public.cardinality(text[]) RETURNS int LANGUAGE plpgsql AS
+    'BEGIN PERFORM public.tell(''cardinality''); RETURN pg_catalog.cardinality($1); END';
+CREATE FUNCTION public.forged(text, int8) RETURNS text LANGUAGE plpgsql AS
+    'BEGIN PERFORM public.tell(''|| of int8''); RETURN concat($1, $2, ''; CREATE TABLE evil (x int4);''); END';
+CREATE FUNCTION public.forged(text, int4) RETURNS text LANGUAGE plpgsql AS
+    'BEGIN PERFORM public.tell(''|| of int4''); RETURN concat($1, $2, ''; CREATE TABLE evil (x int4);''); END';
+CREATE OPERATOR public.|| (LEFTARG = text, RIGHTARG = int8, FUNCTION = public.forged);
+CREATE OPERATOR public.|| (LEFTARG = text, RIGHTARG = int4, FUNCTION = public.forged);
+"""
+
+# Objects that hide those of pg_catalog, with a search_path that has public before it, and further settings of the database.
+HIDING = r"""
+SET ROLE mallory;
+CREATE VIEW public.pg_class AS SELECT * FROM pg_catalog.pg_class WHERE relname < 'b';
+CREATE FUNCTION public.quote_ident(text) RETURNS text LANGUAGE plpgsql AS
+    'BEGIN PERFORM public.tell(''quote_ident''); RETURN ''forged''; END';
+CREATE FUNCTION public.getdatabaseencoding() RETURNS name LANGUAGE plpgsql AS
+    'BEGIN PERFORM public.tell(''getdatabaseencoding''); RETURN ''UTF8''; END';
+CREATE DOMAIN public.int4 AS text;
+RESET ROLE;
+ALTER DATABASE postgres SET search_path = public, pg_catalog;
+ALTER DATABASE postgres SET standard_conforming_strings = off;
+ALTER DATABASE postgres SET quote_all_identifiers = on;
+ALTER DATABASE postgres SET client_encoding = 'LATIN1';
+"""
+
+# Names and values that would be statements if they left their comments and quotes.
+NAMES = r"""
+CREATE SCHEMA "names
+CREATE TABLE evil (x int4);";
+SET search_path = "names
+CREATE TABLE evil (x int4);";
+CREATE TYPE "mood
+CREATE TABLE evil (x int4);" AS ENUM ('a');
+CREATE TABLE "t
+CREATE TABLE evil (x int4);" (a int);
+CREATE TABLE t (a int, "b
+CREATE TABLE evil (x int4);" int, c "mood
+CREATE TABLE evil (x int4);", d text COLLATE "C", nulls int, include int, count int);
+CREATE INDEX "i
+CREATE TABLE evil (x int4);" ON t (a);
+CREATE INDEX i ON t (nulls NULLS FIRST, count DESC) INCLUDE (include) WHERE d = E'x''\nCREATE TABLE evil (x int4); --';
+CREATE INDEX j ON t (a) WHERE "b
+CREATE TABLE evil (x int4);" = 5;
+CREATE STATISTICS "s
+CREATE TABLE evil (x int4);" ON a, d FROM t;
+INSERT INTO t (a, d) SELECT g, E'x'';\nCREATE TABLE evil (x int4); --' || g / 5 FROM generate_series(1, 5000) g;
+ANALYZE t;
+"""
+
+# Runs psql on a database, with an input and further words of its command line, and returns what it prints.
+Psql = Callable[..., str]
+
+
+class Checks:
+    """Counts what passed and failed, and runs a built pgplan."""
+
+    def __init__(self, program: pathlib.Path) -> None:
+        self.program, self.passed, self.failures = program, 0, []
+
+    def that(self, holds: bool, failure: str) -> None:
+        """One check, with what is told where it fails."""
+        self.passed += bool(holds)
+        if not holds:
+            self.failures.append(failure)
+
+    def run(self, script: str) -> str:
+        """What pgplan prints for a script, which it must accept with status 0."""
+        ran = subprocess.run([self.program, "run"], input=script.encode(errors="surrogateescape"), capture_output=True)
+        self.that(not ran.returncode and not ran.stderr, f"status {ran.returncode}, {ran.stderr.decode().strip()}: {script[-200:]}")
+        return ran.stdout.decode()
+
+
+def as_server() -> list[str]:
     """Words that run a command as the server's user: a server is refused to root."""
     return ["runuser", "-u", "postgres", "--"] if os.geteuid() == 0 else []
 
 
-def exported(binaries, folder):
-    """The script that the tool prints for the schema, from a server in this folder."""
-    data, who = f"{folder}/data", "postgres" if os.geteuid() == 0 else pwd.getpwuid(os.geteuid()).pw_name
-    run = lambda *words, **how: subprocess.run([*as_server(), *words], check=True, text=True, capture_output=True, cwd=folder, **how)
-    run(f"{binaries}/initdb", "-D", data, "-A", "trust", "--locale=C.UTF-8", "-E", "UTF8", "-N")
-    run(f"{binaries}/pg_ctl", "-D", data, "-w", "-l", f"{folder}/log", "-o", f"-k {folder} -c listen_addresses='' -c fsync=off", "start")
-    psql = [f"{binaries}/psql", "-X", "-q", "-h", folder, "-U", who, "-v", "ON_ERROR_STOP=1", "-d", "postgres"]
-    try:
-        run(*psql, input=SCHEMA)
-        return run(*psql, "-v", "schema=shop", input=(ROOT / "tools" / "from_postgres.sql").read_text()).stdout
-    finally:
-        run(f"{binaries}/pg_ctl", "-D", data, "-m", "immediate", "stop")
-
-
-def main():
-    program = pathlib.Path(sys.argv[1]).resolve()
-    binaries = max(pathlib.Path("/usr/lib/postgresql").glob("*/bin"), key=lambda it: int(it.parent.name))
+@contextlib.contextmanager
+def server(binaries: pathlib.Path) -> Iterator[Psql]:
+    """A server in a temporary folder, while its psql is used."""
     with tempfile.TemporaryDirectory() as folder:
         if os.geteuid() == 0:
             shutil.chown(folder, "postgres")
-        script = exported(binaries, folder)
-    failures, lines = [], script.splitlines()
-    for query in ["", *QUERIES]:
-        ran = subprocess.run([program, "run"], input=(script + query).encode(), capture_output=True)
-        if ran.returncode or ran.stderr:
-            failures.append(f"status {ran.returncode}, {ran.stderr.decode().strip()}: {query or 'the script alone'}")
-        elif query and b"cost=" not in ran.stdout:
-            failures.append(f"no plan: {query}")
+        data, who = f"{folder}/data", "postgres" if os.geteuid() == 0 else pwd.getpwuid(os.geteuid()).pw_name
+
+        def run(*words: str, given: str = "") -> str:
+            """What a command prints, run as the server's user."""
+            ran = subprocess.run([*as_server(), *words], input=given, encoding="utf-8", errors="surrogateescape", capture_output=True, cwd=folder)
+            if ran.returncode:
+                raise SystemExit(f"{words[0]}: {ran.stderr}")
+            return ran.stdout
+
+        run(f"{binaries}/initdb", "-D", data, "-A", "trust", "--locale=C.UTF-8", "-E", "UTF8", "-N")
+        run(f"{binaries}/pg_ctl", "-D", data, "-w", "-l", f"{folder}/log", "-o", f"-k {folder} -c listen_addresses='' -c fsync=off -c timezone=UTC", "start")
+        try:
+            yield lambda database, given, *words: run(f"{binaries}/psql", "-X", "-q", "-h", folder, "-U", who, "-v", "ON_ERROR_STOP=1",
+                                                      "-d", database, *words, given=given)
+        finally:
+            run(f"{binaries}/pg_ctl", "-D", data, "-m", "immediate", "stop")
+
+
+def exported(psql: Psql, schema: str, database: str = "postgres", changed: Callable[[str], str] = str) -> str:
+    """The script that the tool, or a changed one, prints for a schema."""
+    return psql(database, changed((ROOT / "tools" / "from_postgres.sql").read_text()), "-v", f"schema={schema}")
+
+
+def check_shop(checks: Checks, psql: Psql) -> None:
+    """The lines of the schema shop, and plans of queries over it."""
+    psql("postgres", SCHEMA)
+    script = exported(psql, "shop")
+    lines = script.splitlines()
+    checks.run(script)
+    for query in QUERIES:
+        checks.that("cost=" in checks.run(script + query), f"no plan: {query}")
     for wanted in WANTED:
-        if not any(re.fullmatch(wanted, line) for line in lines):
-            failures.append(f"no line {wanted}")
+        checks.that(any(re.fullmatch(wanted, line) for line in lines), f"no line {wanted}")
     made = sum(line.startswith("CREATE TABLE") for line in lines)
-    if made != 10:
-        failures.append(f"{made} tables and not 10")
-    told = [line for line in lines if line.startswith(("-- left out", "-- no statistics"))]
-    failures += [f"not wanted: {line}" for line in told
-                 if not any(re.fullmatch(wanted, line) for wanted in WANTED)
-                 and not re.fullmatch(r"-- left out: (column wide\.c3[3-9] of type integer \(more than 32 columns\)"
-                                      r"|the histogram of \w+\.\w+ \(its collation is not C\)|\d+ further common values of .*)", line)]
-    print(*failures, sep="\n", end="\n" if failures else "")
-    count = 2 + len(QUERIES) + len(WANTED)
-    print(f"from_postgres: {count - len(failures)} passed, {len(failures)} failed")
-    sys.exit(bool(failures))
+    checks.that(made == 10, f"{made} tables and not 10")
+    further = r"-- left out: (column wide\.c3[3-9] of type integer \(more than 32 columns\)|\d+ further common values of .*)"
+    told = [line for line in lines if line.startswith(("-- left out", "-- no statistics", "-- as text"))]
+    told = [line for line in told if not any(re.fullmatch(wanted, line) for wanted in [*WANTED, further])]
+    checks.that(not told, f"not wanted: {told}")
+
+
+def check_conditions(checks: Checks, psql: Psql) -> None:
+    """How the condition of each partial index is written."""
+    psql("postgres", CONDITION_SCHEMA)
+    for first in range(0, len(CONDITIONS), 60):
+        some = list(enumerate(CONDITIONS))[first:first + 60]
+        psql("postgres", "".join(f"CREATE TABLE conditions.t{n} ({COLUMNS}); CREATE INDEX x{n} ON conditions.t{n} (id) WHERE {theirs};\n"
+                                 for n, (theirs, _) in some))
+        script = exported(psql, "conditions")
+        checks.run(script)
+        for n, (theirs, ours) in some:
+            wanted = f"-- left out: index x{n} on t{n} (its condition " if ours is None else f"CREATE INDEX x{n} ON t{n} (id) WHERE {ours};\n"
+            checks.that(f"\n{wanted}" in script, f"{theirs[:300]}: {re.findall(f'^.* x{n} .*$', script, re.M)}")
+        psql("postgres", "".join(f"DROP TABLE conditions.t{n};" for n, _ in some))
+
+
+def check_meaning(checks: Checks, psql: Psql) -> None:
+    """Each condition that is written, and that a query can have, holds for the same rows in pgplan and on the server."""
+    psql("postgres", f"CREATE TABLE conditions.r ({COLUMNS});\nCOPY conditions.r (id, i, s, b, n, v, f, isfinite, lower) FROM STDIN "
+                     f"WITH (FORMAT CSV, NULL '\\N');\n{ROWS}\\.\n")
+    copied = ("CREATE TABLE r (id int4, i int4, s int2, b int8, n text, v text, f bool, isfinite bool, lower text, d text, since text, "
+              "mood text, amount text);\nCOPY r FROM STDIN WITH (FORMAT CSV, NULL '\\N');\n"
+              + "".join(row + r",\N,\N,\N,\N" + "\n" for row in ROWS.splitlines()) + "\\.\n")
+    for theirs, ours in CONDITIONS:
+        if ours is not None and ours.count(" AND ") < 32:
+            here = re.findall(r"^\d+$", checks.run(f"{copied}SELECT id FROM r WHERE {ours} ORDER BY id"), re.M)
+            there = psql("postgres", f"SET search_path = conditions; SELECT id FROM r WHERE {theirs} ORDER BY id", "-t", "-A").split()
+            checks.that(here == there, f"rows {here} and not {there}: {theirs[:300]}")
+
+
+def check_stand_ins(checks: Checks, psql: Psql) -> None:
+    """Columns of types that pgplan does not have: `*` names them, so no index-only scan leaves them out."""
+    psql("postgres", STAND_INS)
+    script = exported(psql, "stand_ins")
+    checks.run(script)
+    for wanted in STAND_IN_LINES:
+        checks.that(wanted in script.splitlines(), f"no line {wanted}")
+    checks.that("STATISTICS t.j" not in script and "STATISTICS t.at" not in script, "a stand-in has statistics")
+    for columns, scan in [("*", "Index Scan"), ("a", "Index Only Scan"), ("a, j", "Index Scan")]:
+        plan = checks.run(f"{script}EXPLAIN SELECT {columns} FROM t WHERE a = 7")
+        checks.that(scan in plan and ("Only" in plan) == ("Only" in scan), f"{columns} by {plan}")
+
+
+def check_collations(checks: Checks, psql: Psql) -> None:
+    """Histograms of texts are written where texts are compared by bytes."""
+    for database, how, out in DATABASES:
+        psql("postgres", f"CREATE DATABASE {database} {how} ENCODING 'UTF8' TEMPLATE template0")
+        psql(database, COLLATED)
+        script = exported(psql, "collated", database)
+        checks.run(script)
+        told = set(re.findall(r"^-- left out: the histogram of t\.(\w+) \(its collation is not C\)$", script, re.M))
+        made = set(re.findall(r"^STATISTICS t\.(\w+) .* HISTOGRAM ", script, re.M))
+        checks.that(told == out, f"{database}: no histograms of {told} and not {out}")
+        checks.that(made == {"usual", "c", "posix", "utf", "own", "basic", "english"} - out, f"{database}: histograms of {made}")
+
+
+def check_encoding(checks: Checks, psql: Psql) -> None:
+    """Texts are written in the encoding of the database, whatever the client's."""
+    psql("postgres", "CREATE DATABASE encoded LOCALE 'C' ENCODING 'WIN1252' TEMPLATE template0")
+    psql("encoded", ENCODED)
+    script = exported(psql, "encoded", "encoded")
+    checks.run(script)
+    bounds = re.findall(r"'(.)(\d+)'", script)
+    checks.that(len(bounds) == 101 and bounds[0] == ("\udc80", "1000") and bounds[-1] == ("\udce9", "1999"), f"bounds {bounds}")
+
+
+def check_size(checks: Checks, psql: Psql) -> None:
+    """A schema of more than 16 MiB of statistics."""
+    psql("postgres", SIZE)
+    script = exported(psql, "size")
+    checks.run(script)
+    checks.that(14_000_000 < len(script) < 1 << 24, f"{len(script)} bytes")
+    checks.that(script.count("\nCREATE TABLE") == 10, "not every table of the large schema")
+    checks.that(re.fullmatch(r"-- left out: the last \d+ lines that are no CREATE TABLE \(a script has at most 16 MiB\)", script.splitlines()[-1]),
+                f"last line: {script.splitlines()[-1][:200]}")
+
+
+def trusting(tool: str) -> str:
+    """The tool without its first setting, as one that trusts the search_path of the server."""
+    return re.sub(r"^SET search_path .*\n", "", tool, flags=re.M)
+
+
+def check_hostile(checks: Checks, psql: Psql) -> None:
+    """Neither another user's objects nor settings change the script, and no function of that user runs."""
+    before = exported(psql, "shop")
+    psql("postgres", HOSTILE)
+    checks.that("CREATE TABLE evil" in exported(psql, "shop", changed=trusting), "the schema is not hostile: no forged statement")
+    heard = set(psql("postgres", "SELECT what FROM public.heard", "-t", "-A").split("\n")) - {""}
+    checks.that(heard == {"cardinality", "|| of int8", "|| of int4"}, f"the schema is not hostile: only {heard} ran")
+    for more in ["", HIDING]:
+        psql("postgres", f"DELETE FROM public.heard; {more}")
+        checks.that(exported(psql, "shop") == before, f"another script beside {more or HOSTILE}")
+        heard = psql("postgres", "SELECT * FROM public.heard", "-t", "-A")
+        checks.that(not heard, f"foreign functions ran: {heard}")
+
+
+def check_names(checks: Checks, psql: Psql) -> None:
+    """Names and values stay in their comments and quotes."""
+    psql("postgres", NAMES)
+    script = exported(psql, "names\nCREATE TABLE evil (x int4);")
+    checks.run(script)
+    fault = subprocess.run([checks.program, "run"], input=f"{script}EXPLAIN SELECT * FROM evil".encode(), capture_output=True)
+    checks.that(b"no table evil" in fault.stderr, "a name or a value made a table")
+    checks.that("HISTOGRAM ('x''" in script and "\nCREATE INDEX i ON t (nulls NULLS FIRST, count DESC) INCLUDE (include) WHERE" in script, script)
+
+
+def main() -> None:
+    """Runs all checks on one server."""
+    checks = Checks(pathlib.Path(sys.argv[1]).resolve())
+    binaries = max(pathlib.Path("/usr/lib/postgresql").glob("*/bin"), key=lambda it: int(it.parent.name))
+    with server(binaries) as psql:
+        for check in [check_shop, check_conditions, check_meaning, check_stand_ins, check_collations, check_encoding,
+                      check_size, check_names, check_hostile]:
+            check(checks, psql)
+    print(*checks.failures, sep="\n", end="\n" if checks.failures else "")
+    print(f"from_postgres: {checks.passed} passed, {len(checks.failures)} failed")
+    sys.exit(bool(checks.failures))
 
 
 main()

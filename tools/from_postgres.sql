@@ -1,5 +1,6 @@
 -- Prints a pgplan script for the tables of one schema of a PostgreSQL server: CREATE TABLE, CREATE INDEX and STATISTICS, as far as
--- pgplan has the types and the indexes, and a comment line for each thing that is left out or written in another way.
+-- pgplan has the types and the indexes, and a comment line for each thing that is left out or written in another way. pgplan accepts
+-- every script that it prints.
 --
 -- usage: psql -X -q -v schema=public -f tools/from_postgres.sql DATABASE > tables.sql
 --
@@ -9,38 +10,50 @@
 \pset format unaligned
 \pset tuples_only on
 \pset pager off
+-- Schemas of users may have functions, operators and tables with the names of those below, and a role or a database its own settings.
+SET search_path = pg_catalog, pg_temp;
+SET standard_conforming_strings = on;
+SET quote_all_identifiers = off;
+-- The script has the bytes that the server compares.
+SELECT set_config('client_encoding', getdatabaseencoding(), false) AS encoding \gset
 \if :{?schema}
 \else
     \set schema public
 \endif
-WITH
+WITH RECURSIVE
 -- Words that pgplan never takes as names.
 reserved AS (
     SELECT string_to_array('and as asc create cross desc false from group inner is join limit not null offset on or order select '
                            'table true using where with', ' ') AS words),
--- Whether texts without a collation of their own are compared byte by byte in this database.
+-- Locales of the C library that compare texts byte by byte.
+bytes AS (SELECT '^(C|POSIX|C\.(UTF|utf)-?8)$' AS locale),
+-- Whether the database's default collation compares byte by byte, and whether each collation does.
 database AS (
-    SELECT CASE coalesce(to_jsonb(d) ->> 'datlocprovider', 'c') WHEN 'c' THEN d.datcollate IN ('C', 'POSIX') ELSE
+    SELECT CASE coalesce(to_jsonb(d) ->> 'datlocprovider', 'c') WHEN 'c' THEN d.datcollate ~ b.locale ELSE
                 to_jsonb(d) ->> 'datlocprovider' = 'b' END AS by_bytes
-    FROM pg_database d WHERE d.datname = current_database()),
+    FROM pg_database d, bytes b WHERE d.datname = current_database()),
+collated AS (
+    SELECT k.oid, CASE coalesce(to_jsonb(k) ->> 'collprovider', 'c') WHEN 'd' THEN d.by_bytes WHEN 'c' THEN k.collcollate ~ b.locale ELSE
+                      to_jsonb(k) ->> 'collprovider' = 'b' END AS by_bytes
+    FROM pg_collation k, database d, bytes b),
 relation AS (
     SELECT c.oid, c.relname::text AS name, c.relkind AS kind, c.reltuples AS tuples, c.relpages AS pages,
            c.relname ~ '^[a-z_][a-z0-9_$]*$' AND c.relname <> ALL (r.words) AS spelt
     FROM pg_class c JOIN pg_namespace n ON n.oid = c.relnamespace, reserved r
     WHERE n.nspname = :'schema' AND c.relkind IN ('r', 'p', 'v', 'm', 'f')),
+-- A column whose type pgplan does not have becomes a stand-in: a text column without statistics, so that * names it.
 typed AS (
     SELECT r.oid, r.name AS tab, a.attnum, a.attname::text AS name, a.attnotnull, format_type(a.atttypid, a.atttypmod) AS theirs,
-           CASE a.atttypid WHEN 'int2'::regtype THEN 'int2' WHEN 'int4'::regtype THEN 'int4' WHEN 'int8'::regtype THEN 'int8'
-                WHEN 'text'::regtype THEN 'text' WHEN 'varchar'::regtype THEN 'text' WHEN 'bool'::regtype THEN 'bool' END AS typ,
+           coalesce(k.typ, 'text') AS typ, k.typ IS NULL AS stand_in, y.typcategory = 'C' AS is_row, a.attcollation,
            a.atttypid = 'varchar'::regtype AS is_varchar,
-           a.attname ~ '^[a-z_][a-z0-9_$]*$' AND a.attname <> ALL (w.words) AS spelt,
-           a.attcollation IN (0, 'pg_catalog."C"'::regcollation, 'pg_catalog."POSIX"'::regcollation)
-               OR a.attcollation = 'pg_catalog."default"'::regcollation AND d.by_bytes AS by_bytes
-    FROM relation r JOIN pg_attribute a ON a.attrelid = r.oid, reserved w, database d
+           a.attname ~ '^[a-z_][a-z0-9_$]*$' AND a.attname <> ALL (w.words) AS spelt, coalesce(l.by_bytes, true) AS by_bytes
+    FROM relation r JOIN pg_attribute a ON a.attrelid = r.oid JOIN pg_type y ON y.oid = a.atttypid
+    LEFT JOIN collated l ON l.oid = a.attcollation
+    LEFT JOIN (VALUES ('int2'::regtype, 'int2'), ('int4', 'int4'), ('int8', 'int8'), ('text', 'text'), ('varchar', 'text'), ('bool', 'bool'))
+        AS k(theirs, typ) ON k.theirs = a.atttypid, reserved w
     WHERE r.kind = 'r' AND r.spelt AND a.attnum > 0 AND NOT a.attisdropped),
-numbered AS (
-    SELECT t.*, row_number() OVER (PARTITION BY t.oid, t.typ IS NOT NULL AND t.spelt ORDER BY t.attnum) AS place FROM typed t),
-col AS (SELECT * FROM numbered WHERE typ IS NOT NULL AND spelt AND place <= 32),
+numbered AS (SELECT t.*, row_number() OVER (PARTITION BY t.oid, t.spelt ORDER BY t.stand_in, t.attnum) AS place FROM typed t),
+col AS (SELECT * FROM numbered WHERE spelt AND place <= 32),
 tab AS (
     SELECT r.*, row_number() OVER (ORDER BY r.name) AS place FROM relation r
     WHERE r.kind = 'r' AND r.spelt AND EXISTS (SELECT FROM col WHERE col.oid = r.oid)),
@@ -58,34 +71,73 @@ index AS (
                 WHEN (SELECT count(DISTINCT k) < i.indnatts FROM unnest(i.indkey::int2[]) k) THEN 'a column stands twice'
                 WHEN EXISTS (SELECT FROM unnest(i.indkey::int2[]) k WHERE NOT EXISTS (SELECT FROM col WHERE col.oid = t.oid AND col.attnum = k))
                     THEN 'a column is left out'
+                WHEN k.theirs IS NOT NULL THEN 'a key of type ' || k.theirs
+                WHEN k.collates THEN 'the collation of a key'
                 WHEN EXISTS (SELECT FROM unnest(i.indclass::oid[]) k JOIN pg_opclass o ON o.oid = k WHERE NOT o.opcdefault)
                     THEN 'its operator class' END AS bar
-    FROM kept_tab t JOIN pg_index i ON i.indrelid = t.oid JOIN pg_class c ON c.oid = i.indexrelid JOIN pg_am m ON m.oid = c.relam, reserved w),
--- The condition of a partial index: casts of literals and of columns are taken away, a column's test by an array of literals is IN or
--- NOT IN, and what is left has to be in pgplan's grammar.
-uncast AS (
-    SELECT i.*, regexp_replace(regexp_replace(regexp_replace(i.pred,
-               '(''(?:[^'']|'''')*'')::(?:text|bigint|integer|smallint|boolean|character varying)(?![\[\w(])', '\1', 'g'),
-               '\((-?\d+)\)::(?:bigint|integer|smallint)', '\1', 'g'),
-               '\(([a-z_][a-z0-9_$]*)\)::text(?![\[\w(])', '\1', 'g') AS cond
-    FROM index i),
-array_of AS (
-    SELECT '\(\(?ARRAY\[(' || e || '(?:, ' || e || ')*)\](?:\)::text\[\])?\)' AS literals FROM (SELECT '(?:''(?:[^'']|'''')*''|\d+|true|false)' AS e) one),
-bare AS (
-    SELECT u.*, regexp_replace(l.cond, '''(?:[^'']|'''')*''', '0', 'g') AS shape, l.cond AS listed
-    FROM uncast u, array_of a, LATERAL (
-        SELECT regexp_replace(regexp_replace(u.cond, '([a-z0-9_$]) = ANY ' || a.literals, '\1 IN (\2)', 'g'),
-                              '([a-z0-9_$]) <> ALL ' || a.literals, '\1 NOT IN (\2)', 'g') AS cond) l),
+    FROM kept_tab t JOIN pg_index i ON i.indrelid = t.oid JOIN pg_class c ON c.oid = i.indexrelid JOIN pg_am m ON m.oid = c.relam
+    CROSS JOIN LATERAL (
+        SELECT min(col.theirs) FILTER (WHERE col.stand_in) AS theirs, bool_or(k.sorts <> col.attcollation) AS collates
+        FROM unnest(i.indkey::int2[], i.indcollation::oid[]) WITH ORDINALITY AS k(att, sorts, n)
+        JOIN col ON col.oid = t.oid AND col.attnum = k.att WHERE k.n <= i.indnkeyatts) k, reserved w),
+-- The condition of a partial index is split into words. A literal with its cast is one word, whatever its quotes contain. So is a
+-- comparison with an array of literals, which is what the server makes of IN, and so is a column with its cast to text. Backslashes
+-- stand for themselves, as standard_conforming_strings is on.
+literal AS (
+    SELECT $$'(?:[^']|'')*'::(?:text|character varying|bigint|integer|smallint)(?![\[a-zA-Z0-9_(])$$
+        || $$|\('(?:[^']|'')*'::character varying\)::text(?![\[a-zA-Z0-9_(])$$
+        || $$|\([0-9]+\)::(?:bigint|smallint)|[0-9]+|true|false$$ AS pattern),
+word AS (
+    SELECT i.oid, i.tab_oid, w.n, w.word[1] AS word, w.word[1] ~ '^(= ANY|<> ALL) ' AS is_list,
+           w.word[1] ~ ('^(?:' || l.pattern || ')$') AS is_literal, l.pattern
+    FROM index i, literal l, regexp_matches(i.pred, replace($$(?:= ANY|<> ALL) \((?:ARRAY\[(?:@)(?:, (?:@))*\]|\(ARRAY\[(?:@)(?:, (?:@))*\]\)::text\[\])\)$$
+        || $$|@|'(?:[^']|'')*'|\([a-z_][a-z0-9_$]*\)::text(?![\[a-zA-Z0-9_(])|IS (?:NOT )?NULL|[a-zA-Z_][a-zA-Z0-9_$]*|[<=>!]+|.$$, '@', l.pattern), 'g')
+        WITH ORDINALITY AS w(word, n)
+    WHERE i.bar IS NULL),
+-- Numbers are written without quotes and texts without casts. A literal's kind is n for a number, q for a text and c for a boolean.
+value AS (
+    SELECT w.oid, w.n, v.place, v.of[1] AS literal, substring(v.of[1] FROM $$'(?:[^']|'')*'$$) AS quoted,
+           CASE WHEN v.of[1] IN ('true', 'false') THEN 'c' WHEN v.of[1] ~ '^\(?[0-9]|::(bigint|integer|smallint)$' THEN 'n' ELSE 'q' END AS kind
+    FROM word w, regexp_matches(w.word, w.pattern, 'g') WITH ORDINALITY AS v(of, place) WHERE w.is_list OR w.is_literal),
+plain AS (
+    SELECT v.*, CASE v.kind WHEN 'c' THEN v.literal WHEN 'n' THEN substring(v.literal FROM '-?[0-9]+') ELSE v.quoted END AS text FROM value v),
+sized_value AS (
+    SELECT p.*, octet_length(CASE p.kind WHEN 'q' THEN replace(substr(p.text, 2, length(p.text) - 2), '''''', '''') ELSE '' END) AS bytes FROM plain p),
+listed AS (
+    SELECT s.oid, s.n, string_agg(s.text, ', ' ORDER BY s.place) AS text, count(*) AS count,
+           CASE WHEN min(s.kind) = max(s.kind) AND max(s.bytes) <= 8192 THEN min(s.kind) ELSE '?' END AS kind
+    FROM sized_value s GROUP BY s.oid, s.n),
+-- A word's kind is one character: i, t or b for a column of integers, texts or booleans, x for a stand-in, N, Q or C for a list, Z for a
+-- null test, o for a comparison operator, & for AND and OR, ! for NOT, and ? for whatever pgplan does not have.
+meant AS (
+    SELECT w.oid, w.n, l.count,
+           CASE WHEN w.is_literal THEN l.text WHEN w.is_list THEN CASE WHEN w.word LIKE '=%' THEN 'IN (' ELSE 'NOT IN (' END || l.text || ')'
+                WHEN c.name IS NOT NULL THEN c.name ELSE w.word END AS text,
+           CASE WHEN w.is_literal THEN l.kind WHEN w.is_list THEN upper(l.kind)
+                WHEN w.word ~ '^\([a-z]' THEN CASE WHEN c.is_varchar THEN 't' ELSE '?' END
+                WHEN c.is_row THEN '?' WHEN c.stand_in THEN 'x' WHEN c.typ LIKE 'int%' THEN 'i' WHEN c.typ IS NOT NULL THEN left(c.typ, 1)
+                WHEN w.word IN ('IS NULL', 'IS NOT NULL') THEN 'Z' WHEN w.word IN ('=', '<>', '<', '<=', '>', '>=') THEN 'o'
+                WHEN w.word IN ('AND', 'OR') THEN '&' WHEN w.word = 'NOT' THEN '!' WHEN w.word IN ('(', ')') THEN w.word WHEN w.word = ' ' THEN ''
+                ELSE '?' END AS kind
+    FROM word w LEFT JOIN listed l ON l.oid = w.oid AND l.n = w.n
+    LEFT JOIN col c ON c.oid = w.tab_oid AND NOT w.is_literal AND c.name = regexp_replace(w.word, '^\(([a-z_][a-z0-9_$]*)\)::text$', '\1')),
+-- Comparisons, null tests and boolean columns become @. pgplan allows 256 of them, and each literal of a list is one.
+shape AS (
+    SELECT m.oid, string_agg(m.text, '' ORDER BY m.n) AS cond, coalesce(sum(m.count - 1) FILTER (WHERE m.count > 1), 0) AS further,
+           regexp_replace(string_agg(m.kind, '' ORDER BY m.n), '[in]o[in]|[tq]o[tq]|[bc]o[bc]|iN|tQ|bC|[itbx]Z|b', '@', 'g') AS atoms
+    FROM meant m GROUP BY m.oid),
+-- Each step removes the innermost level, a pair of parentheses or a NOT. pgplan allows 32. A condition that it can read ends as @.
+level AS (
+    SELECT s.oid, 0 AS level, replace(s.atoms, 'c', '@') AS form FROM shape s
+    UNION ALL
+    SELECT l.oid, l.level + 1, regexp_replace(l.form, '\(@(?:&@)*\)|!@', '@', 'g') FROM level l WHERE l.level < 32 AND l.form <> '@'),
 judged AS (
-    SELECT b.*, CASE WHEN b.bar IS NOT NULL OR b.cond IS NULL THEN b.bar
-        WHEN b.cond ~ 'E''' OR b.shape !~ '^[a-zA-Z0-9_$ (),<>=!]*$' OR b.shape ~ '[a-z0-9_$]\(|\) (IS|[<=>!])|[<=>] \(|IS (NOT )?(TRUE|FALSE|UNKNOWN)'
-            OR EXISTS (SELECT FROM regexp_matches(b.shape, '[a-zA-Z_][a-zA-Z0-9_$]*', 'g') AS w(word)
-                       WHERE lower(w.word[1]) NOT IN ('and', 'or', 'not', 'is', 'in', 'null', 'true', 'false')
-                         AND NOT EXISTS (SELECT FROM col WHERE col.oid = b.tab_oid AND col.name = w.word[1]))
-            OR EXISTS (SELECT FROM regexp_matches(b.cond, '''(?:[^'']|'''')*''', 'g') AS q(quoted) WHERE q.quoted[1] LIKE '%ARRAY[%')
-            OR cardinality(string_to_array(b.shape, ',')) > 200
-            THEN 'its condition ' || b.pred END AS why
-    FROM bare b),
+    SELECT i.*, s.cond AS listed,
+           CASE WHEN i.bar IS NULL AND i.pred IS NOT NULL
+                     AND (NOT EXISTS (SELECT FROM level l WHERE l.oid = i.oid AND l.form = '@')
+                          OR length(s.atoms) - length(replace(s.atoms, '@', '')) + s.further > 256)
+                THEN 'its condition ' || CASE WHEN length(i.pred) > 300 THEN left(i.pred, 300) || ' ..' ELSE i.pred END ELSE i.bar END AS why
+    FROM index i LEFT JOIN shape s ON s.oid = i.oid),
 placed AS (SELECT j.*, row_number() OVER (PARTITION BY j.tab_oid, j.why IS NULL ORDER BY j.name) AS place FROM judged j),
 written AS (
     SELECT p.*, 'CREATE INDEX ' || p.name || ' ON ' || p.tab || CASE WHEN p.method = 'hash' THEN ' USING hash' ELSE '' END || ' ('
@@ -100,8 +152,10 @@ written AS (
 found AS (
     SELECT col.oid, col.tab, col.attnum, col.name, col.typ, col.by_bytes, s.null_frac, s.most_common_vals::text::text[] AS vals,
            s.most_common_freqs AS freqs, s.histogram_bounds::text::text[] AS bounds, floor(s.null_frac * 1000000)::int8 AS nulls,
-           least(1e9, greatest(1, round(CASE WHEN s.n_distinct < 0 THEN -s.n_distinct * greatest(1, t.tuples) ELSE s.n_distinct END::numeric)))::int8 AS d
-    FROM kept_tab t JOIN col ON col.oid = t.oid
+           least(1e9, greatest(1, round(CASE WHEN s.n_distinct < 0 THEN -s.n_distinct * greatest(1, t.tuples) ELSE s.n_distinct END::numeric)))::int8 AS d,
+           typ <> 'text' OR col.by_bytes AND s.histogram_bounds::text::text[] = (
+               SELECT array_agg(b.value ORDER BY b.value COLLATE "C") FROM unnest(s.histogram_bounds::text::text[]) AS b(value)) AS in_order
+    FROM kept_tab t JOIN col ON col.oid = t.oid AND NOT col.stand_in
     JOIN pg_stats s ON s.schemaname = :'schema' AND s.tablename = t.name AND s.attname = col.name AND NOT s.inherited
     WHERE t.tuples >= 0),
 common AS (
@@ -112,7 +166,7 @@ common AS (
 bound AS (
     SELECT f.oid, f.attnum, b.value, b.n
     FROM found f, unnest(f.bounds) WITH ORDINALITY AS b(value, n)
-    WHERE (f.typ <> 'text' OR f.by_bytes) AND cardinality(f.bounds) >= 2
+    WHERE f.in_order AND cardinality(f.bounds) >= 2
       AND (cardinality(f.bounds) <= 101
            OR b.n IN (SELECT 1 + j::int8 * (cardinality(f.bounds) - 1) / 100 FROM generate_series(0, 100) j))),
 known AS (
@@ -131,7 +185,7 @@ line AS (
     SELECT '', 0, '', 2, '-- There is no such schema.' WHERE NOT EXISTS (SELECT FROM pg_namespace WHERE nspname = :'schema')
     UNION ALL
     SELECT '', 0, '', 1, '-- Texts compare byte by byte in pgplan, also where their collation here says otherwise.'
-    WHERE EXISTS (SELECT FROM col WHERE typ = 'text' AND NOT by_bytes)
+    WHERE EXISTS (SELECT FROM col WHERE typ = 'text' AND NOT stand_in AND NOT by_bytes)
     UNION ALL
     SELECT r.name, 1, '', 0, '-- left out: ' || CASE r.kind WHEN 'p' THEN 'partitioned table ' WHEN 'v' THEN 'view ' WHEN 'm' THEN 'materialized view '
         WHEN 'f' THEN 'foreign table ' ELSE 'table ' END || quote_ident(r.name)
@@ -140,11 +194,12 @@ line AS (
     FROM relation r LEFT JOIN tab t ON t.oid = r.oid WHERE r.kind <> 'r' OR t.place IS NULL OR t.place > 64
     UNION ALL
     SELECT t.name, 2, '', c.attnum, '-- left out: column ' || quote_ident(t.name) || '.' || quote_ident(c.name) || ' of type ' || c.theirs
-        || CASE WHEN c.typ IS NULL THEN '' WHEN NOT c.spelt THEN ' (its name)' ELSE ' (more than 32 columns)' END
-    FROM kept_tab t JOIN numbered c ON c.oid = t.oid WHERE c.typ IS NULL OR NOT c.spelt OR c.place > 32
+        || CASE WHEN NOT c.spelt THEN ' (its name)' ELSE ' (more than 32 columns)' END
+    FROM kept_tab t JOIN numbered c ON c.oid = t.oid WHERE NOT c.spelt OR c.place > 32
     UNION ALL
-    SELECT t.name, 3, '', c.attnum, '-- as text: column ' || t.name || '.' || c.name || ' of type ' || c.theirs
-    FROM kept_tab t JOIN col c ON c.oid = t.oid WHERE c.is_varchar
+    SELECT t.name, 3, '', c.attnum, CASE WHEN c.stand_in THEN '-- as text, without statistics: column ' ELSE '-- as text: column ' END
+        || t.name || '.' || c.name || ' of type ' || c.theirs
+    FROM kept_tab t JOIN col c ON c.oid = t.oid WHERE c.is_varchar OR c.stand_in
     UNION ALL
     SELECT t.name, 4, '', 0, 'CREATE TABLE ' || t.name || ' ('
         || (SELECT string_agg(c.name || ' ' || c.typ || CASE WHEN c.attnotnull THEN ' NOT NULL' ELSE '' END, ', ' ORDER BY c.attnum)
@@ -170,10 +225,19 @@ line AS (
     SELECT k.tab, 8, '', k.attnum * 3 - 1, '-- left out: ' || cardinality(k.vals) - 16 || ' further common values of ' || k.tab || '.' || k.name
     FROM known k WHERE cardinality(k.vals) > 16
     UNION ALL
-    SELECT k.tab, 8, '', k.attnum * 3 - 2, '-- left out: the histogram of ' || k.tab || '.' || k.name || ' (its collation is not C)'
-    FROM known k WHERE k.typ = 'text' AND NOT k.by_bytes AND k.bounds IS NOT NULL
+    SELECT k.tab, 8, '', k.attnum * 3 - 2, '-- left out: the histogram of ' || k.tab || '.' || k.name
+        || CASE WHEN k.by_bytes THEN ' (its bounds are not in the order of their bytes)' ELSE ' (its collation is not C)' END
+    FROM known k WHERE NOT k.in_order AND k.bounds IS NOT NULL
     UNION ALL
     SELECT t.name, 9, e.stxname::text, 0, '-- left out: extended statistics ' || quote_ident(e.stxname::text) || ' on ' || t.name
-    FROM kept_tab t JOIN pg_statistic_ext e ON e.stxrelid = t.oid)
+    FROM kept_tab t JOIN pg_statistic_ext e ON e.stxrelid = t.oid),
+-- A script has at most 16 MiB. After 15 million bytes only CREATE TABLE is written.
+sized AS (
+    SELECT l.*, l.part = 4 OR sum(octet_length(l.text) + 1) OVER (ORDER BY l.tab, l.part, l.key, l.n) <= 15000000 AS fits FROM line l)
 -- A comment ends at its line's end.
-SELECT CASE WHEN text LIKE '--%' THEN regexp_replace(text, '[\n\r]', ' ', 'g') ELSE text END FROM line ORDER BY tab, part, key, n;
+SELECT CASE WHEN text LIKE '--%' THEN regexp_replace(text, '[\n\r]', ' ', 'g') ELSE text END
+FROM (SELECT 0 AS last, tab, part, key, n, text FROM sized WHERE fits
+      UNION ALL
+      SELECT 1, '', 0, '', 0, '-- left out: the last ' || count(*) || ' lines that are no CREATE TABLE (a script has at most 16 MiB)'
+      FROM sized WHERE NOT fits HAVING count(*) > 0) shown
+ORDER BY last, tab, part, key, n;

@@ -31,7 +31,7 @@ module _ (c : Contents) (q : Query) (r : RelNo) where
     pub matches : MatchesArm c q r.0 arm i
     pub least : (j : IndexNo) → MatchesArm c q r.0 arm j → capped (part_for arm i) ≤ capped (part_for arm j)
 
-  -- such an index for each arm, and their parts together, once cut
+  -- each arm has a matching index of least part, and these are their parts together, once cut
   pub record AreServed (arms : List Cond) (is : List IndexNo) (n : ℕ) : Type 0 where
     pub least : AllZip IsLeastMatch arms is
     pub part : n ≡ capped (together (parts_of_arms c q r arms is))
@@ -40,6 +40,6 @@ module _ (c : Contents) (q : Query) (r : RelNo) where
   abbrev pub AreArmsMatched : List Expr → Type 0
   AreArmsMatched es = All (λ (e : Expr). (i : IndexNo) × MatchesArm c q r.0 (view.cond e) i) es
 
-  -- so for the arms that expressions are
+  -- each of some expressions as an arm has a matching index of least part, and these are their parts together, once cut
   abbrev pub AreArmsServed : List Expr → List IndexNo → ℕ → Type 0
   AreArmsServed es is n = AreServed (map view.cond es) is n

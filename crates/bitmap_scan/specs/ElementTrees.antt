@@ -85,7 +85,7 @@ module _ (c : Contents) (q : Query) (at : Place) where
   abbrev pub HasLeastTree : Element → ElementTree → Type 0
   HasLeastTree e k = IsLeastTree c q at.rel at.param e (tree_in k)
 
-  -- so for each of some elements, in their order
+  -- each of some elements, in their order, is kept in its tree of least part
   abbrev pub HaveLeastTrees : List Chosen → List ElementTree → Type 0
   HaveLeastTrees es ks = AllZip (IsLeastTree c q at.rel at.param) (map element es) (map tree_in ks)
 
@@ -99,11 +99,12 @@ module _ (c : Contents) (q : Query) (at : Place) where
       IsPlanOf c q (one at.rel.0) (has at.param.0) (bitmap at.rel at.param (combined bs)) →
       IsAdmissible c q (bitmap at.rel at.param (combined bs)) → HasDominating c q (map path paths) (bitmap at.rel at.param (combined bs))
 
-  -- so of elements that are lent
+  -- the bitmap scan over the trees of lent elements together is dominated by a path of a list, where it is of the space and
+  -- admissible
   abbrev pub AreLentTogether : List (Bor ElementTree) → List Costed → Type 0
   AreLentTogether chosen paths = AreTogetherIn (lent_trees chosen) paths
 
-  -- so of the marked ones
+  -- the bitmap scan over the marked trees together is dominated by a path of a list, where it is of the space and admissible
   abbrev pub AreMarkedTogether : Marked → List Costed → Type 0
   AreMarkedTogether m paths = AreTogetherIn (marked_trees m) paths
 

@@ -19,8 +19,7 @@ use plan_tree::{BitTree, BitTrees, classes_of};
 use sql_query::Prepared;
 use std::alloc::Global;
 
-/// The elements that the binary digits of a number mark, the lowest digit the first element. The error means want of
-/// memory.
+/// The elements that the binary digits of a number mark, the lowest digit the first element. The error means out of memory.
 pub(crate) fn chosen_by<'a>(
     alloc: Global,
     kept: &'a [ElementTree],
@@ -102,7 +101,7 @@ pub(crate) fn parts_together(chosen: &[&ElementTree]) -> u64
     sum
 }
 
-/// The tree of some elements: the one, or the AND of several. The error means want of memory.
+/// The tree of some elements: the one, or the AND of several. The error means out of memory.
 pub(crate) fn combine(alloc: Global, chosen: &[&ElementTree]) -> Result<BitTree, Memory>
     requires some { 1 ≤ length chosen.now }
     ensures { IfOk result (λ b. bits b ≡ combined (map (λ k. tree_in k.now) chosen.now)) }

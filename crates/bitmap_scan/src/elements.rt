@@ -51,7 +51,7 @@ fn only(q: &Prepared, n: u16) -> ClauseSet
     set
 }
 
-/// An OR clause that is an element. The error means want of memory.
+/// An OR clause that is an element. The error means out of memory.
 fn keep_clause(
     alloc: Global,
     cat: &Catalog,
@@ -82,7 +82,7 @@ fn keep_clause(
     })
 }
 
-/// An element. The error means want of memory.
+/// An element. The error means out of memory.
 fn keep(
     alloc: Global,
     cat: &Catalog,
@@ -103,7 +103,7 @@ fn keep(
     }
 }
 
-/// Each of some elements, in their order. The error means want of memory.
+/// Each of some elements, in their order. The error means out of memory.
 pub(crate) fn keep_all(
     alloc: Global,
     cat: &Catalog,

@@ -54,9 +54,9 @@ fn has_cheaper(paths: &[Path], at: Place, cost: u64) -> bool
     false
 }
 
-/// Offers the bitmap scan over the tree of some elements, where there are some and the other relations that their
-/// clauses name are exactly those of the parameterisation. It is not made where a path costs no more in all than their parts,
-/// which it costs before its first row. The error means want of memory.
+/// Offers the bitmap scan over the tree of some elements, where there are some and the other relations that their clauses name
+/// are exactly those of the parameterisation. It is not made where a path costs no more in all than their parts, which it costs
+/// before its first row. The error means out of memory.
 fn offer_chosen(
     alloc: Global,
     cat: &Catalog,
@@ -100,7 +100,7 @@ fn offer_chosen(
 }
 
 /// Offers the bitmap scan over the tree of the marked elements, where the other relations that they name are those of the
-/// parameterisation. The error means want of memory.
+/// parameterisation. The error means out of memory.
 fn offer_marked(
     alloc: Global,
     cat: &Catalog,
@@ -126,12 +126,12 @@ fn offer_marked(
     offer_chosen(alloc, cat, q, at, &chosen, front)
 }
 
-/// Offers a front the bitmap scans of relation `r` where the rows of `p` are given: for each set of the first elements
-/// that names exactly the relations of `p` beside `r`, the scan over the tree of least part. Trees of the same elements
-/// differ in their parts alone, and the cost does not fall where these do not, so every admissible bitmap scan of the
-/// plan space is then dominated. Elements are the usable indexes with a condition, then the OR clauses each of whose arms
-/// some usable index wholly matches; the first 8 are combined, so there are at most 255 sets. The error means want of
-/// memory: what was offered before stays.
+/// Offers a front the bitmap scans of relation `r` where the rows of `p` are given: for each set of the first elements that
+/// names exactly the relations of `p` beside `r`, the scan over the tree of least part. Trees of the same elements differ in
+/// their parts alone, and the cost does not fall where these do not, so every admissible bitmap scan of the plan space is then
+/// dominated. Elements are the usable indexes with a condition, then the OR clauses each of whose arms some usable index wholly
+/// matches; the first 8 are combined, so there are at most 255 sets. The error means out of memory: what was offered before
+/// stays.
 pub fn bitmaps(
     alloc: Global,
     cat: &Catalog,

@@ -41,7 +41,7 @@ fn better_side(
     }
 }
 
-/// The price of the least of the finished plans over the entries, of which one has the price handed in.
+/// The price of the least of the finished plans over the entries, of which one has the price that was passed.
 fn least_price(cat: &Catalog, q: &Prepared, t: &Certificate, best: Price, rows: u64) -> Price
     requires query { IsOverTables cat.now q.now }
     requires right { AllRight cat.now q.now (certificate t.now) }

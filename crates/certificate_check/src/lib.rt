@@ -1,5 +1,5 @@
-//! Certificates checked. Nothing is trusted of whoever made one: each of its numbers is reckoned anew, every plan that an
-//! entry must dominate is looked at, and its best plan is compared with the finished plans over its entries.
+//! Certificates checked. Nothing is trusted of whoever made one: each of its numbers is computed anew, every plan that an entry
+//! must dominate is looked at, and its best plan is compared with the finished plans over its entries.
 #![tactic(auto)]
 
 mod best;

@@ -39,7 +39,7 @@ fn finished_cost(cat: &Catalog, q: &Prepared, e: &Entry, sort: bool, rows: u64) 
     }
 }
 
-/// Its price.
+/// The price of the plan of an entry, sorted into the order asked for where that is set.
 fn price_of_entry(cat: &Catalog, q: &Prepared, e: &Entry, sort: bool, rows: u64) -> Price
     requires side { IsFinishedEntry cat.now q.now (entry e.now) sort }
     requires rows { rows ≡ query_rows cat.now q.now }

@@ -23,15 +23,15 @@ use Rattle.certificate_entries.specs.declared.kinds.Kind.{Kind}
 abbrev pub HasTextAnywhere : Noded → Type 0
 HasTextAnywhere n = (c : Contents) (q : Query) (s : Set) → HasNodeText c q s (node n)
 
--- the same over one catalogue
+-- a node of the program has a text, as an entry of any set of any query, over one catalogue
 abbrev pub HasTextInCatalog : Contents → Noded → Type 0
 HasTextInCatalog c n = (q : Query) (s : Set) → HasNodeText c q s (node n)
 
--- the same of one query
+-- a node of the program has a text, as an entry of any set of one query
 abbrev pub HasTextInQuery : Contents → Query → Noded → Type 0
 HasTextInQuery c q n = (s : Set) → HasNodeText c q s (node n)
 
--- the same for one set
+-- a node of the program has a text, as an entry of one set of one query
 abbrev pub HasTextInSet : Contents → Query → Set → Noded → Type 0
 HasTextInSet c q s n = HasNodeText c q s (node n)
 

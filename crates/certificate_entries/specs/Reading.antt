@@ -37,7 +37,7 @@ module _ (c : Contents) (q : Query) where
     pub entry : IsNoEntryLine n line
     pub best : IsNoBestLine line
 
-  -- a line is read as the entry of a number, or as the best plan, that has it; a bad line is that of neither. Want of memory
+  -- a line is read as the entry of a number, or as the best plan, that has it; a bad line is that of neither. Out of memory
   -- says nothing
   abbrev pub IsRead : ℕ → List ℕ → Result Line LineFault → Type 0
   IsRead n line (Ok (lines.Entry e)) = IsEntryRead n line (entry e)

@@ -40,7 +40,7 @@ fn read_and(
     }
 }
 
-/// A bitmap tree: an element, or several in parentheses. None where none comes next. The error means want of memory.
+/// A bitmap tree: an element, or several in parentheses. None where none comes next. The error means out of memory.
 pub fn read_bits(
     alloc: Global,
     at: &mut LineCursor,

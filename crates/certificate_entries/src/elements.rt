@@ -85,7 +85,7 @@ pub(crate) fn read_element(
 }
 
 /// Elements, one or more, each behind a comma and a space but the first. None where no such list comes next. The error means
-/// want of memory.
+/// out of memory.
 pub(crate) fn read_elements(
     alloc: Global,
     at: &mut LineCursor,

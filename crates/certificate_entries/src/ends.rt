@@ -58,7 +58,7 @@ pub fn read_best(at: &mut LineCursor) -> Option<Side>
     }
 }
 
-/// Whether this is the line of this best plan. The error means want of memory.
+/// Whether this is the line of this best plan. The error means out of memory.
 pub fn is_best_line(alloc: Global, line: &[u8], s: Side) -> Result<bool, Memory>
     ensures { IfOk result (λ b. IsTrue b ↔ (line.now ≡ texts.best_line (side s))) }
 {

@@ -13,8 +13,8 @@ use pg_base::{Memory, RelSet};
 use sql_query::Prepared;
 use std::alloc::Global;
 
-/// Keys, one or more, each behind a comma and a space but the first. None where no such list comes next. The error means
-/// want of memory.
+/// Keys, one or more, each behind a comma and a space but the first. None where no such list comes next. The error means out of
+/// memory.
 pub fn read_keys(
     alloc: Global,
     at: &mut LineCursor,

@@ -51,7 +51,7 @@ fn are_different(keys: &[ClassNo]) -> bool
     true
 }
 
-/// A key list of one key or more. None where none comes next, and where a class stands in it twice. The error means want of
+/// A key list of one key or more. None where none comes next, and where a class stands in it twice. The error means out of
 /// memory.
 pub fn read_key_list(
     alloc: Global,

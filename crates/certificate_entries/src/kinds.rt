@@ -11,7 +11,7 @@ pub(crate) enum Kind {
     Seq,
     /// A scan by an index.
     Index,
-    /// The same with the columns taken from the index's entries.
+    /// A scan by an index with the columns taken from its entries.
     IndexOnly,
     /// A scan by a bitmap tree.
     Bitmap,

@@ -10,8 +10,8 @@ use certificate_text::LineCursor;
 use pg_base::{IndexNo, Memory};
 use std::alloc::Global;
 
-/// The entries of indexes, one or more, each behind a comma and a space but the first. None where no such list comes next.
-/// The error means want of memory.
+/// The entries of indexes, one or more, each behind a comma and a space but the first. None where no such list comes next. The
+/// error means out of memory.
 pub fn read_leaves(
     alloc: Global,
     at: &mut LineCursor,

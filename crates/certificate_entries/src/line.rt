@@ -22,7 +22,7 @@ pub enum Line {
 pub enum LineFault {
     /// No entry and no best plan has this line.
     Bad,
-    /// Want of memory.
+    /// Out of memory.
     Memory,
 }
 

@@ -44,7 +44,7 @@ fn index_node(at: &mut LineCursor, cat: &Catalog) -> Option<Node>
     Some(Node::Index(index, backward))
 }
 
-/// The same with the columns taken from the index's entries.
+/// An index-only scan, behind its words.
 fn index_only_node(at: &mut LineCursor, cat: &Catalog) -> Option<Node>
     ensures has { IfSome result (λ n. HasTextInCatalog cat.now n) }
     ensures only { ReadsScanNode cat.now certs.by_index_only at.old at.new result }
@@ -124,7 +124,7 @@ fn read_behind(
     }
 }
 
-/// What an entry of a set is. None where that of none comes next. The error means want of memory.
+/// What an entry of a set is. None where that of none comes next. The error means out of memory.
 pub fn read_node(
     alloc: Global,
     at: &mut LineCursor,

@@ -12,12 +12,13 @@ use Rattle.plan_check.specs.Certificates.{Entry, by_seq}
 abbrev pub by_number : (Entry → ℕ) → Entry → Entry → Ordering
 by_number number a b = nat_cmp (number a) (number b)
 
--- by the numbers of their classes, place by place; a list stands before each longer one that begins with it
+-- the order of two entries by the numbers of their classes, place by place; a list stands before each longer one that begins
+-- with it
 abbrev pub by_keys : Entry → Entry → Ordering
 by_keys a b = slice_cmp nat_cmp a.keys b.keys
 
--- by the size of the set, then by the set, the parameterisation and the cost, each as a number, by the startup, which is 0
--- without a window, and at last by the keys
+-- the order in which entries are printed: by the size of the set, then by the set, the parameterisation and the cost, each as a
+-- number, by the startup, which is 0 without a window, and at last by the keys
 abbrev pub printing_order : Entry → Entry → Ordering
 printing_order = one_after_other
     (by_number (λ e. relation_count e.set) ∷
@@ -31,6 +32,6 @@ printing_order = one_after_other
 abbrev pub said : Path → Entry
 said x = record { set = x.set; param = x.param; node = by_seq; startup = x.startup; cost = x.cost; rows = x.rows; keys = x.keys }
 
--- the same order of paths
+-- the order in which two paths are printed, by what they say of themselves
 abbrev pub path_order : Path → Path → Ordering
 path_order x y = printing_order (said x) (said y)

@@ -42,7 +42,7 @@ module _ (q : Query) where
       (s p : RelSet) (rest : List ℕ) → AreSets s p → (get_or rest 0 0 == 102) ≡ false →
       old ≡ set_text q s ++ (param_text q p ++ (codes " " ++ rest)) → (result ≡ Some (s, p)) × (new ≡ rest)
 
-  -- the same behind the entry's number
+  -- an entry's number, its set, of one relation or more, and its parameterisation are read, and what follows is left
   abbrev pub ReadsHead : ℕ → List ℕ → List ℕ → Option (RelSet × RelSet) → Type 0
   ReadsHead n old new result =
       (s p : RelSet) (rest : List ℕ) → AreSets s p → (get_or rest 0 0 == 102) ≡ false →

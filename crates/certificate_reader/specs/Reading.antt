@@ -76,12 +76,12 @@ module _ (c : Contents) (q : Query) where
     pub is : certificate_text c q t ≡ block
     pub only : IsOnlyCertificate block t
 
-  -- a block is no text, and that is its line at fault; want of memory says nothing
+  -- a block is no text, and that is its wrong line; running out of memory says nothing
   abbrev pub IsFault : List ℕ → CertFault → Type 0
   IsFault block (faults.C1 line) = IsFaultLine c q block line × ¬ IsText c q block
   IsFault block faults.Memory = Unit {0}
 
-  -- what reading a block comes to: the only certificate of this text, or the line at fault
+  -- what reading a block comes to: the only certificate of this text, or the wrong line
   abbrev pub IsBlock : List ℕ → Result Certified CertFault → Type 0
   IsBlock block (Ok t) = IsBlockRead block (certificate t)
   IsBlock block (Err fault) = IsFault block fault

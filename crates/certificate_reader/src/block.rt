@@ -22,7 +22,7 @@ pub enum CertFault {
         /// The line, from 1.
         line: u32,
     },
-    /// Want of memory.
+    /// Out of memory.
     Memory,
 }
 
@@ -86,7 +86,7 @@ fn line_number(q: &Prepared, entries: usize) -> u32
     }
 }
 
-/// Puts an entry behind others. The error means want of memory.
+/// Puts an entry behind others. The error means out of memory.
 fn push(entries: &mut Vec<Entry>, made: Entry) -> Result<(), Memory>
     ensures { OnOk result (GetsEntry entries.old entries.new made) }
 {
@@ -94,7 +94,7 @@ fn push(entries: &mut Vec<Entry>, made: Entry) -> Result<(), Memory>
     Ok(())
 }
 
-/// The certificate of some entries and a best plan, where nothing is left of the block; else the next line is at fault.
+/// The certificate of some entries and a best plan, where nothing is left of the block; else the next line is wrong.
 fn ended_by(
     alloc: Global,
     cat: &Catalog,
@@ -159,9 +159,9 @@ fn read_lines<R: ReadLine>(
     })
 }
 
-/// Reads a block as the text of a certificate of a query, by a reader of one line. The conditions are that the query is
-/// bound to the catalogue, and that the block has at most 2^31 bytes. A certificate comes exactly where the block is its
-/// text, and no other one has that text. C1 is told where the block is no certificate text, with the line at fault.
+/// Reads a block as the text of a certificate of a query, by a reader of one line. The conditions are that the query is bound
+/// to the catalogue, and that the block has at most 2^31 bytes. A certificate comes exactly where the block is its text, and no
+/// other one has that text. The reason is C1 where the block is no certificate text, with the wrong line.
 pub fn read_block<R: ReadLine>(
     alloc: Global,
     reader: &R,

@@ -12,10 +12,10 @@ use plan_check::Certificate;
 use sql_query::Prepared;
 use std::alloc::Global;
 
-/// Reads a block as the text of a certificate of a query. The conditions are that the query is bound to the catalogue, and
-/// that the block has at most 2^31 bytes. A certificate comes exactly where the block is its text, and no other certificate
-/// has that text. C1 is told where the block is the text of none, with the line at fault: the lines before it begin such a
-/// text, and with it they begin none. Where the query has a window, the first line says so, and it counts.
+/// Reads a block as the text of a certificate of a query. The conditions are that the query is bound to the catalogue, and that
+/// the block has at most 2^31 bytes. A certificate comes exactly where the block is its text, and no other certificate has that
+/// text. The reason is C1 where the block is the text of none, with the wrong line: the lines before it begin such a text, and
+/// with it they begin none. Where the query has a window, the first line says so, and it counts.
 pub fn read_certificate(
     alloc: Global,
     cat: &Catalog,

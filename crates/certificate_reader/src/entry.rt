@@ -30,7 +30,7 @@ fn read_some(at: &mut LineCursor, cat: &Catalog, q: &Prepared) -> Option<(RelSet
 }
 
 /// The number of an entry, its set and its parameterisation, each with the space behind it. None where this number does not
-/// come next, or no sets behind it. The error means want of memory.
+/// come next, or no sets behind it. The error means out of memory.
 fn read_head(
     alloc: Global,
     at: &mut LineCursor,
@@ -67,8 +67,8 @@ fn entry_of(set: RelSet, param: RelSet, node: Node, measures: Measures) -> Entry
     }
 }
 
-/// The entry of a number, from its line without LF. None where no entry has this line; what is read of another line may be
-/// any entry that has one. The error means want of memory.
+/// The entry of a number, from its line without LF. None where no entry has this line; what is read of another line may be any
+/// entry that has one. The error means out of memory.
 pub(crate) fn read_entry(
     alloc: Global,
     at: &mut LineCursor,
@@ -94,7 +94,7 @@ pub(crate) fn read_entry(
     }
 }
 
-/// Whether this is the line of the entry of a number. The condition is that the entry has a line. The error means want of
+/// Whether this is the line of the entry of a number. The condition is that the entry has a line. The error means out of
 /// memory.
 pub(crate) fn is_entry_line(
     alloc: Global,

@@ -14,7 +14,7 @@ use plan_check::{Entry, Side};
 use sql_query::Prepared;
 use std::alloc::Global;
 
-/// The best plan whose line this is. None where it is that of none. The error means want of memory.
+/// The best plan whose line this is. None where it is that of none. The error means out of memory.
 fn best_of(alloc: Global, line: &[u8]) -> Result<Option<Side>, Memory>
     ensures is { IfOk result (λ o. IfSome o (λ s. IsBestRead line.now (side s))) }
     ensures none { IfOk result (λ o. IfNone o (IsNoBestLine line.now)) }
@@ -31,8 +31,8 @@ fn best_of(alloc: Global, line: &[u8]) -> Result<Option<Side>, Memory>
     }
 }
 
-/// The entry that has this line with this number, where it was read for one. None where it has another. The error means want
-/// of memory.
+/// The entry that has this line with this number, where it was read for one. None where it has another. The error means out of
+/// memory.
 fn entry_with(
     alloc: Global,
     cat: &Catalog,

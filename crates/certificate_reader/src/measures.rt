@@ -36,8 +36,8 @@ fn closed(at: &mut LineCursor, keys: Keys) -> Option<Keys>
     if at.eat(b")") { Some(keys) } else { None }
 }
 
-/// The keys of an entry of a set and the parenthesis behind them. None where no key list comes next, or no parenthesis
-/// behind it. The error means want of memory.
+/// The keys of an entry of a set and the parenthesis behind them. None where no key list comes next, or no parenthesis behind
+/// it. The error means out of memory.
 fn read_listed(
     alloc: Global,
     at: &mut LineCursor,
@@ -62,7 +62,7 @@ fn read_listed(
 }
 
 /// What an entry of a set costs, its rows and its keys, up to the end of its line. None where no such text comes next. The
-/// error means want of memory.
+/// error means out of memory.
 pub(crate) fn read_measures(
     alloc: Global,
     at: &mut LineCursor,

@@ -115,7 +115,7 @@ module _ (c : Contents) (q : Query) where
   node_text s (by_nest a b) = nest_text a b
   node_text s (by_merge keys a b) = codes "Merge Join by " ++ (keys_text c q (has s.0) keys ++ sides_text a b)
 
-  -- the same of what an entry of the program is
+  -- the text of what an entry of the program is, beside its set
   abbrev pub node_words : RelSet → Noded → List ℕ
   node_words s n = node_text s (node n)
 
@@ -136,7 +136,7 @@ module _ (c : Contents) (q : Query) where
   abbrev pub entry_line : ℕ → Entry → List ℕ
   entry_line n e = decimal n ++ (codes " " ++ entry_text e)
 
-  -- the same with LF
+  -- the line of the entry of a number, with LF
   abbrev pub ended_line : ℕ → Entry → List ℕ
   ended_line n e = ended (entry_line n e)
 

@@ -156,8 +156,8 @@ fn put_last(alloc: Global, text: &mut Vec<u8>, best: Side) -> Result<(), Memory>
     text.extend_from_slice(b"\n")
 }
 
-/// The line of the entry of a number in the text of a certificate, without its LF. The condition is that the entry has a
-/// line. The error means want of memory.
+/// The line of the entry of a number in the text of a certificate, without its LF. The condition is that the entry has a line.
+/// The error means out of memory.
 pub fn entry_line(
     alloc: Global,
     cat: &Catalog,
@@ -174,7 +174,7 @@ pub fn entry_line(
     Ok(Bytes::from_vec(text))
 }
 
-/// The line of the best plan, without its LF. The error means want of memory.
+/// The line of the best plan, without its LF. The error means out of memory.
 pub fn best_line(alloc: Global, best: Side) -> Result<Bytes, Memory>
     ensures line { IfOk result (λ text. text ≡ best_line (side best)) }
 {
@@ -195,8 +195,8 @@ fn put_head(text: &mut Vec<u8>, q: &Prepared) -> Result<(), Memory>
 
 /// The text of a certificate of a query: a line for each entry, with its number from 1, its relations, what it is, what it
 /// costs in 1/400 of a sequential page, its estimated rows and its keys; then one for the best plan. Where the query has a
-/// window, a line stands before them that says so, and each entry also has what it costs before its first row. The condition
-/// is that the certificate has a text. The error means want of memory.
+/// window, a line stands before them that says so, and each entry also has what it costs before its first row. The condition is
+/// that the certificate has a text. The error means out of memory.
 pub fn certificate_text(
     alloc: Global,
     cat: &Catalog,

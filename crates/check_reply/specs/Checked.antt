@@ -23,7 +23,7 @@ use Rattle.plan_check.specs.declared.verdict.Verdict.TheVariants as verdicts
 abbrev pub valid_line : List ℕ
 valid_line = ended (codes "valid")
 
--- no certificate's text, first at fault at a line
+-- no certificate's text, with its first wrong line
 abbrev pub fault_text : ℕ → List ℕ
 fault_text line = codes "C1 line " ++ decimal line
 
@@ -72,7 +72,7 @@ with_entry t e = record { entries = t.entries ++ e ∷ []; best = t.best }
 
 module _ (c : Contents) (q : Query) where
   module _ (t : Certificate) where
-    -- a plan that one entry must dominate and none does is told by an entry: behind the others that stands for the plan,
+    -- a plan that one entry must dominate and none does is reported as an entry: behind the others that stands for the plan,
     -- with the plan's set, parameterisation, numbers and keys
     pub record IsToldBy (node : Plain) (startup total rows : ℕ) (e : Entry) : Type 0 where
       pub uncovered : IsUncovered c q t node startup total rows
@@ -101,7 +101,7 @@ module _ (c : Contents) (q : Query) where
     pub holds : IsVerdict c q certificate verdict
     pub told : IsVerdictLine certificate verdict bytes
 
-  -- or it is no certificate's text, and bytes are the line that says at which line of the block it is first at fault
+  -- or it is no certificate's text, and bytes are the line that names the first wrong line of the block
   pub record IsFaulty (block bytes : List ℕ) : Type 0 where
     pub line : ℕ
     pub at : IsFaultLine c q block line

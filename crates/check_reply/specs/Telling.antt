@@ -1,4 +1,4 @@
--- The entries that candidates are told by. Own.
+-- The entries by which candidates are reported. Own.
 use Rattle.std.specs.Prelude.{◌≡◌, ◌/◌, ◌%◌, ℕ, cond, nat_eq, List, [], ◌∷◌, length, take, drop, Some}
 use Rattle.pg_base.specs.Sets.{has}
 use Rattle.pg_base.specs.declared.numbers.IndexNo.{IndexNo}
@@ -24,7 +24,7 @@ pub record Tells (c : Contents) (q : Query) (t : Certificate) (set param : RelSe
   pub param_is : IsSameSet (param_of p) (has param.0)
   pub keys_are : keys ≡ keys_of c q p
 
--- so for every plan of the space that a candidate stands for
+-- what an entry says beside its numbers is what each plan of the space is that a candidate stands for
 abbrev pub IsShapeOf : Contents → Query → Certificate → Plain → Shape → Type 0
 IsShapeOf c q t node s = (p : Plan) → StandsForPlan c q t node p → IsBuilt c q p → Tells c q t s.set s.param (seen s.node) s.keys p
 

@@ -23,7 +23,7 @@ use reply_text::invalid_line;
 use sql_query::Prepared;
 use std::alloc::{AllocError, Global};
 
-/// What is said of a reason. The error means want of memory.
+/// What is said of a reason. The error means out of memory.
 fn reason_text(
     alloc: Global,
     cat: &Catalog,
@@ -63,7 +63,7 @@ fn reason_text(
     }
 }
 
-/// The line of a verdict on a certificate. The error means want of memory.
+/// The line of a verdict on a certificate. The error means out of memory.
 fn verdict_line(
     alloc: Global,
     cat: &Catalog,
@@ -86,7 +86,7 @@ fn verdict_line(
     }
 }
 
-/// The line of what is found of a certificate. The error means want of memory.
+/// The line of what is found of a certificate. The error means out of memory.
 fn judged_line(
     alloc: Global,
     cat: &Catalog,
@@ -103,7 +103,7 @@ fn judged_line(
     verdict_line(alloc, cat, q, t, &verdict)
 }
 
-/// The line of a block that is no certificate's text. The error means want of memory.
+/// The line of a block that is no certificate's text. The error means out of memory.
 fn unread_line(alloc: Global, fault: CertFault) -> Result<Vec<u8>, Memory>
     ensures { IfOk result (λ text.
         (n : ℕ) × (fault ≡ faults.C1 n) × (text.items ≡ lines.invalid_line (texts.fault_text n))) }
@@ -118,12 +118,11 @@ fn unread_line(alloc: Global, fault: CertFault) -> Result<Vec<u8>, Memory>
 }
 
 /// What CHECK prints of a block that is given for a certificate of a query, one line with its LF: `valid`, exactly where the
-/// block is the text of a certificate that is a table of the query; else `invalid: ` and the first reason. In order: the
-/// line at which it is no certificate's text; the first entry that is not as it says, or the first number of it that is not
-/// its own; a best plan that is not finished; the first entry that another dominates; a plan that an entry must dominate and
-/// none does, as an entry's line without its number; a best plan that is not the least. The conditions are that the query is
-/// bound to the catalogue, that each OR of it has an arm, and that the block has at most 2^31 bytes. The error means want of
-/// memory.
+/// block is the text of a certificate that is a table of the query; else `invalid: ` and the first reason. In order: the line
+/// at which it is no certificate's text; the first entry that is not as it says, or the first number of it that is not its own;
+/// a best plan that is not finished; the first entry that another dominates; a plan that an entry must dominate and none does,
+/// as an entry's line without its number; a best plan that is not the least. The conditions are that the query is bound to the
+/// catalogue, that each OR of it has an arm, and that the block has at most 2^31 bytes. The error means out of memory.
 pub fn check_text(
     alloc: Global,
     cat: &Catalog,

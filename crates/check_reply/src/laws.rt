@@ -16,8 +16,8 @@ pub fn tables_are_valid()
         IsCheckedText c q block bytes → IsTableText c q block → bytes ≡ valid_line }
 {}
 
-/// Two reasons of a certificate that have one text are the same, but for those that are plans no entry dominates; no reason
-/// has the text of a line at fault, and two such lines have different texts.
+/// Two reasons of a certificate that have one text are the same, but for those that are plans no entry dominates; no reason has
+/// the text of a wrong line, and two such lines have different texts.
 pub fn reasons_have_their_own_texts()
     ensures reasons { (c : Contents) (q : Query) (t : Certificate) (r o : Reason) (text : List ℕ) →
         HasWords r → HasWords o →

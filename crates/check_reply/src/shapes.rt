@@ -26,7 +26,7 @@ use plan_tree::{classes_of, first_elements, range_of};
 use sql_query::Prepared;
 use std::alloc::Global;
 
-/// A sequential scan. The error means want of memory.
+/// A sequential scan. The error means out of memory.
 pub(crate) fn seq_shape(alloc: Global, rel: RelNo) -> Result<Shape, Memory>
     requires relation { rel.0 < 16 }
     ensures { IfOk result (λ s.
@@ -40,7 +40,7 @@ pub(crate) fn seq_shape(alloc: Global, rel: RelNo) -> Result<Shape, Memory>
     })
 }
 
-/// The keys of a scan by an index. The error means want of memory.
+/// The keys of a scan by an index. The error means out of memory.
 fn scan_keys(alloc: Global, cat: &Catalog, q: &Prepared, s: ByIndex) -> Result<Keys, Memory>
     requires index { IsIndex cat.now s.index }
     ensures { IfOk result (λ ks.
@@ -65,7 +65,7 @@ fn index_node(s: ByIndex) -> Node
     }
 }
 
-/// A scan by an index. The error means want of memory.
+/// A scan by an index. The error means out of memory.
 pub(crate) fn index_shape(
     alloc: Global,
     cat: &Catalog,
@@ -86,7 +86,7 @@ pub(crate) fn index_shape(
     })
 }
 
-/// A scan by a bitmap of the elements that a number marks, with the indexes of their arms. The error means want of memory.
+/// A scan by a bitmap of the elements that a number marks, with the indexes of their arms. The error means out of memory.
 pub(crate) fn bitmap_shape(
     alloc: Global,
     cat: &Catalog,
@@ -120,7 +120,7 @@ fn entry_at(t: &Certificate, n: u32) -> &Entry
     &t.entries.items()[n as usize - 1]
 }
 
-/// A nested loop of entries. The error means want of memory.
+/// A nested loop of entries. The error means out of memory.
 pub(crate) fn nest_shape(
     alloc: Global,
     t: &Certificate,
@@ -145,7 +145,7 @@ pub(crate) fn nest_shape(
     })
 }
 
-/// The classes of a list of places. The error means want of memory.
+/// The classes of a list of places. The error means out of memory.
 fn classes_in(alloc: Global, places: &[Option<ClassNo>]) -> Result<Vec<ClassNo>, Memory>
     ensures { IfOk result (λ cs. class_numbers cs.items ≡ keys_in places.now) }
 {
@@ -158,7 +158,7 @@ fn classes_in(alloc: Global, places: &[Option<ClassNo>]) -> Result<Vec<ClassNo>,
     Ok(classes)
 }
 
-/// The keys of a side of a merge by a list. The error means want of memory.
+/// The keys of a side of a merge by a list. The error means out of memory.
 fn side_keys(alloc: Global, a: &Entry, list: &Keys, sort: bool) -> Result<Keys, Memory>
     ensures { IfOk result (λ keys. keys ≡ cond sort list.now a.now.keys) }
 {
@@ -169,7 +169,7 @@ fn side_keys(alloc: Global, a: &Entry, list: &Keys, sort: bool) -> Result<Keys, 
     }
 }
 
-/// A merge of entries, as they stand or sorted. The error means want of memory.
+/// A merge of entries, as they stand or sorted. The error means out of memory.
 pub(crate) fn merge_shape(
     alloc: Global,
     t: &Certificate,

@@ -1,4 +1,4 @@
-//! What is told of a plan that one entry must dominate and none does.
+//! What is reported of a plan that one entry must dominate and none does.
 
 ghost use Rattle.std.specs.Prelude.{◌≡◌, ◌++◌, IfOk, codes};
 ghost use Rattle.std.specs.Fmt.{decimal};
@@ -27,7 +27,7 @@ use plan_check::{Certificate, Entry, Plain};
 use sql_query::Prepared;
 use std::alloc::Global;
 
-/// The entry of a candidate over the entries of a certificate, without its numbers. The error means want of memory.
+/// The entry of a candidate over the entries of a certificate, without its numbers. The error means out of memory.
 fn shape_of(
     alloc: Global,
     cat: &Catalog,
@@ -86,7 +86,7 @@ fn with_numbers(shape: Shape, x: Uncovered) -> Entry
     }
 }
 
-/// The entry that tells a candidate which no entry of a certificate dominates. The error means want of memory.
+/// The entry that tells a candidate which no entry of a certificate dominates. The error means out of memory.
 fn told_by(
     alloc: Global,
     cat: &Catalog,
@@ -110,7 +110,7 @@ fn told_by(
     Ok(with_numbers(shape, x))
 }
 
-/// The line of an entry without its number. The error means want of memory.
+/// The line of an entry without its number. The error means out of memory.
 fn entry_text(alloc: Global, cat: &Catalog, q: &Prepared, e: &Entry) -> Result<Vec<u8>, Memory>
     requires bound { IsWellBound cat.now q.now }
     requires line { HasEntryLine cat.now q.now (entry e.now) }
@@ -122,7 +122,7 @@ fn entry_text(alloc: Global, cat: &Catalog, q: &Prepared, e: &Entry) -> Result<V
     Ok(text)
 }
 
-/// A plan that one entry must dominate and none does, as the line of an entry without its number. The error means want of
+/// A plan that one entry must dominate and none does, as the line of an entry without its number. The error means out of
 /// memory.
 pub(crate) fn uncovered_text(
     alloc: Global,

@@ -32,7 +32,7 @@ fn parted(indexes: &[IndexNo], n: usize) -> (&[IndexNo], &[IndexNo])
     (&indexes[..n], &indexes[n..])
 }
 
-/// The tree of an element with these indexes for its arms. The error means want of memory.
+/// The tree of an element with these indexes for its arms. The error means out of memory.
 fn tree_by(alloc: Global, e: Element, indexes: &[IndexNo]) -> Result<BitTree, Memory>
     ensures { IfOk result (λ b. bits b ≡ telling.tree_by (element e) indexes.now) }
 {
@@ -45,8 +45,7 @@ fn tree_by(alloc: Global, e: Element, indexes: &[IndexNo]) -> Result<BitTree, Me
     }
 }
 
-/// The trees of the elements that a number marks, with the indexes of all their arms in order. The error means want of
-/// memory.
+/// The trees of the elements that a number marks, with the indexes of all their arms in order. The error means out of memory.
 pub(crate) fn trees_by(
     alloc: Global,
     q: &Prepared,

@@ -64,7 +64,7 @@ HasPlanBefore c q t n m e = HasPlanAt c q (plans_before q (certificate t) n) m (
 abbrev pub FindsOwn : Contents → Query → Option Plan → Entered → Option Own → Type 0
 FindsOwn c q made e found = MatchOption found (HasNone c q made (entry e)) (λ x. HasOwn c q made (entry e) x)
 
--- so of a plan that is there
+-- numbers are found exactly where a plan is the entry's but for its numbers, and they are the plan's
 abbrev pub FindsOwnOf : Contents → Query → Entered → Plan → Option Own → Type 0
 FindsOwnOf c q e p found = MatchOption found (¬ HasItsPlan c q (entry e) p) (λ x. IsOwn c q (entry e) p x)
 
@@ -72,7 +72,7 @@ FindsOwnOf c q e p found = MatchOption found (¬ HasItsPlan c q (entry e) p) (λ
 abbrev pub HasCandidate : Entered → Candidate → Own → Type 0
 HasCandidate e x own = (c : Contents) (q : Query) (p : Plan) → IsRight c q (candidate x) p → IsOwn c q (entry e) p own
 
--- it is not the candidate
+-- an entry is not the candidate, whatever plan this stands for
 abbrev pub HasOther : Entered → Candidate → Type 0
 HasOther e x = (c : Contents) (q : Query) (p : Plan) → IsRight c q (candidate x) p → ¬ HasItsPlan c q (entry e) p
 
@@ -80,7 +80,7 @@ HasOther e x = (c : Contents) (q : Query) (p : Plan) → IsRight c q (candidate 
 abbrev pub HasOwnNest : Contents → Query → Entered → Entered → Entered → Own → Type 0
 HasOwnNest c q e a b own = (o i : Plan) → IsRight c q (entry a) o → IsRight c q (entry b) i → IsOwn c q (entry e) (nest o i) own
 
--- it is not
+-- an entry is not the nested loop of two right ones
 abbrev pub HasNoNest : Contents → Query → Entered → Entered → Entered → Type 0
 HasNoNest c q e a b = (o i : Plan) → IsRight c q (entry a) o → IsRight c q (entry b) i → ¬ HasItsPlan c q (entry e) (nest o i)
 
@@ -93,7 +93,7 @@ abbrev pub HasOwnMerge : Contents → Query → Merging → Entered → Entered 
 HasOwnMerge c q m e a b own =
     (o i : Plan) → IsRight c q (entry a) o → IsRight c q (entry b) i → IsOwn c q (entry e) (sides_merged m o i) own
 
--- it is not
+-- an entry is not the merge of two right ones, each as it stands or sorted
 abbrev pub HasNoMerge : Contents → Query → Merging → Entered → Entered → Entered → Type 0
 HasNoMerge c q m e a b =
     (o i : Plan) → IsRight c q (entry a) o → IsRight c q (entry b) i → ¬ HasItsPlan c q (entry e) (sides_merged m o i)

@@ -35,7 +35,7 @@ module _ (c : Contents) (q : Query) where
     pub has : HasItsPlan c q e p
     pub numbers : AreNumbersOf p x
 
-  -- so for the plan that a node makes
+  -- a node makes a plan, and an entry has it, but for its numbers, which are these
   pub record HasOwn (made : Option Plan) (e : Entry) (x : Own) : Type 0 where
     pub plan : Plan
     pub is : made ≡ Some plan

@@ -1,4 +1,4 @@
--- What a plan is reckoned by as a side of a join. Own.
+-- What a plan is computed by as a side of a join. Own.
 use Rattle.std.specs.Prelude.{◌≡◌, Bool}
 use Rattle.pg_base.specs.Sets.{has}
 use Rattle.catalog.specs.Contents.{Contents}
@@ -31,26 +31,27 @@ pub record IsPart (c : Contents) (q : Query) (x : Part) (p : Plan) : Type 0 wher
   pub cost_is : x.cost ≡ capped_pair (kept_cost q.window (cost c q p))
   pub rows_are : x.rows ≡ estimate c q p
 
--- what a join of two plans costs as a path keeps it, from what the two are reckoned by
+-- what a join of two plans costs as a path keeps it, from what the two are computed by
 abbrev pub IsJoinCost : Contents → Query → Part → Part → (Plan → Plan → Plan) → Pair → Type 0
 IsJoinCost c q outer inner join own =
     (o i : Plan) → IsPart c q outer o → IsPart c q inner i → own ≡ capped_pair (kept_cost q.window (cost c q (join o i)))
 
--- the same of merges by a list, from what all of them have in common
+-- what a merge of two plans by a list costs as a path keeps it, from what the two are computed by and all merges by the list
+-- have in common
 abbrev pub IsMergeCost : Query → MergeWork → Part → Part → Pair → Type 0
 IsMergeCost q work outer inner own =
     (c : Contents) (o i : Plan) → IsMergeWork c q work → IsPart c q outer o → IsPart c q inner i →
     own ≡ capped_pair (kept_cost q.window (cost c q (merge (class_numbers work.list.now) o i)))
 
--- what a right entry's plan is reckoned by
+-- what a right entry's plan is computed by
 abbrev pub IsEntryPart : Contents → Query → Entered → Part → Type 0
 IsEntryPart c q e x = (p : Plan) → IsRight c q (entry e) p → IsPart c q x p
 
--- what it is reckoned by, as it stands or sorted by any list
+-- what it is computed by, as it stands or sorted by any list
 abbrev pub IsSidePart : Contents → Query → Entered → Bool → Part → Type 0
 IsSidePart c q e sorts x = (keys : Keys) (p : Plan) → IsRight c q (entry e) p → IsPart c q x (sorted_if sorts keys p)
 
--- what the sorts of a plan that is given no rows are reckoned by, from what the plan is
+-- what the sorts of a plan that is given no rows are computed by, from what the plan is
 abbrev pub IsSortedPart : Query → Part → Part → Type 0
 IsSortedPart q x sorted =
     (c : Contents) (keys : Keys) (p : Plan) → IsPart c q x p → IsEmpty (param_of p) → IsPart c q sorted (sort keys p)

@@ -24,7 +24,7 @@ use Rattle.eq_classes.specs.declared.classes.ClassNo.{ClassNo}
 abbrev pub AreNestOperators : Query → ℕ → ℕ → ℕ → ℕ → Type 0
 AreNestOperators q a b p n = (o i : Plan) → IsSameSet (set_of o) (has a) → IsSameSet (set_of i) (has b) → IsSameSet (param_of i) (has p) → n ≡ min (join_operators q o i) (2 ^ 64 - 1)
 
--- those that were worked out are these
+-- the operators that were worked out for each pair of rows of a nested loop are the right ones
 abbrev pub AreGiven : Query → NestWork → Type 0
 AreGiven q w = (p n : ℕ) → slice_get w.given p ≡ Some (Some n) → AreNestOperators q w.outer.0 w.inner.0 p n
 

@@ -1,6 +1,6 @@
-//! Entries of certificates judged one by one, over those before them: what a node is, in numbers, and the reason for which
-//! an entry is not right. Joins and sorts are reckoned from what their sides say of themselves, and nothing is trusted of what stands in
-//! an entry. A cost unit is 1/400 of a sequential page.
+//! Entries of certificates judged one by one, over those before them: what a node is, in numbers, and the reason for which an
+//! entry is not right. Joins and sorts are computed from what their sides say of themselves, and nothing is trusted of what
+//! stands in an entry. A cost unit is 1/400 of a sequential page.
 #![tactic(auto)]
 
 mod best;

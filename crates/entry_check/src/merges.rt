@@ -55,9 +55,9 @@ pub struct MergeWork<'a> {
     pub list: &'a [ClassNo],
     /// The relations of the outer side.
     pub outer: RelSet,
-    /// Those of the inner side.
+    /// The relations of the inner side.
     pub inner: RelSet,
-    /// Those of both.
+    /// The relations of both sides.
     pub set: RelSet,
     /// How many rows both are taken to give.
     pub rows: u64,

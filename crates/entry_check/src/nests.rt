@@ -32,15 +32,16 @@ fn may_nest(a: &Entry, b: &Entry) -> bool
 pub struct NestWork {
     /// The relations of the outer side.
     pub outer: RelSet,
-    /// Those of the inner side.
+    /// The relations of the inner side.
     pub inner: RelSet,
-    /// Those of both.
+    /// The relations of both sides.
     pub set: RelSet,
     /// How many rows both are taken to give.
     pub rows: u64,
     /// The operators that each pair of rows goes through, where the inner side is given no rows.
     pub ops: u64,
-    /// The same where it is given the rows of the set of a number, for the sets for which that was worked out.
+    /// The operators that each pair of rows goes through where the inner side is given the rows of the set of a number, for the
+    /// sets for which that was worked out.
     pub given: [Option<u64>; MOST_SETS],
 }
 

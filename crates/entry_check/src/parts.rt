@@ -46,7 +46,7 @@ fn rows_of(cat: &Catalog, q: &Prepared, e: &Entry) -> u64
     }
 }
 
-/// What a right entry is reckoned by as a side of a join.
+/// What a right entry is computed by as a side of a join.
 pub(crate) fn part_of(cat: &Catalog, q: &Prepared, e: &Entry) -> Part
     requires query { IsOverTables cat.now q.now }
     requires right { HasRight cat.now q.now (entry e.now) }
@@ -67,7 +67,7 @@ pub(crate) fn part_of(cat: &Catalog, q: &Prepared, e: &Entry) -> Part
     }
 }
 
-/// What a right entry that is given no rows is reckoned by as a side of a merge, sorted by its list or not.
+/// What a right entry that is given no rows is computed by as a side of a merge, sorted by its list or not.
 pub(crate) fn side_of(cat: &Catalog, q: &Prepared, e: &Entry, sort: bool) -> Part
     requires query { IsOverTables cat.now q.now }
     requires right { HasRight cat.now q.now (entry e.now) }

@@ -51,7 +51,7 @@ pub fn merge_cost(cat: &Catalog, q: &Prepared, keys: &[ClassNo], outer: Part, in
     )
 }
 
-/// What the sort of a plan that is given no rows is reckoned by, whatever the classes.
+/// What the sort of a plan that is given no rows is computed by, whatever the classes.
 pub fn sorted(q: &Prepared, x: Part) -> Part
     requires reckoned { IsReckoned x }
     ensures sorted { IsSortedPart q.now x result }

@@ -1,4 +1,4 @@
-//! What a plan is reckoned by as a side of a join.
+//! What a plan is computed by as a side of a join.
 
 ghost use Rattle.std.specs.Prelude.{◌≡◌};
 ghost use Rattle.pg_base.specs.Sets.{has};
@@ -13,7 +13,7 @@ use pg_base::RelSet;
 use plan_tree::{classes_of, range_of};
 use sql_query::Prepared;
 
-/// What a plan is reckoned by as a side of a join.
+/// What a plan is computed by as a side of a join.
 #[derive(Clone, Copy, Debug)]
 pub struct Part {
     /// The relations that it reads.

@@ -26,7 +26,7 @@ pub(crate) struct Scanning<'a, C: Counters> {
     pub(crate) rows: ScanRows<'a, C>,
 }
 
-/// A scan that is given no rows, before its first one. The error means want of memory.
+/// A scan that is given no rows, before its first one. The error means out of memory.
 pub(crate) fn start_scanning<'a, C: Counters>(
     at: &EState<'a, C>,
     p: &'a Plan,
@@ -49,8 +49,8 @@ pub(crate) fn start_scanning<'a, C: Counters>(
     Ok(Scanning { plan: p, rows })
 }
 
-/// The next tuple of a scan. Up to and with its row, each row that the scan comes to is fetched and each entry looked at as
-/// the kind of scan does. The error means want of memory.
+/// The next tuple of a scan. Up to and with its row, each row that the scan comes to is fetched and each entry looked at as the
+/// kind of scan does. The error means out of memory.
 pub(crate) fn next_scanned<'a, C: Counters>(
     alloc: Global,
     scanning: &mut Scanning<'a, C>,

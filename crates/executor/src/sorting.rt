@@ -26,7 +26,7 @@ pub(crate) struct Sorting {
     pub(crate) at: u32,
 }
 
-/// A sort of these tuples by the classes of a key list, before its first tuple. The error means want of memory.
+/// A sort of these tuples by the classes of a key list, before its first tuple. The error means out of memory.
 pub(crate) fn start_sorting<C: Counters>(
     at: &EState<C>,
     keys: &Keys,
@@ -47,7 +47,7 @@ pub(crate) fn start_sorting<C: Counters>(
     Ok(Sorting { kept, at: 0 })
 }
 
-/// The next tuple. The error means want of memory.
+/// The next tuple. The error means out of memory.
 pub(crate) fn next_sorted(alloc: Global, sorting: &mut Sorting) -> Result<Option<Tuple>, Memory>
     requires good { IsSorting sorting.old }
     ensures good { OnOk result (IsSorting sorting.new) }

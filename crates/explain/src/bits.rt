@@ -61,7 +61,7 @@ pub fn conjunct_of(q: &Prepared, n: u16) -> Option<u16>
     }
 }
 
-/// Appends the number of a conjunct to a text, where there is one. The error means want of memory.
+/// Appends the number of a conjunct to a text, where there is one. The error means out of memory.
 pub fn put_conjunct(alloc: Global, text: &mut Vec<u8>, number: Option<u16>) -> Result<(), Memory>
     ensures { OnOk result (text.new.items ≡ text.old.items ++ number_text number) }
 {

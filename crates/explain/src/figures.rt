@@ -13,8 +13,8 @@ use pg_value::Bytes;
 use sql_query::{Prepared, Window};
 use std::alloc::Global;
 
-/// What a node's line says of its cost, in 1/400 of a sequential page, and of its estimated rows, ended by LF. Where there is a window,
-/// the cost is shown with what comes before the first row. The error means want of memory.
+/// What a node's line says of its cost, in 1/400 of a sequential page, and of its estimated rows, ended by LF. Where there is a
+/// window, the cost is shown with what comes before the first row. The error means out of memory.
 pub fn numbers(
     alloc: Global,
     window: Option<Window>,
@@ -41,7 +41,7 @@ fn window_words(alloc: Global, w: Window) -> Result<String, Memory>
     }
 }
 
-/// So many rows of those asked for stand behind the offset, and 1 where there are none.
+/// How many of the rows asked for stand behind the offset, and 1 where there are none.
 fn behind(offset: u64, asked: u64) -> u64
     ensures { result ≡ rows_behind offset asked }
 {
@@ -66,7 +66,7 @@ fn line_of(alloc: Global, w: Window, price: u64, asked: u64) -> Result<Bytes, Me
 /// The line of LIMIT and OFFSET that stands above the text of a plan, ended by LF: LIMIT, or `all` where there is none, OFFSET,
 /// the price of the plan, and how many of the rows asked for stand behind the offset, at least 1. `price` is what the plan
 /// costs up to the last row asked for, in 1/400 of a sequential page, `rows` how many rows the query is taken to give in all,
-/// and `asked` how many of these LIMIT and OFFSET ask for. The query has a window. The error means want of memory.
+/// and `asked` how many of these LIMIT and OFFSET ask for. The query has a window. The error means out of memory.
 pub fn limit_text(
     alloc: Global,
     q: &Prepared,

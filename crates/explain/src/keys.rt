@@ -84,8 +84,9 @@ fn put_comma(text: &mut Vec<u8>, n: usize) -> Result<(), Memory>
     Ok(())
 }
 
-/// Appends keys to a text, each by its first member inside a set of relations, with its family and its direction where these do not
-/// go without saying; between two of them a comma and a space. The keys are classes of the query. The error means want of memory.
+/// Appends keys to a text, each by its first member inside a set of relations, with its family and its direction where these do
+/// not go without saying; between two of them a comma and a space. The keys are classes of the query. The error means out of
+/// memory.
 pub fn put_keys(
     text: &mut Vec<u8>,
     cat: &Catalog,

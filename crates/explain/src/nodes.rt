@@ -63,7 +63,7 @@ fn put_using(
     put_scanned(text, cat, q, r, p)
 }
 
-/// Appends to a text the kind of a scan by an index, of that alone or not, and its direction. The error means want of memory.
+/// Appends to a text the kind of a scan by an index, of that alone or not, and its direction. The error means out of memory.
 pub fn put_scan_name(text: &mut Vec<u8>, only: bool, backward: bool) -> Result<(), Memory>
     ensures { OnOk result (Gets text.old text.new (scan_name only ++ backward_text backward)) }
 {
@@ -211,8 +211,8 @@ fn lead_at(alloc: Global, depth: u8) -> Result<Lead, Memory>
     above.deeper(alloc)
 }
 
-/// The text of a plan whose first line stands so deep below other lines: else as `plan_text` gives it. The plan is one of the space
-/// for its set and parameterisation, or a finished one, and costs below 10^18. The error means want of memory.
+/// The text of a plan whose first line stands so deep below other lines: else as `plan_text` gives it. The plan is one of the
+/// space for its set and parameterisation, or a finished one, and costs below 10^18. The error means out of memory.
 pub fn plan_text_at(
     alloc: Global,
     cat: &Catalog,
@@ -232,11 +232,11 @@ pub fn plan_text_at(
     Ok(Bytes::from_vec(text))
 }
 
-/// The text of a plan: a line for each of its nodes, with what the node's plan costs in all, in 1/400 of a sequential
-/// page, and its estimated rows; under it those of its children, deeper, the outer one first. Where the query has a
-/// window, each line also has what its plan costs before its first row, and the first one is as deep as below the line of
-/// LIMIT and OFFSET, which `limit_text` gives. The plan is one of the space for its set and parameterisation, or a finished
-/// one, and costs below 10^18. The error means want of memory.
+/// The text of a plan: a line for each of its nodes, with what the node's plan costs in all, in 1/400 of a sequential page, and
+/// its estimated rows; under it those of its children, deeper, the outer one first. Where the query has a window, each line
+/// also has what its plan costs before its first row, and the first one is as deep as below the line of LIMIT and OFFSET, which
+/// `limit_text` gives. The plan is one of the space for its set and parameterisation, or a finished one, and costs below 10^18.
+/// The error means out of memory.
 pub fn plan_text(alloc: Global, cat: &Catalog, q: &Prepared, p: &Path) -> Result<Bytes, Memory>
     requires bound { IsWellBound cat.now q.now }
     requires plan { IsShown cat.now q.now (path p.now).tree }

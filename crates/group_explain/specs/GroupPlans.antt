@@ -38,7 +38,7 @@ group_keys g = order_keys g.base.classes g.groups
 abbrev pub line_keys : GroupQuery → Keys
 line_keys g = order_keys g.base.classes g.lines
 
--- these are the keys and the calls
+-- the keys and the calls are those of a grouped query
 pub record IsAskedBy (g : GroupQuery) (of_groups of_lines : Keys) (number : ℕ) : Type 0 where
   pub groups : of_groups ≡ group_keys g
   pub lines : of_lines ≡ line_keys g
@@ -49,7 +49,7 @@ abbrev pub distinct_in : Contents → Query → Option ColRef → ℕ
 distinct_in c q None = 1
 distinct_in c q (Some x) = (stats_of c q.range x).distinct
 
--- those of the first member of a class
+-- how many different values the first member of a class is taken to have
 abbrev pub distinct_of : Contents → Query → ℕ → ℕ
 distinct_of c q n = distinct_in c q (first_in (class_at q.classes.classes n) (all_of_query q))
 

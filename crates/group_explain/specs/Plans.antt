@@ -17,7 +17,7 @@ use Rattle.reply.specs.Replies.{Reply}
 use Rattle.group_explain.specs.Texts.{group_plan_text, group_query, lines_above}
 use Rattle.group_explain.specs.declared.chosen.Chosen.{Chosen}
 
--- the same grouped query over another base
+-- a grouped query over another base
 abbrev pub over_base : Query → GroupedQuery → GroupedQuery
 over_base q g = record { base = q; keys = g.keys; items = g.items; order = g.order }
 

@@ -1,4 +1,5 @@
--- The lines above the plan whose tuples are grouped (PostgreSQL manual, Using EXPLAIN; src/backend/commands/explain.c; the forms are own).
+-- The lines above the plan whose tuples are grouped (PostgreSQL manual, Using EXPLAIN; src/backend/commands/explain.c; the
+-- forms are own).
 use Rattle.std.specs.Prelude.{ℕ, Bool, true, false, cond, List, [], ◌∷◌, ◌++◌, codes, length}
 use Rattle.std.specs.Fmt.{decimal}
 use Rattle.catalog.specs.Contents.{Contents}

@@ -26,7 +26,7 @@ use reply::planner::{PlanFault, plan};
 use sql_query::{Grouped, OrderList, Prepared};
 use std::alloc::{AllocError, Global};
 
-/// The best plan of a query, none where no finished one costs less than 10^18. The error means want of memory.
+/// The best plan of a query, none where no finished one costs less than 10^18. The error means out of memory.
 fn best_plan(alloc: Global, cat: &Catalog, q: &Prepared) -> Result<Option<Path>, Memory>
     requires bound { IsWellBound cat.now q.now }
     ensures { IfOk result (λ found. IsBestOf cat.now q.now (option_map path found)) }
@@ -45,7 +45,7 @@ fn put_order(q: &mut Prepared, order: OrderList)
     q.order = order;
 }
 
-/// Has the tuples of a grouped query asked for in the order of the GROUP BY columns. The error means want of memory.
+/// Has the tuples of a grouped query asked for in the order of the GROUP BY columns. The error means out of memory.
 fn ask_by_groups(alloc: Global, g: &mut Grouped) -> Result<(), Memory>
     ensures { IfOk result (λ _. g.new ≡ over_base (input_base SortedForm g.old) g.old) }
 {
@@ -102,9 +102,10 @@ fn least_plan(task: &GroupTask, plain: &Option<Path>, sorted: &Option<Path>) -> 
     choose_plan(task, plain.as_ref(), sorted.as_ref())
 }
 
-/// A plan that groups which no plan that groups undercuts: sorted groups over the least plan in the order of the GROUP BY columns,
-/// or hashed ones over the least plan in no order. The base is left in the order that the chosen input is asked in, and nothing else
-/// of the query is changed. `NoPlan` comes only where each plan that groups costs 10^18 or more; the other error is want of memory.
+/// A plan that groups which no plan that groups undercuts: sorted groups over the least plan in the order of the GROUP BY
+/// columns, or hashed ones over the least plan in no order. The base is left in the order that the chosen input is asked in,
+/// and nothing else of the query is changed. `NoPlan` comes only where each plan that groups costs 10^18 or more; the other
+/// error is out of memory.
 pub fn choose_groups(alloc: Global, cat: &Catalog, g: &mut Grouped) -> Result<Chosen, Stop>
     requires bound { IsWellGrouped cat.now g.old }
     ensures chosen { IfOk result (IsChosen cat.now g.old) }

@@ -12,14 +12,14 @@ use plan_tree::classes_of;
 use sql_query::{Grouped, OrderList};
 use std::alloc::Global;
 
-/// The GROUP BY columns as items of an order. The error means want of memory.
+/// The GROUP BY columns as items of an order. The error means out of memory.
 pub(crate) fn group_order(alloc: Global, g: &Grouped) -> Result<OrderList, Memory>
     ensures { IfOk result (λ items. items ≡ grouping.group_items g.now.base.classes g.now.keys) }
 {
     group_items(alloc, classes_of(&g.base), g.keys.items())
 }
 
-/// The classes by which groups are told apart. The error means want of memory.
+/// The classes by which groups are told apart. The error means out of memory.
 pub(crate) fn group_keys(alloc: Global, g: &Grouped) -> Result<Keys, Memory>
     ensures { IfOk result (λ keys. keys ≡ plans.group_keys (group_query g.now)) }
 {
@@ -27,7 +27,7 @@ pub(crate) fn group_keys(alloc: Global, g: &Grouped) -> Result<Keys, Memory>
     order_keys(alloc, classes_of(&g.base), items.items())
 }
 
-/// The classes by which lines are sorted. The error means want of memory.
+/// The classes by which lines are sorted. The error means out of memory.
 pub(crate) fn line_keys(alloc: Global, g: &Grouped) -> Result<Keys, Memory>
     ensures { IfOk result (λ keys. keys ≡ plans.line_keys (group_query g.now)) }
 {

@@ -21,7 +21,7 @@ use sql_query::Prepared;
 pub struct Asked<'a> {
     /// The classes of the GROUP BY columns, without those that have a constant or stood before.
     pub group_keys: &'a Keys,
-    /// Those of the ORDER BY columns.
+    /// The classes of the ORDER BY columns.
     pub line_keys: &'a Keys,
     /// How many calls there are.
     pub calls: u64,

@@ -39,7 +39,7 @@ fn explain_by<K: Sink>(
     flush(out, &text)
 }
 
-/// The same as `explain_groups`, of a query that is lent.
+/// Prints the text of the plan chosen for a grouped query that is lent, as `explain_groups` does.
 fn explain_lent<K: Sink>(
     alloc: Global,
     cat: &Catalog,
@@ -60,9 +60,9 @@ fn explain_lent<K: Sink>(
     Ok(())
 }
 
-/// Prints the text of a plan that groups, which no plan that groups undercuts. No row is read. At `Write` and `Memory` out has a
-/// prefix of that, or is as before; at `Write` its count of faults rose. `NoPlan` comes only where each plan that groups costs 10^18
-/// or more, and changes nothing.
+/// Prints the text of a plan that groups, which no plan that groups undercuts. No row is read. At `Write` and `Memory` out has
+/// a prefix of that, or is as before; at `Write` its count of faults rose. `NoPlan` comes only where each plan that groups
+/// costs 10^18 or more, and changes nothing.
 pub fn explain_groups<K: Sink>(
     alloc: Global,
     cat: &Catalog,

@@ -38,7 +38,7 @@ fn values_of(cat: &Catalog, q: &Prepared, all: RelSet, class: ClassNo) -> u64
     }
 }
 
-/// Those of the first members of some classes.
+/// How many different values the first member of each of some classes is taken to have.
 fn values_of_each(
     alloc: Global,
     cat: &Catalog,
@@ -81,7 +81,7 @@ fn task_by(
     Ok(group_task(cat, &g.base, all_relations(&g.base), asked, distinct))
 }
 
-/// The numbers of a grouped query, by which the costs of its plans go. The error means want of memory.
+/// The numbers of a grouped query, by which the costs of its plans go. The error means out of memory.
 pub(crate) fn task_of(alloc: Global, cat: &Catalog, g: &Grouped) -> Result<GroupTask, Memory>
     requires bound { IsWellBound cat.now g.now.base }
     ensures numbers { IfOk result IsTask }

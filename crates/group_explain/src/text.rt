@@ -153,9 +153,10 @@ fn input_depth(sort_after: bool) -> u8
     if sort_after { 2 } else { 1 }
 }
 
-/// The text of the plan chosen for a grouped query, whose base is in the order that the chosen input is asked in, as `choose_groups`
-/// leaves it: the line of the sort of the groups, where there is one on top, that of the node that groups, with what it costs in
-/// 1/400 of a sequential page and its estimated groups, and the lines of the input plan beneath. The error means want of memory.
+/// The text of the plan chosen for a grouped query, whose base is in the order that the chosen input is asked in, as
+/// `choose_groups` leaves it: the line of the sort of the groups, where there is one on top, that of the node that groups, with
+/// what it costs in 1/400 of a sequential page and its estimated groups, and the lines of the input plan beneath. The error
+/// means out of memory.
 pub fn group_text(alloc: Global, cat: &Catalog, g: &Grouped, x: &Chosen) -> Result<Vec<u8>, Memory>
     requires ready { IsReady cat.now g.now x.now }
     ensures { (first : GroupedQuery) → IsOverInput x.now.plan.form first g.now →

@@ -1,5 +1,5 @@
--- A grouped query that is bound to a catalogue, and the orders in which its tuples may be asked for (PostgreSQL manual, chapter Queries,
--- GROUP BY; src/backend/optimizer/plan/planner.c, grouping_planner).
+-- A grouped query that is bound to a catalogue, and the orders in which its tuples may be asked for (PostgreSQL manual, chapter
+-- Queries, GROUP BY; src/backend/optimizer/plan/planner.c, grouping_planner).
 use Rattle.std.specs.Prelude.{◌≡◌, ◌<◌, ◌^◌, ℕ, false, List, [], ◌++◌, length, map, All, Contains, Option, Some, None}
 use Rattle.pg_expr.specs.declared.operand.ColRef.{ColRef}
 use Rattle.catalog.specs.Contents.{Contents}
@@ -45,9 +45,9 @@ IsItemOf c g (Count x) = IsColumnOf c g.base.range x
 IsItemOf c g (Min x) = IsColumnOf c g.base.range x
 IsItemOf c g (Max x) = IsColumnOf c g.base.range x
 
--- a grouped query over the catalogue: its tuples are those of a query without an order and a window, which is well bound, and so it
--- is in the order of the GROUP BY columns and in that of ORDER BY; what it shows is there, and ORDER BY is by GROUP BY columns; the
--- places of GROUP BY columns and of calls are numbers of 32 bits
+-- a grouped query over the catalogue: its tuples are those of a query without an order and a window, which is well bound, and
+-- so it is in the order of the GROUP BY columns and in that of ORDER BY; what it shows is there, and ORDER BY is by GROUP BY
+-- columns; the places of GROUP BY columns and of calls are numbers of 32 bits
 pub record IsWellGrouped (c : Contents) (g : GroupedQuery) : Type 0 where
   pub base : IsWellBound c g.base
   pub plain : g.base.order ≡ []

@@ -37,9 +37,9 @@ fn directed_each(
     keys.iter().map(|x| directed(classes, *x)).collect(alloc)
 }
 
-/// The GROUP BY columns of a query with these classes as items of an order, each with the direction and the place for NULL of its
-/// class in its default family; ascending with NULLs last where there is no such class (PostgreSQL, src/backend/optimizer/path/
-/// pathkeys.c, make_pathkeys_for_sortclauses). The error means want of memory.
+/// The GROUP BY columns of a query with these classes as items of an order, each with the direction and the place for NULL of
+/// its class in its default family; ascending with NULLs last where there is no such class (PostgreSQL,
+/// src/backend/optimizer/path/ pathkeys.c, make_pathkeys_for_sortclauses). The error means out of memory.
 pub fn group_items(alloc: Global, classes: &Classes, keys: &[ColRef]) -> Result<OrderList, Memory>
     ensures { IfOk result (λ l. l ≡ grouping.group_items classes.now keys.now) }
 {

@@ -142,8 +142,8 @@ fn sorters_in(alloc: Global, keys: &[ColRef], order: &[OrderItem]) -> Result<Vec
         .collect(alloc)
 }
 
-/// What a grouped query shows of the groups of its tuples: its calls, what a line shows, and ORDER BY by places among the GROUP BY
-/// columns. These and the calls are fewer than 2^32. The error means want of memory.
+/// What a grouped query shows of the groups of its tuples: its calls, what a line shows, and ORDER BY by places among the GROUP
+/// BY columns. These and the calls are fewer than 2^32. The error means out of memory.
 pub fn shape_of(alloc: Global, g: &Grouped) -> Result<Shape, Memory>
     requires keys { length g.now.keys < 2 ^ 32 }
     requires calls { length (calls_of g.now.items) < 2 ^ 32 }
@@ -161,7 +161,7 @@ pub fn shape_of(alloc: Global, g: &Grouped) -> Result<Shape, Memory>
     })
 }
 
-/// The columns of the calls of a grouped query, from the left; count(*) has none. The error means want of memory.
+/// The columns of the calls of a grouped query, from the left; count(*) has none. The error means out of memory.
 pub fn call_columns(alloc: Global, g: &Grouped) -> Result<Vec<Option<ColRef>>, Memory>
     ensures { IfOk result (λ v. v.items ≡ args_of g.now.items) }
 {

@@ -1,6 +1,7 @@
--- What a grouped SELECT means over a catalogue, or its first fault: FROM first with the conditions of its joins, then WHERE, then the
--- list from the left, then ORDER BY, then GROUP BY, then the first column that is not grouped, then the limits of conjuncts and atoms
--- (PostgreSQL manual, chapter Queries, GROUP BY; Aggregate Functions; codes: appendix Error Codes; the order and the limits are own).
+-- What a grouped SELECT means over a catalogue, or its first fault: FROM first with the conditions of its joins, then WHERE,
+-- then the list from the left, then ORDER BY, then GROUP BY, then the first column that is not grouped, then the limits of
+-- conjuncts and atoms (PostgreSQL manual, chapter Queries, GROUP BY; Aggregate Functions; codes: appendix Error Codes; the
+-- order and the limits are own).
 use Rattle.std.specs.Prelude.{ℕ, Bool, true, false, cond, List, [], ◌∷◌, ◌++◌, codes, map, filter_map, Option, Some, None, Result, Ok, Err}
 use Rattle.std.specs.List.{list_any}
 use Rattle.std.specs.Str.{bytes_eq}
@@ -53,7 +54,7 @@ over_column name typed x =
 abbrev pub over_rows : List ℕ → Option Item
 over_rows name = cond (bytes_eq name (codes "count")) (Some CountAll) None
 
--- there is such a call, or its name is at fault
+-- there is such a call, or its name is an error
 abbrev pub known_call : Ident → Option Item → Result (List Part) Fault
 known_call n None = Err (fault_at S9 (token_of n))
 known_call n (Some item) = Ok (parts.Called item ∷ [])
@@ -120,7 +121,7 @@ keys_by scope shown ps = Ok (shown_columns ps)
 abbrev pub is_grouped : List ColRef → ColRef → Bool
 is_grouped keys x = list_any (is_column x) keys
 
--- the word at which a column that is shown and not grouped is at fault
+-- the word of the error of a column that is shown and not grouped
 abbrev pub ungrouped_part : List ColRef → Part → Option Token
 ungrouped_part keys (parts.Shown x t) = cond (is_grouped keys x) None (Some t)
 ungrouped_part keys (parts.Called i) = None
@@ -129,22 +130,22 @@ ungrouped_part keys (parts.Called i) = None
 abbrev pub word_of_ordering : Ordering → Token
 word_of_ordering (ordering c d z) = word_of_col c
 
--- for each column of ORDER BY the word at which it is at fault where it is not grouped
+-- for each column of ORDER BY the word of the error where it is not grouped
 abbrev pub order_words : OrderBy → List Token
 order_words no_order = []
 order_words (order_by _ _ o os) = map word_of_ordering (o ∷ further_parts (λ x. x) os)
 
--- those of the items that are not grouped
+-- the words of those items of ORDER BY that are not grouped
 abbrev pub ungrouped_items : List ColRef → List OrderItem → List Token → List Token
 ungrouped_items keys (i ∷ is) (t ∷ ts) = cond (is_grouped keys i.col) (ungrouped_items keys is ts) (t ∷ ungrouped_items keys is ts)
 ungrouped_items keys _ _ = []
 
--- the first of these words is at fault, where there is one
+-- the first of the words of ungrouped columns is an error, where there is one
 abbrev pub none_of : {A : Type 0} → List Token → A → Result A Fault
 none_of [] x = Ok x
 none_of (t ∷ ts) x = Err (fault_at S18 t)
 
--- the first column that is neither grouped nor in a call is at fault: in the list, then in ORDER BY
+-- the first column that is neither grouped nor in a call is an error: in the list, then in ORDER BY
 abbrev pub all_grouped : {A : Type 0} → List ColRef → List Part → List OrderItem → List Token → A → Result A Fault
 all_grouped keys ps ordered words x = none_of (filter_map (ungrouped_part keys) ps ++ ungrouped_items keys ordered words) x
 
@@ -154,7 +155,7 @@ pub record BoundLists : Type 0 where
   pub order : List OrderItem
   pub keys : List ColRef
 
--- the words at which bound lists are at fault where they are not grouped, those of ORDER BY beside their last words
+-- the words of the errors of bound lists where they are not grouped, those of ORDER BY beside their last words
 abbrev pub ungrouped_words : BoundLists → List Token → List Token
 ungrouped_words l words = filter_map (ungrouped_part l.keys) l.parts ++ ungrouped_items l.keys l.order words
 

@@ -1,5 +1,5 @@
--- What the lists of a grouped SELECT mean as they are written, part by part (PostgreSQL manual, chapters Value Expressions, Column
--- References, and Queries, Sorting Rows; Aggregate Functions).
+-- What the lists of a grouped SELECT mean as they are written, part by part (PostgreSQL manual, chapters Value Expressions,
+-- Column References, and Queries, Sorting Rows; Aggregate Functions).
 use Rattle.std.specs.Prelude.{Bool, true, false, List, [], ◌∷◌, ◌++◌, map, Option, Some, None, Result, Ok, Err}
 use Rattle.pg_base.specs.declared.faults.Code.TheVariants.{S9}
 use Rattle.pg_base.specs.declared.faults.Fault.{Fault}
@@ -38,11 +38,11 @@ abbrev pub known : Token → Option Item → Result Part Fault
 known n None = Err (fault_at S9 n)
 known n (Some item) = Ok (parts.Called item)
 
--- a column that is shown, with the word at which it is at fault where it is not grouped
+-- a column that is shown, with the word of the error where it is not grouped
 abbrev pub shown_at : Token → ColRef → Part
 shown_at word x = parts.Shown x word
 
--- columns that are shown, at fault at this word
+-- columns that are shown, each an error at this word where it is not grouped
 abbrev pub columns_said : Scope → Shown → Token → Result (List Part) Fault
 columns_said scope item word = next (item_columns scope item) (λ xs. Ok (map (shown_at word) xs))
 
@@ -84,7 +84,7 @@ sorting_column scope shown c = sorting_by scope shown c.qualifier c.name
 abbrev pub sorting_said : Scope → List ColRef → Sorting → Result OrderItem Fault
 sorting_said scope shown s = next (sorting_column scope shown s.column) (λ x. Ok (record { col = x; descending = s.descending; nulls_first = s.nulls_first }))
 
--- its last word
+-- the last word of an item of ORDER BY
 abbrev pub last_word : Sorting → Token
 last_word s = s.column.name.token
 

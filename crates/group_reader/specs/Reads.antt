@@ -12,7 +12,7 @@ use Rattle.query_reader.specs.Ends.{ends_window}
 abbrev pub StandsArgument : List Terminal → Type 0
 StandsArgument ts = (a : Argument) × (m : Mark) × (rest : List Terminal) × (ts ≡ words_of_argument a ++ t_mark Close m ∷ rest)
 
--- where it does, what it means is read, and what stands behind the `)` is left
+-- where what a call is of stands first, with the `)` behind it, what it means is read, and what stands behind the `)` is left
 abbrev pub YieldsArgument : {B : Type 0} → (Argument → B) → List Terminal → B → List Terminal → Type 0
 YieldsArgument meaning old read left =
     (a : Argument) (m : Mark) (rest : List Terminal) → old ≡ words_of_argument a ++ t_mark Close m ∷ rest →
@@ -28,7 +28,7 @@ StandsGrouping ts =
     (b : GroupBy) × (y : OrderBy) × (rest : List Terminal) × (ends_window rest ≡ true) ×
     (ts ≡ words_of_group_by b ++ (words_of_order y ++ rest))
 
--- where they do, this holds of them
+-- where GROUP BY and ORDER BY stand first, and no word behind them goes on them, this holds of them
 abbrev pub IfGrouping : List Terminal → (GroupBy → OrderBy → Type 0) → Type 0
 IfGrouping ts P =
     (b : GroupBy) (y : OrderBy) (rest : List Terminal) → ends_window rest ≡ true →

@@ -39,7 +39,8 @@ pub record IsGroupedAt (text : List ℕ) (tokens : List Token) (first : ℕ) (x 
 abbrev pub IsGroupedByItself : Contents → GroupedQuery → Type 0
 IsGroupedByItself c g = IsWellGrouped c g × IsClassTable (given_groups c g) g.base.classes
 
--- what is read where this is the meaning of a SELECT that groups: the query of it with its own classes, its fault, or there was no memory
+-- what is read where this is the meaning of a SELECT that groups: the query of it with its own classes, its fault, or there was
+-- no memory
 abbrev pub IsGroupedAs : Result BoundGroups Fault → Result GroupedQuery Refusal → Type 0
 IsGroupedAs = Conveys (λ meant read. read ≡ grouped_with read.base.classes meant)
 
@@ -48,8 +49,8 @@ abbrev pub IsWellSelected : Contents → Selected → Type 0
 IsWellSelected c (Plain q) = IsWellBound c q × IsClassTable (given_of c q) q.classes × All HasParts q.where_all
 IsWellSelected c (Grouped g) = IsGroupedByItself c g
 
--- what a reading says of the grammar: what is read is of the one form or the other; a fault is the statement's first one, or that of a
--- whole statement; want of memory comes in a whole statement alone
+-- what a reading says of the grammar: what is read is of the one form or the other; a fault is the statement's first one, or
+-- that of a whole statement; memory runs out in a whole statement alone
 abbrev pub IsAnyGrammatical : List ℕ → List Token → Result Selected Refusal → Type 0
 IsAnyGrammatical text tokens (Ok (Plain q)) = AreSelect text tokens
 IsAnyGrammatical text tokens (Ok (Grouped g)) = AreGrouped text tokens
@@ -70,7 +71,7 @@ IsGroupedOf meant (Grouped g) = g ≡ grouped_with g.base.classes meant
 abbrev pub IsReadPlain : Result Bound Fault → Result Selected Refusal → Type 0
 IsReadPlain = Conveys IsPlainOf
 
--- the same where this is the meaning of one that groups
+-- what is read where this is the meaning of a SELECT that groups: the query, its fault, or there was no memory
 abbrev pub IsReadGrouped : Result BoundGroups Fault → Result Selected Refusal → Type 0
 IsReadGrouped = Conveys IsGroupedOf
 
@@ -80,7 +81,7 @@ ReadsPlainSelect c text tokens read =
     (x : OrderedSelect) (start : Token) (later : List Token) → tokens ≡ start ∷ later → IsSpelled (query x) text tokens →
     IsReadPlain (bound c start x) read
 
--- the same of one that groups
+-- where the tokens are a SELECT that groups, or its EXPLAIN, what is read is what it means
 abbrev pub ReadsGroupedSelect : Contents → List ℕ → List Token → Result Selected Refusal → Type 0
 ReadsGroupedSelect c text tokens read =
     (offered : IsOffered READS_GROUPS) (e : MaybeExplain) (k : Token) (x : GroupedSelect) (start : Token) (later : List Token) →
@@ -92,14 +93,15 @@ BindsGrouped c text tokens first read =
     (x : GroupedSelect) (start : Token) (later : List Token) → tokens ≡ start ∷ later → IsGroupedAt text tokens first x →
     IsGroupedAs (bound_groups c start x) read
 
--- where the parts behind FROM stand first, and this is the list as it was read, what is read is what they mean over what FROM names
+-- where the parts behind FROM stand first, and this is the list as it was read, what is read is what they mean over what FROM
+-- names
 abbrev pub BindsGroupsOver : Token → Joined → List Listed → Bool → List Terminal → Result GroupedQuery Refusal → Type 0
 BindsGroupsOver start j listed distinct ts read =
     (is : List GroupedItem) (w : Where) (b : GroupBy) (y : OrderBy) (rest : List Terminal) → listed ≡ map listed_of is →
     ends_window rest ≡ true → ts ≡ words_of_where w ++ (words_of_group_by b ++ (words_of_order y ++ rest)) →
     IsGroupedAs (groups_over start is w (grouper distinct b) y j) read
 
--- the same of FROM and the parts behind it
+-- where FROM and the parts behind it stand first, and this is the list as it was read, what is read is what they mean
 abbrev pub BindsGroups : Contents → Token → List Listed → Bool → List Terminal → Result GroupedQuery Refusal → Type 0
 BindsGroups c start listed distinct ts read =
     (is : List GroupedItem) (g : Group) (gs : List (Mark × Group)) (w : Where) (b : GroupBy) (y : OrderBy)

@@ -23,7 +23,7 @@ abbrev pub word_of_col : Col → Token
 word_of_col (bare n) = token_of n
 word_of_col (qualified q d n) = token_of n
 
--- the word at which the columns of an item are at fault: a star, or the column's name
+-- the word of the error of the columns of an item that are not grouped: a star, or the column's name
 abbrev pub word_of_output : Output → Token
 word_of_output (every m) = m
 word_of_output (every_of q d m) = m

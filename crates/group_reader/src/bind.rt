@@ -95,7 +95,7 @@ fn call(relations: &Relations, name: &Spelled, over: &Column) -> Result<Part, Fa
     known(over_column(name.bytes.items(), typed, over), name.token)
 }
 
-/// Adds columns that are shown, at fault at this word.
+/// Adds columns that are shown, each an error at this word where it is not grouped.
 fn add_shown(columns: &[ColRef], word: Token, parts: &mut Vec<Part>) -> Result<(), Refusal>
     ensures { AddsParts (Ok (map (shown_at word) columns.now))
         parts.old.items parts.new.items result }

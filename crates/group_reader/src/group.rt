@@ -216,7 +216,7 @@ fn pass(from: &mut Cursor, distinct: bool)
     }
 }
 
-/// The SELECT that groups of a statement, told of whole; it begins at token `first`.
+/// The SELECT that groups of a statement, read as a whole; it begins at token `first`.
 pub fn read_grouped(
     alloc: Global,
     cat: &Catalog,

@@ -1,4 +1,5 @@
-//! Reading a SELECT that may group: its names bound to the catalogue, or its first fault (PostgreSQL manual, chapter Queries, GROUP BY).
+//! Reading a SELECT that may group: its names bound to the catalogue, or its first fault (PostgreSQL manual, chapter Queries,
+//! GROUP BY).
 #![tactic(auto)]
 
 mod bind;

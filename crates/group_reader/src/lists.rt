@@ -66,7 +66,7 @@ fn shown_columns(alloc: Global, parts: &[Part]) -> Result<Vec<ColRef>, Memory>
     Ok(all)
 }
 
-/// The word at which a part is at fault where it shows a column that is not grouped.
+/// The word of the error of a part that shows a column that is not grouped.
 fn ungrouped_part(keys: &ColumnPlaces, part: Part) -> Option<Token>
     ensures { result ≡ ungrouped_part keys.now part }
 {

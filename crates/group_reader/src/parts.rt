@@ -7,7 +7,7 @@ use sql_query::Item;
 /// A part of a bound list.
 #[derive(Clone, Copy, Debug, PartialEq, Eq)]
 pub enum Part {
-    /// A column that is shown, and the word at which it is at fault where it is not grouped.
+    /// A column that is shown, and the word of the error where it is not grouped.
     Shown(ColRef, Token),
     /// A call.
     Called(Item),

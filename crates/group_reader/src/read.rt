@@ -1,5 +1,5 @@
-//! Reading the words of a grouped SELECT that the grammar has accepted. Each part is asked for only where the words left are those
-//! of some tree, so that want of memory alone is left to refuse it.
+//! Reading the words of a grouped SELECT that the grammar has accepted. Each part is asked for only where the words left are
+//! those of some tree, so that only running out of memory is left to refuse it.
 
 ghost use Rattle.std.specs.Prelude.{◌≡◌, ◌∷◌, ◌≤◌, length, IfOk};
 ghost use Rattle.sql_grammar.specs.Terminals.{t_key};

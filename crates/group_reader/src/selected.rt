@@ -24,7 +24,7 @@ pub enum Selected {
     Grouped(Grouped),
 }
 
-/// A SELECT that does not group, told of whole.
+/// A SELECT that does not group, read as a whole.
 fn plain(
     alloc: Global,
     cat: &Catalog,
@@ -46,7 +46,7 @@ fn plain(
     Ok(Selected::Plain(query))
 }
 
-/// A SELECT that groups, told of whole.
+/// A SELECT that groups, read as a whole.
 fn grouped(
     alloc: Global,
     cat: &Catalog,
@@ -73,20 +73,20 @@ fn grouped(
 ///
 /// Of one that groups, the relations, the conditions of joins and WHERE are those of a SELECT that does not. Then the list is
 /// bound from the left: of a call its column first, then the call itself, which is `count(*)`, `count` of a column, or `min` or
-/// `max` of one that is no truth value. Then come ORDER BY, of which a bare name is sought among the columns that the list shows
-/// first, then GROUP BY, then the first column in the list and then in ORDER BY that is no GROUP BY column, then the limits
-/// (PostgreSQL manual, chapter Queries, GROUP BY, and Aggregate Functions; the limits are own). A GROUP BY column that is shown is
-/// told by its place among these, the first one where it stands there twice. The classes are those of the conjuncts, of ORDER BY
-/// and of the GROUP BY columns behind it, ascending with NULLs last.
+/// `max` of one that is no truth value. Then come ORDER BY, of which a bare name is sought among the columns that the list
+/// shows first, then GROUP BY, then the first column in the list and then in ORDER BY that is no GROUP BY column, then the
+/// limits (PostgreSQL manual, chapter Queries, GROUP BY, and Aggregate Functions; the limits are own). A GROUP BY column that
+/// is shown is given by its place among these, the first one where it stands there twice. The classes are those of the
+/// conjuncts, of ORDER BY and of the GROUP BY columns behind it, ascending with NULLs last.
 ///
 /// SELECT DISTINCT is one that groups: its GROUP BY columns are those that the list shows, in their order and with repeats
 /// (PostgreSQL manual, SELECT, DISTINCT Clause). Where they are more than can be numbered, the refusal is `Memory`.
 ///
 /// The text has at most 2^31 bytes, and the tokens are the words of a statement from some offset of it, of no other kind than a
-/// SELECT. The refusal is the first fault: that of the statement's grammar, as `read_select` tells it; else a fault of FROM, of a
-/// condition or of a name, with the codes there; a call that is not known (42883), with the call's name; a column that is not grouped
-/// (42803), with its name, or with the star that shows it; else a limit (54000). It is `Memory` only of a statement without a fault
-/// of the grammar.
+/// SELECT. The refusal is the first fault: that of the statement's grammar, as `read_select` tells it; else a fault of FROM, of
+/// a condition or of a name, with the codes there; a call that is not known (42883), with the call's name; a column that is not
+/// grouped (42803), with its name, or with the star that shows it; else a limit (54000). It is `Memory` only of a statement
+/// without a fault of the grammar.
 pub fn read_any(
     alloc: Global,
     cat: &Catalog,

@@ -14,7 +14,7 @@ pub struct Column {
 /// An item of the list that a grouped SELECT shows.
 #[derive(Debug, Drop)]
 pub enum Listed {
-    /// Columns, and their last word, at which they are at fault where they are not grouped.
+    /// Columns, and their last word, that of the error where they are not grouped.
     Columns(Item, Token),
     /// A call of this name over all rows.
     OverRows(Spelled),

@@ -30,12 +30,12 @@ abbrev pub HasArg : List Values → Option ColRef → Type 0
 HasArg rows None = Unit {0}
 HasArg rows (Some x) = HasColumn rows x
 
--- its value, NULL for `count(*)`, which has none
+-- the value of a call's column in one of these rows, NULL for `count(*)`, which has none
 abbrev pub arg_in : List Values → Option ColRef → Value
 arg_in rows None = Null
 arg_in rows (Some x) = cell_of rows x
 
--- these are such columns of a relation
+-- the columns that keys and calls read are columns of the relations
 abbrev pub AreColumnsSeen : Contents → Range → Columns → Type 0
 AreColumnsSeen c range columns = AreSeenOf c range columns.keys.now columns.args.now
 

@@ -39,8 +39,8 @@ module _ (w : World) (q : Query) (g : GroupedQuery) where
   abbrev pub drawn : Plan → List Tuple
   drawn p = run w q p (no_rows q)
 
-  -- an input whose tuples can be grouped: finished, over columns that are there, the tuples of a group side by side where only the
-  -- last group is looked at; places are numbers below 2^32
+  -- an input whose tuples can be grouped: finished, over columns that are there, the tuples of a group side by side where only
+  -- the last group is looked at; places are numbers below 2^32
   pub record IsInputFor (form : Form) (p : Plan) : Type 0 where
     pub finished : IsFinished w.contents q p
     pub seen : AreSeenOf w.contents q.range g.keys (args_of g.items)
@@ -48,7 +48,8 @@ module _ (w : World) (q : Query) (g : GroupedQuery) where
     pub few_keys : length g.keys < 2 ^ 32
     pub few_calls : length (calls_of g.items) < 2 ^ 32
 
-  -- the plan's text and the lines of the groups of the input's tuples, with the input's fetches, and its looks with 32 for each tuple
+  -- the plan's text and the lines of the groups of the input's tuples, with the input's fetches, and its looks with 32 for each
+  -- tuple
   abbrev pub drawn_reply : GroupTask → GroupPlan → Plan → Reply
   drawn_reply t chosen p = record {
     bytes = group_plan_text w.contents g t chosen p ++ lines_text (final_lines g chosen (seen_all (drawn p)));
@@ -56,6 +57,6 @@ module _ (w : World) (q : Query) (g : GroupedQuery) where
     looked = looks w q p (no_rows q) + MOST_READS * length (drawn p);
   }
 
-  -- the same of a chosen plan
+  -- the reply of a chosen plan: its text and the lines of the groups of its input's tuples
   abbrev pub chosen_reply : Chosen → Reply
   chosen_reply x = drawn_reply x.task x.plan (path x.input).tree

@@ -51,9 +51,9 @@ module _ (w : World) (g : GroupedQuery) where
 abbrev pub lines_text : List (List Value) → List ℕ
 lines_text ls = flat_map row_line ls ++ count_line (length ls)
 
--- a grouped SELECT: that text, and the lines of the groups of the input plan's tuples, which are as a bag those of the query's meaning
--- and stand in ORDER BY, with their number; the rows that the input fetches are fetched, and there are its looks, with 32 for each of
--- its tuples
+-- a grouped SELECT: that text, and the lines of the groups of the input plan's tuples, which are as a bag those of the query's
+-- meaning and stand in ORDER BY, with their number; the rows that the input fetches are fetched, and there are its looks, with
+-- 32 for each of its tuples
 pub record IsGroupedAnswerTo (w : World) (g : GroupedQuery) (r : Reply) : Type 0 where
   pub task : GroupTask
   pub chosen : GroupPlan

@@ -25,15 +25,15 @@ use sql_query::Grouped;
 use std::alloc::Global;
 use store::Store;
 
-/// Prints the answer to a grouped SELECT: the text of a plan that groups, which no admissible one undercuts in price, a line for each
-/// group of the tuples that its input gives, and the number of these lines. They are as a bag one line for each group of the query's
-/// meaning, and stand in ORDER BY.
+/// Prints the answer to a grouped SELECT: the text of a plan that groups, which no admissible one undercuts in price, a line
+/// for each group of the tuples that its input gives, and the number of these lines. They are as a bag one line for each group
+/// of the query's meaning, and stand in ORDER BY.
 ///
-/// The plan that is printed is the one that is run. Rows are fetched as often as the input fetches them, and entries and rows already
-/// found looked at as often as it does at most, with 32 more looks for each of its tuples.
+/// The plan that is printed is the one that is run. Rows are fetched as often as the input fetches them, and entries and rows
+/// already found looked at as often as it does at most, with 32 more looks for each of its tuples.
 ///
-/// At `Write` and `Memory` out has a prefix of that, or is as before; at `Write` its count of faults rose. `NoPlan` comes only where
-/// each plan that groups costs 10^18 or more, and changes nothing.
+/// At `Write` and `Memory` out has a prefix of that, or is as before; at `Write` its count of faults rose. `NoPlan` comes only
+/// where each plan that groups costs 10^18 or more, and changes nothing.
 pub fn answer_groups<C: Counters, K: Sink>(
     alloc: Global,
     cat: &Catalog,
@@ -67,8 +67,8 @@ pub fn answer_groups<C: Counters, K: Sink>(
     Ok(())
 }
 
-/// That a grouped SELECT has an answer, and its EXPLAIN one. Nothing is read or printed. `NoPlan` comes only where each plan that
-/// groups costs 10^18 or more; the other error is want of memory.
+/// That a grouped SELECT has an answer, and its EXPLAIN one. Nothing is read or printed. `NoPlan` comes only where each plan
+/// that groups costs 10^18 or more; the other error is out of memory.
 pub fn plan_groups<C: Counters>(
     alloc: Global,
     cat: &Catalog,

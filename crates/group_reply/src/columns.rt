@@ -20,7 +20,7 @@ pub(crate) struct Columns<'a> {
     pub(crate) args: &'a [Option<ColRef>],
 }
 
-/// The values of columns in rows of all relations. The error means want of memory.
+/// The values of columns in rows of all relations. The error means out of memory.
 pub(crate) fn keys_in(alloc: Global, columns: &[ColRef], rows: &[Row]) -> Result<Values, Memory>
     requires { All (HasColumn (map (λ r. r.now) rows.now)) columns.now }
     ensures { IfOk result (λ v. v ≡ map (cell_of (map (λ r. r.now) rows.now)) columns.now) }
@@ -33,7 +33,7 @@ pub(crate) fn keys_in(alloc: Global, columns: &[ColRef], rows: &[Row]) -> Result
     Ok(Values::from_vec(values))
 }
 
-/// The value of each call's column in rows of all relations. The error means want of memory.
+/// The value of each call's column in rows of all relations. The error means out of memory.
 pub(crate) fn args_in(
     alloc: Global,
     args: &[Option<ColRef>],

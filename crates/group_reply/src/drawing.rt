@@ -22,8 +22,8 @@ use heap::Counters;
 use pg_base::{Memory, Steps, Tid};
 use sql_query::Grouped;
 
-/// Draws all tuples that are still to come, and gives the lines of their groups. Each relation's row is looked at once for each tuple.
-/// The error means want of memory.
+/// Draws all tuples that are still to come, and gives the lines of their groups. Each relation's row is looked at once for each
+/// tuple. The error means out of memory.
 pub(crate) fn draw_lines<C: Counters>(
     at: &Setting<C>,
     g: &Grouped,
@@ -114,7 +114,7 @@ fn push_all<C: Counters>(
     Ok(())
 }
 
-/// Has a tuple join the groups. Each relation's row is looked at once. For want of memory the groups are as before.
+/// Has a tuple join the groups. Each relation's row is looked at once. If memory runs out, the groups are as before.
 fn push_tuple<C: Counters>(
     at: &Setting<C>,
     columns: &Columns,

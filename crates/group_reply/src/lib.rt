@@ -1,5 +1,5 @@
-//! The reply to a SELECT that groups: the text of its plan, a line for each group of the tuples that the plan's input gives, and
-//! the number of these lines.
+//! The reply to a SELECT that groups: the text of its plan, a line for each group of the tuples that the plan's input gives,
+//! and the number of these lines.
 #![tactic(auto)]
 
 mod answer;

@@ -16,8 +16,8 @@ use pg_value::Value;
 use reply_text::{Lines, count_line};
 use std::alloc::Global;
 
-/// Prints a text, a line for each list of values, and the number of these lines. Where out fails, or memory is wanted, out has a
-/// prefix of that.
+/// Prints a text, a line for each list of values, and the number of these lines. Where out fails, or memory is wanted, out has
+/// a prefix of that.
 pub(crate) fn put_answer<K: Sink>(
     alloc: Global,
     text: &[u8],
@@ -71,7 +71,7 @@ fn put_line<K: Sink>(
     put(out, pending, line)
 }
 
-/// The line of a list of values. The error means want of memory.
+/// The line of a list of values. The error means out of memory.
 fn line_text<'a>(
     alloc: Global,
     values: &[Value],

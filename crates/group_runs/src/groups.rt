@@ -5,7 +5,7 @@ ghost use Rattle.pg_value.specs.Sorting.{IsInOrder, one_after_other};
 ghost use Rattle.group_values.specs.Groups.{Seen, lines, sorted, sorter_order, summaries};
 ghost use Rattle.group_values.specs.Shapes.{GroupShape};
 
-/// The same tuples in another order give the same lines, in another order where these are not sorted, or tie.
+/// Tuples in any order give the same lines, but those that are not sorted, or tie, may come in another order.
 pub fn tuples_in_any_order_give_the_same_lines()
     ensures { (shape : GroupShape) (ss ts : List Seen) →
         All (λ (s : Seen). length s.keys ≡ shape.width) ss → IsPermutation ss ts →

@@ -1,5 +1,5 @@
--- What plans that group cost, in 1/400 of a sequential page (PostgreSQL, src/backend/optimizer/path/costsize.c, cost_agg; the rules are
--- own). They are exact: no number is cut.
+-- What plans that group cost, in 1/400 of a sequential page (PostgreSQL, src/backend/optimizer/path/costsize.c, cost_agg; the
+-- rules are own). They are exact: no number is cut.
 use Rattle.std.specs.Prelude.{ℕ, ◌+◌, ◌*◌, ◌≤◌, Bool, true, cond, List, [], ◌∷◌, All, length, min, nat_lt}
 use Rattle.cost_rules.specs.Costs.{IsEstimate, pair, sort_cost}
 use Rattle.cost_rules.specs.declared.parameters.TheConstants.{OPERATOR, TUPLE}
@@ -40,6 +40,6 @@ row_tests Hashed keys calls = 2 * keys + calls
 abbrev pub group_cost : Form → GroupTask → ℕ → ℕ
 group_cost f t input = input + t.rows * row_tests f (length t.distinct.items) t.calls * OPERATOR + groups_of t * TUPLE
 
--- the same with a sort of the groups on top, where there is one
+-- what a form of grouping costs over an input of this total, with a sort of the groups on top, where there is one
 abbrev pub group_total : Form → GroupTask → ℕ → ℕ
 group_total f t input = cond (sorts_after f t) (sort_cost (pair 0 (group_cost f t input)) (groups_of t)).total (group_cost f t input)

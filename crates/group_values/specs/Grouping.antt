@@ -12,11 +12,11 @@ pub record Grouping : Type 0 where
   pub sort_after : Bool
   pub groups : List Summary
 
--- so much is known of the groups of these tuples
+-- the groups of a grouping are those of these tuples
 abbrev pub AreOf : List Seen → Grouping → Type 0
 AreOf ss g = IsSumOf g.shape ss g.groups
 
--- the same with other groups
+-- a grouping with other groups in place of its own
 abbrev pub with_groups : List Summary → Grouping → Grouping
 with_groups gs g = record { shape = g.shape; form = g.form; sort_after = g.sort_after; groups = gs }
 

@@ -19,7 +19,7 @@ pub record Seen : Type 0 where
   pub keys : List Value
   pub args : List Value
 
--- both NULL, or equal
+-- two values are both NULL, or equal
 abbrev pub same_value : Value → Value → Bool
 same_value v w = is_eq (kind_order v w)
 
@@ -29,7 +29,7 @@ same_keys [] [] = true
 same_keys (v ∷ vs) (w ∷ ws) = cond (same_value v w) (same_keys vs ws) false
 same_keys _ _ = false
 
--- of one group
+-- two tuples are of one group
 abbrev pub alike : Seen → Seen → Bool
 alike s t = same_keys s.keys t.keys
 
@@ -117,7 +117,7 @@ lines_of shape gs = map (line shape.items) (sorted shape.order gs)
 abbrev pub lines : GroupShape → List Seen → List (List Value)
 lines shape ss = lines_of shape (summaries shape ss)
 
--- so much is known of the groups of these tuples
+-- each tuple has as many keys as there are GROUP BY columns, and these are the groups of the tuples
 pub record IsSumOf (shape : GroupShape) (ss : List Seen) (gs : List Summary) : Type 0 where
   pub widths : All (λ (s : Seen). length s.keys ≡ shape.width) ss
   pub is : gs ≡ summaries shape ss

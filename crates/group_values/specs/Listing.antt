@@ -22,7 +22,7 @@ pub record IsByHash (c : Chains) (gs : List Summary) : Type 0 where
   pub chained : IsChained c
   pub hashes : c.hashes.items ≡ hashes_of gs
 
--- it can find each of these groups
+-- a finder can find each of these groups
 abbrev pub HasNoted : Finder → List Summary → Type 0
 HasNoted Last gs = Unit {0}
 HasNoted (ByHash c) gs = IsByHash c gs

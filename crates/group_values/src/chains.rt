@@ -38,7 +38,7 @@ impl Chains {
         Chains::with_buckets(alloc, BUCKETS)
     }
 
-    /// So many buckets, and no slots.
+    /// Chains with this number of buckets, and no slots. The error means out of memory.
     fn with_buckets(alloc: Global, count: usize) -> Result<Chains, Memory>
         requires { 0 < count }
         ensures chained { IfOk result (λ c. IsChained c) }
@@ -94,7 +94,7 @@ impl Chains {
         self.firsts[self.bucket(hash)]
     }
 
-    /// Makes a slot for a hash, the one behind the last. For want of memory there is none more.
+    /// Makes a slot for a hash, the one behind the last. If memory runs out, there is none more.
     pub(crate) fn add(&mut self, hash: u64) -> Result<(), Memory>
         requires { IsChained self.old }
         ensures chained { IsChained self.new }
@@ -105,7 +105,7 @@ impl Chains {
         self.put(hash)
     }
 
-    /// Makes twice as many buckets where there are two slots to each. For want of memory the chains are as before.
+    /// Makes twice as many buckets where there are two slots to each. If memory runs out, the chains are as before.
     fn make_room(&mut self) -> Result<(), Memory>
         requires { IsChained self.old }
         ensures chained { IsChained self.new }
@@ -120,7 +120,7 @@ impl Chains {
         Ok(())
     }
 
-    /// The same slots in chains of twice as many buckets.
+    /// The slots of these chains, in chains of twice as many buckets. The error means out of memory.
     fn widened(&self) -> Result<Chains, Memory>
         requires chained { IsChained self.now }
         requires full { length self.now.firsts.items + length self.now.firsts.items ≤ length self.now.hashes.items }
@@ -135,7 +135,7 @@ impl Chains {
         Ok(wider)
     }
 
-    /// Puts a new slot into the chain of its hash. For want of memory there is none more.
+    /// Puts a new slot into the chain of its hash. If memory runs out, there is none more.
     fn put(&mut self, hash: u64) -> Result<(), Memory>
         requires chained { IsChained self.old }
         requires room { HasRoom self.old }
@@ -149,7 +149,7 @@ impl Chains {
         Ok(())
     }
 
-    /// Makes a new slot, alone and in no bucket's chain yet. For want of memory there is none more.
+    /// Makes a new slot, alone and in no bucket's chain yet. If memory runs out, there is none more.
     fn add_slot(&mut self, hash: u64) -> Result<u32, Memory>
         requires chained { IsChained self.old }
         requires room { HasRoom self.old }

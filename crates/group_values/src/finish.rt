@@ -8,7 +8,7 @@ use crate::{Kept, Lines, Shape, Shown, Sorter, compare};
 use pg_base::Memory;
 use std::alloc::Global;
 
-/// The line of each group, in their order or sorted. The error means want of memory.
+/// The line of each group, in their order or sorted. The error means out of memory.
 pub(crate) fn final_lines(
     alloc: Global,
     shape: &Shape,
@@ -24,7 +24,7 @@ pub(crate) fn final_lines(
     lines_in_order(alloc, &shape.items, &groups)
 }
 
-/// Sorts groups by the items of ORDER BY. Those that tie keep their places. The error means want of memory.
+/// Sorts groups by the items of ORDER BY. Those that tie keep their places. The error means out of memory.
 fn sort_groups(order: &[Sorter], groups: &mut Vec<Kept>) -> Result<(), Memory>
     ensures { OnOk result (groups.new.items ≡ sorted order.now groups.old.items) }
 {
@@ -32,7 +32,7 @@ fn sort_groups(order: &[Sorter], groups: &mut Vec<Kept>) -> Result<(), Memory>
     Ok(())
 }
 
-/// The line of each group. The error means want of memory.
+/// The line of each group. The error means out of memory.
 fn lines_in_order(alloc: Global, items: &[Shown], groups: &[Kept]) -> Result<Lines, Memory>
     ensures { IfOk result (λ l. l ≡ map (line items.now) groups.now) }
 {

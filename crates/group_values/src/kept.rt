@@ -43,7 +43,7 @@ impl Kept {
         Ok(Kept { keys, called })
     }
 
-    /// A group of one tuple. The error means want of memory.
+    /// A group of one tuple. The error means out of memory.
     pub fn begin(alloc: Global, calls: &[Call], keys: Values, args: Values) -> Result<Kept, Memory>
         requires { length args ≡ length calls.now }
         ensures { IfOk result (λ k. k ≡ begun calls.now keys args) }
@@ -77,7 +77,7 @@ impl Kept {
         join_each(calls, &mut self.called, &mut args.values);
     }
 
-    /// The line that shows these items of the group. The error means want of memory.
+    /// The line that shows these items of the group. The error means out of memory.
     pub fn line(&self, alloc: Global, items: &[Shown]) -> Result<Values, Memory>
         ensures { IfOk result (λ l. l ≡ line items.now self.now) }
     {
@@ -89,7 +89,7 @@ impl Kept {
         Ok(Values { values })
     }
 
-    /// The value that an item shows, NULL past the columns or the calls. The error means want of memory.
+    /// The value that an item shows, NULL past the columns or the calls. The error means out of memory.
     fn cell(&self, alloc: Global, item: Shown) -> Result<Value, Memory>
         ensures { IfOk result (λ v. v ≡ cell self.now item) }
     {
@@ -100,7 +100,7 @@ impl Kept {
     }
 }
 
-/// The value at a place of a list, NULL past its end. The error means want of memory.
+/// The value at a place of a list, NULL past its end. The error means out of memory.
 fn copy_at(alloc: Global, values: &[Value], place: usize) -> Result<Value, Memory>
     ensures { IfOk result (λ v. v ≡ slice_index_or values.now place Null) }
 {

@@ -1,7 +1,8 @@
 //! Groups of tuples by the values of columns, what `count`, `min` and `max` give of them, and what grouping costs (PostgreSQL
-//! manual, chapter Queries, GROUP BY; Aggregate Functions; src/backend/executor/nodeAgg.c; src/backend/optimizer/path/costsize.c,
-//! cost_agg). It knows values and numbers alone: neither columns, nor tables, nor plans. Tuples come one by one, and a group is found as
-//! the last one or by the hash of its keys. A cost unit is 1/400 of a sequential page.
+//! manual, chapter Queries, GROUP BY; Aggregate Functions; src/backend/executor/nodeAgg.c;
+//! src/backend/optimizer/path/costsize.c, cost_agg). It knows values and numbers alone: neither columns, nor tables, nor plans.
+//! Tuples come one by one, and a group is found as the last one or by the hash of its keys. A cost unit is 1/400 of a
+//! sequential page.
 #![tactic(auto)]
 
 mod chains;

@@ -18,7 +18,7 @@ use std::alloc::{AllocError, Global};
 /// How a group is found.
 #[derive(Drop)]
 pub(crate) enum Finder {
-    /// It is the last one, or a new one.
+    /// The group is the last one, or a new one.
     Last,
     /// By the hash of its keys; its slot is its place in the list.
     ByHash(Chains),
@@ -32,7 +32,7 @@ pub(crate) struct Listing {
 }
 
 impl Finder {
-    /// That of a form, without groups.
+    /// A finder of a form, without groups. The error means out of memory.
     fn new(alloc: Global, form: Form) -> Result<Finder, Memory>
         ensures form { IfOk result (λ f. form_of f ≡ form) }
         ensures finds { IfOk result (λ f. HasNoted f []) }
@@ -46,7 +46,7 @@ impl Finder {
         }
     }
 
-    /// Takes in the keys of one more group behind the others. For want of memory it finds the same groups as before.
+    /// Takes in the keys of one more group behind the others. If memory runs out, it finds the same groups as before.
     fn note(&mut self, groups: &[Kept], keys: &[Value]) -> Result<(), Memory>
         requires { HasNoted self.old groups.now }
         ensures form { form_of self.new ≡ form_of self.old }
@@ -87,7 +87,7 @@ impl Listing {
         }
     }
 
-    /// Puts a group behind the others. For want of memory they are as before.
+    /// Puts a group behind the others. If memory runs out, they are as before.
     pub(crate) fn add(&mut self, group: Kept) -> Result<(), Memory>
         requires { HasNoted self.old.finder self.old.groups.items }
         ensures form { form_of self.new.finder ≡ form_of self.old.finder }

@@ -2,7 +2,7 @@
 
 use crate::Form;
 
-/// What the plans of a GROUP BY are told by.
+/// What the plans of a GROUP BY are computed from.
 #[derive(Drop)]
 pub struct GroupTask {
     /// How many rows all relations are taken to give, from 1 to 10^12.

@@ -17,7 +17,8 @@ pub fn neighbours_are_of_the_last_group()
     ensures { (shape : GroupShape) (ss : List Seen) (s : Seen) (later : List Seen) (gs : List Summary) → IsSumOf shape ss gs → AreTogether (ss ++ s ∷ later) → IsLastAlone gs s.keys }
 {}
 
-/// So they come where they are sorted by an order in which the tuples of one group tie, and no others.
+/// The tuples of each group come one after another where they are sorted by an order in which the tuples of one group tie, and
+/// no others.
 pub fn sorted_tuples_are_neighbours()
     ensures { (order : Seen → Seen → Ordering) → IsTotalOrder order → ((s t : Seen) → is_eq (order s t) ≡ alike s t) → (ss : List Seen) → IsInOrder order ss → AreTogether ss }
 {}

@@ -46,7 +46,7 @@ impl Model for Groups {
 }
 
 impl Groups {
-    /// No tuples yet: no group, or where no column is grouped the one of no tuple. The error means want of memory.
+    /// No tuples yet: no group, or where no column is grouped the one of no tuple. The error means out of memory.
     pub fn new(alloc: Global, shape: Shape, form: Form, sort_after: bool) -> Result<Groups, Memory>
         ensures is { IfOk result (λ g. g ≡ record { shape = shape; form = form; sort_after = sort_after; groups = at_first shape.width shape.calls }) }
         ensures none { IfOk result (AreOf []) }
@@ -61,7 +61,7 @@ impl Groups {
     }
 
     /// Takes in one more tuple: the values of the GROUP BY columns, and that of each call's column, which of `count(*)` is not
-    /// looked at. For want of memory, and where a count would pass 2^63 - 1, the groups are as before.
+    /// looked at. If memory runs out, and where a count would pass 2^63 - 1, the groups are as before.
     pub fn push(&mut self, keys: Values, args: Values) -> Result<(), Memory>
         requires keys { length keys ≡ self.old.shape.width }
         requires args { length args ≡ length self.old.shape.calls }
@@ -81,7 +81,7 @@ impl Groups {
     }
 
     /// The lines of all groups: in the order of their first tuples, or sorted by the items of ORDER BY, where those that tie
-    /// stay in that order. The error means want of memory.
+    /// stay in that order. The error means out of memory.
     pub fn finish(self) -> Result<Lines, Memory>
         ensures { (ss : List Seen) → AreOf ss self → IfOk result (λ l. l ≡ lines (final_shape self.sort_after self.shape) ss) }
     {

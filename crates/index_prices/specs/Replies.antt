@@ -1,4 +1,4 @@
--- Which candidates to make for some queries, and how that is told. Own.
+-- Which candidates to make for some queries, and how that is printed. Own.
 use Rattle.std.specs.Prelude.{◌≡◌, ℕ, List, ◌++◌, codes, length}
 use Rattle.std.specs.Fmt.{decimal}
 use Rattle.std.specs.List.{flat_map}

@@ -20,7 +20,7 @@ pub(crate) fn has_number(set: u16, j: usize) -> bool
     RelSet(set).has(RelNo(j as u8))
 }
 
-/// Makes a candidate, which is acceptable. The error means want of memory.
+/// Makes a candidate, which is acceptable. The error means out of memory.
 fn add(alloc: Global, cat: &mut Catalog, x: &Candidate) -> Result<(), Memory>
     requires name { IsName x.now.name }
     requires fits { Fits cat.old x.now.index }
@@ -36,7 +36,7 @@ fn add(alloc: Global, cat: &mut Catalog, x: &Candidate) -> Result<(), Memory>
     }
 }
 
-/// A catalogue of its own with the candidates of a set added, in list order. The error means want of memory.
+/// A catalogue of its own with the candidates of a set added, in list order. The error means out of memory.
 pub(crate) fn with_added(
     alloc: Global,
     cat: &Catalog,

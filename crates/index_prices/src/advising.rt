@@ -41,8 +41,8 @@ pub fn recommend(
     advise(alloc, &mut pricer, n, most)
 }
 
-/// The advice as a text: a line `use NAME` for each member, in list order, and the line `cost=SUM`. None exactly where there
-/// is no advice. The error means want of memory.
+/// The advice as a text: a line `use NAME` for each member, in list order, and the line `cost=SUM`. None exactly where there is
+/// no advice. The error means out of memory.
 pub fn advice_for(
     alloc: Global,
     cat: &Catalog,

@@ -36,8 +36,8 @@ fn price(cat: &Catalog, q: &Prepared, p: &Path) -> u64
     price_of(q, cost_of(cat, q, p), all)
 }
 
-/// The least price of a query: that of an admissible finished plan that no other one undercuts. None exactly where no
-/// finished plan is admissible. The error means want of memory.
+/// The least price of a query: that of an admissible finished plan that no other one undercuts. None exactly where no finished
+/// plan is admissible. The error means out of memory.
 fn least_price(alloc: Global, cat: &Catalog, q: &Prepared) -> Result<Option<u64>, Memory>
     requires { IsWellBound cat.now q.now }
     ensures price { IfOk result (IsLeastPrice cat.now q.now) }

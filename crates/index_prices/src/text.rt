@@ -35,8 +35,8 @@ fn use_lines(alloc: Global, candidates: &[Candidate], set: u16) -> Result<Vec<u8
     Ok(text)
 }
 
-/// The lines of an advice, each ended by LF: `use NAME` for each member, in list order, and `cost=SUM`. The error means want
-/// of memory.
+/// The lines of an advice, each ended by LF: `use NAME` for each member, in list order, and `cost=SUM`. The error means out of
+/// memory.
 pub(crate) fn advice_text(
     alloc: Global,
     candidates: &[Candidate],

@@ -22,7 +22,7 @@ pub record Asked : Type 0 where
   pub candidates : List NamedIndex
   pub queries : List Query
 
--- the most candidates that are to be made: a number past the limit of candidates is at fault
+-- the most candidates that are to be made: a number past the limit of candidates is an error
 abbrev pub most_meant : Said → Result ℕ Fault
 most_meant n = cond (nat_le (digits_value 10 n.value) MOST_CANDIDATES) (Ok (digits_value 10 n.value)) (Err (fault_at S17 n.token))
 

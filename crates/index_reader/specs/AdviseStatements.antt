@@ -35,7 +35,7 @@ pub record IsAdviseMeaning (c : Contents) (text : List ℕ) (tokens : List Token
 abbrev pub AreAdvise : List ℕ → List Token → Type 0
 AreAdvise text tokens = (x : Advise) × IsSpelled (advise x) text tokens
 
--- why it is refused: its first fault, of its syntax or after it, or want of memory for one whose syntax has no fault
+-- why it is refused: its first fault, of its syntax or after it, or out of memory for one whose syntax has no fault
 abbrev pub IsAdviseRefusal : Contents → List ℕ → List Token → Refusal → Type 0
 IsAdviseRefusal c text tokens (refusal.Fault f) = IsFirstFault IsStatement text tokens f ⊎ IsAdviseMeaning c text tokens (Err f)
 IsAdviseRefusal c text tokens refusal.Memory = AreAdvise text tokens
@@ -48,13 +48,13 @@ pub record PartsStand (text : List ℕ) (tokens : List Token) (n : Said) (w : Ro
   pub some : 0 < length q.queries
   pub queries : (end : ℕ) → terminals text (drop end tokens) ≡ t_mark Close w.close ∷ w.rest → QueryRowAt text tokens (end + 1) q
 
--- what is told of them: what they mean, or their first fault, or there was no memory
+-- what is read of them: what they mean, or their first fault, or there was no memory
 abbrev pub TellsParts : Contents → Token → List Token → Said → Row → QueryRow → Result Advising Refusal → Type 0
 TellsParts c start tokens n w q (Ok a) = PartsMean c start tokens n (candidates_of w.first w.more) q.queries (Ok (advice_asked a))
 TellsParts c start tokens n w q (Err (refusal.Fault f)) = PartsMean c start tokens n (candidates_of w.first w.more) q.queries (Err f)
 TellsParts c start tokens n w q (Err refusal.Memory) = Unit {0}
 
--- where the parts of an ADVISE stand where they are read, what is read of them is told
+-- where the parts of an ADVISE stand where they are read, what is read of them is what they mean, or their first fault
 abbrev pub TellsAdvice : Contents → List ℕ → List Token → Result Advising Refusal → Type 0
 TellsAdvice c text tokens read =
     (n : Said) (w : Row) (q : QueryRow) (start : Token) (later : List Token) → tokens ≡ start ∷ later →

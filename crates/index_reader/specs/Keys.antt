@@ -33,7 +33,7 @@ methods = (codes "btree", Btree) ∷ (codes "hash", Hash) ∷ []
 abbrev pub method_of_name : List ℕ → Option Method
 method_of_name name = option_map (λ row. row.1) (find (λ row. bytes_eq row.0 name) methods)
 
--- the access method with the offset of its word: btree, at 0, where none is named; an unknown one is at fault
+-- the access method with the offset of its word: btree, at 0, where none is named; an unknown one is an error
 abbrev pub method_bound : Using → Result MethodRead Fault
 method_bound no_using = Ok (record { method = Btree; at = 0 })
 method_bound (using_method k n) = next (known S8 (token_of n) (method_of_name (bytes_of n))) (λ m. Ok (record { method = m; at = (token_of n).start }))
@@ -42,7 +42,7 @@ method_bound (using_method k n) = next (known S8 (token_of n) (method_of_name (b
 abbrev pub class_has_method : OpClass → Method → Bool
 class_has_method c m = list_any (λ listed. nat_eq (class_place listed.class) (class_place c) && has_method listed m) classes
 
--- a class that is named: one that is unknown or has not the method is at fault as an unknown one, any other that does not
+-- a class that is named: one that is unknown or has not the method is an error as an unknown one, any other that does not
 -- accept the column's type as a wrong type
 abbrev pub class_known : Token → Method → SqlType → Option OpClass → Result OpClass Fault
 class_known token m t None = Err (fault_at S8 token)

@@ -40,7 +40,7 @@ condition_bound s (where_expr _ e) = next (meaning_of_expr (visible_in s) (sight
 abbrev pub name_tokens : List KeyRead → List NamedColumn → List Token
 name_tokens keys names = map (λ k. k.token) keys ++ map (λ n. n.token) names
 
--- the first name too many is at fault
+-- the first name too many is an error
 abbrev pub limited_names : {A : Type 0} → List Token → Result A Fault → Result A Fault
 limited_names [] r = r
 limited_names (token ∷ _) r = Err (fault_at (S15 Columns) token)
@@ -50,7 +50,7 @@ abbrev pub has_many_atoms : Option Cond → Bool
 has_many_atoms None = false
 has_many_atoms (Some c) = nat_lt MOST_ATOMS (atom_count c)
 
--- too many atoms are at fault at the statement's first token
+-- too many atoms are an error at the statement's first token
 abbrev pub limited_atoms : {A : Type 0} → Token → Option Cond → A → Result A Fault
 limited_atoms start predicate x = cond (has_many_atoms predicate) (Err (fault_at (S15 Atoms) start)) (Ok x)
 

@@ -1,4 +1,4 @@
--- Faults at words that are told by where they begin (own).
+-- Faults at words that are given by where they begin (own).
 use Rattle.std.specs.Prelude.{ℕ, List, [], ◌∷◌, cond, nat_eq}
 use Rattle.pg_base.specs.declared.faults.Code.{Code}
 use Rattle.pg_base.specs.declared.faults.Fault.{Fault}

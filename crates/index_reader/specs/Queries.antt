@@ -1,5 +1,5 @@
--- What a SELECT of ADVISE means behind earlier ones, or its first fault (PostgreSQL manual, chapter Queries; codes: appendix Error
--- Codes; the limits are own).
+-- What a SELECT of ADVISE means behind earlier ones, or its first fault (PostgreSQL manual, chapter Queries; codes: appendix
+-- Error Codes; the limits are own).
 use Rattle.std.specs.Prelude.{◌≡◌, ℕ, List, cond, nat_lt, length, Result, Ok, Err}
 use Rattle.pg_base.specs.declared.faults.Code.TheVariants.{S15}
 use Rattle.pg_base.specs.declared.faults.Fault.{Fault}
@@ -13,7 +13,7 @@ use Rattle.sql_query.specs.Queries.{Query}
 use Rattle.query_reader.specs.Binding.{Bound, bound_part, query_with}
 use Rattle.index_reader.specs.Parts.{open_token, select_in}
 
--- what a SELECT behind so many means: the one too many is at fault at its `(`, and is not bound
+-- what a SELECT behind so many means: the one too many is an error at its `(`, and is not bound
 abbrev pub query_bound : Contents → Token → ℕ → Advised → Result Bound Fault
 query_bound c start earlier x = cond (nat_lt earlier MOST_QUERIES) (bound_part c start (select_in x)) (Err (fault_at (S15 Queries) (open_token x)))
 

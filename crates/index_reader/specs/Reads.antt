@@ -64,7 +64,7 @@ words_of_names_left n ns m rest = t_name n ∷ (words_of_names ns ++ t_mark Clos
 abbrev pub index_meant : ReadIndex → IndexMeant
 index_meant r = record { name = r.name; index = index_of r.def; at = r.at.items; method = r.method }
 
--- some parts, bound from the left, are read, and `rest` is left; or the first fault is told; or there was no memory
+-- some parts, bound from the left, are read, and `rest` is left; or the first fault is reported; or there was no memory
 abbrev pub ReadsEach : {A T : Type 0} → (A → Result T Fault) → List A → List Terminal → Result (Vec T Global) Refusal →
     List Terminal → Type 0
 ReadsEach {A} {T} bind parts rest read left = Reads (λ (v : Vec T Global). v.items) (bound_each bind parts) rest read left
@@ -75,7 +75,8 @@ StandsKey ts =
     (n : Ident) × (c : ClassTree) × (d : Direction) × (z : NullsEnd) × (rest : List Terminal) × (ends_key rest ≡ true) ×
     (ts ≡ words_of_key (index_key n c d z) ++ rest)
 
--- where it does, it is read as it means, of a table and for an access method, and what stands behind it is left
+-- where a key column stands first, and no word behind it goes on it, it is read as it means, of a table and for an access
+-- method, and what stands behind it is left
 abbrev pub ReadsIndexKey : Contents → TableNo → Method → List Terminal → Result KeyRead Refusal → List Terminal → Type 0
 ReadsIndexKey cat t m old read left =
     (n : Ident) (c : ClassTree) (d : Direction) (z : NullsEnd) (rest : List Terminal) → ends_key rest ≡ true →
@@ -85,7 +86,8 @@ ReadsIndexKey cat t m old read left =
 abbrev pub StandsClass : List Terminal → Type 0
 StandsClass ts = (c : ClassTree) × (rest : List Terminal) × (begins_class rest ≡ false) × (ts ≡ words_of_class c ++ rest)
 
--- where it does, it is read as it means for an access method and a type, and what stands behind it is left
+-- where an operator class, which may be left out, stands first, and none behind it, it is read as it means for an access method
+-- and a type, and what stands behind it is left
 abbrev pub ReadsClass : Method → SqlType → List Terminal → Result OpClass Refusal → List Terminal → Type 0
 ReadsClass m t old read left =
     (c : ClassTree) (rest : List Terminal) → begins_class rest ≡ false → old ≡ words_of_class c ++ rest →
@@ -97,7 +99,7 @@ AreOfCand ts =
     (n : Ident) × (o : Key) × (t : Ident) × (u : Using) × (p : Mark) × (x : KeyTree) × (xs : List (Mark × KeyTree)) ×
     (m : Mark) × (c : Include) × (w : Where) × (ts ≡ words_of_cand (cand_on n o t u p x xs m c w))
 
--- where they are, it is read as it means, in a statement that begins at this token
+-- where the words are those of a candidate, it is read as it means, in a statement that begins at this token
 abbrev pub ReadsCand : Contents → Token → List Terminal → Result ReadIndex Refusal → Type 0
 ReadsCand cat start ts read =
     (n : Ident) (o : Key) (t : Ident) (u : Using) (p : Mark) (x : KeyTree) (xs : List (Mark × KeyTree)) (m : Mark)

@@ -6,8 +6,8 @@ use Rattle.catalog.specs.Indexes.{columns_of}
 use Rattle.catalog.specs.Tables.{Fits}
 use Rattle.index_reader.specs.Meaning.{IndexMeant}
 
--- it may be handed to the catalogue: it has a name, and fits the table that it is of; its name and each of its columns have a
--- place in the text, and so has its method
+-- an index that is read may be passed to the catalogue: it has a name, and fits the table that it is of; its name and each of
+-- its columns have a place in the text, and so has its method
 pub record IsSound (cat : Contents) (text : List ℕ) (r : IndexMeant) : Type 0 where
   pub name : IsName r.name
   pub fits : Fits cat r.index

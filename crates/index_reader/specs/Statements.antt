@@ -20,12 +20,12 @@ pub record IsIndexMeaning (cat : Contents) (text : List ℕ) (tokens : List Toke
 abbrev pub AreIndex : List ℕ → List Token → Type 0
 AreIndex text tokens = (x : CreateIndex) × IsSpelled (create_index x) text tokens
 
--- why it is refused: its first fault, of its syntax or after it, or want of memory for one whose syntax has no fault
+-- why it is refused: its first fault, of its syntax or after it, or out of memory for one whose syntax has no fault
 abbrev pub IsCreateRefusal : Contents → List ℕ → List Token → Refusal → Type 0
 IsCreateRefusal cat text tokens (refusal.Fault f) = IsFirstFault IsStatement text tokens f ⊎ IsIndexMeaning cat text tokens (Err f)
 IsCreateRefusal cat text tokens refusal.Memory = AreIndex text tokens
 
--- why a candidate is refused that means this: its fault, or want of memory
+-- why a candidate is refused that means this: its fault, or out of memory
 abbrev pub IsCandRefusal : Result IndexMeant Fault → Refusal → Type 0
 IsCandRefusal meant (refusal.Fault f) = meant ≡ Err f
 IsCandRefusal meant refusal.Memory = Unit {0}

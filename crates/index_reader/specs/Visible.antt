@@ -15,7 +15,7 @@ pub record Sight : Type 0 where
   pub table : TableNo
   pub alias : List ℕ
 
--- its columns
+-- the columns of the table under its name, as names are looked up in them
 abbrev pub visible_in : Sight → Scope
 visible_in s = columns_from s.alias (record { 0 = 0 }) 0 (table_at s.contents s.table).names
 

@@ -38,7 +38,7 @@ pub record Row : Type 0 where
   pub close : Mark
   pub rest : List Terminal
 
--- they stand from token number `first` on
+-- candidates that are left stand from token number `first` on
 pub record RowAt (text : List ℕ) (tokens : List Token) (first : ℕ) (w : Row) : Type 0 where
   pub are : terminals text (drop first tokens) ≡ words_of_cand w.first ++ (words_of_cands w.more ++ t_mark Close w.close ∷ w.rest)
   pub limits : AreWithinLimits (terminals text tokens)
@@ -49,7 +49,7 @@ pub record QueryRow : Type 0 where
   pub queries : List Advised
   pub ending : Ending
 
--- they stand from token number `first` on
+-- SELECTs in parentheses that are left stand from token number `first` on
 pub record QueryRowAt (text : List ℕ) (tokens : List Token) (first : ℕ) (w : QueryRow) : Type 0 where
   pub are : terminals text (drop first tokens) ≡ words_of_more_advised w.queries ++ words_of_ending w.ending
   pub limits : AreWithinLimits (terminals text tokens)
@@ -71,14 +71,15 @@ pub record ArePlannable (c : Contents) (qs : List Query) : Type 0 where
   pub bound : All (IsWellBound c) qs
   pub classes : All (λ q. IsClassTable (given_of c q) q.classes) qs
 
--- what is told of a candidate at token number `first` behind earlier ones: what it means and where it ends, or its first fault, or
--- there was no memory
+-- what is read of a candidate at token number `first` behind earlier ones: what it means and where it ends, or its first fault,
+-- or there was no memory
 abbrev pub TellsCandidate : Contents → Token → List Token → List NamedIndex → ℕ → Cand → Result OneRead Refusal → Type 0
 TellsCandidate c start tokens earlier first x (Ok r) = CandidateMeans c start tokens earlier x (Ok r.candidate) × (r.end ≡ first + length (words_of_cand x))
 TellsCandidate c start tokens earlier first x (Err (refusal.Fault f)) = CandidateMeans c start tokens earlier x (Err f)
 TellsCandidate c start tokens earlier first x (Err refusal.Memory) = Unit {0}
 
--- the same of all that are left
+-- what is answered for all candidates that are left: what they mean and where they end, or their first fault, or there was no
+-- memory
 abbrev pub TellsCandidates : Contents → Token → List ℕ → List Token → Row → Result AllRead Refusal → Type 0
 TellsCandidates c start text tokens w (Ok r) =
     CandidatesMean c start tokens (candidates_of w.first w.more) (Ok r.candidates.items) × (r.names.items ≡ map name_token (candidates_of w.first w.more)) ×
@@ -86,13 +87,13 @@ TellsCandidates c start text tokens w (Ok r) =
 TellsCandidates c start text tokens w (Err (refusal.Fault f)) = CandidatesMean c start tokens (candidates_of w.first w.more) (Err f)
 TellsCandidates c start text tokens w (Err refusal.Memory) = Unit {0}
 
--- what is told of a SELECT whose `(` is token number `first`, behind earlier ones
+-- what is read of a SELECT whose `(` is token number `first`, behind earlier ones
 abbrev pub TellsQuery : Contents → Token → List Query → ℕ → Advised → Result OneQuery Refusal → Type 0
 TellsQuery c start earlier first x (Ok r) = QueryMeans c start earlier x (Ok r.query) × (r.end ≡ first + length (words_of_advised x))
 TellsQuery c start earlier first x (Err (refusal.Fault f)) = QueryMeans c start earlier x (Err f)
 TellsQuery c start earlier first x (Err refusal.Memory) = Unit {0}
 
--- the same of all that are left
+-- what is answered for all SELECTs that are left: what they mean, or their first fault, or there was no memory
 abbrev pub TellsQueries : Contents → Token → QueryRow → Result (Vec Query Global) Refusal → Type 0
 TellsQueries c start w (Ok v) = QueriesMean c start w.queries (Ok v.items)
 TellsQueries c start w (Err (refusal.Fault f)) = QueriesMean c start w.queries (Err f)
@@ -104,20 +105,21 @@ StandsCand text tokens first =
     (x : Cand) × (next : Terminal) × (rest : List Terminal) × Stands text tokens first (words_of_cand x) next rest ×
     (ends_cand (next ∷ rest) ≡ true) × (levels_of_cand x ≤ MOST_LEVELS)
 
--- where one does, this is the number of the token behind it
+-- where a candidate stands from token number `first` on, this is the number of the token behind it
 abbrev pub IsEndOfCand : List ℕ → List Token → ℕ → ℕ → Type 0
 IsEndOfCand text tokens first end =
     (x : Cand) (next : Terminal) (rest : List Terminal) → Stands text tokens first (words_of_cand x) next rest →
     ends_cand (next ∷ rest) ≡ true → levels_of_cand x ≤ MOST_LEVELS → end ≡ first + length (words_of_cand x)
 
--- where one does, what is read of it is told, behind earlier ones
+-- where a candidate stands from token number `first` on, what is read of it is what it means, or its first fault, behind
+-- earlier ones
 abbrev pub TellsNextCandidate : Contents → List ℕ → List Token → List NamedIndex → ℕ → Result OneRead Refusal → Type 0
 TellsNextCandidate c text tokens earlier first read =
     (x : Cand) (next : Terminal) (rest : List Terminal) (start : Token) (later : List Token) → tokens ≡ start ∷ later →
     Stands text tokens first (words_of_cand x) next rest → ends_cand (next ∷ rest) ≡ true → levels_of_cand x ≤ MOST_LEVELS →
     TellsCandidate c start tokens earlier first x read
 
--- where candidates stand from token number `first` on, what is read of them is told
+-- where candidates stand from token number `first` on, what is read of them is what they mean, or their first fault
 abbrev pub TellsRow : Contents → List ℕ → List Token → ℕ → Result AllRead Refusal → Type 0
 TellsRow c text tokens first read =
     (w : Row) (start : Token) (later : List Token) → tokens ≡ start ∷ later → RowAt text tokens first w →
@@ -129,7 +131,7 @@ StandsWindowed text tokens first =
     (x : WindowedSelect) × (next : Terminal) × (rest : List Terminal) × Stands text tokens first (words_of_windowed x) next rest ×
     (ends_windowed (next ∷ rest) ≡ true) × (levels_of_windowed x ≤ MOST_LEVELS)
 
--- where one does, this is the number of the token behind it
+-- where a SELECT with its order and its window stands from token number `first` on, this is the number of the token behind it
 abbrev pub IsEndOfWindowed : List ℕ → List Token → ℕ → ℕ → Type 0
 IsEndOfWindowed text tokens first end =
     (x : WindowedSelect) (next : Terminal) (rest : List Terminal) → Stands text tokens first (words_of_windowed x) next rest →
@@ -141,14 +143,15 @@ StandsAdvised text tokens first =
     (x : Advised) × (next : Terminal) × (rest : List Terminal) × Stands text tokens first (words_of_advised x) next rest ×
     (levels_of_advised x ≤ MOST_LEVELS)
 
--- where one does, what is read of it is told, behind earlier ones
+-- where a SELECT in parentheses stands from token number `first` on, what is read of it is what it means, or its first fault,
+-- behind earlier ones
 abbrev pub TellsNextQuery : Contents → List ℕ → List Token → List Query → ℕ → Result OneQuery Refusal → Type 0
 TellsNextQuery c text tokens earlier first read =
     (x : Advised) (next : Terminal) (rest : List Terminal) (start : Token) (later : List Token) → tokens ≡ start ∷ later →
     Stands text tokens first (words_of_advised x) next rest → levels_of_advised x ≤ MOST_LEVELS →
     TellsQuery c start earlier first x read
 
--- where SELECTs in parentheses stand from token number `first` on, what is read of them is told
+-- where SELECTs in parentheses stand from token number `first` on, what is read of them is what they mean, or their first fault
 abbrev pub TellsQueryRow : Contents → List ℕ → List Token → ℕ → Result (Vec Query Global) Refusal → Type 0
 TellsQueryRow c text tokens first read =
     (w : QueryRow) (start : Token) (later : List Token) → tokens ≡ start ∷ later → QueryRowAt text tokens first w →

@@ -82,10 +82,10 @@ fn parts(alloc: Global, cat: &Catalog, text: &[u8], tokens: &Tokens) -> Result<A
 /// from the left, each as CREATE INDEX is, but for the limit of a table's indexes: the eleventh is a fault (54000) at its name,
 /// and is not bound; any other has the faults of `index_reader::read_cand`, then a name that a table, an index or an earlier
 /// candidate has (42P07) at that name, a column that stands twice (42701) at the first such column's name, and a form that the
-/// method has not (22023) at the method's name. Then come more than 8 indexes and candidates on one table (54000), at the name of
-/// the first candidate too many. Then the SELECTs are read from the left: the seventeenth is a fault (54000) at its `(`, and is not
-/// bound; any other has the faults of `query_reader::read_part`. Conjuncts and atoms are counted for each candidate and each
-/// SELECT by itself, and their limits stand at the statement's first word.
+/// method has not (22023) at the method's name. Then come more than 8 indexes and candidates on one table (54000), at the name
+/// of the first candidate too many. Then the SELECTs are read from the left: the seventeenth is a fault (54000) at its `(`, and
+/// is not bound; any other has the faults of `query_reader::read_part`. Conjuncts and atoms are counted for each candidate and
+/// each SELECT by itself, and their limits stand at the statement's first word.
 ///
 /// What is read may be priced: the candidates may be made together, and each query is well bound, with classes of its own. The
 /// text has at most 2^31 bytes, and the tokens are the words of a statement from some offset of it, of which the first one is

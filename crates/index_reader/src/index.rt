@@ -131,8 +131,8 @@ fn made(
     })
 }
 
-/// A new index from its name on, in a statement that begins at this token. Names bind from the left, then the condition; then come
-/// the limits.
+/// A new index from its name on, in a statement that begins at this token. Names bind from the left, then the condition; then
+/// come the limits.
 pub fn index(
     alloc: Global,
     cat: &Catalog,

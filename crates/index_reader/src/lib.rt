@@ -1,6 +1,6 @@
-//! Reading CREATE INDEX (PostgreSQL manual, CREATE INDEX), and a candidate for an index: a definition bound to the catalogue, with
-//! the places at which the catalogue's refusals stand; and the statement ADVISE, which asks which of some candidates to make for some
-//! queries (own; HypoPG and dexter come closest to it).
+//! Reading CREATE INDEX (PostgreSQL manual, CREATE INDEX), and a candidate for an index: a definition bound to the catalogue,
+//! with the places at which the catalogue's refusals stand; and the statement ADVISE, which asks which of some candidates to
+//! make for some queries (own; HypoPG and dexter come closest to it).
 #![tactic(auto)]
 
 mod advise;

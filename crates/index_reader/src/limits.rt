@@ -31,7 +31,7 @@ pub fn name_tokens_of(
     Ok(all)
 }
 
-/// The limit of columns (54000): the first name too many is at fault.
+/// The limit of columns (54000): the first name too many is an error.
 pub fn check_columns(names: &[Token]) -> Result<(), Fault>
     ensures { result ≡ limited_names (drop MOST_COLUMNS names.now) (Ok tt) }
 {

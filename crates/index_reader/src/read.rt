@@ -30,7 +30,7 @@ fn first_token(tokens: &Tokens) -> Token
     tokens.items()[0]
 }
 
-/// The candidate for an index between two tokens of a statement, told of whole.
+/// The candidate for an index between two tokens of a statement, read as a whole.
 fn cand(
     alloc: Global,
     cat: &Catalog,
@@ -54,18 +54,17 @@ fn cand(
 /// Reads the CREATE INDEX of these tokens: its value, bound to the catalogue, or its first fault.
 ///
 /// Faults of syntax come first (42601, 54000). Then names bind from the left: an unknown table (42P01), an unknown access
-/// method (42704), then for each key column an unknown one (42703) and an operator class that is unknown or that the method
-/// has not (42704), or that does not accept the column's type (42804), each at its word; then an unknown column of INCLUDE
-/// (42703). Then the condition binds over the table's columns, which the table's name qualifies too, with the faults of
-/// `expr_reader::take_expr`. Then comes the limit of columns (54000, [`MOST_COLUMNS`](pg_base::MOST_COLUMNS)) at the first name too many, then that of 256 atoms of
-/// the condition (54000) at the statement's first word.
+/// method (42704), then for each key column an unknown one (42703) and an operator class that is unknown or that the method has
+/// not (42704), or that does not accept the column's type (42804), each at its word; then an unknown column of INCLUDE (42703).
+/// Then the condition binds over the table's columns, which the table's name qualifies too, with the faults of
+/// `expr_reader::take_expr`. Then comes the limit of columns (54000, [`MOST_COLUMNS`](pg_base::MOST_COLUMNS)) at the first name
+/// too many, then that of 256 atoms of the condition (54000) at the statement's first word.
 ///
-/// Without USING the method is btree; without an operator class it is that of the type's default family. DESC alone puts
-/// NULLs first, and otherwise they are last unless said. The condition is in pushed form, and its columns are those of
-/// relation 0. What the catalogue refuses is not asked here, but what is read may be handed to `Catalog::add_index`, and
-/// `at` has an offset for each place that it counts. The text has at most 2^31 bytes, and the tokens are the words of a
-/// statement from some offset of it, of which the first two are CREATE INDEX. The refusal is `Memory` only of one whose syntax has
-/// no fault.
+/// Without USING the method is btree; without an operator class it is that of the type's default family. DESC alone puts NULLs
+/// first, and otherwise they are last unless said. The condition is in pushed form, and its columns are those of relation 0.
+/// What the catalogue refuses is not asked here, but what is read may be passed to `Catalog::add_index`, and `at` has an offset
+/// for each place that it counts. The text has at most 2^31 bytes, and the tokens are the words of a statement from some offset
+/// of it, of which the first two are CREATE INDEX. The refusal is `Memory` only of one whose syntax has no fault.
 pub fn read_index(
     alloc: Global,
     cat: &Catalog,
@@ -85,10 +84,10 @@ pub fn read_index(
     }
 }
 
-/// Reads the candidate for an index that is the tokens from number `first` up to, but not including, number `end` of a statement
-/// without a fault of the grammar: the text of CREATE INDEX behind its first two words, without its end. It is bound as
-/// [`read_index`] binds one, with the same refusals but for those of the grammar. The limit of atoms stands at the first word of the
-/// whole statement.
+/// Reads the candidate for an index that is the tokens from number `first` up to, but not including, number `end` of a
+/// statement without a fault of the grammar: the text of CREATE INDEX behind its first two words, without its end. It is bound
+/// as [`read_index`] binds one, with the same refusals but for those of the grammar. The limit of atoms stands at the first
+/// word of the whole statement.
 pub fn read_cand(
     alloc: Global,
     cat: &Catalog,

@@ -27,8 +27,8 @@ fn indexes_on(cat: &Catalog, candidates: &[Candidate], table: TableNo) -> usize
     count
 }
 
-/// The fault of the first candidate whose table has 8 indexes and earlier candidates (54000), at its name, where `names` has the
-/// candidates' names; None where each finds room.
+/// The fault of the first candidate whose table has 8 indexes and earlier candidates (54000), at its name, where `names` has
+/// the candidates' names; None where each finds room.
 pub(crate) fn room_fault(cat: &Catalog, names: &[Token], candidates: &[Candidate]) -> Option<Fault>
     requires named { length names.now ≡ length candidates.now }
     requires apart { AreApart cat.now candidates.now }

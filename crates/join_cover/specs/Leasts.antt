@@ -16,18 +16,20 @@ module _ (es : List Entry) (s : ℕ) where
     pub same : entry.set.0 ≡ s
     pub whole : entry.param.0 ≡ 0
 
-  -- of all of these none costs less in all
+  -- of all entries of the set that are given no rows none costs less in all than the one at a place
   pub record IsLeastWhole (k : ℕ) : Type 0 where
     pub is : IsWhole k
     pub least : (l : ℕ) (other : IsWhole l) → is.entry.cost ≤ other.entry.cost
 
-  -- so of those at the ranks from one on and before another, with its cost
+  -- the entry at a place is of the set, given no rows, of this cost, and none of those at the ranks from one on and before
+  -- another costs less in all
   pub record IsLeastAt (p : SetPlaces) (from i : ℕ) (found : ℕ × ℕ) : Type 0 where
     pub is : IsWhole found.0
     pub cost_is : found.1 ≡ is.entry.cost
     pub least : (r : ℕ) → from ≤ r → r < i → (other : IsWhole (place_at p r)) → found.1 ≤ other.entry.cost
 
-  -- where there is one
+  -- the entry of the set, given no rows, that costs least of those at the ranks from one on and before another; none where
+  -- there is none
   abbrev pub IsLeastFrom : SetPlaces → ℕ → ℕ → Option (ℕ × ℕ) → Type 0
   IsLeastFrom p from i found = MatchOption found ((r : ℕ) → from ≤ r → r < i → ¬ IsWhole (place_at p r)) (λ x. IsLeastAt p from i x)
 

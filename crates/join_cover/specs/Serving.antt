@@ -23,11 +23,11 @@ module _ (c : Contents) (q : Query) (t : Certificate) where
   abbrev pub IsServed : Plan → Type 0
   IsServed p = IsBuilt c q p → IsAdmissible c q p → IsDominated c q t p
 
-  -- so of the nested loop of the entries at two places, from 0
+  -- an entry dominates the nested loop of the entries at two places, from 0, where it is an admissible plan of the space
   abbrev pub IsNestServed : ℕ → ℕ → Type 0
   IsNestServed k l = (o i : Plan) → unfold_at q t (suc k) ≡ Some o → unfold_at q t (suc l) ≡ Some i → IsServed (nest o i)
 
-  -- and of all nested loops of entries
+  -- an entry dominates each nested loop of entries that is an admissible plan of the space
   abbrev pub AreNestsServed : Type 0
   AreNestsServed = (o i : Plan) → IsEntryPlan q t o → IsEntryPlan q t i → IsServed (nest o i)
 
@@ -44,7 +44,7 @@ module _ (c : Contents) (q : Query) (t : Certificate) where
   IsMergeOpen keys sa sb k l x =
       (node : Plain) → ((o i : Plan) → unfold_at q t (suc k) ≡ Some o → unfold_at q t (suc l) ≡ Some i → StandsForPlan c q t node (merge keys (sorted_if sa keys o) (sorted_if sb keys i))) → IsOpen node x
 
-  -- so whichever of the two is sorted
+  -- the merge of the entries at two places by a list, whichever of the two is sorted
   abbrev pub IsListServed : Keys → ℕ → ℕ → Type 0
   IsListServed keys k l = (sa sb : Bool) → IsMergeServed keys sa sb k l
 
@@ -58,7 +58,7 @@ module _ (c : Contents) (q : Query) (t : Certificate) where
   AreNestsBy p x y outer inner =
       (k l : ℕ) → outer.0 ≤ k → k < outer.1 → inner.0 ≤ l → l < inner.1 → IsOf t.entries x (place_at p k) → IsOf t.entries y (place_at p l) → IsNestServed (place_at p k) (place_at p l)
 
-  -- their merges by a list, each as it stands or sorted; and by every list
+  -- the merges of the entries of two sets by a list, each as it stands or sorted
   abbrev pub AreMergesBy : Keys → ℕ → ℕ → Type 0
   AreMergesBy keys x y = (k l : ℕ) → IsOf t.entries x k → IsOf t.entries y l → IsListServed keys k l
 
@@ -66,7 +66,7 @@ module _ (c : Contents) (q : Query) (t : Certificate) where
   abbrev pub AreMergesOf : ℕ → ℕ → Type 0
   AreMergesOf x y = (keys : Keys) → AreMergesBy keys x y
 
-  -- those of one outer entry, sorted or not, with the inner ones as they stand, and with the one at a place sorted
+  -- the merges of one outer entry, sorted or not, with the inner ones as they stand, and with the one at a place sorted
   pub record IsRowServed (keys : Keys) (x y k : ℕ) (sa : Bool) (least : ℕ) : Type 0 where
     pub sorted : IsOf t.entries x k → IsOf t.entries y least → IsMergeServed keys sa true k least
     pub plain : (l : ℕ) → IsOf t.entries x k → IsOf t.entries y l → IsMergeServed keys sa false k l
@@ -76,11 +76,11 @@ module _ (c : Contents) (q : Query) (t : Certificate) where
     pub nests : AreNestsOf x y
     pub merges : AreMergesOf x y
 
-  -- and all merges of entries, as they stand or sorted
+  -- an entry dominates each merge of entries, as they stand or sorted, that is an admissible plan of the space
   abbrev pub AreMergesServed : Type 0
   AreMergesServed = (keys : Keys) (o i : Plan) → IsKeptSide c q (IsEntryPlan q t) o → IsKeptSide c q (IsEntryPlan q t) i → IsServed (merge keys o i)
 
-  -- and all joins of entries
+  -- an entry dominates each join of entries that is an admissible plan of the space
   abbrev pub AreJoinsServed : Type 0
   AreJoinsServed = (p : Plan) → AreKeptSides c q (IsEntryPlan q t) p → IsServed p
 
@@ -89,15 +89,15 @@ module _ (c : Contents) (q : Query) (t : Certificate) where
   IsThirdServed x y a b z = z.0 ≢ x.0 → z.0 ≢ y.0 → AreMergesBy (x.0 ∷ y.0 ∷ z.0 ∷ []) a b
 
   module _ (found : List (Option ClassNo)) where
-    -- those by the lists of three that begin with two classes
+    -- the merges of the entries of two sets by the lists of three that begin with two classes
     abbrev pub AreThirdsServed : ClassNo → ClassNo → ℕ → ℕ → Type 0
     AreThirdsServed x y a b = (n : ℕ) (z : ClassNo) → slice_get found n ≡ Some (Some z) → IsThirdServed x y a b z
 
-    -- those by the lists that begin with two classes
+    -- the merges of the entries of two sets by the lists that begin with two classes
     abbrev pub IsSecondServed : ClassNo → ClassNo → ℕ → ℕ → Type 0
     IsSecondServed x y a b = y.0 ≢ x.0 → AreMergesBy (x.0 ∷ y.0 ∷ []) a b × AreThirdsServed x y a b
 
-    -- those by the lists that begin with one class
+    -- the merges of the entries of two sets by the lists that begin with one class
     abbrev pub IsFirstServed : ClassNo → ℕ → ℕ → Type 0
     IsFirstServed x a b = AreMergesBy (x.0 ∷ []) a b × ((n : ℕ) (y : ClassNo) → slice_get found n ≡ Some (Some y) → IsSecondServed x y a b)
 

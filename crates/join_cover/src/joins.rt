@@ -47,7 +47,7 @@ fn open_pair(j: &Judged, outer: RelSet, inner: RelSet) -> Option<(Plain, Uncover
     open_merges(j, outer, inner)
 }
 
-/// So with an outer entry of one set and an inner one of any.
+/// A join of an outer entry of one set and an inner one of any, that no entry dominates and one must.
 fn open_side(j: &Judged, outer: RelSet, all: RelSet) -> Option<(Plain, Uncovered)>
     requires query { IsOverTables j.now.cat.now j.now.q.now }
     requires right { AllRight j.now.cat.now j.now.q.now (certificate j.now.t.now) }

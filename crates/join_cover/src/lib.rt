@@ -1,5 +1,5 @@
 //! Joins of a certificate's entries that an entry must dominate: each is looked at, by the pairs of their sets, and the first
-//! that none dominates is told.
+//! that none dominates is reported.
 #![tactic(auto)]
 
 mod joins;

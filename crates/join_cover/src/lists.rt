@@ -28,7 +28,7 @@ fn open_list(j: &Judged, sets: (RelSet, RelSet), list: &[ClassNo]) -> Option<(Pl
     open_work(j, &work)
 }
 
-/// So by a list of three classes, where they are different.
+/// A merge of entries of two sets by a list of three classes, where they are different, that no entry dominates and one must.
 fn open_three(
     j: &Judged,
     sets: (RelSet, RelSet),
@@ -50,7 +50,8 @@ fn open_three(
     open_list(j, sets, &[list.0, list.1, list.2])
 }
 
-/// So by a list of two classes and a third one of those that were found.
+/// A merge of entries of two sets by a list of two classes and a third one of those that were found, that no entry dominates
+/// and one must.
 fn open_thirds(
     j: &Judged,
     sets: (RelSet, RelSet),
@@ -74,7 +75,8 @@ fn open_thirds(
     None
 }
 
-/// So by a list that begins with two classes, where they are different.
+/// A merge of entries of two sets by a list that begins with two classes, where they are different, that no entry dominates and
+/// one must.
 fn open_two(
     j: &Judged,
     sets: (RelSet, RelSet),
@@ -98,7 +100,8 @@ fn open_two(
     open_thirds(j, sets, found, two)
 }
 
-/// So by a list that begins with a class and a second one of those that were found.
+/// A merge of entries of two sets by a list that begins with a class and a second one of those that were found, that no entry
+/// dominates and one must.
 fn open_seconds(
     j: &Judged,
     sets: (RelSet, RelSet),
@@ -122,7 +125,7 @@ fn open_seconds(
     None
 }
 
-/// So by a list that begins with a class.
+/// A merge of entries of two sets by a list that begins with a class, that no entry dominates and one must.
 fn open_one(
     j: &Judged,
     sets: (RelSet, RelSet),

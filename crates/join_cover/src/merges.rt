@@ -84,7 +84,8 @@ fn open_merge(
     }
 }
 
-/// The same with the merge itself.
+/// The merge of the entries at two places, where these are of the two sets, each sorted by the list or not, with its numbers,
+/// where no entry dominates it and one must. None exactly where an entry dominates it or none must.
 fn open_sides(
     j: &Judged,
     work: &MergeWork,
@@ -208,8 +209,9 @@ fn open_rows(
     None
 }
 
-/// The same of all outer entries as they stand, and of the one at a place sorted: what a sorted side costs goes by its own
-/// cost in all, so that the least entry of a set stands for the others.
+/// A merge by the list of an outer entry as it stands, or of the one at a place sorted, with an inner one as it stands, or with
+/// the one at a place sorted, that no entry dominates and one must. What a sorted side costs goes by its own cost in all, so
+/// that the least entry of a set stands for the others.
 fn open_from(j: &Judged, work: &MergeWork, least: (usize, usize)) -> Option<(Plain, Uncovered)>
     requires query { IsOverTables j.now.cat.now j.now.q.now }
     requires right { AllRight j.now.cat.now j.now.q.now (certificate j.now.t.now) }

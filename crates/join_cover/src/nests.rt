@@ -75,7 +75,7 @@ fn open_inner(
     None
 }
 
-/// The same over some outer entries: the numbers of both.
+/// The numbers of an outer entry and an inner one, each among some, whose nested loop no entry dominates, with its numbers.
 fn open_outer(
     j: &Judged,
     work: &NestWork,

@@ -33,7 +33,7 @@ pub record IsPlanIn (paths : List Path) (t : Plan) : Type 0 where
   pub is_there : Contains paths path
   pub is_plan : path.tree ≡ t
 
--- the same, or a sort of one
+-- the plan of one of some paths, or a sort of one
 abbrev pub IsSideIn : List Path → Plan → Type 0
 IsSideIn paths (sort keys input) = IsPlanIn paths input
 IsSideIn paths t = IsPlanIn paths t
@@ -45,7 +45,7 @@ module _ (fronts : Fronts) where
     pub param : RelSet
     pub plan : IsPlanIn (fronts set param) t
 
-  -- the same, or a sort of one
+  -- the plan of a path of some front, or a sort of one
   abbrev pub IsSideKept : Plan → Type 0
   IsSideKept (sort keys input) = IsKept input
   IsSideKept t = IsKept t
@@ -102,6 +102,6 @@ AreAllCovered c q asked t = (s : RelSet) → AreJoinsCovered c q asked (paths_at
 abbrev pub HasOnlyJoins : Contents → Query → Table → Type 0
 HasOnlyJoins c q t = (s p : RelSet) → ¬ IsSingle s → All (IsJoinPath c q (paths_at t) s p) (paths_at t s p)
 
--- of the paths of such a set none dominates another
+-- of the paths of a set of several relations none dominates another
 abbrev pub HasNoDominatedJoins : Contents → Query → Table → Type 0
 HasNoDominatedJoins c q t = (s p : RelSet) → ¬ IsSingle s → AreUndominated c q (paths_at t s p)

@@ -1,4 +1,4 @@
--- Merge joins of two sets: their lists of classes, their sides, and what they are reckoned from (PostgreSQL,
+-- Merge joins of two sets: their lists of classes, their sides, and what they are computed from (PostgreSQL,
 -- src/backend/optimizer/path/joinpath.c, sort_inner_and_outer; that every list is tried is own).
 use Rattle.std.specs.Prelude.{◌≡◌, ◌≤◌, ◌<◌, ◌+◌, ◌^◌, ◌-◌, ◌&&◌, ◌++◌, ℕ, Bool, true, false, not, cond, nat_eq, List, [], ◌∷◌, All, Contains, filter, length, map, min}
 use Rattle.std.specs.List.{list_any, flat_map}
@@ -32,7 +32,7 @@ use Rattle.join_search.specs.Sufficing.{IsServed, floor_in}
 abbrev pub longer : List ℕ → Keys → List Keys
 longer ns keys = map (λ n. keys ++ n ∷ []) (filter (λ n. not (list_any (nat_eq n) keys)) ns)
 
--- the same of each of some lists
+-- each of some lists with one more class, each of some that it has not
 abbrev pub all_longer : List ℕ → List Keys → List Keys
 all_longer ns lists = flat_map (longer ns) lists
 
@@ -40,11 +40,11 @@ all_longer ns lists = flat_map (longer ns) lists
 abbrev pub ones : List ℕ → List Keys
 ones ns = all_longer ns ([] ∷ [])
 
--- those of two different ones
+-- the lists of two different ones of some classes
 abbrev pub twos : List ℕ → List Keys
 twos ns = all_longer ns (ones ns)
 
--- those of one, two and three different ones
+-- the lists of one, two or three different ones of some classes
 abbrev pub lists_of : List ℕ → List Keys
 lists_of ns = (ones ns ++ twos ns) ++ all_longer ns (twos ns)
 
@@ -100,16 +100,16 @@ module _ (c : Contents) (q : Query) (asked : Asked) where
   abbrev pub AreOutersServed : List Path → List Path → Keys → Plan → Type 0
   AreOutersServed front outers keys i = (o : Plan) → IsSideIn outers o → IsServed c q asked front (merge keys o i)
 
-  -- those with each inner side that starts before a cost
+  -- the merges of each outer side with each inner side that starts before a cost
   abbrev pub AreEarlyServed : List Path → List Path → List Path → Keys → ℕ → Type 0
   AreEarlyServed front outers inners keys startup =
       (i : Plan) → IsSideIn inners i → HasKeys c q i keys → startup_kept q.window (cost c q i).startup < startup → AreOutersServed front outers keys i
 
-  -- those with each inner path whose keys begin with the list, where it starts before a cost
+  -- the merges of each outer side with each inner path whose keys begin with the list, where it starts before a cost
   abbrev pub ArePlainEarlyServed : List Path → List Path → Keys → ℕ → List Path → Type 0
   ArePlainEarlyServed front outers keys startup inners = All (λ i. covers i.keys keys ≡ true → i.startup < startup → AreOutersServed front outers keys i.tree) inners
 
-  -- those of the outer paths that are not sorted
+  -- the merges of the outer paths that are not sorted, with one inner side
   abbrev pub ArePlainServed : List Path → Keys → Plan → List Path → Type 0
   ArePlainServed front keys i outers = All (λ o. covers o.keys keys ≡ true → IsServed c q asked front (merge keys o.tree i)) outers
 
@@ -117,17 +117,17 @@ module _ (c : Contents) (q : Query) (asked : Asked) where
 abbrev pub ServesOuters : Split → List Path → Keys → Plan → Type 0
 ServesOuters j front keys i = AreOutersServed j.cat.now j.q.now j.asked front (outers_of j) keys i
 
--- those with each inner side that starts before a cost
+-- the merges of each outer side of a split with each inner side that starts before a cost
 abbrev pub ServesEarlySides : Split → List Path → Keys → ℕ → Type 0
 ServesEarlySides j front keys startup =
     AreEarlyServed j.cat.now j.q.now j.asked front (outers_of j) (inners_of j none) keys startup
 
--- those with each inner path whose keys begin with the list, where it starts before a cost
+-- the merges of each outer side of a split with each inner path whose keys begin with the list, where it starts before a cost
 abbrev pub ServesEarlyPlain : Split → List Path → Keys → ℕ → Type 0
 ServesEarlyPlain j front keys startup =
     ArePlainEarlyServed j.cat.now j.q.now j.asked front (outers_of j) keys startup (inners_of j none)
 
--- those of the outer paths that are not sorted with one inner side
+-- the merges of the outer paths of a split that are not sorted, with one inner side
 abbrev pub ServesPlain : Split → List Path → Keys → Plan → Type 0
 ServesPlain j front keys i = ArePlainServed j.cat.now j.q.now j.asked front keys i (outers_of j)
 

@@ -1,4 +1,4 @@
--- What a nested loop is reckoned from. Own.
+-- What a nested loop is computed from. Own.
 use Rattle.std.specs.Prelude.{◌≡◌, ◌^◌, ◌-◌, ◌&&◌, ℕ, List, length, min, nat_lt}
 use Rattle.pg_base.specs.Sets.{has}
 use Rattle.pg_base.specs.declared.rel_set.RelSet.{RelSet}

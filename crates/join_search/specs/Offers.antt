@@ -34,7 +34,7 @@ module _ (c : Contents) (q : Query) (asked : Asked) where
   abbrev pub AreEachServed : List Path → List Path → Plan → Type 0
   AreEachServed front outers i = All (λ o. IsServed c q asked front (nest o.tree i)) outers
 
-  -- those with the inner paths that start before a cost
+  -- the nested loops of some outer paths with the inner paths that start before a cost
   abbrev pub AreEarlyServed : List Path → List Path → ℕ → List Path → Type 0
   AreEarlyServed front outers startup inners = All (λ i. i.startup < startup → AreEachServed front outers i.tree) inners
 
@@ -63,11 +63,11 @@ Serves j front t = IsServed j.cat.now j.q.now j.asked front t
 abbrev pub ServesEach : Split → List Path → Plan → Type 0
 ServesEach j front i = AreEachServed j.cat.now j.q.now j.asked front (outers_of j) i
 
--- those with the inner paths of a parameterisation that start before a cost
+-- the nested loops of each outer path of a split with the inner paths of a parameterisation that start before a cost
 abbrev pub ServesEarly : Split → List Path → ℕ → RelSet → Type 0
 ServesEarly j front startup p = AreEarlyServed j.cat.now j.q.now j.asked front (outers_of j) startup (inners_of j p)
 
--- those with each inner path of a parameterisation
+-- the nested loops of each outer path of a split with each inner path of a parameterisation
 abbrev pub ServesNests : Split → List Path → RelSet → Type 0
 ServesNests j front p = AreNestsServed j.cat.now j.q.now j.asked front (outers_of j) (inners_of j p)
 

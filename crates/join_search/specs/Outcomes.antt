@@ -97,7 +97,7 @@ first_four_joining q a b = take 4 (joining_from (has a.0) (has b.0) 0 q.classes.
 abbrev pub longer_by : List ClassNo → Keys → List Keys
 longer_by classes list = longer (class_numbers classes) list
 
--- so of each of some lists
+-- each of some lists with one more class, each of some
 abbrev pub all_longer_by : List ClassNo → List Keys → List Keys
 all_longer_by classes lists = all_longer (class_numbers classes) lists
 
@@ -119,7 +119,7 @@ abbrev pub ServesInOrder : Split → List Costed → Keys → Costed → Side �
 ServesInOrder j front keys outer inner =
     covers outer.keys keys ≡ true → Serves j (map path front) (merge keys (path outer).tree (side_plan keys inner))
 
--- so of each outer path
+-- the merges of each outer path as it stands, where its keys begin with the list, with one inner side
 abbrev pub ServesPlainSide : Split → List Costed → Keys → Side → Type 0
 ServesPlainSide j front keys inner = ServesPlain j (map path front) keys (side_plan keys inner)
 
@@ -132,12 +132,12 @@ ServesSortedSide j front keys inner =
 abbrev pub ServesSide : Split → List Costed → Keys → Side → Type 0
 ServesSide j front keys inner = ServesOuters j (map path front) keys (side_plan keys inner)
 
--- so with an inner path as it stands, where it starts before a cost
+-- the merges of each outer side with an inner path as it stands, where it starts before a cost
 abbrev pub ServesIfEarly : Split → List Costed → Keys → Costed → ℕ → Type 0
 ServesIfEarly j front keys inner startup =
     covers inner.keys keys ≡ true → inner.startup < startup → ServesOuters j (map path front) keys (path inner).tree
 
--- so with an inner path sorted, where that starts before a cost
+-- the merges of each outer side with an inner path sorted, where that starts before a cost
 abbrev pub ServesSortIfEarly : Split → List Costed → Keys → Costed → ℕ → Type 0
 ServesSortIfEarly j front keys inner startup =
     sort_startup j keys (path inner).tree < startup → ServesOuters j (map path front) keys (sort keys (path inner).tree)
@@ -182,7 +182,7 @@ abbrev pub NeedsNoNestsAt : Task → Table → RelSet → RelSet → RelSet → 
 NeedsNoNestsAt task table a b p = (front : List Path) →
     AreNestsServed task.cat.now task.q.now task.asked front (paths_at table a none) (paths_at table b p)
 
--- so of every parameterisation
+-- whatever the front and the parameterisation, no nested loop of two sets is wanted whose inner side has that parameterisation
 abbrev pub NeedsNoNests : Task → Table → RelSet → RelSet → Type 0
 NeedsNoNests task table a b = (front : List Path) (p : RelSet) →
     AreNestsServed task.cat.now task.q.now task.asked front (paths_at table a none) (paths_at table b p)

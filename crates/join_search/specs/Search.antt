@@ -11,7 +11,7 @@ use Rattle.join_search.specs.declared.table.Table.{Table}
 use Rattle.join_search.specs.declared.useful.Asked.{Asked}
 use Rattle.join_search.specs.declared.splits.Task.{Task}
 
--- the sets below a number are done, over the fronts that were handed in
+-- the sets below a number are done, over the fronts that were passed
 pub record IsDone (c : Contents) (q : Query) (asked : Asked) (base t : Table) (n : ℕ) : Type 0 where
   pub handed : (s p : RelSet) → IsSingle s → front_at t s p ≡ front_at base s p
   pub placed : ArePlaced c q (paths_at t)

@@ -36,7 +36,7 @@ pub record IsDivided (s a b : RelSet) : Type 0 where
   pub apart : AreApart (has a.0) (has b.0)
   pub all : IsSameSet (has s.0) (union (has a.0) (has b.0))
 
--- the same with the estimated rows of the set and of its parts, and the relations that are in neither
+-- a set divided into two, with the estimated rows of the set and of its parts, and the relations that are in neither
 pub record IsSplit (c : Contents) (q : Query) (j : Split) : Type 0 where
   pub divided : IsDivided j.set j.outer j.inner
   pub rows : j.rows ≡ set_rows c q.range q.classes (has j.set.0)
@@ -52,7 +52,8 @@ pub record IsTask (t : Task) : Type 0 where
   pub whole : AreWholeRows t.cat.now t.q.now t.whole
   pub order : t.order.now ≡ order_keys t.q.now.classes t.q.now.order
 
--- the same with a set, its rows and the other relations, over fronts of which each path stands at its place
+-- what a search at one set is over: its query and order keys, the set, its rows and the other relations, and fronts of which
+-- each path stands at its place
 pub record IsTarget (t : Target) : Type 0 where
   pub query : IsOverTables t.cat.now t.q.now
   pub whole : AreWholeRows t.cat.now t.q.now t.whole
@@ -61,7 +62,8 @@ pub record IsTarget (t : Target) : Type 0 where
   pub rows : t.rows ≡ set_rows t.cat.now t.q.now.range t.q.now.classes (has t.set.0)
   pub outside : IsSameSet (has t.outside.0) (outside t.q.now (has t.set.0))
 
--- the same of a division of a set, whose sides have the paths of the fronts
+-- what a search of one division of a set is over: its query and order keys, the division, and sides that have the paths of the
+-- fronts
 pub record IsOver (j : Split) : Type 0 where
   pub query : IsOverTables j.cat.now j.q.now
   pub whole : AreWholeRows j.cat.now j.q.now j.whole
@@ -75,7 +77,7 @@ pub record IsOver (j : Split) : Type 0 where
 abbrev pub outers_of : Split → List Path
 outers_of j = paths_at j.table.now j.outer none
 
--- those of the inner side at a parameterisation
+-- the paths of the inner side at a parameterisation
 abbrev pub inners_of : Split → RelSet → List Path
 inners_of j p = paths_at j.table.now j.inner p
 
@@ -103,7 +105,7 @@ IsOuterOf j x = IsPathAt j.cat.now j.q.now j.outer none x
 abbrev pub AreTargetPaths : Target → List Path → Type 0
 AreTargetPaths t paths = All (IsPathAt t.cat.now t.q.now t.set none) paths
 
--- such paths that are joins of kept ones
+-- paths of a set whose joins are looked for that are joins of kept ones
 abbrev pub AreTargetJoins : Target → List Path → Type 0
 AreTargetJoins t paths = All (IsJoinPath t.cat.now t.q.now (paths_at t.table.now) t.set none) paths
 

@@ -42,7 +42,7 @@ module _ (c : Contents) (q : Query) (asked : Asked) where
     pub is_there : Contains paths path
     pub suffices : Suffices c q asked.every_key path.tree t
 
-  -- so for a plan, where it is of the space and below the limit
+  -- the plan of some path of a list suffices for a plan, where this is of the space and below the limit
   abbrev pub IsServed : List Path → Plan → Type 0
   IsServed paths t = IsBuilt c q t → IsBelow c q asked.limit t → HasSufficient paths t
 
@@ -54,8 +54,8 @@ module _ (c : Contents) (q : Query) (asked : Asked) where
 abbrev pub IsCostPast : Query → Asked → ℕ → Pair → Type 0
 IsCostPast q asked whole own = own.total < MOST_COST → floor_in q.window whole own < asked.limit → ⊥
 
--- so many first classes of a list begin with each list of open classes with which the whole begins; the relations outside
--- are given
+-- the first n classes of a list begin with each list of open classes with which the whole begins; the relations outside are
+-- given
 abbrev pub BeginsWithOpen : Query → RelSet → List ClassNo → ℕ → Type 0
 BeginsWithOpen q rest list n = (s : Set) (ks : Keys) → IsSameSet (has rest.0) (outside q s) → IsTrue (are_open q s ks) →
     IsTrue (covers (class_numbers list) ks) → IsTrue (covers (take n (class_numbers list)) ks)

@@ -59,7 +59,7 @@ paths_of (Some front) = map path front
 abbrev pub Fronts : Type 0
 Fronts = RelSet → RelSet → List Path
 
--- those of a table; where no front was put there are no paths
+-- the fronts of a table; where no front was put there are no paths
 abbrev pub paths_at : Table → Fronts
 paths_at t s p = paths_of (front_at t s p)
 
@@ -71,7 +71,7 @@ IsSamePlace s p t o = (s.0 ≡ t.0) × (p.0 ≡ o.0)
 abbrev pub IsPlaceOf : RelSet → List Placed → ℕ → Type 0
 IsPlaceOf p places n = (f : List Costed) → found_at p (with_front places n f) ≡ Some f
 
--- none of another one changes with it
+-- no front of another number changes with the one at a parameterisation
 abbrev pub IsOfNoOther : RelSet → List Placed → ℕ → Type 0
 IsOfNoOther p places n = (f : List Costed) (o : RelSet) → ¬ (o.0 ≡ p.0) → found_at o (with_front places n f) ≡ found_at o places
 
@@ -83,6 +83,6 @@ ChangesOnlyParam p old new = (o : RelSet) → ¬ (o.0 ≡ p.0) → found_at o ne
 abbrev pub ChangesOnlyFront : RelSet → RelSet → Table → Table → Type 0
 ChangesOnlyFront s p old new = (t o : RelSet) → ¬ IsSamePlace t o s p → front_at new t o ≡ front_at old t o
 
--- that one stays
+-- the front at one set and parameterisation stays
 abbrev pub KeepsFront : RelSet → RelSet → Table → Table → Type 0
 KeepsFront s p old new = front_at new s p ≡ front_at old s p

@@ -30,7 +30,7 @@ use plan_tree::{Path, cost_of, range_of};
 use sql_query::Prepared;
 use std::alloc::{AllocError, Global};
 
-/// Offers the joins of two sides to the front of both. The error means want of memory.
+/// Offers the joins of two sides to the front of both. The error means out of memory.
 fn offer_split(alloc: Global, j: &Split, front: &mut KeptPaths) -> Result<(), Memory>
     requires over { IsOver j.now }
     requires joins { AreJoinsOf j.now (map path front.old) }
@@ -54,7 +54,7 @@ fn rows_by(at: &Target, set: RelSet, paths: &[Path]) -> u64
     }
 }
 
-/// Offers the joins of a part of a set, of which these are the paths, with the rest. The error means want of memory.
+/// Offers the joins of a part of a set, of which these are the paths, with the rest. The error means out of memory.
 fn offer_sides(
     alloc: Global,
     at: &Target,
@@ -94,7 +94,7 @@ fn offer_sides(
 }
 
 /// Offers the joins of a set with the rest of a greater one, where it is a part of that one and both have paths. The error
-/// means want of memory.
+/// means out of memory.
 fn offer_part(alloc: Global, at: &Target, part: RelSet, front: &mut KeptPaths) -> Result<(), Memory>
     requires at { IsTarget at.now }
     requires some { 1 ≤ part.0 }
@@ -130,7 +130,7 @@ fn may_be_part(set: RelSet, part: RelSet) -> bool
 }
 
 /// Offers the joins of a set with the rest of another one, where it is a part of that one and both have paths. The error means
-/// want of memory.
+/// out of memory.
 pub(crate) fn offer_side(
     alloc: Global,
     at: &Target,
@@ -148,8 +148,8 @@ pub(crate) fn offer_side(
     offer_part(alloc, at, part, front)
 }
 
-/// Keeps a path of a set unless one that is kept costs no more, with keys that begin with its part of use. The error means
-/// want of memory.
+/// Keeps a path of a set unless one that is kept costs no more, with keys that begin with its part of use. The error means out
+/// of memory.
 fn keep(alloc: Global, at: &Target, kept: &mut KeptPaths, made: Path) -> Result<(), Memory>
     requires at { IsTarget at.now }
     requires paths { AreTargetPaths at.now (map path kept.old) }
@@ -169,7 +169,7 @@ fn keep(alloc: Global, at: &Target, kept: &mut KeptPaths, made: Path) -> Result<
 }
 
 /// The front of some paths of a set: the first of them, and of the others those that have keys of use or cost less than each
-/// one before. The error means want of memory.
+/// one before. The error means out of memory.
 fn front_among(alloc: Global, at: &Target, paths: Vec<Path>) -> Result<Front<Path>, Memory>
     requires at { IsTarget at.now }
     requires paths { AreTargetPaths at.now (map path paths.items) }
@@ -187,7 +187,7 @@ fn front_among(alloc: Global, at: &Target, paths: Vec<Path>) -> Result<Front<Pat
 }
 
 /// The front of the paths that are kept of a set, where of two whose keys are of equal use the cheaper one suffices. The error
-/// means want of memory.
+/// means out of memory.
 pub(crate) fn front_of(alloc: Global, at: &Target, kept: KeptPaths) -> Result<Front<Path>, Memory>
     requires at { IsTarget at.now }
     requires paths { AreTargetPaths at.now (map path kept) }
@@ -200,7 +200,7 @@ pub(crate) fn front_of(alloc: Global, at: &Target, kept: KeptPaths) -> Result<Fr
     front_among(alloc, at, paths)
 }
 
-/// The front of a set: the joins of each of its parts that have paths with the rest. The error means want of memory.
+/// The front of a set: the joins of each of its parts that have paths with the rest. The error means out of memory.
 fn joins_of(alloc: Global, at: &Target, filled: &[RelSet]) -> Result<Front<Path>, Memory>
     requires at { IsTarget at.now }
     requires filled { HasEachFilled (paths_at at.now.table.now) at.now.set.0 filled.now }
@@ -221,7 +221,7 @@ fn refused(_back: Front<Path>) -> Memory {
 }
 
 /// Whether a set may have joins of a part with the rest: it is a part, the rest has paths, and not all of their joins are past
-/// the limit. The error means want of memory.
+/// the limit. The error means out of memory.
 fn may_join(
     alloc: Global,
     task: &Task,
@@ -244,7 +244,7 @@ fn may_join(
     Ok(!past)
 }
 
-/// Whether a set may have joins of one of some parts with the rest. The error means want of memory.
+/// Whether a set may have joins of one of some parts with the rest. The error means out of memory.
 fn may_join_any(
     alloc: Global,
     task: &Task,
@@ -264,7 +264,7 @@ fn may_join_any(
     Ok(false)
 }
 
-/// The front of the joins of a set over a table, where the smaller sets that have paths are these. The error means want of
+/// The front of the joins of a set over a table, where the smaller sets that have paths are these. The error means out of
 /// memory.
 fn front_over(
     alloc: Global,
@@ -301,7 +301,7 @@ fn front_over(
     joins_of(alloc, &at, filled)
 }
 
-/// Puts a set behind others. The error means want of memory.
+/// Puts a set behind others. The error means out of memory.
 fn note(filled: &mut Vec<RelSet>, set: RelSet) -> Result<(), Memory>
     ensures noted { OnOk result (Contains filled.new.items set) }
     ensures others { All (Contains filled.new.items) filled.old.items }
@@ -310,7 +310,7 @@ fn note(filled: &mut Vec<RelSet>, set: RelSet) -> Result<(), Memory>
     Ok(())
 }
 
-/// Puts a set behind others, where its front has paths. The error means want of memory.
+/// Puts a set behind others, where its front has paths. The error means out of memory.
 fn note_if_filled(filled: &mut Vec<RelSet>, set: RelSet, front: &Front<Path>) -> Result<(), Memory>
     ensures noted { OnOk result ((front.now ≡ []) ⊎ Contains filled.new.items set) }
     ensures others { All (Contains filled.new.items) filled.old.items }
@@ -322,7 +322,7 @@ fn note_if_filled(filled: &mut Vec<RelSet>, set: RelSet, front: &Front<Path>) ->
 }
 
 /// The table with the front of the next set, where it has more than one relation; the sets so far that have paths are noted.
-/// The error means want of memory.
+/// The error means out of memory.
 fn add_set(
     alloc: Global,
     task: &Task,
@@ -349,7 +349,7 @@ fn add_set(
     }
 }
 
-/// The fronts of all sets below a number, from those of single relations. The error means want of memory.
+/// The fronts of all sets below a number, from those of single relations. The error means out of memory.
 fn sets_below(alloc: Global, task: &Task, base: Table, end: u32) -> Result<Table, Memory>
     requires task { IsTask task.now }
     requires base { IsBase task.now.cat.now task.now.q.now base }
@@ -364,13 +364,13 @@ fn sets_below(alloc: Global, task: &Task, base: Table, end: u32) -> Result<Table
     Ok(table)
 }
 
-/// The fronts of all sets of a query's relations, from those of single relations, which are handed on as they are. Sets
-/// are visited by rising number, so that the parts of a set come before it, and each is divided into two sides in every
-/// way: by nested loops of either order, also with an inner scan that is given rows of the outer side, and by merges by
-/// each list of 1 to 3 of the first four joining classes, with sides that are sorted or in order. For each join of kept
-/// paths below the limit that is asked for a path of its set's front suffices; where every key counts and the limit is that
-/// of costs, this means that it dominates each admissible one. A front has such joins alone, and none of its paths dominates
-/// another. The error means want of memory: the fronts handed in are given up.
+/// The fronts of all sets of a query's relations, from those of single relations, which are passed on as they are. Sets are
+/// visited by rising number, so that the parts of a set come before it, and each is divided into two sides in every way: by
+/// nested loops of either order, also with an inner scan that is given rows of the outer side, and by merges by each list of 1
+/// to 3 of the first four joining classes, with sides that are sorted or in order. For each join of kept paths below the limit
+/// that is asked for a path of its set's front suffices; where every key counts and the limit is that of costs, this means that
+/// it dominates each admissible one. A front has such joins alone, and none of its paths dominates another. The error means out
+/// of memory: the fronts that were passed are given up.
 pub fn search(
     alloc: Global,
     cat: &Catalog,

@@ -26,7 +26,7 @@ use plan_tree::{Path, classes_of, range_of};
 use sql_query::Prepared;
 use std::alloc::{AllocError, Global};
 
-/// The joins of a part of a set with the rest of it, either way round. The error means want of memory.
+/// The joins of a part of a set with the rest of it, either way round. The error means out of memory.
 fn joins_either(alloc: Global, at: &Target, part: RelSet) -> Result<Front<Path>, Memory>
     requires at { IsTarget at.now }
     ensures { IfOk result (λ f. AreTargetPaths at.now (map path f)) }
@@ -37,7 +37,7 @@ fn joins_either(alloc: Global, at: &Target, part: RelSet) -> Result<Front<Path>,
     front_of(alloc, at, kept)
 }
 
-/// The joins of a part of a set with the rest of it over a table. The error means want of memory.
+/// The joins of a part of a set with the rest of it over a table. The error means out of memory.
 fn joins_with(
     alloc: Global,
     task: &Task,
@@ -66,7 +66,7 @@ fn joins_with(
     joins_either(alloc, &at, part)
 }
 
-/// The joins of a part of a set with the rest of it over a table, of those that cost less than a limit. The error means want of
+/// The joins of a part of a set with the rest of it over a table, of those that cost less than a limit. The error means out of
 /// memory.
 fn joins_below(
     alloc: Global,
@@ -103,7 +103,7 @@ fn is_joined(q: &Prepared, set: RelSet, r: RelNo) -> bool
 }
 
 /// A set with one more relation, the one whose joins with it cost least: of those that a clause joins with it, or of all. The
-/// set itself where there is none. The error means want of memory.
+/// set itself where there is none. The error means out of memory.
 fn nearest_of(
     alloc: Global,
     task: &Task,
@@ -131,7 +131,7 @@ fn nearest_of(
 }
 
 /// A set with one more relation that a clause joins with it, if there is one, else with any: the one whose joins with it cost
-/// least. The error means want of memory.
+/// least. The error means out of memory.
 fn nearest(alloc: Global, task: &Task, table: &Table, set: RelSet) -> Result<RelSet, Memory>
     requires task { IsTask task.now }
     requires placed { ArePlaced task.now.cat.now task.now.q.now (paths_at table.now) }
@@ -143,7 +143,7 @@ fn nearest(alloc: Global, task: &Task, table: &Table, set: RelSet) -> Result<Rel
     nearest_of(alloc, task, table, set, true)
 }
 
-/// A table with the joins of a part of a set with the rest, where the set has more than one relation. The error means want of
+/// A table with the joins of a part of a set with the rest, where the set has more than one relation. The error means out of
 /// memory.
 fn add_joins(
     alloc: Global,
@@ -168,7 +168,7 @@ fn add_joins(
     }
 }
 
-/// The table with the joins of one relation after another, the first one first. The error means want of memory.
+/// The table with the joins of one relation after another, the first one first. The error means out of memory.
 fn joined(alloc: Global, task: &Task, base: Table) -> Result<Table, Memory>
     requires task { IsTask task.now }
     requires placed { ArePlaced task.now.cat.now task.now.q.now (paths_at base) }
@@ -186,8 +186,8 @@ fn joined(alloc: Global, task: &Task, base: Table) -> Result<Table, Memory>
 }
 
 /// The paths of single relations with those of one plan or more of all relations, where such are found: to the first relation
-/// one is added after another, each time that whose joins then cost least. The fronts of single relations stay as they are.
-/// The error means want of memory.
+/// one is added after another, each time that whose joins then cost least. The fronts of single relations stay as they are. The
+/// error means out of memory.
 pub fn likely_plans(
     alloc: Global,
     cat: &Catalog,

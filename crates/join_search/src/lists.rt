@@ -16,7 +16,7 @@ use plan_tree::classes_of;
 use sql_query::Prepared;
 use std::alloc::Global;
 
-/// Puts a class that was found behind others. The error means want of memory.
+/// Puts a class that was found behind others. The error means out of memory.
 fn add_found(out: &mut Vec<ClassNo>, class: Option<ClassNo>) -> Result<(), Memory>
     ensures { OnOk result (class_numbers out.new.items ≡ numbers_with out.old.items class) }
 {
@@ -26,7 +26,7 @@ fn add_found(out: &mut Vec<ClassNo>, class: Option<ClassNo>) -> Result<(), Memor
     Ok(())
 }
 
-/// The first four joining classes of two sets. The error means want of memory.
+/// The first four joining classes of two sets. The error means out of memory.
 fn joining(alloc: Global, q: &Prepared, a: RelSet, b: RelSet) -> Result<Vec<ClassNo>, Memory>
     ensures { IfOk result (λ v. class_numbers v.items ≡ first_four_joining q.now a b) }
 {
@@ -57,7 +57,7 @@ fn has_class(list: &Keys, c: ClassNo) -> bool
     is_among(list.items(), c)
 }
 
-/// Some classes, copied. The error means want of memory.
+/// Some classes, copied. The error means out of memory.
 fn copied(alloc: Global, classes: &[ClassNo]) -> Result<Vec<ClassNo>, Memory>
     ensures { IfOk result (λ v. v.items ≡ classes.now) }
 {
@@ -68,7 +68,7 @@ fn copied(alloc: Global, classes: &[ClassNo]) -> Result<Vec<ClassNo>, Memory>
     Ok(items)
 }
 
-/// A list with one more class, which it has not. The error means want of memory.
+/// A list with one more class, which it has not. The error means out of memory.
 fn with_class(alloc: Global, list: &Keys, c: ClassNo) -> Result<Keys, Memory>
     requires new { list_any (nat_eq c.0) list.now ≡ false }
     ensures { IfOk result (λ ks. ks ≡ list.now ++ c.0 ∷ []) }
@@ -78,7 +78,7 @@ fn with_class(alloc: Global, list: &Keys, c: ClassNo) -> Result<Keys, Memory>
     Keys::from_slice(alloc, &items)
 }
 
-/// Puts behind some lists the list with one more class, where it has not the class. The error means want of memory.
+/// Puts behind some lists the list with one more class, where it has not the class. The error means out of memory.
 fn add_one_longer(alloc: Global, c: ClassNo, list: &Keys, out: &mut Vec<Keys>) -> Result<(), Memory>
     ensures { OnOk result (out.new.items ≡ out.old.items ++ longer (c.0 ∷ []) list.now) }
 {
@@ -90,7 +90,7 @@ fn add_one_longer(alloc: Global, c: ClassNo, list: &Keys, out: &mut Vec<Keys>) -
     Ok(())
 }
 
-/// Puts behind some lists a list with one more class, each of some that it has not. The error means want of memory.
+/// Puts behind some lists a list with one more class, each of some that it has not. The error means out of memory.
 fn add_longer(
     alloc: Global,
     classes: &[ClassNo],
@@ -105,7 +105,7 @@ fn add_longer(
     Ok(())
 }
 
-/// The same of each of some lists. The error means want of memory.
+/// Puts behind some lists each of other lists with one more class, each of some that it has not. The error means out of memory.
 fn add_all_longer(
     alloc: Global,
     classes: &[ClassNo],
@@ -120,7 +120,7 @@ fn add_all_longer(
     Ok(())
 }
 
-/// The list of the empty list alone. The error means want of memory.
+/// The list of the empty list alone. The error means out of memory.
 fn no_classes(alloc: Global) -> Result<Vec<Keys>, Memory>
     ensures { IfOk result (λ v. v.items ≡ [] ∷ []) }
 {
@@ -129,7 +129,7 @@ fn no_classes(alloc: Global) -> Result<Vec<Keys>, Memory>
     Ok(lists)
 }
 
-/// The lists of 1 to 3 different ones of some classes, in any order. The error means want of memory.
+/// The lists of 1 to 3 different ones of some classes, in any order. The error means out of memory.
 fn lists_among(alloc: Global, classes: &[ClassNo]) -> Result<Vec<Keys>, Memory>
     ensures { IfOk result (λ v. v.items ≡ lists_of (class_numbers classes.now)) }
 {
@@ -148,8 +148,8 @@ fn lists_among(alloc: Global, classes: &[ClassNo]) -> Result<Vec<Keys>, Memory>
     Ok(ones)
 }
 
-/// The lists by which two sets may be merged: 1 to 3 different ones of their first four joining classes, in any order.
-/// The error means want of memory.
+/// The lists by which two sets may be merged: 1 to 3 different ones of their first four joining classes, in any order. The
+/// error means out of memory.
 pub(crate) fn merge_lists(
     alloc: Global,
     cat: &Catalog,

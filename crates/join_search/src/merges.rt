@@ -28,7 +28,7 @@ use pg_base::Memory;
 use plan_tree::{Path, Plan, classes_of, range_of};
 use std::alloc::Global;
 
-/// What merges of two sets by a list are reckoned from.
+/// What merges of two sets by a list are computed from.
 #[derive(Clone, Copy)]
 pub(crate) struct MergeWork {
     /// The pairs of rows that are equal in the list.
@@ -37,7 +37,7 @@ pub(crate) struct MergeWork {
     pub(crate) ops: u64,
 }
 
-/// What merges of two sets by a list are reckoned from.
+/// What merges of two sets by a list are computed from.
 fn merge_work(j: &Split, by: &Keys) -> MergeWork
     requires over { IsOver j.now }
     ensures { IsMergeWork j.now.cat.now j.now.q.now j.now by.now result }
@@ -52,7 +52,7 @@ fn merge_work(j: &Split, by: &Keys) -> MergeWork
     MergeWork { pairs: rows, ops }
 }
 
-/// The cost of a merge that is reckoned from so much, as a path keeps it, cut to at most 10^18.
+/// The cost of a merge that is computed from so much, as a path keeps it, cut to at most 10^18.
 fn merge_kept(j: &Split, by: &Keys, outer: Side, inner: Side, work: MergeWork) -> Pair
     requires over { IsOver j.now }
     requires list { IsListOf j.now by.now }
@@ -76,7 +76,7 @@ fn merge_kept(j: &Split, by: &Keys, outer: Side, inner: Side, work: MergeWork) -
     )
 }
 
-/// The merge of two sides, copied. The error means want of memory.
+/// The merge of two sides, copied. The error means out of memory.
 fn merge_of(alloc: Global, by: &Keys, outer: Side, inner: Side) -> Result<Plan, Memory>
     ensures { IfOk result (λ t. plan t ≡ merges.merge_of by.now outer.entry inner.entry) }
 {
@@ -87,7 +87,7 @@ fn merge_of(alloc: Global, by: &Keys, outer: Side, inner: Side) -> Result<Plan, 
 }
 
 /// Offers the merge of two sides to the front of their set, unless it may be passed over: its pairs of rows and its operators
-/// are worked out only where it may not be with the least of them. The error means want of memory.
+/// are worked out only where it may not be with the least of them. The error means out of memory.
 fn offer_merge(
     alloc: Global,
     j: &Split,
@@ -119,8 +119,8 @@ fn offer_merge(
     offer_join(alloc, j, t, cost, keys, front)
 }
 
-/// Offers the merge by a list of an outer path with an inner side, where the path's keys begin with the list. The error
-/// means want of memory.
+/// Offers the merge by a list of an outer path with an inner side, where the path's keys begin with the list. The error means
+/// out of memory.
 fn offer_in_order(
     alloc: Global,
     j: &Split,
@@ -147,8 +147,7 @@ fn offer_in_order(
     offer_merge(alloc, j, by, side, inner, front)
 }
 
-/// Offers the merges by a list of the outer paths whose keys begin with it with an inner side. The error means want of
-/// memory.
+/// Offers the merges by a list of the outer paths whose keys begin with it with an inner side. The error means out of memory.
 fn offer_plain(
     alloc: Global,
     j: &Split,
@@ -171,7 +170,7 @@ fn offer_plain(
     Ok(())
 }
 
-/// Offers the merge by a list of the cheapest outer path, sorted, with an inner side. The error means want of memory.
+/// Offers the merge by a list of the cheapest outer path, sorted, with an inner side. The error means out of memory.
 fn offer_sorted(
     alloc: Global,
     j: &Split,
@@ -197,7 +196,7 @@ fn offer_sorted(
     }
 }
 
-/// Offers the merges by a list of each outer side with an inner one. The error means want of memory.
+/// Offers the merges by a list of each outer side with an inner one. The error means out of memory.
 fn offer_side(
     alloc: Global,
     j: &Split,
@@ -216,8 +215,8 @@ fn offer_side(
     offer_sorted(alloc, j, by, j.outers, inner, front)
 }
 
-/// Offers the merges by a list of each outer side with an inner path, where its keys begin with the list and it starts
-/// before a cost. The error means want of memory.
+/// Offers the merges by a list of each outer side with an inner path, where its keys begin with the list and it starts before a
+/// cost. The error means out of memory.
 fn offer_if_early(
     alloc: Global,
     j: &Split,
@@ -246,8 +245,8 @@ fn offer_if_early(
     offer_side(alloc, j, by, side, front)
 }
 
-/// Offers the merges by a list of each outer side with the inner paths whose keys begin with the list and that start
-/// before a cost. The error means want of memory.
+/// Offers the merges by a list of each outer side with the inner paths whose keys begin with the list and that start before a
+/// cost. The error means out of memory.
 fn offer_early_plain(
     alloc: Global,
     j: &Split,
@@ -270,7 +269,7 @@ fn offer_early_plain(
 }
 
 /// Offers the merges by a list of each outer side with the sort of an inner path, where it starts before a cost. The error
-/// means want of memory.
+/// means out of memory.
 fn offer_sort_if_early(
     alloc: Global,
     j: &Split,
@@ -297,8 +296,8 @@ fn offer_sort_if_early(
     offer_side(alloc, j, by, side, front)
 }
 
-/// Offers the merges by a list of each outer side with the inner sides that start before a cost: paths whose keys begin
-/// with the list, and the sort of the cheapest one, which starts first of all sorts. The error means want of memory.
+/// Offers the merges by a list of each outer side with the inner sides that start before a cost: paths whose keys begin with
+/// the list, and the sort of the cheapest one, which starts first of all sorts. The error means out of memory.
 fn offer_early_sides(
     alloc: Global,
     j: &Split,
@@ -321,8 +320,8 @@ fn offer_early_sides(
     }
 }
 
-/// Offers the merges of two sets by a list: with the inner side that costs least in all, and with each that starts
-/// earlier. The error means want of memory.
+/// Offers the merges of two sets by a list: with the inner side that costs least in all, and with each that starts earlier. The
+/// error means out of memory.
 fn offer_merges_by(
     alloc: Global,
     j: &Split,
@@ -389,7 +388,7 @@ fn are_merges_past(j: &Split) -> bool
     are_past(j, outer, inner)
 }
 
-/// Offers the merges of two sets to the front of both, by each of their lists. The error means want of memory.
+/// Offers the merges of two sets to the front of both, by each of their lists. The error means out of memory.
 pub(crate) fn offer_merges(alloc: Global, j: &Split, front: &mut KeptPaths) -> Result<(), Memory>
     requires over { IsOver j.now }
     requires joins { AreJoinsOf j.now (map path front.old) }

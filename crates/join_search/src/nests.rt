@@ -65,7 +65,7 @@ fn nest_kept(j: &Split, outer: &Path, inner: &Path, ops: u64) -> Pair
     nest(outer_cost, inner_cost, j.outer_rows, rows, ops)
 }
 
-/// The nested loop of two plans, copied. The error means want of memory.
+/// The nested loop of two plans, copied. The error means out of memory.
 fn nest_of(alloc: Global, outer: &Plan, inner: &Plan) -> Result<Plan, Memory>
     ensures { IfOk result (λ t. plan t ≡ plans.nest (plan outer.now) (plan inner.now)) }
 {
@@ -74,8 +74,8 @@ fn nest_of(alloc: Global, outer: &Plan, inner: &Plan) -> Result<Plan, Memory>
     Ok(Plan::Nest { outer, inner })
 }
 
-/// Offers the nested loop of two paths to the front of their set, unless it may be passed over: its operators are counted
-/// only where it may not be without them. The error means want of memory.
+/// Offers the nested loop of two paths to the front of their set, unless it may be passed over: its operators are counted only
+/// where it may not be without them. The error means out of memory.
 fn offer_nest(
     alloc: Global,
     j: &Split,
@@ -105,7 +105,7 @@ fn offer_nest(
     offer_join(alloc, j, t, cost, keys, front)
 }
 
-/// Offers the nested loops of each outer path with an inner one. The error means want of memory.
+/// Offers the nested loops of each outer path with an inner one. The error means out of memory.
 fn offer_each_nest(
     alloc: Global,
     j: &Split,
@@ -127,8 +127,8 @@ fn offer_each_nest(
     Ok(())
 }
 
-/// Offers the nested loops of each outer path with an inner one of a parameterisation that is of the outer set. The error
-/// means want of memory.
+/// Offers the nested loops of each outer path with an inner one of a parameterisation that is of the outer set. The error means
+/// out of memory.
 fn offer_nests_of(
     alloc: Global,
     j: &Split,
@@ -146,7 +146,7 @@ fn offer_nests_of(
     offer_each_nest(alloc, j, j.outers, inner, front)
 }
 
-/// Offers the same, where the inner path starts before a cost. The error means want of memory.
+/// Offers the same, where the inner path starts before a cost. The error means out of memory.
 fn offer_if_early(
     alloc: Global,
     j: &Split,
@@ -168,8 +168,8 @@ fn offer_if_early(
     offer_nests_of(alloc, j, p, inner, front)
 }
 
-/// Offers nested loops of the outer set with the inner paths of a parameterisation that is of the outer set: with those
-/// that start before a cost. The error means want of memory.
+/// Offers nested loops of the outer set with the inner paths of a parameterisation that is of the outer set: with those that
+/// start before a cost. The error means out of memory.
 fn offer_early(
     alloc: Global,
     j: &Split,
@@ -204,9 +204,9 @@ fn are_nests_past(j: &Split, p: RelSet, inners: &[Path]) -> bool
     are_past(j, outer, each)
 }
 
-/// Offers nested loops of the outer set with the inner paths of a parameterisation that is of the outer set: those with
-/// the cheapest of them, and with each that starts earlier. No other one costs less before its first row or in all. The
-/// error means want of memory.
+/// Offers nested loops of the outer set with the inner paths of a parameterisation that is of the outer set: those with the
+/// cheapest of them, and with each that starts earlier. No other one costs less before its first row or in all. The error means
+/// out of memory.
 fn offer_nests_given(
     alloc: Global,
     j: &Split,
@@ -233,8 +233,8 @@ fn offer_nests_given(
     }
 }
 
-/// Offers nested loops of the outer set with the inner paths of a parameterisation, where it is of the outer set. The
-/// error means want of memory.
+/// Offers nested loops of the outer set with the inner paths of a parameterisation, where it is of the outer set. The error
+/// means out of memory.
 fn offer_nests_if(alloc: Global, j: &Split, p: RelSet, front: &mut KeptPaths) -> Result<(), Memory>
     requires over { IsOver j.now }
     requires joins { AreJoinsOf j.now (map path front.old) }
@@ -248,8 +248,8 @@ fn offer_nests_if(alloc: Global, j: &Split, p: RelSet, front: &mut KeptPaths) ->
     Ok(())
 }
 
-/// Offers the nested loops of two sets to the front of both: those of every outer path with inner ones that are given
-/// no rows or rows of the outer set alone. The error means want of memory.
+/// Offers the nested loops of two sets to the front of both: those of every outer path with inner ones that are given no rows
+/// or rows of the outer set alone. The error means out of memory.
 pub(crate) fn offer_nests(alloc: Global, j: &Split, front: &mut KeptPaths) -> Result<(), Memory>
     requires over { IsOver j.now }
     requires joins { AreJoinsOf j.now (map path front.old) }

@@ -38,8 +38,8 @@ pub(crate) fn least_cost(paths: &[Path]) -> u64
     }
 }
 
-/// Whether all joins with these keys that cost no less may be left out: they are past the limit, or a kept path costs no
-/// more, with keys that begin with their part of use. The error means want of memory.
+/// Whether all joins with these keys that cost no less may be left out: they are past the limit, or a kept path costs no more,
+/// with keys that begin with their part of use. The error means out of memory.
 pub(crate) fn is_passed_over(
     alloc: Global,
     j: &Split,
@@ -83,7 +83,7 @@ fn join_path(j: &Split, t: Plan, cost: Pair, keys: Keys) -> Path
     }
 }
 
-/// Offers a join to the front of its set. The error means want of memory.
+/// Offers a join to the front of its set. The error means out of memory.
 pub(crate) fn offer_join(
     alloc: Global,
     j: &Split,

@@ -69,7 +69,7 @@ fn are_past_given(task: &Task, table: &Table, outer: Outer, inner: RelSet, p: Re
     is_past(task.q, task.asked, task.whole, first, each)
 }
 
-/// Whether all nested loops of two sets are past the limit. The error means want of memory.
+/// Whether all nested loops of two sets are past the limit. The error means out of memory.
 fn are_nests_past(
     alloc: Global,
     task: &Task,
@@ -92,7 +92,7 @@ fn are_nests_past(
     Ok(true)
 }
 
-/// Whether there is a list by which two sets may be merged. The error means want of memory.
+/// Whether there is a list by which two sets may be merged. The error means out of memory.
 fn may_merge(alloc: Global, task: &Task, a: RelSet, b: RelSet) -> Result<bool, Memory>
     ensures { IfOk result (λ may. may ≡ false → HasNoMergeList task.now a b) }
 {
@@ -101,7 +101,7 @@ fn may_merge(alloc: Global, task: &Task, a: RelSet, b: RelSet) -> Result<bool, M
 }
 
 /// Whether all joins of two sets are past the limit, of which the outer one has paths: there is no list to merge them by, and
-/// what their sides cost at least tells it of nested loops. The error means want of memory.
+/// what their sides cost at least tells it of nested loops. The error means out of memory.
 fn are_past_from(
     alloc: Global,
     task: &Task,
@@ -123,7 +123,7 @@ fn are_past_from(
     Ok(!merges)
 }
 
-/// Whether all joins of two sets are past the limit, as far as is told before they are reckoned. The error means want of
+/// Whether all joins of two sets are past the limit, as far as is known before their costs are computed. The error means out of
 /// memory.
 pub(crate) fn are_joins_past(
     alloc: Global,

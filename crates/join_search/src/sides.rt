@@ -26,7 +26,7 @@ use std::alloc::Global;
 pub(crate) struct Side<'a> {
     /// The path.
     pub(crate) path: &'a Path,
-    /// It is sorted by the list of the merge.
+    /// Whether the path is sorted by the list of the merge.
     pub(crate) sorted: bool,
 }
 
@@ -46,7 +46,7 @@ pub(crate) fn side_cost(cat: &Catalog, q: &Prepared, set: RelSet, rows: u64, s: 
     }
 }
 
-/// The plan of a side, copied. The error means want of memory.
+/// The plan of a side, copied. The error means out of memory.
 pub(crate) fn plan_of(alloc: Global, s: Side, by: &Keys) -> Result<Plan, Memory>
     ensures { IfOk result (λ t. plan t ≡ side_plan by.now s.entry) }
 {
@@ -59,7 +59,7 @@ pub(crate) fn plan_of(alloc: Global, s: Side, by: &Keys) -> Result<Plan, Memory>
     Ok(Plan::Sort { keys, input })
 }
 
-/// The keys of a side. The error means want of memory.
+/// The keys of a side. The error means out of memory.
 pub(crate) fn keys_of(alloc: Global, s: Side, by: &Keys) -> Result<Keys, Memory>
     ensures { IfOk result (λ ks. ks ≡ side_keys by.now s.entry) }
 {

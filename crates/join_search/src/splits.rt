@@ -60,7 +60,7 @@ pub(crate) struct Target<'a> {
     pub(crate) outside: RelSet,
 }
 
-/// A set of relations divided into the sides of its joins, with what all of these are reckoned from.
+/// A set of relations divided into the sides of its joins, with what all of these are computed from.
 #[derive(Clone, Copy)]
 pub(crate) struct Split<'a> {
     pub(crate) cat: &'a Catalog,
@@ -153,7 +153,7 @@ pub(crate) fn whole_rows(cat: &Catalog, q: &Prepared) -> u64
     set_rows(cat, q, all)
 }
 
-/// The rows that a path is taken to give: its own number, which is one that costs are reckoned from.
+/// The rows that a path is taken to give: its own number, which is one that costs are computed from.
 pub(crate) fn path_rows(cat: &Catalog, q: &Prepared, p: &Path) -> u64
     requires query { IsOverTables cat.now q.now }
     requires path { IsPathOf cat.now q.now (path p.now) }

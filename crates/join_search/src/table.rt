@@ -67,7 +67,7 @@ fn place_of(places: &[Placed], p: RelSet) -> Option<usize>
     None
 }
 
-/// Puts a front behind the others, where none stands at its parameterisation. `Err` hands it back for want of memory, and
+/// Puts a front behind the others, where none stands at its parameterisation. `Err` gives it back when memory runs out, and
 /// changes nothing.
 fn add(places: &mut Vec<Placed>, p: RelSet, f: Front<Path>) -> Result<(), Front<Path>>
     requires new { found_at p places.old.items ≡ None }
@@ -82,8 +82,8 @@ fn add(places: &mut Vec<Placed>, p: RelSet, f: Front<Path>) -> Result<(), Front<
     }
 }
 
-/// Puts a front among those of a set, in the place of one that stands at its parameterisation. `Err` hands it back for want
-/// of memory, and changes nothing.
+/// Puts a front among those of a set, in the place of one that stands at its parameterisation. `Err` gives it back when memory
+/// runs out, and changes nothing.
 fn put_in(places: &mut Vec<Placed>, p: RelSet, f: Front<Path>) -> Result<(), Front<Path>>
     ensures here { OnOk result (found_at p places.new.items ≡ Some f) }
     ensures others { ChangesOnlyParam p places.old.items places.new.items }
@@ -99,7 +99,7 @@ fn put_in(places: &mut Vec<Placed>, p: RelSet, f: Front<Path>) -> Result<(), Fro
     }
 }
 
-/// Makes room for the fronts of a set. The error means want of memory.
+/// Makes room for the fronts of a set. The error means out of memory.
 fn grow(alloc: Global, sets: &mut Vec<Vec<Placed>>, set: u16) -> Result<(), Memory>
     ensures room { OnOk result (set < length sets.new.items) }
     ensures same { (n : ℕ) → list_at sets.new.items n ≡ list_at sets.old.items n }
@@ -129,7 +129,7 @@ fn are_empty(places: &[Placed]) -> bool
     true
 }
 
-/// The parameterisations of some fronts of a set. The error means want of memory.
+/// The parameterisations of some fronts of a set. The error means out of memory.
 fn params_in(alloc: Global, places: &[Placed]) -> Result<Vec<RelSet>, Memory>
     ensures { IfOk result (λ v. v.items ≡ params_of places.now) }
 {
@@ -202,8 +202,8 @@ impl Table {
         find(self.places(s), p)
     }
 
-    /// Puts a front at a set and a parameterisation, in the place of one that stands there. `Err` hands it back for
-    /// want of memory, and the table is as before.
+    /// Puts a front at a set and a parameterisation, in the place of one that stands there. `Err` gives it back when memory
+    /// runs out, and the table is as before.
     pub fn put(&mut self, s: RelSet, p: RelSet, f: Front<Path>) -> Result<(), Front<Path>>
         ensures here { OnOk result (front_at self.new s p ≡ Some f) }
         ensures others { ChangesOnlyFront s p self.old self.new }
@@ -240,7 +240,7 @@ impl Table {
         are_empty(self.places(s))
     }
 
-    /// The parameterisations at which the set has a front. The error means want of memory.
+    /// The parameterisations at which the set has a front. The error means out of memory.
     pub(crate) fn params(&self, alloc: Global, s: RelSet) -> Result<Vec<RelSet>, Memory>
         ensures { IfOk result (λ v. v.items ≡ params_of (places_at self.now s)) }
     {

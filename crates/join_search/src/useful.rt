@@ -98,7 +98,7 @@ fn used_classes(free: usize, list: &Keys, order: &Keys) -> usize
     free.max(order.items().len())
 }
 
-/// The first classes of a list. The error means want of memory.
+/// The first classes of a list. The error means out of memory.
 fn first_classes(alloc: Global, list: &Keys, n: usize) -> Result<Keys, Memory>
     requires { n ≤ length list.now }
     ensures { IfOk result (λ ks. ks ≡ take n list.now) }
@@ -106,7 +106,7 @@ fn first_classes(alloc: Global, list: &Keys, n: usize) -> Result<Keys, Memory>
     Keys::from_slice(alloc, &list.items()[..n])
 }
 
-/// The order keys of a query. The error means want of memory.
+/// The order keys of a query. The error means out of memory.
 pub fn order_asked(alloc: Global, q: &Prepared) -> Result<Keys, Memory>
     ensures { IfOk result (λ ks. ks ≡ keys.order_keys q.now.classes q.now.order) }
 {
@@ -114,7 +114,7 @@ pub fn order_asked(alloc: Global, q: &Prepared) -> Result<Keys, Memory>
 }
 
 /// The part of the keys of a path of a set that can still be of use: classes that have a member outside of the set, so that
-/// they may still join, or the order keys, which are lent. The error means want of memory.
+/// they may still join, or the order keys, which are lent. The error means out of memory.
 pub(crate) fn useful(
     alloc: Global,
     q: &Prepared,

@@ -72,7 +72,7 @@ abbrev pub early_in : Option Known → Option Pair
 early_in None = None
 early_in (Some known) = known.early
 
--- that cost of a list, where one is known
+-- the cost of the path of a list that starts first, where one is known
 abbrev pub early_at : Bounds → Keys → Option Pair
 early_at bounds keys = early_in (known_at bounds keys)
 
@@ -80,7 +80,7 @@ early_at bounds keys = early_in (known_at bounds keys)
 abbrev pub either_beats : Bounds → Keys → Pair → Bool
 either_beats bounds keys cost = beats (least_at bounds keys) cost || beats (early_at bounds keys) cost
 
--- the bounds tell of each list and cost just whether a path costs no more by its total, then by its startup, with keys that
+-- for each list and cost the bounds say just whether a path costs no more by its total, then by its startup, with keys that
 -- begin with the list
 abbrev pub AreTold : List Path → Bounds → Type 0
 AreTold paths bounds = (keys : Keys) (cost : Pair) → (is_told bounds keys cost ≡ true) ↔ IsPreceded paths cost keys
@@ -114,7 +114,7 @@ IsLowered old cost new = (n : Pair) → is_within new.least n ≡ (is_within old
 abbrev pub IsEarlier : Known → Pair → Known → Type 0
 IsEarlier old cost new = (e : Pair) → new.early ≡ Some e → (old.early ≡ Some e) ⊎ (e ≡ cost)
 
--- so for one list
+-- for one list the cost of the path that starts first is as it was, or another
 abbrev pub EarlierAt : Bounds → Bounds → Keys → Pair → Type 0
 EarlierAt old new list cost = (e : Pair) → early_at new list ≡ Some e → (early_at old list ≡ Some e) ⊎ (e ≡ cost)
 
@@ -136,11 +136,11 @@ abbrev pub LowersEach : Bounds → Bounds → Keys → Pair → Type 0
 LowersEach old new list cost =
     (keys : Keys) (n : Pair) → is_told new keys n ≡ (is_told old keys n || covers list keys && is_first cost n)
 
--- the bounds tell of the paths of the program
+-- the bounds are those of the paths of the program
 abbrev pub AreToldOf : List Costed → Bounds → Type 0
 AreToldOf paths bounds = AreTold (map path paths) bounds
 
--- so with the costs of paths that start first
+-- the bounds have the costs of those paths of the program that start first
 abbrev pub AreEarlyOf : List Costed → Bounds → Type 0
 AreEarlyOf paths bounds = AreEarly (map path paths) bounds
 

@@ -75,7 +75,7 @@ pub(crate) fn place_of(bounds: &Bounds, list: &[u16]) -> Option<usize> {
     }
 }
 
-/// Makes room for a list, of which nothing more is told then. The error means want of memory.
+/// Makes room for a list, of which nothing more is known then. The error means out of memory.
 fn add_room(alloc: Global, bounds: &mut Bounds, list: &[u16]) -> Result<(), Memory>
     ensures told { TellTheSame bounds.old bounds.new }
     ensures early { KeepsEarly bounds.old bounds.new }
@@ -95,7 +95,7 @@ fn add_room(alloc: Global, bounds: &mut Bounds, list: &[u16]) -> Result<(), Memo
     Ok(())
 }
 
-/// Makes room for each list that a list begins with. The error means want of memory.
+/// Makes room for each list that a list begins with. The error means out of memory.
 pub(crate) fn add_rooms(alloc: Global, bounds: &mut Bounds, list: &[u16]) -> Result<(), Memory>
     ensures told { TellTheSame bounds.old bounds.new }
     ensures early { KeepsEarly bounds.old bounds.new }

@@ -41,7 +41,7 @@ impl Model for KeptPaths {
     ghost invariant = { λ k. AreBounds (map path k.paths.items) k.bounds };
 }
 
-/// The numbers of the classes of a list. The error means want of memory.
+/// The numbers of the classes of a list. The error means out of memory.
 fn numbers_of(alloc: Global, keys: &Keys) -> Result<SmallVec<u16, 4>, Memory>
     ensures { IfOk result (λ ns. ns.items ≡ keys.now) }
 {
@@ -63,7 +63,7 @@ fn gives_way(paths: &[Path], at: usize, made: &Path) -> bool
     made.at_most(&paths[at])
 }
 
-/// Puts a path behind the others. The error means want of memory.
+/// Puts a path behind the others. The error means out of memory.
 fn push(paths: &mut Vec<Path>, made: Path) -> Result<(), Memory>
     ensures kept { AreKeptOr paths.old.items made paths.new.items }
     ensures covered { All (fronts.IsCovered is_path_at_most paths.new.items) paths.old.items }
@@ -74,8 +74,8 @@ fn push(paths: &mut Vec<Path>, made: Path) -> Result<(), Memory>
     Ok(())
 }
 
-/// Puts a path at a place, where it may take the place of the one there, else behind the others, and tells where. The
-/// error means want of memory.
+/// Puts a path at a place, where it may take the place of the one there, else behind the others, and tells where. The error
+/// means out of memory.
 fn put(paths: &mut Vec<Path>, at: usize, made: Path) -> Result<usize, Memory>
     ensures kept { AreKeptOr paths.old.items made paths.new.items }
     ensures covered { All (fronts.IsCovered is_path_at_most paths.new.items) paths.old.items }
@@ -91,8 +91,8 @@ fn put(paths: &mut Vec<Path>, at: usize, made: Path) -> Result<usize, Memory>
     Ok(last)
 }
 
-/// Keeps a path, in the place of one with the same keys where it may take it, and notes what it costs. The error means
-/// want of memory, and all is as before.
+/// Keeps a path, in the place of one with the same keys where it may take it, and notes what it costs. The error means out of
+/// memory, and all is as before.
 fn keep(alloc: Global, paths: &mut Vec<Path>, bounds: &mut Bounds, made: Path) -> Result<(), Memory>
     ensures kept { AreKeptOr paths.old.items made paths.new.items }
     ensures covered { All (fronts.IsCovered is_path_at_most paths.new.items) paths.old.items }
@@ -118,7 +118,7 @@ fn refused(_back: Path) -> Memory {
     AllocError
 }
 
-/// Offers a path to a front. The error means want of memory.
+/// Offers a path to a front. The error means out of memory.
 fn offer_to(front: &mut Front<Path>, made: Path) -> Result<(), Memory>
     ensures kept { OnOk result (AreKeptOr front.old made front.new) }
     ensures covered { OnOk result (All (fronts.IsCovered is_path_at_most front.new) front.old) }
@@ -130,7 +130,7 @@ fn offer_to(front: &mut Front<Path>, made: Path) -> Result<(), Memory>
     }
 }
 
-/// The front of some paths. The error means want of memory.
+/// The front of some paths. The error means out of memory.
 fn front_of(alloc: Global, paths: Vec<Path>) -> Result<Front<Path>, Memory>
     ensures some { IfOk result (λ f. All (Contains paths.items) f) }
     ensures covered { IfOk result (λ f. All (fronts.IsCovered is_path_at_most f) paths.items) }
@@ -153,9 +153,9 @@ impl KeptPaths {
         }
     }
 
-    /// Whether some path costs no more, neither before its first row nor in all, with keys that begin with these: where it
-    /// says yes there is one, and where no path has a startup it says yes if there is one. Where all are of one set and
-    /// parameterisation, such a path is at most each one of that cost and these keys. The error means want of memory.
+    /// Whether some path costs no more, neither before its first row nor in all, with keys that begin with these: where it says
+    /// yes there is one, and where no path has a startup it says yes if there is one. Where all are of one set and
+    /// parameterisation, such a path is at most each one of that cost and these keys. The error means out of memory.
     pub fn is_beaten(&self, alloc: Global, cost: Pair, by: &Keys) -> Result<bool, Memory>
         ensures sound { IfOk result (λ b. IsTrue b → IsBeaten (map path self.now) cost by.now) }
         ensures exact { IfOk result (λ b. TellsBeaten self.now cost by.now b) }
@@ -164,7 +164,7 @@ impl KeptPaths {
         Ok(is_beaten(&self.bounds, list.as_slice(), cost))
     }
 
-    /// Keeps a path. One that it is at most may be let go of. The error means want of memory, and all is as before.
+    /// Keeps a path. One that it is at most may be let go of. The error means out of memory, and all is as before.
     pub fn offer(&mut self, alloc: Global, made: Path) -> Result<(), Memory>
         ensures kept { AreKeptOr self.old made self.new }
         ensures covered { All (fronts.IsCovered is_path_at_most self.new) self.old }
@@ -182,7 +182,7 @@ impl KeptPaths {
     }
 
     /// The front of the paths: some of them, none at most another one, and each path has one that is at most it. The error
-    /// means want of memory.
+    /// means out of memory.
     pub fn into_front(self, alloc: Global) -> Result<Front<Path>, Memory>
         ensures some { IfOk result (λ f. All (Contains self) f) }
         ensures covered { IfOk result (λ f. All (fronts.IsCovered is_path_at_most f) self) }

@@ -4,7 +4,7 @@ use Rattle.std.specs.String.{string_bytes}
 use Rattle.std.specs.declared.string.String.{String}
 use Rattle.std.specs.Str.Parse.{IsNumeral, digits_value}
 
--- the one word `run`
+-- the words are `run` alone
 abbrev pub IsRunCommand : List (List ℕ) → Type 0
 IsRunCommand words = words ≡ codes "run" ∷ []
 
@@ -15,18 +15,18 @@ pub record IsNumberWord (n : ℕ) (word : List ℕ) : Type 0 where
   pub value : n ≡ digits_value 10 word
   pub small : n < 2 ^ 64
 
--- the word `sample` and that of a number
+-- the words are `sample` and one that writes n
 abbrev pub IsSampleCommand : ℕ → List (List ℕ) → Type 0
 IsSampleCommand n words = (word : List ℕ) × (words ≡ codes "sample" ∷ word ∷ []) × IsNumberWord n word
 
--- neither
+-- the words are neither `run` alone nor `sample` with a number
 abbrev pub AreNoCommand : List (List ℕ) → Type 0
 AreNoCommand words = ¬ IsRunCommand words × ((n : ℕ) → ¬ IsSampleCommand n words)
 
--- these are the words of that command
+-- the words, as strings, are `run` alone
 abbrev pub AreRunWords : {Z : Type 0} → List (String Z) → Type 0
 AreRunWords words = IsRunCommand (map string_bytes words)
 
--- these are those of the other, with a number
+-- the words, as strings, are `sample` and one that writes n
 abbrev pub AreSampleWords : {Z : Type 0} → ℕ → List (String Z) → Type 0
 AreSampleWords n words = IsSampleCommand n (map string_bytes words)

@@ -87,7 +87,7 @@ Ends ends.Memory text w held held' = IsPaused text held held' ⊎ IsCutOff text 
 abbrev pub AnswersAll : (left left' held held' : Option (List ℕ)) → Type 0
 AnswersAll left left' held held' = (text : List ℕ) × IsReadWhole left left' text × IsAnswered text held held'
 
--- a text was read whole, its first statements were answered, and the line of the next one's fault was told
+-- a text was read whole, its first statements were answered, and the line of the next one's fault was printed
 abbrev pub TellsFault : (left left' held held' errs errs' : Option (List ℕ)) → (before now : ℕ) → Type 0
 TellsFault left left' held held' errs errs' before now =
     (text : List ℕ) × (statements : List Worked) × (fault : Fault) × IsReadWhole left left' text × EndsInFault text held held' statements fault

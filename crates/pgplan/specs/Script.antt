@@ -25,7 +25,7 @@ numbers_line id other value = decimal id ++ codes "," ++ decimal other ++ codes 
 abbrev pub record_line : ℕ → (least below : ℕ) → ℕ → List ℕ
 record_line s least below i = numbers_line (i + 1) (least + draw_at s (2 * i) below) (draw_at s (2 * i + 1) 1000)
 
--- so many records
+-- the records of data with the numbers 1 to `count`
 unfoldable pub records : ℕ → (least below count : ℕ) → List ℕ
 records s least below count = flat_map (record_line s least below) (range_with_len 0 count)
 
@@ -49,7 +49,7 @@ definitions =
     ++ codes "CREATE INDEX icb ON c (b_id);\n"
     ++ codes "CREATE INDEX icv ON c (v);\n"
 
--- their rows, each draw behind the one before
+-- the rows of the three tables, each draw behind the one before
 unfoldable pub data_of : ℕ → List ℕ
 data_of s = copied (codes "a") s 0 50 500 ++ copied (codes "b") (drawn s 1000) 1 500 1000 ++ copied (codes "c") (drawn s 3000) 1 1000 2000
 
@@ -81,7 +81,7 @@ value_query v = between (codes "SELECT b.id FROM b, c WHERE b.id = c.b_id AND c.
 abbrev pub self_query : ℕ → List ℕ
 self_query id = between (codes "SELECT x.id, y.id FROM a x, a y WHERE x.g = y.g AND x.id = ") id (codes " ORDER BY y.v;\n")
 
--- these six, by seven draws from the left
+-- the six queries, by seven draws from the left
 unfoldable pub queries_of : ℕ → List ℕ
 queries_of s =
     group_query (draw_at s 0 50) ++ pair_query (draw_at s 1 1000) ++ chain_query (1 + draw_at s 2 500) ++ either_query (1 + draw_at s 3 500) (draw_at s 4 1000)

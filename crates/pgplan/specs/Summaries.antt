@@ -1,4 +1,4 @@
--- What the queries of a script come to, and the line that tells of it. Own.
+-- What the queries of a script come to, and the line that says so. Own.
 use Rattle.std.specs.Prelude.{ℕ, ◌≡◌, List, [], ◌∷◌, ◌++◌, length, codes, Option, Some, None}
 use Rattle.std.specs.Fmt.{decimal}
 use Rattle.std.specs.List.{sum, sum_by}
@@ -79,8 +79,8 @@ pub record IsSummedInPart (text : List ℕ) (held held' : Option (List ℕ)) : T
   pub summary : IsSummary text line
   pub gained : AppendsPrefix held held' line
 
--- why the statements of a text were not all tallied, and what is left: a fault is reached, in the world that the statements before
--- it leave, or memory ran out
+-- why the statements of a text were not all tallied, and what is left: a fault is reached, in the world that the statements
+-- before it leave, or memory ran out
 abbrev pub EndsTally : End → List ℕ → World → Type 0
 EndsTally (ends.Fault fault) text w = (reached : ReachesFault text) × (reached.fault ≡ fault) × (w ≡ world_after empty_world reached.statements) × IsFieldOf w.contents fault
 EndsTally ends.Write text w = ⊥
@@ -92,7 +92,7 @@ EndsUnsummed (ends.Fault fault) text w held held' = EndsTally (ends.Fault fault)
 EndsUnsummed ends.Write text w held held' = IsSummedInPart text held held'
 EndsUnsummed ends.Memory text w held held' = held' ≡ held
 
--- a fault of a text is reached; its line was told, and out is as before
+-- a fault of a text is reached; its line was printed, and out is as before
 pub record TellsFaultAlone (text : List ℕ) (held held' errs errs' : Option (List ℕ)) (before now : ℕ) : Type 0 where
   pub reached : ReachesFault text
   pub told : IsTold errs errs' before now (fault_line (world_after empty_world reached.statements).contents text reached.fault)

@@ -60,12 +60,13 @@ impl<C: Counters> Machine<C> {
     }
 
     /// Works the statement that begins at the byte offset `at` and gives the offset after it. Its reply, if it has one, is
-    /// written to `out` before that. `fetches` counts the rows that are fetched, and `reads` the entries and rows already
-    /// found that are looked at, and the rows that indexes are built over and that statistics are gathered from. The text has at most `MOST_SCRIPT_BYTES` bytes, and `at` is at most its length.
+    /// written to `out` before that. `fetches` counts the rows that are fetched, and `reads` the entries and rows already found
+    /// that are looked at, and the rows that indexes are built over and that statistics are gathered from. The text has at most
+    /// `MOST_SCRIPT_BYTES` bytes, and `at` is at most its length.
     ///
-    /// The refusal is the statement's first fault, of its words, its syntax, its names, its limits, its data, of the
-    /// catalogue, that it has no admissible plan, or, of ADVISE, no advice; or a failed out, or want of memory. The machine is then
-    /// as before, and with a fault nothing was written.
+    /// The refusal is the statement's first fault, of its words, its syntax, its names, its limits, its data, of the catalogue,
+    /// that it has no admissible plan, or, of ADVISE, no advice; or a failed out, or out of memory. The machine is then as
+    /// before, and with a fault nothing was written.
     pub fn step<K: Sink>(
         &mut self,
         text: &[u8],
@@ -111,9 +112,9 @@ impl<C: Counters> Machine<C> {
         }
     }
 
-    /// Works the statement that begins at the byte offset `at` as `step` does, and prints nothing: gives the offset after it and,
-    /// of a query that is asked, the number of rows and the price of its answer in place of that answer. The refusal is the
-    /// statement's first fault or want of memory, and the machine is then as before.
+    /// Works the statement that begins at the byte offset `at` as `step` does, and prints nothing: gives the offset after it
+    /// and, of a query that is asked, the number of rows and the price of its answer in place of that answer. The refusal is
+    /// the statement's first fault or out of memory, and the machine is then as before.
     pub(crate) fn tally(
         &mut self,
         text: &[u8],

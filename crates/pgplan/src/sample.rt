@@ -42,7 +42,7 @@ fn summarize<K: Sink, E: Sink>(alloc: Global, text: &[u8], out: &mut K, errors: 
     summed::<Brand, Brand, K, E>(alloc, Blank::new(1), Blank::new(1), text, out, errors)
 }
 
-/// The same for any ledgers of the two counters.
+/// Works the statements of the text with counters of any ledgers, prints what its queries come to, and answers the status.
 fn summed<L: Ledger, M: Ledger, K: Sink, E: Sink>(
     alloc: Global,
     fetching: Blank,

@@ -21,7 +21,7 @@ CREATE INDEX icv ON c (v);
 ";
 
 /// The sample script of a number: three tables and five indexes, 500, 1000 and 2000 rows of numbers that are drawn from that
-/// number on, and six queries that ask for drawn numbers. The only error is want of memory.
+/// number on, and six queries that ask for drawn numbers. The only error is out of memory.
 pub fn sample_script(alloc: Global, n: u64) -> Result<Vec<u8>, Memory>
     ensures text { IfOk result (λ text. text.items ≡ script n) }
     ensures short { IfOk result (λ text. length text.items ≤ MOST_SCRIPT_BYTES) }

@@ -19,14 +19,14 @@ pub(crate) enum Status {
     Statement,
     /// Out failed.
     WriteFault,
-    /// Want of memory.
+    /// Out of memory.
     Memory,
     /// The source gave more bytes than a script may have.
     TooLong,
 }
 
 impl Status {
-    /// That of a run whose source is not read whole.
+    /// The status of a run whose source is not read whole.
     pub(crate) fn of_reading(fault: &ReadFault) -> Status
         ensures { result ≡ status_of_reading fault.now }
     {
@@ -37,7 +37,7 @@ impl Status {
         }
     }
 
-    /// That of a run whose statements end so.
+    /// The status of a run, by how its statements ended.
     pub(crate) fn of_work(ended: &Result<(), End>) -> Status
         ensures { result ≡ status_of_work ended.now }
     {

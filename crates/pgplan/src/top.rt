@@ -30,19 +30,19 @@ use std::sync::ledger::{Blank, Ledger};
 /// words are no command; 2 if the source failed; 3 if a statement has a fault; 4 if the output failed; 5 if memory ran
 /// out; 6 if the source gave more bytes than a script may have. A status other than 0 writes its line to `errors`.
 ///
-/// The word `run` carries out a script, once it is read to its end. A SELECT that does not group prints a plan of the written plan
-/// space at its own costs that no admissible plan undercuts in price. Its rows are, in order, the LIMIT and OFFSET window of those
-/// that this plan gives, which as a bag, before the window, are the query's meaning in three-valued logic, in its ORDER BY. A SELECT
-/// that groups, also by DISTINCT, prints a plan that groups, which no other such plan undercuts, and a line for each group. EXPLAIN
-/// prints such a plan alone. EXPLAIN (TABLE) prints it with a certificate of which it is the best plan. CHECK prints whether a
-/// certificate, whoever made it, is a table of its query, or the first reason why it is none. USE PLAN answers its query by the plan
-/// that is written out, or prints the first reason why it cannot. ADVISE prints which of its candidate indexes, at most so many, to
-/// create so that the least prices of its queries have the least sum, and that sum, and creates none. Definitions, COPY, STATISTICS
-/// and ANALYZE print nothing. A statement is rejected only for the fault that is named, which may be that no plan is admissible or
-/// that there is no advice, or because memory ran out.
+/// The word `run` carries out a script, once it is read to its end. A SELECT that does not group prints a plan of the written
+/// plan space at its own costs that no admissible plan undercuts in price. Its rows are, in order, the LIMIT and OFFSET window
+/// of those that this plan gives, which as a bag, before the window, are the query's meaning in three-valued logic, in its
+/// ORDER BY. A SELECT that groups, also by DISTINCT, prints a plan that groups, which no other such plan undercuts, and a line
+/// for each group. EXPLAIN prints such a plan alone. EXPLAIN (TABLE) prints it with a certificate of which it is the best plan.
+/// CHECK prints whether a certificate, whoever made it, is a table of its query, or the first reason why it is none. USE PLAN
+/// answers its query by the plan that is written out, or prints the first reason why it cannot. ADVISE prints which of its
+/// candidate indexes, at most so many, to create so that the least prices of its queries have the least sum, and that sum, and
+/// creates none. Definitions, COPY, STATISTICS and ANALYZE print nothing. A statement is rejected only for the fault that is
+/// named, which may be that no plan is admissible or that there is no advice, or because memory ran out.
 ///
-/// The word `sample` with a number reads nothing and carries out the script of that number. At the end it prints one line: how many
-/// queries the script asks, how many rows their answers have together, and the sum of the least prices of their plans.
+/// The word `sample` with a number reads nothing and carries out the script of that number. At the end it prints one line: how
+/// many queries the script asks, how many rows their answers have together, and the sum of the least prices of their plans.
 pub fn pgplan<S: Source, K: Sink, E: Sink>(
     alloc: Global,
     words: &[String],
@@ -181,7 +181,7 @@ fn answer<K: Sink, E: Sink>(alloc: Global, text: &[u8], out: &mut K, errors: &mu
     counted::<Brand, Brand, K, E>(alloc, Blank::new(1), Blank::new(1), text, out, errors)
 }
 
-/// The same for any ledgers of the two counters.
+/// Answers the statements of the text with counters of any ledgers, and answers the status.
 fn counted<L: Ledger, M: Ledger, K: Sink, E: Sink>(
     alloc: Global,
     fetching: Blank,

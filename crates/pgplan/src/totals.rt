@@ -47,7 +47,7 @@ pub(crate) fn sum_up<C: Counters>(
     Ok(totals)
 }
 
-/// The same with what was measured of one more statement.
+/// Totals with what was measured of one more statement.
 fn added(totals: Totals, measured: Option<Measured>) -> Totals
     requires queries { totals.queries + 1 < 2 ^ 32 }
     requires rows { totals.rows + 2 ^ 64 < 2 ^ 128 }
@@ -68,7 +68,7 @@ fn added(totals: Totals, measured: Option<Measured>) -> Totals
     }
 }
 
-/// The line that tells of them. The only error is want of memory.
+/// The line of these totals. The only error is out of memory.
 pub(crate) fn summary_line(alloc: Global, totals: Totals) -> Result<Vec<u8>, Memory>
     ensures { IfOk result (λ line.
         line.items ≡ summary_line totals.queries totals.rows totals.cost) }

@@ -1,5 +1,6 @@
-//! The program `pgplan`: the top call over the words of the command line and the standard streams, of which interrupted reads and
-//! writes are made again. Its tests run the top call over sources and outs that fail, and count what its machine fetches and looks at.
+//! The program `pgplan`: the top call over the words of the command line and the standard streams, of which interrupted reads
+//! and writes are made again. Its tests run the top call over sources and outs that fail, and count what its machine fetches
+//! and looks at.
 #![tactic(auto)]
 
 #[cfg(test)]

@@ -9,7 +9,7 @@ use Rattle.plan_check.specs.declared.judged.Judged.{Judged}
 abbrev pub judged_certificate : Judged → Certificate
 judged_certificate j = certificate j.t.now
 
--- none of its entries is dominated by another
+-- no entry of the certificate that is judged is dominated by another
 abbrev pub HasNoneDominated : Judged → Type 0
 HasNoneDominated j = AreUndominated j.cat.now j.q.now (judged_certificate j)
 

@@ -1,7 +1,7 @@
 -- The places of entries in another order. Own.
 use Rattle.std.specs.Prelude.{◌≡◌, ◌<◌, ℕ, List, get_or, length}
 
--- so many places, in their own order
+-- the first places, as many as counted, in their own order
 pub record AreFirstPlaces (places : List ℕ) (count : ℕ) : Type 0 where
   pub long : length places ≡ count
   pub each : (k : ℕ) → k < count → get_or places k 0 ≡ k

@@ -30,7 +30,7 @@ module _ (c : Contents) (q : Query) where
     pub admissible : IsAdmissible c q p
     pub keys : e.keys ≡ keys_of c q p
 
-  -- its numbers are the plan's
+  -- the numbers of an entry are those of its plan
   pub record HasPlanNumbers (e : Entry) (p : Plan) : Type 0 where
     pub startup : IsStartup q.window e.startup (cost c q p).startup
     pub total : e.cost ≡ (cost c q p).total

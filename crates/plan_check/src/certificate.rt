@@ -45,7 +45,7 @@ impl Model for Entries {
 }
 
 impl Entries {
-    /// The list of these entries. The condition is that there are at most 2^32 - 1. The error means want of memory.
+    /// The list of these entries. The condition is that there are at most 2^32 - 1. The error means out of memory.
     pub fn from_vec(alloc: Global, v: Vec<Entry>) -> Result<Entries, Memory>
         requires few { length v.items ≤ MOST_ENTRIES }
         ensures list { IfOk result (λ es. es ≡ v.items) }

@@ -43,7 +43,7 @@ fn slot_of(set: RelSet) -> usize
 }
 
 impl<'a> SetPlaces<'a> {
-    /// Those of some entries, by one pass over their places in order. It takes no memory.
+    /// The places of the entries of each set, by one pass over all entries in this order. It takes no memory.
     pub fn of(entries: &[Entry], order: &'a [u32]) -> SetPlaces<'a>
         requires few { length entries.now ≤ MOST_ENTRIES }
         requires ranked { AreRanked order.now (length entries.now) }

@@ -17,7 +17,7 @@ fn sought(entries: &[Entry], place: u32) -> (u16, u16, u64) {
     }
 }
 
-/// The places of so many entries, in their own order. The error means want of memory.
+/// The places of so many entries, in their own order. The error means out of memory.
 fn places(alloc: Global, count: usize) -> Result<Vec<u32>, Memory>
     requires few { count ≤ MOST_ENTRIES }
     ensures { IfOk result (λ v. AreFirstPlaces v.items count) }
@@ -29,7 +29,7 @@ fn places(alloc: Global, count: usize) -> Result<Vec<u32>, Memory>
     Ok(all)
 }
 
-/// Sorts places by what the entries there are sought by; those that tie keep their order. The error means want of memory.
+/// Sorts places by what the entries there are sought by; those that tie keep their order. The error means out of memory.
 fn sort(entries: &[Entry], places: &mut Vec<u32>) -> Result<(), Memory>
     ensures { OnOk result (IsPermutation places.old.items places.new.items) }
 {
@@ -37,8 +37,7 @@ fn sort(entries: &[Entry], places: &mut Vec<u32>) -> Result<(), Memory>
     Ok(())
 }
 
-/// The places of entries, those of each set and parameterisation side by side, in order of cost. The error means want of
-/// memory.
+/// The places of entries, those of each set and parameterisation side by side, in order of cost. The error means out of memory.
 pub(crate) fn ranked(alloc: Global, entries: &[Entry]) -> Result<Vec<u32>, Memory>
     requires few { length entries.now ≤ MOST_ENTRIES }
     ensures { IfOk result (λ v. AreRanked v.items (length entries.now)) }

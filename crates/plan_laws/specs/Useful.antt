@@ -42,7 +42,8 @@ module _ (c : Contents) (q : Query) (every : Bool) where
     pub startup : IsStartupAtMost q.window (cost c q p).startup (cost c q other).startup
     pub keys : (ks : Keys) → IsOfUse q every (set_of other) ks → covers (keys_of c q other) ks ≡ true → covers (keys_of c q p) ks ≡ true
 
-  -- the same of a side of a join: it is sorted by each list of open classes by which the other is
+  -- one plan does for another as a side of a join: it suffices, and is sorted by each list of open classes by which the other
+  -- is
   pub record StandsIn (p other : Plan) : Type 0 where
     pub suffices : Suffices p other
     pub has : (ks : Keys) → are_open q (set_of other) ks ≡ true → HasKeys c q other ks → HasKeys c q p ks

@@ -103,8 +103,8 @@ pub fn conjuncts_are_over()
         All (λ k. atom_count k ≤ most) (conjuncts_in ws) }
 {}
 
-/// Each clause is well typed where the conjuncts are, names columns that pass a test where those of the conjuncts and of ORDER BY
-/// do, and has no more atoms than a conjunct may have, which is one at least.
+/// Each clause is well typed where the conjuncts are, names columns that pass a test where those of the conjuncts and of ORDER
+/// BY do, and has no more atoms than a conjunct may have, which is one at least.
 pub fn clauses_are_over()
     ensures typed { (g : Premises) (t : ClassTable) → IsClassTable g t →
         All (IsTyped g.type_of) g.conjuncts →

@@ -1,6 +1,6 @@
-//! Laws of queries and plans; no code runs. What the clauses of classes and of well bound queries mean; that a plan gives
-//! the tuples that its relations and clauses mean, in the order of its keys; that the joins of kept plans are enough; and what is the
-//! same in two catalogues that differ in indexes alone.
+//! Laws of queries and plans; no code runs. What the clauses of classes and of well bound queries mean; that a plan gives the
+//! tuples that its relations and clauses mean, in the order of its keys; that the joins of kept plans are enough; and what is
+//! the same in two catalogues that differ in indexes alone.
 #![tactic(auto)]
 
 mod classes;

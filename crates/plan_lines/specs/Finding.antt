@@ -45,7 +45,7 @@ module _ (c : Contents) (q : Query) where
   abbrev pub FindsScan : List ℕ → Option TreeLine → Type 0
   FindsScan line result = (i : IndexNo) → IsIndexOfQuery c q i → line ≡ leaf_title c i → result ≡ Some (Leaf i)
 
-  -- such a line as an OR
+  -- a line of a bitmap tree as an OR
   abbrev pub FindsArm : List ℕ → Option TreeLine → Type 0
   FindsArm line result = (n : ℕ) → IsConjunct c q n → line ≡ or_title q n → result ≡ Some (Arm n)
 

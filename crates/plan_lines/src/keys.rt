@@ -150,8 +150,8 @@ pub(crate) fn behind_keys<'a>(
     Some(left)
 }
 
-/// The keys of a node of this set, where a text is theirs; there may be none. None where it is that of no keys. The error
-/// means want of memory.
+/// The keys of a node of this set, where a text is theirs; there may be none. None where it is that of no keys. The error means
+/// out of memory.
 pub fn read_node_keys(
     alloc: Global,
     text: &[u8],

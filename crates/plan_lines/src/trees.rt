@@ -53,7 +53,7 @@ fn read_arms(
 }
 
 /// The bitmap tree whose first line, at a depth, says this; the lines beneath come next. None where they are those of no such
-/// tree. The error means want of memory.
+/// tree. The error means out of memory.
 #[cycle(read_tree)]
 pub fn read_tree(
     alloc: Global,

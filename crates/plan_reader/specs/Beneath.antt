@@ -28,7 +28,8 @@ module _ (c : Contents) (q : Query) where
     pub split : numbers ≡ used ++ more
     pub begins : text ≡ written_at c q d p used ++ left
 
-  -- the same for two plans, one behind the other
+  -- a text begins with the lines of two plans at a depth, one behind the other, with the first of some numbers; this is left of
+  -- both
   abbrev pub AreRead : ℕ → List ℕ → List ℕ → List Pair → List Pair → Option (Plan × Plan) → Type 0
   AreRead d old new before after o = (outer inner : Plan) (ns : List Pair) (rest : List ℕ) → IsText c q outer → IsText c q inner → StandsAt (d + 1) outer → StandsAt (d + 1) inner →
       length ns ≡ nodes outer + nodes inner → All Fits ns → IsShallow d rest → old ≡ written_beneath c q d (nest outer inner) ns ++ rest →

@@ -93,7 +93,7 @@ module _ (c : Contents) (q : Query) where
   abbrev pub ReadsPlan : ℕ → List ℕ → List ℕ → Vec Pair Global → Vec Pair Global → Option Planned → Type 0
   ReadsPlan d old new before after result = IsRead c q d old new before.items after.items (option_map plan result)
 
-  -- the same for two plans, one behind the other
+  -- two plans whose lines come next, one behind the other, are read with their numbers, and what follows is left
   abbrev pub ReadsPair : ℕ → List ℕ → List ℕ → Vec Pair Global → Vec Pair Global → Option (Planned × Planned) → Type 0
   ReadsPair d old new before after result =
       AreRead c q d old new before.items after.items (option_map {U = Plan × Plan} (λ s. (plan s.0, plan s.1)) result)

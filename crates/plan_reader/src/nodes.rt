@@ -101,7 +101,7 @@ fn merge_of(
 }
 
 /// The plan whose lines come next at a depth; its numbers are put behind others. None where those of none come next. The error
-/// means want of memory.
+/// means out of memory.
 #[cycle(read_node)]
 pub(crate) fn read_node(
     alloc: Global,

@@ -23,7 +23,7 @@ use std::alloc::{AllocError, Global};
 pub enum WrittenFault {
     /// The block is the text of no plan tree.
     P1,
-    /// Want of memory.
+    /// Out of memory.
     Memory,
 }
 
@@ -82,8 +82,8 @@ fn checked(
 /// catalogue. A plan tree with numbers comes exactly where the block is its text, and no other one has that text, or no such
 /// tree with other numbers. Such a tree need not be a plan of the query: its relations, the relations whose rows its scans are
 /// given, the tables of its indexes and the classes of its keys are those of the query, its OR clauses are conjuncts, its
-/// deepest line is at most 64 levels deep, and it has at most 256 lines. A number has at most 19 digits, without leading
-/// zeros. P1 is told where the block is the text of none.
+/// deepest line is at most 64 levels deep, and it has at most 256 lines. A number has at most 19 digits, without leading zeros.
+/// The reason is P1 where the block is the text of none.
 pub fn read_plan(
     alloc: Global,
     cat: &Catalog,

@@ -43,7 +43,7 @@ pub(crate) fn index_of(behind: &[u8], cat: &Catalog, q: &Prepared) -> Option<Pla
     })
 }
 
-/// The same with the columns taken from the index's entries.
+/// An index-only scan, behind its words.
 pub(crate) fn index_only_of(behind: &[u8], cat: &Catalog, q: &Prepared) -> Option<Plan>
     requires bound { IsWellBound cat.now q.now }
     ensures has { IfSome result (λ p. IsText cat.now q.now (plan p)) }

@@ -38,7 +38,7 @@ pub record IsTabledText (c : Contents) (q : Query) (bytes : List ℕ) : Type 0 w
   pub tabled : IsTabled c q plan certificate
   pub printed : bytes ≡ tabled_text c q plan certificate
 
--- that is printed, with nothing fetched and nothing looked at
+-- the reply to EXPLAIN (TABLE): such a text, with nothing fetched and nothing looked at
 pub record IsTableOf (c : Contents) (q : Query) (r : Reply) : Type 0 where
   pub text : IsTabledText c q r.bytes
   pub fetched : r.fetched ≡ exactly 0

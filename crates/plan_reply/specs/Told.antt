@@ -36,12 +36,12 @@ reason_text Limit = codes "P4 cost " ++ decimal MOST_COST
 reason_text (Number line is_cost printed own) =
     codes "P3 line " ++ (decimal line ++ (codes " " ++ (number_name is_cost ++ (codes " " ++ (decimal printed ++ (codes " is " ++ decimal own))))))
 
--- it is not good
+-- a plan that is read is not good
 abbrev pub IsFault : Judged → Type 0
 IsFault Good = ⊥
 IsFault _ = Unit {0}
 
--- it is not good, and these bytes say why
+-- a plan that is read is not good, and these bytes say why
 abbrev pub IsReasonOf : Judged → List ℕ → Type 0
 IsReasonOf judged bytes = IsFault judged × (bytes ≡ reason_text judged)
 
@@ -71,19 +71,19 @@ module _ (c : Contents) (q : Query) (block : List ℕ) where
     pub read : IsWritten c q block p numbers
     pub good : IsGood c q p numbers
 
-  -- what is told of the block: a line that says why its plan is not run, or the good plan whose text it is
+  -- the judgement of the block: a line that says why its plan is not run, or the good plan whose text it is
   abbrev pub IsTold : Told → Type 0
   IsTold (tellings.Line bytes) = IsRefusedPlan bytes.items
   IsTold (tellings.Plan p) = IsGoodPlan (plan p)
 
--- the same is told twice: one line, or one plan
+-- two answers to a block are the same: one line, or one plan
 abbrev pub IsSameTold : Told → Told → Type 0
 IsSameTold (tellings.Line a) (tellings.Line b) = a.items ≡ b.items
 IsSameTold (tellings.Plan p) (tellings.Plan o) = plan p ≡ plan o
 IsSameTold _ _ = ⊥
 
--- the rows of a plan that is written out: its tuples are the query's meaning, each as often, and in its ORDER BY; its cost is no less
--- than the price of a best plan. Its text is printed, and a line for each of these tuples, with their number
+-- the rows of a plan that is written out: its tuples are the query's meaning, each as often, and in its ORDER BY; its cost is
+-- no less than the price of a best plan. Its text is printed, and a line for each of these tuples, with their number
 pub record IsPlanAnswer (w : World) (q : Query) (p : Plan) (bytes : List ℕ) : Type 0 where
   pub finished : IsFinished w.contents q p
   pub dearer : (best : Plan) → IsBestPlan w.contents q best → price w.contents q best ≤ (cost w.contents q p).total
@@ -91,7 +91,8 @@ pub record IsPlanAnswer (w : World) (q : Query) (p : Plan) (bytes : List ℕ) : 
   pub ordered : IsOrdered w q (tuples_of w q p)
   pub printed : bytes ≡ plan_text w.contents q p ++ result_text w q (tuples_of w q p)
 
--- the answer by the plan of a block, which is the text that is printed, with that plan's fetches and its looks beside 32 for each row
+-- the answer by the plan of a block, which is the text that is printed, with that plan's fetches and its looks beside 32 for
+-- each row
 pub record IsPlanned (w : World) (q : Query) (block : List ℕ) (r : Reply) : Type 0 where
   pub plan : Plan
   pub good : IsGoodPlan w.contents q block plan
@@ -100,8 +101,8 @@ pub record IsPlanned (w : World) (q : Query) (block : List ℕ) (r : Reply) : Ty
   pub fetched : r.fetched ≡ answer_fetches w q plan
   pub looked : r.looked ≡ answer_looks w q plan
 
--- what USE PLAN prints of a block that is given for a plan of a query: the answer by that plan where it is a good one, else a line
--- with the first reason for which it is not, with nothing fetched and nothing looked at
+-- what USE PLAN prints of a block that is given for a plan of a query: the answer by that plan where it is a good one, else a
+-- line with the first reason for which it is not, with nothing fetched and nothing looked at
 pub data IsPlanReplyTo (w : World) (q : Query) (block : List ℕ) (r : Reply) : Type 0 where
   planned : IsPlanned w q block r → IsPlanReplyTo w q block r
   refused : IsRefusedPlan w.contents q block r.bytes → r.fetched ≡ exactly 0 → r.looked ≡ 0 → IsPlanReplyTo w q block r

@@ -39,13 +39,13 @@ fn answer_by<C: Counters, K: Sink>(
     put_result(at, block, &mut rows, out, fetches, reads)
 }
 
-/// Prints what is told of a block: of a good plan the block, a line for each row that the plan gives, in its order, and the
+/// Prints the answer to a block: of a good plan the block, a line for each row that the plan gives, in its order, and the
 /// number of these rows; else the line alone. The rows are the query's meaning, each as often, in its ORDER BY. The plan is the
 /// one that is run, and each row is written, or held to be, before the next one is drawn. Rows are fetched as often as the plan
 /// fetches them, and entries and rows already found looked at as often as it does at most, with 32 more looks for each row; for
 /// a line alone nothing is fetched and nothing looked at. The conditions are a query without LIMIT and OFFSET that is bound to
-/// the catalogue of the store, and what `judge_text` told of this block for it. At an error out has a prefix of that, or is as
-/// before; at `Write` its count of faults rose.
+/// the catalogue of the store, and what `judge_text` gave for this block and query. At an error out has a prefix of that, or is
+/// as before; at `Write` its count of faults rose.
 pub fn answer_told<C: Counters, K: Sink>(
     at: &Setting<C>,
     told: &Told,

@@ -20,7 +20,7 @@ use reply_text::invalid_line;
 use sql_query::Prepared;
 use std::alloc::{AllocError, Global};
 
-/// What is told of each block that is the text of this plan with these numbers. The error means want of memory.
+/// What is answered for each block that is the text of this plan with these numbers. The error means out of memory.
 fn told_by(alloc: Global, cat: &Catalog, q: &Prepared, w: Written) -> Result<Told, Memory>
     requires bound { IsWellBound cat.now q.now }
     requires few { lines (plan w.plan) ≤ MOST_LINES }
@@ -34,7 +34,7 @@ fn told_by(alloc: Global, cat: &Catalog, q: &Prepared, w: Written) -> Result<Tol
     }
 }
 
-/// The line of a block that is the text of no plan. The error means want of memory.
+/// The line of a block that is the text of no plan. The error means out of memory.
 fn unread_line(alloc: Global, fault: WrittenFault) -> Result<Vec<u8>, Memory>
     ensures { IfOk result (λ line. (fault ≡ P1) × (line.items ≡ texts.invalid_line (codes "P1"))) }
 {
@@ -45,11 +45,11 @@ fn unread_line(alloc: Global, fault: WrittenFault) -> Result<Vec<u8>, Memory>
 }
 
 /// What USE PLAN is to print of a block that is given for a plan of a query. The plan comes exactly where the block is the
-/// printed text of a finished plan of the query below the limit of costs, with that plan's own numbers; else a line, `invalid: `
-/// and the first reason for which the plan is not run. In order: `P1`, the block is the text of no plan tree over the query;
+/// printed text of a finished plan of the query below the limit of costs, with that plan's own numbers; else a line, `invalid:
+/// ` and the first reason for which the plan is not run. In order: `P1`, the block is the text of no plan tree over the query;
 /// `P2`, the plan is not finished, with the line of the first node that is in no plan of the plan space; `P4`, its cost is
 /// 10^18 or more; `P3`, the first number from the top that is not its own, a line's cost before its rows. The condition is that
-/// the query is bound to the catalogue. The error means want of memory.
+/// the query is bound to the catalogue. The error means out of memory.
 pub fn judge_text(alloc: Global, cat: &Catalog, q: &Prepared, block: &[u8]) -> Result<Told, Memory>
     requires bound { IsWellBound cat.now q.now }
     ensures told { IfOk result (IsTold cat.now q.now block.now) }

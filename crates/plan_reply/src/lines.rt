@@ -9,7 +9,7 @@ use pg_base::Memory;
 use plan_space::Judged;
 use std::alloc::Global;
 
-/// That a plan is none of the plan space, and the line of the node at fault.
+/// That a plan is none of the plan space, and the line of the wrong node.
 fn outside_text(alloc: Global, line: u32) -> Result<Vec<u8>, Memory>
     ensures { IfOk result (λ text. text.items ≡ texts.reason_text (Judged.Outside line)) }
 {

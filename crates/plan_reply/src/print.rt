@@ -31,10 +31,10 @@ fn put<K: Sink>(out: &mut K, text: &[u8]) -> Result<(), Stop>
 }
 
 /// Prints the reply to EXPLAIN (TABLE) of a query: the text of a plan that no admissible one undercuts in price, the
-/// certificate of a table of the query whose best plan it is, and a line `\.`. Where the query has a window, the text begins with
-/// the line of LIMIT and OFFSET, and the certificate is of version 2. No row is read. At `Write` and `Memory` out has a prefix
-/// of that, or is as before; at `Write` its count of faults rose. `NoPlan` comes only where each finished plan costs 10^18 or
-/// more, and changes nothing.
+/// certificate of a table of the query whose best plan it is, and a line `\.`. Where the query has a window, the text begins
+/// with the line of LIMIT and OFFSET, and the certificate is of version 2. No row is read. At `Write` and `Memory` out has a
+/// prefix of that, or is as before; at `Write` its count of faults rose. `NoPlan` comes only where each finished plan costs
+/// 10^18 or more, and changes nothing.
 pub fn explain_table<K: Sink>(
     alloc: Global,
     cat: &Catalog,

@@ -60,8 +60,8 @@ fn unplanned(fault: PlanFault) -> Stop
 
 /// The text of a plan that no admissible one undercuts in price, as EXPLAIN prints it, then the certificate of a table of the
 /// query whose best plan it is, then a line `\.`. Where the query has a window, the line of LIMIT and OFFSET comes first, and
-/// the certificate is of version 2. `NoPlan` comes only where each finished plan costs 10^18 or more; the other error is
-/// want of memory.
+/// the certificate is of version 2. `NoPlan` comes only where each finished plan costs 10^18 or more; the other error is out of
+/// memory.
 pub fn table_text(alloc: Global, cat: &Catalog, q: &Prepared) -> Result<Vec<u8>, Stop>
     requires bound { IsWellBound cat.now q.now }
     requires arms { HasArmsInOrs q.now }

@@ -30,7 +30,7 @@ IsElementOf tree found = (c : Contents) (q : Query) (r : ℕ) (p : Set) → foun
 abbrev pub IsTheElement : BitTree → Element → Type 0
 IsTheElement tree e = (c : Contents) (q : Query) (r : ℕ) (p : Set) → element_of c q r p tree ≡ Some e
 
--- it is none, or another
+-- a tree is no element, or another than this one
 abbrev pub IsNotTheElement : BitTree → Element → Type 0
 IsNotTheElement tree e = (c : Contents) (q : Query) (r : ℕ) (p : Set) → ¬ (element_of c q r p tree ≡ Some e)
 
@@ -54,7 +54,7 @@ arms_of_clause q n = arms_of (condition_at q n)
 abbrev pub IsTreeOverFound : Contents → Query → RelNo → Set → List Found → Tree → Type 0
 IsTreeOverFound c q r p found tree = IsTreeOver c q r.0 p (map element found) (bits tree)
 
--- so is the AND of some trees
+-- the AND of some trees is a tree over the elements found
 abbrev pub IsAndOverFound : Contents → Query → RelNo → Set → List Found → List Tree → Type 0
 IsAndOverFound c q r p found trees = IsTreeOver c q r.0 p (map element found) (all_hold (bits_all trees))
 

@@ -47,7 +47,8 @@ module _ (c : Contents) (q : Query) where
   IsOutside at (merge keys outer inner) line =
       IsOutside (at + 1) outer line ⊎ ((IsBuilt c q (unsorted outer) × IsOutside (at + 1 + lines outer) inner line) ⊎ (IsBadJoin (merge keys outer inner) outer inner × (line ≡ at)))
 
-  -- a plan is not finished by a line: that of the first node that is none, or line 1 where all are but the whole is not finished
+  -- a plan is not finished by a line: that of the first node that is none, or line 1 where all are but the whole is not
+  -- finished
   abbrev pub IsUnfinished : Plan → ℕ → Type 0
   IsUnfinished p line = IsOutside 1 p line ⊎ (IsBuilt c q (unsorted p) × (¬ IsFinished c q p) × (line ≡ 1))
 

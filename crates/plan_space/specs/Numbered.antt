@@ -56,7 +56,8 @@ module _ (c : Contents) (q : Query) where
   abbrev pub own_pair : Plan → Pair
   own_pair p = ((cost c q p).total, estimate c q p)
 
-  -- the numbers that a plan's own nodes have to have printed: a node's before those beneath it, an outer side's before an inner's
+  -- the numbers that a plan's own nodes have to have printed: a node's before those beneath it, an outer side's before an
+  -- inner's
   abbrev pub own_numbers : Plan → List Pair
   own_numbers (seq r) = own_pair (seq r) ∷ []
   own_numbers (index r i backward p) = own_pair (index r i backward p) ∷ []

@@ -33,16 +33,16 @@ class_listed found = cons_option (option_map (λ (c : ClassNo). c.0) found) []
 abbrev pub GoesOnPastClass : List ClassNo → ℕ → ClassNo → ℕ → Type 0
 GoesOnPastClass list at c next = (ns : List ℕ) → GoesOnAs (class_numbers list) at (c.0 ∷ ns) next ns
 
--- it does not go on with the class, whatever stands behind
+-- a list does not go on at a place with the class, whatever stands behind
 abbrev pub StopsAtClass : List ClassNo → ℕ → ClassNo → Type 0
 StopsAtClass list at c = (ns : List ℕ) → goes_on (class_numbers list) at (c.0 ∷ ns) ≡ false
 
--- the same of an item of ORDER BY: the list goes on past it
+-- a list goes on at a place with an item of ORDER BY, and with any others behind it as it does with these at the next place
 abbrev pub GoesOnPastItem : ClassTable → List ClassNo → ℕ → OrderItem → ℕ → Type 0
 GoesOnPastItem t list at item next =
     (items : List OrderItem) → GoesOnAs (class_numbers list) at (classes_asked t (item ∷ items)) next (classes_asked t items)
 
--- it does not go on with the item, whatever stands behind
+-- a list does not go on at a place with the item of ORDER BY, whatever stands behind
 abbrev pub StopsAtItem : ClassTable → List ClassNo → ℕ → OrderItem → Type 0
 StopsAtItem t list at item = (items : List OrderItem) → goes_on (class_numbers list) at (classes_asked t (item ∷ items)) ≡ false
 

@@ -25,13 +25,13 @@ use sql_query::Prepared;
 pub enum Judged {
     /// Nothing: it is a finished plan below the limit of costs, and its numbers are its own.
     Good,
-    /// It is no finished plan of the plan space.
+    /// The plan is no finished plan of the plan space.
     Outside {
         /// The line of the first node that is in no plan of the space, children before parents and outer sides before inner
         /// ones; 1 where there is none.
         line: u32,
     },
-    /// It costs 10^18 or more.
+    /// The plan costs 10^18 or more.
     Limit,
     /// A number is not the node's own.
     Number {

@@ -23,7 +23,7 @@ use Rattle.pg_expr.specs.AtomSets.{contains}
 use Rattle.pg_expr.specs.Columns.{atom_count}
 use Rattle.pg_expr.specs.declared.expr.Expr.{Expr}
 
--- so many elements may be combined
+-- how many elements may be combined
 abbrev pub MOST_ELEMENTS : ℕ
 MOST_ELEMENTS = 8
 

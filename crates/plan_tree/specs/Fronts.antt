@@ -13,7 +13,7 @@ abbrev pub is_bitmap : Plan → Bool
 is_bitmap (bitmap r p bits) = true
 is_bitmap _ = false
 
--- any other plan: of a relation these are offered before its bitmap scans
+-- a plan is no bitmap scan: of a relation these are offered before its bitmap scans
 abbrev pub is_no_bitmap : Plan → Bool
 is_no_bitmap t = not (is_bitmap t)
 
@@ -28,11 +28,11 @@ module _ (c : Contents) (q : Query) where
     pub is_there : Contains paths path
     pub dominates : Dominates c q path.tree t
 
-  -- so for a plan, where it is of the space and admissible
+  -- a plan is dominated by the plan of some path of a list, where it is of the space and admissible
   abbrev pub IsServed : List Path → Plan → Type 0
   IsServed paths t = IsBuilt c q t → IsAdmissible c q t → HasDominating paths t
 
-  -- so for each admissible plan of a set and a parameterisation that passes a test
+  -- each admissible plan of a set and a parameterisation that passes a test is dominated by the plan of some path of a list
   abbrev pub AreDominated : (Plan → Bool) → Set → Set → List Path → Type 0
   AreDominated test set param paths = (t : Plan) → IsPlanOf c q set param t → IsAdmissible c q t → test t ≡ true → HasDominating paths t
 

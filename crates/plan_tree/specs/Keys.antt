@@ -9,11 +9,11 @@ use Rattle.pathkeys.specs.Keys.{Keys, index_keys}
 use Rattle.plan_tree.specs.Plans.{Plan, seq, index, index_only, bitmap, sort, nest, merge, is_empty}
 
 module _ (c : Contents) (q : Query) where
-  -- those of the index; a scan with a parameterisation has none
+  -- the keys of a scan by an index: those of the index; a scan with a parameterisation has none
   abbrev pub scan_keys : RelNo → IndexNo → Bool → RelSet → Keys
   scan_keys r i backward p = cond (is_empty p) (index_keys c q.classes i r.0 backward) []
 
-  -- those of an index scan, the list of a sort, those of a join's outer side
+  -- the keys of a plan: those of an index scan, the list of a sort, those of a join's outer side
   abbrev pub keys_of : Plan → Keys
   keys_of (seq r) = []
   keys_of (index r i backward p) = scan_keys r i backward p

@@ -24,6 +24,6 @@ AreDominatedBy c q test r p paths = AreDominated c q test (one r.0) (has p.0) (m
 abbrev pub IsServedBy : Contents → Query → List Costed → Plan → Type 0
 IsServedBy c q paths t = IsServed c q (map path paths) t
 
--- or where it is admissible
+-- a plan is dominated by a path of the list where it is admissible
 abbrev pub IsDominatedIn : Contents → Query → List Costed → Plan → Type 0
 IsDominatedIn c q paths t = IsAdmissible c q t → HasDominating c q (map path paths) t

@@ -59,7 +59,7 @@ pub record GivenScan : Type 0 where
 abbrev pub scan_given : RelNo → RelSet → Option GivenScan
 scan_given r p = cond (is_empty p) None (Some (record { relation = r; param = p }))
 
--- such a scan, where a plan is one
+-- the relation and the parameterisation of a plan that is a scan with rows given; none for any other
 abbrev pub given_scan : Plan → Option GivenScan
 given_scan (seq r) = None
 given_scan (index r i backward p) = scan_given r p

@@ -36,7 +36,7 @@ conditions_in q set = conditions_from 0 (contains set) q.classes.clauses
 abbrev pub named_beside : Query → RelNo → List ℕ → Set
 named_beside q r set = others_named r.0 (conditions_in q set)
 
--- two sets have the same members; a set has none
+-- two sets have the same members
 abbrev pub IsSameSet : Set → Set → Type 0
 IsSameSet a b = (k : ℕ) → a k ≡ b k
 
@@ -89,7 +89,7 @@ module _ (c : Contents) (q : Query) where
     pub condition : (not (is_hash (index_at c i).method) || nat_lt 0 (length (conditions_at r i p))) ≡ true
     pub named : IsSameSet (has p.0) (others_named r.0 (conditions_of (conditions_at r i p)))
 
-  -- the same of a B-tree that holds each column of the relation that the statement names
+  -- an index-only scan of a relation: one by a B-tree that holds each column of the relation that the statement names
   pub record IsIndexOnlyScan (r : RelNo) (i : IndexNo) (backward : Bool) (p : RelSet) : Type 0 where
     pub scan : IsIndexScan r i backward p
     pub ordered : is_hash (index_at c i).method ≡ false

@@ -28,7 +28,7 @@ pub enum BitTree {
 }
 
 impl BitTree {
-    /// A bitmap tree of the same form. The error means want of memory.
+    /// A bitmap tree of the same form. The error means out of memory.
     #[cycle(copy_bits)]
     pub fn copy(&self, alloc: Global) -> Result<BitTree, Memory>
         ensures { IfOk result (λ b. bits b ≡ bits self.now) }
@@ -48,7 +48,7 @@ impl BitTree {
 }
 
 impl BitTrees {
-    /// A list of trees of the same forms. The error means want of memory.
+    /// A list of trees of the same forms. The error means out of memory.
     #[cycle(copy_bits)]
     pub fn copy(&self, alloc: Global) -> Result<BitTrees, Memory>
         ensures { IfOk result (λ bs. bits_all bs.items.items ≡ bits_all self.now.items.items) }
@@ -61,7 +61,7 @@ impl BitTrees {
     }
 }
 
-/// An equal list of indexes. The error means want of memory.
+/// An equal list of indexes. The error means out of memory.
 fn copy_indexes(alloc: Global, indexes: &[IndexNo]) -> Result<Vec<IndexNo>, Memory>
     ensures { IfOk result (λ v. v.items ≡ indexes.now) }
 {

@@ -31,7 +31,7 @@ use sql_query::Prepared;
 use sql_query::catalog::Catalog;
 use std::marker::Model;
 
-/// So many elements may be combined.
+/// How many elements may be combined.
 pub const MOST_ELEMENTS: usize = 8;
 
 /// What a bitmap may be made of.

@@ -91,8 +91,8 @@ pub fn is_index_scan(
     serves(cat, q, r, i, p, &found) && names_exactly(cat, q, r, p, &found)
 }
 
-/// The same of an index-only scan: such a scan by a B-tree that holds each column of the relation that the statement
-/// names.
+/// Whether the plan space has the index-only scan of a relation by an index: the scan of this kind by a B-tree that holds each
+/// column of the relation that the statement names.
 pub fn is_index_only_scan(
     cat: &Catalog,
     q: &Prepared,

@@ -127,7 +127,7 @@ pub fn scan_path(
     }
 }
 
-/// Offers a path to a front. After want of memory the front is as before.
+/// Offers a path to a front. If memory runs out, the front is as before.
 fn put(front: &mut Front<Path>, made: Path) -> Result<(), Memory>
     ensures kept { AreKeptOr front.old made front.new }
     ensures covered { All (IsCovered is_path_at_most front.new) front.old }
@@ -139,8 +139,8 @@ fn put(front: &mut Front<Path>, made: Path) -> Result<(), Memory>
     }
 }
 
-/// Offers a scan of a relation with a parameterisation to a front, where it is admissible. Its cost may be cut to 10^18.
-/// After want of memory the front is as before.
+/// Offers a scan of a relation with a parameterisation to a front, where it is admissible. Its cost may be cut to 10^18. If
+/// memory runs out, the front is as before.
 pub fn offer_scan(
     cat: &Catalog,
     q: &Prepared,

@@ -59,7 +59,7 @@ impl Path {
         plan
     }
 
-    /// A path of the same plan, numbers and keys. The error means want of memory.
+    /// A path of the same plan, numbers and keys. The error means out of memory.
     pub fn copy(&self, alloc: Global) -> Result<Path, Memory>
         ensures { IfOk result (λ p. path p ≡ path self.now) }
     {

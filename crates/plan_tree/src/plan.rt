@@ -27,7 +27,8 @@ pub enum Plan {
         /// The relations whose rows it is given.
         param: RelSet,
     },
-    /// The same, with the columns taken from the entries, so that no row is fetched.
+    /// The rows of the entries of an index that meet its conditions, with the columns taken from the entries, so that no row is
+    /// fetched.
     IndexOnly {
         /// The relation.
         rel: RelNo,
@@ -62,7 +63,8 @@ pub enum Plan {
         /// The inner side.
         inner: Box<Plan>,
     },
-    /// The same of two sides that are sorted by the classes of a key list.
+    /// For each outer row in order, the inner rows in order that join with it, where both sides are sorted by the classes of a
+    /// key list.
     Merge {
         /// The classes by which the sides are sorted.
         keys: Keys,
@@ -74,7 +76,7 @@ pub enum Plan {
 }
 
 impl Plan {
-    /// A plan of the same tree. The error means want of memory.
+    /// A plan of the same tree. The error means out of memory.
     pub fn copy(&self, alloc: Global) -> Result<Plan, Memory>
         ensures { IfOk result (λ p. plan p ≡ plan self.now) }
     {

@@ -33,7 +33,7 @@ use pg_expr::Expr;
 use sql_query::Prepared;
 use sql_query::catalog::Catalog;
 
-/// So many parts of indexes, whose sum is given, together: each after the first is one more child.
+/// The part of several indexes together, from the sum of their parts and their number: each after the first is one more child.
 fn together(all: u64, count: usize) -> u64
     requires all { all ≤ MOST_COST }
     ensures part { (parts : List ℕ) → all ≡ capped (sum parts) → count ≡ length parts →

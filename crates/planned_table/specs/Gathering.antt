@@ -45,6 +45,6 @@ IsGivenBelow all n s p = (1 ≤ p.0) × (p.0 ≤ all) × (r : ℕ) × (r < n) ×
 abbrev pub IsBelow : ℕ → ℕ → Places
 IsBelow all n s p = IsWholeBelow (all + 1) s p ⊎ IsGivenBelow all n s p
 
--- the same, or the set of the next relation with a parameterisation below a number
+-- sets as they are gathered so far, or the set of the next relation with a parameterisation below a number
 abbrev pub IsBelowOr : ℕ → ℕ → ℕ → Places
 IsBelowOr all n most s p = IsBelow all n s p ⊎ ((1 ≤ p.0) × (p.0 < most) × IsSameSet (has s.0) (one n))

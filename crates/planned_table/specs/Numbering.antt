@@ -26,7 +26,7 @@ without_sort t = t
 abbrev pub trees_before : ℕ → List (Bor Costed) → List Plan
 trees_before n xs = take n (trees xs)
 
--- each of them is there
+-- the plans of the first n of paths that are lent, each of them there
 abbrev pub present_before : ℕ → List (Bor Costed) → List (Option Plan)
 present_before n xs = present (take n (trees xs))
 

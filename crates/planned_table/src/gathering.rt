@@ -24,7 +24,7 @@ fn front_paths(table: &Table, s: RelSet, p: RelSet) -> &[Path]
     }
 }
 
-/// Puts paths behind others. The error means want of memory.
+/// Puts paths behind others. The error means out of memory.
 fn add_paths<'a>(listed: &mut Vec<&'a Path>, paths: &'a [Path]) -> Result<(), Memory>
     ensures { OnOk result (shown listed.new.items ≡ shown listed.old.items ++ map path paths.now) }
 {
@@ -34,7 +34,7 @@ fn add_paths<'a>(listed: &mut Vec<&'a Path>, paths: &'a [Path]) -> Result<(), Me
     Ok(())
 }
 
-/// Puts the paths of the front at a set and a parameterisation behind others. The error means want of memory.
+/// Puts the paths of the front at a set and a parameterisation behind others. The error means out of memory.
 fn add_front<'a>(
     listed: &mut Vec<&'a Path>,
     table: &'a Table,
@@ -48,7 +48,7 @@ fn add_front<'a>(
     add_paths(listed, front_paths(table, s, p))
 }
 
-/// The paths of each set up to that of all relations, where they are given no rows. The error means want of memory.
+/// The paths of each set up to that of all relations, where they are given no rows. The error means out of memory.
 fn whole_sets<'a>(alloc: Global, table: &'a Table, all: RelSet) -> Result<Vec<&'a Path>, Memory>
     requires places { StandAtTheirs (paths_at table.now) }
     ensures { IfOk result (λ listed.
@@ -61,7 +61,7 @@ fn whole_sets<'a>(alloc: Global, table: &'a Table, all: RelSet) -> Result<Vec<&'
     Ok(listed)
 }
 
-/// Puts the paths of a relation that are given rows of others behind the rest. The error means want of memory.
+/// Puts the paths of a relation that are given rows of others behind the rest. The error means out of memory.
 fn add_given<'a>(
     listed: &mut Vec<&'a Path>,
     table: &'a Table,
@@ -82,7 +82,7 @@ fn add_given<'a>(
     Ok(())
 }
 
-/// The paths of all fronts of so many relations, also those that are given rows. The error means want of memory.
+/// The paths of all fronts of so many relations, also those that are given rows. The error means out of memory.
 pub(crate) fn gathered<'a>(
     alloc: Global,
     table: &'a Table,

@@ -23,7 +23,7 @@ use plan_tree::{Path, Plan};
 use sql_query::Prepared;
 use std::alloc::{AllocError, Global};
 
-/// What the entry of a merge is, by the numbers of its sides among the first paths of a list. The error means want of memory.
+/// What the entry of a merge is, by the numbers of its sides among the first paths of a list. The error means out of memory.
 fn merge_of(
     alloc: Global,
     listed: &[&Path],
@@ -47,8 +47,8 @@ fn merge_of(
     Ok(Node::Merge(made, outer, inner))
 }
 
-/// What the entry of a path is, where a join goes by the numbers of its sides among the first paths of a list. The error
-/// means want of memory.
+/// What the entry of a path is, where a join goes by the numbers of its sides among the first paths of a list. The error means
+/// out of memory.
 fn node_of(
     alloc: Global,
     q: &Prepared,
@@ -90,7 +90,7 @@ fn node_of(
     }
 }
 
-/// The entry of a path. The error means want of memory.
+/// The entry of a path. The error means out of memory.
 fn entry_of(
     alloc: Global,
     q: &Prepared,
@@ -118,7 +118,7 @@ fn entry_of(
     })
 }
 
-/// An entry for each path of a list, in order. The error means want of memory.
+/// An entry for each path of a list, in order. The error means out of memory.
 fn entries_of(alloc: Global, q: &Prepared, listed: &[&Path]) -> Result<Vec<Entry>, Memory>
     requires few { length listed.now ≤ MOST_ENTRIES }
     requires below { All (ReadsBelow 16) (trees listed.now) }
@@ -148,7 +148,7 @@ fn best_of(listed: &[&Path], p: &Path, order: &Keys) -> Side
     }
 }
 
-/// The certificate of paths, of which one in the order asked for is the best. More than 2^32 - 1 of them count as want of
+/// The certificate of paths, of which one in the order asked for is the best. More than 2^32 - 1 of them count as out of
 /// memory.
 pub(crate) fn certificate_of(
     alloc: Global,

@@ -62,7 +62,7 @@ fn compare(a: &Path, b: &Path) -> Ordering
     sizes.then(sets.then(params.then(costs.then(startups.then(keys)))))
 }
 
-/// Brings paths into the order of printing. The error means want of memory.
+/// Brings paths into the order of printing. The error means out of memory.
 pub(crate) fn sort_paths(listed: &mut Vec<&Path>) -> Result<(), Memory>
     ensures same { IsPermutation (shown listed.old.items) (shown listed.new.items) }
     ensures ordered { OnOk result (IsInOrder path_order (shown listed.new.items)) }

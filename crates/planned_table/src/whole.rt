@@ -65,7 +65,7 @@ struct Searched<'a> {
     all: RelSet,
 }
 
-/// The fronts of a search for every key and every cost. The error means want of memory.
+/// The fronts of a search for every key and every cost. The error means out of memory.
 fn whole_table(alloc: Global, cat: &Catalog, q: &Prepared) -> Result<Table, Memory>
     requires query { IsOverTables cat.now q.now }
     ensures { IfOk result (λ t. IsSearched cat.now q.now (paths_at t)) }
@@ -79,7 +79,7 @@ fn whole_table(alloc: Global, cat: &Catalog, q: &Prepared) -> Result<Table, Memo
     Ok(table)
 }
 
-/// The paths of a table in the order of printing. The error means want of memory.
+/// The paths of a table in the order of printing. The error means out of memory.
 fn listed_paths<'a>(
     alloc: Global,
     cat: &Catalog,
@@ -98,8 +98,8 @@ fn listed_paths<'a>(
     Ok(listed)
 }
 
-/// The certificate of a table's paths, of which one of all relations in the order asked for is the best plan. The error
-/// means want of memory.
+/// The certificate of a table's paths, of which one of all relations in the order asked for is the best plan. The error means
+/// out of memory.
 fn certified(alloc: Global, at: &Searched, best: &Path, order: &Keys) -> Result<Certificate, Memory>
     requires bound { IsWellBound at.now.cat.now at.now.q.now }
     requires query { IsOverTables at.now.cat.now at.now.q.now }
@@ -187,10 +187,10 @@ fn tabled_of(
 }
 
 /// A plan of least price, as `planner::plan` gives one, with a table of the query: a path for each admissible scan and each
-/// admissible join of kept paths that none of them dominates, in the order of printing. The table has a text where no OR of
-/// the query is without arms, as none is that SQL writes; it is of version 2 where the query has a window. `CostLimit` comes
-/// exactly where no finished plan is below 10^18. `Memory` means want of memory; a table of more than 2^32 - 1 entries counts
-/// as that.
+/// admissible join of kept paths that none of them dominates, in the order of printing. The table has a text where no OR of the
+/// query is without arms, as none is that SQL writes; it is of version 2 where the query has a window. `CostLimit` comes
+/// exactly where no finished plan is below 10^18. `Memory` means out of memory; a table of more than 2^32 - 1 entries counts as
+/// that.
 pub fn plan_with_table(alloc: Global, cat: &Catalog, q: &Prepared) -> Result<Tabled, PlanFault>
     requires bound { IsWellBound cat.now q.now }
     ensures best { IfOk result (λ t. IsFinishedPath cat.now q.now (path t.best)) }

@@ -43,8 +43,7 @@ module _ (c : Contents) (q : Query) where
   abbrev pub finished_price : Plan → ℕ
   finished_price t = price c q (finished t)
 
-  -- so many is what the plan of a path costs by its price in the order asked for, where it is admissible so, which is below
-  -- the limit of costs
+  -- the plan of a path, in the order asked for, is admissible, and its price is this number, below the limit of costs
   pub record IsPriced (p : Path) (n : ℕ) : Type 0 where
     pub admissible : IsAdmissible c q (finished p.tree)
     pub price : n ≡ finished_price p.tree
@@ -84,7 +83,7 @@ IsLeastPlace c q paths l = (d : Costed) → IsLeastOf c q (map path paths) (path
 abbrev pub HasFinished : Contents → Query → Planned → Type 0
 HasFinished c q planned = IsFinishedPath c q (path planned.best)
 
--- its plan is the best
+-- the plan of what was planned is the best
 abbrev pub HasBestPlan : Contents → Query → Planned → Type 0
 HasBestPlan c q planned = IsBestPlan c q (path planned.best).tree
 
@@ -92,6 +91,6 @@ HasBestPlan c q planned = IsBestPlan c q (path planned.best).tree
 abbrev pub HasNoAdmissiblePlan : Contents → Query → Type 0
 HasNoAdmissiblePlan c q = (t : Plan) → IsFinished c q t → ¬ IsAdmissible c q t
 
--- it has none, where the limit of a search is no less than that of costs
+-- where the limit of a search is no less than that of costs, a query has no finished plan below the latter
 abbrev pub HasNoneWithin : Contents → Query → ℕ → Type 0
 HasNoneWithin c q limit = MOST_COST ≤ limit → HasNoAdmissiblePlan c q

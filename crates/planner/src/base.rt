@@ -49,8 +49,8 @@ struct Scanned<'a> {
     indexes: &'a [Reached],
 }
 
-/// The paths of a relation where the rows of these others are given: its scans, those that no other one dominates. The
-/// error means want of memory.
+/// The paths of a relation where the rows of these others are given: its scans, those that no other one dominates. The error
+/// means out of memory.
 fn relation_paths(
     alloc: Global,
     cat: &Catalog,
@@ -69,7 +69,7 @@ fn relation_paths(
     Ok(front)
 }
 
-/// Puts a front into a table. The error means want of memory.
+/// Puts a front into a table. The error means out of memory.
 fn put(table: &mut Table, s: RelSet, p: RelSet, front: Front<Path>) -> Result<(), Memory>
     ensures here { OnOk result (front_at table.new s p ≡ Some front) }
     ensures others { ChangesOnlyFront s p table.old table.new }
@@ -80,8 +80,8 @@ fn put(table: &mut Table, s: RelSet, p: RelSet, front: Front<Path>) -> Result<()
     }
 }
 
-/// Puts the paths of a relation where the rows of these others are given into a table, if there may be some. The error
-/// means want of memory.
+/// Puts the paths of a relation where the rows of these others are given into a table, if there may be some. The error means
+/// out of memory.
 fn add_paths(
     alloc: Global,
     cat: &Catalog,
@@ -110,7 +110,7 @@ fn add_paths(
     put(table, at.set, p, front)
 }
 
-/// Puts the paths of a relation at each parameterisation into a table. The error means want of memory.
+/// Puts the paths of a relation at each parameterisation into a table. The error means out of memory.
 fn add_each(
     alloc: Global,
     cat: &Catalog,
@@ -136,7 +136,7 @@ fn add_each(
     Ok(())
 }
 
-/// The same of a relation by its number.
+/// Puts the paths of the relation of a number at each parameterisation into a table. The error means out of memory.
 fn add_relation(
     alloc: Global,
     cat: &Catalog,
@@ -163,7 +163,7 @@ fn add_relation(
     add_each(alloc, cat, q, at, all, table)
 }
 
-/// The paths of each relation, at each parameterisation that its scans may have. The error means want of memory.
+/// The paths of each relation, at each parameterisation that its scans may have. The error means out of memory.
 pub fn base_table(alloc: Global, cat: &Catalog, q: &Prepared) -> Result<Table, Memory>
     requires query { IsOverTables cat.now q.now }
     ensures base { IfOk result (λ t. IsBase cat.now q.now t) }

@@ -110,7 +110,7 @@ pub fn least_place(cat: &Catalog, q: &Prepared, paths: &[Path], order: &Keys) ->
     best
 }
 
-/// The path of a sort of the path's plan by the order keys, which is admissible. The error means want of memory.
+/// The path of a sort of the path's plan by the order keys, which is admissible. The error means out of memory.
 fn sorted(alloc: Global, cat: &Catalog, q: &Prepared, p: Path, order: Keys) -> Result<Path, Memory>
     requires whole { IsWhole cat.now q.now (path p) }
     requires admissible { IsAdmissible cat.now q.now (plans.sort order (path p).tree) }
@@ -133,7 +133,7 @@ fn sorted(alloc: Global, cat: &Catalog, q: &Prepared, p: Path, order: Keys) -> R
     })
 }
 
-/// The path of the path's plan in the order asked for, which is admissible. The error means want of memory.
+/// The path of the path's plan in the order asked for, which is admissible. The error means out of memory.
 pub fn finish(
     alloc: Global,
     cat: &Catalog,

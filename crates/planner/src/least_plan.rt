@@ -35,7 +35,7 @@ pub struct Planned {
 pub enum PlanFault {
     /// Each of its finished plans costs 10^18 or more.
     CostLimit,
-    /// Want of memory.
+    /// Out of memory.
     Memory,
 }
 
@@ -60,7 +60,7 @@ pub fn whole_paths(table: &Table, all: RelSet) -> &[Path]
 }
 
 /// The least of some paths of all relations, in the order asked for. None only where none of them is admissible then, or the
-/// least price is not below the limit. The error means want of memory.
+/// least price is not below the limit. The error means out of memory.
 fn least_of(
     alloc: Global,
     cat: &Catalog,
@@ -88,7 +88,7 @@ fn least_of(
     Ok(Some(Planned { best }))
 }
 
-/// So many relations have some hundred pairs of sets, and a likely plan is worth its while.
+/// From this number of relations on a likely plan is looked for first: they have some hundred pairs of sets.
 const FEWEST_FOR_A_LIMIT: usize = 4;
 
 /// Fronts of single relations, and what a plan may cost over them so that a likely one does.
@@ -111,7 +111,7 @@ fn limit_by(cat: &Catalog, q: &Prepared, paths: &[Path], order: &Keys) -> u64
 }
 
 /// The paths of single relations, with what a plan may cost so that a likely one does, or the limit of costs where none is
-/// found. The error means want of memory.
+/// found. The error means out of memory.
 fn likely_limit(
     alloc: Global,
     cat: &Catalog,
@@ -142,8 +142,8 @@ fn likely_limit(
     Ok(Likely { base: table, limit })
 }
 
-/// A plan of least price over the paths of single relations, where its price is below a limit. None only where no finished
-/// plan is below it. The error means want of memory.
+/// A plan of least price over the paths of single relations, where its price is below a limit. None only where no finished plan
+/// is below it. The error means out of memory.
 fn plan_below(
     alloc: Global,
     cat: &Catalog,
@@ -199,12 +199,12 @@ fn plan_over(alloc: Global, cat: &Catalog, q: &Prepared) -> Result<Planned, Plan
     planned_or_past(found)
 }
 
-/// A plan of least price: its path is of a finished plan below 10^18, and no other such plan of the whole plan space is of
-/// a lower price, whatever joins it is made of. The price is the total, or under a window what the rows asked for cost. A
-/// plan of all relations whose keys begin with the order keys is finished; any other is sorted. `CostLimit` comes exactly
-/// where no finished plan is below 10^18, and `Memory` means want of memory. With n relations some 3^n pairs of sets are
-/// joined, each by what was kept of the two. What costs no less than a likely plan is left out, and is tried only where nothing
-/// is found without it.
+/// A plan of least price: its path is of a finished plan below 10^18, and no other such plan of the whole plan space is of a
+/// lower price, whatever joins it is made of. The price is the total, or under a window what the rows asked for cost. A plan of
+/// all relations whose keys begin with the order keys is finished; any other is sorted. `CostLimit` comes exactly where no
+/// finished plan is below 10^18, and `Memory` means out of memory. With n relations some 3^n pairs of sets are joined, each by
+/// what was kept of the two. What costs no less than a likely plan is left out, and is tried only where nothing is found
+/// without it.
 pub fn plan(alloc: Global, cat: &Catalog, q: &Prepared) -> Result<Planned, PlanFault>
     requires bound { IsWellBound cat.now q.now }
     ensures best { IfOk result (λ made. HasFinished cat.now q.now made) }

@@ -48,7 +48,7 @@ fn named_with(cat: &Catalog, q: &Prepared, r: RelNo, k: RelNo) -> RelSet
     others_named(cat, q, r, &tested)
 }
 
-/// The same of each one other together.
+/// The other relations that the clauses name which a scan of a relation tests where the rows of some one other are given.
 fn named_with_any(cat: &Catalog, q: &Prepared, r: RelNo) -> RelSet
     requires query { IsOverTables cat.now q.now }
     requires relation { r.0 < width q.now }

@@ -1,6 +1,6 @@
--- What a SELECT means over a catalogue, or its first fault: FROM first with the conditions of its joins, then WHERE, then the list
--- from the left, then ORDER BY, then LIMIT and OFFSET, then the limits of conjuncts and atoms (PostgreSQL manual, chapter Queries;
--- codes: appendix Error Codes; the limits are own).
+-- What a SELECT means over a catalogue, or its first fault: FROM first with the conditions of its joins, then WHERE, then the
+-- list from the left, then ORDER BY, then LIMIT and OFFSET, then the limits of conjuncts and atoms (PostgreSQL manual, chapter
+-- Queries; codes: appendix Error Codes; the limits are own).
 use Rattle.std.specs.Prelude.{nat_lt, cond, List, [], ◌∷◌, ◌++◌, length, map, Option, Some, None, Result, Ok, Err}
 use Rattle.pg_base.specs.declared.faults.Code.TheVariants.{S2, S15}
 use Rattle.pg_base.specs.declared.faults.Fault.{Fault}
@@ -104,13 +104,13 @@ past_limit ws = cond (nat_lt MOST_CONJUNCTS (length (conjuncts_in ws))) (Some Co
 abbrev pub premises_of : Sight → List OrderItem → List Cond → Premises
 premises_of s order ws = record { conjuncts = conjuncts_in ws; order = order; type_of = type_in s.contents s.range }
 
--- a limit that is passed is at fault at the statement's first token
+-- a limit that is passed is an error at the statement's first token
 abbrev pub limited : {A : Type 0} → Token → Option Limit → A → Result A Fault
 limited start None x = Ok x
 limited start (Some limit) x = Err (fault_at (S15 limit) start)
 
--- WHERE, then the list, then ORDER BY, over the relations that FROM names, then LIMIT and OFFSET, then the limits. The conjuncts
--- are those of the conditions of joins in the order of the text, then those of WHERE.
+-- WHERE, then the list, then ORDER BY, over the relations that FROM names, then LIMIT and OFFSET, then the limits. The
+-- conjuncts are those of the conditions of joins in the order of the text, then those of WHERE.
 abbrev pub bound_over : Token → List Item → Where → OrderBy → WindowTree → Joined → Result Bound Fault
 bound_over start items condition order rows j =
     let scope = scope_of j.contents j.range in
@@ -128,6 +128,6 @@ bound_from c start items groups condition order rows = next (with_groups (nothin
 abbrev pub bound_part : Contents → Token → WindowedSelect → Result Bound Fault
 bound_part c start (windowed_select (select_from _ o os _ g gs w) y v) = bound_from c start (item_of o ∷ items_of os) (g ∷ groups_after gs) w y v
 
--- the same of one with its end, and behind EXPLAIN where that is written
+-- what a SELECT with its order, its window and its end means, also behind EXPLAIN, in a statement that begins at this token
 abbrev pub bound : Contents → Token → OrderedSelect → Result Bound Fault
 bound c start (ordered_select _ q y v _) = bound_part c start (windowed_select q y v)

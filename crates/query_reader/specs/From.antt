@@ -1,5 +1,6 @@
--- What FROM means: its relations from the left, and the conditions of its joins, each bound right behind its relation (PostgreSQL
--- manual, chapter Queries, The FROM Clause, and SELECT, FROM Clause; codes: appendix Error Codes; the limit is own).
+-- What FROM means: its relations from the left, and the conditions of its joins, each bound right behind its relation
+-- (PostgreSQL manual, chapter Queries, The FROM Clause, and SELECT, FROM Clause; codes: appendix Error Codes; the limit is
+-- own).
 use Rattle.std.specs.Prelude.{◌≤◌, ℕ, Bool, nat_lt, cond, List, [], ◌∷◌, ◌++◌, length, All, Option, Some, None, Result, Ok, Err}
 use Rattle.std.specs.List.{list_any}
 use Rattle.std.specs.Str.{bytes_eq}
@@ -64,13 +65,13 @@ is_taken range alias = list_any (λ r. bytes_eq alias r.1) range
 abbrev pub under_alias : Joined → TableNo → Spelled → Result Joined Fault
 under_alias j table alias = cond (is_taken j.range alias.bytes) (Err (fault_at S7 alias.token)) (Ok (record j { range = j.range ++ (table, alias.bytes) ∷ [] }))
 
--- one more relation, where its table's name was looked up; it is at fault at that name where there is no such table
+-- one more relation, where its table's name was looked up; an error at that name where there is no such table
 abbrev pub of_table : Joined → Option TableNo → Source → Result Joined Fault
 of_table j None source = Err (fault_at S2 source.table.token)
 of_table j (Some table) source = under_alias j table (alias_or source.alias source.table)
 
--- one more relation: it is at fault at its name where there are too many, over all groups, else where there is no such table,
--- else at its alias, or at its name where none is given, where an earlier relation has it
+-- one more relation: an error at its name where there are too many, over all groups, else where there is no such table, else at
+-- its alias, or at its name where none is given, where an earlier relation has it
 abbrev pub with_relation : Joined → Source → Result Joined Fault
 with_relation j source =
     cond (nat_lt (length j.range) MOST_RELATIONS) (of_table j (table_named j.contents source.table.bytes) source) (Err (fault_at (S15 Relations) source.table.token))

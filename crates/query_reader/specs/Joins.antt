@@ -45,7 +45,7 @@ abbrev pub StandsJoin : Joining → List Terminal → Type 0
 StandsJoin how ts =
     (x : Join) × (more : List Join) × (rest : List Terminal) × (ends_group rest ≡ true) × IsNext (Some how) (x ∷ more) rest ts
 
--- where it does, this holds of them and of what stands behind them
+-- where a join by these words stands first, this holds of it, of the joins that follow, and of what stands behind them
 abbrev pub IfJoin : Joining → List Terminal → (Join → List Join → List Terminal → Type 0) → Type 0
 IfJoin how ts P =
     (x : Join) (more : List Join) (rest : List Terminal) → ends_group rest ≡ true → IsNext (Some how) (x ∷ more) rest ts →
@@ -57,7 +57,7 @@ StandsOn ts =
     (r : Relation) × (k : Key) × (e : Expr) × (rest : List Terminal) × (ends_expr rest ≡ true) ×
     (ts ≡ words_of_relation r ++ t_key OnKey k ∷ (words_of_expr e ++ rest))
 
--- where it does, this holds of them and of what stands behind them
+-- where a relation with ON and its condition stands first, this holds of them and of what stands behind them
 abbrev pub IfOn : List Terminal → (Relation → Expr → List Terminal → Type 0) → Type 0
 IfOn ts P =
     (r : Relation) (k : Key) (e : Expr) (rest : List Terminal) → ends_expr rest ≡ true →

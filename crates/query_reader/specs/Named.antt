@@ -5,13 +5,13 @@ use Rattle.pg_expr.specs.declared.operand.Operand.{Operand}
 use Rattle.pg_expr.specs.declared.operand.Operand.TheVariants.{Col, Lit}
 use Rattle.pg_expr.specs.Cond.{Cond, compare, is_null, is_not_null, bool_col, const, all_of, any_of, negation, Conds, no_conds, cond_and}
 
--- of an operand
+-- the columns that an operand names
 abbrev pub column_in : Operand → List ColRef
 column_in (Col c) = c ∷ []
 column_in (Lit v) = []
 
 abbrev mutual
-  -- of a condition
+  -- the columns that a condition names
   pub columns_in : Cond → List ColRef
   columns_in (compare op l r) = column_in l ++ column_in r
   columns_in (is_null c) = c ∷ []
@@ -22,7 +22,7 @@ abbrev mutual
   columns_in (any_of cs) = columns_in_all cs
   columns_in (negation c) = columns_in c
 
-  -- of a list of conditions
+  -- the columns that a list of conditions names
   pub columns_in_all : Conds → List ColRef
   columns_in_all no_conds = []
   columns_in_all (cond_and c cs) = columns_in c ++ columns_in_all cs

@@ -1,5 +1,5 @@
--- What ORDER BY means over the visible columns and the select list (PostgreSQL manual, chapter Queries, Sorting Rows, and SELECT,
--- ORDER BY Clause).
+-- What ORDER BY means over the visible columns and the select list (PostgreSQL manual, chapter Queries, Sorting Rows, and
+-- SELECT, ORDER BY Clause).
 use Rattle.std.specs.Prelude.{ℕ, List, [], ◌∷◌, filter, None, Result, Ok}
 use Rattle.std.specs.List.{list_any}
 use Rattle.pg_base.specs.declared.faults.Fault.{Fault}
@@ -33,7 +33,8 @@ abbrev pub order_column : Scope → List ColRef → Col → Result ColRef Fault
 order_column scope select (bare n) = the_column (first_among (shown_of_name scope select (bytes_of n)) (look_up scope None (bytes_of n))) (token_of n) (token_of n)
 order_column scope select (qualified q d n) = column_of scope (qualified q d n)
 
--- an item: its column, its direction and the end at which its NULLs stand, which is that of the greatest values where nothing is said
+-- an item: its column, its direction and the end at which its NULLs stand, which is that of the greatest values where nothing
+-- is said
 abbrev pub order_item : Scope → List ColRef → Ordering → Result OrderItem Fault
 order_item scope select (ordering c d z) =
     next (order_column scope select c) (λ x. Ok (record { col = x; descending = is_descending d; nulls_first = has_nulls_first (is_descending d) z }))

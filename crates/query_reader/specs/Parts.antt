@@ -12,11 +12,11 @@ pub record IsPartAt (text : List ℕ) (tokens : List Token) (first end : ℕ) (x
   pub words : words_of_windowed x ≡ terminals text (drop first (take end tokens))
   pub limits : AreWithinLimits (terminals text tokens)
 
--- they are those of some one
+-- the tokens from number `first` up to, but not including, number `end` are those of some SELECT
 abbrev pub HavePart : List ℕ → List Token → ℕ → ℕ → Type 0
 HavePart text tokens first end = (x : WindowedSelect) × IsPartAt text tokens first end x
 
--- it as a statement of its own
+-- a SELECT as a statement by itself, with this end
 abbrev pub as_statement : WindowedSelect → Ending → Statement
 as_statement (windowed_select q y v) e = query (ordered_select no_explain q y v e)
 
@@ -24,7 +24,7 @@ as_statement (windowed_select q y v) e = query (ordered_select no_explain q y v 
 abbrev pub IsSelectAt : List ℕ → List Token → ℕ → WindowedSelect → Type 0
 IsSelectAt text tokens first x = (e : Ending) × IsSpelled (as_statement x e) text (drop first tokens)
 
--- they are those of some one
+-- the tokens from number `first` on are those of some SELECT and the one that ends the statement, within the limits
 abbrev pub HaveSelectAt : List ℕ → List Token → ℕ → Type 0
 HaveSelectAt text tokens first = (x : WindowedSelect) × IsSelectAt text tokens first x
 

@@ -44,7 +44,7 @@ StandsAfterFrom ts =
     (w : Where) × (y : OrderBy) × (v : Window) × (rest : List Terminal) × (ends_window rest ≡ true) ×
     (ts ≡ words_of_where w ++ (words_of_order y ++ (words_of_window v ++ rest)))
 
--- where they do, this holds of them
+-- where the parts of a SELECT behind its FROM stand first, and no word behind them goes on them, this holds of them
 abbrev pub IfAfterFrom : List Terminal → (Where → OrderBy → Window → Type 0) → Type 0
 IfAfterFrom ts P =
     (w : Where) (y : OrderBy) (v : Window) (rest : List Terminal) → ends_window rest ≡ true →
@@ -57,7 +57,7 @@ StandsFrom ts =
     (ends_window rest ≡ true) ×
     (ts ≡ words_of_group g ++ (words_of_groups gs ++ (words_of_where w ++ (words_of_order y ++ (words_of_window v ++ rest)))))
 
--- where they do, this holds of them
+-- where the groups of FROM and the parts behind it stand first, and no word behind them goes on them, this holds of them
 abbrev pub IfFrom : List Terminal → (Group → List (Mark × Group) → Where → OrderBy → Window → Type 0) → Type 0
 IfFrom ts P =
     (g : Group) (gs : List (Mark × Group)) (w : Where) (y : OrderBy) (v : Window) (rest : List Terminal) →

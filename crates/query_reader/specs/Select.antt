@@ -1,4 +1,4 @@
--- What reading a SELECT gives: told of its syntax tree, of which tokens have one at most.
+-- What reading a SELECT gives: said of its syntax tree, of which tokens have one at most.
 use Rattle.std.specs.Prelude.{◌≡◌, ◌⊎◌, ℕ, Bool, true, false, List, ◌∷◌, drop, Result, Ok, Err}
 use Rattle.pg_base.specs.declared.faults.Code.TheVariants.{S1}
 use Rattle.pg_base.specs.declared.faults.Fault.{Fault}
@@ -27,8 +27,8 @@ abbrev pub is_explained : List Terminal → Bool
 is_explained (t_name (free Explain _) ∷ _) = true
 is_explained _ = false
 
--- the number of words before the SELECT that a statement's end ends: behind EXPLAIN (TABLE) 4, behind EXPLAIN or CHECK 1, behind
--- USE PLAN 2, else 0
+-- the number of words before the SELECT that a statement's end ends: behind EXPLAIN (TABLE) 4, behind EXPLAIN or CHECK 1,
+-- behind USE PLAN 2, else 0
 abbrev pub words_before : List Terminal → ℕ
 words_before (t_name (free Explain _) ∷ t_mark Open _ ∷ _) = 4
 words_before (t_name (free Explain _) ∷ _) = 1
@@ -68,12 +68,12 @@ abbrev pub begins_select : List Terminal → Bool
 begins_select (t_key SelectKey _ ∷ _) = true
 begins_select _ = false
 
--- the first word is at fault
+-- the first word is wrong
 abbrev pub IsAtFirst : List Token → Fault → Type 0
 IsAtFirst tokens f = (token : Token) × (later : List Token) × (tokens ≡ token ∷ later) × (f ≡ fault_at S1 token)
 
--- why some tokens are no SELECT with its end that does not group: another first word is at fault, or it is the first fault of a
--- statement that begins with that word, or that word is at fault before a SELECT that groups
+-- why some tokens are no SELECT with its end that does not group: another first word is wrong, or it is the first fault of a
+-- statement that begins with that word, or that word is wrong before a SELECT that groups
 abbrev pub IsFaultBy : List ℕ → List Token → Fault → Bool → Type 0
 IsFaultBy text tokens f true = IsFirstFault IsStatement text tokens f ⊎ (AreGrouped text tokens × IsAtFirst tokens f)
 IsFaultBy text tokens f false = IsAtFirst tokens f
@@ -88,8 +88,8 @@ pub record AreWithSelectAt (text : List ℕ) (tokens : List Token) (first : ℕ)
   pub whole : IsWhole text tokens
   pub select : HaveSelectAt text tokens first
 
--- what a reading says of the grammar: what is read is the SELECT at `first`, so is what there is no memory for, and a fault is the
--- statement's first one, that no SELECT stands there in a statement without one, or a fault of that SELECT
+-- what a reading says of the grammar: what is read is the SELECT at `first`, so is what there is no memory for, and a fault is
+-- the statement's first one, that no SELECT stands there in a statement without one, or a fault of that SELECT
 abbrev pub IsGrammatical : List ℕ → List Token → ℕ → Result Query Refusal → Type 0
 IsGrammatical text tokens first (Ok read) = AreWithSelectAt text tokens first
 IsGrammatical text tokens first (Err (refusal.Fault fault)) =
@@ -112,7 +112,7 @@ BindsPart c text tokens first end read =
     (x : WindowedSelect) (start : Token) (later : List Token) → tokens ≡ start ∷ later → IsPartAt text tokens first end x →
     IsBoundAs (bound_part c start x) read
 
--- the same of a SELECT that the end of the statement ends
+-- where the tokens from `first` on are a SELECT that the end of the statement ends, what is read is what it means
 abbrev pub BindsSelect : Contents → List ℕ → List Token → ℕ → Result Query Refusal → Type 0
 BindsSelect c text tokens first read =
     (x : WindowedSelect) (start : Token) (later : List Token) → tokens ≡ start ∷ later → IsWhole text tokens →

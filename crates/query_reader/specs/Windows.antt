@@ -1,5 +1,5 @@
--- What LIMIT and OFFSET ask for, or their first fault (PostgreSQL manual, chapter Queries, LIMIT and OFFSET; codes: appendix Error
--- Codes).
+-- What LIMIT and OFFSET ask for, or their first fault (PostgreSQL manual, chapter Queries, LIMIT and OFFSET; codes: appendix
+-- Error Codes).
 use Rattle.std.specs.Prelude.{ℕ, nat_lt, cond, Option, Some, None, Result, Ok, Err}
 use Rattle.std.specs.Str.Parse.{digits_value}
 use Rattle.pg_base.specs.declared.faults.Code.TheVariants.{S11}
@@ -12,7 +12,7 @@ use Rattle.sql_grammar.specs.Syntax.{Limit, no_limit, most_rows, Offset, no_offs
 use Rattle.sql_query.specs.declared.window.Window.{Window}
 use Rattle.expr_reader.specs.Conditions.{next}
 
--- a number of rows is one of an int8, and a greater one is at fault where it stands
+-- a number of rows is one of an int8, and a greater one is an error where it stands
 abbrev pub rows_of : Said → Result ℕ Fault
 rows_of n = cond (nat_lt (digits_value 10 n.value) (limit types.Int8)) (Ok (digits_value 10 n.value)) (Err (fault_at S11 n.token))
 

@@ -40,8 +40,8 @@ fn add_column(
     Ok(())
 }
 
-/// Adds the columns of an item over the visible relations, or tells its first fault: an unknown qualifier (42P01), an unknown column
-/// (42703) or one that several have (42702), with its word.
+/// Adds the columns of an item over the visible relations, or tells its first fault: an unknown qualifier (42P01), an unknown
+/// column (42703) or one that several have (42702), with its word.
 pub fn add_item(relations: &Relations, item: &Item, all: &mut Vec<ColRef>) -> Result<(), Refusal>
     ensures { Adds (item_columns (visible_in relations.now) item.now)
         all.old.items all.new.items result }

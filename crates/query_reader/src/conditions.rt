@@ -92,7 +92,7 @@ fn pushed_count(written: &[Expr]) -> u64
     count
 }
 
-/// The first limit that conjuncts are past, told before their pushed form is made.
+/// The first limit that conjuncts are past, found before their pushed form is made.
 fn past_limit(written: &[Expr]) -> Option<Limit>
     ensures { result ≡ past_limit (map cond written.now) }
 {

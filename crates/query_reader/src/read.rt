@@ -1,5 +1,5 @@
-//! Reading the words of a SELECT that the grammar has accepted. Each part is asked for only where the words left are those
-//! of some tree, so that want of memory alone is left to refuse it.
+//! Reading the words of a SELECT that the grammar has accepted. Each part is asked for only where the words left are those of
+//! some tree, so that only running out of memory is left to refuse it.
 
 ghost use Rattle.std.specs.Prelude.{◌≡◌, List, ◌∷◌, ◌≤◌, length, IfOk};
 ghost use Rattle.sql_grammar.specs.Terminals.{Terminal, Ident, t_key, t_name};
@@ -29,7 +29,7 @@ fn name(alloc: Global, from: &mut Cursor) -> Result<Spelled, Memory>
     Ok(found)
 }
 
-/// The item of a SELECT's list that is next: a star, or a column. The refusal is want of memory alone.
+/// The item of a SELECT's list that is next: a star, or a column. The refusal is out of memory alone.
 pub fn list_item(alloc: Global, from: &mut Cursor) -> Result<Item, Memory>
     requires { StandsFirst words_of_output ends_item from.old }
     ensures read { IfOk result (λ x. Yields words_of_output ends_item item_of from.old x from.new) }
@@ -42,7 +42,7 @@ pub fn list_item(alloc: Global, from: &mut Cursor) -> Result<Item, Memory>
     after_name(alloc, from, first)
 }
 
-/// An item whose first name is taken: the rest of it is next. The refusal is want of memory alone.
+/// An item whose first name is taken: the rest of it is next. The refusal is out of memory alone.
 pub fn after_name(alloc: Global, from: &mut Cursor, first: Spelled) -> Result<Item, Memory>
     requires { StandsAfterName from.old }
     ensures read { IfOk result (λ x. YieldsAfterName first item_of from.old x from.new) }

@@ -29,8 +29,8 @@ pub fn explains(text: &[u8], tokens: &Tokens) -> bool
     from.takes_free(Free::Explain)
 }
 
-/// Whether the SELECT that token `first` begins groups: it has GROUP BY, DISTINCT or a call in its list. The tokens from there on are a
-/// statement whole and without a fault of the grammar.
+/// Whether the SELECT that token `first` begins groups: it has GROUP BY, DISTINCT or a call in its list. The tokens from there
+/// on are a statement whole and without a fault of the grammar.
 pub fn groups(text: &[u8], tokens: &Tokens, first: u32) -> bool
     requires short { length text.now ≤ 2 ^ 31 }
     requires words { (from : ℕ) × AreWords text.now from tokens.now }
@@ -46,8 +46,8 @@ pub fn groups(text: &[u8], tokens: &Tokens, first: u32) -> bool
     }
 }
 
-/// Why no SELECT stands from token `first` on up to the statement's end: another word, or SELECT before one that groups (42601, at
-/// that word), or the first fault of these tokens; None where one stands there.
+/// Why no SELECT stands from token `first` on up to the statement's end: another word, or SELECT before one that groups (42601,
+/// at that word), or the first fault of these tokens; None where one stands there.
 fn select_fault(text: &[u8], tokens: &Tokens, first: u32) -> Option<Fault>
     requires short { length text.now ≤ 2 ^ 31 }
     requires words { (from : ℕ) × AreWords text.now from tokens.now }
@@ -68,7 +68,7 @@ fn select_fault(text: &[u8], tokens: &Tokens, first: u32) -> Option<Fault>
     None
 }
 
-/// The SELECT between two tokens of a statement, told of whole.
+/// The SELECT between two tokens of a statement, read as a whole.
 fn part(
     alloc: Global,
     cat: &Catalog,
@@ -89,7 +89,7 @@ fn part(
     bind(alloc, cat, &items, tokens.items()[0], &mut from)
 }
 
-/// The SELECT from a token on, told of whole.
+/// The SELECT from a token on, read as a whole.
 fn read_whole(
     alloc: Global,
     cat: &Catalog,
@@ -114,30 +114,32 @@ fn read_whole(
     part(alloc, cat, text, tokens, first, end)
 }
 
-/// The SELECT that begins at token `first` and that the statement's last token ends, with its order: the relations in the order of
-/// FROM, the columns shown in order, the items of ORDER BY, the conjuncts as written, which are those of the conditions of joins
-/// in the order of the text and then those of WHERE, the classes of these and of ORDER BY, and the columns named, which are those
-/// shown, then those of the conjuncts, then those of ORDER BY. Where LIMIT or OFFSET is written, it has a window: the number of
-/// LIMIT, if that is written, and that of OFFSET, or 0. `first` is the number of a token; which SELECT the grammar allows there
-/// goes by the words before it.
+/// The SELECT that begins at token `first` and that the statement's last token ends, with its order: the relations in the order
+/// of FROM, the columns shown in order, the items of ORDER BY, the conjuncts as written, which are those of the conditions of
+/// joins in the order of the text and then those of WHERE, the classes of these and of ORDER BY, and the columns named, which
+/// are those shown, then those of the conjuncts, then those of ORDER BY. Where LIMIT or OFFSET is written, it has a window: the
+/// number of LIMIT, if that is written, and that of OFFSET, or 0. `first` is the number of a token; which SELECT the grammar
+/// allows there goes by the words before it.
 ///
 /// FROM is bound first, from the left, then WHERE, then the list from the left, then ORDER BY. Of a relation its number comes
-/// first (at most 10, over all groups), then its table, then its alias, and right behind it the condition of its join, which sees
-/// the relations of its own group up to it; all else sees all relations. A relation is seen under its alias alone, which is the
-/// table's name where none is given; `*` and `alias.*` are every column in order. A bare name of ORDER BY is sought in the list
-/// first; DESC alone puts NULLs first, and otherwise they are last unless said. Names compare in small letters. Then come LIMIT
-/// and OFFSET, whose numbers are each at most 2^63 - 1, and then the limits, at the first byte of the whole statement: at most 32
-/// conjuncts in pushed form, of which a constant is one, then at most 256 atoms, of which a constant is none (PostgreSQL manual,
-/// chapters Queries and Type Conversion; the limits are own). Each AND and each OR of a conjunct has a part.
+/// first (at most 10, over all groups), then its table, then its alias, and right behind it the condition of its join, which
+/// sees the relations of its own group up to it; all else sees all relations. A relation is seen under its alias alone, which
+/// is the table's name where none is given; `*` and `alias.*` are every column in order. A bare name of ORDER BY is sought in
+/// the list first; DESC alone puts NULLs first, and otherwise they are last unless said. Names compare in small letters. Then
+/// come LIMIT and OFFSET, whose numbers are each at most 2^63 - 1, and then the limits, at the first byte of the whole
+/// statement: at most 32 conjuncts in pushed form, of which a constant is one, then at most 256 atoms, of which a constant is
+/// none (PostgreSQL manual, chapters Queries and Type Conversion; the limits are own). Each AND and each OR of a conjunct has a
+/// part.
 ///
-/// The text has at most 2^31 bytes, and the tokens are the words of a statement from some offset of it. The refusal is the first
-/// fault: that of the statement's grammar (42601; 54000 for a name over 63 bytes, a text over 8,192 or an expression over 32 levels
-/// deep), or, in a statement without one, that no SELECT stands at `first` and goes on up to its end (42601, at that word or at
-/// the first one with which none goes on, or at that word before a SELECT that groups, which is none); else a relation too many
-/// (54000), an unknown table or qualifier (42P01), an alias that stands twice (42712), an unknown column (42703) or one that several
-/// visible relations have (42702), a literal out of range (22003) or not of its type (22P02), a missing operator (42883) or a column
-/// that is no condition (42804), with its word, else a number of LIMIT or OFFSET that is too great (22003), with its word, else a
-/// limit (54000). It is `Memory` only of a statement without a fault of the grammar that has a SELECT there.
+/// The text has at most 2^31 bytes, and the tokens are the words of a statement from some offset of it. The refusal is the
+/// first fault: that of the statement's grammar (42601; 54000 for a name over 63 bytes, a text over 8,192 or an expression over
+/// 32 levels deep), or, in a statement without one, that no SELECT stands at `first` and goes on up to its end (42601, at that
+/// word or at the first one with which none goes on, or at that word before a SELECT that groups, which is none); else a
+/// relation too many (54000), an unknown table or qualifier (42P01), an alias that stands twice (42712), an unknown column
+/// (42703) or one that several visible relations have (42702), a literal out of range (22003) or not of its type (22P02), a
+/// missing operator (42883) or a column that is no condition (42804), with its word, else a number of LIMIT or OFFSET that is
+/// too great (22003), with its word, else a limit (54000). It is `Memory` only of a statement without a fault of the grammar
+/// that has a SELECT there.
 pub fn read_select(
     alloc: Global,
     cat: &Catalog,

@@ -36,7 +36,8 @@ use std::alloc::Global;
 use std::marker::Model;
 
 /// The relations that FROM has named so far, over a catalogue, and the conjuncts of the conditions of its joins as written, in
-/// the order of the text (PostgreSQL manual, chapter Queries, The FROM Clause). Contracts see these and the catalogue's contents.
+/// the order of the text (PostgreSQL manual, chapter Queries, The FROM Clause). Contracts see these and the catalogue's
+/// contents.
 #[derive(Drop)]
 pub struct Sources<'a> {
     /// The catalogue in which tables are sought.

@@ -21,7 +21,7 @@ tuples_of w q p = run w q p (no_rows q)
 abbrev pub tuples_text : World → Query → List Tuple → List ℕ
 tuples_text w q ts = flat_map (λ t. row_line (shown w q t)) ts
 
--- those lines, and that of their number
+-- a line for each tuple, of the values that it shows, and the line of their number
 abbrev pub result_text : World → Query → List Tuple → List ℕ
 result_text w q ts = tuples_text w q ts ++ count_line (length ts)
 

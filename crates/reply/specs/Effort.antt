@@ -12,7 +12,7 @@ use Rattle.executor.specs.scan_exec_Coming.{Coming, coming, is_given, owed}
 use Rattle.executor.specs.plan_laws_Closed.{is_scan}
 use Rattle.reply.specs.Answers.{tuples_of}
 
--- by how much a count rises: at most by so much, and by so much exactly once a reply is whole, where that is told
+-- by how much a count rises: at most by so much, and by so much exactly once a reply is whole, where that is given
 pub record Rise : Type 0 where
   pub most : ℕ
   pub whole : Option ℕ
@@ -21,7 +21,7 @@ pub record Rise : Type 0 where
 abbrev pub exactly : ℕ → Rise
 exactly n = record { most = n; whole = Some n }
 
--- a count rose by no more than that, and by just so much where that is told
+-- a count rose by no more than that, and by just so much where that is given
 pub record HasRisen (rise : Rise) (old new : ℕ) : Type 0 where
   pub within : new ≤ old + rise.most
   pub exact : IfSome rise.whole (λ n. new ≡ old + n)
@@ -47,7 +47,7 @@ abbrev pub last_by : ℕ → Option ℕ → Option ℕ
 last_by offset None = None
 last_by offset (Some limit) = Some (offset + limit)
 
--- the same for the window of a query
+-- the number of the last tuple that is drawn for the window of a query; none without LIMIT
 abbrev pub last_in : Option Window → Option ℕ
 last_in w = last_by (offset_in w) (limit_in w)
 
@@ -58,7 +58,7 @@ abbrev pub fetched_to : ℕ → ℕ → ℕ → Bool → List Coming → Rise
 fetched_to n given all scan rows =
     cond (nat_eq n 0) (exactly 0) (record { most = all; whole = cond (nat_lt given n) (Some all) (cond scan (Some (owed (through is_given n rows))) None) })
 
--- the same up to the last one that is drawn: without LIMIT the plan is drawn whole
+-- the fetches for tuples up to the last one that is drawn: without LIMIT the plan is drawn whole
 abbrev pub fetched_by : Option ℕ → ℕ → ℕ → Bool → List Coming → Rise
 fetched_by None given all scan rows = exactly all
 fetched_by (Some n) given all scan rows = fetched_to n given all scan rows

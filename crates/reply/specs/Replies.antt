@@ -59,7 +59,7 @@ pub record HasBegun (IsReply : Reply → Type 0) (old new : Traces) : Type 0 whe
   pub fetched : new.fetched ≤ old.fetched + reply.fetched.most
   pub looked : new.looked ≤ old.looked + reply.looked
 
--- what a stop leaves: without a plan, all as it was; a failed out, a reply begun; want of memory, one or the other
+-- what a stop leaves: without a plan, all as it was; a failed out, a reply begun; out of memory, one or the other
 abbrev pub Leaves : Stop → (Reply → Type 0) → Traces → Traces → Type 0
 Leaves NoPlan IsReply old new = new ≡ old
 Leaves Write IsReply old new = HasBegun IsReply old new

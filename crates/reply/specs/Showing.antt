@@ -19,6 +19,6 @@ pub record HasColumn (rows : List Values) (x : ColRef) : Type 0 where
   pub relation : x.rel.0 < length rows
   pub column : x.col.0 < length (slice_index_or rows x.rel.0 [])
 
--- its value
+-- the value of a column in one of these rows
 abbrev pub cell_of : List Values → ColRef → Value
 cell_of rows x = slice_index_or (slice_index_or rows x.rel.0 []) x.col.0 Null

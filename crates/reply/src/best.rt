@@ -25,8 +25,8 @@ fn unplanned(fault: PlanFault) -> Stop
     }
 }
 
-/// The path of a plan of a query that no admissible one undercuts. `NoPlan` comes only where no finished plan
-/// is admissible; the other error is want of memory.
+/// The path of a plan of a query that no admissible one undercuts. `NoPlan` comes only where no finished plan is admissible;
+/// the other error is out of memory.
 pub(crate) fn best_path(alloc: Global, cat: &Catalog, q: &Prepared) -> Result<Path, Stop>
     requires bound { IsWellBound cat.now q.now }
     ensures finished { IfOk result (λ p. IsFinishedPath cat.now q.now (path p)) }

@@ -33,7 +33,7 @@ pub(crate) fn is_wanted(q: &Prepared, shown: u64) -> bool
     }
 }
 
-/// Draws so many tuples, as far as there are so many, and shows none of them. The error means want of memory.
+/// Draws so many tuples, as far as there are so many, and shows none of them. The error means out of memory.
 pub(crate) fn pass_over<C: Counters>(
     rows: &mut Rows<C>,
     offset: u64,

@@ -11,7 +11,7 @@ use pg_base::{Memory, Sink, write_all};
 use reply_text::Lines;
 use std::alloc::Global;
 
-/// So many bytes are written at once.
+/// How many pending bytes are enough to be written at once.
 const ENOUGH: usize = 1024;
 
 /// What is printed for now: the bytes that are pending, and the lines of rows.
@@ -22,7 +22,7 @@ pub(crate) struct Page {
 }
 
 impl Page {
-    /// These bytes are pending, and there is no line yet. The error means want of memory.
+    /// These bytes are pending, and there is no line yet. The error means out of memory.
     pub(crate) fn new(alloc: Global, bytes: &[u8]) -> Result<Page, Memory>
         ensures { IfOk result (λ page. page.pending.items ≡ bytes.now) }
     {
@@ -34,8 +34,8 @@ impl Page {
     }
 }
 
-/// Puts these bytes behind the pending ones, and writes all that is pending once it is enough. Where out fails, or memory is wanted,
-/// out has a prefix of the pending bytes and these.
+/// Puts these bytes behind the pending ones, and writes all that is pending once it is enough. Where out fails, or memory is
+/// wanted, out has a prefix of the pending bytes and these.
 pub fn put<K: Sink>(out: &mut K, pending: &mut Vec<u8>, bytes: &[u8]) -> Result<(), Broken>
     ensures puts { Puts (K.held out.old) (K.held out.new)
         pending.old.items pending.new.items result bytes.now }

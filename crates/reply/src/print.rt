@@ -126,9 +126,9 @@ fn answer_by<C: Counters, K: Sink>(
     put_result(at, &text, &mut rows, out, fetches, reads)
 }
 
-/// Prints a text, a line for each tuple that is to be drawn and that LIMIT and OFFSET let through, with the values that it shows, and
-/// the number of these. Each line is written, or held to be, before the next tuple is drawn, and none is drawn behind the last one.
-/// Where out fails, or memory is wanted, out has a prefix of that.
+/// Prints a text, a line for each tuple that is to be drawn and that LIMIT and OFFSET let through, with the values that it
+/// shows, and the number of these. Each line is written, or held to be, before the next tuple is drawn, and none is drawn
+/// behind the last one. Where out fails, or memory is wanted, out has a prefix of that.
 pub fn put_result<C: Counters, K: Sink>(
     at: &Setting<C>,
     text: &[u8],

@@ -54,7 +54,7 @@ pub(crate) fn put_window<C: Counters, K: Sink>(
 }
 
 /// Puts a line for each tuple that is still to be drawn, up to LIMIT, with the values that it shows, and gives their number.
-/// Each is put before the next one is drawn. More than 2^64 - 1 of them are want of memory.
+/// Each is put before the next one is drawn. More than 2^64 - 1 of them count as out of memory.
 fn put_rows<C: Counters, K: Sink>(
     at: &Setting<C>,
     rows: &mut Rows<C>,
@@ -91,7 +91,7 @@ fn put_rows<C: Counters, K: Sink>(
     Ok(count)
 }
 
-/// One more, or want of memory where a u64 does not count so far.
+/// One more; out of memory where a u64 does not count so far.
 pub(crate) fn one_more(count: u64) -> Result<u64, Memory>
     ensures { IfOk result (λ n. n ≡ count + 1) }
 {
@@ -139,7 +139,7 @@ fn tuple_line<'a, C: Counters>(
     shown_line(at.alloc, q.select.items(), &rows, lines)
 }
 
-/// The rows of all relations at a tuple of row numbers, in FROM order, each looked at once. The error means want of memory.
+/// The rows of all relations at a tuple of row numbers, in FROM order, each looked at once. The error means out of memory.
 pub fn rows_at<'a, C: Counters>(
     at: &Setting<'a, C>,
     tuple: &[Tid],

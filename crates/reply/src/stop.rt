@@ -9,7 +9,7 @@ pub enum Stop {
     NoPlan,
     /// Out failed; its count of faults rose.
     Write,
-    /// Want of memory.
+    /// Out of memory.
     Memory,
 }
 
@@ -28,7 +28,7 @@ impl From<std::alloc::AllocError> for Stop {
 pub enum Broken {
     /// Out failed; its count of faults rose.
     Write,
-    /// Want of memory.
+    /// Out of memory.
     Memory,
 }
 

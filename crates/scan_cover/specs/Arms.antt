@@ -16,7 +16,7 @@ use Rattle.bitmap_scan.specs.Arms.{IsLeastMatch}
 abbrev pub in_array : List IndexNo → List IndexNo
 in_array found = take MOST_ATOMS (found ++ replicate MOST_ATOMS (record { 0 = 0 }))
 
--- so many of them were put in, as far as there is room
+-- the indexes that were found were put into an array, as far as there is room, and counted
 pub record IsFilled (a : Arms) (found : List IndexNo) : Type 0 where
   pub indexes : a.indexes ≡ in_array found
   pub count : (a.count ≡ length found) ⊎ (MOST_ATOMS ≤ a.count)

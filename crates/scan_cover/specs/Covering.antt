@@ -30,55 +30,55 @@ use Rattle.plan_check.specs.Certificates.{Certificate}
 use Rattle.std.specs.Prelude.{ℕ}
 use Rattle.plan_check.specs.declared.verdict.Plain.TheVariants as plain
 
--- it covers the sequential scan of a relation
+-- the certificate covers the sequential scan of a relation
 abbrev pub CoversSeq : Judged → RelNo → Type 0
 CoversSeq j r = IsServed j.cat.now j.q.now (certificate j.t.now) (seq r)
 
--- it misses that scan
+-- the certificate misses the sequential scan of a relation
 abbrev pub MissesSeq : Judged → RelNo → Uncovered → Type 0
 MissesSeq j r x = IsOpen j.cat.now j.q.now (certificate j.t.now) (plain.Seq r) x
 
--- it covers a scan by an index
+-- the certificate covers a scan by an index
 abbrev pub CoversScan : Judged → ByIndex → Type 0
 CoversScan j s = IsServed j.cat.now j.q.now (certificate j.t.now) (tree_of s)
 
--- it misses that scan
+-- the certificate misses a scan by an index
 abbrev pub MissesScan : Judged → ByIndex → Uncovered → Type 0
 MissesScan j s x = IsOpen j.cat.now j.q.now (certificate j.t.now) (plain.Index s.rel s.index s.backward s.only s.param) x
 
--- it covers the scans by an index where the rows of a parameterisation are given
+-- the certificate covers the scans by an index where the rows of a parameterisation are given
 abbrev pub CoversIndex : Judged → RelNo → RelSet → IndexNo → Type 0
 CoversIndex j r p i = IsIndexServed j.cat.now j.q.now (certificate j.t.now) r p i
 
--- it covers those by every index
+-- the certificate covers the scans by every index where the rows of a parameterisation are given
 abbrev pub CoversIndexes : Judged → RelNo → RelSet → Type 0
 CoversIndexes j r p = (i : IndexNo) → IsIndexServed j.cat.now j.q.now (certificate j.t.now) r p i
 
--- it covers the scans of a relation, but those by a bitmap
+-- the certificate covers the scans of a relation, but those by a bitmap
 abbrev pub CoversRelation : Judged → RelNo → Type 0
 CoversRelation j r = IsRelationServed j.cat.now j.q.now (certificate j.t.now) r
 
--- it covers those of every relation
+-- the certificate covers the scans of every relation, but those by a bitmap
 abbrev pub CoversPlainScans : Judged → Type 0
 CoversPlainScans j = ArePlainScansServed j.cat.now j.q.now (certificate j.t.now)
 
--- it covers the scans by a bitmap of a relation where the rows of a parameterisation are given
+-- the certificate covers the scans by a bitmap of a relation where the rows of a parameterisation are given
 abbrev pub CoversBitmaps : Judged → Given → Type 0
 CoversBitmaps j at = AreBitmapsServed j.cat.now j.q.now at.rel at.param (certificate j.t.now)
 
--- it covers those of a relation, whatever rows are given
+-- the certificate covers the scans by a bitmap of a relation, whatever rows are given
 abbrev pub CoversRelationBitmaps : Judged → RelNo → Type 0
 CoversRelationBitmaps j rel = AreRelationBitmapsServed j.cat.now j.q.now (certificate j.t.now) rel
 
--- it covers those of every relation
+-- the certificate covers the scans by a bitmap of every relation
 abbrev pub CoversAllBitmaps : Judged → Type 0
 CoversAllBitmaps j = AreAllBitmapsServed j.cat.now j.q.now (certificate j.t.now)
 
--- it covers the scans by a bitmap over the elements that a number marks
+-- the certificate covers the scans by a bitmap over the elements that a number marks
 abbrev pub CoversMarked : Judged → Given → List Kept → ℕ → Type 0
 CoversMarked j at kept mask = IsMarkServed j.cat.now j.q.now at.rel at.param (certificate j.t.now) kept mask
 
--- it misses each of them
+-- the certificate misses each scan by a bitmap over the elements that a number marks
 abbrev pub MissesMarked : Judged → Given → List Kept → ℕ → Uncovered → Type 0
 MissesMarked j at kept mask x =
     (bs : List BitTree) (node : Plain) → AllZip (IsKept j.cat.now j.q.now at.rel at.param) (marked mask kept) bs →
@@ -94,16 +94,16 @@ IsNodeOfMarked c q at ks node = (bs : List BitTree) × AllZip (IsKept c q at.rel
 abbrev pub CoversCandidate : Judged → Candidate → Type 0
 CoversCandidate j x = IsBeaten j.q.now.window (certificate j.t.now).entries (candidate x)
 
--- none does, and these are its numbers
+-- no entry beats a candidate, and these are its numbers
 abbrev pub MissesCandidate : Judged → Candidate → Uncovered → Type 0
 MissesCandidate j x u = IsLeftOpen j.q.now.window (certificate j.t.now) (candidate x) u
 
--- it covers each scan with a set, a parameterisation, keys and numbers, where its entries are right
+-- the certificate covers each scan with a set, a parameterisation, keys and numbers, where its entries are right
 abbrev pub CoversScansWith : Judged → RelSet → RelSet → List ClassNo → Own → Type 0
 CoversScansWith j set param keys own = (c : Contents) (p : Plan) → AllRight c j.q.now (certificate j.t.now) →
     IsScanWith c j.q.now set param (class_numbers keys) own p → IsServed c j.q.now (certificate j.t.now) p
 
--- it misses each of them
+-- the certificate misses each scan with a set, a parameterisation, keys and numbers, where its entries are right
 abbrev pub MissesScansWith : Judged → RelSet → RelSet → List ClassNo → Own → Uncovered → Type 0
 MissesScansWith j set param keys own x = (c : Contents) (p : Plan) (node : Plain) → AllRight c j.q.now (certificate j.t.now) →
     IsScanWith c j.q.now set param (class_numbers keys) own p → StandsForPlan c j.q.now (certificate j.t.now) node p →

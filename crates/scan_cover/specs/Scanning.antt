@@ -41,7 +41,7 @@ module _ (c : Contents) (q : Query) (t : Certificate) where
   abbrev pub IsIndexServed : RelNo → RelSet → IndexNo → Type 0
   IsIndexServed r p i = (only backward : Bool) → IsServed c q t (scan_by r p i only backward)
 
-  -- those of one relation, but scans by a bitmap
+  -- the scans of one relation, but those by a bitmap
   pub record IsRelationServed (r : RelNo) : Type 0 where
     pub in_order : IsServed c q t (seq r)
     pub by_index : (p : RelSet) (i : IndexNo) → IsIndexServed r p i

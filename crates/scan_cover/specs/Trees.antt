@@ -34,7 +34,7 @@ module _ (c : Contents) (q : Query) (r : RelNo) (p : RelSet) where
     pub used : (n : ℕ) → contains k.used n ≡ uses c q r.0 (has p.0) b n
     pub within : (n : ℕ) → contains k.used n ≡ true → n < length q.classes.clauses
 
-  -- these are the first elements
+  -- some elements are the first ones
   pub record AreFirst (ks : List Kept) : Type 0 where
     pub elements : List Element
     pub are : AreElements c q r.0 (has p.0) elements
@@ -49,7 +49,7 @@ module _ (c : Contents) (q : Query) (r : RelNo) (p : RelSet) where
   abbrev pub IsMarkServed : Certificate → List Kept → ℕ → Type 0
   IsMarkServed t ks n = (bs : List BitTree) → AllZip IsKept (marked n ks) bs → IsServed c q t (bitmap r p (combined bs))
 
-  -- so are all scans by a bitmap where the rows of the parameterisation are given
+  -- all scans by a bitmap, where the rows of the parameterisation are given, are dominated
   abbrev pub AreBitmapsServed : Certificate → Type 0
   AreBitmapsServed t = (b : BitTree) → IsServed c q t (bitmap r p b)
 
@@ -57,7 +57,7 @@ module _ (c : Contents) (q : Query) (r : RelNo) (p : RelSet) where
 abbrev pub AreRelationBitmapsServed : Contents → Query → Certificate → RelNo → Type 0
 AreRelationBitmapsServed c q t r = (p : RelSet) → AreBitmapsServed c q r p t
 
--- of all relations
+-- all scans by a bitmap of all relations, whatever rows are given
 abbrev pub AreAllBitmapsServed : Contents → Query → Certificate → Type 0
 AreAllBitmapsServed c q t = (r : RelNo) → AreRelationBitmapsServed c q t r
 
@@ -65,7 +65,7 @@ AreAllBitmapsServed c q t = (r : RelNo) → AreRelationBitmapsServed c q t r
 abbrev pub PutsArms : Contents → Query → Given → Kept → Arms → Arms → Type 0
 PutsArms c q at k old new = (b : BitTree) × IsKept c q at.rel at.param k b × PutsIndexes old new (arms_in b)
 
--- so were those of such trees of several elements
+-- the arms of trees of least part of several elements were put behind those in an array
 abbrev pub PutsAllArms : Contents → Query → Given → List Kept → Arms → Arms → Type 0
 PutsAllArms c q at ks old new =
     (bs : List BitTree) × AllZip (IsKept c q at.rel at.param) ks bs × PutsIndexes old new (arms_of_all bs)

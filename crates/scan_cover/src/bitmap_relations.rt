@@ -34,7 +34,7 @@ fn open_given(j: &Judged, at: Given) -> Option<(Plain, Uncovered)>
     open_marks(j, at, kept.as_slice())
 }
 
-/// So where the rows of any relations are given.
+/// A scan of a relation by a bitmap, where the rows of any others are given, that no entry dominates and one must.
 fn open_relation(j: &Judged, rel: RelNo, all: RelSet) -> Option<(Plain, Uncovered)>
     requires query { IsOverTables j.now.cat.now j.now.q.now }
     requires atoms { HasFewAtoms j.now.q.now }

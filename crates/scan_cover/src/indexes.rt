@@ -63,7 +63,7 @@ fn open_index(j: &Judged, s: ByIndex) -> Option<Uncovered>
     }
 }
 
-/// The same with the scan itself.
+/// A scan by an index, with its numbers, where it is an admissible one of the plan space that no entry dominates.
 fn open_way(j: &Judged, s: ByIndex) -> Option<(Plain, Uncovered)>
     requires query { IsOverTables j.now.cat.now j.now.q.now }
     requires right { AllRight j.now.cat.now j.now.q.now (certificate j.now.t.now) }

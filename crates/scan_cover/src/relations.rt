@@ -66,7 +66,7 @@ fn open_given(j: &Judged, r: RelNo, p: RelSet) -> Option<(Plain, Uncovered)>
     None
 }
 
-/// So where the rows of any relations are given.
+/// A scan of a relation by some index, where the rows of any others are given, that no entry dominates and one must.
 fn open_relation(j: &Judged, r: RelNo, all: RelSet) -> Option<(Plain, Uncovered)>
     requires query { IsOverTables j.now.cat.now j.now.q.now }
     requires right { AllRight j.now.cat.now j.now.q.now (certificate j.now.t.now) }

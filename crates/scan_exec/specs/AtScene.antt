@@ -40,7 +40,7 @@ module _ {C F L : Type 0} (s : Scene C F L) where
   abbrev pub scene_base : List Cond
   scene_base = conditions_of (base s.q.now.classes s.rel.0)
 
-  -- its relation's clauses, with those that the rows given bind
+  -- the clauses of the scene's relation, with those that the rows given bind
   abbrev pub scene_clauses : List Cond
   scene_clauses = run.clauses_at (world_of s) s.q.now s.rel s.param
 
@@ -61,7 +61,7 @@ module _ {C F L : Type 0} (s : Scene C F L) where
   abbrev pub IsUsedThere : IndexNo → Cond → Type 0
   IsUsedThere i e = IsUsed s.cat.now s.q.now s.rel.0 (has s.param.0) i e
 
-  -- so each of those that are lent
+  -- an index may use each of the conditions that are lent
   abbrev pub AreUsedThere : IndexNo → List (Bor Expr) → Type 0
   AreUsedThere i es = AreUsed s.cat.now s.q.now s.rel s.param i (lent_conditions es)
 
@@ -102,13 +102,13 @@ module _ {C F L : Type 0} (s : Scene C F L) where
   index_scan_rows i backward =
       index_coming (world_of s) s.q.now (index_at s.cat.now i).method s.rel i backward s.param (tuple_of s)
 
-  -- so by a B-tree, be it an index-only scan or not
+  -- the rows that a scan by a B-tree comes to, be it an index-only scan or not
   abbrev pub tree_rows : IndexNo → Bool → Bool → List Coming
   tree_rows i only backward =
       map (entry_row (world_of s) s.q.now s.rel i only s.param (tuple_of s))
       (run.in_scan_direction (world_of s) s.q.now backward (bounded (world_of s) s.q.now s.rel i s.param (tuple_of s)))
 
-  -- and by a hash index
+  -- the rows that a scan by a hash index comes to
   abbrev pub hash_scan_rows : IndexNo → List Coming
   hash_scan_rows i =
       map (fetched_row (world_of s) s.q.now s.rel (tuple_of s) scene_clauses)
@@ -118,11 +118,11 @@ module _ {C F L : Type 0} (s : Scene C F L) where
   abbrev pub IsSceneTree : BitTree → Type 0
   IsSceneTree tree = IsHeldTree s.cat.now s.q.now s.rel s.param tree
 
-  -- so each of some
+  -- each of some bitmap trees can be made
   abbrev pub AreSceneTrees : BitTrees → Type 0
   AreSceneTrees trees = AreHeldTrees s.cat.now s.q.now s.rel s.param trees
 
-  -- it is that of a bitmap scan
+  -- a bitmap tree is that of a bitmap scan
   abbrev pub IsSceneBitmap : BitTree → Type 0
   IsSceneBitmap tree = IsBitmapScan s.cat.now s.q.now s.rel s.param tree
 
@@ -142,14 +142,14 @@ module _ {C F L : Type 0} (s : Scene C F L) where
   abbrev pub leaf_looks : IndexNo → ℕ
   leaf_looks i = counts.index_looks (world_of s) s.q.now s.rel i s.param (tuple_of s)
 
-  -- of the arms of an OR clause
+  -- the looks that making the bitmaps of the arms of an OR clause takes
   abbrev pub arms_looks : List Cond → List IndexNo → ℕ
   arms_looks arms is = counts.arm_looks (world_of s) s.q.now s.rel (tuple_of s) arms is
 
-  -- of a bitmap tree
+  -- the looks that making a bitmap tree takes
   abbrev pub scene_tree_looks : BitTree → ℕ
   scene_tree_looks tree = counts.tree_looks (world_of s) s.q.now s.rel s.param (tuple_of s) tree
 
-  -- of some of these
+  -- the looks that making some bitmap trees takes
   abbrev pub trees_looks : BitTrees → ℕ
   trees_looks trees = counts.all_tree_looks (world_of s) s.q.now s.rel s.param (tuple_of s) trees

@@ -1,4 +1,4 @@
--- What a plan of one scan comes to where it is handed the numbers of the rows that it is given. Own.
+-- What a plan of one scan comes to where it gets the numbers of the rows that it is given. Own.
 use Rattle.std.specs.Prelude.{ℕ, List}
 use Rattle.pg_base.specs.Sets.{has}
 use Rattle.pg_base.specs.declared.numbers.Tid.{Tid}

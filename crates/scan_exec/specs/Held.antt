@@ -27,7 +27,7 @@ use Rattle.scan_probes.specs.Filters.{lent_conditions}
 use Rattle.scan_exec.specs.Kinds.{passes_entry}
 use Rattle.scan_exec.specs.declared.bitmap.Tests.{Tests}
 
--- a set that is told of by its members
+-- a set that is given by its members
 abbrev pub IsMade : TidSet → Type 0
 IsMade s = rows_passing s.bound (is_member s.members) ≡ s.members
 
@@ -35,7 +35,7 @@ IsMade s = rows_passing s.bound (is_member s.members) ≡ s.members
 abbrev pub with_rows : TidSet → List ℕ → TidSet
 with_rows s rows = record { bound = s.bound; members = rows_passing s.bound (λ n. is_member s.members n || is_member rows n) }
 
--- with those that some of the arms holds, by an index for each
+-- a set with the rows that some of the arms holds, by an index for each
 abbrev pub with_arms : World → Query → RelNo → Tuple → TidSet → List Cond → List IndexNo → TidSet
 with_arms w q r o s arms is = record { bound = s.bound; members = rows_passing s.bound (λ n. is_member s.members n || some_holds w q r o n arms is) }
 
@@ -64,7 +64,7 @@ abbrev mutual
   HasTree no_trees = ⊥
   HasTree (tree_and b bs) = Unit {0}
 
--- so at each of a list of entries
+-- each of a list of entries is of a row below the bound, and the conditions can be tested there
 abbrev pub AreReadyMarks : Tests → ℕ → List Entry → Type 0
 AreReadyMarks t bound es =
     All (IsReadyMark t.beside.now.cat.now t.beside.now.range.now t.beside.now.rel.0 t.given.now (lent_conditions t.conditions.now)

@@ -48,7 +48,7 @@ entry_at r given tests es d rows e = record {
   given = passes_entry r given tests d e && passes_row r given es (slice_index_or rows e.row []);
 }
 
--- the same without a fetch: the clauses are tested at the entry too
+-- an entry that a cursor of an index-only scan gives, without a fetch: the clauses are tested at the entry too
 abbrev pub covered_at : ℕ → Given → List Cond → List Cond → Index → Entry → Coming
 covered_at r given tests es d e = record {
   row = e.row;
@@ -63,7 +63,8 @@ pub record IsReadyEntry (c : Contents) (range : Range) (r : ℕ) (given : Given)
   pub entry : AreReadyAtEntry c range r given tests d e
   pub row : AreReadyAtRow c range r given es (slice_index_or rows e.row [])
 
--- the same for an index-only scan: tests and clauses can be tested at the entry, and no row is looked for
+-- what stands at the entries of an index for an index-only scan: tests and clauses can be tested there, and no row is looked
+-- for
 pub record IsReadyCover (c : Contents) (range : Range) (r : ℕ) (given : Given) (tests es : List Cond) (d : Index) (e : Entry) : Type 0 where
   pub tested : AreReadyAtEntry c range r given tests d e
   pub clauses : AreReadyAtEntry c range r given es d e
@@ -88,11 +89,11 @@ module _ (b : Beside) (given : Given) (clauses : List (Bor Expr)) where
   abbrev pub rows_of_heap : Stored → List Coming
   rows_of_heap heap = rows_from b.rel.0 given (lent_conditions clauses) heap.rows 0
 
-  -- those of these numbers, in their order
+  -- the rows of a heap of these numbers, in their order
   abbrev pub rows_of_tids : Stored → List Tid → List Coming
   rows_of_tids heap tids = rows_of b.rel.0 given (lent_conditions clauses) heap.rows (map (λ t. t.0) tids)
 
-  -- those of a set, by their numbers
+  -- the rows of a heap that a set holds, by their numbers
   abbrev pub rows_of_set : Stored → TidSet → List Coming
   rows_of_set heap held = rows_of b.rel.0 given (lent_conditions clauses) heap.rows (not_below 0 held.members)
 

@@ -41,7 +41,7 @@ pub record IsNear (c : Contents) (q : Query) (r : ℕ) (p : Set) (e : Cond) : Ty
   pub columns : each_column (λ x. is_column_in c q.range x && union (one r) p x.rel.0) e ≡ true
   pub typed : IsTyped (type_in c q.range) e
 
--- and an index may use it on a key column
+-- a condition is over the columns of a relation and of those of a set, well typed, and an index may use it on a key column
 pub record IsUsed (c : Contents) (q : Query) (r : ℕ) (p : Set) (i : IndexNo) (e : Cond) : Type 0 where
   pub near : IsNear c q r p e
   pub form : is_condition (index_at c i) r e ≡ true
@@ -50,7 +50,7 @@ pub record IsUsed (c : Contents) (q : Query) (r : ℕ) (p : Set) (i : IndexNo) (
 abbrev pub AreUsed : Contents → Query → RelNo → RelSet → IndexNo → List Cond → Type 0
 AreUsed c q r p i es = All (IsUsed c q r.0 (has p.0) i) es
 
--- those of an index's conditions that bound a part of it
+-- the conditions of a list that bound a part of an index
 abbrev pub limits : Index → ℕ → List Cond → List Cond
 limits d r es = conditions_of (bounding d.method r d.keys (numbered_from_0 es))
 

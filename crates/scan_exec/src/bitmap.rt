@@ -82,7 +82,7 @@ fn mark_rows(tids: &[Tid], held: &mut Tids)
 }
 
 /// Puts in the rows of the entries of a B-tree at which its conditions are True. Each entry within its bounds is one look. The
-/// error means want of memory.
+/// error means out of memory.
 fn mark_sorted<C: Counters>(
     at: &Scene<C>,
     given: &Given,
@@ -115,7 +115,7 @@ fn mark_sorted<C: Counters>(
     Ok(())
 }
 
-/// Puts in the rows of a hash index at which its one condition is True. The error means want of memory.
+/// Puts in the rows of a hash index at which its one condition is True. The error means out of memory.
 fn mark_hashed<C: Counters>(
     at: &Scene<C>,
     given: &Given,
@@ -140,7 +140,7 @@ fn mark_hashed<C: Counters>(
 }
 
 /// Puts in the rows of the entries of an index at which its conditions are True. Each entry of a B-tree within its bounds is
-/// one look. The error means want of memory.
+/// one look. The error means out of memory.
 fn mark<C: Counters>(
     at: &Scene<C>,
     given: &Given,
@@ -165,7 +165,7 @@ fn mark<C: Counters>(
     }
 }
 
-/// The rows of the entries of an index that meet its conditions. The error means want of memory.
+/// The rows of the entries of an index that meet its conditions. The error means out of memory.
 fn hold_index<C: Counters>(
     at: &Scene<C>,
     given: &Given,
@@ -195,7 +195,7 @@ fn arm_list(arm: &Expr) -> &[Expr]
     }
 }
 
-/// These parts, each lent. The error means want of memory.
+/// These parts, each lent. The error means out of memory.
 fn parts_of(alloc: Global, arm: &Expr) -> Result<Vec<&Expr>, Memory>
     ensures { IfOk result (λ v. lent_conditions v.items ≡ arm_parts (view.cond arm.now)) }
 {
@@ -207,7 +207,7 @@ fn parts_of(alloc: Global, arm: &Expr) -> Result<Vec<&Expr>, Memory>
     Ok(parts)
 }
 
-/// Puts in the rows that an arm holds by an index that matches it. The error means want of memory.
+/// Puts in the rows that an arm holds by an index that matches it. The error means out of memory.
 fn mark_arm<C: Counters>(
     at: &Scene<C>,
     given: &Given,
@@ -229,7 +229,7 @@ fn mark_arm<C: Counters>(
     mark(at, given, i, &parts, held, reads)
 }
 
-/// Puts in the rows that some of these arms holds, by an index for each. The error means want of memory.
+/// Puts in the rows that some of these arms holds, by an index for each. The error means out of memory.
 fn mark_arms<C: Counters>(
     at: &Scene<C>,
     given: &Given,
@@ -253,7 +253,7 @@ fn mark_arms<C: Counters>(
     Ok(())
 }
 
-/// The rows that some arm of an OR clause holds. The error means want of memory.
+/// The rows that some arm of an OR clause holds. The error means out of memory.
 fn hold_arms<C: Counters>(
     at: &Scene<C>,
     given: &Given,
@@ -277,7 +277,7 @@ fn hold_arms<C: Counters>(
     }
 }
 
-/// The rows that a bitmap tree holds. The error means want of memory.
+/// The rows that a bitmap tree holds. The error means out of memory.
 #[cycle(hold)]
 fn hold<C: Counters>(
     at: &Scene<C>,
@@ -297,7 +297,7 @@ fn hold<C: Counters>(
     }
 }
 
-/// The rows that each of some bitmap trees holds, of which there is one at least. The error means want of memory.
+/// The rows that each of some bitmap trees holds, of which there is one at least. The error means out of memory.
 #[cycle(hold)]
 fn hold_all<C: Counters>(
     at: &Scene<C>,
@@ -319,7 +319,7 @@ fn hold_all<C: Counters>(
     Ok(held)
 }
 
-/// The scan of the rows that a bitmap tree holds. The tree's looks come first. The error means want of memory.
+/// The scan of the rows that a bitmap tree holds. The tree's looks come first. The error means out of memory.
 pub(crate) fn bit_rows<'a, C: Counters>(
     at: &Scene<'a, '_, C>,
     given: Given<'a>,

@@ -23,8 +23,8 @@ use std::alloc::Global;
 use store::Store;
 
 /// The tuples of a scan, in order, where rows of the relations of its parameterisation are given by their numbers, in FROM
-/// order. The fetches are exactly the plan's, and the looks within its own. The error means want of memory, and then both
-/// are within.
+/// order. The fetches are exactly the plan's, and the looks within its own. The error means out of memory, and then both are
+/// within.
 pub fn scan<C: Counters>(
     alloc: Global,
     cat: &Catalog,

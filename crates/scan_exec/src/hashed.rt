@@ -15,7 +15,7 @@ use pg_base::{IndexNo, Memory, Tid};
 use pg_expr::Expr;
 use scan_probes::{Given, equal_value};
 
-/// The rows of a hash index at which a condition is True, rising. The error means want of memory.
+/// The rows of a hash index at which a condition is True, rising. The error means out of memory.
 pub(crate) fn rows_equal<'a, C: Counters>(
     at: &Scene<'a, '_, C>,
     given: &Given,
@@ -35,7 +35,7 @@ pub(crate) fn rows_equal<'a, C: Counters>(
     Ok(index.matches(&value))
 }
 
-/// The scan of a hash index, which has one condition. The error means want of memory.
+/// The scan of a hash index, which has one condition. The error means out of memory.
 pub(crate) fn hash_rows<'a, C: Counters>(
     at: &Scene<'a, '_, C>,
     given: Given<'a>,

@@ -20,7 +20,7 @@ use pg_expr::Expr;
 use scan_probes::{Given, index_probes};
 use store::BuiltIndex;
 
-/// A cursor over the entries of an index that meet those of its conditions that bound a part of it. The error means want of
+/// A cursor over the entries of an index that meet those of its conditions that bound a part of it. The error means out of
 /// memory.
 pub(crate) fn seek<'a, C: Counters>(
     at: &Scene<'a, '_, C>,
@@ -42,7 +42,7 @@ pub(crate) fn seek<'a, C: Counters>(
     Ok(tree.seek(&probes, backward))
 }
 
-/// The scan of a B-tree. The error means want of memory.
+/// The scan of a B-tree. The error means out of memory.
 pub(crate) fn index_rows<'a, C: Counters>(
     at: &Scene<'a, '_, C>,
     given: Given<'a>,
@@ -64,7 +64,7 @@ pub(crate) fn index_rows<'a, C: Counters>(
     Ok(IndexRows::start(beside, given, conditions, clauses, def, cursor, heap))
 }
 
-/// The index-only scan of a B-tree. The error means want of memory.
+/// The index-only scan of a B-tree. The error means out of memory.
 pub(crate) fn only_rows<'a, C: Counters>(
     at: &Scene<'a, '_, C>,
     given: Given<'a>,

@@ -158,9 +158,9 @@ fn by_plan<'a, C: Counters>(
 }
 
 impl<'a, C: Counters> ScanRows<'a, C> {
-    /// The scan of a plan over a store, where rows of the relations of its parameterisation are given by their numbers, in
-    /// FROM order. These are read, and the tree of a bitmap is made; the looks of both, and those still to come, are within
-    /// the plan's. The error means want of memory.
+    /// The scan of a plan over a store, where rows of the relations of its parameterisation are given by their numbers, in FROM
+    /// order. These are read, and the tree of a bitmap is made; the looks of both, and those still to come, are within the
+    /// plan's. The error means out of memory.
     pub fn start(
         alloc: Global,
         cat: &'a Catalog,
@@ -199,7 +199,7 @@ impl<'a, C: Counters> ScanRows<'a, C> {
         Ok(ScanRows { kind })
     }
 
-    /// Begins anew, as `start` does, in the place of the scan that it was. After want of memory it is as before.
+    /// Begins anew, as `start` does, in the place of the scan that it was. If memory runs out, it is as before.
     pub fn restart(
         &mut self,
         alloc: Global,

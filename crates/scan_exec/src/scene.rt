@@ -35,7 +35,7 @@ pub(crate) struct Scene<'a, 'o, C: Counters> {
 }
 
 impl<'a, 'o, C: Counters> Scene<'a, 'o, C> {
-    /// Its relation in the query.
+    /// The relation of the scene in the query.
     pub(crate) fn beside(&self) -> Beside<'a>
         ensures cat { result.cat.now ≡ self.now.cat.now }
         ensures range { result.range.now ≡ self.now.q.now.range }
@@ -62,7 +62,7 @@ impl<'a, 'o, C: Counters> Scene<'a, 'o, C> {
         heap
     }
 
-    /// The conditions of the clauses over its relation. The error means want of memory.
+    /// The conditions of the clauses over its relation. The error means out of memory.
     pub(crate) fn base(&self) -> Result<Vec<&'a Expr>, Memory>
         requires { self.now.rel.0 < 16 }
         ensures { IfOk result (λ v. lent_conditions v.items ≡ scene_base self.now) }
@@ -72,7 +72,7 @@ impl<'a, 'o, C: Counters> Scene<'a, 'o, C> {
         chosen(self.alloc, classes, &base)
     }
 
-    /// The conditions of these and of the clauses that are tested with the rows given. The error means want of memory.
+    /// The conditions of these and of the clauses that are tested with the rows given. The error means out of memory.
     pub(crate) fn clauses(&self) -> Result<Vec<&'a Expr>, Memory>
         requires { self.now.rel.0 < 16 }
         ensures { IfOk result (λ v. lent_conditions v.items ≡ scene_clauses self.now) }
@@ -84,7 +84,7 @@ impl<'a, 'o, C: Counters> Scene<'a, 'o, C> {
         chosen(self.alloc, classes, &both)
     }
 
-    /// The conditions of an index. The error means want of memory.
+    /// The conditions of an index. The error means out of memory.
     pub(crate) fn conditions(&self, i: IndexNo) -> Result<Vec<&'a Expr>, Memory>
         requires relation { self.now.rel.0 < 16 }
         requires index { IsIndexOn self.now.cat.now self.now.q.now self.now.rel.0 i }

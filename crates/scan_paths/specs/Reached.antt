@@ -31,11 +31,11 @@ module _ (c : Contents) (q : Query) (r : RelNo) where
     pub on : IsIndexOn c q r.0 x.index
     pub others : IsReach x.index (has x.others.0)
 
-  -- such ones of some indexes, in their order
+  -- some indexes of the relation's table, in their order, each with its set
   pub record AreReachedBy (is : List IndexNo) (xs : List Reached) : Type 0 where
     pub indexes : map (λ (x : Reached). x.index) xs ≡ is
     pub each : All IsReached xs
 
-  -- of the indexes of the relation's table
+  -- the indexes of the relation's table, in their order, each with its set
   abbrev pub AreReached : List Reached → Type 0
   AreReached xs = AreReachedBy (indexes_of c (table_of_relation q r.0)) xs

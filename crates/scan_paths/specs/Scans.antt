@@ -48,7 +48,7 @@ module _ (c : Contents) (q : Query) (r : RelNo) (p : RelSet) where
   abbrev pub IsIndexServed : List Path → IndexNo → Type 0
   IsIndexServed paths i = (only backward : Bool) → IsServed c q paths (tree_by only r i backward p)
 
-  -- by each of some indexes
+  -- each scan by one of some indexes that is of the space and admissible is dominated
   abbrev pub AreIndexesServed : List Path → List Reached → Type 0
   AreIndexesServed paths xs = All (λ (x : Reached). IsIndexServed paths x.index) xs
 
@@ -60,7 +60,7 @@ module _ (c : Contents) (q : Query) (r : RelNo) (p : RelSet) where
 abbrev pub IsIndexServedBy : Contents → Query → ByIndex → List Costed → Type 0
 IsIndexServedBy c q s paths = IsIndexServed c q s.rel s.param (map path paths) s.index
 
--- so by each of some indexes of a relation where the rows of others are given
+-- scans by each of some indexes of a relation are served in a list of paths, where the rows of others are given
 abbrev pub AreAllServed : Contents → Query → Given → List Costed → List Reached → Type 0
 AreAllServed c q at paths xs = AreIndexesServed c q at.rel at.param (map path paths) xs
 

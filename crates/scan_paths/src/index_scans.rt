@@ -38,7 +38,7 @@ pub(crate) struct ByIndex {
     pub(crate) only: bool,
 }
 
-/// Such a scan, forward or backward.
+/// The plan of this scan, forward or backward.
 fn plan_of(s: ByIndex, backward: bool) -> Plan
     ensures tree { plan result ≡ tree_of s backward }
 {
@@ -60,7 +60,7 @@ fn plan_of(s: ByIndex, backward: bool) -> Plan
     }
 }
 
-/// Its keys: those of the index, and none with a parameterisation. The error means want of memory.
+/// The keys of this scan: those of the index, and none with a parameterisation. The error means out of memory.
 fn keys_of(
     alloc: Global,
     cat: &Catalog,
@@ -182,8 +182,8 @@ fn offer_kind(
     Ok(())
 }
 
-/// Offers the scans of a relation by an index of its table, with a parameterisation, as far as the plan space has them:
-/// index scans, which `s` is, and index-only ones, forward and backward. The error means want of memory.
+/// Offers the scans of a relation by an index of its table, with a parameterisation, as far as the plan space has them: index
+/// scans, which `s` is, and index-only ones, forward and backward. The error means out of memory.
 pub(crate) fn offer_by_index(
     alloc: Global,
     cat: &Catalog,

@@ -71,8 +71,8 @@ fn reach(cat: &Catalog, q: &Prepared, r: RelNo, i: IndexNo) -> RelSet
     others_named(cat, q, r, &clauses_of_use(cat, q, r, i))
 }
 
-/// Each of some indexes of a relation's table with the relations whose rows a scan by it may be given. The error means want
-/// of memory.
+/// Each of some indexes of a relation's table with the relations whose rows a scan by it may be given. The error means out of
+/// memory.
 fn each_reached(
     alloc: Global,
     cat: &Catalog,
@@ -93,8 +93,8 @@ fn each_reached(
     Ok(found)
 }
 
-/// The indexes of a relation's table, each with the relations whose rows a scan by it may be given, whatever conditions it
-/// has. It is found once for a relation, so that a scan that cannot be is not looked for. The error means want of memory.
+/// The indexes of a relation's table, each with the relations whose rows a scan by it may be given, whatever conditions it has.
+/// It is found once for a relation, so that a scan that cannot be is not looked for. The error means out of memory.
 pub fn indexes_reached(
     alloc: Global,
     cat: &Catalog,

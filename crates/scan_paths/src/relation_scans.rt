@@ -138,11 +138,11 @@ pub fn scans_by(
 }
 
 /// Offers to a front every admissible scan of relation `r` with the parameterisation `p`, but bitmap scans: without a
-/// parameterisation the sequential scan, and by each usable index of the relation's table its scans with their
-/// conditions, forward, and backward by a B-tree without a parameterisation; index-only ones by a B-tree that holds each
-/// column of the relation that the statement names. With a parameterisation the relations that the conditions name
-/// beside `r` are exactly `p`. After it each such plan is dominated by a path of the front. The error means want of
-/// memory: the front may then have some of these paths, and what it dominated it still dominates.
+/// parameterisation the sequential scan, and by each usable index of the relation's table its scans with their conditions,
+/// forward, and backward by a B-tree without a parameterisation; index-only ones by a B-tree that holds each column of the
+/// relation that the statement names. With a parameterisation the relations that the conditions name beside `r` are exactly
+/// `p`. After it each such plan is dominated by a path of the front. The error means out of memory: the front may then have
+/// some of these paths, and what it dominated it still dominates.
 pub fn scans(
     alloc: Global,
     cat: &Catalog,

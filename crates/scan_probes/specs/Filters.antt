@@ -27,7 +27,7 @@ chosen_conditions set t = conditions_from 0 (contains set) t.clauses
 abbrev pub AreTestedAtRow : Beside → Given → List (Bor Expr) → Values → Type 0
 AreTestedAtRow b given es row = AreReadyAtRow b.cat.now b.range.now b.rel.0 given (lent_conditions es) row
 
--- they can be tested at an entry of an index on it
+-- conditions can be tested at an entry of an index on the relation beside the rows given
 abbrev pub AreTestedAtEntry : Beside → Given → List (Bor Expr) → IndexDef → Entry → Type 0
 AreTestedAtEntry b given es d e = AreReadyAtEntry b.cat.now b.range.now b.rel.0 given (lent_conditions es) (index_of d) e
 
@@ -35,6 +35,6 @@ AreTestedAtEntry b given es d e = AreReadyAtEntry b.cat.now b.range.now b.rel.0 
 abbrev pub is_met_at_row : Beside → Given → List (Bor Expr) → Values → Bool
 is_met_at_row b given es row = are_true (value_beside b.rel.0 (value_in row) given) (lent_conditions es)
 
--- and whether they are at that entry, by the values that the index holds
+-- whether the conditions are True at an entry, by the values that the index holds
 abbrev pub is_met_at_entry : Beside → Given → List (Bor Expr) → IndexDef → Entry → Bool
 is_met_at_entry b given es d e = are_true (value_beside b.rel.0 (value_in_entry (index_of d) e) given) (lent_conditions es)

@@ -1,4 +1,4 @@
--- What a scan of a relation is handed. Own.
+-- What a scan of a relation is given. Own.
 use Rattle.std.specs.Prelude.{◌≡◌, ◌<◌, ℕ, Bool, true, ◌&&◌, nat_lt, List, length, IsTrue}
 use Rattle.std.specs.List.{AllByRecursion}
 use Rattle.pg_base.specs.Sets.{has}

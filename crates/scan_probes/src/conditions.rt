@@ -12,7 +12,7 @@ use pg_expr::{Expr, eval};
 use pg_value::Truth;
 use std::alloc::Global;
 
-/// The conditions of the clauses of a set, by their numbers. The error means want of memory.
+/// The conditions of the clauses of a set, by their numbers. The error means out of memory.
 pub fn chosen<'a>(
     alloc: Global,
     classes: &'a Classes,

@@ -18,7 +18,7 @@ use pg_expr::{Expr, Operand};
 use pg_value::{Value, commutator};
 use std::alloc::Global;
 
-/// The value of a side that is a literal or a column of a row given. The error means want of memory.
+/// The value of a side that is a literal or a column of a row given. The error means out of memory.
 fn side_value(alloc: Global, given: &Given, o: &Operand) -> Result<Value, Memory>
     requires { IsTrue (is_given given.now o.now) }
     ensures { IfOk result (λ v. v ≡ value_of (given_value given.now) o.now) }
@@ -32,7 +32,7 @@ fn side_value(alloc: Global, given: &Given, o: &Operand) -> Result<Value, Memory
     }
 }
 
-/// A comparison of a key column. The error means want of memory.
+/// A comparison of a key column. The error means out of memory.
 fn bound(
     alloc: Global,
     column: u8,
@@ -59,7 +59,7 @@ struct KeyColumn {
     place: u8,
 }
 
-/// A condition on a key column, with the column on the left. The error means want of memory.
+/// A condition on a key column, with the column on the left. The error means out of memory.
 fn probe(alloc: Global, at: &KeyColumn, given: &Given, e: &Expr) -> Result<Probe, Memory>
     requires form { forms.has_key_form Btree at.now.rel.0 at.now.key (cond e.now) ≡ true }
     requires known { is_known at.now.rel.0 given.now (cond e.now) ≡ true }
@@ -78,7 +78,7 @@ fn probe(alloc: Global, at: &KeyColumn, given: &Given, e: &Expr) -> Result<Probe
     }
 }
 
-/// The first condition that fixes a key column. None where no condition does. The error means want of memory.
+/// The first condition that fixes a key column. None where no condition does. The error means out of memory.
 fn fixing_probe(
     alloc: Global,
     at: &KeyColumn,
@@ -97,7 +97,7 @@ fn fixing_probe(
     Ok(None)
 }
 
-/// Adds the conditions on a key column that no condition fixes. The error means want of memory.
+/// Adds the conditions on a key column that no condition fixes. The error means out of memory.
 fn add_open(
     alloc: Global,
     at: &KeyColumn,
@@ -116,8 +116,8 @@ fn add_open(
     Ok(())
 }
 
-/// The value that the condition of a hash index on a key of relation `r` compares the key with, where rows of other
-/// relations are given. The error means want of memory.
+/// The value that the condition of a hash index on a key of relation `r` compares the key with, where rows of other relations
+/// are given. The error means out of memory.
 pub fn equal_value(
     alloc: Global,
     r: RelNo,
@@ -142,7 +142,7 @@ pub fn equal_value(
 }
 
 /// The conditions of a B-tree of these keys, on relation `r`, as bounds of its entries, where rows of other relations are
-/// given. The error means want of memory.
+/// given. The error means out of memory.
 pub fn index_probes(
     alloc: Global,
     r: RelNo,

@@ -33,11 +33,11 @@ sorting_by c set x = record { column = x; place = rank set x.rel.0; family = c.f
 abbrev pub column_in : Class → Set → Option SortColumn
 column_in c set = option_map (sorting_by c set) (first_in c set)
 
--- those of a key list
+-- the columns that stand for the classes of a key list where tuples of a set are sorted
 abbrev pub sorted_columns : ClassTable → Set → Keys → List SortColumn
 sorted_columns t set keys = filter_map (λ n. column_in (class_at t.classes n) set) keys
 
--- those of the classes of a list, for tuples of a set of relations
+-- the columns that stand for the classes of a list where tuples of a set of relations are sorted
 abbrev pub sorting_columns : ClassTable → RelSet → List ClassNo → List SortColumn
 sorting_columns t set keys = sorted_columns t (has set.0) (class_numbers keys)
 

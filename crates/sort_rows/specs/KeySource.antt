@@ -66,7 +66,7 @@ abbrev pub tuples_by_keys : World → Query → Keys → TupleList → List Tupl
 tuples_by_keys w q keys input =
     in_order (keys_order (value_at w q) q.classes (has input.set.0) keys) (padded_tuples (width q) input)
 
--- so another list has them
+-- a list has the tuples of another one, in the order of the classes of keys
 abbrev pub IsInKeyOrder : World → Query → Keys → TupleList → TupleList → Type 0
 IsInKeyOrder w q keys input ts = padded_tuples (width q) ts ≡ tuples_by_keys w q keys input
 

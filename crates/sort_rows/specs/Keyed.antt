@@ -20,7 +20,7 @@ run_at xs width place = take width (drop (place * width) xs)
 abbrev pub rows_keyed : List (List Tid) → List Keyed → List (List Tid)
 rows_keyed rows ks = map (λ (k : Keyed). slice_index_or rows k.place []) ks
 
--- by the keys
+-- tuples to be sorted by these keys
 module _ (cs : List SortColumn) (keys : List Value) where
   -- the key of a tuple, from the list of all keys
   abbrev pub key_in : Keyed → List Value
@@ -39,7 +39,7 @@ module _ (cs : List SortColumn) (keys : List Value) where
   abbrev pub AreKeyed : ℕ → List Keyed → Type 0
   AreKeyed count ks = All (IsKeyed count) ks
 
--- so the keys of the list are lent
+-- tuples with keys that are lent
 module _ (cs : List SortColumn) (keys : List (Bor Value)) where
   -- tuples in the order of their keys; those that tie keep their places
   abbrev pub keyed_sorted : List Keyed → List Keyed

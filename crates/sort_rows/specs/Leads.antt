@@ -1,5 +1,5 @@
--- Numbers of 64 bits that stand for the first values of keys (PostgreSQL, src/backend/utils/sort/tuplesort.c: abbreviated keys).
--- They rise with the values in the order of a column, but different values may have the same.
+-- Numbers of 64 bits that stand for the first values of keys (PostgreSQL, src/backend/utils/sort/tuplesort.c: abbreviated
+-- keys). They rise with the values in the order of a column, but different values may have the same.
 use Rattle.std.specs.Prelude.{ℕ, zero, suc, ◌+◌, ◌*◌, ◌-◌, ◌^◌, min, nat_lt, cond, Bool, true, false, List, [], ◌∷◌, ℤ, pos, negsuc}
 use Rattle.std.specs.Int.{w64, saturate_signed}
 use Rattle.pg_value.specs.declared.operators.Family.{Family}
@@ -20,8 +20,8 @@ abbrev pub flag_lead : Bool → ℤ
 flag_lead true = pos 1
 flag_lead false = pos 0
 
--- the first byte of a text, 0 where there is none, and the bytes behind it; nothing is read behind a byte of 255, which no UTF-8
--- text has
+-- the first byte of a text, 0 where there is none, and the bytes behind it; nothing is read behind a byte of 255, which no
+-- UTF-8 text has
 abbrev pub leading : List ℕ → ℕ
 leading [] = 0
 leading (b ∷ bs) = min b 255
@@ -31,7 +31,7 @@ abbrev pub later : List ℕ → List ℕ
 later [] = []
 later (b ∷ bs) = cond (nat_lt b 255) bs []
 
--- so many of its bytes, behind a number, as one number
+-- a number, followed by the first n bytes of a text as digits to the base 256
 unfoldable pub text_lead : ℕ → ℕ → List ℕ → ℕ
 text_lead zero m bs = m
 text_lead (suc n) m bs = text_lead n (m * 256 + leading bs) (later bs)
@@ -54,7 +54,7 @@ abbrev pub lead_of : SortColumn → Value → ℤ
 lead_of c Null = absent_lead c.nulls_first
 lead_of c v = directed_lead c.descending (family_lead c.family v)
 
--- that of a key is its first value's
+-- the lead of a key: that of its first value
 abbrev pub key_lead : List SortColumn → List Value → ℤ
 key_lead [] key = pos 0
 key_lead (c ∷ cs) key = lead_of c (first_value key)

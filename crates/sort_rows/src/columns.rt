@@ -28,8 +28,8 @@ pub struct SortColumn {
     pub nulls_first: bool,
 }
 
-/// The columns by which tuples of the set are sorted where the classes are the sort keys, in order. A class without a
-/// member inside the set has none. The error means want of memory.
+/// The columns by which tuples of the set are sorted where the classes are the sort keys, in order. A class without a member
+/// inside the set has none. The error means out of memory.
 pub fn sort_columns(
     alloc: Global,
     classes: &Classes,

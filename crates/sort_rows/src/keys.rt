@@ -23,7 +23,7 @@ use sql_query::catalog::Catalog;
 use std::alloc::Global;
 use std::cmp::Ordering;
 
-/// Puts the rows of a tuple, in FROM order, in the place of those of a list. Each is one look. The error means want of memory.
+/// Puts the rows of a tuple, in FROM order, in the place of those of a list. Each is one look. The error means out of memory.
 fn tuple_rows<'a, C: Counters>(
     at: &KeySource<'a, '_, C>,
     tuple: &[Tid],
@@ -49,7 +49,7 @@ fn tuple_rows<'a, C: Counters>(
 }
 
 /// Puts the key of a tuple at the end of a list. Each relation's row is read once, by one look; `rows` is room for these. The
-/// error means want of memory.
+/// error means out of memory.
 pub(crate) fn add_key<'a, C: Counters>(
     at: &KeySource<'a, '_, C>,
     tuple: &[Tid],
@@ -70,8 +70,8 @@ pub(crate) fn add_key<'a, C: Counters>(
     Ok(())
 }
 
-/// The values of a tuple of a set of relations at columns of them. Each relation's row is read once, by one look. The
-/// error means want of memory.
+/// The values of a tuple of a set of relations at columns of them. Each relation's row is read once, by one look. The error
+/// means out of memory.
 pub fn read_key<'a, C: Counters>(
     alloc: Global,
     cat: &Catalog,

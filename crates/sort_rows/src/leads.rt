@@ -20,14 +20,14 @@ fn lead(column: SortColumn, v: &Value) -> i64
     }
 }
 
-/// That of NULL, before or after all others.
+/// The lead of NULL, before or after all others.
 fn null_lead(first: bool) -> i64
     ensures { result ≡ absent_lead first }
 {
     if first { i64::MIN } else { i64::MAX }
 }
 
-/// That of any other value, where the column is not descending.
+/// The lead of any other value, where the column is not descending.
 fn family_lead(f: Family, v: &Value) -> i64
     ensures { result ≡ family_lead f v.now }
 {

@@ -32,9 +32,9 @@ struct Keyed {
     place: u32,
 }
 
-/// The tuples sorted by the classes of the list, each by its first member inside their set; those that tie keep their
-/// places. Each relation's row of a tuple is one look, whatever the number of classes and of comparisons. The error
-/// means want of memory.
+/// The tuples sorted by the classes of the list, each by its first member inside their set; those that tie keep their places.
+/// Each relation's row of a tuple is one look, whatever the number of classes and of comparisons. The error means out of
+/// memory.
 pub fn sort_rows<C: Counters>(
     alloc: Global,
     cat: &Catalog,
@@ -65,7 +65,7 @@ pub fn sort_rows<C: Counters>(
     sorted(alloc, &at, input, reads)
 }
 
-/// The tuples in the order of their keys. The error means want of memory.
+/// The tuples in the order of their keys. The error means out of memory.
 fn sorted<C: Counters>(
     alloc: Global,
     at: &KeySource<'_, '_, C>,
@@ -138,7 +138,7 @@ fn compare_keyed(columns: &[SortColumn], keys: &[&Value], a: Keyed, b: Keyed) ->
     }
 }
 
-/// Sorts tuples by their keys. Those that tie keep their places. The error means want of memory.
+/// Sorts tuples by their keys. Those that tie keep their places. The error means out of memory.
 fn sort_keyed(columns: &[SortColumn], keys: &[&Value], items: &mut Vec<Keyed>) -> Result<(), Memory>
     ensures { OnOk result (items.new.items ≡ keyed_sorted columns.now keys.now items.old.items) }
 {

@@ -6,8 +6,8 @@ use pg_base::RelSet;
 use sql_query::Prepared;
 use sql_query::catalog::Catalog;
 
-/// A query over a catalogue and the heaps of its tables, a set of its relations, and the columns whose values make up the key of
-/// a tuple of that set.
+/// A query over a catalogue and the heaps of its tables, a set of its relations, and the columns whose values make up the key
+/// of a tuple of that set.
 #[derive(Drop)]
 pub(crate) struct KeySource<'a, 'o, C: Counters> {
     pub(crate) cat: &'o Catalog,

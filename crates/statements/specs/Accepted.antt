@@ -74,8 +74,8 @@ HaveClasses c queries = All (λ q. IsClassTable (given_of c q) q.classes) querie
 abbrev pub Advises : World → List Token → Advise → Action → Type 0
 Advises w tokens x action = (a : Asked) × AdviseMeans w.contents tokens x (Ok a) × HaveClasses w.contents a.queries × (action ≡ advise a.most a.candidates a.queries)
 
--- what CHECK or USE PLAN of a SELECT does, whose words end with this `;`, and the offset after it: so much with the query with its
--- classes and the bytes from the line behind its own up to the first line `\.`
+-- what CHECK or USE PLAN of a SELECT does, whose words end with this `;`, and the offset after it: so much with the query with
+-- its classes and the bytes from the line behind its own up to the first line `\.`
 pub record Takes (w : World) (text : List ℕ) (tokens : List Token) (x : WindowedSelect) (stop : Token) (act : Query → List ℕ → Action) (action : Action) (next : ℕ) : Type 0 where
   pub start : ℕ
   pub end : ℕ

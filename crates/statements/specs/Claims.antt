@@ -41,7 +41,7 @@ IsWholeFor Plan q = q.window ≡ None
 abbrev pub world_at : {C F L : Type 0} → Place C F L → World
 world_at at = world at.catalog.now at.store.now.stored
 
--- its words are those of the text, and the store is one of the catalogue
+-- the words of a place where a USE PLAN is answered are those of the text, and its store is one of the catalogue
 pub record IsPlace {C F L : Type 0} (at : Place C F L) : Type 0 where
   pub short : length at.text.now ≤ MOST_SCRIPT_BYTES
   pub words : (from : ℕ) × AreWords at.text.now from at.tokens.now

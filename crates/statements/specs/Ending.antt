@@ -14,7 +14,7 @@ use Rattle.group_reply.specs.reply_stop_Stop_TheVariants as stop
 use Rattle.statements.specs.declared.end.End.{End}
 use Rattle.statements.specs.declared.end.End.TheVariants.{Fault, Write, Memory}
 
--- a statement that was refused: its fault, or want of memory, ends the step
+-- a statement that was refused: its fault, or running out of memory, ends the step
 abbrev pub end_of_refusal : Refusal → End
 end_of_refusal (refusal.Fault f) = Fault f
 end_of_refusal refusal.Memory = Memory
@@ -30,7 +30,7 @@ abbrev pub end_of_broken : Broken → End
 end_of_broken broken.Write = Write
 end_of_broken broken.Memory = Memory
 
--- a fault, and want of memory where there is none
+-- a fault, and out of memory where there is none
 abbrev pub end_by : Option FaultType → End
 end_by (Some f) = Fault f
 end_by None = Memory
@@ -40,7 +40,7 @@ end_by None = Memory
 abbrev pub IsCauseFor : CatalogFault → ℕ → Type 0
 IsCauseFor e count = e ≢ refused.Memory → (c : Contents) × (name : List ℕ) × (names : List (List ℕ)) × (count ≡ length names + 1) × IsRefusal c name names e
 
--- a number or literal at one of so many places is at fault
+-- a number or literal at one of so many places is wrong
 abbrev pub IsNumberAmong : CatalogFault → ℕ → Type 0
 IsNumberAmong (refused.BadNumber place) count = place < count
 IsNumberAmong _ count = ⊥

@@ -1,6 +1,5 @@
--- The first fault of a statement: of its words, of its syntax, of its names and limits, then of its data, of the catalogue, or of
--- its plans
--- (PostgreSQL manual, appendix Error Codes; the order is own).
+-- The first fault of a statement: of its words, of its syntax, of its names and limits, then of its data, of the catalogue, or
+-- of its plans (PostgreSQL manual, appendix Error Codes; the order is own).
 use Rattle.std.specs.Prelude.{◌≡◌, ◌⊎◌, ℕ, ◌+◌, List, [], ◌∷◌, length, drop, slice_index_or, slice_range, Option, Some, None, Ok, Err}
 use Rattle.pg_base.specs.declared.numbers.TableNo.{TableNo}
 use Rattle.pg_base.specs.declared.faults.Code.TheVariants.{S5, S6, S11, S12, S13, S14, S15, S16, S17}
@@ -46,7 +45,7 @@ word_ends (a ∷ at) [] = []
 word_ends (a ∷ at) (word ∷ words) = (a + length word) ∷ word_ends at words
 
 -- the fault of what the catalogue refuses a table for, whose words begin and end at these offsets, the new name first: at the
--- new name, or at a repeated column's. A number at fault is no cause for a table, and want of memory no fault
+-- new name, or at a repeated column's. A wrong number is no cause for a table, and running out of memory no fault
 abbrev pub table_fault : CatalogFault → (at ends : List ℕ) → Option Fault
 table_fault refused.NameTaken at ends = Some (words_fault S5 (slice_index_or at 0 0) (slice_index_or ends 0 0))
 table_fault (refused.ColumnTwice place) at ends = Some (words_fault S6 (slice_index_or at (place + 1) 0) (slice_index_or ends (place + 1) 0))
@@ -63,13 +62,13 @@ index_fault refused.TooMany at method tokens = Some (word_fault (S15 Indexes) to
 index_fault (refused.BadNumber place) at method tokens = Some (word_fault S17 tokens method)
 index_fault refused.Memory at method tokens = None
 
--- the fault of what the catalogue refuses statistics for, whose numbers and literals begin at these offsets: at the first that is
--- not allowed
+-- the fault of what the catalogue refuses statistics for, whose numbers and literals begin at these offsets: at the first that
+-- is not allowed
 abbrev pub number_fault : CatalogFault → (at : List ℕ) → Option Fault
 number_fault (refused.BadNumber place) at = let here = slice_index_or at place 0 in Some (words_fault S17 here here)
 number_fault _ at = None
 
--- the fault of what data for a table, from an offset on, are refused for; want of memory is none
+-- the fault of what data for a table, from an offset on, are refused for; running out of memory is none
 abbrev pub rows_fault : CopyFault → TableNo → ℕ → Option Fault
 rows_fault (copying.Arity rec) t start = Some (data_fault S13 start rec t 0)
 rows_fault (copying.Range rec col) t start = Some (data_fault S11 start rec t col.0)
@@ -88,7 +87,8 @@ abbrev pub IsBlockFault : World → List ℕ → TableNo → ℕ → Fault → T
 IsBlockFault w text t start f =
     (end next : ℕ) × (e : CopyFault) × IsBlockEnd text start end next × (loaded (stored_at w t) (records_of (slice_range text start end)) ≡ Err e) × (rows_fault e t start ≡ Some f)
 
--- why a definition is not carried out: the catalogue refuses it, a new table or statistics of one; or the data have no end, or are at fault. What is found of a table's rows is never refused
+-- why a definition is not carried out: the catalogue refuses it, a new table or statistics of one; or the data have no end, or
+-- an error. What is found of a table's rows is never refused
 abbrev pub IsRefused : World → List ℕ → Definition → List ℕ → Fault → Type 0
 IsRefused w text (table name names columns) at f = (e : CatalogFault) × IsRefusal w.contents name names e × (table_fault e at (word_ends at (name ∷ names)) ≡ Some f)
 IsRefused w text (sizes_for t rows pages) at f = (e : CatalogFault) × IsSizeRefusal rows pages e × (number_fault e at ≡ Some f)
@@ -105,7 +105,7 @@ abbrev pub IsIndexFault : World → List Token → CreateIndex → Fault → Typ
 IsIndexFault w tokens x f =
     (meaning w.contents x ≡ Err f) ⊎ ((r : IndexReading) × (e : CatalogFault) × (meaning w.contents x ≡ Ok r) × IsIndexRefusal w.contents r.name r.index e × (index_fault e r.at r.method tokens ≡ Some f))
 
--- that a query has no admissible plan is at fault at the word SELECT
+-- that a query has no admissible plan is an error at the word SELECT
 abbrev pub no_plan : List ℕ → List Token → Fault
 no_plan text tokens = fault_at S16 (token_at tokens (words_before (terminals text tokens)))
 
@@ -119,7 +119,7 @@ abbrev pub IsQueryFault : World → List ℕ → List Token → OrderedSelect �
 IsQueryFault w text tokens x f =
     (bound w.contents (token_at tokens 0) x ≡ Err f) ⊎ ((b : Bound) × (bound w.contents (token_at tokens 0) x ≡ Ok b) × IsUnplanned w text tokens b f)
 
--- that there is no advice is at fault at the word ADVISE
+-- that there is no advice is an error at the word ADVISE
 abbrev pub no_advice : List Token → Fault
 no_advice tokens = fault_at S16 (token_at tokens 0)
 
@@ -131,8 +131,8 @@ IsUnadvised w tokens a f = HaveClasses w.contents a.queries × HasNoAdviceFor w.
 abbrev pub IsAdviseFault : World → List Token → Advise → Fault → Type 0
 IsAdviseFault w tokens x f = AdviseMeans w.contents tokens x (Err f) ⊎ ((a : Asked) × AdviseMeans w.contents tokens x (Ok a) × IsUnadvised w tokens a f)
 
--- a fault of CHECK or USE PLAN of a SELECT, whose words end with this `;`: of the rest of its line; then in the names and limits of the
--- SELECT; then that no line ends the lines behind it
+-- a fault of CHECK or USE PLAN of a SELECT, whose words end with this `;`: of the rest of its line; then in the names and
+-- limits of the SELECT; then that no line ends the lines behind it
 pub data IsCheckFault (w : World) (text : List ℕ) (tokens : List Token) (x : WindowedSelect) (stop : Token) (f : Fault) : Type 0 where
   in_line : IsDataStart text stop.end (Err f) → IsCheckFault w text tokens x stop f
   in_select : (start : ℕ) → IsDataStart text stop.end (Ok start) → bound_part w.contents (token_at tokens 0) x ≡ Err f → IsCheckFault w text tokens x stop f

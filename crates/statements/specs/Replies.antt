@@ -21,10 +21,11 @@ abbrev pub told : List ℕ → Reply
 told bytes = record { bytes = bytes; fetched = exactly 0; looked = 0 }
 
 -- an accepted statement's reply: SELECT prints the answer by a best plan, its EXPLAIN that plan alone, and its EXPLAIN (TABLE)
--- that plan with a table of it. ADVISE prints the advice, and CHECK a line that tells whether its lines are a certificate of the
--- query, each with nothing fetched and nothing looked at. USE PLAN prints the answer by the plan that is written out, or why it is not
--- run. A SELECT that groups prints a line for each group behind the least plan that groups, its EXPLAIN that plan alone. The others print
--- nothing: CREATE INDEX and ANALYZE look at each row of their table, and COPY at each new row for each index of the table
+-- that plan with a table of it. ADVISE prints the advice, and CHECK a line that tells whether its lines are a certificate of
+-- the query, each with nothing fetched and nothing looked at. USE PLAN prints the answer by the plan that is written out, or
+-- why it is not run. A SELECT that groups prints a line for each group behind the least plan that groups, its EXPLAIN that plan
+-- alone. The others print nothing: CREATE INDEX and ANALYZE look at each row of their table, and COPY at each new row for each
+-- index of the table
 abbrev pub IsReply : World → Action → Reply → Type 0
 IsReply w idle r = r ≡ silent 0
 IsReply w (make name names columns) r = r ≡ silent 0

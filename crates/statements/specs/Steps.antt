@@ -45,19 +45,19 @@ pub record Tallies (w w' : World) (text : List ℕ) (at next : ℕ) (m : Option 
   pub world : w' ≡ after w action
   pub tallied : IsTallied w action m
 
--- where a field of COPY data is at fault, the catalogue has its table and column
+-- where a field of COPY data is wrong, the catalogue has its table and column
 abbrev pub HasField : Contents → End → Type 0
 HasField c (ends.Fault f) = IsFieldOf c f
 HasField c _ = Unit {0}
 
 -- why a step gives no reply, and what it left: the statement's first fault; or, with a part of the reply written at most, a
--- failed out or want of memory
+-- failed out or no more memory
 abbrev pub Stops : End → World → List ℕ → ℕ → Traces → Traces → Type 0
 Stops (ends.Fault f) w text at old new = IsFault w text at f × IsFieldOf w.contents f × (new ≡ old)
 Stops ends.Write w text at old new = IsBegun w text at old new
 Stops ends.Memory w text at old new = (new ≡ old) ⊎ IsBegun w text at old new
 
--- why the statement at this place was not tallied: its first fault, or want of memory
+-- why the statement at this place was not tallied: its first fault, or out of memory
 abbrev pub StopsTally : End → World → List ℕ → ℕ → Type 0
 StopsTally (ends.Fault f) w text at = IsFault w text at f × IsFieldOf w.contents f
 StopsTally ends.Write w text at = ⊥
@@ -75,7 +75,7 @@ abbrev pub IsDefined : World → World → List ℕ → List Token → ℕ → (
 IsDefined w w' text tokens next looked looked' = (action : Action) × IsCarrying w text tokens action next looked looked' × (w' ≡ after w action)
 
 -- why the statement of these tokens was not carried out, before anything was written: its first fault, before anything was
--- looked at; or want of memory, it may be at some of its looks
+-- looked at; or out of memory, perhaps after some of its looks
 abbrev pub Refuses : End → World → List ℕ → List Token → (looked looked' : ℕ) → Type 0
 Refuses (ends.Fault f) w text tokens looked looked' = IsFaultOver w text tokens f × IsFieldOf w.contents f × (looked' ≡ looked)
 Refuses ends.Write w text tokens looked looked' = ⊥
@@ -92,7 +92,7 @@ abbrev pub AreLoaded : World → List ℕ → TableNo → ℕ → (looked looked
 AreLoaded w text t start looked looked' =
     (end next : ℕ) × (s : Stored) × IsBlockEnd text start end next × (loaded (stored_at w t) (records_of (slice_range text start end)) ≡ Ok s) × (looked' ≤ looked + load_looks w.contents t (stored_at w t) s)
 
--- why data for a table, from an offset on, were not loaded: their fault, or want of memory, it may be at some of the looks
+-- why data for a table, from an offset on, were not loaded: their fault, or out of memory, perhaps after some of the looks
 abbrev pub RefusesData : End → World → List ℕ → TableNo → ℕ → (looked looked' : ℕ) → Type 0
 RefusesData (ends.Fault f) w text t start looked looked' = RefusesDefinition (ends.Fault f) w text (data_for t start) [] × (looked' ≡ looked)
 RefusesData ends.Write w text t start looked looked' = ⊥

@@ -22,8 +22,9 @@ use sql_grammar::fault_at;
 use sql_lex::Tokens;
 use std::alloc::Global;
 
-/// Writes the advice that the ADVISE of these tokens asks for, and gives the offset after it. That there is none, since with no set of
-/// candidates each query has an admissible plan, is a fault (54001) at the word ADVISE. Nothing is made, and no row is looked at.
+/// Writes the advice that the ADVISE of these tokens asks for, and gives the offset after it. That there is none, since with no
+/// set of candidates each query has an admissible plan, is a fault (54001) at the word ADVISE. Nothing is made, and no row is
+/// looked at.
 pub(crate) fn advise<K: Sink>(
     alloc: Global,
     text: &[u8],

@@ -18,14 +18,14 @@ use pg_base::{Sink, write_all};
 use sql_lex::Tokens;
 use std::alloc::Global;
 
-/// What is told of a certificate, and the offset after the line behind it.
+/// The judgement of a certificate, and the offset after the line behind it.
 #[derive(Drop)]
 pub(crate) struct Verdict {
     pub(crate) line: Vec<u8>,
     pub(crate) next: u32,
 }
 
-/// What is told of the certificate of the CHECK of these tokens.
+/// The judgement of the certificate of the CHECK of these tokens.
 pub(crate) fn verdict_of(
     alloc: Global,
     text: &[u8],

@@ -72,8 +72,8 @@ fn select_of(given: Given) -> u32
     }
 }
 
-/// Reads the CHECK or USE PLAN of these tokens, and finds the lines behind it. The rest of the statement's own line comes behind
-/// its grammar and before its names; that no line `\.` ends the lines (22P04) comes last, at their first byte.
+/// Reads the CHECK or USE PLAN of these tokens, and finds the lines behind it. The rest of the statement's own line comes
+/// behind its grammar and before its names; that no line `\.` ends the lines (22P04) comes last, at their first byte.
 pub(crate) fn read_claim(
     alloc: Global,
     text: &[u8],

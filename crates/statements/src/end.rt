@@ -11,7 +11,7 @@ pub enum End {
     Fault(Fault),
     /// Out failed, its count of faults rose, and it may hold a first part of the reply.
     Write,
-    /// Want of memory; out may hold a first part of the reply.
+    /// Out of memory; out may hold a first part of the reply.
     Memory,
 }
 

@@ -28,8 +28,8 @@ pub fn statements_go_on()
         from ≤ length text → IsRead w text from action next → next ≤ length text }
 {}
 
-/// A statement has one reading from each place on: one action and one end. It has one first fault, and none where it is read and
-/// has a reply.
+/// A statement has one reading from each place on: one action and one end. It has one first fault, and none where it is read
+/// and has a reply.
 pub fn one_reading()
     ensures read { (w : World) (text : List ℕ) (from m n : ℕ) (a b : Action) →
         IsRead w text from a m → IsRead w text from b n → (a ≡ b) × (m ≡ n) }
@@ -39,8 +39,8 @@ pub fn one_reading()
         IsRead w text from a n → IsReply w a r → ¬ IsFault w text from f }
 {}
 
-/// After its syntax ANALYZE has one fault, that its table is unknown, at the name: so none of a number out of range (22023). The
-/// catalogue would refuse nothing of what is found of a table's rows.
+/// After its syntax ANALYZE has one fault, that its table is unknown, at the name: so none of a number out of range (22023).
+/// The catalogue would refuse nothing of what is found of a table's rows.
 pub fn analysis_is_never_refused()
     ensures fault { (w : World) (text : List ℕ) (tokens : List Token)
         (p : IsOffered READS_ANALYZE) (k : Token) (n : Ident) (e : Ending) (f : Fault) →

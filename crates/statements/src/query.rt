@@ -42,8 +42,8 @@ use sql_query::{Grouped, Prepared};
 use std::alloc::Global;
 use store::Store;
 
-/// The number of the token at which the SELECT of these tokens begins, where they are a SELECT of either form, EXPLAIN or EXPLAIN
-/// (TABLE).
+/// The number of the token at which the SELECT of these tokens begins, where they are a SELECT of either form, EXPLAIN or
+/// EXPLAIN (TABLE).
 fn select_at(text: &[u8], tokens: &Tokens) -> u32
     requires short { length text.now ≤ MOST_SCRIPT_BYTES }
     requires words { (from : ℕ) × AreWords text.now from tokens.now }
@@ -99,8 +99,8 @@ fn unplanned(text: &[u8], tokens: &Tokens) -> Fault
     fault_at(Code::S16, token_at(tokens, first))
 }
 
-/// Answers a SELECT, or explains it, with its table or without, and gives the offset after it. That it has no admissible plan is a
-/// fault at the word SELECT.
+/// Answers a SELECT, or explains it, with its table or without, and gives the offset after it. That it has no admissible plan
+/// is a fault at the word SELECT.
 pub(crate) fn answer_query<C: Counters, K: Sink>(
     at: &Place<C>,
     out: &mut K,
@@ -123,8 +123,8 @@ pub(crate) fn answer_query<C: Counters, K: Sink>(
     }
 }
 
-/// Plans and runs a SELECT, prints nothing, and gives what its answer comes to; nothing is given of one that is explained, and of
-/// one that groups, which is planned alone. That it has no admissible plan is a fault at the word SELECT.
+/// Plans and runs a SELECT, prints nothing, and gives what its answer comes to; nothing is given of one that is explained, and
+/// of one that groups, which is planned alone. That it has no admissible plan is a fault at the word SELECT.
 pub(crate) fn measure_query<C: Counters>(
     at: &Place<C>,
     fetches: &mut Steps<C::Fetches>,

@@ -81,8 +81,8 @@ pub fn reply_to<C: Counters, K: Sink>(
     answer_query(&at, out, fetches, reads)
 }
 
-/// Works the same statement and prints nothing: a query that is asked is measured in place of being answered. One that groups is
-/// planned alone, and nothing is measured of it.
+/// Works the same statement and prints nothing: a query that is asked is measured in place of being answered. One that groups
+/// is planned alone, and nothing is measured of it.
 pub fn tally_reply<C: Counters>(
     alloc: Global,
     text: &[u8],
@@ -148,7 +148,7 @@ fn tally_advice(
     })
 }
 
-/// Finds what is told of the certificate of the CHECK of these tokens, and prints nothing.
+/// Judges the certificate of the CHECK of these tokens, and prints nothing.
 fn tally_check(
     alloc: Global,
     text: &[u8],
@@ -170,7 +170,7 @@ fn tally_check(
     })
 }
 
-/// Finds what is told of the plan behind the USE PLAN of these tokens, and prints nothing.
+/// Judges the plan behind the USE PLAN of these tokens, and prints nothing.
 fn tally_plan<C: Counters>(
     alloc: Global,
     text: &[u8],

@@ -101,7 +101,7 @@ pub(crate) fn follow<C: Counters, K: Sink>(
     print_told(at, &order, out, fetches, reads)
 }
 
-/// Prints what is told of the lines behind a USE PLAN that is read.
+/// Prints the judgement of the lines behind a USE PLAN that is read.
 fn print_told<C: Counters, K: Sink>(
     at: &Place<C>,
     order: &Order,

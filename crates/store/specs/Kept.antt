@@ -111,7 +111,7 @@ below rows (hashed t) = hashed (held.held_below rows t)
 abbrev pub built_over : List Stored → NamedIndex → Built
 built_over stored x = built_of x.index (slice_index_or stored x.index.table.0 nothing_stored).rows
 
--- of a catalogue: each table has its rows, and each index is built over those of its table
+-- a store is one of a catalogue: each table has its rows, and each index is built over those of its table
 pub record IsStoreOf (c : Contents) (k : Kept) : Type 0 where
   pub world : IsWorld (world c k.stored)
   pub built : k.built ≡ map (built_over k.stored) c.indexes

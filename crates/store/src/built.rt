@@ -68,8 +68,8 @@ impl<C: Counters> BuiltIndex<C> {
         Ok(index)
     }
 
-    /// Adds the entries of the rows from number `from` on to those of the rows before it, all at once. For want of memory
-    /// the index is as before.
+    /// Adds the entries of the rows from number `from` on to those of the rows before it, all at once. If memory runs out, the
+    /// index is as before.
     pub(crate) fn add_rows(
         &mut self,
         alloc: Global,

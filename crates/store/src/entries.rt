@@ -46,7 +46,7 @@ pub(crate) fn entries_from<C: Counters>(
     Ok(entries)
 }
 
-/// The same entries as a hash index holds them: each row with the value of the one key.
+/// The entries of a hash index for the rows from number `from` on, as it holds them: each row with the value of the one key.
 pub(crate) fn hashed_from<C: Counters>(
     alloc: Global,
     def: &IndexDef,

@@ -1,6 +1,6 @@
 //! What is stored of a catalogue's tables and indexes: a heap with the rows of each table, and each index built over them
-//! (PostgreSQL manual, chapters Indexes, Data Definition and Populating a Database, and ANALYZE). Definitions are carried out, data
-//! loaded and statistics gathered here, in the catalogue and the store beside it; what is refused changes nothing.
+//! (PostgreSQL manual, chapters Indexes, Data Definition and Populating a Database, and ANALYZE). Definitions are carried out,
+//! data loaded and statistics gathered here, in the catalogue and the store beside it; what is refused changes nothing.
 #![tactic(auto)]
 
 mod built;

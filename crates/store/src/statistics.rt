@@ -13,7 +13,7 @@ use pg_base::{Memory, Steps, TableNo};
 use std::alloc::Global;
 
 /// Replaces all statistics of a table by those of its rows, each of which is looked at once. They are always taken; the error
-/// means want of memory, and then nothing changes.
+/// means out of memory, and then nothing changes.
 pub fn gather<C: Counters>(
     alloc: Global,
     catalog: &mut Catalog,

@@ -54,7 +54,7 @@ impl<C: Counters> Store<C> {
         }
     }
 
-    /// Puts the heap of a new table at the end. The only error is want of memory, and then all is as before.
+    /// Puts the heap of a new table at the end. The only error is out of memory, and then all is as before.
     pub fn add_heap(&mut self, h: Heap<C>) -> Result<(), Memory>
         ensures added { OnOk result (self.new ≡ with_heap self.old h) }
         ensures refused { OnErr result (self.new ≡ self.old) }
@@ -62,8 +62,8 @@ impl<C: Counters> Store<C> {
         self.heaps.add(h)
     }
 
-    /// Builds the last index of the catalogue, which the store lacks. Each row of its table is looked at once. The only
-    /// error is want of memory, and then all is as before.
+    /// Builds the last index of the catalogue, which the store lacks. Each row of its table is looked at once. The only error
+    /// is out of memory, and then all is as before.
     pub fn add_index(
         &mut self,
         cat: &Catalog,
@@ -160,7 +160,7 @@ struct NewRows<'a, C: Counters> {
     before: u32,
 }
 
-/// Adds these rows to each index of their table, which lacks them. For want of memory the indexes are as before.
+/// Adds these rows to each index of their table, which lacks them. If memory runs out, the indexes are as before.
 fn grow<C: Counters>(
     rows: &NewRows<C>,
     indexes: &mut Vec<BuiltIndex<C>>,

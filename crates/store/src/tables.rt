@@ -79,7 +79,7 @@ pub fn build<C: Counters>(
     Ok(())
 }
 
-/// Appends the rows of a block of COPY data to a table, and to each of its indexes. Data at fault change nothing.
+/// Appends the rows of a block of COPY data to a table, and to each of its indexes. Data with an error change nothing.
 pub fn fill<C: Counters>(
     catalog: &mut Catalog,
     store: &mut Store<C>,

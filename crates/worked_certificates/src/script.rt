@@ -21,15 +21,15 @@ const MOST_BYTES: usize = 1000;
 /// Why a statement was not taken.
 #[derive(Debug, Drop)]
 pub(crate) enum Stopped {
-    /// It has more than `MOST_BYTES` bytes.
+    /// A statement has more than `MOST_BYTES` bytes.
     Long,
-    /// It is none of the statements that are taken.
+    /// The statement is none of those that are taken.
     Other,
-    /// It was not read.
+    /// The statement was not read.
     Refused(Refusal),
     /// The catalogue refused it.
     Catalog(CatalogFault),
-    /// Want of memory.
+    /// Out of memory.
     Memory,
 }
 

@@ -21,7 +21,7 @@ const DEFINITIONS: [&[u8]; 4] = [
 /// A query of two tables.
 const PLAIN: &[u8] = b"SELECT x.a, y.a FROM x, y;";
 
-/// One that joins them by a class.
+/// A query that joins two tables by a class.
 const JOINED: &[u8] = b"SELECT x.a, y.a FROM x, y WHERE x.a = y.a ORDER BY x.a;";
 
 /// One with a window.
@@ -30,9 +30,9 @@ const LIMITED: &[u8] = b"SELECT * FROM t LIMIT 2;";
 /// What comes of a text.
 #[derive(Clone, Copy, Debug, PartialEq, Eq)]
 enum Outcome {
-    /// So many entries, whether the best plan is sorted, and its entry.
+    /// The number of entries, whether the best plan is sorted, and its entry.
     Read(usize, bool, u32),
-    /// It is no certificate's text: the line at fault.
+    /// The text is no certificate's; the line that is wrong.
     Line(u32),
     /// The query was not read, or memory was short.
     Stopped,

@@ -1,4 +1,4 @@
-//! The calls on a small catalogue, with ample memory. What is refused is told with its place.
+//! The calls on a small catalogue, with ample memory. What is refused is reported with its place.
 
 ghost use Rattle.std.specs.Prelude.{◌≡◌, ◌<◌, true, All, IfOk, OnOk, length};
 ghost use Rattle.pg_base.specs.Names.{begins_name};
@@ -286,7 +286,7 @@ fn are_refused(catalog: &mut Catalog, alloc: Global) -> bool {
         && add(catalog, alloc, b'u', b'b', b'b') == Err(CatalogFault::ColumnTwice(1))
 }
 
-/// Whether a catalogue takes tables `t` and `u`, the first and the second one, and what it then tells of `u`.
+/// Whether a catalogue takes tables `t` and `u`, the first and the second one, and what it then has of `u`.
 fn has_tables(catalog: &mut Catalog, alloc: Global) -> bool {
     is_added(add(catalog, alloc, b't', b'a', b'b'), 0)
         && are_refused(catalog, alloc)

@@ -425,7 +425,7 @@ fn are_joined(both: &mut Tids, either: &mut Tids, other: &Tids) -> bool
     before && are_members(both, &[63, 199]) && are_members(either, &[0, 63, 64, 65, 199])
 }
 
-/// The same with a set of its own that both are joined with.
+/// Whether two sets joined with a third, made here, have the members that both have, and those that either has.
 fn are_joined_with_own(both: &mut Tids, either: &mut Tids, alloc: Global) -> bool
     requires both { both.old.bound ≡ 200 }
     requires either { either.old.bound ≡ 200 }
@@ -436,7 +436,7 @@ fn are_joined_with_own(both: &mut Tids, either: &mut Tids, alloc: Global) -> boo
     }
 }
 
-/// The same with a set of its own for either.
+/// Whether a set and one made here have the members that they should, once joined with a third.
 fn is_joined(both: &mut Tids, alloc: Global) -> bool
     requires { both.old.bound ≡ 200 }
 {
@@ -446,7 +446,7 @@ fn is_joined(both: &mut Tids, alloc: Global) -> bool
     }
 }
 
-/// The same with a set of its own for both.
+/// Whether two sets made here have the members that they should, once joined with a third.
 fn is_own_joined(alloc: Global) -> bool {
     match below_200(alloc, &[199, 64, 0, 63, 64]) {
         Ok(mut both) => is_joined(&mut both, alloc),

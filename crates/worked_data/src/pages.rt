@@ -107,7 +107,8 @@ enum Order {
 /// How many entries are put in.
 const MANY: u32 = 100_000;
 
-/// The row that is put in as one of many. In each order every row comes once: 61,803 has no divisor in common with their number.
+/// The row that is put in as one of many. In each order every row comes once: 61,803 has no divisor in common with their
+/// number.
 fn row_at(order: Order, n: u32) -> u32
     requires { n < 100000 }
 {
@@ -146,7 +147,7 @@ fn gives_many_with<L: Ledger>(
     gives_added(alloc, &mut tree, order, &mut steps)
 }
 
-/// The same in an index to which they are added.
+/// Whether cursors both ways give many entries, added to this index by an order, as the sorted list of their rows.
 fn gives_added<L: Ledger>(
     alloc: Global,
     tree: &mut BTree<L>,

@@ -1,4 +1,4 @@
-//! Paths offered one by one: which are kept, and which are told as beaten.
+//! Paths offered one by one: which are kept, and which are reported as beaten.
 
 use crate::made::{keys_of, scan};
 use cost_rules::Pair;
@@ -12,7 +12,7 @@ fn offer(alloc: Global, kept: &mut KeptPaths, cost: u64, is_sorted: bool) -> Res
     kept.offer(alloc, path)
 }
 
-/// Whether a path that costs 10 is told as beaten.
+/// Whether a path that costs 10 is reported as beaten.
 fn is_told(alloc: Global, kept: &KeptPaths, is_sorted: bool) -> Result<bool, Memory> {
     let keys = keys_of(alloc, is_sorted)?;
     let cost = Pair {
@@ -22,8 +22,8 @@ fn is_told(alloc: Global, kept: &KeptPaths, is_sorted: bool) -> Result<bool, Mem
     kept.is_beaten(alloc, cost, &keys)
 }
 
-/// The cost and the order of a path that is offered, and whether an unsorted path that costs 10 is then told as beaten, and a
-/// sorted one.
+/// The cost and the order of a path that is offered, and whether an unsorted path that costs 10 is then reported as beaten, and
+/// a sorted one.
 type Round = (u64, bool, bool, bool);
 
 const ROUNDS: [Round; 5] = [
@@ -34,7 +34,7 @@ const ROUNDS: [Round; 5] = [
     (8, true, true, true),
 ];
 
-/// The cost of the first path after which something else is told.
+/// The cost of the first path after which something else is reported.
 fn first_other(alloc: Global, kept: &mut KeptPaths, rounds: &[Round]) -> Option<u64> {
     for (cost, is_sorted, plain, sorted) in rounds {
         if offer(alloc, kept, *cost, *is_sorted).is_err()

@@ -22,9 +22,9 @@ const ONE: ClassNo = ClassNo(0);
 
 const TWO: ClassNo = ClassNo(1);
 
-/// An index of a table of a and b; whether the query has `a = 5`, whose class is the first and has a constant; the column of its
-/// ORDER BY, whether that descends and whether NULL stands first in it; and the classes by which a forward scan, a backward scan
-/// and the ORDER BY are sorted.
+/// An index of a table of a and b; whether the query has `a = 5`, whose class is the first and has a constant; the column of
+/// its ORDER BY, whether that descends and whether NULL stands first in it; and the classes by which a forward scan, a backward
+/// scan and the ORDER BY are sorted.
 type Sorted<'a> = (&'a [u8], bool, (u8, bool, bool), [&'a [ClassNo]; 3]);
 
 const SORTED: [Sorted; 11] = [
@@ -220,7 +220,7 @@ fn are_sorted_by(
         && is_ordered_by(alloc, t, order, wanted[2])
 }
 
-/// The same with the classes of a row.
+/// Whether scans by the index of a row, and its ORDER BY, are sorted by the classes of the row.
 fn are_sorted(alloc: Global, cat: &Catalog, row: Sorted) -> bool {
     let (_, fixed, (col, descending, nulls_first), wanted) = row;
     let order = OrderItem {
@@ -234,7 +234,7 @@ fn are_sorted(alloc: Global, cat: &Catalog, row: Sorted) -> bool {
     }
 }
 
-/// The same over the table with the index of a row.
+/// Whether a row holds over a table with its index.
 fn is_as_told(alloc: Global, row: Sorted) -> bool {
     let mut cat = Catalog::new(alloc);
     define(alloc, &mut cat, b"CREATE TABLE t (a int4, b int4);").is_ok()

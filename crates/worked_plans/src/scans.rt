@@ -36,7 +36,7 @@ fn relation(alloc: Global) -> Result<RangeTable, Memory>
     Ok(RangeTable::from_vec(range))
 }
 
-/// So many columns of the first relation.
+/// The first `count` columns of the first relation.
 fn columns(alloc: Global, count: u8) -> Result<ColList, Memory> {
     let columns = (0..count).map(|col| ColRef {
         rel: RelNo(0),
@@ -65,7 +65,8 @@ fn query(alloc: Global, count: u8) -> Result<Prepared, Memory>
     })
 }
 
-/// Whether no scan is offered for a parameterisation by a relation that is not there, and one scan of this cost is kept without one.
+/// Whether no scan is offered for a parameterisation by a relation that is not there, and one scan of this cost is kept without
+/// one.
 fn is_kept(alloc: Global, cat: &Catalog, q: &Prepared, front: &mut Front<Path>, cost: u64) -> bool
     requires some { 0 < length cat.now.tables }
     requires none { front.old ≡ [] }
@@ -80,7 +81,7 @@ fn is_kept(alloc: Global, cat: &Catalog, q: &Prepared, front: &mut Front<Path>, 
     offered && none == 0 && kept && costs_so
 }
 
-/// The same of a query of so many columns.
+/// Whether one scan of this cost is kept of a query of this number of columns, without a parameterisation alone.
 fn is_kept_of(alloc: Global, cat: &Catalog, columns: u8, cost: u64) -> bool
     requires { 0 < length cat.now.tables }
 {

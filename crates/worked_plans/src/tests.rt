@@ -1,5 +1,5 @@
-//! How an index serves worked queries, whose numbers were reckoned by hand and by a planner written apart from this one. Costs of
-//! best plans are data of `tools/check_examples.py`.
+//! How an index serves worked queries, whose numbers were computed by hand and by a planner written apart from this one. Costs
+//! of best plans are data of `tools/check_examples.py`.
 
 ghost use Rattle.std.specs.Prelude.{◌<◌};
 ghost use Rattle.catalog.specs.Contents.{IsIndex};
@@ -124,7 +124,7 @@ fn numbers(cat: &Catalog, q: &Prepared, i: IndexNo) -> [u64; 4]
     ]
 }
 
-/// Whether the index `i` serves a query as told, with these numbers.
+/// Whether the index `i` serves a query as given, with these numbers.
 fn is_serving(cat: &Catalog, q: &Prepared, serves: bool, wanted: [u64; 4]) -> bool
     requires over { IsOverTables cat.now q.now }
     requires some { 0 < width q.now }
@@ -137,7 +137,7 @@ fn is_serving(cat: &Catalog, q: &Prepared, serves: bool, wanted: [u64; 4]) -> bo
     }
 }
 
-/// Whether the index of a catalogue serves the query of a row as told.
+/// Whether the index of a catalogue serves the query of a row as given.
 fn is_served_over(alloc: Global, cat: &Catalog, row: Served) -> bool {
     match query(alloc, cat, row.1) {
         Ok(q) => is_serving(cat, &q, row.2, row.3),
@@ -145,7 +145,7 @@ fn is_served_over(alloc: Global, cat: &Catalog, row: Served) -> bool {
     }
 }
 
-/// Whether an index serves the query of a row as told, after its definitions.
+/// Whether an index serves the query of a row as given, after its definitions.
 fn is_served(alloc: Global, row: Served) -> bool {
     let mut cat = Catalog::new(alloc);
     define_each(alloc, &mut cat, &[TABLE]).is_ok()

@@ -19,7 +19,7 @@ const COMPARED: [(Made, Made, bool); 6] = [
     ((0, 9, false), (0, 9, true), false),
 ];
 
-/// Whether a path is at most a scan of this parameterisation; none for want of memory.
+/// Whether a path is at most a scan of this parameterisation; none when memory runs out.
 fn is_at_most(alloc: Global, one: &Path, other: Made, param: RelSet) -> Option<bool> {
     match scan(alloc, other.0, other.1, other.2) {
         Ok(mut path) => {

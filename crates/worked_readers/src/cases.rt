@@ -14,8 +14,8 @@ pub(crate) type Wrong<'a> = (&'a [u8], Code, u32, u32);
 /// A head, a part, a tail, and how often the part stands between them.
 pub(crate) type Repeated<'a> = (&'a [u8], &'a [u8], &'a [u8], usize);
 
-/// What a text is read as: a definition but for indexes, an index, a SELECT, the SELECT at the second token, the candidate for an
-/// index at the third.
+/// What a text is read as: a definition but for indexes, an index, a SELECT, the SELECT at the second token, the candidate for
+/// an index at the third.
 #[derive(Clone, Copy)]
 pub(crate) enum Reader {
     Definition,
@@ -71,7 +71,7 @@ fn refusal(alloc: Global, catalog: &Catalog, reader: Reader, text: &[u8]) -> Opt
     }
 }
 
-/// The place of the first text that has more than 1,000 bytes, or is refused elsewhere than told.
+/// The place of the first text that has more than 1,000 bytes, or is refused elsewhere than given.
 fn first_wrong(alloc: Global, catalog: &Catalog, reader: Reader, rows: &[Wrong]) -> Option<usize> {
     for n in 0..rows.len() {
         let (text, code, from, to) = rows[n];
@@ -127,7 +127,7 @@ fn first_over(alloc: Global, catalog: &Catalog, cases: Cases) -> Option<usize> {
     }
 }
 
-/// The place of the first case that fails over such tables; a number of no case for want of memory.
+/// The place of the first case that fails over such tables; a number of no case when memory runs out.
 pub(crate) fn first_failing(alloc: Global, tables: Tables, cases: Cases) -> Option<usize> {
     match catalogue(alloc, tables) {
         Ok(catalog) => first_over(alloc, &catalog, cases),

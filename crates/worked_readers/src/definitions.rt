@@ -353,7 +353,7 @@ fn reads_definitions(rt: HostRuntime) {
     assert_eq!(rt; first_failing(rt.alloc(), Tables::One, cases), None);
 }
 
-/// The first text that has more than 100 bytes, or whose data end elsewhere than told.
+/// The first text that has more than 100 bytes, or whose data end elsewhere than given.
 fn first_block<'a>(rows: &[(&'a [u8], Option<(u32, u32)>)]) -> Option<&'a [u8]> {
     for (text, end) in rows {
         if text.len() > 100 || block_end(text, 0) != *end {

@@ -90,7 +90,7 @@ fn refusal_at(alloc: Global, catalog: &Catalog, text: &[u8], first: u32) -> Opti
     read_select(alloc, catalog, text, &tokens, first).err()
 }
 
-/// The place of the first statement and token at which a SELECT is found, or is not, against what is told.
+/// The place of the first statement and token at which a SELECT is found, or is not, against what is given.
 pub(crate) fn first_place(alloc: Global, catalog: &Catalog, rows: &[Place]) -> Option<usize> {
     for n in 0..rows.len() {
         let (text, first, place) = rows[n];
@@ -127,8 +127,8 @@ pub(crate) fn first_behind(alloc: Global, catalog: &Catalog, rows: &[Behind]) ->
     None
 }
 
-/// Statements that begin with CREATE INDEX, the places of the names of the candidate behind that, whose name is `i` and which has
-/// a predicate, and the place of its method.
+/// Statements that begin with CREATE INDEX, the places of the names of the candidate behind that, whose name is `i` and which
+/// has a predicate, and the place of its method.
 pub(crate) type Candidate<'a> = (&'a [u8], &'a [u32], u32);
 
 const READ: [Candidate; 1] = [(

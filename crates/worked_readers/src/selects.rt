@@ -590,7 +590,7 @@ pub(crate) fn first_order<'a>(
     None
 }
 
-/// The place of the first SELECT that passes another limit than told, at its first word.
+/// The place of the first SELECT that passes another limit than given, at its first word.
 pub(crate) fn first_long(alloc: Global, catalog: &Catalog, rows: &[Long]) -> Option<usize> {
     for n in 0..rows.len() {
         let (head, part, tail, count, limit) = rows[n];

@@ -170,7 +170,7 @@ fn see<C: Counters>(
     }
 }
 
-/// Whether a call does as told.
+/// Whether a call does as given.
 fn is_done<C: Counters>(
     at: &Scene<C>,
     case: Case,
@@ -190,7 +190,7 @@ fn is_done<C: Counters>(
         && after.looks.saturating_sub(before.looks) <= case.5
 }
 
-/// Whether a call does as told over these tables.
+/// Whether a call does as given over these tables.
 fn is_done_over<C: Counters>(
     alloc: Global,
     cat: &Catalog,
@@ -239,7 +239,7 @@ fn are_made<C: Counters>(
     true
 }
 
-/// Whether a case is as told, counted with these ledgers.
+/// Whether a case is as given, counted with these ledgers.
 fn is_counted<L: Ledger, M: Ledger>(
     alloc: Global,
     fetching: Blank,
@@ -262,12 +262,12 @@ fn is_counted<L: Ledger, M: Ledger>(
         && is_done_over(alloc, &cat, &store, case, &mut fetches, &mut reads)
 }
 
-/// Whether a case is as told.
+/// Whether a case is as given.
 fn is_told(alloc: Global, case: Case) -> bool {
     is_counted::<Brand, Brand>(alloc, Blank::new(1), Blank::new(1), case)
 }
 
-/// The place of the first case that is not as told.
+/// The place of the first case that is not as given.
 fn first_other(alloc: Global, cases: &[Case]) -> Option<usize> {
     for n in 0..cases.len() {
         if !is_told(alloc, cases[n]) {

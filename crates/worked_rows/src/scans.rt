@@ -157,8 +157,8 @@ fn see_each<C: Counters>(
     Ok(())
 }
 
-/// The same of a scan of the second relation by the second index, which is given the rows of the first one in turn. It gives
-/// what was counted before.
+/// Sees the rows of a scan of the second relation by the second index, which is given the rows of the first one in turn. The
+/// result is what was counted before.
 pub(crate) fn see_restarts<C: Counters>(
     at: &Scene<C>,
     seen: &mut Seen,

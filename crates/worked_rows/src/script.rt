@@ -94,7 +94,7 @@ pub(crate) fn define<C: Counters>(
 /// The rows of a table of two columns.
 #[derive(Clone, Copy)]
 pub(crate) enum Data<'a> {
-    /// Those of this text.
+    /// The rows of this text.
     Text(&'a [u8]),
     /// 1000 rows; row n, from 0, has n % 100 and n.
     Turns,

@@ -196,7 +196,7 @@ const CHAIN_CLAUSES: [Part; 4] = [
     Part::Two(Sign::Equal, 1, 0, 2, 0),
 ];
 
-/// Their classes, with an order.
+/// The classes of three relations of one class and a comparison beside it, with an order.
 fn chain_of(alloc: Global) -> Result<Classes, Memory> {
     let order = [
         OrderItem {

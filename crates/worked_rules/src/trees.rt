@@ -107,7 +107,7 @@ fn negated(alloc: Global) -> Result<Expr, Memory> {
     not(alloc, Expr::And(outer))
 }
 
-/// The same with its NOT pushed inwards and its lists made one.
+/// NOT of a list within a list, with its NOT pushed inwards and its lists made one.
 fn alternatives(alloc: Global) -> Result<Expr, Memory> {
     let parts = [
         Expr::Compare(Op::Le, left(), five()),

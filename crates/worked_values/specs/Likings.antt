@@ -34,6 +34,6 @@ same-member s t k h g false false e f = refl
 same-member s t k h g true false e f = absurd (true≢false (sym (h k e) ∙ f))
 same-member s t k h g false true e f = absurd (true≢false (sym (g k f) ∙ e))
 
--- so what a query costs with a set it costs with each between the set and itself
+-- what a query costs with a set it costs with each set between that and itself
 pub liked-between : (q s : ℕ) (o : Option ℕ) (t : ℕ) → IsLiked q s o → IsPart s t → IsPart t s → IsLiked q t o
 liked-between q s o t e h g = subst (λ (n : ℕ). IsLiked q n o) (same_set s t (λ k. same-member s t k h g (has s k) (has t k) refl refl)) e

@@ -8,8 +8,8 @@ use group_values::{Form, GroupPlan, GroupTask, choose};
 use pg_base::Memory;
 use std::alloc::Global;
 
-/// A grouping of so many rows with so many calls, by one key with so many different values or by none; the totals of an input in
-/// no order and in that of the key; and the form and the cost of the least plan.
+/// A grouping of so many rows with so many calls, by one key with so many different values or by none; the totals of an input
+/// in no order and in that of the key; and the form and the cost of the least plan.
 #[derive(Clone, Copy)]
 struct Case {
     rows: u64,

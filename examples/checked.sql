@@ -10,8 +10,8 @@ CHECK SELECT at, value FROM device d JOIN reading r ON r.device = d.id WHERE d.s
 1 {d} Seq Scan cost=18000 rows=50 keys=()
 2 {r} Seq Scan cost=32000000 rows=4000000 keys=()
 3 {r} Index Only Scan using reading_device cost=56000172 rows=4000000 keys=(r.device)
-4 {r} for {d} Index Only Scan using reading_device cost=30172 rows=2000 keys=()
-5 {d,r} Nested Loop 1 4 cost=1926600 rows=100000 keys=()
+4 {r} for {d} Index Only Scan using reading_device cost=29980 rows=2000 keys=()
+5 {d,r} Nested Loop 1 4 cost=1917000 rows=100000 keys=()
 6 {d,r} Merge Join by d.id 3 sort 1 cost=60418922 rows=100000 keys=(d.id)
 best 5
 \.
@@ -19,7 +19,7 @@ CHECK SELECT at, value FROM device d JOIN reading r ON r.device = d.id WHERE d.s
 1 {d} Seq Scan cost=18000 rows=50 keys=()
 2 {r} Seq Scan cost=32000000 rows=4000000 keys=()
 3 {r} Index Only Scan using reading_device cost=56000172 rows=4000000 keys=(r.device)
-4 {r} for {d} Index Only Scan using reading_device cost=30172 rows=2000 keys=()
+4 {r} for {d} Index Only Scan using reading_device cost=29980 rows=2000 keys=()
 5 {d,r} Merge Join by d.id 3 sort 1 cost=60418922 rows=100000 keys=(d.id)
 best 5
 \.

@@ -1,4 +1,4 @@
--- Look at the joins of three tables: nested loops with index scans that are given a row of the other side ("for o"), and merges of
+-- Look at the joins of three tables: nested loops with scans by an index that are given a row of the other side ("for o"), and merges of
 -- sorted sides.
 CREATE TABLE customers (id int4 NOT NULL, name text, region int2);
 CREATE TABLE orders (id int4 NOT NULL, customer int4 NOT NULL, status text);

@@ -27,9 +27,9 @@ Nested Loop  (cost=0 rows=112)
 \.
 -- With its own numbers it runs: the same rows by a dearer plan.
 USE PLAN SELECT o.id, total FROM customers c JOIN orders o ON o.customer = c.id WHERE c.name = 'Cay';
-Nested Loop  (cost=321934 rows=112)
+Nested Loop  (cost=305934 rows=112)
   ->  Seq Scan on customers c  (cost=9000 rows=2)
-  ->  Index Scan using orders_customer on orders o for c  (cost=156067 rows=100)
+  ->  Index Scan using orders_customer on orders o for c  (cost=148067 rows=100)
 \.
 -- Without the index, by a merge of two sorts. The rows come in the order of the merge.
 USE PLAN SELECT o.id, total FROM customers c JOIN orders o ON o.customer = c.id WHERE c.name = 'Cay';
@@ -42,6 +42,6 @@ Merge Join by c.id  (cost=4509808 rows=112)
 -- An index scan that is given a row of c stands on the wrong side of the loop: this is no plan of the query.
 USE PLAN SELECT o.id, total FROM customers c JOIN orders o ON o.customer = c.id WHERE c.name = 'Cay';
 Nested Loop  (cost=0 rows=112)
-  ->  Index Scan using orders_customer on orders o for c  (cost=156067 rows=100)
+  ->  Index Scan using orders_customer on orders o for c  (cost=148067 rows=100)
   ->  Seq Scan on customers c  (cost=9000 rows=2)
 \.

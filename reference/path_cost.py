@@ -2,6 +2,7 @@
 
 from __future__ import annotations
 
+from functools import reduce
 from typing import Any, Iterable
 
 from .catalog import ColumnStats, Index
@@ -15,6 +16,28 @@ from .sql_query import Query
 G = 10 ** 9
 MILLION = 10 ** 6
 THIRD = 333333333
+
+
+def is_bound(e: Expr) -> bool:
+    """Whether a condition bounds a column from one side by a literal."""
+    return e[0] == "compare" and e[1] in ("<", "<=", ">", ">=") and e[2][0] == "column" and e[3][0] == "literal" and e[3][2] is not None
+
+
+def place(op: str, histogram: list, value: Any) -> tuple[int, int]:
+    """The parts of a whole before a literal in a histogram, linear between two bounds of whole numbers, and the whole."""
+    steps = 2 * (len(histogram) - 1)
+    j = sum(1 for b in histogram if (b < value if op in ("<", ">=") else b <= value))
+    if j in (0, len(histogram)):
+        return (steps if j else 0), steps
+    if isinstance(value, bool) or not isinstance(value, int):
+        return 2 * j - 1, steps
+    width, half = histogram[j] - histogram[j - 1], -1 if op in ("<", ">=") else 1
+    return (2 * j - 2) * width + 2 * (value - histogram[j - 1]) + half, steps * width
+
+
+def cost_of_run(runs: int, rows: int, pages: int, each: int) -> int:
+    """What one of so many runs pays for the pages that the rows of all runs stand on."""
+    return ceil_div(heap_pages(rows * runs, pages) * each, runs)
 
 
 class Estimates:
@@ -47,8 +70,10 @@ class Estimates:
     def _share(self, e: Expr) -> int:
         """The share of a condition, by its form."""
         head = e[0]
-        if head in ("and", "or"):
-            return self._series(head, e[1])
+        if head == "and":
+            return reduce(lambda a, b: a * b // G, self.weights(e[1]))
+        if head == "or":
+            return reduce(lambda a, b: a + b - a * b // G, map(self.share, e[1]))
         if head == "not":
             return G - self.share(e[1])
         if head == "constant":
@@ -59,13 +84,6 @@ class Estimates:
             return self._comparison(e[1], e[2], e[3])
         null = self._null_share(e[1], e[2])
         return null if head == "isnull" else G - null
-
-    def _series(self, head: str, parts: tuple) -> int:
-        """The share of an AND or an OR, from the left."""
-        first, *rest = [self.share(p) for p in parts]
-        for b in rest:
-            first = first * b // G if head == "and" else first + b - first * b // G
-        return first
 
     def _null_share(self, relation: int, column: int) -> int:
         """The share of IS NULL."""
@@ -109,25 +127,46 @@ class Estimates:
         others = MILLION - s.nulls - sum(share for _, share in s.common)
         return 1000 * others // max(1, s.distinct - len(s.common))
 
-    @staticmethod
-    def _inequality(op: str, s: ColumnStats, value: Any) -> int:
-        """The share of an inequality with a literal, of a column with a histogram, in half steps."""
-        k = len(s.histogram)
-        steps = 2 * (k - 1)
-        j = sum(1 for b in s.histogram if (b < value if op in ("<", ">=") else b <= value))
-        h = 0 if j == 0 else steps if j == k else 2 * j - 1
+    def _inequality(self, op: str, s: ColumnStats, value: Any) -> int:
+        """The share of an inequality with a literal, of a column with a histogram."""
+        parts, whole = place(op, s.histogram, value)
         if op in (">", ">="):
-            h = steps - h
+            parts = whole - parts
         met = sum(share for common, share in s.common if TESTS[op](common, value))
         others = MILLION - s.nulls - sum(share for _, share in s.common)
-        return 1000 * met + 1000 * others * h // steps
+        return 1000 * met + 1000 * others * parts // whole
+
+    # -- what the conditions of a list multiply with
+
+    def weights(self, exprs: Iterable[Expr]) -> list[int]:
+        """What each condition of a list multiplies with: its share; but of the bounds of a column that has a histogram and
+        bounds from both sides the first has the share of the range, and the others keep all rows."""
+        exprs = list(exprs)
+        out = [self.share(e) for e in exprs]
+        ends: dict[Operand, tuple[list[int], list[int]]] = {}
+        for n, e in enumerate(exprs):
+            if is_bound(e) and self._stats(*e[2][1:]).histogram:
+                ends.setdefault(e[2], ([], []))[e[1] in ("<", "<=")].append(n)
+        for column, (lower, upper) in ends.items():
+            if lower and upper:
+                share = self._range(self._stats(*column[1:]), min(out[n] for n in lower), min(out[n] for n in upper))
+                out = [G if n in lower or n in upper else own for n, own in enumerate(out)]
+                out[min(lower + upper)] = share
+        return out
+
+    @staticmethod
+    def _range(s: ColumnStats, lower: int, upper: int) -> int:
+        """The share of both ends of a range: at least that of one value, and no more than each end has."""
+        others = MILLION - s.nulls - sum(share for _, share in s.common)
+        one = 1000 * others // max(1, s.distinct - len(s.common))
+        return max(lower + upper - 1000 * (MILLION - s.nulls), min(lower, upper, one))
 
     # -- rows
 
     def fold(self, rows: int, exprs: Iterable[Expr]) -> int:
-        """What rows become by conditions taken in turn."""
-        for e in exprs:
-            rows = max(1, ceil_div(rows * self.share(e), G))
+        """What rows, however many, become by the conditions of a list taken in turn."""
+        for weight in self.weights(exprs):
+            rows = max(1, ceil_div(rows * weight, G))
         return clamp(rows)
 
     def fold_clauses(self, rows: int, clauses: Iterable[int]) -> int:
@@ -151,7 +190,7 @@ class Estimates:
         if s not in self._rows:
             product = 1
             for r in bits(s):
-                product = clamp(product * self.table_rows(r))
+                product *= self.table_rows(r)
             self._rows[s] = self.fold_clauses(product, self.c.all(s))
         return self._rows[s]
 
@@ -162,6 +201,10 @@ class Estimates:
         if (r, p) not in self._rows_given:
             self._rows_given[r, p] = self.fold_clauses(self.table_rows(r), self.c.base(r) + self.c.param(r, p))
         return self._rows_given[r, p]
+
+    def runs(self, p: int) -> int:
+        """For how many runs a scan is priced that is given a row of each of p: the fewest rows that one of them has."""
+        return min((self.rows(1 << r) for r in bits(p)), default=1)
 
     def index_size(self, index: Index, r: int) -> tuple[int, int, int]:
         """The entries, leaf pages and height of an index."""
@@ -197,19 +240,23 @@ class Costs:
         entries, _, levels = self.est.index_size(index, r)
         return log2up(max(entries, 2)) + 50 * (levels + 1)
 
-    def part(self, index: Index, r: int, bounds: list[Expr], conditions: int) -> int:
-        """An index's own part, with so many conditions, of which some are bounds."""
+    def part(self, index: Index, place: tuple[int, int], bounds: list[Expr], conditions: int) -> int:
+        """An index's own part in a scan of a relation that is given a row of each of a set, with so many conditions, of which
+        some are bounds."""
+        r, p = place
         entries, leaves, _ = self.est.index_size(index, r)
         looked_at = min(entries, self.est.fold(self.est.table_rows(r), bounds))
-        return self.descent(index, r) + ceil_div(looked_at * leaves, entries) * 1600 + looked_at * (2 + conditions)
+        read, runs = ceil_div(looked_at * leaves, entries), self.est.runs(p)
+        pages = read * 1600 if runs == 1 else cost_of_run(runs, read, leaves, 1600)
+        return self.descent(index, r) + pages + looked_at * (2 + conditions)
 
     def index(self, index: Index, r: int, p: int, bounds: Clauses, conditions: Clauses, only: bool) -> Cost:
         """The cost of an index scan, or of an index-only scan."""
         entries = self.est.index_size(index, r)[0]
         rows = min(entries, self.est.fold_clauses(self.est.table_rows(r), conditions))
-        total = self.part(index, r, self.est.exprs(bounds), len(conditions))
+        total = self.part(index, (r, p), self.est.exprs(bounds), len(conditions))
         if not only:
-            total += heap_pages(rows, self.est.pages(r)) * 1600
+            total += cost_of_run(self.est.runs(p), rows, self.est.pages(r), 1600)
         rest = set(self.c.base(r) + self.c.param(r, p)) - set(conditions)
         return self.descent(index, r), total + rows * (4 + self.operators(rest))
 
@@ -217,6 +264,6 @@ class Costs:
         """The cost of a bitmap scan by the clauses of its indexes, whose parts come to this."""
         rows = self.est.fold_clauses(self.est.table_rows(r), used)
         pages = self.est.pages(r)
-        read = heap_pages(rows, pages)
+        each = 1600 - 1200 * heap_pages(rows, pages) // pages
         tests = self.operators(set(self.c.base(r) + self.c.param(r, p)))
-        return parts, parts + read * (1600 - 1200 * read // pages) + rows * (4 + tests)
+        return parts, parts + cost_of_run(self.est.runs(p), rows, pages, each) + rows * (4 + tests)

@@ -7,7 +7,7 @@ from typing import Iterable, Iterator, Sequence
 
 from . import cost_rules
 from .catalog import Index
-from .cost_rules import TOO_MUCH, Cost, clamp
+from .cost_rules import TOO_MUCH, Cost
 from .eq_classes import Keys, OrderItem
 from .index_match import Matching
 from .opfamily import default_family
@@ -91,18 +91,18 @@ class Space:
             self._elements[r, p] = out[:MOST_ELEMENTS]
         return self._elements[r, p]
 
-    def arm_part(self, index: Index, r: int, arm: Expr) -> int:
-        """What an index costs for an arm that it answers wholly."""
-        parts, bounds = self.match.arm(index, r, arm) or ([], [])
-        return self.costs.part(index, r, bounds, len(parts))
+    def arm_part(self, index: Index, place: tuple[int, int], arm: Expr) -> int:
+        """What an index costs for an arm that it answers wholly, in a scan of a relation that is given a row of each of a set."""
+        parts, bounds = self.match.arm(index, place[0], arm) or ([], [])
+        return self.costs.part(index, place, bounds, len(parts))
 
     def _element_part(self, tree: Bits, r: int, p: int) -> tuple[set[int], int]:
         """The clauses that an element of a bitmap uses, and what its indexes cost."""
         if tree[0] == "leaf":
             conditions, bounds = self.match.conditions(tree[1], r, p)
-            return set(conditions), self.costs.part(tree[1], r, self.est.exprs(bounds), len(conditions))
+            return set(conditions), self.costs.part(tree[1], (r, p), self.est.exprs(bounds), len(conditions))
         arms = self.c.clauses[tree[1]].expr[1]
-        parts = sum(self.arm_part(index, r, arm) for index, arm in zip(tree[2], arms))
+        parts = sum(self.arm_part(index, (r, p), arm) for index, arm in zip(tree[2], arms))
         return {tree[1]}, parts + 100 * (len(arms) - 1)
 
     def _bitmap(self, plan: Plan) -> Path | None:
@@ -136,7 +136,7 @@ class Space:
 
     def _bitmaps(self, r: int, p: int) -> Iterator[Plan]:
         """The bitmap scans by each set of elements, with the index of least cost for each arm."""
-        trees = [self._cheapest(e, r) for e in self.elements(r, p)]
+        trees = [self._cheapest(e, (r, p)) for e in self.elements(r, p)]
         reach = [self.others(self.match.conditions(t[1], r, p)[0] if t[0] == "leaf" else (t[1],), r) for t in trees]
         for chosen in range(1, 1 << len(trees)):
             picked, mask = bits(chosen), 0
@@ -146,12 +146,12 @@ class Space:
                 parts = tuple(trees[n] for n in picked)
                 yield ("bitmap", r, p, parts[0] if len(parts) == 1 else ("and", parts))
 
-    def _cheapest(self, element: tuple, r: int) -> Bits:
+    def _cheapest(self, element: tuple, place: tuple[int, int]) -> Bits:
         """An element with the index of least cost for each arm."""
         if element[0] == "leaf":
             return element
         arms = self.c.clauses[element[1]].expr[1]
-        chosen = (min(choice, key=lambda i: self.arm_part(i, r, arm)) for choice, arm in zip(element[2], arms))
+        chosen = (min(choice, key=lambda i: self.arm_part(i, place, arm)) for choice, arm in zip(element[2], arms))
         return ("or", element[1], tuple(chosen))
 
     # -- joins; those with `_path` take parts that are known to fit
@@ -188,7 +188,7 @@ class Space:
         """The pairs with equal keys, and the operators of the other clauses that join two sets."""
         pairs = {self.c.pair(n, s1, s2) for n in keys}
         rest = [n for n in self.c.join(s1, s2) if n not in pairs]
-        return self.est.fold_clauses(clamp(self.est.rows(s1) * self.est.rows(s2)), pairs), self.costs.operators(rest)
+        return self.est.fold_clauses(self.est.rows(s1) * self.est.rows(s2), pairs), self.costs.operators(rest)
 
     def side_cost(self, side: MergeSide) -> Cost:
         """The cost of a side of a merge."""

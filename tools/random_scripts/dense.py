@@ -14,6 +14,8 @@ BY_SIZE = ["|<|", "|<=|", "|=|", "|>=|", "|>|"]
 KINDS = {"int2": "int", "int4": "int", "int8": "int", "text": "text", "bool": "bool"}
 # Columns by their numbers.
 Columns = Sequence[int]
+# How literals of a kind are sorted.
+ORDERS = {"int": int, "text": str, "bool": lambda value: value == "TRUE"}
 INTS = [n for n, (_, typed) in enumerate(COLUMNS) if KINDS[typed] == "int"]
 ALL = range(len(COLUMNS))
 
@@ -48,8 +50,15 @@ def comparison(rng: Random, columns: Columns, aliases: Sequence[str]) -> str:
     return f"{other} {op} {own}" if rng.random() < 0.15 else f"{own} {op} {other}"
 
 
+def both_ends(rng: Random, own: str, kind: str) -> str:
+    """Bounds of a column from both sides, in any order, with a value between them or with one at both ends."""
+    low, high = sorted((literal(rng, kind) for _ in range(2)), key=ORDERS[kind])
+    bounds = [f"{own} {rng.choice(['>', '>='])} {low}", f"{own} {rng.choice(['<', '<='])} {high}"]
+    return f"({' AND '.join(rng.sample(bounds, 2))})"
+
+
 def atom(rng: Random, columns: Columns, aliases: Sequence[str] = ()) -> str:
-    """A comparison, IN, BETWEEN, a null test, a boolean column or a constant."""
+    """A comparison, IN, BETWEEN, both ends of a range, a null test, a boolean column or a constant."""
     column, chance = rng.choice(columns), rng.random()
     kind, own, negated = kind_of(column), name(rng, column, aliases), rng.choice(["", "", "NOT "])
     if chance < 0.12:
@@ -62,6 +71,8 @@ def atom(rng: Random, columns: Columns, aliases: Sequence[str] = ()) -> str:
         return f"{own} {negated}IN ({', '.join(literal(rng, kind) for _ in range(rng.choice([1, 2, 2, 3, 4])))})"
     if chance < 0.36:
         return f"{own} {negated}BETWEEN {literal(rng, kind)} AND {literal(rng, kind)}"
+    if chance < 0.46:
+        return both_ends(rng, own, kind)
     return comparison(rng, columns, aliases)
 
 
@@ -113,9 +124,8 @@ def statistics(rng: Random, t: str, column: int) -> str:
             left -= share
     distinct = max(1, len(common), rng.choice([1, 2, 100, rng.randint(1, 10 ** rng.randint(1, 9)), 10**9]))
     text = f"STATISTICS {t}.{own} DISTINCT {distinct} NULLS {nulls}" + (f" COMMON ({', '.join(common)})" if common else "")
-    if rng.random() < 0.4:
-        order = {"int": int, "text": str, "bool": lambda value: value == "TRUE"}[kind]
-        bounds = sorted((literal(rng, kind) for _ in range(rng.choice([2, 3, 6, 20]))), key=order)
+    if rng.random() < 0.6:
+        bounds = sorted((literal(rng, kind) for _ in range(rng.choice([2, 3, 6, 20]))), key=ORDERS[kind])
         text += f" HISTOGRAM ({', '.join(bounds)})"
     return text + ";"
 

@@ -99,54 +99,60 @@ module _ (P : IndexNo → Type 0) (f : IndexNo → ℕ) where
       by (inl there) = absurd (true≢false (sym (subst (λ (ys : List IndexNo). is-listed j ys ≡ true) (drop_of_length-le xs le) there)))
       by (inr beaten) = beaten
 
+  -- so what is found in the end has the property, and its number is not above that of any other that has it
+  pub best-found : (xs : List IndexNo) (k : ℕ) (x : IndexNo × ℕ) (best : Option (IndexNo × ℕ)) → length xs ≤ k → best ≡ Some x → BestSoFar (drop k xs) best → P x.0 × ((j : IndexNo) → P j → f x.0 ≤ f j)
+  best-found xs k x best le e h =
+      let last : BestSoFar (drop k xs) (Some x) = subst (λ (o : Option (IndexNo × ℕ)). BestSoFar (drop k xs) o) e h in
+      (last.found.0, λ j p. let low : x.1 ≤ f j = best-all xs k (Some x) le last j p in omega (arith, last.found.1, low))
+
 pub zip-push : {A B : Type 0} (R : A → B → Type 0) (xs : List A) (ys : List B) (x : A) (y : B) → AllZip R xs ys → R x y → AllZip R (xs ++ x ∷ []) (ys ++ y ∷ [])
 zip-push R [] [] x y z h = (h, tt)
 zip-push R [] (w ∷ ys) x y z h = absurd z
 zip-push R (v ∷ xs) [] x y z h = absurd z
 zip-push R (v ∷ xs) (w ∷ ys) x y z h = (z.0, zip-push R xs ys x y z.1 h)
 
-module _ (c : Contents) (q : Query) (r : RelNo) where
-  parts-push : (R : Cond → IndexNo → Type 0) (xs : List Cond) (is : List IndexNo) (x : Cond) (i : IndexNo) → AllZip R xs is → parts_of_arms c q r (xs ++ x ∷ []) (is ++ i ∷ []) ≡ parts_of_arms c q r xs is ++ part_for c q r x i ∷ []
+module _ (c : Contents) (q : Query) (r : RelNo) (p : RelSet) where
+  parts-push : (R : Cond → IndexNo → Type 0) (xs : List Cond) (is : List IndexNo) (x : Cond) (i : IndexNo) → AllZip R xs is → parts_of_arms c q r p (xs ++ x ∷ []) (is ++ i ∷ []) ≡ parts_of_arms c q r p xs is ++ part_for c q r p x i ∷ []
   parts-push R [] [] x i z = refl
   parts-push R [] (j ∷ is) x i z = absurd z
   parts-push R (y ∷ xs) [] x i z = absurd z
-  parts-push R (y ∷ xs) (j ∷ is) x i z = ap (λ (ns : List ℕ). part_for c q r y j ∷ ns) (parts-push R xs is x i z.1)
+  parts-push R (y ∷ xs) (j ∷ is) x i z = ap (λ (ns : List ℕ). part_for c q r p y j ∷ ns) (parts-push R xs is x i z.1)
 
-  parts-length : (R : Cond → IndexNo → Type 0) (xs : List Cond) (is : List IndexNo) → AllZip R xs is → length (parts_of_arms c q r xs is) ≡ length is
+  parts-length : (R : Cond → IndexNo → Type 0) (xs : List Cond) (is : List IndexNo) → AllZip R xs is → length (parts_of_arms c q r p xs is) ≡ length is
   parts-length R [] [] z = refl
   parts-length R [] (j ∷ is) z = absurd z
   parts-length R (y ∷ xs) [] z = absurd z
   parts-length R (y ∷ xs) (j ∷ is) z = ap suc (parts-length R xs is z.1)
 
   -- one more arm
-  pub served-more : (xs : List Cond) (is : List IndexNo) (n : ℕ) (x : Cond) (i : IndexNo) (m k : ℕ) → AreServed c q r xs is n → IsLeastMatch c q r x i → m ≡ capped (part_for c q r x i) →
-      ((ns : List ℕ) (l : ℕ) → n ≡ capped (together ns) → capped m ≡ capped l → length is ≡ length ns → k ≡ capped (together (ns ++ l ∷ []))) → AreServed c q r (xs ++ x ∷ []) (is ++ i ∷ []) k
+  pub served-more : (xs : List Cond) (is : List IndexNo) (n : ℕ) (x : Cond) (i : IndexNo) (m k : ℕ) → AreServed c q r p xs is n → IsLeastMatch c q r p x i → m ≡ capped (part_for c q r p x i) →
+      ((ns : List ℕ) (l : ℕ) → n ≡ capped (together ns) → capped m ≡ capped l → length is ≡ length ns → k ≡ capped (together (ns ++ l ∷ []))) → AreServed c q r p (xs ++ x ∷ []) (is ++ i ∷ []) k
   served-more xs is n x i m k h least e joined = record {
-    least = zip-push (IsLeastMatch c q r) xs is x i h.least least;
-    part = joined (parts_of_arms c q r xs is) (part_for c q r x i) h.part (omega (arith, e)) (sym (parts-length (IsLeastMatch c q r) xs is h.least))
-        ∙ ap (λ (ns : List ℕ). capped (together ns)) (sym (parts-push (IsLeastMatch c q r) xs is x i h.least));
+    least = zip-push (IsLeastMatch c q r p) xs is x i h.least least;
+    part = joined (parts_of_arms c q r p xs is) (part_for c q r p x i) h.part (omega (arith, e)) (sym (parts-length (IsLeastMatch c q r p) xs is h.least))
+        ∙ ap (λ (ns : List ℕ). capped (together ns)) (sym (parts-push (IsLeastMatch c q r p) xs is x i h.least));
   }
 
-  matches-of : (xs : List Cond) (is : List IndexNo) → AllZip (IsLeastMatch c q r) xs is → AllZip (MatchesArm c q r.0) xs is
+  matches-of : (xs : List Cond) (is : List IndexNo) → AllZip (IsLeastMatch c q r p) xs is → AllZip (MatchesArm c q r.0) xs is
   matches-of [] [] z = tt
   matches-of [] (j ∷ is) z = absurd z
   matches-of (y ∷ xs) [] z = absurd z
   matches-of (y ∷ xs) (j ∷ is) z = (z.0.matches, matches-of xs is z.1)
 
   -- any other matching indexes have no lesser parts
-  least-sums : (xs : List Cond) (is js : List IndexNo) → AllZip (IsLeastMatch c q r) xs is → AllZip (MatchesArm c q r.0) xs js → capped (sum (parts_of_arms c q r xs is)) ≤ capped (sum (parts_of_arms c q r xs js))
-  least-sums [] [] [] z w = le_refl (capped (sum (parts_of_arms c q r [] [])))
+  least-sums : (xs : List Cond) (is js : List IndexNo) → AllZip (IsLeastMatch c q r p) xs is → AllZip (MatchesArm c q r.0) xs js → capped (sum (parts_of_arms c q r p xs is)) ≤ capped (sum (parts_of_arms c q r p xs js))
+  least-sums [] [] [] z w = le_refl (capped (sum (parts_of_arms c q r p [] [])))
   least-sums [] [] (k ∷ js) z w = absurd w
   least-sums [] (j ∷ is) js z w = absurd z
   least-sums (y ∷ xs) [] js z w = absurd z
   least-sums (y ∷ xs) (j ∷ is) [] z w = absurd w
   least-sums (y ∷ xs) (j ∷ is) (k ∷ js) z w =
-      capped-cons (part_for c q r y j) (part_for c q r y k) (parts_of_arms c q r xs is) (parts_of_arms c q r xs js) (z.0.least k w.0) (least-sums xs is js z.1 w.1)
+      capped-cons (part_for c q r p y j) (part_for c q r p y k) (parts_of_arms c q r p xs is) (parts_of_arms c q r p xs js) (z.0.least k w.0) (least-sums xs is js z.1 w.1)
 
-  least-parts : (xs : List Cond) (is js : List IndexNo) → AllZip (IsLeastMatch c q r) xs is → AllZip (MatchesArm c q r.0) xs js → capped (together (parts_of_arms c q r xs is)) ≤ capped (together (parts_of_arms c q r xs js))
+  least-parts : (xs : List Cond) (is js : List IndexNo) → AllZip (IsLeastMatch c q r p) xs is → AllZip (MatchesArm c q r.0) xs js → capped (together (parts_of_arms c q r p xs is)) ≤ capped (together (parts_of_arms c q r p xs js))
   least-parts xs is js z w =
-      capped-together (parts_of_arms c q r xs is) (parts_of_arms c q r xs js)
-      (parts-length (IsLeastMatch c q r) xs is z ∙ sym (same-many xs is (matches-of xs is z)) ∙ same-many xs js w ∙ sym (parts-length (MatchesArm c q r.0) xs js w)) (least-sums xs is js z w)
+      capped-together (parts_of_arms c q r p xs is) (parts_of_arms c q r p xs js)
+      (parts-length (IsLeastMatch c q r p) xs is z ∙ sym (same-many xs is (matches-of xs is z)) ∙ same-many xs js w ∙ sym (parts-length (MatchesArm c q r.0) xs js w)) (least-sums xs is js z w)
     where
       same-many : (ys : List Cond) (ks : List IndexNo) → AllZip (MatchesArm c q r.0) ys ks → length ys ≡ length ks
       same-many [] [] v = refl
@@ -154,21 +160,20 @@ module _ (c : Contents) (q : Query) (r : RelNo) where
       same-many (y ∷ ys) [] v = absurd v
       same-many (y ∷ ys) (k ∷ ks) v = ap suc (same-many ys ks v.1)
 
-  module _ (p : RelSet) where
-    clause-other : (n : ℕ) (is : List IndexNo) → AllZip (IsLeastMatch c q r) (arms_of (condition_at q n)) is → (other : BitTree) → element_of c q r.0 (has p.0) other ≡ Some (by_clause n) → HasArms c q r.0 (has p.0) other →
-        capped (part_of c q r p (some_arm n is)) ≤ capped (part_of c q r p other)
-    clause-other n is z (leaf i) e w = absurd (cc)
-    clause-other n is z (all_hold bs) e w = absurd w
-    clause-other n is z (some_arm m js) e w =
-        let same : n ≡ m = cc in
-        subst (λ (k : ℕ). capped (part_of c q r p (some_arm n is)) ≤ capped (part_of c q r p (some_arm k js))) same
-        (least-parts (arms_of (condition_at q n)) is js z (subst (λ (k : ℕ). AllZip (MatchesArm c q r.0) (arms_of (condition_at q k)) js) (sym same) w))
+  clause-other : (n : ℕ) (is : List IndexNo) → AllZip (IsLeastMatch c q r p) (arms_of (condition_at q n)) is → (other : BitTree) → element_of c q r.0 (has p.0) other ≡ Some (by_clause n) → HasArms c q r.0 (has p.0) other →
+      capped (part_of c q r p (some_arm n is)) ≤ capped (part_of c q r p other)
+  clause-other n is z (leaf i) e w = absurd (cc)
+  clause-other n is z (all_hold bs) e w = absurd w
+  clause-other n is z (some_arm m js) e w =
+      let same : n ≡ m = cc in
+      subst (λ (k : ℕ). capped (part_of c q r p (some_arm n is)) ≤ capped (part_of c q r p (some_arm k js))) same
+      (least-parts (arms_of (condition_at q n)) is js z (subst (λ (k : ℕ). AllZip (MatchesArm c q r.0) (arms_of (condition_at q k)) js) (sym same) w))
 
-    -- an OR clause with the matching index of least part for each arm
-    pub clause-least : (n : ℕ) (xs : List Cond) (is : List IndexNo) (m : ℕ) → arms_of (condition_at q n) ≡ xs → AreServed c q r xs is m → IsLeastTree c q r p (by_clause n) (some_arm n is)
-    clause-least n xs is m e h =
-        let z : AllZip (IsLeastMatch c q r) (arms_of (condition_at q n)) is = subst (λ (ys : List Cond). AllZip (IsLeastMatch c q r) ys is) (sym e) h.least in
-        record { element = refl; arms = matches-of (arms_of (condition_at q n)) is z; least = clause-other n is z }
+  -- an OR clause with the matching index of least part for each arm
+  pub clause-least : (n : ℕ) (xs : List Cond) (is : List IndexNo) (m : ℕ) → arms_of (condition_at q n) ≡ xs → AreServed c q r p xs is m → IsLeastTree c q r p (by_clause n) (some_arm n is)
+  clause-least n xs is m e h =
+      let z : AllZip (IsLeastMatch c q r p) (arms_of (condition_at q n)) is = subst (λ (ys : List Cond). AllZip (IsLeastMatch c q r p) ys is) (sym e) h.least in
+      record { element = refl; arms = matches-of (arms_of (condition_at q n)) is z; least = clause-other n is z }
 
-    pub clause-part : (n : ℕ) (xs : List Cond) (is : List IndexNo) (m : ℕ) → arms_of (condition_at q n) ≡ xs → AreServed c q r xs is m → m ≡ capped (part_of c q r p (some_arm n is))
-    clause-part n xs is m e h = h.part ∙ ap (λ (ys : List Cond). capped (together (parts_of_arms c q r ys is))) (sym e)
+  pub clause-part : (n : ℕ) (xs : List Cond) (is : List IndexNo) (m : ℕ) → arms_of (condition_at q n) ≡ xs → AreServed c q r p xs is m → m ≡ capped (part_of c q r p (some_arm n is))
+  clause-part n xs is m e h = h.part ∙ ap (λ (ys : List Cond). capped (together (parts_of_arms c q r p ys is))) (sym e)

@@ -12,10 +12,11 @@ use Rattle.catalog.specs.Contents.{Contents}
 use Rattle.eq_classes.specs.Clauses.{Set, one}
 use Rattle.sql_query.specs.Queries.{Query, width}
 use Rattle.cost_rules.specs.Costs.{IsAtMost, capped, capped_pair, pair, row_cost}
-use Rattle.cost_rules.specs.Scans.{bitmap_scan_cost, heap_pages_of, page_in_order}
+use Rattle.cost_rules.specs.Scans.{bitmap_scan_cost, heap_pages_of, page_in_order, run_cost}
 use Rattle.cost_rules.specs.declared.parameters.TheConstants.{MOST_COST}
 use Rattle.path_cost.specs.Costs.{bitmap_cost, local_operators, rows_after}
 use Rattle.path_cost.specs.Estimates.{conditions_from, table_pages}
+use Rattle.path_cost.specs.Runs.{runs}
 use Rattle.plan_tree.specs.Plans.{Plan, seq, index, index_only, bitmap, sort, nest, merge, BitTree, param_of, param_in, is_empty}
 use Rattle.plan_tree.specs.Bitmaps.{Element, MOST_ELEMENTS, AreElements, IsElement, IsTreeOver, candidates, uses}
 use Rattle.plan_tree.specs.Costs.{cost, part_of}
@@ -54,10 +55,9 @@ cut-first n m e = omega (arith, e)
 cut-sum : (n m a b : ℕ) → n ≡ capped m → capped (n + a + b) ≡ capped (m + a + b)
 cut-sum n m a b e = omega (arith, e)
 
-scan-cut : (n m rows pages ops : ℕ) → n ≡ capped m → capped_pair (bitmap_scan_cost n rows pages ops) ≡ capped_pair (bitmap_scan_cost m rows pages ops)
-scan-cut n m rows pages ops e =
-    let x = heap_pages_of rows pages in
-    ap₂ (λ (s t : ℕ). pair s t) (cut-first n m e) (cut-sum n m (x * page_in_order x pages) (rows * row_cost ops) e)
+scan-cut : (runs n m rows pages ops : ℕ) → n ≡ capped m → capped_pair (bitmap_scan_cost runs n rows pages ops) ≡ capped_pair (bitmap_scan_cost runs m rows pages ops)
+scan-cut runs n m rows pages ops e =
+    ap₂ (λ (s t : ℕ). pair s t) (cut-first n m e) (cut-sum n m (run_cost runs rows pages (page_in_order (heap_pages_of rows pages) pages)) (rows * row_cost ops) e)
 
 module _ (c : Contents) (q : Query) where
   bitmap-rises : (r : RelNo) (p : RelSet) (u v : ℕ → Bool) (m n : ℕ) → u ≡ v → capped m ≤ capped n →
@@ -107,7 +107,7 @@ module _ (c : Contents) (q : Query) where
         capped_pair (bitmap_cost c q.range q.classes r.0 (has p.0) used n) ≡ capped_pair (cost c q (bitmap r p b))
     cost-cut used b n same e =
         ap (λ (f : ℕ → Bool). capped_pair (bitmap_cost c q.range q.classes r.0 (has p.0) f n)) (λ i k. same k i)
-        ∙ scan-cut n (part_of c q r p b) (rows_after c q.range q.classes r.0 (uses c q r.0 (has p.0) b)) (table_pages c q.range r.0) (local_operators c q.range q.classes r.0 (has p.0)) e
+        ∙ scan-cut (runs c q.range q.classes (has p.0)) n (part_of c q r p b) (rows_after c q.range q.classes r.0 (uses c q r.0 (has p.0) b)) (table_pages c q.range r.0) (local_operators c q.range q.classes r.0 (has p.0)) e
 
     -- a plan of the relation and the parameterisation that is a bitmap scan
     record IsOver (t : Plan) : Type 0 where

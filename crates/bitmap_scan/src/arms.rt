@@ -18,7 +18,7 @@ ghost use Rattle.bitmap_scan.specs.Arms.{IsLeastMatch, part_for, AreArmsMatched,
 
 use catalog::Catalog;
 use path_cost::{BITMAP_CHILD, MOST_COST};
-use pg_base::{IndexNo, Memory, RelNo, TableNo};
+use pg_base::{IndexNo, Memory, RelNo, RelSet, TableNo};
 use pg_expr::Expr;
 use plan_tree::{arm_part_of, matches_arm, range_of};
 use sql_query::Prepared;
@@ -60,20 +60,20 @@ fn table_of(q: &Prepared, r: RelNo) -> TableNo
     range_of(q).items()[r.0 as usize].0
 }
 
-/// The matching index of least part for an arm, and its part, cut to at most 10^18.
-fn least_match(cat: &Catalog, q: &Prepared, r: RelNo, arm: &Expr) -> (IndexNo, u64)
+/// The matching index of least part for an arm where the rows of `p` are given, and its part, cut to at most 10^18.
+fn least_match(cat: &Catalog, q: &Prepared, r: RelNo, p: RelSet, arm: &Expr) -> (IndexNo, u64)
     requires query { IsOverTables cat.now q.now }
     requires relation { r.0 < width q.now }
     requires over { IsOver cat.now q.now.range (cond arm.now) }
     requires few { atom_count (cond arm.now) ≤ MOST_ATOMS }
     requires some { (i : IndexNo) × MatchesArm cat.now q.now r.0 (cond arm.now) i }
-    ensures least { IsLeastMatch cat.now q.now r (cond arm.now) result.0 }
-    ensures part { result.1 ≡ capped (part_for cat.now q.now r (cond arm.now) result.0) }
+    ensures least { IsLeastMatch cat.now q.now r p (cond arm.now) result.0 }
+    ensures part { result.1 ≡ capped (part_for cat.now q.now r p (cond arm.now) result.0) }
 {
     let mut best = None;
     for i in cat.indexes(table_of(q, r)) {
         if matches_arm(cat, q, r, arm, *i) {
-            best = lesser(best, *i, arm_part_of(cat, q, r, arm, *i));
+            best = lesser(best, *i, arm_part_of(cat, q, r, p, arm, *i));
         }
     }
     match best {
@@ -82,13 +82,14 @@ fn least_match(cat: &Catalog, q: &Prepared, r: RelNo, arm: &Expr) -> (IndexNo, u
     }
 }
 
-/// The matching index of least part for each of some arms, and their parts together, cut to at most 10^18. The error
-/// means want of memory.
+/// The matching index of least part for each of some arms where the rows of `p` are given, and their parts together, cut to at
+/// most 10^18. The error means out of memory.
 pub(crate) fn least_matches(
     alloc: Global,
     cat: &Catalog,
     q: &Prepared,
     r: RelNo,
+    p: RelSet,
     arms: &[Expr],
 ) -> Result<(Vec<IndexNo>, u64), Memory>
     requires query { IsOverTables cat.now q.now }
@@ -96,12 +97,12 @@ pub(crate) fn least_matches(
     requires over { All (λ (e : Expr). IsOver cat.now q.now.range (cond e)) arms.now }
     requires few { All (λ (e : Expr). atom_count (cond e) ≤ MOST_ATOMS) arms.now }
     requires some { AreArmsMatched cat.now q.now r arms.now }
-    ensures { IfOk result (λ found. AreArmsServed cat.now q.now r arms.now found.0.items found.1) }
+    ensures { IfOk result (λ found. AreArmsServed cat.now q.now r p arms.now found.0.items found.1) }
 {
     let mut indexes = Vec::new(alloc);
     let mut sum = 0;
     for arm in arms {
-        let (i, part) = least_match(cat, q, r, arm);
+        let (i, part) = least_match(cat, q, r, p, arm);
         sum = with_part(sum, part, indexes.len());
         indexes.push(i)?;
     }

@@ -71,7 +71,7 @@ fn keep_clause(
         Some(arms) => arms,
         None => unreachable!(),
     };
-    let (indexes, part) = least_matches(alloc, cat, q, r, arms)?;
+    let (indexes, part) = least_matches(alloc, cat, q, r, p, arms)?;
     let used = only(q, n);
     let named = others_named(cat, q, r, &used);
     Ok(ElementTree {

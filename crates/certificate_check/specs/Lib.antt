@@ -14,7 +14,6 @@ pub use Rattle.certificate_laws.specs.join_search_SetLemmas as join_search_SetLe
 pub use Rattle.certificate_laws.specs.explain_laws_ParamLemmas as explain_laws_ParamLemmas
 pub use Rattle.certificate_laws.proofs.KeysLemmas as certificate_laws_KeysLemmas
 pub use Rattle.certificate_laws.proofs.NodeLemmas as certificate_laws_NodeLemmas
-pub use Rattle.certificate_laws.proofs.RowsLemmas as certificate_laws_RowsLemmas
 pub use Rattle.certificate_laws.proofs.EntryLemmas as certificate_laws_EntryLemmas
 pub use Rattle.certificate_laws.specs.explain_laws_SplitLemmas as explain_laws_SplitLemmas
 pub use Rattle.certificate_laws.specs.certificate_text_Texts as certificate_text_Texts

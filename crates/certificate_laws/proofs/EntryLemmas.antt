@@ -15,6 +15,7 @@ use Rattle.plan_tree.specs.Keys.{keys_of}
 use Rattle.plan_tree.specs.Plans.{Plan, seq, index, index_only, bitmap, sort, nest, merge, param_of, set_of}
 use Rattle.plan_tree.specs.Space.{IsBuilt}
 use Rattle.plan_tree.proofs.BoundLemmas.{lawful-rows, startup-most}
+use Rattle.plan_tree.proofs.RowsLemmas.{plan-estimate}
 use Rattle.plan_tree.proofs.PathLemmas.{built-below}
 use Rattle.planner.specs.scan_paths_SpaceLemmas.{given-param}
 use Rattle.plan_tree.proofs.GivenLemmas.{read-below}
@@ -30,7 +31,6 @@ use Rattle.certificate_text.specs.HasText.{HasEntryLine, HasKeysText, HasStartup
 use Rattle.certificate_laws.specs.Arms.{HasArmsInOrs}
 use Rattle.certificate_laws.proofs.KeysLemmas.{keys-wider, plan-text}
 use Rattle.certificate_laws.proofs.NodeLemmas.{made-of, node-text, side-few}
-use Rattle.certificate_laws.proofs.RowsLemmas.{estimate-few}
 
 -- a set that has no relation past the query's has those of the query alone
 pub inside : (q : Query) (p : RelSet) → IsOfQuery q p → (k : ℕ) → has p.0 k ≡ true → k < width q
@@ -65,7 +65,7 @@ module _ (c : Contents) (q : Query) (bound : IsWellBound c q) where
         let param : IsSetOf q (has e.param.0) = λ k is. param-inside p built k (of.param_is k ∙ is) in
         let total = at.numbers.total in
         let rows = at.numbers.rows in
-        let most = estimate-few c q p built of.plain in
+        let most = (plan-estimate c q p).most in
         let admissible : (cost c q p).total < 10 ^ 18 = at.has.admissible in
         let within : (k : ℕ) → set_of p k ≡ true → has e.set.0 k ≡ true = λ k is. sym (of.set_is k) ∙ is in
         record {

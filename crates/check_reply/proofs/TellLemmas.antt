@@ -1,8 +1,8 @@
 -- An entry that says what a candidate is tells it, and has a line.
-use Rattle.std.proofs.Common.{◌≡◌, ◌<◌, ◌≤◌, ◌-◌, ◌^◌, ◌⊎◌, inl, inr, ℕ, suc, true, false, List, [], ◌∷◌, ◌++◌, length, refl, sym, ap, subst, ◌∙◌, arith, true≢false}
+use Rattle.std.proofs.Common.{◌≡◌, ◌<◌, ◌≤◌, ◌-◌, ◌^◌, ◌⊎◌, inl, inr, ℕ, suc, true, false, List, [], ◌∷◌, ◌++◌, length, refl, sym, ap, subst, ◌∙◌, arith}
 use Rattle.std.specs.Prelude.{Option, None, Some, codes, drop, option_and_then, slice_get, take}
 use Rattle.std.specs.Fmt.{decimal, digits}
-use Rattle.std.proofs.lemmas.Bool.{cases_lt, false≢true}
+use Rattle.std.proofs.lemmas.Bool.{false≢true}
 use Rattle.std.proofs.lemmas.List.{length-drop}
 use Rattle.bitmap_scan.proofs.KeptLemmas.{all-taken}
 use Rattle.pg_base.specs.Sets.{has}
@@ -18,6 +18,7 @@ use Rattle.plan_tree.specs.Paths.{startup_kept}
 use Rattle.plan_tree.specs.Plans.{Plan, seq, index, index_only, bitmap, sort, nest, merge, is_sort, param_of, set_of}
 use Rattle.plan_tree.specs.Space.{IsBuilt}
 use Rattle.plan_tree.proofs.BoundLemmas.{lawful-rows, startup-most}
+use Rattle.plan_tree.proofs.RowsLemmas.{plan-estimate}
 use Rattle.plan_tree.proofs.PathLemmas.{built-below}
 use Rattle.scan_paths.proofs.SpaceLemmas.{given-param}
 use Rattle.plan_laws.specs.Closed.{AreKeptSides, is_scan}
@@ -25,10 +26,10 @@ use Rattle.plan_tree.proofs.GivenLemmas.{read-below}
 use Rattle.plan_tree.proofs.SetLemmas.{reads-some}
 use Rattle.certificate_check.specs.join_search_SetLemmas.{set-below}
 use Rattle.certificate_check.specs.plan_laws_WellBoundLemmas.{bound-over}
-use Rattle.certificate_check.specs.explain_laws_ParamLemmas.{IsOfQuery, bitmap-param, index-param}
+use Rattle.certificate_check.specs.explain_laws_ParamLemmas.{bitmap-param, index-param}
 use Rattle.plan_check.specs.Certificates.{Certificate, Entry, Node, plan_of, plans_of, unfold_at, unfolded}
 use Rattle.plan_check.specs.Limit.{MOST_ENTRIES}
-use Rattle.plan_check.specs.Tables.{IsEntryPlan, IsStartup}
+use Rattle.plan_check.specs.Tables.{IsEntryPlan}
 use Rattle.plan_check.proofs.UnfoldLemmas.{at-split}
 use Rattle.certificate_check.specs.certificate_text_HasText.{HasEntryLine, HasKeysText, HasStartup, IsSetOf}
 use Rattle.certificate_check.specs.entry_check_PlaceLemmas.{long}
@@ -37,7 +38,6 @@ use Rattle.plan_check.specs.declared.verdict.Plain.{Plain}
 use Rattle.certificate_check.specs.certificate_laws_Arms.{HasArmsInOrs}
 use Rattle.certificate_check.specs.certificate_laws_KeysLemmas.{keys-wider, plan-text}
 use Rattle.certificate_check.specs.certificate_laws_NodeLemmas.{node-text}
-use Rattle.certificate_check.specs.certificate_laws_RowsLemmas.{estimate-few}
 use Rattle.check_reply.specs.Checked.{IsToldBy, with_entry}
 use Rattle.check_reply.specs.Telling.{Tells, entry_with}
 use Rattle.certificate_check.specs.entry_check_PartLemmas.{kept-start as started}
@@ -126,7 +126,7 @@ module _ (c : Contents) (q : Query) (t : Certificate) (node : Plain) (startup to
           let of : IsSetOf q (has set.0) = λ k is. read-below (width q) p k (built-below c q p built) (h.set_is k ∙ is) in
           let given : IsSetOf q (has param.0) = λ k is. param-inside p built k (h.param_is k ∙ is) in
           let within : (k : ℕ) → set_of p k ≡ true → has set.0 k ≡ true = λ k is. sym (h.set_is k) ∙ is in
-          let most = estimate-few c q p built plain in
+          let most = (plan-estimate c q p).most in
           let low : (cost c q p).total < 10 ^ 18 = u.candidate.admissible in
           let total_is = u.total_is in
           let rows_is = u.rows_is in

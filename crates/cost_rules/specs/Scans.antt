@@ -1,6 +1,6 @@
 -- Costs of scans of one table and of its indexes. They are exact: no number is cut. Own, in the manner of PostgreSQL's
 -- cost_seqscan, cost_index and cost_bitmap_heap_scan.
-use Rattle.std.specs.Prelude.{ℕ, ◌+◌, ◌*◌, ◌-◌, ◌/◌, min, max, Bool, cond}
+use Rattle.std.specs.Prelude.{ℕ, ◌+◌, ◌*◌, ◌-◌, ◌/◌, min, max, Bool, cond, nat_eq}
 use Rattle.std.specs.Int.{div_ceil}
 use Rattle.cost_rules.specs.declared.pair.Pair.{Pair}
 use Rattle.cost_rules.specs.declared.parameters.TheConstants.{ENTRIES_PER_PAGE, INDEX_TUPLE, LEVEL, OPERATOR, RANDOM_PAGE, SEQUENTIAL_PAGE}
@@ -27,26 +27,35 @@ heap_pages_of rows pages = min pages (div_ceil (2 * pages * rows) (2 * pages + r
 abbrev pub seq_scan_cost : ℕ → ℕ → ℕ → Pair
 seq_scan_cost pages rows ops = pair 0 (pages * SEQUENTIAL_PAGE + rows * row_cost ops)
 
--- an index's own part, of so many entries: the way down, the part of its pages that the entries looked at have, at
--- random, and each of these entries with so many conditions
-abbrev pub part_cost : ℕ → ℕ → ℕ → ℕ → ℕ
-part_cost descent looked entries conditions =
-    descent + div_ceil (looked * pages_of_entries entries) entries * RANDOM_PAGE + looked * (INDEX_TUPLE + conditions * OPERATOR)
+-- what one of so many runs of a scan pays for pages, at so much a page: those that the rows of all runs touch together,
+-- where each run takes so many rows (index_pages_fetched with loop_count)
+abbrev pub run_cost : ℕ → ℕ → ℕ → ℕ → ℕ
+run_cost runs rows pages price = div_ceil (heap_pages_of (rows * runs) pages * price) runs
 
--- the heap pages of the rows found, at random; none where columns are taken from the entries
-abbrev pub fetch_cost : Bool → ℕ → ℕ → ℕ
-fetch_cost only rows pages = cond only 0 (heap_pages_of rows pages * RANDOM_PAGE)
+-- what one of so many runs pays for so many pages of an index, of all its pages: all of them where there is one run
+abbrev pub leaves_cost : ℕ → ℕ → ℕ → ℕ
+leaves_cost runs leaves pages = cond (nat_eq runs 1) (leaves * RANDOM_PAGE) (run_cost runs leaves pages RANDOM_PAGE)
+
+-- an index's own part in one of so many runs, of so many entries: the way down, the part of its pages that the entries
+-- looked at have, at random, and each of these entries with so many conditions
+abbrev pub part_cost : ℕ → ℕ → ℕ → ℕ → ℕ → ℕ
+part_cost runs descent looked entries conditions =
+    descent + leaves_cost runs (div_ceil (looked * pages_of_entries entries) entries) (pages_of_entries entries) + looked * (INDEX_TUPLE + conditions * OPERATOR)
+
+-- the heap pages of the rows found in one of so many runs, at random; none where columns are taken from the entries
+abbrev pub fetch_cost : ℕ → Bool → ℕ → ℕ → ℕ
+fetch_cost runs only rows pages = cond only 0 (run_cost runs rows pages RANDOM_PAGE)
 
 -- an index scan over the index's part: the heap pages, and each row found with so many operators
-abbrev pub index_scan_cost : ℕ → ℕ → Bool → ℕ → ℕ → ℕ → Pair
-index_scan_cost descent part only rows pages ops = pair descent (part + fetch_cost only rows pages + rows * row_cost ops)
+abbrev pub index_scan_cost : ℕ → ℕ → ℕ → Bool → ℕ → ℕ → ℕ → Pair
+index_scan_cost runs descent part only rows pages ops = pair descent (part + fetch_cost runs only rows pages + rows * row_cost ops)
 
 -- a page of x read in their order, of a heap of so many pages: a random page at first, a sequential one where all are read
 abbrev pub page_in_order : ℕ → ℕ → ℕ
 page_in_order x pages = RANDOM_PAGE - (RANDOM_PAGE - SEQUENTIAL_PAGE) * x / pages
 
--- a bitmap scan over the parts of its indexes: the heap pages in order, and each row with so many operators
-abbrev pub bitmap_scan_cost : ℕ → ℕ → ℕ → ℕ → Pair
-bitmap_scan_cost parts rows pages ops =
-    let x = heap_pages_of rows pages in
-    pair parts (parts + x * page_in_order x pages + rows * row_cost ops)
+-- a bitmap scan over the parts of its indexes in one of so many runs: the heap pages of all runs, each as dear as in the
+-- order of one run, and each row with so many operators
+abbrev pub bitmap_scan_cost : ℕ → ℕ → ℕ → ℕ → ℕ → Pair
+bitmap_scan_cost runs parts rows pages ops =
+    pair parts (parts + run_cost runs rows pages (page_in_order (heap_pages_of rows pages) pages) + rows * row_cost ops)

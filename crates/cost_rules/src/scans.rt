@@ -4,7 +4,7 @@
 ghost use Rattle.std.specs.Prelude.{◌≡◌, ◌≤◌, ◌*◌, ◌^◌};
 ghost use Rattle.cost_rules.specs.declared.parameters.TheConstants.{MOST_COST, MOST_ESTIMATE};
 ghost use Rattle.cost_rules.specs.Costs.{IsCost, IsEstimate, capped, capped_pair, row_cost};
-ghost use Rattle.cost_rules.specs.Scans.{pages_of_entries, height_of, descent_of, heap_pages_of, seq_scan_cost, part_cost, fetch_cost, index_scan_cost, page_in_order, bitmap_scan_cost};
+ghost use Rattle.cost_rules.specs.Scans.{pages_of_entries, height_of, descent_of, heap_pages_of, seq_scan_cost, part_cost, fetch_cost, index_scan_cost, page_in_order, bitmap_scan_cost, run_cost, leaves_cost};
 
 use crate::pair::{Pair, cut};
 use crate::parameters::{
@@ -42,6 +42,35 @@ pub fn heap_pages(rows: u64, pages: u64) -> u64
     (2 * p * t).div_ceil(2 * p + t).min(p) as u64
 }
 
+/// What one of so many runs of a scan pays for pages, at `price` a page: those that the rows of all runs touch together.
+fn run_pages(runs: u64, rows: u64, pages: u64, price: u64) -> u64
+    requires runs { IsEstimate runs }
+    requires rows { rows ≤ MOST_ESTIMATE }
+    requires pages { IsEstimate pages }
+    requires price { price ≤ 1_600 }
+    ensures value { result ≡ run_cost runs rows pages price }
+    ensures most { result ≤ pages * price }
+{
+    let (t, p) = (u128::from(rows) * u128::from(runs), u128::from(pages));
+    let touched = (2 * p * t).div_ceil(2 * p + t).min(p);
+    (touched * u128::from(price)).div_ceil(u128::from(runs)) as u64
+}
+
+/// What one of so many runs pays for so many pages of an index.
+fn leaf_pages(runs: u64, leaves: u64, pages: u64) -> u64
+    requires runs { IsEstimate runs }
+    requires leaves { leaves ≤ MOST_ESTIMATE }
+    requires pages { IsEstimate pages }
+    ensures value { result ≡ leaves_cost runs leaves pages }
+    ensures most { result ≤ 2 ^ 52 }
+{
+    if runs == 1 {
+        leaves * RANDOM_PAGE
+    } else {
+        run_pages(runs, leaves, pages, RANDOM_PAGE)
+    }
+}
+
 /// Rows worked on, each with so many operators.
 fn work(rows: u64, ops: u64) -> u128
     requires { rows ≤ MOST_ESTIMATE }
@@ -64,37 +93,48 @@ pub fn seq_scan(pages: u64, rows: u64, ops: u64) -> Pair
     }
 }
 
-/// An index's own part: the way down, the part of its pages that the entries looked at have, at random, and each of
-/// these entries with so many conditions. No more are looked at than there are.
-pub fn index_entries(descent: u64, looked: u64, entries: u64, conditions: u64) -> u64
+/// An index's own part in one of so many runs: the way down, the part of its pages that the entries looked at have, at
+/// random, and each of these entries with so many conditions. No more are looked at than there are.
+pub fn index_entries(runs: u64, descent: u64, looked: u64, entries: u64, conditions: u64) -> u64
+    requires runs { IsEstimate runs }
     requires descent { descent ≤ MOST_COST }
     requires entries { IsEstimate entries }
     requires looked { looked ≤ entries }
-    ensures part { result ≡ capped (part_cost descent looked entries conditions) }
+    ensures part { result ≡ capped (part_cost runs descent looked entries conditions) }
     ensures reached { descent ≤ result }
     ensures most { result ≤ MOST_COST }
 {
-    let pages = u128::from(looked) * u128::from(index_pages(entries));
-    let read = pages.div_ceil(u128::from(entries)) * u128::from(RANDOM_PAGE);
+    let pages = index_pages(entries);
+    let leaves = (u128::from(looked) * u128::from(pages)).div_ceil(u128::from(entries)) as u64;
+    let read = leaf_pages(runs, leaves, pages);
     let each = u128::from(INDEX_TUPLE) + u128::from(conditions) * u128::from(OPERATOR);
-    cut(u128::from(descent) + read + u128::from(looked) * each)
+    cut(u128::from(descent) + u128::from(read) + u128::from(looked) * each)
 }
 
-/// An index scan over the index's own part, of which the way down comes before the first row: the heap pages of the
-/// rows found, at random, but none where the scan is index-only, and each row with `ops` operators.
-pub fn index_scan(descent: u64, part: u64, only: bool, rows: u64, pages: u64, ops: u64) -> Pair
+/// An index scan in one of so many runs, over the index's own part, of which the way down comes before the first row: the
+/// heap pages of the rows found, at random, but none where the scan is index-only, and each row with `ops` operators.
+pub fn index_scan(
+    runs: u64,
+    descent: u64,
+    part: u64,
+    only: bool,
+    rows: u64,
+    pages: u64,
+    ops: u64,
+) -> Pair
+    requires runs { IsEstimate runs }
     requires descent { descent ≤ part }
     requires part { part ≤ MOST_COST }
     requires rows { IsEstimate rows }
     requires pages { IsEstimate pages }
-    ensures rule { result ≡ capped_pair (index_scan_cost descent part only rows pages ops) }
+    ensures rule { result ≡ capped_pair (index_scan_cost runs descent part only rows pages ops) }
     ensures cost { IsCost result }
     ensures part_of { part ≤ result.total }
 {
     let fetched = if only {
         0
     } else {
-        heap_pages(rows, pages) * RANDOM_PAGE
+        run_pages(runs, rows, pages, RANDOM_PAGE)
     };
     Pair {
         startup: descent,
@@ -102,20 +142,22 @@ pub fn index_scan(descent: u64, part: u64, only: bool, rows: u64, pages: u64, op
     }
 }
 
-/// A bitmap scan over the parts of its indexes, which come before the first row: the heap pages in order, the cheaper
-/// the more of them, and each row with `ops` operators.
-pub fn bitmap_scan(parts: u64, rows: u64, pages: u64, ops: u64) -> Pair
+/// A bitmap scan in one of so many runs, over the parts of its indexes, which come before the first row: the heap pages in
+/// order, the cheaper the more of them one run reads, and each row with `ops` operators.
+pub fn bitmap_scan(runs: u64, parts: u64, rows: u64, pages: u64, ops: u64) -> Pair
+    requires runs { IsEstimate runs }
     requires parts { parts ≤ MOST_COST }
     requires rows { IsEstimate rows }
     requires pages { IsEstimate pages }
-    ensures rule { result ≡ capped_pair (bitmap_scan_cost parts rows pages ops) }
+    ensures rule { result ≡ capped_pair (bitmap_scan_cost runs parts rows pages ops) }
     ensures cost { IsCost result }
     ensures part_of { parts ≤ result.total }
 {
-    let read = heap_pages(rows, pages);
-    let page = RANDOM_PAGE - (RANDOM_PAGE - SEQUENTIAL_PAGE) * read / pages;
+    let one = heap_pages(rows, pages);
+    let page = RANDOM_PAGE - (RANDOM_PAGE - SEQUENTIAL_PAGE) * one / pages;
+    let read = run_pages(runs, rows, pages, page);
     Pair {
         startup: parts,
-        total: cut(u128::from(parts) + u128::from(read * page) + work(rows, ops)),
+        total: cut(u128::from(parts) + u128::from(read) + work(rows, ops)),
     }
 }

@@ -1,5 +1,4 @@
 pub mod PlaceLemmas
-pub mod BoundLemmas
 pub mod PartLemmas
 pub mod NestLemmas
 pub mod MergeLemmas

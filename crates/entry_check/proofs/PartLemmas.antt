@@ -1,7 +1,6 @@
 -- Right entries as sides of joins.
 use Rattle.std.proofs.Common.{◌≡◌, ◌≤◌, ◌<◌, ℕ, Bool, true, false, sym, ap, subst, ◌∙◌, arith}
 use Rattle.std.specs.Prelude.{Option, Some, None}
-use Rattle.std.proofs.lemmas.Bool.{false≢true}
 use Rattle.pg_base.specs.Sets.{has}
 use Rattle.pg_base.specs.declared.rel_set.RelSet.{RelSet}
 use Rattle.catalog.specs.Contents.{Contents}
@@ -10,7 +9,7 @@ use Rattle.cost_rules.specs.declared.pair.Pair.{Pair}
 use Rattle.cost_rules.specs.declared.parameters.TheConstants.{MOST_COST}
 use Rattle.sql_query.specs.Queries.{Query, width}
 use Rattle.sql_query.specs.declared.window.Window.{Window}
-use Rattle.path_cost.specs.Estimates.{set_rows, table_rows}
+use Rattle.path_cost.specs.Estimates.{set_rows}
 use Rattle.pathkeys.specs.Keys.{Keys}
 use Rattle.plan_tree.specs.Costs.{HaveRows, cost, estimate}
 use Rattle.plan_tree.specs.Least.{IsAdmissible}
@@ -21,7 +20,6 @@ use Rattle.plan_tree.proofs.BoundLemmas.{startup-most}
 use Rattle.plan_tree.proofs.PathLemmas.{built-below}
 use Rattle.plan_tree.proofs.WindowLemmas.{path-cost, uncut-kept}
 use Rattle.plan_tree.proofs.GivenLemmas.{read-below}
-use Rattle.plan_tree.proofs.SetLemmas.{reads-some}
 use Rattle.entry_check.specs.Parts.{IsPart, IsReckoned}
 use Rattle.entry_check.specs.declared.work_parts.Part.{Part}
 use Rattle.plan_check.specs.Certificates.{Entry, sorted_if}
@@ -30,7 +28,7 @@ use Rattle.plan_check.specs.Beating.{IsRight}
 use Rattle.plan_check.proofs.BeatingLemmas.{as_path, path-numbers}
 use Rattle.entry_check.specs.Owning.{AreNumbersOf}
 use Rattle.entry_check.specs.declared.numbers.Own.{Own}
-use Rattle.entry_check.proofs.BoundLemmas.{rows-estimate}
+use Rattle.plan_tree.proofs.RowsLemmas.{plan-estimate}
 
 -- a startup that is kept is the startup, where it counts
 pub kept-start : (w : Option Window) (a b : ℕ) → a ≡ startup_kept w b → IsStartup w a b
@@ -43,31 +41,24 @@ module _ (c : Contents) (q : Query) where
     pub relation-below : (k : ℕ) → has e.set.0 k ≡ true → k < width q
     relation-below k is = read-below (width q) p k (built-below c q p r.has.plan.built) (r.has.plan.set_is k ∙ is)
 
-    -- and there is one
-    pub entry-none : ((k : ℕ) → has e.set.0 k ≡ false) → ⊥
-    entry-none none = let h = reads-some p in false≢true (sym (none h.0) ∙ sym (r.has.plan.set_is h.0) ∙ h.1)
-
-    pub entry-rows : (k n : ℕ) → HaveRows c q → has e.set.0 k ≡ true → IsEstimate n → n ≡ table_rows c q.range k → IsEstimate e.rows
-    entry-rows k n rows is h same = subst IsEstimate (sym r.numbers.rows) (rows-estimate c q p k rows (r.has.plan.set_is k ∙ is) (let most = h.most in omega (arith, most, same)))
-
     -- what it is reckoned by
-    pub entry-part : (startup rows : ℕ) → HaveRows c q → startup ≡ startup_kept q.window e.startup → rows ≡ e.rows → IsPart c q (record { set = e.set; param = e.param; cost = pair startup e.cost; rows = rows }) p
-    entry-part startup rows some f g =
+    pub entry-part : (startup : ℕ) → HaveRows c q → startup ≡ startup_kept q.window e.startup → IsPart c q (record { set = e.set; param = e.param; cost = pair startup e.cost; rows = e.rows }) p
+    entry-part startup some f =
         let x = path-cost c q (as_path q e p) some (path-numbers c q e p r) r.has.admissible in
         record {
           set = r.has.plan.set_is;
           param = r.has.plan.param_is;
           cost_is = ap (λ n. pair n e.cost) f ∙ x.0;
-          rows_are = g ∙ r.numbers.rows;
+          rows_are = r.numbers.rows;
         }
 
-    pub entry-reckoned : (startup rows : ℕ) → HaveRows c q → startup ≡ startup_kept q.window e.startup → IsEstimate rows → IsReckoned (record { set = e.set; param = e.param; cost = pair startup e.cost; rows = rows })
-    entry-reckoned startup rows some f g =
+    pub entry-reckoned : (startup : ℕ) → HaveRows c q → startup ≡ startup_kept q.window e.startup → IsReckoned (record { set = e.set; param = e.param; cost = pair startup e.cost; rows = e.rows })
+    entry-reckoned startup some f =
         let x = path-cost c q (as_path q e p) some (path-numbers c q e p r) r.has.admissible in
         let most = x.1 in
         let total = r.numbers.total in
         let below = r.has.admissible in
-        record { cost = record { startup = omega (arith, f, most); most = omega (arith, total, below) }; rows = g }
+        record { cost = record { startup = omega (arith, f, most); most = omega (arith, total, below) }; rows = subst IsEstimate (sym r.numbers.rows) (plan-estimate c q p) }
 
     whole : IsEmpty (has e.param.0) → IsEmpty (param_of p)
     whole none k = r.has.plan.param_is k ∙ none k

@@ -10,6 +10,7 @@ use Rattle.pg_expr.specs.Cond.{Cond}
 use Rattle.catalog.specs.Contents.{Contents, IsIndex}
 use Rattle.eq_classes.proofs.ListLemmas.{IsIn, all_from}
 use Rattle.sql_query.specs.Queries.{Query}
+use Rattle.pathkeys.specs.Keys.{Keys}
 use Rattle.plan_tree.specs.Plans.{Plan, seq, index, index_only, bitmap, sort, nest, merge, BitTree, leaf, all_hold, some_arm, BitTrees, no_trees, tree_and, set_of}
 use Rattle.plan_tree.specs.Costs.{HaveRows}
 use Rattle.plan_tree.specs.Costable.{IsCostableTree, AreCostableTrees, IsMatchedBy}
@@ -90,3 +91,21 @@ bitmap-lines c q d below p r param b old mid new is deep first next =
   where
     whole : p ≡ bitmap r param b → node_line c q d p ++ bits_text c q (d + 1) b ≡ text_at c q d p
     whole e = let P : Plan → Type 0 = λ x. node_line c q d x ++ bits_text c q (d + 1) b ≡ text_at c q d x in subst P (sym e) refl
+
+-- the lines of a join: its own, and those of both children one deeper
+module _ (c : Contents) (q : Query) (d below : ℕ) (p a b : Plan) (old mid next new : List ℕ) (deep : below ≡ d + 1) (first : mid ≡ old ++ node_line c q d p)
+    (outer : next ≡ mid ++ text_at c q below a) (inner : new ≡ next ++ text_at c q below b) where
+  join-lines : node_line c q d p ++ (text_at c q (d + 1) a ++ text_at c q (d + 1) b) ≡ text_at c q d p → new ≡ old ++ text_at c q d p
+  join-lines whole =
+      inner
+      ∙ ap (λ (l : List ℕ). l ++ text_at c q below b) (outer ∙ ap (λ (l : List ℕ). l ++ text_at c q below a) first)
+      ∙ append_assoc (old ++ node_line c q d p) (text_at c q below a) (text_at c q below b)
+      ∙ append_assoc old (node_line c q d p) (text_at c q below a ++ text_at c q below b)
+      ∙ ap (λ (n : ℕ). old ++ (node_line c q d p ++ (text_at c q n a ++ text_at c q n b))) deep
+      ∙ ap (λ (l : List ℕ). old ++ l) whole
+
+  pub nest-lines : p ≡ nest a b → new ≡ old ++ text_at c q d p
+  nest-lines is = join-lines (let P : Plan → Type 0 = λ x. node_line c q d x ++ (text_at c q (d + 1) a ++ text_at c q (d + 1) b) ≡ text_at c q d x in subst P (sym is) refl)
+
+  pub merge-lines : (keys : Keys) → p ≡ merge keys a b → new ≡ old ++ text_at c q d p
+  merge-lines keys is = join-lines (let P : Plan → Type 0 = λ x. node_line c q d x ++ (text_at c q (d + 1) a ++ text_at c q (d + 1) b) ≡ text_at c q d x in subst P (sym is) refl)

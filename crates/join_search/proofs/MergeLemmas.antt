@@ -1,23 +1,20 @@
 -- Merge joins of two sets: in the plan space, with their cost, and dominated by those of the cheapest sides.
 use Rattle.std.proofs.Common.{◌≡◌, ◌⊎◌, ◌<◌, ◌≤◌, ℕ, ◌+◌, ◌*◌, ◌-◌, ◌^◌, true, false, not, ◌||◌, ◌&&◌, Bool, cond, List, [], ◌∷◌, length, map, min, inl, inr, refl, sym, ◌∙◌, ap, ap₂, subst, subst₂, le_refl, arith}
-use Rattle.std.specs.Prelude.{All, Contains, fold}
+use Rattle.std.specs.Prelude.{All, Contains}
 use Rattle.std.proofs.Math.Nat.{mul-le-mul}
 use Rattle.std.proofs.lemmas.Bool.{cases_lt, true≢false}
 use Rattle.std.proofs.lemmas.List.Elements.{All-contains, All-contains_itself, All-map, All-nil, All-weaker}
 use Rattle.pg_base.specs.Sets.{has}
 use Rattle.pg_base.specs.declared.rel_set.RelSet.{RelSet}
-use Rattle.pg_expr.specs.Cond.{Cond}
 use Rattle.catalog.specs.Contents.{Contents}
 use Rattle.cost_rules.specs.Costs.{IsAtMost, capped, capped_pair, merge_cost, row_cost, sort_cost}
 use Rattle.cost_rules.specs.declared.pair.Pair.{Pair}
-use Rattle.cost_rules.specs.Powers.{clamped}
 use Rattle.cost_rules.specs.declared.parameters.TheConstants.{MOST_COST, OPERATOR}
 use Rattle.cost_rules.proofs.CapLemmas.{capped-rises}
 use Rattle.eq_classes.specs.Clauses.{Set}
 use Rattle.eq_classes.specs.Parts.{is_join}
 use Rattle.path_cost.specs.Costs.{operators}
-use Rattle.path_cost.specs.Estimates.{conditions_where, is_pair_of, pairs, set_rows, share_of_rows}
-use Rattle.path_cost.specs.Selectivity.{selectivity}
+use Rattle.path_cost.specs.Estimates.{conditions_where, is_pair_of, pairs, set_rows}
 use Rattle.pathkeys.specs.Keys.{Keys, covers}
 use Rattle.pathkeys.proofs.CoveringLemmas.{covers-refl}
 use Rattle.sql_query.specs.Queries.{Query}
@@ -50,7 +47,6 @@ use Rattle.join_search.proofs.OfferLemmas.{cheapest-of, kept-at-most, served-by,
 use Rattle.join_search.proofs.ItemLemmas.{there-kept, plan-of-none, side-of-none}
 use Rattle.join_search.proofs.PlanLemmas.{at-none, at-set, whole-rows}
 use Rattle.plan_tree.proofs.SetLemmas.{sets-same}
-use Rattle.pg_base.proofs.ListLemmas.{some-folded}
 use Rattle.plan_tree.proofs.BoundLemmas.{some-clamped}
 
 by-true : (keys : Keys) (o : Costed) → covers o.keys keys ≡ true → cost_by keys o ≡ o.cost
@@ -454,9 +450,7 @@ work-rises a b ro ri k p n some =
 
 -- the pairs of two sides are some
 some-pairs : (c : Contents) (q : Query) (a b : Set) (keys : Keys) → 1 ≤ pairs c q.range q.classes a b keys
-some-pairs c q a b keys =
-    some-folded {A = Cond} (λ m e. share_of_rows m (selectivity c q.range e)) (λ m e. some-clamped _) (clamped (set_rows c q.range q.classes a * set_rows c q.range q.classes b))
-    (conditions_where (λ k. is_join a b k && is_pair_of keys k) q.classes.clauses) (some-clamped (set_rows c q.range q.classes a * set_rows c q.range q.classes b))
+some-pairs c q a b keys = some-clamped _
 
 -- a side of a split
 pub side-at : (j : Split) → IsOver j → (keys : Keys) (s : RelSet) (x : Side) → IsSideOf keys (paths_at j.table.now s none) (side_path x) x.sorted → IsPathAt j.cat.now j.q.now s none (side_path x)

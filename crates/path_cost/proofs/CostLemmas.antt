@@ -8,7 +8,7 @@ use Rattle.eq_classes.specs.Listing.{clause_at}
 use Rattle.eq_classes.specs.Parts.{is_base, is_param}
 use Rattle.pg_expr.specs.Columns.{atom_count}
 use Rattle.cost_rules.specs.Costs.{pair, capped, capped_pair, row_cost}
-use Rattle.cost_rules.specs.Scans.{bitmap_scan_cost, fetch_cost, index_scan_cost, heap_pages_of, page_in_order, seq_scan_cost}
+use Rattle.cost_rules.specs.Scans.{bitmap_scan_cost, fetch_cost, index_scan_cost, heap_pages_of, page_in_order, run_cost, seq_scan_cost}
 use Rattle.cost_rules.specs.declared.parameters.TheConstants.{MOST_COST, SEQUENTIAL_PAGE}
 use Rattle.cost_rules.proofs.RisingLemmas.{once-at_least}
 use Rattle.path_cost.specs.Costs.{operators}
@@ -31,26 +31,27 @@ work-cut x r n some = elim (cases_lt n (2 ^ 64)) [
 pub seq_cut : (pages rows n : ℕ) → 1 ≤ rows → capped_pair (seq_scan_cost pages rows (min n (2 ^ 64 - 1))) ≡ capped_pair (seq_scan_cost pages rows n)
 seq_cut pages rows n some = ap (pair (capped 0)) (work-cut (pages * SEQUENTIAL_PAGE) rows n some)
 
-pub bitmap_cut : (parts rows pages n : ℕ) → 1 ≤ rows → capped_pair (bitmap_scan_cost parts rows pages (min n (2 ^ 64 - 1))) ≡ capped_pair (bitmap_scan_cost parts rows pages n)
-bitmap_cut parts rows pages n some = ap (pair (capped parts)) (work-cut (parts + heap_pages_of rows pages * page_in_order (heap_pages_of rows pages) pages) rows n some)
+pub bitmap_cut : (runs parts rows pages n : ℕ) → 1 ≤ rows → capped_pair (bitmap_scan_cost runs parts rows pages (min n (2 ^ 64 - 1))) ≡ capped_pair (bitmap_scan_cost runs parts rows pages n)
+bitmap_cut runs parts rows pages n some = ap (pair (capped parts)) (work-cut (parts + run_cost runs rows pages (page_in_order (heap_pages_of rows pages) pages)) rows n some)
 
 -- a part that was cut before, and operators past what a word holds
-pub index_cut : (descent part : ℕ) (only : Bool) (rows pages n : ℕ) → 1 ≤ rows → capped_pair (index_scan_cost descent (capped part) only rows pages (min n (2 ^ 64 - 1))) ≡ capped_pair (index_scan_cost descent part only rows pages n)
-index_cut descent part only rows pages n some = ap (pair (capped descent)) (plus-two part (fetch_cost only rows pages) (rows * row_cost (min n (2 ^ 64 - 1))) ∙ work-cut (part + fetch_cost only rows pages) rows n some)
+pub index_cut : (runs descent part : ℕ) (only : Bool) (rows pages n : ℕ) → 1 ≤ rows → capped_pair (index_scan_cost runs descent (capped part) only rows pages (min n (2 ^ 64 - 1))) ≡ capped_pair (index_scan_cost runs descent part only rows pages n)
+index_cut runs descent part only rows pages n some = ap (pair (capped descent)) (plus-two part (fetch_cost runs only rows pages) (rows * row_cost (min n (2 ^ 64 - 1))) ∙ work-cut (part + fetch_cost runs only rows pages) rows n some)
   where
     plus-two : (x y z : ℕ) → capped (capped x + y + z) ≡ capped (x + y + z)
     plus-two x y z = omega arith
 
 -- an index scan over numbers that are those of a rule
-pub index_rule : (d part found pages ops descent own rows touched all most : ℕ) (only : Bool) → d ≡ descent → part ≡ capped own → found ≡ rows → pages ≡ touched → ops ≡ min all (2 ^ 64 - 1) → all ≡ most → 1 ≤ rows →
-    capped_pair (index_scan_cost d part only found pages ops) ≡ capped_pair (index_scan_cost descent own only rows touched most)
-index_rule d part found pages ops descent own rows touched all most only e f g h i j some =
-    ap (λ x. capped_pair (index_scan_cost x part only found pages ops)) e
-    ∙ ap (λ x. capped_pair (index_scan_cost descent x only found pages ops)) f
-    ∙ ap (λ x. capped_pair (index_scan_cost descent (capped own) only x pages ops)) g
-    ∙ ap (λ x. capped_pair (index_scan_cost descent (capped own) only rows x ops)) h
-    ∙ ap (λ x. capped_pair (index_scan_cost descent (capped own) only rows touched x)) (i ∙ ap (λ x. min x (2 ^ 64 - 1)) j)
-    ∙ index_cut descent own only rows touched most some
+pub index_rule : (n d part found pages ops runs descent own rows touched all most : ℕ) (only : Bool) → n ≡ runs → d ≡ descent → part ≡ capped own → found ≡ rows → pages ≡ touched → ops ≡ min all (2 ^ 64 - 1) → all ≡ most → 1 ≤ rows →
+    capped_pair (index_scan_cost n d part only found pages ops) ≡ capped_pair (index_scan_cost runs descent own only rows touched most)
+index_rule n d part found pages ops runs descent own rows touched all most only k e f g h i j some =
+    ap (λ x. capped_pair (index_scan_cost x d part only found pages ops)) k
+    ∙ ap (λ x. capped_pair (index_scan_cost runs x part only found pages ops)) e
+    ∙ ap (λ x. capped_pair (index_scan_cost runs descent x only found pages ops)) f
+    ∙ ap (λ x. capped_pair (index_scan_cost runs descent (capped own) only x pages ops)) g
+    ∙ ap (λ x. capped_pair (index_scan_cost runs descent (capped own) only rows x ops)) h
+    ∙ ap (λ x. capped_pair (index_scan_cost runs descent (capped own) only rows touched x)) (i ∙ ap (λ x. min x (2 ^ 64 - 1)) j)
+    ∙ index_cut runs descent own only rows touched most some
 
 -- the operators of the clauses over a relation, and of those of its parameterisation
 pub base_operators : (r : ℕ) (base none : List ℕ) (ks : List Clause) → ((k : ℕ) → contains base k ≡ nat_lt k (length ks) && is_base r (clause_at ks k)) → ((k : ℕ) → contains none k ≡ false) → operators (conditions_from 0 (either_but base none none) ks) ≡ operators (conditions_where (is_base r) ks)

@@ -1,11 +1,9 @@
 -- Costs of scans within the limits of tables and clauses.
-use Rattle.std.proofs.Common.{◌≡◌, ◌<◌, ◌≤◌, ◌∙◌, ℕ, ◌+◌, ◌-◌, ◌*◌, ◌/◌, ◌^◌, ◌&&◌, min, max, nat_eq, nat_lt, cond, Bool, true, false, List, [], ◌∷◌, All, length, map, filter, suc, refl, sym, ap, subst, arith, IsTrue, Option, Some, None, le_trans, mul-le-mul, mul-le-mul_left, mul-le-mul_right, mul_comm}
+use Rattle.std.proofs.Common.{◌≡◌, ◌<◌, ◌≤◌, ℕ, ◌+◌, ◌*◌, ◌^◌, min, max, cond, Bool, true, false, List, [], ◌∷◌, All, length, map, filter, suc, refl, sym, ap, subst, arith, Option, Some, None, le_trans, mul-le-mul, mul-le-mul_right, mul_comm}
 use Rattle.std.specs.Prelude.{sum as sum_of}
 use Rattle.std.specs.Int.{div_ceil}
 use Rattle.std.proofs.lemmas.List.Sums.{sum_by-le}
-use Rattle.std.proofs.lemmas.Grind.{common_steps}
-use Rattle.std.proofs.lemmas.List.Elements.{All-from_recursion, All-head, All-tail}
-use Rattle.std.specs.List.{AllByRecursion}
+use Rattle.std.proofs.lemmas.List.Elements.{All-from_recursion, All-map}
 use Rattle.pg_base.specs.declared.limits.TheConstants.{MOST_ATOMS}
 use Rattle.pg_base.specs.declared.numbers.IndexNo.{IndexNo}
 use Rattle.pg_base.specs.declared.numbers.TableNo.{TableNo}
@@ -13,27 +11,30 @@ use Rattle.catalog.specs.opfamily_classes_Method.{Method}
 use Rattle.catalog.specs.opfamily_classes_Method_TheVariants.{Btree, Hash}
 use Rattle.pg_expr.specs.Cond.{Cond}
 use Rattle.pg_expr.specs.Columns.{atom_count}
-use Rattle.catalog.specs.Contents.{Contents, IsIndex, IsLawful, IsTable, index_at, no_index}
-use Rattle.catalog.specs.Indexes.{Index}
-use Rattle.catalog.specs.Range.{Range, relation_at}
-use Rattle.catalog.specs.Tables.{pages_of, rows_of}
-use Rattle.catalog.specs.declared.limits.TheConstants.{MOST_NUMBER}
+use Rattle.catalog.specs.Contents.{Contents, IsIndex, IsTable, index_at, no_index}
+use Rattle.catalog.specs.Range.{Range}
+use Rattle.catalog.specs.Tables.{rows_of}
 use Rattle.catalog.proofs.SizeLemmas.{pages-bounded, rows-bounded}
 use Rattle.eq_classes.specs.Clauses.{Clause, Set, ClassTable}
 use Rattle.eq_classes.specs.Parts.{is_base}
 use Rattle.cost_rules.specs.declared.parameters.TheConstants.{BITMAP_CHILD, ENTRIES_PER_PAGE, INDEX_TUPLE, OPERATOR, RANDOM_PAGE}
 use Rattle.cost_rules.specs.Costs.{row_cost}
 use Rattle.cost_rules.specs.Powers.{log_up}
-use Rattle.cost_rules.specs.Scans.{descent_of, fetch_cost, heap_pages_of, page_in_order, pages_of_entries, part_cost}
+use Rattle.cost_rules.specs.Scans.{fetch_cost, heap_pages_of, leaves_cost, page_in_order, pages_of_entries, part_cost, run_cost}
 use Rattle.cost_rules.proofs.PowerLemmas.{few-doublings, log-least}
 use Rattle.cost_rules.proofs.RisingLemmas.{ceil-least}
 use Rattle.path_cost.specs.Columns.{AreTables}
 use Rattle.path_cost.specs.Costs.{arm_part, bitmap_cost, descent, descent_by, found, index_cost, index_part, local_operators, operators, other_operators, rows_after, seq_cost}
-use Rattle.path_cost.specs.Estimates.{conditions_from, conditions_where, entries, entries_by, kept, picked_from, share_of_rows, table_pages, table_rows}
+use Rattle.path_cost.specs.Estimates.{conditions_from, conditions_where, entries, entries_by, kept_among, numbers_from, picked_from, table_pages, table_rows}
 use Rattle.path_cost.specs.Limits.{AreWithinLimits, HasColumns}
+use Rattle.path_cost.specs.Ranges.{conditions}
+use Rattle.path_cost.specs.Runs.{runs}
 use Rattle.path_cost.specs.Selectivity.{selectivity}
-use Rattle.path_cost.proofs.LimitLemmas.{kept-most, rows-some, share-most}
+use Rattle.path_cost.proofs.LeftLemmas.{kept-most, kept-share}
+use Rattle.path_cost.proofs.LimitLemmas.{rows-some}
+use Rattle.path_cost.proofs.WeightLemmas.{share-most}
 use Rattle.path_cost.proofs.PredicateLemmas.{predicate_columns}
+use Rattle.path_cost.proofs.RunLemmas.{leaves-least, run-least, runs-some}
 
 -- some conditions of a list: no more of them, and no more operators
 picked-few : (n : ℕ) (chosen : ℕ → Bool) (es : List Cond) → length (picked_from n chosen es) ≤ length es
@@ -80,22 +81,19 @@ times-few : (a b x y : ℕ) → a ≤ x → b ≤ y → a * b ≤ x * y
 times-few a b x y h k = mul-le-mul h k
 
 -- a part of so many entries with few conditions
-part-few : (d looked all n : ℕ) → d ≤ 2090 → 1 ≤ all → looked ≤ all → all ≤ 10 ^ 9 → n ≤ 512 → part_cost d looked all n ≤ 523 * 10 ^ 9
-part-few d looked all n down some within few conditions =
+part-few : (runs d looked all n : ℕ) → 1 ≤ runs → d ≤ 2090 → 1 ≤ all → looked ≤ all → all ≤ 10 ^ 9 → n ≤ 512 → part_cost runs d looked all n ≤ 523 * 10 ^ 9
+part-few runs d looked all n once down some within few conditions =
     let pages = pages_of_entries all in
     let read = ceil-least (looked * pages) pages all some (subst (λ x. looked * pages ≤ x) (mul_comm all pages) (mul-le-mul_right pages within)) in
     let work = times-few looked (INDEX_TUPLE + n * OPERATOR) (10 ^ 9) 514 (le_trans within few) (omega (arith, conditions)) in
-    sum (div_ceil (looked * pages) all) pages (looked * (INDEX_TUPLE + n * OPERATOR)) read (pages-few all few) work
+    sum (leaves_cost runs (div_ceil (looked * pages) all) pages) pages (looked * (INDEX_TUPLE + n * OPERATOR)) (leaves-least runs (div_ceil (looked * pages) all) pages once read) (pages-few all few) work
   where
-    sum : (x y z : ℕ) → x ≤ y → y ≤ 5 * 10 ^ 6 → z ≤ 10 ^ 9 * 514 → d + x * 1600 + z ≤ 523 * 10 ^ 9
+    sum : (x y z : ℕ) → x ≤ y * 1600 → y ≤ 5 * 10 ^ 6 → z ≤ 10 ^ 9 * 514 → d + x + z ≤ 523 * 10 ^ 9
     sum x y z h k l = omega (arith, h, k, l, down)
 
 -- each row with few operators
 work-few : (rows ops : ℕ) → rows ≤ 10 ^ 9 → ops ≤ 1024 → rows * row_cost ops ≤ 10 ^ 9 * 1028
 work-few rows ops h k = times-few rows (row_cost ops) (10 ^ 9) 1028 h (omega (arith, k))
-
-heap-few : (rows pages : ℕ) → pages ≤ 10 ^ 9 → heap_pages_of rows pages ≤ 10 ^ 9
-heap-few rows pages h = omega (arith, h)
 
 module _ (c : Contents) (range : Range) (t : ClassTable) (h : AreWithinLimits c range t) where
   rows-few : (r : ℕ) → r < length range → (1 ≤ table_rows c range r) × (table_rows c range r ≤ 10 ^ 9)
@@ -137,39 +135,39 @@ module _ (c : Contents) (range : Range) (t : ClassTable) (h : AreWithinLimits c 
       by None e = (some, few)
       by (Some p) e =
           let own = predicate_columns c i (index_at c i) p h.lawful within refl e in
-          let kept = kept-most c (((index_at c i).table, []) ∷ []) h.lawful alone (rows_of c (index_at c i).table) (p ∷ []) (All-from_recursion (HasColumns c (((index_at c i).table, []) ∷ [])) (p ∷ []) (own, tt)) some in
+          let kept = kept-share (rows_of c (index_at c i).table) (selectivity c (((index_at c i).table, []) ∷ []) p) (share-most c (((index_at c i).table, []) ∷ []) h.lawful alone p own) some in
           (kept.0, le_trans kept.1 few)
 
-  within-few : (i : IndexNo) (rows n : ℕ) → IsIndex c i → n ≤ 512 → part_cost (descent c i) (min (entries c i) rows) (entries c i) n ≤ 523 * 10 ^ 9
-  within-few i rows n within conditions =
+  within-few : (p : Set) (i : IndexNo) (rows n : ℕ) → IsIndex c i → n ≤ 512 → part_cost (runs c range t p) (descent c i) (min (entries c i) rows) (entries c i) n ≤ 523 * 10 ^ 9
+  within-few p i rows n within conditions =
       let all = entries-few i within in
-      part-few (descent c i) (min (entries c i) rows) (entries c i) n (descent-few (index_at c i).method (entries c i) all.1) all.0 (least (entries c i) rows) all.1 conditions
+      part-few (runs c range t p) (descent c i) (min (entries c i) rows) (entries c i) n (runs-some c range t p) (descent-few (index_at c i).method (entries c i) all.1) all.0 (least (entries c i) rows) all.1 conditions
     where
       least : (x y : ℕ) → min x y ≤ x
       least x y = omega arith
 
-  pub index-part-few : (i : IndexNo) (r : ℕ) (bounds conditions : ℕ → Bool) → IsIndex c i → index_part c range t i r bounds conditions ≤ 523 * 10 ^ 9
-  index-part-few i r bounds conditions within =
-      within-few i (rows_after c range t r bounds) (length (conditions_from 0 conditions t.clauses)) within
+  pub index-part-few : (i : IndexNo) (r : ℕ) (p : Set) (bounds conditions : ℕ → Bool) → IsIndex c i → index_part c range t i r p bounds conditions ≤ 523 * 10 ^ 9
+  index-part-few i r p bounds conditions within =
+      within-few p i (rows_after c range t r bounds) (length (conditions_from 0 conditions t.clauses)) within
       (le_trans (picked-few 0 conditions (map (λ (k : Clause). k.cond) t.clauses)) (subst (λ n. n ≤ 512) (sym (length-all t.clauses)) h.few))
 
-  pub arm-part-few : (i : IndexNo) (r : ℕ) (parts : List Cond) (bounds : ℕ → Bool) → IsIndex c i → length parts ≤ MOST_ATOMS → arm_part c range i r parts bounds ≤ 523 * 10 ^ 9
-  arm-part-few i r parts bounds within few =
-      within-few i (kept c range (table_rows c range r) (picked_from 0 bounds parts)) (length parts) within (omega (arith, few))
+  pub arm-part-few : (i : IndexNo) (r : ℕ) (p : Set) (parts : List Cond) (bounds : ℕ → Bool) → IsIndex c i → length parts ≤ MOST_ATOMS → arm_part c range t i r p parts bounds ≤ 523 * 10 ^ 9
+  arm-part-few i r p parts bounds within few =
+      within-few p i (kept_among c range (table_rows c range r) bounds parts) (length parts) within (omega (arith, few))
 
   pub index-few : (i : IndexNo) (r : ℕ) (p : Set) (bounds conditions : ℕ → Bool) (only : Bool) → r < length range → IsIndex c i → (index_cost c range t i r p bounds conditions only).total ≤ 4 * 10 ^ 12
   index-few i r p bounds conditions only within is =
       let all = entries-few i is in
       let work = work-few (found c range t i r conditions) (other_operators c range t r p conditions) (le_trans (least (entries c i) (rows_after c range t r conditions)) all.1)
       (le_trans (picked-operators 0 _ (map (λ (k : Clause). k.cond) t.clauses)) h.operators) in
-      sum (index_part c range t i r bounds conditions) (fetch_cost only (found c range t i r conditions) (table_pages c range r)) _ (index-part-few i r bounds conditions is) (fetched only (heap-few (found c range t i r conditions) (table_pages c range r) (heap-pages-few r within))) work
+      sum (index_part c range t i r p bounds conditions) (fetch_cost (runs c range t p) only (found c range t i r conditions) (table_pages c range r)) _ (index-part-few i r p bounds conditions is) (fetched only) work
     where
       least : (x y : ℕ) → min x y ≤ x
       least x y = omega arith
 
-      fetched : (o : Bool) → heap_pages_of (found c range t i r conditions) (table_pages c range r) ≤ 10 ^ 9 → fetch_cost o (found c range t i r conditions) (table_pages c range r) ≤ 10 ^ 9 * 1600
-      fetched true k = omega arith
-      fetched false k = mul-le-mul_right RANDOM_PAGE k
+      fetched : (o : Bool) → fetch_cost (runs c range t p) o (found c range t i r conditions) (table_pages c range r) ≤ 10 ^ 9 * 1600
+      fetched true = omega arith
+      fetched false = le_trans (run-least (runs c range t p) (found c range t i r conditions) (table_pages c range r) RANDOM_PAGE (runs-some c range t p)) (mul-le-mul_right RANDOM_PAGE (heap-pages-few r within))
 
       sum : (x y z : ℕ) → x ≤ 523 * 10 ^ 9 → y ≤ 10 ^ 9 * 1600 → z ≤ 10 ^ 9 * 1028 → x + y + z ≤ 4 * 10 ^ 12
       sum x y z k l m = omega (arith, k, l, m)
@@ -177,9 +175,11 @@ module _ (c : Contents) (range : Range) (t : ClassTable) (h : AreWithinLimits c 
   pub bitmap-few : (r : ℕ) (p : Set) (used : ℕ → Bool) (parts : ℕ) → r < length range → (bitmap_cost c range t r p used parts).total ≤ parts + 3 * 10 ^ 12
   bitmap-few r p used parts within =
       let rows = rows_after c range t r used in
-      let few = kept-most c range h.lawful h.tables (table_rows c range r) (conditions_from 0 used t.clauses) (picked-columns 0 t.clauses h.columns) (rows-few r within).0 in
-      let x = heap_pages_of rows (table_pages c range r) in
-      let read : x * page_in_order x (table_pages c range r) ≤ 10 ^ 9 * 1600 = times-few x (page_in_order x (table_pages c range r)) (10 ^ 9) 1600 (heap-few rows (table_pages c range r) (heap-pages-few r within)) (in-order x (table_pages c range r)) in
+      let few = kept-most c range h.lawful h.tables (table_rows c range r) (conditions t) (numbers_from 0 (length t.clauses) used) (All-map (HasColumns c range) (λ (k : Clause). k.cond) t.clauses h.columns) (rows-few r within).0 in
+      let page = page_in_order (heap_pages_of rows (table_pages c range r)) (table_pages c range r) in
+      let read : run_cost (runs c range t p) rows (table_pages c range r) page ≤ 10 ^ 9 * 1600 =
+      le_trans (run-least (runs c range t p) rows (table_pages c range r) page (runs-some c range t p))
+      (times-few (table_pages c range r) page (10 ^ 9) 1600 (heap-pages-few r within) (in-order (heap_pages_of rows (table_pages c range r)) (table_pages c range r))) in
       sum _ _ read (work-few rows (local_operators c range t r p) (le_trans few.1 (rows-few r within).1) (operators-few _))
     where
       in-order : (x pages : ℕ) → page_in_order x pages ≤ 1600
@@ -187,17 +187,6 @@ module _ (c : Contents) (range : Range) (t : ClassTable) (h : AreWithinLimits c 
 
       sum : (x y : ℕ) → x ≤ 10 ^ 9 * 1600 → y ≤ 10 ^ 9 * 1028 → parts + x + y ≤ parts + 3 * 10 ^ 12
       sum x y k l = omega (arith, k, l)
-
-      picked-columns : (n : ℕ) (ks : List Clause) → All (λ (k : Clause). HasColumns c range k.cond) ks → All (HasColumns c range) (conditions_from n used ks)
-      picked-columns n ks all = All-from_recursion (HasColumns c range) (conditions_from n used ks) (each n ks all)
-        where
-          each : (m : ℕ) (js : List Clause) → All (λ (k : Clause). HasColumns c range k.cond) js → AllByRecursion (HasColumns c range) (conditions_from m used js)
-          each m [] all = tt
-          each m (j ∷ js) all = one (used m) (All-head (λ (k : Clause). HasColumns c range k.cond) j js all) (each (m + 1) js (All-tail (λ (k : Clause). HasColumns c range k.cond) j js all))
-            where
-              one : (b : Bool) → HasColumns c range j.cond → AllByRecursion (HasColumns c range) (conditions_from (m + 1) used js) → AllByRecursion (HasColumns c range) (cond b (j.cond ∷ conditions_from (m + 1) used js) (conditions_from (m + 1) used js))
-              one true own rest = (own, rest)
-              one false own rest = rest
 
   pub bitmap-parts-few : (r : ℕ) (p : Set) (used : ℕ → Bool) (parts : List ℕ) → r < length range → length parts ≤ MOST_ATOMS + 8 →
       All (λ n. n ≤ 523 * 10 ^ 9) parts → (bitmap_cost c range t r p used (sum_of parts + BITMAP_CHILD * length parts)).total ≤ 142 * 10 ^ 12

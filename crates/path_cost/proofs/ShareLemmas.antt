@@ -1,9 +1,7 @@
 -- Selectivities are at most all rows.
-use Rattle.std.proofs.Common.{◌≡◌, ◌<◌, ◌≤◌, ℕ, ◌+◌, ◌-◌, ◌*◌, ◌/◌, ◌^◌, max, Bool, true, false, cond, nat_eq, ◌≢◌, List, [], ◌∷◌, length, refl, subst, arith, le_refl, le_trans, mul-le-mul_left, mul-le-mul_right, mul-le-mul, add-mul, lt_of_mul-lt-mul_right}
-use Rattle.std.specs.Int.{div_ceil}
-use Rattle.std.proofs.lemmas.Grind.{common_steps, div_ceil_times}
+use Rattle.std.proofs.Common.{◌≡◌, ◌≤◌, ℕ, ◌+◌, ◌-◌, ◌*◌, ◌/◌, ◌^◌, max, Bool, true, false, cond, nat_eq, List, [], ◌∷◌, length, refl, sym, subst, arith, le_refl, le_trans, mul-le-mul_left, mul-le-mul_right, mul-le-mul, add-mul}
+use Rattle.std.proofs.lemmas.Grind.{common_steps}
 use Rattle.std.proofs.Math.Nat.{div-le_self}
-use Rattle.std.proofs.lemmas.List.Sums.{count_by-le-length}
 use Rattle.std.proofs.lemmas.Option.{same_Some}
 use Rattle.std.specs.Prelude.{find, Option, Some, None}
 use Rattle.std.specs.Option.{option_map}
@@ -12,13 +10,13 @@ use Rattle.pg_value.specs.declared.operators.Op.{Op}
 use Rattle.pg_value.specs.declared.operators.Op.TheVariants.{Lt, Le, Eq, Ge, Gt, Ne, AbsLt, AbsLe, AbsEq, AbsGe, AbsGt}
 use Rattle.pg_value.specs.declared.value.SqlType.{SqlType}
 use Rattle.pg_value.specs.declared.value.Value.{Value}
-use Rattle.cost_rules.proofs.RisingLemmas.{ceil-least}
 use Rattle.catalog.specs.Statistics.{Statistics, Common, IsLawfulStatistics, shares}
 use Rattle.catalog.specs.declared.limits.TheConstants.{WHOLE_SHARE}
 use Rattle.path_cost.specs.declared.shares.TheConstants.{ALL_ROWS, THIRD, UNKNOWN_NULLS, PER_SHARE}
 use Rattle.path_cost.specs.declared.known.Known.{Known}
 use Rattle.path_cost.specs.Known.{IsLawfulKnown, statistics_of}
-use Rattle.path_cost.specs.Selectivity.{holds, valued, uncommon, equal_by, equal_to, bounds_passed, half_steps, half_steps_met, shares_met, inequality, column_literal, equal_columns, two_columns, all_or_none, null_by, and_share, or_share}
+use Rattle.path_cost.proofs.PlaceLemmas.{met-most, part_fits, quotient-most}
+use Rattle.path_cost.specs.Selectivity.{holds, valued, uncommon, equal_by, equal_to, bounds_passed, met_of, place, by_histogram, shares_met, inequality, column_literal, equal_columns, two_columns, all_or_none, null_by, and_share, or_share}
 
 thousand : (n : ℕ) → n ≤ 10 ^ 6 → PER_SHARE * n ≤ 10 ^ 9
 thousand n h = omega (arith, h)
@@ -72,9 +70,6 @@ module _ (t : SqlType) (s : Statistics) (h : IsLawfulStatistics t s) where
   equal-to-most : (v : Value) → equal_to s v ≤ ALL_ROWS
   equal-to-most v = equal-by-most (option_map (λ (p : Common). p.1) (find (λ (p : Common). holds Eq p.0 v) s.common)) (share-most (λ (p : Common). holds Eq p.0 v) s.common)
 
-quotient-most : (n m d : ℕ) → 1 ≤ d → n ≤ m * d → n / d ≤ m
-quotient-most n m d some h = omega (arith, ceil-least n m d some h)
-
 columns-most : (s t : Statistics) → 1 ≤ s.distinct → equal_columns s t ≤ ALL_ROWS
 columns-most s t some =
     let v : ALL_ROWS * valued s ≤ ALL_ROWS * WHOLE_SHARE = mul-le-mul_left ALL_ROWS (valued-most s) in
@@ -100,43 +95,31 @@ columns_share a b d e h k some =
     by : (n m : ℕ) → n ≤ ALL_ROWS * WHOLE_SHARE * WHOLE_SHARE → WHOLE_SHARE * WHOLE_SHARE * 1 ≤ m → n / m ≤ ALL_ROWS
     by n m w d = quotient-most n ALL_ROWS m (omega (arith, d)) (omega (arith, w, d))
 
-half-most : (k j : ℕ) → j ≤ k → half_steps k j ≤ 2 * (k - 1)
-half-most k j h = grind (arith, common_steps, h)
+shares-met-most : (op : Op) (v : Value) (xs : List Common) → shares_met op xs v ≤ shares xs
+shares-met-most op v [] = le_refl 0
+shares-met-most op v (x ∷ xs) = grind (arith, common_steps, shares-met-most op v xs)
 
-steps-most : (op : Op) (k j : ℕ) → j ≤ k → half_steps_met op k j ≤ 2 * (k - 1)
-steps-most Lt k j h = half-most k j h
-steps-most Le k j h = half-most k j h
-steps-most Eq k j h = omega arith
-steps-most Ge k j h = omega arith
-steps-most Gt k j h = omega arith
-steps-most Ne k j h = omega arith
-steps-most AbsLt k j h = omega arith
-steps-most AbsLe k j h = omega arith
-steps-most AbsEq k j h = omega arith
-steps-most AbsGe k j h = omega arith
-steps-most AbsGt k j h = omega arith
-
-met-most : (op : Op) (v : Value) (xs : List Common) → shares_met op xs v ≤ shares xs
-met-most op v [] = le_refl 0
-met-most op v (x ∷ xs) = grind (arith, common_steps, met-most op v xs)
-
-inequality-by : (k n m u h : ℕ) → k ≢ 1 → n ≤ m → m + u ≤ 10 ^ 6 → h ≤ 2 * (k - 1) → cond (nat_eq k 0) THIRD (PER_SHARE * n + PER_SHARE * u * h / (2 * (k - 1))) ≤ ALL_ROWS
-inequality-by k n m u h many l f g = by (nat_eq k 0) refl
-  where
-    by : (b : Bool) → nat_eq k 0 ≡ b → cond b THIRD (PER_SHARE * n + PER_SHARE * u * h / (2 * (k - 1))) ≤ ALL_ROWS
-    by true e = omega arith
-    by false e =
-        let some : 1 ≤ 2 * (k - 1) = grind (arith, common_steps, e, many) in
-        let times : PER_SHARE * u * h ≤ PER_SHARE * u * (2 * (k - 1)) = mul-le-mul_left (PER_SHARE * u) g in
-        let part : PER_SHARE * u * h / (2 * (k - 1)) ≤ PER_SHARE * u = quotient-most (PER_SHARE * u * h) (PER_SHARE * u) (2 * (k - 1)) some times in
-        omega (arith, l, f, part)
+-- common values that meet a comparison, and a part of the others
+parts-most : (n m u h w : ℕ) → n ≤ m → h ≤ w → 1 ≤ w → PER_SHARE * n + PER_SHARE * u * h / w ≤ PER_SHARE * (m + u)
+parts-most n m u h w few within some = omega (arith, few, part_fits (PER_SHARE * u) h w within some)
 
 module _ (t : SqlType) (s : Statistics) (h : IsLawfulStatistics t s) where
+  -- with a histogram an inequality holds at no more rows than are without NULL
+  by_histogram-most : (op : Op) (v : Value) → 1 ≤ length s.histogram → by_histogram op s v ≤ PER_SHARE * valued s
+  by_histogram-most op v some =
+      let fits = met-most t s h op v some in
+      let p = place op s v (bounds_passed op s.histogram v) in
+      le_trans (parts-most (shares_met op s.common v) (shares s.common) (uncommon s) (met_of op p) p.1 (shares-met-most op v s.common) fits.0 fits.1) (omega (arith, h.whole))
+
+  pub ranged-most : (op : Op) (v : Value) → nat_eq (length s.histogram) 0 ≡ false → inequality op s v ≤ PER_SHARE * valued s
+  ranged-most op v e = subst (λ b. cond b THIRD (by_histogram op s v) ≤ PER_SHARE * valued s) (sym e) (by_histogram-most op v (grind (arith, common_steps, e)))
+
   inequality-most : (op : Op) (v : Value) → inequality op s v ≤ ALL_ROWS
-  inequality-most op v =
-      inequality-by (length s.histogram) (shares_met op s.common v) (shares s.common) (uncommon s) (half_steps_met op (length s.histogram) (bounds_passed op s.histogram v)) h.two
-      (met-most op v s.common) (omega (arith, h.whole))
-      (steps-most op (length s.histogram) (bounds_passed op s.histogram v) (count_by-le-length _ s.histogram))
+  inequality-most op v = by (nat_eq (length s.histogram) 0) refl
+    where
+      by : (b : Bool) → nat_eq (length s.histogram) 0 ≡ b → cond b THIRD (by_histogram op s v) ≤ ALL_ROWS
+      by true e = omega arith
+      by false e = le_trans (by_histogram-most op v (grind (arith, common_steps, e))) (thousand (valued s) (valued-most s))
 
   pub column-most : (op : Op) (v : Value) → column_literal op s v ≤ ALL_ROWS
   column-most Lt v = inequality-most Lt v

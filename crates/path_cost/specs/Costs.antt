@@ -15,7 +15,8 @@ use Rattle.eq_classes.specs.Parts.{is_base}
 use Rattle.cost_rules.specs.declared.pair.Pair.{Pair}
 use Rattle.cost_rules.specs.declared.parameters.TheConstants.{HASH_DESCENT}
 use Rattle.cost_rules.specs.Scans.{descent_of, part_cost, index_scan_cost, seq_scan_cost, bitmap_scan_cost}
-use Rattle.path_cost.specs.Estimates.{conditions_from, conditions_where, entries, is_local, kept, picked_from, table_pages, table_rows}
+use Rattle.path_cost.specs.Estimates.{conditions_from, conditions_where, entries, is_local, kept_among, kept_by, table_pages, table_rows}
+use Rattle.path_cost.specs.Runs.{runs}
 
 -- the operators of conditions: their atoms together
 abbrev pub operators : List Cond → ℕ
@@ -31,19 +32,14 @@ descent_by Hash n = HASH_DESCENT
 abbrev pub descent : Contents → IndexNo → ℕ
 descent c i = descent_by (index_at c i).method (entries c i)
 
-module _ (c : Contents) (range : Range) where
-  -- the entries that a scan of an index looks at: those that meet its bounds, no more than there are
-  abbrev pub touched : IndexNo → ℕ → List Cond → ℕ
-  touched i r bounds = min (entries c i) (kept c range (table_rows c range r) bounds)
+-- the entries that a scan of an index looks at: those that meet its bounds, of so many rows, and no more than there are
+abbrev pub touched : Contents → IndexNo → ℕ → ℕ
+touched c i within = min (entries c i) within
 
-  -- an index's own part, with its bounds, and so many conditions on each entry
-  abbrev pub part_within : IndexNo → ℕ → List Cond → ℕ → ℕ
-  part_within i r bounds n = part_cost (descent c i) (touched i r bounds) (entries c i) n
-
-  -- the part of the index that serves an arm of an OR: the arm's parts in order, of which those of these numbers are
-  -- bounds and all are conditions
-  abbrev pub arm_part : IndexNo → ℕ → List Cond → (ℕ → Bool) → ℕ
-  arm_part i r parts bounds = part_within i r (picked_from 0 bounds parts) (length parts)
+-- an index's own part in one of so many runs, where so many rows meet its bounds, and so many conditions are made on each
+-- entry
+abbrev pub part_within : Contents → ℕ → IndexNo → ℕ → ℕ → ℕ
+part_within c runs i within n = part_cost runs (descent c i) (touched c i within) (entries c i) n
 
 module _ (c : Contents) (range : Range) (t : ClassTable) where
   -- the operators of a relation's clauses, with those of its parameterisation
@@ -60,11 +56,17 @@ module _ (c : Contents) (range : Range) (t : ClassTable) where
 
   -- the rows of a relation after the clauses of a set of numbers
   abbrev pub rows_after : ℕ → (ℕ → Bool) → ℕ
-  rows_after r chosen = kept c range (table_rows c range r) (conditions_from 0 chosen t.clauses)
+  rows_after r chosen = kept_by c range (table_rows c range r) chosen t
 
-  -- an index's own part, where the clauses of a set of numbers are its bounds, and those of another its conditions
-  abbrev pub index_part : IndexNo → ℕ → (ℕ → Bool) → (ℕ → Bool) → ℕ
-  index_part i r bounds conditions = part_within c range i r (conditions_from 0 bounds t.clauses) (length (conditions_from 0 conditions t.clauses))
+  -- an index's own part where the rows of a parameterisation are given: the clauses of a set of numbers are its bounds,
+  -- and those of another its conditions
+  abbrev pub index_part : IndexNo → ℕ → Set → (ℕ → Bool) → (ℕ → Bool) → ℕ
+  index_part i r p bounds conditions = part_within c (runs c range t p) i (rows_after r bounds) (length (conditions_from 0 conditions t.clauses))
+
+  -- the part of the index that serves an arm of an OR: the arm's parts in order, of which those of these numbers are
+  -- bounds and all are conditions
+  abbrev pub arm_part : IndexNo → ℕ → Set → List Cond → (ℕ → Bool) → ℕ
+  arm_part i r p parts bounds = part_within c (runs c range t p) i (kept_among c range (table_rows c range r) bounds parts) (length parts)
 
   -- the rows that a scan of an index finds: the entries that meet its conditions
   abbrev pub found : IndexNo → ℕ → (ℕ → Bool) → ℕ
@@ -74,9 +76,9 @@ module _ (c : Contents) (range : Range) (t : ClassTable) where
   -- rows with the clauses that are no conditions
   abbrev pub index_cost : IndexNo → ℕ → Set → (ℕ → Bool) → (ℕ → Bool) → Bool → Pair
   index_cost i r p bounds conditions only =
-      index_scan_cost (descent c i) (index_part i r bounds conditions) only (found i r conditions) (table_pages c range r) (other_operators r p conditions)
+      index_scan_cost (runs c range t p) (descent c i) (index_part i r p bounds conditions) only (found i r conditions) (table_pages c range r) (other_operators r p conditions)
 
   -- a bitmap scan over the parts of its indexes: the rows are those after the clauses that it uses, and each is tested by
   -- all clauses of the relation and of the parameterisation
   abbrev pub bitmap_cost : ℕ → Set → (ℕ → Bool) → ℕ → Pair
-  bitmap_cost r p used parts = bitmap_scan_cost parts (rows_after r used) (table_pages c range r) (local_operators r p)
+  bitmap_cost r p used parts = bitmap_scan_cost (runs c range t p) parts (rows_after r used) (table_pages c range r) (local_operators r p)

@@ -14,9 +14,8 @@ use Rattle.eq_classes.specs.Classes.{listed}
 use Rattle.eq_classes.specs.Clauses.{ClassTable}
 use Rattle.cost_rules.specs.declared.pair.Pair.{Pair}
 use Rattle.cost_rules.specs.Costs.{capped, capped_pair}
-use Rattle.cost_rules.specs.Scans.{part_cost}
-use Rattle.path_cost.specs.Costs.{arm_part, bitmap_cost, descent, index_cost, index_part, operators}
-use Rattle.path_cost.specs.Estimates.{conditions_from, either_but, entries}
+use Rattle.path_cost.specs.Costs.{arm_part, bitmap_cost, index_cost, index_part, operators, part_within}
+use Rattle.path_cost.specs.Estimates.{conditions_from, either_but}
 
 -- a number as 64 bits hold it: the greatest of them for a greater one
 abbrev pub saturated : ℕ → ℕ
@@ -26,17 +25,18 @@ saturated n = min n (2 ^ 64 - 1)
 abbrev pub operators_but : ClassTable → List ℕ → List ℕ → List ℕ → ℕ
 operators_but t a b but = operators (conditions_from 0 (either_but a b but) t.clauses)
 
--- an index's own part where so many rows meet its bounds, and so many conditions are made on each entry
-abbrev pub own_part_cut : Contents → IndexNo → ℕ → ℕ → ℕ
-own_part_cut c i rows n = capped (part_cost (descent c i) (min (entries c i) rows) (entries c i) n)
+-- an index's own part in one of so many runs, where so many rows meet its bounds, and so many conditions are made on each
+-- entry
+abbrev pub own_part_cut : Contents → ℕ → IndexNo → ℕ → ℕ → ℕ
+own_part_cut c runs i rows n = capped (part_within c runs i rows n)
 
--- an index's own part, by its bounds and its conditions
-abbrev pub part_cut : Contents → Range → ClassTable → IndexNo → RelNo → List ℕ → List ℕ → ℕ
-part_cut c range t i r bounds conditions = capped (index_part c range t i r.0 (contains bounds) (contains conditions))
+-- an index's own part where the rows of a parameterisation are given, by its bounds and its conditions
+abbrev pub part_cut : Contents → Range → ClassTable → IndexNo → RelNo → RelSet → List ℕ → List ℕ → ℕ
+part_cut c range t i r p bounds conditions = capped (index_part c range t i r.0 (has p.0) (contains bounds) (contains conditions))
 
 -- the part of an index that serves an arm of an OR
-abbrev pub arm_cut : Contents → Range → IndexNo → RelNo → Expr → List ℕ → ℕ
-arm_cut c range i r arm bounds = capped (arm_part c range i r.0 (listed (parts_of false (view.cond arm))) (contains bounds))
+abbrev pub arm_cut : Contents → Range → ClassTable → IndexNo → RelNo → RelSet → Expr → List ℕ → ℕ
+arm_cut c range t i r p arm bounds = capped (arm_part c range t i r.0 (has p.0) (listed (parts_of false (view.cond arm))) (contains bounds))
 
 -- an index scan, by the bounds and the conditions of its index
 abbrev pub scan_cut : Contents → Range → ClassTable → IndexNo → RelNo → RelSet → List ℕ → List ℕ → Bool → Pair

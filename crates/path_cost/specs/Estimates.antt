@@ -2,11 +2,9 @@
 -- get_parameterized_baserel_size.
 use Rattle.std.specs.Prelude.{ℕ, ◌+◌, ◌*◌, Bool, false, ◌&&◌, ◌||◌, cond, nat_eq, not, List, [], ◌∷◌, map, filter, fold, length, Option, Some, None, nat_lt}
 use Rattle.std.specs.List.{list_any, range_with_len}
-use Rattle.std.specs.Int.{div_ceil}
 use Rattle.pg_base.specs.declared.numbers.IndexNo.{IndexNo}
 use Rattle.pg_expr.specs.AtomSets.{contains}
 use Rattle.pg_expr.specs.Cond.{Cond}
-use Rattle.pg_expr.specs.View as view
 use Rattle.catalog.specs.Contents.{Contents, index_at}
 use Rattle.catalog.specs.Indexes.{Index}
 use Rattle.catalog.specs.Range.{Range, relation_at}
@@ -15,9 +13,9 @@ use Rattle.eq_classes.specs.Clauses.{Clause, Set, ClassTable}
 use Rattle.eq_classes.specs.Listing.{pair_class_of, clause_at}
 use Rattle.eq_classes.specs.Parts.{is_all, is_base, is_join, is_param}
 use Rattle.cost_rules.specs.Powers.{clamped}
-use Rattle.path_cost.specs.declared.shares.TheConstants.{ALL_ROWS}
-use Rattle.path_cost.specs.Selectivity.{selectivity}
-use Rattle.pg_expr.specs.declared.expr.Expr.{Expr}
+use Rattle.exact_rows.specs.Rows.{share_kept}
+use Rattle.path_cost.specs.Ranges.{conditions}
+use Rattle.path_cost.specs.Selectivity.{selectivity, weights}
 use Rattle.eq_classes.specs.declared.classes.ClassNo.{ClassNo}
 
 -- the conditions of the clauses that pass a test, by their numbers
@@ -62,13 +60,17 @@ either a b n = contains a n || contains b n
 abbrev pub either_but : List ℕ → List ℕ → List ℕ → ℕ → Bool
 either_but a b c n = either a b n && not (contains c n)
 
--- the relations of a set from a number on, so many of them, in FROM order
-abbrev pub relations_from : ℕ → ℕ → Set → List ℕ
-relations_from n len set = filter set (range_with_len n len)
+-- the numbers of a set from a number on, of so many, in order
+abbrev pub numbers_from : ℕ → ℕ → (ℕ → Bool) → List ℕ
+numbers_from n len set = filter set (range_with_len n len)
 
 -- the numbers of a set's relations, in FROM order
 abbrev pub relations : Range → Set → List ℕ
-relations range set = relations_from 0 (length range) set
+relations range set = numbers_from 0 (length range) set
+
+-- a number is that of a clause that passes a test
+abbrev pub is_number_where : (Clause → Bool) → ClassTable → ℕ → Bool
+is_number_where test t n = test (clause_at t.clauses n)
 
 -- the rows of a relation's table, and its pages
 abbrev pub table_rows : Contents → Range → ℕ → ℕ
@@ -78,42 +80,44 @@ table_rows c range r = rows_of c (relation_at range (record { 0 = r })).0
 abbrev pub table_pages : Contents → Range → ℕ → ℕ
 table_pages c range r = pages_of c (relation_at range (record { 0 = r })).0
 
--- a share of some rows, rounded up, from 1 to 10^12
-abbrev pub share_of_rows : ℕ → ℕ → ℕ
-share_of_rows n share = clamped (div_ceil (n * share) ALL_ROWS)
+-- so many rows, however many, after shares, taken in their order: each leaves its part, rounded up; what is left in the end
+-- is held from 1 to 10^12
+abbrev pub kept : ℕ → List ℕ → ℕ
+kept n shares = clamped (fold share_kept n shares)
 
 module _ (c : Contents) (range : Range) where
-  -- so many rows after conditions, taken in their order: each leaves its share, rounded up
-  abbrev pub kept : ℕ → List Cond → ℕ
-  kept n es = fold (λ m e. share_of_rows m (selectivity c range e)) n es
-
-  -- so many rows after the clauses of a set of numbers
+  -- so many rows after the clauses of a set of numbers: what a clause multiplies with is taken of all clauses of the query,
+  -- which comes to the same as of those of the set, since each set that is folded has all bounds of a column or none
   abbrev pub kept_by : ℕ → (ℕ → Bool) → ClassTable → ℕ
-  kept_by n chosen t = kept n (conditions_from 0 chosen t.clauses)
+  kept_by n chosen t = kept n (weights c range (conditions t) (numbers_from 0 (length t.clauses) chosen))
+
+  -- so many rows after the clauses that pass a test
+  abbrev pub kept_where : ℕ → (Clause → Bool) → ClassTable → ℕ
+  kept_where n test t = kept_by n (is_number_where test t) t
 
   -- so many rows after those of some conditions that have a number of a set
-  abbrev pub kept_by_parts : ℕ → (ℕ → Bool) → List Expr → ℕ
-  kept_by_parts n chosen es = kept n (picked_from 0 chosen (map view.cond es))
+  abbrev pub kept_among : ℕ → (ℕ → Bool) → List Cond → ℕ
+  kept_among n chosen es = kept n (weights c range es (numbers_from 0 (length es) chosen))
 
   -- the rows of a product of relations, after some rows
   abbrev pub product_from : ℕ → List ℕ → ℕ
-  product_from n rs = fold (λ m r. clamped (m * table_rows c range r)) n rs
+  product_from n rs = fold (λ m r. m * table_rows c range r) n rs
 
-  -- the rows of the product of some relations, held from 1 to 10^12 at each step
+  -- the rows of the product of some relations, however many
   abbrev pub product_rows : List ℕ → ℕ
   product_rows rs = product_from 1 rs
 
   -- the rows of a set: the product of its relations, after its clauses
   abbrev pub set_rows : ClassTable → Set → ℕ
-  set_rows t set = kept (product_rows (relations range set)) (conditions_where (is_all set) t.clauses)
+  set_rows t set = kept_where (product_rows (relations range set)) (is_all set) t
 
   -- the rows of a relation with the relations of a parameterisation
   abbrev pub param_rows : ClassTable → ℕ → Set → ℕ
-  param_rows t r p = kept (table_rows c range r) (conditions_where (is_local r p) t.clauses)
+  param_rows t r p = kept_where (table_rows c range r) (is_local r p) t
 
   -- the pairs of rows of two sets that are equal in the classes of a list
   abbrev pub pairs : ClassTable → Set → Set → List ℕ → ℕ
-  pairs t a b keys = kept (clamped (set_rows t a * set_rows t b)) (conditions_where (λ k. is_join a b k && is_pair_of keys k) t.clauses)
+  pairs t a b keys = kept_where (set_rows t a * set_rows t b) (λ k. is_join a b k && is_pair_of keys k) t
 
 -- the pairs of rows of two sets that are equal in some classes
 abbrev pub pairs_by : Contents → Range → ClassTable → Set → Set → List ClassNo → ℕ
@@ -123,7 +127,7 @@ pairs_by c range t a b keys = pairs c range t a b (map (λ (k : ClassNo). k.0) k
 -- a predicate all rows
 abbrev pub entries_by : Contents → Index → Option Cond → ℕ
 entries_by c x None = rows_of c x.table
-entries_by c x (Some predicate) = kept c ((x.table, []) ∷ []) (rows_of c x.table) (predicate ∷ [])
+entries_by c x (Some predicate) = kept (rows_of c x.table) (selectivity c ((x.table, []) ∷ []) predicate ∷ [])
 
 -- the entries that an index of the catalogue is taken to have (reltuples of the index in pg_class)
 abbrev pub entries : Contents → IndexNo → ℕ

@@ -1,12 +1,12 @@
 -- The share of rows at which a condition is taken to be True, in parts per 10^9. Own, in the manner of PostgreSQL's
 -- var_eq_const, scalarineqsel, eqjoinsel and clauselist_selectivity.
-use Rattle.std.specs.Prelude.{ℕ, ◌+◌, ◌-◌, ◌*◌, ◌/◌, max, Bool, cond, nat_eq, List, length, find, sum_by, count_by, Option, Some, None}
+use Rattle.std.specs.Prelude.{ℕ, ◌+◌, ◌-◌, ◌*◌, ◌/◌, ◌&&◌, min, max, Bool, true, false, cond, not, nat_eq, List, [], ◌∷◌, length, map, take, find, sum_by, count_by, Option, Some, None, ℤ, unsigned_abs, ◌-ℤ◌}
 use Rattle.std.specs.Option.{option_map}
 use Rattle.pg_value.specs.declared.columns.Column.{Column}
 use Rattle.pg_value.specs.declared.operators.Op.{Op}
 use Rattle.pg_value.specs.declared.operators.Op.TheVariants.{Lt, Le, Eq, Ge, Gt, Ne, AbsEq}
 use Rattle.pg_value.specs.declared.value.Value.{Value}
-use Rattle.pg_value.specs.declared.value.Value.TheVariants.{Null}
+use Rattle.pg_value.specs.declared.value.Value.TheVariants.{Null, Int}
 use Rattle.pg_value.specs.Truths.{is_true, truth_of_op, commutator_of}
 use Rattle.pg_expr.specs.declared.operand.ColRef.{ColRef}
 use Rattle.pg_expr.specs.declared.operand.Operand.{Operand}
@@ -15,10 +15,12 @@ use Rattle.pg_expr.specs.Cond.{Cond, compare, is_null, is_not_null, bool_col, co
 use Rattle.pg_expr.specs.View as view
 use Rattle.catalog.specs.Contents.{Contents}
 use Rattle.catalog.specs.Range.{Range, column_at}
-use Rattle.catalog.specs.Statistics.{Common, Statistics, shares}
+use Rattle.catalog.specs.Statistics.{Common, Statistics, bound_at, shares}
 use Rattle.catalog.specs.declared.limits.TheConstants.{WHOLE_SHARE}
 use Rattle.path_cost.specs.declared.shares.TheConstants.{ALL_ROWS, THIRD, HALF, UNKNOWN_NULLS, PER_SHARE}
 use Rattle.path_cost.specs.Columns.{known, stats_of}
+use Rattle.path_cost.specs.Ranges.{Bound, bound_of, both_ends, condition_at, has_bound, has_end, is_bound_at}
+use Rattle.eq_classes.specs.Classes.{listed}
 use Rattle.pg_expr.specs.declared.expr.Expr.{Expr}
 
 -- a comparison of two values is True
@@ -60,26 +62,53 @@ count_holding op histogram v = count_by (λ b. holds op b v) histogram
 abbrev pub bounds_passed : Op → List Value → Value → ℕ
 bounds_passed op histogram v = count_holding (passing op) histogram v
 
--- half steps from the first bound, where j of k bounds are passed: none, all, or to the middle of a step
-abbrev pub half_steps : ℕ → ℕ → ℕ
-half_steps k j = cond (nat_eq j 0) 0 (cond (nat_eq j k) (2 * (k - 1)) (2 * j - 1))
+-- twice the way to a literal from the bound below it, so far away: less one for < and >=, and one more for <= and >
+abbrev pub twice_up : Op → ℕ → ℕ
+twice_up Lt d = 2 * d - 1
+twice_up Ge d = 2 * d - 1
+twice_up _ d = 2 * d + 1
 
--- the half steps at which a comparison holds, of 2(k - 1) in all: those before the literal for < and <=, those behind it
--- for > and >=
-abbrev pub half_steps_met : Op → ℕ → ℕ → ℕ
-half_steps_met Lt k j = half_steps k j
-half_steps_met Le k j = half_steps k j
-half_steps_met _ k j = 2 * (k - 1) - half_steps k j
+-- how far a whole number is above another
+abbrev pub apart : ℤ → ℤ → ℕ
+apart a b = unsigned_abs (b -ℤ a)
+
+-- how wide the step between two bounds is, and twice the way to a literal in it: half a step in a column whose values are
+-- no whole numbers
+abbrev pub step_of : Op → Value → Value → Value → ℕ × ℕ
+step_of op (Int a) (Int b) (Int v) = (apart a b, twice_up op (apart a v))
+step_of op a b v = (1, 1)
+
+-- parts of a whole before a literal in the step behind j of k bounds, by the step's width and twice the way in it
+abbrev pub place_in : ℕ → ℕ → ℕ × ℕ → ℕ × ℕ
+place_in k j step = ((2 * j - 2) * step.0 + step.1, 2 * (k - 1) * step.0)
+
+-- parts of a whole before a literal that passes j bounds of a histogram: none, all, or to its place in a step, linear
+-- between the two bounds
+abbrev pub place : Op → Statistics → Value → ℕ → ℕ × ℕ
+place op s v j =
+    let k = length s.histogram in
+    cond (nat_eq j 0) (0, 2 * (k - 1))
+    (cond (nat_eq j k) (2 * (k - 1), 2 * (k - 1)) (place_in k j (step_of op (bound_at s (j - 1)) (bound_at s j) v)))
+
+-- the parts at which a comparison holds: those before the literal for < and <=, those behind it for > and >=
+abbrev pub met_of : Op → ℕ × ℕ → ℕ
+met_of Lt p = p.0
+met_of Le p = p.0
+met_of _ p = p.1 - p.0
 
 -- the shares of the common values that meet a comparison
 abbrev pub shares_met : Op → List Common → Value → ℕ
 shares_met op common v = sum_by (λ (p : Common). cond (holds op p.0 v) p.1 0) common
 
+-- an inequality by the histogram: the common values that meet it, and a part of the others
+abbrev pub by_histogram : Op → Statistics → Value → ℕ
+by_histogram op s v =
+    let p = place op s v (bounds_passed op s.histogram v) in
+    PER_SHARE * shares_met op s.common v + PER_SHARE * uncommon s * met_of op p / p.1
+
 -- an inequality: by the histogram where there is one, else a third
 abbrev pub inequality : Op → Statistics → Value → ℕ
-inequality op s v =
-    let k = length s.histogram in
-    cond (nat_eq k 0) THIRD (PER_SHARE * shares_met op s.common v + PER_SHARE * uncommon s * half_steps_met op k (bounds_passed op s.histogram v) / (2 * (k - 1)))
+inequality op s v = cond (nat_eq (length s.histogram) 0) THIRD (by_histogram op s v)
 
 -- a column and a literal that is not NULL
 abbrev pub column_literal : Op → Statistics → Value → ℕ
@@ -121,6 +150,19 @@ and_share a b = a * b / ALL_ROWS
 abbrev pub or_share : ℕ → ℕ → ℕ
 or_share a b = a + b - a * b / ALL_ROWS
 
+-- both ends of a range of a column together
+abbrev pub range_share : Statistics → ℕ → ℕ → ℕ
+range_share s a b = both_ends (PER_SHARE * valued s) (equal_by s None) a b
+
+-- a list bounds a column that has a histogram from both sides
+abbrev pub is_ranged : Statistics → ColRef → List Cond → Bool
+is_ranged s x es = not (nat_eq (length s.histogram) 0) && (has_bound x true es && has_bound x false es)
+
+-- what a condition multiplies with: what it is given as one end of a range, else its own share
+abbrev pub weight_or : Option ℕ → ℕ → ℕ
+weight_or (Some given) own = given
+weight_or None own = own
+
 module _ (c : Contents) (range : Range) where
   -- a column of the query and a literal; a comparison with NULL is True at no row
   abbrev pub of_column_and : Op → ColRef → Value → ℕ
@@ -138,23 +180,48 @@ module _ (c : Contents) (range : Range) where
   abbrev pub of_null : ColRef → ℕ
   of_null x = null_by (column_at c range x) (known c range x)
 
+  -- the share of a bound
+  abbrev pub bound_share : Cond → ℕ
+  bound_share (compare op l r) = of_comparison op l r
+  bound_share _ = ALL_ROWS
+
+  -- the least share of the bounds of a column from a side; all rows where there are none
+  abbrev pub least_bound : ColRef → Bool → List Cond → ℕ
+  least_bound x below [] = ALL_ROWS
+  least_bound x below (e ∷ es) = cond (is_bound_at x below (bound_of e)) (min (bound_share e) (least_bound x below es)) (least_bound x below es)
+
+  -- the bounds of a column in a list, taken together
+  abbrev pub column_range : ColRef → List Cond → ℕ
+  column_range x es = range_share (stats_of c range x) (least_bound x true es) (least_bound x false es)
+
+  -- what a bound multiplies with in a list that bounds its column from both sides: the share of the range, and all rows where
+  -- one of these bounds stands before it
+  abbrev pub end_weight : List Cond → List Cond → Option Bound → Option ℕ
+  end_weight es before None = None
+  end_weight es before (Some (x, below)) =
+      cond (is_ranged (stats_of c range x) x es) (Some (cond (has_end x before) ALL_ROWS (column_range x es))) None
+
+  -- what the condition of a number of a list multiplies with as one end of a range, if it is one
+  abbrev pub range_weight : List Cond → ℕ → Option ℕ
+  range_weight es n = end_weight es (take n es) (bound_of (condition_at es n))
+
   abbrev mutual
-    -- the share of rows at which a condition is True, in parts per 10^9; conditions are taken as independent
-    -- (clauselist_selectivity), a boolean column as half
+    -- the share of rows at which a condition is True, in parts per 10^9; conditions are taken as independent but for the
+    -- bounds of a column (clauselist_selectivity), a boolean column as half
     pub selectivity : Cond → ℕ
     selectivity (compare op l r) = of_comparison op l r
     selectivity (is_null x) = of_null x
     selectivity (is_not_null x) = ALL_ROWS - of_null x
     selectivity (bool_col x) = HALF
     selectivity (const t) = all_or_none (is_true t)
-    selectivity (all_of es) = of_all ALL_ROWS es
+    selectivity (all_of es) = of_all (listed es) 0 ALL_ROWS es
     selectivity (any_of es) = of_any 0 es
     selectivity (negation e) = ALL_ROWS - selectivity e
 
-    -- AND, from the left, after a share
-    pub of_all : ℕ → Conds → ℕ
-    of_all a no_conds = a
-    of_all a (cond_and e es) = of_all (and_share a (selectivity e)) es
+    -- AND, from the left, after a share, over what its parts multiply with; the first that is left has the number given
+    pub of_all : List Cond → ℕ → ℕ → Conds → ℕ
+    of_all parts n a no_conds = a
+    of_all parts n a (cond_and e es) = of_all parts (n + 1) (and_share a (weight_or (range_weight parts n) (selectivity e))) es
 
     -- OR, from the left, after a share
     pub of_any : ℕ → Conds → ℕ
@@ -163,8 +230,16 @@ module _ (c : Contents) (range : Range) where
 
   -- the share at which all conditions are True
   abbrev pub all_share : List Expr → ℕ
-  all_share es = of_all ALL_ROWS (view.conds es)
+  all_share es = of_all (map view.cond es) 0 ALL_ROWS (view.conds es)
 
   -- the share at which some condition is True
   abbrev pub any_share : List Expr → ℕ
   any_share es = of_any 0 (view.conds es)
+
+  -- what the condition of a number of a list multiplies with
+  abbrev pub weight : List Cond → ℕ → ℕ
+  weight es n = weight_or (range_weight es n) (selectivity (condition_at es n))
+
+  -- what those of some numbers multiply with
+  abbrev pub weights : List Cond → List ℕ → List ℕ
+  weights es ns = map (weight es) ns

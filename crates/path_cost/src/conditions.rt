@@ -1,6 +1,6 @@
 //! The share of rows at which a condition is taken to be true.
 
-ghost use Rattle.std.specs.Prelude.{◌≡◌, ◌≤◌, IsTrue};
+ghost use Rattle.std.specs.Prelude.{◌≡◌, ◌≤◌, ◌<◌, All, IsTrue, length};
 ghost use Rattle.pg_value.specs.Truths.{IsSameKind};
 ghost use Rattle.pg_expr.specs.Columns.{passes_column};
 ghost use Rattle.pg_expr.specs.Typed.{AreTyped, IsTyped, some_value};
@@ -8,10 +8,12 @@ ghost use Rattle.pg_expr.specs.Cond as conds;
 ghost use Rattle.pg_expr.specs.View as view;
 ghost use Rattle.path_cost.specs.Columns.{AreTables, IsOver, is_column_in};
 ghost use Rattle.catalog.specs.Range.{type_in};
+ghost use Rattle.path_cost.specs.Ranges.{conditions_of};
 ghost use Rattle.path_cost.specs.Relations.{range_of};
 ghost use Rattle.path_cost.specs.Selectivity as sel;
 ghost use Rattle.path_cost.specs.Limits.{HasColumns, HaveColumns};
 
+use crate::ranges::{Listing, range_weight};
 use crate::shares::{ALL_ROWS, HALF, PER_SHARE, UNKNOWN_NULLS, column_literal, holds, two_columns};
 use crate::tables::{Relations, column, known, nulls};
 use catalog::{Catalog, RangeTable};
@@ -28,7 +30,21 @@ pub fn selectivity(cat: &Catalog, range: &RangeTable, e: &Expr) -> u32
     share_of(cat, Relations::Of(range), e) as u32
 }
 
-/// The same over one table or over a query's relations.
+/// What the condition of a number of a list multiplies with, in parts per 10^9.
+pub(crate) fn weight(cat: &Catalog, range: &RangeTable, list: Listing, n: usize) -> u32
+    requires tables { AreTables cat.now range.now }
+    requires over { All (IsOver cat.now range.now) (conditions_of list) }
+    requires number { n < length (conditions_of list) }
+    ensures weight { result ≡ sel.weight cat.now range.now (conditions_of list.entry) n }
+    ensures part { result ≤ 1_000_000_000 }
+{
+    match range_weight(cat, Relations::Of(range), list, n) {
+        Some(weight) => weight as u32,
+        None => selectivity(cat, range, list.at(n)),
+    }
+}
+
+/// The share of rows at which a condition over one table or over a query's relations is taken to be true.
 #[cycle(share)]
 pub(crate) fn share_of(cat: &Catalog, relations: Relations, e: &Expr) -> u64
     requires tables { AreTables cat.now (range_of relations) }
@@ -50,6 +66,7 @@ pub(crate) fn share_of(cat: &Catalog, relations: Relations, e: &Expr) -> u64
 }
 
 #[cycle(share)]
+#[tactic(auto, using(eq_classes::proofs::SearchLemmas::same_length))]
 fn all_share(cat: &Catalog, relations: Relations, parts: &[Expr]) -> u64
     requires tables { AreTables cat.now (range_of relations) }
     requires columns { HaveColumns cat.now (range_of relations) (view.conds parts.now) }
@@ -58,8 +75,14 @@ fn all_share(cat: &Catalog, relations: Relations, parts: &[Expr]) -> u64
     ensures part { result ≤ 1_000_000_000 }
 {
     let mut all = ALL_ROWS;
+    let mut n = 0;
     for part in parts {
-        all = both(all, share_of(cat, relations, part));
+        let share = match range_weight(cat, relations, Listing::Parts(parts), n) {
+            Some(weight) => weight,
+            None => share_of(cat, relations, part),
+        };
+        all = both(all, share);
+        n += 1;
     }
     all
 }
@@ -125,7 +148,7 @@ fn null_share(cat: &Catalog, relations: Relations, x: ColRef) -> u64
 }
 
 /// The share of rows at which a comparison is true.
-fn compared(cat: &Catalog, relations: Relations, op: Op, l: &Operand, r: &Operand) -> u64
+pub(crate) fn compared(cat: &Catalog, relations: Relations, op: Op, l: &Operand, r: &Operand) -> u64
     requires tables { AreTables cat.now (range_of relations) }
     requires left { IsTrue (passes_column (is_column_in cat.now (range_of relations)) l.now) }
     requires right { IsTrue (passes_column (is_column_in cat.now (range_of relations)) r.now) }

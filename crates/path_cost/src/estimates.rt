@@ -7,27 +7,16 @@ ghost use Rattle.pg_expr.specs.AtomSets.{contains};
 ghost use Rattle.eq_classes.specs.Clauses.{Clause};
 ghost use Rattle.eq_classes.specs.declared.classes.ClassNo.{ClassNo};
 ghost use Rattle.cost_rules.specs.Costs.{IsEstimate};
-ghost use Rattle.cost_rules.specs.Powers.{clamped};
 ghost use Rattle.path_cost.specs.Columns.{AreTables, IsOver};
-ghost use Rattle.path_cost.specs.Estimates.{either, param_rows, product_rows, relations, set_rows, share_of_rows, table_rows, kept_by, pairs_by, is_keyed, is_pair_at};
+ghost use Rattle.path_cost.specs.Estimates.{either, param_rows, product_rows, relations, set_rows, table_rows, kept_by, pairs_by, is_keyed, is_pair_at};
 
-use crate::conditions::selectivity;
-use crate::shares::ALL_ROWS;
+use crate::conditions::weight;
+use crate::ranges::Listing;
 use catalog::{Catalog, RangeTable};
 use cost_rules::MOST_ESTIMATE;
 use eq_classes::{ClassNo, Classes, ClauseSet, note};
+use exact_rows::ExactRows;
 use pg_base::{RelNo, RelSet};
-
-/// A share of some rows, rounded up.
-pub(crate) fn keep(rows: u64, share: u32) -> u64
-    requires rows { rows ≤ 10 ^ 12 }
-    requires share { share ≤ 1_000_000_000 }
-    ensures value { result ≡ share_of_rows rows share }
-    ensures estimate { IsEstimate result }
-{
-    let part = (u128::from(rows) * u128::from(share)).div_ceil(u128::from(ALL_ROWS));
-    part.min(u128::from(MOST_ESTIMATE)).max(1) as u64
-}
 
 /// So many rows after the clauses of two sets, by their numbers.
 pub(crate) fn after(
@@ -44,13 +33,38 @@ pub(crate) fn after(
     ensures value { result ≡ kept_by cat.now range.now rows (either one.now other.now) classes.now }
     ensures estimate { IsEstimate result }
 {
+    left_of(
+        cat,
+        range,
+        classes,
+        ExactRows::of(u128::from(rows)),
+        one,
+        other,
+    )
+}
+
+/// The same, of a number of rows of any size.
+fn left_of(
+    cat: &Catalog,
+    range: &RangeTable,
+    classes: &Classes,
+    rows: ExactRows,
+    one: &ClauseSet,
+    other: &ClauseSet,
+) -> u64
+    requires tables { AreTables cat.now range.now }
+    requires clauses { All (λ (k : Clause). IsOver cat.now range.now k.cond) classes.now.clauses }
+    requires some { 1 ≤ rows }
+    ensures value { result ≡ kept_by cat.now range.now rows (either one.now other.now) classes.now }
+    ensures estimate { IsEstimate result }
+{
     let mut left = rows;
     for n in 0..classes.count() {
         if is_in_either(one, other, n as u16) {
-            left = keep(left, selectivity(cat, range, classes.clause(n as u16)));
+            left.keep(weight(cat, range, Listing::Clauses(classes), n));
         }
     }
-    left
+    left.up_to(MOST_ESTIMATE)
 }
 
 /// Whether a clause is in one of two sets.
@@ -62,7 +76,7 @@ pub(crate) fn is_in_either(one: &ClauseSet, other: &ClauseSet, n: u16) -> bool
 }
 
 /// The rows of a relation with the relations of a parameterisation, after the clauses that it tests then.
-#[tactic(auto, using(crate::proofs::KeptLemmas::where_params))]
+#[tactic(auto, using(crate::proofs::KeptLemmas::params_numbered))]
 pub fn rows_param(cat: &Catalog, range: &RangeTable, classes: &Classes, r: RelNo, p: RelSet) -> u64
     requires tables { AreTables cat.now range.now }
     requires clauses { All (λ (k : Clause). IsOver cat.now range.now k.cond) classes.now.clauses }
@@ -83,13 +97,14 @@ pub(crate) fn relation_rows(cat: &Catalog, range: &RangeTable, r: RelNo) -> u64
     requires relation { r.0 < length range.now }
     ensures rows { result ≡ table_rows cat.now range.now r.0 }
     ensures estimate { IsEstimate result }
+    ensures few { result < 2 ^ 32 }
 {
     cat.rows(range.items()[r.0 as usize].0)
 }
 
 /// The estimated rows of a set of relations, however they are joined: the product of its relations' rows, then its
 /// clauses by number.
-#[tactic(auto, using(crate::proofs::KeptLemmas::where_all))]
+#[tactic(auto, using(crate::proofs::KeptLemmas::all_numbered))]
 pub fn rows(cat: &Catalog, range: &RangeTable, classes: &Classes, s: RelSet) -> u64
     requires tables { AreTables cat.now range.now }
     requires clauses { All (λ (k : Clause). IsOver cat.now range.now k.cond) classes.now.clauses }
@@ -99,21 +114,21 @@ pub fn rows(cat: &Catalog, range: &RangeTable, classes: &Classes, s: RelSet) -> 
 {
     let product = product(cat, range, s);
     let all = classes.all_clauses(s);
-    after(cat, range, classes, product, &all, &ClauseSet::empty())
+    left_of(cat, range, classes, product, &all, &ClauseSet::empty())
 }
 
-/// The rows of the product of a set's relations.
-fn product(cat: &Catalog, range: &RangeTable, s: RelSet) -> u64
+/// The rows of the product of a set's relations, exact.
+fn product(cat: &Catalog, range: &RangeTable, s: RelSet) -> ExactRows
     requires tables { AreTables cat.now range.now }
     requires few { length range.now ≤ 16 }
     ensures rows { result ≡ product_rows cat.now range.now (relations range.now (has s.0)) }
-    ensures estimate { IsEstimate result }
+    ensures some { 1 ≤ result }
 {
-    let mut rows = 1;
+    let mut rows = ExactRows::of(1);
     for n in 0..range.items().len() {
         let r = RelNo(n as u8);
         if s.has(r) {
-            rows = times(rows, relation_rows(cat, range, r));
+            rows.times(relation_rows(cat, range, r));
         }
     }
     rows
@@ -121,7 +136,7 @@ fn product(cat: &Catalog, range: &RangeTable, s: RelSet) -> u64
 
 /// The pairs of rows of two sets that are equal in some classes, before the other clauses that join the sets: a merge by
 /// these classes works on so many.
-#[tactic(auto, using(crate::proofs::KeptLemmas::used_alone, crate::proofs::KeptLemmas::where_pairs))]
+#[tactic(auto, using(crate::proofs::KeptLemmas::used_alone, crate::proofs::KeptLemmas::pairs_numbered))]
 pub fn pairs(
     cat: &Catalog,
     range: &RangeTable,
@@ -136,9 +151,17 @@ pub fn pairs(
     ensures rows { result ≡ pairs_by cat.now range.now classes.now (has a.0) (has b.0) keys.now }
     ensures estimate { IsEstimate result }
 {
-    let product = times(rows(cat, range, classes, a), rows(cat, range, classes, b));
+    let outer = u128::from(rows(cat, range, classes, a));
+    let inner = u128::from(rows(cat, range, classes, b));
     let equal = key_pairs(classes, a, b, keys);
-    after(cat, range, classes, product, &equal, &ClauseSet::empty())
+    left_of(
+        cat,
+        range,
+        classes,
+        ExactRows::of(outer * inner),
+        &equal,
+        &ClauseSet::empty(),
+    )
 }
 
 /// The pair clauses of some classes among the clauses that join two sets.
@@ -177,16 +200,4 @@ fn is_among(keys: &[ClassNo], class: ClassNo) -> bool
         }
     }
     false
-}
-
-/// A product of rows.
-fn times(a: u64, b: u64) -> u64
-    requires left { IsEstimate a }
-    requires right { IsEstimate b }
-    ensures value { result ≡ clamped (a * b) }
-    ensures estimate { IsEstimate result }
-{
-    (u128::from(a) * u128::from(b))
-        .min(u128::from(MOST_ESTIMATE))
-        .max(1) as u64
 }

@@ -1,6 +1,6 @@
 //! The costs of indexes over a catalogue, a query's relations and its clauses. Each cost is cut to at most 10^18.
 
-ghost use Rattle.std.specs.Prelude.{◌≡◌, ◌≤◌, ◌<◌, false, All, length, map};
+ghost use Rattle.std.specs.Prelude.{◌≡◌, ◌≤◌, ◌<◌, [], ◌∷◌, false, All, length, map};
 ghost use Rattle.pg_base.specs.declared.limits.TheConstants.{MOST_ATOMS};
 ghost use Rattle.pg_expr.specs.AtomSets.{contains};
 ghost use Rattle.pg_expr.specs.Pushed.{parts_of};
@@ -13,18 +13,21 @@ ghost use Rattle.cost_rules.specs.declared.parameters.TheConstants.{MOST_COST};
 ghost use Rattle.cost_rules.specs.Costs.{IsCost, IsEstimate};
 ghost use Rattle.path_cost.specs.Columns.{AreTables, IsOver, AreOver};
 ghost use Rattle.path_cost.specs.Costs as costs;
-ghost use Rattle.path_cost.specs.Estimates.{conditions_from, entries as entries_of, kept_by_parts};
+ghost use Rattle.path_cost.specs.Estimates.{conditions_from, entries as entries_of, kept, kept_among};
 ghost use Rattle.path_cost.specs.Cut.{own_part_cut, part_cut, arm_cut, scan_cut};
 ghost use Rattle.path_cost.specs.Costs.{found};
 
-use crate::conditions::{selectivity, share_of};
-use crate::estimates::{after, keep, relation_rows};
+use crate::conditions::{share_of, weight};
+use crate::estimates::{after, relation_rows};
+use crate::ranges::Listing;
+use crate::runs::runs;
 use crate::scans::{operators_of, relation_pages};
 use crate::tables::Relations;
 use catalog::opfamily::Method;
 use catalog::{Catalog, RangeTable};
-use cost_rules::{HASH_DESCENT, Pair, btree_descent, index_entries, index_scan};
+use cost_rules::{HASH_DESCENT, MOST_ESTIMATE, Pair, btree_descent, index_entries, index_scan};
 use eq_classes::{Classes, ClauseSet};
+use exact_rows::ExactRows;
 use pg_base::{IndexNo, RelNo, RelSet};
 use pg_expr::{AtomSet, Expr};
 use std::slice;
@@ -39,12 +42,24 @@ pub fn entries(cat: &Catalog, i: IndexNo) -> u64
     let def = cat.index(i);
     let rows = cat.rows(def.table);
     match &def.predicate {
-        Some(predicate) => keep(
+        Some(predicate) => share_kept(
             rows,
             share_of(cat, Relations::One(def.table), predicate) as u32,
         ),
         None => rows,
     }
+}
+
+/// What a share leaves of some rows.
+fn share_kept(rows: u64, share: u32) -> u64
+    requires rows { IsEstimate rows }
+    requires share { share ≤ 1_000_000_000 }
+    ensures rows { result ≡ kept rows (share ∷ []) }
+    ensures estimate { IsEstimate result }
+{
+    let mut left = ExactRows::of(u128::from(rows));
+    left.keep(share);
+    left.up_to(MOST_ESTIMATE)
 }
 
 /// The way down an index.
@@ -59,16 +74,18 @@ fn descent(cat: &Catalog, i: IndexNo) -> u64
     }
 }
 
-/// An index's own part where so many rows meet its bounds, and so many conditions are made on each entry.
-fn own_part(cat: &Catalog, i: IndexNo, rows: u64, conditions: u64) -> u64
+/// An index's own part in one of so many runs, where so many rows meet its bounds, and so many conditions are made on each
+/// entry.
+fn own_part(cat: &Catalog, runs: u64, i: IndexNo, rows: u64, conditions: u64) -> u64
     requires index { IsIndex cat.now i }
+    requires runs { IsEstimate runs }
     requires rows { IsEstimate rows }
-    ensures rule { result ≡ own_part_cut cat.now i rows conditions }
+    ensures rule { result ≡ own_part_cut cat.now runs i rows conditions }
     ensures reached { costs.descent cat.now i ≤ result }
     ensures most { result ≤ MOST_COST }
 {
     let all = entries(cat, i);
-    index_entries(descent(cat, i), rows.min(all), all, conditions)
+    index_entries(runs, descent(cat, i), rows.min(all), all, conditions)
 }
 
 /// How many clauses a set has.
@@ -84,8 +101,9 @@ fn count_of(classes: &Classes, set: &ClauseSet) -> u64
     count
 }
 
-/// An index's own part of a scan of a relation: the way down, the part of its pages that the entries within the bounds
-/// have, at random, and each of these entries with the conditions. It is at most 10^18.
+/// An index's own part of a scan of a relation where the rows of `p` are given: the way down, the part of its pages that
+/// the entries within the bounds have, at random, those of all runs together, and each of these entries with the
+/// conditions. It is at most 10^18.
 #[tactic(auto, using(crate::proofs::KeptLemmas::used_alone))]
 pub fn index_part(
     cat: &Catalog,
@@ -93,43 +111,52 @@ pub fn index_part(
     classes: &Classes,
     i: IndexNo,
     r: RelNo,
+    p: RelSet,
     bounds: &ClauseSet,
     conditions: &ClauseSet,
 ) -> u64
     requires tables { AreTables cat.now range.now }
     requires clauses { All (λ (k : Clause). IsOver cat.now range.now k.cond) classes.now.clauses }
+    requires few { length range.now ≤ 16 }
     requires relation { r.0 < length range.now }
     requires index { IsIndex cat.now i }
-    ensures rule { result ≡ part_cut cat.now range.now classes.now i r bounds.now conditions.now }
+    ensures rule { result ≡ part_cut cat.now range.now classes.now i r p bounds.now conditions.now }
     ensures reached { costs.descent cat.now i ≤ result }
     ensures most { result ≤ MOST_COST }
 {
     let rows = relation_rows(cat, range, r);
     let within = after(cat, range, classes, rows, bounds, &ClauseSet::empty());
-    own_part(cat, i, within, count_of(classes, conditions))
+    let runs = runs(cat, range, classes, p);
+    own_part(cat, runs, i, within, count_of(classes, conditions))
 }
 
-/// The part of the index that serves an arm of an OR: the parts of the arm's AND, or the arm itself, in order; those of
-/// the numbers given, from 0, are its bounds, and all are its conditions. It is at most 10^18.
+/// The part of the index that serves an arm of an OR where the rows of `p` are given: the parts of the arm's AND, or the
+/// arm itself, in order; those of the numbers given, from 0, are its bounds, and all are its conditions. It is at most
+/// 10^18.
 pub fn arm_part(
     cat: &Catalog,
     range: &RangeTable,
+    classes: &Classes,
     i: IndexNo,
     r: RelNo,
+    p: RelSet,
     arm: &Expr,
     bounds: &AtomSet,
 ) -> u64
     requires tables { AreTables cat.now range.now }
+    requires clauses { All (λ (k : Clause). IsOver cat.now range.now k.cond) classes.now.clauses }
+    requires relations { length range.now ≤ 16 }
     requires over { IsOver cat.now range.now (view.cond arm.now) }
     requires few { length (listed (parts_of false (view.cond arm.now))) ≤ MOST_ATOMS }
     requires relation { r.0 < length range.now }
     requires index { IsIndex cat.now i }
-    ensures rule { result ≡ arm_cut cat.now range.now i r arm.now bounds.now }
+    ensures rule { result ≡ arm_cut cat.now range.now classes.now i r p arm.now bounds.now }
     ensures most { result ≤ MOST_COST }
 {
     let parts = parts_of_arm(arm);
     let within = after_parts(cat, range, relation_rows(cat, range, r), parts, bounds);
-    own_part(cat, i, within, parts.len() as u64)
+    let runs = runs(cat, range, classes, p);
+    own_part(cat, runs, i, within, parts.len() as u64)
 }
 
 /// The parts of an AND, or a condition itself.
@@ -157,21 +184,21 @@ fn after_parts(
     requires over { AreOver cat.now range.now parts.now }
     requires few { length parts.now ≤ MOST_ATOMS }
     requires rows { IsEstimate rows }
-    ensures value { result ≡ kept_by_parts cat.now range.now rows (contains chosen.now) parts.now }
+    ensures value { result ≡ kept_among cat.now range.now rows (contains chosen.now) (map view.cond parts.now) }
     ensures estimate { IsEstimate result }
 {
-    let mut left = rows;
+    let mut left = ExactRows::of(u128::from(rows));
     for n in 0..parts.len() {
         if chosen.has(n as u8) {
-            left = keep(left, selectivity(cat, range, &parts[n]));
+            left.keep(weight(cat, range, Listing::Parts(parts), n));
         }
     }
-    left
+    left.up_to(MOST_ESTIMATE)
 }
 
 /// An index scan of a relation: the index's own part, of which the way down comes before the first row; the heap pages
-/// of the rows found, at random, but none where the scan is index-only; and each row found with the clauses of the
-/// relation and of the parameterisation that are no conditions.
+/// of the rows found, at random, those of all runs together, but none where the scan is index-only; and each row found
+/// with the clauses of the relation and of the parameterisation that are no conditions.
 pub fn index(
     cat: &Catalog,
     range: &RangeTable,
@@ -190,14 +217,15 @@ pub fn index(
     requires index { IsIndex cat.now i }
     ensures rule { result ≡ scan_cut cat.now range.now classes.now i r p bounds.now conditions.now only }
     ensures cost { IsCost result }
-    ensures part_of { part_cut cat.now range.now classes.now i r bounds.now conditions.now ≤ result.total }
+    ensures part_of { part_cut cat.now range.now classes.now i r p bounds.now conditions.now ≤ result.total }
 {
-    let part = index_part(cat, range, classes, i, r, bounds, conditions);
+    let part = index_part(cat, range, classes, i, r, p, bounds, conditions);
     let found = rows_found(cat, range, classes, i, r, conditions);
     let base = classes.base_clauses(r);
     let param = classes.param_clauses(r, p);
     let ops = operators_of(classes, &base, &param, conditions);
     index_scan(
+        runs(cat, range, classes, p),
         descent(cat, i),
         part,
         only,

@@ -7,6 +7,8 @@ mod estimates;
 mod indexes;
 mod known;
 mod laws;
+mod ranges;
+mod runs;
 mod scans;
 mod shares;
 mod tables;
@@ -18,7 +20,7 @@ pub use cost_rules::{
 };
 pub use estimates::{key_pairs, pairs, rows, rows_param};
 pub use indexes::{arm_part, entries, index, index_part};
-pub use laws::{rows_of_equal_sets, scans_are_admissible, shares_of_rows};
+pub use laws::{ranges_are_in_both_ends, rows_of_equal_sets, scans_are_admissible, shares_of_rows};
 pub use scans::{bitmap, operators_of, seq};
 pub use shares::{ALL_ROWS, HALF, PER_SHARE, THIRD, UNKNOWN_NULLS};
 pub use tables::distinct;

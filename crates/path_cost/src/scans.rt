@@ -10,6 +10,7 @@ ghost use Rattle.path_cost.specs.Estimates.{either_but, table_pages};
 ghost use Rattle.path_cost.specs.Cut.{saturated, operators_but, bitmap_cut};
 
 use crate::estimates::{after, is_in_either, relation_rows};
+use crate::runs::runs;
 use catalog::{Catalog, RangeTable};
 use cost_rules::{Pair, bitmap_scan, seq_scan};
 use eq_classes::{Classes, ClauseSet};
@@ -67,8 +68,8 @@ pub fn seq(cat: &Catalog, range: &RangeTable, classes: &Classes, r: RelNo) -> Pa
 }
 
 /// A bitmap scan over the parts of its indexes, together at most 10^18: the rows are those after the clauses that it
-/// uses, the heap pages come in order, and each row is tested by all clauses of the relation and of the
-/// parameterisation.
+/// uses, the heap pages come in order, those of all runs together, and each row is tested by all clauses of the relation
+/// and of the parameterisation.
 #[tactic(auto, using(crate::proofs::CostLemmas::bitmap_cut, crate::proofs::CostLemmas::local_operators_are, crate::proofs::KeptLemmas::used_alone))]
 pub fn bitmap(
     cat: &Catalog,
@@ -99,5 +100,6 @@ pub fn bitmap(
     let base = classes.base_clauses(r);
     let param = classes.param_clauses(r, p);
     let ops = operators_of(classes, &base, &param, &ClauseSet::empty());
-    bitmap_scan(parts, rows, relation_pages(cat, range, r), ops)
+    let runs = runs(cat, range, classes, p);
+    bitmap_scan(runs, parts, rows, relation_pages(cat, range, r), ops)
 }

@@ -1,6 +1,6 @@
 //! Shares of rows that meet a comparison, in parts per 10^9.
 
-ghost use Rattle.std.specs.Prelude.{◌≡◌, ◌≤◌, ◌^◌, ◌*◌, ◌-◌, false, All, length};
+ghost use Rattle.std.specs.Prelude.{◌≡◌, ◌≤◌, ◌<◌, ◌^◌, ◌*◌, ◌/◌, ◌-◌, false, None, All, length};
 ghost use Rattle.pg_value.specs.Truths.{AreComparable, is_absolute};
 ghost use Rattle.catalog.specs.Statistics.{Common, shares};
 ghost use Rattle.catalog.specs.declared.limits.TheConstants.{MOST_COMMON, MOST_BOUNDS, WHOLE_SHARE};
@@ -74,22 +74,6 @@ fn common_share(common: &[(Value, u32)], v: &Value) -> Option<u32>
     None
 }
 
-/// How many bounds meet a comparison with a literal.
-fn count_met(op: Op, histogram: &[Value], v: &Value) -> u64
-    requires few { length histogram.now ≤ MOST_BOUNDS }
-    requires comparable { All (λ b. AreComparable op b v.now) histogram.now }
-    ensures count { result ≡ count_holding op histogram.now v.now }
-    ensures few { result ≤ length histogram.now }
-{
-    let mut count = 0;
-    for b in histogram {
-        if holds(op, b, v) {
-            count += 1;
-        }
-    }
-    count
-}
-
 /// The share of the rows without NULL, in parts per million.
 fn valued(k: &Known) -> u64
     requires { IsLawfulKnown k.now }
@@ -120,53 +104,168 @@ fn passing(op: Op) -> Op
     }
 }
 
-/// Half steps from the first of `k` bounds, where `j` of them are passed: none, all, or to the middle of a step.
-fn half_steps(k: u64, j: u64) -> u64
-    requires two { 2 ≤ k }
-    requires few { k ≤ MOST_BOUNDS }
-    requires within { j ≤ k }
-    ensures value { result ≡ sel.half_steps k j }
-    ensures most { result ≤ 2 * (k - 1) }
+/// How many bounds of a histogram a literal passes. They stand first, since the bounds rise, so it is found by halves.
+#[tactic(auto, using(crate::proofs::KindLemmas::bounds_compare))]
+fn passed(op: Op, k: &Known, v: &Value) -> usize
+    requires lawful { IsLawfulKnown k.now }
+    requires suits { SuitsColumn k.now v.now }
+    ensures count { result ≡ sel.bounds_passed op k.now.histogram.now v.now }
+    ensures few { result ≤ length k.now.histogram.now }
 {
-    if j == 0 {
-        0
-    } else if j == k {
-        2 * (k - 1)
-    } else {
-        2 * j - 1
+    let below = passing(op);
+    let mut from = 0;
+    let mut to = k.histogram.len();
+    while from < to {
+        let mid = from + (to - from) / 2;
+        if holds(below, &k.histogram[mid], v) {
+            from = mid + 1;
+        } else {
+            to = mid;
+        }
+    }
+    from
+}
+
+/// How far a whole number is from another.
+fn apart(a: i64, b: i64) -> u128
+    ensures way { result ≡ sel.apart a b }
+    ensures most { result ≤ 2 ^ 64 - 1 }
+{
+    (i128::from(b) - i128::from(a)).unsigned_abs()
+}
+
+/// Twice the way to a literal that is so far above a bound: half a unit less or more.
+fn twice_up(op: Op, way: u128) -> u128
+    requires most { way ≤ 2 ^ 64 - 1 }
+    ensures value { result ≡ sel.twice_up op way }
+    ensures most { result ≤ 2 ^ 65 }
+{
+    match op {
+        Op::Lt | Op::Ge => (2 * way).saturating_sub(1),
+        _ => 2 * way + 1,
     }
 }
 
-/// The half steps that meet an inequality.
-fn half_steps_met(op: Op, k: u64, j: u64) -> u64
-    requires two { 2 ≤ k }
-    requires few { k ≤ MOST_BOUNDS }
-    requires within { j ≤ k }
-    ensures value { result ≡ sel.half_steps_met op k j }
-    ensures most { result ≤ 2 * (k - 1) }
+/// How wide the step between two bounds is, and twice the way to a literal in it.
+fn step_of(op: Op, a: &Value, b: &Value, v: &Value) -> (u128, u128)
+    ensures value { result ≡ sel.step_of op a.now b.now v.now }
+    ensures width { result.0 ≤ 2 ^ 64 - 1 }
+    ensures way { result.1 ≤ 2 ^ 65 }
+{
+    match (a, b, v) {
+        (Value::Int(a), Value::Int(b), Value::Int(v)) => {
+            (apart(*a, *b), twice_up(op, apart(*a, *v)))
+        }
+        _ => (1, 1),
+    }
+}
+
+/// Parts of a whole before a literal in the step behind `j` of `k` bounds, by the step's width and twice the way in it.
+fn place_in(k: u64, j: u64, step: (u128, u128)) -> (u128, u128)
+    requires few { k ≤ 101 }
+    requires some { 1 ≤ j }
+    requires within { j < k }
+    requires width { step.0 ≤ 2 ^ 64 - 1 }
+    requires way { step.1 ≤ 2 ^ 65 }
+    ensures value { result ≡ sel.place_in k j step }
+    ensures most { result.1 ≤ 2 ^ 72 }
+{
+    let (k, j) = (u128::from(k), u128::from(j));
+    ((2 * j - 2) * step.0 + step.1, 2 * (k - 1) * step.0)
+}
+
+/// Parts of a whole before a literal: none, all, or to its place in a step of the histogram.
+fn place(op: Op, k: &Known, v: &Value) -> (u128, u128)
+    requires lawful { IsLawfulKnown k.now }
+    requires suits { SuitsColumn k.now v.now }
+    requires some { 1 ≤ length k.now.histogram.now }
+    ensures value { result ≡ sel.place op (statistics_of k.now) v.now (sel.bounds_passed op k.now.histogram.now v.now) }
+    ensures most { result.1 ≤ 2 ^ 72 }
+{
+    let bounds = k.histogram.len();
+    let all = 2 * (bounds as u128 - 1);
+    let j = passed(op, k, v);
+    if j == 0 {
+        return (0, all);
+    }
+    if j == bounds {
+        return (all, all);
+    }
+    let step = step_of(op, &k.histogram[j - 1], &k.histogram[j], v);
+    place_in(bounds as u64, j as u64, step)
+}
+
+/// The parts at which an inequality holds.
+fn met_of(op: Op, place: (u128, u128)) -> u128
+    ensures { result ≡ sel.met_of op place }
 {
     match op {
-        Op::Lt | Op::Le => half_steps(k, j),
-        _ => 2 * (k - 1) - half_steps(k, j),
+        Op::Lt | Op::Le => place.0,
+        _ => place.1.saturating_sub(place.0),
     }
+}
+
+/// Parts of a whole, of a share.
+#[tactic(auto, using(crate::proofs::PlaceLemmas::part_fits))]
+fn part_of(share: u64, parts: u128, whole: u128) -> u64
+    requires share { share ≤ 1_000_000_000 }
+    requires within { parts ≤ whole }
+    requires some { 1 ≤ whole }
+    requires most { whole ≤ 2 ^ 72 }
+    ensures value { result ≡ share * parts / whole }
+    ensures part { result ≤ share }
+{
+    (u128::from(share) * parts / whole) as u64
+}
+
+/// A column beside a literal with an inequality, by the histogram.
+#[tactic(auto, using(crate::proofs::KindLemmas::common_compare))]
+fn by_histogram(op: Op, k: &Known, v: &Value) -> u64
+    requires lawful { IsLawfulKnown k.now }
+    requires suits { SuitsColumn k.now v.now }
+    requires plain { is_absolute op ≡ false }
+    requires some { 1 ≤ length k.now.histogram.now }
+    ensures { result ≡ sel.by_histogram op (statistics_of k.now) v.now }
+{
+    let place = place(op, k, v);
+    let parts = met_of(op, place);
+    let between = part_of(PER_SHARE * uncommon(k), parts, place.1);
+    PER_SHARE * sum_met(op, k.common, v) + between
 }
 
 /// A column beside a literal with an inequality, by the histogram where there is one, else a third.
-#[tactic(auto, using(crate::proofs::KindLemmas::common_compare, crate::proofs::KindLemmas::bounds_compare))]
 fn inequality(op: Op, k: &Known, v: &Value) -> u64
     requires lawful { IsLawfulKnown k.now }
     requires suits { SuitsColumn k.now v.now }
     requires plain { is_absolute op ≡ false }
     ensures { result ≡ sel.inequality op (statistics_of k.now) v.now }
 {
-    let bounds = k.histogram.len() as u64;
-    if bounds == 0 {
+    if k.histogram.len() == 0 {
         return THIRD;
     }
-    let passed = count_met(passing(op), k.histogram, v);
-    let steps = half_steps_met(op, bounds, passed);
-    let between = PER_SHARE * uncommon(k) * steps / (2 * (bounds - 1));
-    PER_SHARE * sum_met(op, k.common, v) + between
+    by_histogram(op, k, v)
+}
+
+/// Both ends of a range of a column together: what both leave, and at least what one value that is not common has, but no
+/// more than each end alone.
+pub(crate) fn range_share(k: &Known, a: u64, b: u64) -> u64
+    requires lawful { IsLawfulKnown k.now }
+    requires left { a ≤ 1_000_000_000 }
+    requires right { b ≤ 1_000_000_000 }
+    ensures share { result ≡ sel.range_share (statistics_of k.now) a b }
+{
+    (a + b)
+        .saturating_sub(PER_SHARE * valued(k))
+        .max(a.min(b).min(even_part(k)))
+}
+
+/// The share of each value that is not common.
+fn even_part(k: &Known) -> u64
+    requires lawful { IsLawfulKnown k.now }
+    ensures share { result ≡ sel.equal_by (statistics_of k.now) None }
+{
+    let others = k.distinct.saturating_sub(k.common.len() as u64).max(1);
+    PER_SHARE * uncommon(k) / others
 }
 
 /// A column equal to a literal: the share of the common value, else an even part of what is not common.
@@ -178,10 +277,7 @@ fn equal_to(k: &Known, v: &Value) -> u64
 {
     match common_share(k.common, v) {
         Some(share) => PER_SHARE * u64::from(share),
-        None => {
-            let others = k.distinct.saturating_sub(k.common.len() as u64).max(1);
-            PER_SHARE * uncommon(k) / others
-        }
+        None => even_part(k),
     }
 }
 

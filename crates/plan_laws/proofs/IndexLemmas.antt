@@ -12,8 +12,9 @@ use Rattle.catalog.specs.Range.{Range}
 use Rattle.catalog.specs.Tables.{rows_of}
 use Rattle.eq_classes.specs.Clauses.{Set, ClassTable}
 use Rattle.cost_rules.specs.Scans.{part_cost, index_scan_cost}
-use Rattle.path_cost.specs.Estimates.{conditions_from, entries, entries_by, kept, picked_from, table_pages, table_rows}
-use Rattle.path_cost.specs.Costs.{arm_part, descent, descent_by, found, index_cost, index_part, other_operators, part_within}
+use Rattle.path_cost.specs.Estimates.{conditions_from, entries, entries_by, kept, kept_among, numbers_from, table_pages, table_rows}
+use Rattle.path_cost.specs.Runs.{runs}
+use Rattle.path_cost.specs.Costs.{arm_part, descent, descent_by, found, index_cost, index_part, other_operators, part_within, rows_after}
 use Rattle.index_match.specs.Arms.{arm_bounds, arm_parts}
 use Rattle.index_match.specs.Bounds.{bounds_among, index_bounds}
 use Rattle.index_match.specs.Conditions.{conditions_among, index_conditions}
@@ -23,7 +24,8 @@ use Rattle.pathkeys.specs.Keys.{index_keys, keys_by}
 use Rattle.sql_query.specs.Queries.{Query}
 use Rattle.plan_tree.specs.Costs.{scan_cost}
 use Rattle.plan_laws.specs.Moved.{over}
-use Rattle.plan_laws.proofs.EstimateLemmas.{kept-over}
+use Rattle.plan_laws.proofs.EstimateLemmas.{kept-over, selectivity-over}
+use Rattle.plan_laws.proofs.RunLemmas.{kept-by-over, runs-over}
 
 usable-by : (tables : List TableDef) (a b : List NamedIndex) (t : ClassTable) (r : ℕ) (d : Index) (e : Option Cond) → IsUsableBy (over tables a) t r d e → IsUsableBy (over tables b) t r d e
 usable-by tables a b t r d None h = h
@@ -31,7 +33,7 @@ usable-by tables a b t r d (Some e) h = h
 
 entries-by : (tables : List TableDef) (a b : List NamedIndex) (d : Index) (e : Option Cond) → entries_by (over tables b) d e ≡ entries_by (over tables a) d e
 entries-by tables a b d None = refl
-entries-by tables a b d (Some e) = kept-over tables a b ((d.table, []) ∷ []) (rows_of (over tables a) d.table) (e ∷ [])
+entries-by tables a b d (Some e) = ap (λ (n : ℕ). kept (rows_of (over tables a) d.table) (n ∷ [])) (selectivity-over tables a b ((d.table, []) ∷ []) e)
 
 module _ (tables : List TableDef) (a b : List NamedIndex) (i j : IndexNo) (same : index_at (over tables b) j ≡ index_at (over tables a) i) where
   pub conditions-same : (t : ClassTable) (r : ℕ) (p : Set) → index_conditions (over tables b) t j r p ≡ index_conditions (over tables a) t i r p
@@ -55,21 +57,24 @@ module _ (tables : List TableDef) (a b : List NamedIndex) (i j : IndexNo) (same 
   pub descent-same : descent (over tables b) j ≡ descent (over tables a) i
   descent-same = ap₂ descent_by (ap (λ (d : Index). d.method) same) entries-same
 
-  part-same : (range : Range) (r : ℕ) (bounds : List Cond) (n : ℕ) → part_within (over tables b) range j r bounds n ≡ part_within (over tables a) range i r bounds n
-  part-same range r bounds n =
-      ap₂ (λ (x y : ℕ). part_cost x (min y (kept (over tables b) range (table_rows (over tables b) range r) bounds)) y n) descent-same entries-same
-      ∙ ap (λ (k : ℕ). part_cost (descent (over tables a) i) (min (entries (over tables a) i) k) (entries (over tables a) i) n) (kept-over tables a b range (table_rows (over tables a) range r) bounds)
+  part-same : (l n k m : ℕ) → n ≡ k → part_within (over tables b) l j n m ≡ part_within (over tables a) l i k m
+  part-same l n k m h =
+      ap₂ (λ (x y : ℕ). part_cost l x (min y n) y m) descent-same entries-same
+      ∙ ap (λ (y : ℕ). part_cost l (descent (over tables a) i) (min (entries (over tables a) i) y) (entries (over tables a) i) m) h
 
-  index-part-same : (range : Range) (t : ClassTable) (r : ℕ) (bs cs : ℕ → Bool) → index_part (over tables b) range t j r bs cs ≡ index_part (over tables a) range t i r bs cs
-  index-part-same range t r bs cs = part-same range r (conditions_from 0 bs t.clauses) (length (conditions_from 0 cs t.clauses))
+  index-part-same : (range : Range) (t : ClassTable) (r : ℕ) (p : Set) (bs cs : ℕ → Bool) → index_part (over tables b) range t j r p bs cs ≡ index_part (over tables a) range t i r p bs cs
+  index-part-same range t r p bs cs =
+      ap (λ (l : ℕ). part_within (over tables b) l j (rows_after (over tables b) range t r bs) (length (conditions_from 0 cs t.clauses))) (runs-over tables a b range t p)
+      ∙ part-same (runs (over tables a) range t p) (rows_after (over tables b) range t r bs) (rows_after (over tables a) range t r bs) (length (conditions_from 0 cs t.clauses)) (kept-by-over tables a b range t (table_rows (over tables a) range r) bs)
 
   found-same : (range : Range) (t : ClassTable) (r : ℕ) (cs : ℕ → Bool) → found (over tables b) range t j r cs ≡ found (over tables a) range t i r cs
-  found-same range t r cs = ap₂ min entries-same (kept-over tables a b range (table_rows (over tables a) range r) (conditions_from 0 cs t.clauses))
+  found-same range t r cs = ap₂ min entries-same (kept-by-over tables a b range t (table_rows (over tables a) range r) cs)
 
   index-cost-same : (range : Range) (t : ClassTable) (r : ℕ) (p : Set) (bs cs : ℕ → Bool) (only : Bool) → index_cost (over tables b) range t j r p bs cs only ≡ index_cost (over tables a) range t i r p bs cs only
   index-cost-same range t r p bs cs only =
-      ap₂ (λ (x y : ℕ). index_scan_cost x y only (found (over tables b) range t j r cs) (table_pages (over tables a) range r) (other_operators (over tables a) range t r p cs)) descent-same (index-part-same range t r bs cs)
-      ∙ ap (λ (n : ℕ). index_scan_cost (descent (over tables a) i) (index_part (over tables a) range t i r bs cs) only n (table_pages (over tables a) range r) (other_operators (over tables a) range t r p cs)) (found-same range t r cs)
+      ap (λ (l : ℕ). index_scan_cost l (descent (over tables b) j) (index_part (over tables b) range t j r p bs cs) only (found (over tables b) range t j r cs) (table_pages (over tables a) range r) (other_operators (over tables a) range t r p cs)) (runs-over tables a b range t p)
+      ∙ ap₂ (λ (x y : ℕ). index_scan_cost (runs (over tables a) range t p) x y only (found (over tables b) range t j r cs) (table_pages (over tables a) range r) (other_operators (over tables a) range t r p cs)) descent-same (index-part-same range t r p bs cs)
+      ∙ ap (λ (n : ℕ). index_scan_cost (runs (over tables a) range t p) (descent (over tables a) i) (index_part (over tables a) range t i r p bs cs) only n (table_pages (over tables a) range r) (other_operators (over tables a) range t r p cs)) (found-same range t r cs)
 
   -- what a scan by the index costs
   pub scan-cost-same : (q : Query) (r : RelNo) (p : RelSet) (only : Bool) → scan_cost (over tables b) q r j p only ≡ scan_cost (over tables a) q r i p only
@@ -78,12 +83,14 @@ module _ (tables : List TableDef) (a b : List NamedIndex) (i j : IndexNo) (same 
       ∙ index-cost-same q.range q.classes r.0 (has p.0) (has_number (index_bounds (over tables a) q.classes i r.0 (has p.0))) (has_number (index_conditions (over tables a) q.classes i r.0 (has p.0))) only
 
   -- the part of a leaf of a bitmap tree, and of an arm
-  pub leaf-same : (q : Query) (r : ℕ) (p : Set) → index_part (over tables b) q.range q.classes j r (has_number (index_bounds (over tables b) q.classes j r p)) (has_number (index_conditions (over tables b) q.classes j r p)) ≡ index_part (over tables a) q.range q.classes i r (has_number (index_bounds (over tables a) q.classes i r p)) (has_number (index_conditions (over tables a) q.classes i r p))
+  pub leaf-same : (q : Query) (r : ℕ) (p : Set) → index_part (over tables b) q.range q.classes j r p (has_number (index_bounds (over tables b) q.classes j r p)) (has_number (index_conditions (over tables b) q.classes j r p)) ≡ index_part (over tables a) q.range q.classes i r p (has_number (index_bounds (over tables a) q.classes i r p)) (has_number (index_conditions (over tables a) q.classes i r p))
   leaf-same q r p =
-      ap₂ (λ (x y : List Numbered). index_part (over tables b) q.range q.classes j r (has_number x) (has_number y)) (bounds-same q.classes r p) (conditions-same q.classes r p)
-      ∙ index-part-same q.range q.classes r (has_number (index_bounds (over tables a) q.classes i r p)) (has_number (index_conditions (over tables a) q.classes i r p))
+      ap₂ (λ (x y : List Numbered). index_part (over tables b) q.range q.classes j r p (has_number x) (has_number y)) (bounds-same q.classes r p) (conditions-same q.classes r p)
+      ∙ index-part-same q.range q.classes r p (has_number (index_bounds (over tables a) q.classes i r p)) (has_number (index_conditions (over tables a) q.classes i r p))
 
-  pub arm-same : (q : Query) (r : ℕ) (arm : Cond) → arm_part (over tables b) q.range j r (arm_parts arm) (has_number (arm_bounds (index_at (over tables b) j) r arm)) ≡ arm_part (over tables a) q.range i r (arm_parts arm) (has_number (arm_bounds (index_at (over tables a) i) r arm))
-  arm-same q r arm =
-      ap (λ (d : Index). arm_part (over tables b) q.range j r (arm_parts arm) (has_number (arm_bounds d r arm))) same
-      ∙ part-same q.range r (picked_from 0 (has_number (arm_bounds (index_at (over tables a) i) r arm)) (arm_parts arm)) (length (arm_parts arm))
+  pub arm-same : (q : Query) (r : ℕ) (p : Set) (arm : Cond) → arm_part (over tables b) q.range q.classes j r p (arm_parts arm) (has_number (arm_bounds (index_at (over tables b) j) r arm)) ≡ arm_part (over tables a) q.range q.classes i r p (arm_parts arm) (has_number (arm_bounds (index_at (over tables a) i) r arm))
+  arm-same q r p arm =
+      ap (λ (d : Index). arm_part (over tables b) q.range q.classes j r p (arm_parts arm) (has_number (arm_bounds d r arm))) same
+      ∙ ap (λ (l : ℕ). part_within (over tables b) l j (kept_among (over tables b) q.range (table_rows (over tables a) q.range r) (has_number (arm_bounds (index_at (over tables a) i) r arm)) (arm_parts arm)) (length (arm_parts arm))) (runs-over tables a b q.range q.classes p)
+      ∙ part-same (runs (over tables a) q.range q.classes p) (kept_among (over tables b) q.range (table_rows (over tables a) q.range r) (has_number (arm_bounds (index_at (over tables a) i) r arm)) (arm_parts arm)) (kept_among (over tables a) q.range (table_rows (over tables a) q.range r) (has_number (arm_bounds (index_at (over tables a) i) r arm)) (arm_parts arm)) (length (arm_parts arm))
+      (kept-over tables a b q.range (table_rows (over tables a) q.range r) (arm_parts arm) (numbers_from 0 (length (arm_parts arm)) (has_number (arm_bounds (index_at (over tables a) i) r arm))))

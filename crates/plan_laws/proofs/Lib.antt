@@ -27,6 +27,7 @@ pub mod WithinLemmas
 pub mod UsefulLemmas
 pub mod LeastLemmas
 pub mod EstimateLemmas
+pub mod RunLemmas
 pub mod IndexLemmas
 pub mod TreeLemmas
 pub mod PlanLemmas

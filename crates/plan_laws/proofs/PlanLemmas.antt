@@ -8,15 +8,15 @@ use Rattle.pg_base.specs.declared.rel_set.RelSet.{RelSet}
 use Rattle.catalog.specs.Contents.{TableDef, NamedIndex}
 use Rattle.catalog.specs.Indexes.{Index}
 use Rattle.cost_rules.specs.Costs.{sort_cost, nest_cost, merge_cost, price_of}
-use Rattle.cost_rules.specs.Powers.{clamped}
 use Rattle.cost_rules.specs.Scans.{bitmap_scan_cost}
 use Rattle.cost_rules.specs.declared.pair.Pair.{Pair}
 use Rattle.cost_rules.specs.declared.parameters.TheConstants.{MOST_COST}
 use Rattle.eq_classes.specs.Clauses.{Clause, Set}
 use Rattle.eq_classes.specs.Holding.{AreApart, IsWithin}
-use Rattle.eq_classes.specs.Parts.{union, is_all, is_join}
-use Rattle.path_cost.specs.Estimates.{conditions_from, conditions_where, is_local, is_pair_of, kept, pairs, product_rows, relations, set_rows, table_pages, table_rows}
-use Rattle.path_cost.specs.Costs.{bitmap_cost, local_operators, operators}
+use Rattle.eq_classes.specs.Parts.{union, is_join}
+use Rattle.path_cost.specs.Estimates.{conditions_from, conditions_where, is_local, is_number_where, is_pair_of, kept_where, pairs, set_rows, table_pages, table_rows}
+use Rattle.path_cost.specs.Costs.{bitmap_cost, local_operators, operators, rows_after}
+use Rattle.path_cost.specs.Runs.{runs}
 use Rattle.index_match.specs.Conditions.{conditions_among, is_hash}
 use Rattle.index_match.specs.Numbered.{conditions_of, local}
 use Rattle.index_match.specs.Usable.{holds_columns}
@@ -31,7 +31,7 @@ use Rattle.plan_tree.specs.Space.{IsSameSet, IsEmpty, others_named, AreSides, Is
 use Rattle.plan_tree.specs.Least.{IsAdmissible, IsBestPlan}
 use Rattle.plan_laws.specs.Fewer.{Keeps}
 use Rattle.plan_laws.specs.Moved.{over, moved, tree_moved}
-use Rattle.plan_laws.proofs.EstimateLemmas.{kept-over}
+use Rattle.plan_laws.proofs.RunLemmas.{kept-by-over, runs-over, set-rows-over}
 use Rattle.plan_laws.proofs.IndexLemmas.{keys-same, scan-cost-same, usable-same}
 use Rattle.plan_laws.proofs.TreeLemmas.{tree-on, uses-same, part-there}
 
@@ -90,16 +90,16 @@ module _ (f : IndexNo → IndexNo) where
 -- estimates, over other indexes
 module _ (tables : List TableDef) (a b : List NamedIndex) (q : Query) where
   set-rows-there : (set : Set) → set_rows (over tables b) q.range q.classes set ≡ set_rows (over tables a) q.range q.classes set
-  set-rows-there set = kept-over tables a b q.range (product_rows (over tables a) q.range (relations q.range set)) (conditions_where (is_all set) q.classes.clauses)
+  set-rows-there set = set-rows-over tables a b q.range q.classes set
 
   rows-given-there : (set : Set) (g : Option GivenScan) → rows_given (over tables b) q set g ≡ rows_given (over tables a) q set g
   rows-given-there set None = set-rows-there set
-  rows-given-there set (Some s) = kept-over tables a b q.range (table_rows (over tables a) q.range s.relation.0) (conditions_where (is_local s.relation.0 (has s.param.0)) q.classes.clauses)
+  rows-given-there set (Some s) = kept-by-over tables a b q.range q.classes (table_rows (over tables a) q.range s.relation.0) (is_number_where (is_local s.relation.0 (has s.param.0)) q.classes)
 
   pairs-there : (s u : Set) (keys : Keys) → pairs (over tables b) q.range q.classes s u keys ≡ pairs (over tables a) q.range q.classes s u keys
   pairs-there s u keys =
-      kept-over tables a b q.range (clamped (set_rows (over tables b) q.range q.classes s * set_rows (over tables b) q.range q.classes u)) (conditions_where (λ (k : Clause). is_join s u k && is_pair_of keys k) q.classes.clauses)
-      ∙ ap₂ (λ (x y : ℕ). kept (over tables a) q.range (clamped (x * y)) (conditions_where (λ (k : Clause). is_join s u k && is_pair_of keys k) q.classes.clauses)) (set-rows-there s) (set-rows-there u)
+      kept-by-over tables a b q.range q.classes (set_rows (over tables b) q.range q.classes s * set_rows (over tables b) q.range q.classes u) (is_number_where (λ (k : Clause). is_join s u k && is_pair_of keys k) q.classes)
+      ∙ ap₂ (λ (x y : ℕ). kept_where (over tables a) q.range (x * y) (λ (k : Clause). is_join s u k && is_pair_of keys k) q.classes) (set-rows-there s) (set-rows-there u)
 
   merge-list-there : (s u : Set) (keys : Keys) → IsMergeList (over tables a) q s u keys → IsMergeList (over tables b) q s u keys
   merge-list-there s u keys h = record { some = h.some; few = h.few; different = h.different; joining = h.joining }
@@ -180,7 +180,8 @@ module _ (tables : List TableDef) (a b : List NamedIndex) (q : Query) (f : Index
   cost-there (index_only r i backward p) h = scan-cost-same tables a b i (f i) (m.same r.0 i h.scan.relation h.scan.index) q r p true
   cost-there (bitmap r p bits) h =
       ap₂ (λ (u : ℕ → Bool) (n : ℕ). bitmap_cost (over tables b) q.range q.classes r.0 (has p.0) u n) (uses-there r p bits h) (part-there tables a b q f m r h.relation p bits (tree-on tables a b q f m r.0 h.relation (has p.0) bits h.tree))
-      ∙ ap (λ (n : ℕ). bitmap_scan_cost (part_of (over tables a) q r p bits) n (table_pages (over tables a) q.range r.0) (local_operators (over tables a) q.range q.classes r.0 (has p.0))) (kept-over tables a b q.range (table_rows (over tables a) q.range r.0) (conditions_from 0 (uses (over tables a) q r.0 (has p.0) bits) q.classes.clauses))
+      ∙ ap (λ (l : ℕ). bitmap_scan_cost l (part_of (over tables a) q r p bits) (rows_after (over tables b) q.range q.classes r.0 (uses (over tables a) q r.0 (has p.0) bits)) (table_pages (over tables a) q.range r.0) (local_operators (over tables a) q.range q.classes r.0 (has p.0))) (runs-over tables a b q.range q.classes (has p.0))
+      ∙ ap (λ (n : ℕ). bitmap_scan_cost (runs (over tables a) q.range q.classes (has p.0)) (part_of (over tables a) q r p bits) n (table_pages (over tables a) q.range r.0) (local_operators (over tables a) q.range q.classes r.0 (has p.0))) (kept-by-over tables a b q.range q.classes (table_rows (over tables a) q.range r.0) (uses (over tables a) q r.0 (has p.0) bits))
   cost-there (sort keys input) h =
       ap₂ (λ (x : Pair) (n : ℕ). sort_cost x n) (cost-there input h.0) (ap (set_rows (over tables b) q.range q.classes) (set-there f input) ∙ set-rows-there tables a b q (set_of input))
   cost-there (nest outer inner) h =

@@ -215,11 +215,11 @@ module _ (tables : List TableDef) (a b : List NamedIndex) (q : Query) (f : Index
 
 -- the parts of the indexes of a tree
 module _ (tables : List TableDef) (a b : List NamedIndex) (q : Query) (f : IndexNo → IndexNo) (m : Keeps (over tables a) (over tables b) q f) (r : RelNo) (lt : r.0 < width q) (p : RelSet) where
-  arms-parts : (arms : List Cond) (is : List IndexNo) → AllZip (MatchesArm (over tables a) q r.0) arms is → parts_of_arms (over tables b) q r arms (map f is) ≡ parts_of_arms (over tables a) q r arms is
+  arms-parts : (arms : List Cond) (is : List IndexNo) → AllZip (MatchesArm (over tables a) q r.0) arms is → parts_of_arms (over tables b) q r p arms (map f is) ≡ parts_of_arms (over tables a) q r p arms is
   arms-parts [] [] h = refl
   arms-parts [] (i ∷ is) h = absurd h
   arms-parts (x ∷ arms) [] h = absurd h
-  arms-parts (x ∷ arms) (i ∷ is) h = ap₂ (λ (n : ℕ) (ns : List ℕ). n ∷ ns) (arm-same tables a b i (f i) (m.same r.0 i lt h.0.index) q r.0 x) (arms-parts arms is h.1)
+  arms-parts (x ∷ arms) (i ∷ is) h = ap₂ (λ (n : ℕ) (ns : List ℕ). n ∷ ns) (arm-same tables a b i (f i) (m.same r.0 i lt h.0.index) q r.0 (has p.0) x) (arms-parts arms is h.1)
 
   mutual
     pub part-there : (t : BitTree) → IsOnTree (over tables a) q r.0 t → part_of (over tables b) q r p (tree_moved f t) ≡ part_of (over tables a) q r p t

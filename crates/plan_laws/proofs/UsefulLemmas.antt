@@ -25,7 +25,8 @@ use Rattle.plan_tree.specs.Keys.{keys_of}
 use Rattle.plan_tree.specs.Costs.{cost, price_by, asked, query_rows, HaveRows}
 use Rattle.plan_tree.specs.Space.{IsLike, IsBuilt, IsNest, IsMerge, IsMergeList, HasKeys}
 use Rattle.plan_tree.specs.Least.{Dominates, IsStartupAtMost}
-use Rattle.plan_tree.proofs.BoundLemmas.{asked-most, merge-most, nest-most, some-rows, sort-most, startup-most}
+use Rattle.path_cost.proofs.RunLemmas.{set-some}
+use Rattle.plan_tree.proofs.BoundLemmas.{asked-most, merge-most, nest-most, sort-most, startup-most}
 use Rattle.plan_tree.proofs.LikeLemmas.{set-like}
 use Rattle.plan_tree.proofs.ReplacingLemmas.{nest-replaced, nest-totals, merge-replaced, merge-totals, sort-totals}
 use Rattle.plan_tree.proofs.WindowLemmas.{startup-from}
@@ -158,14 +159,14 @@ module _ (c : Contents) (q : Query) where
       IsStartupAtMost w (cost c q p).startup (cost c q o).startup → price_by c q w p ≤ price_by c q w o
   price-most None p o total startup = total
   price-most (Some w) p o total startup =
-      price-falls (cost c q p) (cost c q o) (asked w (query_rows c q)) (query_rows c q) (some-rows c q.range q.classes (all_of_query q))
+      price-falls (cost c q p) (cost c q o) (asked w (query_rows c q)) (query_rows c q) (set-some c q.range q.classes (all_of_query q))
       (asked-most w (query_rows c q)) (record { startup = startup; total = total })
 
   -- it is no more than the plan costs in all
   pub price-total : HaveRows c q → (w : Option Window) (p : Plan) → price_by c q w p ≤ (cost c q p).total
   price-total some None p = le_refl (cost c q p).total
   price-total some (Some w) p =
-      part-of (cost c q p) (asked w (query_rows c q)) (query_rows c q) (some-rows c q.range q.classes (all_of_query q)) (asked-most w (query_rows c q)) (startup-most c q some p)
+      part-of (cost c q p) (asked w (query_rows c q)) (query_rows c q) (set-some c q.range q.classes (all_of_query q)) (asked-most w (query_rows c q)) (startup-most c q some p)
 
   -- domination is enough, and where every list counts no less is
   pub dominates-suffices : (every : Bool) (p o : Plan) → Dominates c q p o → Suffices c q every p o

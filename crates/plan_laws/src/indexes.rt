@@ -9,6 +9,7 @@ ghost use Rattle.pg_expr.specs.Cond.{Cond};
 ghost use Rattle.catalog.specs.Contents.{Contents, TableDef, NamedIndex, index_at, no_index};
 ghost use Rattle.catalog.specs.Range.{Range};
 ghost use Rattle.path_cost.specs.Estimates.{kept};
+ghost use Rattle.path_cost.specs.Selectivity.{weights};
 ghost use Rattle.sql_query.specs.Queries.{Query};
 ghost use Rattle.sql_query.specs.WellBound.{IsWellBound};
 ghost use Rattle.plan_tree.specs.Costs.{cost, price, scan_cost};
@@ -21,7 +22,8 @@ ghost use Rattle.plan_laws.specs.Moved.{HasNoPlan, HasPrice, Moves, added_from, 
 /// The estimated rows after conditions read no index.
 pub fn estimates_read_no_index()
     ensures { (tables : List TableDef) (a b : List NamedIndex) (range : Range) (n : ℕ)
-        (es : List Cond) → kept (over tables b) range n es ≡ kept (over tables a) range n es }
+        (es : List Cond) (ns : List ℕ) →
+        kept n (weights (over tables b) range es ns) ≡ kept n (weights (over tables a) range es ns) }
 {}
 
 /// What a scan by an index costs reads the definition of the index, not its number.

@@ -4,40 +4,27 @@ use Rattle.std.proofs.Common.{◌<◌, ◌⊎◌, inl, inr, subst, sym, true, na
 use Rattle.std.proofs.lemmas.Bool.{and_parts, cases_lt}
 use Rattle.std.proofs.lemmas.Bool.Decides.{nat_tests}
 use Rattle.std.proofs.lemmas.List.{get_or_past}
-use Rattle.std.specs.Prelude.{fold, Option, Some, None}
+use Rattle.std.specs.Prelude.{Option, Some, None}
 use Rattle.pg_base.specs.declared.numbers.TableNo.{TableNo}
 use Rattle.sql_query.specs.catalog_Statistics.{is_count}
 use Rattle.sql_query.specs.catalog_Tables.{rows_by, rows_of}
 use Rattle.sql_query.specs.catalog_limits_TheConstants.{MOST_NUMBER}
 use Rattle.sql_query.specs.catalog_table_Sizes.{Sizes}
-use Rattle.pg_base.specs.Sets.{has}
-use Rattle.pg_expr.specs.Cond.{Cond}
 use Rattle.sql_query.specs.catalog_Contents.{Contents, TableDef, AreSizes, IsLawful, no_table, table_at}
-use Rattle.sql_query.specs.catalog_Range.{Range, relation_at}
+use Rattle.sql_query.specs.catalog_Range.{relation_at}
 use Rattle.cost_rules.specs.Powers.{clamped}
 use Rattle.cost_rules.proofs.RisingLemmas.{sort-startup, nest-startup, merge-startup, sort-child, nest-children, merge-children}
-use Rattle.eq_classes.specs.Clauses.{Set, ClassTable}
-use Rattle.eq_classes.specs.Parts.{is_all}
+use Rattle.eq_classes.specs.Clauses.{Set}
 use Rattle.sql_query.specs.Queries.{Query}
 use Rattle.sql_query.specs.declared.window.Window.{Window}
-use Rattle.path_cost.specs.Estimates.{conditions_where, kept, is_local, pairs, share_of_rows, set_rows, product_rows, relations, table_rows}
-use Rattle.path_cost.specs.Selectivity.{selectivity}
+use Rattle.path_cost.specs.Estimates.{pairs, set_rows}
 use Rattle.pathkeys.specs.Keys.{Keys}
 use Rattle.plan_tree.specs.Plans.{Plan, seq, index, index_only, bitmap, sort, nest, merge, set_of, GivenScan, given_scan}
 use Rattle.plan_tree.specs.Costs.{cost, estimate, rows_given, join_operators, merge_operators, asked, asked_by, HaveRows}
-use Rattle.pg_base.proofs.ListLemmas.{some-folded}
 use Rattle.path_cost.proofs.LimitLemmas.{some-sized}
 
 pub some-clamped : (n : ℕ) → 1 ≤ clamped n
 some-clamped n = omega arith
-
-some-kept : (c : Contents) (range : Range) (n : ℕ) (es : List Cond) → 1 ≤ n → 1 ≤ kept c range n es
-some-kept c range n es h = some-folded {A = Cond} (λ m e. share_of_rows m (selectivity c range e)) (λ m e. some-clamped _) n es h
-
-pub some-rows : (c : Contents) (range : Range) (t : ClassTable) (set : Set) → 1 ≤ set_rows c range t set
-some-rows c range t set =
-    some-kept c range (product_rows c range (relations range set)) (conditions_where (is_all set) t.clauses)
-    (some-folded {A = ℕ} (λ m r. clamped (m * table_rows c range r)) (λ m r. some-clamped (m * table_rows c range r)) 1 (relations range set) (le_refl 1))
 
 -- a sum is at least its first part
 first-of-three : (a b c : ℕ) → a ≤ a + b + c
@@ -48,8 +35,8 @@ first-of-five a b c d e = omega arith
 
 module _ (c : Contents) (q : Query) (some : HaveRows c q) where
   some-given : (set : Set) (g : Option GivenScan) → 1 ≤ rows_given c q set g
-  some-given set None = some-rows c q.range q.classes set
-  some-given set (Some s) = some-kept c q.range (table_rows c q.range s.relation.0) (conditions_where (is_local s.relation.0 (has s.param.0)) q.classes.clauses) (some s.relation.0)
+  some-given set None = some-clamped _
+  some-given set (Some s) = some-clamped _
 
   pub some-estimated : (p : Plan) → 1 ≤ estimate c q p
   some-estimated p = some-given (set_of p) (given_scan p)

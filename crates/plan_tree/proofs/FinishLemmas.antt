@@ -12,7 +12,8 @@ use Rattle.plan_tree.specs.Costs.{cost, price, price_by, asked, query_rows, Have
 use Rattle.plan_tree.specs.Space.{IsBuilt, MeetsOrder, IsFinished}
 use Rattle.plan_tree.specs.Least.{Dominates, IsStartupAtMost}
 use Rattle.pathkeys.proofs.CoveringLemmas.{covers-trans}
-use Rattle.plan_tree.proofs.BoundLemmas.{some-rows, startup-most, asked-most}
+use Rattle.path_cost.proofs.RunLemmas.{set-some}
+use Rattle.plan_tree.proofs.BoundLemmas.{startup-most, asked-most}
 use Rattle.plan_tree.proofs.DominationLemmas.{sort-stands, stands-dominates}
 
 module _ (c : Contents) (q : Query) where
@@ -30,7 +31,7 @@ module _ (c : Contents) (q : Query) where
       IsStartupAtMost w (cost c q p).startup (cost c q o).startup → price_by c q w p ≤ price_by c q w o
   price-most None p o some total startup = total
   price-most (Some w) p o some total startup =
-      price-rises (cost c q p) (cost c q o) (asked w (query_rows c q)) (query_rows c q) (some-rows c q.range q.classes (all_of_query q))
+      price-rises (cost c q p) (cost c q o) (asked w (query_rows c q)) (query_rows c q) (set-some c q.range q.classes (all_of_query q))
       (asked-most w (query_rows c q)) (startup-most c q some p) (record { startup = startup; total = total })
 
   pub dominates-price : (p o : Plan) → HaveRows c q → Dominates c q p o → price c q p ≤ price c q o

@@ -20,4 +20,4 @@ pub mod PlaceLemmas
 pub mod SetLemmas
 pub mod GivenLemmas
 pub mod PickedLemmas
-pub mod MostLemmas
+pub mod RowsLemmas

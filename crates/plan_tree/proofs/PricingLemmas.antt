@@ -5,7 +5,7 @@ use Rattle.std.specs.Prelude.{fold}
 use Rattle.std.specs.List.{AllZip}
 use Rattle.std.proofs.Math.ListN.{drop_of_length-le}
 use Rattle.std.proofs.lemmas.Grind.{common_steps}
-use Rattle.std.proofs.lemmas.List.{drop_more, length-map}
+use Rattle.std.proofs.lemmas.List.{drop_more}
 use Rattle.pg_base.specs.declared.numbers.IndexNo.{IndexNo}
 use Rattle.pg_base.specs.declared.numbers.RelNo.{RelNo}
 use Rattle.pg_base.specs.declared.rel_set.RelSet.{RelSet}
@@ -18,12 +18,16 @@ use Rattle.cost_rules.specs.declared.parameters.TheConstants.{MOST_COST}
 use Rattle.cost_rules.specs.Costs.{capped, capped_pair, pair}
 use Rattle.sql_query.specs.catalog_Range.{Range}
 use Rattle.cost_rules.specs.Scans.{bitmap_scan_cost}
-use Rattle.eq_classes.specs.Clauses.{Clause, Set, ClassTable}
+use Rattle.eq_classes.specs.Clauses.{Set, ClassTable}
 use Rattle.index_match.specs.Arms.{arms_of, arm_parts, arm_bounds}
 use Rattle.eq_classes.proofs.ConditionLemmas.{listed_conds}
 use Rattle.index_match.specs.Numbered.{has_number}
 use Rattle.path_cost.specs.Costs.{arm_part, bitmap_cost, local_operators}
-use Rattle.path_cost.specs.Estimates.{conditions_from, kept, picked_from, table_pages, table_rows}
+use Rattle.path_cost.specs.Estimates.{kept, numbers_from, picked_from, table_pages, table_rows}
+use Rattle.path_cost.specs.Ranges.{conditions}
+use Rattle.path_cost.specs.Selectivity.{weights}
+use Rattle.path_cost.proofs.NumberLemmas.{numbers-same}
+use Rattle.path_cost.specs.Runs.{runs}
 use Rattle.sql_query.specs.Queries.{Query, width}
 use Rattle.plan_tree.specs.Plans.{Plan, seq, index, index_only, bitmap, sort, nest, merge, BitTree, all_hold, some_arm}
 use Rattle.plan_tree.specs.Bitmaps.{some_uses, uses}
@@ -72,27 +76,27 @@ module _ {A B C : Type 0} (R : B → C → Type 0) (f : A → B) where
   zip-within (x ∷ xs) (y ∷ ys) zero h lt = omega arith
   zip-within (x ∷ xs) (y ∷ ys) (suc n) h lt = let rest : n < length ys = zip-within xs ys n h.1 (omega (arith, lt)) in omega (arith, rest)
 
-module _ (c : Contents) (q : Query) (r : RelNo) where
-  pub arms-long : {A : Type 0} (f : A → Cond) (xs : List A) (is : List IndexNo) → AllZip (IsMatchedBy c r.0) (map f xs) is → length (parts_of_arms c q r (map f xs) is) ≡ length xs
+module _ (c : Contents) (q : Query) (r : RelNo) (p : RelSet) where
+  pub arms-long : {A : Type 0} (f : A → Cond) (xs : List A) (is : List IndexNo) → AllZip (IsMatchedBy c r.0) (map f xs) is → length (parts_of_arms c q r p (map f xs) is) ≡ length xs
   arms-long f [] [] h = refl
   arms-long f [] (i ∷ is) h = absurd h
   arms-long f (x ∷ xs) [] h = absurd h
   arms-long f (x ∷ xs) (i ∷ is) h = ap suc (arms-long f xs is h.1)
 
   abbrev pub part-of-arm : Cond → IndexNo → ℕ
-  part-of-arm arm i = arm_part c q.range i r.0 (arm_parts arm) (has_number (arm_bounds (index_at c i) r.0 arm))
+  part-of-arm arm i = arm_part c q.range q.classes i r.0 (has p.0) (arm_parts arm) (has_number (arm_bounds (index_at c i) r.0 arm))
 
   -- the parts of the arms that are left, one more done
   pub arm-done : {A : Type 0} (f : A → Cond) (xs : List A) (is : List IndexNo) (n : ℕ) (d : A) (i : IndexNo) (done part total : ℕ) → n < length xs → n < length is → part ≡ capped (part-of-arm (f (get_or xs n d)) (get_or is n i)) →
-      capped (done + sum (parts_of_arms c q r (map f (drop n xs)) (drop n is))) ≡ total → capped (capped (done + part) + sum (parts_of_arms c q r (map f (drop (n + 1) xs)) (drop (n + 1) is))) ≡ total
+      capped (done + sum (parts_of_arms c q r p (map f (drop n xs)) (drop n is))) ≡ total → capped (capped (done + part) + sum (parts_of_arms c q r p (map f (drop (n + 1) xs)) (drop (n + 1) is))) ≡ total
   arm-done f xs is n d i done part total lt li e h =
-      cut-part done part (part-of-arm (f (get_or xs n d)) (get_or is n i)) (parts_of_arms c q r (map f (drop (n + 1) xs)) (drop (n + 1) is)) total e
-      (ap₂ (λ ys js. capped (done + sum (parts_of_arms c q r (map f ys) js))) (sym (drop_more xs n d lt)) (sym (drop_more is n i li)) ∙ h)
+      cut-part done part (part-of-arm (f (get_or xs n d)) (get_or is n i)) (parts_of_arms c q r p (map f (drop (n + 1) xs)) (drop (n + 1) is)) total e
+      (ap₂ (λ ys js. capped (done + sum (parts_of_arms c q r p (map f ys) js))) (sym (drop_more xs n d lt)) (sym (drop_more is n i li)) ∙ h)
 
   pub arms-done : {A : Type 0} (f : A → Cond) (xs : List A) (is : List IndexNo) (n : ℕ) (done total : ℕ) → length xs ≤ n → done ≤ MOST_COST →
-      capped (done + sum (parts_of_arms c q r (map f (drop n xs)) (drop n is))) ≡ total → done ≡ total
+      capped (done + sum (parts_of_arms c q r p (map f (drop n xs)) (drop n is))) ≡ total → done ≡ total
   arms-done f xs is n done total le most h =
-      cut-done done total most (ap (λ ys. capped (done + sum (parts_of_arms c q r (map f ys) (drop n is)))) (sym (drop_of_length-le xs le)) ∙ h)
+      cut-done done total most (ap (λ ys. capped (done + sum (parts_of_arms c q r p (map f ys) (drop n is)))) (sym (drop_of_length-le xs le)) ∙ h)
 
 module _ (c : Contents) (q : Query) (r : RelNo) (p : RelSet) {A : Type 0} (f : A → BitTree) where
   pub trees-long : (xs : List A) → length (parts_of_all c q r p (trees_of (map f xs))) ≡ length xs
@@ -138,18 +142,19 @@ module _ (c : Contents) (q : Query) (r : RelNo) (p : RelSet) {A : Type 0} (f : A
   pub use-end : (xs : List A) (n k : ℕ) (old within all : Bool) → length xs ≤ n → old || (within && used-left (drop n xs) k) ≡ all → old ≡ all
   use-end xs n k old within all le h = sym (none-used old within) ∙ ap (λ ys. old || (within && used-left ys k)) (sym (drop_of_length-le xs le)) ∙ h
 
+-- a number below another, tested
+here-below : (n end : ℕ) (b : Bool) → n < end → nat_lt n end && b ≡ b
+here-below n end true lt = grind (arith, common_steps, lt)
+here-below n end false lt = grind (arith, common_steps, lt)
+
 -- the conditions of a set of numbers below the end of the clauses
 pub picked-below : (chosen : ℕ → Bool) (n end : ℕ) (es : List Cond) → n + length es ≤ end → picked_from n (λ k. nat_lt k end && chosen k) es ≡ picked_from n chosen es
 picked-below chosen n end [] h = refl
 picked-below chosen n end (e ∷ es) h =
-    ap₂ (λ b xs. cond b (e ∷ xs) xs) (here n end (chosen n) (few n (length es) end h)) (picked-below chosen (n + 1) end es (omega (arith, h)))
+    ap₂ (λ b xs. cond b (e ∷ xs) xs) (here-below n end (chosen n) (few n (length es) end h)) (picked-below chosen (n + 1) end es (omega (arith, h)))
   where
     few : (a l m : ℕ) → a + suc l ≤ m → a < m
     few a l m h = omega (arith, h)
-
-    here : (a m : ℕ) (b : Bool) → a < m → nat_lt a m && b ≡ b
-    here a m true lt = grind (arith, common_steps, lt)
-    here a m false lt = grind (arith, common_steps, lt)
 
 -- a bitmap scan over a part that was cut costs, cut, what it does over the part
 pub part-cut : (a b part : ℕ) → capped_pair (pair (capped part) (capped part + a + b)) ≡ capped_pair (pair part (part + a + b))
@@ -182,11 +187,11 @@ module _ (k : Cond) (es : List Expr) (is js : List IndexNo) (are : k ≡ any_of 
   pub arms-zip : (R : Cond → IndexNo → Type 0) → AllZip R (arms_of k) is → AllZip R (map view.cond es) js
   arms-zip R h = subst₂ (λ xs ys. AllZip R xs ys) (arms-found k es are) (sym same) h
 
-  pub arms-total : (c : Contents) (q : Query) (r : RelNo) → capped (together (parts_of_arms c q r (map view.cond es) js)) ≡ capped (together (parts_of_arms c q r (arms_of k) is))
-  arms-total c q r = ap₂ (λ xs ys. capped (together (parts_of_arms c q r xs ys))) (sym (arms-found k es are)) same
+  pub arms-total : (c : Contents) (q : Query) (r : RelNo) (p : RelSet) → capped (together (parts_of_arms c q r p (map view.cond es) js)) ≡ capped (together (parts_of_arms c q r p (arms_of k) is))
+  arms-total c q r p = ap₂ (λ xs ys. capped (together (parts_of_arms c q r p xs ys))) (sym (arms-found k es are)) same
 
-pub no-arms : (c : Contents) (q : Query) (r : RelNo) (k : Cond) (is : List IndexNo) → arms_of k ≡ [] → 0 ≡ capped (together (parts_of_arms c q r (arms_of k) is))
-no-arms c q r k is e = ap (λ xs. capped (together (parts_of_arms c q r xs is))) (sym e)
+pub no-arms : (c : Contents) (q : Query) (r : RelNo) (p : RelSet) (k : Cond) (is : List IndexNo) → arms_of k ≡ [] → 0 ≡ capped (together (parts_of_arms c q r p (arms_of k) is))
+no-arms c q r p k is e = ap (λ xs. capped (together (parts_of_arms c q r p xs is))) (sym e)
 
 -- what an OR of a bitmap tree stands for
 pub or-bits : (n : ℕ) (is : Vec IndexNo Global) → bits (Or n is) ≡ some_arm n is.items
@@ -197,11 +202,11 @@ pub bitmap-costs : (c : Contents) (range : Range) (t : ClassTable) (r : ℕ) (p 
     capped_pair (bitmap_cost c range t r p chosen part) ≡ capped_pair (bitmap_cost c range t r p used exact)
 bitmap-costs c range t r p chosen used part exact same cut =
     ap (λ n. capped_pair (bitmap_cost c range t r p chosen n)) cut
-    ∙ ap (λ es. capped_pair (bitmap_scan_cost (capped exact) (kept c range (table_rows c range r) es) (table_pages c range r) (local_operators c range t r p))) conditions
+    ∙ ap (λ ns. capped_pair (bitmap_scan_cost (runs c range t p) (capped exact) (kept (table_rows c range r) (weights c range (conditions t) ns)) (table_pages c range r) (local_operators c range t r p))) numbers
     ∙ part-cut _ _ exact
   where
-    conditions : conditions_from 0 chosen t.clauses ≡ conditions_from 0 used t.clauses
-    conditions = (λ z. conditions_from 0 (λ k. same k z) t.clauses) ∙ picked-below used 0 (length t.clauses) (map (λ (k : Clause). k.cond) t.clauses) (let long : length (map (λ (k : Clause). k.cond) t.clauses) ≡ length t.clauses = length-map t.clauses (λ (k : Clause). k.cond) in omega (arith, long))
+    numbers : numbers_from 0 (length t.clauses) chosen ≡ numbers_from 0 (length t.clauses) used
+    numbers = numbers-same chosen used 0 (length t.clauses) (λ k low high. same k ∙ here-below k (length t.clauses) (used k) (omega (arith, high)))
 
 -- and an AND
 pub and-bits : (parts : Many) → bits (And parts) ≡ all_hold (bits_all parts.items.items)

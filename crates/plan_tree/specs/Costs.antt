@@ -58,29 +58,29 @@ module _ (c : Contents) (q : Query) where
   abbrev pub estimate : Plan → ℕ
   estimate p = rows_given (set_of p) (given_scan p)
 
-  -- the part of an index that serves an arm of an OR
-  abbrev pub part_of_arm : RelNo → Cond → IndexNo → ℕ
-  part_of_arm r arm i = arm_part c q.range i r.0 (arm_parts arm) (has_number (arm_bounds (index_at c i) r.0 arm))
+  -- the part of an index that serves an arm of an OR, where the rows of a parameterisation are given
+  abbrev pub part_of_arm : RelNo → RelSet → Cond → IndexNo → ℕ
+  part_of_arm r p arm i = arm_part c q.range q.classes i r.0 (has p.0) (arm_parts arm) (has_number (arm_bounds (index_at c i) r.0 arm))
 
   -- the parts of the indexes of an OR's arms
-  abbrev pub parts_of_arms : RelNo → List Cond → List IndexNo → List ℕ
-  parts_of_arms r (arm ∷ arms) (i ∷ is) = part_of_arm r arm i ∷ parts_of_arms r arms is
-  parts_of_arms r _ _ = []
+  abbrev pub parts_of_arms : RelNo → RelSet → List Cond → List IndexNo → List ℕ
+  parts_of_arms r p (arm ∷ arms) (i ∷ is) = part_of_arm r p arm i ∷ parts_of_arms r p arms is
+  parts_of_arms r p _ _ = []
 
   -- the parts of the indexes of a bitmap tree: of its leaves and of its arms
   abbrev mutual
     pub part_of : RelNo → RelSet → BitTree → ℕ
-    part_of r p (leaf i) = index_part c q.range q.classes i r.0 (has_number (index_bounds c q.classes i r.0 (has p.0))) (has_number (index_conditions c q.classes i r.0 (has p.0)))
+    part_of r p (leaf i) = index_part c q.range q.classes i r.0 (has p.0) (has_number (index_bounds c q.classes i r.0 (has p.0))) (has_number (index_conditions c q.classes i r.0 (has p.0)))
     part_of r p (all_hold bs) = together (parts_of_all r p bs)
-    part_of r p (some_arm n is) = together (parts_of_arms r (arms_of (condition_at q n)) is)
+    part_of r p (some_arm n is) = together (parts_of_arms r p (arms_of (condition_at q n)) is)
 
     pub parts_of_all : RelNo → RelSet → BitTrees → List ℕ
     parts_of_all r p no_trees = []
     parts_of_all r p (tree_and b bs) = part_of r p b ∷ parts_of_all r p bs
 
   -- the parts of the indexes of some arms together
-  abbrev pub arms_together : RelNo → List Expr → List IndexNo → ℕ
-  arms_together r arms is = together (parts_of_arms r (map view.cond arms) is)
+  abbrev pub arms_together : RelNo → RelSet → List Expr → List IndexNo → ℕ
+  arms_together r p arms is = together (parts_of_arms r p (map view.cond arms) is)
 
   -- the parts of the indexes of some bitmap trees together
   abbrev pub trees_together : RelNo → RelSet → BitTrees → ℕ

@@ -41,7 +41,7 @@ pub fn index_part_of(cat: &Catalog, q: &Prepared, r: RelNo, p: RelSet, i: IndexN
     let classes = classes_of(q);
     let found = conditions(cat, range, classes, i, r, p);
     let all = bounds_and_tests(classes, &found);
-    index_part(cat, range, classes, i, r, &found.bounds, &all)
+    index_part(cat, range, classes, i, r, p, &found.bounds, &all)
 }
 
 /// An index as it serves a relation where the rows of others are given.
@@ -74,28 +74,28 @@ pub fn index_served(
     let classes = classes_of(q);
     let found = conditions_among(cat, classes, i, r, p, local);
     let all = bounds_and_tests(classes, &found);
-    let part = index_part(cat, range_of(q), classes, i, r, &found.bounds, &all);
+    let part = index_part(cat, range_of(q), classes, i, r, p, &found.bounds, &all);
     Served {
         conditions: all,
         part,
     }
 }
 
-/// The part of an index that serves an arm of an OR, over its bounds for the arm and with the arm's parts as its
-/// conditions. The condition is that it matches the arm wholly. It is at most 10^18.
-pub fn arm_part_of(cat: &Catalog, q: &Prepared, r: RelNo, arm: &Expr, i: IndexNo) -> u64
+/// The part of an index that serves an arm of an OR where the rows of `p` are given, over its bounds for the arm and with
+/// the arm's parts as its conditions. The condition is that it matches the arm wholly. It is at most 10^18.
+pub fn arm_part_of(cat: &Catalog, q: &Prepared, r: RelNo, p: RelSet, arm: &Expr, i: IndexNo) -> u64
     requires query { IsOverTables cat.now q.now }
     requires relation { r.0 < width q.now }
     requires index { IsIndex cat.now i }
     requires over { IsOver cat.now q.now.range (cond arm.now) }
     requires few { atom_count (cond arm.now) ≤ MOST_ATOMS }
     requires matched { is_matched (index_at cat.now i) r.0 (cond arm.now) ≡ true }
-    ensures part { result ≡ capped (costs.part_of_arm cat.now q.now r (cond arm.now) i) }
+    ensures part { result ≡ capped (costs.part_of_arm cat.now q.now r p (cond arm.now) i) }
     ensures most { result ≤ MOST_COST }
 {
     let range = range_of(q);
     match index_match::arm(cat, range, i, r, arm) {
-        Some(bounds) => arm_part(cat, range, i, r, arm, &bounds),
+        Some(bounds) => arm_part(cat, range, classes_of(q), i, r, p, arm, &bounds),
         None => unreachable!(),
     }
 }

@@ -62,18 +62,25 @@ pub fn arms_at(q: &Prepared, n: u16) -> Option<&[Expr]>
 }
 
 /// The parts of the indexes of some arms, one for each, together.
-fn arms_part(cat: &Catalog, q: &Prepared, r: RelNo, arms: &[Expr], indexes: &[IndexNo]) -> u64
+fn arms_part(
+    cat: &Catalog,
+    q: &Prepared,
+    r: RelNo,
+    p: RelSet,
+    arms: &[Expr],
+    indexes: &[IndexNo],
+) -> u64
     requires query { IsOverTables cat.now q.now }
     requires relation { r.0 < width q.now }
     requires over { AreOver cat.now q.now.range arms.now }
     requires few { AreOfFewAtoms arms.now }
     requires matched { AllZip (IsMatchedBy cat.now r.0) (map view.cond arms.now) indexes.now }
-    ensures part { result ≡ capped (costs.arms_together cat.now q.now r arms.now indexes.now) }
+    ensures part { result ≡ capped (costs.arms_together cat.now q.now r p arms.now indexes.now) }
     ensures most { result ≤ MOST_COST }
 {
     let mut sum = 0;
     for n in 0..arms.len() {
-        sum = (sum + arm_part_of(cat, q, r, &arms[n], indexes[n])).min(MOST_COST);
+        sum = (sum + arm_part_of(cat, q, r, p, &arms[n], indexes[n])).min(MOST_COST);
     }
     together(sum, arms.len())
 }
@@ -91,7 +98,7 @@ fn tree_part(cat: &Catalog, q: &Prepared, r: RelNo, p: RelSet, tree: &BitTree) -
         BitTree::Leaf(i) => index_part_of(cat, q, r, p, *i),
         BitTree::And(parts) => trees_part(cat, q, r, p, &parts.items),
         BitTree::Or(n, indexes) => match arms_at(q, *n) {
-            Some(arms) => arms_part(cat, q, r, arms, indexes),
+            Some(arms) => arms_part(cat, q, r, p, arms, indexes),
             None => 0,
         },
     }

@@ -1,16 +1,11 @@
 -- Rows of all relations, and what a sort of a path of them costs.
-use Rattle.std.proofs.Common.{◌≡◌, ◌<◌, ◌≤◌, ◌*◌, ℕ, Bool, true, false, ◌||◌, List, [], ◌∷◌, refl, sym, ◌∙◌, ap, subst, arith}
-use Rattle.std.specs.Prelude.{None, fold}
-use Rattle.pg_expr.specs.Cond.{Cond}
+use Rattle.std.proofs.Common.{◌≡◌, ◌<◌, ◌≤◌, Bool, true, false, ◌||◌, ◌∷◌, refl, sym, ◌∙◌, ap, subst, arith}
+use Rattle.std.specs.Prelude.{None}
 use Rattle.catalog.specs.Contents.{Contents}
 use Rattle.cost_rules.specs.Costs.{IsEstimate, capped_pair, sort_cost}
 use Rattle.cost_rules.specs.declared.pair.Pair.{Pair}
-use Rattle.cost_rules.specs.Powers.{clamped}
-use Rattle.cost_rules.specs.declared.parameters.TheConstants.{MOST_COST, MOST_ESTIMATE}
-use Rattle.eq_classes.specs.Clauses.{Set}
-use Rattle.eq_classes.specs.Parts.{is_all}
-use Rattle.path_cost.specs.Estimates.{conditions_where, product_rows, relations, set_rows, share_of_rows, table_rows}
-use Rattle.path_cost.specs.Selectivity.{selectivity}
+use Rattle.cost_rules.specs.declared.parameters.TheConstants.{MOST_COST}
+use Rattle.path_cost.specs.Estimates.{set_rows}
 use Rattle.pathkeys.specs.Keys.{Keys}
 use Rattle.sql_query.specs.Queries.{Query, all_of_query}
 use Rattle.plan_tree.specs.Costs.{HaveRows, cost, query_rows, rows_given}
@@ -18,20 +13,13 @@ use Rattle.plan_tree.specs.Paths.{Path, HasItsNumbers, kept_cost}
 use Rattle.plan_tree.specs.Least.{IsAdmissible}
 use Rattle.plan_tree.specs.Plans.{Plan, given_scan, nest, param_of, set_of, sort}
 use Rattle.plan_tree.specs.Space.{IsEmpty}
-use Rattle.plan_tree.proofs.BoundLemmas.{some-rows, startup-most}
+use Rattle.plan_tree.proofs.BoundLemmas.{startup-most}
 use Rattle.plan_tree.proofs.LikeLemmas.{given-like}
+use Rattle.plan_tree.proofs.RowsLemmas.{plan-estimate}
 use Rattle.plan_tree.proofs.WindowLemmas.{sort-kept, uncut-kept}
 use Rattle.planner.specs.Finishing.{IsWhole, finished}
-use Rattle.plan_tree.proofs.MostLemmas.{most-clamped}
-use Rattle.plan_tree.proofs.MostLemmas.{most-folded}
 
 module _ (c : Contents) (q : Query) where
-  pub most-rows : (set : Set) → set_rows c q.range q.classes set ≤ MOST_ESTIMATE
-  most-rows set =
-      most-folded {A = Cond} (λ m e. share_of_rows m (selectivity c q.range e)) (λ m e. most-clamped _) (product_rows c q.range (relations q.range set))
-      (conditions_where (is_all set) q.classes.clauses)
-      (most-folded {A = ℕ} (λ m r. clamped (m * table_rows c q.range r)) (λ m r. most-clamped (m * table_rows c q.range r)) 1 (relations q.range set) (omega arith))
-
   or-self : (b : Bool) → b ≡ b || b
   or-self true = refl
   or-self false = refl
@@ -45,7 +33,7 @@ module _ (c : Contents) (q : Query) where
   whole-rows p h = h.numbers.rows ∙ ap (rows_given c q (set_of p.tree)) (given-none p.tree h.plan.param_is)
 
   pub whole-estimate : (p : Path) → IsWhole c q p → IsEstimate p.rows
-  whole-estimate p h = subst IsEstimate (sym (whole-rows p h)) (record { some = some-rows c q.range q.classes (set_of p.tree); most = most-rows (set_of p.tree) })
+  whole-estimate p h = subst IsEstimate (sym h.numbers.rows) (plan-estimate c q p.tree)
 
   -- they are those of the query
   pub whole-query : (p : Path) → IsWhole c q p → p.rows ≡ query_rows c q

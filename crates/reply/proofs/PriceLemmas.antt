@@ -1,16 +1,10 @@
 -- The rows and the price of a finished path.
-use Rattle.std.proofs.Common.{◌≡◌, ◌≤◌, ◌*◌, ℕ, sym, ◌∙◌, ap, ap₂, subst, arith, Option, Some, None}
+use Rattle.std.proofs.Common.{◌≡◌, ℕ, sym, ◌∙◌, ap, ap₂, subst, arith, Option, Some, None}
 use Rattle.std.proofs.Math.Bool.{or_self}
 use Rattle.catalog.specs.Contents.{Contents}
 use Rattle.cost_rules.specs.Costs.{IsEstimate, capped_pair}
-use Rattle.cost_rules.specs.Powers.{clamped}
 use Rattle.cost_rules.specs.declared.pair.Pair.{Pair}
-use Rattle.cost_rules.specs.declared.parameters.TheConstants.{MOST_ESTIMATE}
-use Rattle.eq_classes.specs.Clauses.{Set}
-use Rattle.eq_classes.specs.Parts.{is_all}
-use Rattle.path_cost.specs.Estimates.{conditions_where, product_rows, relations, set_rows, share_of_rows, table_rows}
-use Rattle.path_cost.specs.Selectivity.{selectivity}
-use Rattle.pg_expr.specs.Cond.{Cond}
+use Rattle.path_cost.specs.Estimates.{set_rows}
 use Rattle.sql_query.specs.Queries.{Query, all_of_query}
 use Rattle.sql_query.specs.declared.window.Window.{Window}
 use Rattle.explain.specs.Texts.{limit_text, line_by, window_line}
@@ -18,19 +12,12 @@ use Rattle.plan_tree.specs.Costs.{HaveRows, asked, cost, price, query_rows, rows
 use Rattle.plan_tree.specs.Least.{IsAdmissible}
 use Rattle.plan_tree.specs.Paths.{IsFinishedPath, Path, kept_cost}
 use Rattle.plan_tree.specs.Plans.{given_scan, nest, set_of}
-use Rattle.plan_tree.proofs.BoundLemmas.{some-rows, startup-most}
+use Rattle.plan_tree.proofs.BoundLemmas.{startup-most}
 use Rattle.plan_tree.proofs.LikeLemmas.{given-like}
+use Rattle.plan_tree.proofs.RowsLemmas.{plan-estimate}
 use Rattle.plan_tree.proofs.WindowLemmas.{uncut-kept}
-use Rattle.plan_tree.proofs.MostLemmas.{most-folded}
-use Rattle.plan_tree.proofs.MostLemmas.{most-clamped}
 
 module _ (c : Contents) (q : Query) (p : Path) (h : IsFinishedPath c q p) where
-  most-rows : (set : Set) → set_rows c q.range q.classes set ≤ MOST_ESTIMATE
-  most-rows set =
-      most-folded {A = Cond} (λ m e. share_of_rows m (selectivity c q.range e)) (λ m e. most-clamped _) (product_rows c q.range (relations q.range set))
-      (conditions_where (is_all set) q.classes.clauses)
-      (most-folded {A = ℕ} (λ m r. clamped (m * table_rows c q.range r)) (λ m r. most-clamped (m * table_rows c q.range r)) 1 (relations q.range set) (omega arith))
-
   -- it is no scan that is given rows
   given-none : given_scan p.tree ≡ None
   given-none = given-like p.tree (nest p.tree p.tree) (record { set = λ k. sym (or_self (set_of p.tree k)); param = λ k. h.finished.param_is k })
@@ -42,7 +29,7 @@ module _ (c : Contents) (q : Query) (p : Path) (h : IsFinishedPath c q p) where
       h.numbers.rows ∙ ap (rows_given c q (set_of p.tree)) given-none ∙ ap (set_rows c q.range q.classes) same
 
   pub rows-estimate : IsEstimate p.rows
-  rows-estimate = subst IsEstimate (sym rows-are) (record { some = some-rows c q.range q.classes (all_of_query q); most = most-rows (all_of_query q) })
+  rows-estimate = subst IsEstimate (sym h.numbers.rows) (plan-estimate c q p.tree)
 
   -- what it keeps of its cost is not cut
   pub kept-whole : HaveRows c q → (x : Pair) → IsAdmissible c q p.tree → x ≡ capped_pair (kept_cost q.window (cost c q p.tree)) → x ≡ kept_cost q.window (cost c q p.tree)

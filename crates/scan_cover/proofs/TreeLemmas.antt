@@ -77,7 +77,7 @@ module _ (c : Contents) (q : Query) (r : RelNo) (p : RelSet) where
   kept-leaf k i is part used within = record { least = subst (λ (e : Element). IsLeastTree c q r p e (leaf i)) (sym is) (leaf-least i); part = part; used = used; within = within }
 
   -- an OR clause
-  pub kept-clause : (k : Kept) (n : ℕ) (xs : List Cond) (is : List IndexNo) → element_in k ≡ by_clause n → arms_of (condition_at q n) ≡ xs → AreServed c q r xs is k.part → ((m : ℕ) → contains k.used m ≡ nat_eq m n) → n < length q.classes.clauses → IsKept c q r p k (some_arm n is)
+  pub kept-clause : (k : Kept) (n : ℕ) (xs : List Cond) (is : List IndexNo) → element_in k ≡ by_clause n → arms_of (condition_at q n) ≡ xs → AreServed c q r p xs is k.part → ((m : ℕ) → contains k.used m ≡ nat_eq m n) → n < length q.classes.clauses → IsKept c q r p k (some_arm n is)
   kept-clause k n xs is element arms served used lt = record {
     least = subst (λ (e : Element). IsLeastTree c q r p e (some_arm n is)) (sym element) (clause-least c q r p n xs is k.part arms served);
     part = clause-part c q r p n xs is k.part arms served;

@@ -5,6 +5,7 @@ use Rattle.pg_base.specs.declared.numbers.IndexNo.{IndexNo}
 use Rattle.scan_cover.specs.declared.filling.Arms.{Arms}
 use Rattle.std.specs.List.{AllZip}
 use Rattle.pg_base.specs.declared.numbers.RelNo.{RelNo}
+use Rattle.pg_base.specs.declared.rel_set.RelSet.{RelSet}
 use Rattle.pg_expr.specs.View.{cond}
 use Rattle.pg_expr.specs.declared.expr.Expr.{Expr}
 use Rattle.catalog.specs.Contents.{Contents}
@@ -31,5 +32,5 @@ abbrev pub HaveMatches : Contents → Query → RelNo → List Expr → Type 0
 HaveMatches c q r arms = All (λ (e : Expr). (i : IndexNo) × MatchesArm c q r.0 (cond e) i) arms
 
 -- the matching index of least part of each arm was put behind those in an array
-abbrev pub PutsLeast : Contents → Query → RelNo → List Expr → Arms → Arms → Type 0
-PutsLeast c q r arms old new = (is : List IndexNo) × AllZip (IsLeastMatch c q r) (map cond arms) is × PutsIndexes old new is
+abbrev pub PutsLeast : Contents → Query → RelNo → RelSet → List Expr → Arms → Arms → Type 0
+PutsLeast c q r p arms old new = (is : List IndexNo) × AllZip (IsLeastMatch c q r p) (map cond arms) is × PutsIndexes old new is

@@ -20,7 +20,7 @@ use crate::filling::Arms;
 use crate::indexes_of;
 use catalog::Catalog;
 use cost_rules::{BITMAP_CHILD, MOST_COST};
-use pg_base::{IndexNo, RelNo};
+use pg_base::{IndexNo, RelNo, RelSet};
 use pg_expr::Expr;
 use plan_tree::{arm_part_of, matches_arm};
 use sql_query::Prepared;
@@ -52,21 +52,27 @@ fn lesser(best: Option<(IndexNo, u64)>, i: IndexNo, part: u64) -> Option<(IndexN
     }
 }
 
-/// The matching index of least part for an arm, and its part, cut to at most 10^18.
-pub(crate) fn least_match(cat: &Catalog, q: &Prepared, r: RelNo, arm: &Expr) -> (IndexNo, u64)
+/// The matching index of least part for an arm where the rows of `p` are given, and its part, cut to at most 10^18.
+pub(crate) fn least_match(
+    cat: &Catalog,
+    q: &Prepared,
+    r: RelNo,
+    p: RelSet,
+    arm: &Expr,
+) -> (IndexNo, u64)
     requires query { IsOverTables cat.now q.now }
     requires relation { r.0 < width q.now }
     requires over { IsOver cat.now q.now.range (cond arm.now) }
     requires few { atom_count (cond arm.now) ≤ MOST_ATOMS }
     requires some { (i : Numbered) × MatchesArm cat.now q.now r.0 (cond arm.now) i }
-    ensures least { IsLeastMatch cat.now q.now r (cond arm.now) result.0 }
-    ensures part { result.1 ≡ capped (part_for cat.now q.now r (cond arm.now) result.0) }
+    ensures least { IsLeastMatch cat.now q.now r p (cond arm.now) result.0 }
+    ensures part { result.1 ≡ capped (part_for cat.now q.now r p (cond arm.now) result.0) }
 {
     let mut best = None;
     let indexes = indexes_of(cat, q, r);
     for i in indexes {
         if matches_arm(cat, q, r, arm, *i) {
-            best = lesser(best, *i, arm_part_of(cat, q, r, arm, *i));
+            best = lesser(best, *i, arm_part_of(cat, q, r, p, arm, *i));
         }
     }
     match best {
@@ -75,34 +81,42 @@ pub(crate) fn least_match(cat: &Catalog, q: &Prepared, r: RelNo, arm: &Expr) -> 
     }
 }
 
-/// The parts of the matching indexes of least part for some arms together, cut to at most 10^18.
-pub(crate) fn arms_part(cat: &Catalog, q: &Prepared, r: RelNo, arms: &[Expr]) -> u64
+/// The parts of the matching indexes of least part for some arms together where the rows of `p` are given, cut to at most
+/// 10^18.
+pub(crate) fn arms_part(cat: &Catalog, q: &Prepared, r: RelNo, p: RelSet, arms: &[Expr]) -> u64
     requires query { IsOverTables cat.now q.now }
     requires relation { r.0 < width q.now }
     requires over { All (λ (e : Condition). IsOver cat.now q.now.range (cond e)) arms.now }
     requires few { All (λ (e : Condition). atom_count (cond e) ≤ MOST_ATOMS) arms.now }
     requires some { HaveMatches cat.now q.now r arms.now }
-    ensures { (is : List Numbered) × AreServed cat.now q.now r (map cond arms.now) is result }
+    ensures { (is : List Numbered) × AreServed cat.now q.now r p (map cond arms.now) is result }
 {
     let mut sum = 0;
     for n in 0..arms.len() {
-        let found = least_match(cat, q, r, &arms[n]);
+        let found = least_match(cat, q, r, p, &arms[n]);
         sum = with_part(sum, found.1, n);
     }
     sum
 }
 
-/// Puts in the matching index of least part for each of some arms.
-pub(crate) fn put_least(cat: &Catalog, q: &Prepared, r: RelNo, arms: &[Expr], into: &mut Arms)
+/// Puts in the matching index of least part for each of some arms where the rows of `p` are given.
+pub(crate) fn put_least(
+    cat: &Catalog,
+    q: &Prepared,
+    r: RelNo,
+    p: RelSet,
+    arms: &[Expr],
+    into: &mut Arms,
+)
     requires query { IsOverTables cat.now q.now }
     requires relation { r.0 < width q.now }
     requires over { All (λ (e : Condition). IsOver cat.now q.now.range (cond e)) arms.now }
     requires few { All (λ (e : Condition). atom_count (cond e) ≤ MOST_ATOMS) arms.now }
     requires some { HaveMatches cat.now q.now r arms.now }
-    ensures { PutsLeast cat.now q.now r arms.now into.old into.new }
+    ensures { PutsLeast cat.now q.now r p arms.now into.old into.new }
 {
     for n in 0..arms.len() {
-        let found = least_match(cat, q, r, &arms[n]);
+        let found = least_match(cat, q, r, p, &arms[n]);
         into.push(found.0);
     }
 }

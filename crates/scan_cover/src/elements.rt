@@ -62,7 +62,7 @@ fn keep_clause(cat: &Catalog, q: &Prepared, r: RelNo, p: RelSet, n: u16) -> Kept
     };
     Kept {
         element: Element::Clause(n),
-        part: arms_part(cat, q, r, arms),
+        part: arms_part(cat, q, r, p, arms),
         used: only(q, n),
     }
 }

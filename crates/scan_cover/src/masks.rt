@@ -80,7 +80,7 @@ fn put_clause(cat: &Catalog, q: &Prepared, at: Given, k: &Kept, n: u16, into: &m
     ensures { PutsArms cat.now q.now at k.now into.old into.new }
 {
     match or_arms(q, n) {
-        Some(arms) => put_least(cat, q, at.rel, arms, into),
+        Some(arms) => put_least(cat, q, at.rel, at.param, arms, into),
         None => unreachable!(),
     }
 }

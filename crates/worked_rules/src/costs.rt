@@ -98,15 +98,18 @@ fn both(cost: Pair) -> (u64, u64) {
     (cost.startup, cost.total)
 }
 
-/// Costs of scans of a table, and of scans by an index, with the entries and without.
-fn scan_costs() -> [(u64, u64); 6] {
+/// Costs of scans of a table, and of scans by an index, with the entries and without, run once and a hundred times.
+fn scan_costs() -> [(u64, u64); 9] {
     [
         both(seq_scan(10, 1000, 1)),
-        both(index_scan(110, 1740, false, 10, 10, 0)),
-        both(index_scan(110, 1740, true, 10, 10, 0)),
-        both(bitmap_scan(1740, 10, 10, 1)),
-        both(bitmap_scan(3580, 20, 10, 2)),
+        both(index_scan(1, 110, 1740, false, 10, 10, 0)),
+        both(index_scan(1, 110, 1740, true, 10, 10, 0)),
+        both(bitmap_scan(1, 1740, 10, 10, 1)),
+        both(bitmap_scan(1, 3580, 20, 10, 2)),
         both(seq_scan(1, 1, u64::MAX)),
+        both(index_scan(100, 167, 1626, false, 1, 1000, 0)),
+        both(index_scan(100, 167, 1626, true, 1, 1000, 0)),
+        both(bitmap_scan(100, 1787, 200, 200, 1)),
     ]
 }
 
@@ -135,13 +138,18 @@ fn costs_by_hand(rt: HostRuntime) {
         (1740, 7110),
         (3580, 7700),
         (0, MOST_COST),
+        (167, 3166),
+        (167, 1630),
+        (1787, 4379),
     ];
     assert!(rt; scan_costs() == scans);
     let entries = [
-        index_entries(110, 10, 1000, 1),
-        index_entries(167, 100_000, 100_000, 0),
+        index_entries(1, 110, 10, 1000, 1),
+        index_entries(1, 167, 100_000, 100_000, 0),
+        index_entries(100, 167, 1, 100_000, 1),
+        index_entries(100, 115, 200, 20_000, 1),
     ];
-    assert!(rt; entries == [1740, 1_000_167]);
+    assert!(rt; entries == [1740, 1_000_167, 1626, 1787]);
     let joins = [
         (28_000, 29_000),
         (13_000, 13_500),

@@ -28,6 +28,6 @@ loop-arm-preserved c =
     let is = c.loop-arm.indexes.items in
     let pushed : c.push.new.self.items ≡ is ++ found.result.0 ∷ [] = c.in_ok-push.ensures.items in
     let many : c.len.result ≡ length is = search rules in
-    let served = served-more contents q c.args.r seen is c.loop-arm.sum (cond item) found.result.0 found.result.1 sum.result c.loop-arm.invariant found.ensures.least found.ensures.part (λ ns l e f g. sum.ensures ns l e f (many ∙ g)) in
-    subst (λ (xs : List Cond). AreServed contents q c.args.r xs c.push.new.self.items sum.result) (sym more)
-    (subst (λ (js : List IndexNo). AreServed contents q c.args.r (seen ++ cond item ∷ []) js sum.result) (sym pushed) served)
+    let served = served-more contents q c.args.r c.args.p seen is c.loop-arm.sum (cond item) found.result.0 found.result.1 sum.result c.loop-arm.invariant found.ensures.least found.ensures.part (λ ns l e f g. sum.ensures ns l e f (many ∙ g)) in
+    subst (λ (xs : List Cond). AreServed contents q c.args.r c.args.p xs c.push.new.self.items sum.result) (sym more)
+    (subst (λ (js : List IndexNo). AreServed contents q c.args.r c.args.p (seen ++ cond item ∷ []) js sum.result) (sym pushed) served)

@@ -1,7 +1,7 @@
-use Rattle.std.proofs.Common.{◌≡◌, ◌≤◌, IsTrue, drop}
+use Rattle.std.proofs.Common.{◌≡◌, ◌≤◌, IsTrue, drop, map}
 use Rattle.pg_expr.specs.Columns.{each_column_of}
 use Rattle.pg_expr.specs.Typed.{AreTyped}
-use Rattle.pg_expr.specs.View.{conds}
+use Rattle.pg_expr.specs.View.{cond, conds}
 use Rattle.path_cost.specs.declared.shares.TheConstants.{ALL_ROWS}
 use Rattle.path_cost.specs.Columns.{is_column_in}
 use Rattle.catalog.specs.Range.{type_in}
@@ -15,7 +15,8 @@ invariant-all_share-loop-part l =
     let range = range_of l.relations in
     let rest = conds (drop l.part-index l.parts) in
     record {
-      share : of_all l.cat range l.all rest ≡ of_all l.cat range ALL_ROWS (conds l.parts);
+      count : l.n ≡ l.part-index;
+      share : of_all l.cat range (map cond l.parts) l.part-index l.all rest ≡ of_all l.cat range (map cond l.parts) 0 ALL_ROWS (conds l.parts);
       part : l.all ≤ 1000000000;
       columns : IsTrue (each_column_of (is_column_in l.cat range) rest);
       typed : AreTyped (type_in l.cat range) rest;

@@ -1,5 +1,6 @@
 use Rattle.std.proofs.Common.{◌∙◌, length, arith}
 use Rattle.std.specs.List.{list_all}
+use Rattle.pg_base.specs.Sets.{has}
 use Rattle.std.proofs.lemmas.Bool.{and_parts}
 use Rattle.pg_expr.specs.View.{cond}
 use Rattle.sql_query.specs.catalog_Contents.{index_at}
@@ -22,4 +23,4 @@ pub returns-clause-part : goal.returns-clause-part
 returns-clause-part c =
     let e = cond c.args.arm.now in
     c.arm_part.ensures.rule
-    ∙ (λ z. capped (arm_part c.args.cat.now (c.range_of-range.ensures z) c.args.i c.args.r.0 (arm_parts e) (λ n. c.in-Some.ensures.bounds n z)))
+    ∙ (λ z. capped (arm_part c.args.cat.now (c.range_of-range.ensures z) (c.classes_of.ensures z) c.args.i c.args.r.0 (has c.args.p.0) (arm_parts e) (λ n. c.in-Some.ensures.bounds n z)))

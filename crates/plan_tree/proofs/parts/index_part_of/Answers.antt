@@ -18,6 +18,6 @@ returns-clause-part c =
     let found = c.conditions-found in
     let all = all-found contents t i r p found.result.bounds found.result.tests c.bounds_and_tests-all.result found.ensures.bounds found.ensures.tests c.bounds_and_tests-all.ensures in
     c.index_part.ensures.rule
-    ∙ (λ z. capped (index_part contents c.range_of-range.result.now t i r (λ n. found.ensures.bounds n z) (λ n. all n z)))
-    ∙ (λ z. capped (index_part contents (c.range_of-range.ensures z) (c.classes_of-classes.ensures z) i r
+    ∙ (λ z. capped (index_part contents c.range_of-range.result.now t i r p (λ n. found.ensures.bounds n z) (λ n. all n z)))
+    ∙ (λ z. capped (index_part contents (c.range_of-range.ensures z) (c.classes_of-classes.ensures z) i r p
     (has_number (index_bounds contents (c.classes_of-classes.ensures z) i r p)) (has_number (index_conditions contents (c.classes_of-classes.ensures z) i r p))))

@@ -21,7 +21,7 @@ returns c =
     record {
       conditions = λ n. all n ∙ ap (λ (x : ClassTable). has_number (index_conditions contents x i r p) n) c.classes_of-classes.ensures;
       part = c.index_part-part.ensures.rule
-          ∙ (λ z. capped (index_part contents c.range_of.result.now t i r (λ n. found.ensures.bounds n z) (λ n. all n z)))
-          ∙ (λ z. capped (index_part contents (c.range_of.ensures z) (c.classes_of-classes.ensures z) i r
+          ∙ (λ z. capped (index_part contents c.range_of.result.now t i r p (λ n. found.ensures.bounds n z) (λ n. all n z)))
+          ∙ (λ z. capped (index_part contents (c.range_of.ensures z) (c.classes_of-classes.ensures z) i r p
           (has_number (index_bounds contents (c.classes_of-classes.ensures z) i r p)) (has_number (index_conditions contents (c.classes_of-classes.ensures z) i r p))));
     }

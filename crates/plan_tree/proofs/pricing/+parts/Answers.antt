@@ -21,7 +21,7 @@ pub tree_part-returns-in-Some-clause-part : goal.tree_part-returns-in-Some-claus
 tree_part-returns-in-Some-clause-part t c =
     let tree : bits c.args.tree.now ≡ some_arm c.in-Or.n c.in-Or.indexes.items = ap bits c.in-Or.is ∙ or-bits c.in-Or.n c.in-Or.indexes in
     c.arms_part.ensures.part
-    ∙ arms-total (condition_at c.args.q.now c.in-Or.n) c.in-Some.arms.now c.in-Or.indexes.items c.deref-in-Some.result.now c.in-Some.ensures.arms c.deref-in-Some.ensures.value c.args.cat.now c.args.q.now c.args.r
+    ∙ arms-total (condition_at c.args.q.now c.in-Or.n) c.in-Some.arms.now c.in-Or.indexes.items c.deref-in-Some.result.now c.in-Some.ensures.arms c.deref-in-Some.ensures.value c.args.cat.now c.args.q.now c.args.r c.args.p
     ∙ ap (λ (x : BitTree). capped (part_of c.args.cat.now c.args.q.now c.args.r c.args.p x)) (sym tree)
 
 pub trees_part-returns-clause-part : goal.trees_part-returns-clause-part

@@ -25,16 +25,17 @@ loop-n-preserved c =
     let contents = c.args.cat.now in
     let q = c.args.q.now in
     let r = c.args.r in
+    let p = c.args.p in
     let arms = c.args.arms.now in
     let is = c.args.indexes.now in
     let cut : c.min-sum.result ≡ capped (c.loop-n.sum + c.arm_part_of.result) = omega arith in
     record {
       most = omega arith;
       total =
-          ap (λ n. capped (n + sum (parts_of_arms contents q r (map cond (drop (c.loop-n.n + 1) arms)) (drop (c.loop-n.n + 1) is)))) cut
-          ∙ arm-done contents q r cond arms is c.loop-n.n c.index-arms-n.result (record { 0 = 0 }) c.loop-n.sum c.arm_part_of.result _ c.loop-n-test.true
+          ap (λ n. capped (n + sum (parts_of_arms contents q r p (map cond (drop (c.loop-n.n + 1) arms)) (drop (c.loop-n.n + 1) is)))) cut
+          ∙ arm-done contents q r p cond arms is c.loop-n.n c.index-arms-n.result (record { 0 = 0 }) c.loop-n.sum c.arm_part_of.result _ c.loop-n-test.true
           (zip-within (IsMatchedBy contents r.0) cond arms is c.loop-n.n c.requires.matched c.loop-n-test.true)
-          (c.arm_part_of.ensures.part ∙ ap (λ (x : Expr). capped (part-of-arm contents q r (cond x) (get_or is c.loop-n.n (record { 0 = 0 })))) c.index-arms-n.is) c.loop-n.invariant.total;
+          (c.arm_part_of.ensures.part ∙ ap (λ (x : Expr). capped (part-of-arm contents q r p (cond x) (get_or is c.loop-n.n (record { 0 = 0 })))) c.index-arms-n.is) c.loop-n.invariant.total;
     }
 
 pub returns-clause-part : goal.returns-clause-part
@@ -42,8 +43,9 @@ returns-clause-part c =
     let contents = c.args.cat.now in
     let q = c.args.q.now in
     let r = c.args.r in
+    let p = c.args.p in
     let arms = c.args.arms.now in
     let is = c.args.indexes.now in
-    c.together.ensures.part (parts_of_arms contents q r (map cond arms) is)
-    (arms-done contents q r cond arms is c.loop-n.n c.loop-n.sum _ c.loop-n-test.false c.loop-n.invariant.most c.loop-n.invariant.total)
-    (sym (arms-long contents q r cond arms is c.requires.matched))
+    c.together.ensures.part (parts_of_arms contents q r p (map cond arms) is)
+    (arms-done contents q r p cond arms is c.loop-n.n c.loop-n.sum _ c.loop-n-test.false c.loop-n.invariant.most c.loop-n.invariant.total)
+    (sym (arms-long contents q r p cond arms is c.requires.matched))

@@ -8,7 +8,7 @@ use Rattle.scan_cover.proofs.ArmLemmas.{served-next, served-none}
 use Rattle.scan_cover.proofs.arms.arms_part.Goals as goal
 
 pub loop-n-init : goal.loop-n-init
-loop-n-init c = ([], served-none c.args.cat.now c.args.q.now c.args.r)
+loop-n-init c = ([], served-none c.args.cat.now c.args.q.now c.args.r c.args.p)
 
 pub least_match-found-requires-clause-some : goal.least_match-found-requires-clause-some
 least_match-found-requires-clause-some c =
@@ -20,9 +20,9 @@ loop-n-preserved c =
     let found = c.least_match-found in
     let sum = c.with_part-sum in
     let h = c.loop-n.invariant in
-    (h.0 ++ found.result.0 ∷ [], served-next c.args.cat.now c.args.q.now c.args.r c.args.arms.now c.loop-n.n _ c.loop-n-test.true c.index-arms-n.is h.0 c.loop-n.sum found.result.0 found.result.1 sum.result h.1 found.ensures.least found.ensures.part sum.ensures)
+    (h.0 ++ found.result.0 ∷ [], served-next c.args.cat.now c.args.q.now c.args.r c.args.p c.args.arms.now c.loop-n.n _ c.loop-n-test.true c.index-arms-n.is h.0 c.loop-n.sum found.result.0 found.result.1 sum.result h.1 found.ensures.least found.ensures.part sum.ensures)
 
 pub returns : goal.returns
 returns c =
     let h = c.loop-n.invariant in
-    (h.0, subst (λ (es : List Expr). AreServed c.args.cat.now c.args.q.now c.args.r (map cond es) h.0 c.loop-n.sum) (take_all c.loop-n.n c.args.arms.now c.loop-n-test.false) h.1)
+    (h.0, subst (λ (es : List Expr). AreServed c.args.cat.now c.args.q.now c.args.r c.args.p (map cond es) h.0 c.loop-n.sum) (take_all c.loop-n.n c.args.arms.now c.loop-n-test.false) h.1)

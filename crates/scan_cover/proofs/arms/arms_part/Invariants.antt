@@ -5,4 +5,4 @@ use Rattle.bitmap_scan.specs.Arms.{AreServed}
 use Rattle.scan_cover.proofs.arms.arms_part.Given as goal
 
 abbrev pub invariant-loop-n : goal.invariant-loop-n
-invariant-loop-n l = (is : List IndexNo) × AreServed l.cat l.q l.r (map cond (take l.n l.arms)) is l.sum
+invariant-loop-n l = (is : List IndexNo) × AreServed l.cat l.q l.r l.p (map cond (take l.n l.arms)) is l.sum

@@ -5,7 +5,7 @@ use Rattle.cost_rules.specs.Costs.{capped}
 use Rattle.plan_tree.specs.Bitmaps.{MatchesArm}
 use Rattle.plan_tree.proofs.ElementLemmas.{is-listed, listed-on}
 use Rattle.bitmap_scan.specs.Arms.{part_for}
-use Rattle.bitmap_scan.proofs.ArmLemmas.{BestSoFar, best-none, best-passed, best-taken}
+use Rattle.bitmap_scan.proofs.ArmLemmas.{BestSoFar, best-found, best-none, best-passed, best-taken}
 use Rattle.scan_cover.proofs.arms.least_match.Goals as goal
 use Rattle.scan_cover.proofs.arms.least_match.Goals.{then-matches_arm, else-matches_arm}
 
@@ -13,13 +13,13 @@ pub loop-i-init : goal.loop-i-init
 loop-i-init c =
     let P = MatchesArm c.args.cat.now c.args.q.now c.args.r.0 (cond c.args.arm.now) in
     let e = c.indexes_of-indexes.ensures in
-    best-none P (λ i. capped (part_for c.args.cat.now c.args.q.now c.args.r (cond c.args.arm.now) i)) c.indexes_of-indexes.result.now
+    best-none P (λ i. capped (part_for c.args.cat.now c.args.q.now c.args.r c.args.p (cond c.args.arm.now) i)) c.indexes_of-indexes.result.now
     (λ j h. subst (λ (xs : List IndexNo). is-listed j xs ≡ true) (sym e) ((listed-on c.args.cat.now c.args.q.now c.args.r.0 j).1 h.index))
 
 pub loop-i-preserved : goal.loop-i-preserved
 loop-i-preserved c =
     let P = MatchesArm c.args.cat.now c.args.q.now c.args.r.0 (cond c.args.arm.now) in
-    let f = λ (i : IndexNo). capped (part_for c.args.cat.now c.args.q.now c.args.r (cond c.args.arm.now) i) in
+    let f = λ (i : IndexNo). capped (part_for c.args.cat.now c.args.q.now c.args.r c.args.p (cond c.args.arm.now) i) in
     let items = c.indexes_of-indexes.result.now in
     let n = c.loop-i.i-index in
     let best = c.loop-i.best in
@@ -31,3 +31,10 @@ loop-i-preserved c =
           subst (BestSoFar P f (drop (n + 1) items)) (sym w.best-is)
           (best-passed P f items n _ best c.loop-i-test.true (λ h. true≢false (sym (c.matches_arm.ensures.matches.1 h) ∙ w.if-matches_arm.false)) c.loop-i.invariant)
     ]
+
+pub returns-clause-least : goal.returns-clause-least
+returns-clause-least c =
+    let P = MatchesArm c.args.cat.now c.args.q.now c.args.r.0 (cond c.args.arm.now) in
+    let f = λ (i : IndexNo). capped (part_for c.args.cat.now c.args.q.now c.args.r c.args.p (cond c.args.arm.now) i) in
+    let least = best-found P f c.indexes_of-indexes.result.now c.loop-i.i-index c.in-Some.found c.loop-i.best c.loop-i-test.false c.in-Some.is c.loop-i.invariant in
+    record { matches = least.0; least = least.1 }

@@ -7,4 +7,4 @@ use Rattle.bitmap_scan.proofs.ArmLemmas.{BestSoFar}
 use Rattle.scan_cover.proofs.arms.least_match.Given as goal
 
 abbrev pub invariant-loop-i : goal.invariant-loop-i
-invariant-loop-i l = BestSoFar (MatchesArm l.cat l.q l.r.0 (cond l.arm)) (λ i. capped (part_for l.cat l.q l.r (cond l.arm) i)) (drop l.i-index l.indexes) l.best
+invariant-loop-i l = BestSoFar (MatchesArm l.cat l.q l.r.0 (cond l.arm)) (λ i. capped (part_for l.cat l.q l.r l.p (cond l.arm) i)) (drop l.i-index l.indexes) l.best

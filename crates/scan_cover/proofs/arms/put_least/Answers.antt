@@ -21,11 +21,11 @@ loop-n-preserved c =
     let h = c.loop-n.invariant in
     let i = c.least_match-found.result.0 in (
       h.0 ++ i ∷ [],
-      put-next c.args.cat.now c.args.q.now c.args.r c.args.arms.now c.loop-n.n _ c.loop-n-test.true c.index-arms-n.is h.0 i h.1 c.least_match-found.ensures.least,
+      put-next c.args.cat.now c.args.q.now c.args.r c.args.p c.args.arms.now c.loop-n.n _ c.loop-n-test.true c.index-arms-n.is h.0 i h.1 c.least_match-found.ensures.least,
       filled-next c.args.into.now c.loop-n.into c.push.new.self h.0 i h.2 c.push.ensures,
     )
 
 pub returns : goal.returns
 returns c =
     let h = c.loop-n.invariant in
-    (h.0, subst (λ (es : List Expr). AllZip (IsLeastMatch c.args.cat.now c.args.q.now c.args.r) (map cond es) h.0) (take_all c.loop-n.n c.args.arms.now c.loop-n-test.false) h.1, h.2)
+    (h.0, subst (λ (es : List Expr). AllZip (IsLeastMatch c.args.cat.now c.args.q.now c.args.r c.args.p) (map cond es) h.0) (take_all c.loop-n.n c.args.arms.now c.loop-n-test.false) h.1, h.2)

@@ -7,4 +7,4 @@ use Rattle.scan_cover.specs.Arms.{IsFilled}
 use Rattle.scan_cover.proofs.arms.put_least.Given as goal
 
 abbrev pub invariant-loop-n : goal.invariant-loop-n
-invariant-loop-n l = (is : List IndexNo) × AllZip (IsLeastMatch l.cat l.q l.r) (map cond (take l.n l.arms)) is × ((found : List IndexNo) → IsFilled l.fn.into found → IsFilled l.into (found ++ is))
+invariant-loop-n l = (is : List IndexNo) × AllZip (IsLeastMatch l.cat l.q l.r l.p) (map cond (take l.n l.arms)) is × ((found : List IndexNo) → IsFilled l.fn.into found → IsFilled l.into (found ++ is))

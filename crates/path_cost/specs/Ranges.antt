@@ -1,0 +1,80 @@
+-- Bounds of a column that are taken together. Own, in the manner of PostgreSQL's addRangeClause.
+use Rattle.std.specs.Prelude.{ℕ, ◌+◌, ◌-◌, ◌&&◌, ◌||◌, min, max, Bool, true, false, not, List, map, Option, Some, None, slice_index_or}
+use Rattle.std.specs.List.{list_any}
+use Rattle.pg_value.specs.declared.operators.Op.{Op}
+use Rattle.pg_value.specs.declared.operators.Op.TheVariants.{Lt, Le, Ge, Gt}
+use Rattle.pg_value.specs.declared.operators.Truth.TheVariants.{True}
+use Rattle.pg_value.specs.declared.value.Value.{Value}
+use Rattle.pg_value.specs.declared.value.Value.TheVariants.{Null}
+use Rattle.pg_expr.specs.declared.operand.ColRef.{ColRef}
+use Rattle.pg_expr.specs.declared.operand.Operand.{Operand}
+use Rattle.pg_expr.specs.declared.operand.Operand.TheVariants.{Col, Lit}
+use Rattle.pg_expr.specs.Cond.{Cond, compare, const}
+use Rattle.pg_expr.specs.View as view
+use Rattle.eq_classes.specs.Clauses.{Clause, ClassTable}
+use Rattle.eq_classes.specs.Equality.{is_column}
+use Rattle.path_cost.specs.declared.ranges.Listing.{Listing}
+use Rattle.path_cost.specs.declared.ranges.Listing.TheVariants.{Parts, Clauses}
+
+-- the conditions of all clauses, by their numbers
+abbrev pub conditions : ClassTable → List Cond
+conditions t = map (λ (k : Clause). k.cond) t.clauses
+
+-- the conditions of a list: the parts of an AND, or the clauses of a query
+abbrev pub conditions_of : Listing → List Cond
+conditions_of (Parts es) = map view.cond es.now
+conditions_of (Clauses t) = conditions t.now
+
+-- the condition of a number of a list, the first being 0
+abbrev pub condition_at : List Cond → ℕ → Cond
+condition_at es n = slice_index_or es n (const True)
+
+-- a bound of a column: the column, and whether it is from below
+abbrev pub Bound : Type 0
+Bound = ColRef × Bool
+
+-- what an operator with a literal behind it is to a column: a bound from below, one from above, or none
+abbrev pub side_of : Op → ColRef → Option Bound
+side_of Gt x = Some (x, true)
+side_of Ge x = Some (x, true)
+side_of Lt x = Some (x, false)
+side_of Le x = Some (x, false)
+side_of _ x = None
+
+-- the same by the literal: NULL bounds nothing
+abbrev pub bound_by : Op → ColRef → Value → Option Bound
+bound_by op x Null = None
+bound_by op x v = side_of op x
+
+-- the bound that a comparison in pushed form is
+abbrev pub bound_between : Op → Operand → Operand → Option Bound
+bound_between op (Col x) (Lit v) = bound_by op x v
+bound_between op l r = None
+
+-- the bound that a condition is, if it is one
+abbrev pub bound_of : Cond → Option Bound
+bound_of (compare op l r) = bound_between op l r
+bound_of _ = None
+
+-- one of two sides is the other
+abbrev pub is_side : Bool → Bool → Bool
+is_side true b = b
+is_side false b = not b
+
+-- a bound is one of a column from a side
+abbrev pub is_bound_at : ColRef → Bool → Option Bound → Bool
+is_bound_at x below None = false
+is_bound_at x below (Some (y, b)) = is_column x y && is_side below b
+
+-- a list has a bound of a column from a side
+abbrev pub has_bound : ColRef → Bool → List Cond → Bool
+has_bound x below es = list_any (λ e. is_bound_at x below (bound_of e)) es
+
+-- a list has a bound of a column
+abbrev pub has_end : ColRef → List Cond → Bool
+has_end x es = has_bound x true es || has_bound x false es
+
+-- both ends of a range together, of so many rows in all: what both leave, and at least those of one value, but no more than
+-- each end alone
+abbrev pub both_ends : ℕ → ℕ → ℕ → ℕ → ℕ
+both_ends all one a b = max (a + b - all) (min (min a b) one)

@@ -1,0 +1,49 @@
+-- A scan that is given rows is priced for as many runs as the smallest of the relations that it is given has rows.
+-- One run: x has one row left.
+CREATE TABLE x (a int4, b int4);
+CREATE TABLE y (a int4, b int4);
+CREATE INDEX ya ON y (a);
+STATISTICS x ROWS 10 PAGES 1;
+STATISTICS x.b DISTINCT 10 NULLS 0;
+STATISTICS y ROWS 100000 PAGES 1000;
+STATISTICS y.a DISTINCT 100000 NULLS 0;
+STATISTICS x.a DISTINCT 100000 NULLS 0;
+EXPLAIN (TABLE) SELECT * FROM x, y WHERE x.a = y.a AND x.b = 5;
+-- A hundred runs touch 91 of 500 leaves and 96 of 1,000 heap pages together.
+STATISTICS x ROWS 1000 PAGES 10;
+STATISTICS x.b DISTINCT 10 NULLS 0;
+STATISTICS y ROWS 100000 PAGES 1000;
+STATISTICS y.a DISTINCT 100000 NULLS 0;
+STATISTICS x.a DISTINCT 100000 NULLS 0;
+EXPLAIN (TABLE) SELECT * FROM x, y WHERE x.a = y.a AND x.b = 5;
+-- A hundred bitmap scans read all 200 pages once, each as dear as in the order of one run; so the loop costs less than the merge.
+STATISTICS x ROWS 1000 PAGES 10;
+STATISTICS x.b DISTINCT 10 NULLS 0;
+STATISTICS y ROWS 20000 PAGES 200;
+STATISTICS y.a DISTINCT 100 NULLS 0;
+STATISTICS x.a DISTINCT 100 NULLS 0;
+EXPLAIN (TABLE) SELECT * FROM x, y WHERE x.a = y.a AND x.b = 5;
+-- Index-only scans share leaves alone: one run, and 334.
+CREATE INDEX yb ON y (b) INCLUDE (a);
+STATISTICS x ROWS 1000 PAGES 10;
+STATISTICS x.b DISTINCT 10 NULLS 0;
+STATISTICS x.a DISTINCT 20000 NULLS 0;
+STATISTICS y ROWS 20000 PAGES 200;
+STATISTICS y.a DISTINCT 20000 NULLS 0;
+STATISTICS y.b DISTINCT 1000 NULLS 0;
+EXPLAIN (TABLE) SELECT y.a FROM x, y WHERE x.b = y.b AND x.a = 5;
+EXPLAIN (TABLE) SELECT y.a FROM x, y WHERE x.b = y.b AND x.b < 3;
+-- Given rows of two relations, of 1,000 and of 40: both arms are priced for 40 runs.
+CREATE TABLE u (a int4, b int4);
+CREATE TABLE v (a int4, b int4);
+CREATE INDEX va ON v (a);
+CREATE TABLE w (c int4);
+CREATE INDEX vb ON v USING hash (b);
+STATISTICS u ROWS 1000 PAGES 10;
+STATISTICS w ROWS 40 PAGES 1;
+STATISTICS w.c DISTINCT 40 NULLS 0;
+STATISTICS u.a DISTINCT 1000 NULLS 0;
+STATISTICS v ROWS 100000 PAGES 1000;
+STATISTICS v.a DISTINCT 1000 NULLS 0;
+STATISTICS v.b DISTINCT 500 NULLS 0;
+EXPLAIN (TABLE) SELECT v.a FROM u, v, w WHERE (u.a = v.a OR w.c = v.b);

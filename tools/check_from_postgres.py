@@ -10,7 +10,9 @@ difference, and last the number of checks that passed and failed. What is checke
 - shop: twelve tables. Each line that is wanted is printed, nothing else is left out, and pgplan plans queries over them.
 - conditions: how the condition of a partial index is written, or that its index is left out. Each written one is true for the same
   rows in pgplan and on the server.
-- stand-ins: columns of types that pgplan does not have are texts, and `*` names them.
+- types: dates, times, numerics, enums, UUIDs, fixed-length texts and addresses have the values and the order that pgplan can compare, in
+  statistics and in conditions.
+- stand-ins: columns of other types are texts, and `*` names them.
 - collations: which histograms of texts are written, for databases and columns of several collations.
 - encoding: texts are written in the encoding of the database.
 - size: statistics of more than 16 MiB.
@@ -20,16 +22,15 @@ difference, and last the number of checks that passed and failed. What is checke
 
 pgplan ends with status 0 on every script.
 """
-import contextlib
-import os
 import pathlib
-import pwd
 import re
-import shutil
 import subprocess
 import sys
-import tempfile
-from collections.abc import Callable, Iterator
+from collections.abc import Callable
+
+sys.dont_write_bytecode = True
+from exported_types import check_types
+from own_server import Checks, Psql, newest, server
 
 ROOT = pathlib.Path(__file__).resolve().parent.parent
 
@@ -90,8 +91,9 @@ ANALYZE regions; ANALYZE customers; ANALYZE orders; ANALYZE items; ANALYZE price
 
 # Lines that stand in the script, each as a regular expression for the whole line.
 WANTED = [
-    r"CREATE TABLE customers \(id int4 NOT NULL, name text NOT NULL, region int2, since text, mail text\);",
-    r"-- as text, without statistics: column customers\.since of type date",
+    r"CREATE TABLE customers \(id int4 NOT NULL, name text NOT NULL, region int2, since int4, mail text\);",
+    r"-- as days since 2000-01-01: column customers\.since of type date",
+    r"STATISTICS customers\.since DISTINCT 1 NULLS 0 COMMON \(7305 1000000\);",
     r"-- as text: column customers\.name of type character varying\(80\)",
     r"-- as a plain index: unique index customers_pkey",
     r"CREATE INDEX customers_pkey ON customers \(id\);",
@@ -104,14 +106,15 @@ WANTED = [
     r"STATISTICS customers\.region DISTINCT 12 NULLS \d+ COMMON \(.*\);",
     r"STATISTICS regions\.name DISTINCT 12 NULLS 0 HISTOGRAM \('region 1', 'region 10', .*\);",
     r"STATISTICS customers\.mail DISTINCT \d+ NULLS 100000 HISTOGRAM \('c[^']*''x@example', .*\);",
-    r"CREATE TABLE orders \(id int8 NOT NULL, customer int4 NOT NULL, status text NOT NULL, paid bool, total text\);",
+    r"CREATE TABLE orders \(id int8 NOT NULL, customer int4 NOT NULL, status text NOT NULL, paid bool, total int8\);",
     r"CREATE INDEX orders_customer ON orders \(customer, id DESC\) INCLUDE \(status\);",
     r"CREATE INDEX orders_open ON orders \(customer\) WHERE \(\(status = 'open'\) AND \(NOT paid\)\);",
     r"CREATE INDEX orders_in ON orders \(customer\) WHERE \(status IN \('open', 'new'\)\);",
     r"CREATE INDEX orders_not ON orders \(id\) WHERE \(\(status NOT IN \('it''s late', 'a\], b'\)\) AND \(customer IN \(1, -2, 3\)\)\);",
     r"CREATE INDEX orders_text ON orders \(id\) WHERE \(status = 'x = ANY \(ARRAY\[1\]\)'\);",
     r"CREATE INDEX orders_hash ON orders USING hash \(status\);",
-    r"-- left out: index orders_total on orders \(a key of type numeric\(10,2\)\)",
+    r"CREATE INDEX orders_total ON orders \(total\);",
+    r"STATISTICS orders\.total DISTINCT 40000 NULLS 0 HISTOGRAM \((\d+00, ){100}\d+00\);",
     r"STATISTICS orders\.status DISTINCT 3 NULLS 0 COMMON \('done' \d+, 'it''s late' \d+, 'open' \d+\);",
     r"STATISTICS orders\.paid DISTINCT 2 NULLS \d+ COMMON \((TRUE|FALSE) \d+, (TRUE|FALSE) \d+\);",
     r"-- left out: extended statistics orders_both on orders",
@@ -122,7 +125,7 @@ WANTED = [
     r"-- left out: index articles_true on articles \(its condition .*\)",
     r"-- left out: 84 further common values of articles\.stock",
     r"STATISTICS articles\.id DISTINCT 900 NULLS 0 HISTOGRAM \((\d+, ){100}900\);",
-    r"-- as text, without statistics: column orders\.total of type numeric\(10,2\)",
+    r"-- as multiples of 10\^-2: column orders\.total of type numeric\(10,2\)",
     r"-- as a plain index: exclusion constraint prices_article_valid_from_excl",
     r"CREATE INDEX prices_article_valid_from_excl ON prices \(article, valid_from\);",
     r"-- left out: column staff\.\"order\" of type integer \(its name\)",
@@ -192,9 +195,9 @@ CONDITIONS = [
     ("isfinite(since)", None),
     ("f IS TRUE", None),
     ("(i > 5) = f", None),
-    ("f = true OR NOT isfinite OR f > isfinite", "((f = true) OR (NOT isfinite) OR (f > isfinite))"),
-    ("f IN (true, false)", "(f IN (true, false))"),
-    ("true AND i <> s AND 5 = 5", "(true AND (i <> s) AND (5 = 5))"),
+    ("f = true OR NOT isfinite OR f > isfinite", "((f = TRUE) OR (NOT isfinite) OR (f > isfinite))"),
+    ("f IN (true, false)", "(f IN (TRUE, FALSE))"),
+    ("true AND i <> s AND 5 = 5", "(TRUE AND (i <> s) AND (5 = 5))"),
     ("i::int8 = b", None),
     ("i IS DISTINCT FROM 5", None),
     ("i IN (1, NULL)", None),
@@ -205,9 +208,9 @@ CONDITIONS = [
     ("d IS NULL AND since IS NOT NULL", "((d IS NULL) AND (since IS NOT NULL))"),
     ("mood IS NOT NULL OR amount IS NULL", "((mood IS NOT NULL) OR (amount IS NULL))"),
     ("pair IS NULL", None),
-    ("since < until", None),
-    ("since > '2020-01-01'", None),
-    ("mood = 'sad'", None),
+    ("since < until", "(since < until)"),
+    ("since > '2020-01-01'", "(since > 7305)"),
+    ("mood = 'sad'", "(mood = 1)"),
     ("amount > 5", None),
     ("i OPERATOR(conditions.=) 5", None),
     ("conditions.odd(i)", None),
@@ -258,12 +261,12 @@ CREATE OPERATOR conditions.= (LEFTARG = int, RIGHTARG = int, FUNCTION = conditio
 STAND_INS = """
 CREATE SCHEMA stand_ins;
 SET search_path = stand_ins;
-CREATE TABLE t (a int NOT NULL, j jsonb, at timestamptz, k text COLLATE "C");
+CREATE TABLE t (a int NOT NULL, j jsonb, at timetz, k text COLLATE "C");
 CREATE INDEX t_a ON t (a);
 CREATE INDEX t_a_j ON t (k) INCLUDE (j);
 CREATE INDEX t_at ON t (a, at);
 CREATE INDEX t_now ON t (a) WHERE at IS NULL;
-CREATE INDEX t_then ON t (a) WHERE at > '2020-01-01';
+CREATE INDEX t_then ON t (a) WHERE at > '12:00+00';
 CREATE INDEX t_collated ON t (k COLLATE "en-x-icu");
 INSERT INTO t SELECT g, '{}', now(), g FROM generate_series(1, 10000) g;
 ANALYZE t;
@@ -276,9 +279,9 @@ STAND_IN_LINES = [
     "-- as text, without statistics: column t.j of type jsonb",
     "CREATE TABLE t (a int4 NOT NULL, j text, at text, k text);",
     "CREATE INDEX t_a_j ON t (k) INCLUDE (j);",
-    "-- left out: index t_at on t (a key of type timestamp with time zone)",
+    "-- left out: index t_at on t (a key of type time with time zone)",
     "CREATE INDEX t_now ON t (a) WHERE (at IS NULL);",
-    "-- left out: index t_then on t (its condition (at > '2020-01-01 00:00:00+00'::timestamp with time zone))",
+    "-- left out: index t_then on t (its condition (at > '12:00:00+00'::time with time zone))",
     "-- left out: index t_collated on t (the collation of a key)",
     "CREATE TABLE only_json (j text);",
     "-- left out: table \"order\" (its name)",
@@ -375,58 +378,6 @@ INSERT INTO t (a, d) SELECT g, E'x'';\nCREATE TABLE evil (x int4); --' || g / 5 
 ANALYZE t;
 """
 
-# Runs psql on a database, with an input and further words of its command line, and returns what it prints.
-Psql = Callable[..., str]
-
-
-class Checks:
-    """Counts what passed and failed, and runs a built pgplan."""
-
-    def __init__(self, program: pathlib.Path) -> None:
-        self.program, self.passed, self.failures = program, 0, []
-
-    def that(self, holds: bool, failure: str) -> None:
-        """One check, with what is told where it fails."""
-        self.passed += bool(holds)
-        if not holds:
-            self.failures.append(failure)
-
-    def run(self, script: str) -> str:
-        """What pgplan prints for a script, which it must accept with status 0."""
-        ran = subprocess.run([self.program, "run"], input=script.encode(errors="surrogateescape"), capture_output=True)
-        self.that(not ran.returncode and not ran.stderr, f"status {ran.returncode}, {ran.stderr.decode().strip()}: {script[-200:]}")
-        return ran.stdout.decode()
-
-
-def as_server() -> list[str]:
-    """Words that run a command as the server's user: a server is refused to root."""
-    return ["runuser", "-u", "postgres", "--"] if os.geteuid() == 0 else []
-
-
-@contextlib.contextmanager
-def server(binaries: pathlib.Path) -> Iterator[Psql]:
-    """A server in a temporary folder, while its psql is used."""
-    with tempfile.TemporaryDirectory() as folder:
-        if os.geteuid() == 0:
-            shutil.chown(folder, "postgres")
-        data, who = f"{folder}/data", "postgres" if os.geteuid() == 0 else pwd.getpwuid(os.geteuid()).pw_name
-
-        def run(*words: str, given: str = "") -> str:
-            """What a command prints, run as the server's user."""
-            ran = subprocess.run([*as_server(), *words], input=given, encoding="utf-8", errors="surrogateescape", capture_output=True, cwd=folder)
-            if ran.returncode:
-                raise SystemExit(f"{words[0]}: {ran.stderr}")
-            return ran.stdout
-
-        run(f"{binaries}/initdb", "-D", data, "-A", "trust", "--locale=C.UTF-8", "-E", "UTF8", "-N")
-        run(f"{binaries}/pg_ctl", "-D", data, "-w", "-l", f"{folder}/log", "-o", f"-k {folder} -c listen_addresses='' -c fsync=off -c timezone=UTC", "start")
-        try:
-            yield lambda database, given, *words: run(f"{binaries}/psql", "-X", "-q", "-h", folder, "-U", who, "-v", "ON_ERROR_STOP=1",
-                                                      "-d", database, *words, given=given)
-        finally:
-            run(f"{binaries}/pg_ctl", "-D", data, "-m", "immediate", "stop")
-
-
 def exported(psql: Psql, schema: str, database: str = "postgres", changed: Callable[[str], str] = str) -> str:
     """The script that the tool, or a changed one, prints for a schema."""
     return psql(database, changed((ROOT / "tools" / "from_postgres.sql").read_text()), "-v", f"schema={schema}")
@@ -469,9 +420,9 @@ def check_meaning(checks: Checks, psql: Psql) -> None:
     """Each condition that is written, and that a query can have, holds for the same rows in pgplan and on the server."""
     psql("postgres", f"CREATE TABLE conditions.r ({COLUMNS});\nCOPY conditions.r (id, i, s, b, n, v, f, isfinite, lower) FROM STDIN "
                      f"WITH (FORMAT CSV, NULL '\\N');\n{ROWS}\\.\n")
-    copied = ("CREATE TABLE r (id int4, i int4, s int2, b int8, n text, v text, f bool, isfinite bool, lower text, d text, since text, "
-              "mood text, amount text);\nCOPY r FROM STDIN WITH (FORMAT CSV, NULL '\\N');\n"
-              + "".join(row + r",\N,\N,\N,\N" + "\n" for row in ROWS.splitlines()) + "\\.\n")
+    copied = ("CREATE TABLE r (id int4, i int4, s int2, b int8, n text, v text, f bool, isfinite bool, lower text, d text, since int4, "
+              "until int4, mood int4, amount text);\nCOPY r FROM STDIN WITH (FORMAT CSV, NULL '\\N');\n"
+              + "".join(row + r",\N,\N,\N,\N,\N" + "\n" for row in ROWS.splitlines()) + "\\.\n")
     for theirs, ours in CONDITIONS:
         if ours is not None and ours.count(" AND ") < 32:
             here = re.findall(r"^\d+$", checks.run(f"{copied}SELECT id FROM r WHERE {ours} ORDER BY id"), re.M)
@@ -558,8 +509,8 @@ def check_names(checks: Checks, psql: Psql) -> None:
 def main() -> None:
     """Runs all checks on one server."""
     checks = Checks(pathlib.Path(sys.argv[1]).resolve())
-    binaries = max(pathlib.Path("/usr/lib/postgresql").glob("*/bin"), key=lambda it: int(it.parent.name))
-    with server(binaries) as psql:
+    with server(newest()) as psql:
+        check_types(checks, psql, exported)
         for check in [check_shop, check_conditions, check_meaning, check_stand_ins, check_collations, check_encoding,
                       check_size, check_names, check_hostile]:
             check(checks, psql)

@@ -4,7 +4,7 @@
 --
 -- usage: psql -X -q -v schema=public -f tools/from_postgres.sql DATABASE > tables.sql
 --
--- It reads the catalogue alone, and no table: sizes and values are those that the server's last ANALYZE found. Tried with version 15.18.
+-- It reads the catalogue alone, and no table: sizes and values are those that the server's last ANALYZE found. Tried with versions 15.18 and 15.20.
 \set QUIET on
 \set ON_ERROR_STOP on
 \pset format unaligned
@@ -14,6 +14,8 @@
 SET search_path = pg_catalog, pg_temp;
 SET standard_conforming_strings = on;
 SET quote_all_identifiers = off;
+SET datestyle = ISO;
+SET timezone = UTC;
 -- The script has the bytes that the server compares.
 SELECT set_config('client_encoding', getdatabaseencoding(), false) AS encoding \gset
 \if :{?schema}
@@ -41,16 +43,29 @@ relation AS (
            c.relname ~ '^[a-z_][a-z0-9_$]*$' AND c.relname <> ALL (r.words) AS spelt
     FROM pg_class c JOIN pg_namespace n ON n.oid = c.relnamespace, reserved r
     WHERE n.nspname = :'schema' AND c.relkind IN ('r', 'p', 'v', 'm', 'f')),
--- A column whose type pgplan does not have becomes a stand-in: a text column without statistics, so that * names it.
+-- How pgplan has a type: a form, which is one character, its own type, and what a comment says of it.
+form (theirs, form, typ, meaning) AS (
+    VALUES ('int2'::regtype, 'i', 'int2', NULL), ('int4', 'i', 'int4', NULL), ('int8', 'i', 'int8', NULL), ('bool', 'b', 'bool', NULL),
+           ('text', 't', 'text', NULL), ('varchar', 't', 'text', 'text'), ('bpchar', 'h', 'text', 'text without trailing blanks'),
+           ('uuid', 'u', 'text', 'text'), ('inet', 'y', 'text', 'text'), ('date', 'd', 'int4', 'days since 2000-01-01'),
+           ('timestamp', 'm', 'int8', 'microseconds since 2000-01-01'), ('timestamptz', 'w', 'int8', 'microseconds since 2000-01-01 UTC'),
+           ('numeric', 's', 'int8', 'multiples of 10^-'), ('anyenum', 'e', 'int4', 'the rank of its label')),
+label AS (
+    SELECT e.enumtypid AS type, e.enumlabel::text AS label, rank() OVER (PARTITION BY e.enumtypid ORDER BY e.enumsortorder) AS rank
+    FROM pg_enum e),
+-- A column whose type pgplan does not have becomes a stand-in: a text column without statistics, so that * names it. So does a numeric
+-- without a scale.
 typed AS (
     SELECT r.oid, r.name AS tab, a.attnum, a.attname::text AS name, a.attnotnull, format_type(a.atttypid, a.atttypmod) AS theirs,
-           coalesce(k.typ, 'text') AS typ, k.typ IS NULL AS stand_in, y.typcategory = 'C' AS is_row, a.attcollation,
-           a.atttypid = 'varchar'::regtype AS is_varchar,
+           coalesce(f.typ, 'text') AS typ, coalesce(f.form, 'x') AS form, f.typ IS NULL AS stand_in, y.typcategory = 'C' AS is_row,
+           a.attcollation, a.atttypid AS type, s.scale, f.meaning,
+           CASE f.form WHEN 'h' THEN 'bpchar' ELSE format_type(a.atttypid, NULL) END AS cast_name,
            a.attname ~ '^[a-z_][a-z0-9_$]*$' AND a.attname <> ALL (w.words) AS spelt, coalesce(l.by_bytes, true) AS by_bytes
     FROM relation r JOIN pg_attribute a ON a.attrelid = r.oid JOIN pg_type y ON y.oid = a.atttypid
+    CROSS JOIN LATERAL (SELECT CASE WHEN a.atttypid = 'numeric'::regtype AND a.atttypmod >= 4 THEN (a.atttypmod - 4) & 65535 END AS scale) s
     LEFT JOIN collated l ON l.oid = a.attcollation
-    LEFT JOIN (VALUES ('int2'::regtype, 'int2'), ('int4', 'int4'), ('int8', 'int8'), ('text', 'text'), ('varchar', 'text'), ('bool', 'bool'))
-        AS k(theirs, typ) ON k.theirs = a.atttypid, reserved w
+    LEFT JOIN form f ON f.theirs = CASE y.typtype WHEN 'e' THEN 'anyenum'::regtype ELSE a.atttypid END
+                    AND (f.form <> 's' OR s.scale BETWEEN 0 AND 18), reserved w
     WHERE r.kind = 'r' AND r.spelt AND a.attnum > 0 AND NOT a.attisdropped),
 numbered AS (SELECT t.*, row_number() OVER (PARTITION BY t.oid, t.spelt ORDER BY t.stand_in, t.attnum) AS place FROM typed t),
 col AS (SELECT * FROM numbered WHERE spelt AND place <= 32),
@@ -82,11 +97,12 @@ index AS (
         JOIN col ON col.oid = t.oid AND col.attnum = k.att WHERE k.n <= i.indnkeyatts) k, reserved w),
 -- The condition of a partial index is split into words. A literal with its cast is one word, whatever its quotes contain. So is a
 -- comparison with an array of literals, which is what the server makes of IN, and so is a column with its cast to text. Backslashes
--- stand for themselves, as standard_conforming_strings is on.
+-- stand for themselves, as standard_conforming_strings is on. A type of a user has its schema before its name.
 literal AS (
-    SELECT $$'(?:[^']|'')*'::(?:text|character varying|bigint|integer|smallint)(?![\[a-zA-Z0-9_(])$$
-        || $$|\('(?:[^']|'')*'::character varying\)::text(?![\[a-zA-Z0-9_(])$$
-        || $$|\([0-9]+\)::(?:bigint|smallint)|[0-9]+|true|false$$ AS pattern),
+    SELECT $$'(?:[^']|'')*'::(?:text|character varying|bigint|integer|smallint|numeric|date|timestamp with(?:out)? time zone|uuid|bpchar|inet$$
+        || $$|(?:[a-z_][a-z0-9_$]*|"(?:[^"]|"")+")\.(?:[a-z_][a-z0-9_$]*|"(?:[^"]|"")+"))(?![\[a-zA-Z0-9_$.(])$$
+        || $$|\('(?:[^']|'')*'::character varying\)::text(?![\[a-zA-Z0-9_(])|\('-?[0-9]+'::(?:bigint|integer)\)::numeric(?![\[a-zA-Z0-9_(])$$
+        || $$|\([0-9]+\)::(?:bigint|smallint|numeric(?![\[a-zA-Z0-9_(]))|[0-9]+(?:\.[0-9]+)?|true|false$$ AS pattern),
 word AS (
     SELECT i.oid, i.tab_oid, w.n, w.word[1] AS word, w.word[1] ~ '^(= ANY|<> ALL) ' AS is_list,
            w.word[1] ~ ('^(?:' || l.pattern || ')$') AS is_literal, l.pattern
@@ -94,37 +110,97 @@ word AS (
         || $$|@|'(?:[^']|'')*'|\([a-z_][a-z0-9_$]*\)::text(?![\[a-zA-Z0-9_(])|IS (?:NOT )?NULL|[a-zA-Z_][a-zA-Z0-9_$]*|[<=>!]+|.$$, '@', l.pattern), 'g')
         WITH ORDINALITY AS w(word, n)
     WHERE i.bar IS NULL),
--- Numbers are written without quotes and texts without casts. A literal's kind is n for a number, q for a text and c for a boolean.
+-- The columns among the words. A literal stands four words before or behind the column that it is compared with, a list two behind it.
+named AS (
+    SELECT w.oid, w.n, c.name, c.is_row, c.scale, c.type, c.cast_name,
+           CASE WHEN w.word LIKE '(%' AND c.type <> 'varchar'::regtype THEN '?' ELSE c.form END AS form
+    FROM word w JOIN col c ON c.oid = w.tab_oid AND NOT w.is_literal
+        AND c.name = regexp_replace(w.word, '^\(([a-z_][a-z0-9_$]*)\)::text$', '\1')),
+compared AS (
+    SELECT w.oid, w.n, min(c.form) AS form, min(c.type) AS type, min(c.scale) AS scale, min(c.cast_name) AS cast_name
+    FROM word w JOIN named c ON c.oid = w.oid AND (w.is_list AND c.n = w.n - 2 OR w.is_literal AND c.n IN (w.n - 4, w.n + 4)
+        AND EXISTS (SELECT FROM word o WHERE o.oid = w.oid AND o.n = (w.n + c.n) / 2 AND o.word ~ '^[<=>]+$'))
+    WHERE c.form NOT IN ('i', 't', 'b', 'x', '?') GROUP BY w.oid, w.n HAVING count(*) = 1),
+-- The literals of conditions. Beside a column of a further form a literal fits if it is cast to the column's type, or if it is a number
+-- and the column a numeric; elsewhere it fits without such a cast. Its kind is k beside such a column, else n for a number, q for a text
+-- and c for a boolean. Numbers are written without quotes and texts without casts.
 value AS (
-    SELECT w.oid, w.n, v.place, v.of[1] AS literal, substring(v.of[1] FROM $$'(?:[^']|'')*'$$) AS quoted,
-           CASE WHEN v.of[1] IN ('true', 'false') THEN 'c' WHEN v.of[1] ~ '^\(?[0-9]|::(bigint|integer|smallint)$' THEN 'n' ELSE 'q' END AS kind
-    FROM word w, regexp_matches(w.word, w.pattern, 'g') WITH ORDINALITY AS v(of, place) WHERE w.is_list OR w.is_literal),
-plain AS (
-    SELECT v.*, CASE v.kind WHEN 'c' THEN v.literal WHEN 'n' THEN substring(v.literal FROM '-?[0-9]+') ELSE v.quoted END AS text FROM value v),
-sized_value AS (
-    SELECT p.*, octet_length(CASE p.kind WHEN 'q' THEN replace(substr(p.text, 2, length(p.text) - 2), '''''', '''') ELSE '' END) AS bytes FROM plain p),
+    SELECT w.oid, w.n, v.place, v.of[1] AS literal, c.form, c.type, c.scale,
+           replace(substring(v.of[1] FROM $$^\(?'((?:[^']|'')*)'$$), '''''', '''') AS quoted,
+           substring(v.of[1] FROM $$^\(?([0-9]+(?:\.[0-9]+)?)$$) AS digits,
+           CASE WHEN c.form IS NULL THEN v.of[1] ~ ($$^(?:true|false|[0-9]+|\([0-9]+\)::(?:bigint|smallint)|\(?'(?:[^']|'')*'$$
+                    || $$::(?:text|character varying|bigint|integer|smallint)(?:\)::text)?)$$ || '$')
+                WHEN c.form = 's' THEN v.of[1] ~ '^[0-9.]+$|::numeric$'
+                ELSE right(v.of[1], length(c.cast_name) + 3) = '''::' || c.cast_name END AS fits,
+           CASE WHEN c.form IS NOT NULL THEN 'k' WHEN v.of[1] IN ('true', 'false') THEN 'c'
+                WHEN v.of[1] ~ '^\(?[0-9]|::(bigint|integer|smallint)$' THEN 'n' ELSE 'q' END AS kind
+    FROM word w LEFT JOIN compared c ON c.oid = w.oid AND c.n = w.n,
+         regexp_matches(w.word, w.pattern, 'g') WITH ORDINALITY AS v(of, place)
+    WHERE w.is_list OR w.is_literal),
+-- What the last ANALYZE found of a column.
+found AS (
+    SELECT col.oid, col.tab, col.attnum, col.name, col.typ, col.form, col.type, col.scale, col.by_bytes, s.null_frac,
+           s.most_common_vals::text::text[] AS vals,
+           s.most_common_freqs AS freqs, s.histogram_bounds::text::text[] AS bounds, floor(s.null_frac * 1000000)::int8 AS nulls,
+           least(1e9, greatest(1, round(CASE WHEN s.n_distinct < 0 THEN -s.n_distinct * greatest(1, t.tuples) ELSE s.n_distinct END::numeric)))::int8 AS d
+    FROM kept_tab t JOIN col ON col.oid = t.oid AND NOT col.stand_in
+    JOIN pg_stats s ON s.schemaname = :'schema' AND s.tablename = t.name AND s.attname = col.name AND NOT s.inherited
+    WHERE t.tuples >= 0),
+-- Values as the server prints them: of conditions, common ones and bounds of histograms. What they belong to has two numbers.
+printed AS (
+    SELECT 'condition' AS role, v.oid, v.n AS part, v.place,
+           CASE v.kind WHEN 'k' THEN v.form WHEN 'n' THEN 'i' WHEN 'c' THEN 'b' ELSE 't' END AS form, v.type, v.scale, coalesce(v.quoted, v.digits, left(v.literal, 1)) AS value, NULL::real AS freq
+    FROM value v WHERE v.fits
+    UNION ALL
+    SELECT 'common', f.oid, f.attnum, v.n, f.form, f.type, f.scale, v.value, v.freq
+    FROM found f, unnest(f.vals, f.freqs) WITH ORDINALITY AS v(value, freq, n)
+    UNION ALL
+    SELECT 'bound', f.oid, f.attnum, b.n, f.form, f.type, f.scale, b.value, NULL FROM found f, unnest(f.bounds) WITH ORDINALITY AS b(value, n)),
+-- The same as pgplan has them: bare, without quotes, or NULL where pgplan has no such value.
+bare AS (
+    SELECT p.*, CASE p.form
+        WHEN 'b' THEN CASE p.value WHEN 't' THEN 'TRUE' ELSE 'FALSE' END
+        WHEN 'd' THEN CASE WHEN isfinite(p.value::date) THEN (p.value::date - date '2000-01-01')::text END
+        WHEN 'm' THEN CASE WHEN isfinite(p.value::timestamp)
+            THEN round(extract(epoch FROM p.value::timestamp - timestamp '2000-01-01')::numeric * 1000000)::text END
+        WHEN 'w' THEN CASE WHEN isfinite(p.value::timestamptz)
+            THEN round(extract(epoch FROM p.value::timestamptz - timestamptz '2000-01-01 00:00:00+00')::numeric * 1000000)::text END
+        WHEN 's' THEN CASE WHEN abs(p.value::numeric) < 9e18 / power(10::numeric, p.scale)
+                                AND p.value::numeric * power(10::numeric, p.scale) = trunc(p.value::numeric * power(10::numeric, p.scale))
+            THEN trunc(p.value::numeric * power(10::numeric, p.scale))::text END
+        WHEN 'e' THEN (SELECT l.rank::text FROM label l WHERE l.type = p.type AND l.label = p.value)
+        WHEN 'h' THEN rtrim(p.value, ' ')
+        WHEN 'u' THEN lower(p.value)
+        ELSE p.value END AS bare
+    FROM printed p),
+written_value AS (
+    SELECT b.*, CASE WHEN b.form NOT IN ('t', 'h', 'u', 'y') THEN b.bare WHEN octet_length(b.bare) <= 8192 THEN '''' || replace(b.bare, '''', '''''') || ''''
+        END AS text
+    FROM bare b),
 listed AS (
-    SELECT s.oid, s.n, string_agg(s.text, ', ' ORDER BY s.place) AS text, count(*) AS count,
-           CASE WHEN min(s.kind) = max(s.kind) AND max(s.bytes) <= 8192 THEN min(s.kind) ELSE '?' END AS kind
-    FROM sized_value s GROUP BY s.oid, s.n),
--- A word's kind is one character: i, t or b for a column of integers, texts or booleans, x for a stand-in, N, Q or C for a list, Z for a
--- null test, o for a comparison operator, & for AND and OR, ! for NOT, and ? for whatever pgplan does not have.
+    SELECT v.oid, v.n, string_agg(w.text, ', ' ORDER BY v.place) AS text, count(*) AS count,
+           CASE WHEN min(v.kind) = max(v.kind) AND count(w.text) = count(*) THEN min(v.kind) ELSE '?' END AS kind
+    FROM value v LEFT JOIN written_value w ON w.role = 'condition' AND w.oid = v.oid AND w.part = v.n AND w.place = v.place
+    GROUP BY v.oid, v.n),
+-- A word's kind is one character: the form of a column, x for a stand-in, N, Q, C or K for a list, Z for a null test, = for = and <>, o for
+-- the other comparison operators, & for AND and OR, ! for NOT, and ? for whatever pgplan does not have.
 meant AS (
     SELECT w.oid, w.n, l.count,
            CASE WHEN w.is_literal THEN l.text WHEN w.is_list THEN CASE WHEN w.word LIKE '=%' THEN 'IN (' ELSE 'NOT IN (' END || l.text || ')'
                 WHEN c.name IS NOT NULL THEN c.name ELSE w.word END AS text,
            CASE WHEN w.is_literal THEN l.kind WHEN w.is_list THEN upper(l.kind)
-                WHEN w.word ~ '^\([a-z]' THEN CASE WHEN c.is_varchar THEN 't' ELSE '?' END
-                WHEN c.is_row THEN '?' WHEN c.stand_in THEN 'x' WHEN c.typ LIKE 'int%' THEN 'i' WHEN c.typ IS NOT NULL THEN left(c.typ, 1)
-                WHEN w.word IN ('IS NULL', 'IS NOT NULL') THEN 'Z' WHEN w.word IN ('=', '<>', '<', '<=', '>', '>=') THEN 'o'
+                WHEN c.is_row THEN '?' WHEN c.form IS NOT NULL THEN c.form WHEN w.word ~ '^\([a-z]' THEN '?'
+                WHEN w.word IN ('IS NULL', 'IS NOT NULL') THEN 'Z' WHEN w.word IN ('=', '<>') THEN '='
+                WHEN w.word IN ('<', '<=', '>', '>=') THEN 'o'
                 WHEN w.word IN ('AND', 'OR') THEN '&' WHEN w.word = 'NOT' THEN '!' WHEN w.word IN ('(', ')') THEN w.word WHEN w.word = ' ' THEN ''
                 ELSE '?' END AS kind
-    FROM word w LEFT JOIN listed l ON l.oid = w.oid AND l.n = w.n
-    LEFT JOIN col c ON c.oid = w.tab_oid AND NOT w.is_literal AND c.name = regexp_replace(w.word, '^\(([a-z_][a-z0-9_$]*)\)::text$', '\1')),
--- Comparisons, null tests and boolean columns become @. pgplan allows 256 of them, and each literal of a list is one.
+    FROM word w LEFT JOIN listed l ON l.oid = w.oid AND l.n = w.n LEFT JOIN named c ON c.oid = w.oid AND c.n = w.n),
+-- Comparisons, null tests and boolean columns become @. pgplan allows 256 of them, and each literal of a list is one. An inet has no
+-- order in pgplan, and two numerics may have different scales.
 shape AS (
     SELECT m.oid, string_agg(m.text, '' ORDER BY m.n) AS cond, coalesce(sum(m.count - 1) FILTER (WHERE m.count > 1), 0) AS further,
-           regexp_replace(string_agg(m.kind, '' ORDER BY m.n), '[in]o[in]|[tq]o[tq]|[bc]o[bc]|iN|tQ|bC|[itbx]Z|b', '@', 'g') AS atoms
+           regexp_replace(string_agg(m.kind, '' ORDER BY m.n), '[in][=o][in]|[tq][=o][tq]|[bc][=o][bc]|d[=o]d|m[=o]m|w[=o]w|e[=o]e|u[=o]u|h[=o]h|y=y|'
+               '[dmwesuh][=o]k|k[=o][dmwesuh]|y=k|k=y|iN|tQ|bC|[dmwesuhy]K|[itbxdmwesuhy]Z|b', '@', 'g') AS atoms
     FROM meant m GROUP BY m.oid),
 -- Each step removes the innermost level, a pair of parentheses or a NOT. pgplan allows 32. A condition that it can read ends as @.
 level AS (
@@ -148,36 +224,29 @@ written AS (
             JOIN col ON col.oid = p.tab_oid AND col.attnum = k.att WHERE k.n > p.count) || ')', '')
         || coalesce(' WHERE ' || p.listed, '') || ';' AS line
     FROM placed p WHERE p.why IS NULL AND p.place <= 8),
--- What the last ANALYZE found of a column.
-found AS (
-    SELECT col.oid, col.tab, col.attnum, col.name, col.typ, col.by_bytes, s.null_frac, s.most_common_vals::text::text[] AS vals,
-           s.most_common_freqs AS freqs, s.histogram_bounds::text::text[] AS bounds, floor(s.null_frac * 1000000)::int8 AS nulls,
-           least(1e9, greatest(1, round(CASE WHEN s.n_distinct < 0 THEN -s.n_distinct * greatest(1, t.tuples) ELSE s.n_distinct END::numeric)))::int8 AS d,
-           typ <> 'text' OR col.by_bytes AND s.histogram_bounds::text::text[] = (
-               SELECT array_agg(b.value ORDER BY b.value COLLATE "C") FROM unnest(s.histogram_bounds::text::text[]) AS b(value)) AS in_order
-    FROM kept_tab t JOIN col ON col.oid = t.oid AND NOT col.stand_in
-    JOIN pg_stats s ON s.schemaname = :'schema' AND s.tablename = t.name AND s.attname = col.name AND NOT s.inherited
-    WHERE t.tuples >= 0),
 common AS (
-    SELECT f.oid, f.attnum, v.value, v.n, floor(v.freq * 1000000)::int8 AS share,
-           f.nulls + sum(floor(v.freq * 1000000)::int8) OVER (PARTITION BY f.oid, f.attnum ORDER BY v.n) AS total
-    FROM found f, unnest(f.vals, f.freqs) WITH ORDINALITY AS v(value, freq, n)
-    WHERE v.n <= least(16, f.d) AND v.freq >= 0.000001 AND octet_length(v.value) <= 8192),
+    SELECT f.oid, f.attnum, v.text, v.place, floor(v.freq * 1000000)::int8 AS share,
+           f.nulls + sum(floor(v.freq * 1000000)::int8) OVER (PARTITION BY f.oid, f.attnum ORDER BY v.place) AS total
+    FROM found f JOIN written_value v ON v.role = 'common' AND v.oid = f.oid AND v.part = f.attnum
+    WHERE v.place <= least(16, f.d) AND v.freq >= 0.000001 AND v.text IS NOT NULL),
+-- A histogram is written if pgplan has each bound and sorts them in the same way.
+histogram AS (
+    SELECT f.oid, f.attnum, count(*) AS count, count(v.text) = count(*) AS is_whole,
+           f.form <> 'y' AND (f.typ <> 'text' OR f.by_bytes AND
+               array_agg(v.bare ORDER BY v.place) = array_agg(v.bare ORDER BY v.bare COLLATE "C")) AS in_order
+    FROM found f JOIN written_value v ON v.role = 'bound' AND v.oid = f.oid AND v.part = f.attnum
+    GROUP BY f.oid, f.attnum, f.form, f.typ, f.by_bytes),
 bound AS (
-    SELECT f.oid, f.attnum, b.value, b.n
-    FROM found f, unnest(f.bounds) WITH ORDINALITY AS b(value, n)
-    WHERE f.in_order AND cardinality(f.bounds) >= 2
-      AND (cardinality(f.bounds) <= 101
-           OR b.n IN (SELECT 1 + j::int8 * (cardinality(f.bounds) - 1) / 100 FROM generate_series(0, 100) j))),
+    SELECT h.oid, h.attnum, v.text, v.place
+    FROM histogram h JOIN written_value v ON v.role = 'bound' AND v.oid = h.oid AND v.part = h.attnum
+    WHERE h.in_order AND h.is_whole AND h.count >= 2
+      AND (h.count <= 101 OR v.place IN (SELECT 1 + j::int8 * (h.count - 1) / 100 FROM generate_series(0, 100) j))),
 known AS (
-    SELECT f.*,
-        (SELECT string_agg(CASE f.typ WHEN 'text' THEN '''' || replace(c.value, '''', '''''') || '''' WHEN 'bool' THEN
-                                CASE c.value WHEN 't' THEN 'TRUE' ELSE 'FALSE' END ELSE c.value END || ' ' || c.share, ', ' ORDER BY c.n)
+    SELECT f.*, h.in_order, h.is_whole,
+        (SELECT string_agg(c.text || ' ' || c.share, ', ' ORDER BY c.place)
          FROM common c WHERE c.oid = f.oid AND c.attnum = f.attnum AND c.total <= 1000000) AS values_of,
-        (SELECT string_agg(CASE f.typ WHEN 'text' THEN '''' || replace(b.value, '''', '''''') || '''' WHEN 'bool' THEN
-                                CASE b.value WHEN 't' THEN 'TRUE' ELSE 'FALSE' END ELSE b.value END, ', ' ORDER BY b.n)
-         FROM bound b WHERE b.oid = f.oid AND b.attnum = f.attnum) AS bounds_of
-    FROM found f),
+        (SELECT string_agg(b.text, ', ' ORDER BY b.place) FROM bound b WHERE b.oid = f.oid AND b.attnum = f.attnum) AS bounds_of
+    FROM found f LEFT JOIN histogram h ON h.oid = f.oid AND h.attnum = f.attnum),
 line AS (
     SELECT ''::text AS tab, 0 AS part, ''::text AS key, 0 AS n,
         '-- Tables of the schema ' || :'schema' || ' of ' || current_database() || ', with the sizes and values that the last ANALYZE found.' AS text
@@ -197,9 +266,9 @@ line AS (
         || CASE WHEN NOT c.spelt THEN ' (its name)' ELSE ' (more than 32 columns)' END
     FROM kept_tab t JOIN numbered c ON c.oid = t.oid WHERE NOT c.spelt OR c.place > 32
     UNION ALL
-    SELECT t.name, 3, '', c.attnum, CASE WHEN c.stand_in THEN '-- as text, without statistics: column ' ELSE '-- as text: column ' END
-        || t.name || '.' || c.name || ' of type ' || c.theirs
-    FROM kept_tab t JOIN col c ON c.oid = t.oid WHERE c.is_varchar OR c.stand_in
+    SELECT t.name, 3, '', c.attnum, CASE WHEN c.stand_in THEN '-- as text, without statistics: column ' ELSE '-- as ' || c.meaning || coalesce(c.scale::text, '')
+        || ': column ' END || t.name || '.' || c.name || ' of type ' || c.theirs
+    FROM kept_tab t JOIN col c ON c.oid = t.oid WHERE c.meaning IS NOT NULL OR c.stand_in
     UNION ALL
     SELECT t.name, 4, '', 0, 'CREATE TABLE ' || t.name || ' ('
         || (SELECT string_agg(c.name || ' ' || c.typ || CASE WHEN c.attnotnull THEN ' NOT NULL' ELSE '' END, ', ' ORDER BY c.attnum)
@@ -226,8 +295,9 @@ line AS (
     FROM known k WHERE cardinality(k.vals) > 16
     UNION ALL
     SELECT k.tab, 8, '', k.attnum * 3 - 2, '-- left out: the histogram of ' || k.tab || '.' || k.name
-        || CASE WHEN k.by_bytes THEN ' (its bounds are not in the order of their bytes)' ELSE ' (its collation is not C)' END
-    FROM known k WHERE NOT k.in_order AND k.bounds IS NOT NULL
+        || CASE WHEN k.in_order THEN ' (a bound has no value in pgplan)' WHEN k.by_bytes THEN ' (its bounds are not in the order of their bytes)'
+                ELSE ' (its collation is not C)' END
+    FROM known k WHERE NOT (k.in_order AND k.is_whole) AND k.bounds IS NOT NULL
     UNION ALL
     SELECT t.name, 9, e.stxname::text, 0, '-- left out: extended statistics ' || quote_ident(e.stxname::text) || ' on ' || t.name
     FROM kept_tab t JOIN pg_statistic_ext e ON e.stxrelid = t.oid),

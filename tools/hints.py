@@ -150,7 +150,7 @@ POSTGRES = [
     Row("`b = 5` for a text `b`, `a = b` for different types", "`b = '5'`, or compare columns of the same kind", (r"¦ ([|<=>!]|in\b|between\b)",), ("42883",)),
     Row("`SELECT a, count(*)` without GROUP BY", "`GROUP BY a`, with every column that is shown or ordered by", (r"^(explain )?select (?!distinct\b).*¦",), ("42803",)),
     Row("HypoPG's `hypopg_create_index`", "`CREATE INDEX` in a script without data"),
-    Row("the suggestions of dexter and other advisers", "`ADVISE k (candidates) (query) ..`, which weighs every set of the candidates"),
+    Row("the suggestions of dexter and other advisers", "`tools/advise.py` for the queries of a server, `ADVISE k (candidates) (query) ..` in a script"),
 ]
 
 # Slips that are none of PostgreSQL's. They stand on no page.

@@ -1,0 +1,14 @@
+pub mod DateTextLemmas
+pub mod DayLemmas
+pub mod EndLemmas
+pub mod FigureLemmas
+pub mod FormLemmas
+pub mod NumberedLemmas
+pub mod NumericLemmas
+pub mod NumericTextLemmas
+pub mod ReadLemmas
+pub mod RoomLemmas
+pub mod ScanLemmas
+pub mod TimeLemmas
+pub mod TimeTextLemmas
+pub mod WrittenLemmas

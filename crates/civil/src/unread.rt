@@ -1,0 +1,10 @@
+//! Why a text is no value.
+
+/// Why a text is no value of a type.
+#[derive(Clone, Copy, Debug, PartialEq, Eq)]
+pub enum Unread {
+    /// It has not the form.
+    Form,
+    /// It has the form, and a part of it or the whole is out of range.
+    Range,
+}

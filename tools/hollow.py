@@ -25,12 +25,13 @@ sys.dont_write_bytecode = True
 ROOT = pathlib.Path(__file__).resolve().parent.parent
 PROOFS = ("Answers.antt", "Invariants.antt", "Proof.antt")
 FN = re.compile(r"( *)(?:pub(?:\([^)]*\))? )?(?:const )?(?:unsafe )?fn (\w+)")
-IMPL = re.compile(r"impl(?:<[^{]*?>)? +(?!.* for )(\w+)")
+IMPL = re.compile(r"impl(?:<[^{]*?>)? +(?!.*\bfor )(\w+)")
+TYPE = re.compile(r"(?:pub(?:\([^)]*\))? )?(?:struct|enum) (\w+)")
 CYCLE = re.compile(r" *#\[cycle\((\w+)\)\]")
 
 
 class Function(NamedTuple):
-    """A function with a body: the modules that it stands in, its type if it is a method, its name and its cycle of calls."""
+    """A function with a body: the modules that it or its type stands in, its type if it is a method, its name and its cycle of calls."""
 
     modules: tuple[str, ...]
     owner: str | None
@@ -56,10 +57,21 @@ def body_of(lines: list[str], at: int) -> str:
     return "\n".join(line.partition("//")[0] for line in lines[at + 1:end])
 
 
+def modules_of(src: pathlib.Path, file: pathlib.Path) -> tuple[str, ...]:
+    """The modules that a file below src/ is."""
+    return tuple(part for part in file.relative_to(src).with_suffix("").parts if part not in ("lib", "mod"))
+
+
+def homes(src: pathlib.Path) -> dict[str, tuple[str, ...]]:
+    """Each type declared below src/ with the modules that it stands in."""
+    return {found[1]: modules_of(src, file) for file in src.rglob("*.rt") for found in map(TYPE.match, file.read_text().split("\n")) if found}
+
+
 def functions(src: pathlib.Path) -> Iterator[tuple[Function, bool]]:
     """Each function below src/ but those of impls of traits, and whether it seems to call itself outside of a named cycle."""
+    types = homes(src)
     for file in sorted(src.rglob("*.rt")):
-        modules = tuple(part for part in file.relative_to(src).with_suffix("").parts if part not in ("lib", "mod"))
+        modules = modules_of(src, file)
         lines, owner, cycle = file.read_text().split("\n"), None, None
         for at, line in enumerate(lines):
             if re.match(r"(unsafe )?impl\b", line):
@@ -71,7 +83,8 @@ def functions(src: pathlib.Path) -> Iterator[tuple[Function, bool]]:
                 cycle = found[1]
             if (found := FN.match(line)) and (not found[1] or owner):
                 calls = re.search(rf"(?<!\w){found[2]}\(", body_of(lines, at)) is not None
-                yield Function(modules, owner if found[1] else None, found[2], cycle), calls and not cycle
+                home = types.get(owner, modules) if found[1] and not cycle else modules
+                yield Function(home, owner if found[1] else None, found[2], cycle), calls and not cycle
                 cycle = None
 
 

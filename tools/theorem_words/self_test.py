@@ -21,10 +21,10 @@ pub data Some : Type 0 where
 -- how many
 abbrev pub count : Some → Amount
 count (one item) = first
-count (two p) = helper p.left
+count (two p) = helper p.left 1_000_000
   where
-    helper : Item → Amount
-    helper x = weight x p
+    helper : Item → Amount → Amount
+    helper x n = weight x p
 
 -- both
 abbrev mutual

@@ -7,7 +7,7 @@ import re
 
 from theorem_words.files import KEYWORDS, NAME
 
-TOKEN = re.compile(rf'"(?:[^"\\]|\\.)*"|{NAME}(?:\.(?:{NAME}|\d+|«{NAME}»))*|[(){{}}\[\]]|\S')
+TOKEN = re.compile(rf'"(?:[^"\\]|\\.)*"|\d\w*|{NAME}(?:\.(?:{NAME}|\d+|«{NAME}»))*|[(){{}}\[\]]|\S')
 CLAUSE = re.compile(r"\b(?:ghost|requires|ensures)\b[^{;]*?\{")
 
 

@@ -22,7 +22,7 @@ pub struct Advice {
     pub sum: u64,
 }
 
-/// By the sum, then by the number of members, then by the list of places.
+/// How two sets stand to one another: by the sum, then by the number of members, then by the list of places.
 fn preference(n: u8, a: Advice, b: Advice) -> Ordering
     ensures { result ≡ preference_of n (priced a) (priced b) }
 {
@@ -48,7 +48,7 @@ fn preferred(n: u8, best: Option<Advice>, other: Advice) -> Advice
     }
 }
 
-/// The best of the sets below and with one, by the best of those below it. The error means want of memory.
+/// The best of the sets below and with one, by the best of those below it. The error means that memory ran out.
 fn better<P: Pricer>(
     p: &mut P,
     prices: &mut Prices,

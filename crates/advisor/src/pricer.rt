@@ -8,9 +8,9 @@ use pg_base::{MOST_QUERIES, Memory};
 /// What a query costs with a set of candidates.
 #[derive(Clone, Copy, Debug, PartialEq, Eq)]
 pub struct Quote {
-    /// The cost, below 10^18; None where it has no plan.
+    /// The cost, below 10^18; None where the query has no plan.
     pub cost: Option<u64>,
-    /// Candidates of the set with which alone it costs the same, and so with every set between the two.
+    /// Candidates of the set with which alone the query costs the same, and so with every set between the two.
     pub used: u16,
 }
 

@@ -98,7 +98,7 @@ module _ (ks : List IndexKey) where
   pub all_added : (es added left now : List Entry) → AreAdded ks es added left now → left ≡ [] → now ≡ sorted (es ++ added)
   all_added es added left now a none = a.is ∙ ap (λ l. sorted (es ++ l)) (sym (a.parts ∙ ap (λ l. a.done ++ l) none ∙ append-nil a.done))
 
-  -- what was added is behind the rows of the others, and without it those are left
+  -- entries of rows behind those of the others are taken back, and the others are left
   pub taken_back : (rows : ℕ) (es added left now : List Entry) → IsInOrder (entry_order ks) es → All (Below rows) es → All (λ (e : Entry). rows ≤ e.row) added → AreAdded ks es added left now
       → filter (λ e. nat_lt e.row rows) now ≡ es
   taken_back rows es added left now up below from a =
@@ -117,7 +117,7 @@ module _ (ks : List IndexKey) where
       (All-append (Below above) es added (All-weaker (Below rows) (Below above) (λ e lt. omega (arith, lt, le)) es below) more))
   below_after es added new (Err x) rows above below le more put kept = subst (All (Below above)) (sym kept) (All-weaker (Below rows) (Below above) (λ e lt. omega (arith, lt, le)) es below)
 
--- and after a cut
+-- a number above the rows of the entries that a cut leaves
 below_cut : (rows above both : ℕ) → ((row : ℕ) → row < above → row < rows → row < both) → (es : List Entry) → AllByRecursion (Below above) es → AllByRecursion (Below both) (filter (λ e. nat_lt e.row rows) es)
 below_cut rows above both least [] h = tt
 below_cut rows above both least (e ∷ es) h = by (nat_lt e.row rows) refl (below_cut rows above both least es h.1)

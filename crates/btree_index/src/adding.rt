@@ -18,7 +18,7 @@ use std::alloc::AllocError;
 const FEW: usize = 4;
 
 impl Pages {
-    /// Adds an entry. For want of memory the entries are as before.
+    /// Adds an entry. If memory runs out, the entries are as before.
     pub(crate) fn add(&mut self, keys: &[IndexKey], entry: Entry) -> Result<(), AllocError>
         requires paged { IsPaged self.old }
         requires order { IsInOrder (entry_order keys.now) (entries_of self.old) }
@@ -30,7 +30,7 @@ impl Pages {
         self.insert(keys, place, entry)
     }
 
-    /// Adds entries one by one. For want of memory the first of them may be there.
+    /// Adds entries one by one. If memory runs out, the first of them may be there.
     fn add_each(&mut self, keys: &[IndexKey], added: Vec<Entry>) -> Result<(), AllocError>
         requires paged { IsPaged self.old }
         requires order { IsInOrder (entry_order keys.now) (entries_of self.old) }
@@ -44,7 +44,7 @@ impl Pages {
         Ok(())
     }
 
-    /// Adds entries one by one, of rows behind those of all others. For want of memory the entries are as before.
+    /// Adds entries one by one, of rows behind those of all others. If memory runs out, the entries are as before.
     fn add_behind(
         &mut self,
         keys: &[IndexKey],
@@ -68,7 +68,7 @@ impl Pages {
         }
     }
 
-    /// Adds many entries; the rows of those that are there are below a number. For want of memory the entries are as
+    /// Adds many entries; the rows of those that are there are below a number. If memory runs out, the entries are as
     /// before.
     pub(crate) fn add_all(
         &mut self,

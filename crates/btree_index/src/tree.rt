@@ -87,7 +87,7 @@ impl<L: Ledger> BTree<L> {
     }
 
     /// Adds the entry of a row: a value for each key, NULL or of the kind that the key's class orders, and one for
-    /// each column included. For want of memory the index is as before.
+    /// each column included. If memory runs out, the index is as before.
     pub fn insert(&mut self, key: Vec<Value>, include: Vec<Value>, t: Tid) -> Result<(), AllocError>
         requires keys { AreKeyValues self.old.keys key.items }
         requires include { length include.items ≡ length self.old.include }
@@ -100,7 +100,7 @@ impl<L: Ledger> BTree<L> {
     }
 
     /// Adds many entries at once: they are sorted and merged with those that are there, or put among them one by one
-    /// where they are few. For want of memory the index is as before.
+    /// where they are few. If memory runs out, the index is as before.
     pub fn insert_all(&mut self, added: Vec<Entry>) -> Result<(), AllocError>
         requires { All (IsEntryOf self.old.keys self.old.include) added.items }
         ensures inserted { OnOk result (self.new ≡ with_entries self.old added.items) }

@@ -142,7 +142,7 @@ day-there n range =
 abbrev pub text_of : Day → List ℕ → List ℕ
 text_of x rest = day_text (Some x) ++ rest
 
--- it has the form of a date, and its figures are those of the day
+-- the text of a day has the form of a date, and its figures are those of the day
 pub text-form : (x : Day) (rest : List ℕ) → is_date_text (take 10 (text_of x rest)) ≡ true
 unfolding figures has_form
 text-form x rest =

@@ -9,7 +9,7 @@ use Rattle.civil.proofs.FormLemmas.{ten-fits}
 pub most-digits : (digits scale : ℕ) → is_size digits scale ≡ true → digits ≤ 18
 most-digits digits scale h = leb-true digits 18 (and_parts (nat_le 1 digits) (nat_le digits 18) (and_parts (nat_le 1 digits && nat_le digits 18) (nat_le scale digits) h).0).1
 
--- so a number below the end of a type is below 10^18
+-- a number below the end of a type is below 10^18
 pub below-all : (digits scale size end place : ℕ) → is_size digits scale ≡ true → size < end → end ≡ 10 ^ place → place ≡ digits → size < 1_000_000_000_000_000_000
 below-all digits scale size end place sized below is-end is-place =
     let most = ten-fits digits (most-digits digits scale sized) in

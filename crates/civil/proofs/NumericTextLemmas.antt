@@ -48,7 +48,7 @@ digits-end (x ∷ xs) rest h s =
     let parts = and_parts (is_ascii_digit x) (list_all is_ascii_digit xs) h in
     ap (λ (b : Bool). cond b (1 + prefix_len is_ascii_digit (xs ++ rest)) 0) parts.0 ∙ omega (arith, digits-end xs rest parts.1 s)
 
--- what is known of such a fraction
+-- what is known of the text of a fraction, with its point
 record IsPoint (scale n : ℕ) (text : List ℕ) : Type 0 where
   stop : stops text ≡ true
   form : is_fraction text ≡ true

@@ -25,7 +25,7 @@ small-day d range =
     let ends = at-least (neg_ℤ (pos 730_119)) d (pos 2_921_939) range in
     omega (arith, signed_arith, ends.0, ends.1, one_part d)
 
--- as a number of 32 bits too
+-- the number of a day as one of 32 bits
 pub day-is : (text : List ℕ) (d f : ℤ) → Some d ≡ number_of_day (day_in text) → f ≡ to_z w32 (of_z w32 d) → f ≡ d
 day-is text d f day is =
     let small : unsigned_abs d < 2_147_483_648 = omega (arith, small-day d (day-range text d day)) in
@@ -52,7 +52,7 @@ micros-fit text d f day is =
     let small : unsigned_abs (d *ℤ day_micros) < 9_223_372_036_854_775_808 = omega (arith, micros-small d range) in
     subst (FitsSigned w64) (sym (micros-is d f range is)) (fits-small (d *ℤ day_micros) small)
 
--- and with those of a time
+-- the microseconds of whole days and those of a time
 sum-is : (d f : ℤ) (k : ℕ) → is_date_number d ≡ true → f ≡ d → k < 86_400_000_000 →
     to_z w64 (of_z w64 (to_z w64 (of_z w64 f) *ℤ day_micros)) +ℤ to_z w64 k ≡ d *ℤ day_micros +ℤ pos k
 sum-is d f k range is small =

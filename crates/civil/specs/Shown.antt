@@ -10,7 +10,7 @@ unfoldable pub figures : ℕ → ℕ → List ℕ
 figures zero n = []
 figures (suc k) n = figures k (n / 10) ++ (48 + n % 10) ∷ []
 
--- the same without the zeros at their end
+-- the last so many decimal digits of a number, without the zeros at their end
 unfoldable pub short_figures : ℕ → ℕ → List ℕ
 short_figures zero n = []
 short_figures (suc k) n = cond (nat_eq (n % 10) 0) (short_figures k (n / 10)) (figures (suc k) n)

@@ -14,7 +14,7 @@ abbrev pub ranged : Bool → ℤ → Result ℤ Unread
 ranged true n = Ok n
 ranged false n = Err Range
 
--- the same where it has its form
+-- what a text spells where it has its form, and that it does not have it
 abbrev pub formed : Bool → Result ℤ Unread → Result ℤ Unread
 formed true r = r
 formed false r = Err Form
@@ -38,7 +38,7 @@ fraction_forms = codes "DD:DD:DD.D" ∷ codes "DD:DD:DD.DD" ∷ codes "DD:DD:DD.
 abbrev pub time_forms : List (List ℕ)
 time_forms = codes "DD:DD" ∷ codes "DD:DD:DD" ∷ fraction_forms
 
--- a clock shows it: hours to 23, minutes and seconds to 59; what is left out is 0
+-- a clock shows a time: hours to 23, minutes and seconds to 59; what is left out is 0
 abbrev pub is_clock : List ℕ → Bool
 is_clock time = nat_le (number_at 0 2 time) 23 && (nat_le (number_at 3 2 time) 59 && nat_le (number_at 6 2 time) 59)
 
@@ -54,7 +54,7 @@ day_micros = pos 86_400_000_000
 abbrev pub is_between : ℕ → Bool
 is_between c = nat_eq c 32 || nat_eq c 84
 
--- what stands behind the date of a timestamp: nothing, or one such byte and a time
+-- what stands behind the date of a timestamp: nothing, or a space or T and a time
 abbrev pub is_time_part : List ℕ → Bool
 is_time_part [] = true
 is_time_part (c ∷ time) = is_between c && has_a_form time_forms time
@@ -63,11 +63,11 @@ is_time_part (c ∷ time) = is_between c && has_a_form time_forms time
 abbrev pub is_timestamp_text : List ℕ → Bool
 is_timestamp_text text = is_date_text (take 10 text) && is_time_part (drop 10 text)
 
--- the calendar has its day, and a clock shows its time
+-- the calendar has the day of a timestamp's text, and a clock shows its time
 abbrev pub is_moment : List ℕ → Bool
 is_moment text = is_day (day_in text) && is_clock (drop 11 text)
 
--- the microseconds of its day and time from 2000-01-01 00:00:00 on
+-- the microseconds of the day and the time of a timestamp's text from 2000-01-01 00:00:00 on
 abbrev pub moment : List ℕ → ℤ
 moment text = day_number (day_in text) *ℤ day_micros +ℤ pos (clock_micros (drop 11 text))
 
@@ -79,7 +79,7 @@ timestamp_value text = formed (is_timestamp_text text) (ranged (is_moment text) 
 abbrev pub offset_forms : List (List ℕ)
 offset_forms = [] ∷ codes "Z" ∷ codes "+DD" ∷ codes "-DD" ∷ codes "+DD:DD" ∷ codes "-DD:DD" ∷ []
 
--- an offset is one: hours to 15, minutes to 59
+-- an offset is in range: hours to 15, minutes to 59
 abbrev pub is_offset : List ℕ → Bool
 is_offset o = nat_le (number_at 1 2 o) 15 && nat_le (number_at 4 2 o) 59
 

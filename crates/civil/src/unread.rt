@@ -3,8 +3,8 @@
 /// Why a text is no value of a type.
 #[derive(Clone, Copy, Debug, PartialEq, Eq)]
 pub enum Unread {
-    /// It has not the form.
+    /// The text does not have the form.
     Form,
-    /// It has the form, and a part of it or the whole is out of range.
+    /// The text has the form, and a part of it or the whole is out of range.
     Range,
 }

@@ -68,7 +68,7 @@ impl Written {
         }
     }
 
-    /// Puts the same at the end without the zeros that it ends with.
+    /// Puts the last so many decimal digits of a number at the end, without the zeros that they end with.
     pub(crate) fn put_short_figures(&mut self, count: usize, number: u64)
         requires { length self.old + count ≤ 40 }
         ensures text { self.new ≡ self.old ++ short_figures count number }

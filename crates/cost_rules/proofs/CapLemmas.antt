@@ -31,7 +31,7 @@ merge-capped o i ro ri k pairs ops = pairs-are _ _ _ _ (both o.startup i.startup
 times-by : (x y u v z : ℕ) → (capped u ≡ capped v) → capped (capped x + u + z) ≡ capped (x + v + z)
 times-by x y u v z h = omega (arith, h)
 
--- so many times a cost that was cut
+-- a multiple of a cost that was cut
 times : (k x : ℕ) → 1 ≤ k → capped (k * capped x) ≡ capped (k * x)
 times k x some = by (once-at_least k MOST_COST some) (once-at_least k x some) (least x)
   where

@@ -1,5 +1,5 @@
 //! The rules of costs as arithmetic on numbers: rows, pages, entries and operators go in, costs come out. Of the prices of
-//! finished plans the better one is told: that of a plan below 10^18, and of others the lesser. A cost unit is 1/400 of a
+//! finished plans the better one is given: that of a plan below 10^18, and of others the lesser. A cost unit is 1/400 of a
 //! sequential page.
 #![tactic(auto)]
 

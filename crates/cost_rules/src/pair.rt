@@ -8,9 +8,9 @@ use crate::parameters::MOST_COST;
 /// What a plan costs, in 1/400 of a sequential page.
 #[derive(Clone, Copy, Debug, PartialEq, Eq)]
 pub struct Pair {
-    /// Before its first row.
+    /// What the plan costs before its first row.
     pub startup: u64,
-    /// In all.
+    /// What the plan costs in all.
     pub total: u64,
 }
 

@@ -17,7 +17,7 @@ pub const LEVEL: u64 = 50;
 pub const HASH_DESCENT: u64 = 50;
 /// Another bitmap joined to the first. Own.
 pub const BITMAP_CHILD: u64 = 100;
-/// So many entries stand on a page of an index, and so many pages below an inner one. Own.
+/// The entries on a page of an index, and the pages below an inner one. Own.
 pub const ENTRIES_PER_PAGE: u64 = 200;
 /// A cost is cut to at most so much. Own.
 pub const MOST_COST: u64 = 1_000_000_000_000_000_000;

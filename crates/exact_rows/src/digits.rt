@@ -6,7 +6,7 @@ ghost use Rattle.exact_rows.specs.Rows.{share_kept};
 
 /// The base of the digits, and the parts that a share is counted in: all rows are so many.
 pub const BASE: u64 = 1_000_000_000;
-/// So many digits hold the rows of the product of the most tables.
+/// The digits that hold the rows of the product of the most tables.
 pub(crate) const DIGITS: usize = 18;
 
 /// Multiplies the number of the first `len` digits, and gives what is carried past them.

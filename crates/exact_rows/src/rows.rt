@@ -29,7 +29,7 @@ impl Model for ExactRows {
 }
 
 impl ExactRows {
-    /// So many rows.
+    /// `n` rows.
     pub fn of(n: u128) -> ExactRows
         ensures rows { result ≡ n }
     {

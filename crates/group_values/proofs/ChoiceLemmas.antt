@@ -21,7 +21,7 @@ lesser-has P None b h g = g
 lesser-has P (Some p) None h g = h
 lesser-has P (Some p) (Some q) h g = either P p q (nat_lt q.cost p.cost) h g
 
--- it costs no more than either
+-- the lesser one costs no more than either
 left : (p q : GroupPlan) (n : ℕ) (b : Bool) → nat_lt q.cost p.cost ≡ b → p.cost ≤ n → HasAtMost (cond b (Some q) (Some p)) n
 left p q n true e le = omega (arith, le, ltb-true q.cost p.cost e)
 left p q n false e le = le
@@ -55,7 +55,7 @@ module _ (t : GroupTask) (plain sorted : Option ℕ) where
   pub chosen-over : IfSome (lesser (candidate Sorted t sorted) (candidate Hashed t plain)) (IsPlanOver t plain sorted)
   chosen-over = lesser-has (IsPlanOver t plain sorted) (candidate Sorted t sorted) (candidate Hashed t plain) (over Sorted sorted refl) (over Hashed plain refl)
 
-  -- and costs no more than one over a dearer input
+  -- the plan of a form costs no more than one over a dearer input
   least-at : (f : Form) (o : Option ℕ) (n : ℕ) → IsNoLess o n → is_offered f t ≡ true → group_total f t n < MOST_COST → HasAtMost (candidate f t o) (group_total f t n)
   least-at f None n dearer offered below = absurd (lost (total-input f t n) dearer below)
     where

@@ -164,7 +164,7 @@ pub none-more : (ss : List Seen) (s : Seen) (fs : List Seen) → AllByRecursion 
 none-more ss s [] all = refl
 none-more ss s (f ∷ fs) all = ap₂ (λ g gs. g ∷ gs) (group-same f ss s all.0) (none-more ss s fs all.1)
 
--- those of firsts of which one is
+-- the groups of firsts of which one is alike a tuple
 pub one-more : (ss : List Seen) (s : Seen) (fs : List Seen) → AreUnlike fs → (n : ℕ) (d : Seen) → n < length fs → alike (get_or fs n d) s ≡ true
     → map (λ f. filter (alike f) (ss ++ s ∷ [])) fs ≡ set (map (λ f. filter (alike f) ss) fs) n (filter (alike (get_or fs n d)) ss ++ s ∷ [])
 one-more ss s [] u n d lt e = absurd (omega arith)

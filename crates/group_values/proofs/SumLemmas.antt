@@ -27,7 +27,7 @@ joined-is : (calls : List Call) (g : List Seen) (s : Seen) → length s.args ≡
 joined-is calls g s m e h =
     ap₂ (λ (ks vs : List Value). let r : Summary = record { keys = ks; called = vs } in r) (keys-kept g s e) (sym (calls-more calls g s m h))
 
--- one that a tuple begins
+-- a group that a tuple begins
 begun-is : (calls : List Call) (s : Seen) → length s.args ≡ length calls → summary calls (s ∷ []) ≡ begun calls s.keys s.args
 begun-is calls s m =
     let none : all_called 0 calls [] ≡ map blank calls = none-called calls 0 in

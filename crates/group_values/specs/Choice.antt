@@ -27,7 +27,7 @@ pub record IsPlanOver (t : GroupTask) (plain sorted : Option ℕ) (p : GroupPlan
   pub sort_after : p.sort_after ≡ sorts_after p.form t
   pub rows : p.rows ≡ groups_of t
 
--- there is a plan, and it costs no more
+-- there is a plan, and it costs no more than this
 abbrev pub HasAtMost : Option GroupPlan → ℕ → Type 0
 HasAtMost None n = ⊥
 HasAtMost (Some p) n = p.cost ≤ n
@@ -41,7 +41,7 @@ abbrev pub candidate : Form → GroupTask → Option ℕ → Option GroupPlan
 candidate f t None = None
 candidate f t (Some input) = cond (is_offered f t && nat_lt (group_total f t input) MOST_COST) (Some (plan_of f t input)) None
 
--- the one that costs less, the former where they cost the same
+-- the one of two plans that costs less, the former where they cost the same
 abbrev pub lesser : Option GroupPlan → Option GroupPlan → Option GroupPlan
 lesser None b = b
 lesser (Some p) None = Some p

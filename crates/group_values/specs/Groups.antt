@@ -44,7 +44,7 @@ abbrev pub groups : ℕ → List Seen → List (List Seen)
 groups zero ss = ss ∷ []
 groups (suc n) ss = map (λ s. filter (alike s) ss) (firsts ss)
 
--- whether a value is one
+-- whether a value is not NULL
 abbrev pub is_known : Value → Bool
 is_known Null = false
 is_known _ = true

@@ -12,7 +12,7 @@ use Rattle.group_values.specs.declared.listing.Finder.TheVariants.{Last, ByHash}
 use Rattle.group_values.specs.Chains.{IsChained}
 use Rattle.group_values.specs.Places.{hashes_of}
 
--- the form whose groups are found so: by the last one alone where the input is sorted by the group keys, else by hash
+-- the form whose groups a finder finds: by the last one alone where the input is sorted by the group keys, else by hash
 abbrev pub form_of : Finder → Form
 form_of Last = Sorted
 form_of (ByHash c) = Hashed

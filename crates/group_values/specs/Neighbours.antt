@@ -12,7 +12,7 @@ use Rattle.group_values.specs.Groups.{Seen, alike}
 abbrev pub seen_at : List Seen → ℕ → Seen
 seen_at ss n = slice_index_or ss n (record { keys = []; args = [] })
 
--- between two tuples of a group there are only such
+-- between two tuples of a group there are only tuples of the group
 abbrev pub AreTogether : List Seen → Type 0
 AreTogether ss = (i j k : ℕ) → i < j → j < k → k < length ss → alike (seen_at ss i) (seen_at ss k) ≡ true → alike (seen_at ss i) (seen_at ss j) ≡ true
 

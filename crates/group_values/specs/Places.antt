@@ -10,7 +10,7 @@ use Rattle.group_values.specs.Hash.{hash_of}
 abbrev pub IsGroupOf : List Summary → List Value → ℕ → Type 0
 IsGroupOf gs keys n = (n < length gs) × (same_keys (group_at gs n).keys keys ≡ true)
 
--- no group has them
+-- no group has these keys, NULL like NULL
 abbrev pub HasNoGroup : List Summary → List Value → Type 0
 HasNoGroup gs keys = (n : ℕ) → n < length gs → same_keys (group_at gs n).keys keys ≡ false
 

@@ -94,7 +94,7 @@ impl Chains {
         self.firsts[self.bucket(hash)]
     }
 
-    /// Makes a slot for a hash, the one behind the last. If memory runs out, there is none more.
+    /// Makes a slot for a hash, the one behind the last. If memory runs out, no slot is made.
     pub(crate) fn add(&mut self, hash: u64) -> Result<(), Memory>
         requires { IsChained self.old }
         ensures chained { IsChained self.new }
@@ -135,7 +135,7 @@ impl Chains {
         Ok(wider)
     }
 
-    /// Puts a new slot into the chain of its hash. If memory runs out, there is none more.
+    /// Puts a new slot into the chain of its hash. If memory runs out, no slot is made.
     fn put(&mut self, hash: u64) -> Result<(), Memory>
         requires chained { IsChained self.old }
         requires room { HasRoom self.old }
@@ -149,7 +149,7 @@ impl Chains {
         Ok(())
     }
 
-    /// Makes a new slot, alone and in no bucket's chain yet. If memory runs out, there is none more.
+    /// Makes a new slot, alone and in no bucket's chain yet. If memory runs out, no slot is made.
     fn add_slot(&mut self, hash: u64) -> Result<u32, Memory>
         requires chained { IsChained self.old }
         requires room { HasRoom self.old }

@@ -101,8 +101,8 @@ impl Listing {
         Ok(())
     }
 
-    /// Has one more tuple join the group at a place. Where a count would pass 2^63 - 1 memory is wanting, and the groups are
-    /// as before.
+    /// Has one more tuple join the group at a place. Where a count would pass 2^63 - 1, memory is said to have run out, and the
+    /// groups are as before.
     pub(crate) fn join(&mut self, place: usize, calls: &[Call], args: Values) -> Result<(), Memory>
         requires listing { IsListing calls.now self.old }
         requires place { place < length self.old.groups.items }

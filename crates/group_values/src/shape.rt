@@ -7,11 +7,11 @@ use std::marker::Model;
 pub enum Call {
     /// `count(*)`: the number of tuples.
     CountAll,
-    /// `count(column)`: the number of those at which the column is not NULL.
+    /// `count(column)`: the number of tuples at which the column is not NULL.
     Count,
     /// `min(column)`: the least value that is not NULL, or NULL.
     Min,
-    /// `max(column)`: the greatest one, or NULL.
+    /// `max(column)`: the greatest value that is not NULL, or NULL.
     Max,
 }
 

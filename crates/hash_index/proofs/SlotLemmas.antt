@@ -73,7 +73,7 @@ slots_alike heads gs new lists slots many same = record {
   heads_are = blank_more gs new heads (omega arith) (λ s lt. same s) slots.heads_are;
 }
 
--- the same slots, linked otherwise
+-- the slots linked otherwise
 pub slots_linked : (heads : List ℕ) (gs : List RowsOf) (lists made : List (List ℕ)) → AreSlots heads gs lists → length made ≡ length lists → AreLists made → AreSlots heads gs made
 slots_linked heads gs lists made slots many lawful = record {
   as_many = omega (arith, slots.as_many, many);
@@ -144,7 +144,7 @@ one_more old before heads now made after next gs new lists links count slot inv 
       lists_kept = more.lists_kept;
     }
 
--- once they are all made
+-- the slots of more buckets, once they are all made
 pub all_more : (old : List RowsOf) (before : List (List ℕ)) (heads now made after : List ℕ) (gs : List RowsOf) (lists : List (List ℕ)) (count : ℕ) → AreMore old before heads now made gs lists count → after ≡ now ++ made → AreSlots after gs lists
 all_more old before heads now made after gs lists count inv e = record {
   as_many = inv.slots.as_many;
@@ -185,7 +185,7 @@ pub chained_same : (k : IndexKey) (heads after : List ℕ) (gs new : List RowsOf
 chained_same k heads after gs new lists made chained e f g =
     subst (λ hs. AreChained k hs new made) (sym e) (subst (λ l. AreChained k heads l made) (sym f) (subst (λ l. AreChained k heads gs l) (sym g) chained))
 
--- the same slots with more rows, or fewer
+-- the slots where values have more rows, or fewer
 pub chained_kept : (k : IndexKey) (heads : List ℕ) (gs new : List RowsOf) (lists : List (List ℕ)) → AreChained k heads gs lists → length new ≡ length gs → ((s : ℕ) → value_at new s ≡ value_at gs s) → AreChained k heads new lists
 chained_kept k heads gs new lists chained many values = chained_alike k heads gs new lists lists chained values (slots_alike heads gs new lists chained.slots many values) (λ h s lt null e. e)
 
@@ -235,7 +235,7 @@ module _ (k : IndexKey) (heads : List ℕ) (gs new : List RowsOf) (lists made pu
       apart = λ s t known same. apart_at s t known same (eqb s (length gs)) refl (eqb t (length gs)) refl;
     }
 
--- the same as calls leave it
+-- a new value, as calls leave the slots
 pub value_added : (k : IndexKey) (heads mid after : List ℕ) (gs new last : List RowsOf) (lists made put : List (List ℕ)) (v : Value) (slot : ℕ) → AreChained k heads gs lists → IsKnown v → IsOfFamily (key_family k) v → ((s : ℕ) → value_at gs s ≢ v)
     → new ≡ gs ++ (record { value = v; tids = [] }) ∷ [] → made ≡ lists ++ (length lists ∷ []) ∷ [] → slot ≡ length gs → mid ≡ heads → after ≡ mid → last ≡ new → AreSlots after last put
     → (IsKnown (value_at new slot) → stands_behind put (head_for mid (value_at new slot)) slot ≡ true) → ((h s : ℕ) → h < length made → value_at new h ≡ Null → s ≢ slot → stands_behind made h s ≡ true → stands_behind put h s ≡ true) → AreChained k after last put

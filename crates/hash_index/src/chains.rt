@@ -41,7 +41,7 @@ pub(crate) struct Chains {
 pub(crate) struct Place {
     /// The value's slot.
     pub(crate) slot: u32,
-    /// How many of its rows stand before this one.
+    /// How many rows of the value stand before this one.
     pub(crate) at: usize,
 }
 
@@ -110,7 +110,7 @@ impl Chains {
         key.compare(self.value_at(slot), v).is_eq()
     }
 
-    /// Puts the number of a row among those of its value. For want of memory the rows are as before.
+    /// Puts the number of a row among those of its value. If memory runs out, the rows are as before.
     pub(crate) fn put(&mut self, key: IndexKey, v: Value, t: Tid) -> Result<Place, AllocError>
         requires chained { IsChained key self.old }
         requires fits { IsOfFamily (key_family key) v }
@@ -179,8 +179,8 @@ impl Chains {
         Ok(slot)
     }
 
-    /// Makes twice as many buckets where with one more value there would be more than two values to each. For want of
-    /// memory no value is moved.
+    /// Makes twice as many buckets where with one more value there would be more than two values to each. If memory runs
+    /// out, no value is moved.
     fn make_room(&mut self, key: IndexKey) -> Result<(), AllocError>
         requires { IsChained key self.old }
         ensures chained { IsChained key self.new }
@@ -193,7 +193,7 @@ impl Chains {
         self.double(key)
     }
 
-    /// Makes twice as many buckets, and then puts each value under its new one. For want of memory no value is moved.
+    /// Makes twice as many buckets, and then puts each value under its new one. If memory runs out, no value is moved.
     fn double(&mut self, key: IndexKey) -> Result<(), AllocError>
         requires { IsChained key self.old }
         ensures chained { IsChained key self.new }

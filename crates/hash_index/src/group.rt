@@ -52,7 +52,7 @@ impl Group {
         &self.tids
     }
 
-    /// Puts a row's number among the others, and gives its place. For want of memory they are as before.
+    /// Puts a row's number among the others, and gives its place. If memory runs out, the numbers are as before.
     pub(crate) fn insert(&mut self, t: Tid) -> Result<usize, AllocError>
         ensures inserted { IfOk result (λ n. self.new ≡ with_tid n t self.old) }
         ensures within { IfOk result (λ n. n ≤ length self.old.tids) }

@@ -61,7 +61,7 @@ impl HashIndex {
         })
     }
 
-    /// Adds a row with its value, NULL or of the kind that the key's class hashes. For want of memory the index is as
+    /// Adds a row with its value, NULL or of the kind that the key's class hashes. If memory runs out, the index is as
     /// before.
     pub fn insert(&mut self, v: Value, t: Tid) -> Result<(), AllocError>
         requires { IsOfFamily (key_family self.old.key) v }
@@ -72,7 +72,7 @@ impl HashIndex {
         Ok(())
     }
 
-    /// Adds many rows at once, each with its value, NULL or of the kind that the key's class hashes. For want of memory the
+    /// Adds many rows at once, each with its value, NULL or of the kind that the key's class hashes. If memory runs out, the
     /// index is as before.
     pub fn insert_all(&mut self, added: Vec<Row>) -> Result<(), AllocError>
         requires { All (λ h. IsOfFamily (key_family self.old.key) h.value) added.items }
@@ -119,7 +119,7 @@ impl HashIndex {
     }
 }
 
-/// Puts each row among those of its value, and notes its place. For want of memory some are put there.
+/// Puts each row among those of its value, and notes its place. If memory runs out, some are put there.
 fn put_all(
     key: IndexKey,
     chains: &mut Chains,

@@ -74,7 +74,7 @@ module _ (ns new : List Node) (linked : AreLinked ns) (n : ℕ) (many : length n
       ∙ sym (at_below ns (length ns) s d (omega (arith, below, many)))
       ∙ sym (get_or-take n (lists_of ns) s d below))
 
--- the same over the lists that the slots stand for
+-- one slot fewer, over the lists that the slots stand for
 module _ (ns new : List Node) (linked : AreLinked ns) (lists : List (List ℕ)) (view : lists_of ns ≡ lists) (some : 0 < length lists) (alone : list_of lists (length lists - 1) ≡ (length lists - 1) ∷ []) (is : new ≡ take (length ns - 1) ns) where
   as_many : length lists ≡ length ns
   as_many = ap (λ (l : List (List ℕ)). length l) (sym view) ∙ length_lists ns

@@ -100,7 +100,7 @@ strategy_of f m op l r = when (takes f l && takes f r) (number_in f m op)
 abbrev pub family_has : Family → Op → SqlType → SqlType → Bool
 family_has f op l r = takes f l && takes f r && is_some (number_in f Btree op)
 
--- some family of the table has it
+-- some family of the table has the operator for the two types
 abbrev pub some_family_has : Op → SqlType → SqlType → Bool
 some_family_has op l r = list_any (λ row. family_has row.family op l r) table
 

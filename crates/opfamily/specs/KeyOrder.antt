@@ -46,7 +46,7 @@ pub record Entry : Type 0 where
   pub keys : List Value
   pub include : List Value
 
--- by the keys, then by the row number
+-- the order of entries: by the keys, then by the row number
 abbrev pub entry_order : List IndexKey → Entry → Entry → Ordering
 entry_order ks = then_cmp (on (λ (e : Entry). e.keys) (key_values_order ks)) (on (λ (e : Entry). e.row) nat_cmp)
 

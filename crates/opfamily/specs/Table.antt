@@ -44,11 +44,11 @@ class c name own_type methods = record { class = c; name = name; own_type = own_
 abbrev pub ordering_operators : List Member
 ordering_operators = member Lt 1 ∷ member Le 2 ∷ member Eq 3 ∷ member Ge 4 ∷ member Gt 5 ∷ []
 
--- = alone
+-- = alone, with strategy 1
 abbrev pub hash_operators : List Member
 hash_operators = member Eq 1 ∷ []
 
--- the same orderings by absolute value
+-- `|<| |<=| |=| |>=| |>|`, by absolute value, with strategies 1 to 5
 abbrev pub absolute_operators : List Member
 absolute_operators = member AbsLt 1 ∷ member AbsLe 2 ∷ member AbsEq 3 ∷ member AbsGe 4 ∷ member AbsGt 5 ∷ []
 

@@ -39,9 +39,9 @@ pub enum OpClass {
 /// A key of an index.
 #[derive(Clone, Copy, Debug, PartialEq, Eq)]
 pub struct IndexKey {
-    /// Its column.
+    /// The key's column.
     pub col: ColNo,
-    /// The operator class that orders or hashes its values.
+    /// The operator class that orders or hashes the column's values.
     pub class: OpClass,
     /// Whether greater values stand first.
     pub descending: bool,

@@ -9,7 +9,7 @@ use pg_value::{Family, Value, column_order};
 use std::cmp::Ordering;
 
 impl IndexKey {
-    /// The family of its class.
+    /// The family of the key's class.
     #[tactic(auto, unfolding(crate::specs::KeyOrder::key_family))]
     pub fn family(self) -> Family
         ensures { result ≡ key_family self }
@@ -17,7 +17,7 @@ impl IndexKey {
         family(self.class)
     }
 
-    /// How two values of its column stand to one another, by its family, direction and place of NULL.
+    /// How two values of the key's column stand to one another, by its family, direction and place of NULL.
     pub fn compare(self, a: &Value, b: &Value) -> Ordering
         ensures { result ≡ key_order self a.now b.now }
     {

@@ -37,7 +37,7 @@ module _ {T : Type 0} (is_at_most : T → T → Bool) (reflexive : (a : T) → I
     covers = reflexive x;
   }
 
-  -- those that go are covered by the new item, the others cover themselves
+  -- the items that go are covered by the new one, and the others cover themselves
   pub covered-offered : (xs : List T) (t : T) → All (IsCovered is_at_most (filter (λ k. not (is_at_most t k)) xs ++ t ∷ [])) xs
   covered-offered xs t = All-weaker (Contains xs) (IsCovered is_at_most _) (λ x h. covered_or xs t x _ refl h) xs (All-contains_itself xs)
 

@@ -44,8 +44,8 @@ impl<T: Ranked + Drop> Front<T> {
     }
 
     /// Keeps an item unless a kept one is at most it, and lets go of the kept ones that it is at most. Where a kept one is at
-    /// most it, an equal one too, it is let go of: the front is as before, and no memory is wanted.
-    /// `Err` hands the item back for want of memory, and the front is as before.
+    /// most it, an equal one too, it is let go of: the front is as before, and no memory is taken.
+    /// `Err` hands the item back: memory ran out, and the front is as before.
     pub fn offer(&mut self, t: T) -> Result<(), T>
         ensures offered { OnOk result (IsCovered T.is_at_most self.new t) }
         ensures covered { OnOk result (All (IsCovered T.is_at_most self.new) self.old) }

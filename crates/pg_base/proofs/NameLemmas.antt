@@ -47,7 +47,7 @@ digits-word (d ∷ ds) h =
     let p = and_parts (is_ascii_digit d) (list_all is_ascii_digit ds) h in
     and_from (is_in_name d) (list_all is_in_name ds) (in-name (is_ascii_lowercase d) (is_ascii_digit d) (d == 95) (d == 36) p.0) (digits-word ds p.1)
 
--- and so of bytes of names
+-- a number in decimals is of bytes of names
 pub decimal-word : (n : ℕ) → list_all is_in_name (decimal n) ≡ true
 decimal-word n = digits-word (decimal n) (decimal-digits n)
 

@@ -4,9 +4,9 @@ use Rattle.std.specs.List.{list_any}
 
 -- bytes to be given
 pub record Feed : Type 0 where
-  -- those that are left
+  -- the bytes that are left
   pub left : List ℕ
-  -- at most so many are given by one call
+  -- the most bytes that one call gives
   pub piece : ℕ
   -- the numbers of the calls that fail, from 1
   pub fails : List ℕ
@@ -16,7 +16,7 @@ pub record Feed : Type 0 where
 -- bytes that were taken
 pub record Hoard : Type 0 where
   pub held : List ℕ
-  -- at most so many are held
+  -- the most bytes that are held
   pub room : ℕ
   -- the numbers of the calls that fail, from 1
   pub fails : List ℕ

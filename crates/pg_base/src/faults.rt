@@ -6,7 +6,7 @@ ghost use Rattle.pg_base.specs.Faults.{data_fault, syntax_fault, words_fault};
 use crate::numbers::TableNo;
 use std::alloc::{AllocError, AllocFailed};
 
-/// Want of memory: the one answer that any call which allocates may give.
+/// Out of memory: the one answer that any call which allocates may give.
 pub type Memory = AllocError;
 
 /// A limit of the program that a statement goes past (54000).
@@ -82,19 +82,19 @@ pub enum Code {
 /// The first fault of a statement.
 #[derive(Clone, Copy, Debug, PartialEq, Eq)]
 pub struct Fault {
-    /// Its kind.
+    /// The kind of the fault.
     pub code: Code,
-    /// Its place: a byte offset in the script.
+    /// The place of the fault: a byte offset in the script.
     pub at: u32,
-    /// Where the words at fault begin in the script.
+    /// Where the words in error begin in the script.
     pub from: u32,
-    /// Where they end: the offset past their last byte. With COPY data at fault both are `at`.
+    /// Where the words in error end: the offset past their last byte. For COPY data in error both offsets are `at`.
     pub to: u32,
-    /// The number of the record at fault in COPY data, from 1; 0 where no record is at fault.
+    /// The number of the record in error in COPY data, from 1; 0 where no record is in error.
     pub rec: u32,
-    /// The table whose COPY data are at fault, else 0.
+    /// The table whose COPY data are in error, else 0.
     pub table: TableNo,
-    /// The column of the field at fault in COPY data, else 0.
+    /// The column of the field in error in COPY data, else 0.
     pub col: u8,
 }
 
@@ -143,7 +143,7 @@ impl Fault {
 pub enum Refusal {
     /// The first fault of what was read.
     Fault(Fault),
-    /// Want of memory.
+    /// Memory ran out.
     Memory,
 }
 

@@ -11,7 +11,7 @@ use std::alloc::{AllocError, Global};
 /// Why the whole source was not read.
 #[derive(Debug, PartialEq, Eq, Drop)]
 pub enum ReadFault {
-    /// Want of memory.
+    /// Memory ran out.
     Memory,
     /// The source failed; its count of faults rose.
     Failed,

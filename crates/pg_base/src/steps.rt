@@ -6,7 +6,7 @@ use std::marker::Model;
 use std::sync::ledger::{Blank, Book, Ledger, Share};
 
 /// A counter of steps: row fetches, or entries that a cursor gives. Contracts see the count, which has no end.
-/// It is never copied, and a step raises it by one.
+/// A counter is never copied, and a step raises it by one.
 #[derive(Drop)]
 pub struct Steps<L: Ledger> {
     book: Book<L>,

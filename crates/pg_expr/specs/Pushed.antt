@@ -67,7 +67,7 @@ is_group false (all_of cs) = true
 is_group true (any_of cs) = true
 is_group _ _ = false
 
--- NOT may stand on it: a boolean column, or `|=|`
+-- NOT may stand on a condition: a boolean column, or `|=|`
 abbrev pub KeepsNot : Cond → Type 0
 KeepsNot (bool_col c) = Unit {0}
 KeepsNot (compare op l r) = op ≡ AbsEq

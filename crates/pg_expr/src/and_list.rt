@@ -17,7 +17,7 @@ use pg_base::Memory;
 use std::alloc::Global;
 
 /// The parts of an AND, those of an AND within it in its place and in order; a condition that is no AND is the list
-/// of itself. The list, as an AND, has the truth of the condition. The error means want of memory.
+/// of itself. The list, as an AND, has the truth of the condition. The error means that memory ran out.
 pub fn conjuncts(alloc: Global, e: Expr) -> Result<Exprs, Memory>
     ensures list { IfOk result (λ es. conds es.items.items ≡ conjuncts_of (cond e)) }
     ensures truth { IfOk result (λ es. (b : ColRef → Value) → truth_of_all b (conds es.items.items)

@@ -6,7 +6,7 @@ ghost use Rattle.pg_expr.specs.AtomSets.{contains};
 use pg_base::MOST_ATOMS;
 use std::marker::Model;
 
-/// So many words of 64 bits have a bit for each atom.
+/// The words of 64 bits that have a bit for each atom.
 const WORDS: usize = MOST_ATOMS / 64;
 
 /// A set of atoms: a bit for each number.

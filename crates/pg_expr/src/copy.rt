@@ -8,7 +8,7 @@ use pg_base::Memory;
 use std::alloc::Global;
 
 impl Expr {
-    /// A condition of the same tree. The error means want of memory.
+    /// A condition of the same tree. The error means that memory ran out.
     #[cycle(copy)]
     pub fn copy(&self, alloc: Global) -> Result<Expr, Memory>
         ensures { IfOk result (λ e. cond e ≡ cond self.now) }
@@ -40,7 +40,7 @@ impl Expr {
 }
 
 impl Exprs {
-    /// A list of the same trees. The error means want of memory.
+    /// A list of the same trees. The error means that memory ran out.
     #[cycle(copy)]
     pub fn copy(&self, alloc: Global) -> Result<Exprs, Memory>
         ensures { IfOk result (λ es. conds es.items.items ≡ conds self.now.items.items) }

@@ -25,7 +25,7 @@ pub enum Operand {
 }
 
 impl Operand {
-    /// An equal operand. The error means want of memory.
+    /// An equal operand. The error means that memory ran out.
     pub fn copy(&self, alloc: Global) -> Result<Operand, Memory>
         ensures { IfOk result (λ o. o ≡ self.now) }
     {

@@ -19,7 +19,7 @@ use std::alloc::Global;
 /// The condition in pushed form: NOT is moved to the atoms by De Morgan's rules and the operators' negators and is
 /// left on boolean columns and `|=|` alone, a literal stands right of a column and the lower of two columns left, by
 /// commutators, and an AND within an AND and an OR within an OR are flattened from the left. Its truth is as before.
-/// The error means want of memory.
+/// The error means that memory ran out.
 pub fn push_not(alloc: Global, e: Expr) -> Result<Expr, Memory>
     ensures tree { IfOk result (λ p. cond p ≡ pushed false (cond e)) }
     ensures form { IfOk result (λ p. IsPushed (cond p)) }

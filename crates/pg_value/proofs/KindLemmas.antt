@@ -104,7 +104,7 @@ tied-same (String a) (Int b) e = cc e
 tied-same (String a) (Flag b) e = cc e
 tied-same (String a) (String b) e = ap String (same_texts a b e)
 
--- on values of one type it is the order of a column in the type's default family
+-- on values of one type the order of all values is that of a column in the type's default family
 pub as-columns : (f : Family) (d n : Bool) (v w : Value) → f ≢ IntAbs → IsOfFamily f v → IsOfFamily f w → directed_order d n v w ≡ column_order f d n v w
 as-columns IntAbs d n v w ne h k = absurd (ne refl)
 as-columns f d n Null Null ne h k = refl

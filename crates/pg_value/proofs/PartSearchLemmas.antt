@@ -69,7 +69,7 @@ between Equal h g = refl
 between Greater h g = absurd (false≢true g)
 
 module _ {X : Type 0} (side : X → Ordering) (xs : List X) (rises : IsNonDecreasingBy (λ x. ordering_index (side x)) xs) where
-  -- those before the part stand first
+  -- the elements before the part stand first
   pub starts : IsPartitionedBy (λ x. is_lt (side x)) xs
   starts i j d le lt h = at_low (side (get_or xs i d)) (omega (arith, rises i j d le lt, low_index (side (get_or xs j d)) h))
 
@@ -89,7 +89,7 @@ module _ {X : Type 0} (side : X → Ordering) (xs : List X) (rises : IsNonDecrea
       (λ k d lt within. between (side (get_or xs (start + k) d)) (one.1 (start + k) d (omega arith) within) (sym (ap (λ x. is_le (side x)) (get_or-drop start xs k d)) ∙ two.0 k d (omega arith) lt))
       (λ k d ge within. not_high (side (get_or xs (start + k) d)) (sym (ap (λ x. is_le (side x)) (get_or-drop start xs k d)) ∙ two.1 k d ge (omega (arith, length-drop start xs)))))
 
-  -- behind a place those not after the part stand first
+  -- behind a place the elements not after the part stand first
   pub ends_of : (reached : List X) (start : ℕ) → reached ≡ drop start xs → IsPartitionedBy (λ x. is_le (side x)) reached
   ends_of reached start same = subst (λ (l : List X). IsPartitionedBy (λ x. is_le (side x)) l) (sym same) (ends start)
 

@@ -97,7 +97,7 @@ module _ {X : Type 0} (order : X → X → Ordering) (total : IsTotalOrder order
   first_of : (y : X) (ys : List X) → IsInOrder order (y ∷ ys) → AllByRecursion (λ z. is_gt (order y z) ≡ false) ys
   first_of y ys h = recursion_from_All (λ z. is_gt (order y z) ≡ false) ys (λ k d lt. h 0 (suc k) d (omega arith) (omega arith))
 
-  -- the place behind them is that of one more element
+  -- the place behind the elements that are not after one more is where that one goes
   pub placed_in_order : (x : X) (ys : List X) (p : ℕ) → IsInOrder order ys → p ≤ length ys
       → IsPartitionPoint (λ y. not (is_gt (order y x)) ≡ true) (λ y. not (is_gt (order y x)) ≡ false) ys p
       → take p ys ++ x ∷ drop p ys ≡ in_order order (ys ++ x ∷ [])

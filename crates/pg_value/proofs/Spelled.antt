@@ -66,7 +66,7 @@ amid_word text = record {
   blank_after = back_blank (from_word text);
 }
 
--- and a word without white space is the only one amid blanks
+-- a word without white space is the only one amid blanks
 module _ (before word after : List ℕ) (blank_before : list_all is_ascii_whitespace before ≡ true) (blank_after : list_all is_ascii_whitespace after ≡ true) (some : 0 < length word) (solid : is_solid word ≡ true) where
   first_solid : is_ascii_whitespace (get_or (before ++ (word ++ after)) (length before) 0) ≡ false
   first_solid =

@@ -13,7 +13,7 @@ abbrev pub place_of_null : Bool → Ordering
 place_of_null true = Less
 place_of_null false = Greater
 
--- turned round where descending
+-- an order of two values, turned round where descending
 abbrev pub directed : Bool → Ordering → Ordering
 directed false o = o
 directed true o = ordering_reverse o

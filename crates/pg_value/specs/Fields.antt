@@ -81,7 +81,7 @@ field_value TextType text = Ok (String text)
 field_value BoolType text = flagged (flag_of (word_of text))
 field_value t text = ranged t (number_of (word_of text))
 
--- an answer is the one wanted, or want of memory
+-- an answer is the one wanted, or says that memory ran out
 abbrev pub IsUnlessMemory : Result Value FieldFault → Result Value FieldFault → Type 0
 IsUnlessMemory wanted (Err Memory) = Unit {0}
 IsUnlessMemory wanted answer = wanted ≡ answer

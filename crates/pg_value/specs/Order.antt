@@ -34,7 +34,7 @@ value_order IntAbs = on magnitude nat_cmp
 value_order TextOps = on bytes (slice_cmp nat_cmp)
 value_order BoolOps = on flag bool_cmp
 
--- the same, and no order where a value is NULL
+-- how a family orders two values; none where one is NULL
 abbrev pub compared : Family → Value → Value → Option Ordering
 compared f Null _ = None
 compared f _ Null = None

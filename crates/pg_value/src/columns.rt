@@ -13,9 +13,9 @@ pub const MOST_COLUMNS: usize = 32;
 /// A column's type, and whether it takes no NULL.
 #[derive(Clone, Copy, Debug, PartialEq, Eq)]
 pub struct Column {
-    /// The type of its values.
+    /// The type of the column's values.
     pub typed: SqlType,
-    /// Whether it is declared NOT NULL.
+    /// Whether the column is declared NOT NULL.
     pub not_null: bool,
 }
 
@@ -62,7 +62,7 @@ impl Columns {
         &self.columns
     }
 
-    /// The same columns. The error means want of memory.
+    /// An equal list of columns. The error means that memory ran out.
     pub fn copy(&self, alloc: Global) -> Result<Columns, AllocError>
         ensures { IfOk result (λ c. c ≡ self.now) }
     {

@@ -14,13 +14,13 @@ use thiserror::Error;
 /// Why a text is no value of a type.
 #[derive(Clone, Copy, Debug, PartialEq, Eq, Error)]
 pub enum FieldFault {
-    /// It spells a whole number that the type does not have.
+    /// The text spells a whole number that the type does not have.
     #[error("out of range")]
     Range,
-    /// It spells nothing of the type.
+    /// The text spells no value of the type.
     #[error("invalid input")]
     Invalid,
-    /// Want of memory.
+    /// Memory ran out.
     #[error("out of memory")]
     Memory,
 }

@@ -1,4 +1,4 @@
-//! An order of all values, for groups and sorts that are told no type.
+//! An order of all values, for groups and sorts that are given no type.
 
 ghost use Rattle.std.specs.Prelude.{◌≡◌};
 ghost use Rattle.pg_value.specs.Kinds.{kind_order, kind_place};

@@ -6,11 +6,11 @@ ghost use Rattle.pg_value.specs.Truths.{is_absolute};
 /// Three-valued truth, as of SQL conditions.
 #[derive(Clone, Copy, Debug, PartialEq, Eq)]
 pub enum Truth {
-    /// It holds.
+    /// The condition holds.
     True,
-    /// It does not hold.
+    /// The condition does not hold.
     False,
-    /// A NULL leaves it open.
+    /// A NULL leaves open whether the condition holds.
     Unknown,
 }
 
@@ -55,7 +55,7 @@ pub enum Op {
 }
 
 impl Op {
-    /// Whether it compares whole numbers by absolute value.
+    /// Whether the operator compares whole numbers by absolute value.
     pub fn is_by_magnitude(self) -> bool
         ensures { result ≡ is_absolute self }
     {

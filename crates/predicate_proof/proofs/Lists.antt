@@ -20,7 +20,7 @@ rest_is xs k x lt is = rw (add-one, drop-cons xs k x lt, ← is)
 pub end_is : (xs : List Expr) (k : ℕ) → length xs ≤ k → conds (drop k xs) ≡ no_conds
 end_is xs k le = ap conds (drop_of_length-le xs le)
 
--- the same of a list of trees
+-- the trees of a list from a place on, by the one there and those after it
 tree_split : (xs : List Cond) (k : ℕ) (x : Cond) → slice_get xs k ≡ Some x → conds_of (drop k xs) ≡ cond_and x (conds_of (drop (suc k) xs))
 tree_split [] k x is = cc
 tree_split (y ∷ ys) zero x is = cc

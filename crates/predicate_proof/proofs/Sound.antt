@@ -124,7 +124,7 @@ family-fits Int8 op (String t) f fits given e = absurd fits
 family-fits TextType op (String t) f fits given e = chosen (is_absolute op) TextOps f e
 family-fits BoolType op (String t) f fits given e = absurd fits
 
--- the same at a column
+-- the family by which an operator compares a value of a column
 column-fits : (column : Option Column) (op : Op) (x : Value) (f : Family) → IfSome column (λ c. IsOfType c.typed x) → opposite (truth_of_null x) ≡ True →
     option_and_then (λ c. typed_family c.typed op) column ≡ Some f → comparing_family op x ≡ f
 column-fits (Some column) op x f fits given e = family-fits column.typed op x f fits given e

@@ -31,7 +31,7 @@ abbrev pub is_any : Cond → Bool
 is_any (any_of cs) = true
 is_any _ = false
 
--- a condition is neither; in pushed form a NOT stands on an atom alone, and so is one
+-- a condition is neither an AND nor an OR; in pushed form a NOT stands on an atom alone, and so is one
 abbrev pub is_atom : Cond → Bool
 is_atom (all_of cs) = false
 is_atom (any_of cs) = false
@@ -114,7 +114,7 @@ CellHolds (Some f) op v other w = IsFamilyValue f v × IsFamilyValue f w × IsTr
 abbrev pub TableGives : List Column → Op → ColNo → Value → Op → ColNo → Value → Type 0
 TableGives columns op c v other d w = (c ≡ d) × (operator_family columns c op ≡ operator_family columns d other) × CellHolds (operator_family columns c op) op v other w
 
--- the same of two comparisons of a column with a literal
+-- a comparison of a column with a literal implies another by the table
 abbrev pub Gives : List Column → Comparison → Comparison → Type 0
 Gives columns given wanted = TableGives columns given.op given.col given.value.now wanted.op wanted.col wanted.value.now
 

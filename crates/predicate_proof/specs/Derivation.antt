@@ -25,7 +25,7 @@ mutual
     part_to_atom : (cs : Conds) (p : Cond) → is_atom p ≡ true → SomeImplies columns cs p → Implies columns (all_of cs) p
     -- an AND against an OR: the AND implies some part of the OR
     all_to_part : (cs ps : Conds) → ImpliesSome columns (all_of cs) ps → Implies columns (all_of cs) (any_of ps)
-    -- or some part of the AND implies the whole OR
+    -- an AND against an OR: some part of the AND implies the whole OR
     part_to_any : (cs ps : Conds) → SomeImplies columns cs (any_of ps) → Implies columns (all_of cs) (any_of ps)
     -- equal atoms
     same : (c p : Cond) → SameAtom c p → Implies columns c p
@@ -34,27 +34,27 @@ mutual
     -- the table of operators
     by_table : (op : Op) (c : ColRef) (v : Value) (other : Op) (d : ColRef) (w : Value) → TableGives columns op c.col v other d.col w → Implies columns (compare op (Col c) (Lit v)) (compare other (Col d) (Lit w))
 
-  -- the clause implies each of these
+  -- the clause implies each predicate of a list
   pub data ImpliesAll (columns : List Column) : Cond → Conds → Type 0 where
     no_part : (c : Cond) → ImpliesAll columns c no_conds
     part_and : (c p : Cond) (ps : Conds) → Implies columns c p → ImpliesAll columns c ps → ImpliesAll columns c (cond_and p ps)
 
-  -- the clause implies one of these
+  -- the clause implies one predicate of a list
   pub data ImpliesSome (columns : List Column) : Cond → Conds → Type 0 where
     this_part : (c p : Cond) (ps : Conds) → Implies columns c p → ImpliesSome columns c (cond_and p ps)
     later_part : (c p : Cond) (ps : Conds) → ImpliesSome columns c ps → ImpliesSome columns c (cond_and p ps)
 
-  -- each of these implies the predicate
+  -- each clause of a list implies the predicate
   pub data AllImply (columns : List Column) : Conds → Cond → Type 0 where
     no_arm : (p : Cond) → AllImply columns no_conds p
     arm_and : (c p : Cond) (cs : Conds) → Implies columns c p → AllImply columns cs p → AllImply columns (cond_and c cs) p
 
-  -- one of these implies the predicate
+  -- one clause of a list implies the predicate
   pub data SomeImplies (columns : List Column) : Conds → Cond → Type 0 where
     this_clause : (c p : Cond) (cs : Conds) → Implies columns c p → SomeImplies columns (cond_and c cs) p
     later_clause : (c p : Cond) (cs : Conds) → SomeImplies columns cs p → SomeImplies columns (cond_and c cs) p
 
-  -- each of the first implies one of the second
+  -- each clause of a list implies one predicate of another
   pub data EachImpliesSome (columns : List Column) : Conds → Conds → Type 0 where
     no_choice : (ps : Conds) → EachImpliesSome columns no_conds ps
     choice_and : (c : Cond) (cs ps : Conds) → ImpliesSome columns c ps → EachImpliesSome columns cs ps → EachImpliesSome columns (cond_and c cs) ps

@@ -9,6 +9,6 @@ use Rattle.predicate_proof.specs.Derivation.{Implies}
 abbrev pub IsRight : List Column → Note → Type 0
 IsRight columns n = IsTrue n.holds ↔ Implies columns (cond n.clause.now) (cond n.goal.now)
 
--- each note does
+-- each note says what the rules derive
 abbrev pub AreRight : List Column → List (Option Note) → Type 0
 AreRight columns = All (λ slot. IfSome slot (IsRight columns))

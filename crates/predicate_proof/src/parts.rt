@@ -7,7 +7,7 @@ ghost use Rattle.predicate_proof.specs.Atoms.{is_all, is_any};
 
 use pg_expr::Expr;
 
-/// The parts of an AND. None exactly where the condition is none.
+/// The parts of an AND. None exactly where the condition is no AND.
 pub fn and_parts(e: &Expr) -> Option<&[Expr]>
     ensures { MatchOption result (is_all (cond e.now) ≡ false) (λ parts. cond e.now ≡ all_of (conds parts.now)) }
 {
@@ -17,7 +17,7 @@ pub fn and_parts(e: &Expr) -> Option<&[Expr]>
     }
 }
 
-/// The parts of an OR. None exactly where the condition is none.
+/// The parts of an OR. None exactly where the condition is no OR.
 pub fn or_parts(e: &Expr) -> Option<&[Expr]>
     ensures { MatchOption result (is_any (cond e.now) ≡ false) (λ parts. cond e.now ≡ any_of (conds parts.now)) }
 {

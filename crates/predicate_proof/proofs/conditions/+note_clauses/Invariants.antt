@@ -1,7 +1,7 @@
 use Rattle.predicate_proof.specs.Notes.{AreRight}
 use Rattle.predicate_proof.proofs.conditions.+note_clauses.Given as goal
 
--- so many levels are left
+-- the levels that are left
 abbrev pub decreases-note_clauses : goal.decreases-note_clauses
 decreases-note_clauses l = l.levels
 

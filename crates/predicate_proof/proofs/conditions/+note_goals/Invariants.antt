@@ -1,7 +1,7 @@
 use Rattle.predicate_proof.specs.Notes.{AreRight}
 use Rattle.predicate_proof.proofs.conditions.+note_goals.Given as goal
 
--- so many levels are left
+-- the levels that are left
 abbrev pub decreases-note_goals : goal.decreases-note_goals
 decreases-note_goals l = l.levels
 

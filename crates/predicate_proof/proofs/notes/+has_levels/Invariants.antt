@@ -1,5 +1,5 @@
 use Rattle.predicate_proof.proofs.notes.+has_levels.Given as goal
 
--- so many levels are left
+-- the levels that are left
 abbrev pub decreases-has_levels : goal.decreases-has_levels
 decreases-has_levels l = l.levels

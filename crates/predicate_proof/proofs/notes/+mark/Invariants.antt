@@ -1,5 +1,5 @@
 use Rattle.predicate_proof.proofs.notes.+mark.Given as goal
 
--- so many levels are left
+-- the levels that are left
 abbrev pub decreases-mark : goal.decreases-mark
 decreases-mark l = l.levels
